@@ -1,0 +1,5 @@
+pub mod Counts
+pub mod Files
+pub mod Answers
+pub mod Kept
+pub mod Memory

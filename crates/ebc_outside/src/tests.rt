@@ -1,0 +1,102 @@
+// What the calls do once, where memory and the system allow it.
+use super::*;
+use std::alloc::Global;
+use std::fs;
+use std::process::Abort;
+use std::test::Fail;
+
+// Reads the file `some`, of the bytes `12345`, and the missing file `none`.
+fn read_at_limits<F: Folder>(rt: &impl Abort, alloc: Global, folder: &mut F) -> Result<(), Fail> {
+    for (limit, want) in [
+        (u64::MAX, "12345"),
+        (5, "12345"),
+        (4, "12345"),
+        (2, "123"),
+        (0, "1"),
+    ] {
+        let bytes = folder.read(alloc, "some", limit)?;
+        assert_eq!(rt; bytes.as_slice(), want.as_bytes(), "at limit {limit}");
+    }
+    assert_eq!(rt; folder.read(alloc, "none", 5).err(), Some(ReadEnd::Missing));
+    Ok(())
+}
+
+#[test]
+fn files_in_memory_are_read_up_to_the_limit(rt: HostRuntime) -> Result<(), Fail> {
+    let alloc = rt.alloc();
+    let mut folder = MemFolder::new(alloc);
+    folder.insert("some", b"old")?;
+    folder.insert("other", b"")?;
+    folder.insert("some", b"12345")?;
+    read_at_limits(&rt, alloc, &mut folder)?;
+    assert_eq!(rt; folder.read(alloc, "other", 5)?.len(), 0);
+    Ok(())
+}
+
+#[test]
+fn only_the_listed_reads_fail(rt: HostRuntime) -> Result<(), Fail> {
+    let alloc = rt.alloc();
+    let mut folder = MemFolder::new(alloc);
+    folder.insert("some", b"12345")?;
+    folder.fail_reads(vec![in alloc; 2, 4]?);
+    let wants = [None, Some(ReadEnd::Fault), None, Some(ReadEnd::Fault), None];
+    for (index, want) in wants.into_iter().enumerate() {
+        assert_eq!(rt;
+            folder.read(alloc, "some", 5).err(),
+            want,
+            "at index {index}"
+        );
+    }
+    Ok(())
+}
+
+#[test]
+fn only_the_listed_puts_fail(rt: HostRuntime) -> Result<(), Fail> {
+    let alloc = rt.alloc();
+    let mut sink = MemSink::new(alloc);
+    sink.fail_puts(vec![in alloc; 2]?);
+    sink.put(alloc, b"one ")?;
+    assert_eq!(rt; sink.put(alloc, b"two "), Err(SinkEnd::Fault));
+    sink.put(alloc, b"three")?;
+    assert_eq!(rt; sink.text(), b"one three".as_slice());
+    Ok(())
+}
+
+#[test]
+fn files_of_the_system_are_read_up_to_the_limit(rt: HostRuntime) -> Result<(), Fail> {
+    let alloc = rt.alloc();
+    fs::write(&rt, "some", "12345")?;
+    fs::create_dir(&rt, "folder")?;
+    let long = vec![in alloc; b'x'; 9000]?;
+    fs::write(&rt, "long", long.as_slice())?;
+
+    let mut folder = HostFolder::new(&rt);
+    read_at_limits(&rt, alloc, &mut folder)?;
+    assert_eq!(rt; folder.read(alloc, "folder", 5).err(), Some(ReadEnd::Fault));
+    for (limit, want) in [
+        (9000, 9000),
+        (8999, 9000),
+        (8998, 8999),
+        (4096, 4097),
+        (4095, 4096),
+    ] {
+        assert_eq!(rt;
+            folder.read(alloc, "long", limit)?.len(),
+            want,
+            "at limit {limit}"
+        );
+    }
+    Ok(())
+}
+
+#[test]
+fn what_is_put_to_a_file_is_read_back(rt: HostRuntime) -> Result<(), Fail> {
+    let alloc = rt.alloc();
+    let mut sink = HostSink::new(fs::create(&rt, "text")?);
+    sink.put(alloc, b"one ")?;
+    sink.put(alloc, b"")?;
+    sink.put(alloc, b"two")?;
+    let bytes = HostFolder::new(&rt).read(alloc, "text", 100)?;
+    assert_eq!(rt; bytes.as_slice(), b"one two".as_slice());
+    Ok(())
+}
