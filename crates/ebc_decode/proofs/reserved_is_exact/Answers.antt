@@ -1,0 +1,5 @@
+use Rattle.ebc_decode.proofs.Laws.{reserved_is_exact}
+use Rattle.ebc_decode.proofs.reserved_is_exact.Goals as goal
+
+pub returns : goal.returns
+returns c = reserved_is_exact
