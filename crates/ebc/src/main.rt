@@ -1,0 +1,35 @@
+//! The program `ebc`. docs/COMMANDS.md lists its commands, what they print and its exit status.
+#![tactic(auto)]
+
+use ebc_cli::{Outcome, ebc};
+use ebc_outside::{HostFolder, HostSink};
+use std::alloc::AllocError;
+use std::process::ExitCode;
+use std::rt::Env;
+use std::{env, io};
+
+// The words after the program's name, and none where one of them isn't UTF-8.
+fn words_of<R: Env + AllocGlobal>(rt: &R) -> Result<Vec<String>, AllocError> {
+    let mut words = Vec::new(rt.alloc());
+    let args = match env::args(rt) {
+        Ok(args) => args,
+        Err(e) if e.kind() == io::ErrorKind::OutOfMemory => return Err(AllocError),
+        Err(_) => return Ok(words),
+    };
+    for word in args.skip(1) {
+        words.push(word)?;
+    }
+    Ok(words)
+}
+
+fn main(rt: HostRuntime) -> ExitCode {
+    let outcome = match words_of(&rt) {
+        Ok(words) => {
+            let mut folder = HostFolder::new(&rt);
+            let mut out = HostSink::new(io::writer(&rt));
+            ebc(rt.alloc(), &words, &mut folder, &mut out)
+        }
+        Err(_) => Outcome::NoMemory,
+    };
+    ExitCode::from(outcome.code())
+}

@@ -1,0 +1,19 @@
+-- The commands that words spell: docs/COMMANDS.md, "Commands". Words are seen as their bytes.
+use Rattle.std.specs.Prelude.{ℕ, List, [], ◌∷◌, map, codes, bytes_eq, if◌then◌else◌, Option, Some, None, String, Vec, string_bytes}
+use Rattle.std.specs.declared.alloc.Global.{Global}
+use Rattle.ebc_cli.specs.declared.command.Command.{Command}
+use Rattle.ebc_cli.specs.declared.command.Command.TheVariants.{CheckCode}
+
+-- the words as their bytes
+abbrev pub word_bytes : Vec (String Global) Global → List (List ℕ)
+word_bytes words = map string_bytes words.items
+
+-- a word that isn't empty names a file
+abbrev pub of_file : (List ℕ → Command) → List ℕ → Option Command
+of_file make [] = None
+of_file make (b ∷ bytes) = Some (make (b ∷ bytes))
+
+-- the command of the words, where they are one: its name, and then a word for each file
+abbrev pub command_of : List (List ℕ) → Option Command
+command_of (word ∷ file ∷ []) = if bytes_eq word (codes "check") then of_file CheckCode file else None
+command_of words = None

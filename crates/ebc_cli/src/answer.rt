@@ -1,0 +1,131 @@
+// The top call: what is read, what is answered, and what is printed.
+ghost use Rattle.std.specs.Prelude.{◌≡◌, ◌++◌, ◌↔◌, ◌≤◌, ℕ, List, length, Some, None, IfSome, IfNone, IfOk, IsErrOf};
+ghost use Rattle.ebc_outside.specs.Counts.{Rose};
+ghost use Rattle.ebc_outside.specs.Files.{AppendsPart};
+ghost use Rattle.ebc_cli.specs.Outcomes.{IsAnswer};
+ghost use Rattle.ebc_cli.specs.PlainRules.{IsNeutral};
+ghost use Rattle.ebc_cli.specs.PlainRuns.{SamePlainRuns};
+ghost use Rattle.ebc_cli.specs.Commands.{command_of, word_bytes};
+ghost use Rattle.ebc_cli.specs.Readings.{Follows, IfStop, CommandAnswer, AsksPart};
+ghost use Rattle.ebc_cli.specs.Answers.{answer_of, check_code, reply_to, printed, plain_code_limit, ChecksCode, AnswersWords};
+
+use crate::check::check_plain;
+use crate::command::{Command, command_of};
+use crate::outcome::Outcome;
+use crate::reading::file;
+use crate::reply::{End, Reply};
+use crate::text;
+use ebc_outside::{Folder, Sink, SinkEnd};
+use std::alloc::Global;
+
+/// How many bytes a file of plain code may have.
+const PLAIN_CODE_LIMIT: u64 = 262144;
+
+/// Does what the words after the program's name ask for: reads the files that they name from `folder`, prints
+/// the answer to `out` by one put, and says how it ended. docs/COMMANDS.md has the commands and their answers.
+pub fn ebc<F: Folder, O: Sink>(
+    alloc: Global,
+    words: &Vec<String>,
+    folder: &mut F,
+    out: &mut O,
+) -> Outcome
+    // Where the folder tells its files, the answer, its text and the names asked for are those of
+    // `answer_of`, whatever the counts of faults did.
+    ensures answer { IfSome (F.contents folder.old) (λ files.
+        IsAnswer result → result ≡ (reply_to (word_bytes words.now) files).outcome) }
+    ensures text { IfSome (F.contents folder.old) (λ files.
+        IsAnswer result → O.written out.new ≡ printed (reply_to (word_bytes words.now) files).text (O.written out.old)) }
+    ensures asked { IfSome (F.contents folder.old) (λ files.
+        IsAnswer result → F.asked folder.new ≡ F.asked folder.old ++ (answer_of (word_bytes words.now) files).asked) }
+    ensures asked_part { IfSome (F.contents folder.old) (λ files.
+        AsksPart (F.asked folder.old) (answer_of (word_bytes words.now) files).asked (F.asked folder.new)) }
+    ensures contents { F.contents folder.new ≡ F.contents folder.old }
+
+    // `check CODE` calls code neutral exactly where each of its instructions meets the rules of plain code,
+    // and then the code has the same plain runs at both widths.
+    ensures neutral_exactly { IfSome (F.contents folder.old) (λ files. (code : List ℕ) →
+        ChecksCode (word_bytes words.now) files code → length code ≤ plain_code_limit →
+        IsAnswer result → result ≡ Outcome.Done ↔ IsNeutral code) }
+    ensures neutral_alike { IfSome (F.contents folder.old) (λ files. (code : List ℕ) →
+        ChecksCode (word_bytes words.now) files code → result ≡ Outcome.Done → SamePlainRuns code) }
+
+    // Why an answer comes, also where the folder doesn't tell its files.
+    ensures bad_words { IsAnswer result →
+        (result ≡ Outcome.BadWords ↔ command_of (word_bytes words.now) ≡ None) }
+    ensures missing { IfNone (F.contents folder.old) ((word : ℕ) → result ≡ Outcome.Missing word →
+        Rose (F.read_faults folder.old) (F.read_faults folder.new)) }
+    ensures read_fault { result ≡ Outcome.ReadFault →
+        Rose (F.read_faults folder.old) (F.read_faults folder.new) }
+    ensures write_fault { result ≡ Outcome.WriteFault → Rose (O.faults out.old) (O.faults out.new) }
+
+    // What stands after the answers that the words and files don't decide.
+    ensures read_fault_leaves { result ≡ Outcome.ReadFault → O.written out.new ≡ O.written out.old }
+    ensures write_fault_leaves { IfSome (F.contents folder.old) (λ files. result ≡ Outcome.WriteFault →
+        AppendsPart (reply_to (word_bytes words.now) files).text (O.written out.old) (O.written out.new)) }
+    ensures no_memory_leaves { result ≡ Outcome.NoMemory → O.written out.new ≡ O.written out.old }
+{
+    let reply = match decide(alloc, words, folder) {
+        Ok(reply) => reply,
+        Err(End::Stop(reply)) => reply,
+        Err(End::ReadFault) => return Outcome::ReadFault,
+        Err(End::NoMemory) => return Outcome::NoMemory,
+    };
+    print(alloc, &reply, out)
+}
+
+// Reads what the words name and decides the answer.
+#[tactic(auto, unfolding(crate::specs::Answers::answer_of))]
+fn decide<F: Folder>(alloc: Global, words: &Vec<String>, folder: &mut F) -> Result<Reply, End>
+    ensures follows { IfSome (F.contents folder.old) (λ files.
+        Follows (F.asked folder.old) (F.asked folder.new) result (answer_of (word_bytes words.now) files)) }
+    ensures reply { IfOk result (AnswersWords (word_bytes words.now) (F.contents folder.old)
+        (F.read_faults folder.old) (F.read_faults folder.new)) }
+    ensures stop { IfStop result (AnswersWords (word_bytes words.now) (F.contents folder.old)
+        (F.read_faults folder.old) (F.read_faults folder.new)) }
+    ensures fault { IsErrOf result End.ReadFault →
+        Rose (F.read_faults folder.old) (F.read_faults folder.new) }
+    ensures contents { F.contents folder.new ≡ F.contents folder.old }
+{
+    match command_of(alloc, words)? {
+        None => Ok(text::usage(alloc)?),
+        Some(Command::CheckCode { code }) => check_code(alloc, code.as_str(), folder),
+    }
+}
+
+// `check CODE`
+#[tactic(auto, unfolding(crate::specs::Answers::check_code))]
+fn check_code<F: Folder>(alloc: Global, name: &str, folder: &mut F) -> Result<Reply, End>
+    ensures follows { IfSome (F.contents folder.old) (λ files.
+        Follows (F.asked folder.old) (F.asked folder.new) result (check_code name.now files)) }
+    ensures reply { IfOk result (CommandAnswer (F.contents folder.old)
+        (F.read_faults folder.old) (F.read_faults folder.new)) }
+    ensures stop { IfStop result (CommandAnswer (F.contents folder.old)
+        (F.read_faults folder.old) (F.read_faults folder.new)) }
+    ensures fault { IsErrOf result End.ReadFault →
+        Rose (F.read_faults folder.old) (F.read_faults folder.new) }
+    ensures contents { F.contents folder.new ≡ F.contents folder.old }
+{
+    let code = file(alloc, folder, 1, name, PLAIN_CODE_LIMIT)?;
+    let verdict = check_plain(alloc, code.as_slice())?;
+    Ok(text::verdict(alloc, verdict)?)
+}
+
+// Prints the text of a reply, if it has one.
+fn print<O: Sink>(alloc: Global, reply: &Reply, out: &mut O) -> Outcome
+    requires { IsAnswer reply.now.outcome }
+    ensures answer { IsAnswer result → result ≡ reply.now.outcome }
+    ensures text { IsAnswer result → O.written out.new ≡ printed reply.now.text (O.written out.old) }
+    ensures fault { result ≡ Outcome.WriteFault → Rose (O.faults out.old) (O.faults out.new) }
+    ensures part { result ≡ Outcome.WriteFault → AppendsPart reply.now.text (O.written out.old) (O.written out.new) }
+    ensures memory { result ≡ Outcome.NoMemory → O.written out.new ≡ O.written out.old }
+    ensures read { result ≡ Outcome.ReadFault → ⊥ }
+{
+    if reply.text.is_empty() {
+        return reply.outcome;
+    }
+    match out.put(alloc, reply.text.as_slice()) {
+        Ok(()) => reply.outcome,
+        Err(SinkEnd::Fault) => Outcome::WriteFault,
+        Err(SinkEnd::NoMemory) => Outcome::NoMemory,
+    }
+}

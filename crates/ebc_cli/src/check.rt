@@ -1,0 +1,130 @@
+// The plain check of raw code.
+ghost use Rattle.std.specs.Prelude.{◌≡◌, ◌≢◌, ◌+◌, ◌<◌, ◌≤◌, ℕ, length, drop, IfOk, vec_len, Some, None};
+ghost use Rattle.ebc_cli.specs.PlainChecks.{plain_verdict, first_refusal, places, reached, starts, lands, passes, falls_through, instruction_rule, marked, after_place};
+ghost use Rattle.ebc_cli.specs.Answers.{plain_code_limit};
+
+use crate::outcome::RuleName;
+use crate::verdict::Verdict;
+use ebc_decode::decode;
+use ebc_insn::{Cond, Insn};
+use std::alloc::{AllocError, Global};
+
+/// The verdict of the plain check on raw code of at most 256 KiB.
+#[tactic(auto, unfolding(crate::specs::PlainChecks::plain_verdict))]
+pub fn check_plain(alloc: Global, code: &[u8]) -> Result<Verdict, AllocError>
+    requires { length code.now ≤ plain_code_limit }
+    ensures { IfOk result (λ verdict. verdict ≡ plain_verdict code.now) }
+{
+    if code.is_empty() {
+        return Ok(Verdict::Refused {
+            place: 0,
+            rule: RuleName::End,
+        });
+    }
+    let starts = starts_of(alloc, code)?;
+    Ok(first_refusal(code, &starts))
+}
+
+// For each byte, whether an instruction starts there.
+fn starts_of(alloc: Global, code: &[u8]) -> Result<Vec<bool>, AllocError>
+    requires { length code.now ≤ plain_code_limit }
+    ensures { IfOk result (λ marks. (place : ℕ) → marked marks.items place ≡ starts code.now place) }
+{
+    let mut marks = vec![in alloc; false; code.len()]?;
+    let mut at = 0;
+    while at < code.len() {
+        let Ok((_, len)) = decode(code, at) else {
+            break;
+        };
+        marks[at] = true;
+        at += len;
+    }
+    Ok(marks)
+}
+
+// The first place at which a rule fails.
+fn first_refusal(code: &[u8], marks: &[bool]) -> Verdict
+    requires { length code.now ≤ plain_code_limit }
+    ensures { result ≡ first_refusal (marked marks.now) (length code.now) (places code.now) }
+{
+    let mut at = 0;
+    while at < code.len() {
+        match rule_at(code, at, marks) {
+            Ok(next) => at = next,
+            Err(rule) => {
+                return Verdict::Refused {
+                    place: at as u32,
+                    rule,
+                };
+            }
+        }
+    }
+    Verdict::Neutral
+}
+
+// The place after the instruction at a place, or the first rule that fails there.
+fn rule_at(code: &[u8], at: usize, marks: &[bool]) -> Result<usize, RuleName>
+    requires within { at < length code.now }
+    requires size { length code.now ≤ plain_code_limit }
+    ensures judged { first_refusal (marked marks.now) (length code.now) (reached at 0 (drop at code.now)) ≡ after_place (marked marks.now) code.now at result }
+    ensures next { IfOk result (λ next. next ≤ length code.now) }
+    ensures later { IfOk result (λ next. at < next) }
+{
+    let Ok((insn, len)) = decode(code, at) else {
+        return Err(RuleName::Decode);
+    };
+    let next = at + len;
+    match instruction_rule(&insn, next, code.len(), marks) {
+        None => Ok(next),
+        Some(rule) => Err(rule),
+    }
+}
+
+// The first rule that fails at an instruction that ends before the place `next`.
+fn instruction_rule(insn: &Insn, next: usize, size: usize, marks: &[bool]) -> Option<RuleName>
+    requires { next ≤ plain_code_limit }
+    ensures { result ≡ instruction_rule (marked marks.now) size next insn.now }
+{
+    if !lands(insn, next, marks) {
+        return Some(RuleName::Target);
+    }
+    if next == size && falls_through(insn) {
+        return Some(RuleName::End);
+    }
+    None
+}
+
+// Whether the target of a jump is a start.
+fn lands(insn: &Insn, next: usize, marks: &[bool]) -> bool
+    requires { next ≤ plain_code_limit }
+    ensures { result ≡ lands (marked marks.now) next insn.now }
+{
+    match insn {
+        Insn::Jump8 { words, .. } => is_marked(marks, next as i64 + 2 * *words as i64),
+        _ => true,
+    }
+}
+
+// Whether an address, which may lie before the code, is marked.
+fn is_marked(marks: &[bool], address: i64) -> bool
+    ensures { result ≡ passes (marked marks.now) address }
+{
+    if address < 0 {
+        return false;
+    }
+    marks.get(address as usize).copied().unwrap_or(false)
+}
+
+// Whether control may go on at the next instruction.
+fn falls_through(insn: &Insn) -> bool
+    ensures { result ≡ falls_through insn.now }
+{
+    !matches!(
+        insn,
+        Insn::Ret
+            | Insn::Jump8 {
+                cond: Cond::Always,
+                ..
+            }
+    )
+}

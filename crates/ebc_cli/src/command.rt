@@ -1,0 +1,36 @@
+// The commands that words spell.
+ghost use Rattle.std.specs.Prelude.{◌≡◌, [], ◌∷◌, string_bytes, IfOk};
+ghost use Rattle.ebc_cli.specs.Commands.{command_of, word_bytes};
+
+use crate::file_name::FileName;
+use std::alloc::{AllocError, Global};
+
+/// What the words ask for.
+#[derive(Debug, Drop)]
+pub enum Command {
+    /// `check CODE`: the plain check of a file of raw code.
+    CheckCode { code: FileName },
+}
+
+/// The command that the words spell, if they spell one.
+pub fn command_of(alloc: Global, words: &Vec<String>) -> Result<Option<Command>, AllocError>
+    ensures { IfOk result (λ command. command ≡ command_of (word_bytes words.now)) }
+{
+    match words.as_slice() {
+        [word, file] => with_one_file(alloc, word, file),
+        _ => Ok(None),
+    }
+}
+
+fn with_one_file(alloc: Global, word: &String, file: &String) -> Result<Option<Command>, AllocError>
+    ensures { IfOk result (λ command. command ≡ command_of (string_bytes word.now ∷ string_bytes file.now ∷ [])) }
+{
+    if file.len() == 0 {
+        return Ok(None);
+    }
+    if word.as_str() == "check" {
+        let code = FileName::new(alloc, file.as_str())?;
+        return Ok(Some(Command::CheckCode { code }));
+    }
+    Ok(None)
+}

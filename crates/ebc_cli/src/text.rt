@@ -1,0 +1,99 @@
+// The lines that are printed.
+ghost use Rattle.std.specs.Prelude.{◌≡◌, Some, IfOk, string_bytes};
+ghost use Rattle.ebc_cli.specs.Texts.{place_text, rule_text};
+ghost use Rattle.ebc_cli.specs.Readings.{missing_reply, large_reply};
+ghost use Rattle.ebc_cli.specs.Answers.{verdict_reply, usage_reply};
+
+use crate::bytes::Bytes;
+use crate::outcome::{Outcome, RuleName};
+use crate::reply::Reply;
+use crate::verdict::Verdict;
+use std::alloc::{AllocError, Global};
+use std::fmt;
+
+/// A place, an offset in bytes, printed in eight hexadecimal digits.
+#[derive(Clone, Copy, Debug, PartialEq, Eq)]
+pub struct Place(pub u32);
+
+impl fmt::Display for Place {
+    ghost output = { λ p. Some (place_text p.0) };
+
+    #[tactic(auto, using(crate::proofs::HexLemmas::place))]
+    fn fmt<W: fmt::Write>(&self, f: &mut fmt::Formatter<W>) -> fmt::Result {
+        let place = self.0;
+        write!(f, "{place:08x}")
+    }
+}
+
+impl fmt::Display for RuleName {
+    ghost output = { λ r. Some (rule_text r) };
+
+    fn fmt<W: fmt::Write>(&self, f: &mut fmt::Formatter<W>) -> fmt::Result {
+        f.write_str(match self {
+            RuleName::Decode => "decode",
+            RuleName::Form => "form",
+            RuleName::Target => "target",
+            RuleName::End => "end",
+        })
+    }
+}
+
+/// The answer of a check.
+pub fn verdict(alloc: Global, verdict: Verdict) -> Result<Reply, AllocError>
+    ensures { IfOk result (λ r. r ≡ verdict_reply verdict) }
+{
+    match verdict {
+        Verdict::Neutral => {
+            let text = Bytes::new(b"neutral\n".to_vec(alloc)?);
+            Ok(Reply {
+                outcome: Outcome::Done,
+                text,
+            })
+        }
+        Verdict::Refused { place, rule } => refused(alloc, place, rule),
+    }
+}
+
+fn refused(alloc: Global, place: u32, rule: RuleName) -> Result<Reply, AllocError>
+    ensures { IfOk result (λ r. r ≡ verdict_reply (Verdict.Refused place rule)) }
+{
+    let shown = Place(place);
+    let text = Bytes::of_text(format!(in alloc; "refused {shown} {rule}\n")?);
+    Ok(Reply {
+        outcome: Outcome::Refused { place, rule },
+        text,
+    })
+}
+
+/// The answer to words that are no command.
+pub fn usage(alloc: Global) -> Result<Reply, AllocError>
+    ensures { IfOk result (λ r. r ≡ usage_reply) }
+{
+    let text = Bytes::new(b"usage: check CODE\n".to_vec(alloc)?);
+    Ok(Reply {
+        outcome: Outcome::BadWords,
+        text,
+    })
+}
+
+/// The answer where the folder has no file of the name.
+pub fn missing(alloc: Global, word: u8, name: &str) -> Result<Reply, AllocError>
+    ensures { IfOk result (λ r. r ≡ missing_reply word name.now) }
+{
+    let text = Bytes::of_text(format!(in alloc; "missing {name}\n")?);
+    Ok(Reply {
+        outcome: Outcome::Missing { word },
+        text,
+    })
+}
+
+/// The answer where the file of the name is past its limit.
+pub fn large(alloc: Global, word: u8, name: &str) -> Result<Reply, AllocError>
+    ensures { IfOk result (λ r. r ≡ large_reply word name.now) }
+{
+    let text = Bytes::of_text(format!(in alloc; "large {name}\n")?);
+    Ok(Reply {
+        outcome: Outcome::TooLarge { word },
+        text,
+    })
+}
