@@ -4,3 +4,4 @@ pub mod StartsLemmas
 pub mod RunsLemmas
 pub mod HeadlineLemmas
 pub mod RulesLemmas
+pub mod Rows

@@ -25,10 +25,12 @@ pub trait Folder {
     /// `Missing` comes only where the folder has no file of that name, `Fault` only where the read
     /// failed and was counted, and `NoMemory` where memory was refused.
     fn read(&mut self, alloc: Global, name: &str, limit: u64) -> Result<Vec<u8>, ReadEnd>
-        ensures answer { IfSome (contents self.old) (λ files. AnswersFile (get files name.now) limit result) }
+        ensures answer { IfSome (contents self.old)
+            (λ files. AnswersFile (get files name.now) limit result) }
         ensures missing { IfNone (contents self.old)
             (IsErrOf result ReadEnd.Missing → Rose (read_faults self.old) (read_faults self.new)) }
-        ensures fault { IsErrOf result ReadEnd.Fault → Rose (read_faults self.old) (read_faults self.new) }
+        ensures fault { IsErrOf result ReadEnd.Fault →
+            Rose (read_faults self.old) (read_faults self.new) }
         ensures count { IsCount (read_faults self.old) (read_faults self.new) }
 
         // No read changes a file, and each is remembered.

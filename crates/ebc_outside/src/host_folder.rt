@@ -1,5 +1,5 @@
 // The files of the system. No clause says what they hold.
-ghost use Rattle.std.specs.Prelude.{◌≡◌, None, [], ◌+◌, IfOk, IfSome, IsErrOf, IfNone, take};
+ghost use Rattle.std.specs.Prelude.{◌≡◌, None, [], ◌+◌, IfOk, IfSome, IsErrOf, take};
 ghost use Rattle.ebc_outside.specs.Counts.{Rose, IsCount};
 ghost use Rattle.ebc_outside.specs.Answers.{host_faults_after};
 
@@ -46,8 +46,10 @@ impl<'a, R: Files> Folder for HostFolder<'a, R> {
     ghost read_faults = { λ f. f.read_faults };
 
     fn read(&mut self, alloc: Global, name: &str, limit: u64) -> Result<Vec<u8>, ReadEnd>
-        ensures missing { IsErrOf result ReadEnd.Missing → Rose self.old.read_faults self.new.read_faults }
-        ensures fault { IsErrOf result ReadEnd.Fault → Rose self.old.read_faults self.new.read_faults }
+        ensures missing { IsErrOf result ReadEnd.Missing →
+            Rose self.old.read_faults self.new.read_faults }
+        ensures fault { IsErrOf result ReadEnd.Fault →
+            Rose self.old.read_faults self.new.read_faults }
         ensures count { IsCount self.old.read_faults self.new.read_faults }
         ensures faults { self.new.read_faults ≡ host_faults_after result self.old.read_faults }
     {

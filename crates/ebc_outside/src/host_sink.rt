@@ -1,5 +1,5 @@
 // The standard output, or any writer.
-ghost use Rattle.std.specs.Prelude.{◌≡◌, ℕ, None, OnOk, OnErr, IfErr, IsErrOf, take, ◌+◌, IsTrue};
+ghost use Rattle.std.specs.Prelude.{◌≡◌, ℕ, None, OnOk, IsErrOf, take};
 ghost use Rattle.std.specs.Io.KnownBytes.{Appends, Keeps};
 ghost use Rattle.ebc_outside.specs.Counts.{Rose, IsCount};
 ghost use Rattle.ebc_outside.specs.Answers.{put_faults_after};
@@ -54,8 +54,9 @@ impl<W: Write> Sink for HostSink<W> {
         // What the writer holds, where that is known: all the bytes more, some of them, or none.
         ensures whole { OnOk result
             (Appends (W.contents self.old.writer) (W.contents self.new.writer) bytes.now) }
-        ensures part { IsErrOf result SinkEnd.Fault → (count : ℕ) × Appends (W.contents self.old.writer)
-            (W.contents self.new.writer) (take count bytes.now) }
+        ensures part { IsErrOf result SinkEnd.Fault → (count : ℕ) ×
+            Appends (W.contents self.old.writer) (W.contents self.new.writer)
+            (take count bytes.now) }
         ensures none { IsErrOf result SinkEnd.NoMemory →
             Keeps (W.contents self.old.writer) (W.contents self.new.writer) }
     {
@@ -70,10 +71,12 @@ impl<W: Write> Sink for HostSink<W> {
 
 // Gives the writer all the bytes, and has it hand them on.
 fn write_whole<W: Write>(writer: &mut W, bytes: &[u8]) -> Result<(), SinkEnd>
-    ensures whole { OnOk result (Appends (W.contents writer.old) (W.contents writer.new) bytes.now) }
-    ensures part { IsErrOf result SinkEnd.Fault → (count : ℕ) × Appends (W.contents writer.old)
-        (W.contents writer.new) (take count bytes.now) }
-    ensures none { IsErrOf result SinkEnd.NoMemory → Keeps (W.contents writer.old) (W.contents writer.new) }
+    ensures whole { OnOk result
+        (Appends (W.contents writer.old) (W.contents writer.new) bytes.now) }
+    ensures part { IsErrOf result SinkEnd.Fault → (count : ℕ) ×
+        Appends (W.contents writer.old) (W.contents writer.new) (take count bytes.now) }
+    ensures none { IsErrOf result SinkEnd.NoMemory →
+        Keeps (W.contents writer.old) (W.contents writer.new) }
 {
     let mut done = 0;
     while done < bytes.len() {

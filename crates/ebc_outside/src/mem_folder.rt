@@ -63,7 +63,8 @@ impl MemFolder {
     /// Puts the bytes under the name, in the place of what was there. The only error is want of
     /// memory, and then the folder is as before.
     pub fn insert(&mut self, name: &str, bytes: &[u8]) -> Result<(), AllocError>
-        ensures files { OnOk result (self.new.files ≡ map.insert self.old.files name.now bytes.now) }
+        ensures files { OnOk result
+            (self.new.files ≡ map.insert self.old.files name.now bytes.now) }
         ensures others { self.new ≡ record self.old { files = self.new.files } }
         ensures err { OnErr result (self.new ≡ self.old) }
     {
@@ -92,7 +93,8 @@ impl Folder for MemFolder {
 
     fn read(&mut self, alloc: Global, name: &str, limit: u64) -> Result<Vec<u8>, ReadEnd>
         ensures answer { AnswersFile (map.get self.old.files name.now) limit result }
-        ensures fault { IsErrOf result ReadEnd.Fault → Rose self.old.read_faults self.new.read_faults }
+        ensures fault { IsErrOf result ReadEnd.Fault →
+            Rose self.old.read_faults self.new.read_faults }
         ensures count { IsCount self.old.read_faults self.new.read_faults }
 
         // A call on the list fails, and no other.
