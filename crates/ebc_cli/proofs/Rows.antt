@@ -1,7 +1,7 @@
 -- Worked rows of the plain check and of the plain run.
 use Rattle.std.proofs.Common.{◌≡◌, ℕ, true, false, List, [], ◌∷◌, refl}
-use Rattle.ebc_decode.specs.Reading.{form_at, insn_at, is_reserved, number, read, read_fields, size1_at, size2_at}
-use Rattle.ebc_cli.specs.declared.outcome.RuleName.TheVariants.{Decode, Target, End}
+use Rattle.ebc_decode.specs.Reading.{form_at, is_reserved, has_left_index, size1_at, size2_at, field_at, insn_at, parts_at, read}
+use Rattle.ebc_cli.specs.declared.outcome.RuleName.TheVariants.{Decode, Form, Target, End}
 use Rattle.ebc_cli.specs.declared.verdict.Verdict.{Verdict}
 use Rattle.ebc_cli.specs.declared.verdict.Verdict.TheVariants.{Neutral, Refused}
 use Rattle.ebc_cli.specs.PlainChecks.{plain_verdict, first_refusal, reached}
@@ -13,11 +13,11 @@ VerdictIs : List ℕ → Verdict → Type 0
 VerdictIs code verdict = plain_verdict code ≡ verdict
 
 move_and_return : VerdictIs (0x77 ∷ 0x31 ∷ 0x05 ∷ 0x00 ∷ 0x04 ∷ 0x00 ∷ []) Neutral
-unfolding VerdictIs plain_verdict first_refusal reached read form_at is_reserved size1_at size2_at read_fields insn_at number
+unfolding VerdictIs plain_verdict first_refusal reached form_at is_reserved has_left_index size1_at size2_at field_at insn_at parts_at read
 move_and_return = refl
 
 jump_to_itself : VerdictIs (0x02 ∷ 0xFF ∷ []) Neutral
-unfolding VerdictIs plain_verdict first_refusal reached read form_at is_reserved size1_at size2_at read_fields insn_at number
+unfolding VerdictIs plain_verdict first_refusal reached form_at is_reserved has_left_index size1_at size2_at field_at insn_at parts_at read
 jump_to_itself = refl
 
 empty : VerdictIs [] (Refused 0 End)
@@ -25,19 +25,19 @@ unfolding VerdictIs plain_verdict
 empty = refl
 
 no_return : VerdictIs (0x77 ∷ 0x31 ∷ 0x05 ∷ 0x00 ∷ []) (Refused 0 End)
-unfolding VerdictIs plain_verdict first_refusal reached read form_at is_reserved size1_at size2_at read_fields insn_at number
+unfolding VerdictIs plain_verdict first_refusal reached form_at is_reserved has_left_index size1_at size2_at field_at insn_at parts_at read
 no_return = refl
 
 jump_to_the_end : VerdictIs (0x02 ∷ 0x00 ∷ []) (Refused 0 Target)
-unfolding VerdictIs plain_verdict first_refusal reached read form_at is_reserved size1_at size2_at read_fields insn_at number
+unfolding VerdictIs plain_verdict first_refusal reached form_at is_reserved has_left_index size1_at size2_at field_at insn_at parts_at read
 jump_to_the_end = refl
 
 jump_to_half : VerdictIs (0x02 ∷ 0x00 ∷ 0x04 ∷ []) (Refused 0 Target)
-unfolding VerdictIs plain_verdict first_refusal reached read form_at is_reserved size1_at size2_at read_fields insn_at number
+unfolding VerdictIs plain_verdict first_refusal reached form_at is_reserved has_left_index size1_at size2_at field_at insn_at parts_at read
 jump_to_half = refl
 
 half_an_instruction : VerdictIs (0x04 ∷ 0x00 ∷ 0x04 ∷ []) (Refused 2 Decode)
-unfolding VerdictIs plain_verdict first_refusal reached read form_at is_reserved size1_at size2_at read_fields insn_at number
+unfolding VerdictIs plain_verdict first_refusal reached form_at is_reserved has_left_index size1_at size2_at field_at insn_at parts_at read
 half_an_instruction = refl
 
 -- ---- runs
@@ -47,7 +47,7 @@ doubled : List ℕ
 doubled = 0x77 ∷ 0x31 ∷ 0xFF ∷ 0xFF ∷ 0x4C ∷ 0x11 ∷ 0x04 ∷ 0x00 ∷ []
 
 doubled_ends : plain_run 4 doubled 3 ≡ record { place = 6; registers = 0 ∷ 0xFFFFFFFFFFFFFFFE ∷ 0 ∷ 0 ∷ 0 ∷ 0 ∷ 0 ∷ 0 ∷ []; flags = 0; ended = true }
-unfolding doubled plain_run plain_step read form_at is_reserved size1_at size2_at read_fields insn_at number
+unfolding doubled plain_run plain_step form_at is_reserved has_left_index size1_at size2_at field_at insn_at parts_at read
 doubled_ends = refl
 
 -- CMP64eq R0, R0; JMP8cs back to the start
@@ -55,7 +55,7 @@ compared : List ℕ
 compared = 0x45 ∷ 0x00 ∷ 0xC2 ∷ 0xFE ∷ []
 
 compared_jumps : plain_run 8 compared 2 ≡ record { place = 0; registers = 0 ∷ 0 ∷ 0 ∷ 0 ∷ 0 ∷ 0 ∷ 0 ∷ 0 ∷ []; flags = 1; ended = false }
-unfolding compared plain_run plain_step read form_at is_reserved size1_at size2_at read_fields insn_at number
+unfolding compared plain_run plain_step form_at is_reserved has_left_index size1_at size2_at field_at insn_at parts_at read
 compared_jumps = refl
 
 -- a jump that leaves the code leads elsewhere at each width, and so isn't neutral
@@ -63,13 +63,18 @@ leaving : List ℕ
 leaving = 0x02 ∷ 0x80 ∷ []
 
 leaving_narrow : (plain_run 4 leaving 1).place ≡ 0xFFFFFF02
-unfolding leaving plain_run plain_step read form_at is_reserved size1_at size2_at read_fields insn_at number
+unfolding leaving plain_run plain_step form_at is_reserved has_left_index size1_at size2_at field_at insn_at parts_at read
 leaving_narrow = refl
 
 leaving_wide : (plain_run 8 leaving 1).place ≡ 0xFFFFFFFFFFFFFF02
-unfolding leaving plain_run plain_step read form_at is_reserved size1_at size2_at read_fields insn_at number
+unfolding leaving plain_run plain_step form_at is_reserved has_left_index size1_at size2_at field_at insn_at parts_at read
 leaving_wide = refl
 
 leaving_refused : VerdictIs leaving (Refused 0 Target)
-unfolding leaving VerdictIs plain_verdict first_refusal reached read form_at is_reserved size1_at size2_at read_fields insn_at number
+unfolding leaving VerdictIs plain_verdict first_refusal reached form_at is_reserved has_left_index size1_at size2_at field_at insn_at parts_at read
 leaving_refused = refl
+
+-- ADD32 R1, R2 is decoded, and isn't plain code
+other_form : VerdictIs (0x0C ∷ 0x21 ∷ 0x04 ∷ 0x00 ∷ []) (Refused 0 Form)
+unfolding VerdictIs plain_verdict first_refusal reached form_at is_reserved has_left_index size1_at size2_at field_at insn_at parts_at read
+other_form = refl

@@ -4,13 +4,13 @@ use Rattle.std.proofs.lemmas.Bool.{cases_Bool}
 use Rattle.std.proofs.lemmas.Bool.Decides.{nat_tests}
 use Rattle.std.specs.Option.{option_and_then}
 use Rattle.ebc_insn.specs.declared.Insn.{Insn}
-use Rattle.ebc_insn.specs.declared.Insn.TheVariants.{Jump8, Ret, Compare, Arith, MoveImm}
+use Rattle.ebc_insn.specs.declared.Insn.TheVariants.{Jump8}
 use Rattle.ebc_decode.specs.declared.DecodeFault.{DecodeFault}
 use Rattle.ebc_decode.specs.Reading.{read}
 use Rattle.ebc_decode.proofs.Laws.{read_length}
-use Rattle.ebc_cli.specs.declared.outcome.RuleName.TheVariants.{Target, End}
+use Rattle.ebc_cli.specs.declared.outcome.RuleName.TheVariants.{Form, Target, End}
 use Rattle.ebc_cli.specs.declared.verdict.Verdict.TheVariants.{Neutral}
-use Rattle.ebc_cli.specs.PlainChecks.{reached, starts, is_start, passes, lands, falls_through, instruction_rule, first_refusal, jump_target, plain_verdict}
+use Rattle.ebc_cli.specs.PlainChecks.{is_plain, reached, starts, is_start, passes, lands, falls_through, instruction_rule, first_refusal, jump_target, plain_verdict}
 use Rattle.ebc_cli.specs.PlainRules.{place_after, place_of, IsReached, Decodes, IsStart, NamesStart, MeetsRules, IsNeutral}
 use Rattle.ebc_cli.proofs.PlacesLemmas.{along}
 use Rattle.ebc_cli.proofs.StartsLemmas.{Good, GoodStarts, good-starts, head-started, first-started, or-cases, or-right, and-true, fault-unstarted, no-rule}
@@ -93,17 +93,11 @@ passes-pos st (negsuc n) e = cc
 
 names : (code : List ℕ) (next : ℕ) (i : Insn) → lands (starts code) next i ≡ true → NamesStart code next i
 names code next (Jump8 cond words) e = let t = passes-pos (starts code) (jump_target next words) e in (t.0, t.1, start-is code t.0 t.2)
-names code next Ret e = tt
-names code next (Compare op wide left right extra) e = tt
-names code next (Arith op wide left right extra) e = tt
-names code next (MoveImm size bits left imm) e = tt
+names code next i e = tt
 
 lands-named : (code : List ℕ) (next : ℕ) (i : Insn) → NamesStart code next i → lands (starts code) next i ≡ true
 lands-named code next (Jump8 cond words) n = rw n.1 (reached-started code n.2.reached.0 n.0 n.2.reached.1 n.2.decodes)
-lands-named code next Ret n = refl
-lands-named code next (Compare op wide left right extra) n = refl
-lands-named code next (Arith op wide left right extra) n = refl
-lands-named code next (MoveImm size bits left imm) n = refl
+lands-named code next i n = refl
 
 -- the code ends at an instruction that control may pass, or not
 ending-false : (code : List ℕ) (next : ℕ) (i : Insn) → (nat_eq next (length code) && falls_through i) ≡ false → next ≡ length code → falls_through i ≡ false
@@ -115,16 +109,17 @@ ending-test code next i e = elim (cases_Bool (nat_eq next (length code))) [
   | inr more ↦ rw more refl
 ]
 
-rule-holds : (landed ends_code : Bool) → landed ≡ true → ends_code ≡ false → (if not landed then Some Target else if ends_code then Some End else None) ≡ None
-rule-holds landed ends_code p q = rw (p, q) refl
+rule-holds : (plain landed ends_code : Bool) → plain ≡ true → landed ≡ true → ends_code ≡ false → (if not plain then Some Form else if not landed then Some Target else if ends_code then Some End else None) ≡ None
+rule-holds plain landed ends_code o p q = rw (o, p, q) refl
 
 meets-good : (code : List ℕ) (place : ℕ) → Good code (starts code) (starts code) place → MeetsRules code place
 meets-good code place g =
-    let facts = no-rule (lands (starts code) (place + g.size) g.insn) _ g.rule in
+    let facts = no-rule (is_plain g.insn) (lands (starts code) (place + g.size) g.insn) _ g.rule in
     record {
       decode = record { insn = g.insn; size = g.size; reads = g.reads };
-      target = names code (place + g.size) g.insn facts.0;
-      ending = ending-false code (place + g.size) g.insn facts.1;
+      form = facts.0;
+      target = names code (place + g.size) g.insn facts.1;
+      ending = ending-false code (place + g.size) g.insn facts.2;
     }
 
 -- ---- the verdict
@@ -166,7 +161,7 @@ meets-neutral code neutral = along code (λ place all. IsReached code place → 
 
   met : (code : List ℕ) (place : ℕ) (i : Insn) (n : ℕ) → read (drop place code) ≡ Ok (i, n) → MeetsRules code place → instruction_rule (starts code) (length code) (place + n) i ≡ None
   met code place i n e m =
-      subst (λ (r : Insn × ℕ). instruction_rule (starts code) (length code) (place + r.1) r.0 ≡ None) (same-read m.decode.reads e) (rule-holds _ _ (lands-named code (place + m.decode.size) m.decode.insn m.target) (ending-test code (place + m.decode.size) m.decode.insn m.ending))
+      subst (λ (r : Insn × ℕ). instruction_rule (starts code) (length code) (place + r.1) r.0 ≡ None) (same-read m.decode.reads e) (rule-holds _ _ _ m.form (lands-named code (place + m.decode.size) m.decode.insn m.target) (ending-test code (place + m.decode.size) m.decode.insn m.ending))
 
 meets-verdict : (code : List ℕ) → IsNeutral code → plain_verdict code ≡ Neutral
 unfolding plain_verdict

@@ -9,8 +9,8 @@ use Rattle.ebc_insn.specs.declared.Insn.TheVariants.{Jump8, Ret, Compare, Arith,
 use Rattle.ebc_decode.specs.Reading.{read}
 use Rattle.ebc_decode.proofs.Laws.{read_length}
 use Rattle.ebc_cli.specs.declared.verdict.Verdict.TheVariants.{Neutral}
-use Rattle.ebc_cli.specs.PlainChecks.{starts, passes, lands, falls_through, instruction_rule, jump_target, plain_verdict}
-use Rattle.ebc_cli.specs.PlainRuns.{PlainState, modulo, is_taken, goes_to, writes_register, writes_flags, arith_value, compare_flags, operand_value, register_value, effect, done_at, plain_step, plain_run, SamePlainRuns}
+use Rattle.ebc_cli.specs.PlainChecks.{is_plain, starts, passes, lands, falls_through, jump_target, plain_verdict}
+use Rattle.ebc_cli.specs.PlainRuns.{PlainState, ends, modulo, is_taken, goes_to, writes_register, writes_flags, arith_value, compare_flags, operand_value, register_value, effect, done_at, plain_step, plain_run, SamePlainRuns}
 use Rattle.ebc_cli.proofs.StartsLemmas.{Good, GoodStarts, good-starts, head-started, no-rule}
 
 -- a run that ended, or stands at a start
@@ -77,23 +77,36 @@ untaken Always words flags e = cc
 untaken Set words flags e = refl
 untaken Clear words flags e = refl
 
-effect-alike : (code : List ℕ) (s : PlainState) (next : ℕ) (i : Insn) → Checked code → next ≤ length code → (next < length code → starts code next ≡ true) → instruction_rule (starts code) (length code) next i ≡ None → Alike code (effect 4 next s i) (effect 8 next s i)
+-- what an instruction has at which no rule fails
+record Fine (code : List ℕ) (next : ℕ) (i : Insn) : Type 0 where
+  landed : lands (starts code) next i ≡ true
+  not_last : (nat_eq next (length code) && falls_through i) ≡ false
+
+effect-alike : (code : List ℕ) (s : PlainState) (next : ℕ) (i : Insn) → Checked code → next ≤ length code → (next < length code → starts code next ≡ true) → Fine code next i → Alike code (effect 4 next s i) (effect 8 next s i)
 unfolding Stands
 effect-alike code s next Ret checked within started rule = (refl, inl refl)
 effect-alike code s next (Jump8 cond words) checked within started rule =
-    let facts = no-rule (lands (starts code) next (Jump8 cond words)) _ rule in
-    jump-alike code s next words (is_taken cond s.flags) checked facts.0 (λ e. followed code next (Jump8 cond words) within started facts.1 (untaken cond words s.flags e))
-effect-alike code s next (MoveImm size bits left imm) checked within started rule =
-    register-alike code s next left.reg (Some (register_value imm)) checked (followed code next (MoveImm size bits left imm) within started (no-rule true _ rule).1 refl)
+    jump-alike code s next words (is_taken cond s.flags) checked rule.landed (λ e. followed code next (Jump8 cond words) within started rule.not_last (untaken cond words s.flags e))
+effect-alike code s next (MoveImm size bits left lidx imm) checked within started rule =
+    register-alike code s next left.reg (Some (register_value imm)) checked (followed code next (MoveImm size bits left lidx imm) within started rule.not_last refl)
 effect-alike code s next (Arith op wide left right extra) checked within started rule =
-    register-alike code s next left.reg (arith_value op wide (slice_index s.registers left.reg) (operand_value s.registers right.reg extra)) checked (followed code next (Arith op wide left right extra) within started (no-rule true _ rule).1 refl)
+    register-alike code s next left.reg (arith_value op wide (slice_index s.registers left.reg) (operand_value s.registers right.reg extra)) checked (followed code next (Arith op wide left right extra) within started rule.not_last refl)
 effect-alike code s next (Compare op wide left right extra) checked within started rule =
-    flags-alike code s next (compare_flags op wide (slice_index s.registers left) (operand_value s.registers right.reg extra)) checked (followed code next (Compare op wide left right extra) within started (no-rule true _ rule).1 refl)
+    flags-alike code s next (compare_flags op wide (slice_index s.registers left) (operand_value s.registers right.reg extra)) checked (followed code next (Compare op wide left right extra) within started rule.not_last refl)
+effect-alike code s next i checked within started rule = (refl, inl refl)
+
+-- what isn't plain code ends the run
+plain-alike : (code : List ℕ) (s a b : PlainState) (plain : Bool) → (plain ≡ true → Alike code a b) → Alike code (if plain then a else ends s) (if plain then b else ends s)
+unfolding Stands
+plain-alike code s a b true alike = alike refl
+plain-alike code s a b false alike = (refl, inl refl)
 
 at-start : (code : List ℕ) (s : PlainState) (g : Good code (starts code) (starts code) s.place) → Checked code → Alike code (done_at 4 s (read (drop s.place code))) (done_at 8 s (read (drop s.place code)))
 at-start code s g checked =
     let sizes = read_length (drop s.place code) g.insn g.size g.reads in
-    rw g.reads (effect-alike code s (s.place + g.size) g.insn checked (omega (arith, sizes.0, sizes.1, length-drop s.place code)) g.next g.rule)
+    let facts = no-rule (is_plain g.insn) (lands (starts code) (s.place + g.size) g.insn) _ g.rule in
+    let fine : Fine code (s.place + g.size) g.insn = record { landed = facts.1; not_last = facts.2 } in
+    rw g.reads (plain-alike code s _ _ (is_plain g.insn) (λ plain. effect-alike code s (s.place + g.size) g.insn checked (omega (arith, sizes.0, sizes.1, length-drop s.place code)) g.next fine))
 
 -- a run that ended stays, and another goes on
 goes-on : (code : List ℕ) (s : PlainState) (ended : Bool) (a b : PlainState) → (ended ≡ true → s.ended ≡ true) → (ended ≡ false → Alike code a b) → Alike code (if ended then s else a) (if ended then s else b)

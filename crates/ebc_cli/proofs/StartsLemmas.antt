@@ -5,7 +5,7 @@ use Rattle.ebc_insn.specs.declared.Insn.{Insn}
 use Rattle.ebc_decode.specs.declared.DecodeFault.{DecodeFault}
 use Rattle.ebc_decode.specs.Reading.{read}
 use Rattle.ebc_cli.specs.declared.outcome.RuleName.{RuleName}
-use Rattle.ebc_cli.specs.declared.outcome.RuleName.TheVariants.{Target, End}
+use Rattle.ebc_cli.specs.declared.outcome.RuleName.TheVariants.{Form, Target, End}
 use Rattle.ebc_cli.specs.declared.verdict.Verdict.{Verdict}
 use Rattle.ebc_cli.specs.declared.verdict.Verdict.TheVariants.{Neutral, Refused}
 use Rattle.ebc_cli.specs.PlainChecks.{Reached, reached, is_start, instruction_rule, first_refusal, judged}
@@ -90,7 +90,8 @@ good-starts code st = along code (λ place all. first_refusal st (length code) a
 })
 
 -- what an instruction at which no rule fails has
-pub no-rule : (landed ends_code : Bool) → (if not landed then Some Target else if ends_code then Some End else None) ≡ None → (landed ≡ true) × (ends_code ≡ false)
-no-rule true true e = cc
-no-rule true false e = (refl, refl)
-no-rule false b e = cc
+pub no-rule : (plain landed ends_code : Bool) → (if not plain then Some Form else if not landed then Some Target else if ends_code then Some End else None) ≡ None → (plain ≡ true) × (landed ≡ true) × (ends_code ≡ false)
+no-rule true true true e = cc
+no-rule true true false e = (refl, refl, refl)
+no-rule true false b e = cc
+no-rule false a b e = cc

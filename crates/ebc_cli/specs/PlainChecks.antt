@@ -2,13 +2,17 @@
 -- EFI Byte Code Virtual Machine; a place is an offset in bytes from the start of the code.
 use Rattle.std.specs.Prelude.{ℕ, ◌+◌, ◌-◌, zero, suc, nat_eq, Bool, true, false, ◌&&◌, not, if◌then◌else◌, List, [], ◌∷◌, length, drop, slice_get, Option, Some, None, unwrap_or, Result, Ok, Err, is_ok, ℤ, pos, negsuc, ◌+ℤ◌, ◌*ℤ◌}
 use Rattle.std.specs.List.{list_any}
+use Rattle.ebc_insn.specs.declared.Operand.{Operand}
 use Rattle.ebc_insn.specs.declared.Cond.TheVariants.{Always}
+use Rattle.ebc_insn.specs.declared.Size.TheVariants.{Qword}
+use Rattle.ebc_insn.specs.declared.CmpOp.TheVariants.{Eq}
+use Rattle.ebc_insn.specs.declared.ArithOp.TheVariants.{Add}
 use Rattle.ebc_insn.specs.declared.Insn.{Insn}
-use Rattle.ebc_insn.specs.declared.Insn.TheVariants.{Jump8, Ret}
+use Rattle.ebc_insn.specs.declared.Insn.TheVariants.{Jump8, Ret, Compare, Arith, MoveImm}
 use Rattle.ebc_decode.specs.declared.DecodeFault.{DecodeFault}
 use Rattle.ebc_decode.specs.Reading.{read}
 use Rattle.ebc_cli.specs.declared.outcome.RuleName.{RuleName}
-use Rattle.ebc_cli.specs.declared.outcome.RuleName.TheVariants.{Decode, Target, End}
+use Rattle.ebc_cli.specs.declared.outcome.RuleName.TheVariants.{Decode, Form, Target, End}
 use Rattle.ebc_cli.specs.declared.verdict.Verdict.{Verdict}
 use Rattle.ebc_cli.specs.declared.verdict.Verdict.TheVariants.{Neutral, Refused}
 
@@ -41,6 +45,19 @@ is_start all place = list_any (λ r. nat_eq r.place place && is_ok r.found) all
 abbrev pub starts : List ℕ → ℕ → Bool
 starts code place = is_start (places code) place
 
+-- whether an operand is a register, and not memory
+abbrev pub is_register : Operand → Bool
+is_register operand = not operand.indirect
+
+-- whether an instruction is one of the forms of plain code: JMP8, RET, and on registers CMP64eq, ADD64 and MOVIqw
+abbrev pub is_plain : Insn → Bool
+is_plain (Jump8 cond words) = true
+is_plain Ret = true
+is_plain (Compare Eq true left right extra) = is_register right
+is_plain (Arith Add true left right extra) = is_register left && is_register right
+is_plain (MoveImm Qword bits left lidx imm) = nat_eq bits 16 && is_register left
+is_plain i = false
+
 -- where a JMP8 leads, if it is taken: words of two bytes from the next instruction on
 abbrev pub jump_target : ℕ → ℤ → ℤ
 jump_target next words = pos next +ℤ pos 2 *ℤ words
@@ -64,7 +81,8 @@ falls_through i = true
 -- the first rule that fails at an instruction that ends before the place next, in code of a size in bytes
 abbrev pub instruction_rule : (ℕ → Bool) → ℕ → ℕ → Insn → Option RuleName
 instruction_rule is_started size next i =
-    if not (lands is_started next i) then Some Target
+    if not (is_plain i) then Some Form
+    else if not (lands is_started next i) then Some Target
     else if nat_eq next size && falls_through i then Some End
     else None
 

@@ -1,11 +1,11 @@
 -- The rules of plain code, said of each place by itself: docs/PLAIN.md, "The check".
-use Rattle.std.specs.Prelude.{◌≡◌, ℕ, ◌+◌, ◌<◌, zero, suc, false, List, drop, length, Option, Some, None, Result, Ok, Err, pos}
+use Rattle.std.specs.Prelude.{◌≡◌, ℕ, ◌+◌, ◌<◌, zero, suc, true, false, List, drop, length, Option, Some, None, Result, Ok, Err, pos}
 use Rattle.std.specs.Option.{option_and_then}
 use Rattle.ebc_insn.specs.declared.Insn.{Insn}
 use Rattle.ebc_insn.specs.declared.Insn.TheVariants.{Jump8}
 use Rattle.ebc_decode.specs.declared.DecodeFault.{DecodeFault}
 use Rattle.ebc_decode.specs.Reading.{read}
-use Rattle.ebc_cli.specs.PlainChecks.{jump_target, falls_through}
+use Rattle.ebc_cli.specs.PlainChecks.{is_plain, jump_target, falls_through}
 
 -- the place after an instruction
 abbrev pub place_after : ℕ → Result (Insn × ℕ) DecodeFault → Option ℕ
@@ -40,6 +40,7 @@ NamesStart code next i = Unit {0}
 -- The instruction at the place meets every rule.
 pub record MeetsRules (code : List ℕ) (place : ℕ) : Type 0 where
   pub decode : Decodes code place
+  pub form : is_plain decode.insn ≡ true
   pub target : NamesStart code (place + decode.size) decode.insn
   pub ending : place + decode.size ≡ length code → falls_through decode.insn ≡ false
 

@@ -4,7 +4,7 @@ use Rattle.std.specs.Prelude.{◌≡◌, ℕ, ◌+◌, ◌-◌, ◌*◌, ◌%◌
 use Rattle.ebc_insn.specs.declared.Cond.{Cond}
 use Rattle.ebc_insn.specs.declared.Cond.TheVariants.{Always, Set, Clear}
 use Rattle.ebc_insn.specs.declared.Extra.{Extra}
-use Rattle.ebc_insn.specs.declared.Extra.TheVariants.{Nothing, Imm}
+use Rattle.ebc_insn.specs.declared.Extra.TheVariants.{Nothing, Imm, Idx}
 use Rattle.ebc_insn.specs.declared.Insn.{Insn}
 use Rattle.ebc_insn.specs.declared.Insn.TheVariants.{Jump8, Ret, Compare, Arith, MoveImm}
 use Rattle.ebc_insn.specs.declared.CmpOp.{CmpOp}
@@ -13,10 +13,10 @@ use Rattle.ebc_insn.specs.declared.ArithOp.{ArithOp}
 use Rattle.ebc_insn.specs.declared.ArithOp.TheVariants.{Add}
 use Rattle.ebc_decode.specs.declared.DecodeFault.{DecodeFault}
 use Rattle.ebc_decode.specs.Reading.{read}
-use Rattle.ebc_cli.specs.PlainChecks.{jump_target}
+use Rattle.ebc_cli.specs.PlainChecks.{is_plain, jump_target}
 
 -- the place, the registers R0 to R7 and the flags (1 where C is set, else 0); it has ended once a RET is
--- reached, or a place at which no instruction of these decodes
+-- reached, or a place at which no instruction of plain code decodes
 pub record PlainState : Type 0 where
   pub place : ℕ
   pub registers : List ℕ
@@ -36,9 +36,11 @@ cut_address width address = modulo (2 ^ (8 * width)) address
 abbrev pub register_value : ℤ → ℕ
 register_value v = modulo (2 ^ 64) v
 
+-- what stands beside a register; an index stands only beside an operand in memory
 abbrev pub immediate : Extra → ℕ
 immediate Nothing = 0
 immediate (Imm v) = register_value v
+immediate (Idx index) = 0
 
 -- operand 2: a register plus the immediate
 abbrev pub operand_value : List ℕ → ℕ → Extra → ℕ
@@ -74,18 +76,19 @@ abbrev pub writes_flags : ℕ → ℕ → PlainState → Option ℕ → PlainSta
 writes_flags width next s None = ends s
 writes_flags width next s (Some flags) = record (goes_to width s (pos next)) { flags = flags }
 
--- what an instruction does: a row for each form, where next is the place of the next instruction
+-- what an instruction of plain code does: a row for each form, where next is the place of the next instruction
 abbrev pub effect : ℕ → ℕ → PlainState → Insn → PlainState
 effect width next s Ret = ends s
 effect width next s (Jump8 cond words) = goes_to width s (if is_taken cond s.flags then jump_target next words else pos next)
-effect width next s (MoveImm size bits left imm) = writes_register width next s left.reg (Some (register_value imm))
+effect width next s (MoveImm size bits left lidx imm) = writes_register width next s left.reg (Some (register_value imm))
 effect width next s (Arith op wide left right extra) =
     writes_register width next s left.reg (arith_value op wide (slice_index s.registers left.reg) (operand_value s.registers right.reg extra))
 effect width next s (Compare op wide left right extra) =
     writes_flags width next s (compare_flags op wide (slice_index s.registers left) (operand_value s.registers right.reg extra))
+effect width next s i = ends s
 
 abbrev pub done_at : ℕ → PlainState → Result (Insn × ℕ) DecodeFault → PlainState
-done_at width s (Ok (i, n)) = effect width (s.place + n) s i
+done_at width s (Ok (i, n)) = if is_plain i then effect width (s.place + n) s i else ends s
 done_at width s (Err fault) = ends s
 
 -- one step of the machine that has addresses of so many bytes

@@ -1,12 +1,12 @@
 // The plain check of raw code.
 ghost use Rattle.std.specs.Prelude.{◌≡◌, ◌≢◌, ◌+◌, ◌<◌, ◌≤◌, ℕ, length, drop, IfOk, vec_len, Some, None};
-ghost use Rattle.ebc_cli.specs.PlainChecks.{plain_verdict, first_refusal, places, reached, starts, lands, passes, falls_through, instruction_rule, marked, after_place};
+ghost use Rattle.ebc_cli.specs.PlainChecks.{plain_verdict, first_refusal, places, reached, starts, is_plain, is_register, lands, passes, falls_through, instruction_rule, marked, after_place};
 ghost use Rattle.ebc_cli.specs.Answers.{plain_code_limit};
 
 use crate::outcome::RuleName;
 use crate::verdict::Verdict;
 use ebc_decode::decode;
-use ebc_insn::{Cond, Insn};
+use ebc_insn::{ArithOp, CmpOp, Cond, Insn, Operand, Size};
 use std::alloc::{AllocError, Global};
 
 /// The verdict of the plain check on raw code of at most 256 KiB.
@@ -85,6 +85,9 @@ fn instruction_rule(insn: &Insn, next: usize, size: usize, marks: &[bool]) -> Op
     requires { next ≤ plain_code_limit }
     ensures { result ≡ instruction_rule (marked marks.now) size next insn.now }
 {
+    if !is_plain(insn) {
+        return Some(RuleName::Form);
+    }
     if !lands(insn, next, marks) {
         return Some(RuleName::Target);
     }
@@ -92,6 +95,41 @@ fn instruction_rule(insn: &Insn, next: usize, size: usize, marks: &[bool]) -> Op
         return Some(RuleName::End);
     }
     None
+}
+
+// Whether an instruction is one of the forms of plain code.
+fn is_plain(insn: &Insn) -> bool
+    ensures { result ≡ is_plain insn.now }
+{
+    match insn {
+        Insn::Jump8 { .. } | Insn::Ret => true,
+        Insn::Compare {
+            op: CmpOp::Eq,
+            wide: true,
+            right,
+            ..
+        } => is_register(right),
+        Insn::Arith {
+            op: ArithOp::Add,
+            wide: true,
+            left,
+            right,
+            ..
+        } => is_register(left) && is_register(right),
+        Insn::MoveImm {
+            size: Size::Qword,
+            bits: 16,
+            left,
+            ..
+        } => is_register(left),
+        _ => false,
+    }
+}
+
+fn is_register(operand: &Operand) -> bool
+    ensures { result ≡ is_register operand.now }
+{
+    !operand.indirect
 }
 
 // Whether the target of a jump is a start.

@@ -54,8 +54,8 @@ fn plain_code_is_neutral_or_refused(rt: HostRuntime) -> Result<(), Fail> {
         ),
         (
             &[0x0C, 0x21, 4, 0],
-            refused(0, RuleName::Decode),
-            b"refused 00000000 decode\n",
+            refused(0, RuleName::Form),
+            b"refused 00000000 form\n",
         ),
     ];
     for (code, outcome, text) in rows {

@@ -1,272 +1,480 @@
--- What is read is spelled so.
-use Rattle.std.proofs.Common.{◌≡◌, ℕ, ◌+◌, ◌*◌, ◌/◌, ◌%◌, ◌^◌, ◌<◌, ◌≤◌, Bool, true, false, List, [], ◌∷◌, ◌++◌, length, take, drop, nat_lt, nat_eq, not, ◌||◌, arith, ap, sym, refl, ◌∙◌, suc, length-drop, Option, Some, None, Result, Ok, Err, inl, inr, if◌then◌else◌}
-use Rattle.std.proofs.Math.Seq.{take-add}
-use Rattle.std.proofs.Math.Pow.{pow_pos}
-use Rattle.ebc_insn.specs.declared.Extra.TheVariants.{Nothing, Imm}
+-- What is read is spelled so: the instruction of parts that are right has a spelling, and these parts.
+use Rattle.std.proofs.Common.{◌≡◌, ℕ, ◌+◌, ◌*◌, ◌/◌, ◌%◌, ◌<◌, Bool, true, false, ◌&&◌, ◌||◌, not, nat_eq, nat_le, arith, subst, sym, refl, ◌∙◌, Option, Some, None, inl}
+use Rattle.std.specs.Option.{option_map, option_and_then}
+use Rattle.natural_index.specs.Index.{bit}
+use Rattle.ebc_insn.specs.declared.Extra.{Extra}
+use Rattle.ebc_insn.specs.declared.Extra.TheVariants.{Nothing, Imm, Idx}
+use Rattle.ebc_insn.specs.declared.Size.{Size}
 use Rattle.ebc_insn.specs.declared.CmpOp.{CmpOp}
-use Rattle.ebc_insn.specs.declared.CmpOp.TheVariants as cmps
 use Rattle.ebc_insn.specs.declared.ArithOp.{ArithOp}
-use Rattle.ebc_insn.specs.declared.ArithOp.TheVariants as ops
 use Rattle.ebc_insn.specs.declared.Insn.{Insn}
-use Rattle.ebc_insn.specs.Spelling.{Code, ExtraFits, IsRegister, WellFormed, bit, bytes_of, code_of, condition, extra_raw, extra_size, has_extra, head, low_bytes, operand, spelling}
-use Rattle.ebc_decode.specs.Reading.{IsFieldSize, cond_at, extra_at, flag, form_at, insn_at, int_at, is_reserved, left_at, number, operand_at, read, read_fields, read_form, right_at, size1_at, size2_at, tail_at}
-use Rattle.ebc_decode.specs.declared.DecodeFault.{DecodeFault}
-use Rattle.ebc_decode.specs.declared.DecodeFault.TheVariants as faults
+use Rattle.ebc_insn.specs.declared.code.Code.{Code}
+use Rattle.ebc_insn.specs.declared.code.Field.{Field}
+use Rattle.ebc_insn.specs.Spelling.{ExtraFits, TargetFits, WellFormed, code, code_of, condition, has_extra, head, operand, operands, target_bits, width_number}
+use Rattle.ebc_decode.specs.Reading.{bits_at, cond_at, flag, has_left_index, insn_at, is_far_wrong, is_reserved, left_at, operand_at, right_at, size1_at, size2_at}
 use Rattle.ebc_decode.specs.declared.form.Form.{Form}
 use Rattle.ebc_decode.specs.declared.form.Form.TheVariants as forms
-use Rattle.ebc_decode.proofs.Numbers.{IsBytes, IsBytes-drop, bit_flag, byte_fits, byte_whole, head_whole, int_fits, int_whole, operand_whole, taken, taken_below}
+use Rattle.ebc_decode.proofs.Fields.{extra_whole, index_whole, int32_whole, int_whole, left_fits, nothing_whole, optional_whole}
+use Rattle.ebc_decode.proofs.Forms.{form_whole, opcode_of, size_whole}
+use Rattle.ebc_decode.proofs.Numbers.{bit_flag, head_whole, operand_whole, signed_fits, signed_whole}
+use Rattle.ebc_decode.proofs.Parts.{IsFormOf, move_sized, narrow_sized, target_sized, width_sized}
 
--- ---- what was read, by its parts
+-- The instruction has a spelling, and some parts are its.
+pub record IsFound (c : Code) (i : Insn) : Type 0 where
+  pub well_formed : WellFormed i
+  pub same : code_of i ≡ c
 
--- The bytes begin with two bytes that aren't reserved, of a form f, and with its fields.
-pub record IsReadAs (bytes : List ℕ) (i : Insn) (n : ℕ) (f : Form) (b0 b1 : ℕ) (rest : List ℕ) : Type 0 where
-  pub whole : bytes ≡ b0 ∷ b1 ∷ rest
-  pub form : form_at (b0 % 64) ≡ Some f
-  pub proper : is_reserved f b0 b1 ≡ false
-  pub long : tail_at f b0 ≤ length rest
-  pub insn : i ≡ read_fields f b0 b1 rest
-  pub size : n ≡ 2 + tail_at f b0
+-- ---- the parts
 
--- Some parts are those of what was read.
-pub record IsRead (bytes : List ℕ) (i : Insn) (n : ℕ) : Type 0 where
-  pub f : Form
-  pub b0 : ℕ
-  pub b1 : ℕ
-  pub rest : List ℕ
-  pub parts : IsReadAs bytes i n f b0 b1 rest
+made : ℕ → ℕ → Field → Field → Code
+made b0 b1 f g = record { first = b0; second = b1; one = f; two = g }
 
-pub same_ok : (a b : Insn × ℕ) → ◌≡◌ {A = Result (Insn × ℕ) DecodeFault} (Ok a) (Ok b) → a ≡ b
-same_ok a b e = cc
+made_same :
+    (a b : ℕ) (f g : Field) {a' b' : ℕ} {f' g' : Field} → a ≡ a' → b ≡ b' → f ≡ f' → g ≡ g' →
+    made a b f g ≡ made a' b' f' g'
+made_same a b f g p q r s = cc
 
--- The parts, by what the tests of two bytes and of the length say.
-by_bits :
-    (f : Form) (b0 b1 : ℕ) (rest : List ℕ) (i : Insn) (n : ℕ) → form_at (b0 % 64) ≡ Some f → (r s : Bool) →
-    is_reserved f b0 b1 ≡ r → nat_lt (length rest) (tail_at f b0) ≡ s →
-    ◌≡◌ {A = Result (Insn × ℕ) DecodeFault} (if r then Err faults.Reserved else if s then Err faults.Short else Ok (read_fields f b0 b1 rest, 2 + tail_at f b0)) (Ok (i, n)) →
-    IsRead (b0 ∷ b1 ∷ rest) i n
-by_bits f b0 b1 rest i n form true s p q e = absurd (cc)
-by_bits f b0 b1 rest i n form false true p q e = absurd (cc)
-by_bits f b0 b1 rest i n form false false p q e =
-    let same = same_ok (read_fields f b0 b1 rest, 2 + tail_at f b0) (i, n) e in
-    record { f = f; b0 = b0; b1 = b1; rest = rest; parts = record { whole = refl; form = form; proper = p; long = grind arith; insn = sym (ap (λ x. x.0) same); size = sym (ap (λ x. x.1) same) } }
+code_from :
+    (c : Code) (b0 b1 : ℕ) (f g : Field) → b0 ≡ c.first → b1 ≡ c.second → f ≡ c.one → g ≡ c.two → code b0 b1 f g ≡ c
+unfolding made
+code_from c b0 b1 f g p q r s = made_same b0 b1 f g p q r s
 
--- The parts, by the form that the opcode names.
-by_form :
-    (b0 b1 : ℕ) (rest : List ℕ) (i : Insn) (n : ℕ) (o : Option Form) → form_at (b0 % 64) ≡ o →
-    read_form o b0 b1 rest ≡ Ok (i, n) → IsRead (b0 ∷ b1 ∷ rest) i n
-by_form b0 b1 rest i n None form e = absurd (cc)
-by_form b0 b1 rest i n (Some f) form e = by_bits f b0 b1 rest i n form _ _ refl refl e
+-- the opcode of the first byte
+opcode_is : (c : Code) (f : Form) → IsFormOf c f → opcode_of f ≡ c.first % 64
+opcode_is c f s = (form_whole (c.first % 64) f s.form).opcode
 
--- What is read has parts.
-pub read_parts : (bytes : List ℕ) (i : Insn) (n : ℕ) → read bytes ≡ Ok (i, n) → IsRead bytes i n
-unfolding read
-read_parts [] i n e = absurd (cc)
-read_parts (b0 ∷ []) i n e = absurd (cc)
-read_parts (b0 ∷ b1 ∷ rest) i n e = by_form b0 b1 rest i n _ refl e
+head_from :
+    (n opcode : ℕ) (six seven : Bool) → n < 256 → opcode ≡ n % 64 → six ≡ flag (n / 64) → seven ≡ flag (n / 128) →
+    head opcode six seven ≡ n
+head_from n opcode six seven h p q r = rw (p, q, r) (head_whole n h)
 
--- ---- the sizes
+is_register : (n : ℕ) → n % 8 < 8
+is_register n = omega arith
 
-extra_sized : (present : Bool) → IsFieldSize (if present then 2 else 0)
-extra_sized true = inr refl
-extra_sized false = inl refl
-
-pub size1_sized : (f : Form) (b0 : ℕ) → IsFieldSize (size1_at f b0)
-unfolding size1_at
-size1_sized forms.Jump8 b0 = inl refl
-size1_sized forms.Ret b0 = inl refl
-size1_sized (forms.Compare op) b0 = extra_sized (flag (b0 / 128))
-size1_sized (forms.Arith op) b0 = extra_sized (flag (b0 / 128))
-size1_sized forms.MoveImm b0 = inl refl
-
-pub size2_sized : (f : Form) → IsFieldSize (size2_at f)
-unfolding size2_at
-size2_sized forms.MoveImm = inr refl
-size2_sized forms.Jump8 = inl refl
-size2_sized forms.Ret = inl refl
-size2_sized (forms.Compare op) = inl refl
-size2_sized (forms.Arith op) = inl refl
-
--- ---- what has the parts of a form is well formed
-
--- An operation on 64 bits and on registers.
-plain_bits : (a b c : Bool) → (not a || b || c) ≡ false → (a ≡ true) × (b ≡ false) × (c ≡ false)
-plain_bits true false false e = (refl, refl, refl)
-plain_bits true false true e = absurd (cc)
-plain_bits true true c e = absurd (cc)
-plain_bits false b c e = absurd (cc)
-
--- The opcode of each form.
-compare_form : (n : ℕ) (op : CmpOp) → form_at n ≡ Some (forms.Compare op) → (op ≡ cmps.Eq) × (n ≡ 0x05)
-unfolding form_at
-compare_form n op e = grind arith
-
-arith_form : (n : ℕ) (op : ArithOp) → form_at n ≡ Some (forms.Arith op) → (op ≡ ops.Add) × (n ≡ 0x0C)
-unfolding form_at
-arith_form n op e = grind arith
-
-jump_form : (n : ℕ) → form_at n ≡ Some forms.Jump8 → n ≡ 0x02
-unfolding form_at
-jump_form n e = grind arith
-
-ret_form : (n : ℕ) → form_at n ≡ Some forms.Ret → n ≡ 0x04
-unfolding form_at
-ret_form n e = grind arith
-
-move_imm_form : (n : ℕ) → form_at n ≡ Some forms.MoveImm → n ≡ 0x37
-unfolding form_at
-move_imm_form n e = grind arith
-
-extra_fits : (r : ℕ) (b0 raw : ℕ) → (operand_at r).indirect ≡ false → ExtraFits 16 (operand_at r) (extra_at b0 raw)
-extra_fits r b0 raw direct = by_flag (flag (b0 / 128)) where
-  by_flag : (b : Bool) → ExtraFits 16 (operand_at r) (if b then Imm (int_at 16 raw) else Nothing)
-  by_flag true = (direct, int_fits raw)
-  by_flag false = tt
-
--- The bytes of a move of an immediate that isn't reserved.
-move_byte : (a b : ℕ) → (not (nat_eq a 1) || not (nat_eq b 6)) ≡ false → (a ≡ 1) × (b ≡ 6)
-move_byte a b e = grind arith
-
-register_at : (b1 : ℕ) → b1 / 8 ≡ 6 → IsRegister (left_at b1)
-register_at b1 e = (omega arith, grind arith)
-
-register_low : (n : ℕ) → n % 8 < 8
-register_low n = omega arith
-
--- The instruction of a form whose two bytes aren't reserved is well formed.
-pub well_formed_at :
-    (f : Form) (b0 b1 raw1 raw2 : ℕ) → form_at (b0 % 64) ≡ Some f → is_reserved f b0 b1 ≡ false →
-    WellFormed (insn_at f b0 b1 raw1 raw2)
-unfolding insn_at is_reserved
-well_formed_at forms.Jump8 b0 b1 raw1 raw2 form proper = byte_fits b1
-well_formed_at forms.Ret b0 b1 raw1 raw2 form proper = tt
-well_formed_at (forms.Compare op) b0 b1 raw1 raw2 form proper =
-    let plain = plain_bits _ _ _ proper in
-    ((compare_form _ op form).0, plain.0, register_low b1, (register_low (b1 / 16), plain.2), extra_fits (b1 / 16) b0 raw1 plain.2)
-well_formed_at (forms.Arith op) b0 b1 raw1 raw2 form proper =
-    let plain = plain_bits _ _ _ proper in
-    ((arith_form _ op form).0, plain.0, (register_low (b1 % 16), plain.1), (register_low (b1 / 16), plain.2), extra_fits (b1 / 16) b0 raw1 plain.2)
-well_formed_at forms.MoveImm b0 b1 raw1 raw2 form proper = (refl, refl, register_at b1 (move_byte (b0 / 64) (b1 / 8) proper).1, int_fits raw2)
-
--- ---- what was read has the parts that were read
-
--- the parts of a spelling
-code : ℕ → ℕ → ℕ → ℕ → ℕ → ℕ → Code
-code b0 b1 s1 r1 s2 r2 = record { first = b0; second = b1; size1 = s1; raw1 = r1; size2 = s2; raw2 = r2 }
-
-code_same :
-    (a b c d e f : ℕ) {a' b' c' d' e' f' : ℕ} → a ≡ a' → b ≡ b' → c ≡ c' → d ≡ d' → e ≡ e' → f ≡ f' →
-    code a b c d e f ≡ code a' b' c' d' e' f'
-code_same a b c d e f p q r s t u = cc
-
--- The parts of the instruction of a form are the two bytes and the numbers of its fields.
-HasRead : Form → ℕ → ℕ → ℕ → ℕ → Type 0
-HasRead f b0 b1 raw1 raw2 = code_of (insn_at f b0 b1 raw1 raw2) ≡ code b0 b1 (size1_at f b0) raw1 (size2_at f) raw2
-
--- The first byte of a jump is that of its condition.
-jump_whole :
-    (n : ℕ) → n < 256 → n % 64 ≡ 0x02 → nat_eq (n / 64) 1 ≡ false →
-    0x02 + 64 * condition (cond_at (n / 64)) ≡ n
-jump_whole n h low proper = grind arith
-
--- The number of an extra, and where there is one, are those that were read.
-extra_whole :
-    (b0 raw : ℕ) → raw < 2 ^ 16 → (flag (b0 / 128) ≡ false → raw ≡ 0) →
-    (has_extra (extra_at b0 raw) ≡ flag (b0 / 128)) × (extra_size 16 (extra_at b0 raw) ≡ (if flag (b0 / 128) then 2 else 0)) × (extra_raw 16 (extra_at b0 raw) ≡ raw)
-extra_whole b0 raw h none = by_flag (flag (b0 / 128)) none where
-  by_flag : (b : Bool) → (b ≡ false → raw ≡ 0) → (has_extra (if b then Imm (int_at 16 raw) else Nothing) ≡ b) × (extra_size 16 (if b then Imm (int_at 16 raw) else Nothing) ≡ (if b then 2 else 0)) × (extra_raw 16 (if b then Imm (int_at 16 raw) else Nothing) ≡ raw)
-  by_flag true none = (refl, refl, int_whole raw h)
-  by_flag false none = (refl, refl, sym (none refl))
-
--- The bytes of a return that aren't reserved.
-ret_bytes : (a b : ℕ) → (not (nat_eq a 0) || not (nat_eq b 0)) ≡ false → (a ≡ 0) × (b ≡ 0)
-ret_bytes a b e = grind arith
-
-extra_raw_below : (raw : ℕ) (b : Bool) → raw < 2 ^ (8 * (if b then 2 else 0)) → (raw < 2 ^ 16) × (b ≡ false → raw ≡ 0)
-extra_raw_below raw true h = (h, λ e. absurd (cc))
-extra_raw_below raw false h = (omega arith, λ e. omega arith)
-
--- The first byte of a form with an extra is the opcode byte that was read.
-extra_head :
-    (opcode b0 : ℕ) (has : Bool) → b0 < 256 → b0 % 64 ≡ opcode → has ≡ flag (b0 / 128) →
-    head opcode (flag (b0 / 64)) has ≡ b0
-extra_head opcode b0 has h low e = rw (e, ← low) (head_whole b0 h)
-
-operands_whole : (b1 : ℕ) → b1 < 256 → operand (left_at b1) + 16 * operand (right_at b1) ≡ b1
+operands_whole : (b1 : ℕ) → b1 < 256 → operands (left_at b1) (right_at b1) ≡ b1
 operands_whole b1 h = omega (arith, operand_whole (b1 % 16) (omega arith), operand_whole (b1 / 16) (omega arith))
 
--- A direct operand 1 is its register alone.
-direct_whole : (b1 : ℕ) → b1 < 256 → (left_at b1).indirect ≡ false → b1 % 8 + 16 * operand (right_at b1) ≡ b1
-direct_whole b1 h direct = omega (arith, operand_whole (b1 / 16) (omega arith), bit_flag (b1 % 16 / 8), ap bit direct)
+both_clear : (a b : Bool) → (a || b) ≡ false → (a ≡ false) × (b ≡ false)
+both_clear false false e = (refl, refl)
+both_clear true b e = absurd (cc)
+both_clear false true e = absurd (cc)
 
-move_whole : (b1 : ℕ) → b1 / 8 ≡ 6 → operand (left_at b1) + 48 ≡ b1
-move_whole b1 e = omega (arith, operand_whole (b1 % 16) (omega arith))
+all_clear : (a b c : Bool) → (a || b || c) ≡ false → (a ≡ false) × (b ≡ false) × (c ≡ false)
+all_clear false false false e = (refl, refl, refl)
+all_clear true b c e = absurd (cc)
+all_clear false true c e = absurd (cc)
+all_clear false false true e = absurd (cc)
 
--- The instruction of a form whose two bytes aren't reserved has the parts that were read.
-code_at :
-    (f : Form) (b0 b1 raw1 raw2 : ℕ) → b0 < 256 → b1 < 256 → raw1 < 2 ^ (8 * size1_at f b0) →
-    raw2 < 2 ^ (8 * size2_at f) → form_at (b0 % 64) ≡ Some f → is_reserved f b0 b1 ≡ false →
-    HasRead f b0 b1 raw1 raw2
-unfolding HasRead code insn_at is_reserved size1_at size2_at
-code_at forms.Jump8 b0 b1 raw1 raw2 h0 h1 r1 r2 form proper =
-    code_same _ _ _ _ _ _ (jump_whole b0 h0 (jump_form _ form) proper) (byte_whole b1 h1) refl (omega arith) refl (omega arith)
-code_at forms.Ret b0 b1 raw1 raw2 h0 h1 r1 r2 form proper =
-    let bytes = ret_bytes (b0 / 64) b1 proper in
-    code_same _ _ _ _ _ _ (omega (arith, ret_form _ form, bytes.0)) (sym bytes.1) refl (omega arith) refl (omega arith)
-code_at (forms.Compare cmps.Eq) b0 b1 raw1 raw2 h0 h1 r1 r2 form proper =
-    let below = extra_raw_below raw1 _ r1 in
-    let extra = extra_whole b0 raw1 below.0 below.1 in
-    code_same _ _ _ _ _ _ (extra_head 0x05 b0 _ h0 (compare_form _ cmps.Eq form).1 extra.0) (direct_whole b1 h1 (plain_bits _ _ _ proper).1) extra.1 extra.2 refl (omega arith)
-code_at (forms.Compare op) b0 b1 raw1 raw2 h0 h1 r1 r2 form proper = absurd (cc ((compare_form _ op form).0))
-code_at (forms.Arith ops.Add) b0 b1 raw1 raw2 h0 h1 r1 r2 form proper =
-    let below = extra_raw_below raw1 _ r1 in
-    let extra = extra_whole b0 raw1 below.0 below.1 in
-    code_same _ _ _ _ _ _ (extra_head 0x0C b0 _ h0 (arith_form _ ops.Add form).1 extra.0) (operands_whole b1 h1) extra.1 extra.2 refl (omega arith)
-code_at (forms.Arith op) b0 b1 raw1 raw2 h0 h1 r1 r2 form proper = absurd (cc ((arith_form _ op form).0))
-code_at forms.MoveImm b0 b1 raw1 raw2 h0 h1 r1 r2 form proper =
-    let bytes = move_byte (b0 / 64) (b1 / 8) proper in
-    code_same _ _ _ _ _ _ (omega (arith, move_imm_form _ form, bytes.0)) (move_whole b1 bytes.1) refl (omega arith) refl (int_whole raw2 r2)
+is_zero : (n : ℕ) → not (nat_eq n 0) ≡ false → n ≡ 0
+is_zero n e = grind arith
+
+not_flag : (n : ℕ) → flag n ≡ false → n % 2 ≡ 0
+not_flag n e = grind arith
+
+cond_whole : (n : ℕ) → n < 4 → nat_eq n 1 ≡ false → condition (cond_at n) ≡ n
+cond_whole n h e = grind arith
+
+width_whole : (n : ℕ) → n < 4 → nat_eq n 0 ≡ false → width_number (bits_at n) ≡ n
+width_whole n h e = grind arith
+
+-- ---- what was read
+
+-- What was made of something that was read.
+pub record IsMadeOf {A : Type 0} (make : A → Insn) (o : Option A) (i : Insn) : Type 0 where
+  pub x : A
+  pub read : o ≡ Some x
+  pub same : make x ≡ i
+
+some_same : {A : Type 0} (x y : A) → Some x ≡ Some y → x ≡ y
+some_same x y e = cc
+
+made_of : {A : Type 0} (make : A → Insn) (o : Option A) (i : Insn) → option_map make o ≡ Some i → IsMadeOf make o i
+made_of make None i e = absurd (cc)
+made_of make (Some x) i e = record { x = x; read = refl; same = some_same (make x) i e }
+
+-- What was made of two that were read.
+pub record IsMadeOfBoth {A B : Type 0} (make : A → B → Insn) (o : Option A) (p : Option B) (i : Insn) : Type 0 where
+  pub x : A
+  pub y : B
+  pub first : o ≡ Some x
+  pub second : p ≡ Some y
+  pub same : make x y ≡ i
+
+made_of_both :
+    {A B : Type 0} (make : A → B → Insn) (o : Option A) (p : Option B) (i : Insn) →
+    option_and_then (λ a. option_map (make a) p) o ≡ Some i → IsMadeOfBoth make o p i
+made_of_both make None p i e = absurd (cc)
+made_of_both make (Some x) p i e =
+    let m = made_of (make x) p i e in
+    record { x = x; y = m.x; first = refl; second = m.read; same = m.same }
+
+-- ---- forms with no field
+
+Finds : Form → Code → Insn → Type 0
+Finds f c i = IsFormOf c f → c.first < 256 → c.second < 256 → insn_at f c ≡ Some i → IsFound c i
+
+found_break : (c : Code) (i : Insn) → Finds forms.Break c i
+unfolding Finds is_reserved has_left_index size1_at size2_at insn_at
+found_break c i s h0 h1 e =
+    let high = is_zero (c.first / 64) s.proper in
+    subst (IsFound c) (some_same _ i e) record {
+      well_formed = h1;
+      same = code_from c _ _ _ _ (omega (arith, opcode_is c forms.Break s)) refl (nothing_whole c.one (sym s.one))
+          (nothing_whole c.two (sym s.two));
+    }
+
+found_ret : (c : Code) (i : Insn) → Finds forms.Ret c i
+unfolding Finds is_reserved has_left_index size1_at size2_at insn_at
+found_ret c i s h0 h1 e =
+    let clear = both_clear (not (nat_eq (c.first / 64) 0)) (not (nat_eq c.second 0)) s.proper in
+    let high = is_zero (c.first / 64) clear.0 in
+    subst (IsFound c) (some_same _ i e) record {
+      well_formed = tt;
+      same = code_from c _ _ _ _ (omega (arith, opcode_is c forms.Ret s)) (sym (is_zero c.second clear.1))
+          (nothing_whole c.one (sym s.one)) (nothing_whole c.two (sym s.two));
+    }
+
+found_jump8 : (c : Code) (i : Insn) → Finds forms.Jump8 c i
+unfolding Finds is_reserved has_left_index size1_at size2_at insn_at
+found_jump8 c i s h0 h1 e =
+    subst (IsFound c) (some_same _ i e) record {
+      well_formed = signed_fits 8 c.second (omega arith) h1;
+      same = code_from c _ _ _ _ (omega (
+        arith,
+        opcode_is c forms.Jump8 s,
+        cond_whole (c.first / 64) (omega arith)
+            s.proper,
+      )) (signed_whole 8 c.second (omega arith) h1) (nothing_whole c.one (sym
+          s.one)) (nothing_whole c.two (sym s.two));
+    }
+
+found_load : (c : Code) (i : Insn) → Finds forms.LoadSpecial c i
+unfolding Finds is_reserved has_left_index size1_at size2_at insn_at
+found_load c i s h0 h1 e =
+    let clear = all_clear (not (nat_eq (c.first / 64) 0)) (not (nat_eq (c.second % 16) 0)) (flag (c.second / 128))
+    s.proper in
+    let high = is_zero (c.first / 64) clear.0 in
+    let low = is_zero (c.second % 16) clear.1 in
+    let top = not_flag (c.second / 128) clear.2 in
+    subst (IsFound c) (some_same _ i e) record {
+      well_formed = omega arith;
+      same = code_from c _ _ _ _ (omega (arith, opcode_is c forms.LoadSpecial s)) (omega arith)
+          (nothing_whole c.one (sym s.one)) (nothing_whole c.two (sym s.two));
+    }
+
+below_two : (n : ℕ) → nat_le 2 n ≡ false → n < 2
+below_two n e = grind arith
+
+found_store : (c : Code) (i : Insn) → Finds forms.StoreSpecial c i
+unfolding Finds is_reserved has_left_index size1_at size2_at insn_at
+found_store c i s h0 h1 e =
+    let clear = all_clear (not (nat_eq (c.first / 64) 0)) (flag (c.second / 8)) (nat_le 2 (c.second / 16)) s.proper in
+    let high = is_zero (c.first / 64) clear.0 in
+    let middle = not_flag (c.second / 8) clear.1 in
+    let special = below_two (c.second / 16) clear.2 in
+    subst (IsFound c) (some_same _ i e) record {
+      well_formed = (is_register c.second, special);
+      same = code_from c _ _ _ _ (omega (arith, opcode_is c forms.StoreSpecial s)) (omega arith)
+          (nothing_whole c.one (sym s.one)) (nothing_whole c.two (sym s.two));
+    }
+
+-- ---- forms with what stands beside an operand
+
+found_arith : (op : ArithOp) (c : Code) (i : Insn) → Finds (forms.Arith op) c i
+unfolding Finds is_reserved has_left_index size1_at size2_at insn_at
+found_arith op c i s h0 h1 e =
+    let m = made_of _ _ i e in
+    let x = extra_whole 16 (flag (c.first / 128)) (right_at c.second) c.one m.x (inl refl) (sym s.one) s.fits.0
+    m.read in
+    subst (IsFound c) m.same record {
+      well_formed = (is_register (c.second % 16), is_register (c.second / 16), x.fits);
+      same = code_from c _ _ _ _ (head_from c.first _ _ _ h0 (opcode_is c (forms.Arith op) s) refl x.presence)
+          (operands_whole c.second h1) x.same (nothing_whole c.two (sym s.two));
+    }
+
+found_compare : (op : CmpOp) (c : Code) (i : Insn) → Finds (forms.Compare op) c i
+unfolding Finds is_reserved has_left_index size1_at size2_at insn_at
+found_compare op c i s h0 h1 e =
+    let m = made_of _ _ i e in
+    let x = extra_whole 16 (flag (c.first / 128)) (right_at c.second) c.one m.x (inl refl) (sym s.one) s.fits.0
+    m.read in
+    let direct = not_flag (c.second / 8) s.proper in
+    subst (IsFound c) m.same record {
+      well_formed = (is_register c.second, is_register (c.second / 16), x.fits);
+      same = code_from c _ _ _ _ (head_from c.first _ _ _ h0 (opcode_is c (forms.Compare op) s) refl x.presence)
+          (omega (arith, operand_whole (c.second / 16) (omega arith))) x.same (nothing_whole c.two (sym s.two));
+    }
+
+-- an operand alone in a byte
+alone_whole : (b1 : ℕ) → b1 < 256 → b1 / 16 ≡ 0 → operand (left_at b1) ≡ b1
+alone_whole b1 h none = omega (arith, operand_whole (b1 % 16) (omega arith))
+
+found_push : (c : Code) (i : Insn) → Finds forms.Push c i
+unfolding Finds is_reserved has_left_index size1_at size2_at insn_at
+found_push c i s h0 h1 e =
+    let m = made_of _ _ i e in
+    let x = extra_whole 16 (flag (c.first / 128)) (left_at c.second) c.one m.x (inl refl) (sym s.one) s.fits.0 m.read in
+    subst (IsFound c) m.same record {
+      well_formed = (is_register (c.second % 16), x.fits);
+      same = code_from c _ _ _ _ (head_from c.first _ _ _ h0 (opcode_is c forms.Push s) refl x.presence)
+          (alone_whole c.second h1 (is_zero _ s.proper)) x.same (nothing_whole c.two (sym s.two));
+    }
+
+found_pop : (c : Code) (i : Insn) → Finds forms.Pop c i
+unfolding Finds is_reserved has_left_index size1_at size2_at insn_at
+found_pop c i s h0 h1 e =
+    let m = made_of _ _ i e in
+    let x = extra_whole 16 (flag (c.first / 128)) (left_at c.second) c.one m.x (inl refl) (sym s.one) s.fits.0 m.read in
+    subst (IsFound c) m.same record {
+      well_formed = (is_register (c.second % 16), x.fits);
+      same = code_from c _ _ _ _ (head_from c.first _ _ _ h0 (opcode_is c forms.Pop s) refl x.presence)
+          (alone_whole c.second h1 (is_zero _ s.proper)) x.same (nothing_whole c.two (sym s.two));
+    }
+
+found_push_natural : (c : Code) (i : Insn) → Finds forms.PushNatural c i
+unfolding Finds is_reserved has_left_index size1_at size2_at insn_at
+found_push_natural c i s h0 h1 e =
+    let m = made_of _ _ i e in
+    let x = extra_whole 16 (flag (c.first / 128)) (left_at c.second) c.one m.x (inl refl) (sym s.one) s.fits.0 m.read in
+    let clear = both_clear (flag (c.first / 64)) (not (nat_eq (c.second / 16) 0)) s.proper in
+    subst (IsFound c) m.same record {
+      well_formed = (is_register (c.second % 16), x.fits);
+      same = code_from c _ _ _ _ (head_from c.first _ _ _ h0 (opcode_is c forms.PushNatural s) (sym clear.0) x.presence)
+          (alone_whole c.second h1 (is_zero _ clear.1)) x.same (nothing_whole c.two (sym s.two));
+    }
+
+found_pop_natural : (c : Code) (i : Insn) → Finds forms.PopNatural c i
+unfolding Finds is_reserved has_left_index size1_at size2_at insn_at
+found_pop_natural c i s h0 h1 e =
+    let m = made_of _ _ i e in
+    let x = extra_whole 16 (flag (c.first / 128)) (left_at c.second) c.one m.x (inl refl) (sym s.one) s.fits.0 m.read in
+    let clear = both_clear (flag (c.first / 64)) (not (nat_eq (c.second / 16) 0)) s.proper in
+    subst (IsFound c) m.same record {
+      well_formed = (is_register (c.second % 16), x.fits);
+      same = code_from c _ _ _ _ (head_from c.first _ _ _ h0 (opcode_is c forms.PopNatural s) (sym clear.0) x.presence)
+          (alone_whole c.second h1 (is_zero _ clear.1)) x.same (nothing_whole c.two (sym s.two));
+    }
+
+-- ---- jumps and calls
+
+far_address :
+    (n : ℕ) (x : Extra) → n ≡ 0 → has_extra x ≡ true → ExtraFits 64 (operand_at n) x → TargetFits true (operand_at n) x
+far_address n Nothing h p fits = absurd (cc)
+far_address n (Imm v) h p fits = (omega arith, fits.0, fits.1)
+far_address n (Idx j) h p fits = absurd (cc (sym (direct n h) ∙ fits.0)) where
+  direct : (n : ℕ) → n ≡ 0 → flag (n / 8) ≡ false
+  direct n h = grind arith
+
+-- The target of a jump or a call whose two bytes are right.
+target_whole :
+    (far seven : Bool) (n : ℕ) (x : Extra) → (far && (not seven || not (nat_eq n 0))) ≡ false → has_extra x ≡ seven →
+    ExtraFits (target_bits far) (operand_at n) x → TargetFits far (operand_at n) x
+target_whole false seven n x e p fits = (is_register n, fits)
+target_whole true true n x e p fits = far_address n x (is_zero n e) p fits
+target_whole true false n x e p fits = absurd (cc)
+
+found_jump : (c : Code) (i : Insn) → Finds forms.Jump c i
+unfolding Finds is_reserved has_left_index size1_at size2_at insn_at
+found_jump c i s h0 h1 e =
+    let m = made_of _ _ i e in
+    let far : Bool = flag (c.first / 64) in
+    let x = extra_whole (target_bits far) (flag (c.first / 128)) (left_at c.second) c.one m.x (target_sized far)
+    (sym s.one) s.fits.0 m.read in
+    let clear = all_clear (flag (c.second / 32)) (nat_eq (c.second / 64) 1) (is_far_wrong c.first c.second) s.proper in
+    let none = not_flag (c.second / 32) clear.0 in
+    let cond = cond_whole (c.second / 64) (omega arith) clear.1 in
+    subst (IsFound c) m.same record {
+      well_formed = target_whole far (flag (c.first / 128)) (c.second % 16) m.x clear.2 x.presence x.fits;
+      same = code_from c _ _ _ _ (head_from c.first _ _ _ h0 (opcode_is c forms.Jump s) refl x.presence)
+          (omega (arith, operand_whole (c.second % 16) (omega arith), bit_flag (c.second / 16))) x.same
+          (nothing_whole c.two (sym s.two));
+    }
+
+found_call : (c : Code) (i : Insn) → Finds forms.Call c i
+unfolding Finds is_reserved has_left_index size1_at size2_at insn_at
+found_call c i s h0 h1 e =
+    let m = made_of _ _ i e in
+    let far : Bool = flag (c.first / 64) in
+    let x = extra_whole (target_bits far) (flag (c.first / 128)) (left_at c.second) c.one m.x (target_sized far)
+    (sym s.one) s.fits.0 m.read in
+    let clear = both_clear (not (nat_eq (c.second / 64) 0)) (is_far_wrong c.first c.second) s.proper in
+    let none = is_zero (c.second / 64) clear.0 in
+    subst (IsFound c) m.same record {
+      well_formed = target_whole far (flag (c.first / 128)) (c.second % 16) m.x clear.1 x.presence x.fits;
+      same = code_from c _ _ _ _ (head_from c.first _ _ _ h0 (opcode_is c forms.Call s) refl x.presence)
+          (omega (
+            arith,
+            operand_whole (c.second % 16) (omega arith),
+            bit_flag (c.second / 16),
+            bit_flag
+                (c.second / 32),
+          )) x.same (nothing_whole c.two (sym s.two));
+    }
+
+-- ---- forms with an index of operand 1
+
+found_move : (size : Size) (bits : ℕ) (c : Code) (i : Insn) → Finds (forms.Move size bits) c i
+unfolding Finds is_reserved has_left_index size1_at size2_at insn_at
+found_move size bits c i s h0 h1 e =
+    let m = made_of_both _ _ _ i e in
+    let fits = (form_whole (c.first % 64) (forms.Move size bits) s.form).fits in
+    let wide = move_sized size bits fits in
+    let x = optional_whole bits (flag (c.first / 128)) c.one m.x wide (sym s.one) s.fits.0 m.first in
+    let y = optional_whole bits (flag (c.first / 64)) c.two m.y wide (sym s.two) s.fits.1 m.second in
+    subst (IsFound c) m.same record {
+      well_formed = (
+        fits,
+        is_register (c.second % 16),
+        is_register (c.second / 16),
+        left_fits bits (left_at c.second)
+            m.x (flag (c.first / 128)) x.fits x.presence s.indirect,
+        y.fits,
+      );
+      same = code_from c _ _ _ _ (head_from c.first _ _ _ h0 (opcode_is c (forms.Move size bits) s) y.presence
+          x.presence) (operands_whole c.second h1) x.same y.same;
+    }
+
+found_move_signed : (bits : ℕ) (c : Code) (i : Insn) → Finds (forms.MoveSigned bits) c i
+unfolding Finds is_reserved has_left_index size1_at size2_at insn_at
+found_move_signed bits c i s h0 h1 e =
+    let m = made_of_both _ _ _ i e in
+    let fits = (form_whole (c.first % 64) (forms.MoveSigned bits) s.form).fits in
+    let wide = narrow_sized bits fits in
+    let x = optional_whole bits (flag (c.first / 128)) c.one m.x wide (sym s.one) s.fits.0 m.first in
+    let y = extra_whole bits (flag (c.first / 64)) (right_at c.second) c.two m.y wide (sym s.two) s.fits.1 m.second in
+    subst (IsFound c) m.same record {
+      well_formed = (
+        fits,
+        is_register (c.second % 16),
+        is_register (c.second / 16),
+        left_fits bits (left_at c.second)
+            m.x (flag (c.first / 128)) x.fits x.presence s.indirect,
+        y.fits,
+      );
+      same = code_from c _ _ _ _ (head_from c.first _ _ _ h0 (opcode_is c (forms.MoveSigned bits) s) y.presence
+          x.presence) (operands_whole c.second h1) x.same y.same;
+    }
+
+-- the first byte of a move of an immediate
+width_byte :
+    (n opcode : ℕ) → n < 256 → opcode ≡ n % 64 → nat_eq (n / 64) 0 ≡ false →
+    opcode + 64 * width_number (bits_at (n / 64)) ≡ n
+width_byte n opcode h p some = omega (arith, width_whole (n / 64) (omega arith) some)
+
+found_move_imm : (c : Code) (i : Insn) → Finds forms.MoveImm c i
+unfolding Finds is_reserved has_left_index size1_at size2_at insn_at
+found_move_imm c i s h0 h1 e =
+    let m = made_of _ _ i e in
+    let wide = width_sized (c.first / 64) in
+    let clear = both_clear (nat_eq (c.first / 64) 0) (flag (c.second / 128)) s.proper in
+    let top = not_flag (c.second / 128) clear.1 in
+    let x = optional_whole 16 (flag (c.second / 64)) c.one m.x (inl refl) (sym s.one) s.fits.0 m.read in
+    let v = int_whole (bits_at (c.first / 64)) c.two wide (sym s.two) s.fits.1 in
+    let size = size_whole (c.second / 16 % 4) (omega arith) in
+    subst (IsFound c) m.same record {
+      well_formed = (
+        wide,
+        size.1,
+        is_register (c.second % 16),
+        left_fits 16 (left_at c.second) m.x
+            (flag (c.second / 64)) x.fits x.presence s.indirect,
+        v.1,
+      );
+      same = code_from c _ _ _ _ (width_byte c.first 0x37 h0 (opcode_is c forms.MoveImm s) clear.0)
+          (rw x.presence (omega (arith, size.0, operand_whole (c.second % 16) (omega arith), bit_flag (c.second / 64))))
+          x.same v.0;
+    }
+
+-- the second byte of a move of an index or of a place
+index_byte :
+    (b1 : ℕ) (there : Bool) → b1 < 256 → b1 / 16 % 4 ≡ 0 → b1 / 128 % 2 ≡ 0 → there ≡ flag (b1 / 64) →
+    operand (left_at b1) + 64 * bit there ≡ b1
+index_byte b1 there h none top p = rw p (omega (arith, operand_whole (b1 % 16) (omega arith), bit_flag (b1 / 64)))
+
+found_move_imm_natural : (c : Code) (i : Insn) → Finds forms.MoveImmNatural c i
+unfolding Finds is_reserved has_left_index size1_at size2_at insn_at
+found_move_imm_natural c i s h0 h1 e =
+    let m = made_of_both _ _ _ i e in
+    let wide = width_sized (c.first / 64) in
+    let clear = all_clear (nat_eq (c.first / 64) 0) (flag (c.second / 128)) (not (nat_eq (c.second / 16 % 4) 0))
+    s.proper in
+    let x = optional_whole 16 (flag (c.second / 64)) c.one m.x (inl refl) (sym s.one) s.fits.0 m.first in
+    let j = index_whole (bits_at (c.first / 64)) c.two m.y wide (sym s.two) s.fits.1 m.second in
+    subst (IsFound c) m.same record {
+      well_formed = (
+        wide,
+        is_register (c.second % 16),
+        left_fits 16 (left_at c.second) m.x (flag (c.second / 64))
+            x.fits x.presence s.indirect,
+        j.1,
+      );
+      same = code_from c _ _ _ _ (width_byte c.first 0x38 h0 (opcode_is c forms.MoveImmNatural s) clear.0)
+          (index_byte c.second _ h1 (is_zero _ clear.2) (not_flag _ clear.1) x.presence) x.same j.0;
+    }
+
+found_move_relative : (c : Code) (i : Insn) → Finds forms.MoveRelative c i
+unfolding Finds is_reserved has_left_index size1_at size2_at insn_at
+found_move_relative c i s h0 h1 e =
+    let m = made_of _ _ i e in
+    let wide = width_sized (c.first / 64) in
+    let clear = all_clear (nat_eq (c.first / 64) 0) (flag (c.second / 128)) (not (nat_eq (c.second / 16 % 4) 0))
+    s.proper in
+    let x = optional_whole 16 (flag (c.second / 64)) c.one m.x (inl refl) (sym s.one) s.fits.0 m.read in
+    let v = int_whole (bits_at (c.first / 64)) c.two wide (sym s.two) s.fits.1 in
+    subst (IsFound c) m.same record {
+      well_formed = (
+        wide,
+        is_register (c.second % 16),
+        left_fits 16 (left_at c.second) m.x (flag (c.second / 64))
+            x.fits x.presence s.indirect,
+        v.1,
+      );
+      same = code_from c _ _ _ _ (width_byte c.first 0x39 h0 (opcode_is c forms.MoveRelative s) clear.0)
+          (index_byte c.second _ h1 (is_zero _ clear.2) (not_flag _ clear.1) x.presence) x.same v.0;
+    }
+
+found_compare_imm : (op : CmpOp) (c : Code) (i : Insn) → Finds (forms.CompareImm op) c i
+unfolding Finds is_reserved has_left_index size1_at size2_at insn_at
+found_compare_imm op c i s h0 h1 e =
+    let m = made_of _ _ i e in
+    let x = optional_whole 16 (flag (c.second / 16)) c.one m.x (inl refl) (sym s.one) s.fits.0 m.read in
+    let v = int32_whole (flag (c.first / 128)) c.two (sym s.two) s.fits.1 in
+    let low = below_two (c.second / 16) s.proper in
+    subst (IsFound c) m.same record {
+      well_formed = (
+        is_register (c.second % 16),
+        left_fits 16 (left_at c.second) m.x (flag (c.second / 16)) x.fits
+            x.presence s.indirect,
+        v.1,
+      );
+      same = code_from c _ _ _ _ (head_from c.first _ _ _ h0 (opcode_is c (forms.CompareImm op) s) refl refl)
+          (rw x.presence (omega (arith, operand_whole (c.second % 16) (omega arith), bit_flag (c.second / 16)))) x.same
+          v.0;
+    }
 
 -- ---- the whole
 
-two_more : (n : ℕ) → 2 + n ≡ suc (suc n)
-two_more n = omega arith
-
-front : (n b0 b1 : ℕ) (rest : List ℕ) → take (2 + n) (b0 ∷ b1 ∷ rest) ≡ b0 ∷ b1 ∷ take n rest
-front n b0 b1 rest = ap (λ k. take k (b0 ∷ b1 ∷ rest)) (two_more n)
-
--- The bytes of the parts that were read are those at the front.
-bytes_of_code :
-    (b0 b1 s1 s2 : ℕ) (rest : List ℕ) → IsBytes rest → IsFieldSize s1 → IsFieldSize s2 →
-    s1 + s2 ≤ length rest →
-    bytes_of (code b0 b1 s1 (number (take s1 rest)) s2 (number (take s2 (drop s1 rest)))) ≡ take (2 + (s1 + s2)) (b0 ∷ b1 ∷ rest)
-unfolding code bytes_of
-bytes_of_code b0 b1 s1 s2 rest each one two long =
-    rw (front (s1 + s2) b0 b1 rest, taken s1 rest each one (omega arith), taken s2 (drop s1 rest) (IsBytes-drop s1 rest each) two (omega (arith, length-drop s1 rest)), take-add s1 s2 rest) refl
-
--- What is read of a form is well formed.
-pub fields_well_formed :
-    (f : Form) (b0 b1 : ℕ) (rest : List ℕ) → form_at (b0 % 64) ≡ Some f → is_reserved f b0 b1 ≡ false →
-    WellFormed (read_fields f b0 b1 rest)
-unfolding read_fields
-fields_well_formed f b0 b1 rest form proper = well_formed_at f b0 b1 _ _ form proper
-
--- What is read of a form is spelled by as many bytes as were read.
-pub fields_spelled :
-    (f : Form) (b0 b1 : ℕ) (rest : List ℕ) → IsBytes (b0 ∷ b1 ∷ rest) → form_at (b0 % 64) ≡ Some f →
-    is_reserved f b0 b1 ≡ false → tail_at f b0 ≤ length rest →
-    spelling (read_fields f b0 b1 rest) ≡ take (2 + tail_at f b0) (b0 ∷ b1 ∷ rest)
-unfolding read_fields HasRead
-fields_spelled f b0 b1 rest each form proper long =
-    let after : IsBytes rest = IsBytes-drop 2 (b0 ∷ b1 ∷ rest) each in
-    let one = size1_sized f b0 in
-    let two = size2_sized f in
-    let below1 = taken_below (size1_at f b0) rest after one (omega arith) in
-    let below2 = taken_below (size2_at f) (drop (size1_at f b0) rest) (IsBytes-drop (size1_at f b0) rest after) two (omega (arith, length-drop (size1_at f b0) rest)) in
-    ap bytes_of (code_at f b0 b1 _ _ (each 0) (each 1) below1 below2 form proper) ∙ bytes_of_code b0 b1 (size1_at f b0) (size2_at f) rest after one two long
-
--- Two bytes that aren't reserved begin the spelling of their form with zeros in its fields.
-pub begins_spelling :
-    (f : Form) (b0 b1 : ℕ) → b0 < 256 → b1 < 256 → form_at (b0 % 64) ≡ Some f → is_reserved f b0 b1 ≡ false →
-    spelling (insn_at f b0 b1 0 0) ≡ b0 ∷ b1 ∷ low_bytes (size1_at f b0) 0 ++ low_bytes (size2_at f) 0
-unfolding HasRead code bytes_of
-begins_spelling f b0 b1 h0 h1 form proper = ap bytes_of (code_at f b0 b1 0 0 h0 h1 (pow_pos _) (pow_pos _) form proper)
+-- The instruction of parts that are right for a form has a spelling, and these parts.
+pub found :
+    (f : Form) (c : Code) (i : Insn) → IsFormOf c f → c.first < 256 → c.second < 256 → insn_at f c ≡ Some i →
+    IsFound c i
+unfolding Finds
+found forms.Break c i = found_break c i
+found forms.Jump c i = found_jump c i
+found forms.Jump8 c i = found_jump8 c i
+found forms.Call c i = found_call c i
+found forms.Ret c i = found_ret c i
+found (forms.Compare op) c i = found_compare op c i
+found (forms.CompareImm op) c i = found_compare_imm op c i
+found (forms.Arith op) c i = found_arith op c i
+found (forms.Move size bits) c i = found_move size bits c i
+found (forms.MoveSigned bits) c i = found_move_signed bits c i
+found forms.MoveImm c i = found_move_imm c i
+found forms.MoveImmNatural c i = found_move_imm_natural c i
+found forms.MoveRelative c i = found_move_relative c i
+found forms.LoadSpecial c i = found_load c i
+found forms.StoreSpecial c i = found_store c i
+found forms.Push c i = found_push c i
+found forms.Pop c i = found_pop c i
+found forms.PushNatural c i = found_push_natural c i
+found forms.PopNatural c i = found_pop_natural c i

@@ -1,62 +1,76 @@
-ghost use Rattle.std.specs.Prelude.{◌≡◌, length};
-ghost use Rattle.ebc_decode.specs.Reading.{IsFieldSize, cond_at, extra_at, flag, int_at, number, operand_at};
+ghost use Rattle.std.specs.Prelude.{◌≡◌};
+ghost use Rattle.ebc_decode.specs.Reading.{extra_at, field_at, index_at, int32_at, int_at, optional_at};
 
-use ebc_insn::{Cond, Extra, Operand};
+use ebc_insn::{Extra, Field, Operand};
+use natural_index::{Index, read16, read32, read64};
 
-// Bit 0.
-pub fn flag(n: u8) -> bool
-    ensures { result ≡ flag n }
-{
-    n % 2 == 1
-}
-
-// An operand from four bits.
-pub fn operand_at(n: u8) -> Operand
-    ensures { result ≡ operand_at n }
-{
-    Operand {
-        reg: n % 8,
-        indirect: flag(n / 8),
-    }
-}
-
-// A jump's condition from bits 6 and 7 of its first byte.
-pub fn cond_at(n: u8) -> Cond
-    ensures { result ≡ cond_at n }
-{
-    match n {
-        0 => Cond::Always,
-        3 => Cond::Set,
-        _ => Cond::Clear,
-    }
-}
-
-// The number in a field of two bytes, and 0 where there is no field.
-#[tactic(auto, unfolding(crate::specs::Reading::number))]
-pub fn number(bytes: &[u8]) -> u16
-    requires { IsFieldSize (length bytes.now) }
-    ensures { result ≡ number bytes.now }
+// The field in 2, 4 or 8 bytes.
+#[tactic(auto, unfolding(crate::specs::Reading::field_at))]
+pub fn field_at(bytes: &[u8]) -> Field
+    ensures { result ≡ field_at bytes.now }
 {
     match bytes {
-        [low, high] => u16::from_le_bytes([*low, *high]),
-        _ => 0,
+        [a, b] => Field::Word(u16::from_le_bytes([*a, *b])),
+        [a, b, c, d] => Field::Dword(u32::from_le_bytes([*a, *b, *c, *d])),
+        [a, b, c, d, e, f, g, h] => {
+            Field::Qword(u64::from_le_bytes([*a, *b, *c, *d, *e, *f, *g, *h]))
+        }
+        _ => Field::Nothing,
     }
 }
 
-// A signed number from its two's complement.
-pub fn signed(raw: u16) -> i64
-    ensures { result ≡ int_at 16 raw }
+// The signed number whose two's complement a field of 2 or 4 bytes has.
+pub fn int32_at(field: Field) -> i32
+    ensures { result ≡ int32_at field }
 {
-    raw.cast_signed() as i64
+    match field {
+        Field::Word(n) => n.cast_signed().into(),
+        Field::Dword(n) => n.cast_signed(),
+        Field::Nothing | Field::Qword(_) => 0,
+    }
 }
 
-// What stands beside operand 2, where the first byte is b0.
-pub fn extra_at(b0: u8, raw: u16) -> Extra
-    ensures { result ≡ extra_at b0 raw }
+// The signed number whose two's complement a field has.
+pub fn int_at(field: Field) -> i64
+    ensures { result ≡ int_at field }
 {
-    if flag(b0 / 128) {
-        Extra::Imm(signed(raw))
-    } else {
-        Extra::Nothing
+    match field {
+        Field::Qword(n) => n.cast_signed(),
+        Field::Nothing | Field::Word(_) | Field::Dword(_) => int32_at(field).into(),
+    }
+}
+
+// The index in a field.
+pub fn index_at(field: Field) -> Option<Index>
+    ensures { result ≡ index_at field }
+{
+    match field {
+        Field::Nothing => None,
+        Field::Word(n) => read16(n),
+        Field::Dword(n) => Some(read32(n)),
+        Field::Qword(n) => Some(read64(n)),
+    }
+}
+
+// The index in a field that may have no bytes.
+pub fn optional_at(field: Field) -> Option<Option<Index>>
+    ensures { result ≡ optional_at field }
+{
+    match field {
+        Field::Nothing => Some(None),
+        Field::Word(_) | Field::Dword(_) | Field::Qword(_) => Some(Some(index_at(field)?)),
+    }
+}
+
+// What stands in a field beside an operand.
+pub fn extra_at(o: Operand, field: Field) -> Option<Extra>
+    ensures { result ≡ extra_at o field }
+{
+    match field {
+        Field::Nothing => Some(Extra::Nothing),
+        Field::Word(_) | Field::Dword(_) | Field::Qword(_) if o.indirect => Some(Extra::Idx(
+            index_at(field)?,
+        )),
+        Field::Word(_) | Field::Dword(_) | Field::Qword(_) => Some(Extra::Imm(int_at(field))),
     }
 }

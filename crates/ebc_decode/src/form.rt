@@ -1,75 +1,166 @@
-ghost use Rattle.std.specs.Prelude.{◌≡◌, ◌⊎◌};
-ghost use Rattle.ebc_decode.specs.Reading.{IsFieldSize, flag, form_at, is_narrow_or_indirect, is_reserved, size1_at, size2_at};
+ghost use Rattle.std.specs.Prelude.{◌≡◌, ◌≤◌};
+ghost use Rattle.ebc_decode.specs.Reading.{form_at, has_left_index, is_direct_index, is_far_wrong, is_move_wrong, is_reserved, size1_at, size2_at, size_if};
 
-use crate::field::{flag, operand_at};
-use ebc_insn::{ArithOp, CmpOp};
+use crate::bits::{arith_at, bits_at, cmp_at, flag, operand_at, size_at};
+use ebc_insn::{ArithOp, CmpOp, Size};
 
-// What an opcode names.
+// What an opcode names; a move's indexes have as many bits as stand in it.
 #[derive(Clone, Copy)]
 pub enum Form {
+    Break,
+    Jump,
     Jump8,
+    Call,
     Ret,
     Compare(CmpOp),
+    CompareImm(CmpOp),
     Arith(ArithOp),
+    Move(Size, u8),
+    MoveSigned(u8),
     MoveImm,
+    MoveImmNatural,
+    MoveRelative,
+    LoadSpecial,
+    StoreSpecial,
+    Push,
+    Pop,
+    PushNatural,
+    PopNatural,
 }
 
 #[tactic(auto, unfolding(crate::specs::Reading::form_at))]
 pub fn form_at(opcode: u8) -> Option<Form>
     ensures { result ≡ form_at opcode }
 {
-    match opcode {
-        0x02 => Some(Form::Jump8),
-        0x04 => Some(Form::Ret),
-        0x05 => Some(Form::Compare(CmpOp::Eq)),
-        0x0C => Some(Form::Arith(ArithOp::Add)),
-        0x37 => Some(Form::MoveImm),
-        _ => None,
-    }
+    let form = match opcode {
+        0x00 => Form::Break,
+        0x01 => Form::Jump,
+        0x02 => Form::Jump8,
+        0x03 => Form::Call,
+        0x04 => Form::Ret,
+        0x05..=0x09 => Form::Compare(cmp_at(opcode - 0x05)),
+        0x0A..=0x1C => Form::Arith(arith_at(opcode - 0x0A)),
+        0x1D..=0x20 => Form::Move(size_at(opcode - 0x1D), 16),
+        0x21..=0x24 => Form::Move(size_at(opcode - 0x21), 32),
+        0x25 => Form::MoveSigned(16),
+        0x26 => Form::MoveSigned(32),
+        0x28 => Form::Move(Size::Qword, 64),
+        0x29 => Form::LoadSpecial,
+        0x2A => Form::StoreSpecial,
+        0x2B => Form::Push,
+        0x2C => Form::Pop,
+        0x2D..=0x31 => Form::CompareImm(cmp_at(opcode - 0x2D)),
+        0x32 => Form::Move(Size::Natural, 16),
+        0x33 => Form::Move(Size::Natural, 32),
+        0x35 => Form::PushNatural,
+        0x36 => Form::PopNatural,
+        0x37 => Form::MoveImm,
+        0x38 => Form::MoveImmNatural,
+        0x39 => Form::MoveRelative,
+        _ => return None,
+    };
+    Some(form)
 }
 
 impl Form {
-    // Whether two bytes with the opcode of the form begin no spelling.
+    // Whether a bit is set that must be zero, or zero that must be set.
     #[tactic(auto, unfolding(crate::specs::Reading::is_reserved))]
     pub fn is_reserved(self, b0: u8, b1: u8) -> bool
         ensures { result ≡ is_reserved self b0 b1 }
     {
         match self {
+            Form::Break => b0 / 64 != 0,
+            Form::Jump => flag(b1 / 32) || b1 / 64 == 1 || is_far_wrong(b0, b1),
             Form::Jump8 => b0 / 64 == 1,
+            Form::Call => b1 / 64 != 0 || is_far_wrong(b0, b1),
             Form::Ret => b0 / 64 != 0 || b1 != 0,
-            Form::Compare(_) | Form::Arith(_) => is_narrow_or_indirect(b0, b1),
-            Form::MoveImm => b0 / 64 != 1 || b1 / 8 != 6,
+            Form::Compare(_) => flag(b1 / 8),
+            Form::CompareImm(_) => b1 / 16 >= 2,
+            Form::Arith(_) | Form::Move(..) | Form::MoveSigned(_) => false,
+            Form::MoveImm => b0 / 64 == 0 || flag(b1 / 128),
+            Form::MoveImmNatural | Form::MoveRelative => is_move_wrong(b0, b1),
+            Form::LoadSpecial => b0 / 64 != 0 || b1 % 16 != 0 || flag(b1 / 128),
+            Form::StoreSpecial => b0 / 64 != 0 || flag(b1 / 8) || b1 / 16 >= 2,
+            Form::Push | Form::Pop => b1 / 16 != 0,
+            Form::PushNatural | Form::PopNatural => flag(b0 / 64) || b1 / 16 != 0,
+        }
+    }
+
+    // Whether operand 1 has an index and is direct.
+    pub fn is_direct_index(self, b0: u8, b1: u8) -> bool
+        ensures { result ≡ is_direct_index self b0 b1 }
+    {
+        self.has_left_index(b0, b1) && !operand_at(b1 % 16).indirect
+    }
+
+    #[tactic(auto, unfolding(crate::specs::Reading::has_left_index))]
+    fn has_left_index(self, b0: u8, b1: u8) -> bool
+        ensures { result ≡ has_left_index self b0 b1 }
+    {
+        match self {
+            Form::Move(..) | Form::MoveSigned(_) => flag(b0 / 128),
+            Form::CompareImm(_) => flag(b1 / 16),
+            Form::MoveImm | Form::MoveImmNatural | Form::MoveRelative => flag(b1 / 64),
+            _ => false,
         }
     }
 
     // How many bytes the first field has.
     #[tactic(auto, unfolding(crate::specs::Reading::size1_at))]
-    pub fn size1(self, b0: u8) -> usize
-        ensures same { result ≡ size1_at self b0 }
-        ensures size { IsFieldSize result }
+    pub fn size1(self, b0: u8, b1: u8) -> usize
+        ensures same { result ≡ size1_at self b0 b1 }
+        ensures range { result ≤ 31 }
     {
+        let seven = flag(b0 / 128);
         match self {
-            Form::Compare(_) | Form::Arith(_) => if flag(b0 / 128) { 2 } else { 0 },
-            Form::Jump8 | Form::Ret | Form::MoveImm => 0,
+            Form::Jump | Form::Call => size_if(seven, if flag(b0 / 64) { 64 } else { 32 }),
+            Form::Compare(_)
+            | Form::Arith(_)
+            | Form::Push
+            | Form::Pop
+            | Form::PushNatural
+            | Form::PopNatural => size_if(seven, 16),
+            Form::Move(_, bits) | Form::MoveSigned(bits) => size_if(seven, bits),
+            Form::CompareImm(_) => size_if(flag(b1 / 16), 16),
+            Form::MoveImm | Form::MoveImmNatural | Form::MoveRelative => size_if(flag(b1 / 64), 16),
+            Form::Break | Form::Jump8 | Form::Ret | Form::LoadSpecial | Form::StoreSpecial => 0,
         }
     }
 
     // How many bytes the second field has.
     #[tactic(auto, unfolding(crate::specs::Reading::size2_at))]
-    pub fn size2(self) -> usize
-        ensures same { result ≡ size2_at self }
-        ensures size { IsFieldSize result }
+    pub fn size2(self, b0: u8) -> usize
+        ensures same { result ≡ size2_at self b0 }
+        ensures range { result ≤ 31 }
     {
         match self {
-            Form::MoveImm => 2,
-            Form::Jump8 | Form::Ret | Form::Compare(_) | Form::Arith(_) => 0,
+            Form::CompareImm(_) => if flag(b0 / 128) { 4 } else { 2 },
+            Form::Move(_, bits) | Form::MoveSigned(bits) => size_if(flag(b0 / 64), bits),
+            Form::MoveImm | Form::MoveImmNatural | Form::MoveRelative => bits_at(b0 / 64) as usize
+                / 8,
+            _ => 0,
         }
     }
 }
 
-// Whether an operation isn't on 64 bits, or an operand is in memory.
-fn is_narrow_or_indirect(b0: u8, b1: u8) -> bool
-    ensures { result ≡ is_narrow_or_indirect b0 b1 }
+// Whether the far form of a jump or a call has no address, or an operand 1 other than R0.
+fn is_far_wrong(b0: u8, b1: u8) -> bool
+    ensures { result ≡ is_far_wrong b0 b1 }
 {
-    !flag(b0 / 64) || operand_at(b1 % 16).indirect || operand_at(b1 / 16).indirect
+    flag(b0 / 64) && (!flag(b0 / 128) || b1 % 16 != 0)
+}
+
+// Whether a move of an immediate has no width, or a bit set of 4, 5 and 7.
+fn is_move_wrong(b0: u8, b1: u8) -> bool
+    ensures { result ≡ is_move_wrong b0 b1 }
+{
+    b0 / 64 == 0 || flag(b1 / 128) || b1 / 16 % 4 != 0
+}
+
+// How many bytes a field of so many bits has, if it is there.
+fn size_if(present: bool, bits: u8) -> usize
+    ensures same { result ≡ size_if present bits }
+    ensures range { result ≤ 31 }
+{
+    if present { bits as usize / 8 } else { 0 }
 }

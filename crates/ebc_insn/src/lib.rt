@@ -1,12 +1,21 @@
 //! The instructions of EFI Byte Code (UEFI specification, chapter "EFI Byte Code Virtual Machine"): which of them have
-//! a spelling, and how long it is.
+//! a spelling, by which parts they are spelled, and how long the spelling is.
 #![tactic(auto)]
 
+mod code;
+mod fits;
 #[cfg(test)]
 mod tests;
 
-ghost use Rattle.std.specs.Prelude.{◌≡◌, ◌⊎◌, ◌↔◌, IsTrue, length};
-ghost use Rattle.ebc_insn.specs.Spelling.{ExtraFits, FitsInt, IsRegister, WellFormed, has_extra, spelling};
+ghost use Rattle.std.specs.Prelude.{◌≡◌, ◌≤◌, ◌↔◌, IsTrue, length};
+ghost use Rattle.ebc_insn.specs.Spelling.{WellFormed, spelling};
+
+use crate::fits::{
+    extra_fits, fits, fits_byte, is_index_size, is_operand, is_word_or_dword, left_fits, move_fits,
+    right_fits, target_fits,
+};
+pub use code::{Code, Field, parts};
+use natural_index::Index;
 
 /// An operand (UEFI specification, "EBC Instruction Operands"): a register, or the memory at the address in it.
 #[derive(Clone, Copy, PartialEq, Eq, Debug)]
@@ -17,15 +26,18 @@ pub struct Operand {
     pub indirect: bool,
 }
 
-/// What stands beside an operand (UEFI specification, "Immediate Operands").
+/// What stands beside an operand (UEFI specification, "Immediate Operands" and "Indexed Operands"): nothing, a number
+/// beside a direct operand, or an index beside an indirect one.
 #[derive(Clone, Copy, PartialEq, Eq, Debug)]
 pub enum Extra {
     Nothing,
-    /// A signed number that is added to the operand. With a spelling it has 16 bits, -32768 to 32767.
+    /// A signed number that is added to the register, of 16, 32 or 64 bits as the instruction has it.
     Imm(i64),
+    /// A natural index that is added to the address in the register, of as many bits.
+    Idx(Index),
 }
 
-/// When a jump is taken, by the flag C (UEFI specification, "JMP8").
+/// When a jump is taken, by the flag C (UEFI specification, "JMP" and "JMP8").
 #[derive(Clone, Copy, PartialEq, Eq, Debug)]
 pub enum Cond {
     Always,
@@ -82,16 +94,41 @@ pub enum ArithOp {
 }
 
 /// An instruction (UEFI specification, "EBC Instruction Set"). `well_formed` says which have a spelling.
+///
+/// Where a variant has `wide`, it works on 64 bits if that is set and else on 32. `bits` is how many bits an immediate
+/// or an index has in the spelling: 16, 32 or 64. `left` and `right` are operands 1 and 2, as is `op` of what has one,
+/// and `extra` stands beside the last of them. `lidx` is the index of operand 1, and `ridx` that of operand 2.
 #[derive(Clone, Copy, PartialEq, Eq, Debug)]
 pub enum Insn {
+    /// BREAK: an exception or a call of the virtual machine, by its code.
+    Break {
+        code: u8,
+    },
+    /// JMP: to the address that operand 1 gives or, where `far`, to the immediate of 64 bits; past the next instruction
+    /// where `relative`.
+    Jump {
+        cond: Cond,
+        far: bool,
+        relative: bool,
+        op: Operand,
+        extra: Extra,
+    },
     /// JMP8: a jump to so many words of 16 bits past the next instruction, -128 to 127.
     Jump8 {
         cond: Cond,
         words: i8,
     },
+    /// CALL, and CALLEX where `native`: as JMP, with a return address.
+    Call {
+        far: bool,
+        native: bool,
+        relative: bool,
+        op: Operand,
+        extra: Extra,
+    },
     /// RET.
     Ret,
-    /// CMP: sets the flag C by a comparison of 64 bits where `wide`, else of 32 bits. Operand 1 is the register `left`.
+    /// CMP: sets the flag C by a comparison of the register `left` with operand 2.
     Compare {
         op: CmpOp,
         wide: bool,
@@ -99,7 +136,17 @@ pub enum Insn {
         right: Operand,
         extra: Extra,
     },
-    /// NOT to EXTNDD: an operation on 64 bits where `wide`, else on 32 bits.
+    /// CMPI: sets the flag C by a comparison of operand 1, with its index `idx`, with an immediate, of 32 bits where
+    /// `long` and else of 16.
+    CompareImm {
+        op: CmpOp,
+        wide: bool,
+        left: Operand,
+        idx: Option<Index>,
+        long: bool,
+        imm: i32,
+    },
+    /// NOT to EXTNDD: an operation on operand 2, or on both, with its result in operand 1.
     Arith {
         op: ArithOp,
         wide: bool,
@@ -107,101 +154,178 @@ pub enum Insn {
         right: Operand,
         extra: Extra,
     },
-    /// MOVI: moves an immediate of `bits` bits, sign-extended, into operand 1.
+    /// MOVb, MOVw, MOVd, MOVq, MOVqq and MOVn: moves operand 2 to operand 1.
+    Move {
+        size: Size,
+        bits: u8,
+        left: Operand,
+        right: Operand,
+        lidx: Option<Index>,
+        ridx: Option<Index>,
+    },
+    /// MOVsn: moves operand 2, a natural unit that is sign-extended, to operand 1.
+    MoveSigned {
+        bits: u8,
+        left: Operand,
+        right: Operand,
+        lidx: Option<Index>,
+        extra: Extra,
+    },
+    /// MOVI: moves an immediate, sign-extended, to operand 1.
     MoveImm {
         size: Size,
         bits: u8,
         left: Operand,
+        lidx: Option<Index>,
         imm: i64,
+    },
+    /// MOVIn: moves the value of the index `idx` to operand 1.
+    MoveImmNatural {
+        bits: u8,
+        left: Operand,
+        lidx: Option<Index>,
+        idx: Index,
+    },
+    /// MOVREL: moves the address so many bytes past the next instruction to operand 1.
+    MoveRelative {
+        bits: u8,
+        left: Operand,
+        lidx: Option<Index>,
+        imm: i64,
+    },
+    /// LOADSP: moves the register `from` to the flags, the one dedicated register that can be written.
+    LoadSpecial {
+        from: u8,
+    },
+    /// STORESP: moves a dedicated register to the register `to`: the flags for 0, the instruction pointer for 1.
+    StoreSpecial {
+        to: u8,
+        special: u8,
+    },
+    /// PUSH.
+    Push {
+        wide: bool,
+        op: Operand,
+        extra: Extra,
+    },
+    /// POP.
+    Pop {
+        wide: bool,
+        op: Operand,
+        extra: Extra,
+    },
+    /// PUSHn.
+    PushNatural {
+        op: Operand,
+        extra: Extra,
+    },
+    /// POPn.
+    PopNatural {
+        op: Operand,
+        extra: Extra,
     },
 }
 
-/// Whether an instruction has a spelling (UEFI specification, "EBC Instruction Set"). JMP8, RET, CMP64eq and ADD64 on
-/// registers and MOVIqw to a register have one, with immediates of 16 bits; no other instruction has.
+/// Whether an instruction has a spelling (UEFI specification, "EBC Instruction Set").
 pub fn well_formed(i: &Insn) -> bool
     ensures { IsTrue result ↔ WellFormed i.now }
 {
     match i {
+        Insn::Break { code } => fits_byte(*code),
         Insn::Jump8 { words, .. } => fits(8, (*words).into()),
         Insn::Ret => true,
+        Insn::Jump { far, op, extra, .. } | Insn::Call { far, op, extra, .. } => target_fits(
+            *far, op, extra,
+        ),
         Insn::Compare {
-            op,
-            wide,
             left,
             right,
             extra,
-        } => {
-            *op == CmpOp::Eq && *wide && *left < 8 && is_register(right) && extra_fits(right, extra)
-        }
+            ..
+        } => *left < 8 && is_operand(right) && extra_fits(16, right, extra),
+        Insn::CompareImm {
+            left,
+            idx,
+            long,
+            imm,
+            ..
+        } => is_operand(left)
+            && left_fits(16, left, idx)
+            && fits(if *long { 32 } else { 16 }, (*imm).into()),
         Insn::Arith {
-            op,
-            wide,
             left,
             right,
             extra,
-        } => {
-            *op == ArithOp::Add
-                && *wide
-                && is_register(left)
-                && is_register(right)
-                && extra_fits(right, extra)
-        }
+            ..
+        } => is_operand(left) && is_operand(right) && extra_fits(16, right, extra),
+        Insn::Move {
+            size,
+            bits,
+            left,
+            right,
+            lidx,
+            ridx,
+        } => move_fits(*size, *bits)
+            && is_operand(left)
+            && is_operand(right)
+            && left_fits(*bits, left, lidx)
+            && right_fits(*bits, ridx),
+        Insn::MoveSigned {
+            bits,
+            left,
+            right,
+            lidx,
+            extra,
+        } => is_word_or_dword(*bits)
+            && is_operand(left)
+            && is_operand(right)
+            && left_fits(*bits, left, lidx)
+            && extra_fits(*bits, right, extra),
         Insn::MoveImm {
             size,
             bits,
             left,
+            lidx,
             imm,
-        } => { *size == Size::Qword && *bits == 16 && is_register(left) && fits(16, *imm) }
+        } => is_index_size(*bits)
+            && *size != Size::Natural
+            && is_operand(left)
+            && left_fits(16, left, lidx)
+            && fits(*bits, *imm),
+        Insn::MoveImmNatural {
+            bits,
+            left,
+            lidx,
+            idx,
+        } => is_index_size(*bits)
+            && is_operand(left)
+            && left_fits(16, left, lidx)
+            && idx.fits(*bits),
+        Insn::MoveRelative {
+            bits,
+            left,
+            lidx,
+            imm,
+        } => is_index_size(*bits)
+            && is_operand(left)
+            && left_fits(16, left, lidx)
+            && fits(*bits, *imm),
+        Insn::LoadSpecial { from } => *from < 8,
+        Insn::StoreSpecial { to, special } => *to < 8 && *special < 2,
+        Insn::Push { op, extra, .. }
+        | Insn::Pop { op, extra, .. }
+        | Insn::PushNatural { op, extra }
+        | Insn::PopNatural { op, extra } => is_operand(op) && extra_fits(16, op, extra),
     }
 }
 
-/// How many bytes spell an instruction (UEFI specification, "Instruction Encoding"): 2, or 4 where it has an immediate
-/// of 16 bits.
+/// How many bytes spell an instruction (UEFI specification, "Instruction Encoding"): 2 to 18.
 #[tactic(auto, using(crate::proofs::Bytes::length_bytes_of))]
 pub fn len(i: &Insn) -> usize
     requires { WellFormed i.now }
     ensures spelled { result ≡ length (spelling i.now) }
-    ensures words { (result ≡ 2) ⊎ (result ≡ 4) }
+    ensures range { (2 ≤ result) × (result ≤ 18) }
 {
-    match i {
-        Insn::Jump8 { .. } | Insn::Ret => 2,
-        Insn::Compare { extra, .. } | Insn::Arith { extra, .. } => if has_extra(extra) {
-            4
-        } else {
-            2
-        },
-        Insn::MoveImm { .. } => 4,
-    }
-}
-
-fn has_extra(extra: &Extra) -> bool
-    ensures { result ≡ has_extra extra.now }
-{
-    !matches!(extra, Extra::Nothing)
-}
-
-fn is_register(o: &Operand) -> bool
-    ensures { IsTrue result ↔ IsRegister o.now }
-{
-    o.reg < 8 && !o.indirect
-}
-
-fn extra_fits(o: &Operand, extra: &Extra) -> bool
-    ensures { IsTrue result ↔ ExtraFits 16 o.now extra.now }
-{
-    match extra {
-        Extra::Nothing => true,
-        Extra::Imm(v) => !o.indirect && fits(16, *v),
-    }
-}
-
-// Whether a signed number of so many bits is v.
-fn fits(bits: u8, v: i64) -> bool
-    requires { (bits ≡ 8) ⊎ (bits ≡ 16) }
-    ensures { IsTrue result ↔ FitsInt bits v }
-{
-    match bits {
-        8 => (-0x80..0x80).contains(&v),
-        _ => (-0x8000..0x8000).contains(&v),
-    }
+    let code = parts(i);
+    2 + code.one.size() + code.two.size()
 }

@@ -1,4 +1,4 @@
-use Rattle.ebc_decode.proofs.Laws.{reserved_is_exact}
+use Rattle.ebc_decode.proofs.Zeros.{reserved_is_exact}
 use Rattle.ebc_decode.proofs.reserved_is_exact.Goals as goal
 
 pub returns : goal.returns
