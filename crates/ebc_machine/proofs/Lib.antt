@@ -1,0 +1,5 @@
+mod Ends
+mod Fits
+mod Indexes
+mod Memories
+mod Rows

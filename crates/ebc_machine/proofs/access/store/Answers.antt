@@ -1,0 +1,26 @@
+use Rattle.std.proofs.Common.{◌≡◌, refl, sym, ap, ◌∙◌, Bool, true, false}
+use Rattle.std.specs.Bool.{OnTrue}
+use Rattle.object_memory.specs.Memory.{byte_at}
+use Rattle.ebc_machine.specs.States.{ranges}
+use Rattle.ebc_machine.proofs.Memories.{holds-ranges, ranges-stored, byte_limit-stored, object_limit-stored, bytes-stored}
+use Rattle.ebc_machine.proofs.access.store.Goals as goal
+
+on_true : (b : Bool) (P : Type 0) → (b ≡ true → P) → OnTrue b P
+on_true true P holds = holds refl
+on_true false P holds = tt
+
+pub returns-clause-done : goal.returns-clause-done
+returns-clause-done g c = c.store.ensures.done ∙ holds-ranges c.args.mem.now c.args.addr c.args.count
+
+pub returns-clause-objects : goal.returns-clause-objects
+returns-clause-objects g c = record {
+  objects = ap ranges c.store.ensures.after ∙ ranges-stored c.args.mem.now c.args.addr c.args.count c.args.value;
+  byte_limit = ap (λ m. m.byte_limit) c.store.ensures.after ∙ byte_limit-stored c.args.mem.now c.args.addr c.args.count c.args.value;
+  object_limit = ap (λ m. m.object_limit) c.store.ensures.after ∙ object_limit-stored c.args.mem.now c.args.addr c.args.count c.args.value;
+}
+
+pub returns-clause-bytes : goal.returns-clause-bytes
+returns-clause-bytes g c =
+    on_true c.store.result _
+    (λ held. ap byte_at c.store.ensures.after
+    ∙ bytes-stored c.args.mem.now c.args.addr c.args.count c.args.value (sym c.store.ensures.done ∙ held))

@@ -1,0 +1,9 @@
+pub mod Data
+pub mod Fetch
+pub mod Flow
+pub mod Moves
+pub mod Operands
+pub mod Results
+pub mod Stack
+pub mod States
+pub mod Step

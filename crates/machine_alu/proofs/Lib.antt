@@ -1,0 +1,3 @@
+mod Products
+mod Rows
+mod Shifts

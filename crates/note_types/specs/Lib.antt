@@ -1,0 +1,9 @@
+pub mod Below
+pub mod BelowTests
+pub mod Cells
+pub mod Concrete
+pub mod FieldSets
+pub mod Notes
+pub mod Shapes
+pub mod States
+pub mod Types

@@ -1,0 +1,39 @@
+//! What a program's notes say of its data, as types: cells, shapes, types of registers and stack slots, the states
+//! between instructions, and the records of a notes file. docs/NOTES.md says what a notes file holds.
+//!
+//! The definitions that the contracts cite stand in specs/, one subject a file.
+#![tactic(auto)]
+
+mod below;
+mod cell;
+mod entry;
+mod exception;
+mod fault;
+mod items;
+mod name;
+mod notes;
+mod rule;
+mod sequence;
+mod shape;
+mod state;
+mod types;
+
+pub use below::{fits_below, ty_below};
+pub use cell::{Cell, SlotKind, cell_size, content_type};
+pub use entry::entry_state;
+pub use exception::Exception;
+pub use fault::{NoMemory, TomlFault};
+pub use items::{Item, Items};
+pub use name::Name;
+pub use notes::{
+    FnNote, Functions, Names, Notes, Pair, Param, Params, Point, Points, Signature, Signatures,
+    Site, Sites, Static, Statics, Thunk, Thunks, Want, WantParam, WantParams,
+};
+pub use rule::RuleName;
+pub use sequence::Sequence;
+pub use shape::{Field, Fields, Shape, ShapeFault, Shapes, shape_ok};
+pub use state::{Fact, State};
+pub use types::Ty;
+
+#[cfg(test)]
+mod tests;

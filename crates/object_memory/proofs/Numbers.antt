@@ -1,0 +1,77 @@
+-- Numbers read from eight cells and written to them, and what `read` and `put` say of the same cells.
+use Rattle.std.proofs.Common.{◌≡◌, ℕ, zero, suc, ◌+◌, ◌-◌, ◌/◌, ◌%◌, ◌^◌, ◌<◌, ◌≤◌, inl, inr, ⊎_elim, List, ◌++◌, length, take, drop, replicate, get_or, refl, sym, ap, ◌∙◌, arith, length-drop}
+use Rattle.std.specs.Prelude.{slice_index}
+use Rattle.std.specs.Int.{w64, byte_at, bytes_low_first, from_le_bytes, to_le_bytes}
+use Rattle.std.proofs.lemmas.Bool.{cases_lt}
+use Rattle.std.proofs.lemmas.List.{get_or-take, get_or-drop, get_or_append_left, get_or-append_right, get_or-replicate, length-take-le}
+use Rattle.object_memory.specs.Bytes.{read, put}
+use Rattle.object_memory.proofs.Laws.{put-within, put-apart, read-moved, read-zeros}
+use borrow.Rule.Slice.PartMut.{put_mid}
+
+-- ---- the cells after a part is written
+
+put_mid-below : (xs ys : List ℕ) (a k i : ℕ) → a ≤ length xs → i < a → get_or (put_mid a k xs ys) i 0 ≡ get_or xs i 0
+put_mid-below xs ys a k i within below =
+    let front : length (take a xs) ≡ a = length-take-le a xs within in
+    get_or_append_left (take a xs) (ys ++ drop k (drop a xs)) 0 i (omega arith) ∙ get_or-take a xs i 0 below
+
+put_mid-within : (xs ys : List ℕ) (a k i : ℕ) → a ≤ length xs → a ≤ i → i < a + length ys → get_or (put_mid a k xs ys) i 0 ≡ get_or ys (i - a) 0
+put_mid-within xs ys a k i within from to =
+    get_or-append_right (take a xs) (ys ++ drop k (drop a xs)) a i 0 (length-take-le a xs within) from
+    ∙ get_or_append_left ys (drop k (drop a xs)) 0 (i - a) (omega arith)
+
+put_mid-above : (xs ys : List ℕ) (a k i : ℕ) → a ≤ length xs → length ys ≡ k → a + k ≤ i → get_or (put_mid a k xs ys) i 0 ≡ get_or xs i 0
+put_mid-above xs ys a k i within whole above =
+    let place : a + (k + (i - a - k)) ≡ i = omega arith in
+    get_or-append_right (take a xs) (ys ++ drop k (drop a xs)) a i 0 (length-take-le a xs within) (omega arith)
+    ∙ get_or-append_right ys (drop k (drop a xs)) k (i - a) 0 whole (omega arith)
+    ∙ get_or-drop k (drop a xs) (i - a - k) 0
+    ∙ get_or-drop a xs (k + (i - a - k)) 0
+    ∙ ap (λ j. get_or xs j 0) place
+
+-- ---- a number in eight bytes
+
+from_le_bytes-read : (bytes : List ℕ) → from_le_bytes w64 bytes ≡ read (slice_index bytes) 0 8
+unfolding read
+from_le_bytes-read bytes = omega arith
+
+byte_at-quotient : (i v : ℕ) → byte_at i v ≡ v / 256 ^ i % 256
+byte_at-quotient zero v = omega arith
+byte_at-quotient (suc i) v = refl
+
+get_or-bytes : (from k v i : ℕ) → i < k → get_or (bytes_low_first from k v) i 0 ≡ v / 256 ^ (from + i) % 256
+get_or-bytes from zero v i below = absurd (omega arith)
+get_or-bytes from (suc k) v zero below = byte_at-quotient from v ∙ ap (λ j. v / 256 ^ j % 256) (omega arith)
+get_or-bytes from (suc k) v (suc i) below = get_or-bytes (suc from) k v i (omega arith) ∙ ap (λ j. v / 256 ^ j % 256) (omega arith)
+
+get_or-to_le_bytes : (v i : ℕ) → i < 8 → get_or (to_le_bytes w64 v) i 0 ≡ v / 256 ^ i % 256
+get_or-to_le_bytes v i below = get_or-bytes 0 8 v i below ∙ ap (λ j. v / 256 ^ j % 256) (omega arith)
+
+-- k cells copied to the front of eight zeros spell the number that they spell in their place
+pub read_number : (cells word : List ℕ) (place k : ℕ) → k ≤ 8 → place + k ≤ length cells → word ≡ put_mid 0 k (replicate 8 0) (take (place + k - place) (drop place cells)) → from_le_bytes w64 word ≡ read (slice_index cells) place k
+read_number cells word place k few within is =
+    let part : List ℕ = take (place + k - place) (drop place cells) in
+    let room : k ≤ length (drop place cells) = rw (length-drop place cells) (omega arith) in
+    let count : place + k - place ≡ k = omega arith in
+    let whole : length part ≡ k = rw count (length-take-le k (drop place cells) room) in
+    from_le_bytes-read word
+    ∙ read-zeros (slice_index word) 0 8 k few (λ i from to. rw is (put_mid-above (replicate 8 0) part 0 k (0 + i) (omega arith) whole (omega arith) ∙ get_or-replicate 8 (0 + i) 0 0 (omega arith)))
+    ∙ read-moved (slice_index word) (slice_index cells) 0 place k (λ i below.
+    rw is (put_mid-within (replicate 8 0) part 0 k (0 + i) (omega arith) (omega arith) (omega arith)
+    ∙ get_or-take (place + k - place) (drop place cells) (0 + i - 0) 0 (omega arith)
+    ∙ get_or-drop place cells (0 + i - 0) 0
+    ∙ ap (λ j. get_or cells j 0) (omega arith)))
+
+-- cells over which the low bytes of a number are copied
+pub write_number : (cells part : List ℕ) (place count k v i : ℕ) → k ≤ 8 → place + k ≤ length cells → count ≡ k → part ≡ take k (to_le_bytes w64 v) → get_or (put_mid place count cells part) i 0 ≡ put (slice_index cells) place k v i
+write_number cells part place count k v i few within same is =
+    let whole : length part ≡ k = rw is (length-take-le k (to_le_bytes w64 v) few) in
+    ⊎_elim
+    (λ below. put_mid-below cells part place count i (omega arith) below ∙ sym (put-apart (slice_index cells) place k v i (inl below)))
+    (λ from. ⊎_elim
+    (λ to. put_mid-within cells part place count i (omega arith) from (omega arith)
+    ∙ (ap (λ xs. get_or xs (i - place) 0) is ∙ get_or-take k (to_le_bytes w64 v) (i - place) 0 (omega arith) ∙ get_or-to_le_bytes v (i - place) (omega arith))
+    ∙ sym (put-within (slice_index cells) place k v i from to))
+    (λ above. put_mid-above cells part place count i (omega arith) (omega arith) (omega arith) ∙ sym (put-apart (slice_index cells) place k v i (inr above)))
+    (cases_lt i (place + k)))
+    (cases_lt i place)

@@ -1,0 +1,56 @@
+-- How a memory of objects lies in one list of cells: the byte at an address is the cell at the address less the first base.
+-- This is how the crate keeps a memory (docs/DECISIONS.md, on the modelled host's memory). No caller sees it.
+use Rattle.std.specs.Prelude.{◌≡◌, ℕ, ◌+◌, ◌-◌, ◌^◌, ◌<◌, ◌≤◌, Bool, List, length, map, take, drop, sum_by, All, AllPairs, slice_get, slice_index, Some, true}
+use Rattle.ebc_width.specs.Width.{IsWidth}
+use Rattle.object_memory.specs.Memory.{Object, Memory, covers, holds, padded, first_base, next_base, top_limit}
+use Rattle.object_memory.specs.declared.span.Span.{Span}
+
+-- whether a span has among its bytes the k bytes from a on
+abbrev pub span_covers : ℕ → ℕ → Span → Bool
+span_covers a k s = covers s.base s.size a k
+
+-- One span lies below another, with a gap of at least 16 bytes.
+abbrev pub EndsBelow : Span → Span → Type 0
+EndsBelow s t = s.base + padded s.size ≤ t.base
+
+-- A span lies in as many cells, with its padding and gap.
+pub record IsSpan (w count : ℕ) (s : Span) : Type 0 where
+  pub above : first_base w ≤ s.base
+  pub below : s.base + padded s.size ≤ first_base w + count
+  pub some : 1 ≤ s.size
+
+-- the object at a span
+abbrev pub object_of : ℕ → List ℕ → Span → Object
+object_of w cells s = record { base = s.base; size = s.size; bytes = take s.size (drop (s.base - first_base w) cells) }
+
+-- the memory whose objects lie at these spans
+abbrev pub memory_of : ℕ → List Span → List ℕ → ℕ → ℕ → Memory
+memory_of w spans cells limit most = record { objects = map (object_of w cells) spans; byte_limit = limit; object_limit = most }
+
+-- What holds of the parts of a memory; `room` and `space` are what is reserved for spans and for cells.
+pub record IsLayout (w : ℕ) (spans : List Span) (cells : List ℕ) (limit most room space : ℕ) : Type 0 where
+  pub width : IsWidth w
+  pub inside : All (IsSpan w (length cells)) spans
+  pub apart : AllPairs EndsBelow spans
+  pub whole : length cells ≡ sum_by (λ s. padded s.size) spans
+  pub within : length cells ≤ limit
+  pub few : length spans ≤ most
+  pub bounded : limit ≤ top_limit w
+  pub bytes : (i : ℕ) → slice_index cells i < 256
+  pub small : most < 2 ^ 32
+  pub cells_reserved : limit ≤ space
+  pub spans_reserved : most ≤ room
+
+-- The span at this place of the list has among its bytes the k bytes from a on.
+pub record IsSpanOf (spans : List Span) (a k place : ℕ) (s : Span) : Type 0 where
+  pub at : slice_get spans place ≡ Some s
+  pub covered : covers s.base s.size a k ≡ true
+
+-- The object with this number lies at this span, which has among its bytes the k bytes from a on.
+pub record IsFound (w : ℕ) (m : Memory) (a k number : ℕ) (s : Span) : Type 0 where
+  pub object : (o : Object) × (slice_get m.objects number ≡ Some o) × (o.base ≡ s.base) × (o.size ≡ s.size)
+  pub covered : covers s.base s.size a k ≡ true
+  pub held : holds m a k ≡ true
+  pub above : first_base w ≤ s.base
+  pub below : s.base + padded s.size ≤ next_base w m
+  pub small : number < 2 ^ 32

@@ -1,0 +1,126 @@
+-- The memory of objects: where each object lies, which bytes it holds, and what loads, stores and new objects do.
+-- The bases, the padding and the gaps are this project's own: docs/DECISIONS.md, on the modelled host's memory.
+use Rattle.std.specs.Prelude.{◌≡◌, ◌⊎◌, ℕ, ◌+◌, ◌-◌, ◌*◌, ◌/◌, ◌^◌, ◌<◌, ◌≤◌, Bool, ◌&&◌, List, [], ◌∷◌, ◌++◌, length, map, drop, replicate, Option, Some, None, nat_eq, nat_le, if◌then◌else◌, slice_get, slice_index, sum_by, All, AllPairs}
+use Rattle.std.specs.List.{list_any, find}
+use Rattle.std.specs.Option.{option_map, option_map_or}
+use Rattle.ebc_width.specs.Width.{IsWidth}
+use Rattle.object_memory.specs.Bytes.{read, put, window}
+use Rattle.object_memory.specs.declared.ObjId.{ObjId}
+
+-- An object: where it begins, how many bytes it has, and these bytes.
+pub record Object : Type 0 where
+  pub base : ℕ
+  pub size : ℕ
+  pub bytes : List ℕ
+
+-- A memory: its objects in the order in which they were placed, how many bytes they may take with their padding and gaps,
+-- and how many objects there may be.
+pub record Memory : Type 0 where
+  pub objects : List Object
+  pub byte_limit : ℕ
+  pub object_limit : ℕ
+
+-- ---- what a memory holds
+
+-- whether `size` bytes from `base` on have among them the k bytes from a on
+abbrev pub covers : ℕ → ℕ → ℕ → ℕ → Bool
+covers base size a k = nat_le base a && nat_le (a + k) (base + size)
+
+-- whether an object does
+abbrev pub object_covers : ℕ → ℕ → Object → Bool
+object_covers a k o = covers o.base o.size a k
+
+-- whether one object holds the k bytes from address a on
+unfoldable pub holds : Memory → ℕ → ℕ → Bool
+holds m a k = list_any (object_covers a k) m.objects
+
+-- the object that holds the byte at an address
+unfoldable pub object_at : Memory → ℕ → Option Object
+object_at m x = find (object_covers x 1) m.objects
+
+-- a byte of an object, by its address
+abbrev pub byte_of : ℕ → Object → ℕ
+byte_of x o = slice_index o.bytes (x - o.base)
+
+-- the byte at an address, and 0 where no object holds it
+unfoldable pub byte_at : Memory → ℕ → ℕ
+byte_at m x = option_map_or (byte_of x) (object_at m x) 0
+
+-- the number in the k bytes from address a on, where one object holds them
+unfoldable pub loaded : Memory → ℕ → ℕ → Option ℕ
+loaded m a k = if holds m a k then Some (read (byte_at m) a k) else None
+
+-- the bytes from an address to the end of the object that holds it
+unfoldable pub rest_from : Memory → ℕ → Option (List ℕ)
+rest_from m x = option_map (λ o. drop (x - o.base) o.bytes) (object_at m x)
+
+-- The byte at an address is the one at this offset in the object with this number and base.
+pub record IsOwner (m : Memory) (x : ℕ) (id : ObjId) (offset : ℕ) : Type 0 where
+  pub found : (o : Object) × (slice_get m.objects id.number ≡ Some o) × (o.base ≡ id.base) × (offset < o.size)
+  pub place : id.base + offset ≡ x
+
+-- ---- what changes it
+
+-- an object with the bytes that lie at its addresses
+abbrev pub object_with : (ℕ → ℕ) → Object → Object
+object_with b o = record o { bytes = window b o.base o.size }
+
+-- the same objects, with these bytes
+abbrev pub with_bytes : Memory → (ℕ → ℕ) → Memory
+with_bytes m b = record m { objects = map (object_with b) m.objects }
+
+-- the memory after the low k bytes of v are stored at address a: the same memory where no one object holds them
+unfoldable pub stored : Memory → ℕ → ℕ → ℕ → Memory
+stored m a k v = if holds m a k then with_bytes m (put (byte_at m) a k v) else m
+
+-- what an object of n bytes takes: n rounded up to 16, and a gap of 16
+abbrev pub padded : ℕ → ℕ
+padded n = (n + 15) / 16 * 16 + 16
+
+-- what all objects take
+abbrev pub used : Memory → ℕ
+used m = sum_by (λ o. padded o.size) m.objects
+
+-- where the first object lies
+abbrev pub first_base : ℕ → ℕ
+first_base w = if nat_eq w 4 then 0x100000 else 0x200000000
+
+-- where the next object lies
+abbrev pub next_base : ℕ → Memory → ℕ
+next_base w m = first_base w + used m
+
+-- The memory has no room for n bytes more.
+abbrev pub IsFull : Memory → ℕ → Type 0
+IsFull m n = (m.byte_limit < used m + padded n) ⊎ (m.object_limit ≤ length m.objects)
+
+-- the memory with an object of n zero bytes more
+unfoldable pub placed : ℕ → Memory → ℕ → Memory
+placed w m n = record m { objects = m.objects ++ record { base = next_base w m; size = n; bytes = replicate n 0 } ∷ [] }
+
+-- ---- what holds of each memory
+
+-- the most bytes that a memory may be made for
+abbrev pub top_limit : ℕ → ℕ
+top_limit w = if nat_eq w 4 then 2 ^ 32 - 2 ^ 20 else 2 ^ 40
+
+-- An object has its bytes, and lies between the first base and the next one.
+pub record IsPlaced (w : ℕ) (m : Memory) (o : Object) : Type 0 where
+  pub above : first_base w ≤ o.base
+  pub below : o.base + padded o.size ≤ next_base w m
+  pub some : 1 ≤ o.size
+  pub whole : length o.bytes ≡ o.size
+
+-- One object lies below another, with a gap of at least 16 bytes.
+abbrev pub LiesBelow : Object → Object → Type 0
+LiesBelow o p = o.base + padded o.size ≤ p.base
+
+-- What holds of each memory of a machine whose pointers have w bytes: no two objects overlap, no address of an object
+-- wraps at that width, and the limits are kept.
+pub record IsMemory (w : ℕ) (m : Memory) : Type 0 where
+  pub width : IsWidth w
+  pub placed : All (IsPlaced w m) m.objects
+  pub apart : AllPairs LiesBelow m.objects
+  pub no_wrap : first_base w + m.byte_limit ≤ 2 ^ (8 * w)
+  pub bytes : (x : ℕ) → byte_at m x < 256
+  pub bytes_kept : used m ≤ m.byte_limit
+  pub objects_kept : length m.objects ≤ m.object_limit

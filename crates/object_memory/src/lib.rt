@@ -1,0 +1,280 @@
+//! The memory of a machine: objects that never overlap and never move, at addresses of a pointer's
+//! width. Nothing is allocated once a memory is made.
+#![tactic(auto)]
+
+ghost use Rattle.std.specs.Prelude.{◌≡◌, ℕ, ◌+◌, ◌*◌, ◌^◌, ◌<◌, ◌≤◌, ◌↔◌, [], length, true, false, Err, IfOk, OnOk, OnErr, IfSome, IfNone, Some, None};
+ghost use Rattle.std.specs.Bool.{OnTrue, OnFalse};
+ghost use Rattle.ebc_width.specs.Width.{IsWidth};
+ghost use Rattle.object_memory.specs.Bytes.{IsAccess, put};
+ghost use Rattle.object_memory.specs.Memory.{first_base, padded, top_limit};
+
+mod number;
+mod span;
+
+use number::{read_number, write_number};
+use span::{Span, find_span};
+use std::alloc::{AllocError, Global};
+use std::marker::Model;
+
+/// Want of memory.
+#[derive(Clone, Copy, PartialEq, Eq, Debug)]
+pub struct NoMemory;
+
+impl From<AllocError> for NoMemory {
+    ghost from_gives = { λ _ e. e ≡ record {} };
+
+    fn from(_: AllocError) -> Self {
+        NoMemory
+    }
+}
+
+/// Why an object is not placed.
+#[derive(Clone, Copy, PartialEq, Eq, Debug)]
+pub enum PlaceFault {
+    /// Its bytes pass what is left of the limit, or no further object may be placed.
+    Full,
+}
+
+/// An object: its number in the order of placing, from 0, and the address of its first byte.
+#[derive(Clone, Copy, PartialEq, Eq, Debug)]
+pub struct ObjId {
+    pub number: u32,
+    pub base: u64,
+}
+
+/// The memory of a machine whose pointers have `W` bytes, 4 or 8.
+///
+/// The first object lies at 0x00100000 at 4 and at 0x0000000200000000 at 8, and each next one at
+/// the base before plus its size rounded up to 16, plus 16. So objects never overlap, and their
+/// addresses never wrap.
+#[derive(Drop)]
+pub struct ObjMem<const W: usize> {
+    spans: Vec<Span>,
+    // The bytes from the first base on. Behind each object are zeros that belong to none.
+    cells: Vec<u8>,
+    byte_limit: u64,
+    object_limit: u32,
+}
+
+impl<const W: usize> Model for ObjMem<W> {
+    ghost use Rattle.std.specs.Prelude.{vec_capacity};
+    ghost use Rattle.object_memory.specs.Memory.{Memory};
+    ghost use Rattle.object_memory.specs.Layout.{memory_of, IsLayout};
+
+    ghost Value = { Memory };
+
+    ghost view = { λ m. memory_of W m.spans.items m.cells.items m.byte_limit m.object_limit };
+
+    ghost invariant = { λ m. IsLayout W m.spans.items m.cells.items m.byte_limit m.object_limit (vec_capacity m.spans) (vec_capacity m.cells) };
+}
+
+// What an object takes: its size rounded up to 16, and a gap of 16.
+fn padded_size(size: u64) -> u64
+    requires { size < 2 ^ 32 }
+    ensures { result ≡ padded size }
+{
+    size.next_multiple_of(16) + 16
+}
+
+impl<const W: usize> ObjMem<W> {
+    ghost use Rattle.object_memory.specs.Layout.{IsFound};
+    ghost use Rattle.object_memory.specs.Memory.{IsMemory, holds, byte_at, loaded, stored, rest_from, IsOwner, used, next_base, IsFull, placed};
+
+    /// An empty memory for `limit` bytes, with the padding and gaps of objects, and for as many
+    /// objects. All memory that it will use is reserved here.
+    pub fn new(alloc: Global, limit: u64, objects: u32) -> Result<ObjMem<W>, NoMemory>
+        requires width { IsWidth W }
+        requires limit { limit ≤ top_limit W }
+        ensures empty { IfOk result (λ m. m ≡ record { objects = []; byte_limit = limit; object_limit = objects }) }
+        ensures memory { IfOk result (IsMemory W) }
+    {
+        let spans = Vec::with_capacity(alloc, objects as usize)?;
+        let cells = Vec::with_capacity(alloc, limit as usize)?;
+        Ok(ObjMem {
+            spans,
+            cells,
+            byte_limit: limit,
+            object_limit: objects,
+        })
+    }
+
+    // Where the first object lies.
+    fn first() -> u64
+        ensures { result ≡ first_base W }
+    {
+        if W == 4 { 0x10_0000 } else { 0x2_0000_0000 }
+    }
+
+    /// Places an object of `size * count` zero bytes.
+    ///
+    /// `Full` comes exactly where the bytes, rounded up to 16, plus 16, pass what is left of the
+    /// limit, or where as many objects are placed as there may be.
+    pub fn place(&mut self, size: u32, count: u32) -> Result<ObjId, PlaceFault>
+        requires some { 1 ≤ size * count }
+        requires below { size * count < 2 ^ 32 }
+        ensures placed { OnOk result (self.new ≡ placed W self.old (size * count)) }
+        ensures id { IfOk result (λ id. id ≡ record { number = length self.old.objects; base = next_base W self.old }) }
+        ensures full { (result ≡ Err PlaceFault.Full) ↔ IsFull self.old (size * count) }
+        ensures same { OnErr result (self.new ≡ self.old) }
+
+        // No byte at any address changes, and those of the new object are zeros.
+        ensures bytes { (x : ℕ) → byte_at self.new x ≡ byte_at self.old x }
+        ensures memory { IsMemory W self.new }
+    {
+        let bytes = u64::from(size) * u64::from(count);
+        let before = self.cells.len() as u64;
+        let after = before + padded_size(bytes);
+        let number = self.spans.len();
+        if after > self.byte_limit || number >= self.object_limit as usize {
+            return Err(PlaceFault::Full);
+        }
+        let base = Self::first() + before;
+        let Ok(()) = self.cells.resize(after as usize, 0) else {
+            unreachable!();
+        };
+        let Ok(()) = self.spans.push(Span { base, size: bytes }) else {
+            unreachable!();
+        };
+        Ok(ObjId {
+            number: number as u32,
+            base,
+        })
+    }
+
+    // The span of the object that holds the `count` bytes from an address on, and its number.
+    fn find(&self, addr: u64, count: u64) -> Option<(usize, Span)>
+        ensures found { IfSome result (λ r. IsFound W self.now addr count r.0 r.1) }
+        ensures none { IfNone result (holds self.now addr count ≡ false) }
+        ensures memory { IsMemory W self.now }
+    {
+        find_span(&self.spans, addr, count)
+    }
+
+    /// Whether one object holds the `count` bytes from an address on.
+    pub fn holds(&self, addr: u64, count: usize) -> bool
+        ensures answer { result ≡ holds self.now addr count }
+        ensures memory { IsMemory W self.now }
+    {
+        self.find(addr, count as u64).is_some()
+    }
+
+    /// The number in the `count` bytes from an address on, the lowest byte first: none exactly where
+    /// no one object holds them. `count` is 1, 2, 4 or 8.
+    pub fn load(&self, addr: u64, count: usize) -> Option<u64>
+        requires { IsAccess count }
+        ensures number { result ≡ loaded self.now addr count }
+        ensures memory { IsMemory W self.now }
+    {
+        let _ = self.find(addr, count as u64)?;
+        let place = (addr - Self::first()) as usize;
+        Some(read_number(&self.cells, place, count))
+    }
+
+    /// Stores the low `count` bytes of a number from an address on, the lowest byte first, and
+    /// changes no other byte: false exactly where no one object holds the range, and then nothing
+    /// changes. `count` is 1, 2, 4 or 8.
+    pub fn store(&mut self, addr: u64, count: usize, value: u64) -> bool
+        requires { IsAccess count }
+        ensures done { result ≡ holds self.old addr count }
+        ensures after { self.new ≡ stored self.old addr count value }
+        ensures bytes { OnTrue result ((x : ℕ) → byte_at self.new x ≡ put (byte_at self.old) addr count value x) }
+        ensures same { OnFalse result (self.new ≡ self.old) }
+        ensures memory { IsMemory W self.new }
+    {
+        let Some(_) = self.find(addr, count as u64) else {
+            return false;
+        };
+        let place = (addr - Self::first()) as usize;
+        write_number(&mut self.cells, place, count, value);
+        true
+    }
+
+    /// The object that holds a byte, and the byte's offset in it: none exactly where no object does.
+    pub fn owner(&self, addr: u64) -> Option<(ObjId, u64)>
+        ensures found { IfSome result (λ r. IsOwner self.now addr r.0 r.1) }
+        ensures none { IfNone result (holds self.now addr 1 ≡ false) }
+        ensures memory { IsMemory W self.now }
+    {
+        let (number, span) = self.find(addr, 1)?;
+        let id = ObjId {
+            number: number as u32,
+            base: span.base,
+        };
+        Some((id, addr - span.base))
+    }
+
+    /// The bytes from an address to the end of the object that holds it, as they lie: none exactly
+    /// where no object holds it.
+    pub fn bytes_from(&self, addr: u64) -> Option<&[u8]>
+        ensures found { IfSome result (λ bytes. rest_from self.now addr ≡ Some bytes.now) }
+        ensures none { IfNone result (rest_from self.now addr ≡ None) }
+        ensures memory { IsMemory W self.now }
+    {
+        let (_, span) = self.find(addr, 1)?;
+        let (_, rest) = self.cells.split_at((addr - Self::first()) as usize);
+        let (bytes, _) = rest.split_at((span.base + span.size - addr) as usize);
+        Some(bytes)
+    }
+}
+
+#[cfg(test)]
+mod tests {
+    use super::*;
+    use std::test::Fail;
+
+    #[test]
+    fn objects_of_a_machine_of_four_bytes(rt: HostRuntime) -> Result<(), Fail> {
+        let mut memory = ObjMem::<4>::new(rt.alloc(), 64, 4)?;
+        let first = memory.place(8, 1)?;
+        assert_eq!(rt;
+            first,
+            ObjId {
+                number: 0,
+                base: 0x0010_0000
+            }
+        );
+
+        // 8 bytes took 32 of the 64, and 24 would take 48.
+        assert_eq!(rt; memory.place(24, 1), Err(PlaceFault::Full));
+        let second = memory.place(4, 4)?;
+        assert_eq!(rt;
+            second,
+            ObjId {
+                number: 1,
+                base: 0x0010_0020
+            }
+        );
+        assert_eq!(rt; memory.place(1, 1), Err(PlaceFault::Full));
+
+        // Past the end of the first, and from the first into the second.
+        assert_eq!(rt; memory.load(0x0010_0004, 8), None);
+        assert!(rt; !memory.holds(0x0010_0000, 48));
+        assert!(rt; !memory.store(0x0010_0006, 4, 1));
+        assert_eq!(rt; memory.load(0x0010_0004, 4), Some(0));
+
+        assert!(rt; memory.store(0x0010_0020, 2, 0x0012_ABCD));
+        assert_eq!(rt; memory.load(0x0010_0020, 1), Some(0xCD));
+        assert_eq!(rt; memory.load(0x0010_0020, 4), Some(0xABCD));
+        assert_eq!(rt;
+            memory.bytes_from(0x0010_0021).map(|bytes| bytes.len()),
+            Some(15)
+        );
+
+        assert_eq!(rt; memory.owner(0x0010_0021), Some((second, 1)));
+        assert_eq!(rt; memory.owner(0x0010_0030), None);
+        assert!(rt; memory.bytes_from(0x0010_0008).is_none());
+        Ok(())
+    }
+
+    #[test]
+    fn objects_of_a_machine_of_eight_bytes(rt: HostRuntime) -> Result<(), Fail> {
+        let mut memory = ObjMem::<8>::new(rt.alloc(), 112, 2)?;
+        assert_eq!(rt; memory.place(1, 1)?.base, 0x0000_0002_0000_0000);
+        assert_eq!(rt; memory.place(1, 17)?.base, 0x0000_0002_0000_0020);
+
+        // The bytes of a third would fit, but not a third object.
+        assert_eq!(rt; memory.place(1, 1), Err(PlaceFault::Full));
+        assert_eq!(rt; memory.load(u64::MAX, 2), None);
+        Ok(())
+    }
+}
