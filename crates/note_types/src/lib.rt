@@ -22,7 +22,7 @@ pub use below::{fits_below, ty_below};
 pub use cell::{Cell, SlotKind, cell_size, content_type};
 pub use entry::entry_state;
 pub use exception::Exception;
-pub use fault::{NoMemory, TomlFault};
+pub use fault::{NoMemory, NotesEnd, TomlFault};
 pub use items::{Item, Items};
 pub use name::Name;
 pub use notes::{
