@@ -1,0 +1,4 @@
+pub mod MethodLemmas
+pub mod NameLaws
+pub mod OnceLemmas
+pub mod RepeatLaws

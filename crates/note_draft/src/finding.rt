@@ -1,0 +1,123 @@
+// Where in notes a condition fails.
+ghost use Rattle.std.specs.Prelude.{◌≡◌, IfOk, IfSome, ◌≤◌, ◌<◌};
+ghost use Rattle.note_draft.specs.Findings.{at, key_name, list_name, path_of, sooner};
+
+use note_types::Name;
+use std::alloc::{AllocError, Global};
+
+/// A list of tables.
+#[derive(Clone, Copy, PartialEq, Eq, Debug)]
+pub enum TableList {
+    Shape,
+    Static,
+    Thunk,
+    Function,
+    Point,
+    Signature,
+    Site,
+}
+
+impl TableList {
+    fn name(self) -> &'static str
+        ensures { result.now ≡ list_name self }
+    {
+        match self {
+            TableList::Shape => "shape",
+            TableList::Static => "static",
+            TableList::Thunk => "thunk",
+            TableList::Function => "function",
+            TableList::Point => "point",
+            TableList::Signature => "signature",
+            TableList::Site => "site",
+        }
+    }
+}
+
+/// A key of a table.
+#[derive(Clone, Copy, PartialEq, Eq, Debug)]
+pub enum Key {
+    Name,
+    Fields,
+    Place,
+    Shape,
+    Function,
+    End,
+    Need,
+    Locals,
+    Params,
+    Result,
+    Regs,
+    Stack,
+    Written,
+    Signature,
+}
+
+impl Key {
+    fn name(self) -> &'static str
+        ensures { result.now ≡ key_name self }
+    {
+        match self {
+            Key::Name => "name",
+            Key::Fields => "fields",
+            Key::Place => "place",
+            Key::Shape => "shape",
+            Key::Function => "function",
+            Key::End => "end",
+            Key::Need => "need",
+            Key::Locals => "locals",
+            Key::Params => "params",
+            Key::Result => "result",
+            Key::Regs => "regs",
+            Key::Stack => "stack",
+            Key::Written => "written",
+            Key::Signature => "signature",
+        }
+    }
+}
+
+/// The key at which a condition fails, in the item of that number, from 0.
+#[derive(Clone, Copy, PartialEq, Eq, Debug)]
+pub struct Finding {
+    pub list: TableList,
+    pub item: usize,
+    pub key: Key,
+}
+
+impl Finding {
+    /// A key of the item of this number, where there is one.
+    #[tactic(auto, unfolding(crate::specs::Findings::at))]
+    pub fn at(list: TableList, key: Key, item: Option<usize>) -> Option<Finding>
+        ensures { result ≡ at list key item }
+    {
+        match item {
+            Some(item) => Some(Finding { list, item, key }),
+            None => None,
+        }
+    }
+
+    /// The sooner of two findings in one list: that of the lesser item, and in one item the first.
+    #[tactic(auto, unfolding(crate::specs::Findings::sooner))]
+    pub fn sooner(a: Option<Finding>, b: Option<Finding>) -> Option<Finding>
+        ensures { result ≡ sooner a b }
+    {
+        match (a, b) {
+            (Some(x), Some(y)) if y.item < x.item => Some(y),
+            (Some(x), _) => Some(x),
+            (None, _) => b,
+        }
+    }
+
+    /// The path of the key.
+    ///
+    /// # Errors
+    ///
+    /// There was no memory.
+    pub fn path(self, alloc: Global) -> Result<Name, AllocError>
+        ensures { IfOk result (λ path. path ≡ path_of self) }
+    {
+        let list = self.list.name();
+        let item = self.item;
+        let key = self.key.name();
+        Ok(Name::new(format!(in alloc; "{list}[{item}].{key}")?))
+    }
+}

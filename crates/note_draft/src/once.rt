@@ -1,0 +1,167 @@
+// Whether each name, place and register stands once in notes, and the names by their numbers.
+ghost use Rattle.std.specs.Prelude.{◌≡◌, ◌<◌, ◌^◌, length, map};
+ghost use Rattle.std.specs.List.{position};
+ghost use Rattle.note_types.specs.declared.fault.TomlFault.TheVariants.{Twice};
+ghost use Rattle.note_texts.specs.Outcome.{Gives};
+ghost use Rattle.note_draft.specs.Findings.{refused};
+ghost use Rattle.note_draft.specs.Once.{function_names, names_in, names_of_calls, numbered, once, repeat_in, repeated_in_points, repeated_place_in, repeats_field, repeats_register, shape_names, signature_names};
+
+use crate::draft::{FunctionDraft, NotesDraft, PointDraft, ShapeDraft, SignatureDraft};
+use crate::finding::{Finding, Key, TableList};
+use crate::keyed::Placed;
+use crate::names::NameTable;
+use crate::repeats::{
+    Numbering, has_repeated_field, has_repeated_register, name_table, repeated_place,
+};
+use crate::tables::NameTables;
+use note_types::{NotesEnd, TomlFault};
+use std::alloc::Global;
+
+/// Nothing where nothing was found.
+///
+/// # Errors
+///
+/// `TomlFault::Twice` with the path of the finding; no memory.
+fn refuse_twice(alloc: Global, finding: Option<Finding>) -> Result<(), NotesEnd>
+    ensures { Gives result (refused Twice finding) }
+{
+    match finding {
+        Some(finding) => Err(NotesEnd::Fault(TomlFault::Twice(finding.path(alloc)?))),
+        None => Ok(()),
+    }
+}
+
+fn repeat_in(numbering: &Numbering) -> Option<usize>
+    ensures { result ≡ repeat_in numbering.now }
+{
+    match numbering {
+        Numbering::Table(_) => None,
+        Numbering::Repeat(item) => Some(*item),
+    }
+}
+
+fn names_in(alloc: Global, numbering: Numbering) -> NameTable
+    ensures { result ≡ names_in numbering }
+{
+    match numbering {
+        Numbering::Table(names) => names,
+        Numbering::Repeat(_) => NameTable::new(alloc),
+    }
+}
+
+// The names that were numbered, unless one repeats or something else in the list does.
+fn numbered(
+    alloc: Global,
+    list: TableList,
+    numbering: Numbering,
+    other: Option<Finding>,
+) -> Result<NameTable, NotesEnd>
+    ensures { Gives result (numbered list numbering other) }
+{
+    let name = Finding::at(list, Key::Name, repeat_in(&numbering));
+    refuse_twice(alloc, Finding::sooner(name, other))?;
+    Ok(names_in(alloc, numbering))
+}
+
+// Nothing where no place repeats.
+fn places_once<T: Placed>(alloc: Global, list: TableList, items: &[T]) -> Result<(), NotesEnd>
+    ensures { Gives result (refused Twice (repeated_place_in list (map T.place items.now))) }
+{
+    let item = repeated_place(alloc, items)?;
+    refuse_twice(alloc, Finding::at(list, Key::Place, item))
+}
+
+fn first_repeating_field(shapes: &[ShapeDraft]) -> Option<usize>
+    ensures { result ≡ position repeats_field shapes.now }
+{
+    shapes
+        .iter()
+        .position(|shape| has_repeated_field(shape.fields.as_slice()))
+}
+
+fn first_repeating_register(points: &[PointDraft]) -> Option<usize>
+    ensures { result ≡ position repeats_register points.now }
+{
+    points
+        .iter()
+        .position(|point| has_repeated_register(point.regs.as_slice()))
+}
+
+fn shape_names(alloc: Global, shapes: &[ShapeDraft]) -> Result<NameTable, NotesEnd>
+    requires { length shapes.now < 2 ^ 32 }
+    ensures { Gives result (shape_names shapes.now) }
+{
+    let numbering = name_table(alloc, shapes)?;
+    let fields = Finding::at(TableList::Shape, Key::Fields, first_repeating_field(shapes));
+    numbered(alloc, TableList::Shape, numbering, fields)
+}
+
+fn function_names(alloc: Global, functions: &[FunctionDraft]) -> Result<NameTable, NotesEnd>
+    requires { length functions.now < 2 ^ 32 }
+    ensures { Gives result (function_names functions.now) }
+{
+    let numbering = name_table(alloc, functions)?;
+    let item = repeated_place(alloc, functions)?;
+    let place = Finding::at(TableList::Function, Key::Place, item);
+    numbered(alloc, TableList::Function, numbering, place)
+}
+
+fn points_once(alloc: Global, points: &[PointDraft]) -> Result<(), NotesEnd>
+    ensures { Gives result (refused Twice (repeated_in_points points.now)) }
+{
+    let places = repeated_place(alloc, points)?;
+    let regs = first_repeating_register(points);
+    let first = Finding::sooner(
+        Finding::at(TableList::Point, Key::Place, places),
+        Finding::at(TableList::Point, Key::Regs, regs),
+    );
+    refuse_twice(alloc, first)
+}
+
+fn signature_names(alloc: Global, signatures: &[SignatureDraft]) -> Result<NameTable, NotesEnd>
+    requires { length signatures.now < 2 ^ 32 }
+    ensures { Gives result (signature_names signatures.now) }
+{
+    let numbering = name_table(alloc, signatures)?;
+    numbered(alloc, TableList::Signature, numbering, None)
+}
+
+#[tactic(auto, unfolding(crate::specs::Once::names_of_calls))]
+fn names_of_calls(alloc: Global, draft: &NotesDraft) -> Result<NameTable, NotesEnd>
+    requires { length draft.now.signature < 2 ^ 32 }
+    ensures { Gives result (names_of_calls draft.now) }
+{
+    let names = signature_names(alloc, draft.signature.as_slice())?;
+    places_once(alloc, TableList::Site, draft.site.as_slice())?;
+    Ok(names)
+}
+
+/// The names that notes give, where no name, place or register stands there twice.
+///
+/// # Errors
+///
+/// `TomlFault::Twice` with the path of the first that does; no memory.
+#[tactic(auto, unfolding(crate::specs::Once::once))]
+pub fn number_names(
+    alloc: Global,
+    draft: &NotesDraft,
+    methods: NameTable,
+) -> Result<NameTables, NotesEnd>
+    requires shapes { length draft.now.shape < 2 ^ 32 }
+    requires functions { length draft.now.function < 2 ^ 32 }
+    requires signatures { length draft.now.signature < 2 ^ 32 }
+    ensures { Gives result (once draft.now methods) }
+{
+    let shape = shape_names(alloc, draft.shape.as_slice())?;
+    places_once(alloc, TableList::Static, draft.statics.as_slice())?;
+    places_once(alloc, TableList::Thunk, draft.thunk.as_slice())?;
+    let function = function_names(alloc, draft.function.as_slice())?;
+    points_once(alloc, draft.point.as_slice())?;
+    let signature = names_of_calls(alloc, draft)?;
+    Ok(NameTables {
+        shape,
+        function,
+        signature,
+        method: methods,
+    })
+}

@@ -1,0 +1,12 @@
+// The names that notes give.
+use crate::names::NameTable;
+
+/// The names that notes give, by their numbers.
+#[derive(Drop)]
+pub struct NameTables {
+    pub shape: NameTable,
+    pub function: NameTable,
+    pub signature: NameTable,
+    /// The methods, in the order in which the signatures first name them.
+    pub method: NameTable,
+}

@@ -1,0 +1,16 @@
+pub mod CellLaws
+pub mod Counts
+pub mod Digits
+pub mod GrantLaws
+pub mod Loop
+pub mod NameLoops
+pub mod NumberLaws
+pub mod NumberRanges
+pub mod OnlyKeys
+pub mod RangeLaws
+pub mod SlotLaws
+pub mod SplitLaws
+pub mod Tables
+pub mod Text
+pub mod TypeLaws
+pub mod WantLaws

@@ -1,0 +1,15 @@
+pub mod CellTexts
+pub mod Grammar
+pub mod Keys
+pub mod Lists
+pub mod Names
+pub mod Numbers
+pub mod Outcome
+pub mod Ranges
+pub mod SlotGrammar
+pub mod SlotTexts
+pub mod Splits
+pub mod TypeGrammar
+pub mod TypeTexts
+pub mod WantGrammar
+pub mod WantTexts

@@ -1,0 +1,72 @@
+// Names.
+ghost use Rattle.std.specs.Prelude.{◌≡◌, Some, None, IfOk, map, length};
+ghost use Rattle.std.specs.List.{list_all};
+ghost use Rattle.note_texts.specs.Grammar.{IsNameText, ReadsJust};
+ghost use Rattle.note_texts.specs.Names.{begins_name, continues_name, is_letter, is_name, name_of, names_of};
+
+use crate::from_text::FromText;
+use note_types::{Name, Names};
+use std::alloc::{AllocError, Global};
+
+fn begins_name(byte: u8) -> bool
+    ensures { result ≡ begins_name byte }
+{
+    byte.is_ascii_alphabetic() || byte == b'_' || byte == b'.'
+}
+
+fn continues_name(byte: u8) -> bool
+    ensures { result ≡ continues_name byte }
+{
+    begins_name(byte) || byte.is_ascii_digit()
+}
+
+fn all_continue(text: &[u8]) -> bool
+    ensures { result ≡ list_all continues_name text.now }
+{
+    text.iter().all(|byte| continues_name(*byte))
+}
+
+#[tactic(auto, unfolding(crate::specs::Names::is_name))]
+fn is_name(text: &[u8]) -> bool
+    ensures { result ≡ is_name text.now }
+{
+    match text {
+        [] => false,
+        [first, rest @ ..] => begins_name(*first) && rest.len() <= 62 && all_continue(rest),
+    }
+}
+
+fn name_of(alloc: Global, text: &str) -> Result<Option<Name>, AllocError>
+    ensures { IfOk result (λ name. name ≡ name_of text.now) }
+{
+    if !is_name(text.as_bytes()) {
+        return Ok(None);
+    }
+    Ok(Some(Name::new(String::from_str(alloc, text)?)))
+}
+
+impl FromText for Name {
+    ghost reads_as = { name_of };
+
+    /// A name of 1 to 63 letters, digits, `_` and `.`, which begins with no digit.
+    fn from_text(alloc: Global, text: &str) -> Result<Option<Self>, AllocError>
+        ensures value { IfOk result (λ name. name ≡ name_of text.now) }
+        ensures grammar { IfOk result (λ name. ReadsJust name (IsNameText text.now)) }
+    {
+        name_of(alloc, text)
+    }
+}
+
+/// The names that these texts are.
+pub(crate) fn names_of(alloc: Global, texts: &[&str]) -> Result<Option<Names>, AllocError>
+    ensures { IfOk result (λ names. names ≡ names_of (map (λ text. text.now) texts.now)) }
+{
+    let mut names = Vec::new(alloc);
+    for text in texts {
+        let Some(name) = Name::from_text(alloc, text)? else {
+            return Ok(None);
+        };
+        names.push(name)?;
+    }
+    Ok(Some(Names::new(names)))
+}

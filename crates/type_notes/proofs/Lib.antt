@@ -1,0 +1,5 @@
+pub mod NotesLemmas
+pub mod OrderLemmas
+pub mod OwnerLaws
+pub mod PastLemmas
+pub mod PointLemmas

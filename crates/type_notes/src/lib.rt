@@ -1,0 +1,47 @@
+//! Reads notes, a TOML text that says what a program's places hold, as the record that the text stands for, or tells its
+//! first fault with the key where it stands. docs/NOTES.md says how notes are written.
+//!
+//! The definitions that the contracts cite stand in specs/, one subject a file.
+#![tactic(auto)]
+
+ghost use Rattle.note_texts.specs.Outcome.{Gives};
+ghost use Rattle.type_notes.specs.Notes.{notes_of};
+
+mod checks;
+mod conditions;
+mod notes;
+mod owners;
+mod points;
+mod resolve;
+mod type_kinds;
+
+use crate::notes::notes_in;
+use note_draft::read_draft;
+use note_texts::document;
+use note_types::{Notes, NotesEnd};
+use std::alloc::Global;
+
+/// The notes that a text stands for.
+///
+/// # Errors
+///
+/// The first fault, with the path of the key where it stands, as docs/NOTES.md lists them: `TomlFault::NotToml`; then
+/// `Missing`, `Kind` and `Range` key by key; then `Twice`; then `Name`; then `Range` for a condition that isn't met. Or
+/// there was no memory.
+#[tactic(auto, unfolding(crate::specs::Notes::notes_of))]
+pub fn read_notes(alloc: Global, text: &[u8]) -> Result<Notes, NotesEnd>
+    ensures notes { Gives result (notes_of text.now) }
+{
+    let table = document(alloc, text)?;
+    let reading = read_draft(alloc, &table)?;
+    notes_in(alloc, reading)
+}
+
+#[cfg(test)]
+mod note_tests;
+#[cfg(test)]
+mod note_tests_conditions;
+#[cfg(test)]
+mod note_tests_passes;
+#[cfg(test)]
+mod owner_tests;
