@@ -1,7 +1,8 @@
 -- Memories worked out by hand, as the definitions have them.
 use Rattle.std.proofs.Common.{◌≡◌, false, [], ◌∷◌, map, Some, None, refl, inl, arith}
-use Rattle.object_memory.specs.Bytes.{read, put, window}
-use Rattle.object_memory.specs.Memory.{Memory, Object, padded, IsFull, placed, holds, object_at, byte_at, loaded, rest_from, stored}
+use Rattle.ebc_width.specs.Bytes.{little_endian, put, window}
+use Rattle.ebc_width.specs.Ranges.{holds}
+use Rattle.object_memory.specs.Memory.{Memory, Object, padded, IsFull, placed, ranges, object_at, byte_at, held_number, rest_from, memory_after}
 
 -- 64 bytes and 4 objects at most, where pointers have 4 bytes
 abbrev empty : Memory
@@ -31,26 +32,26 @@ no_room_for_24 : IsFull one 24
 unfolding placed
 no_room_for_24 = inl (omega arith)
 
-past_the_end : loaded two 0x100004 8 ≡ None
-unfolding loaded holds placed
+past_the_end : held_number two 0x100004 8 ≡ None
+unfolding held_number holds placed
 past_the_end = refl
 
-across_two : holds two 0x100000 40 ≡ false
+across_two : holds (ranges two) 0x100000 40 ≡ false
 unfolding holds placed
 across_two = refl
 
-stored_then_loaded : loaded (stored two 0x100020 2 0x12ABCD) 0x100020 1 ≡ Some 0xCD
-unfolding loaded stored holds byte_at object_at placed read put window
+stored_then_loaded : held_number (memory_after two 0x100020 2 0x12ABCD) 0x100020 1 ≡ Some 0xCD
+unfolding held_number memory_after holds byte_at object_at placed little_endian put window
 stored_then_loaded = refl
 
-byte_above : byte_at (stored two 0x100020 2 0x12ABCD) 0x100022 ≡ 0
-unfolding stored holds byte_at object_at placed put window
+byte_above : byte_at (memory_after two 0x100020 2 0x12ABCD) 0x100022 ≡ 0
+unfolding memory_after holds byte_at object_at placed put window
 byte_above = refl
 
-not_stored : stored two 0x100006 4 1 ≡ two
-unfolding stored holds placed
+not_stored : memory_after two 0x100006 4 1 ≡ two
+unfolding memory_after holds placed
 not_stored = refl
 
-last_byte : rest_from (stored two 0x10002F 1 7) 0x10002E ≡ Some (0 ∷ 7 ∷ [])
-unfolding rest_from stored holds byte_at object_at placed put window
+last_byte : rest_from (memory_after two 0x10002F 1 7) 0x10002E ≡ Some (0 ∷ 7 ∷ [])
+unfolding rest_from memory_after holds byte_at object_at placed put window
 last_byte = refl

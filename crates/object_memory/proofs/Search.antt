@@ -1,15 +1,15 @@
 -- Which span of a rising list covers a range: none but the last that begins at or below its address.
-use Rattle.std.proofs.Common.{◌≡◌, ℕ, ◌+◌, ◌<◌, ◌≤◌, true, false, List, length, arith, subst, get_or, ap, ⊎_elim, leb}
+use Rattle.std.proofs.Common.{◌≡◌, ℕ, ◌+◌, ◌<◌, ◌≤◌, true, false, List, [], ◌∷◌, map, refl, length, arith, subst, get_or, ap, ⊎_elim, leb}
 use Rattle.std.specs.Prelude.{All, AllPairs}
-use Rattle.std.specs.List.{list_any}
 use Rattle.std.specs.List.Sorted.{IsPartitionPoint, IsPartitionedBy, IsNonDecreasingBy}
 use Rattle.std.proofs.lemmas.List.Sorted.{IsPartitionedBy-leb}
-use Rattle.std.proofs.lemmas.List.Folds.{list_any_none}
+use Rattle.std.proofs.lemmas.List.Elements.{All-head, All-tail}
 use Rattle.std.proofs.lemmas.Bool.{cases_lt, leb-true, leb-false}
 use Rattle.object_memory.specs.declared.span.Span.{Span}
-use Rattle.object_memory.specs.Layout.{span_covers, EndsBelow}
+use Rattle.ebc_width.specs.Ranges.{covers, holds}
+use Rattle.object_memory.specs.Layout.{span_range, EndsBelow}
 
--- any span, as what a read past the end gives
+-- any span, as what a little_endian past the end gives
 abbrev pub origin : Span
 origin = record { base = 0; size = 0 }
 
@@ -25,24 +25,31 @@ bases_rise spans apart i j d le within =
 pub bases_part : (a : ℕ) (spans : List Span) → AllPairs EndsBelow spans → IsPartitionedBy (λ s. leb s.base a) spans
 bases_part a spans apart = IsPartitionedBy-leb (λ s. s.base) spans a (bases_rise spans apart)
 
-missed_below : (a k : ℕ) (s last : Span) → EndsBelow s last → last.base ≤ a → span_covers a k s ≡ false
+-- a range is held by none where no span covers it
+none_covers : (a k : ℕ) (spans : List Span) → All (λ s. covers a k (span_range s) ≡ false) spans → holds (map span_range spans) a k ≡ false
+unfolding holds
+none_covers a k [] none = refl
+none_covers a k (s ∷ spans) none =
+    rw (All-head (λ t. covers a k (span_range t) ≡ false) s spans none) (none_covers a k spans (All-tail (λ t. covers a k (span_range t) ≡ false) s spans none))
+
+missed_below : (a k : ℕ) (s last : Span) → EndsBelow s last → last.base ≤ a → covers a k (span_range s) ≡ false
 missed_below a k s last below begun = grind arith
 
-missed_above : (a k : ℕ) (s : Span) → a < s.base → span_covers a k s ≡ false
+missed_above : (a k : ℕ) (s : Span) → a < s.base → covers a k (span_range s) ≡ false
 missed_above a k s above = grind arith
 
-pub none_begun : (a k : ℕ) (spans : List Span) → IsBegun a spans 0 → list_any (span_covers a k) spans ≡ false
+pub none_begun : (a k : ℕ) (spans : List Span) → IsBegun a spans 0 → holds (map span_range spans) a k ≡ false
 none_begun a k spans point =
-    list_any_none (span_covers a k) spans (λ i d within. missed_above a k (get_or spans i d) (leb-false _ _ (point.1 i d (omega arith) within)))
+    none_covers a k spans (λ i d within. missed_above a k (get_or spans i d) (leb-false _ _ (point.1 i d (omega arith) within)))
 
-pub last_misses : (a k n : ℕ) (spans : List Span) → AllPairs EndsBelow spans → n < length spans → IsBegun a spans (n + 1) → ((d : Span) → span_covers a k (get_or spans n d) ≡ false) → list_any (span_covers a k) spans ≡ false
-last_misses a k n spans apart within point misses = list_any_none (span_covers a k) spans each where
-  each : All (λ s. span_covers a k s ≡ false) spans
+pub last_misses : (a k n : ℕ) (spans : List Span) → AllPairs EndsBelow spans → n < length spans → IsBegun a spans (n + 1) → ((d : Span) → covers a k (span_range (get_or spans n d)) ≡ false) → holds (map span_range spans) a k ≡ false
+last_misses a k n spans apart within point misses = none_covers a k spans each where
+  each : All (λ s. covers a k (span_range s) ≡ false) spans
   each i d inside =
       ⊎_elim
       (λ less. missed_below a k (get_or spans i d) (get_or spans n d) (apart i n d less within) (leb-true _ _ (point.0 n d (omega arith) (omega arith))))
       (λ more. ⊎_elim
       (λ above. missed_above a k (get_or spans i d) (leb-false _ _ (point.1 i d (omega arith) inside)))
-      (λ below. let same : n ≡ i = omega arith in subst (λ j. span_covers a k (get_or spans j d) ≡ false) same (misses d))
+      (λ below. let same : n ≡ i = omega arith in subst (λ j. covers a k (span_range (get_or spans j d)) ≡ false) same (misses d))
       (cases_lt n i))
       (cases_lt i n)

@@ -10,13 +10,16 @@ use Rattle.std.proofs.lemmas.List.Elements.{All-head, All-tail, All-push, All-we
 use Rattle.std.proofs.lemmas.List.Folds.{list_any_at}
 use Rattle.std.proofs.lemmas.List.Quantifiers.{all_pairs_push}
 use Rattle.std.proofs.lemmas.List.Sums.{sum_by_push}
-use Rattle.object_memory.specs.Bytes.{read, put, window}
-use Rattle.object_memory.specs.Memory.{Object, Memory, object_covers, holds, object_at, byte_of, byte_at, loaded, stored, rest_from, object_with, padded, used, first_base, next_base, placed, IsPlaced, IsMemory}
+use Rattle.ebc_width.specs.Bytes.{little_endian, put, window}
+use Rattle.object_memory.specs.Memory.{Object, Memory, ranges, has_byte, object_at, byte_of, byte_at, held_number, memory_after, rest_from, object_with, padded, used, first_base, next_base, placed, IsPlaced, IsMemory}
+use Rattle.ebc_width.specs.Ranges.{covers, holds}
 use Rattle.object_memory.specs.declared.span.Span.{Span}
-use Rattle.object_memory.specs.Layout.{span_covers, EndsBelow, IsSpan, IsSpanOf, object_of, memory_of, IsLayout, IsFound}
+use Rattle.object_memory.specs.Layout.{span_range, EndsBelow, IsSpan, IsSpanOf, object_of, memory_of, IsLayout, IsFound}
 use Rattle.object_memory.proofs.Lists.{sum_by-map, get_or-zeros}
 use Rattle.object_memory.proofs.Search.{origin}
-use Rattle.object_memory.proofs.Laws.{read-moved, put-moved, length-window, get_or-window, holds-within, object_at-found, byte_at-none, loaded-held, stored-held, rest_from-found, limit-no_wrap}
+use Rattle.ebc_width.proofs.ByteLaws.{little_endian-moved, put-moved, length-window, get_or-window}
+use Rattle.ebc_width.proofs.RangeLaws.{holds-at, holds-within}
+use Rattle.object_memory.proofs.Laws.{object_at-found, byte_at-none, held_number-held, memory_after-held, rest_from-found, limit-no_wrap}
 
 -- ---- a new span
 
@@ -91,13 +94,15 @@ pub span_inside : (w count : ℕ) (spans : List Span) (a k place : ℕ) (s : Spa
 span_inside w count spans a k place s inside is =
     subst (IsSpan w count) (get_or_from_slice_get spans place s s is.at) (inside place s (slice_get_within spans place s is.at))
 
-pub holds-memory_of : (w : ℕ) (spans : List Span) (cells : List ℕ) (limit most a k : ℕ) → holds (memory_of w spans cells limit most) a k ≡ list_any (span_covers a k) spans
-unfolding holds
-holds-memory_of w [] cells limit most a k = refl
-holds-memory_of w (s ∷ spans) cells limit most a k = ap (λ b. span_covers a k s || b) (holds-memory_of w spans cells limit most a k)
+ranges-memory_of : (w : ℕ) (spans : List Span) (cells : List ℕ) (limit most : ℕ) → ranges (memory_of w spans cells limit most) ≡ map span_range spans
+ranges-memory_of w [] cells limit most = refl
+ranges-memory_of w (s ∷ spans) cells limit most = ap (λ rs. span_range s ∷ rs) (ranges-memory_of w spans cells limit most)
+
+pub holds-memory_of : (w : ℕ) (spans : List Span) (cells : List ℕ) (limit most a k : ℕ) → holds (ranges (memory_of w spans cells limit most)) a k ≡ holds (map span_range spans) a k
+holds-memory_of w spans cells limit most a k = ap (λ rs. holds rs a k) (ranges-memory_of w spans cells limit most)
 
 -- the byte of the object at a span is a cell
-byte_of-object_of : (w : ℕ) (cells : List ℕ) (x : ℕ) (s : Span) → IsSpan w (length cells) s → span_covers x 1 s ≡ true → byte_of x (object_of w cells s) ≡ get_or cells (x - first_base w) 0
+byte_of-object_of : (w : ℕ) (cells : List ℕ) (x : ℕ) (s : Span) → IsSpan w (length cells) s → covers x 1 (span_range s) ≡ true → byte_of x (object_of w cells s) ≡ get_or cells (x - first_base w) 0
 byte_of-object_of w cells x s inside covered =
     let above : first_base w ≤ s.base = inside.above in
     let from : s.base ≤ x = grind arith in
@@ -107,10 +112,11 @@ byte_of-object_of w cells x s inside covered =
     ∙ get_or-drop (s.base - first_base w) cells (x - s.base) 0
     ∙ ap (λ i. get_or cells i 0) place
 
-byte_found : (w : ℕ) (cells : List ℕ) (x : ℕ) (spans : List Span) → All (IsSpan w (length cells)) spans → list_any (span_covers x 1) spans ≡ true → option_map_or (byte_of x) (find (object_covers x 1) (map (object_of w cells) spans)) 0 ≡ get_or cells (x - first_base w) 0
+byte_found : (w : ℕ) (cells : List ℕ) (x : ℕ) (spans : List Span) → All (IsSpan w (length cells)) spans → holds (map span_range spans) x 1 ≡ true → option_map_or (byte_of x) (find (has_byte x) (map (object_of w cells) spans)) 0 ≡ get_or cells (x - first_base w) 0
+unfolding holds
 byte_found w cells x [] inside some = absurd (true≢false (sym some))
 byte_found w cells x (s ∷ spans) inside some =
-    chosen (span_covers x 1 s) (object_of w cells s) (find (object_covers x 1) (map (object_of w cells) spans))
+    chosen (covers x 1 (span_range s)) (object_of w cells s) (find (has_byte x) (map (object_of w cells) spans))
     (λ is. byte_of-object_of w cells x s (All-head (IsSpan w (length cells)) s spans inside) is)
     (λ is. byte_found w cells x spans (All-tail (IsSpan w (length cells)) s spans inside) (rw is at some))
   where
@@ -118,7 +124,7 @@ byte_found w cells x (s ∷ spans) inside some =
     chosen true o there first rest = first refl
     chosen false o there first rest = rest refl
 
-pub byte_at-memory_of : (w : ℕ) (spans : List Span) (cells : List ℕ) (limit most x : ℕ) → All (IsSpan w (length cells)) spans → holds (memory_of w spans cells limit most) x 1 ≡ true → byte_at (memory_of w spans cells limit most) x ≡ get_or cells (x - first_base w) 0
+pub byte_at-memory_of : (w : ℕ) (spans : List Span) (cells : List ℕ) (limit most x : ℕ) → All (IsSpan w (length cells)) spans → holds (ranges (memory_of w spans cells limit most)) x 1 ≡ true → byte_at (memory_of w spans cells limit most) x ≡ get_or cells (x - first_base w) 0
 unfolding byte_at object_at
 byte_at-memory_of w spans cells limit most x inside held =
     byte_found w cells x spans inside (sym (holds-memory_of w spans cells limit most x 1) ∙ held)
@@ -128,10 +134,10 @@ byte_at-memory_of w spans cells limit most x inside held =
 next_base-memory_of : (w : ℕ) (spans : List Span) (cells : List ℕ) (limit most : ℕ) → length cells ≡ sum_by (λ s. padded s.size) spans → next_base w (memory_of w spans cells limit most) ≡ first_base w + length cells
 next_base-memory_of w spans cells limit most whole = ap (λ n. first_base w + n) (used-memory_of w spans cells limit most ∙ sym whole)
 
-holds-found : (w : ℕ) (spans : List Span) (cells : List ℕ) (limit most a k place : ℕ) (s : Span) → slice_get spans place ≡ Some s → span_covers a k s ≡ true → holds (memory_of w spans cells limit most) a k ≡ true
+holds-found : (w : ℕ) (spans : List Span) (cells : List ℕ) (limit most a k place : ℕ) (s : Span) → slice_get spans place ≡ Some s → covers a k (span_range s) ≡ true → holds (ranges (memory_of w spans cells limit most)) a k ≡ true
 holds-found w spans cells limit most a k place s at covered =
     holds-memory_of w spans cells limit most a k
-    ∙ list_any_at (span_covers a k) spans place s (slice_get_within spans place s at) (rw (get_or_from_slice_get spans place s s at) covered)
+    ∙ holds-at (map span_range spans) a k place (span_range s) (slice_get-map span_range spans place ∙ ap (option_map span_range) at) covered
 
 pub IsFound-memory_of : (w : ℕ) (spans : List Span) (cells : List ℕ) (limit most room space a k place : ℕ) (s : Span) → IsLayout w spans cells limit most room space → IsSpanOf spans a k place s → IsFound w (memory_of w spans cells limit most) a k place s
 IsFound-memory_of w spans cells limit most room space a k place s layout is =
@@ -153,7 +159,7 @@ IsMemory-memory_of w spans cells limit most room space layout = record {
   apart = λ i j d less within.
       let count : length (map (object_of w cells) spans) ≡ length spans = length-map spans (object_of w cells) in
       rw (get_or-map (object_of w cells) spans i origin d (omega arith), get_or-map (object_of w cells) spans j origin d (omega arith)) (layout.apart i j origin less (omega arith));
-  bytes = λ x. byte x (holds memory x 1) refl;
+  bytes = λ x. byte x (holds (ranges memory) x 1) refl;
   no_wrap = limit-no_wrap w limit layout.width layout.bounded;
   bytes_kept = rw (used-memory_of w spans cells limit most, ← layout.whole) layout.within;
   objects_kept = rw (length-map spans (object_of w cells)) layout.few;
@@ -170,28 +176,28 @@ IsMemory-memory_of w spans cells limit most room space layout = record {
       whole = length-take-le s.size (drop (s.base - first_base w) cells) (rw (length-drop (s.base - first_base w) cells) (omega (arith, inside.above, inside.below)));
     }
 
-    byte : (x : ℕ) (held : Bool) → holds (memory_of w spans cells limit most) x 1 ≡ held → byte_at (memory_of w spans cells limit most) x < 256
+    byte : (x : ℕ) (held : Bool) → holds (ranges (memory_of w spans cells limit most)) x 1 ≡ held → byte_at (memory_of w spans cells limit most) x < 256
     byte x true is = rw (byte_at-memory_of w spans cells limit most x layout.inside is) (layout.bytes (x - first_base w))
     byte x false is = rw (byte_at-none (memory_of w spans cells limit most) x is) (omega arith)
 
--- ---- what is loaded
+-- ---- what is held_number
 
 -- cells in their place spell what the bytes at their addresses spell
-pub loaded-memory_of : (w : ℕ) (spans : List Span) (cells : List ℕ) (limit most a k place : ℕ) → All (IsSpan w (length cells)) spans → holds (memory_of w spans cells limit most) a k ≡ true → first_base w + place ≡ a → loaded (memory_of w spans cells limit most) a k ≡ Some (read (slice_index cells) place k)
-loaded-memory_of w spans cells limit most a k place inside held is =
-    loaded-held memory a k held ∙ ap Some (read-moved (byte_at memory) (slice_index cells) a place k each)
+pub held_number-memory_of : (w : ℕ) (spans : List Span) (cells : List ℕ) (limit most a k place : ℕ) → All (IsSpan w (length cells)) spans → holds (ranges (memory_of w spans cells limit most)) a k ≡ true → first_base w + place ≡ a → held_number (memory_of w spans cells limit most) a k ≡ Some (little_endian (slice_index cells) place k)
+held_number-memory_of w spans cells limit most a k place inside held is =
+    held_number-held memory a k held ∙ ap Some (little_endian-moved (byte_at memory) (slice_index cells) a place k each)
   where
     memory : Memory
     memory = memory_of w spans cells limit most
 
     each : (i : ℕ) → i < k → byte_at (memory_of w spans cells limit most) (a + i) ≡ slice_index cells (place + i)
     each i below =
-        byte_at-memory_of w spans cells limit most (a + i) inside (holds-within (memory_of w spans cells limit most) a k (a + i) 1 held (omega arith) (omega arith))
+        byte_at-memory_of w spans cells limit most (a + i) inside (holds-within (ranges (memory_of w spans cells limit most)) a k (a + i) 1 held (omega arith) (omega arith))
         ∙ ap (slice_index cells) (omega arith)
 
--- ---- what is stored
+-- ---- what is memory_after
 
-object_of-written : (w : ℕ) (cells written : List ℕ) (b : ℕ → ℕ) (s : Span) → length written ≡ length cells → IsSpan w (length cells) s → ((x : ℕ) → span_covers x 1 s ≡ true → b x ≡ slice_index written (x - first_base w)) → object_of w written s ≡ object_with b (object_of w cells s)
+object_of-written : (w : ℕ) (cells written : List ℕ) (b : ℕ → ℕ) (s : Span) → length written ≡ length cells → IsSpan w (length cells) s → ((x : ℕ) → covers x 1 (span_range s) ≡ true → b x ≡ slice_index written (x - first_base w)) → object_of w written s ≡ object_with b (object_of w cells s)
 object_of-written w cells written b s same inside bytes =
     ap (λ bs. record { base = s.base; size = s.size; bytes = bs })
     (ext_get_or 0 (take s.size (drop from written)) (window b s.base s.size) (count ∙ sym (length-window b s.base s.size)) each)
@@ -202,7 +208,7 @@ object_of-written w cells written b s same inside bytes =
     count : length (take s.size (drop (s.base - first_base w) written)) ≡ s.size
     count = length-take-le s.size (drop (s.base - first_base w) written) (rw (length-drop (s.base - first_base w) written, same) (omega (arith, inside.above, inside.below)))
 
-    covered : (i : ℕ) → i < s.size → span_covers (s.base + i) 1 s ≡ true
+    covered : (i : ℕ) → i < s.size → covers (s.base + i) 1 (span_range s) ≡ true
     covered i below = grind arith
 
     each : (i : ℕ) → i < length (take s.size (drop (s.base - first_base w) written)) → get_or (take s.size (drop (s.base - first_base w) written)) i 0 ≡ get_or (window b s.base s.size) i 0
@@ -216,45 +222,47 @@ object_of-written w cells written b s same inside bytes =
         ∙ (sym (bytes (s.base + i) (covered i below))
         ∙ sym (get_or-window b s.base s.size i 0 below))))
 
-objects-written : (w : ℕ) (cells written : List ℕ) (b : ℕ → ℕ) (spans : List Span) → length written ≡ length cells → All (IsSpan w (length cells)) spans → ((x : ℕ) → list_any (span_covers x 1) spans ≡ true → b x ≡ slice_index written (x - first_base w)) → map (object_of w written) spans ≡ map (object_with b) (map (object_of w cells) spans)
+objects-written : (w : ℕ) (cells written : List ℕ) (b : ℕ → ℕ) (spans : List Span) → length written ≡ length cells → All (IsSpan w (length cells)) spans → ((x : ℕ) → holds (map span_range spans) x 1 ≡ true → b x ≡ slice_index written (x - first_base w)) → map (object_of w written) spans ≡ map (object_with b) (map (object_of w cells) spans)
+unfolding holds
 objects-written w cells written b [] same inside bytes = refl
 objects-written w cells written b (s ∷ spans) same inside bytes =
     ap₂ (λ o os. o ∷ os)
     (object_of-written w cells written b s same (All-head (IsSpan w (length cells)) s spans inside) (λ x here. bytes x (or_left _ _ here)))
     (objects-written w cells written b spans same (All-tail (IsSpan w (length cells)) s spans inside) (λ x there. bytes x (or_right _ _ there)))
 
-covered_above : (w count x : ℕ) (spans : List Span) → All (IsSpan w count) spans → list_any (span_covers x 1) spans ≡ true → first_base w ≤ x
+covered_above : (w count x : ℕ) (spans : List Span) → All (IsSpan w count) spans → holds (map span_range spans) x 1 ≡ true → first_base w ≤ x
+unfolding holds
 covered_above w count x [] inside some = absurd (true≢false (sym some))
 covered_above w count x (s ∷ spans) inside some =
     ⊎_elim
     (λ here. span_above s (All-head (IsSpan w count) s spans inside) here)
     (λ there. covered_above w count x spans (All-tail (IsSpan w count) s spans inside) there)
-    (or_cases (span_covers x 1 s) (list_any (span_covers x 1) spans) some)
+    (or_cases (covers x 1 (span_range s)) (holds (map span_range spans) x 1) some)
   where
-    span_above : (t : Span) → IsSpan w count t → span_covers x 1 t ≡ true → first_base w ≤ x
+    span_above : (t : Span) → IsSpan w count t → covers x 1 (span_range t) ≡ true → first_base w ≤ x
     span_above t within here = let above : first_base w ≤ t.base = within.above in let from : t.base ≤ x = grind arith in omega arith
 
-pub stored-memory_of : (w : ℕ) (spans : List Span) (cells written : List ℕ) (limit most a k v place : ℕ) → All (IsSpan w (length cells)) spans → holds (memory_of w spans cells limit most) a k ≡ true → first_base w + place ≡ a → length written ≡ length cells → ((i : ℕ) → slice_index written i ≡ put (slice_index cells) place k v i) → memory_of w spans written limit most ≡ stored (memory_of w spans cells limit most) a k v
-stored-memory_of w spans cells written limit most a k v place inside held is same bytes =
+pub memory_after-memory_of : (w : ℕ) (spans : List Span) (cells written : List ℕ) (limit most a k v place : ℕ) → All (IsSpan w (length cells)) spans → holds (ranges (memory_of w spans cells limit most)) a k ≡ true → first_base w + place ≡ a → length written ≡ length cells → ((i : ℕ) → slice_index written i ≡ put (slice_index cells) place k v i) → memory_of w spans written limit most ≡ memory_after (memory_of w spans cells limit most) a k v
+memory_after-memory_of w spans cells written limit most a k v place inside held is same bytes =
     ap (λ objects. record { objects = objects; byte_limit = limit; object_limit = most }) (objects-written w cells written (put (byte_at memory) a k v) spans same inside each)
-    ∙ sym (stored-held memory a k v held)
+    ∙ sym (memory_after-held memory a k v held)
   where
     memory : Memory
     memory = memory_of w spans cells limit most
 
-    moved : (y : ℕ) → list_any (span_covers (first_base w + y) 1) spans ≡ true → put (byte_at (memory_of w spans cells limit most)) (first_base w + place) k v (first_base w + y) ≡ slice_index written y
+    moved : (y : ℕ) → holds (map span_range spans) (first_base w + y) 1 ≡ true → put (byte_at (memory_of w spans cells limit most)) (first_base w + place) k v (first_base w + y) ≡ slice_index written y
     moved y some =
         put-moved (byte_at (memory_of w spans cells limit most)) (slice_index cells) (first_base w) place k v y
         (byte_at-memory_of w spans cells limit most (first_base w + y) inside (holds-memory_of w spans cells limit most (first_base w + y) 1 ∙ some) ∙ ap (slice_index cells) (omega arith))
         ∙ sym (bytes y)
 
-    each : (x : ℕ) → list_any (span_covers x 1) spans ≡ true → put (byte_at (memory_of w spans cells limit most)) a k v x ≡ slice_index written (x - first_base w)
+    each : (x : ℕ) → holds (map span_range spans) x 1 ≡ true → put (byte_at (memory_of w spans cells limit most)) a k v x ≡ slice_index written (x - first_base w)
     each x some =
         let above : first_base w ≤ x = covered_above w (length cells) x spans inside some in
         let from : first_base w + (x - first_base w) ≡ x = omega arith in
         subst (λ z. put (byte_at (memory_of w spans cells limit most)) a k v z ≡ slice_index written (x - first_base w)) from
         (subst (λ b. put (byte_at (memory_of w spans cells limit most)) b k v (first_base w + (x - first_base w)) ≡ slice_index written (x - first_base w)) is
-        (moved (x - first_base w) (subst (λ z. list_any (span_covers z 1) spans ≡ true) (sym from) some)))
+        (moved (x - first_base w) (subst (λ z. holds (map span_range spans) z 1 ≡ true) (sym from) some)))
 
 -- cells that are written change no span
 pub IsLayout-written : (w : ℕ) (spans : List Span) (cells written : List ℕ) (limit most room space : ℕ) → IsLayout w spans cells limit most room space → length written ≡ length cells → ((i : ℕ) → slice_index written i < 256) → IsLayout w spans written limit most room space
@@ -294,7 +302,7 @@ rest_from-memory_of w spans cells limit most x i s memory found =
     let at = found.object.1 in
     let base : o.base ≡ s.base = found.object.2 in
     let size : o.size ≡ s.size = found.object.3 in
-    let covered : object_covers x 1 o ≡ true = rw (base, size) found.covered in
+    let covered : has_byte x o ≡ true = rw (base, size) found.covered in
     let from : s.base ≤ x = grind arith in
     let to : x ≤ s.base + s.size = grind arith in
     rest_from-found (memory_of w spans cells limit most) x o (object_at-found (memory_of w spans cells limit most) x i o memory.apart at covered)

@@ -1,13 +1,14 @@
 -- How a memory of objects lies in one list of cells: the byte at an address is the cell at the address less the first base.
 -- This is how the crate keeps a memory (docs/DECISIONS.md, on the modelled host's memory). No caller sees it.
-use Rattle.std.specs.Prelude.{◌≡◌, ℕ, ◌+◌, ◌-◌, ◌^◌, ◌<◌, ◌≤◌, Bool, List, length, map, take, drop, sum_by, All, AllPairs, slice_get, slice_index, Some, true}
+use Rattle.std.specs.Prelude.{◌≡◌, ℕ, ◌+◌, ◌-◌, ◌^◌, ◌<◌, ◌≤◌, List, length, map, take, drop, sum_by, All, AllPairs, slice_get, slice_index, Some, true}
 use Rattle.ebc_width.specs.Width.{IsWidth}
-use Rattle.object_memory.specs.Memory.{Object, Memory, covers, holds, padded, first_base, next_base, top_limit}
+use Rattle.ebc_width.specs.Ranges.{Range, covers, holds}
+use Rattle.object_memory.specs.Memory.{Object, Memory, ranges, padded, first_base, next_base, top_limit}
 use Rattle.object_memory.specs.declared.span.Span.{Span}
 
--- whether a span has among its bytes the k bytes from a on
-abbrev pub span_covers : ℕ → ℕ → Span → Bool
-span_covers a k s = covers s.base s.size a k
+-- where a span lies
+abbrev pub span_range : Span → Range
+span_range s = record { base = s.base; size = s.size }
 
 -- One span lies below another, with a gap of at least 16 bytes.
 abbrev pub EndsBelow : Span → Span → Type 0
@@ -44,13 +45,13 @@ pub record IsLayout (w : ℕ) (spans : List Span) (cells : List ℕ) (limit most
 -- The span at this place of the list has among its bytes the k bytes from a on.
 pub record IsSpanOf (spans : List Span) (a k place : ℕ) (s : Span) : Type 0 where
   pub at : slice_get spans place ≡ Some s
-  pub covered : covers s.base s.size a k ≡ true
+  pub covered : covers a k (span_range s) ≡ true
 
 -- The object with this number lies at this span, which has among its bytes the k bytes from a on.
 pub record IsFound (w : ℕ) (m : Memory) (a k number : ℕ) (s : Span) : Type 0 where
   pub object : (o : Object) × (slice_get m.objects number ≡ Some o) × (o.base ≡ s.base) × (o.size ≡ s.size)
-  pub covered : covers s.base s.size a k ≡ true
-  pub held : holds m a k ≡ true
+  pub covered : covers a k (span_range s) ≡ true
+  pub held : holds (ranges m) a k ≡ true
   pub above : first_base w ≤ s.base
   pub below : s.base + padded s.size ≤ next_base w m
   pub small : number < 2 ^ 32

@@ -1,10 +1,11 @@
 -- The memory of objects: where each object lies, which bytes it holds, and what loads, stores and new objects do.
 -- The bases, the padding and the gaps are this project's own: docs/DECISIONS.md, on the modelled host's memory.
-use Rattle.std.specs.Prelude.{◌≡◌, ◌⊎◌, ℕ, ◌+◌, ◌-◌, ◌*◌, ◌/◌, ◌^◌, ◌<◌, ◌≤◌, Bool, ◌&&◌, List, [], ◌∷◌, ◌++◌, length, map, drop, replicate, Option, Some, None, nat_eq, nat_le, if◌then◌else◌, slice_get, slice_index, sum_by, All, AllPairs}
-use Rattle.std.specs.List.{list_any, find}
+use Rattle.std.specs.Prelude.{◌≡◌, ◌⊎◌, ℕ, ◌+◌, ◌-◌, ◌*◌, ◌/◌, ◌^◌, ◌<◌, ◌≤◌, Bool, List, [], ◌∷◌, ◌++◌, length, map, drop, replicate, Option, Some, None, nat_eq, if◌then◌else◌, slice_get, slice_index, sum_by, All, AllPairs}
+use Rattle.std.specs.List.{find}
 use Rattle.std.specs.Option.{option_map, option_map_or}
 use Rattle.ebc_width.specs.Width.{IsWidth}
-use Rattle.object_memory.specs.Bytes.{read, put, window}
+use Rattle.ebc_width.specs.Bytes.{little_endian, put, window}
+use Rattle.ebc_width.specs.Ranges.{Range, covers, holds}
 use Rattle.object_memory.specs.declared.ObjId.{ObjId}
 
 -- An object: where it begins, how many bytes it has, and these bytes.
@@ -22,21 +23,21 @@ pub record Memory : Type 0 where
 
 -- ---- what a memory holds
 
--- whether `size` bytes from `base` on have among them the k bytes from a on
-abbrev pub covers : ℕ → ℕ → ℕ → ℕ → Bool
-covers base size a k = nat_le base a && nat_le (a + k) (base + size)
+-- where an object lies
+abbrev pub range_of : Object → Range
+range_of o = record { base = o.base; size = o.size }
 
--- whether an object does
-abbrev pub object_covers : ℕ → ℕ → Object → Bool
-object_covers a k o = covers o.base o.size a k
+-- where the objects of a memory lie, in the order in which they were placed
+abbrev pub ranges : Memory → List Range
+ranges m = map range_of m.objects
 
--- whether one object holds the k bytes from address a on
-unfoldable pub holds : Memory → ℕ → ℕ → Bool
-holds m a k = list_any (object_covers a k) m.objects
+-- whether an object holds the byte at an address
+abbrev pub has_byte : ℕ → Object → Bool
+has_byte x o = covers x 1 (range_of o)
 
 -- the object that holds the byte at an address
 unfoldable pub object_at : Memory → ℕ → Option Object
-object_at m x = find (object_covers x 1) m.objects
+object_at m x = find (has_byte x) m.objects
 
 -- a byte of an object, by its address
 abbrev pub byte_of : ℕ → Object → ℕ
@@ -47,8 +48,8 @@ unfoldable pub byte_at : Memory → ℕ → ℕ
 byte_at m x = option_map_or (byte_of x) (object_at m x) 0
 
 -- the number in the k bytes from address a on, where one object holds them
-unfoldable pub loaded : Memory → ℕ → ℕ → Option ℕ
-loaded m a k = if holds m a k then Some (read (byte_at m) a k) else None
+unfoldable pub held_number : Memory → ℕ → ℕ → Option ℕ
+held_number m a k = if holds (ranges m) a k then Some (little_endian (byte_at m) a k) else None
 
 -- the bytes from an address to the end of the object that holds it
 unfoldable pub rest_from : Memory → ℕ → Option (List ℕ)
@@ -69,9 +70,9 @@ object_with b o = record o { bytes = window b o.base o.size }
 abbrev pub with_bytes : Memory → (ℕ → ℕ) → Memory
 with_bytes m b = record m { objects = map (object_with b) m.objects }
 
--- the memory after the low k bytes of v are stored at address a: the same memory where no one object holds them
-unfoldable pub stored : Memory → ℕ → ℕ → ℕ → Memory
-stored m a k v = if holds m a k then with_bytes m (put (byte_at m) a k v) else m
+-- the memory after the low k bytes of v are memory_after at address a: the same memory where no one object holds them
+unfoldable pub memory_after : Memory → ℕ → ℕ → ℕ → Memory
+memory_after m a k v = if holds (ranges m) a k then with_bytes m (put (byte_at m) a k v) else m
 
 -- what an object of n bytes takes: n rounded up to 16, and a gap of 16
 abbrev pub padded : ℕ → ℕ

@@ -5,7 +5,7 @@
 ghost use Rattle.std.specs.Prelude.{◌≡◌, ℕ, ◌+◌, ◌*◌, ◌^◌, ◌<◌, ◌≤◌, ◌↔◌, [], length, true, false, Err, IfOk, OnOk, OnErr, IfSome, IfNone, Some, None};
 ghost use Rattle.std.specs.Bool.{OnTrue, OnFalse};
 ghost use Rattle.ebc_width.specs.Width.{IsWidth};
-ghost use Rattle.object_memory.specs.Bytes.{IsAccess, put};
+ghost use Rattle.ebc_width.specs.Bytes.{IsAccess, put};
 ghost use Rattle.object_memory.specs.Memory.{first_base, padded, top_limit};
 
 mod number;
@@ -13,20 +13,10 @@ mod span;
 
 use number::{read_number, write_number};
 use span::{Span, find_span};
-use std::alloc::{AllocError, Global};
+use std::alloc::Global;
 use std::marker::Model;
 
-/// Want of memory.
-#[derive(Clone, Copy, PartialEq, Eq, Debug)]
-pub struct NoMemory;
-
-impl From<AllocError> for NoMemory {
-    ghost from_gives = { λ _ e. e ≡ record {} };
-
-    fn from(_: AllocError) -> Self {
-        NoMemory
-    }
-}
+pub use ebc_base::NoMemory;
 
 /// Why an object is not placed.
 #[derive(Clone, Copy, PartialEq, Eq, Debug)]
@@ -78,7 +68,8 @@ fn padded_size(size: u64) -> u64
 
 impl<const W: usize> ObjMem<W> {
     ghost use Rattle.object_memory.specs.Layout.{IsFound};
-    ghost use Rattle.object_memory.specs.Memory.{IsMemory, holds, byte_at, loaded, stored, rest_from, IsOwner, used, next_base, IsFull, placed};
+    ghost use Rattle.ebc_width.specs.Ranges.{holds};
+    ghost use Rattle.object_memory.specs.Memory.{IsMemory, ranges, byte_at, held_number, memory_after, rest_from, IsOwner, used, next_base, IsFull, placed};
 
     /// An empty memory for `limit` bytes, with the padding and gaps of objects, and for as many
     /// objects. All memory that it will use is reserved here.
@@ -144,7 +135,7 @@ impl<const W: usize> ObjMem<W> {
     // The span of the object that holds the `count` bytes from an address on, and its number.
     fn find(&self, addr: u64, count: u64) -> Option<(usize, Span)>
         ensures found { IfSome result (λ r. IsFound W self.now addr count r.0 r.1) }
-        ensures none { IfNone result (holds self.now addr count ≡ false) }
+        ensures none { IfNone result (holds (ranges self.now) addr count ≡ false) }
         ensures memory { IsMemory W self.now }
     {
         find_span(&self.spans, addr, count)
@@ -152,7 +143,7 @@ impl<const W: usize> ObjMem<W> {
 
     /// Whether one object holds the `count` bytes from an address on.
     pub fn holds(&self, addr: u64, count: usize) -> bool
-        ensures answer { result ≡ holds self.now addr count }
+        ensures answer { result ≡ holds (ranges self.now) addr count }
         ensures memory { IsMemory W self.now }
     {
         self.find(addr, count as u64).is_some()
@@ -162,7 +153,7 @@ impl<const W: usize> ObjMem<W> {
     /// no one object holds them. `count` is 1, 2, 4 or 8.
     pub fn load(&self, addr: u64, count: usize) -> Option<u64>
         requires { IsAccess count }
-        ensures number { result ≡ loaded self.now addr count }
+        ensures number { result ≡ held_number self.now addr count }
         ensures memory { IsMemory W self.now }
     {
         let _ = self.find(addr, count as u64)?;
@@ -175,8 +166,8 @@ impl<const W: usize> ObjMem<W> {
     /// changes. `count` is 1, 2, 4 or 8.
     pub fn store(&mut self, addr: u64, count: usize, value: u64) -> bool
         requires { IsAccess count }
-        ensures done { result ≡ holds self.old addr count }
-        ensures after { self.new ≡ stored self.old addr count value }
+        ensures done { result ≡ holds (ranges self.old) addr count }
+        ensures after { self.new ≡ memory_after self.old addr count value }
         ensures bytes { OnTrue result ((x : ℕ) → byte_at self.new x ≡ put (byte_at self.old) addr count value x) }
         ensures same { OnFalse result (self.new ≡ self.old) }
         ensures memory { IsMemory W self.new }
@@ -192,7 +183,7 @@ impl<const W: usize> ObjMem<W> {
     /// The object that holds a byte, and the byte's offset in it: none exactly where no object does.
     pub fn owner(&self, addr: u64) -> Option<(ObjId, u64)>
         ensures found { IfSome result (λ r. IsOwner self.now addr r.0 r.1) }
-        ensures none { IfNone result (holds self.now addr 1 ≡ false) }
+        ensures none { IfNone result (holds (ranges self.now) addr 1 ≡ false) }
         ensures memory { IsMemory W self.now }
     {
         let (number, span) = self.find(addr, 1)?;

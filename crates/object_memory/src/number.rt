@@ -1,13 +1,13 @@
 //! Numbers of a few bytes in a list of cells, the lowest byte first.
 
 ghost use Rattle.std.specs.Prelude.{◌≡◌, ℕ, ◌+◌, ◌≤◌, length, slice_index};
-ghost use Rattle.object_memory.specs.Bytes.{read, put, IsAccess};
+ghost use Rattle.ebc_width.specs.Bytes.{little_endian, put, IsAccess};
 
 /// The number in the `count` cells from a place on.
 pub(crate) fn read_number(cells: &[u8], place: usize, count: usize) -> u64
     requires count { IsAccess count }
     requires within { place + count ≤ length cells.now }
-    ensures { result ≡ read (slice_index cells.now) place count }
+    ensures { result ≡ little_endian (slice_index cells.now) place count }
 {
     let mut bytes = [0; 8];
     bytes[..count].copy_from_slice(&cells[place..place + count]);

@@ -1,9 +1,9 @@
-use Rattle.std.proofs.Common.{◌≡◌, List, ap, subst, sym, ◌∙◌}
-use Rattle.std.specs.List.{list_any}
+use Rattle.std.proofs.Common.{◌≡◌, List, map, ap, subst, sym, ◌∙◌}
 use Rattle.std.proofs.lemmas.Option.{IfSome_then}
 use Rattle.object_memory.specs.declared.span.Span.{Span}
-use Rattle.object_memory.specs.Memory.{Memory, holds, IsMemory}
-use Rattle.object_memory.specs.Layout.{span_covers, IsSpanOf, IsFound}
+use Rattle.ebc_width.specs.Ranges.{holds}
+use Rattle.object_memory.specs.Memory.{Memory, ranges, IsMemory}
+use Rattle.object_memory.specs.Layout.{span_range, IsSpanOf, IsFound}
 use Rattle.object_memory.proofs.Views.{IsFound-memory_of, IsMemory-memory_of, holds-memory_of}
 use Rattle.object_memory.proofs.ObjMem.find.Goals as goal
 
@@ -19,10 +19,10 @@ returns-clause-found g c =
 
 pub returns-clause-none : goal.returns-clause-none
 returns-clause-none g c =
-    let same : holds c.args.self.now c.args.addr c.args.count ≡ list_any (span_covers c.args.addr c.args.count) c.deref.result.now =
-    ap (λ m. holds m c.args.addr c.args.count) (sym c.self.view_is)
+    let same : holds (ranges c.args.self.now) c.args.addr c.args.count ≡ holds (map span_range c.deref.result.now) c.args.addr c.args.count =
+    ap (λ m. holds (ranges m) c.args.addr c.args.count) (sym c.self.view_is)
     ∙ holds-memory_of g.row.W c.self.inside.spans.items c.self.inside.cells.items c.self.inside.byte_limit c.self.inside.object_limit c.args.addr c.args.count
-    ∙ ap (list_any (span_covers c.args.addr c.args.count)) (sym c.deref.ensures.value) in
+    ∙ ap (λ spans. holds (map span_range spans) c.args.addr c.args.count) (sym c.deref.ensures.value) in
     rw same c.find_span.ensures.none
 
 pub returns-clause-memory : goal.returns-clause-memory

@@ -3,14 +3,16 @@ use Rattle.std.specs.Prelude.{slice_index}
 use Rattle.std.specs.Vec.{with_items}
 use Rattle.std.proofs.lemmas.List.{with_items_is}
 use Rattle.object_memory.specs.declared.span.Span.{Span}
-use Rattle.object_memory.specs.Memory.{first_base, holds, byte_at, stored}
+use Rattle.ebc_width.specs.Ranges.{holds}
+use Rattle.object_memory.specs.Memory.{first_base, ranges, byte_at, memory_after}
 use Rattle.object_memory.specs.Layout.{memory_of}
-use Rattle.object_memory.proofs.Laws.{put-below, stored-absent, byte_at-stored}
-use Rattle.object_memory.proofs.Views.{stored-memory_of, IsLayout-written, IsMemory-memory_of}
+use Rattle.ebc_width.proofs.ByteLaws.{put-below}
+use Rattle.object_memory.proofs.Laws.{memory_after-absent, byte_at-memory_after}
+use Rattle.object_memory.proofs.Views.{memory_after-memory_of, IsLayout-written, IsMemory-memory_of}
 use Rattle.object_memory.proofs.ObjMem.store.Goals as goal
 
 pub returns-in_default-clause-after : goal.returns-in_default-clause-after
-returns-in_default-clause-after g c = sym (stored-absent c.args.self.now c.args.addr c.args.count c.args.value c.in_default.ensures.none)
+returns-in_default-clause-after g c = sym (memory_after-absent c.args.self.now c.args.addr c.args.count c.args.value c.in_default.ensures.none)
 
 pub invariant_of-self : goal.invariant_of-self
 invariant_of-self g c =
@@ -32,14 +34,14 @@ returns-clause-after g c =
     let old : length cells ≡ c.self.inside.cells.len = search rules in
     let is : (with_items c.self.inside.cells c.write_number.new.cells).items ≡ c.write_number.new.cells = with_items_is c.self.inside.cells c.write_number.new.cells (same ∙ old) in
     let from : first_base g.row.W + place ≡ c.args.addr = grind arith in
-    let held : holds (memory_of g.row.W spans cells c.self.inside.byte_limit c.self.inside.object_limit) c.args.addr c.args.count ≡ true = ap (λ m. holds m c.args.addr c.args.count) c.self.view_is ∙ found.held in
-    stored-memory_of g.row.W spans cells (with_items c.self.inside.cells c.write_number.new.cells).items c.self.inside.byte_limit c.self.inside.object_limit c.args.addr c.args.count c.args.value place c.self.invariant.inside held from
+    let held : holds (ranges (memory_of g.row.W spans cells c.self.inside.byte_limit c.self.inside.object_limit)) c.args.addr c.args.count ≡ true = ap (λ m. holds (ranges m) c.args.addr c.args.count) c.self.view_is ∙ found.held in
+    memory_after-memory_of g.row.W spans cells (with_items c.self.inside.cells c.write_number.new.cells).items c.self.inside.byte_limit c.self.inside.object_limit c.args.addr c.args.count c.args.value place c.self.invariant.inside held from
     (ap length is ∙ same)
     (λ i. rw (is, c.write_number.ensures i, c.deref_mut.ensures.value) refl)
-    ∙ ap (λ m. stored m c.args.addr c.args.count c.args.value) c.self.view_is
+    ∙ ap (λ m. memory_after m c.args.addr c.args.count c.args.value) c.self.view_is
 
 pub returns-clause-memory : goal.returns-clause-memory
 returns-clause-memory g c = IsMemory-memory_of g.row.W c.self.inside.spans.items (with_items c.self.inside.cells c.write_number.new.cells).items c.self.inside.byte_limit c.self.inside.object_limit _ _ (invariant_of-self g c)
 
 pub returns-clause-bytes : goal.returns-clause-bytes
-returns-clause-bytes g c = λ x. ap (λ m. byte_at m x) (returns-clause-after g c) ∙ byte_at-stored c.args.self.now c.args.addr c.args.count c.args.value x c.in-Some.ensures.found.held
+returns-clause-bytes g c = λ x. ap (λ m. byte_at m x) (returns-clause-after g c) ∙ byte_at-memory_after c.args.self.now c.args.addr c.args.count c.args.value x c.in-Some.ensures.found.held

@@ -1,5 +1,5 @@
 use Rattle.std.proofs.Common.{◌+◌, ◌-◌, take, ap, ◌∙◌, arith}
-use Rattle.object_memory.proofs.Numbers.{write_number}
+use Rattle.ebc_width.proofs.Numbers.{write_number}
 use Rattle.object_memory.proofs.number.write_number.Goals as goal
 
 pub returns : goal.returns

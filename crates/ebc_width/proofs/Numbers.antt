@@ -1,11 +1,11 @@
--- Numbers read from eight cells and written to them, and what `read` and `put` say of the same cells.
+-- Numbers read from eight cells and written to them, and what `little_endian` and `put` say of the same cells.
 use Rattle.std.proofs.Common.{◌≡◌, ℕ, zero, suc, ◌+◌, ◌-◌, ◌/◌, ◌%◌, ◌^◌, ◌<◌, ◌≤◌, inl, inr, ⊎_elim, List, ◌++◌, length, take, drop, replicate, get_or, refl, sym, ap, ◌∙◌, arith, length-drop}
 use Rattle.std.specs.Prelude.{slice_index}
 use Rattle.std.specs.Int.{w64, byte_at, bytes_low_first, from_le_bytes, to_le_bytes}
 use Rattle.std.proofs.lemmas.Bool.{cases_lt}
 use Rattle.std.proofs.lemmas.List.{get_or-take, get_or-drop, get_or_append_left, get_or-append_right, get_or-replicate, length-take-le}
-use Rattle.object_memory.specs.Bytes.{read, put}
-use Rattle.object_memory.proofs.Laws.{put-within, put-apart, read-moved, read-zeros}
+use Rattle.ebc_width.specs.Bytes.{little_endian, put}
+use Rattle.ebc_width.proofs.ByteLaws.{put-within, put-apart, little_endian-moved, little_endian-zeros}
 use borrow.Rule.Slice.PartMut.{put_mid}
 
 -- ---- the cells after a part is written
@@ -31,9 +31,9 @@ put_mid-above xs ys a k i within whole above =
 
 -- ---- a number in eight bytes
 
-from_le_bytes-read : (bytes : List ℕ) → from_le_bytes w64 bytes ≡ read (slice_index bytes) 0 8
-unfolding read
-from_le_bytes-read bytes = omega arith
+from_le_bytes-little_endian : (bytes : List ℕ) → from_le_bytes w64 bytes ≡ little_endian (slice_index bytes) 0 8
+unfolding little_endian
+from_le_bytes-little_endian bytes = omega arith
 
 byte_at-quotient : (i v : ℕ) → byte_at i v ≡ v / 256 ^ i % 256
 byte_at-quotient zero v = omega arith
@@ -48,15 +48,15 @@ get_or-to_le_bytes : (v i : ℕ) → i < 8 → get_or (to_le_bytes w64 v) i 0 �
 get_or-to_le_bytes v i below = get_or-bytes 0 8 v i below ∙ ap (λ j. v / 256 ^ j % 256) (omega arith)
 
 -- k cells copied to the front of eight zeros spell the number that they spell in their place
-pub read_number : (cells word : List ℕ) (place k : ℕ) → k ≤ 8 → place + k ≤ length cells → word ≡ put_mid 0 k (replicate 8 0) (take (place + k - place) (drop place cells)) → from_le_bytes w64 word ≡ read (slice_index cells) place k
+pub read_number : (cells word : List ℕ) (place k : ℕ) → k ≤ 8 → place + k ≤ length cells → word ≡ put_mid 0 k (replicate 8 0) (take (place + k - place) (drop place cells)) → from_le_bytes w64 word ≡ little_endian (slice_index cells) place k
 read_number cells word place k few within is =
     let part : List ℕ = take (place + k - place) (drop place cells) in
     let room : k ≤ length (drop place cells) = rw (length-drop place cells) (omega arith) in
     let count : place + k - place ≡ k = omega arith in
     let whole : length part ≡ k = rw count (length-take-le k (drop place cells) room) in
-    from_le_bytes-read word
-    ∙ read-zeros (slice_index word) 0 8 k few (λ i from to. rw is (put_mid-above (replicate 8 0) part 0 k (0 + i) (omega arith) whole (omega arith) ∙ get_or-replicate 8 (0 + i) 0 0 (omega arith)))
-    ∙ read-moved (slice_index word) (slice_index cells) 0 place k (λ i below.
+    from_le_bytes-little_endian word
+    ∙ little_endian-zeros (slice_index word) 0 8 k few (λ i from to. rw is (put_mid-above (replicate 8 0) part 0 k (0 + i) (omega arith) whole (omega arith) ∙ get_or-replicate 8 (0 + i) 0 0 (omega arith)))
+    ∙ little_endian-moved (slice_index word) (slice_index cells) 0 place k (λ i below.
     rw is (put_mid-within (replicate 8 0) part 0 k (0 + i) (omega arith) (omega arith) (omega arith)
     ∙ get_or-take (place + k - place) (drop place cells) (0 + i - 0) 0 (omega arith)
     ∙ get_or-drop place cells (0 + i - 0) 0

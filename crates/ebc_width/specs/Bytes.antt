@@ -3,9 +3,9 @@
 use Rattle.std.specs.Prelude.{◌≡◌, ◌⊎◌, ℕ, zero, suc, ◌+◌, ◌-◌, ◌*◌, ◌/◌, ◌%◌, ◌^◌, ◌&&◌, List, [], ◌∷◌, nat_le, nat_lt, if◌then◌else◌}
 
 -- the number that the k bytes from address a on spell
-unfoldable pub read : (ℕ → ℕ) → ℕ → ℕ → ℕ
-read b a zero = 0
-read b a (suc k) = b a + 256 * read b (a + 1) k
+unfoldable pub little_endian : (ℕ → ℕ) → ℕ → ℕ → ℕ
+little_endian b a zero = 0
+little_endian b a (suc k) = b a + 256 * little_endian b (a + 1) k
 
 -- the bytes once the low k bytes of v are put at address a
 unfoldable pub put : (ℕ → ℕ) → ℕ → ℕ → ℕ → ℕ → ℕ

@@ -1,0 +1,18 @@
+-- Ranges of addresses, as the objects of a memory take them. No range passes from one object into another: the host gives
+-- each allocation as a range of its own. UEFI specification, chapter "Services - Boot Services", section "Memory Allocation
+-- Services"; in words in docs/MACHINE.md, "The state".
+use Rattle.std.specs.Prelude.{ℕ, ◌+◌, Bool, ◌&&◌, List, nat_le}
+use Rattle.std.specs.List.{list_any}
+
+-- A range: its first address, and how many bytes it has.
+pub record Range : Type 0 where
+  pub base : ℕ
+  pub size : ℕ
+
+-- whether a range has among its bytes the k bytes from address a on
+abbrev pub covers : ℕ → ℕ → Range → Bool
+covers a k r = nat_le r.base a && nat_le (a + k) (r.base + r.size)
+
+-- whether one of these ranges holds the k bytes from address a on
+unfoldable pub holds : List Range → ℕ → ℕ → Bool
+holds ranges a k = list_any (covers a k) ranges
