@@ -3,7 +3,11 @@ pub mod BelowTests
 pub mod Cells
 pub mod Concrete
 pub mod FieldSets
+pub mod Known
+pub mod Limits
 pub mod Notes
+pub mod Passing
+pub mod Records
 pub mod Shapes
 pub mod States
 pub mod Types

@@ -10,27 +10,26 @@ mod entry;
 mod exception;
 mod fault;
 mod items;
-mod name;
+mod limits;
 mod notes;
 mod rule;
-mod sequence;
 mod shape;
 mod state;
 mod types;
 
-pub use below::{fits_below, ty_below};
+pub use below::{divides, fits_below, ty_below};
 pub use cell::{Cell, SlotKind, cell_size, content_type};
+pub use ebc_base::{Name, NoMemory, Sequence};
 pub use entry::entry_state;
 pub use exception::Exception;
-pub use fault::{NoMemory, NotesEnd, TomlFault};
+pub use fault::{NotesEnd, TomlFault};
 pub use items::{Item, Items};
-pub use name::Name;
+pub use limits::{code_limit, point_limit};
 pub use notes::{
     FnNote, Functions, Names, Notes, Pair, Param, Params, Point, Points, Signature, Signatures,
     Site, Sites, Static, Statics, Thunk, Thunks, Want, WantParam, WantParams,
 };
 pub use rule::RuleName;
-pub use sequence::Sequence;
 pub use shape::{Field, Fields, Shape, ShapeFault, Shapes, shape_ok};
 pub use state::{Fact, State};
 pub use types::Ty;
