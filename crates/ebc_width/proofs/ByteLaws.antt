@@ -1,11 +1,11 @@
 -- Laws of bytes by their addresses, for the crates above.
-use Rattle.std.proofs.Common.{◌≡◌, ℕ, zero, suc, ◌+◌, ◌-◌, ◌*◌, ◌/◌, ◌%◌, ◌^◌, ◌<◌, ◌≤◌, ◌⊎◌, inl, inr, ⊎_elim, if◌then◌else◌, ◌&&◌, ◌∷◌, length, get_or, refl, sym, ap, ap₂, subst, ◌∙◌, arith}
-use Rattle.std.specs.Prelude.{nat_le, nat_lt}
+use Rattle.std.proofs.Common.{◌≡◌, ℕ, zero, suc, ◌+◌, ◌-◌, ◌*◌, ◌/◌, ◌%◌, ◌^◌, ◌<◌, ◌≤◌, ◌⊎◌, inl, inr, ⊎_elim, if◌then◌else◌, ◌&&◌, List, ◌∷◌, length, get_or, refl, sym, ap, ap₂, subst, ◌∙◌, arith}
+use Rattle.std.specs.Prelude.{nat_le, nat_lt, slice_index}
 use Rattle.std.proofs.Math.Nat.{pow-suc, div-div-eq-div-mul, one-le-pow}
 use Rattle.std.proofs.Math.Arith.{mod-mul}
 use Rattle.std.proofs.lemmas.Bool.{cases_lt, cond_both}
 use Rattle.std.proofs.lemmas.Bool.Decides.{nat_tests}
-use Rattle.ebc_width.specs.Bytes.{little_endian, put, window}
+use Rattle.ebc_width.specs.Bytes.{little_endian, put, overlaid, window}
 
 -- ---- a byte after a store
 
@@ -36,6 +36,36 @@ put-moved b c d a k v x same =
 pub put-below : (b : ℕ → ℕ) (a k v x : ℕ) → b x < 256 → put b a k v x < 256
 unfolding put
 put-below b a k v x below = cond_both (nat_le a x && nat_lt x (a + k)) _ _ (λ y. y < 256) (λ e. omega arith) (λ e. below)
+
+-- ---- a byte once a list of bytes lies over the others
+
+pub overlaid-within : (b : ℕ → ℕ) (a : ℕ) (over : List ℕ) (x : ℕ) → a ≤ x → x < a + length over → overlaid b a over x ≡ slice_index over (x - a)
+unfolding overlaid
+overlaid-within b a over x from to = grind (arith, nat_tests)
+
+pub overlaid-apart : (b : ℕ → ℕ) (a : ℕ) (over : List ℕ) (x : ℕ) → (x < a) ⊎ (a + length over ≤ x) → overlaid b a over x ≡ b x
+unfolding overlaid
+overlaid-apart b a over x apart = grind (arith, nat_tests)
+
+-- what lies over the byte at x depends on no byte but that at x
+pub overlaid-agree : (b c : ℕ → ℕ) (a : ℕ) (over : List ℕ) (x : ℕ) → b x ≡ c x → overlaid b a over x ≡ overlaid c a over x
+unfolding overlaid
+overlaid-agree b c a over x same = ap (λ y. if nat_le a x && nat_lt x (a + length over) then slice_index over (x - a) else y) same
+
+-- the same a number of bytes further up
+pub overlaid-moved : (b c : ℕ → ℕ) (d a : ℕ) (over : List ℕ) (x : ℕ) → b (d + x) ≡ c x → overlaid b (d + a) over (d + x) ≡ overlaid c a over x
+overlaid-moved b c d a over x same =
+    ⊎_elim
+    (λ below. overlaid-apart b (d + a) over (d + x) (inl (omega arith)) ∙ (same ∙ sym (overlaid-apart c a over x (inl below))))
+    (λ from. ⊎_elim
+    (λ to. overlaid-within b (d + a) over (d + x) (omega arith) (omega arith) ∙ (ap (slice_index over) (omega arith) ∙ sym (overlaid-within c a over x from to)))
+    (λ above. overlaid-apart b (d + a) over (d + x) (inr (omega arith)) ∙ (same ∙ sym (overlaid-apart c a over x (inr above))))
+    (cases_lt x (a + length over)))
+    (cases_lt x a)
+
+pub overlaid-below : (b : ℕ → ℕ) (a : ℕ) (over : List ℕ) (x : ℕ) → ((i : ℕ) → slice_index over i < 256) → b x < 256 → overlaid b a over x < 256
+unfolding overlaid
+overlaid-below b a over x each below = cond_both (nat_le a x && nat_lt x (a + length over)) _ _ (λ y. y < 256) (λ e. each (x - a)) (λ e. below)
 
 -- ---- what bytes spell
 

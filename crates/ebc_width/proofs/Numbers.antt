@@ -4,8 +4,8 @@ use Rattle.std.specs.Prelude.{slice_index}
 use Rattle.std.specs.Int.{w64, byte_at, bytes_low_first, from_le_bytes, to_le_bytes}
 use Rattle.std.proofs.lemmas.Bool.{cases_lt}
 use Rattle.std.proofs.lemmas.List.{get_or-take, get_or-drop, get_or_append_left, get_or-append_right, get_or-replicate, length-take-le}
-use Rattle.ebc_width.specs.Bytes.{little_endian, put}
-use Rattle.ebc_width.proofs.ByteLaws.{put-within, put-apart, little_endian-moved, little_endian-zeros}
+use Rattle.ebc_width.specs.Bytes.{little_endian, put, overlaid}
+use Rattle.ebc_width.proofs.ByteLaws.{put-within, put-apart, overlaid-within, overlaid-apart, little_endian-moved, little_endian-zeros}
 use borrow.Rule.Slice.PartMut.{put_mid}
 
 -- ---- the cells after a part is written
@@ -62,16 +62,27 @@ read_number cells word place k few within is =
     ∙ get_or-drop place cells (0 + i - 0) 0
     ∙ ap (λ j. get_or cells j 0) (omega arith)))
 
--- cells over which the low bytes of a number are copied
-pub write_number : (cells part : List ℕ) (place count k v i : ℕ) → k ≤ 8 → place + k ≤ length cells → count ≡ k → part ≡ take k (to_le_bytes w64 v) → get_or (put_mid place count cells part) i 0 ≡ put (slice_index cells) place k v i
-write_number cells part place count k v i few within same is =
+-- cells over which others are copied
+pub write_bytes : (cells part : List ℕ) (place count i : ℕ) → place + length part ≤ length cells → count ≡ length part → get_or (put_mid place count cells part) i 0 ≡ overlaid (slice_index cells) place part i
+write_bytes cells part place count i within same =
+    ⊎_elim
+    (λ below. put_mid-below cells part place count i (omega arith) below ∙ sym (overlaid-apart (slice_index cells) place part i (inl below)))
+    (λ from. ⊎_elim
+    (λ to. put_mid-within cells part place count i (omega arith) from to ∙ sym (overlaid-within (slice_index cells) place part i from to))
+    (λ above. put_mid-above cells part place count i (omega arith) (sym same) (omega arith) ∙ sym (overlaid-apart (slice_index cells) place part i (inr above)))
+    (cases_lt i (place + length part)))
+    (cases_lt i place)
+
+-- the low bytes of a number, laid over others
+pub overlaid-put : (b : ℕ → ℕ) (a k v : ℕ) (part : List ℕ) (x : ℕ) → k ≤ 8 → part ≡ take k (to_le_bytes w64 v) → overlaid b a part x ≡ put b a k v x
+overlaid-put b a k v part x few is =
     let whole : length part ≡ k = rw is (length-take-le k (to_le_bytes w64 v) few) in
     ⊎_elim
-    (λ below. put_mid-below cells part place count i (omega arith) below ∙ sym (put-apart (slice_index cells) place k v i (inl below)))
+    (λ below. overlaid-apart b a part x (inl below) ∙ sym (put-apart b a k v x (inl below)))
     (λ from. ⊎_elim
-    (λ to. put_mid-within cells part place count i (omega arith) from (omega arith)
-    ∙ (ap (λ xs. get_or xs (i - place) 0) is ∙ get_or-take k (to_le_bytes w64 v) (i - place) 0 (omega arith) ∙ get_or-to_le_bytes v (i - place) (omega arith))
-    ∙ sym (put-within (slice_index cells) place k v i from to))
-    (λ above. put_mid-above cells part place count i (omega arith) (omega arith) (omega arith) ∙ sym (put-apart (slice_index cells) place k v i (inr above)))
-    (cases_lt i (place + k)))
-    (cases_lt i place)
+    (λ to. overlaid-within b a part x from (omega arith)
+    ∙ (ap (λ xs. get_or xs (x - a) 0) is ∙ get_or-take k (to_le_bytes w64 v) (x - a) 0 (omega arith) ∙ get_or-to_le_bytes v (x - a) (omega arith))
+    ∙ sym (put-within b a k v x from to))
+    (λ above. overlaid-apart b a part x (inr (omega arith)) ∙ sym (put-apart b a k v x (inr above)))
+    (cases_lt x (a + k)))
+    (cases_lt x a)

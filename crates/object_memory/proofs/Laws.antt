@@ -1,27 +1,24 @@
 -- Laws of memories, for the crates above.
 use Rattle.std.proofs.Common.{◌≡◌, ℕ, zero, suc, ◌+◌, ◌-◌, ◌*◌, ◌/◌, ◌%◌, ◌^◌, ◌<◌, ◌≤◌, ◌⊎◌, inl, inr, ⊎_elim, Bool, true, false, cond, if◌then◌else◌, ◌&&◌, ◌||◌, List, [], ◌∷◌, length, map, drop, replicate, get_or, refl, sym, ap, ap₂, subst, subst₂, ◌∙◌, arith, Option, Some, None}
-use Rattle.std.specs.Prelude.{nat_le, nat_lt, slice_get, All, AllPairs}
-use Rattle.std.proofs.lemmas.Option.{same_Some, slice_get_within, get_or_from_slice_get}
+use Rattle.std.specs.Prelude.{slice_get, slice_index, All, AllPairs}
+use Rattle.std.proofs.lemmas.Option.{same_Some, slice_get_within, slice_get-get_or, get_or_from_slice_get}
 use Rattle.std.specs.List.{list_any, find}
 use Rattle.std.specs.Option.{option_map_or, option_or}
 use Rattle.std.proofs.lemmas.List.Sums.{sum_by_push}
-use Rattle.std.proofs.lemmas.List.Folds.{list_any-append, find-append}
+use Rattle.std.proofs.lemmas.List.Folds.{list_any-append, find-append, map_fixed}
 use Rattle.std.proofs.lemmas.List.Elements.{All-head, All-tail, All-map, All-push, All-weaker}
 use Rattle.std.proofs.lemmas.List.Quantifiers.{all_pairs_push}
 use Rattle.std.proofs.lemmas.List.{get_or-map, get_or-drop, length-map, length-drop, length-replicate, length_push, map_push, ext_get_or}
-use Rattle.std.proofs.Math.Nat.{pow-suc, div-div-eq-div-mul, one-le-pow}
-use Rattle.std.proofs.Math.Arith.{mod-mul}
-use Rattle.std.proofs.lemmas.Bool.{cases_lt, or_cases, or_left, or_right, cond_both, true≢false}
-use Rattle.std.proofs.lemmas.Bool.Decides.{nat_tests}
+use Rattle.std.proofs.lemmas.Bool.{cases_lt, or_cases, or_left, or_right, true≢false}
 use Rattle.ebc_width.specs.Width.{IsWidth}
 use Rattle.ebc_width.proofs.Laws.{by_width}
-use Rattle.ebc_width.proofs.ByteLaws.{put-apart, put-below, little_endian-agree, little_endian-apart, little_endian-same, little_endian-below, length-window, get_or-window}
-use Rattle.ebc_width.proofs.RangeLaws.{covers-bounds, holds-within}
+use Rattle.ebc_width.proofs.ByteLaws.{put-apart, put-agree, put-below, overlaid-apart, overlaid-agree, overlaid-below, window-agree, little_endian-agree, little_endian-apart, little_endian-same, little_endian-below, length-window, get_or-window}
+use Rattle.ebc_width.proofs.RangeLaws.{covers-inside, holds-within}
 use Rattle.object_memory.specs.declared.ObjId.{ObjId}
 use Rattle.object_memory.proofs.Lists.{sum_by-map, get_or-zeros, find_none}
-use Rattle.ebc_width.specs.Bytes.{little_endian, put, window}
+use Rattle.ebc_width.specs.Bytes.{little_endian, put, overlaid, window}
 use Rattle.ebc_width.specs.Ranges.{covers, holds}
-use Rattle.object_memory.specs.Memory.{Object, Memory, range_of, ranges, has_byte, object_at, byte_of, byte_at, held_number, rest_from, object_with, with_bytes, memory_after, padded, used, first_base, next_base, placed, top_limit, IsPlaced, LiesBelow, IsMemory, IsOwner}
+use Rattle.object_memory.specs.Memory.{Object, Memory, range_of, ranges, has_byte, object_at, byte_of, byte_at, held_number, rest_from, object_with, with_bytes, memory_after, memory_filled, padded, used, first_base, next_base, placed, top_limit, IsPlaced, LiesBelow, IsMemory, IsOwner}
 
 -- ---- what a memory holds
 
@@ -68,6 +65,14 @@ pub memory_after-absent : (m : Memory) (a k v : ℕ) → holds (ranges m) a k �
 unfolding memory_after
 memory_after-absent m a k v absent = rw absent refl
 
+pub memory_filled-held : (m : Memory) (a : ℕ) (over : List ℕ) → holds (ranges m) a (length over) ≡ true → memory_filled m a over ≡ with_bytes m (overlaid (byte_at m) a over)
+unfolding memory_filled
+memory_filled-held m a over held = rw held refl
+
+pub memory_filled-absent : (m : Memory) (a : ℕ) (over : List ℕ) → holds (ranges m) a (length over) ≡ false → memory_filled m a over ≡ m
+unfolding memory_filled
+memory_filled-absent m a over absent = rw absent refl
+
 pub rest_from-found : (m : Memory) (x : ℕ) (o : Object) → object_at m x ≡ Some o → rest_from m x ≡ Some (drop (x - o.base) o.bytes)
 unfolding rest_from
 rest_from-found m x o found = rw found refl
@@ -93,15 +98,29 @@ ranges-memory_after m a k v = either (holds (ranges m) a k)
     either true = ranges-with_bytes m (put (byte_at m) a k v)
     either false = refl
 
+pub ranges-memory_filled : (m : Memory) (a : ℕ) (over : List ℕ) → ranges (memory_filled m a over) ≡ ranges m
+unfolding memory_filled
+ranges-memory_filled m a over = either (holds (ranges m) a (length over))
+  where
+    either : (held : Bool) → ranges (if held then with_bytes m (overlaid (byte_at m) a over) else m) ≡ ranges m
+    either true = ranges-with_bytes m (overlaid (byte_at m) a over)
+    either false = refl
+
+pub holds-with_bytes : (m : Memory) (f : ℕ → ℕ) (a k : ℕ) → holds (ranges (with_bytes m f)) a k ≡ holds (ranges m) a k
+holds-with_bytes m f a k = ap (λ rs. holds rs a k) (ranges-with_bytes m f)
+
 pub holds-memory_after : (m : Memory) (a k v b n : ℕ) → holds (ranges (memory_after m a k v)) b n ≡ holds (ranges m) b n
 holds-memory_after m a k v b n = ap (λ rs. holds rs b n) (ranges-memory_after m a k v)
+
+used-with_bytes : (m : Memory) (f : ℕ → ℕ) → used (with_bytes m f) ≡ used m
+used-with_bytes m f = sum_by-map (λ (o : Object). padded o.size) (object_with f) m.objects
 
 pub used-memory_after : (m : Memory) (a k v : ℕ) → used (memory_after m a k v) ≡ used m
 unfolding memory_after
 used-memory_after m a k v = either (holds (ranges m) a k)
   where
     either : (held : Bool) → used (if held then with_bytes m (put (byte_at m) a k v) else m) ≡ used m
-    either true = sum_by-map (λ (o : Object). padded o.size) (object_with (put (byte_at m) a k v)) m.objects
+    either true = used-with_bytes m (put (byte_at m) a k v)
     either false = refl
 
 -- ---- and changes exactly its bytes
@@ -125,24 +144,33 @@ pub byte_at-with_bytes : (m : Memory) (f : ℕ → ℕ) (x : ℕ) → holds (ran
 unfolding byte_at object_at holds
 byte_at-with_bytes m f x held = byte_with f x m.objects held
 
-pub byte_at-memory_after : (m : Memory) (a k v x : ℕ) → holds (ranges m) a k ≡ true → byte_at (memory_after m a k v) x ≡ put (byte_at m) a k v x
-byte_at-memory_after m a k v x held = either (holds (ranges m) x 1) refl
+-- bytes that differ from the memory's only where one object holds them are the bytes of all addresses
+byte_at-changed : (m : Memory) (f : ℕ → ℕ) (a n x : ℕ) → holds (ranges m) a n ≡ true → ((x < a) ⊎ (a + n ≤ x) → f x ≡ byte_at m x) → byte_at (with_bytes m f) x ≡ f x
+byte_at-changed m f a n x held apart = either (holds (ranges m) x 1) refl
   where
-    outside : holds (ranges m) x 1 ≡ false → (x < a) ⊎ (a + k ≤ x)
+    outside : holds (ranges m) x 1 ≡ false → (x < a) ⊎ (a + n ≤ x)
     outside none =
         ⊎_elim
         (λ below. inl below)
         (λ from. ⊎_elim
-        (λ to. absurd (true≢false (sym (holds-within (ranges m) a k x 1 held from (omega arith)) ∙ none)))
+        (λ to. absurd (true≢false (sym (holds-within (ranges m) a n x 1 held from (omega arith)) ∙ none)))
         (λ above. inr above)
-        (cases_lt x (a + k)))
+        (cases_lt x (a + n)))
         (cases_lt x a)
 
-    either : (here : Bool) → holds (ranges m) x 1 ≡ here → byte_at (memory_after m a k v) x ≡ put (byte_at m) a k v x
-    either true is = ap (λ n. byte_at n x) (memory_after-held m a k v held) ∙ byte_at-with_bytes m (put (byte_at m) a k v) x is
-    either false is = byte_at-none (memory_after m a k v) x (holds-memory_after m a k v x 1 ∙ is) ∙ (sym (byte_at-none m x is) ∙ sym (put-apart (byte_at m) a k v x (outside is)))
+    either : (here : Bool) → holds (ranges m) x 1 ≡ here → byte_at (with_bytes m f) x ≡ f x
+    either true is = byte_at-with_bytes m f x is
+    either false is = byte_at-none (with_bytes m f) x (holds-with_bytes m f x 1 ∙ is) ∙ (sym (byte_at-none m x is) ∙ sym (apart (outside is)))
 
--- what is memory_after is held_number, and what lies apart is held_number as before
+pub byte_at-memory_after : (m : Memory) (a k v x : ℕ) → holds (ranges m) a k ≡ true → byte_at (memory_after m a k v) x ≡ put (byte_at m) a k v x
+byte_at-memory_after m a k v x held =
+    ap (λ n. byte_at n x) (memory_after-held m a k v held) ∙ byte_at-changed m (put (byte_at m) a k v) a k x held (put-apart (byte_at m) a k v x)
+
+pub byte_at-memory_filled : (m : Memory) (a : ℕ) (over : List ℕ) (x : ℕ) → holds (ranges m) a (length over) ≡ true → byte_at (memory_filled m a over) x ≡ overlaid (byte_at m) a over x
+byte_at-memory_filled m a over x held =
+    ap (λ n. byte_at n x) (memory_filled-held m a over held) ∙ byte_at-changed m (overlaid (byte_at m) a over) a (length over) x held (overlaid-apart (byte_at m) a over x)
+
+-- what is stored is loaded, and what lies apart is loaded as before
 pub held_number-memory_after_same : (m : Memory) (a k v : ℕ) → holds (ranges m) a k ≡ true → held_number (memory_after m a k v) a k ≡ Some (v % 256 ^ k)
 held_number-memory_after_same m a k v held =
     held_number-held (memory_after m a k v) a k (holds-memory_after m a k v a k ∙ held)
@@ -228,6 +256,14 @@ holds-bounds w m a k memory held = each m.objects memory.placed held
         (λ there. each os (All-tail (IsPlaced w m) o os all) there)
         (or_cases (covers a k (range_of o)) (list_any (covers a k) (map range_of os)) some)
 
+-- no object has a byte from the next base on
+pub byte_at-above : (w : ℕ) (m : Memory) (x : ℕ) → IsMemory w m → next_base w m ≤ x → byte_at m x ≡ 0
+byte_at-above w m x memory above = byte_at-none m x (either (holds (ranges m) x 1) refl)
+  where
+    either : (held : Bool) → holds (ranges m) x 1 ≡ held → holds (ranges m) x 1 ≡ false
+    either true is = absurd (omega (arith, above, (holds-bounds w m x 1 memory is).1))
+    either false is = is
+
 -- no address that is held wraps
 pub holds-no_wrap : (w : ℕ) (m : Memory) (a k : ℕ) → IsMemory w m → holds (ranges m) a k ≡ true → a + k ≤ 2 ^ (8 * w)
 holds-no_wrap w m a k memory held = omega (arith, (holds-bounds w m a k memory held).1, memory.bytes_kept, memory.no_wrap)
@@ -245,36 +281,49 @@ held_number-below w m a k v memory is = either (holds (ranges m) a k) is
 abbrev nowhere : Object
 nowhere = record { base = 0; size = 0; bytes = [] }
 
-pub IsMemory-memory_after : (w : ℕ) (m : Memory) (a k v : ℕ) → IsMemory w m → IsMemory w (memory_after m a k v)
-IsMemory-memory_after w m a k v memory = either (holds (ranges m) a k) refl
+pub IsMemory-with_bytes : (w : ℕ) (m : Memory) (f : ℕ → ℕ) → IsMemory w m → ((x : ℕ) → f x < 256) → IsMemory w (with_bytes m f)
+IsMemory-with_bytes w m f memory below = record {
+  width = memory.width;
+  placed = All-map (IsPlaced w (with_bytes m f)) (object_with f) m.objects (λ i d within.
+      let o : Object = get_or m.objects i d in
+      let old : IsPlaced w m o = memory.placed i d within in
+      record {
+        above = old.above;
+        below = omega (arith, old.below, taken);
+        some = old.some;
+        whole = length-window f o.base o.size;
+      });
+  apart = λ i j d less within.
+      let count : length (map (object_with f) m.objects) ≡ length m.objects = length-map m.objects (object_with f) in
+      rw (get_or-map (object_with f) m.objects i nowhere d (omega arith), get_or-map (object_with f) m.objects j nowhere d (omega arith)) (memory.apart i j nowhere less (omega arith));
+  no_wrap = memory.no_wrap;
+  bytes = λ x. byte x (holds (ranges m) x 1) refl;
+  bytes_kept = omega (arith, taken, memory.bytes_kept);
+  objects_kept = rw (length-map m.objects (object_with f)) memory.objects_kept;
+}
   where
-    f : ℕ → ℕ
-    f = put (byte_at m) a k v
+    taken : used (with_bytes m f) ≡ used m
+    taken = used-with_bytes m f
 
-    either : (held : Bool) → holds (ranges m) a k ≡ held → IsMemory w (memory_after m a k v)
-    either false is = subst (λ (n : Memory). IsMemory w n) (sym (memory_after-absent m a k v is)) memory
-    either true is =
-        let same : memory_after m a k v ≡ with_bytes m f = memory_after-held m a k v is in
-        let taken : used (with_bytes m f) ≡ used m = ap used (sym same) ∙ used-memory_after m a k v in
-        subst (λ (n : Memory). IsMemory w n) (sym same) (record {
-          width = memory.width;
-          placed = All-map (IsPlaced w (with_bytes m f)) (object_with f) m.objects (λ i d within.
-              let o : Object = get_or m.objects i d in
-              let old : IsPlaced w m o = memory.placed i d within in
-              record {
-                above = old.above;
-                below = omega (arith, old.below, taken);
-                some = old.some;
-                whole = length-window f o.base o.size;
-              });
-          apart = λ i j d less within.
-              let count : length (map (object_with f) m.objects) ≡ length m.objects = length-map m.objects (object_with f) in
-              rw (get_or-map (object_with f) m.objects i nowhere d (omega arith), get_or-map (object_with f) m.objects j nowhere d (omega arith)) (memory.apart i j nowhere less (omega arith));
-          no_wrap = memory.no_wrap;
-          bytes = λ x. subst (λ (n : Memory). byte_at n x < 256) same (rw (byte_at-memory_after m a k v x is) (put-below (byte_at m) a k v x (memory.bytes x)));
-          bytes_kept = omega (arith, taken, memory.bytes_kept);
-          objects_kept = rw (length-map m.objects (object_with f)) memory.objects_kept;
-        })
+    byte : (x : ℕ) (held : Bool) → holds (ranges m) x 1 ≡ held → byte_at (with_bytes m f) x < 256
+    byte x true is = rw (byte_at-with_bytes m f x is) (below x)
+    byte x false is = rw (byte_at-none (with_bytes m f) x (holds-with_bytes m f x 1 ∙ is)) (omega arith)
+
+pub IsMemory-memory_after : (w : ℕ) (m : Memory) (a k v : ℕ) → IsMemory w m → IsMemory w (memory_after m a k v)
+unfolding memory_after
+IsMemory-memory_after w m a k v memory = either (holds (ranges m) a k)
+  where
+    either : (held : Bool) → IsMemory w (if held then with_bytes m (put (byte_at m) a k v) else m)
+    either true = IsMemory-with_bytes w m (put (byte_at m) a k v) memory (λ x. put-below (byte_at m) a k v x (memory.bytes x))
+    either false = memory
+
+pub IsMemory-memory_filled : (w : ℕ) (m : Memory) (a : ℕ) (over : List ℕ) → IsMemory w m → ((i : ℕ) → slice_index over i < 256) → IsMemory w (memory_filled m a over)
+unfolding memory_filled
+IsMemory-memory_filled w m a over memory each = either (holds (ranges m) a (length over))
+  where
+    either : (held : Bool) → IsMemory w (if held then with_bytes m (overlaid (byte_at m) a over) else m)
+    either true = IsMemory-with_bytes w m (overlaid (byte_at m) a over) memory (λ x. overlaid-below (byte_at m) a over x each (memory.bytes x))
+    either false = memory
 
 pub IsMemory-placed : (w : ℕ) (m : Memory) (n : ℕ) → IsMemory w m → 1 ≤ n → used m + padded n ≤ m.byte_limit → length m.objects < m.object_limit → IsMemory w (placed w m n)
 unfolding placed
@@ -378,3 +427,65 @@ IsOwner-same w m x i j id other memory is also = (ap₂ (λ n b. record { number
         (λ ge. omega arith)
         (cases_lt other.number id.number))
         (cases_lt id.number other.number)
+
+-- ---- one change of bytes after another
+
+pub with_bytes-twice : (m : Memory) (f g : ℕ → ℕ) → with_bytes (with_bytes m f) g ≡ with_bytes m g
+with_bytes-twice m f g = ap (λ os. record m { objects = os }) (each m.objects)
+  where
+    each : (os : List Object) → map (object_with g) (map (object_with f) os) ≡ map (object_with g) os
+    each [] = refl
+    each (o ∷ os) = ap (λ ps. object_with g o ∷ ps) (each os)
+
+-- only the bytes of objects count
+pub with_bytes-agree : (m : Memory) (f g : ℕ → ℕ) → ((x : ℕ) → holds (ranges m) x 1 ≡ true → f x ≡ g x) → with_bytes m f ≡ with_bytes m g
+unfolding holds
+with_bytes-agree m f g same = ap (λ os. record m { objects = os }) (each m.objects same)
+  where
+    each : (os : List Object) → ((x : ℕ) → list_any (covers x 1) (map range_of os) ≡ true → f x ≡ g x) → map (object_with f) os ≡ map (object_with g) os
+    each [] same = refl
+    each (o ∷ os) same =
+        ap₂ (λ p ps. p ∷ ps)
+        (ap (λ bytes. record o { bytes = bytes }) (window-agree f g o.base o.size (λ x from to. same x (or_left _ _ (covers-inside (range_of o) x 1 from (omega arith))))))
+        (each os (λ x there. same x (or_right _ _ there)))
+
+-- a memory has the bytes that it has
+pub with_bytes-same : (w : ℕ) (m : Memory) → IsMemory w m → with_bytes m (byte_at m) ≡ m
+with_bytes-same w m memory = ap (λ os. record m { objects = os }) (map_fixed (object_with (byte_at m)) m.objects each)
+  where
+    its : (o p : Object) (i : ℕ) → slice_get m.objects i ≡ Some o → IsPlaced w m o → object_with (byte_at m) o ≡ o
+    its o p i at placed =
+        let some : 1 ≤ o.size = placed.some in
+        let here : has_byte o.base o ≡ true = covers-inside (range_of o) o.base 1 (omega arith) (omega arith) in
+        let found : object_at m o.base ≡ Some o = object_at-found m o.base i o memory.apart at here in
+        let count : o.base + o.size - o.base ≡ o.size = omega arith in
+        let none : o.base - o.base ≡ 0 = omega arith in
+        let bytes : drop (o.base - o.base) o.bytes ≡ window (byte_at m) o.base (o.base + o.size - o.base) = same_Some _ _ (sym (rest_from-found m o.base o found) ∙ rest_from-window w m o.base o memory found) in
+        let whole : o.bytes ≡ window (byte_at m) o.base o.size = rw none at (rw count at bytes) in
+        ap (λ bytes. record o { bytes = bytes }) (sym whole)
+
+    each : All (λ o. object_with (byte_at m) o ≡ o) m.objects
+    each i d within = its (get_or m.objects i d) d i (slice_get-get_or m.objects i d within) (memory.placed i d within)
+
+-- a store, a fill and a load where the bytes are known
+changed-with_bytes : (m old : Memory) (f : ℕ → ℕ) (change : (ℕ → ℕ) → ℕ → ℕ) → old ≡ with_bytes m f → ((x : ℕ) → byte_at old x ≡ f x → change (byte_at old) x ≡ change f x) → with_bytes old (change (byte_at old)) ≡ with_bytes m (change f)
+changed-with_bytes m old f change is agree =
+    ap (λ n. with_bytes n (change (byte_at old))) is
+    ∙ (with_bytes-twice m f (change (byte_at old))
+    ∙ with_bytes-agree m (change (byte_at old)) (change f) (λ x there. agree x (ap (λ n. byte_at n x) is ∙ byte_at-with_bytes m f x there)))
+
+pub memory_after-with_bytes : (m old : Memory) (f : ℕ → ℕ) (a k v : ℕ) → old ≡ with_bytes m f → holds (ranges old) a k ≡ true → memory_after old a k v ≡ with_bytes m (put f a k v)
+memory_after-with_bytes m old f a k v is held =
+    memory_after-held old a k v held ∙ changed-with_bytes m old f (λ b. put b a k v) is (put-agree (byte_at old) f a k v)
+
+pub memory_filled-with_bytes : (m old : Memory) (f : ℕ → ℕ) (a : ℕ) (over : List ℕ) → old ≡ with_bytes m f → holds (ranges old) a (length over) ≡ true → memory_filled old a over ≡ with_bytes m (overlaid f a over)
+memory_filled-with_bytes m old f a over is held =
+    memory_filled-held old a over held ∙ changed-with_bytes m old f (λ b. overlaid b a over) is (overlaid-agree (byte_at old) f a over)
+
+pub held_number-with_bytes : (m old : Memory) (f : ℕ → ℕ) (a k : ℕ) → old ≡ with_bytes m f → holds (ranges old) a k ≡ true → held_number old a k ≡ Some (little_endian f a k)
+held_number-with_bytes m old f a k is held =
+    held_number-held old a k held
+    ∙ ap Some (little_endian-agree (byte_at old) f a k (λ x from to.
+    let there : holds (ranges old) x 1 ≡ true = holds-within (ranges old) a k x 1 held from (omega arith) in
+    let first : holds (ranges m) x 1 ≡ true = sym (holds-with_bytes m f x 1) ∙ (ap (λ n. holds (ranges n) x 1) (sym is) ∙ there) in
+    ap (λ n. byte_at n x) is ∙ byte_at-with_bytes m f x first))

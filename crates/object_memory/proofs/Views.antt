@@ -10,16 +10,16 @@ use Rattle.std.proofs.lemmas.List.Elements.{All-head, All-tail, All-push, All-we
 use Rattle.std.proofs.lemmas.List.Folds.{list_any_at}
 use Rattle.std.proofs.lemmas.List.Quantifiers.{all_pairs_push}
 use Rattle.std.proofs.lemmas.List.Sums.{sum_by_push}
-use Rattle.ebc_width.specs.Bytes.{little_endian, put, window}
-use Rattle.object_memory.specs.Memory.{Object, Memory, ranges, has_byte, object_at, byte_of, byte_at, held_number, memory_after, rest_from, object_with, padded, used, first_base, next_base, placed, IsPlaced, IsMemory}
+use Rattle.ebc_width.specs.Bytes.{little_endian, put, overlaid, window}
+use Rattle.object_memory.specs.Memory.{Object, Memory, ranges, has_byte, object_at, byte_of, byte_at, held_number, memory_after, memory_filled, rest_from, object_with, with_bytes, padded, used, first_base, next_base, placed, IsPlaced, IsMemory}
 use Rattle.ebc_width.specs.Ranges.{covers, holds}
 use Rattle.object_memory.specs.declared.span.Span.{Span}
 use Rattle.object_memory.specs.Layout.{span_range, EndsBelow, IsSpan, IsSpanOf, object_of, memory_of, IsLayout, IsFound}
 use Rattle.object_memory.proofs.Lists.{sum_by-map, get_or-zeros}
 use Rattle.object_memory.proofs.Search.{origin}
-use Rattle.ebc_width.proofs.ByteLaws.{little_endian-moved, put-moved, length-window, get_or-window}
+use Rattle.ebc_width.proofs.ByteLaws.{little_endian-moved, put-moved, overlaid-moved, length-window, get_or-window}
 use Rattle.ebc_width.proofs.RangeLaws.{holds-at, holds-within}
-use Rattle.object_memory.proofs.Laws.{object_at-found, byte_at-none, held_number-held, memory_after-held, rest_from-found, limit-no_wrap}
+use Rattle.object_memory.proofs.Laws.{object_at-found, byte_at-none, held_number-held, memory_after-held, memory_filled-held, rest_from-found, limit-no_wrap}
 
 -- ---- a new span
 
@@ -131,7 +131,7 @@ byte_at-memory_of w spans cells limit most x inside held =
 
 -- ---- what is found
 
-next_base-memory_of : (w : ℕ) (spans : List Span) (cells : List ℕ) (limit most : ℕ) → length cells ≡ sum_by (λ s. padded s.size) spans → next_base w (memory_of w spans cells limit most) ≡ first_base w + length cells
+pub next_base-memory_of : (w : ℕ) (spans : List Span) (cells : List ℕ) (limit most : ℕ) → length cells ≡ sum_by (λ s. padded s.size) spans → next_base w (memory_of w spans cells limit most) ≡ first_base w + length cells
 next_base-memory_of w spans cells limit most whole = ap (λ n. first_base w + n) (used-memory_of w spans cells limit most ∙ sym whole)
 
 holds-found : (w : ℕ) (spans : List Span) (cells : List ℕ) (limit most a k place : ℕ) (s : Span) → slice_get spans place ≡ Some s → covers a k (span_range s) ≡ true → holds (ranges (memory_of w spans cells limit most)) a k ≡ true
@@ -180,7 +180,7 @@ IsMemory-memory_of w spans cells limit most room space layout = record {
     byte x true is = rw (byte_at-memory_of w spans cells limit most x layout.inside is) (layout.bytes (x - first_base w))
     byte x false is = rw (byte_at-none (memory_of w spans cells limit most) x is) (omega arith)
 
--- ---- what is held_number
+-- ---- what is loaded
 
 -- cells in their place spell what the bytes at their addresses spell
 pub held_number-memory_of : (w : ℕ) (spans : List Span) (cells : List ℕ) (limit most a k place : ℕ) → All (IsSpan w (length cells)) spans → holds (ranges (memory_of w spans cells limit most)) a k ≡ true → first_base w + place ≡ a → held_number (memory_of w spans cells limit most) a k ≡ Some (little_endian (slice_index cells) place k)
@@ -195,7 +195,7 @@ held_number-memory_of w spans cells limit most a k place inside held is =
         byte_at-memory_of w spans cells limit most (a + i) inside (holds-within (ranges (memory_of w spans cells limit most)) a k (a + i) 1 held (omega arith) (omega arith))
         ∙ ap (slice_index cells) (omega arith)
 
--- ---- what is memory_after
+-- ---- what is stored
 
 object_of-written : (w : ℕ) (cells written : List ℕ) (b : ℕ → ℕ) (s : Span) → length written ≡ length cells → IsSpan w (length cells) s → ((x : ℕ) → covers x 1 (span_range s) ≡ true → b x ≡ slice_index written (x - first_base w)) → object_of w written s ≡ object_with b (object_of w cells s)
 object_of-written w cells written b s same inside bytes =
@@ -242,27 +242,41 @@ covered_above w count x (s ∷ spans) inside some =
     span_above : (t : Span) → IsSpan w count t → covers x 1 (span_range t) ≡ true → first_base w ≤ x
     span_above t within here = let above : first_base w ≤ t.base = within.above in let from : t.base ≤ x = grind arith in omega arith
 
+-- cells that are written are the bytes of the same objects
+with_bytes-memory_of : (w : ℕ) (spans : List Span) (cells written : List ℕ) (limit most : ℕ) (b : ℕ → ℕ) → All (IsSpan w (length cells)) spans → length written ≡ length cells → ((y : ℕ) → byte_at (memory_of w spans cells limit most) (first_base w + y) ≡ slice_index cells y → b (first_base w + y) ≡ slice_index written y) → memory_of w spans written limit most ≡ with_bytes (memory_of w spans cells limit most) b
+with_bytes-memory_of w spans cells written limit most b inside same bytes =
+    ap (λ objects. record { objects = objects; byte_limit = limit; object_limit = most }) (objects-written w cells written b spans same inside each)
+  where
+    cell : (y : ℕ) → holds (map span_range spans) (first_base w + y) 1 ≡ true → byte_at (memory_of w spans cells limit most) (first_base w + y) ≡ slice_index cells y
+    cell y some =
+        byte_at-memory_of w spans cells limit most (first_base w + y) inside (holds-memory_of w spans cells limit most (first_base w + y) 1 ∙ some) ∙ ap (slice_index cells) (omega arith)
+
+    each : (x : ℕ) → holds (map span_range spans) x 1 ≡ true → b x ≡ slice_index written (x - first_base w)
+    each x some =
+        let above : first_base w ≤ x = covered_above w (length cells) x spans inside some in
+        let from : first_base w + (x - first_base w) ≡ x = omega arith in
+        subst (λ z. b z ≡ slice_index written (x - first_base w)) from
+        (bytes (x - first_base w) (cell (x - first_base w) (subst (λ z. holds (map span_range spans) z 1 ≡ true) (sym from) some)))
+
 pub memory_after-memory_of : (w : ℕ) (spans : List Span) (cells written : List ℕ) (limit most a k v place : ℕ) → All (IsSpan w (length cells)) spans → holds (ranges (memory_of w spans cells limit most)) a k ≡ true → first_base w + place ≡ a → length written ≡ length cells → ((i : ℕ) → slice_index written i ≡ put (slice_index cells) place k v i) → memory_of w spans written limit most ≡ memory_after (memory_of w spans cells limit most) a k v
 memory_after-memory_of w spans cells written limit most a k v place inside held is same bytes =
-    ap (λ objects. record { objects = objects; byte_limit = limit; object_limit = most }) (objects-written w cells written (put (byte_at memory) a k v) spans same inside each)
+    with_bytes-memory_of w spans cells written limit most (put (byte_at memory) a k v) inside same (λ y here.
+    subst (λ c. put (byte_at memory) c k v (first_base w + y) ≡ slice_index written y) is
+    (put-moved (byte_at memory) (slice_index cells) (first_base w) place k v y here ∙ sym (bytes y)))
     ∙ sym (memory_after-held memory a k v held)
   where
     memory : Memory
     memory = memory_of w spans cells limit most
 
-    moved : (y : ℕ) → holds (map span_range spans) (first_base w + y) 1 ≡ true → put (byte_at (memory_of w spans cells limit most)) (first_base w + place) k v (first_base w + y) ≡ slice_index written y
-    moved y some =
-        put-moved (byte_at (memory_of w spans cells limit most)) (slice_index cells) (first_base w) place k v y
-        (byte_at-memory_of w spans cells limit most (first_base w + y) inside (holds-memory_of w spans cells limit most (first_base w + y) 1 ∙ some) ∙ ap (slice_index cells) (omega arith))
-        ∙ sym (bytes y)
-
-    each : (x : ℕ) → holds (map span_range spans) x 1 ≡ true → put (byte_at (memory_of w spans cells limit most)) a k v x ≡ slice_index written (x - first_base w)
-    each x some =
-        let above : first_base w ≤ x = covered_above w (length cells) x spans inside some in
-        let from : first_base w + (x - first_base w) ≡ x = omega arith in
-        subst (λ z. put (byte_at (memory_of w spans cells limit most)) a k v z ≡ slice_index written (x - first_base w)) from
-        (subst (λ b. put (byte_at (memory_of w spans cells limit most)) b k v (first_base w + (x - first_base w)) ≡ slice_index written (x - first_base w)) is
-        (moved (x - first_base w) (subst (λ z. holds (map span_range spans) z 1 ≡ true) (sym from) some)))
+pub memory_filled-memory_of : (w : ℕ) (spans : List Span) (cells written over : List ℕ) (limit most a place : ℕ) → All (IsSpan w (length cells)) spans → holds (ranges (memory_of w spans cells limit most)) a (length over) ≡ true → first_base w + place ≡ a → length written ≡ length cells → ((i : ℕ) → slice_index written i ≡ overlaid (slice_index cells) place over i) → memory_of w spans written limit most ≡ memory_filled (memory_of w spans cells limit most) a over
+memory_filled-memory_of w spans cells written over limit most a place inside held is same bytes =
+    with_bytes-memory_of w spans cells written limit most (overlaid (byte_at memory) a over) inside same (λ y here.
+    subst (λ c. overlaid (byte_at memory) c over (first_base w + y) ≡ slice_index written y) is
+    (overlaid-moved (byte_at memory) (slice_index cells) (first_base w) place over y here ∙ sym (bytes y)))
+    ∙ sym (memory_filled-held memory a over held)
+  where
+    memory : Memory
+    memory = memory_of w spans cells limit most
 
 -- cells that are written change no span
 pub IsLayout-written : (w : ℕ) (spans : List Span) (cells written : List ℕ) (limit most room space : ℕ) → IsLayout w spans cells limit most room space → length written ≡ length cells → ((i : ℕ) → slice_index written i < 256) → IsLayout w spans written limit most room space

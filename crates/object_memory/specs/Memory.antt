@@ -4,7 +4,7 @@ use Rattle.std.specs.Prelude.{◌≡◌, ◌⊎◌, ℕ, ◌+◌, ◌-◌, ◌*�
 use Rattle.std.specs.List.{find}
 use Rattle.std.specs.Option.{option_map, option_map_or}
 use Rattle.ebc_width.specs.Width.{IsWidth}
-use Rattle.ebc_width.specs.Bytes.{little_endian, put, window}
+use Rattle.ebc_width.specs.Bytes.{little_endian, put, overlaid, window}
 use Rattle.ebc_width.specs.Ranges.{Range, covers, holds}
 use Rattle.object_memory.specs.declared.ObjId.{ObjId}
 
@@ -73,6 +73,10 @@ with_bytes m b = record m { objects = map (object_with b) m.objects }
 -- the memory after the low k bytes of v are memory_after at address a: the same memory where no one object holds them
 unfoldable pub memory_after : Memory → ℕ → ℕ → ℕ → Memory
 memory_after m a k v = if holds (ranges m) a k then with_bytes m (put (byte_at m) a k v) else m
+
+-- the memory after the bytes of a list are laid from address a on: the same memory where no one object holds them
+unfoldable pub memory_filled : Memory → ℕ → List ℕ → Memory
+memory_filled m a over = if holds (ranges m) a (length over) then with_bytes m (overlaid (byte_at m) a over) else m
 
 -- what an object of n bytes takes: n rounded up to 16, and a gap of 16
 abbrev pub padded : ℕ → ℕ

@@ -5,18 +5,17 @@
 ghost use Rattle.std.specs.Prelude.{◌≡◌, ℕ, ◌+◌, ◌*◌, ◌^◌, ◌<◌, ◌≤◌, ◌↔◌, [], length, true, false, Err, IfOk, OnOk, OnErr, IfSome, IfNone, Some, None};
 ghost use Rattle.std.specs.Bool.{OnTrue, OnFalse};
 ghost use Rattle.ebc_width.specs.Width.{IsWidth};
-ghost use Rattle.ebc_width.specs.Bytes.{IsAccess, put};
+ghost use Rattle.ebc_width.specs.Bytes.{IsAccess, put, overlaid};
 ghost use Rattle.object_memory.specs.Memory.{first_base, padded, top_limit};
 
 mod number;
 mod span;
 
-use number::{read_number, write_number};
+pub use ebc_base::NoMemory;
+use number::{read_number, write_bytes, write_number};
 use span::{Span, find_span};
 use std::alloc::Global;
 use std::marker::Model;
-
-pub use ebc_base::NoMemory;
 
 /// Why an object is not placed.
 #[derive(Clone, Copy, PartialEq, Eq, Debug)]
@@ -69,7 +68,7 @@ fn padded_size(size: u64) -> u64
 impl<const W: usize> ObjMem<W> {
     ghost use Rattle.object_memory.specs.Layout.{IsFound};
     ghost use Rattle.ebc_width.specs.Ranges.{holds};
-    ghost use Rattle.object_memory.specs.Memory.{IsMemory, ranges, byte_at, held_number, memory_after, rest_from, IsOwner, used, next_base, IsFull, placed};
+    ghost use Rattle.object_memory.specs.Memory.{IsMemory, ranges, byte_at, held_number, memory_after, memory_filled, rest_from, IsOwner, used, next_base, IsFull, placed};
 
     /// An empty memory for `limit` bytes, with the padding and gaps of objects, and for as many
     /// objects. All memory that it will use is reserved here.
@@ -110,6 +109,7 @@ impl<const W: usize> ObjMem<W> {
 
         // No byte at any address changes, and those of the new object are zeros.
         ensures bytes { (x : ℕ) → byte_at self.new x ≡ byte_at self.old x }
+        ensures zeros { IfOk result (λ id. (x : ℕ) → id.base ≤ x → x < id.base + size * count → byte_at self.new x ≡ 0) }
         ensures memory { IsMemory W self.new }
     {
         let bytes = u64::from(size) * u64::from(count);
@@ -177,6 +177,23 @@ impl<const W: usize> ObjMem<W> {
         };
         let place = (addr - Self::first()) as usize;
         write_number(&mut self.cells, place, count, value);
+        true
+    }
+
+    /// Writes bytes from an address on, and changes no other byte: false exactly where no one object
+    /// holds the range, and then nothing changes.
+    pub fn fill(&mut self, addr: u64, bytes: &[u8]) -> bool
+        ensures done { result ≡ holds (ranges self.old) addr (length bytes.now) }
+        ensures after { self.new ≡ memory_filled self.old addr bytes.now }
+        ensures bytes { OnTrue result ((x : ℕ) → byte_at self.new x ≡ overlaid (byte_at self.old) addr bytes.now x) }
+        ensures same { OnFalse result (self.new ≡ self.old) }
+        ensures memory { IsMemory W self.new }
+    {
+        let Some(_) = self.find(addr, bytes.len() as u64) else {
+            return false;
+        };
+        let place = (addr - Self::first()) as usize;
+        write_bytes(&mut self.cells, place, bytes);
         true
     }
 
@@ -251,6 +268,11 @@ mod tests {
             Some(15)
         );
 
+        assert!(rt; memory.fill(0x0010_0022, &[7, 8, 9]));
+        assert_eq!(rt; memory.load(0x0010_0020, 8), Some(0x0000_0009_0807_ABCD));
+        assert!(rt; !memory.fill(0x0010_0006, &[1, 2, 3]));
+        assert_eq!(rt; memory.load(0x0010_0000, 8), Some(0));
+
         assert_eq!(rt; memory.owner(0x0010_0021), Some((second, 1)));
         assert_eq!(rt; memory.owner(0x0010_0030), None);
         assert!(rt; memory.bytes_from(0x0010_0008).is_none());
@@ -266,6 +288,19 @@ mod tests {
         // The bytes of a third would fit, but not a third object.
         assert_eq!(rt; memory.place(1, 1), Err(PlaceFault::Full));
         assert_eq!(rt; memory.load(u64::MAX, 2), None);
+        Ok(())
+    }
+
+    #[test]
+    fn a_memory_of_no_objects(rt: HostRuntime) -> Result<(), Fail> {
+        let mut memory = ObjMem::<8>::new(rt.alloc(), 0, 0)?;
+        assert_eq!(rt; memory.place(1, 1), Err(PlaceFault::Full));
+        assert!(rt; !memory.holds(0x0000_0002_0000_0000, 1));
+        assert_eq!(rt; memory.load(0x0000_0002_0000_0000, 1), None);
+        assert!(rt; !memory.store(0x0000_0002_0000_0000, 1, 0));
+        assert!(rt; !memory.fill(0x0000_0002_0000_0000, &[]));
+        assert_eq!(rt; memory.owner(0), None);
+        assert!(rt; memory.bytes_from(0).is_none());
         Ok(())
     }
 }

@@ -1,10 +1,10 @@
 use Rattle.std.proofs.Common.{rules, ◌≡◌, ℕ, ◌+◌, ◌-◌, ◌*◌, ◌≤◌, ◌<◌, List, ◌∷◌, ◌++◌, [], length, take, replicate, arith, sym, ap, ap₂, subst, subst₂, ◌∙◌, vec_capacity}
 use Rattle.std.proofs.lemmas.List.{take_all}
 use Rattle.object_memory.specs.declared.span.Span.{Span}
-use Rattle.object_memory.specs.Memory.{Memory, IsMemory, byte_at, padded, placed, first_base}
+use Rattle.object_memory.specs.Memory.{Memory, IsMemory, byte_at, next_base, padded, placed, first_base}
 use Rattle.object_memory.specs.Layout.{memory_of, IsLayout}
-use Rattle.object_memory.proofs.Views.{next_span, IsMemory-memory_of, memory_of-next_span, IsLayout-next_span}
-use Rattle.object_memory.proofs.Laws.{byte_at-placed}
+use Rattle.object_memory.proofs.Views.{next_span, next_base-memory_of, IsMemory-memory_of, memory_of-next_span, IsLayout-next_span}
+use Rattle.object_memory.proofs.Laws.{byte_at-placed, byte_at-above}
 use Rattle.object_memory.proofs.ObjMem.place.Goals as goal
 
 -- there is one span more, and zeros for it behind the cells
@@ -48,3 +48,15 @@ returns-clause-memory g c = IsMemory-memory_of g.row.W c.push.new.self.items c.r
 
 pub returns-clause-bytes : goal.returns-clause-bytes
 returns-clause-bytes g c = λ x. ap (λ m. byte_at m x) (returns-clause-placed g c) ∙ byte_at-placed g.row.W c.args.self.now (c.args.size * c.args.count) x
+
+pub returns-clause-zeros : goal.returns-clause-zeros
+returns-clause-zeros g c = λ x from to.
+    let cells : List ℕ = c.self.inside.cells.items in
+    let spans : List Span = c.self.inside.spans.items in
+    let memory : IsMemory g.row.W c.args.self.now = subst (λ (m : Memory). IsMemory g.row.W m) c.self.view_is (IsMemory-memory_of g.row.W spans cells c.self.inside.byte_limit c.self.inside.object_limit _ _ c.self.invariant) in
+    let before : c.len-before.result ≡ length cells = search rules in
+    let base : c.first.result + c.len-before.result ≡ next_base g.row.W c.args.self.now =
+    ap₂ (λ a b. a + b) c.first.ensures before
+    ∙ sym (next_base-memory_of g.row.W spans cells c.self.inside.byte_limit c.self.inside.object_limit c.self.invariant.whole)
+    ∙ ap (next_base g.row.W) c.self.view_is in
+    returns-clause-bytes g c x ∙ byte_at-above g.row.W c.args.self.now x memory (omega (arith, from, base))

@@ -1,7 +1,7 @@
 use Rattle.std.proofs.Common.{◌≡◌, ℕ, List, replicate, ap, ◌∙◌, arith}
 use Rattle.std.specs.Int.{w64, from_le_bytes}
 use Rattle.ebc_width.proofs.Numbers.{read_number}
-use Rattle.object_memory.proofs.number.read_number.Goals as goal
+use Rattle.object_memory.proofs.number.read_cells.Goals as goal
 use borrow.Rule.Slice.PartMut.{put_mid}
 
 pub returns : goal.returns
