@@ -1,9 +1,12 @@
+//! Fields of the first two bytes of an instruction, each moved to bit 0.
+
 ghost use Rattle.std.specs.Prelude.{◌≡◌};
 ghost use Rattle.ebc_decode.specs.Reading.{arith_at, bits_at, cmp_at, cond_at, flag, operand_at, size_at};
 
 use ebc_insn::{ArithOp, CmpOp, Cond, Operand, Size};
 
 // Bit 0.
+#[inline(always)]
 pub fn flag(n: u8) -> bool
     ensures { result ≡ flag n }
 {
@@ -11,6 +14,7 @@ pub fn flag(n: u8) -> bool
 }
 
 // An operand from four bits.
+#[inline(always)]
 pub fn operand_at(n: u8) -> Operand
     ensures { result ≡ operand_at n }
 {
@@ -21,6 +25,7 @@ pub fn operand_at(n: u8) -> Operand
 }
 
 // A jump's condition from bits 6 and 7 of a byte.
+#[inline(always)]
 pub fn cond_at(n: u8) -> Cond
     ensures { result ≡ cond_at n }
 {
@@ -32,6 +37,7 @@ pub fn cond_at(n: u8) -> Cond
 }
 
 // How many bits an immediate or an index has.
+#[inline(always)]
 pub fn bits_at(n: u8) -> u8
     ensures { result ≡ bits_at n }
 {
@@ -42,6 +48,8 @@ pub fn bits_at(n: u8) -> u8
     }
 }
 
+// The size of a move.
+#[inline(always)]
 pub fn size_at(n: u8) -> Size
     ensures { result ≡ size_at n }
 {
@@ -53,6 +61,8 @@ pub fn size_at(n: u8) -> Size
     }
 }
 
+// The comparison so far past that for equality.
+#[inline(always)]
 pub fn cmp_at(n: u8) -> CmpOp
     ensures { result ≡ cmp_at n }
 {
@@ -65,6 +75,8 @@ pub fn cmp_at(n: u8) -> CmpOp
     }
 }
 
+// The operation so far past NOT.
+#[inline(always)]
 pub fn arith_at(n: u8) -> ArithOp
     ensures { result ≡ arith_at n }
 {

@@ -1,3 +1,5 @@
+//! The fields behind the first two bytes of an instruction: numbers and natural indexes.
+
 ghost use Rattle.std.specs.Prelude.{◌≡◌};
 ghost use Rattle.ebc_decode.specs.Reading.{extra_at, field_at, index_at, int32_at, int_at, optional_at};
 
@@ -5,6 +7,7 @@ use ebc_insn::{Extra, Field, Operand};
 use natural_index::{Index, read16, read32, read64};
 
 // The field in 2, 4 or 8 bytes.
+#[inline(always)]
 #[tactic(auto, unfolding(crate::specs::Reading::field_at))]
 pub fn field_at(bytes: &[u8]) -> Field
     ensures { result ≡ field_at bytes.now }
@@ -20,6 +23,7 @@ pub fn field_at(bytes: &[u8]) -> Field
 }
 
 // The signed number whose two's complement a field of 2 or 4 bytes has.
+#[inline(always)]
 pub fn int32_at(field: Field) -> i32
     ensures { result ≡ int32_at field }
 {
@@ -31,6 +35,7 @@ pub fn int32_at(field: Field) -> i32
 }
 
 // The signed number whose two's complement a field has.
+#[inline(always)]
 pub fn int_at(field: Field) -> i64
     ensures { result ≡ int_at field }
 {
@@ -41,6 +46,7 @@ pub fn int_at(field: Field) -> i64
 }
 
 // The index in a field.
+#[inline(always)]
 pub fn index_at(field: Field) -> Option<Index>
     ensures { result ≡ index_at field }
 {
@@ -53,6 +59,7 @@ pub fn index_at(field: Field) -> Option<Index>
 }
 
 // The index in a field that may have no bytes.
+#[inline(always)]
 pub fn optional_at(field: Field) -> Option<Option<Index>>
     ensures { result ≡ optional_at field }
 {
@@ -63,6 +70,7 @@ pub fn optional_at(field: Field) -> Option<Option<Index>>
 }
 
 // What stands in a field beside an operand.
+#[inline(always)]
 pub fn extra_at(o: Operand, field: Field) -> Option<Extra>
     ensures { result ≡ extra_at o field }
 {

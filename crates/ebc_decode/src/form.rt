@@ -1,7 +1,9 @@
-ghost use Rattle.std.specs.Prelude.{◌≡◌, ◌≤◌};
-ghost use Rattle.ebc_decode.specs.Reading.{form_at, has_left_index, is_direct_index, is_far_wrong, is_move_wrong, is_reserved, size1_at, size2_at, size_if};
+//! Forms of instructions: what an opcode names, and what the first two bytes of each say.
 
-use crate::bits::{arith_at, bits_at, cmp_at, flag, operand_at, size_at};
+ghost use Rattle.std.specs.Prelude.{◌≡◌, ◌≤◌};
+ghost use Rattle.ebc_decode.specs.Reading.{has_left_index, is_direct_index, is_far_wrong, is_move_wrong, is_reserved, size1_at, size2_at, size_if};
+
+use crate::bits::{bits_at, flag, operand_at};
 use ebc_insn::{ArithOp, CmpOp, Size};
 
 // What an opcode names; a move's indexes have as many bits as stand in it.
@@ -28,43 +30,10 @@ pub enum Form {
     PopNatural,
 }
 
-#[tactic(auto, unfolding(crate::specs::Reading::form_at))]
-pub fn form_at(opcode: u8) -> Option<Form>
-    ensures { result ≡ form_at opcode }
-{
-    let form = match opcode {
-        0x00 => Form::Break,
-        0x01 => Form::Jump,
-        0x02 => Form::Jump8,
-        0x03 => Form::Call,
-        0x04 => Form::Ret,
-        0x05..=0x09 => Form::Compare(cmp_at(opcode - 0x05)),
-        0x0A..=0x1C => Form::Arith(arith_at(opcode - 0x0A)),
-        0x1D..=0x20 => Form::Move(size_at(opcode - 0x1D), 16),
-        0x21..=0x24 => Form::Move(size_at(opcode - 0x21), 32),
-        0x25 => Form::MoveSigned(16),
-        0x26 => Form::MoveSigned(32),
-        0x28 => Form::Move(Size::Qword, 64),
-        0x29 => Form::LoadSpecial,
-        0x2A => Form::StoreSpecial,
-        0x2B => Form::Push,
-        0x2C => Form::Pop,
-        0x2D..=0x31 => Form::CompareImm(cmp_at(opcode - 0x2D)),
-        0x32 => Form::Move(Size::Natural, 16),
-        0x33 => Form::Move(Size::Natural, 32),
-        0x35 => Form::PushNatural,
-        0x36 => Form::PopNatural,
-        0x37 => Form::MoveImm,
-        0x38 => Form::MoveImmNatural,
-        0x39 => Form::MoveRelative,
-        _ => return None,
-    };
-    Some(form)
-}
-
 impl Form {
     // Whether a bit is set that must be zero, or zero that must be set.
     #[tactic(auto, unfolding(crate::specs::Reading::is_reserved))]
+    #[inline(always)]
     pub fn is_reserved(self, b0: u8, b1: u8) -> bool
         ensures { result ≡ is_reserved self b0 b1 }
     {
@@ -87,6 +56,7 @@ impl Form {
     }
 
     // Whether operand 1 has an index and is direct.
+    #[inline(always)]
     pub fn is_direct_index(self, b0: u8, b1: u8) -> bool
         ensures { result ≡ is_direct_index self b0 b1 }
     {
@@ -94,6 +64,7 @@ impl Form {
     }
 
     #[tactic(auto, unfolding(crate::specs::Reading::has_left_index))]
+    #[inline(always)]
     fn has_left_index(self, b0: u8, b1: u8) -> bool
         ensures { result ≡ has_left_index self b0 b1 }
     {
@@ -107,6 +78,7 @@ impl Form {
 
     // How many bytes the first field has.
     #[tactic(auto, unfolding(crate::specs::Reading::size1_at))]
+    #[inline(always)]
     pub fn size1(self, b0: u8, b1: u8) -> usize
         ensures same { result ≡ size1_at self b0 b1 }
         ensures range { result ≤ 31 }
@@ -129,6 +101,7 @@ impl Form {
 
     // How many bytes the second field has.
     #[tactic(auto, unfolding(crate::specs::Reading::size2_at))]
+    #[inline(always)]
     pub fn size2(self, b0: u8) -> usize
         ensures same { result ≡ size2_at self b0 }
         ensures range { result ≤ 31 }
@@ -144,6 +117,7 @@ impl Form {
 }
 
 // Whether the far form of a jump or a call has no address, or an operand 1 other than R0.
+#[inline(always)]
 fn is_far_wrong(b0: u8, b1: u8) -> bool
     ensures { result ≡ is_far_wrong b0 b1 }
 {
@@ -151,6 +125,7 @@ fn is_far_wrong(b0: u8, b1: u8) -> bool
 }
 
 // Whether a move of an immediate has no width, or a bit set of 4, 5 and 7.
+#[inline(always)]
 fn is_move_wrong(b0: u8, b1: u8) -> bool
     ensures { result ≡ is_move_wrong b0 b1 }
 {
@@ -158,6 +133,7 @@ fn is_move_wrong(b0: u8, b1: u8) -> bool
 }
 
 // How many bytes a field of so many bits has, if it is there.
+#[inline(always)]
 fn size_if(present: bool, bits: u8) -> usize
     ensures same { result ≡ size_if present bits }
     ensures range { result ≤ 31 }

@@ -1,3 +1,5 @@
+//! The instruction of a form and of its parts, a function for each form that has more than one field.
+
 ghost use Rattle.std.specs.Prelude.{◌≡◌};
 ghost use Rattle.ebc_decode.specs.Reading.{insn_at, left_at, right_at};
 ghost use Rattle.ebc_decode.specs.declared.form.Form.TheVariants as forms;
@@ -9,6 +11,7 @@ use ebc_insn::{CmpOp, Code, Insn, Operand, Size};
 
 // The instruction of a form and of its parts: none where the tag of an index has no room.
 #[tactic(auto, unfolding(crate::specs::Reading::insn_at))]
+#[inline(always)]
 pub fn insn_at(form: Form, code: Code) -> Option<Insn>
     ensures { result ≡ insn_at form code }
 {
@@ -72,6 +75,7 @@ pub fn insn_at(form: Form, code: Code) -> Option<Insn>
 }
 
 // Operand 1.
+#[inline(always)]
 fn left_at(code: Code) -> Operand
     ensures { result ≡ left_at code.second }
 {
@@ -79,6 +83,7 @@ fn left_at(code: Code) -> Operand
 }
 
 // Operand 2.
+#[inline(always)]
 fn right_at(code: Code) -> Operand
     ensures { result ≡ right_at code.second }
 {
@@ -86,6 +91,7 @@ fn right_at(code: Code) -> Operand
 }
 
 #[tactic(auto, unfolding(crate::specs::Reading::insn_at))]
+#[inline(always)]
 fn jump_at(code: Code) -> Option<Insn>
     ensures { result ≡ insn_at forms.Jump code }
 {
@@ -100,6 +106,7 @@ fn jump_at(code: Code) -> Option<Insn>
 }
 
 #[tactic(auto, unfolding(crate::specs::Reading::insn_at))]
+#[inline(always)]
 fn call_at(code: Code) -> Option<Insn>
     ensures { result ≡ insn_at forms.Call code }
 {
@@ -114,6 +121,7 @@ fn call_at(code: Code) -> Option<Insn>
 }
 
 #[tactic(auto, unfolding(crate::specs::Reading::insn_at))]
+#[inline(always)]
 fn compare_imm_at(op: CmpOp, code: Code) -> Option<Insn>
     ensures { result ≡ insn_at (forms.CompareImm op) code }
 {
@@ -128,6 +136,7 @@ fn compare_imm_at(op: CmpOp, code: Code) -> Option<Insn>
 }
 
 #[tactic(auto, unfolding(crate::specs::Reading::insn_at))]
+#[inline(always)]
 fn move_at(size: Size, bits: u8, code: Code) -> Option<Insn>
     ensures { result ≡ insn_at (forms.Move size bits) code }
 {
@@ -142,6 +151,7 @@ fn move_at(size: Size, bits: u8, code: Code) -> Option<Insn>
 }
 
 #[tactic(auto, unfolding(crate::specs::Reading::insn_at))]
+#[inline(always)]
 fn move_signed_at(bits: u8, code: Code) -> Option<Insn>
     ensures { result ≡ insn_at (forms.MoveSigned bits) code }
 {
@@ -156,6 +166,7 @@ fn move_signed_at(bits: u8, code: Code) -> Option<Insn>
 }
 
 #[tactic(auto, unfolding(crate::specs::Reading::insn_at))]
+#[inline(always)]
 fn move_imm_at(code: Code) -> Option<Insn>
     ensures { result ≡ insn_at forms.MoveImm code }
 {
@@ -169,6 +180,7 @@ fn move_imm_at(code: Code) -> Option<Insn>
 }
 
 #[tactic(auto, unfolding(crate::specs::Reading::insn_at))]
+#[inline(always)]
 fn move_imm_natural_at(code: Code) -> Option<Insn>
     ensures { result ≡ insn_at forms.MoveImmNatural code }
 {
@@ -181,6 +193,7 @@ fn move_imm_natural_at(code: Code) -> Option<Insn>
 }
 
 #[tactic(auto, unfolding(crate::specs::Reading::insn_at))]
+#[inline(always)]
 fn move_relative_at(code: Code) -> Option<Insn>
     ensures { result ≡ insn_at forms.MoveRelative code }
 {

@@ -1,3 +1,5 @@
+//! The parts that spell an instruction: two bytes and two fields.
+
 ghost use Rattle.std.specs.Prelude.{◌≡◌, ◌⊎◌, ◌<◌, ◌≤◌};
 ghost use Rattle.natural_index.specs.Index.{IsIndex, IsIndexSize, bit};
 ghost use Rattle.ebc_insn.specs.Spelling.{ExtraFits, FitsInt, IsOperand, MoveFits, RightFits, TargetFits, WellFormed, arith_number, cmp_number, code_of, condition, extra_field, field_size, has_extra, head, immediate_bits, index_field, int_field, move_opcode, operand, operands, optional_field, signed_opcode, size_number, target_bits, width_number};

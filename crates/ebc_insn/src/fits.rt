@@ -1,3 +1,5 @@
+//! Tests of the parts of an instruction, of which `well_formed` is made.
+
 ghost use Rattle.std.specs.Prelude.{◌≡◌, ◌⊎◌, ◌<◌, ◌↔◌, IsTrue};
 ghost use Rattle.natural_index.specs.Index.{IsIndexSize};
 ghost use Rattle.ebc_insn.specs.Spelling.{ExtraFits, FitsInt, IsOperand, IsWordOrDword, LeftFits, MoveFits, RightFits, TargetFits};

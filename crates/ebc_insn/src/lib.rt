@@ -4,8 +4,6 @@
 
 mod code;
 mod fits;
-#[cfg(test)]
-mod tests;
 
 ghost use Rattle.std.specs.Prelude.{◌≡◌, ◌≤◌, ◌↔◌, IsTrue, length};
 ghost use Rattle.ebc_insn.specs.Spelling.{WellFormed, spelling};

@@ -2,8 +2,6 @@
 //! 64 bits (UEFI specification, chapter "EFI Byte Code Virtual Machine", section "EBC Instruction Set").
 #![tactic(auto)]
 
-#[cfg(test)]
-mod tests;
 
 ghost use Rattle.std.specs.Prelude.{◌≡◌, ◌<◌, ◌^◌, ◌*ℤ◌, ◌↔◌, IsTrue, IsErr};
 ghost use Rattle.machine_alu.specs.Alu.{bits_of, low, signed, wrap, shifted, outcome, divides_by_zero, computed, compared};
@@ -23,6 +21,7 @@ pub struct DivideError;
 ///
 /// `DivideError` comes exactly where DIV, DIVU, MOD or MODU has a divisor whose low 64 or 32 bits are 0.
 #[tactic(auto, unfolding(crate::specs::Alu::computed))]
+#[inline(always)]
 pub fn compute(op: ArithOp, wide: bool, a: u64, b: u64) -> Result<u64, DivideError>
     ensures value { result ≡ computed op wide a b }
     ensures divide_error { IsErr result ↔ IsTrue (divides_by_zero op wide b) }
@@ -56,6 +55,7 @@ pub fn compute(op: ArithOp, wide: bool, a: u64, b: u64) -> Result<u64, DivideErr
 /// Whether operand 1, `a`, compares with operand 2, `b`, as the operation asks, of 64 bits where `wide` and else of 32:
 /// equal, at most or at least, as signed or as unsigned numbers.
 #[tactic(auto, unfolding(crate::specs::Alu::compared))]
+#[inline(always)]
 pub fn compare(op: CmpOp, wide: bool, a: u64, b: u64) -> bool
     ensures { result ≡ compared op wide a b }
 {
@@ -69,6 +69,7 @@ pub fn compare(op: CmpOp, wide: bool, a: u64, b: u64) -> bool
 }
 
 // The low 64 or 32 bits.
+#[inline(always)]
 fn low(wide: bool, x: u64) -> u64
     ensures value { result ≡ low (bits_of wide) x }
     ensures below { result < 2 ^ bits_of wide }
@@ -77,6 +78,7 @@ fn low(wide: bool, x: u64) -> u64
 }
 
 // The low 64 or 32 bits as a signed number.
+#[inline(always)]
 fn signed(wide: bool, x: u64) -> i64
     ensures { result ≡ signed (bits_of wide) x }
 {
@@ -88,6 +90,7 @@ fn signed(wide: bool, x: u64) -> i64
 }
 
 // The low 64 or 32 bits of a signed number.
+#[inline(always)]
 fn wrap(wide: bool, z: i64) -> u64
     ensures { result ≡ wrap (bits_of wide) z }
 {
@@ -96,6 +99,7 @@ fn wrap(wide: bool, z: i64) -> u64
 
 // The low 64 or 32 bits of a product.
 #[tactic(auto, using(crate::proofs::Products::wrap_product))]
+#[inline(always)]
 fn product(wide: bool, m: i64, n: i64) -> u64
     ensures { result ≡ wrap (bits_of wide) (m *ℤ n) }
 {
@@ -103,6 +107,7 @@ fn product(wide: bool, m: i64, n: i64) -> u64
 }
 
 #[tactic(auto, using(crate::proofs::Shifts::past_left))]
+#[inline(always)]
 fn shift_left(wide: bool, x: u64, y: u64) -> u64
     requires { x < 2 ^ bits_of wide }
     ensures { result ≡ outcome (bits_of wide) ArithOp.Shl x y }
@@ -112,6 +117,7 @@ fn shift_left(wide: bool, x: u64, y: u64) -> u64
 }
 
 #[tactic(auto, using(crate::proofs::Shifts::past_right))]
+#[inline(always)]
 fn shift_right(wide: bool, x: u64, y: u64) -> u64
     requires { x < 2 ^ bits_of wide }
     ensures { result ≡ outcome (bits_of wide) ArithOp.Shr x y }
@@ -120,6 +126,7 @@ fn shift_right(wide: bool, x: u64, y: u64) -> u64
 }
 
 #[tactic(auto, using(crate::proofs::Shifts::past_negative, crate::proofs::Shifts::past_positive))]
+#[inline(always)]
 fn shift_signed(z: i64, y: u64) -> i64
     ensures { result ≡ shifted z y }
 {

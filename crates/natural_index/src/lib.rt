@@ -24,6 +24,7 @@ pub struct Index {
 }
 
 // How many bits the field of natural units has.
+#[inline(always)]
 fn natural_width(bits: u8, tag: u8) -> u32
     ensures { result ≡ natural_bits bits tag }
 {
@@ -31,6 +32,7 @@ fn natural_width(bits: u8, tag: u8) -> u32
 }
 
 // The number in some bits of a raw number, from a place on.
+#[inline(always)]
 fn field(raw: u64, place: u32, width: u32) -> u64
     requires place { place < 64 }
     requires width { width < 64 }
@@ -40,6 +42,7 @@ fn field(raw: u64, place: u32, width: u32) -> u64
 }
 
 // The index that a raw number spells, where its tag leaves room.
+#[inline(always)]
 fn read(bits: u8, raw: u64) -> Index
     requires size { IsIndexSize bits }
     requires within { raw < 2 ^ bits }
@@ -61,6 +64,7 @@ fn read(bits: u8, raw: u64) -> Index
 
 /// The index that a raw number of 16 bits spells: none exactly where the tag is 7, whose 14 bits of
 /// natural units have no room beside sign and tag.
+#[inline(always)]
 pub fn read16(raw: u16) -> Option<Index>
     ensures found { IfSome result (λ i. IsSpelled 16 raw i) }
     ensures none { IsNone result ↔ (tag_at 16 raw ≡ 7) }
@@ -74,6 +78,7 @@ pub fn read16(raw: u16) -> Option<Index>
 }
 
 /// The index that a raw number of 32 bits spells.
+#[inline(always)]
 pub fn read32(raw: u32) -> Index
     ensures spelled { IsSpelled 32 raw result }
     ensures reading { index_of 32 raw ≡ Some result }
@@ -82,6 +87,7 @@ pub fn read32(raw: u32) -> Index
 }
 
 /// The index that a raw number of 64 bits spells.
+#[inline(always)]
 pub fn read64(raw: u64) -> Index
     ensures spelled { IsSpelled 64 raw result }
     ensures reading { index_of 64 raw ≡ Some result }
@@ -176,6 +182,7 @@ impl Index {
     }
 
     /// The pair: natural units and bytes, each below 2^63, both negated under a sign.
+    #[inline(always)]
     pub fn pair(&self) -> (i64, i64)
         requires units { self.now.units < 2 ^ 63 }
         requires bytes { self.now.bytes < 2 ^ 63 }

@@ -1,4 +1,6 @@
-use crate::{DecodeFault, decode, encode};
+//! Instructions with the bytes that spell them, and each pair of first bytes by a table of its own.
+
+use ebc_decode::{DecodeFault, decode, encode};
 use ebc_insn::{ArithOp, CmpOp, Cond, Extra, Insn, Operand, Size};
 use natural_index::Index;
 

@@ -1,4 +1,6 @@
-use crate::{ArithOp, CmpOp, Cond, Extra, Insn, Operand, Size, len, well_formed};
+//! Lengths of instructions, and instructions without a spelling.
+
+use ebc_insn::{ArithOp, CmpOp, Cond, Extra, Insn, Operand, Size, len, well_formed};
 use natural_index::Index;
 
 fn register(reg: u8) -> Operand {

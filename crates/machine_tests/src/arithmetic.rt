@@ -1,4 +1,6 @@
-use crate::{DivideError, compare, compute};
+//! Results of the arithmetic and of the comparisons.
+
+use machine_alu::{DivideError, compare, compute};
 use ebc_insn::{ArithOp, CmpOp};
 
 const LEAST: u64 = 0x8000_0000_0000_0000;
