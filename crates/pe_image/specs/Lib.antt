@@ -1,0 +1,9 @@
+pub mod Fields
+pub mod Headers
+pub mod Relocations
+pub mod Conditions
+pub mod Images
+pub mod Walks
+pub mod Files
+pub mod Linked
+pub mod Mapped

@@ -1,0 +1,21 @@
+//! Images of EFI Byte Code: PE32+ files of the machine type EBC, read into their sections and relocations, and written.
+//! PE/COFF specification (Microsoft Portable Executable and Common Object File Format).
+//!
+//! The definitions that the contracts cite stand in specs/, one subject a file.
+#![tactic(auto)]
+
+mod bytes;
+mod fault;
+mod fields;
+mod headers;
+mod image;
+mod reading;
+mod relocations;
+mod section;
+mod writing;
+
+pub use ebc_base::NoMemory;
+pub use fault::{ImageEnd, ImageFault};
+pub use image::{Bytes, Image, Places, Section, Sections};
+pub use reading::read_image;
+pub use writing::write_image;
