@@ -1,9 +1,13 @@
--- What a read or a put may answer, and what the answer leaves.
+-- What a read, a write or a put may answer, and what the answer leaves.
 -- This project defines it: docs/OUTSIDE.md.
-use Rattle.std.specs.Prelude.{◌≡◌, ℕ, ◌+◌, List, [], ◌∷◌, ◌++◌, take, Option, Some, None, Result, Ok, Err, Vec}
+use Rattle.std.specs.Prelude.{◌≡◌, ℕ, ◌+◌, zero, List, [], ◌∷◌, ◌++◌, take, Option, Some, None, Result, Ok, Err, Vec}
 use Rattle.std.specs.declared.alloc.Global.{Global}
+use Rattle.std.specs.declared.io.ErrorKind.{ErrorKind}
+use Rattle.std.specs.declared.io.ErrorKind.TheVariants as kinds
 use Rattle.ebc_outside.specs.declared.ends.ReadEnd.{ReadEnd}
 use Rattle.ebc_outside.specs.declared.ends.ReadEnd.TheVariants as ends
+use Rattle.ebc_outside.specs.declared.ends.WriteEnd.{WriteEnd}
+use Rattle.ebc_outside.specs.declared.ends.WriteEnd.TheVariants as write_ends
 use Rattle.ebc_outside.specs.declared.ends.SinkEnd.{SinkEnd}
 use Rattle.ebc_outside.specs.declared.ends.SinkEnd.TheVariants as sink_ends
 use Rattle.ebc_outside.specs.Counts.{one_more}
@@ -25,7 +29,12 @@ abbrev pub read_faults_after : Result (Vec ℕ Global) ReadEnd → ℕ → ℕ
 read_faults_after (Err ends.Fault) faults = one_more faults
 read_faults_after _ faults = faults
 
--- the count of failed puts after a put in memory: only a fault counts
+-- the count of failed writes after a write: only a fault counts
+abbrev pub write_faults_after : Result (Unit {0}) WriteEnd → ℕ → ℕ
+write_faults_after (Err write_ends.Fault) faults = one_more faults
+write_faults_after _ faults = faults
+
+-- the count of failed puts after a put: only a fault counts
 abbrev pub put_faults_after : Result (Unit {0}) SinkEnd → ℕ → ℕ
 put_faults_after (Err sink_ends.Fault) faults = one_more faults
 put_faults_after _ faults = faults
@@ -35,3 +44,23 @@ abbrev pub host_faults_after : Result (Vec ℕ Global) ReadEnd → ℕ → ℕ
 host_faults_after (Err ends.Fault) faults = one_more faults
 host_faults_after (Err ends.Missing) faults = one_more faults
 host_faults_after _ faults = faults
+
+-- how a read ends that met an error of this kind
+abbrev pub read_end_of : ErrorKind → ReadEnd
+read_end_of kinds.OutOfMemory = ends.NoMemory
+read_end_of _ = ends.Fault
+
+-- how a read ends whose file could not be opened
+abbrev pub open_end_of : ErrorKind → ReadEnd
+open_end_of kinds.NotFound = ends.Missing
+open_end_of kind = read_end_of kind
+
+-- how a write ends whose file could not be opened for it
+abbrev pub create_end_of : ErrorKind → WriteEnd
+create_end_of kinds.OutOfMemory = write_ends.NoMemory
+create_end_of _ = write_ends.Fault
+
+-- how a put ends that met an error after so many bytes
+abbrev pub put_end_of : ℕ → ErrorKind → SinkEnd
+put_end_of zero kinds.OutOfMemory = sink_ends.NoMemory
+put_end_of _ _ = sink_ends.Fault

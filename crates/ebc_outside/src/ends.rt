@@ -1,6 +1,7 @@
-// Why a read or a put is not done.
+//! Why a read, a write or a put is not done.
 ghost use Rattle.std.specs.Prelude.{◌≡◌};
 ghost use Rattle.ebc_outside.specs.declared.ends.ReadEnd.TheVariants as read_ends;
+ghost use Rattle.ebc_outside.specs.declared.ends.WriteEnd.TheVariants as write_ends;
 ghost use Rattle.ebc_outside.specs.declared.ends.SinkEnd.TheVariants as sink_ends;
 
 use std::alloc::{AllocError, AllocFailed};
@@ -16,6 +17,18 @@ pub enum ReadEnd {
     #[error("the read failed")]
     Fault,
     /// Memory was refused. The name does not count as asked.
+    #[error("out of memory")]
+    NoMemory,
+}
+
+/// Why a write is not done.
+#[derive(Clone, Copy, Debug, PartialEq, Eq, Error)]
+pub enum WriteEnd {
+    /// The write failed, and the count of failed writes rose. What the file of that name holds is
+    /// unknown.
+    #[error("the write failed")]
+    Fault,
+    /// Memory was refused. All files are as before.
     #[error("out of memory")]
     NoMemory,
 }
@@ -44,6 +57,14 @@ impl<T: Drop> From<AllocFailed<T>> for ReadEnd {
 
     fn from(_: AllocFailed<T>) -> Self {
         ReadEnd::NoMemory
+    }
+}
+
+impl From<AllocError> for WriteEnd {
+    ghost from_gives = { λ _ end. end ≡ write_ends.NoMemory };
+
+    fn from(_: AllocError) -> Self {
+        WriteEnd::NoMemory
     }
 }
 

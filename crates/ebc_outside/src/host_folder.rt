@@ -1,10 +1,12 @@
-// The files of the system. No clause says what they hold.
+//! The files of the system. No clause says what they hold.
 ghost use Rattle.std.specs.Prelude.{◌≡◌, None, [], ◌+◌, IfOk, IfSome, IsErrOf, take};
 ghost use Rattle.ebc_outside.specs.Counts.{Rose, IsCount};
-ghost use Rattle.ebc_outside.specs.Answers.{host_faults_after};
+ghost use Rattle.std.specs.IoError.{error_kind};
+ghost use Rattle.ebc_outside.specs.Answers.{host_faults_after, open_end_of, read_end_of, write_faults_after, create_end_of};
 
-use crate::ends::ReadEnd;
+use crate::ends::{ReadEnd, WriteEnd};
 use crate::folder::Folder;
+use crate::whole::write_whole;
 use std::alloc::Global;
 use std::fs;
 use std::io::{Error, ErrorKind, Read};
@@ -15,10 +17,13 @@ use std::rt::Files;
 /// are told.
 ///
 /// Each read that ends in an error is counted, a name not found among them, but for want of memory.
+/// So is each write that ends in an error. A write begins by emptying the file; what fails from
+/// then on is a fault, want of memory among it.
 #[derive(Drop)]
 pub struct HostFolder<'a, R: Files> {
     rt: &'a R,
     read_faults: u64,
+    write_faults: u64,
 }
 
 impl<'a, R: Files> Model for HostFolder<'a, R> {
@@ -26,15 +31,20 @@ impl<'a, R: Files> Model for HostFolder<'a, R> {
 
     ghost Value = { HostCounts };
 
-    ghost view = { λ f. record { read_faults = f.read_faults } };
+    ghost view = { λ f. record { read_faults = f.read_faults; write_faults = f.write_faults } };
 }
 
 impl<'a, R: Files> HostFolder<'a, R> {
-    /// The files of this runtime, with no failed reads so far.
+    /// The files of this runtime, with no failed reads and no failed writes so far.
     pub fn new(rt: &'a R) -> Self
-        ensures { result.read_faults ≡ 0 }
+        ensures read_faults { result.read_faults ≡ 0 }
+        ensures write_faults { result.write_faults ≡ 0 }
     {
-        HostFolder { rt, read_faults: 0 }
+        HostFolder {
+            rt,
+            read_faults: 0,
+            write_faults: 0,
+        }
     }
 }
 
@@ -45,6 +55,8 @@ impl<'a, R: Files> Folder for HostFolder<'a, R> {
 
     ghost read_faults = { λ f. f.read_faults };
 
+    ghost write_faults = { λ f. f.write_faults };
+
     fn read(&mut self, alloc: Global, name: &str, limit: u64) -> Result<Vec<u8>, ReadEnd>
         ensures missing { IsErrOf result ReadEnd.Missing →
             Rose self.old.read_faults self.new.read_faults }
@@ -52,6 +64,7 @@ impl<'a, R: Files> Folder for HostFolder<'a, R> {
             Rose self.old.read_faults self.new.read_faults }
         ensures count { IsCount self.old.read_faults self.new.read_faults }
         ensures faults { self.new.read_faults ≡ host_faults_after result self.old.read_faults }
+        ensures write_faults { self.new.write_faults ≡ self.old.write_faults }
     {
         let faults = self.read_faults;
         let answer = read_file(self.rt, alloc, name, limit);
@@ -60,18 +73,65 @@ impl<'a, R: Files> Folder for HostFolder<'a, R> {
         }
         answer
     }
+
+    fn write(&mut self, _alloc: Global, name: &str, bytes: &[u8]) -> Result<(), WriteEnd>
+        ensures fault { IsErrOf result WriteEnd.Fault →
+            Rose self.old.write_faults self.new.write_faults }
+        ensures count { IsCount self.old.write_faults self.new.write_faults }
+        ensures faults { self.new.write_faults ≡ write_faults_after result self.old.write_faults }
+        ensures read_faults { self.new.read_faults ≡ self.old.read_faults }
+    {
+        let faults = self.write_faults;
+        let answer = write_file(self.rt, name, bytes);
+        if answer == Err(WriteEnd::Fault) {
+            self.write_faults = faults.saturating_add(1);
+        }
+        answer
+    }
 }
 
 fn read_file<R: Files>(rt: &R, alloc: Global, name: &str, limit: u64) -> Result<Vec<u8>, ReadEnd> {
     match fs::open(rt, name) {
         Ok(mut file) => read_head(&mut file, alloc, limit),
-        Err(error) if error.kind() == ErrorKind::NotFound => Err(ReadEnd::Missing),
-        Err(error) => Err(end_of(&error)),
+        Err(error) => Err(open_end(&error)),
+    }
+}
+
+fn write_file<R: Files>(rt: &R, name: &str, bytes: &[u8]) -> Result<(), WriteEnd> {
+    let mut file = match fs::create(rt, name) {
+        Ok(file) => file,
+        Err(error) => return Err(create_end(&error)),
+    };
+    match write_whole(&mut file, bytes) {
+        Ok(()) => Ok(()),
+        Err(_) => Err(WriteEnd::Fault),
+    }
+}
+
+// How a write ends whose file could not be opened for it.
+fn create_end(error: &Error) -> WriteEnd
+    ensures { result ≡ create_end_of (error_kind error.now) }
+{
+    match error.kind() {
+        ErrorKind::OutOfMemory => WriteEnd::NoMemory,
+        _ => WriteEnd::Fault,
+    }
+}
+
+// How a read ends whose file could not be opened.
+fn open_end(error: &Error) -> ReadEnd
+    ensures { result ≡ open_end_of (error_kind error.now) }
+{
+    match error.kind() {
+        ErrorKind::NotFound => ReadEnd::Missing,
+        _ => end_of(error),
     }
 }
 
 // How a read ends that met this error.
-fn end_of(error: &Error) -> ReadEnd {
+fn end_of(error: &Error) -> ReadEnd
+    ensures { result ≡ read_end_of (error_kind error.now) }
+{
     match error.kind() {
         ErrorKind::OutOfMemory => ReadEnd::NoMemory,
         _ => ReadEnd::Fault,

@@ -1,4 +1,4 @@
-// The standard output, or any writer.
+//! The standard output, or any writer.
 ghost use Rattle.std.specs.Prelude.{◌≡◌, ℕ, None, OnOk, IsErrOf, take};
 ghost use Rattle.std.specs.Io.KnownBytes.{Appends, Keeps};
 ghost use Rattle.ebc_outside.specs.Counts.{Rose, IsCount};
@@ -6,8 +6,9 @@ ghost use Rattle.ebc_outside.specs.Answers.{put_faults_after};
 
 use crate::ends::SinkEnd;
 use crate::sink::Sink;
+use crate::whole::write_whole;
 use std::alloc::Global;
-use std::io::{ErrorKind, Write};
+use std::io::Write;
 use std::marker::Model;
 
 /// A sink over the standard output, or any writer. It tells no text.
@@ -69,37 +70,10 @@ impl<W: Write> Sink for HostSink<W> {
     }
 }
 
-// Gives the writer all the bytes, and has it hand them on.
-fn write_whole<W: Write>(writer: &mut W, bytes: &[u8]) -> Result<(), SinkEnd>
-    ensures whole { OnOk result
-        (Appends (W.contents writer.old) (W.contents writer.new) bytes.now) }
-    ensures part { IsErrOf result SinkEnd.Fault → (count : ℕ) ×
-        Appends (W.contents writer.old) (W.contents writer.new) (take count bytes.now) }
-    ensures none { IsErrOf result SinkEnd.NoMemory →
-        Keeps (W.contents writer.old) (W.contents writer.new) }
-{
-    let mut done = 0;
-    while done < bytes.len() {
-        match writer.write(&bytes[done..]) {
-            Ok(0) => return Err(SinkEnd::Fault),
-            Ok(count) => done += count,
-            Err(error) if done == 0 && error.kind() == ErrorKind::OutOfMemory => {
-                return Err(SinkEnd::NoMemory);
-            }
-            Err(_) => return Err(SinkEnd::Fault),
-        }
-    }
-    match writer.flush() {
-        Ok(()) => Ok(()),
-        Err(_) => Err(SinkEnd::Fault),
-    }
-}
-
 #[cfg(test)]
 mod tests {
     use super::*;
-    use std::io;
-    use std::test::Fail;
+    use std::io::{self, ErrorKind};
 
     // Takes two bytes at a time, and nothing once it has taken as many as it may.
     #[derive(Drop)]
@@ -119,6 +93,25 @@ mod tests {
         }
     }
 
+    // Takes nothing where it is full, and else holds back what it took.
+    #[derive(Drop)]
+    struct Unflushed {
+        full: bool,
+    }
+
+    impl Write for Unflushed {
+        fn write(&mut self, buf: &[u8]) -> io::Result<usize> {
+            if self.full {
+                return Err(ErrorKind::StorageFull.into());
+            }
+            Ok(buf.len())
+        }
+
+        fn flush(&mut self) -> io::Result<()> {
+            Err(ErrorKind::StorageFull.into())
+        }
+    }
+
     #[test]
     fn a_writer_that_takes_nothing_is_a_fault(rt: HostRuntime) {
         let alloc = rt.alloc();
@@ -126,5 +119,17 @@ mod tests {
         assert_eq!(rt; sink.put(alloc, b"12345"), Ok(()));
         assert_eq!(rt; sink.put(alloc, b"12345"), Err(SinkEnd::Fault));
         assert_eq!(rt; sink.put(alloc, b""), Ok(()));
+    }
+
+    #[test]
+    fn a_writer_that_is_full_at_once_or_at_the_flush_is_a_fault(rt: HostRuntime) {
+        for full in [true, false] {
+            let mut sink = HostSink::new(Unflushed { full });
+            assert_eq!(rt;
+                sink.put(rt.alloc(), b"12345"),
+                Err(SinkEnd::Fault),
+                "at {full}"
+            );
+        }
     }
 }

@@ -1,6 +1,6 @@
 //! Files and output, as the tools see them.
 //!
-//! A `Folder` is read, and a `Sink` is put to. `MemFolder` and `MemSink` keep all in memory, and
+//! A `Folder` is read and written, and a `Sink` is put to. `MemFolder` and `MemSink` keep all in memory, and
 //! can be told which of their calls are to fail. `HostFolder` and `HostSink` stand on the system,
 //! and no clause says what it holds or takes.
 #![tactic(auto)]
@@ -14,8 +14,9 @@ mod mem_sink;
 mod sink;
 #[cfg(test)]
 mod tests;
+mod whole;
 
-pub use ends::{ReadEnd, SinkEnd};
+pub use ends::{ReadEnd, SinkEnd, WriteEnd};
 pub use folder::Folder;
 pub use host_folder::HostFolder;
 pub use host_sink::HostSink;

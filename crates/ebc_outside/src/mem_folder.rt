@@ -1,21 +1,23 @@
-// A folder in memory, with reads that are to fail.
+//! A folder in memory, with reads and writes that are to fail.
 ghost use Rattle.std.specs.Prelude.{◌≡◌, Some, IfOk, OnOk, OnErr, IsErrOf, IsTrue, ◌+◌, ◌⊎◌, take, []};
 ghost use Rattle.std.specs.Option.{ok_or};
 ghost use Rattle.std.specs.FinMap as map;
 ghost use Rattle.ebc_outside.specs.Counts.{Rose, IsCount, is_listed, next_call};
-ghost use Rattle.ebc_outside.specs.Answers.{AnswersFile, asked_after, read_faults_after};
+ghost use Rattle.ebc_outside.specs.Answers.{AnswersFile, asked_after, read_faults_after, write_faults_after};
 ghost use Rattle.ebc_outside.specs.Memory.{files_of};
 
-use crate::ends::ReadEnd;
+use crate::ends::{ReadEnd, WriteEnd};
 use crate::folder::Folder;
 use std::alloc::{AllocError, Global};
 use std::collections::BTreeMap;
 use std::marker::Model;
 
-/// A folder in memory, which tells its contents. A read whose number stands in its list answers
-/// `Fault`, or `NoMemory` where memory is refused, and no other read answers `Fault`.
+/// A folder in memory, which tells its contents. A read whose number stands in the list of failing
+/// reads answers `Fault`, or `NoMemory` where memory is refused, and no other read answers `Fault`.
+/// A write whose number stands in the list of failing writes answers `Fault` and changes no file,
+/// and no other write answers `Fault`.
 ///
-/// Reads are counted from 1, up to 2^64 - 1, the number of all that follow.
+/// Reads and writes are counted apart, each from 1, up to 2^64 - 1, the number of all that follow.
 #[derive(Drop)]
 pub struct MemFolder {
     files: BTreeMap<String, Vec<u8>>,
@@ -23,6 +25,9 @@ pub struct MemFolder {
     reads: u64,
     failing_reads: Vec<u64>,
     read_faults: u64,
+    writes: u64,
+    failing_writes: Vec<u64>,
+    write_faults: u64,
 }
 
 impl Model for MemFolder {
@@ -39,17 +44,23 @@ impl Model for MemFolder {
       reads = f.reads;
       failing_reads = f.failing_reads.items;
       read_faults = f.read_faults;
+      writes = f.writes;
+      failing_writes = f.failing_writes.items;
+      write_faults = f.write_faults;
     } };
 }
 
 impl MemFolder {
-    /// A folder with no files, of which no read fails.
+    /// A folder with no files, of which no read and no write fails.
     pub fn new(alloc: Global) -> Self
         ensures files { result.files ≡ map.empty }
         ensures asked { result.asked ≡ [] }
         ensures reads { result.reads ≡ 0 }
         ensures failing_reads { result.failing_reads ≡ [] }
         ensures read_faults { result.read_faults ≡ 0 }
+        ensures writes { result.writes ≡ 0 }
+        ensures failing_writes { result.failing_writes ≡ [] }
+        ensures write_faults { result.write_faults ≡ 0 }
     {
         MemFolder {
             files: BTreeMap::new(alloc),
@@ -57,6 +68,9 @@ impl MemFolder {
             reads: 0,
             failing_reads: Vec::new(alloc),
             read_faults: 0,
+            writes: 0,
+            failing_writes: Vec::new(alloc),
+            write_faults: 0,
         }
     }
 
@@ -82,6 +96,14 @@ impl MemFolder {
     {
         self.failing_reads = calls;
     }
+
+    /// Sets the numbers of the writes that are to fail, counted from 1 since the folder was made,
+    /// in the place of those that were set before.
+    pub fn fail_writes(&mut self, calls: Vec<u64>)
+        ensures { self.new ≡ record self.old { failing_writes = calls.items } }
+    {
+        self.failing_writes = calls;
+    }
 }
 
 impl Folder for MemFolder {
@@ -90,6 +112,8 @@ impl Folder for MemFolder {
     ghost asked = { λ f. f.asked };
 
     ghost read_faults = { λ f. f.read_faults };
+
+    ghost write_faults = { λ f. f.write_faults };
 
     fn read(&mut self, alloc: Global, name: &str, limit: u64) -> Result<Vec<u8>, ReadEnd>
         ensures answer { AnswersFile (map.get self.old.files name.now) limit result }
@@ -105,6 +129,9 @@ impl Folder for MemFolder {
         ensures read_faults { self.new.read_faults ≡ read_faults_after result self.old.read_faults }
 
         // Each call counts and, unless memory was refused, is remembered. All else stays.
+        ensures writes { self.new.writes ≡ self.old.writes }
+        ensures failing_writes { self.new.failing_writes ≡ self.old.failing_writes }
+        ensures write_faults { self.new.write_faults ≡ self.old.write_faults }
         ensures contents { self.new.files ≡ self.old.files }
         ensures asked { self.new.asked ≡ asked_after name.now result self.old.asked }
         ensures reads { self.new.reads ≡ next_call self.old.reads }
@@ -121,6 +148,40 @@ impl Folder for MemFolder {
             return Err(ReadEnd::Fault);
         }
         found.ok_or(ReadEnd::Missing)
+    }
+
+    fn write(&mut self, _alloc: Global, name: &str, bytes: &[u8]) -> Result<(), WriteEnd>
+        ensures written { OnOk result
+            (self.new.files ≡ map.insert self.old.files name.now bytes.now) }
+        ensures err { OnErr result (self.new.files ≡ self.old.files) }
+        ensures fault { IsErrOf result WriteEnd.Fault →
+            Rose self.old.write_faults self.new.write_faults }
+        ensures count { IsCount self.old.write_faults self.new.write_faults }
+
+        // A call on the list fails, and no other.
+        ensures listed { IsTrue (is_listed (next_call self.old.writes) self.old.failing_writes) →
+            IsErrOf result WriteEnd.Fault }
+        ensures unlisted { IsErrOf result WriteEnd.Fault →
+            IsTrue (is_listed (next_call self.old.writes) self.old.failing_writes) }
+        ensures write_faults { self.new.write_faults
+            ≡ write_faults_after result self.old.write_faults }
+
+        // Each call counts. All else stays.
+        ensures writes { self.new.writes ≡ next_call self.old.writes }
+        ensures failing_writes { self.new.failing_writes ≡ self.old.failing_writes }
+        ensures asked { self.new.asked ≡ self.old.asked }
+        ensures reads { self.new.reads ≡ self.old.reads }
+        ensures failing_reads { self.new.failing_reads ≡ self.old.failing_reads }
+        ensures read_faults { self.new.read_faults ≡ self.old.read_faults }
+    {
+        let faults = self.write_faults;
+        self.writes = self.writes.saturating_add(1);
+        if self.failing_writes.contains(&self.writes) {
+            self.write_faults = faults.saturating_add(1);
+            return Err(WriteEnd::Fault);
+        }
+        self.insert(name, bytes)?;
+        Ok(())
     }
 }
 

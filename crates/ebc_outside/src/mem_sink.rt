@@ -1,4 +1,4 @@
-// A sink in memory, with puts that are to fail.
+//! A sink in memory, with puts that are to fail.
 ghost use Rattle.std.specs.Prelude.{◌≡◌, Some, OnOk, OnErr, IsErrOf, IsTrue, ◌++◌, []};
 ghost use Rattle.ebc_outside.specs.Counts.{Rose, IsCount, is_listed, next_call};
 ghost use Rattle.ebc_outside.specs.Answers.{put_faults_after};

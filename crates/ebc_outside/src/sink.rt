@@ -1,4 +1,4 @@
-// Where the output goes.
+//! Where the output goes.
 ghost use Rattle.std.specs.Prelude.{◌≡◌, ℕ, List, ◌++◌, Option, option_map, OnOk, IsErrOf};
 ghost use Rattle.ebc_outside.specs.Counts.{Rose, IsCount};
 ghost use Rattle.ebc_outside.specs.Files.{AppendsPart};

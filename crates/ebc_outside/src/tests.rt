@@ -1,4 +1,4 @@
-// What the calls do once, where memory and the system allow it.
+//! What the calls do once, where memory and the system allow it.
 use super::*;
 use std::alloc::Global;
 use std::fs;
@@ -59,6 +59,55 @@ fn only_the_listed_puts_fail(rt: HostRuntime) -> Result<(), Fail> {
     assert_eq!(rt; sink.put(alloc, b"two "), Err(SinkEnd::Fault));
     sink.put(alloc, b"three")?;
     assert_eq!(rt; sink.text(), b"one three".as_slice());
+    Ok(())
+}
+
+// Writes two files and one of them again, and reads them back.
+fn write_and_read<F: Folder>(rt: &impl Abort, alloc: Global, folder: &mut F) -> Result<(), Fail> {
+    folder.write(alloc, "first", b"12345")?;
+    folder.write(alloc, "second", b"")?;
+    folder.write(alloc, "first", b"678")?;
+    assert_eq!(rt;
+        folder.read(alloc, "first", 9)?.as_slice(),
+        b"678".as_slice()
+    );
+    assert_eq!(rt; folder.read(alloc, "second", 9)?.len(), 0);
+    Ok(())
+}
+
+#[test]
+fn what_is_written_is_read_back(rt: HostRuntime) -> Result<(), Fail> {
+    write_and_read(&rt, rt.alloc(), &mut MemFolder::new(rt.alloc()))?;
+    write_and_read(&rt, rt.alloc(), &mut HostFolder::new(&rt))
+}
+
+#[test]
+fn only_the_listed_writes_fail(rt: HostRuntime) -> Result<(), Fail> {
+    let alloc = rt.alloc();
+    let mut folder = MemFolder::new(alloc);
+    folder.fail_writes(vec![in alloc; 2]?);
+    folder.write(alloc, "some", b"one")?;
+    assert_eq!(rt; folder.write(alloc, "some", b"two"), Err(WriteEnd::Fault));
+    assert_eq!(rt;
+        folder.read(alloc, "some", 9)?.as_slice(),
+        b"one".as_slice()
+    );
+    folder.write(alloc, "some", b"three")?;
+    assert_eq!(rt;
+        folder.read(alloc, "some", 9)?.as_slice(),
+        b"three".as_slice()
+    );
+    Ok(())
+}
+
+#[test]
+fn a_write_to_a_folder_of_the_system_is_a_fault(rt: HostRuntime) -> Result<(), Fail> {
+    fs::create_dir(&rt, "directory")?;
+    let mut folder = HostFolder::new(&rt);
+    assert_eq!(rt;
+        folder.write(rt.alloc(), "directory", b"1"),
+        Err(WriteEnd::Fault)
+    );
     Ok(())
 }
 

@@ -1,7 +1,7 @@
 use Rattle.std.proofs.Common.{arith, length-drop}
 use Rattle.std.proofs.lemmas.List.{take_rest}
 use Rattle.ebc_outside.proofs.PieceLemmas.{appended}
-use Rattle.ebc_outside.proofs.host_sink.write_whole.Goals as goal
+use Rattle.ebc_outside.proofs.whole.write_whole.Goals as goal
 
 pub loop-done-preserved : goal.loop-done-preserved
 loop-done-preserved g c =
