@@ -1,12 +1,13 @@
 #!/usr/bin/env bash
 # Times the loop of crates/machine_bench at both widths, and prints instructions a second. The one word, if any, is how many
-# steps are run; it is 60,000,000 if left out. The program is proved and built first where it isn't there.
+# steps are run; it is 60,000,000 if left out. The program is proved and built first where it isn't current.
 set -eu
-top=$(cd "$(dirname "${BASH_SOURCE[0]}")/.." && pwd)
+top=$(CDPATH='' cd -- "$(dirname -- "${BASH_SOURCE[0]}")/.." >/dev/null && pwd -P)
 steps=${1:-60000000}
 program=$top/crates/machine_bench/out/machine_bench
 
-[ -x "$program" ] || (cd "$top/crates/machine_bench" && rt run -- 32 6 >/dev/null)
+. "$top/scripts/program.sh"
+build machine_bench 32 6
 
 for width in 32 64; do
   begun=$(date +%s%N)

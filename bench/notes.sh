@@ -2,12 +2,13 @@
 # Times the reader of notes by crates/notes_bench, on texts of 512, 1,024 and 2,048 functions, and prints milliseconds a
 # text and nanoseconds a byte. The program builds its text once and reads it as often as told, so one reading takes a
 # tenth of what eleven take longer than one. Each time is the best of three runs. The program is proved and built first
-# where it isn't there.
+# where it isn't current.
 set -eu
-top=$(cd "$(dirname "${BASH_SOURCE[0]}")/.." && pwd)
+top=$(CDPATH='' cd -- "$(dirname -- "${BASH_SOURCE[0]}")/.." >/dev/null && pwd -P)
 program=$top/crates/notes_bench/out/notes_bench
 
-[ -x "$program" ] || (cd "$top/crates/notes_bench" && rt run -- 2 >/dev/null)
+. "$top/scripts/program.sh"
+build notes_bench 2
 
 # Nanoseconds of the shortest of three runs on so many functions with so many readings.
 shortest() {
