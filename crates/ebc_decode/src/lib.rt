@@ -6,17 +6,21 @@ mod bits;
 mod field;
 mod form;
 mod insn;
+mod reader;
 
-ghost use Rattle.std.specs.Prelude.{◌≡◌, ℕ, ◌+◌, ◌≤◌, List, ◌++◌, length, take, drop, Some, Ok, IfOk, OnErr};
+ghost use Rattle.std.specs.Prelude.{◌≡◌, ℕ, ◌+◌, ◌≤◌, List, ◌++◌, length, take, drop, Ok, IfOk, OnErr};
 ghost use Rattle.arrayvec.specs.ArrayVec.{array_vec_len};
 ghost use Rattle.ebc_insn.specs.declared.Insn.{Insn};
 ghost use Rattle.ebc_insn.specs.Spelling.{Spells, WellFormed, bytes_of, field_bytes, field_size, spelling};
-ghost use Rattle.ebc_decode.specs.Reading.{OneSpelling, ReservedIsExact, form_at, parts_at, read, read_form, size1_at, size2_at, tail_at};
+ghost use Rattle.ebc_decode.specs.Reading.{OneSpelling, ReservedIsExact, form_at, read, read_form};
 
 use crate::bits::{arith_at, cmp_at, size_at};
-use crate::field::field_at;
-use crate::form::Form;
-use crate::insn::insn_at;
+use crate::reader::{
+    read_arith, read_break, read_call, read_compare, read_compare_imm, read_jump, read_jump8,
+    read_load_special, read_move, read_move_imm, read_move_imm_natural, read_move_relative,
+    read_move_signed, read_pop, read_pop_natural, read_push, read_push_natural, read_ret,
+    read_store_special,
+};
 use arrayvec::ArrayVec;
 use ebc_insn::{Code, Field, Insn, Size, parts};
 
@@ -73,78 +77,38 @@ fn read(bytes: &[u8]) -> Result<(Insn, usize), DecodeFault>
     }
 }
 
-// Reads by the opcode, the only branch on it, so that each form's reader is compiled for its form.
+// Reads by the opcode. The branch on it is the only one, so that each form's reader is compiled for its form.
 #[inline(always)]
 #[tactic(auto, unfolding(crate::specs::Reading::form_at))]
 fn read_opcode(opcode: u8, b0: u8, b1: u8, rest: &[u8]) -> Result<(Insn, usize), DecodeFault>
     ensures { result ≡ read_form (form_at opcode) b0 b1 rest.now }
 {
     match opcode {
-        0x00 => read_form(Form::Break, b0, b1, rest),
-        0x01 => read_form(Form::Jump, b0, b1, rest),
-        0x02 => read_form(Form::Jump8, b0, b1, rest),
-        0x03 => read_form(Form::Call, b0, b1, rest),
-        0x04 => read_form(Form::Ret, b0, b1, rest),
-        0x05..=0x09 => read_form(Form::Compare(cmp_at(opcode - 0x05)), b0, b1, rest),
-        0x0A..=0x1C => read_form(Form::Arith(arith_at(opcode - 0x0A)), b0, b1, rest),
-        0x1D..=0x20 => read_form(Form::Move(size_at(opcode - 0x1D), 16), b0, b1, rest),
-        0x21..=0x24 => read_form(Form::Move(size_at(opcode - 0x21), 32), b0, b1, rest),
-        0x25 => read_form(Form::MoveSigned(16), b0, b1, rest),
-        0x26 => read_form(Form::MoveSigned(32), b0, b1, rest),
-        0x28 => read_form(Form::Move(Size::Qword, 64), b0, b1, rest),
-        0x29 => read_form(Form::LoadSpecial, b0, b1, rest),
-        0x2A => read_form(Form::StoreSpecial, b0, b1, rest),
-        0x2B => read_form(Form::Push, b0, b1, rest),
-        0x2C => read_form(Form::Pop, b0, b1, rest),
-        0x2D..=0x31 => read_form(Form::CompareImm(cmp_at(opcode - 0x2D)), b0, b1, rest),
-        0x32 => read_form(Form::Move(Size::Natural, 16), b0, b1, rest),
-        0x33 => read_form(Form::Move(Size::Natural, 32), b0, b1, rest),
-        0x35 => read_form(Form::PushNatural, b0, b1, rest),
-        0x36 => read_form(Form::PopNatural, b0, b1, rest),
-        0x37 => read_form(Form::MoveImm, b0, b1, rest),
-        0x38 => read_form(Form::MoveImmNatural, b0, b1, rest),
-        0x39 => read_form(Form::MoveRelative, b0, b1, rest),
+        0x00 => read_break(b0, b1, rest),
+        0x01 => read_jump(b0, b1, rest),
+        0x02 => read_jump8(b0, b1, rest),
+        0x03 => read_call(b0, b1, rest),
+        0x04 => read_ret(b0, b1, rest),
+        0x05..=0x09 => read_compare(cmp_at(opcode - 0x05), b0, b1, rest),
+        0x0A..=0x1C => read_arith(arith_at(opcode - 0x0A), b0, b1, rest),
+        0x1D..=0x20 => read_move(size_at(opcode - 0x1D), 16, b0, b1, rest),
+        0x21..=0x24 => read_move(size_at(opcode - 0x21), 32, b0, b1, rest),
+        0x25 => read_move_signed(16, b0, b1, rest),
+        0x26 => read_move_signed(32, b0, b1, rest),
+        0x28 => read_move(Size::Qword, 64, b0, b1, rest),
+        0x29 => read_load_special(b0, b1, rest),
+        0x2A => read_store_special(b0, b1, rest),
+        0x2B => read_push(b0, b1, rest),
+        0x2C => read_pop(b0, b1, rest),
+        0x2D..=0x31 => read_compare_imm(cmp_at(opcode - 0x2D), b0, b1, rest),
+        0x32 => read_move(Size::Natural, 16, b0, b1, rest),
+        0x33 => read_move(Size::Natural, 32, b0, b1, rest),
+        0x35 => read_push_natural(b0, b1, rest),
+        0x36 => read_pop_natural(b0, b1, rest),
+        0x37 => read_move_imm(b0, b1, rest),
+        0x38 => read_move_imm_natural(b0, b1, rest),
+        0x39 => read_move_relative(b0, b1, rest),
         _ => Err(DecodeFault::Opcode),
-    }
-}
-
-// What two bytes with the opcode of a form, and what follows them, read as.
-#[inline(always)]
-fn read_form(form: Form, b0: u8, b1: u8, rest: &[u8]) -> Result<(Insn, usize), DecodeFault>
-    ensures { result ≡ read_form (Some form) b0 b1 rest.now }
-{
-    if form.is_reserved(b0, b1) {
-        return Err(DecodeFault::Reserved);
-    }
-    if form.is_direct_index(b0, b1) {
-        return Err(DecodeFault::DirectIndex);
-    }
-    let (one, two) = (form.size1(b0, b1), form.size2(b0));
-    let tail = one + two;
-    if rest.len() < tail {
-        return Err(DecodeFault::Short);
-    }
-    match insn_at(form, parts_at(form, b0, b1, one, two, rest)) {
-        Some(insn) => Ok((insn, 2 + tail)),
-        None => Err(DecodeFault::IndexTag),
-    }
-}
-
-// The parts of two bytes and of the fields that follow them, whose sizes are `one` and `two`.
-#[inline(always)]
-#[tactic(auto, unfolding(crate::specs::Reading::parts_at))]
-fn parts_at(form: Form, b0: u8, b1: u8, one: usize, two: usize, rest: &[u8]) -> Code
-    requires first { one ≡ size1_at form b0 b1 }
-    requires second { two ≡ size2_at form b0 }
-    requires room { tail_at form b0 b1 ≤ length rest.now }
-    ensures { result ≡ parts_at form b0 b1 rest.now }
-{
-    let (front, back) = rest.split_at(one);
-    Code {
-        first: b0,
-        second: b1,
-        one: field_at(front),
-        two: field_at(&back[..two]),
     }
 }
 
