@@ -1,4 +1,4 @@
-//! The instruction of a form and of its parts, a function for each form that has more than one field.
+//! The instruction of each form by its parts: none where the tag of an index has no room.
 
 ghost use Rattle.std.specs.Prelude.{◌≡◌};
 ghost use Rattle.ebc_decode.specs.Reading.{insn_at, left_at, right_at};
@@ -6,73 +6,7 @@ ghost use Rattle.ebc_decode.specs.declared.form.Form.TheVariants as forms;
 
 use crate::bits::{bits_at, cond_at, flag, operand_at, size_at};
 use crate::field::{extra_at, index_at, int_at, int32_at, optional_at};
-use crate::form::Form;
-use ebc_insn::{CmpOp, Code, Insn, Operand, Size};
-
-// The instruction of a form and of its parts: none where the tag of an index has no room.
-#[tactic(auto, unfolding(crate::specs::Reading::insn_at))]
-#[inline(always)]
-pub fn insn_at(form: Form, code: Code) -> Option<Insn>
-    ensures { result ≡ insn_at form code }
-{
-    let wide = flag(code.first / 64);
-    let (left, right) = (left_at(code), right_at(code));
-    Some(match form {
-        Form::Break => Insn::Break { code: code.second },
-        Form::Jump => jump_at(code)?,
-        Form::Jump8 => Insn::Jump8 {
-            cond: cond_at(code.first / 64),
-            words: code.second.cast_signed(),
-        },
-        Form::Call => call_at(code)?,
-        Form::Ret => Insn::Ret,
-        Form::Compare(op) => Insn::Compare {
-            op,
-            wide,
-            left: code.second % 8,
-            right,
-            extra: extra_at(right, code.one)?,
-        },
-        Form::CompareImm(op) => compare_imm_at(op, code)?,
-        Form::Arith(op) => Insn::Arith {
-            op,
-            wide,
-            left,
-            right,
-            extra: extra_at(right, code.one)?,
-        },
-        Form::Move(size, bits) => move_at(size, bits, code)?,
-        Form::MoveSigned(bits) => move_signed_at(bits, code)?,
-        Form::MoveImm => move_imm_at(code)?,
-        Form::MoveImmNatural => move_imm_natural_at(code)?,
-        Form::MoveRelative => move_relative_at(code)?,
-        Form::LoadSpecial => Insn::LoadSpecial {
-            from: code.second / 16,
-        },
-        Form::StoreSpecial => Insn::StoreSpecial {
-            to: code.second % 8,
-            special: code.second / 16,
-        },
-        Form::Push => Insn::Push {
-            wide,
-            op: left,
-            extra: extra_at(left, code.one)?,
-        },
-        Form::Pop => Insn::Pop {
-            wide,
-            op: left,
-            extra: extra_at(left, code.one)?,
-        },
-        Form::PushNatural => Insn::PushNatural {
-            op: left,
-            extra: extra_at(left, code.one)?,
-        },
-        Form::PopNatural => Insn::PopNatural {
-            op: left,
-            extra: extra_at(left, code.one)?,
-        },
-    })
-}
+use ebc_insn::{ArithOp, CmpOp, Code, Insn, Operand, Size};
 
 // Operand 1.
 #[inline(always)]
@@ -90,9 +24,17 @@ fn right_at(code: Code) -> Operand
     operand_at(code.second / 16)
 }
 
+#[inline(always)]
+#[tactic(auto, unfolding(crate::specs::Reading::insn_at))]
+pub fn break_at(code: Code) -> Option<Insn>
+    ensures { result ≡ insn_at forms.Break code }
+{
+    Some(Insn::Break { code: code.second })
+}
+
 #[tactic(auto, unfolding(crate::specs::Reading::insn_at))]
 #[inline(always)]
-fn jump_at(code: Code) -> Option<Insn>
+pub fn jump_at(code: Code) -> Option<Insn>
     ensures { result ≡ insn_at forms.Jump code }
 {
     let op = left_at(code);
@@ -105,9 +47,20 @@ fn jump_at(code: Code) -> Option<Insn>
     })
 }
 
+#[inline(always)]
+#[tactic(auto, unfolding(crate::specs::Reading::insn_at))]
+pub fn jump8_at(code: Code) -> Option<Insn>
+    ensures { result ≡ insn_at forms.Jump8 code }
+{
+    Some(Insn::Jump8 {
+        cond: cond_at(code.first / 64),
+        words: code.second.cast_signed(),
+    })
+}
+
 #[tactic(auto, unfolding(crate::specs::Reading::insn_at))]
 #[inline(always)]
-fn call_at(code: Code) -> Option<Insn>
+pub fn call_at(code: Code) -> Option<Insn>
     ensures { result ≡ insn_at forms.Call code }
 {
     let op = left_at(code);
@@ -120,9 +73,47 @@ fn call_at(code: Code) -> Option<Insn>
     })
 }
 
+#[inline(always)]
+#[tactic(auto, unfolding(crate::specs::Reading::insn_at))]
+pub fn ret_at(code: Code) -> Option<Insn>
+    ensures { result ≡ insn_at forms.Ret code }
+{
+    Some(Insn::Ret)
+}
+
+#[inline(always)]
+#[tactic(auto, unfolding(crate::specs::Reading::insn_at))]
+pub fn compare_at(op: CmpOp, code: Code) -> Option<Insn>
+    ensures { result ≡ insn_at (forms.Compare op) code }
+{
+    let right = right_at(code);
+    Some(Insn::Compare {
+        op,
+        wide: flag(code.first / 64),
+        left: code.second % 8,
+        right,
+        extra: extra_at(right, code.one)?,
+    })
+}
+
+#[inline(always)]
+#[tactic(auto, unfolding(crate::specs::Reading::insn_at))]
+pub fn arith_at(op: ArithOp, code: Code) -> Option<Insn>
+    ensures { result ≡ insn_at (forms.Arith op) code }
+{
+    let right = right_at(code);
+    Some(Insn::Arith {
+        op,
+        wide: flag(code.first / 64),
+        left: left_at(code),
+        right,
+        extra: extra_at(right, code.one)?,
+    })
+}
+
 #[tactic(auto, unfolding(crate::specs::Reading::insn_at))]
 #[inline(always)]
-fn compare_imm_at(op: CmpOp, code: Code) -> Option<Insn>
+pub fn compare_imm_at(op: CmpOp, code: Code) -> Option<Insn>
     ensures { result ≡ insn_at (forms.CompareImm op) code }
 {
     Some(Insn::CompareImm {
@@ -137,7 +128,7 @@ fn compare_imm_at(op: CmpOp, code: Code) -> Option<Insn>
 
 #[tactic(auto, unfolding(crate::specs::Reading::insn_at))]
 #[inline(always)]
-fn move_at(size: Size, bits: u8, code: Code) -> Option<Insn>
+pub fn move_at(size: Size, bits: u8, code: Code) -> Option<Insn>
     ensures { result ≡ insn_at (forms.Move size bits) code }
 {
     Some(Insn::Move {
@@ -152,7 +143,7 @@ fn move_at(size: Size, bits: u8, code: Code) -> Option<Insn>
 
 #[tactic(auto, unfolding(crate::specs::Reading::insn_at))]
 #[inline(always)]
-fn move_signed_at(bits: u8, code: Code) -> Option<Insn>
+pub fn move_signed_at(bits: u8, code: Code) -> Option<Insn>
     ensures { result ≡ insn_at (forms.MoveSigned bits) code }
 {
     let right = right_at(code);
@@ -167,7 +158,7 @@ fn move_signed_at(bits: u8, code: Code) -> Option<Insn>
 
 #[tactic(auto, unfolding(crate::specs::Reading::insn_at))]
 #[inline(always)]
-fn move_imm_at(code: Code) -> Option<Insn>
+pub fn move_imm_at(code: Code) -> Option<Insn>
     ensures { result ≡ insn_at forms.MoveImm code }
 {
     Some(Insn::MoveImm {
@@ -181,7 +172,7 @@ fn move_imm_at(code: Code) -> Option<Insn>
 
 #[tactic(auto, unfolding(crate::specs::Reading::insn_at))]
 #[inline(always)]
-fn move_imm_natural_at(code: Code) -> Option<Insn>
+pub fn move_imm_natural_at(code: Code) -> Option<Insn>
     ensures { result ≡ insn_at forms.MoveImmNatural code }
 {
     Some(Insn::MoveImmNatural {
@@ -194,7 +185,7 @@ fn move_imm_natural_at(code: Code) -> Option<Insn>
 
 #[tactic(auto, unfolding(crate::specs::Reading::insn_at))]
 #[inline(always)]
-fn move_relative_at(code: Code) -> Option<Insn>
+pub fn move_relative_at(code: Code) -> Option<Insn>
     ensures { result ≡ insn_at forms.MoveRelative code }
 {
     Some(Insn::MoveRelative {
@@ -202,5 +193,76 @@ fn move_relative_at(code: Code) -> Option<Insn>
         left: left_at(code),
         lidx: optional_at(code.one)?,
         imm: int_at(code.two),
+    })
+}
+
+#[inline(always)]
+#[tactic(auto, unfolding(crate::specs::Reading::insn_at))]
+pub fn load_special_at(code: Code) -> Option<Insn>
+    ensures { result ≡ insn_at forms.LoadSpecial code }
+{
+    Some(Insn::LoadSpecial {
+        from: code.second / 16,
+    })
+}
+
+#[inline(always)]
+#[tactic(auto, unfolding(crate::specs::Reading::insn_at))]
+pub fn store_special_at(code: Code) -> Option<Insn>
+    ensures { result ≡ insn_at forms.StoreSpecial code }
+{
+    Some(Insn::StoreSpecial {
+        to: code.second % 8,
+        special: code.second / 16,
+    })
+}
+
+#[inline(always)]
+#[tactic(auto, unfolding(crate::specs::Reading::insn_at))]
+pub fn push_at(code: Code) -> Option<Insn>
+    ensures { result ≡ insn_at forms.Push code }
+{
+    let op = left_at(code);
+    Some(Insn::Push {
+        wide: flag(code.first / 64),
+        op,
+        extra: extra_at(op, code.one)?,
+    })
+}
+
+#[inline(always)]
+#[tactic(auto, unfolding(crate::specs::Reading::insn_at))]
+pub fn pop_at(code: Code) -> Option<Insn>
+    ensures { result ≡ insn_at forms.Pop code }
+{
+    let op = left_at(code);
+    Some(Insn::Pop {
+        wide: flag(code.first / 64),
+        op,
+        extra: extra_at(op, code.one)?,
+    })
+}
+
+#[inline(always)]
+#[tactic(auto, unfolding(crate::specs::Reading::insn_at))]
+pub fn push_natural_at(code: Code) -> Option<Insn>
+    ensures { result ≡ insn_at forms.PushNatural code }
+{
+    let op = left_at(code);
+    Some(Insn::PushNatural {
+        op,
+        extra: extra_at(op, code.one)?,
+    })
+}
+
+#[inline(always)]
+#[tactic(auto, unfolding(crate::specs::Reading::insn_at))]
+pub fn pop_natural_at(code: Code) -> Option<Insn>
+    ensures { result ≡ insn_at forms.PopNatural code }
+{
+    let op = left_at(code);
+    Some(Insn::PopNatural {
+        op,
+        extra: extra_at(op, code.one)?,
     })
 }

@@ -6,19 +6,22 @@ mod bits;
 mod field;
 mod form;
 mod insn;
+mod reader;
 
-ghost use Rattle.std.specs.Prelude.{◌≡◌, ℕ, ◌+◌, ◌≤◌, List, ◌++◌, length, take, drop, Some, Ok, IfOk, OnErr};
+ghost use Rattle.std.specs.Prelude.{◌≡◌, ℕ, ◌+◌, ◌≤◌, List, ◌++◌, length, take, drop, Ok, IfOk, OnErr};
 ghost use Rattle.arrayvec.specs.ArrayVec.{array_vec_len};
 ghost use Rattle.ebc_insn.specs.declared.Insn.{Insn};
 ghost use Rattle.ebc_insn.specs.Spelling.{Spells, WellFormed, bytes_of, field_bytes, field_size, spelling};
-ghost use Rattle.ebc_decode.specs.Reading.{OneSpelling, ReservedIsExact, form_at, parts_at, read, read_form, size1_at, size2_at, tail_at};
+ghost use Rattle.ebc_decode.specs.Reading.{OneSpelling, ReservedIsExact, form_at, read, read_form};
 
-use crate::bits::{arith_at, cmp_at, size_at};
-use crate::field::field_at;
-use crate::form::Form;
-use crate::insn::insn_at;
+use crate::reader::{
+    read_arith, read_break, read_call, read_compare, read_compare_imm, read_jump, read_jump8,
+    read_load_special, read_move, read_move_imm, read_move_imm_natural, read_move_relative,
+    read_move_signed, read_pop, read_pop_natural, read_push, read_push_natural, read_ret,
+    read_store_special,
+};
 use arrayvec::ArrayVec;
-use ebc_insn::{Code, Field, Insn, Size, parts};
+use ebc_insn::{ArithOp, CmpOp, Code, Field, Insn, Size, parts};
 
 /// Why bytes begin with no spelling of an instruction. The first that holds is told, in the order that `decode` has.
 #[derive(Clone, Copy, PartialEq, Eq, Debug)]
@@ -73,78 +76,70 @@ fn read(bytes: &[u8]) -> Result<(Insn, usize), DecodeFault>
     }
 }
 
-// Reads by the opcode, the only branch on it, so that each form's reader is compiled for its form.
+// Reads by the opcode, with one branch on it: a row for each ("EBC Instruction Set").
 #[inline(always)]
 #[tactic(auto, unfolding(crate::specs::Reading::form_at))]
 fn read_opcode(opcode: u8, b0: u8, b1: u8, rest: &[u8]) -> Result<(Insn, usize), DecodeFault>
     ensures { result ≡ read_form (form_at opcode) b0 b1 rest.now }
 {
     match opcode {
-        0x00 => read_form(Form::Break, b0, b1, rest),
-        0x01 => read_form(Form::Jump, b0, b1, rest),
-        0x02 => read_form(Form::Jump8, b0, b1, rest),
-        0x03 => read_form(Form::Call, b0, b1, rest),
-        0x04 => read_form(Form::Ret, b0, b1, rest),
-        0x05..=0x09 => read_form(Form::Compare(cmp_at(opcode - 0x05)), b0, b1, rest),
-        0x0A..=0x1C => read_form(Form::Arith(arith_at(opcode - 0x0A)), b0, b1, rest),
-        0x1D..=0x20 => read_form(Form::Move(size_at(opcode - 0x1D), 16), b0, b1, rest),
-        0x21..=0x24 => read_form(Form::Move(size_at(opcode - 0x21), 32), b0, b1, rest),
-        0x25 => read_form(Form::MoveSigned(16), b0, b1, rest),
-        0x26 => read_form(Form::MoveSigned(32), b0, b1, rest),
-        0x28 => read_form(Form::Move(Size::Qword, 64), b0, b1, rest),
-        0x29 => read_form(Form::LoadSpecial, b0, b1, rest),
-        0x2A => read_form(Form::StoreSpecial, b0, b1, rest),
-        0x2B => read_form(Form::Push, b0, b1, rest),
-        0x2C => read_form(Form::Pop, b0, b1, rest),
-        0x2D..=0x31 => read_form(Form::CompareImm(cmp_at(opcode - 0x2D)), b0, b1, rest),
-        0x32 => read_form(Form::Move(Size::Natural, 16), b0, b1, rest),
-        0x33 => read_form(Form::Move(Size::Natural, 32), b0, b1, rest),
-        0x35 => read_form(Form::PushNatural, b0, b1, rest),
-        0x36 => read_form(Form::PopNatural, b0, b1, rest),
-        0x37 => read_form(Form::MoveImm, b0, b1, rest),
-        0x38 => read_form(Form::MoveImmNatural, b0, b1, rest),
-        0x39 => read_form(Form::MoveRelative, b0, b1, rest),
+        0x00 => read_break(b0, b1, rest),
+        0x01 => read_jump(b0, b1, rest),
+        0x02 => read_jump8(b0, b1, rest),
+        0x03 => read_call(b0, b1, rest),
+        0x04 => read_ret(b0, b1, rest),
+        0x05 => read_compare(CmpOp::Eq, b0, b1, rest),
+        0x06 => read_compare(CmpOp::Lte, b0, b1, rest),
+        0x07 => read_compare(CmpOp::Gte, b0, b1, rest),
+        0x08 => read_compare(CmpOp::Ulte, b0, b1, rest),
+        0x09 => read_compare(CmpOp::Ugte, b0, b1, rest),
+        0x0A => read_arith(ArithOp::Not, b0, b1, rest),
+        0x0B => read_arith(ArithOp::Neg, b0, b1, rest),
+        0x0C => read_arith(ArithOp::Add, b0, b1, rest),
+        0x0D => read_arith(ArithOp::Sub, b0, b1, rest),
+        0x0E => read_arith(ArithOp::Mul, b0, b1, rest),
+        0x0F => read_arith(ArithOp::Mulu, b0, b1, rest),
+        0x10 => read_arith(ArithOp::Div, b0, b1, rest),
+        0x11 => read_arith(ArithOp::Divu, b0, b1, rest),
+        0x12 => read_arith(ArithOp::Mod, b0, b1, rest),
+        0x13 => read_arith(ArithOp::Modu, b0, b1, rest),
+        0x14 => read_arith(ArithOp::And, b0, b1, rest),
+        0x15 => read_arith(ArithOp::Or, b0, b1, rest),
+        0x16 => read_arith(ArithOp::Xor, b0, b1, rest),
+        0x17 => read_arith(ArithOp::Shl, b0, b1, rest),
+        0x18 => read_arith(ArithOp::Shr, b0, b1, rest),
+        0x19 => read_arith(ArithOp::Ashr, b0, b1, rest),
+        0x1A => read_arith(ArithOp::Extb, b0, b1, rest),
+        0x1B => read_arith(ArithOp::Extw, b0, b1, rest),
+        0x1C => read_arith(ArithOp::Extd, b0, b1, rest),
+        0x1D => read_move(Size::Byte, 16, b0, b1, rest),
+        0x1E => read_move(Size::Word, 16, b0, b1, rest),
+        0x1F => read_move(Size::Dword, 16, b0, b1, rest),
+        0x20 => read_move(Size::Qword, 16, b0, b1, rest),
+        0x21 => read_move(Size::Byte, 32, b0, b1, rest),
+        0x22 => read_move(Size::Word, 32, b0, b1, rest),
+        0x23 => read_move(Size::Dword, 32, b0, b1, rest),
+        0x24 => read_move(Size::Qword, 32, b0, b1, rest),
+        0x25 => read_move_signed(16, b0, b1, rest),
+        0x26 => read_move_signed(32, b0, b1, rest),
+        0x28 => read_move(Size::Qword, 64, b0, b1, rest),
+        0x29 => read_load_special(b0, b1, rest),
+        0x2A => read_store_special(b0, b1, rest),
+        0x2B => read_push(b0, b1, rest),
+        0x2C => read_pop(b0, b1, rest),
+        0x2D => read_compare_imm(CmpOp::Eq, b0, b1, rest),
+        0x2E => read_compare_imm(CmpOp::Lte, b0, b1, rest),
+        0x2F => read_compare_imm(CmpOp::Gte, b0, b1, rest),
+        0x30 => read_compare_imm(CmpOp::Ulte, b0, b1, rest),
+        0x31 => read_compare_imm(CmpOp::Ugte, b0, b1, rest),
+        0x32 => read_move(Size::Natural, 16, b0, b1, rest),
+        0x33 => read_move(Size::Natural, 32, b0, b1, rest),
+        0x35 => read_push_natural(b0, b1, rest),
+        0x36 => read_pop_natural(b0, b1, rest),
+        0x37 => read_move_imm(b0, b1, rest),
+        0x38 => read_move_imm_natural(b0, b1, rest),
+        0x39 => read_move_relative(b0, b1, rest),
         _ => Err(DecodeFault::Opcode),
-    }
-}
-
-// What two bytes with the opcode of a form, and what follows them, read as.
-#[inline(always)]
-fn read_form(form: Form, b0: u8, b1: u8, rest: &[u8]) -> Result<(Insn, usize), DecodeFault>
-    ensures { result ≡ read_form (Some form) b0 b1 rest.now }
-{
-    if form.is_reserved(b0, b1) {
-        return Err(DecodeFault::Reserved);
-    }
-    if form.is_direct_index(b0, b1) {
-        return Err(DecodeFault::DirectIndex);
-    }
-    let (one, two) = (form.size1(b0, b1), form.size2(b0));
-    let tail = one + two;
-    if rest.len() < tail {
-        return Err(DecodeFault::Short);
-    }
-    match insn_at(form, parts_at(form, b0, b1, one, two, rest)) {
-        Some(insn) => Ok((insn, 2 + tail)),
-        None => Err(DecodeFault::IndexTag),
-    }
-}
-
-// The parts of two bytes and of the fields that follow them, whose sizes are `one` and `two`.
-#[inline(always)]
-#[tactic(auto, unfolding(crate::specs::Reading::parts_at))]
-fn parts_at(form: Form, b0: u8, b1: u8, one: usize, two: usize, rest: &[u8]) -> Code
-    requires first { one ≡ size1_at form b0 b1 }
-    requires second { two ≡ size2_at form b0 }
-    requires room { tail_at form b0 b1 ≤ length rest.now }
-    ensures { result ≡ parts_at form b0 b1 rest.now }
-{
-    let (front, back) = rest.split_at(one);
-    Code {
-        first: b0,
-        second: b1,
-        one: field_at(front),
-        two: field_at(&back[..two]),
     }
 }
 

@@ -4,8 +4,9 @@ use Rattle.natural_index.specs.Index.{fields_of}
 use Rattle.ebc_decode.specs.Reading.{form_at, is_reserved, has_left_index, size1_at, size2_at, field_at, insn_at, parts_at}
 use Rattle.ebc_decode.specs.Reading as reading
 use Rattle.machine_alu.specs.Alu.{computed}
-use Rattle.object_memory.specs.Bytes.{read, put, window}
-use Rattle.note_types.specs.Concrete.{Concrete, holds, loaded, stored, rest_from, with_register, at_ip}
+use Rattle.ebc_width.specs.Bytes.{little_endian, put, window}
+use Rattle.ebc_width.specs.Ranges.{holds}
+use Rattle.note_types.specs.Concrete.{Concrete, loaded, stored, rest_from, with_register, at_ip}
 use Rattle.note_types.specs.declared.exception.Exception.TheVariants as raises
 use Rattle.ebc_machine.specs.declared.StepEnd.TheVariants as ends
 use Rattle.ebc_machine.specs.Results.{goes}
@@ -49,7 +50,7 @@ by_zero = refl
 
 -- POP32 R4: the sign, and R0
 popped_sign : (machine_step 8 (code_at (0x2C ∷ 0x04 ∷ 0 ∷ 0 ∷ []))).1.registers ≡ 0x1014 ∷ 0xFFFF_FFFF_0000_0001 ∷ 0xFFFF_FFFF ∷ 0 ∷ 0xFFFF_FFFF_FFFF_FFFF ∷ 0 ∷ 0 ∷ 0 ∷ []
-unfolding machine_step instruction_done executed fetched rest_from window reading.read form_at is_reserved has_left_index size1_at size2_at field_at insn_at parts_at pop_row loaded_at loaded holds read address sum_at popped raised_by with_register goes at_ip
+unfolding machine_step instruction_done executed fetched rest_from window reading.read form_at is_reserved has_left_index size1_at size2_at field_at insn_at parts_at pop_row loaded_at loaded holds little_endian address sum_at popped raised_by with_register goes at_ip
 popped_sign = refl
 
 -- CALL32 R2, to an odd target

@@ -2,6 +2,7 @@
 -- from "ADD" to "XOR", "CMP" and "CMPI"; in words in docs/MACHINE.md, "Data". The width w is how many bytes an address
 -- has, and `next` is the address of the next instruction.
 use Rattle.std.specs.Prelude.{ℕ, ◌+◌, ◌*◌, ◌/◌, Bool, ℤ, if◌then◌else◌}
+use Rattle.ebc_base.specs.Steps.{◌>>=◌}
 use Rattle.ebc_width.specs.Width.{wrap64}
 use Rattle.ebc_insn.specs.declared.ArithOp.{ArithOp}
 use Rattle.ebc_insn.specs.declared.CmpOp.{CmpOp}
@@ -10,7 +11,7 @@ use Rattle.note_types.specs.Concrete.{Concrete, register, with_flags}
 use Rattle.note_types.specs.declared.exception.Exception.TheVariants as raises
 use Rattle.ebc_machine.specs.declared.operand.Side.{Side}
 use Rattle.ebc_machine.specs.Operands.{form_bytes, value, written}
-use Rattle.ebc_machine.specs.Results.{Row, ◌>>=◌, or_divide_error, goes}
+use Rattle.ebc_machine.specs.Results.{Row, or_divide_error, goes}
 
 -- the flags with C set or clear
 abbrev pub with_c : ℕ → Bool → ℕ

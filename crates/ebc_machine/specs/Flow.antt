@@ -2,6 +2,7 @@
 -- Set", "BREAK", "CALL", "JMP", "JMP8" and "RET"; in words in docs/MACHINE.md, "Flow". The width w is how many bytes an
 -- address has, and `next` is the address of the next instruction.
 use Rattle.std.specs.Prelude.{ℕ, ◌+◌, ◌%◌, ◌^◌, Bool, true, Result, Ok, Err, ℤ, pos, ◌*ℤ◌, nat_eq, if◌then◌else◌}
+use Rattle.ebc_base.specs.Steps.{◌>>=◌, or_else}
 use Rattle.ebc_width.specs.Width.{cut_at, wrap64}
 use Rattle.ebc_insn.specs.declared.Cond.{Cond}
 use Rattle.ebc_insn.specs.declared.Cond.TheVariants.{Always, Set, Clear}
@@ -11,7 +12,7 @@ use Rattle.note_types.specs.declared.exception.Exception.TheVariants as raises
 use Rattle.ebc_machine.specs.declared.StepEnd.TheVariants as ends
 use Rattle.ebc_machine.specs.declared.operand.Side.{Side}
 use Rattle.ebc_machine.specs.Operands.{loaded_at, stored_at}
-use Rattle.ebc_machine.specs.Results.{Written, Row, ◌>>=◌, or_raise, goes}
+use Rattle.ebc_machine.specs.Results.{Written, Row, goes}
 use Rattle.ebc_machine.specs.Stack.{raised_by, lowered_by}
 
 -- ---- where control goes
@@ -34,7 +35,7 @@ base_at s r = if nat_eq r 0 then 0 else register s r
 unfoldable pub target_number : ℕ → Concrete → Side → Result ℕ Exception
 target_number w s op =
     let sum = (base_at s op.reg + op.offset) % 2 ^ 64 in
-    if op.indirect then or_raise raises.MemoryFault (loaded s (cut_at w sum) w) else Ok sum
+    if op.indirect then or_else raises.MemoryFault (loaded s (cut_at w sum) w) else Ok sum
 
 -- the target of a jump or a call: that number, past the next instruction where it is relative, cut to the width
 unfoldable pub target_at : ℕ → Concrete → ℕ → Bool → Side → Result ℕ Exception

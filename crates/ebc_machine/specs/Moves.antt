@@ -2,6 +2,7 @@
 -- "LOADSP" and "STORESP"; in words in docs/MACHINE.md, "Moves". The width w is how many bytes an address has,
 -- and `next` is the address of the next instruction.
 use Rattle.std.specs.Prelude.{ℕ, ◌+◌, ◌*◌, ◌/◌, ◌%◌, ◌^◌, ℤ, nat_eq, if◌then◌else◌}
+use Rattle.ebc_base.specs.Steps.{◌>>=◌}
 use Rattle.ebc_width.specs.Width.{extended_at, wrap64}
 use Rattle.natural_index.specs.declared.Index.{Index}
 use Rattle.ebc_insn.specs.declared.Size.{Size}
@@ -9,7 +10,7 @@ use Rattle.note_types.specs.Concrete.{Concrete, register, with_register, with_fl
 use Rattle.note_types.specs.declared.exception.Exception.TheVariants as raises
 use Rattle.ebc_machine.specs.declared.operand.Side.{Side}
 use Rattle.ebc_machine.specs.Operands.{size_bytes, low_bytes, index_offset, value, written}
-use Rattle.ebc_machine.specs.Results.{Row, ◌>>=◌, goes}
+use Rattle.ebc_machine.specs.Results.{Row, goes}
 
 -- MOVb, MOVw, MOVd, MOVq, MOVqq and MOVn: operand 2, cut to the size of the move, in operand 1
 unfoldable pub move_row : ℕ → Concrete → ℕ → Size → Side → Side → Row

@@ -2,6 +2,7 @@
 -- Code Virtual Machine", sections "EBC Instruction Operands" and "Natural Indexing"; in words in docs/MACHINE.md, "Operands".
 -- The width w is how many bytes an address has, 4 or 8.
 use Rattle.std.specs.Prelude.{ℕ, ◌+◌, ◌*◌, ◌%◌, ◌^◌, Bool, Option, Some, None, Result, Ok, if◌then◌else◌}
+use Rattle.ebc_base.specs.Steps.{or_else}
 use Rattle.ebc_width.specs.Width.{cut_at, wrap64}
 use Rattle.natural_index.specs.Index.{index_value}
 use Rattle.natural_index.specs.declared.Index.{Index}
@@ -14,7 +15,7 @@ use Rattle.note_types.specs.Concrete.{Concrete, loaded, stored, register, with_r
 use Rattle.note_types.specs.declared.exception.Exception.{Exception}
 use Rattle.note_types.specs.declared.exception.Exception.TheVariants as raises
 use Rattle.ebc_machine.specs.declared.operand.Side.{Side}
-use Rattle.ebc_machine.specs.Results.{Written, or_raise}
+use Rattle.ebc_machine.specs.Results.{Written}
 
 -- ---- sizes
 
@@ -75,11 +76,11 @@ address w s r offset = cut_at w (sum_at s r offset)
 
 -- the number in the k bytes at a register and an offset, or the exception e
 unfoldable pub loaded_at : ℕ → Concrete → Exception → ℕ → ℕ → ℕ → Result ℕ Exception
-loaded_at w s e k r offset = or_raise e (loaded s (address w s r offset) k)
+loaded_at w s e k r offset = or_else e (loaded s (address w s r offset) k)
 
 -- the state with the low k bytes of v at a register and an offset, or the exception e
 unfoldable pub stored_at : ℕ → Concrete → Exception → ℕ → ℕ → ℕ → ℕ → Written
-stored_at w s e k r offset v = or_raise e (stored s (address w s r offset) k v)
+stored_at w s e k r offset v = or_else e (stored s (address w s r offset) k v)
 
 -- the value of an operand of k bytes: a sum, or what the memory there holds, or the exception e
 unfoldable pub value : ℕ → Concrete → Exception → ℕ → Side → Result ℕ Exception

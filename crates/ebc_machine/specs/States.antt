@@ -1,20 +1,12 @@
 -- The state of a machine and its memory in numbers, and what a call makes of them. docs/MACHINE.md, "The state".
-use Rattle.std.specs.Prelude.{◌≡◌, ℕ, List, map, Result, Ok, Err, ⊤}
-use Rattle.object_memory.specs.Memory.{Object, Memory, byte_at}
-use Rattle.note_types.specs.Concrete.{Range, Concrete}
+use Rattle.std.specs.Prelude.{◌≡◌, ℕ, Result, Ok, Err, ⊤}
+use Rattle.object_memory.specs.Memory.{Memory, byte_at, ranges}
+use Rattle.note_types.specs.Concrete.{Concrete}
 use Rattle.note_types.specs.declared.exception.Exception.{Exception}
 use Rattle.ebc_machine.specs.declared.Machine.{Machine}
 use Rattle.ebc_machine.specs.declared.StepEnd.{StepEnd}
 use Rattle.ebc_machine.specs.declared.StepEnd.TheVariants as ends
 use Rattle.ebc_machine.specs.Results.{Written, Row}
-
--- where an object lies
-abbrev pub range_of : Object → Range
-range_of o = record { base = o.base; size = o.size }
-
--- where the objects of a memory lie, in the order in which they were placed
-abbrev pub ranges : Memory → List Range
-ranges m = map range_of m.objects
 
 -- a machine and its memory in numbers
 abbrev pub concrete_of : {w : ℕ} → Machine w → Memory → Concrete

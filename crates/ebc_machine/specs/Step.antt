@@ -2,16 +2,17 @@
 -- Machine", section "EBC Instruction Set"; in words in docs/MACHINE.md, "A step". The width w is how many bytes an address
 -- has, 4 or 8.
 use Rattle.std.specs.Prelude.{ℕ, ◌+◌, ◌%◌, ◌^◌, true, false, Ok, Err, nat_eq, if◌then◌else◌}
+use Rattle.ebc_base.specs.Steps.{◌>>=◌}
 use Rattle.ebc_insn.specs.declared.Insn.{Insn}
 use Rattle.ebc_insn.specs.declared.Insn.TheVariants as insns
 use Rattle.note_types.specs.Concrete.{Concrete}
 use Rattle.ebc_machine.specs.declared.StepEnd.{StepEnd}
 use Rattle.ebc_machine.specs.declared.StepEnd.TheVariants as ends
-use Rattle.ebc_machine.specs.Results.{Row, ◌>>=◌}
-use Rattle.ebc_machine.specs.Operands.{plain, with_index, with_extra}
+use Rattle.ebc_machine.specs.Results.{Row}
+use Rattle.ebc_machine.specs.Operands.{form_bytes, plain, with_index, with_extra}
 use Rattle.ebc_machine.specs.Data.{arith_row, compare_row, compare_imm_row}
 use Rattle.ebc_machine.specs.Moves.{move_row, move_signed_row, move_imm_row, move_imm_natural_row, move_relative_row, load_special_row, store_special_row}
-use Rattle.ebc_machine.specs.Stack.{push_row, push_natural_row, pop_row, pop_natural_row}
+use Rattle.ebc_machine.specs.Stack.{push_row, pop_row}
 use Rattle.ebc_machine.specs.Flow.{jump_row, jump8_row, call_row, call_native_row, return_row, break_row}
 use Rattle.ebc_machine.specs.Fetch.{fetched}
 
@@ -33,10 +34,10 @@ executed w s next (insns.MoveImmNatural bits left lidx idx) = move_imm_natural_r
 executed w s next (insns.MoveRelative bits left lidx imm) = move_relative_row w s next (with_index w left lidx) imm
 executed w s next (insns.LoadSpecial from) = load_special_row s next from
 executed w s next (insns.StoreSpecial to special) = store_special_row s next to special
-executed w s next (insns.Push wide op extra) = push_row w s next wide (with_extra w op extra)
-executed w s next (insns.Pop wide op extra) = pop_row w s next wide (with_extra w op extra)
-executed w s next (insns.PushNatural op extra) = push_natural_row w s next (with_extra w op extra)
-executed w s next (insns.PopNatural op extra) = pop_natural_row w s next (with_extra w op extra)
+executed w s next (insns.Push wide op extra) = push_row w s next (form_bytes wide) (with_extra w op extra)
+executed w s next (insns.Pop wide op extra) = pop_row w s next (form_bytes wide) true (with_extra w op extra)
+executed w s next (insns.PushNatural op extra) = push_row w s next w (with_extra w op extra)
+executed w s next (insns.PopNatural op extra) = pop_row w s next w false (with_extra w op extra)
 
 -- how a step ends: one that raises leaves the state as it was
 abbrev pub ended : Concrete → Row → StepEnd × Concrete

@@ -2,11 +2,11 @@
 
 ghost use Rattle.std.specs.Prelude.{◌≡◌, Some, None, IfSome, IfNone};
 ghost use Rattle.std.specs.Bool.{OnTrue, OnFalse};
-ghost use Rattle.object_memory.specs.Bytes.{IsAccess};
-ghost use Rattle.object_memory.specs.Memory.{byte_at};
-ghost use Rattle.note_types.specs.Concrete.{holds, loaded, rest_from};
-ghost use Rattle.object_memory.specs.Bytes.{put};
-ghost use Rattle.ebc_machine.specs.States.{KeepsObjects, concrete_of, ranges};
+ghost use Rattle.ebc_width.specs.Bytes.{IsAccess, put};
+ghost use Rattle.object_memory.specs.Memory.{byte_at, ranges};
+ghost use Rattle.ebc_width.specs.Ranges.{holds};
+ghost use Rattle.note_types.specs.Concrete.{loaded, rest_from};
+ghost use Rattle.ebc_machine.specs.States.{KeepsObjects, concrete_of};
 
 use crate::Machine;
 use object_memory::ObjMem;

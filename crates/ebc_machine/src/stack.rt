@@ -1,14 +1,13 @@
 //! PUSH and POP. R0 is the address of the top of the stack.
 
 ghost use Rattle.std.specs.Prelude.{◌≡◌, ◌<◌};
-ghost use Rattle.ebc_width.specs.Width.{IsWidth, extended_at};
-ghost use Rattle.object_memory.specs.Bytes.{IsAccess};
-ghost use Rattle.ebc_machine.specs.Stack.{stack_fault, pushed, raised_by, popped, push_row, push_natural_row, pop_row, pop_natural_row};
-ghost use Rattle.ebc_machine.specs.Operands.{form_bytes};
+ghost use Rattle.ebc_width.specs.Width.{IsWidth};
+ghost use Rattle.ebc_width.specs.Bytes.{IsAccess};
+ghost use Rattle.ebc_machine.specs.Stack.{stack_fault, pushed, raised_by, popped, popped_number, push_row, pop_row};
 ghost use Rattle.ebc_machine.specs.States.{concrete_of, Does, Ends};
 
 use crate::access::store;
-use crate::operand::{Side, form_bytes};
+use crate::operand::Side;
 use crate::{Machine, StepEnd};
 use ebc_width::{cut, extend};
 use note_types::Exception;
@@ -47,40 +46,22 @@ impl<const W: usize> Machine<W> {
         }
     }
 
-    // PUSH32, PUSH64.
+    // PUSH32, PUSH64 and PUSHn of `count` bytes.
     #[tactic(auto, unfolding(crate::specs::Stack::push_row, crate::specs::Results::goes, note_types::specs::Concrete::at_ip))]
     pub(crate) fn push(
         &mut self,
         mem: &mut ObjMem<W>,
         next: u64,
-        wide: bool,
+        count: usize,
         op: Side,
     ) -> Result<StepEnd, Exception>
         requires width { IsWidth W }
+        requires access { IsWidth count }
         requires register { op.reg < 8 }
-        ensures { Ends self.old mem.old self.new mem.new result (push_row W (concrete_of self.old mem.old) next wide op) }
+        ensures { Ends self.old mem.old self.new mem.new result (push_row W (concrete_of self.old mem.old) next count op) }
     {
-        let count = form_bytes(wide);
         let v = self.value(mem, stack_fault(op.reg), count, op)?;
         self.push_value(mem, count, v)?;
-        self.ip = next;
-        Ok(StepEnd::Next)
-    }
-
-    // PUSHn.
-    #[tactic(auto, unfolding(crate::specs::Stack::push_natural_row, crate::specs::Results::goes, note_types::specs::Concrete::at_ip))]
-    pub(crate) fn push_natural(
-        &mut self,
-        mem: &mut ObjMem<W>,
-        next: u64,
-        op: Side,
-    ) -> Result<StepEnd, Exception>
-        requires width { IsWidth W }
-        requires register { op.reg < 8 }
-        ensures { Ends self.old mem.old self.new mem.new result (push_natural_row W (concrete_of self.old mem.old) next op) }
-    {
-        let v = self.value(mem, stack_fault(op.reg), W, op)?;
-        self.push_value(mem, W, v)?;
         self.ip = next;
         Ok(StepEnd::Next)
     }
@@ -110,52 +91,38 @@ impl<const W: usize> Machine<W> {
         Ok(())
     }
 
-    // POP32, POP64: a value of 32 bits has its sign.
+    // POP32, POP64 and POPn of `count` bytes: the value has its sign, or zeros above it.
     #[tactic(auto, unfolding(crate::specs::Stack::pop_row, crate::specs::Results::goes, note_types::specs::Concrete::at_ip))]
     pub(crate) fn pop(
         &mut self,
         mem: &mut ObjMem<W>,
         next: u64,
-        wide: bool,
+        count: usize,
+        signed: bool,
         op: Side,
     ) -> Result<StepEnd, Exception>
         requires width { IsWidth W }
+        requires access { IsWidth count }
         requires register { op.reg < 8 }
-        ensures { Ends self.old mem.old self.new mem.new result (pop_row W (concrete_of self.old mem.old) next wide op) }
+        ensures { Ends self.old mem.old self.new mem.new result (pop_row W (concrete_of self.old mem.old) next count signed op) }
     {
-        let count = form_bytes(wide);
         let v = self.load_at(mem, Exception::StackFault, count, 0, 0)?;
-        self.pop_to(mem, count, op, extended(wide, v))?;
-        self.ip = next;
-        Ok(StepEnd::Next)
-    }
-
-    // POPn: a value of natural size has zeros above it.
-    #[tactic(auto, unfolding(crate::specs::Stack::pop_natural_row, crate::specs::Results::goes, note_types::specs::Concrete::at_ip))]
-    pub(crate) fn pop_natural(
-        &mut self,
-        mem: &mut ObjMem<W>,
-        next: u64,
-        op: Side,
-    ) -> Result<StepEnd, Exception>
-        requires width { IsWidth W }
-        requires register { op.reg < 8 }
-        ensures { Ends self.old mem.old self.new mem.new result (pop_natural_row W (concrete_of self.old mem.old) next op) }
-    {
-        let v = self.load_at(mem, Exception::StackFault, W, 0, 0)?;
-        self.pop_to(mem, W, op, v)?;
+        self.pop_to(mem, count, op, popped_number(signed, count, v))?;
         self.ip = next;
         Ok(StepEnd::Next)
     }
 }
 
-// The low 64 or 32 bits of a number, with their sign.
-fn extended(wide: bool, value: u64) -> u64
-    ensures { result ≡ extended_at (form_bytes wide) value }
+// The number in the low `count` bytes, with its sign or with zeros above it.
+fn popped_number(signed: bool, count: usize, value: u64) -> u64
+    requires { IsWidth count }
+    ensures { result ≡ popped_number signed count value }
 {
-    if wide {
-        extend::<8>(value)
-    } else {
+    if !signed {
+        value
+    } else if count == 4 {
         extend::<4>(value)
+    } else {
+        extend::<8>(value)
     }
 }

@@ -1,7 +1,7 @@
 //! Results of the arithmetic and of the comparisons.
 
-use machine_alu::{DivideError, compare, compute};
 use ebc_insn::{ArithOp, CmpOp};
+use machine_alu::{DivideError, compare, compute};
 
 const LEAST: u64 = 0x8000_0000_0000_0000;
 

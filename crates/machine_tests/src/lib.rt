@@ -8,3 +8,5 @@ mod arithmetic;
 mod encoding;
 #[cfg(test)]
 mod instructions;
+#[cfg(test)]
+mod steps;

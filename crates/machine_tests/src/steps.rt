@@ -1,6 +1,8 @@
+//! Steps of the machine at both widths: what they leave in registers and memory, where they go and what they raise.
+
 ghost use Rattle.ebc_width.specs.Width.{IsWidth};
 
-use crate::{Machine, StepEnd};
+use ebc_machine::{Machine, StepEnd};
 use note_types::Exception;
 use object_memory::ObjMem;
 use std::alloc::Global;
