@@ -28,24 +28,38 @@ fn checked(alloc: Global, code: &[u8]) -> Result<(u8, MemSink), AllocError> {
     Ok((outcome.code(), out))
 }
 
+// The bytes of code in hexadecimal digits, and the line that is printed of them.
+const VERDICTS: &str = "773105000400 neutral
+4C210400 neutral
+02FF neutral
+ refused 00000000 end
+77310500 refused 00000000 end
+0200 refused 00000000 target
+020004 refused 00000000 target
+040004 refused 00000002 decode
+0C210400 refused 00000000 form
+4C290400 refused 00000000 form";
+
+// The bytes that digits spell, two digits a byte.
+fn bytes_of(alloc: Global, digits: &str) -> Result<Vec<u8>, Fail> {
+    let mut bytes = Vec::new(alloc);
+    for pair in digits.as_bytes().chunks(2) {
+        bytes.push(u8::from_str_radix(str::from_utf8(pair)?, 16)?)?;
+    }
+    Ok(bytes)
+}
+
 #[test]
 fn plain_code_is_neutral_or_refused(rt: HostRuntime) -> Result<(), Fail> {
-    let rows: [(&[u8], u8, &str); 10] = [
-        (b"\x77\x31\x05\0\x04\0", 0, "neutral\n"),
-        (b"\x4C\x21\x04\0", 0, "neutral\n"),
-        (b"\x02\xFF", 0, "neutral\n"),
-        (b"", 1, "refused 00000000 end\n"),
-        (b"\x77\x31\x05\0", 1, "refused 00000000 end\n"),
-        (b"\x02\0", 1, "refused 00000000 target\n"),
-        (b"\x02\0\x04", 1, "refused 00000000 target\n"),
-        (b"\x04\0\x04", 1, "refused 00000002 decode\n"),
-        (b"\x0C\x21\x04\0", 1, "refused 00000000 form\n"),
-        (b"\x4C\x29\x04\0", 1, "refused 00000000 form\n"),
-    ];
-    for (code, status, text) in rows {
-        let (found, out) = checked(rt.alloc(), code)?;
-        assert_eq!(rt; found, status, "at {code:?}");
-        assert_eq!(rt; out.text(), text.as_bytes(), "at {code:?}");
+    for row in VERDICTS.lines() {
+        let (digits, line) = row.split_once(' ').ok_or("a row without a space")?;
+        let (status, out) = checked(rt.alloc(), bytes_of(rt.alloc(), digits)?.as_slice())?;
+        assert_eq!(rt; status, u8::from(line != "neutral"), "at {row}");
+        assert_eq!(rt;
+            out.text().strip_suffix(b"\n"),
+            Some(line.as_bytes()),
+            "at {row}"
+        );
     }
     Ok(())
 }
