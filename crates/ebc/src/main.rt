@@ -1,6 +1,12 @@
 //! The program `ebc`. docs/COMMANDS.md lists its commands, what they print and its exit status.
 #![tactic(auto)]
 
+ghost use Rattle.std.specs.Prelude.{◌≡◌};
+ghost use Rattle.ebc.specs.Complaints.{complaint_of};
+
+#[cfg(test)]
+mod tests;
+
 use ebc_cli::{Outcome, ebc};
 use ebc_outside::{HostFolder, HostSink};
 use std::alloc::AllocError;
@@ -22,6 +28,18 @@ fn words_of<R: Env + AllocGlobal>(rt: &R) -> Result<Vec<String>, AllocError> {
     Ok(words)
 }
 
+// What is said on standard error of an outcome that prints no answer, or only a part of it.
+fn complaint(outcome: Outcome) -> &'static str
+    ensures { result.now ≡ complaint_of outcome }
+{
+    match outcome {
+        Outcome::ReadFault => "ebc: a file could not be read\n",
+        Outcome::WriteFault => "ebc: the output could not be written\n",
+        Outcome::NoMemory => "ebc: memory ran out\n",
+        _ => "",
+    }
+}
+
 fn main(rt: HostRuntime) -> ExitCode {
     let outcome = match words_of(&rt) {
         Ok(words) => {
@@ -31,5 +49,7 @@ fn main(rt: HostRuntime) -> ExitCode {
         }
         Err(_) => Outcome::NoMemory,
     };
+    // The exit status tells the outcome also where this line can't be printed.
+    let _ = eprint!(rt; "{}", complaint(outcome));
     ExitCode::from(outcome.code())
 }

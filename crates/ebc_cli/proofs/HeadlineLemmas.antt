@@ -3,19 +3,21 @@ use Rattle.std.proofs.Common.{◌≡◌, ◌↔◌, ℕ, ◌<◌, ◌≤◌, Lis
 use Rattle.std.proofs.lemmas.Bool.Decides.{nat_tests}
 use Rattle.ebc_outside.specs.Files.{Files}
 use Rattle.ebc_cli.specs.declared.outcome.Outcome.{Outcome}
-use Rattle.ebc_cli.specs.declared.outcome.Outcome.TheVariants.{Done}
+use Rattle.ebc_cli.specs.declared.outcome.Outcome.TheVariants as outcomes
+use Rattle.ebc_cli.specs.declared.outcome.RuleName.{RuleName}
 use Rattle.ebc_cli.specs.declared.verdict.Verdict.{Verdict}
 use Rattle.ebc_cli.specs.declared.verdict.Verdict.TheVariants.{Neutral, Refused}
 use Rattle.ebc_cli.specs.declared.reply.Reply.{Reply}
 use Rattle.ebc_cli.specs.declared.reply.End.TheVariants.{Stop}
 use Rattle.ebc_cli.specs.Outcomes.{IsAnswer}
 use Rattle.ebc_cli.specs.PlainChecks.{plain_verdict}
-use Rattle.ebc_cli.specs.PlainRules.{IsNeutral}
-use Rattle.ebc_cli.specs.PlainRuns.{SamePlainRuns}
+use Rattle.ebc_cli.specs.PlainRules.{IsNeutral, IsRefused}
+use Rattle.ebc_cli.specs.PlainRuns.{RunsAlike}
 use Rattle.ebc_cli.specs.Readings.{Follows, file, go_on, large_reply}
 use Rattle.ebc_cli.specs.Answers.{answer_of, check_code, reply_to, reply_of, verdict_reply, plain_code_limit, ChecksCode}
 use Rattle.ebc_cli.proofs.RunsLemmas.{neutral-alike}
 use Rattle.ebc_cli.proofs.RulesLemmas.{neutral-exactly}
+use Rattle.ebc_cli.proofs.RefusalLemmas.{refused-exactly}
 
 -- the told reply is that of the run, whether it went through or stopped
 pub reply-ok : (contents : Option Files) (words before now : List (List ℕ)) (reply : Reply) → IfSome contents (λ files. Follows before now (Ok reply) (answer_of words files)) → IfSome contents (λ files. reply_to words files ≡ reply)
@@ -26,9 +28,13 @@ pub reply-stop : (contents : Option Files) (words before now : List (List ℕ)) 
 reply-stop None words before now reply follows = tt
 reply-stop (Some files) words before now reply follows = rw follows.0 refl
 
-verdict-done : (verdict : Verdict) → (verdict_reply verdict).outcome ≡ Done ↔ verdict ≡ Neutral
+verdict-done : (verdict : Verdict) → (verdict_reply verdict).outcome ≡ outcomes.Done ↔ verdict ≡ Neutral
 verdict-done Neutral = (λ e. refl, λ e. refl)
 verdict-done (Refused place rule) = (λ e. cc, λ e. cc)
+
+verdict-refused : (verdict : Verdict) (p : ℕ) (r : RuleName) → (verdict_reply verdict).outcome ≡ outcomes.Refused p r ↔ verdict ≡ Refused p r
+verdict-refused Neutral p r = (λ e. cc, λ e. cc)
+verdict-refused (Refused place rule) p r = (λ e. let there : place ≡ p = cc in let named : rule ≡ r = cc in rw (there, named) refl, λ e. let there : place ≡ p = cc in let named : rule ≡ r = cc in rw (there, named) refl)
 
 -- the reply to code of a file, which may be too large
 code-reply : List ℕ → List ℕ → Bool → Reply
@@ -38,38 +44,56 @@ checked-reply : (words : List (List ℕ)) (files : Files) (code : List ℕ) → 
 unfolding answer_of check_code file code-reply
 checked-reply words files code c = rw (c.command, c.there) refl
 
-code-done : (name code : List ℕ) (large : Bool) → nat_lt plain_code_limit (length code) ≡ large → (code-reply name code large).outcome ≡ Done → (length code ≤ plain_code_limit) × (plain_verdict code ≡ Neutral)
+code-fits : (name code : List ℕ) (large : Bool) → nat_lt plain_code_limit (length code) ≡ large → (code-reply name code large).outcome ≡ outcomes.Done → length code ≤ plain_code_limit
 unfolding code-reply
-code-done name code true e done = cc
-code-done name code false e done = (grind (arith, nat_tests), (verdict-done (plain_verdict code)).0 done)
+code-fits name code true e done = cc
+code-fits name code false e done = grind (arith, nat_tests)
 
-done-code : (name code : List ℕ) (large : Bool) → nat_lt plain_code_limit (length code) ≡ large → length code ≤ plain_code_limit → plain_verdict code ≡ Neutral → (code-reply name code large).outcome ≡ Done
+code-outcome : (name code : List ℕ) (large : Bool) → nat_lt plain_code_limit (length code) ≡ large → length code ≤ plain_code_limit → (code-reply name code large).outcome ≡ (verdict_reply (plain_verdict code)).outcome
 unfolding code-reply
-done-code name code true e fits neutral = absurd (let past : plain_code_limit < length code = grind (arith, nat_tests) in omega arith)
-done-code name code false e fits neutral = (verdict-done (plain_verdict code)).1 neutral
+code-outcome name code true e fits = absurd (let past : plain_code_limit < length code = grind (arith, nat_tests) in omega arith)
+code-outcome name code false e fits = refl
 
--- Done is the answer to neutral code within the limit alone
-reply-done : (words : List (List ℕ)) (files : Files) (code : List ℕ) → ChecksCode words files code → (reply_to words files).outcome ≡ Done → (length code ≤ plain_code_limit) × (plain_verdict code ≡ Neutral)
-reply-done words files code c done = code-done c.name code _ refl (sym (ap (λ (r : Reply). r.outcome) (checked-reply words files code c)) ∙ done)
+-- code that is called neutral is within the limit
+done-fits : (words : List (List ℕ)) (files : Files) (code : List ℕ) → ChecksCode words files code → (reply_to words files).outcome ≡ outcomes.Done → length code ≤ plain_code_limit
+done-fits words files code c done = code-fits c.name code _ refl (sym (ap (λ (r : Reply). r.outcome) (checked-reply words files code c)) ∙ done)
 
-done-reply : (words : List (List ℕ)) (files : Files) (code : List ℕ) → ChecksCode words files code → length code ≤ plain_code_limit → plain_verdict code ≡ Neutral → (reply_to words files).outcome ≡ Done
-done-reply words files code c fits neutral = ap (λ (r : Reply). r.outcome) (checked-reply words files code c) ∙ done-code c.name code _ refl fits neutral
+-- within the limit the outcome is that of the verdict
+reply-verdict : (words : List (List ℕ)) (files : Files) (code : List ℕ) → ChecksCode words files code → length code ≤ plain_code_limit → (reply_to words files).outcome ≡ (verdict_reply (plain_verdict code)).outcome
+reply-verdict words files code c fits = ap (λ (r : Reply). r.outcome) (checked-reply words files code c) ∙ code-outcome c.name code _ refl fits
 
 -- the answer is that of the reply
 pub record Tells (contents : Option Files) (words : List (List ℕ)) (reply : Reply) (outcome : Outcome) : Type 0 where
   pub told : IfSome contents (λ files. reply_to words files ≡ reply)
   pub same : IsAnswer outcome → outcome ≡ reply.outcome
 
+-- an answer about code within the limit is that of the verdict
+verdict-told : (words : List (List ℕ)) (files : Files) (reply : Reply) (outcome : Outcome) → Tells (Some files) words reply outcome → (code : List ℕ) → ChecksCode words files code → length code ≤ plain_code_limit → IsAnswer outcome
+    → outcome ≡ (verdict_reply (plain_verdict code)).outcome
+verdict-told words files reply outcome tells code c fits answered =
+    tells.same answered ∙ sym (ap (λ (r : Reply). r.outcome) tells.told) ∙ reply-verdict words files code c fits
+
+-- an outcome that is exactly so where the verdict is, and the verdict where the code is
+exactly-so : {A B : Type 0} (outcome verdict wanted : Outcome) → outcome ≡ verdict → verdict ≡ wanted ↔ A → A ↔ B → outcome ≡ wanted ↔ B
+exactly-so outcome verdict wanted same one two = (λ e. two.0 (one.0 (sym same ∙ e)), λ b. same ∙ one.1 (two.1 b))
+
 pub alike : (contents : Option Files) (words : List (List ℕ)) (reply : Reply) (outcome : Outcome) → Tells contents words reply outcome
-    → IfSome contents (λ files. (code : List ℕ) → ChecksCode words files code → outcome ≡ Done → SamePlainRuns code)
+    → IfSome contents (λ files. (code : List ℕ) → ChecksCode words files code → outcome ≡ outcomes.Done → RunsAlike code)
 alike None words reply outcome tells = tt
 alike (Some files) words reply outcome tells = λ code c done.
-    let facts = reply-done words files code c (ap (λ (r : Reply). r.outcome) tells.told ∙ sym (tells.same (rw done tt)) ∙ done) in
-    neutral-alike code facts.0 facts.1
+    let answered : IsAnswer outcome = rw done tt in
+    let fits = done-fits words files code c (ap (λ (r : Reply). r.outcome) tells.told ∙ sym (tells.same answered) ∙ done) in
+    let verdict = verdict-told words files reply outcome tells code c fits answered in
+    neutral-alike code fits ((verdict-done (plain_verdict code)).0 (sym verdict ∙ done))
 
 pub exactly : (contents : Option Files) (words : List (List ℕ)) (reply : Reply) (outcome : Outcome) → Tells contents words reply outcome
-    → IfSome contents (λ files. (code : List ℕ) → ChecksCode words files code → length code ≤ plain_code_limit → IsAnswer outcome → outcome ≡ Done ↔ IsNeutral code)
+    → IfSome contents (λ files. (code : List ℕ) → ChecksCode words files code → length code ≤ plain_code_limit → IsAnswer outcome → outcome ≡ outcomes.Done ↔ IsNeutral code)
 exactly None words reply outcome tells = tt
 exactly (Some files) words reply outcome tells = λ code c fits answered.
-    let same : outcome ≡ (reply_to words files).outcome = tells.same answered ∙ sym (ap (λ (r : Reply). r.outcome) tells.told) in
-    (λ done. (neutral-exactly code).0 (reply-done words files code c (sym same ∙ done)).1, λ neutral. same ∙ done-reply words files code c fits ((neutral-exactly code).1 neutral))
+    exactly-so outcome _ outcomes.Done (verdict-told words files reply outcome tells code c fits answered) (verdict-done (plain_verdict code)) (neutral-exactly code)
+
+pub refused : (contents : Option Files) (words : List (List ℕ)) (reply : Reply) (outcome : Outcome) → Tells contents words reply outcome
+    → IfSome contents (λ files. (code : List ℕ) (place : ℕ) (rule : RuleName) → ChecksCode words files code → length code ≤ plain_code_limit → IsAnswer outcome → outcome ≡ outcomes.Refused place rule ↔ IsRefused code place rule)
+refused None words reply outcome tells = tt
+refused (Some files) words reply outcome tells = λ code place rule c fits answered.
+    exactly-so outcome _ (outcomes.Refused place rule) (verdict-told words files reply outcome tells code c fits answered) (verdict-refused (plain_verdict code) place rule) (refused-exactly code place rule)

@@ -1,7 +1,10 @@
 pub mod HexLemmas
 pub mod PlacesLemmas
 pub mod StartsLemmas
-pub mod RunsLemmas
-pub mod HeadlineLemmas
+pub mod ReadLemmas
 pub mod RulesLemmas
+pub mod RefusalLemmas
+pub mod RunsLemmas
+pub mod ReadingsLemmas
+pub mod HeadlineLemmas
 pub mod Rows

@@ -1,5 +1,5 @@
 -- The verdict on plain code, by the rules at each place.
-use Rattle.std.proofs.Common.{◌≡◌, ◌↔◌, ℕ, ◌+◌, ◌<◌, zero, suc, Bool, true, false, not, ◌&&◌, nat_eq, if◌then◌else◌, List, [], ◌∷◌, length, drop, Option, Some, None, Result, Ok, Err, ℤ, pos, negsuc, refl, sym, ap, ◌∙◌, subst, arith, inl, inr}
+use Rattle.std.proofs.Common.{◌≡◌, ◌↔◌, ℕ, ◌+◌, ◌%◌, ◌<◌, ◌≤◌, zero, suc, Bool, true, false, not, ◌&&◌, nat_eq, if◌then◌else◌, List, [], ◌∷◌, length, drop, Option, Some, None, Result, Ok, Err, ℤ, pos, negsuc, refl, sym, ap, ◌∙◌, subst, arith, inl, inr}
 use Rattle.std.proofs.lemmas.Bool.{cases_Bool}
 use Rattle.std.proofs.lemmas.Bool.Decides.{nat_tests}
 use Rattle.std.specs.Option.{option_and_then}
@@ -13,33 +13,37 @@ use Rattle.ebc_cli.specs.declared.verdict.Verdict.TheVariants.{Neutral}
 use Rattle.ebc_cli.specs.PlainChecks.{is_plain, reached, starts, is_start, passes, lands, falls_through, instruction_rule, first_refusal, jump_target, plain_verdict}
 use Rattle.ebc_cli.specs.PlainRules.{place_after, place_of, IsReached, Decodes, IsStart, NamesStart, MeetsRules, IsNeutral}
 use Rattle.ebc_cli.proofs.PlacesLemmas.{along}
+use Rattle.ebc_cli.proofs.ReadLemmas.{read-even}
 use Rattle.ebc_cli.proofs.StartsLemmas.{Good, GoodStarts, good-starts, head-started, first-started, or-cases, or-right, and-true, fault-unstarted, no-rule}
 
 -- ---- the places that are reached
 
 -- an instruction at one place leads to another
-record Leads (code : List ℕ) (from to : ℕ) : Type 0 where
-  insn : Insn
-  size : ℕ
-  reads : read (drop from code) ≡ Ok (insn, size)
-  there : to ≡ from + size
+pub record Leads (code : List ℕ) (from to : ℕ) : Type 0 where
+  pub insn : Insn
+  pub size : ℕ
+  pub reads : read (drop from code) ≡ Ok (insn, size)
+  pub there : to ≡ from + size
 
-onward : (code : List ℕ) (place : ℕ) (i : Insn) (n : ℕ) → IsReached code place → read (drop place code) ≡ Ok (i, n) → IsReached code (place + n)
+pub one-further : (code : List ℕ) (count place : ℕ) (i : Insn) (n : ℕ) → place_of code count ≡ Some place → read (drop place code) ≡ Ok (i, n) → place_of code (suc count) ≡ Some (place + n)
 unfolding place_of
-onward code place i n reached e = (suc reached.0, rw (reached.1, e) refl)
+one-further code count place i n there e = rw (there, e) refl
+
+pub onward : (code : List ℕ) (place : ℕ) (i : Insn) (n : ℕ) → IsReached code place → read (drop place code) ≡ Ok (i, n) → IsReached code (place + n)
+onward code place i n reached e = (suc reached.0, one-further code reached.0 place i n reached.1 e)
 
 after-leads : (code : List ℕ) (place to : ℕ) (found : Result (Insn × ℕ) DecodeFault) → read (drop place code) ≡ found → place_after place found ≡ Some to → Leads code place to
 after-leads code place to (Ok (i, n)) e same = record { insn = i; size = n; reads = e; there = cc }
 after-leads code place to (Err fault) e same = cc
 
-before : (code : List ℕ) (to : ℕ) (o : Option ℕ) → option_and_then (λ place. place_after place (read (drop place code))) o ≡ Some to → (from : ℕ) × (o ≡ Some from) × Leads code from to
+pub before : (code : List ℕ) (to : ℕ) (o : Option ℕ) → option_and_then (λ place. place_after place (read (drop place code))) o ≡ Some to → (from : ℕ) × (o ≡ Some from) × Leads code from to
 before code to None e = cc
 before code to (Some from) e = (from, refl, after-leads code from to _ refl e)
 
-same-read : {r s : Insn × ℕ} {found : Result (Insn × ℕ) DecodeFault} → found ≡ Ok r → found ≡ Ok s → r ≡ s
+pub same-read : {r s : Insn × ℕ} {found : Result (Insn × ℕ) DecodeFault} → found ≡ Ok r → found ≡ Ok s → r ≡ s
 same-read p q = cc
 
-same-size : {r s : Insn × ℕ} {found : Result (Insn × ℕ) DecodeFault} → found ≡ Ok r → found ≡ Ok s → r.1 ≡ s.1
+pub same-size : {r s : Insn × ℕ} {found : Result (Insn × ℕ) DecodeFault} → found ≡ Ok r → found ≡ Ok s → r.1 ≡ s.1
 same-size p q = ap (λ (r : Insn × ℕ). r.1) (same-read p q)
 
 -- the place after a start is a start, where an instruction decodes there
@@ -78,12 +82,23 @@ started-reached code = along code (λ place all. IsReached code place → (p : �
   ];
 })
 
-begins : (code : List ℕ) → IsReached code 0
+pub begins : (code : List ℕ) → IsReached code 0
 unfolding place_of
 begins code = (0, refl)
 
 pub start-is : (code : List ℕ) (p : ℕ) → starts code p ≡ true → IsStart code p
 start-is code p started = started-reached code 0 (begins code) p started
+
+-- lengths lead to even places alone
+pub reached-even : (code : List ℕ) (count p : ℕ) → place_of code count ≡ Some p → p % 2 ≡ 0
+unfolding place_of
+reached-even code zero p e = let first : 0 ≡ p = cc in omega arith
+reached-even code (suc count) p e =
+    let b = before code p (place_of code count) e in
+    let step = b.2 in
+    let here = reached-even code count b.0 b.1 in
+    let size = read-even (drop b.0 code) step.insn step.size step.reads in
+    omega (arith, step.there)
 
 -- ---- the rules
 
@@ -91,11 +106,11 @@ passes-pos : (st : ℕ → Bool) (address : ℤ) → passes st address ≡ true 
 passes-pos st (pos place) e = (place, refl, e)
 passes-pos st (negsuc n) e = cc
 
-names : (code : List ℕ) (next : ℕ) (i : Insn) → lands (starts code) next i ≡ true → NamesStart code next i
+pub names : (code : List ℕ) (next : ℕ) (i : Insn) → lands (starts code) next i ≡ true → NamesStart code next i
 names code next (Jump8 cond words) e = let t = passes-pos (starts code) (jump_target next words) e in (t.0, t.1, start-is code t.0 t.2)
 names code next i e = tt
 
-lands-named : (code : List ℕ) (next : ℕ) (i : Insn) → NamesStart code next i → lands (starts code) next i ≡ true
+pub lands-named : (code : List ℕ) (next : ℕ) (i : Insn) → NamesStart code next i → lands (starts code) next i ≡ true
 lands-named code next (Jump8 cond words) n = rw n.1 (reached-started code n.2.reached.0 n.0 n.2.reached.1 n.2.decodes)
 lands-named code next i n = refl
 
@@ -112,15 +127,18 @@ ending-test code next i e = elim (cases_Bool (nat_eq next (length code))) [
 rule-holds : (plain landed ends_code : Bool) → plain ≡ true → landed ≡ true → ends_code ≡ false → (if not plain then Some Form else if not landed then Some Target else if ends_code then Some End else None) ≡ None
 rule-holds plain landed ends_code o p q = rw (o, p, q) refl
 
-meets-good : (code : List ℕ) (place : ℕ) → Good code (starts code) (starts code) place → MeetsRules code place
-meets-good code place g =
-    let facts = no-rule (is_plain g.insn) (lands (starts code) (place + g.size) g.insn) _ g.rule in
+pub meets : (code : List ℕ) (place : ℕ) (i : Insn) (n : ℕ) → read (drop place code) ≡ Ok (i, n) → instruction_rule (starts code) (length code) (place + n) i ≡ None → MeetsRules code place
+meets code place i n reads rule =
+    let facts = no-rule (is_plain i) (lands (starts code) (place + n) i) _ rule in
     record {
-      decode = record { insn = g.insn; size = g.size; reads = g.reads };
+      decode = record { insn = i; size = n; reads = reads };
       form = facts.0;
-      target = names code (place + g.size) g.insn facts.1;
-      ending = ending-false code (place + g.size) g.insn facts.2;
+      target = names code (place + n) i facts.1;
+      ending = ending-false code (place + n) i facts.2;
     }
+
+meets-good : (code : List ℕ) (place : ℕ) → Good code (starts code) (starts code) place → MeetsRules code place
+meets-good code place g = meets code place g.insn g.size g.reads g.rule
 
 -- ---- the verdict
 

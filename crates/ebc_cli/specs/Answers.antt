@@ -11,7 +11,7 @@ use Rattle.ebc_cli.specs.declared.reply.Reply.{Reply}
 use Rattle.ebc_cli.specs.Outcomes.{IsAnswer}
 use Rattle.ebc_cli.specs.Texts.{neutral_line, refused_line, usage_line}
 use Rattle.ebc_cli.specs.Commands.{command_of}
-use Rattle.ebc_cli.specs.Readings.{Run, done, ◌>>=◌, file, MissingHasCause}
+use Rattle.ebc_cli.specs.Readings.{FileReading, done, ◌>>=◌, file, MissingHasCause}
 use Rattle.ebc_cli.specs.PlainChecks.{plain_verdict}
 
 -- how many bytes plain code may have: 256 KiB
@@ -26,17 +26,17 @@ abbrev pub usage_reply : Reply
 usage_reply = record { outcome = outcomes.BadWords; text = usage_line }
 
 -- `check CODE`: the verdict of the plain check on the file
-unfoldable pub check_code : List ℕ → Files → Run Reply
+unfoldable pub check_code : List ℕ → Files → FileReading Reply
 check_code name files = do
   code ← file 1 name plain_code_limit files
   done (verdict_reply (plain_verdict code))
 
-abbrev pub answer_to : Option Command → Files → Run Reply
+abbrev pub answer_to : Option Command → Files → FileReading Reply
 answer_to None files = done usage_reply
 answer_to (Some (CheckCode name)) files = check_code name files
 
 -- what is read to answer the words, and the answer
-unfoldable pub answer_of : List (List ℕ) → Files → Run Reply
+unfoldable pub answer_of : List (List ℕ) → Files → FileReading Reply
 answer_of words files = answer_to (command_of words) files
 
 -- the reply of a run, whether it went through or stopped

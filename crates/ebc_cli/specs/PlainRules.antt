@@ -1,10 +1,12 @@
 -- The rules of plain code, said of each place by itself: docs/PLAIN.md, "The check".
-use Rattle.std.specs.Prelude.{◌≡◌, ℕ, ◌+◌, ◌<◌, zero, suc, true, false, List, drop, length, Option, Some, None, Result, Ok, Err, pos}
+use Rattle.std.specs.Prelude.{◌≡◌, ℕ, ◌+◌, ◌<◌, zero, suc, true, false, List, [], ◌∷◌, drop, length, Option, Some, None, Result, Ok, Err, pos}
 use Rattle.std.specs.Option.{option_and_then}
 use Rattle.ebc_insn.specs.declared.Insn.{Insn}
 use Rattle.ebc_insn.specs.declared.Insn.TheVariants.{Jump8}
 use Rattle.ebc_decode.specs.declared.DecodeFault.{DecodeFault}
 use Rattle.ebc_decode.specs.Reading.{read}
+use Rattle.ebc_cli.specs.declared.outcome.RuleName.{RuleName}
+use Rattle.ebc_cli.specs.declared.outcome.RuleName.TheVariants.{Decode, Form, Target, End}
 use Rattle.ebc_cli.specs.PlainChecks.{is_plain, jump_target, falls_through}
 
 -- the place after an instruction
@@ -48,3 +50,43 @@ pub record MeetsRules (code : List ℕ) (place : ℕ) : Type 0 where
 pub record IsNeutral (code : List ℕ) : Type 0 where
   pub some : 0 < length code
   pub each : (place : ℕ) → IsReached code place → place < length code → MeetsRules code place
+
+-- ---- refusal
+
+-- The instruction at the place is none of the forms of plain code.
+pub record NoPlainForm (code : List ℕ) (place : ℕ) : Type 0 where
+  pub decode : Decodes code place
+  pub form : is_plain decode.insn ≡ false
+
+-- The instruction at the place is of plain code, and is a JMP8 that names no start.
+pub record NamesNoStart (code : List ℕ) (place : ℕ) : Type 0 where
+  pub decode : Decodes code place
+  pub form : is_plain decode.insn ≡ true
+  pub target : ¬ NamesStart code (place + decode.size) decode.insn
+
+-- The instruction at the place meets the rules on its form and its target, ends where the code ends, and may be passed.
+pub record PassesEnd (code : List ℕ) (place : ℕ) : Type 0 where
+  pub decode : Decodes code place
+  pub form : is_plain decode.insn ≡ true
+  pub target : NamesStart code (place + decode.size) decode.insn
+  pub last : place + decode.size ≡ length code
+  pub passed : falls_through decode.insn ≡ true
+
+-- The rule is the first that fails at the place.
+abbrev pub FailsFirst : List ℕ → ℕ → RuleName → Type 0
+FailsFirst code place Decode = ¬ Decodes code place
+FailsFirst code place Form = NoPlainForm code place
+FailsFirst code place Target = NamesNoStart code place
+FailsFirst code place End = PassesEnd code place
+
+-- The place is the first that lengths lead to and at which a rule fails, and the rule is the first that fails there.
+pub record IsRefusedAt (code : List ℕ) (place : ℕ) (rule : RuleName) : Type 0 where
+  pub reached : IsReached code place
+  pub inside : place < length code
+  pub before : (p : ℕ) → IsReached code p → p < place → MeetsRules code p
+  pub fails : FailsFirst code place rule
+
+-- Code is refused so: empty code at place 0 by its end, and other code at its first place at which a rule fails.
+abbrev pub IsRefused : List ℕ → ℕ → RuleName → Type 0
+IsRefused [] place rule = (place ≡ 0) × (rule ≡ End)
+IsRefused (b ∷ bytes) place rule = IsRefusedAt (b ∷ bytes) place rule

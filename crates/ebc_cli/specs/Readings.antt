@@ -12,19 +12,19 @@ use Rattle.ebc_cli.specs.Outcomes.{IsCommandAnswer}
 use Rattle.ebc_cli.specs.Texts.{missing_line, large_line}
 
 -- the names in their order, and the value, or the reply at which the reading stops
-pub record Run (A : Type 0) : Type 0 where
+pub record FileReading (A : Type 0) : Type 0 where
   pub asked : List (List ℕ)
   pub value : Result A Reply
 
-abbrev pub done : {A : Type 0} → A → Run A
+abbrev pub done : {A : Type 0} → A → FileReading A
 done x = record { asked = []; value = Ok x }
 
-abbrev pub go_on : {A B : Type 0} → List (List ℕ) → Result A Reply → (A → Run B) → Run B
+abbrev pub go_on : {A B : Type 0} → List (List ℕ) → Result A Reply → (A → FileReading B) → FileReading B
 go_on asked (Ok x) f = record { asked = asked ++ (f x).asked; value = (f x).value }
 go_on asked (Err reply) f = record { asked = asked; value = Err reply }
 
 infixl 10 ◌>>=◌
-abbrev pub ◌>>=◌ : {A B : Type 0} → Run A → (A → Run B) → Run B
+abbrev pub ◌>>=◌ : {A B : Type 0} → FileReading A → (A → FileReading B) → FileReading B
 run >>= f = go_on run.asked run.value f
 
 abbrev pub missing_reply : ℕ → List ℕ → Reply
@@ -39,7 +39,7 @@ measured word name limit None = Err (missing_reply word name)
 measured word name limit (Some bytes) = if nat_lt limit (length bytes) then Err (large_reply word name) else Ok bytes
 
 -- the file that a word names
-unfoldable pub file : ℕ → List ℕ → ℕ → Files → Run (List ℕ)
+unfoldable pub file : ℕ → List ℕ → ℕ → Files → FileReading (List ℕ)
 file word name limit files = record { asked = name ∷ []; value = measured word name limit (get files name) }
 
 -- the names asked now are those before and a first part of all
@@ -51,7 +51,7 @@ pub record AsksPart (before all now : List (List ℕ)) : Type 0 where
 
 -- the value, or the reply at which it stopped, is the run's, and all its names were asked for; where a read
 -- failed or memory ran out, a first part of them
-abbrev pub Follows : {A : Type 0} → List (List ℕ) → List (List ℕ) → Result A End → Run A → Type 0
+abbrev pub Follows : {A : Type 0} → List (List ℕ) → List (List ℕ) → Result A End → FileReading A → Type 0
 Follows before now (Ok x) run = (run.value ≡ Ok x) × (now ≡ before ++ run.asked)
 Follows before now (Err (ends.Stop reply)) run = (run.value ≡ Err reply) × (now ≡ before ++ run.asked)
 Follows before now (Err end) run = AsksPart before run.asked now

@@ -1,10 +1,11 @@
-// The top call: what is read, what is answered, and what is printed.
-ghost use Rattle.std.specs.Prelude.{◌≡◌, ◌++◌, ◌↔◌, ◌≤◌, ℕ, List, length, Some, None, IfSome, IfNone, IfOk, IsErrOf};
+//! The top call: what is read, what is answered, and what is printed.
+ghost use Rattle.std.specs.Prelude.{◌≡◌, ◌≢◌, ◌++◌, ◌↔◌, ◌≤◌, ℕ, List, length, Some, None, IfSome, IfNone, IfOk, IsErrOf};
 ghost use Rattle.ebc_outside.specs.Counts.{Rose};
 ghost use Rattle.ebc_outside.specs.Files.{AppendsPart};
+ghost use Rattle.ebc_cli.specs.declared.outcome.RuleName.{RuleName};
 ghost use Rattle.ebc_cli.specs.Outcomes.{IsAnswer};
-ghost use Rattle.ebc_cli.specs.PlainRules.{IsNeutral};
-ghost use Rattle.ebc_cli.specs.PlainRuns.{SamePlainRuns};
+ghost use Rattle.ebc_cli.specs.PlainRules.{IsNeutral, IsRefused};
+ghost use Rattle.ebc_cli.specs.PlainRuns.{RunsAlike};
 ghost use Rattle.ebc_cli.specs.Commands.{command_of, word_bytes};
 ghost use Rattle.ebc_cli.specs.Readings.{Follows, IfStop, CommandAnswer, AsksPart};
 ghost use Rattle.ebc_cli.specs.Answers.{answer_of, check_code, reply_to, printed, plain_code_limit, ChecksCode, AnswersWords};
@@ -41,13 +42,18 @@ pub fn ebc<F: Folder, O: Sink>(
         AsksPart (F.asked folder.old) (answer_of (word_bytes words.now) files).asked (F.asked folder.new)) }
     ensures contents { F.contents folder.new ≡ F.contents folder.old }
 
-    // `check CODE` calls code neutral exactly where each of its instructions meets the rules of plain code,
-    // and then the code has the same plain runs at both widths.
+    // `check CODE` calls code neutral exactly where each of its instructions meets the rules of plain code, and
+    // refuses it exactly at the first place at which a rule fails, by the first rule that fails there.
     ensures neutral_exactly { IfSome (F.contents folder.old) (λ files. (code : List ℕ) →
         ChecksCode (word_bytes words.now) files code → length code ≤ plain_code_limit →
         IsAnswer result → result ≡ Outcome.Done ↔ IsNeutral code) }
+    ensures refused_exactly { IfSome (F.contents folder.old) (λ files. (code : List ℕ) (place : ℕ) (rule : RuleName) →
+        ChecksCode (word_bytes words.now) files code → length code ≤ plain_code_limit →
+        IsAnswer result → result ≡ Outcome.Refused place rule ↔ IsRefused code place rule) }
+
+    // Neutral code has the same plain runs at both widths.
     ensures neutral_alike { IfSome (F.contents folder.old) (λ files. (code : List ℕ) →
-        ChecksCode (word_bytes words.now) files code → result ≡ Outcome.Done → SamePlainRuns code) }
+        ChecksCode (word_bytes words.now) files code → result ≡ Outcome.Done → RunsAlike code) }
 
     // Why an answer comes, also where the folder doesn't tell its files.
     ensures bad_words { IsAnswer result →
@@ -56,6 +62,8 @@ pub fn ebc<F: Folder, O: Sink>(
         Rose (F.read_faults folder.old) (F.read_faults folder.new)) }
     ensures read_fault { result ≡ Outcome.ReadFault →
         Rose (F.read_faults folder.old) (F.read_faults folder.new) }
+    ensures uncounted { IfSome (F.contents folder.old) (λ _. result ≢ Outcome.ReadFault →
+        F.read_faults folder.new ≡ F.read_faults folder.old) }
     ensures write_fault { result ≡ Outcome.WriteFault → Rose (O.faults out.old) (O.faults out.new) }
 
     // What stands after the answers that the words and files don't decide.
@@ -84,6 +92,8 @@ fn decide<F: Folder>(alloc: Global, words: &Vec<String>, folder: &mut F) -> Resu
         (F.read_faults folder.old) (F.read_faults folder.new)) }
     ensures fault { IsErrOf result End.ReadFault →
         Rose (F.read_faults folder.old) (F.read_faults folder.new) }
+    ensures uncounted { IfSome (F.contents folder.old) (λ _. ¬ IsErrOf result End.ReadFault →
+        F.read_faults folder.new ≡ F.read_faults folder.old) }
     ensures contents { F.contents folder.new ≡ F.contents folder.old }
 {
     match command_of(alloc, words)? {
@@ -103,6 +113,8 @@ fn check_code<F: Folder>(alloc: Global, name: &str, folder: &mut F) -> Result<Re
         (F.read_faults folder.old) (F.read_faults folder.new)) }
     ensures fault { IsErrOf result End.ReadFault →
         Rose (F.read_faults folder.old) (F.read_faults folder.new) }
+    ensures uncounted { IfSome (F.contents folder.old) (λ _. ¬ IsErrOf result End.ReadFault →
+        F.read_faults folder.new ≡ F.read_faults folder.old) }
     ensures contents { F.contents folder.new ≡ F.contents folder.old }
 {
     let code = file(alloc, folder, 1, name, PLAIN_CODE_LIMIT)?;

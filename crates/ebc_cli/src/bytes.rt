@@ -1,4 +1,4 @@
-// Bytes that contracts see as a list.
+//! Bytes that contracts see as a list.
 ghost use Rattle.std.specs.Prelude.{◌≡◌, ℕ, List, [], ◌==◌, length, string_bytes};
 
 use std::marker::Model;

@@ -1,4 +1,4 @@
-// The plain check of raw code.
+//! The plain check of raw code.
 ghost use Rattle.std.specs.Prelude.{◌≡◌, ◌≢◌, ◌+◌, ◌<◌, ◌≤◌, ℕ, length, drop, IfOk, vec_len, Some, None};
 ghost use Rattle.ebc_cli.specs.PlainChecks.{plain_verdict, first_refusal, places, reached, starts, is_plain, is_register, lands, passes, falls_through, instruction_rule, marked, after_place};
 ghost use Rattle.ebc_cli.specs.Answers.{plain_code_limit};

@@ -1,4 +1,4 @@
-// The commands that words spell.
+//! The commands that words spell.
 ghost use Rattle.std.specs.Prelude.{◌≡◌, [], ◌∷◌, string_bytes, IfOk};
 ghost use Rattle.ebc_cli.specs.Commands.{command_of, word_bytes};
 

@@ -1,4 +1,4 @@
-// The name of a file, as contracts see it.
+//! The name of a file, as contracts see it.
 ghost use Rattle.std.specs.Prelude.{◌≡◌, ℕ, List, IfOk, string_bytes};
 
 use std::alloc::{AllocError, Global};

@@ -17,6 +17,3 @@ mod verdict;
 
 pub use answer::ebc;
 pub use outcome::{Outcome, RuleName};
-
-#[cfg(test)]
-mod tests;

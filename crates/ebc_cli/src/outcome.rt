@@ -1,4 +1,4 @@
-// How a call of the program ends.
+//! How a call of the program ends.
 ghost use Rattle.std.specs.Prelude.{◌≡◌};
 ghost use Rattle.ebc_cli.specs.Outcomes.{exit_status};
 

@@ -1,4 +1,4 @@
-// Reading the files that words name.
+//! Reading the files that words name.
 ghost use Rattle.std.specs.Prelude.{◌≡◌, ◌<◌, ◌^◌, ◌≤◌, IfSome, IfOk, IsErrOf, length};
 ghost use Rattle.ebc_outside.specs.Counts.{Rose};
 ghost use Rattle.ebc_cli.specs.Readings.{file, Follows, IfStop, CommandAnswer};
@@ -26,6 +26,9 @@ pub fn file<F: Folder>(
         (F.read_faults folder.old) (F.read_faults folder.new)) }
     ensures fault { IsErrOf result End.ReadFault →
         Rose (F.read_faults folder.old) (F.read_faults folder.new) }
+    ensures uncounted { IfSome (F.contents folder.old) (λ _. ¬ IsErrOf result End.ReadFault →
+        F.read_faults folder.new ≡ F.read_faults folder.old) }
+    ensures count { F.read_faults folder.old ≤ F.read_faults folder.new }
     ensures contents { F.contents folder.new ≡ F.contents folder.old }
     ensures within { IfOk result (λ bytes. length bytes ≤ limit) }
 {

@@ -1,4 +1,4 @@
-// What is answered, and why a reading ends.
+//! What is answered, and why a reading ends.
 ghost use Rattle.std.specs.Prelude.{◌≡◌};
 ghost use Rattle.ebc_cli.specs.declared.reply.End.TheVariants.{NoMemory};
 

@@ -1,3 +1,5 @@
+//! What a check says of code.
+
 use crate::outcome::RuleName;
 
 /// What a check says of code.

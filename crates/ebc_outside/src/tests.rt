@@ -1,4 +1,4 @@
-//! What the calls do once, where memory and the system allow it.
+//! What the calls do once, where memory and the system allow it. A test removes the files that it makes.
 use super::*;
 use std::alloc::Global;
 use std::fs;
@@ -78,7 +78,10 @@ fn write_and_read<F: Folder>(rt: &impl Abort, alloc: Global, folder: &mut F) -> 
 #[test]
 fn what_is_written_is_read_back(rt: HostRuntime) -> Result<(), Fail> {
     write_and_read(&rt, rt.alloc(), &mut MemFolder::new(rt.alloc()))?;
-    write_and_read(&rt, rt.alloc(), &mut HostFolder::new(&rt))
+    write_and_read(&rt, rt.alloc(), &mut HostFolder::new(&rt))?;
+    fs::remove_file(&rt, "first")?;
+    fs::remove_file(&rt, "second")?;
+    Ok(())
 }
 
 #[test]
@@ -108,6 +111,7 @@ fn a_write_to_a_folder_of_the_system_is_a_fault(rt: HostRuntime) -> Result<(), F
         folder.write(rt.alloc(), "directory", b"1"),
         Err(WriteEnd::Fault)
     );
+    fs::remove_dir(&rt, "directory")?;
     Ok(())
 }
 
@@ -135,6 +139,9 @@ fn files_of_the_system_are_read_up_to_the_limit(rt: HostRuntime) -> Result<(), F
             "at limit {limit}"
         );
     }
+    fs::remove_file(&rt, "some")?;
+    fs::remove_file(&rt, "long")?;
+    fs::remove_dir(&rt, "folder")?;
     Ok(())
 }
 
@@ -147,5 +154,6 @@ fn what_is_put_to_a_file_is_read_back(rt: HostRuntime) -> Result<(), Fail> {
     sink.put(alloc, b"two")?;
     let bytes = HostFolder::new(&rt).read(alloc, "text", 100)?;
     assert_eq!(rt; bytes.as_slice(), b"one two".as_slice());
+    fs::remove_file(&rt, "text")?;
     Ok(())
 }

@@ -1,4 +1,4 @@
-use Rattle.ebc_cli.proofs.HeadlineLemmas.{Tells, alike, exactly, reply-ok, reply-stop}
+use Rattle.ebc_cli.proofs.HeadlineLemmas.{Tells, alike, exactly, refused, reply-ok, reply-stop}
 use Rattle.ebc_cli.specs.Commands.{word_bytes}
 use Rattle.ebc_cli.proofs.answer.ebc.Goals as goal
 use Rattle.ebc_cli.proofs.answer.ebc.Goals.{in-Ok, in-Err-Stop, After-drop-reply}
@@ -15,6 +15,9 @@ tells g c = record {
 
 pub returns-clause-neutral_exactly : goal.returns-clause-neutral_exactly
 returns-clause-neutral_exactly g c = exactly _ _ _ _ (tells g c)
+
+pub returns-clause-refused_exactly : goal.returns-clause-refused_exactly
+returns-clause-refused_exactly g c = refused _ _ _ _ (tells g c)
 
 pub returns-clause-neutral_alike : goal.returns-clause-neutral_alike
 returns-clause-neutral_alike g c = alike _ _ _ _ (tells g c)
