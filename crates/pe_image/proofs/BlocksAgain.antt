@@ -8,7 +8,7 @@ use Rattle.std.proofs.lemmas.List.{append-nil, length-replicate, map-append, tak
 use Rattle.std.proofs.lemmas.List.Elements.{All-tail}
 use Rattle.pe_image.specs.declared.relocations.Entry.{Entry}
 use Rattle.ebc_width.specs.Bytes.{little_endian}
-use Rattle.pe_image.specs.Fields.{u16_at, u32_at, number_at}
+use Rattle.pe_image.specs.Fields.{u16_at, number_at}
 use Rattle.pe_image.specs.Files.{block_bytes, entry_bytes, entry_count, on_page, zeros}
 use Rattle.pe_image.specs.Images.{IsBelow}
 use Rattle.pe_image.specs.Relocations.{block_entries, block_size, blocks_end, entries, entry_at, first_entries, is_block, named, page_at}

@@ -6,7 +6,7 @@ use Rattle.std.proofs.lemmas.List.{drop_at, drop-drop}
 use Rattle.pe_image.specs.declared.image.Image.{Image}
 use Rattle.pe_image.specs.declared.image.Section.{Section}
 use Rattle.ebc_width.specs.Bytes.{little_endian}
-use Rattle.pe_image.specs.Fields.{u16_at, u32_at, u64_at, number_at}
+use Rattle.pe_image.specs.Fields.{u32_at, number_at}
 use Rattle.pe_image.specs.Files.{coff_bytes, directories_bytes, directory_bytes, file_of, file_sections, front_bytes, raw_bytes, reloc_sections, section_headers, standard_bytes, stub_bytes, windows_bytes, zeros}
 use Rattle.pe_image.specs.Headers.{directory, directory_count, directory_place, directory_size, entry_point, image_base, image_size, machine, magic, optional, optional_size, section_alignment, section_count, section_table, signature, subsystem}
 use Rattle.pe_image.proofs.Numbers.{number_from}

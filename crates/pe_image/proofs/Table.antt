@@ -9,7 +9,7 @@ use Rattle.pe_image.specs.declared.image.Image.{Image}
 use Rattle.pe_image.specs.declared.image.Section.{Section}
 use Rattle.pe_image.specs.declared.section.SectionHeader.{SectionHeader}
 use Rattle.ebc_width.specs.Bytes.{little_endian}
-use Rattle.pe_image.specs.Fields.{bytes_at, u16_at, u32_at, number_at}
+use Rattle.pe_image.specs.Fields.{bytes_at, u32_at, number_at}
 use Rattle.pe_image.specs.Files.{file_sections, raw_bytes, raw_size, section_header, section_headers, zeros}
 use Rattle.pe_image.specs.Headers.{section_at, section_table}
 use Rattle.pe_image.proofs.Numbers.{number_from}

@@ -1,16 +1,17 @@
 //! Base relocations (PE/COFF specification, "The .reloc Section (Image Only)").
 
 ghost use Rattle.std.specs.Prelude.{◌≡◌, ℕ, ◌+◌, ◌-◌, ◌*◌, ◌/◌, ◌<◌, ◌≤◌, ◌^◌, ◌++◌, ◌&&◌, List, [], ◌∷◌, length, true, false, IfOk, OnOk, IfSome, IfNone};
+ghost use Rattle.std.specs.Bool.{OnTrue};
 ghost use Rattle.pe_image.specs.Conditions.{block_conditions, entry_conditions, is_entry, is_past, need, relocation_conditions};
 ghost use Rattle.pe_image.specs.Headers.{end_of, in_section, section_at, section_count};
 ghost use Rattle.pe_image.specs.Images.{Checks, relocations};
 ghost use Rattle.pe_image.specs.Relocations.{block_entries, block_size, entries, entry_at, is_block, named, page_at};
-ghost use Rattle.pe_image.specs.Walks.{HasPassed, IsSound};
+ghost use Rattle.pe_image.specs.Walks.{HasPassed, IsSound, LiesAt};
 
 use crate::fault::{ImageEnd, ImageFault};
 use crate::fields::{u16_at, u32_at};
 use crate::headers::Headers;
-use std::alloc::Global;
+use std::alloc::{AllocError, Global};
 
 /// An entry of a block: its offset in the file, its type, and the place that it names if it is of a type that names one.
 #[derive(Clone, Copy, PartialEq, Eq, Debug)]
@@ -27,14 +28,22 @@ pub(crate) struct Span {
     pub end: usize,
 }
 
+/// Where a section lies: its number, the place at which it begins, and where it ends.
+#[derive(Clone, Copy, PartialEq, Eq, Debug)]
+pub(crate) struct Room {
+    pub section: usize,
+    pub begin: u64,
+    pub end: u64,
+}
+
 // The relocated places found so far.
 #[derive(Drop)]
 struct Found {
     places: Vec<u32>,
     // Where the next place begins, or later.
     floor: u64,
-    // The sections before this number end below it.
-    section: usize,
+    // The section of the last place, and at first one of no bytes. The sections before it end below the floor.
+    room: Room,
 }
 
 /// The relocated places, in their order.
@@ -44,32 +53,39 @@ pub(crate) fn relocations(alloc: Global, headers: &Headers<'_>) -> Result<Vec<u3
     ensures checks { Checks result (relocation_conditions headers.now) }
     ensures places { IfOk result (λ places. places.items ≡ relocations headers.now) }
 {
-    let mut found = Found::none(alloc);
-    if headers.has_directory() {
-        let Some(home) = headers.home() else {
-            return Err(ImageEnd::at(ImageFault::Reloc, headers.directory()));
-        };
-        found.take_all(headers, headers.span_in(&home))?;
+    if !headers.has_directory() {
+        return Ok(Vec::new(alloc));
     }
+    let Some(home) = headers.home() else {
+        return Err(ImageEnd::at(ImageFault::Reloc, headers.directory()));
+    };
+    let span = headers.span_in(&home);
+    let mut found = Found::new(alloc, (span.end - span.start) / 2)?;
+    found.take_all(headers, span)?;
     Ok(found.places)
 }
 
 impl Found {
-    fn none(alloc: Global) -> Found
-        ensures places { result.places.items ≡ [] }
-        ensures passed { (file : List ℕ) → HasPassed file result.places.items result.floor result.section }
+    // No place yet, with memory for so many.
+    fn new(alloc: Global, count: usize) -> Result<Found, AllocError>
+        ensures places { IfOk result (λ found. found.places.items ≡ []) }
+        ensures passed { IfOk result (λ found. (file : List ℕ) → HasPassed file found.places.items found.floor found.room) }
     {
-        Found {
-            places: Vec::new(alloc),
+        Ok(Found {
+            places: Vec::with_capacity(alloc, count)?,
             floor: 0,
-            section: 0,
-        }
+            room: Room {
+                section: 0,
+                begin: 0,
+                end: 0,
+            },
+        })
     }
 
     // Takes what all blocks name.
     fn take_all(&mut self, headers: &Headers<'_>, span: Span) -> Result<(), ImageEnd>
         requires sound { IsSound headers.now }
-        requires passed { HasPassed headers.now self.old.places.items self.old.floor self.old.section }
+        requires passed { HasPassed headers.now self.old.places.items self.old.floor self.old.room }
         requires order { span.start ≤ span.end }
         requires end { span.end ≤ length headers.now }
         ensures checks { Checks result (block_conditions headers.now span.end self.old.places.items span.start) }
@@ -89,13 +105,13 @@ impl Found {
     // Takes what the entries of a block name.
     fn take_block(&mut self, headers: &Headers<'_>, at: usize, size: usize) -> Result<(), ImageEnd>
         requires sound { IsSound headers.now }
-        requires passed { HasPassed headers.now self.old.places.items self.old.floor self.old.section }
+        requires passed { HasPassed headers.now self.old.places.items self.old.floor self.old.room }
         requires size { size ≡ block_size headers.now at }
         requires fields { 8 ≤ size }
         requires end { at + size ≤ length headers.now }
         ensures checks { Checks result (entry_conditions headers.now self.old.places.items (block_entries headers.now at)) }
         ensures places { OnOk result (self.new.places.items ≡ self.old.places.items ++ named (block_entries headers.now at)) }
-        ensures passed { OnOk result (HasPassed headers.now self.new.places.items self.new.floor self.new.section) }
+        ensures passed { OnOk result (HasPassed headers.now self.new.places.items self.new.floor self.new.room) }
     {
         let file = headers.file();
         let page = page_of_block(file, at);
@@ -109,11 +125,11 @@ impl Found {
     #[tactic(auto, using(crate::proofs::Entries::of_no_type, crate::proofs::Entries::of_type_0, crate::proofs::Entries::of_type_10, crate::proofs::Entries::names_none, crate::proofs::Entries::names_one, crate::proofs::Entries::no_more))]
     fn take(&mut self, headers: &Headers<'_>, entry: Entry) -> Result<(), ImageEnd>
         requires sound { IsSound headers.now }
-        requires passed { HasPassed headers.now self.old.places.items self.old.floor self.old.section }
+        requires passed { HasPassed headers.now self.old.places.items self.old.floor self.old.room }
         requires place { entry.place < 2 ^ 33 }
         ensures checks { Checks result (need (is_entry headers.now self.old.places.items entry) ImageFault.Reloc entry.at ∷ []) }
         ensures places { OnOk result (self.new.places.items ≡ self.old.places.items ++ named (entry ∷ [])) }
-        ensures passed { OnOk result (HasPassed headers.now self.new.places.items self.new.floor self.new.section) }
+        ensures passed { OnOk result (HasPassed headers.now self.new.places.items self.new.floor self.new.room) }
     {
         match entry.kind {
             0 => Ok(()),
@@ -125,45 +141,53 @@ impl Found {
     // Takes a place that an entry names.
     fn take_place(&mut self, headers: &Headers<'_>, at: usize, place: u64) -> Result<(), ImageEnd>
         requires sound { IsSound headers.now }
-        requires passed { HasPassed headers.now self.old.places.items self.old.floor self.old.section }
+        requires passed { HasPassed headers.now self.old.places.items self.old.floor self.old.room }
         requires place { place < 2 ^ 33 }
         ensures checks { Checks result (need (is_past self.old.places.items place && in_section headers.now place 8) ImageFault.Reloc at ∷ []) }
         ensures places { OnOk result (self.new.places.items ≡ self.old.places.items ++ place ∷ []) }
-        ensures passed { OnOk result (HasPassed headers.now self.new.places.items self.new.floor self.new.section) }
+        ensures passed { OnOk result (HasPassed headers.now self.new.places.items self.new.floor self.new.room) }
     {
-        let Some(section) = self.section_of(headers, place) else {
+        if !self.reach(headers, place) {
             return Err(ImageEnd::at(ImageFault::Reloc, at));
-        };
+        }
         self.places.push(place as u32)?;
         self.floor = place + 8;
-        self.section = section;
         Ok(())
     }
 
-    // The section that has the eight bytes at a place: none also where the place is too low.
-    #[tactic(auto, using(crate::proofs::Places::below_floor))]
-    fn section_of(&self, headers: &Headers<'_>, place: u64) -> Option<usize>
+    // Whether a section has the eight bytes at a place, which isn't too low: the room is that section's then.
+    fn reach(&mut self, headers: &Headers<'_>, place: u64) -> bool
         requires sound { IsSound headers.now }
-        requires passed { HasPassed headers.now self.now.places.items self.now.floor self.now.section }
+        requires passed { HasPassed headers.now self.old.places.items self.old.floor self.old.room }
         requires place { place < 2 ^ 33 }
-        ensures has { IfSome result (λ section. (is_past self.now.places.items place && in_section headers.now place 8) ≡ true) }
-        ensures floor { IfSome result (λ section. self.now.floor ≤ place) }
-        ensures small { IfSome result (λ section. place < 2 ^ 32) }
-        ensures passed { IfSome result (λ section. (i : ℕ) → i < section → end_of (section_at headers.now i) < place + 8) }
-        ensures within { IfSome result (λ section. section < section_count headers.now) }
-        ensures none { IfNone result ((is_past self.now.places.items place && in_section headers.now place 8) ≡ false) }
+        ensures has { result ≡ (is_past self.old.places.items place && in_section headers.now place 8) }
+        ensures above { OnTrue result (self.old.floor ≤ place) }
+        ensures small { OnTrue result (place < 2 ^ 32) }
+        ensures passed { OnTrue result ((i : ℕ) → i < self.new.room.section → end_of (section_at headers.now i) < place + 8) }
+        ensures lies { OnTrue result (LiesAt headers.now self.new.room) }
+        ensures places { self.new.places.items ≡ self.old.places.items }
     {
         if place < self.floor {
-            return None;
+            return false;
         }
-        let next = headers.first_past(self.section, place + 8);
-        if next == headers.count() {
-            return None;
+        if self.room.begin <= place && place + 8 <= self.room.end {
+            return true;
         }
-        if place < u64::from(headers.section(next).place) {
-            return None;
+        let section = headers.first_past(self.room.section, place + 8);
+        if section == headers.count() {
+            return false;
         }
-        Some(next)
+        let header = headers.section(section);
+        let begin = u64::from(header.place);
+        if place < begin {
+            return false;
+        }
+        self.room = Room {
+            section,
+            begin,
+            end: header.end(),
+        };
+        true
     }
 }
 
