@@ -1,0 +1,41 @@
+//! How a run leaves its script.
+use crate::seen::Seen;
+
+/// Why a run and its script don't match.
+#[derive(Clone, Copy, PartialEq, Eq, Debug)]
+pub enum Reason {
+    /// The call instruction at the place, an offset from the image's base in bytes, has no site.
+    Site {
+        place: u32,
+    },
+    /// The target of the call isn't the method of its site.
+    Target {
+        address: u64,
+    },
+    /// The script's call is one by another signature.
+    Signature {
+        found: u32,
+        wanted: u32,
+    },
+    /// The argument of that number, from 0, isn't that of the script's call.
+    Argument {
+        number: u32,
+        found: Seen,
+        wanted: Seen,
+    },
+    /// The reply of the script's call doesn't fit.
+    Reply {
+        entry: u32,
+    },
+    /// A function that the script's call enters can't be entered so.
+    Enter {
+        entry: u32,
+        callback: u32,
+    },
+    /// A tenth function would be entered before the first of them returned.
+    Depth,
+    /// The eight bytes of a thunk cell name no function that may be entered.
+    Thunk {
+        address: u64,
+    },
+}

@@ -1,0 +1,4 @@
+pub mod Numbers
+pub mod ReadingAlike
+pub mod WrittenFits
+pub mod WrittenShows
