@@ -2,14 +2,14 @@
 ghost use Rattle.std.specs.Prelude.{◌≡◌, [], ◌∷◌, string_bytes, IfOk};
 ghost use Rattle.ebc_cli.specs.Commands.{command_of, word_bytes};
 
-use crate::file_name::FileName;
+use ebc_base::Name;
 use std::alloc::{AllocError, Global};
 
 /// What the words ask for.
 #[derive(Debug, Drop)]
 pub enum Command {
     /// `check CODE`: the plain check of a file of raw code.
-    CheckCode { code: FileName },
+    CheckCode { code: Name },
 }
 
 /// The command that the words spell, if they spell one.
@@ -29,7 +29,7 @@ fn with_one_file(alloc: Global, word: &String, file: &String) -> Result<Option<C
         return Ok(None);
     }
     if word.as_str() == "check" {
-        let code = FileName::new(alloc, file.as_str())?;
+        let code = Name::new(String::from_str(alloc, file.as_str())?);
         return Ok(Some(Command::CheckCode { code }));
     }
     Ok(None)

@@ -5,10 +5,8 @@
 #![tactic(auto)]
 
 mod answer;
-mod bytes;
 mod check;
 mod command;
-mod file_name;
 mod outcome;
 mod reading;
 mod reply;

@@ -3,10 +3,10 @@ ghost use Rattle.std.specs.Prelude.{◌≡◌, ◌<◌, ◌^◌, ◌≤◌, IfSo
 ghost use Rattle.ebc_outside.specs.Counts.{Rose};
 ghost use Rattle.ebc_cli.specs.Readings.{file, Follows, IfStop, CommandAnswer};
 
-use crate::bytes::Bytes;
 use crate::outcome::Outcome;
 use crate::reply::{End, Reply};
 use crate::text;
+use ebc_base::Sequence;
 use ebc_outside::{Folder, ReadEnd};
 use std::alloc::Global;
 
@@ -18,7 +18,7 @@ pub fn file<F: Folder>(
     word: u8,
     name: &str,
     limit: u64,
-) -> Result<Bytes, End>
+) -> Result<Sequence<u8>, End>
     requires { limit < 2 ^ 63 }
     ensures follows { IfSome (F.contents folder.old) (λ files.
         Follows (F.asked folder.old) (F.asked folder.new) result (file word name.now limit files)) }
@@ -37,7 +37,7 @@ pub fn file<F: Folder>(
             if bytes.len() as u64 > limit {
                 return Err(End::Stop(text::large(alloc, word, name)?));
             }
-            Ok(Bytes::new(bytes))
+            Ok(Sequence::new(bytes))
         }
         Err(ReadEnd::Missing) => Err(End::Stop(text::missing(alloc, word, name)?)),
         Err(ReadEnd::Fault) => Err(End::ReadFault),

@@ -2,15 +2,15 @@
 ghost use Rattle.std.specs.Prelude.{◌≡◌};
 ghost use Rattle.ebc_cli.specs.declared.reply.End.TheVariants.{NoMemory};
 
-use crate::bytes::Bytes;
 use crate::outcome::Outcome;
+use ebc_base::Sequence;
 use std::alloc::{AllocError, AllocFailed};
 
 /// An answer and the text that is printed for it.
 #[derive(Debug, Drop)]
 pub struct Reply {
     pub outcome: Outcome,
-    pub text: Bytes,
+    pub text: Sequence<u8>,
 }
 
 /// Why the work ends before its answer.

@@ -4,10 +4,10 @@ ghost use Rattle.ebc_cli.specs.Texts.{place_text, rule_text};
 ghost use Rattle.ebc_cli.specs.Readings.{missing_reply, large_reply};
 ghost use Rattle.ebc_cli.specs.Answers.{verdict_reply, usage_reply};
 
-use crate::bytes::Bytes;
 use crate::outcome::{Outcome, RuleName};
 use crate::reply::Reply;
 use crate::verdict::Verdict;
+use ebc_base::Sequence;
 use std::alloc::{AllocError, Global};
 use std::fmt;
 
@@ -44,7 +44,7 @@ pub fn verdict(alloc: Global, verdict: Verdict) -> Result<Reply, AllocError>
 {
     match verdict {
         Verdict::Neutral => {
-            let text = Bytes::new(b"neutral\n".to_vec(alloc)?);
+            let text = Sequence::new(b"neutral\n".to_vec(alloc)?);
             Ok(Reply {
                 outcome: Outcome::Done,
                 text,
@@ -58,7 +58,7 @@ fn refused(alloc: Global, place: u32, rule: RuleName) -> Result<Reply, AllocErro
     ensures { IfOk result (λ r. r ≡ verdict_reply (Verdict.Refused place rule)) }
 {
     let shown = Place(place);
-    let text = Bytes::of_text(format!(in alloc; "refused {shown} {rule}\n")?);
+    let text = Sequence::new(format!(in alloc; "refused {shown} {rule}\n")?.into_bytes());
     Ok(Reply {
         outcome: Outcome::Refused { place, rule },
         text,
@@ -69,7 +69,7 @@ fn refused(alloc: Global, place: u32, rule: RuleName) -> Result<Reply, AllocErro
 pub fn usage(alloc: Global) -> Result<Reply, AllocError>
     ensures { IfOk result (λ r. r ≡ usage_reply) }
 {
-    let text = Bytes::new(b"usage: check CODE\n".to_vec(alloc)?);
+    let text = Sequence::new(b"usage: check CODE\n".to_vec(alloc)?);
     Ok(Reply {
         outcome: Outcome::BadWords,
         text,
@@ -80,7 +80,7 @@ pub fn usage(alloc: Global) -> Result<Reply, AllocError>
 pub fn missing(alloc: Global, word: u8, name: &str) -> Result<Reply, AllocError>
     ensures { IfOk result (λ r. r ≡ missing_reply word name.now) }
 {
-    let text = Bytes::of_text(format!(in alloc; "missing {name}\n")?);
+    let text = Sequence::new(format!(in alloc; "missing {name}\n")?.into_bytes());
     Ok(Reply {
         outcome: Outcome::Missing { word },
         text,
@@ -91,7 +91,7 @@ pub fn missing(alloc: Global, word: u8, name: &str) -> Result<Reply, AllocError>
 pub fn large(alloc: Global, word: u8, name: &str) -> Result<Reply, AllocError>
     ensures { IfOk result (λ r. r ≡ large_reply word name.now) }
 {
-    let text = Bytes::of_text(format!(in alloc; "large {name}\n")?);
+    let text = Sequence::new(format!(in alloc; "large {name}\n")?.into_bytes());
     Ok(Reply {
         outcome: Outcome::TooLarge { word },
         text,

@@ -63,7 +63,7 @@ fn with_length(length: usize, insn: Option<Insn>) -> Result<(Insn, usize), Decod
     }
 }
 
-#[inline(never)]
+#[inline(always)]
 pub fn read_break(b0: u8, b1: u8, rest: &[u8]) -> Result<(Insn, usize), DecodeFault>
     ensures { result ≡ read_form (Some forms.Break) b0 b1 rest.now }
 {
@@ -71,7 +71,7 @@ pub fn read_break(b0: u8, b1: u8, rest: &[u8]) -> Result<(Insn, usize), DecodeFa
     with_length(length, break_at(code))
 }
 
-#[inline(never)]
+#[inline(always)]
 pub fn read_jump(b0: u8, b1: u8, rest: &[u8]) -> Result<(Insn, usize), DecodeFault>
     ensures { result ≡ read_form (Some forms.Jump) b0 b1 rest.now }
 {
@@ -79,7 +79,7 @@ pub fn read_jump(b0: u8, b1: u8, rest: &[u8]) -> Result<(Insn, usize), DecodeFau
     with_length(length, jump_at(code))
 }
 
-#[inline(never)]
+#[inline(always)]
 pub fn read_jump8(b0: u8, b1: u8, rest: &[u8]) -> Result<(Insn, usize), DecodeFault>
     ensures { result ≡ read_form (Some forms.Jump8) b0 b1 rest.now }
 {
@@ -87,7 +87,7 @@ pub fn read_jump8(b0: u8, b1: u8, rest: &[u8]) -> Result<(Insn, usize), DecodeFa
     with_length(length, jump8_at(code))
 }
 
-#[inline(never)]
+#[inline(always)]
 pub fn read_call(b0: u8, b1: u8, rest: &[u8]) -> Result<(Insn, usize), DecodeFault>
     ensures { result ≡ read_form (Some forms.Call) b0 b1 rest.now }
 {
@@ -95,7 +95,7 @@ pub fn read_call(b0: u8, b1: u8, rest: &[u8]) -> Result<(Insn, usize), DecodeFau
     with_length(length, call_at(code))
 }
 
-#[inline(never)]
+#[inline(always)]
 pub fn read_ret(b0: u8, b1: u8, rest: &[u8]) -> Result<(Insn, usize), DecodeFault>
     ensures { result ≡ read_form (Some forms.Ret) b0 b1 rest.now }
 {
@@ -103,7 +103,7 @@ pub fn read_ret(b0: u8, b1: u8, rest: &[u8]) -> Result<(Insn, usize), DecodeFaul
     with_length(length, ret_at(code))
 }
 
-#[inline(never)]
+#[inline(always)]
 pub fn read_compare(op: CmpOp, b0: u8, b1: u8, rest: &[u8]) -> Result<(Insn, usize), DecodeFault>
     ensures { result ≡ read_form (Some (forms.Compare op)) b0 b1 rest.now }
 {
@@ -111,7 +111,7 @@ pub fn read_compare(op: CmpOp, b0: u8, b1: u8, rest: &[u8]) -> Result<(Insn, usi
     with_length(length, compare_at(op, code))
 }
 
-#[inline(never)]
+#[inline(always)]
 pub fn read_compare_imm(
     op: CmpOp,
     b0: u8,
@@ -124,7 +124,7 @@ pub fn read_compare_imm(
     with_length(length, compare_imm_at(op, code))
 }
 
-#[inline(never)]
+#[inline(always)]
 pub fn read_arith(op: ArithOp, b0: u8, b1: u8, rest: &[u8]) -> Result<(Insn, usize), DecodeFault>
     ensures { result ≡ read_form (Some (forms.Arith op)) b0 b1 rest.now }
 {
@@ -132,7 +132,7 @@ pub fn read_arith(op: ArithOp, b0: u8, b1: u8, rest: &[u8]) -> Result<(Insn, usi
     with_length(length, arith_at(op, code))
 }
 
-#[inline(never)]
+#[inline(always)]
 pub fn read_move(
     size: Size,
     bits: u8,
@@ -146,7 +146,7 @@ pub fn read_move(
     with_length(length, move_at(size, bits, code))
 }
 
-#[inline(never)]
+#[inline(always)]
 pub fn read_move_signed(bits: u8, b0: u8, b1: u8, rest: &[u8]) -> Result<(Insn, usize), DecodeFault>
     ensures { result ≡ read_form (Some (forms.MoveSigned bits)) b0 b1 rest.now }
 {
@@ -154,7 +154,7 @@ pub fn read_move_signed(bits: u8, b0: u8, b1: u8, rest: &[u8]) -> Result<(Insn, 
     with_length(length, move_signed_at(bits, code))
 }
 
-#[inline(never)]
+#[inline(always)]
 pub fn read_move_imm(b0: u8, b1: u8, rest: &[u8]) -> Result<(Insn, usize), DecodeFault>
     ensures { result ≡ read_form (Some forms.MoveImm) b0 b1 rest.now }
 {
@@ -162,7 +162,7 @@ pub fn read_move_imm(b0: u8, b1: u8, rest: &[u8]) -> Result<(Insn, usize), Decod
     with_length(length, move_imm_at(code))
 }
 
-#[inline(never)]
+#[inline(always)]
 pub fn read_move_imm_natural(b0: u8, b1: u8, rest: &[u8]) -> Result<(Insn, usize), DecodeFault>
     ensures { result ≡ read_form (Some forms.MoveImmNatural) b0 b1 rest.now }
 {
@@ -170,7 +170,7 @@ pub fn read_move_imm_natural(b0: u8, b1: u8, rest: &[u8]) -> Result<(Insn, usize
     with_length(length, move_imm_natural_at(code))
 }
 
-#[inline(never)]
+#[inline(always)]
 pub fn read_move_relative(b0: u8, b1: u8, rest: &[u8]) -> Result<(Insn, usize), DecodeFault>
     ensures { result ≡ read_form (Some forms.MoveRelative) b0 b1 rest.now }
 {
@@ -178,7 +178,7 @@ pub fn read_move_relative(b0: u8, b1: u8, rest: &[u8]) -> Result<(Insn, usize), 
     with_length(length, move_relative_at(code))
 }
 
-#[inline(never)]
+#[inline(always)]
 pub fn read_load_special(b0: u8, b1: u8, rest: &[u8]) -> Result<(Insn, usize), DecodeFault>
     ensures { result ≡ read_form (Some forms.LoadSpecial) b0 b1 rest.now }
 {
@@ -186,7 +186,7 @@ pub fn read_load_special(b0: u8, b1: u8, rest: &[u8]) -> Result<(Insn, usize), D
     with_length(length, load_special_at(code))
 }
 
-#[inline(never)]
+#[inline(always)]
 pub fn read_store_special(b0: u8, b1: u8, rest: &[u8]) -> Result<(Insn, usize), DecodeFault>
     ensures { result ≡ read_form (Some forms.StoreSpecial) b0 b1 rest.now }
 {
@@ -194,7 +194,7 @@ pub fn read_store_special(b0: u8, b1: u8, rest: &[u8]) -> Result<(Insn, usize), 
     with_length(length, store_special_at(code))
 }
 
-#[inline(never)]
+#[inline(always)]
 pub fn read_push(b0: u8, b1: u8, rest: &[u8]) -> Result<(Insn, usize), DecodeFault>
     ensures { result ≡ read_form (Some forms.Push) b0 b1 rest.now }
 {
@@ -202,7 +202,7 @@ pub fn read_push(b0: u8, b1: u8, rest: &[u8]) -> Result<(Insn, usize), DecodeFau
     with_length(length, push_at(code))
 }
 
-#[inline(never)]
+#[inline(always)]
 pub fn read_pop(b0: u8, b1: u8, rest: &[u8]) -> Result<(Insn, usize), DecodeFault>
     ensures { result ≡ read_form (Some forms.Pop) b0 b1 rest.now }
 {
@@ -210,7 +210,7 @@ pub fn read_pop(b0: u8, b1: u8, rest: &[u8]) -> Result<(Insn, usize), DecodeFaul
     with_length(length, pop_at(code))
 }
 
-#[inline(never)]
+#[inline(always)]
 pub fn read_push_natural(b0: u8, b1: u8, rest: &[u8]) -> Result<(Insn, usize), DecodeFault>
     ensures { result ≡ read_form (Some forms.PushNatural) b0 b1 rest.now }
 {
@@ -218,7 +218,7 @@ pub fn read_push_natural(b0: u8, b1: u8, rest: &[u8]) -> Result<(Insn, usize), D
     with_length(length, push_natural_at(code))
 }
 
-#[inline(never)]
+#[inline(always)]
 pub fn read_pop_natural(b0: u8, b1: u8, rest: &[u8]) -> Result<(Insn, usize), DecodeFault>
     ensures { result ≡ read_form (Some forms.PopNatural) b0 b1 rest.now }
 {

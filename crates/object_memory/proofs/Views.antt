@@ -1,5 +1,5 @@
 -- The memory that lies in spans and cells: what it holds, and what a new span and new cells make of it.
-use Rattle.std.proofs.Common.{◌≡◌, ℕ, zero, suc, ◌+◌, ◌-◌, ◌<◌, ◌≤◌, ◌⊎◌, inl, inr, ⊎_elim, Bool, true, false, cond, List, [], ◌∷◌, ◌++◌, length, map, take, drop, replicate, get_or, refl, sym, ap, ap₂, subst, ◌∙◌, arith, Option, Some, length-append}
+use Rattle.std.proofs.Common.{◌≡◌, ℕ, zero, suc, ◌+◌, ◌-◌, ◌*◌, ◌/◌, ◌<◌, ◌≤◌, ◌⊎◌, inl, inr, ⊎_elim, Bool, true, false, cond, List, [], ◌∷◌, ◌++◌, length, map, take, drop, replicate, get_or, refl, sym, ap, ap₂, subst, ◌∙◌, arith, Option, Some, length-append}
 use Rattle.std.specs.Prelude.{All, sum_by, slice_get, slice_index}
 use Rattle.std.specs.List.{find}
 use Rattle.std.specs.Option.{option_map, option_map_or}
@@ -13,9 +13,9 @@ use Rattle.ebc_width.specs.Bytes.{little_endian, put, overlaid, window}
 use Rattle.object_memory.specs.Memory.{Object, Memory, ranges, has_byte, object_at, byte_of, byte_at, held_number, memory_after, memory_filled, rest_from, object_with, with_bytes, padded, used, first_base, next_base, placed, IsPlaced, IsMemory}
 use Rattle.ebc_width.specs.Ranges.{covers, holds}
 use Rattle.object_memory.specs.declared.span.Span.{Span}
-use Rattle.object_memory.specs.Layout.{span_range, EndsBelow, IsSpan, IsSpanOf, object_of, memory_of, IsLayout, IsFound}
+use Rattle.object_memory.specs.Layout.{span_range, EndsBelow, IsSpan, IsSpanOf, object_of, memory_of, IsLayout, IsKept, IsFound}
 use Rattle.object_memory.proofs.Lists.{sum_by-map, get_or-zeros}
-use Rattle.object_memory.proofs.Search.{origin}
+use Rattle.object_memory.proofs.Search.{AreHomes-next}
 use Rattle.ebc_width.proofs.ByteLaws.{little_endian-moved, put-moved, overlaid-moved, length-window, get_or-window}
 use Rattle.ebc_width.proofs.RangeLaws.{holds-at, holds-within}
 use Rattle.object_memory.proofs.Laws.{object_at-found, byte_at-none, held_number-held, memory_after-held, memory_filled-held, rest_from-found, limit-no_wrap}
@@ -63,7 +63,7 @@ memory_of-next_span w spans cells limit most n inside whole =
     (objects-append w cells zeros spans inside)
     (object_of-next_span w cells n ∙ ap (λ k. record { base = first_base w + k; size = n; bytes = replicate n 0 }) (sym taken)))
 
-pub IsLayout-next_span : (w : ℕ) (spans : List Span) (cells : List ℕ) (limit most room space more_room more_space n : ℕ) → IsLayout w spans cells limit most room space → 1 ≤ n → length cells + padded n ≤ limit → length spans < most → room ≤ more_room → space ≤ more_space → IsLayout w (spans ++ next_span w cells n ∷ []) (cells ++ replicate (padded n) 0) limit most more_room more_space
+IsLayout-next_span : (w : ℕ) (spans : List Span) (cells : List ℕ) (limit most room space more_room more_space n : ℕ) → IsLayout w spans cells limit most room space → 1 ≤ n → length cells + padded n ≤ limit → length spans < most → room ≤ more_room → space ≤ more_space → IsLayout w (spans ++ next_span w cells n ∷ []) (cells ++ replicate (padded n) 0) limit most more_room more_space
 IsLayout-next_span w spans cells limit most room space more_room more_space n was some fits more rooms spaces =
     let count : length (cells ++ replicate (padded n) 0) ≡ length cells + padded n = length-append cells (replicate (padded n) 0) ∙ ap (λ k. length cells + k) (length-replicate (padded n) 0) in
     record {
@@ -85,6 +85,20 @@ IsLayout-next_span w spans cells limit most room space more_room more_space n wa
     bytes_with_zeros : (i : ℕ) → (i < length cells) ⊎ (length cells ≤ i) → get_or (cells ++ replicate (padded n) 0) i 0 < 256
     bytes_with_zeros i (inl below) = rw (get_or_append_left cells (replicate (padded n) 0) 0 i below) (was.bytes i)
     bytes_with_zeros i (inr above) = rw (get_or-append_right cells (replicate (padded n) 0) (length cells) i 0 refl above, get_or-zeros (padded n) (i - length cells)) (omega arith)
+
+pub IsKept-next_span : (w : ℕ) (spans : List Span) (cells homes : List ℕ) (limit most room space index_room more_room more_space more_index n : ℕ) → IsKept w spans cells homes limit most room space index_room → 1 ≤ n → length cells + padded n ≤ limit → length spans < most → room ≤ more_room → space ≤ more_space → index_room ≤ more_index → IsKept w (spans ++ next_span w cells n ∷ []) (cells ++ replicate (padded n) 0) (homes ++ replicate (padded n / 16) (length spans)) limit most more_room more_space more_index
+IsKept-next_span w spans cells homes limit most room space index_room more_room more_space more_index n was some fits more rooms spaces indexes =
+    let count : length (cells ++ replicate (padded n) 0) ≡ length cells + padded n = length-append cells (replicate (padded n) 0) ∙ ap (λ k. length cells + k) (length-replicate (padded n) 0) in
+    let places : length (homes ++ replicate (padded n / 16) (length spans)) ≡ length homes + padded n / 16 = length-append homes (replicate (padded n / 16) (length spans)) ∙ ap (λ k. length homes + k) (length-replicate (padded n / 16) (length spans)) in
+    let whole : 16 * length homes ≡ length cells = was.index.whole in
+    record {
+      layout = IsLayout-next_span w spans cells limit most room space more_room more_space n was.layout some fits more rooms spaces;
+      index = record {
+        are = AreHomes-next (first_base w) (length cells) n spans homes was.index.are was.index.whole;
+        whole = rw (places, count) (omega arith);
+        reserved = omega (arith, was.index.reserved, indexes);
+      };
+    }
 
 -- ---- what is held
 
@@ -150,6 +164,10 @@ IsFound-memory_of w spans cells limit most room space a k place s layout is =
       below = omega (arith, inside.below, next);
       small = omega (arith, slice_get_within spans place s is.at, layout.few, layout.small);
     }
+
+-- any span, as what a read past the end gives
+abbrev origin : Span
+origin = record { base = 0; size = 0 }
 
 pub IsMemory-memory_of : (w : ℕ) (spans : List Span) (cells : List ℕ) (limit most room space : ℕ) → IsLayout w spans cells limit most room space → IsMemory w (memory_of w spans cells limit most)
 IsMemory-memory_of w spans cells limit most room space layout = record {
@@ -277,8 +295,7 @@ memory_filled-memory_of w spans cells written over limit most a place inside hel
     memory : Memory
     memory = memory_of w spans cells limit most
 
--- cells that are written change no span
-pub IsLayout-written : (w : ℕ) (spans : List Span) (cells written : List ℕ) (limit most room space : ℕ) → IsLayout w spans cells limit most room space → length written ≡ length cells → ((i : ℕ) → slice_index written i < 256) → IsLayout w spans written limit most room space
+IsLayout-written : (w : ℕ) (spans : List Span) (cells written : List ℕ) (limit most room space : ℕ) → IsLayout w spans cells limit most room space → length written ≡ length cells → ((i : ℕ) → slice_index written i < 256) → IsLayout w spans written limit most room space
 IsLayout-written w spans cells written limit most room space was same bytes = record {
   width = was.width;
   inside = rw same was.inside;
@@ -291,6 +308,13 @@ IsLayout-written w spans cells written limit most room space was same bytes = re
   small = was.small;
   cells_reserved = was.cells_reserved;
   spans_reserved = was.spans_reserved;
+}
+
+-- cells that are written change no span and no home
+pub IsKept-written : (w : ℕ) (spans : List Span) (cells written homes : List ℕ) (limit most room space index_room : ℕ) → IsKept w spans cells homes limit most room space index_room → length written ≡ length cells → ((i : ℕ) → slice_index written i < 256) → IsKept w spans written homes limit most room space index_room
+IsKept-written w spans cells written homes limit most room space index_room was same bytes = record {
+  layout = IsLayout-written w spans cells written limit most room space was.layout same bytes;
+  index = record { are = was.index.are; whole = was.index.whole ∙ sym same; reserved = was.index.reserved };
 }
 
 -- ---- the rest of an object

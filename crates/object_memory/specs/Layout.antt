@@ -1,6 +1,6 @@
 -- How a memory of objects lies in one list of cells: the byte at an address is the cell at the address less the first base.
 -- This is how the crate keeps a memory (docs/DECISIONS.md, on the modelled host's memory). No caller sees it.
-use Rattle.std.specs.Prelude.{◌≡◌, ℕ, ◌+◌, ◌-◌, ◌^◌, ◌<◌, ◌≤◌, List, length, map, take, drop, sum_by, All, AllPairs, slice_get, slice_index, Some, true}
+use Rattle.std.specs.Prelude.{◌≡◌, ℕ, ◌+◌, ◌-◌, ◌*◌, ◌/◌, ◌^◌, ◌<◌, ◌≤◌, List, length, map, take, drop, sum_by, All, AllPairs, slice_get, slice_index, Some, true}
 use Rattle.ebc_width.specs.Width.{IsWidth}
 use Rattle.ebc_width.specs.Ranges.{Range, covers, holds}
 use Rattle.object_memory.specs.Memory.{Object, Memory, ranges, padded, first_base, next_base, top_limit}
@@ -41,6 +41,23 @@ pub record IsLayout (w : ℕ) (spans : List Span) (cells : List ℕ) (limit most
   pub small : most < 2 ^ 32
   pub cells_reserved : limit ≤ space
   pub spans_reserved : most ≤ room
+
+-- Of each 16 cells the number of the span for which they were taken, with its padding and gap; the first cell lies at `first`.
+pub record AreHomes (first : ℕ) (spans : List Span) (homes : List ℕ) : Type 0 where
+  pub above : All (λ s. first ≤ s.base) spans
+  pub numbers : All (λ n. n < length spans) homes
+  pub found : (i a : ℕ) (s : Span) → slice_get spans i ≡ Some s → s.base ≤ a → a < s.base + padded s.size → slice_get homes ((a - first) / 16) ≡ Some i
+
+-- What holds of the list of homes; `room` is what is reserved for it.
+pub record IsIndex (first : ℕ) (spans : List Span) (homes : List ℕ) (count limit room : ℕ) : Type 0 where
+  pub are : AreHomes first spans homes
+  pub whole : 16 * length homes ≡ count
+  pub reserved : limit / 16 ≤ room
+
+-- What holds of all that a memory is kept in.
+pub record IsKept (w : ℕ) (spans : List Span) (cells homes : List ℕ) (limit most room space index_room : ℕ) : Type 0 where
+  pub layout : IsLayout w spans cells limit most room space
+  pub index : IsIndex (first_base w) spans homes (length cells) limit index_room
 
 -- The span at this place of the list has among its bytes the k bytes from a on.
 pub record IsSpanOf (spans : List Span) (a k place : ℕ) (s : Span) : Type 0 where

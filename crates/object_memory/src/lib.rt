@@ -41,6 +41,9 @@ pub struct ObjMem<const W: usize> {
     spans: Vec<Span>,
     // The bytes from the first base on. Behind each object are zeros that belong to none.
     cells: Vec<u8>,
+    // For each 16 cells the number of the object for which they were taken, so that a byte's object
+    // is found at once.
+    homes: Vec<u32>,
     byte_limit: u64,
     object_limit: u32,
 }
@@ -48,13 +51,13 @@ pub struct ObjMem<const W: usize> {
 impl<const W: usize> Model for ObjMem<W> {
     ghost use Rattle.std.specs.Prelude.{vec_capacity};
     ghost use Rattle.object_memory.specs.Memory.{Memory};
-    ghost use Rattle.object_memory.specs.Layout.{memory_of, IsLayout};
+    ghost use Rattle.object_memory.specs.Layout.{memory_of, IsKept};
 
     ghost Value = { Memory };
 
     ghost view = { λ m. memory_of W m.spans.items m.cells.items m.byte_limit m.object_limit };
 
-    ghost invariant = { λ m. IsLayout W m.spans.items m.cells.items m.byte_limit m.object_limit (vec_capacity m.spans) (vec_capacity m.cells) };
+    ghost invariant = { λ m. IsKept W m.spans.items m.cells.items m.homes.items m.byte_limit m.object_limit (vec_capacity m.spans) (vec_capacity m.cells) (vec_capacity m.homes) };
 }
 
 // What an object takes: its size rounded up to 16, and a gap of 16.
@@ -71,7 +74,8 @@ impl<const W: usize> ObjMem<W> {
     ghost use Rattle.object_memory.specs.Memory.{IsMemory, ranges, byte_at, held_number, memory_after, memory_filled, rest_from, IsOwner, used, next_base, IsFull, placed};
 
     /// An empty memory for `limit` bytes, with the padding and gaps of objects, and for as many
-    /// objects. All memory that it will use is reserved here.
+    /// objects. All memory that it will use is reserved here: a quarter more than `limit`, and what
+    /// tells where each object lies.
     pub fn new(alloc: Global, limit: u64, objects: u32) -> Result<ObjMem<W>, NoMemory>
         requires width { IsWidth W }
         requires limit { limit ≤ top_limit W }
@@ -80,9 +84,11 @@ impl<const W: usize> ObjMem<W> {
     {
         let spans = Vec::with_capacity(alloc, objects as usize)?;
         let cells = Vec::with_capacity(alloc, limit as usize)?;
+        let homes = Vec::with_capacity(alloc, (limit / 16) as usize)?;
         Ok(ObjMem {
             spans,
             cells,
+            homes,
             byte_limit: limit,
             object_limit: objects,
         })
@@ -123,6 +129,9 @@ impl<const W: usize> ObjMem<W> {
         let Ok(()) = self.cells.resize(after as usize, 0) else {
             unreachable!();
         };
+        let Ok(()) = self.homes.resize((after / 16) as usize, number as u32) else {
+            unreachable!();
+        };
         let Ok(()) = self.spans.push(Span { base, size: bytes }) else {
             unreachable!();
         };
@@ -138,7 +147,7 @@ impl<const W: usize> ObjMem<W> {
         ensures none { IfNone result (holds (ranges self.now) addr count ≡ false) }
         ensures memory { IsMemory W self.now }
     {
-        find_span(&self.spans, addr, count)
+        find_span(&self.spans, &self.homes, Self::first(), addr, count)
     }
 
     /// Whether one object holds the `count` bytes from an address on.

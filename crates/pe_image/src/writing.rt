@@ -270,7 +270,12 @@ fn reloc_sections(alloc: Global, image: &Image) -> Result<Vec<Section>, AllocErr
     Ok(relocs)
 }
 
-/// The file of an image in the linker's layout, from which the image is read again.
+/// The file of an image in the linker's layout, from which the image is read again. docs/IMAGES.md, "What is written", has
+/// the layout.
+///
+/// # Errors
+///
+/// Want of memory alone.
 #[tactic(auto, using(crate::proofs::Laid::few_linked, crate::proofs::Laid::small_sections, crate::proofs::Laid::few_relocs, crate::proofs::Laid::small_relocs, crate::proofs::Laid::count_of), unfolding(crate::specs::Files::file_of))]
 pub fn write_image(alloc: Global, image: &Image) -> Result<Vec<u8>, NoMemory>
     requires { IsLinked image.now }

@@ -8,13 +8,13 @@ use Rattle.object_memory.proofs.Views.{IsFound-memory_of, IsMemory-memory_of, ho
 use Rattle.object_memory.proofs.ObjMem.find.Goals as goal
 
 pub find_span-requires : goal.find_span-requires
-find_span-requires g c = rw c.deref.ensures.value c.self.invariant.apart
+find_span-requires g c = rw (c.first.ensures, c.deref.ensures.value, c.deref-2.ensures.value) c.self.invariant.index.are
 
 pub returns-clause-found : goal.returns-clause-found
 returns-clause-found g c =
     IfSome_then c.find_span.result c.find_span.ensures.found (λ r is.
     subst (λ (m : Memory). IsFound g.row.W m c.args.addr c.args.count r.0 r.1) c.self.view_is
-    (IsFound-memory_of g.row.W c.self.inside.spans.items c.self.inside.cells.items c.self.inside.byte_limit c.self.inside.object_limit _ _ c.args.addr c.args.count r.0 r.1 c.self.invariant
+    (IsFound-memory_of g.row.W c.self.inside.spans.items c.self.inside.cells.items c.self.inside.byte_limit c.self.inside.object_limit _ _ c.args.addr c.args.count r.0 r.1 c.self.invariant.layout
     (subst (λ (spans : List Span). IsSpanOf spans c.args.addr c.args.count r.0 r.1) c.deref.ensures.value is)))
 
 pub returns-clause-none : goal.returns-clause-none
@@ -27,4 +27,4 @@ returns-clause-none g c =
 
 pub returns-clause-memory : goal.returns-clause-memory
 returns-clause-memory g c =
-    subst (IsMemory g.row.W) c.self.view_is (IsMemory-memory_of g.row.W c.self.inside.spans.items c.self.inside.cells.items c.self.inside.byte_limit c.self.inside.object_limit _ _ c.self.invariant)
+    subst (IsMemory g.row.W) c.self.view_is (IsMemory-memory_of g.row.W c.self.inside.spans.items c.self.inside.cells.items c.self.inside.byte_limit c.self.inside.object_limit _ _ c.self.invariant.layout)

@@ -21,5 +21,5 @@ returns-clause-number g c =
     let from : first_base g.row.W + place ≡ c.args.addr = grind arith in
     let held : holds (ranges (memory_of g.row.W spans cells c.self.inside.byte_limit c.self.inside.object_limit)) c.args.addr c.args.count ≡ true = ap (λ m. holds (ranges m) c.args.addr c.args.count) c.self.view_is ∙ found.held in
     ap Some (c.read_number.ensures ∙ ap (λ xs. little_endian (slice_index xs) place c.args.count) c.deref.ensures.value)
-    ∙ sym (held_number-memory_of g.row.W spans cells c.self.inside.byte_limit c.self.inside.object_limit c.args.addr c.args.count place c.self.invariant.inside held from)
+    ∙ sym (held_number-memory_of g.row.W spans cells c.self.inside.byte_limit c.self.inside.object_limit c.args.addr c.args.count place c.self.invariant.layout.inside held from)
     ∙ ap (λ m. held_number m c.args.addr c.args.count) c.self.view_is

@@ -8,7 +8,7 @@ use Rattle.object_memory.specs.Memory.{first_base, ranges, byte_at, memory_after
 use Rattle.object_memory.specs.Layout.{memory_of}
 use Rattle.ebc_width.proofs.ByteLaws.{put-below}
 use Rattle.object_memory.proofs.Laws.{memory_after-absent, byte_at-memory_after}
-use Rattle.object_memory.proofs.Views.{memory_after-memory_of, IsLayout-written, IsMemory-memory_of}
+use Rattle.object_memory.proofs.Views.{memory_after-memory_of, IsKept-written, IsMemory-memory_of}
 use Rattle.object_memory.proofs.ObjMem.store.Goals as goal
 
 pub returns-in_default-clause-after : goal.returns-in_default-clause-after
@@ -20,9 +20,9 @@ invariant_of-self g c =
     let same : length c.write_number.new.cells ≡ length cells = c.write_number.auto.cells ∙ ap length c.deref_mut.ensures.value in
     let old : length cells ≡ c.self.inside.cells.len = search rules in
     let is : (with_items c.self.inside.cells c.write_number.new.cells).items ≡ c.write_number.new.cells = with_items_is c.self.inside.cells c.write_number.new.cells (same ∙ old) in
-    IsLayout-written g.row.W c.self.inside.spans.items cells (with_items c.self.inside.cells c.write_number.new.cells).items c.self.inside.byte_limit c.self.inside.object_limit _ _ c.self.invariant
+    IsKept-written g.row.W c.self.inside.spans.items cells (with_items c.self.inside.cells c.write_number.new.cells).items c.self.inside.homes.items c.self.inside.byte_limit c.self.inside.object_limit _ _ _ c.self.invariant
     (ap length is ∙ same)
-    (λ i. rw (is, c.write_number.ensures i, c.deref_mut.ensures.value) (put-below (slice_index cells) _ _ _ i (c.self.invariant.bytes i)))
+    (λ i. rw (is, c.write_number.ensures i, c.deref_mut.ensures.value) (put-below (slice_index cells) _ _ _ i (c.self.invariant.layout.bytes i)))
 
 pub returns-clause-after : goal.returns-clause-after
 returns-clause-after g c =
@@ -35,13 +35,13 @@ returns-clause-after g c =
     let is : (with_items c.self.inside.cells c.write_number.new.cells).items ≡ c.write_number.new.cells = with_items_is c.self.inside.cells c.write_number.new.cells (same ∙ old) in
     let from : first_base g.row.W + place ≡ c.args.addr = grind arith in
     let held : holds (ranges (memory_of g.row.W spans cells c.self.inside.byte_limit c.self.inside.object_limit)) c.args.addr c.args.count ≡ true = ap (λ m. holds (ranges m) c.args.addr c.args.count) c.self.view_is ∙ found.held in
-    memory_after-memory_of g.row.W spans cells (with_items c.self.inside.cells c.write_number.new.cells).items c.self.inside.byte_limit c.self.inside.object_limit c.args.addr c.args.count c.args.value place c.self.invariant.inside held from
+    memory_after-memory_of g.row.W spans cells (with_items c.self.inside.cells c.write_number.new.cells).items c.self.inside.byte_limit c.self.inside.object_limit c.args.addr c.args.count c.args.value place c.self.invariant.layout.inside held from
     (ap length is ∙ same)
     (λ i. rw (is, c.write_number.ensures i, c.deref_mut.ensures.value) refl)
     ∙ ap (λ m. memory_after m c.args.addr c.args.count c.args.value) c.self.view_is
 
 pub returns-clause-memory : goal.returns-clause-memory
-returns-clause-memory g c = IsMemory-memory_of g.row.W c.self.inside.spans.items (with_items c.self.inside.cells c.write_number.new.cells).items c.self.inside.byte_limit c.self.inside.object_limit _ _ (invariant_of-self g c)
+returns-clause-memory g c = IsMemory-memory_of g.row.W c.self.inside.spans.items (with_items c.self.inside.cells c.write_number.new.cells).items c.self.inside.byte_limit c.self.inside.object_limit _ _ (invariant_of-self g c).layout
 
 pub returns-clause-bytes : goal.returns-clause-bytes
 returns-clause-bytes g c = λ x. ap (λ m. byte_at m x) (returns-clause-after g c) ∙ byte_at-memory_after c.args.self.now c.args.addr c.args.count c.args.value x c.in-Some.ensures.found.held

@@ -1,0 +1,10 @@
+pub mod Arguments
+pub mod Calls
+pub mod Flow
+pub mod Found
+pub mod Frames
+pub mod Jumps
+pub mod Narrowing
+pub mod Rule
+pub mod Steps
+pub mod Successors

@@ -1,0 +1,16 @@
+pub mod CallsKeep
+pub mod DataKeep
+pub mod DataRule
+pub mod FirstRule
+pub mod FlowKeeps
+pub mod FlowRule
+pub mod FramesKeep
+pub mod LoadsKeep
+pub mod MovesKeep
+pub mod NarrowKeeps
+pub mod Options
+pub mod OutcomesBelow
+pub mod PlacesKeep
+pub mod RowsKeep
+pub mod StatesKeep
+pub mod SumsKeep

@@ -1,0 +1,86 @@
+-- What moves keep of a known type is known, and so is what stands beside an operand.
+use Rattle.std.proofs.Common.{◌≡◌, ℕ, zero, suc, ◌+◌, ◌-◌, ◌*◌, ◌/◌, ◌%◌, ◌^◌, ◌<◌, ◌≤◌, Bool, true, false, ◌&&◌, nat_lt, nat_le, List, length, Option, None, Some, if◌then◌else◌, refl, arith, mod-lt, ℤ, pos}
+use Rattle.std.specs.Prelude.{negsuc, int_le, ◌≤ℤ◌}
+use Rattle.std.specs.Ordering.{int_eq}
+use Rattle.std.proofs.lemmas.Bool.{and_parts, leb-true, ltb-true, false≢true}
+use Rattle.std.proofs.lemmas.Int.{ints}
+use Rattle.natural_index.specs.declared.Index.{Index}
+use Rattle.ebc_insn.specs.declared.Extra.{Extra}
+use Rattle.ebc_insn.specs.declared.Extra.TheVariants.{Nothing, Imm, Idx}
+use Rattle.ebc_insn.specs.declared.Size.{Size}
+use Rattle.ebc_insn.specs.declared.Size.TheVariants.{Byte, Word, Dword, Qword, Natural}
+use Rattle.note_types.specs.declared.notes.FnNote.{FnNote}
+use Rattle.note_types.specs.declared.notes.Notes.{Notes}
+use Rattle.note_types.specs.declared.shape.Shape.{Shape}
+use Rattle.note_types.specs.declared.types.Ty.{Ty}
+use Rattle.note_types.specs.declared.types.Ty.TheVariants.{Any, Int, Lin, Scaled, Ptr, Local, Lent, Status, SignedStatus, Mask, Handle, Entry, Method, ThunkAt, Saved}
+use Rattle.rules_base.specs.declared.operand.Distance.{Distance}
+use Rattle.rules_base.specs.Kept.{kept, kept_low, kept_natural, kept_signed}
+use Rattle.rules_base.specs.Operands.{counted, distance_type, with_immediate, with_index}
+use Rattle.rules_base.specs.Parts.{constant, wrap}
+use Rattle.rules_base.specs.Sums.{lin, sum}
+use Rattle.rules_laws.proofs.SumsKeep.{any_known, constant_known, if_known, int_known, lin_known, sum-known}
+use Rattle.note_types.specs.Known.{IsKnown}
+
+-- ---- moves
+
+kept_low-known : (notes : Notes) (f : FnNote) (bits : ℕ) (t : Ty) → 2 ^ bits ≤ 2 ^ 64 → IsKnown notes f t → IsKnown notes f (kept_low bits t)
+kept_low-known notes f bits (Int lo hi div) w h =
+    if_known notes f (nat_lt hi (2 ^ bits)) _ _ (λ e. h) (int_known notes f 0 (2 ^ bits - 1) 1 (omega arith) (omega arith) (omega arith) (omega arith))
+kept_low-known notes f bits _ w h = any_known notes f
+
+pub kept_natural-known : (notes : Notes) (f : FnNote) (t : Ty) → IsKnown notes f t → IsKnown notes f (kept_natural t)
+kept_natural-known notes f (Int lo hi div) h = if_known notes f (nat_lt hi (2 ^ 32)) _ _ (λ e. h) (any_known notes f)
+kept_natural-known notes f (Lin n c) h = if_known notes f (int_le (pos 0) c) _ _ (λ e. h) (any_known notes f)
+kept_natural-known notes f (Ptr s k n c null) h = if_known notes f (int_eq n (pos 0) && int_eq c (pos 0)) _ _ (λ e. h) (any_known notes f)
+kept_natural-known notes f (SignedStatus g) h = any_known notes f
+kept_natural-known notes f (Saved r) h = any_known notes f
+kept_natural-known notes f Any h = h
+kept_natural-known notes f (Scaled n c hi) h = h
+kept_natural-known notes f (Local x) h = h
+kept_natural-known notes f (Lent cell) h = h
+kept_natural-known notes f (Status g) h = h
+kept_natural-known notes f Mask h = h
+kept_natural-known notes f Handle h = h
+kept_natural-known notes f Entry h = h
+kept_natural-known notes f (Method m) h = h
+kept_natural-known notes f (ThunkAt i) h = h
+
+pub kept_signed-known : (notes : Notes) (f : FnNote) (t : Ty) → IsKnown notes f t → IsKnown notes f (kept_signed t)
+kept_signed-known notes f (Status g) h = record { bounded = h.bounded; names = h.names }
+kept_signed-known notes f (Int lo hi div) h = if_known notes f (nat_lt hi (2 ^ 31)) _ _ (λ e. h) (any_known notes f)
+kept_signed-known notes f _ h = any_known notes f
+
+pub kept_dword-known : (notes : Notes) (f : FnNote) (t : Ty) → IsKnown notes f t → IsKnown notes f (kept_low 32 t)
+kept_dword-known notes f t h = kept_low-known notes f 32 t (omega arith) h
+
+pub kept-known : (notes : Notes) (f : FnNote) (size : Size) (t : Ty) → IsKnown notes f t → IsKnown notes f (kept size t)
+kept-known notes f Byte t h = kept_low-known notes f 8 t (omega arith) h
+kept-known notes f Word t h = kept_low-known notes f 16 t (omega arith) h
+kept-known notes f Dword t h = kept_low-known notes f 32 t (omega arith) h
+kept-known notes f Qword t h = h
+kept-known notes f Natural t h = kept_natural-known notes f t h
+
+-- ---- operands
+
+pub wrap_below : (z : ℤ) → wrap z < 2 ^ 64
+wrap_below (pos n) = mod-lt n (omega arith)
+wrap_below (negsuc n) = omega arith
+
+pub at_least_one_from : (z : ℤ) → int_le (pos 1) z ≡ true → pos 1 ≤ℤ z
+at_least_one_from (pos n) h = let l = leb-true 1 n h in omega (arith, ints)
+at_least_one_from (negsuc n) h = absurd (false≢true h)
+
+pub distance_type-known : (notes : Notes) (f : FnNote) (d : Distance) → IsKnown notes f (distance_type d)
+distance_type-known notes f d =
+    if_known notes f (int_eq d.n (pos 0)) _ _ (λ e. constant_known notes f _ (wrap_below d.c))
+    (if_known notes f (int_le (pos 1) d.n) _ _ (λ e. lin_known notes f d.n d.c (at_least_one_from d.n e)) (any_known notes f))
+
+pub with_immediate-known : (notes : Notes) (f : FnNote) (shapes : List Shape) (t : Ty) (extra : Extra) → IsKnown notes f t → IsKnown notes f (with_immediate shapes t extra)
+with_immediate-known notes f shapes t Nothing h = h
+with_immediate-known notes f shapes t (Imm v) h = sum-known notes f shapes t _ h (constant_known notes f _ (wrap_below v))
+with_immediate-known notes f shapes t (Idx i) h = h
+
+pub with_index-known : (notes : Notes) (f : FnNote) (shapes : List Shape) (t : Ty) (i : Option Index) → IsKnown notes f t → IsKnown notes f (with_index shapes t i)
+with_index-known notes f shapes t None h = h
+with_index-known notes f shapes t (Some i) h = sum-known notes f shapes t _ h (distance_type-known notes f (counted i))
