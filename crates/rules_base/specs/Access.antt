@@ -1,5 +1,5 @@
 -- How a cell is accessed, and what a load gives and a store needs. docs/RULES.md, "Access", has the table.
-use Rattle.std.specs.Prelude.{ℕ, Bool, true, false, ◌&&◌, nat_lt, if◌then◌else◌, Some, None, Ok, Err}
+use Rattle.std.specs.Prelude.{ℕ, Bool, true, false, nat_lt, if◌then◌else◌, Some, None, Ok, Err}
 use Rattle.note_types.specs.BelowTests.{is_below}
 use Rattle.note_types.specs.Cells.{content_type}
 use Rattle.note_types.specs.declared.cell.Cell.{Cell}

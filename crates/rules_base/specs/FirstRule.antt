@@ -1,6 +1,6 @@
 -- Rows as relations: what the parts of a row give, and all the rules by which they fail. The rule that a row fails by is
 -- the first of these. docs/RULES.md, "The first rule", has the words.
-use Rattle.std.specs.Prelude.{◌≡◌, ◌⊎◌, ◌↔◌, ℕ, ◌≤◌, Bool, true, false, Option, None, Some, Result, Ok, Err}
+use Rattle.std.specs.Prelude.{◌≡◌, ◌⊎◌, ◌↔◌, ◌≤◌, Bool, true, false, Option, None, Some, Ok, Err}
 use Rattle.note_types.specs.declared.rule.RuleName.{RuleName}
 use Rattle.rules_base.specs.Outcomes.{Gives, number_of_rule}
 

@@ -1,5 +1,5 @@
 -- The places that an operand in memory names. docs/RULES.md, "Places", has the words.
-use Rattle.std.specs.Prelude.{ℕ, ◌-◌, ◌/◌, ◌%◌, ◌^◌, Bool, false, ◌&&◌, nat_le, nat_lt, nat_eq, if◌then◌else◌, Option, Some, None, List, [], ◌∷◌, slice_get, position, ℤ, pos, ◌+ℤ◌, int_le, unsigned_abs, bit_or}
+use Rattle.std.specs.Prelude.{ℕ, ◌-◌, ◌/◌, ◌%◌, ◌^◌, Bool, false, ◌&&◌, nat_le, nat_lt, nat_eq, if◌then◌else◌, Option, Some, None, List, [], ◌∷◌, slice_get, position, pos, ◌+ℤ◌, int_le, unsigned_abs, bit_or}
 use Rattle.std.specs.Ordering.{int_eq}
 use Rattle.note_types.specs.States.{type_of}
 use Rattle.note_types.specs.declared.cell.Cell.{Cell}

@@ -1,5 +1,5 @@
 -- Sums, differences and products of types. docs/RULES.md has the rows.
-use Rattle.std.specs.Prelude.{ℕ, zero, suc, ◌+◌, ◌-◌, ◌*◌, ◌/◌, ◌%◌, ◌^◌, Bool, true, false, ◌&&◌, ◌||◌, min, nat_lt, nat_le, nat_eq, if◌then◌else◌, List, Option, Some, None, slice_get, ℤ, pos, ◌+ℤ◌, int_le, unsigned_abs}
+use Rattle.std.specs.Prelude.{ℕ, zero, suc, ◌+◌, ◌-◌, ◌*◌, ◌/◌, ◌%◌, ◌^◌, Bool, true, false, ◌&&◌, ◌||◌, nat_lt, nat_le, nat_eq, if◌then◌else◌, List, Option, Some, None, slice_get, ℤ, pos, ◌+ℤ◌, int_le, unsigned_abs}
 use Rattle.note_types.specs.BelowTests.{divides}
 use Rattle.note_types.specs.declared.shape.Shape.{Shape}
 use Rattle.note_types.specs.declared.types.Ty.{Ty}
