@@ -1,5 +1,5 @@
 -- Where the plain check refuses, and by which rule.
-use Rattle.std.proofs.Common.{◌≡◌, ◌≢◌, ◌⊎◌, ◌↔◌, ℕ, ◌+◌, ◌<◌, ◌≤◌, zero, suc, Bool, true, false, not, ◌&&◌, nat_eq, nat_lt, nat_le, if◌then◌else◌, List, [], ◌∷◌, length, drop, Option, Some, None, Result, Ok, Err, refl, sym, ap, ◌∙◌, subst, arith, inl, inr}
+use Rattle.std.proofs.Common.{◌≡◌, ◌≢◌, ◌↔◌, ℕ, ◌+◌, ◌<◌, ◌≤◌, zero, suc, Bool, true, false, not, ◌&&◌, nat_eq, nat_lt, nat_le, if◌then◌else◌, List, [], ◌∷◌, length, drop, Option, Some, None, Ok, Err, refl, sym, ap, ◌∙◌, subst, arith, inl, inr}
 use Rattle.std.proofs.lemmas.Bool.{cases_Bool}
 use Rattle.std.proofs.lemmas.Bool.Decides.{nat_tests}
 use Rattle.ebc_insn.specs.declared.Insn.{Insn}
@@ -11,7 +11,7 @@ use Rattle.ebc_cli.specs.declared.outcome.RuleName.TheVariants.{Decode, Form, Ta
 use Rattle.ebc_cli.specs.declared.verdict.Verdict.{Verdict}
 use Rattle.ebc_cli.specs.declared.verdict.Verdict.TheVariants.{Neutral, Refused}
 use Rattle.ebc_cli.specs.PlainChecks.{is_plain, reached, starts, lands, falls_through, instruction_rule, first_refusal, judged, plain_verdict}
-use Rattle.ebc_cli.specs.PlainRules.{place_of, IsReached, Decodes, NamesStart, MeetsRules, NoPlainForm, NamesNoStart, PassesEnd, FailsFirst, IsRefusedAt, IsRefused}
+use Rattle.ebc_cli.specs.PlainRules.{place_of, IsReached, Decodes, NamesStart, MeetsRules, FailsFirst, IsRefusedAt, IsRefused}
 use Rattle.ebc_cli.proofs.PlacesLemmas.{along}
 use Rattle.ebc_cli.proofs.RulesLemmas.{one-further, onward, before, same-read, begins, names, lands-named, meets, neutral-exactly}
 

@@ -1,5 +1,5 @@
 -- Worked rows of the plain check and of the plain run.
-use Rattle.std.proofs.Common.{◌≡◌, ℕ, true, false, List, [], ◌∷◌, refl}
+use Rattle.std.proofs.Common.{◌≡◌, ℕ, List, [], ◌∷◌, refl}
 use Rattle.ebc_decode.specs.Reading.{form_at, is_reserved, has_left_index, size1_at, size2_at, field_at, insn_at, parts_at, read}
 use Rattle.ebc_cli.specs.declared.outcome.RuleName.TheVariants.{Decode, Form, Target, End}
 use Rattle.ebc_cli.specs.declared.verdict.Verdict.{Verdict}

@@ -1,5 +1,5 @@
 -- The runs of neutral code: the same at every width, and kept to the code.
-use Rattle.std.proofs.Common.{◌≡◌, ◌≢◌, ℕ, ◌+◌, ◌*◌, ◌%◌, ◌^◌, ◌<◌, ◌≤◌, zero, suc, Bool, true, false, ◌&&◌, not, nat_eq, if◌then◌else◌, List, [], ◌∷◌, length, drop, Option, Some, None, Result, Ok, Err, ℤ, pos, negsuc, ◌+ℤ◌, ◌*ℤ◌, refl, sym, ap, ◌∙◌, subst, arith, inl, inr, length-drop}
+use Rattle.std.proofs.Common.{◌≡◌, ◌≢◌, ℕ, ◌+◌, ◌*◌, ◌%◌, ◌^◌, ◌<◌, ◌≤◌, zero, suc, Bool, true, false, ◌&&◌, not, nat_eq, List, [], ◌∷◌, length, drop, Option, Result, Ok, ℤ, pos, negsuc, ◌+ℤ◌, ◌*ℤ◌, refl, sym, ap, ◌∙◌, subst, arith, inl, inr, length-drop}
 use Rattle.std.proofs.lemmas.Bool.{cases_Bool}
 use Rattle.std.proofs.lemmas.Bool.Decides.{nat_tests}
 use Rattle.std.proofs.lemmas.Int.{ints}
@@ -23,18 +23,18 @@ use Rattle.machine_alu.specs.Alu.{computed, compared, outcome, low}
 use Rattle.note_types.specs.Concrete.{Concrete, register, with_register, with_flags, at_ip}
 use Rattle.ebc_machine.specs.declared.StepEnd.TheVariants as ends
 use Rattle.ebc_machine.specs.Results.{goes}
-use Rattle.ebc_machine.specs.Operands.{value, written, sum_at, low_bytes, extra_offset}
+use Rattle.ebc_machine.specs.Operands.{value, written, sum_at, low_bytes}
 use Rattle.ebc_machine.specs.Data.{arith_row, compare_row, with_c}
 use Rattle.ebc_machine.specs.Moves.{move_imm_row}
-use Rattle.ebc_machine.specs.Flow.{jump8_row, aligned, is_taken}
+use Rattle.ebc_machine.specs.Flow.{jump8_row, is_taken}
 use Rattle.ebc_machine.specs.Step.{executed}
 use Rattle.ebc_cli.specs.declared.verdict.Verdict.TheVariants.{Neutral}
 use Rattle.ebc_cli.specs.PlainChecks.{is_plain, starts, passes, lands, falls_through, jump_target, plain_verdict}
-use Rattle.ebc_cli.specs.PlainRules.{IsStart, NamesStart}
+use Rattle.ebc_cli.specs.PlainRules.{IsStart}
 use Rattle.ebc_cli.specs.PlainRuns.{Progress, GoesOn, Returned, Stopped, PlainState, done_at, plain_step, plain_run, plain_machine, KeepsTo, KeepsToCode, RunsAlike}
 use Rattle.ebc_cli.proofs.ReadLemmas.{is_index, misplaced, read-placed}
 use Rattle.ebc_cli.proofs.StartsLemmas.{Good, GoodStarts, good-starts, head-started, no-rule}
-use Rattle.ebc_cli.proofs.RulesLemmas.{names, start-is, reached-started, reached-even}
+use Rattle.ebc_cli.proofs.RulesLemmas.{start-is, reached-started, reached-even}
 
 -- ---- the rows of plain code
 
