@@ -4,8 +4,8 @@ use crate::images::{CODE, DATA, MOVE};
 use pe_image::{ImageEnd, ImageFault};
 use std::alloc::{AllocError, Global};
 
-/// A driver's image: its headers, code and data.
-pub const DRIVER: [(usize, &[u8]); 23] = [
+// A driver's image: its headers, code and data.
+const DRIVER: [(usize, &[u8]); 23] = [
     (0, b"MZ"),
     (60, &[64, 0, 0, 0]),
     (64, b"PE\0\0"),
@@ -31,8 +31,8 @@ pub const DRIVER: [(usize, &[u8]); 23] = [
     (1536, &[]),
 ];
 
-/// An image with one relocation, of the number in MOVIqq R4, 0x5000.
-pub const RELOCATED: [(usize, &[u8]); 25] = [
+// An image with one relocation, of the number in MOVIqq R4, 0x5000.
+const RELOCATED: [(usize, &[u8]); 25] = [
     (0, b"MZ"),
     (60, &[64, 0, 0, 0]),
     (64, b"PE\0\0"),
@@ -78,6 +78,16 @@ pub fn file_of(
         put(&mut file, *at, bytes);
     }
     Ok(file)
+}
+
+/// The file of the driver's image.
+pub fn driver_file(alloc: Global) -> Result<Vec<u8>, AllocError> {
+    file_of(alloc, 1536, &DRIVER)
+}
+
+/// The file of the image with one relocation.
+pub fn relocated_file(alloc: Global) -> Result<Vec<u8>, AllocError> {
+    file_of(alloc, 1536, &RELOCATED)
 }
 
 /// A file with other bytes from an offset on.

@@ -2,7 +2,7 @@
 
 ghost use Rattle.ebc_width.specs.Width.{IsWidth};
 
-use crate::files::{DRIVER, RELOCATED, file_of};
+use crate::files::{driver_file, relocated_file};
 use crate::images::{CODE, DATA};
 use object_memory::ObjMem;
 use pe_image::read_image;
@@ -10,12 +10,11 @@ use reloc_loader::{LoadFault, load};
 use std::alloc::Global;
 use std::test::Fail;
 
-// The image of a file of these parts, loaded into a memory of its own, and where it lies.
-fn loaded<const W: usize>(alloc: Global, parts: &[(usize, &[u8])]) -> Result<(ObjMem<W>, u64), Fail>
+// The image of a file, loaded into a memory of its own, and where it lies.
+fn loaded<const W: usize>(alloc: Global, file: &[u8]) -> Result<(ObjMem<W>, u64), Fail>
     requires { IsWidth W }
 {
-    let file = file_of(alloc, 1536, parts)?;
-    let image = read_image(alloc, &file)?;
+    let image = read_image(alloc, file)?;
     let mut mem = ObjMem::<W>::new(alloc, 0x10000, 3)?;
     let id = mem.place(image.size, 1)?;
     load(&image, id.base, id, &mut mem)?;
@@ -32,7 +31,7 @@ fn has<const W: usize>(mem: &ObjMem<W>, at: u64, bytes: &[u8]) -> bool {
 
 #[test]
 fn relocates_where_addresses_have_four_bytes(rt: HostRuntime) -> Result<(), Fail> {
-    let (mem, base) = loaded::<4>(rt.alloc(), &RELOCATED)?;
+    let (mem, base) = loaded::<4>(rt.alloc(), &relocated_file(rt.alloc())?)?;
     assert_eq!(rt; base, 0x0010_0000);
     assert_eq!(rt; mem.load(0x0010_1002, 8), Some(0x000F_5000));
     assert_eq!(rt; mem.load(0x0010_1000, 2), Some(0x34F7));
@@ -46,7 +45,7 @@ fn relocates_where_addresses_have_four_bytes(rt: HostRuntime) -> Result<(), Fail
 
 #[test]
 fn relocates_where_addresses_have_eight_bytes(rt: HostRuntime) -> Result<(), Fail> {
-    let (mem, base) = loaded::<8>(rt.alloc(), &RELOCATED)?;
+    let (mem, base) = loaded::<8>(rt.alloc(), &relocated_file(rt.alloc())?)?;
     assert_eq!(rt; base, 0x0000_0002_0000_0000);
     assert_eq!(rt;
         mem.load(0x0000_0002_0000_1002, 8),
@@ -57,13 +56,14 @@ fn relocates_where_addresses_have_eight_bytes(rt: HostRuntime) -> Result<(), Fai
 
 #[test]
 fn loads_a_driver(rt: HostRuntime) -> Result<(), Fail> {
-    let (mem, base) = loaded::<4>(rt.alloc(), &DRIVER)?;
+    let file = driver_file(rt.alloc())?;
+    let (mem, base) = loaded::<4>(rt.alloc(), &file)?;
     assert_eq!(rt; base, 0x0010_0000);
     assert!(rt; has(&mem, 0x0010_1000, &CODE));
     assert!(rt; has(&mem, 0x0010_2000, &DATA));
     assert_eq!(rt; mem.load(0x0010_104A, 8), Some(0));
 
-    let (mem, base) = loaded::<8>(rt.alloc(), &DRIVER)?;
+    let (mem, base) = loaded::<8>(rt.alloc(), &file)?;
     assert_eq!(rt; base, 0x0000_0002_0000_0000);
     assert!(rt; has(&mem, 0x0000_0002_0000_1000, &CODE));
     assert!(rt; has(&mem, 0x0000_0002_0000_2000, &DATA));
@@ -73,7 +73,7 @@ fn loads_a_driver(rt: HostRuntime) -> Result<(), Fail> {
 
 #[test]
 fn leaves_other_objects(rt: HostRuntime) -> Result<(), Fail> {
-    let file = file_of(rt.alloc(), 1536, &DRIVER)?;
+    let file = driver_file(rt.alloc())?;
     let image = read_image(rt.alloc(), &file)?;
     let mut mem = ObjMem::<4>::new(rt.alloc(), 0x10000, 3)?;
     let other = mem.place(8, 1)?;
@@ -88,7 +88,7 @@ fn leaves_other_objects(rt: HostRuntime) -> Result<(), Fail> {
 
 #[test]
 fn refuses_an_odd_base(rt: HostRuntime) -> Result<(), Fail> {
-    let file = file_of(rt.alloc(), 1536, &RELOCATED)?;
+    let file = relocated_file(rt.alloc())?;
     let image = read_image(rt.alloc(), &file)?;
     let mut mem = ObjMem::<4>::new(rt.alloc(), 0x10000, 3)?;
     let id = mem.place(0x3000, 1)?;

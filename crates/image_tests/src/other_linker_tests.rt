@@ -61,6 +61,10 @@ const SECTIONS: [(usize, &[u8]); 18] = [
     (0x480, &[0x33; 0x20]),
 ];
 
+fn headers(alloc: Global, length: usize) -> Result<Vec<u8>, AllocError> {
+    file_of(alloc, length, &HEADERS)
+}
+
 fn section(name: [u8; 8], place: u32, size: u32, flags: u32, bytes: Bytes) -> Section {
     Section {
         name,
@@ -94,7 +98,7 @@ fn wanted(alloc: Global) -> Result<Image, AllocError> {
 
 #[test]
 fn reads_an_image_of_another_linker(rt: HostRuntime) -> Result<(), Fail> {
-    let mut file = file_of(rt.alloc(), 0x4A0, &HEADERS)?;
+    let mut file = headers(rt.alloc(), 0x4A0)?;
     for (at, bytes) in SECTIONS {
         put(&mut file, at, bytes);
     }
@@ -104,7 +108,7 @@ fn reads_an_image_of_another_linker(rt: HostRuntime) -> Result<(), Fail> {
 
 #[test]
 fn reads_ninety_six_sections(rt: HostRuntime) -> Result<(), Fail> {
-    let mut file = file_of(rt.alloc(), 0x1800 + 2 * 96, &HEADERS)?;
+    let mut file = headers(rt.alloc(), 0x1800 + 2 * 96)?;
     put(&mut file, 134, &[96, 0]);
     put(&mut file, 168, &[0x00, 0x20, 0, 0]);
     put(&mut file, 208, &[0x00, 0x2C, 0, 0]);

@@ -1,22 +1,22 @@
 //! Images that are read, and the first fault of files that are none.
 
-use crate::files::{DRIVER, RELOCATED, fault, file_of, patched};
+use crate::files::{driver_file, fault, patched, relocated_file};
 use crate::images::{driver, relocated};
 use pe_image::{ImageFault, read_image};
 use std::test::Fail;
 
 #[test]
 fn reads_images(rt: HostRuntime) -> Result<(), Fail> {
-    let file = file_of(rt.alloc(), 1536, &DRIVER)?;
+    let file = driver_file(rt.alloc())?;
     assert_eq!(rt; read_image(rt.alloc(), &file), Ok(driver(rt.alloc())?));
-    let file = file_of(rt.alloc(), 1536, &RELOCATED)?;
+    let file = relocated_file(rt.alloc())?;
     assert_eq!(rt; read_image(rt.alloc(), &file), Ok(relocated(rt.alloc())?));
     Ok(())
 }
 
 #[test]
 fn tells_where_a_file_ends(rt: HostRuntime) -> Result<(), Fail> {
-    let file = file_of(rt.alloc(), 1536, &DRIVER)?;
+    let file = driver_file(rt.alloc())?;
     for count in 0..file.len() {
         let end = read_image(rt.alloc(), &file[..count]).err();
         let wanted = match count {
@@ -33,7 +33,7 @@ fn tells_where_a_file_ends(rt: HostRuntime) -> Result<(), Fail> {
 
 #[test]
 fn tells_the_first_fault(rt: HostRuntime) -> Result<(), Fail> {
-    let file = file_of(rt.alloc(), 1536, &DRIVER)?;
+    let file = driver_file(rt.alloc())?;
     let cases: [(usize, &[u8], ImageFault, u64); 22] = [
         (1, b"X", ImageFault::Mz, 0),
         (60, &[0xFF; 4], ImageFault::Short, 60),
@@ -68,7 +68,7 @@ fn tells_the_first_fault(rt: HostRuntime) -> Result<(), Fail> {
 
 #[test]
 fn tells_the_first_fault_of_relocations(rt: HostRuntime) -> Result<(), Fail> {
-    let file = file_of(rt.alloc(), 1536, &RELOCATED)?;
+    let file = relocated_file(rt.alloc())?;
     let cases: [(usize, &[u8], u64); 9] = [
         // A block of fewer than 8 bytes, of an odd size, and past the directory.
         (1028, &[7], 1024),
@@ -102,13 +102,14 @@ fn tells_the_first_fault_of_relocations(rt: HostRuntime) -> Result<(), Fail> {
 #[test]
 fn reads_the_largest_images(rt: HostRuntime) -> Result<(), Fail> {
     // The reader has no limit of its own for a file: what stands behind the sections doesn't count.
+    let mut file = driver_file(rt.alloc())?;
     for length in [0x40_0000, 0x40_0001] {
-        let file = file_of(rt.alloc(), length, &DRIVER)?;
+        file.resize(length, 0)?;
         assert_eq!(rt; read_image(rt.alloc(), &file), Ok(driver(rt.alloc())?));
     }
 
     // An image may take 4 MiB.
-    let file = file_of(rt.alloc(), 1536, &DRIVER)?;
+    let file = driver_file(rt.alloc())?;
     let largest = patched(rt.alloc(), &file, 144, &[0, 0, 0x40, 0])?;
     assert_eq!(rt; read_image(rt.alloc(), &largest)?.size, 0x40_0000);
     Ok(())
