@@ -1,8 +1,8 @@
 -- What the operations of arithmetic give on types. docs/RULES.md, "Arithmetic", has the rows.
-use Rattle.std.specs.Prelude.{ℕ, ◌+◌, ◌-◌, ◌*◌, ◌/◌, ◌^◌, Bool, true, false, not, ◌&&◌, ◌||◌, min, nat_lt, nat_eq, if◌then◌else◌, Option, Some, None, List, Result, Ok, Err, ℤ, pos, negsuc}
+use Rattle.std.specs.Prelude.{ℕ, ◌-◌, ◌/◌, ◌^◌, Bool, true, false, not, ◌&&◌, ◌||◌, min, nat_lt, nat_eq, if◌then◌else◌, Option, Some, None, List, Result, Ok, Err, pos, negsuc}
 use Rattle.std.specs.Ordering.{int_eq}
 use Rattle.ebc_insn.specs.declared.ArithOp.{ArithOp}
-use Rattle.ebc_insn.specs.declared.ArithOp.TheVariants.{Not, Neg, Add, Sub, Mul, Mulu, Div, Divu, Mod, Modu, And, Or, Xor, Shl, Shr, Ashr, Extb, Extw, Extd}
+use Rattle.ebc_insn.specs.declared.ArithOp.TheVariants.{Not, Neg, Add, Sub, Mul, Mulu, Divu, Modu, And, Or, Shl, Shr, Extb, Extw, Extd}
 use Rattle.machine_alu.specs.Alu.{bits_of, computed, divides}
 use Rattle.machine_alu.specs.declared.DivideError.{DivideError}
 use Rattle.note_types.specs.declared.shape.Shape.{Shape}

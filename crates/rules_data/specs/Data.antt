@@ -1,11 +1,11 @@
 -- The rows of the instructions on data, and the state after one. docs/RULES.md, "Data", has the tables.
-use Rattle.std.specs.Prelude.{ℕ, ◌<◌, Bool, not, is_none, nat_eq, if◌then◌else◌, Option, Some, None, slice_get, Ok, Err, ℤ, ⊤, pos}
+use Rattle.std.specs.Prelude.{ℕ, Bool, is_none, nat_eq, if◌then◌else◌, Option, Some, None, slice_get, Ok, Err, ℤ}
 use Rattle.natural_index.specs.declared.Index.{Index}
 use Rattle.ebc_insn.specs.declared.ArithOp.{ArithOp}
 use Rattle.ebc_insn.specs.declared.CmpOp.{CmpOp}
 use Rattle.ebc_insn.specs.declared.Extra.{Extra}
 use Rattle.ebc_insn.specs.declared.Insn.{Insn}
-use Rattle.ebc_insn.specs.declared.Insn.TheVariants.{Compare, CompareImm, Arith, Move, MoveSigned, MoveImm, MoveImmNatural, MoveRelative, LoadSpecial, StoreSpecial}
+use Rattle.ebc_insn.specs.declared.Insn.TheVariants.{Compare, CompareImm, Arith, Move, MoveSigned, MoveImm, MoveImmNatural, MoveRelative, StoreSpecial}
 use Rattle.ebc_insn.specs.declared.Operand.{Operand}
 use Rattle.ebc_insn.specs.declared.Size.{Size}
 use Rattle.ebc_insn.specs.declared.Size.TheVariants as size

@@ -1,7 +1,7 @@
 -- The rules that look at the image: its shapes, functions, static objects and thunk cells, and at each instruction its
 -- bytes, the points and relocations in it, and whether control can leave the function past it. docs/RULES.md, "The image",
 -- has the words. A place is an offset from the image's base.
-use Rattle.std.specs.Prelude.{◌≡◌, ◌⊎◌, ℕ, ◌+◌, ◌-◌, ◌*◌, ◌%◌, ◌^◌, ◌<◌, ◌≤◌, Bool, true, false, not, ◌&&◌, ◌||◌, nat_eq, nat_le, nat_lt, if◌then◌else◌, List, Option, Some, None, length, slice_get, slice_index, is_some, pos, ⊤}
+use Rattle.std.specs.Prelude.{◌≡◌, ◌⊎◌, ℕ, ◌+◌, ◌-◌, ◌*◌, ◌%◌, ◌^◌, ◌<◌, ◌≤◌, Bool, true, false, not, ◌&&◌, ◌||◌, nat_eq, if◌then◌else◌, Option, Some, None, length, slice_get, is_some, pos, ⊤}
 use Rattle.std.specs.List.{list_any, Contains}
 use Rattle.ebc_width.specs.Bytes.{little_endian, window}
 use Rattle.ebc_insn.specs.declared.Cond.TheVariants.{Always}
@@ -21,7 +21,6 @@ use Rattle.note_types.specs.declared.shape.Shape.{Shape}
 use Rattle.pe_image.specs.declared.image.Image.{Image}
 use Rattle.pe_image.specs.declared.image.Section.{Section}
 use Rattle.pe_image.specs.Mapped.{laid}
-use Rattle.rules_base.specs.declared.here.Here.{Here}
 use Rattle.rules_base.specs.Things.{takes_address, thing_at}
 
 -- ---- the bytes of an image

@@ -1,6 +1,6 @@
 -- Where a binary search over ascending places ends, the thing at a place stands or none does.
-use Rattle.std.proofs.Common.{◌≡◌, ℕ, ◌+◌, ◌<◌, ◌≤◌, Bool, true, false, nat_eq, List, [], ◌∷◌, length, map, Option, None, Some, slice_get, refl, arith, subst, sym, ap, ◌∙◌, ⊎_elim, cond, get_or, ltb}
-use Rattle.std.specs.Prelude.{position, nat_lt}
+use Rattle.std.proofs.Common.{◌≡◌, ℕ, ◌+◌, ◌<◌, ◌≤◌, Bool, true, false, nat_eq, List, [], ◌∷◌, length, map, None, Some, refl, arith, sym, ap, ◌∙◌, ⊎_elim, cond, get_or, ltb}
+use Rattle.std.specs.Prelude.{nat_lt}
 use Rattle.std.specs.List.{position_or_len}
 use Rattle.std.specs.List.Sorted.{IsNonDecreasingBy, IsPartitionPoint, IsPartitionedBy, IsStrictlyIncreasing}
 use Rattle.std.proofs.lemmas.Bool.{cases_lt, ltb-false, ltb-true}

@@ -1,17 +1,15 @@
 -- Calls of functions and of native methods, returns, and thunks. docs/RULES.md, "Calls", has the words.
-use Rattle.std.specs.Prelude.{ℕ, ◌+◌, ◌^◌, Bool, true, false, not, ◌&&◌, nat_eq, nat_lt, if◌then◌else◌, Option, Some, None, List, [], ◌∷◌, length, is_some, slice_get, Ok, Err, ℤ, pos, bit_or}
+use Rattle.std.specs.Prelude.{ℕ, ◌+◌, Bool, false, not, ◌&&◌, nat_eq, nat_lt, if◌then◌else◌, Option, Some, None, List, [], ◌∷◌, length, slice_get, Ok, Err, ℤ, bit_or}
 use Rattle.ebc_insn.specs.declared.Extra.{Extra}
-use Rattle.ebc_insn.specs.declared.Extra.TheVariants.{Nothing, Imm, Idx}
+use Rattle.ebc_insn.specs.declared.Extra.TheVariants.{Nothing}
 use Rattle.ebc_insn.specs.declared.Operand.{Operand}
 use Rattle.note_types.specs.BelowTests.{is_below}
 use Rattle.note_types.specs.States.{type_of}
-use Rattle.note_types.specs.declared.items.Item.{Item}
 use Rattle.note_types.specs.declared.notes.FnNote.{FnNote}
 use Rattle.note_types.specs.declared.notes.Notes.{Notes}
 use Rattle.note_types.specs.declared.notes.Pair.{Pair}
 use Rattle.note_types.specs.declared.notes.Signature.{Signature}
 use Rattle.note_types.specs.declared.notes.Site.{Site}
-use Rattle.note_types.specs.declared.rule.RuleName.{RuleName}
 use Rattle.note_types.specs.declared.rule.RuleName.TheVariants as rule
 use Rattle.note_types.specs.declared.state.State.{State}
 use Rattle.note_types.specs.declared.types.Ty.{Ty}

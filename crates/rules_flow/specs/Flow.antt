@@ -1,5 +1,5 @@
 -- The rows of the instructions of control and of the stack. docs/RULES.md, "Control" and "The stack", has the tables.
-use Rattle.std.specs.Prelude.{ℕ, Bool, true, false, not, ◌&&◌, is_none, nat_eq, if◌then◌else◌, Option, Some, None, slice_get, Ok, Err, ℤ, pos}
+use Rattle.std.specs.Prelude.{ℕ, Bool, false, not, ◌&&◌, is_none, nat_eq, if◌then◌else◌, Option, Some, None, slice_get, Ok, Err}
 use Rattle.natural_index.specs.declared.Index.{Index}
 use Rattle.ebc_insn.specs.declared.Insn.{Insn}
 use Rattle.ebc_insn.specs.declared.Insn.TheVariants as insn

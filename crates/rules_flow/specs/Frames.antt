@@ -1,6 +1,6 @@
 -- The stack of a function: room, slots that are pushed and popped, locals that are made and dropped. docs/RULES.md, "The
 -- stack", has the words.
-use Rattle.std.specs.Prelude.{ℕ, suc, ◌+◌, ◌-◌, ◌*◌, ◌^◌, Bool, true, false, not, ◌&&◌, ◌||◌, nat_eq, nat_lt, nat_le, if◌then◌else◌, List, [], ◌∷◌, length, map, Option, Some, None, Ok, Err, ℤ, pos, int_le, unsigned_abs, count_by, is_some}
+use Rattle.std.specs.Prelude.{ℕ, ◌+◌, ◌-◌, ◌*◌, ◌^◌, Bool, true, not, ◌&&◌, nat_eq, nat_lt, nat_le, if◌then◌else◌, List, [], ◌∷◌, length, map, Option, Some, None, Ok, Err, pos, int_le, unsigned_abs, count_by, is_some}
 use Rattle.std.specs.List.{list_any}
 use Rattle.ebc_insn.specs.declared.Extra.{Extra}
 use Rattle.ebc_insn.specs.declared.Operand.{Operand}
@@ -19,7 +19,6 @@ use Rattle.note_types.specs.declared.types.Ty.{Ty}
 use Rattle.note_types.specs.declared.types.Ty.TheVariants as ty
 use Rattle.rules_base.specs.declared.access.Access.{Access}
 use Rattle.rules_base.specs.declared.access.Access.TheVariants as access
-use Rattle.rules_base.specs.declared.change.Change.{Change}
 use Rattle.rules_base.specs.declared.destination.Destination.{Destination}
 use Rattle.rules_base.specs.declared.destination.Destination.TheVariants.{Register, Memory}
 use Rattle.rules_base.specs.declared.operand.Distance.{Distance}
@@ -30,7 +29,7 @@ use Rattle.rules_base.specs.Kept.{kept_low, kept_natural}
 use Rattle.rules_base.specs.Operands.{extra_distance, with_immediate}
 use Rattle.rules_base.specs.Outcomes.{Gives, also, beside, gives_map, needs}
 use Rattle.rules_base.specs.Parts.{is_int_below}
-use Rattle.rules_base.specs.Places.{is_nowhere, locals_size, slot_size}
+use Rattle.rules_base.specs.Places.{locals_size, slot_size}
 use Rattle.rules_base.specs.Values.{operand_value}
 use Rattle.rules_flow.specs.declared.successors.Successors.{Successors}
 use Rattle.rules_flow.specs.Successors.{falls}

@@ -1,18 +1,17 @@
 -- Jumps, and the places that they and calls go to. docs/RULES.md, "Control", has the words.
-use Rattle.std.specs.Prelude.{ℕ, ◌<◌, Bool, true, false, not, ◌&&◌, nat_eq, nat_le, nat_lt, if◌then◌else◌, Option, Some, None, List, is_some, Ok, Err, ℤ, pos, ◌+ℤ◌, ◌*ℤ◌, slice_get}
+use Rattle.std.specs.Prelude.{ℕ, Bool, true, false, not, ◌&&◌, nat_eq, nat_le, nat_lt, if◌then◌else◌, Option, Some, None, is_some, Ok, Err, ℤ, pos, ◌+ℤ◌, ◌*ℤ◌, slice_get}
 use Rattle.ebc_insn.specs.declared.Cond.{Cond}
 use Rattle.ebc_insn.specs.declared.Cond.TheVariants.{Always, Set, Clear}
 use Rattle.ebc_insn.specs.declared.Extra.{Extra}
-use Rattle.ebc_insn.specs.declared.Extra.TheVariants.{Nothing, Imm, Idx}
+use Rattle.ebc_insn.specs.declared.Extra.TheVariants.{Imm}
 use Rattle.ebc_insn.specs.declared.Operand.{Operand}
-use Rattle.note_types.specs.BelowTests.{same_bool}
 use Rattle.note_types.specs.declared.notes.FnNote.{FnNote}
 use Rattle.note_types.specs.declared.notes.Notes.{Notes}
 use Rattle.note_types.specs.declared.notes.Point.{Point}
 use Rattle.note_types.specs.declared.rule.RuleName.TheVariants as rule
 use Rattle.note_types.specs.declared.state.State.{State}
 use Rattle.rules_base.specs.declared.here.Here.{Here}
-use Rattle.rules_base.specs.Outcomes.{Gives, gives_map}
+use Rattle.rules_base.specs.Outcomes.{Gives}
 use Rattle.rules_base.specs.Parts.{and_then, only_if}
 use Rattle.rules_flow.specs.declared.successors.Successors.{Successors}
 use Rattle.rules_flow.specs.Narrowing.{narrow}

@@ -1,7 +1,7 @@
 -- The rows of the instructions of control and of the stack as relations: an instruction meets its row in a state, and goes
 -- on at a place with a state; or the first of the rules by which the row's parts fail is named. docs/RULES.md, "The first
 -- rule", has the words.
-use Rattle.std.specs.Prelude.{◌≡◌, ◌⊎◌, ℕ, Bool, true, false, List, [], ◌∷◌, Option, Some, Ok, slice_get, is_none}
+use Rattle.std.specs.Prelude.{◌≡◌, ◌⊎◌, ℕ, Bool, false, List, [], ◌∷◌, Some, Ok, slice_get, is_none}
 use Rattle.ebc_base.specs.Steps.{◌>>=◌, or_else}
 use Rattle.ebc_insn.specs.declared.Extra.{Extra}
 use Rattle.ebc_insn.specs.declared.Insn.{Insn}

@@ -1,6 +1,6 @@
 -- Calls, thunks and jumps keep the conditions on a state.
-use Rattle.std.proofs.Common.{◌≡◌, ℕ, zero, suc, ◌+◌, ◌-◌, ◌*◌, ◌/◌, ◌%◌, ◌^◌, ◌<◌, ◌≤◌, ◌⊎◌, Bool, true, false, not, ◌&&◌, nat_lt, nat_le, nat_eq, max, List, [], ◌∷◌, length, Option, None, Some, slice_get, slice_index_or, if◌then◌else◌, refl, sym, subst, ◌∙◌, ⊎_elim, inl, inr, arith, ℤ, pos}
-use Rattle.std.specs.Prelude.{IfSome, IfOk, Result, Ok, Err, bit_or}
+use Rattle.std.proofs.Common.{◌≡◌, ℕ, suc, ◌^◌, ◌<◌, ◌⊎◌, Bool, true, false, nat_lt, nat_eq, List, [], ◌∷◌, length, Option, None, Some, slice_get, if◌then◌else◌, refl, ⊎_elim, inl, inr, arith, ℤ}
+use Rattle.std.specs.Prelude.{IfSome, IfOk, Ok, Err, bit_or}
 use Rattle.std.specs.Int.{bit_at}
 use Rattle.std.proofs.lemmas.Bool.{cases_eq}
 use Rattle.std.proofs.lemmas.Nat.{or_lt}
@@ -10,34 +10,27 @@ use Rattle.ebc_insn.specs.declared.Cond.{Cond}
 use Rattle.ebc_insn.specs.declared.Cond.TheVariants.{Always, Set, Clear}
 use Rattle.ebc_insn.specs.declared.Extra.{Extra}
 use Rattle.ebc_insn.specs.declared.Operand.{Operand}
-use Rattle.note_types.specs.FieldSets.{HasField}
 use Rattle.note_types.specs.States.{type_of}
-use Rattle.note_types.specs.declared.cell.Cell.{Cell}
 use Rattle.note_types.specs.declared.cell.SlotKind.{SlotKind}
 use Rattle.note_types.specs.declared.items.Item.{Item}
-use Rattle.note_types.specs.declared.items.Item.TheVariants.{Slot, Locals}
+use Rattle.note_types.specs.declared.items.Item.TheVariants.{Slot}
 use Rattle.note_types.specs.declared.notes.FnNote.{FnNote}
 use Rattle.note_types.specs.declared.notes.Notes.{Notes}
 use Rattle.note_types.specs.declared.notes.Signature.{Signature}
 use Rattle.note_types.specs.declared.notes.Want.{Want}
 use Rattle.note_types.specs.declared.notes.Want.TheVariants as want
 use Rattle.note_types.specs.declared.notes.WantParam.{WantParam}
-use Rattle.note_types.specs.declared.rule.RuleName.{RuleName}
 use Rattle.note_types.specs.declared.rule.RuleName.TheVariants as rule
 use Rattle.note_types.specs.declared.state.State.{State}
 use Rattle.note_types.specs.declared.types.Ty.{Ty}
 use Rattle.note_types.specs.declared.types.Ty.TheVariants as ty
 use Rattle.rules_base.specs.declared.here.Here.{Here}
-use Rattle.rules_base.specs.Outcomes.{also, both, needs}
 use Rattle.rules_base.specs.Parts.{and_then}
-use Rattle.rules_base.specs.Places.{only_field}
-use Rattle.rules_flow.specs.declared.successors.Successors.{Successors}
-use Rattle.rules_flow.specs.Arguments.{all_lent_out, lent_out, native_arguments}
-use Rattle.rules_flow.specs.Calls.{all_made, break_row, call_fails, call_native_row, call_row, call_to, callee_at, callee_method, called, is_next_thunk, may_return, native_call, native_called, of_method, result_type, return_row, signature_at, site_at, with_thunk, written_after}
+use Rattle.rules_flow.specs.Arguments.{all_lent_out, lent_out}
+use Rattle.rules_flow.specs.Calls.{break_row, call_fails, call_native_row, call_row, call_to, callee_at, callee_method, called, is_next_thunk, may_return, native_call, native_called, of_method, result_type, return_row, signature_at, site_at, with_thunk}
 use Rattle.rules_flow.specs.Jumps.{jump8_row, jump_row, jump_to, jumps, point_at, relative, target_of}
-use Rattle.rules_flow.specs.Narrowing.{narrow}
 use Rattle.rules_flow.specs.Successors.{ends, falls}
-use Rattle.rules_laws.proofs.Options.{anything, ok_also, ok_anything, ok_choice, ok_some, ok_then, some_choice, some_is, some_then}
+use Rattle.rules_laws.proofs.Options.{anything, ok_also, ok_anything, ok_choice, ok_some, ok_then, some_choice, some_then}
 use Rattle.rules_laws.proofs.SumsKeep.{any_known}
 use Rattle.rules_laws.proofs.FramesKeep.{each_register, fall_state}
 use Rattle.rules_laws.proofs.NarrowKeeps.{narrow_keeps}

@@ -1,38 +1,24 @@
 -- The instructions on data keep the conditions on a state.
-use Rattle.std.proofs.Common.{◌≡◌, ℕ, zero, suc, ◌+◌, ◌-◌, ◌*◌, ◌/◌, ◌%◌, ◌^◌, ◌<◌, ◌≤◌, Bool, true, false, ◌&&◌, nat_lt, nat_le, nat_eq, min, List, length, Option, None, Some, slice_get, if◌then◌else◌, refl, arith, mod-lt, ℤ, pos}
-use Rattle.std.specs.Prelude.{IfSome, IfOk, Result, Ok, Err, is_none, int_le}
-use Rattle.std.specs.Ordering.{int_eq}
-use Rattle.std.specs.List.{find}
+use Rattle.std.proofs.Common.{ℕ, ◌-◌, ◌/◌, ◌^◌, ◌<◌, ◌≤◌, Bool, true, false, ◌&&◌, nat_lt, nat_eq, min, List, Option, None, Some, if◌then◌else◌, arith}
+use Rattle.std.specs.Prelude.{IfSome, IfOk, Result, Ok, Err}
 use Rattle.std.proofs.lemmas.Bool.{ltb-true}
 use Rattle.std.proofs.Math.Nat.{div-le_self, div-mul-le_self}
 use Rattle.std.proofs.Math.Pow.{pow-lt, shr_mono}
 use Rattle.std.proofs.lemmas.Nat.{le-div}
-use Rattle.natural_index.specs.declared.Index.{Index}
 use Rattle.ebc_insn.specs.declared.ArithOp.{ArithOp}
-use Rattle.ebc_insn.specs.declared.ArithOp.TheVariants.{Not, Neg, Add, Sub, Mul, Mulu, Div, Divu, Mod, Modu, And, Or, Xor, Shl, Shr, Ashr, Extb, Extw, Extd}
-use Rattle.ebc_insn.specs.declared.CmpOp.{CmpOp}
-use Rattle.ebc_insn.specs.declared.Extra.{Extra}
-use Rattle.ebc_insn.specs.declared.Insn.{Insn}
-use Rattle.ebc_insn.specs.declared.Insn.TheVariants as insn
-use Rattle.ebc_insn.specs.declared.Operand.{Operand}
-use Rattle.ebc_insn.specs.declared.Size.{Size}
-use Rattle.ebc_insn.specs.declared.Size.TheVariants as size
+use Rattle.ebc_insn.specs.declared.ArithOp.TheVariants.{Add, Sub, Mul, Mulu, Divu, Modu, And, Or, Shl, Shr}
 use Rattle.machine_alu.specs.Alu.{bits_of, computed}
 use Rattle.machine_alu.specs.declared.DivideError.{DivideError}
-use Rattle.note_types.specs.States.{type_of}
 use Rattle.note_types.specs.declared.notes.FnNote.{FnNote}
 use Rattle.note_types.specs.declared.notes.Notes.{Notes}
-use Rattle.note_types.specs.declared.rule.RuleName.TheVariants as rule
 use Rattle.note_types.specs.declared.shape.Shape.{Shape}
-use Rattle.note_types.specs.declared.state.State.{State}
 use Rattle.note_types.specs.declared.types.Ty.{Ty}
 use Rattle.note_types.specs.declared.types.Ty.TheVariants as ty
 use Rattle.rules_base.specs.declared.parts.Span.{Span}
-use Rattle.rules_base.specs.Parts.{and_then, only_if, constant, constant_of, full, is_int, is_int_below, span_of}
-use Rattle.rules_base.specs.Sums.{sum, difference, product}
-use Rattle.rules_data.specs.Arithmetic.{by_constant, common_bits, computed_type, divided, error_bit, error_status, fold_row, folded, int_row, is_last_bit, is_unary, or_ints, or_other, or_row, other_row, power_product, remainder, shifted_left, shifted_right, shl_row, wide_row}
+use Rattle.rules_base.specs.Parts.{constant_of, full, is_int, is_int_below, span_of}
+use Rattle.rules_data.specs.Arithmetic.{by_constant, common_bits, computed_type, divided, error_bit, error_status, fold_row, folded, is_last_bit, is_unary, or_ints, or_other, remainder, shifted_left, shifted_right, wide_row}
 use Rattle.rules_laws.proofs.Options.{anything, some_choice, some_else, some_if, some_then}
-use Rattle.rules_laws.proofs.SumsKeep.{IsSpan, any_known, constant_known, constant_of_below, difference-known, full_known, if_known, int_known, product-known, span_of_known, sum-known}
+use Rattle.rules_laws.proofs.SumsKeep.{IsSpan, any_known, constant_known, constant_of_below, difference-known, if_known, int_known, product-known, span_of_known, sum-known}
 use Rattle.rules_laws.proofs.LoadsKeep.{status_known}
 use Rattle.rules_laws.proofs.OutcomesBelow.{computed_below}
 use Rattle.note_types.specs.Known.{IsKnown}

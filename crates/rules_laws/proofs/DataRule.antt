@@ -1,7 +1,6 @@
 -- The instructions on data tell what their rows give, and the first rule by which these fail.
-use Rattle.std.proofs.Common.{◌≡◌, ◌↔◌, ℕ, Bool, true, false, Option, None, Some, slice_get, refl, sym, subst, ap, ◌∙◌}
-use Rattle.std.specs.Prelude.{Result, Ok, Err, ℤ, is_none}
-use Rattle.ebc_base.specs.Steps.{◌>>=◌, or_else}
+use Rattle.std.proofs.Common.{◌≡◌, ℕ, Bool, Option, refl, sym, ap, ◌∙◌}
+use Rattle.std.specs.Prelude.{Ok, Err, ℤ, is_none}
 use Rattle.natural_index.specs.declared.Index.{Index}
 use Rattle.ebc_insn.specs.declared.ArithOp.{ArithOp}
 use Rattle.ebc_insn.specs.declared.CmpOp.{CmpOp}
@@ -15,20 +14,14 @@ use Rattle.note_types.specs.declared.notes.Notes.{Notes}
 use Rattle.note_types.specs.declared.rule.RuleName.{RuleName}
 use Rattle.note_types.specs.declared.rule.RuleName.TheVariants as rule
 use Rattle.note_types.specs.declared.state.State.{State}
-use Rattle.rules_base.specs.declared.access.Access.TheVariants as access
-use Rattle.rules_base.specs.declared.change.Change.{Change}
 use Rattle.rules_base.specs.declared.here.Here.{Here}
 use Rattle.rules_base.specs.Change.{changed}
-use Rattle.rules_base.specs.Destinations.{destination, put}
-use Rattle.rules_base.specs.FirstRule.{Part, Tells, afterwards, alone, broken, seen, together, under}
-use Rattle.rules_base.specs.Operands.{index_distance, nowhere}
-use Rattle.rules_base.specs.Outcomes.{Gives, beside, gives_map, needs}
-use Rattle.rules_base.specs.Values.{form_access, operand_value, register_type}
-use Rattle.rules_data.specs.Arithmetic.{computed_type, divisor_known}
-use Rattle.rules_data.specs.Compares.{compares}
-use Rattle.rules_data.specs.Data.{after_data, arith_row, compare_row, data_change, data_row, flag, held, left_operand, left_value, move_access, move_imm_row, move_row, move_signed_row, move_value, plain_row, signed_value}
-use Rattle.rules_data.specs.Moves.{immediate}
-use Rattle.rules_data.specs.Rule.{FirstRule, Rule, arith_part, change_part, compare_part, data_part, left_part, move_imm_part, move_part, move_signed_part, plain_part}
+use Rattle.rules_base.specs.FirstRule.{Tells}
+use Rattle.rules_base.specs.Outcomes.{Gives, gives_map}
+use Rattle.rules_base.specs.Values.{form_access}
+use Rattle.rules_data.specs.Arithmetic.{divisor_known}
+use Rattle.rules_data.specs.Data.{after_data, arith_row, compare_row, data_change, data_row, held, left_operand, move_imm_row, move_row, move_signed_row, plain_row}
+use Rattle.rules_data.specs.Rule.{arith_part, change_part, compare_part, data_part, left_part, move_imm_part, move_part, move_signed_part, plain_part}
 use Rattle.rules_laws.specs.Exact.{DataFirst, DataRelated}
 use Rattle.rules_laws.proofs.FirstRule.{tells_alone, tells_also, tells_beside, tells_needs, tells_seen, tells_then, tells_where}
 

@@ -1,6 +1,6 @@
 -- Parts that are put together tell the first rule by which one of them fails.
-use Rattle.std.proofs.Common.{◌≡◌, ◌⊎◌, ◌↔◌, ◌≤◌, ℕ, Bool, true, false, Option, None, Some, nat_eq, nat_le, if◌then◌else◌, refl, sym, subst, ap, inl, inr, ⊎_elim, arith, ◌∙◌}
-use Rattle.std.specs.Prelude.{Result, Ok, Err}
+use Rattle.std.proofs.Common.{◌≡◌, ◌⊎◌, ◌≤◌, ℕ, Bool, true, false, Option, None, Some, nat_eq, nat_le, if◌then◌else◌, refl, sym, subst, ap, inl, inr, ⊎_elim, arith, ◌∙◌}
+use Rattle.std.specs.Prelude.{Ok, Err}
 use Rattle.std.proofs.lemmas.Bool.{leb-true, leb-false}
 use Rattle.note_types.specs.declared.rule.RuleName.{RuleName}
 use Rattle.note_types.specs.declared.rule.RuleName.TheVariants as rule

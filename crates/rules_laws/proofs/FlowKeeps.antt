@@ -1,6 +1,6 @@
 -- The instructions of control and of the stack keep the conditions on a state.
-use Rattle.std.proofs.Common.{◌≡◌, ℕ, Bool, true, false, not, ◌&&◌, nat_eq, Option, None, Some, slice_get, if◌then◌else◌, refl, sym, subst, ℤ}
-use Rattle.std.specs.Prelude.{IfOk, Result, Ok, Err, is_none}
+use Rattle.std.proofs.Common.{◌≡◌, false, not, ◌&&◌, nat_eq, Option, Some, slice_get}
+use Rattle.std.specs.Prelude.{IfOk, Err, is_none}
 use Rattle.natural_index.specs.declared.Index.{Index}
 use Rattle.ebc_insn.specs.declared.Insn.{Insn}
 use Rattle.ebc_insn.specs.declared.Insn.TheVariants as insn
@@ -10,15 +10,13 @@ use Rattle.ebc_insn.specs.declared.Size.TheVariants.{Qword}
 use Rattle.note_types.specs.declared.cell.SlotKind.TheVariants.{N}
 use Rattle.note_types.specs.declared.notes.FnNote.{FnNote}
 use Rattle.note_types.specs.declared.notes.Notes.{Notes}
-use Rattle.note_types.specs.declared.rule.RuleName.{RuleName}
 use Rattle.note_types.specs.declared.rule.RuleName.TheVariants as rule
 use Rattle.note_types.specs.declared.state.State.{State}
 use Rattle.rules_base.specs.declared.here.Here.{Here}
 use Rattle.rules_base.specs.Operands.{index_distance}
-use Rattle.rules_flow.specs.declared.successors.Successors.{Successors}
 use Rattle.rules_flow.specs.Flow.{after_flow, flow_row, frame_move, plain_row, slot_kind, unrelocated}
 use Rattle.rules_flow.specs.Frames.{frame_row}
-use Rattle.rules_laws.proofs.Options.{ok_anything, ok_choice, ok_then}
+use Rattle.rules_laws.proofs.Options.{ok_choice}
 use Rattle.rules_laws.proofs.PlacesKeep.{ParamsKnown}
 use Rattle.rules_laws.proofs.CallsKeep.{break_row-keeps, call_native_row-keeps, call_row-keeps, jump8_row-keeps, jump_row-keeps, return_row-keeps}
 use Rattle.rules_laws.proofs.FramesKeep.{frame_row-keeps, pop_row-keeps, push_row-keeps}

@@ -1,6 +1,6 @@
 -- The instructions of control and of the stack tell what their rows give, and the first rule by which these fail.
-use Rattle.std.proofs.Common.{◌≡◌, ◌↔◌, ℕ, Bool, true, false, List, [], ◌∷◌, Option, None, Some, slice_get, refl, sym, subst, ap, ◌∙◌}
-use Rattle.std.specs.Prelude.{Result, Ok, Err, ℤ, is_none}
+use Rattle.std.proofs.Common.{◌≡◌, ℕ, Bool, false, List, [], ◌∷◌, Some, refl, sym, subst, ◌∙◌}
+use Rattle.std.specs.Prelude.{Ok, Err, is_none}
 use Rattle.ebc_base.specs.Steps.{◌>>=◌, or_else}
 use Rattle.ebc_insn.specs.declared.Extra.{Extra}
 use Rattle.ebc_insn.specs.declared.Insn.{Insn}
@@ -15,23 +15,21 @@ use Rattle.note_types.specs.declared.items.Item.TheVariants.{Slot, Locals}
 use Rattle.note_types.specs.declared.notes.FnNote.{FnNote}
 use Rattle.note_types.specs.declared.notes.Notes.{Notes}
 use Rattle.note_types.specs.declared.notes.Param.{Param}
-use Rattle.note_types.specs.declared.notes.Signature.{Signature}
 use Rattle.note_types.specs.declared.notes.WantParam.{WantParam}
-use Rattle.note_types.specs.declared.rule.RuleName.{RuleName}
 use Rattle.note_types.specs.declared.rule.RuleName.TheVariants as rule
 use Rattle.note_types.specs.declared.shape.Field.{Field}
 use Rattle.note_types.specs.declared.state.State.{State}
 use Rattle.note_types.specs.declared.types.Ty.TheVariants as ty
 use Rattle.rules_base.specs.declared.here.Here.{Here}
-use Rattle.rules_base.specs.FirstRule.{Part, Tells, TellsRule, afterwards, alone, broken, together, under}
-use Rattle.rules_base.specs.Outcomes.{Gives, also, beside, both, needs}
+use Rattle.rules_base.specs.FirstRule.{Tells, TellsRule}
+use Rattle.rules_base.specs.Outcomes.{Gives}
 use Rattle.rules_flow.specs.declared.successors.Successors.{Successors}
 use Rattle.rules_flow.specs.Arguments.{argument, arguments, native_argument, native_arguments, passed, wanted}
-use Rattle.rules_flow.specs.Calls.{all_made, call_fails, call_native_row, call_row, call_to, callee_at, callee_method, is_lower, native_call, signature_at}
+use Rattle.rules_flow.specs.Calls.{all_made, call_native_row, call_row, call_to, callee_at, callee_method, is_lower, native_call, signature_at}
 use Rattle.rules_flow.specs.Flow.{after_flow, flow_row, plain_row, slot_kind, unrelocated}
 use Rattle.rules_flow.specs.Frames.{has_room, pop_row, push_row}
 use Rattle.rules_flow.specs.Jumps.{target_of}
-use Rattle.rules_flow.specs.Rule.{ArgumentFails, ArgumentsFail, CallFails, FirstRule, IsSuccessor, NativeArgumentFails, NativeArgumentsFail, NativeCallFails, Rule, call_native_part, call_part, flow_part, plain_part, pop_part, push_part, successors_part, unrelocated_part}
+use Rattle.rules_flow.specs.Rule.{ArgumentFails, ArgumentsFail, IsSuccessor, NativeArgumentFails, NativeArgumentsFail, call_native_part, call_part, flow_part, plain_part, pop_part, push_part, successors_part, unrelocated_part}
 use Rattle.rules_laws.specs.Exact.{FlowFirst, FlowRelated}
 use Rattle.rules_laws.proofs.FirstRule.{tells_alone, tells_also, tells_beside, tells_both, tells_needs, tells_none, tells_option, tells_then, tells_where}
 

@@ -1,14 +1,12 @@
 -- Pushes and pops, and making and dropping locals, keep the conditions on a state.
-use Rattle.std.proofs.Common.{◌≡◌, ℕ, zero, suc, ◌+◌, ◌-◌, ◌^◌, ◌<◌, ◌≤◌, Bool, true, false, not, ◌&&◌, nat_lt, nat_le, nat_eq, List, [], ◌∷◌, length, map, Option, None, Some, slice_get, slice_index_or, if◌then◌else◌, refl, sym, subst, ap, ◌∙◌, arith, ℤ, pos}
-use Rattle.std.specs.Prelude.{IfSome, IfOk, Result, Ok, Err, count_by, is_some, int_le, unsigned_abs, option_map}
+use Rattle.std.proofs.Common.{◌≡◌, ℕ, zero, suc, ◌+◌, ◌-◌, ◌≤◌, Bool, true, false, not, ◌&&◌, nat_lt, nat_le, nat_eq, List, [], ◌∷◌, length, map, Option, None, Some, slice_get, slice_index_or, if◌then◌else◌, refl, sym, subst, ap, ◌∙◌, arith, pos}
+use Rattle.std.specs.Prelude.{IfSome, IfOk, Result, Ok, Err, count_by, is_some, int_le, unsigned_abs}
 use Rattle.std.specs.List.{list_any}
-use Rattle.std.proofs.lemmas.Bool.{and_parts, leb-true, not-true, false≢true}
-use Rattle.std.proofs.lemmas.Option.{slice_get-map}
+use Rattle.std.proofs.lemmas.Bool.{and_parts, leb-true, not-true}
 use Rattle.std.proofs.lemmas.List.Sums.{sum_by-cons}
 use Rattle.ebc_insn.specs.declared.Extra.{Extra}
 use Rattle.ebc_insn.specs.declared.Operand.{Operand}
 use Rattle.note_types.specs.BelowTests.{same_kind}
-use Rattle.note_types.specs.States.{type_of}
 use Rattle.note_types.specs.declared.cell.SlotKind.{SlotKind}
 use Rattle.note_types.specs.declared.cell.SlotKind.TheVariants.{N, Q, D}
 use Rattle.note_types.specs.declared.items.Item.{Item}
@@ -18,25 +16,22 @@ use Rattle.note_types.specs.declared.notes.Notes.{Notes}
 use Rattle.note_types.specs.declared.notes.Pair.{Pair}
 use Rattle.note_types.specs.declared.rule.RuleName.{RuleName}
 use Rattle.note_types.specs.declared.rule.RuleName.TheVariants as rule
-use Rattle.note_types.specs.declared.state.Fact.{Fact}
 use Rattle.note_types.specs.declared.state.State.{State}
 use Rattle.note_types.specs.declared.types.Ty.{Ty}
 use Rattle.note_types.specs.declared.types.Ty.TheVariants as ty
 use Rattle.rules_base.specs.declared.destination.Destination.{Destination}
 use Rattle.rules_base.specs.declared.destination.Destination.TheVariants.{Register, Memory}
-use Rattle.rules_base.specs.declared.change.Change.{Change}
 use Rattle.rules_base.specs.declared.operand.Distance.{Distance}
 use Rattle.rules_base.specs.Access.{target_at}
 use Rattle.rules_base.specs.Change.{changed}
 use Rattle.rules_base.specs.Destinations.{put}
-use Rattle.rules_base.specs.Operands.{extra_distance, with_immediate}
+use Rattle.rules_base.specs.Operands.{extra_distance}
 use Rattle.rules_base.specs.Outcomes.{also, beside, needs}
-use Rattle.rules_base.specs.Places.{is_nowhere, locals_size, slot_size}
+use Rattle.rules_base.specs.Places.{locals_size}
 use Rattle.rules_base.specs.Values.{operand_value}
-use Rattle.rules_flow.specs.declared.successors.Successors.{Successors}
-use Rattle.rules_flow.specs.Frames.{below_top, drop_row, drop_to, forgotten, frame_row, has_room, is_popped, is_size, item_size, left_after, left_item, left_type, left_written, loses, make_row, pop_destination, pop_row, popped_type, push_row, slot_access, slot_type, top_type, with_item, with_left, without_top}
+use Rattle.rules_flow.specs.Frames.{below_top, drop_row, drop_to, forgotten, frame_row, has_room, is_popped, is_size, item_size, left_after, left_item, left_type, loses, make_row, pop_destination, pop_row, popped_type, push_row, slot_access, slot_type, top_type, with_item, with_left, without_top}
 use Rattle.rules_flow.specs.Successors.{falls}
-use Rattle.rules_laws.proofs.LoadsKeep.{LoadKnown, RegistersKnown, operand_value-known, status_known, signed_status-known}
+use Rattle.rules_laws.proofs.LoadsKeep.{LoadKnown, operand_value-known, status_known, signed_status-known}
 use Rattle.rules_laws.proofs.MovesKeep.{kept_dword-known, kept_natural-known, with_immediate-known}
 use Rattle.rules_laws.proofs.Options.{ok_also, ok_anything, ok_beside, ok_choice, ok_map, ok_needs, ok_then}
 use Rattle.rules_laws.proofs.PlacesKeep.{ParamsKnown}

@@ -1,8 +1,8 @@
 -- What moves keep of a known type is known, and so is what stands beside an operand.
-use Rattle.std.proofs.Common.{◌≡◌, ℕ, zero, suc, ◌+◌, ◌-◌, ◌*◌, ◌/◌, ◌%◌, ◌^◌, ◌<◌, ◌≤◌, Bool, true, false, ◌&&◌, nat_lt, nat_le, List, length, Option, None, Some, if◌then◌else◌, refl, arith, mod-lt, ℤ, pos}
+use Rattle.std.proofs.Common.{◌≡◌, ℕ, ◌-◌, ◌^◌, ◌<◌, ◌≤◌, true, ◌&&◌, nat_lt, List, Option, None, Some, arith, mod-lt, ℤ, pos}
 use Rattle.std.specs.Prelude.{negsuc, int_le, ◌≤ℤ◌}
 use Rattle.std.specs.Ordering.{int_eq}
-use Rattle.std.proofs.lemmas.Bool.{and_parts, leb-true, ltb-true, false≢true}
+use Rattle.std.proofs.lemmas.Bool.{leb-true, false≢true}
 use Rattle.std.proofs.lemmas.Int.{ints}
 use Rattle.natural_index.specs.declared.Index.{Index}
 use Rattle.ebc_insn.specs.declared.Extra.{Extra}
@@ -17,8 +17,7 @@ use Rattle.note_types.specs.declared.types.Ty.TheVariants.{Any, Int, Lin, Scaled
 use Rattle.rules_base.specs.declared.operand.Distance.{Distance}
 use Rattle.rules_base.specs.Kept.{kept, kept_low, kept_natural, kept_signed}
 use Rattle.rules_base.specs.Operands.{counted, distance_type, with_immediate, with_index}
-use Rattle.rules_base.specs.Parts.{constant, wrap}
-use Rattle.rules_base.specs.Sums.{lin, sum}
+use Rattle.rules_base.specs.Parts.{wrap}
 use Rattle.rules_laws.proofs.SumsKeep.{any_known, constant_known, if_known, int_known, lin_known, sum-known}
 use Rattle.note_types.specs.Known.{IsKnown}
 

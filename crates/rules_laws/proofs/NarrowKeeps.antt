@@ -1,5 +1,5 @@
 -- Narrowing keeps the conditions on a state.
-use Rattle.std.proofs.Common.{◌≡◌, ℕ, zero, suc, ◌+◌, ◌-◌, ◌^◌, ◌<◌, ◌≤◌, Bool, true, false, not, ◌&&◌, min, max, nat_lt, nat_le, nat_eq, Option, None, Some, if◌then◌else◌, arith, refl, ◌∙◌}
+use Rattle.std.proofs.Common.{◌≡◌, ℕ, ◌+◌, ◌-◌, ◌^◌, ◌<◌, ◌≤◌, Bool, ◌&&◌, min, max, nat_lt, nat_le, nat_eq, Option, None, Some, if◌then◌else◌, arith, refl, ◌∙◌}
 use Rattle.std.proofs.lemmas.Bool.{and_parts, eqb-true, leb-true}
 use Rattle.ebc_insn.specs.declared.CmpOp.{CmpOp}
 use Rattle.ebc_insn.specs.declared.CmpOp.TheVariants.{Eq, Lte, Gte, Ulte, Ugte}
@@ -12,7 +12,7 @@ use Rattle.note_types.specs.declared.state.State.{State}
 use Rattle.note_types.specs.declared.types.Ty.{Ty}
 use Rattle.note_types.specs.declared.types.Ty.TheVariants as ty
 use Rattle.rules_base.specs.declared.parts.Span.{Span}
-use Rattle.rules_flow.specs.Narrowing.{at_least, at_most, cut_to, exactly, from, int_of, is_plain, narrow, narrowed, narrowed_by, narrowed_if, narrowed_span, other_than, past, short_of, up_to}
+use Rattle.rules_flow.specs.Narrowing.{at_least, at_most, cut_to, exactly, int_of, is_plain, narrow, narrowed, narrowed_by, narrowed_if, narrowed_span, other_than, past, short_of}
 use Rattle.rules_laws.proofs.StatesKeep.{set_long, set_within, unused_kept}
 use Rattle.rules_laws.proofs.SumsKeep.{IsSpan, if_known, int_known}
 use Rattle.note_types.specs.Known.{IsKnown, IsState}

@@ -1,11 +1,9 @@
 -- What lies at the places that operands name is known.
-use Rattle.std.proofs.Common.{◌≡◌, ℕ, zero, suc, ◌+◌, ◌-◌, ◌*◌, ◌<◌, ◌≤◌, Bool, true, false, ◌&&◌, nat_lt, nat_le, nat_eq, List, [], ◌∷◌, length, Option, None, Some, slice_get, if◌then◌else◌, refl, arith, ℤ, pos, ◌+ℤ◌}
+use Rattle.std.proofs.Common.{◌≡◌, ℕ, suc, ◌-◌, ◌<◌, Bool, false, ◌&&◌, nat_lt, nat_le, nat_eq, List, [], ◌∷◌, length, Option, None, Some, slice_get, refl, pos}
 use Rattle.std.specs.Prelude.{IfSome, int_le, unsigned_abs}
 use Rattle.std.proofs.lemmas.Bool.{ltb-true}
 use Rattle.std.proofs.lemmas.Option.{slice_get_within}
 use Rattle.note_types.specs.States.{type_of}
-use Rattle.note_types.specs.declared.cell.Cell.{Cell}
-use Rattle.note_types.specs.declared.cell.SlotKind.{SlotKind}
 use Rattle.note_types.specs.declared.items.Item.{Item}
 use Rattle.note_types.specs.declared.items.Item.TheVariants.{Slot, Locals}
 use Rattle.note_types.specs.declared.notes.FnNote.{FnNote}
@@ -16,17 +14,16 @@ use Rattle.note_types.specs.declared.shape.Field.{Field}
 use Rattle.note_types.specs.declared.shape.Shape.{Shape}
 use Rattle.note_types.specs.declared.state.State.{State}
 use Rattle.note_types.specs.declared.types.Ty.{Ty}
-use Rattle.note_types.specs.declared.types.Ty.TheVariants.{Any, Int, Lin, Scaled, Ptr, Local, Lent, Status, SignedStatus, Mask, Handle, Entry, Method, ThunkAt, Saved}
+use Rattle.note_types.specs.declared.types.Ty.TheVariants.{Ptr, Local, Lent, ThunkAt}
 use Rattle.rules_base.specs.declared.operand.Distance.{Distance}
 use Rattle.rules_base.specs.declared.place.Place.{Place}
 use Rattle.rules_base.specs.declared.place.Place.TheVariants as place
 use Rattle.rules_base.specs.declared.place.Reach.{Reach}
-use Rattle.rules_base.specs.Parts.{and_then, only_if}
+use Rattle.rules_base.specs.Parts.{and_then}
 use Rattle.rules_base.specs.Places.{cell_of, field_at, field_place, from_stack, instance_field, is_nowhere, local_at, local_field, locals_size, object_cell, parameter_at, past, place_at, pointed, slot_size, stack_at}
 use Rattle.rules_laws.proofs.Options.{some_then, some_else, some_if, some_is, some_choice, anything}
 use Rattle.note_types.specs.Records.{IsNotes}
 use Rattle.note_types.specs.Known.{IsKnown, IsKnownCell, fields_of, locals_of, local_fields}
-use Rattle.std.specs.Option.{option_or}
 use Rattle.note_types.proofs.RecordLaws.{cells_known}
 
 -- what is known of a place

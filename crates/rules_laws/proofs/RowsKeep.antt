@@ -1,6 +1,6 @@
 -- What the rows of the instructions on data change is known, so the conditions on a state are kept.
-use Rattle.std.proofs.Common.{◌≡◌, ℕ, zero, suc, ◌^◌, ◌<◌, ◌≤◌, Bool, true, false, not, ◌&&◌, nat_lt, nat_eq, List, [], ◌∷◌, length, Option, None, Some, slice_get, if◌then◌else◌, refl, sym, subst, ap, arith, ℤ, pos}
-use Rattle.std.specs.Prelude.{IfSome, IfOk, ◌+ℤ◌, Result, Ok, Err, is_none, int_le, ⊤}
+use Rattle.std.proofs.Common.{◌≡◌, ℕ, zero, suc, ◌^◌, ◌<◌, ◌≤◌, Bool, true, false, ◌&&◌, nat_eq, List, [], ◌∷◌, Option, None, Some, slice_get, if◌then◌else◌, refl, sym, ap, arith, ℤ, pos}
+use Rattle.std.specs.Prelude.{IfSome, IfOk, ◌+ℤ◌, Result, Ok, Err, is_none, int_le}
 use Rattle.std.specs.Ordering.{int_eq}
 use Rattle.std.specs.List.{find, position}
 use Rattle.std.proofs.Math.Nat.{mod-le}
@@ -10,7 +10,7 @@ use Rattle.ebc_insn.specs.declared.ArithOp.{ArithOp}
 use Rattle.ebc_insn.specs.declared.CmpOp.{CmpOp}
 use Rattle.ebc_insn.specs.declared.Extra.{Extra}
 use Rattle.ebc_insn.specs.declared.Insn.{Insn}
-use Rattle.ebc_insn.specs.declared.Insn.TheVariants.{Compare, CompareImm, Arith, Move, MoveSigned, MoveImm, MoveImmNatural, MoveRelative, LoadSpecial, StoreSpecial}
+use Rattle.ebc_insn.specs.declared.Insn.TheVariants.{Compare, CompareImm, Arith, Move, MoveSigned, MoveImm, MoveImmNatural, MoveRelative, StoreSpecial}
 use Rattle.ebc_insn.specs.declared.Operand.{Operand}
 use Rattle.ebc_insn.specs.declared.Size.{Size}
 use Rattle.ebc_insn.specs.declared.Size.TheVariants as size
@@ -24,32 +24,24 @@ use Rattle.note_types.specs.declared.rule.RuleName.TheVariants as rule
 use Rattle.note_types.specs.declared.state.Fact.{Fact}
 use Rattle.note_types.specs.declared.state.State.{State}
 use Rattle.note_types.specs.declared.types.Ty.{Ty}
-use Rattle.note_types.specs.declared.types.Ty.TheVariants as ty
 use Rattle.rules_base.specs.declared.access.Access.{Access}
 use Rattle.rules_base.specs.declared.access.Access.TheVariants as access
-use Rattle.rules_base.specs.declared.access.Loaded.{Loaded}
-use Rattle.rules_base.specs.declared.change.Change.{Change}
 use Rattle.rules_base.specs.declared.change.Change.TheVariants as change
-use Rattle.rules_base.specs.declared.destination.Destination.{Destination}
-use Rattle.rules_base.specs.declared.destination.Destination.TheVariants.{Register, Memory}
 use Rattle.rules_base.specs.declared.here.Here.{Here}
 use Rattle.rules_base.specs.declared.operand.Distance.{Distance}
 use Rattle.rules_base.specs.declared.place.Place.{Place}
 use Rattle.rules_base.specs.declared.place.Place.TheVariants as place
-use Rattle.rules_base.specs.Access.{load_at, takes, target_at}
+use Rattle.rules_base.specs.Access.{load_at}
 use Rattle.rules_base.specs.Change.{changed}
 use Rattle.rules_base.specs.Destinations.{destination, put}
-use Rattle.rules_base.specs.Kept.{kept, kept_signed}
-use Rattle.rules_base.specs.Operands.{counted, index_distance, nowhere, with_immediate, with_index}
-use Rattle.rules_base.specs.Outcomes.{also, beside, gives_map, needs}
-use Rattle.rules_base.specs.Parts.{and_then, constant, wrap}
+use Rattle.rules_base.specs.Operands.{counted, index_distance, nowhere}
+use Rattle.rules_base.specs.Outcomes.{beside, gives_map, needs}
+use Rattle.rules_base.specs.Parts.{and_then, wrap}
 use Rattle.rules_base.specs.Places.{place_at}
-use Rattle.rules_base.specs.Sums.{lin, or_any}
-use Rattle.rules_base.specs.Things.{is_static_at, is_thunk_at, relocated, static_at, static_type, takes_address, thing_at, thunk_at, thunk_type}
+use Rattle.rules_base.specs.Sums.{or_any}
+use Rattle.rules_base.specs.Things.{is_static_at, is_thunk_at, static_at, static_type, takes_address, thing_at, thunk_at, thunk_type}
 use Rattle.rules_base.specs.Values.{form_access, operand_value, register_type}
-use Rattle.rules_data.specs.declared.rows.Held.{Held}
 use Rattle.rules_data.specs.Arithmetic.{computed_type, divisor_known}
-use Rattle.rules_data.specs.Compares.{compares}
 use Rattle.rules_data.specs.Data.{address_type, after_data, arith_row, compare_imm_row, compare_row, data_change, data_row, fact_of, flag, frame_value, held, left_operand, left_value, move_access, move_imm_row, move_index_row, move_relative_row, move_row, move_signed_row, move_value, plain_row, signed_value, special_type, store_special_row}
 use Rattle.rules_data.specs.Moves.{immediate, immediate_index, low_of, relative}
 use Rattle.rules_laws.proofs.LoadsKeep.{LoadKnown, RegistersKnown, load_at-known, operand_value-known, register_type-known}
@@ -60,8 +52,7 @@ use Rattle.rules_laws.proofs.StatesKeep.{ChangeKnown, changed_keeps, Destination
 use Rattle.rules_laws.proofs.SumsKeep.{any_known, constant_known, if_known, int_known, lin_known}
 use Rattle.rules_laws.proofs.DataKeep.{computed_type-known}
 use Rattle.note_types.specs.Records.{IsNotes}
-use Rattle.note_types.specs.Known.{IsKnown, IsState, local_fields, IsFact}
-use Rattle.ebc_base.specs.Steps.{or_else}
+use Rattle.note_types.specs.Known.{IsKnown, IsState, IsFact}
 use Rattle.note_types.proofs.RecordLaws.{params_known}
 
 -- ---- results

@@ -1,6 +1,5 @@
 -- Changes keep the conditions on a state.
-use Rattle.std.proofs.Common.{◌≡◌, ℕ, zero, suc, ◌<◌, ◌≤◌, Bool, true, false, nat_lt, nat_eq, List, [], ◌∷◌, Option, None, Some, slice_index_or, slice_set, if◌then◌else◌, length, refl, ◌∙◌, arith}
-use Rattle.note_types.specs.States.{type_of}
+use Rattle.std.proofs.Common.{◌≡◌, ℕ, zero, suc, ◌≤◌, Bool, true, false, nat_lt, nat_eq, List, [], ◌∷◌, Option, None, Some, slice_index_or, slice_set, if◌then◌else◌, length, refl, ◌∙◌, arith}
 use Rattle.note_types.specs.declared.notes.FnNote.{FnNote}
 use Rattle.note_types.specs.declared.notes.Notes.{Notes}
 use Rattle.note_types.specs.declared.state.Fact.{Fact}

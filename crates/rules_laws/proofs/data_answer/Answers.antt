@@ -1,5 +1,4 @@
-use Rattle.std.proofs.Common.{◌≡◌, subst, sym}
-use Rattle.std.specs.Prelude.{IfOk}
+use Rattle.std.proofs.Common.{subst, sym}
 use Rattle.rules_base.specs.Outcomes.{Gives}
 use Rattle.note_types.specs.declared.state.State.{State}
 use Rattle.rules_laws.specs.Exact.{DataFirst, DataRelated}

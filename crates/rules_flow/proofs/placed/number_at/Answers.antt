@@ -1,4 +1,4 @@
-use Rattle.std.proofs.Common.{rules, ◌≡◌, List, ap, sym, ◌∙◌, ltb, get_or}
+use Rattle.std.proofs.Common.{rules, List, ap, sym, ◌∙◌, ltb}
 use Rattle.std.proofs.lemmas.Bool.{ltb-true}
 use Rattle.std.proofs.lemmas.List.Sorted.{IsPartitionPoint-from_clause}
 use Rattle.rules_flow.proofs.Found.{Begins, at_the_end, found, missed, parts}
