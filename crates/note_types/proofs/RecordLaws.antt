@@ -1,4 +1,4 @@
--- What follows of notes that were read, in the form in which it is used.
+-- What follows from the conditions on notes, in the form in which it is used.
 use Rattle.std.proofs.Common.{◌≡◌, ℕ, ◌+◌, ◌^◌, ◌<◌, ◌≤◌, List, [], ◌∷◌, length, Option, None, Some, slice_get, count_by, if◌then◌else◌, subst, sym, refl, arith}
 use Rattle.std.specs.Prelude.{IfSome}
 use Rattle.std.proofs.lemmas.List.Sums.{sum_by-cons}

@@ -1,5 +1,5 @@
--- What holds of notes that were read: of each record, and of all together. docs/NOTES.md has it in words: the table of the
--- keys has the limits of numbers and lists, and "The conditions" the rest.
+-- The conditions on notes: on each record, and on all together. docs/NOTES.md has them in words: the table of the keys has
+-- the limits of numbers and lists, and "The conditions" the rest.
 use Rattle.std.specs.Prelude.{◌≡◌, ℕ, ◌+◌, ◌-◌, ◌*◌, ◌^◌, ◌<◌, ◌≤◌, Bool, true, ◌&&◌, nat_le, nat_lt, List, Option, Some, None, IfSome, length, map, slice_get, sum_by, ⊤}
 use Rattle.std.specs.List.{find}
 use Rattle.std.specs.List.Sorted.{IsStrictlyIncreasing}
@@ -169,7 +169,7 @@ pub record Ascends (notes : Notes) : Type 0 where
   pub points : IsStrictlyIncreasing (map (λ (p : Point). p.place) notes.point)
   pub sites : IsStrictlyIncreasing (map (λ (o : Site). o.place) notes.site)
 
--- What holds of all notes that the reader gives. Of shapes it doesn't say that they are well formed, nor anything of code.
+-- The conditions on notes, as docs/NOTES.md lists them. They don't ask that shapes are well formed, nor anything of code.
 pub record IsNotes (notes : Notes) : Type 0 where
   pub version : notes.version ≡ 1
   pub few : HasFewThings notes
