@@ -54,6 +54,6 @@ pub use types::Ty;
 pub use value::Value;
 
 #[cfg(test)]
-mod tests;
-#[cfg(test)]
 mod record_tests;
+#[cfg(test)]
+mod tests;

@@ -1,3 +1,4 @@
+pub mod DriverRows
 pub mod Numbers
 pub mod ReadingAlike
 pub mod WrittenFits

@@ -26,7 +26,7 @@ thing_hit first count k l =
     let x = first + area_step * k in
     let d : x - first ≡ k * 16 + 0 = omega arith in
     let t : (nat_le first x && (nat_lt (x - first) (area_step * count) && nat_eq ((x - first) % area_step) 0)) ≡ true =
-          and_from _ _ (le-leb first x (omega arith)) (and_from _ _ (lt-ltb _ _ (omega (arith, l))) (eq-eqb _ _ (ap (λ q. q % 16) d ∙ mod-mul-add k 16 0 (omega arith)))) in
+    and_from _ _ (le-leb first x (omega arith)) (and_from _ _ (lt-ltb _ _ (omega (arith, l))) (eq-eqb _ _ (ap (λ q. q % 16) d ∙ mod-mul-add k 16 0 (omega arith)))) in
     ap (λ b. if b then Some ((x - first) / area_step) else None) t ∙ ap Some (ap (λ q. q / 16) d ∙ div-mul-add k 16 0 (omega arith))
 
 -- an instance begins so many sizes on
@@ -38,15 +38,15 @@ instance_hit base size count (suc i) p l =
     let more : suc i * size ≡ size + i * size = omega arith in
     let d : x - base ≡ suc i * size + 0 = omega arith in
     let t : (nat_lt base x && (nat_lt (x - base) (count * size) && nat_eq ((x - base) % size) 0)) ≡ true =
-          and_from _ _ (lt-ltb base x (omega (arith, more, p))) (and_from _ _ (lt-ltb _ _ (omega (arith, row, p))) (eq-eqb _ _ (ap (λ q. q % size) d ∙ mod-mul-add (suc i) size 0 p))) in
+    and_from _ _ (lt-ltb base x (omega (arith, more, p))) (and_from _ _ (lt-ltb _ _ (omega (arith, row, p))) (eq-eqb _ _ (ap (λ q. q % size) d ∙ mod-mul-add (suc i) size 0 p))) in
     ap (λ b. if b then Some 0 else (if nat_lt base x && (nat_lt (x - base) (count * size) && nat_eq ((x - base) % size) 0) then Some ((x - base) / size) else None)) (ne_eqb x base (λ e. omega (arith, e, more, p)))
-      ∙ ap (λ b. if b then Some ((x - base) / size) else None) t ∙ ap Some (ap (λ q. q / size) d ∙ div-mul-add (suc i) size 0 p)
+    ∙ ap (λ b. if b then Some ((x - base) / size) else None) t ∙ ap Some (ap (λ q. q / size) d ∙ div-mul-add (suc i) size 0 p)
 
 -- no instance begins outside
 instance_miss : (base size count x : ℕ) → 0 < count * size → (x < base) ⊎ (base + count * size ≤ x) → instance_at base size count x ≡ None
 instance_miss base size count x p out =
     ap (λ b. if b then Some 0 else (if nat_lt base x && (nat_lt (x - base) (count * size) && nat_eq ((x - base) % size) 0) then Some ((x - base) / size) else None)) (ne_eqb x base (λ e. ⊎_elim (λ l. omega (arith, l, e)) (λ l. omega (arith, l, e, p)) out))
-      ∙ go (nat_lt base x && (nat_lt (x - base) (count * size) && nat_eq ((x - base) % size) 0)) refl
+    ∙ go (nat_lt base x && (nat_lt (x - base) (count * size) && nat_eq ((x - base) % size) 0)) refl
   where
     go : (b : Bool) → (nat_lt base x && (nat_lt (x - base) (count * size) && nat_eq ((x - base) % size) 0)) ≡ b → (if b then Some ((x - base) / size) else None) ≡ None
     go true e =
@@ -58,7 +58,6 @@ instance_miss base size count x p out =
     go false e = refl
 
 module _ (w : ℕ) (notes : Notes) (P : Placement) (made : List TypedObject) (A : Addresses) (ok : Named w notes P made A) where
-
   word64 : 2 ^ (8 * w) ≤ 2 ^ 64
   word64 = width_word w ok.width
 
@@ -80,26 +79,26 @@ module _ (w : ℕ) (notes : Notes) (P : Placement) (made : List TypedObject) (A 
 
   -- the search over the objects from number j on finds the one that has an instance there, where no other one has
   found : (k i x : ℕ) (o : TypedObject) (os : List TypedObject) (j m : ℕ) → slice_get os m ≡ Some o → j + m ≡ k → begins k o x ≡ Some i
-    → ((l : ℕ) (p : TypedObject) → slice_get os l ≡ Some p → j + l ≢ k → begins (j + l) p x ≡ None) → pointer_from w notes P j os x ≡ Some (value.Ptr k i)
+      → ((l : ℕ) (p : TypedObject) → slice_get os l ≡ Some p → j + l ≢ k → begins (j + l) p x ≡ None) → pointer_from w notes P j os x ≡ Some (value.Ptr k i)
   unfolding begins pointer_from
   found k i x o [] j m g e hit miss = absurd (cc)
   found k i x o (p ∷ os) j zero g e hit miss =
       let at : j ≡ k = omega (arith, e) in
       let here : p ≡ o = same_Some p o g in
       ap (λ q. option_or (option_map (λ y. value.Ptr j y) q) (pointer_from w notes P (suc j) os x))
-          (ap₂ (λ y (z : TypedObject). instance_at (object_at notes P y) (shape_bytes w notes z.shape) z.count x) at here ∙ hit)
-        ∙ ap (λ y. Some (value.Ptr y i)) at
+      (ap₂ (λ y (z : TypedObject). instance_at (object_at notes P y) (shape_bytes w notes z.shape) z.count x) at here ∙ hit)
+      ∙ ap (λ y. Some (value.Ptr y i)) at
   found k i x o (p ∷ os) j (suc m) g e hit miss =
       let none : instance_at (object_at notes P j) (shape_bytes w notes p.shape) p.count x ≡ None =
-            ap (λ y. instance_at (object_at notes P y) (shape_bytes w notes p.shape) p.count x) (let z : j ≡ j + 0 = omega arith in z) ∙ miss 0 p refl (λ q. omega (arith, q, e)) in
+      ap (λ y. instance_at (object_at notes P y) (shape_bytes w notes p.shape) p.count x) (let z : j ≡ j + 0 = omega arith in z) ∙ miss 0 p refl (λ q. omega (arith, q, e)) in
       ap (λ q. option_or (option_map (λ y. value.Ptr j y) q) (pointer_from w notes P (suc j) os x)) none
-        ∙ found k i x o os (suc j) m g (omega (arith, e)) hit
-            (λ l q h n. let z : suc j + l ≡ j + suc l = omega arith in
-              ap (λ y. instance_at (object_at notes P y) (shape_bytes w notes q.shape) q.count x) z ∙ miss (suc l) q h (λ y. n (z ∙ y)))
+      ∙ found k i x o os (suc j) m g (omega (arith, e)) hit
+      (λ l q h n. let z : suc j + l ≡ j + suc l = omega arith in
+      ap (λ y. instance_at (object_at notes P y) (shape_bytes w notes q.shape) q.count x) z ∙ miss (suc l) q h (λ y. n (z ∙ y)))
 
   -- an instance's address is read as the instance
   pointer_is : (k i : ℕ) (o : TypedObject) → slice_get made k ≡ Some o → i < o.count
-    → pointer_from w notes P 0 made (object_at notes P k + i * shape_bytes w notes o.shape) ≡ Some (value.Ptr k i)
+      → pointer_from w notes P 0 made (object_at notes P k + i * shape_bytes w notes o.shape) ≡ Some (value.Ptr k i)
   unfolding begins
   pointer_is k i o g l =
       let z = shape_bytes w notes o.shape in
@@ -107,11 +106,11 @@ module _ (w : ℕ) (notes : Notes) (P : Placement) (made : List TypedObject) (A 
       let row = row_fits i z o.count z l (le_refl _) in
       let p = takes k o g in
       found k i x o made 0 k g (omega arith) (instance_hit (object_at notes P k) z o.count i p l)
-          (λ j q h n.
-            let zj : 0 + j ≡ j = omega arith in
-            ap (λ y. instance_at (object_at notes P y) (shape_bytes w notes q.shape) q.count x) zj
-              ∙ instance_miss (object_at notes P j) (shape_bytes w notes q.shape) q.count x (all_bytes j q h)
-                  (⊎_elim (λ a. inr (omega (arith, a))) (λ a. inl (omega (arith, a, row, p))) (ok.apart j k q o h g (λ e. n (zj ∙ e)))))
+      (λ j q h n.
+      let zj : 0 + j ≡ j = omega arith in
+      ap (λ y. instance_at (object_at notes P y) (shape_bytes w notes q.shape) q.count x) zj
+      ∙ instance_miss (object_at notes P j) (shape_bytes w notes q.shape) q.count x (all_bytes j q h)
+      (⊎_elim (λ a. inr (omega (arith, a))) (λ a. inl (omega (arith, a, row, p))) (ok.apart j k q o h g (λ e. n (zj ∙ e)))))
 
   -- ---- sorts
 
@@ -165,7 +164,7 @@ module _ (w : ℕ) (notes : Notes) (P : Placement) (made : List TypedObject) (A 
 
   -- what an address past an object that is read as an instance is
   instance_is : (k n c x : ℕ) (t : Value) (o : TypedObject) → slice_get made k ≡ Some o
-    → option_map as_pointer (starts_at notes k n c o) ≡ Some t → IsPast (A.anchor (ObjectOf k)) (n * w + c) x → IsInstance k x t
+      → option_map as_pointer (starts_at notes k n c o) ≡ Some t → IsPast (A.anchor (ObjectOf k)) (n * w + c) x → IsInstance k x t
   instance_is k n c x t o there e past =
       let s = shape_of notes o.shape in
       let i = instance_in s n c in
@@ -181,16 +180,20 @@ module _ (w : ℕ) (notes : Notes) (P : Placement) (made : List TypedObject) (A 
       let inside = ok.within k o there in
       let units : i * s.n * w + i * s.c ≡ i * z = omega arith in
       record {
-        object = o; i = i; there = there; inside = l; text = p.1;
+        object = o;
+        i = i;
+        there = there;
+        inside = l;
+        text = p.1;
         at =
-          past.is ∙ ap (λ y. word (y + (n * w + c))) from ∙ ap₂ (λ a b. word (base + (a * w + b))) (eqb-true _ _ r.0) (eqb-true _ _ r.1)
+            past.is ∙ ap (λ y. word (y + (n * w + c))) from ∙ ap₂ (λ a b. word (base + (a * w + b))) (eqb-true _ _ r.0) (eqb-true _ _ r.1)
             ∙ word_pair w ok.width (i * s.n) (i * s.c) base ∙ ap (λ y. word (base + y)) units
             ∙ mod-eq_of_lt (omega (arith, row, inside.1, word64, takes k o there));
       }
 
   instance_by_object : (k n c x : ℕ) (t : Value) (q : Option TypedObject) → slice_get made k ≡ q
-    → option_map as_pointer (starts_if notes k n c q) ≡ Some t
-    → IsPast (A.anchor (ObjectOf k)) (n * w + c) x → IsInstance k x t
+      → option_map as_pointer (starts_if notes k n c q) ≡ Some t
+      → IsPast (A.anchor (ObjectOf k)) (n * w + c) x → IsInstance k x t
   instance_by_object k n c x t None there e past = absurd (cc)
   instance_by_object k n c x t (Some o) there e past = instance_is k n c x t o there e past
 
@@ -198,7 +201,7 @@ module _ (w : ℕ) (notes : Notes) (P : Placement) (made : List TypedObject) (A 
   unfolding reading_of
   instance_read k x t h =
       ap (or_wild x) (not_null x (pointer_from w notes P 0 made x) (within k x t h).0)
-        ∙ ap (or_wild x) (ap (pointer_from w notes P 0 made) h.at ∙ pointer_is k h.i h.object h.there h.inside) ∙ h.text
+      ∙ ap (or_wild x) (ap (pointer_from w notes P 0 made) h.at ∙ pointer_is k h.i h.object h.there h.inside) ∙ h.text
 
   pointer_alike : (v : Neutral) (x : ℕ) (t : Value) → neutral_reading notes made Pointer v ≡ Some t → Shows w A v x → reading_of w notes P made Pointer x ≡ t
   unfolding neutral_reading reading_of instance_of
@@ -217,7 +220,7 @@ module _ (w : ℕ) (notes : Notes) (P : Placement) (made : List TypedObject) (A 
   thing_is : (first count k x : ℕ) (F : ℕ → Value) → k < count → x ≡ first + area_step * k → 0 < first → or_wild x (or_null x (option_map F (thing_at first count x))) ≡ F k
   thing_is first count k x F l e p =
       ap (or_wild x) (not_null x (option_map F (thing_at first count x)) (omega (arith, e, p)))
-        ∙ ap (λ q. or_wild x (option_map F q)) (ap (thing_at first count) e ∙ thing_hit first count k l)
+      ∙ ap (λ q. or_wild x (option_map F q)) (ap (thing_at first count) e ∙ thing_hit first count k l)
 
   handle_alike : (v : Neutral) (x : ℕ) (t : Value) → neutral_reading notes made HandleOf v ≡ Some t → Shows w A v x → reading_of w notes P made HandleOf x ≡ t
   unfolding neutral_reading reading_of
@@ -240,7 +243,7 @@ module _ (w : ℕ) (notes : Notes) (P : Placement) (made : List TypedObject) (A 
   method_alike (Method k) x t e s =
       let h = ok.method k x s in
       ap (λ q. or_wild x (option_map value.Method q)) (ap (thing_at (method_at P 0) (length notes.methods)) (h.1 ∙ omega arith) ∙ thing_hit (method_at P 0) (length notes.methods) k h.0)
-        ∙ same_Some (value.Method k) t e
+      ∙ same_Some (value.Method k) t e
   method_alike _ x t e s = absurd (cc)
 
   -- a status with its error bit
@@ -250,9 +253,9 @@ module _ (w : ℕ) (notes : Notes) (P : Placement) (made : List TypedObject) (A 
       let big : nat_lt (bit + k) (2 ^ 31) ≡ false = not_lt _ _ (by_width (λ v. 2 ^ 31 ≤ 2 ^ (8 * v - 1) + k) w ok.width (omega arith) (omega arith)) in
       let d : bit + k - bit ≡ k = omega arith in
       ap (λ b. if b then Some (value.StatusOk (bit + k)) else (if nat_le bit (bit + k) && nat_lt (bit + k - bit) (2 ^ 31) then Some (value.StatusError (bit + k - bit)) else None)) big
-        ∙ ap (λ b. if b && nat_lt (bit + k - bit) (2 ^ 31) then Some (value.StatusError (bit + k - bit)) else None) (le-leb bit (bit + k) (omega arith))
-        ∙ ap (λ y. if nat_lt y (2 ^ 31) then Some (value.StatusError y) else None) d
-        ∙ ap (λ b. if b then Some (value.StatusError k) else None) (lt-ltb k (2 ^ 31) l)
+      ∙ ap (λ b. if b && nat_lt (bit + k - bit) (2 ^ 31) then Some (value.StatusError (bit + k - bit)) else None) (le-leb bit (bit + k) (omega arith))
+      ∙ ap (λ y. if nat_lt y (2 ^ 31) then Some (value.StatusError y) else None) d
+      ∙ ap (λ b. if b then Some (value.StatusError k) else None) (lt-ltb k (2 ^ 31) l)
 
   status_alike : (v : Neutral) (x : ℕ) (t : Value) → neutral_reading notes made StatusOf v ≡ Some t → Shows w A v x → reading_of w notes P made StatusOf x ≡ t
   unfolding neutral_reading reading_of
@@ -260,8 +263,8 @@ module _ (w : ℕ) (notes : Notes) (P : Placement) (made : List TypedObject) (A 
       let p = if_some (nat_eq n 0 && nat_lt (word c) (2 ^ 31)) (value.StatusOk (word c)) t e in
       let q = and_parts (nat_eq n 0) (nat_lt (word c) (2 ^ 31)) p.0 in
       ap (λ y. or_wild y (status_read w y)) (plain_is n c x (eqb-true n 0 q.0) s)
-        ∙ ap (λ b. or_wild (word c) (if b then Some (value.StatusOk (word c)) else (if nat_le (2 ^ (8 * w - 1)) (word c) && nat_lt (word c - 2 ^ (8 * w - 1)) (2 ^ 31) then Some (value.StatusError (word c - 2 ^ (8 * w - 1))) else None))) q.1
-        ∙ p.1
+      ∙ ap (λ b. or_wild (word c) (if b then Some (value.StatusOk (word c)) else (if nat_le (2 ^ (8 * w - 1)) (word c) && nat_lt (word c - 2 ^ (8 * w - 1)) (2 ^ 31) then Some (value.StatusError (word c - 2 ^ (8 * w - 1))) else None))) q.1
+      ∙ p.1
   status_alike (Error k) x t e s = ap (λ y. or_wild y (status_read w y)) s.1 ∙ ap (or_wild (2 ^ (8 * w - 1) + k)) (error_read k s.0) ∙ same_Some (value.StatusError k) t e
   status_alike _ x t e s = absurd (cc)
 

@@ -18,7 +18,6 @@ use Rattle.run_types.specs.Values.{Neutral, At, ObjectOf, Method, Junk, null, wo
 use Rattle.run_types.specs.Written.{value_as, written_value, instance_of}
 
 module _ (notes : Notes) (made : List TypedObject) where
-
   number_fits : (lo hi div : ℕ) (v : Value) → fits_range lo hi div v ≡ true → IsNumber lo hi div (written_value notes made v)
   unfolding written_value
   number_fits lo hi div (value.Int n) h =
@@ -29,7 +28,7 @@ module _ (notes : Notes) (made : List TypedObject) where
 
   -- an instance of a shape with so many from there on
   instance_fits : (s count o i : ℕ) (q : Option TypedObject) → slice_get made o ≡ q → option_map_or (has_instances s count i) q false ≡ true
-    → IsPointer notes made s count (pos 0) (pos 0) (option_map_or (λ (x : TypedObject). instance_of o i (shape_of notes x.shape)) q Junk)
+      → IsPointer notes made s count (pos 0) (pos 0) (option_map_or (λ (x : TypedObject). instance_of o i (shape_of notes x.shape)) q Junk)
   instance_fits s count o i None there h = absurd (cc)
   instance_fits s count o i (Some x) there h =
       let a = and_parts (nat_eq x.shape s) (nat_le (i + count) x.count) h in
@@ -37,7 +36,9 @@ module _ (notes : Notes) (made : List TypedObject) where
       let units : i * (shape_of notes x.shape).n ≡ i * (shape_of notes s).n + 0 = ap (λ y. i * (shape_of notes y).n) same ∙ omega arith in
       let bytes : i * (shape_of notes x.shape).c ≡ i * (shape_of notes s).c + 0 = ap (λ y. i * (shape_of notes y).c) same ∙ omega arith in
       record {
-        k = o; j = i; object = x;
+        k = o;
+        j = i;
+        object = x;
         is = ap₂ (λ y z. At (ObjectOf o) (word y) (word z)) units bytes;
         there = there;
         shape = same;
@@ -49,7 +50,7 @@ module _ (notes : Notes) (made : List TypedObject) where
   either false v p = p
 
   start_fits : (s count : ℕ) (may : Bool) (v : Value) → fits_pointer made s count may v ≡ true
-    → OrNull may (written_value notes made v) (IsPointer notes made s count (pos 0) (pos 0) (written_value notes made v))
+      → OrNull may (written_value notes made v) (IsPointer notes made s count (pos 0) (pos 0) (written_value notes made v))
   unfolding written_value
   start_fits s count may (value.Ptr o i) h = either may _ (instance_fits s count o i (slice_get made o) refl h)
   start_fits s count true value.Null h = inr refl
@@ -57,15 +58,15 @@ module _ (notes : Notes) (made : List TypedObject) where
   start_fits s count may _ h = absurd (cc)
 
   pointer_fits : (s count : ℕ) (n c : ℤ) (may : Bool) (v : Value) → (is_start n c && fits_pointer made s count may v) ≡ true
-    → OrNull may (written_value notes made v) (IsPointer notes made s count n c (written_value notes made v))
+      → OrNull may (written_value notes made v) (IsPointer notes made s count n c (written_value notes made v))
   pointer_fits s count n c may v h =
       let a = and_parts (is_start n c) (fits_pointer made s count may v) h in
       let b = and_parts (int_eq n (pos 0)) (int_eq c (pos 0)) a.0 in
       let units : n ≡ pos 0 = (Decides-int_eq n (pos 0)).0 b.0 in
       let bytes : c ≡ pos 0 = (Decides-int_eq c (pos 0)).0 b.1 in
       subst (λ m. OrNull may (written_value notes made v) (IsPointer notes made s count m c (written_value notes made v))) (sym units)
-        (subst (λ d. OrNull may (written_value notes made v) (IsPointer notes made s count (pos 0) d (written_value notes made v))) (sym bytes)
-          (start_fits s count may v a.1))
+      (subst (λ d. OrNull may (written_value notes made v) (IsPointer notes made s count (pos 0) d (written_value notes made v))) (sym bytes)
+      (start_fits s count may v a.1))
 
   status_fits : (v : Value) → is_status v ≡ true → IsError (written_value notes made v) ⊎ IsSuccess (written_value notes made v)
   unfolding written_value

@@ -16,14 +16,13 @@ use Rattle.run_types.specs.WrittenLaw.{IsValue, WrittenShows}
 use Rattle.run_types.proofs.Numbers.{word_pair}
 
 module _ (w : ℕ) (notes : Notes) (P : Placement) (made : List TypedObject) (A : Addresses) (ok : Named w notes P made A) where
-
   -- a plain number shows as itself
   pub plain_shows : (n : ℕ) → n < 2 ^ 64 → Shows w A (number n) n
   plain_shows n l = sym (ap (λ z. z % 2 ^ 64) (let e : 0 * w + n ≡ n = omega arith in e) ∙ mod-eq_of_lt l)
 
   -- an instance of an object shows as its address
   instance_shows : (o i : ℕ) (x : TypedObject) → slice_get made o ≡ Some x
-    → Shows w A (instance_of o i (shape_of notes x.shape)) (word (object_at notes P o + i * shape_bytes w notes x.shape))
+      → Shows w A (instance_of o i (shape_of notes x.shape)) (word (object_at notes P o + i * shape_bytes w notes x.shape))
   instance_shows o i x there =
       let s = shape_of notes x.shape in
       let pair : object_at notes P o + i * size_at w s ≡ object_at notes P o + (i * s.n * w + i * s.c) = omega arith in
@@ -34,8 +33,8 @@ module _ (w : ℕ) (notes : Notes) (P : Placement) (made : List TypedObject) (A 
       }
 
   pointer_in : (o i : ℕ) (q : Option TypedObject) → slice_get made o ≡ q
-    → Shows w A (option_map_or (λ (x : TypedObject). instance_of o i (shape_of notes x.shape)) q Junk)
-        ((object_at notes P o + i * option_map_or (λ (y : TypedObject). shape_bytes w notes y.shape) q 0) % 2 ^ 64)
+      → Shows w A (option_map_or (λ (x : TypedObject). instance_of o i (shape_of notes x.shape)) q Junk)
+      ((object_at notes P o + i * option_map_or (λ (y : TypedObject). shape_bytes w notes y.shape) q 0) % 2 ^ 64)
   pointer_in o i None there = tt
   pointer_in o i (Some x) there = instance_shows o i x there
 

@@ -51,7 +51,7 @@ slots_of world a g = neutral_slots world.notes (objects_at world a) (signature_p
 abbrev pub asking_by : World → Config → Neutral → ℕ → Option Asking
 asking_by world a target g =
     if is_method_value (signature_method world.notes g) target then
-      option_map (Asks g None) (option_and_then (neutral_arguments world.notes (objects_at world a) a.frames a.cells (signature_params world.notes g)) (slots_of world a g))
+    option_map (Asks g None) (option_and_then (neutral_arguments world.notes (objects_at world a) a.frames a.cells (signature_params world.notes g)) (slots_of world a g))
     else None
 
 -- what a call instruction at a place asks for
@@ -67,8 +67,8 @@ writes_there world a entry =
 unfoldable pub result_of : World → Config → ℕ → Option Value
 result_of world a f =
     neutral_result world.notes (objects_at world a)
-      (option_map_or (λ (g : FnNote). sort_of_type g.result) (slice_get world.notes.function f) (sort_of_type ty.Any))
-      (a.registers 7)
+    (option_map_or (λ (g : FnNote). sort_of_type g.result) (slice_get world.notes.function f) (sort_of_type ty.Any))
+    (a.registers 7)
 
 -- no host frame is among these
 abbrev pub is_last : List HostFrame → Bool
@@ -133,8 +133,8 @@ entered world a f params =
       c = false;
       spot = spot.Place (place_of world.notes f);
       frames = Function (record { func = f; ret = 0; saved = a.registers; items = [] })
-        ∷ Host (record { func = f; notified = false; saved = a.registers; c = a.c; spot = a.spot; params = params; call = NoCall })
-        ∷ a.frames;
+          ∷ Host (record { func = f; notified = false; saved = a.registers; c = a.c; spot = a.spot; params = params; call = NoCall })
+          ∷ a.frames;
     }
 
 -- the configuration once its top host frame is left: R1 to R6, C and the spot as they were
@@ -171,8 +171,8 @@ performed world a (Accepts e entry objects stores) =
     }
 performed world a (Enters e entry f values) =
     entered world
-      (record a { frames = with_call (one_callback (call_under_way a.frames)) a.frames; trace = a.trace ++ e ∷ [] })
-      f (param_slots world.notes (objects_at world a) (function_params world.notes f) values)
+    (record a { frames = with_call (one_callback (call_under_way a.frames)) a.frames; trace = a.trace ++ e ∷ [] })
+    f (param_slots world.notes (objects_at world a) (function_params world.notes f) values)
 performed world a (Replies e stores kind v) =
     let made = objects_at world a in
     record a {

@@ -74,7 +74,7 @@ neutral_result notes made sort v = neutral_reading notes made sort v
 abbrev pub local_named : List Frame → Cell → Neutral → Option CellPlace
 local_named frames cell (At (LocalOf d f) n c) =
     option_and_then (λ (x : Field). when (nat_eq n 0 && (nat_eq c 0 && same_cell x.cell cell)) (FieldOfLocals d f))
-      (option_and_then (λ (s : Shape). slice_get s.fields f) (locals_at frames d))
+    (option_and_then (λ (s : Shape). slice_get s.fields f) (locals_at frames d))
 local_named frames cell _ = None
 
 -- how a cell is loaded

@@ -42,7 +42,7 @@ bare_config world statics =
 unfoldable pub neutral_start : World → Cells → Config
 neutral_start world statics =
     entered world (bare_config world statics) world.notes.entry
-      (param_slots world.notes (made_objects world.notes world.script 0) (function_params world.notes world.notes.entry) world.script.args)
+    (param_slots world.notes (made_objects world.notes world.script 0) (function_params world.notes world.notes.entry) world.script.args)
 
 -- ---- steps
 

@@ -42,13 +42,7 @@ fn fits_range(lo: u64, hi: u64, div: u64, value: &Value) -> bool
     }
 }
 
-fn fits_pointer(
-    made: &[TypedObject],
-    shape: u32,
-    count: u64,
-    null: bool,
-    value: &Value,
-) -> bool
+fn fits_pointer(made: &[TypedObject], shape: u32, count: u64, null: bool, value: &Value) -> bool
     ensures { result ≡ fits_pointer made.now shape count null value.now }
 {
     match *value {
