@@ -2,7 +2,6 @@
 //! 64 bits (UEFI specification, chapter "EFI Byte Code Virtual Machine", section "EBC Instruction Set").
 #![tactic(auto)]
 
-
 ghost use Rattle.std.specs.Prelude.{◌≡◌, ◌<◌, ◌^◌, ◌*ℤ◌, ◌↔◌, IsTrue, IsErr};
 ghost use Rattle.machine_alu.specs.Alu.{bits_of, low, signed, wrap, shifted, outcome, divides_by_zero, computed, compared};
 
