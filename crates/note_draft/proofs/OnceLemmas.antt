@@ -1,8 +1,8 @@
 -- Names that were numbered, and the first repeat beside another one.
 use Rattle.std.proofs.Common.{◌≡◌, ℕ, List, Option, Some, None, Bool, true, false, Ok, cond, refl}
 use Rattle.std.specs.Prelude.{bytes_eq, nat_le}
-use Rattle.note_types.specs.declared.fault.TomlFault.TheVariants.{Twice}
-use Rattle.note_texts.specs.Outcome.{◌>>=◌}
+use Rattle.note_draft.specs.declared.finding.Refusal.TheVariants.{Twice}
+use Rattle.ebc_base.specs.Steps.{◌>>=◌}
 use Rattle.note_draft.specs.declared.finding.Finding.{Finding}
 use Rattle.note_draft.specs.declared.finding.Key.TheVariants as key
 use Rattle.note_draft.specs.declared.finding.TableList.{TableList}

@@ -5,7 +5,6 @@ use Rattle.std.proofs.lemmas.List.{get_or-map, length-map, take-map, take_all, t
 use Rattle.std.proofs.lemmas.Option.{slice_get-get_or}
 use Rattle.std.specs.Prelude.{None, Some, is_some, if◌then◌else◌, nat_le, not, slice_get}
 use Rattle.std.specs.List.{find, list_any, range_with_len}
-use Rattle.note_draft.proofs.NameLaws.{list_any-map}
 use Rattle.note_draft.specs.Repeats.{repeats, first_repeat, has_repeat, descends, first_descent}
 
 -- ---- a search over numbers
@@ -56,10 +55,6 @@ pub repeats-at : {T : Type 0} (same : T → T → Bool) (xs : List T) (i : ℕ) 
 repeats-at same xs i x within is =
     let e : slice_get xs i ≡ Some x = slice_get-get_or xs i x within ∙ ap Some (sym is) in
     rw e refl
-
--- a test of the images of the first items
-list_any-take-map : {A T : Type 0} (p : T → Bool) (v : A → T) (items : List A) (i : ℕ) → list_any p (take i (map v items)) ≡ list_any (λ z. p (v z)) (take i items)
-list_any-take-map p v items i = ap (list_any p) (take-map v i items) ∙ sym (list_any-map p v (take i items))
 
 -- the same of the images of a list's items
 pub repeats-map : {A T : Type 0} (same : T → T → Bool) (v : A → T) (items : List A) (i : ℕ) (x : A) → i < length items → x ≡ get_or items i x → repeats same (map v items) i ≡ list_any (same (v x)) (take i (map v items))
@@ -119,22 +114,16 @@ IsSeen-all same v items seen i covers all =
 
 -- ---- has_repeat
 
-pub has_repeat-some : {A T : Type 0} (same : T → T → Bool) (v : A → T) (items : List A) (i : ℕ) (x : A) → i < length items → x ≡ get_or items i x → AreNewBelow same (map v items) i → list_any (λ z. same (v x) (v z)) (take i items) ≡ true → has_repeat same (map v items) ≡ true
+pub has_repeat-some : {A : Type 0} (same : A → A → Bool) (items : List A) (i : ℕ) (x : A) → i < length items → x ≡ get_or items i x → AreNewBelow same items i → list_any (same x) (take i items) ≡ true → has_repeat same items ≡ true
 unfolding has_repeat
-has_repeat-some same v items i x within is before seen =
-    let n : length (map v items) ≡ length items = length-map items v in
-    let here : repeats same (map v items) i ≡ true = repeats-map same v items i x within is ∙ (list_any-take-map (same (v x)) v items i ∙ seen) in
-    ap is_some (first_repeat-some same (map v items) i (omega arith) before here)
+has_repeat-some same items i x within is before seen = ap is_some (first_repeat-some same items i within before (repeats-at same items i x within is ∙ seen))
 
-pub AreNewBelow-map-more : {A T : Type 0} (same : T → T → Bool) (v : A → T) (items : List A) (i : ℕ) (x : A) → i < length items → x ≡ get_or items i x → AreNewBelow same (map v items) i → list_any (λ z. same (v x) (v z)) (take i items) ≡ false → AreNewBelow same (map v items) (i + 1)
-AreNewBelow-map-more same v items i x within is before absent =
-    AreNewBelow-more same (map v items) i before (repeats-map same v items i x within is ∙ (list_any-take-map (same (v x)) v items i ∙ absent))
+pub AreNewBelow-next : {A : Type 0} (same : A → A → Bool) (items : List A) (i : ℕ) (x : A) → i < length items → x ≡ get_or items i x → AreNewBelow same items i → list_any (same x) (take i items) ≡ false → AreNewBelow same items (i + 1)
+AreNewBelow-next same items i x within is before absent = AreNewBelow-more same items i before (repeats-at same items i x within is ∙ absent)
 
-pub has_repeat-none : {A T : Type 0} (same : T → T → Bool) (v : A → T) (items : List A) (i : ℕ) → length items ≤ i → AreNewBelow same (map v items) i → has_repeat same (map v items) ≡ false
+pub has_repeat-none : {A : Type 0} (same : A → A → Bool) (items : List A) (i : ℕ) → length items ≤ i → AreNewBelow same items i → has_repeat same items ≡ false
 unfolding has_repeat
-has_repeat-none same v items i covers all =
-    let n : length (map v items) ≡ length items = length-map items v in
-    ap is_some (first_repeat-none same (map v items) (λ k h. all k (omega arith)))
+has_repeat-none same items i covers all = ap is_some (first_repeat-none same items (λ k h. all k (omega arith)))
 
 -- ---- places that don't ascend
 

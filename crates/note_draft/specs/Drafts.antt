@@ -1,10 +1,10 @@
--- What the tables of notes stand for, each by the path before its keys, and what the whole text stands for, with the names
--- not yet numbered but those of the methods; or the first fault in it, key by key. docs/NOTES.md has it in words.
-use Rattle.std.specs.Prelude.{ℕ, ◌+◌, ◌-◌, ◌^◌, List, [], ◌∷◌, ◌++◌, Result, Ok, codes, nat_lt}
+-- What the tables of notes stand for, each by the path before its keys, and what the whole text stands for, things by their
+-- names; or the first fault in it, key by key. docs/NOTES.md has it in words.
+use Rattle.std.specs.Prelude.{ℕ, ◌+◌, ◌-◌, ◌^◌, Bool, ◌||◌, List, [], ◌∷◌, ◌++◌, length, Result, Ok, codes, nat_lt}
 use Rattle.toml.specs.Data.{Data, Items, no_items, item, Members}
 use Rattle.note_types.specs.declared.fault.TomlFault.{TomlFault}
 use Rattle.note_types.specs.declared.fault.TomlFault.TheVariants.{Range}
-use Rattle.note_texts.specs.Outcome.{◌>>=◌, passes}
+use Rattle.ebc_base.specs.Steps.{◌>>=◌, passes}
 use Rattle.note_texts.specs.Keys.{number_at, text_at, optional_text_at, flag_at, pair_at, only_keys, row_prefix}
 use Rattle.note_texts.specs.Lists.{list_at, texts_at, texts_beside_at, table_of, tables_at}
 use Rattle.note_texts.specs.CellTexts.{field_of}
@@ -19,8 +19,13 @@ use Rattle.note_draft.specs.declared.draft.FunctionDraft.{FunctionDraft}
 use Rattle.note_draft.specs.declared.draft.PointDraft.{PointDraft}
 use Rattle.note_draft.specs.declared.draft.SignatureDraft.{SignatureDraft}
 use Rattle.note_draft.specs.declared.draft.SiteDraft.{SiteDraft}
-use Rattle.note_draft.specs.declared.draft.NotesReading.{NotesReading}
-use Rattle.note_draft.specs.Names.{place_of, with_name}
+use Rattle.note_draft.specs.declared.reading.CallLists.{CallLists}
+use Rattle.note_draft.specs.declared.reading.CodeLists.{CodeLists}
+use Rattle.note_draft.specs.declared.reading.DataLists.{DataLists}
+use Rattle.note_draft.specs.declared.reading.Extent.{Extent}
+use Rattle.note_draft.specs.declared.reading.Interface.{Interface}
+use Rattle.note_draft.specs.declared.draft.NotesDraft.{NotesDraft}
+use Rattle.note_draft.specs.Names.{distinct, is_named}
 
 -- the greatest place in an image
 abbrev pub last_place : ℕ
@@ -64,20 +69,32 @@ thunk_of prefix table = do
 abbrev pub function_keys : List (List ℕ)
 function_keys = codes "name" ∷ codes "place" ∷ codes "end" ∷ codes "level" ∷ codes "need" ∷ codes "locals" ∷ codes "params" ∷ codes "result" ∷ codes "enter" ∷ []
 
--- a table of the list `function`
-unfoldable pub function_of : List ℕ → Members → Result FunctionDraft TomlFault
-function_of prefix table = do
-  name ← text_at name_of prefix (codes "name") table
+-- where a function's code lies, and how deep its calls and its stack go
+unfoldable pub extent_of : List ℕ → Members → Result Extent TomlFault
+extent_of prefix table = do
   place ← number_at prefix (codes "place") 0 last_place table
   end ← number_at prefix (codes "end") 0 (last_place + 1) table
   level ← number_at prefix (codes "level") 0 greatest_64 table
   need ← pair_at prefix (codes "need") greatest_64 table
+  Ok (record { place = place; end = end; level = level; need = need })
+
+-- what a function keeps, takes and gives
+unfoldable pub interface_of : List ℕ → Members → Result Interface TomlFault
+interface_of prefix table = do
   locals ← optional_text_at name_of prefix (codes "locals") table
   params ← texts_at param_of prefix (codes "params") 16 table
   result ← text_at type_of prefix (codes "result") table
+  Ok (record { locals = locals; params = params; result = result })
+
+-- a table of the list `function`
+unfoldable pub function_of : List ℕ → Members → Result FunctionDraft TomlFault
+function_of prefix table = do
+  name ← text_at name_of prefix (codes "name") table
+  extent ← extent_of prefix table
+  interface ← interface_of prefix table
   enter ← flag_at prefix (codes "enter") table
   _ ← only_keys prefix function_keys table
-  Ok (record { name = name; place = place; end = end; level = level; need = need; locals = locals; params = params; result = result; enter = enter })
+  Ok (record { name = name; place = extent.place; end = extent.end; level = extent.level; need = extent.need; locals = interface.locals; params = interface.params; result = interface.result; enter = enter })
 
 -- a table of the list `point`; of its stack, the locals don't count against the limit
 unfoldable pub point_of : List ℕ → Members → Result PointDraft TomlFault
@@ -90,23 +107,20 @@ point_of prefix table = do
   _ ← only_keys prefix (codes "place" ∷ codes "regs" ∷ codes "stack" ∷ codes "written" ∷ codes "made" ∷ []) table
   Ok (record { place = place; regs = regs; stack = stack; written = written; made = made })
 
--- the number of a method, where these methods were named so far, and the methods with it: they are numbered as they first
--- appear, and there are at most 1024
-unfoldable pub method_number : List (List ℕ) → List ℕ → List ℕ → Result (ℕ × List (List ℕ)) TomlFault
-method_number methods prefix method = do
-  _ ← passes (nat_lt (place_of method methods) 1024) (Range (prefix ++ codes "method"))
-  Ok (place_of method methods, with_name method methods)
+-- whether a method is one of these, or they are fewer than 1024
+abbrev pub has_room : List (List ℕ) → List ℕ → Bool
+has_room methods method = is_named method methods || nat_lt (length methods) 1024
 
--- a table of the list `signature`, where these methods were named so far, and the methods with its own
-unfoldable pub signature_of : List (List ℕ) → List ℕ → Members → Result (SignatureDraft × List (List ℕ)) TomlFault
+-- a table of the list `signature` after others that name these methods: all signatures name at most 1024
+unfoldable pub signature_of : List (List ℕ) → List ℕ → Members → Result SignatureDraft TomlFault
 signature_of methods prefix table = do
   name ← text_at name_of prefix (codes "name") table
   method ← text_at name_of prefix (codes "method") table
-  numbered ← method_number methods prefix method
+  _ ← passes (has_room methods method) (Range (prefix ++ codes "method"))
   params ← texts_at want_param_of prefix (codes "params") 16 table
   result ← text_at result_of prefix (codes "result") table
   _ ← only_keys prefix (codes "name" ∷ codes "method" ∷ codes "params" ∷ codes "result" ∷ []) table
-  Ok (record { name = name; method = numbered.0; params = params; result = result }, numbered.1)
+  Ok (record { name = name; method = method; params = params; result = result })
 
 -- a table of the list `site`
 unfoldable pub site_of : List ℕ → Members → Result SiteDraft TomlFault
@@ -116,40 +130,55 @@ site_of prefix table = do
   _ ← only_keys prefix (codes "place" ∷ codes "signature" ∷ []) table
   Ok (record { place = place; signature = signature })
 
--- an item of the list of signatures at a path, where these methods were named so far, and the methods with its own
-abbrev pub signature_in : List (List ℕ) → List ℕ → ℕ → Data → Result (SignatureDraft × List (List ℕ)) TomlFault
+-- an item of the list of signatures at a path, after others that name these methods
+abbrev pub signature_in : List (List ℕ) → List ℕ → ℕ → Data → Result SignatureDraft TomlFault
 signature_in methods path i d = table_of path i d >>= signature_of methods (row_prefix path i)
 
--- the signatures of a list from the item of number i on, where these methods were named before, and all methods then
-unfoldable pub signatures_from : List (List ℕ) → List ℕ → ℕ → Items → Result (List SignatureDraft × List (List ℕ)) TomlFault
-signatures_from methods path i no_items = Ok ([], methods)
-signatures_from methods path i (item d ds) = do
-  first ← signature_in methods path i d
-  rest ← signatures_from first.1 path (i + 1) ds
-  Ok (first.0 ∷ rest.0, rest.1)
+-- the signatures of a list from the item of number i on, after signatures with these methods
+unfoldable pub signatures_from : List (List ℕ) → List ℕ → ℕ → Items → Result (List SignatureDraft) TomlFault
+signatures_from before path i no_items = Ok []
+signatures_from before path i (item d ds) = do
+  first ← signature_in (distinct before) path i d
+  rest ← signatures_from (before ++ first.method ∷ []) path (i + 1) ds
+  Ok (first ∷ rest)
 
--- the signatures of the list at the key `signature`, which may be left out, and the methods that they name
-unfoldable pub signatures_at : List ℕ → Members → Result (List SignatureDraft × List (List ℕ)) TomlFault
+-- the signatures of the list at the key `signature`, which may be left out
+unfoldable pub signatures_at : List ℕ → Members → Result (List SignatureDraft) TomlFault
 signatures_at prefix table = list_at prefix (codes "signature") greatest_32 table >>= signatures_from [] (prefix ++ codes "signature") 0
 
 -- the keys of the whole text
 abbrev pub draft_keys : List (List ℕ)
 draft_keys = codes "version" ∷ codes "entry" ∷ codes "shape" ∷ codes "static" ∷ codes "thunk" ∷ codes "function" ∷ codes "point" ∷ codes "signature" ∷ codes "site" ∷ []
 
--- the whole text
-unfoldable pub draft_of : Members → Result NotesReading TomlFault
-draft_of table = do
-  version ← number_at [] (codes "version") 1 1 table
-  entry ← text_at name_of [] (codes "entry") table
+-- the lists of data: shapes, static objects and thunk cells
+unfoldable pub data_lists : Members → Result DataLists TomlFault
+data_lists table = do
   shape ← tables_at shape_of [] (codes "shape") 1024 table
   statics ← tables_at static_of [] (codes "static") greatest_32 table
   thunk ← tables_at thunk_of [] (codes "thunk") greatest_32 table
+  Ok (record { shape = shape; statics = statics; thunk = thunk })
+
+-- the lists of code: functions and points
+unfoldable pub code_lists : Members → Result CodeLists TomlFault
+code_lists table = do
   function ← tables_at function_of [] (codes "function") 4096 table
   point ← tables_at point_of [] (codes "point") 16384 table
-  signatures ← signatures_at [] table
+  Ok (record { function = function; point = point })
+
+-- the lists of native calls: signatures and sites
+unfoldable pub call_lists : Members → Result CallLists TomlFault
+call_lists table = do
+  signature ← signatures_at [] table
   site ← tables_at site_of [] (codes "site") greatest_32 table
+  Ok (record { signature = signature; site = site })
+
+-- the whole text
+unfoldable pub draft_of : Members → Result NotesDraft TomlFault
+draft_of table = do
+  version ← number_at [] (codes "version") 1 1 table
+  entry ← text_at name_of [] (codes "entry") table
+  things ← data_lists table
+  code ← code_lists table
+  calls ← call_lists table
   _ ← only_keys [] draft_keys table
-  Ok (record {
-    draft = record { version = version; entry = entry; shape = shape; statics = statics; thunk = thunk; function = function; point = point; signature = signatures.0; site = site };
-    methods = signatures.1;
-  })
+  Ok (record { version = version; entry = entry; shape = things.shape; statics = things.statics; thunk = things.thunk; function = code.function; point = code.point; signature = calls.signature; site = calls.site })

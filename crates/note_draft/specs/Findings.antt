@@ -3,11 +3,14 @@
 use Rattle.std.specs.Prelude.{ℕ, List, ◌++◌, codes, Option, Some, None, Result, Ok, Err, nat_le, if◌then◌else◌}
 use Rattle.std.specs.Fmt.{decimal}
 use Rattle.note_types.specs.declared.fault.TomlFault.{TomlFault}
+use Rattle.note_types.specs.declared.fault.TomlFault.TheVariants as faults
 use Rattle.note_draft.specs.declared.finding.Key.{Key}
 use Rattle.note_draft.specs.declared.finding.Key.TheVariants as key
 use Rattle.note_draft.specs.declared.finding.TableList.{TableList}
 use Rattle.note_draft.specs.declared.finding.TableList.TheVariants as list
 use Rattle.note_draft.specs.declared.finding.Finding.{Finding}
+use Rattle.note_draft.specs.declared.finding.Refusal.{Refusal}
+use Rattle.note_draft.specs.declared.finding.Refusal.TheVariants as refusals
 
 -- the name of a list of tables
 abbrev pub list_name : TableList → List ℕ
@@ -57,7 +60,13 @@ abbrev pub ◌otherwise◌ : Option Finding → Option Finding → Option Findin
 None otherwise b = b
 (Some a) otherwise b = Some a
 
--- the fault at a finding, named by its path
-abbrev pub refused : (List ℕ → TomlFault) → Option Finding → Result (Unit {0}) TomlFault
-refused fault None = Ok tt
-refused fault (Some f) = Err (fault (path_of f))
+-- the fault that a refusal is at a path
+abbrev pub fault_of : Refusal → List ℕ → TomlFault
+fault_of refusals.Twice path = faults.Twice path
+fault_of refusals.Name path = faults.Name path
+fault_of refusals.Range path = faults.Range path
+
+-- the refusal of a finding, named by its path
+abbrev pub refused : Refusal → Option Finding → Result (Unit {0}) TomlFault
+refused refusal None = Ok tt
+refused refusal (Some f) = Err (fault_of refusal (path_of f))

@@ -3,7 +3,7 @@ use Rattle.std.specs.Prelude.{ℕ, List, codes, Option, Some, None, Result, Bool
 use Rattle.std.specs.List.{list_all, position}
 use Rattle.note_types.specs.declared.fault.TomlFault.{TomlFault}
 use Rattle.note_types.specs.declared.fault.TomlFault.TheVariants.{Name}
-use Rattle.note_texts.specs.Outcome.{◌>>=◌, passes}
+use Rattle.ebc_base.specs.Steps.{◌>>=◌, passes}
 use Rattle.note_texts.specs.declared.cell.CellText.{CellText}
 use Rattle.note_texts.specs.declared.cell.CellText.TheVariants as cell
 use Rattle.note_texts.specs.declared.slot.ItemText.{ItemText}
@@ -19,6 +19,7 @@ use Rattle.note_draft.specs.declared.draft.ShapeDraft.{ShapeDraft}
 use Rattle.note_draft.specs.declared.draft.SignatureDraft.{SignatureDraft}
 use Rattle.note_draft.specs.declared.finding.Finding.{Finding}
 use Rattle.note_draft.specs.declared.finding.Key.TheVariants as key
+use Rattle.note_draft.specs.declared.finding.Refusal.TheVariants as refusals
 use Rattle.note_draft.specs.declared.finding.TableList.TheVariants as list
 use Rattle.note_draft.specs.declared.tables.NameTables.{NameTables}
 use Rattle.note_draft.specs.Findings.{at, refused, sooner, ◌otherwise◌}
@@ -123,4 +124,4 @@ unknown t d =
 unfoldable pub known : NameTables → NotesDraft → Result (Unit {0}) TomlFault
 known t d = do
   _ ← passes (is_named d.entry t.function) (Name (codes "entry"))
-  refused Name (unknown t d)
+  refused refusals.Name (unknown t d)

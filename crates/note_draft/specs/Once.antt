@@ -2,8 +2,9 @@
 use Rattle.std.specs.Prelude.{ℕ, List, [], map, Bool, Option, Some, None, Result, Ok, bytes_eq, nat_eq}
 use Rattle.std.specs.List.{position}
 use Rattle.note_types.specs.declared.fault.TomlFault.{TomlFault}
-use Rattle.note_types.specs.declared.fault.TomlFault.TheVariants.{Twice}
-use Rattle.note_texts.specs.Outcome.{◌>>=◌}
+use Rattle.ebc_base.specs.Steps.{◌>>=◌}
+use Rattle.note_texts.specs.declared.cell.FieldText.{FieldText}
+use Rattle.note_texts.specs.declared.slot.RegisterText.{RegisterText}
 use Rattle.note_draft.specs.declared.draft.FunctionDraft.{FunctionDraft}
 use Rattle.note_draft.specs.declared.draft.NotesDraft.{NotesDraft}
 use Rattle.note_draft.specs.declared.draft.PointDraft.{PointDraft}
@@ -11,12 +12,14 @@ use Rattle.note_draft.specs.declared.draft.ShapeDraft.{ShapeDraft}
 use Rattle.note_draft.specs.declared.draft.SignatureDraft.{SignatureDraft}
 use Rattle.note_draft.specs.declared.finding.Finding.{Finding}
 use Rattle.note_draft.specs.declared.finding.Key.TheVariants as key
+use Rattle.note_draft.specs.declared.finding.Refusal.TheVariants.{Twice}
 use Rattle.note_draft.specs.declared.finding.TableList.{TableList}
 use Rattle.note_draft.specs.declared.finding.TableList.TheVariants as list
 use Rattle.note_draft.specs.declared.repeats.Numbering.{Numbering}
 use Rattle.note_draft.specs.declared.repeats.Numbering.TheVariants.{Table, Repeat}
 use Rattle.note_draft.specs.declared.tables.NameTables.{NameTables}
 use Rattle.note_draft.specs.Findings.{at, refused, sooner}
+use Rattle.note_draft.specs.Names.{distinct}
 use Rattle.note_draft.specs.Repeats.{first_repeat, has_repeat}
 
 -- ---- names that were numbered
@@ -42,13 +45,21 @@ numbered list numbering other =
 abbrev pub repeated_place_in : TableList → List ℕ → Option Finding
 repeated_place_in list places = at list key.Place (first_repeat nat_eq places)
 
+-- whether two fields have one name
+abbrev pub same_name : FieldText → FieldText → Bool
+same_name f g = bytes_eq f.name g.name
+
+-- whether a point gives one register in both
+abbrev pub same_register : RegisterText → RegisterText → Bool
+same_register r q = nat_eq r.register q.register
+
 -- whether two fields of a shape have one name
 abbrev pub repeats_field : ShapeDraft → Bool
-repeats_field s = has_repeat bytes_eq (map (λ f. f.name) s.fields)
+repeats_field s = has_repeat same_name s.fields
 
 -- whether a point gives a register twice
 abbrev pub repeats_register : PointDraft → Bool
-repeats_register p = has_repeat nat_eq (map (λ r. r.register) p.regs)
+repeats_register p = has_repeat same_register p.regs
 
 unfoldable pub repeated_in_shapes : List ShapeDraft → Option Finding
 repeated_in_shapes shapes =
@@ -86,13 +97,17 @@ names_of_calls d = do
   _ ← refused Twice (repeated_place_in list.Site (map (λ s. s.place) d.site))
   Ok signatures
 
+-- the methods that signatures name, in the order in which they first do
+abbrev pub method_names : List SignatureDraft → List (List ℕ)
+method_names signatures = distinct (map (λ s. s.method) signatures)
+
 -- the names that notes give, unless a name, a place or a register stands there twice
-unfoldable pub once : NotesDraft → List (List ℕ) → Result NameTables TomlFault
-once d methods = do
+unfoldable pub once : NotesDraft → Result NameTables TomlFault
+once d = do
   shapes ← shape_names d.shape
   _ ← refused Twice (repeated_place_in list.Static (map (λ o. o.place) d.statics))
   _ ← refused Twice (repeated_place_in list.Thunk (map (λ o. o.place) d.thunk))
   functions ← function_names d.function
   _ ← refused Twice (repeated_in_points d.point)
   signatures ← names_of_calls d
-  Ok (record { shape = shapes; function = functions; signature = signatures; method = methods })
+  Ok (record { shape = shapes; function = functions; signature = signatures; method = method_names d.signature })

@@ -1,11 +1,10 @@
-// Notes as their text has them: things of the notes are named, not yet numbered.
-use crate::names::NameTable;
+//! Notes as their text has them: things of the notes are named, not yet numbered.
 use crate::stack::StackText;
 use note_texts::{FieldText, ParamText, RegisterText, ResultText, TypeText, WantParamText};
 use note_types::{Name, Names, Pair, Sequence};
 
 /// A table of the list `shape`.
-#[derive(Debug, Drop)]
+#[derive(Drop)]
 pub struct ShapeDraft {
     pub name: Name,
     /// Natural units of the size.
@@ -16,7 +15,7 @@ pub struct ShapeDraft {
 }
 
 /// A table of the list `static`.
-#[derive(Debug, Drop)]
+#[derive(Drop)]
 pub struct StaticDraft {
     pub place: u32,
     pub shape: Name,
@@ -24,14 +23,14 @@ pub struct StaticDraft {
 }
 
 /// A table of the list `thunk`.
-#[derive(Debug, Drop)]
+#[derive(Drop)]
 pub struct ThunkDraft {
     pub place: u32,
     pub function: Name,
 }
 
 /// A table of the list `function`.
-#[derive(Debug, Drop)]
+#[derive(Drop)]
 pub struct FunctionDraft {
     pub name: Name,
     pub place: u32,
@@ -46,7 +45,7 @@ pub struct FunctionDraft {
 }
 
 /// A table of the list `point`.
-#[derive(Debug, Drop)]
+#[derive(Drop)]
 pub struct PointDraft {
     pub place: u32,
     pub regs: Sequence<RegisterText>,
@@ -57,24 +56,24 @@ pub struct PointDraft {
     pub made: u32,
 }
 
-/// A table of the list `signature`. The method is its number already: methods are numbered as they are read.
-#[derive(Debug, Drop)]
+/// A table of the list `signature`.
+#[derive(Drop)]
 pub struct SignatureDraft {
     pub name: Name,
-    pub method: u32,
+    pub method: Name,
     pub params: Sequence<WantParamText>,
     pub result: ResultText,
 }
 
 /// A table of the list `site`.
-#[derive(Debug, Drop)]
+#[derive(Drop)]
 pub struct SiteDraft {
     pub place: u32,
     pub signature: Name,
 }
 
 /// The whole text.
-#[derive(Debug, Drop)]
+#[derive(Drop)]
 pub struct NotesDraft {
     pub version: u32,
     /// The name of the entry function.
@@ -86,11 +85,4 @@ pub struct NotesDraft {
     pub point: Sequence<PointDraft>,
     pub signature: Sequence<SignatureDraft>,
     pub site: Sequence<SiteDraft>,
-}
-
-/// The whole text, and the names of the methods, in the order in which the signatures first name them.
-#[derive(Drop)]
-pub struct NotesReading {
-    pub draft: NotesDraft,
-    pub methods: NameTable,
 }

@@ -1,8 +1,9 @@
-// Where in notes a condition fails.
-ghost use Rattle.std.specs.Prelude.{◌≡◌, IfOk, IfSome, ◌≤◌, ◌<◌};
-ghost use Rattle.note_draft.specs.Findings.{at, key_name, list_name, path_of, sooner};
+//! Where in notes a condition fails.
+ghost use Rattle.std.specs.Prelude.{◌≡◌, IfOk};
+ghost use Rattle.note_texts.specs.Outcome.{Gives};
+ghost use Rattle.note_draft.specs.Findings.{at, fault_of, key_name, list_name, path_of, refused, sooner};
 
-use note_types::Name;
+use note_types::{Name, NotesEnd, TomlFault};
 use std::alloc::{AllocError, Global};
 
 /// A list of tables.
@@ -119,5 +120,43 @@ impl Finding {
         let item = self.item;
         let key = self.key.name();
         Ok(Name::new(format!(in alloc; "{list}[{item}].{key}")?))
+    }
+}
+
+/// What is said of a finding.
+#[derive(Clone, Copy)]
+pub enum Refusal {
+    /// Something stands there again.
+    Twice,
+    /// A name that isn't there.
+    Name,
+    /// A condition fails.
+    Range,
+}
+
+impl Refusal {
+    /// The fault at a path.
+    pub fn at(self, path: Name) -> TomlFault
+        ensures { result ≡ fault_of self path }
+    {
+        match self {
+            Refusal::Twice => TomlFault::Twice(path),
+            Refusal::Name => TomlFault::Name(path),
+            Refusal::Range => TomlFault::Range(path),
+        }
+    }
+}
+
+/// Nothing where nothing was found.
+///
+/// # Errors
+///
+/// The refusal with the path of the finding; no memory.
+pub fn refuse(alloc: Global, refusal: Refusal, finding: Option<Finding>) -> Result<(), NotesEnd>
+    ensures { Gives result (refused refusal finding) }
+{
+    match finding {
+        Some(finding) => Err(NotesEnd::Fault(refusal.at(finding.path(alloc)?))),
+        None => Ok(()),
     }
 }

@@ -1,10 +1,21 @@
-// The tables of notes that have a name, and those that have a place.
-ghost use Rattle.std.specs.Prelude.{◌≡◌, List, ℕ};
+//! The tables of notes that have a name, those that have a place, and items that may not repeat.
+ghost use Rattle.std.specs.Prelude.{◌≡◌, Bool, List, ℕ};
+ghost use Rattle.note_draft.specs.Once.{same_name, same_register};
 
 use crate::draft::{
     FunctionDraft, PointDraft, ShapeDraft, SignatureDraft, SiteDraft, StaticDraft, ThunkDraft,
 };
+use note_texts::{FieldText, RegisterText};
 use note_types::Name;
+
+/// An item of a list in which no two may be the same in one thing.
+pub trait Distinct {
+    /// Whether two are the same in it.
+    ghost same: { Self → Self → Bool };
+
+    fn is_same(&self, other: &Self) -> bool
+        ensures { result ≡ same self.now other.now };
+}
 
 /// A table that has a name.
 pub trait Named {
@@ -22,6 +33,22 @@ pub trait Placed {
 
     fn place(&self) -> u32
         ensures { result ≡ place self.now };
+}
+
+impl Distinct for FieldText {
+    ghost same = { same_name };
+
+    fn is_same(&self, other: &FieldText) -> bool {
+        self.name == other.name
+    }
+}
+
+impl Distinct for RegisterText {
+    ghost same = { same_register };
+
+    fn is_same(&self, other: &RegisterText) -> bool {
+        self.register == other.register
+    }
 }
 
 impl Named for ShapeDraft {

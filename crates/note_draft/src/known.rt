@@ -1,17 +1,15 @@
-// Whether the names in notes are there.
+//! The third pass over notes: whether the names in them are there.
 ghost use Rattle.std.specs.Prelude.{◌≡◌, not};
 ghost use Rattle.std.specs.List.{position};
 ghost use Rattle.note_draft.specs.Names.{is_named};
-ghost use Rattle.note_types.specs.declared.fault.TomlFault.TheVariants as faults;
 ghost use Rattle.note_texts.specs.Outcome.{Gives};
-ghost use Rattle.note_draft.specs.Findings.{refused};
 ghost use Rattle.note_draft.specs.Known.{known, knows_cell, knows_fields, knows_item, knows_locals, knows_params, knows_regs, knows_result, knows_stack, knows_type, knows_want, knows_wants, unknown, unknown_in_functions, unknown_in_points, unknown_in_shapes, unknown_in_signatures, unknown_in_sites, unknown_in_statics, unknown_in_thunks};
 
 use crate::draft::{
     FunctionDraft, NotesDraft, PointDraft, ShapeDraft, SignatureDraft, SiteDraft, StaticDraft,
     ThunkDraft,
 };
-use crate::finding::{Finding, Key, TableList};
+use crate::finding::{Finding, Key, Refusal, TableList, refuse};
 use crate::tables::NameTables;
 use note_texts::{CellText, ItemText, TypeText, WantText};
 use note_types::{Name, NotesEnd, TomlFault};
@@ -289,16 +287,6 @@ fn unknown(names: &NameTables, draft: &NotesDraft) -> Option<Finding>
         .or_else(|| unknown_in_sites(names, draft))
 }
 
-// Nothing where nothing was found.
-fn refuse_name(alloc: Global, finding: Option<Finding>) -> Result<(), NotesEnd>
-    ensures { Gives result (refused faults.Name finding) }
-{
-    match finding {
-        Some(finding) => Err(NotesEnd::Fault(TomlFault::Name(finding.path(alloc)?))),
-        None => Ok(()),
-    }
-}
-
 /// Nothing where each name that notes use is there.
 ///
 /// # Errors
@@ -312,5 +300,5 @@ pub fn all_known(alloc: Global, names: &NameTables, draft: &NotesDraft) -> Resul
         let path = Name::new(String::from_str(alloc, "entry")?);
         return Err(NotesEnd::Fault(TomlFault::Name(path)));
     }
-    refuse_name(alloc, unknown(names, draft))
+    refuse(alloc, Refusal::Name, unknown(names, draft))
 }

@@ -16,10 +16,10 @@ mod stack;
 mod tables;
 
 pub use draft::{
-    FunctionDraft, NotesDraft, NotesReading, PointDraft, ShapeDraft, SignatureDraft, SiteDraft,
-    StaticDraft, ThunkDraft,
+    FunctionDraft, NotesDraft, PointDraft, ShapeDraft, SignatureDraft, SiteDraft, StaticDraft,
+    ThunkDraft,
 };
-pub use finding::{Finding, Key, TableList};
+pub use finding::{Finding, Key, Refusal, TableList, refuse};
 pub use keyed::{Named, Placed};
 pub use known::all_known;
 pub use names::NameTable;
@@ -28,6 +28,3 @@ pub use reading::read_draft;
 pub use repeats::first_descent;
 pub use stack::StackText;
 pub use tables::NameTables;
-
-#[cfg(test)]
-mod name_tests;

@@ -1,6 +1,6 @@
-// Names and their numbers.
+//! Names and their numbers.
 ghost use Rattle.std.specs.Prelude.{◌≡◌, ◌≤◌, ◌<◌, ◌-◌, ◌^◌, [], length, not, IfOk, OnOk, OnErr};
-ghost use Rattle.note_draft.specs.Names.{is_named, place_of, with_name};
+ghost use Rattle.note_draft.specs.Names.{is_named, name_number, with_name};
 
 use indexmap::IndexSet;
 use note_types::{Name, Names};
@@ -52,7 +52,7 @@ impl NameTable {
 
     /// The number of a name, or the number of names where it isn't there.
     pub fn number(&self, name: &Name) -> u32
-        ensures number { result ≡ place_of name.now self.now }
+        ensures number { result ≡ name_number name.now self.now }
         ensures within { result ≤ length self.now }
     {
         match self.names.get_index_of(name.as_str()) {

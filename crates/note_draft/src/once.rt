@@ -1,35 +1,19 @@
-// Whether each name, place and register stands once in notes, and the names by their numbers.
-ghost use Rattle.std.specs.Prelude.{◌≡◌, ◌<◌, ◌^◌, length, map};
+//! The second pass over notes: whether each name, place and register stands once in them, and the names by their numbers.
+ghost use Rattle.std.specs.Prelude.{◌≡◌, ◌<◌, ◌^◌, length, map, IfOk};
 ghost use Rattle.std.specs.List.{position};
-ghost use Rattle.note_types.specs.declared.fault.TomlFault.TheVariants.{Twice};
+ghost use Rattle.note_draft.specs.declared.finding.Refusal.TheVariants.{Twice};
 ghost use Rattle.note_texts.specs.Outcome.{Gives};
 ghost use Rattle.note_draft.specs.Findings.{refused};
-ghost use Rattle.note_draft.specs.Once.{function_names, names_in, names_of_calls, numbered, once, repeat_in, repeated_in_points, repeated_place_in, repeats_field, repeats_register, shape_names, signature_names};
+ghost use Rattle.note_draft.specs.Once.{function_names, method_names, names_in, names_of_calls, numbered, once, repeat_in, repeated_in_points, repeated_place_in, repeats_field, repeats_register, shape_names, signature_names};
 
 use crate::draft::{FunctionDraft, NotesDraft, PointDraft, ShapeDraft, SignatureDraft};
-use crate::finding::{Finding, Key, TableList};
+use crate::finding::{Finding, Key, Refusal, TableList, refuse};
 use crate::keyed::Placed;
 use crate::names::NameTable;
-use crate::repeats::{
-    Numbering, has_repeated_field, has_repeated_register, name_table, repeated_place,
-};
+use crate::repeats::{Numbering, has_repeat, name_table, repeated_place};
 use crate::tables::NameTables;
-use note_types::{NotesEnd, TomlFault};
-use std::alloc::Global;
-
-/// Nothing where nothing was found.
-///
-/// # Errors
-///
-/// `TomlFault::Twice` with the path of the finding; no memory.
-fn refuse_twice(alloc: Global, finding: Option<Finding>) -> Result<(), NotesEnd>
-    ensures { Gives result (refused Twice finding) }
-{
-    match finding {
-        Some(finding) => Err(NotesEnd::Fault(TomlFault::Twice(finding.path(alloc)?))),
-        None => Ok(()),
-    }
-}
+use note_types::NotesEnd;
+use std::alloc::{AllocError, Global};
 
 fn repeat_in(numbering: &Numbering) -> Option<usize>
     ensures { result ≡ repeat_in numbering.now }
@@ -59,7 +43,7 @@ fn numbered(
     ensures { Gives result (numbered list numbering other) }
 {
     let name = Finding::at(list, Key::Name, repeat_in(&numbering));
-    refuse_twice(alloc, Finding::sooner(name, other))?;
+    refuse(alloc, Refusal::Twice, Finding::sooner(name, other))?;
     Ok(names_in(alloc, numbering))
 }
 
@@ -68,7 +52,7 @@ fn places_once<T: Placed>(alloc: Global, list: TableList, items: &[T]) -> Result
     ensures { Gives result (refused Twice (repeated_place_in list (map T.place items.now))) }
 {
     let item = repeated_place(alloc, items)?;
-    refuse_twice(alloc, Finding::at(list, Key::Place, item))
+    refuse(alloc, Refusal::Twice, Finding::at(list, Key::Place, item))
 }
 
 fn first_repeating_field(shapes: &[ShapeDraft]) -> Option<usize>
@@ -76,7 +60,7 @@ fn first_repeating_field(shapes: &[ShapeDraft]) -> Option<usize>
 {
     shapes
         .iter()
-        .position(|shape| has_repeated_field(shape.fields.as_slice()))
+        .position(|shape| has_repeat(shape.fields.as_slice()))
 }
 
 fn first_repeating_register(points: &[PointDraft]) -> Option<usize>
@@ -84,7 +68,7 @@ fn first_repeating_register(points: &[PointDraft]) -> Option<usize>
 {
     points
         .iter()
-        .position(|point| has_repeated_register(point.regs.as_slice()))
+        .position(|point| has_repeat(point.regs.as_slice()))
 }
 
 fn shape_names(alloc: Global, shapes: &[ShapeDraft]) -> Result<NameTable, NotesEnd>
@@ -115,7 +99,7 @@ fn points_once(alloc: Global, points: &[PointDraft]) -> Result<(), NotesEnd>
         Finding::at(TableList::Point, Key::Place, places),
         Finding::at(TableList::Point, Key::Regs, regs),
     );
-    refuse_twice(alloc, first)
+    refuse(alloc, Refusal::Twice, first)
 }
 
 fn signature_names(alloc: Global, signatures: &[SignatureDraft]) -> Result<NameTable, NotesEnd>
@@ -124,6 +108,18 @@ fn signature_names(alloc: Global, signatures: &[SignatureDraft]) -> Result<NameT
 {
     let numbering = name_table(alloc, signatures)?;
     numbered(alloc, TableList::Signature, numbering, None)
+}
+
+// The distinct methods of the signatures.
+fn method_names(alloc: Global, signatures: &[SignatureDraft]) -> Result<NameTable, AllocError>
+    requires { length signatures.now < 2 ^ 32 }
+    ensures { IfOk result (λ names. names ≡ method_names signatures.now) }
+{
+    let mut names = NameTable::new(alloc);
+    for i in 0..signatures.len() {
+        names.add(alloc, &signatures[i].method)?;
+    }
+    Ok(names)
 }
 
 #[tactic(auto, unfolding(crate::specs::Once::names_of_calls))]
@@ -142,15 +138,11 @@ fn names_of_calls(alloc: Global, draft: &NotesDraft) -> Result<NameTable, NotesE
 ///
 /// `TomlFault::Twice` with the path of the first that does; no memory.
 #[tactic(auto, unfolding(crate::specs::Once::once))]
-pub fn number_names(
-    alloc: Global,
-    draft: &NotesDraft,
-    methods: NameTable,
-) -> Result<NameTables, NotesEnd>
+pub fn number_names(alloc: Global, draft: &NotesDraft) -> Result<NameTables, NotesEnd>
     requires shapes { length draft.now.shape < 2 ^ 32 }
     requires functions { length draft.now.function < 2 ^ 32 }
     requires signatures { length draft.now.signature < 2 ^ 32 }
-    ensures { Gives result (once draft.now methods) }
+    ensures { Gives result (once draft.now) }
 {
     let shape = shape_names(alloc, draft.shape.as_slice())?;
     places_once(alloc, TableList::Static, draft.statics.as_slice())?;
@@ -158,10 +150,11 @@ pub fn number_names(
     let function = function_names(alloc, draft.function.as_slice())?;
     points_once(alloc, draft.point.as_slice())?;
     let signature = names_of_calls(alloc, draft)?;
+    let method = method_names(alloc, draft.signature.as_slice())?;
     Ok(NameTables {
         shape,
         function,
         signature,
-        method: methods,
+        method,
     })
 }

@@ -1,12 +1,13 @@
-// The draft that a TOML table stands for: its keys, and those of the tables of its lists.
+//! The first pass over notes: the draft that a TOML table stands for, by its keys and those of the tables of its lists.
 ghost use Rattle.std.specs.Prelude.{◌≡◌, ◌≤◌, ◌<◌, ◌^◌, [], length, IfOk};
 ghost use Rattle.toml.specs.View.{view, table_view, items_view};
+ghost use Rattle.note_texts.specs.Keys.{only_keys};
 ghost use Rattle.note_texts.specs.Outcome.{Gives, GivesBy};
-ghost use Rattle.note_draft.specs.Drafts.{shape_of, static_of, thunk_of, function_of, point_of, method_number, signature_of, site_of, signature_in, signatures_from, signatures_at, draft_of};
+ghost use Rattle.note_draft.specs.Drafts.{call_lists, code_lists, data_lists, draft_keys, extent_of, function_keys, interface_of, shape_of, static_of, thunk_of, function_of, point_of, has_room, signature_in, signature_of, site_of, signatures_from, signatures_at, draft_of};
 
 use crate::draft::{
-    FunctionDraft, NotesDraft, NotesReading, PointDraft, ShapeDraft, SignatureDraft, SiteDraft,
-    StaticDraft, ThunkDraft,
+    FunctionDraft, NotesDraft, PointDraft, ShapeDraft, SignatureDraft, SiteDraft, StaticDraft,
+    ThunkDraft,
 };
 use crate::names::NameTable;
 use crate::stack::StackText;
@@ -14,7 +15,7 @@ use note_texts::{
     FieldText, FromTable, ItemText, ParamText, RegisterText, ResultText, Row, TypeText,
     WantParamText, row_prefix, table_of_item,
 };
-use note_types::{Name, Names, NotesEnd, Sequence, TomlFault};
+use note_types::{Name, Names, NotesEnd, Pair, Sequence, TomlFault};
 use std::alloc::Global;
 use toml::{Table, Value};
 
@@ -34,7 +35,7 @@ const MAX_FUNCTIONS: usize = 4096;
 
 const MAX_POINTS: usize = 16_384;
 
-const MAX_METHODS: u32 = 1024;
+const MAX_METHODS: usize = 1024;
 
 /// Tables of a list that has no lower limit.
 const MAX_TABLES: usize = 4_294_967_295;
@@ -89,34 +90,87 @@ impl FromTable for ThunkDraft {
     }
 }
 
+/// Where a function's code lies, and how deep its calls and its stack go.
+#[derive(Clone, Copy)]
+pub struct Extent {
+    pub place: u32,
+    pub end: u32,
+    pub level: u64,
+    pub need: Pair,
+}
+
+#[tactic(auto, unfolding(crate::specs::Drafts::extent_of))]
+fn extent_of(alloc: Global, row: Row) -> Result<Extent, NotesEnd>
+    ensures { Gives result (extent_of row.entry.prefix.now (table_view row.entry.table.now)) }
+{
+    let place = row.number(alloc, "place", 0, LAST_PLACE)?;
+    let end = row.number(alloc, "end", 0, LAST_PLACE + 1)?;
+    let level = row.number(alloc, "level", 0, u64::MAX)?;
+    let need = row.pair(alloc, "need", u64::MAX)?;
+    Ok(Extent {
+        place: place as u32,
+        end: end as u32,
+        level,
+        need,
+    })
+}
+
+/// What a function keeps, takes and gives.
+#[derive(Drop)]
+pub struct Interface {
+    pub locals: Option<Name>,
+    pub params: Sequence<ParamText>,
+    pub result: TypeText,
+}
+
+#[tactic(auto, unfolding(crate::specs::Drafts::interface_of))]
+fn interface_of(alloc: Global, row: Row) -> Result<Interface, NotesEnd>
+    ensures { Gives result (interface_of row.entry.prefix.now (table_view row.entry.table.now)) }
+{
+    let locals = row.optional_text::<Name>(alloc, "locals")?;
+    let params = row.texts::<ParamText>(alloc, "params", MAX_PARAMS)?;
+    let result = row.text::<TypeText>(alloc, "result")?;
+    Ok(Interface {
+        locals,
+        params: Sequence::new(params),
+        result,
+    })
+}
+
+fn only_function_keys(alloc: Global, row: Row) -> Result<(), NotesEnd>
+    ensures { Gives result (only_keys row.entry.prefix.now function_keys (table_view row.entry.table.now)) }
+{
+    row.only_keys(
+        alloc,
+        &[
+            "name", "place", "end", "level", "need", "locals", "params", "result", "enter",
+        ],
+    )
+}
+
 impl FromTable for FunctionDraft {
     ghost reads_as = { function_of };
 
     #[tactic(auto, unfolding(crate::specs::Drafts::function_of))]
     fn from_table(alloc: Global, row: Row) -> Result<Self, NotesEnd> {
         let name = row.text::<Name>(alloc, "name")?;
-        let place = row.number(alloc, "place", 0, LAST_PLACE)?;
-        let end = row.number(alloc, "end", 0, LAST_PLACE + 1)?;
-        let level = row.number(alloc, "level", 0, u64::MAX)?;
-        let need = row.pair(alloc, "need", u64::MAX)?;
-        let locals = row.optional_text::<Name>(alloc, "locals")?;
-        let params = row.texts::<ParamText>(alloc, "params", MAX_PARAMS)?;
-        let result = row.text::<TypeText>(alloc, "result")?;
+        let extent = extent_of(alloc, row)?;
+        let interface = interface_of(alloc, row)?;
         let enter = row.flag(alloc, "enter")?;
-        row.only_keys(
-            alloc,
-            &[
-                "name", "place", "end", "level", "need", "locals", "params", "result", "enter",
-            ],
-        )?;
+        only_function_keys(alloc, row)?;
+        let Interface {
+            locals,
+            params,
+            result,
+        } = interface;
         Ok(FunctionDraft {
             name,
-            place: place as u32,
-            end: end as u32,
-            level,
-            need,
+            place: extent.place,
+            end: extent.end,
+            level: extent.level,
+            need: extent.need,
             locals,
-            params: Sequence::new(params),
+            params,
             result,
             enter,
         })
@@ -159,35 +213,22 @@ impl FromTable for SiteDraft {
     }
 }
 
-/// The number of a method, which is added to those named so far unless it is there.
-#[tactic(auto, unfolding(crate::specs::Drafts::method_number))]
-fn method_number(
-    alloc: Global,
-    methods: &mut NameTable,
-    row: Row,
-    method: &Name,
-) -> Result<u32, NotesEnd>
-    requires { length methods.old ≤ 1024 }
-    ensures number { GivesBy (λ number. (number, methods.new)) result (method_number methods.old row.entry.prefix.now method.now) }
-    ensures within { length methods.new ≤ 1024 }
+fn has_room(methods: &NameTable, method: &Name) -> bool
+    ensures { result ≡ has_room methods.now method.now }
 {
-    let number = methods.number(method);
-    if number >= MAX_METHODS {
-        return Err(NotesEnd::Fault(TomlFault::Range(row.path(alloc, "method")?)));
-    }
-    methods.add(alloc, method)?;
-    Ok(number)
+    methods.has(method) || methods.len() < MAX_METHODS
 }
 
+// A signature after others that name these methods.
 #[tactic(auto, unfolding(crate::specs::Drafts::signature_of))]
-fn signature(alloc: Global, methods: &mut NameTable, row: Row) -> Result<SignatureDraft, NotesEnd>
-    requires { length methods.old ≤ 1024 }
-    ensures signature { GivesBy (λ draft. (draft, methods.new)) result (signature_of methods.old row.entry.prefix.now (table_view row.entry.table.now)) }
-    ensures within { length methods.new ≤ 1024 }
+fn signature(alloc: Global, methods: &NameTable, row: Row) -> Result<SignatureDraft, NotesEnd>
+    ensures { Gives result (signature_of methods.now row.entry.prefix.now (table_view row.entry.table.now)) }
 {
     let name = row.text::<Name>(alloc, "name")?;
     let method = row.text::<Name>(alloc, "method")?;
-    let method = method_number(alloc, methods, row, &method)?;
+    if !has_room(methods, &method) {
+        return Err(NotesEnd::Fault(TomlFault::Range(row.path(alloc, "method")?)));
+    }
     let params = row.texts::<WantParamText>(alloc, "params", MAX_PARAMS)?;
     let result = row.text::<ResultText>(alloc, "result")?;
     row.only_keys(alloc, &["name", "method", "params", "result"])?;
@@ -201,14 +242,12 @@ fn signature(alloc: Global, methods: &mut NameTable, row: Row) -> Result<Signatu
 
 fn signature_in(
     alloc: Global,
-    methods: &mut NameTable,
+    methods: &NameTable,
     path: &str,
     index: usize,
     value: &Value,
 ) -> Result<SignatureDraft, NotesEnd>
-    requires { length methods.old ≤ 1024 }
-    ensures signature { GivesBy (λ draft. (draft, methods.new)) result (signature_in methods.old path.now index (view value.now)) }
-    ensures within { length methods.new ≤ 1024 }
+    ensures { Gives result (signature_in methods.now path.now index (view value.now)) }
 {
     let table = table_of_item(alloc, path, index, value)?;
     let prefix = row_prefix(alloc, path, index)?;
@@ -224,64 +263,103 @@ fn signature_in(
 
 fn signatures_of(
     alloc: Global,
-    methods: &mut NameTable,
     path: &str,
     values: &[Value],
 ) -> Result<Vec<SignatureDraft>, NotesEnd>
-    requires { length methods.old ≤ 1024 }
-    ensures signatures { GivesBy (λ drafts. (drafts.items, methods.new)) result (signatures_from methods.old path.now 0 (items_view values.now)) }
+    requires { length values.now < 2 ^ 32 }
+    ensures signatures { GivesBy (λ drafts. drafts.items) result (signatures_from [] path.now 0 (items_view values.now)) }
     ensures all { IfOk result (λ drafts. length drafts.items ≡ length values.now) }
 {
+    let mut methods = NameTable::new(alloc);
     let mut signatures = Vec::new(alloc);
     for i in 0..values.len() {
-        signatures.push(signature_in(alloc, methods, path, i, &values[i])?)?;
+        let signature = signature_in(alloc, &methods, path, i, &values[i])?;
+        methods.add(alloc, &signature.method)?;
+        signatures.push(signature)?;
     }
     Ok(signatures)
 }
 
 #[tactic(auto, unfolding(crate::specs::Drafts::signatures_at))]
-fn signatures(
-    alloc: Global,
-    methods: &mut NameTable,
-    row: Row,
-) -> Result<Vec<SignatureDraft>, NotesEnd>
-    requires { methods.old ≡ [] }
-    ensures signatures { GivesBy (λ drafts. (drafts.items, methods.new)) result (signatures_at row.entry.prefix.now (table_view row.entry.table.now)) }
+fn signatures(alloc: Global, row: Row) -> Result<Vec<SignatureDraft>, NotesEnd>
+    ensures signatures { GivesBy (λ drafts. drafts.items) result (signatures_at row.entry.prefix.now (table_view row.entry.table.now)) }
     ensures within { IfOk result (λ drafts. length drafts.items < 2 ^ 32) }
 {
     let values = row.list(alloc, "signature", MAX_TABLES)?;
     let path = row.path(alloc, "signature")?;
-    signatures_of(alloc, methods, path.as_str(), values)
+    signatures_of(alloc, path.as_str(), values)
 }
 
-/// The draft that a table stands for, the whole text of notes.
-///
-/// # Errors
-///
-/// The first fault, key by key in the order of docs/NOTES.md: `TomlFault::Missing`, `TomlFault::Kind` or
-/// `TomlFault::Range` with the path of the key; no memory.
-#[tactic(auto, unfolding(crate::specs::Drafts::draft_of))]
-pub fn read_draft(alloc: Global, table: &Table) -> Result<NotesReading, NotesEnd>
-    ensures reading { Gives result (draft_of (table_view table.now)) }
-    ensures shapes { IfOk result (λ reading. length reading.draft.shape ≤ 1024) }
-    ensures statics { IfOk result (λ reading. length reading.draft.statics < 2 ^ 32) }
-    ensures thunks { IfOk result (λ reading. length reading.draft.thunk < 2 ^ 32) }
-    ensures functions { IfOk result (λ reading. length reading.draft.function ≤ 4096) }
-    ensures points { IfOk result (λ reading. length reading.draft.point ≤ 16384) }
-    ensures signatures { IfOk result (λ reading. length reading.draft.signature < 2 ^ 32) }
-    ensures sites { IfOk result (λ reading. length reading.draft.site < 2 ^ 32) }
+/// The lists of data.
+#[derive(Drop)]
+pub struct DataLists {
+    pub shape: Sequence<ShapeDraft>,
+    pub statics: Sequence<StaticDraft>,
+    pub thunk: Sequence<ThunkDraft>,
+}
+
+#[tactic(auto, unfolding(crate::specs::Drafts::data_lists))]
+fn data_lists(alloc: Global, table: &Table) -> Result<DataLists, NotesEnd>
+    ensures lists { Gives result (data_lists (table_view table.now)) }
+    ensures shapes { IfOk result (λ lists. length lists.shape ≤ 1024) }
 {
     let row = Row { prefix: "", table };
-    let mut methods = NameTable::new(alloc);
-    let version = row.number(alloc, "version", 1, 1)?;
-    let entry = row.text::<Name>(alloc, "entry")?;
     let shape = row.tables::<ShapeDraft>(alloc, "shape", MAX_SHAPES)?;
     let statics = row.tables::<StaticDraft>(alloc, "static", MAX_TABLES)?;
     let thunk = row.tables::<ThunkDraft>(alloc, "thunk", MAX_TABLES)?;
+    Ok(DataLists {
+        shape: Sequence::new(shape),
+        statics: Sequence::new(statics),
+        thunk: Sequence::new(thunk),
+    })
+}
+
+/// The lists of code.
+#[derive(Drop)]
+pub struct CodeLists {
+    pub function: Sequence<FunctionDraft>,
+    pub point: Sequence<PointDraft>,
+}
+
+#[tactic(auto, unfolding(crate::specs::Drafts::code_lists))]
+fn code_lists(alloc: Global, table: &Table) -> Result<CodeLists, NotesEnd>
+    ensures lists { Gives result (code_lists (table_view table.now)) }
+    ensures functions { IfOk result (λ lists. length lists.function ≤ 4096) }
+{
+    let row = Row { prefix: "", table };
     let function = row.tables::<FunctionDraft>(alloc, "function", MAX_FUNCTIONS)?;
     let point = row.tables::<PointDraft>(alloc, "point", MAX_POINTS)?;
-    let signature = signatures(alloc, &mut methods, row)?;
+    Ok(CodeLists {
+        function: Sequence::new(function),
+        point: Sequence::new(point),
+    })
+}
+
+/// The lists of native calls.
+#[derive(Drop)]
+pub struct CallLists {
+    pub signature: Sequence<SignatureDraft>,
+    pub site: Sequence<SiteDraft>,
+}
+
+#[tactic(auto, unfolding(crate::specs::Drafts::call_lists))]
+fn call_lists(alloc: Global, table: &Table) -> Result<CallLists, NotesEnd>
+    ensures lists { Gives result (call_lists (table_view table.now)) }
+    ensures signatures { IfOk result (λ lists. length lists.signature < 2 ^ 32) }
+{
+    let row = Row { prefix: "", table };
+    let signature = signatures(alloc, row)?;
     let site = row.tables::<SiteDraft>(alloc, "site", MAX_TABLES)?;
+    Ok(CallLists {
+        signature: Sequence::new(signature),
+        site: Sequence::new(site),
+    })
+}
+
+fn only_draft_keys(alloc: Global, table: &Table) -> Result<(), NotesEnd>
+    ensures { Gives result (only_keys [] draft_keys (table_view table.now)) }
+{
+    let row = Row { prefix: "", table };
     row.only_keys(
         alloc,
         &[
@@ -295,19 +373,45 @@ pub fn read_draft(alloc: Global, table: &Table) -> Result<NotesReading, NotesEnd
             "signature",
             "site",
         ],
-    )?;
-    Ok(NotesReading {
-        draft: NotesDraft {
-            version: version as u32,
-            entry,
-            shape: Sequence::new(shape),
-            statics: Sequence::new(statics),
-            thunk: Sequence::new(thunk),
-            function: Sequence::new(function),
-            point: Sequence::new(point),
-            signature: Sequence::new(signature),
-            site: Sequence::new(site),
-        },
-        methods,
+    )
+}
+
+/// The draft that a table stands for, the whole text of notes.
+///
+/// # Errors
+///
+/// The first fault, key by key in the order of docs/NOTES.md: `TomlFault::Missing`, `TomlFault::Kind` or
+/// `TomlFault::Range` with the path of the key; no memory.
+#[tactic(auto, unfolding(crate::specs::Drafts::draft_of))]
+pub fn read_draft(alloc: Global, table: &Table) -> Result<NotesDraft, NotesEnd>
+    ensures draft { Gives result (draft_of (table_view table.now)) }
+    ensures shapes { IfOk result (λ draft. length draft.shape ≤ 1024) }
+    ensures functions { IfOk result (λ draft. length draft.function ≤ 4096) }
+    ensures signatures { IfOk result (λ draft. length draft.signature < 2 ^ 32) }
+{
+    let row = Row { prefix: "", table };
+    let version = row.number(alloc, "version", 1, 1)?;
+    let entry = row.text::<Name>(alloc, "entry")?;
+    let things = data_lists(alloc, table)?;
+    let code = code_lists(alloc, table)?;
+    let calls = call_lists(alloc, table)?;
+    only_draft_keys(alloc, table)?;
+    let DataLists {
+        shape,
+        statics,
+        thunk,
+    } = things;
+    let CodeLists { function, point } = code;
+    let CallLists { signature, site } = calls;
+    Ok(NotesDraft {
+        version: version as u32,
+        entry,
+        shape,
+        statics,
+        thunk,
+        function,
+        point,
+        signature,
+        site,
     })
 }

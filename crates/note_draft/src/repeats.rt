@@ -1,13 +1,11 @@
-// Names and places that repeat, and places that don't ascend.
+//! Names and places that repeat, and places that don't ascend.
 ghost use Rattle.std.specs.Prelude.{◌≡◌, ◌<◌, ◌^◌, length, map, IfOk, None, Some, bytes_eq, nat_eq};
 ghost use Rattle.std.specs.List.{list_any};
 ghost use Rattle.note_draft.specs.Repeats.{Numbers, first_descent, first_repeat, has_repeat};
 
-use crate::keyed::{Named, Placed};
+use crate::keyed::{Distinct, Named, Placed};
 use crate::names::NameTable;
 use indexmap::IndexSet;
-use note_texts::{FieldText, RegisterText};
-use note_types::Name;
 use std::alloc::{AllocError, Global};
 
 /// The names of tables, numbered, or the first that repeats.
@@ -66,40 +64,21 @@ pub fn first_descent<T: Placed>(items: &[T]) -> Option<usize>
     None
 }
 
-/// Whether two of the fields have one name. It compares each field with all before it.
-pub fn has_repeated_field(fields: &[FieldText]) -> bool
-    ensures { result ≡ has_repeat bytes_eq (map (λ f. f.name) fields.now) }
+/// Whether two of the items are the same in what may not repeat. It compares each item with all before it.
+pub fn has_repeat<T: Distinct>(items: &[T]) -> bool
+    ensures { result ≡ has_repeat T.same items.now }
 {
-    for (number, field) in fields.iter().enumerate() {
-        if has_field(&fields[..number], &field.name) {
+    for (number, item) in items.iter().enumerate() {
+        if has_same(&items[..number], item) {
             return true;
         }
     }
     false
 }
 
-// Whether one of the fields has the name.
-fn has_field(fields: &[FieldText], name: &Name) -> bool
-    ensures { result ≡ list_any (λ f. bytes_eq name.now f.name) fields.now }
+// Whether one of the items is the same.
+fn has_same<T: Distinct>(items: &[T], item: &T) -> bool
+    ensures { result ≡ list_any (T.same item.now) items.now }
 {
-    fields.iter().any(|field| *name == field.name)
-}
-
-/// Whether two of the texts are of one register. It compares each with all before it.
-pub fn has_repeated_register(registers: &[RegisterText]) -> bool
-    ensures { result ≡ has_repeat nat_eq (map (λ r. r.register) registers.now) }
-{
-    for (number, text) in registers.iter().enumerate() {
-        if has_register(&registers[..number], text.register) {
-            return true;
-        }
-    }
-    false
-}
-
-// Whether one of the texts is of the register.
-fn has_register(registers: &[RegisterText], register: u8) -> bool
-    ensures { result ≡ list_any (λ r. nat_eq register r.register) registers.now }
-{
-    registers.iter().any(|text| register == text.register)
+    items.iter().any(|other| item.is_same(other))
 }

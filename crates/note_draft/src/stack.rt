@@ -1,11 +1,11 @@
-// The items of a point's stack, as their texts have them.
+//! The items of a point's stack, as their texts have them.
 ghost use Rattle.std.specs.Prelude.{◌≡◌, ◌≤◌, length};
 
 use note_texts::ItemText;
 use std::marker::Model;
 
 /// The items of the stack from the top, at most 65: 64 slots and the locals. Contracts see them as the list.
-#[derive(Debug, Drop)]
+#[derive(Drop)]
 pub struct StackText {
     items: Vec<ItemText>,
 }

@@ -1,4 +1,4 @@
-// The names that notes give.
+//! The names that notes give.
 use crate::names::NameTable;
 
 /// The names that notes give, by their numbers.

@@ -2,11 +2,11 @@
 use Rattle.std.proofs.Common.{◌≡◌, ℕ, List, ◌∷◌, ◌++◌, Option, Some, Bool, true, false, refl, ◌∙◌, inl, inr}
 use Rattle.std.specs.Prelude.{option_map, codes}
 use Rattle.note_texts.specs.CellTexts.{counted_of, plain_cell, marked_cell, cell_of}
-use Rattle.note_texts.specs.Splits.{cut_at}
+use Rattle.note_texts.specs.Splits.{parts_at}
 use Rattle.note_texts.specs.Grammar.{IsCellText, mark_of, ReadsJust}
 use Rattle.note_texts.specs.declared.cell.CellText.{CellText}
 use Rattle.note_texts.specs.declared.cell.CellText.TheVariants.{I8, I16, I32, I64, N, Stat, Handle, Entry, Ptr, P64, Method}
-use Rattle.note_texts.proofs.SplitLaws.{split_cases, lacks, cut_at-mark}
+use Rattle.note_texts.proofs.SplitLaws.{split_cases, lacks, parts_at-mark}
 use Rattle.note_texts.proofs.Tables.{by_word, map_some, moved, none_read}
 use Rattle.note_texts.proofs.NumberRanges.{name_of-sound, name_of-complete, counted_of-sound, counted_of-complete}
 
@@ -52,10 +52,10 @@ cell_of-sound text c h = elim (split_cases 58 text) [
 
 marked_again : (word rest : List ℕ) → lacks 58 word ≡ true → cell_of (word ++ 58 ∷ rest) ≡ marked_cell word rest
 unfolding cell_of
-marked_again word rest h = rw (cut_at-mark 58 word rest h) refl
+marked_again word rest h = rw (parts_at-mark 58 word rest h) refl
 
 pub cell_of-complete : (text : List ℕ) (c : CellText) → IsCellText text c → cell_of text ≡ Some c
-unfolding cell_of plain_cell marked_cell cut_at
+unfolding cell_of plain_cell marked_cell parts_at
 cell_of-complete text I8 h = rw h refl
 cell_of-complete text I16 h = rw h refl
 cell_of-complete text I32 h = rw h refl

@@ -7,6 +7,7 @@ pub mod NameLoops
 pub mod NumberLaws
 pub mod NumberRanges
 pub mod OnlyKeys
+pub mod QuotedLaws
 pub mod RangeLaws
 pub mod SlotLaws
 pub mod SplitLaws

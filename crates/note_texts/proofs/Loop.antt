@@ -9,7 +9,8 @@ use Rattle.toml.proofs.Views.{items_view-drop}
 use Rattle.note_types.specs.declared.fault.TomlFault.{TomlFault}
 use Rattle.note_types.specs.declared.fault.NotesEnd.{NotesEnd}
 use Rattle.note_types.specs.declared.fault.NotesEnd.TheVariants as ends
-use Rattle.note_texts.specs.Outcome.{◌>>=◌, Fails}
+use Rattle.ebc_base.specs.Steps.{◌>>=◌}
+use Rattle.note_texts.specs.Outcome.{Fails}
 use Rattle.note_texts.specs.Lists.{each}
 
 -- what was read before, and what is still read

@@ -13,7 +13,7 @@ use Rattle.note_texts.specs.Names.{begins_name, continues_name, is_name, name_of
 use Rattle.note_texts.specs.CellTexts.{counted_of}
 use Rattle.note_texts.specs.Grammar.{IsName, IsNameText, IsNumber, IsNumberIn, IsCounted, ReadsJust}
 use Rattle.note_texts.proofs.NumberLaws.{number_exact, number_of-decimal, decimal-number_of}
-use Rattle.note_texts.proofs.SplitLaws.{split_cases, lacks, lacks-append, both_true, cut_at-mark, cut_at-none}
+use Rattle.note_texts.proofs.SplitLaws.{split_cases, lacks, lacks-append, both_true, parts_at-mark, parts_at-none}
 
 within_is : (low high m n : ℕ) → within low high m ≡ Some n → (m ≡ n) × (low ≤ n) × (n ≤ high)
 within_is low high m n h = grind (arith, nat_tests)
@@ -99,10 +99,10 @@ pub counted_of-complete : (text shape : List ℕ) (count : ℕ) → IsCounted te
 unfolding counted_of
 counted_of-complete text shape count h = elim h.3 [
   | inl plain ↦
-      let cut = cut_at-none 42 shape (name_lacks 42 shape refl h.0) in
+      let cut = parts_at-none 42 shape (name_lacks 42 shape refl h.0) in
       rw (plain.0, cut, name_of-complete shape h.0, plain.1) refl
   | inr starred ↦
-      let cut = cut_at-mark 42 shape (decimal count) (name_lacks 42 shape refl h.0) in
+      let cut = parts_at-mark 42 shape (decimal count) (name_lacks 42 shape refl h.0) in
       let number = number_in-complete 1 (2 ^ 64 - 1) (decimal count) count (omega arith) (refl, h.1, omega (arith, h.2)) in
       rw (starred, cut, name_of-complete shape h.0, number) refl
 ]

@@ -6,6 +6,7 @@ use Rattle.toml.specs.declared.value.Value.{Value}
 use Rattle.toml.specs.View.{members_view}
 use Rattle.note_types.specs.declared.fault.TomlFault.{TomlFault}
 use Rattle.note_types.specs.declared.fault.TomlFault.TheVariants.{Kind}
+use Rattle.note_texts.specs.KeyTexts.{key_text}
 use Rattle.note_texts.specs.Keys.{is_known, only_keys}
 
 pub known-map : (key : List ℕ) (known : List (Bor (List ℕ))) → list_any (λ k. bytes_eq key k.now) known ≡ is_known key (map (λ k. k.now) known)
@@ -20,10 +21,10 @@ keys_go_on prefix known k v s es total first passes so_far =
     sym one ∙ so_far
 
 pub keys_stop : (prefix : List ℕ) (known : List (List ℕ)) (k : String Global) (v : Value) (s es : List (String Global × Value)) (total : Result (Unit {0}) TomlFault) → s ≡ (k, v) ∷ es → is_known (string_bytes k) known ≡ false
-    → only_keys prefix known (members_view s) ≡ total → total ≡ Err (Kind (prefix ++ string_bytes k))
+    → only_keys prefix known (members_view s) ≡ total → total ≡ Err (Kind (prefix ++ key_text (string_bytes k)))
 unfolding only_keys
 keys_stop prefix known k v s es total first passes so_far =
-    let one : only_keys prefix known (members_view s) ≡ Err (Kind (prefix ++ string_bytes k)) = rw (first, passes) in
+    let one : only_keys prefix known (members_view s) ≡ Err (Kind (prefix ++ key_text (string_bytes k))) = rw (first, passes) in
     sym so_far ∙ one
 
 pub keys_done : (prefix : List ℕ) (known : List (List ℕ)) (s : List (String Global × Value)) (total : Result (Unit {0}) TomlFault) → s ≡ []

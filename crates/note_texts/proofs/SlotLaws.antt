@@ -9,7 +9,8 @@ use Rattle.note_types.specs.declared.cell.SlotKind.TheVariants as kinds
 use Rattle.note_texts.specs.CellTexts.{field_of}
 use Rattle.note_texts.specs.Grammar.{IsFieldText, ReadsJust}
 use Rattle.note_texts.specs.Numbers.{number_in}
-use Rattle.note_texts.specs.SlotGrammar.{kind_text, IsItemText, IsParamText, IsParameterKind, IsRegisterText}
+use Rattle.note_types.specs.Passing.{IsParameterKind}
+use Rattle.note_texts.specs.SlotGrammar.{kind_text, IsItemText, IsParamText, IsRegisterText}
 use Rattle.note_texts.specs.SlotTexts.{item_of, param_of, parameter_kind, register_number, register_of, slot_kind, slot_of}
 use Rattle.note_texts.specs.Splits.{split_at}
 use Rattle.note_texts.specs.declared.cell.FieldText.{FieldText}

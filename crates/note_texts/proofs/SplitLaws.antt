@@ -6,7 +6,7 @@ use Rattle.std.proofs.lemmas.List.Sums.{split_at_first, passes_at_first}
 use Rattle.std.proofs.lemmas.List.Folds.{list_all-append}
 use Rattle.std.proofs.Math.Seq.{take-append_seam, drop-append-add}
 use Rattle.std.specs.List.{position_or_len, before_first, after_first, list_all}
-use Rattle.note_texts.specs.Splits.{split_at, cut_at}
+use Rattle.note_texts.specs.Splits.{split_at, parts_at}
 
 -- no byte is the mark
 abbrev pub lacks : ℕ → List ℕ → Bool
@@ -41,15 +41,15 @@ split_at-mark mark xs ys h =
     let longer : nat_lt (length xs) (length (xs ++ mark ∷ ys)) ≡ true = grind (arith, nat_tests, length-append) in
     rw (position_at mark xs ys h, longer, take-append_seam xs (mark ∷ ys), drop-append-add xs (mark ∷ ys) 1) refl
 
-pub cut_at-mark : (mark : ℕ) (xs ys : List ℕ) → lacks mark xs ≡ true → cut_at mark (xs ++ mark ∷ ys) ≡ (xs, Some ys)
-unfolding cut_at
-cut_at-mark mark xs ys h =
+pub parts_at-mark : (mark : ℕ) (xs ys : List ℕ) → lacks mark xs ≡ true → parts_at mark (xs ++ mark ∷ ys) ≡ (xs, Some ys)
+unfolding parts_at
+parts_at-mark mark xs ys h =
     let longer : nat_lt (length xs) (length (xs ++ mark ∷ ys)) ≡ true = grind (arith, nat_tests, length-append) in
     rw (position_at mark xs ys h, longer, take-append_seam xs (mark ∷ ys), drop-append-add xs (mark ∷ ys) 1) refl
 
-pub cut_at-none : (mark : ℕ) (xs : List ℕ) → lacks mark xs ≡ true → cut_at mark xs ≡ (xs, None)
-unfolding cut_at
-cut_at-none mark xs h =
+pub parts_at-none : (mark : ℕ) (xs : List ℕ) → lacks mark xs ≡ true → parts_at mark xs ≡ (xs, None)
+unfolding parts_at
+parts_at-none mark xs h =
     let same : nat_lt (length xs) (length xs) ≡ false = grind (arith, nat_tests) in
     rw (nowhere mark xs h, same) refl
 
@@ -59,13 +59,13 @@ pub record Parts (mark : ℕ) (text : List ℕ) : Type 0 where
   pub after : List ℕ
   pub whole : text ≡ before ++ mark ∷ after
   pub split : split_at mark text ≡ Some (before, after)
-  pub cut : cut_at mark text ≡ (before, Some after)
+  pub cut : parts_at mark text ≡ (before, Some after)
 
 is_mark : (b mark : ℕ) → (b == mark) ≡ true → b ≡ mark
 is_mark b mark h = grind (arith, nat_tests)
 
-pub split_cases : (mark : ℕ) (text : List ℕ) → Parts mark text ⊎ ((split_at mark text ≡ None) × (cut_at mark text ≡ (text, None)))
-unfolding split_at cut_at
+pub split_cases : (mark : ℕ) (text : List ℕ) → Parts mark text ⊎ ((split_at mark text ≡ None) × (parts_at mark text ≡ (text, None)))
+unfolding split_at parts_at
 split_cases mark text = elim (cases_Bool (nat_lt (position_or_len (λ b. b == mark) text) (length text))) [
   | inl found ↦
       let within : position_or_len (λ b. b == mark) text < length text = grind (arith, nat_tests) in

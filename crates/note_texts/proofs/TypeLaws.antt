@@ -6,7 +6,7 @@ use Rattle.std.proofs.lemmas.Option.{cond_some, option_and_then_some}
 use Rattle.std.specs.Prelude.{codes, nat_lt}
 use Rattle.std.specs.Fmt.{decimal}
 use Rattle.note_texts.specs.Grammar.{IsCounted, mark_of, ReadsJust}
-use Rattle.note_texts.specs.Splits.{cut_at}
+use Rattle.note_texts.specs.Splits.{parts_at}
 use Rattle.note_texts.specs.TypeGrammar.{range_text, grants_text, AreNames, IsIntText, IsScaledText, IsOffsetText, IsTypeText}
 use Rattle.note_texts.specs.TypeTexts.{int_of, scaled_of, offset_of, pointer_of, plain_type, granting_type, word_type, number_type, marked_type, type_of}
 use Rattle.note_texts.specs.declared.ty.TypeText.{TypeText}
@@ -16,7 +16,7 @@ use Rattle.note_texts.proofs.GrantLaws.{granted-sound, granted-complete, grants_
 use Rattle.note_texts.proofs.NumberLaws.{number_of-decimal, decimal-number_of}
 use Rattle.note_texts.proofs.NumberRanges.{number_in-sound, number_in-complete, name_of-sound, name_of-complete, decimal_lacks, counted_of-sound, counted_of-complete, counted_lacks}
 use Rattle.note_texts.proofs.RangeLaws.{pair_of-sound, pair_of-complete, range_of-sound, range_of-complete, range_lacks}
-use Rattle.note_texts.proofs.SplitLaws.{split_cases, lacks, lacks-append, split_at-mark, cut_at-mark, cut_at-none}
+use Rattle.note_texts.proofs.SplitLaws.{split_cases, lacks, lacks-append, split_at-mark, parts_at-mark, parts_at-none}
 use Rattle.note_texts.proofs.Tables.{by_word, map_some, moved, none_read}
 
 -- ---- `LO..HI/DIV`
@@ -48,10 +48,10 @@ int_of-complete rest lo hi div h =
     let lack = range_lacks lo hi h.0 h.1 in
     let range = range_of-complete (range_text lo hi) lo hi (refl, h.0, h.1) in
     elim h.4 [
-      | inl plain ↦ rw (plain.0, cut_at-none 47 (range_text lo hi) lack, range, plain.1) refl
+      | inl plain ↦ rw (plain.0, parts_at-none 47 (range_text lo hi) lack, range, plain.1) refl
       | inr divided ↦
           let number = number_in-complete 1 (2 ^ 64 - 1) (decimal div) div (omega arith) (refl, h.2, omega (arith, h.3)) in
-          rw (divided, cut_at-mark 47 (range_text lo hi) (decimal div) lack, range, number) refl
+          rw (divided, parts_at-mark 47 (range_text lo hi) (decimal div) lack, range, number) refl
     ]
 
 -- ---- `N,C,HI`
@@ -118,8 +118,8 @@ pointer_of-complete null target offset shape count n c counted placed =
     let lack = counted_lacks 43 target shape count refl refl refl counted in
     let found = counted_of-complete target shape count counted in
     elim placed [
-      | inl start ↦ rw (start.0, append-nil target, cut_at-none 43 target lack, found, start.1, start.2) refl
-      | inr (pair, whole, paired) ↦ rw (whole, cut_at-mark 43 target pair lack, found, pair_of-complete 0 pair n c paired) refl
+      | inl start ↦ rw (start.0, append-nil target, parts_at-none 43 target lack, found, start.1, start.2) refl
+      | inr (pair, whole, paired) ↦ rw (whole, parts_at-mark 43 target pair lack, found, pair_of-complete 0 pair n c paired) refl
     ]
 
 -- ---- types by their words
@@ -195,11 +195,11 @@ type_of-sound text t h = elim (split_cases 58 text) [
 
 marked_again : (word rest : List ℕ) → lacks 58 word ≡ true → type_of (word ++ 58 ∷ rest) ≡ marked_type word rest
 unfolding type_of
-marked_again word rest h = rw (cut_at-mark 58 word rest h) refl
+marked_again word rest h = rw (parts_at-mark 58 word rest h) refl
 
 grants_again : (word fields : List ℕ) → lacks 33 word ≡ true → lacks 58 (word ++ 33 ∷ fields) ≡ true → type_of (word ++ 33 ∷ fields) ≡ granting_type word fields
 unfolding type_of word_type
-grants_again word fields h g = rw (cut_at-none 58 (word ++ 33 ∷ fields) g, cut_at-mark 33 word fields h) refl
+grants_again word fields h g = rw (parts_at-none 58 (word ++ 33 ∷ fields) g, parts_at-mark 33 word fields h) refl
 
 granting_again : (word fields : List ℕ) (names : List (List ℕ)) → lacks 33 word ≡ true → lacks 58 word ≡ true → AreNames names → grants_text names ≡ 33 ∷ fields → type_of (word ++ grants_text names) ≡ granting_type word fields
 granting_again word fields names no_mark no_colon h whole =
@@ -207,26 +207,26 @@ granting_again word fields names no_mark no_colon h whole =
     ap (λ text. type_of (word ++ text)) whole ∙ grants_again word fields no_mark lack
 
 status_again : (names : List (List ℕ)) → AreNames names → type_of (codes "status" ++ grants_text names) ≡ Some (Status names)
-unfolding type_of word_type plain_type granting_type cut_at
+unfolding type_of word_type plain_type granting_type parts_at
 status_again [] h = refl
 status_again (name ∷ names) h =
     let g = granted-complete name names h in
     granting_again (codes "status") g.0 (name ∷ names) refl refl h g.1 ∙ rw g.2 refl
 
 sstatus_again : (names : List (List ℕ)) → AreNames names → type_of (codes "sstatus" ++ grants_text names) ≡ Some (SignedStatus names)
-unfolding type_of word_type plain_type granting_type cut_at
+unfolding type_of word_type plain_type granting_type parts_at
 sstatus_again [] h = refl
 sstatus_again (name ∷ names) h =
     let g = granted-complete name names h in
     granting_again (codes "sstatus") g.0 (name ∷ names) refl refl h g.1 ∙ rw g.2 refl
 
 int_again : (text : List ℕ) (lo hi div : ℕ) → IsTypeText text (Int lo hi div) → type_of text ≡ Some (Int lo hi div)
-unfolding type_of word_type plain_type marked_type number_type cut_at
+unfolding type_of word_type plain_type marked_type number_type parts_at
 int_again text lo hi div (inl whole) = rw (whole.0, whole.1, whole.2, whole.3) refl
 int_again text lo hi div (inr (rest, whole, range)) = rw whole (marked_again (codes "int") rest refl ∙ int_of-complete rest lo hi div range)
 
 pub type_of-complete : (text : List ℕ) (t : TypeText) → IsTypeText text t → type_of text ≡ Some t
-unfolding type_of word_type plain_type marked_type number_type cut_at
+unfolding type_of word_type plain_type marked_type number_type parts_at
 type_of-complete text Any h = rw h refl
 type_of-complete text (Int lo hi div) h = int_again text lo hi div h
 type_of-complete text (Lin n c) (pair, whole, paired) = rw whole (marked_again (codes "lin") pair refl ∙ rw (pair_of-complete 1 pair n c paired) refl)

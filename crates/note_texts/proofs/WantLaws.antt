@@ -9,7 +9,7 @@ use Rattle.std.specs.Fmt.{decimal}
 use Rattle.note_texts.specs.Grammar.{ReadsJust}
 use Rattle.note_texts.specs.Ranges.{size_of}
 use Rattle.note_texts.specs.SlotGrammar.{kind_text}
-use Rattle.note_texts.specs.Splits.{cut_at}
+use Rattle.note_texts.specs.Splits.{parts_at}
 use Rattle.note_texts.specs.TypeTexts.{plain_type, type_of, word_type}
 use Rattle.note_texts.specs.WantGrammar.{IsGiven, IsGivenText, IsResultText, IsSizeText, IsWantParamText, IsWantText}
 use Rattle.note_texts.specs.WantTexts.{given_type, is_result, is_zero, marked_want, plain_want, result_of, want_of, want_param_of}
@@ -23,7 +23,7 @@ use Rattle.note_texts.proofs.CellLaws.{cell_of-sound, cell_of-complete}
 use Rattle.note_texts.proofs.NumberRanges.{number_in-sound, number_in-complete, decimal_lacks}
 use Rattle.note_texts.proofs.RangeLaws.{range_of-sound, range_of-complete}
 use Rattle.note_texts.proofs.SlotLaws.{kind_split, parameter_kind-sound, parameter_kind-complete}
-use Rattle.note_texts.proofs.SplitLaws.{both_true, split_cases, lacks, split_at-mark, cut_at-mark}
+use Rattle.note_texts.proofs.SplitLaws.{both_true, split_cases, lacks, split_at-mark, parts_at-mark}
 use Rattle.note_texts.proofs.Tables.{by_word, map_some, moved, none_read}
 use Rattle.note_texts.proofs.TypeLaws.{type_of-sound, type_of-complete}
 
@@ -83,10 +83,10 @@ want_sound text w h = elim (split_cases 58 text) [
 
 marked_again : (word rest : List ℕ) → lacks 58 word ≡ true → want_of (word ++ 58 ∷ rest) ≡ marked_want word rest
 unfolding want_of
-marked_again word rest h = rw (cut_at-mark 58 word rest h) refl
+marked_again word rest h = rw (parts_at-mark 58 word rest h) refl
 
 want_complete : (text : List ℕ) (w : WantText) → IsWantText text w → want_of text ≡ Some w
-unfolding want_of plain_want marked_want cut_at
+unfolding want_of plain_want marked_want parts_at
 want_complete text Any h = rw h refl
 want_complete text (Int lo hi) (range, whole, ranged) = rw whole (marked_again (codes "int") range refl ∙ rw (range_of-complete range lo hi ranged) refl)
 want_complete text (Size n c) (size, whole, sized) = rw whole (marked_again (codes "size") size refl ∙ rw (size_complete size n c sized) refl)
@@ -174,7 +174,7 @@ result_sound text r h =
     subst (IsResultText text) p.1 (type_of-sound text ty typed, given_sound ty p.0)))
 
 no_none : (text : List ℕ) (ty : TypeText) → type_of text ≡ Some ty → bytes_eq text (codes "none") ≡ false
-unfolding type_of word_type plain_type cut_at
+unfolding type_of word_type plain_type parts_at
 no_none text ty h = elim (cases_Bool (bytes_eq text (codes "none"))) [
   | inl same ↦
       let d = bytes_eq-Decides text (codes "none") in

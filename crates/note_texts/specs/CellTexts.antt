@@ -3,7 +3,7 @@ use Rattle.std.specs.Prelude.{ℕ, ◌-◌, ◌^◌, List, Option, Some, None, t
 use Rattle.note_texts.specs.Names.{name_of}
 use Rattle.note_texts.specs.Numbers.{number_in}
 use Rattle.note_texts.specs.Ranges.{count_of}
-use Rattle.note_texts.specs.Splits.{◌>>=◌, cut_at, split_at}
+use Rattle.note_texts.specs.Splits.{◌>>=◌, parts_at, split_at}
 use Rattle.note_texts.specs.declared.cell.CellText.{CellText}
 use Rattle.note_texts.specs.declared.cell.CellText.TheVariants.{I8, I16, I32, I64, N, Stat, Handle, Entry, Ptr, P64, Method}
 use Rattle.note_texts.specs.declared.cell.FieldText.{FieldText}
@@ -11,8 +11,8 @@ use Rattle.note_texts.specs.declared.cell.FieldText.{FieldText}
 -- `S*K`, or `S` where K is 1: a shape and a count
 unfoldable pub counted_of : List ℕ → Option (List ℕ × ℕ)
 counted_of text = do
-  shape ← name_of (cut_at 42 text).0
-  count ← count_of (cut_at 42 text).1
+  shape ← name_of (parts_at 42 text).0
+  count ← count_of (parts_at 42 text).1
   Some (shape, count)
 
 -- a cell that is one word
@@ -45,7 +45,7 @@ cell_by (word, Some rest) = marked_cell word rest
 
 -- CELL
 unfoldable pub cell_of : List ℕ → Option CellText
-cell_of text = cell_by (cut_at 58 text)
+cell_of text = cell_by (parts_at 58 text)
 
 -- `NAME N C CELL`
 unfoldable pub field_of : List ℕ → Option FieldText

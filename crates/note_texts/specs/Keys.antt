@@ -8,7 +8,8 @@ use Rattle.toml.specs.Parse.{parse_document}
 use Rattle.note_types.specs.declared.fault.TomlFault.{TomlFault}
 use Rattle.note_types.specs.declared.fault.TomlFault.TheVariants.{NotToml, Missing, Kind, Range}
 use Rattle.note_types.specs.declared.notes.Pair.{Pair}
-use Rattle.note_texts.specs.Outcome.{◌>>=◌, or_else}
+use Rattle.note_texts.specs.KeyTexts.{key_text}
+use Rattle.ebc_base.specs.Steps.{◌>>=◌, or_else}
 
 -- the table that a text is: UTF-8, and a document of TOML
 unfoldable pub document : List ℕ → Result Members TomlFault
@@ -24,12 +25,12 @@ natural_in path low high (pos n) = if nat_le low n && nat_le n high then Ok n el
 natural_in path low high (negsuc n) = Err (Range path)
 
 -- a value that is a whole number from low to high
-abbrev pub number_of : List ℕ → ℕ → ℕ → Data → Result ℕ TomlFault
-number_of path low high d = or_else (Kind path) (as_integer d) >>= natural_in path low high
+abbrev pub whole_number : List ℕ → ℕ → ℕ → Data → Result ℕ TomlFault
+whole_number path low high d = or_else (Kind path) (as_integer d) >>= natural_in path low high
 
 -- the number from low to high at a key
 unfoldable pub number_at : List ℕ → List ℕ → ℕ → ℕ → Members → Result ℕ TomlFault
-number_at prefix key low high table = field prefix key table >>= number_of (prefix ++ key) low high
+number_at prefix key low high table = field prefix key table >>= whole_number (prefix ++ key) low high
 
 -- a value that is a text of a form: what the text stands for
 abbrev pub text_of : {A : Type 0} → (List ℕ → Option A) → List ℕ → Data → Result A TomlFault
@@ -68,8 +69,8 @@ pair_at prefix key high table = do
   d ← field prefix key table
   ds ← or_else (Kind (prefix ++ key)) (as_array d)
   two ← or_else (Range (prefix ++ key)) (two_items ds)
-  n ← number_of (prefix ++ key) 0 high two.0
-  c ← number_of (prefix ++ key) 0 high two.1
+  n ← whole_number (prefix ++ key) 0 high two.0
+  c ← whole_number (prefix ++ key) 0 high two.1
   Ok (record { n = n; c = c })
 
 -- a key is among these
@@ -79,7 +80,7 @@ is_known key known = list_any (bytes_eq key) known
 -- each key is one of these; of those that are not, the first in the order of their bytes is told
 unfoldable pub only_keys : List ℕ → List (List ℕ) → Members → Result (Unit {0}) TomlFault
 only_keys prefix known no_members = Ok tt
-only_keys prefix known (member k d ms) = if is_known k known then only_keys prefix known ms else Err (Kind (prefix ++ k))
+only_keys prefix known (member k d ms) = if is_known k known then only_keys prefix known ms else Err (Kind (prefix ++ key_text k))
 
 -- the path of an item of the list at a path
 abbrev pub item_path : List ℕ → ℕ → List ℕ

@@ -1,5 +1,6 @@
 pub mod CellTexts
 pub mod Grammar
+pub mod KeyTexts
 pub mod Keys
 pub mod Lists
 pub mod Names

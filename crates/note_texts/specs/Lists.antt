@@ -3,7 +3,7 @@ use Rattle.std.specs.Prelude.{ℕ, ◌+◌, ◌-◌, List, [], ◌∷◌, ◌++�
 use Rattle.toml.specs.Data.{Data, Items, no_items, item, Members, get_member, as_str, as_array, as_table}
 use Rattle.note_types.specs.declared.fault.TomlFault.{TomlFault}
 use Rattle.note_types.specs.declared.fault.TomlFault.TheVariants.{Kind, Range}
-use Rattle.note_texts.specs.Outcome.{◌>>=◌, or_else, passes}
+use Rattle.ebc_base.specs.Steps.{◌>>=◌, or_else, passes}
 use Rattle.note_texts.specs.Keys.{text_of, item_path, row_prefix}
 
 -- the items of an array that may be left out, and has then none

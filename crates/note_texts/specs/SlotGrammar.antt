@@ -1,8 +1,9 @@
 -- The grammar of the texts of parameters, registers and items of the stack. docs/NOTES.md has it in words.
-use Rattle.std.specs.Prelude.{◌≡◌, ℕ, ◌≤◌, List, ◌++◌, ⊤, codes}
+use Rattle.std.specs.Prelude.{◌≡◌, ℕ, ◌≤◌, List, ◌++◌, codes}
 use Rattle.std.specs.Fmt.{decimal}
 use Rattle.note_types.specs.declared.cell.SlotKind.{SlotKind}
 use Rattle.note_types.specs.declared.cell.SlotKind.TheVariants as kinds
+use Rattle.note_types.specs.Passing.{IsParameterKind}
 use Rattle.note_texts.specs.TypeGrammar.{IsTypeText}
 use Rattle.note_texts.specs.declared.slot.ItemText.{ItemText}
 use Rattle.note_texts.specs.declared.slot.ItemText.TheVariants.{Slot, Locals}
@@ -14,12 +15,6 @@ abbrev pub kind_text : SlotKind → List ℕ
 kind_text kinds.N = codes "n"
 kind_text kinds.Q = codes "q"
 kind_text kinds.D = codes "d"
-
--- a parameter has 8 bytes or is natural
-abbrev pub IsParameterKind : SlotKind → Type 0
-IsParameterKind kinds.N = ⊤
-IsParameterKind kinds.Q = ⊤
-IsParameterKind kinds.D = ⊥
 
 -- `n TYPE` or `q TYPE`
 abbrev pub IsParamText : List ℕ → ParamText → Type 0

@@ -15,8 +15,8 @@ split_at mark text =
     else None
 
 -- what stands before the first such byte and what follows it; all, and nothing, where there is none
-unfoldable pub cut_at : ℕ → List ℕ → List ℕ × Option (List ℕ)
-cut_at mark text =
+unfoldable pub parts_at : ℕ → List ℕ → List ℕ × Option (List ℕ)
+parts_at mark text =
     if nat_lt (position_or_len (λ b. b == mark) text) (length text)
     then (before_first (λ b. b == mark) text, Some (after_first (λ b. b == mark) text))
     else (text, None)

@@ -5,15 +5,15 @@ use Rattle.note_texts.specs.CellTexts.{cell_of, counted_of}
 use Rattle.note_texts.specs.Names.{name_of, names_of}
 use Rattle.note_texts.specs.Numbers.{number_in, number_of}
 use Rattle.note_texts.specs.Ranges.{count_of, pair_of, range_of}
-use Rattle.note_texts.specs.Splits.{◌>>=◌, cut_at, split_at}
+use Rattle.note_texts.specs.Splits.{◌>>=◌, parts_at, split_at}
 use Rattle.note_texts.specs.declared.ty.TypeText.{TypeText}
 use Rattle.note_texts.specs.declared.ty.TypeText.TheVariants.{Any, Int, Lin, Scaled, Ptr, Local, Lent, Status, SignedStatus, Mask, Handle, Entry, Method, ThunkAt, Saved}
 
 -- `LO..HI` or `LO..HI/DIV`
 unfoldable pub int_of : List ℕ → Option TypeText
 int_of text = do
-  range ← range_of (cut_at 47 text).0
-  div ← count_of (cut_at 47 text).1
+  range ← range_of (parts_at 47 text).0
+  div ← count_of (parts_at 47 text).1
   Some (Int range.0 range.1 div)
 
 -- `N,C,HI`, where HI × (8N + C) is below 2^32
@@ -34,8 +34,8 @@ offset_of (Some text) = pair_of 0 text
 -- `S*K+N,C`, with `*K` and `+N,C` left out or not
 unfoldable pub pointer_of : Bool → List ℕ → Option TypeText
 pointer_of null text = do
-  target ← counted_of (cut_at 43 text).0
-  offset ← offset_of (cut_at 43 text).1
+  target ← counted_of (parts_at 43 text).0
+  offset ← offset_of (parts_at 43 text).1
   Some (Ptr target.0 target.1 offset.0 offset.1 null)
 
 -- a type that is one word
@@ -64,7 +64,7 @@ word_by (word, Some fields) = granting_type word fields
 
 -- a type with no `:`
 unfoldable pub word_type : List ℕ → Option TypeText
-word_type text = word_by (cut_at 33 text)
+word_type text = word_by (parts_at 33 text)
 
 -- a type by the word before its `:` and by what follows, where that is numbers
 unfoldable pub number_type : List ℕ → List ℕ → Option TypeText
@@ -93,4 +93,4 @@ type_by (word, Some rest) = marked_type word rest
 
 -- TYPE
 unfoldable pub type_of : List ℕ → Option TypeText
-type_of text = type_by (cut_at 58 text)
+type_of text = type_by (parts_at 58 text)

@@ -2,7 +2,8 @@
 use Rattle.std.specs.Prelude.{◌≡◌, ℕ, ◌^◌, ◌<◌, ◌≤◌, pos, List, [], ◌++◌, Some, None, ⊤, codes}
 use Rattle.std.specs.Fmt.{decimal}
 use Rattle.note_texts.specs.Grammar.{IsCellText}
-use Rattle.note_texts.specs.SlotGrammar.{IsParameterKind, kind_text}
+use Rattle.note_types.specs.Passing.{IsParameterKind}
+use Rattle.note_texts.specs.SlotGrammar.{kind_text}
 use Rattle.note_texts.specs.TypeGrammar.{IsRangeText, IsTypeText}
 use Rattle.note_texts.specs.declared.ty.TypeText.{TypeText}
 use Rattle.note_texts.specs.declared.ty.TypeText.TheVariants as types

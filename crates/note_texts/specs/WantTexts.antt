@@ -3,7 +3,7 @@ use Rattle.std.specs.Prelude.{ℕ, ◌^◌, ℤ, pos, negsuc, List, [], Option, 
 use Rattle.note_texts.specs.CellTexts.{cell_of}
 use Rattle.note_texts.specs.Ranges.{range_of, size_of}
 use Rattle.note_texts.specs.SlotTexts.{parameter_kind}
-use Rattle.note_texts.specs.Splits.{◌>>=◌, cut_at, split_at}
+use Rattle.note_texts.specs.Splits.{◌>>=◌, parts_at, split_at}
 use Rattle.note_texts.specs.TypeTexts.{type_of}
 use Rattle.note_texts.specs.declared.ty.TypeText.{TypeText}
 use Rattle.note_texts.specs.declared.ty.TypeText.TheVariants as types
@@ -38,7 +38,7 @@ want_by (word, Some rest) = marked_want word rest
 
 -- WANT
 unfoldable pub want_of : List ℕ → Option WantText
-want_of text = want_by (cut_at 58 text)
+want_of text = want_by (parts_at 58 text)
 
 -- `n WANT` or `q WANT`
 unfoldable pub want_param_of : List ℕ → Option WantParamText

@@ -1,4 +1,4 @@
-// Cells and fields, as their texts have them.
+//! Cells and fields, as their texts have them.
 ghost use Rattle.std.specs.Prelude.{◌≡◌, IfOk, Some, None, option_map};
 ghost use Rattle.note_texts.specs.CellTexts.{cell_of, counted_of, field_of, marked_cell, plain_cell};
 ghost use Rattle.note_texts.specs.Grammar.{IsCellText, IsFieldText, ReadsJust};
@@ -8,12 +8,12 @@ ghost use Rattle.note_texts.specs.declared.cell.CellText.TheVariants.{Ptr, P64, 
 use crate::from_text::FromText;
 use crate::number::short_number;
 use crate::range::count_of;
-use crate::split::{cut_at, split_at};
+use crate::split::{parts_at, split_at};
 use note_types::Name;
 use std::alloc::{AllocError, Global};
 
 /// A cell as its text has it: a shape or a method by its name.
-#[derive(PartialEq, Debug, Drop)]
+#[derive(PartialEq, Drop)]
 pub enum CellText {
     /// `i8`
     I8,
@@ -40,7 +40,7 @@ pub enum CellText {
 }
 
 /// `NAME N C CELL`, a field of a shape and the pair where it begins.
-#[derive(Debug, Drop)]
+#[derive(Drop)]
 pub struct FieldText {
     pub name: Name,
     /// Natural units.
@@ -55,7 +55,7 @@ pub struct FieldText {
 pub(crate) fn counted_of(alloc: Global, text: &str) -> Result<Option<(Name, u64)>, AllocError>
     ensures { IfOk result (λ target. target ≡ counted_of text.now) }
 {
-    let (shape, count) = cut_at(b'*', text);
+    let (shape, count) = parts_at(b'*', text);
     let Some(shape) = Name::from_text(alloc, shape)? else {
         return Ok(None);
     };
@@ -127,7 +127,7 @@ fn marked_cell(alloc: Global, word: &str, rest: &str) -> Result<Option<CellText>
 fn cell_of(alloc: Global, text: &str) -> Result<Option<CellText>, AllocError>
     ensures { IfOk result (λ cell. cell ≡ cell_of text.now) }
 {
-    match cut_at(b':', text) {
+    match parts_at(b':', text) {
         (word, None) => Ok(plain_cell(word)),
         (word, Some(rest)) => marked_cell(alloc, word, rest),
     }

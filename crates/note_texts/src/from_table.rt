@@ -1,4 +1,4 @@
-// What a table stands for.
+//! What a table stands for.
 ghost use Rattle.std.specs.Prelude.{List, ℕ, Result};
 ghost use Rattle.toml.specs.Data.{Members};
 ghost use Rattle.toml.specs.View.{table_view};

@@ -1,4 +1,4 @@
-// What a text stands for.
+//! What a text stands for.
 ghost use Rattle.std.specs.Prelude.{◌≡◌, List, ℕ, Option, IfOk};
 
 use std::alloc::{AllocError, Global};

@@ -1,4 +1,4 @@
-// The items of the lists of a TOML text, one after the other.
+//! The items of the lists of a TOML text, one after the other.
 ghost use Rattle.std.specs.Prelude.{◌≡◌, IfOk, length, string_bytes};
 ghost use Rattle.std.specs.List.{list_any};
 ghost use Rattle.toml.specs.View.{view, table_view, items_view};

@@ -8,6 +8,7 @@ mod cell;
 mod from_table;
 mod from_text;
 mod items;
+mod key_text;
 mod name;
 mod number;
 mod range;
@@ -23,13 +24,11 @@ pub use cell::{CellText, FieldText};
 pub use from_table::FromTable;
 pub use from_text::FromText;
 pub use items::{item_path, row_prefix, table_of_item};
+pub use number::{number_in, number_of, short_number};
+pub use range::size_of;
 pub use row::Row;
 pub use slot::{ItemText, ParamText, RegisterText};
+pub use split::{parts_at, split_at};
 pub use toml_text::document;
 pub use ty::TypeText;
 pub use want::{ResultText, WantParamText, WantText};
-
-#[cfg(test)]
-mod key_tests;
-#[cfg(test)]
-mod text_tests;

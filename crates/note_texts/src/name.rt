@@ -1,4 +1,4 @@
-// Names.
+//! Names.
 ghost use Rattle.std.specs.Prelude.{◌≡◌, Some, None, IfOk, map, length};
 ghost use Rattle.std.specs.List.{list_all};
 ghost use Rattle.note_texts.specs.Grammar.{IsNameText, ReadsJust};

@@ -1,4 +1,4 @@
-// Numbers.
+//! Numbers.
 ghost use Rattle.std.specs.Prelude.{◌≡◌, ◌+◌, ◌-◌, ◌*◌, ◌<◌, ◌≤◌, ◌^◌, Some, None, option_map, IfSome, pos};
 ghost use Rattle.note_texts.specs.Grammar.{IsNumber, ReadsJust};
 ghost use Rattle.note_texts.specs.Numbers.{is_digit, near_of, number_from, number_in, number_of, units_of, with_digit, within};
@@ -36,7 +36,7 @@ fn plain_number(text: &[u8]) -> Option<u64>
 }
 
 /// The number that a text is, in decimal digits with no sign and no leading zero.
-pub(crate) fn number_of(text: &[u8]) -> Option<u64>
+pub fn number_of(text: &[u8]) -> Option<u64>
     ensures value { result ≡ number_of text.now }
     ensures grammar { ReadsJust result (IsNumber text.now) }
 {
@@ -44,7 +44,7 @@ pub(crate) fn number_of(text: &[u8]) -> Option<u64>
 }
 
 /// The number that a text is, where it is from `low` to `high`.
-pub(crate) fn number_in(low: u64, high: u64, text: &[u8]) -> Option<u64>
+pub fn number_in(low: u64, high: u64, text: &[u8]) -> Option<u64>
     ensures { result ≡ number_in low high text.now }
 {
     let number = number_of(text)?;
@@ -56,7 +56,7 @@ pub(crate) fn number_in(low: u64, high: u64, text: &[u8]) -> Option<u64>
 }
 
 /// The number that a text is, where it is below 2^32.
-pub(crate) fn short_number(text: &[u8]) -> Option<u32>
+pub fn short_number(text: &[u8]) -> Option<u32>
     ensures { result ≡ number_in 0 (2 ^ 32 - 1) text.now }
 {
     let number = number_in(0, u64::from(u32::MAX), text)?;

@@ -1,4 +1,4 @@
-// Numbers in a row.
+//! Numbers in a row.
 ghost use Rattle.std.specs.Prelude.{◌≡◌, ◌-◌, ◌^◌, ◌≤◌, option_map, Some, None};
 ghost use Rattle.note_texts.specs.Ranges.{after_dot, count_of, pair_of, range_of, size_of};
 
@@ -49,7 +49,7 @@ pub(crate) fn pair_of(low: u64, text: &str) -> Option<(i32, i32)>
 
 /// `N,C`, each from 0 to 2^20.
 #[tactic(auto, unfolding(crate::specs::Ranges::size_of))]
-pub(crate) fn size_of(text: &str) -> Option<(u32, u32)>
+pub fn size_of(text: &str) -> Option<(u32, u32)>
     ensures { result ≡ size_of text.now }
 {
     let (units, bytes) = split_at(b',', text)?;

@@ -1,15 +1,17 @@
-// What stands at the keys of a table.
+//! What stands at the keys of a table.
 ghost use Rattle.std.specs.Prelude.{◌≡◌, ◌+◌, ◌++◌, ◌≤◌, IfOk, length, map, bytes_eq};
 ghost use Rattle.std.specs.List.{list_any};
 ghost use Rattle.toml.specs.View.{view, table_view, items_view};
 ghost use Rattle.note_texts.specs.Outcome.{Gives, GivesBy};
+ghost use Rattle.note_texts.specs.KeyTexts.{key_text};
 ghost use Rattle.note_texts.specs.Keys.{field, number_at, text_at, optional_text_at, flag_at, pair_at, only_keys};
 ghost use Rattle.note_texts.specs.Lists.{array_at, list_at, texts_at, texts_beside_at, tables_at, count_beside};
 
 use crate::from_table::FromTable;
 use crate::from_text::FromText;
 use crate::items::{has_text, rows_of, texts_of};
-use crate::value::{number_of, text_of, value_at};
+use crate::key_text::key_text;
+use crate::value::{text_of, value_at, whole_number};
 use note_types::{Name, NotesEnd, Pair, TomlFault};
 use std::alloc::{AllocError, Global};
 use toml::{Table, Value};
@@ -35,6 +37,14 @@ impl<'a> Row<'a> {
         Ok(Name::new(format!(in alloc; "{prefix}{key}")?))
     }
 
+    // The path of a key that may have any characters.
+    fn told_path(self, alloc: Global, key: &str) -> Result<Name, AllocError>
+        ensures { IfOk result (λ n. n ≡ self.entry.prefix.now ++ key_text key.now) }
+    {
+        let told = key_text(alloc, key)?;
+        self.path(alloc, told.as_str())
+    }
+
     fn field(self, alloc: Global, key: &str) -> Result<&'a Value, NotesEnd>
         ensures { GivesBy (λ v. view v.now) result (field self.entry.prefix.now key.now (table_view self.entry.table.now)) }
     {
@@ -57,7 +67,7 @@ impl<'a> Row<'a> {
     {
         let value = self.field(alloc, key)?;
         let path = self.path(alloc, key)?;
-        number_of(alloc, path.as_str(), low, high, value)
+        whole_number(alloc, path.as_str(), low, high, value)
     }
 
     /// What the text at a key stands for.
@@ -128,8 +138,8 @@ impl<'a> Row<'a> {
         let [n, c] = values.as_slice() else {
             return Err(NotesEnd::Fault(TomlFault::Range(path)));
         };
-        let n = number_of(alloc, path.as_str(), 0, high, n)?;
-        let c = number_of(alloc, path.as_str(), 0, high, c)?;
+        let n = whole_number(alloc, path.as_str(), 0, high, n)?;
+        let c = whole_number(alloc, path.as_str(), 0, high, c)?;
         Ok(Pair { n, c })
     }
 
@@ -245,7 +255,7 @@ impl<'a> Row<'a> {
     {
         for (key, _) in self.table {
             if !is_known(key.as_str(), known) {
-                return Err(NotesEnd::Fault(TomlFault::Kind(self.path(alloc, key.as_str())?)));
+                return Err(NotesEnd::Fault(TomlFault::Kind(self.told_path(alloc, key.as_str())?)));
             }
         }
         Ok(())

@@ -1,4 +1,4 @@
-// Parameters, registers and items of the stack, as their texts have them.
+//! Parameters, registers and items of the stack, as their texts have them.
 ghost use Rattle.std.specs.Prelude.{◌≡◌, IfOk, Some, None};
 ghost use Rattle.note_texts.specs.Grammar.{ReadsJust};
 ghost use Rattle.note_texts.specs.SlotGrammar.{IsItemText, IsParamText, IsRegisterText};
@@ -12,14 +12,14 @@ use note_types::SlotKind;
 use std::alloc::{AllocError, Global};
 
 /// `n TYPE` or `q TYPE`, a parameter of a function.
-#[derive(Debug, Drop)]
+#[derive(Drop)]
 pub struct ParamText {
     pub kind: SlotKind,
     pub ty: TypeText,
 }
 
 /// `R1 TYPE` to `R7 TYPE`, what a register holds.
-#[derive(Debug, Drop)]
+#[derive(Drop)]
 pub struct RegisterText {
     /// The number of the register, 1 to 7.
     pub register: u8,
@@ -27,7 +27,7 @@ pub struct RegisterText {
 }
 
 /// An item of the stack: `n TYPE`, `q TYPE` or `d TYPE`, a slot; or `locals`.
-#[derive(Debug, Drop)]
+#[derive(Drop)]
 pub enum ItemText {
     Slot { kind: SlotKind, ty: TypeText },
     Locals,

@@ -1,13 +1,13 @@
-// Texts that are cut at a mark.
+//! Texts that are cut at a mark.
 ghost use Rattle.std.specs.Prelude.{◌≡◌, ◌<◌, option_map, Some, None, IfOk, map, ◌==◌};
 ghost use Rattle.std.specs.List.{slice_split};
-ghost use Rattle.note_texts.specs.Splits.{cut_at, split_at};
+ghost use Rattle.note_texts.specs.Splits.{parts_at, split_at};
 
 use std::alloc::{AllocError, Global};
 
 /// What stands before the first `mark`, and what follows it.
 #[tactic(auto, unfolding(crate::specs::Splits::split_at))]
-pub(crate) fn split_at(mark: u8, text: &str) -> Option<(&str, &str)>
+pub fn split_at(mark: u8, text: &str) -> Option<(&str, &str)>
     requires { mark < 128 }
     ensures { option_map (λ parts. (parts.0.now, parts.1.now)) result ≡ split_at mark text.now }
 {
@@ -15,10 +15,10 @@ pub(crate) fn split_at(mark: u8, text: &str) -> Option<(&str, &str)>
 }
 
 /// What stands before the first `mark`, and what follows it, if there is one.
-#[tactic(auto, unfolding(crate::specs::Splits::cut_at))]
-pub(crate) fn cut_at(mark: u8, text: &str) -> (&str, Option<&str>)
+#[tactic(auto, unfolding(crate::specs::Splits::parts_at))]
+pub fn parts_at(mark: u8, text: &str) -> (&str, Option<&str>)
     requires { mark < 128 }
-    ensures { (result.0.now, option_map (λ rest. rest.now) result.1) ≡ cut_at mark text.now }
+    ensures { (result.0.now, option_map (λ rest. rest.now) result.1) ≡ parts_at mark text.now }
 {
     match text.split_once(char::from(mark)) {
         Some((before, after)) => (before, Some(after)),

@@ -1,4 +1,4 @@
-// The table that a text is.
+//! The table that a text is.
 ghost use Rattle.std.specs.Prelude.{◌≡◌};
 ghost use Rattle.toml.specs.View.{table_view};
 ghost use Rattle.note_texts.specs.Outcome.{GivesBy};

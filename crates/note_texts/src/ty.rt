@@ -1,4 +1,4 @@
-// Types, as their texts have them.
+//! Types, as their texts have them.
 ghost use Rattle.std.specs.Prelude.{◌≡◌, ◌+◌, ◌*◌, ◌^◌, ◌<◌, ◌-◌, ◌==◌, IfOk, Some, None, nat_lt, option_map};
 ghost use Rattle.std.specs.List.{slice_split};
 ghost use Rattle.note_texts.specs.CellTexts.{cell_of};
@@ -15,13 +15,13 @@ use crate::from_text::FromText;
 use crate::name::names_of;
 use crate::number::{number_in, number_of, short_number};
 use crate::range::{count_of, pair_of, range_of};
-use crate::split::{cut_at, pieces, split_at};
+use crate::split::{parts_at, pieces, split_at};
 use note_types::{Name, Names};
 use std::alloc::{AllocError, Global};
 
 /// A type as its text has it: shapes, methods and local fields by their names. The numbers are within the bounds of the
 /// types (`note_types::Ty`).
-#[derive(PartialEq, Debug, Drop)]
+#[derive(PartialEq, Drop)]
 pub enum TypeText {
     /// `any`
     Any,
@@ -76,7 +76,7 @@ pub enum TypeText {
 fn int_of(text: &str) -> Option<TypeText>
     ensures { result ≡ int_of text.now }
 {
-    let (range, div) = cut_at(b'/', text);
+    let (range, div) = parts_at(b'/', text);
     let (lo, hi) = range_of(range)?;
     let div = count_of(div)?;
     Some(TypeText::Int { lo, hi, div })
@@ -130,7 +130,7 @@ fn offset_of(text: Option<&str>) -> Option<(i32, i32)>
 fn pointer_of(alloc: Global, null: bool, text: &str) -> Result<Option<TypeText>, AllocError>
     ensures { IfOk result (λ ty. ty ≡ pointer_of null text.now) }
 {
-    let (target, offset) = cut_at(b'+', text);
+    let (target, offset) = parts_at(b'+', text);
     let Some((shape, count)) = counted_of(alloc, target)? else {
         return Ok(None);
     };
@@ -191,7 +191,7 @@ fn granting_type(alloc: Global, word: &str, fields: &str) -> Result<Option<TypeT
 fn word_type(alloc: Global, text: &str) -> Result<Option<TypeText>, AllocError>
     ensures { IfOk result (λ ty. ty ≡ word_type text.now) }
 {
-    match cut_at(b'!', text) {
+    match parts_at(b'!', text) {
         (word, None) => Ok(plain_type(alloc, word)),
         (word, Some(fields)) => granting_type(alloc, word, fields),
     }
@@ -277,7 +277,7 @@ fn marked_type(alloc: Global, word: &str, rest: &str) -> Result<Option<TypeText>
 fn type_of(alloc: Global, text: &str) -> Result<Option<TypeText>, AllocError>
     ensures { IfOk result (λ ty. ty ≡ type_of text.now) }
 {
-    match cut_at(b':', text) {
+    match parts_at(b':', text) {
         (word, None) => word_type(alloc, word),
         (word, Some(rest)) => marked_type(alloc, word, rest),
     }

@@ -1,9 +1,9 @@
-// What one value of a TOML text says, by the path of its key.
+//! What one value of a TOML text says, by the path of its key.
 ghost use Rattle.std.specs.Prelude.{◌≡◌, ◌++◌, ◌≤◌, IfOk, string_bytes, option_map};
 ghost use Rattle.toml.specs.Data.{get_member};
 ghost use Rattle.toml.specs.View.{view, table_view};
 ghost use Rattle.note_texts.specs.Outcome.{Gives};
-ghost use Rattle.note_texts.specs.Keys.{natural_in, number_of, text_of};
+ghost use Rattle.note_texts.specs.Keys.{natural_in, whole_number, text_of};
 
 use crate::from_text::FromText;
 use note_types::{Name, NotesEnd, TomlFault};
@@ -39,14 +39,14 @@ fn natural_in(alloc: Global, path: &str, low: u64, high: u64, number: i64) -> Re
 /// # Errors
 ///
 /// `TomlFault::Kind` where it is no whole number, `TomlFault::Range` where it is another one; no memory.
-pub fn number_of(
+pub fn whole_number(
     alloc: Global,
     path: &str,
     low: u64,
     high: u64,
     value: &Value,
 ) -> Result<u64, NotesEnd>
-    ensures number { Gives result (number_of path.now low high (view value.now)) }
+    ensures number { Gives result (whole_number path.now low high (view value.now)) }
     ensures within { IfOk result (λ n. (low ≤ n) × (n ≤ high)) }
 {
     match value.as_integer() {

@@ -1,4 +1,4 @@
-// What a native method takes and gives, as its texts have it.
+//! What a native method takes and gives, as its texts have it.
 ghost use Rattle.std.specs.Prelude.{◌≡◌, ◌^◌, ◌<◌, ◌==◌, IfOk, Some, None, option_map};
 ghost use Rattle.note_texts.specs.Grammar.{ReadsJust};
 ghost use Rattle.note_texts.specs.WantGrammar.{IsResultText, IsWantParamText, IsWantText};
@@ -11,13 +11,13 @@ use crate::cell::CellText;
 use crate::from_text::FromText;
 use crate::range::{range_of, size_of};
 use crate::slot::parameter_kind;
-use crate::split::{cut_at, split_at};
+use crate::split::{parts_at, split_at};
 use crate::ty::TypeText;
 use note_types::SlotKind;
 use std::alloc::{AllocError, Global};
 
 /// What an argument of a native method has to be, as its text has it.
-#[derive(PartialEq, Debug, Drop)]
+#[derive(PartialEq, Drop)]
 pub enum WantText {
     /// `any`
     Any,
@@ -40,7 +40,7 @@ pub enum WantText {
 }
 
 /// `n WANT` or `q WANT`, a parameter of a native method.
-#[derive(Debug, Drop)]
+#[derive(Drop)]
 pub struct WantParamText {
     pub kind: SlotKind,
     pub want: WantText,
@@ -48,7 +48,7 @@ pub struct WantParamText {
 
 /// The result of a native method: `none`, or the text of a type, which is a status with no grants, a handle, a number
 /// below 2^32 or a pointer to the start of an instance.
-#[derive(Debug, Drop)]
+#[derive(Drop)]
 pub struct ResultText {
     /// `None` for `none`.
     pub ty: Option<TypeText>,
@@ -117,7 +117,7 @@ fn marked_want(alloc: Global, word: &str, rest: &str) -> Result<Option<WantText>
 fn want_of(alloc: Global, text: &str) -> Result<Option<WantText>, AllocError>
     ensures { IfOk result (λ want. want ≡ want_of text.now) }
 {
-    match cut_at(b':', text) {
+    match parts_at(b':', text) {
         (word, None) => Ok(plain_want(word)),
         (word, Some(rest)) => marked_want(alloc, word, rest),
     }

@@ -1,7 +1,7 @@
 -- What is told of a text of notes. docs/NOTES.md says which notes a text stands for.
 use Rattle.std.specs.Prelude.{ℕ, List, length, Result, Ok}
 use Rattle.note_types.specs.declared.fault.TomlFault.{TomlFault}
-use Rattle.note_texts.specs.Outcome.{◌>>=◌}
+use Rattle.ebc_base.specs.Steps.{◌>>=◌}
 use Rattle.type_notes.specs.Notes.{notes_of}
 use Rattle.notes_bench.specs.declared.Report.{Report}
 

@@ -1,4 +1,4 @@
-// A text of notes, as long as it's wanted.
+//! A text of notes, as long as it's wanted.
 ghost use Rattle.std.specs.Prelude.{◌≤◌, ◌<◌};
 
 use std::alloc::{AllocError, Global};

@@ -3,19 +3,19 @@ use Rattle.std.proofs.Common.{◌≡◌, Ok, refl}
 use Rattle.note_types.specs.declared.fault.NotesEnd.{NotesEnd}
 use Rattle.note_types.specs.declared.fault.NotesEnd.TheVariants as ends
 use Rattle.note_texts.specs.Outcome.{Fails}
-use Rattle.note_draft.specs.declared.draft.NotesReading.{NotesReading}
+use Rattle.note_draft.specs.declared.draft.NotesDraft.{NotesDraft}
 use Rattle.note_draft.specs.declared.tables.NameTables.{NameTables}
 use Rattle.type_notes.specs.Conditions.{conditions}
 use Rattle.note_draft.specs.Known.{known}
 use Rattle.type_notes.specs.Notes.{notes_in}
 use Rattle.note_draft.specs.Once.{once}
 
-pub fails-known : (e : NotesEnd) (r : NotesReading) (t : NameTables) → once r.draft r.methods ≡ Ok t → Fails e (known t r.draft) → Fails e (notes_in r)
+pub fails-known : (e : NotesEnd) (d : NotesDraft) (t : NameTables) → once d ≡ Ok t → Fails e (known t d) → Fails e (notes_in d)
 unfolding notes_in
-fails-known ends.NoMemory r t named fails = tt
-fails-known (ends.Fault f) r t named fails = rw (named, fails) refl
+fails-known ends.NoMemory d t named fails = tt
+fails-known (ends.Fault f) d t named fails = rw (named, fails) refl
 
-pub fails-conditions : (e : NotesEnd) (r : NotesReading) (t : NameTables) → once r.draft r.methods ≡ Ok t → known t r.draft ≡ Ok tt → Fails e (conditions t r.draft) → Fails e (notes_in r)
+pub fails-conditions : (e : NotesEnd) (d : NotesDraft) (t : NameTables) → once d ≡ Ok t → known t d ≡ Ok tt → Fails e (conditions t d) → Fails e (notes_in d)
 unfolding notes_in
-fails-conditions ends.NoMemory r t named names fails = tt
-fails-conditions (ends.Fault f) r t named names fails = rw (named, names, fails) refl
+fails-conditions ends.NoMemory d t named names fails = tt
+fails-conditions (ends.Fault f) d t named names fails = rw (named, names, fails) refl

@@ -3,14 +3,14 @@ use Rattle.std.proofs.Common.{◌≡◌, ℕ, ◌+◌, ◌-◌, ◌≤◌, ◌<�
 use Rattle.std.proofs.Math.Bool.{and-false}
 use Rattle.std.proofs.lemmas.Bool.{cases_lt, leb-false, le-leb, lt-leb, le-ltb, lt-ltb}
 use Rattle.std.proofs.lemmas.List.{get_or-map, get_or-take, length-map, length-take-le, map-append, take_all, map_more}
-use Rattle.std.proofs.lemmas.List.Sums.{position_or_len_is}
 use Rattle.std.proofs.lemmas.Option.{none-some, same_Some, slice_get-get_or, get_or_from_slice_get, slice_get_within}
 use Rattle.std.specs.Prelude.{Option, None, Some, is_none, nat_le, nat_lt, ◌&&◌, slice_get}
-use Rattle.std.specs.List.{find, position, position_or_len, range_with_len}
+use Rattle.std.specs.List.{find, position, range_with_len}
 use Rattle.note_draft.specs.declared.draft.FunctionDraft.{FunctionDraft}
 use Rattle.note_draft.specs.declared.draft.PointDraft.{PointDraft}
-use Rattle.type_notes.specs.Owners.{holds, owner_of, first_stray, EndBy}
+use Rattle.type_notes.specs.Owners.{has_place, owner_of, first_stray, EndBy}
 use Rattle.note_draft.specs.Repeats.{descends, first_descent}
+use Rattle.type_notes.proofs.SearchLaws.{position-none, position-some}
 
 -- ---- numbers that ascend
 
@@ -53,28 +53,14 @@ ascending v items i j x y e order first second =
 
 -- ---- the function that holds a place
 
--- a search whose first place that passes is i
-pub position-some : {X : Type 0} (p : X → Bool) (xs : List X) (i : ℕ) (x : X) → i < length xs → ((k : ℕ) → k < i → p (get_or xs k x) ≡ false) → p (get_or xs i x) ≡ true → position p xs ≡ Some i
-position-some p xs i x within before here =
-    let e : position_or_len p xs ≡ i = position_or_len_is p xs i x (omega arith) before (λ _. here) in
-    rw (e, lt-ltb i (length xs) within) refl
-
--- a search where none passes
-pub position-none : {X : Type 0} (p : X → Bool) (xs : List X) → ((k : ℕ) (x : X) → k < length xs → p (get_or xs k x) ≡ false) → position p xs ≡ None
-position-none p [] fails = refl
-position-none p (y ∷ ys) fails =
-    let xs = y ∷ ys in
-    let e : position_or_len p xs ≡ length xs = position_or_len_is p xs (length xs) y (omega arith) (λ k h. fails k y h) (λ h. absurd (omega arith)) in
-    rw (e, le-ltb (length xs) (length xs) (omega arith)) refl
-
 -- a function that ends by a place doesn't hold it, nor one that begins after it
-ended : (place : ℕ) (f : FunctionDraft) → f.end ≤ place → holds place f ≡ false
+ended : (place : ℕ) (f : FunctionDraft) → f.end ≤ place → has_place place f ≡ false
 ended place f h = ap (λ b. nat_le f.place place && b) (le-ltb place f.end h) ∙ and-false _
 
-ahead : (place : ℕ) (f : FunctionDraft) → place < f.place → holds place f ≡ false
+ahead : (place : ℕ) (f : FunctionDraft) → place < f.place → has_place place f ≡ false
 ahead place f h = ap (λ b. b && nat_lt place f.end) (lt-leb f.place place h)
 
-holding : (place : ℕ) (f : FunctionDraft) → f.place ≤ place → place < f.end → holds place f ≡ true
+holding : (place : ℕ) (f : FunctionDraft) → f.place ≤ place → place < f.end → has_place place f ≡ true
 holding place f low high = ap (λ b. b && nat_lt place f.end) (le-leb f.place place low) ∙ lt-ltb place f.end high
 
 pub EndBy-more : (functions : List FunctionDraft) (i place : ℕ) (f : FunctionDraft) → i < length functions → f ≡ get_or functions i f → f.end ≤ place → EndBy functions i place → EndBy functions (i + 1) place
@@ -92,16 +78,16 @@ EndBy-more functions i place f within is here before = λ k g h e.
 pub owner_of-here : (functions : List FunctionDraft) (i place : ℕ) (f : FunctionDraft) → i < length functions → f ≡ get_or functions i f → EndBy functions i place → place < f.end → f.place ≤ place → Some i ≡ owner_of functions place
 unfolding owner_of
 owner_of-here functions i place f within is before high low =
-    sym (position-some (holds place) functions i f within
+    sym (position-some (has_place place) functions i f within
     (λ k h. ended place (get_or functions k f) (before k (get_or functions k f) h (slice_get-get_or functions k f (omega arith))))
-    (ap (holds place) (sym is) ∙ holding place f low high))
+    (ap (has_place place) (sym is) ∙ holding place f low high))
 
 -- and function i begins after it
 pub owner_of-ahead : (functions : List FunctionDraft) (i place : ℕ) (f : FunctionDraft) → first_descent (map (λ g. g.place) functions) ≡ None → i < length functions → f ≡ get_or functions i f → EndBy functions i place → place < f.place → None ≡ owner_of functions place
 unfolding owner_of
 owner_of-ahead functions i place f ascends within is before past =
     let there : slice_get functions i ≡ Some f = slice_get-get_or functions i f within ∙ ap Some (sym is) in
-    sym (position-none (holds place) functions (λ k d h.
+    sym (position-none (has_place place) functions (λ k d h.
     let g = get_or functions k d in
     let here : slice_get functions k ≡ Some g = slice_get-get_or functions k d h in
     ⊎_elim
@@ -115,7 +101,7 @@ owner_of-ahead functions i place f ascends within is before past =
 pub owner_of-none : (functions : List FunctionDraft) (i place : ℕ) → length functions ≤ i → EndBy functions i place → None ≡ owner_of functions place
 unfolding owner_of
 owner_of-none functions i place covers before =
-    sym (position-none (holds place) functions (λ k d h. ended place (get_or functions k d) (before k (get_or functions k d) (omega arith) (slice_get-get_or functions k d h))))
+    sym (position-none (has_place place) functions (λ k d h. ended place (get_or functions k d) (before k (get_or functions k d) (omega arith) (slice_get-get_or functions k d h))))
 
 -- ---- the functions that hold the points
 

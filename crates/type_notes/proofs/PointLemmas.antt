@@ -1,30 +1,29 @@
 -- What points may name, one point after the other.
-use Rattle.std.proofs.Common.{◌≡◌, Bool, ℕ, zero, suc, ◌+◌, ◌≤◌, ◌<◌, List, [], ◌∷◌, length, map, get_or, drop, take, ◌++◌, Option, Some, None, refl, sym, ap, ◌∙◌, arith}
-use Rattle.std.proofs.lemmas.Grind.{common_steps}
-use Rattle.std.proofs.lemmas.List.{drop_more, length-map, map-append, take_more}
+use Rattle.std.proofs.Common.{◌≡◌, Bool, false, ℕ, zero, suc, ◌+◌, ◌≤◌, ◌<◌, List, [], ◌∷◌, length, map, get_or, take, ◌++◌, Option, Some, None, refl, sym, subst, ap, ◌∙◌, arith}
+use Rattle.std.proofs.lemmas.List.{length-map, map-append, take_more}
 use Rattle.note_texts.specs.declared.cell.FieldText.{FieldText}
 use Rattle.note_draft.specs.declared.draft.FunctionDraft.{FunctionDraft}
 use Rattle.note_draft.specs.declared.draft.NotesDraft.{NotesDraft}
 use Rattle.note_draft.specs.declared.draft.PointDraft.{PointDraft}
-use Rattle.note_draft.specs.declared.finding.Finding.{Finding}
-use Rattle.note_draft.specs.declared.finding.Key.{Key}
-use Rattle.note_draft.specs.declared.finding.TableList.TheVariants as list
 use Rattle.note_draft.specs.declared.tables.NameTables.{NameTables}
+use Rattle.std.specs.Prelude.{not}
+use Rattle.std.specs.List.{position}
+use Rattle.type_notes.proofs.SearchLaws.{NoneBelow, position-here, position-never}
 use Rattle.type_notes.specs.Conditions.{first_point}
-use Rattle.type_notes.specs.Homes.{Home, home_at, home_of}
-use Rattle.type_notes.specs.Owned.{Own}
+use Rattle.type_notes.specs.PointLocals.{PointLocals, point_locals, locals_of_function}
+use Rattle.type_notes.specs.Owners.{AreOwners}
 use Rattle.type_notes.specs.Owners.{owner_of}
 use Rattle.type_notes.specs.Resolved.{resolved_point, state_of}
 use Rattle.note_types.specs.declared.notes.Point.{Point}
 use Rattle.note_types.specs.declared.state.State.{State}
 
-pub owners-length : (fs : List FunctionDraft) (ps : List PointDraft) (owners : List ℕ) → Own fs ps owners → length owners ≡ length ps
+pub owners-length : (fs : List FunctionDraft) (ps : List PointDraft) (owners : List ℕ) → AreOwners fs ps owners → length owners ≡ length ps
 owners-length fs ps owners own =
     let same : length (map Some owners) ≡ length (map (λ p. owner_of fs p.place) ps) = ap length own in
     simp length-map at same
 
 -- the owner at a number is that of the point at the number
-pub owner-here : (fs : List FunctionDraft) (ps : List PointDraft) (owners : List ℕ) (i : ℕ) (p : PointDraft) → Own fs ps owners → i < length ps
+pub owner-here : (fs : List FunctionDraft) (ps : List PointDraft) (owners : List ℕ) (i : ℕ) (p : PointDraft) → AreOwners fs ps owners → i < length ps
     → p ≡ get_or ps i p → owner_of fs p.place ≡ Some (get_or owners i 0)
 owner-here fs [] owners i p own lt point = absurd (omega arith)
 owner-here fs (q ∷ ps) [] i p own lt point = cc
@@ -35,52 +34,43 @@ owner-here fs (q ∷ ps) (o ∷ owners) (suc i) p own lt point =
     owner-here fs ps owners i p rest within point
 
 -- what a point may name is told by the number of its function
-pub home-owner : (t : NameTables) (d : NotesDraft) (place o : ℕ) → owner_of d.function place ≡ Some o → home_at t d place ≡ home_of t d o
-unfolding home_at home_of
-home-owner t d place o own = rw own refl
+pub locals-owner : (t : NameTables) (d : NotesDraft) (place o : ℕ) → owner_of d.function place ≡ Some o → point_locals t d place ≡ locals_of_function t d o
+unfolding point_locals locals_of_function
+locals-owner t d place o own = rw own refl
 
-pub point_more : (t : NameTables) (d : NotesDraft) (key_of : Home → PointDraft → Option Key) (i : ℕ) (ps : List PointDraft) (p : PointDraft) (total : Option Finding)
-    → i < length ps → p ≡ get_or ps i p → key_of (home_at t d p.place) p ≡ None
-    → first_point t d key_of i (drop i ps) ≡ total → first_point t d key_of (i + 1) (drop (i + 1) ps) ≡ total
-unfolding first_point
-point_more t d key_of i ps p total lt same passes so_far =
-    let one : first_point t d key_of i (drop i ps) ≡ first_point t d key_of (i + 1) (drop (i + 1) ps) = rw (drop_more ps i p lt, ← same, passes) in
-    sym one ∙ so_far
-
-pub point_here : (t : NameTables) (d : NotesDraft) (key_of : Home → PointDraft → Option Key) (i : ℕ) (ps : List PointDraft) (p : PointDraft) (key : Key) (total : Option Finding)
-    → i < length ps → p ≡ get_or ps i p → key_of (home_at t d p.place) p ≡ Some key
-    → first_point t d key_of i (drop i ps) ≡ total → Some (record { list = list.Point; item = i; key = key }) ≡ total
-unfolding first_point
-point_here t d key_of i ps p key total lt same fails so_far =
-    let one : first_point t d key_of i (drop i ps) ≡ Some (record { list = list.Point; item = i; key = key }) = rw (drop_more ps i p lt, ← same, fails) in
-    sym one ∙ so_far
-
-pub point_done : (t : NameTables) (d : NotesDraft) (key_of : Home → PointDraft → Option Key) (i : ℕ) (ps : List PointDraft) (total : Option Finding)
-    → length ps ≤ i → first_point t d key_of i (drop i ps) ≡ total → None ≡ total
-unfolding first_point
-point_done t d key_of i ps total end so_far =
-    let none : drop i ps ≡ [] = grind (arith, common_steps) in
-    let one : first_point t d key_of i (drop i ps) ≡ None = rw none in
-    sym one ∙ so_far
-
--- the key that a check finds in what the number of the function tells
-pub key-here : (t : NameTables) (d : NotesDraft) (key_of : Home → PointDraft → Option Key) (i : ℕ) (ps : List PointDraft) (owners : List ℕ) (p : PointDraft) (b : Bool) (fields : List FieldText) (found : Option Key)
-    → Own d.function ps owners → i < length ps → p ≡ get_or ps i p
-    → b ≡ (home_of t d (get_or owners i 0)).has_locals → fields ≡ (home_of t d (get_or owners i 0)).fields
-    → found ≡ key_of (record { has_locals = b; fields = fields }) p → key_of (home_at t d p.place) p ≡ found
-key-here t d key_of i ps owners p b fields found own lt point locals same given =
+-- what a check says by what the number of the function tells
+pub test-here : (t : NameTables) (d : NotesDraft) (passes : PointLocals → PointDraft → Bool) (i : ℕ) (ps : List PointDraft) (owners : List ℕ) (p : PointDraft) (b : Bool) (fields : List FieldText) (found : Bool)
+    → AreOwners d.function ps owners → i < length ps → p ≡ get_or ps i p
+    → b ≡ (locals_of_function t d (get_or owners i 0)).has_locals → fields ≡ (locals_of_function t d (get_or owners i 0)).fields
+    → found ≡ passes (record { has_locals = b; fields = fields }) p → passes (point_locals t d p.place) p ≡ found
+test-here t d passes i ps owners p b fields found own lt point locals same given =
     let owner : owner_of d.function p.place ≡ Some (get_or owners i 0) = owner-here d.function ps owners i p own lt point in
-    let home : home_at t d p.place ≡ home_of t d (get_or owners i 0) = home-owner t d p.place (get_or owners i 0) owner in
+    let home : point_locals t d p.place ≡ locals_of_function t d (get_or owners i 0) = locals-owner t d p.place (get_or owners i 0) owner in
     rw home (sym (rw (locals, same) at given))
+
+-- a condition that fails at some point, none before it, and one that fails at none
+pub first_point-some : (t : NameTables) (d : NotesDraft) (passes : PointLocals → PointDraft → Bool) (i : ℕ) (ps : List PointDraft) (p : PointDraft) → ps ≡ d.point → i < length ps → p ≡ get_or ps i p
+    → passes (point_locals t d p.place) p ≡ false → NoneBelow (λ q. not (passes (point_locals t d q.place) q)) ps i → first_point t d passes ≡ Some i
+unfolding first_point
+first_point-some t d passes i ps p points within is fails before =
+    let found : position (λ q. not (passes (point_locals t d q.place) q)) ps ≡ Some i = position-here (λ q. not (passes (point_locals t d q.place) q)) ps i p within is (ap not fails) before in
+    subst (λ qs. position (λ q. not (passes (point_locals t d q.place) q)) qs ≡ Some i) points found
+
+pub first_point-none : (t : NameTables) (d : NotesDraft) (passes : PointLocals → PointDraft → Bool) (i : ℕ) (ps : List PointDraft) → ps ≡ d.point → length ps ≤ i
+    → NoneBelow (λ q. not (passes (point_locals t d q.place) q)) ps i → first_point t d passes ≡ None
+unfolding first_point
+first_point-none t d passes i ps points covers before =
+    let never : position (λ q. not (passes (point_locals t d q.place) q)) ps ≡ None = position-never (λ q. not (passes (point_locals t d q.place) q)) ps i covers before in
+    subst (λ qs. position (λ q. not (passes (point_locals t d q.place) q)) qs ≡ None) points never
 
 -- the point that a draft of one is, with the state that the number of its function gives
 pub point-resolved : (t : NameTables) (d : NotesDraft) (i : ℕ) (ps : List PointDraft) (owners : List ℕ) (p : PointDraft) (fields : List FieldText) (state : State)
-    → Own d.function ps owners → i < length ps → p ≡ get_or ps i p → fields ≡ (home_of t d (get_or owners i 0)).fields
+    → AreOwners d.function ps owners → i < length ps → p ≡ get_or ps i p → fields ≡ (locals_of_function t d (get_or owners i 0)).fields
     → state ≡ state_of t fields p → record { place = p.place; state = state } ≡ resolved_point t d p
 unfolding resolved_point
 point-resolved t d i ps owners p fields state own lt point same given =
     let owner : owner_of d.function p.place ≡ Some (get_or owners i 0) = owner-here d.function ps owners i p own lt point in
-    let home : home_at t d p.place ≡ home_of t d (get_or owners i 0) = home-owner t d p.place (get_or owners i 0) owner in
+    let home : point_locals t d p.place ≡ locals_of_function t d (get_or owners i 0) = locals-owner t d p.place (get_or owners i 0) owner in
     rw (given, same, home) refl
 
 -- one more point

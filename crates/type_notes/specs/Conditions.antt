@@ -1,14 +1,14 @@
 -- The conditions on notes whose texts and names are right, in the order in which they are tried, and the key at which
 -- the first that fails is named. docs/NOTES.md lists them.
-use Rattle.std.specs.Prelude.{ℕ, ◌+◌, ◌-◌, ◌*◌, List, [], ◌∷◌, map, length, filter, Option, Some, None, Result, Bool, true, false, not, ◌&&◌, ◌||◌, nat_lt, nat_le, bytes_eq, if◌then◌else◌}
-use Rattle.std.specs.List.{list_all, position}
+use Rattle.std.specs.Prelude.{ℕ, ◌+◌, ◌-◌, ◌*◌, List, [], ◌∷◌, map, length, filter, Option, Some, None, Result, Bool, true, false, not, ◌&&◌, ◌||◌, nat_lt, nat_le, take, bytes_eq, if◌then◌else◌}
+use Rattle.std.specs.List.{find, list_all, position, range_with_len, sum_by}
 use Rattle.note_texts.specs.declared.cell.FieldText.{FieldText}
 use Rattle.note_texts.specs.declared.slot.ItemText.{ItemText}
 use Rattle.note_texts.specs.declared.slot.ItemText.TheVariants.{Slot, Locals}
 use Rattle.note_texts.specs.declared.slot.ParamText.{ParamText}
 use Rattle.note_texts.specs.declared.want.WantParamText.{WantParamText}
 use Rattle.note_types.specs.declared.fault.TomlFault.{TomlFault}
-use Rattle.note_types.specs.declared.fault.TomlFault.TheVariants.{Range}
+use Rattle.note_types.specs.Limits.{code_limit, stack_limit}
 use Rattle.note_types.specs.declared.cell.SlotKind.{SlotKind}
 use Rattle.note_types.specs.declared.cell.SlotKind.TheVariants.{N}
 use Rattle.note_draft.specs.declared.draft.FunctionDraft.{FunctionDraft}
@@ -16,13 +16,13 @@ use Rattle.note_draft.specs.declared.draft.NotesDraft.{NotesDraft}
 use Rattle.note_draft.specs.declared.draft.PointDraft.{PointDraft}
 use Rattle.note_draft.specs.declared.draft.SignatureDraft.{SignatureDraft}
 use Rattle.note_draft.specs.declared.finding.Finding.{Finding}
-use Rattle.note_draft.specs.declared.finding.Key.{Key}
 use Rattle.note_draft.specs.declared.finding.Key.TheVariants as key
+use Rattle.note_draft.specs.declared.finding.Refusal.TheVariants as refusals
 use Rattle.note_draft.specs.declared.finding.TableList.TheVariants as list
 use Rattle.note_draft.specs.declared.tables.NameTables.{NameTables}
-use Rattle.note_texts.specs.Outcome.{◌>>=◌}
+use Rattle.ebc_base.specs.Steps.{◌>>=◌}
 use Rattle.note_draft.specs.Findings.{at, refused, sooner, ◌otherwise◌}
-use Rattle.type_notes.specs.Homes.{Home, home_at, locals_of}
+use Rattle.type_notes.specs.PointLocals.{PointLocals, point_locals, locals_fields}
 use Rattle.type_notes.specs.Locals.{is_field}
 use Rattle.type_notes.specs.Owners.{first_stray}
 use Rattle.note_draft.specs.Repeats.{first_descent}
@@ -43,15 +43,15 @@ stray d = at list.Point key.Place (first_stray d.function d.point)
 
 -- ---- 3. a natural slot holds a type that a move of natural size keeps
 
-abbrev pub is_natural : SlotKind → Bool
-is_natural N = true
-is_natural _ = false
+abbrev pub is_natural_slot : SlotKind → Bool
+is_natural_slot N = true
+is_natural_slot _ = false
 
 abbrev pub keeps_param : ParamText → Bool
-keeps_param p = not (is_natural p.kind) || is_kept p.ty
+keeps_param p = not (is_natural_slot p.kind) || is_kept p.ty
 
 abbrev pub keeps_want : WantParamText → Bool
-keeps_want p = not (is_natural p.kind) || is_kept_want p.want
+keeps_want p = not (is_natural_slot p.kind) || is_kept_want p.want
 
 abbrev pub keeps_params : FunctionDraft → Bool
 keeps_params f = list_all keeps_param f.params
@@ -73,16 +73,16 @@ is_entered entry f = f.enter || bytes_eq f.name entry
 abbrev pub takes_handed_in : FunctionDraft → Bool
 takes_handed_in f = list_all (λ p. is_handed_in p.ty) f.params
 
-abbrev pub takes_foreign : List ℕ → FunctionDraft → Bool
-takes_foreign entry f = is_entered entry f && not (takes_handed_in f)
+abbrev pub takes_unhanded : List ℕ → FunctionDraft → Bool
+takes_unhanded entry f = is_entered entry f && not (takes_handed_in f)
 
-abbrev pub gives_foreign : List ℕ → FunctionDraft → Bool
-gives_foreign entry f = is_entered entry f && not (is_handed_back f.result)
+abbrev pub gives_unhanded : List ℕ → FunctionDraft → Bool
+gives_unhanded entry f = is_entered entry f && not (is_handed_back f.result)
 
-abbrev pub foreign : NotesDraft → Option Finding
-foreign d =
-    sooner (at list.Function key.Params (position (takes_foreign d.entry) d.function))
-    (at list.Function key.Result (position (gives_foreign d.entry) d.function))
+abbrev pub unhanded : NotesDraft → Option Finding
+unhanded d =
+    sooner (at list.Function key.Params (position (takes_unhanded d.entry) d.function))
+    (at list.Function key.Result (position (gives_unhanded d.entry) d.function))
 
 -- ---- 5. no parameter says anything of the caller's frame; 6. no result says anything of a frame or thunk cell
 
@@ -101,35 +101,24 @@ abbrev pub has_item_fields : List FieldText → ItemText → Bool
 has_item_fields fields (Slot kind ty) = has_fields fields ty
 has_item_fields fields Locals = true
 
-abbrev pub regs_are_local : Home → PointDraft → Bool
-regs_are_local home p = list_all (λ r. has_fields home.fields r.ty) p.regs
+abbrev pub regs_are_local : PointLocals → PointDraft → Bool
+regs_are_local locals p = list_all (λ r. has_fields locals.fields r.ty) p.regs
 
-abbrev pub stack_is_local : Home → PointDraft → Bool
-stack_is_local home p = list_all (has_item_fields home.fields) p.stack
+abbrev pub stack_is_local : PointLocals → PointDraft → Bool
+stack_is_local locals p = list_all (has_item_fields locals.fields) p.stack
 
-abbrev pub written_is_local : Home → PointDraft → Bool
-written_is_local home p = list_all (is_field home.fields) p.written
+abbrev pub written_is_local : PointLocals → PointDraft → Bool
+written_is_local locals p = list_all (is_field locals.fields) p.written
 
--- the first key of a point that names another field
-abbrev pub foreign_key : Home → PointDraft → Option Key
-foreign_key home p =
-    if not (regs_are_local home p) then Some key.Regs
-    else if not (stack_is_local home p) then Some key.Stack
-    else if not (written_is_local home p) then Some key.Written
-    else None
-
--- a key of the point of number i, or else what comes later
-abbrev pub or_later : ℕ → Option Key → Option Finding → Option Finding
-or_later i (Some key) later = Some (record { list = list.Point; item = i; key = key })
-or_later i None later = later
-
--- the first point, from number i on, that has such a key
-unfoldable pub first_point : NameTables → NotesDraft → (Home → PointDraft → Option Key) → ℕ → List PointDraft → Option Finding
-first_point t d key_of i [] = None
-first_point t d key_of i (p ∷ ps) = or_later i (key_of (home_at t d p.place) p) (first_point t d key_of (i + 1) ps)
+-- the first point that fails, by what points may name
+unfoldable pub first_point : NameTables → NotesDraft → (PointLocals → PointDraft → Bool) → Option ℕ
+first_point t d passes = position (λ p. not (passes (point_locals t d p.place) p)) d.point
 
 abbrev pub unfielded : NameTables → NotesDraft → Option Finding
-unfielded t d = first_point t d foreign_key 0 d.point
+unfielded t d =
+    sooner (at list.Point key.Regs (first_point t d regs_are_local))
+    (sooner (at list.Point key.Stack (first_point t d stack_is_local))
+    (at list.Point key.Written (first_point t d written_is_local)))
 
 -- ---- 8. a thunk that is named is one of the notes'
 
@@ -166,16 +155,16 @@ is_locals (Slot kind ty) = false
 abbrev pub locals_count : PointDraft → ℕ
 locals_count p = length (filter is_locals p.stack)
 
-abbrev pub locals_key : Home → PointDraft → Option Key
-locals_key home p = if nat_le (locals_count p) (if home.has_locals then 1 else 0) then None else Some key.Stack
+abbrev pub holds_locals : PointLocals → PointDraft → Bool
+holds_locals locals p = nat_le (locals_count p) (if locals.has_locals then 1 else 0)
 
 abbrev pub mislocated : NameTables → NotesDraft → Option Finding
-mislocated t d = first_point t d locals_key 0 d.point
+mislocated t d = at list.Point key.Stack (first_point t d holds_locals)
 
 -- ---- 10. the locals have at most 64 fields
 
 abbrev pub has_many_locals : NameTables → NotesDraft → FunctionDraft → Bool
-has_many_locals t d f = nat_lt 64 (length (locals_of t d f.locals))
+has_many_locals t d f = nat_lt 64 (length (locals_fields t d f.locals))
 
 abbrev pub overfull : NameTables → NotesDraft → Option Finding
 overfull t d = at list.Function key.Locals (position (has_many_locals t d) d.function)
@@ -186,17 +175,13 @@ overfull t d = at list.Function key.Locals (position (has_many_locals t d) d.fun
 abbrev pub code_size : FunctionDraft → ℕ
 code_size f = f.end - f.place
 
--- the first function, from number i on, with which the code passes the limit, so much of it being before
-unfoldable pub first_past : ℕ → ℕ → ℕ → List FunctionDraft → Option ℕ
-first_past limit before i [] = None
-first_past limit before i (f ∷ fs) =
-    if nat_lt limit (before + code_size f) then Some i else first_past limit (before + code_size f) (i + 1) fs
+-- how many bytes of code these functions have
+abbrev pub code_of : List FunctionDraft → ℕ
+code_of functions = sum_by code_size functions
 
-abbrev pub code_limit : ℕ
-code_limit = 262144
-
-abbrev pub stack_limit : ℕ
-stack_limit = 1048576
+-- the least i for which the code of the first i + 1 functions passes the limit
+unfoldable pub first_past : ℕ → List FunctionDraft → Option ℕ
+first_past limit functions = find (λ i. nat_lt limit (code_of (take (i + 1) functions))) (range_with_len 0 (length functions))
 
 -- the bytes of stack that a function that the firmware enters takes where a pointer has 8 bytes: its parameters, its
 -- return cell and its need
@@ -209,14 +194,14 @@ overflows entry f = is_entered entry f && nat_lt stack_limit (9 * frame_size f)
 
 abbrev pub too_large : NotesDraft → Option Finding
 too_large d =
-    at list.Function key.End (first_past code_limit 0 0 d.function) otherwise
+    at list.Function key.End (first_past (code_limit d.version) d.function) otherwise
     at list.Function key.Need (position (overflows d.entry) d.function)
 
 -- the key at which the first of the conditions from the third on that isn't met is named
 unfoldable pub unmet : NameTables → NotesDraft → Option Finding
 unmet t d =
     unkept d otherwise
-    foreign d otherwise
+    unhanded d otherwise
     unpassed d otherwise
     unreturned d otherwise
     unfielded t d otherwise
@@ -228,6 +213,6 @@ unmet t d =
 -- nothing where all conditions are met, and otherwise the fault at the first that isn't
 unfoldable pub conditions : NameTables → NotesDraft → Result (Unit {0}) TomlFault
 conditions t d = do
-  _ ← refused Range (disordered d)
-  _ ← refused Range (stray d)
-  refused Range (unmet t d)
+  _ ← refused refusals.Range (disordered d)
+  _ ← refused refusals.Range (stray d)
+  refused refusals.Range (unmet t d)

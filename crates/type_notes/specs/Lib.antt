@@ -1,8 +1,7 @@
 pub mod Conditions
-pub mod Homes
 pub mod Locals
 pub mod Notes
-pub mod Owned
 pub mod Owners
+pub mod PointLocals
 pub mod Resolved
 pub mod TypeKinds

@@ -1,7 +1,8 @@
 -- The fields of a function's locals, by their names and numbers, and sets of them. docs/NOTES.md says what a function's
 -- locals are.
-use Rattle.std.specs.Prelude.{ℕ, ◌^◌, List, Option, Some, None, Bool, bytes_eq, bit_or, nat_lt, if◌then◌else◌}
+use Rattle.std.specs.Prelude.{◌≡◌, ◌↔◌, ◌⊎◌, ℕ, ◌^◌, ◌<◌, List, [], ◌∷◌, Option, Some, None, Bool, bytes_eq, bit_or, nat_lt, if◌then◌else◌}
 use Rattle.std.specs.List.{fold, list_any, position}
+use Rattle.note_types.specs.FieldSets.{HasField}
 use Rattle.note_texts.specs.declared.cell.FieldText.{FieldText}
 
 -- whether a field has the name
@@ -24,3 +25,12 @@ field_bit n = if nat_lt n 64 then 2 ^ n else 0
 -- the set of the fields of these names
 unfoldable pub field_set : List FieldText → List (List ℕ) → ℕ
 field_set fields names = fold (λ set name. bit_or set (field_bit (field_number fields name))) 0 names
+
+-- some name of the list is that of field f, the first field of that name
+abbrev pub SomeNames : List FieldText → ℕ → List (List ℕ) → Type 0
+SomeNames fields f [] = ⊥
+SomeNames fields f (name ∷ names) = (position (λ x. bytes_eq x.name name) fields ≡ Some f) ⊎ SomeNames fields f names
+
+-- bit f of the set is set exactly where f is below 64 and some name of the list is that of field f
+abbrev pub IsFieldSet : List FieldText → List (List ℕ) → ℕ → Type 0
+IsFieldSet fields names set = (f : ℕ) → HasField set f ↔ ((f < 64) × SomeNames fields f names)

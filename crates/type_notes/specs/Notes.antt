@@ -3,8 +3,8 @@ use Rattle.std.specs.Prelude.{ℕ, List, Result, Ok}
 use Rattle.note_types.specs.declared.fault.TomlFault.{TomlFault}
 use Rattle.note_types.specs.declared.notes.Notes.{Notes}
 use Rattle.note_texts.specs.Keys.{document}
-use Rattle.note_texts.specs.Outcome.{◌>>=◌}
-use Rattle.note_draft.specs.declared.draft.NotesReading.{NotesReading}
+use Rattle.ebc_base.specs.Steps.{◌>>=◌}
+use Rattle.note_draft.specs.declared.draft.NotesDraft.{NotesDraft}
 use Rattle.type_notes.specs.Conditions.{conditions}
 use Rattle.note_draft.specs.Drafts.{draft_of}
 use Rattle.note_draft.specs.Known.{known}
@@ -13,16 +13,16 @@ use Rattle.type_notes.specs.Resolved.{resolved}
 
 -- the notes that a draft stands for, or its first fault: a name, place or register twice, then a name that isn't there,
 -- then a condition that isn't met
-unfoldable pub notes_in : NotesReading → Result Notes TomlFault
-notes_in r = do
-  t ← once r.draft r.methods
-  _ ← known t r.draft
-  _ ← conditions t r.draft
-  Ok (resolved t r.draft)
+unfoldable pub notes_in : NotesDraft → Result Notes TomlFault
+notes_in d = do
+  t ← once d
+  _ ← known t d
+  _ ← conditions t d
+  Ok (resolved t d)
 
 -- the notes that a text stands for, or its first fault: of the document, of a table and its keys, then of the draft
 unfoldable pub notes_of : List ℕ → Result Notes TomlFault
 notes_of text = do
   table ← document text
-  r ← draft_of table
-  notes_in r
+  d ← draft_of table
+  notes_in d

@@ -7,22 +7,26 @@ use Rattle.type_notes.specs.declared.owners.Owners.{Owners}
 use Rattle.type_notes.specs.declared.owners.Owners.TheVariants.{All, Stray}
 
 -- whether a function's code, from its place up to its end, has the place
-abbrev pub holds : ℕ → FunctionDraft → Bool
-holds place function = nat_le function.place place && nat_lt place function.end
+abbrev pub has_place : ℕ → FunctionDraft → Bool
+has_place place function = nat_le function.place place && nat_lt place function.end
 
 -- the number of the first function that holds the place
 unfoldable pub owner_of : List FunctionDraft → ℕ → Option ℕ
-owner_of functions place = position (holds place) functions
+owner_of functions place = position (has_place place) functions
 
 -- the least number of a point whose place no function holds
 unfoldable pub first_stray : List FunctionDraft → List PointDraft → Option ℕ
 first_stray functions points = position (λ point. is_none (owner_of functions point.place)) points
 
+-- the numbers are those of the points' functions
+abbrev pub AreOwners : List FunctionDraft → List PointDraft → List ℕ → Type 0
+AreOwners functions points owners = map Some owners ≡ map (λ p. owner_of functions p.place) points
+
 -- for each point the first function that holds it, and none is astray; or the number of the first that is
-abbrev pub AreOwners : List FunctionDraft → List PointDraft → Owners → Type 0
-AreOwners functions points (All owners) =
-    (first_stray functions points ≡ None) × (map Some owners.items ≡ map (λ point. owner_of functions point.place) points)
-AreOwners functions points (Stray number) = first_stray functions points ≡ Some number
+abbrev pub FindsOwners : List FunctionDraft → List PointDraft → Owners → Type 0
+FindsOwners functions points (All owners) =
+    (first_stray functions points ≡ None) × AreOwners functions points owners.items
+FindsOwners functions points (Stray number) = first_stray functions points ≡ Some number
 
 -- the functions below number n end by the place
 abbrev pub EndBy : List FunctionDraft → ℕ → ℕ → Type 0

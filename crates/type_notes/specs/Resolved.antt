@@ -43,9 +43,9 @@ use Rattle.note_draft.specs.declared.draft.SiteDraft.{SiteDraft}
 use Rattle.note_draft.specs.declared.draft.StaticDraft.{StaticDraft}
 use Rattle.note_draft.specs.declared.draft.ThunkDraft.{ThunkDraft}
 use Rattle.note_draft.specs.declared.tables.NameTables.{NameTables}
-use Rattle.type_notes.specs.Homes.{home_at}
+use Rattle.type_notes.specs.PointLocals.{point_locals}
 use Rattle.type_notes.specs.Locals.{field_number, field_set}
-use Rattle.note_draft.specs.Names.{place_of}
+use Rattle.note_draft.specs.Names.{name_number}
 
 -- ---- texts
 
@@ -58,9 +58,9 @@ resolved_cell t cells.N = cell.N
 resolved_cell t cells.Stat = cell.Stat
 resolved_cell t cells.Handle = cell.Handle
 resolved_cell t cells.Entry = cell.Entry
-resolved_cell t (cells.Ptr s k null) = cell.Ptr (place_of s t.shape) k null
-resolved_cell t (cells.P64 s k null) = cell.P64 (place_of s t.shape) k null
-resolved_cell t (cells.Method m) = cell.Method (place_of m t.method)
+resolved_cell t (cells.Ptr s k null) = cell.Ptr (name_number s t.shape) k null
+resolved_cell t (cells.P64 s k null) = cell.P64 (name_number s t.shape) k null
+resolved_cell t (cells.Method m) = cell.Method (name_number m t.method)
 
 -- a type, where the locals have these fields
 unfoldable pub resolved_type : NameTables → List FieldText → TypeText → Ty
@@ -68,7 +68,7 @@ resolved_type t fields types.Any = ty.Any
 resolved_type t fields (types.Int lo hi div) = ty.Int lo hi div
 resolved_type t fields (types.Lin n c) = ty.Lin n c
 resolved_type t fields (types.Scaled n c hi) = ty.Scaled n c hi
-resolved_type t fields (types.Ptr s k n c null) = ty.Ptr (place_of s t.shape) k n c null
+resolved_type t fields (types.Ptr s k n c null) = ty.Ptr (name_number s t.shape) k n c null
 resolved_type t fields (types.Local f) = ty.Local (field_number fields f)
 resolved_type t fields (types.Lent cell) = ty.Lent (resolved_cell t cell)
 resolved_type t fields (types.Status gs) = ty.Status (field_set fields gs)
@@ -76,7 +76,7 @@ resolved_type t fields (types.SignedStatus gs) = ty.SignedStatus (field_set fiel
 resolved_type t fields types.Mask = ty.Mask
 resolved_type t fields types.Handle = ty.Handle
 resolved_type t fields types.Entry = ty.Entry
-resolved_type t fields (types.Method m) = ty.Method (place_of m t.method)
+resolved_type t fields (types.Method m) = ty.Method (name_number m t.method)
 resolved_type t fields (types.ThunkAt i) = ty.ThunkAt i
 resolved_type t fields (types.Saved i) = ty.Saved i
 
@@ -111,14 +111,14 @@ unfoldable pub resolved_shape : NameTables → ShapeDraft → Shape
 resolved_shape t s = record { name = s.name; n = s.n; c = s.c; fields = map (resolved_field t) s.fields }
 
 unfoldable pub resolved_static : NameTables → StaticDraft → Static
-resolved_static t o = record { place = o.place; shape = place_of o.shape t.shape; count = o.count }
+resolved_static t o = record { place = o.place; shape = name_number o.shape t.shape; count = o.count }
 
 unfoldable pub resolved_thunk : NameTables → ThunkDraft → Thunk
-resolved_thunk t o = record { place = o.place; function = place_of o.function t.function }
+resolved_thunk t o = record { place = o.place; function = name_number o.function t.function }
 
 unfoldable pub resolved_locals : NameTables → Option (List ℕ) → Option ℕ
 resolved_locals t None = None
-resolved_locals t (Some name) = Some (place_of name t.shape)
+resolved_locals t (Some name) = Some (name_number name t.shape)
 
 unfoldable pub resolved_function : NameTables → FunctionDraft → FnNote
 resolved_function t f =
@@ -142,13 +142,13 @@ unfoldable pub resolved_signature : NameTables → SignatureDraft → Signature
 resolved_signature t s =
     record {
       name = s.name;
-      method = s.method;
+      method = name_number s.method t.method;
       params = map (resolved_want_param t) s.params;
       result = resolved_result t s.result.ty;
     }
 
 unfoldable pub resolved_site : NameTables → SiteDraft → Site
-resolved_site t s = record { place = s.place; signature = place_of s.signature t.signature }
+resolved_site t s = record { place = s.place; signature = name_number s.signature t.signature }
 
 -- ---- points
 
@@ -185,7 +185,7 @@ state_of t fields p =
     }
 
 unfoldable pub resolved_point : NameTables → NotesDraft → PointDraft → Point
-resolved_point t d p = record { place = p.place; state = state_of t (home_at t d p.place).fields p }
+resolved_point t d p = record { place = p.place; state = state_of t (point_locals t d p.place).fields p }
 
 -- ---- the whole
 
@@ -193,7 +193,7 @@ unfoldable pub resolved : NameTables → NotesDraft → Notes
 resolved t d =
     record {
       version = d.version;
-      entry = place_of d.entry t.function;
+      entry = name_number d.entry t.function;
       shape = map (resolved_shape t) d.shape;
       statics = map (resolved_static t) d.statics;
       thunk = map (resolved_thunk t) d.thunk;

@@ -19,14 +19,14 @@ abbrev pub is_start : ℤ → ℤ → Bool
 is_start n c = int_eq n (pos 0) && int_eq c (pos 0)
 
 -- whether a number isn't negative
-abbrev pub is_natural : ℤ → Bool
-is_natural (pos n) = true
-is_natural (negsuc n) = false
+abbrev pub is_not_negative : ℤ → Bool
+is_not_negative (pos n) = true
+is_not_negative (negsuc n) = false
 
 -- whether a move of natural size keeps the type; any counts as kept
 abbrev pub is_kept : TypeText → Bool
 is_kept (ty.Int lo hi div) = is_narrow hi
-is_kept (ty.Lin n c) = is_natural c
+is_kept (ty.Lin n c) = is_not_negative c
 is_kept (ty.Ptr s k n c null) = is_start n c
 is_kept (ty.SignedStatus gs) = false
 is_kept (ty.Saved i) = false

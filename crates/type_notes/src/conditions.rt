@@ -1,8 +1,8 @@
-// The conditions on functions, signatures and sites by themselves.
+//! The conditions on functions, signatures and sites by themselves.
 ghost use Rattle.std.specs.Prelude.{◌≡◌, ◌+◌, ◌-◌, ◌*◌, ◌<◌, ◌^◌, not};
 ghost use Rattle.std.specs.List.{position, list_all};
-ghost use Rattle.type_notes.specs.Conditions.{code_limit, code_size, first_past, foreign, frame_size, gives_foreign, has_many_locals, is_entered, is_natural, keeps_param, keeps_params, keeps_want, keeps_wants, overflows, overfull, params_have_thunks, passes_params, regs_have_thunks, stack_has_thunks, has_item_thunk, takes_foreign, takes_handed_in, thunkless, thunkless_points, too_large, unkept, unpassed, unreturned};
-ghost use Rattle.type_notes.specs.Homes.{locals_of};
+ghost use Rattle.type_notes.specs.Conditions.{code_size, first_past, frame_size, gives_unhanded, has_item_thunk, has_many_locals, is_entered, is_natural_slot, keeps_param, keeps_params, keeps_want, keeps_wants, overflows, overfull, params_have_thunks, passes_params, regs_have_thunks, stack_has_thunks, takes_handed_in, takes_unhanded, thunkless, thunkless_points, too_large, unhanded, unkept, unpassed, unreturned};
+ghost use Rattle.type_notes.specs.PointLocals.{locals_fields};
 ghost use Rattle.type_notes.specs.TypeKinds.{is_returned};
 
 use crate::type_kinds::{
@@ -12,16 +12,14 @@ use note_draft::{
     Finding, FunctionDraft, Key, NameTables, NotesDraft, PointDraft, SignatureDraft, TableList,
 };
 use note_texts::{FieldText, ItemText, ParamText, WantParamText};
-use note_types::{Name, SlotKind};
-
-const CODE_LIMIT: u64 = 256 * 1024;
+use note_types::{Name, SlotKind, code_limit};
 
 const STACK_LIMIT: u128 = 1024 * 1024;
 
 // ---- natural slots
 
-fn is_natural(kind: SlotKind) -> bool
-    ensures { result ≡ is_natural kind }
+fn is_natural_slot(kind: SlotKind) -> bool
+    ensures { result ≡ is_natural_slot kind }
 {
     matches!(kind, SlotKind::N)
 }
@@ -29,13 +27,13 @@ fn is_natural(kind: SlotKind) -> bool
 fn keeps_param(param: &ParamText) -> bool
     ensures { result ≡ keeps_param param.now }
 {
-    !is_natural(param.kind) || is_kept(&param.ty)
+    !is_natural_slot(param.kind) || is_kept(&param.ty)
 }
 
 fn keeps_want(param: &WantParamText) -> bool
     ensures { result ≡ keeps_want param.now }
 {
-    !is_natural(param.kind) || is_kept_want(&param.want)
+    !is_natural_slot(param.kind) || is_kept_want(&param.want)
 }
 
 fn keeps_params(function: &FunctionDraft) -> bool
@@ -105,41 +103,41 @@ fn takes_handed_in(function: &FunctionDraft) -> bool
         .all(|param| is_handed_in(&param.ty))
 }
 
-fn takes_foreign(function: &FunctionDraft, entry: &Name) -> bool
-    ensures { result ≡ takes_foreign entry.now function.now }
+fn takes_unhanded(function: &FunctionDraft, entry: &Name) -> bool
+    ensures { result ≡ takes_unhanded entry.now function.now }
 {
     is_entered(function, entry) && !takes_handed_in(function)
 }
 
-fn gives_foreign(function: &FunctionDraft, entry: &Name) -> bool
-    ensures { result ≡ gives_foreign entry.now function.now }
+fn gives_unhanded(function: &FunctionDraft, entry: &Name) -> bool
+    ensures { result ≡ gives_unhanded entry.now function.now }
 {
     is_entered(function, entry) && !is_handed_back(&function.result)
 }
 
-fn first_taking_foreign(functions: &[FunctionDraft], entry: &Name) -> Option<usize>
-    ensures { result ≡ position (takes_foreign entry.now) functions.now }
+fn first_taking_unhanded(functions: &[FunctionDraft], entry: &Name) -> Option<usize>
+    ensures { result ≡ position (takes_unhanded entry.now) functions.now }
 {
     functions
         .iter()
-        .position(|function| takes_foreign(function, entry))
+        .position(|function| takes_unhanded(function, entry))
 }
 
-fn first_giving_foreign(functions: &[FunctionDraft], entry: &Name) -> Option<usize>
-    ensures { result ≡ position (gives_foreign entry.now) functions.now }
+fn first_giving_unhanded(functions: &[FunctionDraft], entry: &Name) -> Option<usize>
+    ensures { result ≡ position (gives_unhanded entry.now) functions.now }
 {
     functions
         .iter()
-        .position(|function| gives_foreign(function, entry))
+        .position(|function| gives_unhanded(function, entry))
 }
 
 /// The first function that the firmware enters with a parameter or result that can't pass between the two.
-pub fn foreign(draft: &NotesDraft) -> Option<Finding>
-    ensures { result ≡ foreign draft.now }
+pub fn unhanded(draft: &NotesDraft) -> Option<Finding>
+    ensures { result ≡ unhanded draft.now }
 {
     let functions = draft.function.as_slice();
-    let params = first_taking_foreign(functions, &draft.entry);
-    let result = first_giving_foreign(functions, &draft.entry);
+    let params = first_taking_unhanded(functions, &draft.entry);
+    let result = first_giving_unhanded(functions, &draft.entry);
     Finding::sooner(
         Finding::at(TableList::Function, Key::Params, params),
         Finding::at(TableList::Function, Key::Result, result),
@@ -281,13 +279,13 @@ pub fn thunkless(draft: &NotesDraft) -> Option<Finding>
 // ---- limits
 
 /// The fields of the shape of that name; none where no shape is named.
-#[tactic(auto, unfolding(crate::specs::Homes::locals_of))]
-pub fn locals_of<'a>(
+#[tactic(auto, unfolding(crate::specs::PointLocals::locals_fields))]
+pub fn locals_fields<'a>(
     names: &NameTables,
     draft: &'a NotesDraft,
     locals: &Option<Name>,
 ) -> &'a [FieldText]
-    ensures { result.now ≡ locals_of names.now draft.now locals.now }
+    ensures { result.now ≡ locals_fields names.now draft.now locals.now }
 {
     let Some(name) = locals else {
         return &[];
@@ -305,7 +303,7 @@ pub fn locals_of<'a>(
 fn has_many_locals(names: &NameTables, draft: &NotesDraft, function: &FunctionDraft) -> bool
     ensures { result ≡ has_many_locals names.now draft.now function.now }
 {
-    locals_of(names, draft, &function.locals).len() > 64
+    locals_fields(names, draft, &function.locals).len() > 64
 }
 
 fn first_with_many_locals(names: &NameTables, draft: &NotesDraft) -> Option<usize>
@@ -342,16 +340,16 @@ fn size_between(place: u32, end: u32) -> u32
     end.saturating_sub(place)
 }
 
-fn first_past_code_limit(functions: &[FunctionDraft]) -> Option<usize>
-    ensures { result ≡ first_past code_limit 0 0 functions.now }
+fn first_past(limit: u64, functions: &[FunctionDraft]) -> Option<usize>
+    requires { limit < 2 ^ 32 }
+    ensures { result ≡ first_past limit functions.now }
 {
     let mut code = 0u64;
     for i in 0..functions.len() {
-        let size = code_size(&functions[i]);
-        if code + size > CODE_LIMIT {
+        code += code_size(&functions[i]);
+        if code > limit {
             return Some(i);
         }
-        code += size;
     }
     None
 }
@@ -391,7 +389,7 @@ pub fn too_large(draft: &NotesDraft) -> Option<Finding>
     ensures { result ≡ too_large draft.now }
 {
     let functions = draft.function.as_slice();
-    let code = first_past_code_limit(functions);
+    let code = first_past(code_limit(draft.version), functions);
     let stack = first_overflow(functions, &draft.entry);
     Finding::at(TableList::Function, Key::End, code).or_else(|| Finding::at(
         TableList::Function,

@@ -33,15 +33,6 @@ pub fn read_notes(alloc: Global, text: &[u8]) -> Result<Notes, NotesEnd>
     ensures notes { Gives result (notes_of text.now) }
 {
     let table = document(alloc, text)?;
-    let reading = read_draft(alloc, &table)?;
-    notes_in(alloc, reading)
+    let draft = read_draft(alloc, &table)?;
+    notes_in(alloc, &draft)
 }
-
-#[cfg(test)]
-mod note_tests;
-#[cfg(test)]
-mod note_tests_conditions;
-#[cfg(test)]
-mod note_tests_passes;
-#[cfg(test)]
-mod owner_tests;

@@ -1,11 +1,11 @@
-// The notes that a draft stands for, or its first fault.
+//! The notes that a draft stands for, or its first fault, by the second to the fourth pass.
 ghost use Rattle.std.specs.Prelude.{◌≡◌, ◌<◌, ◌^◌, length};
 ghost use Rattle.note_texts.specs.Outcome.{Gives};
 ghost use Rattle.type_notes.specs.Notes.{notes_in};
 
 use crate::checks::meet_conditions;
 use crate::resolve::resolve_notes;
-use note_draft::{NotesReading, all_known, number_names};
+use note_draft::{NotesDraft, all_known, number_names};
 use note_types::{Notes, NotesEnd};
 use std::alloc::Global;
 
@@ -16,15 +16,14 @@ use std::alloc::Global;
 /// The first fault: a name, place or register twice, then a name that isn't there, then a condition that isn't met; no
 /// memory.
 #[tactic(auto, unfolding(crate::specs::Notes::notes_in))]
-pub fn notes_in(alloc: Global, reading: NotesReading) -> Result<Notes, NotesEnd>
-    requires shapes { length reading.draft.shape < 2 ^ 32 }
-    requires functions { length reading.draft.function < 2 ^ 32 }
-    requires signatures { length reading.draft.signature < 2 ^ 32 }
-    ensures { Gives result (notes_in reading) }
+pub fn notes_in(alloc: Global, draft: &NotesDraft) -> Result<Notes, NotesEnd>
+    requires shapes { length draft.now.shape < 2 ^ 32 }
+    requires functions { length draft.now.function < 2 ^ 32 }
+    requires signatures { length draft.now.signature < 2 ^ 32 }
+    ensures { Gives result (notes_in draft.now) }
 {
-    let NotesReading { draft, methods } = reading;
-    let names = number_names(alloc, &draft, methods)?;
-    all_known(alloc, &names, &draft)?;
-    let owners = meet_conditions(alloc, &names, &draft)?;
-    Ok(resolve_notes(alloc, names, &draft, owners.as_slice())?)
+    let names = number_names(alloc, draft)?;
+    all_known(alloc, &names, draft)?;
+    let owners = meet_conditions(alloc, &names, draft)?;
+    Ok(resolve_notes(alloc, names, draft, owners.as_slice())?)
 }

@@ -1,6 +1,6 @@
-// The functions that hold the points.
+//! The functions that hold the points.
 ghost use Rattle.std.specs.Prelude.{◌≡◌, ◌≤◌, length, map, IfOk, IfSome, None};
-ghost use Rattle.type_notes.specs.Owners.{AreOwners, EndBy, owner_of};
+ghost use Rattle.type_notes.specs.Owners.{FindsOwners, EndBy, owner_of};
 ghost use Rattle.note_draft.specs.Repeats.{first_descent};
 
 use note_draft::{FunctionDraft, PointDraft};
@@ -28,7 +28,7 @@ pub fn find_owners(
 ) -> Result<Owners, AllocError>
     requires functions { first_descent (map (λ f. f.place) functions.now) ≡ None }
     requires points { first_descent (map (λ p. p.place) points.now) ≡ None }
-    ensures { IfOk result (AreOwners functions.now points.now) }
+    ensures { IfOk result (FindsOwners functions.now points.now) }
 {
     let mut owners = Vec::new(alloc);
     let mut from = 0;

@@ -1,43 +1,46 @@
-// The points: what they may name, and the states that they give.
-ghost use Rattle.std.specs.Prelude.{◌≡◌, filter, length, map, nat_eq, IfOk, Option};
+//! The points: what they may name, and the states that they give.
+ghost use Rattle.std.specs.Prelude.{◌≡◌, filter, length, map, nat_eq, Bool, IfOk};
 ghost use Rattle.std.specs.List.{find, list_all};
 ghost use Rattle.std.specs.Option.{option_map};
-ghost use Rattle.type_notes.specs.Conditions.{first_point, foreign_key, has_item_fields, is_locals, locals_key, regs_are_local, stack_is_local, written_is_local};
+ghost use Rattle.type_notes.specs.Conditions.{first_point, has_item_fields, holds_locals, is_locals, mislocated, regs_are_local, stack_is_local, unfielded, written_is_local};
 ghost use Rattle.note_draft.specs.declared.draft.PointDraft.{PointDraft};
-ghost use Rattle.note_draft.specs.declared.finding.Key.{Key};
-ghost use Rattle.type_notes.specs.Homes.{Home, home_of};
-ghost use Rattle.type_notes.specs.Owned.{Own};
+ghost use Rattle.type_notes.specs.PointLocals.{PointLocals, locals_of_function};
+ghost use Rattle.type_notes.specs.Owners.{AreOwners};
 ghost use Rattle.type_notes.specs.Locals.{field_set};
 ghost use Rattle.type_notes.specs.Resolved.{left_out, register_type, resolved_item, resolved_point, state_of};
 ghost use Rattle.type_notes.specs.TypeKinds.{has_fields};
 
-use crate::conditions::locals_of;
+use crate::conditions::locals_fields;
 use crate::resolve::{field_set, resolve_item, resolve_type};
 use crate::type_kinds::{are_fields, has_fields};
 use note_draft::{Finding, Key, NameTables, NotesDraft, PointDraft, StackText, TableList};
 use note_texts::{FieldText, ItemText, RegisterText};
-use note_types::{Items, Point, Points, State, Ty};
-use std::alloc::{AllocError, Global};
+use note_types::{Items, NoMemory, Point, Points, State, Ty};
+use std::alloc::Global;
 
 /// What the points of a function may name: whether it has locals, and their fields.
 #[derive(Clone, Copy)]
-pub struct HomeView<'a> {
+pub struct LocalsView<'a> {
     pub has_locals: bool,
     pub fields: &'a [FieldText],
 }
 
 /// What the points of the function of that number may name.
-#[tactic(auto, unfolding(crate::specs::Homes::home_of))]
-pub fn home_of<'a>(names: &NameTables, draft: &'a NotesDraft, number: usize) -> HomeView<'a>
-    ensures has_locals { result.has_locals ≡ (home_of names.now draft.now number).has_locals }
-    ensures fields { result.fields.now ≡ (home_of names.now draft.now number).fields }
+#[tactic(auto, unfolding(crate::specs::PointLocals::locals_of_function))]
+pub fn locals_of_function<'a>(
+    names: &NameTables,
+    draft: &'a NotesDraft,
+    number: usize,
+) -> LocalsView<'a>
+    ensures has_locals { result.has_locals ≡ (locals_of_function names.now draft.now number).has_locals }
+    ensures fields { result.fields.now ≡ (locals_of_function names.now draft.now number).fields }
 {
     match draft.function.as_slice().get(number) {
-        Some(function) => HomeView {
+        Some(function) => LocalsView {
             has_locals: function.locals.is_some(),
-            fields: locals_of(names, draft, &function.locals),
+            fields: locals_fields(names, draft, &function.locals),
         },
-        None => HomeView {
+        None => LocalsView {
             has_locals: false,
             fields: &[],
         },
@@ -75,22 +78,6 @@ fn stack_has_fields(point: &PointDraft, fields: &[FieldText]) -> bool
         .all(|item| has_item_fields(item, fields))
 }
 
-/// The first key of a point that names a field which its function's locals don't have.
-fn foreign_key(home: HomeView, point: &PointDraft) -> Option<Key>
-    ensures { result ≡ foreign_key (record { has_locals = home.entry.has_locals; fields = home.entry.fields.now }) point.now }
-{
-    let fields = home.fields;
-    if !regs_have_fields(point, fields) {
-        Some(Key::Regs)
-    } else if !stack_has_fields(point, fields) {
-        Some(Key::Stack)
-    } else if !are_fields(&point.written, fields) {
-        Some(Key::Written)
-    } else {
-        None
-    }
-}
-
 // ---- the locals on a stack
 
 fn is_locals(item: &ItemText) -> bool
@@ -103,18 +90,6 @@ fn locals_count(items: &[ItemText]) -> usize
     ensures { result ≡ length (filter is_locals items.now) }
 {
     items.iter().filter(|item| is_locals(*item)).count()
-}
-
-/// The key of a point whose stack holds the locals twice, or holds those of a function that has none.
-fn locals_key(home: HomeView, point: &PointDraft) -> Option<Key>
-    ensures { result ≡ locals_key (record { has_locals = home.entry.has_locals; fields = home.entry.fields.now }) point.now }
-{
-    let allowed = if home.has_locals { 1 } else { 0 };
-    if locals_count(point.stack.as_slice()) <= allowed {
-        None
-    } else {
-        Some(Key::Stack)
-    }
 }
 
 // ---- registers
@@ -155,33 +130,56 @@ fn register_type(
 
 /// A condition on a point and on what it may name.
 pub trait PointCheck {
-    /// The first key at which the condition fails.
-    ghost key_of: { Home → PointDraft → Option Key };
+    /// Whether the point meets it.
+    ghost passes: { PointLocals → PointDraft → Bool };
 
-    /// The first key at which the condition fails.
-    fn key(home: HomeView, point: &PointDraft) -> Option<Key>
-        ensures { result ≡ key_of (record { has_locals = home.entry.has_locals; fields = home.entry.fields.now }) point.now };
+    /// Whether the point meets it.
+    fn passes(locals: LocalsView, point: &PointDraft) -> bool
+        ensures { result ≡ passes (record { has_locals = locals.entry.has_locals; fields = locals.entry.fields.now }) point.now };
 }
 
-/// All fields that a point names are fields of its function's locals.
-pub struct NamesLocals;
+/// What the registers name are fields of the function's locals.
+pub struct RegsNameLocals;
 
-impl PointCheck for NamesLocals {
-    ghost key_of = { foreign_key };
+impl PointCheck for RegsNameLocals {
+    ghost passes = { regs_are_local };
 
-    fn key(home: HomeView, point: &PointDraft) -> Option<Key> {
-        foreign_key(home, point)
+    fn passes(locals: LocalsView, point: &PointDraft) -> bool {
+        regs_have_fields(point, locals.fields)
     }
 }
 
-/// A point's stack holds the locals at most once, and only where its function has them.
+/// What the stack names are fields of the function's locals.
+pub struct StackNamesLocals;
+
+impl PointCheck for StackNamesLocals {
+    ghost passes = { stack_is_local };
+
+    fn passes(locals: LocalsView, point: &PointDraft) -> bool {
+        stack_has_fields(point, locals.fields)
+    }
+}
+
+/// What is written are fields of the function's locals.
+pub struct WrittenNamesLocals;
+
+impl PointCheck for WrittenNamesLocals {
+    ghost passes = { written_is_local };
+
+    fn passes(locals: LocalsView, point: &PointDraft) -> bool {
+        are_fields(&point.written, locals.fields)
+    }
+}
+
+/// The stack holds the locals at most once, and only where the function has them.
 pub struct HoldsLocals;
 
 impl PointCheck for HoldsLocals {
-    ghost key_of = { locals_key };
+    ghost passes = { holds_locals };
 
-    fn key(home: HomeView, point: &PointDraft) -> Option<Key> {
-        locals_key(home, point)
+    fn passes(locals: LocalsView, point: &PointDraft) -> bool {
+        let allowed = if locals.has_locals { 1 } else { 0 };
+        locals_count(point.stack.as_slice()) <= allowed
     }
 }
 
@@ -190,22 +188,44 @@ pub fn first_point<C: PointCheck>(
     names: &NameTables,
     draft: &NotesDraft,
     owners: &[usize],
-) -> Option<Finding>
-    requires { Own draft.now.function draft.now.point owners.now }
-    ensures { result ≡ first_point names.now draft.now C.key_of 0 draft.now.point }
+) -> Option<usize>
+    requires { AreOwners draft.now.function draft.now.point owners.now }
+    ensures { result ≡ first_point names.now draft.now C.passes }
 {
     let points = draft.point.as_slice();
     for item in 0..points.len() {
-        let home = home_of(names, draft, owners[item]);
-        if let Some(key) = C::key(home, &points[item]) {
-            return Some(Finding {
-                list: TableList::Point,
-                item,
-                key,
-            });
+        let locals = locals_of_function(names, draft, owners[item]);
+        if !C::passes(locals, &points[item]) {
+            return Some(item);
         }
     }
     None
+}
+
+/// The first key of a point that names a field which its function's locals don't have.
+pub fn unfielded(names: &NameTables, draft: &NotesDraft, owners: &[usize]) -> Option<Finding>
+    requires { AreOwners draft.now.function draft.now.point owners.now }
+    ensures { result ≡ unfielded names.now draft.now }
+{
+    let regs = first_point::<RegsNameLocals>(names, draft, owners);
+    let stack = first_point::<StackNamesLocals>(names, draft, owners);
+    let written = first_point::<WrittenNamesLocals>(names, draft, owners);
+    Finding::sooner(
+        Finding::at(TableList::Point, Key::Regs, regs),
+        Finding::sooner(
+            Finding::at(TableList::Point, Key::Stack, stack),
+            Finding::at(TableList::Point, Key::Written, written),
+        ),
+    )
+}
+
+/// The first point whose stack holds the locals twice, or holds those of a function that has none.
+pub fn mislocated(names: &NameTables, draft: &NotesDraft, owners: &[usize]) -> Option<Finding>
+    requires { AreOwners draft.now.function draft.now.point owners.now }
+    ensures { result ≡ mislocated names.now draft.now }
+{
+    let stack = first_point::<HoldsLocals>(names, draft, owners);
+    Finding::at(TableList::Point, Key::Stack, stack)
 }
 
 // ---- states
@@ -254,18 +274,18 @@ pub fn resolve_points(
     names: &NameTables,
     draft: &NotesDraft,
     owners: &[usize],
-) -> Result<Points, AllocError>
-    requires { Own draft.now.function draft.now.point owners.now }
+) -> Result<Points, NoMemory>
+    requires { AreOwners draft.now.function draft.now.point owners.now }
     ensures { IfOk result (λ points. points ≡ map (resolved_point names.now draft.now) draft.now.point) }
 {
     let drafts = draft.point.as_slice();
     let mut points = Vec::new(alloc);
     for item in 0..drafts.len() {
-        let home = home_of(names, draft, owners[item]);
+        let locals = locals_of_function(names, draft, owners[item]);
         let point = &drafts[item];
         points.push(Point {
             place: point.place,
-            state: state_of(names, home.fields, point),
+            state: state_of(names, locals.fields, point),
         })?;
     }
     Ok(Points::new(points))

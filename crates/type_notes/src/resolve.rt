@@ -1,9 +1,9 @@
-// Texts and tables whose names are numbers.
+//! Texts and tables whose names are numbers.
 ghost use Rattle.std.specs.Prelude.{◌≡◌, map, IfOk, bytes_eq};
 ghost use Rattle.std.specs.List.{position};
 ghost use Rattle.note_draft.specs.declared.tables.NameTables.{NameTables};
-ghost use Rattle.type_notes.specs.Locals.{field_bit, field_number, field_set};
-ghost use Rattle.type_notes.specs.Owned.{Own};
+ghost use Rattle.type_notes.specs.Locals.{IsFieldSet, field_bit, field_number, field_set};
+ghost use Rattle.type_notes.specs.Owners.{AreOwners};
 ghost use Rattle.type_notes.specs.Resolved.{resolved, resolved_cell, resolved_field, resolved_function, resolved_item, resolved_locals, resolved_param, resolved_result, resolved_shape, resolved_signature, resolved_site, resolved_static, resolved_thunk, resolved_type, resolved_want, resolved_want_param};
 
 use crate::points::resolve_points;
@@ -13,10 +13,10 @@ use note_draft::{
 };
 use note_texts::{CellText, FieldText, ItemText, ParamText, TypeText, WantParamText, WantText};
 use note_types::{
-    Cell, Field, FnNote, Item, Name, Names, Notes, Param, Sequence, Shape, Signature, Site, Static,
-    Thunk, Ty, Want, WantParam,
+    Cell, Field, FnNote, Item, Name, Names, NoMemory, Notes, Param, Sequence, Shape, Signature,
+    Site, Static, Thunk, Ty, Want, WantParam,
 };
-use std::alloc::{AllocError, Global};
+use std::alloc::Global;
 
 // ---- texts
 
@@ -164,9 +164,8 @@ fn field_bit(number: u32) -> u64
     if number < 64 { 1 << number } else { 0 }
 }
 
-/// The set of the fields of these names, as its bits.
 #[tactic(auto, unfolding(crate::specs::Locals::field_set))]
-pub fn field_set(fields: &[FieldText], names: &Names) -> u64
+fn field_bits(fields: &[FieldText], names: &Names) -> u64
     ensures { result ≡ field_set fields.now names.now }
 {
     names
@@ -175,10 +174,13 @@ pub fn field_set(fields: &[FieldText], names: &Names) -> u64
         .fold(0, |set, name| set | field_bit(field_number(fields, name)))
 }
 
-fn copy_of(alloc: Global, name: &Name) -> Result<Name, AllocError>
-    ensures { IfOk result (λ copy. copy ≡ name.now) }
+/// The set of the fields of these names, as its bits: bit f is set exactly where f is below 64 and some name is that of
+/// field f.
+pub fn field_set(fields: &[FieldText], names: &Names) -> u64
+    ensures value { result ≡ field_set fields.now names.now }
+    ensures fields { IsFieldSet fields.now names.now result }
 {
-    Ok(Name::new(String::from_str(alloc, name.as_str())?))
+    field_bits(fields, names)
 }
 
 // ---- tables
@@ -195,7 +197,7 @@ pub trait Resolve {
     /// # Errors
     ///
     /// There was no memory.
-    fn resolve(&self, alloc: Global, names: &NameTables) -> Result<Self::Resolved, AllocError>
+    fn resolve(&self, alloc: Global, names: &NameTables) -> Result<Self::Resolved, NoMemory>
         ensures { IfOk result (λ value. value ≡ resolved names.now self.now) };
 }
 
@@ -208,7 +210,7 @@ pub fn resolve_all<T: Resolve>(
     alloc: Global,
     names: &NameTables,
     items: &[T],
-) -> Result<Sequence<T::Resolved>, AllocError>
+) -> Result<Sequence<T::Resolved>, NoMemory>
     ensures { IfOk result (λ values. values ≡ map (T.resolved names.now) items.now) }
 {
     let mut values = Vec::new(alloc);
@@ -224,9 +226,9 @@ impl Resolve for FieldText {
     ghost resolved = { resolved_field };
 
     #[tactic(auto, unfolding(crate::specs::Resolved::resolved_field))]
-    fn resolve(&self, alloc: Global, names: &NameTables) -> Result<Field, AllocError> {
+    fn resolve(&self, alloc: Global, names: &NameTables) -> Result<Field, NoMemory> {
         Ok(Field {
-            name: copy_of(alloc, &self.name)?,
+            name: self.name.copy(alloc)?,
             n: self.n,
             c: self.c,
             cell: resolve_cell(names, &self.cell),
@@ -240,7 +242,7 @@ impl Resolve for ParamText {
     ghost resolved = { resolved_param };
 
     #[tactic(auto, unfolding(crate::specs::Resolved::resolved_param))]
-    fn resolve(&self, _: Global, names: &NameTables) -> Result<Param, AllocError> {
+    fn resolve(&self, _: Global, names: &NameTables) -> Result<Param, NoMemory> {
         Ok(Param {
             kind: self.kind,
             ty: resolve_type(names, &[], &self.ty),
@@ -254,7 +256,7 @@ impl Resolve for WantParamText {
     ghost resolved = { resolved_want_param };
 
     #[tactic(auto, unfolding(crate::specs::Resolved::resolved_want_param))]
-    fn resolve(&self, _: Global, names: &NameTables) -> Result<WantParam, AllocError> {
+    fn resolve(&self, _: Global, names: &NameTables) -> Result<WantParam, NoMemory> {
         Ok(WantParam {
             kind: self.kind,
             want: resolve_want(names, &self.want),
@@ -268,9 +270,9 @@ impl Resolve for ShapeDraft {
     ghost resolved = { resolved_shape };
 
     #[tactic(auto, unfolding(crate::specs::Resolved::resolved_shape))]
-    fn resolve(&self, alloc: Global, names: &NameTables) -> Result<Shape, AllocError> {
+    fn resolve(&self, alloc: Global, names: &NameTables) -> Result<Shape, NoMemory> {
         Ok(Shape {
-            name: copy_of(alloc, &self.name)?,
+            name: self.name.copy(alloc)?,
             n: self.n,
             c: self.c,
             fields: resolve_all(alloc, names, self.fields.as_slice())?,
@@ -284,7 +286,7 @@ impl Resolve for StaticDraft {
     ghost resolved = { resolved_static };
 
     #[tactic(auto, unfolding(crate::specs::Resolved::resolved_static))]
-    fn resolve(&self, _: Global, names: &NameTables) -> Result<Static, AllocError> {
+    fn resolve(&self, _: Global, names: &NameTables) -> Result<Static, NoMemory> {
         Ok(Static {
             place: self.place,
             shape: names.shape.number(&self.shape),
@@ -299,7 +301,7 @@ impl Resolve for ThunkDraft {
     ghost resolved = { resolved_thunk };
 
     #[tactic(auto, unfolding(crate::specs::Resolved::resolved_thunk))]
-    fn resolve(&self, _: Global, names: &NameTables) -> Result<Thunk, AllocError> {
+    fn resolve(&self, _: Global, names: &NameTables) -> Result<Thunk, NoMemory> {
         Ok(Thunk {
             place: self.place,
             function: names.function.number(&self.function),
@@ -313,9 +315,9 @@ impl Resolve for FunctionDraft {
     ghost resolved = { resolved_function };
 
     #[tactic(auto, unfolding(crate::specs::Resolved::resolved_function))]
-    fn resolve(&self, alloc: Global, names: &NameTables) -> Result<FnNote, AllocError> {
+    fn resolve(&self, alloc: Global, names: &NameTables) -> Result<FnNote, NoMemory> {
         Ok(FnNote {
-            name: copy_of(alloc, &self.name)?,
+            name: self.name.copy(alloc)?,
             place: self.place,
             end: self.end,
             level: self.level,
@@ -334,10 +336,10 @@ impl Resolve for SignatureDraft {
     ghost resolved = { resolved_signature };
 
     #[tactic(auto, unfolding(crate::specs::Resolved::resolved_signature))]
-    fn resolve(&self, alloc: Global, names: &NameTables) -> Result<Signature, AllocError> {
+    fn resolve(&self, alloc: Global, names: &NameTables) -> Result<Signature, NoMemory> {
         Ok(Signature {
-            name: copy_of(alloc, &self.name)?,
-            method: self.method,
+            name: self.name.copy(alloc)?,
+            method: names.method.number(&self.method),
             params: resolve_all(alloc, names, self.params.as_slice())?,
             result: resolve_result(names, &self.result.ty),
         })
@@ -350,7 +352,7 @@ impl Resolve for SiteDraft {
     ghost resolved = { resolved_site };
 
     #[tactic(auto, unfolding(crate::specs::Resolved::resolved_site))]
-    fn resolve(&self, _: Global, names: &NameTables) -> Result<Site, AllocError> {
+    fn resolve(&self, _: Global, names: &NameTables) -> Result<Site, NoMemory> {
         Ok(Site {
             place: self.place,
             signature: names.signature.number(&self.signature),
@@ -371,8 +373,8 @@ pub fn resolve_notes(
     names: NameTables,
     draft: &NotesDraft,
     owners: &[usize],
-) -> Result<Notes, AllocError>
-    requires { Own draft.now.function draft.now.point owners.now }
+) -> Result<Notes, NoMemory>
+    requires { AreOwners draft.now.function draft.now.point owners.now }
     ensures { IfOk result (λ notes. notes ≡ resolved names draft.now) }
 {
     let entry = names.function.number(&draft.entry);

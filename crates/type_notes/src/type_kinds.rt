@@ -1,7 +1,7 @@
-// Which types notes allow where.
+//! Which types notes allow where.
 ghost use Rattle.std.specs.Prelude.{◌≡◌};
 ghost use Rattle.std.specs.List.{list_all};
-ghost use Rattle.type_notes.specs.TypeKinds.{has_fields, has_thunk, is_handed_back, is_bare, is_handed_in, is_kept, is_kept_want, is_narrow, is_natural, is_passed, is_returned, is_start};
+ghost use Rattle.type_notes.specs.TypeKinds.{has_fields, has_thunk, is_handed_back, is_bare, is_handed_in, is_kept, is_kept_want, is_narrow, is_not_negative, is_passed, is_returned, is_start};
 ghost use Rattle.type_notes.specs.Locals.{is_field};
 
 use note_texts::{FieldText, TypeText, WantText};
@@ -20,8 +20,8 @@ fn is_start(n: i32, c: i32) -> bool
     n == 0 && c == 0
 }
 
-fn is_natural(c: i32) -> bool
-    ensures { result ≡ is_natural c }
+fn is_not_negative(c: i32) -> bool
+    ensures { result ≡ is_not_negative c }
 {
     c >= 0
 }
@@ -32,7 +32,7 @@ pub fn is_kept(ty: &TypeText) -> bool
 {
     match ty {
         TypeText::Int { hi, .. } => is_narrow(*hi),
-        TypeText::Lin { c, .. } => is_natural(*c),
+        TypeText::Lin { c, .. } => is_not_negative(*c),
         TypeText::Ptr { n, c, .. } => is_start(*n, *c),
         TypeText::SignedStatus(_) | TypeText::Saved(_) => false,
         _ => true,

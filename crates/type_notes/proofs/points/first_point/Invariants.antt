@@ -1,6 +1,7 @@
-use Rattle.std.proofs.Common.{◌≡◌, drop}
-use Rattle.type_notes.specs.Conditions.{first_point}
+use Rattle.std.specs.Prelude.{not}
+use Rattle.type_notes.proofs.SearchLaws.{NoneBelow}
+use Rattle.type_notes.specs.PointLocals.{point_locals}
 use Rattle.type_notes.proofs.points.first_point.Given as goal
 
 abbrev pub invariant-loop-item : goal.invariant-loop-item
-invariant-loop-item g l = first_point l.names l.draft g.C.PointCheck.key_of l.item (drop l.item l.points) ≡ first_point l.names l.draft g.C.PointCheck.key_of 0 l.points
+invariant-loop-item g l = NoneBelow (λ p. not (g.C.PointCheck.passes (point_locals l.names l.draft p.place) p)) l.points l.item

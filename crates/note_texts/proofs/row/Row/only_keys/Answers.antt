@@ -11,7 +11,7 @@ returns-then-not-is_known c =
     let other : c.is_known.result ≡ false = search rules in
     let test : is_known (string_bytes c.in-Some.key.now) (map (λ k. k.now) c.args.known.now) ≡ false
     = sym (known-map (string_bytes c.in-Some.key.now) c.args.known.now) ∙ rw (← c.as_str.ensures.value) (sym c.is_known.ensures ∙ other) in
-    rw (c.in_ok-path.ensures, c.as_str-then-not-is_known.ensures.value)
+    rw (c.in_ok-told_path.ensures, c.as_str-then-not-is_known.ensures.value)
     (keys_stop c.args.self.prefix.now (map (λ k. k.now) c.args.known.now) c.in-Some.key.now c.in-Some.field-0-1.now c.loop-key.key-iterator c.next.new.self _ first test c.loop-key.invariant)
 
 pub loop-key-preserved : goal.loop-key-preserved
