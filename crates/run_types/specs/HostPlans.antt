@@ -303,5 +303,5 @@ host_plan world at (GoesOn entry callbacks frames mapped) =
 -- be entered; or they name one.
 pub data ThunkView : Type 0 where
   NotMapped : ThunkView
-  NamesNone : (address : ℕ) → ThunkView
+  NamesNone : ThunkView
   Names : (function : ℕ) → ThunkView
