@@ -1,5 +1,6 @@
 -- What a register and a pair name: a cell of a typed object, of the function's own locals or of a local that was lent, a
--- parameter, or a thunk cell. An access has to name its beginning exactly, and to be of its size and kind.
+-- parameter, or a thunk cell. An access has to name its beginning exactly, and to be of its size and kind. docs/RULES.md,
+-- "Places" and "Access".
 use Rattle.std.specs.Prelude.{ℕ, suc, ◌+◌, ◌*◌, ◌^◌, Bool, true, false, ◌&&◌, ◌||◌, List, [], ◌∷◌, length, take, Option, Some, None, nat_eq, nat_lt, if◌then◌else◌, slice_get}
 use Rattle.std.specs.Option.{option_map, option_or, option_and_then}
 use Rattle.ebc_insn.specs.declared.Size.{Size}
@@ -88,7 +89,7 @@ writes a (cell.Method m) = false
 writes a cell.Stat = is_natural a
 writes a c = reads a c
 
--- which accesses read a parameter in a slot of a kind
+-- which accesses read a parameter in a slot of a kind; of a wide slot MOVsn reads the low bytes at width 4
 abbrev pub reads_slot : Access → SlotKind → Bool
 reads_slot (Move sizes.Natural) N = true
 reads_slot Signed N = true

@@ -1,6 +1,6 @@
 -- What a placement at a width of w bytes makes of the things that values name, and what holds of the typed objects there: the
--- premises under which readings are alike. They follow from a valid placement, where the shapes of the notes are well formed
--- and their static objects lie in the image and apart.
+-- premises under which readings are alike. They are to follow from a valid placement, where the shapes of the notes are well
+-- formed and their static objects lie in the image and apart. docs/HOST.md, "The neutral machine".
 use Rattle.std.specs.Prelude.{◌≡◌, ◌≢◌, ℕ, ◌+◌, ◌*◌, ◌^◌, ◌<◌, ◌≤◌, List, Some, length, slice_get}
 use Rattle.ebc_width.specs.Width.{IsWidth}
 use Rattle.run_types.specs.Objects.{TypedObject, shape_of}

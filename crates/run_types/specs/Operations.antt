@@ -1,5 +1,5 @@
--- What operations give on neutral values: the table of the machine on plain numbers, sums and multiples of pairs, the
--- building of a status, and else junk.
+-- What operations give on neutral values: the table of the machine on plain numbers (docs/MACHINE.md, "Arithmetic"), sums and
+-- multiples of pairs, the building of a status, and else junk (docs/HOST.md, "The neutral machine").
 use Rattle.std.specs.Prelude.{ℕ, zero, ◌+◌, ◌-◌, ◌*◌, ◌%◌, ◌/◌, ◌^◌, Bool, true, false, ◌&&◌, ◌||◌, nat_eq, nat_lt, if◌then◌else◌, List, Option, Some, None, Result, Ok, Err, slice_get}
 use Rattle.std.specs.Option.{option_or}
 use Rattle.ebc_width.specs.Width.{extended_at}

@@ -99,8 +99,8 @@ abbrev pub handle_named : Notes → Placement → ℕ → Option ℕ
 handle_named notes P x = thing_at (handle_at notes P 0) handle_count x
 
 -- which of so many instances of a size, from a base on, begins at x
-abbrev pub instance_at : ℕ → ℕ → ℕ → ℕ → Option ℕ
-instance_at base size count x =
+abbrev pub instance_named : ℕ → ℕ → ℕ → ℕ → Option ℕ
+instance_named base size count x =
     if nat_eq x base then Some 0
     else if nat_lt base x && (nat_lt (x - base) (count * size) && nat_eq ((x - base) % size) 0) then Some ((x - base) / size)
     else None
@@ -109,7 +109,7 @@ instance_at base size count x =
 unfoldable pub pointer_from : ℕ → Notes → Placement → ℕ → List TypedObject → ℕ → Option Value
 pointer_from w notes P k [] x = None
 pointer_from w notes P k (o ∷ os) x =
-    option_or (option_map (λ i. value.Ptr k i) (instance_at (object_at notes P k) (shape_bytes w notes o.shape) o.count x)) (pointer_from w notes P (suc k) os x)
+    option_or (option_map (λ i. value.Ptr k i) (instance_named (object_at notes P k) (shape_bytes w notes o.shape) o.count x)) (pointer_from w notes P (suc k) os x)
 
 -- ---- readings
 
