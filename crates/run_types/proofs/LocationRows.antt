@@ -1,17 +1,15 @@
 -- Rows of what accesses read of a function's parameters, of a status in a slot of either kind among them, computed by the
 -- definitions. A slip in the table of accesses shows here at once.
-use Rattle.std.proofs.Common.{◌≡◌, Bool, true, false, List, [], ◌∷◌, Option, Some, None, refl}
+use Rattle.std.proofs.Common.{◌≡◌, false, [], ◌∷◌, Option, Some, None, refl}
 use Rattle.ebc_insn.specs.declared.Size.TheVariants as sizes
 use Rattle.note_types.specs.declared.cell.SlotKind.{SlotKind}
-use Rattle.note_types.specs.declared.cell.SlotKind.TheVariants.{N, Q, D}
+use Rattle.note_types.specs.declared.cell.SlotKind.TheVariants.{N, Q}
 use Rattle.note_types.specs.declared.types.Ty.TheVariants as ty
 use Rattle.note_types.specs.declared.value.Value.TheVariants as value
 use Rattle.run_types.specs.Config.{Config}
-use Rattle.run_types.specs.Locations.{Access, Move, Form, Signed, ParamAt, reads_slot, kept, located_on_stack, value_at}
+use Rattle.run_types.specs.Locations.{Access, Move, Signed, ParamAt, kept, located_on_stack, value_at}
 use Rattle.run_types.specs.NeutralHost.{param_slots}
-use Rattle.run_types.specs.NeutralReadings.{neutral_reading}
-use Rattle.run_types.specs.NeutralRuns.{neutral_start, start_cells}
-use Rattle.run_types.specs.Objects.{made_objects}
+use Rattle.run_types.specs.NeutralRuns.{neutral_start}
 use Rattle.run_types.specs.Operations.{kept_natural, sign_extended}
 use Rattle.run_types.specs.Values.{Neutral, Error, SignedError}
 use Rattle.run_types.specs.World.{World}

@@ -1,5 +1,5 @@
 -- What the modelled host sees of a run at a width of w bytes, and what its plans leave. docs/HOST.md, "Steps".
-use Rattle.std.specs.Prelude.{ℕ, suc, ◌+◌, ◌-◌, ◌*◌, ◌%◌, ◌^◌, Bool, true, false, ◌&&◌, List, [], ◌∷◌, ◌++◌, map, length, Option, Some, None, nat_eq, nat_le, nat_lt, if◌then◌else◌, slice_get, slice_index, slice_set}
+use Rattle.std.specs.Prelude.{ℕ, suc, ◌+◌, ◌-◌, ◌*◌, Bool, false, ◌&&◌, List, [], ◌∷◌, ◌++◌, map, length, Option, Some, None, nat_eq, if◌then◌else◌, slice_get, slice_index, slice_set}
 use Rattle.std.specs.List.{list_all, position}
 use Rattle.std.specs.Option.{option_map_or, option_and_then}
 use Rattle.ebc_width.specs.Width.{cut_at, extended_at}

@@ -1,7 +1,7 @@
 -- Where the frames of a configuration lie on the stack at a width, and so where everything is that a value may name. The
 -- stack goes down from its end; where a frame or a local lies depends on nothing above it in the list of frames. docs/HOST.md,
 -- "The neutral machine".
-use Rattle.std.specs.Prelude.{ℕ, ◌+◌, ◌-◌, ◌^◌, List, [], ◌∷◌, Option, None, nat_eq, if◌then◌else◌, slice_get}
+use Rattle.std.specs.Prelude.{ℕ, ◌+◌, List, [], ◌∷◌, Option, None, nat_eq, if◌then◌else◌, slice_get}
 use Rattle.std.specs.Option.{option_map}
 use Rattle.note_types.specs.Shapes.{size_at, start_at}
 use Rattle.run_types.specs.Values.{Anchor, ObjectOf, ThunkOf, LocalOf, Addresses, plus, minus}

@@ -1,6 +1,6 @@
 -- What the modelled host sees of a configuration of the neutral machine, and what its plans leave: as at a width, with values in
 -- the place of numbers. docs/HOST.md, "Steps".
-use Rattle.std.specs.Prelude.{ℕ, suc, ◌+◌, Bool, true, false, ◌&&◌, List, [], ◌∷◌, ◌++◌, length, Option, Some, None, nat_eq, nat_lt, if◌then◌else◌, is_some, slice_get}
+use Rattle.std.specs.Prelude.{ℕ, ◌+◌, Bool, false, ◌&&◌, List, [], ◌∷◌, ◌++◌, length, Option, Some, None, nat_eq, nat_lt, if◌then◌else◌, is_some, slice_get}
 use Rattle.std.specs.List.{list_all}
 use Rattle.std.specs.Option.{option_map, option_map_or, option_and_then}
 use Rattle.run_types.specs.HostPlans.{Asking, NoSite, Asks, View, Returns, Calls, GoesOn, Target, InObject, InArgument, Store, Plan, Finishes, Leaves, Accepts, Enters, Replies, Ends, field_at, signature_params, signature_method, site_of, function_params, host_plan}
@@ -21,12 +21,12 @@ use Rattle.note_types.specs.declared.spot.Spot.{Spot}
 use Rattle.note_types.specs.declared.spot.Spot.TheVariants as spot
 use Rattle.note_types.specs.declared.types.Ty.TheVariants as ty
 use Rattle.note_types.specs.declared.value.Value.{Value}
-use Rattle.run_types.specs.Config.{StackItem, Pushed, FunctionFrame, HostFrame, Frame, Function, Host, Config, hosts, top_function, call_under_way, with_call, with_value}
+use Rattle.run_types.specs.Config.{StackItem, Pushed, FunctionFrame, Frame, Function, Host, Config, hosts, top_function, call_under_way, with_call, with_value}
 use Rattle.run_types.specs.Locations.{is_method}
 use Rattle.run_types.specs.Placements.{place_of}
 use Rattle.run_types.specs.NeutralReadings.{neutral_result, neutral_arguments, neutral_slots}
 use Rattle.run_types.specs.Memory.{with_cell}
-use Rattle.run_types.specs.Values.{Neutral, At, Method, ThunkOf, LocalOf, CellPlace, FieldOf, FieldOfLocals, Cells, null}
+use Rattle.run_types.specs.Values.{Neutral, At, ThunkOf, LocalOf, CellPlace, FieldOf, FieldOfLocals, Cells, null}
 use Rattle.run_types.specs.Written.{value_as, result_value}
 
 -- the typed objects that are made

@@ -1,6 +1,6 @@
 -- Where a run starts at a width of w bytes: inside the entry function, with the script's arguments, in the host's first frame.
 -- docs/HOST.md, "The start".
-use Rattle.std.specs.Prelude.{ℕ, ◌+◌, ◌-◌, ◌%◌, ◌^◌, ◌&&◌, [], ◌∷◌, map, length, nat_le, nat_lt, if◌then◌else◌}
+use Rattle.std.specs.Prelude.{ℕ, ◌-◌, [], ◌∷◌, map, length, if◌then◌else◌}
 use Rattle.ebc_width.specs.Ranges.{covers}
 use Rattle.note_types.specs.Concrete.{Concrete}
 use Rattle.run_types.specs.HostPlans.{filling}
