@@ -59,6 +59,7 @@ fn values_fit_their_types(rt: HostRuntime) -> Result<(), Fail> {
         (PAST_THE_START, Value::Null, false),
         (Ty::Status(0), Value::StatusOk(0), true),
         (Ty::Status(0), Value::StatusError(14), true),
+        (Ty::Status(0), Value::StatusError(1 << 31), false),
         (Ty::Status(0), Value::StatusOk(1 << 31), false),
         (Ty::Status(0), Value::Int(0), false),
         (Ty::Handle, Value::Handle(1023), true),
