@@ -7,13 +7,15 @@ use crate::value::Value;
 #[derive(PartialEq, Debug, Drop)]
 pub enum Event {
     /// The call instruction at a place, an offset from the image's base in bytes, called a native method by the signature
-    /// of its site, `None` where the place has no site.
+    /// of its site, `None` where the place has no site. It has no arguments where the place has no site or an argument
+    /// slot isn't mapped.
     Called {
         place: u32,
         signature: Option<u32>,
         args: Args,
     },
-    /// The firmware entered a function.
+    /// The firmware entered a function, with the values as the script writes them. That the entry function is entered is
+    /// no event.
     Entered {
         func: u32,
         args: Args,

@@ -12,7 +12,7 @@ pub enum Reason {
     Target {
         address: u64,
     },
-    /// The script's call is one by another signature.
+    /// The script's call is one by another signature: `found` is the site's, `wanted` the script's.
     Signature {
         found: u32,
         wanted: u32,
@@ -32,9 +32,10 @@ pub enum Reason {
         entry: u32,
         callback: u32,
     },
-    /// A tenth function would be entered before the first of them returned.
+    /// A function would be entered while nine that the firmware entered haven't returned, the entry function among them.
     Depth,
-    /// The eight bytes of a thunk cell name no function that may be entered.
+    /// The first four bytes of a thunk cell lead to no function that the firmware may enter; the address is the cell's,
+    /// in R7.
     Thunk {
         address: u64,
     },

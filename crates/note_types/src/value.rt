@@ -1,7 +1,7 @@
 //! Values as a script and a trace write them: the same text stands for what lies in memory at either width.
 
 /// A value as a script writes it and a run reports it. Objects, instances, handles, functions and methods are their
-/// numbers: typed objects as docs/NOTES.md counts them, functions and methods in the notes' order.
+/// numbers: typed objects as docs/HOST.md, "Objects", counts them, functions and methods in the notes' order.
 #[derive(Clone, Copy, PartialEq, Eq, Debug)]
 pub enum Value {
     /// A number.

@@ -1,4 +1,5 @@
 pub mod DriverRows
+pub mod LocationRows
 pub mod Numbers
 pub mod ReadingAlike
 pub mod WrittenFits

@@ -7,12 +7,12 @@ use Rattle.std.proofs.lemmas.Nat.{row_fits, div-mul-add, mod-mul-add}
 use Rattle.ebc_width.specs.Width.{cut_at}
 use Rattle.run_types.specs.Objects.{TypedObject, shape_of}
 use Rattle.run_types.specs.Placements.{Placement, area_step, handle_count, handle_at, thunk_at, method_at, object_at, shape_bytes}
-use Rattle.run_types.specs.Readings.{Anything, Number, SizeOf, Pointer, HandleOf, EntryOf, StatusOf, MethodOf, reading_of, thing_at, instance_at, pointer_from, or_wild, or_null, status_read, handle_named, entry_named}
+use Rattle.run_types.specs.Readings.{Anything, Number, SizeOf, Pointer, HandleOf, EntryOf, StatusOf, MethodOf, reading_of, thing_at, instance_named, pointer_from, or_wild, or_null, status_read, handle_named, entry_named}
 use Rattle.note_types.specs.declared.notes.Notes.{Notes}
 use Rattle.note_types.specs.declared.value.Value.{Value}
 use Rattle.note_types.specs.declared.value.Value.TheVariants as value
 use Rattle.run_types.specs.NeutralReadings.{neutral_reading, neutral_result, as_number, as_null, as_pointer}
-use Rattle.run_types.specs.Operations.{Instance, instance_at as instance_in, instance_of, starts_at, starts_if}
+use Rattle.run_types.specs.Operations.{Instance, instance_at, instance_of, starts_at, starts_if}
 use Rattle.run_types.specs.Named.{Named}
 use Rattle.run_types.specs.ReadingLaw.{ReadsAlike, ResultsAlike}
 use Rattle.run_types.specs.Values.{Neutral, Num, At, Handle, Method, Entry, Error, SignedError, Junk, ObjectOf, ThunkOf, LocalOf, Addresses, Shows, IsPast, word}
@@ -30,7 +30,7 @@ thing_hit first count k l =
     ap (λ b. if b then Some ((x - first) / area_step) else None) t ∙ ap Some (ap (λ q. q / 16) d ∙ div-mul-add k 16 0 (omega arith))
 
 -- an instance begins so many sizes on
-instance_hit : (base size count i : ℕ) → 0 < size → i < count → instance_at base size count (base + i * size) ≡ Some i
+instance_hit : (base size count i : ℕ) → 0 < size → i < count → instance_named base size count (base + i * size) ≡ Some i
 instance_hit base size count zero p l = ap (λ b. if b then Some 0 else (if nat_lt base (base + 0 * size) && (nat_lt (base + 0 * size - base) (count * size) && nat_eq ((base + 0 * size - base) % size) 0) then Some ((base + 0 * size - base) / size) else None)) (eq-eqb (base + 0 * size) base (omega arith))
 instance_hit base size count (suc i) p l =
     let x = base + suc i * size in
@@ -43,7 +43,7 @@ instance_hit base size count (suc i) p l =
     ∙ ap (λ b. if b then Some ((x - base) / size) else None) t ∙ ap Some (ap (λ q. q / size) d ∙ div-mul-add (suc i) size 0 p)
 
 -- no instance begins outside
-instance_miss : (base size count x : ℕ) → 0 < count * size → (x < base) ⊎ (base + count * size ≤ x) → instance_at base size count x ≡ None
+instance_miss : (base size count x : ℕ) → 0 < count * size → (x < base) ⊎ (base + count * size ≤ x) → instance_named base size count x ≡ None
 instance_miss base size count x p out =
     ap (λ b. if b then Some 0 else (if nat_lt base x && (nat_lt (x - base) (count * size) && nat_eq ((x - base) % size) 0) then Some ((x - base) / size) else None)) (ne_eqb x base (λ e. ⊎_elim (λ l. omega (arith, l, e)) (λ l. omega (arith, l, e, p)) out))
     ∙ go (nat_lt base x && (nat_lt (x - base) (count * size) && nat_eq ((x - base) % size) 0)) refl
@@ -65,7 +65,7 @@ module _ (w : ℕ) (notes : Notes) (P : Placement) (made : List TypedObject) (A 
 
   -- the instance of an object that begins at a number
   begins : ℕ → TypedObject → ℕ → Option ℕ
-  begins k o x = instance_at (object_at notes P k) (shape_bytes w notes o.shape) o.count x
+  begins k o x = instance_named (object_at notes P k) (shape_bytes w notes o.shape) o.count x
 
   -- an object takes bytes
   takes : (k : ℕ) (o : TypedObject) → slice_get made k ≡ Some o → 0 < shape_bytes w notes o.shape
@@ -86,15 +86,15 @@ module _ (w : ℕ) (notes : Notes) (P : Placement) (made : List TypedObject) (A 
       let at : j ≡ k = omega (arith, e) in
       let here : p ≡ o = same_Some p o g in
       ap (λ q. option_or (option_map (λ y. value.Ptr j y) q) (pointer_from w notes P (suc j) os x))
-      (ap₂ (λ y (z : TypedObject). instance_at (object_at notes P y) (shape_bytes w notes z.shape) z.count x) at here ∙ hit)
+      (ap₂ (λ y (z : TypedObject). instance_named (object_at notes P y) (shape_bytes w notes z.shape) z.count x) at here ∙ hit)
       ∙ ap (λ y. Some (value.Ptr y i)) at
   found k i x o (p ∷ os) j (suc m) g e hit miss =
-      let none : instance_at (object_at notes P j) (shape_bytes w notes p.shape) p.count x ≡ None =
-      ap (λ y. instance_at (object_at notes P y) (shape_bytes w notes p.shape) p.count x) (let z : j ≡ j + 0 = omega arith in z) ∙ miss 0 p refl (λ q. omega (arith, q, e)) in
+      let none : instance_named (object_at notes P j) (shape_bytes w notes p.shape) p.count x ≡ None =
+      ap (λ y. instance_named (object_at notes P y) (shape_bytes w notes p.shape) p.count x) (let z : j ≡ j + 0 = omega arith in z) ∙ miss 0 p refl (λ q. omega (arith, q, e)) in
       ap (λ q. option_or (option_map (λ y. value.Ptr j y) q) (pointer_from w notes P (suc j) os x)) none
       ∙ found k i x o os (suc j) m g (omega (arith, e)) hit
       (λ l q h n. let z : suc j + l ≡ j + suc l = omega arith in
-      ap (λ y. instance_at (object_at notes P y) (shape_bytes w notes q.shape) q.count x) z ∙ miss (suc l) q h (λ y. n (z ∙ y)))
+      ap (λ y. instance_named (object_at notes P y) (shape_bytes w notes q.shape) q.count x) z ∙ miss (suc l) q h (λ y. n (z ∙ y)))
 
   -- an instance's address is read as the instance
   pointer_is : (k i : ℕ) (o : TypedObject) → slice_get made k ≡ Some o → i < o.count
@@ -108,7 +108,7 @@ module _ (w : ℕ) (notes : Notes) (P : Placement) (made : List TypedObject) (A 
       found k i x o made 0 k g (omega arith) (instance_hit (object_at notes P k) z o.count i p l)
       (λ j q h n.
       let zj : 0 + j ≡ j = omega arith in
-      ap (λ y. instance_at (object_at notes P y) (shape_bytes w notes q.shape) q.count x) zj
+      ap (λ y. instance_named (object_at notes P y) (shape_bytes w notes q.shape) q.count x) zj
       ∙ instance_miss (object_at notes P j) (shape_bytes w notes q.shape) q.count x (all_bytes j q h)
       (⊎_elim (λ a. inr (omega (arith, a))) (λ a. inl (omega (arith, a, row, p))) (ok.apart j k q o h g (λ e. n (zj ∙ e)))))
 
@@ -167,7 +167,7 @@ module _ (w : ℕ) (notes : Notes) (P : Placement) (made : List TypedObject) (A 
       → option_map as_pointer (starts_at notes k n c o) ≡ Some t → IsPast (A.anchor (ObjectOf k)) (n * w + c) x → IsInstance k x t
   instance_is k n c x t o there e past =
       let s = shape_of notes o.shape in
-      let i = instance_in s n c in
+      let i = instance_at s n c in
       let found : Instance = record { object = k; instance = i } in
       let p = if_mapped (nat_lt i o.count && (nat_eq n (word (i * s.n)) && nat_eq c (word (i * s.c)))) found as_pointer t e in
       let q = and_parts (nat_lt i o.count) _ p.0 in

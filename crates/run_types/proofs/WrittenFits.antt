@@ -15,7 +15,7 @@ use Rattle.run_types.specs.Fits.{FitsPlain, IsNumber, IsPointer, IsSuccess, IsEr
 use Rattle.run_types.specs.Objects.{TypedObject, shape_of}
 use Rattle.run_types.specs.ScriptValues.{fits, has_instances, fits_pointer, is_start, is_status, is_handle, is_entry, is_method, fits_range}
 use Rattle.run_types.specs.Values.{Neutral, At, ObjectOf, Method, Junk, null, word}
-use Rattle.run_types.specs.Written.{value_as, written_value, instance_of}
+use Rattle.run_types.specs.Written.{value_as, written_value, instance_value}
 
 module _ (notes : Notes) (made : List TypedObject) where
   number_fits : (lo hi div : ℕ) (v : Value) → fits_range lo hi div v ≡ true → IsNumber lo hi div (written_value notes made v)
@@ -28,7 +28,7 @@ module _ (notes : Notes) (made : List TypedObject) where
 
   -- an instance of a shape with so many from there on
   instance_fits : (s count o i : ℕ) (q : Option TypedObject) → slice_get made o ≡ q → option_map_or (has_instances s count i) q false ≡ true
-      → IsPointer notes made s count (pos 0) (pos 0) (option_map_or (λ (x : TypedObject). instance_of o i (shape_of notes x.shape)) q Junk)
+      → IsPointer notes made s count (pos 0) (pos 0) (option_map_or (λ (x : TypedObject). instance_value o i (shape_of notes x.shape)) q Junk)
   instance_fits s count o i None there h = absurd (cc)
   instance_fits s count o i (Some x) there h =
       let a = and_parts (nat_eq x.shape s) (nat_le (i + count) x.count) h in

@@ -11,7 +11,7 @@ use Rattle.note_types.specs.declared.value.Value.{Value}
 use Rattle.note_types.specs.declared.value.Value.TheVariants as value
 use Rattle.run_types.specs.Named.{Named}
 use Rattle.run_types.specs.Values.{Junk, Addresses, Shows, number, word}
-use Rattle.run_types.specs.Written.{written_value, instance_of}
+use Rattle.run_types.specs.Written.{written_value, instance_value}
 use Rattle.run_types.specs.WrittenLaw.{IsValue, WrittenShows}
 use Rattle.run_types.proofs.Numbers.{word_pair}
 
@@ -22,7 +22,7 @@ module _ (w : ℕ) (notes : Notes) (P : Placement) (made : List TypedObject) (A 
 
   -- an instance of an object shows as its address
   instance_shows : (o i : ℕ) (x : TypedObject) → slice_get made o ≡ Some x
-      → Shows w A (instance_of o i (shape_of notes x.shape)) (word (object_at notes P o + i * shape_bytes w notes x.shape))
+      → Shows w A (instance_value o i (shape_of notes x.shape)) (word (object_at notes P o + i * shape_bytes w notes x.shape))
   instance_shows o i x there =
       let s = shape_of notes x.shape in
       let pair : object_at notes P o + i * size_at w s ≡ object_at notes P o + (i * s.n * w + i * s.c) = omega arith in
@@ -33,7 +33,7 @@ module _ (w : ℕ) (notes : Notes) (P : Placement) (made : List TypedObject) (A 
       }
 
   pointer_in : (o i : ℕ) (q : Option TypedObject) → slice_get made o ≡ q
-      → Shows w A (option_map_or (λ (x : TypedObject). instance_of o i (shape_of notes x.shape)) q Junk)
+      → Shows w A (option_map_or (λ (x : TypedObject). instance_value o i (shape_of notes x.shape)) q Junk)
       ((object_at notes P o + i * option_map_or (λ (y : TypedObject). shape_bytes w notes y.shape) q 0) % 2 ^ 64)
   pointer_in o i None there = tt
   pointer_in o i (Some x) there = instance_shows o i x there

@@ -1,5 +1,6 @@
--- What the modelled host does in a step, decided from what it sees: the same at both widths, since no number of an address is
--- looked at. docs/HOST.md, "Steps", says in which order the host tries its checks.
+-- What the modelled host does in a step, decided from what it sees: the same at both widths where the host sees the same; only
+-- an image that isn't checked shows it a number of an address. docs/HOST.md, "Steps", says in which order the host tries its
+-- checks.
 use Rattle.std.specs.Prelude.{ℕ, suc, Bool, true, false, not, ◌&&◌, List, [], ◌∷◌, ◌++◌, map, length, Option, Some, None, nat_eq, nat_le, nat_lt, if◌then◌else◌, slice_get}
 use Rattle.std.specs.List.{list_all, count_by, enumerate_from, find, flat_map}
 use Rattle.std.specs.Option.{option_map, option_or, option_map_or, option_and_then}
@@ -303,5 +304,5 @@ host_plan world at (GoesOn entry callbacks frames mapped) =
 -- be entered; or they name one.
 pub data ThunkView : Type 0 where
   NotMapped : ThunkView
-  NamesNone : (address : ℕ) → ThunkView
+  NamesNone : ThunkView
   Names : (function : ℕ) → ThunkView

@@ -1,18 +1,19 @@
 -- What the modelled host sees of a run at a width of w bytes, and what its plans leave. docs/HOST.md, "Steps".
-use Rattle.std.specs.Prelude.{ℕ, suc, ◌+◌, ◌-◌, ◌*◌, ◌%◌, ◌^◌, Bool, true, false, ◌&&◌, List, [], ◌∷◌, ◌++◌, map, length, Option, Some, None, nat_eq, nat_le, nat_lt, if◌then◌else◌, slice_get, slice_index, slice_set}
+use Rattle.std.specs.Prelude.{ℕ, suc, ◌+◌, ◌-◌, ◌*◌, Bool, false, ◌&&◌, List, [], ◌∷◌, ◌++◌, map, length, Option, Some, None, nat_eq, if◌then◌else◌, slice_get, slice_index, slice_set}
 use Rattle.std.specs.List.{list_all, position}
 use Rattle.std.specs.Option.{option_map_or, option_and_then}
 use Rattle.ebc_width.specs.Width.{cut_at, extended_at}
 use Rattle.ebc_width.specs.Bytes.{little_endian}
 use Rattle.note_types.specs.Cells.{cell_size}
 use Rattle.note_types.specs.Concrete.{Concrete, stored, register, with_register}
-use Rattle.ebc_width.specs.Ranges.{Range, holds}
+use Rattle.ebc_width.specs.Ranges.{Range, covers, holds}
 use Rattle.run_types.specs.HostPlans.{Asking, NoSite, Unmapped, Asks, View, Returns, Calls, GoesOn, Target, InObject, InArgument, Store, Plan, Finishes, Leaves, Accepts, Enters, Replies, Ends, ThunkView, NotMapped, NamesNone, Names, field_at, signature_params, signature_method, site_of, function_params, host_plan}
 use Rattle.run_types.specs.World.{World}
 use Rattle.run_types.specs.Objects.{TypedObject, made_objects}
-use Rattle.run_types.specs.Placements.{Placement, slot_bytes, shape_bytes, object_bytes, params_bytes, method_at, thunk_at, handle_at, object_at, code_at}
-use Rattle.run_types.specs.Progress.{one_entry, one_thunk, NativeCall, NoCall, Asked, Accepted}
+use Rattle.run_types.specs.Placements.{Placement, slot_bytes, return_cell, params_bytes, image_range, method_at, thunk_at, handle_at, instance_address, object_range, code_at}
+use Rattle.run_types.specs.Progress.{one_entry, one_thunk, NativeCall, NoCall, Asked, Accepted, copied, one_callback, is_empty}
 use Rattle.run_types.specs.RunState.{SavedFrame, RunState}
+use Rattle.run_types.specs.Values.{word, minus, error_at}
 use Rattle.run_types.specs.Readings.{sort_of_type, reading_of, arguments_read, slots_from}
 use Rattle.note_types.specs.Shapes.{start_at}
 use Rattle.note_types.specs.declared.ending.Ending.TheVariants.{Finished, Raised, Mismatch}
@@ -37,13 +38,13 @@ use Rattle.note_types.specs.declared.value.Value.TheVariants as value
 unfoldable pub spot_of : World → Placement → Concrete → Spot
 spot_of world P s =
     if nat_eq s.ip s.gate then spot.Gate
-    else if nat_le (P.image) s.ip && nat_lt s.ip (P.image + world.image_size) then spot.Place (s.ip - P.image)
+    else if covers s.ip 1 (image_range world P) then spot.Place (s.ip - P.image)
     else spot.Wild s.ip
 
 -- the place of a call instruction at an address, and a place that has no site for one outside the image
 abbrev pub call_place : World → Placement → ℕ → ℕ
 call_place world P ip =
-    if nat_le (P.image) ip && nat_lt ip (P.image + world.image_size) then ip - P.image else 0xffffffff
+    if covers ip 1 (image_range world P) then ip - P.image else 0xffffffff
 
 -- the native call that is under way in the top frame
 abbrev pub call_under_way : List SavedFrame → NativeCall ℕ
@@ -68,12 +69,11 @@ objects_at world r = made_objects world.notes world.script r.script.entries
 -- the number of a written value at a width; 0 where it says nothing
 unfoldable pub written_number : ℕ → Notes → Placement → List TypedObject → Value → ℕ
 written_number w notes P made (value.Int n) = n
-written_number w notes P made (value.Size n c) = (n * w + c) % 2 ^ 64
-written_number w notes P made (value.Ptr o i) =
-    (object_at notes P o + i * option_map_or (λ (x : TypedObject). shape_bytes w notes x.shape) (slice_get made o) 0) % 2 ^ 64
+written_number w notes P made (value.Size n c) = word (n * w + c)
+written_number w notes P made (value.Ptr o i) = word (instance_address w notes P made o i)
 written_number w notes P made value.Null = 0
 written_number w notes P made (value.StatusOk k) = k
-written_number w notes P made (value.StatusError k) = 2 ^ (8 * w - 1) + k
+written_number w notes P made (value.StatusError k) = error_at w k
 written_number w notes P made (value.Handle k) = handle_at notes P k
 written_number w notes P made (value.Entry f) = thunk_at notes P f
 written_number w notes P made (value.Method m) = method_at P m
@@ -102,7 +102,7 @@ asking_at w world P r place target =
 -- the address of a field of an instance of a typed object
 abbrev pub cell_address : ℕ → Notes → Placement → List TypedObject → (object instance : ℕ) → Field → ℕ
 cell_address w notes P made object instance x =
-    object_at notes P object + instance * option_map_or (λ (o : TypedObject). shape_bytes w notes o.shape) (slice_get made object) 0 + start_at w x
+    instance_address w notes P made object instance + start_at w x
 
 -- a cell of an object that is there is mapped
 abbrev pub write_mapped : ℕ → World → Placement → RunState → WriteValue → Bool
@@ -122,15 +122,10 @@ result_of w world P r f =
     (option_map_or (λ (g : FnNote). sort_of_type g.result) (slice_get world.notes.function f) (sort_of_type ty.Any))
     (cut_at w (register r.machine 7))
 
--- a frame is the first one
-abbrev pub is_last : List SavedFrame → Bool
-is_last [] = true
-is_last (f ∷ fs) = false
-
 -- what the host sees where the top frame is there and its function has returned
 abbrev pub return_seen : ℕ → World → Placement → RunState → List SavedFrame → Option View
 return_seen w world P r [] = None
-return_seen w world P r (f ∷ fs) = Some (Returns (is_last fs) f.func (result_of w world P r f.func))
+return_seen w world P r (f ∷ fs) = Some (Returns (is_empty fs) f.func (result_of w world P r f.func))
 
 -- what the host sees of a native call that is under way
 abbrev pub call_seen : ℕ → World → Placement → RunState → NativeCall ℕ → Option View
@@ -164,13 +159,13 @@ after_stores w notes P made slots (v ∷ vs) s = after_stores w notes P made slo
 
 -- the machine with an object of zero bytes more
 unfoldable pub with_object : Concrete → Range → Concrete
-with_object s o = record s { objects = s.objects ++ o ∷ []; byte = λ x. if nat_le o.base x && nat_lt x (o.base + o.size) then 0 else s.byte x }
+with_object s o = record s { objects = s.objects ++ o ∷ []; byte = λ x. if covers x 1 o then 0 else s.byte x }
 
 -- the machine with these objects more, which are numbered from `first` on
 unfoldable pub with_objects : ℕ → Notes → Placement → ℕ → List TypedObject → Concrete → Concrete
 with_objects w notes P first [] s = s
 with_objects w notes P first (o ∷ os) s =
-    with_objects w notes P (suc first) os (with_object s (record { base = object_at notes P first; size = object_bytes w notes o }))
+    with_objects w notes P (suc first) os (with_object s (object_range w notes P first o))
 
 -- numbers in the slots of parameters from an address on: none unless each slot is mapped
 unfoldable pub with_slots : ℕ → ℕ → List Param → List ℕ → Concrete → Option Concrete
@@ -181,9 +176,9 @@ with_slots w a _ _ s = Some s
 -- and control is at the function. None where the cells below R0 aren't mapped.
 unfoldable pub inside : ℕ → Concrete → (target : ℕ) → List Param → List ℕ → Option Concrete
 inside w s target params numbers =
-    let top = (register s 0 + (2 ^ 64 - (16 + params_bytes w params))) % 2 ^ 64 in
+    let top = minus (register s 0) (return_cell + params_bytes w params) in
     let called = record s { registers = slice_set s.registers 0 top; ip = target; flags = 0 } in
-    option_and_then (λ low. option_and_then (λ high. with_slots w (top + 16) params numbers high) (stored low (cut_at w (top + 8)) 8 0))
+    option_and_then (λ low. option_and_then (λ high. with_slots w (top + return_cell) params numbers high) (stored low (cut_at w (top + 8)) 8 0))
     (stored called (cut_at w top) 8 s.gate)
 
 -- the frame that keeps what the machine holds where a function is entered
@@ -205,16 +200,6 @@ outside s f = record s { registers = slice_set f.registers 7 (register s 7); ip 
 abbrev pub left : RunState → List SavedFrame → RunState
 left r [] = r
 left r (f ∷ fs) = record r { machine = outside r.machine f; hosts = fs }
-
--- the slots that a native call copied
-abbrev pub copied : NativeCall ℕ → List ℕ
-copied (Accepted entry callbacks slots) = slots
-copied _ = []
-
--- a native call with one more callback entered
-abbrev pub one_callback : NativeCall ℕ → NativeCall ℕ
-one_callback (Accepted entry callbacks slots) = Accepted entry (suc callbacks) slots
-one_callback call = call
 
 -- the slots that the call step copies
 abbrev pub slots_asked : ℕ → World → RunState → NativeCall ℕ → List ℕ
@@ -258,7 +243,7 @@ host_step w world P r = option_map_or (λ v. performed w world P r (host_plan wo
 
 -- the place that the offset of a thunk cell names: so far past the cell's place and the four bytes of the offset
 abbrev pub thunk_place : Placement → (address offset : ℕ) → ℕ
-thunk_place P address offset = (extended_at 4 offset + address + 4 + (2 ^ 64 - P.image)) % 2 ^ 64
+thunk_place P address offset = minus (extended_at 4 offset + address + 4) P.image
 
 -- the function that is marked as entered by the firmware and begins at a place
 abbrev pub entered_at : Notes → ℕ → Option ℕ
@@ -268,13 +253,13 @@ entered_at notes place = position (λ (f : FnNote). nat_eq f.place place && f.en
 unfoldable pub thunk_view : World → Placement → Concrete → ℕ → ThunkView
 thunk_view world P s address =
     if holds s.objects address 8 then
-    option_map_or Names (entered_at world.notes (thunk_place P address (little_endian s.byte address 4))) (NamesNone address)
+    option_map_or Names (entered_at world.notes (thunk_place P address (little_endian s.byte address 4))) NamesNone
     else NotMapped
 
 -- the run after BREAK 5, whose step went from machine state `r.machine` to s: the cell holds the thunk's address. An exception
 -- leaves the machine as it was before the instruction.
 unfoldable pub thunk_made : ℕ → World → Placement → RunState → Concrete → ℕ → ThunkView → RunState
 thunk_made w world P r s address NotMapped = record r { ending = Raised raises.MemoryFault }
-thunk_made w world P r s address (NamesNone a) = record r { machine = s; ending = Mismatch (reason.Thunk a) }
+thunk_made w world P r s address NamesNone = record r { machine = s; ending = Mismatch (reason.Thunk address) }
 thunk_made w world P r s address (Names f) =
     record r { machine = option_map_or (λ t. t) (stored s address w (thunk_at world.notes P f)) s; script = one_thunk r.script }

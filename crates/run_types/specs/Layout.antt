@@ -1,13 +1,13 @@
 -- Where the frames of a configuration lie on the stack at a width, and so where everything is that a value may name. The
 -- stack goes down from its end; where a frame or a local lies depends on nothing above it in the list of frames. docs/HOST.md,
--- "Memory".
-use Rattle.std.specs.Prelude.{ℕ, ◌+◌, ◌-◌, ◌^◌, List, [], ◌∷◌, Option, None, nat_eq, if◌then◌else◌, slice_get}
+-- "The neutral machine".
+use Rattle.std.specs.Prelude.{ℕ, ◌+◌, List, [], ◌∷◌, Option, None, nat_eq, if◌then◌else◌, slice_get}
 use Rattle.std.specs.Option.{option_map}
 use Rattle.note_types.specs.Shapes.{size_at, start_at}
-use Rattle.run_types.specs.Values.{Anchor, ObjectOf, ThunkOf, LocalOf, Addresses, word}
+use Rattle.run_types.specs.Values.{Anchor, ObjectOf, ThunkOf, LocalOf, Addresses, plus, minus}
 use Rattle.run_types.specs.Config.{StackItem, Pushed, LocalsOf, Frame, Function, Host, depth}
 use Rattle.note_types.specs.declared.notes.Notes.{Notes}
-use Rattle.run_types.specs.Placements.{Placement, slot_bytes, stack_end, object_address, thunk_cell_address, method_address, entry_address, handle_address}
+use Rattle.run_types.specs.Placements.{Placement, slot_bytes, return_cell, stack_end, object_address, thunk_cell_address, method_address, entry_address, handle_address}
 
 -- the bytes of a stack item
 abbrev pub item_size : ℕ → StackItem → ℕ
@@ -19,30 +19,22 @@ abbrev pub height : ℕ → List StackItem → ℕ
 height w [] = 0
 height w (i ∷ is) = item_size w i + height w is
 
--- the bytes of a return cell
-abbrev pub return_cell : ℕ
-return_cell = 16
-
 -- the bytes of frames, with a return cell below the items of each function frame and the parameters in each host frame
 abbrev pub total : ℕ → List Frame → ℕ
 total w [] = 0
 total w (Function f ∷ fs) = height w f.items + (return_cell + total w fs)
 total w (Host h ∷ fs) = height w h.params + total w fs
 
--- an address so many bytes below another one, modulo 2 ^ 64
-abbrev pub lowered : ℕ → ℕ → ℕ
-lowered x n = word (x + (2 ^ 64 - word n))
-
 -- the address of the top of these frames, where the stack ends at an address: what R0 is
 abbrev pub top_of : ℕ → ℕ → List Frame → ℕ
-top_of w end fs = lowered end (total w fs)
+top_of w end fs = minus end (total w fs)
 
 -- the address of a field of the locals among items that lie upon so many bytes of the stack
 abbrev pub local_among : ℕ → ℕ → ℕ → List StackItem → ℕ → Option ℕ
 local_among w end under [] f = None
 local_among w end under (Pushed kind v ∷ is) f = local_among w end under is f
 local_among w end under (LocalsOf s ∷ is) f =
-    option_map (λ z. word (lowered end (size_at w s + (height w is + under)) + start_at w z)) (slice_get s.fields f)
+    option_map (λ z. plus (minus end (size_at w s + (height w is + under))) (start_at w z)) (slice_get s.fields f)
 
 -- the address of a field of the locals of the function frame at a depth
 abbrev pub local_address : ℕ → ℕ → List Frame → ℕ → ℕ → Option ℕ

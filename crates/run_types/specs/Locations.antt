@@ -1,7 +1,8 @@
 -- What a register and a pair name: a cell of a typed object, of the function's own locals or of a local that was lent, a
--- parameter, or a thunk cell. An access has to name its beginning exactly, and to be of its size and kind.
+-- parameter, or a thunk cell. An access has to name its beginning exactly, and to be of its size and kind. docs/RULES.md,
+-- "Places" and "Access".
 use Rattle.std.specs.Prelude.{ℕ, suc, ◌+◌, ◌*◌, ◌^◌, Bool, true, false, ◌&&◌, ◌||◌, List, [], ◌∷◌, length, take, Option, Some, None, nat_eq, nat_lt, if◌then◌else◌, slice_get}
-use Rattle.std.specs.Option.{option_map, option_and_then}
+use Rattle.std.specs.Option.{option_map, option_or, option_and_then}
 use Rattle.ebc_insn.specs.declared.Size.{Size}
 use Rattle.ebc_insn.specs.declared.Size.TheVariants as sizes
 use Rattle.note_types.specs.declared.cell.Cell.{Cell}
@@ -16,6 +17,7 @@ use Rattle.note_types.specs.declared.shape.Shape.{Shape}
 use Rattle.run_types.specs.Values.{Neutral, At, Handle, Method, Entry, Error, ObjectOf, ThunkOf, LocalOf, CellPlace, FieldOf, FieldOfLocals, plain, word}
 use Rattle.run_types.specs.Config.{StackItem, Pushed, LocalsOf, Frame, Function, Host, Config, depth}
 use Rattle.run_types.specs.Objects.{TypedObject, shape_of}
+use Rattle.run_types.specs.Placements.{return_cell}
 use Rattle.run_types.specs.ScriptValues.{has_instances}
 use Rattle.run_types.specs.World.{World}
 use Rattle.run_types.specs.Memory.{memory_of, cell_field, with_cell}
@@ -87,10 +89,11 @@ writes a (cell.Method m) = false
 writes a cell.Stat = is_natural a
 writes a c = reads a c
 
--- which accesses read a parameter in a slot of a kind
+-- which accesses read a parameter in a slot of a kind; of a wide slot MOVsn reads the low bytes at width 4
 abbrev pub reads_slot : Access → SlotKind → Bool
 reads_slot (Move sizes.Natural) N = true
 reads_slot Signed N = true
+reads_slot Signed Q = true
 reads_slot (Move sizes.Qword) Q = true
 reads_slot _ _ = false
 
@@ -176,21 +179,16 @@ parameter_at at j n c (i ∷ is) =
     if nat_eq at.n n && nat_eq at.c c then Some (ParamAt j)
     else parameter_at at (suc j) (n + item_units i) (c + item_bytes i) is
 
--- the location, or else another one
-abbrev pub or_location : Option Location → Option Location → Option Location
-or_location (Some x) o = Some x
-or_location None o = o
-
 -- the local field at a pair, where the locals begin at (n, c)
 abbrev pub local_field : Offset → ℕ → ℕ → ℕ → Shape → Option Location
 local_field at d n c s = option_map (λ f. CellAt (FieldOfLocals d f)) (find_field (λ (z : Field). nat_eq at.n (n + z.n) && nat_eq at.c (c + z.c)) 0 s.fields)
 
 -- what a pair above R0 names, where the frame's items begin at (n, c) and its parameters are these
 abbrev pub located_among : Offset → ℕ → ℕ → ℕ → List StackItem → List StackItem → Option Location
-located_among at d n c params [] = parameter_at at 0 n (c + 16) params
+located_among at d n c params [] = parameter_at at 0 n (c + return_cell) params
 located_among at d n c params (Pushed kind v ∷ is) = located_among at d (n + item_units (Pushed kind v)) (c + item_bytes (Pushed kind v)) params is
 located_among at d n c params (LocalsOf s ∷ is) =
-    or_location (local_field at d n c s) (located_among at d (n + s.n) (c + s.c) params is)
+    option_or (local_field at d n c s) (located_among at d (n + s.n) (c + s.c) params is)
 
 -- what a pair above R0 names
 unfoldable pub located_on_stack : Notes → List Frame → Offset → Option Location

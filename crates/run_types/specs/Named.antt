@@ -1,18 +1,14 @@
 -- What a placement at a width of w bytes makes of the things that values name, and what holds of the typed objects there: the
--- premises under which readings are alike. They follow from a valid placement, where the shapes of the notes are well formed
--- and their static objects lie in the image and apart.
+-- premises under which readings are alike. They are to follow from a valid placement, where the shapes of the notes are well
+-- formed and their static objects lie in the image and apart. docs/HOST.md, "The neutral machine".
 use Rattle.std.specs.Prelude.{◌≡◌, ◌≢◌, ℕ, ◌+◌, ◌*◌, ◌^◌, ◌<◌, ◌≤◌, List, Some, length, slice_get}
 use Rattle.ebc_width.specs.Width.{IsWidth}
-use Rattle.ebc_width.specs.Ranges.{Range}
 use Rattle.run_types.specs.Objects.{TypedObject, shape_of}
-use Rattle.run_types.specs.Placements.{Placement, area_bytes, handle_count, object_bytes, method_at, thunk_at, handle_at, object_at, AreApart}
+use Rattle.run_types.specs.Placements.{Placement, area_bytes, handle_count, object_bytes, method_at, thunk_at, handle_at, object_at, object_range}
+use Rattle.note_types.specs.Concrete.{AreDisjoint}
 use Rattle.note_types.specs.Shapes.{size_at}
 use Rattle.note_types.specs.declared.notes.Notes.{Notes}
 use Rattle.run_types.specs.Values.{Addresses, ObjectOf}
-
--- where a typed object lies
-abbrev pub range_of : ℕ → Notes → Placement → ℕ → TypedObject → Range
-range_of w notes P k o = record { base = object_at notes P k; size = object_bytes w notes o }
 
 -- a typed object has instances of a shape that takes bytes
 pub record HasInstances (w : ℕ) (notes : Notes) (o : TypedObject) : Type 0 where
@@ -32,4 +28,4 @@ pub record Named (w : ℕ) (notes : Notes) (P : Placement) (made : List TypedObj
   pub objects : (k : ℕ) (o : TypedObject) → slice_get made k ≡ Some o → A.anchor (ObjectOf k) ≡ Some (object_at notes P k)
   pub sized : (k : ℕ) (o : TypedObject) → slice_get made k ≡ Some o → HasInstances w notes o
   pub within : (k : ℕ) (o : TypedObject) → slice_get made k ≡ Some o → (0 < object_at notes P k) × (object_at notes P k + object_bytes w notes o ≤ 2 ^ (8 * w))
-  pub apart : (j k : ℕ) (o q : TypedObject) → slice_get made j ≡ Some o → slice_get made k ≡ Some q → j ≢ k → AreApart (range_of w notes P j o) (range_of w notes P k q)
+  pub apart : (j k : ℕ) (o q : TypedObject) → slice_get made j ≡ Some o → slice_get made k ≡ Some q → j ≢ k → AreDisjoint (object_range w notes P j o) (object_range w notes P k q)

@@ -1,13 +1,13 @@
 -- What the modelled host sees of a configuration of the neutral machine, and what its plans leave: as at a width, with values in
 -- the place of numbers. docs/HOST.md, "Steps".
-use Rattle.std.specs.Prelude.{ℕ, suc, ◌+◌, Bool, true, false, ◌&&◌, List, [], ◌∷◌, ◌++◌, length, Option, Some, None, nat_eq, nat_lt, if◌then◌else◌, is_some, slice_get}
+use Rattle.std.specs.Prelude.{ℕ, ◌+◌, Bool, false, ◌&&◌, List, [], ◌∷◌, ◌++◌, length, Option, Some, None, nat_eq, nat_lt, if◌then◌else◌, is_some, slice_get}
 use Rattle.std.specs.List.{list_all}
 use Rattle.std.specs.Option.{option_map, option_map_or, option_and_then}
 use Rattle.run_types.specs.HostPlans.{Asking, NoSite, Asks, View, Returns, Calls, GoesOn, Target, InObject, InArgument, Store, Plan, Finishes, Leaves, Accepts, Enters, Replies, Ends, field_at, signature_params, signature_method, site_of, function_params, host_plan}
 use Rattle.note_types.specs.Cells.{content_type}
 use Rattle.run_types.specs.World.{World}
 use Rattle.run_types.specs.Objects.{TypedObject, made_objects}
-use Rattle.run_types.specs.Progress.{one_entry, one_thunk, NativeCall, NoCall, Asked, Accepted}
+use Rattle.run_types.specs.Progress.{one_entry, one_thunk, NativeCall, NoCall, Asked, Accepted, copied, one_callback, is_empty}
 use Rattle.run_types.specs.Readings.{sort_of_type}
 use Rattle.note_types.specs.declared.ending.Ending.TheVariants.{Finished}
 use Rattle.note_types.specs.declared.notes.FnNote.{FnNote}
@@ -21,10 +21,12 @@ use Rattle.note_types.specs.declared.spot.Spot.{Spot}
 use Rattle.note_types.specs.declared.spot.Spot.TheVariants as spot
 use Rattle.note_types.specs.declared.types.Ty.TheVariants as ty
 use Rattle.note_types.specs.declared.value.Value.{Value}
-use Rattle.run_types.specs.Config.{StackItem, Pushed, FunctionFrame, HostFrame, Frame, Function, Host, Config, hosts, top_function, call_under_way, with_call, with_value}
+use Rattle.run_types.specs.Config.{StackItem, Pushed, FunctionFrame, Frame, Function, Host, Config, hosts, top_function, call_under_way, with_call, with_value}
+use Rattle.run_types.specs.Locations.{is_method}
+use Rattle.run_types.specs.Placements.{place_of}
 use Rattle.run_types.specs.NeutralReadings.{neutral_result, neutral_arguments, neutral_slots}
 use Rattle.run_types.specs.Memory.{with_cell}
-use Rattle.run_types.specs.Values.{Neutral, At, Method, ThunkOf, LocalOf, CellPlace, FieldOf, FieldOfLocals, Cells, null}
+use Rattle.run_types.specs.Values.{Neutral, At, ThunkOf, LocalOf, CellPlace, FieldOf, FieldOfLocals, Cells, null}
 use Rattle.run_types.specs.Written.{value_as, result_value}
 
 -- the typed objects that are made
@@ -32,11 +34,6 @@ abbrev pub objects_at : World → Config → List TypedObject
 objects_at world a = made_objects world.notes world.script a.script.entries
 
 -- ---- what the host sees
-
--- a value is the address of that method
-abbrev pub is_method_value : ℕ → Neutral → Bool
-is_method_value m (Method k) = nat_eq k m
-is_method_value m _ = false
 
 -- the items of the top function frame
 abbrev pub top_items : Config → List StackItem
@@ -50,7 +47,7 @@ slots_of world a g = neutral_slots world.notes (objects_at world a) (signature_p
 -- argument has a reading
 abbrev pub asking_by : World → Config → Neutral → ℕ → Option Asking
 asking_by world a target g =
-    if is_method_value (signature_method world.notes g) target then
+    if is_method (signature_method world.notes g) target then
     option_map (Asks g None) (option_and_then (neutral_arguments world.notes (objects_at world a) a.frames a.cells (signature_params world.notes g)) (slots_of world a g))
     else None
 
@@ -70,14 +67,9 @@ result_of world a f =
     (option_map_or (λ (g : FnNote). sort_of_type g.result) (slice_get world.notes.function f) (sort_of_type ty.Any))
     (a.registers 7)
 
--- no host frame is among these
-abbrev pub is_last : List HostFrame → Bool
-is_last [] = true
-is_last (h ∷ hs) = false
-
 -- what the host sees at the gate: none unless no function frame is left in the top host frame
 abbrev pub return_seen : World → Config → List Frame → Option View
-return_seen world a (Host h ∷ fs) = option_map (Returns (is_last (hosts fs)) h.func) (result_of world a h.func)
+return_seen world a (Host h ∷ fs) = option_map (Returns (is_empty (hosts fs)) h.func) (result_of world a h.func)
 return_seen world a _ = None
 
 -- what the host sees of a native call that is under way
@@ -122,10 +114,6 @@ unfoldable pub param_slots : Notes → List TypedObject → List Param → List 
 param_slots notes made (p ∷ ps) (v ∷ vs) = Pushed p.kind (value_as notes made p.ty v) ∷ param_slots notes made ps vs
 param_slots notes made _ _ = []
 
--- the place of a function
-abbrev pub place_of : Notes → ℕ → ℕ
-place_of notes f = option_map_or (λ (g : FnNote). g.place) (slice_get notes.function f) 0
-
 -- the configuration inside a function that the host enters
 abbrev pub entered : World → Config → ℕ → List StackItem → Config
 entered world a f params =
@@ -141,16 +129,6 @@ entered world a f params =
 abbrev pub left : Config → List Frame → Config
 left a (Host h ∷ fs) = record a { registers = with_value h.saved 7 (a.registers 7); c = h.c; spot = h.spot; frames = fs }
 left a _ = a
-
--- the slots that a native call copied
-abbrev pub copied : NativeCall Neutral → List Neutral
-copied (Accepted entry callbacks slots) = slots
-copied _ = []
-
--- a native call with one more callback entered
-abbrev pub one_callback : NativeCall Neutral → NativeCall Neutral
-one_callback (Accepted entry callbacks slots) = Accepted entry (suc callbacks) slots
-one_callback call = call
 
 -- the slots that the call step copies
 abbrev pub slots_asked : World → Config → NativeCall Neutral → List Neutral

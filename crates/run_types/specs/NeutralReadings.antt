@@ -106,14 +106,14 @@ neutral_arguments notes made frames cells _ _ = Some []
 -- ---- argument slots
 
 -- the value that a slot of a kind gives back: in natural size what that keeps of it
-abbrev pub slot_value : Notes → List TypedObject → SlotKind → Neutral → Neutral
-slot_value notes made N v = kept_natural notes made v
-slot_value notes made Q v = v
-slot_value notes made D v = Junk
+abbrev pub slot_given : Notes → List TypedObject → SlotKind → Neutral → Neutral
+slot_given notes made N v = kept_natural notes made v
+slot_given notes made Q v = v
+slot_given notes made D v = Junk
 
 -- the values in the slots of a call's arguments: none unless these are pushed slots of their kinds
 unfoldable pub neutral_slots : Notes → List TypedObject → List WantParam → List StackItem → Option (List Neutral)
 neutral_slots notes made [] is = Some []
 neutral_slots notes made (p ∷ ps) (Pushed kind v ∷ is) =
-    if same_kind kind p.kind then before_all (Some (slot_value notes made kind v)) (neutral_slots notes made ps is) else None
+    if same_kind kind p.kind then before_all (Some (slot_given notes made kind v)) (neutral_slots notes made ps is) else None
 neutral_slots notes made (p ∷ ps) _ = None

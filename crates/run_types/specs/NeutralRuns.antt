@@ -1,5 +1,5 @@
 -- Whole runs of the neutral machine: where they start, and a step, which is the host's or an instruction's. docs/HOST.md,
--- "Runs".
+-- "The start" and "Steps".
 use Rattle.std.specs.Prelude.{ℕ, zero, suc, Bool, true, false, [], length, Option, Some, if◌then◌else◌}
 use Rattle.std.specs.Option.{option_and_then}
 use Rattle.run_types.specs.HostPlans.{host_turn, filling, function_params}

@@ -1,6 +1,7 @@
--- What operations give on neutral values: the table of the machine on plain numbers, sums and multiples of pairs, the
--- building of a status, and else junk.
+-- What operations give on neutral values: the table of the machine on plain numbers (docs/MACHINE.md, "Arithmetic"), sums and
+-- multiples of pairs, the building of a status, and else junk (docs/HOST.md, "The neutral machine").
 use Rattle.std.specs.Prelude.{ℕ, zero, ◌+◌, ◌-◌, ◌*◌, ◌%◌, ◌/◌, ◌^◌, Bool, true, false, ◌&&◌, ◌||◌, nat_eq, nat_lt, if◌then◌else◌, List, Option, Some, None, Result, Ok, Err, slice_get}
+use Rattle.std.specs.Option.{option_or}
 use Rattle.ebc_width.specs.Width.{extended_at}
 use Rattle.ebc_insn.specs.declared.ArithOp.{ArithOp}
 use Rattle.ebc_insn.specs.declared.ArithOp.TheVariants as ops
@@ -12,17 +13,10 @@ use Rattle.note_types.specs.Shapes.{size_at}
 use Rattle.note_types.specs.declared.exception.Exception.TheVariants as raises
 use Rattle.note_types.specs.declared.notes.Notes.{Notes}
 use Rattle.note_types.specs.declared.shape.Shape.{Shape}
-use Rattle.run_types.specs.Values.{Anchor, ObjectOf, ThunkOf, LocalOf, Neutral, Num, At, Handle, Entry, Error, SignedError, Junk, number, plain, word}
+use Rattle.run_types.specs.Values.{Anchor, ObjectOf, ThunkOf, LocalOf, Neutral, Num, At, Handle, Entry, Error, SignedError, Junk, number, plain, word, plus, minus}
 use Rattle.run_types.specs.Objects.{TypedObject, shape_of}
 use Rattle.run_types.specs.Placements.{object_bytes}
 use Rattle.run_types.specs.Outcomes.{Outcome, Gives, Raises, Stuck}
-
--- the sum and the difference of two numbers modulo 2 ^ 64
-abbrev pub plus : ℕ → ℕ → ℕ
-plus x y = word (x + y)
-
-abbrev pub minus : ℕ → ℕ → ℕ
-minus x y = word (x + (2 ^ 64 - word y))
 
 -- ---- sums and multiples
 
@@ -224,11 +218,6 @@ equal_first notes objects (Entry k) u = equal_entry k u
 equal_first notes objects (Error k) u = equal_error k u
 equal_first notes objects _ u = None
 
--- in either order
-abbrev pub or_turned : Option Bool → Option Bool → Option Bool
-or_turned (Some b) o = Some b
-or_turned None o = o
-
 -- an order with a sign-extended error as operand 1: the error is the lesser of it and a number below 2 ^ 31, and at most -1
 abbrev pub error_at_most : Neutral → Option ℕ → Option Bool
 error_at_most (SignedError k) (Some y) = if nat_lt y (2 ^ 31) || nat_eq y (2 ^ 64 - 1) then Some true else None
@@ -238,9 +227,9 @@ abbrev pub error_at_least : Neutral → Option ℕ → Option Bool
 error_at_least (SignedError k) (Some y) = if nat_lt y (2 ^ 31) then Some false else None
 error_at_least _ _ = None
 
--- comparisons of 64 bits that aren't of two plain numbers
+-- comparisons of 64 bits that aren't of two plain numbers; equality in either order
 abbrev pub compared_wide : Notes → List TypedObject → CmpOp → Neutral → Neutral → Option Bool
-compared_wide notes objects cmps.Eq v u = or_turned (equal_first notes objects v u) (equal_first notes objects u v)
+compared_wide notes objects cmps.Eq v u = option_or (equal_first notes objects v u) (equal_first notes objects u v)
 compared_wide notes objects cmps.Lte v u = error_at_most v (plain u)
 compared_wide notes objects cmps.Gte v u = error_at_least v (plain u)
 compared_wide notes objects cmps.Ulte v u = None

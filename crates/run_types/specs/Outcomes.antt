@@ -1,4 +1,5 @@
--- What the neutral machine gives: a result, an exception that both machines raise, or nothing, where it is stuck.
+-- What the neutral machine gives: a result, an exception that the machine raises at both widths, or nothing, where it is
+-- stuck. docs/HOST.md, "The neutral machine".
 use Rattle.std.specs.Prelude.{Bool, if◌then◌else◌, Option, Some, None}
 use Rattle.note_types.specs.declared.exception.Exception.{Exception}
 

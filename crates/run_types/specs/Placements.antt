@@ -4,6 +4,7 @@ use Rattle.std.specs.Prelude.{◌≡◌, ◌⊎◌, ℕ, ◌+◌, ◌-◌, ◌*�
 use Rattle.std.specs.List.{All, AllPairs}
 use Rattle.std.specs.Option.{option_map, option_map_or}
 use Rattle.object_memory.specs.Memory.{padded, first_base}
+use Rattle.note_types.specs.Concrete.{AreDisjoint}
 use Rattle.note_types.specs.Shapes.{size_at}
 use Rattle.ebc_width.specs.Ranges.{Range}
 use Rattle.run_types.specs.World.{World}
@@ -55,9 +56,13 @@ abbrev pub params_bytes : ℕ → List Param → ℕ
 params_bytes w [] = 0
 params_bytes w (p ∷ ps) = slot_bytes w p.kind + params_bytes w ps
 
+-- the bytes of a return cell
+abbrev pub return_cell : ℕ
+return_cell = 16
+
 -- what a function that the firmware enters takes of the stack: its parameters, its return cell, and what it needs
 abbrev pub frame_bytes : ℕ → FnNote → ℕ
-frame_bytes w f = params_bytes w f.params + (16 + pair_at w f.need)
+frame_bytes w f = params_bytes w f.params + (return_cell + pair_at w f.need)
 
 -- the most that such a function takes: the entry function, or one that is marked so; functions are counted from i on
 unfoldable pub most_bytes : ℕ → ℕ → ℕ → List FnNote → ℕ
@@ -86,6 +91,16 @@ pub record Placement : Type 0 where
 abbrev pub stack_end : ℕ → Notes → Placement → ℕ
 stack_end w notes P = P.stack + stack_bytes w notes
 
+-- where the native area, the stack and the image lie
+abbrev pub native_range : Notes → Placement → Range
+native_range notes P = record { base = P.native; size = area_bytes notes }
+
+abbrev pub stack_range : ℕ → Notes → Placement → Range
+stack_range w notes P = record { base = P.stack; size = stack_bytes w notes }
+
+abbrev pub image_range : World → Placement → Range
+image_range world P = record { base = P.image; size = world.image_size }
+
 -- the address of a method
 abbrev pub method_at : Placement → ℕ → ℕ
 method_at P m = P.native + area_step * (1 + m)
@@ -108,9 +123,21 @@ object_at notes P k =
     if nat_lt k (length notes.statics) then P.image + static_place notes k
     else slice_index P.objects (k - length notes.statics)
 
--- the address of a function's code
+-- the address of an instance of a typed object that is made
+abbrev pub instance_address : ℕ → Notes → Placement → List TypedObject → (object instance : ℕ) → ℕ
+instance_address w notes P made object instance =
+    object_at notes P object + instance * option_map_or (λ (o : TypedObject). shape_bytes w notes o.shape) (slice_get made object) 0
+
+-- where a typed object of that number lies
+abbrev pub object_range : ℕ → Notes → Placement → ℕ → TypedObject → Range
+object_range w notes P k o = record { base = object_at notes P k; size = object_bytes w notes o }
+
+-- the place of a function, and the address of its code
+abbrev pub place_of : Notes → ℕ → ℕ
+place_of notes f = option_map_or (λ (g : FnNote). g.place) (slice_get notes.function f) 0
+
 abbrev pub code_at : Notes → Placement → ℕ → ℕ
-code_at notes P f = P.image + option_map_or (λ (g : FnNote). g.place) (slice_get notes.function f) 0
+code_at notes P f = P.image + place_of notes f
 
 -- an address, where the thing is one of so many
 abbrev pub there : ℕ → ℕ → ℕ → Option ℕ
@@ -143,18 +170,14 @@ script_ranges w notes _ _ = []
 -- all that the host has placed once so many of the script's calls were accepted, in the order in which it places it
 unfoldable pub placed_ranges : ℕ → World → Placement → ℕ → List Range
 placed_ranges w world P entries =
-    record { base = P.native; size = area_bytes world.notes }
-    ∷ record { base = P.stack; size = stack_bytes w world.notes }
-    ∷ record { base = P.image; size = world.image_size }
+    native_range world.notes P
+    ∷ stack_range w world.notes P
+    ∷ image_range world P
     ∷ script_ranges w world.notes (placed_objects world.script entries) P.objects
 
 -- all that it ever places
 abbrev pub all_ranges : ℕ → World → Placement → List Range
 all_ranges w world P = placed_ranges w world P (length world.script.call)
-
--- Two ranges share no address.
-abbrev pub AreApart : Range → Range → Type 0
-AreApart r q = (r.base + r.size ≤ q.base) ⊎ (q.base + q.size ≤ r.base)
 
 -- Neither address 0 nor an address past the width lies in a range.
 pub record IsWithin (w : ℕ) (r : Range) : Type 0 where
@@ -165,7 +188,7 @@ pub record IsWithin (w : ℕ) (r : Range) : Type 0 where
 -- and within the width; and the bases of the native area and of the image are even, so that code goes to even addresses.
 pub record IsPlacement (w : ℕ) (world : World) (P : Placement) : Type 0 where
   pub each : length P.objects ≡ length (placed_objects world.script (length world.script.call))
-  pub apart : AllPairs AreApart (all_ranges w world P)
+  pub apart : AllPairs AreDisjoint (all_ranges w world P)
   pub within : All (IsWithin w) (all_ranges w world P)
   pub even_native : P.native % 2 ≡ 0
   pub even_image : P.image % 2 ≡ 0

@@ -4,11 +4,13 @@ use Rattle.std.specs.Prelude.{ℕ, suc, ◌+◌, ◌-◌, ◌*◌, ◌/◌, ◌%
 use Rattle.std.specs.Option.{option_map, option_or, option_and_then}
 use Rattle.ebc_width.specs.Width.{cut_at}
 use Rattle.ebc_width.specs.Bytes.{little_endian}
+use Rattle.ebc_width.specs.Ranges.{covers}
 use Rattle.note_types.specs.Cells.{cell_size}
 use Rattle.note_types.specs.Concrete.{Concrete, loaded}
 use Rattle.run_types.specs.Objects.{TypedObject}
-use Rattle.run_types.specs.Placements.{Placement, slot_bytes, shape_bytes, area_step, handle_count, stack_end, method_at, thunk_at, handle_at, object_at}
+use Rattle.run_types.specs.Placements.{Placement, slot_bytes, shape_bytes, area_step, handle_count, stack_range, method_at, thunk_at, handle_at, object_at}
 use Rattle.run_types.specs.ScriptValues.{given, lent}
+use Rattle.run_types.specs.Values.{error_bit, word}
 use Rattle.note_types.specs.declared.cell.Cell.{Cell}
 use Rattle.note_types.specs.declared.cell.Cell.TheVariants as cell
 use Rattle.note_types.specs.declared.notes.Notes.{Notes}
@@ -97,8 +99,8 @@ abbrev pub handle_named : Notes → Placement → ℕ → Option ℕ
 handle_named notes P x = thing_at (handle_at notes P 0) handle_count x
 
 -- which of so many instances of a size, from a base on, begins at x
-abbrev pub instance_at : ℕ → ℕ → ℕ → ℕ → Option ℕ
-instance_at base size count x =
+abbrev pub instance_named : ℕ → ℕ → ℕ → ℕ → Option ℕ
+instance_named base size count x =
     if nat_eq x base then Some 0
     else if nat_lt base x && (nat_lt (x - base) (count * size) && nat_eq ((x - base) % size) 0) then Some ((x - base) / size)
     else None
@@ -107,7 +109,7 @@ instance_at base size count x =
 unfoldable pub pointer_from : ℕ → Notes → Placement → ℕ → List TypedObject → ℕ → Option Value
 pointer_from w notes P k [] x = None
 pointer_from w notes P k (o ∷ os) x =
-    option_or (option_map (λ i. value.Ptr k i) (instance_at (object_at notes P k) (shape_bytes w notes o.shape) o.count x)) (pointer_from w notes P (suc k) os x)
+    option_or (option_map (λ i. value.Ptr k i) (instance_named (object_at notes P k) (shape_bytes w notes o.shape) o.count x)) (pointer_from w notes P (suc k) os x)
 
 -- ---- readings
 
@@ -124,30 +126,30 @@ or_null x v = if nat_eq x 0 then Some value.Null else v
 abbrev pub status_read : ℕ → ℕ → Option Value
 status_read w x =
     if nat_lt x (2 ^ 31) then Some (value.StatusOk x)
-    else if nat_le (2 ^ (8 * w - 1)) x && nat_lt (x - 2 ^ (8 * w - 1)) (2 ^ 31) then Some (value.StatusError (x - 2 ^ (8 * w - 1)))
+    else if nat_le (error_bit w) x && nat_lt (x - error_bit w) (2 ^ 31) then Some (value.StatusError (x - error_bit w))
     else None
 
 -- the reading of a number of a sort, under the typed objects that are made
 unfoldable pub reading_of : ℕ → Notes → Placement → List TypedObject → Sort → ℕ → Value
 reading_of w notes P made Anything x = value.Any
 reading_of w notes P made Number x = value.Int x
-reading_of w notes P made (SizeOf n c) x = if nat_eq x ((n * w + c) % 2 ^ 64) then value.Size n c else value.Wild x
+reading_of w notes P made (SizeOf n c) x = if nat_eq x (word (n * w + c)) then value.Size n c else value.Wild x
 reading_of w notes P made Pointer x = or_wild x (or_null x (pointer_from w notes P 0 made x))
 reading_of w notes P made HandleOf x = or_wild x (or_null x (option_map value.Handle (handle_named notes P x)))
 reading_of w notes P made EntryOf x = or_wild x (or_null x (option_map value.Entry (entry_named notes P x)))
 reading_of w notes P made StatusOf x = or_wild x (status_read w x)
 reading_of w notes P made MethodOf x = or_wild x (option_map value.Method (method_named notes P x))
 
--- whether the k bytes from x on lie in the stack
-abbrev pub in_stack : ℕ → Notes → Placement → ℕ → ℕ → Bool
-in_stack w notes P x k = nat_le (P.stack) x && nat_le (x + k) (stack_end w notes P)
+-- whether a cell at x lies in the stack
+abbrev pub in_stack : ℕ → Notes → Placement → Cell → ℕ → Bool
+in_stack w notes P c x = covers x (cell_size w c) (stack_range w notes P)
 
 -- an argument as the native call sees it, where memory holds these bytes
 unfoldable pub argument_read : ℕ → Notes → Placement → List TypedObject → (ℕ → ℕ) → Role → ℕ → Seen
 argument_read w notes P made byte (GivenAs sort) x = given (reading_of w notes P made sort x)
-argument_read w notes P made byte (OutCell c) x = given (if in_stack w notes P x (cell_size w c) then value.Out else value.Wild x)
+argument_read w notes P made byte (OutCell c) x = given (if in_stack w notes P c x then value.Out else value.Wild x)
 argument_read w notes P made byte (InoutCell c) x =
-    if in_stack w notes P x (cell_size w c) then lent (reading_of w notes P made (sort_of_cell c) (little_endian byte x (cell_size w c)))
+    if in_stack w notes P c x then lent (reading_of w notes P made (sort_of_cell c) (little_endian byte x (cell_size w c)))
     else given (value.Wild x)
 
 -- the arguments, one for each parameter

@@ -1,5 +1,5 @@
 -- Values in scripts and traces: when two are the same, and when one fits a type under the typed objects that are made.
--- docs/SCRIPTS.md lists the cases.
+-- docs/HOST.md, "Values", lists the cases.
 use Rattle.std.specs.Prelude.{ℕ, ℤ, pos, ◌+◌, ◌^◌, Bool, true, false, ◌&&◌, List, length, Option, Some, None, nat_eq, nat_le, nat_lt, is_some, slice_get}
 use Rattle.std.specs.List.{list_all, zip}
 use Rattle.std.specs.Option.{option_map_or}

@@ -1,30 +1,32 @@
 -- Where a run starts at a width of w bytes: inside the entry function, with the script's arguments, in the host's first frame.
 -- docs/HOST.md, "The start".
-use Rattle.std.specs.Prelude.{ℕ, ◌+◌, ◌-◌, ◌%◌, ◌^◌, ◌&&◌, [], ◌∷◌, map, length, nat_le, nat_lt, if◌then◌else◌}
+use Rattle.std.specs.Prelude.{ℕ, ◌-◌, [], ◌∷◌, map, length, if◌then◌else◌}
+use Rattle.ebc_width.specs.Ranges.{covers}
 use Rattle.note_types.specs.Concrete.{Concrete}
 use Rattle.run_types.specs.HostPlans.{filling}
 use Rattle.run_types.specs.HostSteps.{written_number, after_stores, with_objects, entered}
 use Rattle.run_types.specs.World.{World}
 use Rattle.run_types.specs.Objects.{script_object, made_objects}
-use Rattle.run_types.specs.Placements.{Placement, area_bytes, stack_bytes, stack_end}
+use Rattle.run_types.specs.Placements.{Placement, stack_end, native_range, stack_range, image_range}
 use Rattle.run_types.specs.Progress.{script_start}
 use Rattle.run_types.specs.RunState.{RunState}
+use Rattle.run_types.specs.Values.{word}
 use Rattle.note_types.specs.declared.ending.Ending.TheVariants.{Running}
 
 -- the byte at an address where only the image is mapped, which has these bytes at its places
 abbrev pub image_byte : World → Placement → (ℕ → ℕ) → ℕ → ℕ
 image_byte world P mapped x =
-    if nat_le (P.image) x && nat_lt x (P.image + world.image_size) then mapped (x - P.image) else 0
+    if covers x 1 (image_range world P) then mapped (x - P.image) else 0
 
 -- the machine with the native area, the stack and the image: R0 past the stack, all else 0, and control at the gate
 unfoldable pub bare_machine : ℕ → World → Placement → (ℕ → ℕ) → Concrete
 bare_machine w world P mapped =
     record {
-      registers = stack_end w world.notes P % 2 ^ 64 ∷ 0 ∷ 0 ∷ 0 ∷ 0 ∷ 0 ∷ 0 ∷ 0 ∷ [];
+      registers = word (stack_end w world.notes P) ∷ 0 ∷ 0 ∷ 0 ∷ 0 ∷ 0 ∷ 0 ∷ 0 ∷ [];
       ip = P.native;
       flags = 0;
       gate = P.native;
-      objects = record { base = P.native; size = area_bytes world.notes } ∷ record { base = P.stack; size = stack_bytes w world.notes } ∷ record { base = P.image; size = world.image_size } ∷ [];
+      objects = native_range world.notes P ∷ stack_range w world.notes P ∷ image_range world P ∷ [];
       byte = image_byte world P mapped;
     }
 

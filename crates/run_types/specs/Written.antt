@@ -11,14 +11,14 @@ use Rattle.note_types.specs.declared.value.Value.TheVariants as value
 use Rattle.run_types.specs.Values.{Neutral, Num, At, Handle, Method, Entry, Error, Junk, ObjectOf, number, null, word}
 
 -- the address of an instance of an object of a shape
-abbrev pub instance_of : ℕ → ℕ → Shape → Neutral
-instance_of object instance s = At (ObjectOf object) (word (instance * s.n)) (word (instance * s.c))
+abbrev pub instance_value : ℕ → ℕ → Shape → Neutral
+instance_value object instance s = At (ObjectOf object) (word (instance * s.n)) (word (instance * s.c))
 
 -- the neutral value of a written value: junk where it says nothing, or names no object that is made
 unfoldable pub written_value : Notes → List TypedObject → Value → Neutral
 written_value notes made (value.Int n) = number n
 written_value notes made (value.Size n c) = Num n c
-written_value notes made (value.Ptr o i) = option_map_or (λ (x : TypedObject). instance_of o i (shape_of notes x.shape)) (slice_get made o) Junk
+written_value notes made (value.Ptr o i) = option_map_or (λ (x : TypedObject). instance_value o i (shape_of notes x.shape)) (slice_get made o) Junk
 written_value notes made value.Null = null
 written_value notes made (value.StatusOk k) = number k
 written_value notes made (value.StatusError k) = Error k

@@ -96,7 +96,8 @@ fn is_method(method: u32, value: &Value) -> bool
     }
 }
 
-/// Whether a value that a script writes fits a type, where these typed objects are made. docs/SCRIPTS.md lists the cases.
+/// Whether a value that a script writes fits a type, where these typed objects are made. docs/HOST.md, "Values", lists the
+/// cases.
 #[tactic(auto, unfolding(crate::specs::ScriptValues::fits))]
 pub fn fits(made: &[TypedObject], ty: &Ty, value: &Value) -> bool
     ensures { result ≡ fits made.now ty.now value.now }
