@@ -4,20 +4,20 @@ use Rattle.std.proofs.lemmas.Bool.Decides.{nat_tests}
 use Rattle.ebc_outside.specs.Files.{Files}
 use Rattle.ebc_cli.specs.declared.outcome.Outcome.{Outcome}
 use Rattle.ebc_cli.specs.declared.outcome.Outcome.TheVariants as outcomes
-use Rattle.ebc_cli.specs.declared.outcome.RuleName.{RuleName}
-use Rattle.ebc_cli.specs.declared.verdict.Verdict.{Verdict}
-use Rattle.ebc_cli.specs.declared.verdict.Verdict.TheVariants.{Neutral, Refused}
+use Rattle.note_types.specs.declared.rule.RuleName.{RuleName}
+use Rattle.width_checker.specs.declared.verdict.Verdict.{Verdict}
+use Rattle.width_checker.specs.declared.verdict.Verdict.TheVariants.{Neutral, Refused}
 use Rattle.ebc_cli.specs.declared.reply.Reply.{Reply}
 use Rattle.ebc_cli.specs.declared.reply.End.TheVariants.{Stop}
 use Rattle.ebc_cli.specs.Outcomes.{IsAnswer}
-use Rattle.ebc_cli.specs.PlainChecks.{plain_verdict}
-use Rattle.ebc_cli.specs.PlainRules.{IsNeutral, IsRefused}
-use Rattle.ebc_cli.specs.PlainRuns.{RunsAlike}
+use Rattle.width_checker.specs.PlainChecks.{plain_verdict}
+use Rattle.width_checker.specs.PlainRules.{IsNeutral, IsRefused}
+use Rattle.width_checker.specs.PlainRuns.{RunsAlike}
 use Rattle.ebc_cli.specs.Readings.{Follows, file, go_on, large_reply}
 use Rattle.ebc_cli.specs.Answers.{answer_of, check_code, reply_to, reply_of, verdict_reply, plain_code_limit, ChecksCode}
-use Rattle.ebc_cli.proofs.RunsLemmas.{neutral-alike}
-use Rattle.ebc_cli.proofs.RulesLemmas.{neutral-exactly}
-use Rattle.ebc_cli.proofs.RefusalLemmas.{refused-exactly}
+use Rattle.width_checker.proofs.PlainRunsLemmas.{neutral-alike}
+use Rattle.width_checker.proofs.PlainRulesLemmas.{neutral-exactly}
+use Rattle.width_checker.proofs.PlainRefusalLemmas.{refused-exactly}
 
 -- the told reply is that of the run, whether it went through or stopped
 pub reply-ok : (contents : Option Files) (words before now : List (List ℕ)) (reply : Reply) → IfSome contents (λ files. Follows before now (Ok reply) (answer_of words files)) → IfSome contents (λ files. reply_to words files ≡ reply)
@@ -84,7 +84,7 @@ alike (Some files) words reply outcome tells = λ code c done.
     let answered : IsAnswer outcome = rw done tt in
     let fits = done-fits words files code c (ap (λ (r : Reply). r.outcome) tells.told ∙ sym (tells.same answered) ∙ done) in
     let verdict = verdict-told words files reply outcome tells code c fits answered in
-    neutral-alike code fits ((verdict-done (plain_verdict code)).0 (sym verdict ∙ done))
+    neutral-alike code (omega (arith, fits)) ((verdict-done (plain_verdict code)).0 (sym verdict ∙ done))
 
 pub exactly : (contents : Option Files) (words : List (List ℕ)) (reply : Reply) (outcome : Outcome) → Tells contents words reply outcome
     → IfSome contents (λ files. (code : List ℕ) → ChecksCode words files code → length code ≤ plain_code_limit → IsAnswer outcome → outcome ≡ outcomes.Done ↔ IsNeutral code)

@@ -1,10 +1,3 @@
 pub mod HexLemmas
-pub mod PlacesLemmas
-pub mod StartsLemmas
-pub mod ReadLemmas
-pub mod RulesLemmas
-pub mod RefusalLemmas
-pub mod RunsLemmas
 pub mod ReadingsLemmas
 pub mod HeadlineLemmas
-pub mod Rows

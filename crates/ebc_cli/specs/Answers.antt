@@ -3,8 +3,8 @@ use Rattle.std.specs.Prelude.{◌≡◌, ◌↔◌, ℕ, List, ◌++◌, Option,
 use Rattle.std.specs.FinMap.{get}
 use Rattle.ebc_outside.specs.Files.{Files}
 use Rattle.ebc_cli.specs.declared.outcome.Outcome.TheVariants as outcomes
-use Rattle.ebc_cli.specs.declared.verdict.Verdict.{Verdict}
-use Rattle.ebc_cli.specs.declared.verdict.Verdict.TheVariants as verdicts
+use Rattle.width_checker.specs.declared.verdict.Verdict.{Verdict}
+use Rattle.width_checker.specs.declared.verdict.Verdict.TheVariants as verdicts
 use Rattle.ebc_cli.specs.declared.command.Command.{Command}
 use Rattle.ebc_cli.specs.declared.command.Command.TheVariants.{CheckCode}
 use Rattle.ebc_cli.specs.declared.reply.Reply.{Reply}
@@ -12,7 +12,7 @@ use Rattle.ebc_cli.specs.Outcomes.{IsAnswer}
 use Rattle.ebc_cli.specs.Texts.{neutral_line, refused_line, usage_line}
 use Rattle.ebc_cli.specs.Commands.{command_of}
 use Rattle.ebc_cli.specs.Readings.{FileReading, done, ◌>>=◌, file, MissingHasCause}
-use Rattle.ebc_cli.specs.PlainChecks.{plain_verdict}
+use Rattle.width_checker.specs.PlainChecks.{plain_verdict}
 
 -- how many bytes plain code may have: 256 KiB
 abbrev pub plain_code_limit : ℕ

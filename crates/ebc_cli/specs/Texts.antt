@@ -1,7 +1,7 @@
 -- What the program prints: docs/COMMANDS.md, "Printed lines".
 use Rattle.std.specs.Prelude.{ℕ, ◌+◌, ◌/◌, ◌%◌, zero, suc, nat_lt, if◌then◌else◌, List, [], ◌∷◌, ◌++◌, codes}
-use Rattle.ebc_cli.specs.declared.outcome.RuleName.{RuleName}
-use Rattle.ebc_cli.specs.declared.outcome.RuleName.TheVariants.{Decode, Form, Target, End}
+use Rattle.note_types.specs.declared.rule.RuleName.{RuleName}
+use Rattle.note_types.specs.declared.rule.RuleName.TheVariants as rules
 
 -- the digits 0 to 9 and a to f
 abbrev pub hex_digit : ℕ → ℕ
@@ -18,10 +18,29 @@ place_text place = hex_text 8 place
 
 -- a rule by its name
 abbrev pub rule_text : RuleName → List ℕ
-rule_text Decode = codes "decode"
-rule_text Form = codes "form"
-rule_text Target = codes "target"
-rule_text End = codes "end"
+rule_text rules.Shape = codes "shape"
+rule_text rules.Function = codes "function"
+rule_text rules.Static = codes "static"
+rule_text rules.Decode = codes "decode"
+rule_text rules.State = codes "state"
+rule_text rules.Point = codes "point"
+rule_text rules.Relocation = codes "relocation"
+rule_text rules.Form = codes "form"
+rule_text rules.Stack = codes "stack"
+rule_text rules.Address = codes "address"
+rule_text rules.Null = codes "null"
+rule_text rules.Unwritten = codes "unwritten"
+rule_text rules.Store = codes "store"
+rule_text rules.Compare = codes "compare"
+rule_text rules.Divide = codes "divide"
+rule_text rules.Target = codes "target"
+rule_text rules.Site = codes "site"
+rule_text rules.Level = codes "level"
+rule_text rules.Thunk = codes "thunk"
+rule_text rules.Arguments = codes "arguments"
+rule_text rules.Return = codes "return"
+rule_text rules.Below = codes "below"
+rule_text rules.End = codes "end"
 
 abbrev pub neutral_line : List ℕ
 neutral_line = codes "neutral\n"

@@ -2,15 +2,14 @@
 ghost use Rattle.std.specs.Prelude.{◌≡◌, ◌≢◌, ◌++◌, ◌↔◌, ◌≤◌, ℕ, List, length, Some, None, IfSome, IfNone, IfOk, IsErrOf};
 ghost use Rattle.ebc_outside.specs.Counts.{Rose};
 ghost use Rattle.ebc_outside.specs.Files.{AppendsPart};
-ghost use Rattle.ebc_cli.specs.declared.outcome.RuleName.{RuleName};
+ghost use Rattle.note_types.specs.declared.rule.RuleName.{RuleName};
 ghost use Rattle.ebc_cli.specs.Outcomes.{IsAnswer};
-ghost use Rattle.ebc_cli.specs.PlainRules.{IsNeutral, IsRefused};
-ghost use Rattle.ebc_cli.specs.PlainRuns.{RunsAlike};
+ghost use Rattle.width_checker.specs.PlainRules.{IsNeutral, IsRefused};
+ghost use Rattle.width_checker.specs.PlainRuns.{RunsAlike};
 ghost use Rattle.ebc_cli.specs.Commands.{command_of, word_bytes};
 ghost use Rattle.ebc_cli.specs.Readings.{Follows, IfStop, CommandAnswer, AsksPart};
 ghost use Rattle.ebc_cli.specs.Answers.{answer_of, check_code, reply_to, printed, plain_code_limit, ChecksCode, AnswersWords};
 
-use crate::check::check_plain;
 use crate::command::{Command, command_of};
 use crate::outcome::Outcome;
 use crate::reading::file;
@@ -18,6 +17,7 @@ use crate::reply::{End, Reply};
 use crate::text;
 use ebc_outside::{Folder, Sink, SinkEnd};
 use std::alloc::Global;
+use width_checker::check_plain;
 
 /// How many bytes a file of plain code may have.
 const PLAIN_CODE_LIMIT: u64 = 262144;

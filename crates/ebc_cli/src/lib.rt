@@ -5,13 +5,12 @@
 #![tactic(auto)]
 
 mod answer;
-mod check;
 mod command;
 mod outcome;
 mod reading;
 mod reply;
 mod text;
-mod verdict;
 
 pub use answer::ebc;
-pub use outcome::{Outcome, RuleName};
+pub use outcome::Outcome;
+pub use width_checker::RuleName;

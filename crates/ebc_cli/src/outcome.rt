@@ -2,18 +2,7 @@
 ghost use Rattle.std.specs.Prelude.{◌≡◌};
 ghost use Rattle.ebc_cli.specs.Outcomes.{exit_status};
 
-/// A rule of the check that an instruction can fail. docs/PLAIN.md states the rules of plain code.
-#[derive(Clone, Copy, Debug, PartialEq, Eq)]
-pub enum RuleName {
-    /// No instruction decodes at the place.
-    Decode,
-    /// The instruction is none of the forms of plain code.
-    Form,
-    /// A jump leads to a place where no instruction starts.
-    Target,
-    /// Control may pass the end of the code.
-    End,
-}
+use width_checker::RuleName;
 
 /// What a call of the program answers. docs/COMMANDS.md has the line that each prints.
 #[derive(Clone, Copy, Debug, PartialEq, Eq)]

@@ -3,8 +3,8 @@ ghost use Rattle.std.specs.Prelude.{◌≡◌};
 ghost use Rattle.ebc_cli.specs.declared.reply.End.TheVariants.{NoMemory};
 
 use crate::outcome::Outcome;
-use ebc_base::Sequence;
-use std::alloc::{AllocError, AllocFailed};
+use ebc_base::{NoMemory, Sequence};
+use std::alloc::AllocError;
 
 /// An answer and the text that is printed for it.
 #[derive(Debug, Drop)]
@@ -28,6 +28,14 @@ impl From<AllocError> for End {
     ghost from_gives = { λ _ e. e ≡ NoMemory };
 
     fn from(_: AllocError) -> Self {
+        End::NoMemory
+    }
+}
+
+impl From<NoMemory> for End {
+    ghost from_gives = { λ _ e. e ≡ NoMemory };
+
+    fn from(_: NoMemory) -> Self {
         End::NoMemory
     }
 }

@@ -4,12 +4,12 @@ ghost use Rattle.ebc_cli.specs.Texts.{place_text, rule_text};
 ghost use Rattle.ebc_cli.specs.Readings.{missing_reply, large_reply};
 ghost use Rattle.ebc_cli.specs.Answers.{verdict_reply, usage_reply};
 
-use crate::outcome::{Outcome, RuleName};
+use crate::outcome::Outcome;
 use crate::reply::Reply;
-use crate::verdict::Verdict;
 use ebc_base::Sequence;
 use std::alloc::{AllocError, Global};
 use std::fmt;
+use width_checker::{RuleName, Verdict};
 
 /// A place, an offset in bytes, printed in eight hexadecimal digits.
 #[derive(Clone, Copy, Debug, PartialEq, Eq)]
@@ -25,16 +25,34 @@ impl fmt::Display for Place {
     }
 }
 
-impl fmt::Display for RuleName {
-    ghost output = { λ r. Some (rule_text r) };
-
-    fn fmt<W: fmt::Write>(&self, f: &mut fmt::Formatter<W>) -> fmt::Result {
-        f.write_str(match self {
-            RuleName::Decode => "decode",
-            RuleName::Form => "form",
-            RuleName::Target => "target",
-            RuleName::End => "end",
-        })
+// The name of a rule, as it is printed.
+fn rule_text(rule: RuleName) -> &'static str
+    ensures { result.now ≡ rule_text rule }
+{
+    match rule {
+        RuleName::Shape => "shape",
+        RuleName::Function => "function",
+        RuleName::Static => "static",
+        RuleName::Decode => "decode",
+        RuleName::State => "state",
+        RuleName::Point => "point",
+        RuleName::Relocation => "relocation",
+        RuleName::Form => "form",
+        RuleName::Stack => "stack",
+        RuleName::Address => "address",
+        RuleName::Null => "null",
+        RuleName::Unwritten => "unwritten",
+        RuleName::Store => "store",
+        RuleName::Compare => "compare",
+        RuleName::Divide => "divide",
+        RuleName::Target => "target",
+        RuleName::Site => "site",
+        RuleName::Level => "level",
+        RuleName::Thunk => "thunk",
+        RuleName::Arguments => "arguments",
+        RuleName::Return => "return",
+        RuleName::Below => "below",
+        RuleName::End => "end",
     }
 }
 
@@ -58,7 +76,8 @@ fn refused(alloc: Global, place: u32, rule: RuleName) -> Result<Reply, AllocErro
     ensures { IfOk result (λ r. r ≡ verdict_reply (Verdict.Refused place rule)) }
 {
     let shown = Place(place);
-    let text = Sequence::new(format!(in alloc; "refused {shown} {rule}\n")?.into_bytes());
+    let name = rule_text(rule);
+    let text = Sequence::new(format!(in alloc; "refused {shown} {name}\n")?.into_bytes());
     Ok(Reply {
         outcome: Outcome::Refused { place, rule },
         text,

@@ -28,13 +28,13 @@ use Rattle.ebc_machine.specs.Data.{arith_row, compare_row, with_c}
 use Rattle.ebc_machine.specs.Moves.{move_imm_row}
 use Rattle.ebc_machine.specs.Flow.{jump8_row, is_taken}
 use Rattle.ebc_machine.specs.Step.{executed}
-use Rattle.ebc_cli.specs.declared.verdict.Verdict.TheVariants.{Neutral}
-use Rattle.ebc_cli.specs.PlainChecks.{is_plain, starts, passes, lands, falls_through, jump_target, plain_verdict}
-use Rattle.ebc_cli.specs.PlainRules.{IsStart}
-use Rattle.ebc_cli.specs.PlainRuns.{Progress, GoesOn, Returned, Stopped, PlainState, done_at, plain_step, plain_run, plain_machine, KeepsTo, KeepsToCode, RunsAlike}
-use Rattle.ebc_cli.proofs.ReadLemmas.{is_index, misplaced, read-placed}
-use Rattle.ebc_cli.proofs.StartsLemmas.{Good, GoodStarts, good-starts, head-started, no-rule}
-use Rattle.ebc_cli.proofs.RulesLemmas.{start-is, reached-started, reached-even}
+use Rattle.width_checker.specs.declared.verdict.Verdict.TheVariants.{Neutral}
+use Rattle.width_checker.specs.PlainChecks.{is_plain, starts, passes, lands, falls_through, jump_target, plain_verdict}
+use Rattle.width_checker.specs.PlainRules.{IsStart}
+use Rattle.width_checker.specs.PlainRuns.{Progress, GoesOn, Returned, Stopped, PlainState, done_at, plain_step, plain_run, plain_machine, KeepsTo, KeepsToCode, RunsAlike}
+use Rattle.width_checker.proofs.PlainReadLemmas.{is_index, misplaced, read-placed}
+use Rattle.width_checker.proofs.PlainStartsLemmas.{Good, GoodStarts, good-starts, head-started, no-rule}
+use Rattle.width_checker.proofs.PlainRulesLemmas.{start-is, reached-started, reached-even}
 
 -- ---- the rows of plain code
 
@@ -121,7 +121,7 @@ passed Clear words flags e = refl
 
 -- code at whose starts no rule fails
 record Checked (code : List ℕ) : Type 0 where
-  small : length code ≤ 262144
+  small : length code < 2 ^ 32
   good : (p : ℕ) → starts code p ≡ true → Good code (starts code) (starts code) p
   begins : starts code 0 ≡ true
 
@@ -262,7 +262,7 @@ stands code (suc steps) checked =
     let now = stands code steps checked in
     next-state code steps checked now.state.progress now.state.machine now.keeps now.each
 
-checked-code : (code : List ℕ) → length code ≤ 262144 → plain_verdict code ≡ Neutral → Checked code
+checked-code : (code : List ℕ) → length code < 2 ^ 32 → plain_verdict code ≡ Neutral → Checked code
 unfolding plain_verdict GoodStarts
 checked-code [] small neutral = cc
 checked-code (b ∷ bytes) small neutral =
@@ -274,7 +274,7 @@ checked-code (b ∷ bytes) small neutral =
     }
 
 -- what the plain check calls neutral runs alike at both widths, and keeps to the code
-pub neutral-alike : (code : List ℕ) → length code ≤ 262144 → plain_verdict code ≡ Neutral → RunsAlike code
+pub neutral-alike : (code : List ℕ) → length code < 2 ^ 32 → plain_verdict code ≡ Neutral → RunsAlike code
 neutral-alike code small neutral = record {
   same = λ steps. let s = at steps in s.each 4 ∙ sym (s.each 8);
   narrow = λ steps. let s = at steps in subst (KeepsToCode code) (sym (s.each 4)) s.keeps;

@@ -5,9 +5,9 @@ use Rattle.ebc_insn.specs.declared.Insn.{Insn}
 use Rattle.ebc_insn.specs.declared.Insn.TheVariants.{Jump8}
 use Rattle.ebc_decode.specs.declared.DecodeFault.{DecodeFault}
 use Rattle.ebc_decode.specs.Reading.{read}
-use Rattle.ebc_cli.specs.declared.outcome.RuleName.{RuleName}
-use Rattle.ebc_cli.specs.declared.outcome.RuleName.TheVariants.{Decode, Form, Target, End}
-use Rattle.ebc_cli.specs.PlainChecks.{is_plain, jump_target, falls_through}
+use Rattle.note_types.specs.declared.rule.RuleName.{RuleName}
+use Rattle.note_types.specs.declared.rule.RuleName.TheVariants.{Decode, Form, Target, End}
+use Rattle.width_checker.specs.PlainChecks.{is_plain, jump_target, falls_through}
 
 -- the place after an instruction
 abbrev pub place_after : ℕ → Result (Insn × ℕ) DecodeFault → Option ℕ
@@ -78,6 +78,7 @@ FailsFirst code place Decode = ¬ Decodes code place
 FailsFirst code place Form = NoPlainForm code place
 FailsFirst code place Target = NamesNoStart code place
 FailsFirst code place End = PassesEnd code place
+FailsFirst code place rule = ⊥
 
 -- The place is the first that lengths lead to and at which a rule fails, and the rule is the first that fails there.
 pub record IsRefusedAt (code : List ℕ) (place : ℕ) (rule : RuleName) : Type 0 where

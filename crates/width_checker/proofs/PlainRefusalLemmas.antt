@@ -6,14 +6,14 @@ use Rattle.ebc_insn.specs.declared.Insn.{Insn}
 use Rattle.ebc_decode.specs.declared.DecodeFault.{DecodeFault}
 use Rattle.ebc_decode.specs.Reading.{read}
 use Rattle.ebc_decode.proofs.Laws.{read_length}
-use Rattle.ebc_cli.specs.declared.outcome.RuleName.{RuleName}
-use Rattle.ebc_cli.specs.declared.outcome.RuleName.TheVariants.{Decode, Form, Target, End}
-use Rattle.ebc_cli.specs.declared.verdict.Verdict.{Verdict}
-use Rattle.ebc_cli.specs.declared.verdict.Verdict.TheVariants.{Neutral, Refused}
-use Rattle.ebc_cli.specs.PlainChecks.{is_plain, reached, starts, lands, falls_through, instruction_rule, first_refusal, judged, plain_verdict}
-use Rattle.ebc_cli.specs.PlainRules.{place_of, IsReached, Decodes, NamesStart, MeetsRules, FailsFirst, IsRefusedAt, IsRefused}
-use Rattle.ebc_cli.proofs.PlacesLemmas.{along}
-use Rattle.ebc_cli.proofs.RulesLemmas.{one-further, onward, before, same-read, begins, names, lands-named, meets, neutral-exactly}
+use Rattle.note_types.specs.declared.rule.RuleName.{RuleName}
+use Rattle.note_types.specs.declared.rule.RuleName.TheVariants.{Decode, Form, Target, End}
+use Rattle.width_checker.specs.declared.verdict.Verdict.{Verdict}
+use Rattle.width_checker.specs.declared.verdict.Verdict.TheVariants.{Neutral, Refused}
+use Rattle.width_checker.specs.PlainChecks.{is_plain, reached, starts, lands, falls_through, instruction_rule, first_refusal, judged, plain_verdict}
+use Rattle.width_checker.specs.PlainRules.{place_of, IsReached, Decodes, NamesStart, MeetsRules, FailsFirst, IsRefusedAt, IsRefused}
+use Rattle.width_checker.proofs.PlainPlacesLemmas.{along}
+use Rattle.width_checker.proofs.PlainRulesLemmas.{one-further, onward, before, same-read, begins, names, lands-named, meets, neutral-exactly}
 
 -- ---- no place lies between two that follow one another
 
@@ -51,25 +51,19 @@ no-between code place q i n led e other past =
 
 -- which tests say that a rule fails
 Fails : Bool → Bool → Bool → RuleName → Type 0
-Fails plain landed last Decode = ⊥
 Fails plain landed last Form = plain ≡ false
 Fails plain landed last Target = (plain ≡ true) × (landed ≡ false)
 Fails plain landed last End = (plain ≡ true) × (landed ≡ true) × (last ≡ true)
+Fails plain landed last rule = ⊥
 
 by-tests : (plain landed last : Bool) (rule : RuleName) → (if not plain then Some Form else if not landed then Some Target else if last then Some End else None) ≡ Some rule → Fails plain landed last rule
 unfolding Fails
 by-tests false landed last Form e = refl
-by-tests false landed last Decode e = cc
-by-tests false landed last Target e = cc
-by-tests false landed last End e = cc
+by-tests false landed last rule e = cc
 by-tests true false last Target e = (refl, refl)
-by-tests true false last Decode e = cc
-by-tests true false last Form e = cc
-by-tests true false last End e = cc
+by-tests true false last rule e = cc
 by-tests true true true End e = (refl, refl, refl)
-by-tests true true true Decode e = cc
-by-tests true true true Form e = cc
-by-tests true true true Target e = cc
+by-tests true true true rule e = cc
 by-tests true true false rule e = cc
 
 both : (a b : Bool) → (a && b) ≡ true → (a ≡ true) × (b ≡ true)
@@ -80,7 +74,6 @@ both false b e = cc
 fails-so : (code : List ℕ) (place : ℕ) (i : Insn) (n : ℕ) (rule : RuleName) → read (drop place code) ≡ Ok (i, n)
     → Fails (is_plain i) (lands (starts code) (place + n) i) (nat_eq (place + n) (length code) && falls_through i) rule → FailsFirst code place rule
 unfolding Fails
-fails-so code place i n Decode e f = absurd f
 fails-so code place i n Form e f = record { decode = record { insn = i; size = n; reads = e }; form = f }
 fails-so code place i n Target e f = record {
   decode = record { insn = i; size = n; reads = e };
@@ -96,6 +89,7 @@ fails-so code place i n End e f =
       last = let test = ends.0 in grind (arith, nat_tests);
       passed = ends.1;
     }
+fails-so code place i n rule e f = absurd f
 
 fails-at : (code : List ℕ) (place : ℕ) (i : Insn) (n : ℕ) (rule : RuleName) → read (drop place code) ≡ Ok (i, n) → instruction_rule (starts code) (length code) (place + n) i ≡ Some rule → FailsFirst code place rule
 fails-at code place i n rule e f = fails-so code place i n rule e (by-tests (is_plain i) (lands (starts code) (place + n) i) _ rule f)
@@ -174,6 +168,7 @@ meets-none code place Form m f = opposite m.form (one-decoded code place (λ i n
 meets-none code place Target m f = f.target (one-decoded code place (λ i n. NamesStart code (place + n) i) m.decode f.decode m.target)
 meets-none code place End m f =
     opposite f.passed (one-decoded code place (λ i n. place + n ≡ length code → falls_through i ≡ false) m.decode f.decode m.ending f.last)
+meets-none code place rule m f = absurd f
 
 -- one rule alone is the first to fail
 one-rule : (code : List ℕ) (place : ℕ) (a b : RuleName) → FailsFirst code place a → FailsFirst code place b → a ≡ b
@@ -181,18 +176,23 @@ one-rule code place Decode Decode f g = refl
 one-rule code place Decode Form f g = absurd (f g.decode)
 one-rule code place Decode Target f g = absurd (f g.decode)
 one-rule code place Decode End f g = absurd (f g.decode)
+one-rule code place Decode b f g = absurd g
 one-rule code place Form Decode f g = absurd (g f.decode)
 one-rule code place Form Form f g = refl
 one-rule code place Form Target f g = absurd (opposite g.form (one-decoded code place (λ i n. is_plain i ≡ false) f.decode g.decode f.form))
 one-rule code place Form End f g = absurd (opposite g.form (one-decoded code place (λ i n. is_plain i ≡ false) f.decode g.decode f.form))
+one-rule code place Form b f g = absurd g
 one-rule code place Target Decode f g = absurd (g f.decode)
 one-rule code place Target Form f g = absurd (opposite f.form (one-decoded code place (λ i n. is_plain i ≡ false) g.decode f.decode g.form))
 one-rule code place Target Target f g = refl
 one-rule code place Target End f g = absurd (f.target (one-decoded code place (λ i n. NamesStart code (place + n) i) g.decode f.decode g.target))
+one-rule code place Target b f g = absurd g
 one-rule code place End Decode f g = absurd (g f.decode)
 one-rule code place End Form f g = absurd (opposite f.form (one-decoded code place (λ i n. is_plain i ≡ false) g.decode f.decode g.form))
 one-rule code place End Target f g = absurd (g.target (one-decoded code place (λ i n. NamesStart code (place + n) i) f.decode g.decode f.target))
 one-rule code place End End f g = refl
+one-rule code place End b f g = absurd g
+one-rule code place a b f g = absurd f
 
 -- the first place at which a rule fails is one
 one-place : (code : List ℕ) (p q : ℕ) (a b : RuleName) → IsRefusedAt code p a → IsRefusedAt code q b → p < q → ⊥

@@ -1,6 +1,6 @@
 use Rattle.std.proofs.Common.{◌-◌, length}
-use Rattle.ebc_cli.proofs.PlacesLemmas.{MarksTo}
-use Rattle.ebc_cli.proofs.check.starts_of.Given as goal
+use Rattle.width_checker.proofs.PlainPlacesLemmas.{MarksTo}
+use Rattle.width_checker.proofs.plain.starts_of.Given as goal
 
 abbrev pub decreases-loop-at : goal.decreases-loop-at
 decreases-loop-at l = length l.initial.code - l.at

@@ -4,12 +4,12 @@ use Rattle.std.proofs.lemmas.Bool.Decides.{nat_tests}
 use Rattle.ebc_insn.specs.declared.Insn.{Insn}
 use Rattle.ebc_decode.specs.declared.DecodeFault.{DecodeFault}
 use Rattle.ebc_decode.specs.Reading.{read}
-use Rattle.ebc_cli.specs.declared.outcome.RuleName.{RuleName}
-use Rattle.ebc_cli.specs.declared.outcome.RuleName.TheVariants.{Form, Target, End}
-use Rattle.ebc_cli.specs.declared.verdict.Verdict.{Verdict}
-use Rattle.ebc_cli.specs.declared.verdict.Verdict.TheVariants.{Neutral, Refused}
-use Rattle.ebc_cli.specs.PlainChecks.{Reached, reached, is_start, instruction_rule, first_refusal, judged}
-use Rattle.ebc_cli.proofs.PlacesLemmas.{reached-read, judged-none, along}
+use Rattle.note_types.specs.declared.rule.RuleName.{RuleName}
+use Rattle.note_types.specs.declared.rule.RuleName.TheVariants.{Form, Target, End}
+use Rattle.width_checker.specs.declared.verdict.Verdict.{Verdict}
+use Rattle.width_checker.specs.declared.verdict.Verdict.TheVariants.{Neutral, Refused}
+use Rattle.width_checker.specs.PlainChecks.{Reached, reached, is_start, instruction_rule, first_refusal, judged}
+use Rattle.width_checker.proofs.PlainPlacesLemmas.{reached-read, judged-none, along}
 
 -- ---- what neutral code has at a start
 

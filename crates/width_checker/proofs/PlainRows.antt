@@ -1,11 +1,11 @@
 -- Worked rows of the plain check and of the plain run.
 use Rattle.std.proofs.Common.{◌≡◌, ℕ, List, [], ◌∷◌, refl}
 use Rattle.ebc_decode.specs.Reading.{form_at, is_reserved, has_left_index, size1_at, size2_at, field_at, insn_at, parts_at, read}
-use Rattle.ebc_cli.specs.declared.outcome.RuleName.TheVariants.{Decode, Form, Target, End}
-use Rattle.ebc_cli.specs.declared.verdict.Verdict.{Verdict}
-use Rattle.ebc_cli.specs.declared.verdict.Verdict.TheVariants.{Neutral, Refused}
-use Rattle.ebc_cli.specs.PlainChecks.{plain_verdict, first_refusal, reached}
-use Rattle.ebc_cli.specs.PlainRuns.{GoesOn, Returned, Stopped, plain_machine, plain_run, plain_step}
+use Rattle.note_types.specs.declared.rule.RuleName.TheVariants.{Decode, Form, Target, End}
+use Rattle.width_checker.specs.declared.verdict.Verdict.{Verdict}
+use Rattle.width_checker.specs.declared.verdict.Verdict.TheVariants.{Neutral, Refused}
+use Rattle.width_checker.specs.PlainChecks.{plain_verdict, first_refusal, reached}
+use Rattle.width_checker.specs.PlainRuns.{GoesOn, Returned, Stopped, plain_machine, plain_run, plain_step}
 use Rattle.machine_alu.specs.Alu.{computed, compared}
 use Rattle.note_types.specs.Concrete.{with_register, with_flags, at_ip}
 use Rattle.note_types.specs.declared.exception.Exception.TheVariants as raises

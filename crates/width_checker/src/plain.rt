@@ -1,18 +1,39 @@
 //! The plain check of raw code.
-ghost use Rattle.std.specs.Prelude.{◌≡◌, ◌≢◌, ◌+◌, ◌<◌, ◌≤◌, ℕ, length, drop, IfOk, vec_len, Some, None};
-ghost use Rattle.ebc_cli.specs.PlainChecks.{plain_verdict, first_refusal, places, reached, starts, is_plain, is_register, lands, passes, falls_through, instruction_rule, marked, after_place};
-ghost use Rattle.ebc_cli.specs.Answers.{plain_code_limit};
+ghost use Rattle.std.specs.Prelude.{◌≡◌, ◌≢◌, ◌+◌, ◌<◌, ◌≤◌, ◌^◌, ◌↔◌, ℕ, length, drop, IfOk, vec_len, Some, None};
+ghost use Rattle.note_types.specs.declared.rule.RuleName.{RuleName};
+ghost use Rattle.width_checker.specs.PlainChecks.{plain_verdict, first_refusal, places, reached, starts, is_plain, is_register, lands, passes, falls_through, instruction_rule, marked, after_place};
+ghost use Rattle.width_checker.specs.PlainRules.{IsNeutral, IsRefused};
+ghost use Rattle.width_checker.specs.PlainRuns.{RunsAlike};
 
-use crate::outcome::RuleName;
 use crate::verdict::Verdict;
+use ebc_base::NoMemory;
 use ebc_decode::decode;
 use ebc_insn::{ArithOp, CmpOp, Cond, Insn, Operand, Size};
-use std::alloc::{AllocError, Global};
+use note_types::RuleName;
+use std::alloc::Global;
 
-/// The verdict of the plain check on raw code of at most 256 KiB.
+/// The verdict of the plain check on raw code (docs/PLAIN.md, "The check"). Its places, offsets in bytes, have 32 bits.
+pub fn check_plain(alloc: Global, code: &[u8]) -> Result<Verdict, NoMemory>
+    requires { length code.now < 2 ^ 32 }
+    // The verdict is Neutral exactly where each instruction that lengths lead to meets every rule, and refuses exactly
+    // the first place at which a rule fails, by the first rule that fails there.
+    ensures neutral_exactly { IfOk result (λ verdict. verdict ≡ Verdict.Neutral ↔ IsNeutral code.now) }
+    ensures refused_exactly { (place : ℕ) (rule : RuleName) →
+        IfOk result (λ verdict. verdict ≡ Verdict.Refused place rule ↔ IsRefused code.now place rule) }
+
+    // Neutral code has the same plain runs at both widths.
+    ensures neutral_alike { IfOk result (λ verdict. verdict ≡ Verdict.Neutral → RunsAlike code.now) }
+
+    // It is the verdict that is computed.
+    ensures value { IfOk result (λ verdict. verdict ≡ plain_verdict code.now) }
+{
+    let verdict = verdict_of(alloc, code)?;
+    Ok(verdict)
+}
+
 #[tactic(auto, unfolding(crate::specs::PlainChecks::plain_verdict))]
-pub fn check_plain(alloc: Global, code: &[u8]) -> Result<Verdict, AllocError>
-    requires { length code.now ≤ plain_code_limit }
+fn verdict_of(alloc: Global, code: &[u8]) -> Result<Verdict, NoMemory>
+    requires { length code.now < 2 ^ 32 }
     ensures { IfOk result (λ verdict. verdict ≡ plain_verdict code.now) }
 {
     if code.is_empty() {
@@ -26,8 +47,8 @@ pub fn check_plain(alloc: Global, code: &[u8]) -> Result<Verdict, AllocError>
 }
 
 // For each byte, whether an instruction starts there.
-fn starts_of(alloc: Global, code: &[u8]) -> Result<Vec<bool>, AllocError>
-    requires { length code.now ≤ plain_code_limit }
+fn starts_of(alloc: Global, code: &[u8]) -> Result<Vec<bool>, NoMemory>
+    requires { length code.now < 2 ^ 32 }
     ensures { IfOk result (λ marks. (place : ℕ) → marked marks.items place ≡ starts code.now place) }
 {
     let mut marks = vec![in alloc; false; code.len()]?;
@@ -44,7 +65,7 @@ fn starts_of(alloc: Global, code: &[u8]) -> Result<Vec<bool>, AllocError>
 
 // The first place at which a rule fails.
 fn first_refusal(code: &[u8], marks: &[bool]) -> Verdict
-    requires { length code.now ≤ plain_code_limit }
+    requires { length code.now < 2 ^ 32 }
     ensures { result ≡ first_refusal (marked marks.now) (length code.now) (places code.now) }
 {
     let mut at = 0;
@@ -65,7 +86,7 @@ fn first_refusal(code: &[u8], marks: &[bool]) -> Verdict
 // The place after the instruction at a place, or the first rule that fails there.
 fn rule_at(code: &[u8], at: usize, marks: &[bool]) -> Result<usize, RuleName>
     requires within { at < length code.now }
-    requires size { length code.now ≤ plain_code_limit }
+    requires size { length code.now < 2 ^ 32 }
     ensures judged { first_refusal (marked marks.now) (length code.now) (reached at 0 (drop at code.now)) ≡ after_place (marked marks.now) code.now at result }
     ensures next { IfOk result (λ next. next ≤ length code.now) }
     ensures later { IfOk result (λ next. at < next) }
@@ -82,7 +103,7 @@ fn rule_at(code: &[u8], at: usize, marks: &[bool]) -> Result<usize, RuleName>
 
 // The first rule that fails at an instruction that ends before the place `next`.
 fn instruction_rule(insn: &Insn, next: usize, size: usize, marks: &[bool]) -> Option<RuleName>
-    requires { next ≤ plain_code_limit }
+    requires { next < 2 ^ 32 }
     ensures { result ≡ instruction_rule (marked marks.now) size next insn.now }
 {
     if !is_plain(insn) {
@@ -134,7 +155,7 @@ fn is_register(operand: &Operand) -> bool
 
 // Whether the target of a jump is a start.
 fn lands(insn: &Insn, next: usize, marks: &[bool]) -> bool
-    requires { next ≤ plain_code_limit }
+    requires { next < 2 ^ 32 }
     ensures { result ≡ lands (marked marks.now) next insn.now }
 {
     match insn {

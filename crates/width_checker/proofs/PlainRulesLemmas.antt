@@ -8,13 +8,13 @@ use Rattle.ebc_insn.specs.declared.Insn.TheVariants.{Jump8}
 use Rattle.ebc_decode.specs.declared.DecodeFault.{DecodeFault}
 use Rattle.ebc_decode.specs.Reading.{read}
 use Rattle.ebc_decode.proofs.Laws.{read_length}
-use Rattle.ebc_cli.specs.declared.outcome.RuleName.TheVariants.{Form, Target, End}
-use Rattle.ebc_cli.specs.declared.verdict.Verdict.TheVariants.{Neutral}
-use Rattle.ebc_cli.specs.PlainChecks.{is_plain, reached, starts, is_start, passes, lands, falls_through, instruction_rule, first_refusal, jump_target, plain_verdict}
-use Rattle.ebc_cli.specs.PlainRules.{place_after, place_of, IsReached, Decodes, IsStart, NamesStart, MeetsRules, IsNeutral}
-use Rattle.ebc_cli.proofs.PlacesLemmas.{along}
-use Rattle.ebc_cli.proofs.ReadLemmas.{read-even}
-use Rattle.ebc_cli.proofs.StartsLemmas.{Good, GoodStarts, good-starts, head-started, first-started, or-cases, or-right, and-true, fault-unstarted, no-rule}
+use Rattle.note_types.specs.declared.rule.RuleName.TheVariants.{Form, Target, End}
+use Rattle.width_checker.specs.declared.verdict.Verdict.TheVariants.{Neutral}
+use Rattle.width_checker.specs.PlainChecks.{is_plain, reached, starts, is_start, passes, lands, falls_through, instruction_rule, first_refusal, jump_target, plain_verdict}
+use Rattle.width_checker.specs.PlainRules.{place_after, place_of, IsReached, Decodes, IsStart, NamesStart, MeetsRules, IsNeutral}
+use Rattle.width_checker.proofs.PlainPlacesLemmas.{along}
+use Rattle.width_checker.proofs.PlainReadLemmas.{read-even}
+use Rattle.width_checker.proofs.PlainStartsLemmas.{Good, GoodStarts, good-starts, head-started, first-started, or-cases, or-right, and-true, fault-unstarted, no-rule}
 
 -- ---- the places that are reached
 

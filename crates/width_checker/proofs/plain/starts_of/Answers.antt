@@ -1,7 +1,7 @@
 use Rattle.std.proofs.Common.{sym, ◌∙◌, arith}
-use Rattle.ebc_cli.proofs.PlacesLemmas.{marks-more, marks-end, marks-stop}
-use Rattle.ebc_cli.proofs.check.starts_of.Goals as goal
-use Rattle.ebc_cli.proofs.check.starts_of.Goals.{else-loop-at-test, then-loop-at-test+in_default}
+use Rattle.width_checker.proofs.PlainPlacesLemmas.{marks-more, marks-end, marks-stop}
+use Rattle.width_checker.proofs.plain.starts_of.Goals as goal
+use Rattle.width_checker.proofs.plain.starts_of.Goals.{else-loop-at-test, then-loop-at-test+in_default}
 
 pub loop-at-preserved : goal.loop-at-preserved
 loop-at-preserved c =

@@ -1,8 +1,8 @@
 use Rattle.std.proofs.Common.{refl, sym, ◌∙◌, arith, length-drop}
 use Rattle.std.proofs.lemmas.List.{drop-drop}
-use Rattle.ebc_cli.proofs.PlacesLemmas.{judged-read, judged-none}
-use Rattle.ebc_cli.specs.PlainChecks.{marked}
-use Rattle.ebc_cli.proofs.check.rule_at.Goals as goal
+use Rattle.width_checker.proofs.PlainPlacesLemmas.{judged-read, judged-none}
+use Rattle.width_checker.specs.PlainChecks.{marked}
+use Rattle.width_checker.proofs.plain.rule_at.Goals as goal
 
 pub returns-in_default-clause-judged : goal.returns-in_default-clause-judged
 returns-in_default-clause-judged c =

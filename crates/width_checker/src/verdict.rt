@@ -1,6 +1,6 @@
 //! What a check says of code.
 
-use crate::outcome::RuleName;
+use note_types::RuleName;
 
 /// What a check says of code.
 #[derive(Clone, Copy, Debug, PartialEq, Eq)]

@@ -10,9 +10,9 @@ use Rattle.ebc_insn.specs.declared.Insn.{Insn}
 use Rattle.ebc_decode.specs.declared.DecodeFault.{DecodeFault}
 use Rattle.ebc_decode.specs.Reading.{read}
 use Rattle.ebc_decode.proofs.Laws.{read_length}
-use Rattle.ebc_cli.specs.declared.outcome.RuleName.TheVariants.{Decode}
-use Rattle.ebc_cli.specs.declared.verdict.Verdict.TheVariants.{Neutral, Refused}
-use Rattle.ebc_cli.specs.PlainChecks.{Reached, reached, starts, is_start, marked, first_refusal, instruction_rule, judged}
+use Rattle.note_types.specs.declared.rule.RuleName.TheVariants.{Decode}
+use Rattle.width_checker.specs.declared.verdict.Verdict.TheVariants.{Neutral, Refused}
+use Rattle.width_checker.specs.PlainChecks.{Reached, reached, starts, is_start, marked, first_refusal, instruction_rule, judged}
 
 -- the rest of an instruction is passed over
 reached-inside : (place inside : ℕ) (bytes : List ℕ) → inside ≤ length bytes → reached place inside bytes ≡ reached (place + inside) 0 (drop inside bytes)

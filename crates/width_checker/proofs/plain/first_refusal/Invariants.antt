@@ -1,6 +1,6 @@
 use Rattle.std.proofs.Common.{◌≡◌, ◌-◌, ◌≤◌, length, drop}
-use Rattle.ebc_cli.specs.PlainChecks.{first_refusal, marked, places, reached}
-use Rattle.ebc_cli.proofs.check.first_refusal.Given as goal
+use Rattle.width_checker.specs.PlainChecks.{first_refusal, marked, places, reached}
+use Rattle.width_checker.proofs.plain.first_refusal.Given as goal
 
 abbrev pub decreases-loop-at : goal.decreases-loop-at
 decreases-loop-at l = length l.initial.code - l.at

@@ -11,7 +11,7 @@ use Rattle.ebc_machine.specs.declared.StepEnd.{StepEnd}
 use Rattle.ebc_machine.specs.declared.StepEnd.TheVariants as ends
 use Rattle.ebc_machine.specs.Fetch.{exception_of}
 use Rattle.ebc_machine.specs.Step.{executed, ended}
-use Rattle.ebc_cli.specs.PlainRules.{IsStart}
+use Rattle.width_checker.specs.PlainRules.{IsStart}
 
 -- how far a run has come: it goes on, it has ended at a RET, or a step has ended so that it can't go on
 pub data Progress : Type 0 where

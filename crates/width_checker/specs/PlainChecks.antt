@@ -11,10 +11,10 @@ use Rattle.ebc_insn.specs.declared.Insn.{Insn}
 use Rattle.ebc_insn.specs.declared.Insn.TheVariants.{Jump8, Ret, Compare, Arith, MoveImm}
 use Rattle.ebc_decode.specs.declared.DecodeFault.{DecodeFault}
 use Rattle.ebc_decode.specs.Reading.{read}
-use Rattle.ebc_cli.specs.declared.outcome.RuleName.{RuleName}
-use Rattle.ebc_cli.specs.declared.outcome.RuleName.TheVariants.{Decode, Form, Target, End}
-use Rattle.ebc_cli.specs.declared.verdict.Verdict.{Verdict}
-use Rattle.ebc_cli.specs.declared.verdict.Verdict.TheVariants.{Neutral, Refused}
+use Rattle.note_types.specs.declared.rule.RuleName.{RuleName}
+use Rattle.note_types.specs.declared.rule.RuleName.TheVariants.{Decode, Form, Target, End}
+use Rattle.width_checker.specs.declared.verdict.Verdict.{Verdict}
+use Rattle.width_checker.specs.declared.verdict.Verdict.TheVariants.{Neutral, Refused}
 
 -- a place that lengths reach from the start, and the instruction that decodes there with its length
 pub record Reached : Type 0 where
