@@ -1,0 +1,7 @@
+pub mod Alike
+pub mod Instructions
+pub mod Operands
+pub mod Room
+pub mod Rows
+pub mod Stands
+pub mod WorldFits
