@@ -1,0 +1,13 @@
+pub mod Lists
+pub mod Numbers
+pub mod Placed
+pub mod Agree
+pub mod Locals
+pub mod Cells
+pub mod Values
+pub mod Bounds
+pub mod Locate
+pub mod Stored
+pub mod Stack
+pub mod Frames
+pub mod Drops
