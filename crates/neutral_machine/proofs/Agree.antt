@@ -66,7 +66,7 @@ powers (suc k) =
     let e : 8 * suc k ≡ suc (suc (suc (suc (suc (suc (suc (suc (8 * k)))))))) = omega arith in
     let f : 256 ^ suc k ≡ 256 ^ k * 256 = pow-suc 256 k in
     let g : 2 ^ suc (suc (suc (suc (suc (suc (suc (suc (8 * k)))))))) ≡ 2 ^ (8 * k) * 2 * 2 * 2 * 2 * 2 * 2 * 2 * 2 =
-        pow-suc 2 _ ∙ ap (λ z. z * 2) (pow-suc 2 _ ∙ ap (λ z. z * 2) (pow-suc 2 _ ∙ ap (λ z. z * 2) (pow-suc 2 _ ∙ ap (λ z. z * 2) (pow-suc 2 _ ∙ ap (λ z. z * 2) (pow-suc 2 _ ∙ ap (λ z. z * 2) (pow-suc 2 _ ∙ ap (λ z. z * 2) (pow-suc 2 _))))))) in
+    pow-suc 2 _ ∙ ap (λ z. z * 2) (pow-suc 2 _ ∙ ap (λ z. z * 2) (pow-suc 2 _ ∙ ap (λ z. z * 2) (pow-suc 2 _ ∙ ap (λ z. z * 2) (pow-suc 2 _ ∙ ap (λ z. z * 2) (pow-suc 2 _ ∙ ap (λ z. z * 2) (pow-suc 2 _ ∙ ap (λ z. z * 2) (pow-suc 2 _))))))) in
     let r = powers k in
     f ∙ ap (λ z. z * 256) r ∙ (let m : 2 ^ (8 * k) * 256 ≡ 2 ^ (8 * k) * 2 * 2 * 2 * 2 * 2 * 2 * 2 * 2 = omega arith in m) ∙ sym g ∙ ap (λ z. 2 ^ z) (sym e)
 
@@ -90,7 +90,6 @@ cell_positive w (cell.P64 s k may) h = omega arith
 cell_positive w c h = by_width (λ v. 0 < v) w h (omega arith) (omega arith)
 
 module _ (w end : ℕ) (h : IsWidth w) (small : end ≤ 2 ^ 64) where
-
   low : (n : ℕ) → 0 < n → n ≤ end → minus end n ≡ end - n
   low n p l = minus-is end n p l small
 
@@ -103,29 +102,32 @@ module _ (w end : ℕ) (h : IsWidth w) (small : end ≤ 2 ^ 64) where
   items_agree A b c under [] l g s = tt
   items_agree A b c under (Pushed kind v ∷ is) l g s =
       let p = slot_positive w kind h in
-      let e = low (slot_bytes w kind + (height w is + under)) (omega (arith, p)) (omega (arith, l)) in
-      (item_agree A b c (minus end (slot_bytes w kind + (height w is + under))) (Pushed kind v) (narrower b c _ _ _ _ g (omega (arith, e)) (omega (arith, e, l))) s.0,
-       items_agree A b c under is (omega (arith, l)) (narrower b c _ _ _ _ g (omega (arith, l)) (omega arith)) s.1)
+      let e = low (slot_bytes w kind + (height w is + under)) (omega (arith, p)) (omega (arith, l)) in (
+        item_agree A b c (minus end (slot_bytes w kind + (height w is + under))) (Pushed kind v) (narrower b c _ _ _ _ g (omega (arith, e)) (omega (arith, e, l))) s.0,
+        items_agree A b c under is (omega (arith, l)) (narrower b c _ _ _ _ g (omega (arith, l)) (omega arith)) s.1,
+      )
   items_agree A b c under (LocalsOf t ∷ is) l g s =
       (tt, items_agree A b c under is (omega (arith, l)) (narrower b c _ _ _ _ g (omega (arith, l)) (omega arith)) s.1)
 
   pub return_agree : (b c : ℕ → ℕ) (x back : ℕ) → Agree b c x (x + 16) → ReturnShows b x back → ReturnShows c x back
   return_agree b c x back g s = record {
-      address = sym (agree_in b c x _ x 8 g (omega arith) (omega arith)) ∙ s.address;
-      zeros = sym (agree_in b c x _ (x + 8) 8 g (omega arith) (omega arith)) ∙ s.zeros;
+    address = sym (agree_in b c x _ x 8 g (omega arith) (omega arith)) ∙ s.address;
+    zeros = sym (agree_in b c x _ (x + 8) 8 g (omega arith) (omega arith)) ∙ s.zeros;
   }
 
   -- and frames
   pub frames_agree : (A : Addresses) (P : Placement) (b c : ℕ → ℕ) (fs : List Frame) → total w fs ≤ end → Agree b c (end - total w fs) end → FramesShow w A b end P fs → FramesShow w A c end P fs
   frames_agree A P b c [] l g s = tt
   frames_agree A P b c (Function f ∷ fs) l g s =
-      let e = low (return_cell + total w fs) (omega arith) (omega (arith, l)) in
-      (items_agree A b c (return_cell + total w fs) f.items (omega (arith, l)) (narrower b c _ _ _ _ g (omega arith) (omega arith)) s.0,
-       return_agree b c _ _ (narrower b c _ _ _ _ g (omega (arith, e)) (omega (arith, e, l))) s.1,
-       frames_agree A P b c fs (omega (arith, l)) (narrower b c _ _ _ _ g (omega arith) (omega arith)) s.2)
-  frames_agree A P b c (Host h ∷ fs) l g s =
-      (items_agree A b c (total w fs) h.params (omega (arith, l)) (narrower b c _ _ _ _ g (omega arith) (omega arith)) s.0,
-       frames_agree A P b c fs (omega (arith, l)) (narrower b c _ _ _ _ g (omega arith) (omega arith)) s.1)
+      let e = low (return_cell + total w fs) (omega arith) (omega (arith, l)) in (
+        items_agree A b c (return_cell + total w fs) f.items (omega (arith, l)) (narrower b c _ _ _ _ g (omega arith) (omega arith)) s.0,
+        return_agree b c _ _ (narrower b c _ _ _ _ g (omega (arith, e)) (omega (arith, e, l))) s.1,
+        frames_agree A P b c fs (omega (arith, l)) (narrower b c _ _ _ _ g (omega arith) (omega arith)) s.2,
+      )
+  frames_agree A P b c (Host h ∷ fs) l g s = (
+    items_agree A b c (total w fs) h.params (omega (arith, l)) (narrower b c _ _ _ _ g (omega arith) (omega arith)) s.0,
+    frames_agree A P b c fs (omega (arith, l)) (narrower b c _ _ _ _ g (omega arith) (omega arith)) s.1,
+  )
 
   item_more : (A B : Addresses) (b : ℕ → ℕ) (x : ℕ) (i : StackItem) → Extends A B → ItemShows w A b x i → ItemShows w B b x i
   item_more A B b x (Pushed kind v) e s = shows_in_more w A B _ v _ e s

@@ -44,7 +44,6 @@ local_from w end (Function g ∷ fs) d f p h = go (nat_eq d (depth fs)) refl h (
     go false e h next = let r = next h in record { shape = r.shape; there = rw e r.there; field = r.field; get = r.get }
 
 module _ (w : ℕ) (world : World) (P : Placement) (h : IsWidth w) (ok : WorldFits world) (pl : IsPlacement w world P) where
-
   native_within : IsWithin w (record { base = P.native; size = area_bytes world.notes })
   unfolding placed_ranges
   native_within = All_at (IsWithin w) (placed_ranges w world P (length world.script.call)) 0 _ pl.within refl
@@ -64,16 +63,16 @@ module _ (w : ℕ) (world : World) (P : Placement) (h : IsWidth w) (ok : WorldFi
 
   pub bounded : (fs : List Frame) → total w fs ≤ stack_bytes w world.notes → OwnLocalsAll world.notes fs → Bounded w (addresses w world.notes P fs)
   bounded fs room own = record {
-      thunk = λ i p e. let t = some_of_map _ (slice_get world.notes.thunk i) p e in let u = ok.thunks_inside i t.0 t.1 in let v = image_within w world P h ok pl in omega (arith, t.2, u, v.below);
-      local = λ d f p e.
-          let c = local_from w (stack_end w world.notes P) fs d f p e in
-          let l = local_within w (stack_end w world.notes P) h (end_small w world P h ok pl) fs d c.shape f p c.field (omega (arith, room)) e c.there (fits_at w c.shape h (locals_fit world fs d c.shape ok own c.there)) c.get in
-          let s = stack_within w world P h ok pl in
-          let q = cell_positive w c.field.cell h in
-          omega (arith, l.below, s.below, q);
-      handle = λ k p e. let r = in_native fs p (inl (k, e)) in omega (arith, r.1, native_within.below);
-      method = λ k p e. let r = in_native fs p (inr (inl (k, e))) in omega (arith, r.1, native_within.below);
-      entry = λ k p e. let r = in_native fs p (inr (inr (k, e))) in omega (arith, r.1, native_within.below);
+    thunk = λ i p e. let t = some_of_map _ (slice_get world.notes.thunk i) p e in let u = ok.thunks_inside i t.0 t.1 in let v = image_within w world P h ok pl in omega (arith, t.2, u, v.below);
+    local = λ d f p e.
+        let c = local_from w (stack_end w world.notes P) fs d f p e in
+        let l = local_within w (stack_end w world.notes P) h (end_small w world P h ok pl) fs d c.shape f p c.field (omega (arith, room)) e c.there (fits_at w c.shape h (locals_fit world fs d c.shape ok own c.there)) c.get in
+        let s = stack_within w world P h ok pl in
+        let q = cell_positive w c.field.cell h in
+        omega (arith, l.below, s.below, q);
+    handle = λ k p e. let r = in_native fs p (inl (k, e)) in omega (arith, r.1, native_within.below);
+    method = λ k p e. let r = in_native fs p (inr (inl (k, e))) in omega (arith, r.1, native_within.below);
+    entry = λ k p e. let r = in_native fs p (inr (inr (k, e))) in omega (arith, r.1, native_within.below);
   }
 
   pub objects_below : (n : ℕ) (fs : List Frame) → ObjectsBelow world.notes (made_objects world.notes world.script n) (addresses w world.notes P fs) w

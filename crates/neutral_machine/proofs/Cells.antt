@@ -44,6 +44,7 @@ in_object_at world a k i f z h = by_object (slice_get (made_objects world.notes 
     by_instance : (o : TypedObject) → slice_get (made_objects world.notes world.script a.script.entries) k ≡ Some o → (b : Bool) → nat_lt i o.count ≡ b → (if b then slice_get (shape_of world.notes o.shape).fields f else None) ≡ Some z → InObject world a.script.entries k i f z
     by_instance o g true l q = record { object = o; there = g; within = ltb-true i o.count l; get = q }
     by_instance o g false l q = absurd (none-some z q)
+
     by_object : (x : Option TypedObject) → slice_get (made_objects world.notes world.script a.script.entries) k ≡ x → option_and_then (field_in world.notes i f) x ≡ Some z → InObject world a.script.entries k i f z
     by_object None g q = absurd (none-some z q)
     by_object (Some o) g q = by_instance o g (nat_lt i o.count) refl q
@@ -67,7 +68,6 @@ instances_apart i j z p q s t h a b =
     let row = row_fits i z j z h (le_refl _) in omega (arith, row)
 
 module _ (w : ℕ) (world : World) (P : Placement) (h : IsWidth w) (ok : WorldFits world) (pl : IsPlacement w world P) where
-
   abbrev End : ℕ
   End = stack_end w world.notes P
 
@@ -89,9 +89,9 @@ module _ (w : ℕ) (world : World) (P : Placement) (h : IsWidth w) (ok : WorldFi
       let inner = fit.inside f z c.get in
       let row = row_fits i (size_at w (shape_of world.notes c.object.shape)) c.object.count (size_at w (shape_of world.notes c.object.shape)) c.within (le_refl _) in
       record {
-          lies = l;
-          inside = omega (arith, inner, row);
-          address_is = ap₂ (in_object w world i z) c.there l.address;
+        lies = l;
+        inside = omega (arith, inner, row);
+        address_is = ap₂ (in_object w world i z) c.there l.address;
       }
 
   -- the address of a cell of an object
@@ -110,9 +110,9 @@ module _ (w : ℕ) (world : World) (P : Placement) (h : IsWidth w) (ok : WorldFi
   local_cell a d f z room own c =
       let x = local_there w End h end_small a.frames d c.shape f z c.there c.get in
       record {
-          address = x.0;
-          address_is = x.1;
-          within = local_within w End h end_small a.frames d c.shape f x.0 z (omega (arith, room)) x.1 c.there (fits_at w c.shape h (locals_fit world a.frames d c.shape ok own c.there)) c.get;
+        address = x.0;
+        address_is = x.1;
+        within = local_within w End h end_small a.frames d c.shape f x.0 z (omega (arith, room)) x.1 c.there (fits_at w c.shape h (locals_fit world a.frames d c.shape ok own c.there)) c.get;
       }
 
   -- ---- each cell has an address
@@ -132,12 +132,12 @@ module _ (w : ℕ) (world : World) (P : Placement) (h : IsWidth w) (ok : WorldFi
       let o = object_cell a.script.entries k i f z c in
       let below = object_within w world P h ok pl a.script.entries k c.object o.lies in
       record {
-          address = object_place o;
-          there = o.address_is;
-          held = object_holds w world P h ok pl a.script.entries k c.object o.lies (object_place o) (cell_size w z.cell) (omega arith) (omega (arith, o.inside));
-          bounded = omega (arith, o.inside, below);
-          off_thunks = λ i t q. ⊎_elim (λ x. inl (omega (arith, x))) (λ x. inr (omega (arith, x, o.inside))) (off_thunk w world P h ok pl a.script.entries k i c.object t o.lies q);
-          off_codes = λ j f q. ⊎_elim (λ x. inl (omega (arith, x))) (λ x. inr (omega (arith, x, o.inside))) (off_code w world P h ok pl a.script.entries k j c.object f o.lies q);
+        address = object_place o;
+        there = o.address_is;
+        held = object_holds w world P h ok pl a.script.entries k c.object o.lies (object_place o) (cell_size w z.cell) (omega arith) (omega (arith, o.inside));
+        bounded = omega (arith, o.inside, below);
+        off_thunks = λ i t q. ⊎_elim (λ x. inl (omega (arith, x))) (λ x. inr (omega (arith, x, o.inside))) (off_thunk w world P h ok pl a.script.entries k i c.object t o.lies q);
+        off_codes = λ j f q. ⊎_elim (λ x. inl (omega (arith, x))) (λ x. inr (omega (arith, x, o.inside))) (off_code w world P h ok pl a.script.entries k j c.object f o.lies q);
       }
   cell_lies a (FieldOfLocals d f) z room own g =
       let c = in_locals_at world a d f z g in
@@ -145,12 +145,12 @@ module _ (w : ℕ) (world : World) (P : Placement) (h : IsWidth w) (ok : WorldFi
       let s = stack_within w world P h ok pl in
       let i = image_off_stack w world P h ok pl in
       record {
-          address = l.address;
-          there = l.address_is;
-          held = stack_holds w world P h ok pl a.script.entries l.address (cell_size w z.cell) (omega (arith, l.within.above, room)) (omega (arith, l.within.below));
-          bounded = omega (arith, l.within.below, s.below);
-          off_thunks = λ j t q. let u = ok.thunks_inside j t q in ⊎_elim (λ x. inr (omega (arith, x, l.within.below))) (λ x. inl (omega (arith, x, l.within.above, room, u))) i;
-          off_codes = λ j e q. let u = ok.code_inside j e q in ⊎_elim (λ x. inr (omega (arith, x, l.within.below))) (λ x. inl (omega (arith, x, l.within.above, room, u.0, u.1))) i;
+        address = l.address;
+        there = l.address_is;
+        held = stack_holds w world P h ok pl a.script.entries l.address (cell_size w z.cell) (omega (arith, l.within.above, room)) (omega (arith, l.within.below));
+        bounded = omega (arith, l.within.below, s.below);
+        off_thunks = λ j t q. let u = ok.thunks_inside j t q in ⊎_elim (λ x. inr (omega (arith, x, l.within.below))) (λ x. inl (omega (arith, x, l.within.above, room, u))) i;
+        off_codes = λ j e q. let u = ok.code_inside j e q in ⊎_elim (λ x. inr (omega (arith, x, l.within.below))) (λ x. inl (omega (arith, x, l.within.above, room, u.0, u.1))) i;
       }
 
   -- ---- cells of different places share no byte
@@ -169,13 +169,13 @@ module _ (w : ℕ) (world : World) (P : Placement) (h : IsWidth w) (ok : WorldFi
       let at : y.lies.base + (j * size_at w T + start_at w o) ≡ x.lies.base + (j * size_at w S + start_at w o) = ap₂ (λ u v. u + (j * v + start_at w o)) (sym same) size' in
       ⊎_elim
       (λ ij. ⊎_elim
-          (λ fg. absurd (ne ij fg))
-          (λ d. ⊎_elim (λ m. inl (rw at (rw (← ij) (omega (arith, m))))) (λ m. inr (rw at (rw (← ij) (omega (arith, m))))) d)
-          (fit.apart f g z o c.get get'))
+      (λ fg. absurd (ne ij fg))
+      (λ d. ⊎_elim (λ m. inl (rw at (rw (← ij) (omega (arith, m))))) (λ m. inr (rw at (rw (← ij) (omega (arith, m))))) d)
+      (fit.apart f g z o c.get get'))
       (λ d. ⊎_elim
-          (λ l. let r = instances_apart i j (size_at w S) (start_at w z) (start_at w o) (cell_size w z.cell) (cell_size w o.cell) l p q in inl (omega (arith, r, at)))
-          (λ l. let r = instances_apart j i (size_at w S) (start_at w o) (start_at w z) (cell_size w o.cell) (cell_size w z.cell) l q p in inr (omega (arith, r, at)))
-          d)
+      (λ l. let r = instances_apart i j (size_at w S) (start_at w z) (start_at w o) (cell_size w z.cell) (cell_size w o.cell) l p q in inl (omega (arith, r, at)))
+      (λ l. let r = instances_apart j i (size_at w S) (start_at w o) (start_at w z) (cell_size w o.cell) (cell_size w z.cell) l q p in inr (omega (arith, r, at)))
+      d)
       (cases_order i j)
 
   objects_apart : (n k m i j f g : ℕ) (z o : Field) (c : InObject world n k i f z) (e : InObject world n m j g o) → (k ≡ m → i ≡ j → f ≢ g) → (x : ObjectCell n k i f z c) (y : ObjectCell n m j g o e) → Off w world P h ok pl (object_place x) (cell_size w z.cell) (object_place y) (cell_size w o.cell)
@@ -191,7 +191,7 @@ module _ (w : ℕ) (world : World) (P : Placement) (h : IsWidth w) (ok : WorldFi
           let l' : Lies w world P n k e.object = subst (λ q. Lies w world P n q e.object) (sym same) y.lies in
           let lb : x.lies.base ≡ (object_cell n k j g o e').lies.base = same_Some _ _ (sym x.lies.address ∙ (object_cell n k j g o e').lies.address) in
           subst (λ q. Off w world P h ok pl (object_place x) (cell_size w z.cell) (q + (j * size_at w (shape_of world.notes e.object.shape) + start_at w o)) (cell_size w o.cell)) (sym lb ∙ b)
-              (apart_in n k i j f g z o c e' (ne same) x (object_cell n k j g o e') lb)
+          (apart_in n k i j f g z o c e' (ne same) x (object_cell n k j g o e') lb)
 
   -- two places that aren't one
   differ : (p q : CellPlace) → same_cell_place p q ≡ false → (k m i j f g : ℕ) → p ≡ FieldOf k i f → q ≡ FieldOf m j g → k ≡ m → i ≡ j → f ≢ g
@@ -206,7 +206,7 @@ module _ (w : ℕ) (world : World) (P : Placement) (h : IsWidth w) (ok : WorldFi
       let ex : object_place cx ≡ x = same_Some _ _ (sym cx.address_is ∙ u) in
       let ey : object_place cy ≡ y = same_Some _ _ (sym cy.address_is ∙ v) in
       subst₂ (λ r q. Off w world P h ok pl r (cell_size w z.cell) q (cell_size w o.cell)) ex ey
-          (objects_apart a.script.entries k m i j f g z o c e (λ a1 b1 c1. differ (FieldOf k i f) (FieldOf m j g) ne k m i j f g refl refl a1 b1 c1) cx cy)
+      (objects_apart a.script.entries k m i j f g z o c e (λ a1 b1 c1. differ (FieldOf k i f) (FieldOf m j g) ne k m i j f g refl refl a1 b1 c1) cx cy)
   cells_off a (FieldOf k i f) (FieldOfLocals d g) z o x y room own ne s t u v =
       let c = in_object_at world a k i f z s in
       let cx = object_cell a.script.entries k i f z c in
@@ -225,4 +225,4 @@ module _ (w : ℕ) (world : World) (P : Placement) (h : IsWidth w) (ok : WorldFi
       let c = in_locals_at world a d f z s in
       let k = in_locals_at world a e g o t in
       locals_off w End h end_small a.frames d e f g x y c.shape k.shape z o (omega (arith, room)) (λ p q. true≢false (sym (and_from _ _ (eq-eqb d e p) (eq-eqb f g q)) ∙ ne)) c.there k.there
-          (fits_at w c.shape h (locals_fit world a.frames d c.shape ok own c.there)) (fits_at w k.shape h (locals_fit world a.frames e k.shape ok own k.there)) u v c.get k.get
+      (fits_at w c.shape h (locals_fit world a.frames d c.shape ok own c.there)) (fits_at w k.shape h (locals_fit world a.frames e k.shape ok own k.there)) u v c.get k.get

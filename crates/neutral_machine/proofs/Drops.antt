@@ -113,9 +113,10 @@ item_shows_map w d A B b x (LocalsOf t) l s = tt
 
 items_show_map : (w d : ℕ) (A B : Addresses) (b : ℕ → ℕ) (end under : ℕ) (is : List StackItem) → Loses d A B → ItemsShow w A b end under is → ItemsShow w B b end under (map (item_without d) is)
 items_show_map w d A B b end under [] l s = tt
-items_show_map w d A B b end under (i ∷ is) l s =
-    (subst₂ (λ x y. ItemShows w B b (minus end (x + (y + under))) (item_without d i)) (sym (item_map w d i)) (sym (height_map w d is)) (item_shows_map w d A B b _ i l s.0),
-     items_show_map w d A B b end under is l s.1)
+items_show_map w d A B b end under (i ∷ is) l s = (
+  subst₂ (λ x y. ItemShows w B b (minus end (x + (y + under))) (item_without d i)) (sym (item_map w d i)) (sym (height_map w d is)) (item_shows_map w d A B b _ i l s.0),
+  items_show_map w d A B b end under is l s.1,
+)
 
 return_map : (P : Placement) (d ret : ℕ) (fs : List Frame) → return_address P ret (map (frame_without d) fs) ≡ return_address P ret fs
 return_map P d ret [] = refl
@@ -124,13 +125,15 @@ return_map P d ret (Host h ∷ fs) = refl
 
 pub frames_show_map : (w d : ℕ) (A B : Addresses) (P : Placement) (b : ℕ → ℕ) (end : ℕ) (fs : List Frame) → Loses d A B → FramesShow w A b end P fs → FramesShow w B b end P (map (frame_without d) fs)
 frames_show_map w d A B P b end [] l s = tt
-frames_show_map w d A B P b end (Function f ∷ fs) l s =
-    (subst (λ t. ItemsShow w B b end (return_cell + t) (map (item_without d) f.items)) (sym (total_map w d fs)) (items_show_map w d A B b end (return_cell + total w fs) f.items l s.0),
-     subst₂ (λ t r. ReturnShows b (minus end (return_cell + t)) r) (sym (total_map w d fs)) (sym (return_map P d f.ret fs)) s.1,
-     frames_show_map w d A B P b end fs l s.2)
-frames_show_map w d A B P b end (Host h ∷ fs) l s =
-    (subst (λ t. ItemsShow w B b end t (map (item_without d) h.params)) (sym (total_map w d fs)) (items_show_map w d A B b end (total w fs) h.params l s.0),
-     frames_show_map w d A B P b end fs l s.1)
+frames_show_map w d A B P b end (Function f ∷ fs) l s = (
+  subst (λ t. ItemsShow w B b end (return_cell + t) (map (item_without d) f.items)) (sym (total_map w d fs)) (items_show_map w d A B b end (return_cell + total w fs) f.items l s.0),
+  subst₂ (λ t r. ReturnShows b (minus end (return_cell + t)) r) (sym (total_map w d fs)) (sym (return_map P d f.ret fs)) s.1,
+  frames_show_map w d A B P b end fs l s.2,
+)
+frames_show_map w d A B P b end (Host h ∷ fs) l s = (
+  subst (λ t. ItemsShow w B b end t (map (item_without d) h.params)) (sym (total_map w d fs)) (items_show_map w d A B b end (total w fs) h.params l s.0),
+  frames_show_map w d A B P b end fs l s.1,
+)
 
 -- ---- what is left of items
 
@@ -148,12 +151,12 @@ zero_size n c w z p q = (let e : z ≡ 0 * w + 0 + z = omega arith in e) ∙ ap�
 
 left_all : (notes : Notes) (func w n c : ℕ) (is : List StackItem) → n ≡ 0 → c ≡ 0 → Left notes func w n c is (record { items = is; locals = false })
 left_all notes func w n c is p q = record {
-    size = zero_size n c w (height w is) p q;
-    own = λ o. o;
-    none = λ o e. absurd (false≢true e);
-    same = λ e. refl;
-    address = λ e end under f. refl;
-    shows = λ A b end under s. s;
+  size = zero_size n c w (height w is) p q;
+  own = λ o. o;
+  none = λ o e. absurd (false≢true e);
+  same = λ e. refl;
+  address = λ e end under f. refl;
+  shows = λ A b end under s. s;
 }
 
 more_size : (w n c u b z x y : ℕ) → u ≤ n → b ≤ c → x ≡ u * w + b → y ≡ (n - u) * w + (c - b) + z → x + y ≡ n * w + c + z
@@ -165,26 +168,27 @@ more_size w n c u b z x y l m p q =
 -- what is left once one item more goes
 left_one : (notes : Notes) (func w n c : ℕ) (i : StackItem) (is : List StackItem) (r : Dropped) → item_units i ≤ n → item_bytes i ≤ c → Left notes func w (n - item_units i) (c - item_bytes i) is r → Left notes func w n c (i ∷ is) (record { items = r.items; locals = is_locals i || r.locals })
 left_one notes func w n c (Pushed kind v) is r l m t = record {
-    size = more_size w n c (item_units (Pushed kind v)) (item_bytes (Pushed kind v)) (height w r.items) (slot_bytes w kind) (height w is) l m (item_pair w (Pushed kind v)) t.size;
-    own = t.own;
-    none = t.none;
-    same = t.same;
-    address = t.address;
-    shows = λ A b end under s. t.shows A b end under s.1;
+  size = more_size w n c (item_units (Pushed kind v)) (item_bytes (Pushed kind v)) (height w r.items) (slot_bytes w kind) (height w is) l m (item_pair w (Pushed kind v)) t.size;
+  own = t.own;
+  none = t.none;
+  same = t.same;
+  address = t.address;
+  shows = λ A b end under s. t.shows A b end under s.1;
 }
 left_one notes func w n c (LocalsOf s) is r l m t = record {
-    size = more_size w n c s.n s.c (height w r.items) (size_at w s) (height w is) l m refl t.size;
-    own = λ o. t.own (own_none notes func is o.1);
-    none = λ o e. none_left r.locals refl (own_none notes func is o.1) o.1;
-    same = λ e. absurd (false≢true (sym e));
-    address = λ e. absurd (false≢true (sym e));
-    shows = λ A b end under s. t.shows A b end under s.1;
+  size = more_size w n c s.n s.c (height w r.items) (size_at w s) (height w is) l m refl t.size;
+  own = λ o. t.own (own_none notes func is o.1);
+  none = λ o e. none_left r.locals refl (own_none notes func is o.1) o.1;
+  same = λ e. absurd (false≢true (sym e));
+  address = λ e. absurd (false≢true (sym e));
+  shows = λ A b end under s. t.shows A b end under s.1;
 }
   where
     own_none : (notes : Notes) (func : ℕ) (is : List StackItem) → locals_among is ≡ None → OwnLocals notes func is
     own_none notes func [] e = tt
     own_none notes func (Pushed kind v ∷ is) e = own_none notes func is e
     own_none notes func (LocalsOf u ∷ is) e = absurd (none-some u (sym e))
+
     none_left : (b : Bool) → r.locals ≡ b → OwnLocals notes func is → locals_among is ≡ None → locals_among r.items ≡ None
     none_left true e o q = t.none o e
     none_left false e o q = t.same e ∙ q
@@ -200,9 +204,11 @@ left notes func w n c (i ∷ is) r e = go (nat_eq n 0 && nat_eq c 0) refl e (λ 
     one : (o : Option Dropped) → dropped (n - item_units i) (c - item_bytes i) is ≡ o → item_units i ≤ n → item_bytes i ≤ c → with_one (is_locals i) o ≡ Some r → ((q : Dropped) → dropped (n - item_units i) (c - item_bytes i) is ≡ Some q → Left notes func w (n - item_units i) (c - item_bytes i) is q) → Left notes func w n c (i ∷ is) r
     one None k l m e next = absurd (none-some r e)
     one (Some q) k l m e next = subst (Left notes func w n c (i ∷ is)) (same_Some _ r e) (left_one notes func w n c i is q l m (next q k))
+
     fits : (t : Bool) → (nat_le (item_units i) n && nat_le (item_bytes i) c) ≡ t → (if t then with_one (is_locals i) (dropped (n - item_units i) (c - item_bytes i) is) else None) ≡ Some r → ((q : Dropped) → dropped (n - item_units i) (c - item_bytes i) is ≡ Some q → Left notes func w (n - item_units i) (c - item_bytes i) is q) → Left notes func w n c (i ∷ is) r
     fits true t e next = let p = and_parts (nat_le (item_units i) n) (nat_le (item_bytes i) c) t in one (dropped (n - item_units i) (c - item_bytes i) is) refl (leb-true _ _ p.0) (leb-true _ _ p.1) e next
     fits false t e next = absurd (none-some r e)
+
     go : (t : Bool) → (nat_eq n 0 && nat_eq c 0) ≡ t → (if t then Some (record { items = i ∷ is; locals = false }) else (if nat_le (item_units i) n && nat_le (item_bytes i) c then with_one (is_locals i) (dropped (n - item_units i) (c - item_bytes i) is) else None)) ≡ Some r → ((q : Dropped) → dropped (n - item_units i) (c - item_bytes i) is ≡ Some q → Left notes func w (n - item_units i) (c - item_bytes i) is q) → Left notes func w n c (i ∷ is) r
     go true t e next = let p = and_parts (nat_eq n 0) (nat_eq c 0) t in subst (Left notes func w n c (i ∷ is)) (same_Some _ r e) (left_all notes func w n c (i ∷ is) (eqb-true n 0 p.0) (eqb-true c 0 p.1))
     go false t e next = fits (nat_le (item_units i) n && nat_le (item_bytes i) c) refl e next
@@ -214,7 +220,6 @@ among_none w end under (Pushed kind v ∷ is) f e = among_none w end under is f 
 among_none w end under (LocalsOf s ∷ is) f e = absurd (none-some s (sym e))
 
 module _ (w : ℕ) (world : World) (P : Placement) (mapped : ℕ → ℕ) (h : IsWidth w) (ok : WorldFits world) (pl : IsPlacement w world P) where
-
   abbrev End : ℕ
   End = stack_end w world.notes P
 
@@ -230,35 +235,47 @@ module _ (w : ℕ) (world : World) (P : Placement) (mapped : ℕ → ℕ) (h : I
     where
       T : ℕ
       T = total w (Function f ∷ fs)
+
       gs : List Frame
       gs = Function (record f { items = LocalsOf sh ∷ f.items }) ∷ fs
+
       es : End ≤ 2 ^ 64
       es = end_small w world P h ok pl
+
       top : End - (size_at w sh + total w (Function f ∷ fs)) ≡ top_of w End (Function (record f { items = LocalsOf sh ∷ f.items }) ∷ fs)
       top = sym (ap (minus End) (let z : size_at w sh + height w f.items + (return_cell + total w fs) ≡ size_at w sh + total w (Function f ∷ fs) = omega arith in z) ∙ minus-is End (size_at w sh + total w (Function f ∷ fs)) (omega (arith, pos)) (omega (arith, room)) es)
+
       own : OwnLocalsAll world.notes (Function (record f { items = LocalsOf sh ∷ f.items }) ∷ fs)
       own = ((mine, none), st.locals.1)
+
       local_more : (d g p : ℕ) (t : Bool) → nat_eq d (depth fs) ≡ t → (if t then local_among w End (return_cell + total w fs) f.items g else local_address w End fs d g) ≡ Some p → (if t then local_among w End (return_cell + total w fs) (LocalsOf sh ∷ f.items) g else local_address w End fs d g) ≡ Some p
       local_more d g p true e q = absurd (none-some p (sym (among_none w End (return_cell + total w fs) f.items g none) ∙ q))
       local_more d g p false e q = q
+
       anchors : (x : Anchor) (p : ℕ) → anchor_address w world.notes P (Function f ∷ fs) x ≡ Some p → anchor_address w world.notes P (Function (record f { items = LocalsOf sh ∷ f.items }) ∷ fs) x ≡ Some p
       anchors (ObjectOf k) p q = q
       anchors (ThunkOf i) p q = q
       anchors (LocalOf d g) p q = local_more d g p (nat_eq d (depth fs)) refl q
+
       ext : Extends (A (Function f ∷ fs)) (A (Function (record f { items = LocalsOf sh ∷ f.items }) ∷ fs))
       ext = record { anchor = anchors; handle = λ k p q. q; method = λ k p q. q; entry = λ k p q. q }
+
       more : FramesShow w (A (Function (record f { items = LocalsOf sh ∷ f.items }) ∷ fs)) s.byte End P (Function f ∷ fs)
       more = frames_more w End h es (A (Function f ∷ fs)) (A gs) P s.byte (Function f ∷ fs) ext st.frames
+
       frames : FramesShow w (A (Function (record f { items = LocalsOf sh ∷ f.items }) ∷ fs)) s.byte End P (Function (record f { items = LocalsOf sh ∷ f.items }) ∷ fs)
       frames = ((tt, more.0), more.1, more.2)
+
       old : (p : CellPlace) (z : Field) (v : Neutral) (x y : Option ℕ) → CellShows w (A (Function f ∷ fs)) s.byte x (cell_size w z.cell) v → y ≡ x → CellShows w (A gs) s.byte y (cell_size w z.cell) v
       old p z v x y c e = record { address = c.address; there = e ∙ c.there; shows = shows_in_more w (A (Function f ∷ fs)) (A gs) (cell_size w z.cell) v _ ext c.shows }
+
       local_cells : (d g : ℕ) (z : Field) (v : Neutral) (t : Bool) → nat_eq d (depth fs) ≡ t → option_and_then (λ (u : Shape). slice_get u.fields g) (if t then Some sh else locals_at fs d) ≡ Some z → (if t then None else a.cells (FieldOfLocals d g)) ≡ Some v → CellShows w (A gs) s.byte (if t then local_among w End (return_cell + total w fs) (LocalsOf sh ∷ f.items) g else local_address w End fs d g) (cell_size w z.cell) v
       local_cells d g z v true e k m = absurd (none-some v m)
       local_cells d g z v false e k m =
           let there : cell_field world.notes (memory_of world (framed a (Function f ∷ fs))) (FieldOfLocals d g) ≡ Some z = rw e k in
           let c = st.cells (FieldOfLocals d g) z v there m in
           old (FieldOfLocals d g) z v _ _ c (rw e refl)
+
       cells : CellsShow w world P (A (Function (record f { items = LocalsOf sh ∷ f.items }) ∷ fs)) (made_locals a f fs sh) s.byte
       cells (FieldOf k i g) z v x m = old (FieldOf k i g) z v _ _ (st.cells (FieldOf k i g) z v x m) refl
       cells (FieldOfLocals d g) z v x m = local_cells d g z v (nat_eq d (depth fs)) refl x m
@@ -281,13 +298,14 @@ module _ (w : ℕ) (world : World) (P : Placement) (mapped : ℕ → ℕ) (h : I
       let l = left world.notes f.func w n c f.items r e in
       let gs = Function (record f { items = r.items }) ∷ fs in
       let same : SameLocals w End (Function f ∷ fs) gs = record {
-          locals = λ d i. if nat_eq d (depth fs) then l.same none i else locals_at fs d;
-          address = λ d g i. if nat_eq d (depth fs) then l.address none End (return_cell + total w fs) g i else local_address w End fs d g;
+        locals = λ d i. if nat_eq d (depth fs) then l.same none i else locals_at fs d;
+        address = λ d g i. if nat_eq d (depth fs) then l.address none End (return_cell + total w fs) g i else local_address w End fs d g;
       } in
-      stack_stands w world P mapped h ok pl None (framed a (Function f ∷ fs)) s gs _ s.byte room st same (l.own st.locals.0, st.locals.1) (drop_top (register s 0) f fs (n * w + c) r.items l.size room st.top) (λ q d. refl) st.small
-          (l.shows (A gs) s.byte End (return_cell + total w fs) (frames_more w End h (end_small w world P h ok pl) (A (Function f ∷ fs)) (A gs) P s.byte (Function f ∷ fs) (same_ext same) st.frames).0,
-           st.frames.1,
-           (frames_more w End h (end_small w world P h ok pl) (A (Function f ∷ fs)) (A gs) P s.byte (Function f ∷ fs) (same_ext same) st.frames).2)
+      stack_stands w world P mapped h ok pl None (framed a (Function f ∷ fs)) s gs _ s.byte room st same (l.own st.locals.0, st.locals.1) (drop_top (register s 0) f fs (n * w + c) r.items l.size room st.top) (λ q d. refl) st.small (
+        l.shows (A gs) s.byte End (return_cell + total w fs) (frames_more w End h (end_small w world P h ok pl) (A (Function f ∷ fs)) (A gs) P s.byte (Function f ∷ fs) (same_ext same) st.frames).0,
+        st.frames.1,
+        (frames_more w End h (end_small w world P h ok pl) (A (Function f ∷ fs)) (A gs) P s.byte (Function f ∷ fs) (same_ext same) st.frames).2,
+      )
     where
       same_ext : SameLocals w End (Function f ∷ fs) (Function (record f { items = r.items }) ∷ fs) → Extends (A (Function f ∷ fs)) (A (Function (record f { items = r.items }) ∷ fs))
       same_ext x = same_extends w world P mapped h ok pl (Function f ∷ fs) (Function (record f { items = r.items }) ∷ fs) x
@@ -296,38 +314,46 @@ module _ (w : ℕ) (world : World) (P : Placement) (mapped : ℕ → ℕ) (h : I
   pub drop_locals : (a : Config) (s : Concrete) (f : FunctionFrame) (fs : List Frame) (n c : ℕ) (r : Dropped) → total w (Function f ∷ fs) ≤ stack_bytes w world.notes → dropped n c f.items ≡ Some r → r.locals ≡ true → MachineStands w world P mapped None (framed a (Function f ∷ fs)) s
       → MachineStands w world P mapped None (config_without (depth fs) (with_items a f r.items fs)) (record s { registers = slice_set s.registers 0 ((register s 0 + (n * w + c)) % 2 ^ 64); byte = s.byte })
   drop_locals a s f fs n c r room e went st = record {
-      eight = length-set s.registers 0 _ ∙ st.eight;
-      words = λ q. word_at w world P mapped h ok pl s.registers _ q st.eight (omega arith) st.words;
-      small = st.small;
-      registers = λ q p m. subst (Shows w (A gs) (without_local D (a.registers q))) (sym (get_or-set_other s.registers 0 q _ 0 (λ z. omega (arith, z, p)))) (shows_without w D (A (Function f ∷ fs)) (A gs) (a.registers q) _ loses (st.registers q p m));
-      locals = own_map world.notes D mid (l.own st.locals.0, st.locals.1);
-      top = get_or-set_same s.registers 0 _ 0 (omega (arith, st.eight)) ∙ drop_top (register s 0) f fs (n * w + c) r.items l.size room st.top ∙ ap (minus End) (sym (total_map w D mid));
-      frames = frames_show_map w D (A (Function f ∷ fs)) (A gs) P s.byte End mid loses (l.shows (A (Function f ∷ fs)) s.byte End (return_cell + total w fs) st.frames.0, st.frames.1, st.frames.2);
-      cells = cells;
-      thunks = st.thunks;
-      code = st.code;
-      objects = st.objects;
-      flags = st.flags;
-      gate = st.gate;
-      spot = st.spot;
+    eight = length-set s.registers 0 _ ∙ st.eight;
+    words = λ q. word_at w world P mapped h ok pl s.registers _ q st.eight (omega arith) st.words;
+    small = st.small;
+    registers = λ q p m. subst (Shows w (A gs) (without_local D (a.registers q))) (sym (get_or-set_other s.registers 0 q _ 0 (λ z. omega (arith, z, p)))) (shows_without w D (A (Function f ∷ fs)) (A gs) (a.registers q) _ loses (st.registers q p m));
+    locals = own_map world.notes D mid (l.own st.locals.0, st.locals.1);
+    top = get_or-set_same s.registers 0 _ 0 (omega (arith, st.eight)) ∙ drop_top (register s 0) f fs (n * w + c) r.items l.size room st.top ∙ ap (minus End) (sym (total_map w D mid));
+    frames = frames_show_map w D (A (Function f ∷ fs)) (A gs) P s.byte End mid loses (l.shows (A (Function f ∷ fs)) s.byte End (return_cell + total w fs) st.frames.0, st.frames.1, st.frames.2);
+    cells = cells;
+    thunks = st.thunks;
+    code = st.code;
+    objects = st.objects;
+    flags = st.flags;
+    gate = st.gate;
+    spot = st.spot;
   }
     where
       D : ℕ
       D = depth fs
+
       l : Left world.notes f.func w n c f.items r
       l = left world.notes f.func w n c f.items r e
+
       mid : List Frame
       mid = Function (record f { items = r.items }) ∷ fs
+
       gs : List Frame
       gs = map (frame_without (depth fs)) (Function (record f { items = r.items }) ∷ fs)
+
       local_stays : (e g p : ℕ) → e ≢ depth fs → local_address w End (Function f ∷ fs) e g ≡ Some p → local_address w End (map (frame_without (depth fs)) (Function (record f { items = r.items }) ∷ fs)) e g ≡ Some p
       local_stays e g p ne q = local_address_map w End (depth fs) (Function (record f { items = r.items }) ∷ fs) e g ∙ rw (ne_eqb e (depth fs) ne) (rw (ne_eqb e (depth fs) ne) at q)
+
       loses : Loses (depth fs) (A (Function f ∷ fs)) (A (map (frame_without (depth fs)) (Function (record f { items = r.items }) ∷ fs)))
       loses = record { object = λ k p q. q; thunk = λ i p q. q; local = local_stays; handle = λ k p q. q; method = λ k p q. q; entry = λ k p q. q }
+
       gone : locals_among r.items ≡ None
       gone = l.none st.locals.0 went
+
       kept : (p : CellPlace) (z : Field) (v u : Neutral) (x y : Option ℕ) → CellShows w (A (Function f ∷ fs)) s.byte x (cell_size w z.cell) u → without_local (depth fs) u ≡ v → ((q : ℕ) → x ≡ Some q → y ≡ Some q) → CellShows w (A gs) s.byte y (cell_size w z.cell) v
       kept p z v u x y c e f1 = record { address = c.address; there = f1 c.address c.there; shows = subst (λ t. ShowsIn w (A gs) (cell_size w z.cell) t (little_endian s.byte c.address (cell_size w z.cell))) e (shows_in_without w (depth fs) (A (Function f ∷ fs)) (A gs) (cell_size w z.cell) u _ loses c.shows) }
+
       local_cell_without : (d g : ℕ) (z : Field) (v : Neutral) (t : Bool) → nat_eq d (depth fs) ≡ t → option_and_then (λ (u : Shape). slice_get u.fields g) (locals_at (map (frame_without (depth fs)) (Function (record f { items = r.items }) ∷ fs)) d) ≡ Some z → (u : Neutral) → a.cells (FieldOfLocals d g) ≡ Some u → without_local (depth fs) u ≡ v → CellShows w (A gs) s.byte (local_address w End (map (frame_without (depth fs)) (Function (record f { items = r.items }) ∷ fs)) d g) (cell_size w z.cell) v
       local_cell_without d g z v true e k u m q =
           let none : locals_at (map (frame_without (depth fs)) (Function (record f { items = r.items }) ∷ fs)) d ≡ None = locals_at_map (depth fs) (Function (record f { items = r.items }) ∷ fs) d ∙ rw e gone in
@@ -336,6 +362,7 @@ module _ (w : ℕ) (world : World) (P : Placement) (mapped : ℕ → ℕ) (h : I
           let there : option_and_then (λ (u : Shape). slice_get u.fields g) (locals_at fs d) ≡ Some z = subst (λ t. option_and_then (λ (u : Shape). slice_get u.fields g) t ≡ Some z) (locals_at_map (depth fs) (Function (record f { items = r.items }) ∷ fs) d ∙ rw e refl) k in
           let old : cell_field world.notes (memory_of world (framed a (Function f ∷ fs))) (FieldOfLocals d g) ≡ Some z = rw e there in
           kept (FieldOfLocals d g) z v u _ _ (st.cells (FieldOfLocals d g) z u old m) q (λ p y. local_stays d g p (eqb-false d (depth fs) e) y)
+
       cells : CellsShow w world P (A (map (frame_without (depth fs)) (Function (record f { items = r.items }) ∷ fs))) (config_without (depth fs) (with_items a f r.items fs)) s.byte
       cells (FieldOf k i g) z v x m =
           let u = some_of_map (without_local (depth fs)) (a.cells (FieldOf k i g)) v m in
@@ -352,6 +379,7 @@ module _ (w : ℕ) (world : World) (P : Placement) (mapped : ℕ → ℕ) (h : I
       local_more : (d g p : ℕ) (t : Bool) → (if t then local_among w End (return_cell + total w fs) f.items g else local_address w End fs d g) ≡ Some p → (if t then local_among w End (return_cell + total w fs) (LocalsOf sh ∷ f.items) g else local_address w End fs d g) ≡ Some p
       local_more d g p true q = absurd (none-some p (sym (among_none w End (return_cell + total w fs) f.items g none) ∙ q))
       local_more d g p false q = q
+
       anchors : (x : Anchor) (p : ℕ) → anchor_address w world.notes P (Function f ∷ fs) x ≡ Some p → anchor_address w world.notes P (Function (record f { items = LocalsOf sh ∷ f.items }) ∷ fs) x ≡ Some p
       anchors (ObjectOf k) p q = q
       anchors (ThunkOf i) p q = q
@@ -367,6 +395,6 @@ module _ (w : ℕ) (world : World) (P : Placement) (mapped : ℕ → ℕ) (h : I
   drop_same f fs n c r e none =
       let l = left world.notes f.func w n c f.items r e in
       record {
-          locals = λ d i. if nat_eq d (depth fs) then l.same none i else locals_at fs d;
-          address = λ d g i. if nat_eq d (depth fs) then l.address none End (return_cell + total w fs) g i else local_address w End fs d g;
+        locals = λ d i. if nat_eq d (depth fs) then l.same none i else locals_at fs d;
+        address = λ d g i. if nat_eq d (depth fs) then l.address none End (return_cell + total w fs) g i else local_address w End fs d g;
       }

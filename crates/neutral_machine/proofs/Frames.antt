@@ -55,7 +55,6 @@ pub record SameLocals (w end : ℕ) (fs gs : List Frame) : Type 0 where
   pub address : (d f : ℕ) → local_address w end gs d f ≡ local_address w end fs d f
 
 module _ (w : ℕ) (world : World) (P : Placement) (mapped : ℕ → ℕ) (h : IsWidth w) (ok : WorldFits world) (pl : IsPlacement w world P) where
-
   abbrev End : ℕ
   End = stack_end w world.notes P
 
@@ -64,10 +63,10 @@ module _ (w : ℕ) (world : World) (P : Placement) (mapped : ℕ → ℕ) (h : I
 
   pub same_extends : (fs gs : List Frame) → SameLocals w End fs gs → Extends (A fs) (A gs)
   same_extends fs gs e = record {
-      anchor = go;
-      handle = λ k p q. q;
-      method = λ k p q. q;
-      entry = λ k p q. q;
+    anchor = go;
+    handle = λ k p q. q;
+    method = λ k p q. q;
+    entry = λ k p q. q;
   }
     where
       go : (a : Anchor) (p : ℕ) → anchor_address w world.notes P fs a ≡ Some p → anchor_address w world.notes P gs a ≡ Some p
@@ -99,12 +98,13 @@ module _ (w : ℕ) (world : World) (P : Placement) (mapped : ℕ → ℕ) (h : I
           let old = sh p z v g m in
           let above = cell_above a p z old.address room own g old.there in
           let same_bytes : little_endian b old.address (cell_size w z.cell) ≡ little_endian c old.address (cell_size w z.cell) =
-              little_endian-agree b c old.address (cell_size w z.cell) (λ x l r. agree x (⊎_elim (λ q. inl (omega (arith, q, l))) (λ q. inr (omega (arith, q, r))) above)) in
+          little_endian-agree b c old.address (cell_size w z.cell) (λ x l r. agree x (⊎_elim (λ q. inl (omega (arith, q, l))) (λ q. inr (omega (arith, q, r))) above)) in
           record {
-              address = old.address;
-              there = e ∙ old.there;
-              shows = subst (ShowsIn w (A gs) (cell_size w z.cell) v) same_bytes (shows_in_more w (A a.frames) (A gs) (cell_size w z.cell) v _ (same_extends a.frames gs same) old.shows);
+            address = old.address;
+            there = e ∙ old.there;
+            shows = subst (ShowsIn w (A gs) (cell_size w z.cell) v) same_bytes (shows_in_more w (A a.frames) (A gs) (cell_size w z.cell) v _ (same_extends a.frames gs same) old.shows);
           }
+
       go : CellsShow w world P (A gs) (framed a gs) c
       go (FieldOf k i f) z v g m = kept (FieldOf k i f) z v g m refl
       go (FieldOfLocals d f) z v g m = kept (FieldOfLocals d f) z v (ap (option_and_then (λ (s : Shape). slice_get s.fields f)) (sym (same.locals d)) ∙ g) m (same.address d f)
@@ -117,9 +117,10 @@ module _ (w : ℕ) (world : World) (P : Placement) (mapped : ℕ → ℕ) (h : I
   thunks_kept but made fs b c room agree sh i t g n =
       let s = sh i t g n in
       let u = ok.thunks_inside i t g in
-      let w8 = width_le w h in
-      ((λ l. s.0 l ∙ ap Some (little_endian-agree b c (P.image + t.place) w (λ x p q. image_kept fs b c room agree x (omega (arith, p)) (omega (arith, q, u, w8))))),
-       (λ l j m. sym (image_kept fs b c room agree (P.image + (t.place + j)) (omega arith) (omega (arith, m, u))) ∙ s.1 l j m))
+      let w8 = width_le w h in (
+        (λ l. s.0 l ∙ ap Some (little_endian-agree b c (P.image + t.place) w (λ x p q. image_kept fs b c room agree x (omega (arith, p)) (omega (arith, q, u, w8))))),
+        (λ l j m. sym (image_kept fs b c room agree (P.image + (t.place + j)) (omega arith) (omega (arith, m, u))) ∙ s.1 l j m),
+      )
 
   pub code_kept : (fs : List Frame) (b c : ℕ → ℕ) → total w fs ≤ stack_bytes w world.notes → BelowTop fs b c → CodeStands world P mapped b → CodeStands world P mapped c
   code_kept fs b c room agree sh j f x g l m =
@@ -135,20 +136,20 @@ module _ (w : ℕ) (world : World) (P : Placement) (mapped : ℕ → ℕ) (h : I
   -- R0 and the bytes below it change, and the frames and the cells with them, no address being lost
   pub stack_changes : (but : Option ℕ) (a : Config) (s : Concrete) (gs : List Frame) (cs : Cells) (x : ℕ) (b : ℕ → ℕ) → total w a.frames ≤ stack_bytes w world.notes → MachineStands w world P mapped but a s → Extends (A a.frames) (A gs) → OwnLocalsAll world.notes gs → x ≡ top_of w End gs → BelowTop a.frames s.byte b → ((q : ℕ) → b q < 256) → FramesShow w (A gs) b End P gs → CellsShow w world P (A gs) (record a { frames = gs; cells = cs }) b → MachineStands w world P mapped but (record a { frames = gs; cells = cs }) (record s { registers = slice_set s.registers 0 x; byte = b })
   stack_changes but a s gs cs x b room st ext own top agree small frames cells = record {
-      eight = length-set s.registers 0 x ∙ st.eight;
-      words = λ r. word_at s.registers x r st.eight (omega (arith, top)) st.words;
-      small = small;
-      registers = λ r p l. subst (Shows w (A gs) (a.registers r)) (sym (get_or-set_other s.registers 0 r x 0 (λ z. omega (arith, z, p)))) (shows_more w (A a.frames) (A gs) (a.registers r) _ ext (st.registers r p l));
-      locals = own;
-      top = get_or-set_same s.registers 0 x 0 (omega (arith, st.eight)) ∙ top;
-      frames = frames;
-      cells = cells;
-      thunks = thunks_kept but a.made a.frames s.byte b room agree st.thunks;
-      code = code_kept a.frames s.byte b room agree st.code;
-      objects = st.objects;
-      flags = st.flags;
-      gate = st.gate;
-      spot = st.spot;
+    eight = length-set s.registers 0 x ∙ st.eight;
+    words = λ r. word_at s.registers x r st.eight (omega (arith, top)) st.words;
+    small = small;
+    registers = λ r p l. subst (Shows w (A gs) (a.registers r)) (sym (get_or-set_other s.registers 0 r x 0 (λ z. omega (arith, z, p)))) (shows_more w (A a.frames) (A gs) (a.registers r) _ ext (st.registers r p l));
+    locals = own;
+    top = get_or-set_same s.registers 0 x 0 (omega (arith, st.eight)) ∙ top;
+    frames = frames;
+    cells = cells;
+    thunks = thunks_kept but a.made a.frames s.byte b room agree st.thunks;
+    code = code_kept a.frames s.byte b room agree st.code;
+    objects = st.objects;
+    flags = st.flags;
+    gate = st.gate;
+    spot = st.spot;
   }
 
   -- the same where all locals stay
@@ -170,32 +171,46 @@ module _ (w : ℕ) (world : World) (P : Placement) (mapped : ℕ → ℕ) (h : I
     where
       k : ℕ
       k = slot_bytes w kind
+
       T : ℕ
       T = total w (Function f ∷ fs)
+
       x : ℕ
       x = End - (slot_bytes w kind + total w (Function f ∷ fs))
+
       b : ℕ → ℕ
       b = put s.byte (End - (slot_bytes w kind + total w (Function f ∷ fs))) (slot_bytes w kind) y
+
       gs : List Frame
       gs = Function (record f { items = Pushed kind v ∷ f.items }) ∷ fs
+
       same : SameLocals w End (Function f ∷ fs) (Function (record f { items = Pushed kind v ∷ f.items }) ∷ fs)
       same = record { locals = λ d. refl; address = λ d g. refl }
+
       pk : 0 < slot_bytes w kind
       pk = slot_positive w kind h
+
       es : End ≤ 2 ^ 64
       es = end_small w world P h ok pl
+
       low : minus End (slot_bytes w kind + (height w f.items + (return_cell + total w fs))) ≡ End - (slot_bytes w kind + total w (Function f ∷ fs))
       low = minus-is End (slot_bytes w kind + (height w f.items + (return_cell + total w fs))) (omega (arith, pk)) (omega (arith, room)) es
+
       top : End - (slot_bytes w kind + total w (Function f ∷ fs)) ≡ top_of w End (Function (record f { items = Pushed kind v ∷ f.items }) ∷ fs)
       top = sym (let e : minus End (slot_bytes w kind + height w f.items + (return_cell + total w fs)) ≡ minus End (slot_bytes w kind + (height w f.items + (return_cell + total w fs))) = ap (minus End) (omega arith) in e ∙ low)
+
       agree : BelowTop (Function f ∷ fs) s.byte (put s.byte (End - (slot_bytes w kind + total w (Function f ∷ fs))) (slot_bytes w kind) y)
       agree q d = sym (put-apart s.byte (End - (slot_bytes w kind + total w (Function f ∷ fs))) (slot_bytes w kind) y q (⊎_elim (λ r. inr (omega (arith, r, room))) (λ r. inl (omega (arith, r, room))) d))
+
       ext : Extends (A (Function f ∷ fs)) (A (Function (record f { items = Pushed kind v ∷ f.items }) ∷ fs))
       ext = same_extends (Function f ∷ fs) (Function (record f { items = Pushed kind v ∷ f.items }) ∷ fs) same
+
       old : FramesShow w (A (Function (record f { items = Pushed kind v ∷ f.items }) ∷ fs)) b End P (Function f ∷ fs)
       old = frames_agree w End h es (A gs) P s.byte b (Function f ∷ fs) (omega (arith, room)) (put_agree s.byte _ _ y _ _ (inl (omega (arith, room)))) (frames_more w End h es (A (Function f ∷ fs)) (A gs) P s.byte (Function f ∷ fs) ext st.frames)
+
       slot : ShowsIn w (A (Function (record f { items = Pushed kind v ∷ f.items }) ∷ fs)) (slot_bytes w kind) v (little_endian b (minus End (slot_bytes w kind + (height w f.items + (return_cell + total w fs)))) (slot_bytes w kind))
       slot = rw low (subst (ShowsIn w (A gs) (slot_bytes w kind) v) (sym (read_put s.byte _ (slot_bytes w kind) y)) (shows_in_more w (A (Function f ∷ fs)) (A gs) (slot_bytes w kind) v _ ext sh))
+
       frames : FramesShow w (A (Function (record f { items = Pushed kind v ∷ f.items }) ∷ fs)) b End P (Function (record f { items = Pushed kind v ∷ f.items }) ∷ fs)
       frames = ((slot, old.0), old.1, old.2)
 
@@ -237,7 +252,7 @@ module _ (w : ℕ) (world : World) (P : Placement) (mapped : ℕ → ℕ) (h : I
       let e = stored_on_top s raises.StackFault k x 0 k y st.eight low (omega (arith, sw.below, room, pk)) held in
       let stand = push_stands None a s f fs kind v y room st sh in
       subst (Does (MachineStands w world P mapped None) (pushed (framed a (Function f ∷ fs)) (Function f ∷ fs) (Pushed kind v))) (sym e)
-          (subst (λ u. MachineStands w world P mapped None (with_items a f (Pushed kind v ∷ f.items) fs) (record s { registers = slice_set s.registers 0 x; byte = put s.byte u k y })) (sym z) stand)
+      (subst (λ u. MachineStands w world P mapped None (with_items a f (Pushed kind v ∷ f.items) fs) (record s { registers = slice_set s.registers 0 x; byte = put s.byte u k y })) (sym z) stand)
 
   -- ---- pops
 
@@ -278,13 +293,14 @@ module _ (w : ℕ) (world : World) (P : Placement) (mapped : ℕ → ℕ) (h : I
   -- a function frame with no items has no locals
   pub call_same : (g : FunctionFrame) (fs : List Frame) → SameLocals w End fs (Function (record g { items = [] }) ∷ fs)
   call_same g fs = record {
-      locals = λ d. by_locals d (nat_eq d (depth fs)) refl;
-      address = λ d f. by_address d f (nat_eq d (depth fs)) refl;
+    locals = λ d. by_locals d (nat_eq d (depth fs)) refl;
+    address = λ d f. by_address d f (nat_eq d (depth fs)) refl;
   }
     where
       by_locals : (d : ℕ) (t : Bool) → nat_eq d (depth fs) ≡ t → (if t then None else locals_at fs d) ≡ locals_at fs d
       by_locals d true e = sym (no_locals fs d (let q = eqb-true d (depth fs) e in omega (arith, q)))
       by_locals d false e = refl
+
       by_address : (d f : ℕ) (t : Bool) → nat_eq d (depth fs) ≡ t → (if t then None else local_address w End fs d f) ≡ local_address w End fs d f
       by_address d f true e = sym (no_address w End fs d f (let q = eqb-true d (depth fs) e in omega (arith, q)))
       by_address d f false e = refl
@@ -310,8 +326,8 @@ module _ (w : ℕ) (world : World) (P : Placement) (mapped : ℕ → ℕ) (h : I
       let zz : little_endian b2 (x + 8) 8 ≡ 0 = read_put b1 (x + 8) 8 0 in
       let ret_shows : ReturnShows b2 (minus End (return_cell + T)) (P.image + ret) = rw low (record { address = ra; zeros = zz }) in
       stack_stands None (framed a (Function f ∷ fs)) s gs x b2 (omega (arith, room)) st (call_same g (Function f ∷ fs)) (tt, st.locals) (sym (ap (minus End) (let z : 0 + (return_cell + T) ≡ return_cell + T = omega arith in z) ∙ low)) agree
-          (λ q. put-below b1 (x + 8) 8 0 q (put-below s.byte x 8 (P.image + ret) q (st.small q)))
-          (tt, ret_shows, old)
+      (λ q. put-below b1 (x + 8) 8 0 q (put-below s.byte x 8 (P.image + ret) q (st.small q)))
+      (tt, ret_shows, old)
 
   -- A return: R0 rises past the return cell, and the machine stands for the configuration without the frame.
   pub return_stands : (a : Config) (s : Concrete) (g : FunctionFrame) (fs : List Frame) → total w (Function (record g { items = [] }) ∷ fs) ≤ stack_bytes w world.notes → MachineStands w world P mapped None (framed a (Function (record g { items = [] }) ∷ fs)) s → MachineStands w world P mapped None (framed a fs) (raised_by s 16)
@@ -322,4 +338,4 @@ module _ (w : ℕ) (world : World) (P : Placement) (mapped : ℕ → ℕ) (h : I
       let low = top_above (register s 0) return_cell (total w fs) (st.top ∙ ap (minus End) (let z : 0 + (return_cell + total w fs) ≡ return_cell + total w fs = omega arith in z)) (omega arith) (omega (arith, room)) in
       let es = end_small w world P h ok pl in
       stack_stands None (framed a (Function (record g { items = [] }) ∷ fs)) s fs _ s.byte room st back st.locals.1 low (λ q d. refl) st.small
-          (frames_more w End h es _ (A fs) P s.byte fs (same_extends (Function (record g { items = [] }) ∷ fs) fs back) st.frames.2)
+      (frames_more w End h es _ (A fs) P s.byte fs (same_extends (Function (record g { items = [] }) ∷ fs) fs back) st.frames.2)

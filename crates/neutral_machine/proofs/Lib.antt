@@ -4,6 +4,7 @@ pub mod Placed
 pub mod Agree
 pub mod Locals
 pub mod Cells
+pub mod CellPairs
 pub mod Values
 pub mod Bounds
 pub mod Locate
@@ -11,3 +12,7 @@ pub mod Stored
 pub mod Stack
 pub mod Frames
 pub mod Drops
+pub mod Alu
+pub mod Combined
+pub mod Compared
+pub mod Thunks

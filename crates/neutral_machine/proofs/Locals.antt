@@ -32,6 +32,7 @@ locals_shape world func s ok h = by_function (slice_get world.notes.function fun
     by_number : (o : Option ℕ) → option_and_then (slice_get world.notes.shape) o ≡ Some s → IsShape s
     by_number None g = absurd (none-some s g)
     by_number (Some k) g = ok.shapes k s g
+
     by_function : (o : Option FnNote) → option_and_then (locals_of world.notes) o ≡ Some s → IsShape s
     by_function None g = absurd (none-some s g)
     by_function (Some f) g = by_number f.locals g
@@ -55,7 +56,6 @@ locals_fit world (Function p ∷ fs) d s ok h g = go (nat_eq d (depth fs)) g (λ
     go false g next = next g
 
 module _ (w end : ℕ) (h : IsWidth w) (small : end ≤ 2 ^ 64) where
-
   low : (n : ℕ) → 0 < n → n ≤ end → minus end n ≡ end - n
   low n p l = minus-is end n p l small
 
@@ -106,6 +106,7 @@ module _ (w end : ℕ) (h : IsWidth w) (small : end ≤ 2 ^ 64) where
     where
       U : ℕ
       U = return_cell + total w fs
+
       go : (u v : Bool) → nat_eq d (depth fs) ≡ u → nat_eq e (depth fs) ≡ v → (if u then locals_among i.items else locals_at fs d) ≡ Some s → (if v then locals_among i.items else locals_at fs e) ≡ Some t → (if u then local_among w end U i.items f else local_address w end fs d f) ≡ Some x → (if v then local_among w end U i.items g else local_address w end fs e g) ≡ Some y
           → (locals_at fs d ≡ Some s → locals_at fs e ≡ Some t → local_address w end fs d f ≡ Some x → local_address w end fs e g ≡ Some y → Off x (cell_size w z.cell) y (cell_size w o.cell)) → Off x (cell_size w z.cell) y (cell_size w o.cell)
       go true true c n k m a b next =
@@ -128,9 +129,10 @@ module _ (w end : ℕ) (h : IsWidth w) (small : end ≤ 2 ^ 64) where
   items_stored A b under (Pushed kind u ∷ is) s f x v z l k fit a p sh =
       let r = local_among_within w end h small under is s f x z (omega (arith, l)) a k fit p in
       let pk = slot_positive w kind h in
-      let e = low (slot_bytes w kind + (height w is + under)) (omega (arith, pk)) (omega (arith, l)) in
-      (subst (ShowsIn w A (slot_bytes w kind) u) (sym (little_endian-apart b x (cell_size w z.cell) v (minus end (slot_bytes w kind + (height w is + under))) (slot_bytes w kind) (inl (omega (arith, e, r.above, l))))) sh.0,
-       items_stored A b under is s f x v z (omega (arith, l)) k fit a p sh.1)
+      let e = low (slot_bytes w kind + (height w is + under)) (omega (arith, pk)) (omega (arith, l)) in (
+        subst (ShowsIn w A (slot_bytes w kind) u) (sym (little_endian-apart b x (cell_size w z.cell) v (minus end (slot_bytes w kind + (height w is + under))) (slot_bytes w kind) (inl (omega (arith, e, r.above, l))))) sh.0,
+        items_stored A b under is s f x v z (omega (arith, l)) k fit a p sh.1,
+      )
   items_stored A b under (LocalsOf t ∷ is) s f x v z l k fit a p sh =
       let e : t ≡ s = same_Some t s k in
       let fit' : FitsAt w t = subst (FitsAt w) (sym e) fit in
@@ -144,27 +146,34 @@ module _ (w end : ℕ) (h : IsWidth w) (small : end ≤ 2 ^ 64) where
   pub frames_stored : (A : Addresses) (P : Placement) (b : ℕ → ℕ) (fs : List Frame) (d : ℕ) (s : Shape) (f x v : ℕ) (z : Field) → total w fs ≤ end → locals_at fs d ≡ Some s → FitsAt w s → local_address w end fs d f ≡ Some x → slice_get s.fields f ≡ Some z → FramesShow w A b end P fs → FramesShow w A (put b x (cell_size w z.cell) v) end P fs
   frames_stored A P b [] d s f x v z l k fit a p sh = tt
   frames_stored A P b (Host host ∷ fs) d s f x v z l k fit a p sh =
-      let r = local_within w end h small fs d s f x z (omega (arith, l)) a k fit p in
-      (items_agree w end h small A b _ (total w fs) host.params l (put_agree b x (cell_size w z.cell) v _ _ (inr r.above)) sh.0,
-       frames_stored A P b fs d s f x v z (omega (arith, l)) k fit a p sh.1)
+      let r = local_within w end h small fs d s f x z (omega (arith, l)) a k fit p in (
+        items_agree w end h small A b _ (total w fs) host.params l (put_agree b x (cell_size w z.cell) v _ _ (inr r.above)) sh.0,
+        frames_stored A P b fs d s f x v z (omega (arith, l)) k fit a p sh.1,
+      )
   frames_stored A P b (Function i ∷ fs) d s f x v z l k fit a p sh = go (nat_eq d (depth fs)) k a (λ k a. frames_stored A P b fs d s f x v z (omega (arith, l)) k fit a p sh.2)
     where
       U : ℕ
       U = return_cell + total w fs
+
       c : ℕ → ℕ
       c = put b x (cell_size w z.cell) v
+
       eU : minus end U ≡ end - U
       eU = low U (omega arith) (omega (arith, l))
+
       cell_agree : Agree b c (minus end U) (minus end U + 16) → ReturnShows c (minus end U) (return_address P i.ret fs)
       cell_agree g = return_agree w end h small b c (minus end U) (return_address P i.ret fs) g sh.1
+
       go : (t : Bool) → (if t then locals_among i.items else locals_at fs d) ≡ Some s → (if t then local_among w end U i.items f else local_address w end fs d f) ≡ Some x → (locals_at fs d ≡ Some s → local_address w end fs d f ≡ Some x → FramesShow w A c end P fs) → ItemsShow w A c end U i.items × ReturnShows c (minus end U) (return_address P i.ret fs) × FramesShow w A c end P fs
       go true k a next =
-          let r = local_among_within w end h small U i.items s f x z l a k fit p in
-          (items_stored A b U i.items s f x v z l k fit a p sh.0,
-           cell_agree (put_agree b x (cell_size w z.cell) v _ _ (inl (omega (arith, r.below, eU, l)))),
-           frames_agree w end h small A P b c fs (omega (arith, l)) (put_agree b x (cell_size w z.cell) v _ _ (inl (omega (arith, r.below, l)))) sh.2)
+          let r = local_among_within w end h small U i.items s f x z l a k fit p in (
+            items_stored A b U i.items s f x v z l k fit a p sh.0,
+            cell_agree (put_agree b x (cell_size w z.cell) v _ _ (inl (omega (arith, r.below, eU, l)))),
+            frames_agree w end h small A P b c fs (omega (arith, l)) (put_agree b x (cell_size w z.cell) v _ _ (inl (omega (arith, r.below, l)))) sh.2,
+          )
       go false k a next =
-          let r = local_within w end h small fs d s f x z (omega (arith, l)) a k fit p in
-          (items_agree w end h small A b c U i.items l (put_agree b x (cell_size w z.cell) v _ _ (inr (omega (arith, r.above, l)))) sh.0,
-           cell_agree (put_agree b x (cell_size w z.cell) v _ _ (inr (omega (arith, r.above, eU, l)))),
-           next k a)
+          let r = local_within w end h small fs d s f x z (omega (arith, l)) a k fit p in (
+            items_agree w end h small A b c U i.items l (put_agree b x (cell_size w z.cell) v _ _ (inr (omega (arith, r.above, l)))) sh.0,
+            cell_agree (put_agree b x (cell_size w z.cell) v _ _ (inr (omega (arith, r.above, eU, l)))),
+            next k a,
+          )

@@ -59,8 +59,10 @@ named_in world n k a b o p g h = go (nat_lt i o.count) refl h
   where
     S : Shape
     S = shape_of world.notes o.shape
+
     i : ℕ
     i = instance_at S a b
+
     go : (t : Bool) → nat_lt i o.count ≡ t → (if t then option_map (FieldOf k i) (find_field (is_field S i a b) 0 S.fields) else None) ≡ Some p → Named world n k a b p
     go true t q =
         let r = some_of_map (FieldOf k i) (find_field (is_field S i a b) 0 S.fields) p q in
@@ -68,13 +70,13 @@ named_in world n k a b o p g h = go (nat_lt i o.count) refl h
         let e = and_parts (nat_eq a (word (i * S.n + s.x.n))) (nat_eq b (word (i * S.c + s.x.c))) s.test in
         let same : s.j ≡ r.0 = omega (arith, s.sum) in
         record {
-            i = i;
-            f = r.0;
-            z = s.x;
-            is = sym r.2;
-            cell = record { object = o; there = g; within = ltb-true _ _ t; get = subst (λ j. slice_get S.fields j ≡ Some s.x) same s.get };
-            units = eqb-true _ _ e.0;
-            bytes = eqb-true _ _ e.1;
+          i = i;
+          f = r.0;
+          z = s.x;
+          is = sym r.2;
+          cell = record { object = o; there = g; within = ltb-true _ _ t; get = subst (λ j. slice_get S.fields j ≡ Some s.x) same s.get };
+          units = eqb-true _ _ e.0;
+          bytes = eqb-true _ _ e.1;
         }
     go false t q = absurd (none-some p q)
 
@@ -83,12 +85,11 @@ pair_offset : (w base i s t x y a b : ℕ) → a ≡ word (i * s + x) → b ≡ 
 pair_offset w base i s t x y a b p q =
     let e1 : word (base + (a * w + b)) ≡ word (base + (word (i * s + x) * w + word (i * t + y))) = ap₂ (λ u v. word (base + (u * w + v))) p q in
     let e2 : word (base + (word (i * s + x) * w + word (i * t + y))) ≡ word (base + ((i * s + x) * w + (i * t + y))) =
-        sym (add-mod-mod base _ (2 ^ 64)) ∙ ap (λ u. word (base + u)) (lin_mod (i * s + x) (i * t + y) w (2 ^ 64)) ∙ add-mod-mod base _ (2 ^ 64) in
+    sym (add-mod-mod base _ (2 ^ 64)) ∙ ap (λ u. word (base + u)) (lin_mod (i * s + x) (i * t + y) w (2 ^ 64)) ∙ add-mod-mod base _ (2 ^ 64) in
     let e3 : (i * s + x) * w + (i * t + y) ≡ i * (s * w + t) + (x * w + y) = omega arith in
     e1 ∙ e2 ∙ ap (λ u. word (base + u)) e3
 
 module _ (w : ℕ) (world : World) (P : Placement) (h : IsWidth w) (ok : WorldFits world) (pl : IsPlacement w world P) where
-
   -- what a value names, by its form
   pub data Names (a : Config) (v : Neutral) (p : CellPlace) : Type 0 where
     in_object : (k n c : ℕ) → v ≡ At (ObjectOf k) n c → Named world a.script.entries k n c p → Names a v p

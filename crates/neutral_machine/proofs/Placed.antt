@@ -44,8 +44,8 @@ unfolding placed_objects
 placed_in_all script n j o h = ⊎_elim
     (λ l. slice_get-append_left script.object _ j l ∙ sym (slice_get-append_left script.object _ j l) ∙ h)
     (λ l. slice_get-append_right script.object _ j l
-        ∙ subst (λ cs. slice_get (flat_map (λ (c : ScriptCall). c.make) cs) (j - length script.object) ≡ Some o) (sym (take-all script.call))
-            (flat_map-taken (λ (c : ScriptCall). c.make) n script.call (j - length script.object) o (sym (slice_get-append_right script.object _ j l) ∙ h)))
+    ∙ subst (λ cs. slice_get (flat_map (λ (c : ScriptCall). c.make) cs) (j - length script.object) ≡ Some o) (sym (take-all script.call))
+    (flat_map-taken (λ (c : ScriptCall). c.make) n script.call (j - length script.object) o (sym (slice_get-append_right script.object _ j l) ∙ h)))
     (cases_lt j (length script.object))
 
 script_ranges_at : (w : ℕ) (notes : Notes) (os : List ScriptObject) (bs : List ℕ) (j b : ℕ) (o : ScriptObject) → slice_get os j ≡ Some o → slice_get bs j ≡ Some b → slice_get (script_ranges w notes os bs) j ≡ Some (record { base = b; size = object_bytes w notes (script_object o) })
@@ -93,7 +93,6 @@ map_length f [] = refl
 map_length f (x ∷ xs) = ap suc (map_length f xs)
 
 module _ (w : ℕ) (world : World) (P : Placement) (h : IsWidth w) (ok : WorldFits world) (pl : IsPlacement w world P) where
-
   abbrev S : ℕ
   S = length world.notes.statics
 
@@ -114,9 +113,9 @@ module _ (w : ℕ) (world : World) (P : Placement) (h : IsWidth w) (ok : WorldFi
   lies_static n k o l g =
       let s = some_of_map static_object (slice_get world.notes.statics k) o (sym (slice_get-map static_object world.notes.statics k) ∙ g) in
       record {
-          base = P.image + s.0.place;
-          address = static_address k s.0 s.1;
-          kind = inl (record { static = s.0; there = s.1; is = s.2; base_is = refl });
+        base = P.image + s.0.place;
+        address = static_address k s.0 s.1;
+        kind = inl (record { static = s.0; there = s.1; is = s.2; base_is = refl });
       }
 
   lies_script : (n k : ℕ) (o : TypedObject) → S ≤ k → slice_get (map script_object (placed_objects world.script n)) (k - S) ≡ Some o → Lies w world P n k o
@@ -127,13 +126,13 @@ module _ (w : ℕ) (world : World) (P : Placement) (h : IsWidth w) (ok : WorldFi
       let few : k - S < length P.objects = subst (λ z. k - S < z) (sym pl.each) (slice_get_within _ (k - S) s.0 all) in
       let b = within_some P.objects (k - S) few in
       record {
-          base = b.0;
-          address = script_address k b.0 l b.1;
-          kind = inr (record {
-              later = l;
-              now = subst (λ (p : TypedObject). slice_get (script_ranges w world.notes (placed_objects world.script n) P.objects) (k - S) ≡ Some (record { base = b.0; size = object_bytes w world.notes p })) s.2 (script_ranges_at w world.notes (placed_objects world.script n) P.objects (k - S) b.0 s.0 s.1 b.1);
-              ever = subst (λ (p : TypedObject). slice_get (script_ranges w world.notes (placed_objects world.script (length world.script.call)) P.objects) (k - S) ≡ Some (record { base = b.0; size = object_bytes w world.notes p })) s.2 (script_ranges_at w world.notes _ P.objects (k - S) b.0 s.0 all b.1);
-          });
+        base = b.0;
+        address = script_address k b.0 l b.1;
+        kind = inr (record {
+          later = l;
+          now = subst (λ (p : TypedObject). slice_get (script_ranges w world.notes (placed_objects world.script n) P.objects) (k - S) ≡ Some (record { base = b.0; size = object_bytes w world.notes p })) s.2 (script_ranges_at w world.notes (placed_objects world.script n) P.objects (k - S) b.0 s.0 s.1 b.1);
+          ever = subst (λ (p : TypedObject). slice_get (script_ranges w world.notes (placed_objects world.script (length world.script.call)) P.objects) (k - S) ≡ Some (record { base = b.0; size = object_bytes w world.notes p })) s.2 (script_ranges_at w world.notes _ P.objects (k - S) b.0 s.0 all b.1);
+        });
       }
 
   pub lies : (n k : ℕ) (o : TypedObject) → slice_get (made_objects world.notes world.script n) k ≡ Some o → Lies w world P n k o
@@ -207,26 +206,26 @@ module _ (w : ℕ) (world : World) (P : Placement) (h : IsWidth w) (ok : WorldFi
   pub objects_off : (n k m : ℕ) (o p : TypedObject) (l : Lies w world P n k o) (r : Lies w world P n m p) → k ≢ m → Off l.base (object_bytes w world.notes o) r.base (object_bytes w world.notes p)
   objects_off n k m o p l r ne = ⊎_elim
       (λ s. ⊎_elim
-          (λ t. statics s t)
-          (λ t. let i = static_in k l.base o s in ⊎_elim (λ x. inl (omega (arith, x, i.1))) (λ x. inr (omega (arith, x, i.0))) (off_image n m r.base p t))
-          r.kind)
+      (λ t. statics s t)
+      (λ t. let i = static_in k l.base o s in ⊎_elim (λ x. inl (omega (arith, x, i.1))) (λ x. inr (omega (arith, x, i.0))) (off_image n m r.base p t))
+      r.kind)
       (λ s. ⊎_elim
-          (λ t. let i = static_in m r.base p t in ⊎_elim (λ x. inr (omega (arith, x, i.1))) (λ x. inl (omega (arith, x, i.0))) (off_image n k l.base o s))
-          (λ t. ⊎_elim
-              (λ e. absurd (ne e))
-              (λ d. ⊎_elim
-                  (λ x. AllPairs_at AreDisjoint All_ranges (suc (suc (suc (k - S)))) (suc (suc (suc (m - S)))) _ _ pl.apart s.ever t.ever (omega (arith, x, s.later, t.later)))
-                  (λ x. ⊎_elim inr inl (AllPairs_at AreDisjoint All_ranges (suc (suc (suc (m - S)))) (suc (suc (suc (k - S)))) _ _ pl.apart t.ever s.ever (omega (arith, x, s.later, t.later))))
-                  d)
-              (cases_order k m))
-          r.kind)
+      (λ t. let i = static_in m r.base p t in ⊎_elim (λ x. inr (omega (arith, x, i.1))) (λ x. inl (omega (arith, x, i.0))) (off_image n k l.base o s))
+      (λ t. ⊎_elim
+      (λ e. absurd (ne e))
+      (λ d. ⊎_elim
+      (λ x. AllPairs_at AreDisjoint All_ranges (suc (suc (suc (k - S)))) (suc (suc (suc (m - S)))) _ _ pl.apart s.ever t.ever (omega (arith, x, s.later, t.later)))
+      (λ x. ⊎_elim inr inl (AllPairs_at AreDisjoint All_ranges (suc (suc (suc (m - S)))) (suc (suc (suc (k - S)))) _ _ pl.apart t.ever s.ever (omega (arith, x, s.later, t.later))))
+      d)
+      (cases_order k m))
+      r.kind)
       l.kind
     where
       statics : OfStatic world P k l.base o → OfStatic world P m r.base p → Off l.base (object_bytes w world.notes o) r.base (object_bytes w world.notes p)
       statics s t =
           let d = ok.statics_apart k m s.static t.static s.there t.there ne in
           let d2 : PlacesApart s.static.place (object_bytes 8 world.notes o) t.static.place (object_bytes 8 world.notes p) =
-              subst₂ (λ (x y : TypedObject). PlacesApart s.static.place (object_bytes 8 world.notes x) t.static.place (object_bytes 8 world.notes y)) s.is t.is d in
+          subst₂ (λ (x y : TypedObject). PlacesApart s.static.place (object_bytes 8 world.notes x) t.static.place (object_bytes 8 world.notes y)) s.is t.is d in
           ⊎_elim (λ x. inl (omega (arith, x, extent_le o, s.base_is, t.base_is))) (λ x. inr (omega (arith, x, extent_le p, s.base_is, t.base_is))) d2
 
   -- an object is off a range of the image that statics don't meet
@@ -244,7 +243,7 @@ module _ (w : ℕ) (world : World) (P : Placement) (h : IsWidth w) (ok : WorldFi
   off_code n k j o f l g =
       let c = ok.code_inside j f g in
       off_places n k f.place (f.end - f.place) o l (omega (arith, c.0, c.1))
-          (λ s u e. ⊎_elim (λ x. inr (omega (arith, x, c.0))) (λ x. inl (subst (λ (y : TypedObject). s.place + object_bytes 8 world.notes y ≤ f.place) e x)) (ok.code_statics j k f s g u))
+      (λ s u e. ⊎_elim (λ x. inr (omega (arith, x, c.0))) (λ x. inl (subst (λ (y : TypedObject). s.place + object_bytes 8 world.notes y ≤ f.place) e x)) (ok.code_statics j k f s g u))
 
   -- ---- what objects hold
 
@@ -279,7 +278,7 @@ module _ (w : ℕ) (world : World) (P : Placement) (h : IsWidth w) (ok : WorldFi
   pub object_positive : (n k : ℕ) (o : TypedObject) (l : Lies w world P n k o) → slice_get (made_objects world.notes world.script n) k ≡ Some o → 0 < l.base
   object_positive n k o l g = ⊎_elim
       (λ s. let i = static_in k l.base o s in
-          let b = starts_above _ image_within (omega (arith, i.0, i.1, object_some n k o g)) in omega (arith, i.0, b))
+      let b = starts_above _ image_within (omega (arith, i.0, i.1, object_some n k o g)) in omega (arith, i.0, b))
       (λ s. starts_above _ (All_at (IsWithin w) All_ranges (suc (suc (suc (k - S)))) _ pl.within s.ever) (object_some n k o g))
       l.kind
 

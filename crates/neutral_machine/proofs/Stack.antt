@@ -72,29 +72,29 @@ pub record FieldThere (w end under : ℕ) (at : Offset) (d n c : ℕ) (is : List
   pub offset : at.n * w + at.c + far ≡ n * w + c + (height w is + under) + start_at w z
 
 module _ (w end : ℕ) (h : IsWidth w) (small : end ≤ 2 ^ 64) where
-
   pub field_there : (notes : Notes) (func under : ℕ) (at : Offset) (d n c : ℕ) (params is : List StackItem) (p : CellPlace) → OwnLocals notes func is → located_among at d n c params is ≡ Some (CellAt p) → FieldThere w end under at d n c is p
   field_there notes func under at d n c params [] p own g = absurd (param_no_cell at 0 n (c + 16) params p g)
   field_there notes func under at d n c params (Pushed kind v ∷ is) p own g =
       let r = field_there notes func under at d (n + item_units (Pushed kind v)) (c + item_bytes (Pushed kind v)) params is p own g in
       let e = item_pair w (Pushed kind v) in
       record {
-          f = r.f;
-          is_local = r.is_local;
-          shape = r.shape;
-          among = r.among;
-          z = r.z;
-          get = r.get;
-          far = r.far;
-          within = omega (arith, r.within);
-          room = r.room;
-          address = r.address;
-          offset = r.offset ∙ (let q : (n + item_units (Pushed kind v)) * w + (c + item_bytes (Pushed kind v)) + (height w is + under) + start_at w r.z ≡ n * w + c + (slot_bytes w kind + height w is + under) + start_at w r.z = omega (arith, e) in q);
+        f = r.f;
+        is_local = r.is_local;
+        shape = r.shape;
+        among = r.among;
+        z = r.z;
+        get = r.get;
+        far = r.far;
+        within = omega (arith, r.within);
+        room = r.room;
+        address = r.address;
+        offset = r.offset ∙ (let q : (n + item_units (Pushed kind v)) * w + (c + item_bytes (Pushed kind v)) + (height w is + under) + start_at w r.z ≡ n * w + c + (slot_bytes w kind + height w is + under) + start_at w r.z = omega (arith, e) in q);
       }
   field_there notes func under at d n c params (LocalsOf s ∷ is) p own g = go (local_field at d n c s) refl g
     where
       T : Field → Bool
       T z = nat_eq at.n (n + z.n) && nat_eq at.c (c + z.c)
+
       go : (o : Option Location) → local_field at d n c s ≡ o → option_or o (located_among at d (n + s.n) (c + s.c) params is) ≡ Some (CellAt p) → FieldThere w end under at d n c (LocalsOf s ∷ is) p
       go None e q = absurd (no_cell at d _ _ params is p own.1 q)
       go (Some l) e q =
@@ -107,17 +107,17 @@ module _ (w end : ℕ) (h : IsWidth w) (small : end ≤ 2 ^ 64) where
           let get : slice_get s.fields r.0 ≡ Some m.x = subst (λ j. slice_get s.fields j ≡ Some m.x) same m.get in
           let pe : CellAt (FieldOfLocals d r.0) ≡ CellAt p = r.2 ∙ same_Some _ _ q in
           record {
-              f = r.0;
-              is_local = cell_same p r.0 pe;
-              shape = s;
-              among = refl;
-              z = m.x;
-              get = get;
-              far = size_at w s + (height w is + under);
-              within = omega arith;
-              room = omega arith;
-              address = ap (option_map (λ (y : Field). word (minus end (size_at w s + (height w is + under)) + start_at w y))) get;
-              offset = ap₂ (λ i j. i * w + j + (size_at w s + (height w is + under))) un by ∙ (let k : (n + m.x.n) * w + (c + m.x.c) + (size_at w s + (height w is + under)) ≡ n * w + c + (size_at w s + height w is + under) + start_at w m.x = omega arith in k);
+            f = r.0;
+            is_local = cell_same p r.0 pe;
+            shape = s;
+            among = refl;
+            z = m.x;
+            get = get;
+            far = size_at w s + (height w is + under);
+            within = omega arith;
+            room = omega arith;
+            address = ap (option_map (λ (y : Field). word (minus end (size_at w s + (height w is + under)) + start_at w y))) get;
+            offset = ap₂ (λ i j. i * w + j + (size_at w s + (height w is + under))) un by ∙ (let k : (n + m.x.n) * w + (c + m.x.c) + (size_at w s + (height w is + under)) ≡ n * w + c + (size_at w s + height w is + under) + start_at w m.x = omega arith in k);
           }
         where
           cell_same : (p : CellPlace) (f : ℕ) → CellAt (FieldOfLocals d f) ≡ CellAt p → p ≡ FieldOfLocals d f
@@ -144,13 +144,14 @@ module _ (w end : ℕ) (h : IsWidth w) (small : end ≤ 2 ^ 64) where
           let size : item_size w i ≡ slot_bytes w kind = ap (item_size w) ii in
           let s0 : ItemShows w A b (minus end (item_size w i + (height w is + under))) (Pushed kind v) = subst (ItemShows w A b (minus end (item_size w i + (height w is + under)))) ii sh.0 in
           record {
-              far = item_size w i + (height w is + under);
-              within = omega arith;
-              past = omega (arith, size);
-              shows = s0;
-              offset = ap₂ (λ x y. x * w + y + (item_size w i + (height w is + under))) un by ∙ (let z : n * w + c + (item_size w i + (height w is + under)) ≡ n * w + c + (item_size w i + height w is + under) = omega arith in z);
+            far = item_size w i + (height w is + under);
+            within = omega arith;
+            past = omega (arith, size);
+            shows = s0;
+            offset = ap₂ (λ x y. x * w + y + (item_size w i + (height w is + under))) un by ∙ (let z : n * w + c + (item_size w i + (height w is + under)) ≡ n * w + c + (item_size w i + height w is + under) = omega arith in z);
           }
       here un by (suc k) e q = absurd (omega (arith, e))
+
       later : (k : ℕ) → ((k : ℕ) → parameter_at at (suc j) (n + item_units i) (c + item_bytes i) (take m is) ≡ Some (ParamAt (suc j + k)) → slice_get (take m is) k ≡ Some (Pushed kind v) → SlotThere A b under at (n + item_units i) (c + item_bytes i) is kind v) → parameter_at at (suc j) (n + item_units i) (c + item_bytes i) (take m is) ≡ Some (ParamAt (j + k)) → slice_get (i ∷ take m is) k ≡ Some (Pushed kind v) → SlotThere A b under at n c (i ∷ is) kind v
       later zero next g q = absurd (number_from at (suc j) _ _ (take m is) j (subst (λ y. parameter_at at (suc j) (n + item_units i) (c + item_bytes i) (take m is) ≡ Some (ParamAt y)) (let e : j + 0 ≡ j = omega arith in e) g) (omega arith))
       later (suc k) next g q =
@@ -158,12 +159,13 @@ module _ (w end : ℕ) (h : IsWidth w) (small : end ≤ 2 ^ 64) where
           let r = next k (subst (λ y. parameter_at at (suc j) (n + item_units i) (c + item_bytes i) (take m is) ≡ Some (ParamAt y)) e g) q in
           let p = item_pair w i in
           record {
-              far = r.far;
-              within = omega (arith, r.within);
-              past = r.past;
-              shows = r.shows;
-              offset = r.offset ∙ (let z : (n + item_units i) * w + (c + item_bytes i) + (height w is + under) ≡ n * w + c + (item_size w i + height w is + under) = omega (arith, p) in z);
+            far = r.far;
+            within = omega (arith, r.within);
+            past = r.past;
+            shows = r.shows;
+            offset = r.offset ∙ (let z : (n + item_units i) * w + (c + item_bytes i) + (height w is + under) ≡ n * w + c + (item_size w i + height w is + under) = omega (arith, p) in z);
           }
+
       go : (t : Bool) → (nat_eq at.n n && nat_eq at.c c) ≡ t → ((k : ℕ) → parameter_at at (suc j) (n + item_units i) (c + item_bytes i) (take m is) ≡ Some (ParamAt (suc j + k)) → slice_get (take m is) k ≡ Some (Pushed kind v) → SlotThere A b under at (n + item_units i) (c + item_bytes i) is kind v) → (if t then Some (ParamAt j) else parameter_at at (suc j) (n + item_units i) (c + item_bytes i) (take m is)) ≡ Some (ParamAt (j + k)) → SlotThere A b under at n c (i ∷ is) kind v
       go true t next g = let a = and_parts (nat_eq at.n n) (nat_eq at.c c) t in let e : j ≡ j + k = same_number _ _ (same_Some _ _ g) in here (eqb-true _ _ a.0) (eqb-true _ _ a.1) k (omega (arith, e)) q
       go false t next g = later k next g q

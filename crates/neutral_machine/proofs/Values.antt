@@ -32,14 +32,14 @@ number_shows w A x l = omega (arith, l)
 pub sum_shows : (w : ℕ) (A : Addresses) (v u : Neutral) (x y : ℕ) → Shows w A v x → Shows w A u y → Shows w A (sum_of v u) (word (x + y))
 sum_shows w A (Num n c) (Num m d) x y p q = ap₂ (λ a b. word (a + b)) p q ∙ sym (sum_num w n c m d (2 ^ 64))
 sum_shows w A (At a n c) (Num m d) x y p q = record {
-    from = p.from;
-    there = p.there;
-    is = ap₂ (λ a b. word (a + b)) p.is q ∙ sym (sum_at w p.from n c m d (2 ^ 64));
+  from = p.from;
+  there = p.there;
+  is = ap₂ (λ a b. word (a + b)) p.is q ∙ sym (sum_at w p.from n c m d (2 ^ 64));
 }
 sum_shows w A (Num n c) (At a m d) x y p q = record {
-    from = q.from;
-    there = q.there;
-    is = ap₂ (λ a b. word (a + b)) p q.is ∙ ap word (add_comm _ _) ∙ sym (sum_at w q.from m d n c (2 ^ 64)) ∙ ap₂ (λ a b. word (q.from + (word a * w + word b))) (add_comm m n) (add_comm d c);
+  from = q.from;
+  there = q.there;
+  is = ap₂ (λ a b. word (a + b)) p q.is ∙ ap word (add_comm _ _) ∙ sym (sum_at w q.from m d n c (2 ^ 64)) ∙ ap₂ (λ a b. word (q.from + (word a * w + word b))) (add_comm m n) (add_comm d c);
 }
 sum_shows w A _ _ x y p q = tt
 

@@ -1,5 +1,6 @@
 pub mod Alike
 pub mod Instructions
+pub mod Laws
 pub mod Operands
 pub mod Room
 pub mod Rows
