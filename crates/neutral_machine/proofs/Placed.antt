@@ -97,13 +97,13 @@ module _ (w : ℕ) (world : World) (P : Placement) (h : IsWidth w) (ok : WorldFi
   S = length world.notes.statics
 
   -- the addresses of static objects and of the script's objects
-  static_address : (k : ℕ) (s : Static) → slice_get world.notes.statics k ≡ Some s → object_address world.notes P k ≡ Some (P.image + s.place)
+  pub static_address : (k : ℕ) (s : Static) → slice_get world.notes.statics k ≡ Some s → object_address world.notes P k ≡ Some (P.image + s.place)
   unfolding object_at
   static_address k s g =
       let l = slice_get_within world.notes.statics k s g in
       rw (lt-ltb k (S + length P.objects) (omega (arith, l))) (rw (lt-ltb k S l) (ap (λ z. Some (P.image + option_map_or (λ (s : Static). s.place) z 0)) g))
 
-  script_address : (k b : ℕ) → S ≤ k → slice_get P.objects (k - S) ≡ Some b → object_address world.notes P k ≡ Some b
+  pub script_address : (k b : ℕ) → S ≤ k → slice_get P.objects (k - S) ≡ Some b → object_address world.notes P k ≡ Some b
   unfolding object_at
   script_address k b l g =
       let m = slice_get_within P.objects (k - S) b g in
