@@ -1,0 +1,63 @@
+//! The laws of an instruction: what the machine does at a width is what the neutral machine does at both, wherever that isn't
+//! stuck and the stack has room. docs/SIMULATION.md says them in words.
+#![tactic(auto)]
+
+ghost use Rattle.instruction_laws.specs.Laws.{HostsKept, OneInstruction, OneStep, RoomAfter, RunKept};
+ghost use Rattle.instruction_laws.specs.Premises.{ImageRunStep, ImageStep, InstructionThere, SameExecuted, WorldMeets};
+
+/// The law of one instruction at one width: from a state that stands for a configuration the machine does what the neutral
+/// machine does, unless that is stuck, and then stands for the configuration that it gives (UEFI specification, "EBC
+/// Instruction Set"). Every form of instruction, and no types.
+pub fn one_instruction()
+    ensures { OneInstruction }
+{}
+
+/// The law of one step of the machine at one width, from the bytes at ip.
+pub fn one_step()
+    ensures { OneStep }
+{}
+
+/// The law that the stack has room for what an instruction puts there, where it has room for the frames that the neutral
+/// machine gives.
+pub fn room_after()
+    ensures { RoomAfter }
+{}
+
+/// The law that the frames which the host saved show after an instruction as before it.
+pub fn hosts_kept()
+    ensures { HostsKept }
+{}
+
+/// The law that an instruction leaves the script place, the events and the ending alone.
+pub fn run_kept()
+    ensures { RunKept }
+{}
+
+/// The law that the world of a run is as the laws of an instruction ask it to be, where the image keeps the rules on shapes,
+/// functions, static objects and thunk cells.
+pub fn world_meets()
+    ensures { WorldMeets }
+{}
+
+/// The law that the machine is at the image's instruction, a relocated immediate moved to where the image lies, where that
+/// instruction keeps the rules on decoding and relocations.
+pub fn instruction_there()
+    ensures { InstructionThere }
+{}
+
+/// The law that the neutral machine does the same for the image's instruction and for the one that the machine is at.
+pub fn same_executed()
+    ensures { SameExecuted }
+{}
+
+/// The law of one step of the machine at either width, at an instruction of an image that keeps the rules: it does what the
+/// neutral machine does with the image's instruction, unless that is stuck.
+pub fn image_step()
+    ensures { ImageStep }
+{}
+
+/// The same law in a run: the whole state of the run then stands for the configuration that the neutral machine gives, with
+/// the frames of the host, the script place, the events and the ending as they were.
+pub fn image_run_step()
+    ensures { ImageRunStep }
+{}
