@@ -184,3 +184,15 @@ data_change notes here s i = or_else rule.Function (slice_get notes.function her
 -- the state after an instruction on data, or the first rule that fails
 unfoldable pub after_data : Notes → Here → State → Insn → Gives State
 after_data notes here s i = gives_map (changed s) (data_change notes here s i)
+
+-- ---- a state that is kept
+
+-- the answer to a checker that keeps one state
+abbrev pub done : Gives State → Gives (Unit {0})
+done (Ok t) = Ok tt
+done (Err r) = Err r
+
+-- the state that it keeps: the one after the instruction, or where a rule fails the old one
+abbrev pub kept_state : State → Gives State → State
+kept_state s (Ok t) = t
+kept_state s (Err r) = s

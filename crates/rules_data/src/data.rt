@@ -2,7 +2,7 @@
 
 ghost use Rattle.std.specs.Prelude.{◌≡◌, ◌<◌, ◌^◌, length};
 ghost use Rattle.ebc_insn.specs.Spelling.{WellFormed};
-ghost use Rattle.rules_data.specs.Data.{after_data, data_change, data_row, plain_row};
+ghost use Rattle.rules_data.specs.Data.{after_data, data_change, data_row, done, kept_state, plain_row};
 
 use crate::rows::{
     arith_row, compare_imm_row, compare_row, move_imm_row, move_index_row, move_relative_row,
@@ -28,6 +28,28 @@ pub fn after_data(notes: &Notes, here: &Here, s: &State, i: &Insn) -> Result<Sta
     let mut after = s.copy();
     change.apply(&mut after);
     Ok(after)
+}
+
+/// `after_data` for a checker that keeps one state: the state becomes the one after the instruction, with no copy made.
+///
+/// # Errors
+///
+/// The first rule that fails; the state is then as it was.
+#[tactic(auto, unfolding(crate::specs::Data::after_data))]
+pub fn after_data_in_place(
+    notes: &Notes,
+    here: &Here,
+    s: &mut State,
+    i: &Insn,
+) -> Result<(), RuleName>
+    requires thunks { length notes.now.thunk < 2 ^ 32 }
+    requires well_formed { WellFormed i.now }
+    ensures answer { result ≡ done (after_data notes.now here.now s.old i.now) }
+    ensures state { s.new ≡ kept_state s.old (after_data notes.now here.now s.old i.now) }
+{
+    let change = data_change(notes, here, s, i)?;
+    change.apply(s);
+    Ok(())
 }
 
 /// What an instruction on data changes.

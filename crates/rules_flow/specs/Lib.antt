@@ -5,6 +5,7 @@ pub mod Found
 pub mod Frames
 pub mod Jumps
 pub mod Narrowing
+pub mod Paths
 pub mod Rule
 pub mod Steps
 pub mod Successors

@@ -6,11 +6,13 @@ ghost use Rattle.ebc_insn.specs.Spelling.{IsOperand, RightFits, WellFormed};
 ghost use Rattle.note_types.specs.Records.{Ascends};
 ghost use Rattle.rules_base.specs.Outcomes.{gives_map};
 ghost use Rattle.rules_flow.specs.Flow.{address_rule, after_flow, flow_row, frame_move, plain_row, slot_kind, to_stack};
+ghost use Rattle.rules_flow.specs.Paths.{kept_state, successors_from};
 ghost use Rattle.rules_flow.specs.Steps.{FitsStep, successors_of};
 
 use crate::calls::{break_row, call_native_row, call_row, return_row};
 use crate::frames::{frame_row, pop_row, push_row};
 use crate::jumps::{jump_row, jump8_row};
+use crate::path::Path;
 use crate::step::Step;
 use crate::successors::Successors;
 use ebc_insn::{Insn, Operand, Size};
@@ -32,6 +34,28 @@ pub fn after_flow(notes: &Notes, here: &Here, s: &State, i: &Insn) -> Result<Suc
 {
     let step = flow_step(notes, here, s, i)?;
     Ok(step.successors(s))
+}
+
+/// `after_flow` for a checker that keeps one state: the state becomes the one before the next instruction, where control
+/// may go on there. It is copied for a jump on a condition alone.
+///
+/// # Errors
+///
+/// The first rule that fails; the state is then as it was.
+pub fn after_flow_in_place(
+    notes: &Notes,
+    here: &Here,
+    s: &mut State,
+    i: &Insn,
+) -> Result<Path, RuleName>
+    requires thunks { length notes.now.thunk < 2 ^ 32 }
+    requires ascend { Ascends notes.now }
+    requires well_formed { WellFormed i.now }
+    ensures goes { gives_map (successors_from s.new) result ≡ after_flow notes.now here.now s.old i.now }
+    ensures state { s.new ≡ kept_state s.old (after_flow notes.now here.now s.old i.now) }
+{
+    let step = flow_step(notes, here, s, i)?;
+    Ok(step.make(s))
 }
 
 /// What an instruction of control or of the stack does, told by what changes. A checker that keeps one state makes the

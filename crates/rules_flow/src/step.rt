@@ -68,8 +68,8 @@ fn after(s: &State, update: Update) -> State
     next
 }
 
-// The same state once more, narrowed to where C is set, if `taken`, or clear.
-fn narrowed(s: &State, taken: bool) -> State
+/// The same state once more, narrowed to where C is set, if `taken`, or clear.
+pub fn narrowed(s: &State, taken: bool) -> State
     ensures { result ≡ narrow s.now taken }
 {
     let mut next = s.copy();
