@@ -1,0 +1,10 @@
+pub mod Accesses
+pub mod Operands
+pub mod DataRows
+pub mod StackRows
+pub mod FlowRows
+pub mod Simulation
+pub mod Steps
+pub mod Growth
+pub mod Hosts
+pub mod Kept
