@@ -1,4 +1,5 @@
 pub mod CellTakes
+pub mod Driver
 pub mod DriverRows
 pub mod Lists
 pub mod LocationRows
