@@ -8,3 +8,6 @@ pub mod Steps
 pub mod Growth
 pub mod Hosts
 pub mod Kept
+pub mod Worlds
+pub mod Loaded
+pub mod ImageSteps

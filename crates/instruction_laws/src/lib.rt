@@ -3,6 +3,7 @@
 #![tactic(auto)]
 
 ghost use Rattle.instruction_laws.specs.Laws.{HostsKept, OneInstruction, OneStep, RoomAfter, RunKept};
+ghost use Rattle.instruction_laws.specs.Premises.{ImageStep, InstructionThere, SameExecuted, WorldMeets};
 
 /// The law of one instruction at one width: from a state that stands for a configuration the machine does what the neutral
 /// machine does, unless that is stuck, and then stands for the configuration that it gives (UEFI specification, "EBC
@@ -30,4 +31,27 @@ pub fn hosts_kept()
 /// The law that an instruction leaves the script place, the events and the ending alone.
 pub fn run_kept()
     ensures { RunKept }
+{}
+
+/// The law that the world of a run is as the laws of an instruction ask it to be, where the image keeps the rules on shapes,
+/// functions, static objects and thunk cells.
+pub fn world_meets()
+    ensures { WorldMeets }
+{}
+
+/// The law that the machine is at the image's instruction, a relocated immediate moved to where the image lies, where that
+/// instruction keeps the rules on decoding and relocations.
+pub fn instruction_there()
+    ensures { InstructionThere }
+{}
+
+/// The law that the neutral machine does the same for the image's instruction and for the one that the machine is at.
+pub fn same_executed()
+    ensures { SameExecuted }
+{}
+
+/// The law of one step of the machine at either width, at an instruction of an image that keeps the rules: it does what the
+/// neutral machine does with the image's instruction, unless that is stuck.
+pub fn image_step()
+    ensures { ImageStep }
 {}

@@ -39,7 +39,7 @@ take-all [] = refl
 take-all (x ∷ xs) = ap (λ z. x ∷ z) (take-all xs)
 
 -- what is brought by some time is brought in all
-placed_in_all : (script : Script) (n j : ℕ) (o : ScriptObject) → slice_get (placed_objects script n) j ≡ Some o → slice_get (placed_objects script (length script.call)) j ≡ Some o
+pub placed_in_all : (script : Script) (n j : ℕ) (o : ScriptObject) → slice_get (placed_objects script n) j ≡ Some o → slice_get (placed_objects script (length script.call)) j ≡ Some o
 unfolding placed_objects
 placed_in_all script n j o h = ⊎_elim
     (λ l. slice_get-append_left script.object _ j l ∙ sym (slice_get-append_left script.object _ j l) ∙ h)

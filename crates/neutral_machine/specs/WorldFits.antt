@@ -1,12 +1,10 @@
 -- What is the same for every run of notes that meet the rules on shapes, functions and statics: what the laws of a step need
 -- of the notes and of the script. The rules say it of an image; these parts follow from them.
 use Rattle.std.specs.Prelude.{◌≡◌, ◌≢◌, ◌⊎◌, ℕ, ◌+◌, ◌*◌, ◌%◌, ◌^◌, ◌<◌, ◌≤◌, length, Some, slice_get}
-use Rattle.note_types.specs.Cells.{IsBoundedCell}
 use Rattle.note_types.specs.Shapes.{IsShape, size_at}
 use Rattle.note_types.specs.declared.notes.FnNote.{FnNote}
 use Rattle.note_types.specs.declared.notes.Static.{Static}
 use Rattle.note_types.specs.declared.notes.Thunk.{Thunk}
-use Rattle.note_types.specs.declared.shape.Field.{Field}
 use Rattle.note_types.specs.declared.shape.Shape.{Shape}
 use Rattle.run_types.specs.World.{World}
 use Rattle.run_types.specs.Objects.{shape_of, made_objects}
@@ -21,9 +19,7 @@ PlacesApart p n q m = (p + n ≤ q) ⊎ (q + m ≤ p)
 -- image and apart; objects are small.
 pub record WorldFits (world : World) : Type 0 where
   pub shapes : (s : ℕ) (x : Shape) → slice_get world.notes.shape s ≡ Some x → IsShape x
-  pub counted : (s f : ℕ) (x : Shape) (z : Field) → slice_get world.notes.shape s ≡ Some x → slice_get x.fields f ≡ Some z → IsBoundedCell z.cell
   pub objects : (n k : ℕ) (o : TypedObject) → slice_get (made_objects world.notes world.script n) k ≡ Some o → (o.shape < length world.notes.shape) × (1 ≤ o.count)
-  pub small : (n k : ℕ) (o : TypedObject) → slice_get (made_objects world.notes world.script n) k ≡ Some o → object_bytes 8 world.notes o < 2 ^ 32
   pub statics_inside : (k : ℕ) (s : Static) → slice_get world.notes.statics k ≡ Some s → s.place + s.count * size_at 8 (shape_of world.notes s.shape) ≤ world.image_size
   pub statics_apart : (k j : ℕ) (s t : Static) → slice_get world.notes.statics k ≡ Some s → slice_get world.notes.statics j ≡ Some t → k ≢ j
       → PlacesApart s.place (s.count * size_at 8 (shape_of world.notes s.shape)) t.place (t.count * size_at 8 (shape_of world.notes t.shape))
