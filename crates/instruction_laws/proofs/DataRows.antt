@@ -48,7 +48,7 @@ use Rattle.neutral_machine.proofs.Bounds.{bounded, objects_below}
 use Rattle.neutral_machine.proofs.Combined.{combined_does}
 use Rattle.neutral_machine.proofs.Compared.{compared_same}
 use Rattle.instruction_laws.proofs.Accesses.{Beside, ShowsWord}
-use Rattle.instruction_laws.proofs.Operands.{bind_does, nothing_beside, direct_shows, values, writes_does, registers_written, address_of, goes_does}
+use Rattle.instruction_laws.proofs.Operands.{turned_stands, bind_does, nothing_beside, direct_shows, values, writes_does, registers_written, address_of, goes_does}
 
 pub form_size : (w : ℕ) (wide : Bool) → form_bytes wide ≡ access_bytes w (Form wide)
 form_size w true = refl
@@ -60,6 +60,14 @@ move_size w sizes.Word = refl
 move_size w sizes.Dword = refl
 move_size w sizes.Qword = refl
 move_size w sizes.Natural = refl
+
+-- the thing that is found first passes the test
+position_at : {X : Type 0} (t : X → Bool) (xs : List X) (k : ℕ) → position t xs ≡ Some k → (x : X) × (slice_get xs k ≡ Some x) × (t x ≡ true)
+position_at t [] k e = absurd (none-some k e)
+position_at t (x ∷ xs) k e =
+    let p = position-Some t (x ∷ xs) k x e in
+    let g = slice_get-get_or (x ∷ xs) k x p.0 in
+    (get_or (x ∷ xs) k x, g, p.1)
 
 module _ (w : ℕ) (world : World) (P : Placement) (mapped : ℕ → ℕ) (h : IsWidth w) (ok : WorldFits world) (pl : IsPlacement w world P) where
   abbrev Word : Config → Neutral → ℕ → Type 0
@@ -94,22 +102,7 @@ module _ (w : ℕ) (world : World) (P : Placement) (mapped : ℕ → ℕ) (h : I
 
   flag_stands : (a : Config) (s : Concrete) (c : Bool) → Stand a s → Stand (with_c a c) (with_flags s (machine_data.with_c s.flags c))
   unfolding with_flags
-  flag_stands a s c st = record {
-    eight = st.eight;
-    words = st.words;
-    small = st.small;
-    registers = st.registers;
-    locals = st.locals;
-    top = st.top;
-    frames = st.frames;
-    cells = st.cells;
-    thunks = st.thunks;
-    code = st.code;
-    objects = st.objects;
-    flags = flag_number s.flags a.c c st.flags;
-    gate = st.gate;
-    spot = st.spot;
-  }
+  flag_stands a s c st = turned_stands w world P mapped h ok pl None a s c a.spot (machine_data.with_c s.flags c) s.ip (flag_number s.flags a.c c st.flags) st.spot st
 
   compared_goes : (a : Config) (s : Concrete) (next : ℕ) (op : CmpOp) (wide : Bool) (v u : Neutral) (x y : ℕ) → Stand a s → Word a v x → Word a u y
       → Does (RowsAlike w world P mapped) (outcomes.◌>>=◌ (or_stuck (compared_as world.notes (memory_of world a).objects op wide v u)) (λ c. rows.goes world (with_c a c) next)) (machine_results.goes (with_flags s (machine_data.with_c s.flags (compared op wide x y))) (address_of w world P mapped h ok pl next))
@@ -207,14 +200,6 @@ module _ (w : ℕ) (world : World) (P : Placement) (mapped : ℕ → ℕ) (h : I
       goes_does w world P mapped h ok pl a2 s2 next st2)
 
   -- ---- addresses of places
-
-  -- the thing that is found first passes the test
-  position_at : {X : Type 0} (t : X → Bool) (xs : List X) (k : ℕ) → position t xs ≡ Some k → (x : X) × (slice_get xs k ≡ Some x) × (t x ≡ true)
-  position_at t [] k e = absurd (none-some k e)
-  position_at t (x ∷ xs) k e =
-      let p = position-Some t (x ∷ xs) k x e in
-      let g = slice_get-get_or (x ∷ xs) k x p.0 in
-      (get_or (x ∷ xs) k x, g, p.1)
 
   pub place_shows : (a : Config) (p : ℕ) → Shows w (addresses w world.notes P a.frames) (address_of_place world.notes p) (word (P.image + p))
   unfolding address_of_place

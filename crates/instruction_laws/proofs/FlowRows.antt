@@ -49,7 +49,7 @@ use Rattle.neutral_machine.proofs.Values.{kept_natural_shows, number_shows, plai
 use Rattle.neutral_machine.proofs.Bounds.{bounded, objects_below}
 use Rattle.neutral_machine.proofs.Frames.{framed, call_stands, return_stands, top_below, stored_on_top, later_store}
 use Rattle.instruction_laws.proofs.Accesses.{ShowsWord, ShowsBytes, moved_shows, loads_bytes}
-use Rattle.instruction_laws.proofs.Operands.{bind_does, extra_beside, registers_written, address_of, address_is, at_stands, goes_does}
+use Rattle.instruction_laws.proofs.Operands.{turned_stands, bind_does, extra_beside, registers_written, address_of, address_is, at_stands, goes_does}
 
 module _ (w : ℕ) (world : World) (P : Placement) (mapped : ℕ → ℕ) (h : IsWidth w) (ok : WorldFits world) (pl : IsPlacement w world P) where
   abbrev W : Config → Neutral → ℕ → Type 0
@@ -302,22 +302,7 @@ module _ (w : ℕ) (world : World) (P : Placement) (mapped : ℕ → ℕ) (h : I
 
   gate_stands : (a : Config) (s : Concrete) → St a s → St (record a { spot = Gate }) (at_ip s P.native)
   unfolding at_ip
-  gate_stands a s st = record {
-    eight = st.eight;
-    words = st.words;
-    small = st.small;
-    registers = st.registers;
-    locals = st.locals;
-    top = st.top;
-    frames = st.frames;
-    cells = st.cells;
-    thunks = st.thunks;
-    code = st.code;
-    objects = st.objects;
-    flags = st.flags;
-    gate = st.gate;
-    spot = rw (eq-eqb P.native P.native refl) refl;
-  }
+  gate_stands a s st = turned_stands w world P mapped h ok pl None a s a.c Gate s.flags P.native st.flags (rw (eq-eqb P.native P.native refl) refl) st
 
   gate_goes : (a : Config) (s : Concrete) → St a s → Does (RowsAlike w world P mapped) (Gives (Next, record a { spot = Gate })) (steps.◌>>=◌ (machine_flow.aligned P.native) (λ to. machine_results.goes s to))
   unfolding machine_results.goes

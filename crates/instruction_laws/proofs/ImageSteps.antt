@@ -22,10 +22,15 @@ use Rattle.run_types.specs.World.{World}
 use Rattle.neutral_machine.specs.Alike.{StepAlike}
 use Rattle.neutral_machine.specs.Operands.{indexed, written}
 use Rattle.neutral_machine.specs.Room.{growth, HasRoom}
-use Rattle.neutral_machine.specs.Rows.{Site, executed, goes, immediate, jump_row, call_row, target_at, move_imm_row}
-use Rattle.instruction_laws.specs.Premises.{IsInsnOf, SameExecuted, ImageStep, with_immediate, loaded_insn}
+use Rattle.neutral_machine.specs.Rows.{Site, NeutralRow, executed, goes, immediate, jump_row, call_row, target_at, move_imm_row}
+use Rattle.instruction_laws.specs.Premises.{IsInsnOf, SameExecuted, ImageStep, ImageRunStep, RunAlike, with_immediate, loaded_insn}
 use Rattle.instruction_laws.proofs.Loaded.{of_any, two_bytes, instruction_there}
+use Rattle.instruction_laws.proofs.Hosts.{hosts_kept}
+use Rattle.instruction_laws.proofs.Kept.{run_kept}
 use Rattle.instruction_laws.proofs.Steps.{one_step}
+use Rattle.ebc_machine.specs.declared.StepEnd.{StepEnd}
+use Rattle.note_types.specs.Concrete.{Concrete}
+use Rattle.run_types.specs.Outcomes.{Gives, Raises, Stuck}
 use Rattle.instruction_laws.proofs.Worlds.{world_meets}
 
 -- where an immediate is an address, the neutral machine doesn't look at its number
@@ -77,3 +82,24 @@ image_step w image world P a s here i h pl run st spot at room =
     (one_step w world P (mapped image P.image) a s here (loaded_insn P here.reloc i) h pl (world_meets image world run) st
     (instruction_there w image world P None a s here i run st spot at)
     (room_same w world P a here.reloc i room))
+
+-- ---- in a run
+
+pub image_run_step : ImageRunStep
+image_run_step w image world P a r here i h pl run st spot at room =
+    by_row (executed world a here i) (machine_step w r.machine) refl (image_step w image world P a r.machine here i h pl run st.machine spot at room)
+  where
+    by_row : (o : NeutralRow) (t : StepEnd × Concrete) → executed world a here i ≡ o → StepAlike w world P (mapped image P.image) r.machine o t → RunAlike w world P (mapped image P.image) r o t
+    by_row Stuck t g d = tt
+    by_row (Raises e) t g d = d
+    by_row (Gives (e, b)) (f, t) g d =
+        let kept = run_kept world a here i e b g in (
+          d.0,
+          record {
+            machine = d.1;
+            hosts = hosts_kept w world P (mapped image P.image) a r.machine r.hosts here i e b h pl (world_meets image world run) st.machine st.hosts g;
+            script = st.script ∙ sym kept.script;
+            trace = st.trace ∙ sym kept.trace;
+            ending = st.ending ∙ sym kept.ending;
+          },
+        )

@@ -24,6 +24,8 @@ use Rattle.run_types.specs.Values.{Neutral, Shows, FieldOf, FieldOfLocals, word,
 use Rattle.ebc_width.specs.Ranges.{covers}
 use Rattle.ebc_width.proofs.RangeLaws.{covers-inside}
 use Rattle.run_types.specs.Placements.{image_range}
+use Rattle.note_types.specs.declared.spot.Spot.{Spot}
+use Rattle.neutral_machine.specs.Rows.{flags_of}
 use Rattle.run_types.specs.Config.{FunctionFrame, Frame, Function, Host, Config, depth, with_value}
 use Rattle.run_types.specs.World.{World}
 use Rattle.run_types.specs.Placements.{Placement, IsPlacement, stack_bytes, stack_end, return_cell}
@@ -189,10 +191,9 @@ module _ (w : ℕ) (world : World) (P : Placement) (mapped : ℕ → ℕ) (h : I
       let i : covers (P.image + p) 1 (image_range world P) ≡ true = covers-inside (image_range world P) (P.image + p) 1 (omega arith) (omega (arith, l)) in
       rw n (rw i (ap Place (let e : P.image + p - P.image ≡ p = omega arith in e)))
 
-  -- the machine at a place of the image
-  pub at_stands : (but : Option ℕ) (a : Config) (s : Concrete) (p : ℕ) → p < world.image_size → MachineStands w world P mapped but a s → MachineStands w world P mapped but (record a { spot = Place p }) (at_ip s (P.image + p))
-  unfolding at_ip
-  at_stands but a s p l st = record {
+  -- the machine with other flags, and control elsewhere
+  pub turned_stands : (but : Option ℕ) (a : Config) (s : Concrete) (c : Bool) (p : Spot) (flags ip : ℕ) → flags ≡ flags_of c → spot_at world P ip ≡ p → MachineStands w world P mapped but a s → MachineStands w world P mapped but (record a { c = c; spot = p }) (record s { flags = flags; ip = ip })
+  turned_stands but a s c p flags ip f e st = record {
     eight = st.eight;
     words = st.words;
     small = st.small;
@@ -204,10 +205,15 @@ module _ (w : ℕ) (world : World) (P : Placement) (mapped : ℕ → ℕ) (h : I
     thunks = st.thunks;
     code = st.code;
     objects = st.objects;
-    flags = st.flags;
+    flags = f;
     gate = st.gate;
-    spot = place_spot p l;
+    spot = e;
   }
+
+  -- the machine at a place of the image
+  pub at_stands : (but : Option ℕ) (a : Config) (s : Concrete) (p : ℕ) → p < world.image_size → MachineStands w world P mapped but a s → MachineStands w world P mapped but (record a { spot = Place p }) (at_ip s (P.image + p))
+  unfolding at_ip
+  at_stands but a s p l st = turned_stands but a s a.c (Place p) s.flags (P.image + p) st.flags (place_spot p l) st
 
   -- the machine's address of a place
   abbrev pub address_of : ℕ → ℕ

@@ -1,7 +1,7 @@
 -- What the laws of an instruction ask, met by an image that keeps the rules on shapes, functions, static objects and thunk
 -- cells, and at each instruction those on decoding and relocations. docs/RULES.md, "The image"; docs/SIMULATION.md, "What the
 -- laws ask".
-use Rattle.std.specs.Prelude.{◌≡◌, ℕ, ◌+◌, ◌<◌, ◌≤◌, length, Option, Some, None, slice_get, ℤ}
+use Rattle.std.specs.Prelude.{◌≡◌, ℕ, ◌+◌, ◌<◌, ◌≤◌, length, Option, Some, None, slice_get, ℤ, ⊤}
 use Rattle.std.specs.Option.{option_map_or}
 use Rattle.ebc_width.specs.Width.{IsWidth}
 use Rattle.ebc_decode.specs.Reading.{signed_at}
@@ -10,6 +10,8 @@ use Rattle.ebc_insn.specs.declared.Extra.TheVariants as extras
 use Rattle.ebc_insn.specs.declared.Insn.{Insn}
 use Rattle.ebc_insn.specs.declared.Insn.TheVariants as insns
 use Rattle.ebc_machine.specs.Step.{machine_step}
+use Rattle.ebc_machine.specs.declared.StepEnd.{StepEnd}
+use Rattle.ebc_machine.specs.declared.StepEnd.TheVariants as ends
 use Rattle.note_types.specs.Concrete.{Concrete}
 use Rattle.note_types.specs.Records.{Each, IsNotes}
 use Rattle.note_types.specs.declared.notes.FnNote.{FnNote}
@@ -21,15 +23,17 @@ use Rattle.pe_image.specs.Mapped.{mapped}
 use Rattle.pe_image.specs.declared.image.Image.{Image}
 use Rattle.run_types.specs.Config.{Config}
 use Rattle.run_types.specs.Objects.{placed_objects}
+use Rattle.run_types.specs.Outcomes.{Gives, Raises, Stuck}
 use Rattle.run_types.specs.Placements.{Placement, IsPlacement}
+use Rattle.run_types.specs.RunState.{RunState}
 use Rattle.run_types.specs.Values.{word}
 use Rattle.run_types.specs.World.{World}
 use Rattle.rules_data.specs.Images.{ShapeHolds, FunctionHolds, StaticHolds, ThunkHolds, IsDecoded, RelocationHolds}
-use Rattle.neutral_machine.specs.Alike.{StepAlike}
+use Rattle.neutral_machine.specs.Alike.{EndsAlike, StepAlike}
 use Rattle.neutral_machine.specs.Instructions.{IsAt}
 use Rattle.neutral_machine.specs.Room.{HasRoom}
-use Rattle.neutral_machine.specs.Rows.{Site, executed}
-use Rattle.neutral_machine.specs.Stands.{MachineStands}
+use Rattle.neutral_machine.specs.Rows.{Site, NeutralRow, executed}
+use Rattle.neutral_machine.specs.Stands.{MachineStands, Stands}
 use Rattle.neutral_machine.specs.WorldFits.{WorldFits}
 
 -- ---- the world of a run
@@ -102,3 +106,18 @@ ImageStep =
     → IsWidth w → IsPlacement w world P → IsRunOf image world → MachineStands w world P (mapped image P.image) None a s → a.spot ≡ Place here.place
     → IsInsnOf image world here i → HasRoom w world a i
     → StepAlike w world P (mapped image P.image) s (executed world a here i) (machine_step w s)
+
+-- what a step of the machine in a run is beside what the neutral machine gives: the run's state stands for the configuration
+-- that it gives, its script place, events and ending as they were; a step that raises leaves the machine
+abbrev pub RunAlike : ℕ → World → Placement → (ℕ → ℕ) → RunState → NeutralRow → StepEnd × Concrete → Type 0
+RunAlike w world P mapped r Stuck t = ⊤
+RunAlike w world P mapped r (Raises e) t = t ≡ (ends.Raised e, r.machine)
+RunAlike w world P mapped r (Gives (e, b)) (f, t) = EndsAlike w world P b e f × Stands w world P mapped b (record r { machine = t })
+
+-- One step of the machine in a run at either width, at an instruction of the image.
+abbrev pub ImageRunStep : Type 0
+ImageRunStep =
+    (w : ℕ) (image : Image) (world : World) (P : Placement) (a : Config) (r : RunState) (here : Site) (i : Insn)
+    → IsWidth w → IsPlacement w world P → IsRunOf image world → Stands w world P (mapped image P.image) a r → a.spot ≡ Place here.place
+    → IsInsnOf image world here i → HasRoom w world a i
+    → RunAlike w world P (mapped image P.image) r (executed world a here i) (machine_step w r.machine)

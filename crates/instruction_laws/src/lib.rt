@@ -3,7 +3,7 @@
 #![tactic(auto)]
 
 ghost use Rattle.instruction_laws.specs.Laws.{HostsKept, OneInstruction, OneStep, RoomAfter, RunKept};
-ghost use Rattle.instruction_laws.specs.Premises.{ImageStep, InstructionThere, SameExecuted, WorldMeets};
+ghost use Rattle.instruction_laws.specs.Premises.{ImageRunStep, ImageStep, InstructionThere, SameExecuted, WorldMeets};
 
 /// The law of one instruction at one width: from a state that stands for a configuration the machine does what the neutral
 /// machine does, unless that is stuck, and then stands for the configuration that it gives (UEFI specification, "EBC
@@ -54,4 +54,10 @@ pub fn same_executed()
 /// neutral machine does with the image's instruction, unless that is stuck.
 pub fn image_step()
     ensures { ImageStep }
+{}
+
+/// The same law in a run: the whole state of the run then stands for the configuration that the neutral machine gives, with
+/// the frames of the host, the script place, the events and the ending as they were.
+pub fn image_run_step()
+    ensures { ImageRunStep }
 {}

@@ -16,3 +16,5 @@ pub mod Alu
 pub mod Combined
 pub mod Compared
 pub mod Thunks
+pub mod RowWorld
+pub mod InsnRows

@@ -1,6 +1,6 @@
 -- What is the same for every run of notes that meet the rules on shapes, functions and statics: what the laws of a step need
 -- of the notes and of the script. The rules say it of an image; these parts follow from them.
-use Rattle.std.specs.Prelude.{◌≡◌, ◌≢◌, ◌⊎◌, ℕ, ◌+◌, ◌*◌, ◌%◌, ◌^◌, ◌<◌, ◌≤◌, length, Some, slice_get}
+use Rattle.std.specs.Prelude.{◌≡◌, ◌≢◌, ◌⊎◌, ℕ, ◌+◌, ◌*◌, ◌%◌, ◌<◌, ◌≤◌, length, Some, slice_get}
 use Rattle.note_types.specs.Shapes.{IsShape, size_at}
 use Rattle.note_types.specs.declared.notes.FnNote.{FnNote}
 use Rattle.note_types.specs.declared.notes.Static.{Static}
@@ -9,14 +9,13 @@ use Rattle.note_types.specs.declared.shape.Shape.{Shape}
 use Rattle.run_types.specs.World.{World}
 use Rattle.run_types.specs.Objects.{shape_of, made_objects}
 use Rattle.run_types.specs.declared.object.TypedObject.{TypedObject}
-use Rattle.run_types.specs.Placements.{object_bytes}
 
 -- two ranges of places share no byte
 abbrev pub PlacesApart : ℕ → ℕ → ℕ → ℕ → Type 0
 PlacesApart p n q m = (p + n ≤ q) ⊎ (q + m ≤ p)
 
 -- Notes and script fit: shapes are well formed and typed objects have one each; statics, thunk cells and functions lie in the
--- image and apart; objects are small.
+-- image and apart.
 pub record WorldFits (world : World) : Type 0 where
   pub shapes : (s : ℕ) (x : Shape) → slice_get world.notes.shape s ≡ Some x → IsShape x
   pub objects : (n k : ℕ) (o : TypedObject) → slice_get (made_objects world.notes world.script n) k ≡ Some o → (o.shape < length world.notes.shape) × (1 ≤ o.count)
