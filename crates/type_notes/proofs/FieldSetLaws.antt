@@ -1,12 +1,11 @@
 -- The bits of a set of fields that names name.
-use Rattle.std.proofs.Common.{◌≡◌, ℕ, ◌≤◌, ◌<◌, ◌^◌, List, [], ◌∷◌, ◌⊎◌, inl, inr, Option, Some, None, max, refl, ap, sym, ◌∙◌, ⊎_elim, arith}
-use Rattle.std.specs.Prelude.{◌↔◌, bytes_eq, nat_lt}
+use Rattle.std.proofs.Common.{◌≡◌, ℕ, ◌<◌, ◌^◌, List, [], ◌∷◌, ◌⊎◌, inl, inr, Option, Some, None, max, refl, ap, sym, ◌∙◌, ⊎_elim, arith}
+use Rattle.std.specs.Prelude.{bytes_eq}
 use Rattle.std.specs.Int.{bit_at}
 use Rattle.std.specs.Int.Bits.{bit_or}
 use Rattle.std.specs.List.{fold, position}
 use Rattle.std.proofs.lemmas.Bool.{cases_lt, le-ltb, lt-ltb}
 use Rattle.std.proofs.lemmas.Nat.Bits.{bit_at-lt, bit_at_or, bit_at-pow_other, bit_at-pow_same, bit_at-zero}
-use Rattle.std.proofs.lemmas.Option.{same_Some}
 use Rattle.note_types.specs.FieldSets.{HasField}
 use Rattle.note_texts.specs.declared.cell.FieldText.{FieldText}
 use Rattle.type_notes.specs.Locals.{IsFieldSet, SomeNames, below_64, field_bit, field_number, field_set}

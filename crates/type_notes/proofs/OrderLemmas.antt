@@ -17,12 +17,12 @@ use Rattle.note_draft.specs.Findings.{at, path_of, refused, ◌otherwise◌}
 use Rattle.type_notes.specs.Owners.{FindsOwners}
 use Rattle.note_draft.specs.Repeats.{first_descent}
 
-nothing-at : (list : TableList) (key : Key) (item : Option ℕ) → at list key item ≡ None → item ≡ None
+pub nothing-at : (list : TableList) (key : Key) (item : Option ℕ) → at list key item ≡ None → item ≡ None
 unfolding at
 nothing-at list key None nothing = refl
 nothing-at list key (Some i) nothing = cc
 
-neither : (a b : Option Finding) → (a otherwise b) ≡ None → (a ≡ None) × (b ≡ None)
+pub neither : (a b : Option Finding) → (a otherwise b) ≡ None → (a ≡ None) × (b ≡ None)
 neither None b nothing = (refl, nothing)
 neither (Some f) b nothing = cc
 

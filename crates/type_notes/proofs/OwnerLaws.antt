@@ -5,7 +5,7 @@ use Rattle.std.proofs.lemmas.Bool.{cases_lt, leb-false, le-leb, lt-leb, le-ltb, 
 use Rattle.std.proofs.lemmas.List.{get_or-map, get_or-take, length-map, length-take-le, map-append, take_all, map_more}
 use Rattle.std.proofs.lemmas.Option.{none-some, same_Some, slice_get-get_or, get_or_from_slice_get, slice_get_within}
 use Rattle.std.specs.Prelude.{Option, None, Some, is_none, nat_le, nat_lt, ◌&&◌, slice_get}
-use Rattle.std.specs.List.{find, position, range_with_len}
+use Rattle.std.specs.List.{find, range_with_len}
 use Rattle.note_draft.specs.declared.draft.FunctionDraft.{FunctionDraft}
 use Rattle.note_draft.specs.declared.draft.PointDraft.{PointDraft}
 use Rattle.type_notes.specs.Owners.{has_place, owner_of, first_stray, EndBy}
@@ -24,7 +24,7 @@ none-rest true a rest e = absurd (none-some a (sym e))
 none-rest false a rest e = e
 
 -- where a search over numbers finds none, none passes
-fails-from_none : (p : ℕ → Bool) (n a : ℕ) → find p (range_with_len a n) ≡ None → (k : ℕ) → a ≤ k → k < a + n → p k ≡ false
+pub fails-from_none : (p : ℕ → Bool) (n a : ℕ) → find p (range_with_len a n) ≡ None → (k : ℕ) → a ≤ k → k < a + n → p k ≡ false
 fails-from_none p zero a e k low high = absurd (omega arith)
 fails-from_none p (suc n) a e k low high =
     ⊎_elim

@@ -1,5 +1,5 @@
 -- What points may name, one point after the other.
-use Rattle.std.proofs.Common.{◌≡◌, Bool, false, ℕ, zero, suc, ◌+◌, ◌≤◌, ◌<◌, List, [], ◌∷◌, length, map, get_or, take, ◌++◌, Option, Some, None, refl, sym, subst, ap, ◌∙◌, arith}
+use Rattle.std.proofs.Common.{◌≡◌, Bool, false, ℕ, zero, suc, ◌+◌, ◌≤◌, ◌<◌, List, [], ◌∷◌, length, map, get_or, take, ◌++◌, Some, None, refl, sym, subst, ap, arith}
 use Rattle.std.proofs.lemmas.List.{length-map, map-append, take_more}
 use Rattle.note_texts.specs.declared.cell.FieldText.{FieldText}
 use Rattle.note_draft.specs.declared.draft.FunctionDraft.{FunctionDraft}

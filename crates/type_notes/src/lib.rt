@@ -4,7 +4,9 @@
 //! The definitions that the contracts cite stand in specs/, one subject a file.
 #![tactic(auto)]
 
+ghost use Rattle.std.specs.Prelude.{IfOk};
 ghost use Rattle.note_texts.specs.Outcome.{Gives};
+ghost use Rattle.note_types.specs.Records.{IsNotes};
 ghost use Rattle.type_notes.specs.Notes.{notes_of};
 
 mod checks;
@@ -31,6 +33,7 @@ use std::alloc::Global;
 #[tactic(auto, unfolding(crate::specs::Notes::notes_of))]
 pub fn read_notes(alloc: Global, text: &[u8]) -> Result<Notes, NotesEnd>
     ensures notes { Gives result (notes_of text.now) }
+    ensures conditions { IfOk result IsNotes }
 {
     let table = document(alloc, text)?;
     let draft = read_draft(alloc, &table)?;
