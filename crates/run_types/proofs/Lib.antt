@@ -1,6 +1,13 @@
+pub mod CellTakes
+pub mod Driver
 pub mod DriverRows
+pub mod Lists
 pub mod LocationRows
+pub mod NamedThings
 pub mod Numbers
+pub mod Placed
+pub mod Ranges
 pub mod ReadingAlike
+pub mod Turns
 pub mod WrittenFits
 pub mod WrittenShows

@@ -1,3 +1,4 @@
+pub mod CellLaw
 pub mod Config
 pub mod Fits
 pub mod FitsState
@@ -15,11 +16,13 @@ pub mod Operations
 pub mod Outcomes
 pub mod Placements
 pub mod Progress
+pub mod RangeLaw
 pub mod ReadingLaw
 pub mod Readings
 pub mod RunState
 pub mod ScriptValues
 pub mod Start
+pub mod TurnLaw
 pub mod Values
 pub mod World
 pub mod Written

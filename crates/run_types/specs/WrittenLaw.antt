@@ -1,15 +1,19 @@
 -- What a reader gives as a value: each number within what it may be. And the laws of written values: one that fits a type has
 -- a neutral value that fits it, and its number at each width shows that value. docs/HOST.md, "Values".
 use Rattle.std.specs.Prelude.{◌≡◌, ℕ, ◌^◌, ◌<◌, List, length, true, ⊤}
+use Rattle.ebc_width.specs.Width.{IsWidth}
 use Rattle.run_types.specs.HostSteps.{written_number}
-use Rattle.run_types.specs.Objects.{TypedObject}
-use Rattle.run_types.specs.Placements.{Placement, handle_count}
+use Rattle.run_types.specs.Config.{Frame}
+use Rattle.run_types.specs.Layout.{addresses}
+use Rattle.run_types.specs.Objects.{TypedObject, made_objects}
+use Rattle.run_types.specs.Placements.{Placement, IsPlacement, handle_count}
+use Rattle.run_types.specs.World.{World}
 use Rattle.note_types.specs.declared.notes.Notes.{Notes}
 use Rattle.note_types.specs.declared.types.Ty.{Ty}
 use Rattle.note_types.specs.declared.value.Value.{Value}
 use Rattle.note_types.specs.declared.value.Value.TheVariants as value
 use Rattle.run_types.specs.Fits.{FitsPlain}
-use Rattle.run_types.specs.Named.{Named}
+use Rattle.run_types.specs.Named.{HasObjects}
 use Rattle.run_types.specs.ScriptValues.{fits}
 use Rattle.run_types.specs.Values.{Addresses, Shows, IsCode}
 use Rattle.run_types.specs.Written.{value_as}
@@ -37,6 +41,8 @@ WrittenFits = (notes : Notes) (made : List TypedObject) (t : Ty) (v : Value) →
 abbrev pub WrittenShows : ℕ → Notes → Placement → List TypedObject → Addresses → Type 0
 WrittenShows w notes P made A = (t : Ty) (v : Value) → IsValue notes v → Shows w A (value_as notes made t v) (written_number w notes P made v)
 
--- So it does wherever things are named.
+-- So it does under a valid placement, after each number of calls and whatever frames stand.
 abbrev pub WrittenNumberShows : Type 0
-WrittenNumberShows = (w : ℕ) (notes : Notes) (P : Placement) (made : List TypedObject) (A : Addresses) → Named w notes P made A → WrittenShows w notes P made A
+WrittenNumberShows =
+    (w : ℕ) (world : World) (P : Placement) → IsWidth w → HasObjects world → IsPlacement w world P → (entries : ℕ) (fs : List Frame)
+    → WrittenShows w world.notes P (made_objects world.notes world.script entries) (addresses w world.notes P fs)

@@ -1,6 +1,16 @@
-//! Laws of what scripts write and of what the host reads, which hold at both widths.
+//! Laws of what scripts write, of what the host reads, sees and places, and of what cells take.
+ghost use Rattle.run_types.specs.CellLaw.{CellsTakeWhatFits};
+ghost use Rattle.run_types.specs.Named.{ThingsAreNamed};
+ghost use Rattle.run_types.specs.RangeLaw.{RangesLieAsMemory, StackIsWithinLimit};
 ghost use Rattle.run_types.specs.ReadingLaw.{ReadingsAlike};
+ghost use Rattle.run_types.specs.TurnLaw.{SeenIsTurn, TurnIsSeen};
 ghost use Rattle.run_types.specs.WrittenLaw.{WrittenFits, WrittenNumberShows};
+
+/// Under a valid placement things have addresses of their own, and typed objects lie apart within the width, where they are
+/// as the rules on an image and the reader of scripts have them.
+pub fn things_are_named()
+    ensures { ThingsAreNamed }
+{}
 
 /// A written value that fits a type has a neutral value that fits it.
 pub fn written_value_fits()
@@ -15,4 +25,26 @@ pub fn written_number_shows()
 /// A number that shows a neutral value is read, at either width, as the value is.
 pub fn readings_are_alike()
     ensures { ReadingsAlike }
+{}
+
+/// All that the host places under a valid placement lies as the objects of a machine's memory do: above address 0, within the
+/// width, and apart.
+pub fn ranges_lie_as_memory()
+    ensures { RangesLieAsMemory }
+{}
+
+/// The stack of notes that a reader gives is within the limit, at either width.
+pub fn stack_is_within_limit()
+    ensures { StackIsWithinLimit }
+{}
+
+/// A cell takes exactly the values that fit its content type.
+pub fn cells_take_what_fits()
+    ensures { CellsTakeWhatFits }
+{}
+
+/// The host sees something exactly where the step is its own, and the neutral machine, which may be stuck, only there.
+pub fn turn_is_seen()
+    ensures at_width { TurnIsSeen }
+    ensures neutral { SeenIsTurn }
 {}

@@ -1,0 +1,82 @@
+-- The law of the host's steps at a width, whole: where the neutral machine's host step isn't stuck, a run that stands for the
+-- configuration stands for what the step leaves. Typing enters by two facts alone: the stack has room, and the cells that a native
+-- call was lent are there.
+use Rattle.std.proofs.Common.{◌≡◌, ℕ, ◌≤◌, Bool, true, false, List, [], ◌∷◌, length, Some, None, refl, sym, ap, ◌∙◌, subst}
+use Rattle.std.specs.List.{AllZip}
+use Rattle.std.proofs.lemmas.Option.{same_Some, none-some}
+use Rattle.note_types.specs.declared.spot.Spot.TheVariants as spot
+use Rattle.ebc_width.specs.Width.{IsWidth}
+use Rattle.run_types.specs.HostPlans.{View, Returns, Calls, GoesOn, Asks, host_plan}
+use Rattle.run_types.specs.HostSteps.{host_step, slots_asked as numbers_asked, call_under_way as marks_under_way}
+use Rattle.run_types.specs.Placements.{Placement, stack_bytes, IsPlacement}
+use Rattle.run_types.specs.Progress.{NativeCall, NoCall, Asked, Accepted, is_empty}
+use Rattle.run_types.specs.RunState.{RunState}
+use Rattle.note_types.specs.declared.seen.Seen.{Seen}
+use Rattle.note_types.specs.declared.spot.Spot.{Spot}
+use Rattle.run_types.specs.Config.{Frame, Function, Host, Config, hosts, call_under_way}
+use Rattle.run_types.specs.NeutralHost.{host_view, return_seen, call_seen, asking_at, result_of, writes_there, slots_asked, neutral_host_step}
+use Rattle.run_types.specs.Layout.{addresses, total}
+use Rattle.host_laws.specs.ScriptGiven.{ScriptGiven}
+use Rattle.neutral_machine.specs.Stands.{CallShows, Stands}
+use Rattle.run_types.specs.Values.{Neutral, Shows}
+use Rattle.run_types.specs.World.{World}
+use Rattle.neutral_machine.specs.WorldFits.{WorldFits}
+use Rattle.host_laws.proofs.ViewAlike.{map_some}
+use Rattle.host_laws.proofs.Plans.{call_fits, next_fits, slots_shown}
+use Rattle.host_laws.proofs.Replies.{marks_show}
+use Rattle.host_laws.proofs.Steps.{host_step_stands}
+use Rattle.host_laws.specs.PlanFits.{PlanFits}
+use Rattle.host_laws.specs.CallGoesWell.{CallGoesWell}
+
+module _ (w : ℕ) (world : World) (P : Placement) (mapped : ℕ → ℕ) (h : IsWidth w) (ok : WorldFits world) (pl : IsPlacement w world P) where
+  returns_fit : (a : Config) (r : RunState) (fs : List Frame) (v : View) → a.frames ≡ fs → return_seen world a fs ≡ Some v → PlanFits w world P a r (host_plan world a.script v)
+  unfolding host_plan
+  returns_fit a r [] v at e = absurd (none-some v e)
+  returns_fit a r (Function f ∷ fs) v at e = absurd (none-some v e)
+  returns_fit a r (Host k ∷ fs) v at e =
+      let q = map_some (Returns (is_empty (hosts fs)) k.func) (result_of world a k.func) v e in
+      subst (λ (u : View). PlanFits w world P a r (host_plan world a.script u)) q.2 (by (is_empty (hosts fs)))
+    where
+      by : (b : Bool) → PlanFits w world P a r (host_plan world a.script (Returns b k.func (map_some (Returns (is_empty (hosts fs)) k.func) (result_of world a k.func) v e).0))
+      by true = record { frame = k; rest = fs; is = at }
+      by false = record { frame = k; rest = fs; is = at }
+
+  calls_fit : (a : Config) (r : RunState) → total w a.frames ≤ stack_bytes w world.notes → Stands w world P mapped a r → ScriptGiven world.notes world.script → (c : NativeCall Neutral) → call_under_way a.frames ≡ c → CallGoesWell w world a c
+      → (v : View) → call_seen world a c ≡ Some v → PlanFits w world P a r (host_plan world a.script v)
+  unfolding host_plan
+  calls_fit a r room st given NoCall at well v e = absurd (none-some v e)
+  calls_fit a r room st given (Accepted entry callbacks slots) at well v e =
+      subst (λ (u : View). PlanFits w world P a r (host_plan world a.script u)) (same_Some (GoesOn entry callbacks (length (hosts a.frames)) (writes_there world a entry)) v e)
+      (next_fits w world P mapped h ok pl a r entry callbacks (writes_there world a entry) given well)
+  calls_fit a r room st given (Asked place t) at well v e =
+      let q = map_some (Calls place) (asking_at world a place t) v e in
+      subst (λ (u : View). PlanFits w world P a r (host_plan world a.script u)) q.2
+      (call_fits w world P mapped h ok pl a r place q.0 given (λ g args is. shown (marks_under_way r.hosts) refl g args (q.1 ∙ ap Some is)))
+    where
+      shown : (d : NativeCall ℕ) → marks_under_way r.hosts ≡ d → (g : ℕ) (args : List Seen) → asking_at world a place t ≡ Some (Asks g None args)
+          → AllZip (Shows w (addresses w world.notes P a.frames)) (slots_asked world a (call_under_way a.frames)) (numbers_asked w world r (marks_under_way r.hosts))
+      shown d eq g args asked =
+          subst (λ (c : NativeCall Neutral). AllZip (Shows w (addresses w world.notes P a.frames)) (slots_asked world a c) (numbers_asked w world r (marks_under_way r.hosts))) (sym at)
+          (subst (λ (y : NativeCall ℕ). AllZip (Shows w (addresses w world.notes P a.frames)) (slots_asked world a (Asked place t)) (numbers_asked w world r y)) (sym eq)
+          (by d (subst (λ (y : NativeCall ℕ). CallShows w (addresses w world.notes P a.frames) (Asked place t) y) eq
+          (subst (λ (c : NativeCall Neutral). CallShows w (addresses w world.notes P a.frames) c (marks_under_way r.hosts)) at (marks_show w world P mapped h ok pl (addresses w world.notes P a.frames) a.frames r.hosts st.hosts)))))
+        where
+          by : (d : NativeCall ℕ) → CallShows w (addresses w world.notes P a.frames) (Asked place t) d
+              → AllZip (Shows w (addresses w world.notes P a.frames)) (slots_asked world a (Asked place t)) (numbers_asked w world r d)
+          by NoCall s = absurd s
+          by (Accepted f m xs) s = absurd s
+          by (Asked place' x) s = slots_shown w world P mapped h ok pl a r room st place place' x t g args s.0 asked
+
+  -- what the host plans can be carried out alike
+  plans_fit : (a : Config) (r : RunState) → total w a.frames ≤ stack_bytes w world.notes → Stands w world P mapped a r → ScriptGiven world.notes world.script → CallGoesWell w world a (call_under_way a.frames)
+      → (s : Spot) (v : View) → host_view world a s ≡ Some v → PlanFits w world P a r (host_plan world a.script v)
+  unfolding host_view
+  plans_fit a r room st given well spot.Gate v e = returns_fit a r a.frames v refl e
+  plans_fit a r room st given well (spot.Place p) v e = calls_fit a r room st given (call_under_way a.frames) refl well v e
+  plans_fit a r room st given well (spot.Wild x) v e = calls_fit a r room st given (call_under_way a.frames) refl well v e
+
+  -- The law of the host's steps.
+  pub host_law : (a b : Config) (r : RunState) → total w a.frames ≤ stack_bytes w world.notes → ScriptGiven world.notes world.script → CallGoesWell w world a (call_under_way a.frames)
+      → Stands w world P mapped a r → neutral_host_step world a ≡ Some b → Stands w world P mapped b (host_step w world P r)
+  host_law a b r room given well st e =
+      host_step_stands w world P mapped h ok pl a b r room st (plans_fit a r room st given well a.spot) e

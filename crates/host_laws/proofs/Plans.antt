@@ -1,0 +1,266 @@
+-- What the host plans can be carried out alike: the conditions of each plan follow from what the host saw, from the conditions on
+-- the script, and from the room and the lent cells that typing gives.
+use Rattle.std.proofs.Common.{◌≡◌, ℕ, ◌+◌, ◌<◌, ◌≤◌, Bool, true, false, not, ◌&&◌, if◌then◌else◌, nat_eq, nat_le, List, [], ◌∷◌, ◌++◌, map, length, Option, Some, None, refl, sym, ap, ◌∙◌, subst, ⊎_elim, slice_get}
+use Rattle.std.specs.List.{AllZip, AllByRecursion, list_all, flat_map}
+use Rattle.std.specs.Option.{option_map, option_map_or, option_or, option_and_then}
+use Rattle.std.proofs.lemmas.Bool.{eqb-true, and_parts, le-leb, cases_lt}
+use Rattle.std.proofs.lemmas.Option.{none-some}
+use Rattle.note_types.specs.declared.event.Event.TheVariants as event
+use Rattle.note_types.specs.declared.reason.Reason.TheVariants as reason
+use Rattle.ebc_width.specs.Width.{IsWidth}
+use Rattle.note_types.specs.Cells.{content_type}
+use Rattle.run_types.specs.HostPlans.{GoesOn, Asking, NoSite, Unmapped, Asks, Target, Store, InObject, InArgument, Enters, Replies, Ends, host_plan, call_plan, call_settled, call_event, asking_refused, entry_refused, asked_signature, asked_args, objects_made_by, filling, enter_plan, may_enter, callback_fits, function_params, reply_plan, reply_fits, reply_stores, next_plan, signature_params, signature_method, signature_result, site_of, field_at, lent_at, write_store, out_store, write_fits}
+use Rattle.run_types.specs.HostSteps.{slots_of as numbers_of, slots_asked as numbers_asked, call_under_way as marks_under_way}
+use Rattle.run_types.specs.declared.object.TypedObject.{TypedObject}
+use Rattle.run_types.specs.Objects.{script_object, made_objects, placed_objects}
+use Rattle.run_types.specs.Placements.{Placement, frame_limit, stack_bytes, IsPlacement}
+use Rattle.run_types.specs.World.{World}
+use Rattle.run_types.specs.Progress.{Asked, copied}
+use Rattle.run_types.specs.RunState.{RunState}
+use Rattle.run_types.specs.ScriptValues.{fits, fits_each, fits_result, given as given_value}
+use Rattle.note_types.specs.declared.cell.Cell.{Cell}
+use Rattle.note_types.specs.declared.ending.Ending.{Ending}
+use Rattle.note_types.specs.declared.ending.Ending.TheVariants.{Mismatch, ScriptEnd}
+use Rattle.note_types.specs.declared.notes.FnNote.{FnNote}
+use Rattle.note_types.specs.declared.notes.Notes.{Notes}
+use Rattle.note_types.specs.declared.notes.Param.{Param}
+use Rattle.note_types.specs.declared.notes.WantParam.{WantParam}
+use Rattle.note_types.specs.declared.script.Callback.{Callback}
+use Rattle.note_types.specs.declared.script.OutValue.{OutValue}
+use Rattle.note_types.specs.declared.script.ScriptCall.{ScriptCall}
+use Rattle.note_types.specs.declared.script.WriteValue.{WriteValue}
+use Rattle.note_types.specs.declared.seen.Seen.{Seen}
+use Rattle.note_types.specs.declared.shape.Field.{Field}
+use Rattle.note_types.specs.declared.value.Value.{Value}
+use Rattle.run_types.specs.Config.{Config, hosts, call_under_way}
+use Rattle.run_types.specs.NeutralHost.{target_place, local_of, objects_at, slots_of, slots_asked, asking_at as neutral_asking_at, asking_by as neutral_asking_by}
+use Rattle.run_types.specs.Locations.{is_method}
+use Rattle.run_types.specs.NeutralReadings.{neutral_arguments}
+use Rattle.run_types.specs.Layout.{addresses, total}
+use Rattle.run_types.specs.Memory.{memory_of, cell_field}
+use Rattle.host_laws.specs.ScriptGiven.{TargetGiven, StoreGiven, CallGiven, ScriptGiven}
+use Rattle.neutral_machine.specs.Stands.{Stands}
+use Rattle.host_laws.proofs.ViewAlike.{and_then_some, map_some}
+use Rattle.run_types.specs.Values.{Neutral, Addresses, FieldOf, FieldOfLocals, Shows}
+use Rattle.neutral_machine.specs.WorldFits.{WorldFits}
+use Rattle.run_types.specs.WrittenLaw.{IsValue}
+use Rattle.host_laws.proofs.SeenStands.{seen_alike}
+use Rattle.host_laws.specs.PlanFits.{StoreNames, PlanFits, with_new}
+use Rattle.host_laws.specs.CallGoesWell.{LentSlots, GoesWell}
+
+-- ---- lists
+
+all_append : {X : Type 0} (Q : X → Type 0) (xs ys : List X) → AllByRecursion Q xs → AllByRecursion Q ys → AllByRecursion Q (xs ++ ys)
+all_append Q [] ys p q = q
+all_append Q (x ∷ xs) ys p q = (p.0, all_append Q xs ys p.1 q)
+
+-- ---- stores
+
+module _ (world : World) (a : Config) where
+  write_named : (v : WriteValue) → write_fits world.notes (made_objects world.notes world.script a.script.entries) v ≡ true → IsValue world.notes v.value
+      → AllByRecursion (StoreNames world a (copied (call_under_way a.frames))) (write_store world.notes (made_objects world.notes world.script a.script.entries) v)
+  unfolding field_at
+  write_named v t l = go (field_at world.notes (made_objects world.notes world.script a.script.entries) v.object v.instance v.field) refl t
+    where
+      go : (q : Option Field) → field_at world.notes (made_objects world.notes world.script a.script.entries) v.object v.instance v.field ≡ q
+          → option_map_or (λ (x : Field). fits (made_objects world.notes world.script a.script.entries) (content_type x.cell) v.value) q false ≡ true
+          → AllByRecursion (StoreNames world a (copied (call_under_way a.frames))) (option_map_or (λ (x : Field). record { target = InObject v.object v.instance v.field; cell = x.cell; value = v.value } ∷ []) q [])
+      go None e t = tt
+      go (Some x) e t = (record { place = FieldOf v.object v.instance v.field; there = refl; field = x; is_field = e; cell = refl; value = l }, tt)
+
+  writes_named : (vs : List WriteValue) → list_all (write_fits world.notes (made_objects world.notes world.script a.script.entries)) vs ≡ true → AllByRecursion (λ (v : WriteValue). IsValue world.notes v.value) vs
+      → AllByRecursion (StoreNames world a (copied (call_under_way a.frames))) (flat_map (write_store world.notes (made_objects world.notes world.script a.script.entries)) vs)
+  writes_named [] t l = tt
+  writes_named (v ∷ vs) t l =
+      let p = and_parts (write_fits world.notes (made_objects world.notes world.script a.script.entries) v) (list_all (write_fits world.notes (made_objects world.notes world.script a.script.entries)) vs) t in
+      all_append (StoreNames world a (copied (call_under_way a.frames))) (write_store world.notes (made_objects world.notes world.script a.script.entries) v) (flat_map (write_store world.notes (made_objects world.notes world.script a.script.entries)) vs)
+      (write_named v p.0 l.0) (writes_named vs p.1 l.1)
+
+  out_named : (params : List WantParam) → LentSlots world a params → (o : OutValue) → IsValue world.notes o.value → AllByRecursion (StoreNames world a (copied (call_under_way a.frames))) (out_store params o)
+  out_named params lent o l = go (lent_at params o.argument) refl
+    where
+      go : (q : Option Cell) → lent_at params o.argument ≡ q
+          → AllByRecursion (StoreNames world a (copied (call_under_way a.frames))) (option_map_or (λ c. record { target = InArgument o.argument; cell = c; value = o.value } ∷ []) q [])
+      go None e = tt
+      go (Some c) e =
+          let x = lent.field o.argument c e in
+          (record { place = FieldOfLocals (lent.d o.argument) (lent.f o.argument); there = ap local_of (lent.slot o.argument c e); field = x.0; is_field = x.1; cell = x.2; value = l }, tt)
+
+  outs_named : (params : List WantParam) → LentSlots world a params → (os : List OutValue) → AllByRecursion (λ (o : OutValue). IsValue world.notes o.value) os
+      → AllByRecursion (StoreNames world a (copied (call_under_way a.frames))) (flat_map (out_store params) os)
+  outs_named params lent [] l = tt
+  outs_named params lent (o ∷ os) l =
+      all_append (StoreNames world a (copied (call_under_way a.frames))) (out_store params o) (flat_map (out_store params) os) (out_named params lent o l.0) (outs_named params lent os l.1)
+
+  pub reply_named : (n : ℕ) (c : ScriptCall) → CallGiven world.notes world.script n c → LentSlots world a (signature_params world.notes c.signature) → list_all (write_fits world.notes (made_objects world.notes world.script a.script.entries)) c.write ≡ true
+      → AllByRecursion (StoreNames world a (copied (call_under_way a.frames))) (reply_stores world.notes (made_objects world.notes world.script a.script.entries) (signature_params world.notes c.signature) c)
+  unfolding reply_stores
+  reply_named n c given lent t =
+      all_append (StoreNames world a (copied (call_under_way a.frames))) (flat_map (write_store world.notes (made_objects world.notes world.script a.script.entries)) c.write) (flat_map (out_store (signature_params world.notes c.signature)) c.out)
+      (writes_named c.write t given.writes) (outs_named (signature_params world.notes c.signature) lent c.out given.outs)
+
+-- ---- entering
+
+as_many : (made : List TypedObject) (ps : List Param) (vs : List Value) → fits_each made ps vs ≡ true → length ps ≡ length vs
+unfolding fits_each
+as_many made ps vs t = eqb-true (length ps) (length vs) (and_parts (nat_eq (length ps) (length vs)) _ t).0
+
+-- a function that may be entered is there
+may_enter_there : (notes : Notes) (f : ℕ) → may_enter notes f ≡ true → (g : FnNote) × (slice_get notes.function f ≡ Some g)
+may_enter_there notes f t = go (slice_get notes.function f) refl (and_parts (not (nat_eq f notes.entry)) _ t).1
+  where
+    go : (q : Option FnNote) → slice_get notes.function f ≡ q → option_map_or (λ (g : FnNote). g.enter) q false ≡ true → (g : FnNote) × (slice_get notes.function f ≡ Some g)
+    go None e t = absurd (cc)
+    go (Some g) e t = (g, e)
+
+-- ---- accepting
+
+none_left : (p : Option Ending) (q : Option Ending) → option_or p q ≡ None → (p ≡ None) × (q ≡ None)
+none_left None q e = (refl, e)
+none_left (Some x) q e = absurd (none-some x (sym e))
+
+-- a call that no check refuses is one by its site, and the script has a call left
+pub record Settled (asking : Asking) : Type 0 where
+  pub signature : ℕ
+  pub args : List Seen
+  pub is : asking ≡ Asks signature None args
+
+settled : (place : ℕ) (asking : Asking) → asking_refused place asking ≡ None → Settled asking
+settled place NoSite e = absurd (cc)
+settled place (Unmapped g) e = absurd (cc)
+settled place (Asks g (Some x) args) e = absurd (cc)
+settled place (Asks g None args) e = record { signature = g; args = args; is = refl }
+
+left_over : (q : Option ScriptCall) (g : ℕ) (args : List Seen) → entry_refused q g args ≡ None → (c : ScriptCall) × (q ≡ Some c)
+left_over None g args e = absurd (cc)
+left_over (Some c) g args e = (c, refl)
+
+module _ (w : ℕ) (world : World) (P : Placement) (mapped : ℕ → ℕ) (h : IsWidth w) (ok : WorldFits world) (pl : IsPlacement w world P) where
+  at_new : (a : Config) (c : ScriptCall) (k i f : ℕ) (x : Field) → field_at world.notes (made_objects world.notes world.script (a.script.entries + 1)) k i f ≡ Some x
+      → cell_field world.notes (memory_of world (with_new world a c)) (FieldOf k i f) ≡ Some x
+  unfolding field_at made_objects placed_objects with_new
+  at_new a c k i f x e = e
+
+  -- stores in cells that are there once the call's objects are
+  made_named : (a : Config) (c : ScriptCall) (vs : List Store) → AllByRecursion (StoreGiven world.notes (made_objects world.notes world.script (a.script.entries + 1))) vs
+      → AllByRecursion (StoreNames world (with_new world a c) []) vs
+  made_named a c [] f = tt
+  made_named a c (v ∷ vs) f = (one v f.0, made_named a c vs f.1)
+    where
+      one : (v : Store) → StoreGiven world.notes (made_objects world.notes world.script (a.script.entries + 1)) v → StoreNames world (with_new world a c) [] v
+      one v g = by v.target refl g.target
+        where
+          by : (t : Target) → v.target ≡ t → TargetGiven world.notes (made_objects world.notes world.script (a.script.entries + 1)) t v → StoreNames world (with_new world a c) [] v
+          by (InObject k i f) e x = record { place = FieldOf k i f; there = ap (target_place []) e; field = x.0; is_field = at_new a c k i f x.0 x.1; cell = x.2; value = g.value }
+          by (InArgument j) e x = absurd x
+
+  -- ---- a call that is asked for
+
+  -- the slots that the call step copies show
+  pub slots_shown : (a : Config) (r : RunState) → total w a.frames ≤ stack_bytes w world.notes → Stands w world P mapped a r → (place place' x : ℕ) (t : Neutral) (g : ℕ) (args : List Seen) → place ≡ place'
+      → neutral_asking_at world a place t ≡ Some (Asks g None args)
+      → AllZip (Shows w (addresses w world.notes P a.frames)) (slots_asked world a (Asked place t)) (numbers_asked w world r (Asked place' x))
+  unfolding neutral_asking_at
+  slots_shown a r room st place place' x t g args same e =
+      subst (λ p. AllZip (Shows w A) (slots_asked world a (Asked place t)) (numbers_asked w world r (Asked p x))) same (by (site_of world.notes place) e)
+    where
+      A : Addresses
+      A = addresses w world.notes P a.frames
+
+      by : (o : Option ℕ) → option_map_or (neutral_asking_by world a t) o (Some NoSite) ≡ Some (Asks g None args)
+          → AllZip (Shows w (addresses w world.notes P a.frames)) (option_map_or (λ vs. vs) (option_and_then (slots_of world a) o) []) (option_map_or (λ xs. xs) (option_and_then (numbers_of w world r) o) [])
+      by None e = tt
+      by (Some f) e = asked (is_method (signature_method world.notes f) t) e
+        where
+          asked : (b : Bool) → (if b then option_map (Asks f None) (option_and_then (neutral_arguments world.notes (objects_at world a) a.frames a.cells (signature_params world.notes f)) (slots_of world a f)) else None) ≡ Some (Asks g None args)
+              → AllZip (Shows w (addresses w world.notes P a.frames)) (option_map_or (λ vs. vs) (slots_of world a f) []) (option_map_or (λ xs. xs) (numbers_of w world r f) [])
+          asked false e = absurd (none-some (Asks g None args) e)
+          asked true e =
+              let q = map_some (Asks f None) (option_and_then (neutral_arguments world.notes (objects_at world a) a.frames a.cells (signature_params world.notes f)) (slots_of world a f)) (Asks g None args) e in
+              let n = and_then_some (neutral_arguments world.notes (objects_at world a) a.frames a.cells (signature_params world.notes f)) (slots_of world a f) q.0 q.1 in
+              let s = (seen_alike w world P mapped h ok pl a r room st).slots f n.0 n.1 in
+              subst (λ o. AllZip (Shows w (addresses w world.notes P a.frames)) (option_map_or (λ vs. vs) o []) (option_map_or (λ xs. xs) (numbers_of w world r f) [])) (sym n.1)
+              (subst (λ o. AllZip (Shows w (addresses w world.notes P a.frames)) n.0 (option_map_or (λ xs. xs) o [])) (sym s.1) s.2)
+
+  pub call_fits : (a : Config) (r : RunState) (place : ℕ) (asking : Asking) → ScriptGiven world.notes world.script
+      → ((g : ℕ) (args : List Seen) → asking ≡ Asks g None args → AllZip (Shows w (addresses w world.notes P a.frames)) (slots_asked world a (call_under_way a.frames)) (numbers_asked w world r (marks_under_way r.hosts)))
+      → PlanFits w world P a r (call_plan world a.script.entries place asking)
+  unfolding call_plan
+  call_fits a r place asking given shown =
+      go (option_or (asking_refused place asking) (entry_refused (slice_get world.script.call a.script.entries) (asked_signature asking) (asked_args asking))) refl
+    where
+      go : (q : Option Ending) → option_or (asking_refused place asking) (entry_refused (slice_get world.script.call a.script.entries) (asked_signature asking) (asked_args asking)) ≡ q
+          → PlanFits w world P a r (call_settled world a.script.entries (call_event place asking) q)
+      go (Some ending) e = tt
+      go None e =
+          let n = none_left (asking_refused place asking) (entry_refused (slice_get world.script.call a.script.entries) (asked_signature asking) (asked_args asking)) e in
+          let s = settled place asking n.0 in
+          let c = left_over (slice_get world.script.call a.script.entries) (asked_signature asking) (asked_args asking) n.1 in
+          let cg = given a.script.entries c.0 c.1 in
+          record {
+            call = c.0;
+            there = c.1;
+            entry_is = refl;
+            objects_are = ap (λ q. map script_object (objects_made_by q)) (sym c.1);
+            names = made_named a c.0 (filling world.notes (length (made_objects world.notes world.script a.script.entries)) (objects_made_by (slice_get world.script.call a.script.entries)))
+                (subst (λ q. AllByRecursion (StoreGiven world.notes (made_objects world.notes world.script (a.script.entries + 1))) (filling world.notes (length (made_objects world.notes world.script a.script.entries)) (objects_made_by q))) (sym c.1) cg.made);
+            shown = shown s.signature s.args s.is;
+          }
+
+  -- ---- a call that goes on
+
+  enter_fits : (a : Config) (r : RunState) (n entry callbacks : ℕ) (c : ScriptCall) (b : Callback) → CallGiven world.notes world.script n c → slice_get c.enter callbacks ≡ Some b → GoesWell w world a entry
+      → PlanFits w world P a r (enter_plan world.notes (made_objects world.notes world.script a.script.entries) entry callbacks (length (hosts a.frames)) b)
+  unfolding enter_plan
+  enter_fits a r n entry callbacks c b given there well = go (callback_fits world.notes (made_objects world.notes world.script a.script.entries) b) refl (nat_le frame_limit (length (hosts a.frames))) refl
+    where
+      go : (t : Bool) → callback_fits world.notes (made_objects world.notes world.script a.script.entries) b ≡ t → (d : Bool) → nat_le frame_limit (length (hosts a.frames)) ≡ d
+          → PlanFits w world P a r (if not t then Ends [] (Mismatch (reason.Enter entry callbacks)) else if d then Ends [] (Mismatch reason.Depth) else Enters (event.Entered b.function (map given_value b.values)) entry b.function b.values)
+      go false t d e = tt
+      go true t true e = tt
+      go true t false e =
+          let q = and_parts (may_enter world.notes b.function) (fits_each (made_objects world.notes world.script a.script.entries) (function_params world.notes b.function) b.values) t in
+          let f = may_enter_there world.notes b.function q.0 in
+          let params : function_params world.notes b.function ≡ f.0.params = ap (λ o. option_map_or (λ (g : FnNote). g.params) o []) f.1 in
+          record {
+            note = f.0;
+            there = f.1;
+            as_many = ap length (sym params) ∙ as_many (made_objects world.notes world.script a.script.entries) (function_params world.notes b.function) b.values q.1;
+            fit = given.callbacks callbacks b there;
+            room = well.room b.function f.0 f.1 q.0 (few e);
+          }
+        where
+          clash : true ≡ false → ⊥
+          clash e = cc
+
+          few : nat_le frame_limit (length (hosts a.frames)) ≡ false → length (hosts a.frames) < frame_limit
+          few e = ⊎_elim (λ l. l) (λ l. absurd (clash (sym (le-leb frame_limit (length (hosts a.frames)) l) ∙ e))) (cases_lt (length (hosts a.frames)) frame_limit)
+
+  reply_fits_plan : (a : Config) (r : RunState) (n entry : ℕ) (all : Bool) (c : ScriptCall) → CallGiven world.notes world.script n c → slice_get world.script.call entry ≡ Some c → GoesWell w world a entry
+      → PlanFits w world P a r (reply_plan world.notes (made_objects world.notes world.script a.script.entries) entry all c)
+  unfolding reply_plan reply_fits made_objects placed_objects
+  reply_fits_plan a r n entry all c given there well = go (reply_fits world.notes (made_objects world.notes world.script a.script.entries) c && all) refl
+    where
+      go : (t : Bool) → (reply_fits world.notes (made_objects world.notes world.script a.script.entries) c && all) ≡ t
+          → PlanFits w world P a r (if t then Replies (event.Replied entry c.result) (reply_stores world.notes (made_objects world.notes world.script a.script.entries) (signature_params world.notes c.signature) c) (signature_result world.notes c.signature) c.result else Ends [] (Mismatch (reason.Reply entry)))
+      go false t = tt
+      go true t =
+          let p = and_parts (reply_fits world.notes (made_objects world.notes world.script a.script.entries) c) all t in
+          let q = and_parts (fits_result (made_objects world.notes world.script a.script.entries) (signature_result world.notes c.signature) c.result) _ p.0 in
+          let s = and_parts (list_all (write_fits world.notes (made_objects world.notes world.script a.script.entries)) c.write) _ q.1 in
+          (reply_named world a n c given (well.lent c there) s.0, given.result)
+
+  pub next_fits : (a : Config) (r : RunState) (entry callbacks : ℕ) (all : Bool) → ScriptGiven world.notes world.script → GoesWell w world a entry
+      → PlanFits w world P a r (host_plan world a.script (GoesOn entry callbacks (length (hosts a.frames)) all))
+  unfolding host_plan
+  next_fits a r entry callbacks all given well = by_entry (slice_get world.script.call entry) refl
+    where
+      by_entry : (q : Option ScriptCall) → slice_get world.script.call entry ≡ q
+          → PlanFits w world P a r (option_map_or (next_plan world.notes (made_objects world.notes world.script a.script.entries) entry callbacks (length (hosts a.frames)) all) q (Ends [] ScriptEnd))
+      by_entry None e = tt
+      by_entry (Some c) e = by_callback (slice_get c.enter callbacks) refl
+        where
+          by_callback : (q : Option Callback) → slice_get c.enter callbacks ≡ q
+              → PlanFits w world P a r (option_map_or (enter_plan world.notes (made_objects world.notes world.script a.script.entries) entry callbacks (length (hosts a.frames))) q (reply_plan world.notes (made_objects world.notes world.script a.script.entries) entry all c))
+          by_callback None g = reply_fits_plan a r entry entry all c (given entry c e) e well
+          by_callback (Some b) g = enter_fits a r entry entry callbacks c b (given entry c e) g well

@@ -1,0 +1,184 @@
+-- Where typed objects lie under a valid placement: a static one in the image, one of the script's by itself, and each apart
+-- from all others.
+use Rattle.std.proofs.Common.{◌≡◌, ◌≢◌, ℕ, zero, suc, ◌+◌, ◌-◌, ◌*◌, ◌^◌, ◌<◌, ◌≤◌, ◌⊎◌, List, [], ◌∷◌, length, map, Option, Some, None, refl, sym, ap, ap₂, ◌∙◌, subst, subst₂, arith, inl, inr, ⊎_elim, slice_get, le_refl, mul-le-mul, option_map}
+use Rattle.std.specs.List.{flat_map}
+use Rattle.std.specs.Option.{option_map_or}
+use Rattle.std.proofs.lemmas.Bool.{lt-ltb, le-ltb, cases_lt, cases_order}
+use Rattle.std.proofs.lemmas.Option.{same_Some, slice_get-map, slice_get_within, none-some, get_or_from_slice_get}
+use Rattle.ebc_width.specs.Width.{IsWidth}
+use Rattle.ebc_width.proofs.Laws.{by_width}
+use Rattle.note_types.specs.Concrete.{AreDisjoint}
+use Rattle.note_types.specs.declared.notes.Notes.{Notes}
+use Rattle.note_types.specs.declared.notes.Static.{Static}
+use Rattle.note_types.specs.declared.script.Script.{Script}
+use Rattle.note_types.specs.declared.script.ScriptObject.{ScriptObject}
+use Rattle.run_types.specs.Named.{HasObjects}
+use Rattle.run_types.specs.Objects.{TypedObject, static_object, script_object, objects_of, placed_objects, made_objects, shape_of}
+use Rattle.run_types.specs.Placements.{Placement, IsPlacement, IsWithin, all_ranges, placed_ranges, script_ranges, image_range, object_at, object_bytes}
+use Rattle.run_types.specs.World.{World}
+use Rattle.run_types.proofs.Lists.{slice_get-append_left, slice_get-append_right, All_at, AllPairs_at, within_some, length-map, take-all, flat_map-taken}
+
+-- ---- the objects that a script brings
+
+-- what is placed by some time is placed in all
+pub placed_in_all : (script : Script) (n j : ℕ) (o : ScriptObject) → slice_get (placed_objects script n) j ≡ Some o → slice_get (placed_objects script (length script.call)) j ≡ Some o
+unfolding placed_objects
+placed_in_all script n j o h = ⊎_elim
+    (λ l. slice_get-append_left script.object _ j l ∙ sym (slice_get-append_left script.object _ j l) ∙ h)
+    (λ l. slice_get-append_right script.object _ j l
+    ∙ subst (λ cs. slice_get (flat_map objects_of cs) (j - length script.object) ≡ Some o) (sym (take-all script.call))
+    (flat_map-taken objects_of n script.call (j - length script.object) o (sym (slice_get-append_right script.object _ j l) ∙ h)))
+    (cases_lt j (length script.object))
+
+pub script_range_at : (w : ℕ) (notes : Notes) (os : List ScriptObject) (bs : List ℕ) (j b : ℕ) (o : ScriptObject) → slice_get os j ≡ Some o → slice_get bs j ≡ Some b
+    → slice_get (script_ranges w notes os bs) j ≡ Some (record { base = b; size = object_bytes w notes (script_object o) })
+unfolding script_ranges
+script_range_at w notes [] bs j b o h g = absurd (none-some o h)
+script_range_at w notes (p ∷ os) [] j b o h g = absurd (none-some b g)
+script_range_at w notes (p ∷ os) (c ∷ bs) zero b o h g = ap₂ (λ c (p : ScriptObject). Some (record { base = c; size = object_bytes w notes (script_object p) })) (same_Some c b g) (same_Some p o h)
+script_range_at w notes (p ∷ os) (c ∷ bs) (suc j) b o h g = script_range_at w notes os bs j b o h g
+
+-- ---- where an object lies
+
+-- a static, in the image
+pub record OfStatic (world : World) (P : Placement) (k base : ℕ) (o : TypedObject) : Type 0 where
+  pub static : Static
+  pub there : slice_get world.notes.statics k ≡ Some static
+  pub is : static_object static ≡ o
+  pub base_is : base ≡ P.image + static.place
+
+-- an object of the script, by itself
+pub record OfScript (w : ℕ) (world : World) (P : Placement) (k base : ℕ) (o : TypedObject) : Type 0 where
+  pub later : length world.notes.statics ≤ k
+  pub ever : slice_get (all_ranges w world P) (suc (suc (suc (k - length world.notes.statics)))) ≡ Some (record { base = base; size = object_bytes w world.notes o })
+
+-- a typed object is somewhere
+pub record Lies (w : ℕ) (world : World) (P : Placement) (k : ℕ) (o : TypedObject) : Type 0 where
+  pub base : ℕ
+  pub is : object_at world.notes P k ≡ base
+  pub numbered : k < length world.notes.statics + length P.objects
+  pub kind : OfStatic world P k base o ⊎ OfScript w world P k base o
+
+some_of_map : {X Y : Type 0} (f : X → Y) (o : Option X) (y : Y) → option_map f o ≡ Some y → (x : X) × (o ≡ Some x) × (f x ≡ y)
+some_of_map f None y h = absurd (none-some y h)
+some_of_map f (Some x) y h = (x, refl, same_Some (f x) y h)
+
+module _ (w : ℕ) (world : World) (P : Placement) (h : IsWidth w) (ok : HasObjects world) (pl : IsPlacement w world P) where
+  abbrev S : ℕ
+  S = length world.notes.statics
+
+  lies_static : (k : ℕ) (o : TypedObject) → k < S → slice_get (map static_object world.notes.statics) k ≡ Some o → Lies w world P k o
+  unfolding object_at
+  lies_static k o l g =
+      let s = some_of_map static_object (slice_get world.notes.statics k) o (sym (slice_get-map static_object world.notes.statics k) ∙ g) in
+      record {
+        base = P.image + s.0.place;
+        is = rw (lt-ltb k S l) (ap (λ (q : Option Static). P.image + option_map_or (λ (t : Static). t.place) q 0) s.1);
+        numbered = omega (arith, l);
+        kind = inl (record { static = s.0; there = s.1; is = s.2; base_is = refl });
+      }
+
+  lies_script : (n k : ℕ) (o : TypedObject) → S ≤ k → slice_get (map script_object (placed_objects world.script n)) (k - S) ≡ Some o → Lies w world P k o
+  unfolding placed_ranges object_at
+  lies_script n k o l g =
+      let s = some_of_map script_object (slice_get (placed_objects world.script n) (k - S)) o (sym (slice_get-map script_object (placed_objects world.script n) (k - S)) ∙ g) in
+      let all = placed_in_all world.script n (k - S) s.0 s.1 in
+      let few : k - S < length P.objects = subst (λ z. k - S < z) (sym pl.each) (slice_get_within _ (k - S) s.0 all) in
+      let b = within_some P.objects (k - S) few in
+      record {
+        base = b.0;
+        is = rw (le-ltb k S l) (get_or_from_slice_get P.objects (k - S) b.0 0 b.1);
+        numbered = omega (arith, l, few);
+        kind = inr (record {
+          later = l;
+          ever = subst (λ (p : TypedObject). slice_get (script_ranges w world.notes (placed_objects world.script (length world.script.call)) P.objects) (k - S) ≡ Some (record { base = b.0; size = object_bytes w world.notes p })) s.2
+              (script_range_at w world.notes _ P.objects (k - S) b.0 s.0 all b.1);
+        });
+      }
+
+  pub lies : (n k : ℕ) (o : TypedObject) → slice_get (made_objects world.notes world.script n) k ≡ Some o → Lies w world P k o
+  unfolding made_objects
+  lies n k o g =
+      let e = length-map static_object world.notes.statics in
+      ⊎_elim
+      (λ l. lies_static k o l (sym (slice_get-append_left (map static_object world.notes.statics) _ k (subst (λ z. k < z) (sym e) l)) ∙ g))
+      (λ l. lies_script n k o l (subst (λ z. slice_get (map script_object (placed_objects world.script n)) (k - z) ≡ Some o) e (sym (slice_get-append_right (map static_object world.notes.statics) _ k (subst (λ z. z ≤ k) (sym e) l)) ∙ g)))
+      (cases_lt k S)
+
+  -- ---- the ranges of all that a run may have
+
+  image_at : slice_get (all_ranges w world P) 2 ≡ Some (image_range world P)
+  unfolding placed_ranges
+  image_at = refl
+
+  image_within : IsWithin w (image_range world P)
+  image_within = All_at (IsWithin w) (all_ranges w world P) 2 _ pl.within image_at
+
+  script_within : (k base : ℕ) (o : TypedObject) → OfScript w world P k base o → IsWithin w (record { base = base; size = object_bytes w world.notes o })
+  script_within k base o s = All_at (IsWithin w) (all_ranges w world P) (suc (suc (suc (k - S)))) _ pl.within s.ever
+
+  -- what an object takes at this width is no more than at width 8
+  bytes_le : (o : TypedObject) → object_bytes w world.notes o ≤ object_bytes 8 world.notes o
+  bytes_le o = by_width (λ v. object_bytes v world.notes o ≤ object_bytes 8 world.notes o) w h
+      (mul-le-mul (le_refl o.count) (let e : (shape_of world.notes o.shape).n * 4 + (shape_of world.notes o.shape).c ≤ (shape_of world.notes o.shape).n * 8 + (shape_of world.notes o.shape).c = omega arith in e)) (le_refl _)
+
+  -- a static lies in the image
+  static_in : (k base : ℕ) (o : TypedObject) → OfStatic world P k base o → (P.image ≤ base) × (base + object_bytes w world.notes o ≤ P.image + world.image_size)
+  static_in k base o s =
+      let inside : s.static.place + object_bytes 8 world.notes o ≤ world.image_size = subst (λ (p : TypedObject). s.static.place + object_bytes 8 world.notes p ≤ world.image_size) s.is (ok.inside k s.static s.there) in
+      (omega (arith, s.base_is), omega (arith, s.base_is, inside, bytes_le o))
+
+  -- ---- an object within the width
+
+  pub object_below : (k : ℕ) (o : TypedObject) (l : Lies w world P k o) → l.base + object_bytes w world.notes o ≤ 2 ^ (8 * w)
+  object_below k o l = ⊎_elim
+      (λ s. let i = static_in k l.base o s in let b = image_within.below in omega (arith, i.1, b))
+      (λ s. (script_within k l.base o s).below)
+      l.kind
+
+  positive : {base size : ℕ} → (0 < base) ⊎ (size ≡ 0) → 0 < size → 0 < base
+  positive a some = ⊎_elim (λ l. l) (λ e. absurd (omega (arith, e, some))) a
+
+  -- one that takes bytes doesn't lie at address 0
+  pub object_above : (k : ℕ) (o : TypedObject) (l : Lies w world P k o) → 0 < object_bytes w world.notes o → 0 < l.base
+  object_above k o l some = ⊎_elim
+      (λ s. let i = static_in k l.base o s in by_image i.0 i.1)
+      (λ s. positive (script_within k l.base o s).above some)
+      l.kind
+    where
+      by_image : P.image ≤ l.base → l.base + object_bytes w world.notes o ≤ P.image + world.image_size → 0 < l.base
+      by_image from to = ⊎_elim (λ b. omega (arith, b, from)) (λ e. omega (arith, e, from, to, some)) image_within.above
+
+  -- ---- two objects are apart
+
+  -- two ranges share no byte, by their numbers
+  abbrev pub Off : ℕ → ℕ → ℕ → ℕ → Type 0
+  Off a n b m = (a + n ≤ b) ⊎ (b + m ≤ a)
+
+  off_image : (k base : ℕ) (o : TypedObject) → OfScript w world P k base o → Off P.image world.image_size base (object_bytes w world.notes o)
+  off_image k base o s = AllPairs_at AreDisjoint (all_ranges w world P) 2 (suc (suc (suc (k - S)))) _ _ pl.apart image_at s.ever (omega arith)
+
+  pub objects_off : (k m : ℕ) (o p : TypedObject) (l : Lies w world P k o) (r : Lies w world P m p) → k ≢ m → Off l.base (object_bytes w world.notes o) r.base (object_bytes w world.notes p)
+  objects_off k m o p l r ne = ⊎_elim
+      (λ s. ⊎_elim
+      (λ t. statics s t)
+      (λ t. let i = static_in k l.base o s in ⊎_elim (λ x. inl (omega (arith, x, i.1))) (λ x. inr (omega (arith, x, i.0))) (off_image m r.base p t))
+      r.kind)
+      (λ s. ⊎_elim
+      (λ t. let i = static_in m r.base p t in ⊎_elim (λ x. inr (omega (arith, x, i.1))) (λ x. inl (omega (arith, x, i.0))) (off_image k l.base o s))
+      (λ t. ⊎_elim
+      (λ e. absurd (ne e))
+      (λ d. ⊎_elim
+      (λ x. AllPairs_at AreDisjoint (all_ranges w world P) (suc (suc (suc (k - S)))) (suc (suc (suc (m - S)))) _ _ pl.apart s.ever t.ever (omega (arith, x, s.later, t.later)))
+      (λ x. ⊎_elim inr inl (AllPairs_at AreDisjoint (all_ranges w world P) (suc (suc (suc (m - S)))) (suc (suc (suc (k - S)))) _ _ pl.apart t.ever s.ever (omega (arith, x, s.later, t.later))))
+      d)
+      (cases_order k m))
+      r.kind)
+      l.kind
+    where
+      statics : OfStatic world P k l.base o → OfStatic world P m r.base p → Off l.base (object_bytes w world.notes o) r.base (object_bytes w world.notes p)
+      statics s t =
+          let d = ok.apart k m s.static t.static s.there t.there ne in
+          let d2 : Off s.static.place (object_bytes 8 world.notes o) t.static.place (object_bytes 8 world.notes p) =
+          subst₂ (λ (x y : TypedObject). Off s.static.place (object_bytes 8 world.notes x) t.static.place (object_bytes 8 world.notes y)) s.is t.is d in
+          ⊎_elim (λ x. inl (omega (arith, x, bytes_le o, s.base_is, t.base_is))) (λ x. inr (omega (arith, x, bytes_le p, s.base_is, t.base_is))) d2

@@ -1,0 +1,5 @@
+pub mod Computing
+pub mod DriverRuns
+pub mod OtherRuns
+pub mod Programs
+pub mod Rows

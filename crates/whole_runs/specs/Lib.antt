@@ -1,0 +1,4 @@
+pub mod NeutralImage
+pub mod NeutralRun
+pub mod Reports
+pub mod Runs

@@ -1,0 +1,35 @@
+-- What a run shows: where it stands, the events, and how it ended. docs/HOST.md, "Runs".
+use Rattle.std.specs.Prelude.{ℕ, List, Option}
+use Rattle.std.specs.Option.{option_map}
+use Rattle.note_types.specs.declared.ending.Ending.{Ending}
+use Rattle.note_types.specs.declared.event.Event.{Event}
+use Rattle.note_types.specs.declared.spot.Spot.{Spot}
+use Rattle.pe_image.specs.declared.image.Image.{Image}
+use Rattle.run_types.specs.Config.{Config}
+use Rattle.run_types.specs.HostSteps.{spot_of}
+use Rattle.run_types.specs.Placements.{Placement, own_placement}
+use Rattle.run_types.specs.RunState.{RunState}
+use Rattle.run_types.specs.World.{World}
+use Rattle.whole_runs.specs.NeutralRun.{config_after}
+use Rattle.whole_runs.specs.Runs.{run_of}
+
+pub record Report : Type 0 where
+  pub spot : Spot
+  pub trace : List Event
+  pub ending : Ending
+
+-- what a state of a run shows
+abbrev pub report_of : World → Placement → RunState → Report
+report_of world P r = record { spot = spot_of world P r.machine; trace = r.trace; ending = r.ending }
+
+-- what a run at a width shows after so many steps, under the placement that this project takes
+abbrev pub report_after : ℕ → World → Image → ℕ → Report
+report_after w world image k = report_of world (own_placement w world) (run_of w world (own_placement w world) image k)
+
+-- what a configuration shows
+abbrev pub report_of_config : Config → Report
+report_of_config a = record { spot = a.spot; trace = a.trace; ending = a.ending }
+
+-- what the neutral machine's run shows after so many steps; none where it is stuck
+abbrev pub neutral_report_after : World → Image → ℕ → Option Report
+neutral_report_after world image k = option_map report_of_config (config_after world image k)
