@@ -1,0 +1,4 @@
+pub mod Ends
+pub mod Loading
+pub mod OneStep
+pub mod Runs
