@@ -1,12 +1,23 @@
 //! The check of code for both pointer widths: whether every instruction meets its rules, and else the first that doesn't.
 //!
-//! [`check_plain`] is the plain check, of raw code that works on registers alone. docs/PLAIN.md has its rules.
+//! [`check_code`] goes over the code of an image under notes; docs/RULES.md has its rules. [`check_plain`] is the plain check,
+//! of raw code that works on registers alone; docs/PLAIN.md has its rules.
 #![tactic(auto)]
 
+mod bytes;
+mod marks;
 mod plain;
+mod refusal;
+mod relocation;
+mod row;
+mod tables;
 mod verdict;
+mod walk;
 
 pub use ebc_base::NoMemory;
 pub use note_types::RuleName;
 pub use plain::check_plain;
+pub use refusal::Refusal;
+pub use tables::{check_functions, check_shapes};
 pub use verdict::Verdict;
+pub use walk::check_code;

@@ -1,0 +1,239 @@
+//! The walk through the code: one pass over each function, with one state.
+
+ghost use Rattle.std.specs.Prelude.{◌≡◌, ◌+◌, ◌<◌, ◌≤◌, ◌↔◌, ◌^◌, ℕ, IfErr, IfOk, IsTrue, OnOk, Some, length, slice_get};
+ghost use Rattle.note_types.specs.Records.{Ascends, IsNotes};
+ghost use Rattle.pe_image.specs.Images.{IsImage};
+ghost use Rattle.rules_base.specs.FirstRule.{IsFirst};
+ghost use Rattle.rules_data.specs.Images.{IsDecoded, IsFunction, PointHolds};
+ghost use Rattle.width_checker.specs.Paths.{come_of, successors_from};
+ghost use Rattle.width_checker.specs.Places.{IsPlaceOf};
+ghost use Rattle.width_checker.specs.Typed.{IsBelowPoint, LeadsBelow, MeetsRules, TablesHold, Typed};
+ghost use Rattle.width_checker.specs.Verdicts.{FailsAt, RefusesInsn};
+ghost use Rattle.width_checker.specs.Walks.{Arrives, FailsIn, FunctionsMeet, IsCodeOf, Passes, PointsFrom, StandsAt};
+
+use crate::marks::{Marks, first_point, first_reloc};
+use crate::refusal::Refusal;
+use crate::relocation::{ends_within, past, relocation};
+use crate::row::{Path, advance};
+use crate::tables::code_of;
+use ebc_decode::decode;
+use ebc_insn::Insn;
+use note_types::{FnNote, Notes, RuleName, State, entry_state, fits_below};
+use pe_image::Image;
+use rules_base::Here;
+
+// Takes the state of the point at a place, where one is: whether the state that came is below it.
+fn arrive(notes: &Notes, at: u32, marks: &mut Marks, state: &mut State) -> bool
+    requires ascend { Ascends notes.now }
+    requires points { PointsFrom notes.now at marks.old.point }
+    ensures arrives { Arrives notes.now at (come_of marks.old.falls state.old) (come_of marks.new.falls state.new) }
+    ensures points { PointsFrom notes.now (at + 1) marks.new.point }
+    ensures reloc { marks.new.reloc ≡ marks.old.reloc }
+    ensures below { IsTrue result ↔ IsBelowPoint notes.now at state.old }
+{
+    let Some(p) = notes.point.as_slice().get(marks.point) else {
+        return true;
+    };
+    if p.place != at {
+        return true;
+    }
+    let below = fits_below(state, &p.state);
+    *state = p.state.copy();
+    marks.point += 1;
+    marks.falls = true;
+    below
+}
+
+// Whether no point is inside the bytes up to `next`, where the first point past their place is this one.
+fn has_no_point(notes: &Notes, at: u32, next: u32, first: usize) -> bool
+    requires ascend { Ascends notes.now }
+    requires points { PointsFrom notes.now (at + 1) first }
+    ensures { IsTrue result ↔ PointHolds notes.now at next }
+{
+    match notes.point.as_slice().get(first) {
+        Some(p) => next <= p.place,
+        None => true,
+    }
+}
+
+// Whether a state is below that of the point at a place, where the first point that isn't before it is this one.
+fn is_below_next(notes: &Notes, first: usize, place: u32, state: &State) -> bool
+    requires ascend { Ascends notes.now }
+    requires points { PointsFrom notes.now place first }
+    ensures { IsTrue result ↔ IsBelowPoint notes.now place state.now }
+{
+    match notes.point.as_slice().get(first) {
+        Some(p) => if p.place == place {
+            fits_below(state, &p.state)
+        } else {
+            true
+        },
+        None => true,
+    }
+}
+
+// Whether a state is below that of the point at a place, wherever it is.
+fn is_below_point(notes: &Notes, place: u32, state: &State) -> bool
+    requires { Ascends notes.now }
+    ensures { IsTrue result ↔ IsBelowPoint notes.now place state.now }
+{
+    is_below_next(notes, first_point(notes, place), place, state)
+}
+
+// Whether the states that an instruction leads to are below those of the points there.
+fn leads_below(notes: &Notes, first: usize, next: u32, path: &Path, state: &State) -> bool
+    requires ascend { Ascends notes.now }
+    requires points { PointsFrom notes.now next first }
+    ensures { IsTrue result ↔ LeadsBelow notes.now next (successors_from state.now path.now) }
+{
+    match path {
+        Path::Falls => is_below_next(notes, first, next, state),
+        Path::Goes { place } => is_below_point(notes, *place, state),
+        Path::Parts { place, there } => {
+            is_below_next(notes, first, next, state) && is_below_point(notes, *place, there)
+        }
+        Path::Ends => true,
+    }
+}
+
+// Goes through an instruction of function `func` from a place up to `next`.
+fn pass(
+    image: &Image,
+    notes: &Notes,
+    func: u32,
+    f: &FnNote,
+    at: u32,
+    next: u32,
+    insn: &Insn,
+    marks: &mut Marks,
+    state: &mut State,
+) -> Result<(), RuleName>
+    requires image { IsImage image.now }
+    requires notes { IsNotes notes.now }
+    requires decode { IsDecoded image.now f.now at insn.now next }
+    requires within { at < f.now.end }
+    requires stands { StandsAt image.now notes.now func f.now at marks.old state.old }
+    ensures passes { OnOk result (Passes image.now notes.now func f.now at next marks.new state.new) }
+    ensures fails { IfErr result (IsFirst (FailsAt image.now notes.now func f.now at)) }
+{
+    let arrived_below = arrive(notes, at, marks, state);
+    if !marks.falls {
+        return Err(RuleName::State);
+    }
+    if !has_no_point(notes, at, next, marks.point) {
+        return Err(RuleName::Point);
+    }
+    let Ok(reloc) = relocation(image, notes, insn, at, next, marks.reloc) else {
+        return Err(RuleName::Relocation);
+    };
+    let here = Here {
+        place: at,
+        next,
+        func,
+        reloc,
+    };
+    let path = advance(notes, &here, state, insn)?;
+    if at == f.place && !arrived_below {
+        return Err(RuleName::Below);
+    }
+    if !leads_below(notes, marks.point, next, &path, state) {
+        return Err(RuleName::Below);
+    }
+    if !ends_within(f, insn, next) {
+        return Err(RuleName::End);
+    }
+    marks.falls = path.falls();
+    marks.reloc = past(image, at, next, marks.reloc);
+    Ok(())
+}
+
+// Goes through the instruction at a place of function `func`: the next place.
+fn step(
+    image: &Image,
+    notes: &Notes,
+    func: u32,
+    f: &FnNote,
+    code: &[u8],
+    at: u32,
+    marks: &mut Marks,
+    state: &mut State,
+) -> Result<u32, RuleName>
+    requires image { IsImage image.now }
+    requires notes { IsNotes notes.now }
+    requires code { IsCodeOf image.now f.now code.now }
+    requires size { f.now.end ≤ 2 ^ 22 }
+    requires from { f.now.place ≤ at }
+    requires within { at < f.now.end }
+    requires stands { StandsAt image.now notes.now func f.now at marks.old state.old }
+    ensures passes { IfOk result (λ next. Passes image.now notes.now func f.now at next marks.new state.new) }
+    ensures fails { IfErr result (IsFirst (FailsAt image.now notes.now func f.now at)) }
+{
+    let Ok((insn, len)) = decode(code, (at - f.place) as usize) else {
+        return Err(RuleName::Decode);
+    };
+    let next = at + len as u32;
+    pass(image, notes, func, f, at, next, &insn, marks, state)?;
+    Ok(next)
+}
+
+// Goes through function `func`.
+fn check_function(image: &Image, notes: &Notes, func: u32, f: &FnNote) -> Result<(), Refusal>
+    requires image { IsImage image.now }
+    requires notes { IsNotes notes.now }
+    requires there { slice_get notes.now.function func ≡ Some f.now }
+    requires holds { IsFunction image.now notes.now func f.now }
+    ensures meets { OnOk result ((p : ℕ) → IsPlaceOf image.now f.now p → MeetsRules image.now notes.now func f.now p) }
+    ensures fails { IfErr result (FailsIn image.now notes.now func f.now) }
+{
+    let code = code_of(image, f);
+    let mut state = entry_state(notes, func);
+    let mut marks = Marks {
+        point: first_point(notes, f.place),
+        reloc: first_reloc(image, f.place),
+        falls: true,
+    };
+    let mut at = f.place;
+    while at < f.end {
+        match step(image, notes, func, f, code, at, &mut marks, &mut state) {
+            Ok(next) => at = next,
+            Err(rule) => return Err(Refusal { place: at, rule }),
+        }
+    }
+    Ok(())
+}
+
+// Goes through these functions, all of the notes, in their order.
+fn check_each(image: &Image, notes: &Notes, functions: &[FnNote]) -> Result<(), Refusal>
+    requires image { IsImage image.now }
+    requires notes { IsNotes notes.now }
+    requires functions { functions.now ≡ notes.now.function }
+    requires tables { TablesHold image.now notes.now }
+    ensures holds { OnOk result (FunctionsMeet image.now notes.now (length functions.now)) }
+    ensures fails { IfErr result (λ r. RefusesInsn image.now notes.now r.place r.rule) }
+{
+    for (func, f) in functions.iter().enumerate() {
+        match check_function(image, notes, func as u32, f) {
+            Ok(()) => {}
+            Err(refusal) => return Err(refusal),
+        }
+    }
+    Ok(())
+}
+
+/// Goes through all functions, in their order.
+///
+/// # Errors
+///
+/// The first place at which a rule fails, and the first rule that fails there.
+pub fn check_code(image: &Image, notes: &Notes) -> Result<(), Refusal>
+    requires image { IsImage image.now }
+    requires notes { IsNotes notes.now }
+    requires tables { TablesHold image.now notes.now }
+    ensures holds { OnOk result (Typed image.now notes.now) }
+    ensures fails { IfErr result (λ r. RefusesInsn image.now notes.now r.place r.rule) }
+{
+    match check_each(image, notes, notes.function.as_slice()) {
+        Ok(()) => Ok(()),
+        Err(refusal) => Err(refusal),
+    }
+}
