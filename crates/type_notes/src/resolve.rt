@@ -4,7 +4,7 @@ ghost use Rattle.std.specs.List.{position};
 ghost use Rattle.note_draft.specs.declared.tables.NameTables.{NameTables};
 ghost use Rattle.type_notes.specs.Locals.{IsFieldSet, field_bit, field_number, field_set};
 ghost use Rattle.type_notes.specs.Owners.{AreOwners};
-ghost use Rattle.type_notes.specs.Resolved.{resolved, resolved_cell, resolved_field, resolved_function, resolved_item, resolved_locals, resolved_param, resolved_result, resolved_shape, resolved_signature, resolved_site, resolved_static, resolved_thunk, resolved_type, resolved_want, resolved_want_param};
+ghost use Rattle.type_notes.specs.Resolved.{resolved, resolved_cell, resolved_field, resolved_function, resolved_item, resolved_locals, resolved_param, resolved_point, resolved_result, resolved_shape, resolved_signature, resolved_site, resolved_static, resolved_thunk, resolved_type, resolved_want, resolved_want_param};
 
 use crate::points::resolve_points;
 use note_draft::{
@@ -13,8 +13,9 @@ use note_draft::{
 };
 use note_texts::{CellText, FieldText, ItemText, ParamText, TypeText, WantParamText, WantText};
 use note_types::{
-    Cell, Field, FnNote, Item, Name, Names, NoMemory, Notes, Param, Sequence, Shape, Signature,
-    Site, Static, Thunk, Ty, Want, WantParam,
+    Cell, Field, FnNote, Functions, Item, Name, Names, NoMemory, Notes, Param, Points, Sequence,
+    Shape, Shapes, Signature, Signatures, Site, Sites, Static, Statics, Thunk, Thunks, Ty, Want,
+    WantParam,
 };
 use std::alloc::Global;
 
@@ -362,6 +363,74 @@ impl Resolve for SiteDraft {
 
 // ---- the whole
 
+/// The lists of data with numbers.
+#[derive(Drop)]
+struct DataNotes {
+    shape: Shapes,
+    statics: Statics,
+    thunk: Thunks,
+}
+
+fn resolve_data(
+    alloc: Global,
+    names: &NameTables,
+    draft: &NotesDraft,
+) -> Result<DataNotes, NoMemory>
+    ensures shape { IfOk result (λ lists. lists.shape ≡ map (resolved_shape names.now) draft.now.shape) }
+    ensures statics { IfOk result (λ lists. lists.statics ≡ map (resolved_static names.now) draft.now.statics) }
+    ensures thunk { IfOk result (λ lists. lists.thunk ≡ map (resolved_thunk names.now) draft.now.thunk) }
+{
+    Ok(DataNotes {
+        shape: resolve_all(alloc, names, draft.shape.as_slice())?,
+        statics: resolve_all(alloc, names, draft.statics.as_slice())?,
+        thunk: resolve_all(alloc, names, draft.thunk.as_slice())?,
+    })
+}
+
+/// The lists of code with numbers.
+#[derive(Drop)]
+struct CodeNotes {
+    function: Functions,
+    point: Points,
+}
+
+fn resolve_code(
+    alloc: Global,
+    names: &NameTables,
+    draft: &NotesDraft,
+    owners: &[usize],
+) -> Result<CodeNotes, NoMemory>
+    requires { AreOwners draft.now.function draft.now.point owners.now }
+    ensures function { IfOk result (λ lists. lists.function ≡ map (resolved_function names.now) draft.now.function) }
+    ensures point { IfOk result (λ lists. lists.point ≡ map (resolved_point names.now draft.now) draft.now.point) }
+{
+    Ok(CodeNotes {
+        function: resolve_all(alloc, names, draft.function.as_slice())?,
+        point: resolve_points(alloc, names, draft, owners)?,
+    })
+}
+
+/// The lists of native calls with numbers.
+#[derive(Drop)]
+struct CallNotes {
+    signature: Signatures,
+    site: Sites,
+}
+
+fn resolve_calls(
+    alloc: Global,
+    names: &NameTables,
+    draft: &NotesDraft,
+) -> Result<CallNotes, NoMemory>
+    ensures signature { IfOk result (λ lists. lists.signature ≡ map (resolved_signature names.now) draft.now.signature) }
+    ensures site { IfOk result (λ lists. lists.site ≡ map (resolved_site names.now) draft.now.site) }
+{
+    Ok(CallNotes {
+        signature: resolve_all(alloc, names, draft.signature.as_slice())?,
+        site: resolve_all(alloc, names, draft.site.as_slice())?,
+    })
+}
+
 /// The notes that a draft stands for. The owner of a point is the number of its function.
 ///
 /// # Errors
@@ -378,24 +447,20 @@ pub fn resolve_notes(
     ensures { IfOk result (λ notes. notes ≡ resolved names draft.now) }
 {
     let entry = names.function.number(&draft.entry);
-    let shape = resolve_all(alloc, &names, draft.shape.as_slice())?;
-    let statics = resolve_all(alloc, &names, draft.statics.as_slice())?;
-    let thunk = resolve_all(alloc, &names, draft.thunk.as_slice())?;
-    let function = resolve_all(alloc, &names, draft.function.as_slice())?;
-    let point = resolve_points(alloc, &names, draft, owners)?;
-    let signature = resolve_all(alloc, &names, draft.signature.as_slice())?;
-    let site = resolve_all(alloc, &names, draft.site.as_slice())?;
+    let data = resolve_data(alloc, &names, draft)?;
+    let code = resolve_code(alloc, &names, draft, owners)?;
+    let calls = resolve_calls(alloc, &names, draft)?;
     let methods = names.method.into_names(alloc)?;
     Ok(Notes {
         version: draft.version,
         entry,
-        shape,
-        statics,
-        thunk,
-        function,
-        point,
-        signature,
-        site,
+        shape: data.shape,
+        statics: data.statics,
+        thunk: data.thunk,
+        function: code.function,
+        point: code.point,
+        signature: calls.signature,
+        site: calls.site,
         methods,
     })
 }
