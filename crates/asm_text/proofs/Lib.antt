@@ -1,0 +1,16 @@
+pub mod Digits
+pub mod Pieces
+pub mod Smallest
+pub mod Steps
+pub mod TrimLaws
+pub mod PieceLaws
+pub mod HexLaws
+pub mod Again
+pub mod Slots
+pub mod NameLaws
+pub mod Clean
+pub mod Forms
+pub mod Values
+pub mod InsnLaws
+pub mod CleanLaws
+pub mod ListLaws

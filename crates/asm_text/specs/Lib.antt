@@ -1,0 +1,12 @@
+pub mod Faults
+pub mod Numbers
+pub mod Names
+pub mod Splits
+pub mod Indexes
+pub mod Operands
+pub mod Mnemonics
+pub mod Instructions
+pub mod Statements
+pub mod Lines
+pub mod Writing
+pub mod Texts
