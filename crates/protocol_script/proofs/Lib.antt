@@ -1,0 +1,5 @@
+pub mod FilledLaws
+pub mod LimitLaws
+pub mod ObjectLaws
+pub mod RecordLaws
+pub mod ShapeLaws

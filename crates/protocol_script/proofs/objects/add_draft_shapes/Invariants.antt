@@ -1,0 +1,6 @@
+use Rattle.std.proofs.Common.{◌≡◌, ◌++◌, take}
+use Rattle.protocol_script.specs.Resolved.{draft_shapes}
+use Rattle.protocol_script.proofs.objects.add_draft_shapes.Given as goal
+
+abbrev pub invariant-loop-object : goal.invariant-loop-object
+invariant-loop-object l = l.shapes.items ≡ l.initial.shapes.items ++ draft_shapes l.notes (take l.object-index l.objects)

@@ -1,0 +1,5 @@
+use Rattle.protocol_script.proofs.RecordLaws.{script-of}
+use Rattle.protocol_script.proofs.read_script.Goals as goal
+
+pub returns-clause-meets : goal.returns-clause-meets
+returns-clause-meets c = script-of c.args.notes.now c.in_ok-script.script c.in_ok-meet_conditions.ensures

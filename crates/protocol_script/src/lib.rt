@@ -1,0 +1,46 @@
+//! Reads scripts, a TOML text that says what the firmware holds and does in a run, as the record that the text stands for under
+//! a program's notes, or tells its first fault with the key where it stands. docs/SCRIPTS.md says how scripts are written.
+//!
+//! The definitions that the contracts cite stand in specs/, one subject a file.
+#![tactic(auto)]
+
+ghost use Rattle.note_texts.specs.Outcome.{Gives};
+ghost use Rattle.std.specs.Prelude.{IfOk};
+ghost use Rattle.protocol_script.specs.Records.{IsScript};
+ghost use Rattle.protocol_script.specs.Scripts.{script_of};
+
+mod conditions;
+mod contents;
+mod limits;
+mod numbers;
+mod objects;
+mod resolve;
+mod shapes;
+mod tables;
+
+use crate::conditions::meet_conditions;
+use crate::resolve::resolve_script;
+use note_texts::document;
+use note_types::{Notes, NotesEnd, Script};
+use script_draft::{cells_once, read_draft};
+use std::alloc::Global;
+
+/// The script that a text stands for under the notes of its program.
+///
+/// # Errors
+///
+/// The first fault, with the path of the key where it stands, as docs/SCRIPTS.md lists them: `TomlFault::NotToml`; then
+/// `Missing`, `Kind` and `Range` key by key; then `Twice`; then `Name`; then `Range` for a condition that isn't met. Or
+/// there was no memory.
+#[tactic(auto, unfolding(crate::specs::Scripts::script_of))]
+pub fn read_script(alloc: Global, text: &[u8], notes: &Notes) -> Result<Script, NotesEnd>
+    ensures script { Gives result (script_of notes.now text.now) }
+    ensures meets { IfOk result (IsScript notes.now) }
+{
+    let table = document(alloc, text)?;
+    let draft = read_draft(alloc, &table)?;
+    cells_once(alloc, &draft)?;
+    let script = resolve_script(alloc, notes, &draft)?;
+    meet_conditions(alloc, notes, &script)?;
+    Ok(script)
+}

@@ -1,0 +1,107 @@
+-- What the items of a list give, one item more at a time, as a loop does.
+use Rattle.std.proofs.Common.{◌≡◌, ℕ, ◌+◌, ◌≤◌, ◌<◌, List, [], ◌∷◌, ◌++◌, length, get_or, drop, Option, Some, None, Result, Ok, Err, refl, sym, ap, ◌∙◌, append_assoc, option_map, arith}
+use Rattle.std.proofs.lemmas.Grind.{common_steps}
+use Rattle.std.proofs.lemmas.List.{append-nil}
+use Rattle.note_types.specs.declared.fault.TomlFault.{TomlFault}
+use Rattle.note_types.specs.declared.fault.NotesEnd.{NotesEnd}
+use Rattle.note_types.specs.declared.fault.NotesEnd.TheVariants as ends
+use Rattle.ebc_base.specs.Steps.{◌>>=◌}
+use Rattle.note_texts.specs.Outcome.{Fails}
+use Rattle.script_draft.specs.Lists.{all_of, all_pass, each_of}
+
+-- the items from number i on, of which there is one
+pub from_item : {A : Type 0} (xs : List A) (i : ℕ) (x : A) → i < length xs → x ≡ get_or xs i x → drop i xs ≡ x ∷ drop (i + 1) xs
+from_item xs i x lt same = grind (arith, common_steps)
+
+pub none_left : {A : Type 0} (xs : List A) (i : ℕ) → length xs ≤ i → drop i xs ≡ []
+none_left xs i past = grind (arith, common_steps)
+
+-- ---- all_pass
+
+module _ {A : Type 0} (check : ℕ → A → Result (Unit {0}) TomlFault) (i : ℕ) (xs : List A) (total : Result (Unit {0}) TomlFault) where
+  pub pass-on : (x : A) → i < length xs → x ≡ get_or xs i x → check i x ≡ Ok tt → all_pass check i (drop i xs) ≡ total → all_pass check (i + 1) (drop (i + 1) xs) ≡ total
+  unfolding all_pass
+  pass-on x lt same h so_far =
+      let one : all_pass check i (drop i xs) ≡ all_pass check (i + 1) (drop (i + 1) xs) = rw (from_item xs i x lt same, h) refl in
+      sym one ∙ so_far
+
+  pub pass-stop : (e : NotesEnd) (x : A) → i < length xs → x ≡ get_or xs i x → Fails e (check i x) → all_pass check i (drop i xs) ≡ total → Fails e total
+  unfolding all_pass
+  pass-stop ends.NoMemory x lt same h so_far = tt
+  pass-stop (ends.Fault f) x lt same h so_far =
+      let one : all_pass check i (drop i xs) ≡ Err f = rw (from_item xs i x lt same, h) refl in
+      sym so_far ∙ one
+
+  pub pass-done : length xs ≤ i → all_pass check i (drop i xs) ≡ total → total ≡ Ok tt
+  unfolding all_pass
+  pass-done past so_far =
+      let one : all_pass check i (drop i xs) ≡ Ok tt = rw (none_left xs i past) refl in
+      sym so_far ∙ one
+
+-- ---- all_of
+
+-- what was given before, and what is still given
+abbrev pub onto : {A : Type 0} → List A → Option (List A) → Option (List A)
+onto front given = option_map (λ ys. front ++ ys) given
+
+pub onto-none : {A : Type 0} (given : Option (List A)) → onto [] given ≡ given
+onto-none None = refl
+onto-none (Some ys) = refl
+
+onto-one : {A : Type 0} (front : List A) (y : A) (given : Option (List A)) → onto front (option_map (λ ys. y ∷ ys) given) ≡ onto (front ++ y ∷ []) given
+onto-one front y None = refl
+onto-one front y (Some ys) = ap Some (simp append_assoc)
+
+module _ {A B : Type 0} (gives : A → Option B) (front : List B) (x : A) (xs : List A) (total : Option (List B)) where
+  pub all-on : (y : B) → gives x ≡ Some y → onto front (all_of gives (x ∷ xs)) ≡ total → onto (front ++ y ∷ []) (all_of gives xs) ≡ total
+  unfolding all_of
+  all-on y h so_far =
+      let one : onto front (all_of gives (x ∷ xs)) ≡ onto (front ++ y ∷ []) (all_of gives xs) = rw h (onto-one front y (all_of gives xs)) in
+      sym one ∙ so_far
+
+  pub all-stop : gives x ≡ None → onto front (all_of gives (x ∷ xs)) ≡ total → None ≡ total
+  unfolding all_of
+  all-stop h so_far =
+      let one : onto front (all_of gives (x ∷ xs)) ≡ None = rw h refl in
+      sym one ∙ so_far
+
+pub all-done : {A B : Type 0} (gives : A → Option B) (front : List B) (total : Option (List B)) → onto front (all_of gives []) ≡ total → Some front ≡ total
+unfolding all_of
+all-done gives front total so_far =
+    let one : onto front (all_of gives []) ≡ Some front = ap Some (append-nil front) in
+    sym one ∙ so_far
+
+-- ---- each_of
+
+-- what was given before, and what is still given
+abbrev pub after : {A : Type 0} → List A → Result (List A) TomlFault → Result (List A) TomlFault
+after front given = given >>= λ ys. Ok (front ++ ys)
+
+pub after-none : {A : Type 0} (given : Result (List A) TomlFault) → after [] given ≡ given
+after-none (Ok ys) = refl
+after-none (Err f) = refl
+
+after-one : {A : Type 0} (front : List A) (y : A) (given : Result (List A) TomlFault) → after front (given >>= λ ys. Ok (y ∷ ys)) ≡ after (front ++ y ∷ []) given
+after-one front y (Ok ys) = ap Ok (simp append_assoc)
+after-one front y (Err f) = refl
+
+module _ {A B : Type 0} (gives : ℕ → A → Result B TomlFault) (front : List B) (i : ℕ) (xs : List A) (total : Result (List B) TomlFault) where
+  pub each-on : (x : A) (y : B) → i < length xs → x ≡ get_or xs i x → gives i x ≡ Ok y → after front (each_of gives i (drop i xs)) ≡ total → after (front ++ y ∷ []) (each_of gives (i + 1) (drop (i + 1) xs)) ≡ total
+  unfolding each_of
+  each-on x y lt same h so_far =
+      let one : after front (each_of gives i (drop i xs)) ≡ after (front ++ y ∷ []) (each_of gives (i + 1) (drop (i + 1) xs))
+      = rw (from_item xs i x lt same, h) (after-one front y (each_of gives (i + 1) (drop (i + 1) xs))) in
+      sym one ∙ so_far
+
+  pub each-stop : (e : NotesEnd) (x : A) → i < length xs → x ≡ get_or xs i x → Fails e (gives i x) → after front (each_of gives i (drop i xs)) ≡ total → Fails e total
+  unfolding each_of
+  each-stop ends.NoMemory x lt same h so_far = tt
+  each-stop (ends.Fault f) x lt same h so_far =
+      let one : after front (each_of gives i (drop i xs)) ≡ Err f = rw (from_item xs i x lt same, h) refl in
+      sym so_far ∙ one
+
+  pub each-done : length xs ≤ i → after front (each_of gives i (drop i xs)) ≡ total → total ≡ Ok front
+  unfolding each_of
+  each-done past so_far =
+      let one : after front (each_of gives i (drop i xs)) ≡ Ok front = rw (none_left xs i past) (ap Ok (append-nil front)) in
+      sym so_far ∙ one
