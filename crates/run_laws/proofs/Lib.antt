@@ -1,0 +1,3 @@
+pub mod Relocated
+pub mod Statics
+pub mod Thunks
