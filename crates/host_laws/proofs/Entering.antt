@@ -336,7 +336,7 @@ module _ (w : ℕ) (world : World) (P : Placement) (mapped : ℕ → ℕ) (h : I
       inner
 
   -- the run with other marks and more events
-  marked_stands : (a : Config) (r : RunState) (c : NativeCall Neutral) (d : NativeCall ℕ) (es : List Event) → CallShows w (addresses w world.notes P a.frames) c d → Stands w world P mapped a r
+  pub marked_stands : (a : Config) (r : RunState) (c : NativeCall Neutral) (d : NativeCall ℕ) (es : List Event) → CallShows w (addresses w world.notes P a.frames) c d → Stands w world P mapped a r
       → Stands w world P mapped (record a { frames = with_call c a.frames; trace = a.trace ++ es }) (record r { hosts = with_marks d r.hosts; trace = r.trace ++ es })
   marked_stands a r c d es s st =
       let ext = extends_marked c w world P mapped a.frames in

@@ -208,7 +208,7 @@ module _ (w : ℕ) (world : World) (P : Placement) (mapped : ℕ → ℕ) (h : I
 
   -- ---- all of it
 
-  spot_is : (a : Config) (r : RunState) → Stands w world P mapped a r → spot_of world P r.machine ≡ a.spot
+  pub spot_is : (a : Config) (r : RunState) → Stands w world P mapped a r → spot_of world P r.machine ≡ a.spot
   unfolding spot_of
   spot_is a r st =
       ap (λ g. if nat_eq r.machine.ip g then spot.Gate else if covers r.machine.ip 1 (image_range world P) then spot.Place (r.machine.ip - P.image) else spot.Wild r.machine.ip) st.machine.gate

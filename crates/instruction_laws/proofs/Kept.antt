@@ -36,7 +36,7 @@ use Rattle.instruction_laws.specs.Laws.{KeepsRun, RunKept}
 
 -- ---- what holds of all that is given
 
-abbrev pub Always : {A : Type 0} → (A → Type 0) → Outcome A → Type 0
+abbrev Always : {A : Type 0} → (A → Type 0) → Outcome A → Type 0
 Always Q (Gives x) = Q x
 Always Q (Raises e) = ⊤
 Always Q Stuck = ⊤
@@ -51,14 +51,14 @@ then_always R Q (Gives x) f r k = k x r
 then_always R Q (Raises e) f r k = tt
 then_always R Q Stuck f r k = tt
 
-pub after : {A B : Type 0} (Q : B → Type 0) (m : Outcome A) (f : A → Outcome B) → ((x : A) → Always Q (f x)) → Always Q (outcomes.◌>>=◌ m f)
+after : {A B : Type 0} (Q : B → Type 0) (m : Outcome A) (f : A → Outcome B) → ((x : A) → Always Q (f x)) → Always Q (outcomes.◌>>=◌ m f)
 after Q m f k = then_always (λ x. ⊤) Q m f (anything m) (λ x r. k x)
 
-pub either : {A : Type 0} (Q : A → Type 0) (b : Bool) (x y : Outcome A) → Always Q x → Always Q y → Always Q (if b then x else y)
+either : {A : Type 0} (Q : A → Type 0) (b : Bool) (x y : Outcome A) → Always Q x → Always Q y → Always Q (if b then x else y)
 either Q true x y p q = p
 either Q false x y p q = q
 
-pub given : {A : Type 0} (Q : A → Type 0) (m : Outcome A) (x : A) → Always Q m → m ≡ Gives x → Q x
+given : {A : Type 0} (Q : A → Type 0) (m : Outcome A) (x : A) → Always Q m → m ≡ Gives x → Q x
 given Q m x a e = subst (Always Q) e a
 
 -- ---- the rows

@@ -55,7 +55,7 @@ found_one t (x ∷ xs) q one any e = go (t x) refl (λ m. found_one t xs q (λ r
         next
         (or_cases (nat_eq q x) (list_any (nat_eq q) xs) any)
 
-pub found_none : (t : ℕ → Bool) (xs : List ℕ) → ((r : ℕ) → Contains xs r → t r ≡ true → ⊥) → find t xs ≡ None
+found_none : (t : ℕ → Bool) (xs : List ℕ) → ((r : ℕ) → Contains xs r → t r ≡ true → ⊥) → find t xs ≡ None
 found_none t [] never = refl
 found_none t (x ∷ xs) never = go (t x) refl (found_none t xs (λ r c k. never r (later xs x r c) k))
   where

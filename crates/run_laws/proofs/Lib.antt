@@ -1,4 +1,5 @@
-pub mod Ends
-pub mod Loading
-pub mod OneStep
+pub mod Relocated
+pub mod RunSteps
 pub mod Runs
+pub mod Statics
+pub mod Thunks

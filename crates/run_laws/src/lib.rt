@@ -1,20 +1,35 @@
-//! The laws of a run: at either width it follows the neutral machine's run, step by step, wherever that isn't stuck. What
-//! typing is to give stands in them as premises. docs/SIMULATION.md says them in words.
+//! Laws of whole runs: a run of an image stands for the neutral machine's run, at either width, and so the runs at both widths
+//! are the same; and an image that keeps its rules meets what the laws ask of it. docs/HOST.md, "Laws of its steps", says them
+//! in words.
 #![tactic(auto)]
 
-ghost use Rattle.run_laws.specs.Laws.{RunStands, RunsAreSame, StepStands};
+ghost use Rattle.run_laws.specs.Premises.{StaticsAreShown, ThunksAreLoaded};
+ghost use Rattle.run_laws.specs.RunLaw.{RunStands, RunsAreSame};
+ghost use Rattle.run_laws.specs.StepLaw.{RunStepKeepsStanding};
 
-/// The law of one step, of an instruction or of the host: the run stands for what the neutral machine's step leaves.
-pub fn step_stands()
-    ensures { StepStands }
+/// Wherever an image is loaded that keeps the rule on thunk cells, each of them names its function.
+pub fn thunks_are_loaded()
+    ensures { ThunksAreLoaded }
 {}
 
-/// The law of a run: after each number of steps it stands for the neutral machine's run.
+/// Under a valid placement the loaded bytes show what the cells of static objects hold at a run's start, where these keep
+/// their rule.
+pub fn statics_are_shown()
+    ensures { StaticsAreShown }
+{}
+
+/// After a step, the host's or an instruction's, a run that stands for a configuration stands for what the neutral machine's
+/// step leaves, unless that is stuck.
+pub fn run_step_keeps_standing()
+    ensures { RunStepKeepsStanding }
+{}
+
+/// After each number of steps that the neutral machine does, a run at either width stands for its configuration.
 pub fn run_stands()
     ensures { RunStands }
 {}
 
-/// The law of two runs of one image, at 4 and at 8 bytes an address: they are the same.
+/// After each such number the runs at both widths are the same, each under a valid placement of its own.
 pub fn runs_are_same()
     ensures { RunsAreSame }
 {}

@@ -1,5 +1,5 @@
 -- Whole runs of the neutral machine over an image. docs/HOST.md, "Runs".
-use Rattle.std.specs.Prelude.{ℕ, Option, Some, None}
+use Rattle.std.specs.Prelude.{ℕ, Option, Some, None, nat_eq, if◌then◌else◌}
 use Rattle.std.specs.Option.{option_and_then}
 use Rattle.ebc_insn.specs.declared.Insn.{Insn}
 use Rattle.neutral_machine.specs.Rows.{NeutralRow, Next, Native, MakeThunk, executed}
@@ -15,11 +15,11 @@ use Rattle.run_types.specs.Progress.{Asked}
 use Rattle.run_types.specs.World.{World}
 use Rattle.whole_runs.specs.NeutralImage.{site_at, instruction_at, static_cells}
 
--- what an instruction at a place leaves of a configuration
+-- what an instruction at a place leaves of a configuration; BREAK 5 is served where the cell is the next to be made
 abbrev pub instruction_left : World → Config → ℕ → NeutralRow → Option Config
 instruction_left world a place (Gives (Next, b)) = Some b
 instruction_left world a place (Gives (Native v, b)) = Some (record b { frames = with_call (Asked place v) b.frames })
-instruction_left world a place (Gives (MakeThunk i, b)) = thunk_made world b
+instruction_left world a place (Gives (MakeThunk i, b)) = if nat_eq i b.made then thunk_made world b else None
 instruction_left world a place (Raises e) = Some (record a { ending = Raised e })
 instruction_left world a place Stuck = None
 

@@ -1,0 +1,54 @@
+-- The law of a step of a run at a width: the run goes on standing for the configuration of the neutral machine, unless that is
+-- stuck. docs/HOST.md, "Laws of its steps".
+use Rattle.std.specs.Prelude.{◌≡◌, ℕ, ◌≤◌, Some}
+use Rattle.ebc_insn.specs.declared.Insn.{Insn}
+use Rattle.ebc_width.specs.Width.{IsWidth}
+use Rattle.host_laws.specs.CallGoesWell.{CallGoesWell}
+use Rattle.host_laws.specs.ScriptGiven.{ScriptGiven}
+use Rattle.instruction_laws.specs.Premises.{IsInsnOf, IsRunOf}
+use Rattle.neutral_machine.specs.Room.{HasRoom}
+use Rattle.neutral_machine.specs.Rows.{Site}
+use Rattle.neutral_machine.specs.Stands.{Stands}
+use Rattle.note_types.specs.declared.spot.Spot.TheVariants.{Place}
+use Rattle.pe_image.specs.Mapped.{mapped}
+use Rattle.pe_image.specs.declared.image.Image.{Image}
+use Rattle.run_types.specs.Config.{Config, call_under_way}
+use Rattle.run_types.specs.Layout.{total}
+use Rattle.run_types.specs.NeutralRuns.{neutral_step}
+use Rattle.run_types.specs.Placements.{Placement, IsPlacement, stack_bytes}
+use Rattle.run_types.specs.RunState.{RunState}
+use Rattle.run_types.specs.World.{World}
+use Rattle.whole_runs.specs.NeutralRun.{neutral_instruction}
+use Rattle.whole_runs.specs.Runs.{run_step}
+use Rattle.run_laws.specs.Premises.{AreBytes}
+
+-- what a run of an image has at either width
+pub record IsRunAt (w : ℕ) (image : Image) (world : World) (P : Placement) : Type 0 where
+  pub width : IsWidth w
+  pub run : IsRunOf image world
+  pub bytes : AreBytes image
+  pub placement : IsPlacement w world P
+  pub script : ScriptGiven world.notes world.script
+
+-- An instruction of a function of the image stands at a place, and the stack has room for what it puts there.
+pub record InsnStands (w : ℕ) (image : Image) (world : World) (a : Config) (place : ℕ) : Type 0 where
+  pub here : Site
+  pub insn : Insn
+  pub stands : IsInsnOf image world here insn
+  pub at : here.place ≡ place
+  pub room : HasRoom w world a insn
+
+-- What typing is to give of a configuration before a step, and of the one after it: an instruction stands at its spot, a native
+-- call that goes on goes well, and the frames before and after fit the stack.
+pub record StepGoesWell (w : ℕ) (image : Image) (world : World) (a b : Config) : Type 0 where
+  pub there : (p : ℕ) → a.spot ≡ Place p → InsnStands w image world a p
+  pub call : CallGoesWell w world a (call_under_way a.frames)
+  pub before : total w a.frames ≤ stack_bytes w world.notes
+  pub after : total w b.frames ≤ stack_bytes w world.notes
+
+-- After a step the run stands for what the step leaves of the configuration.
+abbrev pub RunStepKeepsStanding : Type 0
+RunStepKeepsStanding =
+    (w : ℕ) (image : Image) (world : World) (P : Placement) (a b : Config) (r : RunState) → IsRunAt w image world P → StepGoesWell w image world a b
+    → Stands w world P (mapped image P.image) a r → neutral_step world (neutral_instruction world image) a ≡ Some b
+    → Stands w world P (mapped image P.image) b (run_step w world P r)
