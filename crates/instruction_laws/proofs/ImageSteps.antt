@@ -1,16 +1,19 @@
 -- One step of the machine at an instruction of the image does what the neutral machine does with the image's instruction.
-use Rattle.std.proofs.Common.{◌≡◌, ℕ, ◌+◌, ◌-◌, ◌≤◌, Bool, true, false, ◌||◌, Option, Some, None, refl, sym, ap, ◌∙◌, subst, arith, ℤ}
+use Rattle.std.proofs.Common.{◌≡◌, ℕ, ◌+◌, ◌-◌, ◌≤◌, Bool, true, false, ◌||◌, ◌++◌, length, Option, Some, None, refl, sym, ap, ◌∙◌, subst, arith, ℤ}
 use Rattle.std.proofs.lemmas.Bool.{false≢true}
 use Rattle.std.proofs.lemmas.Option.{none-some}
+use Rattle.ebc_width.specs.Bytes.{window}
+use Rattle.ebc_decode.proofs.Again.{read_again}
 use Rattle.ebc_decode.specs.Reading.{signed_at}
-use Rattle.ebc_insn.specs.Spelling.{WellFormed}
+use Rattle.ebc_decode.specs.Reading as reading
+use Rattle.ebc_insn.specs.Spelling.{WellFormed, spelling}
 use Rattle.ebc_insn.specs.declared.Extra.TheVariants as extras
 use Rattle.ebc_insn.specs.declared.Insn.{Insn}
 use Rattle.ebc_insn.specs.declared.Insn.TheVariants as insns
 use Rattle.ebc_machine.specs.Step.{machine_step}
 use Rattle.pe_image.specs.Mapped.{mapped}
 use Rattle.pe_image.specs.declared.image.Image.{Image}
-use Rattle.rules_data.specs.Images.{is_absolute, is_address_move, is_relocated, named_at}
+use Rattle.rules_data.specs.Images.{image_byte, is_absolute, is_address_move, is_relocated, named_at}
 use Rattle.run_types.specs.Config.{Config}
 use Rattle.run_types.specs.Layout.{total}
 use Rattle.run_types.specs.Locations.{Move, kept}
@@ -23,15 +26,23 @@ use Rattle.neutral_machine.specs.Alike.{StepAlike}
 use Rattle.neutral_machine.specs.Operands.{indexed, written}
 use Rattle.neutral_machine.specs.Room.{growth, HasRoom}
 use Rattle.neutral_machine.specs.Rows.{Site, NeutralRow, executed, goes, immediate, jump_row, call_row, target_at, move_imm_row}
-use Rattle.instruction_laws.specs.Premises.{IsInsnOf, SameExecuted, ImageStep, ImageRunStep, RunAlike, with_immediate, loaded_insn}
+use Rattle.instruction_laws.specs.Premises.{IsInsnOf, InstructionRead, SameExecuted, ImageStep, ImageRunStep, RunAlike, with_immediate, loaded_insn}
 use Rattle.instruction_laws.proofs.Loaded.{of_any, two_bytes, instruction_there}
 use Rattle.instruction_laws.proofs.Hosts.{hosts_kept}
 use Rattle.instruction_laws.proofs.Kept.{run_kept}
-use Rattle.instruction_laws.proofs.Steps.{one_step}
+use Rattle.instruction_laws.proofs.Steps.{one_step, window-split}
 use Rattle.ebc_machine.specs.declared.StepEnd.{StepEnd}
 use Rattle.note_types.specs.Concrete.{Concrete}
 use Rattle.run_types.specs.Outcomes.{Gives, Raises, Stuck}
 use Rattle.instruction_laws.proofs.Worlds.{world_meets}
+
+-- the bytes of the image at an instruction are read as that one
+pub instruction_read : InstructionRead
+instruction_read image world here i more at =
+    ap reading.read
+    (window-split (image_byte image) here.place (length (spelling i)) more
+    ∙ ap (λ xs. xs ++ window (image_byte image) (here.place + length (spelling i)) more) (sym at.decoded.spelled))
+    ∙ read_again i (window (image_byte image) (here.place + length (spelling i)) more) at.decoded.well_formed
 
 -- where an immediate is an address, the neutral machine doesn't look at its number
 same_by_form : (world : World) (a : Config) (here : Site) (i : Insn) (v : ℤ) (p : ℕ) → here.reloc ≡ Some p → WellFormed i → (is_absolute i || is_address_move i) ≡ true → executed world a here (with_immediate v i) ≡ executed world a here i

@@ -34,7 +34,7 @@ use Rattle.neutral_machine.proofs.Placed.{image_off_stack, native_off_image}
 use Rattle.instruction_laws.proofs.Simulation.{one_instruction}
 
 -- a window is a shorter one and what follows
-window-split : (b : ℕ → ℕ) (a m n : ℕ) → window b a (m + n) ≡ window b a m ++ window b (a + m) n
+pub window-split : (b : ℕ → ℕ) (a m n : ℕ) → window b a (m + n) ≡ window b a m ++ window b (a + m) n
 unfolding window
 window-split b a zero n = ap₂ (window b) (omega arith) (omega arith)
 window-split b a (suc m) n =

@@ -1,10 +1,12 @@
 -- What the laws of an instruction ask, met by an image that keeps the rules on shapes, functions, static objects and thunk
 -- cells, and at each instruction those on decoding and relocations. docs/RULES.md, "The image"; docs/SIMULATION.md, "What the
 -- laws ask".
-use Rattle.std.specs.Prelude.{◌≡◌, ℕ, ◌+◌, ◌<◌, ◌≤◌, length, Option, Some, None, slice_get, ℤ, ⊤}
+use Rattle.std.specs.Prelude.{◌≡◌, ℕ, ◌+◌, ◌<◌, ◌≤◌, length, Option, Some, None, Ok, slice_get, ℤ, ⊤}
 use Rattle.std.specs.Option.{option_map_or}
 use Rattle.ebc_width.specs.Width.{IsWidth}
-use Rattle.ebc_decode.specs.Reading.{signed_at}
+use Rattle.ebc_width.specs.Bytes.{window}
+use Rattle.ebc_decode.specs.Reading.{read, signed_at}
+use Rattle.ebc_insn.specs.Spelling.{spelling}
 use Rattle.ebc_insn.specs.declared.Extra.{Extra}
 use Rattle.ebc_insn.specs.declared.Extra.TheVariants as extras
 use Rattle.ebc_insn.specs.declared.Insn.{Insn}
@@ -28,7 +30,7 @@ use Rattle.run_types.specs.Placements.{Placement, IsPlacement}
 use Rattle.run_types.specs.RunState.{RunState}
 use Rattle.run_types.specs.Values.{word}
 use Rattle.run_types.specs.World.{World}
-use Rattle.rules_data.specs.Images.{ShapeHolds, FunctionHolds, StaticHolds, ThunkHolds, IsDecoded, RelocationHolds}
+use Rattle.rules_data.specs.Images.{image_byte, ShapeHolds, FunctionHolds, StaticHolds, ThunkHolds, IsDecoded, RelocationHolds}
 use Rattle.neutral_machine.specs.Alike.{EndsAlike, StepAlike}
 use Rattle.neutral_machine.specs.Instructions.{IsAt}
 use Rattle.neutral_machine.specs.Room.{HasRoom}
@@ -84,6 +86,12 @@ pub record IsInsnOf (image : Image) (world : World) (here : Site) (i : Insn) : T
   pub from : f.place ≤ here.place
   pub decoded : IsDecoded image f here.place i here.next
   pub relocation : RelocationHolds image world.notes here.place i here.next here.reloc
+
+-- The decoder reads it there, of as many bytes of the image as one likes.
+abbrev pub InstructionRead : Type 0
+InstructionRead =
+    (image : Image) (world : World) (here : Site) (i : Insn) (more : ℕ) → IsInsnOf image world here i
+    → read (window (image_byte image) here.place (length (spelling i) + more)) ≡ Ok (i, length (spelling i))
 
 -- Where a state stands for a configuration at such an instruction, the machine is at it, its relocated immediate moved.
 abbrev pub InstructionThere : Type 0

@@ -3,7 +3,7 @@
 #![tactic(auto)]
 
 ghost use Rattle.instruction_laws.specs.Laws.{HostsKept, OneInstruction, OneStep, RoomAfter, RunKept};
-ghost use Rattle.instruction_laws.specs.Premises.{ImageRunStep, ImageStep, InstructionThere, SameExecuted, WorldMeets};
+ghost use Rattle.instruction_laws.specs.Premises.{ImageRunStep, ImageStep, InstructionRead, InstructionThere, SameExecuted, WorldMeets};
 
 /// The law of one instruction at one width: from a state that stands for a configuration the machine does what the neutral
 /// machine does, unless that is stuck, and then stands for the configuration that it gives (UEFI specification, "EBC
@@ -37,6 +37,11 @@ pub fn run_kept()
 /// functions, static objects and thunk cells.
 pub fn world_meets()
     ensures { WorldMeets }
+{}
+
+/// The law that the decoder reads an instruction that keeps the rule on decoding, at its place in the image.
+pub fn instruction_read()
+    ensures { InstructionRead }
 {}
 
 /// The law that the machine is at the image's instruction, a relocated immediate moved to where the image lies, where that
