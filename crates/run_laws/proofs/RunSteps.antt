@@ -1,9 +1,8 @@
 -- A step of a run: it goes on standing for the configuration.
-use Rattle.std.proofs.Common.{◌≡◌, ℕ, zero, suc, ◌+◌, ◌-◌, ◌<◌, ◌≤◌, Bool, true, false, if◌then◌else◌, nat_eq, List, [], ◌∷◌, ◌++◌, length, Option, Some, None, option_map, option_and_then, refl, sym, ap, ap₂, ◌∙◌, subst, subst₂, arith, slice_get}
+use Rattle.std.proofs.Common.{◌≡◌, ℕ, ◌+◌, ◌-◌, ◌<◌, ◌≤◌, Bool, true, false, if◌then◌else◌, nat_eq, List, [], ◌∷◌, ◌++◌, length, Option, Some, None, option_map, option_and_then, refl, sym, ap, ap₂, ◌∙◌, subst, subst₂, arith, slice_get}
 use Rattle.std.proofs.lemmas.Bool.{eqb-true}
 use Rattle.std.proofs.lemmas.Option.{same_Some, none-some, slice_get_within}
 use Rattle.ebc_decode.specs.Reading.{read}
-use Rattle.ebc_decode.proofs.Again.{read_again}
 use Rattle.ebc_insn.specs.Spelling.{spelling}
 use Rattle.ebc_insn.specs.declared.Insn.{Insn}
 use Rattle.ebc_machine.specs.Step.{machine_step}
@@ -17,7 +16,7 @@ use Rattle.host_laws.proofs.Marks.{machine_told}
 use Rattle.host_laws.proofs.Replies.{marks_show}
 use Rattle.host_laws.proofs.Thunks.{names_stand, thunk_stands}
 use Rattle.instruction_laws.specs.Premises.{IsInsnOf, IsRunOf, RunAlike}
-use Rattle.instruction_laws.proofs.ImageSteps.{image_run_step}
+use Rattle.instruction_laws.proofs.ImageSteps.{image_run_step, instruction_read}
 use Rattle.instruction_laws.proofs.Worlds.{world_meets}
 use Rattle.natural_index.specs.declared.Index.{Index}
 use Rattle.ebc_insn.specs.declared.Insn.TheVariants as insns
@@ -121,14 +120,6 @@ place_called world P ip p e = go (nat_eq ip P.native) (covers ip 1 (image_range 
 
 -- ---- the instruction at a place
 
--- a window in two parts
-window_splits : (b : ℕ → ℕ) (a m n : ℕ) → m ≤ n → window b a n ≡ window b a m ++ window b (a + m) (n - m)
-unfolding window
-window_splits b a zero n l = ap₂ (window b) (omega arith) (omega arith)
-window_splits b a (suc m) zero l = absurd (omega (arith, l))
-window_splits b a (suc m) (suc n) l =
-    ap (λ xs. b a ∷ xs) (window_splits b (a + 1) m n (omega (arith, l)) ∙ ap (λ xs. window b (a + 1) m ++ xs) (ap₂ (window b) (omega arith) (omega arith)))
-
 module _ (image : Image) (world : World) (run : IsRunOf image world) where
   found_there : (here : Site) (i : Insn) → IsInsnOf image world here i → instruction_at image here.place ≡ Some (i, length (spelling i))
   unfolding instruction_at
@@ -138,9 +129,8 @@ module _ (image : Image) (world : World) (run : IsRunOf image world) where
       let l = at.decoded.within in
       let size = run.size in
       let m = length (spelling i) in
-      let split : window (image_byte image) here.place (image.size - here.place) ≡ spelling i ++ window (image_byte image) (here.place + m) (image.size - here.place - m) =
-      window_splits (image_byte image) here.place m (image.size - here.place) (omega (arith, n, l, code.1, size)) ∙ ap (λ xs. xs ++ window (image_byte image) (here.place + m) (image.size - here.place - m)) (sym at.decoded.spelled) in
-      ap (λ xs. or_none (read xs)) split ∙ ap or_none (read_again i (window (image_byte image) (here.place + m) (image.size - here.place - m)) at.decoded.well_formed)
+      let whole : image.size - here.place ≡ m + (image.size - here.place - m) = omega (arith, n, l, code.1, size) in
+      ap (λ k. or_none (read (window (image_byte image) here.place k))) whole ∙ ap or_none (instruction_read image world here i (image.size - here.place - m) at)
 
   site_there : (here : Site) (i : Insn) → IsInsnOf image world here i → site_at image here.place (length (spelling i)) ≡ here
   site_there here i at =
