@@ -1,0 +1,140 @@
+//! What is told of scripts by the conditions on them, in their order.
+use crate::driver::{notes_of, tells};
+use std::alloc::{AllocError, Global};
+use std::test::Fail;
+
+/// Shapes with pointers of each mark, a shape that isn't well formed, and one of a kilobyte; a static object; a native method.
+const NOTES: &str = "version = 1
+entry = 'main'
+shape = [{ name = 'A', size = [1, 8], fields = ['x 1 0 i32'] },
+ { name = 'P', size = [3, 8], fields = ['may 0 0 ptr?:A', 'must 1 0 ptr:A', 'm 2 0 method:M', 'w 3 0 p64?:A'] },
+ { name = 'W', size = [0, 8], fields = ['w 0 0 p64:A'] },
+ { name = 'Bad', size = [0, 4], fields = ['x 0 0 i64'] },
+ { name = 'K', size = [0, 1024] }]
+static = [{ place = 4096, shape = 'A', count = 2 }]
+function = [{ name = 'main', place = 16, end = 32, level = 0, need = [0, 0], params = ['n int:0..9', 'n ptr?:A'], result = 'any' },
+ { name = 'call', place = 32, end = 48, level = 0, need = [0, 0], result = 'any', enter = true }]
+signature = [{ name = 's', method = 'M', params = ['n inout:i32'], result = 'status' }]
+";
+
+/// What follows `version = 1`, and what is told.
+const CONDITIONS: &str = "args = ['int 9', 'null']|Ok
+args = ['int 9', 'ptr 0 1']|Ok
+args = ['int 9', 'ptr 0 2']|Range args
+args = ['int 9', 'ptr 1 0']|Range args
+args = ['int 10', 'null']|Range args
+args = ['int 9']|Range args
+args = ['int 9', 'ptr 1 0']#object = [{ shape = 'A', count = 1 }]|Ok
+args = ['int 9', 'ptr 1 0']#call = [{ signature = 's', args = ['any'], make = [{ shape = 'A', count = 1 }], result = 'any' }]|Range args
+args = ['int 10', 'null']#call = [{ signature = 's', result = 'any' }]|Range args
+call = [{ signature = 's', args = ['any'], result = 'any' }, { signature = 's', args = ['any', 'any'], result = 'any' }]|Range call[1].args
+object = [{ shape = 'A', count = 1, cells = ['1 x int 0'] }]#call = [{ signature = 's', result = 'any' }]|Range call[0].args
+object = [{ shape = 'A', count = 2, cells = ['1 x int 0', '2 x int 0'] }]|Range object[0].cells
+call = [{ signature = 's', args = ['any'], make = [{ shape = 'A', count = 1, cells = ['1 x int 0'] }], write = ['9 0 x null'], result = 'any' }]|Range call[0].make[0].cells
+call = [{ signature = 's', args = ['any'], write = ['0 1 x int 0'], result = 'any' }]|Ok
+call = [{ signature = 's', args = ['any'], write = ['0 2 x int 0'], result = 'any' }]|Range call[0].write
+call = [{ signature = 's', args = ['any'], write = ['1 0 x int 0'], result = 'any' }]|Range call[0].write
+call = [{ signature = 's', args = ['any'], write = ['1 0 x int 0'], result = 'any' }, { signature = 's', args = ['any'], make = [{ shape = 'A', count = 1 }], result = 'any' }]|Ok
+object = [{ shape = 'Bad', count = 1 }, { shape = 'A', count = 1, cells = ['1 x int 0'] }]|Range object[1].cells
+object = [{ shape = 'A', count = 1, cells = ['0 x null'] }, { shape = 'Bad', count = 1 }]|Range object[1].shape
+call = [{ signature = 's', args = ['any'], make = [{ shape = 'Bad', count = 1 }], result = 'any' }]|Range call[0].make[0].shape
+object = [{ shape = 'A', count = 1, cells = ['0 x null'] }]|Range object[0].cells
+object = [{ shape = 'A', count = 1, cells = ['0 x int 4294967296'] }]|Range object[0].cells
+object = [{ shape = 'P', count = 1, cells = ['0 must ptr 0 0', '0 m method M'] }]|Ok
+object = [{ shape = 'P', count = 1, cells = ['0 must ptr 0 0'] }]|Range object[0].cells
+object = [{ shape = 'P', count = 1, cells = ['0 m method M'] }]|Range object[0].cells
+object = [{ shape = 'P', count = 1, cells = ['0 must null', '0 m method M'] }]|Range object[0].cells
+object = [{ shape = 'W', count = 1 }]|Range object[0].cells
+object = [{ shape = 'W', count = 2, cells = ['0 w ptr 0 0'] }]|Range object[0].cells
+object = [{ shape = 'W', count = 2, cells = ['0 w ptr 0 0', '1 w ptr 0 1'] }]|Ok
+object = [{ shape = 'W', count = 9223372036854775807, cells = ['0 w ptr 0 0'] }]|Range object[0].cells
+object = [{ shape = 'W', count = 1, cells = ['0 w ptr 2 0'] }, { shape = 'A', count = 1 }]|Range object[0].cells
+object = [{ shape = 'W', count = 1, cells = ['0 w ptr 2 0'] }, { shape = 'A', count = 1, cells = ['0 x null'] }]|Range object[1].cells
+object = [{ shape = 'A', count = 1 }, { shape = 'W', count = 1, cells = ['0 w ptr 1 0'] }]|Ok
+call = [{ signature = 's', args = ['any'], make = [{ shape = 'W', count = 1, cells = ['0 w ptr 2 0'] }, { shape = 'A', count = 1 }], result = 'any' }]|Range call[0].make[0].cells
+call = [{ signature = 's', args = ['any'], make = [{ shape = 'A', count = 1 }, { shape = 'W', count = 1, cells = ['0 w ptr 1 0'] }], result = 'any' }]|Ok
+object = [{ shape = 'K', count = 8191 }]|Ok
+object = [{ shape = 'K', count = 8192 }]|Range object[0].count
+object = [{ shape = 'K', count = 8000 }, { shape = 'K', count = 192 }]|Range object[1].count
+object = [{ shape = 'K', count = 8000 }]#call = [{ signature = 's', args = ['any'], make = [{ shape = 'K', count = 192 }], result = 'any' }]|Range call[0].make";
+
+#[test]
+fn tells_conditions(rt: HostRuntime) -> Result<(), Fail> {
+    let alloc = rt.alloc();
+    let notes = notes_of(alloc, NOTES)?;
+    for line in CONDITIONS.lines() {
+        let Some((keys, wanted)) = line.split_once('|') else {
+            return Err(Fail::new("a line without an answer"));
+        };
+        let mut text = String::from_str(alloc, "version = 1\n")?;
+        if !keys.starts_with("args") {
+            text.push_str("args = ['int 0', 'null']\n")?;
+        }
+        for key in keys.split('#') {
+            text.push_str(key)?;
+            text.push_str("\n")?;
+        }
+        tells(&rt, alloc, &notes, text.as_str(), wanted)?;
+    }
+    Ok(())
+}
+
+/// A script whose last line has so many items of one text.
+fn repeated(
+    alloc: Global,
+    before: &str,
+    count: usize,
+    item: &str,
+    after: &str,
+) -> Result<String, AllocError> {
+    let mut text = String::from_str(alloc, "version = 1\nargs = ['int 0', 'null']\n")?;
+    text.push_str(before)?;
+    for _ in 0..count {
+        text.push_str(item)?;
+    }
+    text.push_str(after)?;
+    Ok(text)
+}
+
+#[test]
+fn tells_the_limit_of_objects(rt: HostRuntime) -> Result<(), Fail> {
+    let alloc = rt.alloc();
+    let notes = notes_of(alloc, NOTES)?;
+    let item = "{shape='A',count=1},";
+    let most = repeated(alloc, "object = [", 4096, item, "]\n")?;
+    tells(&rt, alloc, &notes, most.as_str(), "Ok")?;
+    let past = repeated(alloc, "object = [", 4097, item, "]\n")?;
+    tells(
+        &rt,
+        alloc,
+        &notes,
+        past.as_str(),
+        "Range object[4096].count",
+    )
+}
+
+#[test]
+fn tells_the_limit_of_callbacks(rt: HostRuntime) -> Result<(), Fail> {
+    let alloc = rt.alloc();
+    let notes = notes_of(alloc, NOTES)?;
+    let before = "call = [{signature='s',args=['any'],result='any',enter=[";
+    let most = repeated(alloc, before, 16_384, "'call',", "]}]\n")?;
+    tells(&rt, alloc, &notes, most.as_str(), "Ok")?;
+    let past = repeated(alloc, before, 16_385, "'call',", "]}]\n")?;
+    tells(&rt, alloc, &notes, past.as_str(), "Range call[0].enter")
+}
+
+#[test]
+fn tells_the_limit_of_calls(rt: HostRuntime) -> Result<(), Fail> {
+    let alloc = rt.alloc();
+    let notes = notes_of(alloc, NOTES)?;
+    let item = "{signature='s',args=['any'],result='any'},";
+    let past = repeated(alloc, "call = [", 16_385, item, "]\n")?;
+    tells(
+        &rt,
+        alloc,
+        &notes,
+        past.as_str(),
+        "Range call[16384].signature",
+    )
+}

@@ -1,0 +1,12 @@
+//! Tests of the reader of scripts: the small texts, and whole scripts through all passes. They stand apart from the crates that
+//! they try, since a crate with tests is proved twice.
+#![tactic(auto)]
+
+#[cfg(test)]
+mod conditions;
+#[cfg(test)]
+mod driver;
+#[cfg(test)]
+mod passes;
+#[cfg(test)]
+mod texts;
