@@ -1,6 +1,6 @@
 -- The bytes of an image in memory: its sections at their places, zeros elsewhere, and relocated numbers.
 -- PE/COFF specification, "Section Table (Section Headers)" and "The .reloc Section (Image Only)".
-use Rattle.std.specs.Prelude.{ℕ, ◌+◌, ◌-◌, ◌/◌, ◌%◌, ◌^◌, Bool, ◌&&◌, List, nat_le, nat_lt, slice_index}
+use Rattle.std.specs.Prelude.{ℕ, ◌+◌, ◌-◌, ◌/◌, ◌%◌, ◌^◌, ◌<◌, Bool, ◌&&◌, List, nat_le, nat_lt, slice_index}
 use Rattle.std.specs.List.{find}
 use Rattle.std.specs.Option.{option_map_or}
 use Rattle.ebc_width.specs.Bytes.{little_endian}
@@ -18,6 +18,10 @@ section_byte x s = slice_index s.bytes (x - s.place)
 -- the byte at a place as the sections have it: 0 in no section
 unfoldable pub laid : List Section → ℕ → ℕ
 laid sections x = option_map_or (section_byte x) (find (has_place x) sections) 0
+
+-- each place of an image has a byte
+abbrev pub AreBytes : Image → Type 0
+AreBytes image = (x : ℕ) → laid image.sections x < 256
 
 -- whether a byte is one of the eight at a place
 abbrev pub is_of : ℕ → ℕ → Bool

@@ -2,6 +2,7 @@
 
 ghost use Rattle.std.specs.Prelude.{◌≡◌, ◌+◌, ◌≤◌, length, IfOk};
 ghost use Rattle.pe_image.specs.Images.{Gives, IsImage, image_of, is_kept, kept_sections, section_of};
+ghost use Rattle.pe_image.specs.Mapped.{AreBytes};
 ghost use Rattle.pe_image.specs.Walks.{IsSound};
 
 use crate::fault::ImageEnd;
@@ -22,6 +23,7 @@ use std::alloc::{AllocError, Global};
 pub fn read_image(alloc: Global, file: &[u8]) -> Result<Image, ImageEnd>
     ensures reading { Gives result (image_of file.now) }
     ensures sound { IfOk result IsImage }
+    ensures bytes { IfOk result AreBytes }
 {
     let headers = Headers::of(file)?;
     headers.fit()?;
