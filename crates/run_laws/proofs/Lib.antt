@@ -3,3 +3,11 @@ pub mod RunSteps
 pub mod Runs
 pub mod Statics
 pub mod Thunks
+pub mod Items
+pub mod Decoded
+pub mod OwnPlacement
+pub mod GoingWell
+pub mod DriverNotes
+pub mod DriverImage
+pub mod DriverScript
+pub mod DriverRun

@@ -7,11 +7,10 @@ use Rattle.std.specs.Option.{option_map_or}
 use Rattle.ebc_width.specs.Bytes.{little_endian, put}
 use Rattle.ebc_width.proofs.ByteLaws.{put-within, little_endian-agree, little_endian-same}
 use Rattle.pe_image.specs.Images.{IsImage}
-use Rattle.pe_image.specs.Mapped.{is_of, laid, moved, moved_byte, distance_of, mapped}
+use Rattle.pe_image.specs.Mapped.{AreBytes, is_of, laid, moved, moved_byte, distance_of, mapped}
 use Rattle.pe_image.specs.declared.image.Image.{Image}
 use Rattle.rules_data.specs.Images.{image_byte, named_place, IsUnrelocated}
 use Rattle.run_types.specs.Values.{word}
-use Rattle.run_laws.specs.Premises.{AreBytes}
 
 -- ---- what is found
 

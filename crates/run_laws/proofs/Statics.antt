@@ -28,7 +28,7 @@ use Rattle.note_types.specs.declared.cell.Cell.TheVariants as cell
 use Rattle.note_types.specs.declared.notes.Static.{Static}
 use Rattle.note_types.specs.declared.shape.Field.{Field}
 use Rattle.note_types.specs.declared.shape.Shape.{Shape}
-use Rattle.pe_image.specs.Mapped.{mapped}
+use Rattle.pe_image.specs.Mapped.{AreBytes, mapped}
 use Rattle.pe_image.specs.declared.image.Image.{Image}
 use Rattle.rules_data.specs.Images.{image_byte, named_place, extent, depends, has_natural, field_place, IsStatic, IsLinked, IsStaticAt, CellHolds, HasContentBy, IsUnrelocated}
 use Rattle.run_types.specs.HostPlans.{field_at}
@@ -43,7 +43,7 @@ use Rattle.run_types.specs.declared.object.TypedObject.{TypedObject}
 use Rattle.run_types.proofs.Lists.{slice_get-append_left, within_some, length-map}
 use Rattle.run_types.proofs.NamedThings.{some_there}
 use Rattle.whole_runs.specs.NeutralImage.{static_cells, static_cell_place, static_value, static_address, loaded_value}
-use Rattle.run_laws.specs.Premises.{AreBytes, StaticsAreShown}
+use Rattle.run_laws.specs.Premises.{StaticsAreShown}
 use Rattle.run_laws.proofs.Relocated.{number_kept, number_moved}
 use Rattle.run_laws.proofs.Thunks.{first_found}
 

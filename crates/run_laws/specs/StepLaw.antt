@@ -10,7 +10,7 @@ use Rattle.neutral_machine.specs.Room.{HasRoom}
 use Rattle.neutral_machine.specs.Rows.{Site}
 use Rattle.neutral_machine.specs.Stands.{Stands}
 use Rattle.note_types.specs.declared.spot.Spot.TheVariants.{Place}
-use Rattle.pe_image.specs.Mapped.{mapped}
+use Rattle.pe_image.specs.Mapped.{AreBytes, mapped}
 use Rattle.pe_image.specs.declared.image.Image.{Image}
 use Rattle.run_types.specs.Config.{Config, call_under_way}
 use Rattle.run_types.specs.Layout.{total}
@@ -20,7 +20,6 @@ use Rattle.run_types.specs.RunState.{RunState}
 use Rattle.run_types.specs.World.{World}
 use Rattle.whole_runs.specs.NeutralRun.{neutral_instruction}
 use Rattle.whole_runs.specs.Runs.{run_step}
-use Rattle.run_laws.specs.Premises.{AreBytes}
 
 -- what a run of an image has at either width
 pub record IsRunAt (w : ℕ) (image : Image) (world : World) (P : Placement) : Type 0 where

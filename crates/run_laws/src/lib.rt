@@ -3,7 +3,9 @@
 //! in words.
 #![tactic(auto)]
 
-ghost use Rattle.run_laws.specs.Premises.{StaticsAreShown, ThunksAreLoaded};
+ghost use Rattle.run_laws.specs.Met.{PremisesAreMet};
+ghost use Rattle.run_laws.specs.OwnPlacement.{OwnPlacementIsValid};
+ghost use Rattle.run_laws.specs.Premises.{ReadIsDecoded, StaticsAreShown, ThunksAreLoaded};
 ghost use Rattle.run_laws.specs.RunLaw.{RunStands, RunsAreSame};
 ghost use Rattle.run_laws.specs.StepLaw.{RunStepKeepsStanding};
 
@@ -16,6 +18,18 @@ pub fn thunks_are_loaded()
 /// their rule.
 pub fn statics_are_shown()
     ensures { StaticsAreShown }
+{}
+
+/// The placement that this project takes is valid at either width, where the image and the notes are as they are read and the
+/// objects of the script take at most 8 MiB with their padding and gaps.
+pub fn own_placement_is_valid()
+    ensures { OwnPlacementIsValid }
+{}
+
+/// An instruction that the neutral machine reads at a place of an image whose places hold bytes, and that ends in a function,
+/// keeps the rule on decoding there.
+pub fn read_is_decoded()
+    ensures { ReadIsDecoded }
 {}
 
 /// After a step, the host's or an instruction's, a run that stands for a configuration stands for what the neutral machine's
@@ -32,4 +46,10 @@ pub fn run_stands()
 /// After each such number the runs at both widths are the same, each under a valid placement of its own.
 pub fn runs_are_same()
     ensures { RunsAreSame }
+{}
+
+/// All that these laws ask holds of one image with its notes and its script, at both widths: of the driver of docs/NOTES.md. Its
+/// two runs are the same after every number of steps, and they finish.
+pub fn premises_are_met()
+    ensures { PremisesAreMet }
 {}
