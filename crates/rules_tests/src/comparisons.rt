@@ -4,6 +4,7 @@ use std::test::Fail;
 
 /// Which types compare: numbers, and in 64 bits those that the table lists, each from its side alone.
 const PAIRS: &str = "\
+# numbers
 CMP64eq R4, R5 | 45 54 | R4=int:0..3 R5=7 | same
 CMP64eq R4, R5 | 45 54 | R4=lin:1,0 R5=8 | compare
 CMP64eq R4, R5 | 45 54 | R4=8 R5=lin:1,0 | compare
@@ -29,6 +30,8 @@ CMP64ugte R4, R5 | 49 54 | R4=lin:1,0 R5=8 | compare
 CMP64ugte R4, R5 | 49 54 | R4=8 R5=lin:1,0 | compare
 CMP32ugte R4, R5 | 09 54 | R4=int:0..3 R5=7 | same
 CMP32ugte R4, R5 | 09 54 | R4=lin:1,0 R5=8 | compare
+CMP64eq R4, R5 | 45 54 | R4=lin:1,0 R5=lin:1,0 | compare
+# eq of pointers
 CMP64eq R4, R5 | 45 54 | R4=ptr:Rec R5=ptr:Blk*3 | same
 CMP64eq R4, R5 | 45 54 | R4=ptr?:Rec R5=ptr:Rec | same
 CMP64eq R4, R5 | 45 54 | R4=ptr?:Rec R5=0 | same
@@ -38,26 +41,28 @@ CMP64eq R4, R5 | 45 54 | R4=ptr:Rec R5=int:0..1 | compare
 CMP64eq R4, R5 | 45 54 | R4=ptr:Rec+0,4 R5=0 | compare
 CMP64eq R4, R5 | 45 54 | R4=ptr:Rec R5=ptr:Rec+0,4 | compare
 CMP64eq R4, R5 | 45 54 | R4=ptr:Rec+1,0 R5=ptr:Rec+1,0 | compare
+CMP64eq R4, R5 | 45 54 | R4=handle R5=ptr:Rec | compare
+# eq of handles and entries
 CMP64eq R4, R5 | 45 54 | R4=handle R5=handle | same
 CMP64eq R4, R5 | 45 54 | R4=handle R5=0 | same
 CMP64eq R4, R5 | 45 54 | R4=0 R5=handle | same
 CMP64eq R4, R5 | 45 54 | R4=handle R5=1 | compare
 CMP64eq R4, R5 | 45 54 | R4=handle R5=entry | compare
-CMP64eq R4, R5 | 45 54 | R4=handle R5=ptr:Rec | compare
 CMP64eq R4, R5 | 45 54 | R4=entry R5=entry | same
 CMP64eq R4, R5 | 45 54 | R4=entry R5=0 | same
 CMP64eq R4, R5 | 45 54 | R4=0 R5=entry | same
 CMP64eq R4, R5 | 45 54 | R4=entry R5=int:0..1 | compare
+# eq of a status
 CMP64eq R4, R5 | 45 54 | R4=status:0 R5=status | same
 CMP64eq R4, R5 | 45 54 | R4=status R5=int:0..2147483647 | same
 CMP64eq R4, R5 | 45 54 | R4=int:0..2147483647 R5=status | same
 CMP64eq R4, R5 | 45 54 | R4=status R5=int:0..2147483648 | compare
 CMP64eq R4, R5 | 45 54 | R4=status R5=sstatus | compare
 CMP64eq R4, R5 | 45 54 | R4=status R5=mask | compare
+# eq of all else
 CMP64eq R4, R5 | 45 54 | R4=sstatus R5=sstatus | compare
 CMP64eq R4, R5 | 45 54 | R4=sstatus R5=0 | compare
 CMP64eq R4, R5 | 45 54 | R4=mask R5=mask | compare
-CMP64eq R4, R5 | 45 54 | R4=lin:1,0 R5=lin:1,0 | compare
 CMP64eq R4, R5 | 45 54 | R4=scaled:1,0,3 R5=scaled:1,0,3 | compare
 CMP64eq R4, R5 | 45 54 | R4=any R5=any | compare
 CMP64eq R4, R5 | 45 54 | R4=local:0 R5=local:0 | compare
@@ -67,10 +72,7 @@ CMP64eq R4, R5 | 45 54 | R4=method:0 R5=method:0 | compare
 CMP64eq R4, R5 | 45 54 | R4=method:0 R5=0 | compare
 CMP64eq R4, R5 | 45 54 | R4=thunk:0 R5=0 | compare
 CMP64eq R4, R5 | 45 54 | R4=saved:1 R5=saved:1 | compare
-CMP32eq R4, R5 | 05 54 | R4=ptr:Rec R5=ptr:Rec | compare
-CMP32eq R4, R5 | 05 54 | R4=handle R5=0 | compare
-CMP32eq R4, R5 | 05 54 | R4=status R5=0 | compare
-CMP32eq R4, R5 | 05 54 | R4=entry R5=entry | compare
+# lte and gte of a sign-extended status
 CMP64lte R4, R5 | 46 54 | R4=sstatus:0 R5=0 | same
 CMP64lte R4, R5 | 46 54 | R4=sstatus R5=int:0..2147483647 | same
 CMP64lte R4, R5 | 46 54 | R4=sstatus R5=int:0..2147483648 | compare
@@ -91,18 +93,24 @@ CMP64gte R4, R5 | 47 54 | R4=0 R5=sstatus | compare
 CMP64gte R4, R5 | 47 54 | R4=int:0..3 R5=sstatus | compare
 CMP64gte R4, R5 | 47 54 | R4=status R5=0 | compare
 CMP64gte R4, R5 | 47 54 | R4=entry R5=0 | compare
+# ulte and ugte
 CMP64ulte R4, R5 | 48 54 | R4=sstatus R5=0 | compare
 CMP64ulte R4, R5 | 48 54 | R4=status R5=0 | compare
 CMP64ulte R4, R5 | 48 54 | R4=ptr:Rec R5=0 | compare
 CMP64ugte R4, R5 | 49 54 | R4=sstatus R5=0 | compare
 CMP64ugte R4, R5 | 49 54 | R4=handle R5=0 | compare
+# in 32 bits
+CMP32eq R4, R5 | 05 54 | R4=ptr:Rec R5=ptr:Rec | compare
+CMP32eq R4, R5 | 05 54 | R4=handle R5=0 | compare
+CMP32eq R4, R5 | 05 54 | R4=status R5=0 | compare
+CMP32eq R4, R5 | 05 54 | R4=entry R5=entry | compare
 CMP32lte R4, R5 | 06 54 | R4=sstatus R5=0 | compare
 CMP32gte R4, R5 | 07 54 | R4=sstatus R5=0 | compare
 ";
 
 /// What a comparison leaves of the flag, its operands in memory, and which rule is named where several fail.
 const FACTS: &str = "\
-CMP64eq R4, R5 | 45 54 | R4=1 R5=2 fact=R4,eq,1 | fact=none
+# CMPI64 of a register
 CMPI64weq R4, 8 | 6D 04 08 00 | R4=lin:1,0 | compare
 CMPI64weq R4, 8 | 6D 04 08 00 | R4=int:0..9 | fact=R4,eq,8
 CMPI64weq R4, 8 | 6D 04 08 00 | R4=int:0..9 fact=R5,eq,1 | fact=R4,eq,8
@@ -118,8 +126,29 @@ CMPI64weq R4, 0 | 6D 04 00 00 | R4=ptr?:Blk | fact=R4,eq,0
 CMPI64weq R4, 1 | 6D 04 01 00 | R4=ptr?:Blk | compare
 CMPI64weq R4, 0 | 6D 04 00 00 | R4=handle | fact=R4,eq,0
 CMPI64weq R4, 0 | 6D 04 00 00 | R4=entry | fact=R4,eq,0
+CMPI64weq R0, 1 | 6D 00 01 00 | made=0 | stack
+CMPI64wlte R4, 8 | 6E 04 08 00 | R4=int:0..9 | fact=R4,lte,8
+CMPI64wgte R4, 8 | 6F 04 08 00 | R4=int:0..9 | fact=R4,gte,8
+CMPI64wlte R7, 0 | 6E 07 00 00 | R7=sstatus | fact=R7,lte,0
+CMPI64wlte R7, -2 | 6E 07 FE FF | R7=sstatus | compare
+CMPI64wlte R4, 8 | 6E 04 08 00 | R4=lin:1,0 | compare
+CMPI64wgte R4, 8 | 6F 04 08 00 | R4=lin:1,0 | compare
+CMPI64wulte R4, 8 | 70 04 08 00 | R4=lin:1,0 | compare
+CMPI64wugte R4, 8 | 71 04 08 00 | R4=lin:1,0 | compare
+CMPI64weq R4, 1 | 6D 04 01 00 | R4=handle | compare
+CMPI64weq R4, 1 | 6D 04 01 00 | R4=entry | compare
+CMPI64wulte R4, 0 | 70 04 00 00 | R4=handle | compare
+CMPI64wgte R4, 0 | 6F 04 00 00 | R4=ptr:Blk | compare
+# CMPI32 of a register
 CMPI32weq R4, 8 | 2D 04 08 00 | R4=int:0..9 fact=R4,eq,1 | fact=none
 CMPI32weq R4, 0 | 2D 04 00 00 | R4=ptr?:Blk | compare
+CMPI32wlte R4, 8 | 2E 04 08 00 | R4=int:0..9 fact=R4,eq,1 | fact=none
+CMPI32wgte R4, 8 | 2F 04 08 00 | R4=int:0..9 | same
+CMPI32wulte R4, 8 | 30 04 08 00 | R4=int:0..9 | same
+CMPI32wugte R4, 8 | 31 04 08 00 | R4=int:0..9 | same
+CMPI32wlte R4, 8 | 2E 04 08 00 | R4=sstatus | compare
+CMPI32weq R4, 8 | 2D 04 08 00 | R4=handle | compare
+# CMPI of memory
 CMPI64weq @R4(+0,+8), 5 | 6D 1C 08 00 05 00 | R4=ptr:All fact=R4,eq,0 | fact=none
 CMPI32weq @R4(+0,+4), 5 | 2D 1C 04 00 05 00 | R4=ptr:All | same
 CMPI64weq @R4(+0,+24), 0 | 6D 1C 18 00 00 00 | R4=ptr:All | same
@@ -128,7 +157,9 @@ CMPI64weq @R4(+0,+4), 5 | 6D 1C 04 00 05 00 | R4=ptr:All | address
 CMPI64weq @R4(+0,+8), 5 | 6D 1C 08 00 05 00 | R4=ptr?:All | null
 CMPI64weq @R0(+3,+0), 5 | 6D 18 03 10 05 00 | stack=locals | unwritten
 CMPI64weq @R0(+3,+0), 5 | 6D 18 03 10 05 00 | stack=locals written=3 | same
-CMPI64weq R0, 1 | 6D 00 01 00 | made=0 | stack
+CMPI64wulte @R4(+0,+8), 5 | 70 1C 08 00 05 00 | R4=ptr:All fact=R4,eq,0 | fact=none
+# CMP
+CMP64eq R4, R5 | 45 54 | R4=1 R5=2 fact=R4,eq,1 | fact=none
 CMP64eq R0, R4 | 45 40 | R4=1 | stack
 CMP64eq R4, R0 | 45 04 | R4=1 | stack
 CMP64eq R4, R5 3 | C5 54 03 00 | R4=lin:1,0 R5=1 | compare
@@ -138,6 +169,7 @@ CMP64eq R4, @R5(+0,+24) | C5 D4 18 00 | R4=0 R5=ptr:All | same
 CMP32eq R4, @R5(+0,+4) | 85 D4 04 00 | R4=1 R5=ptr:All | same
 CMP64eq R4, @R5 | 45 D4 | R4=lin:1,0 R5=any | address
 CMP64eq R0, @R5 | 45 D0 | R5=any | stack
+CMP32ulte R4, R5 | 08 54 | R4=1 R5=2 fact=R4,eq,1 | fact=none
 ";
 
 #[test]

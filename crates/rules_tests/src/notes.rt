@@ -44,12 +44,14 @@ signature 1 params=n:entry result=status
 signature 0 params=n:any;q:int:3..9;n:size:2,8;n:size:0,8;n:ptr;n:handle;n:status result=handle
 signature 0 params=n:inout:ptr:Blk;n:out:n;n:out:stat result=none
 signature 0 params=n:out:n;n:out:ptr:Blk result=status
+signature 0 params=n:out:n result=handle
 site 1014 0
 site 1032 1
 site 1080 2
 site 1090 3
 site 10a0 4
 site 10b0 1
+site 10c0 5
 ";
 
 // ---- one thing

@@ -4,6 +4,7 @@ use std::test::Fail;
 
 /// Pushes: what each slot keeps, where operands lie, and the room for slots at both widths.
 const PUSHES: &str = "\
+# operands in registers
 PUSHn R4 | 35 04 | R4=int:0..4294967295 | fall stack=n:int:0..4294967295
 PUSHn R4 | 35 04 | R4=int:0..4294967296 | fall stack=n:any
 PUSHn R4 | 35 04 | R4=saved:1 | fall stack=n:any
@@ -19,6 +20,15 @@ PUSH64 R4 | 6B 04 | R4=lin:1,-8 | fall stack=q:lin:1,-8
 PUSH32 R4 | 2B 04 | R4=int:3..5 | fall stack=d:int:3..5
 PUSH32 R4 | 2B 04 | R4=full64 | fall stack=d:full32
 PUSH32 R4 | 2B 04 | R4=handle | fall stack=d:any
+PUSHn R0 | 35 00 | made=0 | stack
+PUSH64 R4 | 6B 04 | fact=R4,eq,1 R4=1 | fall stack=q:1
+PUSH64 R4 8 | EB 04 08 00 | R4=1 | fall stack=q:9
+PUSH32 R4 8 | AB 04 08 00 | R4=1 | fall stack=d:9
+PUSH32 R4 8 | AB 04 08 00 | R4=4294967295 | fall stack=d:full32
+PUSH64 R0 | 6B 00 | made=0 | stack
+PUSH32 R0 | 2B 00 | made=0 | stack
+PUSHn R0 8 | B5 00 08 00 | made=0 | stack
+# operands in memory
 PUSHn @R5(+1,+0) | B5 0D 01 10 | R5=ptr:Blk | fall stack=n:ptr?:Blk
 PUSHn @R5(+0,+24) | B5 0D 18 00 | R5=ptr:All | address
 PUSH64 @R5(+0,+24) | EB 0D 18 00 | R5=ptr:All | fall stack=q:ptr:Blk
@@ -33,8 +43,22 @@ PUSHn @R0 | 35 08 | stack=locals written=0 | fall stack=n:ptr:Blk;locals
 PUSHn @R5(+1,+0) | B5 0D 01 10 | R5=ptr?:Blk | null
 PUSHn @R5 | 35 0D | R5=thunk:0 | thunk
 PUSHn @R5 | 35 0D | R5=thunk:0 made=1 | fall stack=n:entry
-PUSHn R0 | 35 00 | made=0 | stack
 PUSH64 @R5 | 6B 0D | R5=any | address
+PUSHn @R5(+0,+0) | B5 0D 00 00 | R5=ptr:All | address
+PUSHn @R5(+0,+2) | B5 0D 02 00 | R5=ptr:All | address
+PUSHn @R5(+0,+4) | B5 0D 04 00 | R5=ptr:All | address
+PUSHn @R5(+0,+8) | B5 0D 08 00 | R5=ptr:All | address
+PUSHn @R5(+0,+16) | B5 0D 10 00 | R5=ptr:All | address
+PUSHn @R5(+0,+32) | B5 0D 20 00 | R5=ptr:All | fall stack=n:full32
+PUSHn @R5(+1,+32) | B5 0D 81 10 | R5=ptr:All | fall stack=n:status
+PUSHn @R5(+2,+32) | B5 0D 82 10 | R5=ptr:All | fall stack=n:handle
+PUSHn @R5(+3,+32) | B5 0D 83 10 | R5=ptr:All | fall stack=n:entry
+PUSHn @R5(+4,+32) | B5 0D 04 22 | R5=ptr:All | fall stack=n:ptr:Blk
+PUSHn @R5(+5,+32) | B5 0D 05 22 | R5=ptr:All | fall stack=n:method:0
+PUSH64 @R5(+0,+16) | EB 0D 10 00 | R5=ptr:All | fall stack=q:ptr?:Blk
+PUSH64 @R5(+0,+32) | EB 0D 20 00 | R5=ptr:All | address
+PUSH32 @R5(+0,+32) | AB 0D 20 00 | R5=ptr:All | address
+# the room
 PUSH64 R4 | 6B 04 | in=1 R4=5 | stack
 PUSH64 @R5 | 6B 0D | in=1 R5=any | stack
 PUSHn @R5 | 35 0D | in=1 R5=thunk:0 | stack
@@ -47,12 +71,13 @@ PUSH32 R4 | 2B 04 | stack=d:any;d:any;d:any;d:any;d:any;d:any;d:any;d:any;d:any;
 PUSH32 R4 | 2B 04 | stack=d:any;d:any;d:any;d:any;d:any;d:any;d:any;d:any;d:any;d:any;d:any;d:any;d:any;d:any;d:any;d:any;d:any;d:any;d:any;d:any;d:any;d:any;d:any;d:any;d:any;d:any;d:any;d:any;d:any;d:any;d:any;d:any;d:any;d:any;d:any;d:any;d:any;d:any;d:any;d:any;d:any;d:any;d:any;d:any;d:any;d:any;d:any;d:any;d:any;d:any;d:any;d:any;d:any;d:any;d:any;d:any;d:any;d:any;d:any;d:any;d:any;d:any;d:any;d:any | stack
 PUSH32 R4 | 2B 04 | stack=d:any;d:any;d:any;d:any;d:any;d:any;d:any;d:any;d:any;d:any;d:any;d:any;d:any;d:any;d:any;d:any;d:any;d:any;d:any;d:any;d:any;d:any;d:any;d:any;d:any;d:any;d:any;d:any;d:any;d:any;d:any;d:any;d:any;d:any;d:any;d:any;d:any;d:any;d:any;d:any;d:any;d:any;d:any;d:any;d:any;d:any;d:any;d:any;d:any;d:any;d:any;d:any;d:any;d:any;d:any;d:any;d:any;d:any;d:any;d:any;d:any;d:any;d:any;locals | fall stack=d:any;d:any;d:any;d:any;d:any;d:any;d:any;d:any;d:any;d:any;d:any;d:any;d:any;d:any;d:any;d:any;d:any;d:any;d:any;d:any;d:any;d:any;d:any;d:any;d:any;d:any;d:any;d:any;d:any;d:any;d:any;d:any;d:any;d:any;d:any;d:any;d:any;d:any;d:any;d:any;d:any;d:any;d:any;d:any;d:any;d:any;d:any;d:any;d:any;d:any;d:any;d:any;d:any;d:any;d:any;d:any;d:any;d:any;d:any;d:any;d:any;d:any;d:any;d:any;locals
 PUSH32 R4 | 2B 04 | stack=d:any;d:any;d:any;d:any;d:any;d:any;d:any;d:any;d:any;d:any;d:any;d:any;d:any;d:any;d:any;d:any;d:any;d:any;d:any;d:any;d:any;d:any;d:any;d:any;d:any;d:any;d:any;d:any;d:any;d:any;d:any;d:any;d:any;d:any;d:any;d:any;d:any;d:any;d:any;d:any;d:any;d:any;d:any;d:any;d:any;d:any;d:any;d:any;d:any;d:any;d:any;d:any;d:any;d:any;d:any;d:any;d:any;d:any;d:any;d:any;d:any;d:any;d:any;d:any;locals | stack
+# a relocation
 PUSH64 R4 | 6B 04 | reloc=2060 | relocation
-PUSH64 R4 | 6B 04 | fact=R4,eq,1 R4=1 | fall stack=q:1
 ";
 
 /// Pops: the kind of the slot, what a slot of four bytes holds, and where the value goes.
 const POPS: &str = "\
+# POPn to a register
 POPn R4 | 36 04 | stack=n:handle;q:5 | fall R4=handle stack=q:5
 POPn R4 | 36 04 | stack=q:5 | stack
 POPn R4 | 36 04 | stack=d:5 | stack
@@ -63,15 +88,27 @@ POPn R4 0 | B6 04 00 00 | stack=n:status:0 | fall R4=any stack=none
 POPn R4 | 36 04 | stack=n:1 fact=R4,eq,1 | fall R4=1 stack=none fact=none
 POPn R4 | 36 04 | stack=n:1 fact=R5,eq,1 | fall R4=1 stack=none
 POPn R0 | 36 00 | stack=n:1 | stack
-POPn @R0 | 36 08 | stack=n:1 | stack
+# POP64 to a register
 POP64 R1 | 6C 01 | stack=q:saved:1 R1=any | fall R1=saved:1 stack=none
 POP64 R4 | 6C 04 | stack=n:5 | stack
 POP64 R4 | 6C 04 | stack=d:5 | stack
+POP64 R4 3 | EC 04 03 00 | stack=q:1 | fall R4=4 stack=none
+POP64 R4 -8 | EC 04 F8 FF | stack=q:ptr:Rec | fall R4=ptr:Rec+0,-8 stack=none
+POP64 R4 | 6C 04 | made=0 | stack
+POP64 R4 | 6C 04 | stack=locals | stack
+POP64 R0 | 6C 00 | stack=q:1 | stack
+# POP32 to a register
 POP32 R4 | 2C 04 | stack=d:int:0..2147483647 | fall R4=int:0..2147483647 stack=none
 POP32 R4 | 2C 04 | stack=d:int:0..2147483648 | stack
 POP32 R4 | 2C 04 | stack=d:any | stack
 POP32 R4 | 2C 04 | stack=n:5 | stack
 POP32 R4 | 2C 04 | stack=q:5 | stack
+POP32 R4 3 | AC 04 03 00 | stack=d:1 | fall R4=4 stack=none
+POP32 R4 | 2C 04 | made=0 | stack
+POP32 R4 | 2C 04 | stack=locals | stack
+POP32 R0 | 2C 00 | stack=d:1 | stack
+# to memory
+POPn @R0 | 36 08 | stack=n:1 | stack
 POPn @R5(+2,+32) | B6 0D 82 10 | stack=n:handle R5=ptr:All | fall stack=none
 POPn @R5(+2,+32) | B6 0D 82 10 | stack=n:entry R5=ptr:All | store
 POPn @R5(+0,+8) | B6 0D 08 00 | stack=n:handle R5=ptr:All | address
@@ -85,12 +122,35 @@ POPn @R5(+2,+32) | B6 0D 82 10 | stack=n:handle R5=ptr?:All | null
 POPn @R5 | 36 0D | stack=q:5 R5=any | stack
 POPn @R5 | 36 0D | stack=n:5 R5=any | address
 POPn @R5(+1,+32) | B6 0D 81 10 | stack=n:sstatus R5=ptr?:All | null
+POPn @R5(+0,+0) | B6 0D 00 00 | stack=n:7 R5=ptr:All | address
+POPn @R5(+0,+2) | B6 0D 02 00 | stack=n:7 R5=ptr:All | address
+POPn @R5(+0,+4) | B6 0D 04 00 | stack=n:7 R5=ptr:All | address
+POPn @R5(+0,+8) | B6 0D 08 00 | stack=n:7 R5=ptr:All | address
+POPn @R5(+0,+16) | B6 0D 10 00 | stack=n:0 R5=ptr:All | address
+POPn @R5(+0,+24) | B6 0D 18 00 | stack=n:ptr:Blk R5=ptr:All | address
+POPn @R5(+0,+32) | B6 0D 20 00 | stack=n:7 R5=ptr:All | fall stack=none
+POPn @R5(+1,+32) | B6 0D 81 10 | stack=n:status R5=ptr:All | fall stack=none
+POPn @R5(+3,+32) | B6 0D 83 10 | stack=n:entry R5=ptr:All | fall stack=none
+POPn @R5(+4,+32) | B6 0D 04 22 | stack=n:ptr:Blk R5=ptr:All | fall stack=none
+POPn @R5(+5,+32) | B6 0D 05 22 | stack=n:method:0 R5=ptr:All | address
+POP64 @R5(+0,+16) | EC 0D 10 00 | stack=q:0 R5=ptr:All | fall stack=none
+POP64 @R5(+0,+16) | EC 0D 10 00 | stack=q:5 R5=ptr:All | store
+POP64 @R5(+0,+32) | EC 0D 20 00 | stack=q:5 R5=ptr:All | address
+POP32 @R5(+0,+32) | AC 0D 20 00 | stack=d:5 R5=ptr:All | address
+POP32 @R5(+0,+4) | AC 0D 04 00 | stack=d:any R5=ptr:All | stack
+POP64 @R0 | 6C 08 | stack=q:1;locals | stack
+POP32 @R0(+3,+8) | AC 08 23 10 | stack=d:1;locals | stack
+POPn @R5 | 36 0D | stack=n:5 R5=thunk:0 made=1 | address
+POPn @R5 | 36 0D | stack=n:5 R5=lent:n | fall stack=none
+# a relocation
 POP64 R4 | 6C 04 | stack=q:5 reloc=2060 | relocation
+POPn R4 | 36 04 | stack=n:5 reloc=2060 | relocation
 ";
 
 /// Locals that are made, items that are dropped, other moves to R0, and what is no instruction of control or of the
 /// stack.
 const FRAMES: &str = "\
+# locals made
 MOVqw R0, R0(-3,-16) | 60 00 43 90 | made=0 | fall stack=locals
 MOVqd R0, R0(-3,-16) | 64 00 03 01 00 90 | stack=n:5 | fall stack=locals;n:5
 MOVqq R0, R0(-3,-16) | 68 00 03 10 00 00 00 00 00 90 | made=0 | fall stack=locals
@@ -103,9 +163,10 @@ MOVqw R0, R0(-0,-8) | 60 00 08 80 | in=4 | stack
 MOVqw R0, R0(-1,-0) | 60 00 01 90 | in=0 stack=n:any | fall stack=locals;n:any
 MOVqw R0, R0(-1,-0) | 60 00 01 90 | in=0 stack=n:any;n:any | stack
 MOVqw R0, R0(-3,-16) | 60 00 43 90 | stack=d:any;d:any;d:any;d:any;d:any;d:any;d:any;d:any;d:any;d:any;d:any;d:any;d:any;d:any;d:any;d:any;d:any;d:any;d:any;d:any;d:any;d:any;d:any;d:any;d:any;d:any;d:any;d:any;d:any;d:any;d:any;d:any;d:any;d:any;d:any;d:any;d:any;d:any;d:any;d:any;d:any;d:any;d:any;d:any;d:any;d:any;d:any;d:any;d:any;d:any;d:any;d:any;d:any;d:any;d:any;d:any;d:any;d:any;d:any;d:any;d:any;d:any;d:any;d:any | fall stack=locals;d:any;d:any;d:any;d:any;d:any;d:any;d:any;d:any;d:any;d:any;d:any;d:any;d:any;d:any;d:any;d:any;d:any;d:any;d:any;d:any;d:any;d:any;d:any;d:any;d:any;d:any;d:any;d:any;d:any;d:any;d:any;d:any;d:any;d:any;d:any;d:any;d:any;d:any;d:any;d:any;d:any;d:any;d:any;d:any;d:any;d:any;d:any;d:any;d:any;d:any;d:any;d:any;d:any;d:any;d:any;d:any;d:any;d:any;d:any;d:any;d:any;d:any;d:any;d:any
+# items dropped
 MOVqw R0, R0 | 20 00 | stack=n:5 | fall
 MOVqw R0, R0(+0,+0) | 60 00 00 00 | stack=n:5 | fall
-MOVqw R0, R0(-0,-0) | 60 00 00 00 | stack=locals written=0 | fall
+MOVqw R0, R0(-0,-0) | 60 00 00 80 | stack=locals written=0 | fall
 MOVqq R0, R0 | 28 00 | made=0 | fall
 MOVqw R0, R0(+1,+8) | 60 00 21 10 | stack=q:any;n:5;locals written=0 R4=local:0 | fall stack=locals
 MOVqw R0, R0(+0,+8) | 60 00 08 00 | stack=q:any;n:5;locals | fall stack=n:5;locals
@@ -122,6 +183,7 @@ MOVqw R0, R0(+4,+24) | 60 00 84 21 | stack=q:any;n:5;locals;n:6 written=1 R7=sta
 MOVqw R0, R0(+3,+8) | 60 00 23 10 | stack=locals | stack
 MOVqw R0, R0(+1,+0) | 60 00 01 10 | stack=n:local:0;locals written=0 R7=status:1 | fall stack=locals
 MOVqw R0, R0(+1,+0) | 60 00 01 10 | stack=n:5 fact=R4,eq,1 R4=1 | fall stack=none
+# other moves to R0
 MOVnw R0, R0 | 32 00 | made=0 | stack
 MOVdw R0, R0 | 1F 00 | made=0 | stack
 MOVqw R0, R4 | 20 40 | R4=1 | stack
@@ -130,10 +192,12 @@ MOVsnw R0, R4 | 25 40 | R4=1 | stack
 MOVIqw R0, 5 | 77 30 05 00 | made=0 | stack
 MOVInw R0, (+1,+0) | 78 00 01 10 | made=0 | stack
 MOVRELd R0, 0xFFA | B9 00 FA 0F 00 00 | made=0 | stack
+# a relocation
 MOVIqq R0, 0x2060 | F7 30 60 20 00 00 00 00 00 00 | reloc=2060 | stack
 MOVIqq R0, 0x2061 | F7 30 61 20 00 00 00 00 00 00 | reloc=2061 | relocation
 MOVIqd R0, 0x2060 | B7 30 60 20 00 00 | reloc=2060 | relocation
 MOVqw R0, R0 | 20 00 | reloc=2060 | relocation
+# no instruction of control or of the stack
 ADD64 R4, R5 | 4C 54 | R4=1 R5=1 | form
 CMPI64weq R4, 1 | 6D 04 01 00 | R4=1 | form
 MOVqw @R4, R5 | 20 5C | R4=ptr:All+0,8 R5=1 | form
