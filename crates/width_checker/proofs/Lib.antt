@@ -1,5 +1,6 @@
 pub mod Deciding
 pub mod Decoding
+pub mod Disjoint
 pub mod Failing
 pub mod Firsts
 pub mod Leading
