@@ -31,8 +31,8 @@ fn size_of_pair(n: u32, c: u32) -> u64
     u64::from(n) * 8 + u64::from(c)
 }
 
-/// How many bytes a static object of a shape has where an address has 8 bytes, or 2^40, if that is less.
-pub(crate) fn extent_of(x: &Static, s: &Shape) -> u64
+// How many bytes a static object of a shape has where an address has 8 bytes, or 2^40, if that is less.
+fn extent_of(x: &Static, s: &Shape) -> u64
     ensures { result ≡ min (extent x.now s.now) (2 ^ 40) }
 {
     x.count.saturating_mul(size_of_pair(s.n, s.c)).min(BEYOND)
@@ -186,8 +186,8 @@ fn are_in_turn(notes: &Notes, order: &[u32]) -> bool
     true
 }
 
-/// Sorts all things of the notes by their places. True says that no two of them share a byte. False may say nothing: it comes
-/// where two do, or where there are more things than places.
+/// Sorts all things of the notes by their places. True says that no two of them share a byte. False comes where two do, or where
+/// there are more things than places, which no clause says.
 pub(crate) fn all_apart(notes: &Notes, order: &mut [u32]) -> bool
     requires { length order.old ≡ things notes.now }
     ensures { IsTrue result → AreAllApart notes.now }

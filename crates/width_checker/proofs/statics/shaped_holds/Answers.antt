@@ -1,4 +1,5 @@
 use Rattle.std.proofs.Common.{◌≡◌, ◌+◌, ◌≤◌, arith, subst, sym}
+use Rattle.std.proofs.lemmas.Option.{get_or_from_slice_get, slice_get_within}
 use Rattle.rules_data.specs.Images.{extent}
 use Rattle.width_checker.specs.Checks.{IsStaticApart}
 use Rattle.width_checker.proofs.Disjoint.{beyond, refuted, static_apart}
@@ -23,6 +24,13 @@ returns-then-not-is_static_apart c =
     let yes = c.is_static_apart.ensures.1 (subst (λ n. IsStaticApart c.args.notes.now c.args.number c.args.x.now.place n) (sym c.in-Some.ensures.some.0) (apart_of c.args.image.now c.args.notes.now c.args.number c.args.x.now c.args.s.now h)) in
     let is = c.if-not-is_static_apart.true in
     cc)
+
+pub has_content-requires-clause-there : goal.has_content-requires-clause-there
+has_content-requires-clause-there c = (
+  c.args.number,
+  slice_get_within c.args.notes.now.statics c.args.number c.args.x.now c.requires.there,
+  get_or_from_slice_get c.args.notes.now.statics c.args.number c.args.x.now c.args.x.now c.requires.there,
+)
 
 pub returns : goal.returns
 returns c = (
