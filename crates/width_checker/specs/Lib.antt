@@ -1,3 +1,4 @@
+pub mod Contents
 pub mod Paths
 pub mod Places
 pub mod PlainChecks

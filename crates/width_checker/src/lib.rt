@@ -7,6 +7,7 @@
 mod bytes;
 mod marks;
 mod plain;
+mod ranges;
 mod refusal;
 mod relocation;
 mod row;
