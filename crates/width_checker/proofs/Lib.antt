@@ -13,6 +13,7 @@ pub mod PlainRulesLemmas
 pub mod PlainRunsLemmas
 pub mod PlainStartsLemmas
 pub mod Points
+pub mod RangesLemmas
 pub mod Relocs
 pub mod Sections
 pub mod Walking
