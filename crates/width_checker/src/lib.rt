@@ -5,6 +5,7 @@
 #![tactic(auto)]
 
 mod bytes;
+mod content;
 mod marks;
 mod plain;
 mod ranges;
