@@ -1,3 +1,4 @@
+pub mod ContentLemmas
 pub mod Deciding
 pub mod Decoding
 pub mod Disjoint

@@ -27,7 +27,7 @@ fails {P} never = (λ e. absurd (let bad : false ≡ true = e in cc), λ p. absu
 
 -- ---- relocations
 
-number_of : (xs : List ℕ) (r : ℕ) (c : Contains xs r) → slice_get xs c.0 ≡ Some r
+pub number_of : (xs : List ℕ) (r : ℕ) (c : Contains xs r) → slice_get xs c.0 ≡ Some r
 number_of xs r c = slice_get-get_or xs c.0 r c.1 ∙ ap (λ x. Some x) c.2
 
 pub relocs_ascend : (image : Image) → IsImage image → (j k r q : ℕ) → j < k → slice_get image.relocs j ≡ Some r → slice_get image.relocs k ≡ Some q → r + 8 ≤ q
@@ -38,7 +38,7 @@ relocs_ascend image sound j k r q less there here =
     let b : get_or image.relocs k 0 ≡ q = get_or_from_slice_get image.relocs k q 0 here in
     omega arith
 
-same_number : (xs : List ℕ) (j k r q : ℕ) → j ≡ k → slice_get xs j ≡ Some r → slice_get xs k ≡ Some q → r ≡ q
+pub same_number : (xs : List ℕ) (j k r q : ℕ) → j ≡ k → slice_get xs j ≡ Some r → slice_get xs k ≡ Some q → r ≡ q
 same_number xs j k r q e there here = same_Some r q (sym there ∙ ap (slice_get xs) e ∙ here)
 
 -- two relocations don't overlap

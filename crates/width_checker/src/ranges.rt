@@ -28,7 +28,7 @@ fn is_zero_in(s: &Section, from: u32, to: u32) -> bool
 fn are_zero_in(sections: &[Section], from: u32, to: u32) -> bool
     ensures { IsTrue result ↔ AreZeroIn sections.now from to }
 {
-    for (number, s) in sections.iter().enumerate() {
+    for s in sections {
         if !is_zero_in(s, from, to) {
             return false;
         }
