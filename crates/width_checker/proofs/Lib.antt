@@ -17,4 +17,6 @@ pub mod Points
 pub mod RangesLemmas
 pub mod Relocs
 pub mod Sections
+pub mod StaticLaws
+pub mod ThunkLaws
 pub mod Walking
