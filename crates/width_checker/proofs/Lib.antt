@@ -1,5 +1,7 @@
+pub mod ContentLemmas
 pub mod Deciding
 pub mod Decoding
+pub mod Disjoint
 pub mod Failing
 pub mod Firsts
 pub mod Leading
@@ -12,6 +14,9 @@ pub mod PlainRulesLemmas
 pub mod PlainRunsLemmas
 pub mod PlainStartsLemmas
 pub mod Points
+pub mod RangesLemmas
 pub mod Relocs
 pub mod Sections
+pub mod StaticLaws
+pub mod ThunkLaws
 pub mod Walking

@@ -1,3 +1,5 @@
+pub mod Checks
+pub mod Contents
 pub mod Paths
 pub mod Places
 pub mod PlainChecks

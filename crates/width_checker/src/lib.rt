@@ -1,19 +1,26 @@
 //! The check of code for both pointer widths: whether every instruction meets its rules, and else the first that doesn't.
 //!
-//! [`check_code`] goes over the code of an image under notes; docs/RULES.md has its rules. [`check_plain`] is the plain check,
-//! of raw code that works on registers alone; docs/PLAIN.md has its rules.
+//! [`check`] is the check of an image under notes; docs/RULES.md has its rules. [`check_plain`] is the plain check, of raw code
+//! that works on registers alone; docs/PLAIN.md has its rules.
 #![tactic(auto)]
 
+mod apart;
 mod bytes;
+mod checker;
+mod content;
 mod marks;
 mod plain;
+mod ranges;
 mod refusal;
 mod relocation;
 mod row;
+mod statics;
 mod tables;
+mod thunks;
 mod verdict;
 mod walk;
 
+pub use checker::{Checker, check};
 pub use ebc_base::NoMemory;
 pub use note_types::RuleName;
 pub use plain::check_plain;
