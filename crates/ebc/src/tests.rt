@@ -5,8 +5,8 @@ use ebc_outside::{MemFolder, MemSink};
 use std::alloc::{AllocError, Global};
 use std::test::Fail;
 
-// The words of a line, split at its spaces, as the program is handed them.
-fn words_of(alloc: Global, line: &str) -> Result<Vec<String>, AllocError> {
+/// The words of a line, split at its spaces, as the program is handed them.
+pub fn words_of(alloc: Global, line: &str) -> Result<Vec<String>, AllocError> {
     let mut words = Vec::new(alloc);
     for word in line.split(' ') {
         words.push(String::from_str(alloc, word)?)?;
@@ -40,8 +40,8 @@ const VERDICTS: &str = "773105000400 neutral
 0C210400 refused 00000000 form
 4C290400 refused 00000000 form";
 
-// The bytes that digits spell, two digits a byte.
-fn bytes_of(alloc: Global, digits: &str) -> Result<Vec<u8>, Fail> {
+/// The bytes that digits spell, two digits a byte.
+pub fn bytes_of(alloc: Global, digits: &str) -> Result<Vec<u8>, Fail> {
     let mut bytes = Vec::new(alloc);
     for pair in digits.as_bytes().chunks(2) {
         bytes.push(u8::from_str_radix(str::from_utf8(pair)?, 16)?)?;
@@ -64,10 +64,20 @@ fn plain_code_is_neutral_or_refused(rt: HostRuntime) -> Result<(), Fail> {
     Ok(())
 }
 
+const USAGE: &str = "usage: check CODE | check IMAGE NOTES\n";
+
 #[test]
 fn words_that_are_no_command_print_the_usage(rt: HostRuntime) -> Result<(), Fail> {
     let alloc = rt.alloc();
-    for line in ["check", "check ", "list code", "check code more"] {
+    for line in [
+        "check",
+        "check ",
+        "list code",
+        "check code ",
+        "check  notes",
+        "list code notes",
+        "check code notes more",
+    ] {
         let mut out = MemSink::new(alloc);
         let outcome = ebc(
             alloc,
@@ -76,7 +86,7 @@ fn words_that_are_no_command_print_the_usage(rt: HostRuntime) -> Result<(), Fail
             &mut out,
         );
         assert_eq!(rt; outcome.code(), 2, "at {line}");
-        assert_eq!(rt; out.text(), b"usage: check CODE\n".as_slice(), "at {line}");
+        assert_eq!(rt; out.text(), USAGE.as_bytes(), "at {line}");
     }
     Ok(())
 }

@@ -1,32 +1,62 @@
--- From the answer of `check CODE` to the rules that the code meets, and to its runs.
-use Rattle.std.proofs.Common.{◌≡◌, ◌↔◌, ℕ, ◌<◌, ◌≤◌, List, [], ◌∷◌, length, Option, Some, None, IfSome, Ok, Err, Bool, true, false, nat_lt, if◌then◌else◌, refl, sym, ap, ◌∙◌, arith}
+-- From a reply to the words to the clauses of `ebc`: what it says of code, of an image under notes, and of bad input.
+use Rattle.std.proofs.Common.{◌≡◌, ◌↔◌, ℕ, ◌<◌, ◌≤◌, List, [], ◌∷◌, length, Option, Some, None, IfSome, Result, Ok, Err, Bool, true, false, nat_lt, if◌then◌else◌, refl, sym, ap, ◌∙◌, arith}
 use Rattle.std.proofs.lemmas.Bool.Decides.{nat_tests}
-use Rattle.ebc_outside.specs.Files.{Files}
-use Rattle.ebc_cli.specs.declared.outcome.Outcome.{Outcome}
-use Rattle.ebc_cli.specs.declared.outcome.Outcome.TheVariants as outcomes
+use Rattle.ebc_outside.specs.Files.{Files, AppendsPart}
+use Rattle.note_types.specs.declared.notes.Notes.{Notes}
 use Rattle.note_types.specs.declared.rule.RuleName.{RuleName}
+use Rattle.pe_image.specs.declared.image.Image.{Image}
 use Rattle.width_checker.specs.declared.verdict.Verdict.{Verdict}
 use Rattle.width_checker.specs.declared.verdict.Verdict.TheVariants.{Neutral, Refused}
-use Rattle.ebc_cli.specs.declared.reply.Reply.{Reply}
-use Rattle.ebc_cli.specs.declared.reply.End.TheVariants.{Stop}
-use Rattle.ebc_cli.specs.Outcomes.{IsAnswer}
 use Rattle.width_checker.specs.PlainChecks.{plain_verdict}
-use Rattle.width_checker.specs.PlainRules.{IsNeutral, IsRefused}
+use Rattle.width_checker.specs.PlainRules as plain
 use Rattle.width_checker.specs.PlainRuns.{RunsAlike}
-use Rattle.ebc_cli.specs.Readings.{Follows, file, go_on, large_reply}
-use Rattle.ebc_cli.specs.Answers.{answer_of, check_code, reply_to, reply_of, verdict_reply, plain_code_limit, ChecksCode}
+use Rattle.width_checker.specs.Typed.{Typed}
+use Rattle.width_checker.specs.Verdicts.{IsRefused}
 use Rattle.width_checker.proofs.PlainRunsLemmas.{neutral-alike}
 use Rattle.width_checker.proofs.PlainRulesLemmas.{neutral-exactly}
 use Rattle.width_checker.proofs.PlainRefusalLemmas.{refused-exactly}
+use Rattle.ebc_cli.specs.declared.outcome.Outcome.{Outcome}
+use Rattle.ebc_cli.specs.declared.outcome.Outcome.TheVariants as outcomes
+use Rattle.ebc_cli.specs.declared.reply.End.TheVariants.{Stop}
+use Rattle.ebc_cli.specs.declared.reply.Reply.{Reply}
+use Rattle.ebc_cli.specs.declared.work.Work.{Work}
+use Rattle.ebc_cli.specs.declared.work.Work.TheVariants as works
+use Rattle.ebc_cli.specs.Outcomes.{IsAnswer}
+use Rattle.ebc_cli.specs.Readings.{file, done, go_on, large_reply}
+use Rattle.ebc_cli.specs.Works.{work_of, code_check, verdict_reply, TellsVerdict, IsReplyOf, plain_code_limit}
+use Rattle.ebc_cli.specs.Answers.{IsAnswerOf, Decides, Answers, PrintsPart, printed, ChecksCode, ChecksImage, HasBadInput}
+use Rattle.ebc_cli.proofs.BadInputLemmas.{bad-exactly, image-work}
 
--- the told reply is that of the run, whether it went through or stopped
-pub reply-ok : (contents : Option Files) (words before now : List (List ℕ)) (reply : Reply) → IfSome contents (λ files. Follows before now (Ok reply) (answer_of words files)) → IfSome contents (λ files. reply_to words files ≡ reply)
-reply-ok None words before now reply follows = tt
-reply-ok (Some files) words before now reply follows = rw follows.0 refl
+-- a reply that was decided is an answer, whether the reading went through or stopped
+pub answer-ok : (contents : Option Files) (words before now : List (List ℕ)) (reply : Reply) → IfSome contents (λ files. Decides before now (Ok reply) (work_of words files)) → IfSome contents (λ files. IsAnswerOf words files reply)
+answer-ok None words before now reply decided = tt
+answer-ok (Some files) words before now reply decided = decided.0
 
-pub reply-stop : (contents : Option Files) (words before now : List (List ℕ)) (reply : Reply) → IfSome contents (λ files. Follows before now (Err (Stop reply)) (answer_of words files)) → IfSome contents (λ files. reply_to words files ≡ reply)
-reply-stop None words before now reply follows = tt
-reply-stop (Some files) words before now reply follows = rw follows.0 refl
+pub answer-stop : (contents : Option Files) (words before now : List (List ℕ)) (reply : Reply) → IfSome contents (λ files. Decides before now (Err (Stop reply)) (work_of words files)) → IfSome contents (λ files. IsAnswerOf words files reply)
+answer-stop None words before now reply decided = tt
+answer-stop (Some files) words before now reply decided = decided.0
+
+-- the reply is an answer to the words, and the outcome is its
+pub record Tells (contents : Option Files) (words : List (List ℕ)) (reply : Reply) (outcome : Outcome) : Type 0 where
+  pub told : IfSome contents (λ files. IsAnswerOf words files reply)
+  pub same : IsAnswer outcome → outcome ≡ reply.outcome
+
+pub answers : (contents : Option Files) (words : List (List ℕ)) (reply : Reply) (outcome : Outcome) (before now : Option (List ℕ)) → Tells contents words reply outcome
+    → (IsAnswer outcome → now ≡ printed reply.text before) → IfSome contents (λ files. IsAnswer outcome → Answers words files outcome before now)
+answers None words reply outcome before now tells text = tt
+answers (Some files) words reply outcome before now tells text = λ answered. record { reply = reply; answer = tells.told; same = tells.same answered; text = text answered }
+
+pub prints-part : (contents : Option Files) (words : List (List ℕ)) (reply : Reply) (outcome : Outcome) (before now : Option (List ℕ)) → Tells contents words reply outcome
+    → (outcome ≡ outcomes.WriteFault → AppendsPart reply.text before now) → IfSome contents (λ files. outcome ≡ outcomes.WriteFault → PrintsPart words files before now)
+prints-part None words reply outcome before now tells part = tt
+prints-part (Some files) words reply outcome before now tells part = λ fault. record { reply = reply; answer = tells.told; part = part fault }
+
+-- ---- verdicts
+
+-- the reply of an exact verdict tells it
+pub tells-verdict : (image : Image) (notes : Notes) (verdict : Verdict) → verdict ≡ Neutral ↔ Typed image notes
+    → ((place : ℕ) (rule : RuleName) → verdict ≡ Refused place rule ↔ IsRefused image notes place rule) → TellsVerdict image notes (verdict_reply verdict)
+tells-verdict image notes verdict neutral refused = record { verdict = verdict; neutral = neutral; refused = refused; told = refl }
 
 verdict-done : (verdict : Verdict) → (verdict_reply verdict).outcome ≡ outcomes.Done ↔ verdict ≡ Neutral
 verdict-done Neutral = (λ e. refl, λ e. refl)
@@ -36,64 +66,86 @@ verdict-refused : (verdict : Verdict) (p : ℕ) (r : RuleName) → (verdict_repl
 verdict-refused Neutral p r = (λ e. cc, λ e. cc)
 verdict-refused (Refused place rule) p r = (λ e. let there : place ≡ p = cc in let named : rule ≡ r = cc in rw (there, named) refl, λ e. let there : place ≡ p = cc in let named : rule ≡ r = cc in rw (there, named) refl)
 
--- the reply to code of a file, which may be too large
-code-reply : List ℕ → List ℕ → Bool → Reply
-code-reply name code large = reply_of (go_on (name ∷ []) (if large then Err (large_reply 1 name) else Ok code) (λ bytes. record { asked = []; value = Ok (verdict_reply (plain_verdict bytes)) })).value
+-- an outcome that is exactly so where the verdict is, and the verdict where the code is
+exactly-so : {A B : Type 0} (outcome verdict wanted : Outcome) → outcome ≡ verdict → verdict ≡ wanted ↔ A → A ↔ B → outcome ≡ wanted ↔ B
+exactly-so outcome verdict wanted same one two = (λ e. two.0 (one.0 (sym same ∙ e)), λ b. same ∙ one.1 (two.1 b))
 
-checked-reply : (words : List (List ℕ)) (files : Files) (code : List ℕ) → (c : ChecksCode words files code) → reply_to words files ≡ code-reply c.name code (nat_lt plain_code_limit (length code))
-unfolding answer_of check_code file code-reply
-checked-reply words files code c = rw (c.command, c.there) refl
+-- ---- `check IMAGE NOTES`
 
-code-fits : (name code : List ℕ) (large : Bool) → nat_lt plain_code_limit (length code) ≡ large → (code-reply name code large).outcome ≡ outcomes.Done → length code ≤ plain_code_limit
-unfolding code-reply
-code-fits name code true e done = cc
-code-fits name code false e done = grind (arith, nat_tests)
+image-told : (words : List (List ℕ)) (files : Files) (reply : Reply) (image : Image) (notes : Notes) → ChecksImage words files image notes → IsAnswerOf words files reply → TellsVerdict image notes reply
+image-told words files reply image notes c told = rw (image-work words files image notes c) at told
 
-code-outcome : (name code : List ℕ) (large : Bool) → nat_lt plain_code_limit (length code) ≡ large → length code ≤ plain_code_limit → (code-reply name code large).outcome ≡ (verdict_reply (plain_verdict code)).outcome
-unfolding code-reply
-code-outcome name code true e fits = absurd (let past : plain_code_limit < length code = grind (arith, nat_tests) in omega arith)
-code-outcome name code false e fits = refl
+pub exactly : (contents : Option Files) (words : List (List ℕ)) (reply : Reply) (outcome : Outcome) → Tells contents words reply outcome
+    → IfSome contents (λ files. (image : Image) (notes : Notes) → ChecksImage words files image notes → IsAnswer outcome → outcome ≡ outcomes.Done ↔ Typed image notes)
+exactly None words reply outcome tells = tt
+exactly (Some files) words reply outcome tells = λ image notes c answered.
+    let t = image-told words files reply image notes c tells.told in
+    exactly-so outcome _ outcomes.Done (tells.same answered ∙ ap (λ (r : Reply). r.outcome) t.told) (verdict-done t.verdict) t.neutral
+
+pub refused : (contents : Option Files) (words : List (List ℕ)) (reply : Reply) (outcome : Outcome) → Tells contents words reply outcome
+    → IfSome contents (λ files. (image : Image) (notes : Notes) (place : ℕ) (rule : RuleName) → ChecksImage words files image notes → IsAnswer outcome → outcome ≡ outcomes.Refused place rule ↔ IsRefused image notes place rule)
+refused None words reply outcome tells = tt
+refused (Some files) words reply outcome tells = λ image notes place rule c answered.
+    let t = image-told words files reply image notes c tells.told in
+    exactly-so outcome _ (outcomes.Refused place rule) (tells.same answered ∙ ap (λ (r : Reply). r.outcome) t.told) (verdict-refused t.verdict place rule) (t.refused place rule)
+
+pub bad-input : (contents : Option Files) (words : List (List ℕ)) (reply : Reply) (outcome : Outcome) → Tells contents words reply outcome
+    → IfSome contents (λ files. (word fault : ℕ) → IsAnswer outcome → outcome ≡ outcomes.BadInput word fault ↔ HasBadInput words files word fault)
+bad-input None words reply outcome tells = tt
+bad-input (Some files) words reply outcome tells = λ word fault answered.
+    let exact = bad-exactly words files reply word fault tells.told in
+    (λ e. exact.0 (sym (tells.same answered) ∙ e), λ bad. tells.same answered ∙ exact.1 bad)
+
+-- ---- `check CODE`
+
+-- what comes of reading code, which may be too large
+code-reading : List ℕ → List ℕ → Bool → Result Work Reply
+code-reading name code large = (go_on (name ∷ []) (if large then Err (large_reply 1 name) else Ok code) (λ bytes. done (works.CheckCode bytes))).value
+
+code-work : (words : List (List ℕ)) (files : Files) (code : List ℕ) → (c : ChecksCode words files code) → (work_of words files).value ≡ code-reading c.name code (nat_lt plain_code_limit (length code))
+unfolding work_of code_check file code-reading
+code-work words files code c = rw (c.command, c.there) refl
+
+code-fits : (name code : List ℕ) (reply : Reply) (large : Bool) → nat_lt plain_code_limit (length code) ≡ large → IsReplyOf (code-reading name code large) reply → reply.outcome ≡ outcomes.Done → length code ≤ plain_code_limit
+unfolding code-reading
+code-fits name code reply true e told done = let large : outcomes.TooLarge 1 ≡ outcomes.Done = sym (ap (λ (r : Reply). r.outcome) told) ∙ done in cc
+code-fits name code reply false e told done = grind (arith, nat_tests)
+
+code-verdict : (name code : List ℕ) (reply : Reply) (large : Bool) → nat_lt plain_code_limit (length code) ≡ large → length code ≤ plain_code_limit → IsReplyOf (code-reading name code large) reply → reply ≡ verdict_reply (plain_verdict code)
+unfolding code-reading
+code-verdict name code reply true e fits told = absurd (let past : plain_code_limit < length code = grind (arith, nat_tests) in omega arith)
+code-verdict name code reply false e fits told = told
+
+code-told : (words : List (List ℕ)) (files : Files) (reply : Reply) (code : List ℕ) → (c : ChecksCode words files code) → IsAnswerOf words files reply → IsReplyOf (code-reading c.name code (nat_lt plain_code_limit (length code))) reply
+code-told words files reply code c told = rw (code-work words files code c) at told
 
 -- code that is called neutral is within the limit
-done-fits : (words : List (List ℕ)) (files : Files) (code : List ℕ) → ChecksCode words files code → (reply_to words files).outcome ≡ outcomes.Done → length code ≤ plain_code_limit
-done-fits words files code c done = code-fits c.name code _ refl (sym (ap (λ (r : Reply). r.outcome) (checked-reply words files code c)) ∙ done)
-
--- within the limit the outcome is that of the verdict
-reply-verdict : (words : List (List ℕ)) (files : Files) (code : List ℕ) → ChecksCode words files code → length code ≤ plain_code_limit → (reply_to words files).outcome ≡ (verdict_reply (plain_verdict code)).outcome
-reply-verdict words files code c fits = ap (λ (r : Reply). r.outcome) (checked-reply words files code c) ∙ code-outcome c.name code _ refl fits
-
--- the answer is that of the reply
-pub record Tells (contents : Option Files) (words : List (List ℕ)) (reply : Reply) (outcome : Outcome) : Type 0 where
-  pub told : IfSome contents (λ files. reply_to words files ≡ reply)
-  pub same : IsAnswer outcome → outcome ≡ reply.outcome
+done-fits : (words : List (List ℕ)) (files : Files) (reply : Reply) (code : List ℕ) → ChecksCode words files code → IsAnswerOf words files reply → reply.outcome ≡ outcomes.Done → length code ≤ plain_code_limit
+done-fits words files reply code c told done = code-fits c.name code reply _ refl (code-told words files reply code c told) done
 
 -- an answer about code within the limit is that of the verdict
 verdict-told : (words : List (List ℕ)) (files : Files) (reply : Reply) (outcome : Outcome) → Tells (Some files) words reply outcome → (code : List ℕ) → ChecksCode words files code → length code ≤ plain_code_limit → IsAnswer outcome
     → outcome ≡ (verdict_reply (plain_verdict code)).outcome
 verdict-told words files reply outcome tells code c fits answered =
-    tells.same answered ∙ sym (ap (λ (r : Reply). r.outcome) tells.told) ∙ reply-verdict words files code c fits
+    tells.same answered ∙ ap (λ (r : Reply). r.outcome) (code-verdict c.name code reply _ refl fits (code-told words files reply code c tells.told))
 
--- an outcome that is exactly so where the verdict is, and the verdict where the code is
-exactly-so : {A B : Type 0} (outcome verdict wanted : Outcome) → outcome ≡ verdict → verdict ≡ wanted ↔ A → A ↔ B → outcome ≡ wanted ↔ B
-exactly-so outcome verdict wanted same one two = (λ e. two.0 (one.0 (sym same ∙ e)), λ b. same ∙ one.1 (two.1 b))
-
-pub alike : (contents : Option Files) (words : List (List ℕ)) (reply : Reply) (outcome : Outcome) → Tells contents words reply outcome
+pub plain-alike : (contents : Option Files) (words : List (List ℕ)) (reply : Reply) (outcome : Outcome) → Tells contents words reply outcome
     → IfSome contents (λ files. (code : List ℕ) → ChecksCode words files code → outcome ≡ outcomes.Done → RunsAlike code)
-alike None words reply outcome tells = tt
-alike (Some files) words reply outcome tells = λ code c done.
+plain-alike None words reply outcome tells = tt
+plain-alike (Some files) words reply outcome tells = λ code c done.
     let answered : IsAnswer outcome = rw done tt in
-    let fits = done-fits words files code c (ap (λ (r : Reply). r.outcome) tells.told ∙ sym (tells.same answered) ∙ done) in
+    let fits = done-fits words files reply code c tells.told (sym (tells.same answered) ∙ done) in
     let verdict = verdict-told words files reply outcome tells code c fits answered in
     neutral-alike code (omega (arith, fits)) ((verdict-done (plain_verdict code)).0 (sym verdict ∙ done))
 
-pub exactly : (contents : Option Files) (words : List (List ℕ)) (reply : Reply) (outcome : Outcome) → Tells contents words reply outcome
-    → IfSome contents (λ files. (code : List ℕ) → ChecksCode words files code → length code ≤ plain_code_limit → IsAnswer outcome → outcome ≡ outcomes.Done ↔ IsNeutral code)
-exactly None words reply outcome tells = tt
-exactly (Some files) words reply outcome tells = λ code c fits answered.
+pub plain-exactly : (contents : Option Files) (words : List (List ℕ)) (reply : Reply) (outcome : Outcome) → Tells contents words reply outcome
+    → IfSome contents (λ files. (code : List ℕ) → ChecksCode words files code → length code ≤ plain_code_limit → IsAnswer outcome → outcome ≡ outcomes.Done ↔ plain.IsNeutral code)
+plain-exactly None words reply outcome tells = tt
+plain-exactly (Some files) words reply outcome tells = λ code c fits answered.
     exactly-so outcome _ outcomes.Done (verdict-told words files reply outcome tells code c fits answered) (verdict-done (plain_verdict code)) (neutral-exactly code)
 
-pub refused : (contents : Option Files) (words : List (List ℕ)) (reply : Reply) (outcome : Outcome) → Tells contents words reply outcome
-    → IfSome contents (λ files. (code : List ℕ) (place : ℕ) (rule : RuleName) → ChecksCode words files code → length code ≤ plain_code_limit → IsAnswer outcome → outcome ≡ outcomes.Refused place rule ↔ IsRefused code place rule)
-refused None words reply outcome tells = tt
-refused (Some files) words reply outcome tells = λ code place rule c fits answered.
+pub plain-refused : (contents : Option Files) (words : List (List ℕ)) (reply : Reply) (outcome : Outcome) → Tells contents words reply outcome
+    → IfSome contents (λ files. (code : List ℕ) (place : ℕ) (rule : RuleName) → ChecksCode words files code → length code ≤ plain_code_limit → IsAnswer outcome → outcome ≡ outcomes.Refused place rule ↔ plain.IsRefused code place rule)
+plain-refused None words reply outcome tells = tt
+plain-refused (Some files) words reply outcome tells = λ code place rule c fits answered.
     exactly-so outcome _ (outcomes.Refused place rule) (verdict-told words files reply outcome tells code c fits answered) (verdict-refused (plain_verdict code) place rule) (refused-exactly code place rule)

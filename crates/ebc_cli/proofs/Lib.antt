@@ -1,3 +1,4 @@
 pub mod HexLemmas
 pub mod ReadingsLemmas
+pub mod BadInputLemmas
 pub mod HeadlineLemmas

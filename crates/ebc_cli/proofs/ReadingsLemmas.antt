@@ -1,8 +1,16 @@
 -- Readings one after the other, for commands of several files.
-use Rattle.std.proofs.Common.{◌≡◌, ℕ, List, ◌++◌, Ok, Err, sym, ap, ◌∙◌, append_assoc}
+use Rattle.std.proofs.Common.{◌≡◌, ℕ, List, ◌++◌, Option, Some, None, IfSome, Result, Ok, Err, refl, sym, ap, ◌∙◌, append_assoc}
+use Rattle.ebc_outside.specs.Files.{Files}
 use Rattle.ebc_cli.specs.declared.reply.End.{End}
+use Rattle.ebc_cli.specs.declared.reply.Reply.{Reply}
+use Rattle.note_types.specs.declared.notes.Notes.{Notes}
+use Rattle.pe_image.specs.declared.image.Image.{Image}
+use Rattle.ebc_cli.specs.declared.work.Work.{Work}
+use Rattle.ebc_cli.specs.declared.work.Work.TheVariants as works
+use Rattle.ebc_cli.specs.Inputs.{image_in, notes_in}
+use Rattle.ebc_cli.specs.Works.{image_check}
 use Rattle.ebc_cli.specs.declared.reply.End.TheVariants as ends
-use Rattle.ebc_cli.specs.Readings.{FileReading, ◌>>=◌, AsksPart, Follows}
+use Rattle.ebc_cli.specs.Readings.{FileReading, ◌>>=◌, go_on, done, AsksPart, Follows}
 
 -- what a second reading asked for comes after what the first one did
 later-part : (before mid now one all : List (List ℕ)) → mid ≡ before ++ one → AsksPart mid all now → AsksPart before (one ++ all) now
@@ -18,3 +26,32 @@ pub ends-after : {A B : Type 0} (before mid now : List (List ℕ)) (run : FileRe
 ends-after before mid now run f x (ends.Stop reply) one two = rw one.0 (two.0, two.1 ∙ ap (λ names. names ++ (f x).asked) one.1 ∙ append_assoc before run.asked (f x).asked)
 ends-after before mid now run f x ends.ReadFault one two = rw one.0 (later-part before mid now run.asked (f x).asked one.1 two)
 ends-after before mid now run f x ends.NoMemory one two = rw one.0 (later-part before mid now run.asked (f x).asked one.1 two)
+
+-- what was asked for is a first part of what a reading and more ask for
+wider-part : {A B : Type 0} (before asked now : List (List ℕ)) (v : Result A Reply) (f : A → FileReading B) → AsksPart before asked now → AsksPart before (go_on asked v f).asked now
+wider-part before asked now (Ok x) f part = record {
+  first = part.first;
+  others = part.others ++ (f x).asked;
+  whole = ap (λ names. names ++ (f x).asked) part.whole ∙ append_assoc part.first part.others (f x).asked;
+  asked = part.asked;
+}
+wider-part before asked now (Err reply) f part = part
+
+-- a reading that ends ends those after it
+pub ends-before : {A B : Type 0} (before now : List (List ℕ)) (run : FileReading A) (f : A → FileReading B) (end : End) → Follows {A = A} before now (Err end) run → Follows {A = B} before now (Err end) (run >>= f)
+ends-before before now run f (ends.Stop reply) one = rw one.0 (refl, one.1)
+ends-before before now run f ends.ReadFault one = wider-part before run.asked now run.value f one
+ends-before before now run f ends.NoMemory one = wider-part before run.asked now run.value f one
+
+-- ---- the files of `check IMAGE NOTES`
+
+-- where the notes' file ends the reading, after the image was read, it ends the whole
+pub notes-end : (old mid : Option Files) (before between now : List (List ℕ)) (a b : List ℕ) (image : Image) (end : End) → mid ≡ old
+    → IfSome old (λ files. Follows before between (Ok image) (image_in 1 a files)) → IfSome mid (λ files. Follows {A = Notes} between now (Err end) (notes_in 2 b files))
+    → IfSome old (λ files. Follows {A = Work} before now (Err end) (image_check a b files))
+unfolding image_check
+notes-end None mid before between now a b image end same one two = tt
+notes-end (Some files) mid before between now a b image end same one two =
+    let ended = rw same at two in
+    let made = λ (notes : Notes). done (works.CheckImage image notes) in
+    ends-after before between now (image_in 1 a files) (λ image. notes_in 2 b files >>= (λ notes. done (works.CheckImage image notes))) image end one (ends-before between now (notes_in 2 b files) made end ended)

@@ -1,62 +1,114 @@
 -- The answer of the program to its words, over the files of a folder: docs/COMMANDS.md, "The answer".
-use Rattle.std.specs.Prelude.{◌≡◌, ◌↔◌, ℕ, List, ◌++◌, Option, Some, None, option_map, Result, Ok, Err}
+use Rattle.std.specs.Prelude.{◌≡◌, ◌↔◌, ℕ, ◌≤◌, List, ◌++◌, length, Option, Some, None, option_map, Result, Ok, Err}
 use Rattle.std.specs.FinMap.{get}
-use Rattle.ebc_outside.specs.Files.{Files}
+use Rattle.ebc_outside.specs.Files.{Files, AppendsPart}
+use Rattle.note_types.specs.declared.fault.TomlFault.{TomlFault}
+use Rattle.note_types.specs.declared.notes.Notes.{Notes}
+use Rattle.pe_image.specs.declared.fault.ImageFault.{ImageFault}
+use Rattle.pe_image.specs.declared.image.Image.{Image}
+use Rattle.pe_image.specs.Images.{image_of}
+use Rattle.type_notes.specs.Notes.{notes_of}
+use Rattle.ebc_cli.specs.declared.outcome.Outcome.{Outcome}
 use Rattle.ebc_cli.specs.declared.outcome.Outcome.TheVariants as outcomes
-use Rattle.width_checker.specs.declared.verdict.Verdict.{Verdict}
-use Rattle.width_checker.specs.declared.verdict.Verdict.TheVariants as verdicts
-use Rattle.ebc_cli.specs.declared.command.Command.{Command}
-use Rattle.ebc_cli.specs.declared.command.Command.TheVariants.{CheckCode}
+use Rattle.ebc_cli.specs.declared.command.Command.TheVariants.{CheckCode, CheckImage}
+use Rattle.ebc_cli.specs.declared.reply.End.{End}
+use Rattle.ebc_cli.specs.declared.reply.End.TheVariants as ends
 use Rattle.ebc_cli.specs.declared.reply.Reply.{Reply}
-use Rattle.ebc_cli.specs.Outcomes.{IsAnswer}
-use Rattle.ebc_cli.specs.Texts.{neutral_line, refused_line, usage_line}
+use Rattle.ebc_cli.specs.declared.work.Work.{Work}
 use Rattle.ebc_cli.specs.Commands.{command_of}
-use Rattle.ebc_cli.specs.Readings.{FileReading, done, ◌>>=◌, file, MissingHasCause}
-use Rattle.width_checker.specs.PlainChecks.{plain_verdict}
+use Rattle.ebc_cli.specs.Faults.{image_fault_number, toml_fault_number}
+use Rattle.ebc_cli.specs.Inputs.{image_limit, notes_limit}
+use Rattle.ebc_cli.specs.Outcomes.{IsAnswer}
+use Rattle.ebc_cli.specs.Readings.{FileReading, AsksPart, MissingHasCause}
+use Rattle.ebc_cli.specs.Works.{work_of, IsReplyOf}
 
--- how many bytes plain code may have: 256 KiB
-abbrev pub plain_code_limit : ℕ
-plain_code_limit = 262144
+-- a reply is an answer to the words
+abbrev pub IsAnswerOf : List (List ℕ) → Files → Reply → Type 0
+IsAnswerOf words files reply = IsReplyOf (work_of words files).value reply
 
-abbrev pub verdict_reply : Verdict → Reply
-verdict_reply verdicts.Neutral = record { outcome = outcomes.Done; text = neutral_line }
-verdict_reply (verdicts.Refused place rule) = record { outcome = outcomes.Refused place rule; text = refused_line place rule }
-
-abbrev pub usage_reply : Reply
-usage_reply = record { outcome = outcomes.BadWords; text = usage_line }
-
--- `check CODE`: the verdict of the plain check on the file
-unfoldable pub check_code : List ℕ → Files → FileReading Reply
-check_code name files = do
-  code ← file 1 name plain_code_limit files
-  done (verdict_reply (plain_verdict code))
-
-abbrev pub answer_to : Option Command → Files → FileReading Reply
-answer_to None files = done usage_reply
-answer_to (Some (CheckCode name)) files = check_code name files
-
--- what is read to answer the words, and the answer
-unfoldable pub answer_of : List (List ℕ) → Files → FileReading Reply
-answer_of words files = answer_to (command_of words) files
-
--- the reply of a run, whether it went through or stopped
-abbrev pub reply_of : Result Reply Reply → Reply
-reply_of (Ok reply) = reply
-reply_of (Err reply) = reply
-
--- the outcome and the text of the answer
-abbrev pub reply_to : List (List ℕ) → Files → Reply
-reply_to words files = reply_of (answer_of words files).value
+-- a reply that was decided is an answer, and all names were asked for; where a read failed or memory ran out, a first part
+-- of them
+abbrev pub Decides : List (List ℕ) → List (List ℕ) → Result Reply End → FileReading Work → Type 0
+Decides before now (Ok reply) run = IsReplyOf run.value reply × (now ≡ before ++ run.asked)
+Decides before now (Err (ends.Stop reply)) run = IsReplyOf run.value reply × (now ≡ before ++ run.asked)
+Decides before now (Err end) run = AsksPart before run.asked now
 
 -- what is printed once a text is put
 abbrev pub printed : List ℕ → Option (List ℕ) → Option (List ℕ)
 printed text written = option_map (λ before. before ++ text) written
+
+-- the outcome is that of an answer to the words, and its text was printed
+pub record Answers (words : List (List ℕ)) (files : Files) (outcome : Outcome) (before now : Option (List ℕ)) : Type 0 where
+  pub reply : Reply
+  pub answer : IsAnswerOf words files reply
+  pub same : outcome ≡ reply.outcome
+  pub text : now ≡ printed reply.text before
+
+-- a first part of the text of an answer to the words was printed
+pub record PrintsPart (words : List (List ℕ)) (files : Files) (before now : Option (List ℕ)) : Type 0 where
+  pub reply : Reply
+  pub answer : IsAnswerOf words files reply
+  pub part : AppendsPart reply.text before now
+
+-- ---- what the words name
 
 -- the words are `check CODE`, and the folder has this code under that name
 pub record ChecksCode (words : List (List ℕ)) (files : Files) (code : List ℕ) : Type 0 where
   pub name : List ℕ
   pub command : command_of words ≡ Some (CheckCode name)
   pub there : get files name ≡ Some code
+
+-- the words are `check IMAGE NOTES`, and the folder has these bytes under the name of the image, within the limit
+pub record HasImageFile (words : List (List ℕ)) (files : Files) (notes_name bytes : List ℕ) : Type 0 where
+  pub name : List ℕ
+  pub command : command_of words ≡ Some (CheckImage name notes_name)
+  pub there : get files name ≡ Some bytes
+  pub fits : length bytes ≤ image_limit
+
+-- and it has this text under the name of the notes, within the limit
+pub record HasNotesFile (files : Files) (name text : List ℕ) : Type 0 where
+  pub there : get files name ≡ Some text
+  pub fits : length text ≤ notes_limit
+
+-- the words are `check IMAGE NOTES`, and the folder has files within their limits that stand for this image and these notes
+pub record ChecksImage (words : List (List ℕ)) (files : Files) (image : Image) (notes : Notes) : Type 0 where
+  pub notes_name : List ℕ
+  pub bytes : List ℕ
+  pub text : List ℕ
+  pub image_file : HasImageFile words files notes_name bytes
+  pub notes_file : HasNotesFile files notes_name text
+  pub image_is : image_of bytes ≡ Ok image
+  pub notes_are : notes_of text ≡ Ok notes
+
+-- the image's file is no image: its first fault has this number
+pub record HasBadImage (words : List (List ℕ)) (files : Files) (fault : ℕ) : Type 0 where
+  pub notes_name : List ℕ
+  pub bytes : List ℕ
+  pub image_file : HasImageFile words files notes_name bytes
+  pub kind : ImageFault
+  pub offset : ℕ
+  pub no_image : image_of bytes ≡ Err (kind, offset)
+  pub number : fault ≡ image_fault_number kind
+
+-- the image's file is an image, and the text under the name of the notes stands for none: its first fault has this number
+pub record HasBadNotes (words : List (List ℕ)) (files : Files) (fault : ℕ) : Type 0 where
+  pub notes_name : List ℕ
+  pub bytes : List ℕ
+  pub text : List ℕ
+  pub image_file : HasImageFile words files notes_name bytes
+  pub notes_file : HasNotesFile files notes_name text
+  pub image : Image
+  pub image_is : image_of bytes ≡ Ok image
+  pub found : TomlFault
+  pub no_notes : notes_of text ≡ Err found
+  pub number : fault ≡ toml_fault_number found
+
+-- the first file with a fault is that of this word, and its first fault has this number
+pub data HasBadInput (words : List (List ℕ)) (files : Files) (word fault : ℕ) : Type 0 where
+  bad_image : word ≡ 1 → HasBadImage words files fault → HasBadInput words files word fault
+  bad_notes : word ≡ 2 → HasBadNotes words files fault → HasBadInput words files word fault
+
+-- ---- causes
 
 -- the causes of an answer that the files don't decide: it is BadWords exactly where the words are no command, and
 -- where the files aren't told it is Missing only where the count of failed reads rose

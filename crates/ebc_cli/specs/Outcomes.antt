@@ -1,13 +1,14 @@
 -- The outcomes of the program, as its exit status: docs/COMMANDS.md, "Exit status".
 use Rattle.std.specs.Prelude.{ℕ}
 use Rattle.ebc_cli.specs.declared.outcome.Outcome.{Outcome}
-use Rattle.ebc_cli.specs.declared.outcome.Outcome.TheVariants.{Done, Refused, BadWords, ReadFault, WriteFault, NoMemory, TooLarge, Missing}
+use Rattle.ebc_cli.specs.declared.outcome.Outcome.TheVariants.{Done, Refused, BadWords, BadInput, ReadFault, WriteFault, NoMemory, TooLarge, Missing}
 
 -- the exit status that each outcome has
 abbrev pub exit_status : Outcome → ℕ
 exit_status Done = 0
 exit_status (Refused place rule) = 1
 exit_status BadWords = 2
+exit_status (BadInput word fault) = 3
 exit_status ReadFault = 4
 exit_status WriteFault = 5
 exit_status NoMemory = 6
@@ -28,3 +29,9 @@ IsCommandAnswer ReadFault = ⊥
 IsCommandAnswer WriteFault = ⊥
 IsCommandAnswer NoMemory = ⊥
 IsCommandAnswer outcome = Unit {0}
+
+-- an answer to words that are a command whose files were read
+abbrev pub IsWorkAnswer : Outcome → Type 0
+IsWorkAnswer Done = Unit {0}
+IsWorkAnswer (Refused place rule) = Unit {0}
+IsWorkAnswer outcome = ⊥

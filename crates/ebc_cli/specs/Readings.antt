@@ -19,6 +19,10 @@ pub record FileReading (A : Type 0) : Type 0 where
 abbrev pub done : {A : Type 0} → A → FileReading A
 done x = record { asked = []; value = Ok x }
 
+-- a reading that asks for nothing, and goes on or stops
+abbrev pub told : {A : Type 0} → Result A Reply → FileReading A
+told value = record { asked = []; value = value }
+
 abbrev pub go_on : {A B : Type 0} → List (List ℕ) → Result A Reply → (A → FileReading B) → FileReading B
 go_on asked (Ok x) f = record { asked = asked ++ (f x).asked; value = (f x).value }
 go_on asked (Err reply) f = record { asked = asked; value = Err reply }

@@ -49,7 +49,7 @@ abbrev pub refused_line : ℕ → RuleName → List ℕ
 refused_line place rule = codes "refused " ++ (place_text place ++ (codes " " ++ (rule_text rule ++ codes "\n")))
 
 abbrev pub usage_line : List ℕ
-usage_line = codes "usage: check CODE\n"
+usage_line = codes "usage: check CODE | check IMAGE NOTES\n"
 
 -- a file that the folder doesn't hold
 abbrev pub missing_line : List ℕ → List ℕ
@@ -58,3 +58,7 @@ missing_line name = codes "missing " ++ (name ++ codes "\n")
 -- a file past its limit
 abbrev pub large_line : List ℕ → List ℕ
 large_line name = codes "large " ++ (name ++ codes "\n")
+
+-- a file with a fault, and where in it the fault stands
+abbrev pub bad_line : List ℕ → List ℕ → List ℕ → List ℕ
+bad_line name fault detail = codes "bad " ++ (name ++ (codes " " ++ (fault ++ (codes " " ++ (detail ++ codes "\n")))))

@@ -1,26 +1,25 @@
 //! The top call: what is read, what is answered, and what is printed.
-ghost use Rattle.std.specs.Prelude.{◌≡◌, ◌≢◌, ◌++◌, ◌↔◌, ◌≤◌, ℕ, List, length, Some, None, IfSome, IfNone, IfOk, IsErrOf};
+ghost use Rattle.std.specs.Prelude.{◌≡◌, ◌≢◌, ◌++◌, ◌↔◌, ◌≤◌, ℕ, List, length, None, IfSome, IfNone, IfOk, IsErrOf};
 ghost use Rattle.ebc_outside.specs.Counts.{Rose};
 ghost use Rattle.ebc_outside.specs.Files.{AppendsPart};
+ghost use Rattle.note_types.specs.declared.notes.Notes.{Notes};
 ghost use Rattle.note_types.specs.declared.rule.RuleName.{RuleName};
-ghost use Rattle.ebc_cli.specs.Outcomes.{IsAnswer};
-ghost use Rattle.width_checker.specs.PlainRules.{IsNeutral, IsRefused};
+ghost use Rattle.pe_image.specs.declared.image.Image.{Image};
+ghost use Rattle.width_checker.specs.PlainRules as plain;
 ghost use Rattle.width_checker.specs.PlainRuns.{RunsAlike};
+ghost use Rattle.width_checker.specs.Typed.{Typed};
+ghost use Rattle.width_checker.specs.Verdicts.{IsRefused};
+ghost use Rattle.ebc_cli.specs.Answers.{Answers, AnswersWords, Decides, PrintsPart, ChecksCode, ChecksImage, HasBadInput, printed};
 ghost use Rattle.ebc_cli.specs.Commands.{command_of, word_bytes};
-ghost use Rattle.ebc_cli.specs.Readings.{Follows, IfStop, CommandAnswer, AsksPart};
-ghost use Rattle.ebc_cli.specs.Answers.{answer_of, check_code, reply_to, printed, plain_code_limit, ChecksCode, AnswersWords};
+ghost use Rattle.ebc_cli.specs.Outcomes.{IsAnswer};
+ghost use Rattle.ebc_cli.specs.Readings.{AsksPart, IfStop};
+ghost use Rattle.ebc_cli.specs.Works.{work_of, plain_code_limit};
 
-use crate::command::{Command, command_of};
 use crate::outcome::Outcome;
-use crate::reading::file;
 use crate::reply::{End, Reply};
-use crate::text;
+use crate::work::read_work;
 use ebc_outside::{Folder, Sink, SinkEnd};
 use std::alloc::Global;
-use width_checker::check_plain;
-
-/// How many bytes a file of plain code may have.
-const PLAIN_CODE_LIMIT: u64 = 262144;
 
 /// Does what the words after the program's name ask for: reads the files that they name from `folder`, prints
 /// the answer to `out` by one put, and says how it ended. docs/COMMANDS.md has the commands and their answers.
@@ -30,29 +29,40 @@ pub fn ebc<F: Folder, O: Sink>(
     folder: &mut F,
     out: &mut O,
 ) -> Outcome
-    // Where the folder tells its files, the answer, its text and the names asked for are those of
-    // `answer_of`, whatever the counts of faults did.
-    ensures answer { IfSome (F.contents folder.old) (λ files.
-        IsAnswer result → result ≡ (reply_to (word_bytes words.now) files).outcome) }
-    ensures text { IfSome (F.contents folder.old) (λ files.
-        IsAnswer result → O.written out.new ≡ printed (reply_to (word_bytes words.now) files).text (O.written out.old)) }
+    // Where the folder tells its files, the outcome and the printed text are those of an answer to the words, and the names
+    // asked for are those that the words ask for, whatever the counts of faults did.
+    ensures answer { IfSome (F.contents folder.old) (λ files. IsAnswer result →
+        Answers (word_bytes words.now) files result (O.written out.old) (O.written out.new)) }
     ensures asked { IfSome (F.contents folder.old) (λ files.
-        IsAnswer result → F.asked folder.new ≡ F.asked folder.old ++ (answer_of (word_bytes words.now) files).asked) }
+        IsAnswer result → F.asked folder.new ≡ F.asked folder.old ++ (work_of (word_bytes words.now) files).asked) }
     ensures asked_part { IfSome (F.contents folder.old) (λ files.
-        AsksPart (F.asked folder.old) (answer_of (word_bytes words.now) files).asked (F.asked folder.new)) }
+        AsksPart (F.asked folder.old) (work_of (word_bytes words.now) files).asked (F.asked folder.new)) }
     ensures contents { F.contents folder.new ≡ F.contents folder.old }
+
+    // `check IMAGE NOTES` calls an image neutral exactly where it is typed under the notes, and refuses it exactly at the
+    // first place at which a rule fails, by the first rule that fails there.
+    ensures neutral_exactly { IfSome (F.contents folder.old) (λ files. (image : Image) (notes : Notes) →
+        ChecksImage (word_bytes words.now) files image notes →
+        IsAnswer result → result ≡ Outcome.Done ↔ Typed image notes) }
+    ensures refused_exactly { IfSome (F.contents folder.old) (λ files. (image : Image) (notes : Notes) (place : ℕ) (rule : RuleName) →
+        ChecksImage (word_bytes words.now) files image notes →
+        IsAnswer result → result ≡ Outcome.Refused place rule ↔ IsRefused image notes place rule) }
+
+    // A file is bad input exactly where it is the first that stands for no image or no notes, by its first fault.
+    ensures bad_input_exactly { IfSome (F.contents folder.old) (λ files. (word fault : ℕ) →
+        IsAnswer result → result ≡ Outcome.BadInput word fault ↔ HasBadInput (word_bytes words.now) files word fault) }
 
     // `check CODE` calls code neutral exactly where each of its instructions meets the rules of plain code, and
     // refuses it exactly at the first place at which a rule fails, by the first rule that fails there.
-    ensures neutral_exactly { IfSome (F.contents folder.old) (λ files. (code : List ℕ) →
+    ensures plain_neutral_exactly { IfSome (F.contents folder.old) (λ files. (code : List ℕ) →
         ChecksCode (word_bytes words.now) files code → length code ≤ plain_code_limit →
-        IsAnswer result → result ≡ Outcome.Done ↔ IsNeutral code) }
-    ensures refused_exactly { IfSome (F.contents folder.old) (λ files. (code : List ℕ) (place : ℕ) (rule : RuleName) →
+        IsAnswer result → result ≡ Outcome.Done ↔ plain.IsNeutral code) }
+    ensures plain_refused_exactly { IfSome (F.contents folder.old) (λ files. (code : List ℕ) (place : ℕ) (rule : RuleName) →
         ChecksCode (word_bytes words.now) files code → length code ≤ plain_code_limit →
-        IsAnswer result → result ≡ Outcome.Refused place rule ↔ IsRefused code place rule) }
+        IsAnswer result → result ≡ Outcome.Refused place rule ↔ plain.IsRefused code place rule) }
 
     // Neutral code has the same plain runs at both widths.
-    ensures neutral_alike { IfSome (F.contents folder.old) (λ files. (code : List ℕ) →
+    ensures plain_neutral_alike { IfSome (F.contents folder.old) (λ files. (code : List ℕ) →
         ChecksCode (word_bytes words.now) files code → result ≡ Outcome.Done → RunsAlike code) }
 
     // Why an answer comes, also where the folder doesn't tell its files.
@@ -69,7 +79,7 @@ pub fn ebc<F: Folder, O: Sink>(
     // What stands after the answers that the words and files don't decide.
     ensures read_fault_leaves { result ≡ Outcome.ReadFault → O.written out.new ≡ O.written out.old }
     ensures write_fault_leaves { IfSome (F.contents folder.old) (λ files. result ≡ Outcome.WriteFault →
-        AppendsPart (reply_to (word_bytes words.now) files).text (O.written out.old) (O.written out.new)) }
+        PrintsPart (word_bytes words.now) files (O.written out.old) (O.written out.new)) }
     ensures no_memory_leaves { result ≡ Outcome.NoMemory → O.written out.new ≡ O.written out.old }
 {
     let reply = match decide(alloc, words, folder) {
@@ -81,11 +91,10 @@ pub fn ebc<F: Folder, O: Sink>(
     print(alloc, &reply, out)
 }
 
-// Reads what the words name and decides the answer.
-#[tactic(auto, unfolding(crate::specs::Answers::answer_of))]
+// Reads what the words name, does the work and gives the answer.
 fn decide<F: Folder>(alloc: Global, words: &Vec<String>, folder: &mut F) -> Result<Reply, End>
-    ensures follows { IfSome (F.contents folder.old) (λ files.
-        Follows (F.asked folder.old) (F.asked folder.new) result (answer_of (word_bytes words.now) files)) }
+    ensures decided { IfSome (F.contents folder.old) (λ files.
+        Decides (F.asked folder.old) (F.asked folder.new) result (work_of (word_bytes words.now) files)) }
     ensures reply { IfOk result (AnswersWords (word_bytes words.now) (F.contents folder.old)
         (F.read_faults folder.old) (F.read_faults folder.new)) }
     ensures stop { IfStop result (AnswersWords (word_bytes words.now) (F.contents folder.old)
@@ -96,30 +105,8 @@ fn decide<F: Folder>(alloc: Global, words: &Vec<String>, folder: &mut F) -> Resu
         F.read_faults folder.new ≡ F.read_faults folder.old) }
     ensures contents { F.contents folder.new ≡ F.contents folder.old }
 {
-    match command_of(alloc, words)? {
-        None => Ok(text::usage(alloc)?),
-        Some(Command::CheckCode { code }) => check_code(alloc, code.as_str(), folder),
-    }
-}
-
-// `check CODE`
-#[tactic(auto, unfolding(crate::specs::Answers::check_code))]
-fn check_code<F: Folder>(alloc: Global, name: &str, folder: &mut F) -> Result<Reply, End>
-    ensures follows { IfSome (F.contents folder.old) (λ files.
-        Follows (F.asked folder.old) (F.asked folder.new) result (check_code name.now files)) }
-    ensures reply { IfOk result (CommandAnswer (F.contents folder.old)
-        (F.read_faults folder.old) (F.read_faults folder.new)) }
-    ensures stop { IfStop result (CommandAnswer (F.contents folder.old)
-        (F.read_faults folder.old) (F.read_faults folder.new)) }
-    ensures fault { IsErrOf result End.ReadFault →
-        Rose (F.read_faults folder.old) (F.read_faults folder.new) }
-    ensures uncounted { IfSome (F.contents folder.old) (λ _. ¬ IsErrOf result End.ReadFault →
-        F.read_faults folder.new ≡ F.read_faults folder.old) }
-    ensures contents { F.contents folder.new ≡ F.contents folder.old }
-{
-    let code = file(alloc, folder, 1, name, PLAIN_CODE_LIMIT)?;
-    let verdict = check_plain(alloc, code.as_slice())?;
-    Ok(text::verdict(alloc, verdict)?)
+    let work = read_work(alloc, words, folder)?;
+    Ok(work.reply(alloc)?)
 }
 
 // Prints the text of a reply, if it has one.

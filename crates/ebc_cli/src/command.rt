@@ -10,6 +10,8 @@ use std::alloc::{AllocError, Global};
 pub enum Command {
     /// `check CODE`: the plain check of a file of raw code.
     CheckCode { code: Name },
+    /// `check IMAGE NOTES`: the check of an image under notes.
+    CheckImage { image: Name, notes: Name },
 }
 
 /// The command that the words spell, if they spell one.
@@ -18,6 +20,7 @@ pub fn command_of(alloc: Global, words: &Vec<String>) -> Result<Option<Command>,
 {
     match words.as_slice() {
         [word, file] => with_one_file(alloc, word, file),
+        [word, image, notes] => with_two_files(alloc, word, image, notes),
         _ => Ok(None),
     }
 }
@@ -31,6 +34,25 @@ fn with_one_file(alloc: Global, word: &String, file: &String) -> Result<Option<C
     if word.as_str() == "check" {
         let code = Name::new(String::from_str(alloc, file.as_str())?);
         return Ok(Some(Command::CheckCode { code }));
+    }
+    Ok(None)
+}
+
+fn with_two_files(
+    alloc: Global,
+    word: &String,
+    one: &String,
+    two: &String,
+) -> Result<Option<Command>, AllocError>
+    ensures { IfOk result (λ command. command ≡ command_of (string_bytes word.now ∷ string_bytes one.now ∷ string_bytes two.now ∷ [])) }
+{
+    if one.len() == 0 || two.len() == 0 {
+        return Ok(None);
+    }
+    if word.as_str() == "check" {
+        let image = Name::new(String::from_str(alloc, one.as_str())?);
+        let notes = Name::new(String::from_str(alloc, two.as_str())?);
+        return Ok(Some(Command::CheckImage { image, notes }));
     }
     Ok(None)
 }

@@ -1,15 +1,18 @@
 //! The commands of the program `ebc`: what the words ask for, over a folder of files and an output.
 //!
 //! The one public call is [`ebc`]. docs/COMMANDS.md lists the commands, the lines that they print and the exit
-//! status; docs/PLAIN.md has the rules of the plain check.
+//! status; docs/RULES.md has the rules of the check of images, docs/PLAIN.md those of the plain check.
 #![tactic(auto)]
 
 mod answer;
 mod command;
+mod fault;
+mod input;
 mod outcome;
 mod reading;
 mod reply;
 mod text;
+mod work;
 
 pub use answer::ebc;
 pub use outcome::Outcome;

@@ -13,6 +13,9 @@ pub enum Outcome {
     Refused { place: u32, rule: RuleName },
     /// The words are no command.
     BadWords,
+    /// The file that this word names, counted from 0, isn't of its form, by the fault of this number;
+    /// docs/COMMANDS.md has the numbers.
+    BadInput { word: u8, fault: u8 },
     /// A read failed.
     ReadFault,
     /// The output failed.
@@ -34,6 +37,7 @@ impl Outcome {
             Outcome::Done => 0,
             Outcome::Refused { .. } => 1,
             Outcome::BadWords => 2,
+            Outcome::BadInput { .. } => 3,
             Outcome::ReadFault => 4,
             Outcome::WriteFault => 5,
             Outcome::NoMemory => 6,

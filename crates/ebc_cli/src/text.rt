@@ -2,11 +2,17 @@
 ghost use Rattle.std.specs.Prelude.{◌≡◌, Some, IfOk, string_bytes};
 ghost use Rattle.ebc_cli.specs.Texts.{place_text, rule_text};
 ghost use Rattle.ebc_cli.specs.Readings.{missing_reply, large_reply};
-ghost use Rattle.ebc_cli.specs.Answers.{verdict_reply, usage_reply};
+ghost use Rattle.ebc_cli.specs.Inputs.{bad_image_reply, bad_notes_reply};
+ghost use Rattle.ebc_cli.specs.Works.{verdict_reply, usage_reply};
 
+use crate::fault::{
+    image_fault_number, image_fault_text, key_path, toml_fault_number, toml_fault_text,
+};
 use crate::outcome::Outcome;
 use crate::reply::Reply;
 use ebc_base::Sequence;
+use note_types::TomlFault;
+use pe_image::ImageFault;
 use std::alloc::{AllocError, Global};
 use std::fmt;
 use width_checker::{RuleName, Verdict};
@@ -88,7 +94,7 @@ fn refused(alloc: Global, place: u32, rule: RuleName) -> Result<Reply, AllocErro
 pub fn usage(alloc: Global) -> Result<Reply, AllocError>
     ensures { IfOk result (λ r. r ≡ usage_reply) }
 {
-    let text = Sequence::new(b"usage: check CODE\n".to_vec(alloc)?);
+    let text = Sequence::new(b"usage: check CODE | check IMAGE NOTES\n".to_vec(alloc)?);
     Ok(Reply {
         outcome: Outcome::BadWords,
         text,
@@ -113,6 +119,50 @@ pub fn large(alloc: Global, word: u8, name: &str) -> Result<Reply, AllocError>
     let text = Sequence::new(format!(in alloc; "large {name}\n")?.into_bytes());
     Ok(Reply {
         outcome: Outcome::TooLarge { word },
+        text,
+    })
+}
+
+/// The answer where the file of the name is no image, by a fault at an offset.
+pub fn bad_image(
+    alloc: Global,
+    word: u8,
+    name: &str,
+    kind: ImageFault,
+    offset: u64,
+) -> Result<Reply, AllocError>
+    ensures { IfOk result (λ r. r ≡ bad_image_reply word name.now kind offset) }
+{
+    let fault = image_fault_text(kind);
+    let text = Sequence::new(format!(in alloc; "bad {name} {fault} {offset}\n")?.into_bytes());
+    let number = image_fault_number(kind);
+    Ok(Reply {
+        outcome: Outcome::BadInput {
+            word,
+            fault: number,
+        },
+        text,
+    })
+}
+
+/// The answer where the file of the name stands for no notes.
+pub fn bad_notes(
+    alloc: Global,
+    word: u8,
+    name: &str,
+    fault: &TomlFault,
+) -> Result<Reply, AllocError>
+    ensures { IfOk result (λ r. r ≡ bad_notes_reply word name.now fault.now) }
+{
+    let kind = toml_fault_text(fault);
+    let path = key_path(fault);
+    let text = Sequence::new(format!(in alloc; "bad {name} {kind} {path}\n")?.into_bytes());
+    let number = toml_fault_number(fault);
+    Ok(Reply {
+        outcome: Outcome::BadInput {
+            word,
+            fault: number,
+        },
         text,
     })
 }

@@ -1,0 +1,188 @@
+//! What `check IMAGE NOTES` prints, over files in memory: a driver, and what is told of files near its two.
+
+use crate::tests::{bytes_of, words_of};
+use ebc_cli::{Outcome, ebc};
+use ebc_outside::{MemFolder, MemSink};
+use std::alloc::{AllocError, Global};
+use std::test::Fail;
+
+/// The driver's image: an offset in the file and the bytes that stand there. All other bytes are zeros.
+const IMAGE: &str = "0 4D5A
+60 40000000
+64 50450000
+68 BC0E
+70 0200
+84 F000
+86 2200
+88 0B02
+104 00100000
+112 0000010000000000
+120 00100000
+124 00020000
+144 00300000
+148 00020000
+156 0B00
+196 10000000
+328 2E746578740000004A000000001000000002000000020000
+364 20000060
+368 2E6461746100000008000000002000000002000000040000
+404 400000C0
+512 B907FA0F00000005728441106000019020053505032C6000011025756E05FFFF
+544 C20E32851FD6B905D40F0000350D72844310832C010000106000021004006000
+576 01100400773700000400
+1024 40F0FFFF00000000";
+
+/// Its notes.
+const NOTES: &str = r#"version = 1
+entry = "main"
+shape = [{name="Sys", size=[2,0], fields=["loc 0 0 method:Locate", "reg 1 0 method:Register"]},
+ {name="Blk", size=[2,0], fields=["count 0 0 i32", "next 1 0 ptr?:Blk"]},
+ {name="L", size=[1,0], fields=["p 0 0 ptr:Blk"]}]
+thunk = [{place=0x2000, function="tick"}]
+function = [{name="main", place=0x1000, end=0x1044, level=1, need=[2,0], locals="L", params=["n handle", "n ptr:Sys"], result="status"},
+ {name="tick", place=0x1044, end=0x104A, level=0, need=[0,0], params=["n int:0..4294967295"], result="status", enter=true}]
+point = [{place=0x103E, regs=["R7 status!p"], stack=["locals"], written=[], made=1}]
+signature = [{name="locate", method="Locate", params=["n out:ptr:Blk"], result="status"},
+ {name="register", method="Register", params=["n entry"], result="status"}]
+site = [{place=0x1014, signature="locate"}, {place=0x1032, signature="register"}]
+"#;
+
+// The image's file.
+fn image_of(alloc: Global) -> Result<Vec<u8>, Fail> {
+    let mut file = vec![in alloc; 0; 1536]?;
+    for row in IMAGE.lines() {
+        let (at, digits) = row.split_once(' ').ok_or("a row without a space")?;
+        put(
+            &mut file,
+            at.parse::<usize>()?,
+            bytes_of(alloc, digits)?.as_slice(),
+        );
+    }
+    Ok(file)
+}
+
+// Writes over the bytes from an offset on.
+fn put(file: &mut Vec<u8>, at: usize, bytes: &[u8]) {
+    for (cell, byte) in file.iter_mut().skip(at).zip(bytes) {
+        *cell = *byte;
+    }
+}
+
+// The bytes, and then as many of one byte as make them so long.
+fn filled(alloc: Global, bytes: &[u8], byte: u8, length: usize) -> Result<Vec<u8>, AllocError> {
+    let mut file = Vec::from_slice(alloc, bytes)?;
+    for _ in bytes.len()..length {
+        file.push(byte)?;
+    }
+    Ok(file)
+}
+
+// The notes with another text in place of one.
+fn changed_notes(alloc: Global, old: &str, new: &str) -> Result<String, Fail> {
+    let (before, after) = NOTES
+        .split_once(old)
+        .ok_or("the text that is changed isn't there")?;
+    let mut text = String::from_str(alloc, before)?;
+    text.push_str(new)?;
+    text.push_str(after)?;
+    Ok(text)
+}
+
+// The files of which the rows speak: those whose names end in `i` are near the image, those in `n` near the notes.
+fn folder(alloc: Global) -> Result<MemFolder, Fail> {
+    let mut folder = MemFolder::new(alloc);
+    let image = image_of(alloc)?;
+    let mut machine = Vec::from_slice(alloc, image.as_slice())?;
+    put(&mut machine, 68, &[0x64, 0x86]);
+    folder.insert("i", image.as_slice())?;
+    folder.insert("short.i", image.as_slice().get(..63).ok_or("63 bytes")?)?;
+    folder.insert("machine.i", machine.as_slice())?;
+    folder.insert(
+        "full.i",
+        filled(alloc, image.as_slice(), 0, 4194304)?.as_slice(),
+    )?;
+    folder.insert(
+        "large.i",
+        filled(alloc, image.as_slice(), 0, 4194305)?.as_slice(),
+    )?;
+    folder.insert("n", NOTES.as_bytes())?;
+    folder.insert("level.n", changed_notes(alloc, " level=1,", "")?.as_bytes())?;
+    folder.insert(
+        "need.n",
+        changed_notes(alloc, "[2,0], locals", "[1,0], locals")?.as_bytes(),
+    )?;
+    folder.insert(
+        "name.n",
+        changed_notes(alloc, "name=\"Blk\"", "name=\"Block\"")?.as_bytes(),
+    )?;
+    folder.insert(
+        "twice.n",
+        changed_notes(alloc, "name=\"tick\"", "name=\"main\"")?.as_bytes(),
+    )?;
+    folder.insert(
+        "full.n",
+        filled(alloc, NOTES.as_bytes(), 10, 1048576)?.as_slice(),
+    )?;
+    folder.insert(
+        "large.n",
+        filled(alloc, NOTES.as_bytes(), 10, 1048577)?.as_slice(),
+    )?;
+    Ok(folder)
+}
+
+/// The words, the outcome, and the line that is printed. An image is read whole before its notes are asked for.
+const ROWS: &str = "check i n | Done | neutral
+check i need.n | Refused { place: 4114, rule: Stack } | refused 00001012 stack
+check short.i n | BadInput { word: 1, fault: 1 } | bad short.i short 0
+check machine.i n | BadInput { word: 1, fault: 4 } | bad machine.i machine 68
+check n i | BadInput { word: 1, fault: 2 } | bad n mz 0
+check short.i absent | BadInput { word: 1, fault: 1 } | bad short.i short 0
+check short.i large.n | BadInput { word: 1, fault: 1 } | bad short.i short 0
+check i i | BadInput { word: 2, fault: 1 } | bad i nottoml -
+check i level.n | BadInput { word: 2, fault: 2 } | bad level.n missing function[0].level
+check i twice.n | BadInput { word: 2, fault: 6 } | bad twice.n twice function[1].name
+check i name.n | BadInput { word: 2, fault: 4 } | bad name.n name shape[1].fields
+check full.i full.n | Done | neutral
+check large.i absent | TooLarge { word: 1 } | large large.i
+check i large.n | TooLarge { word: 2 } | large large.n
+check absent n | Missing { word: 1 } | missing absent
+check i absent | Missing { word: 2 } | missing absent";
+
+#[test]
+fn an_image_is_neutral_or_refused_or_not_read(rt: HostRuntime) -> Result<(), Fail> {
+    let alloc = rt.alloc();
+    let mut folder = folder(alloc)?;
+    for row in ROWS.lines() {
+        let (words, rest) = row.split_once(" | ").ok_or("a row without an outcome")?;
+        let (wanted, line) = rest.split_once(" | ").ok_or("a row without a line")?;
+        let mut out = MemSink::new(alloc);
+        let outcome = ebc(alloc, &words_of(alloc, words)?, &mut folder, &mut out);
+        let told = format!(in alloc; "{outcome:?}")?;
+        assert_eq!(rt; told.as_str(), wanted, "at {row}");
+        assert_eq!(rt;
+            out.text().strip_suffix(b"\n"),
+            Some(line.as_bytes()),
+            "at {row}"
+        );
+    }
+    Ok(())
+}
+
+#[test]
+fn a_second_read_or_a_put_that_fails_prints_nothing(rt: HostRuntime) -> Result<(), Fail> {
+    let alloc = rt.alloc();
+    let mut folder = folder(alloc)?;
+    folder.fail_reads(vec![in alloc; 2]?);
+    let mut out = MemSink::new(alloc);
+    out.fail_puts(vec![in alloc; 1]?);
+    let words = words_of(alloc, "check i n")?;
+    for (wanted, text) in [
+        (Outcome::ReadFault, ""),
+        (Outcome::WriteFault, ""),
+        (Outcome::Done, "neutral\n"),
+    ] {
+        assert_eq!(rt; ebc(alloc, &words, &mut folder, &mut out), wanted);
+        assert_eq!(rt; out.text(), text.as_bytes());
+    }
+    Ok(())
+}

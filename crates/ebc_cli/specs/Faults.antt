@@ -1,0 +1,59 @@
+-- The faults of the files that a command reads, by their numbers and as they are printed: docs/COMMANDS.md, "Faults".
+use Rattle.std.specs.Prelude.{ℕ, List, codes}
+use Rattle.note_types.specs.declared.fault.TomlFault.{TomlFault}
+use Rattle.note_types.specs.declared.fault.TomlFault.TheVariants as toml
+use Rattle.pe_image.specs.declared.fault.ImageFault.{ImageFault}
+use Rattle.pe_image.specs.declared.fault.ImageFault.TheVariants as images
+
+-- ---- images
+
+abbrev pub image_fault_number : ImageFault → ℕ
+image_fault_number images.Short = 1
+image_fault_number images.Mz = 2
+image_fault_number images.Pe = 3
+image_fault_number images.Machine = 4
+image_fault_number images.Magic = 5
+image_fault_number images.Section = 6
+image_fault_number images.Overlap = 7
+image_fault_number images.Align = 8
+image_fault_number images.Reloc = 9
+image_fault_number images.Entry = 10
+
+abbrev pub image_fault_text : ImageFault → List ℕ
+image_fault_text images.Short = codes "short"
+image_fault_text images.Mz = codes "mz"
+image_fault_text images.Pe = codes "pe"
+image_fault_text images.Machine = codes "machine"
+image_fault_text images.Magic = codes "magic"
+image_fault_text images.Section = codes "section"
+image_fault_text images.Overlap = codes "overlap"
+image_fault_text images.Align = codes "align"
+image_fault_text images.Reloc = codes "reloc"
+image_fault_text images.Entry = codes "entry"
+
+-- ---- notes
+
+abbrev pub toml_fault_number : TomlFault → ℕ
+toml_fault_number toml.NotToml = 1
+toml_fault_number (toml.Missing path) = 2
+toml_fault_number (toml.Kind path) = 3
+toml_fault_number (toml.Name path) = 4
+toml_fault_number (toml.Range path) = 5
+toml_fault_number (toml.Twice path) = 6
+
+abbrev pub toml_fault_text : TomlFault → List ℕ
+toml_fault_text toml.NotToml = codes "nottoml"
+toml_fault_text (toml.Missing path) = codes "missing"
+toml_fault_text (toml.Kind path) = codes "kind"
+toml_fault_text (toml.Name path) = codes "name"
+toml_fault_text (toml.Range path) = codes "range"
+toml_fault_text (toml.Twice path) = codes "twice"
+
+-- the path of the key where the fault stands, and a dash where the text isn't TOML
+abbrev pub key_path : TomlFault → List ℕ
+key_path toml.NotToml = codes "-"
+key_path (toml.Missing path) = path
+key_path (toml.Kind path) = path
+key_path (toml.Name path) = path
+key_path (toml.Range path) = path
+key_path (toml.Twice path) = path

@@ -1,0 +1,82 @@
+-- The work that words ask for once their files are read, and the replies to it: docs/COMMANDS.md, "The answer".
+use Rattle.std.specs.Prelude.{◌≡◌, ◌↔◌, ℕ, ◌≤◌, List, length, Option, Some, None, Result, Ok, Err}
+use Rattle.ebc_outside.specs.Files.{Files}
+use Rattle.note_types.specs.declared.notes.Notes.{Notes}
+use Rattle.note_types.specs.declared.rule.RuleName.{RuleName}
+use Rattle.note_types.specs.Records.{IsNotes}
+use Rattle.pe_image.specs.declared.image.Image.{Image}
+use Rattle.pe_image.specs.Images.{IsImage}
+use Rattle.width_checker.specs.declared.verdict.Verdict.{Verdict}
+use Rattle.width_checker.specs.declared.verdict.Verdict.TheVariants as verdicts
+use Rattle.width_checker.specs.PlainChecks.{plain_verdict}
+use Rattle.width_checker.specs.Typed.{Typed}
+use Rattle.width_checker.specs.Verdicts.{IsRefused}
+use Rattle.ebc_cli.specs.declared.outcome.Outcome.TheVariants as outcomes
+use Rattle.ebc_cli.specs.declared.command.Command.{Command}
+use Rattle.ebc_cli.specs.declared.command.Command.TheVariants as commands
+use Rattle.ebc_cli.specs.declared.reply.Reply.{Reply}
+use Rattle.ebc_cli.specs.declared.work.Work.{Work}
+use Rattle.ebc_cli.specs.declared.work.Work.TheVariants as works
+use Rattle.ebc_cli.specs.Commands.{command_of}
+use Rattle.ebc_cli.specs.Inputs.{image_in, notes_in}
+use Rattle.ebc_cli.specs.Readings.{FileReading, done, ◌>>=◌, file, told}
+use Rattle.ebc_cli.specs.Texts.{neutral_line, refused_line, usage_line}
+
+-- how many bytes plain code may have: 256 KiB
+abbrev pub plain_code_limit : ℕ
+plain_code_limit = 262144
+
+abbrev pub usage_reply : Reply
+usage_reply = record { outcome = outcomes.BadWords; text = usage_line }
+
+-- ---- what is read
+
+-- `check CODE`
+unfoldable pub code_check : List ℕ → Files → FileReading Work
+code_check name files = do
+  code ← file 1 name plain_code_limit files
+  done (works.CheckCode code)
+
+-- `check IMAGE NOTES`: the image is read whole before the notes
+unfoldable pub image_check : List ℕ → List ℕ → Files → FileReading Work
+image_check image_name notes_name files = do
+  image ← image_in 1 image_name files
+  notes ← notes_in 2 notes_name files
+  done (works.CheckImage image notes)
+
+abbrev pub work_for : Option Command → Files → FileReading Work
+work_for None files = told (Err usage_reply)
+work_for (Some (commands.CheckCode code)) files = code_check code files
+work_for (Some (commands.CheckImage image notes)) files = image_check image notes files
+
+-- the files that the words ask for, and the work, or the reply at which the reading stops
+unfoldable pub work_of : List (List ℕ) → Files → FileReading Work
+work_of words files = work_for (command_of words) files
+
+-- ---- what is replied
+
+-- code that was read is within its limit, what was read as an image is one, and what was read as notes are notes
+abbrev pub CanBeDone : Work → Type 0
+CanBeDone (works.CheckCode code) = length code ≤ plain_code_limit
+CanBeDone (works.CheckImage image notes) = IsImage image × IsNotes notes
+
+abbrev pub verdict_reply : Verdict → Reply
+verdict_reply verdicts.Neutral = record { outcome = outcomes.Done; text = neutral_line }
+verdict_reply (verdicts.Refused place rule) = record { outcome = outcomes.Refused place rule; text = refused_line place rule }
+
+-- the reply tells the verdict on an image under notes: neutral exactly where the image is typed, and refused at a place
+-- by a rule exactly where that is the first place at which a rule fails, and the first rule that fails there
+pub record TellsVerdict (image : Image) (notes : Notes) (reply : Reply) : Type 0 where
+  pub verdict : Verdict
+  pub neutral : verdict ≡ verdicts.Neutral ↔ Typed image notes
+  pub refused : (place : ℕ) (rule : RuleName) → verdict ≡ verdicts.Refused place rule ↔ IsRefused image notes place rule
+  pub told : reply ≡ verdict_reply verdict
+
+abbrev pub IsReplyTo : Work → Reply → Type 0
+IsReplyTo (works.CheckCode code) reply = reply ≡ verdict_reply (plain_verdict code)
+IsReplyTo (works.CheckImage image notes) reply = TellsVerdict image notes reply
+
+-- a reading that went through is replied to as its work, and else by the reply at which it stopped
+abbrev pub IsReplyOf : Result Work Reply → Reply → Type 0
+IsReplyOf (Ok work) reply = IsReplyTo work reply
+IsReplyOf (Err stopped) reply = reply ≡ stopped

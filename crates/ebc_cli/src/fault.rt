@@ -1,0 +1,84 @@
+//! The faults of the files that a command reads: their numbers, and their names as they are printed.
+ghost use Rattle.std.specs.Prelude.{◌≡◌};
+ghost use Rattle.ebc_cli.specs.Faults.{image_fault_number, image_fault_text, toml_fault_number, toml_fault_text, key_path};
+
+use note_types::TomlFault;
+use pe_image::ImageFault;
+
+/// The number of a fault of an image, from 1 to 10.
+pub fn image_fault_number(fault: ImageFault) -> u8
+    ensures { result ≡ image_fault_number fault }
+{
+    match fault {
+        ImageFault::Short => 1,
+        ImageFault::Mz => 2,
+        ImageFault::Pe => 3,
+        ImageFault::Machine => 4,
+        ImageFault::Magic => 5,
+        ImageFault::Section => 6,
+        ImageFault::Overlap => 7,
+        ImageFault::Align => 8,
+        ImageFault::Reloc => 9,
+        ImageFault::Entry => 10,
+    }
+}
+
+/// The name of a fault of an image.
+pub fn image_fault_text(fault: ImageFault) -> &'static str
+    ensures { result.now ≡ image_fault_text fault }
+{
+    match fault {
+        ImageFault::Short => "short",
+        ImageFault::Mz => "mz",
+        ImageFault::Pe => "pe",
+        ImageFault::Machine => "machine",
+        ImageFault::Magic => "magic",
+        ImageFault::Section => "section",
+        ImageFault::Overlap => "overlap",
+        ImageFault::Align => "align",
+        ImageFault::Reloc => "reloc",
+        ImageFault::Entry => "entry",
+    }
+}
+
+/// The number of a fault of a TOML text, from 1 to 6.
+pub fn toml_fault_number(fault: &TomlFault) -> u8
+    ensures { result ≡ toml_fault_number fault.now }
+{
+    match fault {
+        TomlFault::NotToml => 1,
+        TomlFault::Missing(_) => 2,
+        TomlFault::Kind(_) => 3,
+        TomlFault::Name(_) => 4,
+        TomlFault::Range(_) => 5,
+        TomlFault::Twice(_) => 6,
+    }
+}
+
+/// The name of a fault of a TOML text.
+pub fn toml_fault_text(fault: &TomlFault) -> &'static str
+    ensures { result.now ≡ toml_fault_text fault.now }
+{
+    match fault {
+        TomlFault::NotToml => "nottoml",
+        TomlFault::Missing(_) => "missing",
+        TomlFault::Kind(_) => "kind",
+        TomlFault::Name(_) => "name",
+        TomlFault::Range(_) => "range",
+        TomlFault::Twice(_) => "twice",
+    }
+}
+
+/// The path of the key where a fault of a TOML text stands, and a dash where the text isn't TOML.
+pub fn key_path(fault: &TomlFault) -> &str
+    ensures { result.now ≡ key_path fault.now }
+{
+    match fault {
+        TomlFault::NotToml => "-",
+        TomlFault::Missing(path) => path.as_str(),
+        TomlFault::Kind(path) => path.as_str(),
+        TomlFault::Name(path) => path.as_str(),
+        TomlFault::Range(path) => path.as_str(),
+        TomlFault::Twice(path) => path.as_str(),
+    }
+}
