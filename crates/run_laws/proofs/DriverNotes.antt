@@ -1,14 +1,21 @@
--- The driver of docs/NOTES.md with its names: its notes meet the conditions on notes.
-use Rattle.std.proofs.Common.{◌≡◌, ℕ, zero, suc, ◌-◌, ◌*◌, ◌^◌, ◌<◌, ◌≤◌, Bool, true, false, List, [], ◌∷◌, length, get_or, None, refl, sym, pos, codes, nat_le, nat_lt, arith}
+-- The driver of docs/NOTES.md with its names and its point: its notes meet the conditions on notes.
+use Rattle.std.proofs.Common.{◌≡◌, ℕ, zero, suc, ◌-◌, ◌*◌, ◌^◌, ◌<◌, ◌≤◌, Bool, true, false, List, [], ◌∷◌, length, get_or, slice_get, Some, None, refl, sym, pos, codes, nat_le, nat_lt, arith}
 use Rattle.std.specs.Prelude.{IfSome}
+use Rattle.std.specs.Int.{bit_at}
 use Rattle.std.specs.List.{AllByRecursion, sum_by}
 use Rattle.std.specs.List.Sorted.{IsStrictlyIncreasing}
+use Rattle.std.proofs.lemmas.Nat.Bits.{bit_at-pow_other}
 use Rattle.std.proofs.lemmas.Option.{none-some}
 use Rattle.std.proofs.lemmas.Bool.{leb-true, ltb-true, true≢false}
-use Rattle.note_types.specs.Known.{IsKnown, IsKnownCell, local_fields}
+use Rattle.note_types.specs.Known.{AreFields, IsKnown, IsKnownCell, IsState, local_fields}
+use Rattle.note_types.specs.States.{type_of}
+use Rattle.note_types.specs.declared.cell.SlotKind.{SlotKind}
+use Rattle.note_types.specs.declared.items.Item.TheVariants.{Locals, Slot}
+use Rattle.note_types.specs.declared.state.State.{State}
+use Rattle.note_types.specs.declared.types.Ty.{Ty}
 use Rattle.note_types.specs.Limits.{code_limit, point_limit, stack_limit}
 use Rattle.note_types.specs.Passing.{IsHandedBack, IsHandedIn}
-use Rattle.note_types.specs.Records.{CanBeEntered, HasNameLength, IsFieldNote, IsFunctionNote, IsNotes, IsParamNote, IsResultNote, IsShapeNote, IsSignatureNote, IsSiteNote, IsThunkNote, IsWantNote, code_size, frame_size}
+use Rattle.note_types.specs.Records.{CanBeEntered, HasNameLength, IsFieldNote, IsFunctionNote, IsNotes, IsParamNote, IsPointNote, IsResultNote, IsShapeNote, IsSignatureNote, IsSiteNote, IsThunkNote, IsWantNote, code_size, frame_size, function_at}
 use Rattle.note_types.specs.declared.cell.Cell.TheVariants as cell
 use Rattle.note_types.specs.declared.notes.FnNote.{FnNote}
 use Rattle.note_types.specs.declared.notes.Notes.{Notes}
@@ -42,6 +49,16 @@ abbrev named_signatures : List (List ℕ) → List Signature → List Signature
 named_signatures (n ∷ ns) (g ∷ gs) = record g { name = n } ∷ named_signatures ns gs
 named_signatures _ _ = []
 
+-- the state at the one point: R7 has the status of Locate, whose success grants the local `p`, and the locals lie on the stack
+abbrev after_locate : State
+after_locate = record {
+  regs = ty.Any ∷ ty.Saved 1 ∷ ty.Saved 2 ∷ ty.Saved 3 ∷ ty.Any ∷ ty.Any ∷ ty.Any ∷ ty.Status 1 ∷ [];
+  items = Locals ∷ [];
+  written = 0;
+  made = 1;
+  fact = None;
+}
+
 abbrev pub driver_named : World
 driver_named = record driver {
   notes = record driver_notes {
@@ -49,6 +66,7 @@ driver_named = record driver {
     function = named_functions (codes "main" ∷ codes "tick" ∷ []) driver_notes.function;
     signature = named_signatures (codes "locate" ∷ codes "register" ∷ []) driver_notes.signature;
     methods = codes "Locate" ∷ codes "Register" ∷ [];
+    point = record { place = 0x103E; state = after_locate } ∷ [];
   };
 }
 
@@ -167,6 +185,57 @@ tick_note = record {
   entered = λ e. tick_enterable;
 }
 
+-- ---- the point
+
+any : (f : FnNote) → IsKnown notes f ty.Any
+any f = record { bounded = tt; names = tt }
+
+-- the set of bit 0 has field 0 alone
+one_local : AreFields notes main 1
+unfolding local_fields
+one_local zero h = below 0 1 refl
+one_local (suc x) h = let z : bit_at (2 ^ 0) (suc x) ≡ 0 = bit_at-pow_other 0 (suc x) (λ e. omega (arith, e)) in absurd (omega (arith, h, z))
+
+registers : (r : ℕ) → IsKnown notes main (type_of after_locate r)
+registers zero = any main
+registers (suc zero) = record { bounded = (at_most 1 1 refl, at_most 1 3 refl); names = tt }
+registers (suc (suc zero)) = record { bounded = (at_most 1 2 refl, at_most 2 3 refl); names = tt }
+registers (suc (suc (suc zero))) = record { bounded = (at_most 1 3 refl, at_most 3 3 refl); names = tt }
+registers (suc (suc (suc (suc zero)))) = any main
+registers (suc (suc (suc (suc (suc zero))))) = any main
+registers (suc (suc (suc (suc (suc (suc zero)))))) = any main
+registers (suc (suc (suc (suc (suc (suc (suc zero))))))) = record { bounded = below 1 (2 ^ 64) refl; names = one_local }
+registers (suc (suc (suc (suc (suc (suc (suc (suc r)))))))) = any main
+
+no_slot : (k : ℕ) (kind : SlotKind) (t : Ty) → slice_get (Locals ∷ []) k ≡ Some (Slot kind t) → ⊥
+no_slot zero kind t e = cc e
+no_slot (suc k) kind t e = none-some (Slot kind t) e
+
+point_state : IsState notes main after_locate
+point_state = record {
+  eight = refl;
+  unused = refl;
+  registers = registers;
+  slots = λ k kind t e. absurd (no_slot k kind t e);
+  few = at_most 0 64 refl;
+  once = at_most 1 1 refl;
+  there = λ k e. refl;
+  fact = λ x e. absurd (none-some x e);
+}
+
+point_note : IsPointNote notes (record { place = 0x103E; state = after_locate })
+unfolding function_at
+point_note = record {
+  place = below 0x103E (2 ^ 22) refl;
+  owner = main;
+  there = refl;
+  state = point_state;
+  written = no_fields notes main;
+  set = below 0 (2 ^ 64) refl;
+  made = below 1 (2 ^ 32) refl;
+  fact = refl;
+}
+
 -- ---- signatures
 
 signature_note : (g : Signature) → nat_le 1 (length g.name) ≡ true → nat_le (length g.name) 63 ≡ true → nat_lt g.method 2 ≡ true → nat_le (length g.params) 16 ≡ true → AllByRecursion (IsWantNote notes) g.params → IfSome g.result (IsResultNote notes) → IsSignatureNote notes g
@@ -201,7 +270,7 @@ driver_notes_meet = record {
     statics = below 0 (2 ^ 32) refl;
     thunks = below 1 (2 ^ 32) refl;
     functions = at_most 2 4096 refl;
-    points = at_most 0 (point_limit 1) refl;
+    points = at_most 1 (point_limit 1) refl;
     signatures = below 2 (2 ^ 32) refl;
     sites = below 2 (2 ^ 32) refl;
     methods = at_most 2 1024 refl;
@@ -211,7 +280,7 @@ driver_notes_meet = record {
   statics = λ k x g. absurd (none-some x g);
   thunks = each_item (IsThunkNote notes) notes.thunk (record { place = below 0x2000 (2 ^ 22) refl; function = below 1 2 refl }, tt);
   functions = each_item (IsFunctionNote notes) notes.function (main_note, (tick_note, tt));
-  points = λ k x g. absurd (none-some x g);
+  points = each_item (IsPointNote notes) notes.point (point_note, tt);
   signatures = each_item (IsSignatureNote notes) notes.signature signatures;
   sites = each_item (IsSiteNote notes) notes.site (record { place = below 0x1014 (2 ^ 22) refl; signature = below 0 2 refl }, (record { place = below 0x1032 (2 ^ 22) refl; signature = below 1 2 refl }, tt));
   methods = each_item HasNameLength notes.methods (name_length (codes "Locate") refl refl, (name_length (codes "Register") refl refl, tt));
