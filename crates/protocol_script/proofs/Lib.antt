@@ -1,5 +1,6 @@
 pub mod FilledLaws
 pub mod LimitLaws
+pub mod NumberedLaws
 pub mod ObjectLaws
 pub mod RecordLaws
 pub mod ShapeLaws

@@ -2,7 +2,6 @@ pub mod Conditions
 pub mod Contents
 pub mod Limits
 pub mod Numbers
-pub mod Records
 pub mod Resolved
 pub mod Scripts
 pub mod ShapeTests

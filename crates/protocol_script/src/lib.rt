@@ -6,7 +6,7 @@
 
 ghost use Rattle.note_texts.specs.Outcome.{Gives};
 ghost use Rattle.std.specs.Prelude.{IfOk};
-ghost use Rattle.protocol_script.specs.Records.{IsScript};
+ghost use Rattle.run_types.specs.Scripts.{IsScript};
 ghost use Rattle.protocol_script.specs.Scripts.{script_of};
 
 mod conditions;
