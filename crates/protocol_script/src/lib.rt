@@ -11,12 +11,15 @@ ghost use Rattle.protocol_script.specs.Scripts.{script_of};
 
 mod conditions;
 mod contents;
+mod laws;
 mod limits;
 mod numbers;
 mod objects;
 mod resolve;
 mod shapes;
 mod tables;
+
+pub use laws::printed_texts_are_read;
 
 use crate::conditions::meet_conditions;
 use crate::resolve::resolve_script;

@@ -132,11 +132,11 @@ argument_is s (Given v) h = (argument_sound s (Given v) h).1
 cell_is : (s : List ℕ) (c : CellValueText) → cell_value_of s ≡ Some c → IsCellDraft c
 unfolding cell_value_of
 cell_is s c h =
-    option_and_then_some _ _ c h (λ (first : List ℕ × List ℕ) _ h.
-    option_and_then_some _ _ c h (λ (second : List ℕ × List ℕ) _ h.
-    option_and_then_some _ _ c h (λ instance one h.
-    option_and_then_some _ _ c h (λ name two h.
-    option_and_then_some _ _ c h (λ v three e.
+    option_and_then_some _ (split_at 32 s) c h (λ (first : List ℕ × List ℕ) _ h.
+    option_and_then_some _ (split_at 32 first.1) c h (λ (second : List ℕ × List ℕ) _ h.
+    option_and_then_some _ (number_of first.0) c h (λ instance one h.
+    option_and_then_some _ (name_of second.0) c h (λ name two h.
+    option_and_then_some _ (value_of second.1) c h (λ v three e.
     moved IsCellDraft (record { instance = instance; field = name; value = v }) c e
     (record { instance = number_is first.0 instance one; field = name_is second.0 name two; value = value_is second.1 v three }))))))
 

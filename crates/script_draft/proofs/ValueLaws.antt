@@ -203,7 +203,7 @@ out_again : argument_of (codes "out") ≡ Some Out
 unfolding argument_of
 out_again = rw (parts_at-none 32 (codes "out") refl) refl
 
-argument_complete : (text : List ℕ) (a : ArgumentText) → IsArgumentText text a → argument_of text ≡ Some a
+pub argument_complete : (text : List ℕ) (a : ArgumentText) → IsArgumentText text a → argument_of text ≡ Some a
 argument_complete text Out h = rw h out_again
 argument_complete text (Lent v) h = rw h.0 (lent_again (value_text v) ∙ rw (value_complete v h.1) refl)
 argument_complete text (Given v) h = rw h.0 (given_again v ∙ rw (value_complete v h.1) refl)
