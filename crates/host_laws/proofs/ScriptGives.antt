@@ -1,11 +1,11 @@
 -- A script that was read gives what the laws of the host's steps and of a run's start ask of it.
-use Rattle.std.proofs.Common.{◌≡◌, ℕ, zero, suc, ◌+◌, ◌-◌, ◌<◌, ◌≤◌, Bool, true, ◌&&◌, List, [], ◌∷◌, ◌++◌, map, take, length, Some, refl, sym, ap, ◌∙◌, subst, arith, slice_get, ⊎_elim}
+use Rattle.std.proofs.Common.{◌≡◌, ℕ, zero, suc, ◌+◌, ◌-◌, ◌<◌, ◌≤◌, true, List, [], ◌∷◌, ◌++◌, map, take, length, Some, refl, sym, ap, ◌∙◌, subst, arith, slice_get, ⊎_elim}
 use Rattle.std.proofs.lemmas.Bool.{and_parts, cases_lt, eqb-true, lt-ltb}
 use Rattle.std.proofs.lemmas.Option.{none-some, slice_get-map, slice_get_within}
 use Rattle.std.specs.List.{AllByRecursion, enumerate_from, flat_map, list_all, zip}
 use Rattle.std.specs.Option.{option_map, option_map_or}
 use Rattle.std.specs.Prelude.{nat_eq}
-use Rattle.note_types.specs.Records.{Each, IsNotes}
+use Rattle.note_types.specs.Records.{Each}
 use Rattle.note_types.specs.declared.notes.FnNote.{FnNote}
 use Rattle.note_types.specs.declared.notes.Notes.{Notes}
 use Rattle.note_types.specs.declared.notes.Param.{Param}
@@ -23,18 +23,17 @@ use Rattle.run_types.specs.HostPlans.{InObject, Store, cell_store, field_at, fie
 use Rattle.run_types.specs.Layout.{total}
 use Rattle.run_types.specs.declared.object.TypedObject.{TypedObject}
 use Rattle.run_types.specs.Objects.{made_objects, objects_of, placed_objects, script_object, static_object}
-use Rattle.run_types.specs.Placements.{frame_bytes, most_bytes, params_bytes, return_cell, stack_bytes}
 use Rattle.run_types.specs.ScriptValues.{fits, fits_each}
-use Rattle.run_types.specs.Scripts.{IsCallOf, IsObjectOf, IsScript, IsWritten, all_made}
+use Rattle.run_types.specs.Scripts.{IsCallOf, IsScript, IsWritten}
 use Rattle.run_types.specs.Values.{Cells, FieldOf}
 use Rattle.run_types.specs.World.{World}
 use Rattle.run_types.specs.WrittenLaw.{IsValue}
 use Rattle.run_types.proofs.Lists.{length-map, slice_get-append_left, slice_get-append_right}
 use Rattle.run_types.proofs.Ranges.{most_above}
 use Rattle.host_laws.specs.PlanFits.{CanEnter, StoreNames}
-use Rattle.host_laws.specs.ScriptGiven.{CallGiven, ScriptGiven, StoreGiven}
+use Rattle.host_laws.specs.ScriptGiven.{CallGiven, StoreGiven}
 use Rattle.host_laws.specs.ScriptLaw.{CallsAreGiven, ObjectsAreGiven, StartIsGiven}
-use Rattle.host_laws.specs.StartGiven.{StartGiven, start_config}
+use Rattle.host_laws.specs.StartGiven.{start_config}
 use Rattle.host_laws.proofs.Growing.{made_more}
 
 -- ---- lists
