@@ -1,15 +1,13 @@
 -- A draft with the numbers of what it names: its values are such as texts may have, and each thing that it names is there.
-use Rattle.std.proofs.Common.{◌≡◌, ℕ, zero, suc, ◌+◌, ◌^◌, ◌<◌, ◌≤◌, Bool, List, [], ◌∷◌, ◌++◌, length, map, Option, Some, None, Result, Ok, refl, sym, ap, ap₂, subst, ◌∙◌, arith, slice_get, inl, inr}
+use Rattle.std.proofs.Common.{◌≡◌, ℕ, suc, ◌+◌, ◌^◌, ◌<◌, ◌≤◌, Bool, List, [], ◌∷◌, ◌++◌, length, map, Option, Some, Ok, refl, sym, ap, ap₂, subst, ◌∙◌, slice_get, inl, inr}
 use Rattle.std.proofs.lemmas.Bool.{ltb-true}
 use Rattle.std.proofs.lemmas.List.{map-append}
-use Rattle.std.proofs.lemmas.Option.{cond_some, option_and_then_some, same_Some}
+use Rattle.std.proofs.lemmas.Option.{cond_some, option_and_then_some}
 use Rattle.std.specs.List.{flat_map, position, position_or_len}
-use Rattle.std.specs.Prelude.{codes, nat_lt, option_and_then, option_map}
-use Rattle.ebc_base.specs.Steps.{◌>>=◌, or_else}
+use Rattle.std.specs.Prelude.{codes, nat_lt, option_and_then}
 use Rattle.note_texts.specs.Keys.{row_prefix}
 use Rattle.note_texts.proofs.Tables.{map_some, moved}
 use Rattle.note_types.specs.Records.{Each}
-use Rattle.note_types.specs.declared.fault.TomlFault.{TomlFault}
 use Rattle.note_types.specs.declared.fault.TomlFault.TheVariants.{Name}
 use Rattle.note_types.specs.declared.notes.Notes.{Notes}
 use Rattle.note_types.specs.declared.notes.Static.{Static}
@@ -165,9 +163,9 @@ object_for notes prefix o r h e =
     subst (IsObjectFor notes o) (same_Ok (record { shape = s; count = o.count; cells = cells }) r e)
     (record {
       numbered = record {
-          shape = shape_within notes o.shape s at;
-          count = h.count;
-          cells = all_given IsCellDraft (λ (c : CellValue). IsWritten notes c.value) (resolved_cell notes fields) o.cells cells (cell_written notes fields) h.cells all;
+        shape = shape_within notes o.shape s at;
+        count = h.count;
+        cells = all_given IsCellDraft (λ (c : CellValue). IsWritten notes c.value) (resolved_cell notes fields) o.cells cells (cell_written notes fields) h.cells all;
       };
       shape = at;
     })))
@@ -244,11 +242,11 @@ call_for notes shapes prefix c r h e =
     subst (IsCallFor notes shapes c) (same_Ok (record { signature = signature; args = args; enter = enter; make = make; out = reply.out; write = reply.write; result = reply.result }) r e)
     (record {
       numbered = record {
-          signature = signature_within notes c.signature signature (found (Name (prefix ++ codes "signature")) (signature_number notes c.signature) signature one);
-          args = all_given IsArgumentDraft (IsArgument notes) (resolved_argument notes) c.args args (argument_written notes) h.args (found (Name (prefix ++ codes "args")) (all_of (resolved_argument notes) c.args) args two);
-          enter = all_given IsCallbackDraft (IsCallbackOf notes) (resolved_callback notes) c.enter enter (callback_written notes) h.enter (found (Name (prefix ++ codes "enter")) (all_of (resolved_callback notes) c.enter) enter three);
-          make = made.numbered;
-          reply = record { out = replied.out; write = replied.write; result = replied.result };
+        signature = signature_within notes c.signature signature (found (Name (prefix ++ codes "signature")) (signature_number notes c.signature) signature one);
+        args = all_given IsArgumentDraft (IsArgument notes) (resolved_argument notes) c.args args (argument_written notes) h.args (found (Name (prefix ++ codes "args")) (all_of (resolved_argument notes) c.args) args two);
+        enter = all_given IsCallbackDraft (IsCallbackOf notes) (resolved_callback notes) c.enter enter (callback_written notes) h.enter (found (Name (prefix ++ codes "enter")) (all_of (resolved_callback notes) c.enter) enter three);
+        make = made.numbered;
+        reply = record { out = replied.out; write = replied.write; result = replied.result };
       };
       makes = made.shapes;
     }))))))

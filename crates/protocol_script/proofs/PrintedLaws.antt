@@ -1,12 +1,11 @@
 -- What is printed of a value that scripts can write is read as that value.
-use Rattle.std.proofs.Common.{◌≡◌, ℕ, zero, suc, ◌+◌, ◌^◌, ◌<◌, ◌≤◌, Bool, true, false, List, [], ◌∷◌, ◌++◌, length, Option, Some, None, refl, sym, ap, subst, ◌∙◌, arith, slice_get, inl, inr, ⊎_elim}
+use Rattle.std.proofs.Common.{◌≡◌, ℕ, zero, suc, ◌+◌, ◌^◌, ◌<◌, Bool, true, false, List, [], ◌∷◌, ◌++◌, length, Option, Some, refl, sym, ap, subst, ◌∙◌, arith, slice_get, ⊎_elim}
 use Rattle.std.proofs.lemmas.Bool.{cases_Bool, lt-ltb}
 use Rattle.std.proofs.lemmas.Option.{none-some, same_Some, slice_get_within}
 use Rattle.std.proofs.lemmas.Slice.Eq.{bytes_eq-Decides}
 use Rattle.std.specs.List.{position, position_or_len}
 use Rattle.std.specs.Option.{option_map_or}
 use Rattle.std.specs.Prelude.{bytes_eq, codes, nat_lt, option_and_then, option_map}
-use Rattle.note_texts.specs.Grammar.{IsName}
 use Rattle.note_types.specs.Records.{IsNotes}
 use Rattle.note_types.specs.declared.notes.FnNote.{FnNote}
 use Rattle.note_types.specs.declared.notes.Notes.{Notes}
@@ -14,7 +13,7 @@ use Rattle.note_types.specs.declared.seen.Seen.{Seen}
 use Rattle.note_types.specs.declared.value.Value.{Value}
 use Rattle.note_types.specs.declared.value.Value.TheVariants as value
 use Rattle.run_types.specs.ScriptValues.{given}
-use Rattle.run_types.specs.Scripts.{IsArgument, IsWritten}
+use Rattle.run_types.specs.Scripts.{IsWritten}
 use Rattle.run_types.proofs.Lists.{within_some}
 use Rattle.script_draft.specs.Grammar as grammar
 use Rattle.script_draft.specs.Printed.{named_value, seen_text, value_text}

@@ -28,7 +28,7 @@ use Rattle.script_draft.specs.Lists.{all_pass}
 use Rattle.protocol_script.specs.Conditions.{all_tables_pass, args_fit, call_args, call_passes, calls_pass, conditions, has_args, is_there, table_conditions, table_meets, table_passes, tables_pass}
 use Rattle.protocol_script.specs.Contents.{all_settled, are_contents, cell_fits, is_by, is_filled, is_settled}
 use Rattle.protocol_script.specs.Limits.{call_limit, calls_limit, limits, object_limit, objects_limit}
-use Rattle.run_types.specs.Scripts.{IsArgument, IsCallOf, IsCallbackOf, IsCellOf, IsObjectOf, IsOutOf, IsScript, IsWriteOf, IsWritten, all_made, callbacks_of, have_room, is_given, is_needed}
+use Rattle.run_types.specs.Scripts.{IsCallOf, IsCellOf, IsObjectOf, IsScript, IsWriteOf, IsWritten, all_made, callbacks_of, have_room, is_given, is_needed}
 use Rattle.protocol_script.specs.ShapeTests.{fits_at, is_shape}
 use Rattle.protocol_script.specs.declared.tables.TableCondition.{TableCondition}
 use Rattle.protocol_script.specs.declared.tables.TableCondition.TheVariants.{Instances, WellFormed, Contents, Pointers}

@@ -1,6 +1,6 @@
 -- What the cells of a script's object hold at first: which fit, and which have to be given. docs/SCRIPTS.md, "What the reader
 -- refuses".
-use Rattle.std.specs.Prelude.{ℕ, Bool, true, false, not, ◌&&◌, ◌||◌, List, length, nat_eq, nat_le, nat_lt, slice_get}
+use Rattle.std.specs.Prelude.{ℕ, Bool, true, false, not, ◌&&◌, ◌||◌, List, length, nat_le, nat_lt, slice_get}
 use Rattle.std.specs.List.{list_all, range_with_len}
 use Rattle.std.specs.Option.{option_map_or}
 use Rattle.note_types.specs.Cells.{content_type}

@@ -1,11 +1,10 @@
 -- The limits of a script: on its objects, its calls and its callbacks. docs/SCRIPTS.md, "What the reader refuses".
-use Rattle.std.specs.Prelude.{◌≡◌, ℕ, ◌+◌, ◌^◌, ◌≤◌, Bool, ◌&&◌, List, ◌++◌, length, take, nat_le, nat_lt, Result, codes}
+use Rattle.std.specs.Prelude.{◌≡◌, ℕ, ◌+◌, ◌^◌, ◌≤◌, List, ◌++◌, length, take, nat_le, nat_lt, Result, codes}
 use Rattle.std.specs.List.{sum_by}
 use Rattle.note_types.specs.declared.fault.TomlFault.{TomlFault}
 use Rattle.note_types.specs.declared.fault.TomlFault.TheVariants.{Range}
 use Rattle.note_types.specs.declared.notes.Notes.{Notes}
 use Rattle.note_types.specs.declared.script.Script.{Script}
-use Rattle.note_types.specs.declared.script.ScriptCall.{ScriptCall}
 use Rattle.note_types.specs.declared.script.ScriptObject.{ScriptObject}
 use Rattle.ebc_base.specs.Steps.{◌>>=◌, passes}
 use Rattle.note_texts.specs.Keys.{row_prefix}

@@ -19,10 +19,9 @@ mod resolve;
 mod shapes;
 mod tables;
 
-pub use laws::printed_texts_are_read;
-
 use crate::conditions::meet_conditions;
 use crate::resolve::resolve_script;
+pub use laws::printed_texts_are_read;
 use note_texts::document;
 use note_types::{Notes, NotesEnd, Script};
 use script_draft::{cells_once, read_draft};

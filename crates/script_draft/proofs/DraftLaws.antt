@@ -1,13 +1,13 @@
 -- A draft that was read is within what texts may have.
-use Rattle.std.proofs.Common.{◌≡◌, ℕ, zero, suc, ◌+◌, ◌-◌, ◌^◌, ◌<◌, ◌≤◌, ℤ, pos, negsuc, List, [], ◌∷◌, ◌++◌, Option, Some, None, Result, Ok, Err, true, false, refl, subst, arith, slice_get}
+use Rattle.std.proofs.Common.{◌≡◌, ℕ, zero, suc, ◌+◌, ◌-◌, ◌^◌, ◌<◌, ◌≤◌, ℤ, pos, negsuc, List, [], ◌∷◌, ◌++◌, Option, Some, None, Result, Ok, Err, refl, subst, arith}
 use Rattle.std.proofs.lemmas.Bool.Decides.{nat_tests}
 use Rattle.std.proofs.lemmas.Option.{none-some, option_and_then_some, same_Some}
-use Rattle.std.specs.Prelude.{IfOk, codes, nat_le, option_map, ◌&&◌}
-use Rattle.toml.specs.Data.{Data, Items, Members, as_array, as_integer, as_str, as_table, item, no_items}
-use Rattle.ebc_base.specs.Steps.{◌>>=◌, or_else, passes}
+use Rattle.std.specs.Prelude.{IfOk, codes}
+use Rattle.toml.specs.Data.{Data, Items, Members, item, no_items}
+use Rattle.ebc_base.specs.Steps.{◌>>=◌, or_else}
 use Rattle.note_texts.specs.Grammar.{IsName}
-use Rattle.note_texts.specs.Keys.{field, natural_in, number_at, only_keys, row_prefix, text_at, text_of, whole_number}
-use Rattle.note_texts.specs.Lists.{array_at, count, each, list_at, row_of, rows_of, table_of, tables_at, texts_at, texts_of}
+use Rattle.note_texts.specs.Keys.{field, natural_in, number_at, row_prefix, text_at, text_of, whole_number}
+use Rattle.note_texts.specs.Lists.{count, each, row_of, rows_of, tables_at, texts_at, texts_of}
 use Rattle.note_texts.specs.Names.{name_of}
 use Rattle.note_texts.specs.Numbers.{number_of}
 use Rattle.note_texts.specs.Outcome.{Gives}
@@ -18,8 +18,8 @@ use Rattle.note_texts.proofs.Tables.{map_some, moved}
 use Rattle.note_types.specs.Records.{Each}
 use Rattle.note_types.specs.declared.fault.NotesEnd.{NotesEnd}
 use Rattle.note_types.specs.declared.fault.TomlFault.{TomlFault}
-use Rattle.note_types.specs.declared.fault.TomlFault.TheVariants.{Kind, Range}
-use Rattle.script_draft.specs.Drafts.{call_keys, call_of, draft_of, most_items, object_of, reply_of}
+use Rattle.note_types.specs.declared.fault.TomlFault.TheVariants.{Range}
+use Rattle.script_draft.specs.Drafts.{call_of, draft_of, most_items, object_of, reply_of}
 use Rattle.script_draft.specs.Grammar.{IsWritable}
 use Rattle.script_draft.specs.Lists.{all_of}
 use Rattle.script_draft.specs.PartTexts.{callback_of, cell_value_of, out_of, values_after, write_of}

@@ -1,19 +1,16 @@
 -- Values and arguments are read just where the grammar has them.
-use Rattle.std.proofs.Common.{◌≡◌, ℕ, ◌+◌, ◌-◌, ◌^◌, ◌<◌, ◌≤◌, List, [], ◌∷◌, ◌++◌, Option, Some, None, true, false, refl, sym, ap, subst, ◌∙◌, arith, inl, inr}
+use Rattle.std.proofs.Common.{◌≡◌, ℕ, ◌+◌, ◌-◌, ◌^◌, ◌<◌, ◌≤◌, List, ◌∷◌, ◌++◌, Option, Some, true, false, refl, ◌∙◌, arith, inl, inr}
 use Rattle.std.proofs.lemmas.Option.{option_and_then_some}
 use Rattle.std.specs.Prelude.{bytes_eq, codes, option_map}
 use Rattle.std.specs.Fmt.{decimal}
-use Rattle.note_texts.specs.Grammar.{IsName, ReadsJust}
-use Rattle.note_texts.specs.Numbers.{number_in, number_of}
-use Rattle.note_texts.specs.Names.{name_of}
+use Rattle.note_texts.specs.Grammar.{ReadsJust}
 use Rattle.note_texts.specs.Ranges.{size_of}
-use Rattle.note_texts.specs.Splits.{parts_at, split_at}
 use Rattle.note_texts.proofs.NumberLaws.{decimal-number_of, number_of-decimal}
 use Rattle.note_texts.proofs.NumberRanges.{decimal_lacks, name_of-complete, name_of-sound, number_in-complete, number_in-sound}
 use Rattle.note_texts.proofs.SplitLaws.{lacks, parts_at-mark, parts_at-none, split_at-mark, split_cases}
 use Rattle.note_texts.proofs.Tables.{by_word, map_some, moved, none_read}
 use Rattle.script_draft.specs.Grammar.{IsArgumentText, IsValueText, IsWritable, value_text}
-use Rattle.script_draft.specs.ValueTexts.{argument_by, argument_of, given_of, instance_of, marked_value, plain_value, status_by, status_of, value_of}
+use Rattle.script_draft.specs.ValueTexts.{argument_of, given_of, instance_of, marked_value, plain_value, status_by, status_of, value_of}
 use Rattle.script_draft.specs.declared.value.ArgumentText.{ArgumentText}
 use Rattle.script_draft.specs.declared.value.ArgumentText.TheVariants.{Out, Lent, Given}
 use Rattle.script_draft.specs.declared.value.ValueText.{ValueText}

@@ -1,5 +1,5 @@
 -- What holds of a draft that was read: its numbers, names and values are within what texts may have. docs/SCRIPTS.md, "Texts".
-use Rattle.std.specs.Prelude.{◌≡◌, ℕ, ◌^◌, ◌<◌, ◌≤◌, ⊤}
+use Rattle.std.specs.Prelude.{◌≡◌, ◌^◌, ◌<◌, ◌≤◌, ⊤}
 use Rattle.note_texts.specs.Grammar.{IsName}
 use Rattle.note_types.specs.Records.{Each}
 use Rattle.script_draft.specs.Grammar.{IsWritable}
