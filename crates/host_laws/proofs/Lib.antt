@@ -6,6 +6,7 @@ pub mod Leaving
 pub mod Marks
 pub mod Plans
 pub mod Replies
+pub mod ScriptGives
 pub mod Seen
 pub mod SeenStands
 pub mod Starting

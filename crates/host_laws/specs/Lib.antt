@@ -2,5 +2,6 @@ pub mod CallGoesWell
 pub mod Laws
 pub mod PlanFits
 pub mod ScriptGiven
+pub mod ScriptLaw
 pub mod StartGiven
 pub mod ThunkLoaded

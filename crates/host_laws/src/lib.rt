@@ -4,6 +4,7 @@
 #![tactic(auto)]
 
 ghost use Rattle.host_laws.specs.Laws.{HostStepKeepsStanding, PlansKeepStanding, StartStands, ThunkIsSeen, ThunkKeepsStanding, ViewsAlike};
+ghost use Rattle.host_laws.specs.ScriptLaw.{CallsAreGiven, ObjectsAreGiven, StartIsGiven};
 
 /// What the host sees of a configuration it sees of each run that stands for it.
 pub fn views_are_alike()
@@ -30,4 +31,11 @@ pub fn thunk_keeps_standing()
 /// A run at its start stands for the neutral machine at its start.
 pub fn start_stands()
     ensures { StartStands }
+{}
+
+/// A script that was read gives what these laws ask of it.
+pub fn script_is_given()
+    ensures calls { CallsAreGiven }
+    ensures start { StartIsGiven }
+    ensures objects { ObjectsAreGiven }
 {}

@@ -7,7 +7,8 @@ use Rattle.std.specs.Option.{option_map_or}
 use Rattle.std.specs.Prelude.{◌||◌, ◌&&◌, not}
 use Rattle.note_types.specs.declared.script.CellValue.{CellValue}
 use Rattle.note_types.specs.declared.shape.Field.{Field}
-use Rattle.protocol_script.specs.Contents.{all_settled, is_filled, is_needed}
+use Rattle.protocol_script.specs.Contents.{all_settled, is_filled}
+use Rattle.run_types.specs.Scripts.{is_needed}
 
 -- ---- tests of numbers
 

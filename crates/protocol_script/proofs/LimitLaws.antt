@@ -17,7 +17,8 @@ use Rattle.note_types.specs.declared.script.Script.{Script}
 use Rattle.note_types.specs.declared.script.ScriptCall.{ScriptCall}
 use Rattle.note_types.specs.declared.script.ScriptObject.{ScriptObject}
 use Rattle.run_types.specs.Objects.{placed_objects}
-use Rattle.protocol_script.specs.Limits.{IsLoad, have_room, room_of}
+use Rattle.protocol_script.specs.Limits.{IsLoad}
+use Rattle.run_types.specs.Scripts.{have_room, room_of}
 use Rattle.protocol_script.specs.declared.limits.Load.{Load}
 use Rattle.protocol_script.proofs.ObjectLaws.{length-both, placed-more, take_one}
 

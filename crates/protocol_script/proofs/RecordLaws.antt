@@ -2,9 +2,9 @@
 use Rattle.std.proofs.Common.{◌≡◌, ℕ, ◌+◌, ◌≤◌, ◌<◌, zero, suc, List, [], ◌∷◌, length, take, Option, Some, None, Result, Ok, Err, Bool, true, false, ◌&&◌, refl, sym, ap, subst, ◌∙◌, arith, slice_get, ⊎_elim}
 use Rattle.std.proofs.lemmas.Bool.{cases_lt}
 use Rattle.std.proofs.lemmas.Bool.Decides.{nat_tests}
-use Rattle.std.proofs.lemmas.Option.{same_Some}
+use Rattle.std.proofs.lemmas.Option.{same_Some, slice_get-map}
 use Rattle.std.specs.List.{list_all, range_with_len, sum_by}
-use Rattle.std.specs.Option.{option_map_or}
+use Rattle.std.specs.Option.{option_map, option_map_or}
 use Rattle.std.specs.Prelude.{◌||◌, nat_le, nat_lt, not, codes, ◌++◌}
 use Rattle.ebc_base.specs.Steps.{◌>>=◌, passes}
 use Rattle.note_texts.proofs.SplitLaws.{both_true}
@@ -26,12 +26,13 @@ use Rattle.run_types.specs.ScriptValues.{fits}
 use Rattle.run_types.specs.declared.object.TypedObject.{TypedObject}
 use Rattle.script_draft.specs.Lists.{all_pass}
 use Rattle.protocol_script.specs.Conditions.{all_tables_pass, args_fit, call_args, call_passes, calls_pass, conditions, has_args, is_there, table_conditions, table_meets, table_passes, tables_pass}
-use Rattle.protocol_script.specs.Contents.{all_settled, are_contents, cell_fits, is_by, is_filled, is_given, is_needed, is_settled}
-use Rattle.protocol_script.specs.Limits.{call_limit, callbacks_of, calls_limit, have_room, limits, object_limit, objects_limit}
-use Rattle.protocol_script.specs.Records.{IsCallOf, IsCellOf, IsObjectOf, IsScript, IsWriteOf, all_made}
+use Rattle.protocol_script.specs.Contents.{all_settled, are_contents, cell_fits, is_by, is_filled, is_settled}
+use Rattle.protocol_script.specs.Limits.{call_limit, calls_limit, limits, object_limit, objects_limit}
+use Rattle.run_types.specs.Scripts.{IsCallOf, IsCellOf, IsObjectOf, IsScript, IsWriteOf, IsWritten, all_made, callbacks_of, have_room, is_given, is_needed}
 use Rattle.protocol_script.specs.ShapeTests.{fits_at, is_shape}
 use Rattle.protocol_script.specs.declared.tables.TableCondition.{TableCondition}
 use Rattle.protocol_script.specs.declared.tables.TableCondition.TheVariants.{Instances, WellFormed, Contents, Pointers}
+use Rattle.protocol_script.proofs.NumberedLaws.{IsNumberedCall, IsNumberedObject, IsNumberedScript, IsNumberedWrite, made_shapes}
 use Rattle.protocol_script.proofs.ShapeLaws.{all-at, shape-of}
 
 -- ---- steps
@@ -78,10 +79,10 @@ table-at condition notes made path first objects k o h at =
     let n : 0 + k ≡ k = omega arith in
     ap (λ z. table_meets condition notes made (first + z) o) (sym n) ∙ passed (table_meets condition notes made (first + (0 + k)) o) _ here
 
-cell-field : (notes : Notes) (made : List TypedObject) (o : ScriptObject) (c : CellValue) (found : Option Field) → field_of notes o.shape c.field ≡ found → c.instance < o.count
+cell-field : (notes : Notes) (made : List TypedObject) (o : ScriptObject) (c : CellValue) (found : Option Field) → field_of notes o.shape c.field ≡ found → c.instance < o.count → IsWritten notes c.value
     → option_map_or (λ (x : Field). fits made (content_type x.cell) c.value) found false ≡ true → IsCellOf notes made o c
-cell-field notes made o c None at within h = cc h
-cell-field notes made o c (Some x) at within h = record { instance = within; field = x; there = at; value = h }
+cell-field notes made o c None at within written h = cc h
+cell-field notes made o c (Some x) at within written h = record { instance = within; field = x; there = at; written = written; value = h }
 
 settled-given : (fields : List Field) (cells : List CellValue) (i f : ℕ) (x : Field) (found : Option Field) → slice_get fields f ≡ found → found ≡ Some x → is_needed x.cell ≡ true
     → (option_map_or (λ (v : Field). not (is_needed v.cell)) found true || is_given cells i f) ≡ true → is_given cells i f ≡ true
@@ -96,18 +97,20 @@ pointer-by number p i v is h =
     let e : is_by number (Ptr p i) ≡ true = subst (λ z. is_by number z ≡ true) is h in
     grind (arith, nat_tests, e)
 
-object-of : (notes : Notes) (made : List TypedObject) (number : ℕ) (o : ScriptObject)
+object-of : (notes : Notes) (made : List TypedObject) (number : ℕ) (o : ScriptObject) → IsNumberedObject notes o
     → table_meets Instances notes made number o ≡ true → table_meets WellFormed notes made number o ≡ true → table_meets Contents notes made number o ≡ true → table_meets Pointers notes made number o ≡ true
     → IsObjectOf notes made number o
 unfolding table_meets is_shape are_contents is_filled all_settled
-object-of notes made number o inside formed contents pointers =
+object-of notes made number o numbered inside formed contents pointers =
     let parts = both_true (list_all (cell_fits notes made o.shape) o.cells) _ contents in
     record {
+      known = numbered.shape;
+      count = numbered.count;
       shape = shape-of (shape_of notes o.shape) (both_true _ (fits_at 4 (shape_of notes o.shape) && fits_at 8 (shape_of notes o.shape)) formed).1;
       cells = λ k c at.
           let within : nat_lt c.instance o.count ≡ true = all-at (λ (v : CellValue). nat_lt v.instance o.count) o.cells k c inside at in
           let fit : cell_fits notes made o.shape c ≡ true = all-at (cell_fits notes made o.shape) o.cells k c parts.0 at in
-          cell-field notes made o c (field_of notes o.shape c.field) refl (grind (arith, nat_tests, within)) fit;
+          cell-field notes made o c (field_of notes o.shape c.field) refl (grind (arith, nat_tests, within)) (numbered.cells k c at) fit;
       given = λ i f x within at needed.
           let fields = (shape_of notes o.shape).fields in
           let all : list_all (is_settled fields o.cells i) (range_with_len 0 (length fields)) ≡ true = number-at _ o.count 0 i parts.1 (omega arith) (omega (arith, within)) in
@@ -123,9 +126,13 @@ object-of notes made number o inside formed contents pointers =
 
 -- ---- calls
 
-write-found : (made : List TypedObject) (w : WriteValue) (found : Option TypedObject) → slice_get made w.object ≡ found → option_map_or (λ (o : TypedObject). nat_lt w.instance o.count) found false ≡ true → IsWriteOf made w
-write-found made w None at h = cc h
-write-found made w (Some o) at h = record { object = o; there = at; instance = grind (arith, nat_tests, h) }
+write-found : (notes : Notes) (made : List TypedObject) (w : WriteValue) (found : Option TypedObject) → slice_get made w.object ≡ found → IsNumberedWrite notes (made_shapes made) w
+    → option_map_or (λ (o : TypedObject). nat_lt w.instance o.count) found false ≡ true → IsWriteOf notes made w
+write-found notes made w None at numbered h = cc h
+write-found notes made w (Some o) at numbered h =
+    let shape : slice_get (made_shapes made) w.object ≡ Some (Some o.shape) = slice_get-map (λ (o : TypedObject). Some o.shape) made w.object ∙ ap (option_map (λ (o : TypedObject). Some o.shape)) at in
+    let field = numbered.field o.shape shape in
+    record { object = o; there = at; instance = grind (arith, nat_tests, h); field = field.0; is_field = field.1; written = numbered.written }
 
 call-at : (condition : TableCondition) (notes : Notes) (script : Script) (made : List TypedObject) (i : ℕ) (c : ScriptCall)
     → calls_pass condition notes script made ≡ Ok tt → slice_get script.call i ≡ Some c → call_passes condition notes made (length (made_objects notes script i)) i c ≡ Ok tt
@@ -202,33 +209,38 @@ args-at notes script i c h at =
     let e : has_args notes c ≡ true = passed (has_args notes c) _ (pass-at (call_args notes) 0 script.call i c h at) in
     grind (arith, nat_tests, e)
 
-call-of : (notes : Notes) (script : Script) (i : ℕ) (c : ScriptCall) → slice_get script.call i ≡ Some c → all_pass (call_args notes) 0 script.call ≡ Ok tt → MeetsTables notes script → MeetsLimits notes script → IsCallOf notes script i c
+call-of : (notes : Notes) (script : Script) (i : ℕ) (c : ScriptCall) → slice_get script.call i ≡ Some c → IsNumberedCall notes (made_shapes (all_made notes script)) c → all_pass (call_args notes) 0 script.call ≡ Ok tt → MeetsTables notes script → MeetsLimits notes script → IsCallOf notes script i c
 unfolding call_limit
-call-of notes script i c at args tables few =
+call-of notes script i c at numbered args tables few =
     let a = both-pass _ _ (limit-at notes script i c few.calls at) in
     let b = both-pass _ _ a.1 in
     let made = all_made notes script in
     let below : nat_lt i 16384 ≡ true = passed _ _ a.0 in
     let callbacks : nat_le (sum_by callbacks_of (take (i + 1) script.call)) 16384 ≡ true = passed _ _ b.1 in
     record {
+      signature = numbered.signature;
+      seen = numbered.args;
+      enter = numbered.enter;
+      out = numbered.reply.out;
+      result = numbered.reply.result;
       args = args-at notes script i c args at;
       make = λ j o there.
-          object-of notes made (length (made_objects notes script i) + j) o
+          object-of notes made (length (made_objects notes script i) + j) o (numbered.make j o there)
           (made-at Instances notes script made i c j o tables.instances.calls at there)
           (made-at WellFormed notes script made i c j o tables.formed.calls at there)
           (made-at Contents notes script made i c j o tables.contents.calls at there)
           (made-at Pointers notes script made i c j o tables.pointers.calls at there);
       write = λ k w there.
           let e : is_there made w.object w.instance ≡ true = all-at (λ (v : WriteValue). is_there made v.object v.instance) c.write k w (writes-at notes script made i c tables.instances.calls at) there in
-          write-found made w (slice_get made w.object) refl e;
+          write-found notes made w (slice_get made w.object) refl (numbered.reply.write k w there) e;
       few = grind (arith, nat_tests, below);
       room = passed _ _ b.0;
       callbacks = grind (arith, nat_tests, callbacks);
     }
 
-pub script-of : (notes : Notes) (script : Script) → conditions notes script ≡ Ok tt → IsScript notes script
+pub script-of : (notes : Notes) (script : Script) → IsNumberedScript notes script → conditions notes script ≡ Ok tt → IsScript notes script
 unfolding conditions args_fit
-script-of notes script h =
+script-of notes script numbered h =
     let a = both-pass _ _ h in
     let b = both-pass _ _ a.1 in
     let d = both-pass _ _ b.1 in
@@ -236,13 +248,15 @@ script-of notes script h =
     let few = meets-limits notes script d.1 in
     let made = all_made notes script in
     record {
+      version = numbered.version;
+      written = numbered.args;
       args = passed _ _ a.0;
       objects = λ k o at.
-          object-of notes made (length notes.statics + k) o
+          object-of notes made (length notes.statics + k) o (numbered.object k o at)
           (table-at Instances notes made (codes "object") (length notes.statics) script.object k o tables.instances.objects at)
           (table-at WellFormed notes made (codes "object") (length notes.statics) script.object k o tables.formed.objects at)
           (table-at Contents notes made (codes "object") (length notes.statics) script.object k o tables.contents.objects at)
           (table-at Pointers notes made (codes "object") (length notes.statics) script.object k o tables.pointers.objects at);
-      calls = λ i c at. call-of notes script i c at b.0 tables few;
+      calls = λ i c at. call-of notes script i c at (numbered.call i c at) b.0 tables few;
       room = λ k o at. room-at notes script.object k o few.objects at;
     }

@@ -1,11 +1,9 @@
 -- What the cells of a script's object hold at first: which fit, and which have to be given. docs/SCRIPTS.md, "What the reader
 -- refuses".
-use Rattle.std.specs.Prelude.{ℕ, Bool, true, false, not, ◌&&◌, ◌||◌, List, length, nat_eq, nat_le, nat_lt, slice_get}
-use Rattle.std.specs.List.{list_all, list_any, range_with_len}
+use Rattle.std.specs.Prelude.{ℕ, Bool, true, false, not, ◌&&◌, ◌||◌, List, length, nat_le, nat_lt, slice_get}
+use Rattle.std.specs.List.{list_all, range_with_len}
 use Rattle.std.specs.Option.{option_map_or}
 use Rattle.note_types.specs.Cells.{content_type}
-use Rattle.note_types.specs.declared.cell.Cell.{Cell}
-use Rattle.note_types.specs.declared.cell.Cell.TheVariants as cell
 use Rattle.note_types.specs.declared.notes.Notes.{Notes}
 use Rattle.note_types.specs.declared.script.CellValue.{CellValue}
 use Rattle.note_types.specs.declared.script.ScriptObject.{ScriptObject}
@@ -16,6 +14,7 @@ use Rattle.run_types.specs.HostPlans.{field_of}
 use Rattle.run_types.specs.Objects.{shape_of}
 use Rattle.run_types.specs.declared.object.TypedObject.{TypedObject}
 use Rattle.run_types.specs.ScriptValues.{fits}
+use Rattle.run_types.specs.Scripts.{is_given, is_needed}
 
 -- the instance of each cell is one of the object's
 abbrev pub are_inside : ScriptObject → Bool
@@ -24,17 +23,6 @@ are_inside o = list_all (λ (c : CellValue). nat_lt c.instance o.count) o.cells
 -- a value fits the field of a shape
 abbrev pub cell_fits : Notes → List TypedObject → ℕ → CellValue → Bool
 cell_fits notes made shape c = option_map_or (λ (x : Field). fits made (content_type x.cell) c.value) (field_of notes shape c.field) false
-
--- a cell that 0 doesn't fit: the address of a method, or a pointer that may not be null
-abbrev pub is_needed : Cell → Bool
-is_needed (cell.Ptr s k null) = not null
-is_needed (cell.P64 s k null) = not null
-is_needed (cell.Method m) = true
-is_needed _ = false
-
--- a cell of an instance is given
-abbrev pub is_given : List CellValue → (instance field : ℕ) → Bool
-is_given cells instance field = list_any (λ (c : CellValue). nat_eq c.instance instance && nat_eq c.field field) cells
 
 -- the field of that number is given, if it has to be
 abbrev pub is_settled : List Field → List CellValue → (instance field : ℕ) → Bool

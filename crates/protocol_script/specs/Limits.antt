@@ -1,32 +1,18 @@
 -- The limits of a script: on its objects, its calls and its callbacks. docs/SCRIPTS.md, "What the reader refuses".
-use Rattle.std.specs.Prelude.{◌≡◌, ℕ, ◌+◌, ◌^◌, ◌≤◌, Bool, ◌&&◌, List, ◌++◌, length, take, nat_le, nat_lt, Result, codes}
+use Rattle.std.specs.Prelude.{◌≡◌, ℕ, ◌+◌, ◌^◌, ◌≤◌, List, ◌++◌, length, take, nat_le, nat_lt, Result, codes}
 use Rattle.std.specs.List.{sum_by}
-use Rattle.object_memory.specs.Memory.{padded}
 use Rattle.note_types.specs.declared.fault.TomlFault.{TomlFault}
 use Rattle.note_types.specs.declared.fault.TomlFault.TheVariants.{Range}
 use Rattle.note_types.specs.declared.notes.Notes.{Notes}
 use Rattle.note_types.specs.declared.script.Script.{Script}
-use Rattle.note_types.specs.declared.script.ScriptCall.{ScriptCall}
 use Rattle.note_types.specs.declared.script.ScriptObject.{ScriptObject}
 use Rattle.ebc_base.specs.Steps.{◌>>=◌, passes}
 use Rattle.note_texts.specs.Keys.{row_prefix}
-use Rattle.run_types.specs.Objects.{placed_objects, script_object}
-use Rattle.run_types.specs.Placements.{object_bytes}
+use Rattle.run_types.specs.Objects.{placed_objects}
+use Rattle.run_types.specs.Scripts.{callbacks_of, have_room, room_of}
 use Rattle.script_draft.specs.Lists.{all_pass}
 use Rattle.protocol_script.specs.declared.limits.Load.{Load}
 use Rattle.protocol_script.specs.declared.limits.Tally.{Tally}
-
--- the bytes that an object takes where an address has 8 bytes, with its padding and gap
-abbrev pub room_of : Notes → ScriptObject → ℕ
-room_of notes o = padded (object_bytes 8 notes (script_object o))
-
--- objects keep the limits: 8 MiB in all, and 4,096 of them
-abbrev pub have_room : Notes → List ScriptObject → Bool
-have_room notes objects = nat_le (sum_by (room_of notes) objects) (2 ^ 23) && nat_le (length objects) 4096
-
--- the callbacks of a call
-abbrev pub callbacks_of : ScriptCall → ℕ
-callbacks_of c = length c.enter
 
 -- with the object of that number at the start, those up to it keep the limits
 abbrev pub object_limit : Notes → List ScriptObject → ℕ → Result (Unit {0}) TomlFault

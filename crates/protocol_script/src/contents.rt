@@ -2,7 +2,8 @@
 ghost use Rattle.std.specs.Prelude.{◌≡◌, not, slice_get, true};
 ghost use Rattle.std.specs.List.{list_all, list_any};
 ghost use Rattle.std.specs.Option.{option_map_or};
-ghost use Rattle.protocol_script.specs.Contents.{all_settled, are_by, are_contents, are_inside, cell_fits, is_by, is_filled, is_given, is_needed, is_settled};
+ghost use Rattle.protocol_script.specs.Contents.{all_settled, are_by, are_contents, are_inside, cell_fits, is_by, is_filled, is_settled};
+ghost use Rattle.run_types.specs.Scripts.{is_given, is_needed};
 
 use crate::objects::fields_of;
 use note_types::{Cell, CellValue, Field, Notes, ScriptObject, Value, content_type};

@@ -6,11 +6,12 @@
 
 ghost use Rattle.note_texts.specs.Outcome.{Gives};
 ghost use Rattle.std.specs.Prelude.{IfOk};
-ghost use Rattle.protocol_script.specs.Records.{IsScript};
+ghost use Rattle.run_types.specs.Scripts.{IsScript};
 ghost use Rattle.protocol_script.specs.Scripts.{script_of};
 
 mod conditions;
 mod contents;
+mod laws;
 mod limits;
 mod numbers;
 mod objects;
@@ -20,6 +21,7 @@ mod tables;
 
 use crate::conditions::meet_conditions;
 use crate::resolve::resolve_script;
+pub use laws::printed_texts_are_read;
 use note_texts::document;
 use note_types::{Notes, NotesEnd, Script};
 use script_draft::{cells_once, read_draft};

@@ -26,7 +26,7 @@ use Rattle.run_types.proofs.Placed.{placed_in_all, script_range_at}
 -- ---- the stack
 
 -- the most bytes are no less than what a function takes that the firmware enters
-most_above : (w entry i j : ℕ) (fs : List FnNote) (f : FnNote) → i + j ≡ entry → slice_get fs j ≡ Some f → frame_bytes w f ≤ most_bytes w entry i fs
+pub most_above : (w entry i j : ℕ) (fs : List FnNote) (f : FnNote) → i + j ≡ entry → slice_get fs j ≡ Some f → frame_bytes w f ≤ most_bytes w entry i fs
 unfolding most_bytes
 most_above w entry i j [] f e g = absurd (none-some f g)
 most_above w entry i zero (x ∷ fs) f e g =

@@ -21,6 +21,7 @@ pub mod ReadingLaw
 pub mod Readings
 pub mod RunState
 pub mod ScriptValues
+pub mod Scripts
 pub mod Start
 pub mod TurnLaw
 pub mod Values

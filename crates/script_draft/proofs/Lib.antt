@@ -1,3 +1,5 @@
 pub mod CellLaws
+pub mod DraftLaws
 pub mod ListLaws
 pub mod PieceLaws
+pub mod ValueLaws

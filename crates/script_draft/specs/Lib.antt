@@ -1,6 +1,9 @@
 pub mod Drafts
+pub mod Grammar
 pub mod Lists
 pub mod Once
 pub mod PartTexts
 pub mod Pieces
+pub mod Printed
+pub mod Records
 pub mod ValueTexts

@@ -1,9 +1,10 @@
 //! The first pass over scripts: the draft that a TOML table stands for, by its keys and those of the tables of its lists.
-ghost use Rattle.std.specs.Prelude.{◌≡◌};
+ghost use Rattle.std.specs.Prelude.{◌≡◌, IfOk};
 ghost use Rattle.toml.specs.View.{table_view};
 ghost use Rattle.note_texts.specs.Keys.{only_keys};
 ghost use Rattle.note_texts.specs.Outcome.{Gives};
 ghost use Rattle.script_draft.specs.Drafts.{call_keys, call_of, draft_of, object_of, reply_of};
+ghost use Rattle.script_draft.specs.Records.{IsDraft};
 
 use crate::draft::{CallDraft, ObjectDraft, ScriptDraft};
 use crate::parts::{CallbackText, CellValueText, OutText, WriteText};
@@ -96,15 +97,9 @@ impl FromTable for CallDraft {
     }
 }
 
-/// The draft that a table stands for, the whole text of a script.
-///
-/// # Errors
-///
-/// The first fault, key by key in the order of docs/SCRIPTS.md: `TomlFault::Missing`, `TomlFault::Kind` or
-/// `TomlFault::Range` with the path of the key; no memory.
 #[tactic(auto, unfolding(crate::specs::Drafts::draft_of))]
-pub fn read_draft(alloc: Global, table: &Table) -> Result<ScriptDraft, NotesEnd>
-    ensures draft { Gives result (draft_of (table_view table.now)) }
+fn read_keys(alloc: Global, table: &Table) -> Result<ScriptDraft, NotesEnd>
+    ensures { Gives result (draft_of (table_view table.now)) }
 {
     let row = Row { prefix: "", table };
     let version = row.number(alloc, "version", 1, 1)?;
@@ -118,4 +113,17 @@ pub fn read_draft(alloc: Global, table: &Table) -> Result<ScriptDraft, NotesEnd>
         object: Sequence::new(object),
         call: Sequence::new(call),
     })
+}
+
+/// The draft that a table stands for, the whole text of a script.
+///
+/// # Errors
+///
+/// The first fault, key by key in the order of docs/SCRIPTS.md: `TomlFault::Missing`, `TomlFault::Kind` or
+/// `TomlFault::Range` with the path of the key; no memory.
+pub fn read_draft(alloc: Global, table: &Table) -> Result<ScriptDraft, NotesEnd>
+    ensures draft { Gives result (draft_of (table_view table.now)) }
+    ensures meets { IfOk result IsDraft }
+{
+    read_keys(alloc, table)
 }

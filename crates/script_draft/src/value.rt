@@ -1,8 +1,10 @@
 //! The texts of values and arguments.
 ghost use Rattle.std.specs.Prelude.{◌≡◌, ◌-◌, ◌^◌, IfOk, Some, None, option_map};
+ghost use Rattle.note_texts.specs.Grammar.{ReadsJust};
 ghost use Rattle.note_texts.specs.Names.{name_of};
 ghost use Rattle.note_texts.specs.Numbers.{number_in, number_of};
 ghost use Rattle.note_texts.specs.Ranges.{size_of};
+ghost use Rattle.script_draft.specs.Grammar.{IsArgumentText, IsValueText};
 ghost use Rattle.script_draft.specs.ValueTexts.{argument_of, instance_of, marked_value, plain_value, status_of, value_of};
 ghost use Rattle.script_draft.specs.declared.value.ArgumentText.TheVariants.{Given, Lent};
 ghost use Rattle.script_draft.specs.declared.value.ValueText.TheVariants.{Entry, Handle, Int, Method, Size};
@@ -157,6 +159,7 @@ impl FromText for ValueText {
 
     fn from_text(alloc: Global, text: &str) -> Result<Option<Self>, AllocError>
         ensures value { IfOk result (λ value. value ≡ value_of text.now) }
+        ensures grammar { IfOk result (λ value. ReadsJust value (IsValueText text.now)) }
     {
         value_of(alloc, text)
     }
@@ -196,6 +199,7 @@ impl FromText for ArgumentText {
 
     fn from_text(alloc: Global, text: &str) -> Result<Option<Self>, AllocError>
         ensures value { IfOk result (λ argument. argument ≡ argument_of text.now) }
+        ensures grammar { IfOk result (λ argument. ReadsJust argument (IsArgumentText text.now)) }
     {
         argument_of(alloc, text)
     }

@@ -1,5 +1,5 @@
 use Rattle.std.proofs.Common.{◌+◌, arith, inl, inr, sym, ◌∙◌, ⊎_elim}
-use Rattle.protocol_script.specs.Limits.{room_of}
+use Rattle.run_types.specs.Scripts.{room_of}
 use Rattle.protocol_script.proofs.LimitLaws.{kept, past, sum-one, sum-within}
 use Rattle.protocol_script.proofs.limits.Load.with_all.Goals as goal
 

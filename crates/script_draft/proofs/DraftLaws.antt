@@ -1,0 +1,255 @@
+-- A draft that was read is within what texts may have.
+use Rattle.std.proofs.Common.{◌≡◌, ℕ, zero, suc, ◌+◌, ◌-◌, ◌^◌, ◌<◌, ◌≤◌, ℤ, pos, negsuc, List, [], ◌∷◌, ◌++◌, Option, Some, None, Result, Ok, Err, refl, subst, arith}
+use Rattle.std.proofs.lemmas.Bool.Decides.{nat_tests}
+use Rattle.std.proofs.lemmas.Option.{none-some, option_and_then_some, same_Some}
+use Rattle.std.specs.Prelude.{IfOk, codes}
+use Rattle.toml.specs.Data.{Data, Items, Members, item, no_items}
+use Rattle.ebc_base.specs.Steps.{◌>>=◌, or_else}
+use Rattle.note_texts.specs.Grammar.{IsName}
+use Rattle.note_texts.specs.Keys.{field, natural_in, number_at, row_prefix, text_at, text_of, whole_number}
+use Rattle.note_texts.specs.Lists.{count, each, row_of, rows_of, tables_at, texts_at, texts_of}
+use Rattle.note_texts.specs.Names.{name_of}
+use Rattle.note_texts.specs.Numbers.{number_of}
+use Rattle.note_texts.specs.Outcome.{Gives}
+use Rattle.note_texts.specs.Splits.{parts_at, split_at}
+use Rattle.note_texts.proofs.NumberLaws.{decimal-number_of}
+use Rattle.note_texts.proofs.NumberRanges.{name_of-sound}
+use Rattle.note_texts.proofs.Tables.{map_some, moved}
+use Rattle.note_types.specs.Records.{Each}
+use Rattle.note_types.specs.declared.fault.NotesEnd.{NotesEnd}
+use Rattle.note_types.specs.declared.fault.TomlFault.{TomlFault}
+use Rattle.note_types.specs.declared.fault.TomlFault.TheVariants.{Range}
+use Rattle.script_draft.specs.Drafts.{call_of, draft_of, most_items, object_of, reply_of}
+use Rattle.script_draft.specs.Grammar.{IsWritable}
+use Rattle.script_draft.specs.Lists.{all_of}
+use Rattle.script_draft.specs.PartTexts.{callback_of, cell_value_of, out_of, values_after, write_of}
+use Rattle.script_draft.specs.Pieces.{pieces, values_of}
+use Rattle.script_draft.specs.Records.{IsArgumentDraft, IsCallDraft, IsCallbackDraft, IsCellDraft, IsDraft, IsObjectDraft, IsOutDraft, IsWriteDraft}
+use Rattle.script_draft.specs.ValueTexts.{argument_of, value_of}
+use Rattle.script_draft.specs.declared.draft.CallDraft.{CallDraft}
+use Rattle.script_draft.specs.declared.draft.ObjectDraft.{ObjectDraft}
+use Rattle.script_draft.specs.declared.draft.ScriptDraft.{ScriptDraft}
+use Rattle.script_draft.specs.declared.parts.CallbackText.{CallbackText}
+use Rattle.script_draft.specs.declared.parts.CellValueText.{CellValueText}
+use Rattle.script_draft.specs.declared.parts.OutText.{OutText}
+use Rattle.script_draft.specs.declared.parts.WriteText.{WriteText}
+use Rattle.script_draft.specs.declared.reading.Reply.{Reply}
+use Rattle.script_draft.specs.declared.value.ArgumentText.{ArgumentText}
+use Rattle.script_draft.specs.declared.value.ArgumentText.TheVariants.{Out, Lent, Given}
+use Rattle.script_draft.specs.declared.value.ValueText.{ValueText}
+use Rattle.script_draft.proofs.ValueLaws.{argument_sound, value_sound}
+
+-- ---- steps
+
+-- what a step gave, and what the next one made of it
+pub ok_step : {A B E P : Type 0} (a : Result A E) (f : A → Result B E) (y : B) → (a >>= f) ≡ Ok y → ((x : A) → a ≡ Ok x → f x ≡ Ok y → P) → P
+ok_step (Ok x) f y h k = k x refl h
+ok_step (Err e) f y h k = cc h
+
+pub same_Ok : {A E : Type 0} (x y : A) → ◌≡◌ {A = Result A E} (Ok x) (Ok y) → x ≡ y
+same_Ok x y h = cc h
+
+pub found : {A E : Type 0} (e : E) (o : Option A) (x : A) → or_else e o ≡ Ok x → o ≡ Some x
+found e None x h = cc h
+found e (Some y) x h = cc h
+
+-- ---- items
+
+pub each_none : {A : Type 0} (P : A → Type 0) → Each P []
+each_none P k x e = absurd (none-some x e)
+
+pub each_more : {A : Type 0} (P : A → Type 0) (x : A) (xs : List A) → P x → Each P xs → Each P (x ∷ xs)
+each_more P x xs h g zero y e = subst P (same_Some x y e) h
+each_more P x xs h g (suc k) y e = g k y e
+
+items_read : {A : Type 0} (P : A → Type 0) (read : ℕ → Data → Result A TomlFault) (i : ℕ) (ds : Items) (xs : List A)
+    → ((j : ℕ) (d : Data) (x : A) → read j d ≡ Ok x → P x) → each read i ds ≡ Ok xs → Each P xs
+unfolding each
+items_read P read i no_items xs all h = subst (Each P) (same_Ok [] xs h) (each_none P)
+items_read P read i (item d ds) xs all h =
+    ok_step _ _ xs h (λ y first further.
+    ok_step _ _ xs further (λ ys rest e.
+    subst (Each P) (same_Ok (y ∷ ys) xs e) (each_more P y ys (all i d y first) (items_read P read (i + 1) ds ys all rest))))
+
+pub all_given : {A B : Type 0} (P : A → Type 0) (Q : B → Type 0) (gives : A → Option B) (xs : List A) (ys : List B)
+    → ((x : A) (y : B) → P x → gives x ≡ Some y → Q y) → Each P xs → all_of gives xs ≡ Some ys → Each Q ys
+unfolding all_of
+all_given P Q gives [] ys all h e = subst (Each Q) (same_Some [] ys e) (each_none Q)
+all_given P Q gives (x ∷ xs) ys all h e =
+    option_and_then_some _ (gives x) ys e (λ y first further.
+    map_some _ (all_of gives xs) ys further (λ zs rest e.
+    moved (Each Q) (y ∷ zs) ys e (each_more Q y zs (all x y (h 0 x refl) first) (all_given P Q gives xs zs all (λ k v g. h (suc k) v g) rest))))
+
+-- ---- keys
+
+whole_read : (path : List ℕ) (low high n : ℕ) (d : Data) → whole_number path low high d ≡ Ok n → (low ≤ n) × (n ≤ high)
+whole_read path low high n d h = ok_step _ _ n h (λ z _ further. natural z further)
+  where
+    natural : (z : ℤ) → natural_in path low high z ≡ Ok n → (low ≤ n) × (n ≤ high)
+    natural (pos m) e = grind (arith, nat_tests)
+    natural (negsuc m) e = cc e
+
+number_read : (prefix key : List ℕ) (low high n : ℕ) (table : Members) → number_at prefix key low high table ≡ Ok n → (low ≤ n) × (n ≤ high)
+unfolding number_at
+number_read prefix key low high n table h = ok_step _ _ n h (λ d _ further. whole_read (prefix ++ key) low high n d further)
+
+text_read : {A : Type 0} (P : A → Type 0) (reads : List ℕ → Option A) (path : List ℕ) (d : Data) (x : A) → ((s : List ℕ) (y : A) → reads s ≡ Some y → P y) → text_of reads path d ≡ Ok x → P x
+text_read P reads path d x all h = ok_step _ _ x h (λ s _ further. all s x (found (Range path) (reads s) x further))
+
+key_read : {A : Type 0} (P : A → Type 0) (reads : List ℕ → Option A) (prefix key : List ℕ) (table : Members) (x : A) → ((s : List ℕ) (y : A) → reads s ≡ Some y → P y) → text_at reads prefix key table ≡ Ok x → P x
+unfolding text_at
+key_read P reads prefix key table x all h = ok_step _ _ x h (λ d _ further. text_read P reads (prefix ++ key) d x all further)
+
+texts_read : {A : Type 0} (P : A → Type 0) (reads : List ℕ → Option A) (prefix key : List ℕ) (limit : ℕ) (table : Members) (xs : List A)
+    → ((s : List ℕ) (y : A) → reads s ≡ Some y → P y) → texts_at reads prefix key limit table ≡ Ok xs → Each P xs
+unfolding texts_at texts_of
+texts_read P reads prefix key limit table xs all h =
+    ok_step _ _ xs h (λ ds _ further. items_read P (λ i d. text_of reads (prefix ++ key) d) 0 ds xs (λ j d x e. text_read P reads (prefix ++ key) d x all e) further)
+
+tables_read : {A : Type 0} (P : A → Type 0) (reads : List ℕ → Members → Result A TomlFault) (prefix key : List ℕ) (limit : ℕ) (table : Members) (xs : List A)
+    → ((path : List ℕ) (ms : Members) (y : A) → reads path ms ≡ Ok y → P y) → tables_at reads prefix key limit table ≡ Ok xs → Each P xs
+unfolding tables_at rows_of
+tables_read P reads prefix key limit table xs all h =
+    ok_step _ _ xs h (λ ds _ further. items_read P (row_of reads (prefix ++ key)) 0 ds xs (λ j d x e.
+    ok_step _ _ x e (λ ms _ row. all (row_prefix (prefix ++ key) j) ms x row)) further)
+
+-- ---- texts
+
+name_is : (s name : List ℕ) → name_of s ≡ Some name → IsName name
+name_is s name h = (name_of-sound s name h).1
+
+value_is : (s : List ℕ) (v : ValueText) → value_of s ≡ Some v → IsWritable v
+value_is s v h = (value_sound s v h).1
+
+number_is : (s : List ℕ) (n : ℕ) → number_of s ≡ Some n → n < 2 ^ 64
+number_is s n h = (decimal-number_of s n h).1
+
+argument_is : (s : List ℕ) (a : ArgumentText) → argument_of s ≡ Some a → IsArgumentDraft a
+argument_is s Out h = tt
+argument_is s (Lent v) h = (argument_sound s (Lent v) h).1
+argument_is s (Given v) h = (argument_sound s (Given v) h).1
+
+cell_is : (s : List ℕ) (c : CellValueText) → cell_value_of s ≡ Some c → IsCellDraft c
+unfolding cell_value_of
+cell_is s c h =
+    option_and_then_some _ (split_at 32 s) c h (λ (first : List ℕ × List ℕ) _ h.
+    option_and_then_some _ (split_at 32 first.1) c h (λ (second : List ℕ × List ℕ) _ h.
+    option_and_then_some _ (number_of first.0) c h (λ instance one h.
+    option_and_then_some _ (name_of second.0) c h (λ name two h.
+    option_and_then_some _ (value_of second.1) c h (λ v three e.
+    moved IsCellDraft (record { instance = instance; field = name; value = v }) c e
+    (record { instance = number_is first.0 instance one; field = name_is second.0 name two; value = value_is second.1 v three }))))))
+
+values_is : (s : List ℕ) (vs : List ValueText) → values_of s ≡ Some vs → Each IsWritable vs
+unfolding values_of
+values_is s vs h = all_given (λ _. Unit {0}) IsWritable value_of (pieces s) vs (λ t v _ e. value_is t v e) (λ k t e. tt) h
+
+after_is : (rest : Option (List ℕ)) (vs : List ValueText) → values_after rest ≡ Some vs → Each IsWritable vs
+after_is None vs h = moved (Each IsWritable) [] vs h (each_none IsWritable)
+after_is (Some s) vs h = values_is s vs h
+
+callback_is : (s : List ℕ) (b : CallbackText) → callback_of s ≡ Some b → IsCallbackDraft b
+unfolding callback_of
+callback_is s b h =
+    option_and_then_some _ _ b h (λ function one h.
+    option_and_then_some _ _ b h (λ values two e.
+    moved IsCallbackDraft (record { function = function; values = values }) b e
+    (record { function = name_is (parts_at 32 s).0 function one; values = after_is (parts_at 32 s).1 values two })))
+
+out_is : (s : List ℕ) (o : OutText) → out_of s ≡ Some o → IsOutDraft o
+unfolding out_of
+out_is s o h =
+    option_and_then_some _ _ o h (λ (parts : List ℕ × List ℕ) _ h.
+    option_and_then_some _ _ o h (λ argument one h.
+    option_and_then_some _ _ o h (λ v two e.
+    moved IsOutDraft (record { argument = argument; value = v }) o e
+    (record { argument = number_is parts.0 argument one; value = value_is parts.1 v two }))))
+
+write_is : (s : List ℕ) (w : WriteText) → write_of s ≡ Some w → IsWriteDraft w
+unfolding write_of
+write_is s w h =
+    option_and_then_some _ _ w h (λ (parts : List ℕ × List ℕ) _ h.
+    option_and_then_some _ _ w h (λ object one h.
+    option_and_then_some _ _ w h (λ (c : CellValueText) two e.
+    let d = cell_is parts.1 c two in
+    moved IsWriteDraft (record { object = object; instance = c.instance; field = c.field; value = c.value }) w e
+    (record { object = number_is parts.0 object one; instance = d.instance; field = d.field; value = d.value }))))
+
+-- ---- tables
+
+object_is : (prefix : List ℕ) (table : Members) (o : ObjectDraft) → object_of prefix table ≡ Ok o → IsObjectDraft o
+unfolding object_of
+object_is prefix table o h =
+    ok_step _ _ o h (λ shape one h.
+    ok_step _ _ o h (λ count two h.
+    ok_step _ _ o h (λ cells three h.
+    ok_step _ _ o h (λ _ _ e.
+    let n = number_read prefix (codes "count") 1 (2 ^ 64 - 1) count table two in
+    let high : count < 2 ^ 64 = let l = n.1 in omega arith in
+    subst IsObjectDraft (same_Ok (record { shape = shape; count = count; cells = cells }) o e)
+    (record {
+      shape = key_read IsName name_of prefix (codes "shape") table shape name_is one;
+      count = (n.0, high);
+      cells = texts_read IsCellDraft cell_value_of prefix (codes "cells") most_items table cells cell_is three;
+    })))))
+
+pub record IsReply (r : Reply) : Type 0 where
+  pub out : Each IsOutDraft r.out
+  pub write : Each IsWriteDraft r.write
+  pub result : IsWritable r.result
+
+reply_is : (prefix : List ℕ) (table : Members) (r : Reply) → reply_of prefix table ≡ Ok r → IsReply r
+unfolding reply_of
+reply_is prefix table r h =
+    ok_step _ _ r h (λ out one h.
+    ok_step _ _ r h (λ write two h.
+    ok_step _ _ r h (λ result three e.
+    subst IsReply (same_Ok (record { out = out; write = write; result = result }) r e)
+    (record {
+      out = texts_read IsOutDraft out_of prefix (codes "out") most_items table out out_is one;
+      write = texts_read IsWriteDraft write_of prefix (codes "write") most_items table write write_is two;
+      result = key_read IsWritable value_of prefix (codes "result") table result value_is three;
+    }))))
+
+call_is : (prefix : List ℕ) (table : Members) (c : CallDraft) → call_of prefix table ≡ Ok c → IsCallDraft c
+unfolding call_of
+call_is prefix table c h =
+    ok_step _ _ c h (λ signature one h.
+    ok_step _ _ c h (λ args two h.
+    ok_step _ _ c h (λ enter three h.
+    ok_step _ _ c h (λ make four h.
+    ok_step _ _ c h (λ reply five h.
+    ok_step _ _ c h (λ _ _ e.
+    let r = reply_is prefix table reply five in
+    subst IsCallDraft (same_Ok (record { signature = signature; args = args; enter = enter; make = make; out = reply.out; write = reply.write; result = reply.result }) c e)
+    (record {
+      signature = key_read IsName name_of prefix (codes "signature") table signature name_is one;
+      args = texts_read IsArgumentDraft argument_of prefix (codes "args") most_items table args argument_is two;
+      enter = texts_read IsCallbackDraft callback_of prefix (codes "enter") most_items table enter callback_is three;
+      make = tables_read IsObjectDraft object_of prefix (codes "make") most_items table make object_is four;
+      out = r.out;
+      write = r.write;
+      result = r.result;
+    })))))))
+
+pub draft_is : (table : Members) (d : ScriptDraft) → draft_of table ≡ Ok d → IsDraft d
+unfolding draft_of
+draft_is table d h =
+    ok_step _ _ d h (λ version one h.
+    ok_step _ _ d h (λ args two h.
+    ok_step _ _ d h (λ object three h.
+    ok_step _ _ d h (λ call four h.
+    ok_step _ _ d h (λ _ _ e.
+    let n = number_read [] (codes "version") 1 1 version table one in
+    let is : version ≡ 1 = let a = n.0 in let b = n.1 in omega arith in
+    subst IsDraft (same_Ok (record { version = version; args = args; object = object; call = call }) d e)
+    (record {
+      version = is;
+      args = texts_read IsWritable value_of [] (codes "args") most_items table args value_is two;
+      object = tables_read IsObjectDraft object_of [] (codes "object") most_items table object object_is three;
+      call = tables_read IsCallDraft call_of [] (codes "call") most_items table call call_is four;
+    }))))))
+
+pub draft_meets : (table : Members) (r : Result ScriptDraft NotesEnd) → Gives r (draft_of table) → IfOk r IsDraft
+draft_meets table (Ok d) h = draft_is table d h
+draft_meets table (Err e) h = tt
