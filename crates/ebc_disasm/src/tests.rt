@@ -1,6 +1,6 @@
 //! Listings of images.
 
-ghost use Rattle.std.specs.Prelude.{◌≡◌, ◌+◌, ◌%◌, ◌<◌, ◌≤◌, ForSome, IfOk, vec_len};
+ghost use Rattle.std.specs.Prelude.{◌≡◌, ◌<◌, IfOk};
 ghost use Rattle.pe_image.specs.Images.{IsImage};
 
 use crate::{NoMemory, list};
@@ -39,50 +39,9 @@ code 2000 1002 c f9010a100100000000000400 .code|.dw 0x01f9|.dq L0000100a|L000010
 code 2000 1002 c 60000a100100000000000400 .code|.dw 0x0060|.dq L0000100a|L0000100a:|RET
 code 2000 1004 c 773105000210010000000000 .code|.dw 0x3177|L00001002:|CMP32eq R0, R0|.dq L00001002
 code 2000 1002 a 27000110010000000000 .code|.db 0x27|L00001001:|.db 0x00|.dq L00001001
-code 2000 1001 9 040010010000000000 .code|L00001000:|.db 0x04|.dq L00001000";
-
-// The driver's code and data, and its listing.
-const CODE: &str =
-    "b907fa0f00000005728441106000019020053505032c6000011025756e05ffffc20e32851fd6b905d40f0000350d72844310832c01000010600002100400600001100400773700000400";
-
-const DATA: &str = "40f0ffff00000000";
-
-const DRIVER: &str = ".code
-.global L00001000
-L00001000:
-MOVRELd R7, 4090
-BREAK 5
-MOVnw R4, @R0(+1,+16)
-MOVqw R0, R0(-1,-0)
-MOVqw R5, R0
-PUSHn R5
-CALL32EXa @R4
-MOVqw R0, R0(+1,+0)
-MOVsnw R5, R7
-CMPI64wlte R5, -1
-JMP8cs 14
-MOVnw R5, @R0
-MOVdw R6, @R5
-MOVRELd R5, 4052
-PUSHn @R5
-MOVnw R4, @R0(+3,+16)
-CALL32EXa @R4(+1,+0)
-MOVqw R0, R0(+2,+0)
-RET
-MOVqw R0, R0(+1,+0)
-RET
-MOVIqw R7, 0
-RET
-.data
-.db 0x40
-.db 0xf0
-.db 0xff
-.db 0xff
-.db 0x00
-.db 0x00
-.db 0x00
-.db 0x00
-";
+code 2000 1001 9 040010010000000000 .code|L00001000:|.db 0x04|.dq L00001000
+code 1000 - 4a b907fa0f00000005728441106000019020053505032c6000011025756e05ffffc20e32851fd6b905d40f0000350d72844310832c01000010600002100400600001100400773700000400 .code|.global L00001000|L00001000:|MOVRELd R7, 4090|BREAK 5|MOVnw R4, @R0(+1,+16)|MOVqw R0, R0(-1,-0)|MOVqw R5, R0|PUSHn R5|CALL32EXa @R4|MOVqw R0, R0(+1,+0)|MOVsnw R5, R7|CMPI64wlte R5, -1|JMP8cs 14|MOVnw R5, @R0|MOVdw R6, @R5|MOVRELd R5, 4052|PUSHn @R5|MOVnw R4, @R0(+3,+16)|CALL32EXa @R4(+1,+0)|MOVqw R0, R0(+2,+0)|RET|MOVqw R0, R0(+1,+0)|RET|MOVIqw R7, 0|RET
+data 2000 - 8 40f0ffff00000000 .data|.db 0x40|.db 0xf0|.db 0xff|.db 0xff|.db 0x00|.db 0x00|.db 0x00|.db 0x00";
 
 fn digit(byte: u8) -> u32
     ensures { result < 16 }
@@ -95,9 +54,7 @@ fn digit(byte: u8) -> u32
 }
 
 // The number that hexadecimal digits are: four of them at most count.
-fn number(text: &str) -> u32
-    ensures { result < 65536 }
-{
+fn number(text: &str) -> u32 {
     let mut number = 0;
     for byte in text.as_bytes() {
         number = number % 4096 * 16 + digit(*byte);
@@ -132,7 +89,12 @@ fn section(place: u32, size: u32, flags: u32, bytes: Vec<u8>) -> Section
 }
 
 // An image of 3000 bytes that is linked for 00010000.
-fn image(entry: u32, sections: Vec<Section>, relocs: Vec<u32>) -> Image {
+fn image(entry: u32, sections: Vec<Section>, relocs: Vec<u32>) -> Image
+    ensures entry { result.entry ≡ entry }
+    ensures size { result.size ≡ 0x3000 }
+    ensures sections { result.sections ≡ sections.items }
+    ensures relocs { result.relocs ≡ relocs.items }
+{
     Image {
         base: 0x1_0000,
         entry,
@@ -143,14 +105,15 @@ fn image(entry: u32, sections: Vec<Section>, relocs: Vec<u32>) -> Image {
     }
 }
 
-// The image of a row.
-fn row_image(alloc: Global, words: &[&str]) -> Result<Image, Fail>
+// The image of a row, of its words in front of the lines.
+fn row_image(alloc: Global, words: &str) -> Result<Image, Fail>
     ensures { IfOk result IsImage }
 {
-    let [kind, entry, reloc, size, digits] = words else {
-        return Err(Fail::from("a row of other words"));
-    };
-    let flags = if *kind == "code" {
+    let (kind, rest) = words.split_once(' ').ok_or("no entry")?;
+    let (entry, rest) = rest.split_once(' ').ok_or("no relocation")?;
+    let (reloc, rest) = rest.split_once(' ').ok_or("no size")?;
+    let (size, digits) = rest.split_once(' ').ok_or("no bytes")?;
+    let flags = if kind == "code" {
         0x6000_0020
     } else {
         0xC000_0040
@@ -158,7 +121,7 @@ fn row_image(alloc: Global, words: &[&str]) -> Result<Image, Fail>
     let (entry, size) = (number(entry), number(size));
     let bytes = bytes(alloc, digits)?;
     let mut relocs = Vec::new(alloc);
-    if *reloc != "-" {
+    if reloc != "-" {
         relocs.push(number(reloc).min(0x2000))?;
     }
     if entry % 2 != 0 || entry > 0x2000 || size > 0x2000 || bytes.len() > size as usize {
@@ -171,27 +134,16 @@ fn row_image(alloc: Global, words: &[&str]) -> Result<Image, Fail>
 #[test]
 fn rows_are_listed(rt: HostRuntime) -> Result<(), Fail> {
     for row in ROWS.lines() {
-        let words: Vec<&str> = row.splitn(6, ' ').collect(rt.alloc())?;
-        let (lines, front) = words.as_slice().split_last().ok_or("an empty row")?;
-        let text = list(rt.alloc(), &row_image(rt.alloc(), front)?)?;
+        let (words, lines) = row.split_once(" .").ok_or("a row without lines")?;
+        let text = list(rt.alloc(), &row_image(rt.alloc(), words)?)?;
         let mut wanted = Vec::new(rt.alloc());
+        wanted.push(b'.')?;
         for line in lines.split('|') {
             wanted.extend_from_slice(line.as_bytes())?;
             wanted.push(b'\n')?;
         }
-        assert!(rt; text == wanted, "at {row}");
+        assert!(rt; *text.as_slice() == *wanted.as_slice(), "at {row}");
     }
-    Ok(())
-}
-
-#[test]
-fn a_driver_is_listed(rt: HostRuntime) -> Result<(), Fail> {
-    let alloc = rt.alloc();
-    let code = section(0x1000, 74, 0x6000_0020, bytes(alloc, CODE)?);
-    let data = section(0x2000, 8, 0xC000_0040, bytes(alloc, DATA)?);
-    let image = image(0x1000, vec![in alloc; code, data]?, Vec::new(alloc));
-    let text = list(alloc, &image)?;
-    assert!(rt; *text.as_slice() == *DRIVER.as_bytes());
     Ok(())
 }
 
