@@ -1,0 +1,13 @@
+//! The listing of an image: assembly text that says each byte of its sections (docs/ASSEMBLY.md, "Listings").
+#![tactic(auto)]
+
+mod bytes;
+mod items;
+mod listing;
+mod places;
+mod sections;
+#[cfg(test)]
+mod tests;
+
+pub use ebc_base::NoMemory;
+pub use listing::list;
