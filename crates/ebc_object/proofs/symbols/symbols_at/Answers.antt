@@ -1,0 +1,1 @@
+use Rattle.ebc_object.proofs.symbols.symbols_at.Goals as goal
