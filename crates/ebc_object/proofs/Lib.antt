@@ -1,1 +1,4 @@
 pub mod Tried
+pub mod Counted
+pub mod Stands
+pub mod Again

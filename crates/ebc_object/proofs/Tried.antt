@@ -212,7 +212,7 @@ by_symbol code contents s is =
 one_or_two : (n : ℕ) → 1 ≤ n → n ≤ 2 → (n ≡ 1) ⊎ (n ≡ 2)
 one_or_two n low high = grind arith
 
-from_one_to_two : (n : ℕ) → (n ≡ 1) ⊎ (n ≡ 2) → (1 ≤ n) × (n ≤ 2)
+pub from_one_to_two : (n : ℕ) → (n ≡ 1) ⊎ (n ≡ 2) → (1 ≤ n) × (n ≤ 2)
 from_one_to_two n h = ⊎_elim (λ (one : n ≡ 1). (omega arith, omega arith)) (λ (two : n ≡ 2). (omega arith, omega arith)) h
 
 pub IsFixup-by : (code contents : List ℕ) (symbols : ℕ) (f : Fixup) → is_fixup code contents symbols f ≡ true → IsFixup code contents symbols f
