@@ -46,19 +46,21 @@ unfolding fixups_at
 fixups_all n i file code contents symbols before at done = let none : n - i ≡ 0 = omega arith in rw none refl
 
 pub fixups_more :
-    (n i : ℕ) (file code contents : List ℕ) (symbols : ℕ) (before after : List Fixup) (at : ℕ) (f : Fixup) → i < n →
-    after ≡ before ++ f ∷ [] → fixup_at file code contents symbols before at ≡ Ok f →
+    (n i : ℕ) (file code contents : List ℕ) (symbols : ℕ) (seen before after : List Fixup) (at : ℕ) (f : Fixup) → i < n →
+    seen ≡ before → after ≡ before ++ f ∷ [] → fixup_at file code contents symbols seen at ≡ Ok f →
     fixups_at (n - i) file code contents symbols before at ≡ fixups_at (n - (i + 1)) file code contents symbols after (at + fixup_size)
 unfolding fixups_at
-fixups_more n i file code contents symbols before after at f below pushed read =
+fixups_more n i file code contents symbols seen before after at f below is pushed read =
     let count : n - i ≡ suc (n - (i + 1)) = omega arith in
-    rw (count, read, pushed) refl
+    let here : fixup_at file code contents symbols before at ≡ Ok f = rw (← is) read in
+    rw (count, here, pushed) refl
 
 pub fixups_end :
-    (n i : ℕ) (file code contents : List ℕ) (symbols : ℕ) (before : List Fixup) (at : ℕ) (e : ObjectEnd) → i < n →
-    Fails e (fixup_at file code contents symbols before at) → Fails e (fixups_at (n - i) file code contents symbols before at)
+    (n i : ℕ) (file code contents : List ℕ) (symbols : ℕ) (seen before : List Fixup) (at : ℕ) (e : ObjectEnd) → i < n →
+    seen ≡ before → Fails e (fixup_at file code contents symbols seen at) → Fails e (fixups_at (n - i) file code contents symbols before at)
 unfolding fixups_at
-fixups_end n i file code contents symbols before at ends.NoMemory below failed = tt
-fixups_end n i file code contents symbols before at (ends.Fault kind offset) below failed =
+fixups_end n i file code contents symbols seen before at ends.NoMemory below is failed = tt
+fixups_end n i file code contents symbols seen before at (ends.Fault kind offset) below is failed =
     let count : n - i ≡ suc (n - (i + 1)) = omega arith in
-    rw (count, failed) refl
+    let here : fixup_at file code contents symbols before at ≡ Err (kind, offset) = rw (← is) failed in
+    rw (count, here) refl
