@@ -5,7 +5,7 @@ use Rattle.std.specs.Int.{w32, to_le_bytes}
 use Rattle.std.specs.List.{flat_map, list_all}
 use Rattle.std.proofs.lemmas.Bool.{and_from, and_parts, eqb-true, leb-true, lt-ltb, not-true}
 use Rattle.std.proofs.lemmas.List.{append-nil, drop_all}
-use Rattle.std.proofs.lemmas.List.Elements.{All-push}
+use Rattle.std.proofs.lemmas.List.Elements.{All-nil, All-push}
 use Rattle.std.proofs.lemmas.List.Sums.{sum_by-cons}
 use Rattle.std.proofs.lemmas.Slice.Eq.{bytes_eq-Decides}
 use Rattle.ebc_base.specs.Steps.{◌>>=◌, passes}
@@ -54,7 +54,7 @@ name-read file names at name h =
 
 -- What stands behind a name, once it was read.
 record NamedRead (file code contents name : List ℕ) (at : ℕ) (s : Symbol) : Type 0 where
-  pub name : s.name ≡ name
+  pub named : s.name ≡ name
   pub tags : Spells file at (s.kind ∷ s.global ∷ []) (at + 2)
   pub number : Spells file (at + 2) (to_le_bytes w32 s.offset) (at + 6)
   pub kind : s.kind ≤ 2
@@ -77,7 +77,7 @@ named-read file code contents name at s bytes h =
     let third = u32-read file (at + 2) offset.0 (at + 6) bytes offset.1 (omega arith) in
     subst (NamedRead file code contents name at) same
     (record {
-      name = refl;
+      named = refl;
       tags = Spells-join file at (at + 1) (at + 2) (kind.0 ∷ []) (global.0 ∷ []) first second;
       number = third.0;
       kind = leb-true kind.0 2 (passes-ok (nat_le kind.0 2) (faults.Range, at) k.0 k.1);
@@ -97,9 +97,9 @@ symbol-read file code contents names at s bytes h =
     let name = bind-ok (name_at file names at) _ s h in
     let first : NameRead file names at name.0 = name-read file names at name.0 name.1 in
     let then : NamedRead file code contents name.0 (at + 1 + length name.0) s = named-read file code contents name.0 (at + 1 + length name.0) s bytes name.2 in
-    let front : NameRead file names at s.name = subst (NameRead file names at) (sym then.name) first in
+    let front : NameRead file names at s.name = subst (NameRead file names at) (sym then.named) first in
     let P : List ℕ → Type 0 = λ m. NamedRead file code contents m (at + 1 + length m) s in
-    let back : NamedRead file code contents s.name (at + 1 + length s.name) s = subst P (sym then.name) then in
+    let back : NamedRead file code contents s.name (at + 1 + length s.name) s = subst P (sym then.named) then in
     let middle : ℕ = at + 1 + length s.name in
     let tagged = Spells-join file at middle (middle + 2) ((length s.name ∷ []) ++ s.name) (s.kind ∷ s.global ∷ []) front.spelled back.tags in
     let whole = Spells-join file at (middle + 2) (middle + 6) ((length s.name ∷ []) ++ s.name ++ (s.kind ∷ s.global ∷ [])) (to_le_bytes w32 s.offset) tagged back.number in
@@ -340,6 +340,9 @@ head-spelled : (o : Object) (h : Head) → length o.code ≡ h.code → length o
 unfolding head_bytes
 head-spelled o h a b c d = rw (a, b, c, d) refl
 
+AllPairs-nil : {X : Type 0} (R : X → X → Type 0) → AllPairs R []
+AllPairs-nil R i j d first below = absurd (omega arith)
+
 -- what a file is read as is an object, and the file is its file
 pub object-read : (file : List ℕ) (o : Object) → AreBytes file → object_of file ≡ Ok o → (object_bytes o ≡ file) × IsObject o
 unfolding object_of object_bytes
@@ -378,13 +381,13 @@ object-read file o bytes read =
     let whole : file ≡ all = d.is ∙ (ap (λ t. all ++ t) nothing ∙ append-nil all) in
     let object : IsObject made =
         record {
-          code_size = omega (arith, code_read.1, first.code);
-          contents_size = omega (arith, contents_read.1, first.contents);
-          symbol_count = omega (arith, symbol_count, first.symbols);
-          fixup_count = omega (arith, fixup_count, first.fixups);
-          symbols = ss.symbols (λ k e below. absurd (omega arith));
-          names = ss.names (λ i j e first below. absurd (omega arith));
-          fixups = fs.fixups (λ k e below. absurd (omega arith));
-          ascend = fs.ascend (λ i j e first below. absurd (omega arith));
+          code_size = subst (λ n. n ≤ most) (sym code_read.1) first.code;
+          contents_size = subst (λ n. n ≤ most) (sym contents_read.1) first.contents;
+          symbol_count = subst (λ n. n ≤ most) (sym symbol_count) first.symbols;
+          fixup_count = subst (λ n. n ≤ most) (sym fixup_count) first.fixups;
+          symbols = ss.symbols (All-nil (IsSymbol code.0 contents.0));
+          names = ss.names (AllPairs-nil AreNamedApart);
+          fixups = fs.fixups (All-nil (IsFixup code.0 contents.0 (length symbols.0)));
+          ascend = fs.ascend (AllPairs-nil EndsBefore);
         } in
     (subst (λ (p : Object). object_bytes p ≡ file) same (sym whole), subst IsObject same object)

@@ -14,7 +14,7 @@ returns-in_err-fixup-clause-fixups c =
 
 pub loop-read-preserved : goal.loop-read-preserved
 loop-read-preserved c =
-    let bytes : AreBytes c.args.file.now = record { below = c.type_inv.file } in
+    let bytes : AreBytes c.args.file.now = record { below = λ i. omega (arith, c.type_inv.file i) } in
     record {
       last = HasLast-read c.args.file.now c.args.sections.now.code.now c.args.sections.now.contents.now c.args.symbols c.as_slice.result.now c.loop-read.fixups.items c.push.new.self.items
           c.loop-read.at c.in_ok-fixup.fixup bytes c.as_slice.ensures.value c.in_ok-push.ensures.items c.in_ok-fixup.ensures.fixup;

@@ -1,4 +1,4 @@
-use Rattle.std.proofs.Common.{◌≡◌, rules}
+use Rattle.std.proofs.Common.{◌≡◌, ◌<◌, arith, rules}
 use Rattle.ebc_object.specs.Readings.{object_of}
 use Rattle.ebc_object.proofs.Spelled.{object-read}
 use Rattle.ebc_object.proofs.Stands.{AreBytes}
@@ -9,7 +9,7 @@ unfolding object_of
 returns-clause-reading c = search rules
 
 pub returns-clause-format : goal.returns-clause-format
-returns-clause-format c = (object-read c.args.file.now _ (record { below = c.type_inv.file }) (returns-clause-reading c)).0
+returns-clause-format c = (object-read c.args.file.now _ (record { below = λ i. omega (arith, c.type_inv.file i) }) (returns-clause-reading c)).0
 
 pub returns-clause-sound : goal.returns-clause-sound
-returns-clause-sound c = (object-read c.args.file.now _ (record { below = c.type_inv.file }) (returns-clause-reading c)).1
+returns-clause-sound c = (object-read c.args.file.now _ (record { below = λ i. omega (arith, c.type_inv.file i) }) (returns-clause-reading c)).1
