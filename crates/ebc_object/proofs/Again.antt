@@ -1,6 +1,6 @@
 -- What is written is read again.
-use Rattle.std.proofs.Common.{◌≡◌, ℕ, ◌+◌, ◌-◌, ◌*◌, ◌^◌, ◌<◌, ◌≤◌, Bool, true, false, cond, List, [], ◌∷◌, ◌++◌, length, get_or, drop, map, Ok, append_assoc, length-append, length-drop, refl, sym, ap, subst, ◌∙◌, arith}
-use Rattle.std.specs.Prelude.{All, AllPairs, bytes_eq, codes, nat_eq, nat_le, nat_lt}
+use Rattle.std.proofs.Common.{◌≡◌, ℕ, ◌+◌, ◌*◌, ◌<◌, ◌≤◌, true, false, cond, List, [], ◌∷◌, ◌++◌, length, get_or, drop, Ok, append_assoc, length-append, length-drop, refl, sym, ap, subst, ◌∙◌, arith}
+use Rattle.std.specs.Prelude.{All, AllPairs, codes, nat_eq, nat_le, nat_lt}
 use Rattle.std.specs.Int.{w32, to_le_bytes}
 use Rattle.std.specs.List.{flat_map, list_all}
 use Rattle.std.proofs.lemmas.Bool.{cond_both, le-leb, lt-ltb}
@@ -10,7 +10,6 @@ use Rattle.std.proofs.lemmas.List.Sums.{sum_by-cons}
 use Rattle.ebc_names.specs.Names.{is_name}
 use Rattle.ebc_names.specs.Tables.{is_named}
 use Rattle.ebc_names.proofs.NameText.{name_len}
-use Rattle.ebc_object.specs.declared.head.Head.{Head}
 use Rattle.ebc_object.specs.declared.object.Fixup.{Fixup}
 use Rattle.ebc_object.specs.declared.object.Object.{Object}
 use Rattle.ebc_object.specs.declared.object.Symbol.{Symbol}
@@ -90,7 +89,7 @@ symbols-again file code contents before (s ∷ ss) at rest c d stands are apart 
     let next : Stands file (at + symbol_size s) (flat_map symbol_bytes ss ++ rest) = Stands-next file at (symbol_bytes s) (flat_map symbol_bytes ss ++ rest) (at + symbol_size s) here (ap (λ n. at + n) (length-symbol s)) in
     let new : is_named s.name (names_of before) ≡ false = new_from_apart before ss s apart in
     let first : symbol_at file code contents (names_of before) at ≡ Ok s =
-        symbol-again file code contents (names_of before) at s (flat_map symbol_bytes ss ++ rest) c d here (All-head (IsSymbol code contents) s ss are) new in
+    symbol-again file code contents (names_of before) at s (flat_map symbol_bytes ss ++ rest) c d here (All-head (IsSymbol code contents) s ss are) new in
     let pushed : (before ++ s ∷ []) ++ ss ≡ before ++ s ∷ ss = append_assoc before (s ∷ []) ss in
     let then = symbols-again file code contents (before ++ s ∷ []) ss (at + symbol_size s) rest c d next (All-tail (IsSymbol code contents) s ss are) (subst (AllPairs AreNamedApart) (sym pushed) apart) in
     let size : symbols_size (s ∷ ss) ≡ symbol_size s + symbols_size ss = sum_by-cons symbol_size s ss in

@@ -1,5 +1,5 @@
 -- What is read is spelled so, and is an object.
-use Rattle.std.proofs.Common.{◌≡◌, ℕ, zero, suc, ◌+◌, ◌-◌, ◌*◌, ◌^◌, ◌<◌, ◌≤◌, Bool, true, false, not, ◌&&◌, List, [], ◌∷◌, ◌++◌, length, get_or, take, drop, map, Result, Ok, append_assoc, length-drop, refl, sym, ap, subst, ◌∙◌, arith}
+use Rattle.std.proofs.Common.{◌≡◌, ℕ, zero, suc, ◌+◌, ◌*◌, ◌^◌, ◌≤◌, true, false, not, ◌&&◌, List, [], ◌∷◌, ◌++◌, length, drop, Ok, append_assoc, refl, sym, ap, subst, ◌∙◌, arith}
 use Rattle.std.specs.Prelude.{All, AllPairs, bytes_eq, codes, nat_eq, nat_le, nat_lt}
 use Rattle.std.specs.Int.{w32, to_le_bytes}
 use Rattle.std.specs.List.{flat_map, list_all}
@@ -8,7 +8,7 @@ use Rattle.std.proofs.lemmas.List.{append-nil, drop_all}
 use Rattle.std.proofs.lemmas.List.Elements.{All-nil, All-push}
 use Rattle.std.proofs.lemmas.List.Sums.{sum_by-cons}
 use Rattle.std.proofs.lemmas.Slice.Eq.{bytes_eq-Decides}
-use Rattle.ebc_base.specs.Steps.{◌>>=◌, passes}
+use Rattle.ebc_base.specs.Steps.{passes}
 use Rattle.ebc_names.specs.Names.{is_name}
 use Rattle.ebc_names.specs.Tables.{is_named}
 use Rattle.ebc_object.specs.declared.fault.ObjectFault.TheVariants as faults
@@ -18,7 +18,7 @@ use Rattle.ebc_object.specs.declared.object.Fixup.{Fixup}
 use Rattle.ebc_object.specs.declared.object.Object.{Object}
 use Rattle.ebc_object.specs.declared.object.Symbol.{Symbol}
 use Rattle.ebc_object.specs.Files.{fixup_bytes, fixup_size, head_bytes, object_bytes, symbol_bytes, symbol_size}
-use Rattle.ebc_object.specs.Objects.{AreNamedApart, EndsBefore, IsFixup, IsObject, IsSymbol, filled, most, section_bytes, width}
+use Rattle.ebc_object.specs.Objects.{AreNamedApart, EndsBefore, IsFixup, IsObject, IsSymbol, most, section_bytes, width}
 use Rattle.ebc_object.specs.Readings.{Fault, byte_at, count_at, ends_before, field_at, fixup_at, fixups_at, has_zeros, head_of, mark_of, name_at, named_at, names_of, object_of, place_at, symbol_at, symbols_at, symbols_size, u32_at}
 use Rattle.ebc_object.specs.Walks.{HasLast, is_fixup}
 use Rattle.ebc_object.proofs.Stands.{AreBytes, Spells, Spells-join, Spells-none, bind-ok, byte-read, field-read, passes-ok, same_Ok, u32-read}
@@ -136,7 +136,7 @@ symbols-read (suc n) file code contents before all at bytes within h =
     let s = bind-ok (symbol_at file code contents (names_of before) at) _ all h in
     let one : SymbolRead file code contents (names_of before) at s.0 = symbol-read file code contents (names_of before) at s.0 bytes s.1 in
     let then : SymbolsRead n file code contents (before ++ s.0 ∷ []) (at + symbol_size s.0) all =
-        symbols-read n file code contents (before ++ s.0 ∷ []) all (at + symbol_size s.0) bytes one.spelled.within s.2 in
+    symbols-read n file code contents (before ++ s.0 ∷ []) all (at + symbol_size s.0) bytes one.spelled.within s.2 in
     let size : symbols_size (s.0 ∷ then.more) ≡ symbol_size s.0 + symbols_size then.more = sum_by-cons symbol_size s.0 then.more in
     let end : at + symbol_size s.0 + symbols_size then.more ≡ at + symbols_size (s.0 ∷ then.more) = omega (arith, size) in
     record {
@@ -259,7 +259,7 @@ fixups-read (suc n) file code contents symbols before all at bytes within h =
     let f = bind-ok (fixup_at file code contents symbols before at) _ all h in
     let one : FixupRead file code contents symbols before at f.0 = fixup-read file code contents symbols before at f.0 bytes f.1 in
     let then : FixupsRead n file code contents symbols (before ++ f.0 ∷ []) (at + fixup_size) all =
-        fixups-read n file code contents symbols (before ++ f.0 ∷ []) all (at + fixup_size) bytes one.spelled.within f.2 in
+    fixups-read n file code contents symbols (before ++ f.0 ∷ []) all (at + fixup_size) bytes one.spelled.within f.2 in
     record {
       more = f.0 ∷ then.more;
       is = then.is ∙ append_assoc before (f.0 ∷ []) then.more;
@@ -279,9 +279,10 @@ count-read file at n next bytes h is =
     let number = bind-ok (u32_at file at) _ n h in
     let test = bind-ok (passes (nat_le number.0 most) (faults.Count, at)) _ n number.2 in
     let same : number.0 ≡ n = same_Ok {E = Fault} number.0 n test.2 in
-    let here = u32-read file at number.0 next bytes number.1 is in
-    (subst (λ m. Spells file at (to_le_bytes w32 m) next) same here.0,
-    subst (λ m. m ≤ most) same (leb-true number.0 most (passes-ok (nat_le number.0 most) (faults.Count, at) test.0 test.1)))
+    let here = u32-read file at number.0 next bytes number.1 is in (
+      subst (λ m. Spells file at (to_le_bytes w32 m) next) same here.0,
+      subst (λ m. m ≤ most) same (leb-true number.0 most (passes-ok (nat_le number.0 most) (faults.Count, at) test.0 test.1)),
+    )
 
 mark-read : (file : List ℕ) (u : Unit {0}) → AreBytes file → mark_of file ≡ Ok u → Spells file 0 (codes "EBCO" ++ to_le_bytes w32 1) 8
 unfolding mark_of
@@ -298,8 +299,8 @@ mark-read file u bytes h =
 -- The head of a file that was read.
 record HeadRead (file : List ℕ) (h : Head) : Type 0 where
   pub spelled :
-    Spells file 0
-    (codes "EBCO" ++ to_le_bytes w32 1 ++ to_le_bytes w32 h.code ++ to_le_bytes w32 h.contents ++ to_le_bytes w32 h.symbols ++ to_le_bytes w32 h.fixups) 24
+      Spells file 0
+      (codes "EBCO" ++ to_le_bytes w32 1 ++ to_le_bytes w32 h.code ++ to_le_bytes w32 h.contents ++ to_le_bytes w32 h.symbols ++ to_le_bytes w32 h.fixups) 24
   pub code : h.code ≤ most
   pub contents : h.contents ≤ most
   pub symbols : h.symbols ≤ most
@@ -364,10 +365,10 @@ object-read file o bytes read =
     let contents_read = field-read file (24 + h.code) h.contents contents.0 start contents.1 refl in
     let ss : SymbolsRead h.symbols file code.0 contents.0 [] start symbols.0 = symbols-read h.symbols file code.0 contents.0 [] symbols.0 start bytes contents_read.0.within symbols.1 in
     let symbols_spelled : Spells file start (flat_map symbol_bytes symbols.0) middle =
-        subst (λ (zs : List Symbol). Spells file start (flat_map symbol_bytes zs) (start + symbols_size zs)) (sym ss.is) ss.spelled in
+    subst (λ (zs : List Symbol). Spells file start (flat_map symbol_bytes zs) (start + symbols_size zs)) (sym ss.is) ss.spelled in
     let fs : FixupsRead h.fixups file code.0 contents.0 (length symbols.0) [] middle fixups.0 = fixups-read h.fixups file code.0 contents.0 (length symbols.0) [] fixups.0 middle bytes symbols_spelled.within fixups.1 in
     let fixups_spelled : Spells file middle (flat_map fixup_bytes fixups.0) end =
-        subst (λ (zs : List Fixup). Spells file middle (flat_map fixup_bytes zs) end) (sym fs.is) fs.spelled in
+    subst (λ (zs : List Fixup). Spells file middle (flat_map fixup_bytes zs) end) (sym fs.is) fs.spelled in
     let symbol_count : length symbols.0 ≡ h.symbols = ap length ss.is ∙ ss.count in
     let fixup_count : length fixups.0 ≡ h.fixups = ap length fs.is ∙ fs.count in
     let head_is = head-spelled made h code_read.1 contents_read.1 symbol_count fixup_count in
@@ -380,14 +381,14 @@ object-read file o bytes read =
     let nothing : drop end file ≡ [] = drop_all end file (leb-true (length file) end (passes-ok (nat_le (length file) end) (faults.Count, end) over.0 over.1)) in
     let whole : file ≡ all = d.is ∙ (ap (λ t. all ++ t) nothing ∙ append-nil all) in
     let object : IsObject made =
-        record {
-          code_size = subst (λ n. n ≤ most) (sym code_read.1) first.code;
-          contents_size = subst (λ n. n ≤ most) (sym contents_read.1) first.contents;
-          symbol_count = subst (λ n. n ≤ most) (sym symbol_count) first.symbols;
-          fixup_count = subst (λ n. n ≤ most) (sym fixup_count) first.fixups;
-          symbols = ss.symbols (All-nil (IsSymbol code.0 contents.0));
-          names = ss.names (AllPairs-nil AreNamedApart);
-          fixups = fs.fixups (All-nil (IsFixup code.0 contents.0 (length symbols.0)));
-          ascend = fs.ascend (AllPairs-nil EndsBefore);
-        } in
+    record {
+      code_size = subst (λ n. n ≤ most) (sym code_read.1) first.code;
+      contents_size = subst (λ n. n ≤ most) (sym contents_read.1) first.contents;
+      symbol_count = subst (λ n. n ≤ most) (sym symbol_count) first.symbols;
+      fixup_count = subst (λ n. n ≤ most) (sym fixup_count) first.fixups;
+      symbols = ss.symbols (All-nil (IsSymbol code.0 contents.0));
+      names = ss.names (AllPairs-nil AreNamedApart);
+      fixups = fs.fixups (All-nil (IsFixup code.0 contents.0 (length symbols.0)));
+      ascend = fs.ascend (AllPairs-nil EndsBefore);
+    } in
     (subst (λ (p : Object). object_bytes p ≡ file) same (sym whole), subst IsObject same object)

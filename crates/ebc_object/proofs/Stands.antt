@@ -1,5 +1,5 @@
 -- What stands at an offset of a file is read there; and a field that was read stands there.
-use Rattle.std.proofs.Common.{◌≡◌, ℕ, zero, suc, ◌+◌, ◌-◌, ◌*◌, ◌^◌, ◌<◌, ◌≤◌, Bool, true, false, cond, List, [], ◌∷◌, ◌++◌, length, get_or, take, drop, Result, Ok, Err, append_assoc, length-append, length-drop, refl, sym, ap, subst, ◌∙◌, ⊎_elim, arith}
+use Rattle.std.proofs.Common.{◌≡◌, ℕ, ◌+◌, ◌-◌, ◌^◌, ◌<◌, ◌≤◌, Bool, true, false, cond, List, [], ◌∷◌, ◌++◌, length, get_or, take, drop, Result, Ok, Err, append_assoc, length-append, length-drop, refl, sym, ap, subst, ◌∙◌, ⊎_elim, arith}
 use Rattle.std.specs.Prelude.{nat_le, slice_index}
 use Rattle.std.specs.Int.{w32, from_le_bytes, to_le_bytes}
 use Rattle.std.proofs.lemmas.Bool.{cases_lt, le-leb, leb-true}
@@ -86,13 +86,14 @@ field-read file at n bytes next read is = by_test (nat_le (at + n) (length file)
     by_test true fits given =
         let same : bytes ≡ take n (drop at file) = sym (same_Ok {E = Fault} (take n (drop at file)) bytes given) in
         let within : at + n ≤ length file = leb-true (at + n) (length file) fits in
-        let left : length (drop at file) ≡ length file - at = length-drop at file in
-        (record {
-          within = omega (arith, within, is);
-          is = sym (take-append-drop n (drop at file)) ∙ (ap (λ xs. xs ++ drop n (drop at file)) (sym same) ∙ ap (λ xs. bytes ++ xs) (drop-drop n at file ∙ ap (λ m. drop m file) is));
-        },
-        ap length same ∙ length-take-le n (drop at file) (omega arith),
-        same)
+        let left : length (drop at file) ≡ length file - at = length-drop at file in (
+          record {
+            within = omega (arith, within, is);
+            is = sym (take-append-drop n (drop at file)) ∙ (ap (λ xs. xs ++ drop n (drop at file)) (sym same) ∙ ap (λ xs. bytes ++ xs) (drop-drop n at file ∙ ap (λ m. drop m file) is));
+          },
+          ap length same ∙ length-take-le n (drop at file) (omega arith),
+          same,
+        )
     by_test false fits given = let no : ⊥ = cc in absurd no
 
 one : (bs : List ℕ) → length bs ≡ 1 → bs ≡ slice_index bs 0 ∷ []
@@ -125,6 +126,7 @@ u32-read file at n next bytes read is =
     let here = field-read file at 4 field.0 next field.1 is in
     let value : from_le_bytes w32 field.0 ≡ n = same_Ok {E = Fault} (from_le_bytes w32 field.0) n field.2 in
     let P : List ℕ → Type 0 = λ bs. (i : ℕ) → get_or bs i 0 < 256 in
-    let below : (i : ℕ) → get_or field.0 i 0 < 256 = subst P (sym here.2) (below-part file at 4 bytes) in
-    (subst (λ bs. Spells file at bs next) (sym (le_bytes_4 field.0 n here.1 below (sym value))) here.0,
-    subst (λ m. m < 2 ^ 32) value (small-u32 field.0 below))
+    let below : (i : ℕ) → get_or field.0 i 0 < 256 = subst P (sym here.2) (below-part file at 4 bytes) in (
+      subst (λ bs. Spells file at bs next) (sym (le_bytes_4 field.0 n here.1 below (sym value))) here.0,
+      subst (λ m. m < 2 ^ 32) value (small-u32 field.0 below),
+    )

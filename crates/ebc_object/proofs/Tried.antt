@@ -1,12 +1,11 @@
 -- The conditions on symbols and fixups as they are said, and as they are tried one after the other.
-use Rattle.std.proofs.Common.{◌≡◌, ◌≢◌, ℕ, zero, suc, ◌+◌, ◌-◌, ◌^◌, ◌<◌, ◌≤◌, ◌⊎◌, inl, inr, ⊎_elim, Bool, true, false, cond, ◌&&◌, ◌||◌, List, [], ◌∷◌, ◌++◌, length, get_or, take, drop, map, Option, Some, None, length-append, refl, sym, ap, subst, ◌∙◌, arith}
+use Rattle.std.proofs.Common.{◌≡◌, ◌≢◌, ℕ, zero, suc, ◌+◌, ◌-◌, ◌^◌, ◌<◌, ◌≤◌, ◌⊎◌, inl, inr, ⊎_elim, Bool, true, false, ◌&&◌, ◌||◌, List, [], ◌∷◌, ◌++◌, length, get_or, take, drop, Some, length-append, refl, sym, ap, subst, ◌∙◌, arith}
 use Rattle.std.specs.Prelude.{All, AllPairs, bytes_eq, nat_eq, nat_le, nat_lt, slice_get}
-use Rattle.std.specs.List.{AllPass, Any, list_all, list_any}
+use Rattle.std.specs.List.{Any, list_all, list_any}
 use Rattle.std.specs.Option.{option_map_or}
 use Rattle.std.proofs.lemmas.Bool.{and_from, and_parts, and_right, both_ways, cases_Bool, eq-eqb, eqb-true, le-leb, leb-true, lt-ltb, ltb-true, or_cases, or_left, or_right}
 use Rattle.std.proofs.lemmas.Bool.Decides.{not_from_Decides}
-use Rattle.std.proofs.lemmas.List.{get_or-take, get_or_at, get_or_default, length-take-le, take_all, take_more}
-use Rattle.std.proofs.lemmas.List.Elements.{All-weaker}
+use Rattle.std.proofs.lemmas.List.{get_or-take, get_or_at, get_or_default, length-take-le, take_more}
 use Rattle.std.proofs.lemmas.List.Folds.{Any-from_list_any, list_all-append, list_any_at}
 use Rattle.std.proofs.lemmas.List.Quantifiers.{all_pairs_push}
 use Rattle.std.proofs.lemmas.List.Sums.{AllPass-from_list_all, list_all-from_AllPass}
@@ -51,7 +50,7 @@ named_before ss i s within is named apart =
     let few : length (take i ss) ≡ i = length-take-le i ss (omega arith) in
     let below : any.0 < i = omega (arith, any.2) in
     let here : get_or ss any.0 s ≡ any.1 =
-        get_or_default ss any.0 s any.1 (omega arith) ∙ (sym (get_or-take i ss any.0 any.1 below) ∙ any.3) in
+    get_or_default ss any.0 s any.1 (omega arith) ∙ (sym (get_or-take i ss any.0 any.1 below) ∙ any.3) in
     let same : s.name ≡ any.1.name = (bytes_eq-Decides s.name any.1.name).0 any.4 in
     apart any.0 i s below within (ap (λ (t : Symbol). t.name) here ∙ (sym same ∙ ap (λ (t : Symbol). t.name) is))
 
@@ -71,6 +70,7 @@ new_from_apart before after s apart =
   where
     within_append : (xs ys : List Symbol) (t : Symbol) → length xs < length (xs ++ t ∷ ys)
     within_append xs ys t = omega (arith, length-append xs (t ∷ ys))
+
     in_front : (xs ys : List Symbol) (t : Symbol) (k : ℕ) (x : Symbol) → k < length xs → get_or xs k x ≡ x → get_or (xs ++ t ∷ ys) k t ≡ x
     in_front (x ∷ xs) ys t zero y within is = is
     in_front (x ∷ xs) ys t (suc k) y within is = in_front xs ys t k y (omega arith) is
@@ -121,6 +121,7 @@ slice_get-push fs f = ap (slice_get (fs ++ f ∷ [])) (at_end fs) ∙ found fs
   where
     at_end : (gs : List Fixup) → length (gs ++ f ∷ []) - 1 ≡ length gs
     at_end gs = omega (arith, length-append gs (f ∷ []))
+
     found : (gs : List Fixup) → slice_get (gs ++ f ∷ []) (length gs) ≡ Some f
     found [] = refl
     found (g ∷ gs) = found gs
@@ -129,16 +130,16 @@ pub HasLast-push : (fs : List Fixup) (f : Fixup) → list_all (ends_before f.sec
 HasLast-push fs f behind =
     record {
       last = λ section offset.
-        let test : Fixup → Bool = ends_before section offset in
-        let end : last_ends_before section offset (fs ++ f ∷ []) ≡ test f = ap (λ o. option_map_or test o true) (slice_get-push fs f) in
-        list_all-append test fs (f ∷ []) ∙ (by_last section offset (test f) refl ∙ sym end);
+          let test : Fixup → Bool = ends_before section offset in
+          let end : last_ends_before section offset (fs ++ f ∷ []) ≡ test f = ap (λ o. option_map_or test o true) (slice_get-push fs f) in
+          list_all-append test fs (f ∷ []) ∙ (by_last section offset (test f) refl ∙ sym end);
     }
   where
     by_last : (section offset : ℕ) (b : Bool) → ends_before section offset f ≡ b → (list_all (ends_before section offset) fs && (ends_before section offset f && true)) ≡ b
     by_last section offset true is =
         let all : list_all (ends_before section offset) fs ≡ true =
-            list_all-from_AllPass (ends_before section offset) fs
-            (λ k d within. passed section offset f (get_or fs k d) is (AllPass-from_list_all (ends_before f.section f.offset) fs behind k d within)) in
+        list_all-from_AllPass (ends_before section offset) fs
+        (λ k d within. passed section offset f (get_or fs k d) is (AllPass-from_list_all (ends_before f.section f.offset) fs behind k d within)) in
         rw (all, is) refl
     by_last section offset false is = rw is (and_right (list_all (ends_before section offset) fs) false refl)
 
@@ -169,10 +170,10 @@ pub behind_at : (fs : List Fixup) (i : ℕ) (f : Fixup) → i < length fs → f 
 behind_at fs i f within is last before pairs =
     let few : length (take i fs) ≡ i = length-take-le i fs (omega arith) in
     let all : list_all (ends_before f.section f.offset) (take i fs) ≡ true =
-        list_all-from_AllPass (ends_before f.section f.offset) (take i fs)
-        (λ k d below. ends_before-by (get_or (take i fs) k d) f
-        (subst (λ g. EndsBefore g f) (sym (get_or-take i fs k d (omega arith)))
-        (subst (EndsBefore (get_or fs k d)) (get_or_default fs i d f within ∙ sym is) (pairs k i d (omega arith) within)))) in
+    list_all-from_AllPass (ends_before f.section f.offset) (take i fs)
+    (λ k d below. ends_before-by (get_or (take i fs) k d) f
+    (subst (λ g. EndsBefore g f) (sym (get_or-take i fs k d (omega arith)))
+    (subst (EndsBefore (get_or fs k d)) (get_or_default fs i d f within ∙ sym is) (pairs k i d (omega arith) within)))) in
     both_ways (last_ends_before f.section f.offset (take i fs)) before (sym (last.last f.section f.offset) ∙ all)
 
 -- ---- symbols and fixups by themselves

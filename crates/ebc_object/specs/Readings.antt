@@ -1,6 +1,6 @@
 -- What a file is read as: its fields are read and tried in the order in which they stand, and the first that fails gives
 -- the fault, with its offset. docs/OBJECTS.md, "Reading".
-use Rattle.std.specs.Prelude.{◌≡◌, ℕ, zero, suc, ◌+◌, ◌-◌, ◌*◌, Bool, not, ◌&&◌, ◌||◌, List, [], ◌∷◌, ◌++◌, length, map, take, drop, slice_index, Result, Ok, Err, codes, bytes_eq, nat_eq, nat_le, nat_lt, sum_by, if◌then◌else◌}
+use Rattle.std.specs.Prelude.{◌≡◌, ℕ, zero, suc, ◌+◌, ◌*◌, Bool, not, ◌&&◌, ◌||◌, List, [], ◌∷◌, ◌++◌, length, map, take, drop, slice_index, Result, Ok, Err, codes, bytes_eq, nat_eq, nat_le, nat_lt, sum_by, if◌then◌else◌}
 use Rattle.std.specs.Int.{w32, from_le_bytes}
 use Rattle.std.specs.List.{list_all}
 use Rattle.ebc_base.specs.Steps.{◌>>=◌, passes}
@@ -15,7 +15,7 @@ use Rattle.ebc_object.specs.declared.fixups.Place.{Place}
 use Rattle.ebc_object.specs.declared.object.Object.{Object}
 use Rattle.ebc_object.specs.declared.object.Symbol.{Symbol}
 use Rattle.ebc_object.specs.declared.object.Fixup.{Fixup}
-use Rattle.ebc_object.specs.Objects.{filled, most, section_bytes, width}
+use Rattle.ebc_object.specs.Objects.{most, section_bytes, width}
 use Rattle.ebc_object.specs.Files.{fixup_size, symbol_size}
 
 -- a fault, and the offset of the field that has it

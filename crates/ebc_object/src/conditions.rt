@@ -64,7 +64,9 @@ fn is_fixup(sections: &Sections<'_>, symbols: usize, fixup: &Fixup) -> bool
 fn are_fixups(sections: &Sections<'_>, symbols: usize, fixups: &[Fixup]) -> bool
     ensures { result ≡ list_all (is_fixup sections.now.code.now sections.now.contents.now symbols) fixups.now }
 {
-    fixups.iter().all(|fixup| is_fixup(sections, symbols, fixup))
+    fixups
+        .iter()
+        .all(|fixup| is_fixup(sections, symbols, fixup))
 }
 
 // Whether a symbol has this name.

@@ -1,7 +1,6 @@
 //! Objects and files worked out by hand.
 
-use crate::{Fixup, Object, object_ok, read_object, write_object};
-use crate::{ObjectEnd, Symbol};
+use crate::{Fixup, Object, ObjectEnd, Symbol, object_ok, read_object, write_object};
 use ebc_base::{Name, Sequence};
 use std::alloc::{AllocError, Global};
 use std::test::Fail;

@@ -1,9 +1,9 @@
-use Rattle.std.proofs.Common.{◌≡◌, get_or, refl, sym, subst, ◌∙◌}
+use Rattle.std.proofs.Common.{get_or, refl, sym, subst, ◌∙◌}
 use Rattle.std.specs.Prelude.{AllPairs}
 use Rattle.std.proofs.lemmas.List.{get_or_default, take_all}
 use Rattle.ebc_object.specs.declared.object.Fixup.{Fixup}
 use Rattle.ebc_object.specs.Objects.{EndsBefore}
-use Rattle.ebc_object.proofs.Tried.{ascend_more, behind_at}
+use Rattle.ebc_object.proofs.Tried.{ascend_more}
 use Rattle.ebc_object.proofs.conditions.ascend.Goals as goal
 
 abbrev zero_fixup : Fixup

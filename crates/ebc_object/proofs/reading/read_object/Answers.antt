@@ -1,7 +1,6 @@
-use Rattle.std.proofs.Common.{◌≡◌, ◌<◌, arith, rules}
+use Rattle.std.proofs.Common.{arith, rules}
 use Rattle.ebc_object.specs.Readings.{object_of}
 use Rattle.ebc_object.proofs.Spelled.{object-read}
-use Rattle.ebc_object.proofs.Stands.{AreBytes}
 use Rattle.ebc_object.proofs.reading.read_object.Goals as goal
 
 pub returns-clause-reading : goal.returns-clause-reading

@@ -1,4 +1,4 @@
-use Rattle.std.proofs.Common.{◌≡◌, ap, ◌∙◌}
+use Rattle.std.proofs.Common.{ap, ◌∙◌}
 use Rattle.ebc_object.specs.Readings.{object_of}
 use Rattle.ebc_object.proofs.Again.{object-again, short-names, written}
 use Rattle.ebc_object.proofs.writing.write_object.Goals as goal
