@@ -3,14 +3,15 @@ ghost use Rattle.std.specs.Prelude.{◌≡◌, Option, Some, None, Ok, nat_le, i
 ghost use Rattle.ebc_base.specs.Steps.{◌>>=◌};
 ghost use Rattle.note_texts.specs.Keys.{number_at, only_keys};
 
+use crate::tables::{Frame, Reader, all_hold, tells};
 use note_texts::{FromTable, FromText, Row, document};
-use note_types::{NotesEnd, Pair, TomlFault};
+use note_types::{NotesEnd, Pair};
 use std::alloc::{AllocError, Global};
 use std::test::Fail;
 
 /// A text of at most four bytes.
-#[derive(PartialEq, Drop)]
-struct Short {
+#[derive(Debug, Drop)]
+pub struct Short {
     length: usize,
 }
 
@@ -28,8 +29,8 @@ impl FromText for Short {
 }
 
 /// A table with one number.
-#[derive(PartialEq, Drop)]
-struct Spot {
+#[derive(Debug, Drop)]
+pub struct Spot {
     place: u64,
 }
 
@@ -43,30 +44,9 @@ impl FromTable for Spot {
     }
 }
 
-/// What a fault says, as `Kind a.b`.
-fn said(alloc: Global, end: NotesEnd) -> Result<String, AllocError> {
-    let (word, path) = match end {
-        NotesEnd::NoMemory => return String::from_str(alloc, "NoMemory"),
-        NotesEnd::Fault(TomlFault::NotToml) => return String::from_str(alloc, "NotToml"),
-        NotesEnd::Fault(TomlFault::Missing(path)) => ("Missing", path),
-        NotesEnd::Fault(TomlFault::Kind(path)) => ("Kind", path),
-        NotesEnd::Fault(TomlFault::Name(path)) => ("Name", path),
-        NotesEnd::Fault(TomlFault::Range(path)) => ("Range", path),
-        NotesEnd::Fault(TomlFault::Twice(path)) => ("Twice", path),
-    };
-    let path = path.as_str();
-    format!(in alloc; "{word} {path}")
-}
-
-fn refusal(alloc: Global, text: &[u8]) -> Result<String, AllocError> {
-    match read_sample(alloc, text) {
-        Ok(_) => String::from_str(alloc, "no refusal"),
-        Err(end) => said(alloc, end),
-    }
-}
-
-#[derive(PartialEq, Drop)]
-struct Sample {
+/// What stands at the keys of a table.
+#[derive(Debug, Drop)]
+pub struct Sample {
     number: u64,
     text: Short,
     pair: Pair,
@@ -77,7 +57,8 @@ struct Sample {
     spots: Vec<Spot>,
 }
 
-fn read_sample(alloc: Global, text: &[u8]) -> Result<Sample, NotesEnd> {
+/// Reads the keys of a table by each kind of reading.
+pub fn read_sample(alloc: Global, text: &[u8]) -> Result<Sample, NotesEnd> {
     let table = document(alloc, text)?;
     let row = Row {
         prefix: "a.",
@@ -107,123 +88,78 @@ fn read_sample(alloc: Global, text: &[u8]) -> Result<Sample, NotesEnd> {
     })
 }
 
-fn of_length(length: usize) -> Short {
-    Short { length }
-}
+/// All keys.
+const WHOLE: Frame = Frame {
+    reader: Reader::Keys,
+    text: "@",
+    record: "@",
+    no: "",
+};
 
-#[test]
-fn reads_keys(rt: HostRuntime) -> Result<(), Fail> {
-    let alloc = rt.alloc();
-    let least = read_sample(alloc, b"number = 1\ntext = ''\npair = [0, 7]\n");
-    let nothing = Sample {
-        number: 1,
-        text: of_length(0),
-        pair: Pair { n: 0, c: 7 },
-        optional: None,
-        flag: false,
-        texts: Vec::new(alloc),
-        beside: Vec::new(alloc),
-        spots: Vec::new(alloc),
-    };
-    assert!(rt; least == Ok(nothing));
-    let text = b"number = 9\ntext = 'abcd'\npair = [7, 0]\noptional = 'a'\nflag = true\n\
-        texts = ['a', 'bc']\nbeside = ['x', 'ab']\n[[spot]]\nplace = 9\n[[spot]]\nplace = 0\n";
-    let all = Sample {
-        number: 9,
-        text: of_length(4),
-        pair: Pair { n: 7, c: 0 },
-        optional: Some(of_length(1)),
-        flag: true,
-        texts: vec![in alloc; of_length(1), of_length(2)]?,
-        beside: vec![in alloc; of_length(1), of_length(2)]?,
-        spots: vec![in alloc; Spot { place: 9 }, Spot { place: 0 }]?,
-    };
-    assert!(rt; read_sample(alloc, text) == Ok(all));
-    Ok(())
-}
+/// The least that is read, all that may stand there, and faults.
+const KEYS: &str = "\
+number = 1#text = ''#pair = [0, 7]|Sample { number: 1, text: Short { length: 0 }, pair: Pair { n: 0, c: 7 }, optional: None, flag: false, texts: [], beside: [], spots: [] }
+number = 9#text = 'abcd'#pair = [7, 0]#optional = 'a'#flag = true#texts = ['a', 'bc']#beside = ['x', 'ab']#[[spot]]#place = 9#[[spot]]#place = 0|Sample { number: 9, text: Short { length: 4 }, pair: Pair { n: 7, c: 0 }, optional: Some(Short { length: 1 }), flag: true, texts: [Short { length: 1 }, Short { length: 2 }], beside: [Short { length: 1 }, Short { length: 2 }], spots: [Spot { place: 9 }, Spot { place: 0 }] }
+number = |NotToml
+|Missing a.number
+number = '1'|Kind a.number
+number = 0|Range a.number
+number = 10|Range a.number
+number = -1|Range a.number
+number = 1|Missing a.text
+number = 1#text = 1|Kind a.text
+number = 1#text = 'abcde'|Range a.text
+number = 1#text = ''|Missing a.pair
+number = 1#text = ''#pair = 1|Kind a.pair
+number = 1#text = ''#pair = [1]|Range a.pair
+number = 1#text = ''#pair = ['', 1, 2]|Range a.pair
+number = 1#text = ''#pair = [1, '']|Kind a.pair
+number = 1#text = ''#pair = [8, '']|Range a.pair";
 
-/// A text whose first keys read.
-const BASE: &str = "number = 1\ntext = ''\npair = [1, 2]\n";
+/// Keys after the first ones.
+const MORE: Frame = Frame {
+    reader: Reader::Keys,
+    text: "number = 1#\
+        text = ''#\
+        pair = [1, 2]#\
+        @",
+    record: "@",
+    no: "",
+};
 
-#[test]
-fn refuses_keys(rt: HostRuntime) -> Result<(), Fail> {
-    let alloc = rt.alloc();
-    let whole = [
-        ("number = ", "NotToml"),
-        ("", "Missing a.number"),
-        ("number = '1'", "Kind a.number"),
-        ("number = 0", "Range a.number"),
-        ("number = 10", "Range a.number"),
-        ("number = -1", "Range a.number"),
-        ("number = 1", "Missing a.text"),
-        ("number = 1\ntext = 1", "Kind a.text"),
-        ("number = 1\ntext = 'abcde'", "Range a.text"),
-        ("number = 1\ntext = ''", "Missing a.pair"),
-        ("number = 1\ntext = ''\npair = 1", "Kind a.pair"),
-        ("number = 1\ntext = ''\npair = [1]", "Range a.pair"),
-        ("number = 1\ntext = ''\npair = ['', 1, 2]", "Range a.pair"),
-        ("number = 1\ntext = ''\npair = [1, '']", "Kind a.pair"),
-        ("number = 1\ntext = ''\npair = [8, '']", "Range a.pair"),
-    ];
-    for (text, want) in whole {
-        let said = refusal(alloc, text.as_bytes())?;
-        assert_eq!(rt; said.as_str(), want, "at {text}");
-    }
-    assert_eq!(rt; refusal(alloc, b"# \xff")?.as_str(), "NotToml");
-    Ok(())
-}
-
-#[test]
-fn refuses_lists(rt: HostRuntime) -> Result<(), Fail> {
-    let alloc = rt.alloc();
-    let more = [
-        ("optional = 1", "Kind a.optional"),
-        ("optional = 'abcde'", "Range a.optional"),
-        ("flag = 0", "Kind a.flag"),
-        ("texts = ''", "Kind a.texts"),
-        ("texts = [1, 2, 3]", "Range a.texts"),
-        ("texts = ['', 2]", "Kind a.texts"),
-        ("texts = ['abcde', 2]", "Range a.texts"),
-        ("beside = ['a', 'b']", "Range a.beside"),
-        ("beside = ['x', 'x', 'x']", "Range a.beside"),
-        ("beside = ['x', 1]", "Kind a.beside"),
-        ("spot = 1", "Kind a.spot"),
-        ("spot = [1, 2, 3]", "Range a.spot"),
-        ("spot = [{ place = 1 }, 2]", "Kind a.spot[1]"),
-        ("spot = [{ place = 1 }, {}]", "Missing a.spot[1].place"),
-        (
-            "spot = [{ place = 1, zone = 1, b = 1 }]",
-            "Kind a.spot[0].b",
-        ),
-        ("zone = 1\nb = 1", "Kind a.b"),
-    ];
-    for (text, want) in more {
-        let text = format!(in alloc; "{BASE}{text}\n")?;
-        let said = refusal(alloc, text.as_bytes())?;
-        assert_eq!(rt; said.as_str(), want, "at {text}");
-    }
-    Ok(())
-}
+const MORE_KEYS: &str = "\
+optional = 1|Kind a.optional
+optional = 'abcde'|Range a.optional
+flag = 0|Kind a.flag
+texts = ''|Kind a.texts
+texts = [1, 2, 3]|Range a.texts
+texts = ['', 2]|Kind a.texts
+texts = ['abcde', 2]|Range a.texts
+beside = ['a', 'b']|Range a.beside
+beside = ['x', 'x', 'x']|Range a.beside
+beside = ['x', 1]|Kind a.beside
+spot = 1|Kind a.spot
+spot = [1, 2, 3]|Range a.spot
+spot = [{ place = 1 }, 2]|Kind a.spot[1]
+spot = [{ place = 1 }, {}]|Missing a.spot[1].place
+spot = [{ place = 1, zone = 1, b = 1 }]|Kind a.spot[0].b
+zone = 1#b = 1|Kind a.b";
 
 /// Texts with one unknown key, which no path of a key may take for a line of its own.
-const UNKNOWN_KEYS: [(&str, &str); 8] = [
-    ("a-b_9 = 1", "Kind a.a-b_9"),
-    ("'' = 1", "Kind a.\"\""),
-    ("'a.b' = 1", "Kind a.\"a.b\""),
-    ("\"x\\nneutral\" = 1", "Kind a.\"x\\u000aneutral\""),
-    ("\"\\u007f\\u001F\" = 1", "Kind a.\"\\u007f\\u001f\""),
-    ("'\\' = 1", "Kind a.\"\\u005c\""),
-    ("'\"' = 1", "Kind a.\"\\u0022\""),
-    ("'\u{e9} ' = 1", "Kind a.\"\u{e9} \""),
-];
+const UNKNOWN_KEYS: &str = r#"a-b_9 = 1|Kind a.a-b_9
+'' = 1|Kind a.""
+'a.b' = 1|Kind a."a.b"
+"x\nneutral" = 1|Kind a."x\u000aneutral"
+"\u007f\u001F" = 1|Kind a."\u007f\u001f"
+'\' = 1|Kind a."\u005c"
+'"' = 1|Kind a."\u0022"
+'é ' = 1|Kind a."é ""#;
 
 #[test]
-fn tells_unknown_keys(rt: HostRuntime) -> Result<(), Fail> {
+fn tells_keys_of_a_table(rt: HostRuntime) -> Result<(), Fail> {
     let alloc = rt.alloc();
-    for (text, want) in UNKNOWN_KEYS {
-        let text = format!(in alloc; "{BASE}{text}\n")?;
-        let said = refusal(alloc, text.as_bytes())?;
-        assert_eq!(rt; said.as_str(), want, "at {text}");
-    }
-    Ok(())
+    all_hold(&rt, alloc, &WHOLE, KEYS)?;
+    tells(&rt, alloc, Reader::Keys, b"# \xff", "NotToml")?;
+    all_hold(&rt, alloc, &MORE, MORE_KEYS)?;
+    all_hold(&rt, alloc, &MORE, UNKNOWN_KEYS)
 }

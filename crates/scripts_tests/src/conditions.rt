@@ -1,6 +1,7 @@
 //! What is told of scripts by the conditions on them, in their order.
-use crate::driver::{notes_of, tells};
+use crate::tables::{Frame, all_hold, notes_of};
 use std::alloc::{AllocError, Global};
+use std::process::Abort;
 use std::test::Fail;
 
 /// Shapes with pointers of each mark, a shape that isn't well formed, and one of a kilobyte; a static object; a native method.
@@ -18,7 +19,7 @@ signature = [{ name = 's', method = 'M', params = ['n inout:i32'], result = 'sta
 ";
 
 /// What follows `version = 1`, and what is told.
-const CONDITIONS: &str = "args = ['int 9', 'null']|Ok
+const ARGUMENTS: &str = "args = ['int 9', 'null']|Ok
 args = ['int 9', 'ptr 0 1']|Ok
 args = ['int 9', 'ptr 0 2']|Range args
 args = ['int 9', 'ptr 1 0']|Range args
@@ -26,8 +27,17 @@ args = ['int 10', 'null']|Range args
 args = ['int 9']|Range args
 args = ['int 9', 'ptr 1 0']#object = [{ shape = 'A', count = 1 }]|Ok
 args = ['int 9', 'ptr 1 0']#call = [{ signature = 's', args = ['any'], make = [{ shape = 'A', count = 1 }], result = 'any' }]|Range args
-args = ['int 10', 'null']#call = [{ signature = 's', result = 'any' }]|Range args
-call = [{ signature = 's', args = ['any'], result = 'any' }, { signature = 's', args = ['any', 'any'], result = 'any' }]|Range call[1].args
+args = ['int 10', 'null']#call = [{ signature = 's', result = 'any' }]|Range args";
+
+const AFTER_VERSION: Frame = Frame {
+    script: "version = 1#@",
+    record: "@",
+    no: "",
+};
+
+/// What follows arguments that fit, and what is told.
+const CONDITIONS: &str =
+    "call = [{ signature = 's', args = ['any'], result = 'any' }, { signature = 's', args = ['any', 'any'], result = 'any' }]|Range call[1].args
 object = [{ shape = 'A', count = 1, cells = ['1 x int 0'] }]#call = [{ signature = 's', result = 'any' }]|Range call[0].args
 object = [{ shape = 'A', count = 2, cells = ['1 x int 0', '2 x int 0'] }]|Range object[0].cells
 call = [{ signature = 's', args = ['any'], make = [{ shape = 'A', count = 1, cells = ['1 x int 0'] }], write = ['9 0 x null'], result = 'any' }]|Range call[0].make[0].cells
@@ -58,28 +68,46 @@ object = [{ shape = 'K', count = 8192 }]|Range object[0].count
 object = [{ shape = 'K', count = 8000 }, { shape = 'K', count = 192 }]|Range object[1].count
 object = [{ shape = 'K', count = 8000 }]#call = [{ signature = 's', args = ['any'], make = [{ shape = 'K', count = 192 }], result = 'any' }]|Range call[0].make";
 
+const AFTER_ARGUMENTS: Frame = Frame {
+    script: "version = 1#args = ['int 0', 'null']#@",
+    record: "@",
+    no: "",
+};
+
 #[test]
 fn tells_conditions(rt: HostRuntime) -> Result<(), Fail> {
     let alloc = rt.alloc();
     let notes = notes_of(alloc, NOTES)?;
-    for line in CONDITIONS.lines() {
-        let Some((keys, wanted)) = line.split_once('|') else {
-            return Err(Fail::new("a line without an answer"));
-        };
-        let mut text = String::from_str(alloc, "version = 1\n")?;
-        if !keys.starts_with("args") {
-            text.push_str("args = ['int 0', 'null']\n")?;
-        }
-        for key in keys.split('#') {
-            text.push_str(key)?;
-            text.push_str("\n")?;
-        }
-        tells(&rt, alloc, &notes, text.as_str(), wanted)?;
-    }
-    Ok(())
+    all_hold(&rt, alloc, &notes, &AFTER_VERSION, ARGUMENTS)?;
+    all_hold(&rt, alloc, &notes, &AFTER_ARGUMENTS, CONDITIONS)
 }
 
-/// A script whose last line has so many items of one text.
+/// A list whose items are so many of one text, what stands before and after them, and what is told.
+const LIMITS: &str = "\
+object = [|4096|{shape='A',count=1},|]|Ok
+object = [|4097|{shape='A',count=1},|]|Range object[4096].count
+call = [{signature='s',args=['any'],result='any',enter=[|16384|'call',|]}]|Ok
+call = [{signature='s',args=['any'],result='any',enter=[|16385|'call',|]}]|Range call[0].enter
+call = [|16385|{signature='s',args=['any'],result='any'},|]|Range call[16384].signature";
+
+/// A list as a row has it, `BEFORE|COUNT|ITEM|AFTER`, and then `|ANSWER`.
+fn limit_row(alloc: Global, row: &str) -> Result<String, Fail> {
+    let Some((before, rest)) = row.split_once('|') else {
+        return Err(Fail::new("a row without a list"));
+    };
+    let Some((count, rest)) = rest.split_once('|') else {
+        return Err(Fail::new("a row without a count"));
+    };
+    let Some((item, after)) = rest.split_once('|') else {
+        return Err(Fail::new("a row without an item"));
+    };
+    let Ok(count) = count.parse::<usize>() else {
+        return Err(Fail::new("a count that is no number"));
+    };
+    Ok(repeated(alloc, before, count, item, after)?)
+}
+
+/// So many items, with what stands before and after them.
 fn repeated(
     alloc: Global,
     before: &str,
@@ -87,8 +115,7 @@ fn repeated(
     item: &str,
     after: &str,
 ) -> Result<String, AllocError> {
-    let mut text = String::from_str(alloc, "version = 1\nargs = ['int 0', 'null']\n")?;
-    text.push_str(before)?;
+    let mut text = String::from_str(alloc, before)?;
     for _ in 0..count {
         text.push_str(item)?;
     }
@@ -97,44 +124,12 @@ fn repeated(
 }
 
 #[test]
-fn tells_the_limit_of_objects(rt: HostRuntime) -> Result<(), Fail> {
+fn tells_limits(rt: HostRuntime) -> Result<(), Fail> {
     let alloc = rt.alloc();
     let notes = notes_of(alloc, NOTES)?;
-    let item = "{shape='A',count=1},";
-    let most = repeated(alloc, "object = [", 4096, item, "]\n")?;
-    tells(&rt, alloc, &notes, most.as_str(), "Ok")?;
-    let past = repeated(alloc, "object = [", 4097, item, "]\n")?;
-    tells(
-        &rt,
-        alloc,
-        &notes,
-        past.as_str(),
-        "Range object[4096].count",
-    )
-}
-
-#[test]
-fn tells_the_limit_of_callbacks(rt: HostRuntime) -> Result<(), Fail> {
-    let alloc = rt.alloc();
-    let notes = notes_of(alloc, NOTES)?;
-    let before = "call = [{signature='s',args=['any'],result='any',enter=[";
-    let most = repeated(alloc, before, 16_384, "'call',", "]}]\n")?;
-    tells(&rt, alloc, &notes, most.as_str(), "Ok")?;
-    let past = repeated(alloc, before, 16_385, "'call',", "]}]\n")?;
-    tells(&rt, alloc, &notes, past.as_str(), "Range call[0].enter")
-}
-
-#[test]
-fn tells_the_limit_of_calls(rt: HostRuntime) -> Result<(), Fail> {
-    let alloc = rt.alloc();
-    let notes = notes_of(alloc, NOTES)?;
-    let item = "{signature='s',args=['any'],result='any'},";
-    let past = repeated(alloc, "call = [", 16_385, item, "]\n")?;
-    tells(
-        &rt,
-        alloc,
-        &notes,
-        past.as_str(),
-        "Range call[16384].signature",
-    )
+    for row in LIMITS.split('\n') {
+        let row = limit_row(alloc, row)?;
+        all_hold(&rt, alloc, &notes, &AFTER_ARGUMENTS, row.as_str())?;
+    }
+    Ok(())
 }

@@ -1,5 +1,5 @@
-//! Tests of the reader of scripts: the small texts, and whole scripts through all passes. They stand apart from the crates that
-//! they try, since a crate with tests is proved twice.
+//! Tests of the reader of scripts: the small texts, and whole scripts through all passes, as tables of texts. They stand apart
+//! from the crates that they try, since a crate with tests is proved twice.
 #![tactic(auto)]
 
 #[cfg(test)]
@@ -8,5 +8,7 @@ mod conditions;
 mod driver;
 #[cfg(test)]
 mod passes;
+#[cfg(test)]
+mod tables;
 #[cfg(test)]
 mod texts;

@@ -1,5 +1,5 @@
 //! What is told of scripts by the keys, the repeats and the names in them, in the order of the reader's passes.
-use crate::driver::{notes_of, tells};
+use crate::tables::{Frame, all_hold, notes_of};
 use std::test::Fail;
 
 /// A shape with a cell of each kind that matters here, a native method, and a function that the firmware may enter.
@@ -57,16 +57,15 @@ call = [{ signature = 's', make = [{ shape = 'A', count = 1 }], write = ['0 0 y 
 call = [{ signature = 's', write = ['0 0 y null'], result = 'any' }, { signature = 's', make = [{ shape = 'A', count = 1 }], result = 'any' }]|Name call[0].write
 call = [{ signature = 's', write = ['0 0 y null'], result = 'any' }, { signature = 's', make = [{ shape = 'B', count = 1 }], result = 'any' }]|Name call[1].make[0].shape";
 
+const AFTER_VERSION: Frame = Frame {
+    script: "version = 1#@",
+    record: "@",
+    no: "",
+};
+
 #[test]
 fn tells_keys_repeats_and_names(rt: HostRuntime) -> Result<(), Fail> {
     let alloc = rt.alloc();
     let notes = notes_of(alloc, NOTES)?;
-    for line in KEYS.lines() {
-        let Some((keys, wanted)) = line.split_once('|') else {
-            return Err(Fail::new("a line without an answer"));
-        };
-        let text = format!(in alloc; "version = 1\n{keys}\n")?;
-        tells(&rt, alloc, &notes, text.as_str(), wanted)?;
-    }
-    Ok(())
+    all_hold(&rt, alloc, &notes, &AFTER_VERSION, KEYS)
 }

@@ -1,140 +1,196 @@
 //! The small texts: what each stands for, and what is no text of its form.
-use note_texts::FromText;
-use script_draft::{ArgumentText, CallbackText, CellValueText, OutText, ValueText, WriteText};
-use std::alloc::Global;
-use std::process::Abort;
+use crate::tables::{Frame, all_hold, notes_of};
 use std::test::Fail;
 
-/// No text of these, with `;` between each two, is of the form.
-fn refused<T: FromText>(rt: &impl Abort, alloc: Global, texts: &str) -> Result<(), Fail> {
-    for text in texts.split(';') {
-        assert!(rt; T::from_text(alloc, text)?.is_none(), "{text}");
-    }
-    Ok(())
-}
+/// A shape with two fields, a native method, and a function that the firmware may enter.
+const NOTES: &str = "version = 1
+entry = 'main'
+shape = [{ name = 'A', size = [1, 4], fields = ['n 0 0 n', 'x 1 0 i32'] }]
+function = [{ name = 'main', place = 16, end = 32, level = 0, need = [0, 0], result = 'any' },
+ { name = 'tick', place = 32, end = 48, level = 0, need = [0, 0], result = 'any', enter = true }]
+signature = [{ name = 's', method = 'Locate', params = ['n any'], result = 'status' }]
+";
 
-fn is_value(rt: &impl Abort, alloc: Global, text: &str, wanted: ValueText) -> Result<(), Fail> {
-    assert!(rt;
-        ValueText::from_text(alloc, text)? == Some(wanted),
-        "{text}"
-    );
-    Ok(())
-}
+const RESULT: Frame = Frame {
+    script: "version = 1#call = [{ signature = 's', args = ['any'], result = '@' }]",
+    record: "Script { version: 1, args: Sequence { items: [] }, object: Sequence { items: [] }, \
+        call: Sequence { items: [ScriptCall { signature: 0, \
+        args: Sequence { items: [Seen { lent: false, value: Any }] }, enter: Sequence { items: [] }, \
+        make: Sequence { items: [] }, out: Sequence { items: [] }, write: Sequence { items: [] }, result: @ }] } }",
+    no: "Range call[0].result",
+};
+
+const VALUES: &str = "\
+null|Null
+any|Any
+int 0|Int(0)
+int 18446744073709551615|Int(18446744073709551615)
+size 1048576,0|Size { n: 1048576, c: 0 }
+size 0,1048576|Size { n: 0, c: 1048576 }
+ptr 3 12|Ptr { object: 3, instance: 12 }
+status ok 0|StatusOk(0)
+status ok 2147483647|StatusOk(2147483647)
+status error 14|StatusError(14)
+status error 2147483647|StatusError(2147483647)
+handle 0|Handle(0)
+handle 1023|Handle(1023)
+entry tick|Entry(1)
+method Locate|Method(0)
+|no
+int|no
+int |no
+int 01|no
+int -1|no
+int 1 |no
+ int 1|no
+int  1|no
+int 18446744073709551616|no
+Int 1|no
+any |no
+null 0|no
+nul|no
+size 1|no
+size 1, 2|no
+size 1048577,0|no
+size 0,1048577|no
+ptr 1|no
+ptr 1 2 3|no
+ptr 1,2|no
+status 1|no
+status ok|no
+status ok -1|no
+status ok 2147483648|no
+status error 2147483648|no
+status bad 1|no
+handle 1024|no
+handle|no
+entry|no
+entry 9|no
+entry a b|no
+method|no
+method a-b|no
+out|no
+lent int 1|no
+wild 0000000000000001|no";
+
+const ARGUMENT: Frame = Frame {
+    script: "version = 1#call = [{ signature = 's', args = ['@'], result = 'any' }]",
+    record: "Script { version: 1, args: Sequence { items: [] }, object: Sequence { items: [] }, \
+        call: Sequence { items: [ScriptCall { signature: 0, \
+        args: Sequence { items: [Seen { @ }] }, enter: Sequence { items: [] }, \
+        make: Sequence { items: [] }, out: Sequence { items: [] }, write: Sequence { items: [] }, result: Any }] } }",
+    no: "Range call[0].args",
+};
+
+const ARGUMENTS: &str = "\
+out|lent: false, value: Out
+null|lent: false, value: Null
+lent null|lent: true, value: Null
+lent method Locate|lent: true, value: Method(0)
+|no
+out |no
+out 1|no
+lent|no
+lent |no
+lent out|no
+lent lent int 1|no
+lent int|no
+Out|no
+wild 0000000000000001|no";
+
+const ENTER: Frame = Frame {
+    script: "version = 1#call = [{ signature = 's', args = ['any'], enter = ['@'], result = 'any' }]",
+    record: "Script { version: 1, args: Sequence { items: [] }, object: Sequence { items: [] }, \
+        call: Sequence { items: [ScriptCall { signature: 0, \
+        args: Sequence { items: [Seen { lent: false, value: Any }] }, \
+        enter: Sequence { items: [Callback { function: 1, values: Sequence { items: [@] } }] }, \
+        make: Sequence { items: [] }, out: Sequence { items: [] }, write: Sequence { items: [] }, result: Any }] } }",
+    no: "Range call[0].enter",
+};
+
+const CALLBACKS: &str = "\
+tick|
+tick int 1|Int(1)
+tick int 1, size 2,3, null|Int(1), Size { n: 2, c: 3 }, Null
+|no
+9|no
+tick |no
+tick int 1,|no
+tick int 1, |no
+tick int 1,null|no
+tick , null|no
+tick int 1,  null|no
+tick out|no";
+
+const OUT: Frame = Frame {
+    script: "version = 1#call = [{ signature = 's', args = ['any'], out = ['@'], result = 'any' }]",
+    record: "Script { version: 1, args: Sequence { items: [] }, object: Sequence { items: [] }, \
+        call: Sequence { items: [ScriptCall { signature: 0, \
+        args: Sequence { items: [Seen { lent: false, value: Any }] }, enter: Sequence { items: [] }, \
+        make: Sequence { items: [] }, out: Sequence { items: [OutValue { @ }] }, write: Sequence { items: [] }, result: Any }] } }",
+    no: "Range call[0].out",
+};
+
+const OUTS: &str = "\
+2 null|argument: 2, value: Null
+18446744073709551615 ptr 1 2|argument: 18446744073709551615, value: Ptr { object: 1, instance: 2 }
+|no
+0|no
+0 |no
+a null|no
+0 0 null|no
+0 out|no";
+
+const CELL: Frame = Frame {
+    script: "version = 1#object = [{ shape = 'A', count = 9, cells = ['@'] }]",
+    record: "Script { version: 1, args: Sequence { items: [] }, \
+        object: Sequence { items: [ScriptObject { shape: 0, count: 9, cells: Sequence { items: [CellValue { @ }] } }] }, \
+        call: Sequence { items: [] } }",
+    no: "Range object[0].cells",
+};
+
+const CELLS: &str = "\
+7 x int 9|instance: 7, field: 1, value: Int(9)
+0 n int 0|instance: 0, field: 0, value: Int(0)
+|no
+0|no
+0 x|no
+0 x |no
+x 0 int 9|no
+01 x int 9|no
+-1 x int 9|no
+0 9 int 9|no
+0 x out|no";
+
+const WRITE: Frame = Frame {
+    script: "version = 1#object = [{ shape = 'A', count = 9 }]#\
+        call = [{ signature = 's', args = ['any'], write = ['@'], result = 'any' }]",
+    record: "Script { version: 1, args: Sequence { items: [] }, \
+        object: Sequence { items: [ScriptObject { shape: 0, count: 9, cells: Sequence { items: [] } }] }, \
+        call: Sequence { items: [ScriptCall { signature: 0, \
+        args: Sequence { items: [Seen { lent: false, value: Any }] }, enter: Sequence { items: [] }, \
+        make: Sequence { items: [] }, out: Sequence { items: [] }, write: Sequence { items: [WriteValue { @ }] }, result: Any }] } }",
+    no: "Range call[0].write",
+};
+
+const WRITES: &str = "\
+0 7 x int 9|object: 0, instance: 7, field: 1, value: Int(9)
+0 8 n handle 3|object: 0, instance: 8, field: 0, value: Handle(3)
+|no
+0|no
+0 0 x|no
+0 x null|no
+0 0 9 null|no
+0 0 x lent null|no";
 
 #[test]
-fn values(rt: HostRuntime) -> Result<(), Fail> {
+fn reads_texts(rt: HostRuntime) -> Result<(), Fail> {
     let alloc = rt.alloc();
-    is_value(&rt, alloc, "null", ValueText::Null)?;
-    is_value(&rt, alloc, "any", ValueText::Any)?;
-    is_value(&rt, alloc, "int 0", ValueText::Int(0))?;
-    is_value(
-        &rt,
-        alloc,
-        "int 18446744073709551615",
-        ValueText::Int(u64::MAX),
-    )?;
-    is_value(
-        &rt,
-        alloc,
-        "size 1048576,0",
-        ValueText::Size { n: 1 << 20, c: 0 },
-    )?;
-    let instance = ValueText::Ptr {
-        object: 3,
-        instance: 12,
-    };
-    is_value(&rt, alloc, "ptr 3 12", instance)?;
-    is_value(
-        &rt,
-        alloc,
-        "status ok 2147483647",
-        ValueText::StatusOk((1 << 31) - 1),
-    )?;
-    is_value(&rt, alloc, "status error 14", ValueText::StatusError(14))?;
-    is_value(&rt, alloc, "handle 1023", ValueText::Handle(1023))
-}
-
-#[test]
-fn values_with_names(rt: HostRuntime) -> Result<(), Fail> {
-    let alloc = rt.alloc();
-    let entry = ValueText::from_text(alloc, "entry tick")?;
-    assert!(rt; matches!(&entry, Some(ValueText::Entry(name)) if name.as_str() == "tick"));
-    let method = ValueText::from_text(alloc, "method Locate")?;
-    assert!(rt; matches!(&method, Some(ValueText::Method(name)) if name.as_str() == "Locate"));
-    Ok(())
-}
-
-const NO_VALUES: &str =
-    ";int;int ;int 01;int -1;int 1 ; int 1;int  1;int 18446744073709551616;Int 1;any ;null 0;nul;size 1;size 1, 2;\
-    size 1048577,0;size 0,1048577;ptr 1;ptr 1 2 3;ptr 1,2;status 1;status ok;status ok -1;status ok 2147483648;status error 2147483648;\
-    status bad 1;handle 1024;handle;entry;entry 9;entry a b;method;method a-b;out;lent int 1;wild 0000000000000001";
-
-#[test]
-fn no_values(rt: HostRuntime) -> Result<(), Fail> {
-    refused::<ValueText>(&rt, rt.alloc(), NO_VALUES)
-}
-
-#[test]
-fn arguments(rt: HostRuntime) -> Result<(), Fail> {
-    let alloc = rt.alloc();
-    assert!(rt; ArgumentText::from_text(alloc, "out")? == Some(ArgumentText::Out));
-    let lent = ArgumentText::Lent(ValueText::Null);
-    assert!(rt; ArgumentText::from_text(alloc, "lent null")? == Some(lent));
-    let given = ArgumentText::Given(ValueText::Null);
-    assert!(rt; ArgumentText::from_text(alloc, "null")? == Some(given));
-    refused::<ArgumentText>(
-        &rt,
-        alloc,
-        ";out ;out 1;lent;lent ;lent out;lent lent int 1;lent int;Out;wild 0000000000000001",
-    )
-}
-
-#[test]
-fn callbacks(rt: HostRuntime) -> Result<(), Fail> {
-    let alloc = rt.alloc();
-    let alone = CallbackText::from_text(alloc, "tick")?;
-    assert!(rt; matches!(&alone, Some(b) if b.function.as_str() == "tick" && b.values.is_empty()));
-    let Some(many) = CallbackText::from_text(alloc, "tick int 1, size 2,3, null")? else {
-        return Err(Fail::new("three values"));
-    };
-    let [number, size, null] = many.values.as_slice() else {
-        return Err(Fail::new("three values"));
-    };
-    assert!(rt; *number == ValueText::Int(1));
-    assert!(rt; *size == ValueText::Size { n: 2, c: 3 });
-    assert!(rt; *null == ValueText::Null);
-    refused::<CallbackText>(
-        &rt,
-        alloc,
-        ";9;tick ;tick int 1,;tick int 1, ;tick int 1,null;tick , null;tick int 1,  null;tick out",
-    )
-}
-
-#[test]
-fn cells(rt: HostRuntime) -> Result<(), Fail> {
-    let alloc = rt.alloc();
-    let Some(cell) = CellValueText::from_text(alloc, "7 count int 9")? else {
-        return Err(Fail::new("a cell"));
-    };
-    assert_eq!(rt; (cell.instance, cell.field.as_str()), (7, "count"));
-    assert!(rt; cell.value == ValueText::Int(9));
-    let Some(write) = WriteText::from_text(alloc, "5 7 count int 9")? else {
-        return Err(Fail::new("a write"));
-    };
-    assert_eq!(rt;
-        (write.object, write.instance, write.field.as_str()),
-        (5, 7, "count")
-    );
-    assert!(rt; write.value == ValueText::Int(9));
-    let Some(out) = OutText::from_text(alloc, "2 null")? else {
-        return Err(Fail::new("an out"));
-    };
-    assert!(rt; out.argument == 2 && out.value == ValueText::Null);
-    refused::<CellValueText>(
-        &rt,
-        alloc,
-        ";0;0 a;0 a ;a 0 null;01 a null;-1 a null;0 9 null;0 a out",
-    )?;
-    refused::<WriteText>(&rt, alloc, ";0;0 0 a;0 a null;0 0 9 null;0 0 a lent null")?;
-    refused::<OutText>(&rt, alloc, ";0;0 ;a null;0 0 null;0 out")
+    let notes = notes_of(alloc, NOTES)?;
+    all_hold(&rt, alloc, &notes, &RESULT, VALUES)?;
+    all_hold(&rt, alloc, &notes, &ARGUMENT, ARGUMENTS)?;
+    all_hold(&rt, alloc, &notes, &ENTER, CALLBACKS)?;
+    all_hold(&rt, alloc, &notes, &OUT, OUTS)?;
+    all_hold(&rt, alloc, &notes, &CELL, CELLS)?;
+    all_hold(&rt, alloc, &notes, &WRITE, WRITES)
 }
