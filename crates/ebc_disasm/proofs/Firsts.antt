@@ -1,12 +1,12 @@
 -- The first of ascending places that passes a test tells of all of them.
-use Rattle.std.proofs.Common.{◌≡◌, ℕ, ◌+◌, ◌<◌, ◌≤◌, suc, Bool, true, false, cond, List, [], ◌∷◌, length, get_or, Option, Some, None, refl, ap, sym, subst, ◌∙◌, ⊎_elim, arith, drop, drop-cons, add-one}
+use Rattle.std.proofs.Common.{◌≡◌, ℕ, ◌+◌, ◌<◌, ◌≤◌, suc, Bool, true, false, cond, List, [], ◌∷◌, length, get_or, Some, None, refl, ap, sym, subst, ◌∙◌, ⊎_elim, arith, drop, drop-cons, add-one}
 use Rattle.std.specs.Prelude.{◌&&◌, ◌||◌, not, is_some, nat_eq, nat_lt}
 use Rattle.std.specs.List.{All, AllPairs, find, list_all, list_any}
 use Rattle.std.proofs.lemmas.Bool.{cases_Bool, or_parts}
 use Rattle.std.proofs.lemmas.Bool.Decides.{nat_tests}
 use Rattle.std.proofs.lemmas.List.Elements.{All-head, All-tail}
 use Rattle.std.proofs.lemmas.List.Folds.{list_any_none}
-use Rattle.ebc_disasm.specs.Walks.{is_at, is_before, passes_before, reaches}
+use Rattle.ebc_disasm.specs.Walks.{is_at, is_before, passes_before}
 
 -- the first that passes one of two tests that agree
 pub find-same : {X : Type 0} (p q : X → Bool) → ((x : X) → p x ≡ q x) → (xs : List X) → find p xs ≡ find q xs

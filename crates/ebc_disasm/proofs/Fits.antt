@@ -1,13 +1,12 @@
 -- A label in place of an immediate may stand in a listing.
 use Rattle.std.proofs.Common.{◌≡◌, ℕ, ◌-◌, ◌^◌, ◌<◌, Bool, true, false, List, [], ◌∷◌, Option, None, refl, ap, sym, subst, ◌∙◌, arith, Some}
-use Rattle.std.specs.Prelude.{◌&&◌, ◌||◌, not, pos, nat_eq}
+use Rattle.std.specs.Prelude.{◌&&◌, ◌||◌, not, pos}
 use Rattle.std.proofs.lemmas.Bool.Decides.{nat_tests}
 use Rattle.ebc_insn.specs.declared.Insn.{Insn}
 use Rattle.ebc_insn.specs.declared.Insn.TheVariants as insns
 use Rattle.ebc_insn.specs.declared.Operand.{Operand}
 use Rattle.ebc_insn.specs.declared.Extra.{Extra}
 use Rattle.ebc_insn.specs.declared.Extra.TheVariants.{Idx, Imm, Nothing}
-use Rattle.ebc_insn.specs.declared.Size.{Size}
 use Rattle.ebc_insn.specs.declared.Size.TheVariants as sizes
 use Rattle.ebc_insn.specs.Spelling.{TargetFits, WellFormed}
 use Rattle.asm_text.specs.Instructions.{TakesName}

@@ -1,16 +1,15 @@
 -- What the first relocation that reaches behind a place, and the first label behind it, tell of what is listed there.
-use Rattle.std.proofs.Common.{◌≡◌, ℕ, ◌+◌, ◌<◌, ◌≤◌, Bool, true, false, cond, List, Option, Some, None, refl, ap, sym, ◌∙◌, ⊎_elim, arith, Ok}
+use Rattle.std.proofs.Common.{◌≡◌, ℕ, ◌+◌, ◌<◌, ◌≤◌, Bool, true, false, List, Option, Some, None, refl, ap, sym, ◌∙◌, ⊎_elim, arith, Ok}
 use Rattle.std.specs.Prelude.{◌&&◌, ◌||◌, not, is_some, nat_eq, nat_lt, option_map, if◌then◌else◌}
-use Rattle.std.specs.List.{AllPairs, find, list_all, list_any}
+use Rattle.std.specs.List.{AllPairs, list_all, list_any}
 use Rattle.std.specs.Option.{option_and_then}
 use Rattle.std.proofs.lemmas.Bool.{cases_Bool}
 use Rattle.std.proofs.lemmas.Bool.Decides.{nat_tests}
 use Rattle.ebc_insn.specs.declared.Insn.{Insn}
 use Rattle.pe_image.specs.declared.image.Image.{Image}
 use Rattle.pe_image.specs.Images.{IsBelow, IsImage}
-use Rattle.asm_text.specs.declared.listing.Listed.{Listed}
 use Rattle.ebc_disasm.specs.declared.items.Spot.{Spot}
-use Rattle.ebc_disasm.specs.Listings.{if_whole, is_cut, is_of_immediate, is_whole, label_before, lies_on, named, takes_label, with_label}
+use Rattle.ebc_disasm.specs.Listings.{if_whole, is_of_immediate, is_whole, label_before, lies_on, named, takes_label, with_label}
 use Rattle.ebc_disasm.specs.Walks.{IsSpot, is_at, is_before, label_in, labelled, passes_before, reaches}
 use Rattle.ebc_disasm.proofs.Firsts.{find-none, find-other, first_at, first_before, first_passes}
 

@@ -1,11 +1,10 @@
 -- The listing of an image, as lines: docs/ASSEMBLY.md, "Listings". A place is an offset from the image's base.
-use Rattle.std.specs.Prelude.{ℕ, zero, suc, ◌+◌, ◌-◌, ◌*◌, ◌/◌, ◌%◌, Bool, true, false, not, ◌&&◌, ◌||◌, List, [], ◌∷◌, ◌++◌, length, Option, Some, None, is_some, option_map, Result, Ok, Err, nat_eq, nat_le, nat_lt, if◌then◌else◌, pos}
+use Rattle.std.specs.Prelude.{ℕ, zero, suc, ◌+◌, ◌-◌, ◌*◌, ◌/◌, ◌%◌, Bool, false, not, ◌&&◌, ◌||◌, List, [], ◌∷◌, ◌++◌, length, Option, Some, None, is_some, option_map, Result, Ok, Err, nat_eq, nat_le, nat_lt, if◌then◌else◌, pos}
 use Rattle.std.specs.List.{list_any, list_all, find, filter_map, flat_map}
 use Rattle.std.specs.Option.{option_and_then, option_or, unwrap_or}
 use Rattle.ebc_width.specs.Bytes.{little_endian}
 use Rattle.ebc_insn.specs.declared.Insn.{Insn}
 use Rattle.ebc_insn.specs.declared.Insn.TheVariants as insns
-use Rattle.ebc_insn.specs.declared.Size.{Size}
 use Rattle.ebc_insn.specs.declared.Size.TheVariants as sizes
 use Rattle.ebc_insn.specs.declared.Extra.TheVariants.{Imm}
 use Rattle.ebc_decode.specs.declared.DecodeFault.{DecodeFault}

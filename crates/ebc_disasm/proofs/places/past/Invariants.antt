@@ -1,4 +1,4 @@
-use Rattle.std.proofs.Common.{◌≡◌, drop}
+use Rattle.std.proofs.Common.{drop}
 use Rattle.ebc_disasm.specs.Walks.{IsLeft}
 use Rattle.ebc_disasm.proofs.places.past.Given as goal
 
