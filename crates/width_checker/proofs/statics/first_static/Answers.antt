@@ -15,8 +15,7 @@ pub returns-then-not-static_holds-clause-some : goal.returns-then-not-static_hol
 unfolding at_none
 returns-then-not-static_holds-clause-some c =
     let within : c.loop-number.number < length c.args.statics.now = c.loop-number-test.true in
-    let x : Static = get_or c.args.statics.now c.loop-number.number at_none in
-    (
+    let x : Static = get_or c.args.statics.now c.loop-number.number at_none in (
       within,
       first_of_statics c.args.image.now c.args.notes.now c.loop-number.number
           (subst (λ (ts : List Static). IsFirstFailing (HoldsOf (StaticFits c.args.image.now c.args.notes.now) ts) c.loop-number.number) c.requires.statics
