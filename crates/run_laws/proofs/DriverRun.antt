@@ -9,11 +9,11 @@ use Rattle.note_types.specs.declared.value.Value.TheVariants as value
 use Rattle.run_types.specs.NeutralRuns.{neutral_start}
 use Rattle.run_types.specs.Objects.{placed_objects}
 use Rattle.run_types.specs.Placements.{own_placement}
+use Rattle.run_types.specs.Scripts.{room_of}
 use Rattle.whole_runs.specs.NeutralImage.{static_cells}
 use Rattle.whole_runs.specs.Runs.{SameRun, run_of}
 use Rattle.whole_runs.proofs.Computing.{runs_compute}
 use Rattle.whole_runs.proofs.Programs.{driver_image}
-use Rattle.run_laws.specs.OwnPlacement.{room_of}
 use Rattle.run_laws.specs.Met.{PremisesAreMet}
 use Rattle.run_laws.specs.RunLaw.{RunsWell}
 use Rattle.run_laws.proofs.DriverImage.{driver_bytes, driver_is_run}
