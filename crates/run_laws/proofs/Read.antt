@@ -9,12 +9,15 @@ use Rattle.host_laws.proofs.ScriptGives.{calls_are_given, objects_are_given, sta
 use Rattle.note_types.specs.declared.notes.Notes.{Notes}
 use Rattle.note_types.specs.declared.script.Script.{Script}
 use Rattle.note_types.specs.declared.script.ScriptObject.{ScriptObject}
+use Rattle.pe_image.specs.declared.image.Image.{Image}
 use Rattle.run_types.specs.Objects.{objects_of, placed_objects}
 use Rattle.run_types.specs.Placements.{own_placement}
 use Rattle.run_types.specs.Scripts.{IsScript, have_room, room_of}
+use Rattle.run_types.specs.World.{World}
 use Rattle.run_types.proofs.Lists.{take-all, within_some}
 use Rattle.whole_runs.specs.NeutralImage.{static_cells}
-use Rattle.run_laws.specs.ReadLaw.{ReadIsPlaced, ReadIsRun, ReadIsRunAt, ReadRunsAreSame, ReadStarts}
+use Rattle.run_laws.specs.ReadLaw.{IsReadWorld, ReadIsPlaced, ReadIsRun, ReadIsRunAt, ReadRunsAreSame, ReadStarts}
+use Rattle.run_laws.specs.RunLaw.{RunGoesWell, RunsWell}
 use Rattle.run_laws.proofs.OwnPlacement.{own_placement_is_valid}
 use Rattle.run_laws.proofs.Runs.{runs_are_same}
 
@@ -69,12 +72,9 @@ read_starts w image world r = start_is_given w world (static_cells world image) 
 
 -- ---- what follows
 
+pub read_runs_well : (w : ℕ) (image : Image) (world : World) → IsWidth w → IsReadWorld image world → RunGoesWell w image world → RunsWell w image world (own_placement w world)
+read_runs_well w image world h r well = record { at = read_is_run_at w image world (own_placement w world) h r (read_is_placed w image world h r); start = read_starts w image world r; steps = well }
+
 pub read_runs_are_same : ReadRunsAreSame
 read_runs_are_same image world r four eight =
-    let at4 : IsWidth 4 = inl refl in
-    let at8 : IsWidth 8 = inr refl in
-    let P = own_placement 4 world in
-    let Q = own_placement 8 world in
-    runs_are_same image world P Q
-    (record { at = read_is_run_at 4 image world P at4 r (read_is_placed 4 image world at4 r); start = read_starts 4 image world r; steps = four })
-    (record { at = read_is_run_at 8 image world Q at8 r (read_is_placed 8 image world at8 r); start = read_starts 8 image world r; steps = eight })
+    runs_are_same image world (own_placement 4 world) (own_placement 8 world) (read_runs_well 4 image world (inl refl) r four) (read_runs_well 8 image world (inr refl) r eight)
