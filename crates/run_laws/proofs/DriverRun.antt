@@ -17,7 +17,7 @@ use Rattle.run_laws.proofs.DriverImage.{driver_bytes, driver_functions, driver_i
 use Rattle.run_laws.proofs.DriverNotes.{driver_named, driver_notes_meet}
 use Rattle.run_laws.proofs.DriverScript.{driver_script_meets}
 use Rattle.run_laws.proofs.GoingWell.{reached, run_goes_well, run_test}
-use Rattle.run_laws.proofs.Read.{read_runs_well}
+use Rattle.run_laws.proofs.Read.{read_is_placed, read_runs_well}
 use Rattle.run_laws.proofs.Runs.{runs_are_same}
 
 -- ---- what was read
@@ -46,10 +46,10 @@ unfolding runs_compute run_test
 goes8 = refl
 
 well4 : RunsWell 4 driver_image driver_named (own_placement 4 driver_named)
-well4 = read_runs_well 4 driver_image driver_named (inl refl) driver_is_read (run_goes_well 4 driver_image driver_named driver_bytes refl (32, goes4))
+well4 = read_runs_well 4 driver_image driver_named (own_placement 4 driver_named) (inl refl) driver_is_read (read_is_placed 4 driver_image driver_named (inl refl) driver_is_read) (run_goes_well 4 driver_image driver_named driver_bytes refl (32, goes4))
 
 well8 : RunsWell 8 driver_image driver_named (own_placement 8 driver_named)
-well8 = read_runs_well 8 driver_image driver_named (inr refl) driver_is_read (run_goes_well 8 driver_image driver_named driver_bytes refl (32, goes8))
+well8 = read_runs_well 8 driver_image driver_named (own_placement 8 driver_named) (inr refl) driver_is_read (read_is_placed 8 driver_image driver_named (inr refl) driver_is_read) (run_goes_well 8 driver_image driver_named driver_bytes refl (32, goes8))
 
 -- ---- what follows
 

@@ -11,12 +11,12 @@ use Rattle.note_types.specs.declared.script.Script.{Script}
 use Rattle.note_types.specs.declared.script.ScriptObject.{ScriptObject}
 use Rattle.pe_image.specs.declared.image.Image.{Image}
 use Rattle.run_types.specs.Objects.{objects_of, placed_objects}
-use Rattle.run_types.specs.Placements.{own_placement}
+use Rattle.run_types.specs.Placements.{Placement, IsPlacement, own_placement}
 use Rattle.run_types.specs.Scripts.{IsScript, have_room, room_of}
 use Rattle.run_types.specs.World.{World}
 use Rattle.run_types.proofs.Lists.{take-all, within_some}
 use Rattle.whole_runs.specs.NeutralImage.{static_cells}
-use Rattle.run_laws.specs.ReadLaw.{IsReadWorld, ReadIsPlaced, ReadIsRun, ReadIsRunAt, ReadRunsAreSame, ReadStarts}
+use Rattle.run_laws.specs.ReadLaw.{IsReadWorld, ReadIsPlaced, ReadIsRun, ReadIsRunAt, ReadRunsAreSame, OwnRunsAreSame, ReadStarts}
 use Rattle.run_laws.specs.RunLaw.{RunGoesWell, RunsWell}
 use Rattle.run_laws.proofs.OwnPlacement.{own_placement_is_valid}
 use Rattle.run_laws.proofs.Runs.{runs_are_same}
@@ -72,9 +72,11 @@ read_starts w image world r = start_is_given w world (static_cells world image) 
 
 -- ---- what follows
 
-pub read_runs_well : (w : ℕ) (image : Image) (world : World) → IsWidth w → IsReadWorld image world → RunGoesWell w image world → RunsWell w image world (own_placement w world)
-read_runs_well w image world h r well = record { at = read_is_run_at w image world (own_placement w world) h r (read_is_placed w image world h r); start = read_starts w image world r; steps = well }
+pub read_runs_well : (w : ℕ) (image : Image) (world : World) (P : Placement) → IsWidth w → IsReadWorld image world → IsPlacement w world P → RunGoesWell w image world → RunsWell w image world P
+read_runs_well w image world P h r p well = record { at = read_is_run_at w image world P h r p; start = read_starts w image world r; steps = well }
 
 pub read_runs_are_same : ReadRunsAreSame
-read_runs_are_same image world r four eight =
-    runs_are_same image world (own_placement 4 world) (own_placement 8 world) (read_runs_well 4 image world (inl refl) r four) (read_runs_well 8 image world (inr refl) r eight)
+read_runs_are_same image world P Q r four eight p q = runs_are_same image world P Q (read_runs_well 4 image world P (inl refl) r p four) (read_runs_well 8 image world Q (inr refl) r q eight)
+
+pub own_runs_are_same : OwnRunsAreSame
+own_runs_are_same image world r four eight = read_runs_are_same image world (own_placement 4 world) (own_placement 8 world) r four eight (read_is_placed 4 image world (inl refl) r) (read_is_placed 8 image world (inr refl) r)

@@ -10,7 +10,8 @@ use Rattle.whole_runs.specs.Runs.{SameRun, run_of}
 use Rattle.run_laws.specs.ReadLaw.{IsReadWorld}
 use Rattle.run_laws.specs.RunLaw.{RunsWell}
 
--- It was read, and all premises hold at both widths; so after every number of steps the two runs are the same, and they finish.
+-- They are such as readers give, and all premises hold at both widths; so after every number of steps the two runs are the same,
+-- and they finish.
 pub record GoesWellToEnd (image : Image) (world : World) : Type 0 where
   pub read : IsReadWorld image world
   pub at4 : RunsWell 4 image world (own_placement 4 world)

@@ -59,10 +59,18 @@ ReadIsRunAt =
 abbrev pub ReadStarts : Type 0
 ReadStarts = (w : ℕ) (image : Image) (world : World) → IsReadWorld image world → StartGiven w world (static_cells world image)
 
--- Where each step of the neutral machine goes well at both widths, the runs at 4 and at 8 bytes, each under the placement that
--- this project takes, are the same after each number of steps that the neutral machine does.
+-- the runs at 4 and at 8 bytes, each under a placement, are the same after each number of steps that the neutral machine does
+abbrev pub AreSame : Image → World → Placement → Placement → Type 0
+AreSame image world P Q = (k : ℕ) (a : Config) → config_after world image k ≡ Some a → SameRun world P (run_of 4 world P image k) Q (run_of 8 world Q image k)
+
+-- They are, where each of these steps goes well at both widths, under all valid placements,
 abbrev pub ReadRunsAreSame : Type 0
 ReadRunsAreSame =
+    (image : Image) (world : World) (P Q : Placement) → IsReadWorld image world → RunGoesWell 4 image world → RunGoesWell 8 image world
+    → IsPlacement 4 world P → IsPlacement 8 world Q → AreSame image world P Q
+
+-- and so under those that this project takes.
+abbrev pub OwnRunsAreSame : Type 0
+OwnRunsAreSame =
     (image : Image) (world : World) → IsReadWorld image world → RunGoesWell 4 image world → RunGoesWell 8 image world
-    → (k : ℕ) (a : Config) → config_after world image k ≡ Some a
-    → SameRun world (own_placement 4 world) (run_of 4 world (own_placement 4 world) image k) (own_placement 8 world) (run_of 8 world (own_placement 8 world) image k)
+    → AreSame image world (own_placement 4 world) (own_placement 8 world)

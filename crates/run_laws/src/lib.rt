@@ -6,7 +6,7 @@
 ghost use Rattle.run_laws.specs.Met.{PremisesAreMet};
 ghost use Rattle.run_laws.specs.OwnPlacement.{OwnPlacementIsValid};
 ghost use Rattle.run_laws.specs.Premises.{ReadIsDecoded, StaticsAreShown, ThunksAreLoaded};
-ghost use Rattle.run_laws.specs.ReadLaw.{ReadIsPlaced, ReadIsRun, ReadIsRunAt, ReadRunsAreSame, ReadStarts};
+ghost use Rattle.run_laws.specs.ReadLaw.{OwnRunsAreSame, ReadIsPlaced, ReadIsRun, ReadIsRunAt, ReadRunsAreSame, ReadStarts};
 ghost use Rattle.run_laws.specs.RunLaw.{RunStands, RunsAreSame};
 ghost use Rattle.run_laws.specs.StepLaw.{RunStepKeepsStanding};
 
@@ -59,10 +59,11 @@ pub fn what_is_read_is_given()
     ensures start { ReadStarts }
 {}
 
-/// The runs of such a world under this project's own placements at 4 and at 8 bytes are the same after each number of steps that
-/// the neutral machine does, where each of these goes well.
+/// The runs of such a world at 4 and at 8 bytes are the same after each number of steps that the neutral machine does, where each
+/// of these goes well: under all valid placements, and so under those that this project takes.
 pub fn read_runs_are_same()
-    ensures { ReadRunsAreSame }
+    ensures placed { ReadRunsAreSame }
+    ensures own { OwnRunsAreSame }
 {}
 
 /// All that these laws ask holds of one image with its notes and its script, at both widths: of the driver of docs/NOTES.md. Its
