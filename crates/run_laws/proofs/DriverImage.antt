@@ -15,9 +15,8 @@ use Rattle.pe_image.specs.Images.{EndsBefore, IsImage, IsSection}
 use Rattle.pe_image.specs.Mapped.{AreBytes, laid}
 use Rattle.pe_image.specs.declared.image.Section.{Section}
 use Rattle.rules_data.specs.Images.{AreApart, FunctionHolds, ShapeHolds, IsEven, IsFunction, IsThunk, ThunkHolds, image_byte}
-use Rattle.run_types.specs.Objects.{placed_objects}
 use Rattle.whole_runs.proofs.Programs.{driver_image}
-use Rattle.run_laws.proofs.DriverNotes.{driver_named, driver_notes_meet, main, tick}
+use Rattle.run_laws.proofs.DriverNotes.{driver_named, main, tick}
 use Rattle.pe_image.proofs.Held.{IsBytes, laid_byte}
 use Rattle.run_laws.proofs.Items.{all_items, all_pairs, each_item, passing}
 

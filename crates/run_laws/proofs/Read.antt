@@ -1,7 +1,7 @@
 -- A world that was read meets what the laws of runs ask of it, so that its runs at both widths are the same where each step goes
 -- well.
-use Rattle.std.proofs.Common.{◌≡◌, ℕ, zero, suc, ◌+◌, ◌^◌, ◌<◌, ◌≤◌, true, List, [], length, take, refl, sym, ap, ◌∙◌, subst, arith, inl, inr, nat_le}
-use Rattle.std.specs.List.{flat_map, sum_by}
+use Rattle.std.proofs.Common.{◌≡◌, ℕ, zero, suc, ◌+◌, ◌^◌, ◌≤◌, true, List, length, take, refl, sym, subst, arith, inl, inr, nat_le}
+use Rattle.std.specs.List.{sum_by}
 use Rattle.std.proofs.lemmas.Bool.{and_parts, leb-true}
 use Rattle.std.proofs.lemmas.List.{append-nil, nil_from_length}
 use Rattle.ebc_width.specs.Width.{IsWidth}
@@ -10,7 +10,7 @@ use Rattle.note_types.specs.declared.notes.Notes.{Notes}
 use Rattle.note_types.specs.declared.script.Script.{Script}
 use Rattle.note_types.specs.declared.script.ScriptObject.{ScriptObject}
 use Rattle.pe_image.specs.declared.image.Image.{Image}
-use Rattle.run_types.specs.Objects.{objects_of, placed_objects}
+use Rattle.run_types.specs.Objects.{placed_objects}
 use Rattle.run_types.specs.Placements.{Placement, IsPlacement, own_placement}
 use Rattle.run_types.specs.Scripts.{IsScript, have_room, room_of}
 use Rattle.run_types.specs.World.{World}
