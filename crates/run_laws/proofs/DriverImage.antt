@@ -5,8 +5,6 @@ use Rattle.std.specs.List.{AllByRecursion, list_all}
 use Rattle.std.proofs.lemmas.Bool.{and_parts, leb-true, ltb-true}
 use Rattle.ebc_width.specs.Bytes.{little_endian}
 use Rattle.std.proofs.lemmas.Option.{same_Some, none-some}
-use Rattle.instruction_laws.specs.Premises.{IsObjectNote, IsRunOf}
-use Rattle.note_types.specs.Records.{Each}
 use Rattle.note_types.specs.Shapes.{AreApart as FieldsApart, FitsAt, IsShape, end_at, size_at, start_at}
 use Rattle.note_types.specs.declared.notes.FnNote.{FnNote}
 use Rattle.note_types.specs.declared.notes.Notes.{Notes}
@@ -16,10 +14,9 @@ use Rattle.note_types.specs.declared.shape.Shape.{Shape}
 use Rattle.pe_image.specs.Images.{EndsBefore, IsImage, IsSection}
 use Rattle.pe_image.specs.Mapped.{AreBytes, laid}
 use Rattle.pe_image.specs.declared.image.Section.{Section}
-use Rattle.rules_data.specs.Images.{AreApart, FunctionHolds, IsEven, IsFunction, IsThunk, ThunkHolds, image_byte}
-use Rattle.run_types.specs.Objects.{placed_objects}
+use Rattle.rules_data.specs.Images.{AreApart, FunctionHolds, ShapeHolds, IsEven, IsFunction, IsThunk, ThunkHolds, image_byte}
 use Rattle.whole_runs.proofs.Programs.{driver_image}
-use Rattle.run_laws.proofs.DriverNotes.{driver_named, driver_notes_meet, main, tick}
+use Rattle.run_laws.proofs.DriverNotes.{driver_named, main, tick}
 use Rattle.pe_image.proofs.Held.{IsBytes, laid_byte}
 use Rattle.run_laws.proofs.Items.{all_items, all_pairs, each_item, passing}
 
@@ -31,8 +28,8 @@ notes = driver_named.notes
 section_is : (s : Section) → nat_le (length s.bytes) s.size ≡ true → nat_le (s.place + s.size) driver_image.size ≡ true → IsSection driver_image.size s
 section_is s few inside = record { bytes = leb-true (length s.bytes) s.size few; within = leb-true (s.place + s.size) driver_image.size inside }
 
-image_meets : IsImage driver_image
-image_meets = record {
+pub driver_image_meets : IsImage driver_image
+driver_image_meets = record {
   size = leb-true driver_image.size (2 ^ 22) refl;
   sections = all_items (IsSection driver_image.size) driver_image.sections (section_is _ refl refl, (section_is _ refl refl, tt));
   ascend = all_pairs EndsBefore driver_image.sections ((leb-true _ 0x2000 refl, tt), (tt, tt));
@@ -93,6 +90,9 @@ shapes = (
   ),
 )
 
+pub driver_shapes : (k : ℕ) → ShapeHolds notes k
+driver_shapes = each_item IsShape notes.shape shapes
+
 -- ---- functions
 
 abbrev code_section : Section
@@ -115,10 +115,10 @@ tick_past : (j : ℕ) (g : FnNote) → j + 1 ≡ 1 → slice_get notes.function 
 tick_past zero g e h = subst (λ (f : FnNote). f.end ≤ tick.place) (same_Some main g h) (leb-true main.end tick.place refl)
 tick_past (suc j) g e h = absurd (omega (arith, e))
 
-functions : (k : ℕ) → FunctionHolds driver_image notes k
-functions zero f g = subst (IsFunction driver_image notes 0) (same_Some main f g) (function_is 0 main refl refl refl refl refl main_past (λ e. refl))
-functions (suc zero) f g = subst (IsFunction driver_image notes 1) (same_Some tick f g) (function_is 1 tick refl refl refl refl refl tick_past (λ e. absurd (omega (arith, e))))
-functions (suc (suc k)) f g = absurd (none-some f g)
+pub driver_functions : (k : ℕ) → FunctionHolds driver_image notes k
+driver_functions zero f g = subst (IsFunction driver_image notes 0) (same_Some main f g) (function_is 0 main refl refl refl refl refl main_past (λ e. refl))
+driver_functions (suc zero) f g = subst (IsFunction driver_image notes 1) (same_Some tick f g) (function_is 1 tick refl refl refl refl refl tick_past (λ e. absurd (omega (arith, e))))
+driver_functions (suc (suc k)) f g = absurd (none-some f g)
 
 -- ---- the thunk cell
 
@@ -153,32 +153,6 @@ thunk_is = record {
   rest = λ p l m. let e : 0x2004 + (p - 0x2004) ≡ p = omega (arith, l) in subst (λ z. image_byte driver_image z ≡ 0) e (zero_byte (p - 0x2004) (omega (arith, l, m)));
 }
 
-thunks : (k : ℕ) → ThunkHolds driver_image notes k
-thunks zero t g = subst (IsThunk driver_image notes 0) (same_Some cell t g) thunk_is
-thunks (suc k) t g = absurd (none-some t g)
-
--- ---- the script's objects
-
-objects : Each (IsObjectNote notes) (placed_objects driver_named.script (length driver_named.script.call))
-unfolding placed_objects
-objects = each_item (IsObjectNote notes) driver_named.script.object (
-  record { shape = ltb-true 0 3 refl; count = leb-true 1 1 refl },
-  (
-    record { shape = ltb-true 1 3 refl; count = leb-true 1 1 refl },
-    tt,
-  ),
-)
-
--- ---- a run of it
-
-pub driver_is_run : IsRunOf driver_image driver_named
-driver_is_run = record {
-  well_formed = image_meets;
-  size = refl;
-  notes = driver_notes_meet;
-  objects = objects;
-  shapes = λ k. each_item IsShape notes.shape shapes k;
-  functions = functions;
-  statics = λ k x s g h. absurd (none-some x g);
-  thunks = thunks;
-}
+pub driver_thunks : (k : ℕ) → ThunkHolds driver_image notes k
+driver_thunks zero t g = subst (IsThunk driver_image notes 0) (same_Some cell t g) thunk_is
+driver_thunks (suc k) t g = absurd (none-some t g)

@@ -245,7 +245,7 @@ module _ (w : ℕ) (image : Image) (world : World) (bytes : AreBytes image) (bar
       (s.0, ap (option_and_then (step_of world image)) r.1 ∙ s.1, s.2)
 
   pub run_goes_well : Passes first → RunGoesWell w image world
-  run_goes_well p k a b at step =
+  run_goes_well p k a b at on step =
       let r = reached p k in
       let there = subst Passes (same_Some r.0 a (sym r.1 ∙ at)) r.2 in
       let s = goes_on a there in
@@ -256,7 +256,7 @@ module _ (w : ℕ) (image : Image) (world : World) (bytes : AreBytes image) (bar
       let y = and_parts (call_test w world a (call_under_way a.frames)) _ x.1 in
       let z = and_parts (call_test w world b (call_under_way b.frames)) _ (and_parts (spot_test w image world b b.spot) _ later).1 in
       record {
-        there = λ p e. spot_stands a a.spot refl x.0 p e;
+        there = λ p e none. spot_stands a a.spot refl x.0 p e;
         call = call_goes_well a (call_under_way a.frames) y.0;
         before = leb-true (total w a.frames) (stack_bytes w world.notes) y.1;
         after = leb-true (total w b.frames) (stack_bytes w world.notes) z.1;

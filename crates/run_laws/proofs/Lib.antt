@@ -6,6 +6,7 @@ pub mod Thunks
 pub mod Items
 pub mod Decoded
 pub mod OwnPlacement
+pub mod Read
 pub mod GoingWell
 pub mod DriverNotes
 pub mod DriverImage

@@ -12,8 +12,9 @@ use Rattle.note_types.specs.declared.script.ScriptObject.{ScriptObject}
 use Rattle.object_memory.specs.Memory.{first_base, padded}
 use Rattle.run_types.specs.Objects.{placed_objects, script_object, shape_of}
 use Rattle.run_types.specs.Placements.{IsWithin, area_bytes, bases_from, object_bytes, own_placement, placed_ranges, script_ranges, stack_bytes}
+use Rattle.run_types.specs.Scripts.{room_of}
 use Rattle.run_types.proofs.Ranges.{stack_is_within_limit}
-use Rattle.run_laws.specs.OwnPlacement.{OwnPlacementIsValid, room_of}
+use Rattle.run_laws.specs.OwnPlacement.{OwnPlacementIsValid}
 use Rattle.run_laws.proofs.Items.{EachPair, all_items, all_pairs}
 
 weaker : {A : Type 0} (P Q : A → Type 0) → ((x : A) → P x → Q x) → (xs : List A) → AllByRecursion P xs → AllByRecursion Q xs

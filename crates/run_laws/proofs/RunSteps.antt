@@ -1,6 +1,6 @@
 -- A step of a run: it goes on standing for the configuration.
 use Rattle.std.proofs.Common.{◌≡◌, ℕ, ◌+◌, ◌-◌, ◌<◌, ◌≤◌, Bool, true, false, if◌then◌else◌, nat_eq, List, [], ◌∷◌, ◌++◌, length, Option, Some, None, option_map, option_and_then, refl, sym, ap, ap₂, ◌∙◌, subst, subst₂, arith, slice_get}
-use Rattle.std.proofs.lemmas.Bool.{eqb-true}
+use Rattle.std.proofs.lemmas.Bool.{eqb-true, true≢false}
 use Rattle.std.proofs.lemmas.Option.{same_Some, none-some, slice_get_within}
 use Rattle.ebc_decode.specs.Reading.{read}
 use Rattle.ebc_insn.specs.Spelling.{spelling}
@@ -96,6 +96,11 @@ same_turn w A false (Asked p v) (Accepted f m xs) s = absurd s
 same_turn w A false (Accepted e n vs) NoCall s = absurd s
 same_turn w A false (Accepted e n vs) (Asked q x) s = absurd s
 same_turn w A false (Accepted e n vs) (Accepted f m xs) s = refl
+
+no_call : (c : NativeCall Neutral) → host_turn false c ≡ false → c ≡ NoCall
+no_call NoCall t = refl
+no_call (Asked p v) t = absurd (true≢false t)
+no_call (Accepted e n vs) t = absurd (true≢false t)
 
 gate_at : (world : World) (P : Placement) (ip : ℕ) → is_gate (spot_at world P ip) ≡ nat_eq ip P.native
 gate_at world P ip = go (nat_eq ip P.native) (covers ip 1 (image_range world P))
@@ -271,15 +276,15 @@ module _ (w : ℕ) (image : Image) (world : World) (P : Placement) (q : IsRunAt 
 
   -- ---- the instruction at the spot
 
-  instruction_stands : (a b : Config) (r : RunState) → StepGoesWell w image world a b → Stands w world P B a r → neutral_instruction world image (counted a) ≡ Some b → Stands w world P B b (instruction_step w world P r)
+  instruction_stands : (a b : Config) (r : RunState) → StepGoesWell w image world a b → host_turn (is_gate a.spot) (call_under_way a.frames) ≡ false → Stands w world P B a r → neutral_instruction world image (counted a) ≡ Some b → Stands w world P B b (instruction_step w world P r)
   unfolding neutral_instruction instruction_step
-  instruction_stands a b r well st e = by_spot a.spot refl e
+  instruction_stands a b r well turn st e = by_spot a.spot refl e
     where
       by_spot : (s : Spot) → a.spot ≡ s → instruction_from world image (counted a) s ≡ Some b → Stands w world P B b (after_instruction w world P (counted_run r) (machine_step w r.machine))
       by_spot spot.Gate at e = absurd (none-some b e)
       by_spot (spot.Wild x) at e = absurd (none-some b e)
       by_spot (spot.Place p) at e =
-          let x = well.there p at in
+          let x = well.there p at (no_call (call_under_way a.frames) (subst (λ y. host_turn (is_gate y) (call_under_way a.frames) ≡ false) at turn)) in
           let found : instruction_at image p ≡ Some (x.insn, length (spelling x.insn)) = ap (instruction_at image) (sym x.at) ∙ found_there image world q.run x.here x.insn x.stands in
           let site : site_at image p (length (spelling x.insn)) ≡ x.here = ap (λ y. site_at image y (length (spelling x.insn))) (sym x.at) ∙ site_there image world q.run x.here x.insn x.stands in
           let left : instruction_left world (counted a) p (executed world (counted a) x.here x.insn) ≡ Some b =
@@ -301,30 +306,30 @@ module _ (w : ℕ) (image : Image) (world : World) (P : Placement) (q : IsRunAt 
 
   running_stands : (a b : Config) (r : RunState) → StepGoesWell w image world a b → Stands w world P B a r → neutral_running world (neutral_instruction world image) a ≡ Some b → Stands w world P B b (running_step w world P r)
   unfolding running_step
-  running_stands a b r well st e = by_turn (host_turn (is_gate a.spot) (call_under_way a.frames)) (turn_is a r st) e
+  running_stands a b r well st e = by_turn (host_turn (is_gate a.spot) (call_under_way a.frames)) refl (turn_is a r st) e
     where
-      by_turn : (t : Bool) → t ≡ host_turn (nat_eq r.machine.ip r.machine.gate) (width.call_under_way r.hosts)
+      by_turn : (t : Bool) → host_turn (is_gate a.spot) (call_under_way a.frames) ≡ t → t ≡ host_turn (nat_eq r.machine.ip r.machine.gate) (width.call_under_way r.hosts)
           → (if t then neutral_host_step world a else neutral_instruction world image (counted a)) ≡ Some b
           → Stands w world P B b (if host_turn (nat_eq r.machine.ip r.machine.gate) (width.call_under_way r.hosts) then width.host_step w world P r else instruction_step w world P r)
-      by_turn true t e =
+      by_turn true mine t e =
           subst (λ x. Stands w world P B b (if x then width.host_step w world P r else instruction_step w world P r)) t
           (host_law w world P B q.width fits q.placement a b r well.before q.script well.call st e)
-      by_turn false t e = subst (λ x. Stands w world P B b (if x then width.host_step w world P r else instruction_step w world P r)) t (instruction_stands a b r well st e)
+      by_turn false mine t e = subst (λ x. Stands w world P B b (if x then width.host_step w world P r else instruction_step w world P r)) t (instruction_stands a b r well mine st e)
 
-  step_stands : (a b : Config) (r : RunState) → StepGoesWell w image world a b → Stands w world P B a r → neutral_step world (neutral_instruction world image) a ≡ Some b → Stands w world P B b (run_step w world P r)
+  step_stands : (a b : Config) (r : RunState) → (a.ending ≡ ending.Running → StepGoesWell w image world a b) → Stands w world P B a r → neutral_step world (neutral_instruction world image) a ≡ Some b → Stands w world P B b (run_step w world P r)
   unfolding neutral_step run_step
   step_stands a b r well st e =
-      subst (λ x. Stands w world P B b (step_if w world P r x)) (sym st.ending) (by_ending a.ending e)
+      subst (λ x. Stands w world P B b (step_if w world P r x)) (sym st.ending) (by_ending a.ending refl e)
     where
       same : Some a ≡ Some b → Stands w world P B b r
       same e = subst (λ (y : Config). Stands w world P B y r) (same_Some a b e) st
 
-      by_ending : (x : Ending) → neutral_if world (neutral_instruction world image) a x ≡ Some b → Stands w world P B b (step_if w world P r x)
-      by_ending ending.Running e = running_stands a b r well st e
-      by_ending (ending.Finished v) e = same e
-      by_ending (ending.Raised v) e = same e
-      by_ending (ending.Mismatch v) e = same e
-      by_ending ending.ScriptEnd e = same e
+      by_ending : (x : Ending) → a.ending ≡ x → neutral_if world (neutral_instruction world image) a x ≡ Some b → Stands w world P B b (step_if w world P r x)
+      by_ending ending.Running on e = running_stands a b r (well on) st e
+      by_ending (ending.Finished v) on e = same e
+      by_ending (ending.Raised v) on e = same e
+      by_ending (ending.Mismatch v) on e = same e
+      by_ending ending.ScriptEnd on e = same e
 
 pub run_step_keeps_standing : RunStepKeepsStanding
 run_step_keeps_standing w image world P a b r q well st e = step_stands w image world P q a b r well st e

@@ -30,7 +30,7 @@ run_stands w image world P well zero a e =
     (run_starts w world P (mapped image P.image) (static_cells world image) q.width (world_meets image world q.run) q.placement (statics_show w image world P q.width q.run q.bytes q.placement) (bytes_loaded image P.image q.bytes) well.start)
 run_stands w image world P well (suc k) b e =
     let s = and_then_some (neutral_step world (neutral_instruction world image)) (config_after world image k) b e in
-    run_step_keeps_standing w image world P s.0 b (run_of w world P image k) well.at (well.steps k s.0 b s.1 s.2) (run_stands w image world P well k s.0 s.1) s.2
+    run_step_keeps_standing w image world P s.0 b (run_of w world P image k) well.at (λ on. well.steps k s.0 b s.1 on s.2) (run_stands w image world P well k s.0 s.1) s.2
 
 -- where a run stands whose state stands for a configuration
 spot_shown : (w : ℕ) (image : Image) (world : World) (P : Placement) → RunsWell w image world P → (a : Config) (r : RunState) → Stands w world P (mapped image P.image) a r → spot_of world P r.machine ≡ a.spot

@@ -7,10 +7,13 @@ use Rattle.pe_image.specs.declared.image.Image.{Image}
 use Rattle.run_types.specs.Placements.{own_placement}
 use Rattle.run_types.specs.World.{World}
 use Rattle.whole_runs.specs.Runs.{SameRun, run_of}
+use Rattle.run_laws.specs.ReadLaw.{IsReadWorld}
 use Rattle.run_laws.specs.RunLaw.{RunsWell}
 
--- All premises hold at both widths; so after every number of steps the two runs are the same, and they finish.
+-- They are such as readers give, and all premises hold at both widths; so after every number of steps the two runs are the same,
+-- and they finish.
 pub record GoesWellToEnd (image : Image) (world : World) : Type 0 where
+  pub read : IsReadWorld image world
   pub at4 : RunsWell 4 image world (own_placement 4 world)
   pub at8 : RunsWell 8 image world (own_placement 8 world)
   pub same : (k : ℕ) → SameRun world (own_placement 4 world) (run_of 4 world (own_placement 4 world) image k) (own_placement 8 world) (run_of 8 world (own_placement 8 world) image k)

@@ -4,6 +4,7 @@
 use Rattle.std.specs.Prelude.{◌≡◌, ℕ, Some}
 use Rattle.host_laws.specs.StartGiven.{StartGiven}
 use Rattle.neutral_machine.specs.Stands.{Stands}
+use Rattle.note_types.specs.declared.ending.Ending.TheVariants.{Running}
 use Rattle.pe_image.specs.Mapped.{mapped}
 use Rattle.pe_image.specs.declared.image.Image.{Image}
 use Rattle.run_types.specs.Config.{Config}
@@ -15,10 +16,10 @@ use Rattle.whole_runs.specs.NeutralRun.{config_after, neutral_instruction}
 use Rattle.whole_runs.specs.Runs.{SameRun, run_of}
 use Rattle.run_laws.specs.StepLaw.{IsRunAt, StepGoesWell}
 
--- each step of the neutral machine's run goes well
+-- each step of the neutral machine's run goes well, until it has ended
 abbrev pub RunGoesWell : ℕ → Image → World → Type 0
 RunGoesWell w image world =
-    (k : ℕ) (a b : Config) → config_after world image k ≡ Some a → neutral_step world (neutral_instruction world image) a ≡ Some b → StepGoesWell w image world a b
+    (k : ℕ) (a b : Config) → config_after world image k ≡ Some a → a.ending ≡ Running → neutral_step world (neutral_instruction world image) a ≡ Some b → StepGoesWell w image world a b
 
 -- What a run at a width has from its start on.
 pub record RunsWell (w : ℕ) (image : Image) (world : World) (P : Placement) : Type 0 where

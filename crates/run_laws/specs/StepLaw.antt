@@ -9,6 +9,7 @@ use Rattle.instruction_laws.specs.Premises.{IsInsnOf, IsRunOf}
 use Rattle.neutral_machine.specs.Room.{HasRoom}
 use Rattle.neutral_machine.specs.Rows.{Site}
 use Rattle.neutral_machine.specs.Stands.{Stands}
+use Rattle.note_types.specs.declared.ending.Ending.TheVariants.{Running}
 use Rattle.note_types.specs.declared.spot.Spot.TheVariants.{Place}
 use Rattle.pe_image.specs.Mapped.{AreBytes, mapped}
 use Rattle.pe_image.specs.declared.image.Image.{Image}
@@ -16,6 +17,7 @@ use Rattle.run_types.specs.Config.{Config, call_under_way}
 use Rattle.run_types.specs.Layout.{total}
 use Rattle.run_types.specs.NeutralRuns.{neutral_step}
 use Rattle.run_types.specs.Placements.{Placement, IsPlacement, stack_bytes}
+use Rattle.run_types.specs.Progress.{NoCall}
 use Rattle.run_types.specs.RunState.{RunState}
 use Rattle.run_types.specs.World.{World}
 use Rattle.whole_runs.specs.NeutralRun.{neutral_instruction}
@@ -37,17 +39,17 @@ pub record InsnStands (w : ℕ) (image : Image) (world : World) (a : Config) (pl
   pub at : here.place ≡ place
   pub room : HasRoom w world a insn
 
--- What typing is to give of a configuration before a step, and of the one after it: an instruction stands at its spot, a native
--- call that goes on goes well, and the frames before and after fit the stack.
+-- What typing is to give of a configuration before a step, and of the one after it: where no native call is under way an
+-- instruction stands at its spot, a native call that goes on goes well, and the frames before and after fit the stack.
 pub record StepGoesWell (w : ℕ) (image : Image) (world : World) (a b : Config) : Type 0 where
-  pub there : (p : ℕ) → a.spot ≡ Place p → InsnStands w image world a p
+  pub there : (p : ℕ) → a.spot ≡ Place p → call_under_way a.frames ≡ NoCall → InsnStands w image world a p
   pub call : CallGoesWell w world a (call_under_way a.frames)
   pub before : total w a.frames ≤ stack_bytes w world.notes
   pub after : total w b.frames ≤ stack_bytes w world.notes
 
--- After a step the run stands for what the step leaves of the configuration.
+-- After a step the run stands for what the step leaves of the configuration. Of one that has ended nothing is asked.
 abbrev pub RunStepKeepsStanding : Type 0
 RunStepKeepsStanding =
-    (w : ℕ) (image : Image) (world : World) (P : Placement) (a b : Config) (r : RunState) → IsRunAt w image world P → StepGoesWell w image world a b
+    (w : ℕ) (image : Image) (world : World) (P : Placement) (a b : Config) (r : RunState) → IsRunAt w image world P → (a.ending ≡ Running → StepGoesWell w image world a b)
     → Stands w world P (mapped image P.image) a r → neutral_step world (neutral_instruction world image) a ≡ Some b
     → Stands w world P (mapped image P.image) b (run_step w world P r)

@@ -6,6 +6,7 @@
 ghost use Rattle.run_laws.specs.Met.{PremisesAreMet};
 ghost use Rattle.run_laws.specs.OwnPlacement.{OwnPlacementIsValid};
 ghost use Rattle.run_laws.specs.Premises.{ReadIsDecoded, StaticsAreShown, ThunksAreLoaded};
+ghost use Rattle.run_laws.specs.ReadLaw.{OwnRunsAreSame, ReadIsPlaced, ReadIsRun, ReadIsRunAt, ReadRunsAreSame, ReadStarts};
 ghost use Rattle.run_laws.specs.RunLaw.{RunStands, RunsAreSame};
 ghost use Rattle.run_laws.specs.StepLaw.{RunStepKeepsStanding};
 
@@ -46,6 +47,23 @@ pub fn run_stands()
 /// After each such number the runs at both widths are the same, each under a valid placement of its own.
 pub fn runs_are_same()
     ensures { RunsAreSame }
+{}
+
+/// A world made of an image, notes and a script such as their readers give, where the image keeps the rules on shapes, functions,
+/// static objects and thunk cells, meets what these laws ask of it: of its things, of the placement that this project takes, of
+/// a run at either width, and of its start.
+pub fn what_is_read_is_given()
+    ensures run { ReadIsRun }
+    ensures placement { ReadIsPlaced }
+    ensures at { ReadIsRunAt }
+    ensures start { ReadStarts }
+{}
+
+/// The runs of such a world at 4 and at 8 bytes are the same after each number of steps that the neutral machine does, where each
+/// of these goes well: under all valid placements, and so under those that this project takes.
+pub fn read_runs_are_same()
+    ensures placed { ReadRunsAreSame }
+    ensures own { OwnRunsAreSame }
 {}
 
 /// All that these laws ask holds of one image with its notes and its script, at both widths: of the driver of docs/NOTES.md. Its
