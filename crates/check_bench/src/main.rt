@@ -2,10 +2,10 @@
 //! if that is left out; one line says what the last check answered. `bench/check.sh` takes the times.
 #![tactic(auto)]
 
-ghost use Rattle.std.specs.Prelude.{IfOk};
+ghost use Rattle.std.specs.Prelude.{◌≡◌, ◌↔◌, IfOk};
 ghost use Rattle.note_types.specs.Records.{IsNotes};
 ghost use Rattle.pe_image.specs.Images.{IsImage};
-ghost use Rattle.width_checker.specs.Verdicts.{IsVerdict};
+ghost use Rattle.width_checker.specs.Typed.{Typed};
 
 use ebc_outside::{Folder, HostFolder};
 use note_types::Notes;
@@ -32,7 +32,7 @@ struct Work {
 fn check_often(alloc: Global, image: &Image, notes: &Notes, times: u32) -> Result<Verdict, NoMemory>
     requires image { IsImage image.now }
     requires notes { IsNotes notes.now }
-    ensures { IfOk result (IsVerdict image.now notes.now) }
+    ensures { IfOk result (λ v. v ≡ Verdict.Neutral ↔ Typed image.now notes.now) }
 {
     for _ in 1..times {
         check(alloc, image, notes)?;
