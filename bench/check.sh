@@ -1,17 +1,17 @@
 #!/usr/bin/env bash
-# Times the check of images by crates/check_bench against wasm-validate (Debian's package wabt) on as many bytes of code, and
-# prints for each how many bytes a second are checked and how many times wasm-validate's that is. The codes are functions of
-# four instructions of which each calls the next, and one function of moves. One check takes a part of what many take longer
-# than one, and one validation what it takes longer than that of an empty module; each time is that of the processor, the
-# least of five runs. The program is proved and built first where it isn't current.
+# Times `./ebc check IMAGE NOTES` against wasm-validate (Debian's package wabt) on as many bytes of code, and prints for each
+# what both take and how many times as fast the check is. The codes are functions of four instructions of which each calls the
+# next, whose notes are longer than the code and are read too, and one function of moves. A time is that of the processor for
+# twenty runs, the least of five, less that on a code of a few bytes. The program is proved and built first where it isn't
+# current.
 set -eu
 top=$(CDPATH='' cd -- "$(dirname -- "${BASH_SOURCE[0]}")/.." >/dev/null && pwd -P)
-program=$top/crates/check_bench/out/check_bench
+program=$top/crates/ebc/out/ebc
 TIMEFORMAT='%3U %3S'
 
 command -v wasm-validate wat2wasm python3 >/dev/null || { echo "check.sh: needs wasm-validate, wat2wasm and python3" >&2; exit 1; }
 . "$top/scripts/program.sh"
-build check_bench image.efi image.notes
+build ebc check /dev/null
 
 work=$(mktemp -d)
 trap 'rm -rf "$work"' EXIT
@@ -97,22 +97,24 @@ least() {
   echo "$least"
 }
 
-# So many validations.
-validate() { for ((run = 0; run < $2; run++)); do wasm-validate "$1"; done; }
+# Twenty runs of a command.
+twenty() { for ((run = 0; run < 20; run++)); do "$@"; done; }
 
-echo '(module)' >"$work/empty.wat"
-wat2wasm "$work/empty.wat" -o "$work/empty.wasm"
-starting=$(least validate "$work/empty.wasm" 20)
+# Microseconds that one run takes on such a code, less what it takes on a small one.
+each() {
+  echo $((($(least twenty "${@:2}") - $1) * 1000 / 20))
+}
 
-for code in "sample 1024" "sample 2048" "sample 4096" "line 16384" "line 32768" "line 65536"; do
-  read -r kind count <<<"$code"
-  make "$kind" "$count"
-  file=$work/$kind.$count
-  size=$(cat "$file.size")
-  cd "$work"
-  once=$(least "$program" "$kind.$count.efi" "$kind.$count.notes" 1)
-  often=$(least "$program" "$kind.$count.efi" "$kind.$count.notes" 51)
-  checking=$(((often - once) * 1000 / 50))
-  validating=$((($(least validate "$file.wasm" 20) - starting) * 1000 / 20))
-  echo "$code: $size bytes, a check $checking us, $((size * 1000 / (checking + 1))) KB/s; wasm-validate $validating us; $((100 * validating / (checking + 1)))/100 times as fast"
+cd "$work"
+for kind in sample line; do
+  make "$kind" 16
+  checked=$(least twenty "$program" check "$kind.16.efi" "$kind.16.notes")
+  validated=$(least twenty wasm-validate "$kind.16.wasm")
+  for count in $([ "$kind" = sample ] && echo 1024 2048 4096 || echo 16384 32768 65536); do
+    make "$kind" "$count"
+    name=$kind.$count
+    checking=$(each "$checked" "$program" check "$name.efi" "$name.notes")
+    validating=$(each "$validated" wasm-validate "$name.wasm")
+    echo "$kind $count: $(cat "$name.size") bytes, the check $checking us, wasm-validate $validating us, $((100 * validating / (checking + 1)))/100 times as fast"
+  done
 done
