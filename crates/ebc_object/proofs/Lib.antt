@@ -1,0 +1,5 @@
+pub mod Tried
+pub mod Counted
+pub mod Stands
+pub mod Again
+pub mod Spelled

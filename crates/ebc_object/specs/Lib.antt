@@ -1,0 +1,4 @@
+pub mod Objects
+pub mod Files
+pub mod Readings
+pub mod Walks
