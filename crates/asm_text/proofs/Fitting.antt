@@ -1,10 +1,10 @@
 -- What is read as an instruction is well formed, and a name stands only in place of an immediate that may have one.
-use Rattle.std.proofs.Common.{◌≡◌, ◌⊎◌, ℕ, zero, suc, ◌+◌, ◌-◌, ◌*◌, ◌/◌, ◌^◌, ◌<◌, ◌≤◌, List, [], ◌∷◌, length, Option, Some, None, Result, Ok, Err, Bool, true, false, not, ◌&&◌, ◌||◌, ◌==◌, cond, refl, sym, subst, arith, nat_le, inl, inr, ℤ, pos, negsuc, neg_ℤ, IfOk, IfSome}
+use Rattle.std.proofs.Common.{◌≡◌, ℕ, zero, suc, ◌+◌, ◌-◌, ◌*◌, ◌/◌, ◌^◌, ◌<◌, ◌≤◌, List, [], ◌∷◌, length, Option, Some, None, Result, Ok, Err, Bool, true, false, ◌&&◌, ◌||◌, ◌==◌, cond, refl, sym, subst, arith, nat_le, inl, inr, ℤ, pos, negsuc, neg_ℤ, IfOk, IfSome}
 use Rattle.std.specs.Borrow.{Bor}
 use Rattle.std.specs.Prelude.{⊤, bytes_eq, codes, nat_lt, option_and_then, option_map}
 use Rattle.std.proofs.lemmas.Bool.Decides.{nat_tests}
 use Rattle.natural_index.specs.declared.Index.{Index}
-use Rattle.natural_index.specs.Index.{HasRoom, IsIndex, IsIndexSize, index_of, natural_bits, tag_at}
+use Rattle.natural_index.specs.Index.{HasRoom, IsIndex, IsIndexSize, index_of}
 use Rattle.natural_index.proofs.Laws.{spells_read}
 use Rattle.ebc_insn.specs.declared.Operand.{Operand}
 use Rattle.ebc_insn.specs.declared.Extra.{Extra}
@@ -14,7 +14,7 @@ use Rattle.ebc_insn.specs.declared.Size.{Size}
 use Rattle.ebc_insn.specs.declared.Size.TheVariants as sizes
 use Rattle.ebc_insn.specs.declared.Insn.{Insn}
 use Rattle.ebc_insn.specs.declared.Insn.TheVariants as insns
-use Rattle.ebc_insn.specs.Spelling.{ExtraFits, FitsInt, IsOperand, IsWordOrDword, LeftFits, MoveFits, NotNatural, RightFits, TargetFits, WellFormed, immediate_bits, int_raw}
+use Rattle.ebc_insn.specs.Spelling.{ExtraFits, FitsInt, IsOperand, IsWordOrDword, LeftFits, MoveFits, NotNatural, RightFits, TargetFits, immediate_bits, int_raw}
 use Rattle.ebc_base.specs.Steps.{◌>>=◌, or_else}
 use Rattle.asm_text.specs.declared.form.Form.{Form}
 use Rattle.asm_text.specs.declared.form.Form.TheVariants as forms
@@ -27,7 +27,7 @@ use Rattle.asm_text.specs.Splits.{halves, is_empty, sole, until}
 use Rattle.asm_text.specs.Indexes.{bytes_part, first_part, has_room, index, least_tag, pair_index, raw_index, raw_part, second_part, smallest_of}
 use Rattle.asm_text.specs.Operands.{at_register, at_value, bare, bare_after, extra, extra_after, flags_special, left, left_after, near_target, operand_of, register, register_after, register_of, right, right_after, special, target, value}
 use Rattle.asm_text.specs.Mnemonics.{FormFits}
-use Rattle.asm_text.specs.Instructions.{InsnFits, immediate, insn_of, one, takes_name, two, unnamed}
+use Rattle.asm_text.specs.Instructions.{InsnFits, immediate, insn_of, one, two, unnamed}
 use Rattle.asm_text.specs.Texts.{seen_insn}
 use Rattle.asm_text.proofs.Digits.{raw_fits}
 use Rattle.asm_text.proofs.Smallest.{room_from}

@@ -1,13 +1,12 @@
 -- What a source has with one line more.
-use Rattle.std.proofs.Common.{◌≡◌, ℕ, ◌+◌, List, [], ◌∷◌, ◌++◌, length, Option, Some, None, Bool, true, false, cond, refl, sym, ap, ◌∙◌, arith}
+use Rattle.std.proofs.Common.{◌≡◌, ℕ, ◌+◌, List, [], ◌∷◌, ◌++◌, length, Bool, true, false, cond, refl, sym, ap, ◌∙◌, arith}
 use Rattle.std.proofs.lemmas.List.{append-nil, append_assoc}
 use Rattle.std.proofs.Math.ListN.{length-append}
 use Rattle.std.specs.Prelude.{◌||◌, if◌then◌else◌}
 use Rattle.std.specs.List.{list_any}
 use Rattle.asm_text.specs.Lines.{Line}
-use Rattle.ebc_object.specs.declared.object.Fixup.{Fixup}
 use Rattle.ebc_asm.specs.Pieces.{bytes_of, data_after, ends_in_data, if_there, section_of, use_of}
-use Rattle.ebc_asm.specs.Symbols.{Ends, Place, and_names, ends_after, fixups_in, fixups_of, here, is_labelled, names_with, place_of, section_kind, start, undefined}
+use Rattle.ebc_asm.specs.Symbols.{Ends, Place, and_names, ends_after, fixups_in, fixups_of, here, is_labelled, names_with, place_of, section_kind, undefined}
 
 -- ---- sections
 

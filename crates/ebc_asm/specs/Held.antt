@@ -1,8 +1,7 @@
 -- What the code holds of a name that a statement uses, and what it tells of the bytes of a statement.
-use Rattle.std.specs.Prelude.{◌≡◌, ℕ, ◌+◌, ◌<◌, ◌≤◌, List, ◌++◌, length, Option, Some, None, option_map, Result, Ok, Err, ⊤}
+use Rattle.std.specs.Prelude.{◌≡◌, ℕ, ◌+◌, ◌<◌, ◌≤◌, List, ◌++◌, length, Option, option_map, Result, Ok, Err, ⊤}
 use Rattle.ebc_object.specs.Objects.{most}
 use Rattle.asm_text.specs.declared.fault.AsmFault.TheVariants as faults
-use Rattle.asm_text.specs.Instructions.{InsnFits}
 use Rattle.ebc_asm.specs.declared.end.LineEnd.{LineEnd}
 use Rattle.ebc_asm.specs.declared.end.LineEnd.TheVariants as ends
 use Rattle.ebc_asm.specs.declared.pieces.Use.{Use}

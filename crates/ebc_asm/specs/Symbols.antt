@@ -1,14 +1,13 @@
 -- The symbols and fixups of a source: docs/ASSEMBLY.md, "Objects".
-use Rattle.std.specs.Prelude.{ℕ, ◌+◌, Bool, true, false, List, [], ◌∷◌, ◌++◌, length, map, Option, Some, None, bytes_eq, if◌then◌else◌}
+use Rattle.std.specs.Prelude.{ℕ, ◌+◌, Bool, true, false, List, [], ◌∷◌, ◌++◌, length, Option, Some, None, bytes_eq, if◌then◌else◌}
 use Rattle.std.specs.List.{list_any}
-use Rattle.std.specs.Option.{option_map_or}
 use Rattle.ebc_names.specs.Tables.{name_number, with_name}
 use Rattle.ebc_object.specs.declared.object.Fixup.{Fixup}
 use Rattle.ebc_object.specs.declared.object.Symbol.{Symbol}
 use Rattle.asm_text.specs.Lines.{Line}
 use Rattle.asm_text.specs.Statements.{Statement}
 use Rattle.asm_text.specs.Statements as statements
-use Rattle.ebc_asm.specs.Pieces.{Use, bytes_of, data_after, if_there, section_of, use_of}
+use Rattle.ebc_asm.specs.Pieces.{Use, bytes_of, data_after, if_there, use_of}
 
 -- ---- names
 

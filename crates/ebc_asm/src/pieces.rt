@@ -52,9 +52,13 @@ pub fn append(statement: &Option<Statement>, section: &mut Vec<u8>) -> Result<()
 {
     match statement {
         Some(Statement::Numbers(numbers)) => numbers.append_to(section)?,
-        Some(Statement::Place(_)) | Some(Statement::Thunk(_)) => section.extend_from_slice(&[0; 8])?,
+        Some(Statement::Place(_)) | Some(Statement::Thunk(_)) => section.extend_from_slice(
+            &[0; 8],
+        )?,
         Some(Statement::Zeros(count)) => return append_zeros(*count, section),
-        Some(Statement::Instruction { insn, .. }) => section.extend_from_slice(encode(insn).as_slice())?,
+        Some(Statement::Instruction { insn, .. }) => section.extend_from_slice(encode(
+            insn,
+        ).as_slice())?,
         _ => {}
     }
     if section.len() > MOST {
@@ -92,10 +96,12 @@ pub fn use_of<'a>(statement: &Option<Statement<'a>>) -> Option<Use<'a>>
             at: 0,
             from: Some(4),
         }),
-        Some(Statement::Instruction {
-            insn,
-            name: Some(name),
-        }) => Some(insn_use(insn, name)),
+        Some(
+            Statement::Instruction {
+                insn,
+                name: Some(name),
+            },
+        ) => Some(insn_use(insn, name)),
         _ => None,
     }
 }
@@ -110,11 +116,21 @@ fn insn_use<'a>(insn: &Insn, name: &'a str) -> Use<'a>
     if is_distance(insn) {
         let kind = distance_kind(size);
         let from = Some(length);
-        Use { name, kind, at, from }
+        Use {
+            name,
+            kind,
+            at,
+            from,
+        }
     } else {
         let kind = 5;
         let from = None;
-        Use { name, kind, at, from }
+        Use {
+            name,
+            kind,
+            at,
+            from,
+        }
     }
 }
 
