@@ -5,6 +5,7 @@
 #![tactic(auto)]
 
 mod end;
+mod names;
 mod pieces;
 
 pub use asm_text::{AsmFault, Line, Statement};
