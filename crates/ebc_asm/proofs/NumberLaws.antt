@@ -1,13 +1,12 @@
 -- Names, their numbers and their places.
-use Rattle.std.proofs.Common.{◌≡◌, ℕ, zero, suc, ◌+◌, ◌<◌, ◌≤◌, List, [], ◌∷◌, ◌++◌, length, map, set, get_or, Bool, true, false, cond, refl, sym, subst, ap, ◌∙◌, arith}
+use Rattle.std.proofs.Common.{◌≡◌, ℕ, suc, ◌+◌, ◌<◌, List, [], ◌∷◌, ◌++◌, length, Bool, true, false, cond, refl, arith}
 use Rattle.std.proofs.lemmas.Bool.Decides.{nat_tests}
-use Rattle.std.proofs.lemmas.List.{length-append, map-append}
-use Rattle.std.proofs.lemmas.Slice.Eq.{bytes_eq-Decides}
+use Rattle.std.proofs.lemmas.List.{length-append}
 use Rattle.std.specs.Prelude.{bytes_eq, not, ◌||◌}
 use Rattle.std.specs.List.{list_any, position_or_len}
 use Rattle.ebc_names.specs.Tables.{is_named, name_number, with_name}
 use Rattle.ebc_asm.specs.declared.names.Standing.{Standing}
-use Rattle.ebc_asm.specs.Held.{and_place, nowhere, number_of, symbols_of}
+use Rattle.ebc_asm.specs.Held.{and_place, nowhere, number_of}
 
 first_within : (b rest : Bool) (n k : ℕ) → (b || rest) ≡ true → (rest ≡ true → n < k) → cond (not b) (1 + n) 0 < suc k
 first_within true rest n k h g = omega arith

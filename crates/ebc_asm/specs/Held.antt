@@ -1,12 +1,11 @@
 -- What the code holds of names and of their uses, and what it tells of the bytes of a statement. No caller sees it.
-use Rattle.std.specs.Prelude.{◌≡◌, ◌≢◌, ℕ, ◌+◌, ◌<◌, ◌≤◌, List, [], ◌∷◌, ◌++◌, length, slice_index_or, slice_set, Option, Some, None, option_map, Result, Ok, Err, ⊤, if◌then◌else◌}
+use Rattle.std.specs.Prelude.{◌≡◌, ◌≢◌, ℕ, ◌+◌, ◌<◌, ◌≤◌, List, [], ◌∷◌, ◌++◌, length, slice_index_or, slice_set, Option, option_map, Result, Ok, Err, ⊤, if◌then◌else◌}
 use Rattle.std.specs.List.{list_any}
 use Rattle.ebc_names.specs.Tables.{is_named, name_number, with_name}
 use Rattle.ebc_object.specs.Objects.{most}
 use Rattle.ebc_object.specs.declared.object.Symbol.{Symbol}
 use Rattle.asm_text.specs.Lines.{Line}
 use Rattle.asm_text.specs.declared.fault.AsmFault.TheVariants as faults
-use Rattle.asm_text.specs.Instructions.{InsnFits}
 use Rattle.ebc_asm.specs.declared.end.LineEnd.{LineEnd}
 use Rattle.ebc_asm.specs.declared.end.LineEnd.TheVariants as ends
 use Rattle.ebc_asm.specs.declared.names.Standing.{Standing}

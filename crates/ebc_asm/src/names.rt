@@ -74,7 +74,13 @@ impl Names {
     }
 
     /// A line has this name as its label.
-    pub fn define(&mut self, alloc: Global, text: &str, kind: u8, offset: u32) -> Result<(), LineEnd>
+    pub fn define(
+        &mut self,
+        alloc: Global,
+        text: &str,
+        kind: u8,
+        offset: u32,
+    ) -> Result<(), LineEnd>
         requires room { length self.old.table < 2 ^ 32 - 1 }
         requires beside { length self.old.places.items ≡ length self.old.table }
         ensures defines { Defines result text.now kind offset self.old.table self.old.places.items self.new.places.items }
