@@ -13,4 +13,5 @@ pub mod Forms
 pub mod Values
 pub mod InsnLaws
 pub mod CleanLaws
+pub mod Fitting
 pub mod ListLaws

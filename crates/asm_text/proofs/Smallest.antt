@@ -22,7 +22,7 @@ three true true false h = cc h
 three true false d h = cc h
 three false b d h = cc h
 
-room_from : (bits t n c : ℕ) → t < 8 → has_room bits t n c ≡ true → HasRoom bits t n c
+pub room_from : (bits t n c : ℕ) → t < 8 → has_room bits t n c ≡ true → HasRoom bits t n c
 room_from bits t n c tag h =
     let p = three (nat_le (natural_bits bits t) (bits - 4)) (nat_lt n (2 ^ natural_bits bits t)) (nat_lt c (2 ^ (bits - 4 - natural_bits bits t))) h in
     let p0 : nat_le (natural_bits bits t) (bits - 4) ≡ true = p.0 in

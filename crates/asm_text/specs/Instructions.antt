@@ -6,7 +6,7 @@ use Rattle.ebc_insn.specs.declared.Size.{Size}
 use Rattle.ebc_insn.specs.declared.Size.TheVariants as sizes
 use Rattle.ebc_insn.specs.declared.Insn.{Insn}
 use Rattle.ebc_insn.specs.declared.Insn.TheVariants as insns
-use Rattle.ebc_insn.specs.Spelling.{immediate_bits, int_raw}
+use Rattle.ebc_insn.specs.Spelling.{WellFormed, immediate_bits, int_raw}
 use Rattle.ebc_base.specs.Steps.{◌>>=◌, or_else}
 use Rattle.asm_text.specs.declared.form.Form.{Form}
 use Rattle.asm_text.specs.declared.form.Form.TheVariants as forms
@@ -14,6 +14,7 @@ use Rattle.asm_text.specs.declared.fault.AsmFault.{AsmFault}
 use Rattle.asm_text.specs.declared.fault.AsmFault.TheVariants as faults
 use Rattle.asm_text.specs.Faults.{both, made}
 use Rattle.asm_text.specs.Numbers.{number}
+use Rattle.ebc_names.specs.Names.{is_name}
 use Rattle.asm_text.specs.Names.{is_place_name}
 use Rattle.asm_text.specs.Splits.{halves, is_empty, sole, word_part}
 use Rattle.asm_text.specs.Indexes.{index, index_text}
@@ -97,6 +98,16 @@ TakesName _ = ⊥
 abbrev pub NameFits : Insn → Option (List ℕ) → Type 0
 NameFits i None = Unit {0}
 NameFits i (Some name) = TakesName i × (is_place_name name ≡ true)
+
+-- A name stands in place of the immediate of an instruction that may have one there: a register's name too, where no register
+-- can stand.
+abbrev pub IsNamed : Insn → Option (List ℕ) → Type 0
+IsNamed i None = Unit {0}
+IsNamed i (Some name) = TakesName i × (is_name name ≡ true)
+
+-- The instruction is well formed, and so is the name, if any, in place of its immediate.
+abbrev pub InsnFits : Insn × Option (List ℕ) → Type 0
+InsnFits p = WellFormed p.0 × IsNamed p.0 p.1
 
 -- ---- reading
 

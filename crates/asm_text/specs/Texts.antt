@@ -12,6 +12,7 @@ use Rattle.asm_text.specs.declared.statements.Numbers.{Numbers}
 use Rattle.asm_text.specs.declared.statements.Statement.{Statement}
 use Rattle.asm_text.specs.declared.statements.Statement.TheVariants as held
 use Rattle.asm_text.specs.declared.lines.Line.{Line}
+use Rattle.asm_text.specs.Instructions.{InsnFits}
 use Rattle.asm_text.specs.Statements.{numbers_of}
 use Rattle.asm_text.specs.Statements as statements
 use Rattle.asm_text.specs.Lines as lines
@@ -82,9 +83,10 @@ seen (held.Thunk n) = statements.Thunk n.now
 seen (held.Zeros n) = statements.Zeros n
 seen (held.Instruction i n) = statements.Instruction i (seen_name n)
 
--- The numbers of a statement are numbers.
+-- The numbers of a statement are numbers; an instruction is well formed, and so is the name in place of its immediate.
 abbrev pub IsHeld : Statement → Type 0
 IsHeld (held.Numbers ns) = AreNumbers ns
+IsHeld (held.Instruction i n) = InsnFits (i, seen_name n)
 IsHeld s = ⊤
 
 abbrev pub seen_statement : Option Statement → Option statements.Statement

@@ -1,6 +1,6 @@
 //! Instructions as they are read.
 
-ghost use Rattle.std.specs.Prelude.{◌≡◌, ◌⊎◌};
+ghost use Rattle.std.specs.Prelude.{◌≡◌, ◌⊎◌, IfOk};
 ghost use Rattle.natural_index.specs.Index.{IsIndexSize};
 ghost use Rattle.ebc_insn.specs.Spelling.{IsWordOrDword, MoveFits};
 ghost use Rattle.ebc_base.specs.Steps.{or_else};
@@ -11,7 +11,7 @@ ghost use Rattle.asm_text.specs.Numbers.{number};
 ghost use Rattle.asm_text.specs.Splits.{halves, sole};
 ghost use Rattle.asm_text.specs.Operands.{extra};
 ghost use Rattle.asm_text.specs.Mnemonics.{FormFits};
-ghost use Rattle.asm_text.specs.Instructions.{immediate, insn_in, insn_of, one, unnamed};
+ghost use Rattle.asm_text.specs.Instructions.{InsnFits, immediate, insn_in, insn_of, one, unnamed};
 ghost use Rattle.asm_text.specs.Texts.{seen_insn, seen_value};
 
 use crate::fault::{AsmFault, both};
@@ -342,7 +342,8 @@ fn insn_of(form: Form, text: &[u8]) -> Result<Named<'_>, AsmFault>
 // The instruction that a text is.
 #[tactic(auto, unfolding(crate::specs::Instructions::insn_in))]
 pub(crate) fn insn_in(text: &[u8]) -> Result<Named<'_>, AsmFault>
-    ensures { made seen_insn result ≡ insn_in text.now }
+    ensures same { made seen_insn result ≡ insn_in text.now }
+    ensures fits { IfOk result (λ i. InsnFits (seen_insn i)) }
 {
     let (word, operands) = word_part(text);
     let form = form_of(word).ok_or(AsmFault::Word)?;

@@ -53,7 +53,7 @@ fn labelled<'a>(front: &'a [u8], back: &'a [u8]) -> Result<Line<'a>, AsmFault>
 }
 
 /// What a line of a source says, without its line feed, or the lowest of the faults that are seen in the line alone: Word to
-/// Label.
+/// Label. An instruction that it gives may be encoded.
 #[tactic(auto, unfolding(crate::specs::Lines::line_in))]
 pub fn line_in(line: &[u8]) -> Result<Line<'_>, AsmFault>
     ensures same { made seen_line result ≡ line_in line.now }

@@ -1,0 +1,7 @@
+pub mod Computing
+pub mod Rows
+pub mod LineLaws
+pub mod NumberLaws
+pub mod StateLaws
+pub mod PlaceLaws
+pub mod StandingLaws

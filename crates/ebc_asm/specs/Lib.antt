@@ -1,0 +1,4 @@
+pub mod Pieces
+pub mod Symbols
+pub mod Sources
+pub mod Held
