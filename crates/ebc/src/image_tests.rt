@@ -1,4 +1,4 @@
-//! What `check IMAGE NOTES` prints, over files in memory: a driver, and what is told of files near its two.
+//! What `check IMAGE NOTES` and `list IMAGE` print, over files in memory: a driver, and what is told of files near its two.
 
 use crate::tests::{bytes_of, words_of};
 use ebc_cli::{Outcome, ebc};
@@ -146,7 +146,12 @@ check full.i full.n | Done | neutral
 check large.i absent | TooLarge { word: 1 } | large large.i
 check i large.n | TooLarge { word: 2 } | large large.n
 check absent n | Missing { word: 1 } | missing absent
-check i absent | Missing { word: 2 } | missing absent";
+check i absent | Missing { word: 2 } | missing absent
+list short.i | BadInput { word: 1, fault: 1 } | bad short.i short 0
+list machine.i | BadInput { word: 1, fault: 4 } | bad machine.i machine 68
+list n | BadInput { word: 1, fault: 2 } | bad n mz 0
+list large.i | TooLarge { word: 1 } | large large.i
+list absent | Missing { word: 1 } | missing absent";
 
 #[test]
 fn an_image_is_neutral_or_refused_or_not_read(rt: HostRuntime) -> Result<(), Fail> {
@@ -183,6 +188,47 @@ fn a_second_read_or_a_put_that_fails_prints_nothing(rt: HostRuntime) -> Result<(
     ] {
         assert_eq!(rt; ebc(alloc, &words, &mut folder, &mut out), wanted);
         assert_eq!(rt; out.text(), text.as_bytes());
+    }
+    Ok(())
+}
+
+// How many bytes the code of an image has, the first of them, and the lines of its listing; all other bytes are the driver's.
+const LISTINGS: &str = "02 2700 .code|.global L00001000|L00001000:|.dw 0x0027
+06 780400800400 .code|.global L00001000|L00001000:|MOVInw R4, #0x8000|RET
+4A B907FA0F0000 .code|.global L00001000|L00001000:|MOVRELd R7, 4090|BREAK 5|MOVnw R4, @R0(+1,+16)|MOVqw R0, R0(-1,-0)|MOVqw R5, R0|PUSHn R5|CALL32EXa @R4|MOVqw R0, R0(+1,+0)|MOVsnw R5, R7|CMPI64wlte R5, -1|JMP8cs 14|MOVnw R5, @R0|MOVdw R6, @R5|MOVRELd R5, 4052|PUSHn @R5|MOVnw R4, @R0(+3,+16)|CALL32EXa @R4(+1,+0)|MOVqw R0, R0(+2,+0)|RET|MOVqw R0, R0(+1,+0)|RET|MOVIqw R7, 0|RET";
+
+// The lines of the driver's data.
+const DATA: &str =
+    "|.data|.db 0x40|.db 0xf0|.db 0xff|.db 0xff|.db 0x00|.db 0x00|.db 0x00|.db 0x00|";
+
+#[test]
+fn an_image_is_listed(rt: HostRuntime) -> Result<(), Fail> {
+    let alloc = rt.alloc();
+    let words = words_of(alloc, "list i")?;
+    for row in LISTINGS.lines() {
+        let (size, rest) = row.split_once(' ').ok_or("a row without a size")?;
+        let (code, lines) = rest.split_once(' ').ok_or("a row without code")?;
+        let mut image = image_of(alloc)?;
+        put(&mut image, 336, bytes_of(alloc, size)?.as_slice());
+        put(&mut image, 512, bytes_of(alloc, code)?.as_slice());
+        let mut folder = MemFolder::new(alloc);
+        folder.insert("i", image.as_slice())?;
+        folder.fail_reads(vec![in alloc; 1]?);
+        let mut out = MemSink::new(alloc);
+        out.fail_puts(vec![in alloc; 1]?);
+        let text = format!(in alloc; "{lines}{DATA}")?.replace(alloc, '|', "\n")?;
+        for (wanted, printed) in [
+            (Outcome::ReadFault, ""),
+            (Outcome::WriteFault, ""),
+            (Outcome::Done, text.as_str()),
+        ] {
+            assert_eq!(rt;
+                ebc(alloc, &words, &mut folder, &mut out),
+                wanted,
+                "at {row}"
+            );
+            assert_eq!(rt; out.text(), printed.as_bytes(), "at {row}");
+        }
     }
     Ok(())
 }

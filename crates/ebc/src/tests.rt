@@ -64,7 +64,7 @@ fn plain_code_is_neutral_or_refused(rt: HostRuntime) -> Result<(), Fail> {
     Ok(())
 }
 
-const USAGE: &str = "usage: check CODE | check IMAGE NOTES\n";
+const USAGE: &str = "usage: check CODE | check IMAGE NOTES | list IMAGE\n";
 
 #[test]
 fn words_that_are_no_command_print_the_usage(rt: HostRuntime) -> Result<(), Fail> {
@@ -72,10 +72,12 @@ fn words_that_are_no_command_print_the_usage(rt: HostRuntime) -> Result<(), Fail
     for line in [
         "check",
         "check ",
-        "list code",
+        "list",
+        "list ",
+        "lists image",
         "check code ",
         "check  notes",
-        "list code notes",
+        "list image notes",
         "check code notes more",
     ] {
         let mut out = MemSink::new(alloc);

@@ -1,4 +1,4 @@
--- What comes of reading the files of `check IMAGE NOTES`: the work, or the reply to the first file that is bad input.
+-- What comes of reading the files of `check IMAGE NOTES` and of `list IMAGE`: the work, or the reply to the first file that is bad input.
 use Rattle.std.proofs.Common.{◌≡◌, ◌↔◌, ℕ, ◌<◌, ◌≤◌, List, length, Option, Some, None, Result, Ok, Err, Bool, true, false, nat_lt, if◌then◌else◌, refl, sym, ap, ◌∙◌, arith}
 use Rattle.std.proofs.lemmas.Bool.Decides.{nat_tests}
 use Rattle.std.specs.FinMap.{get}
@@ -13,7 +13,7 @@ use Rattle.width_checker.specs.declared.verdict.Verdict.{Verdict}
 use Rattle.width_checker.specs.declared.verdict.Verdict.TheVariants.{Neutral, Refused}
 use Rattle.width_checker.specs.PlainChecks.{plain_verdict}
 use Rattle.ebc_cli.specs.declared.command.Command.{Command}
-use Rattle.ebc_cli.specs.declared.command.Command.TheVariants.{CheckCode, CheckImage}
+use Rattle.ebc_cli.specs.declared.command.Command.TheVariants.{CheckCode, CheckImage, ListImage}
 use Rattle.ebc_cli.specs.declared.outcome.Outcome.TheVariants as outcomes
 use Rattle.ebc_cli.specs.declared.reply.Reply.{Reply}
 use Rattle.ebc_cli.specs.declared.work.Work.{Work}
@@ -22,8 +22,8 @@ use Rattle.ebc_cli.specs.Commands.{command_of}
 use Rattle.ebc_cli.specs.Faults.{image_fault_number, toml_fault_number}
 use Rattle.ebc_cli.specs.Readings.{FileReading, ◌>>=◌, file, measured, go_on, done, told, missing_reply, large_reply}
 use Rattle.ebc_cli.specs.Inputs.{image_in, notes_in, image_limit, notes_limit, image_or_reply, notes_or_reply, bad_image_reply, bad_notes_reply}
-use Rattle.ebc_cli.specs.Works.{work_of, work_for, code_check, image_check, verdict_reply, usage_reply, IsReplyOf, plain_code_limit}
-use Rattle.ebc_cli.specs.Answers.{IsAnswerOf, ChecksImage, HasBadImage, HasBadNotes, HasBadInput, bad_image, bad_notes}
+use Rattle.ebc_cli.specs.Works.{work_of, work_for, code_check, image_check, image_listing, verdict_reply, usage_reply, IsReplyOf, plain_code_limit}
+use Rattle.ebc_cli.specs.Answers.{IsAnswerOf, HasFile, ChecksImage, ListsImage, NamesImage, to_check, to_list, HasBadImage, HasBadNotes, HasBadInput, bad_image, bad_notes}
 
 -- a length within a limit isn't past it
 within : (limit n : ℕ) (past : Bool) → nat_lt limit n ≡ past → n ≤ limit → past ≡ false
@@ -53,17 +53,12 @@ go-on-err asked (Err first) f reply e = let same : first ≡ reply = cc in first
 
 -- ---- a file
 
--- the folder has a file of this name with these bytes, within the limit
-record IsThere (name : List ℕ) (limit : ℕ) (files : Files) (bytes : List ℕ) : Type 0 where
-  there : get files name ≡ Some bytes
-  fits : length bytes ≤ limit
-
 sized : (name : List ℕ) (limit : ℕ) (files : Files) (reply : Reply) (found bytes : List ℕ) (past : Bool) → get files name ≡ Some found → nat_lt limit (length found) ≡ past
-    → (if past then Err reply else Ok found) ≡ Ok bytes → IsThere name limit files bytes
+    → (if past then Err reply else Ok found) ≡ Ok bytes → HasFile files name limit bytes
 sized name limit files reply found bytes true there e same = absurd cc
 sized name limit files reply found bytes false there e same = let is : found ≡ bytes = cc in record { there = rw (sym is) there; fits = rw (sym is) (grind (arith, nat_tests)) }
 
-measured-ok : (word : ℕ) (name : List ℕ) (limit : ℕ) (files : Files) (x : Option (List ℕ)) (bytes : List ℕ) → get files name ≡ x → measured word name limit x ≡ Ok bytes → IsThere name limit files bytes
+measured-ok : (word : ℕ) (name : List ℕ) (limit : ℕ) (files : Files) (x : Option (List ℕ)) (bytes : List ℕ) → get files name ≡ x → measured word name limit x ≡ Ok bytes → HasFile files name limit bytes
 measured-ok word name limit files None bytes there e = absurd cc
 measured-ok word name limit files (Some found) bytes there e = sized name limit files _ found bytes _ there refl e
 
@@ -80,7 +75,7 @@ measured-err word w f name limit (Some found) reply e bad = large-or-ok word w f
 
 record IsImageFile (name : List ℕ) (files : Files) (image : Image) : Type 0 where
   bytes : List ℕ
-  file : IsThere name image_limit files bytes
+  file : HasFile files name image_limit bytes
   image_is : image_of bytes ≡ Ok image
 
 image-or-ok : (word : ℕ) (name : List ℕ) (r : Result Image (ImageFault × ℕ)) (image : Image) → image_or_reply word name r ≡ Ok image → r ≡ Ok image
@@ -95,14 +90,14 @@ image-in-ok word name files image e =
 
 record IsBadImageFile (w f word : ℕ) (name : List ℕ) (files : Files) : Type 0 where
   bytes : List ℕ
-  file : IsThere name image_limit files bytes
+  file : HasFile files name image_limit bytes
   kind : ImageFault
   offset : ℕ
   image : image_of bytes ≡ Err (kind, offset)
   word_is : w ≡ word
   number : f ≡ image_fault_number kind
 
-image-or-err : (w f word : ℕ) (name bytes : List ℕ) (files : Files) (r : Result Image (ImageFault × ℕ)) (reply : Reply) → IsThere name image_limit files bytes → image_of bytes ≡ r
+image-or-err : (w f word : ℕ) (name bytes : List ℕ) (files : Files) (r : Result Image (ImageFault × ℕ)) (reply : Reply) → HasFile files name image_limit bytes → image_of bytes ≡ r
     → image_or_reply word name r ≡ Err reply → reply.outcome ≡ outcomes.BadInput w f → IsBadImageFile w f word name files
 image-or-err w f word name bytes files (Ok image) reply there is e bad = absurd cc
 image-or-err w f word name bytes files (Err (kind, offset)) reply there is e bad =
@@ -120,13 +115,13 @@ image-in-err w f word name files reply e bad =
 
 record IsBadNotesFile (w f word : ℕ) (name : List ℕ) (files : Files) : Type 0 where
   text : List ℕ
-  file : IsThere name notes_limit files text
+  file : HasFile files name notes_limit text
   fault : TomlFault
   notes : notes_of text ≡ Err fault
   word_is : w ≡ word
   number : f ≡ toml_fault_number fault
 
-notes-or-err : (w f word : ℕ) (name text : List ℕ) (files : Files) (r : Result Notes TomlFault) (reply : Reply) → IsThere name notes_limit files text → notes_of text ≡ r
+notes-or-err : (w f word : ℕ) (name text : List ℕ) (files : Files) (r : Result Notes TomlFault) (reply : Reply) → HasFile files name notes_limit text → notes_of text ≡ r
     → notes_or_reply word name r ≡ Err reply → reply.outcome ≡ outcomes.BadInput w f → IsBadNotesFile w f word name files
 notes-or-err w f word name text files (Ok notes) reply there is e bad = absurd cc
 notes-or-err w f word name text files (Err fault) reply there is e bad =
@@ -152,13 +147,15 @@ verdict-reply (Refused place rule) w f e = cc
 stops-by : (v : Result Work Reply) (reply : Reply) (w f : ℕ) → IsReplyOf v reply → reply.outcome ≡ outcomes.BadInput w f → v ≡ Err reply
 stops-by (Ok (works.CheckCode code)) reply w f told bad = absurd (verdict-reply (plain_verdict code) w f (sym (ap (λ (r : Reply). r.outcome) told) ∙ bad))
 stops-by (Ok (works.CheckImage image notes)) reply w f told bad = absurd (verdict-reply told.verdict w f (sym (ap (λ (r : Reply). r.outcome) told.told) ∙ bad))
+stops-by (Ok (works.ListImage image)) reply w f told bad = absurd (let clash : outcomes.Done ≡ outcomes.BadInput w f = sym (ap (λ (r : Reply). r.outcome) told) ∙ bad in cc)
 stops-by (Err stopped) reply w f told bad = ap Err (sym told)
 
-bad-image-file : (words : List (List ℕ)) (files : Files) (w f : ℕ) (a b : List ℕ) → command_of words ≡ Some (CheckImage a b) → IsBadImageFile w f 1 a files → HasBadInput words files w f
-bad-image-file words files w f a b command x = bad_image x.word_is record {
-  notes_name = b;
+bad-image-file : (words : List (List ℕ)) (files : Files) (w f : ℕ) (a : List ℕ) → NamesImage words a → IsBadImageFile w f 1 a files → HasBadInput words files w f
+bad-image-file words files w f a command x = bad_image x.word_is record {
+  name = a;
   bytes = x.bytes;
-  image_file = record { name = a; command = command; there = x.file.there; fits = x.file.fits };
+  command = command;
+  image_file = x.file;
   kind = x.kind;
   offset = x.offset;
   no_image = x.image;
@@ -167,11 +164,13 @@ bad-image-file words files w f a b command x = bad_image x.word_is record {
 
 bad-notes-file : (words : List (List ℕ)) (files : Files) (w f : ℕ) (a b : List ℕ) (image : Image) → command_of words ≡ Some (CheckImage a b) → IsImageFile a files image → IsBadNotesFile w f 2 b files → HasBadInput words files w f
 bad-notes-file words files w f a b image command i x = bad_notes x.word_is record {
+  image_name = a;
   notes_name = b;
   bytes = i.bytes;
   text = x.text;
-  image_file = record { name = a; command = command; there = i.file.there; fits = i.file.fits };
-  notes_file = record { there = x.file.there; fits = x.file.fits };
+  command = command;
+  image_file = i.file;
+  notes_file = x.file;
   image = image;
   image_is = i.image_is;
   found = x.fault;
@@ -186,9 +185,14 @@ notes-stop words files reply w f a b image command i (second_stops notes goes st
 
 image-stop : (words : List (List ℕ)) (files : Files) (reply : Reply) (w f : ℕ) (a b : List ℕ) → command_of words ≡ Some (CheckImage a b)
     → OneStops (image_in 1 a files).value (λ image. notes_in 2 b files >>= (λ notes. done (works.CheckImage image notes))) reply → reply.outcome ≡ outcomes.BadInput w f → HasBadInput words files w f
-image-stop words files reply w f a b command (first_stops stops) bad = bad-image-file words files w f a b command (image-in-err w f 1 a files reply stops bad)
+image-stop words files reply w f a b command (first_stops stops) bad = bad-image-file words files w f a (to_check b command) (image-in-err w f 1 a files reply stops bad)
 image-stop words files reply w f a b command (second_stops image goes stops) bad =
     notes-stop words files reply w f a b image command (image-in-ok 1 a files image goes) (go-on-err (notes_in 2 b files).asked (notes_in 2 b files).value (λ notes. done (works.CheckImage image notes)) reply stops) bad
+
+listing-stop : (words : List (List ℕ)) (files : Files) (reply : Reply) (w f : ℕ) (a : List ℕ) → command_of words ≡ Some (ListImage a)
+    → OneStops (image_in 1 a files).value (λ image. done (works.ListImage image)) reply → reply.outcome ≡ outcomes.BadInput w f → HasBadInput words files w f
+listing-stop words files reply w f a command (first_stops stops) bad = bad-image-file words files w f a (to_list command) (image-in-err w f 1 a files reply stops bad)
+listing-stop words files reply w f a command (second_stops image goes stops) bad = absurd cc
 
 code-stop : (words : List (List ℕ)) (files : Files) (reply : Reply) (w f : ℕ) (a : List ℕ)
     → OneStops (file 1 a plain_code_limit files).value (λ code. done (works.CheckCode code)) reply → reply.outcome ≡ outcomes.BadInput w f → HasBadInput words files w f
@@ -197,27 +201,37 @@ code-stop words files reply w f a (first_stops stops) bad = absurd (measured-err
 code-stop words files reply w f a (second_stops code goes stops) bad = absurd cc
 
 by-command : (words : List (List ℕ)) (files : Files) (reply : Reply) (w f : ℕ) (c : Option Command) → command_of words ≡ c → (work_for c files).value ≡ Err reply → reply.outcome ≡ outcomes.BadInput w f → HasBadInput words files w f
-unfolding code_check image_check
+unfolding code_check image_check image_listing
 by-command words files reply w f None command e bad = absurd (let same : usage_reply ≡ reply = cc in let clash : outcomes.BadWords ≡ outcomes.BadInput w f = ap (λ (r : Reply). r.outcome) same ∙ bad in cc)
 by-command words files reply w f (Some (CheckCode a)) command e bad = code-stop words files reply w f a (go-on-err (file 1 a plain_code_limit files).asked (file 1 a plain_code_limit files).value (λ code. done (works.CheckCode code)) reply e) bad
 by-command words files reply w f (Some (CheckImage a b)) command e bad =
     image-stop words files reply w f a b command (go-on-err (image_in 1 a files).asked (image_in 1 a files).value (λ image. notes_in 2 b files >>= (λ notes. done (works.CheckImage image notes))) reply e) bad
+by-command words files reply w f (Some (ListImage a)) command e bad = listing-stop words files reply w f a command (go-on-err (image_in 1 a files).asked (image_in 1 a files).value (λ image. done (works.ListImage image)) reply e) bad
 
 -- ---- and back
 
 pub image-work : (words : List (List ℕ)) (files : Files) (image : Image) (notes : Notes) → ChecksImage words files image notes → (work_of words files).value ≡ Ok (works.CheckImage image notes)
 unfolding work_of image_check image_in notes_in file
 image-work words files image notes c =
-    rw (c.image_file.command, c.image_file.there, c.notes_file.there, within image_limit (length c.bytes) _ refl c.image_file.fits, within notes_limit (length c.text) _ refl c.notes_file.fits, c.image_is, c.notes_are) refl
+    rw (c.command, c.image_file.there, c.notes_file.there, within image_limit (length c.bytes) _ refl c.image_file.fits, within notes_limit (length c.text) _ refl c.notes_file.fits, c.image_is, c.notes_are) refl
 
-bad-image-work : (words : List (List ℕ)) (files : Files) (f : ℕ) (x : HasBadImage words files f) → (work_of words files).value ≡ Err (bad_image_reply 1 x.image_file.name x.kind x.offset)
-unfolding work_of image_check image_in file
-bad-image-work words files f x = rw (x.image_file.command, x.image_file.there, within image_limit (length x.bytes) _ refl x.image_file.fits, x.no_image) refl
+pub listing-work : (words : List (List ℕ)) (files : Files) (image : Image) → ListsImage words files image → (work_of words files).value ≡ Ok (works.ListImage image)
+unfolding work_of image_listing image_in file
+listing-work words files image c = rw (c.command, c.image_file.there, within image_limit (length c.bytes) _ refl c.image_file.fits, c.image_is) refl
+
+bad-image-by : (words : List (List ℕ)) (files : Files) (name bytes : List ℕ) (kind : ImageFault) (offset : ℕ) → NamesImage words name → HasFile files name image_limit bytes
+    → image_of bytes ≡ Err (kind, offset) → (work_of words files).value ≡ Err (bad_image_reply 1 name kind offset)
+unfolding work_of image_check image_listing image_in file
+bad-image-by words files name bytes kind offset (to_check notes_name command) found none = rw (command, found.there, within image_limit (length bytes) _ refl found.fits, none) refl
+bad-image-by words files name bytes kind offset (to_list command) found none = rw (command, found.there, within image_limit (length bytes) _ refl found.fits, none) refl
+
+bad-image-work : (words : List (List ℕ)) (files : Files) (f : ℕ) (x : HasBadImage words files f) → (work_of words files).value ≡ Err (bad_image_reply 1 x.name x.kind x.offset)
+bad-image-work words files f x = bad-image-by words files x.name x.bytes x.kind x.offset x.command x.image_file x.no_image
 
 bad-notes-work : (words : List (List ℕ)) (files : Files) (f : ℕ) (x : HasBadNotes words files f) → (work_of words files).value ≡ Err (bad_notes_reply 2 x.notes_name x.found)
 unfolding work_of image_check image_in notes_in file
 bad-notes-work words files f x =
-    rw (x.image_file.command, x.image_file.there, x.notes_file.there, within image_limit (length x.bytes) _ refl x.image_file.fits, within notes_limit (length x.text) _ refl x.notes_file.fits, x.image_is, x.no_notes) refl
+    rw (x.command, x.image_file.there, x.notes_file.there, within image_limit (length x.bytes) _ refl x.image_file.fits, within notes_limit (length x.text) _ refl x.notes_file.fits, x.image_is, x.no_notes) refl
 
 replied : (v : Result Work Reply) (stopped reply : Reply) → v ≡ Err stopped → IsReplyOf v reply → reply ≡ stopped
 replied v stopped reply e told = rw e at told

@@ -1,10 +1,11 @@
--- From a reply to the words to the clauses of `ebc`: what it says of code, of an image under notes, and of bad input.
+-- From a reply to the words to the clauses of `ebc`: what it says of code, of an image under notes, of a listing, and of bad input.
 use Rattle.std.proofs.Common.{◌≡◌, ◌↔◌, ℕ, ◌<◌, ◌≤◌, List, [], ◌∷◌, length, Option, Some, None, IfSome, Result, Ok, Err, Bool, true, false, nat_lt, if◌then◌else◌, refl, sym, ap, ◌∙◌, arith}
 use Rattle.std.proofs.lemmas.Bool.Decides.{nat_tests}
 use Rattle.ebc_outside.specs.Files.{Files, AppendsPart}
 use Rattle.note_types.specs.declared.notes.Notes.{Notes}
 use Rattle.note_types.specs.declared.rule.RuleName.{RuleName}
 use Rattle.pe_image.specs.declared.image.Image.{Image}
+use Rattle.ebc_disasm.specs.Listings.{listing_of}
 use Rattle.width_checker.specs.declared.verdict.Verdict.{Verdict}
 use Rattle.width_checker.specs.declared.verdict.Verdict.TheVariants.{Neutral, Refused}
 use Rattle.width_checker.specs.PlainChecks.{plain_verdict}
@@ -23,9 +24,9 @@ use Rattle.ebc_cli.specs.declared.work.Work.{Work}
 use Rattle.ebc_cli.specs.declared.work.Work.TheVariants as works
 use Rattle.ebc_cli.specs.Outcomes.{IsAnswer}
 use Rattle.ebc_cli.specs.Readings.{file, done, go_on, large_reply}
-use Rattle.ebc_cli.specs.Works.{work_of, code_check, verdict_reply, TellsVerdict, IsReplyOf, plain_code_limit}
-use Rattle.ebc_cli.specs.Answers.{IsAnswerOf, Decides, Answers, PrintsPart, printed, ChecksCode, ChecksImage, HasBadInput}
-use Rattle.ebc_cli.proofs.BadInputLemmas.{bad-exactly, image-work}
+use Rattle.ebc_cli.specs.Works.{work_of, code_check, verdict_reply, listing_reply, TellsVerdict, IsReplyOf, plain_code_limit}
+use Rattle.ebc_cli.specs.Answers.{IsAnswerOf, Decides, Answers, PrintsPart, printed, ChecksCode, ChecksImage, ListsImage, HasBadInput}
+use Rattle.ebc_cli.proofs.BadInputLemmas.{bad-exactly, image-work, listing-work}
 
 -- a reply that was decided is an answer, whether the reading went through or stopped
 pub answer-ok : (contents : Option Files) (words before now : List (List ℕ)) (reply : Reply) → IfSome contents (λ files. Decides before now (Ok reply) (work_of words files)) → IfSome contents (λ files. IsAnswerOf words files reply)
@@ -95,6 +96,23 @@ bad-input None words reply outcome tells = tt
 bad-input (Some files) words reply outcome tells = λ word fault answered.
     let exact = bad-exactly words files reply word fault tells.told in
     (λ e. exact.0 (sym (tells.same answered) ∙ e), λ bad. tells.same answered ∙ exact.1 bad)
+
+-- ---- `list IMAGE`
+
+listing-told : (words : List (List ℕ)) (files : Files) (reply : Reply) (image : Image) → ListsImage words files image → IsAnswerOf words files reply → reply ≡ listing_reply (listing_of image)
+listing-told words files reply image c told = rw (listing-work words files image c) at told
+
+pub lists-always : (contents : Option Files) (words : List (List ℕ)) (reply : Reply) (outcome : Outcome) → Tells contents words reply outcome
+    → IfSome contents (λ files. (image : Image) → ListsImage words files image → IsAnswer outcome → outcome ≡ outcomes.Done)
+lists-always None words reply outcome tells = tt
+lists-always (Some files) words reply outcome tells = λ image c answered. tells.same answered ∙ ap (λ (r : Reply). r.outcome) (listing-told words files reply image c tells.told)
+
+pub lists-exactly : (contents : Option Files) (words : List (List ℕ)) (reply : Reply) (outcome : Outcome) (before now : Option (List ℕ)) → Tells contents words reply outcome
+    → (IsAnswer outcome → now ≡ printed reply.text before)
+    → IfSome contents (λ files. (image : Image) → ListsImage words files image → IsAnswer outcome → now ≡ printed (listing_of image) before)
+lists-exactly None words reply outcome before now tells text = tt
+lists-exactly (Some files) words reply outcome before now tells text = λ image c answered.
+    text answered ∙ ap (λ (r : Reply). printed r.text before) (listing-told words files reply image c tells.told)
 
 -- ---- `check CODE`
 

@@ -10,7 +10,7 @@ use Rattle.pe_image.specs.Images.{image_of}
 use Rattle.type_notes.specs.Notes.{notes_of}
 use Rattle.ebc_cli.specs.declared.outcome.Outcome.{Outcome}
 use Rattle.ebc_cli.specs.declared.outcome.Outcome.TheVariants as outcomes
-use Rattle.ebc_cli.specs.declared.command.Command.TheVariants.{CheckCode, CheckImage}
+use Rattle.ebc_cli.specs.declared.command.Command.TheVariants.{CheckCode, CheckImage, ListImage}
 use Rattle.ebc_cli.specs.declared.reply.End.{End}
 use Rattle.ebc_cli.specs.declared.reply.End.TheVariants as ends
 use Rattle.ebc_cli.specs.declared.reply.Reply.{Reply}
@@ -58,33 +58,42 @@ pub record ChecksCode (words : List (List ℕ)) (files : Files) (code : List ℕ
   pub command : command_of words ≡ Some (CheckCode name)
   pub there : get files name ≡ Some code
 
--- the words are `check IMAGE NOTES`, and the folder has these bytes under the name of the image, within the limit
-pub record HasImageFile (words : List (List ℕ)) (files : Files) (notes_name bytes : List ℕ) : Type 0 where
-  pub name : List ℕ
-  pub command : command_of words ≡ Some (CheckImage name notes_name)
+-- the folder has these bytes under this name, and they are within the limit
+pub record HasFile (files : Files) (name : List ℕ) (limit : ℕ) (bytes : List ℕ) : Type 0 where
   pub there : get files name ≡ Some bytes
-  pub fits : length bytes ≤ image_limit
-
--- and it has this text under the name of the notes, within the limit
-pub record HasNotesFile (files : Files) (name text : List ℕ) : Type 0 where
-  pub there : get files name ≡ Some text
-  pub fits : length text ≤ notes_limit
+  pub fits : length bytes ≤ limit
 
 -- the words are `check IMAGE NOTES`, and the folder has files within their limits that stand for this image and these notes
 pub record ChecksImage (words : List (List ℕ)) (files : Files) (image : Image) (notes : Notes) : Type 0 where
+  pub image_name : List ℕ
   pub notes_name : List ℕ
   pub bytes : List ℕ
   pub text : List ℕ
-  pub image_file : HasImageFile words files notes_name bytes
-  pub notes_file : HasNotesFile files notes_name text
+  pub command : command_of words ≡ Some (CheckImage image_name notes_name)
+  pub image_file : HasFile files image_name image_limit bytes
+  pub notes_file : HasFile files notes_name notes_limit text
   pub image_is : image_of bytes ≡ Ok image
   pub notes_are : notes_of text ≡ Ok notes
 
+-- the words are `list IMAGE`, and the folder has a file within its limit that stands for this image
+pub record ListsImage (words : List (List ℕ)) (files : Files) (image : Image) : Type 0 where
+  pub name : List ℕ
+  pub bytes : List ℕ
+  pub command : command_of words ≡ Some (ListImage name)
+  pub image_file : HasFile files name image_limit bytes
+  pub image_is : image_of bytes ≡ Ok image
+
+-- the words are `check IMAGE NOTES` or `list IMAGE`, and the image has this name
+pub data NamesImage (words : List (List ℕ)) (name : List ℕ) : Type 0 where
+  to_check : (notes_name : List ℕ) → command_of words ≡ Some (CheckImage name notes_name) → NamesImage words name
+  to_list : command_of words ≡ Some (ListImage name) → NamesImage words name
+
 -- the image's file is no image: its first fault has this number
 pub record HasBadImage (words : List (List ℕ)) (files : Files) (fault : ℕ) : Type 0 where
-  pub notes_name : List ℕ
+  pub name : List ℕ
   pub bytes : List ℕ
-  pub image_file : HasImageFile words files notes_name bytes
+  pub command : NamesImage words name
+  pub image_file : HasFile files name image_limit bytes
   pub kind : ImageFault
   pub offset : ℕ
   pub no_image : image_of bytes ≡ Err (kind, offset)
@@ -92,11 +101,13 @@ pub record HasBadImage (words : List (List ℕ)) (files : Files) (fault : ℕ) :
 
 -- the image's file is an image, and the text under the name of the notes stands for none: its first fault has this number
 pub record HasBadNotes (words : List (List ℕ)) (files : Files) (fault : ℕ) : Type 0 where
+  pub image_name : List ℕ
   pub notes_name : List ℕ
   pub bytes : List ℕ
   pub text : List ℕ
-  pub image_file : HasImageFile words files notes_name bytes
-  pub notes_file : HasNotesFile files notes_name text
+  pub command : command_of words ≡ Some (CheckImage image_name notes_name)
+  pub image_file : HasFile files image_name image_limit bytes
+  pub notes_file : HasFile files notes_name notes_limit text
   pub image : Image
   pub image_is : image_of bytes ≡ Ok image
   pub found : TomlFault

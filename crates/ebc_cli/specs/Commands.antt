@@ -2,7 +2,7 @@
 use Rattle.std.specs.Prelude.{ℕ, List, [], ◌∷◌, map, codes, bytes_eq, if◌then◌else◌, Option, Some, None, String, Vec, string_bytes}
 use Rattle.std.specs.declared.alloc.Global.{Global}
 use Rattle.ebc_cli.specs.declared.command.Command.{Command}
-use Rattle.ebc_cli.specs.declared.command.Command.TheVariants.{CheckCode, CheckImage}
+use Rattle.ebc_cli.specs.declared.command.Command.TheVariants.{CheckCode, CheckImage, ListImage}
 
 -- the words as their bytes
 abbrev pub word_bytes : Vec (String Global) Global → List (List ℕ)
@@ -21,6 +21,9 @@ of_two_files make (b ∷ bytes) (c ∷ others) = Some (make (b ∷ bytes) (c ∷
 
 -- the command of the words, where they are one: its name, and then a word for each file
 abbrev pub command_of : List (List ℕ) → Option Command
-command_of (word ∷ file ∷ []) = if bytes_eq word (codes "check") then of_file CheckCode file else None
+command_of (word ∷ file ∷ []) =
+    if bytes_eq word (codes "check") then of_file CheckCode file
+    else if bytes_eq word (codes "list") then of_file ListImage file
+    else None
 command_of (word ∷ image ∷ notes ∷ []) = if bytes_eq word (codes "check") then of_two_files CheckImage image notes else None
 command_of words = None

@@ -6,6 +6,7 @@ use Rattle.note_types.specs.declared.rule.RuleName.{RuleName}
 use Rattle.note_types.specs.Records.{IsNotes}
 use Rattle.pe_image.specs.declared.image.Image.{Image}
 use Rattle.pe_image.specs.Images.{IsImage}
+use Rattle.ebc_disasm.specs.Listings.{listing_of}
 use Rattle.width_checker.specs.declared.verdict.Verdict.{Verdict}
 use Rattle.width_checker.specs.declared.verdict.Verdict.TheVariants as verdicts
 use Rattle.width_checker.specs.PlainChecks.{plain_verdict}
@@ -44,10 +45,17 @@ image_check image_name notes_name files = do
   notes ← notes_in 2 notes_name files
   done (works.CheckImage image notes)
 
+-- `list IMAGE`
+unfoldable pub image_listing : List ℕ → Files → FileReading Work
+image_listing name files = do
+  image ← image_in 1 name files
+  done (works.ListImage image)
+
 abbrev pub work_for : Option Command → Files → FileReading Work
 work_for None files = told (Err usage_reply)
 work_for (Some (commands.CheckCode code)) files = code_check code files
 work_for (Some (commands.CheckImage image notes)) files = image_check image notes files
+work_for (Some (commands.ListImage image)) files = image_listing image files
 
 -- the files that the words ask for, and the work, or the reply at which the reading stops
 unfoldable pub work_of : List (List ℕ) → Files → FileReading Work
@@ -59,10 +67,15 @@ work_of words files = work_for (command_of words) files
 abbrev pub CanBeDone : Work → Type 0
 CanBeDone (works.CheckCode code) = length code ≤ plain_code_limit
 CanBeDone (works.CheckImage image notes) = IsImage image × IsNotes notes
+CanBeDone (works.ListImage image) = IsImage image
 
 abbrev pub verdict_reply : Verdict → Reply
 verdict_reply verdicts.Neutral = record { outcome = outcomes.Done; text = neutral_line }
 verdict_reply (verdicts.Refused place rule) = record { outcome = outcomes.Refused place rule; text = refused_line place rule }
+
+-- the text of a listing is printed as it is
+abbrev pub listing_reply : List ℕ → Reply
+listing_reply text = record { outcome = outcomes.Done; text = text }
 
 -- the reply tells the verdict on an image under notes: neutral exactly where the image is typed, and refused at a place
 -- by a rule exactly where that is the first place at which a rule fails, and the first rule that fails there
@@ -75,6 +88,7 @@ pub record TellsVerdict (image : Image) (notes : Notes) (reply : Reply) : Type 0
 abbrev pub IsReplyTo : Work → Reply → Type 0
 IsReplyTo (works.CheckCode code) reply = reply ≡ verdict_reply (plain_verdict code)
 IsReplyTo (works.CheckImage image notes) reply = TellsVerdict image notes reply
+IsReplyTo (works.ListImage image) reply = reply ≡ listing_reply (listing_of image)
 
 -- a reading that went through is replied to as its work, and else by the reply at which it stopped
 abbrev pub IsReplyOf : Result Work Reply → Reply → Type 0

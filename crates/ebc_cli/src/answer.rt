@@ -5,11 +5,12 @@ ghost use Rattle.ebc_outside.specs.Files.{AppendsPart};
 ghost use Rattle.note_types.specs.declared.notes.Notes.{Notes};
 ghost use Rattle.note_types.specs.declared.rule.RuleName.{RuleName};
 ghost use Rattle.pe_image.specs.declared.image.Image.{Image};
+ghost use Rattle.ebc_disasm.specs.Listings.{listing_of};
 ghost use Rattle.width_checker.specs.PlainRules as plain;
 ghost use Rattle.width_checker.specs.PlainRuns.{RunsAlike};
 ghost use Rattle.width_checker.specs.Typed.{Typed};
 ghost use Rattle.width_checker.specs.Verdicts.{IsRefused};
-ghost use Rattle.ebc_cli.specs.Answers.{Answers, AnswersWords, Decides, PrintsPart, ChecksCode, ChecksImage, HasBadInput, printed};
+ghost use Rattle.ebc_cli.specs.Answers.{Answers, AnswersWords, Decides, PrintsPart, ChecksCode, ChecksImage, ListsImage, HasBadInput, printed};
 ghost use Rattle.ebc_cli.specs.Commands.{command_of, word_bytes};
 ghost use Rattle.ebc_cli.specs.Outcomes.{IsAnswer};
 ghost use Rattle.ebc_cli.specs.Readings.{AsksPart, IfStop};
@@ -47,6 +48,13 @@ pub fn ebc<F: Folder, O: Sink>(
     ensures refused_exactly { IfSome (F.contents folder.old) (λ files. (image : Image) (notes : Notes) (place : ℕ) (rule : RuleName) →
         ChecksImage (word_bytes words.now) files image notes →
         IsAnswer result → result ≡ Outcome.Refused place rule ↔ IsRefused image notes place rule) }
+
+    // `list IMAGE` lists each image within the limit, and what is printed is exactly its listing.
+    ensures lists_always { IfSome (F.contents folder.old) (λ files. (image : Image) →
+        ListsImage (word_bytes words.now) files image → IsAnswer result → result ≡ Outcome.Done) }
+    ensures lists_exactly { IfSome (F.contents folder.old) (λ files. (image : Image) →
+        ListsImage (word_bytes words.now) files image →
+        IsAnswer result → O.written out.new ≡ printed (listing_of image) (O.written out.old)) }
 
     // A file is bad input exactly where it is the first that stands for no image or no notes, by its first fault.
     ensures bad_input_exactly { IfSome (F.contents folder.old) (λ files. (word fault : ℕ) →

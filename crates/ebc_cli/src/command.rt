@@ -12,6 +12,8 @@ pub enum Command {
     CheckCode { code: Name },
     /// `check IMAGE NOTES`: the check of an image under notes.
     CheckImage { image: Name, notes: Name },
+    /// `list IMAGE`: the listing of an image.
+    ListImage { image: Name },
 }
 
 /// The command that the words spell, if they spell one.
@@ -34,6 +36,10 @@ fn with_one_file(alloc: Global, word: &String, file: &String) -> Result<Option<C
     if word.as_str() == "check" {
         let code = Name::new(String::from_str(alloc, file.as_str())?);
         return Ok(Some(Command::CheckCode { code }));
+    }
+    if word.as_str() == "list" {
+        let image = Name::new(String::from_str(alloc, file.as_str())?);
+        return Ok(Some(Command::ListImage { image }));
     }
     Ok(None)
 }

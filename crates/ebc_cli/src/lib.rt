@@ -1,7 +1,8 @@
 //! The commands of the program `ebc`: what the words ask for, over a folder of files and an output.
 //!
 //! The one public call is [`ebc`]. docs/COMMANDS.md lists the commands, the lines that they print and the exit
-//! status; docs/RULES.md has the rules of the check of images, docs/PLAIN.md those of the plain check.
+//! status; docs/RULES.md has the rules of the check of images, docs/PLAIN.md those of the plain check, and
+//! docs/ASSEMBLY.md what is listed of an image.
 #![tactic(auto)]
 
 mod answer;

@@ -3,7 +3,7 @@ ghost use Rattle.std.specs.Prelude.{◌≡◌, Some, IfOk, string_bytes};
 ghost use Rattle.ebc_cli.specs.Texts.{place_text, rule_text};
 ghost use Rattle.ebc_cli.specs.Readings.{missing_reply, large_reply};
 ghost use Rattle.ebc_cli.specs.Inputs.{bad_image_reply, bad_notes_reply};
-ghost use Rattle.ebc_cli.specs.Works.{verdict_reply, usage_reply};
+ghost use Rattle.ebc_cli.specs.Works.{verdict_reply, listing_reply, usage_reply};
 
 use crate::fault::{
     image_fault_number, image_fault_text, key_path, toml_fault_number, toml_fault_text,
@@ -90,11 +90,23 @@ fn refused(alloc: Global, place: u32, rule: RuleName) -> Result<Reply, AllocErro
     })
 }
 
+/// The answer of a listing: the text itself.
+pub fn listing(text: Vec<u8>) -> Reply
+    ensures { result ≡ listing_reply text.items }
+{
+    Reply {
+        outcome: Outcome::Done,
+        text: Sequence::new(text),
+    }
+}
+
 /// The answer to words that are no command.
 pub fn usage(alloc: Global) -> Result<Reply, AllocError>
     ensures { IfOk result (λ r. r ≡ usage_reply) }
 {
-    let text = Sequence::new(b"usage: check CODE | check IMAGE NOTES\n".to_vec(alloc)?);
+    let text = Sequence::new(
+        b"usage: check CODE | check IMAGE NOTES | list IMAGE\n".to_vec(alloc)?,
+    );
     Ok(Reply {
         outcome: Outcome::BadWords,
         text,

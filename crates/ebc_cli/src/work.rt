@@ -7,7 +7,7 @@ ghost use Rattle.ebc_cli.specs.Answers.{AnswersWords};
 ghost use Rattle.ebc_cli.specs.Commands.{command_of, word_bytes};
 ghost use Rattle.ebc_cli.specs.Outcomes.{IsWorkAnswer};
 ghost use Rattle.ebc_cli.specs.Readings.{Follows, IfStop, CommandAnswer};
-ghost use Rattle.ebc_cli.specs.Works.{CanBeDone, IsReplyTo, code_check, image_check, work_of};
+ghost use Rattle.ebc_cli.specs.Works.{CanBeDone, IsReplyTo, code_check, image_check, image_listing, work_of};
 
 use crate::command::{Command, command_of};
 use crate::input::{image_in, notes_in};
@@ -15,6 +15,7 @@ use crate::reading::file;
 use crate::reply::{End, Reply};
 use crate::text;
 use ebc_base::{NoMemory, Sequence};
+use ebc_disasm::list;
 use ebc_outside::Folder;
 use note_types::Notes;
 use pe_image::Image;
@@ -31,6 +32,8 @@ pub enum Work {
     CheckCode { code: Sequence<u8> },
     /// The check of an image under notes.
     CheckImage { image: Image, notes: Notes },
+    /// The listing of an image.
+    ListImage { image: Image },
 }
 
 /// Reads the files that the words name, and says what the words ask for.
@@ -54,6 +57,7 @@ pub fn read_work<F: Folder>(alloc: Global, words: &Vec<String>, folder: &mut F) 
         Some(Command::CheckImage { image, notes }) => {
             read_image_check(alloc, image.as_str(), notes.as_str(), folder)
         }
+        Some(Command::ListImage { image }) => read_image_listing(alloc, image.as_str(), folder),
     }
 }
 
@@ -101,6 +105,24 @@ fn read_image_check<F: Folder>(
     }
 }
 
+// `list IMAGE`
+#[tactic(auto, unfolding(crate::specs::Works::image_listing))]
+fn read_image_listing<F: Folder>(alloc: Global, name: &str, folder: &mut F) -> Result<Work, End>
+    ensures follows { IfSome (F.contents folder.old) (λ files.
+        Follows (F.asked folder.old) (F.asked folder.new) result (image_listing name.now files)) }
+    ensures work { IfOk result CanBeDone }
+    ensures stop { IfStop result (CommandAnswer (F.contents folder.old)
+        (F.read_faults folder.old) (F.read_faults folder.new)) }
+    ensures fault { IsErrOf result End.ReadFault →
+        Rose (F.read_faults folder.old) (F.read_faults folder.new) }
+    ensures uncounted { IfSome (F.contents folder.old) (λ _. ¬ IsErrOf result End.ReadFault →
+        F.read_faults folder.new ≡ F.read_faults folder.old) }
+    ensures contents { F.contents folder.new ≡ F.contents folder.old }
+{
+    let image = image_in(alloc, folder, 1, name)?;
+    Ok(Work::ListImage { image })
+}
+
 impl Work {
     /// Does the work.
     pub fn reply(&self, alloc: Global) -> Result<Reply, NoMemory>
@@ -116,6 +138,10 @@ impl Work {
             Work::CheckImage { image, notes } => {
                 let verdict = check(alloc, image, notes)?;
                 Ok(text::verdict(alloc, verdict)?)
+            }
+            Work::ListImage { image } => {
+                let listing = list(alloc, image)?;
+                Ok(text::listing(listing))
             }
         }
     }

@@ -1,4 +1,4 @@
-use Rattle.ebc_cli.proofs.HeadlineLemmas.{Tells, answer-ok, answer-stop, answers, prints-part, exactly, refused, bad-input, plain-alike, plain-exactly, plain-refused}
+use Rattle.ebc_cli.proofs.HeadlineLemmas.{Tells, answer-ok, answer-stop, answers, prints-part, exactly, refused, lists-always, lists-exactly, bad-input, plain-alike, plain-exactly, plain-refused}
 use Rattle.ebc_cli.specs.Commands.{word_bytes}
 use Rattle.ebc_cli.proofs.answer.ebc.Goals as goal
 use Rattle.ebc_cli.proofs.answer.ebc.Goals.{in-Ok, in-Err-Stop, After-drop-reply}
@@ -24,6 +24,12 @@ returns-clause-neutral_exactly g c = exactly _ _ _ _ (tells g c)
 
 pub returns-clause-refused_exactly : goal.returns-clause-refused_exactly
 returns-clause-refused_exactly g c = refused _ _ _ _ (tells g c)
+
+pub returns-clause-lists_always : goal.returns-clause-lists_always
+returns-clause-lists_always g c = lists-always _ _ _ _ (tells g c)
+
+pub returns-clause-lists_exactly : goal.returns-clause-lists_exactly
+returns-clause-lists_exactly g c = lists-exactly _ _ _ _ _ _ (tells g c) c.print.ensures.text
 
 pub returns-clause-bad_input_exactly : goal.returns-clause-bad_input_exactly
 returns-clause-bad_input_exactly g c = bad-input _ _ _ _ (tells g c)
