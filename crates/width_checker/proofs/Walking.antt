@@ -68,25 +68,25 @@ entry_not_below image notes func f at next x b s comes e bad h =
     bad (subst (IsBelowPoint notes at) (sym (come_some b s (entry_state notes func) start).1) (h.entry e))
 
 -- a row that gives a path gives the states that it leads to
-pub row_given : (r : Gives Successors) (s : State) (p : Path) → gives_map {A = Path} (successors_from s) (Ok p) ≡ r → r ≡ Ok (successors_from s p)
-row_given r s p e = sym e
+pub row_given : (r : Gives Successors) (s t : State) (p : Path) → gives_map {A = Path} (successors_from s t) (Ok p) ≡ r → r ≡ Ok (successors_from s t p)
+row_given r s t p e = sym e
 
-fall_of : (s : State) (p : Path) → come_of (does_fall p) s ≡ (successors_from s p).fall
-fall_of s path.Falls = refl
-fall_of s (path.Goes place) = refl
-fall_of s (path.Parts place there) = refl
-fall_of s path.Ends = refl
+fall_of : (s t : State) (p : Path) → come_of (does_fall p) s ≡ (successors_from s t p).fall
+fall_of s t path.Falls = refl
+fall_of s t (path.Goes place) = refl
+fall_of s t (path.Parts place) = refl
+fall_of s t path.Ends = refl
 
 -- ---- where the states that an instruction leads to are below those of the points there
 
-pub leads_falls : (notes : Notes) (next : ℕ) (s : State) (b : Bool) → (IsTrue b ↔ IsBelowPoint notes next s) → IsTrue b ↔ LeadsBelow notes next (successors_from s path.Falls)
-leads_falls notes next s b h = (
+pub leads_falls : (notes : Notes) (next : ℕ) (s taken : State) (b : Bool) → (IsTrue b ↔ IsBelowPoint notes next s) → IsTrue b ↔ LeadsBelow notes next (successors_from s taken path.Falls)
+leads_falls notes next s taken b h = (
   λ t. record { fall = λ x e. subst (IsBelowPoint notes next) (same_Some s x e) (h.0 t); jump = λ p x e. absurd (none-some _ e) },
   λ l. h.1 (l.fall s refl),
 )
 
-pub leads_goes : (notes : Notes) (next place : ℕ) (s : State) (b : Bool) → (IsTrue b ↔ IsBelowPoint notes place s) → IsTrue b ↔ LeadsBelow notes next (successors_from s (path.Goes place))
-leads_goes notes next place s b h = (
+pub leads_goes : (notes : Notes) (next place : ℕ) (s taken : State) (b : Bool) → (IsTrue b ↔ IsBelowPoint notes place s) → IsTrue b ↔ LeadsBelow notes next (successors_from s taken (path.Goes place))
+leads_goes notes next place s taken b h = (
   λ t. record { fall = λ x e. absurd (none-some _ e); jump = λ p x e. jumped p x (some_pair_parts place p s x e) (h.0 t) },
   λ l. h.1 (l.jump place s refl),
 )
@@ -94,28 +94,28 @@ leads_goes notes next place s b h = (
     jumped : (p : ℕ) (x : State) → (place ≡ p) × (s ≡ x) → IsBelowPoint notes place s → IsBelowPoint notes p x
     jumped p x e below = subst (λ q. IsBelowPoint notes q x) e.0 (subst (IsBelowPoint notes place) e.1 below)
 
-pub leads_parts : (notes : Notes) (next place : ℕ) (s there : State) → IsBelowPoint notes next s → IsBelowPoint notes place there → LeadsBelow notes next (successors_from s (path.Parts place there))
+pub leads_parts : (notes : Notes) (next place : ℕ) (s there : State) → IsBelowPoint notes next s → IsBelowPoint notes place there → LeadsBelow notes next (successors_from s there (path.Parts place))
 leads_parts notes next place s there fall jump = record {
   fall = λ x e. subst (IsBelowPoint notes next) (same_Some s x e) fall;
   jump = λ p x e. let same = some_pair_parts place p there x e in subst (λ q. IsBelowPoint notes q x) same.0 (subst (IsBelowPoint notes place) same.1 jump);
 }
 
-pub leads_parts_fall : (notes : Notes) (next place : ℕ) (s there : State) → LeadsBelow notes next (successors_from s (path.Parts place there)) → IsBelowPoint notes next s
+pub leads_parts_fall : (notes : Notes) (next place : ℕ) (s there : State) → LeadsBelow notes next (successors_from s there (path.Parts place)) → IsBelowPoint notes next s
 leads_parts_fall notes next place s there l = l.fall s refl
 
-pub leads_parts_jump : (notes : Notes) (next place : ℕ) (s there : State) → LeadsBelow notes next (successors_from s (path.Parts place there)) → IsBelowPoint notes place there
+pub leads_parts_jump : (notes : Notes) (next place : ℕ) (s there : State) → LeadsBelow notes next (successors_from s there (path.Parts place)) → IsBelowPoint notes place there
 leads_parts_jump notes next place s there l = l.jump place there refl
 
-pub leads_ends : (notes : Notes) (next : ℕ) (s : State) → LeadsBelow notes next (successors_from s path.Ends)
-leads_ends notes next s = record { fall = λ x e. absurd (none-some _ e); jump = λ p x e. absurd (none-some _ e) }
+pub leads_ends : (notes : Notes) (next : ℕ) (s taken : State) → LeadsBelow notes next (successors_from s taken path.Ends)
+leads_ends notes next s taken = record { fall = λ x e. absurd (none-some _ e); jump = λ p x e. absurd (none-some _ e) }
 
 -- ---- after an instruction
 
-pub comes_next : (image : Image) (notes : Notes) (func : ℕ) (f : FnNote) (at next : ℕ) (c : Option State) (s : State) (i : Insn) (after : State) (p : Path) → ComesTo image notes func f at c
-    → IsBefore notes at c s → IsDecoded image f at i next → next < f.end → row_of notes (here_at image func at next) s i ≡ Ok (successors_from after p)
+pub comes_next : (image : Image) (notes : Notes) (func : ℕ) (f : FnNote) (at next : ℕ) (c : Option State) (s : State) (i : Insn) (after taken : State) (p : Path) → ComesTo image notes func f at c
+    → IsBefore notes at c s → IsDecoded image f at i next → next < f.end → row_of notes (here_at image func at next) s i ≡ Ok (successors_from after taken p)
     → ComesTo image notes func f next (come_of (does_fall p) after)
 unfolding Comes
-comes_next image notes func f at next c s i after p comes before d within row = (
+comes_next image notes func f at next c s i after taken p comes before d within row = (
   suc comes.0,
   record {
     last = at;
@@ -126,9 +126,9 @@ comes_next image notes func f at next c s i after p comes before d within row = 
     insn = i;
     decode = d;
     within = within;
-    successors = successors_from after p;
+    successors = successors_from after taken p;
     row = row;
-    falls = fall_of after p;
+    falls = fall_of after taken p;
   },
 )
 
@@ -247,11 +247,11 @@ walked_fails image notes func f at marks s r w inside fails = record {
 
 -- ---- the row in the state that is kept
 
-pub row_ok : (notes : Notes) (a b : Here) (s after : State) (i : Insn) (p : Path) → a ≡ b → gives_map {A = Path} (successors_from after) (Ok p) ≡ row_of notes a s i → row_of notes b s i ≡ Ok (successors_from after p)
-row_ok notes a b s after i p same e = ap (λ h. row_of notes h s i) (sym same) ∙ sym e
+pub row_ok : (notes : Notes) (a b : Here) (s after taken : State) (i : Insn) (p : Path) → a ≡ b → gives_map {A = Path} (successors_from after taken) (Ok p) ≡ row_of notes a s i → row_of notes b s i ≡ Ok (successors_from after taken p)
+row_ok notes a b s after taken i p same e = ap (λ h. row_of notes h s i) (sym same) ∙ sym e
 
-pub row_err : (notes : Notes) (a b : Here) (s after : State) (i : Insn) (r : RuleName) → a ≡ b → gives_map {A = Path} (successors_from after) (Err r) ≡ row_of notes a s i → row_of notes b s i ≡ Err r
-row_err notes a b s after i r same e = ap (λ h. row_of notes h s i) (sym same) ∙ sym e
+pub row_err : (notes : Notes) (a b : Here) (s after taken : State) (i : Insn) (r : RuleName) → a ≡ b → gives_map {A = Path} (successors_from after taken) (Err r) ≡ row_of notes a s i → row_of notes b s i ≡ Err r
+row_err notes a b s after taken i r same e = ap (λ h. row_of notes h s i) (sym same) ∙ sym e
 
 pub here_is : (image : Image) (func at next : ℕ) (reloc : Option ℕ) → reloc ≡ reloc_at image next → record { place = at; next = next; func = func; reloc = reloc } ≡ here_at image func at next
 here_is image func at next reloc e = ap (λ r. let h : Here = record { place = at; next = next; func = func; reloc = r } in h) e

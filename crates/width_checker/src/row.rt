@@ -1,4 +1,4 @@
-//! The row of an instruction, made in the one state that is kept.
+//! The row of an instruction, made in the state that is kept; one beside it is written where control parts.
 
 ghost use Rattle.std.specs.Prelude.{◌≡◌, ◌<◌, ◌^◌, length, not};
 ghost use Rattle.ebc_insn.specs.Spelling.{WellFormed};
@@ -16,15 +16,15 @@ use rules_base::Here;
 use rules_data::data_change;
 use rules_flow::{Step, flow_step, narrow};
 
-/// Where control goes on after an instruction, beside the state that is kept.
-#[derive(Debug, Drop)]
+/// Where control goes on after an instruction, beside the state that is kept and the one at the place of a jump taken.
+#[derive(Clone, Copy, Debug)]
 pub(crate) enum Path {
     /// The next instruction, with the state that is kept.
     Falls,
     /// The instruction at a place, with the state that is kept.
     Goes { place: u32 },
-    /// The next instruction, with the state that is kept, or the one at a place, with this state.
-    Parts { place: u32, there: State },
+    /// The next instruction, with the state that is kept, or the one at a place, with the state there.
+    Parts { place: u32 },
     /// No instruction of the function.
     Ends,
 }
@@ -71,10 +71,10 @@ fn is_flow(i: &Insn) -> bool
     }
 }
 
-// Makes the step of an instruction of control or of the stack.
-fn follow(step: Step, s: &mut State) -> Path
+// Makes the step of an instruction of control or of the stack: `taken` is written only where control parts.
+fn follow(step: Step, s: &mut State, taken: &mut State) -> Path
     requires { FitsStep s.old step }
-    ensures { successors_from s.new result ≡ successors_of s.old step }
+    ensures { successors_from s.new taken.new result ≡ successors_of s.old step }
 {
     match step {
         Step::Falls(update) => {
@@ -83,24 +83,30 @@ fn follow(step: Step, s: &mut State) -> Path
         }
         Step::Goes { place } => Path::Goes { place },
         Step::Parts { place, set } => {
-            let mut there = s.copy();
-            narrow(&mut there, set);
+            *taken = s.copy();
+            narrow(taken, set);
             narrow(s, !set);
-            Path::Parts { place, there }
+            Path::Parts { place }
         }
         Step::Ends => Path::Ends,
     }
 }
 
 // An instruction of control or of the stack.
-fn advance_flow(notes: &Notes, here: &Here, s: &mut State, i: &Insn) -> Result<Path, RuleName>
+fn advance_flow(
+    notes: &Notes,
+    here: &Here,
+    s: &mut State,
+    taken: &mut State,
+    i: &Insn,
+) -> Result<Path, RuleName>
     requires thunks { length notes.now.thunk < 2 ^ 32 }
     requires ascend { Ascends notes.now }
     requires well_formed { WellFormed i.now }
-    ensures { gives_map (successors_from s.new) result ≡ after_flow notes.now here.now s.old i.now }
+    ensures { gives_map (successors_from s.new taken.new) result ≡ after_flow notes.now here.now s.old i.now }
 {
     let step = flow_step(notes, here, s, i)?;
-    Ok(follow(step, s))
+    Ok(follow(step, s, taken))
 }
 
 // An instruction on data.
@@ -116,20 +122,26 @@ fn advance_data(notes: &Notes, here: &Here, s: &mut State, i: &Insn) -> Result<(
 }
 
 /// Makes the row of an instruction in a state: the state is then the one before the next instruction, where control falls
-/// through to it, and else as it was.
+/// through to it, and else as it was. Where control parts, `taken` becomes the state at the place of the jump.
 ///
 /// # Errors
 ///
 /// The first rule of the row that fails. The state is then as it was.
 #[tactic(auto, unfolding(crate::specs::Rows::row_of))]
-pub(crate) fn advance(notes: &Notes, here: &Here, s: &mut State, i: &Insn) -> Result<Path, RuleName>
+pub(crate) fn advance(
+    notes: &Notes,
+    here: &Here,
+    s: &mut State,
+    taken: &mut State,
+    i: &Insn,
+) -> Result<Path, RuleName>
     requires thunks { length notes.now.thunk < 2 ^ 32 }
     requires ascend { Ascends notes.now }
     requires well_formed { WellFormed i.now }
-    ensures { gives_map (successors_from s.new) result ≡ row_of notes.now here.now s.old i.now }
+    ensures { gives_map (successors_from s.new taken.new) result ≡ row_of notes.now here.now s.old i.now }
 {
     if is_flow(i) {
-        return advance_flow(notes, here, s, i);
+        return advance_flow(notes, here, s, taken, i);
     }
     advance_data(notes, here, s, i)?;
     Ok(Path::Falls)

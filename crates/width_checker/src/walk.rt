@@ -1,4 +1,4 @@
-//! The walk through the code: one pass over each function, with one state.
+//! The walk through the code: one pass over each function, with one state and one for the jumps taken.
 
 ghost use Rattle.std.specs.Prelude.{◌≡◌, ◌+◌, ◌<◌, ◌≤◌, ◌↔◌, ◌^◌, ℕ, IfErr, IfOk, IsTrue, OnOk, Some, length, slice_get};
 ghost use Rattle.note_types.specs.Records.{Ascends, IsNotes};
@@ -81,16 +81,23 @@ fn is_below_point(notes: &Notes, place: u32, state: &State) -> bool
 }
 
 // Whether the states that an instruction leads to are below those of the points there.
-fn leads_below(notes: &Notes, first: usize, next: u32, path: &Path, state: &State) -> bool
+fn leads_below(
+    notes: &Notes,
+    first: usize,
+    next: u32,
+    path: &Path,
+    state: &State,
+    taken: &State,
+) -> bool
     requires ascend { Ascends notes.now }
     requires points { PointsFrom notes.now next first }
-    ensures { IsTrue result ↔ LeadsBelow notes.now next (successors_from state.now path.now) }
+    ensures { IsTrue result ↔ LeadsBelow notes.now next (successors_from state.now taken.now path.now) }
 {
     match path {
         Path::Falls => is_below_next(notes, first, next, state),
         Path::Goes { place } => is_below_point(notes, *place, state),
-        Path::Parts { place, there } => {
-            is_below_next(notes, first, next, state) && is_below_point(notes, *place, there)
+        Path::Parts { place } => {
+            is_below_next(notes, first, next, state) && is_below_point(notes, *place, taken)
         }
         Path::Ends => true,
     }
@@ -107,6 +114,7 @@ fn pass(
     insn: &Insn,
     marks: &mut Marks,
     state: &mut State,
+    taken: &mut State,
 ) -> Result<(), RuleName>
     requires image { IsImage image.now }
     requires notes { IsNotes notes.now }
@@ -132,11 +140,11 @@ fn pass(
         func,
         reloc,
     };
-    let path = advance(notes, &here, state, insn)?;
+    let path = advance(notes, &here, state, taken, insn)?;
     if at == f.place && !arrived_below {
         return Err(RuleName::Below);
     }
-    if !leads_below(notes, marks.point, next, &path, state) {
+    if !leads_below(notes, marks.point, next, &path, state, taken) {
         return Err(RuleName::Below);
     }
     if !ends_within(f, insn, next) {
@@ -157,6 +165,7 @@ fn step(
     at: u32,
     marks: &mut Marks,
     state: &mut State,
+    taken: &mut State,
 ) -> Result<u32, RuleName>
     requires image { IsImage image.now }
     requires notes { IsNotes notes.now }
@@ -172,7 +181,7 @@ fn step(
         return Err(RuleName::Decode);
     };
     let next = at + len as u32;
-    pass(image, notes, func, f, at, next, &insn, marks, state)?;
+    pass(image, notes, func, f, at, next, &insn, marks, state, taken)?;
     Ok(next)
 }
 
@@ -187,6 +196,7 @@ fn check_function(image: &Image, notes: &Notes, func: u32, f: &FnNote) -> Result
 {
     let code = code_of(image, f);
     let mut state = entry_state(notes, func);
+    let mut taken = entry_state(notes, func);
     let mut marks = Marks {
         point: first_point(notes, f.place),
         reloc: first_reloc(image, f.place),
@@ -194,7 +204,9 @@ fn check_function(image: &Image, notes: &Notes, func: u32, f: &FnNote) -> Result
     };
     let mut at = f.place;
     while at < f.end {
-        match step(image, notes, func, f, code, at, &mut marks, &mut state) {
+        match step(
+            image, notes, func, f, code, at, &mut marks, &mut state, &mut taken,
+        ) {
             Ok(next) => at = next,
             Err(rule) => return Err(Refusal { place: at, rule }),
         }

@@ -81,7 +81,7 @@ returns-in_err-path-clause-fails c =
     let reloc : RelocationHolds image n c.args.at i c.args.next (reloc_at image c.args.next) = subst (RelocationHolds image n c.args.at i c.args.next) c.in-Ok.ensures.holds.0 c.in-Ok.ensures.holds.1 in
     let here = here_is image c.args.func c.args.at c.args.next _ c.in-Ok.ensures.holds.0 in
     let p = err_from_is_err_and c.from_residual.result c.from_residual.ensures.1 in
-    rw (p.1, p.2) (row_fails image n c.args.func f c.args.at i c.args.next c.requires.decode s there one point reloc _ (row_err n _ _ s c.advance.new.s i _ here c.in_err-path.ensures))
+    rw (p.1, p.2) (row_fails image n c.args.func f c.args.at i c.args.next c.requires.decode s there one point reloc _ (row_err n _ _ s c.advance.new.s c.advance.new.taken i _ here c.in_err-path.ensures))
 
 pub returns-then-not-arrived_below-clause-fails : goal.returns-then-not-arrived_below-clause-fails
 returns-then-not-arrived_below-clause-fails c =
@@ -98,8 +98,8 @@ returns-then-not-arrived_below-clause-fails c =
     let point : PointHolds n c.args.at c.args.next = c.has_no_point.ensures.0 c.if-not-has_no_point.false in
     let reloc : RelocationHolds image n c.args.at i c.args.next (reloc_at image c.args.next) = subst (RelocationHolds image n c.args.at i c.args.next) c.in-Ok.ensures.holds.0 c.in-Ok.ensures.holds.1 in
     let here = here_is image c.args.func c.args.at c.args.next _ c.in-Ok.ensures.holds.0 in
-    let x : Successors = successors_from c.advance.new.s c.in_ok-path.path in
-    let row : row_of n (here_at image c.args.func c.args.at c.args.next) s i ≡ Ok x = row_ok n _ _ s c.advance.new.s i c.in_ok-path.path here c.in_ok-path.ensures in
+    let x : Successors = successors_from c.advance.new.s c.advance.new.taken c.in_ok-path.path in
+    let row : row_of n (here_at image c.args.func c.args.at c.args.next) s i ≡ Ok x = row_ok n _ _ s c.advance.new.s c.advance.new.taken i c.in_ok-path.path here c.in_ok-path.ensures in
     not_below image n c.args.func f c.args.at i c.args.next c.requires.decode s there one point reloc x row
     (entry_not_below image n c.args.func f c.args.at c.args.next x c.args.marks.now.falls c.args.state.now comes c.if-at-f.true
     (λ h. let yes = c.arrive-arrived_below.ensures.below.1 h in let is = c.if-not-arrived_below.true in cc))
@@ -124,8 +124,8 @@ returns-then-not-leads_below-clause-fails c =
     let point : PointHolds n c.args.at c.args.next = c.has_no_point.ensures.0 c.if-not-has_no_point.false in
     let reloc : RelocationHolds image n c.args.at i c.args.next (reloc_at image c.args.next) = subst (RelocationHolds image n c.args.at i c.args.next) c.in-Ok.ensures.holds.0 c.in-Ok.ensures.holds.1 in
     let here = here_is image c.args.func c.args.at c.args.next _ c.in-Ok.ensures.holds.0 in
-    let x : Successors = successors_from c.advance.new.s c.in_ok-path.path in
-    let row : row_of n (here_at image c.args.func c.args.at c.args.next) s i ≡ Ok x = row_ok n _ _ s c.advance.new.s i c.in_ok-path.path here c.in_ok-path.ensures in
+    let x : Successors = successors_from c.advance.new.s c.advance.new.taken c.in_ok-path.path in
+    let row : row_of n (here_at image c.args.func c.args.at c.args.next) s i ≡ Ok x = row_ok n _ _ s c.advance.new.s c.advance.new.taken i c.in_ok-path.path here c.in_ok-path.ensures in
     not_below image n c.args.func f c.args.at i c.args.next c.requires.decode s there one point reloc x row
     (λ h. let yes = c.leads_below.ensures.1 h.leads in let is = c.if-not-leads_below.true in cc)
 
@@ -144,8 +144,8 @@ returns-then-not-ends_within-clause-fails c =
     let point : PointHolds n c.args.at c.args.next = c.has_no_point.ensures.0 c.if-not-has_no_point.false in
     let reloc : RelocationHolds image n c.args.at i c.args.next (reloc_at image c.args.next) = subst (RelocationHolds image n c.args.at i c.args.next) c.in-Ok.ensures.holds.0 c.in-Ok.ensures.holds.1 in
     let here = here_is image c.args.func c.args.at c.args.next _ c.in-Ok.ensures.holds.0 in
-    let x : Successors = successors_from c.advance.new.s c.in_ok-path.path in
-    let row : row_of n (here_at image c.args.func c.args.at c.args.next) s i ≡ Ok x = row_ok n _ _ s c.advance.new.s i c.in_ok-path.path here c.in_ok-path.ensures in
+    let x : Successors = successors_from c.advance.new.s c.advance.new.taken c.in_ok-path.path in
+    let row : row_of n (here_at image c.args.func c.args.at c.args.next) s i ≡ Ok x = row_ok n _ _ s c.advance.new.s c.advance.new.taken i c.in_ok-path.path here c.in_ok-path.ensures in
     let entry : EntryBelow n c.args.func f c.args.at =
     elim c.else-at-f.branch [
       | else-at-f-via-then-at-f+else-not-arrived_below w ↦
@@ -189,8 +189,8 @@ returns-clause-passes c =
     let point : PointHolds n c.args.at c.args.next = c.has_no_point.ensures.0 c.if-not-has_no_point.false in
     let reloc : RelocationHolds image n c.args.at i c.args.next (reloc_at image c.args.next) = subst (RelocationHolds image n c.args.at i c.args.next) c.in-Ok.ensures.holds.0 c.in-Ok.ensures.holds.1 in
     let here = here_is image c.args.func c.args.at c.args.next _ c.in-Ok.ensures.holds.0 in
-    let x : Successors = successors_from c.advance.new.s c.in_ok-path.path in
-    let row : row_of n (here_at image c.args.func c.args.at c.args.next) s i ≡ Ok x = row_ok n _ _ s c.advance.new.s i c.in_ok-path.path here c.in_ok-path.ensures in
+    let x : Successors = successors_from c.advance.new.s c.advance.new.taken c.in_ok-path.path in
+    let row : row_of n (here_at image c.args.func c.args.at c.args.next) s i ≡ Ok x = row_ok n _ _ s c.advance.new.s c.advance.new.taken i c.in_ok-path.path here c.in_ok-path.ensures in
     let entry : EntryBelow n c.args.func f c.args.at =
     elim c.else-at-f.branch [
       | else-at-f-via-then-at-f+else-not-arrived_below w ↦
@@ -219,6 +219,6 @@ returns-clause-passes c =
         relocs = c.past-marks.ensures;
         within = c.requires.decode.within;
         comes = λ less. subst (λ b. ComesTo image n c.args.func f c.args.next (come_of b c.advance.new.s)) (sym c.falls-marks.ensures)
-            (comes_next image n c.args.func f c.args.at c.args.next _ s i c.advance.new.s c.in_ok-path.path comes ((c.arrive-arrived_below.ensures.arrives s).0 (come_true _ s c.if-not-marks.false)) c.requires.decode less row);
+            (comes_next image n c.args.func f c.args.at c.args.next _ s i c.advance.new.s c.advance.new.taken c.in_ok-path.path comes ((c.arrive-arrived_below.ensures.arrives s).0 (come_true _ s c.if-not-marks.false)) c.requires.decode less row);
       };
     }
