@@ -7,6 +7,7 @@
 mod end;
 mod names;
 mod pieces;
+mod sections;
 
 pub use asm_text::{AsmFault, Line, Statement};
 pub use end::LineEnd;
