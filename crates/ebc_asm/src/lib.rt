@@ -8,6 +8,7 @@ mod end;
 mod names;
 mod pieces;
 mod sections;
+mod symbols;
 
 pub use asm_text::{AsmFault, Line, Statement};
 pub use end::LineEnd;
