@@ -5,3 +5,4 @@ pub mod NumberLaws
 pub mod StateLaws
 pub mod PlaceLaws
 pub mod StandingLaws
+pub mod NameSteps

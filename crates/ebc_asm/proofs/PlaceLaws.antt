@@ -18,7 +18,7 @@ use Rattle.ebc_asm.proofs.StateLaws.{Apart, map_same, neither}
 same_name : (n x : List ℕ) → bytes_eq n x ≡ true → n ≡ x
 same_name n x h = (bytes_eq-Decides n x).0 h
 
-other_way : (n x : List ℕ) (b : Bool) → bytes_eq x n ≡ b → bytes_eq n x ≡ false → b ≡ false
+pub other_way : (n x : List ℕ) (b : Bool) → bytes_eq x n ≡ b → bytes_eq n x ≡ false → b ≡ false
 other_way n x true e h =
     let is : x ≡ n = same_name x n e in
     let t : bytes_eq n x ≡ true = rw is (same_bytes n) in

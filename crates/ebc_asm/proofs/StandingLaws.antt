@@ -1,10 +1,10 @@
 -- Where a name stands by lines, with one line more.
-use Rattle.std.proofs.Common.{◌≡◌, ℕ, zero, suc, ◌+◌, List, [], ◌∷◌, ◌++◌, Option, Some, None, Bool, true, false, cond, refl, sym, ap, ◌∙◌, arith}
+use Rattle.std.proofs.Common.{◌≡◌, ℕ, List, [], ◌∷◌, ◌++◌, Option, Some, None, Bool, true, false, cond, refl, sym, ap, ◌∙◌, arith}
 use Rattle.std.proofs.lemmas.List.Folds.{list_any-append}
 use Rattle.std.proofs.lemmas.Slice.Eq.{bytes_eq-Decides}
 use Rattle.std.specs.Prelude.{bytes_eq, ◌||◌}
 use Rattle.std.specs.List.{list_any}
-use Rattle.ebc_names.specs.Tables.{is_named, with_name}
+use Rattle.ebc_names.specs.Tables.{is_named}
 use Rattle.asm_text.specs.Lines.{Line}
 use Rattle.ebc_asm.specs.declared.names.Standing.{Standing}
 use Rattle.ebc_asm.specs.Held.{nowhere, standing_in}

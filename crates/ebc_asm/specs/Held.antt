@@ -1,5 +1,5 @@
 -- What the code holds of names and of their uses, and what it tells of the bytes of a statement. No caller sees it.
-use Rattle.std.specs.Prelude.{◌≡◌, ◌≢◌, ℕ, ◌+◌, ◌<◌, ◌≤◌, List, [], ◌∷◌, ◌++◌, length, slice_index_or, slice_set, Option, option_map, Result, Ok, Err, ⊤, if◌then◌else◌}
+use Rattle.std.specs.Prelude.{◌≡◌, ◌≢◌, ℕ, ◌+◌, ◌<◌, ◌≤◌, List, [], ◌∷◌, ◌++◌, length, slice_index_or, slice_set, Option, Some, None, option_map, IfSome, Result, Ok, Err, ⊤, if◌then◌else◌}
 use Rattle.std.specs.List.{list_any}
 use Rattle.ebc_names.specs.Tables.{is_named, name_number, with_name}
 use Rattle.ebc_object.specs.Objects.{most}
@@ -15,6 +15,11 @@ use Rattle.ebc_asm.specs.Symbols.{flag, makes_global, place_of, start}
 
 abbrev pub seen_use : Use → pieces.Use
 seen_use u = record { name = u.name.now; kind = u.kind; at = u.at; from = u.from }
+
+-- What a use counts lies within the bytes of a statement.
+pub record SmallUse (u : Use) : Type 0 where
+  pub at : u.at ≤ 18
+  pub from : IfSome u.from (λ n. n ≤ 18)
 
 abbrev pub seen_uses : Option Use → Option pieces.Use
 seen_uses u = option_map seen_use u
@@ -33,6 +38,11 @@ nowhere = record { kind = 0; global = 0; offset = 0 }
 -- the places of names, with one more where a name is new
 abbrev pub and_place : List ℕ → List (List ℕ) → List Standing → List Standing
 and_place name names places = if is_named name names then places else places ++ nowhere ∷ []
+
+-- the places of names, with one more where one is used and new
+abbrev pub and_used_place : Option (List ℕ) → List (List ℕ) → List Standing → List Standing
+and_used_place None names places = places
+and_used_place (Some name) names places = and_place name names places
 
 -- the number of a name that is added unless it is there
 abbrev pub number_of : List ℕ → List (List ℕ) → ℕ

@@ -7,6 +7,8 @@
 mod end;
 mod names;
 mod pieces;
+mod sections;
+mod symbols;
 
 pub use asm_text::{AsmFault, Line, Statement};
 pub use end::LineEnd;

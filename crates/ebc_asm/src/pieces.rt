@@ -1,11 +1,11 @@
 //! What a statement puts into its section.
 
-ghost use Rattle.std.specs.Prelude.{◌≡◌, ◌≤◌, length, replicate, Some};
+ghost use Rattle.std.specs.Prelude.{◌≡◌, ◌≤◌, length, replicate, Some, IfSome};
 ghost use Rattle.ebc_insn.specs.Spelling.{WellFormed};
 ghost use Rattle.ebc_object.specs.Objects.{most};
 ghost use Rattle.asm_text.specs.Instructions.{InsnFits};
 ghost use Rattle.asm_text.specs.Texts.{IsHeldStatement, seen_statement};
-ghost use Rattle.ebc_asm.specs.Held.{Appends, seen_use, seen_uses};
+ghost use Rattle.ebc_asm.specs.Held.{Appends, SmallUse, seen_use, seen_uses};
 ghost use Rattle.ebc_asm.specs.Pieces.{bytes_of, data_after, distance_kind, immediate_size, insn_use, is_distance, use_of};
 
 use crate::end::LineEnd;
@@ -81,7 +81,8 @@ fn append_zeros(count: u64, section: &mut Vec<u8>) -> Result<(), LineEnd>
 /// The name that a statement uses, if any.
 pub fn use_of<'a>(statement: &Option<Statement<'a>>) -> Option<Use<'a>>
     requires { IsHeldStatement statement.now }
-    ensures { seen_uses result ≡ use_of (seen_statement statement.now) }
+    ensures use_of { seen_uses result ≡ use_of (seen_statement statement.now) }
+    ensures small { IfSome result SmallUse }
 {
     match statement {
         Some(Statement::Place(name)) => Some(Use {
@@ -108,7 +109,8 @@ pub fn use_of<'a>(statement: &Option<Statement<'a>>) -> Option<Use<'a>>
 
 fn insn_use<'a>(insn: &Insn, name: &'a str) -> Use<'a>
     requires { WellFormed insn.now }
-    ensures { seen_use result ≡ insn_use insn.now name.now }
+    ensures use_of { seen_use result ≡ insn_use insn.now name.now }
+    ensures small { SmallUse result }
 {
     let size = immediate_size(insn);
     let length = encode(insn).len() as u32;
