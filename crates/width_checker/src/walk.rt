@@ -185,8 +185,14 @@ fn step(
     Ok(next)
 }
 
-// Goes through function `func`.
-fn check_function(image: &Image, notes: &Notes, func: u32, f: &FnNote) -> Result<(), Refusal>
+// Goes through function `func`, with a state to write for the jumps taken, whatever it holds.
+fn check_function(
+    image: &Image,
+    notes: &Notes,
+    func: u32,
+    f: &FnNote,
+    taken: &mut State,
+) -> Result<(), Refusal>
     requires image { IsImage image.now }
     requires notes { IsNotes notes.now }
     requires there { slice_get notes.now.function func ≡ Some f.now }
@@ -196,7 +202,6 @@ fn check_function(image: &Image, notes: &Notes, func: u32, f: &FnNote) -> Result
 {
     let code = code_of(image, f);
     let mut state = entry_state(notes, func);
-    let mut taken = entry_state(notes, func);
     let mut marks = Marks {
         point: first_point(notes, f.place),
         reloc: first_reloc(image, f.place),
@@ -205,7 +210,7 @@ fn check_function(image: &Image, notes: &Notes, func: u32, f: &FnNote) -> Result
     let mut at = f.place;
     while at < f.end {
         match step(
-            image, notes, func, f, code, at, &mut marks, &mut state, &mut taken,
+            image, notes, func, f, code, at, &mut marks, &mut state, taken,
         ) {
             Ok(next) => at = next,
             Err(rule) => return Err(Refusal { place: at, rule }),
@@ -223,8 +228,9 @@ fn check_each(image: &Image, notes: &Notes, functions: &[FnNote]) -> Result<(), 
     ensures holds { OnOk result (FunctionsMeet image.now notes.now (length functions.now)) }
     ensures fails { IfErr result (λ r. RefusesInsn image.now notes.now r.place r.rule) }
 {
+    let mut taken = entry_state(notes, notes.entry);
     for (func, f) in functions.iter().enumerate() {
-        match check_function(image, notes, func as u32, f) {
+        match check_function(image, notes, func as u32, f, &mut taken) {
             Ok(()) => {}
             Err(refusal) => return Err(refusal),
         }
