@@ -100,7 +100,7 @@ least() {
 }
 
 # Twenty runs of a command.
-twenty() { for ((run = 0; run < 20; run++)); do "$@"; done; }
+twenty() { for ((run = 0; run < 20; run++)); do "$@" || true; done; }
 
 # Microseconds that one run takes on such a code, less what it takes on a small one.
 each() {
