@@ -1,0 +1,3 @@
+pub mod NamesApart
+pub mod NamesRead
+pub mod ReadLaws
