@@ -7,6 +7,8 @@ mod conditions;
 #[cfg(test)]
 mod driver;
 #[cfg(test)]
+mod order;
+#[cfg(test)]
 mod passes;
 #[cfg(test)]
 mod tables;
