@@ -1,5 +1,6 @@
 -- What holds of a script that was read under notes: its values are within what a text may have, the things that it names are
--- there, and the conditions are met, said of each thing by itself. docs/SCRIPTS.md, "What the reader refuses", has them in words.
+-- there, and the conditions are met, said of each thing by itself. That no table gives a cell twice isn't said here.
+-- docs/SCRIPTS.md, "What the reader refuses", has them in words.
 use Rattle.std.specs.Prelude.{◌≡◌, ◌⊎◌, ℕ, ◌+◌, ◌^◌, ◌≤◌, ◌<◌, Bool, true, false, not, ◌&&◌, List, Some, length, nat_eq, nat_le, slice_get, take, ⊤}
 use Rattle.std.specs.List.{list_any, sum_by}
 use Rattle.object_memory.specs.Memory.{padded}

@@ -39,7 +39,8 @@ abbrev pub hex_text : ℕ → ℕ → List ℕ
 hex_text zero n = []
 hex_text (suc count) n = hex_text count (n / 16) ++ hex_digit (n % 16) ∷ []
 
--- what is printed of a value: the text of a script; `out`; or `wild` and the number that has no reading
+-- what is printed of a value: the text of a script; `out`; or `wild` and the number that has no reading, 16 digits in lower
+-- case; nothing where it names a function or a method that isn't there
 unfoldable pub value_text : Notes → Value → List ℕ
 value_text notes value.Out = codes "out"
 value_text notes (value.Wild x) = codes "wild " ++ hex_text 16 x
