@@ -76,7 +76,7 @@ slots_small w b a (p ∷ ps) (x ∷ xs) l y = slots_small w (put b a (slot_bytes
 
 -- ---- the slots show
 
-heights : (w : ℕ) (notes : Notes) (made : List TypedObject) (ps : List Param) (vs : List Value) → length ps ≡ length vs → height w (param_slots notes made ps vs) ≡ params_bytes w ps
+pub heights : (w : ℕ) (notes : Notes) (made : List TypedObject) (ps : List Param) (vs : List Value) → length ps ≡ length vs → height w (param_slots notes made ps vs) ≡ params_bytes w ps
 unfolding param_slots
 heights w notes made [] [] e = refl
 heights w notes made [] (v ∷ vs) e = absurd (omega (arith, e))

@@ -3,6 +3,7 @@ pub mod Entering
 pub mod Growing
 pub mod HostLaw
 pub mod Leaving
+pub mod LentCells
 pub mod Marks
 pub mod Plans
 pub mod Replies

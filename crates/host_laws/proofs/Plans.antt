@@ -1,21 +1,22 @@
 -- What the host plans can be carried out alike: the conditions of each plan follow from what the host saw, from the conditions on
--- the script, and from the room and the lent cells that typing gives.
-use Rattle.std.proofs.Common.{◌≡◌, ℕ, ◌+◌, ◌<◌, ◌≤◌, Bool, true, false, not, ◌&&◌, if◌then◌else◌, nat_eq, nat_le, List, [], ◌∷◌, ◌++◌, map, length, Option, Some, None, refl, sym, ap, ◌∙◌, subst, ⊎_elim, slice_get}
+-- the script, and from the room for what it leaves.
+use Rattle.std.proofs.Common.{◌≡◌, ℕ, ◌+◌, ◌≤◌, Bool, true, false, not, ◌&&◌, if◌then◌else◌, nat_eq, nat_le, List, [], ◌∷◌, ◌++◌, map, length, Option, Some, None, refl, sym, ap, ◌∙◌, subst, arith, slice_get}
 use Rattle.std.specs.List.{AllZip, AllByRecursion, list_all, flat_map}
 use Rattle.std.specs.Option.{option_map, option_map_or, option_or, option_and_then}
-use Rattle.std.proofs.lemmas.Bool.{eqb-true, and_parts, le-leb, cases_lt}
+use Rattle.std.proofs.lemmas.Bool.{eqb-true, and_parts}
 use Rattle.std.proofs.lemmas.Option.{none-some}
+use Rattle.note_types.specs.declared.event.Event.{Event}
 use Rattle.note_types.specs.declared.event.Event.TheVariants as event
 use Rattle.note_types.specs.declared.reason.Reason.TheVariants as reason
 use Rattle.ebc_width.specs.Width.{IsWidth}
 use Rattle.note_types.specs.Cells.{content_type}
-use Rattle.run_types.specs.HostPlans.{GoesOn, Asking, NoSite, Unmapped, Asks, Target, Store, InObject, InArgument, Enters, Replies, Ends, host_plan, call_plan, call_settled, call_event, asking_refused, entry_refused, asked_signature, asked_args, objects_made_by, filling, enter_plan, may_enter, callback_fits, function_params, reply_plan, reply_fits, reply_stores, next_plan, signature_params, signature_method, signature_result, site_of, field_at, lent_at, write_store, out_store, write_fits}
+use Rattle.run_types.specs.HostPlans.{GoesOn, Asking, NoSite, Unmapped, Asks, Target, Store, InObject, InArgument, Plan, Enters, Replies, Ends, host_plan, call_plan, call_settled, call_event, asking_refused, entry_refused, asked_signature, asked_args, objects_made_by, filling, enter_plan, may_enter, callback_fits, function_params, reply_plan, reply_fits, reply_stores, next_plan, signature_params, signature_method, signature_result, site_of, field_at, lent_at, write_store, out_store, write_fits}
 use Rattle.run_types.specs.HostSteps.{slots_of as numbers_of, slots_asked as numbers_asked, call_under_way as marks_under_way}
 use Rattle.run_types.specs.declared.object.TypedObject.{TypedObject}
 use Rattle.run_types.specs.Objects.{script_object, made_objects, placed_objects}
-use Rattle.run_types.specs.Placements.{Placement, frame_limit, stack_bytes, IsPlacement}
+use Rattle.run_types.specs.Placements.{Placement, frame_limit, params_bytes, return_cell, stack_bytes, IsPlacement}
 use Rattle.run_types.specs.World.{World}
-use Rattle.run_types.specs.Progress.{Asked, copied}
+use Rattle.run_types.specs.Progress.{Asked, copied, one_callback}
 use Rattle.run_types.specs.RunState.{RunState}
 use Rattle.run_types.specs.ScriptValues.{fits, fits_each, fits_result, given as given_value}
 use Rattle.note_types.specs.declared.cell.Cell.{Cell}
@@ -32,21 +33,23 @@ use Rattle.note_types.specs.declared.script.WriteValue.{WriteValue}
 use Rattle.note_types.specs.declared.seen.Seen.{Seen}
 use Rattle.note_types.specs.declared.shape.Field.{Field}
 use Rattle.note_types.specs.declared.value.Value.{Value}
-use Rattle.run_types.specs.Config.{Config, hosts, call_under_way}
-use Rattle.run_types.specs.NeutralHost.{target_place, local_of, objects_at, slots_of, slots_asked, asking_at as neutral_asking_at, asking_by as neutral_asking_by}
+use Rattle.run_types.specs.Config.{Config, hosts, call_under_way, with_call}
+use Rattle.run_types.specs.NeutralHost.{target_place, objects_at, param_slots, performed, lent_there, slots_of, slots_asked, asking_at as neutral_asking_at, asking_by as neutral_asking_by}
 use Rattle.run_types.specs.Locations.{is_method}
 use Rattle.run_types.specs.NeutralReadings.{neutral_arguments}
-use Rattle.run_types.specs.Layout.{addresses, total}
+use Rattle.run_types.specs.Layout.{addresses, height, total}
 use Rattle.run_types.specs.Memory.{memory_of, cell_field}
 use Rattle.host_laws.specs.ScriptGiven.{TargetGiven, StoreGiven, CallGiven, ScriptGiven}
 use Rattle.neutral_machine.specs.Stands.{Stands}
 use Rattle.host_laws.proofs.ViewAlike.{and_then_some, map_some}
-use Rattle.run_types.specs.Values.{Neutral, Addresses, FieldOf, FieldOfLocals, Shows}
+use Rattle.run_types.specs.Values.{Neutral, Addresses, FieldOf, Shows}
 use Rattle.neutral_machine.specs.WorldFits.{WorldFits}
 use Rattle.run_types.specs.WrittenLaw.{IsValue}
 use Rattle.host_laws.proofs.SeenStands.{seen_alike}
 use Rattle.host_laws.specs.PlanFits.{StoreNames, PlanFits, with_new}
-use Rattle.host_laws.specs.CallGoesWell.{LentSlots, GoesWell}
+use Rattle.host_laws.proofs.Entering.{heights}
+use Rattle.host_laws.proofs.LentCells.{LentCells, lent_cells}
+use Rattle.host_laws.proofs.Marks.{total_marked}
 
 -- ---- lists
 
@@ -76,23 +79,23 @@ module _ (world : World) (a : Config) where
       all_append (StoreNames world a (copied (call_under_way a.frames))) (write_store world.notes (made_objects world.notes world.script a.script.entries) v) (flat_map (write_store world.notes (made_objects world.notes world.script a.script.entries)) vs)
       (write_named v p.0 l.0) (writes_named vs p.1 l.1)
 
-  out_named : (params : List WantParam) → LentSlots world a params → (o : OutValue) → IsValue world.notes o.value → AllByRecursion (StoreNames world a (copied (call_under_way a.frames))) (out_store params o)
+  out_named : (params : List WantParam) → LentCells world a (copied (call_under_way a.frames)) params → (o : OutValue) → IsValue world.notes o.value → AllByRecursion (StoreNames world a (copied (call_under_way a.frames))) (out_store params o)
   out_named params lent o l = go (lent_at params o.argument) refl
     where
       go : (q : Option Cell) → lent_at params o.argument ≡ q
           → AllByRecursion (StoreNames world a (copied (call_under_way a.frames))) (option_map_or (λ c. record { target = InArgument o.argument; cell = c; value = o.value } ∷ []) q [])
       go None e = tt
       go (Some c) e =
-          let x = lent.field o.argument c e in
-          (record { place = FieldOfLocals (lent.d o.argument) (lent.f o.argument); there = ap local_of (lent.slot o.argument c e); field = x.0; is_field = x.1; cell = x.2; value = l }, tt)
+          let x = lent o.argument c e in
+          (record { place = x.place; there = x.there; field = x.field; is_field = x.is_field; cell = x.cell; value = l }, tt)
 
-  outs_named : (params : List WantParam) → LentSlots world a params → (os : List OutValue) → AllByRecursion (λ (o : OutValue). IsValue world.notes o.value) os
+  outs_named : (params : List WantParam) → LentCells world a (copied (call_under_way a.frames)) params → (os : List OutValue) → AllByRecursion (λ (o : OutValue). IsValue world.notes o.value) os
       → AllByRecursion (StoreNames world a (copied (call_under_way a.frames))) (flat_map (out_store params) os)
   outs_named params lent [] l = tt
   outs_named params lent (o ∷ os) l =
       all_append (StoreNames world a (copied (call_under_way a.frames))) (out_store params o) (flat_map (out_store params) os) (out_named params lent o l.0) (outs_named params lent os l.1)
 
-  pub reply_named : (n : ℕ) (c : ScriptCall) → CallGiven world.notes world.script n c → LentSlots world a (signature_params world.notes c.signature) → list_all (write_fits world.notes (made_objects world.notes world.script a.script.entries)) c.write ≡ true
+  pub reply_named : (n : ℕ) (c : ScriptCall) → CallGiven world.notes world.script n c → LentCells world a (copied (call_under_way a.frames)) (signature_params world.notes c.signature) → list_all (write_fits world.notes (made_objects world.notes world.script a.script.entries)) c.write ≡ true
       → AllByRecursion (StoreNames world a (copied (call_under_way a.frames))) (reply_stores world.notes (made_objects world.notes world.script a.script.entries) (signature_params world.notes c.signature) c)
   unfolding reply_stores
   reply_named n c given lent t =
@@ -209,37 +212,51 @@ module _ (w : ℕ) (world : World) (P : Placement) (mapped : ℕ → ℕ) (h : I
 
   -- ---- a call that goes on
 
-  enter_fits : (a : Config) (r : RunState) (n entry callbacks : ℕ) (c : ScriptCall) (b : Callback) → CallGiven world.notes world.script n c → slice_get c.enter callbacks ≡ Some b → GoesWell w world a entry
+  -- the stack has room for a function that is entered, where the frames inside it fit
+  room_inside : (a : Config) (e : Event) (entry f : ℕ) (values : List Value) (g : FnNote) → function_params world.notes f ≡ g.params → length g.params ≡ length values
+      → total w (performed world a (Enters e entry f values)).frames ≤ stack_bytes w world.notes → return_cell + (params_bytes w g.params + total w a.frames) ≤ stack_bytes w world.notes
+  unfolding performed
+  room_inside a e entry f values g same many l =
+      let made = made_objects world.notes world.script a.script.entries in
+      let call = one_callback (call_under_way a.frames) in
+      let slots : height w (param_slots world.notes made (function_params world.notes f) values) ≡ params_bytes w g.params =
+      ap (λ ps. height w (param_slots world.notes made ps values)) same ∙ heights w world.notes made g.params values many in
+      let inside : 0 + (return_cell + (height w (param_slots world.notes made (function_params world.notes f) values) + total w (with_call call a.frames))) ≤ stack_bytes w world.notes = l in
+      let marked = total_marked call w a.frames in
+      omega (arith, inside, slots, marked)
+
+  enter_fits : (a : Config) (r : RunState) (n entry callbacks : ℕ) (c : ScriptCall) (b : Callback) → CallGiven world.notes world.script n c → slice_get c.enter callbacks ≡ Some b
+      → total w (performed world a (enter_plan world.notes (made_objects world.notes world.script a.script.entries) entry callbacks (length (hosts a.frames)) b)).frames ≤ stack_bytes w world.notes
       → PlanFits w world P a r (enter_plan world.notes (made_objects world.notes world.script a.script.entries) entry callbacks (length (hosts a.frames)) b)
   unfolding enter_plan
-  enter_fits a r n entry callbacks c b given there well = go (callback_fits world.notes (made_objects world.notes world.script a.script.entries) b) refl (nat_le frame_limit (length (hosts a.frames))) refl
+  enter_fits a r n entry callbacks c b given there room = go (callback_fits world.notes (made_objects world.notes world.script a.script.entries) b) refl (nat_le frame_limit (length (hosts a.frames))) room
     where
-      go : (t : Bool) → callback_fits world.notes (made_objects world.notes world.script a.script.entries) b ≡ t → (d : Bool) → nat_le frame_limit (length (hosts a.frames)) ≡ d
-          → PlanFits w world P a r (if not t then Ends [] (Mismatch (reason.Enter entry callbacks)) else if d then Ends [] (Mismatch reason.Depth) else Enters (event.Entered b.function (map given_value b.values)) entry b.function b.values)
-      go false t d e = tt
-      go true t true e = tt
-      go true t false e =
+      -- the plan, by whether the callback fits and whether it is too deep
+      entering : (t d : Bool) → Plan
+      entering t d = if not t then Ends [] (Mismatch (reason.Enter entry callbacks)) else if d then Ends [] (Mismatch reason.Depth) else Enters (event.Entered b.function (map given_value b.values)) entry b.function b.values
+
+      go : (t : Bool) → callback_fits world.notes (made_objects world.notes world.script a.script.entries) b ≡ t → (d : Bool)
+          → total w (performed world a (entering t d)).frames ≤ stack_bytes w world.notes → PlanFits w world P a r (entering t d)
+      go false t d l = tt
+      go true t true l = tt
+      go true t false l =
           let q = and_parts (may_enter world.notes b.function) (fits_each (made_objects world.notes world.script a.script.entries) (function_params world.notes b.function) b.values) t in
           let f = may_enter_there world.notes b.function q.0 in
           let params : function_params world.notes b.function ≡ f.0.params = ap (λ o. option_map_or (λ (g : FnNote). g.params) o []) f.1 in
+          let many = ap length (sym params) ∙ as_many (made_objects world.notes world.script a.script.entries) (function_params world.notes b.function) b.values q.1 in
           record {
             note = f.0;
             there = f.1;
-            as_many = ap length (sym params) ∙ as_many (made_objects world.notes world.script a.script.entries) (function_params world.notes b.function) b.values q.1;
+            as_many = many;
             fit = given.callbacks callbacks b there;
-            room = well.room b.function f.0 f.1 q.0 (few e);
+            room = room_inside a (event.Entered b.function (map given_value b.values)) entry b.function b.values f.0 params many l;
           }
-        where
-          clash : true ≡ false → ⊥
-          clash e = cc
 
-          few : nat_le frame_limit (length (hosts a.frames)) ≡ false → length (hosts a.frames) < frame_limit
-          few e = ⊎_elim (λ l. l) (λ l. absurd (clash (sym (le-leb frame_limit (length (hosts a.frames)) l) ∙ e))) (cases_lt (length (hosts a.frames)) frame_limit)
-
-  reply_fits_plan : (a : Config) (r : RunState) (n entry : ℕ) (all : Bool) (c : ScriptCall) → CallGiven world.notes world.script n c → slice_get world.script.call entry ≡ Some c → GoesWell w world a entry
+  reply_fits_plan : (a : Config) (r : RunState) (n entry : ℕ) (all : Bool) (c : ScriptCall) → CallGiven world.notes world.script n c
+      → LentCells world a (copied (call_under_way a.frames)) (signature_params world.notes c.signature)
       → PlanFits w world P a r (reply_plan world.notes (made_objects world.notes world.script a.script.entries) entry all c)
   unfolding reply_plan reply_fits made_objects placed_objects
-  reply_fits_plan a r n entry all c given there well = go (reply_fits world.notes (made_objects world.notes world.script a.script.entries) c && all) refl
+  reply_fits_plan a r n entry all c given lent = go (reply_fits world.notes (made_objects world.notes world.script a.script.entries) c && all) refl
     where
       go : (t : Bool) → (reply_fits world.notes (made_objects world.notes world.script a.script.entries) c && all) ≡ t
           → PlanFits w world P a r (if t then Replies (event.Replied entry c.result) (reply_stores world.notes (made_objects world.notes world.script a.script.entries) (signature_params world.notes c.signature) c) (signature_result world.notes c.signature) c.result else Ends [] (Mismatch (reason.Reply entry)))
@@ -248,19 +265,25 @@ module _ (w : ℕ) (world : World) (P : Placement) (mapped : ℕ → ℕ) (h : I
           let p = and_parts (reply_fits world.notes (made_objects world.notes world.script a.script.entries) c) all t in
           let q = and_parts (fits_result (made_objects world.notes world.script a.script.entries) (signature_result world.notes c.signature) c.result) _ p.0 in
           let s = and_parts (list_all (write_fits world.notes (made_objects world.notes world.script a.script.entries)) c.write) _ q.1 in
-          (reply_named world a n c given (well.lent c there) s.0, given.result)
+          (reply_named world a n c given lent s.0, given.result)
 
-  pub next_fits : (a : Config) (r : RunState) (entry callbacks : ℕ) (all : Bool) → ScriptGiven world.notes world.script → GoesWell w world a entry
+  pub next_fits : (a : Config) (r : RunState) (entry callbacks : ℕ) (all : Bool) → ScriptGiven world.notes world.script → lent_there world a.frames entry (copied (call_under_way a.frames)) ≡ true
+      → total w (performed world a (host_plan world a.script (GoesOn entry callbacks (length (hosts a.frames)) all))).frames ≤ stack_bytes w world.notes
       → PlanFits w world P a r (host_plan world a.script (GoesOn entry callbacks (length (hosts a.frames)) all))
   unfolding host_plan
-  next_fits a r entry callbacks all given well = by_entry (slice_get world.script.call entry) refl
+  next_fits a r entry callbacks all given lent room = by_entry (slice_get world.script.call entry) refl room
     where
+      made : List TypedObject
+      made = made_objects world.notes world.script a.script.entries
+
       by_entry : (q : Option ScriptCall) → slice_get world.script.call entry ≡ q
-          → PlanFits w world P a r (option_map_or (next_plan world.notes (made_objects world.notes world.script a.script.entries) entry callbacks (length (hosts a.frames)) all) q (Ends [] ScriptEnd))
-      by_entry None e = tt
-      by_entry (Some c) e = by_callback (slice_get c.enter callbacks) refl
+          → total w (performed world a (option_map_or (next_plan world.notes made entry callbacks (length (hosts a.frames)) all) q (Ends [] ScriptEnd))).frames ≤ stack_bytes w world.notes
+          → PlanFits w world P a r (option_map_or (next_plan world.notes made entry callbacks (length (hosts a.frames)) all) q (Ends [] ScriptEnd))
+      by_entry None e l = tt
+      by_entry (Some c) e l = by_callback (slice_get c.enter callbacks) refl l
         where
           by_callback : (q : Option Callback) → slice_get c.enter callbacks ≡ q
-              → PlanFits w world P a r (option_map_or (enter_plan world.notes (made_objects world.notes world.script a.script.entries) entry callbacks (length (hosts a.frames))) q (reply_plan world.notes (made_objects world.notes world.script a.script.entries) entry all c))
-          by_callback None g = reply_fits_plan a r entry entry all c (given entry c e) e well
-          by_callback (Some b) g = enter_fits a r entry entry callbacks c b (given entry c e) g well
+              → total w (performed world a (option_map_or (enter_plan world.notes made entry callbacks (length (hosts a.frames))) q (reply_plan world.notes made entry all c))).frames ≤ stack_bytes w world.notes
+              → PlanFits w world P a r (option_map_or (enter_plan world.notes made entry callbacks (length (hosts a.frames))) q (reply_plan world.notes made entry all c))
+          by_callback None g l = reply_fits_plan a r entry entry all c (given entry c e) (lent_cells world a (copied (call_under_way a.frames)) entry c e lent)
+          by_callback (Some b) g l = enter_fits a r entry entry callbacks c b (given entry c e) g l

@@ -14,8 +14,8 @@ pub plans_keep_standing : PlansKeepStanding
 plans_keep_standing w world P mapped a r s p fits = let q = s.placed in performed_stands w world P mapped q.width q.world_fits q.placement a r p s.room s.stands fits
 
 pub host_step_keeps_standing : HostStepKeepsStanding
-host_step_keeps_standing w world P mapped a b r s given well e =
-    let q = s.placed in host_law w world P mapped q.width q.world_fits q.placement a b r s.room given well s.stands e
+host_step_keeps_standing w world P mapped a b r s given after e =
+    let q = s.placed in host_law w world P mapped q.width q.world_fits q.placement a b r s.room after given s.stands e
 
 pub thunk_is_seen : ThunkIsSeen
 thunk_is_seen w world P mapped a s q st i t g l n = names_stand w world P mapped q.width q.world_fits q.placement a s i t g l n st

@@ -35,7 +35,7 @@ use Rattle.note_types.specs.declared.shape.Shape.{Shape}
 use Rattle.note_types.specs.declared.spot.Spot.{Spot}
 use Rattle.note_types.specs.declared.value.Value.{Value}
 use Rattle.run_types.specs.Config.{HostFrame, Frame, Function, Host, Config, hosts, locals_at, call_under_way as neutral_call}
-use Rattle.run_types.specs.NeutralHost.{objects_at, host_view as neutral_view, slots_of as neutral_slots_of, asking_at as neutral_asking_at, asking_by as neutral_asking_by, writes_there, result_of as neutral_result_of, return_seen as neutral_return_seen, call_seen as neutral_call_seen}
+use Rattle.run_types.specs.NeutralHost.{objects_at, host_view as neutral_view, slots_of as neutral_slots_of, asking_at as neutral_asking_at, asking_by as neutral_asking_by, writes_there, lent_there, result_of as neutral_result_of, return_seen as neutral_return_seen, call_seen as neutral_call_seen}
 use Rattle.run_types.specs.Locations.{is_method}
 use Rattle.run_types.specs.NeutralReadings.{neutral_reading, neutral_argument, neutral_arguments, content_value, local_named, when}
 use Rattle.run_types.specs.Values.{Neutral, Num, At, Handle, Method, Entry, Error, SignedError, Junk, ObjectOf, ThunkOf, LocalOf, CellPlace, FieldOfLocals, Addresses, Shows, IsPast, word}
@@ -60,61 +60,63 @@ before_some None q ys e = absurd (cc)
 before_some (Some x) None ys e = absurd (cc)
 before_some (Some x) (Some xs) ys e = (x, xs, refl, refl, same_Some (x ∷ xs) ys e)
 
+-- ---- locals
+
+-- the local field that a value is the address of
+pub record NamesLocal (frames : List Frame) (c : Cell) (v : Neutral) (p : CellPlace) : Type 0 where
+  pub d : ℕ
+  pub f : ℕ
+  pub shape : Shape
+  pub field : Field
+  pub is : v ≡ At (LocalOf d f) 0 0
+  pub there : locals_at frames d ≡ Some shape
+  pub at : slice_get shape.fields f ≡ Some field
+  pub cell : field.cell ≡ c
+  pub place : FieldOfLocals d f ≡ p
+
+pub names_local : (frames : List Frame) (c : Cell) (v : Neutral) (p : CellPlace) → local_named frames c v ≡ Some p → NamesLocal frames c v p
+names_local frames c (At (LocalOf d f) n m) p e =
+    let q = and_then_some (λ (x : Field). when (nat_eq n 0 && (nat_eq m 0 && same_cell x.cell c)) (FieldOfLocals d f)) (option_and_then (λ (s : Shape). slice_get s.fields f) (locals_at frames d)) p e in
+    let h = and_then_some (λ (s : Shape). slice_get s.fields f) (locals_at frames d) q.0 q.1 in
+    let t = if_some (nat_eq n 0 && (nat_eq m 0 && same_cell q.0.cell c)) (FieldOfLocals d f) p q.2 in
+    let b = and_parts (nat_eq n 0) (nat_eq m 0 && same_cell q.0.cell c) t.0 in
+    let g = and_parts (nat_eq m 0) (same_cell q.0.cell c) b.1 in
+    record {
+      d = d;
+      f = f;
+      shape = h.0;
+      field = q.0;
+      is = ap₂ (λ x y. At (LocalOf d f) x y) (eqb-true n 0 b.0) (eqb-true m 0 g.0);
+      there = h.1;
+      at = h.2;
+      cell = same_cell-equal q.0.cell c g.1;
+      place = t.1;
+    }
+names_local frames c (At (ObjectOf k) n m) p e = absurd (cc)
+names_local frames c (At (ThunkOf k) n m) p e = absurd (cc)
+names_local frames c (Num n m) p e = absurd (cc)
+names_local frames c (Handle k) p e = absurd (cc)
+names_local frames c (Method k) p e = absurd (cc)
+names_local frames c (Entry k) p e = absurd (cc)
+names_local frames c (Error k) p e = absurd (cc)
+names_local frames c (SignedError k) p e = absurd (cc)
+names_local frames c Junk p e = absurd (cc)
+
 module _ (w : ℕ) (world : World) (P : Placement) (A : Addresses) (a : Config) (r : RunState) (ok : SeenAlike w world P A a r) where
   made : List TypedObject
   made = objects_at world a
 
   -- ---- arguments
 
-  -- the local field that a value is the address of
-  record NamesLocal (c : Cell) (v : Neutral) (p : CellPlace) : Type 0 where
-    d : ℕ
-    f : ℕ
-    shape : Shape
-    field : Field
-    is : v ≡ At (LocalOf d f) 0 0
-    there : locals_at a.frames d ≡ Some shape
-    at : slice_get shape.fields f ≡ Some field
-    cell : field.cell ≡ c
-    place : FieldOfLocals d f ≡ p
-
-  names_local : (c : Cell) (v : Neutral) (p : CellPlace) → local_named a.frames c v ≡ Some p → NamesLocal c v p
-  names_local c (At (LocalOf d f) n m) p e =
-      let q = and_then_some (λ (x : Field). when (nat_eq n 0 && (nat_eq m 0 && same_cell x.cell c)) (FieldOfLocals d f)) (option_and_then (λ (s : Shape). slice_get s.fields f) (locals_at a.frames d)) p e in
-      let h = and_then_some (λ (s : Shape). slice_get s.fields f) (locals_at a.frames d) q.0 q.1 in
-      let t = if_some (nat_eq n 0 && (nat_eq m 0 && same_cell q.0.cell c)) (FieldOfLocals d f) p q.2 in
-      let b = and_parts (nat_eq n 0) (nat_eq m 0 && same_cell q.0.cell c) t.0 in
-      let g = and_parts (nat_eq m 0) (same_cell q.0.cell c) b.1 in
-      record {
-        d = d;
-        f = f;
-        shape = h.0;
-        field = q.0;
-        is = ap₂ (λ x y. At (LocalOf d f) x y) (eqb-true n 0 b.0) (eqb-true m 0 g.0);
-        there = h.1;
-        at = h.2;
-        cell = same_cell-equal q.0.cell c g.1;
-        place = t.1;
-      }
-  names_local c (At (ObjectOf k) n m) p e = absurd (cc)
-  names_local c (At (ThunkOf k) n m) p e = absurd (cc)
-  names_local c (Num n m) p e = absurd (cc)
-  names_local c (Handle k) p e = absurd (cc)
-  names_local c (Method k) p e = absurd (cc)
-  names_local c (Entry k) p e = absurd (cc)
-  names_local c (Error k) p e = absurd (cc)
-  names_local c (SignedError k) p e = absurd (cc)
-  names_local c Junk p e = absurd (cc)
-
   -- its address
-  local_address : (c : Cell) (v : Neutral) (p : CellPlace) (x : ℕ) (h : NamesLocal c v p) → Shows w A v x → A.anchor (LocalOf h.d h.f) ≡ Some x
+  local_address : (c : Cell) (v : Neutral) (p : CellPlace) (x : ℕ) (h : NamesLocal a.frames c v p) → Shows w A v x → A.anchor (LocalOf h.d h.f) ≡ Some x
   local_address c v p x h s =
       let past : IsPast (A.anchor (LocalOf h.d h.f)) (0 * w + 0) x = subst (λ u. Shows w A u x) h.is s in
       let e : past.from + (0 * w + 0) ≡ past.from = omega arith in
       past.there ∙ ap Some (sym (past.is ∙ ap word e ∙ mod-eq_of_lt (ok.locals.small h.d h.f past.from past.there)))
 
   -- it lies in the stack
-  local_inside : (c : Cell) (v : Neutral) (p : CellPlace) (x : ℕ) (h : NamesLocal c v p) → Shows w A v x → in_stack w world.notes P c x ≡ true
+  local_inside : (c : Cell) (v : Neutral) (p : CellPlace) (x : ℕ) (h : NamesLocal a.frames c v p) → Shows w A v x → in_stack w world.notes P c x ≡ true
   local_inside c v p x h s = ap (λ y. in_stack w world.notes P y x) (sym h.cell) ∙ ok.locals.inside h.d h.f x h.shape h.field h.there h.at (local_address c v p x h s)
 
   argument_alike : (role : Role) (v : Neutral) (x : ℕ) (t : Seen) → neutral_argument world.notes made a.frames a.cells role v ≡ Some t → Shows w A v x
@@ -125,13 +127,13 @@ module _ (w : ℕ) (world : World) (P : Placement) (A : Addresses) (a : Config) 
       ap given (reads_alike w world.notes P made A ok.named sort v x h.0 h.1 s) ∙ h.2
   argument_alike (OutCell c) v x t e s =
       let h = map_some (λ p. given value.Out) (local_named a.frames c v) t e in
-      ap (λ b. given (if b then value.Out else value.Wild x)) (local_inside c v h.0 x (names_local c v h.0 h.1) s) ∙ h.2
+      ap (λ b. given (if b then value.Out else value.Wild x)) (local_inside c v h.0 x (names_local a.frames c v h.0 h.1) s) ∙ h.2
   argument_alike (InoutCell c) v x t e s =
       let h = map_some lent (option_and_then (neutral_reading world.notes made (sort_of_cell c)) (option_map (content_value world.notes made c) (option_and_then a.cells (local_named a.frames c v)))) t e in
       let q = and_then_some (neutral_reading world.notes made (sort_of_cell c)) (option_map (content_value world.notes made c) (option_and_then a.cells (local_named a.frames c v))) h.0 h.1 in
       let m = map_some (content_value world.notes made c) (option_and_then a.cells (local_named a.frames c v)) q.0 q.1 in
       let g = and_then_some a.cells (local_named a.frames c v) m.0 m.1 in
-      let l = names_local c v g.0 g.1 in
+      let l = names_local a.frames c v g.0 g.1 in
       let shown : Shows w A q.0 (little_endian r.machine.byte x (cell_size w c)) =
       subst (λ u. Shows w A u (little_endian r.machine.byte x (cell_size w c))) m.2
       (subst (λ y. Shows w A (content_value world.notes made y m.0) (little_endian r.machine.byte x (cell_size w y))) l.cell
@@ -277,7 +279,8 @@ module _ (w : ℕ) (world : World) (P : Placement) (A : Addresses) (a : Config) 
   call_alike (Accepted n k vs) (Asked q x) v h e = absurd h
   call_alike (Accepted n k vs) (Accepted f m xs) v h e =
       ap₂ (λ x y. Some (GoesOn x y (length r.hosts) (writes_mapped w world P r x))) (sym h.0) (sym h.1)
-      ∙ ap₂ (λ x y. Some (GoesOn n k x y)) (count_alike (hosts a.frames) r.hosts ok.hosts) (mapped_alike n) ∙ e
+      ∙ ap₂ (λ x y. Some (GoesOn n k x y)) (count_alike (hosts a.frames) r.hosts ok.hosts) (mapped_alike n)
+      ∙ ap Some (if_some (lent_there world a.frames n vs) (GoesOn n k (length (hosts a.frames)) (writes_there world a n)) v e).1
 
   -- ---- the view
 

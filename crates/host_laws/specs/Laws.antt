@@ -7,7 +7,7 @@ use Rattle.neutral_machine.specs.Stands.{MachineStands, Stands}
 use Rattle.neutral_machine.specs.WorldFits.{WorldFits}
 use Rattle.note_types.specs.Concrete.{Concrete, stored}
 use Rattle.note_types.specs.declared.notes.Thunk.{Thunk}
-use Rattle.run_types.specs.Config.{Config, call_under_way}
+use Rattle.run_types.specs.Config.{Config}
 use Rattle.run_types.specs.HostPlans.{View, Plan, Names}
 use Rattle.run_types.specs.HostSteps as width
 use Rattle.run_types.specs.Layout.{total}
@@ -18,7 +18,6 @@ use Rattle.run_types.specs.RunState.{RunState}
 use Rattle.run_types.specs.Start.{run_start}
 use Rattle.run_types.specs.Values.{Cells}
 use Rattle.run_types.specs.World.{World}
-use Rattle.host_laws.specs.CallGoesWell.{CallGoesWell}
 use Rattle.host_laws.specs.PlanFits.{PlanFits}
 use Rattle.host_laws.specs.ScriptGiven.{ScriptGiven}
 use Rattle.host_laws.specs.StartGiven.{StaticsShow, StartGiven}
@@ -48,12 +47,12 @@ PlansKeepStanding =
     (w : ℕ) (world : World) (P : Placement) (mapped : ℕ → ℕ) (a : Config) (r : RunState) → StandsWithin w world P mapped a r
     → (p : Plan) → PlanFits w world P a r p → Stands w world P mapped (neutral.performed world a p) (width.performed w world P r p)
 
--- So it does after the host's step, where the neutral machine isn't stuck in it, the script is as its reader gives it, and a
--- native call that goes on goes well.
+-- So it does after the host's step, where the neutral machine isn't stuck in it, the script is as its reader gives it, and the
+-- frames that the step leaves fit the stack.
 abbrev pub HostStepKeepsStanding : Type 0
 HostStepKeepsStanding =
     (w : ℕ) (world : World) (P : Placement) (mapped : ℕ → ℕ) (a b : Config) (r : RunState) → StandsWithin w world P mapped a r
-    → ScriptGiven world.notes world.script → CallGoesWell w world a (call_under_way a.frames)
+    → ScriptGiven world.notes world.script → total w b.frames ≤ stack_bytes w world.notes
     → neutral.neutral_host_step world a ≡ Some b → Stands w world P mapped b (width.host_step w world P r)
 
 -- The host sees the function that the next thunk cell names.

@@ -1,4 +1,3 @@
-pub mod CallGoesWell
 pub mod Laws
 pub mod PlanFits
 pub mod ScriptGiven

@@ -1,42 +1,30 @@
 -- A test of runs of an image without relocations: where it passes, the neutral machine is never stuck, and each of its steps
 -- goes well at a width. It goes along a run up to its end.
-use Rattle.std.proofs.Common.{◌≡◌, ℕ, zero, suc, ◌+◌, ◌-◌, ◌<◌, Bool, true, false, not, ◌&&◌, ◌||◌, List, [], ◌∷◌, length, Option, Some, None, is_none, option_and_then, refl, sym, ap, ◌∙◌, subst, arith, nat_eq, nat_le, slice_get}
-use Rattle.std.specs.List.{list_any, list_all, Contains}
+use Rattle.std.proofs.Common.{◌≡◌, ℕ, zero, suc, ◌+◌, ◌-◌, ◌<◌, Bool, true, false, not, ◌&&◌, ◌||◌, List, [], ◌∷◌, length, Option, Some, None, option_and_then, refl, sym, ap, ◌∙◌, subst, arith, nat_eq, nat_le, slice_get}
+use Rattle.std.specs.List.{list_any, Contains}
 use Rattle.std.specs.Option.{option_map_or}
 use Rattle.std.proofs.lemmas.Bool.{and_parts, leb-true, true≢false}
-use Rattle.std.proofs.lemmas.Option.{same_Some, none-some}
+use Rattle.std.proofs.lemmas.Option.{same_Some}
 use Rattle.ebc_insn.specs.declared.Insn.{Insn}
-use Rattle.host_laws.specs.CallGoesWell.{CallGoesWell}
 use Rattle.neutral_machine.specs.Room.{growth}
-use Rattle.note_types.specs.BelowTests.{same_cell}
-use Rattle.note_types.specs.declared.cell.Cell.{Cell}
 use Rattle.note_types.specs.declared.ending.Ending.{Ending}
 use Rattle.note_types.specs.declared.ending.Ending.TheVariants as ending
 use Rattle.note_types.specs.declared.notes.FnNote.{FnNote}
-use Rattle.note_types.specs.declared.notes.WantParam.{WantParam}
-use Rattle.note_types.specs.declared.script.ScriptCall.{ScriptCall}
-use Rattle.note_types.specs.declared.shape.Field.{Field}
 use Rattle.note_types.specs.declared.spot.Spot.{Spot}
 use Rattle.note_types.specs.declared.spot.Spot.TheVariants as spot
-use Rattle.note_types.proofs.SameLaws.{same_cell-equal}
 use Rattle.pe_image.specs.Mapped.{AreBytes}
 use Rattle.pe_image.specs.declared.image.Image.{Image}
 use Rattle.rules_data.specs.Images.{is_absolute, named_at, is_relocated, RelocationHolds}
-use Rattle.run_types.specs.Config.{Config, call_under_way}
-use Rattle.run_types.specs.HostPlans.{cell_lent, lent_at, signature_params}
+use Rattle.run_types.specs.Config.{Config}
 use Rattle.run_types.specs.Layout.{total}
-use Rattle.run_types.specs.Memory.{memory_of, cell_field}
 use Rattle.run_types.specs.NeutralRuns.{neutral_run, neutral_start, neutral_step, step_if}
-use Rattle.run_types.specs.Placements.{params_bytes, return_cell, stack_bytes}
-use Rattle.run_types.specs.Progress.{NativeCall, NoCall, Asked, Accepted, copied}
-use Rattle.run_types.specs.Values.{Neutral, At, LocalOf, FieldOfLocals}
+use Rattle.run_types.specs.Placements.{stack_bytes}
 use Rattle.run_types.specs.World.{World}
 use Rattle.whole_runs.specs.NeutralImage.{instruction_at, site_at, static_cells}
 use Rattle.whole_runs.specs.NeutralRun.{config_after, neutral_instruction}
 use Rattle.run_laws.specs.RunLaw.{RunGoesWell}
 use Rattle.run_laws.specs.StepLaw.{InsnStands}
 use Rattle.run_laws.proofs.Decoded.{read_is_decoded}
-use Rattle.run_laws.proofs.Items.{each_item, passing}
 
 -- ---- the tests
 
@@ -55,31 +43,9 @@ abbrev spot_test : ℕ → Image → World → Config → Spot → Bool
 spot_test w image world a (spot.Place p) = insn_test w world a p (instruction_at image p)
 spot_test w image world a _ = true
 
--- the value of an argument is the address of a written or unwritten local of the kind that is wanted
-abbrev lent_test : World → Config → Option Cell → Neutral → Bool
-lent_test world a None v = true
-lent_test world a (Some c) (At (LocalOf d f) zero zero) = option_map_or (λ (x : Field). same_cell x.cell c) (cell_field world.notes (memory_of world a) (FieldOfLocals d f)) false
-lent_test world a (Some c) _ = false
-
-abbrev all_lent : World → Config → List WantParam → List Neutral → Bool
-all_lent world a [] vs = true
-all_lent world a (p ∷ ps) [] = is_none (cell_lent p.want) && all_lent world a ps []
-all_lent world a (p ∷ ps) (v ∷ vs) = lent_test world a (cell_lent p.want) v && all_lent world a ps vs
-
--- the stack has room for a function that is entered
-abbrev room_test : ℕ → World → Config → FnNote → Bool
-room_test w world a g = nat_le (return_cell + (params_bytes w g.params + total w a.frames)) (stack_bytes w world.notes)
-
-abbrev call_test : ℕ → World → Config → NativeCall Neutral → Bool
-call_test w world a (Accepted entry callbacks slots) =
-    list_all (room_test w world a) world.notes.function
-    && option_map_or (λ (c : ScriptCall). all_lent world a (signature_params world.notes c.signature) (copied (call_under_way a.frames))) (slice_get world.script.call entry) true
-call_test w world a _ = true
-
+-- an instruction stands at the spot, and the frames fit the stack
 abbrev config_test : ℕ → Image → World → Config → Bool
-config_test w image world a =
-    spot_test w image world a a.spot
-    && (call_test w world a (call_under_way a.frames) && nat_le (total w a.frames) (stack_bytes w world.notes))
+config_test w image world a = spot_test w image world a a.spot && nat_le (total w a.frames) (stack_bytes w world.notes)
 
 abbrev has_ended : Ending → Bool
 has_ended ending.Running = false
@@ -92,21 +58,6 @@ step_of world image a = neutral_step world (neutral_instruction world image) a
 unfoldable pub run_test : ℕ → Image → World → ℕ → Config → Bool
 run_test w image world zero a = has_ended a.ending && config_test w image world a
 run_test w image world (suc n) a = config_test w image world a && option_map_or (run_test w image world n) (step_of world image a) false
-
--- ---- what an argument's slot is to hold
-
-abbrev depth_of : Option Neutral → ℕ
-depth_of (Some (At (LocalOf d f) n c)) = d
-depth_of _ = 0
-
-abbrev field_of : Option Neutral → ℕ
-field_of (Some (At (LocalOf d f) n c)) = f
-field_of _ = 0
-
--- a value is the address of a local of that kind
-record IsLent (world : World) (a : Config) (c : Cell) (v : Option Neutral) : Type 0 where
-  slot : v ≡ Some (At (LocalOf (depth_of v) (field_of v)) 0 0)
-  field : (x : Field) × (cell_field world.notes (memory_of world a) (FieldOfLocals (depth_of v) (field_of v)) ≡ Some x) × (x.cell ≡ c)
 
 -- ---- an instruction
 
@@ -173,40 +124,6 @@ module _ (w : ℕ) (image : Image) (world : World) (bytes : AreBytes image) (bar
   spot_stands a spot.Gate same t p e = absurd (cc)
   spot_stands a (spot.Wild x) same t p e = absurd (cc)
 
-  -- ---- a native call
-
-  lent_is : (a : Config) (c : Cell) (v : Neutral) → lent_test world a (Some c) v ≡ true → IsLent world a c (Some v)
-  lent_is a c (At (LocalOf d f) zero zero) e = record { slot = refl; field = go (cell_field world.notes (memory_of world a) (FieldOfLocals d f)) refl e }
-    where
-      go : (o : Option Field) → cell_field world.notes (memory_of world a) (FieldOfLocals d f) ≡ o → option_map_or (λ (x : Field). same_cell x.cell c) o false ≡ true
-          → (x : Field) × (cell_field world.notes (memory_of world a) (FieldOfLocals d f) ≡ Some x) × (x.cell ≡ c)
-      go None same t = absurd (true≢false (sym t))
-      go (Some x) same t = (x, same, same_cell-equal x.cell c t)
-  lent_is a c _ e = absurd (true≢false (sym e))
-
-  lent_at-is : (a : Config) (ps : List WantParam) (vs : List Neutral) → all_lent world a ps vs ≡ true → (j : ℕ) (c : Cell) → lent_at ps j ≡ Some c → IsLent world a c (slice_get vs j)
-  lent_at-is a [] vs e j c h = absurd (none-some c h)
-  lent_at-is a (p ∷ ps) [] e zero c h = absurd (true≢false (sym (and_parts (is_none (cell_lent p.want)) (all_lent world a ps []) e).0 ∙ ap is_none h))
-  lent_at-is a (p ∷ ps) [] e (suc j) c h = lent_at-is a ps [] (and_parts (is_none (cell_lent p.want)) (all_lent world a ps []) e).1 j c h
-  lent_at-is a (p ∷ ps) (v ∷ vs) e zero c h = lent_is a c v (ap (λ o. lent_test world a o v) (sym h) ∙ (and_parts (lent_test world a (cell_lent p.want) v) (all_lent world a ps vs) e).0)
-  lent_at-is a (p ∷ ps) (v ∷ vs) e (suc j) c h = lent_at-is a ps vs (and_parts (lent_test world a (cell_lent p.want) v) (all_lent world a ps vs) e).1 j c h
-
-  call_goes_well : (a : Config) (call : NativeCall Neutral) → call_test w world a call ≡ true → CallGoesWell w world a call
-  call_goes_well a NoCall e = tt
-  call_goes_well a (Asked p v) e = tt
-  call_goes_well a (Accepted entry callbacks slots) e =
-      let b = and_parts (list_all (room_test w world a) world.notes.function) _ e in
-      record {
-        room = λ f g there may few. leb-true (return_cell + (params_bytes w g.params + total w a.frames)) (stack_bytes w world.notes) (each_item (λ (x : FnNote). room_test w world a x ≡ true) world.notes.function (passing (room_test w world a) (λ (x : FnNote). room_test w world a x ≡ true) (λ x t. t) world.notes.function b.0) f g there);
-        lent = λ c there. let t : all_lent world a (signature_params world.notes c.signature) (copied (call_under_way a.frames)) ≡ true = ap (λ o. option_map_or (λ (y : ScriptCall). all_lent world a (signature_params world.notes y.signature) (copied (call_under_way a.frames))) o true) (sym there) ∙ b.1 in
-            record {
-              d = λ j. depth_of (slice_get (copied (call_under_way a.frames)) j);
-              f = λ j. field_of (slice_get (copied (call_under_way a.frames)) j);
-              slot = λ j x h. (lent_at-is a (signature_params world.notes c.signature) (copied (call_under_way a.frames)) t j x h).slot;
-              field = λ j x h. (lent_at-is a (signature_params world.notes c.signature) (copied (call_under_way a.frames)) t j x h).field;
-            };
-      }
-
   -- ---- a run
 
   -- a configuration passes, with those that come after it
@@ -253,11 +170,9 @@ module _ (w : ℕ) (image : Image) (world : World) (bytes : AreBytes image) (bar
       let here = passes_now a there in
       let later = passes_now b after in
       let x = and_parts (spot_test w image world a a.spot) _ here in
-      let y = and_parts (call_test w world a (call_under_way a.frames)) _ x.1 in
-      let z = and_parts (call_test w world b (call_under_way b.frames)) _ (and_parts (spot_test w image world b b.spot) _ later).1 in
+      let y = and_parts (spot_test w image world b b.spot) _ later in
       record {
         there = λ p e none. spot_stands a a.spot refl x.0 p e;
-        call = call_goes_well a (call_under_way a.frames) y.0;
-        before = leb-true (total w a.frames) (stack_bytes w world.notes) y.1;
-        after = leb-true (total w b.frames) (stack_bytes w world.notes) z.1;
+        before = leb-true (total w a.frames) (stack_bytes w world.notes) x.1;
+        after = leb-true (total w b.frames) (stack_bytes w world.notes) y.1;
       }

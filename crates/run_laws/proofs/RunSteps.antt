@@ -313,7 +313,7 @@ module _ (w : ℕ) (image : Image) (world : World) (P : Placement) (q : IsRunAt 
           → Stands w world P B b (if host_turn (nat_eq r.machine.ip r.machine.gate) (width.call_under_way r.hosts) then width.host_step w world P r else instruction_step w world P r)
       by_turn true mine t e =
           subst (λ x. Stands w world P B b (if x then width.host_step w world P r else instruction_step w world P r)) t
-          (host_law w world P B q.width fits q.placement a b r well.before q.script well.call st e)
+          (host_law w world P B q.width fits q.placement a b r well.before well.after q.script st e)
       by_turn false mine t e = subst (λ x. Stands w world P B b (if x then width.host_step w world P r else instruction_step w world P r)) t (instruction_stands a b r well mine st e)
 
   step_stands : (a b : Config) (r : RunState) → (a.ending ≡ ending.Running → StepGoesWell w image world a b) → Stands w world P B a r → neutral_step world (neutral_instruction world image) a ≡ Some b → Stands w world P B b (run_step w world P r)

@@ -3,7 +3,6 @@
 use Rattle.std.specs.Prelude.{◌≡◌, ℕ, ◌≤◌, Some}
 use Rattle.ebc_insn.specs.declared.Insn.{Insn}
 use Rattle.ebc_width.specs.Width.{IsWidth}
-use Rattle.host_laws.specs.CallGoesWell.{CallGoesWell}
 use Rattle.host_laws.specs.ScriptGiven.{ScriptGiven}
 use Rattle.instruction_laws.specs.Premises.{IsInsnOf, IsRunOf}
 use Rattle.neutral_machine.specs.Room.{HasRoom}
@@ -40,10 +39,9 @@ pub record InsnStands (w : ℕ) (image : Image) (world : World) (a : Config) (pl
   pub room : HasRoom w world a insn
 
 -- What typing is to give of a configuration before a step, and of the one after it: where no native call is under way an
--- instruction stands at its spot, a native call that goes on goes well, and the frames before and after fit the stack.
+-- instruction stands at its spot, and the frames before and after fit the stack.
 pub record StepGoesWell (w : ℕ) (image : Image) (world : World) (a b : Config) : Type 0 where
   pub there : (p : ℕ) → a.spot ≡ Place p → call_under_way a.frames ≡ NoCall → InsnStands w image world a p
-  pub call : CallGoesWell w world a (call_under_way a.frames)
   pub before : total w a.frames ≤ stack_bytes w world.notes
   pub after : total w b.frames ≤ stack_bytes w world.notes
 

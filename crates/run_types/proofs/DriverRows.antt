@@ -1,14 +1,11 @@
 -- Rows of a small driver, the one of docs/NOTES.md with its script of docs/SCRIPTS.md: the definitions of the host compute
 -- them. A slip in one of the definitions shows here at once.
-use Rattle.std.proofs.Common.{◌≡◌, ◌+◌, ◌-◌, ◌^◌, ◌<◌, true, false, List, [], ◌∷◌, Some, None, refl, pos, arith}
+use Rattle.std.proofs.Common.{◌≡◌, ◌+◌, ◌^◌, ◌<◌, true, false, List, [], ◌∷◌, Some, None, refl, arith}
 use Rattle.note_types.specs.declared.cell.Cell.TheVariants as cell
-use Rattle.note_types.specs.declared.cell.SlotKind.TheVariants.{N}
 use Rattle.note_types.specs.declared.ending.Ending.TheVariants.{Mismatch, ScriptEnd}
 use Rattle.note_types.specs.declared.event.Event.TheVariants as event
 use Rattle.note_types.specs.declared.notes.Notes.{Notes}
-use Rattle.note_types.specs.declared.notes.Want.TheVariants as want
 use Rattle.note_types.specs.declared.reason.Reason.TheVariants as reason
-use Rattle.note_types.specs.declared.script.ScriptCall.{ScriptCall}
 use Rattle.note_types.specs.declared.types.Ty.TheVariants as ty
 use Rattle.note_types.specs.declared.value.Value.TheVariants as value
 use Rattle.run_types.specs.HostPlans.{Asks, NoSite, GoesOn, Returns, InArgument, Accepts, Ends, Enters, Finishes, Leaves, Replies, call_plan, argument_refused, host_plan, enter_plan, reply_plan, reply_fits, reply_stores, all_named_right, field_at, filling}

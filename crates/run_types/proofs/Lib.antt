@@ -1,6 +1,7 @@
 pub mod CellTakes
 pub mod Driver
 pub mod DriverRows
+pub mod LentRows
 pub mod Lists
 pub mod LocationRows
 pub mod NamedThings

@@ -1,19 +1,21 @@
 -- What the modelled host sees of a configuration of the neutral machine, and what its plans leave: as at a width, with values in
 -- the place of numbers. docs/HOST.md, "Steps".
-use Rattle.std.specs.Prelude.{ℕ, ◌+◌, Bool, false, ◌&&◌, List, [], ◌∷◌, ◌++◌, length, Option, Some, None, nat_eq, nat_lt, if◌then◌else◌, is_some, slice_get}
+use Rattle.std.specs.Prelude.{ℕ, suc, ◌+◌, Bool, true, false, ◌&&◌, List, [], ◌∷◌, ◌++◌, length, Option, Some, None, nat_eq, nat_lt, if◌then◌else◌, is_some, slice_get}
 use Rattle.std.specs.List.{list_all}
 use Rattle.std.specs.Option.{option_map, option_map_or, option_and_then}
-use Rattle.run_types.specs.HostPlans.{Asking, NoSite, Asks, View, Returns, Calls, GoesOn, Target, InObject, InArgument, Store, Plan, Finishes, Leaves, Accepts, Enters, Replies, Ends, field_at, signature_params, signature_method, site_of, function_params, host_plan}
+use Rattle.run_types.specs.HostPlans.{Asking, NoSite, Asks, View, Returns, Calls, GoesOn, Target, InObject, InArgument, Store, Plan, Finishes, Leaves, Accepts, Enters, Replies, Ends, cell_lent, field_at, signature_params, signature_method, site_of, function_params, host_plan}
 use Rattle.note_types.specs.Cells.{content_type}
 use Rattle.run_types.specs.World.{World}
 use Rattle.run_types.specs.Objects.{TypedObject, made_objects}
 use Rattle.run_types.specs.Progress.{one_entry, one_thunk, NativeCall, NoCall, Asked, Accepted, copied, one_callback, is_empty}
 use Rattle.run_types.specs.Readings.{sort_of_type}
+use Rattle.note_types.specs.declared.cell.Cell.{Cell}
 use Rattle.note_types.specs.declared.ending.Ending.TheVariants.{Finished}
 use Rattle.note_types.specs.declared.notes.FnNote.{FnNote}
 use Rattle.note_types.specs.declared.notes.Notes.{Notes}
 use Rattle.note_types.specs.declared.notes.Param.{Param}
 use Rattle.note_types.specs.declared.notes.Thunk.{Thunk}
+use Rattle.note_types.specs.declared.notes.WantParam.{WantParam}
 use Rattle.note_types.specs.declared.script.ScriptCall.{ScriptCall}
 use Rattle.note_types.specs.declared.script.WriteValue.{WriteValue}
 use Rattle.note_types.specs.declared.shape.Field.{Field}
@@ -24,7 +26,7 @@ use Rattle.note_types.specs.declared.value.Value.{Value}
 use Rattle.run_types.specs.Config.{StackItem, Pushed, FunctionFrame, Frame, Function, Host, Config, hosts, top_function, call_under_way, with_call, with_value}
 use Rattle.run_types.specs.Locations.{is_method}
 use Rattle.run_types.specs.Placements.{place_of}
-use Rattle.run_types.specs.NeutralReadings.{neutral_result, neutral_arguments, neutral_slots}
+use Rattle.run_types.specs.NeutralReadings.{local_named, neutral_result, neutral_arguments, neutral_slots}
 use Rattle.run_types.specs.Memory.{with_cell}
 use Rattle.run_types.specs.Values.{Neutral, At, ThunkOf, LocalOf, CellPlace, FieldOf, FieldOfLocals, Cells, null}
 use Rattle.run_types.specs.Written.{value_as, result_value}
@@ -60,6 +62,21 @@ unfoldable pub writes_there : World → Config → ℕ → Bool
 writes_there world a entry =
     option_map_or (λ (c : ScriptCall). list_all (λ (v : WriteValue). is_some (field_at world.notes (objects_at world a) v.object v.instance v.field)) c.write) (slice_get world.script.call entry) false
 
+-- the slot of an argument that wants a cell is the address of a local field that is such a cell
+abbrev pub slot_lends : List Frame → Option Cell → Option Neutral → Bool
+slot_lends frames None slot = true
+slot_lends frames (Some c) slot = is_some (option_and_then (local_named frames c) slot)
+
+-- so are the slots of the parameters that want cells, which are counted from k
+unfoldable pub all_lent : List Frame → List Neutral → ℕ → List WantParam → Bool
+all_lent frames slots k [] = true
+all_lent frames slots k (p ∷ ps) = slot_lends frames (cell_lent p.want) (slice_get slots k) && all_lent frames slots (suc k) ps
+
+-- the cells are there that a native call was lent which copied these slots and which the script's call of that number answers
+unfoldable pub lent_there : World → List Frame → (entry : ℕ) → (slots : List Neutral) → Bool
+lent_there world frames entry slots =
+    option_map_or (λ (c : ScriptCall). all_lent frames slots 0 (signature_params world.notes c.signature)) (slice_get world.script.call entry) true
+
 -- the result of a function that R7 holds
 unfoldable pub result_of : World → Config → ℕ → Option Value
 result_of world a f =
@@ -72,11 +89,12 @@ abbrev pub return_seen : World → Config → List Frame → Option View
 return_seen world a (Host h ∷ fs) = option_map (Returns (is_empty (hosts fs)) h.func) (result_of world a h.func)
 return_seen world a _ = None
 
--- what the host sees of a native call that is under way
+-- what the host sees of a native call that is under way: none unless the cells that it was lent are there
 abbrev pub call_seen : World → Config → NativeCall Neutral → Option View
 call_seen world a NoCall = None
 call_seen world a (Asked place target) = option_map (Calls place) (asking_at world a place target)
-call_seen world a (Accepted entry callbacks slots) = Some (GoesOn entry callbacks (length (hosts a.frames)) (writes_there world a entry))
+call_seen world a (Accepted entry callbacks slots) =
+    if lent_there world a.frames entry slots then Some (GoesOn entry callbacks (length (hosts a.frames)) (writes_there world a entry)) else None
 
 -- what the host sees, where the next step is the host's
 unfoldable pub host_view : World → Config → Spot → Option View
