@@ -1,5 +1,5 @@
-//! Tests of assembly text: instructions in both directions, and the faults of lines. They stand in a crate of their own, so
-//! that the crates that they try aren't proved a second time with them.
+//! Tests of assembly text: instructions in both directions, the faults of lines, and whole sources. They stand in a crate of
+//! their own, so that the crates that they try aren't proved a second time with them.
 #![tactic(auto)]
 
 #[cfg(test)]
@@ -8,3 +8,5 @@ mod faults;
 mod instructions;
 #[cfg(test)]
 mod lines;
+#[cfg(test)]
+mod sources;

@@ -6,3 +6,6 @@ pub mod StateLaws
 pub mod PlaceLaws
 pub mod StandingLaws
 pub mod NameSteps
+pub mod LineSteps
+pub mod TakeLaws
+pub mod SourceLaws

@@ -101,7 +101,7 @@ not_with n name ns false e h =
     let q = neither (bytes_eq name n) false p.1 in
     (q.0, p.0)
 
-not_name : (o : Option (List ℕ)) (name : List ℕ) (ns : List (List ℕ)) → is_named name (and_name o ns) ≡ false → (is_some_name name o ≡ false) × (is_named name ns ≡ false)
+pub not_name : (o : Option (List ℕ)) (name : List ℕ) (ns : List (List ℕ)) → is_named name (and_name o ns) ≡ false → (is_some_name name o ≡ false) × (is_named name ns ≡ false)
 not_name None name ns h = (refl, h)
 not_name (Some n) name ns h = not_with n name ns (is_named n ns) refl h
 

@@ -92,7 +92,7 @@ knows_last : (names : List (List ℕ)) (ls : List Line) (l : Line) → Knows nam
 knows_last names [] l h u = (u, tt)
 knows_last names (x ∷ ls) l h u = (h.0, knows_last names ls l h.1 u)
 
-used_is_there : (u : Option Use) (names : List (List ℕ)) → KnowsUse (and_name (used_name u) names) u
+pub used_is_there : (u : Option Use) (names : List (List ℕ)) → KnowsUse (and_name (used_name u) names) u
 used_is_there None names = tt
 used_is_there (Some u) names = is_there u.name names
 

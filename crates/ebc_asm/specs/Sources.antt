@@ -1,6 +1,6 @@
 -- What a source stands for: an object, or the first line that fails with the lowest of its faults. docs/ASSEMBLY.md, "Objects"
 -- and "Faults".
-use Rattle.std.specs.Prelude.{ℕ, ◌+◌, Bool, true, false, not, ◌&&◌, List, [], ◌∷◌, ◌++◌, length, map, Option, Some, None, Result, Ok, Err, nat_le}
+use Rattle.std.specs.Prelude.{◌≡◌, ℕ, ◌+◌, Bool, true, false, not, ◌&&◌, List, [], ◌∷◌, ◌++◌, length, map, Option, Some, None, Result, Ok, Err, nat_le}
 use Rattle.std.specs.List.{list_any}
 use Rattle.ebc_base.specs.Steps.{◌>>=◌, passes}
 use Rattle.ebc_object.specs.declared.object.Object.{Object}
@@ -11,6 +11,8 @@ use Rattle.asm_text.specs.Lines.{Line, label_of, line_in}
 use Rattle.asm_text.specs.Splits.{lines_of}
 use Rattle.asm_text.specs.Statements.{Statement}
 use Rattle.asm_text.specs.Statements as statements
+use Rattle.ebc_asm.specs.declared.end.AsmEnd.{AsmEnd}
+use Rattle.ebc_asm.specs.declared.end.AsmEnd.TheVariants as ends
 use Rattle.ebc_asm.specs.Pieces.{bytes_of, ends_in_data, section_of}
 use Rattle.ebc_asm.specs.Symbols.{fixups_in, global_of, is_labelled, is_some_name, names_with, start, symbol_of}
 
@@ -84,3 +86,15 @@ object_in ls = record {
 -- the object that a source stands for, or its first fault
 unfoldable pub object_of : List ℕ → Result Object Fault
 object_of text = lines_behind (lines_of text) [] (lines_of text) >>= (λ ls. Ok (object_in ls))
+
+-- ---- what a function tells
+
+-- what a refusal says of the reading: nothing where memory ran out
+abbrev pub Fails : {A : Type 0} → AsmEnd → Result A Fault → Type 0
+Fails ends.NoMemory reading = Unit {0}
+Fails (ends.Fault kind line) reading = reading ≡ Err (kind, line)
+
+-- what a function returned is what reading gives, unless memory ran out
+abbrev pub Gives : {A : Type 0} → Result A AsmEnd → Result A Fault → Type 0
+Gives (Ok x) reading = reading ≡ Ok x
+Gives (Err e) reading = Fails e reading

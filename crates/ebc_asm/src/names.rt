@@ -1,14 +1,30 @@
 //! The names of a source and what is known of each.
 
-ghost use Rattle.std.specs.Prelude.{◌≡◌, ◌<◌, ◌-◌, ◌^◌, [], length, IfOk, OnOk};
-ghost use Rattle.ebc_names.specs.Tables.{with_name};
-ghost use Rattle.ebc_asm.specs.Held.{Defines, and_place, number_of, replaced, standing_of};
+ghost use Rattle.std.specs.Prelude.{◌≡◌, ◌<◌, [], length, not, IfOk, OnOk};
+ghost use Rattle.asm_text.specs.Texts.{seen_name};
+ghost use Rattle.ebc_names.specs.Tables.{is_named, with_name};
+ghost use Rattle.ebc_asm.specs.Held.{Defines, Labels, and_global_place, and_place, number_of, replaced, standing_of};
+ghost use Rattle.ebc_asm.specs.Symbols.{and_name};
 
 use crate::end::LineEnd;
 use asm_text::AsmFault;
-use ebc_base::Name;
+use ebc_base::{Name, NoMemory};
 use ebc_names::NameTable;
-use std::alloc::{AllocError, Global};
+use std::alloc::Global;
+
+// The most names: the number of a symbol has 32 bits.
+const MOST_NAMES: usize = u32::MAX as usize;
+
+// Adds a name to a table unless it is there, and tells whether it was new. Names past the most find no memory.
+pub(crate) fn add_name(alloc: Global, table: &mut NameTable, name: &Name) -> Result<bool, NoMemory>
+    ensures new { IfOk result (λ new. new ≡ not (is_named name.now table.old)) }
+    ensures table { OnOk result (table.new ≡ with_name name.now table.old) }
+{
+    if table.len() >= MOST_NAMES {
+        return Err(NoMemory);
+    }
+    Ok(table.add(alloc, name)?)
+}
 
 /// Where a name stands.
 #[derive(Clone, Copy)]
@@ -42,10 +58,10 @@ impl Names {
 
     /// The number of a name, which is added unless it is there.
     #[tactic(auto, using(crate::proofs::NumberLaws::number_within))]
-    pub fn number(&mut self, alloc: Global, text: &str) -> Result<u32, AllocError>
-        requires room { length self.old.table < 2 ^ 32 - 1 }
-        requires beside { length self.old.places.items ≡ length self.old.table }
+    pub fn number(&mut self, alloc: Global, text: &str) -> Result<u32, NoMemory>
+        requires { length self.old.places.items ≡ length self.old.table }
         ensures within { IfOk result (λ number. number < length self.new.places.items) }
+        ensures beside { OnOk result (length self.new.places.items ≡ length self.new.table) }
         ensures number { IfOk result (λ number. number ≡ number_of text.now self.old.table) }
         ensures table { OnOk result (self.new.table ≡ with_name text.now self.old.table) }
         ensures places { OnOk result (self.new.places.items ≡ and_place text.now self.old.table self.old.places.items) }
@@ -56,12 +72,11 @@ impl Names {
     }
 
     // Adds a name unless it is there.
-    fn add(&mut self, alloc: Global, name: &Name) -> Result<(), AllocError>
-        requires room { length self.old.table < 2 ^ 32 - 1 }
+    fn add(&mut self, alloc: Global, name: &Name) -> Result<(), NoMemory>
         ensures table { OnOk result (self.new.table ≡ with_name name.now self.old.table) }
         ensures places { OnOk result (self.new.places.items ≡ and_place name.now self.old.table self.old.places.items) }
     {
-        if !self.table.add(alloc, name)? {
+        if !add_name(alloc, &mut self.table, name)? {
             return Ok(());
         }
         let (kind, global, offset) = (0, 0, 0);
@@ -73,18 +88,12 @@ impl Names {
         Ok(())
     }
 
-    /// A line has this name as its label.
-    pub fn define(
-        &mut self,
-        alloc: Global,
-        text: &str,
-        kind: u8,
-        offset: u32,
-    ) -> Result<(), LineEnd>
-        requires room { length self.old.table < 2 ^ 32 - 1 }
-        requires beside { length self.old.places.items ≡ length self.old.table }
+    // A line has this name as its label.
+    fn define(&mut self, alloc: Global, text: &str, kind: u8, offset: u32) -> Result<(), LineEnd>
+        requires { length self.old.places.items ≡ length self.old.table }
         ensures defines { Defines result text.now kind offset self.old.table self.old.places.items self.new.places.items }
         ensures table { OnOk result (self.new.table ≡ with_name text.now self.old.table) }
+        ensures beside { OnOk result (length self.new.places.items ≡ length self.new.table) }
     {
         let number = self.number(alloc, text)? as usize;
         let before = self.places[number];
@@ -100,12 +109,12 @@ impl Names {
         Ok(())
     }
 
-    /// A line makes this name global.
-    pub fn make_global(&mut self, alloc: Global, text: &str) -> Result<(), AllocError>
-        requires room { length self.old.table < 2 ^ 32 - 1 }
-        requires beside { length self.old.places.items ≡ length self.old.table }
+    // A line makes this name global.
+    fn make_global(&mut self, alloc: Global, text: &str) -> Result<(), NoMemory>
+        requires { length self.old.places.items ≡ length self.old.table }
         ensures table { OnOk result (self.new.table ≡ with_name text.now self.old.table) }
         ensures places { OnOk result (self.new.places.items ≡ replaced text.now self.old.table self.old.places.items (record (standing_of text.now self.old.table self.old.places.items) { global = 1 })) }
+        ensures beside { OnOk result (length self.new.places.items ≡ length self.new.table) }
     {
         let number = self.number(alloc, text)? as usize;
         let Standing { kind, offset, .. } = self.places[number];
@@ -116,5 +125,41 @@ impl Names {
             offset,
         };
         Ok(())
+    }
+
+    /// Takes the label of a line that stands in a section of this kind, at this offset.
+    ///
+    /// # Errors
+    ///
+    /// Twice: it is a label already. Or there was no memory.
+    pub fn take_label(
+        &mut self,
+        alloc: Global,
+        label: Option<&str>,
+        kind: u8,
+        offset: u32,
+    ) -> Result<(), LineEnd>
+        requires { length self.old.places.items ≡ length self.old.table }
+        ensures labels { Labels result (seen_name label.entry) kind offset self.old.table self.old.places.items self.new.places.items }
+        ensures table { OnOk result (self.new.table ≡ and_name (seen_name label.entry) self.old.table) }
+        ensures beside { OnOk result (length self.new.places.items ≡ length self.new.table) }
+    {
+        match label {
+            Some(name) => self.define(alloc, name, kind, offset),
+            None => Ok(()),
+        }
+    }
+
+    /// Takes the name that a line makes global.
+    pub fn take_global(&mut self, alloc: Global, global: Option<&str>) -> Result<(), NoMemory>
+        requires { length self.old.places.items ≡ length self.old.table }
+        ensures table { OnOk result (self.new.table ≡ and_name (seen_name global.entry) self.old.table) }
+        ensures places { OnOk result (self.new.places.items ≡ and_global_place (seen_name global.entry) self.old.table self.old.places.items) }
+        ensures beside { OnOk result (length self.new.places.items ≡ length self.new.table) }
+    {
+        match global {
+            Some(name) => self.make_global(alloc, name),
+            None => Ok(()),
+        }
     }
 }

@@ -1,6 +1,6 @@
 //! The sections of a source as its lines are taken.
 
-ghost use Rattle.std.specs.Prelude.{◌≡◌, ◌≤◌, ◌<◌, ◌+◌, ◌-◌, ◌^◌, ◌++◌, ◌∷◌, [], length, OnOk, IfSome, Err};
+ghost use Rattle.std.specs.Prelude.{◌≡◌, ◌≤◌, ◌++◌, ◌∷◌, [], length, OnOk, IfSome, Err};
 ghost use Rattle.ebc_object.specs.Objects.{most};
 ghost use Rattle.asm_text.specs.Texts.{IsHeldStatement, seen_statement};
 ghost use Rattle.ebc_asm.specs.declared.end.LineEnd.TheVariants as ends;
@@ -14,8 +14,9 @@ use crate::end::LineEnd;
 use crate::names::Names;
 use crate::pieces::{Use, append, use_of};
 use asm_text::Statement;
+use ebc_base::NoMemory;
 use ebc_object::Fixup;
-use std::alloc::{AllocError, Global};
+use std::alloc::Global;
 
 /// A section so far.
 #[derive(Drop)]
@@ -24,7 +25,8 @@ pub(crate) struct Section {
     pub fixups: Vec<Fixup>,
 }
 
-fn section_kind(in_data: bool) -> u8
+// 1 for the code, 2 for the data.
+pub(crate) fn section_kind(in_data: bool) -> u8
     ensures { result ≡ section_kind in_data }
 {
     if in_data { 2 } else { 1 }
@@ -61,14 +63,14 @@ impl Section {
         offset: u32,
         u: &Use,
         names: &mut Names,
-    ) -> Result<(), AllocError>
+    ) -> Result<(), NoMemory>
         requires offset { offset ≤ most }
         requires small { SmallUse u.now }
-        requires room { length names.old.table < 2 ^ 32 - 1 }
         requires beside { length names.old.places.items ≡ length names.old.table }
         ensures bytes { self.new.bytes.items ≡ self.old.bytes.items }
         ensures table { OnOk result (names.new.table ≡ with_name u.now.name.now names.old.table) }
         ensures places { OnOk result (names.new.places.items ≡ and_place u.now.name.now names.old.table names.old.places.items) }
+        ensures beside { OnOk result (length names.new.places.items ≡ length names.new.table) }
         ensures fixups { OnOk result (self.new.fixups.items ≡ self.old.fixups.items ++ fixup_of in_data offset names.new.table (seen_use u.now) ∷ []) }
     {
         let symbol = names.number(alloc, u.name)?;
@@ -96,11 +98,11 @@ impl Section {
     ) -> Result<(), LineEnd>
         requires held { IsHeldStatement statement.now }
         requires most { length self.old.bytes.items ≤ most }
-        requires room { length names.old.table < 2 ^ 32 - 1 }
         requires beside { length names.old.places.items ≡ length names.old.table }
         ensures bytes { Appends result self.old.bytes.items (bytes_of (seen_statement statement.now)) self.new.bytes.items }
         ensures table { OnOk result (names.new.table ≡ and_name (used_name (use_of (seen_statement statement.now))) names.old.table) }
         ensures places { OnOk result (names.new.places.items ≡ and_used_place (used_name (use_of (seen_statement statement.now))) names.old.table names.old.places.items) }
+        ensures beside { OnOk result (length names.new.places.items ≡ length names.new.table) }
         ensures fixups { OnOk result (self.new.fixups.items ≡ self.old.fixups.items ++ fixups_of in_data (length self.old.bytes.items) names.new.table (use_of (seen_statement statement.now))) }
     {
         let offset = self.bytes.len() as u32;

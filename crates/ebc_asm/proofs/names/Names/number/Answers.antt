@@ -9,4 +9,4 @@ returns-clause-within c =
     let table : c.add.new.self.table ≡ with_name c.args.text.now c.args.self.now.table = search rules in
     let places : c.add.new.self.places.items ≡ and_place c.args.text.now c.args.self.now.table c.args.self.now.places.items = search rules in
     let number : c.number.result ≡ name_number c.args.text.now c.add.new.self.table = search rules in
-    number_in_places c.args.text.now c.args.self.now.table c.add.new.self.table c.args.self.now.places.items c.add.new.self.places.items c.number.result c.requires.beside table places number
+    number_in_places c.args.text.now c.args.self.now.table c.add.new.self.table c.args.self.now.places.items c.add.new.self.places.items c.number.result c.requires table places number

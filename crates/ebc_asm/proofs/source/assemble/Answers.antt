@@ -1,0 +1,14 @@
+use Rattle.std.proofs.Common.{Ok, ap, sym, ◌∙◌}
+use Rattle.std.proofs.lemmas.Result.{err_from_is_err_and}
+use Rattle.ebc_asm.proofs.SourceLaws.{assembled, not_assembled}
+use Rattle.ebc_asm.proofs.source.assemble.Goals as goal
+
+pub returns-in_err-assembler : goal.returns-in_err-assembler
+returns-in_err-assembler c =
+    let p = err_from_is_err_and c.from_residual-in_err-assembler.result c.from_residual-in_err-assembler.ensures.1 in
+    rw (p.1, p.2) (not_assembled c.args.source.now c.in_err-assembler.field-0.0 c.in_err-assembler.ensures)
+
+pub returns : goal.returns
+returns c =
+    let t = c.in_ok-assembler.ensures in
+    assembled c.args.source.now t.0 c.in_ok-assembler.assembler t.1.0 t.1.1.0 ∙ ap Ok (sym c.in_ok-into_object.ensures)
