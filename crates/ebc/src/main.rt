@@ -5,6 +5,8 @@ ghost use Rattle.std.specs.Prelude.{◌≡◌};
 ghost use Rattle.ebc.specs.Complaints.{complaint_of};
 
 #[cfg(test)]
+mod assembly_tests;
+#[cfg(test)]
 mod image_tests;
 #[cfg(test)]
 mod tests;

@@ -64,7 +64,7 @@ fn plain_code_is_neutral_or_refused(rt: HostRuntime) -> Result<(), Fail> {
     Ok(())
 }
 
-const USAGE: &str = "usage: check CODE | check IMAGE NOTES | list IMAGE\n";
+const USAGE: &str = "usage: asm SRC OBJ | check CODE | check IMAGE NOTES | list IMAGE\n";
 
 #[test]
 fn words_that_are_no_command_print_the_usage(rt: HostRuntime) -> Result<(), Fail> {
@@ -79,6 +79,10 @@ fn words_that_are_no_command_print_the_usage(rt: HostRuntime) -> Result<(), Fail
         "check  notes",
         "list image notes",
         "check code notes more",
+        "asm source",
+        "asm source ",
+        "asm  object",
+        "asm source object more",
     ] {
         let mut out = MemSink::new(alloc);
         let outcome = ebc(

@@ -1,6 +1,12 @@
--- From a reply to the words to the clauses of `ebc`: what it says of code, of an image under notes, of a listing, and of bad input.
-use Rattle.std.proofs.Common.{◌≡◌, ◌↔◌, ℕ, ◌<◌, ◌≤◌, List, [], ◌∷◌, length, Option, Some, None, IfSome, Result, Ok, Err, Bool, true, false, nat_lt, if◌then◌else◌, refl, sym, ap, ◌∙◌, arith}
+-- From a reply to the words to the clauses of `ebc`: what it says of code, of an image under notes, of a listing, of an assembly,
+-- and of bad input.
+use Rattle.std.proofs.Common.{◌≡◌, ◌↔◌, ℕ, ◌<◌, ◌≤◌, List, [], ◌∷◌, length, Option, Some, None, option_map, IfSome, Result, Ok, Err, Bool, true, false, nat_lt, if◌then◌else◌, refl, sym, ap, ◌∙◌, arith}
 use Rattle.std.proofs.lemmas.Bool.Decides.{nat_tests}
+use Rattle.std.specs.FinMap.{insert}
+use Rattle.std.specs.Fmt.{decimal}
+use Rattle.asm_text.specs.declared.fault.AsmFault.{AsmFault}
+use Rattle.ebc_object.specs.declared.object.Object.{Object}
+use Rattle.ebc_object.specs.Files.{object_bytes}
 use Rattle.ebc_outside.specs.Files.{Files, AppendsPart}
 use Rattle.note_types.specs.declared.notes.Notes.{Notes}
 use Rattle.note_types.specs.declared.rule.RuleName.{RuleName}
@@ -22,11 +28,14 @@ use Rattle.ebc_cli.specs.declared.reply.End.TheVariants.{Stop}
 use Rattle.ebc_cli.specs.declared.reply.Reply.{Reply}
 use Rattle.ebc_cli.specs.declared.work.Work.{Work}
 use Rattle.ebc_cli.specs.declared.work.Work.TheVariants as works
+use Rattle.ebc_cli.specs.Faults.{asm_fault_text}
 use Rattle.ebc_cli.specs.Outcomes.{IsAnswer}
+use Rattle.ebc_cli.specs.Outputs.{SameBut, files_left, printed, text_of, written_name}
 use Rattle.ebc_cli.specs.Readings.{file, done, go_on, large_reply}
-use Rattle.ebc_cli.specs.Works.{work_of, code_check, verdict_reply, listing_reply, TellsVerdict, IsReplyOf, plain_code_limit}
-use Rattle.ebc_cli.specs.Answers.{IsAnswerOf, Decides, Answers, PrintsPart, printed, ChecksCode, ChecksImage, ListsImage, HasBadInput}
-use Rattle.ebc_cli.proofs.BadInputLemmas.{bad-exactly, image-work, listing-work}
+use Rattle.ebc_cli.specs.Texts.{bad_line}
+use Rattle.ebc_cli.specs.Works.{work_of, code_check, verdict_reply, listing_reply, object_reply, TellsVerdict, IsReplyOf, plain_code_limit}
+use Rattle.ebc_cli.specs.Answers.{IsAnswerOf, Decides, Answers, Assembles, LeavesPart, ChecksCode, ChecksImage, ListsImage, HasBadInput, HasBadLine}
+use Rattle.ebc_cli.proofs.BadInputLemmas.{assembly-work, bad-exactly, bad-line-told, image-work, listing-work}
 
 -- a reply that was decided is an answer, whether the reading went through or stopped
 pub answer-ok : (contents : Option Files) (words before now : List (List ℕ)) (reply : Reply) → IfSome contents (λ files. Decides before now (Ok reply) (work_of words files)) → IfSome contents (λ files. IsAnswerOf words files reply)
@@ -42,15 +51,18 @@ pub record Tells (contents : Option Files) (words : List (List ℕ)) (reply : Re
   pub told : IfSome contents (λ files. IsAnswerOf words files reply)
   pub same : IsAnswer outcome → outcome ≡ reply.outcome
 
-pub answers : (contents : Option Files) (words : List (List ℕ)) (reply : Reply) (outcome : Outcome) (before now : Option (List ℕ)) → Tells contents words reply outcome
-    → (IsAnswer outcome → now ≡ printed reply.text before) → IfSome contents (λ files. IsAnswer outcome → Answers words files outcome before now)
-answers None words reply outcome before now tells text = tt
-answers (Some files) words reply outcome before now tells text = λ answered. record { reply = reply; answer = tells.told; same = tells.same answered; text = text answered }
+pub answers : (contents : Option Files) (words : List (List ℕ)) (reply : Reply) (outcome : Outcome) (before now : Option (List ℕ)) (left : Option Files) → Tells contents words reply outcome
+    → (IsAnswer outcome → now ≡ printed (text_of reply.output) before) → (IsAnswer outcome → left ≡ option_map (files_left reply.output) contents)
+    → IfSome contents (λ files. IsAnswer outcome → Answers words files outcome before now left)
+answers None words reply outcome before now left tells text files_are = tt
+answers (Some files) words reply outcome before now left tells text files_are =
+    λ answered. record { reply = reply; answer = tells.told; same = tells.same answered; text = text answered; files_are = files_are answered }
 
-pub prints-part : (contents : Option Files) (words : List (List ℕ)) (reply : Reply) (outcome : Outcome) (before now : Option (List ℕ)) → Tells contents words reply outcome
-    → (outcome ≡ outcomes.WriteFault → AppendsPart reply.text before now) → IfSome contents (λ files. outcome ≡ outcomes.WriteFault → PrintsPart words files before now)
-prints-part None words reply outcome before now tells part = tt
-prints-part (Some files) words reply outcome before now tells part = λ fault. record { reply = reply; answer = tells.told; part = part fault }
+pub leaves-part : (contents : Option Files) (words : List (List ℕ)) (reply : Reply) (outcome : Outcome) (before now : Option (List ℕ)) (left : Option Files) → Tells contents words reply outcome
+    → (outcome ≡ outcomes.WriteFault → AppendsPart (text_of reply.output) before now) → SameBut (written_name reply.output) contents left
+    → IfSome contents (λ files. outcome ≡ outcomes.WriteFault → LeavesPart words files before now left)
+leaves-part None words reply outcome before now left tells part others = tt
+leaves-part (Some files) words reply outcome before now left tells part others = λ fault. record { reply = reply; answer = tells.told; part = part fault; others = others }
 
 -- ---- verdicts
 
@@ -108,11 +120,35 @@ lists-always None words reply outcome tells = tt
 lists-always (Some files) words reply outcome tells = λ image c answered. tells.same answered ∙ ap (λ (r : Reply). r.outcome) (listing-told words files reply image c tells.told)
 
 pub lists-exactly : (contents : Option Files) (words : List (List ℕ)) (reply : Reply) (outcome : Outcome) (before now : Option (List ℕ)) → Tells contents words reply outcome
-    → (IsAnswer outcome → now ≡ printed reply.text before)
+    → (IsAnswer outcome → now ≡ printed (text_of reply.output) before)
     → IfSome contents (λ files. (image : Image) → ListsImage words files image → IsAnswer outcome → now ≡ printed (listing_of image) before)
 lists-exactly None words reply outcome before now tells text = tt
 lists-exactly (Some files) words reply outcome before now tells text = λ image c answered.
-    text answered ∙ ap (λ (r : Reply). printed r.text before) (listing-told words files reply image c tells.told)
+    text answered ∙ ap (λ (r : Reply). printed (text_of r.output) before) (listing-told words files reply image c tells.told)
+
+-- ---- `asm SRC OBJ`
+
+object-told : (words : List (List ℕ)) (files : Files) (reply : Reply) (name : List ℕ) (object : Object) → Assembles words files name object → IsAnswerOf words files reply → reply ≡ object_reply name (object_bytes object)
+object-told words files reply name object c told = rw (assembly-work words files name object c) at told
+
+pub assembles-always : (contents : Option Files) (words : List (List ℕ)) (reply : Reply) (outcome : Outcome) → Tells contents words reply outcome
+    → IfSome contents (λ files. (name : List ℕ) (object : Object) → Assembles words files name object → IsAnswer outcome → outcome ≡ outcomes.Done)
+assembles-always None words reply outcome tells = tt
+assembles-always (Some files) words reply outcome tells = λ name object c answered. tells.same answered ∙ ap (λ (r : Reply). r.outcome) (object-told words files reply name object c tells.told)
+
+pub assembles-exactly : (contents : Option Files) (words : List (List ℕ)) (reply : Reply) (outcome : Outcome) (left : Option Files) → Tells contents words reply outcome
+    → (IsAnswer outcome → left ≡ option_map (files_left reply.output) contents)
+    → IfSome contents (λ files. (name : List ℕ) (object : Object) → Assembles words files name object → IsAnswer outcome → left ≡ Some (insert files name (object_bytes object)))
+assembles-exactly None words reply outcome left tells files_are = tt
+assembles-exactly (Some files) words reply outcome left tells files_are = λ name object c answered.
+    files_are answered ∙ ap (λ (r : Reply). Some (files_left r.output files)) (object-told words files reply name object c tells.told)
+
+pub bad-source-line : (contents : Option Files) (words : List (List ℕ)) (reply : Reply) (outcome : Outcome) (before now : Option (List ℕ)) → Tells contents words reply outcome
+    → (IsAnswer outcome → now ≡ printed (text_of reply.output) before)
+    → IfSome contents (λ files. (name : List ℕ) (kind : AsmFault) (line : ℕ) → HasBadLine words files name kind line → IsAnswer outcome → now ≡ printed (bad_line name (asm_fault_text kind) (decimal line)) before)
+bad-source-line None words reply outcome before now tells text = tt
+bad-source-line (Some files) words reply outcome before now tells text = λ name kind line c answered.
+    text answered ∙ ap (λ (r : Reply). printed (text_of r.output) before) (bad-line-told words files name kind line reply c tells.told)
 
 -- ---- `check CODE`
 

@@ -1,4 +1,5 @@
 pub mod HexLemmas
 pub mod ReadingsLemmas
+pub mod OutputLemmas
 pub mod BadInputLemmas
 pub mod HeadlineLemmas

@@ -7,7 +7,7 @@ use Rattle.note_types.specs.declared.notes.Notes.{Notes}
 use Rattle.pe_image.specs.declared.image.Image.{Image}
 use Rattle.ebc_cli.specs.declared.work.Work.{Work}
 use Rattle.ebc_cli.specs.declared.work.Work.TheVariants as works
-use Rattle.ebc_cli.specs.Inputs.{image_in, notes_in}
+use Rattle.ebc_cli.specs.Inputs.{image_limit, image_meaning, input, notes_limit, notes_meaning}
 use Rattle.ebc_cli.specs.Works.{image_check}
 use Rattle.ebc_cli.specs.declared.reply.End.TheVariants as ends
 use Rattle.ebc_cli.specs.Readings.{FileReading, ◌>>=◌, go_on, done, AsksPart, Follows}
@@ -45,13 +45,22 @@ ends-before before now run f ends.NoMemory one = wider-part before run.asked now
 
 -- ---- the files of `check IMAGE NOTES`
 
+-- where the image's file ends the reading, it ends the whole
+pub image-ends : (old : Option Files) (before now : List (List ℕ)) (a b : List ℕ) (end : End) → IfSome old (λ files. Follows {A = Image} before now (Err end) (input image_limit image_meaning 1 a files))
+    → IfSome old (λ files. Follows {A = Work} before now (Err end) (image_check a b files))
+unfolding image_check
+image-ends None before now a b end one = tt
+image-ends (Some files) before now a b end one = ends-before before now (input image_limit image_meaning 1 a files) (λ image. input notes_limit notes_meaning 2 b files >>= (λ notes. done (works.CheckImage image notes))) end one
+
 -- where the notes' file ends the reading, after the image was read, it ends the whole
 pub notes-end : (old mid : Option Files) (before between now : List (List ℕ)) (a b : List ℕ) (image : Image) (end : End) → mid ≡ old
-    → IfSome old (λ files. Follows before between (Ok image) (image_in 1 a files)) → IfSome mid (λ files. Follows {A = Notes} between now (Err end) (notes_in 2 b files))
+    → IfSome old (λ files. Follows before between (Ok image) (input image_limit image_meaning 1 a files))
+    → IfSome mid (λ files. Follows {A = Notes} between now (Err end) (input notes_limit notes_meaning 2 b files))
     → IfSome old (λ files. Follows {A = Work} before now (Err end) (image_check a b files))
 unfolding image_check
 notes-end None mid before between now a b image end same one two = tt
 notes-end (Some files) mid before between now a b image end same one two =
     let ended = rw same at two in
     let made = λ (notes : Notes). done (works.CheckImage image notes) in
-    ends-after before between now (image_in 1 a files) (λ image. notes_in 2 b files >>= (λ notes. done (works.CheckImage image notes))) image end one (ends-before between now (notes_in 2 b files) made end ended)
+    let notes_in = input notes_limit notes_meaning 2 b files in
+    ends-after before between now (input image_limit image_meaning 1 a files) (λ image. notes_in >>= (λ notes. done (works.CheckImage image notes))) image end one (ends-before between now notes_in made end ended)

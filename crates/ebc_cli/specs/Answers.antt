@@ -1,7 +1,10 @@
 -- The answer of the program to its words, over the files of a folder: docs/COMMANDS.md, "The answer".
-use Rattle.std.specs.Prelude.{◌≡◌, ◌↔◌, ℕ, ◌≤◌, List, ◌++◌, length, Option, Some, None, option_map, Result, Ok, Err}
+use Rattle.std.specs.Prelude.{◌≡◌, ◌↔◌, ◌⊎◌, ℕ, ◌≤◌, List, ◌++◌, length, Option, Some, None, Result, Ok, Err}
 use Rattle.std.specs.FinMap.{get}
 use Rattle.ebc_outside.specs.Files.{Files, AppendsPart}
+use Rattle.asm_text.specs.declared.fault.AsmFault.{AsmFault}
+use Rattle.ebc_asm.specs.Sources.{object_of}
+use Rattle.ebc_object.specs.declared.object.Object.{Object}
 use Rattle.note_types.specs.declared.fault.TomlFault.{TomlFault}
 use Rattle.note_types.specs.declared.notes.Notes.{Notes}
 use Rattle.pe_image.specs.declared.fault.ImageFault.{ImageFault}
@@ -10,15 +13,16 @@ use Rattle.pe_image.specs.Images.{image_of}
 use Rattle.type_notes.specs.Notes.{notes_of}
 use Rattle.ebc_cli.specs.declared.outcome.Outcome.{Outcome}
 use Rattle.ebc_cli.specs.declared.outcome.Outcome.TheVariants as outcomes
-use Rattle.ebc_cli.specs.declared.command.Command.TheVariants.{CheckCode, CheckImage, ListImage}
+use Rattle.ebc_cli.specs.declared.command.Command.TheVariants.{Assemble, CheckCode, CheckImage, ListImage}
 use Rattle.ebc_cli.specs.declared.reply.End.{End}
 use Rattle.ebc_cli.specs.declared.reply.End.TheVariants as ends
 use Rattle.ebc_cli.specs.declared.reply.Reply.{Reply}
 use Rattle.ebc_cli.specs.declared.work.Work.{Work}
-use Rattle.ebc_cli.specs.Commands.{command_of}
-use Rattle.ebc_cli.specs.Faults.{image_fault_number, toml_fault_number}
-use Rattle.ebc_cli.specs.Inputs.{image_limit, notes_limit}
+use Rattle.ebc_cli.specs.Commands.{command_of, output_of}
+use Rattle.ebc_cli.specs.Faults.{asm_fault_number, image_fault_number, toml_fault_number}
+use Rattle.ebc_cli.specs.Inputs.{image_limit, notes_limit, source_limit}
 use Rattle.ebc_cli.specs.Outcomes.{IsAnswer}
+use Rattle.ebc_cli.specs.Outputs.{SameBut, files_left, printed, text_of, written_name}
 use Rattle.ebc_cli.specs.Readings.{FileReading, AsksPart, MissingHasCause}
 use Rattle.ebc_cli.specs.Works.{work_of, IsReplyOf}
 
@@ -33,22 +37,20 @@ Decides before now (Ok reply) run = IsReplyOf run.value reply × (now ≡ before
 Decides before now (Err (ends.Stop reply)) run = IsReplyOf run.value reply × (now ≡ before ++ run.asked)
 Decides before now (Err end) run = AsksPart before run.asked now
 
--- what is printed once a text is put
-abbrev pub printed : List ℕ → Option (List ℕ) → Option (List ℕ)
-printed text written = option_map (λ before. before ++ text) written
-
--- the outcome is that of an answer to the words, and its text was printed
-pub record Answers (words : List (List ℕ)) (files : Files) (outcome : Outcome) (before now : Option (List ℕ)) : Type 0 where
+-- the outcome is that of an answer to the words, its text was printed, and the files are those that it leaves
+pub record Answers (words : List (List ℕ)) (files : Files) (outcome : Outcome) (before now : Option (List ℕ)) (left : Option Files) : Type 0 where
   pub reply : Reply
   pub answer : IsAnswerOf words files reply
   pub same : outcome ≡ reply.outcome
-  pub text : now ≡ printed reply.text before
+  pub text : now ≡ printed (text_of reply.output) before
+  pub files_are : left ≡ Some (files_left reply.output files)
 
--- a first part of the text of an answer to the words was printed
-pub record PrintsPart (words : List (List ℕ)) (files : Files) (before now : Option (List ℕ)) : Type 0 where
+-- a first part of the text of an answer to the words was printed, and no file changed but the one that it writes, if any
+pub record LeavesPart (words : List (List ℕ)) (files : Files) (before now : Option (List ℕ)) (left : Option Files) : Type 0 where
   pub reply : Reply
   pub answer : IsAnswerOf words files reply
-  pub part : AppendsPart reply.text before now
+  pub part : AppendsPart (text_of reply.output) before now
+  pub others : SameBut (written_name reply.output) (Some files) left
 
 -- ---- what the words name
 
@@ -83,6 +85,14 @@ pub record ListsImage (words : List (List ℕ)) (files : Files) (image : Image) 
   pub image_file : HasFile files name image_limit bytes
   pub image_is : image_of bytes ≡ Ok image
 
+-- the words are `asm SRC OBJ`, and the folder has a file within its limit that stands for this object, to be written under this name
+pub record Assembles (words : List (List ℕ)) (files : Files) (name : List ℕ) (object : Object) : Type 0 where
+  pub source_name : List ℕ
+  pub text : List ℕ
+  pub command : command_of words ≡ Some (Assemble source_name name)
+  pub source_file : HasFile files source_name source_limit text
+  pub object_is : object_of text ≡ Ok object
+
 -- the words are `check IMAGE NOTES` or `list IMAGE`, and the image has this name
 pub data NamesImage (words : List (List ℕ)) (name : List ℕ) : Type 0 where
   to_check : (notes_name : List ℕ) → command_of words ≡ Some (CheckImage name notes_name) → NamesImage words name
@@ -114,16 +124,35 @@ pub record HasBadNotes (words : List (List ℕ)) (files : Files) (fault : ℕ) :
   pub no_notes : notes_of text ≡ Err found
   pub number : fault ≡ toml_fault_number found
 
+-- the words are `asm SRC OBJ`, and the file of this name, within its limit, is no source of an object: its first line with a
+-- fault is this one, counted from 1, and this is the lowest of its faults
+pub record HasBadLine (words : List (List ℕ)) (files : Files) (name : List ℕ) (kind : AsmFault) (line : ℕ) : Type 0 where
+  pub object_name : List ℕ
+  pub text : List ℕ
+  pub command : command_of words ≡ Some (Assemble name object_name)
+  pub source_file : HasFile files name source_limit text
+  pub no_object : object_of text ≡ Err (kind, line)
+
+-- the source's first line with a fault has it by this number
+pub record HasBadSource (words : List (List ℕ)) (files : Files) (fault : ℕ) : Type 0 where
+  pub name : List ℕ
+  pub kind : AsmFault
+  pub line : ℕ
+  pub bad_line : HasBadLine words files name kind line
+  pub number : fault ≡ asm_fault_number kind
+
 -- the first file with a fault is that of this word, and its first fault has this number
 pub data HasBadInput (words : List (List ℕ)) (files : Files) (word fault : ℕ) : Type 0 where
   bad_image : word ≡ 1 → HasBadImage words files fault → HasBadInput words files word fault
   bad_notes : word ≡ 2 → HasBadNotes words files fault → HasBadInput words files word fault
+  bad_source : word ≡ 1 → HasBadSource words files fault → HasBadInput words files word fault
 
 -- ---- causes
 
--- the causes of an answer that the files don't decide: it is BadWords exactly where the words are no command, and
--- where the files aren't told it is Missing only where the count of failed reads rose
+-- the causes of an answer that the files don't decide: it is BadWords exactly where the words are no command; where the files
+-- aren't told it is Missing only where the count of failed reads rose; and it writes no file but the one that the words name
 pub record AnswersWords (words : List (List ℕ)) (files : Option Files) (before now : ℕ) (reply : Reply) : Type 0 where
   pub answer : IsAnswer reply.outcome
   pub bad_words : reply.outcome ≡ outcomes.BadWords ↔ command_of words ≡ None
   pub missing : MissingHasCause files before now reply.outcome
+  pub output : (written_name reply.output ≡ None) ⊎ (written_name reply.output ≡ output_of (command_of words))

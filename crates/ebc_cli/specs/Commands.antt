@@ -2,7 +2,7 @@
 use Rattle.std.specs.Prelude.{ℕ, List, [], ◌∷◌, map, codes, bytes_eq, if◌then◌else◌, Option, Some, None, String, Vec, string_bytes}
 use Rattle.std.specs.declared.alloc.Global.{Global}
 use Rattle.ebc_cli.specs.declared.command.Command.{Command}
-use Rattle.ebc_cli.specs.declared.command.Command.TheVariants.{CheckCode, CheckImage, ListImage}
+use Rattle.ebc_cli.specs.declared.command.Command.TheVariants.{Assemble, CheckCode, CheckImage, ListImage}
 
 -- the words as their bytes
 abbrev pub word_bytes : Vec (String Global) Global → List (List ℕ)
@@ -25,5 +25,13 @@ command_of (word ∷ file ∷ []) =
     if bytes_eq word (codes "check") then of_file CheckCode file
     else if bytes_eq word (codes "list") then of_file ListImage file
     else None
-command_of (word ∷ image ∷ notes ∷ []) = if bytes_eq word (codes "check") then of_two_files CheckImage image notes else None
+command_of (word ∷ one ∷ two ∷ []) =
+    if bytes_eq word (codes "check") then of_two_files CheckImage one two
+    else if bytes_eq word (codes "asm") then of_two_files Assemble one two
+    else None
 command_of words = None
+
+-- the name under which a command writes a file, if it writes one
+abbrev pub output_of : Option Command → Option (List ℕ)
+output_of (Some (Assemble source object)) = Some object
+output_of command = None

@@ -1,5 +1,7 @@
 -- The faults of the files that a command reads, by their numbers and as they are printed: docs/COMMANDS.md, "Faults".
 use Rattle.std.specs.Prelude.{ℕ, List, codes}
+use Rattle.asm_text.specs.declared.fault.AsmFault.{AsmFault}
+use Rattle.asm_text.specs.declared.fault.AsmFault.TheVariants as asm
 use Rattle.note_types.specs.declared.fault.TomlFault.{TomlFault}
 use Rattle.note_types.specs.declared.fault.TomlFault.TheVariants as toml
 use Rattle.pe_image.specs.declared.fault.ImageFault.{ImageFault}
@@ -57,3 +59,25 @@ key_path (toml.Kind path) = path
 key_path (toml.Name path) = path
 key_path (toml.Range path) = path
 key_path (toml.Twice path) = path
+
+-- ---- sources
+
+abbrev pub asm_fault_number : AsmFault → ℕ
+asm_fault_number asm.Word = 1
+asm_fault_number asm.Operand = 2
+asm_fault_number asm.Number = 3
+asm_fault_number asm.Index = 4
+asm_fault_number asm.Label = 5
+asm_fault_number asm.Twice = 6
+asm_fault_number asm.Far = 7
+asm_fault_number asm.Section = 8
+
+abbrev pub asm_fault_text : AsmFault → List ℕ
+asm_fault_text asm.Word = codes "word"
+asm_fault_text asm.Operand = codes "operand"
+asm_fault_text asm.Number = codes "number"
+asm_fault_text asm.Index = codes "index"
+asm_fault_text asm.Label = codes "label"
+asm_fault_text asm.Twice = codes "twice"
+asm_fault_text asm.Far = codes "far"
+asm_fault_text asm.Section = codes "section"

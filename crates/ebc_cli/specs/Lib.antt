@@ -1,4 +1,5 @@
 pub mod Outcomes
+pub mod Outputs
 pub mod Faults
 pub mod Texts
 pub mod Commands

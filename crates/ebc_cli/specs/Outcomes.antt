@@ -35,3 +35,8 @@ abbrev pub IsWorkAnswer : Outcome → Type 0
 IsWorkAnswer Done = Unit {0}
 IsWorkAnswer (Refused place rule) = Unit {0}
 IsWorkAnswer outcome = ⊥
+
+-- an answer that a file isn't of its form
+abbrev pub IsBadInput : Outcome → Type 0
+IsBadInput (BadInput word fault) = Unit {0}
+IsBadInput outcome = ⊥

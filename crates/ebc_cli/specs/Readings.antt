@@ -9,6 +9,7 @@ use Rattle.ebc_cli.specs.declared.reply.Reply.{Reply}
 use Rattle.ebc_cli.specs.declared.reply.End.{End}
 use Rattle.ebc_cli.specs.declared.reply.End.TheVariants as ends
 use Rattle.ebc_cli.specs.Outcomes.{IsCommandAnswer}
+use Rattle.ebc_cli.specs.Outputs.{prints, written_name}
 use Rattle.ebc_cli.specs.Texts.{missing_line, large_line}
 
 -- the names in their order, and the value, or the reply at which the reading stops
@@ -32,10 +33,10 @@ abbrev pub ◌>>=◌ : {A B : Type 0} → FileReading A → (A → FileReading B
 run >>= f = go_on run.asked run.value f
 
 abbrev pub missing_reply : ℕ → List ℕ → Reply
-missing_reply word name = record { outcome = Missing word; text = missing_line name }
+missing_reply word name = prints (Missing word) (missing_line name)
 
 abbrev pub large_reply : ℕ → List ℕ → Reply
-large_reply word name = record { outcome = TooLarge word; text = large_line name }
+large_reply word name = prints (TooLarge word) (large_line name)
 
 -- a file that is there, with at most so many bytes
 abbrev pub measured : ℕ → List ℕ → ℕ → Option (List ℕ) → Result (List ℕ) Reply
@@ -65,9 +66,10 @@ abbrev pub MissingHasCause : Option Files → ℕ → ℕ → Outcome → Type 0
 MissingHasCause None before now (Missing word) = Rose before now
 MissingHasCause files before now outcome = Unit {0}
 
--- the answer of a command, from which file it comes aside
+-- the answer of a command at which a reading stops, from which file it comes aside
 pub record CommandAnswer (files : Option Files) (before now : ℕ) (reply : Reply) : Type 0 where
   pub command : IsCommandAnswer reply.outcome
+  pub output : written_name reply.output ≡ None
   pub missing : MissingHasCause files before now reply.outcome
 
 -- a fact of the reply at which a reading stopped

@@ -49,7 +49,7 @@ abbrev pub refused_line : ℕ → RuleName → List ℕ
 refused_line place rule = codes "refused " ++ (place_text place ++ (codes " " ++ (rule_text rule ++ codes "\n")))
 
 abbrev pub usage_line : List ℕ
-usage_line = codes "usage: check CODE | check IMAGE NOTES | list IMAGE\n"
+usage_line = codes "usage: asm SRC OBJ | check CODE | check IMAGE NOTES | list IMAGE\n"
 
 -- a file that the folder doesn't hold
 abbrev pub missing_line : List ℕ → List ℕ

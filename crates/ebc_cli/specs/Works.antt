@@ -1,5 +1,8 @@
--- The work that words ask for once their files are read, and the replies to it: docs/COMMANDS.md, "The answer".
+-- The work that words ask for once their files are read, and the replies to it, of which one writes a file: docs/COMMANDS.md,
+-- "The answer".
 use Rattle.std.specs.Prelude.{◌≡◌, ◌↔◌, ℕ, ◌≤◌, List, length, Option, Some, None, Result, Ok, Err}
+use Rattle.ebc_object.specs.Files.{object_bytes}
+use Rattle.ebc_object.specs.Objects.{IsObject}
 use Rattle.ebc_outside.specs.Files.{Files}
 use Rattle.note_types.specs.declared.notes.Notes.{Notes}
 use Rattle.note_types.specs.declared.rule.RuleName.{RuleName}
@@ -19,7 +22,8 @@ use Rattle.ebc_cli.specs.declared.reply.Reply.{Reply}
 use Rattle.ebc_cli.specs.declared.work.Work.{Work}
 use Rattle.ebc_cli.specs.declared.work.Work.TheVariants as works
 use Rattle.ebc_cli.specs.Commands.{command_of}
-use Rattle.ebc_cli.specs.Inputs.{image_in, notes_in}
+use Rattle.ebc_cli.specs.Inputs.{image_limit, image_meaning, input, notes_limit, notes_meaning, source_limit, source_meaning}
+use Rattle.ebc_cli.specs.Outputs.{prints, writes}
 use Rattle.ebc_cli.specs.Readings.{FileReading, done, ◌>>=◌, file, told}
 use Rattle.ebc_cli.specs.Texts.{neutral_line, refused_line, usage_line}
 
@@ -28,7 +32,7 @@ abbrev pub plain_code_limit : ℕ
 plain_code_limit = 262144
 
 abbrev pub usage_reply : Reply
-usage_reply = record { outcome = outcomes.BadWords; text = usage_line }
+usage_reply = prints outcomes.BadWords usage_line
 
 -- ---- what is read
 
@@ -41,21 +45,28 @@ code_check name files = do
 -- `check IMAGE NOTES`: the image is read whole before the notes
 unfoldable pub image_check : List ℕ → List ℕ → Files → FileReading Work
 image_check image_name notes_name files = do
-  image ← image_in 1 image_name files
-  notes ← notes_in 2 notes_name files
+  image ← input image_limit image_meaning 1 image_name files
+  notes ← input notes_limit notes_meaning 2 notes_name files
   done (works.CheckImage image notes)
 
 -- `list IMAGE`
 unfoldable pub image_listing : List ℕ → Files → FileReading Work
 image_listing name files = do
-  image ← image_in 1 name files
+  image ← input image_limit image_meaning 1 name files
   done (works.ListImage image)
+
+-- `asm SRC OBJ`
+unfoldable pub assembly : List ℕ → List ℕ → Files → FileReading Work
+assembly source_name object_name files = do
+  object ← input source_limit source_meaning 1 source_name files
+  done (works.WriteObject object_name object)
 
 abbrev pub work_for : Option Command → Files → FileReading Work
 work_for None files = told (Err usage_reply)
 work_for (Some (commands.CheckCode code)) files = code_check code files
 work_for (Some (commands.CheckImage image notes)) files = image_check image notes files
 work_for (Some (commands.ListImage image)) files = image_listing image files
+work_for (Some (commands.Assemble source object)) files = assembly source object files
 
 -- the files that the words ask for, and the work, or the reply at which the reading stops
 unfoldable pub work_of : List (List ℕ) → Files → FileReading Work
@@ -63,19 +74,30 @@ work_of words files = work_for (command_of words) files
 
 -- ---- what is replied
 
--- code that was read is within its limit, what was read as an image is one, and what was read as notes are notes
+-- code that was read is within its limit, what was read as an image is one, what was read as notes are notes, and what a source
+-- stands for is an object
 abbrev pub CanBeDone : Work → Type 0
 CanBeDone (works.CheckCode code) = length code ≤ plain_code_limit
 CanBeDone (works.CheckImage image notes) = IsImage image × IsNotes notes
 CanBeDone (works.ListImage image) = IsImage image
+CanBeDone (works.WriteObject name object) = IsObject object
+
+-- the name under which a file is to be written, if one is
+abbrev pub output_name : Work → Option (List ℕ)
+output_name (works.WriteObject name object) = Some name
+output_name work = None
 
 abbrev pub verdict_reply : Verdict → Reply
-verdict_reply verdicts.Neutral = record { outcome = outcomes.Done; text = neutral_line }
-verdict_reply (verdicts.Refused place rule) = record { outcome = outcomes.Refused place rule; text = refused_line place rule }
+verdict_reply verdicts.Neutral = prints outcomes.Done neutral_line
+verdict_reply (verdicts.Refused place rule) = prints (outcomes.Refused place rule) (refused_line place rule)
 
 -- the text of a listing is printed as it is
 abbrev pub listing_reply : List ℕ → Reply
-listing_reply text = record { outcome = outcomes.Done; text = text }
+listing_reply text = prints outcomes.Done text
+
+-- an object's file is written, and nothing is printed
+abbrev pub object_reply : List ℕ → List ℕ → Reply
+object_reply name bytes = writes outcomes.Done name bytes
 
 -- the reply tells the verdict on an image under notes: neutral exactly where the image is typed, and refused at a place
 -- by a rule exactly where that is the first place at which a rule fails, and the first rule that fails there
@@ -89,6 +111,7 @@ abbrev pub IsReplyTo : Work → Reply → Type 0
 IsReplyTo (works.CheckCode code) reply = reply ≡ verdict_reply (plain_verdict code)
 IsReplyTo (works.CheckImage image notes) reply = TellsVerdict image notes reply
 IsReplyTo (works.ListImage image) reply = reply ≡ listing_reply (listing_of image)
+IsReplyTo (works.WriteObject name object) reply = reply ≡ object_reply name (object_bytes object)
 
 -- a reading that went through is replied to as its work, and else by the reply at which it stopped
 abbrev pub IsReplyOf : Result Work Reply → Reply → Type 0

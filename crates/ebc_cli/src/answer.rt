@@ -1,7 +1,11 @@
-//! The top call: what is read, what is answered, and what is printed.
-ghost use Rattle.std.specs.Prelude.{◌≡◌, ◌≢◌, ◌++◌, ◌↔◌, ◌≤◌, ℕ, List, length, None, IfSome, IfNone, IfOk, IsErrOf};
+//! The top call: what is read, what is answered, and what is printed or written.
+ghost use Rattle.std.specs.Prelude.{◌≡◌, ◌≢◌, ◌++◌, ◌↔◌, ◌⊎◌, ◌≤◌, ℕ, List, length, Some, None, IfSome, IfNone, IfOk, IsErrOf};
 ghost use Rattle.ebc_outside.specs.Counts.{Rose};
-ghost use Rattle.ebc_outside.specs.Files.{AppendsPart};
+ghost use Rattle.std.specs.Fmt.{decimal};
+ghost use Rattle.std.specs.FinMap.{insert};
+ghost use Rattle.asm_text.specs.declared.fault.AsmFault.{AsmFault};
+ghost use Rattle.ebc_object.specs.Files.{object_bytes};
+ghost use Rattle.ebc_object.specs.declared.object.Object.{Object};
 ghost use Rattle.note_types.specs.declared.notes.Notes.{Notes};
 ghost use Rattle.note_types.specs.declared.rule.RuleName.{RuleName};
 ghost use Rattle.pe_image.specs.declared.image.Image.{Image};
@@ -10,35 +14,41 @@ ghost use Rattle.width_checker.specs.PlainRules as plain;
 ghost use Rattle.width_checker.specs.PlainRuns.{RunsAlike};
 ghost use Rattle.width_checker.specs.Typed.{Typed};
 ghost use Rattle.width_checker.specs.Verdicts.{IsRefused};
-ghost use Rattle.ebc_cli.specs.Answers.{Answers, AnswersWords, Decides, PrintsPart, ChecksCode, ChecksImage, ListsImage, HasBadInput, printed};
-ghost use Rattle.ebc_cli.specs.Commands.{command_of, word_bytes};
+ghost use Rattle.ebc_cli.specs.Answers.{Answers, AnswersWords, Assembles, Decides, LeavesPart, ChecksCode, ChecksImage, ListsImage, HasBadInput, HasBadLine};
+ghost use Rattle.ebc_cli.specs.Commands.{command_of, output_of, word_bytes};
+ghost use Rattle.ebc_cli.specs.Faults.{asm_fault_text};
 ghost use Rattle.ebc_cli.specs.Outcomes.{IsAnswer};
+ghost use Rattle.ebc_cli.specs.Outputs.{SameBut, printed};
 ghost use Rattle.ebc_cli.specs.Readings.{AsksPart, IfStop};
+ghost use Rattle.ebc_cli.specs.Texts.{bad_line};
 ghost use Rattle.ebc_cli.specs.Works.{work_of, plain_code_limit};
 
+use crate::finishing::finish;
 use crate::outcome::Outcome;
 use crate::reply::{End, Reply};
 use crate::work::read_work;
-use ebc_outside::{Folder, Sink, SinkEnd};
+use ebc_outside::{Folder, Sink};
 use std::alloc::Global;
 
 /// Does what the words after the program's name ask for: reads the files that they name from `folder`, prints
-/// the answer to `out` by one put, and says how it ended. docs/COMMANDS.md has the commands and their answers.
+/// the answer to `out` by one put or writes a file, and says how it ended. docs/COMMANDS.md has the commands and their answers.
 pub fn ebc<F: Folder, O: Sink>(
     alloc: Global,
     words: &Vec<String>,
     folder: &mut F,
     out: &mut O,
 ) -> Outcome
-    // Where the folder tells its files, the outcome and the printed text are those of an answer to the words, and the names
-    // asked for are those that the words ask for, whatever the counts of faults did.
+    // Where the folder tells its files, the outcome, the printed text and the files that are left are those of an answer to the
+    // words, and the names asked for are those that the words ask for, whatever the counts of faults did.
     ensures answer { IfSome (F.contents folder.old) (λ files. IsAnswer result →
-        Answers (word_bytes words.now) files result (O.written out.old) (O.written out.new)) }
+        Answers (word_bytes words.now) files result (O.written out.old) (O.written out.new) (F.contents folder.new)) }
     ensures asked { IfSome (F.contents folder.old) (λ files.
         IsAnswer result → F.asked folder.new ≡ F.asked folder.old ++ (work_of (word_bytes words.now) files).asked) }
     ensures asked_part { IfSome (F.contents folder.old) (λ files.
         AsksPart (F.asked folder.old) (work_of (word_bytes words.now) files).asked (F.asked folder.new)) }
-    ensures contents { F.contents folder.new ≡ F.contents folder.old }
+
+    // No file changes but the one that the words name as an output, if they name one.
+    ensures files { SameBut (output_of (command_of (word_bytes words.now))) (F.contents folder.old) (F.contents folder.new) }
 
     // `check IMAGE NOTES` calls an image neutral exactly where it is typed under the notes, and refuses it exactly at the
     // first place at which a rule fails, by the first rule that fails there.
@@ -56,7 +66,17 @@ pub fn ebc<F: Folder, O: Sink>(
         ListsImage (word_bytes words.now) files image →
         IsAnswer result → O.written out.new ≡ printed (listing_of image) (O.written out.old)) }
 
-    // A file is bad input exactly where it is the first that stands for no image or no notes, by its first fault.
+    // `asm SRC OBJ` assembles each source within the limit that stands for an object, and OBJ then holds exactly its file.
+    ensures assembles_always { IfSome (F.contents folder.old) (λ files. (name : List ℕ) (object : Object) →
+        Assembles (word_bytes words.now) files name object → IsAnswer result → result ≡ Outcome.Done) }
+    ensures assembles_exactly { IfSome (F.contents folder.old) (λ files. (name : List ℕ) (object : Object) →
+        Assembles (word_bytes words.now) files name object →
+        IsAnswer result → F.contents folder.new ≡ Some (insert files name (object_bytes object))) }
+    ensures bad_source_line { IfSome (F.contents folder.old) (λ files. (name : List ℕ) (kind : AsmFault) (line : ℕ) →
+        HasBadLine (word_bytes words.now) files name kind line →
+        IsAnswer result → O.written out.new ≡ printed (bad_line name (asm_fault_text kind) (decimal line)) (O.written out.old)) }
+
+    // A file is bad input exactly where it is the first that stands for no image, no notes or no object, by its first fault.
     ensures bad_input_exactly { IfSome (F.contents folder.old) (λ files. (word fault : ℕ) →
         IsAnswer result → result ≡ Outcome.BadInput word fault ↔ HasBadInput (word_bytes words.now) files word fault) }
 
@@ -82,13 +102,20 @@ pub fn ebc<F: Folder, O: Sink>(
         Rose (F.read_faults folder.old) (F.read_faults folder.new) }
     ensures uncounted { IfSome (F.contents folder.old) (λ _. result ≢ Outcome.ReadFault →
         F.read_faults folder.new ≡ F.read_faults folder.old) }
-    ensures write_fault { result ≡ Outcome.WriteFault → Rose (O.faults out.old) (O.faults out.new) }
+    ensures write_fault { result ≡ Outcome.WriteFault →
+        Rose (O.faults out.old) (O.faults out.new) ⊎ Rose (F.write_faults folder.old) (F.write_faults folder.new) }
+    ensures unwritten { output_of (command_of (word_bytes words.now)) ≡ None →
+        F.write_faults folder.new ≡ F.write_faults folder.old }
+    ensures write_uncounted { IfSome (F.contents folder.old) (λ _. result ≢ Outcome.WriteFault →
+        F.write_faults folder.new ≡ F.write_faults folder.old) }
 
     // What stands after the answers that the words and files don't decide.
     ensures read_fault_leaves { result ≡ Outcome.ReadFault → O.written out.new ≡ O.written out.old }
+    ensures read_fault_files { result ≡ Outcome.ReadFault → F.contents folder.new ≡ F.contents folder.old }
     ensures write_fault_leaves { IfSome (F.contents folder.old) (λ files. result ≡ Outcome.WriteFault →
-        PrintsPart (word_bytes words.now) files (O.written out.old) (O.written out.new)) }
+        LeavesPart (word_bytes words.now) files (O.written out.old) (O.written out.new) (F.contents folder.new)) }
     ensures no_memory_leaves { result ≡ Outcome.NoMemory → O.written out.new ≡ O.written out.old }
+    ensures no_memory_files { result ≡ Outcome.NoMemory → F.contents folder.new ≡ F.contents folder.old }
 {
     let reply = match decide(alloc, words, folder) {
         Ok(reply) => reply,
@@ -96,7 +123,7 @@ pub fn ebc<F: Folder, O: Sink>(
         Err(End::ReadFault) => return Outcome::ReadFault,
         Err(End::NoMemory) => return Outcome::NoMemory,
     };
-    print(alloc, &reply, out)
+    finish(alloc, &reply, folder, out)
 }
 
 // Reads what the words name, does the work and gives the answer.
@@ -112,27 +139,8 @@ fn decide<F: Folder>(alloc: Global, words: &Vec<String>, folder: &mut F) -> Resu
     ensures uncounted { IfSome (F.contents folder.old) (λ _. ¬ IsErrOf result End.ReadFault →
         F.read_faults folder.new ≡ F.read_faults folder.old) }
     ensures contents { F.contents folder.new ≡ F.contents folder.old }
+    ensures write_faults { F.write_faults folder.new ≡ F.write_faults folder.old }
 {
     let work = read_work(alloc, words, folder)?;
     Ok(work.reply(alloc)?)
-}
-
-// Prints the text of a reply, if it has one.
-fn print<O: Sink>(alloc: Global, reply: &Reply, out: &mut O) -> Outcome
-    requires { IsAnswer reply.now.outcome }
-    ensures answer { IsAnswer result → result ≡ reply.now.outcome }
-    ensures text { IsAnswer result → O.written out.new ≡ printed reply.now.text (O.written out.old) }
-    ensures fault { result ≡ Outcome.WriteFault → Rose (O.faults out.old) (O.faults out.new) }
-    ensures part { result ≡ Outcome.WriteFault → AppendsPart reply.now.text (O.written out.old) (O.written out.new) }
-    ensures memory { result ≡ Outcome.NoMemory → O.written out.new ≡ O.written out.old }
-    ensures read { result ≡ Outcome.ReadFault → ⊥ }
-{
-    if reply.text.is_empty() {
-        return reply.outcome;
-    }
-    match out.put(alloc, reply.text.as_slice()) {
-        Ok(()) => reply.outcome,
-        Err(SinkEnd::Fault) => Outcome::WriteFault,
-        Err(SinkEnd::NoMemory) => Outcome::NoMemory,
-    }
 }

@@ -14,6 +14,8 @@ pub enum Command {
     CheckImage { image: Name, notes: Name },
     /// `list IMAGE`: the listing of an image.
     ListImage { image: Name },
+    /// `asm SRC OBJ`: the assembly of a source, whose object is written under a name.
+    Assemble { source: Name, object: Name },
 }
 
 /// The command that the words spell, if they spell one.
@@ -22,7 +24,7 @@ pub fn command_of(alloc: Global, words: &Vec<String>) -> Result<Option<Command>,
 {
     match words.as_slice() {
         [word, file] => with_one_file(alloc, word, file),
-        [word, image, notes] => with_two_files(alloc, word, image, notes),
+        [word, one, two] => with_two_files(alloc, word, one, two),
         _ => Ok(None),
     }
 }
@@ -59,6 +61,11 @@ fn with_two_files(
         let image = Name::new(String::from_str(alloc, one.as_str())?);
         let notes = Name::new(String::from_str(alloc, two.as_str())?);
         return Ok(Some(Command::CheckImage { image, notes }));
+    }
+    if word.as_str() == "asm" {
+        let source = Name::new(String::from_str(alloc, one.as_str())?);
+        let object = Name::new(String::from_str(alloc, two.as_str())?);
+        return Ok(Some(Command::Assemble { source, object }));
     }
     Ok(None)
 }

@@ -1,7 +1,8 @@
 //! The faults of the files that a command reads: their numbers, and their names as they are printed.
 ghost use Rattle.std.specs.Prelude.{◌≡◌};
-ghost use Rattle.ebc_cli.specs.Faults.{image_fault_number, image_fault_text, toml_fault_number, toml_fault_text, key_path};
+ghost use Rattle.ebc_cli.specs.Faults.{asm_fault_number, asm_fault_text, image_fault_number, image_fault_text, toml_fault_number, toml_fault_text, key_path};
 
+use ebc_asm::AsmFault;
 use note_types::TomlFault;
 use pe_image::ImageFault;
 
@@ -80,5 +81,37 @@ pub fn key_path(fault: &TomlFault) -> &str
         TomlFault::Name(path) => path.as_str(),
         TomlFault::Range(path) => path.as_str(),
         TomlFault::Twice(path) => path.as_str(),
+    }
+}
+
+/// The number of a fault of a source, from 1 to 8.
+pub fn asm_fault_number(fault: AsmFault) -> u8
+    ensures { result ≡ asm_fault_number fault }
+{
+    match fault {
+        AsmFault::Word => 1,
+        AsmFault::Operand => 2,
+        AsmFault::Number => 3,
+        AsmFault::Index => 4,
+        AsmFault::Label => 5,
+        AsmFault::Twice => 6,
+        AsmFault::Far => 7,
+        AsmFault::Section => 8,
+    }
+}
+
+/// The name of a fault of a source.
+pub fn asm_fault_text(fault: AsmFault) -> &'static str
+    ensures { result.now ≡ asm_fault_text fault }
+{
+    match fault {
+        AsmFault::Word => "word",
+        AsmFault::Operand => "operand",
+        AsmFault::Number => "number",
+        AsmFault::Index => "index",
+        AsmFault::Label => "label",
+        AsmFault::Twice => "twice",
+        AsmFault::Far => "far",
+        AsmFault::Section => "section",
     }
 }

@@ -1,36 +1,59 @@
-//! Reading the images and notes that files hold.
-ghost use Rattle.std.specs.Prelude.{◌≡◌, ◌≤◌, IfSome, IfOk, IsErrOf};
+//! Reading the images, notes and sources that files hold.
+ghost use Rattle.std.specs.Prelude.{◌≡◌, ◌≤◌, ℕ, List, None, Result, IfSome, IfOk, IsErrOf, length};
+ghost use Rattle.ebc_object.specs.Objects.{IsObject};
 ghost use Rattle.ebc_outside.specs.Counts.{Rose};
 ghost use Rattle.note_types.specs.Records.{IsNotes};
 ghost use Rattle.pe_image.specs.Images.{IsImage};
-ghost use Rattle.ebc_cli.specs.Inputs.{image_in, notes_in};
+ghost use Rattle.ebc_cli.specs.Inputs.{Means, image_limit, image_meaning, input, notes_limit, notes_meaning, source_limit, source_meaning};
+ghost use Rattle.ebc_cli.specs.Outcomes.{IsBadInput};
+ghost use Rattle.ebc_cli.specs.Outputs.{written_name};
 ghost use Rattle.ebc_cli.specs.Readings.{Follows, IfStop, CommandAnswer};
+ghost use Rattle.ebc_cli.specs.declared.reply.Reply.{Reply};
 
 use crate::reading::file;
 use crate::reply::End;
 use crate::text;
+use ebc_asm::{AsmEnd, assemble};
+use ebc_object::Object;
 use ebc_outside::Folder;
 use note_types::{Notes, NotesEnd};
 use pe_image::{Image, ImageEnd, read_image};
 use std::alloc::Global;
 use type_notes::read_notes;
 
-/// How many bytes the file of an image may have.
-const IMAGE_LIMIT: u64 = 4194304;
+/// What a file is read as.
+pub trait Input: Sized {
+    /// What the file of a word, by its number and its name, stands for, or the reply to its first fault.
+    ghost meaning: { ℕ → List ℕ → List ℕ → Result Self Reply };
 
-/// How many bytes a text of notes may have.
-const NOTES_LIMIT: u64 = 1048576;
+    /// What is known of all that is read.
+    ghost IsValid: { Self → Type 0 };
 
-/// The image in the file that a word names.
-#[tactic(auto, unfolding(crate::specs::Inputs::image_in))]
-pub fn image_in<F: Folder>(
+    /// How many bytes the file may have.
+    ghost LIMIT: { ℕ };
+
+    /// How many bytes the file may have.
+    const LIMIT: u64;
+
+    /// What the bytes stand for, or why they stand for nothing. The file is that of a word, by its number and its name.
+    fn of(alloc: Global, word: u8, name: &str, bytes: &[u8]) -> Result<Self, End>
+        requires { length bytes.now ≤ LIMIT }
+        ensures meaning { Means result (meaning word name.now bytes.now) }
+        ensures valid { IfOk result IsValid }
+        ensures stop { IfStop result (λ reply. IsBadInput reply.outcome) }
+        ensures output { IfStop result (λ reply. written_name reply.output ≡ None) };
+}
+
+/// What is read in the file that a word names.
+#[tactic(auto, unfolding(crate::specs::Inputs::input))]
+pub fn read_as<T: Input, F: Folder>(
     alloc: Global,
     folder: &mut F,
     word: u8,
     name: &str,
-) -> Result<Image, End>
+) -> Result<T, End>
     ensures follows { IfSome (F.contents folder.old) (λ files.
-        Follows (F.asked folder.old) (F.asked folder.new) result (image_in word name.now files)) }
+        Follows (F.asked folder.old) (F.asked folder.new) result (input T.LIMIT T.meaning word name.now files)) }
     ensures stop { IfStop result (CommandAnswer (F.contents folder.old)
         (F.read_faults folder.old) (F.read_faults folder.new)) }
     ensures fault { IsErrOf result End.ReadFault →
@@ -39,42 +62,73 @@ pub fn image_in<F: Folder>(
         F.read_faults folder.new ≡ F.read_faults folder.old) }
     ensures count { F.read_faults folder.old ≤ F.read_faults folder.new }
     ensures contents { F.contents folder.new ≡ F.contents folder.old }
-    ensures image { IfOk result IsImage }
+    ensures write_faults { F.write_faults folder.new ≡ F.write_faults folder.old }
+    ensures valid { IfOk result T.IsValid }
 {
-    let bytes = file(alloc, folder, word, name, IMAGE_LIMIT)?;
-    match read_image(alloc, bytes.as_slice()) {
-        Ok(image) => Ok(image),
-        Err(ImageEnd::Fault { kind, offset }) => Err(End::Stop(text::bad_image(
-            alloc, word, name, kind, offset,
-        )?)),
-        Err(ImageEnd::NoMemory) => Err(End::NoMemory),
+    let bytes = file(alloc, folder, word, name, T::LIMIT)?;
+    match T::of(alloc, word, name, bytes.as_slice()) {
+        Ok(value) => Ok(value),
+        Err(end) => Err(end),
     }
 }
 
-/// The notes in the file that a word names.
-#[tactic(auto, unfolding(crate::specs::Inputs::notes_in))]
-pub fn notes_in<F: Folder>(
-    alloc: Global,
-    folder: &mut F,
-    word: u8,
-    name: &str,
-) -> Result<Notes, End>
-    ensures follows { IfSome (F.contents folder.old) (λ files.
-        Follows (F.asked folder.old) (F.asked folder.new) result (notes_in word name.now files)) }
-    ensures stop { IfStop result (CommandAnswer (F.contents folder.old)
-        (F.read_faults folder.old) (F.read_faults folder.new)) }
-    ensures fault { IsErrOf result End.ReadFault →
-        Rose (F.read_faults folder.old) (F.read_faults folder.new) }
-    ensures uncounted { IfSome (F.contents folder.old) (λ _. ¬ IsErrOf result End.ReadFault →
-        F.read_faults folder.new ≡ F.read_faults folder.old) }
-    ensures count { F.read_faults folder.old ≤ F.read_faults folder.new }
-    ensures contents { F.contents folder.new ≡ F.contents folder.old }
-    ensures notes { IfOk result IsNotes }
-{
-    let text = file(alloc, folder, word, name, NOTES_LIMIT)?;
-    match read_notes(alloc, text.as_slice()) {
-        Ok(notes) => Ok(notes),
-        Err(NotesEnd::Fault(fault)) => Err(End::Stop(text::bad_notes(alloc, word, name, &fault)?)),
-        Err(NotesEnd::NoMemory) => Err(End::NoMemory),
+impl Input for Image {
+    ghost meaning = { image_meaning };
+
+    ghost IsValid = { IsImage };
+
+    ghost LIMIT = { image_limit };
+
+    const LIMIT: u64 = 4194304;
+
+    fn of(alloc: Global, word: u8, name: &str, bytes: &[u8]) -> Result<Image, End> {
+        match read_image(alloc, bytes) {
+            Ok(image) => Ok(image),
+            Err(ImageEnd::Fault { kind, offset }) => Err(End::Stop(text::bad_image(
+                alloc, word, name, kind, offset,
+            )?)),
+            Err(ImageEnd::NoMemory) => Err(End::NoMemory),
+        }
+    }
+}
+
+impl Input for Notes {
+    ghost meaning = { notes_meaning };
+
+    ghost IsValid = { IsNotes };
+
+    ghost LIMIT = { notes_limit };
+
+    const LIMIT: u64 = 1048576;
+
+    fn of(alloc: Global, word: u8, name: &str, bytes: &[u8]) -> Result<Notes, End> {
+        match read_notes(alloc, bytes) {
+            Ok(notes) => Ok(notes),
+            Err(NotesEnd::Fault(fault)) => {
+                Err(End::Stop(text::bad_notes(alloc, word, name, &fault)?))
+            }
+            Err(NotesEnd::NoMemory) => Err(End::NoMemory),
+        }
+    }
+}
+
+// An object is read in its source.
+impl Input for Object {
+    ghost meaning = { source_meaning };
+
+    ghost IsValid = { IsObject };
+
+    ghost LIMIT = { source_limit };
+
+    const LIMIT: u64 = 1048576;
+
+    fn of(alloc: Global, word: u8, name: &str, bytes: &[u8]) -> Result<Object, End> {
+        match assemble(alloc, bytes) {
+            Ok(object) => Ok(object),
+            Err(AsmEnd::Fault { kind, line }) => Err(End::Stop(text::bad_source(
+                alloc, word, name, kind, line,
+            )?)),
+            Err(AsmEnd::NoMemory) => Err(End::NoMemory),
+        }
     }
 }

@@ -1,5 +1,5 @@
 //! Reading the files that words name.
-ghost use Rattle.std.specs.Prelude.{◌≡◌, ◌<◌, ◌^◌, ◌≤◌, IfSome, IfOk, IsErrOf, length};
+ghost use Rattle.std.specs.Prelude.{◌≡◌, ◌≤◌, IfSome, IfOk, IsErrOf, length};
 ghost use Rattle.ebc_outside.specs.Counts.{Rose};
 ghost use Rattle.ebc_cli.specs.Readings.{file, Follows, IfStop, CommandAnswer};
 
@@ -19,7 +19,6 @@ pub fn file<F: Folder>(
     name: &str,
     limit: u64,
 ) -> Result<Sequence<u8>, End>
-    requires { limit < 2 ^ 63 }
     ensures follows { IfSome (F.contents folder.old) (λ files.
         Follows (F.asked folder.old) (F.asked folder.new) result (file word name.now limit files)) }
     ensures stop { IfStop result (CommandAnswer (F.contents folder.old)
@@ -30,6 +29,7 @@ pub fn file<F: Folder>(
         F.read_faults folder.new ≡ F.read_faults folder.old) }
     ensures count { F.read_faults folder.old ≤ F.read_faults folder.new }
     ensures contents { F.contents folder.new ≡ F.contents folder.old }
+    ensures write_faults { F.write_faults folder.new ≡ F.write_faults folder.old }
     ensures within { IfOk result (λ bytes. length bytes ≤ limit) }
 {
     match folder.read(alloc, name, limit) {

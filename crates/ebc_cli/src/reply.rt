@@ -3,20 +3,29 @@ ghost use Rattle.std.specs.Prelude.{◌≡◌};
 ghost use Rattle.ebc_cli.specs.declared.reply.End.TheVariants.{NoMemory};
 
 use crate::outcome::Outcome;
-use ebc_base::{NoMemory, Sequence};
+use ebc_base::{Name, NoMemory, Sequence};
 use std::alloc::AllocError;
 
-/// An answer and the text that is printed for it.
+/// What an answer prints or writes.
+#[derive(Debug, Drop)]
+pub enum Output {
+    /// A text that is printed.
+    Text(Sequence<u8>),
+    /// A file that is written, its name and its bytes.
+    File { name: Name, bytes: Sequence<u8> },
+}
+
+/// An answer, and what is printed or written for it.
 #[derive(Debug, Drop)]
 pub struct Reply {
     pub outcome: Outcome,
-    pub text: Sequence<u8>,
+    pub output: Output,
 }
 
 /// Why the work ends before its answer.
 #[derive(Debug, Drop)]
 pub enum End {
-    /// A file is missing or too large: this is the answer.
+    /// A file is missing, too large or not of its form, or the words are no command: this is the answer.
     Stop(Reply),
     /// A read failed.
     ReadFault,

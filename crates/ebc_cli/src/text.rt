@@ -2,15 +2,18 @@
 ghost use Rattle.std.specs.Prelude.{◌≡◌, Some, IfOk, string_bytes};
 ghost use Rattle.ebc_cli.specs.Texts.{place_text, rule_text};
 ghost use Rattle.ebc_cli.specs.Readings.{missing_reply, large_reply};
-ghost use Rattle.ebc_cli.specs.Inputs.{bad_image_reply, bad_notes_reply};
-ghost use Rattle.ebc_cli.specs.Works.{verdict_reply, listing_reply, usage_reply};
+ghost use Rattle.ebc_cli.specs.Inputs.{bad_reply, bad_image_reply, bad_notes_reply, bad_source_reply};
+ghost use Rattle.ebc_cli.specs.Outputs.{prints};
+ghost use Rattle.ebc_cli.specs.Works.{verdict_reply, listing_reply, object_reply, usage_reply};
 
 use crate::fault::{
-    image_fault_number, image_fault_text, key_path, toml_fault_number, toml_fault_text,
+    asm_fault_number, asm_fault_text, image_fault_number, image_fault_text, key_path,
+    toml_fault_number, toml_fault_text,
 };
 use crate::outcome::Outcome;
-use crate::reply::Reply;
-use ebc_base::Sequence;
+use crate::reply::{Output, Reply};
+use ebc_asm::AsmFault;
+use ebc_base::{Name, Sequence};
 use note_types::TomlFault;
 use pe_image::ImageFault;
 use std::alloc::{AllocError, Global};
@@ -62,18 +65,22 @@ fn rule_text(rule: RuleName) -> &'static str
     }
 }
 
+// The answer that prints a text.
+fn printed(outcome: Outcome, text: Vec<u8>) -> Reply
+    ensures { result ≡ prints outcome text.items }
+{
+    Reply {
+        outcome,
+        output: Output::Text(Sequence::new(text)),
+    }
+}
+
 /// The answer of a check.
 pub fn verdict(alloc: Global, verdict: Verdict) -> Result<Reply, AllocError>
     ensures { IfOk result (λ r. r ≡ verdict_reply verdict) }
 {
     match verdict {
-        Verdict::Neutral => {
-            let text = Sequence::new(b"neutral\n".to_vec(alloc)?);
-            Ok(Reply {
-                outcome: Outcome::Done,
-                text,
-            })
-        }
+        Verdict::Neutral => Ok(printed(Outcome::Done, b"neutral\n".to_vec(alloc)?)),
         Verdict::Refused { place, rule } => refused(alloc, place, rule),
     }
 }
@@ -83,20 +90,27 @@ fn refused(alloc: Global, place: u32, rule: RuleName) -> Result<Reply, AllocErro
 {
     let shown = Place(place);
     let name = rule_text(rule);
-    let text = Sequence::new(format!(in alloc; "refused {shown} {name}\n")?.into_bytes());
-    Ok(Reply {
-        outcome: Outcome::Refused { place, rule },
-        text,
-    })
+    let text = format!(in alloc; "refused {shown} {name}\n")?.into_bytes();
+    Ok(printed(Outcome::Refused { place, rule }, text))
 }
 
 /// The answer of a listing: the text itself.
 pub fn listing(text: Vec<u8>) -> Reply
     ensures { result ≡ listing_reply text.items }
 {
+    printed(Outcome::Done, text)
+}
+
+/// The answer of an assembly: the object's file is written, and nothing is printed.
+pub fn object(name: Name, bytes: Vec<u8>) -> Reply
+    ensures { result ≡ object_reply name bytes.items }
+{
     Reply {
         outcome: Outcome::Done,
-        text: Sequence::new(text),
+        output: Output::File {
+            name,
+            bytes: Sequence::new(bytes),
+        },
     }
 }
 
@@ -104,35 +118,45 @@ pub fn listing(text: Vec<u8>) -> Reply
 pub fn usage(alloc: Global) -> Result<Reply, AllocError>
     ensures { IfOk result (λ r. r ≡ usage_reply) }
 {
-    let text = Sequence::new(
-        b"usage: check CODE | check IMAGE NOTES | list IMAGE\n".to_vec(alloc)?,
-    );
-    Ok(Reply {
-        outcome: Outcome::BadWords,
-        text,
-    })
+    let text = b"usage: asm SRC OBJ | check CODE | check IMAGE NOTES | list IMAGE\n";
+    Ok(printed(Outcome::BadWords, text.to_vec(alloc)?))
 }
 
 /// The answer where the folder has no file of the name.
 pub fn missing(alloc: Global, word: u8, name: &str) -> Result<Reply, AllocError>
     ensures { IfOk result (λ r. r ≡ missing_reply word name.now) }
 {
-    let text = Sequence::new(format!(in alloc; "missing {name}\n")?.into_bytes());
-    Ok(Reply {
-        outcome: Outcome::Missing { word },
-        text,
-    })
+    let text = format!(in alloc; "missing {name}\n")?.into_bytes();
+    Ok(printed(Outcome::Missing { word }, text))
 }
 
 /// The answer where the file of the name is past its limit.
 pub fn large(alloc: Global, word: u8, name: &str) -> Result<Reply, AllocError>
     ensures { IfOk result (λ r. r ≡ large_reply word name.now) }
 {
-    let text = Sequence::new(format!(in alloc; "large {name}\n")?.into_bytes());
-    Ok(Reply {
-        outcome: Outcome::TooLarge { word },
+    let text = format!(in alloc; "large {name}\n")?.into_bytes();
+    Ok(printed(Outcome::TooLarge { word }, text))
+}
+
+// The answer where the file of the name has a fault, by its number, its name and where in the file it stands.
+fn bad(
+    alloc: Global,
+    word: u8,
+    name: &str,
+    number: u8,
+    fault: &str,
+    detail: &str,
+) -> Result<Reply, AllocError>
+    ensures { IfOk result (λ r. r ≡ bad_reply word name.now number fault.now detail.now) }
+{
+    let text = format!(in alloc; "bad {name} {fault} {detail}\n")?.into_bytes();
+    Ok(printed(
+        Outcome::BadInput {
+            word,
+            fault: number,
+        },
         text,
-    })
+    ))
 }
 
 /// The answer where the file of the name is no image, by a fault at an offset.
@@ -143,18 +167,18 @@ pub fn bad_image(
     kind: ImageFault,
     offset: u64,
 ) -> Result<Reply, AllocError>
-    ensures { IfOk result (λ r. r ≡ bad_image_reply word name.now kind offset) }
+    ensures { IfOk result (λ r. r ≡ bad_image_reply word name.now (kind, offset)) }
 {
-    let fault = image_fault_text(kind);
-    let text = Sequence::new(format!(in alloc; "bad {name} {fault} {offset}\n")?.into_bytes());
+    let detail = format!(in alloc; "{offset}")?;
     let number = image_fault_number(kind);
-    Ok(Reply {
-        outcome: Outcome::BadInput {
-            word,
-            fault: number,
-        },
-        text,
-    })
+    bad(
+        alloc,
+        word,
+        name,
+        number,
+        image_fault_text(kind),
+        detail.as_str(),
+    )
 }
 
 /// The answer where the file of the name stands for no notes.
@@ -166,15 +190,35 @@ pub fn bad_notes(
 ) -> Result<Reply, AllocError>
     ensures { IfOk result (λ r. r ≡ bad_notes_reply word name.now fault.now) }
 {
-    let kind = toml_fault_text(fault);
-    let path = key_path(fault);
-    let text = Sequence::new(format!(in alloc; "bad {name} {kind} {path}\n")?.into_bytes());
     let number = toml_fault_number(fault);
-    Ok(Reply {
-        outcome: Outcome::BadInput {
-            word,
-            fault: number,
-        },
-        text,
-    })
+    bad(
+        alloc,
+        word,
+        name,
+        number,
+        toml_fault_text(fault),
+        key_path(fault),
+    )
+}
+
+/// The answer where the file of the name stands for no object, by the lowest fault of its first line with one.
+pub fn bad_source(
+    alloc: Global,
+    word: u8,
+    name: &str,
+    kind: AsmFault,
+    line: u64,
+) -> Result<Reply, AllocError>
+    ensures { IfOk result (λ r. r ≡ bad_source_reply word name.now (kind, line)) }
+{
+    let detail = format!(in alloc; "{line}")?;
+    let number = asm_fault_number(kind);
+    bad(
+        alloc,
+        word,
+        name,
+        number,
+        asm_fault_text(kind),
+        detail.as_str(),
+    )
 }

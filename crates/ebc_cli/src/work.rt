@@ -4,18 +4,20 @@ ghost use Rattle.ebc_outside.specs.Counts.{Rose};
 ghost use Rattle.note_types.specs.Records.{IsNotes};
 ghost use Rattle.pe_image.specs.Images.{IsImage};
 ghost use Rattle.ebc_cli.specs.Answers.{AnswersWords};
-ghost use Rattle.ebc_cli.specs.Commands.{command_of, word_bytes};
+ghost use Rattle.ebc_cli.specs.Commands.{command_of, output_of, word_bytes};
 ghost use Rattle.ebc_cli.specs.Outcomes.{IsWorkAnswer};
 ghost use Rattle.ebc_cli.specs.Readings.{Follows, IfStop, CommandAnswer};
-ghost use Rattle.ebc_cli.specs.Works.{CanBeDone, IsReplyTo, code_check, image_check, image_listing, work_of};
+ghost use Rattle.ebc_cli.specs.Outputs.{written_name};
+ghost use Rattle.ebc_cli.specs.Works.{CanBeDone, IsReplyTo, image_check, output_name, work_of};
 
 use crate::command::{Command, command_of};
-use crate::input::{image_in, notes_in};
+use crate::input::read_as;
 use crate::reading::file;
 use crate::reply::{End, Reply};
 use crate::text;
-use ebc_base::{NoMemory, Sequence};
+use ebc_base::{Name, NoMemory, Sequence};
 use ebc_disasm::list;
+use ebc_object::{Object, write_object};
 use ebc_outside::Folder;
 use note_types::Notes;
 use pe_image::Image;
@@ -34,15 +36,18 @@ pub enum Work {
     CheckImage { image: Image, notes: Notes },
     /// The listing of an image.
     ListImage { image: Image },
+    /// The writing of an object's file under a name.
+    WriteObject { name: Name, object: Object },
 }
 
 /// Reads the files that the words name, and says what the words ask for.
-#[tactic(auto, unfolding(crate::specs::Works::work_of))]
+#[tactic(auto, unfolding(crate::specs::Works::work_of, crate::specs::Works::code_check, crate::specs::Works::image_listing, crate::specs::Works::assembly))]
 pub fn read_work<F: Folder>(alloc: Global, words: &Vec<String>, folder: &mut F) -> Result<Work, End>
     ensures follows { IfSome (F.contents folder.old) (λ files.
         Follows (F.asked folder.old) (F.asked folder.new) result (work_of (word_bytes words.now) files)) }
     ensures work { IfOk result CanBeDone }
     ensures command { IfOk result (λ _. command_of (word_bytes words.now) ≢ None) }
+    ensures output { IfOk result (λ work. output_name work ≡ output_of (command_of (word_bytes words.now))) }
     ensures stop { IfStop result (AnswersWords (word_bytes words.now) (F.contents folder.old)
         (F.read_faults folder.old) (F.read_faults folder.new)) }
     ensures fault { IsErrOf result End.ReadFault →
@@ -50,33 +55,31 @@ pub fn read_work<F: Folder>(alloc: Global, words: &Vec<String>, folder: &mut F) 
     ensures uncounted { IfSome (F.contents folder.old) (λ _. ¬ IsErrOf result End.ReadFault →
         F.read_faults folder.new ≡ F.read_faults folder.old) }
     ensures contents { F.contents folder.new ≡ F.contents folder.old }
+    ensures write_faults { F.write_faults folder.new ≡ F.write_faults folder.old }
 {
     match command_of(alloc, words)? {
         None => Err(End::Stop(text::usage(alloc)?)),
-        Some(Command::CheckCode { code }) => read_code_check(alloc, code.as_str(), folder),
+        Some(Command::CheckCode { code }) => {
+            let code = file(alloc, folder, 1, code.as_str(), PLAIN_CODE_LIMIT)?;
+            Ok(Work::CheckCode { code })
+        }
         Some(Command::CheckImage { image, notes }) => {
             read_image_check(alloc, image.as_str(), notes.as_str(), folder)
         }
-        Some(Command::ListImage { image }) => read_image_listing(alloc, image.as_str(), folder),
+        Some(Command::ListImage { image }) => {
+            let image = read_as(alloc, folder, 1, image.as_str())?;
+            Ok(Work::ListImage { image })
+        }
+        Some(
+            Command::Assemble {
+                source,
+                object: name,
+            },
+        ) => {
+            let object = read_as(alloc, folder, 1, source.as_str())?;
+            Ok(Work::WriteObject { name, object })
+        }
     }
-}
-
-// `check CODE`
-#[tactic(auto, unfolding(crate::specs::Works::code_check))]
-fn read_code_check<F: Folder>(alloc: Global, name: &str, folder: &mut F) -> Result<Work, End>
-    ensures follows { IfSome (F.contents folder.old) (λ files.
-        Follows (F.asked folder.old) (F.asked folder.new) result (code_check name.now files)) }
-    ensures work { IfOk result CanBeDone }
-    ensures stop { IfStop result (CommandAnswer (F.contents folder.old)
-        (F.read_faults folder.old) (F.read_faults folder.new)) }
-    ensures fault { IsErrOf result End.ReadFault →
-        Rose (F.read_faults folder.old) (F.read_faults folder.new) }
-    ensures uncounted { IfSome (F.contents folder.old) (λ _. ¬ IsErrOf result End.ReadFault →
-        F.read_faults folder.new ≡ F.read_faults folder.old) }
-    ensures contents { F.contents folder.new ≡ F.contents folder.old }
-{
-    let code = file(alloc, folder, 1, name, PLAIN_CODE_LIMIT)?;
-    Ok(Work::CheckCode { code })
 }
 
 // `check IMAGE NOTES`
@@ -90,6 +93,7 @@ fn read_image_check<F: Folder>(
     ensures follows { IfSome (F.contents folder.old) (λ files.
         Follows (F.asked folder.old) (F.asked folder.new) result (image_check image.now notes.now files)) }
     ensures work { IfOk result CanBeDone }
+    ensures output { IfOk result (λ work. output_name work ≡ None) }
     ensures stop { IfStop result (CommandAnswer (F.contents folder.old)
         (F.read_faults folder.old) (F.read_faults folder.new)) }
     ensures fault { IsErrOf result End.ReadFault →
@@ -97,30 +101,13 @@ fn read_image_check<F: Folder>(
     ensures uncounted { IfSome (F.contents folder.old) (λ _. ¬ IsErrOf result End.ReadFault →
         F.read_faults folder.new ≡ F.read_faults folder.old) }
     ensures contents { F.contents folder.new ≡ F.contents folder.old }
+    ensures write_faults { F.write_faults folder.new ≡ F.write_faults folder.old }
 {
-    let image = image_in(alloc, folder, 1, image)?;
-    match notes_in(alloc, folder, 2, notes) {
+    let image = read_as(alloc, folder, 1, image)?;
+    match read_as(alloc, folder, 2, notes) {
         Ok(notes) => Ok(Work::CheckImage { image, notes }),
         Err(end) => Err(end),
     }
-}
-
-// `list IMAGE`
-#[tactic(auto, unfolding(crate::specs::Works::image_listing))]
-fn read_image_listing<F: Folder>(alloc: Global, name: &str, folder: &mut F) -> Result<Work, End>
-    ensures follows { IfSome (F.contents folder.old) (λ files.
-        Follows (F.asked folder.old) (F.asked folder.new) result (image_listing name.now files)) }
-    ensures work { IfOk result CanBeDone }
-    ensures stop { IfStop result (CommandAnswer (F.contents folder.old)
-        (F.read_faults folder.old) (F.read_faults folder.new)) }
-    ensures fault { IsErrOf result End.ReadFault →
-        Rose (F.read_faults folder.old) (F.read_faults folder.new) }
-    ensures uncounted { IfSome (F.contents folder.old) (λ _. ¬ IsErrOf result End.ReadFault →
-        F.read_faults folder.new ≡ F.read_faults folder.old) }
-    ensures contents { F.contents folder.new ≡ F.contents folder.old }
-{
-    let image = image_in(alloc, folder, 1, name)?;
-    Ok(Work::ListImage { image })
 }
 
 impl Work {
@@ -129,6 +116,7 @@ impl Work {
         requires { CanBeDone self.now }
         ensures reply { IfOk result (IsReplyTo self.now) }
         ensures answer { IfOk result (λ r. IsWorkAnswer r.outcome) }
+        ensures output { IfOk result (λ r. written_name r.output ≡ output_name self.now) }
     {
         match self {
             Work::CheckCode { code } => {
@@ -142,6 +130,10 @@ impl Work {
             Work::ListImage { image } => {
                 let listing = list(alloc, image)?;
                 Ok(text::listing(listing))
+            }
+            Work::WriteObject { name, object } => {
+                let file = write_object(alloc, object)?;
+                Ok(text::object(name.copy(alloc)?, file))
             }
         }
     }

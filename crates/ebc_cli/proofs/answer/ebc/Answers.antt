@@ -1,23 +1,36 @@
-use Rattle.ebc_cli.proofs.HeadlineLemmas.{Tells, answer-ok, answer-stop, answers, prints-part, exactly, refused, lists-always, lists-exactly, bad-input, plain-alike, plain-exactly, plain-refused}
-use Rattle.ebc_cli.specs.Commands.{word_bytes}
+use Rattle.std.proofs.Common.{◌≡◌, ◌⊎◌, None, ◌∙◌}
+use Rattle.ebc_cli.proofs.HeadlineLemmas.{Tells, answer-ok, answer-stop, answers, leaves-part, exactly, refused, lists-always, lists-exactly, assembles-always, assembles-exactly, bad-source-line, bad-input, plain-alike, plain-exactly, plain-refused}
+use Rattle.ebc_cli.proofs.OutputLemmas.{but-output, writes-none}
+use Rattle.ebc_cli.specs.Commands.{command_of, output_of, word_bytes}
+use Rattle.ebc_cli.specs.Outputs.{written_name}
 use Rattle.ebc_cli.proofs.answer.ebc.Goals as goal
-use Rattle.ebc_cli.proofs.answer.ebc.Goals.{in-Ok, in-Err-Stop, After-drop-reply}
+use Rattle.ebc_cli.proofs.answer.ebc.Goals.{in-Ok, in-Err-Stop, Joined-reply}
 use Rattle.ebc_cli.proofs.answer.ebc.Given.{Over}
 
-tells : (g : Over) (c : After-drop-reply g) → Tells (g.F.Folder.contents c.args.folder.now) (word_bytes c.args.words.now) c.match-decide.reply c.print.result
+tells : (g : Over) (c : Joined-reply g) → Tells (g.F.Folder.contents c.args.folder.now) (word_bytes c.args.words.now) c.match-decide.reply c.finish.result
 tells g c = record {
   told = elim c.match-decide.branch [
     | in-Ok w ↦ rw w.reply-is (answer-ok _ _ _ _ w.in-Ok.reply w.in-Ok.ensures.decided)
     | in-Err-Stop w ↦ rw w.reply-is (answer-stop _ _ _ _ w.in-Err-Stop.reply (rw w.in-Err-Stop.field-0-is at w.in-Err-Stop.ensures.decided))
   ];
-  same = c.print.ensures.answer;
+  same = c.finish.ensures.answer;
 }
 
+-- the reply writes nothing, or the file that the words name
+output : (g : Over) (c : Joined-reply g) → (written_name c.match-decide.reply.output ≡ None) ⊎ (written_name c.match-decide.reply.output ≡ output_of (command_of (word_bytes c.args.words.now)))
+output g c = elim c.match-decide.branch [
+  | in-Ok w ↦ rw w.reply-is w.in-Ok.ensures.reply.output
+  | in-Err-Stop w ↦ rw w.reply-is (rw w.in-Err-Stop.field-0-is at w.in-Err-Stop.ensures.stop).output
+]
+
 pub returns-clause-answer : goal.returns-clause-answer
-returns-clause-answer g c = answers _ _ _ _ _ _ (tells g c) c.print.ensures.text
+returns-clause-answer g c = answers _ _ _ _ _ _ _ (tells g c) c.finish.ensures.text (rw c.decide.ensures.contents at c.finish.ensures.files)
+
+pub returns-clause-files : goal.returns-clause-files
+returns-clause-files g c = but-output _ _ _ _ _ (output g c) c.decide.ensures.contents c.finish.ensures.others
 
 pub returns-clause-write_fault_leaves : goal.returns-clause-write_fault_leaves
-returns-clause-write_fault_leaves g c = prints-part _ _ _ _ _ _ (tells g c) c.print.ensures.part
+returns-clause-write_fault_leaves g c = leaves-part _ _ _ _ _ _ _ (tells g c) c.finish.ensures.part (rw c.decide.ensures.contents at c.finish.ensures.others)
 
 pub returns-clause-neutral_exactly : goal.returns-clause-neutral_exactly
 returns-clause-neutral_exactly g c = exactly _ _ _ _ (tells g c)
@@ -29,7 +42,16 @@ pub returns-clause-lists_always : goal.returns-clause-lists_always
 returns-clause-lists_always g c = lists-always _ _ _ _ (tells g c)
 
 pub returns-clause-lists_exactly : goal.returns-clause-lists_exactly
-returns-clause-lists_exactly g c = lists-exactly _ _ _ _ _ _ (tells g c) c.print.ensures.text
+returns-clause-lists_exactly g c = lists-exactly _ _ _ _ _ _ (tells g c) c.finish.ensures.text
+
+pub returns-clause-assembles_always : goal.returns-clause-assembles_always
+returns-clause-assembles_always g c = assembles-always _ _ _ _ (tells g c)
+
+pub returns-clause-assembles_exactly : goal.returns-clause-assembles_exactly
+returns-clause-assembles_exactly g c = assembles-exactly _ _ _ _ _ (tells g c) (rw c.decide.ensures.contents at c.finish.ensures.files)
+
+pub returns-clause-bad_source_line : goal.returns-clause-bad_source_line
+returns-clause-bad_source_line g c = bad-source-line _ _ _ _ _ _ (tells g c) c.finish.ensures.text
 
 pub returns-clause-bad_input_exactly : goal.returns-clause-bad_input_exactly
 returns-clause-bad_input_exactly g c = bad-input _ _ _ _ (tells g c)
@@ -42,3 +64,6 @@ returns-clause-plain_refused_exactly g c = plain-refused _ _ _ _ (tells g c)
 
 pub returns-clause-plain_neutral_alike : goal.returns-clause-plain_neutral_alike
 returns-clause-plain_neutral_alike g c = plain-alike _ _ _ _ (tells g c)
+
+pub returns-clause-unwritten : goal.returns-clause-unwritten
+returns-clause-unwritten g c none = c.finish.ensures.write_count (writes-none _ _ (output g c) none) ∙ c.decide.ensures.write_faults

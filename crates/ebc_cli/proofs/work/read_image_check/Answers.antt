@@ -1,5 +1,11 @@
-use Rattle.ebc_cli.proofs.ReadingsLemmas.{notes-end}
+use Rattle.std.proofs.lemmas.Result.{err_from_is_err_and}
+use Rattle.ebc_cli.proofs.ReadingsLemmas.{image-ends, notes-end}
 use Rattle.ebc_cli.proofs.work.read_image_check.Goals as goal
 
+pub returns-in_err-image-clause-follows : goal.returns-in_err-image-clause-follows
+returns-in_err-image-clause-follows g c =
+    let p = err_from_is_err_and c.from_residual.result c.from_residual.ensures.1 in
+    rw (p.1, p.2) (image-ends _ _ _ _ _ _ c.in_err-image.ensures.follows)
+
 pub returns-in-Err-clause-follows : goal.returns-in-Err-clause-follows
-returns-in-Err-clause-follows g c = notes-end _ _ _ _ _ _ _ c.in_ok-image.image c.in-Err.end c.image_in.ensures.contents c.in_ok-image.ensures.follows c.in-Err.ensures.follows
+returns-in-Err-clause-follows g c = notes-end _ _ _ _ _ _ _ c.in_ok-image.image c.in-Err.end c.read_as.ensures.contents c.in_ok-image.ensures.follows c.in-Err.ensures.follows
