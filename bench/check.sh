@@ -1,50 +1,52 @@
 #!/usr/bin/env bash
-# Times `./ebc check IMAGE NOTES` against wasm-validate (Debian's package wabt) on as many bytes of code, and prints for each
-# what both take and how many times as fast the check is. The codes are functions of four instructions of which each calls the
-# next, whose notes are longer than the code, and one function of moves. A time is that of the processor for twenty runs, the
-# least of five. The validator's is less that on a code of a few bytes, and the check's less that on the same files with a first
-# instruction that is refused: so it leaves out the start of the program and the reading of both files, which is told beside it.
-# The program is proved and built first where it isn't current.
+# Times the check of images by crates/check_bench against wasm-validate (Debian's package wabt) on as many bytes of code, and
+# prints for each code the microseconds of both, the nanoseconds that the check takes for a byte, and how many times as many
+# bytes a second it checks. The codes are functions that each call the next, whose notes are longer than their code, up to the
+# 256 KiB of code that notes may have; and one function of moves. So it shows too that the time grows as the code does.
+#
+# A check takes a 200th of what a run of 201 checks takes longer than a run of one, and a validation a 200th of what 200 runs of
+# the validator take longer on that code than on an empty module. Times are user times, each the least of five. Beside them
+# stands what check_bench takes to start and to read both files. It is proved and built first where it isn't current.
 set -eu
 top=$(CDPATH='' cd -- "$(dirname -- "${BASH_SOURCE[0]}")/.." >/dev/null && pwd -P)
-program=$top/crates/ebc/out/ebc
-TIMEFORMAT='%3U %3S'
+program=$top/crates/check_bench/out/check_bench
+TIMEFORMAT='%3U'
 
 command -v wasm-validate wat2wasm python3 >/dev/null || { echo "check.sh: needs wasm-validate, wat2wasm and python3" >&2; exit 1; }
 . "$top/scripts/program.sh"
-build ebc check /dev/null
+build check_bench data/image.efi data/image.notes
 
 work=$(mktemp -d)
 trap 'rm -rf "$work"' EXIT
+cd "$work"
 
-# Writes the image, the notes and the module of so many functions that each call the next, or of one function of so many
-# instructions, to files of that name.
+# Writes the image, the notes and the module of a code to code.efi, code.notes and code.wasm, and its size: so many functions of
+# which each calls the next and adds a number so often, or one function of so many instructions.
 make() {
-  python3 - "$1" "$2" "$work/$1.$2" <<'PYTHON'
+  python3 - "$@" <<'PYTHON'
 import struct, sys
-kind, count, name = sys.argv[1], int(sys.argv[2]), sys.argv[3]
+kind, count, adds = sys.argv[1], int(sys.argv[2]), int(sys.argv[3])
 
 def u16(n): return struct.pack('<H', n & 0xFFFF)
 def u32(n): return struct.pack('<I', n & 0xFFFFFFFF)
 def u64(n): return struct.pack('<Q', n)
 
-def sample(n):
-    code, notes, total = b'', ['version = 1', 'entry = "f0"'], n * (n - 1) // 2
+def calls(n):
+    size, results = 8 + 6 * adds, [n - 1]
+    for k in range(n - 2, -1, -1):
+        results.append(results[-1] + adds * k)
+    code, notes = b'', ['version = 1', 'entry = "f0"']
     for k in range(n):
-        place = 4096 + 14 * k
+        place, level, result = 4096 + len(code), n - 1 - k, results[n - 1 - k]
         if k < n - 1:
-            end = place + 14
-            code += b'\x83\x10' + u32(8) + b'\x77\x34' + u16(k) + b'\x4c\x47\x04\x00'
+            code += b'\x83\x10' + u32(size - 6) + (b'\x77\x34' + u16(k) + b'\x4c\x47') * adds + b'\x04\x00'
         else:
-            end = place + 6
             code += b'\x77\x37' + u16(k) + b'\x04\x00'
-        result = sum(range(k, n)) if k == 0 else result - (k - 1)
-        level = n - 1 - k
-        notes += ['[[function]]', f'name = "f{k}"', f'place = {place}', f'end = {end}', f'level = {level}',
+        notes += ['[[function]]', f'name = "f{k}"', f'place = {place}', f'end = {4096 + len(code)}', f'level = {level}',
                   f'need = [0, {16 * level}]', f'result = "int:{result}..{result}"']
     return code, notes
 
-def line(n):
+def moves(n):
     code = b'\x77\x34\x05\x00' * (n - 1) + b'\x04\x00'
     return code, ['version = 1', 'entry = "main"', '[[function]]', 'name = "main"', 'place = 4096',
                   f'end = {4096 + len(code)}', 'level = 0', 'need = [0, 0]', 'result = "any"']
@@ -68,55 +70,53 @@ def image(code):
     return (head + pe + bytes(optional) + section).ljust(512, b'\0') + code.ljust(raw, b'\0')
 
 def module(size):
-    if kind == 'line':
+    if kind == 'moves':
         body = ['i32.const 5 local.set 0'] * (size // 4)
         return '(module (func (local i32)\n' + '\n'.join(body) + '))'
-    functions, used, k = [], 0, 0
+    functions, used = [], 0
     while used < size:
-        functions.append(f'(func (result i64) call {k + 1} i64.const {k} i64.add)')
-        used += 9 if k < 128 else 11
-        k += 1
-    return '(module\n' + '\n'.join(functions) + f'\n(func (result i64) i64.const {k}))'
+        k = len(functions)
+        functions.append(f'(func (result i64) call {k + 1}' + f' i64.const {k} i64.add' * adds + ')')
+        used += (6 if k < 127 else 7) + (3 if k < 64 else 4) * adds
+    return '(module\n' + '\n'.join(functions) + f'\n(func (result i64) i64.const {len(functions)}))'
 
-code, notes = sample(count) if kind == 'sample' else line(count)
-open(name + '.efi', 'wb').write(image(code))
-open(name + '.bad', 'wb').write(image(b'\x27' + code[1:]))
-open(name + '.notes', 'w').write('\n'.join(notes) + '\n')
-open(name + '.wat', 'w').write(module(len(code)))
-open(name + '.size', 'w').write(str(len(code)))
+code, notes = calls(count) if kind == 'calls' else moves(count)
+open('code.efi', 'wb').write(image(code))
+open('code.notes', 'w').write('\n'.join(notes) + '\n')
+open('code.wat', 'w').write(module(len(code)))
+print(len(code))
 PYTHON
-  wat2wasm "$work/$1.$2.wat" -o "$work/$1.$2.wasm"
+  wat2wasm code.wat -o code.wasm
 }
 
 # Milliseconds of the processor that a command takes, the least of five runs.
 least() {
-  local least=-1 user system took
+  local least=-1 took
   for _ in 1 2 3 4 5; do
-    read -r user system < <({ time "$@" >/dev/null; } 2>&1)
-    took=$((10#${user/./} + 10#${system/./}))
+    took=$({ time "$@" >/dev/null; } 2>&1)
+    took=$((10#${took/./}))
     if [ "$least" -lt 0 ] || [ "$took" -lt "$least" ]; then least=$took; fi
   done
   echo "$least"
 }
 
-# Twenty runs of a command.
-twenty() { for ((run = 0; run < 20; run++)); do "$@" || true; done; }
+# So many runs of a command.
+runs() { for ((run = 0; run < $1; run++)); do "${@:2}"; done; }
 
-# Microseconds that one run takes on such a code, less what it takes on a small one.
-each() {
-  echo $((($(least twenty "${@:2}") - $1) * 1000 / 20))
-}
+# A number of hundredths as a decimal.
+decimal() { printf '%d.%02d' $(($1 / 100)) $(($1 % 100)); }
 
-cd "$work"
-for kind in sample line; do
-  make "$kind" 16
-  validated=$(least twenty wasm-validate "$kind.16.wasm")
-  for count in $([ "$kind" = sample ] && echo 1024 2048 4096 || echo 16384 32768 65536); do
-    make "$kind" "$count"
-    name=$kind.$count
-    read_in=$(least twenty "$program" check "$name.bad" "$name.notes")
-    checking=$(each "$read_in" "$program" check "$name.efi" "$name.notes")
-    validating=$(each "$validated" wasm-validate "$name.wasm")
-    echo "$kind $count: $(cat "$name.size") bytes, read in $((read_in * 50)) us, the check $checking us, wasm-validate $validating us, $((100 * validating / (checking + 1)))/100 times as fast"
-  done
+echo '(module)' >empty.wat
+wat2wasm empty.wat -o empty.wasm
+empty=$(least runs 200 wasm-validate empty.wasm)
+for code in 'calls 1024 1' 'calls 2048 1' 'calls 4096 1' 'calls 4096 9' 'moves 16384 0' 'moves 32768 0' 'moves 65536 0'; do
+  size=$(make $code)
+  [ "$("$program" code.efi code.notes)" = Neutral ] || { echo "check.sh: $code is not neutral" >&2; exit 1; }
+  wasm-validate code.wasm
+  once=$(($(least runs 20 "$program" code.efi code.notes) * 50))
+  checks=$(least "$program" code.efi code.notes 201)
+  checking=$(((1000 * checks - once) / 200))
+  validating=$((($(least runs 200 wasm-validate code.wasm) - empty) * 5))
+  echo "$code: $size bytes, check $checking us, $(decimal $((100000 * checking / size))) ns a byte, wasm-validate $validating us:" \
+    "$(decimal $((100 * validating / checking))) times as fast; start and reading $((once - checking)) us"
 done

@@ -17,8 +17,8 @@ use Rattle.note_types.specs.declared.shape.Shape.{Shape}
 use Rattle.pe_image.specs.Images.{IsImage}
 use Rattle.pe_image.specs.declared.image.Image.{Image}
 use Rattle.rules_data.specs.Images.{IsBlank, IsLinked, IsStaticAt, IsUnrelocated, IsZero, RelocatesPointers, extent, field_place, named_place}
-use Rattle.width_checker.proofs.RangesLemmas.{number_of, relocs_ascend, same_number}
-use Rattle.width_checker.proofs.Relocs.{contains_at}
+use Rattle.width_checker.proofs.RangesLemmas.{same_number}
+use Rattle.width_checker.proofs.Relocs.{contains_at, relocs_ascend, there_at}
 use Rattle.width_checker.specs.Contents.{HasPointer, MayAllBeZero, RelocatesBelow, is_pointer_at, is_static_of, is_wide_pointer}
 use Rattle.width_checker.specs.Walks.{RelocsFrom}
 
@@ -156,11 +156,11 @@ module _ (image : Image) (x : Static) (s : Shape) where
       (cases_lt k n)
 
   pub relocates_all : (n : ℕ) → length image.relocs ≤ n → RelocatesBelow image x s n → RelocatesPointers image x s
-  relocates_all n past below r c t = let l : c.0 < length image.relocs = c.1 in below c.0 r (omega arith) (number_of image.relocs r c) t
+  relocates_all n past below r c t = let l : c.0 < length image.relocs = c.1 in below c.0 r (omega arith) (there_at image.relocs r c) t
 
   pub relocates_past : IsImage image → (n q : ℕ) → slice_get image.relocs n ≡ Some q → x.place + extent x s ≤ q → RelocatesBelow image x s n → RelocatesPointers image x s
   relocates_past sound n q there past below r c t =
-      let here : slice_get image.relocs c.0 ≡ Some r = number_of image.relocs r c in
+      let here : slice_get image.relocs c.0 ≡ Some r = there_at image.relocs r c in
       ⊎_elim (λ before. below c.0 r before here t)
       (λ from_n. ⊎_elim (λ more. absurd (let rise = relocs_ascend image sound n c.0 q r more there here in omega (arith, t.0)))
       (λ back. absurd (let e : n ≡ c.0 = omega arith in let same : q ≡ r = same_number image.relocs n c.0 q r e there here in omega (arith, t.0)))

@@ -12,7 +12,7 @@ use Rattle.pe_image.specs.Mapped.{has_place, laid, section_byte}
 use Rattle.pe_image.specs.declared.image.Image.{Image}
 use Rattle.pe_image.specs.declared.image.Section.{Section}
 use Rattle.rules_data.specs.Images.{IsUnrelocated, IsZero, image_byte}
-use Rattle.width_checker.proofs.Relocs.{contains_at}
+use Rattle.width_checker.proofs.Relocs.{contains_at, relocs_ascend, there_at}
 use Rattle.width_checker.proofs.Sections.{byte_of}
 use Rattle.width_checker.specs.Contents.{AreZeroIn, HasNoReloc, IsFirstReloc}
 use Rattle.width_checker.specs.Walks.{RelocsFrom}
@@ -27,25 +27,14 @@ fails {P} never = (λ e. absurd (let bad : false ≡ true = e in cc), λ p. absu
 
 -- ---- relocations
 
-pub number_of : (xs : List ℕ) (r : ℕ) (c : Contains xs r) → slice_get xs c.0 ≡ Some r
-number_of xs r c = slice_get-get_or xs c.0 r c.1 ∙ ap (λ x. Some x) c.2
-
-pub relocs_ascend : (image : Image) → IsImage image → (j k r q : ℕ) → j < k → slice_get image.relocs j ≡ Some r → slice_get image.relocs k ≡ Some q → r + 8 ≤ q
-relocs_ascend image sound j k r q less there here =
-    let inside : k < length image.relocs = slice_get_within image.relocs k q here in
-    let rise = sound.apart j k 0 less inside in
-    let a : get_or image.relocs j 0 ≡ r = get_or_from_slice_get image.relocs j r 0 there in
-    let b : get_or image.relocs k 0 ≡ q = get_or_from_slice_get image.relocs k q 0 here in
-    omega arith
-
 pub same_number : (xs : List ℕ) (j k r q : ℕ) → j ≡ k → slice_get xs j ≡ Some r → slice_get xs k ≡ Some q → r ≡ q
 same_number xs j k r q e there here = same_Some r q (sym there ∙ ap (slice_get xs) e ∙ here)
 
 -- two relocations don't overlap
 pub relocs_apart : (image : Image) → IsImage image → (r q : ℕ) → Contains image.relocs r → Contains image.relocs q → r < q → r + 8 ≤ q
 relocs_apart image sound r q c d less =
-    let there : slice_get image.relocs c.0 ≡ Some r = number_of image.relocs r c in
-    let here : slice_get image.relocs d.0 ≡ Some q = number_of image.relocs q d in
+    let there : slice_get image.relocs c.0 ≡ Some r = there_at image.relocs r c in
+    let here : slice_get image.relocs d.0 ≡ Some q = there_at image.relocs q d in
     ⊎_elim (λ before. relocs_ascend image sound c.0 d.0 r q before there here)
     (λ back. ⊎_elim (λ after. absurd (let rise = relocs_ascend image sound d.0 c.0 q r after here there in omega arith))
     (λ up. absurd (let e : c.0 ≡ d.0 = omega arith in let same : r ≡ q = same_number image.relocs c.0 d.0 r q e there here in omega arith))
@@ -57,7 +46,7 @@ first_some image sound from n r parted there = record {
   there = contains_at image.relocs n r there;
   late = (parted n r there).1 (omega arith);
   first = λ q c late.
-      let here : slice_get image.relocs c.0 ≡ Some q = number_of image.relocs q c in
+      let here : slice_get image.relocs c.0 ≡ Some q = there_at image.relocs q c in
       ⊎_elim (λ before. absurd (let h = (parted c.0 q here).0 before in omega arith))
       (λ from_n. ⊎_elim (λ more. let rise = relocs_ascend image sound n c.0 r q more there here in omega arith)
       (λ back. let e : n ≡ c.0 = omega arith in let same : r ≡ q = same_number image.relocs n c.0 r q e there here in omega arith)
@@ -67,7 +56,7 @@ first_some image sound from n r parted there = record {
 
 first_none : (image : Image) (from n : ℕ) → RelocsFrom image from n → slice_get image.relocs n ≡ None → HasNoReloc image from
 first_none image from n parted none q c =
-    let here : slice_get image.relocs c.0 ≡ Some q = number_of image.relocs q c in
+    let here : slice_get image.relocs c.0 ≡ Some q = there_at image.relocs q c in
     ⊎_elim (λ before. (parted c.0 q here).0 before)
     (λ from_n.
     let l : c.0 < length image.relocs = c.1 in

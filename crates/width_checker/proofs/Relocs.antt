@@ -15,15 +15,17 @@ use Rattle.rules_data.specs.Images.{IsUnrelocated, RelocationHolds, is_absolute,
 use Rattle.width_checker.specs.Rows.{reloc_at}
 use Rattle.width_checker.specs.Walks.{NamesAt, RelocsFrom}
 
-relocs_rise : (image : Image) → IsImage image → (j k r q : ℕ) → j < k → slice_get image.relocs j ≡ Some r → slice_get image.relocs k ≡ Some q → r + 8 ≤ q
-relocs_rise image sound j k r q less there here =
+-- a relocation begins at the end of those before it, or later
+pub relocs_ascend : (image : Image) → IsImage image → (j k r q : ℕ) → j < k → slice_get image.relocs j ≡ Some r → slice_get image.relocs k ≡ Some q → r + 8 ≤ q
+relocs_ascend image sound j k r q less there here =
     let inside : k < length image.relocs = slice_get_within image.relocs k q here in
     let rise = sound.apart j k 0 less inside in
     let a : get_or image.relocs j 0 ≡ r = get_or_from_slice_get image.relocs j r 0 there in
     let b : get_or image.relocs k 0 ≡ q = get_or_from_slice_get image.relocs k q 0 here in
     omega arith
 
-there_at : (xs : List ℕ) (r : ℕ) (c : Contains xs r) → slice_get xs c.0 ≡ Some r
+-- the relocation that a list has, at its number
+pub there_at : (xs : List ℕ) (r : ℕ) (c : Contains xs r) → slice_get xs c.0 ≡ Some r
 there_at xs r c = slice_get-get_or xs c.0 r c.1 ∙ ap (λ x. Some x) c.2
 
 pub contains_at : (xs : List ℕ) (k r : ℕ) → slice_get xs k ≡ Some r → Contains xs r
@@ -70,7 +72,7 @@ module _ (image : Image) (sound : IsImage image) (at next n : ℕ) (from : Reloc
       let q : ℕ = get_or image.relocs n r in
       let here : slice_get image.relocs n ≡ Some q = slice_get-get_or image.relocs n r inside in
       let high = none q here in
-      let rise = relocs_rise image sound n c.0 q r more here there in
+      let rise = relocs_ascend image sound n c.0 q r more here there in
       absurd (omega (arith, t.0)))
       (λ back. let same : c.0 ≡ n = omega arith in let high = none r (subst (λ k. slice_get image.relocs k ≡ Some r) same there) in absurd (omega (arith, t.0)))
       (cases_lt n c.0)
@@ -139,7 +141,7 @@ module _ (image : Image) (sound : IsImage image) (at next n : ℕ) (from : Reloc
           only q c t =
               let here : slice_get image.relocs c.0 ≡ Some q = there_at image.relocs q c in
               let low = first_touched c.0 q here t in
-              ⊎_elim (λ more. absurd (let rise = relocs_rise image sound n c.0 r q more there here in omega (arith, t.0)))
+              ⊎_elim (λ more. absurd (let rise = relocs_ascend image sound n c.0 r q more there here in omega (arith, t.0)))
               (λ back. let same : c.0 ≡ n = omega arith in
               let one : q ≡ r = same_Some q r (sym (subst (λ k. slice_get image.relocs k ≡ Some q) same here) ∙ there) in (omega arith, form))
               (cases_lt n c.0)
@@ -156,7 +158,7 @@ module _ (image : Image) (sound : IsImage image) (at next n : ℕ) (from : Reloc
     λ before. ⊎_elim (λ below. let h = (from k q here).0 below in omega arith)
         (λ above. let e : k ≡ n = omega arith in let one : q ≡ r = same_Some q r (sym (subst (λ j. slice_get image.relocs j ≡ Some q) e here) ∙ there) in omega arith)
         (cases_lt k n),
-    λ above. let rise = relocs_rise image sound n k r q (omega arith) there here in omega arith,
+    λ above. let rise = relocs_ascend image sound n k r q (omega arith) there here in omega arith,
   )
 
   pub mark_same : NoneTouched → RelocsFrom image next n
@@ -167,7 +169,7 @@ module _ (image : Image) (sound : IsImage image) (at next n : ℕ) (from : Reloc
         let p : ℕ = get_or image.relocs n q in
         let there : slice_get image.relocs n ≡ Some p = slice_get-get_or image.relocs n q inside in
         let high = none p there in
-        let rise = relocs_rise image sound n k p q more there here in omega arith)
+        let rise = relocs_ascend image sound n k p q more there here in omega arith)
         (λ back. let e : k ≡ n = omega arith in let high = none q (subst (λ j. slice_get image.relocs j ≡ Some q) e here) in omega arith)
         (cases_lt n k),
   )

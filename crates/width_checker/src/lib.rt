@@ -8,6 +8,7 @@ mod apart;
 mod bytes;
 mod checker;
 mod content;
+mod entry;
 mod marks;
 mod plain;
 mod ranges;

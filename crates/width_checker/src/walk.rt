@@ -1,4 +1,4 @@
-//! The walk through the code: one pass over each function, with one state and one for the jumps taken.
+//! The walk through the code: one pass over all functions, with one state and one for the jumps taken.
 
 ghost use Rattle.std.specs.Prelude.{◌≡◌, ◌+◌, ◌<◌, ◌≤◌, ◌↔◌, ◌^◌, ℕ, IfErr, IfOk, IsTrue, OnOk, Some, length, slice_get};
 ghost use Rattle.note_types.specs.Records.{Ascends, IsNotes};
@@ -11,6 +11,7 @@ ghost use Rattle.width_checker.specs.Typed.{IsBelowPoint, LeadsBelow, MeetsRules
 ghost use Rattle.width_checker.specs.Verdicts.{FailsAt, RefusesInsn};
 ghost use Rattle.width_checker.specs.Walks.{Arrives, FailsIn, FunctionsMeet, IsCodeOf, Passes, PointsFrom, StandsAt};
 
+use crate::entry::enter;
 use crate::marks::{Marks, first_point, first_reloc};
 use crate::refusal::Refusal;
 use crate::relocation::{ends_within, past, relocation};
@@ -185,12 +186,13 @@ fn step(
     Ok(next)
 }
 
-// Goes through function `func`, with a state to write for the jumps taken, whatever it holds.
+// Goes through function `func`, with a state to keep and one to write for the jumps taken, whatever they hold.
 fn check_function(
     image: &Image,
     notes: &Notes,
     func: u32,
     f: &FnNote,
+    state: &mut State,
     taken: &mut State,
 ) -> Result<(), Refusal>
     requires image { IsImage image.now }
@@ -201,7 +203,7 @@ fn check_function(
     ensures fails { IfErr result (FailsIn image.now notes.now func f.now) }
 {
     let code = code_of(image, f);
-    let mut state = entry_state(notes, func);
+    enter(notes, func, state);
     let mut marks = Marks {
         point: first_point(notes, f.place),
         reloc: first_reloc(image, f.place),
@@ -210,7 +212,7 @@ fn check_function(
     let mut at = f.place;
     while at < f.end {
         match step(
-            image, notes, func, f, code, at, &mut marks, &mut state, taken,
+            image, notes, func, f, code, at, &mut marks, state, taken,
         ) {
             Ok(next) => at = next,
             Err(rule) => return Err(Refusal { place: at, rule }),
@@ -228,9 +230,10 @@ fn check_each(image: &Image, notes: &Notes, functions: &[FnNote]) -> Result<(), 
     ensures holds { OnOk result (FunctionsMeet image.now notes.now (length functions.now)) }
     ensures fails { IfErr result (λ r. RefusesInsn image.now notes.now r.place r.rule) }
 {
-    let mut taken = entry_state(notes, notes.entry);
+    let mut state = entry_state(notes, notes.entry);
+    let mut taken = state.copy();
     for (func, f) in functions.iter().enumerate() {
-        match check_function(image, notes, func as u32, f, &mut taken) {
+        match check_function(image, notes, func as u32, f, &mut state, &mut taken) {
             Ok(()) => {}
             Err(refusal) => return Err(refusal),
         }

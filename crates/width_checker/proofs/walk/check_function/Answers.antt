@@ -4,7 +4,7 @@ use Rattle.width_checker.proofs.walk.check_function.Goals as goal
 
 pub loop-at-init : goal.loop-at-init
 loop-at-init c =
-    walked_start c.args.image.now c.args.notes.now c.args.func c.args.f.now c.first_point.result c.first_reloc.result c.entry_state-state.result c.requires.holds.range c.first_point.ensures c.first_reloc.ensures c.entry_state-state.ensures.value
+    walked_start c.args.image.now c.args.notes.now c.args.func c.args.f.now c.first_point.result c.first_reloc.result c.enter.new.state c.requires.holds.range c.first_point.ensures c.first_reloc.ensures c.enter.ensures
 
 pub loop-at-preserved : goal.loop-at-preserved
 loop-at-preserved c =
