@@ -14,7 +14,7 @@ TIMEFORMAT='%3U'
 
 command -v wasm-validate wat2wasm python3 >/dev/null || { echo "check.sh: needs wasm-validate, wat2wasm and python3" >&2; exit 1; }
 . "$top/scripts/program.sh"
-build check_bench data/image.efi data/image.notes
+build check_bench image.efi image.notes
 
 work=$(mktemp -d)
 trap 'rm -rf "$work"' EXIT

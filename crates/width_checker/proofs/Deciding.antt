@@ -12,7 +12,7 @@ use Rattle.note_types.specs.declared.rule.RuleName.TheVariants as rule
 use Rattle.pe_image.specs.declared.image.Image.{Image}
 use Rattle.rules_base.specs.FirstRule.{IsFirst}
 use Rattle.rules_base.specs.Outcomes.{number_of_rule}
-use Rattle.rules_data.specs.Images.{FunctionHolds, IsFunction}
+use Rattle.rules_data.specs.Images.{FunctionHolds}
 use Rattle.width_checker.specs.declared.verdict.Verdict.{Verdict}
 use Rattle.width_checker.specs.declared.verdict.Verdict.TheVariants.{Neutral, Refused}
 use Rattle.width_checker.specs.Places.{IsPlaceOf, Leads}

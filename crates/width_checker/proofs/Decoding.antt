@@ -1,8 +1,6 @@
 -- The instruction at a place is one: what is read of a function's bytes there.
-use Rattle.std.proofs.Common.{◌≡◌, ℕ, zero, suc, ◌+◌, ◌-◌, ◌<◌, ◌≤◌, List, [], ◌∷◌, ◌++◌, length, get_or, take, drop, refl, sym, ap, subst, ◌∙◌, inl, inr, ⊎_elim, arith, length-append, length-drop}
-use Rattle.std.specs.Prelude.{slice_index, Ok, Err}
-use Rattle.std.proofs.lemmas.Bool.{cases_lt}
-use Rattle.std.proofs.lemmas.List.{ext_get_or, get_or-drop, take-append-drop, length-take}
+use Rattle.std.proofs.Common.{◌≡◌, ℕ, zero, suc, ◌+◌, ◌-◌, ◌<◌, ◌≤◌, List, ◌∷◌, ◌++◌, length, take, drop, refl, sym, ap, ◌∙◌, arith, length-drop}
+use Rattle.std.proofs.lemmas.List.{ext_get_or, get_or-drop}
 use Rattle.ebc_width.specs.Bytes.{window}
 use Rattle.ebc_width.proofs.ByteLaws.{get_or-window, length-window}
 use Rattle.ebc_insn.specs.declared.Insn.{Insn}

@@ -1,18 +1,17 @@
 -- Ranges that share no byte, and what the sorted order of all things shows.
-use Rattle.std.proofs.Common.{◌≡◌, ℕ, ◌+◌, ◌-◌, ◌*◌, ◌^◌, ◌<◌, ◌≤◌, ◌⊎◌, ◌↔◌, true, false, List, length, get_or, min, refl, sym, ap, subst, ◌∙◌, inl, inr, ⊎_elim, arith}
-use Rattle.std.specs.Prelude.{IsTrue, Some, slice_get, slice_index}
+use Rattle.std.proofs.Common.{◌≡◌, ℕ, ◌+◌, ◌-◌, ◌^◌, ◌<◌, ◌≤◌, ◌↔◌, true, false, List, length, get_or, min, refl, sym, ap, subst, ◌∙◌, inl, inr, ⊎_elim, arith}
+use Rattle.std.specs.Prelude.{IsTrue, Some, slice_get}
 use Rattle.std.specs.List.{Contains}
 use Rattle.std.specs.List.Sorted.{IsPermutation}
 use Rattle.std.proofs.lemmas.Bool.{cases_lt}
 use Rattle.std.proofs.lemmas.List.{get_or_default}
 use Rattle.std.proofs.lemmas.List.Sorted.{Contains-permutation}
-use Rattle.std.proofs.lemmas.Option.{same_Some, slice_get_within}
-use Rattle.note_types.specs.declared.notes.FnNote.{FnNote}
+use Rattle.std.proofs.lemmas.Option.{slice_get_within}
 use Rattle.note_types.specs.declared.notes.Notes.{Notes}
 use Rattle.note_types.specs.declared.notes.Static.{Static}
 use Rattle.note_types.specs.declared.notes.Thunk.{Thunk}
 use Rattle.note_types.specs.declared.shape.Shape.{Shape}
-use Rattle.rules_data.specs.Images.{AreApart, extent}
+use Rattle.rules_data.specs.Images.{extent}
 use Rattle.width_checker.specs.Checks.{AreAllApart, AreInTurn, AreNumbered, IsRangeOf, IsStaticApart, IsThing, IsThunkApart, of_function, of_static, of_thunk, things}
 
 -- ---- answers of tests

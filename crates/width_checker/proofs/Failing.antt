@@ -1,5 +1,5 @@
 -- Which rule is the first that fails at a place, by what was found there.
-use Rattle.std.proofs.Common.{◌≡◌, ℕ, ◌≤◌, refl, sym, ap, subst, ◌∙◌, arith}
+use Rattle.std.proofs.Common.{◌≡◌, ℕ, ◌≤◌, refl, sym, ap, subst, arith}
 use Rattle.std.specs.Prelude.{Ok, Err}
 use Rattle.ebc_insn.specs.declared.Insn.{Insn}
 use Rattle.note_types.specs.declared.notes.FnNote.{FnNote}
@@ -15,7 +15,7 @@ use Rattle.rules_flow.specs.declared.successors.Successors.{Successors}
 use Rattle.width_checker.specs.Places.{StateAt}
 use Rattle.width_checker.specs.Rows.{here_at, reloc_at, row_of}
 use Rattle.width_checker.specs.Typed.{BelowHolds, MeetsRules}
-use Rattle.width_checker.specs.Verdicts.{FailsAt, HasState, IsInsn, fails_below, fails_decode, fails_end, fails_point, fails_relocation, fails_row, fails_state}
+use Rattle.width_checker.specs.Verdicts.{FailsAt, HasState, fails_below, fails_decode, fails_end, fails_point, fails_relocation, fails_row, fails_state}
 use Rattle.width_checker.proofs.Decoding.{decoded_once}
 use Rattle.width_checker.proofs.Leading.{OnePoint, state_one}
 

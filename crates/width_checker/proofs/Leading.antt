@@ -1,6 +1,6 @@
 -- The places of a function rise, and the state before each is one.
-use Rattle.std.proofs.Common.{◌≡◌, ℕ, zero, suc, ◌+◌, ◌<◌, ◌≤◌, ◌⊎◌, length, refl, sym, ap, subst, ◌∙◌, inl, inr, ⊎_elim, arith}
-use Rattle.std.specs.Prelude.{Option, Some, None, Ok, Err, slice_get}
+use Rattle.std.proofs.Common.{◌≡◌, ℕ, zero, suc, ◌<◌, ◌≤◌, ◌⊎◌, length, refl, sym, ap, subst, ◌∙◌, inl, inr, ⊎_elim, arith}
+use Rattle.std.specs.Prelude.{Option, Ok}
 use Rattle.std.proofs.lemmas.Bool.{cases_lt}
 use Rattle.std.proofs.lemmas.Option.{same_Some}
 use Rattle.ebc_insn.specs.declared.Insn.{Insn}
@@ -9,11 +9,10 @@ use Rattle.note_types.specs.declared.notes.FnNote.{FnNote}
 use Rattle.note_types.specs.declared.notes.Notes.{Notes}
 use Rattle.note_types.specs.declared.notes.Point.{Point}
 use Rattle.note_types.specs.declared.state.State.{State}
-use Rattle.note_types.specs.Notes.{entry_state}
 use Rattle.pe_image.specs.declared.image.Image.{Image}
 use Rattle.rules_data.specs.Images.{IsDecoded}
 use Rattle.rules_flow.specs.declared.successors.Successors.{Successors}
-use Rattle.width_checker.specs.Places.{Comes, IsBefore, IsNext, IsPointAt, Leads, StateAt, of_fall, of_point}
+use Rattle.width_checker.specs.Places.{Comes, IsBefore, IsPointAt, Leads, StateAt, of_fall, of_point}
 use Rattle.width_checker.specs.Rows.{here_at, row_of}
 use Rattle.width_checker.proofs.Decoding.{decoded_once}
 

@@ -1,5 +1,5 @@
 -- Numbers read from the bytes of an image, one at a time.
-use Rattle.std.proofs.Common.{◌≡◌, ℕ, ◌+◌, ◌-◌, ◌%◌, ◌^◌, ◌<◌, List, [], ◌∷◌, ap, arith}
+use Rattle.std.proofs.Common.{◌≡◌, ℕ, ◌+◌, [], ◌∷◌, ap, arith}
 use Rattle.std.specs.Int.{w64, from_le_bytes}
 use Rattle.ebc_width.specs.Bytes.{little_endian}
 

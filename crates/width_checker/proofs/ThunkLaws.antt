@@ -1,5 +1,5 @@
 -- The rule of thunk cells, from its parts.
-use Rattle.std.proofs.Common.{◌≡◌, ℕ, ◌+◌, ◌≤◌, [], ◌∷◌, List, ap, arith}
+use Rattle.std.proofs.Common.{◌≡◌, ℕ, ◌+◌, ◌≤◌, [], ◌∷◌, ap, arith}
 use Rattle.std.specs.Int.{w32, from_le_bytes}
 use Rattle.ebc_width.specs.Bytes.{little_endian}
 use Rattle.note_types.specs.declared.notes.Notes.{Notes}

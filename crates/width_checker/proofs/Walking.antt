@@ -1,5 +1,5 @@
 -- The walk through a function: what holds where the checker stands, and after an instruction.
-use Rattle.std.proofs.Common.{◌≡◌, ℕ, zero, suc, ◌+◌, ◌<◌, ◌≤◌, ◌↔◌, length, refl, sym, ap, subst, ◌∙◌, inl, inr, ⊎_elim, arith}
+use Rattle.std.proofs.Common.{◌≡◌, ℕ, zero, suc, ◌+◌, ◌<◌, ◌≤◌, ◌↔◌, length, refl, sym, ap, subst, ◌∙◌, ⊎_elim, arith}
 use Rattle.std.specs.Prelude.{Bool, true, false, IsTrue, Option, None, Some, Ok, Err, slice_get}
 use Rattle.std.proofs.lemmas.Bool.{cases_lt}
 use Rattle.std.proofs.lemmas.Option.{none-some, same_Some, slice_get_within, some_pair_parts}
@@ -13,13 +13,13 @@ use Rattle.note_types.specs.declared.rule.RuleName.{RuleName}
 use Rattle.rules_base.specs.declared.here.Here.{Here}
 use Rattle.rules_base.specs.FirstRule.{IsFirst}
 use Rattle.rules_base.specs.Outcomes.{Gives, gives_map}
-use Rattle.rules_data.specs.Images.{EndHolds, FunctionHolds, IsDecoded, IsFunction, PointHolds, RelocationHolds}
+use Rattle.rules_data.specs.Images.{IsDecoded, IsFunction}
 use Rattle.rules_flow.specs.declared.successors.Successors.{Successors}
 use Rattle.width_checker.specs.declared.marks.Marks.{Marks}
 use Rattle.width_checker.specs.declared.row.Path.{Path}
 use Rattle.width_checker.specs.declared.row.Path.TheVariants as path
 use Rattle.width_checker.specs.Paths.{come_of, does_fall, successors_from}
-use Rattle.width_checker.specs.Places.{Comes, Falls, IsBefore, IsPlaceOf, Leads, StateAt}
+use Rattle.width_checker.specs.Places.{Comes, IsBefore, IsPlaceOf, Leads, StateAt}
 use Rattle.width_checker.specs.Rows.{here_at, reloc_at, row_of}
 use Rattle.width_checker.specs.Typed.{BelowHolds, EntryBelow, IsBelowPoint, LeadsBelow, MeetsRules, TablesHold, Typed}
 use Rattle.width_checker.specs.Verdicts.{FailsAt, HasState, RefusesInsn}

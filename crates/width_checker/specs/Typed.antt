@@ -8,7 +8,6 @@ use Rattle.note_types.specs.declared.notes.Notes.{Notes}
 use Rattle.note_types.specs.declared.notes.Point.{Point}
 use Rattle.note_types.specs.declared.state.State.{State}
 use Rattle.pe_image.specs.declared.image.Image.{Image}
-use Rattle.rules_base.specs.declared.here.Here.{Here}
 use Rattle.rules_data.specs.Images.{EndHolds, FunctionHolds, IsDecoded, PointHolds, RelocationHolds, ShapeHolds, StaticHolds, ThunkHolds}
 use Rattle.rules_flow.specs.declared.successors.Successors.{Successors}
 use Rattle.width_checker.specs.Places.{IsPlaceOf, IsPointAt, StateAt}

@@ -8,7 +8,6 @@ use Rattle.note_types.specs.declared.notes.Static.{Static}
 use Rattle.note_types.specs.declared.notes.Thunk.{Thunk}
 use Rattle.note_types.specs.declared.rule.RuleName.{RuleName}
 use Rattle.note_types.specs.declared.rule.RuleName.TheVariants as rule
-use Rattle.note_types.specs.declared.shape.Shape.{Shape}
 use Rattle.note_types.specs.declared.state.State.{State}
 use Rattle.pe_image.specs.declared.image.Image.{Image}
 use Rattle.rules_base.specs.FirstRule.{IsFirst}

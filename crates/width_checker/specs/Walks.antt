@@ -1,5 +1,5 @@
 -- How the checker goes through sorted lists and through a function's code, each by the place where it stands.
-use Rattle.std.specs.Prelude.{◌≡◌, ◌↔◌, ℕ, ◌+◌, ◌-◌, ◌<◌, ◌≤◌, Bool, true, List, Option, Some, length, slice_get, slice_index, is_some, pos}
+use Rattle.std.specs.Prelude.{◌≡◌, ◌↔◌, ℕ, ◌+◌, ◌-◌, ◌<◌, ◌≤◌, true, List, Option, Some, length, slice_get, slice_index, is_some, pos}
 use Rattle.std.specs.List.{find}
 use Rattle.ebc_insn.specs.declared.Insn.{Insn}
 use Rattle.note_types.specs.declared.notes.FnNote.{FnNote}

@@ -211,9 +211,7 @@ fn check_function(
     };
     let mut at = f.place;
     while at < f.end {
-        match step(
-            image, notes, func, f, code, at, &mut marks, state, taken,
-        ) {
+        match step(image, notes, func, f, code, at, &mut marks, state, taken) {
             Ok(next) => at = next,
             Err(rule) => return Err(Refusal { place: at, rule }),
         }

@@ -1,4 +1,4 @@
-use Rattle.std.proofs.Common.{◌≡◌, ◌+◌, ◌<◌, ◌≤◌, ◌^◌, arith, subst, sym}
+use Rattle.std.proofs.Common.{◌+◌, ◌≤◌, arith, subst, sym}
 use Rattle.width_checker.proofs.Disjoint.{ReachTo, reach_more, turn_more}
 use Rattle.width_checker.proofs.apart.are_in_turn.Goals as goal
 

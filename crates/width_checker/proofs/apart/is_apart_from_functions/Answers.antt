@@ -1,4 +1,4 @@
-use Rattle.std.proofs.Common.{◌≡◌, ◌-◌, arith}
+use Rattle.std.proofs.Common.{◌-◌, arith}
 use Rattle.note_types.specs.declared.notes.FnNote.{FnNote}
 use Rattle.rules_data.specs.Images.{AreApart}
 use Rattle.width_checker.proofs.Disjoint.{refuted, shown}

@@ -1,4 +1,4 @@
-use Rattle.std.proofs.Common.{◌≡◌, ◌+◌, ◌≤◌, arith, subst, sym}
+use Rattle.std.proofs.Common.{◌+◌, ◌≤◌, arith, subst, sym}
 use Rattle.std.proofs.lemmas.Option.{get_or_from_slice_get, slice_get_within}
 use Rattle.rules_data.specs.Images.{extent}
 use Rattle.width_checker.specs.Checks.{IsStaticApart}

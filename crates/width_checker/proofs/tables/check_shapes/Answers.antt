@@ -1,8 +1,6 @@
-use Rattle.std.proofs.Common.{◌≡◌, List, length, subst, sym}
-use Rattle.note_types.specs.declared.shape.Shape.{Shape}
+use Rattle.std.proofs.Common.{subst, sym}
 use Rattle.note_types.proofs.RecordLaws.{fields_few}
-use Rattle.width_checker.specs.Tables.{AreSmall, FitsAt}
-use Rattle.width_checker.specs.Verdicts.{IsFirstFailing}
+use Rattle.width_checker.specs.Tables.{AreSmall}
 use Rattle.width_checker.proofs.tables.check_shapes.Goals as goal
 
 pub first_unfit-requires : goal.first_unfit-requires

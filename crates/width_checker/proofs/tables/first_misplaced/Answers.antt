@@ -1,4 +1,4 @@
-use Rattle.std.proofs.Common.{◌≡◌, ℕ, List, arith, subst}
+use Rattle.std.proofs.Common.{ℕ, List, arith, subst}
 use Rattle.note_types.specs.declared.notes.FnNote.{FnNote}
 use Rattle.rules_data.specs.Images.{IsFunction}
 use Rattle.width_checker.specs.Verdicts.{IsFirstFailing}

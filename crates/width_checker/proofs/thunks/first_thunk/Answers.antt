@@ -1,4 +1,4 @@
-use Rattle.std.proofs.Common.{◌≡◌, ◌<◌, ℕ, List, length, get_or, arith, subst}
+use Rattle.std.proofs.Common.{◌<◌, ℕ, List, length, get_or, arith, subst}
 use Rattle.std.proofs.lemmas.List.{get_or_default}
 use Rattle.note_types.specs.declared.notes.Thunk.{Thunk}
 use Rattle.rules_data.specs.Images.{IsThunk}

@@ -1,4 +1,4 @@
-use Rattle.std.proofs.Common.{◌≡◌, arith}
+use Rattle.std.proofs.Common.{arith}
 use Rattle.width_checker.proofs.Disjoint.{refuted, thunk_apart}
 use Rattle.width_checker.proofs.ThunkLaws.{apart_of, enters_of, thunk_of}
 use Rattle.width_checker.proofs.thunks.thunk_holds.Goals as goal
