@@ -9,3 +9,8 @@ pub mod NameSteps
 pub mod LineSteps
 pub mod TakeLaws
 pub mod SourceLaws
+pub mod FitLaws
+pub mod FixupLaws
+pub mod CountLaws
+pub mod SymbolLaws
+pub mod SoundLaws

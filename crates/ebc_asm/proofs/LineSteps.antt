@@ -1,5 +1,5 @@
 -- A line that is taken behind others: its label, what it makes global, and the name that it uses.
-use Rattle.std.proofs.Common.{◌≡◌, ℕ, ◌+◌, List, [], ◌∷◌, ◌++◌, length, map, Option, Some, None, Ok, Err, Bool, true, false, cond, refl, sym, ap, ◌∙◌, arith}
+use Rattle.std.proofs.Common.{◌≡◌, ℕ, List, [], ◌∷◌, ◌++◌, map, Option, Some, None, Ok, Err, Bool, true, false, refl, sym, ap, ◌∙◌}
 use Rattle.std.specs.Prelude.{◌≢◌, not}
 use Rattle.std.specs.List.{list_any}
 use Rattle.ebc_names.specs.Tables.{is_named}
@@ -8,10 +8,10 @@ use Rattle.asm_text.specs.declared.fault.AsmFault.{AsmFault}
 use Rattle.asm_text.specs.declared.fault.AsmFault.TheVariants as faults
 use Rattle.ebc_asm.specs.declared.end.LineEnd.TheVariants as ends
 use Rattle.ebc_asm.specs.declared.names.Standing.{Standing}
-use Rattle.ebc_asm.specs.Held.{Labels, and_global_place, and_used_place, nowhere, standing_in, standing_of}
+use Rattle.ebc_asm.specs.Held.{Labels, and_global_place, and_used_place, nowhere, standing_in}
 use Rattle.ebc_asm.specs.Pieces.{Use, use_of}
 use Rattle.ebc_asm.specs.Sources.{label_is_new}
-use Rattle.ebc_asm.specs.Symbols.{and_name, and_names, global_of, here, is_labelled, is_some_name, makes_global, names_with, place_of, section_kind, start, used_name}
+use Rattle.ebc_asm.specs.Symbols.{and_name, and_names, global_of, here, is_labelled, makes_global, names_with, place_of, section_kind, start}
 use Rattle.ebc_asm.proofs.LineLaws.{ends_of}
 use Rattle.ebc_asm.proofs.StateLaws.{Apart, Knows, KnowsUse, added_names, and_names_is, named_still, used_is_there}
 use Rattle.ebc_asm.proofs.PlaceLaws.{apart_name, apart_names, places_with, standing_is}

@@ -13,7 +13,7 @@ first_within true rest n k h g = omega arith
 first_within false rest n k h g = let w = g h in omega (arith, w)
 
 -- a test that an element passes passes first within the list
-passes_within : {A : Type 0} (p : A → Bool) (xs : List A) → list_any p xs ≡ true → position_or_len p xs < length xs
+pub passes_within : {A : Type 0} (p : A → Bool) (xs : List A) → list_any p xs ≡ true → position_or_len p xs < length xs
 passes_within p [] h = cc h
 passes_within p (x ∷ xs) h = first_within (p x) (list_any p xs) (position_or_len p xs) (length xs) h (λ g. passes_within p xs g)
 

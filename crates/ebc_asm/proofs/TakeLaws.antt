@@ -13,7 +13,7 @@ use Rattle.ebc_asm.specs.declared.end.LineEnd.TheVariants as ends
 use Rattle.ebc_asm.specs.declared.names.Names.{Names}
 use Rattle.ebc_asm.specs.declared.names.Standing.{Standing}
 use Rattle.ebc_asm.specs.Held.{Added, Adds, AreLabels, Holds, Labels, Takes, TakesText, and_global_place, and_used_place, bytes_here, global_is_known, standing_in}
-use Rattle.ebc_asm.specs.Pieces.{Use, bytes_of, data_after, ends_in_data, if_there, section_of, use_of}
+use Rattle.ebc_asm.specs.Pieces.{bytes_of, data_after, ends_in_data, if_there, section_of, use_of}
 use Rattle.ebc_asm.specs.Sources.{behind, global_is_defined, has_room, is_instruction, is_placed, label_is_new, line_behind}
 use Rattle.ebc_asm.specs.Symbols.{Ends, and_name, and_names, fixups_in, fixups_of, global_of, here, names_with, section_kind, start, used_name}
 use Rattle.ebc_asm.proofs.LineLaws.{code_ends, data_ends, ends_in, ends_more, ends_of, names_more, section_more}

@@ -14,7 +14,8 @@ use std::alloc::{AllocError, AllocFailed};
 pub enum AsmEnd {
     /// The first line that fails, by its number from 1, and the lowest of its faults.
     Fault { kind: AsmFault, line: u64 },
-    /// There was no memory for the answer, or the source has more names than symbols have numbers: 2^32 - 1.
+    /// There was no memory for the answer. A source with 2^32 - 1 names or more may be answered so too: a table of names holds
+    /// no more.
     NoMemory,
 }
 

@@ -12,7 +12,7 @@ use ebc_base::{Name, NoMemory};
 use ebc_names::NameTable;
 use std::alloc::Global;
 
-// The most names: the number of a symbol has 32 bits.
+// The most names, all of which a table holds: the number of a symbol has 32 bits.
 const MOST_NAMES: usize = u32::MAX as usize;
 
 // Adds a name to a table unless it is there, and tells whether it was new. Names past the most find no memory.

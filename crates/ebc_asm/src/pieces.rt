@@ -18,7 +18,7 @@ const MOST: usize = 1 << 20;
 
 /// A name that a statement uses, and how the bytes for it are filled in (docs/ASSEMBLY.md, "Objects").
 #[derive(Clone, Copy)]
-pub struct Use<'a> {
+pub(crate) struct Use<'a> {
     /// The name.
     pub name: &'a str,
     /// The kind of its fixup, 1 to 5.
@@ -30,7 +30,7 @@ pub struct Use<'a> {
 }
 
 /// Whether what follows a statement stands in data, where it stands in data itself or not.
-pub fn data_after(in_data: bool, statement: &Option<Statement>) -> bool
+pub(crate) fn data_after(in_data: bool, statement: &Option<Statement>) -> bool
     ensures { result ≡ data_after in_data (seen_statement statement.now) }
 {
     match statement {
@@ -45,7 +45,7 @@ pub fn data_after(in_data: bool, statement: &Option<Statement>) -> bool
 /// # Errors
 ///
 /// Far: the section would pass 1 MiB. Or there was no memory. In both cases the section may have more bytes than before.
-pub fn append(statement: &Option<Statement>, section: &mut Vec<u8>) -> Result<(), LineEnd>
+pub(crate) fn append(statement: &Option<Statement>, section: &mut Vec<u8>) -> Result<(), LineEnd>
     requires held { IsHeldStatement statement.now }
     requires room { length section.old.items ≤ most }
     ensures { Appends result section.old.items (bytes_of (seen_statement statement.now)) section.new.items }
@@ -79,7 +79,7 @@ fn append_zeros(count: u64, section: &mut Vec<u8>) -> Result<(), LineEnd>
 }
 
 /// The name that a statement uses, if any.
-pub fn use_of<'a>(statement: &Option<Statement<'a>>) -> Option<Use<'a>>
+pub(crate) fn use_of<'a>(statement: &Option<Statement<'a>>) -> Option<Use<'a>>
     requires { IsHeldStatement statement.now }
     ensures use_of { seen_uses result ≡ use_of (seen_statement statement.now) }
     ensures small { IfSome result SmallUse }

@@ -1,8 +1,9 @@
 //! Sources as they are assembled.
 
-ghost use Rattle.std.specs.Prelude.{◌≡◌, [], IfOk, OnOk};
+ghost use Rattle.std.specs.Prelude.{◌≡◌, ◌≤◌, [], length, IfOk, OnOk};
 ghost use Rattle.asm_text.specs.Lines.{label_of};
 ghost use Rattle.asm_text.specs.Splits.{lines_of};
+ghost use Rattle.ebc_object.specs.Objects.{IsObject, most};
 ghost use Rattle.ebc_asm.specs.Held.{AreLabels, HoldsLines};
 ghost use Rattle.ebc_asm.specs.Sources.{Gives, lines_behind, object_of};
 ghost use Rattle.ebc_asm.specs.Symbols.{and_name};
@@ -58,13 +59,14 @@ fn take_lines(alloc: Global, labels: &NameTable, source: &[u8]) -> Result<Assemb
     Ok(assembler)
 }
 
-/// The object that a source stands for (docs/ASSEMBLY.md, "Objects").
+/// The object that a source stands for (docs/ASSEMBLY.md, "Objects"). That of a source of at most 1 MiB has a file.
 ///
 /// # Errors
 ///
 /// The first line that fails, from 1, with the lowest of its faults (docs/ASSEMBLY.md, "Faults"); and want of memory.
 pub fn assemble(alloc: Global, source: &[u8]) -> Result<Object, AsmEnd>
-    ensures { Gives result (object_of source.now) }
+    ensures reading { Gives result (object_of source.now) }
+    ensures sound { length source.now ≤ most → IfOk result IsObject }
 {
     let labels = labels_in(alloc, source)?;
     let assembler = take_lines(alloc, &labels, source)?;

@@ -1,4 +1,4 @@
-use Rattle.std.proofs.Common.{◌≡◌, Some, sym, refl, arith}
+use Rattle.std.proofs.Common.{◌≡◌, Some, sym}
 use Rattle.asm_text.specs.Splits.{line_cut, lines_of}
 use Rattle.ebc_asm.proofs.SourceLaws.{labels_all, labels_more, next_shorter}
 use Rattle.ebc_asm.proofs.source.labels_in.Goals as goal

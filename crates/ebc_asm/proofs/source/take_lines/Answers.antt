@@ -1,4 +1,4 @@
-use Rattle.std.proofs.Common.{◌≡◌, ◌<◌, Some, length, sym, refl, arith}
+use Rattle.std.proofs.Common.{◌≡◌, ◌<◌, Some, length, sym, arith}
 use Rattle.asm_text.specs.Splits.{line_cut, lines_of}
 use Rattle.ebc_asm.proofs.SourceLaws.{all_held, next_shorter, one_more, refused}
 use Rattle.ebc_asm.proofs.source.take_lines.Goals as goal

@@ -1,4 +1,3 @@
-use Rattle.std.proofs.Common.{Ok, Err}
 use Rattle.std.proofs.lemmas.Result.{err_from_is_err_and}
 use Rattle.asm_text.specs.Texts.{seen_line}
 use Rattle.ebc_asm.proofs.TakeLaws.{text_refused, text_taken}
