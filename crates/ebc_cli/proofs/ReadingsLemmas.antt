@@ -43,14 +43,40 @@ ends-before before now run f (ends.Stop reply) one = rw one.0 (refl, one.1)
 ends-before before now run f ends.ReadFault one = wider-part before run.asked now run.value f one
 ends-before before now run f ends.NoMemory one = wider-part before run.asked now run.value f one
 
+-- ---- readings of told files
+
+-- where the first reading ends, it ends the whole
+pub first-ends : {A B : Type 0} (old : Option Files) (before now : List (List ℕ)) (run : Files → FileReading A) (f : Files → A → FileReading B) (end : End) → IfSome old (λ files. Follows {A = A} before now (Err end) (run files))
+    → IfSome old (λ files. Follows {A = B} before now (Err end) (run files >>= f files))
+first-ends None before now run f end one = tt
+first-ends (Some files) before now run f end one = ends-before before now (run files) (f files) end one
+
+-- where what comes after a reading that went through ends, it ends the whole
+pub next-ends : {A B : Type 0} (old mid : Option Files) (before between now : List (List ℕ)) (run : Files → FileReading A) (f : Files → A → FileReading B) (x : A) (end : End) → mid ≡ old
+    → IfSome old (λ files. Follows before between (Ok x) (run files)) → IfSome mid (λ files. Follows {A = B} between now (Err end) (f files x))
+    → IfSome old (λ files. Follows {A = B} before now (Err end) (run files >>= f files))
+next-ends None mid before between now run f x end same one two = tt
+next-ends (Some files) mid before between now run f x end same one two = ends-after before between now (run files) (f files) x end one (rw same at two)
+
 -- ---- the files of `check IMAGE NOTES`
+
+abbrev image_run : List ℕ → Files → FileReading Image
+image_run a files = input image_limit image_meaning 1 a files
+
+abbrev notes_run : List ℕ → Files → FileReading Notes
+notes_run b files = input notes_limit notes_meaning 2 b files
+
+abbrev checked : Image → Files → Notes → FileReading Work
+checked image files notes = done (works.CheckImage image notes)
+
+abbrev noted : List ℕ → Files → Image → FileReading Work
+noted b files image = notes_run b files >>= checked image files
 
 -- where the image's file ends the reading, it ends the whole
 pub image-ends : (old : Option Files) (before now : List (List ℕ)) (a b : List ℕ) (end : End) → IfSome old (λ files. Follows {A = Image} before now (Err end) (input image_limit image_meaning 1 a files))
     → IfSome old (λ files. Follows {A = Work} before now (Err end) (image_check a b files))
 unfolding image_check
-image-ends None before now a b end one = tt
-image-ends (Some files) before now a b end one = ends-before before now (input image_limit image_meaning 1 a files) (λ image. input notes_limit notes_meaning 2 b files >>= (λ notes. done (works.CheckImage image notes))) end one
+image-ends old before now a b end one = first-ends old before now (image_run a) (noted b) end one
 
 -- where the notes' file ends the reading, after the image was read, it ends the whole
 pub notes-end : (old mid : Option Files) (before between now : List (List ℕ)) (a b : List ℕ) (image : Image) (end : End) → mid ≡ old
@@ -58,9 +84,4 @@ pub notes-end : (old mid : Option Files) (before between now : List (List ℕ)) 
     → IfSome mid (λ files. Follows {A = Notes} between now (Err end) (input notes_limit notes_meaning 2 b files))
     → IfSome old (λ files. Follows {A = Work} before now (Err end) (image_check a b files))
 unfolding image_check
-notes-end None mid before between now a b image end same one two = tt
-notes-end (Some files) mid before between now a b image end same one two =
-    let ended = rw same at two in
-    let made = λ (notes : Notes). done (works.CheckImage image notes) in
-    let notes_in = input notes_limit notes_meaning 2 b files in
-    ends-after before between now (input image_limit image_meaning 1 a files) (λ image. notes_in >>= (λ notes. done (works.CheckImage image notes))) image end one (ends-before between now notes_in made end ended)
+notes-end old mid before between now a b image end same one two = next-ends old mid before between now (image_run a) (noted b) image end same one (first-ends mid between now (notes_run b) (checked image) end two)
