@@ -7,7 +7,8 @@ use Rattle.std.proofs.lemmas.List.Elements.{filter-append}
 use Rattle.std.proofs.lemmas.List.Sums.{length-filter, count_by-le-length}
 use Rattle.std.proofs.lemmas.Map.Views.{any-filter_same}
 use Rattle.std.proofs.lemmas.Slice.Eq.{bytes_eq-Decides}
-use Rattle.note_draft.specs.Names.{distinct, with_name}
+use Rattle.ebc_names.specs.Tables.{with_name}
+use Rattle.note_draft.specs.Names.{distinct}
 
 -- the names that aren't this one
 abbrev pub others : List ℕ → List (List ℕ) → List (List ℕ)

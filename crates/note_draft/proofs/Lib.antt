@@ -1,5 +1,4 @@
 pub mod DistinctLaws
 pub mod MethodLemmas
-pub mod NameLaws
 pub mod OnceLemmas
 pub mod RepeatLaws

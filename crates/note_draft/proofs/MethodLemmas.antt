@@ -12,7 +12,8 @@ use Rattle.note_types.specs.declared.fault.NotesEnd.TheVariants as ends
 use Rattle.ebc_base.specs.Steps.{◌>>=◌}
 use Rattle.note_texts.specs.Outcome.{Fails}
 use Rattle.note_draft.specs.declared.draft.SignatureDraft.{SignatureDraft}
-use Rattle.note_draft.specs.Names.{distinct, with_name}
+use Rattle.ebc_names.specs.Tables.{with_name}
+use Rattle.note_draft.specs.Names.{distinct}
 use Rattle.note_draft.specs.Drafts.{signature_in, signatures_from}
 use Rattle.note_draft.specs.Once.{method_names}
 use Rattle.note_draft.proofs.DistinctLaws.{distinct-push, length-distinct}

@@ -25,7 +25,8 @@ use Rattle.note_draft.specs.declared.reading.DataLists.{DataLists}
 use Rattle.note_draft.specs.declared.reading.Extent.{Extent}
 use Rattle.note_draft.specs.declared.reading.Interface.{Interface}
 use Rattle.note_draft.specs.declared.draft.NotesDraft.{NotesDraft}
-use Rattle.note_draft.specs.Names.{distinct, is_named}
+use Rattle.ebc_names.specs.Tables.{is_named}
+use Rattle.note_draft.specs.Names.{distinct}
 
 -- the greatest place in an image
 abbrev pub last_place : ℕ

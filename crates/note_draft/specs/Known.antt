@@ -23,7 +23,7 @@ use Rattle.note_draft.specs.declared.finding.Refusal.TheVariants as refusals
 use Rattle.note_draft.specs.declared.finding.TableList.TheVariants as list
 use Rattle.note_draft.specs.declared.tables.NameTables.{NameTables}
 use Rattle.note_draft.specs.Findings.{at, refused, sooner, ◌otherwise◌}
-use Rattle.note_draft.specs.Names.{is_named}
+use Rattle.ebc_names.specs.Tables.{is_named}
 
 -- ---- the names in a text
 

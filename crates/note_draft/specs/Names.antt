@@ -1,19 +1,5 @@
--- Names and their numbers: a name of a list of names, each there once, is its place in the list, from 0. docs/NOTES.md
--- says which things of the notes are named.
-use Rattle.std.specs.Prelude.{ℕ, Bool, not, List, [], ◌∷◌, ◌++◌, filter, if◌then◌else◌, bytes_eq}
-use Rattle.std.specs.List.{list_any, position_or_len}
-
--- whether a name is among the names
-abbrev pub is_named : List ℕ → List (List ℕ) → Bool
-is_named name names = list_any (bytes_eq name) names
-
--- the number of a name, or the number of names where it isn't there
-abbrev pub name_number : List ℕ → List (List ℕ) → ℕ
-name_number name names = position_or_len (bytes_eq name) names
-
--- the names with one more at their end, unless it is there
-abbrev pub with_name : List ℕ → List (List ℕ) → List (List ℕ)
-with_name name names = if is_named name names then names else names ++ name ∷ []
+-- The names that the notes give, each once. docs/NOTES.md says which things of the notes are named.
+use Rattle.std.specs.Prelude.{ℕ, not, List, [], ◌∷◌, filter, bytes_eq}
 
 -- the distinct names of these, in the order in which each first stands there
 unfoldable pub distinct : List (List ℕ) → List (List ℕ)

@@ -8,7 +8,6 @@ mod draft;
 mod finding;
 mod keyed;
 mod known;
-mod names;
 mod once;
 mod reading;
 mod repeats;
@@ -22,7 +21,6 @@ pub use draft::{
 pub use finding::{Finding, Key, Refusal, TableList, refuse};
 pub use keyed::{Named, Placed};
 pub use known::all_known;
-pub use names::NameTable;
 pub use once::number_names;
 pub use reading::read_draft;
 pub use repeats::first_descent;

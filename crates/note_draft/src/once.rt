@@ -9,9 +9,9 @@ ghost use Rattle.note_draft.specs.Once.{function_names, method_names, names_in, 
 use crate::draft::{FunctionDraft, NotesDraft, PointDraft, ShapeDraft, SignatureDraft};
 use crate::finding::{Finding, Key, Refusal, TableList, refuse};
 use crate::keyed::Placed;
-use crate::names::NameTable;
 use crate::repeats::{Numbering, has_repeat, name_table, repeated_place};
 use crate::tables::NameTables;
+use ebc_names::NameTable;
 use note_types::NotesEnd;
 use std::alloc::{AllocError, Global};
 

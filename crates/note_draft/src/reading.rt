@@ -9,8 +9,8 @@ use crate::draft::{
     FunctionDraft, NotesDraft, PointDraft, ShapeDraft, SignatureDraft, SiteDraft, StaticDraft,
     ThunkDraft,
 };
-use crate::names::NameTable;
 use crate::stack::StackText;
+use ebc_names::NameTable;
 use note_texts::{
     FieldText, FromTable, ItemText, ParamText, RegisterText, ResultText, Row, TypeText,
     WantParamText, row_prefix, table_of_item,

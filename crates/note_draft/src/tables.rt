@@ -1,5 +1,5 @@
 //! The names that notes give.
-use crate::names::NameTable;
+use ebc_names::NameTable;
 
 /// The names that notes give, by their numbers.
 #[derive(Drop)]

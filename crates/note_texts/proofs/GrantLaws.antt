@@ -5,7 +5,8 @@ use Rattle.std.proofs.lemmas.List.{append-nil}
 use Rattle.std.proofs.lemmas.List.Splits.{length-slice_split, join_with_byte-slice_split}
 use Rattle.std.specs.Prelude.{◌==◌}
 use Rattle.std.specs.List.{slice_split, join_with_byte}
-use Rattle.note_texts.specs.Names.{continues_name, name_of, names_of}
+use Rattle.ebc_names.specs.Names.{continues_name}
+use Rattle.note_texts.specs.Names.{name_of, names_of}
 use Rattle.note_texts.specs.TypeGrammar.{AreNames, grants_text}
 use Rattle.note_texts.proofs.SplitLaws.{lacks, lacks-append, both_true, not_true}
 use Rattle.note_texts.proofs.NumberRanges.{name_of-sound, name_of-complete, name_lacks}

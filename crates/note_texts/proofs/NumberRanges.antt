@@ -8,8 +8,9 @@ use Rattle.std.proofs.lemmas.List.Folds.{list_all-append}
 use Rattle.std.specs.Prelude.{nat_le, ◌==◌, ◌&&◌}
 use Rattle.std.specs.Fmt.{decimal}
 use Rattle.std.specs.List.{list_all}
-use Rattle.note_texts.specs.Numbers.{is_digit, number_of, number_in, within}
-use Rattle.note_texts.specs.Names.{begins_name, continues_name, is_name, name_of}
+use Rattle.ebc_names.specs.Names.{is_digit, begins_name, continues_name, is_name}
+use Rattle.note_texts.specs.Numbers.{number_of, number_in, within}
+use Rattle.note_texts.specs.Names.{name_of}
 use Rattle.note_texts.specs.CellTexts.{counted_of}
 use Rattle.note_texts.specs.Grammar.{IsName, IsNameText, IsNumber, IsNumberIn, IsCounted, ReadsJust}
 use Rattle.note_texts.proofs.NumberLaws.{number_exact, number_of-decimal, decimal-number_of}

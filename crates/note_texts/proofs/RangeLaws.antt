@@ -7,7 +7,8 @@ use Rattle.std.proofs.lemmas.Fmt.{decimal_digit, first_decimal}
 use Rattle.std.specs.Prelude.{option_map, nat_le, ◌==◌, neg_ℤ}
 use Rattle.std.specs.Fmt.{decimal, signed_decimal}
 use Rattle.note_types.specs.Types.{IsNear, IsUnits}
-use Rattle.note_texts.specs.Numbers.{is_digit, near_of, number_in, units_of}
+use Rattle.ebc_names.specs.Names.{is_digit}
+use Rattle.note_texts.specs.Numbers.{near_of, number_in, units_of}
 use Rattle.note_texts.specs.Ranges.{after_dot, pair_of, range_of}
 use Rattle.note_texts.specs.TypeGrammar.{range_text, pair_text, IsPairText, IsRangeText}
 use Rattle.note_texts.proofs.NumberLaws.{number_of-decimal, decimal-number_of}

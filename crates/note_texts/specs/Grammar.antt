@@ -1,7 +1,7 @@
 -- The grammar of small texts: what each text is made of, by its value. docs/NOTES.md has it in words.
 use Rattle.std.specs.Prelude.{◌≡◌, ◌↔◌, ◌⊎◌, ℕ, ◌^◌, ◌<◌, ◌≤◌, List, ◌++◌, Option, Some, Bool, true, false, IsTrue, codes}
 use Rattle.std.specs.Fmt.{decimal}
-use Rattle.note_texts.specs.Names.{is_name}
+use Rattle.ebc_names.specs.Names.{is_name}
 use Rattle.note_texts.specs.declared.cell.CellText.{CellText}
 use Rattle.note_texts.specs.declared.cell.CellText.TheVariants as cells
 use Rattle.note_texts.specs.declared.cell.FieldText.{FieldText}

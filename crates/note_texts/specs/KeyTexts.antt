@@ -3,8 +3,7 @@ use Rattle.std.specs.Prelude.{ℕ, ◌+◌, ◌/◌, ◌%◌, ◌||◌, ◌&&◌
 use Rattle.std.specs.Char.{encode_utf8}
 use Rattle.std.specs.List.{flat_map, list_all}
 use Rattle.std.specs.Str.{chars}
-use Rattle.note_texts.specs.Names.{is_letter}
-use Rattle.note_texts.specs.Numbers.{is_digit}
+use Rattle.ebc_names.specs.Names.{is_letter, is_digit}
 
 -- a byte that a key has without quotes: a letter, a digit, `_` or `-`
 abbrev pub is_bare_byte : ℕ → Bool

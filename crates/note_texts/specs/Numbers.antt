@@ -1,10 +1,7 @@
 -- The numbers of small texts: decimal digits with no sign and no leading zero, and a number with a sign where the
 -- grammar says so. docs/NOTES.md says where they stand.
-use Rattle.std.specs.Prelude.{ℕ, ◌+◌, ◌-◌, ◌*◌, ◌^◌, ℤ, pos, neg_ℤ, List, [], ◌∷◌, Option, Some, None, Bool, nat_le, nat_lt, ◌==◌, ◌&&◌, if◌then◌else◌, option_and_then, option_map}
-
--- a digit, `0` to `9`
-abbrev pub is_digit : ℕ → Bool
-is_digit b = nat_le 48 b && nat_le b 57
+use Rattle.std.specs.Prelude.{ℕ, ◌+◌, ◌-◌, ◌*◌, ◌^◌, ℤ, pos, neg_ℤ, List, [], ◌∷◌, Option, Some, None, nat_le, nat_lt, ◌==◌, ◌&&◌, if◌then◌else◌, option_and_then, option_map}
+use Rattle.ebc_names.specs.Names.{is_digit}
 
 -- the number with one more digit, below 2^64
 abbrev pub with_digit : ℕ → ℕ → Option ℕ

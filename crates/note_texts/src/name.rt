@@ -1,40 +1,13 @@
 //! Names.
-ghost use Rattle.std.specs.Prelude.{◌≡◌, Some, None, IfOk, map, length};
-ghost use Rattle.std.specs.List.{list_all};
+ghost use Rattle.std.specs.Prelude.{◌≡◌, Some, None, IfOk, map};
 ghost use Rattle.note_texts.specs.Grammar.{IsNameText, ReadsJust};
-ghost use Rattle.note_texts.specs.Names.{begins_name, continues_name, is_letter, is_name, name_of, names_of};
+ghost use Rattle.ebc_names.specs.Names.{is_name};
+ghost use Rattle.note_texts.specs.Names.{name_of, names_of};
 
 use crate::from_text::FromText;
+use ebc_names::is_name;
 use note_types::{Name, Names};
 use std::alloc::{AllocError, Global};
-
-fn begins_name(byte: u8) -> bool
-    ensures { result ≡ begins_name byte }
-{
-    byte.is_ascii_alphabetic() || byte == b'_' || byte == b'.'
-}
-
-fn continues_name(byte: u8) -> bool
-    ensures { result ≡ continues_name byte }
-{
-    begins_name(byte) || byte.is_ascii_digit()
-}
-
-fn all_continue(text: &[u8]) -> bool
-    ensures { result ≡ list_all continues_name text.now }
-{
-    text.iter().all(|byte| continues_name(*byte))
-}
-
-#[tactic(auto, unfolding(crate::specs::Names::is_name))]
-fn is_name(text: &[u8]) -> bool
-    ensures { result ≡ is_name text.now }
-{
-    match text {
-        [] => false,
-        [first, rest @ ..] => begins_name(*first) && rest.len() <= 62 && all_continue(rest),
-    }
-}
 
 fn name_of(alloc: Global, text: &str) -> Result<Option<Name>, AllocError>
     ensures { IfOk result (λ name. name ≡ name_of text.now) }

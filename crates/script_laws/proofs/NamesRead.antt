@@ -8,7 +8,8 @@ use Rattle.note_types.specs.Records.{Each}
 use Rattle.note_texts.specs.Grammar.{IsName}
 use Rattle.note_texts.specs.Keys.{field, flag_at, number_at, only_keys, row_prefix, text_at, text_of}
 use Rattle.note_texts.specs.Lists.{count, each, list_at, row_of, rows_of, table_of, tables_at, texts_at}
-use Rattle.note_texts.specs.Names.{is_name, name_of}
+use Rattle.ebc_names.specs.Names.{is_name}
+use Rattle.note_texts.specs.Names.{name_of}
 use Rattle.note_texts.specs.WantTexts.{result_of, want_param_of}
 use Rattle.note_draft.specs.declared.draft.FunctionDraft.{FunctionDraft}
 use Rattle.note_draft.specs.declared.draft.NotesDraft.{NotesDraft}

@@ -33,7 +33,8 @@ use Rattle.note_draft.specs.declared.reading.DataLists.{DataLists}
 use Rattle.note_draft.specs.declared.reading.Extent.{Extent}
 use Rattle.note_draft.specs.declared.reading.Interface.{Interface}
 use Rattle.note_draft.specs.Drafts.{call_lists, code_lists, data_lists, draft_of, extent_of, function_of, greatest_32, greatest_64, has_room, interface_of, last_place, point_of, shape_of, signature_in, signature_of, signatures_at, signatures_from, site_of, static_of, thunk_of}
-use Rattle.note_draft.specs.Names.{distinct, is_named, with_name}
+use Rattle.ebc_names.specs.Tables.{is_named, with_name}
+use Rattle.note_draft.specs.Names.{distinct}
 use Rattle.note_draft.specs.Once.{method_names}
 use Rattle.note_draft.proofs.DistinctLaws.{distinct-push}
 use Rattle.type_notes.specs.Conditions.{is_locals}

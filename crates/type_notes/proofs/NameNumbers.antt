@@ -8,7 +8,8 @@ use Rattle.std.proofs.lemmas.Map.Views.{any-filter_same}
 use Rattle.std.proofs.lemmas.Option.{get_or_from_slice_get}
 use Rattle.std.proofs.lemmas.Slice.Eq.{bytes_eq-Decides}
 use Rattle.note_types.specs.Records.{Each}
-use Rattle.note_draft.specs.Names.{distinct, is_named, name_number}
+use Rattle.ebc_names.specs.Tables.{is_named, name_number}
+use Rattle.note_draft.specs.Names.{distinct}
 use Rattle.type_notes.proofs.ListBounds.{each_first, each_more, each_none, each_rest, found_within, item_at}
 
 -- ---- distinct names

@@ -13,7 +13,7 @@ use Rattle.note_draft.specs.declared.finding.TableList.TheVariants as list
 use Rattle.note_draft.specs.declared.tables.NameTables.{NameTables}
 use Rattle.note_draft.specs.Findings.{refused, sooner}
 use Rattle.note_draft.specs.Known.{known, knows_fields, knows_locals, knows_params, knows_regs, knows_result, knows_stack, knows_type, knows_wants, unknown, unknown_in_functions, unknown_in_points, unknown_in_shapes, unknown_in_signatures, unknown_in_sites, unknown_in_statics, unknown_in_thunks}
-use Rattle.note_draft.specs.Names.{is_named}
+use Rattle.ebc_names.specs.Tables.{is_named}
 use Rattle.note_draft.specs.Once.{function_names, method_names, names_of_calls, once, repeated_in_functions, repeated_in_points, repeated_in_shapes, repeated_in_signatures, repeated_place_in, shape_names, signature_names}
 use Rattle.type_notes.proofs.ListBounds.{each_passes}
 use Rattle.type_notes.proofs.OrderLemmas.{neither, nothing-at}

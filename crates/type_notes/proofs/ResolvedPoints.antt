@@ -24,7 +24,7 @@ use Rattle.note_draft.specs.declared.draft.NotesDraft.{NotesDraft}
 use Rattle.note_draft.specs.declared.draft.PointDraft.{PointDraft}
 use Rattle.note_draft.specs.declared.tables.NameTables.{NameTables}
 use Rattle.note_draft.specs.Known.{knows_item, knows_type}
-use Rattle.note_draft.proofs.NameLaws.{position_or_len-map}
+use Rattle.ebc_names.proofs.TableLaws.{position_or_len-map}
 use Rattle.type_notes.specs.Conditions as conditions
 use Rattle.type_notes.specs.Conditions.{has_item_fields, has_item_thunk, holds_locals, locals_count, regs_are_local, regs_have_thunks, stack_has_thunks, stack_is_local}
 use Rattle.type_notes.specs.Owners.{has_place, owner_of}

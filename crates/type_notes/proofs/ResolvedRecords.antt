@@ -23,7 +23,7 @@ use Rattle.note_draft.specs.declared.draft.StaticDraft.{StaticDraft}
 use Rattle.note_draft.specs.declared.draft.ThunkDraft.{ThunkDraft}
 use Rattle.note_draft.specs.declared.tables.NameTables.{NameTables}
 use Rattle.note_draft.specs.Known.{knows_cell, knows_locals, knows_result, knows_type, knows_want}
-use Rattle.note_draft.specs.Names.{is_named, name_number}
+use Rattle.ebc_names.specs.Tables.{is_named, name_number}
 use Rattle.type_notes.specs.Conditions.{frame_size, is_entered, is_natural_slot, keeps_param, keeps_want, takes_handed_in}
 use Rattle.type_notes.specs.Resolved.{resolved, resolved_field, resolved_function, resolved_locals, resolved_param, resolved_result, resolved_shape, resolved_signature, resolved_site, resolved_static, resolved_thunk, resolved_want_param}
 use Rattle.type_notes.specs.TypeKinds.{has_thunk, is_handed_back, is_handed_in, is_kept, is_kept_want, is_passed}

@@ -28,7 +28,7 @@ use Rattle.note_draft.specs.declared.draft.NotesDraft.{NotesDraft}
 use Rattle.note_draft.specs.declared.draft.ShapeDraft.{ShapeDraft}
 use Rattle.note_draft.specs.declared.tables.NameTables.{NameTables}
 use Rattle.note_draft.specs.Known.{knows_cell, knows_type, knows_want}
-use Rattle.note_draft.specs.Names.{is_named, name_number}
+use Rattle.ebc_names.specs.Tables.{is_named, name_number}
 use Rattle.type_notes.specs.Locals.{SomeNames, below_64, field_bit, field_number, field_set, is_field}
 use Rattle.type_notes.specs.PointLocals.{locals_fields, shape_fields}
 use Rattle.type_notes.specs.Resolved.{resolved, resolved_cell, resolved_field, resolved_function, resolved_locals, resolved_shape, resolved_thunk, resolved_type, resolved_want}

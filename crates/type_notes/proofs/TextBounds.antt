@@ -19,8 +19,9 @@ use Rattle.note_texts.specs.declared.want.WantParamText.{WantParamText}
 use Rattle.note_texts.specs.declared.want.WantText.{WantText}
 use Rattle.note_texts.specs.declared.want.WantText.TheVariants as wants
 use Rattle.note_texts.specs.CellTexts.{cell_by, cell_of, counted_of, field_of, marked_cell, plain_cell}
-use Rattle.note_texts.specs.Names.{continues_name, begins_name, is_name, name_of, names_of}
-use Rattle.note_texts.specs.Numbers.{is_digit, near_of, number_from, number_in, number_of, units_of, with_digit, within}
+use Rattle.ebc_names.specs.Names.{continues_name, begins_name, is_name, is_digit}
+use Rattle.note_texts.specs.Names.{name_of, names_of}
+use Rattle.note_texts.specs.Numbers.{near_of, number_from, number_in, number_of, units_of, with_digit, within}
 use Rattle.note_texts.specs.Ranges.{after_dot, count_of, pair_of, range_of, size_of}
 use Rattle.note_texts.specs.SlotTexts.{param_of, parameter_kind, register_number, register_of, slot_kind, slot_of}
 use Rattle.note_texts.specs.Splits.{parts_at, split_at}

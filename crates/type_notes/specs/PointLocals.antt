@@ -5,7 +5,7 @@ use Rattle.note_draft.specs.declared.draft.FunctionDraft.{FunctionDraft}
 use Rattle.note_draft.specs.declared.draft.NotesDraft.{NotesDraft}
 use Rattle.note_draft.specs.declared.draft.ShapeDraft.{ShapeDraft}
 use Rattle.note_draft.specs.declared.tables.NameTables.{NameTables}
-use Rattle.note_draft.specs.Names.{name_number}
+use Rattle.ebc_names.specs.Tables.{name_number}
 use Rattle.type_notes.specs.Owners.{owner_of}
 
 -- What a point may name: whether its function has locals, and their fields.

@@ -45,7 +45,7 @@ use Rattle.note_draft.specs.declared.draft.ThunkDraft.{ThunkDraft}
 use Rattle.note_draft.specs.declared.tables.NameTables.{NameTables}
 use Rattle.type_notes.specs.PointLocals.{point_locals}
 use Rattle.type_notes.specs.Locals.{field_number, field_set}
-use Rattle.note_draft.specs.Names.{name_number}
+use Rattle.ebc_names.specs.Tables.{name_number}
 
 -- ---- texts
 

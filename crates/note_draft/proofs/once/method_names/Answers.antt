@@ -1,6 +1,7 @@
 use Rattle.std.proofs.Common.{◌≡◌, ◌<◌, ◌+◌, ◌++◌, ◌∷◌, ◌^◌, [], refl, ap, sym, subst, ◌∙◌, arith, length, take}
 use Rattle.std.proofs.lemmas.List.{length-take-le, take_all, take_more}
-use Rattle.note_draft.specs.Names.{distinct, with_name}
+use Rattle.ebc_names.specs.Tables.{with_name}
+use Rattle.note_draft.specs.Names.{distinct}
 use Rattle.note_draft.specs.declared.draft.SignatureDraft.{SignatureDraft}
 use Rattle.note_draft.proofs.MethodLemmas.{method_names-push, method_names-room, methods_of}
 use Rattle.note_draft.proofs.once.method_names.Goals as goal
