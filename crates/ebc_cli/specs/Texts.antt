@@ -1,16 +1,8 @@
 -- What the program prints: docs/COMMANDS.md, "Printed lines".
-use Rattle.std.specs.Prelude.{ℕ, ◌+◌, ◌/◌, ◌%◌, zero, suc, nat_lt, if◌then◌else◌, List, [], ◌∷◌, ◌++◌, codes}
+use Rattle.std.specs.Prelude.{ℕ, List, [], ◌∷◌, ◌++◌, codes}
+use Rattle.asm_text.specs.Numbers.{hex_text}
 use Rattle.note_types.specs.declared.rule.RuleName.{RuleName}
 use Rattle.note_types.specs.declared.rule.RuleName.TheVariants as rules
-
--- the digits 0 to 9 and a to f
-abbrev pub hex_digit : ℕ → ℕ
-hex_digit d = if nat_lt d 10 then 48 + d else 87 + d
-
--- a number in so many hexadecimal digits
-abbrev pub hex_text : ℕ → ℕ → List ℕ
-hex_text zero n = []
-hex_text (suc count) n = hex_text count (n / 16) ++ hex_digit (n % 16) ∷ []
 
 -- a place, an offset in bytes, in eight hexadecimal digits
 unfoldable pub place_text : ℕ → List ℕ
