@@ -1,5 +1,6 @@
 //! Instructions, read and written.
 
+use crate::digits::bytes_of;
 use asm_text::{Line, Listed, Statement, line_in};
 use ebc_decode::encode;
 use ebc_insn::well_formed;
@@ -153,8 +154,8 @@ a0297800 MOVqw @R1#0x0078, R2
 00ff BREAK -1
 0200 JMP8 -0";
 
-// The bytes of the instruction of a line in hexadecimal digits, and the line as a listing has it, without its line feed.
-fn both_ways(alloc: Global, line: &str) -> Result<(String, Vec<u8>), Fail> {
+// The bytes of the instruction of a line, and the line as a listing has it, without its line feed.
+fn both_ways(alloc: Global, line: &str) -> Result<(Vec<u8>, Vec<u8>), Fail> {
     let Ok(
         Line {
             label: None,
@@ -167,24 +168,22 @@ fn both_ways(alloc: Global, line: &str) -> Result<(String, Vec<u8>), Fail> {
     if !well_formed(&insn) {
         return Err("not well formed".into());
     }
-    let mut digits = String::new(alloc);
-    for byte in encode(&insn).as_slice() {
-        digits.push_str(&format!(in alloc; "{byte:02x}")?)?;
-    }
+    let bytes = Vec::from_slice(alloc, encode(&insn).as_slice())?;
     let mut text = Vec::new(alloc);
     Listed::Instruction { insn, place: None }.append_to(alloc, &mut text)?;
     if text.pop() != Some(b'\n') {
         return Err("no line feed".into());
     }
-    Ok((digits, text))
+    Ok((bytes, text))
 }
 
 #[test]
 fn instructions_are_read_and_written(rt: HostRuntime) -> Result<(), Fail> {
     for row in ROWS.lines() {
-        let (bytes, line) = row.split_once(' ').ok_or("a row without a space")?;
-        let (digits, text) = both_ways(rt.alloc(), line)?;
-        assert_eq!(rt; digits.as_str(), bytes, "at {row}");
+        let (digits, line) = row.split_once(' ').ok_or("a row without a space")?;
+        let (bytes, text) = both_ways(rt.alloc(), line)?;
+        let wanted = bytes_of(rt.alloc(), digits)?;
+        assert!(rt; bytes.as_slice() == wanted.as_slice(), "at {row}");
         assert!(rt; text.as_slice() == line.as_bytes(), "at {row}");
     }
     Ok(())
@@ -193,9 +192,10 @@ fn instructions_are_read_and_written(rt: HostRuntime) -> Result<(), Fail> {
 #[test]
 fn other_texts_are_read(rt: HostRuntime) -> Result<(), Fail> {
     for row in OTHER.lines() {
-        let (bytes, line) = row.split_once(' ').ok_or("a row without a space")?;
-        let (digits, _) = both_ways(rt.alloc(), line)?;
-        assert_eq!(rt; digits.as_str(), bytes, "at {row}");
+        let (digits, line) = row.split_once(' ').ok_or("a row without a space")?;
+        let (bytes, _) = both_ways(rt.alloc(), line)?;
+        let wanted = bytes_of(rt.alloc(), digits)?;
+        assert!(rt; bytes.as_slice() == wanted.as_slice(), "at {row}");
     }
     Ok(())
 }

@@ -1,5 +1,6 @@
 //! Sources as they are assembled.
 
+use crate::digits::bytes_of;
 use ebc_asm::{AsmEnd, AsmFault, assemble};
 use ebc_object::{object_ok, write_object};
 use std::alloc::{AllocError, Global};
@@ -49,15 +50,6 @@ fn source_of(alloc: Global, text: &str) -> Result<Vec<u8>, AllocError> {
     Ok(source)
 }
 
-// The bytes as hexadecimal digits, without a space between them.
-fn digits_of(alloc: Global, bytes: &[u8]) -> Result<String, AllocError> {
-    let mut digits = String::new(alloc);
-    for byte in bytes {
-        digits.push_str(format!(in alloc; "{byte:02x}")?.as_str())?;
-    }
-    Ok(digits)
-}
-
 #[test]
 fn objects_of_sources(rt: HostRuntime) -> Result<(), Fail> {
     for row in OBJECTS.lines() {
@@ -70,9 +62,8 @@ fn objects_of_sources(rt: HostRuntime) -> Result<(), Fail> {
         let Ok(written) = write_object(rt.alloc(), &object) else {
             return Err("not written".into());
         };
-        let wanted = file.replace(rt.alloc(), " ", "")?;
-        let digits = digits_of(rt.alloc(), written.as_slice())?;
-        assert_eq!(rt; digits.as_str(), wanted.as_str(), "at {row}");
+        let wanted = bytes_of(rt.alloc(), file)?;
+        assert!(rt; written.as_slice() == wanted.as_slice(), "at {row}");
     }
     Ok(())
 }

@@ -6,8 +6,6 @@ mod items;
 mod listing;
 mod places;
 mod sections;
-#[cfg(test)]
-mod tests;
 
 pub use ebc_base::NoMemory;
 pub use listing::list;

@@ -20,6 +20,3 @@ pub use fault::{ObjectEnd, ObjectFault};
 pub use object::{Bytes, Fixup, Fixups, Object, Symbol, Symbols};
 pub use reading::read_object;
 pub use writing::write_object;
-
-#[cfg(test)]
-mod tests;

@@ -1,7 +1,8 @@
 //! Objects and files worked out by hand.
 
-use crate::{Fixup, Object, ObjectEnd, Symbol, object_ok, read_object, write_object};
+use crate::digits::bytes_of;
 use ebc_base::{Name, Sequence};
+use ebc_object::{Fixup, Object, ObjectEnd, Symbol, object_ok, read_object, write_object};
 use std::alloc::{AllocError, Global};
 use std::test::Fail;
 
@@ -44,22 +45,6 @@ Range 60: 4542434f 01000000 04000000 08000000 01000000 02000000 00000000 0000000
 Order 60: 4542434f 01000000 04000000 08000000 01000000 02000000 00000000 0000000000000000 0166010104000000 0205000000000000000000000000 0102000000000000000004000000
 Short 68: 4542434f 01000000 04000000 08000000 01000000 02000000 00000000 0000000000000000 0166010104000000 0102000000000000000004000000 02050000000000000000000000
 Count 72: 4542434f 01000000 04000000 08000000 01000000 02000000 00000000 0000000000000000 0166010104000000 0102000000000000000004000000 0205000000000000000000000000 00";
-
-// The bytes that hexadecimal digits spell; all else is passed over.
-fn bytes_of(alloc: Global, text: &str) -> Result<Vec<u8>, AllocError> {
-    let mut bytes = Vec::new(alloc);
-    let mut high = None;
-    for digit in text.chars().filter_map(|c| c.to_digit(16)) {
-        match high {
-            None => high = Some(digit),
-            Some(first) => {
-                bytes.push((first % 16 * 16 + digit % 16) as u8)?;
-                high = None;
-            }
-        }
-    }
-    Ok(bytes)
-}
 
 #[test]
 fn objects_are_read_and_written(rt: HostRuntime) -> Result<(), Fail> {
