@@ -1,9 +1,7 @@
 //! What `check IMAGE NOTES` and `list IMAGE` print, over files in memory: a driver, and what is told of files near its two.
 
-use crate::tests::{bytes_of, words_of};
-use ebc_cli::{Outcome, ebc};
-use ebc_outside::{MemFolder, MemSink};
-use std::alloc::{AllocError, Global};
+use crate::tests::{Outside, all_told, bytes_of, parted};
+use std::alloc::Global;
 use std::test::Fail;
 
 /// The driver's image: an offset in the file and the bytes that stand there. All other bytes are zeros.
@@ -68,167 +66,115 @@ fn put(file: &mut Vec<u8>, at: usize, bytes: &[u8]) {
     }
 }
 
-// The bytes, and then as many of one byte as make them so long.
-fn filled(alloc: Global, bytes: &[u8], byte: u8, length: usize) -> Result<Vec<u8>, AllocError> {
-    let mut file = Vec::from_slice(alloc, bytes)?;
-    for _ in bytes.len()..length {
-        file.push(byte)?;
+// Puts the image and files near it under names that end in `i`.
+fn insert_images(alloc: Global, outside: &mut Outside) -> Result<(), Fail> {
+    let mut image = image_of(alloc)?;
+    outside.insert("i", image.as_slice())?;
+    outside.insert("short.i", image.as_slice().get(..63).ok_or("63 bytes")?)?;
+    outside.insert_filled(alloc, "full.i", image.as_slice(), b"\0", 4194304)?;
+    outside.insert_filled(alloc, "large.i", image.as_slice(), b"\0", 4194305)?;
+    put(&mut image, 68, b"\x64\x86");
+    outside.insert("machine.i", image.as_slice())?;
+    Ok(())
+}
+
+/// The names of files near the notes, a text of these, and the one that stands there in its place.
+const CHANGES: &str = r#"level.n > level=1, need > need
+need.n > [2,0], locals > [1,0], locals
+name.n > name="Blk" > name="Block"
+twice.n > name="tick" > name="main""#;
+
+// Puts the notes and files near them under names that end in `n`.
+fn insert_notes(alloc: Global, outside: &mut Outside) -> Result<(), Fail> {
+    for row in CHANGES.lines() {
+        let (name, change) = parted(row)?;
+        let (old, new) = parted(change)?;
+        let (before, after) = NOTES
+            .split_once(old)
+            .ok_or("the text that is changed isn't there")?;
+        let text = format!(in alloc; "{before}{new}{after}")?;
+        outside.insert(name, text.as_bytes())?;
     }
-    Ok(file)
+    outside.insert("n", NOTES.as_bytes())?;
+    outside.insert_filled(alloc, "full.n", NOTES.as_bytes(), b"\n", 1048576)?;
+    outside.insert_filled(alloc, "large.n", NOTES.as_bytes(), b"\n", 1048577)?;
+    Ok(())
 }
 
-// The notes with another text in place of one.
-fn changed_notes(alloc: Global, old: &str, new: &str) -> Result<String, Fail> {
-    let (before, after) = NOTES
-        .split_once(old)
-        .ok_or("the text that is changed isn't there")?;
-    let mut text = String::from_str(alloc, before)?;
-    text.push_str(new)?;
-    text.push_str(after)?;
-    Ok(text)
-}
-
-// The files of which the rows speak: those whose names end in `i` are near the image, those in `n` near the notes.
-fn folder(alloc: Global) -> Result<MemFolder, Fail> {
-    let mut folder = MemFolder::new(alloc);
-    let image = image_of(alloc)?;
-    let mut machine = Vec::from_slice(alloc, image.as_slice())?;
-    put(&mut machine, 68, &[0x64, 0x86]);
-    folder.insert("i", image.as_slice())?;
-    folder.insert("short.i", image.as_slice().get(..63).ok_or("63 bytes")?)?;
-    folder.insert("machine.i", machine.as_slice())?;
-    folder.insert(
-        "full.i",
-        filled(alloc, image.as_slice(), 0, 4194304)?.as_slice(),
-    )?;
-    folder.insert(
-        "large.i",
-        filled(alloc, image.as_slice(), 0, 4194305)?.as_slice(),
-    )?;
-    folder.insert("n", NOTES.as_bytes())?;
-    folder.insert("level.n", changed_notes(alloc, " level=1,", "")?.as_bytes())?;
-    folder.insert(
-        "need.n",
-        changed_notes(alloc, "[2,0], locals", "[1,0], locals")?.as_bytes(),
-    )?;
-    folder.insert(
-        "name.n",
-        changed_notes(alloc, "name=\"Blk\"", "name=\"Block\"")?.as_bytes(),
-    )?;
-    folder.insert(
-        "twice.n",
-        changed_notes(alloc, "name=\"tick\"", "name=\"main\"")?.as_bytes(),
-    )?;
-    folder.insert(
-        "full.n",
-        filled(alloc, NOTES.as_bytes(), 10, 1048576)?.as_slice(),
-    )?;
-    folder.insert(
-        "large.n",
-        filled(alloc, NOTES.as_bytes(), 10, 1048577)?.as_slice(),
-    )?;
-    Ok(folder)
-}
-
-/// The words, the outcome, and the line that is printed. An image is read whole before its notes are asked for.
-const ROWS: &str = "check i n | Done | neutral
-check i need.n | Refused { place: 4114, rule: Stack } | refused 00001012 stack
-check short.i n | BadInput { word: 1, fault: 1 } | bad short.i short 0
-check machine.i n | BadInput { word: 1, fault: 4 } | bad machine.i machine 68
-check n i | BadInput { word: 1, fault: 2 } | bad n mz 0
-check short.i absent | BadInput { word: 1, fault: 1 } | bad short.i short 0
-check short.i large.n | BadInput { word: 1, fault: 1 } | bad short.i short 0
-check i i | BadInput { word: 2, fault: 1 } | bad i nottoml -
-check i level.n | BadInput { word: 2, fault: 2 } | bad level.n missing function[0].level
-check i twice.n | BadInput { word: 2, fault: 6 } | bad twice.n twice function[1].name
-check i name.n | BadInput { word: 2, fault: 4 } | bad name.n name shape[1].fields
-check full.i full.n | Done | neutral
-check large.i absent | TooLarge { word: 1 } | large large.i
-check i large.n | TooLarge { word: 2 } | large large.n
-check absent n | Missing { word: 1 } | missing absent
-check i absent | Missing { word: 2 } | missing absent
-list short.i | BadInput { word: 1, fault: 1 } | bad short.i short 0
-list machine.i | BadInput { word: 1, fault: 4 } | bad machine.i machine 68
-list n | BadInput { word: 1, fault: 2 } | bad n mz 0
-list large.i | TooLarge { word: 1 } | large large.i
-list absent | Missing { word: 1 } | missing absent";
+/// The words, and what is told of them. An image is read whole before its notes are asked for.
+const ROWS: &str = "check i n > 0 Done|neutral|
+check i need.n > 1 Refused { place: 4114, rule: Stack }|refused 00001012 stack|
+check short.i n > 3 BadInput { word: 1, fault: 1 }|bad short.i short 0|
+check machine.i n > 3 BadInput { word: 1, fault: 4 }|bad machine.i machine 68|
+check n i > 3 BadInput { word: 1, fault: 2 }|bad n mz 0|
+check short.i absent > 3 BadInput { word: 1, fault: 1 }|bad short.i short 0|
+check short.i large.n > 3 BadInput { word: 1, fault: 1 }|bad short.i short 0|
+check i i > 3 BadInput { word: 2, fault: 1 }|bad i nottoml -|
+check i level.n > 3 BadInput { word: 2, fault: 2 }|bad level.n missing function[0].level|
+check i twice.n > 3 BadInput { word: 2, fault: 6 }|bad twice.n twice function[1].name|
+check i name.n > 3 BadInput { word: 2, fault: 4 }|bad name.n name shape[1].fields|
+check full.i full.n > 0 Done|neutral|
+check large.i absent > 7 TooLarge { word: 1 }|large large.i|
+check i large.n > 7 TooLarge { word: 2 }|large large.n|
+check absent n > 9 Missing { word: 1 }|missing absent|
+check i absent > 9 Missing { word: 2 }|missing absent|
+list short.i > 3 BadInput { word: 1, fault: 1 }|bad short.i short 0|
+list machine.i > 3 BadInput { word: 1, fault: 4 }|bad machine.i machine 68|
+list n > 3 BadInput { word: 1, fault: 2 }|bad n mz 0|
+list large.i > 7 TooLarge { word: 1 }|large large.i|
+list absent > 9 Missing { word: 1 }|missing absent|";
 
 #[test]
 fn an_image_is_neutral_or_refused_or_not_read(rt: HostRuntime) -> Result<(), Fail> {
     let alloc = rt.alloc();
-    let mut folder = folder(alloc)?;
-    for row in ROWS.lines() {
-        let (words, rest) = row.split_once(" | ").ok_or("a row without an outcome")?;
-        let (wanted, line) = rest.split_once(" | ").ok_or("a row without a line")?;
-        let mut out = MemSink::new(alloc);
-        let outcome = ebc(alloc, &words_of(alloc, words)?, &mut folder, &mut out);
-        let told = format!(in alloc; "{outcome:?}")?;
-        assert_eq!(rt; told.as_str(), wanted, "at {row}");
-        assert_eq!(rt;
-            out.text().strip_suffix(b"\n"),
-            Some(line.as_bytes()),
-            "at {row}"
-        );
-    }
-    Ok(())
+    let mut outside = Outside::new(alloc);
+    insert_images(alloc, &mut outside)?;
+    insert_notes(alloc, &mut outside)?;
+    all_told(&rt, alloc, &mut outside, ROWS)
 }
+
+/// The image is the first read, and the notes the second.
+const FAILURES: &str = "check i n > 4 ReadFault|
+check i n > 5 WriteFault|
+check i n > 0 Done|neutral|";
 
 #[test]
 fn a_second_read_or_a_put_that_fails_prints_nothing(rt: HostRuntime) -> Result<(), Fail> {
     let alloc = rt.alloc();
-    let mut folder = folder(alloc)?;
-    folder.fail_reads(vec![in alloc; 2]?);
-    let mut out = MemSink::new(alloc);
-    out.fail_puts(vec![in alloc; 1]?);
-    let words = words_of(alloc, "check i n")?;
-    for (wanted, text) in [
-        (Outcome::ReadFault, ""),
-        (Outcome::WriteFault, ""),
-        (Outcome::Done, "neutral\n"),
-    ] {
-        assert_eq!(rt; ebc(alloc, &words, &mut folder, &mut out), wanted);
-        assert_eq!(rt; out.text(), text.as_bytes());
-    }
-    Ok(())
+    let mut outside = Outside::new(alloc);
+    outside.insert("i", image_of(alloc)?.as_slice())?;
+    outside.insert("n", NOTES.as_bytes())?;
+    outside.fail(alloc, 2)?;
+    all_told(&rt, alloc, &mut outside, FAILURES)
 }
 
-// How many bytes the code of an image has, the first of them, and the lines of its listing; all other bytes are the driver's.
-const LISTINGS: &str = "02 2700 .code|.global L00001000|L00001000:|.dw 0x0027
-06 780400800400 .code|.global L00001000|L00001000:|MOVInw R4, #0x8000|RET
-4A B907FA0F0000 .code|.global L00001000|L00001000:|MOVRELd R7, 4090|BREAK 5|MOVnw R4, @R0(+1,+16)|MOVqw R0, R0(-1,-0)|MOVqw R5, R0|PUSHn R5|CALL32EXa @R4|MOVqw R0, R0(+1,+0)|MOVsnw R5, R7|CMPI64wlte R5, -1|JMP8cs 14|MOVnw R5, @R0|MOVdw R6, @R5|MOVRELd R5, 4052|PUSHn @R5|MOVnw R4, @R0(+3,+16)|CALL32EXa @R4(+1,+0)|MOVqw R0, R0(+2,+0)|RET|MOVqw R0, R0(+1,+0)|RET|MOVIqw R7, 0|RET";
+/// How many bytes the code of an image has, the first of them, and the lines of its listing; all other bytes are the driver's.
+const LISTINGS: &str = "02 2700 > .code|.global L00001000|L00001000:|.dw 0x0027|
+06 780400800400 > .code|.global L00001000|L00001000:|MOVInw R4, #0x8000|RET|
+4A B907FA0F0000 > .code|.global L00001000|L00001000:|MOVRELd R7, 4090|BREAK 5|MOVnw R4, @R0(+1,+16)|MOVqw R0, R0(-1,-0)|MOVqw R5, R0|PUSHn R5|CALL32EXa @R4|MOVqw R0, R0(+1,+0)|MOVsnw R5, R7|CMPI64wlte R5, -1|JMP8cs 14|MOVnw R5, @R0|MOVdw R6, @R5|MOVRELd R5, 4052|PUSHn @R5|MOVnw R4, @R0(+3,+16)|CALL32EXa @R4(+1,+0)|MOVqw R0, R0(+2,+0)|RET|MOVqw R0, R0(+1,+0)|RET|MOVIqw R7, 0|RET|";
 
-// The lines of the driver's data.
-const DATA: &str =
-    "|.data|.db 0x40|.db 0xf0|.db 0xff|.db 0xff|.db 0x00|.db 0x00|.db 0x00|.db 0x00|";
+/// The lines of the driver's data.
+const DATA: &str = ".data|.db 0x40|.db 0xf0|.db 0xff|.db 0xff|.db 0x00|.db 0x00|.db 0x00|.db 0x00|";
+
+/// The words of each call over the same files and output, and what is told of them, before the lines of the listing.
+const LISTED: &str = "list i > 4 ReadFault|
+list i > 5 WriteFault|
+list i > 0 Done|";
 
 #[test]
 fn an_image_is_listed(rt: HostRuntime) -> Result<(), Fail> {
     let alloc = rt.alloc();
-    let words = words_of(alloc, "list i")?;
     for row in LISTINGS.lines() {
-        let (size, rest) = row.split_once(' ').ok_or("a row without a size")?;
-        let (code, lines) = rest.split_once(' ').ok_or("a row without code")?;
+        let (change, lines) = parted(row)?;
+        let (size, code) = change.split_once(' ').ok_or("a row without code")?;
         let mut image = image_of(alloc)?;
         put(&mut image, 336, bytes_of(alloc, size)?.as_slice());
         put(&mut image, 512, bytes_of(alloc, code)?.as_slice());
-        let mut folder = MemFolder::new(alloc);
-        folder.insert("i", image.as_slice())?;
-        folder.fail_reads(vec![in alloc; 1]?);
-        let mut out = MemSink::new(alloc);
-        out.fail_puts(vec![in alloc; 1]?);
-        let text = format!(in alloc; "{lines}{DATA}")?.replace(alloc, '|', "\n")?;
-        for (wanted, printed) in [
-            (Outcome::ReadFault, ""),
-            (Outcome::WriteFault, ""),
-            (Outcome::Done, text.as_str()),
-        ] {
-            assert_eq!(rt;
-                ebc(alloc, &words, &mut folder, &mut out),
-                wanted,
-                "at {row}"
-            );
-            assert_eq!(rt; out.text(), printed.as_bytes(), "at {row}");
-        }
+        let mut outside = Outside::new(alloc);
+        outside.insert("i", image.as_slice())?;
+        outside.fail(alloc, 1)?;
+        let rows = format!(in alloc; "{LISTED}{lines}{DATA}")?;
+        all_told(&rt, alloc, &mut outside, rows.as_str())?;
     }
     Ok(())
 }
