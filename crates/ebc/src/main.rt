@@ -44,15 +44,18 @@ fn complaint(outcome: Outcome) -> &'static str
     }
 }
 
-fn main(rt: HostRuntime) -> ExitCode {
-    let outcome = match words_of(&rt) {
-        Ok(words) => {
-            let mut folder = HostFolder::new(&rt);
-            let mut out = HostSink::new(io::writer(&rt));
-            ebc(rt.alloc(), &words, &mut folder, &mut out)
-        }
-        Err(_) => Outcome::NoMemory,
+// The outcome of the words, over the system's files and output.
+fn outcome(rt: &HostRuntime) -> Outcome {
+    let Ok(words) = words_of(rt) else {
+        return Outcome::NoMemory;
     };
+    let mut folder = HostFolder::new(rt);
+    let mut out = HostSink::new(io::writer(rt));
+    ebc(rt.alloc(), &words, &mut folder, &mut out)
+}
+
+fn main(rt: HostRuntime) -> ExitCode {
+    let outcome = outcome(&rt);
     // The exit status tells the outcome also where this line can't be printed.
     let _ = eprint!(rt; "{}", complaint(outcome));
     ExitCode::from(outcome.code())
