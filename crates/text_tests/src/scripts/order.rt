@@ -1,5 +1,5 @@
 //! Which values fit which cells of objects, which of two faults is told, and what is left to the run.
-use crate::tables::{Frame, all_hold, notes_of};
+use crate::tables::{Frame, Reader, all_hold, notes_of};
 use std::test::Fail;
 
 /// Shapes with cells of each kind, and one that isn't well formed; a static object; a native method.
@@ -51,8 +51,8 @@ shape = 'A', count = 1, cells = ['0 y int 0', '0 y int 0']|Twice object[0].cells
 shape = 'A', count = 1, cells = ['0 y int 0', '0 y int 0', 'z']|Range object[0].cells";
 
 const OBJECT: Frame = Frame {
-    script: "version = 1#args = ['int 0', 'null']#object = [{ @ }]",
-    record: "@",
+    text: "version = 1#args = ['int 0', 'null']#object = [{ @ }]",
+    told: "@",
     no: "",
 };
 
@@ -76,8 +76,8 @@ args = ['any'], result = 'any', \"x\\ny\" = 1|Kind call[0].\"x\\u000ay\"
 args = ['any'], make = [{ shape = 'A', count = 1 }, { shape = 'W', count = 1, cells = ['0 w ptr 1 0'] }], result = 'any'|Ok";
 
 const CALL: Frame = Frame {
-    script: "version = 1#args = ['int 0', 'null']#call = [{ signature = 's', @ }]",
-    record: "@",
+    text: "version = 1#args = ['int 0', 'null']#call = [{ signature = 's', @ }]",
+    told: "@",
     no: "",
 };
 
@@ -104,8 +104,8 @@ version = 1#args = ['int 0', 'null']#object = [{ shape = 'K', count = 8192 }]#ca
 version = 1#args = ['int 0', 'null']#object = [{ shape = 'K', count = 8191 }]#call = [{ signature = 's', args = ['any'], make = [{ shape = 'K', count = 1 }], result = 'any' }]|Range call[0].make";
 
 const SCRIPT: Frame = Frame {
-    script: "@",
-    record: "@",
+    text: "@",
+    told: "@",
     no: "",
 };
 
@@ -113,7 +113,8 @@ const SCRIPT: Frame = Frame {
 fn tells_order_and_fits(rt: HostRuntime) -> Result<(), Fail> {
     let alloc = rt.alloc();
     let notes = notes_of(alloc, NOTES)?;
-    all_hold(&rt, alloc, &notes, &OBJECT, CELLS)?;
-    all_hold(&rt, alloc, &notes, &CALL, CALLS)?;
-    all_hold(&rt, alloc, &notes, &SCRIPT, SCRIPTS)
+    let reader = Reader::Script(&notes);
+    all_hold(&rt, alloc, &reader, &OBJECT, CELLS)?;
+    all_hold(&rt, alloc, &reader, &CALL, CALLS)?;
+    all_hold(&rt, alloc, &reader, &SCRIPT, SCRIPTS)
 }

@@ -1,5 +1,5 @@
 //! What is told of scripts by the keys, the repeats and the names in them, in the order of the reader's passes.
-use crate::tables::{Frame, all_hold, notes_of};
+use crate::tables::{Frame, Reader, all_hold, notes_of};
 use std::test::Fail;
 
 /// A shape with a cell of each kind that matters here, a native method, and a function that the firmware may enter.
@@ -58,8 +58,8 @@ call = [{ signature = 's', write = ['0 0 y null'], result = 'any' }, { signature
 call = [{ signature = 's', write = ['0 0 y null'], result = 'any' }, { signature = 's', make = [{ shape = 'B', count = 1 }], result = 'any' }]|Name call[1].make[0].shape";
 
 const AFTER_VERSION: Frame = Frame {
-    script: "version = 1#@",
-    record: "@",
+    text: "version = 1#@",
+    told: "@",
     no: "",
 };
 
@@ -67,5 +67,5 @@ const AFTER_VERSION: Frame = Frame {
 fn tells_keys_repeats_and_names(rt: HostRuntime) -> Result<(), Fail> {
     let alloc = rt.alloc();
     let notes = notes_of(alloc, NOTES)?;
-    all_hold(&rt, alloc, &notes, &AFTER_VERSION, KEYS)
+    all_hold(&rt, alloc, &Reader::Script(&notes), &AFTER_VERSION, KEYS)
 }

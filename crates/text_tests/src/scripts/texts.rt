@@ -1,5 +1,5 @@
 //! The small texts: what each stands for, and what is no text of its form.
-use crate::tables::{Frame, all_hold, notes_of};
+use crate::tables::{Frame, Reader, all_hold, notes_of};
 use std::test::Fail;
 
 /// A shape with two fields, a native method, and a function that the firmware may enter.
@@ -12,8 +12,8 @@ signature = [{ name = 's', method = 'Locate', params = ['n any'], result = 'stat
 ";
 
 const RESULT: Frame = Frame {
-    script: "version = 1#call = [{ signature = 's', args = ['any'], result = '@' }]",
-    record: "Script { version: 1, args: Sequence { items: [] }, object: Sequence { items: [] }, \
+    text: "version = 1#call = [{ signature = 's', args = ['any'], result = '@' }]",
+    told: "Script { version: 1, args: Sequence { items: [] }, object: Sequence { items: [] }, \
         call: Sequence { items: [ScriptCall { signature: 0, \
         args: Sequence { items: [Seen { lent: false, value: Any }] }, enter: Sequence { items: [] }, \
         make: Sequence { items: [] }, out: Sequence { items: [] }, write: Sequence { items: [] }, result: @ }] } }",
@@ -74,8 +74,8 @@ lent int 1|no
 wild 0000000000000001|no";
 
 const ARGUMENT: Frame = Frame {
-    script: "version = 1#call = [{ signature = 's', args = ['@'], result = 'any' }]",
-    record: "Script { version: 1, args: Sequence { items: [] }, object: Sequence { items: [] }, \
+    text: "version = 1#call = [{ signature = 's', args = ['@'], result = 'any' }]",
+    told: "Script { version: 1, args: Sequence { items: [] }, object: Sequence { items: [] }, \
         call: Sequence { items: [ScriptCall { signature: 0, \
         args: Sequence { items: [Seen { @ }] }, enter: Sequence { items: [] }, \
         make: Sequence { items: [] }, out: Sequence { items: [] }, write: Sequence { items: [] }, result: Any }] } }",
@@ -99,8 +99,8 @@ Out|no
 wild 0000000000000001|no";
 
 const ENTER: Frame = Frame {
-    script: "version = 1#call = [{ signature = 's', args = ['any'], enter = ['@'], result = 'any' }]",
-    record: "Script { version: 1, args: Sequence { items: [] }, object: Sequence { items: [] }, \
+    text: "version = 1#call = [{ signature = 's', args = ['any'], enter = ['@'], result = 'any' }]",
+    told: "Script { version: 1, args: Sequence { items: [] }, object: Sequence { items: [] }, \
         call: Sequence { items: [ScriptCall { signature: 0, \
         args: Sequence { items: [Seen { lent: false, value: Any }] }, \
         enter: Sequence { items: [Callback { function: 1, values: Sequence { items: [@] } }] }, \
@@ -123,8 +123,8 @@ tick int 1,  null|no
 tick out|no";
 
 const OUT: Frame = Frame {
-    script: "version = 1#call = [{ signature = 's', args = ['any'], out = ['@'], result = 'any' }]",
-    record: "Script { version: 1, args: Sequence { items: [] }, object: Sequence { items: [] }, \
+    text: "version = 1#call = [{ signature = 's', args = ['any'], out = ['@'], result = 'any' }]",
+    told: "Script { version: 1, args: Sequence { items: [] }, object: Sequence { items: [] }, \
         call: Sequence { items: [ScriptCall { signature: 0, \
         args: Sequence { items: [Seen { lent: false, value: Any }] }, enter: Sequence { items: [] }, \
         make: Sequence { items: [] }, out: Sequence { items: [OutValue { @ }] }, write: Sequence { items: [] }, result: Any }] } }",
@@ -142,8 +142,8 @@ a null|no
 0 out|no";
 
 const CELL: Frame = Frame {
-    script: "version = 1#object = [{ shape = 'A', count = 9, cells = ['@'] }]",
-    record: "Script { version: 1, args: Sequence { items: [] }, \
+    text: "version = 1#object = [{ shape = 'A', count = 9, cells = ['@'] }]",
+    told: "Script { version: 1, args: Sequence { items: [] }, \
         object: Sequence { items: [ScriptObject { shape: 0, count: 9, cells: Sequence { items: [CellValue { @ }] } }] }, \
         call: Sequence { items: [] } }",
     no: "Range object[0].cells",
@@ -163,9 +163,9 @@ x 0 int 9|no
 0 x out|no";
 
 const WRITE: Frame = Frame {
-    script: "version = 1#object = [{ shape = 'A', count = 9 }]#\
+    text: "version = 1#object = [{ shape = 'A', count = 9 }]#\
         call = [{ signature = 's', args = ['any'], write = ['@'], result = 'any' }]",
-    record: "Script { version: 1, args: Sequence { items: [] }, \
+    told: "Script { version: 1, args: Sequence { items: [] }, \
         object: Sequence { items: [ScriptObject { shape: 0, count: 9, cells: Sequence { items: [] } }] }, \
         call: Sequence { items: [ScriptCall { signature: 0, \
         args: Sequence { items: [Seen { lent: false, value: Any }] }, enter: Sequence { items: [] }, \
@@ -187,10 +187,11 @@ const WRITES: &str = "\
 fn reads_texts(rt: HostRuntime) -> Result<(), Fail> {
     let alloc = rt.alloc();
     let notes = notes_of(alloc, NOTES)?;
-    all_hold(&rt, alloc, &notes, &RESULT, VALUES)?;
-    all_hold(&rt, alloc, &notes, &ARGUMENT, ARGUMENTS)?;
-    all_hold(&rt, alloc, &notes, &ENTER, CALLBACKS)?;
-    all_hold(&rt, alloc, &notes, &OUT, OUTS)?;
-    all_hold(&rt, alloc, &notes, &CELL, CELLS)?;
-    all_hold(&rt, alloc, &notes, &WRITE, WRITES)
+    let reader = Reader::Script(&notes);
+    all_hold(&rt, alloc, &reader, &RESULT, VALUES)?;
+    all_hold(&rt, alloc, &reader, &ARGUMENT, ARGUMENTS)?;
+    all_hold(&rt, alloc, &reader, &ENTER, CALLBACKS)?;
+    all_hold(&rt, alloc, &reader, &OUT, OUTS)?;
+    all_hold(&rt, alloc, &reader, &CELL, CELLS)?;
+    all_hold(&rt, alloc, &reader, &WRITE, WRITES)
 }

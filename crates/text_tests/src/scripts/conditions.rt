@@ -1,5 +1,5 @@
 //! What is told of scripts by the conditions on them, in their order.
-use crate::tables::{Frame, all_hold, notes_of};
+use crate::tables::{Frame, Reader, all_hold, notes_of};
 use std::alloc::{AllocError, Global};
 use std::process::Abort;
 use std::test::Fail;
@@ -30,8 +30,8 @@ args = ['int 9', 'ptr 1 0']#call = [{ signature = 's', args = ['any'], make = [{
 args = ['int 10', 'null']#call = [{ signature = 's', result = 'any' }]|Range args";
 
 const AFTER_VERSION: Frame = Frame {
-    script: "version = 1#@",
-    record: "@",
+    text: "version = 1#@",
+    told: "@",
     no: "",
 };
 
@@ -69,8 +69,8 @@ object = [{ shape = 'K', count = 8000 }, { shape = 'K', count = 192 }]|Range obj
 object = [{ shape = 'K', count = 8000 }]#call = [{ signature = 's', args = ['any'], make = [{ shape = 'K', count = 192 }], result = 'any' }]|Range call[0].make";
 
 const AFTER_ARGUMENTS: Frame = Frame {
-    script: "version = 1#args = ['int 0', 'null']#@",
-    record: "@",
+    text: "version = 1#args = ['int 0', 'null']#@",
+    told: "@",
     no: "",
 };
 
@@ -78,8 +78,9 @@ const AFTER_ARGUMENTS: Frame = Frame {
 fn tells_conditions(rt: HostRuntime) -> Result<(), Fail> {
     let alloc = rt.alloc();
     let notes = notes_of(alloc, NOTES)?;
-    all_hold(&rt, alloc, &notes, &AFTER_VERSION, ARGUMENTS)?;
-    all_hold(&rt, alloc, &notes, &AFTER_ARGUMENTS, CONDITIONS)
+    let reader = Reader::Script(&notes);
+    all_hold(&rt, alloc, &reader, &AFTER_VERSION, ARGUMENTS)?;
+    all_hold(&rt, alloc, &reader, &AFTER_ARGUMENTS, CONDITIONS)
 }
 
 /// A list whose items are so many of one text, what stands before and after them, and what is told.
@@ -127,9 +128,10 @@ fn repeated(
 fn tells_limits(rt: HostRuntime) -> Result<(), Fail> {
     let alloc = rt.alloc();
     let notes = notes_of(alloc, NOTES)?;
+    let reader = Reader::Script(&notes);
     for row in LIMITS.split('\n') {
         let row = limit_row(alloc, row)?;
-        all_hold(&rt, alloc, &notes, &AFTER_ARGUMENTS, row.as_str())?;
+        all_hold(&rt, alloc, &reader, &AFTER_ARGUMENTS, row.as_str())?;
     }
     Ok(())
 }

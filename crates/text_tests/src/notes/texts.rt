@@ -1,5 +1,5 @@
 //! The small texts: what each stands for, and what is no text of its form.
-use crate::tables::{Frame, Reader, all_hold};
+use crate::tables::{Frame, Part, Reader, all_hold};
 use note_texts::{
     CellText, FieldText, FromText, ItemText, ParamText, RegisterText, ResultText, TypeText,
     WantParamText, WantText,
@@ -11,10 +11,9 @@ use std::test::Fail;
 
 /// A name.
 const NAME: Frame = Frame {
-    reader: Reader::Shapes,
     text: "version = 1#entry = 'main'#shape = [{ name = '@', size = [1, 4] }]#\
         function = [{ name = 'main', place = 16, end = 32, level = 0, need = [0, 0], result = 'any' }]",
-    record: "Sequence { items: [Shape { name: Name { text: \"@\" }, n: 1, c: 4, fields: Sequence { items: [] } }] }",
+    told: "Sequence { items: [Shape { name: Name { text: \"@\" }, n: 1, c: 4, fields: Sequence { items: [] } }] }",
     no: "Range shape[0].name",
 };
 
@@ -30,11 +29,10 @@ n23456789_123456789_123456789_123456789_123456789_123456789_1234|no";
 
 /// A field of a shape.
 const FIELD: Frame = Frame {
-    reader: Reader::Shapes,
     text: "version = 1#entry = 'main'#shape = [{ name = 'S', size = [1, 4], fields = ['@'] }]#\
         function = [{ name = 'main', place = 16, end = 32, level = 0, need = [0, 0], result = 'any' }]#\
         signature = [{ name = 's', method = 'M.x', result = 'none' }]",
-    record: "Sequence { items: [Shape { name: Name { text: \"S\" }, n: 1, c: 4, fields: Sequence { items: [Field { @ }] } }] }",
+    told: "Sequence { items: [Shape { name: Name { text: \"S\" }, n: 1, c: 4, fields: Sequence { items: [Field { @ }] } }] }",
     no: "Range shape[0].fields",
 };
 
@@ -45,11 +43,10 @@ f 0 4294967296 i8|no"#;
 
 /// A cell.
 const CELL: Frame = Frame {
-    reader: Reader::Shapes,
     text: "version = 1#entry = 'main'#shape = [{ name = 'S', size = [1, 4], fields = ['f 0 0 @'] }]#\
         function = [{ name = 'main', place = 16, end = 32, level = 0, need = [0, 0], result = 'any' }]#\
         signature = [{ name = 's', method = 'M.x', result = 'none' }]",
-    record: "Sequence { items: [Shape { name: Name { text: \"S\" }, n: 1, c: 4, fields: Sequence { items: [\
+    told: "Sequence { items: [Shape { name: Name { text: \"S\" }, n: 1, c: 4, fields: Sequence { items: [\
         Field { name: Name { text: \"f\" }, n: 0, c: 0, cell: @ }] } }] }",
     no: "Range shape[0].fields",
 };
@@ -73,13 +70,12 @@ any|no";
 
 /// A type, of a register at a point of a function with the locals F and g.1.
 const TYPE: Frame = Frame {
-    reader: Reader::Points,
     text: "version = 1#entry = 'main'#shape = [{ name = 'S', size = [1, 4], fields = ['F 0 0 i32', 'g.1 1 0 i8'] }]#\
         thunk = [{ place = 64, function = 'main' }]#\
         function = [{ name = 'main', place = 16, end = 32, level = 0, need = [0, 0], locals = 'S', result = 'any' }]#\
         point = [{ place = 18, regs = ['R4 @'], made = 0 }]#\
         signature = [{ name = 's', method = 'M', result = 'none' }]",
-    record: "Sequence { items: [Point { place: 18, state: State { regs: [Any, Saved(1), Saved(2), Saved(3), @, Any, Any, Any], \
+    told: "Sequence { items: [Point { place: 18, state: State { regs: [Any, Saved(1), Saved(2), Saved(3), @, Any, Any, Any], \
         items: Items { items: [] }, written: 0, made: 0, fact: None } }] }",
     no: "Range point[0].regs",
 };
@@ -121,11 +117,10 @@ lent:ptr?:S*2|Lent(Ptr { shape: 0, count: 2, null: true })";
 
 /// What an argument of a native method has to be.
 const WANT: Frame = Frame {
-    reader: Reader::Signatures,
     text: "version = 1#entry = 'main'#shape = [{ name = 'S', size = [1, 4] }]#\
         function = [{ name = 'main', place = 16, end = 32, level = 0, need = [0, 0], result = 'any' }]#\
         signature = [{ name = 's', method = 'M', params = ['@'], result = 'none' }]",
-    record: "Sequence { items: [Name { text: \"M\" }] } Sequence { items: [Signature { name: Name { text: \"s\" }, method: 0, \
+    told: "Sequence { items: [Name { text: \"M\" }] } Sequence { items: [Signature { name: Name { text: \"s\" }, method: 0, \
         params: Sequence { items: [WantParam { @ }] }, result: None }] }",
     no: "Range signature[0].params",
 };
@@ -144,11 +139,10 @@ n inout:i64|kind: N, want: Inout(I64)";
 
 /// The result of a native method.
 const RESULT: Frame = Frame {
-    reader: Reader::Signatures,
     text: "version = 1#entry = 'main'#shape = [{ name = 'S', size = [1, 4] }]#\
         function = [{ name = 'main', place = 16, end = 32, level = 0, need = [0, 0], result = 'any' }]#\
         signature = [{ name = 's', method = 'M', result = '@' }]",
-    record: "Sequence { items: [Name { text: \"M\" }] } Sequence { items: [Signature { name: Name { text: \"s\" }, method: 0, \
+    told: "Sequence { items: [Name { text: \"M\" }] } Sequence { items: [Signature { name: Name { text: \"s\" }, method: 0, \
         params: Sequence { items: [] }, result: @ }] }",
     no: "Range signature[0].result",
 };
@@ -164,10 +158,9 @@ ptr?:S*2+0,0|Some(Ptr { shape: 0, count: 2, n: 0, c: 0, null: true })";
 
 /// A parameter of a function.
 const PARAM: Frame = Frame {
-    reader: Reader::Functions,
     text: "version = 1#entry = 'main'#\
         function = [{ name = 'main', place = 16, end = 32, level = 0, need = [0, 0], params = ['@'], result = 'any' }]",
-    record: "Sequence { items: [FnNote { name: Name { text: \"main\" }, place: 16, end: 32, level: 0, need: Pair { n: 0, c: 0 }, \
+    told: "Sequence { items: [FnNote { name: Name { text: \"main\" }, place: 16, end: 32, level: 0, need: Pair { n: 0, c: 0 }, \
         locals: None, params: Sequence { items: [Param { @ }] }, result: Any, enter: false }] }",
     no: "Range function[0].params",
 };
@@ -179,11 +172,10 @@ q handle|kind: Q, ty: Handle";
 
 /// An item of the stack.
 const ITEM: Frame = Frame {
-    reader: Reader::Points,
     text: "version = 1#entry = 'main'#shape = [{ name = 'S', size = [1, 4] }]#\
         function = [{ name = 'main', place = 16, end = 32, level = 0, need = [0, 0], locals = 'S', result = 'any' }]#\
         point = [{ place = 18, stack = ['@'], made = 0 }]",
-    record: "Sequence { items: [Point { place: 18, state: State { regs: [Any, Saved(1), Saved(2), Saved(3), Any, Any, Any, Any], \
+    told: "Sequence { items: [Point { place: 18, state: State { regs: [Any, Saved(1), Saved(2), Saved(3), Any, Any, Any, Any], \
         items: Items { items: [@] }, written: 0, made: 0, fact: None } }] }",
     no: "Range point[0].stack",
 };
@@ -196,11 +188,10 @@ locals|Locals";
 
 /// A register at a point.
 const REGISTER: Frame = Frame {
-    reader: Reader::Points,
     text: "version = 1#entry = 'main'#\
         function = [{ name = 'main', place = 16, end = 32, level = 0, need = [0, 0], result = 'any' }]#\
         point = [{ place = 18, regs = ['@'], made = 0 }]",
-    record: "Sequence { items: [Point { place: 18, state: State { regs: [Any, @], \
+    told: "Sequence { items: [Point { place: 18, state: State { regs: [Any, @], \
         items: Items { items: [] }, written: 0, made: 0, fact: None } }] }",
     no: "Range point[0].regs",
 };
@@ -212,15 +203,27 @@ R7 mask|Saved(1), Saved(2), Saved(3), Any, Any, Any, Mask";
 #[test]
 fn reads_texts(rt: HostRuntime) -> Result<(), Fail> {
     let alloc = rt.alloc();
-    all_hold(&rt, alloc, &NAME, NAMES)?;
-    all_hold(&rt, alloc, &FIELD, FIELDS)?;
-    all_hold(&rt, alloc, &CELL, CELLS)?;
-    all_hold(&rt, alloc, &TYPE, TYPES)?;
-    all_hold(&rt, alloc, &WANT, WANTS)?;
-    all_hold(&rt, alloc, &RESULT, RESULTS)?;
-    all_hold(&rt, alloc, &PARAM, PARAMS)?;
-    all_hold(&rt, alloc, &ITEM, ITEMS)?;
-    all_hold(&rt, alloc, &REGISTER, REGISTERS)
+    all_hold(&rt, alloc, &Reader::Notes(Part::Shapes), &NAME, NAMES)?;
+    all_hold(&rt, alloc, &Reader::Notes(Part::Shapes), &FIELD, FIELDS)?;
+    all_hold(&rt, alloc, &Reader::Notes(Part::Shapes), &CELL, CELLS)?;
+    all_hold(&rt, alloc, &Reader::Notes(Part::Points), &TYPE, TYPES)?;
+    all_hold(&rt, alloc, &Reader::Notes(Part::Signatures), &WANT, WANTS)?;
+    all_hold(
+        &rt,
+        alloc,
+        &Reader::Notes(Part::Signatures),
+        &RESULT,
+        RESULTS,
+    )?;
+    all_hold(&rt, alloc, &Reader::Notes(Part::Functions), &PARAM, PARAMS)?;
+    all_hold(&rt, alloc, &Reader::Notes(Part::Points), &ITEM, ITEMS)?;
+    all_hold(
+        &rt,
+        alloc,
+        &Reader::Notes(Part::Points),
+        &REGISTER,
+        REGISTERS,
+    )
 }
 
 /// No text of these, with `;` between each two, is of the form.

@@ -1,16 +1,15 @@
 //! What is told of notes by the keys, the repeats and the names in them, in the order of the reader's passes.
-use crate::tables::{Frame, Reader, all_hold, framed, lines_of, tells};
+use crate::tables::{Frame, Part, Reader, all_hold, framed, lines_of, tells};
 use std::alloc::{AllocError, Global};
 use std::process::Abort;
 use std::test::Fail;
 
 /// A key of the whole text.
 const KEY: Frame = Frame {
-    reader: Reader::Notes,
     text: "version = 1#\
         entry = 'main'#\
         @",
-    record: "@",
+    told: "@",
     no: "",
 };
 
@@ -36,11 +35,10 @@ zone = 1#Zone = 1|Kind Zone";
 
 /// The last keys of a function.
 const FUNCTION_KEY: Frame = Frame {
-    reader: Reader::Notes,
     text: "version = 1#\
         entry = 'main'#\
         function = [{ name = 'main', place = 16, end = 32, level = 0, need = [0, 0], @ }]",
-    record: "@",
+    told: "@",
     no: "",
 };
 
@@ -57,8 +55,9 @@ params = [1, 1, 1, 1, 1, 1, 1, 1, 1, 1, 1, 1, 1, 1, 1, 1, 1], result = 'any'|Ran
 #[test]
 fn tells_keys(rt: HostRuntime) -> Result<(), Fail> {
     let alloc = rt.alloc();
-    all_hold(&rt, alloc, &KEY, KEYS)?;
-    all_hold(&rt, alloc, &FUNCTION_KEY, FUNCTION_KEYS)
+    let reader = Reader::Notes(Part::Whole);
+    all_hold(&rt, alloc, &reader, &KEY, KEYS)?;
+    all_hold(&rt, alloc, &reader, &FUNCTION_KEY, FUNCTION_KEYS)
 }
 
 /// A list of so many items, each one text but that it has the item's number in place of each `$`; what stands around the items;
@@ -119,7 +118,13 @@ fn try_limit(rt: &impl Abort, alloc: Global, row: &str) -> Result<(), Fail> {
     let list = framed(alloc, list, items.as_str())?;
     let text = framed(alloc, KEY.text, list.as_str())?;
     let text = lines_of(alloc, text.as_str())?;
-    tells(rt, alloc, Reader::Notes, text.as_bytes(), answer)
+    tells(
+        rt,
+        alloc,
+        &Reader::Notes(Part::Whole),
+        text.as_bytes(),
+        answer,
+    )
 }
 
 #[test]
@@ -133,13 +138,12 @@ fn tells_limits(rt: HostRuntime) -> Result<(), Fail> {
 
 /// A key after shapes and functions.
 const BELOW_FUNCTIONS: Frame = Frame {
-    reader: Reader::Notes,
     text: "version = 1#\
         entry = 'main'#\
         shape = [{ name = 'L', size = [1, 4], fields = ['p 0 0 ptr:L', 'x 1 0 i32'] }]#\
         function = [{ name = 'main', place = 16, end = 32, level = 0, need = [0, 0], locals = 'L', result = 'any' }]#\
         @",
-    record: "@",
+    told: "@",
     no: "",
 };
 
@@ -154,12 +158,11 @@ signature = [{ name = 's', method = 'M', result = 'none' }]#site = [{ place = 18
 
 /// The last keys of a function, and what follows it.
 const AFTER_FUNCTION: Frame = Frame {
-    reader: Reader::Notes,
     text: "version = 1#\
         entry = 'main'#\
         shape = [{ name = 'L', size = [1, 4], fields = ['p 0 0 ptr:L', 'x 1 0 i32'] }]#\
         function = [{ name = 'main', place = 16, end = 32, level = 0, need = [0, 0], @",
-    record: "@",
+    told: "@",
     no: "",
 };
 
@@ -170,12 +173,11 @@ result = 'any' }, { name = 'L', place = 18, end = 18, level = 0, need = [0, 0], 
 
 /// A key after functions.
 const WITHOUT_SHAPES: Frame = Frame {
-    reader: Reader::Notes,
     text: "version = 1#\
         entry = 'main'#\
         function = [{ name = 'main', place = 16, end = 32, level = 0, need = [0, 0], locals = 'L', result = 'any' }]#\
         @",
-    record: "@",
+    told: "@",
     no: "",
 };
 
@@ -186,9 +188,10 @@ shape = [{ name = 'L', size = [0, 4], fields = ['p 0 0 i8', 'q 0 1 i8', 'p 0 2 i
 #[test]
 fn tells_repeats(rt: HostRuntime) -> Result<(), Fail> {
     let alloc = rt.alloc();
-    all_hold(&rt, alloc, &BELOW_FUNCTIONS, REPEATS)?;
-    all_hold(&rt, alloc, &AFTER_FUNCTION, REPEATED_FUNCTIONS)?;
-    all_hold(&rt, alloc, &WITHOUT_SHAPES, REPEATED_SHAPES)
+    let reader = Reader::Notes(Part::Whole);
+    all_hold(&rt, alloc, &reader, &BELOW_FUNCTIONS, REPEATS)?;
+    all_hold(&rt, alloc, &reader, &AFTER_FUNCTION, REPEATED_FUNCTIONS)?;
+    all_hold(&rt, alloc, &reader, &WITHOUT_SHAPES, REPEATED_SHAPES)
 }
 
 const NAMES: &str = "\
@@ -204,12 +207,11 @@ signature = [{ name = 's', method = 'M', result = 'none' }]#site = [{ place = 18
 
 /// The last keys of a function, after shapes.
 const IN_FUNCTION: Frame = Frame {
-    reader: Reader::Notes,
     text: "version = 1#\
         entry = 'main'#\
         shape = [{ name = 'L', size = [1, 4], fields = ['p 0 0 ptr:L', 'x 1 0 i32'] }]#\
         function = [{ name = 'main', place = 16, end = 32, level = 0, need = [0, 0], @ }]",
-    record: "@",
+    told: "@",
     no: "",
 };
 
@@ -237,17 +239,17 @@ shape = [{ name = 'K', size = [0, 4], fields = ['p 0 0 ptr:Z'] }]|Name entry";
 #[test]
 fn tells_names(rt: HostRuntime) -> Result<(), Fail> {
     let alloc = rt.alloc();
-    all_hold(&rt, alloc, &BELOW_FUNCTIONS, NAMES)?;
-    all_hold(&rt, alloc, &IN_FUNCTION, NAMES_IN_FUNCTIONS)?;
-    all_hold(&rt, alloc, &WITHOUT_SHAPES, FIRST_PASS)?;
-    all_hold(&rt, alloc, &KEY, NO_ENTRY)
+    let reader = Reader::Notes(Part::Whole);
+    all_hold(&rt, alloc, &reader, &BELOW_FUNCTIONS, NAMES)?;
+    all_hold(&rt, alloc, &reader, &IN_FUNCTION, NAMES_IN_FUNCTIONS)?;
+    all_hold(&rt, alloc, &reader, &WITHOUT_SHAPES, FIRST_PASS)?;
+    all_hold(&rt, alloc, &reader, &KEY, NO_ENTRY)
 }
 
 const SIGNATURES: Frame = Frame {
-    reader: Reader::Signatures,
     text: "version = 1#entry = 'main'#\
         function = [{ name = 'main', place = 16, end = 32, level = 0, need = [0, 0], result = 'any' }]#@",
-    record: "Sequence { items: [Name { text: \"Read\" }, Name { text: \"Ask\" }] } \
+    told: "Sequence { items: [Name { text: \"Read\" }, Name { text: \"Ask\" }] } \
         Sequence { items: [@] }",
     no: "",
 };
@@ -258,5 +260,11 @@ const METHODS: &str =
 
 #[test]
 fn numbers_methods(rt: HostRuntime) -> Result<(), Fail> {
-    all_hold(&rt, rt.alloc(), &SIGNATURES, METHODS)
+    all_hold(
+        &rt,
+        rt.alloc(),
+        &Reader::Notes(Part::Signatures),
+        &SIGNATURES,
+        METHODS,
+    )
 }

@@ -1,16 +1,15 @@
 //! What is told of notes whose texts and names are right, but in which a condition fails.
-use crate::tables::{Frame, Reader, all_hold};
+use crate::tables::{Frame, Part, Reader, all_hold};
 use std::test::Fail;
 
 /// The first keys of the last function.
 const LAST_FUNCTION: Frame = Frame {
-    reader: Reader::Notes,
     text: "version = 1#\
         entry = 'main'#\
         shape = [{ name = 'L', size = [1, 4], fields = ['p 0 0 ptr:L', 'x 1 0 i32'] }]#\
         thunk = [{ place = 64, function = 'main' }]#\
         function = [{ name = 'main', place = 16, end = 32, level = 0, need = [0, 0], locals = 'L', result = 'status' }, @level = 0, need = [0, 0], result = 'any' }]",
-    record: "@",
+    told: "@",
     no: "",
 };
 
@@ -21,14 +20,13 @@ const FUNCTIONS_IN_ORDER: &str = "\
 
 /// A key after two functions, of which the first has locals.
 const BELOW_FUNCTIONS: Frame = Frame {
-    reader: Reader::Notes,
     text: "version = 1#\
         entry = 'main'#\
         shape = [{ name = 'L', size = [1, 4], fields = ['p 0 0 ptr:L', 'x 1 0 i32'] }]#\
         thunk = [{ place = 64, function = 'main' }]#\
         function = [{ name = 'main', place = 16, end = 32, level = 0, need = [0, 0], locals = 'L', result = 'status' }, { name = 'help', place = 32, end = 48, level = 0, need = [0, 0], result = 'any' }]#\
         @",
-    record: "@",
+    told: "@",
     no: "",
 };
 
@@ -41,13 +39,12 @@ point = [{ place = 20, made = 0 }, { place = 48, made = 0 }]|Range point[1].plac
 
 /// The place and the last keys of a point. The functions overlap, one has no byte, and there is a gap; of the four, the second has locals.
 const POINT_IN_OVERLAP: Frame = Frame {
-    reader: Reader::Notes,
     text: "version = 1#\
         entry = 'main'#\
         shape = [{ name = 'L', size = [1, 4], fields = ['p 0 0 ptr:L'] }]#\
         function = [{ name = 'main', place = 0, end = 4, level = 0, need = [0, 0], result = 'any' }, { name = 'b', place = 2, end = 10, level = 0, need = [0, 0], locals = 'L', result = 'any' }, { name = 'c', place = 10, end = 10, level = 0, need = [0, 0], result = 'any' }, { name = 'd', place = 12, end = 20, level = 0, need = [0, 0], result = 'any' }]#\
         point = [{ made = 0, place = @",
-    record: "@",
+    told: "@",
     no: "",
 };
 
@@ -63,20 +60,20 @@ const OWNERS: &str = "\
 #[test]
 fn tells_places(rt: HostRuntime) -> Result<(), Fail> {
     let alloc = rt.alloc();
-    all_hold(&rt, alloc, &LAST_FUNCTION, FUNCTIONS_IN_ORDER)?;
-    all_hold(&rt, alloc, &BELOW_FUNCTIONS, PLACES_IN_ORDER)?;
-    all_hold(&rt, alloc, &POINT_IN_OVERLAP, OWNERS)
+    let reader = Reader::Notes(Part::Whole);
+    all_hold(&rt, alloc, &reader, &LAST_FUNCTION, FUNCTIONS_IN_ORDER)?;
+    all_hold(&rt, alloc, &reader, &BELOW_FUNCTIONS, PLACES_IN_ORDER)?;
+    all_hold(&rt, alloc, &reader, &POINT_IN_OVERLAP, OWNERS)
 }
 
 /// The last keys of a function.
 const FUNCTION: Frame = Frame {
-    reader: Reader::Notes,
     text: "version = 1#\
         entry = 'main'#\
         shape = [{ name = 'L', size = [1, 4], fields = ['p 0 0 ptr:L', 'x 1 0 i32'] }]#\
         thunk = [{ place = 64, function = 'main' }]#\
         function = [{ name = 'main', place = 16, end = 32, level = 0, need = [0, 0], locals = 'L', result = 'status' }, { name = 'help', place = 32, end = 48, level = 0, need = [0, 0], @ }]",
-    record: "@",
+    told: "@",
     no: "",
 };
 
@@ -105,13 +102,12 @@ result = 'sstatus!p'|Range function[1].result";
 
 /// The last keys of a function that the firmware enters.
 const ENTERED: Frame = Frame {
-    reader: Reader::Notes,
     text: "version = 1#\
         entry = 'main'#\
         shape = [{ name = 'L', size = [1, 4], fields = ['p 0 0 ptr:L', 'x 1 0 i32'] }]#\
         thunk = [{ place = 64, function = 'main' }]#\
         function = [{ name = 'main', place = 16, end = 32, level = 0, need = [0, 0], locals = 'L', result = 'status' }, { name = 'help', place = 32, end = 48, level = 0, need = [0, 0], @, enter = true }]",
-    record: "@",
+    told: "@",
     no: "",
 };
 
@@ -130,13 +126,12 @@ result = 'handle', params = ['n entry']|Range function[1].params";
 
 /// The last keys of the entry function.
 const ENTRY: Frame = Frame {
-    reader: Reader::Notes,
     text: "version = 1#\
         entry = 'main'#\
         shape = [{ name = 'L', size = [1, 4], fields = ['p 0 0 ptr:L', 'x 1 0 i32'] }]#\
         thunk = [{ place = 64, function = 'main' }]#\
         function = [{ name = 'main', place = 16, end = 32, level = 0, need = [0, 0], @ }]",
-    record: "@",
+    told: "@",
     no: "",
 };
 
@@ -147,14 +142,13 @@ result = 'handle'|Range function[0].result";
 
 /// The parameters of a signature.
 const SIGNATURE: Frame = Frame {
-    reader: Reader::Notes,
     text: "version = 1#\
         entry = 'main'#\
         shape = [{ name = 'L', size = [1, 4], fields = ['p 0 0 ptr:L', 'x 1 0 i32'] }]#\
         thunk = [{ place = 64, function = 'main' }]#\
         function = [{ name = 'main', place = 16, end = 32, level = 0, need = [0, 0], locals = 'L', result = 'status' }, { name = 'help', place = 32, end = 48, level = 0, need = [0, 0], result = 'any' }]#\
         signature = [{ name = 's', method = 'M', result = 'none', params = [@] }]",
-    record: "@",
+    told: "@",
     no: "",
 };
 
@@ -165,22 +159,22 @@ const WANTS: &str = "\
 #[test]
 fn tells_types(rt: HostRuntime) -> Result<(), Fail> {
     let alloc = rt.alloc();
-    all_hold(&rt, alloc, &FUNCTION, TYPES)?;
-    all_hold(&rt, alloc, &ENTERED, TYPES_OF_ENTERED)?;
-    all_hold(&rt, alloc, &ENTRY, TYPES_OF_ENTRY)?;
-    all_hold(&rt, alloc, &SIGNATURE, WANTS)
+    let reader = Reader::Notes(Part::Whole);
+    all_hold(&rt, alloc, &reader, &FUNCTION, TYPES)?;
+    all_hold(&rt, alloc, &reader, &ENTERED, TYPES_OF_ENTERED)?;
+    all_hold(&rt, alloc, &reader, &ENTRY, TYPES_OF_ENTRY)?;
+    all_hold(&rt, alloc, &reader, &SIGNATURE, WANTS)
 }
 
 /// The place and the last keys of a point.
 const POINT: Frame = Frame {
-    reader: Reader::Notes,
     text: "version = 1#\
         entry = 'main'#\
         shape = [{ name = 'L', size = [1, 4], fields = ['p 0 0 ptr:L', 'x 1 0 i32'] }]#\
         thunk = [{ place = 64, function = 'main' }]#\
         function = [{ name = 'main', place = 16, end = 32, level = 0, need = [0, 0], locals = 'L', result = 'status' }, { name = 'help', place = 32, end = 48, level = 0, need = [0, 0], result = 'any' }]#\
         point = [{ made = 0, place = @ }]",
-    record: "@",
+    told: "@",
     no: "",
 };
 
@@ -217,13 +211,12 @@ point = [{ place = 18, made = 0, stack = ['locals', 'locals'] }, { place = 20, m
 
 /// The last keys of a function, and what follows it.
 const AFTER_FUNCTION: Frame = Frame {
-    reader: Reader::Notes,
     text: "version = 1#\
         entry = 'main'#\
         shape = [{ name = 'L', size = [1, 4], fields = ['p 0 0 ptr:L', 'x 1 0 i32'] }]#\
         thunk = [{ place = 64, function = 'main' }]#\
         function = [{ name = 'main', place = 16, end = 32, level = 0, need = [0, 0], locals = 'L', result = 'status' }, { name = 'help', place = 32, end = 48, level = 0, need = [0, 0], @",
-    record: "@",
+    told: "@",
     no: "",
 };
 
@@ -241,20 +234,20 @@ result = 'any', enter = true }, { name = 'last', place = 48, end = 50, level = 0
 #[test]
 fn tells_points(rt: HostRuntime) -> Result<(), Fail> {
     let alloc = rt.alloc();
-    all_hold(&rt, alloc, &POINT, POINTS)?;
-    all_hold(&rt, alloc, &BELOW_FUNCTIONS, FIRST_OF_POINTS)?;
-    all_hold(&rt, alloc, &AFTER_FUNCTION, FIRST_OF_FUNCTIONS)
+    let reader = Reader::Notes(Part::Whole);
+    all_hold(&rt, alloc, &reader, &POINT, POINTS)?;
+    all_hold(&rt, alloc, &reader, &BELOW_FUNCTIONS, FIRST_OF_POINTS)?;
+    all_hold(&rt, alloc, &reader, &AFTER_FUNCTION, FIRST_OF_FUNCTIONS)
 }
 
 /// The end, the need and the last keys of the entry function.
 const SIZE_OF_ENTRY: Frame = Frame {
-    reader: Reader::Notes,
     text: "version = 1#\
         entry = 'main'#\
         shape = [{ name = 'L', size = [1, 4], fields = ['p 0 0 ptr:L', 'x 1 0 i32'] }]#\
         thunk = [{ place = 64, function = 'main' }]#\
         function = [{ name = 'main', place = 16, level = 0, locals = 'L', result = 'any', @ }]",
-    record: "@",
+    told: "@",
     no: "",
 };
 
@@ -274,13 +267,12 @@ end = 4194305, need = [0, 0]|Range function[0].end";
 
 /// The need, the end and the last keys of another function.
 const SIZE: Frame = Frame {
-    reader: Reader::Notes,
     text: "version = 1#\
         entry = 'main'#\
         shape = [{ name = 'L', size = [1, 4], fields = ['p 0 0 ptr:L', 'x 1 0 i32'] }]#\
         thunk = [{ place = 64, function = 'main' }]#\
         function = [{ name = 'main', place = 16, level = 0, locals = 'L', result = 'any', end = 32, need = [0, 0] }, { name = 'help', level = 0, result = 'any', place = 32, @ }]",
-    record: "@",
+    told: "@",
     no: "",
 };
 
@@ -292,6 +284,7 @@ need = [0, 116493], end = 34, enter = true|Range function[1].need";
 #[test]
 fn tells_sizes(rt: HostRuntime) -> Result<(), Fail> {
     let alloc = rt.alloc();
-    all_hold(&rt, alloc, &SIZE_OF_ENTRY, SIZES_OF_ENTRY)?;
-    all_hold(&rt, alloc, &SIZE, SIZES)
+    let reader = Reader::Notes(Part::Whole);
+    all_hold(&rt, alloc, &reader, &SIZE_OF_ENTRY, SIZES_OF_ENTRY)?;
+    all_hold(&rt, alloc, &reader, &SIZE, SIZES)
 }

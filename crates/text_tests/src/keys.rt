@@ -90,9 +90,8 @@ pub fn read_sample(alloc: Global, text: &[u8]) -> Result<Sample, NotesEnd> {
 
 /// All keys.
 const WHOLE: Frame = Frame {
-    reader: Reader::Keys,
     text: "@",
-    record: "@",
+    told: "@",
     no: "",
 };
 
@@ -118,12 +117,11 @@ number = 1#text = ''#pair = [8, '']|Range a.pair";
 
 /// Keys after the first ones.
 const MORE: Frame = Frame {
-    reader: Reader::Keys,
     text: "number = 1#\
         text = ''#\
         pair = [1, 2]#\
         @",
-    record: "@",
+    told: "@",
     no: "",
 };
 
@@ -158,8 +156,9 @@ const UNKNOWN_KEYS: &str = r#"a-b_9 = 1|Kind a.a-b_9
 #[test]
 fn tells_keys_of_a_table(rt: HostRuntime) -> Result<(), Fail> {
     let alloc = rt.alloc();
-    all_hold(&rt, alloc, &WHOLE, KEYS)?;
-    tells(&rt, alloc, Reader::Keys, b"# \xff", "NotToml")?;
-    all_hold(&rt, alloc, &MORE, MORE_KEYS)?;
-    all_hold(&rt, alloc, &MORE, UNKNOWN_KEYS)
+    let reader = Reader::Keys;
+    all_hold(&rt, alloc, &reader, &WHOLE, KEYS)?;
+    tells(&rt, alloc, &reader, b"# \xff", "NotToml")?;
+    all_hold(&rt, alloc, &reader, &MORE, MORE_KEYS)?;
+    all_hold(&rt, alloc, &reader, &MORE, UNKNOWN_KEYS)
 }

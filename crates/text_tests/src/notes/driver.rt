@@ -1,23 +1,7 @@
 //! The notes of a small driver, and what is told of texts near them.
-use crate::tables::{Frame, Reader, all_hold, tells};
-use std::alloc::Global;
-use std::process::Abort;
+use crate::driver::NOTES;
+use crate::tables::{Frame, Part, Reader, all_changes_hold, all_hold, tells};
 use std::test::Fail;
-
-/// A driver that finds blocks, hands one out, and registers a function that the firmware then enters.
-const DRIVER: &str = r#"version = 1
-entry = "main"
-shape = [{name="Sys", size=[2,0], fields=["loc 0 0 method:Locate", "reg 1 0 method:Register"]},
- {name="Blk", size=[2,0], fields=["count 0 0 i32", "next 1 0 ptr?:Blk"]},
- {name="L", size=[1,0], fields=["p 0 0 ptr:Blk"]}]
-thunk = [{place=0x2000, function="tick"}]
-function = [{name="main", place=0x1000, end=0x1044, level=1, need=[2,0], locals="L", params=["n handle", "n ptr:Sys"], result="status"},
- {name="tick", place=0x1044, end=0x104A, level=0, need=[0,0], params=["n int:0..4294967295"], result="status", enter=true}]
-point = [{place=0x103E, regs=["R7 status!p"], stack=["locals"], written=[], made=1}]
-signature = [{name="locate", method="Locate", params=["n out:ptr:Blk"], result="status"},
- {name="register", method="Register", params=["n entry"], result="status"}]
-site = [{place=0x1014, signature="locate"}, {place=0x1032, signature="register"}]
-"#;
 
 /// The record that they stand for.
 const RECORD: &str = "Notes { version: 1, entry: 0, \
@@ -59,25 +43,9 @@ name="tick"|name="main"|Twice function[1].name
 signature="register"|signature="free"|Name site[1].signature
 end=0x1044|end=0x1030|Range point[0].place"#;
 
-/// Tries a row `OLD|NEW|ANSWER`.
-fn try_change(rt: &impl Abort, alloc: Global, row: &str) -> Result<(), Fail> {
-    let Some((old, rest)) = row.split_once('|') else {
-        return Err(Fail::new("a row without a change"));
-    };
-    let Some((new, wanted)) = rest.split_once('|') else {
-        return Err(Fail::new("a row without an answer"));
-    };
-    let Some((before, after)) = DRIVER.split_once(old) else {
-        return Err(Fail::new("the text that is changed isn't there"));
-    };
-    let text = format!(in alloc; "{before}{new}{after}")?;
-    tells(rt, alloc, Reader::Notes, text.as_bytes(), wanted)
-}
-
 const WHOLE: Frame = Frame {
-    reader: Reader::Notes,
     text: "@",
-    record: "@",
+    told: "@",
     no: "",
 };
 
@@ -97,10 +65,9 @@ entry = 'main'|Missing version
 #[test]
 fn tells_driver(rt: HostRuntime) -> Result<(), Fail> {
     let alloc = rt.alloc();
-    tells(&rt, alloc, Reader::Notes, DRIVER.as_bytes(), RECORD)?;
-    tells(&rt, alloc, Reader::Notes, b"version = 1 # \xff", "NotToml")?;
-    for row in CHANGES.split('\n') {
-        try_change(&rt, alloc, row)?;
-    }
-    all_hold(&rt, alloc, &WHOLE, SHORT_TEXTS)
+    let reader = Reader::Notes(Part::Whole);
+    tells(&rt, alloc, &reader, NOTES.as_bytes(), RECORD)?;
+    tells(&rt, alloc, &reader, b"version = 1 # \xff", "NotToml")?;
+    all_changes_hold(&rt, alloc, &reader, NOTES, CHANGES)?;
+    all_hold(&rt, alloc, &reader, &WHOLE, SHORT_TEXTS)
 }

@@ -1,0 +1,5 @@
+//! Texts of notes.
+mod conditions;
+mod driver;
+mod passes;
+mod texts;

@@ -1,0 +1,6 @@
+//! Texts of scripts.
+mod conditions;
+mod driver;
+mod order;
+mod passes;
+mod texts;
