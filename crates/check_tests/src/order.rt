@@ -58,11 +58,11 @@ code 04 00 77 34 05 00 04 00
 point = [{place=0x1004, regs=[], stack=[], written=[], made=0}]
 want refused 00001002 State
 
-code 04 00 F7 34 00 50 00 00 00 00 00 00 04 00
+code 04 00 f7 34 00 50 00 00 00 00 00 00 04 00
 relocs 1004
 want refused 00001002 State
 
-code F7 34 00 50 00 00 00 00 00 00 04 00
+code f7 34 00 50 00 00 00 00 00 00 04 00
 point = [{place=0x1004, regs=[], stack=[], written=[], made=0}]
 relocs 1002
 want refused 00001000 Point
@@ -75,16 +75,16 @@ code 00 03 04 00 04 00 04 00
 relocs 1000
 want refused 00001000 Relocation
 
-code F7 34 00 50 00 00 00 00 00 00
+code f7 34 00 50 00 00 00 00 00 00
 relocs 1002
 want refused 00001000 Relocation
 
 shape = [{name="Rec", size=[1,4], fields=["v 0 0 i32"]}]
-code 1F C4 04 00
+code 1f c4 04 00
 point = [{place=0x1000, regs=["R5 ptr:Rec"], stack=[], written=[], made=0}]
 want refused 00001000 Address
 
-code 77 34 05 00 1F C5
+code 77 34 05 00 1f c5
 want refused 00001004 Address
 
 shape = [{name="Rec", size=[1,4], fields=["v 0 0 i32"]}]

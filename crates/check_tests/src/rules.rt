@@ -45,7 +45,7 @@ want neutral
 shape = [{name="E", size=[0,8], fields=["v 0 0 i64"]}]
 static = [{place=0x2000, shape="E", count=2}]
 code 04 00
-data 01 02 03 04 05 06 07 08 09 0A 0B 0C 0D 0E 0F 10
+data 01 02 03 04 05 06 07 08 09 0a 0b 0c 0d 0e 0f 10
 want neutral
 
 shape = [{name="E", size=[0,8], fields=["v 0 0 i64"]}]
@@ -99,25 +99,25 @@ want refused 00002000 Static
 thunk = [{place=0x2000, function="main"}]
 function = [{name="main", place=0x1000, end=0x1002, level=0, need=[0,0], result="any", enter=true}]
 code 04 00
-data FC EF FF FF 00 00 00 00
+data fc ef ff ff 00 00 00 00
 want neutral
 
 thunk = [{place=0x2000, function="main"}]
 function = [{name="main", place=0x1000, end=0x1002, level=0, need=[0,0], result="any"}]
 code 04 00
-data FC EF FF FF 00 00 00 00
+data fc ef ff ff 00 00 00 00
 want refused 00002000 Static
 
 thunk = [{place=0x2000, function="main"}]
 function = [{name="main", place=0x1000, end=0x1002, level=0, need=[0,0], result="any", enter=true}]
 code 04 00
-data 00 F0 FF FF 00 00 00 00
+data 00 f0 ff ff 00 00 00 00
 want refused 00002000 Static
 
 thunk = [{place=0x2000, function="main"}]
 function = [{name="main", place=0x1000, end=0x1002, level=0, need=[0,0], result="any", enter=true}]
 code 04 00
-data FC EF FF FF 00 00 00 01
+data fc ef ff ff 00 00 00 01
 want refused 00002000 Static
 "#;
 
@@ -148,32 +148,32 @@ code 77 34 05 00 04 00
 point = [{place=0x1004, regs=[], stack=[], written=[], made=0}]
 want neutral
 
-code F7 34 00 50 00 00 00 00 00 00 04 00
+code f7 34 00 50 00 00 00 00 00 00 04 00
 relocs 1002
 want refused 00001000 Relocation
 
 shape = [{name="E", size=[0,8], fields=["v 0 0 i64"]}]
 static = [{place=0x2000, shape="E", count=1}]
-code F7 34 00 20 01 00 00 00 00 00 04 00
+code f7 34 00 20 01 00 00 00 00 00 04 00
 data 00 00 00 00 00 00 00 00
 relocs 1002
 want neutral
 
 shape = [{name="E", size=[0,8], fields=["v 0 0 i64"]}]
 static = [{place=0x2000, shape="E", count=2}]
-code F7 34 08 20 01 00 00 00 00 00 04 00
+code f7 34 08 20 01 00 00 00 00 00 04 00
 relocs 1002
 want refused 00001000 Relocation
 
 shape = [{name="Rec", size=[1,4], fields=["v 0 0 i32"]}]
-code 1F C4 04 00
+code 1f c4 04 00
 point = [{place=0x1000, regs=["R4 ptr:Rec"], stack=[], written=[], made=0}]
 want refused 00001000 Below
 
 code 77 34 05 00
 want refused 00001000 End
 
-code 77 34 05 00 82 FF 04 00
+code 77 34 05 00 82 ff 04 00
 point = [{place=0x1004, regs=[], stack=[], written=[], made=0}]
 want neutral
 "#;
@@ -183,25 +183,25 @@ const ROWS: &str = r#"
 code 00 03 04 00
 want refused 00001000 Form
 
-code 6B 04 04 00
+code 6b 04 04 00
 want refused 00001000 Stack
 
-code 1F C4 04 00
+code 1f c4 04 00
 want refused 00001000 Address
 
 shape = [{name="Rec", size=[1,4], fields=["v 0 0 i32"]}]
 function = [{name="main", place=0x1000, end=0x1008, level=0, need=[0,0], params=["n ptr?:Rec"], result="any"}]
-code 72 84 10 00 1F C4 04 00
+code 72 84 10 00 1f c4 04 00
 want refused 00001004 Null
 
 shape = [{name="Rec", size=[1,4], fields=["v 0 0 i32"]}]
 function = [{name="main", place=0x1000, end=0x1008, level=0, need=[0,0], params=["n ptr:Rec"], result="any"}]
-code 72 84 10 00 1F C4 04 00
+code 72 84 10 00 1f c4 04 00
 want neutral
 
 shape = [{name="Rec", size=[1,4], fields=["v 0 0 i32"]}]
 function = [{name="main", place=0x1000, end=0x1008, level=0, need=[0,0], params=["n ptr:Rec"], result="any"}]
-code 72 84 10 00 1F 5C 04 00
+code 72 84 10 00 1f 5c 04 00
 want refused 00001004 Store
 
 shape = [{name="L", size=[1,0], fields=["p 0 0 n"]}]
@@ -209,7 +209,7 @@ function = [{name="main", place=0x1000, end=0x100C, level=0, need=[1,0], locals=
 code 60 00 01 90 32 85 60 00 01 10 04 00
 want refused 00001004 Unwritten
 
-code 78 04 01 10 6D 04 08 00 04 00
+code 78 04 01 10 6d 04 08 00 04 00
 want refused 00001004 Compare
 
 code 77 34 05 00 77 35 00 00 50 64 04 00
@@ -225,14 +225,14 @@ want neutral
 shape = [{name="Sys", size=[1,0], fields=["go 0 0 method:Go"]}]
 function = [{name="main", place=0x1000, end=0x1008, level=0, need=[0,0], params=["n ptr:Sys"], result="any"}]
 signature = [{name="go", method="Go", params=[], result="none"}]
-code 72 84 10 00 03 2C 04 00
+code 72 84 10 00 03 2c 04 00
 want refused 00001004 Site
 
 shape = [{name="Sys", size=[1,0], fields=["go 0 0 method:Go"]}]
 function = [{name="main", place=0x1000, end=0x1008, level=0, need=[0,0], params=["n ptr:Sys"], result="any"}]
 signature = [{name="go", method="Go", params=[], result="none"}]
 site = [{place=0x1004, signature="go"}]
-code 72 84 10 00 03 2C 04 00
+code 72 84 10 00 03 2c 04 00
 want neutral
 
 function = [{name="main", place=0x1000, end=0x1008, level=0, need=[0,16], result="any"}, {name="f", place=0x1008, end=0x100A, level=0, need=[0,0], result="any"}]
