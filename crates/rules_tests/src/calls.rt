@@ -5,92 +5,92 @@ use std::test::Fail;
 /// CALL: its forms, and each condition on it, with the one that is named where several fail.
 const CALLS: &str = "\
 # what is called
-CALL32 R0 -22 | 83 10 EA FF FF FF | made=2 stack=n:local:0;q:int:3..9;locals written=0 R1=5 R2=6 R3=7 R4=1 R5=2 R6=3 fact=R1,eq,1 | fall R4=any R5=any R6=any R7=int:0..7 fact=none
-CALL32 R0 -22 | 83 10 EA FF FF FF | made=2 stack=n:lent:ptr:Blk;q:9 | fall R7=int:0..7
-CALL64 -26 | C3 10 E6 FF FF FF FF FF FF FF | made=2 stack=n:lent:ptr:Blk;q:9 | fall R7=int:0..7
-CALL64a 0x1050 | C3 00 50 10 00 00 00 00 00 00 | made=2 stack=n:lent:ptr:Blk;q:9 reloc=1050 | fall R7=int:0..7
-CALL32 R0 0x12A | 83 10 2A 01 00 00 | made=2 in=4 | fall R7=handle
-CALL32 R0 0x13A | 83 10 3A 01 00 00 | made=2 | fall
-CALL32 R0 0x14A | 83 10 4A 01 00 00 | made=2 | fall
-CALL32 R0 0x15A | 83 10 5A 01 00 00 | made=2 stack=d:7;n:handle | fall R7=any
-CALL32 R0 0x15A | 83 10 5A 01 00 00 | made=2 stack=d:7;n:0 | fall R7=any
-CALL32 R0 -22 | 83 10 EA FF FF FF | made=2 stack=n:lent:ptr:Blk;q:9;n:handle;locals | fall R7=int:0..7
-CALL32 R0 -22 | 83 10 EA FF FF FF | made=2 stack=n:lent:ptr:Blk;q:int:0..9/3 | fall R7=int:0..7
+CALL32 R0 -22 | 83 10 ea ff ff ff | made=2 stack=n:local:0;q:int:3..9;locals written=0 R1=5 R2=6 R3=7 R4=1 R5=2 R6=3 fact=R1,eq,1 | fall R4=any R5=any R6=any R7=int:0..7 fact=none
+CALL32 R0 -22 | 83 10 ea ff ff ff | made=2 stack=n:lent:ptr:Blk;q:9 | fall R7=int:0..7
+CALL64 -26 | c3 10 e6 ff ff ff ff ff ff ff | made=2 stack=n:lent:ptr:Blk;q:9 | fall R7=int:0..7
+CALL64a 0x1050 | c3 00 50 10 00 00 00 00 00 00 | made=2 stack=n:lent:ptr:Blk;q:9 reloc=1050 | fall R7=int:0..7
+CALL32 R0 0x12A | 83 10 2a 01 00 00 | made=2 in=4 | fall R7=handle
+CALL32 R0 0x13A | 83 10 3a 01 00 00 | made=2 | fall
+CALL32 R0 0x14A | 83 10 4a 01 00 00 | made=2 | fall
+CALL32 R0 0x15A | 83 10 5a 01 00 00 | made=2 stack=d:7;n:handle | fall R7=any
+CALL32 R0 0x15A | 83 10 5a 01 00 00 | made=2 stack=d:7;n:0 | fall R7=any
+CALL32 R0 -22 | 83 10 ea ff ff ff | made=2 stack=n:lent:ptr:Blk;q:9;n:handle;locals | fall R7=int:0..7
+CALL32 R0 -22 | 83 10 ea ff ff ff | made=2 stack=n:lent:ptr:Blk;q:int:0..9/3 | fall R7=int:0..7
 # relocation
-CALL64a 0x1050 | C3 00 50 10 00 00 00 00 00 00 | made=2 stack=n:lent:ptr:Blk;q:9 | relocation
-CALL64 -26 | C3 10 E6 FF FF FF FF FF FF FF | made=2 stack=n:lent:ptr:Blk;q:9 reloc=1050 | relocation
-CALL32 R0 -22 | 83 10 EA FF FF FF | made=2 stack=n:lent:ptr:Blk;q:9 reloc=1050 | relocation
+CALL64a 0x1050 | c3 00 50 10 00 00 00 00 00 00 | made=2 stack=n:lent:ptr:Blk;q:9 | relocation
+CALL64 -26 | c3 10 e6 ff ff ff ff ff ff ff | made=2 stack=n:lent:ptr:Blk;q:9 reloc=1050 | relocation
+CALL32 R0 -22 | 83 10 ea ff ff ff | made=2 stack=n:lent:ptr:Blk;q:9 reloc=1050 | relocation
 CALL32a R4 | 03 04 | reloc=1050 | relocation
 # form
 CALL32a R0 0x1050 | 83 00 50 10 00 00 | made=2 | form
 CALL32 R4 | 03 14 | made=2 R4=0 | form
 CALL32 R0 | 03 10 | made=2 | form
-CALL32 @R4 | 03 1C | made=2 R4=ptr:Sys | form
-CALL32a @R4 | 03 0C | made=2 R4=thunk:0 | form
+CALL32 @R4 | 03 1c | made=2 R4=ptr:Sys | form
+CALL32a @R4 | 03 0c | made=2 R4=thunk:0 | form
 CALL32a R0 | 03 00 | made=2 | form
 CALL32 @R0 | 03 18 | made=2 | form
 CALL32 @R0(+1,+0) | 83 18 01 00 00 10 | made=2 stack=locals written=0 | form
 CALL32a @R0(+1,+0) | 83 08 01 00 00 10 | made=2 stack=locals written=0 | form
 # function
-CALL32 R0 -102 | 83 10 9A FF FF FF | made=0 in=99 | function
+CALL32 R0 -102 | 83 10 9a ff ff ff | made=0 in=99 | function
 # target
-CALL32 R0 -102 | 83 10 9A FF FF FF | made=2 | target
-CALL32 R0 -102 | 83 10 9A FF FF FF | made=0 | target
-CALL32 R0 -20 | 83 10 EC FF FF FF | made=2 | target
+CALL32 R0 -102 | 83 10 9a ff ff ff | made=2 | target
+CALL32 R0 -102 | 83 10 9a ff ff ff | made=0 | target
+CALL32 R0 -20 | 83 10 ec ff ff ff | made=2 | target
 CALL32 R0 0x1000 | 83 10 00 10 00 00 | made=2 | target
-CALL64a 0x1051 | C3 00 51 10 00 00 00 00 00 00 | made=2 reloc=1051 | target
-CALL32 R0 -74 | 83 10 B6 FF FF FF | in=1 at=1044 | target
-CALL64a 0x1000 | C3 00 00 10 00 00 00 00 00 00 | made=2 reloc=1000 | target
+CALL64a 0x1051 | c3 00 51 10 00 00 00 00 00 00 | made=2 reloc=1051 | target
+CALL32 R0 -74 | 83 10 b6 ff ff ff | in=1 at=1044 | target
+CALL64a 0x1000 | c3 00 00 10 00 00 00 00 00 00 | made=2 reloc=1000 | target
 # level
-CALL32 R0 0x11A | 83 10 1A 01 00 00 | made=2 | level
-CALL32 R0 0x11A | 83 10 1A 01 00 00 | made=2 in=4 | level
-CALL32 R0 0x9A | 83 10 9A 00 00 00 | made=2 | level
-CALL32 R0 0x12A | 83 10 2A 01 00 00 | made=2 in=4 stack=d:5 | level
-CALL32 R0 0x13A | 83 10 3A 01 00 00 | made=2 in=4 | level
-CALL32 R0 0x14A | 83 10 4A 01 00 00 | made=2 in=4 | level
-CALL32 R0 0x12A | 83 10 2A 01 00 00 | made=0 in=4 stack=d:5 | level
-CALL32 R0 -182 | 83 10 4A FF FF FF | in=4 at=1100 made=2 stack=n:local:0;q:9;q:any;q:any | level
+CALL32 R0 0x11A | 83 10 1a 01 00 00 | made=2 | level
+CALL32 R0 0x11A | 83 10 1a 01 00 00 | made=2 in=4 | level
+CALL32 R0 0x9A | 83 10 9a 00 00 00 | made=2 | level
+CALL32 R0 0x12A | 83 10 2a 01 00 00 | made=2 in=4 stack=d:5 | level
+CALL32 R0 0x13A | 83 10 3a 01 00 00 | made=2 in=4 | level
+CALL32 R0 0x14A | 83 10 4a 01 00 00 | made=2 in=4 | level
+CALL32 R0 0x12A | 83 10 2a 01 00 00 | made=0 in=4 stack=d:5 | level
+CALL32 R0 -182 | 83 10 4a ff ff ff | in=4 at=1100 made=2 stack=n:local:0;q:9;q:any;q:any | level
 # thunk
-CALL32 R0 -22 | 83 10 EA FF FF FF | made=1 stack=n:lent:ptr:Blk;q:9 | thunk
-CALL32 R0 -22 | 83 10 EA FF FF FF | made=0 stack=n:lent:ptr:Blk;q:9 | thunk
-CALL32 R0 -22 | 83 10 EA FF FF FF | made=0 | thunk
-CALL64a 0x1050 | C3 00 50 10 00 00 00 00 00 00 | made=1 stack=n:lent:ptr:Blk;q:9 reloc=1050 | thunk
+CALL32 R0 -22 | 83 10 ea ff ff ff | made=1 stack=n:lent:ptr:Blk;q:9 | thunk
+CALL32 R0 -22 | 83 10 ea ff ff ff | made=0 stack=n:lent:ptr:Blk;q:9 | thunk
+CALL32 R0 -22 | 83 10 ea ff ff ff | made=0 | thunk
+CALL64a 0x1050 | c3 00 50 10 00 00 00 00 00 00 | made=1 stack=n:lent:ptr:Blk;q:9 reloc=1050 | thunk
 # arguments
-CALL32 R0 -22 | 83 10 EA FF FF FF | made=2 | arguments
-CALL32 R0 -22 | 83 10 EA FF FF FF | made=2 stack=n:lent:ptr:Blk | arguments
-CALL32 R0 -22 | 83 10 EA FF FF FF | made=2 stack=locals;n:lent:ptr:Blk;q:9 | arguments
-CALL32 R0 -22 | 83 10 EA FF FF FF | made=2 stack=n:lent:ptr:Blk;n:9 | arguments
-CALL32 R0 -22 | 83 10 EA FF FF FF | made=2 stack=q:lent:ptr:Blk;q:9 | arguments
-CALL32 R0 -22 | 83 10 EA FF FF FF | made=2 stack=n:lent:ptr:Blk;q:10 | arguments
-CALL32 R0 -22 | 83 10 EA FF FF FF | made=2 stack=n:lent:n;q:9 | arguments
-CALL32 R0 -22 | 83 10 EA FF FF FF | made=2 stack=n:ptr:Blk;q:9 | arguments
-CALL32 R0 -22 | 83 10 EA FF FF FF | made=2 stack=n:local:1;q:9;locals written=1 | arguments
-CALL32 R0 -22 | 83 10 EA FF FF FF | made=2 stack=n:local:9;q:9;locals written=9 | arguments
-CALL32 R0 0x15A | 83 10 5A 01 00 00 | made=2 stack=n:7;n:handle | arguments
-CALL32 R0 0x15A | 83 10 5A 01 00 00 | made=2 stack=d:7;n:entry | arguments
-CALL64a 0x1050 | C3 00 50 10 00 00 00 00 00 00 | made=2 stack=n:lent:ptr:Blk;q:10 reloc=1050 | arguments
-CALL32 R0 -22 | 83 10 EA FF FF FF | made=2 stack=n:any;q:9 | arguments
-CALL32 R0 -22 | 83 10 EA FF FF FF | made=2 stack=n:lent:ptr:Blk;q:any | arguments
-CALL32 R0 -22 | 83 10 EA FF FF FF | made=2 stack=n:lent:ptr?:Blk;q:9 | arguments
+CALL32 R0 -22 | 83 10 ea ff ff ff | made=2 | arguments
+CALL32 R0 -22 | 83 10 ea ff ff ff | made=2 stack=n:lent:ptr:Blk | arguments
+CALL32 R0 -22 | 83 10 ea ff ff ff | made=2 stack=locals;n:lent:ptr:Blk;q:9 | arguments
+CALL32 R0 -22 | 83 10 ea ff ff ff | made=2 stack=n:lent:ptr:Blk;n:9 | arguments
+CALL32 R0 -22 | 83 10 ea ff ff ff | made=2 stack=q:lent:ptr:Blk;q:9 | arguments
+CALL32 R0 -22 | 83 10 ea ff ff ff | made=2 stack=n:lent:ptr:Blk;q:10 | arguments
+CALL32 R0 -22 | 83 10 ea ff ff ff | made=2 stack=n:lent:n;q:9 | arguments
+CALL32 R0 -22 | 83 10 ea ff ff ff | made=2 stack=n:ptr:Blk;q:9 | arguments
+CALL32 R0 -22 | 83 10 ea ff ff ff | made=2 stack=n:local:1;q:9;locals written=1 | arguments
+CALL32 R0 -22 | 83 10 ea ff ff ff | made=2 stack=n:local:9;q:9;locals written=9 | arguments
+CALL32 R0 0x15A | 83 10 5a 01 00 00 | made=2 stack=n:7;n:handle | arguments
+CALL32 R0 0x15A | 83 10 5a 01 00 00 | made=2 stack=d:7;n:entry | arguments
+CALL64a 0x1050 | c3 00 50 10 00 00 00 00 00 00 | made=2 stack=n:lent:ptr:Blk;q:10 reloc=1050 | arguments
+CALL32 R0 -22 | 83 10 ea ff ff ff | made=2 stack=n:any;q:9 | arguments
+CALL32 R0 -22 | 83 10 ea ff ff ff | made=2 stack=n:lent:ptr:Blk;q:any | arguments
+CALL32 R0 -22 | 83 10 ea ff ff ff | made=2 stack=n:lent:ptr?:Blk;q:9 | arguments
 # unwritten
-CALL32 R0 -22 | 83 10 EA FF FF FF | made=2 stack=n:local:0;q:9;locals | unwritten
-CALL32 R0 -22 | 83 10 EA FF FF FF | made=2 stack=q:local:0;q:9;locals | unwritten
-CALL32 R0 -22 | 83 10 EA FF FF FF | made=2 stack=n:local:0;n:10;locals | unwritten
-CALL32 R0 -22 | 83 10 EA FF FF FF | made=0 stack=n:local:0;q:9;locals | unwritten
+CALL32 R0 -22 | 83 10 ea ff ff ff | made=2 stack=n:local:0;q:9;locals | unwritten
+CALL32 R0 -22 | 83 10 ea ff ff ff | made=2 stack=q:local:0;q:9;locals | unwritten
+CALL32 R0 -22 | 83 10 ea ff ff ff | made=2 stack=n:local:0;n:10;locals | unwritten
+CALL32 R0 -22 | 83 10 ea ff ff ff | made=0 stack=n:local:0;q:9;locals | unwritten
 ";
 
 /// CALLEX: its forms, its target, and each condition on it, with the one that is named where several fail.
 const NATIVE_CALLS: &str = "\
 # what is called
-CALL32EXa @R4 | 03 2C | at=1014 in=0 made=2 stack=n:local:0;locals R4=ptr:Sys R5=1 R6=2 R7=3 R1=5 fact=R1,eq,1 | fall R4=any R5=any R6=any R7=status:0 fact=none
-CALL32EXa @R4 | 03 2C | at=1014 in=0 made=2 stack=n:local:0;locals R4=ptr:Sys written=0 | fall R4=any R7=status:0
-CALL32EXa @R4(+1,+0) | 83 2C 01 00 00 10 | at=1032 in=0 made=2 stack=n:entry R4=ptr:Sys | fall R4=any R7=status
+CALL32EXa @R4 | 03 2c | at=1014 in=0 made=2 stack=n:local:0;locals R4=ptr:Sys R5=1 R6=2 R7=3 R1=5 fact=R1,eq,1 | fall R4=any R5=any R6=any R7=status:0 fact=none
+CALL32EXa @R4 | 03 2c | at=1014 in=0 made=2 stack=n:local:0;locals R4=ptr:Sys written=0 | fall R4=any R7=status:0
+CALL32EXa @R4(+1,+0) | 83 2c 01 00 00 10 | at=1032 in=0 made=2 stack=n:entry R4=ptr:Sys | fall R4=any R7=status
 CALL32EXa R4 | 03 24 | at=1032 in=0 made=2 stack=n:entry R4=method:1 | fall R4=any R7=status
-CALL32EXa @R4 | 03 2C | at=1032 in=0 made=2 stack=n:entry R4=lent:method:1 | fall R4=any R7=status
+CALL32EXa @R4 | 03 2c | at=1032 in=0 made=2 stack=n:entry R4=lent:method:1 | fall R4=any R7=status
 CALL32EXa R4 | 03 24 | at=1032 in=0 made=2 stack=n:entry;q:5;locals R4=method:1 | fall R4=any R7=status
 # relocation
-CALL64EXa 0x1050 | C3 20 50 10 00 00 00 00 00 00 | at=1032 in=0 made=2 reloc=1050 | relocation
-CALL32EXa @R4 | 03 2C | at=1014 in=0 made=2 reloc=1050 R4=ptr:Sys | relocation
+CALL64EXa 0x1050 | c3 20 50 10 00 00 00 00 00 00 | at=1032 in=0 made=2 reloc=1050 | relocation
+CALL32EXa @R4 | 03 2c | at=1014 in=0 made=2 reloc=1050 R4=ptr:Sys | relocation
 # form
 CALL32EXa R4 0 | 83 24 00 00 00 00 | at=1032 in=0 made=2 stack=n:entry R4=method:1 | form
 CALL32EXa R4 | 03 24 | at=1032 in=0 made=2 stack=n:entry R4=entry | form
@@ -98,29 +98,29 @@ CALL32EXa R4 | 03 24 | at=1032 in=0 made=2 stack=n:entry R4=5 | form
 CALL32EXa R0 | 03 20 | at=1032 in=0 made=2 stack=n:entry | form
 CALL32EXa @R0(+1,+16) | 83 28 01 01 00 10 | at=1032 in=0 made=2 stack=n:entry | form
 CALL32EX R4 | 03 34 | at=1032 in=0 made=2 stack=n:entry R4=method:1 | form
-CALL32EX @R4(+1,+0) | 83 3C 01 00 00 10 | at=1032 in=0 made=2 stack=n:entry R4=ptr:Sys | form
-CALL64EXa 0x1050 | C3 20 50 10 00 00 00 00 00 00 | at=1032 in=0 made=2 | form
-CALL64EX 16 | C3 30 10 00 00 00 00 00 00 00 | at=1032 in=0 made=2 | form
-CALL32EXa @R4 | 03 2C | at=1014 made=2 stack=locals R4=local:0 written=0 | form
-CALL32EXa @R4 | 03 2C | at=1014 in=0 made=2 R4=ptr:All+2,32 | form
-CALL32EXa @R4 | 03 2C | at=1032 in=0 made=1 R4=thunk:0 | form
-CALL32EXa @R4 | 03 2C | at=1032 in=0 made=2 stack=n:entry R4=lent:handle | form
+CALL32EX @R4(+1,+0) | 83 3c 01 00 00 10 | at=1032 in=0 made=2 stack=n:entry R4=ptr:Sys | form
+CALL64EXa 0x1050 | c3 20 50 10 00 00 00 00 00 00 | at=1032 in=0 made=2 | form
+CALL64EX 16 | c3 30 10 00 00 00 00 00 00 00 | at=1032 in=0 made=2 | form
+CALL32EXa @R4 | 03 2c | at=1014 made=2 stack=locals R4=local:0 written=0 | form
+CALL32EXa @R4 | 03 2c | at=1014 in=0 made=2 R4=ptr:All+2,32 | form
+CALL32EXa @R4 | 03 2c | at=1032 in=0 made=1 R4=thunk:0 | form
+CALL32EXa @R4 | 03 2c | at=1032 in=0 made=2 stack=n:entry R4=lent:handle | form
 # the target and thunks
-CALL32EXa @R4 | 03 2C | at=1014 in=0 made=0 stack=n:local:0;locals R4=ptr:Sys | thunk
-CALL32EXa @R4 | 03 2C | at=1014 in=0 made=1 stack=n:local:0;locals R4=ptr:Sys | thunk
-CALL32EXa @R4(+1,+0) | 83 2C 01 00 00 10 | at=1032 in=0 made=2 stack=n:entry R4=ptr?:Sys | null
-CALL32EXa @R4(+2,+0) | 83 2C 02 00 00 10 | at=1032 in=0 made=2 stack=n:entry R4=ptr:Sys | address
-CALL32EXa @R4 | 03 2C | at=1032 in=0 made=2 stack=n:entry R4=any | address
-CALL32EXa @R4 | 03 2C | at=1014 made=2 stack=locals R4=local:0 | unwritten
-CALL32EXa @R4 | 03 2C | at=1014 in=0 made=2 R4=ptr:All+0,8 | address
-CALL32EXa @R4 | 03 2C | at=1032 in=0 R4=thunk:0 | thunk
-CALL32EXa @R4 | 03 2C | at=1032 in=0 made=1 R4=thunk:1 | thunk
+CALL32EXa @R4 | 03 2c | at=1014 in=0 made=0 stack=n:local:0;locals R4=ptr:Sys | thunk
+CALL32EXa @R4 | 03 2c | at=1014 in=0 made=1 stack=n:local:0;locals R4=ptr:Sys | thunk
+CALL32EXa @R4(+1,+0) | 83 2c 01 00 00 10 | at=1032 in=0 made=2 stack=n:entry R4=ptr?:Sys | null
+CALL32EXa @R4(+2,+0) | 83 2c 02 00 00 10 | at=1032 in=0 made=2 stack=n:entry R4=ptr:Sys | address
+CALL32EXa @R4 | 03 2c | at=1032 in=0 made=2 stack=n:entry R4=any | address
+CALL32EXa @R4 | 03 2c | at=1014 made=2 stack=locals R4=local:0 | unwritten
+CALL32EXa @R4 | 03 2c | at=1014 in=0 made=2 R4=ptr:All+0,8 | address
+CALL32EXa @R4 | 03 2c | at=1032 in=0 R4=thunk:0 | thunk
+CALL32EXa @R4 | 03 2c | at=1032 in=0 made=1 R4=thunk:1 | thunk
 CALL32EXa R4 | 03 24 | at=1032 in=0 made=1 stack=n:entry R4=method:1 | thunk
 # site
-CALL32EXa @R4 | 03 2C | at=1016 in=0 made=2 stack=n:local:0;locals R4=ptr:Sys | site
-CALL32EXa @R4(+1,+0) | 83 2C 01 00 00 10 | at=1014 in=0 made=2 stack=n:entry R4=ptr:Sys | site
-CALL32EXa @R4(+1,+0) | 83 2C 01 00 00 10 | at=1014 in=0 made=0 stack=q:5 R4=ptr:Sys | site
-CALL32EXa @R4 | 03 2C | at=1032 in=0 made=2 stack=n:entry R4=lent:method:0 | site
+CALL32EXa @R4 | 03 2c | at=1016 in=0 made=2 stack=n:local:0;locals R4=ptr:Sys | site
+CALL32EXa @R4(+1,+0) | 83 2c 01 00 00 10 | at=1014 in=0 made=2 stack=n:entry R4=ptr:Sys | site
+CALL32EXa @R4(+1,+0) | 83 2c 01 00 00 10 | at=1014 in=0 made=0 stack=q:5 R4=ptr:Sys | site
+CALL32EXa @R4 | 03 2c | at=1032 in=0 made=2 stack=n:entry R4=lent:method:0 | site
 # arguments: entry
 CALL32EXa R4 | 03 24 | at=10b0 R4=method:1 made=2 stack=n:0 | fall R4=any R7=status
 CALL32EXa R4 | 03 24 | at=10b0 R4=method:1 made=2 stack=n:handle | arguments

@@ -111,64 +111,64 @@ CMP32gte R4, R5 | 07 54 | R4=sstatus R5=0 | compare
 /// What a comparison leaves of the flag, its operands in memory, and which rule is named where several fail.
 const FACTS: &str = "\
 # CMPI64 of a register
-CMPI64weq R4, 8 | 6D 04 08 00 | R4=lin:1,0 | compare
-CMPI64weq R4, 8 | 6D 04 08 00 | R4=int:0..9 | fact=R4,eq,8
-CMPI64weq R4, 8 | 6D 04 08 00 | R4=int:0..9 fact=R5,eq,1 | fact=R4,eq,8
-CMPI64wlte R7, -1 | 6E 07 FF FF | R7=sstatus | fact=R7,lte,18446744073709551615
-CMPI64wgte R7, 0 | 6F 07 00 00 | R7=sstatus:0 | fact=R7,gte,0
-CMPI64wgte R7, -1 | 6F 07 FF FF | R7=sstatus | compare
-CMPI64deq R6, -1 | ED 06 FF FF FF FF | R6=full64 | fact=R6,eq,18446744073709551615
+CMPI64weq R4, 8 | 6d 04 08 00 | R4=lin:1,0 | compare
+CMPI64weq R4, 8 | 6d 04 08 00 | R4=int:0..9 | fact=R4,eq,8
+CMPI64weq R4, 8 | 6d 04 08 00 | R4=int:0..9 fact=R5,eq,1 | fact=R4,eq,8
+CMPI64wlte R7, -1 | 6e 07 ff ff | R7=sstatus | fact=R7,lte,18446744073709551615
+CMPI64wgte R7, 0 | 6f 07 00 00 | R7=sstatus:0 | fact=R7,gte,0
+CMPI64wgte R7, -1 | 6f 07 ff ff | R7=sstatus | compare
+CMPI64deq R6, -1 | ed 06 ff ff ff ff | R6=full64 | fact=R6,eq,18446744073709551615
 CMPI64wulte R4, 9 | 70 04 09 00 | R4=int:0..100 | fact=R4,ulte,9
 CMPI64wugte R4, 9 | 71 04 09 00 | R4=int:0..100 | fact=R4,ugte,9
-CMPI64deq R4, 0x7FFFFFFF | ED 04 FF FF FF 7F | R4=status:0 | fact=R4,eq,2147483647
-CMPI64weq R4, -1 | 6D 04 FF FF | R4=status | compare
-CMPI64weq R4, 0 | 6D 04 00 00 | R4=ptr?:Blk | fact=R4,eq,0
-CMPI64weq R4, 1 | 6D 04 01 00 | R4=ptr?:Blk | compare
-CMPI64weq R4, 0 | 6D 04 00 00 | R4=handle | fact=R4,eq,0
-CMPI64weq R4, 0 | 6D 04 00 00 | R4=entry | fact=R4,eq,0
-CMPI64weq R0, 1 | 6D 00 01 00 | made=0 | stack
-CMPI64wlte R4, 8 | 6E 04 08 00 | R4=int:0..9 | fact=R4,lte,8
-CMPI64wgte R4, 8 | 6F 04 08 00 | R4=int:0..9 | fact=R4,gte,8
-CMPI64wlte R7, 0 | 6E 07 00 00 | R7=sstatus | fact=R7,lte,0
-CMPI64wlte R7, -2 | 6E 07 FE FF | R7=sstatus | compare
-CMPI64wlte R4, 8 | 6E 04 08 00 | R4=lin:1,0 | compare
-CMPI64wgte R4, 8 | 6F 04 08 00 | R4=lin:1,0 | compare
+CMPI64deq R4, 0x7FFFFFFF | ed 04 ff ff ff 7f | R4=status:0 | fact=R4,eq,2147483647
+CMPI64weq R4, -1 | 6d 04 ff ff | R4=status | compare
+CMPI64weq R4, 0 | 6d 04 00 00 | R4=ptr?:Blk | fact=R4,eq,0
+CMPI64weq R4, 1 | 6d 04 01 00 | R4=ptr?:Blk | compare
+CMPI64weq R4, 0 | 6d 04 00 00 | R4=handle | fact=R4,eq,0
+CMPI64weq R4, 0 | 6d 04 00 00 | R4=entry | fact=R4,eq,0
+CMPI64weq R0, 1 | 6d 00 01 00 | made=0 | stack
+CMPI64wlte R4, 8 | 6e 04 08 00 | R4=int:0..9 | fact=R4,lte,8
+CMPI64wgte R4, 8 | 6f 04 08 00 | R4=int:0..9 | fact=R4,gte,8
+CMPI64wlte R7, 0 | 6e 07 00 00 | R7=sstatus | fact=R7,lte,0
+CMPI64wlte R7, -2 | 6e 07 fe ff | R7=sstatus | compare
+CMPI64wlte R4, 8 | 6e 04 08 00 | R4=lin:1,0 | compare
+CMPI64wgte R4, 8 | 6f 04 08 00 | R4=lin:1,0 | compare
 CMPI64wulte R4, 8 | 70 04 08 00 | R4=lin:1,0 | compare
 CMPI64wugte R4, 8 | 71 04 08 00 | R4=lin:1,0 | compare
-CMPI64weq R4, 1 | 6D 04 01 00 | R4=handle | compare
-CMPI64weq R4, 1 | 6D 04 01 00 | R4=entry | compare
+CMPI64weq R4, 1 | 6d 04 01 00 | R4=handle | compare
+CMPI64weq R4, 1 | 6d 04 01 00 | R4=entry | compare
 CMPI64wulte R4, 0 | 70 04 00 00 | R4=handle | compare
-CMPI64wgte R4, 0 | 6F 04 00 00 | R4=ptr:Blk | compare
+CMPI64wgte R4, 0 | 6f 04 00 00 | R4=ptr:Blk | compare
 # CMPI32 of a register
-CMPI32weq R4, 8 | 2D 04 08 00 | R4=int:0..9 fact=R4,eq,1 | fact=none
-CMPI32weq R4, 0 | 2D 04 00 00 | R4=ptr?:Blk | compare
-CMPI32wlte R4, 8 | 2E 04 08 00 | R4=int:0..9 fact=R4,eq,1 | fact=none
-CMPI32wgte R4, 8 | 2F 04 08 00 | R4=int:0..9 | same
+CMPI32weq R4, 8 | 2d 04 08 00 | R4=int:0..9 fact=R4,eq,1 | fact=none
+CMPI32weq R4, 0 | 2d 04 00 00 | R4=ptr?:Blk | compare
+CMPI32wlte R4, 8 | 2e 04 08 00 | R4=int:0..9 fact=R4,eq,1 | fact=none
+CMPI32wgte R4, 8 | 2f 04 08 00 | R4=int:0..9 | same
 CMPI32wulte R4, 8 | 30 04 08 00 | R4=int:0..9 | same
 CMPI32wugte R4, 8 | 31 04 08 00 | R4=int:0..9 | same
-CMPI32wlte R4, 8 | 2E 04 08 00 | R4=sstatus | compare
-CMPI32weq R4, 8 | 2D 04 08 00 | R4=handle | compare
+CMPI32wlte R4, 8 | 2e 04 08 00 | R4=sstatus | compare
+CMPI32weq R4, 8 | 2d 04 08 00 | R4=handle | compare
 # CMPI of memory
-CMPI64weq @R4(+0,+8), 5 | 6D 1C 08 00 05 00 | R4=ptr:All fact=R4,eq,0 | fact=none
-CMPI32weq @R4(+0,+4), 5 | 2D 1C 04 00 05 00 | R4=ptr:All | same
-CMPI64weq @R4(+0,+24), 0 | 6D 1C 18 00 00 00 | R4=ptr:All | same
-CMPI64weq @R4(+0,+24), 1 | 6D 1C 18 00 01 00 | R4=ptr:All | compare
-CMPI64weq @R4(+0,+4), 5 | 6D 1C 04 00 05 00 | R4=ptr:All | address
-CMPI64weq @R4(+0,+8), 5 | 6D 1C 08 00 05 00 | R4=ptr?:All | null
-CMPI64weq @R0(+3,+0), 5 | 6D 18 03 10 05 00 | stack=locals | unwritten
-CMPI64weq @R0(+3,+0), 5 | 6D 18 03 10 05 00 | stack=locals written=3 | same
-CMPI64wulte @R4(+0,+8), 5 | 70 1C 08 00 05 00 | R4=ptr:All fact=R4,eq,0 | fact=none
+CMPI64weq @R4(+0,+8), 5 | 6d 1c 08 00 05 00 | R4=ptr:All fact=R4,eq,0 | fact=none
+CMPI32weq @R4(+0,+4), 5 | 2d 1c 04 00 05 00 | R4=ptr:All | same
+CMPI64weq @R4(+0,+24), 0 | 6d 1c 18 00 00 00 | R4=ptr:All | same
+CMPI64weq @R4(+0,+24), 1 | 6d 1c 18 00 01 00 | R4=ptr:All | compare
+CMPI64weq @R4(+0,+4), 5 | 6d 1c 04 00 05 00 | R4=ptr:All | address
+CMPI64weq @R4(+0,+8), 5 | 6d 1c 08 00 05 00 | R4=ptr?:All | null
+CMPI64weq @R0(+3,+0), 5 | 6d 18 03 10 05 00 | stack=locals | unwritten
+CMPI64weq @R0(+3,+0), 5 | 6d 18 03 10 05 00 | stack=locals written=3 | same
+CMPI64wulte @R4(+0,+8), 5 | 70 1c 08 00 05 00 | R4=ptr:All fact=R4,eq,0 | fact=none
 # CMP
 CMP64eq R4, R5 | 45 54 | R4=1 R5=2 fact=R4,eq,1 | fact=none
 CMP64eq R0, R4 | 45 40 | R4=1 | stack
 CMP64eq R4, R0 | 45 04 | R4=1 | stack
-CMP64eq R4, R5 3 | C5 54 03 00 | R4=lin:1,0 R5=1 | compare
-CMP64eq R4, R5 0 | C5 54 00 00 | R4=handle R5=handle | compare
-CMP64eq R4, @R5(+0,+8) | C5 D4 08 00 | R4=1 R5=ptr:All | same
-CMP64eq R4, @R5(+0,+24) | C5 D4 18 00 | R4=0 R5=ptr:All | same
-CMP32eq R4, @R5(+0,+4) | 85 D4 04 00 | R4=1 R5=ptr:All | same
-CMP64eq R4, @R5 | 45 D4 | R4=lin:1,0 R5=any | address
-CMP64eq R0, @R5 | 45 D0 | R5=any | stack
+CMP64eq R4, R5 3 | c5 54 03 00 | R4=lin:1,0 R5=1 | compare
+CMP64eq R4, R5 0 | c5 54 00 00 | R4=handle R5=handle | compare
+CMP64eq R4, @R5(+0,+8) | c5 d4 08 00 | R4=1 R5=ptr:All | same
+CMP64eq R4, @R5(+0,+24) | c5 d4 18 00 | R4=0 R5=ptr:All | same
+CMP32eq R4, @R5(+0,+4) | 85 d4 04 00 | R4=1 R5=ptr:All | same
+CMP64eq R4, @R5 | 45 d4 | R4=lin:1,0 R5=any | address
+CMP64eq R0, @R5 | 45 d0 | R5=any | stack
 CMP32ulte R4, R5 | 08 54 | R4=1 R5=2 fact=R4,eq,1 | fact=none
 ";
 

@@ -7,55 +7,55 @@ const JUMPS: &str = "\
 # JMP8
 JMP8 7 | 02 07 | made=0 | to 1070
 JMP8 7 | 02 07 | R4=int:0..20 fact=R4,ulte,9 | to 1070
-JMP8 -25 | 02 E7 | at=10a0 | to 1070
+JMP8 -25 | 02 e7 | at=10a0 | to 1070
 JMP8 1 | 02 01 | made=0 | target
-JMP8 -18 | 02 EE | made=0 | target
-JMP8 79 | 02 4F | made=0 | target
-JMP8cs 7 | C2 07 | R4=int:0..20 fact=R4,ulte,9 | to 1070 R4=int:0..9 / fall R4=int:10..20
+JMP8 -18 | 02 ee | made=0 | target
+JMP8 79 | 02 4f | made=0 | target
+JMP8cs 7 | c2 07 | R4=int:0..20 fact=R4,ulte,9 | to 1070 R4=int:0..9 / fall R4=int:10..20
 JMP8cc 7 | 82 07 | R4=int:0..20 fact=R4,ulte,9 | to 1070 R4=int:10..20 / fall R4=int:0..9
-JMP8cs 7 | C2 07 | R4=int:0..20 | to 1070 / fall
-JMP8cs 1 | C2 01 | made=0 | target
+JMP8cs 7 | c2 07 | R4=int:0..20 | to 1070 / fall
+JMP8cs 1 | c2 01 | made=0 | target
 # JMP32
-JMP32 R0 10 | 81 10 0A 00 00 00 | made=0 | to 1070
-JMP32cs R0 10 | 81 D0 0A 00 00 00 | R4=int:0..20 fact=R4,eq,0 | to 1070 R4=0 / fall R4=int:1..20
-JMP32cc R0 10 | 81 90 0A 00 00 00 | R4=int:0..20 fact=R4,eq,0 | to 1070 R4=int:1..20 / fall R4=0
-JMP32 R0 12 | 81 10 0C 00 00 00 | made=0 | target
-JMP32 R0 -18 | 81 10 EE FF FF FF | at=1070 | target
-JMP32 R0 122 | 81 10 7A 00 00 00 | at=1070 | to 10f0
-JMP32cs R0 12 | 81 D0 0C 00 00 00 | made=0 | target
+JMP32 R0 10 | 81 10 0a 00 00 00 | made=0 | to 1070
+JMP32cs R0 10 | 81 d0 0a 00 00 00 | R4=int:0..20 fact=R4,eq,0 | to 1070 R4=0 / fall R4=int:1..20
+JMP32cc R0 10 | 81 90 0a 00 00 00 | R4=int:0..20 fact=R4,eq,0 | to 1070 R4=int:1..20 / fall R4=0
+JMP32 R0 12 | 81 10 0c 00 00 00 | made=0 | target
+JMP32 R0 -18 | 81 10 ee ff ff ff | at=1070 | target
+JMP32 R0 122 | 81 10 7a 00 00 00 | at=1070 | to 10f0
+JMP32cs R0 12 | 81 d0 0c 00 00 00 | made=0 | target
 # JMP64, relative
-JMP64 6 | C1 10 06 00 00 00 00 00 00 00 | made=0 | to 1070
-JMP64cc 6 | C1 90 06 00 00 00 00 00 00 00 | R4=int:0..20 fact=R4,ugte,5 | to 1070 R4=int:0..4 / fall R4=int:5..20
-JMP64 8 | C1 10 08 00 00 00 00 00 00 00 | made=0 | target
-JMP64 -0x10000 | C1 10 00 00 FF FF FF FF FF FF | made=0 | target
-JMP64cs 8 | C1 D0 08 00 00 00 00 00 00 00 | made=0 | target
+JMP64 6 | c1 10 06 00 00 00 00 00 00 00 | made=0 | to 1070
+JMP64cc 6 | c1 90 06 00 00 00 00 00 00 00 | R4=int:0..20 fact=R4,ugte,5 | to 1070 R4=int:0..4 / fall R4=int:5..20
+JMP64 8 | c1 10 08 00 00 00 00 00 00 00 | made=0 | target
+JMP64 -0x10000 | c1 10 00 00 ff ff ff ff ff ff | made=0 | target
+JMP64cs 8 | c1 d0 08 00 00 00 00 00 00 00 | made=0 | target
 # JMP64, absolute
-JMP64a 0x1070 | C1 00 70 10 00 00 00 00 00 00 | reloc=1070 | to 1070
-JMP64acs 0x1070 | C1 C0 70 10 00 00 00 00 00 00 | reloc=1070 R4=int:0..20 fact=R4,eq,0 | to 1070 R4=0 / fall R4=int:1..20
-JMP64a 0x1072 | C1 00 72 10 00 00 00 00 00 00 | reloc=1072 | target
-JMP64a 0x103e | C1 00 3E 10 00 00 00 00 00 00 | reloc=103e | target
-JMP64a 0x1100 | C1 00 00 11 00 00 00 00 00 00 | reloc=1100 | target
-JMP64acc 0x1072 | C1 80 72 10 00 00 00 00 00 00 | reloc=1072 | target
+JMP64a 0x1070 | c1 00 70 10 00 00 00 00 00 00 | reloc=1070 | to 1070
+JMP64acs 0x1070 | c1 c0 70 10 00 00 00 00 00 00 | reloc=1070 R4=int:0..20 fact=R4,eq,0 | to 1070 R4=0 / fall R4=int:1..20
+JMP64a 0x1072 | c1 00 72 10 00 00 00 00 00 00 | reloc=1072 | target
+JMP64a 0x103e | c1 00 3e 10 00 00 00 00 00 00 | reloc=103e | target
+JMP64a 0x1100 | c1 00 00 11 00 00 00 00 00 00 | reloc=1100 | target
+JMP64acc 0x1072 | c1 80 72 10 00 00 00 00 00 00 | reloc=1072 | target
 # a relocation, or none
 JMP8 7 | 02 07 | reloc=2060 | relocation
-JMP32 R0 10 | 81 10 0A 00 00 00 | reloc=1070 | relocation
-JMP64 6 | C1 10 06 00 00 00 00 00 00 00 | reloc=1070 | relocation
-JMP64a 0x1070 | C1 00 70 10 00 00 00 00 00 00 | made=0 | relocation
+JMP32 R0 10 | 81 10 0a 00 00 00 | reloc=1070 | relocation
+JMP64 6 | c1 10 06 00 00 00 00 00 00 00 | reloc=1070 | relocation
+JMP64a 0x1070 | c1 00 70 10 00 00 00 00 00 00 | made=0 | relocation
 JMP32a R0 0x1070 | 81 00 70 10 00 00 | reloc=1070 | relocation
-JMP32cs R4 | 01 D4 | R4=0 reloc=1070 | relocation
+JMP32cs R4 | 01 d4 | R4=0 reloc=1070 | relocation
 # other forms
 JMP32a R0 0x1070 | 81 00 70 10 00 00 | made=0 | form
-JMP32 R4 10 | 81 14 0A 00 00 00 | R4=0 | form
+JMP32 R4 10 | 81 14 0a 00 00 00 | R4=0 | form
 JMP32 R4 | 01 14 | R4=0 | form
 JMP32a R4 | 01 04 | R4=ptr:Blk | form
 JMP32 R0 | 01 10 | made=0 | form
-JMP32 @R4 | 01 1C | R4=ptr:Sys | form
-JMP32a @R4(+1,+0) | 81 0C 01 00 00 10 | R4=ptr:Sys | form
+JMP32 @R4 | 01 1c | R4=ptr:Sys | form
+JMP32a @R4(+1,+0) | 81 0c 01 00 00 10 | R4=ptr:Sys | form
 JMP32a R0 | 01 00 | made=0 | form
 JMP32 @R0 | 01 18 | made=0 | form
 JMP32 @R0(+1,+0) | 81 18 01 00 00 10 | stack=locals written=0 | form
-JMP32cs R4 | 01 D4 | R4=0 | form
-JMP32acc @R4 | 01 8C | R4=ptr:Sys | form
+JMP32cs R4 | 01 d4 | R4=0 | form
+JMP32acc @R4 | 01 8c | R4=ptr:Sys | form
 # no function
 JMP8 7 | 02 07 | in=99 | function
 ";
@@ -63,79 +63,79 @@ JMP8 7 | 02 07 | in=99 | function
 /// What a comparison says of a register where C is set and where it is clear. The fact stays in both.
 const NARROWING: &str = "\
 # numbers, eq
-JMP8cs 7 | C2 07 | R4=int:0..20 fact=R4,eq,5 | to 1070 R4=5 / fall R4=int:0..20
-JMP8cs 7 | C2 07 | R4=int:0..20 fact=R4,eq,0 | to 1070 R4=0 / fall R4=int:1..20
-JMP8cs 7 | C2 07 | R4=int:0..20 fact=R4,eq,20 | to 1070 R4=20 / fall R4=int:0..19
-JMP8cs 7 | C2 07 | R4=int:0..20 fact=R4,eq,21 | to 1070 R4=int:0..20 / fall R4=int:0..20
-JMP8cs 7 | C2 07 | R4=int:3..20 fact=R4,eq,2 | to 1070 R4=int:3..20 / fall R4=int:3..20
-JMP8cs 7 | C2 07 | R4=int:0..20/4 fact=R4,eq,5 | to 1070 R4=int:0..20/4 / fall R4=int:0..20/4
-JMP8cs 7 | C2 07 | R4=int:0..20/4 fact=R4,eq,8 | to 1070 R4=int:8..8/4 / fall R4=int:0..20/4
-JMP8cs 7 | C2 07 | R4=int:0..20/4 fact=R4,eq,0 | to 1070 R4=int:0..0/4 / fall R4=int:1..20/4
-JMP8cs 7 | C2 07 | R4=3 fact=R4,eq,3 | to 1070 R4=3 / fall R4=3
-JMP8cs 7 | C2 07 | R4=full64 fact=R4,eq,18446744073709551615 | to 1070 R4=18446744073709551615 / fall R4=int:0..18446744073709551614
+JMP8cs 7 | c2 07 | R4=int:0..20 fact=R4,eq,5 | to 1070 R4=5 / fall R4=int:0..20
+JMP8cs 7 | c2 07 | R4=int:0..20 fact=R4,eq,0 | to 1070 R4=0 / fall R4=int:1..20
+JMP8cs 7 | c2 07 | R4=int:0..20 fact=R4,eq,20 | to 1070 R4=20 / fall R4=int:0..19
+JMP8cs 7 | c2 07 | R4=int:0..20 fact=R4,eq,21 | to 1070 R4=int:0..20 / fall R4=int:0..20
+JMP8cs 7 | c2 07 | R4=int:3..20 fact=R4,eq,2 | to 1070 R4=int:3..20 / fall R4=int:3..20
+JMP8cs 7 | c2 07 | R4=int:0..20/4 fact=R4,eq,5 | to 1070 R4=int:0..20/4 / fall R4=int:0..20/4
+JMP8cs 7 | c2 07 | R4=int:0..20/4 fact=R4,eq,8 | to 1070 R4=int:8..8/4 / fall R4=int:0..20/4
+JMP8cs 7 | c2 07 | R4=int:0..20/4 fact=R4,eq,0 | to 1070 R4=int:0..0/4 / fall R4=int:1..20/4
+JMP8cs 7 | c2 07 | R4=3 fact=R4,eq,3 | to 1070 R4=3 / fall R4=3
+JMP8cs 7 | c2 07 | R4=full64 fact=R4,eq,18446744073709551615 | to 1070 R4=18446744073709551615 / fall R4=int:0..18446744073709551614
 # numbers, ulte
-JMP8cs 7 | C2 07 | R4=int:0..20 fact=R4,ulte,5 | to 1070 R4=int:0..5 / fall R4=int:6..20
-JMP8cs 7 | C2 07 | R4=int:0..20/4 fact=R4,ulte,5 | to 1070 R4=int:0..5/4 / fall R4=int:6..20/4
-JMP8cs 7 | C2 07 | R4=int:0..20 fact=R4,ulte,20 | to 1070 R4=int:0..20 / fall R4=int:0..20
-JMP8cs 7 | C2 07 | R4=int:5..20 fact=R4,ulte,4 | to 1070 R4=int:5..20 / fall R4=int:5..20
-JMP8cs 7 | C2 07 | R4=int:0..20 fact=R4,ulte,18446744073709551615 | to 1070 R4=int:0..20 / fall R4=int:0..20
-JMP8cs 7 | C2 07 | R4=full64 fact=R4,ulte,18446744073709551615 | to 1070 R4=full64 / fall R4=full64
-JMP8cs 7 | C2 07 | R4=int:0..20 R5=int:0..20 fact=R5,ulte,5 | to 1070 R5=int:0..5 / fall R5=int:6..20
+JMP8cs 7 | c2 07 | R4=int:0..20 fact=R4,ulte,5 | to 1070 R4=int:0..5 / fall R4=int:6..20
+JMP8cs 7 | c2 07 | R4=int:0..20/4 fact=R4,ulte,5 | to 1070 R4=int:0..5/4 / fall R4=int:6..20/4
+JMP8cs 7 | c2 07 | R4=int:0..20 fact=R4,ulte,20 | to 1070 R4=int:0..20 / fall R4=int:0..20
+JMP8cs 7 | c2 07 | R4=int:5..20 fact=R4,ulte,4 | to 1070 R4=int:5..20 / fall R4=int:5..20
+JMP8cs 7 | c2 07 | R4=int:0..20 fact=R4,ulte,18446744073709551615 | to 1070 R4=int:0..20 / fall R4=int:0..20
+JMP8cs 7 | c2 07 | R4=full64 fact=R4,ulte,18446744073709551615 | to 1070 R4=full64 / fall R4=full64
+JMP8cs 7 | c2 07 | R4=int:0..20 R5=int:0..20 fact=R5,ulte,5 | to 1070 R5=int:0..5 / fall R5=int:6..20
 # numbers, ugte
-JMP8cs 7 | C2 07 | R4=int:0..20 fact=R4,ugte,5 | to 1070 R4=int:5..20 / fall R4=int:0..4
-JMP8cs 7 | C2 07 | R4=int:0..20 fact=R4,ugte,0 | to 1070 R4=int:0..20 / fall R4=int:0..20
-JMP8cs 7 | C2 07 | R4=int:0..20 fact=R4,ugte,21 | to 1070 R4=int:0..20 / fall R4=int:0..20
-JMP8cs 7 | C2 07 | R4=full64 fact=R4,ugte,18446744073709551615 | to 1070 R4=18446744073709551615 / fall R4=int:0..18446744073709551614
-JMP8cs 7 | C2 07 | R4=int:0..20/4 fact=R4,ugte,5 | to 1070 R4=int:5..20/4 / fall R4=int:0..4/4
+JMP8cs 7 | c2 07 | R4=int:0..20 fact=R4,ugte,5 | to 1070 R4=int:5..20 / fall R4=int:0..4
+JMP8cs 7 | c2 07 | R4=int:0..20 fact=R4,ugte,0 | to 1070 R4=int:0..20 / fall R4=int:0..20
+JMP8cs 7 | c2 07 | R4=int:0..20 fact=R4,ugte,21 | to 1070 R4=int:0..20 / fall R4=int:0..20
+JMP8cs 7 | c2 07 | R4=full64 fact=R4,ugte,18446744073709551615 | to 1070 R4=18446744073709551615 / fall R4=int:0..18446744073709551614
+JMP8cs 7 | c2 07 | R4=int:0..20/4 fact=R4,ugte,5 | to 1070 R4=int:5..20/4 / fall R4=int:0..4/4
 # numbers, lte
-JMP8cs 7 | C2 07 | R4=int:0..20 fact=R4,lte,5 | to 1070 R4=int:0..5 / fall R4=int:6..20
-JMP8cs 7 | C2 07 | R4=int:0..20 fact=R4,lte,18446744073709551615 | to 1070 R4=int:0..20 / fall R4=int:0..20
-JMP8cs 7 | C2 07 | R4=int:0..20 fact=R4,lte,9223372036854775808 | to 1070 R4=int:0..20 / fall R4=int:0..20
-JMP8cs 7 | C2 07 | R4=int:0..9223372036854775808 fact=R4,lte,5 | to 1070 R4=int:0..9223372036854775808 / fall R4=int:0..9223372036854775808
-JMP8cs 7 | C2 07 | R4=int:0..9223372036854775807 fact=R4,lte,9223372036854775806 | to 1070 R4=int:0..9223372036854775806 / fall R4=9223372036854775807
-JMP8cs 7 | C2 07 | R4=int:5..20 fact=R4,lte,4 | to 1070 R4=int:5..20 / fall R4=int:5..20
-JMP8cs 7 | C2 07 | R4=int:5..20 fact=R4,lte,20 | to 1070 R4=int:5..20 / fall R4=int:5..20
-JMP8cs 7 | C2 07 | R4=int:0..20/4 fact=R4,lte,5 | to 1070 R4=int:0..5/4 / fall R4=int:6..20/4
+JMP8cs 7 | c2 07 | R4=int:0..20 fact=R4,lte,5 | to 1070 R4=int:0..5 / fall R4=int:6..20
+JMP8cs 7 | c2 07 | R4=int:0..20 fact=R4,lte,18446744073709551615 | to 1070 R4=int:0..20 / fall R4=int:0..20
+JMP8cs 7 | c2 07 | R4=int:0..20 fact=R4,lte,9223372036854775808 | to 1070 R4=int:0..20 / fall R4=int:0..20
+JMP8cs 7 | c2 07 | R4=int:0..9223372036854775808 fact=R4,lte,5 | to 1070 R4=int:0..9223372036854775808 / fall R4=int:0..9223372036854775808
+JMP8cs 7 | c2 07 | R4=int:0..9223372036854775807 fact=R4,lte,9223372036854775806 | to 1070 R4=int:0..9223372036854775806 / fall R4=9223372036854775807
+JMP8cs 7 | c2 07 | R4=int:5..20 fact=R4,lte,4 | to 1070 R4=int:5..20 / fall R4=int:5..20
+JMP8cs 7 | c2 07 | R4=int:5..20 fact=R4,lte,20 | to 1070 R4=int:5..20 / fall R4=int:5..20
+JMP8cs 7 | c2 07 | R4=int:0..20/4 fact=R4,lte,5 | to 1070 R4=int:0..5/4 / fall R4=int:6..20/4
 # numbers, gte
-JMP8cs 7 | C2 07 | R4=int:0..20 fact=R4,gte,5 | to 1070 R4=int:5..20 / fall R4=int:0..4
-JMP8cs 7 | C2 07 | R4=int:0..9223372036854775808 fact=R4,gte,5 | to 1070 R4=int:0..9223372036854775808 / fall R4=int:0..9223372036854775808
-JMP8cs 7 | C2 07 | R4=int:0..9223372036854775807 fact=R4,gte,5 | to 1070 R4=int:5..9223372036854775807 / fall R4=int:0..4
-JMP8cs 7 | C2 07 | R4=int:0..20 fact=R4,gte,9223372036854775807 | to 1070 R4=int:0..20 / fall R4=int:0..20
-JMP8cs 7 | C2 07 | R4=int:0..20 fact=R4,gte,9223372036854775808 | to 1070 R4=int:0..20 / fall R4=int:0..20
-JMP8cs 7 | C2 07 | R4=int:5..20 fact=R4,gte,5 | to 1070 R4=int:5..20 / fall R4=int:5..20
-JMP8cs 7 | C2 07 | R4=int:5..20 fact=R4,gte,21 | to 1070 R4=int:5..20 / fall R4=int:5..20
-JMP8cs 7 | C2 07 | R4=int:0..20/4 fact=R4,gte,5 | to 1070 R4=int:5..20/4 / fall R4=int:0..4/4
+JMP8cs 7 | c2 07 | R4=int:0..20 fact=R4,gte,5 | to 1070 R4=int:5..20 / fall R4=int:0..4
+JMP8cs 7 | c2 07 | R4=int:0..9223372036854775808 fact=R4,gte,5 | to 1070 R4=int:0..9223372036854775808 / fall R4=int:0..9223372036854775808
+JMP8cs 7 | c2 07 | R4=int:0..9223372036854775807 fact=R4,gte,5 | to 1070 R4=int:5..9223372036854775807 / fall R4=int:0..4
+JMP8cs 7 | c2 07 | R4=int:0..20 fact=R4,gte,9223372036854775807 | to 1070 R4=int:0..20 / fall R4=int:0..20
+JMP8cs 7 | c2 07 | R4=int:0..20 fact=R4,gte,9223372036854775808 | to 1070 R4=int:0..20 / fall R4=int:0..20
+JMP8cs 7 | c2 07 | R4=int:5..20 fact=R4,gte,5 | to 1070 R4=int:5..20 / fall R4=int:5..20
+JMP8cs 7 | c2 07 | R4=int:5..20 fact=R4,gte,21 | to 1070 R4=int:5..20 / fall R4=int:5..20
+JMP8cs 7 | c2 07 | R4=int:0..20/4 fact=R4,gte,5 | to 1070 R4=int:5..20/4 / fall R4=int:0..4/4
 # pointers, and what is not narrowed
-JMP8cs 7 | C2 07 | R4=ptr?:Blk fact=R4,eq,0 | to 1070 R4=ptr?:Blk / fall R4=ptr:Blk
-JMP8cs 7 | C2 07 | R4=ptr?:Blk*3 fact=R4,eq,0 | to 1070 R4=ptr?:Blk*3 / fall R4=ptr:Blk*3
-JMP8cs 7 | C2 07 | R4=ptr:Blk fact=R4,eq,0 | to 1070 R4=ptr:Blk / fall R4=ptr:Blk
-JMP8cs 7 | C2 07 | R4=ptr?:Blk fact=R4,eq,5 | to 1070 R4=ptr?:Blk / fall R4=ptr?:Blk
-JMP8cs 7 | C2 07 | R4=handle fact=R4,eq,0 | to 1070 R4=handle / fall R4=handle
-JMP8cs 7 | C2 07 | R4=entry fact=R4,eq,0 | to 1070 / fall
-JMP8cs 7 | C2 07 | R4=any fact=R4,eq,0 | to 1070 / fall
+JMP8cs 7 | c2 07 | R4=ptr?:Blk fact=R4,eq,0 | to 1070 R4=ptr?:Blk / fall R4=ptr:Blk
+JMP8cs 7 | c2 07 | R4=ptr?:Blk*3 fact=R4,eq,0 | to 1070 R4=ptr?:Blk*3 / fall R4=ptr:Blk*3
+JMP8cs 7 | c2 07 | R4=ptr:Blk fact=R4,eq,0 | to 1070 R4=ptr:Blk / fall R4=ptr:Blk
+JMP8cs 7 | c2 07 | R4=ptr?:Blk fact=R4,eq,5 | to 1070 R4=ptr?:Blk / fall R4=ptr?:Blk
+JMP8cs 7 | c2 07 | R4=handle fact=R4,eq,0 | to 1070 R4=handle / fall R4=handle
+JMP8cs 7 | c2 07 | R4=entry fact=R4,eq,0 | to 1070 / fall
+JMP8cs 7 | c2 07 | R4=any fact=R4,eq,0 | to 1070 / fall
 ";
 
 /// Which comparisons say that a status is no error, so that what it grants is written.
 const GRANTS: &str = "\
 # a status
-JMP8cs 7 | C2 07 | R7=status:0 fact=R7,eq,0 written=2 | to 1070 written=0,2 / fall written=2
-JMP8cs 7 | C2 07 | R7=status:0,1 fact=R7,eq,2147483647 written=2 | to 1070 written=0,1,2 / fall written=2
-JMP8cs 7 | C2 07 | R7=status:0 fact=R7,eq,2147483648 written=2 | to 1070 written=2 / fall written=2
-JMP8cs 7 | C2 07 | R7=status:0 fact=R7,ulte,0 written=2 | to 1070 written=2 / fall written=2
-JMP8cs 7 | C2 07 | R7=status:0 fact=R7,gte,0 written=2 | to 1070 written=2 / fall written=2
+JMP8cs 7 | c2 07 | R7=status:0 fact=R7,eq,0 written=2 | to 1070 written=0,2 / fall written=2
+JMP8cs 7 | c2 07 | R7=status:0,1 fact=R7,eq,2147483647 written=2 | to 1070 written=0,1,2 / fall written=2
+JMP8cs 7 | c2 07 | R7=status:0 fact=R7,eq,2147483648 written=2 | to 1070 written=2 / fall written=2
+JMP8cs 7 | c2 07 | R7=status:0 fact=R7,ulte,0 written=2 | to 1070 written=2 / fall written=2
+JMP8cs 7 | c2 07 | R7=status:0 fact=R7,gte,0 written=2 | to 1070 written=2 / fall written=2
 JMP8cc 7 | 82 07 | R7=status:0 fact=R7,eq,0 written=2 | to 1070 written=2 / fall written=0,2
 # a sign-extended status
-JMP8cs 7 | C2 07 | R7=sstatus:0 fact=R7,gte,0 written=2 | to 1070 written=0,2 / fall written=2
-JMP8cs 7 | C2 07 | R7=sstatus:0 fact=R7,gte,2147483647 written=2 | to 1070 written=0,2 / fall written=2
-JMP8cs 7 | C2 07 | R7=sstatus:0 fact=R7,gte,2147483648 written=2 | to 1070 written=2 / fall written=2
-JMP8cs 7 | C2 07 | R7=sstatus:0 fact=R7,gte,18446744073709551615 written=2 | to 1070 written=2 / fall written=2
-JMP8cs 7 | C2 07 | R7=sstatus:0 fact=R7,lte,18446744073709551615 written=2 | to 1070 written=2 / fall written=0,2
-JMP8cs 7 | C2 07 | R7=sstatus:0 fact=R7,lte,0 written=2 | to 1070 written=2 / fall written=2
-JMP8cs 7 | C2 07 | R7=sstatus:0 fact=R7,eq,0 written=2 | to 1070 written=2 / fall written=2
+JMP8cs 7 | c2 07 | R7=sstatus:0 fact=R7,gte,0 written=2 | to 1070 written=0,2 / fall written=2
+JMP8cs 7 | c2 07 | R7=sstatus:0 fact=R7,gte,2147483647 written=2 | to 1070 written=0,2 / fall written=2
+JMP8cs 7 | c2 07 | R7=sstatus:0 fact=R7,gte,2147483648 written=2 | to 1070 written=2 / fall written=2
+JMP8cs 7 | c2 07 | R7=sstatus:0 fact=R7,gte,18446744073709551615 written=2 | to 1070 written=2 / fall written=2
+JMP8cs 7 | c2 07 | R7=sstatus:0 fact=R7,lte,18446744073709551615 written=2 | to 1070 written=2 / fall written=0,2
+JMP8cs 7 | c2 07 | R7=sstatus:0 fact=R7,lte,0 written=2 | to 1070 written=2 / fall written=2
+JMP8cs 7 | c2 07 | R7=sstatus:0 fact=R7,eq,0 written=2 | to 1070 written=2 / fall written=2
 JMP8cc 7 | 82 07 | R7=sstatus:0 fact=R7,lte,18446744073709551615 written=2 | to 1070 written=0,2 / fall written=2
-JMP8cs 7 | C2 07 | R7=sstatus:0 fact=R7,lte,2147483647 written=2 | to 1070 written=2 / fall written=2
+JMP8cs 7 | c2 07 | R7=sstatus:0 fact=R7,lte,2147483647 written=2 | to 1070 written=2 / fall written=2
 # no status
-JMP8cs 7 | C2 07 | R7=handle fact=R7,eq,0 written=2 | to 1070 / fall
+JMP8cs 7 | c2 07 | R7=handle fact=R7,eq,0 written=2 | to 1070 / fall
 ";
 
 /// RET and BREAK.
