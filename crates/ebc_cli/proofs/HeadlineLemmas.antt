@@ -12,6 +12,8 @@ use Rattle.note_types.specs.declared.notes.Notes.{Notes}
 use Rattle.note_types.specs.declared.rule.RuleName.{RuleName}
 use Rattle.pe_image.specs.declared.image.Image.{Image}
 use Rattle.ebc_disasm.specs.Listings.{listing_of}
+use Rattle.protocol_script.proofs.RecordLaws.{read-is-script}
+use Rattle.twin_run.specs.Headline.{SameAtBothWidths}
 use Rattle.width_checker.specs.declared.verdict.Verdict.{Verdict}
 use Rattle.width_checker.specs.declared.verdict.Verdict.TheVariants.{Neutral, Refused}
 use Rattle.width_checker.specs.PlainChecks.{plain_verdict}
@@ -34,7 +36,7 @@ use Rattle.ebc_cli.specs.Outputs.{SameBut, files_left, printed, text_of, written
 use Rattle.ebc_cli.specs.Readings.{file, done, go_on, large_reply}
 use Rattle.ebc_cli.specs.Texts.{bad_line}
 use Rattle.ebc_cli.specs.Works.{work_of, code_check, verdict_reply, listing_reply, object_reply, TellsVerdict, IsReplyOf, plain_code_limit}
-use Rattle.ebc_cli.specs.Answers.{IsAnswerOf, Decides, Answers, Assembles, LeavesPart, ChecksCode, ChecksImage, ListsImage, HasBadInput, HasBadLine}
+use Rattle.ebc_cli.specs.Answers.{IsAnswerOf, Decides, Answers, Assembles, LeavesPart, ChecksCode, ChecksImage, ListsImage, HasBadInput, HasBadLine, SameForScripts}
 use Rattle.ebc_cli.proofs.BadInputLemmas.{assembly-work, bad-exactly, bad-line-told, image-work, listing-work}
 
 -- a reply that was decided is an answer, whether the reading went through or stopped
@@ -67,9 +69,9 @@ leaves-part (Some files) words reply outcome before now left tells part others =
 -- ---- verdicts
 
 -- the reply of an exact verdict tells it
-pub tells-verdict : (image : Image) (notes : Notes) (verdict : Verdict) → verdict ≡ Neutral ↔ Typed image notes
+pub tells-verdict : (image : Image) (notes : Notes) (verdict : Verdict) → verdict ≡ Neutral ↔ Typed image notes → (verdict ≡ Neutral → SameAtBothWidths image notes)
     → ((place : ℕ) (rule : RuleName) → verdict ≡ Refused place rule ↔ IsRefused image notes place rule) → TellsVerdict image notes (verdict_reply verdict)
-tells-verdict image notes verdict neutral refused = record { verdict = verdict; neutral = neutral; refused = refused; told = refl }
+tells-verdict image notes verdict neutral alike refused = record { verdict = verdict; neutral = neutral; alike = alike; refused = refused; told = refl }
 
 verdict-done : (verdict : Verdict) → (verdict_reply verdict).outcome ≡ outcomes.Done ↔ verdict ≡ Neutral
 verdict-done Neutral = (λ e. refl, λ e. refl)
@@ -94,6 +96,15 @@ exactly None words reply outcome tells = tt
 exactly (Some files) words reply outcome tells = λ image notes c answered.
     let t = image-told words files reply image notes c tells.told in
     exactly-so outcome _ outcomes.Done (tells.same answered ∙ ap (λ (r : Reply). r.outcome) t.told) (verdict-done t.verdict) t.neutral
+
+pub alike : (contents : Option Files) (words : List (List ℕ)) (reply : Reply) (outcome : Outcome) → Tells contents words reply outcome
+    → IfSome contents (λ files. (image : Image) (notes : Notes) → ChecksImage words files image notes → outcome ≡ outcomes.Done → SameForScripts image notes)
+alike None words reply outcome tells = tt
+alike (Some files) words reply outcome tells = λ image notes c done text script P Q k read p q.
+    let t = image-told words files reply image notes c tells.told in
+    let answered : IsAnswer outcome = rw done tt in
+    let same : outcome ≡ (verdict_reply t.verdict).outcome = tells.same answered ∙ ap (λ (r : Reply). r.outcome) t.told in
+    t.alike ((verdict-done t.verdict).0 (sym same ∙ done)) script P Q k (read-is-script notes text script read) p q
 
 pub refused : (contents : Option Files) (words : List (List ℕ)) (reply : Reply) (outcome : Outcome) → Tells contents words reply outcome
     → IfSome contents (λ files. (image : Image) (notes : Notes) (place : ℕ) (rule : RuleName) → ChecksImage words files image notes → IsAnswer outcome → outcome ≡ outcomes.Refused place rule ↔ IsRefused image notes place rule)

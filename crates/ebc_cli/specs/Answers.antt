@@ -7,6 +7,11 @@ use Rattle.ebc_asm.specs.Sources.{object_of}
 use Rattle.ebc_object.specs.declared.object.Object.{Object}
 use Rattle.note_types.specs.declared.fault.TomlFault.{TomlFault}
 use Rattle.note_types.specs.declared.notes.Notes.{Notes}
+use Rattle.note_types.specs.declared.script.Script.{Script}
+use Rattle.protocol_script.specs.Scripts.{script_of}
+use Rattle.run_types.specs.Placements.{Placement, IsPlacement}
+use Rattle.twin_run.specs.Headline.{AreSameAfter}
+use Rattle.whole_runs.specs.Runs.{world_of}
 use Rattle.pe_image.specs.declared.fault.ImageFault.{ImageFault}
 use Rattle.pe_image.specs.declared.image.Image.{Image}
 use Rattle.pe_image.specs.Images.{image_of}
@@ -146,6 +151,15 @@ pub data HasBadInput (words : List (List ℕ)) (files : Files) (word fault : ℕ
   bad_image : word ≡ 1 → HasBadImage words files fault → HasBadInput words files word fault
   bad_notes : word ≡ 2 → HasBadNotes words files fault → HasBadInput words files word fault
   bad_source : word ≡ 1 → HasBadSource words files fault → HasBadInput words files word fault
+
+-- ---- what `neutral` means
+
+-- The image is the same at both widths: for every text that stands for a script under the notes, all valid placements and every number
+-- of steps, the runs at 4 and at 8 bytes an address are the same, and have raised nothing but a division by zero.
+abbrev pub SameForScripts : Image → Notes → Type 0
+SameForScripts image notes =
+    (text : List ℕ) (script : Script) (P Q : Placement) (k : ℕ) → script_of notes text ≡ Ok script
+    → IsPlacement 4 (world_of image notes script) P → IsPlacement 8 (world_of image notes script) Q → AreSameAfter (world_of image notes script) image P Q k
 
 -- ---- causes
 

@@ -9,7 +9,8 @@ use Rattle.note_types.specs.declared.fault.TomlFault.{TomlFault}
 use Rattle.note_types.specs.declared.notes.Notes.{Notes}
 use Rattle.pe_image.specs.declared.fault.ImageFault.{ImageFault}
 use Rattle.pe_image.specs.declared.image.Image.{Image}
-use Rattle.pe_image.specs.Images.{image_of}
+use Rattle.pe_image.specs.Images.{IsImage, image_of}
+use Rattle.pe_image.specs.Mapped.{AreBytes}
 use Rattle.type_notes.specs.Notes.{notes_of}
 use Rattle.ebc_cli.specs.declared.outcome.Outcome.TheVariants.{BadInput}
 use Rattle.ebc_cli.specs.declared.reply.End.{End}
@@ -53,6 +54,10 @@ abbrev pub bad_source_reply : ℕ → List ℕ → AsmFault × ℕ → Reply
 bad_source_reply word name (kind, line) = bad_reply word name (asm_fault_number kind) (asm_fault_text kind) (decimal line)
 
 -- ---- what files are read as
+
+-- an image that was read is one, and each of its places has a byte
+abbrev pub IsReadImage : Image → Type 0
+IsReadImage image = IsImage image × AreBytes image
 
 -- a value, or the reply to a fault
 abbrev pub or_reply : {A E : Type 0} → (E → Reply) → Result A E → Result A Reply

@@ -8,8 +8,8 @@ use Rattle.note_types.specs.declared.notes.Notes.{Notes}
 use Rattle.note_types.specs.declared.rule.RuleName.{RuleName}
 use Rattle.note_types.specs.Records.{IsNotes}
 use Rattle.pe_image.specs.declared.image.Image.{Image}
-use Rattle.pe_image.specs.Images.{IsImage}
 use Rattle.ebc_disasm.specs.Listings.{listing_of}
+use Rattle.twin_run.specs.Headline.{SameAtBothWidths}
 use Rattle.width_checker.specs.declared.verdict.Verdict.{Verdict}
 use Rattle.width_checker.specs.declared.verdict.Verdict.TheVariants as verdicts
 use Rattle.width_checker.specs.PlainChecks.{plain_verdict}
@@ -22,7 +22,7 @@ use Rattle.ebc_cli.specs.declared.reply.Reply.{Reply}
 use Rattle.ebc_cli.specs.declared.work.Work.{Work}
 use Rattle.ebc_cli.specs.declared.work.Work.TheVariants as works
 use Rattle.ebc_cli.specs.Commands.{command_of}
-use Rattle.ebc_cli.specs.Inputs.{image_limit, image_meaning, input, notes_limit, notes_meaning, source_limit, source_meaning}
+use Rattle.ebc_cli.specs.Inputs.{IsReadImage, image_limit, image_meaning, input, notes_limit, notes_meaning, source_limit, source_meaning}
 use Rattle.ebc_cli.specs.Outputs.{prints, writes}
 use Rattle.ebc_cli.specs.Readings.{FileReading, done, ◌>>=◌, file, told}
 use Rattle.ebc_cli.specs.Texts.{neutral_line, refused_line, usage_line}
@@ -78,8 +78,8 @@ work_of words files = work_for (command_of words) files
 -- stands for is an object
 abbrev pub CanBeDone : Work → Type 0
 CanBeDone (works.CheckCode code) = length code ≤ plain_code_limit
-CanBeDone (works.CheckImage image notes) = IsImage image × IsNotes notes
-CanBeDone (works.ListImage image) = IsImage image
+CanBeDone (works.CheckImage image notes) = IsReadImage image × IsNotes notes
+CanBeDone (works.ListImage image) = IsReadImage image
 CanBeDone (works.WriteObject name object) = IsObject object
 
 -- the name under which a file is to be written, if one is
@@ -99,11 +99,12 @@ listing_reply text = prints outcomes.Done text
 abbrev pub object_reply : List ℕ → List ℕ → Reply
 object_reply name bytes = writes outcomes.Done name bytes
 
--- the reply tells the verdict on an image under notes: neutral exactly where the image is typed, and refused at a place
--- by a rule exactly where that is the first place at which a rule fails, and the first rule that fails there
+-- the reply tells the verdict on an image under notes: neutral exactly where the image is typed, and then its runs are the same at both
+-- widths; and refused at a place by a rule exactly where that is the first place at which a rule fails, and the first rule that fails there
 pub record TellsVerdict (image : Image) (notes : Notes) (reply : Reply) : Type 0 where
   pub verdict : Verdict
   pub neutral : verdict ≡ verdicts.Neutral ↔ Typed image notes
+  pub alike : verdict ≡ verdicts.Neutral → SameAtBothWidths image notes
   pub refused : (place : ℕ) (rule : RuleName) → verdict ≡ verdicts.Refused place rule ↔ IsRefused image notes place rule
   pub told : reply ≡ verdict_reply verdict
 

@@ -14,7 +14,7 @@ ghost use Rattle.width_checker.specs.PlainRules as plain;
 ghost use Rattle.width_checker.specs.PlainRuns.{RunsAlike};
 ghost use Rattle.width_checker.specs.Typed.{Typed};
 ghost use Rattle.width_checker.specs.Verdicts.{IsRefused};
-ghost use Rattle.ebc_cli.specs.Answers.{Answers, AnswersWords, Assembles, Decides, LeavesPart, ChecksCode, ChecksImage, ListsImage, HasBadInput, HasBadLine};
+ghost use Rattle.ebc_cli.specs.Answers.{Answers, AnswersWords, Assembles, Decides, LeavesPart, ChecksCode, ChecksImage, ListsImage, HasBadInput, HasBadLine, SameForScripts};
 ghost use Rattle.ebc_cli.specs.Commands.{command_of, output_of, word_bytes};
 ghost use Rattle.ebc_cli.specs.Faults.{asm_fault_text};
 ghost use Rattle.ebc_cli.specs.Outcomes.{IsAnswer};
@@ -58,6 +58,12 @@ pub fn ebc<F: Folder, O: Sink>(
     ensures refused_exactly { IfSome (F.contents folder.old) (λ files. (image : Image) (notes : Notes) (place : ℕ) (rule : RuleName) →
         ChecksImage (word_bytes words.now) files image notes →
         IsAnswer result → result ≡ Outcome.Refused place rule ↔ IsRefused image notes place rule) }
+
+    // A neutral image is the same at both widths: for every text that stands for a script under the notes, all valid placements and
+    // every number of steps, the 32-bit and the 64-bit machine stand at the same instruction, have made the same calls with the
+    // same replies, and have raised no exception but a division by zero that both raise.
+    ensures neutral_alike { IfSome (F.contents folder.old) (λ files. (image : Image) (notes : Notes) →
+        ChecksImage (word_bytes words.now) files image notes → result ≡ Outcome.Done → SameForScripts image notes) }
 
     // `list IMAGE` lists each image within the limit, and what is printed is exactly its listing.
     ensures lists_always { IfSome (F.contents folder.old) (λ files. (image : Image) →

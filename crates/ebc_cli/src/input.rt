@@ -3,8 +3,7 @@ ghost use Rattle.std.specs.Prelude.{◌≡◌, ◌≤◌, ℕ, List, None, Resul
 ghost use Rattle.ebc_object.specs.Objects.{IsObject};
 ghost use Rattle.ebc_outside.specs.Counts.{Rose};
 ghost use Rattle.note_types.specs.Records.{IsNotes};
-ghost use Rattle.pe_image.specs.Images.{IsImage};
-ghost use Rattle.ebc_cli.specs.Inputs.{Means, image_limit, image_meaning, input, notes_limit, notes_meaning, source_limit, source_meaning};
+ghost use Rattle.ebc_cli.specs.Inputs.{IsReadImage, Means, image_limit, image_meaning, input, notes_limit, notes_meaning, source_limit, source_meaning};
 ghost use Rattle.ebc_cli.specs.Outcomes.{IsBadInput};
 ghost use Rattle.ebc_cli.specs.Outputs.{written_name};
 ghost use Rattle.ebc_cli.specs.Readings.{Follows, IfStop, CommandAnswer};
@@ -75,7 +74,7 @@ pub fn read_as<T: Input, F: Folder>(
 impl Input for Image {
     ghost meaning = { image_meaning };
 
-    ghost IsValid = { IsImage };
+    ghost IsValid = { IsReadImage };
 
     ghost LIMIT = { image_limit };
 

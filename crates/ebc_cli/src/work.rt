@@ -2,7 +2,6 @@
 ghost use Rattle.std.specs.Prelude.{◌≡◌, ◌≢◌, None, IfSome, IfOk, IsErrOf};
 ghost use Rattle.ebc_outside.specs.Counts.{Rose};
 ghost use Rattle.note_types.specs.Records.{IsNotes};
-ghost use Rattle.pe_image.specs.Images.{IsImage};
 ghost use Rattle.ebc_cli.specs.Answers.{AnswersWords};
 ghost use Rattle.ebc_cli.specs.Commands.{command_of, output_of, word_bytes};
 ghost use Rattle.ebc_cli.specs.Outcomes.{IsWorkAnswer};
@@ -22,7 +21,8 @@ use ebc_outside::Folder;
 use note_types::Notes;
 use pe_image::Image;
 use std::alloc::Global;
-use width_checker::{check, check_plain};
+use twin_run::check;
+use width_checker::check_plain;
 
 /// How many bytes a file of plain code may have.
 const PLAIN_CODE_LIMIT: u64 = 262144;

@@ -8,7 +8,7 @@ use Rattle.std.specs.Option.{option_map, option_map_or}
 use Rattle.std.specs.Prelude.{◌||◌, nat_le, nat_lt, not, codes, ◌++◌}
 use Rattle.ebc_base.specs.Steps.{◌>>=◌, passes}
 use Rattle.note_texts.proofs.SplitLaws.{both_true}
-use Rattle.note_texts.specs.Keys.{row_prefix}
+use Rattle.note_texts.specs.Keys.{document, row_prefix}
 use Rattle.note_types.specs.Cells.{content_type}
 use Rattle.note_types.specs.declared.fault.TomlFault.{TomlFault}
 use Rattle.note_types.specs.declared.notes.Notes.{Notes}
@@ -32,7 +32,12 @@ use Rattle.run_types.specs.Scripts.{IsCallOf, IsCellOf, IsObjectOf, IsScript, Is
 use Rattle.protocol_script.specs.ShapeTests.{fits_at, is_shape}
 use Rattle.protocol_script.specs.declared.tables.TableCondition.{TableCondition}
 use Rattle.protocol_script.specs.declared.tables.TableCondition.TheVariants.{Instances, WellFormed, Contents, Pointers}
-use Rattle.protocol_script.proofs.NumberedLaws.{IsNumberedCall, IsNumberedObject, IsNumberedScript, IsNumberedWrite, made_shapes}
+use Rattle.protocol_script.specs.Resolved.{resolved}
+use Rattle.protocol_script.specs.Scripts.{script_of}
+use Rattle.script_draft.specs.Drafts.{draft_of}
+use Rattle.script_draft.specs.Once.{once}
+use Rattle.script_draft.proofs.DraftLaws.{draft_is, ok_step, same_Ok}
+use Rattle.protocol_script.proofs.NumberedLaws.{IsNumberedCall, IsNumberedObject, IsNumberedScript, IsNumberedWrite, made_shapes, script_for}
 use Rattle.protocol_script.proofs.ShapeLaws.{all-at, shape-of}
 
 -- ---- steps
@@ -260,3 +265,14 @@ script-of notes script numbered h =
       calls = λ i c at. call-of notes script i c at (numbered.call i c at) b.0 tables few;
       room = λ k o at. room-at notes script.object k o few.objects at;
     }
+
+-- the script that a text stands for under notes meets the conditions on scripts
+pub read-is-script : (notes : Notes) (text : List ℕ) (script : Script) → script_of notes text ≡ Ok script → IsScript notes script
+unfolding script_of
+read-is-script notes text script h =
+    ok_step (document text) (λ table. draft_of table >>= λ d. once d >>= λ _. resolved notes d >>= λ s. conditions notes s >>= λ _. Ok s) script h (λ table one h.
+    ok_step (draft_of table) (λ d. once d >>= λ _. resolved notes d >>= λ s. conditions notes s >>= λ _. Ok s) script h (λ d two h.
+    ok_step (once d) (λ _. resolved notes d >>= λ s. conditions notes s >>= λ _. Ok s) script h (λ u three h.
+    ok_step (resolved notes d) (λ s. conditions notes s >>= λ _. Ok s) script h (λ s four h.
+    ok_step (conditions notes s) (λ _. Ok s) script h (λ v five e.
+    subst (IsScript notes) (same_Ok s script e) (script-of notes s (script_for notes d s (draft_is table d two) four) five))))))

@@ -130,7 +130,7 @@ slots_counted_below [] = omega arith
 slots_counted_below (Slot kind t ∷ items) = let c = slot_slot kind t items in omega arith
 slots_counted_below (Locals ∷ items) = let c = locals_slot items in omega arith
 
-without_top-keeps : (notes : Notes) (f : FnNote) (s : State) → IsState notes f s → IsState notes f (without_top s)
+pub without_top-keeps : (notes : Notes) (f : FnNote) (s : State) → IsState notes f s → IsState notes f (without_top s)
 without_top-keeps notes f s h = record {
   few = let c = slots_counted_below s.items in let o = h.few in omega arith;
   eight = h.eight;

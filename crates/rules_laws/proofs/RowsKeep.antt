@@ -57,7 +57,7 @@ use Rattle.note_types.proofs.RecordLaws.{params_known}
 
 -- ---- results
 
-left_value-known : (notes : Notes) (f : FnNote) (s : State) (a : Access) (op : Operand) (d : Distance) → IsNotes notes → ParamsKnown notes f f.params → RegistersKnown notes f s → IfOk (left_value notes f s a op d) (IsKnown notes f)
+pub left_value-known : (notes : Notes) (f : FnNote) (s : State) (a : Access) (op : Operand) (d : Distance) → IsNotes notes → ParamsKnown notes f f.params → RegistersKnown notes f s → IfOk (left_value notes f s a op d) (IsKnown notes f)
 left_value-known notes f s a op d k p h =
     ok_choice (IsKnown notes f) op.indirect _ _
     (ok_map (LoadKnown notes f) (IsKnown notes f) (λ l. l.ty) (load_at notes f s a op.reg d) (load_at-known notes f s a op.reg d k p h) (λ l i. i))
@@ -137,7 +137,7 @@ frame_value-known : (notes : Notes) (f : FnNote) (s : State) (z : Size) (d : Dis
 frame_value-known notes f s size.Qword d k p h = address_known notes f (place_at notes f s 0 d) (place_at-known notes f s 0 d k p (h 0))
 frame_value-known notes f s _ d k p h = tt
 
-move_value-known : (notes : Notes) (f : FnNote) (s : State) (z : Size) (right : Operand) (ridx : Option Index) → IsNotes notes → ParamsKnown notes f f.params → RegistersKnown notes f s → IfOk (move_value notes f s z right ridx) (LoadKnown notes f)
+pub move_value-known : (notes : Notes) (f : FnNote) (s : State) (z : Size) (right : Operand) (ridx : Option Index) → IsNotes notes → ParamsKnown notes f f.params → RegistersKnown notes f s → IfOk (move_value notes f s z right ridx) (LoadKnown notes f)
 unfolding move_value
 move_value-known notes f s z right ridx k p h =
     ok_choice (LoadKnown notes f) right.indirect _ _ (load_at-known notes f s (move_access z) right.reg (index_distance ridx) k p h)
@@ -152,7 +152,7 @@ move_row-known notes f s z left right lidx ridx k p h =
     (destination_known notes f s (move_access z) left (index_distance lidx)) (move_value-known notes f s z right ridx k p h))
     (λ x i. ok_also (ChangeKnown notes f) (put x.0 x.1.ty) (needs rule.Thunk x.1.made) (put_known notes f x.0 x.1.ty i.0 i.1))
 
-signed_value-known : (notes : Notes) (f : FnNote) (s : State) (right : Operand) (extra : Extra) → IsNotes notes → ParamsKnown notes f f.params → RegistersKnown notes f s → IfOk (signed_value notes f s right extra) (LoadKnown notes f)
+pub signed_value-known : (notes : Notes) (f : FnNote) (s : State) (right : Operand) (extra : Extra) → IsNotes notes → ParamsKnown notes f f.params → RegistersKnown notes f s → IfOk (signed_value notes f s right extra) (LoadKnown notes f)
 unfolding signed_value
 signed_value-known notes f s right extra k p h =
     ok_choice (LoadKnown notes f) right.indirect _ _ (operand_value-known notes f s access.Signed right extra k p h)
@@ -192,7 +192,7 @@ static_known notes f x n g =
     let l = c.shape in
     record { bounded = (c.count.0, (omega arith, omega arith), omega arith, c.count.1, omega arith); names = c.shape }
 
-thing_known : (notes : Notes) (f : FnNote) (z : ℤ) → IsNotes notes → IfSome (thing_at notes z) (IsKnown notes f)
+pub thing_known : (notes : Notes) (f : FnNote) (z : ℤ) → IsNotes notes → IfSome (thing_at notes z) (IsKnown notes f)
 unfolding thing_at static_at thunk_at
 thing_known notes f z n =
     some_else (IsKnown notes f) (and_then (find (is_static_at z) notes.statics) static_type) _
@@ -202,7 +202,7 @@ thing_known notes f z n =
     (some_is (position (is_thunk_at z) notes.thunk))
     (λ i e. let l = position-Some (is_thunk_at z) notes.thunk i (record { place = 0; function = 0 }) e in let m = n.few.thunks in record { bounded = omega (arith, l.0, m); names = l.0 }))
 
-immediate_known : (notes : Notes) (f : FnNote) (reloc : Option ℕ) (z : Size) (bits : ℕ) (indirect : Bool) (imm : ℤ) → IsNotes notes → IfOk (immediate notes reloc z bits indirect imm) (IsKnown notes f)
+pub immediate_known : (notes : Notes) (f : FnNote) (reloc : Option ℕ) (z : Size) (bits : ℕ) (indirect : Bool) (imm : ℤ) → IsNotes notes → IfOk (immediate notes reloc z bits indirect imm) (IsKnown notes f)
 immediate_known notes f None z bits indirect imm n = constant_known notes f _ (low_below z (wrap imm) (wrap_below imm))
 immediate_known notes f (Some place) z bits indirect imm n =
     ok_choice (IsKnown notes f) (takes_address z bits indirect) _ _ (ok_some (IsKnown notes f) rule.Relocation (thing_at notes (pos place)) (thing_known notes f (pos place) n)) tt
@@ -215,7 +215,7 @@ move_imm_row-known notes f here s z bits left lidx imm n =
     (immediate_known notes f here.reloc z bits left.indirect imm n) (destination_known notes f s (move_access z) left (index_distance lidx)))
     (λ x i. put_known notes f x.1 x.0 i.1 i.0)
 
-immediate_index-known : (notes : Notes) (f : FnNote) (d : Distance) → IsKnown notes f (immediate_index d)
+pub immediate_index-known : (notes : Notes) (f : FnNote) (d : Distance) → IsKnown notes f (immediate_index d)
 immediate_index-known notes f d =
     if_known notes f (int_eq d.n (pos 0) && int_le (pos 0) d.c) _ _ (λ e. constant_known notes f _ (wrap_below d.c))
     (if_known notes f (int_le (pos 1) d.n) _ _ (λ e. lin_known notes f d.n d.c (at_least_one_from d.n e)) (any_known notes f))

@@ -7,6 +7,8 @@ use Rattle.ebc_machine.specs.declared.StepEnd.TheVariants as ends
 use Rattle.note_types.specs.Concrete.{Concrete}
 use Rattle.note_types.specs.declared.ending.Ending.{Ending}
 use Rattle.note_types.specs.declared.ending.Ending.TheVariants.{Running, Raised}
+use Rattle.note_types.specs.declared.notes.Notes.{Notes}
+use Rattle.note_types.specs.declared.script.Script.{Script}
 use Rattle.pe_image.specs.Mapped.{mapped}
 use Rattle.pe_image.specs.declared.image.Image.{Image}
 use Rattle.run_types.specs.HostPlans.{host_turn}
@@ -16,6 +18,10 @@ use Rattle.run_types.specs.Progress.{one_instruction, Asked}
 use Rattle.run_types.specs.RunState.{RunState}
 use Rattle.run_types.specs.Start.{run_start}
 use Rattle.run_types.specs.World.{World}
+
+-- what a run of an image is about, under its notes and with a script
+abbrev pub world_of : Image → Notes → Script → World
+world_of image notes script = record { notes = notes; script = script; image_size = image.size }
 
 -- ---- a step
 

@@ -1,5 +1,5 @@
 use Rattle.std.proofs.Common.{◌≡◌, ◌⊎◌, None, ◌∙◌}
-use Rattle.ebc_cli.proofs.HeadlineLemmas.{Tells, answer-ok, answer-stop, answers, leaves-part, exactly, refused, lists-always, lists-exactly, assembles-always, assembles-exactly, bad-source-line, bad-input, plain-alike, plain-exactly, plain-refused}
+use Rattle.ebc_cli.proofs.HeadlineLemmas.{Tells, answer-ok, answer-stop, answers, leaves-part, exactly, alike, refused, lists-always, lists-exactly, assembles-always, assembles-exactly, bad-source-line, bad-input, plain-alike, plain-exactly, plain-refused}
 use Rattle.ebc_cli.proofs.OutputLemmas.{but-output, writes-none}
 use Rattle.ebc_cli.specs.Commands.{command_of, output_of, word_bytes}
 use Rattle.ebc_cli.specs.Outputs.{written_name}
@@ -34,6 +34,9 @@ returns-clause-write_fault_leaves g c = leaves-part _ _ _ _ _ _ _ (tells g c) c.
 
 pub returns-clause-neutral_exactly : goal.returns-clause-neutral_exactly
 returns-clause-neutral_exactly g c = exactly _ _ _ _ (tells g c)
+
+pub returns-clause-neutral_alike : goal.returns-clause-neutral_alike
+returns-clause-neutral_alike g c = alike _ _ _ _ (tells g c)
 
 pub returns-clause-refused_exactly : goal.returns-clause-refused_exactly
 returns-clause-refused_exactly g c = refused _ _ _ _ (tells g c)

@@ -1,0 +1,52 @@
+-- What the neutral machine reads at a place is decoded there.
+use Rattle.std.proofs.Common.{◌≡◌, ℕ, zero, suc, ◌+◌, ◌-◌, ◌<◌, ◌≤◌, ◌∷◌, length, take, Some, Result, Ok, Err, refl, sym, ap, ◌∙◌, subst, arith}
+use Rattle.std.proofs.lemmas.Option.{same_Some, none-some}
+use Rattle.ebc_decode.specs.Reading.{read}
+use Rattle.ebc_decode.specs.declared.DecodeFault.{DecodeFault}
+use Rattle.ebc_decode.proofs.Laws.{read_length, read_spells}
+use Rattle.ebc_decode.proofs.Numbers.{IsBytes}
+use Rattle.ebc_insn.specs.Spelling.{spelling}
+use Rattle.ebc_insn.specs.declared.Insn.{Insn}
+use Rattle.ebc_width.specs.Bytes.{window}
+use Rattle.ebc_width.proofs.ByteLaws.{length-window}
+use Rattle.rules_data.specs.Images.{image_byte}
+use Rattle.whole_runs.specs.NeutralImage.{instruction_at, or_none}
+use Rattle.step_sound.specs.Loaded.{ReadIsDecoded}
+
+-- ---- windows
+
+window_bytes : (b : ℕ → ℕ) → ((x : ℕ) → b x < 256) → (a n : ℕ) → IsBytes (window b a n)
+unfolding window
+window_bytes b small a zero i = omega arith
+window_bytes b small a (suc n) zero = small a
+window_bytes b small a (suc n) (suc i) = window_bytes b small (a + 1) n i
+
+take-window : (b : ℕ → ℕ) (a n m : ℕ) → n ≤ m → take n (window b a m) ≡ window b a n
+unfolding window
+take-window b a zero m h = refl
+take-window b a (suc n) zero h = absurd (omega (arith, h))
+take-window b a (suc n) (suc m) h = ap (λ ys. b a ∷ ys) (take-window b (a + 1) n m (omega (arith, h)))
+
+-- ---- what is read
+
+or_none-some : (r : Result (Insn × ℕ) DecodeFault) (x : Insn × ℕ) → or_none r ≡ Some x → r ≡ Ok x
+or_none-some (Ok y) x e = ap Ok (same_Some y x e)
+or_none-some (Err f) x e = absurd (none-some x e)
+
+pub read_is_decoded : ReadIsDecoded
+unfolding instruction_at
+read_is_decoded image f place i n small e fits =
+    let b : ℕ → ℕ = image_byte image in
+    let k : ℕ = image.size - place in
+    let r : read (window b place k) ≡ Ok (i, n) = or_none-some (read (window b place k)) (i, n) e in
+    let s = read_spells (window b place k) i n (window_bytes b small place k) r in
+    let l = read_length (window b place k) i n r in
+    let short : n ≤ k = subst (λ z. n ≤ z) (length-window b place k) l.1 in
+    let spelled : spelling i ≡ window b place n = sym s.same_bytes ∙ take-window b place n k short in
+    let long : length (spelling i) ≡ n = ap length spelled ∙ length-window b place n in
+    record {
+      well_formed = s.well_formed;
+      spelled = spelled ∙ ap (window b place) (sym long);
+      next_is = ap (λ z. place + z) (sym long);
+      within = fits;
+    }

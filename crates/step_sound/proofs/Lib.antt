@@ -1,0 +1,16 @@
+pub mod Decoded
+pub mod EvenPlaces
+pub mod HostStacks
+pub mod Instructing
+pub mod Items
+pub mod Keeping
+pub mod Read
+pub mod Relocated
+pub mod RowLeads
+pub mod RunSteps
+pub mod Simulated
+pub mod StaticFits
+pub mod Statics
+pub mod Steps
+pub mod Thunks
+pub mod Worlds

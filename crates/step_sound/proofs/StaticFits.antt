@@ -1,0 +1,275 @@
+-- What the cells of a typed image's static objects hold at first fits them.
+use Rattle.std.proofs.Common.{◌≡◌, ℕ, suc, ◌+◌, ◌-◌, ◌*◌, ◌^◌, ◌<◌, ◌≤◌, Bool, true, false, not, if◌then◌else◌, nat_eq, List, map, get_or, Option, Some, option_map, option_and_then, refl, sym, ap, ap₂, ◌∙◌, subst, arith, inl, ⊎_elim, slice_get, pos, inr, nat_lt, None, ◌++◌, ltb-true}
+use Rattle.std.specs.List.{list_any, position, Contains}
+use Rattle.std.specs.Option.{option_map_or}
+use Rattle.std.proofs.lemmas.Bool.{eq-eqb, ne_eqb, eqb-true, or_left, or_right, true≢false}
+use Rattle.std.proofs.lemmas.List.Folds.{list_any_at}
+use Rattle.std.proofs.lemmas.Nat.{row_fits}
+use Rattle.std.proofs.lemmas.Option.{same_Some, slice_get-map, slice_get_within, slice_get-get_or, get_or_from_slice_get, none-some}
+use Rattle.std.proofs.Math.Nat.{mul-pos}
+use Rattle.ebc_width.specs.Bytes.{little_endian}
+use Rattle.ebc_width.specs.Width.{wrap64}
+use Rattle.ebc_width.proofs.ByteLaws.{little_endian-below}
+use Rattle.host_laws.proofs.Accepting.{read_zero}
+use Rattle.instruction_laws.specs.Premises.{IsRunOf}
+use Rattle.instruction_laws.proofs.Loaded.{of_any}
+use Rattle.instruction_laws.proofs.Worlds.{world_meets}
+use Rattle.note_types.specs.Cells.{cell_size}
+use Rattle.note_types.specs.Shapes.{size_at, start_at, IsShape}
+use Rattle.note_types.specs.declared.cell.Cell.{Cell}
+use Rattle.note_types.specs.declared.cell.Cell.TheVariants as cell
+use Rattle.note_types.specs.declared.notes.Static.{Static}
+use Rattle.note_types.specs.declared.shape.Field.{Field}
+use Rattle.note_types.specs.declared.shape.Shape.{Shape}
+use Rattle.pe_image.specs.Mapped.{AreBytes}
+use Rattle.pe_image.specs.declared.image.Image.{Image}
+use Rattle.rules_data.specs.Images.{image_byte, named_place, extent, depends, has_natural, field_place, IsStatic, IsLinked, IsStaticAt, CellHolds, HasContentBy, IsUnrelocated}
+use Rattle.run_types.specs.HostPlans.{field_at}
+use Rattle.run_types.specs.Memory.{cell_field}
+use Rattle.run_types.specs.Objects.{no_shape, shape_of, static_object, made_objects, script_object, placed_objects}
+use Rattle.run_types.specs.Values.{Neutral, At, ObjectOf, FieldOf, number, null, word, CellPlace, FieldOfLocals}
+use Rattle.run_types.specs.World.{World}
+use Rattle.run_types.specs.declared.object.TypedObject.{TypedObject}
+use Rattle.run_types.proofs.Lists.{slice_get-append_left, length-map}
+use Rattle.whole_runs.specs.NeutralImage.{static_cells, static_cell_place, static_value, static_address, loaded_value}
+use Rattle.step_sound.proofs.Thunks.{first_found}
+use Rattle.run_types.specs.Fits.{IsNumber, IsPointer, FitsPlain}
+use Rattle.note_types.specs.Cells.{content_type}
+use Rattle.run_types.specs.HostPlans.{field_in}
+use Rattle.run_types.specs.Scripts.{is_needed}
+use Rattle.run_types.specs.Values.{null}
+use Rattle.std.proofs.Math.Nat.{dvd_of_mod-eq-zero}
+use Rattle.rules_data.specs.Images.{MayBeZero}
+use Rattle.step_sound.proofs.Thunks.{first_found}
+use Rattle.invariant_laws.proofs.Filling.{zero_fits}
+use Rattle.invariant_laws.specs.Hosted.{StaticsFit, no_locals_there}
+
+-- ---- layouts that don't depend on the width
+
+-- the units of a shape and of its fields
+units_none : (S : Shape) → depends S ≡ false → S.n ≡ 0
+units_none S e = go (nat_eq S.n 0) refl
+  where
+    go : (b : Bool) → nat_eq S.n 0 ≡ b → S.n ≡ 0
+    go true q = eqb-true S.n 0 q
+    go false q = absurd (true≢false (sym (or_left (not (nat_eq S.n 0)) (list_any has_natural S.fields) (ap not q)) ∙ e))
+
+field_units : (S : Shape) (f : ℕ) (z : Field) → depends S ≡ false → slice_get S.fields f ≡ Some z → z.n ≡ 0
+field_units S f z e g = go (nat_eq z.n 0) refl
+  where
+    go : (b : Bool) → nat_eq z.n 0 ≡ b → z.n ≡ 0
+    go true q = eqb-true z.n 0 q
+    go false q =
+        let has : has_natural z ≡ true = or_left (not (nat_eq z.n 0)) _ (ap not q) in
+        let any : list_any has_natural S.fields ≡ true = list_any_at has_natural S.fields f z (slice_get_within S.fields f z g) (ap has_natural (get_or_from_slice_get S.fields f z z g) ∙ has) in
+        absurd (true≢false (sym (or_right (not (nat_eq S.n 0)) (list_any has_natural S.fields) any) ∙ e))
+
+-- ---- relocated places
+
+unlisted : (xs : List ℕ) (p : ℕ) → (Contains xs p → ⊥) → list_any (nat_eq p) xs ≡ false
+unlisted xs p away = go (list_any (nat_eq p) xs) refl
+  where
+    go : (b : Bool) → list_any (nat_eq p) xs ≡ b → list_any (nat_eq p) xs ≡ false
+    go true e = absurd (away (of_any xs p e))
+    go false e = e
+
+listed : (xs : List ℕ) (p : ℕ) → Contains xs p → list_any (nat_eq p) xs ≡ true
+listed xs p c = list_any_at (nat_eq p) xs c.0 p c.1 (eq-eqb p (get_or xs c.0 p) (sym c.2))
+
+-- a cell that may be zero needs nothing else
+not_needed : (c : Cell) → MayBeZero c → is_needed c ≡ false
+not_needed cell.I8 m = refl
+not_needed cell.I16 m = refl
+not_needed cell.I32 m = refl
+not_needed cell.I64 m = refl
+not_needed cell.N m = refl
+not_needed cell.Stat m = refl
+not_needed cell.Handle m = refl
+not_needed cell.Entry m = refl
+not_needed (cell.Ptr s k may) m = ap not m
+not_needed (cell.P64 s k may) m = ap not m
+not_needed (cell.Method n) m = absurd m
+
+module _ (image : Image) (world : World) (run : IsRunOf image world) (bytes : AreBytes image) where
+  abbrev objects : List TypedObject
+  objects = map static_object world.notes.statics
+
+  abbrev fits_cell : Cell → Neutral → Type 0
+  fits_cell c v = FitsPlain world.notes (map static_object world.notes.statics) (content_type c) v
+
+  -- the number in the image's bytes from a place on
+  abbrev held : ℕ → ℕ → ℕ
+  held p n = little_endian (image_byte image) p n
+
+  plain_value : (p n : ℕ) → 0 < n → IsUnrelocated image p (p + n) → loaded_value world.notes image p n ≡ number (held p n)
+  plain_value p n some free =
+      ap (λ b. if b then static_address world.notes (named_place image p) else number (held p n)) (unlisted image.relocs p (λ c. free p c (omega (arith, some), omega arith)))
+
+  plain_fits : (p n hi : ℕ) → 0 < n → IsUnrelocated image p (p + n) → 256 ^ n ≤ suc hi → IsNumber 0 hi 1 (loaded_value world.notes image p n)
+  plain_fits p n hi some free small =
+      let b = little_endian-below (image_byte image) p n bytes in
+      subst (IsNumber 0 hi 1) (sym (plain_value p n some free))
+      (record { x = held p n; is = refl; from = omega arith; to = omega (arith, b, small); divided = dvd_of_mod-eq-zero 1 (omega arith) })
+
+  -- the static object at a place is found by it
+  static_found : (place s count : ℕ) (at : IsStaticAt world.notes place s count) → position (λ (x : Static). nat_eq x.place place) world.notes.statics ≡ Some at.k
+  static_found place s count at = first_found (λ (x : Static). nat_eq x.place place) world.notes.statics at.k at.x at.there (eq-eqb at.x.place place at.place_is) before
+    where
+      positive : (k : ℕ) (x : Static) → slice_get world.notes.statics k ≡ Some x → 0 < x.count * size_at 8 (shape_of world.notes x.shape)
+      positive k x g =
+          let n = run.notes.statics k x g in
+          let shape = run.shapes x.shape (shape_of world.notes x.shape) (slice_get-get_or world.notes.shape x.shape no_shape n.shape) in
+          mul-pos n.count.0 shape.at8.positive
+
+      before : (j : ℕ) (y : Static) → j < at.k → slice_get world.notes.statics j ≡ Some y → nat_eq y.place place ≡ false
+      before j y l g = ne_eqb y.place place (λ e.
+          let off = (world_meets image world run).statics_apart j at.k y at.x g at.there (λ q. omega (arith, q, l)) in
+          let a = positive j y g in
+          let b = positive at.k at.x at.there in
+          let c = at.place_is in
+          ⊎_elim (λ x. omega (arith, x, a, c, e)) (λ x. omega (arith, x, b, c, e)) off)
+
+  linked_fits : (p s count : ℕ) → IsLinked image world.notes p s count → IsPointer world.notes (map static_object world.notes.statics) s count (pos 0) (pos 0) (loaded_value world.notes image p 8)
+  linked_fits p s count link =
+      let some = listed image.relocs p link.relocated in
+      let at = link.named in
+      let found = static_found (named_place image p) s count at in
+      let v : loaded_value world.notes image p 8 ≡ At (ObjectOf at.k) 0 0 =
+      ap (λ b. if b then static_address world.notes (named_place image p) else number (held p 8)) some
+      ∙ ap (λ o. option_map_or (λ u. u) (option_map (λ k. At (ObjectOf k) 0 0) o) null) found in
+      subst (IsPointer world.notes (map static_object world.notes.statics) s count (pos 0) (pos 0)) (sym v)
+      (record {
+        k = at.k;
+        j = 0;
+        object = static_object at.x;
+        is = ap₂ (At (ObjectOf at.k)) (let e : 0 ≡ word (0 * (shape_of world.notes s).n + wrap64 (pos 0)) = omega arith in e) (let e : 0 ≡ word (0 * (shape_of world.notes s).c + wrap64 (pos 0)) = omega arith in e);
+        there = slice_get-map static_object world.notes.statics at.k ∙ ap (option_map static_object) at.there;
+        shape = at.shape_is;
+        room = (let n = at.enough in omega (arith, n));
+      })
+
+  filled_fits : (p : ℕ) (c : Cell) → CellHolds image world.notes p c → FitsPlain world.notes (map static_object world.notes.statics) (content_type c) (loaded_value world.notes image p (cell_size 4 c))
+  filled_fits p cell.I8 f = plain_fits p 1 (2 ^ 8 - 1) (omega arith) f (omega arith)
+  filled_fits p cell.I16 f = plain_fits p 2 (2 ^ 16 - 1) (omega arith) f (omega arith)
+  filled_fits p cell.I32 f = plain_fits p 4 (2 ^ 32 - 1) (omega arith) f (omega arith)
+  filled_fits p cell.I64 f = plain_fits p 8 (2 ^ 64 - 1) (omega arith) f (omega arith)
+  filled_fits p (cell.P64 s k true) f = ⊎_elim
+      (λ z. inr (plain_value p 8 (omega arith) z.0 ∙ ap number (read_zero (image_byte image) p 8 (λ y u v. z.1 y u v))))
+      (λ z. inl (linked_fits p s k z)) f
+  filled_fits p (cell.P64 s k false) f = linked_fits p s k f
+  filled_fits p cell.N f = absurd f
+  filled_fits p cell.Stat f = absurd f
+  filled_fits p cell.Handle f = absurd f
+  filled_fits p cell.Entry f = absurd f
+  filled_fits p (cell.Ptr s k may) f = absurd f
+  filled_fits p (cell.Method m) f = absurd f
+
+  -- a cell of a static object fits
+  value_fits : (k i f : ℕ) (s : Static) (z : Field) → slice_get world.notes.statics k ≡ Some s → i < s.count → slice_get (shape_of world.notes s.shape).fields f ≡ Some z
+      → FitsPlain world.notes (map static_object world.notes.statics) (content_type z.cell) (static_value world.notes image s i z)
+  value_fits k i f s z g count field = by_layout (depends S) refl rule.content
+    where
+      S : Shape
+      S = shape_of world.notes s.shape
+
+      known : slice_get world.notes.shape s.shape ≡ Some (shape_of world.notes s.shape)
+      known = slice_get-get_or world.notes.shape s.shape no_shape (run.notes.statics k s g).shape
+
+      rule : IsStatic image world.notes k s (shape_of world.notes s.shape)
+      rule = run.statics k s (shape_of world.notes s.shape) g known
+
+      shape : IsShape (shape_of world.notes s.shape)
+      shape = run.shapes s.shape (shape_of world.notes s.shape) known
+
+      inside4 : i * size_at 4 (shape_of world.notes s.shape) + start_at 4 z + cell_size 4 z.cell ≤ extent s (shape_of world.notes s.shape)
+      inside4 =
+          let inner = shape.at4.inside f z field in
+          let row = row_fits i (size_at 4 (shape_of world.notes s.shape)) s.count (size_at 8 (shape_of world.notes s.shape)) count (omega arith) in
+          omega (arith, inner, row)
+
+      some4 : 0 < cell_size 4 z.cell
+      some4 = positive4 z.cell
+        where
+          positive4 : (c : Cell) → 0 < cell_size 4 c
+          positive4 cell.I8 = omega arith
+          positive4 cell.I16 = omega arith
+          positive4 cell.I32 = omega arith
+          positive4 cell.I64 = omega arith
+          positive4 cell.N = omega arith
+          positive4 cell.Stat = omega arith
+          positive4 cell.Handle = omega arith
+          positive4 cell.Entry = omega arith
+          positive4 (cell.Ptr s k may) = omega arith
+          positive4 (cell.P64 s k may) = omega arith
+          positive4 (cell.Method m) = omega arith
+
+      by_layout : (b : Bool) → depends (shape_of world.notes s.shape) ≡ b → HasContentBy image world.notes s (shape_of world.notes s.shape) b
+          → FitsPlain world.notes (map static_object world.notes.statics) (content_type z.cell) (static_value world.notes image s i z)
+      by_layout true e c =
+          let p = static_cell_place world.notes s i z in
+          let n = cell_size 4 z.cell in
+          let from : s.place ≤ p = omega arith in
+          let to : p + n ≤ s.place + extent s (shape_of world.notes s.shape) = omega (arith, inside4) in
+          let none = unlisted image.relocs p (λ r. c.unrelocated p r (omega (arith, to, some4), omega (arith, from))) in
+          let zero : held p n ≡ 0 = read_zero (image_byte image) p n (λ y u v. c.zero_bytes y (omega (arith, from, u)) (omega (arith, to, v))) in
+          let v : loaded_value world.notes image p n ≡ null = ap (λ t. if t then static_address world.notes (named_place image p) else number (held p n)) none ∙ ap number zero in
+          subst (FitsPlain world.notes (map static_object world.notes.statics) (content_type z.cell)) (sym v) (zero_fits world.notes (map static_object world.notes.statics) z.cell (not_needed z.cell (c.cells f z field)))
+      by_layout false e c =
+          let none = units_none (shape_of world.notes s.shape) e in
+          let z0 = field_units (shape_of world.notes s.shape) f z e field in
+          let p8 = field_place s (shape_of world.notes s.shape) i z in
+          let fixed : (v : ℕ) → s.place + (i * size_at v (shape_of world.notes s.shape) + start_at v z) ≡ s.place + (i * (shape_of world.notes s.shape).c + z.c) =
+          λ v. ap₂ (λ a b. s.place + (i * (a * v + (shape_of world.notes s.shape).c) + (b * v + z.c))) none z0 ∙ omega arith in
+          let here : static_cell_place world.notes s i z ≡ p8 = (let q : static_cell_place world.notes s i z ≡ s.place + (i * size_at 4 (shape_of world.notes s.shape) + start_at 4 z) = omega arith in q) ∙ fixed 4 ∙ sym (fixed 8) ∙ omega arith in
+          subst (λ p. FitsPlain world.notes (map static_object world.notes.statics) (content_type z.cell) (loaded_value world.notes image p (cell_size 4 z.cell))) (sym here) (filled_fits p8 z.cell (c.cells i f z count field))
+
+  -- ---- all of them
+
+  -- what a static cell is
+  record StaticCell (k i f : ℕ) (z : Field) : Type 0 where
+    s : Static
+    there : slice_get world.notes.statics k ≡ Some s
+    count : i < s.count
+    field : slice_get (shape_of world.notes s.shape).fields f ≡ Some z
+    value : static_cells world image (FieldOf k i f) ≡ Some (static_value world.notes image s i z)
+
+  static_cell : (k i f : ℕ) (z : Field) → field_at world.notes (map static_object world.notes.statics) k i f ≡ Some z → StaticCell k i f z
+  unfolding field_at static_cells made_objects
+  static_cell k i f z e = go (slice_get world.notes.statics k) refl (ap (option_and_then (field_in world.notes i f)) (sym (slice_get-map static_object world.notes.statics k)) ∙ e)
+    where
+      test : (s : Static) → slice_get world.notes.statics k ≡ Some s → (t : Bool) → nat_lt i s.count ≡ t → (if t then slice_get (shape_of world.notes s.shape).fields f else None) ≡ Some z → StaticCell k i f z
+      test s g false t h = absurd (none-some z h)
+      test s g true t h =
+          let few = slice_get_within world.notes.statics k s g in
+          let size = length-map static_object world.notes.statics in
+          let at : slice_get (map static_object world.notes.statics ++ map script_object (placed_objects world.script 0)) k ≡ Some (static_object s) =
+          slice_get-append_left (map static_object world.notes.statics) (map script_object (placed_objects world.script 0)) k (omega (arith, few, size)) ∙ slice_get-map static_object world.notes.statics k ∙ ap (option_map static_object) g in
+          record {
+            s = s;
+            there = g;
+            count = ltb-true i s.count t;
+            field = h;
+            value =
+                ap (λ (q : Option Static). option_and_then (λ (x : Static). option_map (static_value world.notes image x i) (option_and_then (field_in world.notes i f) (slice_get (map static_object world.notes.statics ++ map script_object (placed_objects world.script 0)) k))) q) g
+                ∙ ap (λ (q : Option TypedObject). option_map (static_value world.notes image s i) (option_and_then (field_in world.notes i f) q)) at
+                ∙ ap (λ b. option_map (static_value world.notes image s i) (if b then slice_get (shape_of world.notes s.shape).fields f else None)) t
+                ∙ ap (option_map (static_value world.notes image s i)) h;
+          }
+
+      go : (q : Option Static) → slice_get world.notes.statics k ≡ q → option_and_then (field_in world.notes i f) (option_map static_object q) ≡ Some z → StaticCell k i f z
+      go None g h = absurd (none-some z h)
+      go (Some s) g h = test s g (nat_lt i s.count) refl h
+
+  pub statics_fit : StaticsFit world (static_cells world image)
+  unfolding field_at
+  statics_fit = record {
+    fit = fit;
+    all = λ k i f z g. let c = static_cell k i f z g in (static_value world.notes image c.s i z, c.value);
+  }
+    where
+      fit : (p : CellPlace) (z : Field) (v : Neutral) → cell_field world.notes (record { objects = map static_object world.notes.statics; locals = no_locals_there; cells = static_cells world image }) p ≡ Some z → static_cells world image p ≡ Some v
+          → FitsPlain world.notes (map static_object world.notes.statics) (content_type z.cell) v
+      fit (FieldOf k i f) z v g e =
+          let c = static_cell k i f z g in
+          subst (FitsPlain world.notes (map static_object world.notes.statics) (content_type z.cell)) (same_Some (static_value world.notes image c.s i z) v (sym c.value ∙ e)) (value_fits k i f c.s z c.there c.count c.field)
+      fit (FieldOfLocals d f) z v g e = absurd (none-some z g)

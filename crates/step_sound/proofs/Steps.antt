@@ -1,0 +1,242 @@
+-- A step of a typed program's run: the neutral machine isn't stuck, and the invariant holds after it.
+use Rattle.std.specs.Prelude.{Ok, Err}
+use Rattle.std.proofs.Common.{◌≡◌, ◌⊎◌, ℕ, ◌+◌, ◌-◌, ◌%◌, ◌<◌, ◌≤◌, Bool, true, false, if◌then◌else◌, List, ◌∷◌, length, Option, Some, None, option_and_then, refl, sym, ap, ap₂, ◌∙◌, subst, arith, inl, inr}
+use Rattle.std.proofs.lemmas.Bool.{eq-eqb, true≢false}
+use Rattle.ebc_decode.specs.Reading.{read}
+use Rattle.ebc_insn.specs.Spelling.{spelling}
+use Rattle.ebc_insn.specs.declared.Insn.{Insn}
+use Rattle.ebc_width.specs.Bytes.{window}
+use Rattle.ebc_width.specs.Width.{IsWidth}
+use Rattle.note_types.specs.declared.ending.Ending.TheVariants as ending
+use Rattle.note_types.specs.declared.spot.Spot.{Spot}
+use Rattle.note_types.specs.declared.spot.Spot.TheVariants as spot
+use Rattle.note_types.specs.declared.state.State.{State}
+use Rattle.pe_image.specs.declared.image.Image.{Image}
+use Rattle.rules_base.specs.Outcomes.{Gives as Given, gives_map}
+use Rattle.rules_data.specs.Data.{after_data}
+use Rattle.rules_data.specs.Images.{image_byte, named_at, is_relocated}
+use Rattle.rules_flow.specs.Flow.{after_flow}
+use Rattle.rules_flow.specs.Successors.{falls}
+use Rattle.rules_flow.specs.declared.successors.Successors.{Successors}
+use Rattle.run_types.specs.Config.{FunctionFrame, Frame, Function, Config, call_under_way, with_call}
+use Rattle.run_types.specs.HostPlans.{host_turn}
+use Rattle.run_types.specs.NeutralHost.{neutral_host_step, thunk_made}
+use Rattle.run_types.specs.NeutralRuns.{is_gate, running_step}
+use Rattle.run_types.specs.Outcomes.{Outcome, Gives, Raises, Stuck}
+use Rattle.run_types.specs.Progress.{NativeCall, NoCall, Asked, one_instruction}
+use Rattle.run_types.specs.Values.{Neutral}
+use Rattle.run_types.specs.World.{World}
+use Rattle.neutral_machine.specs.Rows.{Site, NeutralEnd, Next, Native, MakeThunk, executed}
+use Rattle.instruction_laws.specs.Premises.{IsInsnOf, IsRunOf}
+use Rattle.instruction_laws.proofs.ImageSteps.{instruction_read}
+use Rattle.instruction_laws.proofs.Worlds.{world_meets}
+use Rattle.whole_runs.specs.NeutralImage.{instruction_at, site_at, or_none}
+use Rattle.whole_runs.specs.NeutralRun.{instruction_left, instruction_from, neutral_instruction}
+use Rattle.step_sound.specs.ReadWorld.{IsReadWorld}
+use Rattle.step_sound.specs.StepLaw.{StepGoesWell}
+use Rattle.width_checker.specs.Rows.{row_of, reloc_at, is_flow}
+use Rattle.typed_runs.specs.Live.{live_memory}
+use Rattle.typing_laws.specs.OneRule.{Accepted as RuleAccepts, here_of, StandsTyped}
+use Rattle.typed_runs.specs.Sound.{TopFits, Sound}
+use Rattle.typed_runs.specs.Waiting.{States, Chain}
+use Rattle.typed_runs.specs.Holds.{RunsAt, Holds}
+use Rattle.typed_runs.specs.Laws.{StatesFitBelow}
+use Rattle.typing_laws.proofs.FlowTable.{one_rule}
+use Rattle.typing_laws.proofs.Rooms.{sound_room, room_fits}
+use Rattle.typing_laws.proofs.StatesBelow.{state_fits_below}
+use Rattle.invariant_laws.specs.Hosted.{HostGoesOn, Turn, of_host, of_code}
+use Rattle.invariant_laws.proofs.Turns.{turn_holds}
+use Rattle.step_sound.specs.PlaceStates.{InsnHolds, StatesHold}
+use Rattle.step_sound.proofs.EvenPlaces.{place_even, spelling_even}
+use Rattle.step_sound.proofs.Read.{read_is_run}
+use Rattle.step_sound.proofs.RowLeads.{falls_where_it_may}
+use Rattle.step_sound.proofs.Worlds.{run_world, world_typed, thunks_enter}
+use Rattle.step_sound.proofs.Instructing.{Before, HoldsAfter, instruction_holds}
+
+-- what fits a state fits each state above it
+pub state_below : StatesFitBelow
+state_below notes m d f s t regs c made = state_fits_below notes m d f s t regs c made
+
+module _ (image : Image) (world : World) (states : States) (r : IsReadWorld image world) (hold : StatesHold image world states) where
+  run : IsRunOf image world
+  run = read_is_run image world r
+
+  -- ---- the instruction at a place
+
+  found_there : (here : Site) (i : Insn) → IsInsnOf image world here i → instruction_at image here.place ≡ Some (i, length (spelling i))
+  unfolding instruction_at
+  found_there here i at =
+      let code = (world_meets image world run).code_inside at.k at.f at.function in
+      let n = at.decoded.next_is in
+      let l = at.decoded.within in
+      let size = r.size in
+      let m = length (spelling i) in
+      let whole : image.size - here.place ≡ m + (image.size - here.place - m) = omega (arith, n, l, code.1, size) in
+      ap (λ k. or_none (read (window (image_byte image) here.place k))) whole ∙ ap or_none (instruction_read image world here i (image.size - here.place - m) at)
+
+  site_there : (here : Site) (i : Insn) → IsInsnOf image world here i → site_at image here.place (length (spelling i)) ≡ here
+  site_there here i at =
+      let n = at.decoded.next_is in
+      ap₂ (λ x y. record { place = here.place; next = x; reloc = y }) (sym n) (ap (λ x. named_at image x (is_relocated image x)) (sym n) ∙ sym at.relocation.named)
+
+  instruction_is : (c : Config) (here : Site) (i : Insn) → IsInsnOf image world here i → c.spot ≡ spot.Place here.place → neutral_instruction world image c ≡ instruction_left world c here.place (executed world c here i)
+  unfolding neutral_instruction
+  instruction_is c here i at e =
+      ap (instruction_from world image c) e
+      ∙ ap (λ (o : Option (Insn × ℕ)). option_and_then (λ (f : Insn × ℕ). instruction_left world c here.place (executed world c (site_at image here.place f.1) f.0)) o) (found_there here i at)
+      ∙ ap (λ (y : Site). instruction_left world c here.place (executed world c y i)) (site_there here i at)
+
+  -- an instruction that meets its rules, of the function on top
+  module _ (p : ℕ) (f : FunctionFrame) (fs : List Frame) (s : State) (m : InsnHolds image world.notes states f.func p s) where
+    abbrev here : Site
+    here = record { place = p; next = m.next; reloc = reloc_at image m.next }
+
+    reached : (p % 2 ≡ 0) × (m.f.place ≤ p) × (p < m.f.end)
+    reached = place_even image world.notes r.notes r.functions hold.places f.func m.f m.place_of.0 p m.there m.place_of.1
+
+    insn_of : IsInsnOf image world here m.insn
+    insn_of = record { k = f.func; f = m.f; function = m.there; from = reached.1; decoded = m.decoded; relocation = m.relocation }
+
+    accepted : RuleAccepts world.notes (here_of here f.func) s m.insn m.successors
+    unfolding row_of
+    accepted = go (is_flow m.insn) m.row
+      where
+        of_data : (g : Given State) → after_data world.notes (here_of here f.func) s m.insn ≡ g → gives_map falls g ≡ Ok m.successors → RuleAccepts world.notes (here_of here f.func) s m.insn m.successors
+        of_data (Ok t) is e = inl (t, is, sym (same_Ok (falls t) m.successors e))
+          where
+            same_Ok : (x y : Successors) → ◌≡◌ {A = Given Successors} (Ok x) (Ok y) → x ≡ y
+            same_Ok x y e = cc
+        of_data (Err q) is e = absurd (cc)
+
+        go : (t : Bool) → (if t then after_flow world.notes (here_of here f.func) s m.insn else gives_map falls (after_data world.notes (here_of here f.func) s m.insn)) ≡ Ok m.successors
+            → RuleAccepts world.notes (here_of here f.func) s m.insn m.successors
+        go true e = inr e
+        go false e = of_data (after_data world.notes (here_of here f.func) s m.insn) refl e
+
+    stands : (x : Config) → x.frames ≡ Function f ∷ fs → x.spot ≡ spot.Place p → Sound world x s → StandsTyped world x f fs m.f here s m.insn m.successors
+    stands x fr sp sound = record {
+      frames = fr;
+      spot = sp;
+      there = m.there;
+      well_formed = m.decoded.well_formed;
+      even = (let n = m.decoded.next_is in let e = spelling_even m.insn in let q = reached.0 in omega (arith, n, e, q));
+      inside = inside m.successors.fall refl;
+      sound = sound;
+      state = m.state;
+      accepted = accepted;
+    }
+      where
+        inside : (o : Option State) → m.successors.fall ≡ o → (o ≡ None) ⊎ (m.next < world.image_size)
+        inside None e = inl refl
+        inside (Some t) e = inr (
+            let l = m.ends (falls_where_it_may world.notes (here_of here f.func) s m.insn m.successors m.f m.there accepted t e) in
+            let code = (world_meets image world run).code_inside f.func m.f m.there in
+            let c = code.1 in omega (arith, l, c))
+
+  -- ---- a step
+
+  -- A step of the neutral machine: it isn't stuck, what holds holds after it, and it goes well at either width.
+  pub record StepHolds (a : Config) : Type 0 where
+    pub after : Config
+    pub is : running_step world (neutral_instruction world image) a ≡ Some after
+    pub holds : Holds world states after
+    pub well : (w : ℕ) → IsWidth w → StepGoesWell w image world a after
+
+  -- the host's step
+  host_holds : (a : Config) → Holds world states a → host_turn (is_gate a.spot) (call_under_way a.frames) ≡ true → HostGoesOn world states a → StepHolds a
+  host_holds a h turn g = record {
+    after = g.after;
+    is = ap (λ t. if t then neutral_host_step world a else neutral_instruction world image (record a { script = one_instruction a.script })) turn ∙ g.is;
+    holds = g.holds;
+    well = λ w hw. record { there = λ p e n. absurd (true≢false (sym turn ∙ ap₂ (λ s (k : NativeCall Neutral). host_turn (is_gate s) k) e n)); before = sound_room w world a hw h.sound; after = sound_room w world g.after hw g.holds.sound };
+  }
+
+  -- what an instruction leaves
+  left_is : (c : Config) (p : ℕ) (o : Outcome (NeutralEnd × Config)) → HoldsAfter world states c p o → (b : Config) × (instruction_left world c p o ≡ Some b) × Holds world states b
+  left_is c p Stuck h = absurd h
+  left_is c p (Raises e) h = (record c { ending = ending.Raised e }, refl, h)
+  left_is c p (Gives (Next, b)) h = (b, refl, h)
+  left_is c p (Gives (Native v, b)) h = (record b { frames = with_call (Asked p v) b.frames }, refl, h)
+  left_is c p (Gives (MakeThunk i, b)) h = (h.1, ap (λ t. if t then thunk_made world b else None) (eq-eqb i b.made h.0) ∙ h.2, h.3)
+
+  -- the instruction's step
+  insn_holds : (a : Config) (p : ℕ) (f : FunctionFrame) (fs : List Frame) → Holds world states a → a.ending ≡ ending.Running → a.spot ≡ spot.Place p → a.frames ≡ Function f ∷ fs → call_under_way fs ≡ NoCall
+      → RunsAt world states a p f fs → StepHolds a
+  insn_holds a p f fs h on sp fr under x =
+      let q = hold.insns f.func p x.state x.here in
+      let c = record a { script = one_instruction a.script } in
+      let sound_a : Sound world a x.state = record { top = subst (λ gs. TopFits world a gs x.state) (sym fr) x.fits; below = h.sound } in
+      let sound_c : Sound world c x.state = record { top = subst (λ gs. TopFits world c gs x.state) (sym fr) x.fits; below = record { cells = h.sound.cells; frames = h.sound.frames; few = h.sound.few } } in
+      let wt = world_typed image world r hold.places in
+      let st = stands p f fs x.state q c fr sp sound_c in
+      let sa = stands p f fs x.state q a fr sp sound_a in
+      let site = here p f fs x.state q in
+      let before : Before world states c f fs = record {
+        frames = fr;
+        under = under;
+        running = on;
+        served = h.served;
+        sound = record { cells = h.sound.cells; frames = h.sound.frames; few = h.sound.few };
+        waiting = subst (Chain world states (live_memory world a) a.made) fr (h.well on).waiting;
+      } in
+      let accepts = one_rule world c f fs q.f site x.state q.insn q.successors wt st in
+      let after = instruction_holds world states (run_world image world r states hold) state_below (thunks_enter image world r) c f fs before site q.insn q.successors q.leads accepts in
+      let left = left_is c p (executed world c site q.insn) after in
+      let is = instruction_is c site q.insn (insn_of p f fs x.state q) sp in
+      let call : call_under_way a.frames ≡ NoCall = ap call_under_way fr ∙ under in
+      let turn : host_turn (is_gate a.spot) (call_under_way a.frames) ≡ false = ap₂ (λ s (n : NativeCall Neutral). host_turn (is_gate s) n) sp call in
+      record {
+        after = left.0;
+        is = ap (λ t. if t then neutral_host_step world a else neutral_instruction world image (record a { script = one_instruction a.script })) turn ∙ is ∙ left.1;
+        holds = left.2;
+        well = λ w hw. record {
+          there = λ y e n. record {
+            here = site;
+            insn = q.insn;
+            stands = insn_of p f fs x.state q;
+            at = place_of (sym sp ∙ e);
+            room = room_fits w world a f fs q.f site x.state q.insn q.successors hw wt sa;
+          };
+          before = sound_room w world a hw h.sound;
+          after = sound_room w world left.0 hw left.2.sound;
+        };
+      }
+    where
+      spot_place : Spot → ℕ
+      spot_place (spot.Place q) = q
+      spot_place s = 0
+
+      place_of : {y z : ℕ} → spot.Place y ≡ spot.Place z → y ≡ z
+      place_of e = ap spot_place e
+
+  -- ---- whose turn it is
+
+  turn_is : (a : Config) → Holds world states a → a.ending ≡ ending.Running → Turn world states a
+  turn_is a h on = turn_holds world states (run_world image world r states hold) state_below a h on
+
+  -- the host's
+  pub host_keeps : (a : Config) → Holds world states a → a.ending ≡ ending.Running → host_turn (is_gate a.spot) (call_under_way a.frames) ≡ true → StepHolds a
+  host_keeps a h on t = go (turn_is a h on)
+    where
+      go : Turn world states a → StepHolds a
+      go (of_host turn g) = host_holds a h turn g
+      go (of_code p f fs es ef en x) =
+          absurd (true≢false (sym t ∙ ap₂ (λ s (n : NativeCall Neutral). host_turn (is_gate s) n) es (ap call_under_way ef ∙ en)))
+
+  -- an instruction's
+  pub code_keeps : (a : Config) → Holds world states a → a.ending ≡ ending.Running → host_turn (is_gate a.spot) (call_under_way a.frames) ≡ false → StepHolds a
+  code_keeps a h on t = go (turn_is a h on)
+    where
+      go : Turn world states a → StepHolds a
+      go (of_host turn g) = absurd (true≢false (sym turn ∙ t))
+      go (of_code p f fs es ef en x) = insn_holds a p f fs h on es ef en x
+
+  -- the instruction at the spot, where it is one's turn
+  pub code_there : (a : Config) (p : ℕ) (f : FunctionFrame) (fs : List Frame) → RunsAt world states a p f fs → (i : Insn) × (n : ℕ) × (instruction_at image p ≡ Some (i, n))
+  code_there a p f fs x =
+      let q = hold.insns f.func p x.state x.here in
+      (q.insn, length (spelling q.insn), found_there (here p f fs x.state q) q.insn (insn_of p f fs x.state q))
+
+  -- which of them
+  pub turn_of : (a : Config) → Holds world states a → a.ending ≡ ending.Running → Turn world states a
+  turn_of a h on = turn_is a h on

@@ -1,0 +1,9 @@
+pub mod ReadWorld
+pub mod Loaded
+pub mod StepLaw
+pub mod PlaceStates
+pub mod Simulation
+pub mod Invariant
+pub mod StepKinds
+pub mod StepLaws
+pub mod HostStack

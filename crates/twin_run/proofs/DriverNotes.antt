@@ -1,0 +1,289 @@
+-- The driver of docs/NOTES.md with its names and its point: its notes meet the conditions on notes.
+use Rattle.std.proofs.Common.{◌≡◌, ℕ, zero, suc, ◌-◌, ◌*◌, ◌^◌, ◌<◌, ◌≤◌, Bool, true, false, List, [], ◌∷◌, length, get_or, slice_get, Some, None, refl, sym, pos, codes, nat_le, nat_lt, arith}
+use Rattle.std.specs.Prelude.{IfSome}
+use Rattle.std.specs.Int.{bit_at}
+use Rattle.std.specs.List.{AllByRecursion, sum_by}
+use Rattle.std.specs.List.Sorted.{IsStrictlyIncreasing}
+use Rattle.std.proofs.lemmas.Nat.Bits.{bit_at-pow_other}
+use Rattle.std.proofs.lemmas.Option.{none-some}
+use Rattle.std.proofs.lemmas.Bool.{leb-true, ltb-true, true≢false}
+use Rattle.note_types.specs.Known.{AreFields, IsKnown, IsKnownCell, IsState, local_fields}
+use Rattle.note_types.specs.States.{type_of}
+use Rattle.note_types.specs.declared.cell.SlotKind.{SlotKind}
+use Rattle.note_types.specs.declared.items.Item.TheVariants.{Locals, Slot}
+use Rattle.note_types.specs.declared.state.State.{State}
+use Rattle.note_types.specs.declared.types.Ty.{Ty}
+use Rattle.note_types.specs.Limits.{code_limit, point_limit, stack_limit}
+use Rattle.note_types.specs.Passing.{IsHandedBack, IsHandedIn}
+use Rattle.note_types.specs.Records.{CanBeEntered, HasNameLength, IsFieldNote, IsFunctionNote, IsNotes, IsParamNote, IsPointNote, IsResultNote, IsShapeNote, IsSignatureNote, IsSiteNote, IsThunkNote, IsWantNote, code_size, frame_size, function_at}
+use Rattle.note_types.specs.declared.cell.Cell.TheVariants as cell
+use Rattle.note_types.specs.declared.notes.FnNote.{FnNote}
+use Rattle.note_types.specs.declared.notes.Notes.{Notes}
+use Rattle.note_types.specs.declared.notes.Param.{Param}
+use Rattle.note_types.specs.declared.notes.Signature.{Signature}
+use Rattle.note_types.specs.declared.shape.Field.{Field}
+use Rattle.note_types.specs.declared.shape.Shape.{Shape}
+use Rattle.note_types.specs.declared.types.Ty.TheVariants as ty
+use Rattle.note_types.proofs.TypeLaws.{no_fields}
+use Rattle.run_types.specs.World.{World}
+use Rattle.run_types.proofs.Driver.{driver, driver_notes}
+use Rattle.step_sound.proofs.Items.{each_item}
+
+-- ---- the notes with names
+
+-- fields and shapes with names, one for each
+abbrev named_fields : List (List ℕ) → List Field → List Field
+named_fields (n ∷ ns) (x ∷ xs) = record x { name = n } ∷ named_fields ns xs
+named_fields _ _ = []
+
+abbrev named_shapes : List (List ℕ × List (List ℕ)) → List Shape → List Shape
+named_shapes (n ∷ ns) (s ∷ ss) = record s { name = n.0; fields = named_fields n.1 s.fields } ∷ named_shapes ns ss
+named_shapes _ _ = []
+
+-- functions and signatures with names
+abbrev named_functions : List (List ℕ) → List FnNote → List FnNote
+named_functions (n ∷ ns) (f ∷ fs) = record f { name = n } ∷ named_functions ns fs
+named_functions _ _ = []
+
+abbrev named_signatures : List (List ℕ) → List Signature → List Signature
+named_signatures (n ∷ ns) (g ∷ gs) = record g { name = n } ∷ named_signatures ns gs
+named_signatures _ _ = []
+
+-- the state at the one point: R7 has the status of Locate, whose success grants the local `p`, and the locals lie on the stack
+abbrev after_locate : State
+after_locate = record {
+  regs = ty.Any ∷ ty.Saved 1 ∷ ty.Saved 2 ∷ ty.Saved 3 ∷ ty.Any ∷ ty.Any ∷ ty.Any ∷ ty.Status 1 ∷ [];
+  items = Locals ∷ [];
+  written = 0;
+  made = 1;
+  fact = None;
+}
+
+abbrev pub driver_named : World
+driver_named = record driver {
+  notes = record driver_notes {
+    shape = named_shapes ((codes "Sys", codes "loc" ∷ codes "reg" ∷ []) ∷ (codes "Blk", codes "count" ∷ codes "next" ∷ []) ∷ (codes "L", codes "p" ∷ []) ∷ []) driver_notes.shape;
+    function = named_functions (codes "main" ∷ codes "tick" ∷ []) driver_notes.function;
+    signature = named_signatures (codes "locate" ∷ codes "register" ∷ []) driver_notes.signature;
+    methods = codes "Locate" ∷ codes "Register" ∷ [];
+    point = record { place = 0x103E; state = after_locate } ∷ [];
+  };
+}
+
+abbrev notes : Notes
+notes = driver_named.notes
+
+-- ---- numbers
+
+at_most : (a b : ℕ) → nat_le a b ≡ true → a ≤ b
+at_most a b e = leb-true a b e
+
+below : (a b : ℕ) → nat_lt a b ≡ true → a < b
+below a b e = ltb-true a b e
+
+name_length : (name : List ℕ) → nat_le 1 (length name) ≡ true → nat_le (length name) 63 ≡ true → HasNameLength name
+name_length name l m = (leb-true 1 (length name) l, leb-true (length name) 63 m)
+
+-- ---- types
+
+handle : (f : FnNote) → IsKnown notes f ty.Handle
+handle f = record { bounded = tt; names = tt }
+
+status : (f : FnNote) → IsKnown notes f (ty.Status 0)
+status f = record { bounded = below 0 (2 ^ 64) refl; names = no_fields notes f }
+
+table : (f : FnNote) → IsKnown notes f (ty.Ptr 0 1 (pos 0) (pos 0) false)
+table f = record { bounded = (at_most 1 1 refl, (at_most 0 0 refl, at_most 0 (2 ^ 20) refl), at_most 0 (2 ^ 20) refl, below 1 (2 ^ 64) refl, below 0 (2 ^ 32) refl); names = below 0 3 refl }
+
+word : (f : FnNote) → IsKnown notes f (ty.Int 0 (2 ^ 32 - 1) 1)
+word f = record { bounded = (at_most 0 (2 ^ 32 - 1) refl, below (2 ^ 32 - 1) (2 ^ 64) refl, at_most 1 1 refl, below 1 (2 ^ 64) refl); names = tt }
+
+-- ---- shapes
+
+method_cell : (m : ℕ) → nat_lt m (2 ^ 32) ≡ true → nat_lt m 2 ≡ true → IsKnownCell notes (cell.Method m)
+method_cell m l k = record { bounded = below m (2 ^ 32) l; names = below m 2 k }
+
+block_cell : (may : Bool) → IsKnownCell notes (cell.Ptr 1 1 may)
+block_cell may = record { bounded = (below 1 (2 ^ 32) refl, at_most 1 1 refl, below 1 (2 ^ 64) refl); names = below 1 3 refl }
+
+field_note : (x : Field) → nat_le 1 (length x.name) ≡ true → nat_le (length x.name) 63 ≡ true → nat_lt x.n (2 ^ 32) ≡ true → nat_lt x.c (2 ^ 32) ≡ true → IsKnownCell notes x.cell → IsFieldNote notes x
+field_note x some short units bytes known = record { name = name_length x.name some short; units = below x.n (2 ^ 32) units; bytes = below x.c (2 ^ 32) bytes; cell = known }
+
+shape_note : (s : Shape) → nat_le 1 (length s.name) ≡ true → nat_le (length s.name) 63 ≡ true → nat_lt s.n (2 ^ 32) ≡ true → nat_lt s.c (2 ^ 32) ≡ true → nat_le (length s.fields) 256 ≡ true → AllByRecursion (IsFieldNote notes) s.fields → IsShapeNote notes s
+shape_note s some short units bytes few fields = record { name = name_length s.name some short; units = below s.n (2 ^ 32) units; bytes = below s.c (2 ^ 32) bytes; few = at_most (length s.fields) 256 few; fields = each_item (IsFieldNote notes) s.fields fields }
+
+shapes : AllByRecursion (IsShapeNote notes) notes.shape
+shapes = (
+  shape_note _ refl refl refl refl refl (field_note _ refl refl refl refl (method_cell 0 refl refl), (field_note _ refl refl refl refl (method_cell 1 refl refl), tt)),
+  (
+    shape_note _ refl refl refl refl refl (field_note _ refl refl refl refl (record { bounded = tt; names = tt }), (field_note _ refl refl refl refl (block_cell true), tt)),
+    (
+      shape_note _ refl refl refl refl refl (field_note _ refl refl refl refl (block_cell false), tt),
+      tt,
+    ),
+  ),
+)
+
+-- ---- functions
+
+-- what stands for a function that isn't there
+abbrev no_function : FnNote
+no_function = record { name = []; place = 0; «end» = 0; level = 0; need = record { n = 0; c = 0 }; locals = None; params = []; result = ty.Any; enter = false }
+
+abbrev pub main : FnNote
+main = get_or notes.function 0 no_function
+
+abbrev pub tick : FnNote
+tick = get_or notes.function 1 no_function
+
+enterable : (f : FnNote) → AllByRecursion (λ (p : Param). IsHandedIn p.ty) f.params → IsHandedBack f.result → nat_le (9 * frame_size f) stack_limit ≡ true → CanBeEntered f
+enterable f takes gives fits = record { takes = each_item (λ (p : Param). IsHandedIn p.ty) f.params takes; gives = gives; stack = at_most (9 * frame_size f) stack_limit fits }
+
+main_enterable : CanBeEntered main
+main_enterable = enterable main (tt, ((refl, refl), tt)) tt refl
+
+tick_enterable : CanBeEntered tick
+tick_enterable = enterable tick (below (2 ^ 32 - 1) (2 ^ 32) refl, tt) tt refl
+
+main_note : IsFunctionNote notes main
+unfolding local_fields
+main_note = record {
+  name = name_length main.name refl refl;
+  place = below main.place (2 ^ 22) refl;
+  «end» = at_most main.end (2 ^ 22) refl;
+  level = below main.level (2 ^ 64) refl;
+  need = (below main.need.n (2 ^ 64) refl, below main.need.c (2 ^ 64) refl);
+  locals = below 2 3 refl;
+  fields = at_most 1 64 refl;
+  few = at_most 2 16 refl;
+  params = each_item (IsParamNote notes main) main.params (
+    record { kind = tt; known = handle main; kept = λ e. tt; passed = tt },
+    (
+      record { kind = tt; known = table main; kept = λ e. (refl, refl); passed = tt },
+      tt,
+    ),
+  );
+  result = status main;
+  returned = refl;
+  entered = λ e. absurd (true≢false (sym e));
+}
+
+tick_note : IsFunctionNote notes tick
+unfolding local_fields
+tick_note = record {
+  name = name_length tick.name refl refl;
+  place = below tick.place (2 ^ 22) refl;
+  «end» = at_most tick.end (2 ^ 22) refl;
+  level = below tick.level (2 ^ 64) refl;
+  need = (below tick.need.n (2 ^ 64) refl, below tick.need.c (2 ^ 64) refl);
+  locals = tt;
+  fields = at_most 0 64 refl;
+  few = at_most 1 16 refl;
+  params = each_item (IsParamNote notes tick) tick.params (record { kind = tt; known = word tick; kept = λ e. below (2 ^ 32 - 1) (2 ^ 32) refl; passed = tt }, tt);
+  result = status tick;
+  returned = refl;
+  entered = λ e. tick_enterable;
+}
+
+-- ---- the point
+
+any : (f : FnNote) → IsKnown notes f ty.Any
+any f = record { bounded = tt; names = tt }
+
+-- the set of bit 0 has field 0 alone
+one_local : AreFields notes main 1
+unfolding local_fields
+one_local zero h = below 0 1 refl
+one_local (suc x) h = let z : bit_at (2 ^ 0) (suc x) ≡ 0 = bit_at-pow_other 0 (suc x) (λ e. omega (arith, e)) in absurd (omega (arith, h, z))
+
+registers : (r : ℕ) → IsKnown notes main (type_of after_locate r)
+registers zero = any main
+registers (suc zero) = record { bounded = (at_most 1 1 refl, at_most 1 3 refl); names = tt }
+registers (suc (suc zero)) = record { bounded = (at_most 1 2 refl, at_most 2 3 refl); names = tt }
+registers (suc (suc (suc zero))) = record { bounded = (at_most 1 3 refl, at_most 3 3 refl); names = tt }
+registers (suc (suc (suc (suc zero)))) = any main
+registers (suc (suc (suc (suc (suc zero))))) = any main
+registers (suc (suc (suc (suc (suc (suc zero)))))) = any main
+registers (suc (suc (suc (suc (suc (suc (suc zero))))))) = record { bounded = below 1 (2 ^ 64) refl; names = one_local }
+registers (suc (suc (suc (suc (suc (suc (suc (suc r)))))))) = any main
+
+no_slot : (k : ℕ) (kind : SlotKind) (t : Ty) → slice_get (Locals ∷ []) k ≡ Some (Slot kind t) → ⊥
+no_slot zero kind t e = cc e
+no_slot (suc k) kind t e = none-some (Slot kind t) e
+
+point_state : IsState notes main after_locate
+point_state = record {
+  eight = refl;
+  unused = refl;
+  registers = registers;
+  slots = λ k kind t e. absurd (no_slot k kind t e);
+  few = at_most 0 64 refl;
+  once = at_most 1 1 refl;
+  there = λ k e. refl;
+  fact = λ x e. absurd (none-some x e);
+}
+
+point_note : IsPointNote notes (record { place = 0x103E; state = after_locate })
+unfolding function_at
+point_note = record {
+  place = below 0x103E (2 ^ 22) refl;
+  owner = main;
+  there = refl;
+  state = point_state;
+  written = no_fields notes main;
+  set = below 0 (2 ^ 64) refl;
+  made = below 1 (2 ^ 32) refl;
+  fact = refl;
+}
+
+-- ---- signatures
+
+signature_note : (g : Signature) → nat_le 1 (length g.name) ≡ true → nat_le (length g.name) 63 ≡ true → nat_lt g.method 2 ≡ true → nat_le (length g.params) 16 ≡ true → AllByRecursion (IsWantNote notes) g.params → IfSome g.result (IsResultNote notes) → IsSignatureNote notes g
+signature_note g some short method few params result = record {
+  name = name_length g.name some short;
+  method = below g.method 2 method;
+  few = at_most (length g.params) 16 few;
+  params = each_item (IsWantNote notes) g.params params;
+  result = result;
+}
+
+signatures : AllByRecursion (IsSignatureNote notes) notes.signature
+signatures = (
+  signature_note _ refl refl refl refl (record { kind = tt; known = block_cell false; kept = λ e. tt }, tt) (record { given = refl; known = status }),
+  (
+    signature_note _ refl refl refl refl (record { kind = tt; known = tt; kept = λ e. tt }, tt) (record { given = refl; known = status }),
+    tt,
+  ),
+)
+
+-- ---- all
+
+two_ascend : (a b : ℕ) → a < b → IsStrictlyIncreasing (a ∷ b ∷ [])
+two_ascend a b l zero m = l
+two_ascend a b l (suc k) m = absurd (omega (arith, m))
+
+pub driver_notes_meet : IsNotes notes
+driver_notes_meet = record {
+  version = refl;
+  few = record {
+    shapes = at_most 3 1024 refl;
+    statics = below 0 (2 ^ 32) refl;
+    thunks = below 1 (2 ^ 32) refl;
+    functions = at_most 2 4096 refl;
+    points = at_most 1 (point_limit 1) refl;
+    signatures = below 2 (2 ^ 32) refl;
+    sites = below 2 (2 ^ 32) refl;
+    methods = at_most 2 1024 refl;
+  };
+  entry = (main, refl, main_enterable);
+  shapes = each_item (IsShapeNote notes) notes.shape shapes;
+  statics = λ k x g. absurd (none-some x g);
+  thunks = each_item (IsThunkNote notes) notes.thunk (record { place = below 0x2000 (2 ^ 22) refl; function = below 1 2 refl }, tt);
+  functions = each_item (IsFunctionNote notes) notes.function (main_note, (tick_note, tt));
+  points = each_item (IsPointNote notes) notes.point (point_note, tt);
+  signatures = each_item (IsSignatureNote notes) notes.signature signatures;
+  sites = each_item (IsSiteNote notes) notes.site (record { place = below 0x1014 (2 ^ 22) refl; signature = below 0 2 refl }, (record { place = below 0x1032 (2 ^ 22) refl; signature = below 1 2 refl }, tt));
+  methods = each_item HasNameLength notes.methods (name_length (codes "Locate") refl refl, (name_length (codes "Register") refl refl, tt));
+  ascends = record { functions = two_ascend 0x1000 0x1044 (below 0x1000 0x1044 refl); points = λ k l. absurd (omega (arith, l)); sites = two_ascend 0x1014 0x1032 (below 0x1014 0x1032 refl) };
+  code = at_most (sum_by code_size notes.function) (code_limit 1) refl;
+}

@@ -1,0 +1,10 @@
+pub mod DriverImage
+pub mod DriverNotes
+pub mod DriverScript
+pub mod DriverSteps
+pub mod DriverTyped
+pub mod OwnPlacement
+pub mod Places
+pub mod Read
+pub mod Runs
+pub mod TypedTest

@@ -1,0 +1,6 @@
+pub mod Headline
+pub mod Differs
+pub mod OwnPlacement
+pub mod StatesOf
+pub mod TypedRuns
+pub mod Met

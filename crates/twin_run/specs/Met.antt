@@ -1,0 +1,40 @@
+-- That all premises of the laws of runs can hold at once, and that a typed program comes to each kind of step. docs/SIMULATION.md, "What
+-- the laws ask".
+use Rattle.std.specs.Prelude.{◌≡◌, ℕ, Some}
+use Rattle.note_types.specs.declared.ending.Ending.TheVariants.{Running, Finished}
+use Rattle.note_types.specs.declared.value.Value.{Value}
+use Rattle.pe_image.specs.declared.image.Image.{Image}
+use Rattle.run_types.specs.Config.{Config}
+use Rattle.run_types.specs.Placements.{own_placement}
+use Rattle.run_types.specs.World.{World}
+use Rattle.step_sound.specs.StepKinds.{IsPlain, IsNativeCall, IsThunk, IsCall, IsEnter, IsReply, IsLeaving, IsLast}
+use Rattle.whole_runs.specs.NeutralRun.{config_after}
+use Rattle.whole_runs.specs.Runs.{run_of}
+use Rattle.twin_run.specs.TypedRuns.{IsTypedWorld}
+
+-- after some number of steps the neutral machine's run goes on with a step of a kind
+pub record ComesTo (image : Image) (world : World) (Kind : Image → World → Config → Type 0) : Type 0 where
+  pub steps : ℕ
+  pub config : Config
+  pub reached : config_after world image steps ≡ Some config
+  pub running : config.ending ≡ Running
+  pub kind : Kind image world config
+
+-- A program that is typed, comes to each kind of step, and finishes at either width.
+pub record GoesThroughAll (image : Image) (world : World) : Type 0 where
+  pub typed : IsTypedWorld image world
+  pub plain : ComesTo image world IsPlain
+  pub native_call : ComesTo image world IsNativeCall
+  pub thunk : ComesTo image world IsThunk
+  pub call : ComesTo image world IsCall
+  pub enter : ComesTo image world IsEnter
+  pub reply : ComesTo image world IsReply
+  pub leaving : ComesTo image world IsLeaving
+  pub last : ComesTo image world IsLast
+  pub steps : ℕ
+  pub result : Value
+  pub finished : (run_of 4 world (own_placement 4 world) image steps).ending ≡ Finished result
+
+-- There is one.
+abbrev pub TypedPremisesAreMet : Type 0
+TypedPremisesAreMet = (image : Image) × (world : World) × GoesThroughAll image world

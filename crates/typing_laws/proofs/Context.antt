@@ -1,0 +1,201 @@
+-- What is known where an instruction stands: a configuration that is sound with a state of the function on top.
+use Rattle.std.proofs.Common.{◌≡◌, ℕ, ◌^◌, Bool, true, false, if◌then◌else◌, nat_lt, List, [], ◌∷◌, length, take, Option, Some, None, slice_get, refl, sym, ap, ◌∙◌, subst, arith, option_and_then, pos, negsuc}
+use Rattle.std.specs.List.{AllZip}
+use Rattle.std.proofs.lemmas.Bool.{and_from, eq-eqb, false≢true, le-leb, lt-ltb}
+use Rattle.std.proofs.lemmas.Bool.Decides.{Decides-int_eq}
+use Rattle.std.proofs.lemmas.Option.{same_Some, none-some, get_or_from_slice_get}
+use Rattle.note_types.specs.Cells.{IsBoundedCell}
+use Rattle.note_types.specs.Known.{IsKnown, IsState, fields_of, local_fields, locals_of}
+use Rattle.note_types.specs.Passing.{IsKept}
+use Rattle.note_types.specs.Shapes.{IsShape}
+use Rattle.note_types.specs.Types.{IsBounded}
+use Rattle.note_types.specs.declared.cell.SlotKind.TheVariants.{N}
+use Rattle.note_types.specs.declared.items.Item.{Item}
+use Rattle.note_types.specs.declared.items.Item.TheVariants as item
+use Rattle.note_types.specs.declared.notes.FnNote.{FnNote}
+use Rattle.note_types.specs.declared.notes.Notes.{Notes}
+use Rattle.note_types.specs.declared.notes.Pair.{Pair}
+use Rattle.note_types.specs.declared.notes.Param.{Param}
+use Rattle.note_types.specs.declared.shape.Field.{Field}
+use Rattle.note_types.specs.declared.shape.Shape.{Shape}
+use Rattle.note_types.specs.declared.state.State.{State}
+use Rattle.note_types.specs.declared.types.Ty.{Ty}
+use Rattle.note_types.specs.declared.types.Ty.TheVariants as ty
+use Rattle.rules_base.specs.Kept.{kept_natural}
+use Rattle.rules_base.specs.Places.{locals_size, size_of}
+use Rattle.run_types.specs.Config.{StackItem, Pushed, LocalsOf, FunctionFrame, Frame, Function, Host, Config, depth, locals_among, locals_at}
+use Rattle.run_types.specs.FitsState.{ItemFits, FitsState}
+use Rattle.run_types.specs.HostPlans.{field_in}
+use Rattle.run_types.specs.Locations.{items_below, parameters_of, parameter_count}
+use Rattle.run_types.specs.Memory.{Memory, cell_field}
+use Rattle.run_types.specs.Objects.{made_objects, no_shape, shape_of}
+use Rattle.run_types.specs.declared.object.TypedObject.{TypedObject}
+use Rattle.run_types.specs.Values.{FieldOf, FieldOfLocals}
+use Rattle.run_types.specs.World.{World, frame_locals}
+use Rattle.typed_runs.specs.Live.{live_memory}
+use Rattle.typing_laws.specs.OneRule.{WorldTyped}
+use Rattle.typed_runs.specs.Sound.{CellsFit, ParamFits, FrameBelow, FramesKeep, SoundBelow}
+use Rattle.typing_laws.proofs.Objects.{ObjectsFit, there}
+use Rattle.typing_laws.proofs.LiveCells.{ParamsPassed}
+use Rattle.typing_laws.proofs.OnStack.{any_locals}
+
+-- a parameter's type is within its bounds, and in a natural slot what MOVn keeps
+abbrev pub GoodParam : Param → Type 0
+GoodParam q = IsBounded q.ty × (q.kind ≡ N → kept_natural q.ty ≡ q.ty)
+
+-- What is known where an instruction of a function stands.
+pub record TopSound (world : World) (a : Config) (f : FunctionFrame) (fs : List Frame) (note : FnNote) (s : State) : Type 0 where
+  pub frames : a.frames ≡ Function f ∷ fs
+  pub top : FitsState world.notes (live_memory world a) (depth fs) f s a.registers a.c a.made
+  pub below : SoundBelow world a
+  pub there : slice_get world.notes.function f.func ≡ Some note
+  pub state : IsState world.notes note s
+  pub typed : WorldTyped world
+
+-- ---- the world
+
+-- a type that MOVn keeps stays
+pub kept_stays : (t : Ty) → IsKept t → kept_natural t ≡ t
+kept_stays ty.Any h = refl
+kept_stays (ty.Int lo hi div) h = ap (λ b. if b then ty.Int lo hi div else ty.Any) (lt-ltb hi (2 ^ 32) h)
+kept_stays (ty.Lin n (pos c)) h = ap (λ b. if b then ty.Lin n (pos c) else ty.Any) (le-leb 0 c (omega arith))
+kept_stays (ty.Lin n (negsuc c)) h = absurd h
+kept_stays (ty.Scaled n c hi) h = refl
+kept_stays (ty.Ptr s k n c null) h =
+    ap (λ b. if b then ty.Ptr s k n c null else ty.Any) (and_from _ _ ((Decides-int_eq n (pos 0)).1 h.0) ((Decides-int_eq c (pos 0)).1 h.1))
+kept_stays (ty.Local f) h = refl
+kept_stays (ty.Lent cell) h = refl
+kept_stays (ty.Status g) h = refl
+kept_stays (ty.SignedStatus g) h = absurd h
+kept_stays ty.Mask h = refl
+kept_stays ty.Handle h = refl
+kept_stays ty.Entry h = refl
+kept_stays (ty.Method m) h = refl
+kept_stays (ty.ThunkAt i) h = refl
+kept_stays (ty.Saved i) h = absurd h
+
+-- objects have well-formed shapes and are small
+pub objects_fit : (world : World) (n : ℕ) → WorldTyped world → ObjectsFit world.notes (made_objects world.notes world.script n)
+objects_fit world n ok = record {
+  shaped = λ k o h.
+      let r = (ok.fits.objects n k o h).0 in
+      let s = there world.notes.shape o.shape r in
+      subst IsShape (sym (get_or_from_slice_get world.notes.shape o.shape s.0 no_shape s.1)) (ok.fits.shapes o.shape s.0 s.1);
+  small = ok.small n;
+}
+
+-- each function's parameters are passed
+pub passed_params : (world : World) → WorldTyped world → ParamsPassed world.notes
+passed_params world ok j k g q h e = ((ok.notes.functions j g h).params k q e).passed
+
+-- the cells of shapes are within their bounds
+pub bounded_cell : (world : World) → WorldTyped world → (k f : ℕ) (s : Shape) (z : Field) → slice_get world.notes.shape k ≡ Some s → slice_get s.fields f ≡ Some z → IsBoundedCell z.cell
+bounded_cell world ok k f s z e g = ((ok.notes.shapes k s e).fields f z g).cell.bounded
+
+-- the locals of a function, as the rules and as the neutral machine have them
+pub locals_are : (notes : Notes) (func : ℕ) (note : FnNote) → slice_get notes.function func ≡ Some note → locals_of notes note ≡ frame_locals notes func
+locals_are notes func note h = sym (ap (option_and_then (locals_of notes)) h)
+
+shape_there : (notes : Notes) (o : Option ℕ) (s : Shape) → option_and_then (slice_get notes.shape) o ≡ Some s → (k : ℕ) × (slice_get notes.shape k ≡ Some s)
+shape_there notes None s e = absurd (none-some s e)
+shape_there notes (Some k) s e = (k, e)
+
+pub locals_there : (notes : Notes) (func : ℕ) (s : Shape) → frame_locals notes func ≡ Some s → (k : ℕ) × (slice_get notes.shape k ≡ Some s)
+locals_there notes func s e = go (slice_get notes.function func) e
+  where
+    go : (o : Option FnNote) → option_and_then (locals_of notes) o ≡ Some s → (k : ℕ) × (slice_get notes.shape k ≡ Some s)
+    go None e = absurd (none-some s e)
+    go (Some f) e = shape_there notes f.locals s e
+
+module _ (notes : Notes) (m : Memory) (d : ℕ) (f : FunctionFrame) where
+  pub among_is : (is : List StackItem) (xs : List Item) → AllZip (ItemFits notes m d f) is xs → any_locals is ≡ true → locals_among is ≡ frame_locals notes f.func
+  among_is [] xs z e = absurd (false≢true e)
+  among_is (Pushed kind v ∷ is) (x ∷ xs) z e = among_is is xs z.1 e
+  among_is (Pushed kind v ∷ is) [] z e = absurd z
+  among_is (LocalsOf s ∷ is) (item.Locals ∷ xs) z e = sym z.0
+  among_is (LocalsOf s ∷ is) (item.Slot k t ∷ xs) z e = absurd z.0
+  among_is (LocalsOf s ∷ is) [] z e = absurd z
+
+  pub among_some : (is : List StackItem) (xs : List Item) (s : Shape) → AllZip (ItemFits notes m d f) is xs → locals_among is ≡ Some s → frame_locals notes f.func ≡ Some s
+  among_some [] xs s z e = absurd (none-some s e)
+  among_some (Pushed kind v ∷ is) (x ∷ xs) s z e = among_some is xs s z.1 e
+  among_some (Pushed kind v ∷ is) [] s z e = absurd z
+  among_some (LocalsOf q ∷ is) (item.Locals ∷ xs) s z e = z.0 ∙ e
+  among_some (LocalsOf q ∷ is) (item.Slot k t ∷ xs) s z e = absurd z.0
+  among_some (LocalsOf q ∷ is) [] s z e = absurd z
+
+module _ (world : World) (a : Config) (f : FunctionFrame) (fs : List Frame) (note : FnNote) (s : State) (st : TopSound world a f fs note s) where
+  pub objects : ObjectsFit world.notes (live_memory world a).objects
+  objects = objects_fit world a.script.entries st.typed
+
+  pub cells : CellsFit world.notes (live_memory world a)
+  cells = st.below.cells
+
+  pub own_locals : (live_memory world a).locals (depth fs) ≡ locals_among f.items
+  own_locals = ap (λ z. locals_at z (depth fs)) st.frames ∙ ap (λ b. if b then locals_among f.items else locals_at fs (depth fs)) (eq-eqb (depth fs) (depth fs) refl)
+
+  pub has_locals : any_locals f.items ≡ true → (live_memory world a).locals (depth fs) ≡ frame_locals world.notes f.func
+  has_locals e = own_locals ∙ among_is world.notes (live_memory world a) (depth fs) f f.items s.items st.top.items e
+
+  own_some : (x : Shape) → (live_memory world a).locals (depth fs) ≡ Some x → frame_locals world.notes f.func ≡ Some x
+  own_some x e = among_some world.notes (live_memory world a) (depth fs) f f.items s.items x st.top.items (sym own_locals ∙ e)
+
+  pub fields_same : (x : Shape) → frame_locals world.notes f.func ≡ Some x → local_fields world.notes note ≡ x.fields
+  unfolding local_fields
+  fields_same x e = ap fields_of (locals_are world.notes f.func note st.there ∙ e)
+
+  pub same_locals : (x : Shape) → (live_memory world a).locals (depth fs) ≡ Some x → local_fields world.notes note ≡ x.fields
+  same_locals x e = fields_same x (own_some x e)
+
+  pub sizes_same : (x : Shape) → frame_locals world.notes f.func ≡ Some x → (local_fields world.notes note ≡ x.fields) × ((locals_size world.notes note).n ≡ x.n) × ((locals_size world.notes note).c ≡ x.c) × IsShape x
+  unfolding locals_size
+  sizes_same x e =
+      let g = ap size_of (locals_are world.notes f.func note st.there ∙ e) in
+      let k = locals_there world.notes f.func x e in
+      (fields_same x e, ap (λ (z : Pair). z.n) g, ap (λ (z : Pair). z.c) g, st.typed.fits.shapes k.0 x k.1)
+
+  pub counted_local : (x : ℕ) (z : Field) → cell_field world.notes (live_memory world a) (FieldOfLocals (depth fs) x) ≡ Some z → IsBoundedCell z.cell
+  counted_local x z e = go ((live_memory world a).locals (depth fs)) refl e
+    where
+      go : (o : Option Shape) → (live_memory world a).locals (depth fs) ≡ o → option_and_then (λ (q : Shape). slice_get q.fields x) o ≡ Some z → IsBoundedCell z.cell
+      go None h e = absurd (none-some z e)
+      go (Some q) h e =
+          let k = locals_there world.notes f.func q (own_some q h) in
+          bounded_cell world st.typed k.0 x q z k.1 e
+
+  pub counted_object : (k i x : ℕ) (z : Field) → cell_field world.notes (live_memory world a) (FieldOf k i x) ≡ Some z → IsBoundedCell z.cell
+  counted_object k i x z e = go (slice_get (live_memory world a).objects k) refl e
+    where
+      in_object : (o : TypedObject) → slice_get (live_memory world a).objects k ≡ Some o → (b : Bool) → (if b then slice_get (shape_of world.notes o.shape).fields x else None) ≡ Some z → IsBoundedCell z.cell
+      in_object o h false e = absurd (none-some z e)
+      in_object o h true e =
+          let l = (st.typed.fits.objects a.script.entries k o h).0 in
+          let q = there world.notes.shape o.shape l in
+          bounded_cell world st.typed o.shape x q.0 z q.1 (ap (λ (y : Shape). slice_get y.fields x) (sym (get_or_from_slice_get world.notes.shape o.shape q.0 no_shape q.1)) ∙ e)
+
+      go : (o : Option TypedObject) → slice_get (live_memory world a).objects k ≡ o → option_and_then (field_in world.notes i x) o ≡ Some z → IsBoundedCell z.cell
+      go None h e = absurd (none-some z e)
+      go (Some o) h e = in_object o h (nat_lt i o.count) e
+
+  -- ---- parameters
+
+  params_below : (g : FnNote) (below : List Frame) → FrameBelow world (live_memory world a) f g below → AllZip (ParamFits world.notes (live_memory world a) (depth below) f) (take (length g.params) (items_below below)) g.params
+  params_below g [] h = absurd h
+  params_below g (Host h ∷ gs) k = k.1
+  params_below g (Function h ∷ gs) k = k.1
+
+  pub params_fit : AllZip (ParamFits world.notes (live_memory world a) (depth fs) f) (parameters_of world.notes a.frames) note.params
+  params_fit =
+      let k : FramesKeep world (live_memory world a) a.made (Function f ∷ fs) = subst (FramesKeep world (live_memory world a) a.made) st.frames st.below.frames in
+      let g = k.0 in
+      let e : g.0 ≡ note = same_Some g.0 note (sym g.1.there ∙ st.there) in
+      let z : AllZip (ParamFits world.notes (live_memory world a) (depth fs) f) (take (length note.params) (items_below fs)) note.params = subst (λ (q : FnNote). AllZip (ParamFits world.notes (live_memory world a) (depth fs) f) (take (length q.params) (items_below fs)) q.params) e (params_below g.0 fs g.2) in
+      subst (λ q. AllZip (ParamFits world.notes (live_memory world a) (depth fs) f) q note.params)
+      (sym (ap (parameters_of world.notes) st.frames ∙ ap (λ o. take (parameter_count o) (items_below fs)) st.there)) z
+
+  -- the parameters' types are as a reader gives them
+  pub good_params : (k : ℕ) (q : Param) → slice_get note.params k ≡ Some q → GoodParam q
+  good_params k q h = let p = (st.typed.notes.functions f.func note st.there).params k q h in (p.known.bounded, λ e. kept_stays q.ty (p.kept e))
+
+  pub known_params : (k : ℕ) (q : Param) → slice_get note.params k ≡ Some q → IsKnown world.notes note q.ty
+  known_params k q h = ((st.typed.notes.functions f.func note st.there).params k q h).known

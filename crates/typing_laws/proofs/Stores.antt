@@ -1,0 +1,184 @@
+-- What the rules let be stored fits the cell that it is stored to.
+use Rattle.std.proofs.Common.{◌≡◌, ℕ, ◌+◌, ◌-◌, ◌^◌, ◌<◌, ◌≤◌, Bool, true, false, ◌&&◌, ◌||◌, nat_le, nat_eq, refl, ap, ◌∙◌, subst, arith, inl, inr, ⊎_elim, pos}
+use Rattle.std.proofs.lemmas.Bool.{lt-ltb, le-leb, eq-eqb, and_from, false≢true}
+use Rattle.note_types.specs.BelowTests.{is_below}
+use Rattle.note_types.specs.Cells.{IsBoundedCell, content_type}
+use Rattle.note_types.specs.Types.{IsBounded}
+use Rattle.note_types.specs.declared.cell.Cell.{Cell}
+use Rattle.note_types.specs.declared.cell.Cell.TheVariants as cell
+use Rattle.note_types.specs.declared.notes.Notes.{Notes}
+use Rattle.note_types.specs.declared.types.Ty.{Ty}
+use Rattle.note_types.specs.declared.types.Ty.TheVariants as ty
+use Rattle.note_types.proofs.BelowLaws.{is_below_exact}
+use Rattle.rules_base.specs.declared.access.Access.{Access}
+use Rattle.rules_base.specs.declared.access.Access.TheVariants as access
+use Rattle.rules_base.specs.Access.{stores, takes}
+use Rattle.rules_base.specs.Parts.{is_int}
+use Rattle.run_types.specs.Values.{Neutral, number, plain, word}
+use Rattle.run_types.specs.Config.{Registers}
+use Rattle.run_types.specs.Memory.{Memory}
+use Rattle.run_types.specs.Fits.{OrNull, IsPointer, FitsPlain, Fits}
+use Rattle.run_types.specs.Operations.{instance_of, is_null}
+use Rattle.run_types.specs.Locations.{fits_bits, is_error, is_instance, room_if, fits_cell}
+use Rattle.run_types.specs.Locations as locations
+use Rattle.typing_laws.proofs.Rows.{one_divides}
+use Rattle.typing_laws.proofs.Objects.{ObjectsFit, start_is, instance_is}
+use Rattle.typing_laws.proofs.FitsBelow.{fits_below}
+
+-- a number's type is within the bits of an access
+abbrev pub Within : Access → Ty → Type 0
+Within access.Byte (ty.Int lo hi div) = hi < 2 ^ 8
+Within access.Word (ty.Int lo hi div) = hi < 2 ^ 16
+Within access.Dword (ty.Int lo hi div) = hi < 2 ^ 32
+Within _ _ = Unit {0}
+
+or_left : (a b : Bool) → a ≡ true → (a || b) ≡ true
+or_left a b e = ap (λ x. x || b) e
+
+or_right : (a b : Bool) → b ≡ true → (a || b) ≡ true
+or_right true b e = refl
+or_right false b e = e
+
+module _ (notes : Notes) (m : Memory) (ok : ObjectsFit notes m.objects) (d : ℕ) (saved : Registers) where
+  -- what fits a content type here fits it in every frame
+  pub content_plain : (c : Cell) (v : Neutral) → Fits notes m d saved (content_type c) v → FitsPlain notes m.objects (content_type c) v
+  content_plain cell.I8 v f = f
+  content_plain cell.I16 v f = f
+  content_plain cell.I32 v f = f
+  content_plain cell.I64 v f = f
+  content_plain cell.N v f = f
+  content_plain cell.Stat v f = ⊎_elim (λ e. inl e) (λ s. inr s.0) f
+  content_plain cell.Handle v f = f
+  content_plain cell.Entry v f = f
+  content_plain (cell.Ptr s k may) v f = f
+  content_plain (cell.P64 s k may) v f = f
+  content_plain (cell.Method n) v f = f
+
+  bits_fit : (bits x : ℕ) (v : Neutral) → v ≡ number x → x < 2 ^ bits → 2 ^ bits ≤ 2 ^ 64 → fits_bits bits (plain v) ≡ true
+  bits_fit bits x v e l h = ap (λ z. fits_bits bits (plain z)) e ∙ lt-ltb (word x) (2 ^ bits) (let w : word x ≡ x = omega (arith, l, h) in omega (arith, w, l))
+
+  instance_fits : (s k : ℕ) (v : Neutral) → 1 ≤ k → IsPointer notes m.objects s k (pos 0) (pos 0) v → is_instance m.objects s k (instance_of notes m.objects v) ≡ true
+  instance_fits s k v l f =
+      let q = start_is notes m.objects ok s k v l f in
+      ap (is_instance m.objects s k) (instance_is notes m.objects ok s k v q l) ∙ ap (room_if s k q.j) q.there
+      ∙ and_from (nat_eq q.object.shape s) (nat_le (q.j + k) q.object.count) (eq-eqb q.object.shape s q.shape) (le-leb (q.j + k) q.object.count q.room)
+
+  pointer_fits : (s k : ℕ) (may : Bool) (v : Neutral) → 1 ≤ k → OrNull may v (IsPointer notes m.objects s k (pos 0) (pos 0) v) → (is_instance m.objects s k (instance_of notes m.objects v) || (may && is_null v)) ≡ true
+  pointer_fits s k true v l f = ⊎_elim (λ p. or_left _ (is_null v) (instance_fits s k v l p)) (λ e. or_right (is_instance m.objects s k (instance_of notes m.objects v)) (is_null v) (ap is_null e)) f
+  pointer_fits s k false v l f = or_left _ false (instance_fits s k v l f)
+
+  -- what fits a cell's content type is taken by the cell
+  pub content_fits : (c : Cell) (v : Neutral) → IsBoundedCell c → Fits notes m d saved (content_type c) v → fits_cell notes m.objects c v ≡ true
+  unfolding fits_cell
+  content_fits cell.I8 v k f = bits_fit 8 f.x v f.is (omega (arith, f.to)) (omega arith)
+  content_fits cell.I16 v k f = bits_fit 16 f.x v f.is (omega (arith, f.to)) (omega arith)
+  content_fits cell.I32 v k f = bits_fit 32 f.x v f.is (omega (arith, f.to)) (omega arith)
+  content_fits cell.I64 v k f = bits_fit 64 f.x v f.is (omega (arith, f.to)) (omega arith)
+  content_fits cell.N v k f = bits_fit 32 f.x v f.is (omega (arith, f.to)) (omega arith)
+  content_fits cell.Stat v k f = ⊎_elim
+      (λ e. or_right (fits_bits 31 (plain v)) (is_error v) (ap is_error e.is ∙ lt-ltb e.code (2 ^ 31) e.small))
+      (λ s. or_left (fits_bits 31 (plain v)) (is_error v) (bits_fit 31 s.0.code v s.0.is s.0.small (omega arith))) f
+  content_fits cell.Handle v k f = ⊎_elim (λ e. ap (λ z. locations.is_handle z || is_null z) e.is) (λ e. ap (λ z. locations.is_handle z || is_null z) e) f
+  content_fits cell.Entry v k f = ⊎_elim (λ e. ap (λ z. locations.is_entry z || is_null z) e.is) (λ e. ap (λ z. locations.is_entry z || is_null z) e) f
+  content_fits (cell.Ptr s k may) v l f = pointer_fits s k may v l.1 f
+  content_fits (cell.P64 s k may) v l f = pointer_fits s k may v l.1 f
+  content_fits (cell.Method n) v k f = ap (locations.is_method n) f ∙ eq-eqb n n refl
+
+  below_content : (c : Cell) (t : Ty) (v : Neutral) → is_below t (content_type c) ≡ true → Fits notes m d saved t v → Fits notes m d saved (content_type c) v
+  below_content c t v e f = fits_below notes m d saved t (content_type c) v ((is_below_exact t (content_type c)).0 e) f
+
+  int_content : (c : Cell) (t : Ty) (v : Neutral) (top : ℕ) → is_int t ≡ true → ((lo hi div : ℕ) → t ≡ ty.Int lo hi div → hi ≤ top) → Fits notes m d saved t v → Fits notes m d saved (ty.Int 0 top 1) v
+  int_content c (ty.Int lo hi div) v top e h f = let l = h lo hi div refl in record { x = f.x; is = f.is; from = omega arith; to = omega (arith, f.to, l); divided = one_divides f.x }
+  int_content c _ v top e h f = absurd (false≢true e)
+
+  within_Byte : (t : Ty) (lo hi div : ℕ) → t ≡ ty.Int lo hi div → Within access.Byte t → hi ≤ 2 ^ 8 - 1
+  within_Byte t lo hi div q w = let l : hi < 2 ^ 8 = subst (Within access.Byte) q w in omega (arith, l)
+
+  within_Word : (t : Ty) (lo hi div : ℕ) → t ≡ ty.Int lo hi div → Within access.Word t → hi ≤ 2 ^ 16 - 1
+  within_Word t lo hi div q w = let l : hi < 2 ^ 16 = subst (Within access.Word) q w in omega (arith, l)
+
+  within_Dword : (t : Ty) (lo hi div : ℕ) → t ≡ ty.Int lo hi div → Within access.Dword t → hi ≤ 2 ^ 32 - 1
+  within_Dword t lo hi div q w = let l : hi < 2 ^ 32 = subst (Within access.Dword) q w in omega (arith, l)
+
+  bounded : (t : Ty) (lo hi div : ℕ) → t ≡ ty.Int lo hi div → IsBounded t → hi ≤ 2 ^ 64 - 1
+  bounded t lo hi div q w = let z = subst IsBounded q w in let l = z.1 in omega (arith, l)
+
+  -- What the rules let be stored to a cell fits its content type.
+  pub taken_fits : (a : Access) (c : Cell) (t : Ty) (v : Neutral) → stores a c ≡ true → takes c t ≡ true → Within a t → IsBounded t → Fits notes m d saved t v → Fits notes m d saved (content_type c) v
+  taken_fits access.Byte cell.I8 t v e h w b f = int_content cell.I8 t v (2 ^ 8 - 1) h (λ lo hi div q. within_Byte t lo hi div q w) f
+  taken_fits access.Byte cell.I16 t v e h w b f = absurd (false≢true e)
+  taken_fits access.Byte cell.I32 t v e h w b f = absurd (false≢true e)
+  taken_fits access.Byte cell.I64 t v e h w b f = absurd (false≢true e)
+  taken_fits access.Byte cell.N t v e h w b f = absurd (false≢true e)
+  taken_fits access.Byte cell.Stat t v e h w b f = absurd (false≢true e)
+  taken_fits access.Byte cell.Handle t v e h w b f = absurd (false≢true e)
+  taken_fits access.Byte cell.Entry t v e h w b f = absurd (false≢true e)
+  taken_fits access.Byte (cell.Ptr s k may) t v e h w b f = absurd (false≢true e)
+  taken_fits access.Byte (cell.P64 s k may) t v e h w b f = absurd (false≢true e)
+  taken_fits access.Byte (cell.Method n) t v e h w b f = absurd (false≢true e)
+  taken_fits access.Word cell.I8 t v e h w b f = absurd (false≢true e)
+  taken_fits access.Word cell.I16 t v e h w b f = int_content cell.I16 t v (2 ^ 16 - 1) h (λ lo hi div q. within_Word t lo hi div q w) f
+  taken_fits access.Word cell.I32 t v e h w b f = absurd (false≢true e)
+  taken_fits access.Word cell.I64 t v e h w b f = absurd (false≢true e)
+  taken_fits access.Word cell.N t v e h w b f = absurd (false≢true e)
+  taken_fits access.Word cell.Stat t v e h w b f = absurd (false≢true e)
+  taken_fits access.Word cell.Handle t v e h w b f = absurd (false≢true e)
+  taken_fits access.Word cell.Entry t v e h w b f = absurd (false≢true e)
+  taken_fits access.Word (cell.Ptr s k may) t v e h w b f = absurd (false≢true e)
+  taken_fits access.Word (cell.P64 s k may) t v e h w b f = absurd (false≢true e)
+  taken_fits access.Word (cell.Method n) t v e h w b f = absurd (false≢true e)
+  taken_fits access.Dword cell.I8 t v e h w b f = absurd (false≢true e)
+  taken_fits access.Dword cell.I16 t v e h w b f = absurd (false≢true e)
+  taken_fits access.Dword cell.I32 t v e h w b f = int_content cell.I32 t v (2 ^ 32 - 1) h (λ lo hi div q. within_Dword t lo hi div q w) f
+  taken_fits access.Dword cell.I64 t v e h w b f = absurd (false≢true e)
+  taken_fits access.Dword cell.N t v e h w b f = absurd (false≢true e)
+  taken_fits access.Dword cell.Stat t v e h w b f = absurd (false≢true e)
+  taken_fits access.Dword cell.Handle t v e h w b f = absurd (false≢true e)
+  taken_fits access.Dword cell.Entry t v e h w b f = absurd (false≢true e)
+  taken_fits access.Dword (cell.Ptr s k may) t v e h w b f = absurd (false≢true e)
+  taken_fits access.Dword (cell.P64 s k may) t v e h w b f = absurd (false≢true e)
+  taken_fits access.Dword (cell.Method n) t v e h w b f = absurd (false≢true e)
+  taken_fits access.Qword cell.I8 t v e h w b f = absurd (false≢true e)
+  taken_fits access.Qword cell.I16 t v e h w b f = absurd (false≢true e)
+  taken_fits access.Qword cell.I32 t v e h w b f = absurd (false≢true e)
+  taken_fits access.Qword cell.I64 t v e h w b f = int_content cell.I64 t v (2 ^ 64 - 1) h (λ lo hi div q. bounded t lo hi div q b) f
+  taken_fits access.Qword cell.N t v e h w b f = absurd (false≢true e)
+  taken_fits access.Qword cell.Stat t v e h w b f = absurd (false≢true e)
+  taken_fits access.Qword cell.Handle t v e h w b f = absurd (false≢true e)
+  taken_fits access.Qword cell.Entry t v e h w b f = absurd (false≢true e)
+  taken_fits access.Qword (cell.Ptr s k may) t v e h w b f = absurd (false≢true e)
+  taken_fits access.Qword (cell.P64 s k may) t v e h w b f = below_content (cell.P64 s k may) t v h f
+  taken_fits access.Qword (cell.Method n) t v e h w b f = absurd (false≢true e)
+  taken_fits access.Form64 cell.I8 t v e h w b f = absurd (false≢true e)
+  taken_fits access.Form64 cell.I16 t v e h w b f = absurd (false≢true e)
+  taken_fits access.Form64 cell.I32 t v e h w b f = absurd (false≢true e)
+  taken_fits access.Form64 cell.I64 t v e h w b f = int_content cell.I64 t v (2 ^ 64 - 1) h (λ lo hi div q. bounded t lo hi div q b) f
+  taken_fits access.Form64 cell.N t v e h w b f = absurd (false≢true e)
+  taken_fits access.Form64 cell.Stat t v e h w b f = absurd (false≢true e)
+  taken_fits access.Form64 cell.Handle t v e h w b f = absurd (false≢true e)
+  taken_fits access.Form64 cell.Entry t v e h w b f = absurd (false≢true e)
+  taken_fits access.Form64 (cell.Ptr s k may) t v e h w b f = absurd (false≢true e)
+  taken_fits access.Form64 (cell.P64 s k may) t v e h w b f = below_content (cell.P64 s k may) t v h f
+  taken_fits access.Form64 (cell.Method n) t v e h w b f = absurd (false≢true e)
+  taken_fits access.Natural cell.I8 t v e h w b f = absurd (false≢true e)
+  taken_fits access.Natural cell.I16 t v e h w b f = absurd (false≢true e)
+  taken_fits access.Natural cell.I32 t v e h w b f = absurd (false≢true e)
+  taken_fits access.Natural cell.I64 t v e h w b f = absurd (false≢true e)
+  taken_fits access.Natural cell.N t v e h w b f = below_content cell.N t v h f
+  taken_fits access.Natural cell.Stat t v e h w b f = below_content cell.Stat t v h f
+  taken_fits access.Natural cell.Handle t v e h w b f = below_content cell.Handle t v h f
+  taken_fits access.Natural cell.Entry t v e h w b f = below_content cell.Entry t v h f
+  taken_fits access.Natural (cell.Ptr s k may) t v e h w b f = below_content (cell.Ptr s k may) t v h f
+  taken_fits access.Natural (cell.P64 s k may) t v e h w b f = absurd (false≢true e)
+  taken_fits access.Natural (cell.Method n) t v e h w b f = absurd (false≢true e)
+  taken_fits access.Signed cell.I8 t v e h w b f = absurd (false≢true e)
+  taken_fits access.Signed cell.I16 t v e h w b f = absurd (false≢true e)
+  taken_fits access.Signed cell.I32 t v e h w b f = absurd (false≢true e)
+  taken_fits access.Signed cell.I64 t v e h w b f = absurd (false≢true e)
+  taken_fits access.Signed cell.N t v e h w b f = absurd (false≢true e)
+  taken_fits access.Signed cell.Stat t v e h w b f = absurd (false≢true e)
+  taken_fits access.Signed cell.Handle t v e h w b f = absurd (false≢true e)
+  taken_fits access.Signed cell.Entry t v e h w b f = absurd (false≢true e)
+  taken_fits access.Signed (cell.Ptr s k may) t v e h w b f = absurd (false≢true e)
+  taken_fits access.Signed (cell.P64 s k may) t v e h w b f = absurd (false≢true e)
+  taken_fits access.Signed (cell.Method n) t v e h w b f = absurd (false≢true e)

@@ -1,0 +1,3 @@
+pub mod OneRule
+pub mod DataTyped
+pub mod FlowTyped

@@ -1,0 +1,32 @@
+//! The typing rules are true of the neutral machine: what one instruction does that its rule accepts. Widths, placements and bytes
+//! don't come into it, but for the room that the stack has. docs/SIMULATION.md has it in words.
+#![tactic(auto)]
+
+ghost use Rattle.typed_runs.specs.Laws.{StatesFitBelow};
+ghost use Rattle.typing_laws.specs.DataTyped.{OneDataRule};
+ghost use Rattle.typing_laws.specs.FlowTyped.{RuleFitsStack, SoundFitsStack};
+ghost use Rattle.typing_laws.specs.OneRule.{OneRule};
+
+/// A frame that fits a state fits each state above it.
+pub fn states_fit_below()
+    ensures { StatesFitBelow }
+{}
+
+/// An instruction on data that its rule accepts isn't stuck, raises nothing but a division by zero, and goes on at the next
+/// place, soundly with the state that the rule gives.
+pub fn one_data_rule()
+    ensures { OneDataRule }
+{}
+
+/// From a sound configuration, an instruction that its rule accepts isn't stuck, raises nothing but a division by zero, and
+/// goes on soundly: at a successor with its state, into the function that it calls, back from one, to the native method that
+/// it calls, or to the thunk that it makes.
+pub fn one_rule()
+    ensures { OneRule }
+{}
+
+/// The frames of a sound configuration lie on the stack, and so does what an instruction adds to them that its rule accepts.
+pub fn rules_fit_stack()
+    ensures sound { SoundFitsStack }
+    ensures rule { RuleFitsStack }
+{}
