@@ -10,6 +10,7 @@ pub mod RowLeads
 pub mod RunSteps
 pub mod Simulated
 pub mod StaticFits
+pub mod StaticThings
 pub mod Statics
 pub mod Steps
 pub mod Thunks

@@ -126,7 +126,7 @@ place_called world P ip p e = go (nat_eq ip P.native) (covers ip 1 (image_range 
 -- ---- the instruction at a place
 
 module _ (image : Image) (world : World) (run : IsRunOf image world) where
-  found_there : (here : Site) (i : Insn) → IsInsnOf image world here i → instruction_at image here.place ≡ Some (i, length (spelling i))
+  pub found_there : (here : Site) (i : Insn) → IsInsnOf image world here i → instruction_at image here.place ≡ Some (i, length (spelling i))
   unfolding instruction_at
   found_there here i at =
       let code = (world_meets image world run).code_inside at.k at.f at.function in
@@ -137,7 +137,7 @@ module _ (image : Image) (world : World) (run : IsRunOf image world) where
       let whole : image.size - here.place ≡ m + (image.size - here.place - m) = omega (arith, n, l, code.1, size) in
       ap (λ k. or_none (read (window (image_byte image) here.place k))) whole ∙ ap or_none (instruction_read image world here i (image.size - here.place - m) at)
 
-  site_there : (here : Site) (i : Insn) → IsInsnOf image world here i → site_at image here.place (length (spelling i)) ≡ here
+  pub site_there : (here : Site) (i : Insn) → IsInsnOf image world here i → site_at image here.place (length (spelling i)) ≡ here
   site_there here i at =
       let n = at.decoded.next_is in
       ap₂ (λ x y. record { place = here.place; next = x; reloc = y }) (sym n) (ap (λ x. named_at image x (is_relocated image x)) (sym n) ∙ sym at.relocation.named)

@@ -1,19 +1,13 @@
 -- What the cells of a typed image's static objects hold at first fits them.
-use Rattle.std.proofs.Common.{◌≡◌, ℕ, suc, ◌+◌, ◌-◌, ◌*◌, ◌^◌, ◌<◌, ◌≤◌, Bool, true, false, not, if◌then◌else◌, nat_eq, List, map, get_or, Option, Some, option_map, option_and_then, refl, sym, ap, ap₂, ◌∙◌, subst, arith, inl, ⊎_elim, slice_get, pos, inr, nat_lt, None, ◌++◌, ltb-true}
-use Rattle.std.specs.List.{list_any, position, Contains}
+use Rattle.std.proofs.Common.{◌≡◌, ℕ, suc, ◌+◌, ◌-◌, ◌*◌, ◌^◌, ◌<◌, ◌≤◌, Bool, true, false, not, if◌then◌else◌, List, map, Option, Some, option_map, option_and_then, refl, sym, ap, ap₂, ◌∙◌, subst, arith, inl, ⊎_elim, slice_get, pos, inr, nat_lt, None, ◌++◌, ltb-true}
 use Rattle.std.specs.Option.{option_map_or}
-use Rattle.std.proofs.lemmas.Bool.{eq-eqb, ne_eqb, eqb-true, or_left, or_right, true≢false}
-use Rattle.std.proofs.lemmas.List.Folds.{list_any_at}
 use Rattle.std.proofs.lemmas.Nat.{row_fits}
-use Rattle.std.proofs.lemmas.Option.{same_Some, slice_get-map, slice_get_within, slice_get-get_or, get_or_from_slice_get, none-some}
-use Rattle.std.proofs.Math.Nat.{mul-pos}
+use Rattle.std.proofs.lemmas.Option.{same_Some, slice_get-map, slice_get_within, slice_get-get_or, none-some}
 use Rattle.ebc_width.specs.Bytes.{little_endian}
 use Rattle.ebc_width.specs.Width.{wrap64}
 use Rattle.ebc_width.proofs.ByteLaws.{little_endian-below}
 use Rattle.host_laws.proofs.Accepting.{read_zero}
 use Rattle.instruction_laws.specs.Premises.{IsRunOf}
-use Rattle.instruction_laws.proofs.Loaded.{of_any}
-use Rattle.instruction_laws.proofs.Worlds.{world_meets}
 use Rattle.note_types.specs.Cells.{cell_size}
 use Rattle.note_types.specs.Shapes.{size_at, start_at, IsShape}
 use Rattle.note_types.specs.declared.cell.Cell.{Cell}
@@ -23,7 +17,7 @@ use Rattle.note_types.specs.declared.shape.Field.{Field}
 use Rattle.note_types.specs.declared.shape.Shape.{Shape}
 use Rattle.pe_image.specs.Mapped.{AreBytes}
 use Rattle.pe_image.specs.declared.image.Image.{Image}
-use Rattle.rules_data.specs.Images.{image_byte, named_place, extent, depends, has_natural, field_place, IsStatic, IsLinked, IsStaticAt, CellHolds, HasContentBy, IsUnrelocated}
+use Rattle.rules_data.specs.Images.{image_byte, named_place, extent, depends, field_place, IsStatic, IsLinked, CellHolds, HasContentBy, IsUnrelocated}
 use Rattle.run_types.specs.HostPlans.{field_at}
 use Rattle.run_types.specs.Memory.{cell_field}
 use Rattle.run_types.specs.Objects.{no_shape, shape_of, static_object, made_objects, script_object, placed_objects}
@@ -32,7 +26,7 @@ use Rattle.run_types.specs.World.{World}
 use Rattle.run_types.specs.declared.object.TypedObject.{TypedObject}
 use Rattle.run_types.proofs.Lists.{slice_get-append_left, length-map}
 use Rattle.whole_runs.specs.NeutralImage.{static_cells, static_cell_place, static_value, static_address, loaded_value}
-use Rattle.step_sound.proofs.Thunks.{first_found}
+use Rattle.step_sound.proofs.StaticThings.{units_none, field_units, unlisted, listed, static_found}
 use Rattle.run_types.specs.Fits.{IsNumber, IsPointer, FitsPlain}
 use Rattle.note_types.specs.Cells.{content_type}
 use Rattle.run_types.specs.HostPlans.{field_in}
@@ -40,41 +34,10 @@ use Rattle.run_types.specs.Scripts.{is_needed}
 use Rattle.run_types.specs.Values.{null}
 use Rattle.std.proofs.Math.Nat.{dvd_of_mod-eq-zero}
 use Rattle.rules_data.specs.Images.{MayBeZero}
-use Rattle.step_sound.proofs.Thunks.{first_found}
 use Rattle.invariant_laws.proofs.Filling.{zero_fits}
 use Rattle.invariant_laws.specs.Hosted.{StaticsFit, no_locals_there}
 
--- ---- layouts that don't depend on the width
-
--- the units of a shape and of its fields
-units_none : (S : Shape) → depends S ≡ false → S.n ≡ 0
-units_none S e = go (nat_eq S.n 0) refl
-  where
-    go : (b : Bool) → nat_eq S.n 0 ≡ b → S.n ≡ 0
-    go true q = eqb-true S.n 0 q
-    go false q = absurd (true≢false (sym (or_left (not (nat_eq S.n 0)) (list_any has_natural S.fields) (ap not q)) ∙ e))
-
-field_units : (S : Shape) (f : ℕ) (z : Field) → depends S ≡ false → slice_get S.fields f ≡ Some z → z.n ≡ 0
-field_units S f z e g = go (nat_eq z.n 0) refl
-  where
-    go : (b : Bool) → nat_eq z.n 0 ≡ b → z.n ≡ 0
-    go true q = eqb-true z.n 0 q
-    go false q =
-        let has : has_natural z ≡ true = or_left (not (nat_eq z.n 0)) _ (ap not q) in
-        let any : list_any has_natural S.fields ≡ true = list_any_at has_natural S.fields f z (slice_get_within S.fields f z g) (ap has_natural (get_or_from_slice_get S.fields f z z g) ∙ has) in
-        absurd (true≢false (sym (or_right (not (nat_eq S.n 0)) (list_any has_natural S.fields) any) ∙ e))
-
--- ---- relocated places
-
-unlisted : (xs : List ℕ) (p : ℕ) → (Contains xs p → ⊥) → list_any (nat_eq p) xs ≡ false
-unlisted xs p away = go (list_any (nat_eq p) xs) refl
-  where
-    go : (b : Bool) → list_any (nat_eq p) xs ≡ b → list_any (nat_eq p) xs ≡ false
-    go true e = absurd (away (of_any xs p e))
-    go false e = e
-
-listed : (xs : List ℕ) (p : ℕ) → Contains xs p → list_any (nat_eq p) xs ≡ true
-listed xs p c = list_any_at (nat_eq p) xs c.0 p c.1 (eq-eqb p (get_or xs c.0 p) (sym c.2))
+-- ---- cells
 
 -- a cell that may be zero needs nothing else
 not_needed : (c : Cell) → MayBeZero c → is_needed c ≡ false
@@ -111,29 +74,11 @@ module _ (image : Image) (world : World) (run : IsRunOf image world) (bytes : Ar
       subst (IsNumber 0 hi 1) (sym (plain_value p n some free))
       (record { x = held p n; is = refl; from = omega arith; to = omega (arith, b, small); divided = dvd_of_mod-eq-zero 1 (omega arith) })
 
-  -- the static object at a place is found by it
-  static_found : (place s count : ℕ) (at : IsStaticAt world.notes place s count) → position (λ (x : Static). nat_eq x.place place) world.notes.statics ≡ Some at.k
-  static_found place s count at = first_found (λ (x : Static). nat_eq x.place place) world.notes.statics at.k at.x at.there (eq-eqb at.x.place place at.place_is) before
-    where
-      positive : (k : ℕ) (x : Static) → slice_get world.notes.statics k ≡ Some x → 0 < x.count * size_at 8 (shape_of world.notes x.shape)
-      positive k x g =
-          let n = run.notes.statics k x g in
-          let shape = run.shapes x.shape (shape_of world.notes x.shape) (slice_get-get_or world.notes.shape x.shape no_shape n.shape) in
-          mul-pos n.count.0 shape.at8.positive
-
-      before : (j : ℕ) (y : Static) → j < at.k → slice_get world.notes.statics j ≡ Some y → nat_eq y.place place ≡ false
-      before j y l g = ne_eqb y.place place (λ e.
-          let off = (world_meets image world run).statics_apart j at.k y at.x g at.there (λ q. omega (arith, q, l)) in
-          let a = positive j y g in
-          let b = positive at.k at.x at.there in
-          let c = at.place_is in
-          ⊎_elim (λ x. omega (arith, x, a, c, e)) (λ x. omega (arith, x, b, c, e)) off)
-
   linked_fits : (p s count : ℕ) → IsLinked image world.notes p s count → IsPointer world.notes (map static_object world.notes.statics) s count (pos 0) (pos 0) (loaded_value world.notes image p 8)
   linked_fits p s count link =
       let some = listed image.relocs p link.relocated in
       let at = link.named in
-      let found = static_found (named_place image p) s count at in
+      let found = static_found image world run (named_place image p) s count at in
       let v : loaded_value world.notes image p 8 ≡ At (ObjectOf at.k) 0 0 =
       ap (λ b. if b then static_address world.notes (named_place image p) else number (held p 8)) some
       ∙ ap (λ o. option_map_or (λ u. u) (option_map (λ k. At (ObjectOf k) 0 0) o) null) found in

@@ -1,12 +1,10 @@
 -- The loaded bytes show what the cells of static objects hold, where these keep their rule.
-use Rattle.std.proofs.Common.{◌≡◌, ℕ, zero, suc, ◌+◌, ◌-◌, ◌*◌, ◌%◌, ◌^◌, ◌<◌, ◌≤◌, Bool, true, false, not, if◌then◌else◌, nat_eq, List, [], length, map, get_or, Option, Some, option_map, option_and_then, refl, sym, ap, ap₂, ◌∙◌, subst, subst₂, arith, mod-eq_of_lt, le_refl, inl, ⊎_elim, slice_get}
-use Rattle.std.specs.List.{list_any, position, Contains}
+use Rattle.std.proofs.Common.{◌≡◌, ℕ, zero, suc, ◌+◌, ◌-◌, ◌*◌, ◌%◌, ◌^◌, ◌<◌, ◌≤◌, Bool, true, false, if◌then◌else◌, [], length, map, get_or, Option, Some, option_map, option_and_then, refl, sym, ap, ap₂, ◌∙◌, subst, subst₂, arith, mod-eq_of_lt, le_refl, inl, ⊎_elim, slice_get}
 use Rattle.std.specs.Option.{option_map_or}
-use Rattle.std.proofs.lemmas.Bool.{eq-eqb, ne_eqb, eqb-true, or_left, or_right, lt-ltb, true≢false}
-use Rattle.std.proofs.lemmas.List.Folds.{list_any_at}
+use Rattle.std.proofs.lemmas.Bool.{lt-ltb}
 use Rattle.std.proofs.lemmas.Nat.{row_fits}
-use Rattle.std.proofs.lemmas.Option.{same_Some, slice_get-map, slice_get_within, slice_get-get_or, get_or_from_slice_get}
-use Rattle.std.proofs.Math.Nat.{mul-pos, one-le-pow}
+use Rattle.std.proofs.lemmas.Option.{same_Some, slice_get-map, slice_get_within, slice_get-get_or}
+use Rattle.std.proofs.Math.Nat.{one-le-pow}
 use Rattle.ebc_width.specs.Bytes.{little_endian}
 use Rattle.ebc_width.specs.Width.{IsWidth}
 use Rattle.ebc_width.proofs.ByteLaws.{little_endian-moved, little_endian-below}
@@ -16,7 +14,6 @@ use Rattle.host_laws.specs.StartGiven.{StaticsShow, start_config}
 use Rattle.host_laws.proofs.Accepting.{read_zero}
 use Rattle.host_laws.proofs.Things.{base_is}
 use Rattle.instruction_laws.specs.Premises.{IsRunOf}
-use Rattle.instruction_laws.proofs.Loaded.{of_any}
 use Rattle.instruction_laws.proofs.Worlds.{world_meets}
 use Rattle.neutral_machine.specs.Stands.{CellShows, cell_address}
 use Rattle.neutral_machine.specs.WorldFits.{WorldFits}
@@ -30,7 +27,7 @@ use Rattle.note_types.specs.declared.shape.Field.{Field}
 use Rattle.note_types.specs.declared.shape.Shape.{Shape}
 use Rattle.pe_image.specs.Mapped.{AreBytes, mapped}
 use Rattle.pe_image.specs.declared.image.Image.{Image}
-use Rattle.rules_data.specs.Images.{image_byte, named_place, extent, depends, has_natural, field_place, IsStatic, IsLinked, IsStaticAt, CellHolds, HasContentBy, IsUnrelocated}
+use Rattle.rules_data.specs.Images.{image_byte, named_place, extent, depends, field_place, IsStatic, IsLinked, CellHolds, HasContentBy, IsUnrelocated}
 use Rattle.run_types.specs.HostPlans.{field_at}
 use Rattle.run_types.specs.Layout.{addresses}
 use Rattle.run_types.specs.Memory.{memory_of, cell_field}
@@ -45,7 +42,7 @@ use Rattle.run_types.proofs.NamedThings.{some_there}
 use Rattle.whole_runs.specs.NeutralImage.{static_cells, static_cell_place, static_value, static_address, loaded_value}
 use Rattle.step_sound.specs.Loaded.{StaticsAreShown}
 use Rattle.step_sound.proofs.Relocated.{number_kept, number_moved}
-use Rattle.step_sound.proofs.Thunks.{first_found}
+use Rattle.step_sound.proofs.StaticThings.{units_none, field_units, unlisted, listed, static_found}
 
 -- ---- numbers
 
@@ -111,38 +108,6 @@ cell_bytes w c h = by_width (λ v. (0 < cell_size v c) × (cell_size v c ≤ 8))
     at8 (cell.P64 s k may) = (omega arith, omega arith)
     at8 (cell.Method m) = (omega arith, omega arith)
 
--- ---- layouts that don't depend on the width
-
--- the units of a shape and of its fields
-units_none : (S : Shape) → depends S ≡ false → S.n ≡ 0
-units_none S e = go (nat_eq S.n 0) refl
-  where
-    go : (b : Bool) → nat_eq S.n 0 ≡ b → S.n ≡ 0
-    go true q = eqb-true S.n 0 q
-    go false q = absurd (true≢false (sym (or_left (not (nat_eq S.n 0)) (list_any has_natural S.fields) (ap not q)) ∙ e))
-
-field_units : (S : Shape) (f : ℕ) (z : Field) → depends S ≡ false → slice_get S.fields f ≡ Some z → z.n ≡ 0
-field_units S f z e g = go (nat_eq z.n 0) refl
-  where
-    go : (b : Bool) → nat_eq z.n 0 ≡ b → z.n ≡ 0
-    go true q = eqb-true z.n 0 q
-    go false q =
-        let has : has_natural z ≡ true = or_left (not (nat_eq z.n 0)) _ (ap not q) in
-        let any : list_any has_natural S.fields ≡ true = list_any_at has_natural S.fields f z (slice_get_within S.fields f z g) (ap has_natural (get_or_from_slice_get S.fields f z z g) ∙ has) in
-        absurd (true≢false (sym (or_right (not (nat_eq S.n 0)) (list_any has_natural S.fields) any) ∙ e))
-
--- ---- relocated places
-
-unlisted : (xs : List ℕ) (p : ℕ) → (Contains xs p → ⊥) → list_any (nat_eq p) xs ≡ false
-unlisted xs p away = go (list_any (nat_eq p) xs) refl
-  where
-    go : (b : Bool) → list_any (nat_eq p) xs ≡ b → list_any (nat_eq p) xs ≡ false
-    go true e = absurd (away (of_any xs p e))
-    go false e = e
-
-listed : (xs : List ℕ) (p : ℕ) → Contains xs p → list_any (nat_eq p) xs ≡ true
-listed xs p c = list_any_at (nat_eq p) xs c.0 p c.1 (eq-eqb p (get_or xs c.0 p) (sym c.2))
-
 module _ (w : ℕ) (image : Image) (world : World) (P : Placement) (h : IsWidth w) (run : IsRunOf image world) (bytes : AreBytes image) (pl : IsPlacement w world P) where
   abbrev A : Addresses
   A = addresses w world.notes P []
@@ -173,31 +138,13 @@ module _ (w : ℕ) (image : Image) (world : World) (P : Placement) (h : IsWidth 
       subst₂ (λ u m. ShowsIn w A n u m) (sym v) (sym (number_kept image P.image p (p + n) p n free (le_refl _) (le_refl _)))
       (number_shows w A n (held p n) few (little_endian-below (image_byte image) p n bytes))
 
-  -- the static object at a place is found by it
-  static_found : (place s count : ℕ) (at : IsStaticAt world.notes place s count) → position (λ (x : Static). nat_eq x.place place) world.notes.statics ≡ Some at.k
-  static_found place s count at = first_found (λ (x : Static). nat_eq x.place place) world.notes.statics at.k at.x at.there (eq-eqb at.x.place place at.place_is) before
-    where
-      positive : (k : ℕ) (x : Static) → slice_get world.notes.statics k ≡ Some x → 0 < x.count * size_at 8 (shape_of world.notes x.shape)
-      positive k x g =
-          let n = run.notes.statics k x g in
-          let shape = run.shapes x.shape (shape_of world.notes x.shape) (slice_get-get_or world.notes.shape x.shape no_shape n.shape) in
-          mul-pos n.count.0 shape.at8.positive
-
-      before : (j : ℕ) (y : Static) → j < at.k → slice_get world.notes.statics j ≡ Some y → nat_eq y.place place ≡ false
-      before j y l g = ne_eqb y.place place (λ e.
-          let off = fits.statics_apart j at.k y at.x g at.there (λ q. omega (arith, q, l)) in
-          let a = positive j y g in
-          let b = positive at.k at.x at.there in
-          let c = at.place_is in
-          ⊎_elim (λ x. omega (arith, x, a, c, e)) (λ x. omega (arith, x, b, c, e)) off)
-
   -- a relocated pointer of 64 bits shows as the address of the static object that it names
   linked_cell : (p s count : ℕ) → IsLinked image world.notes p s count → ShowsIn w A 8 (loaded_value world.notes image p 8) (little_endian B p 8)
   unfolding object_at
   linked_cell p s count link =
       let some = listed image.relocs p link.relocated in
       let at = link.named in
-      let found = static_found (named_place image p) s count at in
+      let found = static_found image world run (named_place image p) s count at in
       let v : loaded_value world.notes image p 8 ≡ At (ObjectOf at.k) 0 0 =
       ap (λ b. if b then static_address world.notes (named_place image p) else number (held p 8)) some
       ∙ ap (λ o. option_map_or (λ u. u) (option_map (λ k. At (ObjectOf k) 0 0) o) null) found in

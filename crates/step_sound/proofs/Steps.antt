@@ -1,11 +1,9 @@
 -- A step of a typed program's run: the neutral machine isn't stuck, and the invariant holds after it.
 use Rattle.std.specs.Prelude.{Ok, Err}
-use Rattle.std.proofs.Common.{◌≡◌, ◌⊎◌, ℕ, ◌+◌, ◌-◌, ◌%◌, ◌<◌, ◌≤◌, Bool, true, false, if◌then◌else◌, List, ◌∷◌, length, Option, Some, None, option_and_then, refl, sym, ap, ap₂, ◌∙◌, subst, arith, inl, inr}
+use Rattle.std.proofs.Common.{◌≡◌, ◌⊎◌, ℕ, ◌%◌, ◌<◌, ◌≤◌, Bool, true, false, if◌then◌else◌, List, ◌∷◌, length, Option, Some, None, option_and_then, refl, sym, ap, ap₂, ◌∙◌, subst, arith, inl, inr}
 use Rattle.std.proofs.lemmas.Bool.{eq-eqb, true≢false}
-use Rattle.ebc_decode.specs.Reading.{read}
 use Rattle.ebc_insn.specs.Spelling.{spelling}
 use Rattle.ebc_insn.specs.declared.Insn.{Insn}
-use Rattle.ebc_width.specs.Bytes.{window}
 use Rattle.ebc_width.specs.Width.{IsWidth}
 use Rattle.note_types.specs.declared.ending.Ending.TheVariants as ending
 use Rattle.note_types.specs.declared.spot.Spot.{Spot}
@@ -14,7 +12,6 @@ use Rattle.note_types.specs.declared.state.State.{State}
 use Rattle.pe_image.specs.declared.image.Image.{Image}
 use Rattle.rules_base.specs.Outcomes.{Gives as Given, gives_map}
 use Rattle.rules_data.specs.Data.{after_data}
-use Rattle.rules_data.specs.Images.{image_byte, named_at, is_relocated}
 use Rattle.rules_flow.specs.Flow.{after_flow}
 use Rattle.rules_flow.specs.Successors.{falls}
 use Rattle.rules_flow.specs.declared.successors.Successors.{Successors}
@@ -28,9 +25,8 @@ use Rattle.run_types.specs.Values.{Neutral}
 use Rattle.run_types.specs.World.{World}
 use Rattle.neutral_machine.specs.Rows.{Site, NeutralEnd, Next, Native, MakeThunk, executed}
 use Rattle.instruction_laws.specs.Premises.{IsInsnOf, IsRunOf}
-use Rattle.instruction_laws.proofs.ImageSteps.{instruction_read}
 use Rattle.instruction_laws.proofs.Worlds.{world_meets}
-use Rattle.whole_runs.specs.NeutralImage.{instruction_at, site_at, or_none}
+use Rattle.whole_runs.specs.NeutralImage.{instruction_at, site_at}
 use Rattle.whole_runs.specs.NeutralRun.{instruction_left, instruction_from, neutral_instruction}
 use Rattle.step_sound.specs.ReadWorld.{IsReadWorld}
 use Rattle.step_sound.specs.StepLaw.{StepGoesWell}
@@ -50,6 +46,7 @@ use Rattle.step_sound.specs.PlaceStates.{InsnHolds, StatesHold}
 use Rattle.step_sound.proofs.EvenPlaces.{place_even, spelling_even}
 use Rattle.step_sound.proofs.Read.{read_is_run}
 use Rattle.step_sound.proofs.RowLeads.{falls_where_it_may}
+use Rattle.step_sound.proofs.RunSteps.{found_there, site_there}
 use Rattle.step_sound.proofs.Worlds.{run_world, world_typed, thunks_enter}
 use Rattle.step_sound.proofs.Instructing.{Before, HoldsAfter, instruction_holds}
 
@@ -63,28 +60,12 @@ module _ (image : Image) (world : World) (states : States) (r : IsReadWorld imag
 
   -- ---- the instruction at a place
 
-  found_there : (here : Site) (i : Insn) → IsInsnOf image world here i → instruction_at image here.place ≡ Some (i, length (spelling i))
-  unfolding instruction_at
-  found_there here i at =
-      let code = (world_meets image world run).code_inside at.k at.f at.function in
-      let n = at.decoded.next_is in
-      let l = at.decoded.within in
-      let size = r.size in
-      let m = length (spelling i) in
-      let whole : image.size - here.place ≡ m + (image.size - here.place - m) = omega (arith, n, l, code.1, size) in
-      ap (λ k. or_none (read (window (image_byte image) here.place k))) whole ∙ ap or_none (instruction_read image world here i (image.size - here.place - m) at)
-
-  site_there : (here : Site) (i : Insn) → IsInsnOf image world here i → site_at image here.place (length (spelling i)) ≡ here
-  site_there here i at =
-      let n = at.decoded.next_is in
-      ap₂ (λ x y. record { place = here.place; next = x; reloc = y }) (sym n) (ap (λ x. named_at image x (is_relocated image x)) (sym n) ∙ sym at.relocation.named)
-
   instruction_is : (c : Config) (here : Site) (i : Insn) → IsInsnOf image world here i → c.spot ≡ spot.Place here.place → neutral_instruction world image c ≡ instruction_left world c here.place (executed world c here i)
   unfolding neutral_instruction
   instruction_is c here i at e =
       ap (instruction_from world image c) e
-      ∙ ap (λ (o : Option (Insn × ℕ)). option_and_then (λ (f : Insn × ℕ). instruction_left world c here.place (executed world c (site_at image here.place f.1) f.0)) o) (found_there here i at)
-      ∙ ap (λ (y : Site). instruction_left world c here.place (executed world c y i)) (site_there here i at)
+      ∙ ap (λ (o : Option (Insn × ℕ)). option_and_then (λ (f : Insn × ℕ). instruction_left world c here.place (executed world c (site_at image here.place f.1) f.0)) o) (found_there image world run here i at)
+      ∙ ap (λ (y : Site). instruction_left world c here.place (executed world c y i)) (site_there image world run here i at)
 
   -- an instruction that meets its rules, of the function on top
   module _ (p : ℕ) (f : FunctionFrame) (fs : List Frame) (s : State) (m : InsnHolds image world.notes states f.func p s) where
@@ -235,8 +216,4 @@ module _ (image : Image) (world : World) (states : States) (r : IsReadWorld imag
   pub code_there : (a : Config) (p : ℕ) (f : FunctionFrame) (fs : List Frame) → RunsAt world states a p f fs → (i : Insn) × (n : ℕ) × (instruction_at image p ≡ Some (i, n))
   code_there a p f fs x =
       let q = hold.insns f.func p x.state x.here in
-      (q.insn, length (spelling q.insn), found_there (here p f fs x.state q) q.insn (insn_of p f fs x.state q))
-
-  -- which of them
-  pub turn_of : (a : Config) → Holds world states a → a.ending ≡ ending.Running → Turn world states a
-  turn_of a h on = turn_is a h on
+      (q.insn, length (spelling q.insn), found_there image world run (here p f fs x.state q) q.insn (insn_of p f fs x.state q))

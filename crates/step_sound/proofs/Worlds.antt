@@ -1,8 +1,7 @@
 -- What a world that was read gives to the laws: small objects, thunk cells that enter functions, and, with states that meet the typing
 -- rules, what the laws of an instruction on types ask.
 use Rattle.std.specs.List.{sum_by}
-use Rattle.std.specs.Option.{option_map}
-use Rattle.std.proofs.Common.{◌≡◌, ℕ, zero, suc, ◌+◌, ◌-◌, ◌*◌, ◌<◌, ◌≤◌, ◌^◌, if◌then◌else◌, List, [], ◌∷◌, map, length, Option, Some, None, option_and_then, refl, sym, ap, ◌∙◌, arith, ⊎_elim, slice_get}
+use Rattle.std.proofs.Common.{◌≡◌, ℕ, zero, suc, ◌+◌, ◌-◌, ◌*◌, ◌<◌, ◌≤◌, ◌^◌, if◌then◌else◌, List, [], ◌∷◌, map, length, Option, Some, None, option_and_then, sym, ap, ◌∙◌, arith, ⊎_elim, slice_get}
 use Rattle.std.proofs.lemmas.Bool.{cases_lt}
 use Rattle.std.proofs.lemmas.List.Sums.{sum_by-cons}
 use Rattle.std.proofs.lemmas.Option.{none-some, same_Some, slice_get-map}
@@ -20,6 +19,7 @@ use Rattle.run_types.proofs.Lists.{slice_get-append_left, slice_get-append_right
 use Rattle.run_types.proofs.Placed.{placed_in_all}
 use Rattle.neutral_machine.specs.WorldFits.{WorldFits}
 use Rattle.neutral_machine.proofs.Cells.{shape_fits}
+use Rattle.neutral_machine.proofs.Placed.{some_of_map}
 use Rattle.instruction_laws.proofs.Worlds.{world_meets}
 use Rattle.typed_runs.specs.Waiting.{States}
 use Rattle.step_sound.specs.PlaceStates.{PlacesHold, StatesHold}
@@ -40,16 +40,12 @@ module _ (image : Image) (world : World) (r : IsReadWorld image world) where
   fits : WorldFits world
   fits = world_meets image world (read_is_run image world r)
 
-  of_map : {A B : Type 0} (f : A → B) (o : Option A) (y : B) → option_map f o ≡ Some y → (x : A) × (o ≡ Some x) × (f x ≡ y)
-  of_map f None y h = absurd (none-some y h)
-  of_map f (Some x) y h = (x, refl, same_Some (f x) y h)
-
   -- the typed objects of a run are small at width 8
   pub small_at8 : (n k : ℕ) (o : TypedObject) → slice_get (made_objects world.notes world.script n) k ≡ Some o → object_bytes 8 world.notes o < 2 ^ 32
   unfolding made_objects
   small_at8 n k o e = ⊎_elim
       (λ l.
-      let s = of_map static_object (slice_get world.notes.statics k) o (sym (slice_get-map static_object world.notes.statics k) ∙ sym (slice_get-append_left (map static_object world.notes.statics) (map script_object (placed_objects world.script n)) k l) ∙ e) in
+      let s = some_of_map static_object (slice_get world.notes.statics k) o (sym (slice_get-map static_object world.notes.statics k) ∙ sym (slice_get-append_left (map static_object world.notes.statics) (map script_object (placed_objects world.script n)) k l) ∙ e) in
       let room = fits.statics_inside k s.0 s.1 in
       let size = r.well_formed.size in
       let same = r.size in
@@ -57,7 +53,7 @@ module _ (image : Image) (world : World) (r : IsReadWorld image world) where
       omega (arith, room, size, same, bytes))
       (λ l.
       let j = k - length (map static_object world.notes.statics) in
-      let s = of_map script_object (slice_get (placed_objects world.script n) j) o (sym (slice_get-map script_object (placed_objects world.script n) j) ∙ sym (slice_get-append_right (map static_object world.notes.statics) (map script_object (placed_objects world.script n)) k l) ∙ e) in
+      let s = some_of_map script_object (slice_get (placed_objects world.script n) j) o (sym (slice_get-map script_object (placed_objects world.script n) j) ∙ sym (slice_get-append_right (map static_object world.notes.statics) (map script_object (placed_objects world.script n)) k l) ∙ e) in
       let all = objects_have_room world.notes world.script r.script in
       let one = term_below (room_of world.notes) (placed_objects world.script (length world.script.call)) j s.0 (placed_in_all world.script n j s.0 s.1) in
       let bytes : object_bytes 8 world.notes (script_object s.0) ≡ object_bytes 8 world.notes o = ap (object_bytes 8 world.notes) s.2 in
