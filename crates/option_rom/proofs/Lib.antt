@@ -1,0 +1,6 @@
+pub mod Padded
+pub mod Checked
+pub mod Walks
+pub mod Takings
+pub mod Loops
+pub mod Wrapped

@@ -1,0 +1,5 @@
+use Rattle.option_rom.proofs.Padded.{padded-same}
+use Rattle.option_rom.proofs.laws.zeros_change_nothing.Goals as goal
+
+pub returns : goal.returns
+returns c = padded-same
