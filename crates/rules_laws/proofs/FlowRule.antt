@@ -30,7 +30,7 @@ use Rattle.rules_flow.specs.Flow.{after_flow, flow_row, plain_row, slot_kind, un
 use Rattle.rules_flow.specs.Frames.{has_room, pop_row, push_row}
 use Rattle.rules_flow.specs.Jumps.{target_of}
 use Rattle.rules_flow.specs.Rule.{ArgumentFails, ArgumentsFail, IsSuccessor, NativeArgumentFails, NativeArgumentsFail, call_native_part, call_part, flow_part, plain_part, pop_part, push_part, successors_part, unrelocated_part}
-use Rattle.rules_laws.specs.Exact.{FlowFirst, FlowRelated}
+use Rattle.rules_laws.specs.Exact.{FlowFirst, FlowGiven, FlowRelated}
 use Rattle.rules_laws.proofs.FirstRule.{tells_alone, tells_also, tells_beside, tells_both, tells_needs, tells_none, tells_option, tells_then, tells_where}
 
 -- ---- arguments
@@ -120,3 +120,6 @@ flow_related notes here s i = λ x e next post. (
 
 pub flow_first : (notes : Notes) (here : Here) (s : State) (i : Insn) → FlowFirst notes here s i (after_flow notes here s i)
 flow_first notes here s i = (tells_successors notes here s i).first
+
+pub flow_given : (notes : Notes) (here : Here) (s : State) (i : Insn) → FlowGiven notes here s i (after_flow notes here s i)
+flow_given notes here s i = (tells_successors notes here s i).given

@@ -28,6 +28,10 @@ abbrev pub FlowRelated : Notes → Here → State → Insn → Gives Successors 
 FlowRelated notes here s i result =
     (x : Successors) → result ≡ Ok x → (next : ℕ) (post : State) → flow_rows.Rule notes here s i next post ↔ flow_rows.IsSuccessor here x next post
 
+-- what is given is exactly what the parts of the row give
+abbrev pub FlowGiven : Notes → Here → State → Insn → Gives Successors → Type 0
+FlowGiven notes here s i result = (x : Successors) → (result ≡ Ok x) ↔ (flow_rows.successors_part notes here s i).gives x
+
 -- the error is the first of the rules by which its row fails
 abbrev pub FlowFirst : Notes → Here → State → Insn → Gives Successors → Type 0
 FlowFirst notes here s i result = (r : RuleName) → (result ≡ Err r) ↔ flow_rows.FirstRule notes here s i r

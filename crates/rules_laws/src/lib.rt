@@ -5,7 +5,7 @@
 ghost use Rattle.std.specs.Prelude.{◌≡◌, ◌<◌, ◌^◌, length};
 ghost use Rattle.ebc_insn.specs.Spelling.{WellFormed};
 ghost use Rattle.note_types.specs.Records.{Ascends};
-ghost use Rattle.rules_laws.specs.Exact.{DataFirst, DataRelated, FlowFirst, FlowRelated};
+ghost use Rattle.rules_laws.specs.Exact.{DataFirst, DataRelated, FlowFirst, FlowGiven, FlowRelated};
 ghost use Rattle.rules_laws.specs.Keeping.{DataKeeps, FlowKeeps};
 
 use ebc_insn::Insn;
@@ -30,9 +30,9 @@ pub fn data_answer(notes: &Notes, here: &Here, s: &State, i: &Insn) -> Result<St
     after_data(notes, here, s, i)
 }
 
-/// `rules_flow::after_flow`, with what follows from its rows: its successors are exactly the places and states with which
-/// the instruction goes on, its error is the first of the rules by which the row fails, and a state of a function leads to
-/// states of that function.
+/// `rules_flow::after_flow`, with what follows from its rows: its successors are exactly those that the row gives, so that a
+/// fall isn't told as a jump, and exactly the places and states with which the instruction goes on; its error is the first of
+/// the rules by which the row fails, and a state of a function leads to states of that function.
 ///
 /// # Errors
 ///
@@ -41,6 +41,7 @@ pub fn flow_answer(notes: &Notes, here: &Here, s: &State, i: &Insn) -> Result<Su
     requires thunks { length notes.now.thunk < 2 ^ 32 }
     requires ascend { Ascends notes.now }
     requires well_formed { WellFormed i.now }
+    ensures given { FlowGiven notes.now here.now s.now i.now result }
     ensures related { FlowRelated notes.now here.now s.now i.now result }
     ensures first { FlowFirst notes.now here.now s.now i.now result }
     ensures keeps { FlowKeeps notes.now here.now s.now result }
