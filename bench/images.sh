@@ -2,13 +2,14 @@
 # Times the reader of images by crates/image_bench, on a file of nearly 4 MiB with 100,013 relocations, against a copy of the
 # same bytes, and prints microseconds of the processor a reading and a copy, and their ratio in hundredths. The program builds
 # its file once and reads or copies it as often as told, so one takes a 400th of what 401 take longer than one. Each time is
-# the best of five runs. The program is proved and built first where it isn't there.
+# the best of five runs. The program is proved and built first where it isn't current.
 set -eu
-top=$(cd "$(dirname "${BASH_SOURCE[0]}")/.." && pwd)
+top=$(CDPATH='' cd -- "$(dirname -- "${BASH_SOURCE[0]}")/.." >/dev/null && pwd -P)
 program=$top/crates/image_bench/out/image_bench
 TIMEFORMAT='%3U %3S'
 
-[ -x "$program" ] || (cd "$top/crates/image_bench" && rt run -- read 2 >/dev/null)
+. "$top/scripts/program.sh"
+build image_bench read 2
 
 # Milliseconds of the processor that the shortest of five runs of so much work takes.
 shortest() {
