@@ -1,7 +1,7 @@
 -- Laws of memories, for the crates above.
 use Rattle.std.proofs.Common.{◌≡◌, ℕ, zero, suc, ◌+◌, ◌-◌, ◌*◌, ◌%◌, ◌^◌, ◌<◌, ◌≤◌, ◌⊎◌, inl, inr, ⊎_elim, Bool, true, false, cond, if◌then◌else◌, ◌||◌, List, [], ◌∷◌, length, map, drop, replicate, get_or, refl, sym, ap, ap₂, subst, subst₂, ◌∙◌, arith, Option, Some, None}
 use Rattle.std.specs.Prelude.{slice_get, slice_index, All, AllPairs}
-use Rattle.std.proofs.lemmas.Option.{same_Some, slice_get_within, slice_get-get_or, get_or_from_slice_get}
+use Rattle.std.proofs.lemmas.Option.{none-some, same_Some, slice_get_within, slice_get-get_or, get_or_from_slice_get}
 use Rattle.std.specs.List.{list_any, find}
 use Rattle.std.specs.Option.{option_map_or, option_or}
 use Rattle.std.proofs.lemmas.List.Sums.{sum_by_push}
@@ -18,7 +18,7 @@ use Rattle.object_memory.specs.declared.ObjId.{ObjId}
 use Rattle.object_memory.proofs.Lists.{sum_by-map, get_or-zeros, find_none}
 use Rattle.ebc_width.specs.Bytes.{little_endian, put, overlaid, window}
 use Rattle.ebc_width.specs.Ranges.{covers, holds}
-use Rattle.object_memory.specs.Memory.{Object, Memory, range_of, ranges, has_byte, object_at, byte_of, byte_at, held_number, rest_from, object_with, with_bytes, memory_after, memory_filled, padded, used, first_base, next_base, placed, top_limit, IsPlaced, LiesBelow, IsMemory, IsOwner}
+use Rattle.object_memory.specs.Memory.{Object, Memory, range_of, ranges, has_byte, object_at, byte_of, byte_at, held_number, rest_from, offset_of, object_with, with_bytes, memory_after, memory_filled, padded, used, first_base, next_base, placed, top_limit, IsPlaced, LiesBelow, IsMemory, IsOwner}
 
 -- ---- what a memory holds
 
@@ -56,6 +56,24 @@ held_number-held m a k held = rw held refl
 pub held_number-absent : (m : Memory) (a k : ℕ) → holds (ranges m) a k ≡ false → held_number m a k ≡ None
 unfolding held_number
 held_number-absent m a k absent = rw absent refl
+
+pub offset_of-held : (w : ℕ) (m : Memory) (x : ℕ) → holds (ranges m) x 1 ≡ true → offset_of w m x ≡ Some (x - first_base w)
+unfolding offset_of
+offset_of-held w m x held = rw held refl
+
+pub offset_of-absent : (w : ℕ) (m : Memory) (x : ℕ) → holds (ranges m) x 1 ≡ false → offset_of w m x ≡ None
+unfolding offset_of
+offset_of-absent w m x absent = rw absent refl
+
+-- the byte at an offset is held, at the offset past the first base
+pub offset_of-some : (w : ℕ) (m : Memory) (x i : ℕ) → offset_of w m x ≡ Some i → (holds (ranges m) x 1 ≡ true) × (x - first_base w ≡ i)
+unfolding offset_of
+offset_of-some w m x i is = either (holds (ranges m) x 1) refl is
+  where
+    either : (held : Bool) → holds (ranges m) x 1 ≡ held → (if held then Some (x - first_base w) else None) ≡ Some i
+        → (holds (ranges m) x 1 ≡ true) × (x - first_base w ≡ i)
+    either true held some = (held, same_Some (x - first_base w) i some)
+    either false held none = absurd (none-some i none)
 
 pub memory_after-held : (m : Memory) (a k v : ℕ) → holds (ranges m) a k ≡ true → memory_after m a k v ≡ with_bytes m (put (byte_at m) a k v)
 unfolding memory_after
@@ -263,6 +281,12 @@ byte_at-above w m x memory above = byte_at-none m x (either (holds (ranges m) x 
     either : (held : Bool) → holds (ranges m) x 1 ≡ held → holds (ranges m) x 1 ≡ false
     either true is = absurd (omega (arith, above, (holds-bounds w m x 1 memory is).1))
     either false is = is
+
+-- no two addresses have one offset
+pub offset_of-alone : (w : ℕ) (m : Memory) (x y i : ℕ) → IsMemory w m → offset_of w m x ≡ Some i → offset_of w m y ≡ Some i → x ≡ y
+offset_of-alone w m x y i memory at also =
+    let here = offset_of-some w m x i at in let there = offset_of-some w m y i also in
+    omega (arith, here.1, there.1, (holds-bounds w m x 1 memory here.0).0, (holds-bounds w m y 1 memory there.0).0)
 
 -- no address that is held wraps
 pub holds-no_wrap : (w : ℕ) (m : Memory) (a k : ℕ) → IsMemory w m → holds (ranges m) a k ≡ true → a + k ≤ 2 ^ (8 * w)

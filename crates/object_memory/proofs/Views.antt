@@ -1,24 +1,62 @@
 -- The memory that lies in spans and cells: what it holds, and what a new span and new cells make of it.
-use Rattle.std.proofs.Common.{◌≡◌, ℕ, zero, suc, ◌+◌, ◌-◌, ◌*◌, ◌/◌, ◌<◌, ◌≤◌, ◌⊎◌, inl, inr, ⊎_elim, Bool, true, false, cond, List, [], ◌∷◌, ◌++◌, length, map, take, drop, replicate, get_or, refl, sym, ap, ap₂, subst, ◌∙◌, arith, Option, Some, length-append}
+use Rattle.std.proofs.Common.{◌≡◌, ℕ, zero, suc, ◌+◌, ◌-◌, ◌*◌, ◌/◌, ◌^◌, ◌<◌, ◌≤◌, ⊎_elim, Bool, true, false, cond, List, [], ◌∷◌, ◌++◌, length, map, take, drop, replicate, get_or, refl, sym, ap, ap₂, subst, subst₂, ◌∙◌, arith, Option, Some, length-append}
 use Rattle.std.specs.Prelude.{All, sum_by, slice_get, slice_index}
 use Rattle.std.specs.List.{find}
 use Rattle.std.specs.Option.{option_map, option_map_or}
-use Rattle.std.proofs.lemmas.Bool.{cases_lt, true≢false, or_cases, or_left, or_right}
-use Rattle.std.proofs.lemmas.List.{ext_get_or, drop-take, drop-drop, get_or-take, get_or-drop, get_or_append_left, get_or-append_right, get_or-map, length-map, length-take-le, drop-append-le, take-append-le, drop_at, map_push, length-drop, length-replicate, length_push, take-replicate}
+use Rattle.std.proofs.lemmas.Bool.{true≢false, or_cases, or_left, or_right}
+use Rattle.std.proofs.lemmas.List.{ext_get_or, drop-take, drop-drop, get_or-take, get_or-drop, get_or-map, length-map, length-take-le, map_push, length-drop, length-replicate, length_push}
 use Rattle.std.proofs.lemmas.Option.{get_or_from_slice_get, slice_get_within, slice_get-map, same_Some}
 use Rattle.std.proofs.lemmas.List.Elements.{All-head, All-tail, All-push, All-weaker, All-map}
 use Rattle.std.proofs.lemmas.List.Quantifiers.{all_pairs_push}
 use Rattle.std.proofs.lemmas.List.Sums.{sum_by_push}
 use Rattle.ebc_width.specs.Bytes.{little_endian, put, overlaid, window}
-use Rattle.object_memory.specs.Memory.{Object, Memory, ranges, has_byte, object_at, byte_of, byte_at, held_number, memory_after, memory_filled, rest_from, object_with, with_bytes, padded, used, first_base, next_base, placed, IsPlaced, IsMemory}
+use Rattle.object_memory.specs.Memory.{Object, Memory, ranges, has_byte, object_at, byte_of, byte_at, held_number, memory_after, memory_filled, rest_from, object_with, with_bytes, padded, used, first_base, next_base, placed, top_limit, IsPlaced, IsMemory}
+use Rattle.ebc_width.specs.Width.{IsWidth}
 use Rattle.ebc_width.specs.Ranges.{covers, holds}
 use Rattle.object_memory.specs.declared.span.Span.{Span}
 use Rattle.object_memory.specs.Layout.{span_range, EndsBelow, IsSpan, IsSpanOf, object_of, memory_of, IsLayout, IsKept, IsFound}
 use Rattle.object_memory.proofs.Lists.{sum_by-map, get_or-zeros}
 use Rattle.object_memory.proofs.Search.{AreHomes-next}
 use Rattle.ebc_width.proofs.ByteLaws.{little_endian-moved, put-moved, overlaid-moved, length-window, get_or-window}
-use Rattle.ebc_width.proofs.RangeLaws.{holds-at, holds-within}
+use Rattle.ebc_width.proofs.RangeLaws.{covers-bounds, holds-at, holds-within}
 use Rattle.object_memory.proofs.Laws.{object_at-found, byte_at-none, held_number-held, memory_after-held, memory_filled-held, rest_from-found, limit-no_wrap}
+
+-- ---- a new memory
+
+zeros_below : (limit i : ℕ) (cells : List ℕ) → cells ≡ replicate limit 0 → slice_index cells i ≡ 0
+zeros_below limit i cells is = ap (λ cs. slice_index cs i) is ∙ get_or-zeros limit i
+
+pub IsKept-empty : (w limit most room index_room : ℕ) (spans : List Span) (cells homes : List ℕ) → IsWidth w → limit ≤ top_limit w
+    → spans ≡ [] → cells ≡ replicate limit 0 → homes ≡ [] → most < 2 ^ 32 → most ≤ room → limit / 16 ≤ index_room
+    → IsKept w spans cells homes most room index_room
+IsKept-empty w limit most room index_room spans cells homes width bounded no_spans zeros no_homes small rooms indexes =
+    let long : length cells ≡ limit = ap length zeros ∙ length-replicate limit 0 in
+    subst₂ (λ ss hs. IsKept w ss cells hs most room index_room) (sym no_spans) (sym no_homes) (record {
+      layout = record {
+        width = width;
+        inside = λ i d within. absurd (omega arith);
+        apart = λ i j d less within. absurd (omega arith);
+        whole = refl;
+        within = omega arith;
+        few = omega arith;
+        bounded = omega (arith, long, bounded);
+        bytes = λ i. rw (zeros_below limit i cells zeros) (omega arith);
+        zeros = λ i from. zeros_below limit i cells zeros;
+        small = small;
+        spans_reserved = rooms;
+      };
+      are = record {
+        above = λ i d within. absurd (omega arith);
+        numbers = λ i d within. absurd (omega arith);
+        found = λ i a s at from to. absurd (omega (arith, slice_get_within [] i s at));
+      };
+      homes_reserved = rw long indexes;
+    })
+
+pub memory_of-empty : (w limit most : ℕ) (spans : List Span) (cells : List ℕ) → spans ≡ [] → cells ≡ replicate limit 0
+    → memory_of w spans cells (length cells) most ≡ record { objects = []; byte_limit = limit; object_limit = most }
+memory_of-empty w limit most spans cells no_spans zeros =
+    ap₂ (λ ss n. memory_of w ss cells n most) no_spans (ap length zeros ∙ length-replicate limit 0)
 
 -- ---- a new span
 
@@ -26,81 +64,79 @@ use Rattle.object_memory.proofs.Laws.{object_at-found, byte_at-none, held_number
 pub used-memory_of : (w : ℕ) (spans : List Span) (cells : List ℕ) (limit most : ℕ) → used (memory_of w spans cells limit most) ≡ sum_by (λ s. padded s.size) spans
 used-memory_of w spans cells limit most = sum_by-map (λ o. padded o.size) (object_of w cells) spans
 
--- zeros behind all cells change no object
-object_of-append : (w : ℕ) (cells zeros : List ℕ) (s : Span) → IsSpan w (length cells) s → object_of w (cells ++ zeros) s ≡ object_of w cells s
-object_of-append w cells zeros s inside =
-    let within : s.base - first_base w ≤ length cells = omega (arith, inside.above, inside.below) in
-    let room : s.size ≤ length (drop (s.base - first_base w) cells) = rw (length-drop (s.base - first_base w) cells) (omega (arith, inside.above, inside.below)) in
-    ap (λ bytes. record { base = s.base; size = s.size; bytes = bytes })
-    (rw (drop-append-le (s.base - first_base w) cells zeros within) (take-append-le s.size (drop (s.base - first_base w) cells) zeros room))
+-- the span behind the cells that are taken
+abbrev pub next_span : ℕ → ℕ → ℕ → Span
+next_span w count n = record { base = first_base w + count; size = n }
 
-objects-append : (w : ℕ) (cells zeros : List ℕ) (spans : List Span) → All (IsSpan w (length cells)) spans → map (object_of w (cells ++ zeros)) spans ≡ map (object_of w cells) spans
-objects-append w cells zeros [] inside = refl
-objects-append w cells zeros (s ∷ spans) inside =
-    ap₂ (λ o os. o ∷ os)
-    (object_of-append w cells zeros s (All-head (IsSpan w (length cells)) s spans inside))
-    (objects-append w cells zeros spans (All-tail (IsSpan w (length cells)) s spans inside))
+-- cells that are zeros from one on
+zeros_taken : (cells : List ℕ) (count n : ℕ) → ((i : ℕ) → count ≤ i → slice_index cells i ≡ 0) → count + n ≤ length cells
+    → take n (drop count cells) ≡ replicate n 0
+zeros_taken cells count n zeros room =
+    let long : length (take n (drop count cells)) ≡ n = length-take-le n (drop count cells) (rw (length-drop count cells) (omega arith)) in
+    ext_get_or 0 (take n (drop count cells)) (replicate n 0) (long ∙ sym (length-replicate n 0)) (λ i within.
+    let below : i < n = rw long at within in
+    get_or-take n (drop count cells) i 0 below ∙ get_or-drop count cells i 0 ∙ zeros (count + i) (omega arith) ∙ sym (get_or-zeros n i))
 
--- the span behind all cells
-abbrev pub next_span : ℕ → List ℕ → ℕ → Span
-next_span w cells n = record { base = first_base w + length cells; size = n }
+object_of-next_span : (w : ℕ) (cells : List ℕ) (count n : ℕ) → ((i : ℕ) → count ≤ i → slice_index cells i ≡ 0)
+    → count + padded n ≤ length cells
+    → object_of w cells (next_span w count n) ≡ record { base = first_base w + count; size = n; bytes = replicate n 0 }
+object_of-next_span w cells count n zeros room =
+    let from : first_base w + count - first_base w ≡ count = omega arith in
+    ap (λ bytes. record { base = first_base w + count; size = n; bytes = bytes }) (rw from (zeros_taken cells count n zeros (omega arith)))
 
-object_of-next_span : (w : ℕ) (cells : List ℕ) (n : ℕ) → object_of w (cells ++ replicate (padded n) 0) (next_span w cells n) ≡ record { base = first_base w + length cells; size = n; bytes = replicate n 0 }
-object_of-next_span w cells n =
-    let from : first_base w + length cells - first_base w ≡ length cells = omega arith in
-    let within : n ≤ padded n = omega arith in
-    ap (λ bytes. record { base = first_base w + length cells; size = n; bytes = bytes })
-    (rw (from, drop_at cells (replicate (padded n) 0) (length cells) refl) (take-replicate n (padded n) 0 within))
-
-pub memory_of-next_span : (w : ℕ) (spans : List Span) (cells : List ℕ) (limit most n : ℕ) → All (IsSpan w (length cells)) spans → length cells ≡ sum_by (λ s. padded s.size) spans → memory_of w (spans ++ next_span w cells n ∷ []) (cells ++ replicate (padded n) 0) limit most ≡ placed w (memory_of w spans cells limit most) n
+pub memory_of-next_span : (w : ℕ) (spans : List Span) (cells : List ℕ) (limit most count room n : ℕ)
+    → IsLayout w spans cells count most room → count + padded n ≤ length cells
+    → memory_of w (spans ++ next_span w count n ∷ []) cells limit most ≡ placed w (memory_of w spans cells limit most) n
 unfolding placed
-memory_of-next_span w spans cells limit most n inside whole =
-    let zeros : List ℕ = replicate (padded n) 0 in
-    let taken : used (memory_of w spans cells limit most) ≡ length cells = used-memory_of w spans cells limit most ∙ sym whole in
+memory_of-next_span w spans cells limit most count room n layout fits =
+    let taken : used (memory_of w spans cells limit most) ≡ count = used-memory_of w spans cells limit most ∙ sym layout.whole in
     ap (λ objects. record { objects = objects; byte_limit = limit; object_limit = most })
-    (map_push (object_of w (cells ++ zeros)) spans (next_span w cells n)
-    ∙ ap₂ (λ os o. os ++ o ∷ [])
-    (objects-append w cells zeros spans inside)
-    (object_of-next_span w cells n ∙ ap (λ k. record { base = first_base w + k; size = n; bytes = replicate n 0 }) (sym taken)))
+    (map_push (object_of w cells) spans (next_span w count n)
+    ∙ ap (λ o. map (object_of w cells) spans ++ o ∷ [])
+    (object_of-next_span w cells count n layout.zeros fits ∙ ap (λ k. record { base = first_base w + k; size = n; bytes = replicate n 0 }) (sym taken)))
 
-IsLayout-next_span : (w : ℕ) (spans : List Span) (cells : List ℕ) (limit most room space more_room more_space n : ℕ) → IsLayout w spans cells limit most room space → 1 ≤ n → length cells + padded n ≤ limit → length spans < most → room ≤ more_room → space ≤ more_space → IsLayout w (spans ++ next_span w cells n ∷ []) (cells ++ replicate (padded n) 0) limit most more_room more_space
-IsLayout-next_span w spans cells limit most room space more_room more_space n was some fits more rooms spaces =
-    let count : length (cells ++ replicate (padded n) 0) ≡ length cells + padded n = length-append cells (replicate (padded n) 0) ∙ ap (λ k. length cells + k) (length-replicate (padded n) 0) in
-    record {
-      width = was.width;
-      inside = rw count (All-push (IsSpan w (length cells + padded n)) spans (next_span w cells n)
-          (All-weaker (IsSpan w (length cells)) (IsSpan w (length cells + padded n)) (λ s inside. record { above = inside.above; below = omega (arith, inside.below); some = inside.some }) spans was.inside)
-          (record { above = omega arith; below = omega arith; some = some }));
-      apart = all_pairs_push EndsBelow spans (next_span w cells n) was.apart (λ k d within. (was.inside k d within).below);
-      whole = count ∙ (ap (λ k. k + padded n) was.whole ∙ sym (sum_by_push (λ s. padded s.size) spans (next_span w cells n)));
-      within = rw count fits;
-      few = rw (length_push spans (next_span w cells n)) (omega arith);
-      bounded = was.bounded;
-      bytes = λ i. bytes_with_zeros i (cases_lt i (length cells));
-      small = was.small;
-      cells_reserved = omega (arith, was.cells_reserved);
-      spans_reserved = omega (arith, was.spans_reserved);
-    }
-  where
-    bytes_with_zeros : (i : ℕ) → (i < length cells) ⊎ (length cells ≤ i) → get_or (cells ++ replicate (padded n) 0) i 0 < 256
-    bytes_with_zeros i (inl below) = rw (get_or_append_left cells (replicate (padded n) 0) 0 i below) (was.bytes i)
-    bytes_with_zeros i (inr above) = rw (get_or-append_right cells (replicate (padded n) 0) (length cells) i 0 refl above, get_or-zeros (padded n) (i - length cells)) (omega arith)
+IsLayout-next_span : (w : ℕ) (spans : List Span) (cells : List ℕ) (count most room more_room n : ℕ) → IsLayout w spans cells count most room
+    → 1 ≤ n → count + padded n ≤ length cells → length spans < most → room ≤ more_room
+    → IsLayout w (spans ++ next_span w count n ∷ []) cells (count + padded n) most more_room
+IsLayout-next_span w spans cells count most room more_room n was some fits more rooms = record {
+  width = was.width;
+  inside = All-push (IsSpan w (count + padded n)) spans (next_span w count n)
+      (All-weaker (IsSpan w count) (IsSpan w (count + padded n)) (λ s inside. record { above = inside.above; below = omega (arith, inside.below); some = inside.some }) spans was.inside)
+      (record { above = omega arith; below = omega arith; some = some });
+  apart = all_pairs_push EndsBelow spans (next_span w count n) was.apart (λ k d within. (was.inside k d within).below);
+  whole = ap (λ k. k + padded n) was.whole ∙ sym (sum_by_push (λ s. padded s.size) spans (next_span w count n));
+  within = fits;
+  few = rw (length_push spans (next_span w count n)) (omega arith);
+  bounded = was.bounded;
+  bytes = was.bytes;
+  zeros = λ i from. was.zeros i (omega arith);
+  small = was.small;
+  spans_reserved = omega (arith, was.spans_reserved);
+}
 
-pub IsKept-next_span : (w : ℕ) (spans : List Span) (cells homes : List ℕ) (limit most room space index_room more_room more_space more_index n : ℕ) → IsKept w spans cells homes limit most room space index_room → 1 ≤ n → length cells + padded n ≤ limit → length spans < most → room ≤ more_room → space ≤ more_space → index_room ≤ more_index → IsKept w (spans ++ next_span w cells n ∷ []) (cells ++ replicate (padded n) 0) (homes ++ replicate (padded n / 16) (length spans)) limit most more_room more_space more_index
-IsKept-next_span w spans cells homes limit most room space index_room more_room more_space more_index n was some fits more rooms spaces indexes =
-    let count : length (cells ++ replicate (padded n) 0) ≡ length cells + padded n = length-append cells (replicate (padded n) 0) ∙ ap (λ k. length cells + k) (length-replicate (padded n) 0) in
+pub IsKept-next_span : (w : ℕ) (spans : List Span) (cells homes : List ℕ) (most room index_room more_room more_index n : ℕ)
+    → IsKept w spans cells homes most room index_room → 1 ≤ n → 16 * length homes + padded n ≤ length cells → length spans < most
+    → room ≤ more_room → index_room ≤ more_index
+    → IsKept w (spans ++ next_span w (16 * length homes) n ∷ []) cells
+    (homes ++ replicate (padded n / 16) (length spans)) most more_room more_index
+IsKept-next_span w spans cells homes most room index_room more_room more_index n was some fits more rooms indexes =
     let places : length (homes ++ replicate (padded n / 16) (length spans)) ≡ length homes + padded n / 16 = length-append homes (replicate (padded n / 16) (length spans)) ∙ ap (λ k. length homes + k) (length-replicate (padded n / 16) (length spans)) in
-    let whole : 16 * length homes ≡ length cells = was.index.whole in
+    let count : 16 * length homes + padded n ≡ 16 * length (homes ++ replicate (padded n / 16) (length spans)) = rw places (omega arith) in
     record {
-      layout = IsLayout-next_span w spans cells limit most room space more_room more_space n was.layout some fits more rooms spaces;
-      index = record {
-        are = AreHomes-next (first_base w) (length cells) n spans homes was.index.are was.index.whole;
-        whole = rw (places, count) (omega arith);
-        reserved = omega (arith, was.index.reserved, indexes);
-      };
+      layout = subst (λ k. IsLayout w (spans ++ next_span w (16 * length homes) n ∷ []) cells k most more_room) count
+          (IsLayout-next_span w spans cells (16 * length homes) most room more_room n was.layout some fits more rooms);
+      are = AreHomes-next (first_base w) (16 * length homes) n spans homes was.are refl;
+      homes_reserved = omega (arith, was.homes_reserved, indexes);
     }
 
 -- ---- what is held
+
+-- spans are inside all cells
+pub inside_cells : (w : ℕ) (spans : List Span) (cells : List ℕ) (count most room : ℕ) → IsLayout w spans cells count most room
+    → All (IsSpan w (length cells)) spans
+inside_cells w spans cells count most room layout =
+    All-weaker (IsSpan w count) (IsSpan w (length cells))
+    (λ s inside. record { above = inside.above; below = omega (arith, inside.below, layout.within); some = inside.some }) spans layout.inside
 
 -- a span of the list is inside
 pub span_inside : (w count : ℕ) (spans : List Span) (a k place : ℕ) (s : Span) → All (IsSpan w count) spans → IsSpanOf spans a k place s → IsSpan w count s
@@ -144,18 +180,20 @@ byte_at-memory_of w spans cells limit most x inside held =
 
 -- ---- what is found
 
-pub next_base-memory_of : (w : ℕ) (spans : List Span) (cells : List ℕ) (limit most : ℕ) → length cells ≡ sum_by (λ s. padded s.size) spans → next_base w (memory_of w spans cells limit most) ≡ first_base w + length cells
-next_base-memory_of w spans cells limit most whole = ap (λ n. first_base w + n) (used-memory_of w spans cells limit most ∙ sym whole)
+pub next_base-memory_of : (w : ℕ) (spans : List Span) (cells : List ℕ) (limit most count : ℕ) → count ≡ sum_by (λ s. padded s.size) spans
+    → next_base w (memory_of w spans cells limit most) ≡ first_base w + count
+next_base-memory_of w spans cells limit most count whole = ap (λ n. first_base w + n) (used-memory_of w spans cells limit most ∙ sym whole)
 
 holds-found : (w : ℕ) (spans : List Span) (cells : List ℕ) (limit most a k place : ℕ) (s : Span) → slice_get spans place ≡ Some s → covers a k (span_range s) ≡ true → holds (ranges (memory_of w spans cells limit most)) a k ≡ true
 holds-found w spans cells limit most a k place s at covered =
     holds-memory_of w spans cells limit most a k
     ∙ holds-at (map span_range spans) a k place (span_range s) (slice_get-map span_range spans place ∙ ap (option_map span_range) at) covered
 
-pub IsFound-memory_of : (w : ℕ) (spans : List Span) (cells : List ℕ) (limit most room space a k place : ℕ) (s : Span) → IsLayout w spans cells limit most room space → IsSpanOf spans a k place s → IsFound w (memory_of w spans cells limit most) a k place s
-IsFound-memory_of w spans cells limit most room space a k place s layout is =
-    let inside : IsSpan w (length cells) s = span_inside w (length cells) spans a k place s layout.inside is in
-    let next = next_base-memory_of w spans cells limit most layout.whole in
+pub IsFound-memory_of : (w : ℕ) (spans : List Span) (cells : List ℕ) (limit most count room a k place : ℕ) (s : Span)
+    → IsLayout w spans cells count most room → IsSpanOf spans a k place s → IsFound w (memory_of w spans cells limit most) a k place s
+IsFound-memory_of w spans cells limit most count room a k place s layout is =
+    let inside : IsSpan w count s = span_inside w count spans a k place s layout.inside is in
+    let next = next_base-memory_of w spans cells limit most count layout.whole in
     record {
       object = (object_of w cells s, slice_get-map (object_of w cells) spans place ∙ ap (option_map (object_of w cells)) is.at, refl, refl);
       covered = is.covered;
@@ -169,33 +207,37 @@ IsFound-memory_of w spans cells limit most room space a k place s layout is =
 abbrev origin : Span
 origin = record { base = 0; size = 0 }
 
-pub IsMemory-memory_of : (w : ℕ) (spans : List Span) (cells : List ℕ) (limit most room space : ℕ) → IsLayout w spans cells limit most room space → IsMemory w (memory_of w spans cells limit most)
-IsMemory-memory_of w spans cells limit most room space layout = record {
+pub IsMemory-memory_of : (w : ℕ) (spans : List Span) (cells : List ℕ) (most count room : ℕ) → IsLayout w spans cells count most room
+    → IsMemory w (memory_of w spans cells (length cells) most)
+IsMemory-memory_of w spans cells most count room layout = record {
   width = layout.width;
   placed = All-map (IsPlaced w memory) (object_of w cells) spans (λ i d within. is_placed (get_or spans i d) (layout.inside i d within));
   apart = λ i j d less within.
       let count : length (map (object_of w cells) spans) ≡ length spans = length-map spans (object_of w cells) in
       rw (get_or-map (object_of w cells) spans i origin d (omega arith), get_or-map (object_of w cells) spans j origin d (omega arith)) (layout.apart i j origin less (omega arith));
   bytes = λ x. byte x (holds (ranges memory) x 1) refl;
-  no_wrap = limit-no_wrap w limit layout.width layout.bounded;
-  bytes_kept = rw (used-memory_of w spans cells limit most, ← layout.whole) layout.within;
+  no_wrap = limit-no_wrap w (length cells) layout.width layout.bounded;
+  bytes_kept = rw (used-memory_of w spans cells (length cells) most, ← layout.whole) layout.within;
   objects_kept = rw (length-map spans (object_of w cells)) layout.few;
 }
   where
     memory : Memory
-    memory = memory_of w spans cells limit most
+    memory = memory_of w spans cells (length cells) most
 
-    is_placed : (s : Span) → IsSpan w (length cells) s → IsPlaced w (memory_of w spans cells limit most) (object_of w cells s)
+    is_placed : (s : Span) → IsSpan w count s → IsPlaced w (memory_of w spans cells (length cells) most) (object_of w cells s)
     is_placed s inside = record {
       above = inside.above;
-      below = rw (next_base-memory_of w spans cells limit most layout.whole) inside.below;
+      below = rw (next_base-memory_of w spans cells (length cells) most count layout.whole) inside.below;
       some = inside.some;
-      whole = length-take-le s.size (drop (s.base - first_base w) cells) (rw (length-drop (s.base - first_base w) cells) (omega (arith, inside.above, inside.below)));
+      whole = length-take-le s.size (drop (s.base - first_base w) cells)
+          (rw (length-drop (s.base - first_base w) cells) (omega (arith, inside.above, inside.below, layout.within)));
     }
 
-    byte : (x : ℕ) (held : Bool) → holds (ranges (memory_of w spans cells limit most)) x 1 ≡ held → byte_at (memory_of w spans cells limit most) x < 256
-    byte x true is = rw (byte_at-memory_of w spans cells limit most x layout.inside is) (layout.bytes (x - first_base w))
-    byte x false is = rw (byte_at-none (memory_of w spans cells limit most) x is) (omega arith)
+    byte : (x : ℕ) (held : Bool) → holds (ranges (memory_of w spans cells (length cells) most)) x 1 ≡ held
+        → byte_at (memory_of w spans cells (length cells) most) x < 256
+    byte x true is = rw (byte_at-memory_of w spans cells (length cells) most x (inside_cells w spans cells count most room layout) is)
+        (layout.bytes (x - first_base w))
+    byte x false is = rw (byte_at-none (memory_of w spans cells (length cells) most) x is) (omega arith)
 
 -- ---- what is loaded
 
@@ -295,26 +337,31 @@ memory_filled-memory_of w spans cells written over limit most a place inside hel
     memory : Memory
     memory = memory_of w spans cells limit most
 
-IsLayout-written : (w : ℕ) (spans : List Span) (cells written : List ℕ) (limit most room space : ℕ) → IsLayout w spans cells limit most room space → length written ≡ length cells → ((i : ℕ) → slice_index written i < 256) → IsLayout w spans written limit most room space
-IsLayout-written w spans cells written limit most room space was same bytes = record {
+IsLayout-written : (w : ℕ) (spans : List Span) (cells written : List ℕ) (count most room : ℕ) → IsLayout w spans cells count most room
+    → length written ≡ length cells → ((i : ℕ) → slice_index written i < 256)
+    → ((i : ℕ) → count ≤ i → slice_index written i ≡ slice_index cells i) → IsLayout w spans written count most room
+IsLayout-written w spans cells written count most room was same bytes behind = record {
   width = was.width;
-  inside = rw same was.inside;
+  inside = was.inside;
   apart = was.apart;
-  whole = same ∙ was.whole;
+  whole = was.whole;
   within = rw same was.within;
   few = was.few;
-  bounded = was.bounded;
+  bounded = rw same was.bounded;
   bytes = bytes;
+  zeros = λ i from. behind i from ∙ was.zeros i from;
   small = was.small;
-  cells_reserved = was.cells_reserved;
   spans_reserved = was.spans_reserved;
 }
 
--- cells that are written change no span and no home
-pub IsKept-written : (w : ℕ) (spans : List Span) (cells written homes : List ℕ) (limit most room space index_room : ℕ) → IsKept w spans cells homes limit most room space index_room → length written ≡ length cells → ((i : ℕ) → slice_index written i < 256) → IsKept w spans written homes limit most room space index_room
-IsKept-written w spans cells written homes limit most room space index_room was same bytes = record {
-  layout = IsLayout-written w spans cells written limit most room space was.layout same bytes;
-  index = record { are = was.index.are; whole = was.index.whole ∙ sym same; reserved = was.index.reserved };
+-- cells that are written, none behind those that are taken, change no span and no home
+pub IsKept-written : (w : ℕ) (spans : List Span) (cells written homes : List ℕ) (most room index_room : ℕ)
+    → IsKept w spans cells homes most room index_room → length written ≡ length cells → ((i : ℕ) → slice_index written i < 256)
+    → ((i : ℕ) → 16 * length homes ≤ i → slice_index written i ≡ slice_index cells i) → IsKept w spans written homes most room index_room
+IsKept-written w spans cells written homes most room index_room was same bytes behind = record {
+  layout = IsLayout-written w spans cells written (16 * length homes) most room was.layout same bytes behind;
+  are = was.are;
+  homes_reserved = rw same was.homes_reserved;
 }
 
 -- ---- the rest of an object
@@ -344,3 +391,15 @@ rest_from-memory_of w spans cells limit most x i s memory found =
     let to : x ≤ s.base + s.size = grind arith in
     rest_from-found (memory_of w spans cells limit most) x o (object_at-found (memory_of w spans cells limit most) x i o memory.apart at covered)
     ∙ ap Some (ap (drop (x - o.base)) (bytes-memory_of w cells spans i o at) ∙ rw (base, size) (rest_cells cells (first_base w) s.base s.size x found.above from to))
+
+-- ---- what the answers of the calls share
+
+-- a range that is held lies in the cells that are taken
+pub held_below : (w : ℕ) (spans : List Span) (cells : List ℕ) (count most room a k number place : ℕ) (s : Span) (m : Memory)
+    → IsLayout w spans cells count most room → memory_of w spans cells (length cells) most ≡ m → IsFound w m a k number s
+    → first_base w + place ≡ a → place + k ≤ count
+held_below w spans cells count most room a k number place s m layout is found from =
+    let next : next_base w m ≡ first_base w + count = ap (next_base w) (sym is) ∙ next_base-memory_of w spans cells
+    (length cells) most count layout.whole in
+    let bounds = covers-bounds (span_range s) a k found.covered in
+    omega (arith, bounds.1, found.below, next)

@@ -1,4 +1,5 @@
--- How a memory of objects lies in one list of cells: the byte at an address is the cell at the address less the first base.
+-- How a memory of objects lies in the bytes of one region, its cells: the byte at an address is the cell at the address less the
+-- first base.
 -- This is how the crate keeps a memory (docs/DECISIONS.md, on the modelled host's memory). No caller sees it.
 use Rattle.std.specs.Prelude.{◌≡◌, ℕ, ◌+◌, ◌-◌, ◌*◌, ◌/◌, ◌^◌, ◌<◌, ◌≤◌, List, length, map, take, drop, sum_by, All, AllPairs, slice_get, slice_index, Some, true}
 use Rattle.ebc_width.specs.Width.{IsWidth}
@@ -28,18 +29,18 @@ object_of w cells s = record { base = s.base; size = s.size; bytes = take s.size
 abbrev pub memory_of : ℕ → List Span → List ℕ → ℕ → ℕ → Memory
 memory_of w spans cells limit most = record { objects = map (object_of w cells) spans; byte_limit = limit; object_limit = most }
 
--- What holds of the parts of a memory; `room` and `space` are what is reserved for spans and for cells.
-pub record IsLayout (w : ℕ) (spans : List Span) (cells : List ℕ) (limit most room space : ℕ) : Type 0 where
+-- What holds of the parts of a memory, of whose cells the first `count` are taken; `room` is what is reserved for spans.
+pub record IsLayout (w : ℕ) (spans : List Span) (cells : List ℕ) (count most room : ℕ) : Type 0 where
   pub width : IsWidth w
-  pub inside : All (IsSpan w (length cells)) spans
+  pub inside : All (IsSpan w count) spans
   pub apart : AllPairs EndsBelow spans
-  pub whole : length cells ≡ sum_by (λ s. padded s.size) spans
-  pub within : length cells ≤ limit
+  pub whole : count ≡ sum_by (λ s. padded s.size) spans
+  pub within : count ≤ length cells
   pub few : length spans ≤ most
-  pub bounded : limit ≤ top_limit w
+  pub bounded : length cells ≤ top_limit w
   pub bytes : (i : ℕ) → slice_index cells i < 256
+  pub zeros : (i : ℕ) → count ≤ i → slice_index cells i ≡ 0
   pub small : most < 2 ^ 32
-  pub cells_reserved : limit ≤ space
   pub spans_reserved : most ≤ room
 
 -- Of each 16 cells the number of the span for which they were taken, with its padding and gap; the first cell lies at `first`.
@@ -48,16 +49,12 @@ pub record AreHomes (first : ℕ) (spans : List Span) (homes : List ℕ) : Type 
   pub numbers : All (λ n. n < length spans) homes
   pub found : (i a : ℕ) (s : Span) → slice_get spans i ≡ Some s → s.base ≤ a → a < s.base + padded s.size → slice_get homes ((a - first) / 16) ≡ Some i
 
--- What holds of the list of homes; `room` is what is reserved for it.
-pub record IsIndex (first : ℕ) (spans : List Span) (homes : List ℕ) (count limit room : ℕ) : Type 0 where
-  pub are : AreHomes first spans homes
-  pub whole : 16 * length homes ≡ count
-  pub reserved : limit / 16 ≤ room
-
--- What holds of all that a memory is kept in.
-pub record IsKept (w : ℕ) (spans : List Span) (cells homes : List ℕ) (limit most room space index_room : ℕ) : Type 0 where
-  pub layout : IsLayout w spans cells limit most room space
-  pub index : IsIndex (first_base w) spans homes (length cells) limit index_room
+-- What holds of all that a memory is kept in: a home for each 16 cells that are taken; `room` and `index_room` are what is
+-- reserved for spans and for homes.
+pub record IsKept (w : ℕ) (spans : List Span) (cells homes : List ℕ) (most room index_room : ℕ) : Type 0 where
+  pub layout : IsLayout w spans cells (16 * length homes) most room
+  pub are : AreHomes (first_base w) spans homes
+  pub homes_reserved : length cells / 16 ≤ index_room
 
 -- The span at this place of the list has among its bytes the k bytes from a on.
 pub record IsSpanOf (spans : List Span) (a k place : ℕ) (s : Span) : Type 0 where

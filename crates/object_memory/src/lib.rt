@@ -2,17 +2,16 @@
 //! width. Nothing is allocated once a memory is made.
 #![tactic(auto)]
 
-ghost use Rattle.std.specs.Prelude.{◌≡◌, ℕ, ◌+◌, ◌*◌, ◌^◌, ◌<◌, ◌≤◌, ◌↔◌, [], length, true, false, Err, IfOk, OnOk, OnErr, IfSome, IfNone, Some, None};
+ghost use Rattle.std.specs.Prelude.{◌≡◌, ℕ, ◌+◌, ◌*◌, ◌^◌, ◌<◌, ◌≤◌, ◌↔◌, [], length, slice_index, true, false, Err, IfOk, OnOk, OnErr, IfSome, IfNone, Some, None};
 ghost use Rattle.std.specs.Bool.{OnTrue, OnFalse};
 ghost use Rattle.ebc_width.specs.Width.{IsWidth};
 ghost use Rattle.ebc_width.specs.Bytes.{IsAccess, put, overlaid};
 ghost use Rattle.object_memory.specs.Memory.{first_base, padded, top_limit};
 
-mod number;
 mod span;
 
 pub use ebc_base::NoMemory;
-use number::{read_number, write_bytes, write_number};
+use raw_region::Region;
 use span::{Span, find_span};
 use std::alloc::Global;
 use std::marker::Model;
@@ -39,25 +38,25 @@ pub struct ObjId {
 #[derive(Drop)]
 pub struct ObjMem<const W: usize> {
     spans: Vec<Span>,
-    // The bytes from the first base on. Behind each object are zeros that belong to none.
-    cells: Vec<u8>,
-    // For each 16 cells the number of the object for which they were taken, so that a byte's object
-    // is found at once.
+    // The bytes from the first base on, as many as the limit. Behind each object are zeros that
+    // belong to none.
+    region: Region,
+    // For each 16 bytes that are taken the number of the object that took them, so that a byte's
+    // object is found at once.
     homes: Vec<u32>,
-    byte_limit: u64,
     object_limit: u32,
 }
 
 impl<const W: usize> Model for ObjMem<W> {
-    ghost use Rattle.std.specs.Prelude.{vec_capacity};
+    ghost use Rattle.std.specs.Prelude.{vec_capacity, length};
     ghost use Rattle.object_memory.specs.Memory.{Memory};
     ghost use Rattle.object_memory.specs.Layout.{memory_of, IsKept};
 
     ghost Value = { Memory };
 
-    ghost view = { λ m. memory_of W m.spans.items m.cells.items m.byte_limit m.object_limit };
+    ghost view = { λ m. memory_of W m.spans.items m.region (length m.region) m.object_limit };
 
-    ghost invariant = { λ m. IsKept W m.spans.items m.cells.items m.homes.items m.byte_limit m.object_limit (vec_capacity m.spans) (vec_capacity m.cells) (vec_capacity m.homes) };
+    ghost invariant = { λ m. IsKept W m.spans.items m.region m.homes.items m.object_limit (vec_capacity m.spans) (vec_capacity m.homes) };
 }
 
 // What an object takes: its size rounded up to 16, and a gap of 16.
@@ -71,7 +70,7 @@ fn padded_size(size: u64) -> u64
 impl<const W: usize> ObjMem<W> {
     ghost use Rattle.object_memory.specs.Layout.{IsFound};
     ghost use Rattle.ebc_width.specs.Ranges.{holds};
-    ghost use Rattle.object_memory.specs.Memory.{IsMemory, ranges, byte_at, held_number, memory_after, memory_filled, rest_from, IsOwner, used, next_base, IsFull, placed};
+    ghost use Rattle.object_memory.specs.Memory.{IsMemory, ranges, byte_at, held_number, memory_after, memory_filled, rest_from, offset_of, IsOwner, used, next_base, IsFull, placed};
 
     /// An empty memory for `limit` bytes, with the padding and gaps of objects, and for as many
     /// objects. All memory that it will use is reserved here: a quarter more than `limit`, and what
@@ -83,13 +82,12 @@ impl<const W: usize> ObjMem<W> {
         ensures memory { IfOk result (IsMemory W) }
     {
         let spans = Vec::with_capacity(alloc, objects as usize)?;
-        let cells = Vec::with_capacity(alloc, limit as usize)?;
         let homes = Vec::with_capacity(alloc, (limit / 16) as usize)?;
+        let region = Region::new(alloc, limit as usize)?;
         Ok(ObjMem {
             spans,
-            cells,
+            region,
             homes,
-            byte_limit: limit,
             object_limit: objects,
         })
     }
@@ -119,16 +117,13 @@ impl<const W: usize> ObjMem<W> {
         ensures memory { IsMemory W self.new }
     {
         let bytes = u64::from(size) * u64::from(count);
-        let before = self.cells.len() as u64;
+        let before = 16 * self.homes.len() as u64;
         let after = before + padded_size(bytes);
         let number = self.spans.len();
-        if after > self.byte_limit || number >= self.object_limit as usize {
+        if after > self.region.len() as u64 || number >= self.object_limit as usize {
             return Err(PlaceFault::Full);
         }
         let base = Self::first() + before;
-        let Ok(()) = self.cells.resize(after as usize, 0) else {
-            unreachable!();
-        };
         let Ok(()) = self.homes.resize((after / 16) as usize, number as u32) else {
             unreachable!();
         };
@@ -166,8 +161,8 @@ impl<const W: usize> ObjMem<W> {
         ensures memory { IsMemory W self.now }
     {
         let _ = self.find(addr, count as u64)?;
-        let place = (addr - Self::first()) as usize;
-        Some(read_number(&self.cells, place, count))
+        let offset = (addr - Self::first()) as usize;
+        Some(self.region.load(offset, count))
     }
 
     /// Stores the low `count` bytes of a number from an address on, the lowest byte first, and
@@ -184,8 +179,8 @@ impl<const W: usize> ObjMem<W> {
         let Some(_) = self.find(addr, count as u64) else {
             return false;
         };
-        let place = (addr - Self::first()) as usize;
-        write_number(&mut self.cells, place, count, value);
+        let offset = (addr - Self::first()) as usize;
+        self.region.store(offset, count, value);
         true
     }
 
@@ -201,8 +196,8 @@ impl<const W: usize> ObjMem<W> {
         let Some(_) = self.find(addr, bytes.len() as u64) else {
             return false;
         };
-        let place = (addr - Self::first()) as usize;
-        write_bytes(&mut self.cells, place, bytes);
+        let offset = (addr - Self::first()) as usize;
+        self.region.fill(offset, bytes);
         true
     }
 
@@ -220,6 +215,28 @@ impl<const W: usize> ObjMem<W> {
         Some((id, addr - span.base))
     }
 
+    /// The region that the objects lie in, which has as many bytes as the limit. The region's byte at
+    /// an address's offset is the memory's byte at that address.
+    pub fn region(&self) -> &Region
+        ensures limit { length result.now ≡ self.now.byte_limit }
+        ensures bytes { (x i : ℕ) → offset_of W self.now x ≡ Some i → slice_index result.now i ≡ byte_at self.now x }
+        ensures memory { IsMemory W self.now }
+    {
+        &self.region
+    }
+
+    /// Where a byte lies in the region, which is at its address less the first base: none exactly
+    /// where no object holds it. No two addresses have one offset.
+    pub fn offset(&self, addr: u64) -> Option<usize>
+        ensures offset { result ≡ offset_of W self.now addr }
+        ensures within { IfSome result (λ i. i < self.now.byte_limit) }
+        ensures alone { IfSome result (λ i. (x : ℕ) → offset_of W self.now x ≡ Some i → x ≡ addr) }
+        ensures memory { IsMemory W self.now }
+    {
+        let _ = self.find(addr, 1)?;
+        Some((addr - Self::first()) as usize)
+    }
+
     /// The bytes from an address to the end of the object that holds it, as they lie: none exactly
     /// where no object holds it.
     pub fn bytes_from(&self, addr: u64) -> Option<&[u8]>
@@ -228,88 +245,11 @@ impl<const W: usize> ObjMem<W> {
         ensures memory { IsMemory W self.now }
     {
         let (_, span) = self.find(addr, 1)?;
-        let (_, rest) = self.cells.split_at((addr - Self::first()) as usize);
+        let (_, rest) = self
+            .region
+            .bytes()
+            .split_at((addr - Self::first()) as usize);
         let (bytes, _) = rest.split_at((span.base + span.size - addr) as usize);
         Some(bytes)
-    }
-}
-
-#[cfg(test)]
-mod tests {
-    use super::*;
-    use std::test::Fail;
-
-    #[test]
-    fn objects_of_a_machine_of_four_bytes(rt: HostRuntime) -> Result<(), Fail> {
-        let mut memory = ObjMem::<4>::new(rt.alloc(), 64, 4)?;
-        let first = memory.place(8, 1)?;
-        assert_eq!(rt;
-            first,
-            ObjId {
-                number: 0,
-                base: 0x0010_0000
-            }
-        );
-
-        // 8 bytes took 32 of the 64, and 24 would take 48.
-        assert_eq!(rt; memory.place(24, 1), Err(PlaceFault::Full));
-        let second = memory.place(4, 4)?;
-        assert_eq!(rt;
-            second,
-            ObjId {
-                number: 1,
-                base: 0x0010_0020
-            }
-        );
-        assert_eq!(rt; memory.place(1, 1), Err(PlaceFault::Full));
-
-        // Past the end of the first, and from the first into the second.
-        assert_eq!(rt; memory.load(0x0010_0004, 8), None);
-        assert!(rt; !memory.holds(0x0010_0000, 48));
-        assert!(rt; !memory.store(0x0010_0006, 4, 1));
-        assert_eq!(rt; memory.load(0x0010_0004, 4), Some(0));
-
-        assert!(rt; memory.store(0x0010_0020, 2, 0x0012_ABCD));
-        assert_eq!(rt; memory.load(0x0010_0020, 1), Some(0xCD));
-        assert_eq!(rt; memory.load(0x0010_0020, 4), Some(0xABCD));
-        assert_eq!(rt;
-            memory.bytes_from(0x0010_0021).map(|bytes| bytes.len()),
-            Some(15)
-        );
-
-        assert!(rt; memory.fill(0x0010_0022, &[7, 8, 9]));
-        assert_eq!(rt; memory.load(0x0010_0020, 8), Some(0x0000_0009_0807_ABCD));
-        assert!(rt; !memory.fill(0x0010_0006, &[1, 2, 3]));
-        assert_eq!(rt; memory.load(0x0010_0000, 8), Some(0));
-
-        assert_eq!(rt; memory.owner(0x0010_0021), Some((second, 1)));
-        assert_eq!(rt; memory.owner(0x0010_0030), None);
-        assert!(rt; memory.bytes_from(0x0010_0008).is_none());
-        Ok(())
-    }
-
-    #[test]
-    fn objects_of_a_machine_of_eight_bytes(rt: HostRuntime) -> Result<(), Fail> {
-        let mut memory = ObjMem::<8>::new(rt.alloc(), 112, 2)?;
-        assert_eq!(rt; memory.place(1, 1)?.base, 0x0000_0002_0000_0000);
-        assert_eq!(rt; memory.place(1, 17)?.base, 0x0000_0002_0000_0020);
-
-        // The bytes of a third would fit, but not a third object.
-        assert_eq!(rt; memory.place(1, 1), Err(PlaceFault::Full));
-        assert_eq!(rt; memory.load(u64::MAX, 2), None);
-        Ok(())
-    }
-
-    #[test]
-    fn a_memory_of_no_objects(rt: HostRuntime) -> Result<(), Fail> {
-        let mut memory = ObjMem::<8>::new(rt.alloc(), 0, 0)?;
-        assert_eq!(rt; memory.place(1, 1), Err(PlaceFault::Full));
-        assert!(rt; !memory.holds(0x0000_0002_0000_0000, 1));
-        assert_eq!(rt; memory.load(0x0000_0002_0000_0000, 1), None);
-        assert!(rt; !memory.store(0x0000_0002_0000_0000, 1, 0));
-        assert!(rt; !memory.fill(0x0000_0002_0000_0000, &[]));
-        assert_eq!(rt; memory.owner(0), None);
-        assert!(rt; memory.bytes_from(0).is_none());
-        Ok(())
     }
 }

@@ -1,10 +1,19 @@
-use Rattle.std.proofs.Common.{List, subst, sym}
-use Rattle.object_memory.specs.declared.span.Span.{Span}
+use Rattle.std.proofs.Common.{rules, subst, sym}
 use Rattle.object_memory.specs.Memory.{IsMemory}
-use Rattle.object_memory.specs.Layout.{memory_of}
 use Rattle.object_memory.proofs.Laws.{IsMemory-empty}
+use Rattle.object_memory.proofs.Views.{IsKept-empty, memory_of-empty}
 use Rattle.object_memory.proofs.ObjMem.new.Goals as goal
+
+pub invariant_of-result : goal.invariant_of-result
+invariant_of-result g c =
+    IsKept-empty g.row.W c.args.limit c.args.objects _ _ c.in_ok-spans.spans.items c.in_ok-region.region c.in_ok-homes.homes.items c.requires.width c.requires.limit
+    c.in_ok-spans.ensures.items c.in_ok-region.ensures c.in_ok-homes.ensures.items (search rules) (search rules) (search rules)
+
+pub returns-clause-empty : goal.returns-clause-empty
+returns-clause-empty g c =
+    memory_of-empty g.row.W c.args.limit c.args.objects c.in_ok-spans.spans.items c.in_ok-region.region c.in_ok-spans.ensures.items c.in_ok-region.ensures
 
 pub returns-clause-memory : goal.returns-clause-memory
 returns-clause-memory g c =
-    subst (λ (spans : List Span). IsMemory g.row.W (memory_of g.row.W spans c.in_ok-cells.cells.items c.args.limit c.args.objects)) (sym c.in_ok-spans.ensures.items) (IsMemory-empty g.row.W c.args.limit c.args.objects c.requires.width c.requires.limit)
+    subst (IsMemory g.row.W) (sym (returns-clause-empty g c))
+    (IsMemory-empty g.row.W c.args.limit c.args.objects c.requires.width c.requires.limit)

@@ -7,59 +7,66 @@ use Rattle.object_memory.proofs.Views.{next_span, next_base-memory_of, IsMemory-
 use Rattle.object_memory.proofs.Laws.{byte_at-placed, byte_at-above}
 use Rattle.object_memory.proofs.ObjMem.place.Goals as goal
 
--- there is one span more, and zeros for it behind the cells
-record IsNext (w : ℕ) (spans : List Span) (cells homes : List ℕ) (n : ℕ) (more_spans : List Span) (more_cells more_homes : List ℕ) : Type 0 where
-  longer : more_spans ≡ spans ++ next_span w cells n ∷ []
-  filled : more_cells ≡ cells ++ replicate (padded n) 0
+-- there is one span more, and homes for it
+record IsNext (w : ℕ) (spans : List Span) (homes : List ℕ) (n : ℕ) (more_spans : List Span) (more_homes : List ℕ) : Type 0 where
+  longer : more_spans ≡ spans ++ next_span w (16 * length homes) n ∷ []
   housed : more_homes ≡ homes ++ replicate (padded n / 16) (length spans)
 
-is_next : (w : ℕ) (spans : List Span) (cells homes : List ℕ) (n : ℕ) {more_spans : List Span} {more_cells more_homes : List ℕ} {first before size taken count places number : ℕ} → more_spans ≡ spans ++ record { base = first + before; size = size } ∷ [] → more_cells ≡ take (before + taken) cells ++ replicate (before + taken - count) 0 → more_homes ≡ take ((before + taken) / 16) homes ++ replicate ((before + taken) / 16 - places) number → first ≡ first_base w → before ≡ length cells → size ≡ n → taken ≡ padded n → count ≡ length cells → places ≡ length homes → number ≡ length spans → 16 * length homes ≡ length cells → IsNext w spans cells homes n more_spans more_cells more_homes
-is_next w spans cells homes n {before = before} {taken = taken} longer filled housed f b s t c p u whole = record {
+is_next : (w : ℕ) (spans : List Span) (homes : List ℕ) (n : ℕ) {more_spans : List Span} {more_homes : List ℕ} {first before size taken places number : ℕ} → more_spans ≡ spans ++ record { base = first + before; size = size } ∷ [] → more_homes ≡ take ((before + taken) / 16) homes ++ replicate ((before + taken) / 16 - places) number → first ≡ first_base w → before ≡ 16 * length homes → size ≡ n → taken ≡ padded n → places ≡ length homes → number ≡ length spans → IsNext w spans homes n more_spans more_homes
+is_next w spans homes n {before = before} {taken = taken} longer housed f b s t p u = record {
   longer = longer ∙ ap₂ (λ base k. spans ++ record { base = base; size = k } ∷ []) (ap₂ (λ x y. x + y) f b) s;
-  filled = filled ∙ ap₂ (λ xs k. xs ++ replicate k 0) (take_all (before + taken) cells (omega arith)) (omega arith);
   housed = housed ∙ ap₂ (λ xs k. xs ++ k) (take_all ((before + taken) / 16) homes (omega arith)) (ap₂ (λ k x. replicate k x) (omega arith) u);
 }
-
-pub returns-then-after-self-clause-memory : goal.returns-then-after-self-clause-memory
-returns-then-after-self-clause-memory g c =
-    subst (λ (m : Memory). IsMemory g.row.W m) c.self.view_is (IsMemory-memory_of g.row.W c.self.inside.spans.items c.self.inside.cells.items c.self.inside.byte_limit c.self.inside.object_limit _ _ c.self.invariant.layout)
 
 pub invariant_of-self : goal.invariant_of-self
 invariant_of-self g c =
     let n : ℕ = c.args.size * c.args.count in
-    let cells : List ℕ = c.self.inside.cells.items in
+    let cells : List ℕ = c.self.inside.region in
     let spans : List Span = c.self.inside.spans.items in
-    let next = is_next g.row.W spans cells c.self.inside.homes.items n c.in-Ok-push.ensures.items c.in-Ok.ensures.items c.in-Ok-resize.ensures.items c.first.ensures (search rules) (search rules) (search rules) (search rules) (search rules) (search rules) c.self.invariant.index.whole in
-    let fits : length cells + padded n ≤ c.self.inside.byte_limit = search rules in
+    let homes : List ℕ = c.self.inside.homes.items in
+    let next = is_next g.row.W spans homes n c.in-Ok-push.ensures.items c.in-Ok.ensures.items c.first.ensures (search rules) (search rules)
+    (search rules) (search rules) (search rules) in
+    let fits : 16 * length homes + padded n ≤ length cells = search rules in
     let more : length spans < c.self.inside.object_limit = search rules in
-    subst (λ h. IsKept g.row.W c.push.new.self.items c.resize.new.self.items h c.self.inside.byte_limit c.self.inside.object_limit (vec_capacity c.push.new.self) (vec_capacity c.resize.new.self) (vec_capacity c.resize-2.new.self)) (sym next.housed)
-    (subst₂ (λ s b. IsKept g.row.W s b (c.self.inside.homes.items ++ replicate (padded n / 16) (length spans)) c.self.inside.byte_limit c.self.inside.object_limit (vec_capacity c.push.new.self) (vec_capacity c.resize.new.self) (vec_capacity c.resize-2.new.self)) (sym next.longer) (sym next.filled)
-    (IsKept-next_span g.row.W spans cells c.self.inside.homes.items _ _ _ _ _ _ _ _ n c.self.invariant c.requires.some fits more c.in-Ok-push.ensures.capacity c.in-Ok.ensures.capacity c.in-Ok-resize.ensures.capacity))
+    subst₂ (λ s h. IsKept g.row.W s cells h c.self.inside.object_limit (vec_capacity c.push.new.self) (vec_capacity c.resize.new.self))
+    (sym next.longer) (sym next.housed)
+    (IsKept-next_span g.row.W spans cells homes _ _ _ _ _ n c.self.invariant c.requires.some fits more c.in-Ok-push.ensures.capacity c.in-Ok.ensures.capacity)
 
 pub returns-clause-placed : goal.returns-clause-placed
 returns-clause-placed g c =
     let n : ℕ = c.args.size * c.args.count in
-    let cells : List ℕ = c.self.inside.cells.items in
+    let cells : List ℕ = c.self.inside.region in
     let spans : List Span = c.self.inside.spans.items in
-    let next = is_next g.row.W spans cells c.self.inside.homes.items n c.in-Ok-push.ensures.items c.in-Ok.ensures.items c.in-Ok-resize.ensures.items c.first.ensures (search rules) (search rules) (search rules) (search rules) (search rules) (search rules) c.self.invariant.index.whole in
-    ap₂ (λ s b. memory_of g.row.W s b c.self.inside.byte_limit c.self.inside.object_limit) next.longer next.filled
-    ∙ memory_of-next_span g.row.W spans cells c.self.inside.byte_limit c.self.inside.object_limit n c.self.invariant.layout.inside c.self.invariant.layout.whole
+    let homes : List ℕ = c.self.inside.homes.items in
+    let next = is_next g.row.W spans homes n c.in-Ok-push.ensures.items c.in-Ok.ensures.items c.first.ensures (search rules) (search rules)
+    (search rules) (search rules) (search rules) in
+    let fits : 16 * length homes + padded n ≤ length cells = search rules in
+    ap (λ s. memory_of g.row.W s cells (length cells) c.self.inside.object_limit) next.longer
+    ∙ memory_of-next_span g.row.W spans cells (length cells) c.self.inside.object_limit (16 * length homes) _ n c.self.invariant.layout fits
     ∙ ap (λ m. placed g.row.W m n) c.self.view_is
 
 pub returns-clause-memory : goal.returns-clause-memory
-returns-clause-memory g c = IsMemory-memory_of g.row.W c.push.new.self.items c.resize.new.self.items c.self.inside.byte_limit c.self.inside.object_limit _ _ (invariant_of-self g c).layout
+returns-clause-memory g c = IsMemory-memory_of g.row.W c.push.new.self.items c.self.inside.region c.self.inside.object_limit _ _
+    (invariant_of-self g c).layout
+
+pub returns-then-after-len-clause-memory : goal.returns-then-after-len-clause-memory
+returns-then-after-len-clause-memory g c =
+    subst (λ (m : Memory). IsMemory g.row.W m) c.self.view_is
+    (IsMemory-memory_of g.row.W c.self.inside.spans.items c.self.inside.region c.self.inside.object_limit _ _ c.self.invariant.layout)
 
 pub returns-clause-bytes : goal.returns-clause-bytes
 returns-clause-bytes g c = λ x. ap (λ m. byte_at m x) (returns-clause-placed g c) ∙ byte_at-placed g.row.W c.args.self.now (c.args.size * c.args.count) x
 
 pub returns-clause-zeros : goal.returns-clause-zeros
 returns-clause-zeros g c = λ x from to.
-    let cells : List ℕ = c.self.inside.cells.items in
+    let cells : List ℕ = c.self.inside.region in
     let spans : List Span = c.self.inside.spans.items in
-    let memory : IsMemory g.row.W c.args.self.now = subst (λ (m : Memory). IsMemory g.row.W m) c.self.view_is (IsMemory-memory_of g.row.W spans cells c.self.inside.byte_limit c.self.inside.object_limit _ _ c.self.invariant.layout) in
-    let before : c.len-before.result ≡ length cells = search rules in
-    let base : c.first.result + c.len-before.result ≡ next_base g.row.W c.args.self.now =
-    ap₂ (λ a b. a + b) c.first.ensures before
-    ∙ sym (next_base-memory_of g.row.W spans cells c.self.inside.byte_limit c.self.inside.object_limit c.self.invariant.layout.whole)
+    let homes : List ℕ = c.self.inside.homes.items in
+    let memory : IsMemory g.row.W c.args.self.now = subst (λ (m : Memory). IsMemory g.row.W m) c.self.view_is
+    (IsMemory-memory_of g.row.W spans cells c.self.inside.object_limit _ _ c.self.invariant.layout) in
+    let base : c.first.result + 16 * length homes ≡ next_base g.row.W c.args.self.now =
+    ap (λ a. a + 16 * length homes) c.first.ensures
+    ∙ sym (next_base-memory_of g.row.W spans cells (length cells) c.self.inside.object_limit (16 * length homes) c.self.invariant.layout.whole)
     ∙ ap (next_base g.row.W) c.self.view_is in
-    returns-clause-bytes g c x ∙ byte_at-above g.row.W c.args.self.now x memory (omega (arith, from, base))
+    let same : c.len.result ≡ length homes = search rules in
+    returns-clause-bytes g c x ∙ byte_at-above g.row.W c.args.self.now x memory (omega (arith, from, base, same))
