@@ -1,7 +1,10 @@
 //! The program `ebc`. docs/COMMANDS.md lists its commands, what they print and its exit status.
 #![tactic(auto)]
 
-ghost use Rattle.std.specs.Prelude.{◌≡◌};
+ghost use Rattle.std.specs.Prelude.{◌≡◌, IfOk, drop};
+ghost use Rattle.std.specs.Process as process;
+ghost use Rattle.std.specs.Vec.Iter.{into_iter_items};
+ghost use Rattle.ebc_cli.specs.Outcomes.{exit_status};
 ghost use Rattle.ebc.specs.Complaints.{complaint_of};
 
 #[cfg(test)]
@@ -13,23 +16,25 @@ mod tests;
 
 use ebc_cli::{Outcome, ebc};
 use ebc_outside::{HostFolder, HostSink};
-use std::alloc::AllocError;
+use std::alloc::{AllocError, Global};
 use std::process::ExitCode;
 use std::rt::Env;
 use std::{env, io};
 
+// The arguments that remain, without the first of them, which is the program's name.
+fn words_after_name(alloc: Global, args: env::Args) -> Result<Vec<String>, AllocError>
+    ensures { IfOk result (λ words. words.items ≡ drop 1 (into_iter_items args)) }
+{
+    args.skip(1).collect(alloc)
+}
+
 // The words after the program's name, and none where one of them isn't UTF-8.
 fn words_of<R: Env + AllocGlobal>(rt: &R) -> Result<Vec<String>, AllocError> {
-    let mut words = Vec::new(rt.alloc());
-    let args = match env::args(rt) {
-        Ok(args) => args,
-        Err(e) if e.kind() == io::ErrorKind::OutOfMemory => return Err(AllocError),
-        Err(_) => return Ok(words),
-    };
-    for word in args.skip(1) {
-        words.push(word)?;
+    match env::args(rt) {
+        Ok(args) => words_after_name(rt.alloc(), args),
+        Err(e) if e.kind() == io::ErrorKind::OutOfMemory => Err(AllocError),
+        Err(_) => Ok(Vec::new(rt.alloc())),
     }
-    Ok(words)
 }
 
 // What is said on standard error of an outcome that prints no answer, or only a part of it.
@@ -42,6 +47,13 @@ fn complaint(outcome: Outcome) -> &'static str
         Outcome::NoMemory => "ebc: memory ran out\n",
         _ => "",
     }
+}
+
+// The status with which the program ends after an outcome.
+fn status(outcome: Outcome) -> ExitCode
+    ensures { process.exit_status result ≡ exit_status outcome }
+{
+    ExitCode::from(outcome.code())
 }
 
 // The outcome of the words, over the system's files and output.
@@ -58,5 +70,5 @@ fn main(rt: HostRuntime) -> ExitCode {
     let outcome = outcome(&rt);
     // The exit status tells the outcome also where this line can't be printed.
     let _ = eprint!(rt; "{}", complaint(outcome));
-    ExitCode::from(outcome.code())
+    status(outcome)
 }

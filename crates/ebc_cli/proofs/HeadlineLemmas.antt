@@ -1,6 +1,6 @@
 -- From a reply to the words to the clauses of `ebc`: what it says of code, of an image under notes, of a listing, of an assembly,
--- and of bad input.
-use Rattle.std.proofs.Common.{◌≡◌, ◌↔◌, ℕ, ◌<◌, ◌≤◌, List, [], ◌∷◌, length, Option, Some, None, option_map, IfSome, Result, Ok, Err, Bool, true, false, nat_lt, if◌then◌else◌, refl, sym, ap, ◌∙◌, arith}
+-- of files that are missing, too large or bad input, and of answers with no text.
+use Rattle.std.proofs.Common.{◌≡◌, ◌≢◌, ◌⊎◌, ◌↔◌, ℕ, ◌<◌, ◌≤◌, List, [], ◌∷◌, length, Option, Some, None, option_map, IfSome, Result, Ok, Err, Bool, true, false, nat_lt, if◌then◌else◌, inl, inr, refl, sym, ap, ◌∙◌, arith}
 use Rattle.std.proofs.lemmas.Bool.Decides.{nat_tests}
 use Rattle.std.specs.FinMap.{insert}
 use Rattle.std.specs.Fmt.{decimal}
@@ -30,14 +30,15 @@ use Rattle.ebc_cli.specs.declared.reply.End.TheVariants.{Stop}
 use Rattle.ebc_cli.specs.declared.reply.Reply.{Reply}
 use Rattle.ebc_cli.specs.declared.work.Work.{Work}
 use Rattle.ebc_cli.specs.declared.work.Work.TheVariants as works
+use Rattle.ebc_cli.specs.Commands.{command_of, output_of}
 use Rattle.ebc_cli.specs.Faults.{asm_fault_text}
 use Rattle.ebc_cli.specs.Outcomes.{IsAnswer}
 use Rattle.ebc_cli.specs.Outputs.{SameBut, files_left, printed, text_of, written_name}
 use Rattle.ebc_cli.specs.Readings.{file, done, go_on, large_reply}
-use Rattle.ebc_cli.specs.Texts.{bad_line}
+use Rattle.ebc_cli.specs.Texts.{bad_line, neutral_line, refused_line}
 use Rattle.ebc_cli.specs.Works.{work_of, code_check, verdict_reply, listing_reply, object_reply, TellsVerdict, IsReplyOf, plain_code_limit}
-use Rattle.ebc_cli.specs.Answers.{IsAnswerOf, Decides, Answers, Assembles, LeavesPart, ChecksCode, ChecksImage, ListsImage, HasBadInput, HasBadLine, SameForScripts}
-use Rattle.ebc_cli.proofs.BadInputLemmas.{assembly-work, bad-exactly, bad-line-told, image-work, listing-work}
+use Rattle.ebc_cli.specs.Answers.{IsAnswerOf, Decides, Answers, Assembles, LeavesPart, ChecksCode, ChecksImage, ListsImage, HasBadInput, HasBadLine, HasLargeFile, HasMissingFile, HasNoText, writes_object, empty_listing, SameForScripts}
+use Rattle.ebc_cli.proofs.StopLemmas.{assembly-work, bad-exactly, bad-line-told, image-work, large-exactly, listing-work, missing-exactly}
 
 -- a reply that was decided is an answer, whether the reading went through or stopped
 pub answer-ok : (contents : Option Files) (words before now : List (List ℕ)) (reply : Reply) → IfSome contents (λ files. Decides before now (Ok reply) (work_of words files)) → IfSome contents (λ files. IsAnswerOf words files reply)
@@ -85,6 +86,16 @@ verdict-refused (Refused place rule) p r = (λ e. let there : place ≡ p = cc i
 exactly-so : {A B : Type 0} (outcome verdict wanted : Outcome) → outcome ≡ verdict → verdict ≡ wanted ↔ A → A ↔ B → outcome ≡ wanted ↔ B
 exactly-so outcome verdict wanted same one two = (λ e. two.0 (one.0 (sym same ∙ e)), λ b. same ∙ one.1 (two.1 b))
 
+-- the outcome and the text, both exactly so
+printed-so : {B : Type 0} (outcome wanted : Outcome) (text : List ℕ) (before now : Option (List ℕ)) → outcome ≡ wanted ↔ B → (B → now ≡ printed text before)
+    → ((outcome ≡ wanted) × (now ≡ printed text before)) ↔ B
+printed-so outcome wanted text before now exact shown = (λ both. exact.0 both.0, λ b. (exact.1 b, shown b))
+
+-- what is printed of a verdict
+verdict-printed : (reply : Reply) (verdict wanted : Verdict) (before now : Option (List ℕ)) → now ≡ printed (text_of reply.output) before → reply ≡ verdict_reply verdict → verdict ≡ wanted
+    → now ≡ printed (text_of (verdict_reply wanted).output) before
+verdict-printed reply verdict wanted before now text told is = text ∙ ap (λ (r : Reply). printed (text_of r.output) before) (told ∙ ap verdict_reply is)
+
 -- ---- `check IMAGE NOTES`
 
 image-told : (words : List (List ℕ)) (files : Files) (reply : Reply) (image : Image) (notes : Notes) → ChecksImage words files image notes → IsAnswerOf words files reply → TellsVerdict image notes reply
@@ -96,6 +107,15 @@ exactly None words reply outcome tells = tt
 exactly (Some files) words reply outcome tells = λ image notes c answered.
     let t = image-told words files reply image notes c tells.told in
     exactly-so outcome _ outcomes.Done (tells.same answered ∙ ap (λ (r : Reply). r.outcome) t.told) (verdict-done t.verdict) t.neutral
+
+pub neutral-printed : (contents : Option Files) (words : List (List ℕ)) (reply : Reply) (outcome : Outcome) (before now : Option (List ℕ)) → Tells contents words reply outcome
+    → (IsAnswer outcome → now ≡ printed (text_of reply.output) before)
+    → IfSome contents (λ files. (image : Image) (notes : Notes) → ChecksImage words files image notes → IsAnswer outcome → ((outcome ≡ outcomes.Done) × (now ≡ printed neutral_line before)) ↔ Typed image notes)
+neutral-printed None words reply outcome before now tells text = tt
+neutral-printed (Some files) words reply outcome before now tells text = λ image notes c answered.
+    let t = image-told words files reply image notes c tells.told in
+    printed-so outcome outcomes.Done neutral_line before now (exactly (Some files) words reply outcome tells image notes c answered)
+    (λ typed. verdict-printed reply t.verdict Neutral before now (text answered) t.told (t.neutral.1 typed))
 
 pub alike : (contents : Option Files) (words : List (List ℕ)) (reply : Reply) (outcome : Outcome) → Tells contents words reply outcome
     → IfSome contents (λ files. (image : Image) (notes : Notes) → ChecksImage words files image notes → outcome ≡ outcomes.Done → SameForScripts image notes)
@@ -113,12 +133,36 @@ refused (Some files) words reply outcome tells = λ image notes place rule c ans
     let t = image-told words files reply image notes c tells.told in
     exactly-so outcome _ (outcomes.Refused place rule) (tells.same answered ∙ ap (λ (r : Reply). r.outcome) t.told) (verdict-refused t.verdict place rule) (t.refused place rule)
 
+pub refused-printed : (contents : Option Files) (words : List (List ℕ)) (reply : Reply) (outcome : Outcome) (before now : Option (List ℕ)) → Tells contents words reply outcome
+    → (IsAnswer outcome → now ≡ printed (text_of reply.output) before)
+    → IfSome contents (λ files. (image : Image) (notes : Notes) (place : ℕ) (rule : RuleName) → ChecksImage words files image notes → IsAnswer outcome
+    → ((outcome ≡ outcomes.Refused place rule) × (now ≡ printed (refused_line place rule) before)) ↔ IsRefused image notes place rule)
+refused-printed None words reply outcome before now tells text = tt
+refused-printed (Some files) words reply outcome before now tells text = λ image notes place rule c answered.
+    let t = image-told words files reply image notes c tells.told in
+    printed-so outcome (outcomes.Refused place rule) (refused_line place rule) before now (refused (Some files) words reply outcome tells image notes place rule c answered)
+    (λ is. verdict-printed reply t.verdict (Refused place rule) before now (text answered) t.told ((t.refused place rule).1 is))
+
+-- ---- files that are missing, too large or bad
+
+-- what is exact of the reply is exact of the outcome
+of-reply : {B : Type 0} (outcome told wanted : Outcome) → outcome ≡ told → told ≡ wanted ↔ B → outcome ≡ wanted ↔ B
+of-reply outcome told wanted same exact = (λ e. exact.0 (sym same ∙ e), λ b. same ∙ exact.1 b)
+
+pub missing : (contents : Option Files) (words : List (List ℕ)) (reply : Reply) (outcome : Outcome) → Tells contents words reply outcome
+    → IfSome contents (λ files. (word : ℕ) → IsAnswer outcome → outcome ≡ outcomes.Missing word ↔ HasMissingFile words files word)
+missing None words reply outcome tells = tt
+missing (Some files) words reply outcome tells = λ word answered. of-reply outcome reply.outcome _ (tells.same answered) (missing-exactly words files reply word tells.told)
+
+pub too-large : (contents : Option Files) (words : List (List ℕ)) (reply : Reply) (outcome : Outcome) → Tells contents words reply outcome
+    → IfSome contents (λ files. (word : ℕ) → IsAnswer outcome → outcome ≡ outcomes.TooLarge word ↔ HasLargeFile words files word)
+too-large None words reply outcome tells = tt
+too-large (Some files) words reply outcome tells = λ word answered. of-reply outcome reply.outcome _ (tells.same answered) (large-exactly words files reply word tells.told)
+
 pub bad-input : (contents : Option Files) (words : List (List ℕ)) (reply : Reply) (outcome : Outcome) → Tells contents words reply outcome
     → IfSome contents (λ files. (word fault : ℕ) → IsAnswer outcome → outcome ≡ outcomes.BadInput word fault ↔ HasBadInput words files word fault)
 bad-input None words reply outcome tells = tt
-bad-input (Some files) words reply outcome tells = λ word fault answered.
-    let exact = bad-exactly words files reply word fault tells.told in
-    (λ e. exact.0 (sym (tells.same answered) ∙ e), λ bad. tells.same answered ∙ exact.1 bad)
+bad-input (Some files) words reply outcome tells = λ word fault answered. of-reply outcome reply.outcome _ (tells.same answered) (bad-exactly words files reply word fault tells.told)
 
 -- ---- `list IMAGE`
 
@@ -161,6 +205,37 @@ bad-source-line None words reply outcome before now tells text = tt
 bad-source-line (Some files) words reply outcome before now tells text = λ name kind line c answered.
     text answered ∙ ap (λ (r : Reply). printed (text_of r.output) before) (bad-line-told words files name kind line reply c tells.told)
 
+-- ---- answers with no text
+
+-- such an answer prints nothing, and where it writes no file its words name none
+record IsSilent (words : List (List ℕ)) (reply : Reply) : Type 0 where
+  text : text_of reply.output ≡ []
+  names : written_name reply.output ≢ None → output_of (command_of words) ≢ None
+
+silent : (words : List (List ℕ)) (files : Files) (reply : Reply) → HasNoText words files → IsAnswerOf words files reply → IsSilent words reply
+silent words files reply (writes_object name object c) told = record {
+  text = ap (λ (r : Reply). text_of r.output) (object-told words files reply name object c told);
+  names = λ named. rw c.command (λ none. cc);
+}
+silent words files reply (empty_listing image c empty) told = record {
+  text = ap (λ (r : Reply). text_of r.output) (listing-told words files reply image c told) ∙ empty;
+  names = λ named. absurd (named (ap (λ (r : Reply). written_name r.output) (listing-told words files reply image c told)));
+}
+
+pub unput : {S : Type 0} (contents : Option Files) (words : List (List ℕ)) (reply : Reply) (outcome : Outcome) (old now : S) → Tells contents words reply outcome
+    → (text_of reply.output ≡ [] → now ≡ old) → IfSome contents (λ files. HasNoText words files → now ≡ old)
+unput None words reply outcome old now tells none = tt
+unput (Some files) words reply outcome old now tells none = λ no_text. none (silent words files reply no_text tells.told).text
+
+pub untold : {R : Type 0} (contents : Option Files) (words : List (List ℕ)) (reply : Reply) (outcome : Outcome) → Tells contents words reply outcome
+    → (text_of reply.output ≡ [] → outcome ≡ outcomes.WriteFault → (written_name reply.output ≢ None) × R)
+    → IfSome contents (λ files. HasNoText words files → outcome ≡ outcomes.WriteFault → (output_of (command_of words) ≢ None) × R)
+untold None words reply outcome tells none = tt
+untold (Some files) words reply outcome tells none = λ no_text fault.
+    let s = silent words files reply no_text tells.told in
+    let of_file = none s.text fault in
+    (s.names of_file.0, of_file.1)
+
 -- ---- `check CODE`
 
 -- what comes of reading code, which may be too large
@@ -188,11 +263,14 @@ code-told words files reply code c told = rw (code-work words files code c) at t
 done-fits : (words : List (List ℕ)) (files : Files) (reply : Reply) (code : List ℕ) → ChecksCode words files code → IsAnswerOf words files reply → reply.outcome ≡ outcomes.Done → length code ≤ plain_code_limit
 done-fits words files reply code c told done = code-fits c.name code reply _ refl (code-told words files reply code c told) done
 
--- an answer about code within the limit is that of the verdict
+-- a reply about code within the limit is that of the verdict
+reply-told : (words : List (List ℕ)) (files : Files) (reply : Reply) (code : List ℕ) → ChecksCode words files code → length code ≤ plain_code_limit → IsAnswerOf words files reply → reply ≡ verdict_reply (plain_verdict code)
+reply-told words files reply code c fits told = code-verdict c.name code reply _ refl fits (code-told words files reply code c told)
+
 verdict-told : (words : List (List ℕ)) (files : Files) (reply : Reply) (outcome : Outcome) → Tells (Some files) words reply outcome → (code : List ℕ) → ChecksCode words files code → length code ≤ plain_code_limit → IsAnswer outcome
     → outcome ≡ (verdict_reply (plain_verdict code)).outcome
 verdict-told words files reply outcome tells code c fits answered =
-    tells.same answered ∙ ap (λ (r : Reply). r.outcome) (code-verdict c.name code reply _ refl fits (code-told words files reply code c tells.told))
+    tells.same answered ∙ ap (λ (r : Reply). r.outcome) (reply-told words files reply code c fits tells.told)
 
 pub plain-alike : (contents : Option Files) (words : List (List ℕ)) (reply : Reply) (outcome : Outcome) → Tells contents words reply outcome
     → IfSome contents (λ files. (code : List ℕ) → ChecksCode words files code → outcome ≡ outcomes.Done → RunsAlike code)
@@ -214,3 +292,20 @@ pub plain-refused : (contents : Option Files) (words : List (List ℕ)) (reply :
 plain-refused None words reply outcome tells = tt
 plain-refused (Some files) words reply outcome tells = λ code place rule c fits answered.
     exactly-so outcome _ (outcomes.Refused place rule) (verdict-told words files reply outcome tells code c fits answered) (verdict-refused (plain_verdict code) place rule) (refused-exactly code place rule)
+
+pub plain-neutral-printed : (contents : Option Files) (words : List (List ℕ)) (reply : Reply) (outcome : Outcome) (before now : Option (List ℕ)) → Tells contents words reply outcome
+    → (IsAnswer outcome → now ≡ printed (text_of reply.output) before)
+    → IfSome contents (λ files. (code : List ℕ) → ChecksCode words files code → length code ≤ plain_code_limit → IsAnswer outcome → ((outcome ≡ outcomes.Done) × (now ≡ printed neutral_line before)) ↔ plain.IsNeutral code)
+plain-neutral-printed None words reply outcome before now tells text = tt
+plain-neutral-printed (Some files) words reply outcome before now tells text = λ code c fits answered.
+    printed-so outcome outcomes.Done neutral_line before now (plain-exactly (Some files) words reply outcome tells code c fits answered)
+    (λ is. verdict-printed reply (plain_verdict code) Neutral before now (text answered) (reply-told words files reply code c fits tells.told) ((neutral-exactly code).1 is))
+
+pub plain-refused-printed : (contents : Option Files) (words : List (List ℕ)) (reply : Reply) (outcome : Outcome) (before now : Option (List ℕ)) → Tells contents words reply outcome
+    → (IsAnswer outcome → now ≡ printed (text_of reply.output) before)
+    → IfSome contents (λ files. (code : List ℕ) (place : ℕ) (rule : RuleName) → ChecksCode words files code → length code ≤ plain_code_limit → IsAnswer outcome
+    → ((outcome ≡ outcomes.Refused place rule) × (now ≡ printed (refused_line place rule) before)) ↔ plain.IsRefused code place rule)
+plain-refused-printed None words reply outcome before now tells text = tt
+plain-refused-printed (Some files) words reply outcome before now tells text = λ code place rule c fits answered.
+    printed-so outcome (outcomes.Refused place rule) (refused_line place rule) before now (plain-refused (Some files) words reply outcome tells code place rule c fits answered)
+    (λ is. verdict-printed reply (plain_verdict code) (Refused place rule) before now (text answered) (reply-told words files reply code c fits tells.told) ((refused-exactly code place rule).1 is))

@@ -1,5 +1,5 @@
 pub mod HexLemmas
 pub mod ReadingsLemmas
 pub mod OutputLemmas
-pub mod BadInputLemmas
+pub mod StopLemmas
 pub mod HeadlineLemmas

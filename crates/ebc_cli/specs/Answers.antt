@@ -1,9 +1,10 @@
 -- The answer of the program to its words, over the files of a folder: docs/COMMANDS.md, "The answer".
-use Rattle.std.specs.Prelude.{◌≡◌, ◌↔◌, ◌⊎◌, ℕ, ◌≤◌, List, ◌++◌, length, Option, Some, None, Result, Ok, Err}
+use Rattle.std.specs.Prelude.{◌≡◌, ◌↔◌, ◌⊎◌, ℕ, ◌<◌, ◌≤◌, List, [], ◌++◌, length, Option, Some, None, Result, Ok, Err}
 use Rattle.std.specs.FinMap.{get}
 use Rattle.ebc_outside.specs.Files.{Files, AppendsPart}
 use Rattle.asm_text.specs.declared.fault.AsmFault.{AsmFault}
 use Rattle.ebc_asm.specs.Sources.{object_of}
+use Rattle.ebc_disasm.specs.Listings.{listing_of}
 use Rattle.ebc_object.specs.declared.object.Object.{Object}
 use Rattle.note_types.specs.declared.fault.TomlFault.{TomlFault}
 use Rattle.note_types.specs.declared.notes.Notes.{Notes}
@@ -29,7 +30,7 @@ use Rattle.ebc_cli.specs.Inputs.{image_limit, notes_limit, source_limit}
 use Rattle.ebc_cli.specs.Outcomes.{IsAnswer}
 use Rattle.ebc_cli.specs.Outputs.{SameBut, files_left, printed, text_of, written_name}
 use Rattle.ebc_cli.specs.Readings.{FileReading, AsksPart, MissingHasCause}
-use Rattle.ebc_cli.specs.Works.{work_of, IsReplyOf}
+use Rattle.ebc_cli.specs.Works.{work_of, IsReplyOf, plain_code_limit}
 
 -- a reply is an answer to the words
 abbrev pub IsAnswerOf : List (List ℕ) → Files → Reply → Type 0
@@ -114,17 +115,21 @@ pub record HasBadImage (words : List (List ℕ)) (files : Files) (fault : ℕ) :
   pub no_image : image_of bytes ≡ Err (kind, offset)
   pub number : fault ≡ image_fault_number kind
 
--- the image's file is an image, and the text under the name of the notes stands for none: its first fault has this number
-pub record HasBadNotes (words : List (List ℕ)) (files : Files) (fault : ℕ) : Type 0 where
+-- the words are `check IMAGE NOTES`, the notes have this name, and the image's file, within its limit, is an image: so their turn comes
+pub record ComesToNotes (words : List (List ℕ)) (files : Files) (name : List ℕ) : Type 0 where
   pub image_name : List ℕ
-  pub notes_name : List ℕ
   pub bytes : List ℕ
-  pub text : List ℕ
-  pub command : command_of words ≡ Some (CheckImage image_name notes_name)
-  pub image_file : HasFile files image_name image_limit bytes
-  pub notes_file : HasFile files notes_name notes_limit text
   pub image : Image
+  pub command : command_of words ≡ Some (CheckImage image_name name)
+  pub image_file : HasFile files image_name image_limit bytes
   pub image_is : image_of bytes ≡ Ok image
+
+-- the text under the name of the notes, in its turn, stands for none: its first fault has this number
+pub record HasBadNotes (words : List (List ℕ)) (files : Files) (fault : ℕ) : Type 0 where
+  pub name : List ℕ
+  pub text : List ℕ
+  pub turn : ComesToNotes words files name
+  pub notes_file : HasFile files name notes_limit text
   pub found : TomlFault
   pub no_notes : notes_of text ≡ Err found
   pub number : fault ≡ toml_fault_number found
@@ -151,6 +156,35 @@ pub data HasBadInput (words : List (List ℕ)) (files : Files) (word fault : ℕ
   bad_image : word ≡ 1 → HasBadImage words files fault → HasBadInput words files word fault
   bad_notes : word ≡ 2 → HasBadNotes words files fault → HasBadInput words files word fault
   bad_source : word ≡ 1 → HasBadSource words files fault → HasBadInput words files word fault
+
+-- the turn of the file of this word comes, by its name and its limit
+pub data HasTurn (words : List (List ℕ)) (files : Files) (word : ℕ) (name : List ℕ) (limit : ℕ) : Type 0 where
+  code_turn : word ≡ 1 → limit ≡ plain_code_limit → command_of words ≡ Some (CheckCode name) → HasTurn words files word name limit
+  image_turn : word ≡ 1 → limit ≡ image_limit → NamesImage words name → HasTurn words files word name limit
+  notes_turn : word ≡ 2 → limit ≡ notes_limit → ComesToNotes words files name → HasTurn words files word name limit
+  source_turn : (object_name : List ℕ) → word ≡ 1 → limit ≡ source_limit → command_of words ≡ Some (Assemble name object_name) → HasTurn words files word name limit
+
+-- the file of this word, in its turn, isn't there
+pub record HasMissingFile (words : List (List ℕ)) (files : Files) (word : ℕ) : Type 0 where
+  pub name : List ℕ
+  pub limit : ℕ
+  pub turn : HasTurn words files word name limit
+  pub gone : get files name ≡ None
+
+-- the file of this word, in its turn, has more bytes than its limit
+pub record HasLargeFile (words : List (List ℕ)) (files : Files) (word : ℕ) : Type 0 where
+  pub name : List ℕ
+  pub limit : ℕ
+  pub bytes : List ℕ
+  pub turn : HasTurn words files word name limit
+  pub there : get files name ≡ Some bytes
+  pub past : limit < length bytes
+
+-- the answer to the words has no text: they are `asm SRC OBJ` and SRC stands for an object, or they are `list IMAGE` and the listing of
+-- the image is empty
+pub data HasNoText (words : List (List ℕ)) (files : Files) : Type 0 where
+  writes_object : (name : List ℕ) (object : Object) → Assembles words files name object → HasNoText words files
+  empty_listing : (image : Image) → ListsImage words files image → listing_of image ≡ [] → HasNoText words files
 
 -- ---- what `neutral` means
 

@@ -14,13 +14,13 @@ ghost use Rattle.width_checker.specs.PlainRules as plain;
 ghost use Rattle.width_checker.specs.PlainRuns.{RunsAlike};
 ghost use Rattle.width_checker.specs.Typed.{Typed};
 ghost use Rattle.width_checker.specs.Verdicts.{IsRefused};
-ghost use Rattle.ebc_cli.specs.Answers.{Answers, AnswersWords, Assembles, Decides, LeavesPart, ChecksCode, ChecksImage, ListsImage, HasBadInput, HasBadLine, SameForScripts};
+ghost use Rattle.ebc_cli.specs.Answers.{Answers, AnswersWords, Assembles, Decides, LeavesPart, ChecksCode, ChecksImage, ListsImage, HasBadInput, HasBadLine, HasLargeFile, HasMissingFile, HasNoText, SameForScripts};
 ghost use Rattle.ebc_cli.specs.Commands.{command_of, output_of, word_bytes};
 ghost use Rattle.ebc_cli.specs.Faults.{asm_fault_text};
 ghost use Rattle.ebc_cli.specs.Outcomes.{IsAnswer};
 ghost use Rattle.ebc_cli.specs.Outputs.{SameBut, printed};
 ghost use Rattle.ebc_cli.specs.Readings.{AsksPart, IfStop};
-ghost use Rattle.ebc_cli.specs.Texts.{bad_line};
+ghost use Rattle.ebc_cli.specs.Texts.{bad_line, neutral_line, refused_line};
 ghost use Rattle.ebc_cli.specs.Works.{work_of, plain_code_limit};
 
 use crate::finishing::finish;
@@ -55,9 +55,16 @@ pub fn ebc<F: Folder, O: Sink>(
     ensures neutral_exactly { IfSome (F.contents folder.old) (λ files. (image : Image) (notes : Notes) →
         ChecksImage (word_bytes words.now) files image notes →
         IsAnswer result → result ≡ Outcome.Done ↔ Typed image notes) }
+    ensures neutral_printed { IfSome (F.contents folder.old) (λ files. (image : Image) (notes : Notes) →
+        ChecksImage (word_bytes words.now) files image notes → IsAnswer result →
+        ((result ≡ Outcome.Done) × (O.written out.new ≡ printed neutral_line (O.written out.old))) ↔ Typed image notes) }
     ensures refused_exactly { IfSome (F.contents folder.old) (λ files. (image : Image) (notes : Notes) (place : ℕ) (rule : RuleName) →
         ChecksImage (word_bytes words.now) files image notes →
         IsAnswer result → result ≡ Outcome.Refused place rule ↔ IsRefused image notes place rule) }
+    ensures refused_printed { IfSome (F.contents folder.old) (λ files. (image : Image) (notes : Notes) (place : ℕ) (rule : RuleName) →
+        ChecksImage (word_bytes words.now) files image notes → IsAnswer result →
+        ((result ≡ Outcome.Refused place rule) × (O.written out.new ≡ printed (refused_line place rule) (O.written out.old)))
+        ↔ IsRefused image notes place rule) }
 
     // A neutral image is the same at both widths: for every text that stands for a script under the notes, all valid placements and
     // every number of steps, the 32-bit and the 64-bit machine stand at the same instruction, have made the same calls with the
@@ -82,7 +89,13 @@ pub fn ebc<F: Folder, O: Sink>(
         HasBadLine (word_bytes words.now) files name kind line →
         IsAnswer result → O.written out.new ≡ printed (bad_line name (asm_fault_text kind) (decimal line)) (O.written out.old)) }
 
-    // A file is bad input exactly where it is the first that stands for no image, no notes or no object, by its first fault.
+    // A file is missing exactly where it is the first, in its turn, that isn't there, and too large exactly where it is the first
+    // past its limit; and it is bad input exactly where it is the first that stands for no image, no notes or no object, by its
+    // first fault.
+    ensures missing_exactly { IfSome (F.contents folder.old) (λ files. (word : ℕ) →
+        IsAnswer result → result ≡ Outcome.Missing word ↔ HasMissingFile (word_bytes words.now) files word) }
+    ensures too_large_exactly { IfSome (F.contents folder.old) (λ files. (word : ℕ) →
+        IsAnswer result → result ≡ Outcome.TooLarge word ↔ HasLargeFile (word_bytes words.now) files word) }
     ensures bad_input_exactly { IfSome (F.contents folder.old) (λ files. (word fault : ℕ) →
         IsAnswer result → result ≡ Outcome.BadInput word fault ↔ HasBadInput (word_bytes words.now) files word fault) }
 
@@ -91,13 +104,25 @@ pub fn ebc<F: Folder, O: Sink>(
     ensures plain_neutral_exactly { IfSome (F.contents folder.old) (λ files. (code : List ℕ) →
         ChecksCode (word_bytes words.now) files code → length code ≤ plain_code_limit →
         IsAnswer result → result ≡ Outcome.Done ↔ plain.IsNeutral code) }
+    ensures plain_neutral_printed { IfSome (F.contents folder.old) (λ files. (code : List ℕ) →
+        ChecksCode (word_bytes words.now) files code → length code ≤ plain_code_limit → IsAnswer result →
+        ((result ≡ Outcome.Done) × (O.written out.new ≡ printed neutral_line (O.written out.old))) ↔ plain.IsNeutral code) }
     ensures plain_refused_exactly { IfSome (F.contents folder.old) (λ files. (code : List ℕ) (place : ℕ) (rule : RuleName) →
         ChecksCode (word_bytes words.now) files code → length code ≤ plain_code_limit →
         IsAnswer result → result ≡ Outcome.Refused place rule ↔ plain.IsRefused code place rule) }
+    ensures plain_refused_printed { IfSome (F.contents folder.old) (λ files. (code : List ℕ) (place : ℕ) (rule : RuleName) →
+        ChecksCode (word_bytes words.now) files code → length code ≤ plain_code_limit → IsAnswer result →
+        ((result ≡ Outcome.Refused place rule) × (O.written out.new ≡ printed (refused_line place rule) (O.written out.old)))
+        ↔ plain.IsRefused code place rule) }
 
     // Neutral code has the same plain runs at both widths.
     ensures plain_neutral_alike { IfSome (F.contents folder.old) (λ files. (code : List ℕ) →
         ChecksCode (word_bytes words.now) files code → result ≡ Outcome.Done → RunsAlike code) }
+
+    // Where the answer has no text nothing is put, and then a fault is told only of a file that is written.
+    ensures unput { IfSome (F.contents folder.old) (λ files. HasNoText (word_bytes words.now) files → out.new ≡ out.old) }
+    ensures untold { IfSome (F.contents folder.old) (λ files. HasNoText (word_bytes words.now) files → result ≡ Outcome.WriteFault →
+        (output_of (command_of (word_bytes words.now)) ≢ None) × Rose (F.write_faults folder.old) (F.write_faults folder.new)) }
 
     // Why an answer comes, also where the folder doesn't tell its files.
     ensures bad_words { IsAnswer result →
@@ -116,7 +141,7 @@ pub fn ebc<F: Folder, O: Sink>(
         F.write_faults folder.new ≡ F.write_faults folder.old) }
 
     // What stands after the answers that the words and files don't decide.
-    ensures read_fault_leaves { result ≡ Outcome.ReadFault → O.written out.new ≡ O.written out.old }
+    ensures read_fault_leaves { result ≡ Outcome.ReadFault → out.new ≡ out.old }
     ensures read_fault_files { result ≡ Outcome.ReadFault → F.contents folder.new ≡ F.contents folder.old }
     ensures write_fault_leaves { IfSome (F.contents folder.old) (λ files. result ≡ Outcome.WriteFault →
         LeavesPart (word_bytes words.now) files (O.written out.old) (O.written out.new) (F.contents folder.new)) }

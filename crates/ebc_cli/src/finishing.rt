@@ -1,5 +1,5 @@
 //! The end of a call: what is printed or written for an answer.
-ghost use Rattle.std.specs.Prelude.{◌≡◌, ◌≢◌, ◌⊎◌, None, IfSome, option_map};
+ghost use Rattle.std.specs.Prelude.{◌≡◌, ◌≢◌, ◌⊎◌, [], None, IfSome, option_map};
 ghost use Rattle.ebc_outside.specs.Counts.{Rose};
 ghost use Rattle.ebc_outside.specs.Files.{AppendsPart, SameOtherFiles};
 ghost use Rattle.std.specs.FinMap.{insert};
@@ -31,6 +31,11 @@ pub fn finish<F: Folder, O: Sink>(
     ensures memory_files { result ≡ Outcome.NoMemory → F.contents folder.new ≡ F.contents folder.old }
     ensures read { result ≡ Outcome.ReadFault → ⊥ }
 
+    // An empty text isn't put, and then a fault is told only of a file that is written.
+    ensures unput { text_of reply.now.output ≡ [] → out.new ≡ out.old }
+    ensures untold { text_of reply.now.output ≡ [] → result ≡ Outcome.WriteFault →
+        (written_name reply.now.output ≢ None) × Rose (F.write_faults folder.old) (F.write_faults folder.new) }
+
     // Nothing is read, and writes are counted only where the answer writes.
     ensures asked { IfSome (F.contents folder.old) (λ _. F.asked folder.new ≡ F.asked folder.old) }
     ensures read_faults { F.read_faults folder.new ≡ F.read_faults folder.old }
@@ -60,6 +65,8 @@ fn print<O: Sink>(alloc: Global, outcome: Outcome, text: &[u8], out: &mut O) -> 
     ensures part { result ≡ Outcome.WriteFault → AppendsPart text.now (O.written out.old) (O.written out.new) }
     ensures memory { result ≡ Outcome.NoMemory → O.written out.new ≡ O.written out.old }
     ensures read { result ≡ Outcome.ReadFault → ⊥ }
+    ensures empty { text.now ≡ [] → result ≡ outcome }
+    ensures unput { text.now ≡ [] → out.new ≡ out.old }
 {
     if text.is_empty() {
         return outcome;

@@ -1,5 +1,5 @@
 use Rattle.std.proofs.Common.{◌≡◌, ◌⊎◌, None, ◌∙◌}
-use Rattle.ebc_cli.proofs.HeadlineLemmas.{Tells, answer-ok, answer-stop, answers, leaves-part, exactly, alike, refused, lists-always, lists-exactly, assembles-always, assembles-exactly, bad-source-line, bad-input, plain-alike, plain-exactly, plain-refused}
+use Rattle.ebc_cli.proofs.HeadlineLemmas.{Tells, answer-ok, answer-stop, answers, leaves-part, exactly, alike, refused, lists-always, lists-exactly, assembles-always, assembles-exactly, bad-source-line, bad-input, missing, too-large, neutral-printed, refused-printed, plain-alike, plain-exactly, plain-refused, plain-neutral-printed, plain-refused-printed, unput, untold}
 use Rattle.ebc_cli.proofs.OutputLemmas.{but-output, writes-none}
 use Rattle.ebc_cli.specs.Commands.{command_of, output_of, word_bytes}
 use Rattle.ebc_cli.specs.Outputs.{written_name}
@@ -70,3 +70,27 @@ returns-clause-plain_neutral_alike g c = plain-alike _ _ _ _ (tells g c)
 
 pub returns-clause-unwritten : goal.returns-clause-unwritten
 returns-clause-unwritten g c none = c.finish.ensures.write_count (writes-none _ _ (output g c) none) ∙ c.decide.ensures.write_faults
+
+pub returns-clause-neutral_printed : goal.returns-clause-neutral_printed
+returns-clause-neutral_printed g c = neutral-printed _ _ _ _ _ _ (tells g c) c.finish.ensures.text
+
+pub returns-clause-refused_printed : goal.returns-clause-refused_printed
+returns-clause-refused_printed g c = refused-printed _ _ _ _ _ _ (tells g c) c.finish.ensures.text
+
+pub returns-clause-plain_neutral_printed : goal.returns-clause-plain_neutral_printed
+returns-clause-plain_neutral_printed g c = plain-neutral-printed _ _ _ _ _ _ (tells g c) c.finish.ensures.text
+
+pub returns-clause-plain_refused_printed : goal.returns-clause-plain_refused_printed
+returns-clause-plain_refused_printed g c = plain-refused-printed _ _ _ _ _ _ (tells g c) c.finish.ensures.text
+
+pub returns-clause-missing_exactly : goal.returns-clause-missing_exactly
+returns-clause-missing_exactly g c = missing _ _ _ _ (tells g c)
+
+pub returns-clause-too_large_exactly : goal.returns-clause-too_large_exactly
+returns-clause-too_large_exactly g c = too-large _ _ _ _ (tells g c)
+
+pub returns-clause-unput : goal.returns-clause-unput
+returns-clause-unput g c = unput _ _ _ _ _ _ (tells g c) c.finish.ensures.unput
+
+pub returns-clause-untold : goal.returns-clause-untold
+returns-clause-untold g c = untold _ _ _ _ (tells g c) (rw c.decide.ensures.write_faults at c.finish.ensures.untold)
