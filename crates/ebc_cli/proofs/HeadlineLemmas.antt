@@ -1,6 +1,6 @@
 -- From a reply to the words to the clauses of `ebc`: what it says of code, of an image under notes, of a listing, of an assembly,
 -- of files that are missing, too large or bad input, and of answers with no text.
-use Rattle.std.proofs.Common.{◌≡◌, ◌≢◌, ◌⊎◌, ◌↔◌, ℕ, ◌<◌, ◌≤◌, List, [], ◌∷◌, length, Option, Some, None, option_map, IfSome, Result, Ok, Err, Bool, true, false, nat_lt, if◌then◌else◌, inl, inr, refl, sym, ap, ◌∙◌, arith}
+use Rattle.std.proofs.Common.{◌≡◌, ◌≢◌, ◌↔◌, ℕ, ◌<◌, ◌≤◌, List, [], ◌∷◌, length, Option, Some, None, option_map, IfSome, Result, Ok, Err, Bool, true, false, nat_lt, if◌then◌else◌, refl, sym, ap, ◌∙◌, arith}
 use Rattle.std.proofs.lemmas.Bool.Decides.{nat_tests}
 use Rattle.std.specs.FinMap.{insert}
 use Rattle.std.specs.Fmt.{decimal}
@@ -87,14 +87,15 @@ exactly-so : {A B : Type 0} (outcome verdict wanted : Outcome) → outcome ≡ v
 exactly-so outcome verdict wanted same one two = (λ e. two.0 (one.0 (sym same ∙ e)), λ b. same ∙ one.1 (two.1 b))
 
 -- the outcome and the text, both exactly so
-printed-so : {B : Type 0} (outcome wanted : Outcome) (text : List ℕ) (before now : Option (List ℕ)) → outcome ≡ wanted ↔ B → (B → now ≡ printed text before)
-    → ((outcome ≡ wanted) × (now ≡ printed text before)) ↔ B
+printed-so : {B : Type 0} (outcome wanted : Outcome) (text : List ℕ) (before now : Option (List ℕ)) → outcome ≡ wanted ↔ B
+    → (B → now ≡ printed text before) → ((outcome ≡ wanted) × (now ≡ printed text before)) ↔ B
 printed-so outcome wanted text before now exact shown = (λ both. exact.0 both.0, λ b. (exact.1 b, shown b))
 
 -- what is printed of a verdict
-verdict-printed : (reply : Reply) (verdict wanted : Verdict) (before now : Option (List ℕ)) → now ≡ printed (text_of reply.output) before → reply ≡ verdict_reply verdict → verdict ≡ wanted
-    → now ≡ printed (text_of (verdict_reply wanted).output) before
-verdict-printed reply verdict wanted before now text told is = text ∙ ap (λ (r : Reply). printed (text_of r.output) before) (told ∙ ap verdict_reply is)
+verdict-printed : (reply : Reply) (verdict wanted : Verdict) (before now : Option (List ℕ)) → now ≡ printed (text_of reply.output) before
+    → reply ≡ verdict_reply verdict → verdict ≡ wanted → now ≡ printed (text_of (verdict_reply wanted).output) before
+verdict-printed reply verdict wanted before now text told is =
+    text ∙ ap (λ (r : Reply). printed (text_of r.output) before) (told ∙ ap verdict_reply is)
 
 -- ---- `check IMAGE NOTES`
 
@@ -108,9 +109,10 @@ exactly (Some files) words reply outcome tells = λ image notes c answered.
     let t = image-told words files reply image notes c tells.told in
     exactly-so outcome _ outcomes.Done (tells.same answered ∙ ap (λ (r : Reply). r.outcome) t.told) (verdict-done t.verdict) t.neutral
 
-pub neutral-printed : (contents : Option Files) (words : List (List ℕ)) (reply : Reply) (outcome : Outcome) (before now : Option (List ℕ)) → Tells contents words reply outcome
-    → (IsAnswer outcome → now ≡ printed (text_of reply.output) before)
-    → IfSome contents (λ files. (image : Image) (notes : Notes) → ChecksImage words files image notes → IsAnswer outcome → ((outcome ≡ outcomes.Done) × (now ≡ printed neutral_line before)) ↔ Typed image notes)
+pub neutral-printed : (contents : Option Files) (words : List (List ℕ)) (reply : Reply) (outcome : Outcome) (before now : Option (List ℕ))
+    → Tells contents words reply outcome → (IsAnswer outcome → now ≡ printed (text_of reply.output) before)
+    → IfSome contents (λ files. (image : Image) (notes : Notes) → ChecksImage words files image notes → IsAnswer outcome
+    → ((outcome ≡ outcomes.Done) × (now ≡ printed neutral_line before)) ↔ Typed image notes)
 neutral-printed None words reply outcome before now tells text = tt
 neutral-printed (Some files) words reply outcome before now tells text = λ image notes c answered.
     let t = image-told words files reply image notes c tells.told in
@@ -133,14 +135,15 @@ refused (Some files) words reply outcome tells = λ image notes place rule c ans
     let t = image-told words files reply image notes c tells.told in
     exactly-so outcome _ (outcomes.Refused place rule) (tells.same answered ∙ ap (λ (r : Reply). r.outcome) t.told) (verdict-refused t.verdict place rule) (t.refused place rule)
 
-pub refused-printed : (contents : Option Files) (words : List (List ℕ)) (reply : Reply) (outcome : Outcome) (before now : Option (List ℕ)) → Tells contents words reply outcome
-    → (IsAnswer outcome → now ≡ printed (text_of reply.output) before)
+pub refused-printed : (contents : Option Files) (words : List (List ℕ)) (reply : Reply) (outcome : Outcome) (before now : Option (List ℕ))
+    → Tells contents words reply outcome → (IsAnswer outcome → now ≡ printed (text_of reply.output) before)
     → IfSome contents (λ files. (image : Image) (notes : Notes) (place : ℕ) (rule : RuleName) → ChecksImage words files image notes → IsAnswer outcome
     → ((outcome ≡ outcomes.Refused place rule) × (now ≡ printed (refused_line place rule) before)) ↔ IsRefused image notes place rule)
 refused-printed None words reply outcome before now tells text = tt
 refused-printed (Some files) words reply outcome before now tells text = λ image notes place rule c answered.
     let t = image-told words files reply image notes c tells.told in
-    printed-so outcome (outcomes.Refused place rule) (refused_line place rule) before now (refused (Some files) words reply outcome tells image notes place rule c answered)
+    printed-so outcome (outcomes.Refused place rule) (refused_line place rule) before now
+    (refused (Some files) words reply outcome tells image notes place rule c answered)
     (λ is. verdict-printed reply t.verdict (Refused place rule) before now (text answered) t.told ((t.refused place rule).1 is))
 
 -- ---- files that are missing, too large or bad
@@ -152,17 +155,20 @@ of-reply outcome told wanted same exact = (λ e. exact.0 (sym same ∙ e), λ b.
 pub missing : (contents : Option Files) (words : List (List ℕ)) (reply : Reply) (outcome : Outcome) → Tells contents words reply outcome
     → IfSome contents (λ files. (word : ℕ) → IsAnswer outcome → outcome ≡ outcomes.Missing word ↔ HasMissingFile words files word)
 missing None words reply outcome tells = tt
-missing (Some files) words reply outcome tells = λ word answered. of-reply outcome reply.outcome _ (tells.same answered) (missing-exactly words files reply word tells.told)
+missing (Some files) words reply outcome tells =
+    λ word answered. of-reply outcome reply.outcome _ (tells.same answered) (missing-exactly words files reply word tells.told)
 
 pub too-large : (contents : Option Files) (words : List (List ℕ)) (reply : Reply) (outcome : Outcome) → Tells contents words reply outcome
     → IfSome contents (λ files. (word : ℕ) → IsAnswer outcome → outcome ≡ outcomes.TooLarge word ↔ HasLargeFile words files word)
 too-large None words reply outcome tells = tt
-too-large (Some files) words reply outcome tells = λ word answered. of-reply outcome reply.outcome _ (tells.same answered) (large-exactly words files reply word tells.told)
+too-large (Some files) words reply outcome tells =
+    λ word answered. of-reply outcome reply.outcome _ (tells.same answered) (large-exactly words files reply word tells.told)
 
 pub bad-input : (contents : Option Files) (words : List (List ℕ)) (reply : Reply) (outcome : Outcome) → Tells contents words reply outcome
     → IfSome contents (λ files. (word fault : ℕ) → IsAnswer outcome → outcome ≡ outcomes.BadInput word fault ↔ HasBadInput words files word fault)
 bad-input None words reply outcome tells = tt
-bad-input (Some files) words reply outcome tells = λ word fault answered. of-reply outcome reply.outcome _ (tells.same answered) (bad-exactly words files reply word fault tells.told)
+bad-input (Some files) words reply outcome tells =
+    λ word fault answered. of-reply outcome reply.outcome _ (tells.same answered) (bad-exactly words files reply word fault tells.told)
 
 -- ---- `list IMAGE`
 
@@ -174,8 +180,8 @@ pub lists-always : (contents : Option Files) (words : List (List ℕ)) (reply : 
 lists-always None words reply outcome tells = tt
 lists-always (Some files) words reply outcome tells = λ image c answered. tells.same answered ∙ ap (λ (r : Reply). r.outcome) (listing-told words files reply image c tells.told)
 
-pub lists-exactly : (contents : Option Files) (words : List (List ℕ)) (reply : Reply) (outcome : Outcome) (before now : Option (List ℕ)) → Tells contents words reply outcome
-    → (IsAnswer outcome → now ≡ printed (text_of reply.output) before)
+pub lists-exactly : (contents : Option Files) (words : List (List ℕ)) (reply : Reply) (outcome : Outcome) (before now : Option (List ℕ))
+    → Tells contents words reply outcome → (IsAnswer outcome → now ≡ printed (text_of reply.output) before)
     → IfSome contents (λ files. (image : Image) → ListsImage words files image → IsAnswer outcome → now ≡ printed (listing_of image) before)
 lists-exactly None words reply outcome before now tells text = tt
 lists-exactly (Some files) words reply outcome before now tells text = λ image c answered.
@@ -198,8 +204,8 @@ assembles-exactly None words reply outcome left tells files_are = tt
 assembles-exactly (Some files) words reply outcome left tells files_are = λ name object c answered.
     files_are answered ∙ ap (λ (r : Reply). Some (files_left r.output files)) (object-told words files reply name object c tells.told)
 
-pub bad-source-line : (contents : Option Files) (words : List (List ℕ)) (reply : Reply) (outcome : Outcome) (before now : Option (List ℕ)) → Tells contents words reply outcome
-    → (IsAnswer outcome → now ≡ printed (text_of reply.output) before)
+pub bad-source-line : (contents : Option Files) (words : List (List ℕ)) (reply : Reply) (outcome : Outcome) (before now : Option (List ℕ))
+    → Tells contents words reply outcome → (IsAnswer outcome → now ≡ printed (text_of reply.output) before)
     → IfSome contents (λ files. (name : List ℕ) (kind : AsmFault) (line : ℕ) → HasBadLine words files name kind line → IsAnswer outcome → now ≡ printed (bad_line name (asm_fault_text kind) (decimal line)) before)
 bad-source-line None words reply outcome before now tells text = tt
 bad-source-line (Some files) words reply outcome before now tells text = λ name kind line c answered.
@@ -212,7 +218,8 @@ record IsSilent (words : List (List ℕ)) (reply : Reply) : Type 0 where
   text : text_of reply.output ≡ []
   names : written_name reply.output ≢ None → output_of (command_of words) ≢ None
 
-silent : (words : List (List ℕ)) (files : Files) (reply : Reply) → HasNoText words files → IsAnswerOf words files reply → IsSilent words reply
+silent : (words : List (List ℕ)) (files : Files) (reply : Reply) → HasNoText words files → IsAnswerOf words files reply
+    → IsSilent words reply
 silent words files reply (writes_object name object c) told = record {
   text = ap (λ (r : Reply). text_of r.output) (object-told words files reply name object c told);
   names = λ named. rw c.command (λ none. cc);
@@ -222,12 +229,14 @@ silent words files reply (empty_listing image c empty) told = record {
   names = λ named. absurd (named (ap (λ (r : Reply). written_name r.output) (listing-told words files reply image c told)));
 }
 
-pub unput : {S : Type 0} (contents : Option Files) (words : List (List ℕ)) (reply : Reply) (outcome : Outcome) (old now : S) → Tells contents words reply outcome
-    → (text_of reply.output ≡ [] → now ≡ old) → IfSome contents (λ files. HasNoText words files → now ≡ old)
+pub unput : {S : Type 0} (contents : Option Files) (words : List (List ℕ)) (reply : Reply) (outcome : Outcome) (old now : S)
+    → Tells contents words reply outcome → (text_of reply.output ≡ [] → now ≡ old)
+    → IfSome contents (λ files. HasNoText words files → now ≡ old)
 unput None words reply outcome old now tells none = tt
 unput (Some files) words reply outcome old now tells none = λ no_text. none (silent words files reply no_text tells.told).text
 
-pub untold : {R : Type 0} (contents : Option Files) (words : List (List ℕ)) (reply : Reply) (outcome : Outcome) → Tells contents words reply outcome
+pub untold : {R : Type 0} (contents : Option Files) (words : List (List ℕ)) (reply : Reply) (outcome : Outcome)
+    → Tells contents words reply outcome
     → (text_of reply.output ≡ [] → outcome ≡ outcomes.WriteFault → (written_name reply.output ≢ None) × R)
     → IfSome contents (λ files. HasNoText words files → outcome ≡ outcomes.WriteFault → (output_of (command_of words) ≢ None) × R)
 untold None words reply outcome tells none = tt
@@ -264,7 +273,8 @@ done-fits : (words : List (List ℕ)) (files : Files) (reply : Reply) (code : Li
 done-fits words files reply code c told done = code-fits c.name code reply _ refl (code-told words files reply code c told) done
 
 -- a reply about code within the limit is that of the verdict
-reply-told : (words : List (List ℕ)) (files : Files) (reply : Reply) (code : List ℕ) → ChecksCode words files code → length code ≤ plain_code_limit → IsAnswerOf words files reply → reply ≡ verdict_reply (plain_verdict code)
+reply-told : (words : List (List ℕ)) (files : Files) (reply : Reply) (code : List ℕ) → ChecksCode words files code
+    → length code ≤ plain_code_limit → IsAnswerOf words files reply → reply ≡ verdict_reply (plain_verdict code)
 reply-told words files reply code c fits told = code-verdict c.name code reply _ refl fits (code-told words files reply code c told)
 
 verdict-told : (words : List (List ℕ)) (files : Files) (reply : Reply) (outcome : Outcome) → Tells (Some files) words reply outcome → (code : List ℕ) → ChecksCode words files code → length code ≤ plain_code_limit → IsAnswer outcome
@@ -293,19 +303,23 @@ plain-refused None words reply outcome tells = tt
 plain-refused (Some files) words reply outcome tells = λ code place rule c fits answered.
     exactly-so outcome _ (outcomes.Refused place rule) (verdict-told words files reply outcome tells code c fits answered) (verdict-refused (plain_verdict code) place rule) (refused-exactly code place rule)
 
-pub plain-neutral-printed : (contents : Option Files) (words : List (List ℕ)) (reply : Reply) (outcome : Outcome) (before now : Option (List ℕ)) → Tells contents words reply outcome
-    → (IsAnswer outcome → now ≡ printed (text_of reply.output) before)
-    → IfSome contents (λ files. (code : List ℕ) → ChecksCode words files code → length code ≤ plain_code_limit → IsAnswer outcome → ((outcome ≡ outcomes.Done) × (now ≡ printed neutral_line before)) ↔ plain.IsNeutral code)
+pub plain-neutral-printed : (contents : Option Files) (words : List (List ℕ)) (reply : Reply) (outcome : Outcome) (before now : Option (List ℕ))
+    → Tells contents words reply outcome → (IsAnswer outcome → now ≡ printed (text_of reply.output) before)
+    → IfSome contents (λ files. (code : List ℕ) → ChecksCode words files code → length code ≤ plain_code_limit → IsAnswer outcome
+    → ((outcome ≡ outcomes.Done) × (now ≡ printed neutral_line before)) ↔ plain.IsNeutral code)
 plain-neutral-printed None words reply outcome before now tells text = tt
 plain-neutral-printed (Some files) words reply outcome before now tells text = λ code c fits answered.
     printed-so outcome outcomes.Done neutral_line before now (plain-exactly (Some files) words reply outcome tells code c fits answered)
-    (λ is. verdict-printed reply (plain_verdict code) Neutral before now (text answered) (reply-told words files reply code c fits tells.told) ((neutral-exactly code).1 is))
+    (λ is. verdict-printed reply (plain_verdict code) Neutral before now (text answered) (reply-told words files reply code c fits tells.told)
+    ((neutral-exactly code).1 is))
 
-pub plain-refused-printed : (contents : Option Files) (words : List (List ℕ)) (reply : Reply) (outcome : Outcome) (before now : Option (List ℕ)) → Tells contents words reply outcome
-    → (IsAnswer outcome → now ≡ printed (text_of reply.output) before)
+pub plain-refused-printed : (contents : Option Files) (words : List (List ℕ)) (reply : Reply) (outcome : Outcome) (before now : Option (List ℕ))
+    → Tells contents words reply outcome → (IsAnswer outcome → now ≡ printed (text_of reply.output) before)
     → IfSome contents (λ files. (code : List ℕ) (place : ℕ) (rule : RuleName) → ChecksCode words files code → length code ≤ plain_code_limit → IsAnswer outcome
     → ((outcome ≡ outcomes.Refused place rule) × (now ≡ printed (refused_line place rule) before)) ↔ plain.IsRefused code place rule)
 plain-refused-printed None words reply outcome before now tells text = tt
 plain-refused-printed (Some files) words reply outcome before now tells text = λ code place rule c fits answered.
-    printed-so outcome (outcomes.Refused place rule) (refused_line place rule) before now (plain-refused (Some files) words reply outcome tells code place rule c fits answered)
-    (λ is. verdict-printed reply (plain_verdict code) (Refused place rule) before now (text answered) (reply-told words files reply code c fits tells.told) ((refused-exactly code place rule).1 is))
+    printed-so outcome (outcomes.Refused place rule) (refused_line place rule) before now
+    (plain-refused (Some files) words reply outcome tells code place rule c fits answered)
+    (λ is. verdict-printed reply (plain_verdict code) (Refused place rule) before now (text answered)
+    (reply-told words files reply code c fits tells.told) ((refused-exactly code place rule).1 is))

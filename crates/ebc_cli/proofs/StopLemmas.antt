@@ -1,5 +1,6 @@
 -- What comes of reading the files that words name: the work, or the reply at which the reading stops, by its cause.
-use Rattle.std.proofs.Common.{◌≡◌, ◌↔◌, ◌⊎◌, ℕ, ◌<◌, ◌≤◌, List, [], ◌∷◌, length, Option, Some, None, Result, Ok, Err, Bool, true, false, nat_lt, if◌then◌else◌, inl, inr, refl, sym, ap, ◌∙◌, arith}
+use Rattle.std.proofs.Common.{◌≡◌, ◌↔◌, ◌⊎◌, ℕ, ◌<◌, List, [], ◌∷◌, length, Option, Some, None, Result, Ok, Err, Bool, true, false, nat_lt, if◌then◌else◌, inl, inr, refl, sym, ap, ◌∙◌, arith}
+use Rattle.std.proofs.lemmas.Bool.{le-ltb, lt-ltb}
 use Rattle.std.proofs.lemmas.Bool.Decides.{nat_tests}
 use Rattle.std.specs.FinMap.{get}
 use Rattle.asm_text.specs.declared.fault.AsmFault.{AsmFault}
@@ -29,11 +30,6 @@ use Rattle.ebc_cli.specs.Inputs.{input, or_reply, image_limit, image_meaning, no
 use Rattle.ebc_cli.specs.Works.{work_of, work_for, code_check, image_check, image_listing, assembly, verdict_reply, usage_reply, IsReplyOf, plain_code_limit}
 use Rattle.ebc_cli.specs.Answers.{IsAnswerOf, HasFile, Assembles, ChecksImage, ListsImage, NamesImage, to_check, to_list, ComesToNotes, HasTurn, code_turn, image_turn, notes_turn, source_turn, HasMissingFile, HasLargeFile, HasBadImage, HasBadLine, HasBadNotes, HasBadInput, bad_image, bad_notes, bad_source}
 
--- a length within a limit isn't past it
-within : (limit n : ℕ) (past : Bool) → nat_lt limit n ≡ past → n ≤ limit → past ≡ false
-within limit n true e fits = absurd (let past : limit < n = grind (arith, nat_tests) in omega arith)
-within limit n false e fits = refl
-
 -- ---- steps of reading
 
 -- a value that comes of two steps comes of both
@@ -42,7 +38,8 @@ record BothGo {A B : Type 0} (v : Result A Reply) (f : A → FileReading B) (y :
   first : v ≡ Ok one
   second : (f one).value ≡ Ok y
 
-go-on-ok : {A B : Type 0} (asked : List (List ℕ)) (v : Result A Reply) (f : A → FileReading B) (y : B) → (go_on asked v f).value ≡ Ok y → BothGo v f y
+go-on-ok : {A B : Type 0} (asked : List (List ℕ)) (v : Result A Reply) (f : A → FileReading B) (y : B) → (go_on asked v f).value ≡ Ok y
+    → BothGo v f y
 go-on-ok asked (Ok x) f y e = record { one = x; first = refl; second = e }
 go-on-ok asked (Err reply) f y e = absurd cc
 
@@ -51,18 +48,21 @@ data OneStops {A B : Type 0} (v : Result A Reply) (f : A → FileReading B) (rep
   first_stops : v ≡ Err reply → OneStops v f reply
   second_stops : (x : A) → v ≡ Ok x → (f x).value ≡ Err reply → OneStops v f reply
 
-go-on-err : {A B : Type 0} (asked : List (List ℕ)) (v : Result A Reply) (f : A → FileReading B) (reply : Reply) → (go_on asked v f).value ≡ Err reply → OneStops v f reply
+go-on-err : {A B : Type 0} (asked : List (List ℕ)) (v : Result A Reply) (f : A → FileReading B) (reply : Reply)
+    → (go_on asked v f).value ≡ Err reply → OneStops v f reply
 go-on-err asked (Ok x) f reply e = second_stops x refl e
 go-on-err asked (Err first) f reply e = let same : first ≡ reply = cc in first_stops (ap Err same)
 
 -- ---- a file
 
-sized : (name : List ℕ) (limit : ℕ) (files : Files) (reply : Reply) (found bytes : List ℕ) (past : Bool) → get files name ≡ Some found → nat_lt limit (length found) ≡ past
-    → (if past then Err reply else Ok found) ≡ Ok bytes → HasFile files name limit bytes
+sized : (name : List ℕ) (limit : ℕ) (files : Files) (reply : Reply) (found bytes : List ℕ) (past : Bool) → get files name ≡ Some found
+    → nat_lt limit (length found) ≡ past → (if past then Err reply else Ok found) ≡ Ok bytes → HasFile files name limit bytes
 sized name limit files reply found bytes true there e same = absurd cc
-sized name limit files reply found bytes false there e same = let is : found ≡ bytes = cc in record { there = rw (sym is) there; fits = rw (sym is) (grind (arith, nat_tests)) }
+sized name limit files reply found bytes false there e same =
+    let is : found ≡ bytes = cc in record { there = rw (sym is) there; fits = rw (sym is) (grind (arith, nat_tests)) }
 
-measured-ok : (word : ℕ) (name : List ℕ) (limit : ℕ) (files : Files) (x : Option (List ℕ)) (bytes : List ℕ) → get files name ≡ x → measured word name limit x ≡ Ok bytes → HasFile files name limit bytes
+measured-ok : (word : ℕ) (name : List ℕ) (limit : ℕ) (files : Files) (x : Option (List ℕ)) (bytes : List ℕ) → get files name ≡ x
+    → measured word name limit x ≡ Ok bytes → HasFile files name limit bytes
 measured-ok word name limit files None bytes there e = absurd cc
 measured-ok word name limit files (Some found) bytes there e = sized name limit files _ found bytes _ there refl e
 
@@ -71,12 +71,14 @@ data NotRead (word : ℕ) (name : List ℕ) (limit : ℕ) (files : Files) (reply
   is_gone : get files name ≡ None → reply ≡ missing_reply word name → NotRead word name limit files reply
   is_past : (bytes : List ℕ) → get files name ≡ Some bytes → limit < length bytes → reply ≡ large_reply word name → NotRead word name limit files reply
 
-sized-err : (word : ℕ) (name : List ℕ) (limit : ℕ) (files : Files) (found : List ℕ) (reply : Reply) (past : Bool) → get files name ≡ Some found → nat_lt limit (length found) ≡ past
+sized-err : (word : ℕ) (name : List ℕ) (limit : ℕ) (files : Files) (found : List ℕ) (reply : Reply) (past : Bool)
+    → get files name ≡ Some found → nat_lt limit (length found) ≡ past
     → (if past then Err (large_reply word name) else Ok found) ≡ Err reply → NotRead word name limit files reply
 sized-err word name limit files found reply true there e same = is_past found there (grind (arith, nat_tests)) cc
 sized-err word name limit files found reply false there e same = absurd cc
 
-measured-err : (word : ℕ) (name : List ℕ) (limit : ℕ) (files : Files) (x : Option (List ℕ)) (reply : Reply) → get files name ≡ x → measured word name limit x ≡ Err reply → NotRead word name limit files reply
+measured-err : (word : ℕ) (name : List ℕ) (limit : ℕ) (files : Files) (x : Option (List ℕ)) (reply : Reply) → get files name ≡ x
+    → measured word name limit x ≡ Err reply → NotRead word name limit files reply
 measured-err word name limit files None reply there e = is_gone there cc
 measured-err word name limit files (Some found) reply there e = sized-err word name limit files found reply _ there refl e
 
@@ -88,21 +90,23 @@ record IsRead {A : Type 0} (limit : ℕ) (meaning : List ℕ → Result A Reply)
   file : HasFile files name limit bytes
   is : meaning bytes ≡ value
 
-input-ok : {A : Type 0} (limit : ℕ) (meaning : ℕ → List ℕ → List ℕ → Result A Reply) (word : ℕ) (name : List ℕ) (files : Files) (x : A) → (input limit meaning word name files).value ≡ Ok x
-    → IsRead limit (meaning word name) name files (Ok x)
+input-ok : {A : Type 0} (limit : ℕ) (meaning : ℕ → List ℕ → List ℕ → Result A Reply) (word : ℕ) (name : List ℕ) (files : Files) (x : A)
+    → (input limit meaning word name files).value ≡ Ok x → IsRead limit (meaning word name) name files (Ok x)
 unfolding input file
 input-ok limit meaning word name files x e =
     let both = go-on-ok (name ∷ []) (measured word name limit (get files name)) (λ bytes. told (meaning word name bytes)) x e in
     record { bytes = both.one; file = measured-ok word name limit files (get files name) both.one refl both.first; is = both.second }
 
 -- where the reading of a file stops, it wasn't read, or its bytes mean the reply
-input-err : {A : Type 0} (limit : ℕ) (meaning : ℕ → List ℕ → List ℕ → Result A Reply) (word : ℕ) (name : List ℕ) (files : Files) (reply : Reply) → (input limit meaning word name files).value ≡ Err reply
+input-err : {A : Type 0} (limit : ℕ) (meaning : ℕ → List ℕ → List ℕ → Result A Reply) (word : ℕ) (name : List ℕ) (files : Files) (reply : Reply)
+    → (input limit meaning word name files).value ≡ Err reply
     → NotRead word name limit files reply ⊎ IsRead limit (meaning word name) name files (Err reply)
 unfolding input file
 input-err limit meaning word name files reply e =
     elim (go-on-err (name ∷ []) (measured word name limit (get files name)) (λ bytes. told (meaning word name bytes)) reply e) [
       | first_stops stops ↦ inl (measured-err word name limit files (get files name) reply refl stops)
-      | second_stops bytes goes stops ↦ inr record { bytes = bytes; file = measured-ok word name limit files (get files name) bytes refl goes; is = stops }
+      | second_stops bytes goes stops ↦
+          inr record { bytes = bytes; file = measured-ok word name limit files (get files name) bytes refl goes; is = stops }
     ]
 
 -- a reply in a value's place is the reply to a fault
@@ -131,8 +135,10 @@ data Stops (words : List (List ℕ)) (files : Files) (outcome : Outcome) : Type 
 outcome-of : (one two : Reply) → one ≡ two → one.outcome ≡ two.outcome
 outcome-of one two same = ap (λ (r : Reply). r.outcome) same
 
-turn-stops : (words : List (List ℕ)) (files : Files) (word : ℕ) (name : List ℕ) (limit : ℕ) (reply : Reply) → HasTurn words files word name limit → NotRead word name limit files reply → Stops words files reply.outcome
-turn-stops words files word name limit reply turn (is_gone gone e) = missing_file word record { name = name; limit = limit; turn = turn; gone = gone } (outcome-of reply _ e)
+turn-stops : (words : List (List ℕ)) (files : Files) (word : ℕ) (name : List ℕ) (limit : ℕ) (reply : Reply)
+    → HasTurn words files word name limit → NotRead word name limit files reply → Stops words files reply.outcome
+turn-stops words files word name limit reply turn (is_gone gone e) =
+    missing_file word record { name = name; limit = limit; turn = turn; gone = gone } (outcome-of reply _ e)
 turn-stops words files word name limit reply turn (is_past bytes there past e) =
     large_file word record {
       name = name;
@@ -143,8 +149,8 @@ turn-stops words files word name limit reply turn (is_past bytes there past e) =
       past = past;
     } (outcome-of reply _ e)
 
-image-fault : (words : List (List ℕ)) (files : Files) (name bytes : List ℕ) (p : ImageFault × ℕ) (reply : Reply) → NamesImage words name → HasFile files name image_limit bytes
-    → image_of bytes ≡ Err p → bad_image_reply 1 name p ≡ reply → Stops words files reply.outcome
+image-fault : (words : List (List ℕ)) (files : Files) (name bytes : List ℕ) (p : ImageFault × ℕ) (reply : Reply) → NamesImage words name
+    → HasFile files name image_limit bytes → image_of bytes ≡ Err p → bad_image_reply 1 name p ≡ reply → Stops words files reply.outcome
 image-fault words files name bytes (kind, offset) reply command there no_image is_told =
     bad_file 1 (image_fault_number kind) (bad_image refl record {
       name = name;
@@ -158,14 +164,16 @@ image-fault words files name bytes (kind, offset) reply command there no_image i
     }) (outcome-of reply _ (sym is_told))
 
 image-stops : (words : List (List ℕ)) (files : Files) (name : List ℕ) (reply : Reply) → NamesImage words name
-    → NotRead 1 name image_limit files reply ⊎ IsRead image_limit (image_meaning 1 name) name files (Err reply) → Stops words files reply.outcome
+    → NotRead 1 name image_limit files reply ⊎ IsRead image_limit (image_meaning 1 name) name files (Err reply)
+    → Stops words files reply.outcome
 image-stops words files name reply command (inl none) = turn-stops words files 1 name image_limit reply (image_turn refl refl command) none
 image-stops words files name reply command (inr read) =
     let failed = or-err (bad_image_reply 1 name) (image_of read.bytes) reply read.is in
     image-fault words files name read.bytes failed.fault reply command read.file failed.is failed.told_is
 
 notes-stops : (words : List (List ℕ)) (files : Files) (name : List ℕ) (reply : Reply) → ComesToNotes words files name
-    → NotRead 2 name notes_limit files reply ⊎ IsRead notes_limit (notes_meaning 2 name) name files (Err reply) → Stops words files reply.outcome
+    → NotRead 2 name notes_limit files reply ⊎ IsRead notes_limit (notes_meaning 2 name) name files (Err reply)
+    → Stops words files reply.outcome
 notes-stops words files name reply turn (inl none) = turn-stops words files 2 name notes_limit reply (notes_turn refl refl turn) none
 notes-stops words files name reply turn (inr read) =
     let failed = or-err (bad_notes_reply 2 name) (notes_of read.bytes) reply read.is in
@@ -179,8 +187,9 @@ notes-stops words files name reply turn (inr read) =
       number = refl;
     }) (outcome-of reply _ (sym failed.told_is))
 
-source-fault : (words : List (List ℕ)) (files : Files) (name object_name text : List ℕ) (p : AsmFault × ℕ) (reply : Reply) → command_of words ≡ Some (Assemble name object_name)
-    → HasFile files name source_limit text → object_of text ≡ Err p → bad_source_reply 1 name p ≡ reply → Stops words files reply.outcome
+source-fault : (words : List (List ℕ)) (files : Files) (name object_name text : List ℕ) (p : AsmFault × ℕ) (reply : Reply)
+    → command_of words ≡ Some (Assemble name object_name) → HasFile files name source_limit text → object_of text ≡ Err p
+    → bad_source_reply 1 name p ≡ reply → Stops words files reply.outcome
 source-fault words files name object_name text (kind, line) reply command there no_object is_told =
     bad_file 1 (asm_fault_number kind) (bad_source refl record {
       name = name;
@@ -196,9 +205,12 @@ source-fault words files name object_name text (kind, line) reply command there 
       number = refl;
     }) (outcome-of reply _ (sym is_told))
 
-source-stops : (words : List (List ℕ)) (files : Files) (name object_name : List ℕ) (reply : Reply) → command_of words ≡ Some (Assemble name object_name)
-    → NotRead 1 name source_limit files reply ⊎ IsRead source_limit (source_meaning 1 name) name files (Err reply) → Stops words files reply.outcome
-source-stops words files name object_name reply command (inl none) = turn-stops words files 1 name source_limit reply (source_turn object_name refl refl command) none
+source-stops : (words : List (List ℕ)) (files : Files) (name object_name : List ℕ) (reply : Reply)
+    → command_of words ≡ Some (Assemble name object_name)
+    → NotRead 1 name source_limit files reply ⊎ IsRead source_limit (source_meaning 1 name) name files (Err reply)
+    → Stops words files reply.outcome
+source-stops words files name object_name reply command (inl none) =
+    turn-stops words files 1 name source_limit reply (source_turn object_name refl refl command) none
 source-stops words files name object_name reply command (inr read) =
     let failed = or-err (bad_source_reply 1 name) (object_of read.bytes) reply read.is in
     source-fault words files name object_name read.bytes failed.fault reply command read.file failed.is failed.told_is
@@ -211,10 +223,12 @@ work-stop v make reply (first_stops stops) = stops
 work-stop v make reply (second_stops x goes stops) = absurd cc
 
 -- a file of one command stops its reading
-one-stop : {A : Type 0} (run : FileReading A) (make : A → Work) (reply : Reply) → (run >>= (λ x. done (make x))).value ≡ Err reply → run.value ≡ Err reply
+one-stop : {A : Type 0} (run : FileReading A) (make : A → Work) (reply : Reply) → (run >>= (λ x. done (make x))).value ≡ Err reply
+    → run.value ≡ Err reply
 one-stop run make reply e = work-stop run.value make reply (go-on-err run.asked run.value (λ x. done (make x)) reply e)
 
-image-read : (words : List (List ℕ)) (files : Files) (a b : List ℕ) (image : Image) → command_of words ≡ Some (CheckImage a b) → IsRead image_limit (image_meaning 1 a) a files (Ok image) → ComesToNotes words files b
+image-read : (words : List (List ℕ)) (files : Files) (a b : List ℕ) (image : Image) → command_of words ≡ Some (CheckImage a b)
+    → IsRead image_limit (image_meaning 1 a) a files (Ok image) → ComesToNotes words files b
 image-read words files a b image command read = record {
   image_name = a;
   bytes = read.bytes;
@@ -225,13 +239,17 @@ image-read words files a b image command read = record {
 }
 
 check-stops : (words : List (List ℕ)) (files : Files) (reply : Reply) (a b : List ℕ) → command_of words ≡ Some (CheckImage a b)
-    → OneStops (input image_limit image_meaning 1 a files).value (λ image. input notes_limit notes_meaning 2 b files >>= (λ notes. done (works.CheckImage image notes))) reply → Stops words files reply.outcome
-check-stops words files reply a b command (first_stops stops) = image-stops words files a reply (to_check b command) (input-err image_limit image_meaning 1 a files reply stops)
+    → OneStops (input image_limit image_meaning 1 a files).value (λ image. input notes_limit notes_meaning 2 b files >>= (λ notes. done (works.CheckImage image notes))) reply
+    → Stops words files reply.outcome
+check-stops words files reply a b command (first_stops stops) =
+    image-stops words files a reply (to_check b command) (input-err image_limit image_meaning 1 a files reply stops)
 check-stops words files reply a b command (second_stops image goes stops) =
     notes-stops words files b reply (image-read words files a b image command (input-ok image_limit image_meaning 1 a files image goes))
-    (input-err notes_limit notes_meaning 2 b files reply (one-stop (input notes_limit notes_meaning 2 b files) (λ notes. works.CheckImage image notes) reply stops))
+    (input-err notes_limit notes_meaning 2 b files reply
+    (one-stop (input notes_limit notes_meaning 2 b files) (λ notes. works.CheckImage image notes) reply stops))
 
-by-command : (words : List (List ℕ)) (files : Files) (reply : Reply) (c : Option Command) → command_of words ≡ c → (work_for c files).value ≡ Err reply → Stops words files reply.outcome
+by-command : (words : List (List ℕ)) (files : Files) (reply : Reply) (c : Option Command) → command_of words ≡ c
+    → (work_for c files).value ≡ Err reply → Stops words files reply.outcome
 unfolding code_check image_check image_listing assembly file
 by-command words files reply None command e = no_command (let same : usage_reply ≡ reply = cc in outcome-of reply _ (sym same))
 by-command words files reply (Some (CheckCode a)) command e =
@@ -239,87 +257,124 @@ by-command words files reply (Some (CheckCode a)) command e =
     (measured-err 1 a plain_code_limit files (get files a) reply refl (one-stop (file 1 a plain_code_limit files) works.CheckCode reply e))
 by-command words files reply (Some (CheckImage a b)) command e =
     let image_in = input image_limit image_meaning 1 a files in
-    check-stops words files reply a b command (go-on-err image_in.asked image_in.value (λ image. input notes_limit notes_meaning 2 b files >>= (λ notes. done (works.CheckImage image notes))) reply e)
+    check-stops words files reply a b command
+    (go-on-err image_in.asked image_in.value
+    (λ image. input notes_limit notes_meaning 2 b files >>= (λ notes. done (works.CheckImage image notes))) reply e)
 by-command words files reply (Some (ListImage a)) command e =
-    image-stops words files a reply (to_list command) (input-err image_limit image_meaning 1 a files reply (one-stop (input image_limit image_meaning 1 a files) works.ListImage reply e))
+    image-stops words files a reply (to_list command)
+    (input-err image_limit image_meaning 1 a files reply (one-stop (input image_limit image_meaning 1 a files) works.ListImage reply e))
 by-command words files reply (Some (Assemble a b)) command e =
-    source-stops words files a b reply command (input-err source_limit source_meaning 1 a files reply (one-stop (input source_limit source_meaning 1 a files) (λ object. works.WriteObject b object) reply e))
+    source-stops words files a b reply command
+    (input-err source_limit source_meaning 1 a files reply (one-stop (input source_limit source_meaning 1 a files) (λ object. works.WriteObject b object) reply e))
 
 -- ---- and back
 
-pub image-work : (words : List (List ℕ)) (files : Files) (image : Image) (notes : Notes) → ChecksImage words files image notes → (work_of words files).value ≡ Ok (works.CheckImage image notes)
+pub image-work : (words : List (List ℕ)) (files : Files) (image : Image) (notes : Notes) → ChecksImage words files image notes
+    → (work_of words files).value ≡ Ok (works.CheckImage image notes)
 unfolding work_of image_check input file
 image-work words files image notes c =
-    rw (c.command, c.image_file.there, c.notes_file.there, within image_limit (length c.bytes) _ refl c.image_file.fits, within notes_limit (length c.text) _ refl c.notes_file.fits, c.image_is, c.notes_are) refl
+    rw (
+      c.command,
+      c.image_file.there,
+      c.notes_file.there,
+      le-ltb image_limit (length c.bytes) c.image_file.fits,
+      le-ltb notes_limit (length c.text) c.notes_file.fits,
+      c.image_is,
+      c.notes_are,
+    ) refl
 
-pub listing-work : (words : List (List ℕ)) (files : Files) (image : Image) → ListsImage words files image → (work_of words files).value ≡ Ok (works.ListImage image)
+pub listing-work : (words : List (List ℕ)) (files : Files) (image : Image) → ListsImage words files image
+    → (work_of words files).value ≡ Ok (works.ListImage image)
 unfolding work_of image_listing input file
-listing-work words files image c = rw (c.command, c.image_file.there, within image_limit (length c.bytes) _ refl c.image_file.fits, c.image_is) refl
+listing-work words files image c =
+    rw (c.command, c.image_file.there, le-ltb image_limit (length c.bytes) c.image_file.fits, c.image_is) refl
 
-pub assembly-work : (words : List (List ℕ)) (files : Files) (name : List ℕ) (object : Object) → Assembles words files name object → (work_of words files).value ≡ Ok (works.WriteObject name object)
+pub assembly-work : (words : List (List ℕ)) (files : Files) (name : List ℕ) (object : Object) → Assembles words files name object
+    → (work_of words files).value ≡ Ok (works.WriteObject name object)
 unfolding work_of assembly input file
-assembly-work words files name object c = rw (c.command, c.source_file.there, within source_limit (length c.text) _ refl c.source_file.fits, c.object_is) refl
+assembly-work words files name object c =
+    rw (c.command, c.source_file.there, le-ltb source_limit (length c.text) c.source_file.fits, c.object_is) refl
 
 -- a file that isn't read in its turn stops the reading
-image-unread : (words : List (List ℕ)) (files : Files) (name : List ℕ) (reply : Reply) → NamesImage words name → measured 1 name image_limit (get files name) ≡ Err reply → (work_of words files).value ≡ Err reply
+image-unread : (words : List (List ℕ)) (files : Files) (name : List ℕ) (reply : Reply) → NamesImage words name
+    → measured 1 name image_limit (get files name) ≡ Err reply → (work_of words files).value ≡ Err reply
 unfolding work_of image_check image_listing input file
 image-unread words files name reply (to_check notes_name command) stops = rw (command, stops) refl
 image-unread words files name reply (to_list command) stops = rw (command, stops) refl
 
-unread : (words : List (List ℕ)) (files : Files) (word : ℕ) (name : List ℕ) (limit : ℕ) (reply : Reply) → HasTurn words files word name limit → measured word name limit (get files name) ≡ Err reply
-    → (work_of words files).value ≡ Err reply
+unread : (words : List (List ℕ)) (files : Files) (word : ℕ) (name : List ℕ) (limit : ℕ) (reply : Reply)
+    → HasTurn words files word name limit → measured word name limit (get files name) ≡ Err reply → (work_of words files).value ≡ Err reply
 unfolding work_of code_check image_check assembly input file
 unread words files word name limit reply (code_turn number size command) stops =
     let here : measured 1 name plain_code_limit (get files name) ≡ Err reply = rw (number, size) at stops in
     rw (command, here) refl
-unread words files word name limit reply (image_turn number size command) stops = image-unread words files name reply command (rw (number, size) at stops)
+unread words files word name limit reply (image_turn number size command) stops =
+    image-unread words files name reply command (rw (number, size) at stops)
 unread words files word name limit reply (notes_turn number size turn) stops =
     let here : measured 2 name notes_limit (get files name) ≡ Err reply = rw (number, size) at stops in
-    rw (turn.command, turn.image_file.there, within image_limit (length turn.bytes) _ refl turn.image_file.fits, turn.image_is, here) refl
+    rw (turn.command, turn.image_file.there, le-ltb image_limit (length turn.bytes) turn.image_file.fits, turn.image_is, here) refl
 unread words files word name limit reply (source_turn object_name number size command) stops =
     let here : measured 1 name source_limit (get files name) ≡ Err reply = rw (number, size) at stops in
     rw (command, here) refl
 
-past-limit : (limit n : ℕ) (past : Bool) → nat_lt limit n ≡ past → limit < n → past ≡ true
-past-limit limit n true e more = refl
-past-limit limit n false e more = absurd (let fits : n ≤ limit = grind (arith, nat_tests) in omega arith)
-
-missing-work : (words : List (List ℕ)) (files : Files) (word : ℕ) (x : HasMissingFile words files word) → (work_of words files).value ≡ Err (missing_reply word x.name)
+missing-work : (words : List (List ℕ)) (files : Files) (word : ℕ) (x : HasMissingFile words files word)
+    → (work_of words files).value ≡ Err (missing_reply word x.name)
 missing-work words files word x = unread words files word x.name x.limit _ x.turn (rw x.gone refl)
 
-large-work : (words : List (List ℕ)) (files : Files) (word : ℕ) (x : HasLargeFile words files word) → (work_of words files).value ≡ Err (large_reply word x.name)
-large-work words files word x = unread words files word x.name x.limit _ x.turn (rw (x.there, past-limit x.limit (length x.bytes) _ refl x.past) refl)
+large-work : (words : List (List ℕ)) (files : Files) (word : ℕ) (x : HasLargeFile words files word)
+    → (work_of words files).value ≡ Err (large_reply word x.name)
+large-work words files word x = unread words files word x.name x.limit _ x.turn (rw (x.there, lt-ltb x.limit (length x.bytes) x.past) refl)
 
-bad-image-by : (words : List (List ℕ)) (files : Files) (name bytes : List ℕ) (kind : ImageFault) (offset : ℕ) → NamesImage words name → HasFile files name image_limit bytes
-    → image_of bytes ≡ Err (kind, offset) → (work_of words files).value ≡ Err (bad_image_reply 1 name (kind, offset))
+bad-image-by : (words : List (List ℕ)) (files : Files) (name bytes : List ℕ) (kind : ImageFault) (offset : ℕ) → NamesImage words name
+    → HasFile files name image_limit bytes → image_of bytes ≡ Err (kind, offset)
+    → (work_of words files).value ≡ Err (bad_image_reply 1 name (kind, offset))
 unfolding work_of image_check image_listing input file
-bad-image-by words files name bytes kind offset (to_check notes_name command) found none = rw (command, found.there, within image_limit (length bytes) _ refl found.fits, none) refl
-bad-image-by words files name bytes kind offset (to_list command) found none = rw (command, found.there, within image_limit (length bytes) _ refl found.fits, none) refl
+bad-image-by words files name bytes kind offset (to_check notes_name command) found none =
+    rw (command, found.there, le-ltb image_limit (length bytes) found.fits, none) refl
+bad-image-by words files name bytes kind offset (to_list command) found none =
+    rw (command, found.there, le-ltb image_limit (length bytes) found.fits, none) refl
 
-bad-image-work : (words : List (List ℕ)) (files : Files) (f : ℕ) (x : HasBadImage words files f) → (work_of words files).value ≡ Err (bad_image_reply 1 x.name (x.kind, x.offset))
+bad-image-work : (words : List (List ℕ)) (files : Files) (f : ℕ) (x : HasBadImage words files f)
+    → (work_of words files).value ≡ Err (bad_image_reply 1 x.name (x.kind, x.offset))
 bad-image-work words files f x = bad-image-by words files x.name x.bytes x.kind x.offset x.command x.image_file x.no_image
 
-bad-notes-work : (words : List (List ℕ)) (files : Files) (f : ℕ) (x : HasBadNotes words files f) → (work_of words files).value ≡ Err (bad_notes_reply 2 x.name x.found)
+bad-notes-work : (words : List (List ℕ)) (files : Files) (f : ℕ) (x : HasBadNotes words files f)
+    → (work_of words files).value ≡ Err (bad_notes_reply 2 x.name x.found)
 unfolding work_of image_check input file
 bad-notes-work words files f x =
     let t = x.turn in
-    rw (t.command, t.image_file.there, x.notes_file.there, within image_limit (length t.bytes) _ refl t.image_file.fits, within notes_limit (length x.text) _ refl x.notes_file.fits, t.image_is, x.no_notes) refl
+    rw (
+      t.command,
+      t.image_file.there,
+      x.notes_file.there,
+      le-ltb image_limit (length t.bytes) t.image_file.fits,
+      le-ltb notes_limit (length x.text) x.notes_file.fits,
+      t.image_is,
+      x.no_notes,
+    ) refl
 
-bad-line-work : (words : List (List ℕ)) (files : Files) (name : List ℕ) (kind : AsmFault) (line : ℕ) → HasBadLine words files name kind line → (work_of words files).value ≡ Err (bad_source_reply 1 name (kind, line))
+bad-line-work : (words : List (List ℕ)) (files : Files) (name : List ℕ) (kind : AsmFault) (line : ℕ) → HasBadLine words files name kind line
+    → (work_of words files).value ≡ Err (bad_source_reply 1 name (kind, line))
 unfolding work_of assembly input file
-bad-line-work words files name kind line x = rw (x.command, x.source_file.there, within source_limit (length x.text) _ refl x.source_file.fits, x.no_object) refl
+bad-line-work words files name kind line x =
+    rw (x.command, x.source_file.there, le-ltb source_limit (length x.text) x.source_file.fits, x.no_object) refl
 
 replied : (v : Result Work Reply) (stopped reply : Reply) → v ≡ Err stopped → IsReplyOf v reply → reply ≡ stopped
 replied v stopped reply e told = rw e at told
 
 -- the answer to a source with a fault is that to its first line with one
-pub bad-line-told : (words : List (List ℕ)) (files : Files) (name : List ℕ) (kind : AsmFault) (line : ℕ) (reply : Reply) → HasBadLine words files name kind line → IsAnswerOf words files reply → reply ≡ bad_source_reply 1 name (kind, line)
+pub bad-line-told : (words : List (List ℕ)) (files : Files) (name : List ℕ) (kind : AsmFault) (line : ℕ) (reply : Reply)
+    → HasBadLine words files name kind line → IsAnswerOf words files reply → reply ≡ bad_source_reply 1 name (kind, line)
 bad-line-told words files name kind line reply x told = replied _ _ reply (bad-line-work words files name kind line x) told
 
-bad-back : (words : List (List ℕ)) (files : Files) (reply : Reply) (w f : ℕ) → IsAnswerOf words files reply → HasBadInput words files w f → reply.outcome ≡ outcomes.BadInput w f
-bad-back words files reply w f told (bad_image word x) = outcome-of reply _ (replied _ _ reply (bad-image-work words files f x) told) ∙ rw (word, x.number) refl
-bad-back words files reply w f told (bad_notes word x) = outcome-of reply _ (replied _ _ reply (bad-notes-work words files f x) told) ∙ rw (word, x.number) refl
-bad-back words files reply w f told (bad_source word x) = outcome-of reply _ (bad-line-told words files x.name x.kind x.line reply x.bad_line told) ∙ rw (word, x.number) refl
+bad-back : (words : List (List ℕ)) (files : Files) (reply : Reply) (w f : ℕ) → IsAnswerOf words files reply → HasBadInput words files w f
+    → reply.outcome ≡ outcomes.BadInput w f
+bad-back words files reply w f told (bad_image word x) =
+    outcome-of reply _ (replied _ _ reply (bad-image-work words files f x) told) ∙ rw (word, x.number) refl
+bad-back words files reply w f told (bad_notes word x) =
+    outcome-of reply _ (replied _ _ reply (bad-notes-work words files f x) told) ∙ rw (word, x.number) refl
+bad-back words files reply w f told (bad_source word x) =
+    outcome-of reply _ (bad-line-told words files x.name x.kind x.line reply x.bad_line told) ∙ rw (word, x.number) refl
 
 -- ---- which replies are which
 
@@ -338,44 +393,52 @@ stopped (Ok (works.ListImage image)) reply told none = absurd (none (works-by re
 stopped (Ok (works.WriteObject name object)) reply told none = absurd (none (works-by reply _ told tt))
 stopped (Err end) reply told none = ap Err (sym told)
 
-stops : (words : List (List ℕ)) (files : Files) (reply : Reply) → IsAnswerOf words files reply → (IsWorkAnswer reply.outcome → ⊥) → Stops words files reply.outcome
+stops : (words : List (List ℕ)) (files : Files) (reply : Reply) → IsAnswerOf words files reply → (IsWorkAnswer reply.outcome → ⊥)
+    → Stops words files reply.outcome
 unfolding work_of
-stops words files reply told none = by-command words files reply (command_of words) refl (stopped (work_for (command_of words) files).value reply told none)
+stops words files reply told none =
+    by-command words files reply (command_of words) refl (stopped (work_for (command_of words) files).value reply told none)
 
-bad-by : (words : List (List ℕ)) (files : Files) (outcome : Outcome) (w f : ℕ) → outcome ≡ outcomes.BadInput w f → Stops words files outcome → HasBadInput words files w f
+bad-by : (words : List (List ℕ)) (files : Files) (outcome : Outcome) (w f : ℕ) → outcome ≡ outcomes.BadInput w f → Stops words files outcome
+    → HasBadInput words files w f
 bad-by words files outcome w f bad (no_command e) = absurd cc
 bad-by words files outcome w f bad (missing_file word x e) = absurd cc
 bad-by words files outcome w f bad (large_file word x e) = absurd cc
 bad-by words files outcome w f bad (bad_file word fault x e) = let one : word ≡ w = cc in let two : fault ≡ f = cc in rw (one, two) at x
 
-missing-by : (words : List (List ℕ)) (files : Files) (outcome : Outcome) (w : ℕ) → outcome ≡ outcomes.Missing w → Stops words files outcome → HasMissingFile words files w
+missing-by : (words : List (List ℕ)) (files : Files) (outcome : Outcome) (w : ℕ) → outcome ≡ outcomes.Missing w → Stops words files outcome
+    → HasMissingFile words files w
 missing-by words files outcome w gone (no_command e) = absurd cc
 missing-by words files outcome w gone (missing_file word x e) = let one : word ≡ w = cc in rw one at x
 missing-by words files outcome w gone (large_file word x e) = absurd cc
 missing-by words files outcome w gone (bad_file word fault x e) = absurd cc
 
-large-by : (words : List (List ℕ)) (files : Files) (outcome : Outcome) (w : ℕ) → outcome ≡ outcomes.TooLarge w → Stops words files outcome → HasLargeFile words files w
+large-by : (words : List (List ℕ)) (files : Files) (outcome : Outcome) (w : ℕ) → outcome ≡ outcomes.TooLarge w → Stops words files outcome
+    → HasLargeFile words files w
 large-by words files outcome w past (no_command e) = absurd cc
 large-by words files outcome w past (missing_file word x e) = absurd cc
 large-by words files outcome w past (large_file word x e) = let one : word ≡ w = cc in rw one at x
 large-by words files outcome w past (bad_file word fault x e) = absurd cc
 
 -- an answer is bad input exactly by the first file with a fault
-pub bad-exactly : (words : List (List ℕ)) (files : Files) (reply : Reply) (w f : ℕ) → IsAnswerOf words files reply → reply.outcome ≡ outcomes.BadInput w f ↔ HasBadInput words files w f
+pub bad-exactly : (words : List (List ℕ)) (files : Files) (reply : Reply) (w f : ℕ) → IsAnswerOf words files reply
+    → reply.outcome ≡ outcomes.BadInput w f ↔ HasBadInput words files w f
 bad-exactly words files reply w f told = (
   λ bad. bad-by words files reply.outcome w f bad (stops words files reply told (λ works. rw bad at works)),
   λ bad. bad-back words files reply w f told bad,
 )
 
 -- an answer is that a file is missing exactly where one, in its turn, isn't there
-pub missing-exactly : (words : List (List ℕ)) (files : Files) (reply : Reply) (w : ℕ) → IsAnswerOf words files reply → reply.outcome ≡ outcomes.Missing w ↔ HasMissingFile words files w
+pub missing-exactly : (words : List (List ℕ)) (files : Files) (reply : Reply) (w : ℕ) → IsAnswerOf words files reply
+    → reply.outcome ≡ outcomes.Missing w ↔ HasMissingFile words files w
 missing-exactly words files reply w told = (
   λ gone. missing-by words files reply.outcome w gone (stops words files reply told (λ works. rw gone at works)),
   λ x. outcome-of reply _ (replied _ _ reply (missing-work words files w x) told),
 )
 
 -- an answer is that a file is too large exactly where one, in its turn, is past its limit
-pub large-exactly : (words : List (List ℕ)) (files : Files) (reply : Reply) (w : ℕ) → IsAnswerOf words files reply → reply.outcome ≡ outcomes.TooLarge w ↔ HasLargeFile words files w
+pub large-exactly : (words : List (List ℕ)) (files : Files) (reply : Reply) (w : ℕ) → IsAnswerOf words files reply
+    → reply.outcome ≡ outcomes.TooLarge w ↔ HasLargeFile words files w
 large-exactly words files reply w told = (
   λ past. large-by words files reply.outcome w past (stops words files reply told (λ works. rw past at works)),
   λ x. outcome-of reply _ (replied _ _ reply (large-work words files w x) told),

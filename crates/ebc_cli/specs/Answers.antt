@@ -162,7 +162,8 @@ pub data HasTurn (words : List (List ℕ)) (files : Files) (word : ℕ) (name : 
   code_turn : word ≡ 1 → limit ≡ plain_code_limit → command_of words ≡ Some (CheckCode name) → HasTurn words files word name limit
   image_turn : word ≡ 1 → limit ≡ image_limit → NamesImage words name → HasTurn words files word name limit
   notes_turn : word ≡ 2 → limit ≡ notes_limit → ComesToNotes words files name → HasTurn words files word name limit
-  source_turn : (object_name : List ℕ) → word ≡ 1 → limit ≡ source_limit → command_of words ≡ Some (Assemble name object_name) → HasTurn words files word name limit
+  source_turn : (object_name : List ℕ) → word ≡ 1 → limit ≡ source_limit → command_of words ≡ Some (Assemble name object_name)
+      → HasTurn words files word name limit
 
 -- the file of this word, in its turn, isn't there
 pub record HasMissingFile (words : List (List ℕ)) (files : Files) (word : ℕ) : Type 0 where
