@@ -55,7 +55,7 @@ abbrev pub open_end_of : ErrorKind → ReadEnd
 open_end_of kinds.NotFound = ends.Missing
 open_end_of kind = read_end_of kind
 
--- how a write ends whose file could not be opened for it
+-- how a write ends that met an error of this kind before it made or emptied a file
 abbrev pub create_end_of : ErrorKind → WriteEnd
 create_end_of kinds.OutOfMemory = write_ends.NoMemory
 create_end_of _ = write_ends.Fault

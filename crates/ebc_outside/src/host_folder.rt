@@ -2,11 +2,11 @@
 ghost use Rattle.std.specs.Prelude.{◌≡◌, None, [], ◌+◌, IfOk, IfSome, IsErrOf, take};
 ghost use Rattle.ebc_outside.specs.Counts.{Rose, IsCount};
 ghost use Rattle.std.specs.IoError.{error_kind};
-ghost use Rattle.ebc_outside.specs.Answers.{host_faults_after, open_end_of, read_end_of, write_faults_after, create_end_of};
+ghost use Rattle.ebc_outside.specs.Answers.{host_faults_after, open_end_of, read_end_of, write_faults_after};
 
 use crate::ends::{ReadEnd, WriteEnd};
 use crate::folder::Folder;
-use crate::whole::write_whole;
+use crate::host_write::write_file;
 use std::alloc::Global;
 use std::fs;
 use std::io::{Error, ErrorKind, Read};
@@ -17,8 +17,12 @@ use std::rt::Files;
 /// are told.
 ///
 /// Each read that ends in an error is counted, a name not found among them, but for want of memory.
-/// So is each write that ends in an error. A write begins by emptying the file; what fails from
-/// then on is a fault, want of memory among it.
+/// So is each write that ends in an error.
+///
+/// A write to a regular file, or under a name that isn't there, makes a new file beside it, which
+/// takes the name once it is whole: where that fails, what has the name stays as it is. A device, a
+/// pipe or the target of a link is written in place, and is emptied first where it can be. Once a
+/// file is made or emptied, each error is a fault, want of memory among them.
 #[derive(Drop)]
 pub struct HostFolder<'a, R: Files> {
     rt: &'a R,
@@ -74,7 +78,7 @@ impl<'a, R: Files> Folder for HostFolder<'a, R> {
         answer
     }
 
-    fn write(&mut self, _alloc: Global, name: &str, bytes: &[u8]) -> Result<(), WriteEnd>
+    fn write(&mut self, alloc: Global, name: &str, bytes: &[u8]) -> Result<(), WriteEnd>
         ensures fault { IsErrOf result WriteEnd.Fault →
             Rose self.old.write_faults self.new.write_faults }
         ensures count { IsCount self.old.write_faults self.new.write_faults }
@@ -82,7 +86,7 @@ impl<'a, R: Files> Folder for HostFolder<'a, R> {
         ensures read_faults { self.new.read_faults ≡ self.old.read_faults }
     {
         let faults = self.write_faults;
-        let answer = write_file(self.rt, name, bytes);
+        let answer = write_file(self.rt, alloc, name, bytes);
         if answer == Err(WriteEnd::Fault) {
             self.write_faults = faults.saturating_add(1);
         }
@@ -94,27 +98,6 @@ fn read_file<R: Files>(rt: &R, alloc: Global, name: &str, limit: u64) -> Result<
     match fs::open(rt, name) {
         Ok(mut file) => read_head(&mut file, alloc, limit),
         Err(error) => Err(open_end(&error)),
-    }
-}
-
-fn write_file<R: Files>(rt: &R, name: &str, bytes: &[u8]) -> Result<(), WriteEnd> {
-    let mut file = match fs::create(rt, name) {
-        Ok(file) => file,
-        Err(error) => return Err(create_end(&error)),
-    };
-    match write_whole(&mut file, bytes) {
-        Ok(()) => Ok(()),
-        Err(_) => Err(WriteEnd::Fault),
-    }
-}
-
-// How a write ends whose file could not be opened for it.
-fn create_end(error: &Error) -> WriteEnd
-    ensures { result ≡ create_end_of (error_kind error.now) }
-{
-    match error.kind() {
-        ErrorKind::OutOfMemory => WriteEnd::NoMemory,
-        _ => WriteEnd::Fault,
     }
 }
 

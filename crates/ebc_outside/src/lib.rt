@@ -9,6 +9,7 @@ mod ends;
 mod folder;
 mod host_folder;
 mod host_sink;
+mod host_write;
 mod mem_folder;
 mod mem_sink;
 mod sink;

@@ -2,6 +2,8 @@
 use super::*;
 use std::alloc::Global;
 use std::fs;
+use std::fs::Permissions;
+use std::os::unix::fs::{PermissionsExt, symlink};
 use std::process::Abort;
 use std::test::Fail;
 
@@ -104,14 +106,64 @@ fn only_the_listed_writes_fail(rt: HostRuntime) -> Result<(), Fail> {
 }
 
 #[test]
-fn a_write_to_a_folder_of_the_system_is_a_fault(rt: HostRuntime) -> Result<(), Fail> {
-    fs::create_dir(&rt, "directory")?;
+fn a_file_is_replaced_and_a_link_written_through(rt: HostRuntime) -> Result<(), Fail> {
+    let alloc = rt.alloc();
+    fs::create_dir(&rt, "kept")?;
+    fs::write(&rt, "kept/some", "12345")?;
+    fs::set_permissions(&rt, "kept/some", Permissions::from_mode(0o640))?;
+    fs::hard_link(&rt, "kept/some", "kept/other")?;
+    symlink(&rt, "some", "kept/link")?;
+    fs::write(&rt, "kept/ebc-0.tmp", "0")?;
+
     let mut folder = HostFolder::new(&rt);
-    assert_eq!(rt;
-        folder.write(rt.alloc(), "directory", b"1"),
-        Err(WriteEnd::Fault)
-    );
-    fs::remove_dir(&rt, "directory")?;
+    folder.write(alloc, "kept/some", b"67")?;
+    let other = folder.read(alloc, "kept/other", 9)?;
+    assert!(rt; other.as_slice() == b"12345".as_slice());
+    let own = folder.read(alloc, "kept/ebc-0.tmp", 9)?;
+    assert!(rt; own.as_slice() == b"0".as_slice());
+    folder.write(alloc, "kept/link", b"89")?;
+    let some = folder.read(alloc, "kept/some", 9)?;
+    assert!(rt; some.as_slice() == b"89".as_slice());
+    let mode = fs::metadata(&rt, "kept/some")?.permissions().mode();
+    assert!(rt; mode & 0o777 == 0o640);
+    assert!(rt; fs::symlink_metadata(&rt, "kept/link")?.is_symlink());
+
+    for name in ["kept/some", "kept/other", "kept/link", "kept/ebc-0.tmp"] {
+        fs::remove_file(&rt, name)?;
+    }
+    // (only an empty folder can be removed so)
+    fs::remove_dir(&rt, "kept")?;
+    Ok(())
+}
+
+#[test]
+fn a_failed_write_leaves_what_was_there(rt: HostRuntime) -> Result<(), Fail> {
+    let alloc = rt.alloc();
+    let mut folder = HostFolder::new(&rt);
+    // Folders have all the names that a new file could have.
+    fs::create_dir(&rt, "taken")?;
+    fs::write(&rt, "taken/some", "12345")?;
+    for number in 0..100u32 {
+        let name = format!(in alloc; "taken/ebc-{number}.tmp")?;
+        fs::create_dir(&rt, name)?;
+    }
+    assert!(rt; folder.write(alloc, "taken/some", b"67") == Err(WriteEnd::Fault));
+    let some = folder.read(alloc, "taken/some", 9)?;
+    assert!(rt; some.as_slice() == b"12345".as_slice());
+    fs::remove_dir_all(&rt, "taken")?;
+
+    // No file can be made, none can take the name, the name is a folder's, and what is linked takes no bytes.
+    fs::create_dir(&rt, "failed")?;
+    symlink(&rt, "/dev/full", "failed/full")?;
+    for name in ["failed/none/some", "failed/none/", "failed", "failed/full"] {
+        assert!(rt;
+            folder.write(alloc, name, b"1") == Err(WriteEnd::Fault),
+            "{name}"
+        );
+    }
+    assert!(rt; fs::symlink_metadata(&rt, "failed/full")?.is_symlink());
+    fs::remove_file(&rt, "failed/full")?;
+    fs::remove_dir(&rt, "failed")?;
     Ok(())
 }
 
