@@ -1,20 +1,21 @@
 #!/usr/bin/env bash
-# Times the check of images by crates/check_bench against wasm-validate (Debian's package wabt) on as many bytes of code, and
-# prints for each code the microseconds of both, the nanoseconds that the check takes for a byte, and how many times as many
-# bytes a second it checks. The codes are functions that each call the next, whose notes are longer than their code, up to the
-# 256 KiB of code that notes may have; and one function of moves. So it shows too that the time grows as the code does.
+# Times `ebc check IMAGE NOTES` against wasm-validate (Debian's package wabt) on as many bytes of code, and prints for each code the
+# microseconds of both, the nanoseconds that the command takes for a byte of code, and how many times as many bytes a second it does.
+# The codes are functions that each call the next, whose notes are longer than their code, up to the 256 KiB of code that notes may
+# have; and one function of moves. So it shows too that the time grows as the code does.
 #
-# A check takes a 200th of what a run of 201 checks takes longer than a run of one, and a validation a 200th of what 200 runs of
-# the validator take longer on that code than on an empty module. Times are user times, each the least of five. Beside them
-# stands what check_bench takes to start and to read both files. It is proved and built first where it isn't current.
+# A command takes a 100th of what 100 runs of it take longer than 100 runs on the image and the notes of one instruction, and a
+# validation a 200th of what 200 runs of the validator take longer on that code than on an empty module: so neither start counts, but
+# the reading of image and notes, and of the module, does. Times are user times, each the least of five. The program is proved and
+# built first where it isn't current.
 set -eu
 top=$(CDPATH='' cd -- "$(dirname -- "${BASH_SOURCE[0]}")/.." >/dev/null && pwd -P)
-program=$top/crates/check_bench/out/check_bench
+program=$top/crates/ebc/out/ebc
 TIMEFORMAT='%3U'
 
 command -v wasm-validate wat2wasm python3 >/dev/null || { echo "check.sh: needs wasm-validate, wat2wasm and python3" >&2; exit 1; }
 . "$top/scripts/program.sh"
-build check_bench image.efi image.notes
+build ebc check /dev/null
 
 work=$(mktemp -d)
 trap 'rm -rf "$work"' EXIT
@@ -109,14 +110,14 @@ decimal() { printf '%d.%02d' $(($1 / 100)) $(($1 % 100)); }
 echo '(module)' >empty.wat
 wat2wasm empty.wat -o empty.wasm
 empty=$(least runs 200 wasm-validate empty.wasm)
+make moves 1 0 >/dev/null
+start=$(least runs 100 "$program" check code.efi code.notes)
 for code in 'calls 1024 1' 'calls 2048 1' 'calls 4096 1' 'calls 4096 9' 'moves 16384 0' 'moves 32768 0' 'moves 65536 0'; do
   size=$(make $code)
-  [ "$("$program" code.efi code.notes)" = Neutral ] || { echo "check.sh: $code is not neutral" >&2; exit 1; }
+  [ "$("$program" check code.efi code.notes)" = neutral ] || { echo "check.sh: $code is not neutral" >&2; exit 1; }
   wasm-validate code.wasm
-  once=$(($(least runs 20 "$program" code.efi code.notes) * 50))
-  checks=$(least "$program" code.efi code.notes 201)
-  checking=$(((1000 * checks - once) / 200))
+  checking=$((($(least runs 100 "$program" check code.efi code.notes) - start) * 10))
   validating=$((($(least runs 200 wasm-validate code.wasm) - empty) * 5))
   echo "$code: $size bytes, check $checking us, $(decimal $((100000 * checking / size))) ns a byte, wasm-validate $validating us:" \
-    "$(decimal $((100 * validating / checking))) times as fast; start and reading $((once - checking)) us"
+    "$(decimal $((100 * validating / checking))) times as fast"
 done

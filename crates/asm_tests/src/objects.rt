@@ -73,7 +73,7 @@ fn faults_are_told_where_they_are(rt: HostRuntime) -> Result<(), Fail> {
             return Err("no fault".into());
         };
         let answer = format!(in rt.alloc(); "{kind:?} {offset}")?;
-        assert_eq!(rt; answer.as_str(), told, "at {row}");
+        assert!(rt; answer.as_str() == told, "at {row}");
     }
     Ok(())
 }

@@ -1,30 +1,30 @@
 -- Indexes that are written are read again.
-use Rattle.std.proofs.Common.{◌≡◌, ℕ, ◌*◌, ◌/◌, ◌^◌, ◌<◌, ◌≤◌, [], ◌∷◌, ◌++◌, zero, suc, Option, Some, None, Bool, true, false, ◌==◌, refl, arith, option_map, inl, inr, Ok}
+use Rattle.std.proofs.Common.{◌≡◌, ℕ, ◌*◌, ◌/◌, ◌^◌, ◌<◌, ◌≤◌, [], ◌∷◌, ◌++◌, zero, suc, Option, Some, None, Bool, true, false, ◌==◌, refl}
+use Rattle.std.proofs.Common.{arith, option_map, inl, inr, Ok}
 use Rattle.std.proofs.lemmas.Bool.Decides.{nat_tests}
-use Rattle.std.proofs.lemmas.Bool.{cases_Bool}
+use Rattle.std.proofs.lemmas.Bool.{cases_Bool, and_parts}
 use Rattle.std.specs.Fmt.{decimal}
 use Rattle.natural_index.specs.declared.Index.{Index}
 use Rattle.natural_index.specs.Index.{IsIndexSize, IsIndex, natural_bits, raw_of, index_of}
 use Rattle.natural_index.proofs.Laws.{index_again, raw_below}
-use Rattle.asm_text.specs.Indexes.{least_tag, smallest_of, is_tag, is_minus_zero, by_numbers, sign, pair_text, raw_text, index_text, index}
+use Rattle.asm_text.specs.Indexes.{least_tag, smallest_of, is_tag, is_minus_zero, by_numbers, pair_text, raw_text, index_text, index}
 use Rattle.asm_text.proofs.Digits.{decimal_again, hex_read}
-use Rattle.asm_text.proofs.Pieces.{both_true, not_true, until_first, decimal_above, above_lacks, length_hex}
+use Rattle.asm_text.proofs.Pieces.{not_true, until_first, decimal_above, above_lacks, length_hex}
 
 -- an index is what its numbers spell, where the tag is the same
-same_tag : (i : Index) (o : Option ℕ) → is_tag i.tag (option_map (λ t. record { neg = i.neg; tag = t; units = i.units; bytes = i.bytes }) o) ≡ true
+same_tag : (i : Index) (o : Option ℕ) → is_tag i.tag (option_map
+    (λ t. record { neg = i.neg; tag = t; units = i.units; bytes = i.bytes }) o) ≡ true
     → option_map (λ t. record { neg = i.neg; tag = t; units = i.units; bytes = i.bytes }) o ≡ Some i
 same_tag i None h = cc h
 same_tag i (Some t) h = let e : t ≡ i.tag = grind (arith, nat_tests) in rw e refl
 
-pub is_smallest : (bits : ℕ) (i : Index) → is_tag i.tag (smallest_of bits i.neg i.units i.bytes) ≡ true → smallest_of bits i.neg i.units i.bytes ≡ Some i
+pub is_smallest : (bits : ℕ) (i : Index) → is_tag i.tag (smallest_of bits i.neg i.units i.bytes) ≡ true
+    → smallest_of bits i.neg i.units i.bytes ≡ Some i
 unfolding smallest_of
 is_smallest bits i h = same_tag i (least_tag 8 0 bits i.units i.bytes) h
 
-sign_is : (neg : Bool) → (sign neg == 45) ≡ neg
-sign_is true = refl
-sign_is false = refl
-
-read_pair : (bits : ℕ) (neg : Bool) (n c : ℕ) (i : Index) → n < 2 ^ 64 → c < 2 ^ 64 → is_minus_zero neg n c ≡ false → smallest_of bits neg n c ≡ Some i
+read_pair : (bits : ℕ) (neg : Bool) (n c : ℕ) (i : Index) → n < 2 ^ 64 → c < 2 ^ 64 → is_minus_zero neg n c ≡ false
+    → smallest_of bits neg n c ≡ Some i
     → index bits (pair_text neg n c) ≡ Ok i
 unfolding index
 read_pair bits true n c i fits_n fits_c some is =
@@ -86,7 +86,7 @@ pub index_read : (bits : ℕ) (i : Index) → IsIndexSize bits → IsIndex bits 
 unfolding index_text
 index_read bits i size a = elim (cases_Bool (by_numbers bits i)) [
   | inl yes_ ↦
-      let p = both_true _ _ yes_ in
+      let p = and_parts _ _ yes_ in
       let small = numbers_small bits i size a in
       rw yes_ (read_pair bits i.neg i.units i.bytes i small.0 small.1 (not_true _ p.0) (is_smallest bits i p.1))
   | inr raw ↦

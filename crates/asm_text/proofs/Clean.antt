@@ -1,7 +1,8 @@
 -- What is written has no comment, no label and no blank at its ends.
-use Rattle.std.proofs.Common.{◌≡◌, ℕ, ◌+◌, ◌-◌, ◌/◌, ◌%◌, ◌^◌, ◌<◌, ◌≤◌, List, [], ◌∷◌, ◌++◌, zero, suc, get_or, Option, Some, None, Bool, true, false, not, ◌&&◌, ◌||◌, ◌==◌, cond, refl, subst, arith, nat_lt, nat_le, inl, inr, ℤ, pos, negsuc, ◌≢◌}
+use Rattle.std.proofs.Common.{◌≡◌, ℕ, ◌+◌, ◌-◌, ◌/◌, ◌%◌, ◌^◌, ◌<◌, ◌≤◌, List, [], ◌∷◌, ◌++◌, zero, suc, get_or, Option, Some, None, Bool}
+use Rattle.std.proofs.Common.{true, false, not, ◌&&◌, ◌||◌, ◌==◌, cond, refl, subst, arith, nat_lt, nat_le, inl, inr, ℤ, pos, negsuc, ◌≢◌}
 use Rattle.std.proofs.lemmas.Bool.Decides.{nat_tests}
-use Rattle.std.proofs.lemmas.Bool.{cases_Bool, cases_lt}
+use Rattle.std.proofs.lemmas.Bool.{cases_Bool, cases_lt, and_parts}
 use Rattle.std.proofs.lemmas.Fmt.{decimal_by_steps}
 use Rattle.std.specs.Fmt.{decimal, signed_decimal}
 use Rattle.natural_index.specs.declared.Index.{Index}
@@ -16,9 +17,9 @@ use Rattle.asm_text.specs.Indexes.{index_text, pair_text, raw_text, by_numbers}
 use Rattle.asm_text.specs.Operands.{operand_text, extra_text, indexed_text}
 use Rattle.asm_text.specs.Splits.{starts_blank}
 use Rattle.asm_text.proofs.Digits.{digit_first}
-use Rattle.asm_text.proofs.Pieces.{both_true}
 use Rattle.asm_text.proofs.Again.{numbers_small}
 use Rattle.asm_text.proofs.Slots.{half_small}
+use Rattle.ebc_base.proofs.Truth.{three_true}
 
 abbrev pub ok : ℕ → Bool
 ok b = nat_le 32 b && nat_lt b 128 && not (b == 58) && not (b == 59)
@@ -33,12 +34,6 @@ clean (b ∷ bs) = ok b && not (ends b bs) && clean bs
 
 abbrev pub begins : List ℕ → Bool
 begins t = not (is_empty t || starts_blank t)
-
-three_true : (a b c : Bool) → (a && b && c) ≡ true → (a ≡ true) × (b ≡ true) × (c ≡ true)
-three_true true true true h = (refl, refl, refl)
-three_true true true false h = cc h
-three_true true false c h = cc h
-three_true false b c h = cc h
 
 without : (t e : Bool) → not (t && true) ≡ true → not (t && e) ≡ true
 without true e h = cc h
@@ -81,7 +76,7 @@ glyphs_append : (xs ys : List ℕ) → glyphs xs ≡ true → glyphs ys ≡ true
 unfolding glyphs
 glyphs_append [] ys a b = b
 glyphs_append (x ∷ xs) ys a b =
-    let p = both_true (glyph x) (glyphs xs) a in
+    let p = and_parts (glyph x) (glyphs xs) a in
     rw (p.0, glyphs_append xs ys p.1 b) refl
 
 glyphs_digit : (d : ℕ) → d < 10 → glyphs ((48 + d) ∷ []) ≡ true
@@ -105,12 +100,14 @@ glyphs_hex d small = elim (cases_lt d 10) [
 ]
 
 glyphs_decimal : (n : ℕ) → n < 2 ^ 64 → glyphs (decimal n) ≡ true
-glyphs_decimal n fits = decimal_by_steps (λ n ds. glyphs ds ≡ true) (λ n small. glyphs_digit n small) (λ n ds big front. glyphs_append ds ((48 + n % 10) ∷ []) front (glyphs_digit (n % 10) (omega arith))) n fits
+glyphs_decimal n fits = decimal_by_steps (λ n ds. glyphs ds ≡ true) (λ n small. glyphs_digit n small)
+    (λ n ds big front. glyphs_append ds ((48 + n % 10) ∷ []) front (glyphs_digit (n % 10) (omega arith))) n fits
 
 pub glyphs_text : (k n : ℕ) → glyphs (hex_text k n) ≡ true
 unfolding hex_text glyphs
 glyphs_text zero n = refl
-glyphs_text (suc k) n = glyphs_append (hex_text k (n / 16)) (hex_glyph (n % 16) ∷ []) (glyphs_text k (n / 16)) (glyphs_hex (n % 16) (omega arith))
+glyphs_text (suc k) n = glyphs_append (hex_text k (n / 16)) (hex_glyph (n % 16) ∷ []) (glyphs_text k (n / 16))
+    (glyphs_hex (n % 16) (omega arith))
 
 ok_between : (b : ℕ) → 48 ≤ b → b < 128 → b ≢ 58 → b ≢ 59 → (ok b ≡ true) × ((b == 32) ≡ false)
 ok_between b low high one two =
@@ -135,7 +132,7 @@ pub glyphs_clean : (xs : List ℕ) → glyphs xs ≡ true → clean xs ≡ true
 unfolding glyphs clean
 glyphs_clean [] h = refl
 glyphs_clean (x ∷ xs) h =
-    let p = both_true (glyph x) (glyphs xs) h in
+    let p = and_parts (glyph x) (glyphs xs) h in
     let k = ok_glyph x p.0 in
     rw (k.0, k.1, glyphs_clean xs p.1) refl
 
@@ -158,8 +155,10 @@ clean_end ds h = clean_append ds (41 ∷ []) h refl
 
 clean_pair : (neg : Bool) (n c : ℕ) → n < 2 ^ 64 → c < 2 ^ 64 → clean (pair_text neg n c) ≡ true
 unfolding clean
-clean_pair true n c fn fc = clean_append (decimal n) (44 ∷ 45 ∷ (decimal c ++ 41 ∷ [])) (clean_decimal n fn) (clean_end (decimal c) (clean_decimal c fc))
-clean_pair false n c fn fc = clean_append (decimal n) (44 ∷ 43 ∷ (decimal c ++ 41 ∷ [])) (clean_decimal n fn) (clean_end (decimal c) (clean_decimal c fc))
+clean_pair true n c fn fc = clean_append (decimal n) (44 ∷ 45 ∷ (decimal c ++ 41 ∷ [])) (clean_decimal n fn)
+    (clean_end (decimal c) (clean_decimal c fc))
+clean_pair false n c fn fc = clean_append (decimal n) (44 ∷ 43 ∷ (decimal c ++ 41 ∷ [])) (clean_decimal n fn)
+    (clean_end (decimal c) (clean_decimal c fc))
 
 clean_raw : (bits n : ℕ) → clean (raw_text bits n) ≡ true
 unfolding clean
@@ -172,10 +171,13 @@ clean_index bits i size a = elim (cases_Bool (by_numbers bits i)) [
   | inr raw ↦ rw raw (clean_raw bits (raw_of bits i))
 ]
 
-pub clean_register : (reg : ℕ) (indirect : Bool) (rest : List ℕ) → reg < 8 → clean rest ≡ true → clean (operand_text (record { reg = reg; indirect = indirect }) rest) ≡ true
+pub clean_register : (reg : ℕ) (indirect : Bool) (rest : List ℕ) → reg < 8 → clean rest ≡ true
+    → clean (operand_text (record { reg = reg; indirect = indirect }) rest) ≡ true
 unfolding clean operand_text
-clean_register reg true rest small h = let k = ok_between (48 + reg) (omega arith) (omega arith) (λ e. absurd (omega (arith, small, e))) (λ e. absurd (omega (arith, small, e))) in rw (k.0, k.1, h) refl
-clean_register reg false rest small h = let k = ok_between (48 + reg) (omega arith) (omega arith) (λ e. absurd (omega (arith, small, e))) (λ e. absurd (omega (arith, small, e))) in rw (k.0, k.1, h) refl
+clean_register reg true rest small h = let k = ok_between (48 + reg) (omega arith) (omega arith) (λ e. absurd (omega (arith, small, e)))
+    (λ e. absurd (omega (arith, small, e))) in rw (k.0, k.1, h) refl
+clean_register reg false rest small h = let k = ok_between (48 + reg) (omega arith) (omega arith) (λ e. absurd (omega (arith, small, e)))
+    (λ e. absurd (omega (arith, small, e))) in rw (k.0, k.1, h) refl
 
 pub clean_operand : (o : Operand) (rest : List ℕ) → IsOperand o → clean rest ≡ true → clean (operand_text o rest) ≡ true
 clean_operand o rest small h = clean_register o.reg o.indirect rest small h
@@ -200,15 +202,18 @@ begins_operand o rest = elim o.indirect as (λ b. begins (cond b (64 ∷ 82 ∷ 
   | false ↦ refl
 ]
 
-pub clean_extra : (bits : ℕ) (o : Operand) (e : Extra) → IsIndexSize bits → IsOperand o → ExtraFits bits o e → clean (extra_text bits o e) ≡ true
+pub clean_extra : (bits : ℕ) (o : Operand) (e : Extra) → IsIndexSize bits → IsOperand o → ExtraFits bits o e
+    → clean (extra_text bits o e) ≡ true
 unfolding clean
 clean_extra bits o Nothing size small fits = clean_operand o [] small refl
 clean_extra bits o (Imm v) size small fits =
     let half = half_small bits size in
-    clean_operand o (32 ∷ signed_decimal v) small (clean_blank (signed_decimal v) (begins_number v bits fits.1 half.1) (clean_number v bits fits.1 half.1))
+    clean_operand o (32 ∷ signed_decimal v) small (clean_blank (signed_decimal v) (begins_number v bits fits.1 half.1)
+    (clean_number v bits fits.1 half.1))
 clean_extra bits o (Idx i) size small fits = clean_operand o (index_text bits i) small (clean_index bits i size fits.1)
 
-pub clean_indexed : (bits : ℕ) (o : Operand) (idx : Option Index) → IsIndexSize bits → IsOperand o → RightFits bits idx → clean (indexed_text bits o idx) ≡ true
+pub clean_indexed : (bits : ℕ) (o : Operand) (idx : Option Index) → IsIndexSize bits → IsOperand o → RightFits bits idx
+    → clean (indexed_text bits o idx) ≡ true
 unfolding clean
 clean_indexed bits o None size small fits = clean_operand o [] small refl
 clean_indexed bits o (Some i) size small fits = clean_operand o (index_text bits i) small (clean_index bits i size fits)

@@ -1,5 +1,6 @@
 -- The line of an instruction has no comment, no label and no space at its ends.
-use Rattle.std.proofs.Common.{◌≡◌, ℕ, ◌-◌, ◌^◌, ◌<◌, ◌≤◌, List, [], ◌∷◌, ◌++◌, zero, suc, get_or, Option, Some, None, Bool, true, false, cond, refl, ap, arith, nat_le, inl, inr, ℤ}
+use Rattle.std.proofs.Common.{◌≡◌, ℕ, ◌-◌, ◌^◌, ◌<◌, ◌≤◌, List, [], ◌∷◌, ◌++◌, zero, suc, get_or, Option, Some, None, Bool, true, false}
+use Rattle.std.proofs.Common.{cond, refl, ap, arith, nat_le, inl, inr, ℤ}
 use Rattle.std.proofs.lemmas.Bool.Decides.{nat_tests}
 use Rattle.std.specs.Fmt.{decimal, signed_decimal}
 use Rattle.natural_index.specs.declared.Index.{Index}
@@ -20,10 +21,12 @@ use Rattle.asm_text.specs.Instructions.{insn_text, line_of, pair, register_text}
 use Rattle.asm_text.specs.Writing.{place_name}
 use Rattle.asm_text.proofs.Digits.{digit_first}
 use Rattle.asm_text.proofs.Forms.{form_again}
-use Rattle.asm_text.proofs.Pieces.{above, both_true}
+use Rattle.asm_text.proofs.Pieces.{above}
 use Rattle.asm_text.proofs.Slots.{half_small}
-use Rattle.asm_text.proofs.Clean.{clean, begins, clean_append, clean_decimal, clean_hex, clean_index, clean_number, clean_blank, begins_number, begins_operand, clean_extra, clean_indexed, clean_operand, clean_two, first_glyph}
+use Rattle.asm_text.proofs.Clean.{clean, begins, clean_append, clean_decimal, clean_hex, clean_index, clean_number, clean_blank}
+use Rattle.asm_text.proofs.Clean.{begins_number, begins_operand, clean_extra, clean_indexed, clean_operand, clean_two, first_glyph}
 use Rattle.asm_text.proofs.InsnLaws.{long_size, move_wide, signed_wide}
+use Rattle.std.proofs.lemmas.Bool.{and_parts}
 
 -- What a line is, beside its meaning: it begins with no space and no point.
 pub record GoodLine (t : List ℕ) : Type 0 where
@@ -35,7 +38,7 @@ append_front : (x y : List ℕ) → begins x ≡ true → above x ≡ true → (
 unfolding above
 append_front [] y b a = cc b
 append_front (c ∷ cs) y b a =
-    let p = both_true (nat_le 48 c) (above cs) a in
+    let p = and_parts (nat_le 48 c) (above cs) a in
     let p0 : nat_le 48 c ≡ true = p.0 in
     (b, grind (arith, nat_tests))
 
@@ -81,7 +84,8 @@ value_good : (v : ℤ) (bits : ℕ) (place : Option ℕ) → FitsInt bits v → 
 value_good v bits None fits wide = number_good v bits fits wide
 value_good v bits (Some place) fits wide = label_good place
 
-indexed_good : (bits : ℕ) (o : Operand) (idx : Option Index) → IsIndexSize bits → IsOperand o → RightFits bits idx → GoodText (indexed_text bits o idx)
+indexed_good : (bits : ℕ) (o : Operand) (idx : Option Index) → IsIndexSize bits → IsOperand o → RightFits bits idx
+    → GoodText (indexed_text bits o idx)
 indexed_good bits o idx size small fits = (clean_indexed bits o idx size small fits, begins_operand o _)
 
 extra_good : (bits : ℕ) (o : Operand) (e : Extra) → IsIndexSize bits → IsOperand o → ExtraFits bits o e → GoodText (extra_text bits o e)
@@ -102,17 +106,22 @@ special_good (suc (suc n)) small = absurd (omega arith)
 
 begins_index : (bits : ℕ) (i : Index) → begins (index_text bits i) ≡ true
 unfolding index_text
-begins_index bits i = elim (by_numbers bits i) as (λ b. begins (cond b (pair_text i.neg i.units i.bytes) (raw_text bits (raw_of bits i))) ≡ true) [
-  | true ↦ refl
-  | false ↦ refl
-]
+begins_index bits i = elim (by_numbers bits i) as (λ b. begins (cond b (pair_text i.neg i.units i.bytes)
+    (raw_text bits (raw_of bits i))) ≡ true) [
+      | true ↦ refl
+      | false ↦ refl
+    ]
 
-target_either : (b : Bool) (far : Bool) (o : Operand) (v : ℤ) (place : Option ℕ) → TargetFits far o (Imm v) → GoodText (cond b (value_text v (place_name place)) (extra_text 32 o (Imm v)))
+target_either : (b : Bool) (far : Bool) (o : Operand) (v : ℤ) (place : Option ℕ) → TargetFits far o (Imm v)
+    → GoodText (cond b (value_text v (place_name place)) (extra_text 32 o (Imm v)))
 target_either true true o v place fits = value_good v 64 place fits.2 (omega arith)
 target_either true false o v place fits = value_good v 32 place fits.1.1 (omega arith)
 target_either false true o v place fits =
-    let small : o.reg < 8 = rw fits.0 (omega arith) in
-    (clean_operand o (32 ∷ signed_decimal v) small (clean_blank (signed_decimal v) (begins_number v 64 fits.2 (omega arith)) (clean_number v 64 fits.2 (omega arith))), begins_operand o _)
+    let small : o.reg < 8 = rw fits.0 (omega arith) in (
+      clean_operand o (32 ∷ signed_decimal v) small (clean_blank (signed_decimal v) (begins_number v 64 fits.2 (omega arith))
+          (clean_number v 64 fits.2 (omega arith))),
+      begins_operand o _,
+    )
 target_either false false o v place fits = extra_good 32 o (Imm v) (inr (inl refl)) fits.0 fits.1
 
 target_good : (far : Bool) (o : Operand) (e : Extra) (place : Option ℕ) → TargetFits far o e → GoodText (target_text o e (place_name place))
@@ -126,7 +135,8 @@ decimal_good : (n : ℕ) → n < 2 ^ 64 → GoodText (decimal n)
 decimal_good n fits = (clean_decimal n fits, first_glyph (decimal n) (digit_first n fits))
 
 -- the first operand of a move or a CMPI
-left_good : (bits : ℕ) (o : Operand) (idx : Option Index) → IsIndexSize bits → IsOperand o → LeftFits bits o idx → GoodText (indexed_text bits o idx)
+left_good : (bits : ℕ) (o : Operand) (idx : Option Index) → IsIndexSize bits → IsOperand o → LeftFits bits o idx
+    → GoodText (indexed_text bits o idx)
 left_good bits o idx size small fits = indexed_good bits o idx size small (left_right bits o idx fits)
 
 -- The line of an instruction, with a label in place of its immediate or without.
@@ -136,26 +146,37 @@ text_good (insns.Jump c far relative o e) place fits = line_good (forms.Jump c f
 text_good (insns.Jump8 c v) place fits = line_good (forms.Jump8 c) _ tt (value_good v 8 place fits (omega arith))
 text_good (insns.Call far native relative o e) place fits = line_good (forms.Call far native relative) _ tt (target_good far o e place fits)
 text_good insns.Ret place fits = word_good forms.Ret tt
-text_good (insns.Compare op wide l r e) place fits = line_good (forms.Compare op wide) _ tt (pair_good (register_text l) (extra_text 16 r e) (register_good l fits.0) (extra_good 16 r e (inl refl) fits.1 fits.2))
+text_good (insns.Compare op wide l r e) place fits = line_good (forms.Compare op wide) _ tt
+    (pair_good (register_text l) (extra_text 16 r e) (register_good l fits.0) (extra_good 16 r e (inl refl) fits.1 fits.2))
 text_good (insns.CompareImm op wide l idx long imm) place fits =
     let half = half_small (immediate_bits long) (long_size long) in
-    line_good (forms.CompareImm op wide long) _ tt (pair_good (indexed_text 16 l idx) (signed_decimal imm) (left_good 16 l idx (inl refl) fits.0 fits.1) (number_good imm (immediate_bits long) fits.2 half.1))
-text_good (insns.Arith op wide l r e) place fits = line_good (forms.Arith op wide) _ tt (pair_good (operand_text l []) (extra_text 16 r e) (bare_good l fits.0) (extra_good 16 r e (inl refl) fits.1 fits.2))
+    line_good (forms.CompareImm op wide long) _ tt (pair_good (indexed_text 16 l idx) (signed_decimal imm)
+    (left_good 16 l idx (inl refl) fits.0 fits.1) (number_good imm (immediate_bits long) fits.2 half.1))
+text_good (insns.Arith op wide l r e) place fits = line_good (forms.Arith op wide) _ tt
+    (pair_good (operand_text l []) (extra_text 16 r e) (bare_good l fits.0) (extra_good 16 r e (inl refl) fits.1 fits.2))
 text_good (insns.Move size bits l r lidx ridx) place fits =
     let wide = move_wide size bits fits.0 in
-    line_good (forms.Move size bits) _ fits.0 (pair_good (indexed_text bits l lidx) (indexed_text bits r ridx) (left_good bits l lidx wide fits.1 fits.3) (indexed_good bits r ridx wide fits.2 fits.4))
+    line_good (forms.Move size bits) _ fits.0 (pair_good (indexed_text bits l lidx) (indexed_text bits r ridx)
+    (left_good bits l lidx wide fits.1 fits.3) (indexed_good bits r ridx wide fits.2 fits.4))
 text_good (insns.MoveSigned bits l r lidx e) place fits =
     let wide = signed_wide bits fits.0 in
-    line_good (forms.MoveSigned bits) _ fits.0 (pair_good (indexed_text bits l lidx) (extra_text bits r e) (left_good bits l lidx wide fits.1 fits.3) (extra_good bits r e wide fits.2 fits.4))
+    line_good (forms.MoveSigned bits) _ fits.0 (pair_good (indexed_text bits l lidx) (extra_text bits r e)
+    (left_good bits l lidx wide fits.1 fits.3) (extra_good bits r e wide fits.2 fits.4))
 text_good (insns.MoveImm size bits l lidx imm) place fits =
     let half = half_small bits fits.0 in
-    line_good (forms.MoveImm size bits) _ (fits.0, fits.1) (pair_good (indexed_text 16 l lidx) (value_text imm (place_name place)) (left_good 16 l lidx (inl refl) fits.2 fits.3) (value_good imm bits place fits.4 half.1))
-text_good (insns.MoveImmNatural bits l lidx idx) place fits = line_good (forms.MoveImmNatural bits) _ fits.0 (pair_good (indexed_text 16 l lidx) (index_text bits idx) (left_good 16 l lidx (inl refl) fits.1 fits.2) (clean_index bits idx fits.0 fits.3, begins_index bits idx))
+    line_good (forms.MoveImm size bits) _ (fits.0, fits.1) (pair_good (indexed_text 16 l lidx) (value_text imm (place_name place))
+    (left_good 16 l lidx (inl refl) fits.2 fits.3) (value_good imm bits place fits.4 half.1))
+text_good (insns.MoveImmNatural bits l lidx idx) place fits = line_good (forms.MoveImmNatural bits) _ fits.0
+    (pair_good (indexed_text 16 l lidx) (index_text bits idx) (left_good 16 l lidx (inl refl) fits.1 fits.2)
+    (clean_index bits idx fits.0 fits.3, begins_index bits idx))
 text_good (insns.MoveRelative bits l lidx imm) place fits =
     let half = half_small bits fits.0 in
-    line_good (forms.MoveRelative bits) _ fits.0 (pair_good (indexed_text 16 l lidx) (value_text imm (place_name place)) (left_good 16 l lidx (inl refl) fits.1 fits.2) (value_good imm bits place fits.3 half.1))
-text_good (insns.LoadSpecial from) place fits = line_good forms.LoadSpecial _ tt (pair_good (special_text 0) (register_text from) (special_good 0 (omega arith)) (register_good from fits))
-text_good (insns.StoreSpecial to which) place fits = line_good forms.StoreSpecial _ tt (pair_good (register_text to) (special_text which) (register_good to fits.0) (special_good which fits.1))
+    line_good (forms.MoveRelative bits) _ fits.0 (pair_good (indexed_text 16 l lidx) (value_text imm (place_name place))
+    (left_good 16 l lidx (inl refl) fits.1 fits.2) (value_good imm bits place fits.3 half.1))
+text_good (insns.LoadSpecial from) place fits = line_good forms.LoadSpecial _ tt
+    (pair_good (special_text 0) (register_text from) (special_good 0 (omega arith)) (register_good from fits))
+text_good (insns.StoreSpecial to which) place fits = line_good forms.StoreSpecial _ tt
+    (pair_good (register_text to) (special_text which) (register_good to fits.0) (special_good which fits.1))
 text_good (insns.Push wide o e) place fits = line_good (forms.Push wide) _ tt (extra_good 16 o e (inl refl) fits.0 fits.1)
 text_good (insns.Pop wide o e) place fits = line_good (forms.Pop wide) _ tt (extra_good 16 o e (inl refl) fits.0 fits.1)
 text_good (insns.PushNatural o e) place fits = line_good forms.PushNatural _ tt (extra_good 16 o e (inl refl) fits.0 fits.1)

@@ -1,25 +1,23 @@
 -- Digits that are written are read again.
-use Rattle.std.proofs.Common.{◌≡◌, ℕ, ◌+◌, ◌-◌, ◌*◌, ◌/◌, ◌%◌, ◌^◌, ◌<◌, ◌≤◌, List, [], ◌∷◌, ◌++◌, zero, suc, length, get_or, Option, Some, None, Bool, true, false, cond, refl, sym, ◌∙◌, arith, pow-suc, ◌⊎◌, inl, inr}
+use Rattle.std.proofs.Common.{◌≡◌, ℕ, ◌+◌, ◌-◌, ◌*◌, ◌/◌, ◌%◌, ◌^◌, ◌<◌, ◌≤◌, List, [], ◌∷◌, ◌++◌, zero, suc, length, get_or, Some, None}
+use Rattle.std.proofs.Common.{Bool, true, false, cond, refl, sym, ◌∙◌, arith, pow-suc, ◌⊎◌, inl, inr}
 use Rattle.std.proofs.lemmas.Bool.Decides.{nat_tests}
 use Rattle.std.proofs.lemmas.Bool.{cases_lt}
 use Rattle.std.proofs.lemmas.Fmt.{decimal_by_steps, decimal_digit, first_decimal}
 use Rattle.std.specs.Prelude.{option_and_then, ℤ, pos, negsuc, Ok, nat_lt, nat_le, ◌==◌}
 use Rattle.std.specs.Fmt.{decimal, signed_decimal}
 use Rattle.ebc_insn.specs.Spelling.{FitsInt}
-use Rattle.asm_text.specs.Numbers.{digit_of, with_digit, digits_from, decimal_value, plain_value, number_value, number, fit, hex_glyph, hex_text}
-
-pub bind_assoc : {A B C : Type 0} (f : B → Option C) (g : A → Option B) (o : Option A)
-    → option_and_then f (option_and_then g o) ≡ option_and_then (λ a. option_and_then f (g a)) o
-bind_assoc f g None = refl
-bind_assoc f g (Some a) = refl
+use Rattle.asm_text.specs.Numbers.{digit_of, with_digit, digits_from, decimal_value, plain_value, number_value, number, fit, hex_glyph}
+use Rattle.asm_text.specs.Numbers.{hex_text}
 
 pub digits_append : (r n : ℕ) (xs ys : List ℕ) → digits_from r n (xs ++ ys) ≡ option_and_then (λ m. digits_from r m ys) (digits_from r n xs)
 unfolding digits_from
 digits_append r n [] ys = refl
-digits_append r n (x ∷ xs) ys = elim (with_digit r n x) as (λ o. option_and_then (λ m. digits_from r m (xs ++ ys)) o ≡ option_and_then (λ m. digits_from r m ys) (option_and_then (λ m. digits_from r m xs) o)) [
-  | None ↦ refl
-  | Some m ↦ digits_append r m xs ys
-]
+digits_append r n (x ∷ xs) ys = elim (with_digit r n x) as (λ o. option_and_then (λ m. digits_from r m (xs ++ ys)) o ≡ option_and_then
+    (λ m. digits_from r m ys) (option_and_then (λ m. digits_from r m xs) o)) [
+      | None ↦ refl
+      | Some m ↦ digits_append r m xs ys
+    ]
 
 pub next_ten : (m d : ℕ) → d < 10 → 10 * m + d < 2 ^ 64 → with_digit 10 m (48 + d) ≡ Some (10 * m + d)
 next_ten m d small fits =
@@ -77,7 +75,8 @@ nine_more n (d ∷ ds) big front = (front.0, omega arith)
 pub digit_top : (n : ℕ) → n < 2 ^ 64 → get_or (decimal n) 0 0 ≤ 57
 digit_top n fits = let p = decimal_by_steps UpToNine (λ n small. (omega arith, omega arith)) nine_more n fits in p.0
 
-pub no_sign : (bits : ℕ) (ds : List ℕ) → 48 ≤ get_or ds 0 0 → number_value bits ds ≡ option_and_then (λ n. fit bits false n) (plain_value ds)
+pub no_sign : (bits : ℕ) (ds : List ℕ) → 48 ≤ get_or ds 0 0 → number_value bits ds ≡ option_and_then (λ n. fit bits false n)
+    (plain_value ds)
 unfolding number_value
 no_sign bits [] above = absurd (omega arith)
 no_sign bits (b ∷ bs) above =
@@ -124,7 +123,8 @@ hex_read (suc k) n small fits =
     let grown : 16 ^ suc k ≡ 16 ^ k * 16 = pow-suc 16 k in
     let front = hex_read k (n / 16) (omega (arith, grown)) (omega arith) in
     let whole : 16 * (n / 16) + n % 16 ≡ n = omega arith in
-    digits_append 16 0 (hex_text k (n / 16)) (hex_glyph (n % 16) ∷ []) ∙ rw (front, next_hex (n / 16) (n % 16) (omega arith) (omega arith), whole) refl
+    digits_append 16 0 (hex_text k (n / 16)) (hex_glyph (n % 16) ∷ [])
+    ∙ rw (front, next_hex (n / 16) (n % 16) (omega arith) (omega arith), whole) refl
 
 -- ---- k digits are below 16 ^ k
 
@@ -145,25 +145,31 @@ grown p n k m q e first rest =
     rw e (omega (arith, more, rest))
 
 next_below : (n b m : ℕ) → with_digit 16 n b ≡ Some m → m + 1 ≤ 16 * (n + 1)
-next_below n b m h = elim (digit_of 16 b) as (λ o. (o ≡ digit_of 16 b) → option_and_then (λ d. cond (nat_lt (16 * n + d) (2 ^ 64)) (Some (16 * n + d)) None) o ≡ Some m → m + 1 ≤ 16 * (n + 1)) [
-  | None ↦ λ e g. cc g
-  | Some d ↦ λ e g.
-      let small = hex_digit_below b d (sym e) in
-      sum_below (nat_lt (16 * n + d) (2 ^ 64)) n d m small g
-] refl h
+next_below n b m h = elim (digit_of 16 b) as (λ o. (o ≡ digit_of 16 b)
+    → option_and_then (λ d. cond (nat_lt (16 * n + d) (2 ^ 64)) (Some (16 * n + d)) None) o ≡ Some m → m + 1 ≤ 16 * (n + 1)) [
+      | None ↦ λ e g. cc g
+      | Some d ↦ λ e g.
+          let small = hex_digit_below b d (sym e) in
+          sum_below (nat_lt (16 * n + d) (2 ^ 64)) n d m small g
+    ] refl h
 
 pub digits_below : (n : ℕ) (bs : List ℕ) (m : ℕ) → digits_from 16 n bs ≡ Some m → m + 1 ≤ (n + 1) * 16 ^ length bs
 unfolding digits_from
 digits_below n [] m h = let e : n ≡ m = cc h in omega arith
-digits_below n (b ∷ bs) m h = elim (with_digit 16 n b) as (λ o. (o ≡ with_digit 16 n b) → option_and_then (λ k. digits_from 16 k bs) o ≡ Some m → m + 1 ≤ (n + 1) * 16 ^ length (b ∷ bs)) [
-  | None ↦ λ e g. cc g
-  | Some k ↦ λ e g.
-      let first = next_below n b k (sym e) in
-      let rest = digits_below k bs m g in
-      grown (16 ^ length bs) n k m (16 ^ length (b ∷ bs)) (pow-suc 16 (length bs)) first rest
-] refl h
+digits_below n (b ∷ bs) m h = elim (with_digit 16 n b) as (λ o. (o ≡ with_digit 16 n b)
+    → option_and_then (λ k. digits_from 16 k bs) o ≡ Some m → m + 1 ≤ (n + 1) * 16 ^ length (b ∷ bs)) [
+      | None ↦ λ e g. cc g
+      | Some k ↦ λ e g.
+          let first = next_below n b k (sym e) in
+          let rest = digits_below k bs m g in
+          grown (16 ^ length bs) n k m (16 ^ length (b ∷ bs)) (pow-suc 16 (length bs)) first rest
+    ] refl h
 
-pub raw_fits : (bits : ℕ) (bs : List ℕ) (m : ℕ) → (bits ≡ 16) ⊎ (bits ≡ 32) ⊎ (bits ≡ 64) → length bs ≡ bits / 4 → digits_from 16 0 bs ≡ Some m → m < 2 ^ bits
-raw_fits bits bs m (inl size) len h = let b = digits_below 0 bs m h in let e : 16 ^ length bs ≡ 2 ^ 16 = rw (len, size) refl in rw size (omega (arith, b, e))
-raw_fits bits bs m (inr (inl size)) len h = let b = digits_below 0 bs m h in let e : 16 ^ length bs ≡ 2 ^ 32 = rw (len, size) refl in rw size (omega (arith, b, e))
-raw_fits bits bs m (inr (inr size)) len h = let b = digits_below 0 bs m h in let e : 16 ^ length bs ≡ 2 ^ 64 = rw (len, size) refl in rw size (omega (arith, b, e))
+pub raw_fits : (bits : ℕ) (bs : List ℕ) (m : ℕ) → (bits ≡ 16) ⊎ (bits ≡ 32) ⊎ (bits ≡ 64) → length bs ≡ bits / 4
+    → digits_from 16 0 bs ≡ Some m → m < 2 ^ bits
+raw_fits bits bs m (inl size) len h = let b = digits_below 0 bs m h in let e : 16 ^ length bs ≡ 2 ^ 16 = rw (len, size) refl in
+    rw size (omega (arith, b, e))
+raw_fits bits bs m (inr (inl size)) len h = let b = digits_below 0 bs m h in let e : 16 ^ length bs ≡ 2 ^ 32 = rw (len, size) refl in
+    rw size (omega (arith, b, e))
+raw_fits bits bs m (inr (inr size)) len h = let b = digits_below 0 bs m h in let e : 16 ^ length bs ≡ 2 ^ 64 = rw (len, size) refl in
+    rw size (omega (arith, b, e))

@@ -6,13 +6,14 @@ use Rattle.ebc_insn.specs.declared.Size.TheVariants as sizes
 use Rattle.ebc_insn.specs.declared.ArithOp.TheVariants as ops
 use Rattle.asm_text.specs.declared.form.Form.{Form}
 use Rattle.asm_text.specs.declared.form.Form.TheVariants as forms
-use Rattle.asm_text.specs.Mnemonics.{FormFits, form_of, stem_form, stem_of, word_of}
+use Rattle.asm_text.specs.Mnemonics.{FormFits, form_of, other_form, stem_form, stem_of, word_of}
 use Rattle.asm_text.proofs.Pieces.{above}
 use Rattle.asm_text.proofs.Clean.{begins, clean}
 
 -- A mnemonic is read as its form; it has no byte below the digits, and nothing that ends a statement.
-pub form_again : (f : Form) → FormFits f → (form_of (word_of f) ≡ Some f) × (above (word_of f) ≡ true) × (clean (word_of f) ≡ true) × (begins (word_of f) ≡ true)
-unfolding word_of form_of stem_of stem_form above clean
+pub form_again : (f : Form) → FormFits f → (form_of (word_of f) ≡ Some f) × (above (word_of f) ≡ true) × (clean (word_of f) ≡ true)
+    × (begins (word_of f) ≡ true)
+unfolding word_of form_of stem_of stem_form other_form above clean
 form_again forms.Break fits = (refl, refl, refl, refl)
 form_again (forms.Jump conds.Always true true) fits = (refl, refl, refl, refl)
 form_again (forms.Jump conds.Always true false) fits = (refl, refl, refl, refl)

@@ -1,13 +1,13 @@
 -- A name is no number, and is one operand.
 use Rattle.std.proofs.Common.{◌≡◌, ℕ, ◌<◌, ◌≤◌, List, [], ◌∷◌, length, get_or, true, false, ◌&&◌, ◌==◌, arith, refl, is_some, inl, inr}
 use Rattle.std.proofs.lemmas.Bool.Decides.{nat_tests}
-use Rattle.std.proofs.lemmas.Bool.{cases_lt}
+use Rattle.std.proofs.lemmas.Bool.{cases_lt, and_parts}
 use Rattle.std.specs.Prelude.{nat_le}
 use Rattle.std.specs.List.{list_all}
 use Rattle.asm_text.specs.Numbers.{digit_of, is_numeral}
 use Rattle.asm_text.specs.Splits.{is_empty}
-use Rattle.ebc_names.specs.Names.{begins_name, continues_name, is_name}
-use Rattle.asm_text.proofs.Pieces.{both_true, tidy}
+use Rattle.ebc_base.specs.Names.{begins_name, continues_name, is_name}
+use Rattle.asm_text.proofs.Pieces.{tidy}
 
 pub name_some : (text : List ℕ) → is_name text ≡ true → is_empty text ≡ false
 unfolding is_name
@@ -47,11 +47,11 @@ pub name_no_numeral : (text : List ℕ) → is_name text ≡ true → is_numeral
 unfolding is_name is_numeral
 name_no_numeral [] h = refl
 name_no_numeral (b ∷ []) h =
-    let p = both_true (begins_name b) (nat_le (length {A = ℕ} []) 62 && list_all continues_name []) h in
+    let p = and_parts (begins_name b) (nat_le (length {A = ℕ} []) 62 && list_all continues_name []) h in
     let o = letter_other b p.0 in
     rw (o.0, o.2) refl
 name_no_numeral (b ∷ c ∷ bs) h =
-    let p = both_true (begins_name b) (nat_le (length (c ∷ bs)) 62 && list_all continues_name (c ∷ bs)) h in
+    let p = and_parts (begins_name b) (nat_le (length (c ∷ bs)) 62 && list_all continues_name (c ∷ bs)) h in
     let o = letter_other b p.0 in
     rw (o.0, o.1, o.2) refl
 
@@ -59,7 +59,7 @@ tidy_letters : (bs : List ℕ) → list_all continues_name bs ≡ true → tidy 
 unfolding tidy
 tidy_letters [] h = refl
 tidy_letters (b ∷ bs) h =
-    let p = both_true (continues_name b) (list_all continues_name bs) h in
+    let p = and_parts (continues_name b) (list_all continues_name bs) h in
     let p0 : continues_name b ≡ true = p.0 in
     let other : (b == 44) ≡ false = grind (arith, nat_tests) in
     rw (other, tidy_letters bs p.1) refl
@@ -71,8 +71,8 @@ pub letters_of : (text : List ℕ) → is_name text ≡ true → list_all contin
 unfolding is_name
 letters_of [] h = cc h
 letters_of (b ∷ bs) h =
-    let p = both_true (begins_name b) (nat_le (length bs) 62 && list_all continues_name bs) h in
-    let q = both_true (nat_le (length bs) 62) (list_all continues_name bs) p.1 in
+    let p = and_parts (begins_name b) (nat_le (length bs) 62 && list_all continues_name bs) h in
+    let q = and_parts (nat_le (length bs) 62) (list_all continues_name bs) p.1 in
     rw (letter_is b p.0, q.1) refl
 
 pub name_tidy : (text : List ℕ) → is_name text ≡ true → tidy text ≡ true

@@ -1,5 +1,6 @@
 -- Numbers between commas, one after the other.
-use Rattle.std.proofs.Common.{◌≡◌, ℕ, ◌+◌, ◌≤◌, List, [], ◌∷◌, ◌++◌, length, Option, Some, None, option_map, Bool, true, false, ◌&&◌, ◌==◌, cond, refl, sym, ap, subst, ◌∙◌, arith, Result, Ok, Err, ℤ, append-nil, OnOk}
+use Rattle.std.proofs.Common.{◌≡◌, ℕ, ◌+◌, ◌≤◌, List, [], ◌∷◌, ◌++◌, length, Option, Some, None, option_map, Bool, true, false, ◌&&◌, ◌==◌}
+use Rattle.std.proofs.Common.{cond, refl, sym, ap, subst, ◌∙◌, arith, Result, Ok, Err, ℤ, append-nil, OnOk}
 use Rattle.ebc_base.specs.Steps.{◌>>=◌}
 use Rattle.asm_text.specs.declared.fault.AsmFault.{AsmFault}
 use Rattle.asm_text.specs.declared.fault.AsmFault.TheVariants as faults
@@ -18,7 +19,8 @@ never : (t : Bool) (A : Type 0) (x y : A) → cond (t && false) x y ≡ y
 never true A x y = refl
 never false A x y = refl
 
-grown : (b : ℕ) (text : List ℕ) (o : Option (List ℕ × List ℕ)) → CutAs text o → (longer b (pieces text) ≡ pieces (b ∷ text)) → CutAs (b ∷ text) (option_map (λ p. (b ∷ p.0, p.1)) o)
+grown : (b : ℕ) (text : List ℕ) (o : Option (List ℕ × List ℕ)) → CutAs text o → (longer b (pieces text) ≡ pieces (b ∷ text))
+    → CutAs (b ∷ text) (option_map (λ p. (b ∷ p.0, p.1)) o)
 grown b text None h same = sym same ∙ ap (longer b) h
 grown b text (Some p) h same = (sym same ∙ ap (longer b) h.0, let l = h.1 in omega arith)
 
@@ -34,10 +36,11 @@ pub cut_as : (text : List ℕ) → CutAs text (cut text)
 unfolding cut pieces
 cut_as [] = refl
 cut_as (b ∷ []) = subst (λ o. CutAs (b ∷ []) o) (sym (never (b == 44) (Option (List ℕ × List ℕ)) (Some ([], [])) None)) refl
-cut_as (b ∷ c ∷ bs) = elim (b == 44 && c == 32) as (λ t. (b == 44 && c == 32) ≡ t → CutAs (b ∷ c ∷ bs) (cond t (Some ([], bs)) (option_map (λ p. (b ∷ p.0, p.1)) (cut (c ∷ bs))))) [
-  | true ↦ λ e. (pieces_here b c bs e, omega arith)
-  | false ↦ λ e. grown b (c ∷ bs) (cut (c ∷ bs)) (cut_as (c ∷ bs)) (pieces_on b c bs e)
-] refl
+cut_as (b ∷ c ∷ bs) = elim (b == 44 && c == 32) as (λ t. (b == 44 && c == 32) ≡ t
+    → CutAs (b ∷ c ∷ bs) (cond t (Some ([], bs)) (option_map (λ p. (b ∷ p.0, p.1)) (cut (c ∷ bs))))) [
+      | true ↦ λ e. (pieces_here b c bs e, omega arith)
+      | false ↦ λ e. grown b (c ∷ bs) (cut (c ∷ bs)) (cut_as (c ∷ bs)) (pieces_on b c bs e)
+    ] refl
 
 -- where the first piece ends
 pub cut_some : (text : List ℕ) (p : List ℕ × List ℕ) → cut text ≡ Some p → (pieces text ≡ p.0 ∷ pieces p.1) × (length p.1 + 2 ≤ length text)
@@ -55,11 +58,13 @@ made_twice : (v : ℤ) (r : Result (List ℤ) AsmFault) → are_read (made (λ v
 made_twice v (Ok vs) = refl
 made_twice v (Err e) = refl
 
-pub checked_bad : (bits : ℕ) (text : List ℕ) (p : List ℕ × List ℕ) (e : AsmFault) → cut text ≡ Some p → number bits p.0 ≡ Err e → checked bits text ≡ Err e
+pub checked_bad : (bits : ℕ) (text : List ℕ) (p : List ℕ × List ℕ) (e : AsmFault) → cut text ≡ Some p → number bits p.0 ≡ Err e
+    → checked bits text ≡ Err e
 unfolding checked each_number
 checked_bad bits text p e is bad = rw ((cut_some text p is).0, bad) refl
 
-pub checked_more : (bits : ℕ) (text : List ℕ) (p : List ℕ × List ℕ) (v : ℤ) → cut text ≡ Some p → number bits p.0 ≡ Ok v → checked bits text ≡ checked bits p.1
+pub checked_more : (bits : ℕ) (text : List ℕ) (p : List ℕ × List ℕ) (v : ℤ) → cut text ≡ Some p → number bits p.0 ≡ Ok v
+    → checked bits text ≡ checked bits p.1
 unfolding checked each_number
 checked_more bits text p v is good = rw ((cut_some text p is).0, good) (made_twice v (each_number bits (pieces p.1)))
 
@@ -87,23 +92,28 @@ Reads bits text = IsRead (each_number bits (pieces text))
 pub listed : ℕ → List ℕ → List ℕ
 listed bits text = bytes_of_numbers bits (values_of (each_number bits (pieces text)))
 
-more_read : (bits : ℕ) (v : ℤ) (r : Result (List ℤ) AsmFault) → IsRead (made (λ vs. v ∷ vs) r) → IsRead r × (bytes_of_numbers bits (values_of (made (λ vs. v ∷ vs) r)) ≡ bytes_of_number bits v ++ bytes_of_numbers bits (values_of r))
+more_read : (bits : ℕ) (v : ℤ) (r : Result (List ℤ) AsmFault) → IsRead (made (λ vs. v ∷ vs) r) → IsRead r
+    × (bytes_of_numbers bits (values_of (made (λ vs. v ∷ vs) r)) ≡ bytes_of_number bits v ++ bytes_of_numbers bits (values_of r))
 more_read bits v (Ok vs) h = (tt, refl)
 more_read bits v (Err e) h = absurd h
 
-pub reads_bad : (bits : ℕ) (text : List ℕ) (p : List ℕ × List ℕ) (e : AsmFault) → cut text ≡ Some p → Reads bits text → number bits p.0 ≡ Err e → ⊥
+pub reads_bad : (bits : ℕ) (text : List ℕ) (p : List ℕ × List ℕ) (e : AsmFault) → cut text ≡ Some p → Reads bits text
+    → number bits p.0 ≡ Err e → ⊥
 unfolding Reads each_number
 reads_bad bits text p e is reads bad = rw ((cut_some text p is).0, bad) at reads
 
 next_read : (bits : ℕ) (r : Result ℤ AsmFault) (rest : Result (List ℤ) AsmFault) → IsRead (r >>= (λ v. made (λ vs. v ∷ vs) rest))
-    → IsRead rest × (bytes_of_numbers bits (values_of (r >>= (λ v. made (λ vs. v ∷ vs) rest))) ≡ bytes_read bits r ++ bytes_of_numbers bits (values_of rest))
+    → IsRead rest × (bytes_of_numbers bits (values_of (r >>= (λ v. made (λ vs. v ∷ vs) rest))) ≡ bytes_read bits r
+    ++ bytes_of_numbers bits (values_of rest))
 next_read bits (Ok v) rest h = more_read bits v rest h
 next_read bits (Err e) rest h = absurd h
 
-pub reads_next : (bits : ℕ) (text : List ℕ) (p : List ℕ × List ℕ) → cut text ≡ Some p → Reads bits text → Reads bits p.1 × (listed bits text ≡ bytes_read bits (number bits p.0) ++ listed bits p.1)
+pub reads_next : (bits : ℕ) (text : List ℕ) (p : List ℕ × List ℕ) → cut text ≡ Some p → Reads bits text → Reads bits p.1
+    × (listed bits text ≡ bytes_read bits (number bits p.0) ++ listed bits p.1)
 unfolding Reads listed each_number
 reads_next bits text p is reads =
-    let parts : IsRead (number bits p.0 >>= (λ v. made (λ vs. v ∷ vs) (each_number bits (pieces p.1)))) = rw ((cut_some text p is).0) at reads in
+    let parts : IsRead (number bits p.0 >>= (λ v. made (λ vs. v ∷ vs) (each_number bits (pieces p.1)))) =
+    rw ((cut_some text p is).0) at reads in
     let next = next_read bits (number bits p.0) (each_number bits (pieces p.1)) parts in
     (next.0, rw ((cut_some text p is).0) next.1)
 
@@ -111,7 +121,8 @@ pub reads_last_bad : (bits : ℕ) (text : List ℕ) (e : AsmFault) → cut text 
 unfolding Reads each_number
 reads_last_bad bits text e is reads bad = rw (cut_no text is, bad) at reads
 
-last_read : (bits : ℕ) (r : Result ℤ AsmFault) → IsRead (r >>= (λ v. made (λ vs. v ∷ vs) (Ok []))) → bytes_of_numbers bits (values_of (r >>= (λ v. made (λ vs. v ∷ vs) (Ok [])))) ≡ bytes_read bits r
+last_read : (bits : ℕ) (r : Result ℤ AsmFault) → IsRead (r >>= (λ v. made (λ vs. v ∷ vs) (Ok [])))
+    → bytes_of_numbers bits (values_of (r >>= (λ v. made (λ vs. v ∷ vs) (Ok [])))) ≡ bytes_read bits r
 last_read bits (Ok v) h = append-nil (bytes_of_number bits v)
 last_read bits (Err e) h = absurd h
 
@@ -126,7 +137,8 @@ unfolding Reads numbers_of
 reads_whole bits [] h = absurd h
 reads_whole bits (b ∷ bs) h = h
 
-pub listed_whole : (bits : ℕ) (text : List ℕ) → IsRead (numbers_of bits text) → listed bits text ≡ bytes_of_numbers bits (values_of (numbers_of bits text))
+pub listed_whole : (bits : ℕ) (text : List ℕ) → IsRead (numbers_of bits text)
+    → listed bits text ≡ bytes_of_numbers bits (values_of (numbers_of bits text))
 unfolding listed numbers_of
 listed_whole bits [] h = absurd h
 listed_whole bits (b ∷ bs) h = refl

@@ -1,5 +1,6 @@
 -- Operands that are written are read again.
-use Rattle.std.proofs.Common.{◌≡◌, ℕ, ◌+◌, ◌-◌, ◌/◌, ◌^◌, ◌<◌, List, [], ◌∷◌, ◌++◌, suc, Option, Some, None, Bool, true, false, ◌==◌, refl, arith, nat_le, inl, inr, Ok, ℤ, pos, negsuc}
+use Rattle.std.proofs.Common.{◌≡◌, ℕ, ◌+◌, ◌-◌, ◌/◌, ◌^◌, ◌<◌, List, [], ◌∷◌, ◌++◌, suc, Option, Some, None, Bool, true, false, ◌==◌, refl}
+use Rattle.std.proofs.Common.{arith, nat_le, inl, inr, Ok, ℤ, pos, negsuc}
 use Rattle.std.proofs.lemmas.Bool.Decides.{nat_tests}
 use Rattle.std.specs.Fmt.{decimal, signed_decimal}
 use Rattle.natural_index.specs.declared.Index.{Index}
@@ -10,13 +11,15 @@ use Rattle.ebc_insn.specs.declared.Extra.TheVariants.{Nothing, Imm, Idx}
 use Rattle.ebc_insn.specs.Spelling.{IsOperand, ExtraFits, LeftFits, RightFits, FitsInt}
 use Rattle.asm_text.specs.Numbers.{hex_text}
 use Rattle.asm_text.specs.Indexes.{index, index_text, pair_text, raw_text, by_numbers}
-use Rattle.asm_text.specs.Operands.{operand_text, operand_of, extra_text, indexed_text, bare, left, right, extra, left_after, right_after, extra_after}
+use Rattle.asm_text.specs.Operands.{operand_text, operand_of, extra_text, indexed_text, bare, left, right, extra, left_after, right_after}
+use Rattle.asm_text.specs.Operands.{extra_after}
 use Rattle.asm_text.proofs.Digits.{number_again}
 use Rattle.asm_text.proofs.Again.{index_read, numbers_small}
 use Rattle.asm_text.proofs.Pieces.{tidy, tidy_append, above_tidy, decimal_above, hex_above}
 use Rattle.std.proofs.lemmas.Bool.{cases_Bool}
 
-pub register_again : (reg : ℕ) (indirect : Bool) (rest : List ℕ) → reg < 8 → operand_of (operand_text (record { reg = reg; indirect = indirect }) rest) ≡ Some (record { reg = reg; indirect = indirect }, rest)
+pub register_again : (reg : ℕ) (indirect : Bool) (rest : List ℕ) → reg < 8
+    → operand_of (operand_text (record { reg = reg; indirect = indirect }) rest) ≡ Some (record { reg = reg; indirect = indirect }, rest)
 unfolding operand_text operand_of
 register_again reg true rest small =
     let low : nat_le 48 (48 + reg) ≡ true = grind (arith, nat_tests) in
@@ -33,12 +36,14 @@ pub operand_again : (o : Operand) (rest : List ℕ) → IsOperand o → operand_
 operand_again o rest small = register_again o.reg o.indirect rest small
 
 -- what stands behind the register
-extra_idx : (bits : ℕ) (o : Operand) (i : Index) (t : List ℕ) → o.indirect ≡ true → index bits t ≡ Ok i → extra_after bits (o, t) ≡ Ok (o, Idx i)
+extra_idx : (bits : ℕ) (o : Operand) (i : Index) (t : List ℕ) → o.indirect ≡ true → index bits t ≡ Ok i
+    → extra_after bits (o, t) ≡ Ok (o, Idx i)
 unfolding index
 extra_idx bits o i [] ind h = cc h
 extra_idx bits o i (b ∷ bs) ind h = rw (ind, h) refl
 
-left_idx : (bits : ℕ) (o : Operand) (i : Index) (t : List ℕ) → o.indirect ≡ true → index bits t ≡ Ok i → left_after bits (o, t) ≡ Ok (o, Some i)
+left_idx : (bits : ℕ) (o : Operand) (i : Index) (t : List ℕ) → o.indirect ≡ true → index bits t ≡ Ok i
+    → left_after bits (o, t) ≡ Ok (o, Some i)
 unfolding index
 left_idx bits o i [] ind h = cc h
 left_idx bits o i (b ∷ bs) ind h = rw (ind, h) refl
@@ -57,7 +62,8 @@ pub bare_again : (o : Operand) → IsOperand o → bare (operand_text o []) ≡ 
 unfolding bare
 bare_again o small = rw (operand_again o [] small) refl
 
-pub extra_again : (bits : ℕ) (o : Operand) (e : Extra) → IsIndexSize bits → IsOperand o → ExtraFits bits o e → extra bits (extra_text bits o e) ≡ Ok (o, e)
+pub extra_again : (bits : ℕ) (o : Operand) (e : Extra) → IsIndexSize bits → IsOperand o → ExtraFits bits o e
+    → extra bits (extra_text bits o e) ≡ Ok (o, e)
 unfolding extra
 extra_again bits o Nothing size small fits = rw (operand_again o [] small) refl
 extra_again bits o (Imm v) size small fits =
@@ -66,13 +72,15 @@ extra_again bits o (Imm v) size small fits =
 extra_again bits o (Idx i) size small fits =
     rw (operand_again o (index_text bits i) small) (extra_idx bits o i (index_text bits i) fits.0 (index_read bits i size fits.1))
 
-pub left_again : (bits : ℕ) (o : Operand) (idx : Option Index) → IsIndexSize bits → IsOperand o → LeftFits bits o idx → left bits (indexed_text bits o idx) ≡ Ok (o, idx)
+pub left_again : (bits : ℕ) (o : Operand) (idx : Option Index) → IsIndexSize bits → IsOperand o → LeftFits bits o idx
+    → left bits (indexed_text bits o idx) ≡ Ok (o, idx)
 unfolding left
 left_again bits o None size small fits = rw (operand_again o [] small) refl
 left_again bits o (Some i) size small fits =
     rw (operand_again o (index_text bits i) small) (left_idx bits o i (index_text bits i) fits.0 (index_read bits i size fits.1))
 
-pub right_again : (bits : ℕ) (o : Operand) (idx : Option Index) → IsIndexSize bits → IsOperand o → RightFits bits idx → right bits (indexed_text bits o idx) ≡ Ok (o, idx)
+pub right_again : (bits : ℕ) (o : Operand) (idx : Option Index) → IsIndexSize bits → IsOperand o → RightFits bits idx
+    → right bits (indexed_text bits o idx) ≡ Ok (o, idx)
 unfolding right
 right_again bits o None size small fits = rw (operand_again o [] small) refl
 right_again bits o (Some i) size small fits =
@@ -109,7 +117,8 @@ tidy_index bits i size a = elim (cases_Bool (by_numbers bits i)) [
   | inr raw ↦ rw raw (tidy_raw bits (raw_of bits i))
 ]
 
-pub tidy_register : (reg : ℕ) (indirect : Bool) (rest : List ℕ) → tidy rest ≡ true → tidy (operand_text (record { reg = reg; indirect = indirect }) rest) ≡ true
+pub tidy_register : (reg : ℕ) (indirect : Bool) (rest : List ℕ) → tidy rest ≡ true
+    → tidy (operand_text (record { reg = reg; indirect = indirect }) rest) ≡ true
 unfolding tidy operand_text
 tidy_register reg true rest h = let other : (48 + reg == 44) ≡ false = grind (arith, nat_tests) in rw (other, h) refl
 tidy_register reg false rest h = let other : (48 + reg == 44) ≡ false = grind (arith, nat_tests) in rw (other, h) refl
@@ -123,12 +132,14 @@ tidy_extra bits o Nothing size fits = tidy_operand o [] refl
 tidy_extra bits o (Imm v) size fits = tidy_operand o (32 ∷ signed_decimal v) (tidy_number v bits fits.1 (half_small bits size).1)
 tidy_extra bits o (Idx i) size fits = tidy_operand o (index_text bits i) (tidy_index bits i size fits.1)
 
-pub tidy_left : (bits : ℕ) (o : Operand) (idx : Option Index) → IsIndexSize bits → LeftFits bits o idx → tidy (indexed_text bits o idx) ≡ true
+pub tidy_left : (bits : ℕ) (o : Operand) (idx : Option Index) → IsIndexSize bits → LeftFits bits o idx
+    → tidy (indexed_text bits o idx) ≡ true
 unfolding tidy
 tidy_left bits o None size fits = tidy_operand o [] refl
 tidy_left bits o (Some i) size fits = tidy_operand o (index_text bits i) (tidy_index bits i size fits.1)
 
-pub tidy_right : (bits : ℕ) (o : Operand) (idx : Option Index) → IsIndexSize bits → RightFits bits idx → tidy (indexed_text bits o idx) ≡ true
+pub tidy_right : (bits : ℕ) (o : Operand) (idx : Option Index) → IsIndexSize bits → RightFits bits idx
+    → tidy (indexed_text bits o idx) ≡ true
 unfolding tidy
 tidy_right bits o None size fits = tidy_operand o [] refl
 tidy_right bits o (Some i) size fits = tidy_operand o (index_text bits i) (tidy_index bits i size fits)

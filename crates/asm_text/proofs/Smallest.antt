@@ -1,10 +1,12 @@
 -- The smallest index, by its relation and as a function.
-use Rattle.std.proofs.Common.{◌≡◌, ℕ, ◌+◌, ◌-◌, ◌^◌, ◌<◌, ◌≤◌, zero, suc, Option, Some, None, Bool, true, false, refl, ap, arith, nat_lt, nat_le, inl, inr, IfSome, IfNone, ◌&&◌}
+use Rattle.std.proofs.Common.{◌≡◌, ℕ, ◌+◌, ◌-◌, ◌^◌, ◌<◌, ◌≤◌, zero, suc, Option, Some, None, Bool, true, false, refl, ap, arith, nat_lt}
+use Rattle.std.proofs.Common.{nat_le, inl, inr, IfSome, IfNone, ◌&&◌}
 use Rattle.std.proofs.lemmas.Bool.Decides.{nat_tests}
 use Rattle.std.proofs.lemmas.Bool.{cases_Bool, cases_lt}
 use Rattle.natural_index.specs.declared.Index.{Index}
 use Rattle.natural_index.specs.Index.{HasRoom, IsIndex, natural_bits}
 use Rattle.asm_text.specs.Indexes.{has_room, least_tag, smallest_of}
+use Rattle.ebc_base.proofs.Truth.{three_true}
 
 room_true : (bits t n c : ℕ) → HasRoom bits t n c → has_room bits t n c ≡ true
 room_true bits t n c h =
@@ -16,15 +18,10 @@ room_true bits t n c h =
     let d : nat_lt c (2 ^ (bits - 4 - natural_bits bits t)) ≡ true = grind (arith, nat_tests) in
     rw (a, b, d) refl
 
-three : (a b d : Bool) → (a && b && d) ≡ true → (a ≡ true) × (b ≡ true) × (d ≡ true)
-three true true true h = (refl, refl, refl)
-three true true false h = cc h
-three true false d h = cc h
-three false b d h = cc h
-
 pub room_from : (bits t n c : ℕ) → t < 8 → has_room bits t n c ≡ true → HasRoom bits t n c
 room_from bits t n c tag h =
-    let p = three (nat_le (natural_bits bits t) (bits - 4)) (nat_lt n (2 ^ natural_bits bits t)) (nat_lt c (2 ^ (bits - 4 - natural_bits bits t))) h in
+    let p = three_true (nat_le (natural_bits bits t) (bits - 4)) (nat_lt n (2 ^ natural_bits bits t))
+    (nat_lt c (2 ^ (bits - 4 - natural_bits bits t))) h in
     let p0 : nat_le (natural_bits bits t) (bits - 4) ≡ true = p.0 in
     let p1 : nat_lt n (2 ^ natural_bits bits t) ≡ true = p.1 in
     let p2 : nat_lt c (2 ^ (bits - 4 - natural_bits bits t)) ≡ true = p.2 in
@@ -36,11 +33,13 @@ room_false bits t n c tag none = elim (cases_Bool (has_room bits t n c)) [
   | inr no_ ↦ no_
 ]
 
-least_some : (k t u bits n c : ℕ) → t ≤ u → u < t + k → t + k ≤ 8 → HasRoom bits u n c → ((v : ℕ) → v < u → ¬ HasRoom bits v n c) → least_tag k t bits n c ≡ Some u
+least_some : (k t u bits n c : ℕ) → t ≤ u → u < t + k → t + k ≤ 8 → HasRoom bits u n c → ((v : ℕ) → v < u → ¬ HasRoom bits v n c)
+    → least_tag k t bits n c ≡ Some u
 unfolding least_tag
 least_some zero t u bits n c low high most room before = absurd (omega arith)
 least_some (suc k) t u bits n c low high most room before = elim (cases_lt t u) [
-  | inl more ↦ rw (room_false bits t n c (omega arith) (before t more)) (least_some k (t + 1) u bits n c (omega arith) (omega arith) (omega arith) room before)
+  | inl more ↦ rw (room_false bits t n c (omega arith) (before t more))
+      (least_some k (t + 1) u bits n c (omega arith) (omega arith) (omega arith) room before)
   | inr here ↦
       let same : t ≡ u = omega arith in
       rw (same, room_true bits u n c room) refl
@@ -49,7 +48,8 @@ least_some (suc k) t u bits n c low high most room before = elim (cases_lt t u) 
 least_none : (k t bits n c : ℕ) → t + k ≤ 8 → ((v : ℕ) → ¬ HasRoom bits v n c) → least_tag k t bits n c ≡ None
 unfolding least_tag
 least_none zero t bits n c most none = refl
-least_none (suc k) t bits n c most none = rw (room_false bits t n c (omega arith) (none t)) (least_none k (t + 1) bits n c (omega arith) none)
+least_none (suc k) t bits n c most none = rw (room_false bits t n c (omega arith) (none t))
+    (least_none k (t + 1) bits n c (omega arith) none)
 
 pub smallest_is : (bits : ℕ) (neg : Bool) (n c : ℕ) (r : Option Index)
     → IfSome r (IsIndex bits)

@@ -1,7 +1,8 @@
 -- Numbers, names and targets that are written are read again.
-use Rattle.std.proofs.Common.{◌≡◌, ℕ, ◌+◌, ◌-◌, ◌%◌, ◌^◌, ◌<◌, ◌≤◌, List, [], ◌∷◌, ◌++◌, zero, suc, get_or, Option, Some, None, Bool, true, false, not, ◌&&◌, ◌||◌, ◌==◌, cond, refl, arith, nat_le, inl, inr, Ok, ℤ, pos, negsuc, is_some}
+use Rattle.std.proofs.Common.{◌≡◌, ℕ, ◌+◌, ◌-◌, ◌%◌, ◌^◌, ◌<◌, ◌≤◌, List, [], ◌∷◌, ◌++◌, zero, suc, get_or, Option, Some, None, Bool, true}
+use Rattle.std.proofs.Common.{false, not, ◌&&◌, ◌||◌, ◌==◌, cond, refl, arith, nat_le, inl, inr, Ok, ℤ, pos, negsuc, is_some}
 use Rattle.std.proofs.lemmas.Bool.Decides.{nat_tests}
-use Rattle.std.proofs.lemmas.Bool.{cases_Bool}
+use Rattle.std.proofs.lemmas.Bool.{cases_Bool, and_parts}
 use Rattle.std.proofs.lemmas.Fmt.{decimal_by_steps, decimal_digit, first_decimal}
 use Rattle.std.specs.List.{list_all}
 use Rattle.std.specs.Fmt.{decimal, signed_decimal}
@@ -12,13 +13,14 @@ use Rattle.ebc_insn.specs.declared.Extra.{Extra}
 use Rattle.ebc_insn.specs.declared.Extra.TheVariants.{Nothing, Imm, Idx}
 use Rattle.ebc_insn.specs.Spelling.{ExtraFits, FitsInt, IsOperand, TargetFits, target_bits}
 use Rattle.asm_text.specs.Numbers.{are_digits, digit_of, is_decimal, is_numeral}
-use Rattle.ebc_names.specs.Names.{continues_name, is_name}
+use Rattle.ebc_base.specs.Names.{continues_name, is_name}
 use Rattle.asm_text.specs.Names.{is_place_name, is_register}
 use Rattle.asm_text.specs.Splits.{is_empty}
 use Rattle.asm_text.specs.Indexes.{by_numbers, index_text, pair_text, raw_text}
-use Rattle.asm_text.specs.Operands.{at_register, beside, extra_text, is_first, near_target, operand_text, target, target_text, value, value_text}
+use Rattle.asm_text.specs.Operands.{at_register, beside, extra_text, is_first, near_target, operand_text, target, target_text, value}
+use Rattle.asm_text.specs.Operands.{value_text}
 use Rattle.asm_text.proofs.Digits.{digit_first, digit_top, number_again}
-use Rattle.asm_text.proofs.Pieces.{both_true, not_true, tidy}
+use Rattle.asm_text.proofs.Pieces.{not_true, tidy}
 use Rattle.asm_text.proofs.NameLaws.{letters_of, name_no_numeral, name_some, name_tidy, number_no_name}
 use Rattle.asm_text.proofs.Slots.{extra_again, tidy_blank, tidy_extra, tidy_number, tidy_operand}
 
@@ -33,7 +35,7 @@ digit_ten b low high =
 digits_both : (xs ys : List ℕ) → are_digits 10 xs ≡ true → are_digits 10 ys ≡ true → are_digits 10 (xs ++ ys) ≡ true
 digits_both [] ys a b = b
 digits_both (x ∷ xs) ys a b =
-    let p = both_true (is_some (digit_of 10 x)) (are_digits 10 xs) a in
+    let p = and_parts (is_some (digit_of 10 x)) (are_digits 10 xs) a in
     rw (p.0, digits_both xs ys p.1 b) refl
 
 digit_one : (d : ℕ) → d < 10 → are_digits 10 ((48 + d) ∷ []) ≡ true
@@ -79,7 +81,8 @@ decimal_no_name (pos n) bits fits wide =
     number_no_name (decimal n) (digit_top n small) (λ e. absurd (omega (arith, first, e)))
 decimal_no_name (negsuc n) bits fits wide = number_no_name (45 ∷ decimal (suc n)) (omega arith) (λ e. absurd (omega (arith, e)))
 
-pub value_again : (bits : ℕ) (v : ℤ) (name : Option (List ℕ)) → 0 < bits → 2 ^ (bits - 1) < 2 ^ 64 → ValueFits bits v name → value bits (value_text v name) ≡ Ok (v, name)
+pub value_again : (bits : ℕ) (v : ℤ) (name : Option (List ℕ)) → 0 < bits → 2 ^ (bits - 1) < 2 ^ 64 → ValueFits bits v name
+    → value bits (value_text v name) ≡ Ok (v, name)
 unfolding value
 value_again bits v None some wide fits = rw (decimal_no_name v bits fits wide, number_again bits v some fits wide) refl
 value_again bits v (Some name) some wide fits = rw (fits.1, fits.0) refl
@@ -92,7 +95,8 @@ pub some_number : (v : ℤ) (bits : ℕ) → FitsInt bits v → 2 ^ (bits - 1) <
 some_number (pos n) bits fits wide = some_byte (decimal n) (digit_first n (omega (arith, fits, wide)))
 some_number (negsuc n) bits fits wide = refl
 
-pub value_good : (bits : ℕ) (v : ℤ) (name : Option (List ℕ)) → 2 ^ (bits - 1) < 2 ^ 64 → ValueFits bits v name → (is_empty (value_text v name) ≡ false) × (tidy (value_text v name) ≡ true)
+pub value_good : (bits : ℕ) (v : ℤ) (name : Option (List ℕ)) → 2 ^ (bits - 1) < 2 ^ 64 → ValueFits bits v name
+    → (is_empty (value_text v name) ≡ false) × (tidy (value_text v name) ≡ true)
 value_good bits v None wide fits = (some_number v bits fits wide, tidy_number v bits fits wide)
 value_good bits v (Some name) wide fits = (name_some name fits.1, name_tidy name fits.1)
 
@@ -121,14 +125,15 @@ stops_name : (r d c : ℕ) (cs : List ℕ) → continues_name c ≡ false → is
 stops_name r d c cs stop = elim (cases_Bool (is_name (r ∷ d ∷ c ∷ cs))) [
   | inl yes_ ↦
       let all = letters_of (r ∷ d ∷ c ∷ cs) yes_ in
-      let p = both_true (continues_name r) (list_all continues_name (d ∷ c ∷ cs)) all in
-      let q = both_true (continues_name d) (list_all continues_name (c ∷ cs)) p.1 in
-      let s = both_true (continues_name c) (list_all continues_name cs) q.1 in
+      let p = and_parts (continues_name r) (list_all continues_name (d ∷ c ∷ cs)) all in
+      let q = and_parts (continues_name d) (list_all continues_name (c ∷ cs)) p.1 in
+      let s = and_parts (continues_name c) (list_all continues_name cs) q.1 in
       cc (s.0, stop)
   | inr no_ ↦ no_
 ]
 
-no_place : (reg : ℕ) (indirect : Bool) (rest : List ℕ) → reg < 8 → Stops rest → is_place_name (operand_text (record { reg = reg; indirect = indirect }) rest) ≡ false
+no_place : (reg : ℕ) (indirect : Bool) (rest : List ℕ) → reg < 8 → Stops rest
+    → is_place_name (operand_text (record { reg = reg; indirect = indirect }) rest) ≡ false
 unfolding operand_text is_name
 no_place reg true [] small stop = refl
 no_place reg true (c ∷ cs) small stop = refl
@@ -155,23 +160,31 @@ either_way true = refl
 either_way false = refl
 
 -- the target of a jump that isn't far, at a register
-register_target : (relative : Bool) (o : Operand) (e : Extra) → IsOperand o → ExtraFits 32 o e → at_register (o, e) ≡ Ok (o, e, None) → near_target relative (extra_text 32 o e) ≡ Ok (o, e, None)
+register_target : (relative : Bool) (o : Operand) (e : Extra) → IsOperand o → ExtraFits 32 o e → at_register (o, e) ≡ Ok (o, e, None)
+    → near_target relative (extra_text 32 o e) ≡ Ok (o, e, None)
 unfolding near_target
 register_target relative o e fo fe at =
-    rw (not_numeral o (beside 32 e), no_place o.reg o.indirect (beside 32 e) fo (beside_stops e), either_way relative, extra_again 32 o e (inr (inl refl)) fo fe) at
+    rw (
+      not_numeral o (beside 32 e),
+      no_place o.reg o.indirect (beside 32 e) fo (beside_stops e),
+      either_way relative,
+      extra_again 32 o e (inr (inl refl)) fo fe,
+    ) at
 
 -- the target without a register
-direct_target : (reg : ℕ) (ind : Bool) (v : ℤ) (far relative : Bool) → reg ≡ 0 → ind ≡ false → FitsInt (target_bits far) v → target far relative (signed_decimal v) ≡ Ok (record { reg = reg; indirect = ind }, Imm v, None)
+direct_target : (reg : ℕ) (ind : Bool) (v : ℤ) (far relative : Bool) → reg ≡ 0 → ind ≡ false → FitsInt (target_bits far) v
+    → target far relative (signed_decimal v) ≡ Ok (record { reg = reg; indirect = ind }, Imm v, None)
 unfolding near_target
 direct_target reg ind v true relative zero_ off fits =
     rw (value_again 64 v None (omega arith) (omega arith) fits, zero_, off) refl
 direct_target reg ind v false relative zero_ off fits =
     rw (numeral v 32 fits (omega arith), number_again 32 v (omega arith) fits (omega arith), zero_, off) refl
 
-imm_target : (b : Bool) (o : Operand) (v : ℤ) (far relative : Bool) → is_first o ≡ b → TargetFits far o (Imm v) → target far relative (cond b (signed_decimal v) (extra_text 32 o (Imm v))) ≡ Ok (o, Imm v, None)
+imm_target : (b : Bool) (o : Operand) (v : ℤ) (far relative : Bool) → is_first o ≡ b → TargetFits far o (Imm v)
+    → target far relative (cond b (signed_decimal v) (extra_text 32 o (Imm v))) ≡ Ok (o, Imm v, None)
 imm_target true o v true relative which fits = direct_target o.reg o.indirect v true relative fits.0 fits.1 fits.2
 imm_target true o v false relative which fits =
-    let p = both_true (o.reg == 0) (not o.indirect) which in
+    let p = and_parts (o.reg == 0) (not o.indirect) which in
     let none : o.reg ≡ 0 = let p0 : (o.reg == 0) ≡ true = p.0 in grind (arith, nat_tests) in
     direct_target o.reg o.indirect v false relative none (not_true _ p.1) fits.1.1
 imm_target false o v true relative which fits = cc (rw (fits.0, fits.1) at which)
@@ -194,12 +207,14 @@ place_name name h = elim (is_register name) as (λ b. cond b false (is_name name
   | false ↦ λ g. g
 ] h
 
-named_target : (far relative : Bool) (name : List ℕ) → (far || relative) ≡ true → is_place_name name ≡ true → target far relative name ≡ Ok (record { reg = 0; indirect = false }, Imm (pos 0), Some name)
+named_target : (far relative : Bool) (name : List ℕ) → (far || relative) ≡ true → is_place_name name ≡ true
+    → target far relative name ≡ Ok (record { reg = 0; indirect = false }, Imm (pos 0), Some name)
 unfolding near_target value
 named_target true relative name takes named = rw (place_name name named) refl
 named_target false relative name takes named = rw (name_no_numeral name (place_name name named), takes, named) refl
 
-pub target_again : (far relative : Bool) (o : Operand) (e : Extra) (name : Option (List ℕ)) → TargetFits far o e → TargetNamed (far || relative) o e name → target far relative (target_text o e name) ≡ Ok (o, e, name)
+pub target_again : (far relative : Bool) (o : Operand) (e : Extra) (name : Option (List ℕ)) → TargetFits far o e
+    → TargetNamed (far || relative) o e name → target far relative (target_text o e name) ≡ Ok (o, e, name)
 target_again far relative o e (Some name) fits named = rw (named.0.0, named.0.1) (named_target far relative name named.0.2 named.1)
 target_again far relative o (Imm v) None fits named = imm_target (is_first o) o v far relative refl fits
 target_again true relative o Nothing None fits named = absurd fits
@@ -208,18 +223,27 @@ target_again true relative o (Idx i) None fits named = absurd fits
 target_again false relative o (Idx i) None fits named = register_target relative o (Idx i) fits.0 fits.1 refl
 
 -- a target is one operand
-pub target_good : (far : Bool) (takes : Bool) (o : Operand) (e : Extra) (name : Option (List ℕ)) → TargetFits far o e → TargetNamed takes o e name → (is_empty (target_text o e name) ≡ false) × (tidy (target_text o e name) ≡ true)
+pub target_good : (far : Bool) (takes : Bool) (o : Operand) (e : Extra) (name : Option (List ℕ)) → TargetFits far o e
+    → TargetNamed takes o e name → (is_empty (target_text o e name) ≡ false) × (tidy (target_text o e name) ≡ true)
 target_good far takes o e (Some name) fits named =
     let is = place_name name named.1 in
     rw (named.0.0, named.0.1) (name_some name is, name_tidy name is)
-target_good true takes o (Imm v) None fits named = elim (is_first o) as (λ b. (is_empty (cond b (signed_decimal v) (extra_text 32 o (Imm v))) ≡ false) × (tidy (cond b (signed_decimal v) (extra_text 32 o (Imm v))) ≡ true)) [
-  | true ↦ (some_number v 64 fits.2 (omega arith), tidy_number v 64 fits.2 (omega arith))
-  | false ↦ (some_operand o _, tidy_operand o (32 ∷ signed_decimal v) (tidy_blank (signed_decimal v) (tidy_number v 64 fits.2 (omega arith))))
-]
-target_good false takes o (Imm v) None fits named = elim (is_first o) as (λ b. (is_empty (cond b (signed_decimal v) (extra_text 32 o (Imm v))) ≡ false) × (tidy (cond b (signed_decimal v) (extra_text 32 o (Imm v))) ≡ true)) [
-  | true ↦ (some_number v 32 fits.1.1 (omega arith), tidy_number v 32 fits.1.1 (omega arith))
-  | false ↦ (some_operand o _, tidy_extra 32 o (Imm v) (inr (inl refl)) fits.1)
-]
+target_good true takes o (Imm v) None fits named = elim (is_first o) as
+    (λ b. (is_empty (cond b (signed_decimal v) (extra_text 32 o (Imm v))) ≡ false)
+    × (tidy (cond b (signed_decimal v) (extra_text 32 o (Imm v))) ≡ true)) [
+      | true ↦ (some_number v 64 fits.2 (omega arith), tidy_number v 64 fits.2 (omega arith))
+      | false ↦ (
+        some_operand o _,
+        tidy_operand o (32 ∷ signed_decimal v)
+            (tidy_blank (signed_decimal v) (tidy_number v 64 fits.2 (omega arith))),
+      )
+    ]
+target_good false takes o (Imm v) None fits named = elim (is_first o) as
+    (λ b. (is_empty (cond b (signed_decimal v) (extra_text 32 o (Imm v))) ≡ false)
+    × (tidy (cond b (signed_decimal v) (extra_text 32 o (Imm v))) ≡ true)) [
+      | true ↦ (some_number v 32 fits.1.1 (omega arith), tidy_number v 32 fits.1.1 (omega arith))
+      | false ↦ (some_operand o _, tidy_extra 32 o (Imm v) (inr (inl refl)) fits.1)
+    ]
 target_good true takes o Nothing None fits named = absurd fits
 target_good false takes o Nothing None fits named = (some_operand o _, tidy_extra 32 o Nothing (inr (inl refl)) fits.1)
 target_good true takes o (Idx i) None fits named = absurd fits

@@ -1,4 +1,4 @@
--- The faults of a line, of which the lowest is named: docs/ASSEMBLY.md, "Faults".
+-- Meaning: the faults of a line, of which the lowest is named: docs/ASSEMBLY.md, "Faults".
 use Rattle.std.specs.Prelude.{ℕ, Result, Ok, Err, nat_le, if◌then◌else◌}
 use Rattle.asm_text.specs.declared.fault.AsmFault.{AsmFault}
 use Rattle.asm_text.specs.declared.fault.AsmFault.TheVariants.{Word, Operand, Number, Index, Label, Twice, Far, Section}

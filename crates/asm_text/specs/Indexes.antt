@@ -1,5 +1,6 @@
--- Natural indexes as they are written and read: docs/ASSEMBLY.md, "Indexes".
-use Rattle.std.specs.Prelude.{ℕ, ◌+◌, ◌-◌, ◌^◌, ◌/◌, zero, suc, List, [], ◌∷◌, ◌++◌, length, Option, Some, None, option_map, Bool, true, false, not, nat_le, nat_lt, ◌==◌, ◌&&◌, ◌||◌, if◌then◌else◌, Result, Err}
+-- Meaning: Natural indexes as they are written and read: docs/ASSEMBLY.md, "Indexes".
+use Rattle.std.specs.Prelude.{ℕ, ◌+◌, ◌-◌, ◌^◌, ◌/◌, zero, suc, List, [], ◌∷◌, ◌++◌, length, Option, Some, None, option_map, Bool, true}
+use Rattle.std.specs.Prelude.{false, not, nat_le, nat_lt, ◌==◌, ◌&&◌, ◌||◌, if◌then◌else◌, Result, Err}
 use Rattle.std.specs.Fmt.{decimal}
 use Rattle.natural_index.specs.declared.Index.{Index}
 use Rattle.natural_index.specs.Index.{natural_bits, raw_of, index_of}

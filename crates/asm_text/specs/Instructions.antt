@@ -1,5 +1,6 @@
--- Instructions as they are written and read: docs/ASSEMBLY.md, "Instructions".
-use Rattle.std.specs.Prelude.{◌≡◌, ℕ, List, [], ◌∷◌, ◌++◌, Option, Some, None, Bool, true, false, ◌==◌, ◌||◌, if◌then◌else◌, Result, Ok, Err, ℤ, pos}
+-- Meaning: Instructions as they are written and read: docs/ASSEMBLY.md, "Instructions".
+use Rattle.std.specs.Prelude.{◌≡◌, ℕ, List, [], ◌∷◌, ◌++◌, Option, Some, None, Bool, true, false, ◌==◌, ◌||◌, if◌then◌else◌, Result, Ok}
+use Rattle.std.specs.Prelude.{Err, ℤ, pos}
 use Rattle.std.specs.Fmt.{decimal, signed_decimal}
 use Rattle.ebc_insn.specs.declared.Extra.TheVariants.{Imm}
 use Rattle.ebc_insn.specs.declared.Size.{Size}
@@ -14,11 +15,12 @@ use Rattle.asm_text.specs.declared.fault.AsmFault.{AsmFault}
 use Rattle.asm_text.specs.declared.fault.AsmFault.TheVariants as faults
 use Rattle.asm_text.specs.Faults.{both, made}
 use Rattle.asm_text.specs.Numbers.{number}
-use Rattle.ebc_names.specs.Names.{is_name}
+use Rattle.ebc_base.specs.Names.{is_name}
 use Rattle.asm_text.specs.Names.{is_place_name}
 use Rattle.asm_text.specs.Splits.{halves, is_empty, sole, word_part}
 use Rattle.asm_text.specs.Indexes.{index, index_text}
-use Rattle.asm_text.specs.Operands.{bare, extra, extra_text, flags_special, indexed_text, left, operand_text, register, right, special, special_text, target, target_text, value, value_text}
+use Rattle.asm_text.specs.Operands.{bare, extra, extra_text, flags_special, indexed_text, left, operand_text, register, right, special}
+use Rattle.asm_text.specs.Operands.{special_text, target, target_text, value, value_text}
 use Rattle.asm_text.specs.Mnemonics.{form_of, word_of}
 
 -- ---- writing

@@ -1,7 +1,7 @@
--- Lines: a label, a statement and a comment, of which each may be missing: docs/ASSEMBLY.md, "Lines".
+-- Meaning: Lines: a label, a statement and a comment, of which each may be missing: docs/ASSEMBLY.md, "Lines".
 use Rattle.std.specs.Prelude.{ℕ, List, [], ◌∷◌, Option, Some, None, Bool, nat_lt, if◌then◌else◌, Result, Ok, Err}
 use Rattle.std.specs.List.{list_all}
-use Rattle.ebc_names.specs.Names.{is_name}
+use Rattle.ebc_base.specs.Names.{name_of}
 use Rattle.asm_text.specs.declared.fault.AsmFault.{AsmFault}
 use Rattle.asm_text.specs.declared.fault.AsmFault.TheVariants as faults
 use Rattle.asm_text.specs.Faults.{both, made}
@@ -41,12 +41,9 @@ unfoldable pub line_in : List ℕ → Result Line AsmFault
 line_in text =
     if is_ascii text then parted (without_comment text) (until 58 (without_comment text)) else Err faults.Word
 
-abbrev pub name_or_none : List ℕ → Option (List ℕ)
-name_or_none text = if is_name text then Some text else None
-
 abbrev pub label_in : Option (List ℕ × List ℕ) → Option (List ℕ)
 label_in None = None
-label_in (Some p) = name_or_none (trim p.0)
+label_in (Some p) = name_of (trim p.0)
 
 -- the label of a line, whatever else is wrong with it
 abbrev pub label_of : List ℕ → Option (List ℕ)

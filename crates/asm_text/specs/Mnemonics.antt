@@ -1,5 +1,7 @@
--- The mnemonics, as they are written and read: docs/ASSEMBLY.md, "Mnemonics"; UEFI specification, "EBC Instruction Set".
-use Rattle.std.specs.Prelude.{⊤, ℕ, List, [], ◌∷◌, ◌++◌, Option, Some, None, option_map, option_and_then, Bool, true, false, nat_eq, ◌==◌, if◌then◌else◌, nat_lt, ◌&&◌, ◌||◌, take, drop, codes, bytes_eq}
+-- Meaning: the mnemonics, as they are written and read: docs/ASSEMBLY.md, "Mnemonics"; UEFI specification, "EBC Instruction
+-- Set".
+use Rattle.std.specs.Prelude.{⊤, ℕ, List, [], ◌∷◌, ◌++◌, Option, Some, None, option_map, option_and_then, Bool, true, false, nat_eq, ◌==◌}
+use Rattle.std.specs.Prelude.{if◌then◌else◌, nat_lt, ◌&&◌, ◌||◌, take, drop, codes, bytes_eq}
 use Rattle.std.specs.List.{position_or_len}
 use Rattle.natural_index.specs.Index.{IsIndexSize}
 use Rattle.ebc_insn.specs.declared.Cond.{Cond}
@@ -162,6 +164,20 @@ cmp_of s =
     else if bytes_eq s (codes "ugte") then Some cmps.Ugte
     else None
 
+-- the stems of logic, shifts and extensions
+abbrev pub logic_of : List ℕ → Option ArithOp
+logic_of s =
+    if bytes_eq s (codes "AND") then Some ops.And
+    else if bytes_eq s (codes "OR") then Some ops.Or
+    else if bytes_eq s (codes "XOR") then Some ops.Xor
+    else if bytes_eq s (codes "SHL") then Some ops.Shl
+    else if bytes_eq s (codes "SHR") then Some ops.Shr
+    else if bytes_eq s (codes "ASHR") then Some ops.Ashr
+    else if bytes_eq s (codes "EXTNDB") then Some ops.Extb
+    else if bytes_eq s (codes "EXTNDW") then Some ops.Extw
+    else if bytes_eq s (codes "EXTNDD") then Some ops.Extd
+    else None
+
 abbrev pub arith_of : List ℕ → Option ArithOp
 arith_of s =
     if bytes_eq s (codes "NOT") then Some ops.Not
@@ -174,16 +190,7 @@ arith_of s =
     else if bytes_eq s (codes "DIVU") then Some ops.Divu
     else if bytes_eq s (codes "MOD") then Some ops.Mod
     else if bytes_eq s (codes "MODU") then Some ops.Modu
-    else if bytes_eq s (codes "AND") then Some ops.And
-    else if bytes_eq s (codes "OR") then Some ops.Or
-    else if bytes_eq s (codes "XOR") then Some ops.Xor
-    else if bytes_eq s (codes "SHL") then Some ops.Shl
-    else if bytes_eq s (codes "SHR") then Some ops.Shr
-    else if bytes_eq s (codes "ASHR") then Some ops.Ashr
-    else if bytes_eq s (codes "EXTNDB") then Some ops.Extb
-    else if bytes_eq s (codes "EXTNDW") then Some ops.Extw
-    else if bytes_eq s (codes "EXTNDD") then Some ops.Extd
-    else None
+    else logic_of s
 
 abbrev pub size_at : ℕ → Option Size
 size_at b =
@@ -285,6 +292,17 @@ bare_form form s = if bytes_eq s [] then Some form else None
 abbrev pub arith_form : List ℕ → List ℕ → Option Form
 arith_form stem suffix = option_and_then (λ op. option_map (λ wide. forms.Arith op wide) (wide_of suffix)) (arith_of stem)
 
+-- the form of a mnemonic that doesn't move, jump, call or compare
+unfoldable pub other_form : List ℕ → List ℕ → Option Form
+other_form stem suffix =
+    if bytes_eq stem (codes "PUSH") then push_form suffix
+    else if bytes_eq stem (codes "POP") then pop_form suffix
+    else if bytes_eq stem (codes "RET") then bare_form forms.Ret suffix
+    else if bytes_eq stem (codes "BREAK") then bare_form forms.Break suffix
+    else if bytes_eq stem (codes "LOADSP") then bare_form forms.LoadSpecial suffix
+    else if bytes_eq stem (codes "STORESP") then bare_form forms.StoreSpecial suffix
+    else arith_form stem suffix
+
 -- the form of the two parts of a mnemonic
 unfoldable pub stem_form : List ℕ → List ℕ → Option Form
 stem_form stem suffix =
@@ -295,13 +313,7 @@ stem_form stem suffix =
     else if bytes_eq stem (codes "CALL") then call_form suffix
     else if bytes_eq stem (codes "CMP") then compare_form suffix
     else if bytes_eq stem (codes "CMPI") then compare_imm_form suffix
-    else if bytes_eq stem (codes "PUSH") then push_form suffix
-    else if bytes_eq stem (codes "POP") then pop_form suffix
-    else if bytes_eq stem (codes "RET") then bare_form forms.Ret suffix
-    else if bytes_eq stem (codes "BREAK") then bare_form forms.Break suffix
-    else if bytes_eq stem (codes "LOADSP") then bare_form forms.LoadSpecial suffix
-    else if bytes_eq stem (codes "STORESP") then bare_form forms.StoreSpecial suffix
-    else arith_form stem suffix
+    else other_form stem suffix
 
 -- the form that a mnemonic names
 unfoldable pub form_of : List ℕ → Option Form

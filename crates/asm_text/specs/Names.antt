@@ -1,6 +1,6 @@
--- Names beside registers, and the labels of a listing: docs/ASSEMBLY.md, "Names".
+-- Meaning: names beside registers, and the labels of a listing: docs/ASSEMBLY.md, "Names".
 use Rattle.std.specs.Prelude.{ℕ, List, [], ◌∷◌, Bool, false, ◌&&◌, ◌==◌, nat_le, if◌then◌else◌}
-use Rattle.ebc_names.specs.Names.{is_name}
+use Rattle.ebc_base.specs.Names.{is_name}
 use Rattle.asm_text.specs.Numbers.{hex_text}
 
 -- R0 to R7, which names a register where one can stand

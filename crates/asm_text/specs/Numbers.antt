@@ -1,5 +1,7 @@
--- Numbers as they are written and read: docs/ASSEMBLY.md, "Numbers".
-use Rattle.std.specs.Prelude.{ℕ, ◌+◌, ◌-◌, ◌*◌, ◌^◌, ◌/◌, ◌%◌, zero, suc, List, [], ◌∷◌, ◌++◌, Option, Some, None, option_and_then, is_some, Bool, true, false, not, nat_le, nat_lt, ◌==◌, ◌&&◌, if◌then◌else◌, ℤ, pos, negsuc, neg_ℤ, Result}
+-- Meaning: numbers as they are written and read: docs/ASSEMBLY.md, "Numbers".
+use Rattle.std.specs.Prelude.{ℕ, ◌+◌, ◌-◌, ◌*◌, ◌^◌, ◌/◌, ◌%◌, zero, suc, List, [], ◌∷◌, ◌++◌, Option, Some, None, option_and_then, is_some}
+use Rattle.std.specs.Prelude.{Bool, true, false, not, nat_le, nat_lt, ◌==◌, ◌&&◌, if◌then◌else◌, ℤ, pos, negsuc, neg_ℤ, Result, Ok}
+use Rattle.std.specs.Prelude.{bytes_eq, codes}
 use Rattle.std.specs.List.{list_all}
 use Rattle.ebc_base.specs.Steps.{or_else}
 use Rattle.asm_text.specs.declared.fault.AsmFault.{AsmFault}
@@ -70,6 +72,10 @@ number bits text = or_else faults.Number (number_value bits text)
 -- a number below 2 ^ 64 without a sign, or its fault
 abbrev pub count : List ℕ → Result ℕ AsmFault
 count text = or_else faults.Number (plain_value text)
+
+-- how many zeros, or its fault: a number below 2 ^ 64 without a sign, or -0, which is 0
+abbrev pub zeros_of : List ℕ → Result ℕ AsmFault
+zeros_of text = if bytes_eq text (codes "-0") then Ok 0 else count text
 
 -- ---- the form of a number, whatever its size
 

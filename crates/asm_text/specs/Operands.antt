@@ -1,5 +1,6 @@
--- Operands as they are written and read: docs/ASSEMBLY.md, "Operands".
-use Rattle.std.specs.Prelude.{ℕ, ◌+◌, ◌-◌, List, [], ◌∷◌, Option, Some, None, Bool, true, false, not, nat_le, ◌==◌, ◌&&◌, if◌then◌else◌, Result, Ok, Err, ℤ, pos, codes, bytes_eq}
+-- Meaning: operands as they are written and read: docs/ASSEMBLY.md, "Operands".
+use Rattle.std.specs.Prelude.{ℕ, ◌+◌, ◌-◌, List, [], ◌∷◌, Option, Some, None, Bool, true, false, not, nat_le, ◌==◌, ◌&&◌, if◌then◌else◌}
+use Rattle.std.specs.Prelude.{Result, Ok, Err, ℤ, pos, codes, bytes_eq}
 use Rattle.std.specs.Fmt.{signed_decimal}
 use Rattle.natural_index.specs.declared.Index.{Index}
 use Rattle.ebc_insn.specs.declared.Operand.{Operand}
@@ -10,7 +11,7 @@ use Rattle.asm_text.specs.declared.fault.AsmFault.{AsmFault}
 use Rattle.asm_text.specs.declared.fault.AsmFault.TheVariants as faults
 use Rattle.asm_text.specs.Faults.{made}
 use Rattle.asm_text.specs.Numbers.{number, is_numeral}
-use Rattle.ebc_names.specs.Names.{is_name}
+use Rattle.ebc_base.specs.Names.{is_name}
 use Rattle.asm_text.specs.Names.{is_place_name}
 use Rattle.asm_text.specs.Indexes.{index, index_text}
 

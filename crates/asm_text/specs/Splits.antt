@@ -1,5 +1,6 @@
--- Where texts are split: docs/ASSEMBLY.md, "Lines" and "Operands".
-use Rattle.std.specs.Prelude.{ℕ, ◌+◌, List, [], ◌∷◌, take, drop, length, Option, Some, None, option_map, option_and_then, is_some, unwrap_or, Bool, true, false, not, nat_lt, ◌==◌, ◌&&◌, ◌||◌, if◌then◌else◌}
+-- Meaning: where texts are split: docs/ASSEMBLY.md, "Lines" and "Operands".
+use Rattle.std.specs.Prelude.{ℕ, ◌+◌, List, [], ◌∷◌, take, drop, length, Option, Some, None, option_map, option_and_then, is_some}
+use Rattle.std.specs.Prelude.{unwrap_or, Bool, true, false, not, nat_lt, ◌==◌, ◌&&◌, ◌||◌, if◌then◌else◌}
 use Rattle.std.specs.List.{position_or_len, list_all}
 
 abbrev pub is_empty : List ℕ → Bool

@@ -1,5 +1,6 @@
--- Statements as they are written and read: docs/ASSEMBLY.md, "Statements".
-use Rattle.std.specs.Prelude.{ℕ, List, [], ◌∷◌, Option, Some, None, Bool, false, ◌==◌, ◌&&◌, if◌then◌else◌, codes, bytes_eq, Result, Ok, Err, ℤ}
+-- Meaning: Statements as they are written and read: docs/ASSEMBLY.md, "Statements".
+use Rattle.std.specs.Prelude.{ℕ, List, [], ◌∷◌, Option, Some, None, Bool, false, ◌==◌, ◌&&◌, if◌then◌else◌, codes, bytes_eq, Result, Ok}
+use Rattle.std.specs.Prelude.{Err, ℤ}
 use Rattle.ebc_insn.specs.declared.Insn.{Insn}
 use Rattle.ebc_base.specs.Steps.{◌>>=◌, or_else}
 use Rattle.asm_text.specs.declared.fault.AsmFault.{AsmFault}
@@ -7,8 +8,8 @@ use Rattle.asm_text.specs.declared.fault.AsmFault.TheVariants as faults
 use Rattle.asm_text.specs.declared.directive.Directive.{Directive}
 use Rattle.asm_text.specs.declared.directive.Directive.TheVariants as directives
 use Rattle.asm_text.specs.Faults.{made}
-use Rattle.asm_text.specs.Numbers.{count, number}
-use Rattle.ebc_names.specs.Names.{is_name}
+use Rattle.asm_text.specs.Numbers.{number, zeros_of}
+use Rattle.ebc_base.specs.Names.{is_name}
 use Rattle.asm_text.specs.Splits.{is_empty, pieces, word_part}
 use Rattle.asm_text.specs.Instructions.{insn_in, one}
 
@@ -62,7 +63,7 @@ directed directives.Global text = made (λ n. Global n) (one name text)
 directed (directives.Numbers bits) text =
     if bits == 64 && is_name text then Ok (Place text) else made (λ vs. Numbers bits vs) (numbers_of bits text)
 directed directives.Thunk text = made (λ n. Thunk n) (one name text)
-directed directives.Zeros text = made (λ n. Zeros n) (one count text)
+directed directives.Zeros text = made (λ n. Zeros n) (one zeros_of text)
 
 -- an instruction and the name in place of its immediate, as a statement
 abbrev pub instruction : Insn × Option (List ℕ) → Statement

@@ -1,4 +1,4 @@
--- What the code holds of lines, whose texts lie in the source, as the grammar speaks of it.
+-- Meaning: what the code holds of lines, whose texts lie in the source, as the grammar speaks of it.
 use Rattle.std.specs.Prelude.{◌≡◌, ◌⊎◌, ⊤, ℕ, List, [], ◌∷◌, ◌++◌, Option, Some, None, option_map, Result, Ok, Err, ℤ, ◌==◌, if◌then◌else◌}
 use Rattle.std.specs.Borrow.{Bor}
 use Rattle.ebc_insn.specs.declared.Operand.{Operand}

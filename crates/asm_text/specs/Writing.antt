@@ -1,5 +1,5 @@
--- What the code writes of its texts, and the lines of a listing: docs/ASSEMBLY.md, "Listings".
-use Rattle.std.specs.Prelude.{◌≡◌, ⊤, ℕ, ◌^◌, ◌<◌, List, [], ◌∷◌, ◌++◌, Option, Some, None, option_map, if◌then◌else◌, codes, ◌-◌, nat_lt, ℤ, pos, negsuc, Ok}
+-- Meaning: what the code writes of its texts, and the lines of a listing: docs/ASSEMBLY.md, "Listings".
+use Rattle.std.specs.Prelude.{◌≡◌, ⊤, ℕ, ◌^◌, ◌<◌, List, [], ◌∷◌, ◌++◌, Option, Some, None, option_map, if◌then◌else◌, codes, ◌-◌, Ok}
 use Rattle.std.specs.Fmt.{decimal, signed_decimal}
 use Rattle.ebc_insn.specs.declared.Insn.{Insn}
 use Rattle.ebc_insn.specs.Spelling.{WellFormed}
@@ -22,6 +22,7 @@ use Rattle.asm_text.specs.Operands.{special_text}
 use Rattle.asm_text.specs.Instructions.{NameFits, insn_in, insn_text, line_of, pair}
 use Rattle.asm_text.specs.Statements as statements
 use Rattle.asm_text.specs.Lines.{Line, line_in, unlabelled}
+use Rattle.ebc_width.specs.Width.{signed_at}
 
 -- ---- operands
 
@@ -84,10 +85,6 @@ ListedFits (listed.Word n) = n < 2 ^ 16
 ListedFits (listed.Byte n) = n < 2 ^ 8
 ListedFits l = ⊤
 
--- a number of so many bits as a signed one
-abbrev pub as_signed : ℕ → ℕ → ℤ
-as_signed bits n = if nat_lt n (2 ^ (bits - 1)) then pos n else negsuc (2 ^ bits - 1 - n)
-
 -- what a line of a listing says
 abbrev pub listed_line : Listed → Line
 listed_line listed.Code = unlabelled (Some statements.Code)
@@ -95,8 +92,8 @@ listed_line listed.Data = unlabelled (Some statements.Data)
 listed_line (listed.Label place) = record { label = Some (label_text place); statement = None }
 listed_line (listed.Global place) = unlabelled (Some (statements.Global (label_text place)))
 listed_line (listed.Place place) = unlabelled (Some (statements.Place (label_text place)))
-listed_line (listed.Word n) = unlabelled (Some (statements.Numbers 16 (as_signed 16 n ∷ [])))
-listed_line (listed.Byte n) = unlabelled (Some (statements.Numbers 8 (as_signed 8 n ∷ [])))
+listed_line (listed.Word n) = unlabelled (Some (statements.Numbers 16 (signed_at 16 n ∷ [])))
+listed_line (listed.Byte n) = unlabelled (Some (statements.Numbers 8 (signed_at 8 n ∷ [])))
 listed_line (listed.Instruction i place) = unlabelled (Some (statements.Instruction i (place_name place)))
 
 -- A line of a listing is read as what it says.

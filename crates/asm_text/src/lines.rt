@@ -9,7 +9,7 @@ ghost use Rattle.asm_text.specs.Texts.{IsHeldLine, IsHeldStatement, seen_line, s
 use crate::fault::{AsmFault, both};
 use crate::splits::{trim, until, without_comment};
 use crate::statements::{Statement, name, statement_of};
-use ebc_names::name_text;
+use ebc_base::name_text;
 
 /// What a line says (docs/ASSEMBLY.md, "Lines").
 #[derive(Clone, Copy)]

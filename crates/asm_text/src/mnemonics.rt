@@ -1,7 +1,7 @@
 //! Mnemonics as they are read.
 
 ghost use Rattle.std.specs.Prelude.{◌≡◌, IfSome};
-ghost use Rattle.asm_text.specs.Mnemonics.{FormFits, arith_form, arith_of, bare_form, bits_at, call_end, call_form, cmp_of, compare_form, compare_imm_form, cond_of, form_of, jump_end, jump_form, long_at, move_imm_letters, move_letters, pop_form, push_form, relative_letter, size_at, stem_form, stem_of, wide_of};
+ghost use Rattle.asm_text.specs.Mnemonics.{FormFits, arith_form, arith_of, bare_form, bits_at, call_end, call_form, cmp_of, compare_form, compare_imm_form, cond_of, form_of, jump_end, jump_form, logic_of, long_at, move_imm_letters, move_letters, other_form, pop_form, push_form, relative_letter, size_at, stem_form, stem_of, wide_of};
 
 use crate::form::Form;
 use ebc_insn::{ArithOp, CmpOp, Cond, Size};
@@ -73,7 +73,15 @@ fn arith_of(text: &[u8]) -> Option<ArithOp>
         Some(ArithOp::Mod)
     } else if text == b"MODU".as_slice() {
         Some(ArithOp::Modu)
-    } else if text == b"AND".as_slice() {
+    } else {
+        logic_of(text)
+    }
+}
+
+fn logic_of(text: &[u8]) -> Option<ArithOp>
+    ensures { result ≡ logic_of text.now }
+{
+    if text == b"AND".as_slice() {
         Some(ArithOp::And)
     } else if text == b"OR".as_slice() {
         Some(ArithOp::Or)
@@ -324,7 +332,17 @@ fn stem_form(stem: &[u8], suffix: &[u8]) -> Option<Form>
         compare_form(suffix)
     } else if stem == b"CMPI".as_slice() {
         compare_imm_form(suffix)
-    } else if stem == b"PUSH".as_slice() {
+    } else {
+        other_form(stem, suffix)
+    }
+}
+
+#[tactic(auto, unfolding(crate::specs::Mnemonics::other_form))]
+fn other_form(stem: &[u8], suffix: &[u8]) -> Option<Form>
+    ensures form { result ≡ other_form stem.now suffix.now }
+    ensures fits { IfSome result FormFits }
+{
+    if stem == b"PUSH".as_slice() {
         push_form(suffix)
     } else if stem == b"POP".as_slice() {
         pop_form(suffix)

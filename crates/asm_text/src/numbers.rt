@@ -2,7 +2,7 @@
 
 ghost use Rattle.std.specs.Prelude.{◌≡◌, ◌⊎◌, ◌<◌, IfOk, IfSome};
 ghost use Rattle.ebc_insn.specs.Spelling.{FitsInt};
-ghost use Rattle.asm_text.specs.Numbers.{are_digits, count, decimal_value, digit_of, digits_from, fit, hex_value, is_decimal, is_hexadecimal, is_numeral, is_plain, number, number_value, plain_value, with_digit};
+ghost use Rattle.asm_text.specs.Numbers.{are_digits, count, decimal_value, digit_of, digits_from, fit, hex_value, is_decimal, is_hexadecimal, is_numeral, is_plain, number, number_value, plain_value, with_digit, zeros_of};
 
 use crate::fault::AsmFault;
 
@@ -76,6 +76,16 @@ pub(crate) fn count(text: &[u8]) -> Result<u64, AsmFault>
     ensures { result ≡ count text.now }
 {
     plain_value(text).ok_or(AsmFault::Number)
+}
+
+// How many zeros: a number below 2^64 without a sign, or -0, which is 0.
+pub(crate) fn zeros_of(text: &[u8]) -> Result<u64, AsmFault>
+    ensures { result ≡ zeros_of text.now }
+{
+    if text == b"-0".as_slice() {
+        return Ok(0);
+    }
+    count(text)
 }
 
 fn fit(bits: u8, negative: bool, number: u64) -> Option<i64>

@@ -11,8 +11,8 @@ use crate::fault::AsmFault;
 use crate::indexes::index;
 use crate::names::is_register;
 use crate::numbers::{is_numeral, number};
+use ebc_base::name_text;
 use ebc_insn::{Extra, Operand};
-use ebc_names::name_text;
 use natural_index::Index;
 
 fn register_of(indirect: bool, text: &[u8]) -> Option<(Operand, &[u8])>

@@ -13,10 +13,10 @@ ghost use Rattle.asm_text.specs.Texts.{AreNumbers, DirectiveFits, IsHeld, IsNumb
 use crate::directive::Directive;
 use crate::fault::AsmFault;
 use crate::instructions::insn_in;
-use crate::numbers::{count, number};
+use crate::numbers::{number, zeros_of};
 use crate::splits::{cut, sole, word_part};
+use ebc_base::name_text;
 use ebc_insn::Insn;
-use ebc_names::name_text;
 use std::alloc::AllocError;
 
 /// A statement (docs/ASSEMBLY.md, "Statements"). Names are of 1 to 63 letters, digits, underscores and points.
@@ -209,7 +209,9 @@ fn directed(directive: Directive, text: &[u8]) -> Result<Statement<'_>, AsmFault
         Directive::Global => Ok(Statement::Global(sole_name(text)?)),
         Directive::Numbers(bits) => numbers_or_place(bits, text),
         Directive::Thunk => Ok(Statement::Thunk(sole_name(text)?)),
-        Directive::Zeros => Ok(Statement::Zeros(count(sole(text).ok_or(AsmFault::Operand)?)?)),
+        Directive::Zeros => {
+            Ok(Statement::Zeros(zeros_of(sole(text).ok_or(AsmFault::Operand)?)?))
+        }
     }
 }
 

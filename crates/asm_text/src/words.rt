@@ -1,7 +1,7 @@
 //! Mnemonics as they are written.
 
-ghost use Rattle.std.specs.Prelude.{◌≡◌, ◌∷◌, Some, []};
-ghost use Rattle.asm_text.specs.Mnemonics.{absolute_text, arith_stem, bits_letter, cmp_text, cond_text, long_text, native_text, size_letter, wide_text, word_of};
+ghost use Rattle.std.specs.Prelude.{◌≡◌, ◌∷◌, ◌++◌, Some, []};
+ghost use Rattle.asm_text.specs.Mnemonics.{absolute_text, arith_stem, bits_letter, cmp_text, cond_text, long_text, native_text, size_letter, stem_of_form, suffix_of_form, wide_text, word_of};
 
 use crate::form::Form;
 use ebc_insn::{ArithOp, CmpOp, Cond, Size};
@@ -101,86 +101,74 @@ fn long_text(long: bool) -> &'static str
     if long { "d" } else { "w" }
 }
 
+fn stem_of_form(form: Form) -> &'static str
+    ensures { result.now ≡ stem_of_form form }
+{
+    match form {
+        Form::Break => "BREAK",
+        Form::Jump { .. } => "JMP",
+        Form::Jump8(_) => "JMP",
+        Form::Call { .. } => "CALL",
+        Form::Ret => "RET",
+        Form::Compare { .. } => "CMP",
+        Form::CompareImm { .. } => "CMPI",
+        Form::Arith { op, .. } => arith_stem(op),
+        Form::Move { .. } => "MOV",
+        Form::MoveSigned { .. } => "MOV",
+        Form::MoveImm { .. } => "MOVI",
+        Form::MoveImmNatural { .. } => "MOVI",
+        Form::MoveRelative { .. } => "MOVREL",
+        Form::LoadSpecial => "LOADSP",
+        Form::StoreSpecial => "STORESP",
+        Form::Push { .. } => "PUSH",
+        Form::Pop { .. } => "POP",
+        Form::PushNatural => "PUSH",
+        Form::PopNatural => "POP",
+    }
+}
+
+// What follows the stem, in at most three parts.
+fn suffix_of_form(form: Form) -> (&'static str, &'static str, &'static str)
+    ensures { result.0.now ++ (result.1.now ++ result.2.now) ≡ suffix_of_form form }
+{
+    match form {
+        Form::Break => ("", "", ""),
+        Form::Jump {
+            cond,
+            far,
+            relative,
+        } => (wide_text(far), absolute_text(relative), cond_text(cond)),
+        Form::Jump8(cond) => ("", "8", cond_text(cond)),
+        Form::Call {
+            far,
+            native,
+            relative,
+        } => (wide_text(far), native_text(native), absolute_text(relative)),
+        Form::Ret => ("", "", ""),
+        Form::Compare { op, wide } => ("", wide_text(wide), cmp_text(op)),
+        Form::CompareImm { op, wide, long } => (wide_text(wide), long_text(long), cmp_text(op)),
+        Form::Arith { wide, .. } => ("", "", wide_text(wide)),
+        Form::Move { size, bits } => ("", size_letter(size), bits_letter(bits)),
+        Form::MoveSigned { bits } => ("s", "n", bits_letter(bits)),
+        Form::MoveImm { size, bits } => ("", size_letter(size), bits_letter(bits)),
+        Form::MoveImmNatural { bits } => ("", "n", bits_letter(bits)),
+        Form::MoveRelative { bits } => ("", "", bits_letter(bits)),
+        Form::LoadSpecial => ("", "", ""),
+        Form::StoreSpecial => ("", "", ""),
+        Form::Push { wide } => ("", "", wide_text(wide)),
+        Form::Pop { wide } => ("", "", wide_text(wide)),
+        Form::PushNatural => ("", "", "n"),
+        Form::PopNatural => ("", "", "n"),
+    }
+}
+
 impl fmt::Display for Form {
     ghost output = { λ f. Some (word_of f) };
 
     #[tactic(auto, unfolding(crate::specs::Mnemonics::word_of))]
     fn fmt<W: fmt::Write>(&self, f: &mut fmt::Formatter<W>) -> fmt::Result {
-        match *self {
-            Form::Break => f.write_str("BREAK"),
-            Form::Jump {
-                cond,
-                far,
-                relative,
-            } => {
-                let (wide, absolute, cond) = (
-                    wide_text(far),
-                    absolute_text(relative),
-                    cond_text(cond),
-                );
-                write!(f, "JMP{wide}{absolute}{cond}")
-            }
-            Form::Jump8(cond) => {
-                let cond = cond_text(cond);
-                write!(f, "JMP8{cond}")
-            }
-            Form::Call {
-                far,
-                native,
-                relative,
-            } => {
-                let (wide, native, absolute) = (
-                    wide_text(far),
-                    native_text(native),
-                    absolute_text(relative),
-                );
-                write!(f, "CALL{wide}{native}{absolute}")
-            }
-            Form::Ret => f.write_str("RET"),
-            Form::Compare { op, wide } => {
-                let (wide, op) = (wide_text(wide), cmp_text(op));
-                write!(f, "CMP{wide}{op}")
-            }
-            Form::CompareImm { op, wide, long } => {
-                let (wide, long, op) = (wide_text(wide), long_text(long), cmp_text(op));
-                write!(f, "CMPI{wide}{long}{op}")
-            }
-            Form::Arith { op, wide } => {
-                let (stem, wide) = (arith_stem(op), wide_text(wide));
-                write!(f, "{stem}{wide}")
-            }
-            Form::Move { size, bits } => {
-                let (size, bits) = (size_letter(size), bits_letter(bits));
-                write!(f, "MOV{size}{bits}")
-            }
-            Form::MoveSigned { bits } => {
-                let bits = bits_letter(bits);
-                write!(f, "MOVsn{bits}")
-            }
-            Form::MoveImm { size, bits } => {
-                let (size, bits) = (size_letter(size), bits_letter(bits));
-                write!(f, "MOVI{size}{bits}")
-            }
-            Form::MoveImmNatural { bits } => {
-                let bits = bits_letter(bits);
-                write!(f, "MOVIn{bits}")
-            }
-            Form::MoveRelative { bits } => {
-                let bits = bits_letter(bits);
-                write!(f, "MOVREL{bits}")
-            }
-            Form::LoadSpecial => f.write_str("LOADSP"),
-            Form::StoreSpecial => f.write_str("STORESP"),
-            Form::Push { wide } => {
-                let wide = wide_text(wide);
-                write!(f, "PUSH{wide}")
-            }
-            Form::Pop { wide } => {
-                let wide = wide_text(wide);
-                write!(f, "POP{wide}")
-            }
-            Form::PushNatural => f.write_str("PUSHn"),
-            Form::PopNatural => f.write_str("POPn"),
-        }
+        let stem = stem_of_form(*self);
+        let (first, second, third) = suffix_of_form(*self);
+        write!(f, "{stem}{first}{second}{third}")
     }
 }

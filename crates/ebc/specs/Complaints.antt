@@ -1,4 +1,4 @@
--- What the program says on standard error: docs/COMMANDS.md, "Standard error".
+-- For proofs: what the program says on standard error: docs/COMMANDS.md, "Standard error".
 use Rattle.std.specs.Prelude.{ℕ, List, [], codes}
 use Rattle.ebc_cli.specs.declared.outcome.Outcome.{Outcome}
 use Rattle.ebc_cli.specs.declared.outcome.Outcome.TheVariants.{ReadFault, WriteFault, NoMemory}

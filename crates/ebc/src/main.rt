@@ -7,13 +7,6 @@ ghost use Rattle.std.specs.Vec.Iter.{into_iter_items};
 ghost use Rattle.ebc_cli.specs.Outcomes.{exit_status};
 ghost use Rattle.ebc.specs.Complaints.{complaint_of};
 
-#[cfg(test)]
-mod assembly_tests;
-#[cfg(test)]
-mod image_tests;
-#[cfg(test)]
-mod tests;
-
 use ebc_cli::{Outcome, ebc};
 use ebc_outside::{HostFolder, HostSink};
 use std::alloc::{AllocError, Global};

@@ -1,10 +1,11 @@
 -- A source has no more names and no more fixups than bytes.
-use Rattle.std.proofs.Common.{◌≡◌, ℕ, ◌+◌, ◌<◌, ◌≤◌, List, [], ◌∷◌, ◌++◌, length, take, drop, Option, Some, None, Result, Ok, Err, Bool, true, false, cond, refl, subst, arith}
+use Rattle.std.proofs.Common.{◌≡◌, ℕ, ◌+◌, ◌<◌, ◌≤◌, List, [], ◌∷◌, ◌++◌, length, take, drop, Option, Some, None, Result, Ok, Err, Bool}
+use Rattle.std.proofs.Common.{true, false, cond, refl, subst, arith}
 use Rattle.std.proofs.lemmas.Bool.Decides.{nat_tests}
 use Rattle.std.proofs.lemmas.List.{length-append, length-drop, length-take}
 use Rattle.std.specs.Prelude.{IfOk, IfSome, not, ◌==◌, nat_lt, unwrap_or, if◌then◌else◌}
 use Rattle.std.specs.List.{position_or_len}
-use Rattle.ebc_names.specs.Tables.{is_named}
+use Rattle.ebc_base.specs.Tables.{is_named}
 use Rattle.asm_text.specs.Faults.{both, made}
 use Rattle.asm_text.specs.Lines.{Line, is_ascii, line_in, parted, statement_in}
 use Rattle.asm_text.specs.Lines as lines
@@ -69,17 +70,28 @@ fixups_once d n names (Some u) = refl
 
 -- nor are the fixups
 pub fixups_few : (d : Bool) (c k : ℕ) (names : List (List ℕ)) (ls : List Line)
-    → length (fixups_in false (record { in_data = d; code_end = c; data_end = k }) names ls) + length (fixups_in true (record { in_data = d; code_end = c; data_end = k }) names ls) ≤ names_in_lines ls
+    → length (fixups_in false (record { in_data = d; code_end = c; data_end = k }) names ls) + length
+    (fixups_in true (record { in_data = d; code_end = c; data_end = k }) names ls) ≤ names_in_lines ls
 unfolding fixups_in
 fixups_few d c k names [] = omega arith
 fixups_few true c k names (l ∷ ls) =
     let rest = fixups_few (data_after true l.statement) c (k + length (bytes_of l.statement)) names ls in
-    let e = length-append (fixups_of true k names (use_of l.statement)) (fixups_in true (record { in_data = data_after true l.statement; code_end = c; data_end = k + length (bytes_of l.statement) }) names ls) in
+    let e = length-append (fixups_of true k names (use_of l.statement))
+    (fixups_in true (record {
+      in_data = data_after true l.statement;
+      code_end = c;
+      data_end = k + length (bytes_of l.statement);
+    }) names ls) in
     let f = fixups_once true k names (use_of l.statement) in
     omega (arith, rest, e, f)
 fixups_few false c k names (l ∷ ls) =
     let rest = fixups_few (data_after false l.statement) (c + length (bytes_of l.statement)) k names ls in
-    let e = length-append (fixups_of false c names (use_of l.statement)) (fixups_in false (record { in_data = data_after false l.statement; code_end = c + length (bytes_of l.statement); data_end = k }) names ls) in
+    let e = length-append (fixups_of false c names (use_of l.statement))
+    (fixups_in false (record {
+      in_data = data_after false l.statement;
+      code_end = c + length (bytes_of l.statement);
+      data_end = k;
+    }) names ls) in
     let f = fixups_once false c names (use_of l.statement) in
     omega (arith, rest, e, f)
 
@@ -109,7 +121,8 @@ trim_short text = let e = back_short (trim_front text) in let f = front_short te
 abbrev Parts : List ℕ → List ℕ × List ℕ → Type 0
 Parts text p = (length p.0 ≤ length text) × (length p.1 < length text)
 
-parts_or_none : (b : Bool) (n : ℕ) (text : List ℕ) → nat_lt n (length text) ≡ b → IfSome (if b then Some (take n text, drop (n + 1) text) else None) (Parts text)
+parts_or_none : (b : Bool) (n : ℕ) (text : List ℕ) → nat_lt n (length text) ≡ b
+    → IfSome (if b then Some (take n text, drop (n + 1) text) else None) (Parts text)
 parts_or_none true n text h =
     let less : n < length text = grind (arith, nat_tests, h) in
     let e = length-drop (n + 1) text in
@@ -119,7 +132,8 @@ parts_or_none false n text h = tt
 
 until_short : (b : ℕ) (text : List ℕ) → IfSome (until b text) (Parts text)
 unfolding until
-until_short b text = parts_or_none (nat_lt (position_or_len (λ x. x == b) text) (length text)) (position_or_len (λ x. x == b) text) text refl
+until_short b text = parts_or_none (nat_lt (position_or_len (λ x. x == b) text) (length text))
+    (position_or_len (λ x. x == b) text) text refl
 
 first_or_all : (text : List ℕ) (o : Option (List ℕ × List ℕ)) → IfSome o (Parts text) → length (unwrap_or o (text, [])).0 ≤ length text
 first_or_all text None h = omega arith
@@ -155,24 +169,28 @@ statement_in_short (b ∷ bs) = some_at_most b bs (statement_of (b ∷ bs))
 abbrev LineAtMost : ℕ → Line → Type 0
 LineAtMost n l = names_in_line l ≤ n
 
-unlabelled_short : (n m : ℕ) (r : Result (Option Statement) AsmFault) → m ≤ n → IfOk r (AtMost m) → IfOk (made lines.unlabelled r) (LineAtMost n)
+unlabelled_short : (n m : ℕ) (r : Result (Option Statement) AsmFault) → m ≤ n → IfOk r (AtMost m)
+    → IfOk (made lines.unlabelled r) (LineAtMost n)
 unlabelled_short n m (Ok s) le h = omega (arith, le, h)
 unlabelled_short n m (Err f) le h = tt
 
-labelled_short : (n m : ℕ) (r : Result (List ℕ) AsmFault) (s : Result (Option Statement) AsmFault) → m < n → IfOk s (AtMost m) → IfOk (made lines.labelled (both r s)) (LineAtMost n)
+labelled_short : (n m : ℕ) (r : Result (List ℕ) AsmFault) (s : Result (Option Statement) AsmFault) → m < n → IfOk s (AtMost m)
+    → IfOk (made lines.labelled (both r s)) (LineAtMost n)
 labelled_short n m (Ok a) (Ok s) le h = omega (arith, le, h)
 labelled_short n m (Ok a) (Err f) le h = tt
 labelled_short n m (Err e) (Ok s) le h = tt
 labelled_short n m (Err e) (Err f) le h = tt
 
-parted_short : (n : ℕ) (text : List ℕ) (o : Option (List ℕ × List ℕ)) → length text ≤ n → IfSome o (Parts text) → IfOk (parted text o) (LineAtMost n)
+parted_short : (n : ℕ) (text : List ℕ) (o : Option (List ℕ × List ℕ)) → length text ≤ n → IfSome o (Parts text)
+    → IfOk (parted text o) (LineAtMost n)
 parted_short n text None le h =
     let e = trim_short text in
     unlabelled_short n (length (trim text)) (statement_in (trim text)) (omega (arith, le, e)) (statement_in_short (trim text))
 parted_short n text (Some p) le h =
     let e = trim_short p.1 in
     let f : length p.1 < length text = h.1 in
-    labelled_short n (length (trim p.1)) (name (trim p.0)) (statement_in (trim p.1)) (omega (arith, le, e, f)) (statement_in_short (trim p.1))
+    labelled_short n (length (trim p.1)) (name (trim p.0)) (statement_in (trim p.1)) (omega (arith, le, e, f))
+    (statement_in_short (trim p.1))
 
 or_fault : {A : Type 0} (Q : A → Type 0) (b : Bool) (r : Result A AsmFault) (f : AsmFault) → IfOk r Q → IfOk (cond b r (Err f)) Q
 or_fault Q true r f h = h
@@ -182,7 +200,8 @@ line_short : (text : List ℕ) → IfOk (line_in text) (LineAtMost (length text)
 unfolding line_in
 line_short text =
     or_fault (LineAtMost (length text)) (is_ascii text) (parted (without_comment text) (until 58 (without_comment text))) _
-    (parted_short (length text) (without_comment text) (until 58 (without_comment text)) (comment_short text) (until_short 58 (without_comment text)))
+    (parted_short (length text) (without_comment text) (until 58 (without_comment text)) (comment_short text)
+    (until_short 58 (without_comment text)))
 
 -- a line has no more names than bytes
 pub line_few : (text : List ℕ) (l : Line) → line_in text ≡ Ok l → names_in_line l ≤ length text

@@ -6,7 +6,8 @@ use Rattle.std.specs.Prelude.{◌||◌, if◌then◌else◌}
 use Rattle.std.specs.List.{list_any}
 use Rattle.asm_text.specs.Lines.{Line}
 use Rattle.ebc_asm.specs.Pieces.{bytes_of, data_after, ends_in_data, if_there, section_of, use_of}
-use Rattle.ebc_asm.specs.Symbols.{Ends, Place, and_names, ends_after, fixups_in, fixups_of, here, is_labelled, names_with, place_of, section_kind, undefined}
+use Rattle.ebc_asm.specs.Symbols.{Ends, Place, and_names, ends_after, fixups_in, fixups_of, here, is_labelled, names_with, place_of}
+use Rattle.ebc_asm.specs.Symbols.{section_kind, undefined}
 
 -- ---- sections
 
@@ -15,10 +16,13 @@ unfolding ends_in_data
 ends_more d [] l = refl
 ends_more d (x ∷ ls) l = ends_more (data_after d x.statement) ls l
 
-pub section_more : (w d : Bool) (ls : List Line) (l : Line) → section_of w d (ls ++ l ∷ []) ≡ section_of w d ls ++ if_there w (ends_in_data d ls) (bytes_of l.statement)
+pub section_more : (w d : Bool) (ls : List Line) (l : Line) → section_of w d (ls ++ l ∷ []) ≡ section_of w d ls
+    ++ if_there w (ends_in_data d ls) (bytes_of l.statement)
 unfolding section_of ends_in_data
 section_more w d [] l = append-nil (if_there w d (bytes_of l.statement))
-section_more w d (x ∷ ls) l = ap (λ bs. if_there w d (bytes_of x.statement) ++ bs) (section_more w (data_after d x.statement) ls l) ∙ sym (append_assoc (if_there w d (bytes_of x.statement)) (section_of w (data_after d x.statement) ls) (if_there w (ends_in_data (data_after d x.statement) ls) (bytes_of l.statement)))
+section_more w d (x ∷ ls) l = ap (λ bs. if_there w d (bytes_of x.statement) ++ bs) (section_more w (data_after d x.statement) ls l)
+    ∙ sym (append_assoc (if_there w d (bytes_of x.statement)) (section_of w (data_after d x.statement) ls)
+    (if_there w (ends_in_data (data_after d x.statement) ls) (bytes_of l.statement)))
 
 -- ---- names
 
@@ -78,18 +82,27 @@ place_at e name l = if is_labelled name l then record { kind = section_kind e.in
 
 place_here : (b : Bool) (p : Place) (e : Ends) (name : List ℕ) (ls : List Line) (l : Line)
     → place_of e name (ls ++ l ∷ []) ≡ cond (list_any (is_labelled name) ls) (place_of e name ls) (place_at (ends_of e ls) name l)
-    → cond b p (place_of e name (ls ++ l ∷ [])) ≡ cond (b || list_any (is_labelled name) ls) (cond b p (place_of e name ls)) (place_at (ends_of e ls) name l)
+    → cond b p (place_of e name (ls ++ l ∷ [])) ≡ cond (b || list_any (is_labelled name) ls) (cond b p (place_of e name ls))
+    (place_at (ends_of e ls) name l)
 place_here true p e name ls l h = refl
 place_here false p e name ls l h = h
 
-pub place_more : (e : Ends) (name : List ℕ) (ls : List Line) (l : Line) → place_of e name (ls ++ l ∷ []) ≡ cond (list_any (is_labelled name) ls) (place_of e name ls) (place_at (ends_of e ls) name l)
+pub place_more : (e : Ends) (name : List ℕ) (ls : List Line) (l : Line)
+    → place_of e name (ls ++ l ∷ []) ≡ cond (list_any (is_labelled name) ls) (place_of e name ls) (place_at (ends_of e ls) name l)
 unfolding place_of ends_of
 place_more e name [] l = refl
-place_more e name (x ∷ ls) l = place_here (is_labelled name x) (record { kind = section_kind e.in_data; offset = here e }) (ends_after e x) name ls l (place_more (ends_after e x) name ls l)
+place_more e name (x ∷ ls) l = place_here (is_labelled name x) (record { kind = section_kind e.in_data; offset = here e })
+    (ends_after e x) name ls l (place_more (ends_after e x) name ls l)
 
 -- ---- fixups
 
-pub fixups_more : (w : Bool) (e : Ends) (names : List (List ℕ)) (ls : List Line) (l : Line) → fixups_in w e names (ls ++ l ∷ []) ≡ fixups_in w e names ls ++ if_there w (ends_of e ls).in_data (fixups_of (ends_of e ls).in_data (here (ends_of e ls)) names (use_of l.statement))
+pub fixups_more : (w : Bool) (e : Ends) (names : List (List ℕ)) (ls : List Line) (l : Line)
+    → fixups_in w e names (ls ++ l ∷ []) ≡ fixups_in w e names ls
+    ++ if_there w (ends_of e ls).in_data (fixups_of (ends_of e ls).in_data (here (ends_of e ls)) names (use_of l.statement))
 unfolding fixups_in ends_of
 fixups_more w e names [] l = append-nil (if_there w e.in_data (fixups_of e.in_data (here e) names (use_of l.statement)))
-fixups_more w e names (x ∷ ls) l = ap (λ fs. if_there w e.in_data (fixups_of e.in_data (here e) names (use_of x.statement)) ++ fs) (fixups_more w (ends_after e x) names ls l) ∙ sym (append_assoc (if_there w e.in_data (fixups_of e.in_data (here e) names (use_of x.statement))) (fixups_in w (ends_after e x) names ls) (if_there w (ends_of (ends_after e x) ls).in_data (fixups_of (ends_of (ends_after e x) ls).in_data (here (ends_of (ends_after e x) ls)) names (use_of l.statement))))
+fixups_more w e names (x ∷ ls) l = ap (λ fs. if_there w e.in_data (fixups_of e.in_data (here e) names (use_of x.statement)) ++ fs)
+    (fixups_more w (ends_after e x) names ls l) ∙ sym (append_assoc
+    (if_there w e.in_data (fixups_of e.in_data (here e) names (use_of x.statement))) (fixups_in w (ends_after e x) names ls)
+    (if_there w (ends_of (ends_after e x) ls).in_data (fixups_of (ends_of (ends_after e x) ls).in_data
+    (here (ends_of (ends_after e x) ls)) names (use_of l.statement))))

@@ -2,7 +2,7 @@
 use Rattle.std.proofs.Common.{◌≡◌, ℕ, List, [], ◌∷◌, ◌++◌, map, Option, Some, None, Ok, Err, Bool, true, false, refl, sym, ap, ◌∙◌}
 use Rattle.std.specs.Prelude.{◌≢◌, not}
 use Rattle.std.specs.List.{list_any}
-use Rattle.ebc_names.specs.Tables.{is_named}
+use Rattle.ebc_base.specs.Tables.{is_named}
 use Rattle.asm_text.specs.Lines.{Line}
 use Rattle.asm_text.specs.declared.fault.AsmFault.{AsmFault}
 use Rattle.asm_text.specs.declared.fault.AsmFault.TheVariants as faults
@@ -11,7 +11,8 @@ use Rattle.ebc_asm.specs.declared.names.Standing.{Standing}
 use Rattle.ebc_asm.specs.Held.{Labels, and_global_place, and_used_place, nowhere, standing_in}
 use Rattle.ebc_asm.specs.Pieces.{Use, use_of}
 use Rattle.ebc_asm.specs.Sources.{label_is_new}
-use Rattle.ebc_asm.specs.Symbols.{and_name, and_names, global_of, here, is_labelled, makes_global, names_with, place_of, section_kind, start}
+use Rattle.ebc_asm.specs.Symbols.{and_name, and_names, global_of, here, is_labelled, makes_global, names_with, place_of, section_kind}
+use Rattle.ebc_asm.specs.Symbols.{start}
 use Rattle.ebc_asm.proofs.LineLaws.{ends_of}
 use Rattle.ebc_asm.proofs.StateLaws.{Apart, Knows, KnowsUse, added_names, and_names_is, named_still, used_is_there}
 use Rattle.ebc_asm.proofs.PlaceLaws.{apart_name, apart_names, places_with, standing_is}
@@ -39,7 +40,11 @@ known_use (Some u) ns ls h = kept_in u.name ns ls h
 pub known_in : (ns : List (List ℕ)) (ls : List Line) → Knows (names_with ns ls) ls
 unfolding names_with
 known_in ns [] = tt
-known_in ns (l ∷ ls) = (known_use (use_of l.statement) (and_names l ns) ls (used_is_there (use_of l.statement) (and_name (global_of l.statement) (and_name l.label ns))), known_in (and_names l ns) ls)
+known_in ns (l ∷ ls) = (
+  known_use (use_of l.statement) (and_names l ns) ls
+      (used_is_there (use_of l.statement) (and_name (global_of l.statement) (and_name l.label ns))),
+  known_in (and_names l ns) ls,
+)
 
 map_all : {A : Type 0} (f g : List ℕ → A) (ns : List (List ℕ)) → ((m : List ℕ) → f m ≡ g m) → map f ns ≡ map g ns
 map_all f g [] same = refl
@@ -52,7 +57,8 @@ not_labelled l m e = rw e refl
 
 -- a label that was taken is new, and stands where its section ends
 pub label_taken : (ls : List Line) (l : Line) (o : Option (List ℕ)) (after : List Standing) → l.label ≡ o
-    → Labels (Ok tt) o (section_kind (ends_of start ls).in_data) (here (ends_of start ls)) (names_with [] ls) (map (standing_in ls) (names_with [] ls)) after
+    → Labels (Ok tt) o (section_kind (ends_of start ls).in_data) (here (ends_of start ls)) (names_with [] ls)
+    (map (standing_in ls) (names_with [] ls)) after
     → (label_is_new ls o ≡ true) × (after ≡ map (labelled_in ls l) (and_name o (names_with [] ls)))
 label_taken ls l None after e h =
     (refl, h.1 ∙ map_all (standing_in ls) (labelled_in ls l) (names_with [] ls) (λ m. sym (label_keeps ls l m (not_labelled l m e))))
@@ -62,7 +68,8 @@ label_taken ls l (Some name) after e h =
     let new : list_any (is_labelled name) ls ≡ false = unlabelled start name ls none in
     (rw new refl, h.1 ∙ defined ls l name (names_with [] ls) e (apart_in [] ls tt) (nowhere_yet name ls) h.0)
 
-labelled_once : (ls : List Line) (name : List ℕ) (b : Bool) → list_any (is_labelled name) ls ≡ b → (place_of start name ls).kind ≢ 0 → not b ≡ false
+labelled_once : (ls : List Line) (name : List ℕ) (b : Bool) → list_any (is_labelled name) ls ≡ b → (place_of start name ls).kind ≢ 0
+    → not b ≡ false
 labelled_once ls name true e h = refl
 labelled_once ls name false e h = absurd (h (rw (unplaced start name ls e) refl))
 
@@ -77,7 +84,8 @@ label_refused ls (Some name) f k n after h =
 
 -- ---- the name that it makes global
 
-unlabelled_nowhere : (ls : List Line) (l : Line) (name : List ℕ) → is_named name (and_name l.label (names_with [] ls)) ≡ false → labelled_in ls l name ≡ nowhere
+unlabelled_nowhere : (ls : List Line) (l : Line) (name : List ℕ) → is_named name (and_name l.label (names_with [] ls)) ≡ false
+    → labelled_in ls l name ≡ nowhere
 unlabelled_nowhere ls l name h =
     let p = not_name l.label name (names_with [] ls) h in
     label_keeps ls l name p.0 ∙ nowhere_yet name ls p.1
@@ -89,16 +97,20 @@ pub global_taken : (ls : List Line) (l : Line) (o : Option (List ℕ)) → globa
     → and_global_place o (and_name l.label (names_with [] ls)) (map (labelled_in ls l) (and_name l.label (names_with [] ls)))
     ≡ map (standing_in (ls ++ l ∷ [])) (and_name o (and_name l.label (names_with [] ls)))
 global_taken ls l None e =
-    map_all (labelled_in ls l) (standing_in (ls ++ l ∷ [])) (and_name l.label (names_with [] ls)) (λ m. sym (global_keeps ls l m (not_global l m e)))
+    map_all (labelled_in ls l) (standing_in (ls ++ l ∷ [])) (and_name l.label (names_with [] ls))
+    (λ m. sym (global_keeps ls l m (not_global l m e)))
 global_taken ls l (Some name) e =
-    made_global ls l name (and_name l.label (names_with [] ls)) e (apart_name l.label (names_with [] ls) (apart_in [] ls tt)) (unlabelled_nowhere ls l name)
+    made_global ls l name (and_name l.label (names_with [] ls)) e (apart_name l.label (names_with [] ls) (apart_in [] ls tt))
+    (unlabelled_nowhere ls l name)
 
 -- ---- the name that it uses
 
 pub use_taken : (ls : List Line) (l : Line) (o : Option (List ℕ))
-    → and_used_place o (and_name (global_of l.statement) (and_name l.label (names_with [] ls))) (map (standing_in (ls ++ l ∷ [])) (and_name (global_of l.statement) (and_name l.label (names_with [] ls))))
+    → and_used_place o (and_name (global_of l.statement) (and_name l.label (names_with [] ls)))
+    (map (standing_in (ls ++ l ∷ [])) (and_name (global_of l.statement) (and_name l.label (names_with [] ls))))
     ≡ map (standing_in (ls ++ l ∷ [])) (and_name o (and_name (global_of l.statement) (and_name l.label (names_with [] ls))))
 use_taken ls l None = refl
 use_taken ls l (Some name) =
     places_with (standing_in (ls ++ l ∷ [])) name (and_name (global_of l.statement) (and_name l.label (names_with [] ls)))
-    (λ h. let g = not_name (global_of l.statement) name (and_name l.label (names_with [] ls)) h in global_keeps ls l name g.0 ∙ unlabelled_nowhere ls l name g.1)
+    (λ h. let g = not_name (global_of l.statement) name (and_name l.label (names_with [] ls)) h in global_keeps ls l name g.0
+    ∙ unlabelled_nowhere ls l name g.1)

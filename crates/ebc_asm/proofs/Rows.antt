@@ -40,51 +40,67 @@ raw_index : Assembles (codes "MOVInw R4, #0x8000" ∷ []) (0x78 ∷ 0x04 ∷ 0x0
 unfolding sources_compute
 raw_index = refl
 
-numbers : Assembles (codes ".db 1, -1" ∷ codes ".dw 0x0203 ; two bytes" ∷ codes ".data" ∷ codes ".zero 3" ∷ codes ".dd 1" ∷ []) (0x01 ∷ 0xff ∷ 0x03 ∷ 0x02 ∷ []) (0x00 ∷ 0x00 ∷ 0x00 ∷ 0x01 ∷ 0x00 ∷ 0x00 ∷ 0x00 ∷ []) [] []
+numbers : Assembles (codes ".db 1, -1" ∷ codes ".dw 0x0203 ; two bytes" ∷ codes ".data" ∷ codes ".zero 3" ∷ codes ".dd 1" ∷ [])
+    (0x01 ∷ 0xff ∷ 0x03 ∷ 0x02 ∷ []) (0x00 ∷ 0x00 ∷ 0x00 ∷ 0x01 ∷ 0x00 ∷ 0x00 ∷ 0x00 ∷ []) [] []
 unfolding sources_compute
 numbers = refl
 
 -- ---- each kind of fixup: its offset, its symbol, and from where a distance counts
 
-words : Assembles (codes "a: JMP8 b" ∷ codes "b: RET" ∷ codes "JMP8 a" ∷ []) (0x02 ∷ 0x00 ∷ 0x04 ∷ 0x00 ∷ 0x02 ∷ 0x00 ∷ []) [] (symbol (codes "a") 1 0 0 ∷ symbol (codes "b") 1 0 2 ∷ []) (fixup 1 1 1 1 2 ∷ fixup 1 1 5 0 6 ∷ [])
+words : Assembles (codes "a: JMP8 b" ∷ codes "b: RET" ∷ codes "JMP8 a" ∷ []) (0x02 ∷ 0x00 ∷ 0x04 ∷ 0x00 ∷ 0x02 ∷ 0x00 ∷ []) []
+    (symbol (codes "a") 1 0 0 ∷ symbol (codes "b") 1 0 2 ∷ []) (fixup 1 1 1 1 2 ∷ fixup 1 1 5 0 6 ∷ [])
 unfolding sources_compute
 words = refl
 
-distance_of_two_bytes : Assembles (codes "MOVRELw R1, f" ∷ []) (0x79 ∷ 0x01 ∷ 0x00 ∷ 0x00 ∷ []) [] (symbol (codes "f") 0 0 0 ∷ []) (fixup 1 2 2 0 4 ∷ [])
+distance_of_two_bytes : Assembles (codes "MOVRELw R1, f" ∷ []) (0x79 ∷ 0x01 ∷ 0x00 ∷ 0x00 ∷ []) [] (symbol (codes "f") 0 0 0 ∷ [])
+    (fixup 1 2 2 0 4 ∷ [])
 unfolding sources_compute
 distance_of_two_bytes = refl
 
-distance_of_four_bytes : Assembles (codes "RET" ∷ codes "CALL32 f" ∷ []) (0x04 ∷ 0x00 ∷ 0x83 ∷ 0x10 ∷ 0x00 ∷ 0x00 ∷ 0x00 ∷ 0x00 ∷ []) [] (symbol (codes "f") 0 0 0 ∷ []) (fixup 1 3 4 0 8 ∷ [])
+distance_of_four_bytes : Assembles (codes "RET" ∷ codes "CALL32 f" ∷ []) (0x04 ∷ 0x00 ∷ 0x83 ∷ 0x10 ∷ 0x00 ∷ 0x00 ∷ 0x00 ∷ 0x00 ∷ []) []
+    (symbol (codes "f") 0 0 0 ∷ []) (fixup 1 3 4 0 8 ∷ [])
 unfolding sources_compute
 distance_of_four_bytes = refl
 
-distance_of_eight_bytes : Assembles (codes "JMP64cs f" ∷ []) (0xc1 ∷ 0xd0 ∷ 0x00 ∷ 0x00 ∷ 0x00 ∷ 0x00 ∷ 0x00 ∷ 0x00 ∷ 0x00 ∷ 0x00 ∷ []) [] (symbol (codes "f") 0 0 0 ∷ []) (fixup 1 4 2 0 10 ∷ [])
+distance_of_eight_bytes : Assembles (codes "JMP64cs f" ∷ []) (0xc1 ∷ 0xd0 ∷ 0x00 ∷ 0x00 ∷ 0x00 ∷ 0x00 ∷ 0x00 ∷ 0x00 ∷ 0x00 ∷ 0x00 ∷ []) []
+    (symbol (codes "f") 0 0 0 ∷ []) (fixup 1 4 2 0 10 ∷ [])
 unfolding sources_compute
 distance_of_eight_bytes = refl
 
-address_behind_an_index : Assembles (codes "MOVIqq @R1(+1,+2), f" ∷ []) (0xf7 ∷ 0x79 ∷ 0x09 ∷ 0x10 ∷ 0x00 ∷ 0x00 ∷ 0x00 ∷ 0x00 ∷ 0x00 ∷ 0x00 ∷ 0x00 ∷ 0x00 ∷ []) [] (symbol (codes "f") 0 0 0 ∷ []) (fixup 1 5 4 0 0 ∷ [])
+address_behind_an_index : Assembles (codes "MOVIqq @R1(+1,+2), f" ∷ [])
+    (0xf7 ∷ 0x79 ∷ 0x09 ∷ 0x10 ∷ 0x00 ∷ 0x00 ∷ 0x00 ∷ 0x00 ∷ 0x00 ∷ 0x00 ∷ 0x00 ∷ 0x00 ∷ []) [] (symbol (codes "f") 0 0 0 ∷ [])
+    (fixup 1 5 4 0 0 ∷ [])
 unfolding sources_compute
 address_behind_an_index = refl
 
-address_of_a_call : Assembles (codes "CALL64a f" ∷ []) (0xc3 ∷ 0x00 ∷ 0x00 ∷ 0x00 ∷ 0x00 ∷ 0x00 ∷ 0x00 ∷ 0x00 ∷ 0x00 ∷ 0x00 ∷ []) [] (symbol (codes "f") 0 0 0 ∷ []) (fixup 1 5 2 0 0 ∷ [])
+address_of_a_call : Assembles (codes "CALL64a f" ∷ []) (0xc3 ∷ 0x00 ∷ 0x00 ∷ 0x00 ∷ 0x00 ∷ 0x00 ∷ 0x00 ∷ 0x00 ∷ 0x00 ∷ 0x00 ∷ []) []
+    (symbol (codes "f") 0 0 0 ∷ []) (fixup 1 5 2 0 0 ∷ [])
 unfolding sources_compute
 address_of_a_call = refl
 
-addresses_and_thunks : Assembles (codes ".data" ∷ codes "d: .db 1" ∷ codes ".code" ∷ codes "RET" ∷ codes ".data" ∷ codes ".dq d" ∷ codes ".thunk d" ∷ []) (0x04 ∷ 0x00 ∷ []) (0x01 ∷ 0x00 ∷ 0x00 ∷ 0x00 ∷ 0x00 ∷ 0x00 ∷ 0x00 ∷ 0x00 ∷ 0x00 ∷ 0x00 ∷ 0x00 ∷ 0x00 ∷ 0x00 ∷ 0x00 ∷ 0x00 ∷ 0x00 ∷ 0x00 ∷ []) (symbol (codes "d") 2 0 0 ∷ []) (fixup 2 5 1 0 0 ∷ fixup 2 3 9 0 13 ∷ [])
+addresses_and_thunks : Assembles
+    (codes ".data" ∷ codes "d: .db 1" ∷ codes ".code" ∷ codes "RET" ∷ codes ".data" ∷ codes ".dq d" ∷ codes ".thunk d" ∷ [])
+    (0x04 ∷ 0x00 ∷ [])
+    (0x01 ∷ 0x00 ∷ 0x00 ∷ 0x00 ∷ 0x00 ∷ 0x00 ∷ 0x00 ∷ 0x00 ∷ 0x00 ∷ 0x00 ∷ 0x00 ∷ 0x00 ∷ 0x00 ∷ 0x00 ∷ 0x00 ∷ 0x00 ∷ 0x00 ∷ [])
+    (symbol (codes "d") 2 0 0 ∷ []) (fixup 2 5 1 0 0 ∷ fixup 2 3 9 0 13 ∷ [])
 unfolding sources_compute
 addresses_and_thunks = refl
 
 -- ---- the order of symbols and of fixups
 
-label_before_operand : Assembles (codes "x: JMP8 y" ∷ codes "z: JMP8 x" ∷ codes "y:" ∷ []) (0x02 ∷ 0x00 ∷ 0x02 ∷ 0x00 ∷ []) [] (symbol (codes "x") 1 0 0 ∷ symbol (codes "y") 1 0 4 ∷ symbol (codes "z") 1 0 2 ∷ []) (fixup 1 1 1 1 2 ∷ fixup 1 1 3 0 4 ∷ [])
+label_before_operand : Assembles (codes "x: JMP8 y" ∷ codes "z: JMP8 x" ∷ codes "y:" ∷ []) (0x02 ∷ 0x00 ∷ 0x02 ∷ 0x00 ∷ []) []
+    (symbol (codes "x") 1 0 0 ∷ symbol (codes "y") 1 0 4 ∷ symbol (codes "z") 1 0 2 ∷ []) (fixup 1 1 1 1 2 ∷ fixup 1 1 3 0 4 ∷ [])
 unfolding sources_compute
 label_before_operand = refl
 
-code_before_data : Assembles (codes ".data" ∷ codes ".dq a" ∷ codes ".code" ∷ codes "a: CALL32 a" ∷ []) (0x83 ∷ 0x10 ∷ 0x00 ∷ 0x00 ∷ 0x00 ∷ 0x00 ∷ []) (0x00 ∷ 0x00 ∷ 0x00 ∷ 0x00 ∷ 0x00 ∷ 0x00 ∷ 0x00 ∷ 0x00 ∷ []) (symbol (codes "a") 1 0 0 ∷ []) (fixup 1 3 2 0 6 ∷ fixup 2 5 0 0 0 ∷ [])
+code_before_data : Assembles (codes ".data" ∷ codes ".dq a" ∷ codes ".code" ∷ codes "a: CALL32 a" ∷ [])
+    (0x83 ∷ 0x10 ∷ 0x00 ∷ 0x00 ∷ 0x00 ∷ 0x00 ∷ []) (0x00 ∷ 0x00 ∷ 0x00 ∷ 0x00 ∷ 0x00 ∷ 0x00 ∷ 0x00 ∷ 0x00 ∷ [])
+    (symbol (codes "a") 1 0 0 ∷ []) (fixup 1 3 2 0 6 ∷ fixup 2 5 0 0 0 ∷ [])
 unfolding sources_compute
 code_before_data = refl
 
-label_before_section : Assembles (codes ".global g" ∷ codes "RET" ∷ codes "g: .data" ∷ []) (0x04 ∷ 0x00 ∷ []) [] (symbol (codes "g") 1 1 2 ∷ []) []
+label_before_section : Assembles (codes ".global g" ∷ codes "RET" ∷ codes "g: .data" ∷ []) (0x04 ∷ 0x00 ∷ []) []
+    (symbol (codes "g") 1 1 2 ∷ []) []
 unfolding sources_compute
 label_before_section = refl
 

@@ -1,5 +1,6 @@
 -- What a source of at most 1 MiB stands for is an object.
-use Rattle.std.proofs.Common.{◌≡◌, ℕ, ◌+◌, ◌≤◌, List, [], ◌∷◌, ◌++◌, length, map, Result, Ok, Err, Bool, true, false, refl, sym, ap, subst, arith}
+use Rattle.std.proofs.Common.{◌≡◌, ℕ, ◌+◌, ◌≤◌, List, [], ◌∷◌, ◌++◌, length, map, Result, Ok, Err, Bool, true, false, refl, sym, ap, subst}
+use Rattle.std.proofs.Common.{arith}
 use Rattle.std.proofs.lemmas.Bool.Decides.{nat_tests}
 use Rattle.std.proofs.lemmas.List.{length-append, length-map}
 use Rattle.std.proofs.lemmas.List.Elements.{All-append}
@@ -11,7 +12,8 @@ use Rattle.asm_text.specs.Lines.{Line, line_in}
 use Rattle.asm_text.specs.Splits.{lines_of}
 use Rattle.asm_text.specs.declared.fault.AsmFault.{AsmFault}
 use Rattle.ebc_asm.specs.Pieces.{bytes_of, ends_in_data, if_there, section_of}
-use Rattle.ebc_asm.specs.Sources.{Fault, behind, global_is_defined, has_room, is_placed, label_is_new, line_behind, lines_behind, numbered, object_in, object_of}
+use Rattle.ebc_asm.specs.Sources.{Fault, behind, global_is_defined, has_room, is_placed, label_is_new, line_behind, lines_behind, numbered}
+use Rattle.ebc_asm.specs.Sources.{object_in, object_of}
 use Rattle.ebc_asm.specs.Symbols.{fixups_in, global_of, names_with, start, symbol_of}
 use Rattle.ebc_asm.proofs.CountLaws.{fixups_few, line_few, lines_size, names_few, names_in_lines, names_in_more, size_of}
 use Rattle.ebc_asm.proofs.FitLaws.{LineFits, line_fits}
@@ -40,11 +42,13 @@ behind_passed texts before m l h =
     let e : m ≡ l = cc d.1 in
     (d.1, subst (λ x. has_room before x ≡ true) e c.0)
 
-read_passed : (texts : List (List ℕ)) (before : List Line) (r : Result Line AsmFault) (l : Line) → (r >>= behind texts before) ≡ Ok l → Passed before r l
+read_passed : (texts : List (List ℕ)) (before : List Line) (r : Result Line AsmFault) (l : Line) → (r >>= behind texts before) ≡ Ok l
+    → Passed before r l
 read_passed texts before (Ok m) l h = behind_passed texts before m l h
 read_passed texts before (Err f) l h = absurd (cc h)
 
-passed : (texts : List (List ℕ)) (before : List Line) (t : List ℕ) (l : Line) → line_behind texts before t ≡ Ok l → Passed before (line_in t) l
+passed : (texts : List (List ℕ)) (before : List Line) (t : List ℕ) (l : Line) → line_behind texts before t ≡ Ok l
+    → Passed before (line_in t) l
 unfolding line_behind
 passed texts before t l h = read_passed texts before (line_in t) l h
 
@@ -61,24 +65,29 @@ fit_last : (ls : List Line) (l : Line) → AreFit ls → LineFits l → AreFit (
 fit_last [] l h f = (f, tt)
 fit_last (x ∷ ls) l h f = (h.0, fit_last ls l h.1 f)
 
-within : (w d : Bool) (old bs : List ℕ) (here : List ℕ) → length old ≤ most → (d ≡ w → here ≡ old) → length here + length bs ≤ most → length (old ++ if_there w d bs) ≤ most
+within : (w d : Bool) (old bs : List ℕ) (here : List ℕ) → length old ≤ most → (d ≡ w → here ≡ old) → length here + length bs ≤ most
+    → length (old ++ if_there w d bs) ≤ most
 within true true old bs here h e r = let n = length-append old bs in let m = ap length (e refl) in omega (arith, n, m, r)
 within true false old bs here h e r = let n = length-append old [] in omega (arith, n, h)
 within false true old bs here h e r = let n = length-append old [] in omega (arith, n, h)
 within false false old bs here h e r = let n = length-append old bs in let m = ap length (e refl) in omega (arith, n, m, r)
 
-room_of : (ls : List Line) (l : Line) → has_room ls l ≡ true → length (section_of (ends_in_data false ls) false ls) + length (bytes_of l.statement) ≤ most
+room_of : (ls : List Line) (l : Line) → has_room ls l ≡ true → length (section_of (ends_in_data false ls) false ls) + length
+    (bytes_of l.statement) ≤ most
 room_of ls l h = at_most (length (section_of (ends_in_data false ls) false ls) + length (bytes_of l.statement)) most h
   where
     at_most : (m n : ℕ) → nat_le m n ≡ true → m ≤ n
     at_most m n e = grind (arith, nat_tests, e)
 
-section_within : (w : Bool) (ls : List Line) (l : Line) → length (section_of w false ls) ≤ most → has_room ls l ≡ true → length (section_of w false (ls ++ l ∷ [])) ≤ most
+section_within : (w : Bool) (ls : List Line) (l : Line) → length (section_of w false ls) ≤ most → has_room ls l ≡ true
+    → length (section_of w false (ls ++ l ∷ [])) ≤ most
 section_within w ls l h r =
     subst (λ bs. length bs ≤ most) (sym (section_more w false ls l))
-    (within w (ends_in_data false ls) (section_of w false ls) (bytes_of l.statement) (section_of (ends_in_data false ls) false ls) h (λ e. ap (λ d. section_of d false ls) e) (room_of ls l r))
+    (within w (ends_in_data false ls) (section_of w false ls) (bytes_of l.statement) (section_of (ends_in_data false ls) false ls) h
+    (λ e. ap (λ d. section_of d false ls) e) (room_of ls l r))
 
-reads_more : (texts : List (List ℕ)) (before : List Line) (t : List ℕ) (l : Line) (n : ℕ) → line_behind texts before t ≡ Ok l → Reads n before → Reads (n + length t) (before ++ l ∷ [])
+reads_more : (texts : List (List ℕ)) (before : List Line) (t : List ℕ) (l : Line) (n : ℕ) → line_behind texts before t ≡ Ok l
+    → Reads n before → Reads (n + length t) (before ++ l ∷ [])
 reads_more texts before t l n h r =
     let p = passed texts before t l h in
     let more = names_in_more before l in
@@ -91,9 +100,11 @@ reads_more texts before t l n h r =
       few = omega (arith, more, few, old);
     }
 
-reads_step : (texts : List (List ℕ)) (before : List Line) (t : List ℕ) (ts : List (List ℕ)) (ls : List Line) (n : ℕ) (r : Result Line AsmFault) → line_behind texts before t ≡ r
+reads_step : (texts : List (List ℕ)) (before : List Line) (t : List ℕ) (ts : List (List ℕ)) (ls : List Line) (n : ℕ)
+    (r : Result Line AsmFault) → line_behind texts before t ≡ r
     → (numbered before r >>= (λ l. lines_behind texts (before ++ l ∷ []) ts)) ≡ Ok ls → Reads n before
-    → ((l : Line) → lines_behind texts (before ++ l ∷ []) ts ≡ Ok ls → Reads (n + length t) (before ++ l ∷ []) → Reads ((n + length t) + size_of ts) ls)
+    → ((l : Line) → lines_behind texts (before ++ l ∷ []) ts ≡ Ok ls → Reads (n + length t) (before ++ l ∷ [])
+    → Reads ((n + length t) + size_of ts) ls)
     → Reads (n + (length t + size_of ts)) ls
 reads_step texts before t ts ls n (Ok l) e h r rest =
     let whole = rest l h (reads_more texts before t l n e r) in
@@ -101,14 +112,16 @@ reads_step texts before t ts ls n (Ok l) e h r rest =
     record { fit = whole.fit; code = whole.code; contents = whole.contents; few = omega (arith, few) }
 reads_step texts before t ts ls n (Err f) e h r rest = absurd (cc h)
 
-reads_all : (texts : List (List ℕ)) (before : List Line) (ts : List (List ℕ)) (ls : List Line) (n : ℕ) → lines_behind texts before ts ≡ Ok ls → Reads n before → Reads (n + size_of ts) ls
+reads_all : (texts : List (List ℕ)) (before : List Line) (ts : List (List ℕ)) (ls : List Line) (n : ℕ)
+    → lines_behind texts before ts ≡ Ok ls → Reads n before → Reads (n + size_of ts) ls
 unfolding lines_behind
 reads_all texts before [] ls n h r =
     let e : before ≡ ls = cc h in
     let few = r.few in
     subst (λ x. Reads (n + 0) x) e (record { fit = r.fit; code = r.code; contents = r.contents; few = omega (arith, few) })
 reads_all texts before (t ∷ ts) ls n h r =
-    reads_step texts before t ts ls n (line_behind texts before t) refl h r (λ l g q. reads_all texts (before ++ l ∷ []) ts ls (n + length t) g q)
+    reads_step texts before t ts ls n (line_behind texts before t) refl h r
+    (λ l g q. reads_all texts (before ++ l ∷ []) ts ls (n + length t) g q)
 
 -- ---- the object
 
@@ -117,7 +130,8 @@ unfolding object_in
 is_object n ls small r =
     let few = r.few in
     let named : length (names_with [] ls) ≤ most = let e = names_few [] ls in omega (arith, e, few, small) in
-    let symbols : length (map (symbol_of ls) (names_with [] ls)) ≡ length (names_with [] ls) = length-map (names_with [] ls) (symbol_of ls) in
+    let symbols : length (map (symbol_of ls) (names_with [] ls)) ≡ length (names_with [] ls) =
+    length-map (names_with [] ls) (symbol_of ls) in
     let code = are_fixups false false 0 0 (names_with [] ls) ls [] refl r.fit (known_in [] ls) in
     let contents = are_fixups true false 0 0 (names_with [] ls) ls [] refl r.fit (known_in [] ls) in
     let both = length-append (fixups_in false start (names_with [] ls) ls) (fixups_in true start (names_with [] ls) ls) in
@@ -129,22 +143,31 @@ is_object n ls small r =
       fixup_count = omega (arith, both, fixups, few, small);
       symbols = all_symbols ls (names_with [] ls) (are_names [] ls tt r.fit);
       names = named_apart ls (names_with [] ls) (apart_in [] ls tt);
-      fixups = All-append (IsFixup (section_of false false ls) (section_of true false ls) (length (map (symbol_of ls) (names_with [] ls)))) (fixups_in false start (names_with [] ls) ls) (fixups_in true start (names_with [] ls) ls)
-          (all_fixups false 0 (section_of false false ls) (section_of true false ls) (names_with [] ls) (length (map (symbol_of ls) (names_with [] ls))) (fixups_in false start (names_with [] ls) ls) (sym symbols) r.code r.contents code)
-          (all_fixups true 0 (section_of false false ls) (section_of true false ls) (names_with [] ls) (length (map (symbol_of ls) (names_with [] ls))) (fixups_in true start (names_with [] ls) ls) (sym symbols) r.code r.contents contents);
-      ascend = both_ascending 0 (section_of false false ls) (names_with [] ls) (fixups_in false start (names_with [] ls) ls) (fixups_in true start (names_with [] ls) ls) code
-          (data_later (section_of true false ls) (names_with [] ls) (fixups_in true start (names_with [] ls) ls) contents) (ascending true 0 (section_of true false ls) (names_with [] ls) (fixups_in true start (names_with [] ls) ls) contents);
+      fixups = All-append (IsFixup (section_of false false ls) (section_of true false ls) (length (map (symbol_of ls) (names_with [] ls))))
+          (fixups_in false start (names_with [] ls) ls) (fixups_in true start (names_with [] ls) ls)
+          (all_fixups false 0 (section_of false false ls) (section_of true false ls) (names_with [] ls)
+          (length (map (symbol_of ls) (names_with [] ls))) (fixups_in false start (names_with [] ls) ls)
+          (sym symbols) r.code r.contents code)
+          (all_fixups true 0 (section_of false false ls) (section_of true false ls) (names_with [] ls)
+          (length (map (symbol_of ls) (names_with [] ls))) (fixups_in true start (names_with [] ls) ls)
+          (sym symbols) r.code r.contents contents);
+      ascend = both_ascending 0 (section_of false false ls) (names_with [] ls) (fixups_in false start (names_with [] ls) ls)
+          (fixups_in true start (names_with [] ls) ls) code
+          (data_later (section_of true false ls) (names_with [] ls) (fixups_in true start (names_with [] ls) ls) contents)
+          (ascending true 0 (section_of true false ls) (names_with [] ls) (fixups_in true start (names_with [] ls) ls) contents);
     }
 
 nothing_read : Reads 0 []
 unfolding section_of
 nothing_read = record { fit = tt; code = omega arith; contents = omega arith; few = omega arith }
 
-object_from : (source : List ℕ) (r : Result (List Line) Fault) (o : Object) → lines_behind (lines_of source) [] (lines_of source) ≡ r → (r >>= (λ ls. Ok (object_in ls))) ≡ Ok o → length source ≤ most → IsObject o
+object_from : (source : List ℕ) (r : Result (List Line) Fault) (o : Object) → lines_behind (lines_of source) [] (lines_of source) ≡ r
+    → (r >>= (λ ls. Ok (object_in ls))) ≡ Ok o → length source ≤ most → IsObject o
 object_from source (Ok ls) o e h small =
     let size = lines_size source in
     let is : object_in ls ≡ o = cc h in
-    subst IsObject is (is_object (0 + size_of (lines_of source)) ls (omega (arith, size, small)) (reads_all (lines_of source) [] (lines_of source) ls 0 e nothing_read))
+    subst IsObject is (is_object (0 + size_of (lines_of source)) ls (omega (arith, size, small))
+    (reads_all (lines_of source) [] (lines_of source) ls 0 e nothing_read))
 object_from source (Err f) o e h small = absurd (cc h)
 
 -- what a source of at most 1 MiB stands for is an object

@@ -1,7 +1,9 @@
--- What the code holds of names, of their uses and of the lines of a source, and what its parts tell. No caller sees it.
-use Rattle.std.specs.Prelude.{◌≡◌, ◌≢◌, ℕ, ◌+◌, ◌<◌, ◌≤◌, Bool, true, false, map, List, [], ◌∷◌, ◌++◌, length, slice_index_or, slice_set, Option, Some, None, option_map, IfSome, Result, Ok, Err, ⊤, if◌then◌else◌}
+-- For proofs: what the code holds of names, of their uses and of the lines of a source, and what its parts tell. No caller
+-- sees it.
+use Rattle.std.specs.Prelude.{◌≡◌, ◌≢◌, ℕ, ◌+◌, ◌<◌, ◌≤◌, Bool, true, false, map, List, [], ◌∷◌, ◌++◌, length, slice_index_or, slice_set}
+use Rattle.std.specs.Prelude.{Option, Some, None, option_map, IfSome, Result, Ok, Err, ⊤, if◌then◌else◌}
 use Rattle.std.specs.List.{list_any}
-use Rattle.ebc_names.specs.Tables.{is_named, name_number, with_name}
+use Rattle.ebc_base.specs.Tables.{is_named, name_number, with_name}
 use Rattle.ebc_object.specs.Objects.{most}
 use Rattle.ebc_object.specs.declared.object.Object.{Object}
 use Rattle.ebc_object.specs.declared.object.Symbol.{Symbol}
@@ -133,8 +135,10 @@ pub record Added (s : Option Statement) (before after : Assembler) : Type 0 wher
   pub room : length (bytes_here before) + length (bytes_of s) ≤ most
   pub code : after.code.bytes.items ≡ before.code.bytes.items ++ if_there false before.in_data (bytes_of s)
   pub contents : after.contents.bytes.items ≡ before.contents.bytes.items ++ if_there true before.in_data (bytes_of s)
-  pub code_fixups : after.code.fixups.items ≡ before.code.fixups.items ++ if_there false before.in_data (fixups_of before.in_data (length (bytes_here before)) after.names.table (use_of s))
-  pub data_fixups : after.contents.fixups.items ≡ before.contents.fixups.items ++ if_there true before.in_data (fixups_of before.in_data (length (bytes_here before)) after.names.table (use_of s))
+  pub code_fixups : after.code.fixups.items ≡ before.code.fixups.items
+      ++ if_there false before.in_data (fixups_of before.in_data (length (bytes_here before)) after.names.table (use_of s))
+  pub data_fixups : after.contents.fixups.items ≡ before.contents.fixups.items
+      ++ if_there true before.in_data (fixups_of before.in_data (length (bytes_here before)) after.names.table (use_of s))
   pub names : after.names.table ≡ and_name (used_name (use_of s)) before.names.table
   pub places : after.names.places.items ≡ and_used_place (used_name (use_of s)) before.names.table before.names.places.items
 

@@ -1,4 +1,4 @@
--- What the statements of a source put into its sections: docs/ASSEMBLY.md, "Statements" and "Sections".
+-- Meaning: what the statements of a source put into its sections: docs/ASSEMBLY.md, "Statements" and "Sections".
 use Rattle.std.specs.Prelude.{ℕ, ◌-◌, ◌==◌, Bool, true, false, List, [], ◌∷◌, ◌++◌, length, replicate, Option, Some, None, if◌then◌else◌}
 use Rattle.ebc_insn.specs.declared.Insn.{Insn}
 use Rattle.ebc_insn.specs.declared.Insn.TheVariants as insns

@@ -1,6 +1,7 @@
--- What a source stands for: an object, or the first line that fails with the lowest of its faults. docs/ASSEMBLY.md, "Objects"
--- and "Faults".
-use Rattle.std.specs.Prelude.{◌≡◌, ℕ, ◌+◌, Bool, true, false, not, ◌&&◌, List, [], ◌∷◌, ◌++◌, length, map, Option, Some, None, Result, Ok, Err, nat_le}
+-- Meaning: what a source stands for: an object, or the first line that fails with the lowest of its faults.
+-- docs/ASSEMBLY.md, "Objects" and "Faults".
+use Rattle.std.specs.Prelude.{◌≡◌, ℕ, ◌+◌, Bool, true, false, not, ◌&&◌, List, [], ◌∷◌, ◌++◌, length, map, Option, Some, None, Result, Ok}
+use Rattle.std.specs.Prelude.{Err, nat_le}
 use Rattle.std.specs.List.{list_any}
 use Rattle.ebc_base.specs.Steps.{◌>>=◌, passes}
 use Rattle.ebc_object.specs.declared.object.Object.{Object}

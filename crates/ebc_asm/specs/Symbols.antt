@@ -1,7 +1,7 @@
--- The symbols and fixups of a source: docs/ASSEMBLY.md, "Objects".
+-- Meaning: the symbols and fixups of a source: docs/ASSEMBLY.md, "Objects".
 use Rattle.std.specs.Prelude.{ℕ, ◌+◌, Bool, true, false, List, [], ◌∷◌, ◌++◌, length, Option, Some, None, bytes_eq, if◌then◌else◌}
 use Rattle.std.specs.List.{list_any}
-use Rattle.ebc_names.specs.Tables.{name_number, with_name}
+use Rattle.ebc_base.specs.Tables.{name_number, with_name}
 use Rattle.ebc_object.specs.declared.object.Fixup.{Fixup}
 use Rattle.ebc_object.specs.declared.object.Symbol.{Symbol}
 use Rattle.asm_text.specs.Lines.{Line}

@@ -13,8 +13,7 @@ use crate::pieces::data_after;
 use crate::sections::{Section, section_kind};
 use crate::symbols::symbols;
 use asm_text::{AsmFault, Line, Statement, line_in};
-use ebc_base::{Name, NoMemory, Sequence};
-use ebc_names::NameTable;
+use ebc_base::{Name, NameTable, NoMemory, Sequence};
 use ebc_object::Object;
 use std::alloc::Global;
 

@@ -2,14 +2,13 @@
 
 ghost use Rattle.std.specs.Prelude.{◌≡◌, ◌<◌, [], length, not, IfOk, OnOk};
 ghost use Rattle.asm_text.specs.Texts.{seen_name};
-ghost use Rattle.ebc_names.specs.Tables.{is_named, with_name};
+ghost use Rattle.ebc_base.specs.Tables.{is_named, with_name};
 ghost use Rattle.ebc_asm.specs.Held.{Defines, Labels, and_global_place, and_place, number_of, replaced, standing_of};
 ghost use Rattle.ebc_asm.specs.Symbols.{and_name};
 
 use crate::end::LineEnd;
 use asm_text::AsmFault;
-use ebc_base::{Name, NoMemory};
-use ebc_names::NameTable;
+use ebc_base::{Name, NameTable, NoMemory};
 use std::alloc::Global;
 
 // The most names, all of which a table holds: the number of a symbol has 32 bits.

@@ -8,7 +8,7 @@ ghost use Rattle.asm_text.specs.declared.fault.AsmFault.{AsmFault};
 ghost use Rattle.ebc_asm.specs.Held.{Appends, SmallUse, and_place, and_used_place, seen_use};
 ghost use Rattle.ebc_asm.specs.Pieces.{bytes_of, use_of};
 ghost use Rattle.ebc_asm.specs.Symbols.{and_name, fixup_of, fixups_of, from_of, section_kind, used_name};
-ghost use Rattle.ebc_names.specs.Tables.{with_name};
+ghost use Rattle.ebc_base.specs.Tables.{with_name};
 
 use crate::end::LineEnd;
 use crate::names::Names;

@@ -12,8 +12,7 @@ use crate::assembler::Assembler;
 use crate::end::AsmEnd;
 use crate::names::add_name;
 use asm_text::{label_of, next_line};
-use ebc_base::{Name, NoMemory};
-use ebc_names::NameTable;
+use ebc_base::{Name, NameTable, NoMemory};
 use ebc_object::Object;
 use std::alloc::Global;
 

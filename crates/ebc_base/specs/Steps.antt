@@ -1,5 +1,5 @@
--- What is done in steps of which each may fail: the first failure is the whole's.
-use Rattle.std.specs.Prelude.{Bool, true, false, Option, Some, None, Result, Ok, Err}
+-- Meaning: what is done in steps of which each may fail: the first failure is the whole's.
+use Rattle.std.specs.Prelude.{Bool, true, false, Option, Some, None, Result, Ok, Err, if◌then◌else◌}
 
 -- first one thing, and then, unless it fails, the next, of its value
 infixl 10 ◌>>=◌
@@ -16,3 +16,7 @@ or_else e (Some x) = Ok x
 abbrev pub passes : {E : Type 0} → Bool → E → Result (Unit {0}) E
 passes true e = Ok tt
 passes false e = Err e
+
+-- a value, where a test holds
+abbrev pub only_if : {A : Type 0} → Bool → A → Option A
+only_if b x = if b then Some x else None

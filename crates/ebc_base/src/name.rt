@@ -8,7 +8,7 @@ use std::alloc::Global;
 use std::marker::Model;
 
 /// A name, or the path of a key: a text, which contracts see as the list of its bytes.
-#[derive(Debug, Drop)]
+#[derive(Drop)]
 pub struct Name {
     text: String,
 }

@@ -8,7 +8,7 @@ use std::marker::Model;
 
 /// A list of values in their order. It is made from a `Vec` and gives it back, and takes no memory of its own.
 /// Contracts see it as the list of its values.
-#[derive(Debug, Drop)]
+#[derive(Drop)]
 pub struct Sequence<T> {
     items: Vec<T>,
 }

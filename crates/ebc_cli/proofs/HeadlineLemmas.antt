@@ -1,6 +1,7 @@
 -- From a reply to the words to the clauses of `ebc`: what it says of code, of an image under notes, of a listing, of an assembly,
 -- of files that are missing, too large or bad input, and of answers with no text.
-use Rattle.std.proofs.Common.{◌≡◌, ◌≢◌, ◌↔◌, ℕ, ◌<◌, ◌≤◌, List, [], ◌∷◌, length, Option, Some, None, option_map, IfSome, Result, Ok, Err, Bool, true, false, nat_lt, if◌then◌else◌, refl, sym, ap, ◌∙◌, arith}
+use Rattle.std.proofs.Common.{◌≡◌, ◌≢◌, ◌↔◌, ℕ, ◌<◌, ◌≤◌, List, [], ◌∷◌, length, Option, Some, None, option_map, IfSome, Result, Ok, Err}
+use Rattle.std.proofs.Common.{Bool, true, false, nat_lt, if◌then◌else◌, refl, sym, ap, ◌∙◌, arith}
 use Rattle.std.proofs.lemmas.Bool.Decides.{nat_tests}
 use Rattle.std.specs.FinMap.{insert}
 use Rattle.std.specs.Fmt.{decimal}
@@ -14,16 +15,16 @@ use Rattle.pe_image.specs.declared.image.Image.{Image}
 use Rattle.ebc_disasm.specs.Listings.{listing_of}
 use Rattle.protocol_script.proofs.RecordLaws.{read-is-script}
 use Rattle.twin_run.specs.Headline.{SameAtBothWidths}
-use Rattle.width_checker.specs.declared.verdict.Verdict.{Verdict}
-use Rattle.width_checker.specs.declared.verdict.Verdict.TheVariants.{Neutral, Refused}
-use Rattle.width_checker.specs.PlainChecks.{plain_verdict}
-use Rattle.width_checker.specs.PlainRules as plain
-use Rattle.width_checker.specs.PlainRuns.{RunsAlike}
+use Rattle.plain_check.specs.declared.verdict.Verdict.{Verdict}
+use Rattle.plain_check.specs.declared.verdict.Verdict.TheVariants.{Neutral, Refused}
+use Rattle.plain_check.specs.PlainChecks.{plain_verdict}
+use Rattle.plain_check.specs.PlainRules as plain
+use Rattle.plain_check.specs.PlainRuns.{RunsAlike}
 use Rattle.width_checker.specs.Typed.{Typed}
 use Rattle.width_checker.specs.Verdicts.{IsRefused}
-use Rattle.width_checker.proofs.PlainRunsLemmas.{neutral-alike}
-use Rattle.width_checker.proofs.PlainRulesLemmas.{neutral-exactly}
-use Rattle.width_checker.proofs.PlainRefusalLemmas.{refused-exactly}
+use Rattle.plain_check.proofs.Runs.{neutral-alike}
+use Rattle.plain_check.proofs.Rules.{neutral-exactly}
+use Rattle.plain_check.proofs.Refusals.{refused-exactly}
 use Rattle.ebc_cli.specs.declared.outcome.Outcome.{Outcome}
 use Rattle.ebc_cli.specs.declared.outcome.Outcome.TheVariants as outcomes
 use Rattle.ebc_cli.specs.declared.reply.End.TheVariants.{Stop}
@@ -37,15 +38,20 @@ use Rattle.ebc_cli.specs.Outputs.{SameBut, files_left, printed, text_of, written
 use Rattle.ebc_cli.specs.Readings.{file, done, go_on, large_reply}
 use Rattle.ebc_cli.specs.Texts.{bad_line, neutral_line, refused_line}
 use Rattle.ebc_cli.specs.Works.{work_of, code_check, verdict_reply, listing_reply, object_reply, TellsVerdict, IsReplyOf, plain_code_limit}
-use Rattle.ebc_cli.specs.Answers.{IsAnswerOf, Decides, Answers, Assembles, LeavesPart, ChecksCode, ChecksImage, ListsImage, HasBadInput, HasBadLine, HasLargeFile, HasMissingFile, HasNoText, writes_object, empty_listing, SameForScripts}
+use Rattle.ebc_cli.specs.Answers.{IsAnswerOf, Decides, Answers, Assembles, LeavesPart, ChecksCode, ChecksImage, ListsImage, HasBadInput}
+use Rattle.ebc_cli.specs.Answers.{HasBadLine, HasLargeFile, HasMissingFile, HasNoText, writes_object, empty_listing, SameForScripts}
 use Rattle.ebc_cli.proofs.StopLemmas.{assembly-work, bad-exactly, bad-line-told, image-work, large-exactly, listing-work, missing-exactly}
 
 -- a reply that was decided is an answer, whether the reading went through or stopped
-pub answer-ok : (contents : Option Files) (words before now : List (List ℕ)) (reply : Reply) → IfSome contents (λ files. Decides before now (Ok reply) (work_of words files)) → IfSome contents (λ files. IsAnswerOf words files reply)
+pub answer-ok : (contents : Option Files) (words before now : List (List ℕ)) (reply : Reply)
+    → IfSome contents (λ files. Decides before now (Ok reply) (work_of words files))
+    → IfSome contents (λ files. IsAnswerOf words files reply)
 answer-ok None words before now reply decided = tt
 answer-ok (Some files) words before now reply decided = decided.0
 
-pub answer-stop : (contents : Option Files) (words before now : List (List ℕ)) (reply : Reply) → IfSome contents (λ files. Decides before now (Err (Stop reply)) (work_of words files)) → IfSome contents (λ files. IsAnswerOf words files reply)
+pub answer-stop : (contents : Option Files) (words before now : List (List ℕ)) (reply : Reply)
+    → IfSome contents (λ files. Decides before now (Err (Stop reply)) (work_of words files))
+    → IfSome contents (λ files. IsAnswerOf words files reply)
 answer-stop None words before now reply decided = tt
 answer-stop (Some files) words before now reply decided = decided.0
 
@@ -54,33 +60,56 @@ pub record Tells (contents : Option Files) (words : List (List ℕ)) (reply : Re
   pub told : IfSome contents (λ files. IsAnswerOf words files reply)
   pub same : IsAnswer outcome → outcome ≡ reply.outcome
 
-pub answers : (contents : Option Files) (words : List (List ℕ)) (reply : Reply) (outcome : Outcome) (before now : Option (List ℕ)) (left : Option Files) → Tells contents words reply outcome
-    → (IsAnswer outcome → now ≡ printed (text_of reply.output) before) → (IsAnswer outcome → left ≡ option_map (files_left reply.output) contents)
+pub answers : (contents : Option Files) (words : List (List ℕ)) (reply : Reply) (outcome : Outcome) (before now : Option (List ℕ))
+    (left : Option Files) → Tells contents words reply outcome
+    → (IsAnswer outcome → now ≡ printed (text_of reply.output) before)
+    → (IsAnswer outcome → left ≡ option_map (files_left reply.output) contents)
     → IfSome contents (λ files. IsAnswer outcome → Answers words files outcome before now left)
 answers None words reply outcome before now left tells text files_are = tt
 answers (Some files) words reply outcome before now left tells text files_are =
-    λ answered. record { reply = reply; answer = tells.told; same = tells.same answered; text = text answered; files_are = files_are answered }
+    λ answered. record {
+      reply = reply;
+      answer = tells.told;
+      same = tells.same answered;
+      text = text answered;
+      files_are = files_are answered;
+    }
 
-pub leaves-part : (contents : Option Files) (words : List (List ℕ)) (reply : Reply) (outcome : Outcome) (before now : Option (List ℕ)) (left : Option Files) → Tells contents words reply outcome
+pub leaves-part : (contents : Option Files) (words : List (List ℕ)) (reply : Reply) (outcome : Outcome) (before now : Option (List ℕ))
+    (left : Option Files) → Tells contents words reply outcome
     → (outcome ≡ outcomes.WriteFault → AppendsPart (text_of reply.output) before now) → SameBut (written_name reply.output) contents left
     → IfSome contents (λ files. outcome ≡ outcomes.WriteFault → LeavesPart words files before now left)
 leaves-part None words reply outcome before now left tells part others = tt
-leaves-part (Some files) words reply outcome before now left tells part others = λ fault. record { reply = reply; answer = tells.told; part = part fault; others = others }
+leaves-part (Some files) words reply outcome before now left tells part others =
+    λ fault. record { reply = reply; answer = tells.told; part = part fault; others = others }
 
 -- ---- verdicts
 
 -- the reply of an exact verdict tells it
-pub tells-verdict : (image : Image) (notes : Notes) (verdict : Verdict) → verdict ≡ Neutral ↔ Typed image notes → (verdict ≡ Neutral → SameAtBothWidths image notes)
-    → ((place : ℕ) (rule : RuleName) → verdict ≡ Refused place rule ↔ IsRefused image notes place rule) → TellsVerdict image notes (verdict_reply verdict)
-tells-verdict image notes verdict neutral alike refused = record { verdict = verdict; neutral = neutral; alike = alike; refused = refused; told = refl }
+pub tells-verdict : (image : Image) (notes : Notes) (verdict : Verdict) → verdict ≡ Neutral ↔ Typed image notes
+    → (verdict ≡ Neutral → SameAtBothWidths image notes)
+    → ((place : ℕ) (rule : RuleName) → verdict ≡ Refused place rule ↔ IsRefused image notes place rule)
+    → TellsVerdict image notes (verdict_reply verdict)
+tells-verdict image notes verdict neutral alike refused = record {
+  verdict = verdict;
+  neutral = neutral;
+  alike = alike;
+  refused = refused;
+  told = refl;
+}
 
 verdict-done : (verdict : Verdict) → (verdict_reply verdict).outcome ≡ outcomes.Done ↔ verdict ≡ Neutral
 verdict-done Neutral = (λ e. refl, λ e. refl)
 verdict-done (Refused place rule) = (λ e. cc, λ e. cc)
 
-verdict-refused : (verdict : Verdict) (p : ℕ) (r : RuleName) → (verdict_reply verdict).outcome ≡ outcomes.Refused p r ↔ verdict ≡ Refused p r
+verdict-refused : (verdict : Verdict) (p : ℕ) (r : RuleName) → (verdict_reply verdict).outcome ≡ outcomes.Refused p r
+    ↔ verdict ≡ Refused p r
 verdict-refused Neutral p r = (λ e. cc, λ e. cc)
-verdict-refused (Refused place rule) p r = (λ e. let there : place ≡ p = cc in let named : rule ≡ r = cc in rw (there, named) refl, λ e. let there : place ≡ p = cc in let named : rule ≡ r = cc in rw (there, named) refl)
+verdict-refused (Refused place rule) p r = (
+  λ e. let there : place ≡ p = cc in let named : rule ≡ r = cc in
+      rw (there, named) refl,
+  λ e. let there : place ≡ p = cc in let named : rule ≡ r = cc in rw (there, named) refl,
+)
 
 -- an outcome that is exactly so where the verdict is, and the verdict where the code is
 exactly-so : {A B : Type 0} (outcome verdict wanted : Outcome) → outcome ≡ verdict → verdict ≡ wanted ↔ A → A ↔ B → outcome ≡ wanted ↔ B
@@ -99,11 +128,13 @@ verdict-printed reply verdict wanted before now text told is =
 
 -- ---- `check IMAGE NOTES`
 
-image-told : (words : List (List ℕ)) (files : Files) (reply : Reply) (image : Image) (notes : Notes) → ChecksImage words files image notes → IsAnswerOf words files reply → TellsVerdict image notes reply
+image-told : (words : List (List ℕ)) (files : Files) (reply : Reply) (image : Image) (notes : Notes) → ChecksImage words files image notes
+    → IsAnswerOf words files reply → TellsVerdict image notes reply
 image-told words files reply image notes c told = rw (image-work words files image notes c) at told
 
 pub exactly : (contents : Option Files) (words : List (List ℕ)) (reply : Reply) (outcome : Outcome) → Tells contents words reply outcome
-    → IfSome contents (λ files. (image : Image) (notes : Notes) → ChecksImage words files image notes → IsAnswer outcome → outcome ≡ outcomes.Done ↔ Typed image notes)
+    → IfSome contents (λ files. (image : Image) (notes : Notes) → ChecksImage words files image notes → IsAnswer outcome
+    → outcome ≡ outcomes.Done ↔ Typed image notes)
 exactly None words reply outcome tells = tt
 exactly (Some files) words reply outcome tells = λ image notes c answered.
     let t = image-told words files reply image notes c tells.told in
@@ -120,7 +151,8 @@ neutral-printed (Some files) words reply outcome before now tells text = λ imag
     (λ typed. verdict-printed reply t.verdict Neutral before now (text answered) t.told (t.neutral.1 typed))
 
 pub alike : (contents : Option Files) (words : List (List ℕ)) (reply : Reply) (outcome : Outcome) → Tells contents words reply outcome
-    → IfSome contents (λ files. (image : Image) (notes : Notes) → ChecksImage words files image notes → outcome ≡ outcomes.Done → SameForScripts image notes)
+    → IfSome contents (λ files. (image : Image) (notes : Notes) → ChecksImage words files image notes → outcome ≡ outcomes.Done
+    → SameForScripts image notes)
 alike None words reply outcome tells = tt
 alike (Some files) words reply outcome tells = λ image notes c done text script P Q k read p q.
     let t = image-told words files reply image notes c tells.told in
@@ -129,15 +161,18 @@ alike (Some files) words reply outcome tells = λ image notes c done text script
     t.alike ((verdict-done t.verdict).0 (sym same ∙ done)) script P Q k (read-is-script notes text script read) p q
 
 pub refused : (contents : Option Files) (words : List (List ℕ)) (reply : Reply) (outcome : Outcome) → Tells contents words reply outcome
-    → IfSome contents (λ files. (image : Image) (notes : Notes) (place : ℕ) (rule : RuleName) → ChecksImage words files image notes → IsAnswer outcome → outcome ≡ outcomes.Refused place rule ↔ IsRefused image notes place rule)
+    → IfSome contents (λ files. (image : Image) (notes : Notes) (place : ℕ) (rule : RuleName) → ChecksImage words files image notes
+    → IsAnswer outcome → outcome ≡ outcomes.Refused place rule ↔ IsRefused image notes place rule)
 refused None words reply outcome tells = tt
 refused (Some files) words reply outcome tells = λ image notes place rule c answered.
     let t = image-told words files reply image notes c tells.told in
-    exactly-so outcome _ (outcomes.Refused place rule) (tells.same answered ∙ ap (λ (r : Reply). r.outcome) t.told) (verdict-refused t.verdict place rule) (t.refused place rule)
+    exactly-so outcome _ (outcomes.Refused place rule) (tells.same answered ∙ ap (λ (r : Reply). r.outcome) t.told)
+    (verdict-refused t.verdict place rule) (t.refused place rule)
 
 pub refused-printed : (contents : Option Files) (words : List (List ℕ)) (reply : Reply) (outcome : Outcome) (before now : Option (List ℕ))
     → Tells contents words reply outcome → (IsAnswer outcome → now ≡ printed (text_of reply.output) before)
-    → IfSome contents (λ files. (image : Image) (notes : Notes) (place : ℕ) (rule : RuleName) → ChecksImage words files image notes → IsAnswer outcome
+    → IfSome contents (λ files. (image : Image) (notes : Notes) (place : ℕ) (rule : RuleName) → ChecksImage words files image notes
+    → IsAnswer outcome
     → ((outcome ≡ outcomes.Refused place rule) × (now ≡ printed (refused_line place rule) before)) ↔ IsRefused image notes place rule)
 refused-printed None words reply outcome before now tells text = tt
 refused-printed (Some files) words reply outcome before now tells text = λ image notes place rule c answered.
@@ -165,20 +200,24 @@ too-large (Some files) words reply outcome tells =
     λ word answered. of-reply outcome reply.outcome _ (tells.same answered) (large-exactly words files reply word tells.told)
 
 pub bad-input : (contents : Option Files) (words : List (List ℕ)) (reply : Reply) (outcome : Outcome) → Tells contents words reply outcome
-    → IfSome contents (λ files. (word fault : ℕ) → IsAnswer outcome → outcome ≡ outcomes.BadInput word fault ↔ HasBadInput words files word fault)
+    → IfSome contents (λ files. (word fault : ℕ) → IsAnswer outcome → outcome ≡ outcomes.BadInput word fault
+    ↔ HasBadInput words files word fault)
 bad-input None words reply outcome tells = tt
 bad-input (Some files) words reply outcome tells =
     λ word fault answered. of-reply outcome reply.outcome _ (tells.same answered) (bad-exactly words files reply word fault tells.told)
 
 -- ---- `list IMAGE`
 
-listing-told : (words : List (List ℕ)) (files : Files) (reply : Reply) (image : Image) → ListsImage words files image → IsAnswerOf words files reply → reply ≡ listing_reply (listing_of image)
+listing-told : (words : List (List ℕ)) (files : Files) (reply : Reply) (image : Image) → ListsImage words files image
+    → IsAnswerOf words files reply → reply ≡ listing_reply (listing_of image)
 listing-told words files reply image c told = rw (listing-work words files image c) at told
 
-pub lists-always : (contents : Option Files) (words : List (List ℕ)) (reply : Reply) (outcome : Outcome) → Tells contents words reply outcome
+pub lists-always : (contents : Option Files) (words : List (List ℕ)) (reply : Reply) (outcome : Outcome)
+    → Tells contents words reply outcome
     → IfSome contents (λ files. (image : Image) → ListsImage words files image → IsAnswer outcome → outcome ≡ outcomes.Done)
 lists-always None words reply outcome tells = tt
-lists-always (Some files) words reply outcome tells = λ image c answered. tells.same answered ∙ ap (λ (r : Reply). r.outcome) (listing-told words files reply image c tells.told)
+lists-always (Some files) words reply outcome tells = λ image c answered. tells.same answered
+    ∙ ap (λ (r : Reply). r.outcome) (listing-told words files reply image c tells.told)
 
 pub lists-exactly : (contents : Option Files) (words : List (List ℕ)) (reply : Reply) (outcome : Outcome) (before now : Option (List ℕ))
     → Tells contents words reply outcome → (IsAnswer outcome → now ≡ printed (text_of reply.output) before)
@@ -189,24 +228,31 @@ lists-exactly (Some files) words reply outcome before now tells text = λ image 
 
 -- ---- `asm SRC OBJ`
 
-object-told : (words : List (List ℕ)) (files : Files) (reply : Reply) (name : List ℕ) (object : Object) → Assembles words files name object → IsAnswerOf words files reply → reply ≡ object_reply name (object_bytes object)
+object-told : (words : List (List ℕ)) (files : Files) (reply : Reply) (name : List ℕ) (object : Object) → Assembles words files name object
+    → IsAnswerOf words files reply → reply ≡ object_reply name (object_bytes object)
 object-told words files reply name object c told = rw (assembly-work words files name object c) at told
 
-pub assembles-always : (contents : Option Files) (words : List (List ℕ)) (reply : Reply) (outcome : Outcome) → Tells contents words reply outcome
-    → IfSome contents (λ files. (name : List ℕ) (object : Object) → Assembles words files name object → IsAnswer outcome → outcome ≡ outcomes.Done)
+pub assembles-always : (contents : Option Files) (words : List (List ℕ)) (reply : Reply) (outcome : Outcome)
+    → Tells contents words reply outcome
+    → IfSome contents (λ files. (name : List ℕ) (object : Object) → Assembles words files name object → IsAnswer outcome
+    → outcome ≡ outcomes.Done)
 assembles-always None words reply outcome tells = tt
-assembles-always (Some files) words reply outcome tells = λ name object c answered. tells.same answered ∙ ap (λ (r : Reply). r.outcome) (object-told words files reply name object c tells.told)
+assembles-always (Some files) words reply outcome tells = λ name object c answered. tells.same answered
+    ∙ ap (λ (r : Reply). r.outcome) (object-told words files reply name object c tells.told)
 
-pub assembles-exactly : (contents : Option Files) (words : List (List ℕ)) (reply : Reply) (outcome : Outcome) (left : Option Files) → Tells contents words reply outcome
+pub assembles-exactly : (contents : Option Files) (words : List (List ℕ)) (reply : Reply) (outcome : Outcome) (left : Option Files)
+    → Tells contents words reply outcome
     → (IsAnswer outcome → left ≡ option_map (files_left reply.output) contents)
-    → IfSome contents (λ files. (name : List ℕ) (object : Object) → Assembles words files name object → IsAnswer outcome → left ≡ Some (insert files name (object_bytes object)))
+    → IfSome contents (λ files. (name : List ℕ) (object : Object) → Assembles words files name object → IsAnswer outcome
+    → left ≡ Some (insert files name (object_bytes object)))
 assembles-exactly None words reply outcome left tells files_are = tt
 assembles-exactly (Some files) words reply outcome left tells files_are = λ name object c answered.
     files_are answered ∙ ap (λ (r : Reply). Some (files_left r.output files)) (object-told words files reply name object c tells.told)
 
 pub bad-source-line : (contents : Option Files) (words : List (List ℕ)) (reply : Reply) (outcome : Outcome) (before now : Option (List ℕ))
     → Tells contents words reply outcome → (IsAnswer outcome → now ≡ printed (text_of reply.output) before)
-    → IfSome contents (λ files. (name : List ℕ) (kind : AsmFault) (line : ℕ) → HasBadLine words files name kind line → IsAnswer outcome → now ≡ printed (bad_line name (asm_fault_text kind) (decimal line)) before)
+    → IfSome contents (λ files. (name : List ℕ) (kind : AsmFault) (line : ℕ) → HasBadLine words files name kind line → IsAnswer outcome
+    → now ≡ printed (bad_line name (asm_fault_text kind) (decimal line)) before)
 bad-source-line None words reply outcome before now tells text = tt
 bad-source-line (Some files) words reply outcome before now tells text = λ name kind line c answered.
     text answered ∙ ap (λ (r : Reply). printed (text_of r.output) before) (bad-line-told words files name kind line reply c tells.told)
@@ -249,27 +295,34 @@ untold (Some files) words reply outcome tells none = λ no_text fault.
 
 -- what comes of reading code, which may be too large
 code-reading : List ℕ → List ℕ → Bool → Result Work Reply
-code-reading name code large = (go_on (name ∷ []) (if large then Err (large_reply 1 name) else Ok code) (λ bytes. done (works.CheckCode bytes))).value
+code-reading name code large = (go_on (name ∷ []) (if large then Err (large_reply 1 name) else Ok code)
+    (λ bytes. done (works.CheckCode bytes))).value
 
-code-work : (words : List (List ℕ)) (files : Files) (code : List ℕ) → (c : ChecksCode words files code) → (work_of words files).value ≡ code-reading c.name code (nat_lt plain_code_limit (length code))
+code-work : (words : List (List ℕ)) (files : Files) (code : List ℕ) → (c : ChecksCode words files code)
+    → (work_of words files).value ≡ code-reading c.name code (nat_lt plain_code_limit (length code))
 unfolding work_of code_check file code-reading
 code-work words files code c = rw (c.command, c.there) refl
 
-code-fits : (name code : List ℕ) (reply : Reply) (large : Bool) → nat_lt plain_code_limit (length code) ≡ large → IsReplyOf (code-reading name code large) reply → reply.outcome ≡ outcomes.Done → length code ≤ plain_code_limit
+code-fits : (name code : List ℕ) (reply : Reply) (large : Bool) → nat_lt plain_code_limit (length code) ≡ large
+    → IsReplyOf (code-reading name code large) reply → reply.outcome ≡ outcomes.Done → length code ≤ plain_code_limit
 unfolding code-reading
-code-fits name code reply true e told done = let large : outcomes.TooLarge 1 ≡ outcomes.Done = sym (ap (λ (r : Reply). r.outcome) told) ∙ done in cc
+code-fits name code reply true e told done = let large : outcomes.TooLarge 1 ≡ outcomes.Done = sym (ap (λ (r : Reply). r.outcome) told)
+    ∙ done in cc
 code-fits name code reply false e told done = grind (arith, nat_tests)
 
-code-verdict : (name code : List ℕ) (reply : Reply) (large : Bool) → nat_lt plain_code_limit (length code) ≡ large → length code ≤ plain_code_limit → IsReplyOf (code-reading name code large) reply → reply ≡ verdict_reply (plain_verdict code)
+code-verdict : (name code : List ℕ) (reply : Reply) (large : Bool) → nat_lt plain_code_limit (length code) ≡ large
+    → length code ≤ plain_code_limit → IsReplyOf (code-reading name code large) reply → reply ≡ verdict_reply (plain_verdict code)
 unfolding code-reading
 code-verdict name code reply true e fits told = absurd (let past : plain_code_limit < length code = grind (arith, nat_tests) in omega arith)
 code-verdict name code reply false e fits told = told
 
-code-told : (words : List (List ℕ)) (files : Files) (reply : Reply) (code : List ℕ) → (c : ChecksCode words files code) → IsAnswerOf words files reply → IsReplyOf (code-reading c.name code (nat_lt plain_code_limit (length code))) reply
+code-told : (words : List (List ℕ)) (files : Files) (reply : Reply) (code : List ℕ) → (c : ChecksCode words files code)
+    → IsAnswerOf words files reply → IsReplyOf (code-reading c.name code (nat_lt plain_code_limit (length code))) reply
 code-told words files reply code c told = rw (code-work words files code c) at told
 
 -- code that is called neutral is within the limit
-done-fits : (words : List (List ℕ)) (files : Files) (reply : Reply) (code : List ℕ) → ChecksCode words files code → IsAnswerOf words files reply → reply.outcome ≡ outcomes.Done → length code ≤ plain_code_limit
+done-fits : (words : List (List ℕ)) (files : Files) (reply : Reply) (code : List ℕ) → ChecksCode words files code
+    → IsAnswerOf words files reply → reply.outcome ≡ outcomes.Done → length code ≤ plain_code_limit
 done-fits words files reply code c told done = code-fits c.name code reply _ refl (code-told words files reply code c told) done
 
 -- a reply about code within the limit is that of the verdict
@@ -277,7 +330,8 @@ reply-told : (words : List (List ℕ)) (files : Files) (reply : Reply) (code : L
     → length code ≤ plain_code_limit → IsAnswerOf words files reply → reply ≡ verdict_reply (plain_verdict code)
 reply-told words files reply code c fits told = code-verdict c.name code reply _ refl fits (code-told words files reply code c told)
 
-verdict-told : (words : List (List ℕ)) (files : Files) (reply : Reply) (outcome : Outcome) → Tells (Some files) words reply outcome → (code : List ℕ) → ChecksCode words files code → length code ≤ plain_code_limit → IsAnswer outcome
+verdict-told : (words : List (List ℕ)) (files : Files) (reply : Reply) (outcome : Outcome) → Tells (Some files) words reply outcome
+    → (code : List ℕ) → ChecksCode words files code → length code ≤ plain_code_limit → IsAnswer outcome
     → outcome ≡ (verdict_reply (plain_verdict code)).outcome
 verdict-told words files reply outcome tells code c fits answered =
     tells.same answered ∙ ap (λ (r : Reply). r.outcome) (reply-told words files reply code c fits tells.told)
@@ -291,31 +345,41 @@ plain-alike (Some files) words reply outcome tells = λ code c done.
     let verdict = verdict-told words files reply outcome tells code c fits answered in
     neutral-alike code (omega (arith, fits)) ((verdict-done (plain_verdict code)).0 (sym verdict ∙ done))
 
-pub plain-exactly : (contents : Option Files) (words : List (List ℕ)) (reply : Reply) (outcome : Outcome) → Tells contents words reply outcome
-    → IfSome contents (λ files. (code : List ℕ) → ChecksCode words files code → length code ≤ plain_code_limit → IsAnswer outcome → outcome ≡ outcomes.Done ↔ plain.IsNeutral code)
+pub plain-exactly : (contents : Option Files) (words : List (List ℕ)) (reply : Reply) (outcome : Outcome)
+    → Tells contents words reply outcome
+    → IfSome contents (λ files. (code : List ℕ) → ChecksCode words files code → length code ≤ plain_code_limit → IsAnswer outcome
+    → outcome ≡ outcomes.Done ↔ plain.IsNeutral code)
 plain-exactly None words reply outcome tells = tt
 plain-exactly (Some files) words reply outcome tells = λ code c fits answered.
-    exactly-so outcome _ outcomes.Done (verdict-told words files reply outcome tells code c fits answered) (verdict-done (plain_verdict code)) (neutral-exactly code)
+    exactly-so outcome _ outcomes.Done (verdict-told words files reply outcome tells code c fits answered)
+    (verdict-done (plain_verdict code)) (neutral-exactly code)
 
-pub plain-refused : (contents : Option Files) (words : List (List ℕ)) (reply : Reply) (outcome : Outcome) → Tells contents words reply outcome
-    → IfSome contents (λ files. (code : List ℕ) (place : ℕ) (rule : RuleName) → ChecksCode words files code → length code ≤ plain_code_limit → IsAnswer outcome → outcome ≡ outcomes.Refused place rule ↔ plain.IsRefused code place rule)
+pub plain-refused : (contents : Option Files) (words : List (List ℕ)) (reply : Reply) (outcome : Outcome)
+    → Tells contents words reply outcome
+    → IfSome contents (λ files. (code : List ℕ) (place : ℕ) (rule : RuleName) → ChecksCode words files code → length code ≤ plain_code_limit
+    → IsAnswer outcome → outcome ≡ outcomes.Refused place rule ↔ plain.IsRefused code place rule)
 plain-refused None words reply outcome tells = tt
 plain-refused (Some files) words reply outcome tells = λ code place rule c fits answered.
-    exactly-so outcome _ (outcomes.Refused place rule) (verdict-told words files reply outcome tells code c fits answered) (verdict-refused (plain_verdict code) place rule) (refused-exactly code place rule)
+    exactly-so outcome _ (outcomes.Refused place rule) (verdict-told words files reply outcome tells code c fits answered)
+    (verdict-refused (plain_verdict code) place rule) (refused-exactly code place rule)
 
-pub plain-neutral-printed : (contents : Option Files) (words : List (List ℕ)) (reply : Reply) (outcome : Outcome) (before now : Option (List ℕ))
+pub plain-neutral-printed : (contents : Option Files) (words : List (List ℕ)) (reply : Reply) (outcome : Outcome)
+    (before now : Option (List ℕ))
     → Tells contents words reply outcome → (IsAnswer outcome → now ≡ printed (text_of reply.output) before)
     → IfSome contents (λ files. (code : List ℕ) → ChecksCode words files code → length code ≤ plain_code_limit → IsAnswer outcome
     → ((outcome ≡ outcomes.Done) × (now ≡ printed neutral_line before)) ↔ plain.IsNeutral code)
 plain-neutral-printed None words reply outcome before now tells text = tt
 plain-neutral-printed (Some files) words reply outcome before now tells text = λ code c fits answered.
     printed-so outcome outcomes.Done neutral_line before now (plain-exactly (Some files) words reply outcome tells code c fits answered)
-    (λ is. verdict-printed reply (plain_verdict code) Neutral before now (text answered) (reply-told words files reply code c fits tells.told)
+    (λ is. verdict-printed reply (plain_verdict code) Neutral before now (text answered)
+    (reply-told words files reply code c fits tells.told)
     ((neutral-exactly code).1 is))
 
-pub plain-refused-printed : (contents : Option Files) (words : List (List ℕ)) (reply : Reply) (outcome : Outcome) (before now : Option (List ℕ))
+pub plain-refused-printed : (contents : Option Files) (words : List (List ℕ)) (reply : Reply) (outcome : Outcome)
+    (before now : Option (List ℕ))
     → Tells contents words reply outcome → (IsAnswer outcome → now ≡ printed (text_of reply.output) before)
-    → IfSome contents (λ files. (code : List ℕ) (place : ℕ) (rule : RuleName) → ChecksCode words files code → length code ≤ plain_code_limit → IsAnswer outcome
+    → IfSome contents (λ files. (code : List ℕ) (place : ℕ) (rule : RuleName) → ChecksCode words files code → length code ≤ plain_code_limit
+    → IsAnswer outcome
     → ((outcome ≡ outcomes.Refused place rule) × (now ≡ printed (refused_line place rule) before)) ↔ plain.IsRefused code place rule)
 plain-refused-printed None words reply outcome before now tells text = tt
 plain-refused-printed (Some files) words reply outcome before now tells text = λ code place rule c fits answered.

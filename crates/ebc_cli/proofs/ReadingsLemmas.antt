@@ -22,13 +22,16 @@ later-part before mid now one all led part = record {
 }
 
 -- a reading that ends after one that went through ends both
-pub ends-after : {A B : Type 0} (before mid now : List (List ℕ)) (run : FileReading A) (f : A → FileReading B) (x : A) (end : End) → Follows before mid (Ok x) run → Follows {A = B} mid now (Err end) (f x) → Follows {A = B} before now (Err end) (run >>= f)
-ends-after before mid now run f x (ends.Stop reply) one two = rw one.0 (two.0, two.1 ∙ ap (λ names. names ++ (f x).asked) one.1 ∙ append_assoc before run.asked (f x).asked)
+pub ends-after : {A B : Type 0} (before mid now : List (List ℕ)) (run : FileReading A) (f : A → FileReading B) (x : A) (end : End)
+    → Follows before mid (Ok x) run → Follows {A = B} mid now (Err end) (f x) → Follows {A = B} before now (Err end) (run >>= f)
+ends-after before mid now run f x (ends.Stop reply) one two = rw one.0
+    (two.0, two.1 ∙ ap (λ names. names ++ (f x).asked) one.1 ∙ append_assoc before run.asked (f x).asked)
 ends-after before mid now run f x ends.ReadFault one two = rw one.0 (later-part before mid now run.asked (f x).asked one.1 two)
 ends-after before mid now run f x ends.NoMemory one two = rw one.0 (later-part before mid now run.asked (f x).asked one.1 two)
 
 -- what was asked for is a first part of what a reading and more ask for
-wider-part : {A B : Type 0} (before asked now : List (List ℕ)) (v : Result A Reply) (f : A → FileReading B) → AsksPart before asked now → AsksPart before (go_on asked v f).asked now
+wider-part : {A B : Type 0} (before asked now : List (List ℕ)) (v : Result A Reply) (f : A → FileReading B) → AsksPart before asked now
+    → AsksPart before (go_on asked v f).asked now
 wider-part before asked now (Ok x) f part = record {
   first = part.first;
   others = part.others ++ (f x).asked;
@@ -38,7 +41,8 @@ wider-part before asked now (Ok x) f part = record {
 wider-part before asked now (Err reply) f part = part
 
 -- a reading that ends ends those after it
-pub ends-before : {A B : Type 0} (before now : List (List ℕ)) (run : FileReading A) (f : A → FileReading B) (end : End) → Follows {A = A} before now (Err end) run → Follows {A = B} before now (Err end) (run >>= f)
+pub ends-before : {A B : Type 0} (before now : List (List ℕ)) (run : FileReading A) (f : A → FileReading B) (end : End)
+    → Follows {A = A} before now (Err end) run → Follows {A = B} before now (Err end) (run >>= f)
 ends-before before now run f (ends.Stop reply) one = rw one.0 (refl, one.1)
 ends-before before now run f ends.ReadFault one = wider-part before run.asked now run.value f one
 ends-before before now run f ends.NoMemory one = wider-part before run.asked now run.value f one
@@ -46,17 +50,21 @@ ends-before before now run f ends.NoMemory one = wider-part before run.asked now
 -- ---- readings of told files
 
 -- where the first reading ends, it ends the whole
-pub first-ends : {A B : Type 0} (old : Option Files) (before now : List (List ℕ)) (run : Files → FileReading A) (f : Files → A → FileReading B) (end : End) → IfSome old (λ files. Follows {A = A} before now (Err end) (run files))
+pub first-ends : {A B : Type 0} (old : Option Files) (before now : List (List ℕ)) (run : Files → FileReading A)
+    (f : Files → A → FileReading B) (end : End) → IfSome old (λ files. Follows {A = A} before now (Err end) (run files))
     → IfSome old (λ files. Follows {A = B} before now (Err end) (run files >>= f files))
 first-ends None before now run f end one = tt
 first-ends (Some files) before now run f end one = ends-before before now (run files) (f files) end one
 
 -- where what comes after a reading that went through ends, it ends the whole
-pub next-ends : {A B : Type 0} (old mid : Option Files) (before between now : List (List ℕ)) (run : Files → FileReading A) (f : Files → A → FileReading B) (x : A) (end : End) → mid ≡ old
-    → IfSome old (λ files. Follows before between (Ok x) (run files)) → IfSome mid (λ files. Follows {A = B} between now (Err end) (f files x))
+pub next-ends : {A B : Type 0} (old mid : Option Files) (before between now : List (List ℕ)) (run : Files → FileReading A)
+    (f : Files → A → FileReading B) (x : A) (end : End) → mid ≡ old
+    → IfSome old (λ files. Follows before between (Ok x) (run files))
+    → IfSome mid (λ files. Follows {A = B} between now (Err end) (f files x))
     → IfSome old (λ files. Follows {A = B} before now (Err end) (run files >>= f files))
 next-ends None mid before between now run f x end same one two = tt
-next-ends (Some files) mid before between now run f x end same one two = ends-after before between now (run files) (f files) x end one (rw same at two)
+next-ends (Some files) mid before between now run f x end same one two =
+    ends-after before between now (run files) (f files) x end one (rw same at two)
 
 -- ---- the files of `check IMAGE NOTES`
 
@@ -73,7 +81,8 @@ abbrev noted : List ℕ → Files → Image → FileReading Work
 noted b files image = notes_run b files >>= checked image files
 
 -- where the image's file ends the reading, it ends the whole
-pub image-ends : (old : Option Files) (before now : List (List ℕ)) (a b : List ℕ) (end : End) → IfSome old (λ files. Follows {A = Image} before now (Err end) (input image_limit image_meaning 1 a files))
+pub image-ends : (old : Option Files) (before now : List (List ℕ)) (a b : List ℕ) (end : End)
+    → IfSome old (λ files. Follows {A = Image} before now (Err end) (input image_limit image_meaning 1 a files))
     → IfSome old (λ files. Follows {A = Work} before now (Err end) (image_check a b files))
 unfolding image_check
 image-ends old before now a b end one = first-ends old before now (image_run a) (noted b) end one
@@ -84,4 +93,6 @@ pub notes-end : (old mid : Option Files) (before between now : List (List ℕ)) 
     → IfSome mid (λ files. Follows {A = Notes} between now (Err end) (input notes_limit notes_meaning 2 b files))
     → IfSome old (λ files. Follows {A = Work} before now (Err end) (image_check a b files))
 unfolding image_check
-notes-end old mid before between now a b image end same one two = next-ends old mid before between now (image_run a) (noted b) image end same one (first-ends mid between now (notes_run b) (checked image) end two)
+notes-end old mid before between now a b image end same one two =
+    next-ends old mid before between now (image_run a) (noted b) image end same one
+    (first-ends mid between now (notes_run b) (checked image) end two)

@@ -1,5 +1,6 @@
 -- What comes of reading the files that words name: the work, or the reply at which the reading stops, by its cause.
-use Rattle.std.proofs.Common.{◌≡◌, ◌↔◌, ◌⊎◌, ℕ, ◌<◌, List, [], ◌∷◌, length, Option, Some, None, Result, Ok, Err, Bool, true, false, nat_lt, if◌then◌else◌, inl, inr, refl, sym, ap, ◌∙◌, arith}
+use Rattle.std.proofs.Common.{◌≡◌, ◌↔◌, ◌⊎◌, ℕ, ◌<◌, List, [], ◌∷◌, length, Option, Some, None, Result, Ok, Err, Bool, true, false, nat_lt}
+use Rattle.std.proofs.Common.{if◌then◌else◌, inl, inr, refl, sym, ap, ◌∙◌, arith}
 use Rattle.std.proofs.lemmas.Bool.{le-ltb, lt-ltb}
 use Rattle.std.proofs.lemmas.Bool.Decides.{nat_tests}
 use Rattle.std.specs.FinMap.{get}
@@ -12,9 +13,9 @@ use Rattle.pe_image.specs.declared.fault.ImageFault.{ImageFault}
 use Rattle.pe_image.specs.declared.image.Image.{Image}
 use Rattle.pe_image.specs.Images.{image_of}
 use Rattle.type_notes.specs.Notes.{notes_of}
-use Rattle.width_checker.specs.declared.verdict.Verdict.{Verdict}
-use Rattle.width_checker.specs.declared.verdict.Verdict.TheVariants.{Neutral, Refused}
-use Rattle.width_checker.specs.PlainChecks.{plain_verdict}
+use Rattle.plain_check.specs.declared.verdict.Verdict.{Verdict}
+use Rattle.plain_check.specs.declared.verdict.Verdict.TheVariants.{Neutral, Refused}
+use Rattle.plain_check.specs.PlainChecks.{plain_verdict}
 use Rattle.ebc_cli.specs.declared.command.Command.{Command}
 use Rattle.ebc_cli.specs.declared.command.Command.TheVariants.{Assemble, CheckCode, CheckImage, ListImage}
 use Rattle.ebc_cli.specs.declared.outcome.Outcome.{Outcome}
@@ -26,9 +27,13 @@ use Rattle.ebc_cli.specs.Commands.{command_of}
 use Rattle.ebc_cli.specs.Faults.{asm_fault_number, image_fault_number, toml_fault_number}
 use Rattle.ebc_cli.specs.Outcomes.{IsWorkAnswer}
 use Rattle.ebc_cli.specs.Readings.{FileReading, ◌>>=◌, file, measured, go_on, done, told, missing_reply, large_reply}
-use Rattle.ebc_cli.specs.Inputs.{input, or_reply, image_limit, image_meaning, notes_limit, notes_meaning, source_limit, source_meaning, bad_image_reply, bad_notes_reply, bad_source_reply}
-use Rattle.ebc_cli.specs.Works.{work_of, work_for, code_check, image_check, image_listing, assembly, verdict_reply, usage_reply, IsReplyOf, plain_code_limit}
-use Rattle.ebc_cli.specs.Answers.{IsAnswerOf, HasFile, Assembles, ChecksImage, ListsImage, NamesImage, to_check, to_list, ComesToNotes, HasTurn, code_turn, image_turn, notes_turn, source_turn, HasMissingFile, HasLargeFile, HasBadImage, HasBadLine, HasBadNotes, HasBadInput, bad_image, bad_notes, bad_source}
+use Rattle.ebc_cli.specs.Inputs.{input, or_reply, image_limit, image_meaning, notes_limit, notes_meaning, source_limit, source_meaning}
+use Rattle.ebc_cli.specs.Inputs.{bad_image_reply, bad_notes_reply, bad_source_reply}
+use Rattle.ebc_cli.specs.Works.{work_of, work_for, code_check, image_check, image_listing, assembly, verdict_reply, usage_reply, IsReplyOf}
+use Rattle.ebc_cli.specs.Works.{plain_code_limit}
+use Rattle.ebc_cli.specs.Answers.{IsAnswerOf, HasFile, Assembles, ChecksImage, ListsImage, NamesImage, to_check, to_list, ComesToNotes}
+use Rattle.ebc_cli.specs.Answers.{HasTurn, code_turn, image_turn, notes_turn, source_turn, HasMissingFile, HasLargeFile, HasBadImage}
+use Rattle.ebc_cli.specs.Answers.{HasBadLine, HasBadNotes, HasBadInput, bad_image, bad_notes, bad_source}
 
 -- ---- steps of reading
 
@@ -69,7 +74,8 @@ measured-ok word name limit files (Some found) bytes there e = sized name limit 
 -- a file that isn't read is missing or too large, and the reply says so
 data NotRead (word : ℕ) (name : List ℕ) (limit : ℕ) (files : Files) (reply : Reply) : Type 0 where
   is_gone : get files name ≡ None → reply ≡ missing_reply word name → NotRead word name limit files reply
-  is_past : (bytes : List ℕ) → get files name ≡ Some bytes → limit < length bytes → reply ≡ large_reply word name → NotRead word name limit files reply
+  is_past : (bytes : List ℕ) → get files name ≡ Some bytes → limit < length bytes → reply ≡ large_reply word name
+      → NotRead word name limit files reply
 
 sized-err : (word : ℕ) (name : List ℕ) (limit : ℕ) (files : Files) (found : List ℕ) (reply : Reply) (past : Bool)
     → get files name ≡ Some found → nat_lt limit (length found) ≡ past
@@ -85,7 +91,8 @@ measured-err word name limit files (Some found) reply there e = sized-err word n
 -- ---- what a file is read as
 
 -- the file is there, and its bytes have this meaning
-record IsRead {A : Type 0} (limit : ℕ) (meaning : List ℕ → Result A Reply) (name : List ℕ) (files : Files) (value : Result A Reply) : Type 0 where
+record IsRead {A : Type 0} (limit : ℕ) (meaning : List ℕ → Result A Reply) (name : List ℕ) (files : Files)
+    (value : Result A Reply) : Type 0 where
   bytes : List ℕ
   file : HasFile files name limit bytes
   is : meaning bytes ≡ value
@@ -98,7 +105,8 @@ input-ok limit meaning word name files x e =
     record { bytes = both.one; file = measured-ok word name limit files (get files name) both.one refl both.first; is = both.second }
 
 -- where the reading of a file stops, it wasn't read, or its bytes mean the reply
-input-err : {A : Type 0} (limit : ℕ) (meaning : ℕ → List ℕ → List ℕ → Result A Reply) (word : ℕ) (name : List ℕ) (files : Files) (reply : Reply)
+input-err : {A : Type 0} (limit : ℕ) (meaning : ℕ → List ℕ → List ℕ → Result A Reply) (word : ℕ) (name : List ℕ) (files : Files)
+    (reply : Reply)
     → (input limit meaning word name files).value ≡ Err reply
     → NotRead word name limit files reply ⊎ IsRead limit (meaning word name) name files (Err reply)
 unfolding input file
@@ -239,7 +247,8 @@ image-read words files a b image command read = record {
 }
 
 check-stops : (words : List (List ℕ)) (files : Files) (reply : Reply) (a b : List ℕ) → command_of words ≡ Some (CheckImage a b)
-    → OneStops (input image_limit image_meaning 1 a files).value (λ image. input notes_limit notes_meaning 2 b files >>= (λ notes. done (works.CheckImage image notes))) reply
+    → OneStops (input image_limit image_meaning 1 a files).value
+    (λ image. input notes_limit notes_meaning 2 b files >>= (λ notes. done (works.CheckImage image notes))) reply
     → Stops words files reply.outcome
 check-stops words files reply a b command (first_stops stops) =
     image-stops words files a reply (to_check b command) (input-err image_limit image_meaning 1 a files reply stops)
@@ -265,7 +274,8 @@ by-command words files reply (Some (ListImage a)) command e =
     (input-err image_limit image_meaning 1 a files reply (one-stop (input image_limit image_meaning 1 a files) works.ListImage reply e))
 by-command words files reply (Some (Assemble a b)) command e =
     source-stops words files a b reply command
-    (input-err source_limit source_meaning 1 a files reply (one-stop (input source_limit source_meaning 1 a files) (λ object. works.WriteObject b object) reply e))
+    (input-err source_limit source_meaning 1 a files reply (one-stop (input source_limit source_meaning 1 a files)
+    (λ object. works.WriteObject b object) reply e))
 
 -- ---- and back
 

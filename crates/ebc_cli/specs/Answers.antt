@@ -1,4 +1,4 @@
--- The answer of the program to its words, over the files of a folder: docs/COMMANDS.md, "The answer".
+-- Meaning: the answer of the program to its words, over the files of a folder: docs/COMMANDS.md, "The answer".
 use Rattle.std.specs.Prelude.{◌≡◌, ◌↔◌, ◌⊎◌, ℕ, ◌<◌, ◌≤◌, List, [], ◌++◌, length, Option, Some, None, Result, Ok, Err}
 use Rattle.std.specs.FinMap.{get}
 use Rattle.ebc_outside.specs.Files.{Files, AppendsPart}
@@ -10,9 +10,9 @@ use Rattle.note_types.specs.declared.fault.TomlFault.{TomlFault}
 use Rattle.note_types.specs.declared.notes.Notes.{Notes}
 use Rattle.note_types.specs.declared.script.Script.{Script}
 use Rattle.protocol_script.specs.Scripts.{script_of}
-use Rattle.run_types.specs.Placements.{Placement, IsPlacement}
+use Rattle.host_model.specs.Placements.{Placement, IsPlacement}
 use Rattle.twin_run.specs.Headline.{AreSameAfter}
-use Rattle.whole_runs.specs.Runs.{world_of}
+use Rattle.host_model.specs.Runs.{world_of}
 use Rattle.pe_image.specs.declared.fault.ImageFault.{ImageFault}
 use Rattle.pe_image.specs.declared.image.Image.{Image}
 use Rattle.pe_image.specs.Images.{image_of}
@@ -44,7 +44,8 @@ Decides before now (Err (ends.Stop reply)) run = IsReplyOf run.value reply × (n
 Decides before now (Err end) run = AsksPart before run.asked now
 
 -- the outcome is that of an answer to the words, its text was printed, and the files are those that it leaves
-pub record Answers (words : List (List ℕ)) (files : Files) (outcome : Outcome) (before now : Option (List ℕ)) (left : Option Files) : Type 0 where
+pub record Answers (words : List (List ℕ)) (files : Files) (outcome : Outcome) (before now : Option (List ℕ))
+    (left : Option Files) : Type 0 where
   pub reply : Reply
   pub answer : IsAnswerOf words files reply
   pub same : outcome ≡ reply.outcome
@@ -194,7 +195,8 @@ pub data HasNoText (words : List (List ℕ)) (files : Files) : Type 0 where
 abbrev pub SameForScripts : Image → Notes → Type 0
 SameForScripts image notes =
     (text : List ℕ) (script : Script) (P Q : Placement) (k : ℕ) → script_of notes text ≡ Ok script
-    → IsPlacement 4 (world_of image notes script) P → IsPlacement 8 (world_of image notes script) Q → AreSameAfter (world_of image notes script) image P Q k
+    → IsPlacement 4 (world_of image notes script) P → IsPlacement 8 (world_of image notes script) Q
+    → AreSameAfter (world_of image notes script) image P Q k
 
 -- ---- causes
 

@@ -1,4 +1,4 @@
--- The commands that words spell: docs/COMMANDS.md, "Commands". Words are seen as their bytes.
+-- Meaning: the commands that words spell: docs/COMMANDS.md, "Commands". Words are seen as their bytes.
 use Rattle.std.specs.Prelude.{ℕ, List, [], ◌∷◌, map, codes, bytes_eq, if◌then◌else◌, Option, Some, None, String, Vec, string_bytes}
 use Rattle.std.specs.declared.alloc.Global.{Global}
 use Rattle.ebc_cli.specs.declared.command.Command.{Command}

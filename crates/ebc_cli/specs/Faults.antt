@@ -1,4 +1,5 @@
--- The faults of the files that a command reads, by their numbers and as they are printed: docs/COMMANDS.md, "Faults".
+-- Meaning: the faults of the files that a command reads, by their numbers and as they are printed: docs/COMMANDS.md,
+-- "Faults".
 use Rattle.std.specs.Prelude.{ℕ, List, codes}
 use Rattle.asm_text.specs.declared.fault.AsmFault.{AsmFault}
 use Rattle.asm_text.specs.declared.fault.AsmFault.TheVariants as asm

@@ -1,4 +1,4 @@
--- The images, notes and sources that files hold, or the reply to the first fault: docs/COMMANDS.md, "The answer".
+-- Meaning: the images, notes and sources that files hold, or the reply to the first fault: docs/COMMANDS.md, "The answer".
 use Rattle.std.specs.Prelude.{◌≡◌, ℕ, List, Result, Ok, Err}
 use Rattle.std.specs.Fmt.{decimal}
 use Rattle.asm_text.specs.declared.fault.AsmFault.{AsmFault}
@@ -16,7 +16,8 @@ use Rattle.ebc_cli.specs.declared.outcome.Outcome.TheVariants.{BadInput}
 use Rattle.ebc_cli.specs.declared.reply.End.{End}
 use Rattle.ebc_cli.specs.declared.reply.End.TheVariants as ends
 use Rattle.ebc_cli.specs.declared.reply.Reply.{Reply}
-use Rattle.ebc_cli.specs.Faults.{asm_fault_number, asm_fault_text, image_fault_number, image_fault_text, toml_fault_number, toml_fault_text, key_path}
+use Rattle.ebc_cli.specs.Faults.{asm_fault_number, asm_fault_text, image_fault_number, image_fault_text, toml_fault_number, toml_fault_text}
+use Rattle.ebc_cli.specs.Faults.{key_path}
 use Rattle.ebc_cli.specs.Outputs.{prints}
 use Rattle.ebc_cli.specs.Readings.{FileReading, ◌>>=◌, file, told}
 use Rattle.ebc_cli.specs.Texts.{bad_line}

@@ -1,7 +1,8 @@
--- The outcomes of the program, as its exit status: docs/COMMANDS.md, "Exit status".
+-- Meaning: the outcomes of the program, as its exit status: docs/COMMANDS.md, "Exit status".
 use Rattle.std.specs.Prelude.{ℕ}
 use Rattle.ebc_cli.specs.declared.outcome.Outcome.{Outcome}
-use Rattle.ebc_cli.specs.declared.outcome.Outcome.TheVariants.{Done, Refused, BadWords, BadInput, ReadFault, WriteFault, NoMemory, TooLarge, Missing}
+use Rattle.ebc_cli.specs.declared.outcome.Outcome.TheVariants.{Done, Refused, BadWords, BadInput, ReadFault, WriteFault, NoMemory, TooLarge}
+use Rattle.ebc_cli.specs.declared.outcome.Outcome.TheVariants.{Missing}
 
 -- the exit status that each outcome has
 abbrev pub exit_status : Outcome → ℕ

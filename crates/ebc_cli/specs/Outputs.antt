@@ -1,4 +1,4 @@
--- What an answer prints or writes, and what it leaves: docs/COMMANDS.md, "The answer".
+-- Meaning: what an answer prints or writes, and what it leaves: docs/COMMANDS.md, "The answer".
 use Rattle.std.specs.Prelude.{◌≡◌, ℕ, List, [], ◌++◌, Option, Some, None, option_map}
 use Rattle.std.specs.FinMap.{insert}
 use Rattle.ebc_outside.specs.Files.{Files, SameOtherFiles}

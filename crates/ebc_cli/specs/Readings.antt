@@ -1,4 +1,4 @@
--- Reading files one after the other: the names that are asked for, and what comes of it.
+-- Meaning: Reading files one after the other: the names that are asked for, and what comes of it.
 use Rattle.std.specs.Prelude.{◌≡◌, ℕ, List, [], ◌∷◌, ◌++◌, length, Option, Some, None, Result, Ok, Err, nat_lt, if◌then◌else◌}
 use Rattle.std.specs.FinMap.{get}
 use Rattle.ebc_outside.specs.Files.{Files}

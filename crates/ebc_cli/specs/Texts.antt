@@ -1,4 +1,4 @@
--- What the program prints: docs/COMMANDS.md, "Printed lines".
+-- Meaning: what the program prints: docs/COMMANDS.md, "Printed lines".
 use Rattle.std.specs.Prelude.{ℕ, List, ◌++◌, codes}
 use Rattle.asm_text.specs.Numbers.{hex_text}
 use Rattle.note_types.specs.declared.rule.RuleName.{RuleName}

@@ -1,5 +1,5 @@
--- The work that words ask for once their files are read, and the replies to it, of which one writes a file: docs/COMMANDS.md,
--- "The answer".
+-- Meaning: the work that words ask for once their files are read, and the replies to it, of which one writes a file:
+-- docs/COMMANDS.md, "The answer".
 use Rattle.std.specs.Prelude.{◌≡◌, ◌↔◌, ℕ, ◌≤◌, List, length, Option, Some, None, Result, Ok, Err}
 use Rattle.ebc_object.specs.Files.{object_bytes}
 use Rattle.ebc_object.specs.Objects.{IsObject}
@@ -10,9 +10,9 @@ use Rattle.note_types.specs.Records.{IsNotes}
 use Rattle.pe_image.specs.declared.image.Image.{Image}
 use Rattle.ebc_disasm.specs.Listings.{listing_of}
 use Rattle.twin_run.specs.Headline.{SameAtBothWidths}
-use Rattle.width_checker.specs.declared.verdict.Verdict.{Verdict}
-use Rattle.width_checker.specs.declared.verdict.Verdict.TheVariants as verdicts
-use Rattle.width_checker.specs.PlainChecks.{plain_verdict}
+use Rattle.plain_check.specs.declared.verdict.Verdict.{Verdict}
+use Rattle.plain_check.specs.declared.verdict.Verdict.TheVariants as verdicts
+use Rattle.plain_check.specs.PlainChecks.{plain_verdict}
 use Rattle.width_checker.specs.Typed.{Typed}
 use Rattle.width_checker.specs.Verdicts.{IsRefused}
 use Rattle.ebc_cli.specs.declared.outcome.Outcome.TheVariants as outcomes

@@ -6,7 +6,7 @@ use ebc_base::Name;
 use std::alloc::{AllocError, Global};
 
 /// What the words ask for.
-#[derive(Debug, Drop)]
+#[derive(Drop)]
 pub enum Command {
     /// `check CODE`: the plain check of a file of raw code.
     CheckCode { code: Name },

@@ -7,7 +7,7 @@ use ebc_base::{Name, NoMemory, Sequence};
 use std::alloc::AllocError;
 
 /// What an answer prints or writes.
-#[derive(Debug, Drop)]
+#[derive(Drop)]
 pub enum Output {
     /// A text that is printed.
     Text(Sequence<u8>),
@@ -16,14 +16,14 @@ pub enum Output {
 }
 
 /// An answer, and what is printed or written for it.
-#[derive(Debug, Drop)]
+#[derive(Drop)]
 pub struct Reply {
     pub outcome: Outcome,
     pub output: Output,
 }
 
 /// Why the work ends before its answer.
-#[derive(Debug, Drop)]
+#[derive(Drop)]
 pub enum End {
     /// A file is missing, too large or not of its form, or the words are no command: this is the answer.
     Stop(Reply),

@@ -21,7 +21,7 @@ use std::fmt;
 use width_checker::{RuleName, Verdict};
 
 /// A place, an offset in bytes, printed in eight hexadecimal digits.
-#[derive(Clone, Copy, Debug, PartialEq, Eq)]
+#[derive(Clone, Copy, PartialEq, Eq)]
 pub struct Place(pub u32);
 
 impl fmt::Display for Place {

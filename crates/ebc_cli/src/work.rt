@@ -28,7 +28,7 @@ use width_checker::check_plain;
 const PLAIN_CODE_LIMIT: u64 = 262144;
 
 /// What a command has to do once its files are read.
-#[derive(Debug, Drop)]
+#[derive(Drop)]
 pub enum Work {
     /// The plain check of raw code.
     CheckCode { code: Sequence<u8> },

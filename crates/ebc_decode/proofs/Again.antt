@@ -1,5 +1,6 @@
 -- What is spelled is read, whatever follows: the parts of each instruction are those of a form, and read as it.
-use Rattle.std.proofs.Common.{◌≡◌, ◌≢◌, ℕ, ◌+◌, ◌*◌, ◌/◌, ◌%◌, ◌<◌, Bool, true, false, ◌&&◌, ◌||◌, not, nat_eq, nat_le, List, ◌++◌, length, arith, ⊎_elim, ap, subst, sym, refl, ◌∙◌, Option, Some, is_some, Ok, ℤ, inl, inr, if◌then◌else◌}
+use Rattle.std.proofs.Common.{◌≡◌, ◌≢◌, ℕ, ◌+◌, ◌*◌, ◌/◌, ◌%◌, ◌<◌, Bool, true, false, ◌&&◌, ◌||◌, not, nat_eq, nat_le, List, ◌++◌, length}
+use Rattle.std.proofs.Common.{arith, ⊎_elim, ap, subst, sym, refl, ◌∙◌, Option, Some, is_some, Ok, ℤ, inl, inr, if◌then◌else◌}
 use Rattle.std.proofs.lemmas.Bool.{lt-leb}
 use Rattle.std.specs.Option.{option_map, option_and_then}
 use Rattle.natural_index.specs.Index.{IsIndexSize, bit}
@@ -17,13 +18,19 @@ use Rattle.ebc_insn.specs.declared.ArithOp.{ArithOp}
 use Rattle.ebc_insn.specs.declared.ArithOp.TheVariants as ops
 use Rattle.ebc_insn.specs.declared.Insn.{Insn}
 use Rattle.ebc_insn.specs.declared.Insn.TheVariants as insns
-use Rattle.ebc_insn.specs.Spelling.{ExtraFits, IsOperand, IsWordOrDword, MoveFits, NotNatural, TargetFits, WellFormed, arith_number, cmp_number, code_of, condition, extra_field, has_extra, immediate_bits, move_opcode, operand, operands, signed_opcode, size_number, spelling, target_bits, width_number}
-use Rattle.ebc_decode.specs.Reading.{bits_at, cond_at, extra_at, flag, form_at, has_left_index, insn_at, is_reserved, left_at, read, size1_at, size2_at, size_at, with_length}
+use Rattle.ebc_insn.specs.Spelling.{ExtraFits, IsOperand, IsWordOrDword, MoveFits, NotNatural, TargetFits, WellFormed, arith_number}
+use Rattle.ebc_insn.specs.Spelling.{cmp_number, code_of, condition, extra_field, has_extra, immediate_bits, move_opcode, operand, operands}
+use Rattle.ebc_insn.specs.Spelling.{signed_opcode, size_number, spelling, target_bits, width_number}
+use Rattle.ebc_decode.specs.Reading.{bits_at, cond_at, extra_at, flag, form_at, has_left_index, insn_at, is_reserved, left_at, read}
+use Rattle.ebc_decode.specs.Reading.{size1_at, size2_at, size_at, with_length}
 use Rattle.ebc_decode.specs.declared.form.Form.{Form}
 use Rattle.ebc_decode.specs.declared.form.Form.TheVariants as forms
-use Rattle.ebc_decode.proofs.Fields.{extra_again, extra_fits, extra_size, index_fits, index_in_field, index_size, int32_again, int_again, int_fits, int_size, left_right, not_direct, optional_again, optional_fits, optional_size}
-use Rattle.ebc_decode.proofs.Numbers.{bit_below, flag_bit, head_low, head_seven, head_six, left_again, operand_below, right_again, signed_again}
+use Rattle.ebc_decode.proofs.Fields.{extra_again, extra_fits, extra_size, index_fits, index_in_field, index_size, int32_again, int_again}
+use Rattle.ebc_decode.proofs.Fields.{int_fits, int_size, left_right, not_direct, optional_again, optional_fits, optional_size}
+use Rattle.ebc_decode.proofs.Numbers.{bit_below, flag_bit, head_low, head_seven, head_six, left_again, operand_below, right_again}
+use Rattle.ebc_decode.proofs.Numbers.{signed_again}
 use Rattle.ebc_decode.proofs.Parts.{IsFormOf, move_sized, narrow_sized, reads_again, target_sized}
+use Rattle.ebc_base.proofs.Truth.{both_false}
 
 -- The parts of an instruction are those of a form, and read as it.
 pub record IsReadAgain (i : Insn) : Type 0 where
@@ -38,9 +45,6 @@ not_eq a b h = grind arith
 
 is_zero : (n : ℕ) → n ≡ 0 → not (nat_eq n 0) ≡ false
 is_zero n h = rw h refl
-
-clear_both : (a b : Bool) → a ≡ false → b ≡ false → (a || b) ≡ false
-clear_both a b p q = rw (p, q) refl
 
 clear_three : (a b c : Bool) → a ≡ false → b ≡ false → c ≡ false → (a || b || c) ≡ false
 clear_three a b c p q r = rw (p, q, r) refl
@@ -180,7 +184,7 @@ again_load from h =
       form = forms.LoadSpecial;
       right = record {
         form = refl;
-        proper = clear_both (not (nat_eq (16 * from % 16) 0)) (flag (16 * from / 128)) (is_zero _ (omega arith))
+        proper = both_false (not (nat_eq (16 * from % 16) 0)) (flag (16 * from / 128)) (is_zero _ (omega arith))
             (flag_bit _ false (omega arith));
         indirect = refl;
         one = refl;
@@ -199,7 +203,7 @@ again_store to special h =
       form = forms.StoreSpecial;
       right = record {
         form = refl;
-        proper = clear_both (flag ((to + 16 * special) / 8)) (nat_le 2 ((to + 16 * special) / 16))
+        proper = both_false (flag ((to + 16 * special) / 8)) (nat_le 2 ((to + 16 * special) / 16))
             (flag_bit _ false parts.1) (rw parts.2 (lt-leb 2 special h.1));
         indirect = refl;
         one = refl;
@@ -333,7 +337,7 @@ again_push_natural o x h =
       form = forms.PushNatural;
       right = record {
         form = rw (head_low 0x35 false (has_extra x) (omega arith)) refl;
-        proper = clear_both _ _ six byte.1;
+        proper = both_false _ _ six byte.1;
         indirect = refl;
         one = rw seven (extra_size 16 x word);
         two = refl;
@@ -353,7 +357,7 @@ again_pop_natural o x h =
       form = forms.PopNatural;
       right = record {
         form = rw (head_low 0x36 false (has_extra x) (omega arith)) refl;
-        proper = clear_both _ _ six byte.1;
+        proper = both_false _ _ six byte.1;
         indirect = refl;
         one = rw seven (extra_size 16 x word);
         two = refl;
@@ -442,7 +446,7 @@ again_call far native relative o x h =
       form = forms.Call;
       right = record {
         form = rw (head_low 3 far (has_extra x) (omega arith)) refl;
-        proper = clear_both (not (nat_eq (b1 / 64) 0)) _ (is_zero (b1 / 64) parts.3)
+        proper = both_false (not (nat_eq (b1 / 64) 0)) _ (is_zero (b1 / 64) parts.3)
             (rw (six, seven, parts.0) (target_proper far o x h));
         indirect = refl;
         one = rw (six, seven) (extra_size (target_bits far) x size);
@@ -556,7 +560,7 @@ again_move_imm size bits l li v h =
       form = forms.MoveImm;
       right = record {
         form = ap form_at head.0;
-        proper = clear_both (nat_eq ((0x37 + 64 * width_number bits) / 64) 0) (flag (b1 / 128))
+        proper = both_false (nat_eq ((0x37 + 64 * width_number bits) / 64) 0) (flag (b1 / 128))
             (rw head.1 (not_eq _ 0 (λ e. omega (arith, b.1)))) (flag_bit _ false parts.3);
         indirect = rw (has, ap (λ o. o.indirect) left) (not_direct 16 l li h.3);
         one = rw has (optional_size 16 li word);

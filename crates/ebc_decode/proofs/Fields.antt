@@ -1,8 +1,10 @@
 -- The fields of a spelling and what stands in them, both ways: as they are spelled, and as they are read.
-use Rattle.std.proofs.Common.{◌≡◌, ◌⊎◌, ℕ, ◌/◌, ◌^◌, ◌<◌, Bool, true, false, List, [], ◌∷◌, length, arith, ⊎_elim, ap, subst, sym, refl, ◌∙◌, Option, Some, None, ℤ, inl, inr, if◌then◌else◌, is_some, not, ◌&&◌}
+use Rattle.std.proofs.Common.{◌≡◌, ◌⊎◌, ℕ, ◌/◌, ◌^◌, ◌<◌, Bool, true, false, List, [], ◌∷◌, length, arith, ⊎_elim, ap, subst, sym, refl}
+use Rattle.std.proofs.Common.{◌∙◌, Option, Some, None, ℤ, inl, inr, if◌then◌else◌, is_some, not, ◌&&◌}
 use Rattle.std.specs.Prelude.{⊤}
 use Rattle.std.specs.Option.{option_map}
-use Rattle.std.proofs.lemmas.Nat.{from_le_bytes-to_le_bytes_2, from_le_bytes-to_le_bytes_4, from_le_bytes-to_le_bytes_8, le_bytes_2, le_bytes_4, le_bytes_8}
+use Rattle.std.proofs.lemmas.Nat.{from_le_bytes-to_le_bytes_2, from_le_bytes-to_le_bytes_4, from_le_bytes-to_le_bytes_8, le_bytes_2}
+use Rattle.std.proofs.lemmas.Nat.{le_bytes_4, le_bytes_8}
 use Rattle.natural_index.specs.Index.{IsIndex, IsIndexSize, index_of, raw_of}
 use Rattle.natural_index.specs.declared.Index.{Index}
 use Rattle.natural_index.proofs.Laws.{index_again, raw_below, spells_read}
@@ -11,9 +13,11 @@ use Rattle.ebc_insn.specs.declared.Extra.{Extra}
 use Rattle.ebc_insn.specs.declared.Extra.TheVariants.{Nothing, Imm, Idx}
 use Rattle.ebc_insn.specs.declared.code.Field.{Field}
 use Rattle.ebc_insn.specs.declared.code.Field.TheVariants as fields
-use Rattle.ebc_insn.specs.Spelling.{ExtraFits, FitsInt, LeftFits, RightFits, extra_field, field, field_bytes, field_size, has_extra, immediate_bits, index_field, int_field, int_raw, optional_field}
-use Rattle.ebc_decode.specs.Reading.{extra_at, field_at, index_at, int32_at, int_at, optional_at, signed_at, size_if}
+use Rattle.ebc_insn.specs.Spelling.{ExtraFits, FitsInt, LeftFits, RightFits, extra_field, field, field_bytes, field_size, has_extra}
+use Rattle.ebc_insn.specs.Spelling.{immediate_bits, index_field, int_field, int_raw, optional_field}
+use Rattle.ebc_decode.specs.Reading.{extra_at, field_at, index_at, int32_at, int_at, optional_at, size_if}
 use Rattle.ebc_decode.proofs.Numbers.{IsBytes, signed_again, signed_below, signed_fits, signed_whole}
+use Rattle.ebc_width.specs.Width.{signed_at}
 
 -- ---- bytes and fields
 
@@ -93,12 +97,6 @@ field_again fields.Nothing h = refl
 field_again (fields.Word n) h = ap fields.Word (from_le_bytes-to_le_bytes_2 n h)
 field_again (fields.Dword n) h = ap fields.Dword (from_le_bytes-to_le_bytes_4 n h)
 field_again (fields.Qword n) h = ap fields.Qword (from_le_bytes-to_le_bytes_8 n h)
-
-pub field_sized : (f : Field) → IsFieldSize (field_size f)
-field_sized fields.Nothing = inl refl
-field_sized (fields.Word n) = inr (inl refl)
-field_sized (fields.Dword n) = inr (inr (inl refl))
-field_sized (fields.Qword n) = inr (inr (inr refl))
 
 -- ---- what stands in a field, as it is spelled
 
@@ -308,7 +306,7 @@ pub record IsOptionalOf (bits : ℕ) (there : Bool) (f : Field) (x : Option Inde
   pub fits : RightFits bits x
   pub presence : is_some x ≡ there
 
-some_same : {A : Type 0} (x y : A) → Some x ≡ Some y → x ≡ y
+pub some_same : {A : Type 0} (x y : A) → Some x ≡ Some y → x ≡ y
 some_same x y e = cc
 
 ReadsOptional : ℕ → Bool → Option Index → Field → Type 0

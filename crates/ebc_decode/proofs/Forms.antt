@@ -1,5 +1,6 @@
 -- The form that an opcode names, and the opcode of a form.
-use Rattle.std.proofs.Common.{◌≡◌, ◌⊎◌, ℕ, ◌+◌, ◌-◌, ◌<◌, ◌≤◌, true, false, nat_eq, nat_lt, arith, ⊎_elim, subst, sym, refl, ◌∙◌, Some, None, inl, inr}
+use Rattle.std.proofs.Common.{◌≡◌, ◌⊎◌, ℕ, ◌+◌, ◌-◌, ◌<◌, ◌≤◌, true, false, nat_eq, nat_lt, arith, ⊎_elim, subst, sym, refl, ◌∙◌, Some}
+use Rattle.std.proofs.Common.{None, inl, inr}
 use Rattle.std.specs.Prelude.{⊤}
 use Rattle.ebc_insn.specs.declared.Size.TheVariants as sizes
 use Rattle.ebc_insn.specs.Spelling.{IsWordOrDword, MoveFits, NotNatural, arith_number, cmp_number, move_opcode, signed_opcode, size_number}

@@ -1,5 +1,6 @@
 -- What is read is spelled so: the instruction of parts that are right has a spelling, and these parts.
-use Rattle.std.proofs.Common.{◌≡◌, ℕ, ◌+◌, ◌*◌, ◌/◌, ◌%◌, ◌<◌, Bool, true, false, ◌&&◌, ◌||◌, not, nat_eq, nat_le, arith, subst, sym, refl, ◌∙◌, Option, Some, None, inl}
+use Rattle.std.proofs.Common.{◌≡◌, ℕ, ◌+◌, ◌*◌, ◌/◌, ◌%◌, ◌<◌, Bool, true, false, ◌&&◌, ◌||◌, not, nat_eq, nat_le, arith, subst, sym, refl}
+use Rattle.std.proofs.Common.{◌∙◌, Option, Some, None, inl}
 use Rattle.std.specs.Option.{option_map, option_and_then}
 use Rattle.natural_index.specs.Index.{bit}
 use Rattle.ebc_insn.specs.declared.Extra.{Extra}
@@ -10,14 +11,17 @@ use Rattle.ebc_insn.specs.declared.ArithOp.{ArithOp}
 use Rattle.ebc_insn.specs.declared.Insn.{Insn}
 use Rattle.ebc_insn.specs.declared.code.Code.{Code}
 use Rattle.ebc_insn.specs.declared.code.Field.{Field}
-use Rattle.ebc_insn.specs.Spelling.{ExtraFits, TargetFits, WellFormed, code, code_of, condition, has_extra, head, operand, operands, target_bits, width_number}
-use Rattle.ebc_decode.specs.Reading.{bits_at, cond_at, flag, has_left_index, insn_at, is_far_wrong, is_reserved, left_at, operand_at, right_at, size1_at, size2_at}
+use Rattle.ebc_insn.specs.Spelling.{ExtraFits, TargetFits, WellFormed, code, code_of, condition, has_extra, head, operand, operands}
+use Rattle.ebc_insn.specs.Spelling.{target_bits, width_number}
+use Rattle.ebc_decode.specs.Reading.{bits_at, cond_at, flag, has_left_index, insn_at, is_far_wrong, is_reserved, left_at, operand_at}
+use Rattle.ebc_decode.specs.Reading.{right_at, size1_at, size2_at}
 use Rattle.ebc_decode.specs.declared.form.Form.{Form}
 use Rattle.ebc_decode.specs.declared.form.Form.TheVariants as forms
-use Rattle.ebc_decode.proofs.Fields.{extra_whole, index_whole, int32_whole, int_whole, left_fits, nothing_whole, optional_whole}
+use Rattle.ebc_decode.proofs.Fields.{extra_whole, index_whole, int32_whole, int_whole, left_fits, nothing_whole, optional_whole, some_same}
 use Rattle.ebc_decode.proofs.Forms.{form_whole, opcode_of, size_whole}
 use Rattle.ebc_decode.proofs.Numbers.{bit_flag, head_whole, operand_whole, signed_fits, signed_whole}
 use Rattle.ebc_decode.proofs.Parts.{IsFormOf, move_sized, narrow_sized, target_sized, width_sized}
+use Rattle.std.proofs.lemmas.Bool.{or_parts}
 
 -- The instruction has a spelling, and some parts are its.
 pub record IsFound (c : Code) (i : Insn) : Type 0 where
@@ -54,11 +58,6 @@ is_register n = omega arith
 operands_whole : (b1 : ℕ) → b1 < 256 → operands (left_at b1) (right_at b1) ≡ b1
 operands_whole b1 h = omega (arith, operand_whole (b1 % 16) (omega arith), operand_whole (b1 / 16) (omega arith))
 
-both_clear : (a b : Bool) → (a || b) ≡ false → (a ≡ false) × (b ≡ false)
-both_clear false false e = (refl, refl)
-both_clear true b e = absurd (cc)
-both_clear false true e = absurd (cc)
-
 all_clear : (a b c : Bool) → (a || b || c) ≡ false → (a ≡ false) × (b ≡ false) × (c ≡ false)
 all_clear false false false e = (refl, refl, refl)
 all_clear true b c e = absurd (cc)
@@ -84,9 +83,6 @@ pub record IsMadeOf {A : Type 0} (make : A → Insn) (o : Option A) (i : Insn) :
   pub x : A
   pub read : o ≡ Some x
   pub same : make x ≡ i
-
-some_same : {A : Type 0} (x y : A) → Some x ≡ Some y → x ≡ y
-some_same x y e = cc
 
 made_of : {A : Type 0} (make : A → Insn) (o : Option A) (i : Insn) → option_map make o ≡ Some i → IsMadeOf make o i
 made_of make None i e = absurd (cc)
@@ -126,7 +122,7 @@ found_break c i s h0 h1 e =
 found_ret : (c : Code) (i : Insn) → Finds forms.Ret c i
 unfolding Finds is_reserved has_left_index size1_at size2_at insn_at
 found_ret c i s h0 h1 e =
-    let clear = both_clear (not (nat_eq (c.first / 64) 0)) (not (nat_eq c.second 0)) s.proper in
+    let clear = or_parts (not (nat_eq (c.first / 64) 0)) (not (nat_eq c.second 0)) s.proper in
     let high = is_zero (c.first / 64) clear.0 in
     subst (IsFound c) (some_same _ i e) record {
       well_formed = tt;
@@ -236,7 +232,7 @@ unfolding Finds is_reserved has_left_index size1_at size2_at insn_at
 found_push_natural c i s h0 h1 e =
     let m = made_of _ _ i e in
     let x = extra_whole 16 (flag (c.first / 128)) (left_at c.second) c.one m.x (inl refl) (sym s.one) s.fits.0 m.read in
-    let clear = both_clear (flag (c.first / 64)) (not (nat_eq (c.second / 16) 0)) s.proper in
+    let clear = or_parts (flag (c.first / 64)) (not (nat_eq (c.second / 16) 0)) s.proper in
     subst (IsFound c) m.same record {
       well_formed = (is_register (c.second % 16), x.fits);
       same = code_from c _ _ _ _ (head_from c.first _ _ _ h0 (opcode_is c forms.PushNatural s) (sym clear.0) x.presence)
@@ -248,7 +244,7 @@ unfolding Finds is_reserved has_left_index size1_at size2_at insn_at
 found_pop_natural c i s h0 h1 e =
     let m = made_of _ _ i e in
     let x = extra_whole 16 (flag (c.first / 128)) (left_at c.second) c.one m.x (inl refl) (sym s.one) s.fits.0 m.read in
-    let clear = both_clear (flag (c.first / 64)) (not (nat_eq (c.second / 16) 0)) s.proper in
+    let clear = or_parts (flag (c.first / 64)) (not (nat_eq (c.second / 16) 0)) s.proper in
     subst (IsFound c) m.same record {
       well_formed = (is_register (c.second % 16), x.fits);
       same = code_from c _ _ _ _ (head_from c.first _ _ _ h0 (opcode_is c forms.PopNatural s) (sym clear.0) x.presence)
@@ -297,7 +293,7 @@ found_call c i s h0 h1 e =
     let far : Bool = flag (c.first / 64) in
     let x = extra_whole (target_bits far) (flag (c.first / 128)) (left_at c.second) c.one m.x (target_sized far)
     (sym s.one) s.fits.0 m.read in
-    let clear = both_clear (not (nat_eq (c.second / 64) 0)) (is_far_wrong c.first c.second) s.proper in
+    let clear = or_parts (not (nat_eq (c.second / 64) 0)) (is_far_wrong c.first c.second) s.proper in
     let none = is_zero (c.second / 64) clear.0 in
     subst (IsFound c) m.same record {
       well_formed = target_whole far (flag (c.first / 128)) (c.second % 16) m.x clear.1 x.presence x.fits;
@@ -366,7 +362,7 @@ unfolding Finds is_reserved has_left_index size1_at size2_at insn_at
 found_move_imm c i s h0 h1 e =
     let m = made_of _ _ i e in
     let wide = width_sized (c.first / 64) in
-    let clear = both_clear (nat_eq (c.first / 64) 0) (flag (c.second / 128)) s.proper in
+    let clear = or_parts (nat_eq (c.first / 64) 0) (flag (c.second / 128)) s.proper in
     let top = not_flag (c.second / 128) clear.1 in
     let x = optional_whole 16 (flag (c.second / 64)) c.one m.x (inl refl) (sym s.one) s.fits.0 m.read in
     let v = int_whole (bits_at (c.first / 64)) c.two wide (sym s.two) s.fits.1 in

@@ -1,5 +1,5 @@
 -- The laws of the reading: what is read is spelled so, and what is spelled is read.
-use Rattle.std.proofs.Common.{◌≡◌, ℕ, ◌≤◌, List, [], ◌∷◌, ◌++◌, length, take, arith, subst, ap, sym, refl, ◌∙◌, Ok, Err}
+use Rattle.std.proofs.Common.{◌≡◌, ℕ, ◌≤◌, List, ◌∷◌, ◌++◌, length, take, arith, subst, ap, sym, ◌∙◌, Ok, Err}
 use Rattle.ebc_insn.specs.declared.Insn.{Insn}
 use Rattle.ebc_insn.specs.Spelling.{Spells, WellFormed, bytes_of, spelling}
 use Rattle.ebc_decode.specs.declared.DecodeFault.{DecodeFault}
@@ -10,11 +10,6 @@ use Rattle.ebc_decode.proofs.Again.{read_again}
 use Rattle.ebc_decode.proofs.Found.{IsFound, found}
 use Rattle.ebc_decode.proofs.Numbers.{IsBytes}
 use Rattle.ebc_decode.proofs.Parts.{IsPartsAt, IsReadAs, parts_right, read_parts, same_ok}
-
--- Nothing is read from no bytes.
-pub read_empty : read [] ≡ Err faults.Short
-unfolding read
-read_empty = refl
 
 -- What is read has two bytes at least, and lies within the bytes.
 pub read_length : (bytes : List ℕ) (i : Insn) (n : ℕ) → read bytes ≡ Ok (i, n) → (2 ≤ n) × (n ≤ length bytes)

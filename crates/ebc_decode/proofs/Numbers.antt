@@ -1,12 +1,14 @@
 -- The parts of two bytes and the numbers in fields, both ways: as they are spelled, and as they are read.
-use Rattle.std.proofs.Common.{◌≡◌, ℕ, ◌+◌, ◌-◌, ◌*◌, ◌/◌, ◌%◌, ◌^◌, ◌<◌, Bool, true, false, suc, List, get_or, take, drop, arith, ap, subst, ◌∙◌, ℤ, pos}
+use Rattle.std.proofs.Common.{◌≡◌, ℕ, ◌+◌, ◌-◌, ◌*◌, ◌/◌, ◌%◌, ◌^◌, ◌<◌, Bool, true, false, suc, List, get_or, take, drop, arith, ap, subst}
+use Rattle.std.proofs.Common.{◌∙◌, ℤ, pos}
 use Rattle.std.specs.Prelude.{negsuc}
 use Rattle.std.proofs.Math.Nat.{pow-suc}
 use Rattle.std.proofs.lemmas.Grind.{common_steps}
 use Rattle.natural_index.specs.Index.{bit}
 use Rattle.ebc_insn.specs.declared.Operand.{Operand}
 use Rattle.ebc_insn.specs.Spelling.{FitsInt, head, int_raw, operand}
-use Rattle.ebc_decode.specs.Reading.{flag, left_at, operand_at, right_at, signed_at}
+use Rattle.ebc_decode.specs.Reading.{flag, left_at, operand_at, right_at}
+use Rattle.ebc_width.specs.Width.{signed_at}
 
 -- ---- bits
 

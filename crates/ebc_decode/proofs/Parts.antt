@@ -1,5 +1,7 @@
 -- Bytes and their parts: the bytes of parts that are right read as their instruction, and what is read has such parts.
-use Rattle.std.proofs.Common.{◌≡◌, ℕ, ◌+◌, ◌/◌, ◌%◌, ◌≤◌, Bool, true, false, List, [], ◌∷◌, ◌++◌, length, take, drop, nat_lt, arith, ⊎_elim, subst, ap, sym, refl, ◌∙◌, suc, length-append, length-take, length-drop, append_assoc, Option, Some, None, Result, Ok, Err, inl, inr, if◌then◌else◌}
+use Rattle.std.proofs.Common.{◌≡◌, ℕ, ◌+◌, ◌/◌, ◌%◌, ◌≤◌, Bool, true, false, List, [], ◌∷◌, ◌++◌, length, take, drop, nat_lt, arith, ⊎_elim}
+use Rattle.std.proofs.Common.{subst, ap, sym, refl, ◌∙◌, suc, length-append, length-take, length-drop, append_assoc, Option, Some, None}
+use Rattle.std.proofs.Common.{Result, Ok, Err, inl, inr, if◌then◌else◌}
 use Rattle.std.proofs.lemmas.Bool.{le-ltb}
 use Rattle.std.proofs.Math.Seq.{take-add, take-append_seam, drop-append_seam}
 use Rattle.natural_index.specs.Index.{IsIndexSize}
@@ -10,7 +12,8 @@ use Rattle.ebc_insn.specs.declared.Insn.{Insn}
 use Rattle.ebc_insn.specs.declared.code.Code.{Code}
 use Rattle.ebc_insn.specs.declared.code.Field.{Field}
 use Rattle.ebc_insn.specs.Spelling.{IsWordOrDword, MoveFits, bytes_of, field_bytes, field_size}
-use Rattle.ebc_decode.specs.Reading.{bits_at, field_at, flag, form_at, insn_at, is_direct_index, is_reserved, parts_at, read, read_form, size1_at, size2_at, size_if, tail_at, with_length}
+use Rattle.ebc_decode.specs.Reading.{bits_at, field_at, flag, form_at, insn_at, is_direct_index, is_reserved, parts_at, read, read_form}
+use Rattle.ebc_decode.specs.Reading.{size1_at, size2_at, size_if, tail_at, with_length}
 use Rattle.ebc_decode.specs.declared.DecodeFault.{DecodeFault}
 use Rattle.ebc_decode.specs.declared.DecodeFault.TheVariants as faults
 use Rattle.ebc_decode.specs.declared.form.Form.{Form}

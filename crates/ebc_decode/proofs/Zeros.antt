@@ -1,5 +1,6 @@
 -- Two bytes that are right for a form begin a spelling: with zeros in its fields they read as an instruction.
-use Rattle.std.proofs.Common.{◌≡◌, ℕ, ◌/◌, ◌%◌, ◌<◌, ◌↔◌, Bool, true, false, ◌||◌, nat_eq, List, [], ◌∷◌, ◌++◌, length, arith, ⊎_elim, ap, subst, sym, refl, ◌∙◌, append-nil, Option, Some, Ok, if◌then◌else◌}
+use Rattle.std.proofs.Common.{◌≡◌, ℕ, ◌/◌, ◌%◌, ◌<◌, ◌↔◌, Bool, true, false, ◌||◌, nat_eq, List, [], ◌∷◌, ◌++◌, length, arith, ⊎_elim, ap}
+use Rattle.std.proofs.Common.{subst, sym, refl, ◌∙◌, append-nil, Option, Some, Ok, if◌then◌else◌}
 use Rattle.std.specs.Option.{option_map, option_and_then}
 use Rattle.ebc_insn.specs.declared.Operand.{Operand}
 use Rattle.ebc_insn.specs.declared.Extra.{Extra}
@@ -8,7 +9,8 @@ use Rattle.ebc_insn.specs.declared.code.Code.{Code}
 use Rattle.ebc_insn.specs.declared.code.Field.{Field}
 use Rattle.ebc_insn.specs.declared.code.Field.TheVariants as fields
 use Rattle.ebc_insn.specs.Spelling.{Spells, bytes_of, code, field_bytes, field_size, spelling}
-use Rattle.ebc_decode.specs.Reading.{bits_at, extra_at, form_at, index_at, insn_at, is_direct_index, is_reserved, left_at, optional_at, read, right_at, size1_at, size2_at}
+use Rattle.ebc_decode.specs.Reading.{bits_at, extra_at, form_at, index_at, insn_at, is_direct_index, is_reserved, left_at, optional_at}
+use Rattle.ebc_decode.specs.Reading.{read, right_at, size1_at, size2_at}
 use Rattle.ebc_decode.specs.declared.form.Form.{Form}
 use Rattle.ebc_decode.specs.declared.form.Form.TheVariants as forms
 use Rattle.ebc_decode.proofs.Again.{read_again}
@@ -16,6 +18,8 @@ use Rattle.ebc_decode.proofs.Fields.{FieldFits, IsFieldSize}
 use Rattle.ebc_decode.proofs.Forms.{form_whole}
 use Rattle.ebc_decode.proofs.Found.{found}
 use Rattle.ebc_decode.proofs.Parts.{IsFormOf, read_parts, size1_sized, size2_sized}
+use Rattle.ebc_base.proofs.Truth.{both_false}
+use Rattle.std.proofs.lemmas.Bool.{or_parts}
 
 -- a field of so many bytes with zeros in them
 abbrev zero_field : ℕ → Field
@@ -103,14 +107,6 @@ some_insn forms.Pop b0 b1 one two = some_mapped _ _ (zero_extra (left_at b1) _ o
 some_insn forms.PushNatural b0 b1 one two = some_mapped _ _ (zero_extra (left_at b1) _ one)
 some_insn forms.PopNatural b0 b1 one two = some_mapped _ _ (zero_extra (left_at b1) _ one)
 
-neither : (a b : Bool) → (a || b) ≡ false → (a ≡ false) × (b ≡ false)
-neither false false e = (refl, refl)
-neither true b e = absurd (cc)
-neither false true e = absurd (cc)
-
-clear : (a b : Bool) → a ≡ false → b ≡ false → (a || b) ≡ false
-clear a b p q = rw (p, q) refl
-
 -- Two bytes begin a spelling.
 BeginsSpelling : ℕ → ℕ → Type 0
 BeginsSpelling b0 b1 = (i : Insn) × (rest : List ℕ) × Spells (b0 ∷ b1 ∷ rest) i
@@ -126,7 +122,7 @@ begins f b0 b1 h0 h1 form right =
     let two = size2_sized f b0 fits in
     let first = zero_size _ one in
     let second = zero_size _ two in
-    let both = neither (is_reserved f b0 b1) (is_direct_index f b0 b1) right in
+    let both = or_parts (is_reserved f b0 b1) (is_direct_index f b0 b1) right in
     let c : Code = zeros f b0 b1 in
     let s : IsFormOf c f = record {
       form = form;
@@ -181,7 +177,7 @@ begun f b0 b1 form h =
     let r = read_parts (b0 ∷ b1 ∷ h.1) i (length (spelling i)) e in
     let right = same_right f r.f b0 b1 r.b0 r.b1 h.1 r.rest r.parts.whole form r.parts.form r.parts.proper
     r.parts.indirect in
-    clear _ _ right.0 right.1
+    both_false _ _ right.0 right.1
 
 -- Two bytes with the opcode of a form begin a spelling exactly where they are right for the form.
 pub reserved_is_exact :

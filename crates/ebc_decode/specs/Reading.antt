@@ -1,6 +1,7 @@
--- The instruction that a list of bytes begins with, or the first fault: UEFI specification, chapter "EFI Byte Code
+-- Meaning: the instruction that a list of bytes begins with, or the first fault: UEFI specification, chapter "EFI Byte Code
 -- Virtual Machine", sections "Instruction Encoding" and "EBC Instruction Set"; in words in docs/ENCODING.md.
-use Rattle.std.specs.Prelude.{◌≡◌, ℕ, ◌+◌, ◌-◌, ◌/◌, ◌%◌, ◌^◌, ◌<◌, ◌↔◌, Bool, false, ◌&&◌, ◌||◌, not, List, [], ◌∷◌, ◌++◌, length, take, drop, Option, Some, None, Result, Ok, Err, nat_eq, nat_le, nat_lt, if◌then◌else◌, ℤ, pos, negsuc}
+use Rattle.std.specs.Prelude.{◌≡◌, ℕ, ◌+◌, ◌-◌, ◌/◌, ◌%◌, ◌^◌, ◌<◌, ◌↔◌, Bool, false, ◌&&◌, ◌||◌, not, List, [], ◌∷◌, ◌++◌, length, take}
+use Rattle.std.specs.Prelude.{drop, Option, Some, None, Result, Ok, Err, nat_eq, nat_le, nat_lt, if◌then◌else◌, ℤ, pos}
 use Rattle.std.specs.Option.{option_map, option_and_then}
 use Rattle.std.specs.Int.{w16, w32, w64, from_le_bytes}
 use Rattle.natural_index.specs.Index.{index_of}
@@ -25,6 +26,7 @@ use Rattle.ebc_insn.specs.declared.code.Field.TheVariants as fields
 use Rattle.ebc_decode.specs.declared.DecodeFault.{DecodeFault}
 use Rattle.ebc_decode.specs.declared.DecodeFault.TheVariants as faults
 use Rattle.ebc_decode.specs.declared.form.Form.{Form}
+use Rattle.ebc_width.specs.Width.{signed_at}
 use Rattle.ebc_decode.specs.declared.form.Form.TheVariants as forms
 
 -- ---- the opcode
@@ -196,10 +198,6 @@ field_at (a ∷ b ∷ c ∷ d ∷ []) = fields.Dword (from_le_bytes w32 (a ∷ b
 field_at (a ∷ b ∷ c ∷ d ∷ e ∷ f ∷ g ∷ h ∷ []) =
     fields.Qword (from_le_bytes w64 (a ∷ b ∷ c ∷ d ∷ e ∷ f ∷ g ∷ h ∷ []))
 field_at bytes = fields.Nothing
-
--- the signed number that its two's complement in so many bits spells ("Immediate Operands")
-abbrev pub signed_at : ℕ → ℕ → ℤ
-signed_at bits n = if nat_lt n (2 ^ (bits - 1)) then pos n else negsuc (2 ^ bits - 1 - n)
 
 -- the signed number in a field of 2 or 4 bytes ("CMPI")
 abbrev pub int32_at : Field → ℤ

@@ -24,7 +24,7 @@ use arrayvec::ArrayVec;
 use ebc_insn::{ArithOp, CmpOp, Code, Field, Insn, Size, parts};
 
 /// Why bytes begin with no spelling of an instruction. The first that holds is told, in the order that `decode` has.
-#[derive(Clone, Copy, PartialEq, Eq, Debug)]
+#[derive(Clone, Copy, PartialEq, Eq)]
 pub enum DecodeFault {
     /// There are fewer than two bytes, or fewer than the instruction's length ("Instruction Encoding").
     Short,

@@ -1,5 +1,6 @@
 -- The relocations and labels that are left, from one place to the next.
-use Rattle.std.proofs.Common.{◌≡◌, ℕ, ◌+◌, ◌<◌, ◌≤◌, List, [], ◌∷◌, ◌++◌, length, take, get_or, Option, Some, None, refl, ap, sym, subst, ◌∙◌, arith}
+use Rattle.std.proofs.Common.{◌≡◌, ℕ, ◌+◌, ◌<◌, ◌≤◌, List, [], ◌∷◌, ◌++◌, length, take, get_or, Option, Some, None, refl, ap, sym, subst}
+use Rattle.std.proofs.Common.{◌∙◌, arith}
 use Rattle.std.specs.Prelude.{nat_eq, nat_lt}
 use Rattle.std.specs.List.{AllPairs, cons_option, filter_map, find}
 use Rattle.std.specs.List.Sorted.{IsPermutation}
@@ -10,9 +11,8 @@ use Rattle.std.proofs.lemmas.List.Sorted.{list_any-IsPermutation}
 use Rattle.pe_image.specs.declared.image.Image.{Image}
 use Rattle.pe_image.specs.declared.image.Section.{Section}
 use Rattle.pe_image.specs.Images.{EndsBefore}
-use Rattle.ebc_disasm.specs.declared.items.Spot.{Spot}
 use Rattle.ebc_disasm.specs.Listings.{is_cut, is_inside, labels}
-use Rattle.ebc_disasm.specs.Walks.{IsComing, IsLeft, IsSpot, is_at, is_before, reaches}
+use Rattle.ebc_disasm.specs.Walks.{IsComing, IsLeft, is_before, reaches}
 use Rattle.ebc_disasm.proofs.Firsts.{find-same, first_at, first_before}
 
 behind : (x l : ℕ) → nat_lt x l ≡ reaches 1 (x + 1) l
@@ -34,7 +34,8 @@ start image xs same up =
     }
 
 pub start_at :
-    (image : Image) (relocs marked xs : List ℕ) → relocs ≡ image.relocs → marked ≡ xs → IsPermutation (labels image) xs → AllPairs (λ p q. p ≤ q) xs →
+    (image : Image) (relocs marked xs : List ℕ) → relocs ≡ image.relocs → marked ≡ xs → IsPermutation (labels image) xs
+    → AllPairs (λ p q. p ≤ q) xs →
     IsComing image 0 relocs marked
 start_at image relocs marked xs r m same up = rw (r, m) (start image xs same up)
 
@@ -42,10 +43,12 @@ start_at image relocs marked xs r m same up = rw (r, m) (start image xs same up)
 pub item_coming :
     (image : Image) (sections : List Section) (i : ℕ) (s : Section) (relocs marked : List ℕ) → s ≡ get_or sections i s →
     IsComing image (get_or sections i s).place relocs marked → IsComing image s.place relocs marked
-item_coming image sections i s relocs marked is h = let P : Section → Type 0 = λ t. IsComing image t.place relocs marked in subst P (sym is) h
+item_coming image sections i s relocs marked is h = let P : Section → Type 0 = λ t. IsComing image t.place relocs marked in
+    subst P (sym is) h
 
 -- what is left tells of later places too
-pub later : (image : Image) (x y : ℕ) (relocs labelled : List ℕ) → IsComing image x relocs labelled → x ≤ y → IsComing image y relocs labelled
+pub later : (image : Image) (x y : ℕ) (relocs labelled : List ℕ) → IsComing image x relocs labelled → x ≤ y
+    → IsComing image y relocs labelled
 later image x y relocs labelled c up =
     record {
       relocs = λ z h. c.relocs z (omega arith);
@@ -76,34 +79,17 @@ labels_left :
     (y : ℕ) → x + 1 ≤ y → find (reaches 1 y) labelled ≡ find (reaches 1 y) l
 labels_left image x r l relocs here labelled p y h = p.labels_left y h ∙ p.here_left y (omega arith)
 
-pub coming_next :
-    (image : Image) (x : ℕ) (r l relocs here labelled : List ℕ) → IsPassed image x r l relocs here labelled → IsComing image (x + 1) relocs labelled
-coming_next image x r l relocs here labelled p =
-    record {
-      relocs = λ y h. p.relocs_left y (omega arith) ∙ p.coming.relocs y (omega arith);
-      at = λ y h. p.coming.at y (omega arith) ∙ ap (is_at y) (sym (labels_left image x r l relocs here labelled p y h));
-      inside = λ y n h. p.coming.inside y n (omega arith) ∙ ap (is_before (y + n)) (sym (labels_left image x r l relocs here labelled p (y + 1) (omega arith)));
-    }
-
--- The first of what is left is what comes next at the place.
-pub spot_next :
-    (image : Image) (spot : Spot) (r l relocs here labelled : List ℕ) → IsPassed image spot.place r l relocs here labelled →
-    spot.reloc ≡ find (reaches 8 spot.place) relocs → spot.label ≡ find (reaches 1 (spot.place + 1)) labelled → IsSpot image spot
-spot_next image spot r l relocs here labelled p reloc label =
-    record {
-      reloc = reloc ∙ (p.relocs_left spot.place (omega arith) ∙ p.coming.relocs spot.place (omega arith));
-      label = λ n. p.coming.inside spot.place n (omega arith)
-          ∙ ap (is_before (spot.place + n)) (sym (labels_left image spot.place r l relocs here labelled p (spot.place + 1) (omega arith)) ∙ sym label);
-    }
-
 -- ---- the labels of an image
 
-more : (f : ℕ → Option ℕ) (xs : List ℕ) (i : ℕ) → i < length xs → filter_map f (take (i + 1) xs) ≡ filter_map f (take i xs) ++ cons_option (f (get_or xs i 0)) []
+more : (f : ℕ → Option ℕ) (xs : List ℕ) (i : ℕ) → i < length xs → filter_map f (take (i + 1) xs) ≡ filter_map f (take i xs)
+    ++ cons_option (f (get_or xs i 0)) []
 more f xs i short = ap (filter_map f) (take_more xs i 0 short) ∙ filter_map-append f (take i xs) (get_or xs i 0 ∷ [])
 
 -- one place more
-pub more_none : (f : ℕ → Option ℕ) (xs : List ℕ) (i : ℕ) → i < length xs → f (get_or xs i 0) ≡ None → filter_map f (take (i + 1) xs) ≡ filter_map f (take i xs)
+pub more_none : (f : ℕ → Option ℕ) (xs : List ℕ) (i : ℕ) → i < length xs → f (get_or xs i 0) ≡ None
+    → filter_map f (take (i + 1) xs) ≡ filter_map f (take i xs)
 more_none f xs i short e = more f xs i short ∙ rw e (append-nil (filter_map f (take i xs)))
 
-pub more_some : (f : ℕ → Option ℕ) (xs : List ℕ) (i t : ℕ) → i < length xs → f (get_or xs i 0) ≡ Some t → filter_map f (take (i + 1) xs) ≡ filter_map f (take i xs) ++ t ∷ []
+pub more_some : (f : ℕ → Option ℕ) (xs : List ℕ) (i t : ℕ) → i < length xs → f (get_or xs i 0) ≡ Some t
+    → filter_map f (take (i + 1) xs) ≡ filter_map f (take i xs) ++ t ∷ []
 more_some f xs i t short e = more f xs i short ∙ rw e refl

@@ -1,5 +1,6 @@
 -- The first of ascending places that passes a test tells of all of them.
-use Rattle.std.proofs.Common.{◌≡◌, ℕ, ◌+◌, ◌<◌, ◌≤◌, suc, Bool, true, false, cond, List, [], ◌∷◌, length, get_or, Some, None, refl, ap, sym, subst, ◌∙◌, ⊎_elim, arith, drop, drop-cons, add-one}
+use Rattle.std.proofs.Common.{◌≡◌, ℕ, ◌+◌, ◌<◌, ◌≤◌, suc, Bool, true, false, cond, List, [], ◌∷◌, get_or, Some, None, refl, ap, sym, subst}
+use Rattle.std.proofs.Common.{◌∙◌, ⊎_elim, arith}
 use Rattle.std.specs.Prelude.{◌&&◌, ◌||◌, not, is_some, nat_eq, nat_lt}
 use Rattle.std.specs.List.{All, AllPairs, find, list_all, list_any}
 use Rattle.std.proofs.lemmas.Bool.{cases_Bool, or_parts}
@@ -24,7 +25,8 @@ pub found : {X : Type 0} (P : X → Type 0) (p : X → Bool) (xs : List X) (x : 
 found P p [] x all e = cc
 found P p (y ∷ ys) x all e =
     ⊎_elim
-    (λ holds. let same : Some y ≡ Some x = rw holds at e in let xy : y ≡ x = cc in (subst P xy (All-head P y ys all), ap p (sym xy) ∙ holds))
+    (λ holds. let same : Some y ≡ Some x = rw holds at e in let xy : y ≡ x = cc in
+    (subst P xy (All-head P y ys all), ap p (sym xy) ∙ holds))
     (λ fails_it. let later : find p ys ≡ Some x = rw fails_it at e in found P p ys x (All-tail P y ys all) later)
     (cases_Bool (p y))
 
@@ -38,7 +40,8 @@ pub pairs_tail : (R : ℕ → ℕ → Type 0) (x : ℕ) (xs : List ℕ) → AllP
 pairs_tail R x xs pairs i j d less short = pairs (suc i) (suc j) d (omega arith) (omega arith)
 
 -- none of the later ones lies before an end that the first doesn't lie before
-none_before : (p : ℕ → Bool) (end x : ℕ) (xs : List ℕ) → All (λ r. x ≤ r) xs → nat_lt x end ≡ false → list_any (λ r. p r && nat_lt r end) xs ≡ false
+none_before : (p : ℕ → Bool) (end x : ℕ) (xs : List ℕ) → All (λ r. x ≤ r) xs → nat_lt x end ≡ false
+    → list_any (λ r. p r && nat_lt r end) xs ≡ false
 none_before p end x [] all fails_it = refl
 none_before p end x (y ∷ ys) all fails_it =
     let up : x ≤ y = All-head (λ r. x ≤ r) y ys all in
@@ -52,7 +55,8 @@ pub first_before :
 first_before p end [] up = refl
 first_before p end (x ∷ xs) up =
     ⊎_elim
-    (λ holds. rw holds (⊎_elim (λ h. rw h refl) (λ h. rw h (none_before p end x xs (pairs_head (λ a b. a ≤ b) x xs up) h)) (cases_Bool (nat_lt x end))))
+    (λ holds. rw holds (⊎_elim (λ h. rw h refl) (λ h. rw h (none_before p end x xs (pairs_head (λ a b. a ≤ b) x xs up) h))
+    (cases_Bool (nat_lt x end))))
     (λ fails_it. rw fails_it (first_before p end xs (pairs_tail (λ a b. a ≤ b) x xs up)))
     (cases_Bool (p x))
 
@@ -70,7 +74,8 @@ first_at R p x (y ∷ ys) pairs fails follows =
     (λ h. rw h refl)
     (λ h. rw h (list_any_none (nat_eq x) ys (λ k d short. follows y (get_or ys k d) holds h (pairs_head R y ys pairs k d short))))
     (cases_Bool (nat_eq x y))))
-    (λ fails_it. let other : nat_eq x y ≡ false = fails y fails_it in rw (fails_it, other) (first_at R p x ys (pairs_tail R y ys pairs) fails follows))
+    (λ fails_it. let other : nat_eq x y ≡ false = fails y fails_it in
+    rw (fails_it, other) (first_at R p x ys (pairs_tail R y ys pairs) fails follows))
     (cases_Bool (p y))
 
 -- none of the later ones lies before an end, and so each passes
@@ -90,14 +95,17 @@ pub first_passes :
 first_passes p own end [] up ends = refl
 first_passes p own end (x ∷ xs) up ends =
     let next : All (λ b. x + 8 ≤ b) xs = pairs_head (λ a b. a + 8 ≤ b) x xs up in
-    let rest : list_all (λ r. not (p r && nat_lt r end) || own r) xs ≡ passes_before own end (find p xs) = first_passes p own end xs (pairs_tail (λ a b. a + 8 ≤ b) x xs up) ends in
+    let rest : list_all (λ r. not (p r && nat_lt r end) || own r) xs ≡ passes_before own end (find p xs) =
+    first_passes p own end xs (pairs_tail (λ a b. a + 8 ≤ b) x xs up) ends in
     ⊎_elim
     (λ holds. rw holds (⊎_elim
     (λ h. rw h (⊎_elim
-    (λ is. let at : x + 8 ≡ end = ends x is in rw is (all_past p own end xs (λ k d short. let h : x + 8 ≤ get_or xs k d = next k d short in omega arith)))
+    (λ is. let at : x + 8 ≡ end = ends x is in rw is (all_past p own end xs
+    (λ k d short. let h : x + 8 ≤ get_or xs k d = next k d short in omega arith)))
     (λ is. rw is refl)
     (cases_Bool (own x))))
-    (λ h. let past : end ≤ x = grind (arith, nat_tests) in rw h (all_past p own end xs (λ k d short. let g : x + 8 ≤ get_or xs k d = next k d short in omega arith)))
+    (λ h. let past : end ≤ x = grind (arith, nat_tests) in rw h
+    (all_past p own end xs (λ k d short. let g : x + 8 ≤ get_or xs k d = next k d short in omega arith)))
     (cases_Bool (nat_lt x end))))
     (λ fails_it. rw fails_it rest)
     (cases_Bool (p x))
@@ -109,7 +117,8 @@ find-other p q [] r fails e is = cc
 find-other p q (x ∷ xs) r fails e is =
     ⊎_elim
     (λ holds. let same : Some x ≡ Some r = rw holds at e in let xr : x ≡ r = cc in let here : q x ≡ true = ap q xr ∙ is in rw here same)
-    (λ fails_it. let later : find p xs ≡ Some r = rw fails_it at e in let not_here : q x ≡ false = fails x fails_it in rw not_here (find-other p q xs r fails later is))
+    (λ fails_it. let later : find p xs ≡ Some r = rw fails_it at e in let not_here : q x ≡ false = fails x fails_it in
+    rw not_here (find-other p q xs r fails later is))
     (cases_Bool (p x))
 
 -- none passes a test where none passes a wider one
@@ -123,11 +132,3 @@ find-none p q (x ∷ xs) wider none =
     (cases_Bool (q x))
 
 -- ---- what is left of places
-
--- what fails is left behind
-pub find-left : (p : ℕ → Bool) (xs : List ℕ) (i : ℕ) → i < length xs → p (get_or xs i 0) ≡ false → find p (drop i xs) ≡ find p (drop (i + 1) xs)
-find-left p xs i short fails_it = rw (drop-cons xs i 0) (rw (fails_it, add-one) refl)
-
--- what passes is first
-pub find-here : (p : ℕ → Bool) (xs : List ℕ) (i : ℕ) → i < length xs → p (get_or xs i 0) ≡ true → find p (drop i xs) ≡ Some (get_or xs i 0)
-find-here p xs i short holds = rw (drop-cons xs i 0) (rw holds refl)

@@ -49,8 +49,10 @@ blank (insns.MoveImm sizes.Qword bits left lidx imm) fits is =
     let all : bits ≡ 64 = grind (arith, nat_tests) in
     let small : 0 < 2 ^ (bits - 1) = rw all (omega arith) in
     record { fits = (fits.0, fits.1, fits.2, fits.3, small); takes = (refl, all, refl) }
-blank (insns.Jump cond far relative op extra) fits is = let t = target_fits far relative op extra fits is in record { fits = t.0; takes = (t.1, refl, t.2) }
-blank (insns.Call far native relative op extra) fits is = let t = target_fits far relative op extra fits is in record { fits = t.0; takes = (t.1, refl, t.2) }
+blank (insns.Jump cond far relative op extra) fits is = let t = target_fits far relative op extra fits is in
+    record { fits = t.0; takes = (t.1, refl, t.2) }
+blank (insns.Call far native relative op extra) fits is = let t = target_fits far relative op extra fits is in
+    record { fits = t.0; takes = (t.1, refl, t.2) }
 blank i fits is = cc
 
 -- A label stands in place of the immediate.
@@ -65,6 +67,7 @@ may_takes i (Some t) target e may = may.0
 
 -- the same of an instruction that was made without its immediate
 pub made_fits :
-    (i j : Insn) (target : ℕ) → WellFormed i → takes_label i ≡ true → j ≡ without_immediate i → ListedFits (listed.Instruction j (Some target))
+    (i j : Insn) (target : ℕ) → WellFormed i → takes_label i ≡ true → j ≡ without_immediate i
+    → ListedFits (listed.Instruction j (Some target))
 made_fits i j target fits takes is =
     let P : Insn → Type 0 = λ k. ListedFits (listed.Instruction k (Some target)) in subst P (sym is) (label_fits i target fits takes)

@@ -1,5 +1,6 @@
 -- The lines of the bytes of a section, one item after the other, and their text.
-use Rattle.std.proofs.Common.{◌≡◌, ℕ, ◌+◌, ◌-◌, ◌<◌, ◌≤◌, zero, suc, Bool, List, [], ◌∷◌, ◌++◌, length, drop, refl, ap, sym, ◌∙◌, arith, append_assoc, append-nil, get_or, take, length-drop}
+use Rattle.std.proofs.Common.{◌≡◌, ℕ, ◌+◌, ◌-◌, ◌<◌, ◌≤◌, zero, suc, Bool, List, [], ◌∷◌, ◌++◌, length, drop, refl, ap, sym, ◌∙◌, arith}
+use Rattle.std.proofs.Common.{append_assoc, append-nil, get_or, take, length-drop}
 use Rattle.std.specs.List.{flat_map}
 use Rattle.std.proofs.lemmas.Grind.{flat_map-append}
 use Rattle.std.proofs.lemmas.List.{drop-drop, take_more}
@@ -9,7 +10,8 @@ use Rattle.asm_text.specs.declared.listing.Listed.{Listed}
 use Rattle.ebc_disasm.specs.Listings.{bytes_of, has_code, heading, item_at, label_lines, line_text, lines_from, section_lines, text_of}
 
 -- what is listed before some bytes passes over them
-passed : (image : Image) (code : Bool) (k x : ℕ) (bytes : List ℕ) → k ≤ length bytes → lines_from image code k x bytes ≡ lines_from image code 0 (x + k) (drop k bytes)
+passed : (image : Image) (code : Bool) (k x : ℕ) (bytes : List ℕ) → k ≤ length bytes
+    → lines_from image code k x bytes ≡ lines_from image code 0 (x + k) (drop k bytes)
 unfolding lines_from
 passed image code zero x bytes short = let same : x + 0 ≡ x = omega arith in rw same refl
 passed image code (suc k) x [] short = absurd (omega arith)
@@ -20,7 +22,8 @@ passed image code (suc k) x (b ∷ bytes) short =
 -- the lines of what is listed at a place stand before those of what follows it
 pub next_lines :
     (image : Image) (code : Bool) (x n : ℕ) (bytes : List ℕ) → n ≡ (item_at image code x bytes).1 → 1 ≤ n → n ≤ length bytes →
-    lines_from image code 0 x bytes ≡ (label_lines image x ++ (item_at image code x bytes).0 ∷ []) ++ lines_from image code 0 (x + n) (drop n bytes)
+    lines_from image code 0 x bytes ≡ (label_lines image x ++ (item_at image code x bytes).0 ∷ [])
+    ++ lines_from image code 0 (x + n) (drop n bytes)
 unfolding lines_from
 next_lines image code x zero bytes is some short = absurd (omega arith)
 next_lines image code x (suc k) [] is some short = absurd (omega arith)
@@ -98,11 +101,13 @@ pub more_sections :
     new ≡ text_of (flat_map (section_lines image) (take (i + 1) sections))
 more_sections image sections i s old new short is before put =
     let f : Section → List Listed = section_lines image in
-    let one : take (i + 1) sections ≡ take i sections ++ s ∷ [] = take_more sections i s short ∙ ap (λ t. take i sections ++ t ∷ []) (sym is) in
+    let one : take (i + 1) sections ≡ take i sections ++ s ∷ [] = take_more sections i s short
+    ∙ ap (λ t. take i sections ++ t ∷ []) (sym is) in
     let single : flat_map f (s ∷ []) ≡ f s = append-nil (f s) in
     put ∙ (ap (λ t. t ++ text_of (f s)) before
     ∙ (sym (text-append (flat_map f (take i sections)) (f s))
-    ∙ ap text_of (ap (λ ls. flat_map f (take i sections) ++ ls) (sym single) ∙ (sym (flat_map-append f (take i sections) (s ∷ [])) ∙ ap (flat_map f) (sym one)))))
+    ∙ ap text_of (ap (λ ls. flat_map f (take i sections) ++ ls) (sym single)
+    ∙ (sym (flat_map-append f (take i sections) (s ∷ [])) ∙ ap (flat_map f) (sym one)))))
 
 -- a line more
 pub text_pushed : (ls : List Listed) (line : Listed) → text_of (ls ++ line ∷ []) ≡ text_of ls ++ line_text line
@@ -114,4 +119,5 @@ pub item_lines :
     (labelled : List Listed) (line : Listed) (old mid new : List ℕ) → mid ≡ old ++ text_of labelled → new ≡ mid ++ line_text line →
     new ≡ old ++ text_of (labelled ++ line ∷ [])
 item_lines labelled line old mid new m n =
-    n ∙ (ap (λ t. t ++ line_text line) m ∙ (append_assoc old (text_of labelled) (line_text line) ∙ ap (λ t. old ++ t) (sym (text_pushed labelled line))))
+    n ∙ (ap (λ t. t ++ line_text line) m ∙ (append_assoc old (text_of labelled) (line_text line)
+    ∙ ap (λ t. old ++ t) (sym (text_pushed labelled line))))

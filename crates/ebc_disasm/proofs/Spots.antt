@@ -18,7 +18,8 @@ up : (xs : List ℕ) → AllPairs IsBelow xs → AllPairs (λ a b. a ≤ b) xs
 up xs apart i j d less short = let h = apart i j d less short in omega arith
 
 -- A place is relocated where the first relocation that reaches behind it is there.
-pub reloc_at : (image : Image) (spot : Spot) → IsImage image → IsSpot image spot → list_any (nat_eq spot.place) image.relocs ≡ is_at spot.place spot.reloc
+pub reloc_at : (image : Image) (spot : Spot) → IsImage image → IsSpot image spot
+    → list_any (nat_eq spot.place) image.relocs ≡ is_at spot.place spot.reloc
 reloc_at image spot is s =
     first_at IsBelow (reaches 8 spot.place) spot.place image.relocs is.apart
     (λ r h. grind (arith, nat_tests))
@@ -26,9 +27,11 @@ reloc_at image spot is s =
     ∙ ap (is_at spot.place) (sym s.reloc)
 
 -- A relocation lies on some bytes, where that one begins before their end.
-pub reloc_on : (image : Image) (spot : Spot) (n : ℕ) → IsImage image → IsSpot image spot → list_any (lies_on spot.place n) image.relocs ≡ is_before (spot.place + n) spot.reloc
+pub reloc_on : (image : Image) (spot : Spot) (n : ℕ) → IsImage image → IsSpot image spot
+    → list_any (lies_on spot.place n) image.relocs ≡ is_before (spot.place + n) spot.reloc
 reloc_on image spot n is s =
-    first_before (reaches 8 spot.place) (spot.place + n) image.relocs (up image.relocs is.apart) ∙ ap (is_before (spot.place + n)) (sym s.reloc)
+    first_before (reaches 8 spot.place) (spot.place + n) image.relocs (up image.relocs is.apart)
+    ∙ ap (is_before (spot.place + n)) (sym s.reloc)
 
 second : (a b c : Bool) → (a && b && c) ≡ true → b ≡ true
 second true true c h = refl
@@ -38,7 +41,8 @@ second false b c h = cc
 -- a relocation of an immediate ends with it
 ends_there : (image : Image) (i : Insn) (next r : ℕ) → is_of_immediate image i next r ≡ true → r + 8 ≡ next
 ends_there image i next r h =
-    let b : nat_eq (r + 8) next ≡ true = second (takes_label i) (nat_eq (r + 8) next) (is_some (named image r)) h in grind (arith, nat_tests)
+    let b : nat_eq (r + 8) next ≡ true = second (takes_label i) (nat_eq (r + 8) next) (is_some (named image r)) h in
+    grind (arith, nat_tests)
 
 -- Relocations on an instruction are of its immediate, where that one is or begins behind it.
 pub reloc_own :
@@ -46,7 +50,8 @@ pub reloc_own :
     list_all (λ r. not (lies_on spot.place n r) || is_of_immediate image i (spot.place + n) r) image.relocs
     ≡ passes_before (is_of_immediate image i (spot.place + n)) (spot.place + n) spot.reloc
 reloc_own image spot i n is s =
-    first_passes (reaches 8 spot.place) (is_of_immediate image i (spot.place + n)) (spot.place + n) image.relocs is.apart (λ r h. ends_there image i (spot.place + n) r h)
+    first_passes (reaches 8 spot.place) (is_of_immediate image i (spot.place + n)) (spot.place + n) image.relocs is.apart
+    (λ r h. ends_there image i (spot.place + n) r h)
     ∙ ap (passes_before (is_of_immediate image i (spot.place + n)) (spot.place + n)) (sym s.reloc)
 
 -- a relocation that ends behind a place reaches behind it
@@ -109,5 +114,6 @@ insn_by image spot i n is s some =
     rw (s.label n, reloc_own image spot i n is s)
     (⊎_elim
     (λ h. rw h refl)
-    (λ h. rw h (uncut image i n (spot.place + n) spot.reloc (no_label image spot n is s some) (λ r at ends. its_label image spot n r s some at ends)))
+    (λ h. rw h (uncut image i n (spot.place + n) spot.reloc (no_label image spot n is s some)
+    (λ r at ends. its_label image spot n r s some at ends)))
     (cases_Bool (is_before (spot.place + n) spot.label)))

@@ -1,8 +1,9 @@
--- The listing of an image, as lines: docs/ASSEMBLY.md, "Listings". A place is an offset from the image's base.
-use Rattle.std.specs.Prelude.{ℕ, zero, suc, ◌+◌, ◌-◌, ◌*◌, ◌/◌, ◌%◌, Bool, false, not, ◌&&◌, ◌||◌, List, [], ◌∷◌, ◌++◌, length, Option, Some, None, is_some, option_map, Result, Ok, Err, nat_eq, nat_le, nat_lt, if◌then◌else◌, pos}
+-- Meaning: the listing of an image, as lines: docs/ASSEMBLY.md, "Listings". A place is an offset from the image's base.
+use Rattle.std.specs.Prelude.{[], ℕ, zero, suc, ◌+◌, ◌-◌, ◌*◌, ◌/◌, ◌%◌, Bool, false, not, ◌&&◌, ◌||◌, List, ◌∷◌, ◌++◌, length, Option}
+use Rattle.std.specs.Prelude.{Some}
+use Rattle.std.specs.Prelude.{None, is_some, option_map, Result, Ok, Err, nat_eq, nat_le, nat_lt, if◌then◌else◌, pos}
 use Rattle.std.specs.List.{list_any, list_all, find, filter_map, flat_map}
 use Rattle.std.specs.Option.{option_and_then, option_or, unwrap_or}
-use Rattle.ebc_width.specs.Bytes.{little_endian}
 use Rattle.ebc_insn.specs.declared.Insn.{Insn}
 use Rattle.ebc_insn.specs.declared.Insn.TheVariants as insns
 use Rattle.ebc_insn.specs.declared.Size.TheVariants as sizes
@@ -12,16 +13,12 @@ use Rattle.ebc_decode.specs.Reading.{read}
 use Rattle.pe_image.specs.declared.image.Image.{Image}
 use Rattle.pe_image.specs.declared.image.Section.{Section}
 use Rattle.pe_image.specs.Files.{zeros}
-use Rattle.pe_image.specs.Mapped.{distance_of, has_place, laid}
+use Rattle.pe_image.specs.Mapped.{has_place, named_place}
 use Rattle.asm_text.specs.declared.listing.Listed.{Listed}
 use Rattle.asm_text.specs.declared.listing.Listed.TheVariants as listed
 use Rattle.asm_text.specs.Writing.{listed_text}
 
 -- ---- relocations and labels
-
--- the target of a relocation: the place that the number in its eight bytes names, which is the number less the image's base
-unfoldable pub target_of : Image → ℕ → ℕ
-target_of image r = distance_of (little_endian (laid image.sections) r 8) image.base
 
 -- whether a place is in a section
 unfoldable pub in_section : Image → ℕ → Bool
@@ -29,7 +26,7 @@ in_section image x = list_any (has_place x) image.sections
 
 -- the target of a relocation, if it is in a section
 unfoldable pub named : Image → ℕ → Option ℕ
-named image r = if in_section image (target_of image r) then Some (target_of image r) else None
+named image r = if in_section image (named_place image r) then Some (named_place image r) else None
 
 -- the places with a label: where the image is entered, and the targets of relocations
 unfoldable pub labels : Image → List ℕ

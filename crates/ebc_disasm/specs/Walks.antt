@@ -1,5 +1,6 @@
--- What the code keeps of the relocations and labels that are still to come. No caller sees it.
-use Rattle.std.specs.Prelude.{◌≡◌, ⊤, ℕ, ◌+◌, ◌^◌, ◌<◌, ◌≤◌, List, Bool, true, false, not, ◌&&◌, ◌||◌, Option, Some, None, option_map, nat_eq, nat_lt, if◌then◌else◌}
+-- For proofs: what the code keeps of the relocations and labels that are still to come. No caller sees it.
+use Rattle.std.specs.Prelude.{◌≡◌, ⊤, ℕ, ◌+◌, ◌^◌, ◌<◌, ◌≤◌, List, Bool, true, false, not, ◌&&◌, ◌||◌, Option, Some, None, option_map}
+use Rattle.std.specs.Prelude.{nat_eq, nat_lt, if◌then◌else◌}
 use Rattle.std.specs.List.{find, list_any}
 use Rattle.ebc_insn.specs.declared.Insn.{Insn}
 use Rattle.asm_text.specs.declared.listing.Listed.{Listed}

@@ -8,7 +8,8 @@ use Rattle.ebc_insn.specs.declared.Cond.TheVariants.{Always, Set, Clear}
 use Rattle.ebc_insn.specs.declared.Size.TheVariants.{Byte, Dword, Qword, Natural}
 use Rattle.ebc_insn.specs.declared.CmpOp.TheVariants.{Eq, Ugte}
 use Rattle.ebc_insn.specs.declared.ArithOp.TheVariants.{Add, Extd}
-use Rattle.ebc_insn.specs.declared.Insn.TheVariants.{Arith, Break, Call, Compare, CompareImm, Jump, Jump8, LoadSpecial, Move, MoveImm, MoveImmNatural, MoveRelative, MoveSigned, PopNatural, Push, Ret, StoreSpecial}
+use Rattle.ebc_insn.specs.declared.Insn.TheVariants.{Arith, Break, Call, Compare, CompareImm, Jump, Jump8, LoadSpecial, Move, MoveImm}
+use Rattle.ebc_insn.specs.declared.Insn.TheVariants.{MoveImmNatural, MoveRelative, MoveSigned, PopNatural, Push, Ret, StoreSpecial}
 use Rattle.ebc_insn.specs.Spelling.{WellFormed, bytes_of, field_bytes, spelling}
 
 abbrev r : ℕ → Operand

@@ -1,6 +1,7 @@
--- Which instructions have a spelling, and the bytes that spell each: UEFI specification, chapter "EFI Byte Code
+-- Meaning: which instructions have a spelling, and the bytes that spell each: UEFI specification, chapter "EFI Byte Code
 -- Virtual Machine", sections "Instruction Encoding" and "EBC Instruction Set"; in words in docs/ENCODING.md.
-use Rattle.std.specs.Prelude.{◌≡◌, ◌⊎◌, ℕ, ◌+◌, ◌-◌, ◌*◌, ◌^◌, ◌<◌, Bool, true, false, List, [], ◌∷◌, ◌++◌, Option, Some, None, is_some, nat_eq, if◌then◌else◌, ℤ, pos, negsuc, ⊤}
+use Rattle.std.specs.Prelude.{◌≡◌, ◌⊎◌, ℕ, ◌+◌, ◌-◌, ◌*◌, ◌^◌, ◌<◌, Bool, true, false, List, [], ◌∷◌, ◌++◌, Option, Some, None, is_some}
+use Rattle.std.specs.Prelude.{nat_eq, if◌then◌else◌, ℤ, pos, negsuc, ⊤}
 use Rattle.std.specs.Int.{w16, w32, w64, to_le_bytes}
 use Rattle.natural_index.specs.Index.{IsIndex, IsIndexSize, bit, raw_of}
 use Rattle.natural_index.specs.declared.Index.{Index}
@@ -14,9 +15,12 @@ use Rattle.ebc_insn.specs.declared.Size.TheVariants.{Byte, Word, Dword, Qword, N
 use Rattle.ebc_insn.specs.declared.CmpOp.{CmpOp}
 use Rattle.ebc_insn.specs.declared.CmpOp.TheVariants.{Eq, Lte, Gte, Ulte, Ugte}
 use Rattle.ebc_insn.specs.declared.ArithOp.{ArithOp}
-use Rattle.ebc_insn.specs.declared.ArithOp.TheVariants.{Not, Neg, Add, Sub, Mul, Mulu, Div, Divu, Mod, Modu, And, Or, Xor, Shl, Shr, Ashr, Extb, Extw, Extd}
+use Rattle.ebc_insn.specs.declared.ArithOp.TheVariants.{Not, Neg, Add, Sub, Mul, Mulu, Div, Divu, Mod, Modu, And, Or, Xor, Shl, Shr, Ashr}
+use Rattle.ebc_insn.specs.declared.ArithOp.TheVariants.{Extb, Extw, Extd}
 use Rattle.ebc_insn.specs.declared.Insn.{Insn}
-use Rattle.ebc_insn.specs.declared.Insn.TheVariants.{Break, Jump, Jump8, Call, Ret, Compare, CompareImm, Arith, Move, MoveSigned, MoveImm, MoveImmNatural, MoveRelative, LoadSpecial, StoreSpecial, Push, Pop, PushNatural, PopNatural}
+use Rattle.ebc_insn.specs.declared.Insn.TheVariants.{Break, Jump, Jump8, Call, Ret, Compare, CompareImm, Arith, Move, MoveSigned, MoveImm}
+use Rattle.ebc_insn.specs.declared.Insn.TheVariants.{MoveImmNatural, MoveRelative, LoadSpecial, StoreSpecial, Push, Pop, PushNatural}
+use Rattle.ebc_insn.specs.declared.Insn.TheVariants.{PopNatural}
 use Rattle.ebc_insn.specs.declared.code.Code.{Code}
 use Rattle.ebc_insn.specs.declared.code.Field.{Field}
 use Rattle.ebc_insn.specs.declared.code.Field.TheVariants as fields

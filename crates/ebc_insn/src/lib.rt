@@ -16,7 +16,7 @@ pub use code::{Code, Field, parts};
 use natural_index::Index;
 
 /// An operand (UEFI specification, "EBC Instruction Operands"): a register, or the memory at the address in it.
-#[derive(Clone, Copy, PartialEq, Eq, Debug)]
+#[derive(Clone, Copy, PartialEq, Eq)]
 pub struct Operand {
     /// The number of the register: 0 to 7 for R0 to R7. No instruction with another number has a spelling.
     pub reg: u8,
@@ -26,7 +26,7 @@ pub struct Operand {
 
 /// What stands beside an operand (UEFI specification, "Immediate Operands" and "Indexed Operands"): nothing, a number
 /// beside a direct operand, or an index beside an indirect one.
-#[derive(Clone, Copy, PartialEq, Eq, Debug)]
+#[derive(Clone, Copy, PartialEq, Eq)]
 pub enum Extra {
     Nothing,
     /// A signed number that is added to the register, of 16, 32 or 64 bits as the instruction has it.
@@ -36,7 +36,7 @@ pub enum Extra {
 }
 
 /// When a jump is taken, by the flag C (UEFI specification, "JMP" and "JMP8").
-#[derive(Clone, Copy, PartialEq, Eq, Debug)]
+#[derive(Clone, Copy, PartialEq, Eq)]
 pub enum Cond {
     Always,
     /// Where C is set.
@@ -47,7 +47,7 @@ pub enum Cond {
 
 /// How much a move moves (UEFI specification, "MOV", "MOVI" and "MOVn"): 8, 16, 32 or 64 bits, or a natural unit, which
 /// is as wide as an address.
-#[derive(Clone, Copy, PartialEq, Eq, Debug)]
+#[derive(Clone, Copy, PartialEq, Eq)]
 pub enum Size {
     Byte,
     Word,
@@ -57,7 +57,7 @@ pub enum Size {
 }
 
 /// A comparison of operand 1 with operand 2 (UEFI specification, "CMP"), signed, or unsigned where the name begins with U.
-#[derive(Clone, Copy, PartialEq, Eq, Debug)]
+#[derive(Clone, Copy, PartialEq, Eq)]
 pub enum CmpOp {
     Eq,
     Lte,
@@ -68,7 +68,7 @@ pub enum CmpOp {
 
 /// An operation that leaves its result in operand 1 (UEFI specification, "EBC Instruction Set"), in the order of the
 /// opcodes.
-#[derive(Clone, Copy, PartialEq, Eq, Debug)]
+#[derive(Clone, Copy, PartialEq, Eq)]
 pub enum ArithOp {
     Not,
     Neg,
@@ -96,7 +96,7 @@ pub enum ArithOp {
 /// Where a variant has `wide`, it works on 64 bits if that is set and else on 32. `bits` is how many bits an immediate
 /// or an index has in the spelling: 16, 32 or 64. `left` and `right` are operands 1 and 2, as is `op` of what has one,
 /// and `extra` stands beside the last of them. `lidx` is the index of operand 1, and `ridx` that of operand 2.
-#[derive(Clone, Copy, PartialEq, Eq, Debug)]
+#[derive(Clone, Copy, PartialEq, Eq)]
 pub enum Insn {
     /// BREAK: an exception or a call of the virtual machine, by its code.
     Break {

@@ -34,7 +34,8 @@ object_limit-stored m a k v = either (holds (ranges m) a k)
     either true = refl
     either false = refl
 
-pub bytes-stored : (m : Memory) (a k v : ℕ) → holds (ranges m) a k ≡ true → memory.byte_at (memory.memory_after m a k v) ≡ put (memory.byte_at m) a k v
+pub bytes-stored : (m : Memory) (a k v : ℕ) → holds (ranges m) a k ≡ true
+    → memory.byte_at (memory.memory_after m a k v) ≡ put (memory.byte_at m) a k v
 bytes-stored m a k v held = fun_ext (λ x. byte_at-memory_after m a k v x held)
 
 -- ---- the rest of an object
@@ -43,7 +44,8 @@ found_range : (x : ℕ) (os : List Object) → option_map range_of (find (has_by
 found_range x [] = refl
 found_range x (o ∷ os) = chosen (has_byte x o) (find (has_byte x) os) (find (covers x 1) (map range_of os)) (found_range x os)
   where
-    chosen : (here : Bool) (there : Option Object) (other : Option Range) → option_map range_of there ≡ other → option_map range_of (cond here (Some o) there) ≡ cond here (Some (range_of o)) other
+    chosen : (here : Bool) (there : Option Object) (other : Option Range) → option_map range_of there ≡ other
+        → option_map range_of (cond here (Some o) there) ≡ cond here (Some (range_of o)) other
     chosen true there other same = refl
     chosen false there other same = same
 
@@ -51,7 +53,8 @@ pub rest_from-same : {w : ℕ} (c : Machine w) (m : Memory) (x : ℕ) → IsMemo
 unfolding rest_from memory.rest_from memory.object_at
 rest_from-same {w} c m x is = either (memory.object_at m x) refl
   where
-    either : (at : Option Object) → memory.object_at m x ≡ at → memory.rest_from m x ≡ option_map (rest_of (memory.byte_at m) x) (find (covers x 1) (ranges m))
+    either : (at : Option Object) → memory.object_at m x ≡ at → memory.rest_from m x ≡ option_map (rest_of (memory.byte_at m) x)
+        (find (covers x 1) (ranges m))
     either None none =
         ap (option_map (λ (o : Object). _)) none
         ∙ ap (option_map (rest_of (memory.byte_at m) x)) (sym (ap (option_map range_of) none) ∙ found_range x m.objects)

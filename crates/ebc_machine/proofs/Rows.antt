@@ -30,30 +30,41 @@ code_at code = record {
 }
 
 -- MOVInw R4, (+1,+0)
-natural_unit_4 : (machine_step 4 (code_at (0x78 ∷ 0x04 ∷ 0x01 ∷ 0x10 ∷ []))).1.registers ≡ 0x1010 ∷ 0xFFFF_FFFF_0000_0001 ∷ 0xFFFF_FFFF ∷ 0 ∷ 4 ∷ 0 ∷ 0 ∷ 0 ∷ []
-unfolding machine_step instruction_done executed fetched rest_from window reading.read form_at is_reserved has_left_index size1_at size2_at field_at insn_at parts_at fields_of move_imm_natural_row written with_register goes at_ip
+natural_unit_4 : (machine_step 4
+    (code_at (0x78 ∷ 0x04 ∷ 0x01 ∷ 0x10 ∷ []))).1.registers ≡ 0x1010 ∷ 0xFFFF_FFFF_0000_0001 ∷ 0xFFFF_FFFF ∷ 0 ∷ 4 ∷ 0 ∷ 0 ∷ 0 ∷ []
+unfolding machine_step instruction_done executed fetched rest_from window reading.read form_at is_reserved has_left_index size1_at size2_at
+    field_at insn_at parts_at fields_of move_imm_natural_row written with_register goes at_ip
 natural_unit_4 = refl
 
-natural_unit_8 : (machine_step 8 (code_at (0x78 ∷ 0x04 ∷ 0x01 ∷ 0x10 ∷ []))).1.registers ≡ 0x1010 ∷ 0xFFFF_FFFF_0000_0001 ∷ 0xFFFF_FFFF ∷ 0 ∷ 8 ∷ 0 ∷ 0 ∷ 0 ∷ []
-unfolding machine_step instruction_done executed fetched rest_from window reading.read form_at is_reserved has_left_index size1_at size2_at field_at insn_at parts_at fields_of move_imm_natural_row written with_register goes at_ip
+natural_unit_8 : (machine_step 8
+    (code_at (0x78 ∷ 0x04 ∷ 0x01 ∷ 0x10 ∷ []))).1.registers ≡ 0x1010 ∷ 0xFFFF_FFFF_0000_0001 ∷ 0xFFFF_FFFF ∷ 0 ∷ 8 ∷ 0 ∷ 0 ∷ 0 ∷ []
+unfolding machine_step instruction_done executed fetched rest_from window reading.read form_at is_reserved has_left_index size1_at size2_at
+    field_at insn_at parts_at fields_of move_imm_natural_row written with_register goes at_ip
 natural_unit_8 = refl
 
 -- ADD32 R1, R2: the upper half is cleared
 sum_narrow : (machine_step 8 (code_at (0x0C ∷ 0x21 ∷ 0 ∷ 0 ∷ []))).1.registers ≡ 0x1010 ∷ 0 ∷ 0xFFFF_FFFF ∷ 0 ∷ 0 ∷ 0 ∷ 0 ∷ 0 ∷ []
-unfolding machine_step instruction_done executed fetched rest_from window reading.read form_at is_reserved has_left_index size1_at size2_at field_at insn_at parts_at arith_row value sum_at computed written with_register goes at_ip
+unfolding machine_step instruction_done executed fetched rest_from window reading.read form_at is_reserved has_left_index size1_at size2_at
+    field_at insn_at parts_at arith_row value sum_at computed written with_register goes at_ip
 sum_narrow = refl
 
 -- DIV64 R1, R3
 by_zero : (machine_step 8 (code_at (0x50 ∷ 0x31 ∷ 0 ∷ 0 ∷ []))).0 ≡ ends.Raised raises.DivideError
-unfolding machine_step instruction_done executed fetched rest_from window reading.read form_at is_reserved has_left_index size1_at size2_at field_at insn_at parts_at arith_row value sum_at computed written with_register goes at_ip
+unfolding machine_step instruction_done executed fetched rest_from window reading.read form_at is_reserved has_left_index size1_at size2_at
+    field_at insn_at parts_at arith_row value sum_at computed written with_register goes at_ip
 by_zero = refl
 
 -- POP32 R4: the sign, and R0
-popped_sign : (machine_step 8 (code_at (0x2C ∷ 0x04 ∷ 0 ∷ 0 ∷ []))).1.registers ≡ 0x1014 ∷ 0xFFFF_FFFF_0000_0001 ∷ 0xFFFF_FFFF ∷ 0 ∷ 0xFFFF_FFFF_FFFF_FFFF ∷ 0 ∷ 0 ∷ 0 ∷ []
-unfolding machine_step instruction_done executed fetched rest_from window reading.read form_at is_reserved has_left_index size1_at size2_at field_at insn_at parts_at pop_row loaded_at loaded holds little_endian address sum_at popped raised_by with_register goes at_ip
+popped_sign : (machine_step 8
+    (code_at (0x2C ∷ 0x04 ∷ 0 ∷ 0 ∷ []))).1.registers ≡ 0x1014 ∷ 0xFFFF_FFFF_0000_0001 ∷ 0xFFFF_FFFF ∷ 0 ∷ 0xFFFF_FFFF_FFFF_FFFF ∷ 0 ∷ 0 ∷ 0
+    ∷ []
+unfolding machine_step instruction_done executed fetched rest_from window reading.read form_at is_reserved has_left_index size1_at size2_at
+    field_at insn_at parts_at pop_row loaded_at loaded holds little_endian address sum_at popped raised_by with_register goes at_ip
 popped_sign = refl
 
 -- CALL32 R2, to an odd target
 call_target : (machine_step 4 (code_at (0x03 ∷ 0x02 ∷ 0 ∷ 0 ∷ []))).0 ≡ ends.Raised raises.AlignmentCheck
-unfolding machine_step instruction_done executed fetched rest_from window reading.read form_at is_reserved has_left_index size1_at size2_at field_at insn_at parts_at call_row target_at target_number called stored_at stored holds put address sum_at lowered_by with_register goes at_ip
+unfolding machine_step instruction_done executed fetched rest_from window reading.read form_at is_reserved has_left_index size1_at size2_at
+    field_at insn_at parts_at call_row target_at target_number called stored_at stored holds put address sum_at lowered_by with_register
+    goes at_ip
 call_target = refl

@@ -1,5 +1,5 @@
--- Arithmetic and comparisons: UEFI specification, chapter "EFI Byte Code Virtual Machine", section "EBC Instruction Set",
--- from "ADD" to "XOR", "CMP" and "CMPI"; in words in docs/MACHINE.md, "Data". The width w is how many bytes an address
+-- Meaning: Arithmetic and comparisons: UEFI specification, chapter "EFI Byte Code Virtual Machine", section "EBC Instruction
+-- Set", from "ADD" to "XOR", "CMP" and "CMPI"; in words in docs/MACHINE.md, "Data". The width w is how many bytes an address
 -- has, and `next` is the address of the next instruction.
 use Rattle.std.specs.Prelude.{ℕ, ◌+◌, ◌*◌, ◌/◌, Bool, ℤ, if◌then◌else◌}
 use Rattle.ebc_base.specs.Steps.{◌>>=◌}

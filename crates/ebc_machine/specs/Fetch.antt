@@ -1,5 +1,5 @@
--- The instruction at ip: UEFI specification, chapter "EFI Byte Code Virtual Machine", sections "Instruction Encoding" and
--- "VM Exception Handling"; in words in docs/MACHINE.md, "A step".
+-- Meaning: the instruction at ip: UEFI specification, chapter "EFI Byte Code Virtual Machine", sections "Instruction
+-- Encoding" and "VM Exception Handling"; in words in docs/MACHINE.md, "A step".
 use Rattle.std.specs.Prelude.{ℕ, Result, Ok, Err}
 use Rattle.ebc_base.specs.Steps.{◌>>=◌, or_else}
 use Rattle.ebc_insn.specs.declared.Insn.{Insn}

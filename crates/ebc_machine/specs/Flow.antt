@@ -1,6 +1,6 @@
--- Jumps, calls, returns and BREAK: UEFI specification, chapter "EFI Byte Code Virtual Machine", section "EBC Instruction
--- Set", "BREAK", "CALL", "JMP", "JMP8" and "RET"; in words in docs/MACHINE.md, "Flow". The width w is how many bytes an
--- address has, and `next` is the address of the next instruction.
+-- Meaning: Jumps, calls, returns and BREAK: UEFI specification, chapter "EFI Byte Code Virtual Machine", section "EBC
+-- Instruction Set", "BREAK", "CALL", "JMP", "JMP8" and "RET"; in words in docs/MACHINE.md, "Flow". The width w is how many
+-- bytes an address has, and `next` is the address of the next instruction.
 use Rattle.std.specs.Prelude.{ℕ, ◌+◌, ◌%◌, ◌^◌, Bool, true, Result, Ok, Err, ℤ, pos, ◌*ℤ◌, nat_eq, if◌then◌else◌}
 use Rattle.ebc_base.specs.Steps.{◌>>=◌, or_else}
 use Rattle.ebc_width.specs.Width.{cut_at, wrap64}

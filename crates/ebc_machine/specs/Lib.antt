@@ -1,9 +1,11 @@
 pub mod Data
 pub mod Fetch
 pub mod Flow
+pub mod Forms
 pub mod Moves
 pub mod Operands
 pub mod Results
 pub mod Stack
 pub mod States
 pub mod Step
+pub mod Laws

@@ -1,6 +1,6 @@
--- Moves: UEFI specification, chapter "EFI Byte Code Virtual Machine", section "EBC Instruction Set", "MOV" to "MOVsn",
--- "LOADSP" and "STORESP"; in words in docs/MACHINE.md, "Moves". The width w is how many bytes an address has,
--- and `next` is the address of the next instruction.
+-- Meaning: Moves: UEFI specification, chapter "EFI Byte Code Virtual Machine", section "EBC Instruction Set", "MOV" to
+-- "MOVsn", "LOADSP" and "STORESP"; in words in docs/MACHINE.md, "Moves". The width w is how many bytes an address has, and
+-- `next` is the address of the next instruction.
 use Rattle.std.specs.Prelude.{ℕ, ◌+◌, ◌*◌, ◌/◌, ◌%◌, ◌^◌, ℤ, nat_eq, if◌then◌else◌}
 use Rattle.ebc_base.specs.Steps.{◌>>=◌}
 use Rattle.ebc_width.specs.Width.{extended_at, wrap64}

@@ -1,6 +1,6 @@
--- The operands of an instruction: the value of operand 2, and where operand 1 is. UEFI specification, chapter "EFI Byte
--- Code Virtual Machine", sections "EBC Instruction Operands" and "Natural Indexing"; in words in docs/MACHINE.md, "Operands".
--- The width w is how many bytes an address has, 4 or 8.
+-- Meaning: the operands of an instruction: the value of operand 2, and where operand 1 is. UEFI specification, chapter "EFI
+-- Byte Code Virtual Machine", sections "EBC Instruction Operands" and "Natural Indexing"; in words in docs/MACHINE.md,
+-- "Operands". The width w is how many bytes an address has, 4 or 8.
 use Rattle.std.specs.Prelude.{ℕ, ◌+◌, ◌*◌, ◌%◌, ◌^◌, Bool, Option, Some, None, Result, Ok, if◌then◌else◌}
 use Rattle.ebc_base.specs.Steps.{or_else}
 use Rattle.ebc_width.specs.Width.{cut_at, wrap64}

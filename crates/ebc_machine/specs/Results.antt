@@ -1,5 +1,6 @@
--- What an instruction gives: how the step ends and the state after it, or the exception that it raises. UEFI specification,
--- chapter "EFI Byte Code Virtual Machine", section "VM Exception Handling"; in words in docs/MACHINE.md, "Exceptions".
+-- Meaning: what an instruction gives: how the step ends and the state after it, or the exception that it raises. UEFI
+-- specification, chapter "EFI Byte Code Virtual Machine", section "VM Exception Handling"; in words in docs/MACHINE.md,
+-- "Exceptions".
 use Rattle.std.specs.Prelude.{ℕ, Result, Ok, Err}
 use Rattle.machine_alu.specs.declared.DivideError.{DivideError}
 use Rattle.note_types.specs.Concrete.{Concrete, at_ip}

@@ -1,5 +1,5 @@
--- PUSH and POP: UEFI specification, chapter "EFI Byte Code Virtual Machine", section "EBC Instruction Set", "PUSH" to
--- "POPn"; in words in docs/MACHINE.md, "The stack". R0 is the address of the top of the stack. The width w is how many
+-- Meaning: PUSH and POP: UEFI specification, chapter "EFI Byte Code Virtual Machine", section "EBC Instruction Set", "PUSH"
+-- to "POPn"; in words in docs/MACHINE.md, "The stack". R0 is the address of the top of the stack. The width w is how many
 -- bytes an address has, and `next` is the address of the next instruction.
 use Rattle.std.specs.Prelude.{ℕ, ◌+◌, ◌-◌, ◌%◌, ◌^◌, Bool, Ok, nat_eq, if◌then◌else◌}
 use Rattle.ebc_base.specs.Steps.{◌>>=◌}

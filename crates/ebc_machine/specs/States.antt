@@ -1,4 +1,4 @@
--- The state of a machine and its memory in numbers, and what a call makes of them. docs/MACHINE.md, "The state".
+-- For proofs: the state of a machine and its memory in numbers, and what a call makes of them. docs/MACHINE.md, "The state".
 use Rattle.std.specs.Prelude.{◌≡◌, ℕ, Result, Ok, Err, ⊤}
 use Rattle.object_memory.specs.Memory.{Memory, byte_at, ranges}
 use Rattle.note_types.specs.Concrete.{Concrete}

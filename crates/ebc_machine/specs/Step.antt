@@ -1,4 +1,4 @@
--- One step of the machine: a row for each form of instruction. UEFI specification, chapter "EFI Byte Code Virtual
+-- Meaning: One step of the machine: a row for each form of instruction. UEFI specification, chapter "EFI Byte Code Virtual
 -- Machine", section "EBC Instruction Set"; in words in docs/MACHINE.md, "A step". The width w is how many bytes an address
 -- has, 4 or 8.
 use Rattle.std.specs.Prelude.{ℕ, ◌+◌, ◌%◌, ◌^◌, true, false, Ok, Err, nat_eq, if◌then◌else◌}
@@ -11,7 +11,8 @@ use Rattle.ebc_machine.specs.declared.StepEnd.TheVariants as ends
 use Rattle.ebc_machine.specs.Results.{Row}
 use Rattle.ebc_machine.specs.Operands.{form_bytes, plain, with_index, with_extra}
 use Rattle.ebc_machine.specs.Data.{arith_row, compare_row, compare_imm_row}
-use Rattle.ebc_machine.specs.Moves.{move_row, move_signed_row, move_imm_row, move_imm_natural_row, move_relative_row, load_special_row, store_special_row}
+use Rattle.ebc_machine.specs.Moves.{move_row, move_signed_row, move_imm_row, move_imm_natural_row, move_relative_row, load_special_row}
+use Rattle.ebc_machine.specs.Moves.{store_special_row}
 use Rattle.ebc_machine.specs.Stack.{push_row, pop_row}
 use Rattle.ebc_machine.specs.Flow.{jump_row, jump8_row, call_row, call_native_row, return_row, break_row}
 use Rattle.ebc_machine.specs.Fetch.{fetched}
@@ -28,7 +29,8 @@ executed w s next (insns.Compare op wide left right extra) = compare_row w s nex
 executed w s next (insns.CompareImm op wide left idx long imm) = compare_imm_row w s next op wide (with_index w left idx) imm
 executed w s next (insns.Arith op wide left right extra) = arith_row w s next op wide (plain left) (with_extra w right extra)
 executed w s next (insns.Move size bits left right lidx ridx) = move_row w s next size (with_index w left lidx) (with_index w right ridx)
-executed w s next (insns.MoveSigned bits left right lidx extra) = move_signed_row w s next (with_index w left lidx) (with_extra w right extra)
+executed w s next (insns.MoveSigned bits left right lidx extra) =
+    move_signed_row w s next (with_index w left lidx) (with_extra w right extra)
 executed w s next (insns.MoveImm size bits left lidx imm) = move_imm_row w s next size (with_index w left lidx) imm
 executed w s next (insns.MoveImmNatural bits left lidx idx) = move_imm_natural_row w s next (with_index w left lidx) idx
 executed w s next (insns.MoveRelative bits left lidx imm) = move_relative_row w s next (with_index w left lidx) imm

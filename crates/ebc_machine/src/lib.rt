@@ -5,6 +5,7 @@
 mod access;
 mod data;
 mod flow;
+mod laws;
 mod moves;
 mod operand;
 mod stack;
@@ -14,6 +15,7 @@ ghost use Rattle.ebc_width.specs.Width.{IsWidth};
 ghost use Rattle.ebc_insn.specs.Spelling.{WellFormed};
 ghost use Rattle.ebc_machine.specs.Fetch.{exception_of};
 
+pub use crate::laws::{machine_is_concrete, step_keeps_concrete};
 pub use crate::operand::Side;
 use crate::operand::form_bytes;
 use ebc_decode::{DecodeFault, decode};
@@ -22,7 +24,7 @@ use note_types::Exception;
 use object_memory::ObjMem;
 
 /// How a step ends.
-#[derive(Clone, Copy, PartialEq, Eq, Debug)]
+#[derive(Clone, Copy, PartialEq, Eq)]
 pub enum StepEnd {
     /// The instruction at ip is done.
     Next,
@@ -38,7 +40,7 @@ pub enum StepEnd {
 }
 
 /// The registers of a machine whose pointers have `W` bytes, 4 or 8.
-#[derive(Clone, Copy, PartialEq, Eq, Debug)]
+#[derive(Clone, Copy, PartialEq, Eq)]
 pub struct Machine<const W: usize> {
     /// R0 to R7. R0 is the address of the top of the stack.
     pub regs: [u64; 8],
@@ -52,6 +54,7 @@ pub struct Machine<const W: usize> {
 
 impl<const W: usize> Machine<W> {
     ghost use Rattle.ebc_machine.specs.States.{KeepsObjects, concrete_of, Ends, LeavesAll};
+    ghost use Rattle.ebc_machine.specs.Forms.{IsMove, IsPushOrPop};
     ghost use Rattle.ebc_machine.specs.Step.{executed, machine_step};
 
     /// One step: the instruction at ip, or nothing where ip is the gate address.
@@ -152,6 +155,35 @@ impl<const W: usize> Machine<W> {
                 let right = Self::with_extra(16, right, extra);
                 self.arith(mem, next, *op, *wide, Side::plain(left), right)
             }
+            Insn::Move { .. }
+            | Insn::MoveSigned { .. }
+            | Insn::MoveImm { .. }
+            | Insn::MoveImmNatural { .. }
+            | Insn::MoveRelative { .. }
+            | Insn::LoadSpecial { .. }
+            | Insn::StoreSpecial { .. } => self.execute_move(mem, next, insn),
+            Insn::Push { .. }
+            | Insn::Pop { .. }
+            | Insn::PushNatural { .. }
+            | Insn::PopNatural { .. } => self.execute_stack(mem, next, insn),
+        }
+    }
+
+    // Does an instruction that moves, or that loads or stores a special register.
+    #[inline(always)]
+    #[tactic(auto, unfolding(crate::specs::Step::executed))]
+    fn execute_move(
+        &mut self,
+        mem: &mut ObjMem<W>,
+        next: u64,
+        insn: &Insn,
+    ) -> Result<StepEnd, Exception>
+        requires width { IsWidth W }
+        requires well_formed { WellFormed insn.now }
+        requires form { IsMove insn.now }
+        ensures { Ends self.old mem.old self.new mem.new result (executed W (concrete_of self.old mem.old) next insn.now) }
+    {
+        match insn {
             Insn::Move {
                 size,
                 bits,
@@ -199,6 +231,25 @@ impl<const W: usize> Machine<W> {
             } => self.move_relative(mem, next, Self::with_index(16, left, lidx), *imm),
             Insn::LoadSpecial { from } => self.load_special(mem, next, *from),
             Insn::StoreSpecial { to, special } => self.store_special(mem, next, *to, *special),
+            _ => unreachable!(),
+        }
+    }
+
+    // Does an instruction that pushes or pops.
+    #[inline(always)]
+    #[tactic(auto, unfolding(crate::specs::Step::executed))]
+    fn execute_stack(
+        &mut self,
+        mem: &mut ObjMem<W>,
+        next: u64,
+        insn: &Insn,
+    ) -> Result<StepEnd, Exception>
+        requires width { IsWidth W }
+        requires well_formed { WellFormed insn.now }
+        requires form { IsPushOrPop insn.now }
+        ensures { Ends self.old mem.old self.new mem.new result (executed W (concrete_of self.old mem.old) next insn.now) }
+    {
+        match insn {
             Insn::Push { wide, op, extra } => {
                 self.push(
                     mem,
@@ -222,6 +273,7 @@ impl<const W: usize> Machine<W> {
             Insn::PopNatural { op, extra } => {
                 self.pop(mem, next, W, false, Self::with_extra(16, op, extra))
             }
+            _ => unreachable!(),
         }
     }
 }

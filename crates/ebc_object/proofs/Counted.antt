@@ -9,7 +9,8 @@ use Rattle.ebc_object.specs.declared.object.Symbol.{Symbol}
 use Rattle.ebc_object.specs.Files.{fixup_size, symbol_size}
 use Rattle.ebc_object.specs.Readings.{Fails, fixup_at, fixups_at, names_of, symbol_at, symbols_at, symbols_size}
 
-pub symbols_all : (n i : ℕ) (file code contents : List ℕ) (before : List Symbol) (at : ℕ) → n ≤ i → symbols_at (n - i) file code contents before at ≡ Ok before
+pub symbols_all : (n i : ℕ) (file code contents : List ℕ) (before : List Symbol) (at : ℕ) → n ≤ i
+    → symbols_at (n - i) file code contents before at ≡ Ok before
 unfolding symbols_at
 symbols_all n i file code contents before at done = let none : n - i ≡ 0 = omega arith in rw none refl
 
@@ -33,15 +34,18 @@ symbols_end n i file code contents names before at (ends.Fault kind offset) belo
     let here : symbol_at file code contents (names_of before) at ≡ Err (kind, offset) = rw (← is) failed in
     rw (count, here) refl
 
-pub names_more : (old new : List (List ℕ)) (before after : List Symbol) (s : Symbol) → old ≡ names_of before → after ≡ before ++ s ∷ [] → new ≡ old ++ s.name ∷ [] → new ≡ names_of after
+pub names_more : (old new : List (List ℕ)) (before after : List Symbol) (s : Symbol) → old ≡ names_of before → after ≡ before ++ s ∷ []
+    → new ≡ old ++ s.name ∷ [] → new ≡ names_of after
 names_more old new before after s is pushed added = rw (added, pushed, is, map_push) refl
 
-pub size_more : (start at next : ℕ) (before after : List Symbol) (s : Symbol) → at ≡ start + symbols_size before → after ≡ before ++ s ∷ [] → next ≡ at + symbol_size s → next ≡ start + symbols_size after
+pub size_more : (start at next : ℕ) (before after : List Symbol) (s : Symbol) → at ≡ start + symbols_size before → after ≡ before ++ s ∷ []
+    → next ≡ at + symbol_size s → next ≡ start + symbols_size after
 size_more start at next before after s is pushed step =
     let more : symbols_size (before ++ s ∷ []) ≡ symbols_size before + symbol_size s = sum_by_push symbol_size before s in
     rw pushed (omega (arith, more))
 
-pub fixups_all : (n i : ℕ) (file code contents : List ℕ) (symbols : ℕ) (before : List Fixup) (at : ℕ) → n ≤ i → fixups_at (n - i) file code contents symbols before at ≡ Ok before
+pub fixups_all : (n i : ℕ) (file code contents : List ℕ) (symbols : ℕ) (before : List Fixup) (at : ℕ) → n ≤ i
+    → fixups_at (n - i) file code contents symbols before at ≡ Ok before
 unfolding fixups_at
 fixups_all n i file code contents symbols before at done = let none : n - i ≡ 0 = omega arith in rw none refl
 

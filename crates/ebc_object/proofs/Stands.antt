@@ -1,13 +1,15 @@
 -- What stands at an offset of a file is read there; and a field that was read stands there.
-use Rattle.std.proofs.Common.{◌≡◌, ℕ, ◌+◌, ◌-◌, ◌^◌, ◌<◌, ◌≤◌, Bool, true, false, cond, List, [], ◌∷◌, ◌++◌, length, get_or, take, drop, Result, Ok, Err, append_assoc, length-append, length-drop, refl, sym, ap, subst, ◌∙◌, ⊎_elim, arith}
+use Rattle.std.proofs.Common.{◌≡◌, ℕ, ◌+◌, ◌-◌, ◌^◌, ◌<◌, ◌≤◌, Bool, true, false, cond, List, [], ◌∷◌, ◌++◌, length, get_or, take, drop}
+use Rattle.std.proofs.Common.{Result, Ok, Err, append_assoc, length-append, length-drop, refl, sym, ap, subst, ◌∙◌, ⊎_elim, arith}
 use Rattle.std.specs.Prelude.{nat_le, slice_index}
 use Rattle.std.specs.Int.{w32, from_le_bytes, to_le_bytes}
 use Rattle.std.proofs.lemmas.Bool.{cases_lt, le-leb, leb-true}
-use Rattle.std.proofs.lemmas.List.{drop-drop, drop_at, get_or-drop, get_or-take, get_or_past, length-take, length-take-le, take-append-drop, take_at}
+use Rattle.std.proofs.lemmas.List.{drop-drop, drop_at, get_or-drop, get_or-take, get_or_past, length-take, length-take-le, take-append-drop}
+use Rattle.std.proofs.lemmas.List.{take_at}
 use Rattle.std.proofs.lemmas.Nat.{from_le_bytes-to_le_bytes_4, le_bytes_4}
 use Rattle.ebc_base.specs.Steps.{◌>>=◌, passes}
 use Rattle.ebc_object.specs.declared.fault.ObjectFault.TheVariants as faults
-use Rattle.ebc_object.specs.Readings.{Fault, byte_at, field_at, u32_at}
+use Rattle.ebc_object.specs.Readings.{Fault, byte_at, u32_at, bytes_at}
 
 -- ---- what stands there is read
 
@@ -16,17 +18,20 @@ pub record Stands (file : List ℕ) (at : ℕ) (rest : List ℕ) : Type 0 where
   pub within : at ≤ length file
   pub is : drop at file ≡ rest
 
-pub Stands-next : (file : List ℕ) (at : ℕ) (bytes rest : List ℕ) (next : ℕ) → Stands file at (bytes ++ rest) → at + length bytes ≡ next → Stands file next rest
+pub Stands-next : (file : List ℕ) (at : ℕ) (bytes rest : List ℕ) (next : ℕ) → Stands file at (bytes ++ rest) → at + length bytes ≡ next
+    → Stands file next rest
 Stands-next file at bytes rest next stands is =
     let size : length (drop at file) ≡ length bytes + length rest = ap length stands.is ∙ length-append bytes rest in
     let left : length (drop at file) ≡ length file - at = length-drop at file in
     record {
       within = omega (arith, stands.within);
-      is = ap (λ n. drop n file) (sym is) ∙ (sym (drop-drop (length bytes) at file) ∙ (ap (drop (length bytes)) stands.is ∙ drop_at bytes rest (length bytes) refl));
+      is = ap (λ n. drop n file) (sym is) ∙ (sym (drop-drop (length bytes) at file)
+          ∙ (ap (drop (length bytes)) stands.is ∙ drop_at bytes rest (length bytes) refl));
     }
 
-pub field-again : (file : List ℕ) (at n : ℕ) (bytes rest : List ℕ) → Stands file at (bytes ++ rest) → length bytes ≡ n → field_at file at n ≡ Ok bytes
-unfolding field_at
+pub field-again : (file : List ℕ) (at n : ℕ) (bytes rest : List ℕ) → Stands file at (bytes ++ rest) → length bytes ≡ n
+    → bytes_at file at n ≡ Ok bytes
+unfolding bytes_at
 field-again file at n bytes rest stands is =
     let next : Stands file (at + n) rest = Stands-next file at bytes rest (at + n) stands (ap (λ m. at + m) is) in
     let fits : nat_le (at + n) (length file) ≡ true = le-leb (at + n) (length file) next.within in
@@ -36,13 +41,13 @@ field-again file at n bytes rest stands is =
 pub byte-again : (file : List ℕ) (at b : ℕ) (rest : List ℕ) → Stands file at (b ∷ rest) → byte_at file at ≡ Ok b
 unfolding byte_at
 byte-again file at b rest stands =
-    let field : field_at file at 1 ≡ Ok (b ∷ []) = field-again file at 1 (b ∷ []) rest stands refl in
+    let field : bytes_at file at 1 ≡ Ok (b ∷ []) = field-again file at 1 (b ∷ []) rest stands refl in
     rw field refl
 
 pub u32-again : (file : List ℕ) (at n : ℕ) (rest : List ℕ) → n < 2 ^ 32 → Stands file at (to_le_bytes w32 n ++ rest) → u32_at file at ≡ Ok n
 unfolding u32_at
 u32-again file at n rest small stands =
-    let field : field_at file at 4 ≡ Ok (to_le_bytes w32 n) = field-again file at 4 (to_le_bytes w32 n) rest stands refl in
+    let field : bytes_at file at 4 ≡ Ok (to_le_bytes w32 n) = field-again file at 4 (to_le_bytes w32 n) rest stands refl in
     rw field (ap Ok (from_le_bytes-to_le_bytes_4 n small))
 
 -- ---- what was read stands there
@@ -56,7 +61,8 @@ pub record Spells (file : List ℕ) (at : ℕ) (bytes : List ℕ) (next : ℕ) :
 pub record AreBytes (file : List ℕ) : Type 0 where
   pub below : (i : ℕ) → get_or file i 0 < 256
 
-pub Spells-join : (file : List ℕ) (at middle next : ℕ) (xs ys : List ℕ) → Spells file at xs middle → Spells file middle ys next → Spells file at (xs ++ ys) next
+pub Spells-join : (file : List ℕ) (at middle next : ℕ) (xs ys : List ℕ) → Spells file at xs middle → Spells file middle ys next
+    → Spells file at (xs ++ ys) next
 Spells-join file at middle next xs ys first then =
     record {
       within = then.within;
@@ -78,18 +84,21 @@ passes-ok false e u is = let no : ⊥ = cc in absurd no
 pub same_Ok : {A E : Type 0} (x y : A) → (let r : Result A E = Ok x in r) ≡ Ok y → x ≡ y
 same_Ok x y is = cc
 
-pub field-read : (file : List ℕ) (at n : ℕ) (bytes : List ℕ) (next : ℕ) → field_at file at n ≡ Ok bytes → at + n ≡ next → (Spells file at bytes next) × (length bytes ≡ n) × (bytes ≡ take n (drop at file))
-unfolding field_at
+pub field-read : (file : List ℕ) (at n : ℕ) (bytes : List ℕ) (next : ℕ) → bytes_at file at n ≡ Ok bytes → at + n ≡ next
+    → (Spells file at bytes next) × (length bytes ≡ n) × (bytes ≡ take n (drop at file))
+unfolding bytes_at
 field-read file at n bytes next read is = by_test (nat_le (at + n) (length file)) refl read
   where
-    by_test : (b : Bool) → nat_le (at + n) (length file) ≡ b → cond b (let r : Result (List ℕ) Fault = Ok (take n (drop at file)) in r) (Err (faults.Short, at)) ≡ Ok bytes → (Spells file at bytes next) × (length bytes ≡ n) × (bytes ≡ take n (drop at file))
+    by_test : (b : Bool) → nat_le (at + n) (length file) ≡ b → cond b (let r : Result (List ℕ) Fault = Ok (take n (drop at file)) in r)
+        (Err (faults.Short, at)) ≡ Ok bytes → (Spells file at bytes next) × (length bytes ≡ n) × (bytes ≡ take n (drop at file))
     by_test true fits given =
         let same : bytes ≡ take n (drop at file) = sym (same_Ok {E = Fault} (take n (drop at file)) bytes given) in
         let within : at + n ≤ length file = leb-true (at + n) (length file) fits in
         let left : length (drop at file) ≡ length file - at = length-drop at file in (
           record {
             within = omega (arith, within, is);
-            is = sym (take-append-drop n (drop at file)) ∙ (ap (λ xs. xs ++ drop n (drop at file)) (sym same) ∙ ap (λ xs. bytes ++ xs) (drop-drop n at file ∙ ap (λ m. drop m file) is));
+            is = sym (take-append-drop n (drop at file)) ∙ (ap (λ xs. xs ++ drop n (drop at file)) (sym same)
+                ∙ ap (λ xs. bytes ++ xs) (drop-drop n at file ∙ ap (λ m. drop m file) is));
           },
           ap length same ∙ length-take-le n (drop at file) (omega arith),
           same,
@@ -104,7 +113,7 @@ one (b ∷ c ∷ bs) is = let no : ⊥ = omega arith in absurd no
 pub byte-read : (file : List ℕ) (at b next : ℕ) → byte_at file at ≡ Ok b → at + 1 ≡ next → Spells file at (b ∷ []) next
 unfolding byte_at
 byte-read file at b next read is =
-    let field = bind-ok (field_at file at 1) (λ bytes. Ok (slice_index bytes 0)) b read in
+    let field = bind-ok (bytes_at file at 1) (λ bytes. Ok (slice_index bytes 0)) b read in
     let here = field-read file at 1 field.0 next field.1 is in
     let first : slice_index field.0 0 ≡ b = same_Ok {E = Fault} (slice_index field.0 0) b field.2 in
     subst (λ bs. Spells file at bs next) (one field.0 here.1 ∙ ap (λ x. x ∷ []) first) here.0
@@ -112,17 +121,20 @@ byte-read file at b next read is =
 below-part : (file : List ℕ) (at n : ℕ) → AreBytes file → (i : ℕ) → get_or (take n (drop at file)) i 0 < 256
 below-part file at n bytes i =
     ⊎_elim
-    (λ (below : i < n). let here : get_or (take n (drop at file)) i 0 ≡ get_or file (at + i) 0 = get_or-take n (drop at file) i 0 below ∙ get_or-drop at file i 0 in omega (arith, here, bytes.below (at + i)))
-    (λ (above : n ≤ i). let here : get_or (take n (drop at file)) i 0 ≡ 0 = get_or_past (take n (drop at file)) i 0 (omega (arith, length-take n (drop at file))) in omega (arith, here))
+    (λ (below : i < n). let here : get_or (take n (drop at file)) i 0 ≡ get_or file (at + i) 0 = get_or-take n (drop at file) i 0 below
+    ∙ get_or-drop at file i 0 in omega (arith, here, bytes.below (at + i)))
+    (λ (above : n ≤ i). let here : get_or (take n (drop at file)) i 0 ≡ 0 =
+    get_or_past (take n (drop at file)) i 0 (omega (arith, length-take n (drop at file))) in omega (arith, here))
     (cases_lt i n)
 
 small-u32 : (bs : List ℕ) → ((i : ℕ) → get_or bs i 0 < 256) → from_le_bytes w32 bs < 2 ^ 32
 small-u32 bs below = omega (arith, below 0, below 1, below 2, below 3)
 
-pub u32-read : (file : List ℕ) (at n next : ℕ) → AreBytes file → u32_at file at ≡ Ok n → at + 4 ≡ next → (Spells file at (to_le_bytes w32 n) next) × (n < 2 ^ 32)
+pub u32-read : (file : List ℕ) (at n next : ℕ) → AreBytes file → u32_at file at ≡ Ok n → at + 4 ≡ next
+    → (Spells file at (to_le_bytes w32 n) next) × (n < 2 ^ 32)
 unfolding u32_at
 u32-read file at n next bytes read is =
-    let field = bind-ok (field_at file at 4) (λ bs. Ok (from_le_bytes w32 bs)) n read in
+    let field = bind-ok (bytes_at file at 4) (λ bs. Ok (from_le_bytes w32 bs)) n read in
     let here = field-read file at 4 field.0 next field.1 is in
     let value : from_le_bytes w32 field.0 ≡ n = same_Ok {E = Fault} (from_le_bytes w32 field.0) n field.2 in
     let P : List ℕ → Type 0 = λ bs. (i : ℕ) → get_or bs i 0 < 256 in

@@ -1,4 +1,4 @@
--- The file of an object, byte by byte. docs/OBJECTS.md, "The file". A number has its lowest byte first.
+-- Meaning: the file of an object, byte by byte. docs/OBJECTS.md, "The file". A number has its lowest byte first.
 use Rattle.std.specs.Prelude.{ℕ, ◌+◌, List, [], ◌∷◌, ◌++◌, length, codes}
 use Rattle.std.specs.Int.{w32, to_le_bytes}
 use Rattle.std.specs.List.{flat_map}

@@ -1,7 +1,8 @@
--- What an object is: code and data, the symbols that stand in them or are looked for elsewhere, and the fixups that a
--- linker fills in. docs/OBJECTS.md, "What an object has".
-use Rattle.std.specs.Prelude.{◌≡◌, ◌≢◌, ◌⊎◌, ℕ, ◌+◌, ◌^◌, ◌<◌, ◌≤◌, List, [], length, take, drop, true, All, AllPairs, nat_eq, if◌then◌else◌}
-use Rattle.ebc_names.specs.Names.{is_name}
+-- Meaning: what an object is: code and data, the symbols that stand in them or are looked for elsewhere, and the fixups that
+-- a linker fills in. docs/OBJECTS.md, "What an object has".
+use Rattle.std.specs.Prelude.{◌≡◌, ◌≢◌, ◌⊎◌, ℕ, ◌+◌, ◌^◌, ◌<◌, ◌≤◌, List, [], length, take, drop, true, All, AllPairs, nat_eq}
+use Rattle.std.specs.Prelude.{if◌then◌else◌}
+use Rattle.ebc_base.specs.Names.{is_name}
 use Rattle.ebc_object.specs.declared.object.Object.{Object}
 use Rattle.ebc_object.specs.declared.object.Symbol.{Symbol}
 use Rattle.ebc_object.specs.declared.object.Fixup.{Fixup}

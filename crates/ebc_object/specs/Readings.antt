@@ -1,11 +1,12 @@
--- What a file is read as: its fields are read and tried in the order in which they stand, and the first that fails gives
--- the fault, with its offset. docs/OBJECTS.md, "Reading".
-use Rattle.std.specs.Prelude.{◌≡◌, ℕ, zero, suc, ◌+◌, ◌*◌, Bool, not, ◌&&◌, ◌||◌, List, [], ◌∷◌, ◌++◌, length, map, take, drop, slice_index, Result, Ok, Err, codes, bytes_eq, nat_eq, nat_le, nat_lt, sum_by, if◌then◌else◌}
+-- For proofs: what a file is read as: its fields are read and tried in the order in which they stand, and the first that
+-- fails gives the fault, with its offset. docs/OBJECTS.md, "Reading".
+use Rattle.std.specs.Prelude.{◌≡◌, ℕ, zero, suc, ◌+◌, ◌*◌, Bool, not, ◌&&◌, ◌||◌, List, [], ◌∷◌, ◌++◌, length, map, take, drop, slice_index}
+use Rattle.std.specs.Prelude.{Result, Ok, Err, codes, bytes_eq, nat_eq, nat_le, nat_lt, sum_by, if◌then◌else◌}
 use Rattle.std.specs.Int.{w32, from_le_bytes}
 use Rattle.std.specs.List.{list_all}
 use Rattle.ebc_base.specs.Steps.{◌>>=◌, passes}
-use Rattle.ebc_names.specs.Names.{is_name}
-use Rattle.ebc_names.specs.Tables.{is_named}
+use Rattle.ebc_base.specs.Names.{is_name}
+use Rattle.ebc_base.specs.Tables.{is_named}
 use Rattle.ebc_object.specs.declared.fault.ObjectEnd.{ObjectEnd}
 use Rattle.ebc_object.specs.declared.fault.ObjectEnd.TheVariants as ends
 use Rattle.ebc_object.specs.declared.fault.ObjectFault.{ObjectFault}
@@ -25,14 +26,14 @@ Fault = ObjectFault × ℕ
 -- ---- fields
 
 -- the n bytes at an offset, which lie in the file
-unfoldable pub field_at : List ℕ → ℕ → ℕ → Result (List ℕ) Fault
-field_at file at n = if nat_le (at + n) (length file) then Ok (take n (drop at file)) else Err (faults.Short, at)
+unfoldable pub bytes_at : List ℕ → ℕ → ℕ → Result (List ℕ) Fault
+bytes_at file at n = if nat_le (at + n) (length file) then Ok (take n (drop at file)) else Err (faults.Short, at)
 
 unfoldable pub byte_at : List ℕ → ℕ → Result ℕ Fault
-byte_at file at = field_at file at 1 >>= (λ bytes. Ok (slice_index bytes 0))
+byte_at file at = bytes_at file at 1 >>= (λ bytes. Ok (slice_index bytes 0))
 
 unfoldable pub u32_at : List ℕ → ℕ → Result ℕ Fault
-u32_at file at = field_at file at 4 >>= (λ bytes. Ok (from_le_bytes w32 bytes))
+u32_at file at = bytes_at file at 4 >>= (λ bytes. Ok (from_le_bytes w32 bytes))
 
 -- ---- the head: the mark, the version, and how long each part is
 
@@ -45,7 +46,7 @@ count_at file at = do
 
 unfoldable pub mark_of : List ℕ → Result (Unit {0}) Fault
 mark_of file = do
-  mark ← field_at file 0 4
+  mark ← bytes_at file 0 4
   _ ← passes (bytes_eq mark (codes "EBCO")) (faults.Mark, 0)
   version ← u32_at file 4
   passes (nat_eq version 1) (faults.Mark, 4)
@@ -66,7 +67,7 @@ unfoldable pub name_at : List ℕ → List (List ℕ) → ℕ → Result (List �
 name_at file names at = do
   n ← byte_at file at
   _ ← passes (nat_le 1 n && nat_le n 63) (faults.Range, at)
-  name ← field_at file (at + 1) n
+  name ← bytes_at file (at + 1) n
   _ ← passes (is_name name) (faults.Range, at + 1)
   _ ← passes (not (is_named name names)) (faults.Order, at + 1)
   Ok name
@@ -144,14 +145,15 @@ abbrev pub symbols_size : List Symbol → ℕ
 symbols_size symbols = sum_by symbol_size symbols
 
 -- the object that a file stands for, or the first fault
-unfoldable pub object_of : List ℕ → Result Object Fault
-object_of file = do
+unfoldable pub object_of_file : List ℕ → Result Object Fault
+object_of_file file = do
   head ← head_of file
-  code ← field_at file 24 head.code
-  contents ← field_at file (24 + head.code) head.contents
+  code ← bytes_at file 24 head.code
+  contents ← bytes_at file (24 + head.code) head.contents
   symbols ← symbols_at head.symbols file code contents [] (24 + head.code + head.contents)
   fixups ← fixups_at head.fixups file code contents (length symbols) [] (24 + head.code + head.contents + symbols_size symbols)
-  _ ← passes (nat_le (length file) (24 + head.code + head.contents + symbols_size symbols + fixup_size * head.fixups)) (faults.Count, 24 + head.code + head.contents + symbols_size symbols + fixup_size * head.fixups)
+  _ ← passes (nat_le (length file) (24 + head.code + head.contents + symbols_size symbols + fixup_size * head.fixups))
+      (faults.Count, 24 + head.code + head.contents + symbols_size symbols + fixup_size * head.fixups)
   Ok (record { code = code; contents = contents; symbols = symbols; fixups = fixups })
 
 -- ---- what a function tells

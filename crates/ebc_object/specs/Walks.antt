@@ -1,4 +1,4 @@
--- What the reading of symbols and fixups keeps, and the conditions as they are tried. No caller sees it.
+-- For proofs: what the reading of symbols and fixups keeps, and the conditions as they are tried. No caller sees it.
 use Rattle.std.specs.Prelude.{◌≡◌, ℕ, ◌-◌, ◌≤◌, ◌^◌, Bool, true, ◌&&◌, List, length, nat_le, nat_lt, slice_get}
 use Rattle.std.specs.List.{list_all}
 use Rattle.std.specs.Option.{option_map_or}
@@ -6,7 +6,7 @@ use Rattle.ebc_object.specs.declared.head.Head.{Head}
 use Rattle.ebc_object.specs.declared.object.Fixup.{Fixup}
 use Rattle.ebc_object.specs.declared.object.Object.{Object}
 use Rattle.ebc_object.specs.declared.object.Symbol.{Symbol}
-use Rattle.ebc_names.specs.Names.{is_name}
+use Rattle.ebc_base.specs.Names.{is_name}
 use Rattle.ebc_object.specs.Objects.{most, section_bytes, width}
 use Rattle.ebc_object.specs.Readings.{ends_before, has_zeros}
 

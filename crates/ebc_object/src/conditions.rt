@@ -10,8 +10,7 @@ use crate::fields::MOST;
 use crate::fixups::last_ends_before;
 use crate::object::{Fixup, Object, Symbol};
 use crate::sections::{Sections, has_zeros, width};
-use ebc_base::Name;
-use ebc_names::is_name;
+use ebc_base::{Name, is_name};
 
 // Whether no part of an object is too large.
 fn are_few(object: &Object) -> bool

@@ -3,7 +3,7 @@
 ghost use Rattle.std.specs.Prelude.{◌≡◌, ◌+◌, ◌≤◌, IsTrue, OnOk, IfOk, length};
 ghost use Rattle.ebc_base.specs.Steps.{passes};
 ghost use Rattle.ebc_object.specs.Objects.{most};
-ghost use Rattle.ebc_object.specs.Readings.{Gives, GivesBy, byte_at, count_at, field_at, u32_at};
+ghost use Rattle.ebc_object.specs.Readings.{Gives, GivesBy, byte_at, count_at, u32_at, bytes_at};
 
 use crate::fault::{ObjectEnd, ObjectFault};
 
@@ -11,10 +11,10 @@ use crate::fault::{ObjectEnd, ObjectFault};
 pub const MOST: u32 = 0x10_0000;
 
 // The bytes of a field, which lie in the file.
-#[tactic(auto, unfolding(crate::specs::Readings::field_at))]
-pub fn field_at(file: &[u8], at: usize, count: usize) -> Result<&[u8], ObjectEnd>
+#[tactic(auto, unfolding(crate::specs::Readings::bytes_at))]
+pub fn bytes_at(file: &[u8], at: usize, count: usize) -> Result<&[u8], ObjectEnd>
     requires { at ≤ length file.now }
-    ensures field { GivesBy (λ bytes. bytes.now) result (field_at file.now at count) }
+    ensures field { GivesBy (λ bytes. bytes.now) result (bytes_at file.now at count) }
     ensures length { IfOk result (λ bytes. length bytes.now ≡ count) }
     ensures within { OnOk result (at + count ≤ length file.now) }
 {
@@ -31,7 +31,7 @@ pub fn byte_at(file: &[u8], at: usize) -> Result<u8, ObjectEnd>
     ensures byte { Gives result (byte_at file.now at) }
     ensures within { OnOk result (at + 1 ≤ length file.now) }
 {
-    let bytes = field_at(file, at, 1)?;
+    let bytes = bytes_at(file, at, 1)?;
     Ok(bytes[0])
 }
 
@@ -42,7 +42,7 @@ pub fn u32_at(file: &[u8], at: usize) -> Result<u32, ObjectEnd>
     ensures number { Gives result (u32_at file.now at) }
     ensures within { OnOk result (at + 4 ≤ length file.now) }
 {
-    let bytes = field_at(file, at, 4)?;
+    let bytes = bytes_at(file, at, 4)?;
     Ok(u32::from_le_bytes([bytes[0], bytes[1], bytes[2], bytes[3]]))
 }
 

@@ -13,7 +13,7 @@ use crate::sections::{Sections, has_zeros, width};
 use std::alloc::Global;
 
 /// Where a fixup fills in bytes, and by what.
-#[derive(Clone, Copy, PartialEq, Eq, Debug)]
+#[derive(Clone, Copy, PartialEq, Eq)]
 pub(crate) struct Place {
     pub section: u8,
     pub kind: u8,

@@ -6,10 +6,10 @@ ghost use Rattle.ebc_object.specs.Readings.{Gives, head_of, mark_of};
 ghost use Rattle.ebc_object.specs.Walks.{IsSmall};
 
 use crate::fault::{ObjectEnd, ObjectFault};
-use crate::fields::{count_at, field_at, require, u32_at};
+use crate::fields::{bytes_at, count_at, require, u32_at};
 
 /// How long the parts of an object file are: the bytes of its code and of its data, and how many symbols and fixups it has.
-#[derive(Clone, Copy, PartialEq, Eq, Debug)]
+#[derive(Clone, Copy, PartialEq, Eq)]
 pub(crate) struct Head {
     pub code: usize,
     pub contents: usize,
@@ -23,7 +23,7 @@ fn mark_of(file: &[u8]) -> Result<(), ObjectEnd>
     ensures mark { Gives result (mark_of file.now) }
     ensures within { OnOk result (8 ≤ length file.now) }
 {
-    let mark = field_at(file, 0, 4)?;
+    let mark = bytes_at(file, 0, 4)?;
     require(*mark == *b"EBCO".as_slice(), ObjectFault::Mark, 0)?;
     let version = u32_at(file, 4)?;
     require(version == 1, ObjectFault::Mark, 4)

@@ -12,7 +12,7 @@ pub type Symbols = Sequence<Symbol>;
 pub type Fixups = Sequence<Fixup>;
 
 /// A place of an object that has a name, or a name that another object defines.
-#[derive(PartialEq, Debug, Drop)]
+#[derive(PartialEq, Drop)]
 pub struct Symbol {
     /// Its name, which no other symbol of the object has.
     pub name: Name,
@@ -25,7 +25,7 @@ pub struct Symbol {
 }
 
 /// Bytes that the linker fills in, by the place of a symbol. Until then they are zeros.
-#[derive(Clone, Copy, PartialEq, Debug)]
+#[derive(Clone, Copy, PartialEq)]
 pub struct Fixup {
     /// 1 where the bytes are the code's, 2 where they are the data's.
     pub section: u8,
@@ -41,7 +41,7 @@ pub struct Fixup {
 }
 
 /// What an assembler makes of a source: code and data with symbols and fixups.
-#[derive(PartialEq, Debug, Drop)]
+#[derive(PartialEq, Drop)]
 pub struct Object {
     /// The bytes of the code.
     pub code: Bytes,

@@ -6,11 +6,10 @@ ghost use Rattle.ebc_object.specs.Objects.{most};
 ghost use Rattle.ebc_object.specs.Readings.{Gives, GivesBy, name_at, named_at, names_of, symbol_at, symbols_at, symbols_size};
 
 use crate::fault::{ObjectEnd, ObjectFault};
-use crate::fields::{byte_at, field_at, require, u32_at};
+use crate::fields::{byte_at, bytes_at, require, u32_at};
 use crate::object::Symbol;
 use crate::sections::Sections;
-use ebc_base::Name;
-use ebc_names::{NameTable, name_text};
+use ebc_base::{Name, NameTable, name_text};
 use std::alloc::Global;
 
 // The name at an offset, which isn't among those before; then it is among them.
@@ -24,7 +23,7 @@ fn name_at(alloc: Global, file: &[u8], names: &mut NameTable, at: usize) -> Resu
 {
     let count = byte_at(file, at)?;
     require(1 <= count && count <= 63, ObjectFault::Range, at)?;
-    let bytes = field_at(file, at + 1, count as usize)?;
+    let bytes = bytes_at(file, at + 1, count as usize)?;
     let Some(text) = name_text(bytes) else {
         return Err(ObjectEnd::at(ObjectFault::Range, at + 1));
     };
@@ -92,7 +91,8 @@ pub fn symbols_at(
 ) -> Result<(Vec<Symbol>, usize), ObjectEnd>
     requires count { count ≤ most }
     requires start { start ≤ length file.now }
-    ensures symbols { GivesBy (λ read. read.0.items) result (symbols_at count file.now sections.now.code.now sections.now.contents.now [] start) }
+    ensures symbols { GivesBy (λ read. read.0.items) result (symbols_at count file.now sections.now.code.now sections.now.contents.now []
+        start) }
     ensures behind { IfOk result (λ read. read.1 ≡ start + symbols_size read.0.items) }
     ensures within { IfOk result (λ read. read.1 ≤ length file.now) }
     ensures count { IfOk result (λ read. length read.0.items ≡ count) }

@@ -5,7 +5,7 @@ ghost use Rattle.std.specs.Int.{w32, to_le_bytes};
 ghost use Rattle.std.specs.List.{flat_map};
 ghost use Rattle.ebc_object.specs.Files.{fixup_bytes, head_bytes, object_bytes, symbol_bytes};
 ghost use Rattle.ebc_object.specs.Objects.{IsObject};
-ghost use Rattle.ebc_object.specs.Readings.{object_of};
+ghost use Rattle.ebc_object.specs.Readings.{object_of_file};
 
 use crate::object::{Fixup, Object, Symbol};
 use ebc_base::NoMemory;
@@ -92,7 +92,7 @@ fn append_fixups(file: &mut Vec<u8>, fixups: &[Fixup]) -> Result<(), AllocError>
 pub fn write_object(alloc: Global, object: &Object) -> Result<Vec<u8>, NoMemory>
     requires { IsObject object.now }
     ensures format { IfOk result (λ file. file.items ≡ object_bytes object.now) }
-    ensures read_again { IfOk result (λ file. object_of file.items ≡ Ok object.now) }
+    ensures read_again { IfOk result (λ file. object_of_file file.items ≡ Ok object.now) }
 {
     let mut file = Vec::new(alloc);
     append_head(&mut file, object)?;

@@ -1,5 +1,5 @@
--- Counts of faults and of calls: numbers below 2 ^ 64 that never fall, and stay at the last of them.
--- This project defines it: docs/OUTSIDE.md.
+-- Meaning: Counts of faults and of calls: numbers below 2 ^ 64 that never fall, and stay at the last of them. This project
+-- defines it: docs/OUTSIDE.md.
 use Rattle.std.specs.Prelude.{ℕ, ◌+◌, ◌-◌, ◌^◌, ◌<◌, ◌≤◌, min, List, Bool, ◌==◌}
 use Rattle.std.specs.List.{list_any}
 

@@ -1,5 +1,5 @@
--- Files by their names, what a failed write may change, and what is appended to a text.
--- This project defines it: docs/OUTSIDE.md.
+-- Meaning: Files by their names, what a failed write may change, and what is appended to a text. This project defines it:
+-- docs/OUTSIDE.md.
 use Rattle.std.specs.Prelude.{◌≡◌, ◌≢◌, ℕ, List, ◌++◌, take, Option, Some, None}
 use Rattle.std.specs.Ordering.{nat_cmp}
 use Rattle.std.specs.Cmp.Lexicographic.{slice_cmp}

@@ -1,5 +1,5 @@
--- What a folder and a sink in memory, and those of the system, are to their callers.
--- This project defines it: docs/OUTSIDE.md.
+-- For proofs: what a folder and a sink in memory, and those of the system, are to their callers. This project defines it:
+-- docs/OUTSIDE.md.
 use Rattle.std.specs.Prelude.{ℕ, List, refl}
 use Rattle.std.specs.Coded.{Coded, code_by, coded×, coded_ℕ, coded_list}
 use Rattle.std.specs.FinMap as map

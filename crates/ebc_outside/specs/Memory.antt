@@ -1,5 +1,4 @@
--- What a folder in memory stores, seen as files and as names.
--- This project defines it: docs/OUTSIDE.md.
+-- For proofs: what a folder in memory stores, seen as files and as names. This project defines it: docs/OUTSIDE.md.
 use Rattle.std.specs.Prelude.{ℕ, List, map, String, Vec, string_bytes}
 use Rattle.std.specs.declared.alloc.Global.{Global}
 use Rattle.std.specs.BTreeMap.{BTreeMap}

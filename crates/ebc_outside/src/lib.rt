@@ -13,8 +13,6 @@ mod host_write;
 mod mem_folder;
 mod mem_sink;
 mod sink;
-#[cfg(test)]
-mod tests;
 mod whole;
 
 pub use ends::{ReadEnd, SinkEnd, WriteEnd};

@@ -1,5 +1,6 @@
 -- Laws of bytes by their addresses, for the crates above.
-use Rattle.std.proofs.Common.{◌≡◌, ℕ, zero, suc, ◌+◌, ◌-◌, ◌*◌, ◌/◌, ◌%◌, ◌^◌, ◌<◌, ◌≤◌, ◌⊎◌, inl, inr, ⊎_elim, if◌then◌else◌, ◌&&◌, List, ◌∷◌, length, get_or, refl, sym, ap, ap₂, subst, ◌∙◌, arith}
+use Rattle.std.proofs.Common.{◌≡◌, ℕ, zero, suc, ◌+◌, ◌-◌, ◌*◌, ◌/◌, ◌%◌, ◌^◌, ◌<◌, ◌≤◌, ◌⊎◌, inl, inr, ⊎_elim, if◌then◌else◌, ◌&&◌, List}
+use Rattle.std.proofs.Common.{◌∷◌, length, get_or, refl, sym, ap, ap₂, subst, ◌∙◌, arith, ◌++◌, take}
 use Rattle.std.specs.Prelude.{nat_le, nat_lt, slice_index}
 use Rattle.std.proofs.Math.Nat.{pow-suc, div-div-eq-div-mul, one-le-pow}
 use Rattle.std.proofs.Math.Arith.{mod-mul}
@@ -28,7 +29,8 @@ put-moved b c d a k v x same =
     ⊎_elim
     (λ below. put-apart b (d + a) k v (d + x) (inl (omega arith)) ∙ (same ∙ sym (put-apart c a k v x (inl below))))
     (λ from. ⊎_elim
-    (λ to. put-within b (d + a) k v (d + x) (omega arith) (omega arith) ∙ (ap (λ i. v / 256 ^ i % 256) (omega arith) ∙ sym (put-within c a k v x from to)))
+    (λ to. put-within b (d + a) k v (d + x) (omega arith) (omega arith)
+    ∙ (ap (λ i. v / 256 ^ i % 256) (omega arith) ∙ sym (put-within c a k v x from to)))
     (λ above. put-apart b (d + a) k v (d + x) (inr (omega arith)) ∙ (same ∙ sym (put-apart c a k v x (inr above))))
     (cases_lt x (a + k)))
     (cases_lt x a)
@@ -39,7 +41,8 @@ put-below b a k v x below = cond_both (nat_le a x && nat_lt x (a + k)) _ _ (λ y
 
 -- ---- a byte once a list of bytes lies over the others
 
-pub overlaid-within : (b : ℕ → ℕ) (a : ℕ) (over : List ℕ) (x : ℕ) → a ≤ x → x < a + length over → overlaid b a over x ≡ slice_index over (x - a)
+pub overlaid-within : (b : ℕ → ℕ) (a : ℕ) (over : List ℕ) (x : ℕ) → a ≤ x → x < a + length over
+    → overlaid b a over x ≡ slice_index over (x - a)
 unfolding overlaid
 overlaid-within b a over x from to = grind (arith, nat_tests)
 
@@ -53,19 +56,23 @@ unfolding overlaid
 overlaid-agree b c a over x same = ap (λ y. if nat_le a x && nat_lt x (a + length over) then slice_index over (x - a) else y) same
 
 -- the same a number of bytes further up
-pub overlaid-moved : (b c : ℕ → ℕ) (d a : ℕ) (over : List ℕ) (x : ℕ) → b (d + x) ≡ c x → overlaid b (d + a) over (d + x) ≡ overlaid c a over x
+pub overlaid-moved : (b c : ℕ → ℕ) (d a : ℕ) (over : List ℕ) (x : ℕ) → b (d + x) ≡ c x
+    → overlaid b (d + a) over (d + x) ≡ overlaid c a over x
 overlaid-moved b c d a over x same =
     ⊎_elim
     (λ below. overlaid-apart b (d + a) over (d + x) (inl (omega arith)) ∙ (same ∙ sym (overlaid-apart c a over x (inl below))))
     (λ from. ⊎_elim
-    (λ to. overlaid-within b (d + a) over (d + x) (omega arith) (omega arith) ∙ (ap (slice_index over) (omega arith) ∙ sym (overlaid-within c a over x from to)))
+    (λ to. overlaid-within b (d + a) over (d + x) (omega arith) (omega arith)
+    ∙ (ap (slice_index over) (omega arith) ∙ sym (overlaid-within c a over x from to)))
     (λ above. overlaid-apart b (d + a) over (d + x) (inr (omega arith)) ∙ (same ∙ sym (overlaid-apart c a over x (inr above))))
     (cases_lt x (a + length over)))
     (cases_lt x a)
 
-pub overlaid-below : (b : ℕ → ℕ) (a : ℕ) (over : List ℕ) (x : ℕ) → ((i : ℕ) → slice_index over i < 256) → b x < 256 → overlaid b a over x < 256
+pub overlaid-below : (b : ℕ → ℕ) (a : ℕ) (over : List ℕ) (x : ℕ) → ((i : ℕ) → slice_index over i < 256) → b x < 256
+    → overlaid b a over x < 256
 unfolding overlaid
-overlaid-below b a over x each below = cond_both (nat_le a x && nat_lt x (a + length over)) _ _ (λ y. y < 256) (λ e. each (x - a)) (λ e. below)
+overlaid-below b a over x each below = cond_both (nat_le a x && nat_lt x (a + length over)) _ _ (λ y. y < 256) (λ e. each (x - a))
+    (λ e. below)
 
 -- ---- what bytes spell
 
@@ -86,7 +93,8 @@ little_endian-agree b c a k same = little_endian-moved b c a a k (λ i below. sa
 
 pub little_endian-apart : (b : ℕ → ℕ) (a k v c n : ℕ) → (c + n ≤ a) ⊎ (a + k ≤ c) → little_endian (put b a k v) c n ≡ little_endian b c n
 little_endian-apart b a k v c n apart =
-    little_endian-agree (put b a k v) b c n (λ x from to. put-apart b a k v x (⊎_elim (λ below. inl (omega arith)) (λ above. inr (omega arith)) apart))
+    little_endian-agree (put b a k v) b c n (λ x from to. put-apart b a k v x
+    (⊎_elim (λ below. inl (omega arith)) (λ above. inr (omega arith)) apart))
 
 low_byte : (u k : ℕ) → u % 256 + 256 * (u / 256 % 256 ^ k) ≡ u % 256 ^ suc k
 low_byte u k =
@@ -102,7 +110,8 @@ little_endian-put b a n v j (suc k) within =
     let here : a + j - a ≡ j = omega arith in
     let next : a + suc j ≡ a + j + 1 = omega arith in
     let quotient : v / 256 ^ suc j ≡ v / 256 ^ j / 256 = ap (λ z. v / z) (pow-suc 256 j) ∙ sym (div-div-eq-div-mul v (256 ^ j) 256) in
-    let rest : little_endian (put b a n v) (a + j + 1) k ≡ v / 256 ^ j / 256 % 256 ^ k = rw (← next) (rw (← quotient) (little_endian-put b a n v (suc j) k (omega arith))) in
+    let rest : little_endian (put b a n v) (a + j + 1) k ≡ v / 256 ^ j / 256 % 256 ^ k =
+    rw (← next) (rw (← quotient) (little_endian-put b a n v (suc j) k (omega arith))) in
     let first : put b a n v (a + j) ≡ v / 256 ^ j % 256 = rw here at (put-within b a n v (a + j) (omega arith) (omega arith)) in
     ap₂ (λ x y. x + 256 * y) first rest ∙ low_byte (v / 256 ^ j) k
 
@@ -120,16 +129,19 @@ little_endian-below b a (suc k) below =
     rw (pow-suc 256 k) (omega (arith, little_endian-below b (a + 1) k below, below a))
 
 -- zeros above add nothing
-pub little_endian-zeros : (b : ℕ → ℕ) (a n k : ℕ) → k ≤ n → ((i : ℕ) → k ≤ i → i < n → b (a + i) ≡ 0) → little_endian b a n ≡ little_endian b a k
+pub little_endian-zeros : (b : ℕ → ℕ) (a n k : ℕ) → k ≤ n → ((i : ℕ) → k ≤ i → i < n → b (a + i) ≡ 0)
+    → little_endian b a n ≡ little_endian b a k
 unfolding little_endian
 little_endian-zeros b a zero zero within none = refl
 little_endian-zeros b a zero (suc k) within none = absurd (omega arith)
 little_endian-zeros b a (suc n) zero within none =
     let here : b a ≡ 0 = subst (λ x. b x ≡ 0) (omega arith) (none 0 (omega arith) (omega arith)) in
-    let rest : little_endian b (a + 1) n ≡ 0 = little_endian-zeros b (a + 1) n 0 (omega arith) (λ i from to. subst (λ x. b x ≡ 0) (omega arith) (none (i + 1) (omega arith) (omega arith))) in
+    let rest : little_endian b (a + 1) n ≡ 0 = little_endian-zeros b (a + 1) n 0 (omega arith)
+    (λ i from to. subst (λ x. b x ≡ 0) (omega arith) (none (i + 1) (omega arith) (omega arith))) in
     rw (here, rest) refl
 little_endian-zeros b a (suc n) (suc k) within none =
-    ap (λ y. b a + 256 * y) (little_endian-zeros b (a + 1) n k (omega arith) (λ i from to. subst (λ x. b x ≡ 0) (omega arith) (none (i + 1) (omega arith) (omega arith))))
+    ap (λ y. b a + 256 * y) (little_endian-zeros b (a + 1) n k (omega arith)
+    (λ i from to. subst (λ x. b x ≡ 0) (omega arith) (none (i + 1) (omega arith) (omega arith))))
 
 -- ---- a list of bytes
 
@@ -149,3 +161,18 @@ unfolding window
 window-agree f g a zero same = refl
 window-agree f g a (suc n) same =
     ap₂ (λ y ys. y ∷ ys) (same a (omega arith) (omega arith)) (window-agree f g (a + 1) n (λ x from to. same x (omega arith) (omega arith)))
+
+pub window-append : (b : ℕ → ℕ) (a n m : ℕ) → window b a (n + m) ≡ window b a n ++ window b (a + n) m
+unfolding window
+window-append b a zero m = ap (λ k. window b a k) {x = 0 + m} {y = m} (omega arith)
+    ∙ ap (λ k. window b k m) {x = a} {y = a + 0} (omega arith)
+window-append b a (suc n) m =
+    ap (λ k. window b a k) {x = suc n + m} {y = suc (n + m)} (omega arith)
+    ∙ ap (λ ys. b a ∷ ys) (window-append b (a + 1) n m ∙ ap (λ k. window b (a + 1) n ++ window b k m) {x = a + 1 + n} {y = a + suc n}
+    (omega arith))
+
+pub take-window : (b : ℕ → ℕ) (a n m : ℕ) → n ≤ m → take n (window b a m) ≡ window b a n
+unfolding window
+take-window b a zero m h = refl
+take-window b a (suc n) zero h = absurd (omega arith)
+take-window b a (suc n) (suc m) h = ap (λ ys. b a ∷ ys) (take-window b (a + 1) n m (omega arith))

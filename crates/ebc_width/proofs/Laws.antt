@@ -1,5 +1,6 @@
 -- Laws of numbers at a width, for the crates above.
-use Rattle.std.proofs.Common.{◌≡◌, ℕ, ◌+◌, ◌-◌, ◌*◌, ◌%◌, ◌^◌, ◌<◌, ◌≤◌, ℤ, pos, negsuc, Bool, true, false, cond, ltb, zero, suc, neg_ℤ, ◌+ℤ◌, ◌*ℤ◌, refl, sym, ap, ap₂, subst, ◌∙◌, arith, ⊎_elim}
+use Rattle.std.proofs.Common.{◌≡◌, ℕ, ◌+◌, ◌-◌, ◌*◌, ◌%◌, ◌^◌, ◌<◌, ◌≤◌, ℤ, pos, negsuc, Bool, true, false, cond, ltb, zero, suc, neg_ℤ}
+use Rattle.std.proofs.Common.{◌+ℤ◌, ◌*ℤ◌, refl, sym, ap, subst, ◌∙◌, arith, ⊎_elim}
 use Rattle.std.proofs.Math.Nat.{add-mod, add-mod-mod, mod-add-mod, mod-eq_of_lt}
 use Rattle.std.proofs.Math.IntN.{negsuc-*ℤ-pos}
 use Rattle.std.proofs.lemmas.Bool.{lt-ltb, ltb-true, ltb-false}
@@ -21,9 +22,6 @@ cut_at-at_below w x below = mod-eq_of_lt below
 pub cut_at-cut_at : (w x : ℕ) → cut_at w (cut_at w x) ≡ cut_at w x
 cut_at-cut_at w x = cut_at-at_below w (cut_at w x) (cut_at-below w x)
 
-pub cut_at-add : (w x y : ℕ) → cut_at w (cut_at w x + cut_at w y) ≡ cut_at w (x + y)
-cut_at-add w x y = sym (add-mod x y (2 ^ (8 * w)))
-
 pub cut_at-below_64 : (w x : ℕ) → IsWidth w → cut_at w x < 2 ^ 64
 cut_at-below_64 w x width = by_width (λ v. cut_at v x < 2 ^ 64) w width (omega arith) (omega arith)
 
@@ -44,16 +42,14 @@ extended_at-at_small w x small =
 pub extended_at-cut_at : (w x : ℕ) → extended_at w (cut_at w x) ≡ extended_at w x
 extended_at-cut_at w x = rw (cut_at-cut_at w x) refl
 
-pub cut_at-extended_at : (w x : ℕ) → IsWidth w → cut_at w (extended_at w x) ≡ cut_at w x
-cut_at-extended_at w x width = by_width (λ v. cut_at v (extended_at v x) ≡ cut_at v x) w width (grind arith) (grind arith)
-
 -- ---- natural units and bytes
 
 pub wrap64-below : (z : ℤ) → wrap64 z < 2 ^ 64
 wrap64-below (pos n) = omega arith
 wrap64-below (negsuc n) = omega arith
 
-wrap64-sub : (m n : ℕ) (less : Bool) → ltb m (suc n) ≡ less → wrap64 (cond less (negsuc (suc n - suc m)) (pos (m - suc n))) ≡ (wrap64 (pos m) + wrap64 (negsuc n)) % 2 ^ 64
+wrap64-sub : (m n : ℕ) (less : Bool) → ltb m (suc n) ≡ less → wrap64 (cond less (negsuc (suc n - suc m)) (pos (m - suc n))) ≡
+    (wrap64 (pos m) + wrap64 (negsuc n)) % 2 ^ 64
 wrap64-sub m n true is = let below : m < suc n = ltb-true _ _ is in omega arith
 wrap64-sub m n false is = let above : suc n ≤ m = ltb-false _ _ is in omega arith
 
@@ -78,33 +74,26 @@ wrap64-neg (negsuc n) = omega arith
 wrap64-mul : (w : ℕ) (z : ℤ) → IsWidth w → wrap64 (z *ℤ pos w) ≡ wrap64 z * w % 2 ^ 64
 wrap64-mul w (pos n) width = sym (mul-mod_first n w (2 ^ 64))
 wrap64-mul w (negsuc n) width =
-    rw (negsuc-*ℤ-pos n w, wrap64-neg (pos (suc n * w))) (by_width (λ v. (2 ^ 64 - suc n * v % 2 ^ 64) % 2 ^ 64 ≡ (2 ^ 64 - 1 - n % 2 ^ 64) * v % 2 ^ 64) w width (omega arith) (omega arith))
+    rw (negsuc-*ℤ-pos n w, wrap64-neg (pos (suc n * w))) (by_width
+    (λ v. (2 ^ 64 - suc n * v % 2 ^ 64) % 2 ^ 64 ≡ (2 ^ 64 - 1 - n % 2 ^ 64) * v % 2 ^ 64) w width (omega arith) (omega arith))
 
 -- both parts may be taken modulo 2 ^ 64
 pub linear-mod : (w n c : ℕ) → (n % 2 ^ 64 * w + c % 2 ^ 64) % 2 ^ 64 ≡ (n * w + c) % 2 ^ 64
 linear-mod w n c =
-    add-mod-mod (n % 2 ^ 64 * w) c (2 ^ 64) ∙ (add-mod (n % 2 ^ 64 * w) c (2 ^ 64) ∙ (ap (λ z. (z + c % 2 ^ 64) % 2 ^ 64) (mul-mod_first n w (2 ^ 64)) ∙ sym (add-mod (n * w) c (2 ^ 64))))
+    add-mod-mod (n % 2 ^ 64 * w) c (2 ^ 64) ∙ (add-mod (n % 2 ^ 64 * w) c (2 ^ 64)
+    ∙ (ap (λ z. (z + c % 2 ^ 64) % 2 ^ 64) (mul-mod_first n w (2 ^ 64)) ∙ sym (add-mod (n * w) c (2 ^ 64))))
 
 pub linear_at-wrap64 : (w : ℕ) (n c : ℤ) → IsWidth w → linear_at w n c ≡ (wrap64 n * w + wrap64 c) % 2 ^ 64
 linear_at-wrap64 w n c width =
     wrap64-add (n *ℤ pos w) c ∙ (ap (λ z. (z + wrap64 c) % 2 ^ 64) (wrap64-mul w n width) ∙ mod-add-mod (wrap64 n * w) (2 ^ 64) (wrap64 c))
 
-pub linear_at-add : (w : ℕ) (n m c d : ℤ) → IsWidth w → linear_at w (n +ℤ m) (c +ℤ d) ≡ (linear_at w n c + linear_at w m d) % 2 ^ 64
-linear_at-add w n m c d width =
-    linear_at-wrap64 w (n +ℤ m) (c +ℤ d) width
-    ∙ (ap₂ (λ x y. (x * w + y) % 2 ^ 64) (wrap64-add n m) (wrap64-add c d)
-    ∙ (linear-mod w (wrap64 n + wrap64 m) (wrap64 c + wrap64 d)
-    ∙ (ap (λ x. x % 2 ^ 64) (regrouped (wrap64 n) (wrap64 m) (wrap64 c) (wrap64 d))
-    ∙ (add-mod (wrap64 n * w + wrap64 c) (wrap64 m * w + wrap64 d) (2 ^ 64)
-    ∙ sym (ap₂ (λ x y. (x + y) % 2 ^ 64) (linear_at-wrap64 w n c width) (linear_at-wrap64 w m d width))))))
-  where
-    regrouped : (a b x y : ℕ) → (a + b) * w + (x + y) ≡ a * w + x + (b * w + y)
-    regrouped a b x y = omega arith
-
 -- a pair with both signs
 pub linear_at-neg : (w : ℕ) (n c : ℤ) → IsWidth w → linear_at w (neg_ℤ n) (neg_ℤ c) ≡ (2 ^ 64 - linear_at w n c) % 2 ^ 64
 linear_at-neg w n c width =
-    rw (linear_at-wrap64 w (neg_ℤ n) (neg_ℤ c) width, linear_at-wrap64 w n c width, wrap64-neg n, wrap64-neg c) (negated (wrap64 n) (wrap64 c) (wrap64-below n) (wrap64-below c))
+    rw (linear_at-wrap64 w (neg_ℤ n) (neg_ℤ c) width, linear_at-wrap64 w n c width, wrap64-neg n, wrap64-neg c)
+    (negated (wrap64 n) (wrap64 c) (wrap64-below n) (wrap64-below c))
   where
-    negated : (a b : ℕ) → a < 2 ^ 64 → b < 2 ^ 64 → ((2 ^ 64 - a) % 2 ^ 64 * w + (2 ^ 64 - b) % 2 ^ 64) % 2 ^ 64 ≡ (2 ^ 64 - (a * w + b) % 2 ^ 64) % 2 ^ 64
-    negated a b p q = by_width (λ v. ((2 ^ 64 - a) % 2 ^ 64 * v + (2 ^ 64 - b) % 2 ^ 64) % 2 ^ 64 ≡ (2 ^ 64 - (a * v + b) % 2 ^ 64) % 2 ^ 64) w width (omega arith) (omega arith)
+    negated : (a b : ℕ) → a < 2 ^ 64 → b < 2 ^ 64 → ((2 ^ 64 - a) % 2 ^ 64 * w + (2 ^ 64 - b) % 2 ^ 64) % 2 ^ 64 ≡
+        (2 ^ 64 - (a * w + b) % 2 ^ 64) % 2 ^ 64
+    negated a b p q = by_width (λ v. ((2 ^ 64 - a) % 2 ^ 64 * v + (2 ^ 64 - b) % 2 ^ 64) % 2 ^ 64 ≡
+        (2 ^ 64 - (a * v + b) % 2 ^ 64) % 2 ^ 64) w width (omega arith) (omega arith)

@@ -1,6 +1,8 @@
--- Bytes by their addresses: what a few of them spell, and what a store leaves. Numbers lie with their lowest byte first.
--- UEFI specification, chapter "Introduction", section "Data Structure Descriptions": the byte order of numbers in memory.
-use Rattle.std.specs.Prelude.{◌≡◌, ◌⊎◌, ℕ, zero, suc, ◌+◌, ◌-◌, ◌*◌, ◌/◌, ◌%◌, ◌^◌, ◌&&◌, List, [], ◌∷◌, length, slice_index, nat_le, nat_lt, if◌then◌else◌}
+-- Meaning: bytes by their addresses: what a few of them spell, and what a store leaves. Numbers lie with their lowest byte
+-- first. UEFI specification, chapter "Introduction", section "Data Structure Descriptions": the byte order of numbers in
+-- memory.
+use Rattle.std.specs.Prelude.{◌≡◌, ◌⊎◌, ℕ, zero, suc, ◌+◌, ◌-◌, ◌*◌, ◌/◌, ◌%◌, ◌^◌, ◌&&◌, List, [], ◌∷◌, length, slice_index, nat_le}
+use Rattle.std.specs.Prelude.{nat_lt, if◌then◌else◌}
 
 -- the number that the k bytes from address a on spell
 unfoldable pub little_endian : (ℕ → ℕ) → ℕ → ℕ → ℕ

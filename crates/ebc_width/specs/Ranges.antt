@@ -1,5 +1,5 @@
--- Ranges of addresses, and the bytes that one of them holds: an access lies in one range, and never in two. This is a choice of
--- this project (docs/DECISIONS.md, on the modelled host's memory); in words in docs/MACHINE.md, "The state".
+-- Meaning: Ranges of addresses, and the bytes that one of them holds: an access lies in one range, and never in two. This is
+-- a choice of this project (docs/DECISIONS.md, on the modelled host's memory); in words in docs/MACHINE.md, "The state".
 use Rattle.std.specs.Prelude.{ℕ, ◌+◌, Bool, ◌&&◌, List, nat_le}
 use Rattle.std.specs.List.{list_any}
 

@@ -1,4 +1,4 @@
--- What a number means where a pointer has 4 or 8 bytes: its low bytes, their sign, and a count of natural units.
+-- Meaning: what a number means where a pointer has 4 or 8 bytes: its low bytes, their sign, and a count of natural units.
 -- UEFI specification, chapter "EFI Byte Code Virtual Machine", section "Natural Indexing", and the moves of natural size.
 use Rattle.std.specs.Prelude.{◌≡◌, ◌⊎◌, ℕ, ◌+◌, ◌-◌, ◌*◌, ◌%◌, ◌^◌, ℤ, pos, negsuc, ◌+ℤ◌, ◌*ℤ◌, nat_lt, if◌then◌else◌}
 
@@ -24,3 +24,11 @@ extended_at w x =
 -- n natural units, of w bytes each, and c bytes, modulo 2 ^ 64
 abbrev pub linear_at : ℕ → ℤ → ℤ → ℕ
 linear_at w n c = wrap64 ((n *ℤ pos w) +ℤ c)
+
+-- how far one address lies from another, modulo 2^64
+abbrev pub distance_of : ℕ → ℕ → ℕ
+distance_of base from = (base + (2 ^ 64 - from)) % 2 ^ 64
+
+-- the signed number that its two's complement in so many bits spells
+abbrev pub signed_at : ℕ → ℕ → ℤ
+signed_at bits n = if nat_lt n (2 ^ (bits - 1)) then pos n else negsuc (2 ^ bits - 1 - n)

@@ -36,24 +36,3 @@ pub fn linear<const W: usize>(n: i64, c: i64) -> u64
         .wrapping_mul(W as u64)
         .wrapping_add(c.cast_unsigned())
 }
-
-#[cfg(test)]
-mod tests {
-    use super::*;
-
-    #[test]
-    fn the_two_widths(rt: HostRuntime) {
-        assert_eq!(rt; cut::<4>(0x0000_0001_2345_6789), 0x2345_6789);
-        assert_eq!(rt; cut::<8>(0x0000_0001_2345_6789), 0x0000_0001_2345_6789);
-
-        // An EFI status that is an error has the top bit of a pointer's width.
-        assert_eq!(rt; extend::<4>(0x0000_0000_8000_000E), 0xFFFF_FFFF_8000_000E);
-        assert_eq!(rt; extend::<4>(0x0000_0001_0000_000E), 0x0000_0000_0000_000E);
-        assert_eq!(rt; extend::<8>(0x8000_0000_0000_000E), 0x8000_0000_0000_000E);
-
-        // The pair of the index 0xA048.
-        assert_eq!(rt; linear::<4>(-8, -4).cast_signed(), -36);
-        assert_eq!(rt; linear::<8>(-8, -4).cast_signed(), -68);
-        assert_eq!(rt; linear::<8>(i64::MAX, 0).cast_signed(), -8);
-    }
-}

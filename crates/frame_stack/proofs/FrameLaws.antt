@@ -1,5 +1,6 @@
 -- Laws of frames in bytes: which bytes tell a frame, where each lies, and what a push, a slot and a mark leave.
-use Rattle.std.proofs.Common.{◌≡◌, ℕ, zero, suc, ◌+◌, ◌-◌, ◌*◌, ◌%◌, ◌^◌, ◌<◌, ◌≤◌, ◌⊎◌, inl, inr, ⊎_elim, List, [], ◌∷◌, length, set, get_or, refl, sym, ap, ap₂, ◌∙◌, arith, Some, reverse, slice_get}
+use Rattle.std.proofs.Common.{◌≡◌, ℕ, zero, suc, ◌+◌, ◌-◌, ◌*◌, ◌%◌, ◌^◌, ◌<◌, ◌≤◌, ◌⊎◌, inl, inr, ⊎_elim, List, [], ◌∷◌, length, set}
+use Rattle.std.proofs.Common.{get_or, refl, sym, ap, ap₂, ◌∙◌, arith, Some, reverse, slice_get}
 use Rattle.std.specs.Prelude.{slice_index}
 use Rattle.std.proofs.lemmas.List.{length-reverse, get_or-reverse}
 use Rattle.std.proofs.lemmas.Option.{slice_get_within, get_or_from_slice_get, same_Some}
@@ -79,7 +80,8 @@ pub slot_is : (b : ℕ → ℕ) (d i a j : ℕ) (fs : List Frame) (f : Frame) �
     → little_endian b (a + 96 + 8 * j) 8 ≡ slice_index f.slots j
 slot_is b d i a j fs f are is begins less =
     sym (word-index b (a + 96) 16 j less)
-    ∙ ap (λ ws. slice_index ws j) (sym (frame-slots b a) ∙ ap (λ (g : Frame). g.slots) (ap (frame_at b) begins ∙ frame-from_bottom b d i fs f are is))
+    ∙ ap (λ ws. slice_index ws j) (sym (frame-slots b a) ∙ ap (λ (g : Frame). g.slots)
+    (ap (frame_at b) begins ∙ frame-from_bottom b d i fs f are is))
 
 frame-mark : (b : ℕ → ℕ) (a : ℕ) (f : Frame) → frame_at b a ≡ f
     → (little_endian b (a + 80) 4 ≡ f.entry) × (little_endian b (a + 84) 4 ≡ f.callback) × (little_endian b (a + 92) 4 ≡ f.count)
@@ -191,7 +193,8 @@ frames-with_mark b c1 c2 c d a e k n [] are top se sk sn is1 is2 is3 = absurd (o
 frames-with_mark b c1 c2 c d a e k n (f ∷ fs) are top se sk sn is1 is2 is3 =
     let below : ℕ = length fs in let begins : a ≡ 224 * below = omega arith in let deep : d ≡ suc below = depth_is b d (f ∷ fs) are in
     let written = frame-with_mark b c1 c2 c a e k n se sk sn is1 is2 is3 in
-    let kept = frames-agree b c below (λ x to. stays c2 c (a + 92) 4 n x is3 (inl (omega arith)) ∙ stays c1 c2 (a + 84) 4 k x is2 (inl (omega arith)) ∙ stays b c1 (a + 80) 4 e x is1 (inl (omega arith))) in
+    let kept = frames-agree b c below (λ x to. stays c2 c (a + 92) 4 n x is3 (inl (omega arith))
+    ∙ stays c1 c2 (a + 84) 4 k x is2 (inl (omega arith)) ∙ stays b c1 (a + 80) 4 e x is1 (inl (omega arith))) in
     frames-top c d below deep ∙ ap₂ (λ g gs. g ∷ gs)
     (ap (frame_at c) (sym begins) ∙ written ∙ ap (λ o. record (frame_at b o) { entry = e; callback = k; count = n }) begins) kept
     ∙ ap (with_mark e k n) (sym (frames-top b d below deep) ∙ are)
@@ -237,7 +240,16 @@ module _ (o b1 b2 b3 b4 b5 b6 b7 b8 : ℕ → ℕ) (a : ℕ) (f : Frame) (regs_l
       let func_is = stands b5 b6 b8 (a + 88) 4 f.func func (λ x to. since6 x (omega arith)) (omega arith) in
       let count_is = stands b6 b7 b8 (a + 92) 4 f.count count (λ x to. since7 x (omega arith)) (omega arith) in
       let slots_is : words_at b8 (a + 96) 16 ≡ f.slots = ap (words_at b8 (a + 96)) (sym slots_long) ∙ slots in
-      λ i. record { regs = regs_is i; ip = ip_is i; flags = flags_is i; entry = entry_is i; callback = callback_is i; func = func_is i; count = count_is i; slots = slots_is i }
+      λ i. record {
+        regs = regs_is i;
+        ip = ip_is i;
+        flags = flags_is i;
+        entry = entry_is i;
+        callback = callback_is i;
+        func = func_is i;
+        count = count_is i;
+        slots = slots_is i;
+      }
 
   frame-apart : SameApart o b8 a 224
   unfolding SameApart

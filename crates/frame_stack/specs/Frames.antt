@@ -1,5 +1,5 @@
--- How frames lie in the bytes of a region: frame i from the bottom begins at 224 * i. A list of frames has the last one first.
--- The layout is this project's own.
+-- For proofs: how frames lie in the bytes of a region: frame i from the bottom begins at 224 * i. A list of frames has the
+-- last one first. The layout is this project's own.
 use Rattle.std.specs.Prelude.{ℕ, zero, suc, ◌+◌, ◌*◌, List, [], ◌∷◌, reverse, slice_get, slice_set, Option}
 use Rattle.ebc_width.specs.Bytes.{little_endian}
 use Rattle.frame_stack.specs.Words.{words_at}

@@ -1,4 +1,4 @@
--- Words of eight bytes, side by side.
+-- For proofs: words of eight bytes, side by side.
 use Rattle.std.specs.Prelude.{◌≡◌, ◌⊎◌, ℕ, zero, suc, ◌+◌, ◌<◌, ◌≤◌, List, [], ◌∷◌}
 use Rattle.ebc_width.specs.Bytes.{little_endian}
 

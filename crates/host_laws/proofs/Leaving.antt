@@ -1,25 +1,26 @@
 -- Leaving a frame, and ends: a run that stands for a configuration stands for it after them.
-use Rattle.std.proofs.Common.{◌≡◌, ℕ, ◌^◌, ◌<◌, if◌then◌else◌, List, [], ◌∷◌, ◌++◌, Option, Some, None, refl, sym, ap, ap₂, ◌∙◌, subst, subst₂, arith, slice_index, slice_set}
+use Rattle.std.proofs.Common.{◌≡◌, ℕ, ◌^◌, ◌<◌, if◌then◌else◌, List, [], ◌∷◌, ◌++◌, Option, Some, None, refl, sym, ap, ap₂, ◌∙◌, subst}
+use Rattle.std.proofs.Common.{subst₂, arith, slice_index, slice_set}
 use Rattle.std.proofs.lemmas.List.{length-set, get_or-set_same, get_or-set_other}
 use Rattle.ebc_width.specs.Width.{IsWidth}
 use Rattle.note_types.specs.Cells.{cell_size}
 use Rattle.note_types.specs.Concrete.{Concrete, register}
-use Rattle.run_types.specs.HostPlans.{Finishes, Leaves, Ends}
-use Rattle.run_types.specs.HostSteps.{performed, left, outside}
-use Rattle.run_types.specs.Placements.{Placement, IsPlacement, stack_end}
-use Rattle.run_types.specs.RunState.{SavedFrame, RunState}
+use Rattle.host_model.specs.HostPlans.{Finishes, Leaves, Ends}
+use Rattle.host_model.specs.HostSteps.{performed, left, outside}
+use Rattle.host_model.specs.Placements.{Placement, IsPlacement, stack_end}
+use Rattle.host_model.specs.RunState.{SavedFrame, RunState}
 use Rattle.note_types.specs.declared.ending.Ending.{Ending}
 use Rattle.note_types.specs.declared.ending.Ending.TheVariants.{Finished}
 use Rattle.note_types.specs.declared.event.Event.{Event}
 use Rattle.note_types.specs.declared.shape.Field.{Field}
 use Rattle.note_types.specs.declared.value.Value.{Value}
-use Rattle.run_types.specs.Config.{HostFrame, Frame, Function, Host, Config, with_value}
-use Rattle.run_types.specs.NeutralHost.{performed as neutral_performed, left as neutral_left}
-use Rattle.run_types.specs.Layout.{addresses, top_of}
-use Rattle.run_types.specs.Memory.{memory_of, cell_field}
+use Rattle.neutral_machine.specs.Config.{HostFrame, Frame, Function, Host, Config, with_value}
+use Rattle.neutral_machine.specs.NeutralHost.{performed as neutral_performed, left as neutral_left}
+use Rattle.neutral_machine.specs.Layout.{addresses, top_of}
+use Rattle.neutral_machine.specs.Memory.{memory_of, cell_field}
 use Rattle.neutral_machine.specs.Stands.{HostShows, HostsShow, CellShows, cell_address, MachineStands, Stands}
-use Rattle.run_types.specs.Values.{Neutral, Anchor, ObjectOf, ThunkOf, LocalOf, CellPlace, FieldOf, FieldOfLocals, Shows}
-use Rattle.run_types.specs.World.{World}
+use Rattle.host_model.specs.Values.{Neutral, Anchor, ObjectOf, ThunkOf, LocalOf, CellPlace, FieldOf, FieldOfLocals, Shows}
+use Rattle.host_model.specs.World.{World}
 use Rattle.neutral_machine.specs.WorldFits.{WorldFits}
 use Rattle.neutral_machine.proofs.Agree.{Extends, shows_more, shows_in_more, frames_more}
 use Rattle.neutral_machine.proofs.Cells.{end_small}
@@ -31,7 +32,8 @@ module _ (w : ℕ) (world : World) (P : Placement) (mapped : ℕ → ℕ) (h : I
   extends_below : (k : HostFrame) (fs : List Frame) → Extends (addresses w world.notes P (Host k ∷ fs)) (addresses w world.notes P fs)
   extends_below k fs = record { anchor = anchor; handle = λ j p e. e; method = λ j p e. e; entry = λ j p e. e }
     where
-      anchor : (a : Anchor) (p : ℕ) → (addresses w world.notes P (Host k ∷ fs)).anchor a ≡ Some p → (addresses w world.notes P fs).anchor a ≡ Some p
+      anchor : (a : Anchor) (p : ℕ) → (addresses w world.notes P (Host k ∷ fs)).anchor a ≡ Some p
+          → (addresses w world.notes P fs).anchor a ≡ Some p
       anchor (ObjectOf j) p e = e
       anchor (ThunkOf i) p e = e
       anchor (LocalOf d f) p e = e
@@ -40,26 +42,36 @@ module _ (w : ℕ) (world : World) (P : Placement) (mapped : ℕ → ℕ) (h : I
   under : Config → HostFrame → List Frame → Config
   under a k fs = record a { registers = with_value k.saved 7 (a.registers 7); c = k.c; spot = k.spot; frames = fs }
 
-  left_machine : (but : Option ℕ) (a : Config) (s : Concrete) (k : HostFrame) (fs : List Frame) (x : SavedFrame) → a.frames ≡ Host k ∷ fs → MachineStands w world P mapped but a s
-      → HostShows w world P (addresses w world.notes P a.frames) (top_of w (stack_end w world.notes P) fs) k x → MachineStands w world P mapped but (under a k fs) (outside s x)
+  left_machine : (but : Option ℕ) (a : Config) (s : Concrete) (k : HostFrame) (fs : List Frame) (x : SavedFrame) → a.frames ≡ Host k ∷ fs
+      → MachineStands w world P mapped but a s
+      → HostShows w world P (addresses w world.notes P a.frames) (top_of w (stack_end w world.notes P) fs) k x
+      → MachineStands w world P mapped but (under a k fs) (outside s x)
   unfolding under
   left_machine but a s k fs x at st host =
       let A = addresses w world.notes P (Host k ∷ fs) in
       let B = addresses w world.notes P fs in
       let e = extends_below k fs in
       let b : Config = record a { frames = Host k ∷ fs } in
-      let was : MachineStands w world P mapped but b s = subst (λ (z : List Frame). MachineStands w world P mapped but (record a { frames = z }) s) at st in
-      let held : HostShows w world P A (top_of w (stack_end w world.notes P) fs) k x = subst (λ (z : List Frame). HostShows w world P (addresses w world.notes P z) (top_of w (stack_end w world.notes P) fs) k x) at host in
-      let seven : slice_index (slice_set x.registers 7 (register s 7)) 7 ≡ register s 7 = get_or-set_same x.registers 7 (register s 7) 0 (let l = held.eight in omega (arith, l)) in
+      let was : MachineStands w world P mapped but b s = subst (λ (z : List Frame). MachineStands w world P mapped but
+      (record a { frames = z }) s) at st in
+      let held : HostShows w world P A (top_of w (stack_end w world.notes P) fs) k x =
+      subst (λ (z : List Frame). HostShows w world P (addresses w world.notes P z)
+      (top_of w (stack_end w world.notes P) fs) k x) at host in
+      let seven : slice_index (slice_set x.registers 7 (register s 7)) 7 ≡ register s 7 =
+      get_or-set_same x.registers 7 (register s 7) 0 (let l = held.eight in omega (arith, l)) in
       record {
         eight = length-set x.registers 7 (register s 7) ∙ held.eight;
         words = λ r. by_eq r 7 (λ t. slice_index (slice_set x.registers 7 (register s 7)) r < 2 ^ 64)
-            (λ g. subst (λ q. slice_index (slice_set x.registers 7 (register s 7)) q < 2 ^ 64) (sym g) (subst (λ q. q < 2 ^ 64) (sym seven) (was.words 7)))
+            (λ g. subst (λ q. slice_index (slice_set x.registers 7 (register s 7)) q < 2 ^ 64) (sym g)
+            (subst (λ q. q < 2 ^ 64) (sym seven) (was.words 7)))
             (λ n. subst (λ q. q < 2 ^ 64) (sym (get_or-set_other x.registers 7 r (register s 7) 0 n)) (held.words r));
         small = was.small;
-        registers = λ r l m. by_eq r 7 (λ t. Shows w B (if t then a.registers 7 else k.saved r) (slice_index (slice_set x.registers 7 (register s 7)) r))
-            (λ g. subst (Shows w B (a.registers 7)) (sym (ap (slice_index (slice_set x.registers 7 (register s 7))) g ∙ seven)) (shows_more w A B (a.registers 7) (register s 7) e (was.registers 7 (omega arith) (omega arith))))
-            (λ n. subst (Shows w B (k.saved r)) (sym (get_or-set_other x.registers 7 r (register s 7) 0 n)) (shows_more w A B (k.saved r) _ e (held.registers r l m)));
+        registers = λ r l m. by_eq r 7 (λ t. Shows w B (if t then a.registers 7 else k.saved r)
+            (slice_index (slice_set x.registers 7 (register s 7)) r))
+            (λ g. subst (Shows w B (a.registers 7)) (sym (ap (slice_index (slice_set x.registers 7 (register s 7))) g ∙ seven))
+            (shows_more w A B (a.registers 7) (register s 7) e (was.registers 7 (omega arith) (omega arith))))
+            (λ n. subst (Shows w B (k.saved r)) (sym (get_or-set_other x.registers 7 r (register s 7) 0 n))
+            (shows_more w A B (k.saved r) _ e (held.registers r l m)));
         locals = was.locals;
         top = get_or-set_other x.registers 7 0 (register s 7) 0 (λ g. absurd (omega (arith, g))) ∙ held.top_is;
         frames = frames_more w (stack_end w world.notes P) h (end_small w world P h ok pl) A B P s.byte fs e was.frames.1;
@@ -72,13 +84,16 @@ module _ (w : ℕ) (world : World) (P : Placement) (mapped : ℕ → ℕ) (h : I
         spot = held.spot;
       }
     where
-      cell : (p : CellPlace) (z : Field) (v : Neutral) → cell_field world.notes (memory_of world (under a k fs)) p ≡ Some z → a.cells p ≡ Some v
+      cell : (p : CellPlace) (z : Field) (v : Neutral) → cell_field world.notes (memory_of world (under a k fs)) p ≡ Some z
+          → a.cells p ≡ Some v
           → CellShows w (addresses w world.notes P fs) s.byte (cell_address w world P (under a k fs) p z) (cell_size w z.cell) v
       cell p z v g c =
-          let was : MachineStands w world P mapped but (record a { frames = Host k ∷ fs }) s = subst (λ (z : List Frame). MachineStands w world P mapped but (record a { frames = z }) s) at st in
+          let was : MachineStands w world P mapped but (record a { frames = Host k ∷ fs }) s =
+          subst (λ (z : List Frame). MachineStands w world P mapped but (record a { frames = z }) s) at st in
           by p z v g c was
         where
-          by : (p : CellPlace) (z : Field) (v : Neutral) → cell_field world.notes (memory_of world (under a k fs)) p ≡ Some z → a.cells p ≡ Some v → MachineStands w world P mapped but (record a { frames = Host k ∷ fs }) s
+          by : (p : CellPlace) (z : Field) (v : Neutral) → cell_field world.notes (memory_of world (under a k fs)) p ≡ Some z
+              → a.cells p ≡ Some v → MachineStands w world P mapped but (record a { frames = Host k ∷ fs }) s
               → CellShows w (addresses w world.notes P fs) s.byte (cell_address w world P (under a k fs) p z) (cell_size w z.cell) v
           by (FieldOf m i f) z v g c was =
               let old = was.cells (FieldOf m i f) z v g c in
@@ -88,23 +103,32 @@ module _ (w : ℕ) (world : World) (P : Placement) (mapped : ℕ → ℕ) (h : I
               record { address = old.address; there = old.there; shows = shows_in_more w _ _ _ v _ (extends_below k fs) old.shows }
 
   -- the top host frame is left
-  left_stands : (a : Config) (r : RunState) (k : HostFrame) (fs : List Frame) → a.frames ≡ Host k ∷ fs → Stands w world P mapped a r → (t : List Event) (e : Ending)
-      → Stands w world P mapped (record (neutral_left a a.frames) { trace = a.trace ++ t; ending = e }) (record (left r r.hosts) { trace = r.trace ++ t; ending = e })
+  left_stands : (a : Config) (r : RunState) (k : HostFrame) (fs : List Frame) → a.frames ≡ Host k ∷ fs → Stands w world P mapped a r
+      → (t : List Event) (e : Ending)
+      → Stands w world P mapped (record (neutral_left a a.frames) { trace = a.trace ++ t; ending = e })
+      (record (left r r.hosts) { trace = r.trace ++ t; ending = e })
   unfolding under
   left_stands a r k fs at st t e =
-      subst (λ (z : List Frame). Stands w world P mapped (record (neutral_left a z) { trace = a.trace ++ t; ending = e }) (record (left r r.hosts) { trace = r.trace ++ t; ending = e })) (sym at)
+      subst (λ (z : List Frame). Stands w world P mapped (record (neutral_left a z) { trace = a.trace ++ t; ending = e })
+      (record (left r r.hosts) { trace = r.trace ++ t; ending = e })) (sym at)
       (go r.hosts refl (subst (λ (z : List Frame). HostsShow w world P (addresses w world.notes P a.frames) z r.hosts) at st.hosts))
     where
       go : (ss : List SavedFrame) → r.hosts ≡ ss → HostsShow w world P (addresses w world.notes P a.frames) (Host k ∷ fs) r.hosts
-          → Stands w world P mapped (record (neutral_left a (Host k ∷ fs)) { trace = a.trace ++ t; ending = e }) (record (left r r.hosts) { trace = r.trace ++ t; ending = e })
+          → Stands w world P mapped (record (neutral_left a (Host k ∷ fs)) { trace = a.trace ++ t; ending = e })
+          (record (left r r.hosts) { trace = r.trace ++ t; ending = e })
       go [] eq s = absurd (subst (HostsShow w world P (addresses w world.notes P a.frames) (Host k ∷ fs)) eq s)
       go (x ∷ ss) eq s =
           let g = subst (HostsShow w world P (addresses w world.notes P a.frames) (Host k ∷ fs)) eq s in
           let A = addresses w world.notes P a.frames in
-          let more : Extends A (addresses w world.notes P fs) = subst (λ (z : List Frame). Extends (addresses w world.notes P z) (addresses w world.notes P fs)) (sym at) (extends_below k fs) in
-          subst (λ (y : List SavedFrame). Stands w world P mapped (record (neutral_left a (Host k ∷ fs)) { trace = a.trace ++ t; ending = e }) (record (left r y) { trace = r.trace ++ t; ending = e })) (sym eq)
+          let more : Extends A (addresses w world.notes P fs) =
+          subst (λ (z : List Frame). Extends (addresses w world.notes P z) (addresses w world.notes P fs)) (sym at)
+          (extends_below k fs) in
+          subst (λ (y : List SavedFrame). Stands w world P mapped
+          (record (neutral_left a (Host k ∷ fs)) { trace = a.trace ++ t; ending = e })
+          (record (left r y) { trace = r.trace ++ t; ending = e })) (sym eq)
           (record {
-            machine = machine_told w world P mapped None (under a k fs) (outside r.machine x) (a.trace ++ t) e (left_machine None a r.machine k fs x at st.machine g.0);
+            machine = machine_told w world P mapped None (under a k fs) (outside r.machine x) (a.trace ++ t) e
+                (left_machine None a r.machine k fs x at st.machine g.0);
             hosts = hosts_more w world P mapped h ok pl A (addresses w world.notes P fs) fs ss more g.1;
             script = st.script;
             trace = ap (λ y. y ++ t) st.trace;
@@ -144,17 +168,21 @@ module _ (w : ℕ) (world : World) (P : Placement) (mapped : ℕ → ℕ) (h : I
   }
 
   -- a function that was entered returns
-  pub leave_stands : (a : Config) (r : RunState) (k : HostFrame) (fs : List Frame) (e : Event) → a.frames ≡ Host k ∷ fs → Stands w world P mapped a r
+  pub leave_stands : (a : Config) (r : RunState) (k : HostFrame) (fs : List Frame) (e : Event) → a.frames ≡ Host k ∷ fs
+      → Stands w world P mapped a r
       → Stands w world P mapped (neutral_performed world a (Leaves e)) (performed w world P r (Leaves e))
   unfolding neutral_performed performed
   leave_stands a r k fs e at st =
       subst₂ (λ (y : Config) (z : RunState). Stands w world P mapped y z)
-      (ap₂ (λ t n. record (neutral_left a a.frames) { trace = t ++ e ∷ []; ending = n }) (sym (neutral_trace_left a a.frames)) (sym (neutral_ending_left a a.frames)))
-      (ap₂ (λ t n. record (left r r.hosts) { trace = t ++ e ∷ []; ending = n }) (sym (trace_left r r.hosts)) (sym st.ending ∙ sym (ending_left r r.hosts)))
+      (ap₂ (λ t n. record (neutral_left a a.frames) { trace = t ++ e ∷ []; ending = n }) (sym (neutral_trace_left a a.frames))
+      (sym (neutral_ending_left a a.frames)))
+      (ap₂ (λ t n. record (left r r.hosts) { trace = t ++ e ∷ []; ending = n }) (sym (trace_left r r.hosts))
+      (sym st.ending ∙ sym (ending_left r r.hosts)))
       (left_stands a r k fs at st (e ∷ []) a.ending)
 
   -- the first function returns, and the run ends with its result
-  pub finish_stands : (a : Config) (r : RunState) (k : HostFrame) (fs : List Frame) (v : Value) → a.frames ≡ Host k ∷ fs → Stands w world P mapped a r
+  pub finish_stands : (a : Config) (r : RunState) (k : HostFrame) (fs : List Frame) (v : Value) → a.frames ≡ Host k ∷ fs
+      → Stands w world P mapped a r
       → Stands w world P mapped (neutral_performed world a (Finishes v)) (performed w world P r (Finishes v))
   unfolding neutral_performed performed
   finish_stands a r k fs v at st =

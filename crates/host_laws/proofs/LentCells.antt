@@ -1,6 +1,7 @@
 -- The cells that a native call was lent: the neutral machine isn't stuck where the call goes on, so each of its arguments that
 -- wants a cell names one.
-use Rattle.std.proofs.Common.{◌≡◌, ℕ, zero, suc, ◌+◌, true, List, [], ◌∷◌, Option, Some, None, is_some, refl, sym, ap, ◌∙◌, subst, arith, slice_get}
+use Rattle.std.proofs.Common.{◌≡◌, ℕ, zero, suc, ◌+◌, true, List, [], ◌∷◌, Option, Some, None, is_some, refl, sym, ap, ◌∙◌, subst, arith}
+use Rattle.std.proofs.Common.{slice_get}
 use Rattle.std.specs.Option.{option_map_or, option_and_then}
 use Rattle.std.proofs.lemmas.Bool.{and_parts}
 use Rattle.std.proofs.lemmas.Option.{none-some}
@@ -9,13 +10,13 @@ use Rattle.note_types.specs.declared.notes.WantParam.{WantParam}
 use Rattle.note_types.specs.declared.script.ScriptCall.{ScriptCall}
 use Rattle.note_types.specs.declared.shape.Field.{Field}
 use Rattle.note_types.specs.declared.shape.Shape.{Shape}
-use Rattle.run_types.specs.Config.{Config}
-use Rattle.run_types.specs.HostPlans.{InArgument, cell_lent, lent_at, signature_params}
-use Rattle.run_types.specs.Memory.{memory_of, cell_field}
-use Rattle.run_types.specs.NeutralHost.{all_lent, lent_there, local_of, slot_lends, target_place}
-use Rattle.run_types.specs.NeutralReadings.{local_named}
-use Rattle.run_types.specs.Values.{Neutral, CellPlace, FieldOfLocals}
-use Rattle.run_types.specs.World.{World}
+use Rattle.neutral_machine.specs.Config.{Config}
+use Rattle.host_model.specs.HostPlans.{InArgument, cell_lent, lent_at, signature_params}
+use Rattle.neutral_machine.specs.Memory.{memory_of, cell_field}
+use Rattle.neutral_machine.specs.NeutralHost.{all_lent, lent_there, local_of, slot_lends, target_place}
+use Rattle.neutral_machine.specs.NeutralReadings.{local_named}
+use Rattle.host_model.specs.Values.{Neutral, CellPlace, FieldOfLocals}
+use Rattle.host_model.specs.World.{World}
 use Rattle.host_laws.proofs.ViewAlike.{and_then_some, names_local}
 
 -- An argument names a cell of a kind.
@@ -48,7 +49,8 @@ module _ (world : World) (a : Config) (slots : List Neutral) where
         cell = n.cell;
       }
 
-  slots_lend : (k : ℕ) (ps : List WantParam) → all_lent a.frames slots k ps ≡ true → (j : ℕ) (c : Cell) → lent_at ps j ≡ Some c → slot_lends a.frames (Some c) (slice_get slots (k + j)) ≡ true
+  slots_lend : (k : ℕ) (ps : List WantParam) → all_lent a.frames slots k ps ≡ true → (j : ℕ) (c : Cell) → lent_at ps j ≡ Some c
+      → slot_lends a.frames (Some c) (slice_get slots (k + j)) ≡ true
   unfolding all_lent
   slots_lend k [] e j c h = absurd (none-some c h)
   slots_lend k (p ∷ ps) e zero c h =
@@ -60,10 +62,12 @@ module _ (world : World) (a : Config) (slots : List Neutral) where
       let b = and_parts (slot_lends a.frames (cell_lent p.want) (slice_get slots k)) (all_lent a.frames slots (suc k) ps) e in
       ap (λ n. slot_lends a.frames (Some c) (slice_get slots n)) next ∙ slots_lend (suc k) ps b.1 j c h
 
-  pub lent_cells : (entry : ℕ) (c : ScriptCall) → slice_get world.script.call entry ≡ Some c → lent_there world a.frames entry slots ≡ true → LentCells world a slots (signature_params world.notes c.signature)
+  pub lent_cells : (entry : ℕ) (c : ScriptCall) → slice_get world.script.call entry ≡ Some c → lent_there world a.frames entry slots ≡ true
+      → LentCells world a slots (signature_params world.notes c.signature)
   unfolding lent_there
   lent_cells entry c there e j x h =
       let ps = signature_params world.notes c.signature in
-      let all : all_lent a.frames slots 0 ps ≡ true = ap (λ o. option_map_or (λ (y : ScriptCall). all_lent a.frames slots 0 (signature_params world.notes y.signature)) o true) (sym there) ∙ e in
+      let all : all_lent a.frames slots 0 ps ≡ true = ap (λ o. option_map_or
+      (λ (y : ScriptCall). all_lent a.frames slots 0 (signature_params world.notes y.signature)) o true) (sym there) ∙ e in
       let here : 0 + j ≡ j = omega arith in
       slot_names j x (subst (λ n. slot_lends a.frames (Some x) (slice_get slots n) ≡ true) here (slots_lend 0 ps all j x h))

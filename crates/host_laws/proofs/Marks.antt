@@ -1,21 +1,22 @@
 -- The marks of a native call say nothing of the machine: a machine that stands for a configuration stands for it with other marks.
-use Rattle.std.proofs.Common.{◌≡◌, ℕ, suc, ◌+◌, ◌^◌, ◌≤◌, if◌then◌else◌, nat_eq, List, [], ◌∷◌, Option, Some, refl, sym, ap, ap₂, ◌∙◌, subst, slice_get}
+use Rattle.std.proofs.Common.{◌≡◌, ℕ, suc, ◌+◌, ◌^◌, ◌≤◌, if◌then◌else◌, nat_eq, List, [], ◌∷◌, Option, Some, refl, sym, ap, ap₂, ◌∙◌}
+use Rattle.std.proofs.Common.{subst, slice_get}
 use Rattle.std.specs.Option.{option_and_then}
 use Rattle.ebc_width.specs.Width.{IsWidth}
 use Rattle.note_types.specs.Concrete.{Concrete}
-use Rattle.run_types.specs.Placements.{Placement, return_cell, stack_end}
-use Rattle.run_types.specs.Progress.{NativeCall}
+use Rattle.host_model.specs.Placements.{Placement, return_cell, stack_end}
+use Rattle.host_model.specs.Progress.{NativeCall}
 use Rattle.note_types.specs.declared.ending.Ending.{Ending}
 use Rattle.note_types.specs.declared.event.Event.{Event}
 use Rattle.note_types.specs.declared.notes.Notes.{Notes}
 use Rattle.note_types.specs.declared.shape.Field.{Field}
 use Rattle.note_types.specs.declared.shape.Shape.{Shape}
-use Rattle.run_types.specs.Config.{Frame, Function, Host, Config, depth, locals_at, locals_among, with_call}
-use Rattle.run_types.specs.Layout.{addresses, local_address, local_among, total, height}
-use Rattle.run_types.specs.Values.{minus, Neutral, Addresses, Anchor, ObjectOf, ThunkOf, LocalOf, CellPlace, FieldOf, FieldOfLocals}
-use Rattle.run_types.specs.Memory.{memory_of, cell_field}
+use Rattle.neutral_machine.specs.Config.{Frame, Function, Host, Config, depth, locals_at, locals_among, with_call}
+use Rattle.neutral_machine.specs.Layout.{addresses, local_address, local_among, total, height}
+use Rattle.host_model.specs.Values.{minus, Neutral, Addresses, Anchor, ObjectOf, ThunkOf, LocalOf, CellPlace, FieldOf, FieldOfLocals}
+use Rattle.neutral_machine.specs.Memory.{memory_of, cell_field}
 use Rattle.neutral_machine.specs.Stands.{ItemsShow, ReturnShows, return_address, FramesShow, cell_address, MachineStands, OwnLocalsAll}
-use Rattle.run_types.specs.World.{World}
+use Rattle.host_model.specs.World.{World}
 use Rattle.neutral_machine.proofs.Agree.{Extends, shows_more, shows_in_more, frames_more}
 
 module _ (call : NativeCall Neutral) where
@@ -31,14 +32,17 @@ module _ (call : NativeCall Neutral) where
 
   locals_marked : (fs : List Frame) (d : ℕ) → locals_at (with_call call fs) d ≡ locals_at fs d
   locals_marked [] d = refl
-  locals_marked (Function f ∷ fs) d = ap₂ (λ n (x : Option Shape). if nat_eq d n then locals_among f.items else x) (depth_marked fs) (locals_marked fs d)
+  locals_marked (Function f ∷ fs) d = ap₂ (λ n (x : Option Shape). if nat_eq d n then locals_among f.items else x) (depth_marked fs)
+      (locals_marked fs d)
   locals_marked (Host h ∷ fs) d = refl
 
   address_marked : (w end : ℕ) (fs : List Frame) (d f : ℕ) → local_address w end (with_call call fs) d f ≡ local_address w end fs d f
   address_marked w end [] d f = refl
   address_marked w end (Function g ∷ fs) d f =
-      ap₂ (λ n t. if nat_eq d n then local_among w end (return_cell + t) g.items f else local_address w end (with_call call fs) d f) (depth_marked fs) (total_marked w fs)
-      ∙ ap (λ (x : Option ℕ). if nat_eq d (depth fs) then local_among w end (return_cell + total w fs) g.items f else x) (address_marked w end fs d f)
+      ap₂ (λ n t. if nat_eq d n then local_among w end (return_cell + t) g.items f else local_address w end (with_call call fs) d f)
+      (depth_marked fs) (total_marked w fs)
+      ∙ ap (λ (x : Option ℕ). if nat_eq d (depth fs) then local_among w end (return_cell + total w fs) g.items f else x)
+      (address_marked w end fs d f)
   address_marked w end (Host h ∷ fs) d f = refl
 
   own_marked : (notes : Notes) (fs : List Frame) → OwnLocalsAll notes fs → OwnLocalsAll notes (with_call call fs)
@@ -51,11 +55,13 @@ module _ (call : NativeCall Neutral) where
   back_marked P ret (Function f ∷ fs) = refl
   back_marked P ret (Host h ∷ fs) = refl
 
-  frames_marked : (w : ℕ) (A : Addresses) (b : ℕ → ℕ) (end : ℕ) (P : Placement) (fs : List Frame) → FramesShow w A b end P fs → FramesShow w A b end P (with_call call fs)
+  frames_marked : (w : ℕ) (A : Addresses) (b : ℕ → ℕ) (end : ℕ) (P : Placement) (fs : List Frame) → FramesShow w A b end P fs
+      → FramesShow w A b end P (with_call call fs)
   frames_marked w A b end P [] s = tt
   frames_marked w A b end P (Function f ∷ fs) s = (
     subst (λ t. ItemsShow w A b end (return_cell + t) f.items) (sym (total_marked w fs)) s.0,
-    subst (λ t. ReturnShows b t (return_address P f.ret (with_call call fs))) (ap (λ t. minus end (return_cell + t)) (sym (total_marked w fs)))
+    subst (λ t. ReturnShows b t (return_address P f.ret (with_call call fs)))
+        (ap (λ t. minus end (return_cell + t)) (sym (total_marked w fs)))
         (subst (ReturnShows b (minus end (return_cell + total w fs))) (sym (back_marked P f.ret fs)) s.1),
     frames_marked w A b end P fs s.2,
   )
@@ -66,20 +72,24 @@ module _ (call : NativeCall Neutral) where
     pub extends_marked : (fs : List Frame) → Extends (addresses w world.notes P fs) (addresses w world.notes P (with_call call fs))
     extends_marked fs = record { anchor = anchor; handle = λ k p e. e; method = λ k p e. e; entry = λ k p e. e }
       where
-        anchor : (a : Anchor) (p : ℕ) → (addresses w world.notes P fs).anchor a ≡ Some p → (addresses w world.notes P (with_call call fs)).anchor a ≡ Some p
+        anchor : (a : Anchor) (p : ℕ) → (addresses w world.notes P fs).anchor a ≡ Some p
+            → (addresses w world.notes P (with_call call fs)).anchor a ≡ Some p
         anchor (ObjectOf k) p e = e
         anchor (ThunkOf i) p e = e
         anchor (LocalOf d f) p e = address_marked w (stack_end w world.notes P) fs d f ∙ e
 
-    field_marked : (a : Config) (p : CellPlace) → cell_field world.notes (memory_of world (record a { frames = with_call call a.frames })) p ≡ cell_field world.notes (memory_of world a) p
+    field_marked : (a : Config) (p : CellPlace) → cell_field world.notes
+        (memory_of world (record a { frames = with_call call a.frames })) p ≡ cell_field world.notes (memory_of world a) p
     field_marked a (FieldOf k i f) = refl
     field_marked a (FieldOfLocals d f) = ap (option_and_then (λ (s : Shape). slice_get s.fields f)) (locals_marked a.frames d)
 
-    place_marked : (a : Config) (p : CellPlace) (z : Field) → cell_address w world P (record a { frames = with_call call a.frames }) p z ≡ cell_address w world P a p z
+    place_marked : (a : Config) (p : CellPlace) (z : Field) → cell_address w world P
+        (record a { frames = with_call call a.frames }) p z ≡ cell_address w world P a p z
     place_marked a (FieldOf k i f) z = refl
     place_marked a (FieldOfLocals d f) z = address_marked w (stack_end w world.notes P) a.frames d f
 
-    pub machine_marked : (h : IsWidth w) (small : stack_end w world.notes P ≤ 2 ^ 64) (but : Option ℕ) (a : Config) (s : Concrete) → MachineStands w world P mapped but a s → MachineStands w world P mapped but (record a { frames = with_call call a.frames }) s
+    pub machine_marked : (h : IsWidth w) (small : stack_end w world.notes P ≤ 2 ^ 64) (but : Option ℕ) (a : Config) (s : Concrete)
+        → MachineStands w world P mapped but a s → MachineStands w world P mapped but (record a { frames = with_call call a.frames }) s
     machine_marked h small but a s st =
         let e = extends_marked a.frames in
         record {
@@ -89,7 +99,8 @@ module _ (call : NativeCall Neutral) where
           registers = λ r l m. shows_more w _ _ (a.registers r) _ e (st.registers r l m);
           locals = own_marked world.notes a.frames st.locals;
           top = st.top ∙ ap (minus (stack_end w world.notes P)) (sym (total_marked w a.frames));
-          frames = frames_marked w _ s.byte (stack_end w world.notes P) P a.frames (frames_more w (stack_end w world.notes P) h small _ _ P s.byte a.frames e st.frames);
+          frames = frames_marked w _ s.byte (stack_end w world.notes P) P a.frames
+              (frames_more w (stack_end w world.notes P) h small _ _ P s.byte a.frames e st.frames);
           cells = λ p z v g c.
               let old = st.cells p z v (sym (field_marked a p) ∙ g) c in
               record { address = old.address; there = place_marked a p z ∙ old.there; shows = shows_in_more w _ _ _ v _ e old.shows };
@@ -103,7 +114,8 @@ module _ (call : NativeCall Neutral) where
 
 module _ (w : ℕ) (world : World) (P : Placement) (mapped : ℕ → ℕ) where
   -- nor do the events and the ending
-  pub machine_told : (but : Option ℕ) (a : Config) (s : Concrete) (t : List Event) (e : Ending) → MachineStands w world P mapped but a s → MachineStands w world P mapped but (record a { trace = t; ending = e }) s
+  pub machine_told : (but : Option ℕ) (a : Config) (s : Concrete) (t : List Event) (e : Ending) → MachineStands w world P mapped but a s
+      → MachineStands w world P mapped but (record a { trace = t; ending = e }) s
   machine_told but a s t e st =
       record {
         eight = st.eight;

@@ -1,14 +1,13 @@
 -- A script that was read gives what the laws of the host's steps and of a run's start ask of it.
-use Rattle.std.proofs.Common.{◌≡◌, ℕ, zero, suc, ◌+◌, ◌-◌, ◌<◌, ◌≤◌, true, List, [], ◌∷◌, ◌++◌, map, take, length, Some, refl, sym, ap, ◌∙◌, subst, arith, slice_get, ⊎_elim}
-use Rattle.std.proofs.lemmas.Bool.{and_parts, cases_lt, eqb-true, lt-ltb}
+use Rattle.std.proofs.Common.{◌≡◌, ℕ, zero, suc, ◌+◌, ◌-◌, ◌<◌, ◌≤◌, true, List, [], ◌∷◌, ◌++◌, map, take, length, Some, refl, sym, ap, ◌∙◌}
+use Rattle.std.proofs.Common.{subst, arith, slice_get, ⊎_elim}
+use Rattle.std.proofs.lemmas.Bool.{cases_lt, lt-ltb}
 use Rattle.std.proofs.lemmas.Option.{none-some, slice_get-map, slice_get_within}
-use Rattle.std.specs.List.{AllByRecursion, enumerate_from, flat_map, list_all, zip}
+use Rattle.std.specs.List.{AllByRecursion, flat_map}
 use Rattle.std.specs.Option.{option_map, option_map_or}
-use Rattle.std.specs.Prelude.{nat_eq}
 use Rattle.note_types.specs.Records.{Each}
 use Rattle.note_types.specs.declared.notes.FnNote.{FnNote}
 use Rattle.note_types.specs.declared.notes.Notes.{Notes}
-use Rattle.note_types.specs.declared.notes.Param.{Param}
 use Rattle.note_types.specs.declared.script.CellValue.{CellValue}
 use Rattle.note_types.specs.declared.script.OutValue.{OutValue}
 use Rattle.note_types.specs.declared.script.Script.{Script}
@@ -18,37 +17,31 @@ use Rattle.note_types.specs.declared.script.WriteValue.{WriteValue}
 use Rattle.note_types.specs.declared.shape.Field.{Field}
 use Rattle.note_types.specs.declared.value.Value.{Value}
 use Rattle.note_types.specs.declared.value.Value.TheVariants as value
-use Rattle.run_types.specs.Config.{Config}
-use Rattle.run_types.specs.HostPlans.{InObject, Store, cell_store, field_at, field_of, filling, function_params, object_stores}
-use Rattle.run_types.specs.Layout.{total}
-use Rattle.run_types.specs.declared.object.TypedObject.{TypedObject}
-use Rattle.run_types.specs.Objects.{made_objects, objects_of, placed_objects, script_object, static_object}
-use Rattle.run_types.specs.ScriptValues.{fits, fits_each}
-use Rattle.run_types.specs.Scripts.{IsCallOf, IsScript, IsWritten}
-use Rattle.run_types.specs.Values.{Cells, FieldOf}
-use Rattle.run_types.specs.World.{World}
-use Rattle.run_types.specs.WrittenLaw.{IsValue}
-use Rattle.run_types.proofs.Lists.{length-map, slice_get-append_left, slice_get-append_right}
-use Rattle.run_types.proofs.Ranges.{most_above}
+use Rattle.neutral_machine.specs.Config.{Config}
+use Rattle.host_model.specs.HostPlans.{InObject, Store, cell_store, field_at, field_of, function_params}
+use Rattle.neutral_machine.specs.Layout.{total}
+use Rattle.host_model.specs.declared.object.TypedObject.{TypedObject}
+use Rattle.host_model.specs.Objects.{made_objects, objects_of, placed_objects, script_object, static_object}
+use Rattle.host_model.specs.ScriptValues.{fits_each}
+use Rattle.host_model.specs.Scripts.{IsCallOf, IsScript, IsWritten}
+use Rattle.host_model.specs.Values.{Cells, FieldOf}
+use Rattle.host_model.specs.World.{World}
+use Rattle.neutral_machine.specs.WrittenLaw.{IsValue}
+use Rattle.ebc_base.proofs.Lists.{length-map, slice_get-append_left, slice_get-append_right}
+use Rattle.neutral_machine.proofs.Ranges.{most_above}
 use Rattle.host_laws.specs.PlanFits.{CanEnter, StoreNames}
 use Rattle.host_laws.specs.ScriptGiven.{CallGiven, StoreGiven}
 use Rattle.host_laws.specs.ScriptLaw.{CallsAreGiven, ObjectsAreGiven, StartIsGiven}
 use Rattle.host_laws.specs.StartGiven.{start_config}
 use Rattle.host_laws.proofs.Growing.{made_more}
+use Rattle.neutral_machine.proofs.Filling.{all_filling, all_flat}
+use Rattle.host_laws.proofs.Plans.{as_many}
 
 -- ---- lists
-
-all_append : {A : Type 0} (P : A → Type 0) (xs ys : List A) → AllByRecursion P xs → AllByRecursion P ys → AllByRecursion P (xs ++ ys)
-all_append P [] ys h g = g
-all_append P (x ∷ xs) ys h g = (h.0, all_append P xs ys h.1 g)
 
 all_each : {A : Type 0} (P : A → Type 0) (xs : List A) → Each P xs → AllByRecursion P xs
 all_each P [] h = tt
 all_each P (x ∷ xs) h = (h 0 x refl, all_each P xs (λ k y e. h (suc k) y e))
-
-all_flat : {A B : Type 0} (P : B → Type 0) (f : A → List B) (xs : List A) → Each (λ x. AllByRecursion P (f x)) xs → AllByRecursion P (flat_map f xs)
-all_flat P f [] h = tt
-all_flat P f (x ∷ xs) h = all_append P (f x) (flat_map f xs) (h 0 x refl) (all_flat P f xs (λ k y e. h (suc k) y e))
 
 map_at : {A B : Type 0} (f : A → B) (xs : List A) (k : ℕ) (x : A) → slice_get xs k ≡ Some x → slice_get (map f xs) k ≡ Some (f x)
 map_at f xs k x e = slice_get-map f xs k ∙ ap (option_map f) e
@@ -72,24 +65,13 @@ each_take P (suc n) (y ∷ ys) h (suc k) x e = each_take P n ys (λ j z g. h (su
 
 -- ---- stores
 
--- the stores of what objects hold at first, object by object
-all_filling : (P : Store → Type 0) (notes : Notes) (first : ℕ) (objects : List ScriptObject)
-    → ((k : ℕ) (o : ScriptObject) → slice_get objects k ≡ Some o → AllByRecursion P (object_stores notes (first + k, o))) → AllByRecursion P (filling notes first objects)
-unfolding filling
-all_filling P notes first [] h = tt
-all_filling P notes first (o ∷ os) h =
-    let here : first + 0 ≡ first = omega arith in
-    all_append P (object_stores notes (first, o)) (flat_map (object_stores notes) (enumerate_from (first + 1) os))
-    (subst (λ n. AllByRecursion P (object_stores notes (n, o))) here (h 0 o refl))
-    (all_filling P notes (first + 1) os (λ k q e.
-    let next : first + suc k ≡ first + 1 + k = omega arith in
-    subst (λ n. AllByRecursion P (object_stores notes (n, q))) next (h (suc k) q e)))
-
-one_cell : (P : Store → Type 0) (notes : Notes) (n : ℕ) (o : ScriptObject) (c : CellValue) (x : Field) → field_of notes o.shape c.field ≡ Some x
+one_cell : (P : Store → Type 0) (notes : Notes) (n : ℕ) (o : ScriptObject) (c : CellValue) (x : Field)
+    → field_of notes o.shape c.field ≡ Some x
     → P (record { target = InObject n c.instance c.field; cell = x.cell; value = c.value }) → AllByRecursion P (cell_store notes n o c)
 one_cell P notes n o c x there h = rw there (h, tt)
 
-field_there : (notes : Notes) (made : List TypedObject) (n i f : ℕ) (o : ScriptObject) (x : Field) → slice_get made n ≡ Some (script_object o) → i < o.count
+field_there : (notes : Notes) (made : List TypedObject) (n i f : ℕ) (o : ScriptObject) (x : Field)
+    → slice_get made n ≡ Some (script_object o) → i < o.count
     → field_of notes o.shape f ≡ Some x → field_at notes made n i f ≡ Some x
 unfolding field_at
 field_there notes made n i f o x at within there = rw (at, lt-ltb i o.count within) there
@@ -111,7 +93,8 @@ is_value notes (value.Wild x) h = absurd h
 -- ---- calls
 
 -- the objects that a call makes have their numbers once it is accepted
-made_there : (notes : Notes) (script : Script) (n : ℕ) (c : ScriptCall) (j : ℕ) (o : ScriptObject) → slice_get script.call n ≡ Some c → slice_get c.make j ≡ Some o
+made_there : (notes : Notes) (script : Script) (n : ℕ) (c : ScriptCall) (j : ℕ) (o : ScriptObject) → slice_get script.call n ≡ Some c
+    → slice_get c.make j ≡ Some o
     → slice_get (made_objects notes script (n + 1)) (length (made_objects notes script n) + j) ≡ Some (script_object o)
 made_there notes script n c j o at there =
     let world : World = record { notes = notes; script = script; image_size = 0 } in
@@ -122,12 +105,15 @@ made_there notes script n c j o at there =
     ∙ ap (slice_get (map script_object c.make)) back
     ∙ map_at script_object c.make j o there
 
-store_given : (notes : Notes) (made : List TypedObject) (n : ℕ) (o : ScriptObject) (c : CellValue) (x : Field) → slice_get made n ≡ Some (script_object o) → c.instance < o.count
-    → field_of notes o.shape c.field ≡ Some x → IsWritten notes c.value → StoreGiven notes made (record { target = InObject n c.instance c.field; cell = x.cell; value = c.value })
+store_given : (notes : Notes) (made : List TypedObject) (n : ℕ) (o : ScriptObject) (c : CellValue) (x : Field)
+    → slice_get made n ≡ Some (script_object o) → c.instance < o.count
+    → field_of notes o.shape c.field ≡ Some x → IsWritten notes c.value
+    → StoreGiven notes made (record { target = InObject n c.instance c.field; cell = x.cell; value = c.value })
 store_given notes made n o c x at within there h =
     record { target = (x, field_there notes made n c.instance c.field o x at within there, refl); value = is_value notes c.value h }
 
-call_given : (notes : Notes) (script : Script) (n : ℕ) (c : ScriptCall) → slice_get script.call n ≡ Some c → IsCallOf notes script n c → CallGiven notes script n c
+call_given : (notes : Notes) (script : Script) (n : ℕ) (c : ScriptCall) → slice_get script.call n ≡ Some c → IsCallOf notes script n c
+    → CallGiven notes script n c
 call_given notes script n c at h =
     let made = made_objects notes script (n + 1) in
     let first = length (made_objects notes script n) in
@@ -135,7 +121,8 @@ call_given notes script n c at h =
       made = all_filling (StoreGiven notes made) notes first c.make (λ j o there.
           all_flat (StoreGiven notes made) (cell_store notes (first + j) o) o.cells (λ k q e.
           let d = (h.make j o there).cells k q e in
-          one_cell (StoreGiven notes made) notes (first + j) o q d.field d.there (store_given notes made (first + j) o q d.field (made_there notes script n c j o at there) d.instance d.there d.written)));
+          one_cell (StoreGiven notes made) notes (first + j) o q d.field d.there
+          (store_given notes made (first + j) o q d.field (made_there notes script n c j o at there) d.instance d.there d.written)));
       callbacks = λ j b e. all_each (IsValue notes) b.values (λ k v g. is_value notes v ((h.enter j b e).values k v g));
       outs = all_each (λ (o : OutValue). IsValue notes o.value) c.out (λ k o e. is_value notes o.value (h.out k o e).written);
       writes = all_each (λ (v : WriteValue). IsValue notes v.value) c.write (λ k v e. is_value notes v.value (h.write k v e).written);
@@ -158,7 +145,8 @@ start_there notes script k o at =
     ∙ ap (slice_get (map script_object (script.object ++ []))) back
     ∙ map_at script_object (script.object ++ []) k o (slice_get-append_left script.object [] k (slice_get_within script.object k o at) ∙ at)
 
-store_named : (world : World) (statics : Cells) (n : ℕ) (o : ScriptObject) (c : CellValue) (x : Field) → slice_get (made_objects world.notes world.script 0) n ≡ Some (script_object o)
+store_named : (world : World) (statics : Cells) (n : ℕ) (o : ScriptObject) (c : CellValue) (x : Field)
+    → slice_get (made_objects world.notes world.script 0) n ≡ Some (script_object o)
     → c.instance < o.count → field_of world.notes o.shape c.field ≡ Some x → IsWritten world.notes c.value
     → StoreNames world (start_config world statics) [] (record { target = InObject n c.instance c.field; cell = x.cell; value = c.value })
 unfolding field_at
@@ -172,21 +160,19 @@ store_named world statics n o c x at within there h =
       value = is_value world.notes c.value h;
     }
 
-as_many_as : (made : List TypedObject) (params : List Param) (values : List Value) → fits_each made params values ≡ true → length params ≡ length values
-unfolding fits_each
-as_many_as made params values h = eqb-true (length params) (length values) (and_parts (nat_eq (length params) (length values)) (list_all (λ p. fits made p.0.ty p.1) (zip params values)) h).0
-
-can_enter : (w : ℕ) (world : World) (f : FnNote) → slice_get world.notes.function world.notes.entry ≡ Some f → IsScript world.notes world.script
+can_enter : (w : ℕ) (world : World) (f : FnNote) → slice_get world.notes.function world.notes.entry ≡ Some f
+    → IsScript world.notes world.script
     → (a : Config) → a.frames ≡ [] → CanEnter w world a world.notes.entry world.script.args
 can_enter w world f there h a none =
     let params : function_params world.notes world.notes.entry ≡ f.params = ap (λ o. option_map_or (λ (g : FnNote). g.params) o []) there in
-    let fit : fits_each (made_objects world.notes world.script 0) f.params world.script.args ≡ true = subst (λ ps. fits_each (made_objects world.notes world.script 0) ps world.script.args ≡ true) params h.args in
+    let fit : fits_each (made_objects world.notes world.script 0) f.params world.script.args ≡ true =
+    subst (λ ps. fits_each (made_objects world.notes world.script 0) ps world.script.args ≡ true) params h.args in
     let empty : total w a.frames ≡ 0 = ap (total w) none in
     let most = most_above w world.notes.entry 0 world.notes.entry world.notes.function f (omega arith) there in
     record {
       note = f;
       there = there;
-      as_many = as_many_as (made_objects world.notes world.script 0) f.params world.script.args fit;
+      as_many = as_many (made_objects world.notes world.script 0) f.params world.script.args fit;
       fit = all_each (IsValue world.notes) world.script.args (λ k v e. is_value world.notes v (h.written k v e));
       room = omega (arith, empty, most);
     }
@@ -199,7 +185,9 @@ start_is_given w world statics notes h =
       cells = all_filling P world.notes first world.script.object (λ k o at.
           all_flat P (cell_store world.notes (first + k) o) o.cells (λ j c e.
           let d = (h.objects k o at).cells j c e in
-          one_cell P world.notes (first + k) o c d.field d.there (store_named world statics (first + k) o c d.field (start_there world.notes world.script k o at) d.instance d.there d.written)));
+          one_cell P world.notes (first + k) o c d.field d.there
+          (store_named world statics (first + k) o c d.field
+          (start_there world.notes world.script k o at) d.instance d.there d.written)));
       entry = can_enter w world notes.entry.0 notes.entry.1 h;
     }
 

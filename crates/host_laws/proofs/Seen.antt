@@ -6,29 +6,32 @@ use Rattle.ebc_width.specs.Bytes.{little_endian}
 use Rattle.note_types.specs.Cells.{cell_size}
 use Rattle.ebc_width.specs.Ranges.{holds}
 use Rattle.note_types.specs.Concrete.{register}
-use Rattle.run_types.specs.HostPlans.{View, field_at}
-use Rattle.run_types.specs.HostSteps.{spot_of, cell_address, host_view, slots_of}
-use Rattle.run_types.specs.World.{World}
-use Rattle.run_types.specs.Placements.{Placement}
-use Rattle.run_types.specs.Readings.{in_stack}
-use Rattle.run_types.specs.RunState.{SavedFrame, RunState}
+use Rattle.host_model.specs.HostPlans.{View, field_at}
+use Rattle.host_model.specs.HostSteps.{spot_of, cell_address, host_view, slots_of}
+use Rattle.host_model.specs.World.{World}
+use Rattle.host_model.specs.Placements.{Placement}
+use Rattle.host_model.specs.Readings.{in_stack}
+use Rattle.host_model.specs.RunState.{SavedFrame, RunState}
 use Rattle.note_types.specs.declared.notes.Notes.{Notes}
 use Rattle.note_types.specs.declared.shape.Field.{Field}
 use Rattle.note_types.specs.declared.shape.Shape.{Shape}
-use Rattle.run_types.specs.Config.{HostFrame, Frame, Config, hosts, locals_at}
-use Rattle.run_types.specs.NeutralHost.{objects_at, host_view as neutral_view, slots_of as neutral_slots_of}
-use Rattle.run_types.specs.declared.object.TypedObject.{TypedObject}
-use Rattle.run_types.specs.NeutralReadings.{content_value}
-use Rattle.run_types.specs.Named.{Named}
+use Rattle.neutral_machine.specs.Config.{HostFrame, Frame, Config, hosts, locals_at}
+use Rattle.neutral_machine.specs.NeutralHost.{objects_at, host_view as neutral_view, slots_of as neutral_slots_of}
+use Rattle.host_model.specs.declared.object.TypedObject.{TypedObject}
+use Rattle.neutral_machine.specs.NeutralReadings.{content_value}
+use Rattle.neutral_machine.specs.Named.{Named}
 use Rattle.neutral_machine.specs.Stands.{CallShows}
-use Rattle.run_types.specs.Values.{Neutral, Addresses, LocalOf, FieldOfLocals, Cells, Shows}
+use Rattle.host_model.specs.Values.{Neutral, Addresses, LocalOf, FieldOfLocals, Cells, Shows}
 
 -- The locals of frames lie in the stack, and the written ones show there.
-pub record LocalsStand (w : ℕ) (notes : Notes) (P : Placement) (made : List TypedObject) (A : Addresses) (frames : List Frame) (cells : Cells) (byte : ℕ → ℕ) : Type 0 where
+pub record LocalsStand (w : ℕ) (notes : Notes) (P : Placement) (made : List TypedObject) (A : Addresses) (frames : List Frame)
+    (cells : Cells) (byte : ℕ → ℕ) : Type 0 where
   pub small : (d f x : ℕ) → A.anchor (LocalOf d f) ≡ Some x → x < 2 ^ 64
-  pub inside : (d f x : ℕ) (s : Shape) (z : Field) → locals_at frames d ≡ Some s → slice_get s.fields f ≡ Some z → A.anchor (LocalOf d f) ≡ Some x
+  pub inside : (d f x : ℕ) (s : Shape) (z : Field) → locals_at frames d ≡ Some s → slice_get s.fields f ≡ Some z
+      → A.anchor (LocalOf d f) ≡ Some x
       → in_stack w notes P z.cell x ≡ true
-  pub shows : (d f x : ℕ) (s : Shape) (z : Field) (u : Neutral) → locals_at frames d ≡ Some s → slice_get s.fields f ≡ Some z → A.anchor (LocalOf d f) ≡ Some x
+  pub shows : (d f x : ℕ) (s : Shape) (z : Field) (u : Neutral) → locals_at frames d ≡ Some s → slice_get s.fields f ≡ Some z
+      → A.anchor (LocalOf d f) ≡ Some x
       → cells (FieldOfLocals d f) ≡ Some u → Shows w A (content_value notes made z.cell u) (little_endian byte x (cell_size w z.cell))
 
 -- the host frames are of the same functions and have the same marks
@@ -45,8 +48,10 @@ pub record SeenAlike (w : ℕ) (world : World) (P : Placement) (A : Addresses) (
   pub spot : spot_of world P r.machine ≡ a.spot
   pub hosts : HostsAlike w A (hosts a.frames) r.hosts
   pub locals : LocalsStand w world.notes P (objects_at world a) A a.frames a.cells r.machine.byte
-  pub slots : (g : ℕ) (vs : List Neutral) → neutral_slots_of world a g ≡ Some vs → (xs : List ℕ) × (slots_of w world r g ≡ Some xs) × AllZip (Shows w A) vs xs
-  pub mapped : (k i f : ℕ) (x : Field) → field_at world.notes (objects_at world a) k i f ≡ Some x → holds r.machine.objects (cell_address w world.notes P (objects_at world a) k i x) (cell_size w x.cell) ≡ true
+  pub slots : (g : ℕ) (vs : List Neutral) → neutral_slots_of world a g ≡ Some vs → (xs : List ℕ) × (slots_of w world r g ≡ Some xs)
+      × AllZip (Shows w A) vs xs
+  pub mapped : (k i f : ℕ) (x : Field) → field_at world.notes (objects_at world a) k i f ≡ Some x
+      → holds r.machine.objects (cell_address w world.notes P (objects_at world a) k i x) (cell_size w x.cell) ≡ true
 
 -- What the host sees of a configuration it sees of the run.
 abbrev pub ViewsAlike : ℕ → World → Placement → Config → RunState → Type 0

@@ -1,6 +1,8 @@
 -- Where a run starts: the machine with the script's objects, before the entry function is entered, stands for the configuration
 -- with them.
-use Rattle.std.proofs.Common.{◌≡◌, ℕ, zero, suc, ◌+◌, ◌-◌, ◌*◌, ◌%◌, ◌^◌, ◌<◌, ◌≤◌, ◌⊎◌, Bool, true, false, if◌then◌else◌, List, [], ◌∷◌, ◌++◌, map, length, Some, None, refl, sym, ap, ap₂, ◌∙◌, subst, subst₂, arith, inl, inr, ⊎_elim, slice_get, slice_index}
+use Rattle.std.proofs.Common.{◌≡◌, ℕ, zero, suc, ◌+◌, ◌-◌, ◌*◌, ◌%◌, ◌^◌, ◌<◌, ◌≤◌, ◌⊎◌, Bool, true, false, if◌then◌else◌, List, [], ◌∷◌}
+use Rattle.std.proofs.Common.{◌++◌, map, length, Some, None, refl, sym, ap, ap₂, ◌∙◌, subst, subst₂, arith, inl, inr, ⊎_elim, slice_get}
+use Rattle.std.proofs.Common.{slice_index}
 use Rattle.std.specs.Option.{option_map, option_map_or}
 use Rattle.std.proofs.Math.Nat.{zero-mod}
 use Rattle.std.proofs.lemmas.Bool.{lt-ltb, le-ltb, cases_lt, eq-eqb}
@@ -15,32 +17,33 @@ use Rattle.ebc_width.specs.Ranges.{covers}
 use Rattle.ebc_width.proofs.RangeLaws.{covers-inside}
 use Rattle.ebc_width.proofs.ByteLaws.{little_endian-agree}
 use Rattle.note_types.specs.Concrete.{Concrete}
-use Rattle.run_types.specs.HostPlans.{field_at, filling}
-use Rattle.run_types.specs.HostSteps.{with_objects, after_stores, written_number, inside, frame_for}
-use Rattle.run_types.specs.declared.object.TypedObject.{TypedObject}
-use Rattle.run_types.specs.Objects.{script_object, made_objects, placed_objects, static_object}
-use Rattle.run_types.specs.Placements.{image_range, Placement, object_at, object_bytes, IsPlacement, area_bytes, stack_bytes, stack_end, placed_ranges}
-use Rattle.run_types.specs.Progress.{script_start}
-use Rattle.run_types.specs.RunState.{RunState}
-use Rattle.run_types.specs.Start.{bare_machine, image_byte, start_machine, run_start}
+use Rattle.host_model.specs.HostPlans.{field_at, filling}
+use Rattle.host_model.specs.HostSteps.{with_objects, after_stores, written_number, inside, frame_for}
+use Rattle.host_model.specs.declared.object.TypedObject.{TypedObject}
+use Rattle.host_model.specs.Objects.{script_object, made_objects, placed_objects, static_object}
+use Rattle.host_model.specs.Placements.{image_range, Placement, object_at, object_bytes, IsPlacement, area_bytes, stack_bytes, stack_end}
+use Rattle.host_model.specs.Placements.{placed_ranges}
+use Rattle.host_model.specs.Progress.{script_start}
+use Rattle.host_model.specs.RunState.{RunState}
+use Rattle.host_model.specs.Start.{bare_machine, image_byte, start_machine, run_start}
 use Rattle.note_types.specs.declared.ending.Ending.TheVariants.{Running, Raised}
 use Rattle.note_types.specs.declared.notes.FnNote.{FnNote}
 use Rattle.note_types.specs.declared.shape.Field.{Field}
-use Rattle.run_types.specs.Config.{Config}
-use Rattle.run_types.specs.NeutralHost.{with_objects as neutral_objects, param_slots, entered as neutral_entered}
-use Rattle.run_types.specs.NeutralRuns.{start_cells, bare_config, neutral_start}
-use Rattle.run_types.specs.Layout.{addresses}
-use Rattle.run_types.specs.Memory.{memory_of, cell_field}
+use Rattle.neutral_machine.specs.Config.{Config}
+use Rattle.neutral_machine.specs.NeutralHost.{with_objects as neutral_objects, param_slots, entered as neutral_entered}
+use Rattle.neutral_machine.specs.NeutralRuns.{start_cells, bare_config, neutral_start}
+use Rattle.neutral_machine.specs.Layout.{addresses}
+use Rattle.neutral_machine.specs.Memory.{memory_of, cell_field}
 use Rattle.neutral_machine.specs.Stands.{CellShows, MachineStands, Stands, cell_address}
-use Rattle.run_types.specs.Values.{Neutral, CellPlace, FieldOf, FieldOfLocals, Cells, ShowsIn, null}
-use Rattle.run_types.specs.World.{World}
+use Rattle.host_model.specs.Values.{Neutral, CellPlace, FieldOf, FieldOfLocals, Cells, ShowsIn, null}
+use Rattle.host_model.specs.World.{World}
 use Rattle.neutral_machine.specs.WorldFits.{WorldFits}
 use Rattle.neutral_machine.proofs.Cells.{InObject, in_object_at, ObjectCell, object_cell, object_place}
-use Rattle.run_types.proofs.Lists.{slice_get-append_right}
+use Rattle.ebc_base.proofs.Lists.{slice_get-append_right}
 use Rattle.neutral_machine.proofs.Placed.{Lies, lies, objects_off}
 use Rattle.neutral_machine.proofs.Placed.{off_thunk, off_code}
 use Rattle.host_laws.proofs.Accepting.{of_object, its_range, read_zero}
-use Rattle.run_types.proofs.Lists.{length-map}
+use Rattle.ebc_base.proofs.Lists.{length-map}
 use Rattle.host_laws.proofs.Growing.{ranges_of, all_zeroed, others_stay, inside_zero, zeroed_small, objects_placed, placed_are}
 use Rattle.host_laws.proofs.Entering.{entered_stands}
 use Rattle.host_laws.proofs.Things.{base_is}
@@ -51,7 +54,8 @@ brought_none : (world : World) → placed_objects world.script 0 ≡ world.scrip
 unfolding placed_objects
 brought_none world = append-nil world.script.object
 
-module _ (w : ℕ) (world : World) (P : Placement) (mapped : ℕ → ℕ) (statics : Cells) (h : IsWidth w) (ok : WorldFits world) (pl : IsPlacement w world P) where
+module _ (w : ℕ) (world : World) (P : Placement) (mapped : ℕ → ℕ) (statics : Cells) (h : IsWidth w) (ok : WorldFits world)
+    (pl : IsPlacement w world P) where
   abbrev S : ℕ
   S = length world.notes.statics
 
@@ -75,12 +79,14 @@ module _ (w : ℕ) (world : World) (P : Placement) (mapped : ℕ → ℕ) (stati
   new_there : (i : ℕ) (o : TypedObject) → slice_get new i ≡ Some o → slice_get (made_objects world.notes world.script 0) (S + i) ≡ Some o
   new_there i o e =
       let n = count in
-      ap (λ z. slice_get z (S + i)) made_are ∙ slice_get-append_right (map static_object world.notes.statics) new (S + i) (omega (arith, n)) ∙ ap (slice_get new) (omega (arith, n)) ∙ e
+      ap (λ z. slice_get z (S + i)) made_are ∙ slice_get-append_right (map static_object world.notes.statics) new (S + i) (omega (arith, n))
+      ∙ ap (slice_get new) (omega (arith, n)) ∙ e
 
   new_lies : (i : ℕ) (o : TypedObject) → slice_get new i ≡ Some o → Lies w world P 0 (S + i) o
   new_lies i o e = lies w world P h ok pl 0 (S + i) o (new_there i o e)
 
-  kept_bytes : (from size : ℕ) → ((i : ℕ) (o : TypedObject) (e : slice_get new i ≡ Some o) → (from + size ≤ (new_lies i o e).base) ⊎ ((new_lies i o e).base + object_bytes w world.notes o ≤ from))
+  kept_bytes : (from size : ℕ) → ((i : ℕ) (o : TypedObject) (e : slice_get new i ≡ Some o) → (from + size ≤ (new_lies i o e).base)
+      ⊎ ((new_lies i o e).base + object_bytes w world.notes o ≤ from))
       → (x : ℕ) → from ≤ x → x < from + size → started x ≡ loaded x
   unfolding started
   kept_bytes from size off x l m = others_stay (ranges_of w world.notes P S new) loaded x (λ i r e.
@@ -93,10 +99,12 @@ module _ (w : ℕ) (world : World) (P : Placement) (mapped : ℕ → ℕ) (stati
   -- a byte of the image
   in_image : (p : ℕ) → p < world.image_size → loaded (P.image + p) ≡ mapped p
   in_image p l =
-      ap (λ b. if b then mapped (P.image + p - P.image) else 0) (covers-inside (image_range world P) (P.image + p) 1 (omega arith) (omega (arith, l)))
+      ap (λ b. if b then mapped (P.image + p - P.image) else 0)
+      (covers-inside (image_range world P) (P.image + p) 1 (omega arith) (omega (arith, l)))
       ∙ ap mapped (let e : P.image + p - P.image ≡ p = omega arith in e)
 
-  start_cell : StaticsShow w world P mapped statics → (p : CellPlace) (z : Field) (v : Neutral) → cell_field world.notes (memory_of world (start_config world statics)) p ≡ Some z → (start_config world statics).cells p ≡ Some v
+  start_cell : StaticsShow w world P mapped statics → (p : CellPlace) (z : Field) (v : Neutral)
+      → cell_field world.notes (memory_of world (start_config world statics)) p ≡ Some z → (start_config world statics).cells p ≡ Some v
       → CellShows w (addresses w world.notes P []) started (cell_address w world P (start_config world statics) p z) (cell_size w z.cell) v
   unfolding neutral_objects field_at started made_objects placed_objects
   start_cell show (FieldOfLocals d f) z v g e = absurd (none-some v (sym (show.no_local d f) ∙ e))
@@ -106,50 +114,66 @@ module _ (w : ℕ) (world : World) (P : Placement) (mapped : ℕ → ℕ) (stati
       ⊎_elim (λ l. old_cell l cell at) (λ l. new_cell l cell at) (cases_lt k S)
     where
       old_cell : k < S → (cell : InObject world 0 k i f z) → ObjectCell w world P h ok pl 0 k i f z cell
-          → CellShows w (addresses w world.notes P []) (all_zeroed loaded (ranges_of w world.notes P S new)) (cell_address w world P (start_config world statics) (FieldOf k i f) z) (cell_size w z.cell) v
+          → CellShows w (addresses w world.notes P []) (all_zeroed loaded (ranges_of w world.notes P S new))
+          (cell_address w world P (start_config world statics) (FieldOf k i f) z) (cell_size w z.cell) v
       old_cell l cell at =
           let e' : statics (FieldOf k i f) ≡ Some v =
-          sym (ap (λ b. if b then statics (FieldOf k i f) else option_map (λ (x : Field). null) (field_at world.notes (made_objects world.notes world.script 0) k i f)) (lt-ltb k S l)) ∙ e in
+          sym (ap (λ b. if b then statics (FieldOf k i f) else option_map (λ (x : Field). null)
+          (field_at world.notes (made_objects world.notes world.script 0) k i f)) (lt-ltb k S l)) ∙ e in
           let old = show.show k i f z v l e' g in
           let place : old.address ≡ object_place w world P h ok pl at = same_Some _ _ (sym old.there ∙ at.address_is) in
           let inside = at.inside in
-          let off : (j : ℕ) (o : TypedObject) (q : slice_get new j ≡ Some o) → (old.address + cell_size w z.cell ≤ (new_lies j o q).base) ⊎ ((new_lies j o q).base + object_bytes w world.notes o ≤ old.address) = λ j o q.
+          let off : (j : ℕ) (o : TypedObject) (q : slice_get new j ≡ Some o) → (old.address + cell_size w z.cell ≤ (new_lies j o q).base)
+          ⊎ ((new_lies j o q).base + object_bytes w world.notes o ≤ old.address) = λ j o q.
           let d = objects_off w world P h ok pl 0 k (S + j) cell.object o at.lies (new_lies j o q) (λ y. omega (arith, y, l)) in
           ⊎_elim (λ y. inl (omega (arith, y, place, inside))) (λ y. inr (omega (arith, y, place))) d in
           record {
             address = old.address;
             there = old.there;
             shows = subst (ShowsIn w (addresses w world.notes P []) (cell_size w z.cell) v)
-                (little_endian-agree loaded (all_zeroed loaded (ranges_of w world.notes P S new)) old.address (cell_size w z.cell) (λ x p q. sym (kept_bytes old.address (cell_size w z.cell) off x p q))) old.shows;
+                (little_endian-agree loaded (all_zeroed loaded (ranges_of w world.notes P S new)) old.address (cell_size w z.cell)
+                (λ x p q. sym (kept_bytes old.address (cell_size w z.cell) off x p q))) old.shows;
           }
 
       new_cell : S ≤ k → (cell : InObject world 0 k i f z) → ObjectCell w world P h ok pl 0 k i f z cell
-          → CellShows w (addresses w world.notes P []) (all_zeroed loaded (ranges_of w world.notes P S new)) (cell_address w world P (start_config world statics) (FieldOf k i f) z) (cell_size w z.cell) v
+          → CellShows w (addresses w world.notes P []) (all_zeroed loaded (ranges_of w world.notes P S new))
+          (cell_address w world P (start_config world statics) (FieldOf k i f) z) (cell_size w z.cell) v
       new_cell l cell at =
           let n = count in
           let j = k - S in
           let there : slice_get new j ≡ Some cell.object =
-          ap (slice_get new) (let q : k - S ≡ k - length (map static_object world.notes.statics) = omega (arith, n) in q) ∙ sym (slice_get-append_right (map static_object world.notes.statics) new k (omega (arith, n, l))) ∙ ap (λ y. slice_get y k) (sym made_are) ∙ cell.there in
+          ap (slice_get new) (let q : k - S ≡ k - length (map static_object world.notes.statics) = omega (arith, n) in q)
+          ∙ sym (slice_get-append_right (map static_object world.notes.statics) new k (omega (arith, n, l)))
+          ∙ ap (λ y. slice_get y k) (sym made_are) ∙ cell.there in
           let r = its_range w world P S new j cell.object there in
-          let base : object_at world.notes P (S + j) ≡ at.lies.base = ap (object_at world.notes P) (let q : S + (k - S) ≡ k = omega (arith, l) in q) ∙ base_is w world P h ok pl k at.lies.base at.lies.address in
+          let base : object_at world.notes P (S + j) ≡ at.lies.base =
+          ap (object_at world.notes P) (let q : S + (k - S) ≡ k = omega (arith, l) in q)
+          ∙ base_is w world P h ok pl k at.lies.base at.lies.address in
           let x = object_place w world P h ok pl at in
           let inside = at.inside in
           let bytes = all_zeroed loaded (ranges_of w world.notes P S new) in
           let zero_bytes : little_endian bytes x (cell_size w z.cell) ≡ 0 =
-          read_zero bytes x (cell_size w z.cell) (λ y p q. inside_zero (ranges_of w world.notes P S new) loaded y j (record { base = object_at world.notes P (S + j); size = object_bytes w world.notes cell.object }) r (omega (arith, p, base)) (omega (arith, q, base, inside))) in
-          let v_is : null ≡ v = same_Some null v (sym (ap (λ b. if b then statics (FieldOf k i f) else option_map (λ (q : Field). null) (field_at world.notes (made_objects world.notes world.script 0) k i f)) (le-ltb k S l) ∙ ap (option_map (λ (q : Field). null)) g) ∙ e) in
+          read_zero bytes x (cell_size w z.cell) (λ y p q. inside_zero (ranges_of w world.notes P S new) loaded y j
+          (record { base = object_at world.notes P (S + j); size = object_bytes w world.notes cell.object }) r (omega (arith, p, base))
+          (omega (arith, q, base, inside))) in
+          let v_is : null ≡ v = same_Some null v (sym (ap (λ b. if b then statics (FieldOf k i f)
+          else option_map (λ (q : Field). null) (field_at world.notes (made_objects world.notes world.script 0) k i f)) (le-ltb k S l)
+          ∙ ap (option_map (λ (q : Field). null)) g) ∙ e) in
           record {
             address = x;
             there = at.address_is;
-            shows = subst₂ (λ u m. ShowsIn w (addresses w world.notes P []) (cell_size w z.cell) u m) v_is (sym zero_bytes) (record { whole = 0; shows = omega arith; cut = sym (zero-mod (2 ^ (8 * cell_size w z.cell))) });
+            shows = subst₂ (λ u m. ShowsIn w (addresses w world.notes P []) (cell_size w z.cell) u m) v_is (sym zero_bytes)
+                (record { whole = 0; shows = omega arith; cut = sym (zero-mod (2 ^ (8 * cell_size w z.cell))) });
           }
 
   -- The machine with the script's objects stands for the configuration with them.
   pub start_stands : StaticsShow w world P mapped statics → ((q : ℕ) → mapped q < 256)
-      → MachineStands w world P mapped None (start_config world statics) (with_objects w world.notes P S new (bare_machine w world P mapped))
+      → MachineStands w world P mapped None (start_config world statics)
+      (with_objects w world.notes P S new (bare_machine w world P mapped))
   unfolding started bare_machine placed_ranges
   start_stands show small =
-      subst (λ (t : Concrete). MachineStands w world P mapped None (start_config world statics) t) (sym (objects_placed w world.notes P S new (bare_machine w world P mapped)))
+      subst (λ (t : Concrete). MachineStands w world P mapped None (start_config world statics) t)
+      (sym (objects_placed w world.notes P S new (bare_machine w world P mapped)))
       (record {
         eight = refl;
         words = words;
@@ -163,17 +187,23 @@ module _ (w : ℕ) (world : World) (P : Placement) (mapped : ℕ → ℕ) (stati
           (λ l. absurd (omega (arith, l))),
           (λ l j m.
               let inside = ok.thunks_inside i t g in
-              kept_bytes (P.image + t.place) 8 (λ k o q. off_thunk w world P h ok pl 0 (S + k) i o t (new_lies k o q) g) (P.image + (t.place + j)) (omega arith) (omega (arith, m)) ∙ in_image (t.place + j) (omega (arith, m, inside))),
+              kept_bytes (P.image + t.place) 8 (λ k o q. off_thunk w world P h ok pl 0 (S + k) i o t (new_lies k o q) g)
+              (P.image + (t.place + j)) (omega arith) (omega (arith, m)) ∙ in_image (t.place + j) (omega (arith, m, inside))),
         );
         code = λ j f x g l m.
             let inside = ok.code_inside j f g in
             let e = inside.1 in
-            kept_bytes (P.image + f.place) (f.end - f.place) (λ k o q. off_code w world P h ok pl 0 (S + k) j o f (new_lies k o q) g) (P.image + x) (omega (arith, l)) (omega (arith, l, m)) ∙ in_image x (omega (arith, m, e));
-        objects = ap (λ y. record { base = P.native; size = area_bytes world.notes } ∷ record { base = P.stack; size = stack_bytes w world.notes } ∷ record { base = P.image; size = world.image_size } ∷ y)
+            kept_bytes (P.image + f.place) (f.end - f.place) (λ k o q. off_code w world P h ok pl 0 (S + k) j o f (new_lies k o q) g)
+            (P.image + x) (omega (arith, l)) (omega (arith, l, m)) ∙ in_image x (omega (arith, m, e));
+        objects = ap (λ y. record { base = P.native; size = area_bytes world.notes } ∷ record {
+          base = P.stack;
+          size = stack_bytes w world.notes;
+        } ∷ record { base = P.image; size = world.image_size } ∷ y)
             (sym (placed_are w world P mapped h ok pl 0 ∙ ap (λ y. ranges_of w world.notes P S (map script_object y)) all_brought));
         flags = refl;
         gate = refl;
-        spot = ap (λ b. if b then spot.Gate else if covers P.native 1 (image_range world P) then spot.Place (P.native - P.image) else spot.Wild P.native) (eq-eqb P.native P.native refl);
+        spot = ap (λ b. if b then spot.Gate else if covers P.native 1 (image_range world P) then spot.Place (P.native - P.image)
+            else spot.Wild P.native) (eq-eqb P.native P.native refl);
       })
     where
       loaded_small : (x : ℕ) → loaded x < 256
@@ -200,7 +230,8 @@ module _ (w : ℕ) (world : World) (P : Placement) (mapped : ℕ → ℕ) (stati
       words zero = omega arith
       words (suc r) = subst (λ q. q < 2 ^ 64) (sym (zeros r)) (omega arith)
 
-      zero_register : (r : ℕ) → 0 < r → r < 8 → slice_index (stack_end w world.notes P % 2 ^ 64 ∷ 0 ∷ 0 ∷ 0 ∷ 0 ∷ 0 ∷ 0 ∷ 0 ∷ []) r ≡ (0 * w + 0) % 2 ^ 64
+      zero_register : (r : ℕ) → 0 < r → r < 8 → slice_index (stack_end w world.notes P % 2 ^ 64 ∷ 0 ∷ 0 ∷ 0 ∷ 0 ∷ 0 ∷ 0 ∷ 0 ∷ []) r ≡
+          (0 * w + 0) % 2 ^ 64
       zero_register zero l m = absurd (omega (arith, l))
       zero_register (suc r) l m = zeros r ∙ omega arith
 
@@ -217,13 +248,24 @@ module _ (w : ℕ) (world : World) (P : Placement) (mapped : ℕ → ℕ) (stati
       let bare = with_objects w world.notes P S new (bare_machine w world P mapped) in
       let stores = filling world.notes S world.script.object in
       let filled : MachineStands w world P mapped None before (after_stores w world.notes P made [] stores bare) =
-      stores_stand w world P mapped h ok pl stores (start_config world statics) bare None made [] [] refl (omega arith) (start_stands show small) tt given.cells in
-      let r : RunState = record { machine = after_stores w world.notes P made [] stores bare; hosts = []; script = script_start; trace = []; ending = Running } in
+      stores_stand w world P mapped h ok pl stores (start_config world statics) bare None made [] [] refl (omega arith)
+      (start_stands show small) tt given.cells in
+      let r : RunState = record {
+        machine = after_stores w world.notes P made [] stores bare;
+        hosts = [];
+        script = script_start;
+        trace = [];
+        ending = Running;
+      } in
       let st : Stands w world P mapped before r = record { machine = filled; hosts = tt; script = refl; trace = refl; ending = refl } in
       let n = given.entry before refl in
-      let params : option_map_or (λ (g : FnNote). g.params) (slice_get world.notes.function world.notes.entry) [] ≡ n.note.params = ap (λ y. option_map_or (λ (g : FnNote). g.params) y []) n.there in
-      let place : option_map_or (λ (g : FnNote). g.place) (slice_get world.notes.function world.notes.entry) 0 ≡ n.note.place = ap (λ y. option_map_or (λ (g : FnNote). g.place) y 0) n.there in
+      let params : option_map_or (λ (g : FnNote). g.params) (slice_get world.notes.function world.notes.entry) [] ≡ n.note.params =
+      ap (λ y. option_map_or (λ (g : FnNote). g.params) y []) n.there in
+      let place : option_map_or (λ (g : FnNote). g.place) (slice_get world.notes.function world.notes.entry) 0 ≡ n.note.place =
+      ap (λ y. option_map_or (λ (g : FnNote). g.place) y 0) n.there in
       subst₂ (λ (y : Config) (z : RunState). Stands w world P mapped y z)
       (ap (λ ps. neutral_entered world before world.notes.entry (param_slots world.notes made ps world.script.args)) (sym params))
-      (ap₂ (λ q ps. option_map_or (λ (t : Concrete). record r { machine = t; hosts = frame_for r.machine world.notes.entry ∷ [] }) (inside w r.machine (P.image + q) ps (map (written_number w world.notes P made) world.script.args)) (record r { ending = Raised raises.StackFault })) (sym place) (sym params))
+      (ap₂ (λ q ps. option_map_or (λ (t : Concrete). record r { machine = t; hosts = frame_for r.machine world.notes.entry ∷ [] })
+      (inside w r.machine (P.image + q) ps (map (written_number w world.notes P made) world.script.args))
+      (record r { ending = Raised raises.StackFault })) (sym place) (sym params))
       (entered_stands w world P mapped h ok pl before r world.notes.entry world.script.args made refl n st)

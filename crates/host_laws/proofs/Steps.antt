@@ -2,34 +2,37 @@
 use Rattle.std.proofs.Common.{◌≡◌, ℕ, ◌≤◌, Some, sym, ap, ◌∙◌, subst}
 use Rattle.std.specs.Option.{option_map_or}
 use Rattle.ebc_width.specs.Width.{IsWidth}
-use Rattle.run_types.specs.HostPlans.{View, Plan, Finishes, Leaves, Accepts, Enters, Replies, Ends, host_plan}
-use Rattle.run_types.specs.HostSteps.{host_step, host_view, performed}
-use Rattle.run_types.specs.Placements.{Placement, stack_bytes, IsPlacement}
-use Rattle.run_types.specs.Progress.{ScriptPlace}
-use Rattle.run_types.specs.RunState.{RunState}
-use Rattle.run_types.specs.Config.{Config}
-use Rattle.run_types.specs.NeutralHost.{performed as neutral_performed, host_view as neutral_view, neutral_host_step}
-use Rattle.run_types.specs.Layout.{total}
+use Rattle.host_model.specs.HostPlans.{View, Plan, Finishes, Leaves, Accepts, Enters, Replies, Ends, host_plan}
+use Rattle.host_model.specs.HostSteps.{host_step, host_view, performed}
+use Rattle.host_model.specs.Placements.{Placement, stack_bytes, IsPlacement}
+use Rattle.host_model.specs.Progress.{ScriptPlace}
+use Rattle.host_model.specs.RunState.{RunState}
+use Rattle.neutral_machine.specs.Config.{Config}
+use Rattle.neutral_machine.specs.NeutralHost.{performed as neutral_performed, host_view as neutral_view, neutral_host_step}
+use Rattle.neutral_machine.specs.Layout.{total}
 use Rattle.neutral_machine.specs.Stands.{Stands}
-use Rattle.run_types.specs.World.{World}
+use Rattle.host_model.specs.World.{World}
 use Rattle.neutral_machine.specs.WorldFits.{WorldFits}
-use Rattle.host_laws.proofs.ViewAlike.{map_some}
 use Rattle.host_laws.proofs.Accepting.{accept_stands}
 use Rattle.host_laws.proofs.Entering.{enter_stands}
 use Rattle.host_laws.proofs.Leaving.{end_stands, leave_stands, finish_stands}
 use Rattle.host_laws.proofs.Replies.{reply_stands}
 use Rattle.host_laws.proofs.Views.{views_stand}
 use Rattle.host_laws.specs.PlanFits.{PlanFits}
+use Rattle.ebc_base.proofs.Given.{some_of_map}
 
 module _ (w : ℕ) (world : World) (P : Placement) (mapped : ℕ → ℕ) (h : IsWidth w) (ok : WorldFits world) (pl : IsPlacement w world P) where
   -- each plan keeps that the run stands for the configuration
-  pub performed_stands : (a : Config) (r : RunState) (p : Plan) → total w a.frames ≤ stack_bytes w world.notes → Stands w world P mapped a r → PlanFits w world P a r p
+  pub performed_stands : (a : Config) (r : RunState) (p : Plan) → total w a.frames ≤ stack_bytes w world.notes → Stands w world P mapped a r
+      → PlanFits w world P a r p
       → Stands w world P mapped (neutral_performed world a p) (performed w world P r p)
   performed_stands a r (Finishes v) room st f = finish_stands w world P mapped h ok pl a r f.frame f.rest v f.is st
   performed_stands a r (Leaves e) room st f = leave_stands w world P mapped h ok pl a r f.frame f.rest e f.is st
   performed_stands a r (Accepts e entry objects stores) room st f =
-      subst (λ n. Stands w world P mapped (neutral_performed world a (Accepts e n objects stores)) (performed w world P r (Accepts e n objects stores))) f.entry_is
-      (subst (λ os. Stands w world P mapped (neutral_performed world a (Accepts e a.script.entries os stores)) (performed w world P r (Accepts e a.script.entries os stores))) f.objects_are
+      subst (λ n. Stands w world P mapped (neutral_performed world a (Accepts e n objects stores))
+      (performed w world P r (Accepts e n objects stores))) f.entry_is
+      (subst (λ os. Stands w world P mapped (neutral_performed world a (Accepts e a.script.entries os stores))
+      (performed w world P r (Accepts e a.script.entries os stores))) f.objects_are
       (accept_stands w world P mapped h ok pl a r e f.call stores f.there room st f.names f.shown))
   performed_stands a r (Enters e entry f values) room st n = enter_stands w world P mapped h ok pl a r e entry f values n st
   performed_stands a r (Replies e stores kind v) room st f = reply_stands w world P mapped h ok pl a r e stores kind v room st f.0 f.1
@@ -42,10 +45,13 @@ module _ (w : ℕ) (world : World) (P : Placement) (mapped : ℕ → ℕ) (h : I
       → neutral_host_step world a ≡ Some b → Stands w world P mapped b (host_step w world P r)
   unfolding neutral_host_step host_step
   host_step_stands a b r room st fits e =
-      let q = map_some (λ v. neutral_performed world a (host_plan world a.script v)) (neutral_view world a a.spot) b e in
+      let q = some_of_map (λ v. neutral_performed world a (host_plan world a.script v)) (neutral_view world a a.spot) b e in
       let seen : host_view w world P r ≡ Some q.0 = views_stand w world P mapped a r h ok pl room st q.0 q.1 in
       let done = performed_stands a r (host_plan world a.script q.0) room st (fits q.0 q.1) in
-      let step : performed w world P r (host_plan world a.script q.0) ≡ option_map_or (λ v. performed w world P r (host_plan world r.script v)) (host_view w world P r) r =
-      ap (λ (p : ScriptPlace). performed w world P r (host_plan world p q.0)) (sym st.script) ∙ sym (ap (λ o. option_map_or (λ v. performed w world P r (host_plan world r.script v)) o r) seen) in
-      subst (λ (c : Config). Stands w world P mapped c (option_map_or (λ v. performed w world P r (host_plan world r.script v)) (host_view w world P r) r)) q.2
+      let step : performed w world P r (host_plan world a.script q.0) ≡ option_map_or
+      (λ v. performed w world P r (host_plan world r.script v)) (host_view w world P r) r =
+      ap (λ (p : ScriptPlace). performed w world P r (host_plan world p q.0)) (sym st.script)
+      ∙ sym (ap (λ o. option_map_or (λ v. performed w world P r (host_plan world r.script v)) o r) seen) in
+      subst (λ (c : Config). Stands w world P mapped c (option_map_or (λ v. performed w world P r (host_plan world r.script v))
+      (host_view w world P r) r)) q.2
       (subst (λ (s : RunState). Stands w world P mapped (neutral_performed world a (host_plan world a.script q.0)) s) step done)

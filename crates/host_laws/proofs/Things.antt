@@ -4,13 +4,13 @@ use Rattle.std.proofs.Common.{◌≡◌, ℕ, ◌+◌, Bool, true, false, if◌t
 use Rattle.std.proofs.lemmas.Option.{same_Some, none-some, slice_get-get_or}
 use Rattle.ebc_width.specs.Width.{IsWidth}
 use Rattle.neutral_machine.specs.WorldFits.{WorldFits}
-use Rattle.run_types.specs.Config.{Frame}
-use Rattle.run_types.specs.Layout.{addresses}
-use Rattle.run_types.specs.Named.{Named, HasObjects}
-use Rattle.run_types.specs.Objects.{no_shape, made_objects}
-use Rattle.run_types.specs.Placements.{Placement, IsPlacement, object_address, object_at}
-use Rattle.run_types.specs.World.{World}
-use Rattle.run_types.proofs.NamedThings.{things_named}
+use Rattle.neutral_machine.specs.Config.{Frame}
+use Rattle.neutral_machine.specs.Layout.{addresses}
+use Rattle.neutral_machine.specs.Named.{Named, HasObjects}
+use Rattle.host_model.specs.Objects.{no_shape, made_objects}
+use Rattle.host_model.specs.Placements.{Placement, IsPlacement, object_address, object_at}
+use Rattle.host_model.specs.World.{World}
+use Rattle.neutral_machine.proofs.NamedThings.{things_named}
 
 pub has_objects : (world : World) → WorldFits world → HasObjects world
 has_objects world ok = record {
@@ -25,7 +25,8 @@ pub named : (w : ℕ) (world : World) (P : Placement) → IsWidth w → WorldFit
 named w world P h ok pl n fs = things_named w world P h (has_objects world ok) pl n fs
 
 -- an object's address by either name
-pub base_is : (w : ℕ) (world : World) (P : Placement) → IsWidth w → WorldFits world → IsPlacement w world P → (k base : ℕ) → object_address world.notes P k ≡ Some base → object_at world.notes P k ≡ base
+pub base_is : (w : ℕ) (world : World) (P : Placement) → IsWidth w → WorldFits world → IsPlacement w world P → (k base : ℕ)
+    → object_address world.notes P k ≡ Some base → object_at world.notes P k ≡ base
 base_is w world P h ok pl k base e = go (nat_lt k (length world.notes.statics + length P.objects)) e
   where
     go : (b : Bool) → (if b then Some (object_at world.notes P k) else None) ≡ Some base → object_at world.notes P k ≡ base

@@ -1,6 +1,7 @@
 -- BREAK 5: a thunk cell that is served holds its thunk's address, and the machine stands for the configuration with one thunk
 -- more made.
-use Rattle.std.proofs.Common.{◌≡◌, ℕ, zero, suc, ◌+◌, ◌*◌, ◌%◌, ◌^◌, ◌<◌, ◌≤◌, ◌⊎◌, true, if◌then◌else◌, length, Some, None, refl, sym, ap, ap₂, ◌∙◌, subst, arith, inl, inr, ⊎_elim, slice_get, mod-eq_of_lt}
+use Rattle.std.proofs.Common.{◌≡◌, ℕ, zero, suc, ◌+◌, ◌*◌, ◌%◌, ◌^◌, ◌<◌, ◌≤◌, ◌⊎◌, true, if◌then◌else◌, length, Some, None, refl, sym, ap}
+use Rattle.std.proofs.Common.{ap₂, ◌∙◌, subst, arith, inl, inr, ⊎_elim, slice_get, mod-eq_of_lt}
 use Rattle.std.specs.Option.{option_map_or}
 use Rattle.std.proofs.lemmas.Bool.{cases_eq, cases_lt}
 use Rattle.std.proofs.lemmas.Option.{same_Some}
@@ -10,27 +11,28 @@ use Rattle.ebc_width.proofs.ByteLaws.{little_endian-apart, put-apart, put-below}
 use Rattle.note_types.specs.Cells.{cell_size}
 use Rattle.note_types.specs.Concrete.{Concrete, stored}
 use Rattle.ebc_width.specs.Ranges.{holds}
-use Rattle.run_types.specs.HostPlans.{NotMapped, NamesNone, Names}
-use Rattle.run_types.specs.HostSteps.{thunk_place, entered_at, thunk_view}
-use Rattle.run_types.specs.Placements.{Placement, stack_bytes, thunk_at, IsPlacement, stack_end}
+use Rattle.host_model.specs.HostPlans.{NotMapped, NamesNone, Names}
+use Rattle.host_model.specs.HostSteps.{thunk_place, entered_at, thunk_view}
+use Rattle.host_model.specs.Placements.{Placement, stack_bytes, thunk_at, IsPlacement, stack_end}
 use Rattle.note_types.specs.declared.notes.Thunk.{Thunk}
-use Rattle.run_types.specs.Config.{Config}
-use Rattle.run_types.specs.Layout.{addresses, total}
+use Rattle.neutral_machine.specs.Config.{Config}
+use Rattle.neutral_machine.specs.Layout.{addresses, total}
 use Rattle.neutral_machine.specs.Stands.{ThunkShows, MachineStands}
-use Rattle.run_types.specs.Values.{minus, ShowsIn}
-use Rattle.run_types.specs.World.{World}
+use Rattle.host_model.specs.Values.{minus, ShowsIn}
+use Rattle.host_model.specs.World.{World}
 use Rattle.neutral_machine.specs.WorldFits.{WorldFits}
 use Rattle.neutral_machine.proofs.Agree.{frames_agree, read_put}
 use Rattle.neutral_machine.proofs.Cells.{cell_lies, end_small}
-use Rattle.neutral_machine.proofs.Numbers.{words}
 use Rattle.neutral_machine.proofs.Placed.{image_holds, image_within, image_off_stack}
 use Rattle.neutral_machine.proofs.Stored.{width_le}
 use Rattle.host_laws.proofs.Things.{named}
 use Rattle.host_laws.specs.ThunkLoaded.{ThunkLoaded}
+use Rattle.neutral_machine.proofs.Words.{width_word}
 
 module _ (w : ℕ) (world : World) (P : Placement) (mapped : ℕ → ℕ) (h : IsWidth w) (ok : WorldFits world) (pl : IsPlacement w world P) where
   -- the bytes of a cell that isn't made are those loaded
-  loaded_bytes : (b m : ℕ → ℕ) (at : ℕ) (base : ℕ) (k : ℕ) → ((j : ℕ) → j < k → b (base + (at + j)) ≡ m (at + j)) → little_endian b (base + at) k ≡ little_endian m at k
+  loaded_bytes : (b m : ℕ → ℕ) (at : ℕ) (base : ℕ) (k : ℕ) → ((j : ℕ) → j < k → b (base + (at + j)) ≡ m (at + j))
+      → little_endian b (base + at) k ≡ little_endian m at k
   unfolding little_endian
   loaded_bytes b m at base zero f = refl
   loaded_bytes b m at base (suc k) f =
@@ -38,20 +40,24 @@ module _ (w : ℕ) (world : World) (P : Placement) (mapped : ℕ → ℕ) (h : I
       let g : at + 0 ≡ at = omega arith in
       let s : base + at + 1 ≡ base + (at + 1) = omega arith in
       ap₂ (λ x y. x + 256 * y) (ap b e ∙ f 0 (omega arith) ∙ ap m g)
-      (ap (λ y. little_endian b y k) s ∙ loaded_bytes b m (at + 1) base k (λ j l. let u : base + (at + 1 + j) ≡ base + (at + suc j) = omega arith in let v : at + suc j ≡ at + 1 + j = omega arith in ap b u ∙ f (suc j) (omega (arith, l)) ∙ ap m v))
+      (ap (λ y. little_endian b y k) s ∙ loaded_bytes b m (at + 1) base k
+      (λ j l. let u : base + (at + 1 + j) ≡ base + (at + suc j) = omega arith in let v : at + suc j ≡ at + 1 + j = omega arith in ap b u
+      ∙ f (suc j) (omega (arith, l)) ∙ ap m v))
 
   -- the host sees the function of the next thunk cell
-  pub names_stand : (a : Config) (s : Concrete) (i : ℕ) (t : Thunk) → slice_get world.notes.thunk i ≡ Some t → a.made ≤ i → ThunkLoaded world mapped t → MachineStands w world P mapped None a s
+  pub names_stand : (a : Config) (s : Concrete) (i : ℕ) (t : Thunk) → slice_get world.notes.thunk i ≡ Some t → a.made ≤ i
+      → ThunkLoaded world mapped t → MachineStands w world P mapped None a s
       → thunk_view world P s (P.image + t.place) ≡ Names t.function
   unfolding thunk_view
   names_stand a s i t g l n st =
       let bytes = (st.thunks i t g (λ e. absurd (cc))).1 in
       let inside = ok.thunks_inside i t g in
-      let held : holds s.objects (P.image + t.place) 8 ≡ true = ap (λ y. holds y (P.image + t.place) 8) st.objects ∙ image_holds w world P h ok pl a.script.entries (P.image + t.place) 8 (omega arith) (omega (arith, inside)) in
+      let held : holds s.objects (P.image + t.place) 8 ≡ true = ap (λ y. holds y (P.image + t.place) 8) st.objects
+      ∙ image_holds w world P h ok pl a.script.entries (P.image + t.place) 8 (omega arith) (omega (arith, inside)) in
       let x = little_endian s.byte (P.image + t.place) 4 in
       let same : x ≡ little_endian mapped t.place 4 = loaded_bytes s.byte mapped t.place P.image 4 (λ j m. bytes l j (omega (arith, m))) in
       let iw = image_within w world P h ok pl in
-      let ww = words w h in
+      let ww = width_word w h in
       let place : thunk_place P (P.image + t.place) x ≡ n.note.place =
       by_sum (extended_at 4 x) P.image t.place (omega (arith, iw.below, ww, inside)) ∙ n.names x same in
       ap (λ b. if b then option_map_or Names (entered_at world.notes (thunk_place P (P.image + t.place) x)) NamesNone else NotMapped) held
@@ -62,8 +68,10 @@ module _ (w : ℕ) (world : World) (P : Placement) (mapped : ℕ → ℕ) (h : I
       by_sum x base at l = omega (arith, l)
 
   -- the cell is served
-  pub thunk_stands : (a : Config) (s : Concrete) (t : Thunk) → slice_get world.notes.thunk a.made ≡ Some t → t.function < length world.notes.function → total w a.frames ≤ stack_bytes w world.notes → MachineStands w world P mapped None a s
-      → MachineStands w world P mapped None (record a { made = a.made + 1 }) (option_map_or (λ u. u) (stored s (P.image + t.place) w (thunk_at world.notes P t.function)) s)
+  pub thunk_stands : (a : Config) (s : Concrete) (t : Thunk) → slice_get world.notes.thunk a.made ≡ Some t
+      → t.function < length world.notes.function → total w a.frames ≤ stack_bytes w world.notes → MachineStands w world P mapped None a s
+      → MachineStands w world P mapped None (record a { made = a.made + 1 })
+      (option_map_or (λ u. u) (stored s (P.image + t.place) w (thunk_at world.notes P t.function)) s)
   unfolding stored
   thunk_stands a s t g few room st =
       let x = P.image + t.place in
@@ -72,12 +80,15 @@ module _ (w : ℕ) (world : World) (P : Placement) (mapped : ℕ → ℕ) (h : I
       let w8 = width_le w h in
       let inside = ok.thunks_inside a.made t g in
       let iw = image_within w world P h ok pl in
-      let held : holds s.objects x w ≡ true = ap (λ q. holds q x w) st.objects ∙ image_holds w world P h ok pl a.script.entries x w (omega arith) (omega (arith, inside, w8)) in
+      let held : holds s.objects x w ≡ true = ap (λ q. holds q x w) st.objects
+      ∙ image_holds w world P h ok pl a.script.entries x w (omega arith) (omega (arith, inside, w8)) in
       let N = named w world P h ok pl a.script.entries a.frames in
       let small : y < 2 ^ (8 * w) = let ar = N.area in omega (arith, few, ar) in
       let spelled : little_endian b x w ≡ y = read_put s.byte x w y ∙ mod-eq_of_lt small in
-      let off_stack : (x + w ≤ P.stack) ⊎ (P.stack + stack_bytes w world.notes ≤ x) = ⊎_elim (λ q. inr (omega (arith, q))) (λ q. inl (omega (arith, q, inside, w8))) (image_off_stack w world P h ok pl) in
-      subst (λ (u : Concrete). MachineStands w world P mapped None (record a { made = a.made + 1 }) u) (sym (ap (λ q. option_map_or (λ u. u) (if q then Some (record s { byte = b }) else None) s) held))
+      let off_stack : (x + w ≤ P.stack) ⊎ (P.stack + stack_bytes w world.notes ≤ x) =
+      ⊎_elim (λ q. inr (omega (arith, q))) (λ q. inl (omega (arith, q, inside, w8))) (image_off_stack w world P h ok pl) in
+      subst (λ (u : Concrete). MachineStands w world P mapped None (record a { made = a.made + 1 }) u)
+      (sym (ap (λ q. option_map_or (λ u. u) (if q then Some (record s { byte = b }) else None) s) held))
       (record {
         eight = st.eight;
         words = st.words;
@@ -85,8 +96,12 @@ module _ (w : ℕ) (world : World) (P : Placement) (mapped : ℕ → ℕ) (h : I
         registers = st.registers;
         locals = st.locals;
         top = st.top;
-        frames = frames_agree w (stack_end w world.notes P) h (end_small w world P h ok pl) (addresses w world.notes P a.frames) P s.byte b a.frames (omega (arith, room))
-            (record { by = λ q l m. sym (put-apart s.byte x w y q (⊎_elim (λ p. inr (omega (arith, p, l, room))) (λ p. inl (omega (arith, p, m))) off_stack)) }) st.frames;
+        frames = frames_agree w (stack_end w world.notes P) h (end_small w world P h ok pl)
+            (addresses w world.notes P a.frames) P s.byte b a.frames (omega (arith, room))
+            (record {
+              by = λ q l m. sym (put-apart s.byte x w y q
+                  (⊎_elim (λ p. inr (omega (arith, p, l, room))) (λ p. inl (omega (arith, p, m))) off_stack));
+            }) st.frames;
         cells = λ p z v k m.
             let old = st.cells p z v k m in
             let lies = cell_lies w world P h ok pl a p z room st.locals k in
@@ -95,39 +110,49 @@ module _ (w : ℕ) (world : World) (P : Placement) (mapped : ℕ → ℕ) (h : I
               address = old.address;
               there = old.there;
               shows = subst (ShowsIn w (addresses w world.notes P a.frames) (cell_size w z.cell) v)
-                  (sym (little_endian-apart s.byte x w y old.address (cell_size w z.cell) (⊎_elim (λ q. inr (omega (arith, q, same, w8))) (λ q. inl (omega (arith, q, same))) (lies.off_thunks a.made t g)))) old.shows;
+                  (sym (little_endian-apart s.byte x w y old.address (cell_size w z.cell)
+                  (⊎_elim (λ q. inr (omega (arith, q, same, w8))) (λ q. inl (omega (arith, q, same)))
+                  (lies.off_thunks a.made t g)))) old.shows;
             };
         thunks = λ i u k n. served i u k (st.thunks i u k n) spelled;
         code = λ j f q k l m.
             let off = ok.code_thunks j a.made f t k g in
-            put-apart s.byte x w y (P.image + q) (⊎_elim (λ r. inl (omega (arith, r, m))) (λ r. inr (omega (arith, r, l, w8))) off) ∙ st.code j f q k l m;
+            put-apart s.byte x w y (P.image + q) (⊎_elim (λ r. inl (omega (arith, r, m))) (λ r. inr (omega (arith, r, l, w8))) off)
+            ∙ st.code j f q k l m;
         objects = st.objects;
         flags = st.flags;
         gate = st.gate;
         spot = st.spot;
       })
     where
-      served : (i : ℕ) (u : Thunk) → slice_get world.notes.thunk i ≡ Some u → ThunkShows w world P mapped s.byte a.made i u → little_endian (put s.byte (P.image + t.place) w (thunk_at world.notes P t.function)) (P.image + t.place) w ≡ thunk_at world.notes P t.function
+      served : (i : ℕ) (u : Thunk) → slice_get world.notes.thunk i ≡ Some u → ThunkShows w world P mapped s.byte a.made i u
+          → little_endian (put s.byte (P.image + t.place) w (thunk_at world.notes P t.function))
+          (P.image + t.place) w ≡ thunk_at world.notes P t.function
           → ThunkShows w world P mapped (put s.byte (P.image + t.place) w (thunk_at world.notes P t.function)) (a.made + 1) i u
       served i u k sh spelled = ⊎_elim this other (cases_eq i a.made)
         where
           w8 : w ≤ 8
           w8 = width_le w h
 
-          this : i ≡ a.made → ThunkShows w world P mapped (put s.byte (P.image + t.place) w (thunk_at world.notes P t.function)) (a.made + 1) i u
+          this : i ≡ a.made → ThunkShows w world P mapped (put s.byte (P.image + t.place) w (thunk_at world.notes P t.function))
+              (a.made + 1) i u
           this e =
               let ut : t ≡ u = same_Some t u (sym g ∙ ap (slice_get world.notes.thunk) (sym e) ∙ k) in
-              subst (λ (v : Thunk). ThunkShows w world P mapped (put s.byte (P.image + t.place) w (thunk_at world.notes P t.function)) (a.made + 1) i v) ut (
+              subst (λ (v : Thunk). ThunkShows w world P mapped (put s.byte (P.image + t.place) w (thunk_at world.notes P t.function))
+              (a.made + 1) i v) ut (
                 (λ l. (named w world P h ok pl a.script.entries a.frames).entries t.function few ∙ ap Some (sym spelled)),
                 (λ l j m. absurd (omega (arith, l, e))),
               )
 
-          other : (i ≡ a.made → ⊥) → ThunkShows w world P mapped (put s.byte (P.image + t.place) w (thunk_at world.notes P t.function)) (a.made + 1) i u
+          other : (i ≡ a.made → ⊥) → ThunkShows w world P mapped (put s.byte (P.image + t.place) w (thunk_at world.notes P t.function))
+              (a.made + 1) i u
           other n =
               let apart = ok.thunks_apart i a.made u t k g (λ e. n e) in
               let y = thunk_at world.notes P t.function in (
-                (λ l. sh.0 (lower i a.made l n) ∙ ap Some (sym (little_endian-apart s.byte (P.image + t.place) w y (P.image + u.place) w (⊎_elim (λ r. inl (omega (arith, r, w8))) (λ r. inr (omega (arith, r, w8))) apart)))),
-                (λ l j m. put-apart s.byte (P.image + t.place) w y (P.image + (u.place + j)) (⊎_elim (λ r. inl (omega (arith, r, m))) (λ r. inr (omega (arith, r, w8))) apart) ∙ sh.1 (omega (arith, l)) j m),
+                (λ l. sh.0 (lower i a.made l n) ∙ ap Some (sym (little_endian-apart s.byte (P.image + t.place) w y (P.image + u.place) w
+                    (⊎_elim (λ r. inl (omega (arith, r, w8))) (λ r. inr (omega (arith, r, w8))) apart)))),
+                (λ l j m. put-apart s.byte (P.image + t.place) w y (P.image + (u.place + j))
+                    (⊎_elim (λ r. inl (omega (arith, r, m))) (λ r. inr (omega (arith, r, w8))) apart) ∙ sh.1 (omega (arith, l)) j m),
               )
             where
               lower : (i m : ℕ) → i < m + 1 → (i ≡ m → ⊥) → i < m

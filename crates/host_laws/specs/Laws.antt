@@ -1,5 +1,6 @@
--- The laws of the host's steps at a width: what the host sees, each of its plans, its step, the serving of a thunk cell, and the
--- start. They say that a run goes on standing for the configuration of the neutral machine. docs/HOST.md, "Laws of its steps".
+-- For proofs: the laws of the host's steps at a width: what the host sees, each of its plans, its step, the serving of a
+-- thunk cell, and the start. They say that a run goes on standing for the configuration of the neutral machine.
+-- docs/HOST.md, "Laws of its steps".
 use Rattle.std.specs.Prelude.{◌≡◌, ℕ, ◌+◌, ◌≤◌, ◌<◌, Some, None, slice_get}
 use Rattle.std.specs.Option.{option_map_or}
 use Rattle.ebc_width.specs.Width.{IsWidth}
@@ -7,17 +8,17 @@ use Rattle.neutral_machine.specs.Stands.{MachineStands, Stands}
 use Rattle.neutral_machine.specs.WorldFits.{WorldFits}
 use Rattle.note_types.specs.Concrete.{Concrete, stored}
 use Rattle.note_types.specs.declared.notes.Thunk.{Thunk}
-use Rattle.run_types.specs.Config.{Config}
-use Rattle.run_types.specs.HostPlans.{View, Plan, Names}
-use Rattle.run_types.specs.HostSteps as width
-use Rattle.run_types.specs.Layout.{total}
-use Rattle.run_types.specs.NeutralHost as neutral
-use Rattle.run_types.specs.NeutralRuns.{neutral_start}
-use Rattle.run_types.specs.Placements.{Placement, IsPlacement, stack_bytes, thunk_at}
-use Rattle.run_types.specs.RunState.{RunState}
-use Rattle.run_types.specs.Start.{run_start}
-use Rattle.run_types.specs.Values.{Cells}
-use Rattle.run_types.specs.World.{World}
+use Rattle.neutral_machine.specs.Config.{Config}
+use Rattle.host_model.specs.HostPlans.{View, Plan, Names}
+use Rattle.host_model.specs.HostSteps as width
+use Rattle.neutral_machine.specs.Layout.{total}
+use Rattle.neutral_machine.specs.NeutralHost as neutral
+use Rattle.neutral_machine.specs.NeutralRuns.{neutral_start}
+use Rattle.host_model.specs.Placements.{Placement, IsPlacement, stack_bytes, thunk_at}
+use Rattle.host_model.specs.RunState.{RunState}
+use Rattle.host_model.specs.Start.{run_start}
+use Rattle.host_model.specs.Values.{Cells}
+use Rattle.host_model.specs.World.{World}
 use Rattle.host_laws.specs.PlanFits.{PlanFits}
 use Rattle.host_laws.specs.ScriptGiven.{ScriptGiven}
 use Rattle.host_laws.specs.StartGiven.{StaticsShow, StartGiven}
@@ -58,19 +59,23 @@ HostStepKeepsStanding =
 -- The host sees the function that the next thunk cell names.
 abbrev pub ThunkIsSeen : Type 0
 ThunkIsSeen =
-    (w : ℕ) (world : World) (P : Placement) (mapped : ℕ → ℕ) (a : Config) (s : Concrete) → IsPlaced w world P → MachineStands w world P mapped None a s
+    (w : ℕ) (world : World) (P : Placement) (mapped : ℕ → ℕ) (a : Config) (s : Concrete) → IsPlaced w world P
+    → MachineStands w world P mapped None a s
     → (i : ℕ) (t : Thunk) → slice_get world.notes.thunk i ≡ Some t → a.made ≤ i → ThunkLoaded world mapped t
     → width.thunk_view world P s (P.image + t.place) ≡ Names t.function
 
 -- Once it is served, the machine stands for the configuration with one thunk more.
 abbrev pub ThunkKeepsStanding : Type 0
 ThunkKeepsStanding =
-    (w : ℕ) (world : World) (P : Placement) (mapped : ℕ → ℕ) (a : Config) (s : Concrete) → IsPlaced w world P → total w a.frames ≤ stack_bytes w world.notes → MachineStands w world P mapped None a s
+    (w : ℕ) (world : World) (P : Placement) (mapped : ℕ → ℕ) (a : Config) (s : Concrete) → IsPlaced w world P
+    → total w a.frames ≤ stack_bytes w world.notes → MachineStands w world P mapped None a s
     → (t : Thunk) → slice_get world.notes.thunk a.made ≡ Some t → ThunkLoaded world mapped t
-    → MachineStands w world P mapped None (record a { made = a.made + 1 }) (option_map_or (λ u. u) (stored s (P.image + t.place) w (thunk_at world.notes P t.function)) s)
+    → MachineStands w world P mapped None (record a { made = a.made + 1 })
+    (option_map_or (λ u. u) (stored s (P.image + t.place) w (thunk_at world.notes P t.function)) s)
 
 -- A run at its start stands for the neutral machine at its start.
 abbrev pub StartStands : Type 0
 StartStands =
     (w : ℕ) (world : World) (P : Placement) (mapped : ℕ → ℕ) (statics : Cells) → IsPlaced w world P → ((x : ℕ) → mapped x < 256)
-    → StaticsShow w world P mapped statics → StartGiven w world statics → Stands w world P mapped (neutral_start world statics) (run_start w world P mapped)
+    → StaticsShow w world P mapped statics → StartGiven w world statics
+    → Stands w world P mapped (neutral_start world statics) (run_start w world P mapped)

@@ -1,25 +1,25 @@
--- What each plan of the host needs of a configuration to be carried out alike in the neutral machine and at a width. The host
--- plans only what it saw, so the law of the host's steps meets all of it. docs/HOST.md, "Steps".
+-- For proofs: what each plan of the host needs of a configuration to be carried out alike in the neutral machine and at a
+-- width. The host plans only what it saw, so the law of the host's steps meets all of it. docs/HOST.md, "Steps".
 use Rattle.std.specs.Prelude.{◌≡◌, ℕ, ◌+◌, ◌≤◌, List, [], ◌∷◌, ◌++◌, map, length, Some, slice_get, ⊤}
 use Rattle.std.specs.List.{AllByRecursion, AllZip}
 use Rattle.note_types.specs.declared.notes.FnNote.{FnNote}
 use Rattle.note_types.specs.declared.script.ScriptCall.{ScriptCall}
 use Rattle.note_types.specs.declared.shape.Field.{Field}
 use Rattle.note_types.specs.declared.value.Value.{Value}
-use Rattle.run_types.specs.Config.{Config, Frame, Host, HostFrame, call_under_way}
-use Rattle.run_types.specs.HostPlans.{Store, Plan, Finishes, Leaves, Accepts, Enters, Replies, Ends}
-use Rattle.run_types.specs.HostSteps as width
-use Rattle.run_types.specs.Layout.{addresses, total}
-use Rattle.run_types.specs.Memory.{memory_of, cell_field}
-use Rattle.run_types.specs.NeutralHost.{target_place, slots_asked, with_objects}
-use Rattle.run_types.specs.Objects.{script_object, made_objects}
-use Rattle.run_types.specs.Placements.{Placement, return_cell, params_bytes, stack_bytes}
-use Rattle.run_types.specs.Progress.{one_entry, copied}
-use Rattle.run_types.specs.RunState.{RunState}
-use Rattle.run_types.specs.Values.{Neutral, CellPlace, Shows}
-use Rattle.run_types.specs.World.{World}
-use Rattle.run_types.specs.WrittenLaw.{IsValue}
-use Rattle.run_types.specs.declared.object.TypedObject.{TypedObject}
+use Rattle.neutral_machine.specs.Config.{Config, Frame, Host, HostFrame, call_under_way}
+use Rattle.host_model.specs.HostPlans.{Store, Plan, Finishes, Leaves, Accepts, Enters, Replies, Ends}
+use Rattle.host_model.specs.HostSteps as width
+use Rattle.neutral_machine.specs.Layout.{addresses, total}
+use Rattle.neutral_machine.specs.Memory.{memory_of, cell_field}
+use Rattle.neutral_machine.specs.NeutralHost.{target_place, slots_asked, with_objects}
+use Rattle.host_model.specs.Objects.{script_object, made_objects}
+use Rattle.host_model.specs.Placements.{Placement, return_cell, params_bytes, stack_bytes}
+use Rattle.host_model.specs.Progress.{one_entry, copied}
+use Rattle.host_model.specs.RunState.{RunState}
+use Rattle.host_model.specs.Values.{Neutral, CellPlace, Shows}
+use Rattle.host_model.specs.World.{World}
+use Rattle.neutral_machine.specs.WrittenLaw.{IsValue}
+use Rattle.host_model.specs.declared.object.TypedObject.{TypedObject}
 
 -- A store goes to a cell that is there, of its kind, and its value is one that a reader gives.
 pub record StoreNames (world : World) (a : Config) (slots : List Neutral) (v : Store) : Type 0 where
@@ -53,13 +53,15 @@ with_new world a c =
 
 -- The next call of the script makes these objects, the stores go to their cells, and the argument slots that are copied show as
 -- the numbers that are.
-pub record CanAccept (w : ℕ) (world : World) (P : Placement) (a : Config) (r : RunState) (entry : ℕ) (objects : List TypedObject) (stores : List Store) : Type 0 where
+pub record CanAccept (w : ℕ) (world : World) (P : Placement) (a : Config) (r : RunState) (entry : ℕ) (objects : List TypedObject)
+    (stores : List Store) : Type 0 where
   pub call : ScriptCall
   pub there : slice_get world.script.call a.script.entries ≡ Some call
   pub entry_is : a.script.entries ≡ entry
   pub objects_are : map script_object call.make ≡ objects
   pub names : AllByRecursion (StoreNames world (with_new world a call) []) stores
-  pub shown : AllZip (Shows w (addresses w world.notes P a.frames)) (slots_asked world a (call_under_way a.frames)) (width.slots_asked w world r (width.call_under_way r.hosts))
+  pub shown : AllZip (Shows w (addresses w world.notes P a.frames)) (slots_asked world a (call_under_way a.frames))
+      (width.slots_asked w world r (width.call_under_way r.hosts))
 
 -- what each plan needs
 abbrev pub PlanFits : ℕ → World → Placement → Config → RunState → Plan → Type 0
@@ -67,5 +69,6 @@ PlanFits w world P a r (Finishes v) = TopHost a
 PlanFits w world P a r (Leaves e) = TopHost a
 PlanFits w world P a r (Accepts e entry objects stores) = CanAccept w world P a r entry objects stores
 PlanFits w world P a r (Enters e entry f values) = CanEnter w world a f values
-PlanFits w world P a r (Replies e stores kind v) = AllByRecursion (StoreNames world a (copied (call_under_way a.frames))) stores × IsValue world.notes v
+PlanFits w world P a r (Replies e stores kind v) = AllByRecursion (StoreNames world a (copied (call_under_way a.frames))) stores
+    × IsValue world.notes v
 PlanFits w world P a r (Ends es e) = ⊤

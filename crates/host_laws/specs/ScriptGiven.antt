@@ -1,10 +1,10 @@
--- What a reader's conditions on a script give the laws of the host's steps: the cells that made objects name are there, and each
--- value is one that a reader gives.
+-- For proofs: what a reader's conditions on a script give the laws of the host's steps: the cells that made objects name are
+-- there, and each value is one that a reader gives.
 use Rattle.std.specs.Prelude.{◌≡◌, ℕ, ◌+◌, List, length, Some, slice_get}
 use Rattle.std.specs.List.{AllByRecursion}
-use Rattle.run_types.specs.HostPlans.{Target, InObject, InArgument, Store, field_at, filling}
-use Rattle.run_types.specs.declared.object.TypedObject.{TypedObject}
-use Rattle.run_types.specs.Objects.{made_objects}
+use Rattle.host_model.specs.HostPlans.{Target, InObject, InArgument, Store, field_at, filling}
+use Rattle.host_model.specs.declared.object.TypedObject.{TypedObject}
+use Rattle.host_model.specs.Objects.{made_objects}
 use Rattle.note_types.specs.declared.notes.Notes.{Notes}
 use Rattle.note_types.specs.declared.script.Callback.{Callback}
 use Rattle.note_types.specs.declared.script.OutValue.{OutValue}
@@ -12,7 +12,7 @@ use Rattle.note_types.specs.declared.script.Script.{Script}
 use Rattle.note_types.specs.declared.script.ScriptCall.{ScriptCall}
 use Rattle.note_types.specs.declared.script.WriteValue.{WriteValue}
 use Rattle.note_types.specs.declared.shape.Field.{Field}
-use Rattle.run_types.specs.WrittenLaw.{IsValue}
+use Rattle.neutral_machine.specs.WrittenLaw.{IsValue}
 
 -- a store in a cell of an object that is there, of its kind
 abbrev pub TargetGiven : Notes → List TypedObject → Target → Store → Type 0
@@ -25,7 +25,8 @@ pub record StoreGiven (notes : Notes) (made : List TypedObject) (v : Store) : Ty
 
 -- what is given of the script's call of that number
 pub record CallGiven (notes : Notes) (script : Script) (n : ℕ) (c : ScriptCall) : Type 0 where
-  pub made : AllByRecursion (StoreGiven notes (made_objects notes script (n + 1))) (filling notes (length (made_objects notes script n)) c.make)
+  pub made : AllByRecursion (StoreGiven notes (made_objects notes script (n + 1)))
+      (filling notes (length (made_objects notes script n)) c.make)
   pub callbacks : (j : ℕ) (b : Callback) → slice_get c.enter j ≡ Some b → AllByRecursion (IsValue notes) b.values
   pub outs : AllByRecursion (λ (o : OutValue). IsValue notes o.value) c.out
   pub writes : AllByRecursion (λ (v : WriteValue). IsValue notes v.value) c.write

@@ -1,6 +1,6 @@
--- What a run's start needs to stand for the neutral machine's: what the cells of static objects hold is what the loaded bytes
--- show, and the script fills cells that are there and enters the entry function with as many values as it takes. docs/HOST.md,
--- "The start".
+-- For proofs: what a run's start needs to stand for the neutral machine's: what the cells of static objects hold is what the
+-- loaded bytes show, and the script fills cells that are there and enters the entry function with as many values as it
+-- takes. docs/HOST.md, "The start".
 use Rattle.std.specs.Prelude.{◌≡◌, ℕ, ◌<◌, false, [], length, Some, None}
 use Rattle.std.specs.List.{AllByRecursion}
 use Rattle.neutral_machine.specs.Stands.{CellShows, cell_address}
@@ -8,17 +8,17 @@ use Rattle.note_types.specs.Cells.{cell_size}
 use Rattle.note_types.specs.declared.ending.Ending.TheVariants.{Running}
 use Rattle.note_types.specs.declared.shape.Field.{Field}
 use Rattle.note_types.specs.declared.spot.Spot.TheVariants as spot
-use Rattle.run_types.specs.Config.{Config}
-use Rattle.run_types.specs.HostPlans.{filling}
-use Rattle.run_types.specs.Layout.{addresses}
-use Rattle.run_types.specs.Memory.{memory_of, cell_field}
-use Rattle.run_types.specs.NeutralHost.{with_objects}
-use Rattle.run_types.specs.Objects.{made_objects}
-use Rattle.run_types.specs.Placements.{Placement}
-use Rattle.run_types.specs.Progress.{script_start}
-use Rattle.run_types.specs.Start.{image_byte}
-use Rattle.run_types.specs.Values.{Neutral, FieldOf, FieldOfLocals, Cells, null}
-use Rattle.run_types.specs.World.{World}
+use Rattle.neutral_machine.specs.Config.{Config}
+use Rattle.host_model.specs.HostPlans.{filling}
+use Rattle.neutral_machine.specs.Layout.{addresses}
+use Rattle.neutral_machine.specs.Memory.{memory_of, cell_field}
+use Rattle.neutral_machine.specs.NeutralHost.{with_objects}
+use Rattle.host_model.specs.Objects.{made_objects}
+use Rattle.host_model.specs.Placements.{Placement}
+use Rattle.host_model.specs.Progress.{script_start}
+use Rattle.host_model.specs.Start.{image_byte}
+use Rattle.host_model.specs.Values.{Neutral, FieldOf, FieldOfLocals, Cells, null}
+use Rattle.host_model.specs.World.{World}
 use Rattle.host_laws.specs.PlanFits.{StoreNames, CanEnter}
 
 -- the configuration before the objects of the script are filled
@@ -40,10 +40,12 @@ start_config world statics =
 pub record StaticsShow (w : ℕ) (world : World) (P : Placement) (mapped : ℕ → ℕ) (statics : Cells) : Type 0 where
   pub show : (k i f : ℕ) (z : Field) (v : Neutral) → k < length world.notes.statics → statics (FieldOf k i f) ≡ Some v
       → cell_field world.notes (memory_of world (start_config world statics)) (FieldOf k i f) ≡ Some z
-      → CellShows w (addresses w world.notes P []) (image_byte world P mapped) (cell_address w world P (start_config world statics) (FieldOf k i f) z) (cell_size w z.cell) v
+      → CellShows w (addresses w world.notes P []) (image_byte world P mapped)
+      (cell_address w world P (start_config world statics) (FieldOf k i f) z) (cell_size w z.cell) v
   pub no_local : (d f : ℕ) → statics (FieldOfLocals d f) ≡ None
 
 -- The script's cells at the start are there, and the entry function can be entered where no frame stands.
 pub record StartGiven (w : ℕ) (world : World) (statics : Cells) : Type 0 where
-  pub cells : AllByRecursion (StoreNames world (start_config world statics) []) (filling world.notes (length world.notes.statics) world.script.object)
+  pub cells : AllByRecursion (StoreNames world (start_config world statics) [])
+      (filling world.notes (length world.notes.statics) world.script.object)
   pub entry : (a : Config) → a.frames ≡ [] → CanEnter w world a world.notes.entry world.script.args

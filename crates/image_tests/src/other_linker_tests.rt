@@ -102,7 +102,7 @@ fn reads_an_image_of_another_linker(rt: HostRuntime) -> Result<(), Fail> {
     for (at, bytes) in SECTIONS {
         put(&mut file, at, bytes);
     }
-    assert_eq!(rt; read_image(rt.alloc(), &file), Ok(wanted(rt.alloc())?));
+    assert!(rt; read_image(rt.alloc(), &file) == Ok(wanted(rt.alloc())?));
     Ok(())
 }
 
@@ -123,7 +123,7 @@ fn reads_ninety_six_sections(rt: HostRuntime) -> Result<(), Fail> {
         put(&mut file, raw_at as usize, &[number, 0xC3]);
     }
     let image = read_image(rt.alloc(), &file)?;
-    assert_eq!(rt; image.sections.len(), 96);
+    assert!(rt; image.sections.len() == 96);
     let last = section([0; 8], 0x2BE0, 2, 0, bytes(rt.alloc(), &[95, 0xC3])?);
     assert!(rt; image.sections.as_slice().last() == Some(&last));
     Ok(())

@@ -1,5 +1,6 @@
 -- Arithmetic, comparisons and moves: the machine does what the neutral machine does.
-use Rattle.std.proofs.Common.{◌≡◌, ℕ, zero, suc, ◌+◌, ◌*◌, ◌/◌, ◌%◌, ◌^◌, ◌<◌, ◌≤◌, Bool, true, false, if◌then◌else◌, nat_eq, nat_lt, List, [], ◌∷◌, Option, Some, None, Ok, ℤ, refl, sym, ap, ◌∙◌, subst, arith, slice_get, option_map, get_or}
+use Rattle.std.proofs.Common.{◌≡◌, ℕ, zero, suc, ◌+◌, ◌*◌, ◌/◌, ◌%◌, ◌^◌, ◌<◌, ◌≤◌, Bool, true, false, if◌then◌else◌, nat_eq, nat_lt, List}
+use Rattle.std.proofs.Common.{[], ◌∷◌, Option, Some, None, Ok, ℤ, refl, sym, ap, ◌∙◌, subst, arith, slice_get, option_map, get_or}
 use Rattle.std.proofs.lemmas.Bool.{eqb-true, ltb-true}
 use Rattle.std.proofs.lemmas.Option.{none-some}
 use Rattle.ebc_insn.specs.declared.Size.TheVariants as sizes
@@ -7,7 +8,7 @@ use Rattle.ebc_machine.specs.Data as machine_data
 use Rattle.ebc_machine.specs.Moves as machine_moves
 use Rattle.ebc_machine.specs.Results as machine_results
 use Rattle.note_types.specs.declared.exception.Exception.TheVariants as raises
-use Rattle.run_types.specs.Outcomes as outcomes
+use Rattle.neutral_machine.specs.Outcomes as outcomes
 use Rattle.neutral_machine.specs.Rows as rows
 use Rattle.ebc_width.specs.Width.{IsWidth, wrap64, extended_at}
 use Rattle.ebc_width.proofs.Laws.{by_width, wrap64-below, extended_at-below, extended_at-at_small, linear_at-wrap64, linear_at-below}
@@ -22,20 +23,21 @@ use Rattle.machine_alu.specs.Alu.{compared}
 use Rattle.note_types.specs.Concrete.{Concrete, register, with_flags, with_register}
 use Rattle.note_types.specs.declared.notes.Static.{Static}
 use Rattle.note_types.specs.declared.notes.Thunk.{Thunk}
-use Rattle.run_types.specs.Values.{Anchor, ObjectOf, ThunkOf, Neutral, Num, At, Handle, Method, Entry, Error, SignedError, Junk, Addresses, Shows, number, pair, word, error_at, signed_error_at, IsCode}
+use Rattle.host_model.specs.Values.{Anchor, ObjectOf, ThunkOf, Neutral, Num, At, Handle, Method, Entry, Error, SignedError, Junk, Addresses}
+use Rattle.host_model.specs.Values.{Shows, number, pair, word, error_at, signed_error_at, IsCode}
 use Rattle.std.specs.List.{position}
 use Rattle.std.specs.Option.{option_or, option_map, option_map_or}
 use Rattle.std.proofs.lemmas.List.Quantifiers.{position-Some}
 use Rattle.std.proofs.lemmas.Option.{slice_get-get_or}
-use Rattle.run_types.specs.Config.{Config}
-use Rattle.run_types.specs.World.{World}
-use Rattle.run_types.specs.Placements.{Placement, IsPlacement, stack_bytes}
-use Rattle.run_types.specs.Layout.{addresses, total}
-use Rattle.run_types.specs.Memory.{memory_of}
-use Rattle.run_types.specs.Outcomes.{Outcome, Gives, Raises, Stuck, or_stuck}
+use Rattle.neutral_machine.specs.Config.{Config}
+use Rattle.host_model.specs.World.{World}
+use Rattle.host_model.specs.Placements.{Placement, IsPlacement, stack_bytes}
+use Rattle.neutral_machine.specs.Layout.{addresses, total}
+use Rattle.neutral_machine.specs.Memory.{memory_of}
+use Rattle.neutral_machine.specs.Outcomes.{Outcome, Gives, Raises, Stuck, or_stuck}
 use Rattle.neutral_machine.specs.Alike.{Does, RowsAlike}
-use Rattle.run_types.specs.Operations.{compared_as, sign_extended}
-use Rattle.run_types.specs.Locations.{Access, Move, Form, Signed, access_bytes, kept}
+use Rattle.neutral_machine.specs.Operations.{compared_as, sign_extended}
+use Rattle.neutral_machine.specs.Locations.{Access, Move, Form, Signed, access_bytes, kept}
 use Rattle.neutral_machine.specs.Operands.{NeutralSide, direct_value}
 use Rattle.neutral_machine.specs.Rows.{Site, flags_of, with_c, address_of_place, immediate}
 use Rattle.neutral_machine.specs.Stands.{MachineStands}
@@ -48,7 +50,8 @@ use Rattle.neutral_machine.proofs.Bounds.{bounded, objects_below}
 use Rattle.neutral_machine.proofs.Combined.{combined_does}
 use Rattle.neutral_machine.proofs.Compared.{compared_same}
 use Rattle.instruction_laws.proofs.Accesses.{Beside, ShowsWord}
-use Rattle.instruction_laws.proofs.Operands.{turned_stands, bind_does, nothing_beside, direct_shows, values, writes_does, registers_written, address_of, goes_does}
+use Rattle.instruction_laws.proofs.Operands.{turned_stands, bind_does, nothing_beside, direct_shows, values, writes_does, registers_written}
+use Rattle.instruction_laws.proofs.Operands.{address_of, goes_does}
 
 pub form_size : (w : ℕ) (wide : Bool) → form_bytes wide ≡ access_bytes w (Form wide)
 form_size w true = refl
@@ -62,7 +65,8 @@ move_size w sizes.Qword = refl
 move_size w sizes.Natural = refl
 
 -- the thing that is found first passes the test
-position_at : {X : Type 0} (t : X → Bool) (xs : List X) (k : ℕ) → position t xs ≡ Some k → (x : X) × (slice_get xs k ≡ Some x) × (t x ≡ true)
+position_at : {X : Type 0} (t : X → Bool) (xs : List X) (k : ℕ) → position t xs ≡ Some k → (x : X) × (slice_get xs k ≡ Some x)
+    × (t x ≡ true)
 position_at t [] k e = absurd (none-some k e)
 position_at t (x ∷ xs) k e =
     let p = position-Some t (x ∷ xs) k x e in
@@ -81,14 +85,22 @@ module _ (w : ℕ) (world : World) (P : Placement) (mapped : ℕ → ℕ) (h : I
 
   -- ---- arithmetic
 
-  pub arith_does : (a : Config) (s : Concrete) (next : ℕ) (op : ArithOp) (wide : Bool) (left right : NeutralSide) (x y : ℕ) → left.reg < 8 → right.reg < 8 → Room a → Stand a s → Beside w world P mapped h ok pl left.beside x → Beside w world P mapped h ok pl right.beside y
-      → Does (RowsAlike w world P mapped) (rows.arith_row world a next op wide left right) (machine_data.arith_row w s (address_of w world P mapped h ok pl next) op wide (record { reg = left.reg; indirect = left.indirect; offset = x }) (record { reg = right.reg; indirect = right.indirect; offset = y }))
+  pub arith_does : (a : Config) (s : Concrete) (next : ℕ) (op : ArithOp) (wide : Bool) (left right : NeutralSide) (x y : ℕ) → left.reg < 8
+      → right.reg < 8 → Room a → Stand a s → Beside w world P mapped h ok pl left.beside x → Beside w world P mapped h ok pl right.beside y
+      → Does (RowsAlike w world P mapped) (rows.arith_row world a next op wide left right)
+      (machine_data.arith_row w s (address_of w world P mapped h ok pl next) op wide
+      (record { reg = left.reg; indirect = left.indirect; offset = x })
+      (record { reg = right.reg; indirect = right.indirect; offset = y }))
   unfolding rows.arith_row machine_data.arith_row
   arith_does a s next op wide left right x y l r room st el er =
-      bind_does (Word a) (RowsAlike w world P mapped) _ _ _ _ (values w world P mapped h ok pl a s raises.MemoryFault (Form wide) (form_bytes wide) right y (form_size w wide) r room st er) (λ u b pu.
-      bind_does (Word a) (RowsAlike w world P mapped) _ _ _ _ (values w world P mapped h ok pl a s raises.MemoryFault (Form wide) (form_bytes wide) left x (form_size w wide) l room st el) (λ v c pv.
-      bind_does (Word a) (RowsAlike w world P mapped) _ _ _ _ (combined_does w h (addresses w world.notes P a.frames) op wide v u c b pv pu) (λ z d pz.
-      bind_does Stand (RowsAlike w world P mapped) _ _ _ _ (writes_does w world P mapped h ok pl a s (Form wide) (form_bytes wide) left x z d (form_size w wide) l room st el pz) (λ a2 s2 st2.
+      bind_does (Word a) (RowsAlike w world P mapped) _ _ _ _ (values w world P mapped h ok pl a s raises.MemoryFault (Form wide)
+      (form_bytes wide) right y (form_size w wide) r room st er) (λ u b pu.
+      bind_does (Word a) (RowsAlike w world P mapped) _ _ _ _ (values w world P mapped h ok pl a s raises.MemoryFault (Form wide)
+      (form_bytes wide) left x (form_size w wide) l room st el) (λ v c pv.
+      bind_does (Word a) (RowsAlike w world P mapped) _ _ _ _ (combined_does w h (addresses w world.notes P a.frames) op wide v u c b pv pu)
+      (λ z d pz.
+      bind_does Stand (RowsAlike w world P mapped) _ _ _ _ (writes_does w world P mapped h ok pl a s (Form wide)
+      (form_bytes wide) left x z d (form_size w wide) l room st el pz) (λ a2 s2 st2.
       goes_does w world P mapped h ok pl a2 s2 next st2))))
 
   -- ---- comparisons
@@ -102,17 +114,25 @@ module _ (w : ℕ) (world : World) (P : Placement) (mapped : ℕ → ℕ) (h : I
 
   flag_stands : (a : Config) (s : Concrete) (c : Bool) → Stand a s → Stand (with_c a c) (with_flags s (machine_data.with_c s.flags c))
   unfolding with_flags
-  flag_stands a s c st = turned_stands w world P mapped h ok pl None a s c a.spot (machine_data.with_c s.flags c) s.ip (flag_number s.flags a.c c st.flags) st.spot st
+  flag_stands a s c st = turned_stands w world P mapped h ok pl None a s c a.spot (machine_data.with_c s.flags c) s.ip
+      (flag_number s.flags a.c c st.flags) st.spot st
 
-  compared_goes : (a : Config) (s : Concrete) (next : ℕ) (op : CmpOp) (wide : Bool) (v u : Neutral) (x y : ℕ) → Stand a s → Word a v x → Word a u y
-      → Does (RowsAlike w world P mapped) (outcomes.◌>>=◌ (or_stuck (compared_as world.notes (memory_of world a).objects op wide v u)) (λ c. rows.goes world (with_c a c) next)) (machine_results.goes (with_flags s (machine_data.with_c s.flags (compared op wide x y))) (address_of w world P mapped h ok pl next))
+  compared_goes : (a : Config) (s : Concrete) (next : ℕ) (op : CmpOp) (wide : Bool) (v u : Neutral) (x y : ℕ) → Stand a s → Word a v x
+      → Word a u y
+      → Does (RowsAlike w world P mapped) (outcomes.◌>>=◌ (or_stuck (compared_as world.notes (memory_of world a).objects op wide v u))
+      (λ c. rows.goes world (with_c a c) next)) (machine_results.goes
+      (with_flags s (machine_data.with_c s.flags (compared op wide x y))) (address_of w world P mapped h ok pl next))
   compared_goes a s next op wide v u x y st p q = go (compared_as world.notes (memory_of world a).objects op wide v u) refl
     where
-      go : (o : Option Bool) → compared_as world.notes (memory_of world a).objects op wide v u ≡ o → Does (RowsAlike w world P mapped) (outcomes.◌>>=◌ (or_stuck o) (λ c. rows.goes world (with_c a c) next)) (machine_results.goes (with_flags s (machine_data.with_c s.flags (compared op wide x y))) (address_of w world P mapped h ok pl next))
+      go : (o : Option Bool) → compared_as world.notes (memory_of world a).objects op wide v u ≡ o
+          → Does (RowsAlike w world P mapped) (outcomes.◌>>=◌ (or_stuck o) (λ c. rows.goes world (with_c a c) next))
+          (machine_results.goes (with_flags s (machine_data.with_c s.flags (compared op wide x y)))
+          (address_of w world P mapped h ok pl next))
       go None e = tt
       go (Some c) e =
           let f = compared_same w world P h ok pl a.script.entries a.frames op wide v u x y c p q e in
-          subst (λ d. Does (RowsAlike w world P mapped) (rows.goes world (with_c a c) next) (machine_results.goes (with_flags s (machine_data.with_c s.flags d)) (address_of w world P mapped h ok pl next))) (sym f)
+          subst (λ d. Does (RowsAlike w world P mapped) (rows.goes world (with_c a c) next)
+          (machine_results.goes (with_flags s (machine_data.with_c s.flags d)) (address_of w world P mapped h ok pl next))) (sym f)
           (goes_does w world P mapped h ok pl (with_c a c) (with_flags s (machine_data.with_c s.flags c)) next (flag_stands a s c st))
 
   -- a register by itself
@@ -123,19 +143,28 @@ module _ (w : ℕ) (world : World) (P : Placement) (mapped : ℕ → ℕ) (h : I
       let m = st.words r in
       subst (Word a (direct_value world a r None)) (let e : (register s r + 0) % 2 ^ 64 ≡ register s r = omega (arith, m) in e) d
 
-  pub compare_does : (a : Config) (s : Concrete) (next : ℕ) (op : CmpOp) (wide : Bool) (left : ℕ) (right : NeutralSide) (y : ℕ) → left < 8 → right.reg < 8 → Room a → Stand a s → Beside w world P mapped h ok pl right.beside y
-      → Does (RowsAlike w world P mapped) (rows.compare_row world a next op wide left right) (machine_data.compare_row w s (address_of w world P mapped h ok pl next) op wide left (record { reg = right.reg; indirect = right.indirect; offset = y }))
+  pub compare_does : (a : Config) (s : Concrete) (next : ℕ) (op : CmpOp) (wide : Bool) (left : ℕ) (right : NeutralSide) (y : ℕ) → left < 8
+      → right.reg < 8 → Room a → Stand a s → Beside w world P mapped h ok pl right.beside y
+      → Does (RowsAlike w world P mapped) (rows.compare_row world a next op wide left right)
+      (machine_data.compare_row w s (address_of w world P mapped h ok pl next) op wide left
+      (record { reg = right.reg; indirect = right.indirect; offset = y }))
   unfolding rows.compare_row machine_data.compare_row
   compare_does a s next op wide left right y l r room st er =
-      bind_does (Word a) (RowsAlike w world P mapped) _ _ _ _ (values w world P mapped h ok pl a s raises.MemoryFault (Form wide) (form_bytes wide) right y (form_size w wide) r room st er) (λ u b pu.
+      bind_does (Word a) (RowsAlike w world P mapped) _ _ _ _ (values w world P mapped h ok pl a s raises.MemoryFault (Form wide)
+      (form_bytes wide) right y (form_size w wide) r room st er) (λ u b pu.
       compared_goes a s next op wide (direct_value world a left None) u (register s left) b st (register_word a s left l room st) pu)
 
-  pub compare_imm_does : (a : Config) (s : Concrete) (next : ℕ) (op : CmpOp) (wide : Bool) (left : NeutralSide) (x : ℕ) (imm : ℤ) → left.reg < 8 → Room a → Stand a s → Beside w world P mapped h ok pl left.beside x
-      → Does (RowsAlike w world P mapped) (rows.compare_imm_row world a next op wide left imm) (machine_data.compare_imm_row w s (address_of w world P mapped h ok pl next) op wide (record { reg = left.reg; indirect = left.indirect; offset = x }) imm)
+  pub compare_imm_does : (a : Config) (s : Concrete) (next : ℕ) (op : CmpOp) (wide : Bool) (left : NeutralSide) (x : ℕ) (imm : ℤ)
+      → left.reg < 8 → Room a → Stand a s → Beside w world P mapped h ok pl left.beside x
+      → Does (RowsAlike w world P mapped) (rows.compare_imm_row world a next op wide left imm)
+      (machine_data.compare_imm_row w s (address_of w world P mapped h ok pl next) op wide
+      (record { reg = left.reg; indirect = left.indirect; offset = x }) imm)
   unfolding rows.compare_imm_row machine_data.compare_imm_row
   compare_imm_does a s next op wide left x imm l room st el =
-      bind_does (Word a) (RowsAlike w world P mapped) _ _ _ _ (values w world P mapped h ok pl a s raises.MemoryFault (Form wide) (form_bytes wide) left x (form_size w wide) l room st el) (λ v b pv.
-      compared_goes a s next op wide v (number (wrap64 imm)) b (wrap64 imm) st pv (wrap64-below imm, number_shows w (addresses w world.notes P a.frames) (wrap64 imm) (wrap64-below imm)))
+      bind_does (Word a) (RowsAlike w world P mapped) _ _ _ _ (values w world P mapped h ok pl a s raises.MemoryFault (Form wide)
+      (form_bytes wide) left x (form_size w wide) l room st el) (λ v b pv.
+      compared_goes a s next op wide v (number (wrap64 imm)) b (wrap64 imm) st pv
+      (wrap64-below imm, number_shows w (addresses w world.notes P a.frames) (wrap64 imm) (wrap64-below imm)))
 
   -- ---- moves
 
@@ -146,18 +175,29 @@ module _ (w : ℕ) (world : World) (P : Placement) (mapped : ℕ → ℕ) (h : I
       mod_le : (x y : ℕ) → x % y ≤ x
       mod_le x y = omega arith
 
-  pub kept_word : (a : Config) (s : Concrete) (access : Access) (v : Neutral) (x : ℕ) → Room a → Stand a s → Word a v x → Word a (kept world.notes (memory_of world a).objects access v) (low_bytes (access_bytes w access) x)
+  pub kept_word : (a : Config) (s : Concrete) (access : Access) (v : Neutral) (x : ℕ) → Room a → Stand a s → Word a v x
+      → Word a (kept world.notes (memory_of world a).objects access v) (low_bytes (access_bytes w access) x)
   kept_word a s access v x room st p = (
     low_small access x p.0,
-    kept_shows w world.notes (memory_of world a).objects (addresses w world.notes P a.frames) access v _ h (bounded w world P h ok pl a.frames room st.locals) (objects_below w world P h ok pl a.script.entries a.frames) (shown_in w (addresses w world.notes P a.frames) (access_bytes w access) v x p.1),
+    kept_shows w world.notes (memory_of world a).objects (addresses w world.notes P a.frames) access v _ h
+        (bounded w world P h ok pl a.frames room st.locals) (objects_below w world P h ok pl a.script.entries a.frames)
+        (shown_in w (addresses w world.notes P a.frames) (access_bytes w access) v x p.1),
   )
 
-  pub move_does : (a : Config) (s : Concrete) (next : ℕ) (size : Size) (left right : NeutralSide) (x y : ℕ) → left.reg < 8 → right.reg < 8 → Room a → Stand a s → Beside w world P mapped h ok pl left.beside x → Beside w world P mapped h ok pl right.beside y
-      → Does (RowsAlike w world P mapped) (rows.move_row world a next size left right) (machine_moves.move_row w s (address_of w world P mapped h ok pl next) size (record { reg = left.reg; indirect = left.indirect; offset = x }) (record { reg = right.reg; indirect = right.indirect; offset = y }))
+  pub move_does : (a : Config) (s : Concrete) (next : ℕ) (size : Size) (left right : NeutralSide) (x y : ℕ) → left.reg < 8 → right.reg < 8
+      → Room a → Stand a s → Beside w world P mapped h ok pl left.beside x → Beside w world P mapped h ok pl right.beside y
+      → Does (RowsAlike w world P mapped) (rows.move_row world a next size left right)
+      (machine_moves.move_row w s (address_of w world P mapped h ok pl next) size
+      (record { reg = left.reg; indirect = left.indirect; offset = x })
+      (record { reg = right.reg; indirect = right.indirect; offset = y }))
   unfolding rows.move_row machine_moves.move_row
   move_does a s next size left right x y l r room st el er =
-      bind_does (Word a) (RowsAlike w world P mapped) _ _ _ _ (values w world P mapped h ok pl a s raises.MemoryFault (Move size) (size_bytes w size) right y (move_size w size) r room st er) (λ u b pu.
-      bind_does Stand (RowsAlike w world P mapped) _ _ _ _ (writes_does w world P mapped h ok pl a s (Move size) (size_bytes w size) left x (kept world.notes (memory_of world a).objects (Move size) u) (low_bytes (size_bytes w size) b) (move_size w size) l room st el (subst (λ k. Word a (kept world.notes (memory_of world a).objects (Move size) u) (low_bytes k b)) (sym (move_size w size)) (kept_word a s (Move size) u b room st pu))) (λ a2 s2 st2.
+      bind_does (Word a) (RowsAlike w world P mapped) _ _ _ _ (values w world P mapped h ok pl a s raises.MemoryFault (Move size)
+      (size_bytes w size) right y (move_size w size) r room st er) (λ u b pu.
+      bind_does Stand (RowsAlike w world P mapped) _ _ _ _ (writes_does w world P mapped h ok pl a s (Move size) (size_bytes w size) left x
+      (kept world.notes (memory_of world a).objects (Move size) u) (low_bytes (size_bytes w size) b) (move_size w size) l room st el
+      (subst (λ k. Word a (kept world.notes (memory_of world a).objects (Move size) u) (low_bytes k b)) (sym (move_size w size))
+      (kept_word a s (Move size) u b room st pu))) (λ a2 s2 st2.
       goes_does w world P mapped h ok pl a2 s2 next st2))
 
   -- the sign of a natural unit
@@ -170,7 +210,8 @@ module _ (w : ℕ) (world : World) (P : Placement) (mapped : ℕ → ℕ) (h : I
           let l = ltb-true (word c) (2 ^ 31) t in
           let e : x ≡ word c = omega (arith, s) in
           let small : 2 * word c < 2 ^ (8 * w) = by_width (λ v. 2 * word c < 2 ^ (8 * v)) w h (omega (arith, l)) (omega (arith, l)) in
-          subst (Shows w A (number (word c))) (sym (ap (extended_at w) e ∙ extended_at-at_small w (word c) small)) (number_shows w A (word c) (omega arith))
+          subst (Shows w A (number (word c))) (sym (ap (extended_at w) e ∙ extended_at-at_small w (word c) small))
+          (number_shows w A (word c) (omega arith))
       go false t = tt
   signed_shows A (Num (suc n) c) x s = tt
   signed_shows A (Error k) x s = (s.0, ap (extended_at w) s.1 ∙ error_extended k s.0)
@@ -184,24 +225,37 @@ module _ (w : ℕ) (world : World) (P : Placement) (mapped : ℕ → ℕ) (h : I
   signed_shows A (SignedError k) x s = tt
   signed_shows A Junk x s = tt
 
-  pub move_signed_does : (a : Config) (s : Concrete) (next : ℕ) (left right : NeutralSide) (x y : ℕ) → left.reg < 8 → right.reg < 8 → Room a → Stand a s → Beside w world P mapped h ok pl left.beside x → Beside w world P mapped h ok pl right.beside y
-      → Does (RowsAlike w world P mapped) (rows.move_signed_row world a next left right) (machine_moves.move_signed_row w s (address_of w world P mapped h ok pl next) (record { reg = left.reg; indirect = left.indirect; offset = x }) (record { reg = right.reg; indirect = right.indirect; offset = y }))
+  pub move_signed_does : (a : Config) (s : Concrete) (next : ℕ) (left right : NeutralSide) (x y : ℕ) → left.reg < 8 → right.reg < 8 → Room a
+      → Stand a s → Beside w world P mapped h ok pl left.beside x → Beside w world P mapped h ok pl right.beside y
+      → Does (RowsAlike w world P mapped) (rows.move_signed_row world a next left right)
+      (machine_moves.move_signed_row w s (address_of w world P mapped h ok pl next)
+      (record { reg = left.reg; indirect = left.indirect; offset = x })
+      (record { reg = right.reg; indirect = right.indirect; offset = y }))
   unfolding rows.move_signed_row machine_moves.move_signed_row
   move_signed_does a s next left right x y l r room st el er =
-      bind_does (Word a) (RowsAlike w world P mapped) _ _ _ _ (values w world P mapped h ok pl a s raises.MemoryFault Signed w right y refl r room st er) (λ u b pu.
-      bind_does Stand (RowsAlike w world P mapped) _ _ _ _ (writes_does w world P mapped h ok pl a s Signed w left x (sign_extended u) (extended_at w b) refl l room st el (extended_at-below w b h, signed_shows (addresses w world.notes P a.frames) u b pu.1)) (λ a2 s2 st2.
+      bind_does (Word a) (RowsAlike w world P mapped) _ _ _ _
+      (values w world P mapped h ok pl a s raises.MemoryFault Signed w right y refl r room st er) (λ u b pu.
+      bind_does Stand (RowsAlike w world P mapped) _ _ _ _ (writes_does w world P mapped h ok pl a s Signed w left x (sign_extended u)
+      (extended_at w b) refl l room st el (extended_at-below w b h, signed_shows (addresses w world.notes P a.frames) u b pu.1))
+      (λ a2 s2 st2.
       goes_does w world P mapped h ok pl a2 s2 next st2))
 
-  pub move_imm_natural_does : (a : Config) (s : Concrete) (next : ℕ) (left : NeutralSide) (x : ℕ) (idx : Index) → left.reg < 8 → Room a → Stand a s → Beside w world P mapped h ok pl left.beside x
-      → Does (RowsAlike w world P mapped) (rows.move_imm_natural_row world a next left idx) (machine_moves.move_imm_natural_row w s (address_of w world P mapped h ok pl next) (record { reg = left.reg; indirect = left.indirect; offset = x }) idx)
+  pub move_imm_natural_does : (a : Config) (s : Concrete) (next : ℕ) (left : NeutralSide) (x : ℕ) (idx : Index) → left.reg < 8 → Room a
+      → Stand a s → Beside w world P mapped h ok pl left.beside x
+      → Does (RowsAlike w world P mapped) (rows.move_imm_natural_row world a next left idx)
+      (machine_moves.move_imm_natural_row w s (address_of w world P mapped h ok pl next)
+      (record { reg = left.reg; indirect = left.indirect; offset = x }) idx)
   unfolding rows.move_imm_natural_row machine_moves.move_imm_natural_row
   move_imm_natural_does a s next left x idx l room st el =
-      bind_does Stand (RowsAlike w world P mapped) _ _ _ _ (writes_does w world P mapped h ok pl a s (Move sizes.Natural) w left x (pair (pair_of idx).0 (pair_of idx).1) (index_offset w idx) refl l room st el (linear_at-below w (pair_of idx).0 (pair_of idx).1, linear_at-wrap64 w (pair_of idx).0 (pair_of idx).1 h)) (λ a2 s2 st2.
+      bind_does Stand (RowsAlike w world P mapped) _ _ _ _ (writes_does w world P mapped h ok pl a s (Move sizes.Natural) w left x
+      (pair (pair_of idx).0 (pair_of idx).1) (index_offset w idx) refl l room st el
+      (linear_at-below w (pair_of idx).0 (pair_of idx).1, linear_at-wrap64 w (pair_of idx).0 (pair_of idx).1 h)) (λ a2 s2 st2.
       goes_does w world P mapped h ok pl a2 s2 next st2)
 
   -- ---- addresses of places
 
-  pub place_shows : (a : Config) (p : ℕ) → Shows w (addresses w world.notes P a.frames) (address_of_place world.notes p) (word (P.image + p))
+  pub place_shows : (a : Config) (p : ℕ) → Shows w (addresses w world.notes P a.frames) (address_of_place world.notes p)
+      (word (P.image + p))
   unfolding address_of_place
   place_shows a p = by_static (position is_static world.notes.statics) refl
     where
@@ -215,40 +269,72 @@ module _ (w : ℕ) (world : World) (P : Placement) (mapped : ℕ → ℕ) (h : I
       is_thunk t = nat_eq t.place p
 
       at : (x : Anchor) (q : ℕ) → A.anchor x ≡ Some (P.image + q) → q ≡ p → Shows w A (At x 0 0) (word (P.image + p))
-      at x q e f = record { from = P.image + q; there = e; is = (let z : word (P.image + p) ≡ word (P.image + q + (0 * w + 0)) = omega (arith, f) in z) }
+      at x q e f = record {
+        from = P.image + q;
+        there = e;
+        is = (let z : word (P.image + p) ≡ word (P.image + q + (0 * w + 0)) = omega (arith, f) in z);
+      }
 
-      by_thunk : (y : Option ℕ) → position is_thunk world.notes.thunk ≡ y → Shows w A (option_map_or (λ v. v) (option_map (λ i. At (ThunkOf i) 0 0) y) Junk) (word (P.image + p))
+      by_thunk : (y : Option ℕ) → position is_thunk world.notes.thunk ≡ y
+          → Shows w A (option_map_or (λ v. v) (option_map (λ i. At (ThunkOf i) 0 0) y) Junk) (word (P.image + p))
       by_thunk None f = tt
       by_thunk (Some i) f =
           let r = position_at is_thunk world.notes.thunk i f in
           at (ThunkOf i) r.0.place (ap (option_map (λ (u : Thunk). P.image + u.place)) r.1) (eqb-true _ _ r.2)
 
-      by_static : (x : Option ℕ) → position is_static world.notes.statics ≡ x → Shows w A (option_map_or (λ v. v) (option_or (option_map (λ k. At (ObjectOf k) 0 0) x) (rows.thunk_at world.notes p)) Junk) (word (P.image + p))
+      by_static : (x : Option ℕ) → position is_static world.notes.statics ≡ x
+          → Shows w A (option_map_or (λ v. v) (option_or (option_map (λ k. At (ObjectOf k) 0 0) x) (rows.thunk_at world.notes p)) Junk)
+          (word (P.image + p))
       by_static None e = by_thunk (position is_thunk world.notes.thunk) refl
       by_static (Some k) e =
           let r = position_at is_static world.notes.statics k e in
           at (ObjectOf k) r.0.place (static_address w world P h ok pl k r.0 r.1) (eqb-true _ _ r.2)
 
   -- an immediate: the address of the place that it names, or a number
-  immediate_word : (a : Config) (reloc : Option ℕ) (imm : ℤ) → Names P reloc (Some imm) → Word a (immediate world.notes reloc imm) (wrap64 imm)
-  immediate_word a (Some p) imm e = (wrap64-below imm, subst (Shows w (addresses w world.notes P a.frames) (address_of_place world.notes p)) (sym e) (place_shows a p))
+  immediate_word : (a : Config) (reloc : Option ℕ) (imm : ℤ) → Names P reloc (Some imm)
+      → Word a (immediate world.notes reloc imm) (wrap64 imm)
+  immediate_word a (Some p) imm e = (
+    wrap64-below imm,
+    subst (Shows w (addresses w world.notes P a.frames) (address_of_place world.notes p))
+        (sym e) (place_shows a p),
+  )
   immediate_word a None imm e = (wrap64-below imm, number_shows w (addresses w world.notes P a.frames) (wrap64 imm) (wrap64-below imm))
 
-  pub move_imm_does : (a : Config) (s : Concrete) (here : Site) (size : Size) (left : NeutralSide) (x : ℕ) (imm : ℤ) → left.reg < 8 → Room a → Stand a s → Beside w world P mapped h ok pl left.beside x → Names P here.reloc (Some imm)
-      → Does (RowsAlike w world P mapped) (rows.move_imm_row world a here size left imm) (machine_moves.move_imm_row w s (address_of w world P mapped h ok pl here.next) size (record { reg = left.reg; indirect = left.indirect; offset = x }) imm)
+  pub move_imm_does : (a : Config) (s : Concrete) (here : Site) (size : Size) (left : NeutralSide) (x : ℕ) (imm : ℤ) → left.reg < 8 → Room a
+      → Stand a s → Beside w world P mapped h ok pl left.beside x → Names P here.reloc (Some imm)
+      → Does (RowsAlike w world P mapped) (rows.move_imm_row world a here size left imm)
+      (machine_moves.move_imm_row w s (address_of w world P mapped h ok pl here.next) size
+      (record { reg = left.reg; indirect = left.indirect; offset = x }) imm)
   unfolding rows.move_imm_row machine_moves.move_imm_row
   move_imm_does a s here size left x imm l room st el n =
-      bind_does Stand (RowsAlike w world P mapped) _ _ _ _ (writes_does w world P mapped h ok pl a s (Move size) (size_bytes w size) left x (kept world.notes (memory_of world a).objects (Move size) (immediate world.notes here.reloc imm)) (low_bytes (size_bytes w size) (wrap64 imm)) (move_size w size) l room st el (subst (λ k. Word a (kept world.notes (memory_of world a).objects (Move size) (immediate world.notes here.reloc imm)) (low_bytes k (wrap64 imm))) (sym (move_size w size)) (kept_word a s (Move size) (immediate world.notes here.reloc imm) (wrap64 imm) room st (immediate_word a here.reloc imm n)))) (λ a2 s2 st2.
+      bind_does Stand (RowsAlike w world P mapped) _ _ _ _ (writes_does w world P mapped h ok pl a s (Move size) (size_bytes w size) left x
+      (kept world.notes (memory_of world a).objects (Move size) (immediate world.notes here.reloc imm))
+      (low_bytes (size_bytes w size) (wrap64 imm)) (move_size w size) l room st el
+      (subst (λ k. Word a (kept world.notes (memory_of world a).objects (Move size) (immediate world.notes here.reloc imm))
+      (low_bytes k (wrap64 imm))) (sym (move_size w size)) (kept_word a s (Move size) (immediate world.notes here.reloc imm)
+      (wrap64 imm) room st (immediate_word a here.reloc imm n)))) (λ a2 s2 st2.
       goes_does w world P mapped h ok pl a2 s2 here.next st2)
 
-  pub move_relative_does : (a : Config) (s : Concrete) (next : ℕ) (left : NeutralSide) (x : ℕ) (imm : ℤ) → left.reg < 8 → Room a → Stand a s → Beside w world P mapped h ok pl left.beside x
-      → Does (RowsAlike w world P mapped) (rows.move_relative_row world a next left imm) (machine_moves.move_relative_row w s (address_of w world P mapped h ok pl next) (record { reg = left.reg; indirect = left.indirect; offset = x }) imm)
+  pub move_relative_does : (a : Config) (s : Concrete) (next : ℕ) (left : NeutralSide) (x : ℕ) (imm : ℤ) → left.reg < 8 → Room a → Stand a s
+      → Beside w world P mapped h ok pl left.beside x
+      → Does (RowsAlike w world P mapped) (rows.move_relative_row world a next left imm)
+      (machine_moves.move_relative_row w s (address_of w world P mapped h ok pl next)
+      (record { reg = left.reg; indirect = left.indirect; offset = x }) imm)
   unfolding rows.move_relative_row machine_moves.move_relative_row
   move_relative_does a s next left x imm l room st el =
-      bind_does Stand (RowsAlike w world P mapped) _ _ _ _ (writes_does w world P mapped h ok pl a s (Move sizes.Natural) w left x (address_of_place world.notes (word (next + wrap64 imm))) ((address_of w world P mapped h ok pl next + wrap64 imm) % 2 ^ 64) refl l room st el (omega arith, subst (Shows w (addresses w world.notes P a.frames) (address_of_place world.notes (word (next + wrap64 imm)))) (let e : word (P.image + word (next + wrap64 imm)) ≡ (word (P.image + next) + wrap64 imm) % 2 ^ 64 = omega arith in e) (place_shows a (word (next + wrap64 imm))))) (λ a2 s2 st2.
+      bind_does Stand (RowsAlike w world P mapped) _ _ _ _ (writes_does w world P mapped h ok pl a s (Move sizes.Natural) w left x
+      (address_of_place world.notes (word (next + wrap64 imm)))
+      ((address_of w world P mapped h ok pl next + wrap64 imm) % 2 ^ 64) refl l room st el (
+        omega arith,
+        subst (Shows w (addresses w world.notes P a.frames) (address_of_place world.notes (word (next + wrap64 imm))))
+            (let e : word (P.image + word (next + wrap64 imm)) ≡ (word (P.image + next) + wrap64 imm) % 2 ^ 64 = omega arith in e)
+            (place_shows a (word (next + wrap64 imm))),
+      )) (λ a2 s2 st2.
       goes_does w world P mapped h ok pl a2 s2 next st2)
 
-  special_word : (a : Config) (s : Concrete) (next special : ℕ) → Stand a s → Word a (if nat_eq special 0 then number (flags_of a.c) else Junk) (if nat_eq special 0 then s.flags else address_of w world P mapped h ok pl next)
+  special_word : (a : Config) (s : Concrete) (next special : ℕ) → Stand a s
+      → Word a (if nat_eq special 0 then number (flags_of a.c) else Junk)
+      (if nat_eq special 0 then s.flags else address_of w world P mapped h ok pl next)
   special_word a s next special st = go (nat_eq special 0)
     where
       small : (c : Bool) → flags_of c < 2 ^ 64
@@ -256,12 +342,18 @@ module _ (w : ℕ) (world : World) (P : Placement) (mapped : ℕ → ℕ) (h : I
       small false = omega arith
 
       go : (t : Bool) → Word a (if t then number (flags_of a.c) else Junk) (if t then s.flags else address_of w world P mapped h ok pl next)
-      go true = subst (Word a (number (flags_of a.c))) (sym st.flags) (small a.c, number_shows w (addresses w world.notes P a.frames) (flags_of a.c) (small a.c))
+      go true = subst (Word a (number (flags_of a.c))) (sym st.flags)
+          (small a.c, number_shows w (addresses w world.notes P a.frames) (flags_of a.c) (small a.c))
       go false = (omega arith, tt)
 
   pub store_special_does : (a : Config) (s : Concrete) (next to special : ℕ) → to < 8 → Stand a s
-      → Does (RowsAlike w world P mapped) (rows.store_special_row world a next to special) (machine_moves.store_special_row s (address_of w world P mapped h ok pl next) to special)
+      → Does (RowsAlike w world P mapped) (rows.store_special_row world a next to special)
+      (machine_moves.store_special_row s (address_of w world P mapped h ok pl next) to special)
   unfolding rows.store_special_row machine_moves.store_special_row
   store_special_does a s next to special l st =
-      bind_does Stand (RowsAlike w world P mapped) _ (Ok (with_register s to (if nat_eq special 0 then s.flags else address_of w world P mapped h ok pl next))) _ (λ t. machine_results.goes t (address_of w world P mapped h ok pl next)) (registers_written w world P mapped h ok pl a s to (if nat_eq special 0 then number (flags_of a.c) else Junk) _ l st (special_word a s next special st)) (λ a2 s2 st2.
+      bind_does Stand (RowsAlike w world P mapped) _ (Ok (with_register s to
+      (if nat_eq special 0 then s.flags else address_of w world P mapped h ok pl next))) _
+      (λ t. machine_results.goes t (address_of w world P mapped h ok pl next))
+      (registers_written w world P mapped h ok pl a s to (if nat_eq special 0 then number (flags_of a.c) else Junk) _ l st
+      (special_word a s next special st)) (λ a2 s2 st2.
       goes_does w world P mapped h ok pl a2 s2 next st2)

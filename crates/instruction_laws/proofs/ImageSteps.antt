@@ -1,51 +1,55 @@
 -- One step of the machine at an instruction of the image does what the neutral machine does with the image's instruction.
-use Rattle.std.proofs.Common.{◌≡◌, ℕ, ◌+◌, ◌-◌, ◌≤◌, Bool, true, false, ◌||◌, ◌++◌, length, Option, Some, None, refl, sym, ap, ◌∙◌, subst, arith, ℤ}
+use Rattle.std.proofs.Common.{◌≡◌, ℕ, ◌+◌, ◌-◌, ◌≤◌, Bool, true, false, ◌||◌, ◌++◌, length, Option, Some, None, refl, sym, ap, ◌∙◌, subst}
+use Rattle.std.proofs.Common.{arith, ℤ}
 use Rattle.std.proofs.lemmas.Bool.{false≢true}
 use Rattle.std.proofs.lemmas.Option.{none-some}
 use Rattle.ebc_width.specs.Bytes.{window}
 use Rattle.ebc_decode.proofs.Again.{read_again}
-use Rattle.ebc_decode.specs.Reading.{signed_at}
 use Rattle.ebc_decode.specs.Reading as reading
 use Rattle.ebc_insn.specs.Spelling.{WellFormed, spelling}
 use Rattle.ebc_insn.specs.declared.Extra.TheVariants as extras
 use Rattle.ebc_insn.specs.declared.Insn.{Insn}
 use Rattle.ebc_insn.specs.declared.Insn.TheVariants as insns
 use Rattle.ebc_machine.specs.Step.{machine_step}
-use Rattle.pe_image.specs.Mapped.{mapped}
+use Rattle.pe_image.specs.Mapped.{mapped, image_byte}
 use Rattle.pe_image.specs.declared.image.Image.{Image}
-use Rattle.rules_data.specs.Images.{image_byte, is_absolute, is_address_move, is_relocated, named_at}
-use Rattle.run_types.specs.Config.{Config}
-use Rattle.run_types.specs.Layout.{total}
-use Rattle.run_types.specs.Locations.{Move, kept}
-use Rattle.run_types.specs.Memory.{memory_of}
-use Rattle.run_types.specs.Outcomes as outcomes
-use Rattle.run_types.specs.Placements.{Placement, stack_bytes}
-use Rattle.run_types.specs.Values.{word}
-use Rattle.run_types.specs.World.{World}
+use Rattle.rules_image.specs.Images.{is_absolute, is_address_move, is_relocated, named_at}
+use Rattle.neutral_machine.specs.Config.{Config}
+use Rattle.neutral_machine.specs.Layout.{total}
+use Rattle.neutral_machine.specs.Locations.{Move, kept}
+use Rattle.neutral_machine.specs.Memory.{memory_of}
+use Rattle.neutral_machine.specs.Outcomes as outcomes
+use Rattle.host_model.specs.Placements.{Placement, stack_bytes}
+use Rattle.host_model.specs.Values.{word}
+use Rattle.host_model.specs.World.{World}
 use Rattle.neutral_machine.specs.Alike.{StepAlike}
 use Rattle.neutral_machine.specs.Operands.{indexed, written}
 use Rattle.neutral_machine.specs.Room.{growth, HasRoom}
 use Rattle.neutral_machine.specs.Rows.{Site, NeutralRow, executed, goes, immediate, jump_row, call_row, target_at, move_imm_row}
-use Rattle.instruction_laws.specs.Premises.{IsInsnOf, InstructionRead, SameExecuted, ImageStep, ImageRunStep, RunAlike, with_immediate, loaded_insn}
+use Rattle.instruction_laws.specs.Premises.{IsInsnOf, InstructionRead, SameExecuted, ImageStep, ImageRunStep, RunAlike, with_immediate}
+use Rattle.instruction_laws.specs.Premises.{loaded_insn}
 use Rattle.instruction_laws.proofs.Loaded.{of_any, two_bytes, instruction_there}
 use Rattle.instruction_laws.proofs.Hosts.{hosts_kept}
 use Rattle.instruction_laws.proofs.Kept.{run_kept}
-use Rattle.instruction_laws.proofs.Steps.{one_step, window-split}
+use Rattle.instruction_laws.proofs.Steps.{one_step}
 use Rattle.ebc_machine.specs.declared.StepEnd.{StepEnd}
 use Rattle.note_types.specs.Concrete.{Concrete}
-use Rattle.run_types.specs.Outcomes.{Gives, Raises, Stuck}
+use Rattle.neutral_machine.specs.Outcomes.{Gives, Raises, Stuck}
 use Rattle.instruction_laws.proofs.Worlds.{world_meets}
+use Rattle.ebc_width.proofs.ByteLaws.{window-append}
+use Rattle.ebc_width.specs.Width.{signed_at}
 
 -- the bytes of the image at an instruction are read as that one
 pub instruction_read : InstructionRead
 instruction_read image world here i more at =
     ap reading.read
-    (window-split (image_byte image) here.place (length (spelling i)) more
+    (window-append (image_byte image) here.place (length (spelling i)) more
     ∙ ap (λ xs. xs ++ window (image_byte image) (here.place + length (spelling i)) more) (sym at.decoded.spelled))
     ∙ read_again i (window (image_byte image) (here.place + length (spelling i)) more) at.decoded.well_formed
 
 -- where an immediate is an address, the neutral machine doesn't look at its number
-same_by_form : (world : World) (a : Config) (here : Site) (i : Insn) (v : ℤ) (p : ℕ) → here.reloc ≡ Some p → WellFormed i → (is_absolute i || is_address_move i) ≡ true → executed world a here (with_immediate v i) ≡ executed world a here i
+same_by_form : (world : World) (a : Config) (here : Site) (i : Insn) (v : ℤ) (p : ℕ) → here.reloc ≡ Some p → WellFormed i
+    → (is_absolute i || is_address_move i) ≡ true → executed world a here (with_immediate v i) ≡ executed world a here i
 unfolding executed with_immediate jump_row call_row target_at move_imm_row
 same_by_form world a here (insns.Jump cond true false op (extras.Imm u)) v p r f e = refl
 same_by_form world a here (insns.Jump cond true false op extras.Nothing) v p r f e = absurd f
@@ -54,12 +58,14 @@ same_by_form world a here (insns.Call true false false op (extras.Imm u)) v p r 
 same_by_form world a here (insns.Call true false false op extras.Nothing) v p r f e = absurd f
 same_by_form world a here (insns.Call true false false op (extras.Idx i)) v p r f e = absurd f
 same_by_form world a here (insns.MoveImm size bits left lidx u) v p r f e =
-    ap (λ x. outcomes.◌>>=◌ (written world a (Move size) (indexed left lidx) (kept world.notes (memory_of world a).objects (Move size) x)) (λ b. goes world b here.next))
+    ap (λ x. outcomes.◌>>=◌ (written world a (Move size) (indexed left lidx) (kept world.notes (memory_of world a).objects (Move size) x))
+    (λ b. goes world b here.next))
     (ap (λ o. immediate world.notes o v) r ∙ sym (ap (λ o. immediate world.notes o u) r))
 same_by_form world a here i v p r f e = absurd (false≢true e)
 
 -- an instruction with a relocated immediate is one whose immediate is an address
-takes_address_at : (image : Image) (world : World) (here : Site) (i : Insn) (p : ℕ) → IsInsnOf image world here i → here.reloc ≡ Some p → (is_absolute i || is_address_move i) ≡ true
+takes_address_at : (image : Image) (world : World) (here : Site) (i : Insn) (p : ℕ) → IsInsnOf image world here i → here.reloc ≡ Some p
+    → (is_absolute i || is_address_move i) ≡ true
 takes_address_at image world here i p at r = go (is_relocated image here.next) refl
   where
     go : (t : Bool) → is_relocated image here.next ≡ t → (is_absolute i || is_address_move i) ≡ true
@@ -74,7 +80,8 @@ same_executed image world P a here i at = go here.reloc refl
   where
     go : (o : Option ℕ) → here.reloc ≡ o → executed world a here (loaded_insn P o i) ≡ executed world a here i
     go None r = refl
-    go (Some p) r = same_by_form world a here i (signed_at 64 (word (P.image + p))) p r at.decoded.well_formed (takes_address_at image world here i p at r)
+    go (Some p) r = same_by_form world a here i (signed_at 64 (word (P.image + p))) p r at.decoded.well_formed
+        (takes_address_at image world here i p at r)
 
 -- another immediate grows the stack as much
 growth_same : (w : ℕ) (world : World) (a : Config) (i : Insn) (v : ℤ) → growth w world a (with_immediate v i) ≡ growth w world a i
@@ -83,7 +90,8 @@ growth_same w world a (insns.Call far false relative op extra) v = refl
 growth_same w world a (insns.Call far true relative op extra) v = refl
 growth_same w world a i v = refl
 
-room_same : (w : ℕ) (world : World) (P : Placement) (a : Config) (o : Option ℕ) (i : Insn) → HasRoom w world a i → HasRoom w world a (loaded_insn P o i)
+room_same : (w : ℕ) (world : World) (P : Placement) (a : Config) (o : Option ℕ) (i : Insn) → HasRoom w world a i
+    → HasRoom w world a (loaded_insn P o i)
 room_same w world P a None i room = room
 room_same w world P a (Some p) i room = subst (λ n. n + total w a.frames ≤ stack_bytes w world.notes) (sym (growth_same w world a i _)) room
 
@@ -98,9 +106,11 @@ image_step w image world P a s here i h pl run st spot at room =
 
 pub image_run_step : ImageRunStep
 image_run_step w image world P a r here i h pl run st spot at room =
-    by_row (executed world a here i) (machine_step w r.machine) refl (image_step w image world P a r.machine here i h pl run st.machine spot at room)
+    by_row (executed world a here i) (machine_step w r.machine) refl
+    (image_step w image world P a r.machine here i h pl run st.machine spot at room)
   where
-    by_row : (o : NeutralRow) (t : StepEnd × Concrete) → executed world a here i ≡ o → StepAlike w world P (mapped image P.image) r.machine o t → RunAlike w world P (mapped image P.image) r o t
+    by_row : (o : NeutralRow) (t : StepEnd × Concrete) → executed world a here i ≡ o
+        → StepAlike w world P (mapped image P.image) r.machine o t → RunAlike w world P (mapped image P.image) r o t
     by_row Stuck t g d = tt
     by_row (Raises e) t g d = d
     by_row (Gives (e, b)) (f, t) g d =
@@ -108,7 +118,8 @@ image_run_step w image world P a r here i h pl run st spot at room =
           d.0,
           record {
             machine = d.1;
-            hosts = hosts_kept w world P (mapped image P.image) a r.machine r.hosts here i e b h pl (world_meets image world run) st.machine st.hosts g;
+            hosts = hosts_kept w world P (mapped image P.image) a r.machine r.hosts here i e b h pl
+                (world_meets image world run) st.machine st.hosts g;
             script = st.script ∙ sym kept.script;
             trace = st.trace ∙ sym kept.trace;
             ending = st.ending ∙ sym kept.ending;

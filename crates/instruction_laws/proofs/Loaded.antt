@@ -1,15 +1,17 @@
 -- The bytes at an instruction of a loaded image spell the image's instruction, with a relocated immediate moved.
-use Rattle.std.proofs.Common.{◌≡◌, ℕ, zero, suc, ◌+◌, ◌-◌, ◌/◌, ◌%◌, ◌^◌, ◌<◌, ◌≤◌, ◌⊎◌, Bool, true, false, not, ◌||◌, if◌then◌else◌, nat_eq, nat_le, nat_lt, List, [], ◌∷◌, ◌++◌, length, Option, Some, None, refl, sym, ap, ap₂, ◌∙◌, subst, subst₂, arith, inl, inr, ⊎_elim, get_or, ℤ, pos, negsuc, add_comm, length-append}
-use Rattle.std.proofs.lemmas.Bool.{eqb-true, eq-eqb, and_parts, and_from, or_cases, or_left, or_right, ltb-true, leb-true, lt-ltb, le-leb, cases_lt, false≢true, true≢false}
+use Rattle.std.proofs.Common.{◌≡◌, ℕ, suc, ◌+◌, ◌-◌, ◌/◌, ◌%◌, ◌^◌, ◌<◌, ◌≤◌, ◌⊎◌, Bool, true, false, not, ◌||◌, if◌then◌else◌, nat_eq}
+use Rattle.std.proofs.Common.{nat_le, nat_lt, List, [], ◌∷◌, ◌++◌, length, Option, Some, None, refl, sym, ap, ap₂, ◌∙◌, subst, subst₂}
+use Rattle.std.proofs.Common.{arith, inl, inr, ⊎_elim, get_or, ℤ, pos, negsuc, add_comm, length-append}
+use Rattle.std.proofs.lemmas.Bool.{eqb-true, and_parts, and_from, or_cases, ltb-true, leb-true, lt-ltb, le-leb, cases_lt, false≢true}
+use Rattle.std.proofs.lemmas.Bool.{true≢false}
 use Rattle.std.proofs.lemmas.Grind.{same_number_lists}
 use Rattle.std.proofs.lemmas.List.{get_or_append_left, get_or-append_right}
 use Rattle.std.specs.Int.{w64, to_le_bytes}
 use Rattle.std.specs.List.{find, list_any, Contains}
 use Rattle.std.specs.Option.{option_map_or}
 use Rattle.ebc_width.specs.Bytes.{little_endian, window}
-use Rattle.ebc_width.specs.Width.{wrap64}
+use Rattle.ebc_width.specs.Width.{wrap64, distance_of, signed_at}
 use Rattle.ebc_width.proofs.ByteLaws.{length-window, get_or-window}
-use Rattle.ebc_decode.specs.Reading.{signed_at}
 use Rattle.ebc_decode.proofs.Numbers.{signed_whole, signed_fits}
 use Rattle.ebc_insn.specs.Spelling.{WellFormed, FitsInt, int_raw, spelling, field_bytes, bytes_of, code_of, optional_field}
 use Rattle.natural_index.specs.declared.Index.{Index}
@@ -20,13 +22,13 @@ use Rattle.ebc_insn.specs.declared.Insn.{Insn}
 use Rattle.ebc_insn.specs.declared.Insn.TheVariants as insns
 use Rattle.ebc_insn.specs.declared.Size.TheVariants as sizes
 use Rattle.note_types.specs.Concrete.{Concrete}
-use Rattle.pe_image.specs.Mapped.{is_of, laid, moved, moved_byte, distance_of, mapped}
+use Rattle.pe_image.specs.Mapped.{is_of, laid, moved, moved_byte, mapped, image_byte, named_place}
 use Rattle.pe_image.specs.declared.image.Image.{Image}
-use Rattle.rules_data.specs.Images.{image_byte, named_place, touches, is_absolute, is_address_move, is_relocated, named_at}
-use Rattle.run_types.specs.Config.{Config}
-use Rattle.run_types.specs.Placements.{Placement}
-use Rattle.run_types.specs.Values.{word}
-use Rattle.run_types.specs.World.{World}
+use Rattle.rules_image.specs.Images.{touches, is_absolute, is_address_move, is_relocated, named_at}
+use Rattle.neutral_machine.specs.Config.{Config}
+use Rattle.host_model.specs.Placements.{Placement}
+use Rattle.host_model.specs.Values.{word}
+use Rattle.host_model.specs.World.{World}
 use Rattle.neutral_machine.specs.Instructions.{IsAt, Names, immediate_of}
 use Rattle.neutral_machine.specs.Rows.{Site}
 use Rattle.instruction_laws.specs.Premises.{IsRunOf, IsInsnOf, InstructionThere, with_immediate, loaded_insn}
@@ -34,6 +36,8 @@ use Rattle.instruction_laws.proofs.Steps.{IsThere, is_there}
 use Rattle.instruction_laws.proofs.Worlds.{world_meets}
 use Rattle.note_types.specs.declared.spot.Spot.TheVariants.{Place}
 use Rattle.neutral_machine.specs.Stands.{MachineStands}
+use Rattle.ebc_base.proofs.Lists.{contains-any}
+use Rattle.ebc_width.proofs.Numbers.{get_or-to_le_bytes}
 
 -- ---- relocated bytes
 
@@ -44,7 +48,8 @@ later : (xs : List ℕ) (x r : ℕ) → Contains xs r → Contains (x ∷ xs) r
 later xs x r c = let l = c.1 in (suc c.0, (let n : suc c.0 < suc (length xs) = omega (arith, l) in n), c.2)
 
 -- the members of a list that pass a test are all one, which is there: it is found
-found_one : (t : ℕ → Bool) (xs : List ℕ) (q : ℕ) → ((r : ℕ) → Contains xs r → t r ≡ true → r ≡ q) → list_any (nat_eq q) xs ≡ true → t q ≡ true → find t xs ≡ Some q
+found_one : (t : ℕ → Bool) (xs : List ℕ) (q : ℕ) → ((r : ℕ) → Contains xs r → t r ≡ true → r ≡ q) → list_any (nat_eq q) xs ≡ true
+    → t q ≡ true → find t xs ≡ Some q
 found_one t [] q one any e = absurd (false≢true any)
 found_one t (x ∷ xs) q one any e = go (t x) refl (λ m. found_one t xs q (λ r c k. one r (later xs x r c) k) m e)
   where
@@ -63,12 +68,6 @@ found_none t (x ∷ xs) never = go (t x) refl (found_none t xs (λ r c k. never 
     go true k next = absurd (never x (first xs x) k)
     go false k next = next
 
--- a member of a list is among them
-any_of : (xs : List ℕ) (r : ℕ) → Contains xs r → list_any (nat_eq r) xs ≡ true
-any_of [] r c = absurd (omega (arith, c.1))
-any_of (x ∷ xs) r (zero, l, e) = or_left _ _ (eq-eqb r x (sym e))
-any_of (x ∷ xs) r (suc k, l, e) = or_right (nat_eq r x) _ (any_of xs r (k, (let n : k < length xs = omega (arith, l) in n), e))
-
 -- and one among them is a member
 pub of_any : (xs : List ℕ) (r : ℕ) → list_any (nat_eq r) xs ≡ true → Contains xs r
 of_any [] r e = absurd (false≢true e)
@@ -78,18 +77,6 @@ of_any (x ∷ xs) r e = ⊎_elim
     (or_cases (nat_eq r x) (list_any (nat_eq r) xs) e)
 
 -- ---- instructions by their last eight bytes
-
--- the bytes of a number of 64 bits
-eight_bytes : (v i : ℕ) → i < 8 → get_or (to_le_bytes w64 v) i 0 ≡ v / 256 ^ i % 256
-eight_bytes v zero l = omega arith
-eight_bytes v (suc zero) l = refl
-eight_bytes v (suc (suc zero)) l = refl
-eight_bytes v (suc (suc (suc zero))) l = refl
-eight_bytes v (suc (suc (suc (suc zero)))) l = refl
-eight_bytes v (suc (suc (suc (suc (suc zero))))) l = refl
-eight_bytes v (suc (suc (suc (suc (suc (suc zero)))))) l = refl
-eight_bytes v (suc (suc (suc (suc (suc (suc (suc zero))))))) l = refl
-eight_bytes v (suc (suc (suc (suc (suc (suc (suc (suc i)))))))) l = absurd (omega (arith, l))
 
 append_nil : (xs : List ℕ) → xs ++ [] ≡ xs
 append_nil [] = refl
@@ -182,9 +169,11 @@ module _ (image : Image) (world : World) (P : Placement) (here : Site) (i : Insn
       (at.relocation.only r c (omega (arith, l, to), omega (arith, from, m))).0
 
   -- bytes that aren't relocated
-  byte_same : (x : ℕ) → here.place ≤ x → x < here.next → (is_relocated image here.next ≡ false) ⊎ (x < here.next - 8) → mapped image P.image x ≡ image_byte image x
+  byte_same : (x : ℕ) → here.place ≤ x → x < here.next → (is_relocated image here.next ≡ false) ⊎ (x < here.next - 8)
+      → mapped image P.image x ≡ image_byte image x
   unfolding mapped moved
-  byte_same x from to d = ap (λ o. option_map_or (moved_byte (laid image.sections) (distance_of P.image image.base) x) o (laid image.sections x)) (found_none (is_of x) image.relocs never)
+  byte_same x from to d = ap (λ o. option_map_or (moved_byte (laid image.sections) (distance_of P.image image.base) x) o
+      (laid image.sections x)) (found_none (is_of x) image.relocs never)
     where
       never : (r : ℕ) → Contains image.relocs r → is_of x r ≡ true → ⊥
       never r c e =
@@ -192,12 +181,14 @@ module _ (image : Image) (world : World) (P : Placement) (here : Site) (i : Insn
           let b = and_parts (nat_le r x) (nat_lt x (r + 8)) e in
           let l = leb-true r x b.0 in
           ⊎_elim
-          (λ f. true≢false (sym (any_of image.relocs (here.next - 8) (subst (Contains image.relocs) (let z : r ≡ here.next - 8 = omega (arith, n) in z) c)) ∙ f))
+          (λ f. true≢false (sym (contains-any image.relocs (here.next - 8)
+          (subst (Contains image.relocs) (let z : r ≡ here.next - 8 = omega (arith, n) in z) c)) ∙ f))
           (λ m. omega (arith, n, l, m))
           d
 
   -- and those that are
-  byte_moved : (x : ℕ) → here.place ≤ x → x < here.next → here.next - 8 ≤ x → is_relocated image here.next ≡ true → mapped image P.image x ≡ moved_byte (image_byte image) (distance_of P.image image.base) x (here.next - 8)
+  byte_moved : (x : ℕ) → here.place ≤ x → x < here.next → here.next - 8 ≤ x → is_relocated image here.next ≡ true
+      → mapped image P.image x ≡ moved_byte (image_byte image) (distance_of P.image image.base) x (here.next - 8)
   unfolding mapped moved
   byte_moved x from to last any =
       ap (λ o. option_map_or (moved_byte (laid image.sections) (distance_of P.image image.base) x) o (laid image.sections x))
@@ -209,13 +200,15 @@ module _ (image : Image) (world : World) (P : Placement) (here : Site) (i : Insn
   byte_spelled k l = sym (ap (λ xs. get_or xs k 0) at.decoded.spelled ∙ get_or-window (image_byte image) here.place N k 0 l)
 
   -- the relocated number and the address that it names
-  address_same : (distance_of P.image image.base + little_endian (image_byte image) (here.next - 8) 8) % 2 ^ 64 ≡ word (P.image + named_place image (here.next - 8))
+  address_same : (distance_of P.image image.base + little_endian (image_byte image) (here.next - 8) 8) % 2 ^ 64 ≡ word
+      (P.image + named_place image (here.next - 8))
   unfolding named_place
   address_same = omega arith
 
   -- ---- the machine's bytes
 
-  module _ (w : ℕ) (but : Option ℕ) (a : Config) (s : Concrete) (run : IsRunOf image world) (st : MachineStands w world P (mapped image P.image) but a s) (spot : a.spot ≡ Place here.place) where
+  module _ (w : ℕ) (but : Option ℕ) (a : Config) (s : Concrete) (run : IsRunOf image world)
+      (st : MachineStands w world P (mapped image P.image) but a s) (spot : a.spot ≡ Place here.place) where
     there : IsThere world P s.ip here.place
     there = is_there world P s.ip here.place (st.spot ∙ spot)
 
@@ -230,14 +223,17 @@ module _ (image : Image) (world : World) (P : Placement) (here : Site) (i : Insn
         ∙ st.code at.k at.f (here.place + k) at.function (omega (arith, at.from)) (omega (arith, l, n, at.decoded.within))
 
     -- the bytes are those of a spelling that has as many and the same ones
-    spelled_by : (j : Insn) → length (spelling j) ≡ N → ((k : ℕ) → k < N → mapped image P.image (here.place + k) ≡ get_or (spelling j) k 0) → window s.byte s.ip (length (spelling j)) ≡ spelling j
+    spelled_by : (j : Insn) → length (spelling j) ≡ N → ((k : ℕ) → k < N → mapped image P.image (here.place + k) ≡ get_or (spelling j) k 0)
+        → window s.byte s.ip (length (spelling j)) ≡ spelling j
     spelled_by j size each =
         same_number_lists (window s.byte s.ip (length (spelling j))) (spelling j) (length-window s.byte s.ip (length (spelling j))) (λ k l.
         let m : k < length (spelling j) = subst (λ z. k < z) (length-window s.byte s.ip (length (spelling j))) l in
         let n : k < N = subst (λ z. k < z) size m in
         get_or-window s.byte s.ip (length (spelling j)) k 0 m ∙ byte_there k n ∙ each k n)
 
-    at_insn : (j : Insn) → WellFormed j → length (spelling j) ≡ N → ((k : ℕ) → k < N → mapped image P.image (here.place + k) ≡ get_or (spelling j) k 0) → Names P here.reloc (immediate_of j) → IsAt world P a s here j
+    at_insn : (j : Insn) → WellFormed j → length (spelling j) ≡ N
+        → ((k : ℕ) → k < N → mapped image P.image (here.place + k) ≡ get_or (spelling j) k 0) → Names P here.reloc (immediate_of j)
+        → IsAt world P a s here j
     at_insn j f size each names = record {
       spot = spot;
       well_formed = f;
@@ -254,8 +250,10 @@ module _ (image : Image) (world : World) (P : Placement) (here : Site) (i : Insn
         (subst (λ o. Names P o (immediate_of i)) (sym none) tt)
 
     -- the last eight bytes are
-    moved_there : here.reloc ≡ Some (named_place image (here.next - 8)) → is_relocated image here.next ≡ true → IsAt world P a s here (with_immediate (signed_at 64 (word (P.image + named_place image (here.next - 8)))) i)
-    moved_there some t = by_end (ends_in i at.decoded.well_formed (at.relocation.only (here.next - 8) (of_any image.relocs (here.next - 8) t) touch).1)
+    moved_there : here.reloc ≡ Some (named_place image (here.next - 8)) → is_relocated image here.next ≡ true
+        → IsAt world P a s here (with_immediate (signed_at 64 (word (P.image + named_place image (here.next - 8)))) i)
+    moved_there some t = by_end (ends_in i at.decoded.well_formed
+        (at.relocation.only (here.next - 8) (of_any image.relocs (here.next - 8) t) touch).1)
       where
         n : here.next ≡ here.place + N
         n = at.decoded.next_is
@@ -279,7 +277,8 @@ module _ (image : Image) (world : World) (P : Placement) (here : Site) (i : Insn
         raw = signed_whole 64 address (omega arith) small
 
         by_end : EndsIn i → IsAt world P a s here (with_immediate v i)
-        by_end e = at_insn (with_immediate v i) (e.well_formed v (signed_fits 64 address (omega arith) small) at.decoded.well_formed) size each names
+        by_end e = at_insn (with_immediate v i) (e.well_formed v
+            (signed_fits 64 address (omega arith) small) at.decoded.well_formed) size each names
           where
             old_size : N ≡ length e.front + 8
             old_size = ap length e.spelled ∙ length-append e.front (to_le_bytes w64 (int_raw 64 e.old))
@@ -296,14 +295,17 @@ module _ (image : Image) (world : World) (P : Placement) (here : Site) (i : Insn
                 ∙ sym (get_or_append_left e.front (to_le_bytes w64 (int_raw 64 v)) 0 k m)
                 ∙ sym (ap (λ xs. get_or xs k 0) (e.again v)))
                 (λ m. byte_moved (here.place + k) (omega arith) (omega (arith, l, n)) (omega (arith, m, n, old_size)) t
-                ∙ ap₂ (λ x y. x / 256 ^ y % 256) (number ∙ sym raw) (let z : here.place + k - (here.next - 8) ≡ k - length e.front = omega (arith, n, old_size, m) in z)
-                ∙ sym (eight_bytes (int_raw 64 v) (k - length e.front) (omega (arith, l, old_size, m)))
+                ∙ ap₂ (λ x y. x / 256 ^ y % 256) (number ∙ sym raw)
+                (let z : here.place + k - (here.next - 8) ≡ k - length e.front = omega (arith, n, old_size, m) in z)
+                ∙ sym (get_or-to_le_bytes (int_raw 64 v) (k - length e.front) (omega (arith, l, old_size, m)))
                 ∙ sym (get_or-append_right e.front (to_le_bytes w64 (int_raw 64 v)) (length e.front) k 0 refl m)
                 ∙ sym (ap (λ xs. get_or xs k 0) (e.again v)))
                 (cases_lt k (length e.front))
               where
                 number : (little_endian (image_byte image) (here.next - 8) 8 + distance_of P.image image.base) % 2 ^ 64 ≡ address
-                number = (let z : (little_endian (image_byte image) (here.next - 8) 8 + distance_of P.image image.base) % 2 ^ 64 ≡ (distance_of P.image image.base + little_endian (image_byte image) (here.next - 8) 8) % 2 ^ 64 = ap (λ x. x % 2 ^ 64) (add_comm _ _) in z) ∙ address_same
+                number = (let z : (little_endian (image_byte image) (here.next - 8) 8 + distance_of P.image image.base) % 2 ^ 64 ≡
+                    (distance_of P.image image.base + little_endian (image_byte image) (here.next - 8) 8) % 2 ^ 64 =
+                    ap (λ x. x % 2 ^ 64) (add_comm _ _) in z) ∙ address_same
 
             names : Names P here.reloc (immediate_of (with_immediate v i))
             names = subst₂ (Names P) (sym some) (sym (e.immediate v)) (signed_wraps address small)

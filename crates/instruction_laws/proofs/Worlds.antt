@@ -1,5 +1,6 @@
 -- The world of a run whose image keeps the rules on shapes, functions, static objects and thunk cells.
-use Rattle.std.proofs.Common.{◌≡◌, ◌≢◌, ℕ, ◌+◌, ◌-◌, ◌*◌, ◌<◌, ◌≤◌, ◌⊎◌, map, length, Some, sym, ◌∙◌, subst, arith, inl, inr, ⊎_elim, slice_get}
+use Rattle.std.proofs.Common.{◌≡◌, ◌≢◌, ℕ, ◌+◌, ◌-◌, ◌*◌, ◌<◌, ◌≤◌, ◌⊎◌, map, length, Some, sym, ◌∙◌, subst, arith, inl, inr, ⊎_elim}
+use Rattle.std.proofs.Common.{slice_get}
 use Rattle.std.proofs.lemmas.Bool.{cases_lt, cases_order}
 use Rattle.std.proofs.lemmas.Option.{slice_get-map, slice_get-get_or}
 use Rattle.note_types.specs.Shapes.{size_at}
@@ -8,14 +9,14 @@ use Rattle.note_types.specs.declared.notes.Static.{Static}
 use Rattle.note_types.specs.declared.notes.Thunk.{Thunk}
 use Rattle.pe_image.specs.Images.{IsSection}
 use Rattle.pe_image.specs.declared.image.Image.{Image}
-use Rattle.rules_data.specs.Images.{IsFunction, IsStatic, IsThunk}
-use Rattle.run_types.specs.Objects.{no_shape, shape_of, made_objects, placed_objects, static_object, script_object}
-use Rattle.run_types.specs.World.{World}
-use Rattle.run_types.specs.declared.object.TypedObject.{TypedObject}
-use Rattle.neutral_machine.specs.WorldFits.{PlacesApart}
-use Rattle.neutral_machine.proofs.Lists.{slice_get-append_left, slice_get-append_right}
-use Rattle.neutral_machine.proofs.Placed.{some_of_map, placed_in_all}
+use Rattle.rules_image.specs.Images.{IsFunction, IsStatic, IsThunk, AreApart}
+use Rattle.host_model.specs.Objects.{no_shape, shape_of, made_objects, placed_objects, static_object, script_object}
+use Rattle.host_model.specs.World.{World}
+use Rattle.host_model.specs.declared.object.TypedObject.{TypedObject}
+use Rattle.neutral_machine.proofs.Placed.{placed_in_all}
 use Rattle.instruction_laws.specs.Premises.{IsRunOf, WorldMeets}
+use Rattle.ebc_base.proofs.Lists.{slice_get-append_left, slice_get-append_right}
+use Rattle.ebc_base.proofs.Given.{some_of_map}
 
 module _ (image : Image) (world : World) (run : IsRunOf image world) where
   -- ---- typed objects
@@ -31,7 +32,8 @@ module _ (image : Image) (world : World) (run : IsRunOf image world) where
 
   object_script : (n k : ℕ) (o : TypedObject) → slice_get (map script_object (placed_objects world.script n)) k ≡ Some o → IsObject o
   object_script n k o g =
-      let s = some_of_map script_object (slice_get (placed_objects world.script n) k) o (sym (slice_get-map script_object (placed_objects world.script n) k) ∙ g) in
+      let s = some_of_map script_object (slice_get (placed_objects world.script n) k) o
+      (sym (slice_get-map script_object (placed_objects world.script n) k) ∙ g) in
       let n = run.objects k s.0 (placed_in_all world.script n k s.0 s.1) in
       subst IsObject s.2 (n.shape, n.count)
 
@@ -40,7 +42,8 @@ module _ (image : Image) (world : World) (run : IsRunOf image world) where
   object_known n k o g =
       ⊎_elim
       (λ l. object_static k o (sym (slice_get-append_left (map static_object world.notes.statics) _ k l) ∙ g))
-      (λ l. object_script n (k - length (map static_object world.notes.statics)) o (sym (slice_get-append_right (map static_object world.notes.statics) _ k l) ∙ g))
+      (λ l. object_script n (k - length (map static_object world.notes.statics)) o
+      (sym (slice_get-append_right (map static_object world.notes.statics) _ k l) ∙ g))
       (cases_lt k (length (map static_object world.notes.statics)))
 
   -- ---- functions, static objects and thunk cells
@@ -49,8 +52,10 @@ module _ (image : Image) (world : World) (run : IsRunOf image world) where
   abbrev bytes : Static → ℕ
   bytes s = s.count * size_at 8 (shape_of world.notes s.shape)
 
-  static_rule : (k : ℕ) (s : Static) → slice_get world.notes.statics k ≡ Some s → IsStatic image world.notes k s (shape_of world.notes s.shape)
-  static_rule k s g = run.statics k s (shape_of world.notes s.shape) g (slice_get-get_or world.notes.shape s.shape no_shape (run.notes.statics k s g).shape)
+  static_rule : (k : ℕ) (s : Static) → slice_get world.notes.statics k ≡ Some s
+      → IsStatic image world.notes k s (shape_of world.notes s.shape)
+  static_rule k s g = run.statics k s (shape_of world.notes s.shape) g
+      (slice_get-get_or world.notes.shape s.shape no_shape (run.notes.statics k s g).shape)
 
   thunk_rule : (k : ℕ) (t : Thunk) → slice_get world.notes.thunk k ≡ Some t → IsThunk image world.notes k t
   thunk_rule k t g = run.thunks k t g
@@ -65,7 +70,8 @@ module _ (image : Image) (world : World) (run : IsRunOf image world) where
       let s : IsSection image.size r.inside.0 = subst (IsSection image.size) has.2 (run.well_formed.sections has.0 r.inside.0 has.1) in
       omega (arith, r.inside.2.1, s.bytes, s.within, run.size)
 
-  statics_apart : (k j : ℕ) (s t : Static) → slice_get world.notes.statics k ≡ Some s → slice_get world.notes.statics j ≡ Some t → k ≢ j → PlacesApart s.place (bytes s) t.place (bytes t)
+  statics_apart : (k j : ℕ) (s t : Static) → slice_get world.notes.statics k ≡ Some s → slice_get world.notes.statics j ≡ Some t → k ≢ j
+      → AreApart s.place (bytes s) t.place (bytes t)
   statics_apart k j s t g h ne = ⊎_elim
       (λ e. absurd (ne e))
       (λ d. ⊎_elim
@@ -74,10 +80,12 @@ module _ (image : Image) (world : World) (run : IsRunOf image world) where
       d)
       (cases_order k j)
     where
-      known : (k : ℕ) (s : Static) → slice_get world.notes.statics k ≡ Some s → slice_get world.notes.shape s.shape ≡ Some (shape_of world.notes s.shape)
+      known : (k : ℕ) (s : Static) → slice_get world.notes.statics k ≡ Some s
+          → slice_get world.notes.shape s.shape ≡ Some (shape_of world.notes s.shape)
       known k s g = slice_get-get_or world.notes.shape s.shape no_shape (run.notes.statics k s g).shape
 
-  thunks_apart : (i j : ℕ) (t u : Thunk) → slice_get world.notes.thunk i ≡ Some t → slice_get world.notes.thunk j ≡ Some u → i ≢ j → PlacesApart t.place 8 u.place 8
+  thunks_apart : (i j : ℕ) (t u : Thunk) → slice_get world.notes.thunk i ≡ Some t → slice_get world.notes.thunk j ≡ Some u → i ≢ j
+      → AreApart t.place 8 u.place 8
   thunks_apart i j t u g h ne = ⊎_elim
       (λ e. absurd (ne e))
       (λ d. ⊎_elim (λ l. (thunk_rule i t g).apart j u l h) (λ l. ⊎_elim inr inl ((thunk_rule j u h).apart i t l g)) d)
@@ -91,12 +99,15 @@ pub world_meets : WorldMeets
 world_meets image world run = record {
   shapes = λ s x g. run.shapes s x g;
   objects = λ n k o g. object_known image world run n k o g;
-  statics_inside = λ k s g. subst (λ z. s.place + s.count * size_at 8 (shape_of world.notes s.shape) ≤ z) (sym run.size) (static_rule image world run k s g).free.inside;
+  statics_inside = λ k s g. subst (λ z. s.place + s.count * size_at 8 (shape_of world.notes s.shape) ≤ z) (sym run.size)
+      (static_rule image world run k s g).free.inside;
   statics_apart = λ k j s t g h ne. statics_apart image world run k j s t g h ne;
   thunks_inside = λ i t g. subst (λ z. t.place + 8 ≤ z) (sym run.size) (thunk_rule image world run i t g).free.inside;
   thunks_apart = λ i j t u g h ne. thunks_apart image world run i j t u g h ne;
   statics_thunks = λ k i s t g h. (static_rule image world run k s g).apart.1 i t h;
   code_inside = λ j f g. let r = function_rule image world run j f g in (r.range, function_inside image world run j f g, r.even.0);
-  code_statics = λ j k f s g h. off_code image world run s.place _ f.place f.end (function_rule image world run j f g).range ((static_rule image world run k s h).free.functions j f g);
-  code_thunks = λ j i f t g h. off_code image world run t.place 8 f.place f.end (function_rule image world run j f g).range ((thunk_rule image world run i t h).free.functions j f g);
+  code_statics = λ j k f s g h. off_code image world run s.place _ f.place f.end (function_rule image world run j f g).range
+      ((static_rule image world run k s h).free.functions j f g);
+  code_thunks = λ j i f t g h. off_code image world run t.place 8 f.place f.end (function_rule image world run j f g).range
+      ((thunk_rule image world run i t h).free.functions j f g);
 }

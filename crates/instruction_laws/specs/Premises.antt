@@ -1,11 +1,11 @@
--- What the laws of an instruction ask, met by an image that keeps the rules on shapes, functions, static objects and thunk
--- cells, and at each instruction those on decoding and relocations. docs/RULES.md, "The image"; docs/SIMULATION.md, "What the
--- laws ask".
+-- For proofs: what the laws of an instruction ask, met by an image that keeps the rules on shapes, functions, static objects
+-- and thunk cells, and at each instruction those on decoding and relocations. docs/RULES.md, "The image";
+-- docs/SIMULATION.md, "What the laws ask".
 use Rattle.std.specs.Prelude.{◌≡◌, ℕ, ◌+◌, ◌<◌, ◌≤◌, length, Option, Some, None, Ok, slice_get, ℤ, ⊤}
 use Rattle.std.specs.Option.{option_map_or}
-use Rattle.ebc_width.specs.Width.{IsWidth}
+use Rattle.ebc_width.specs.Width.{IsWidth, signed_at}
 use Rattle.ebc_width.specs.Bytes.{window}
-use Rattle.ebc_decode.specs.Reading.{read, signed_at}
+use Rattle.ebc_decode.specs.Reading.{read}
 use Rattle.ebc_insn.specs.Spelling.{spelling}
 use Rattle.ebc_insn.specs.declared.Extra.{Extra}
 use Rattle.ebc_insn.specs.declared.Extra.TheVariants as extras
@@ -21,16 +21,16 @@ use Rattle.note_types.specs.declared.notes.Notes.{Notes}
 use Rattle.note_types.specs.declared.script.ScriptObject.{ScriptObject}
 use Rattle.note_types.specs.declared.spot.Spot.TheVariants.{Place}
 use Rattle.pe_image.specs.Images.{IsImage}
-use Rattle.pe_image.specs.Mapped.{mapped}
+use Rattle.pe_image.specs.Mapped.{mapped, image_byte}
 use Rattle.pe_image.specs.declared.image.Image.{Image}
-use Rattle.run_types.specs.Config.{Config}
-use Rattle.run_types.specs.Objects.{placed_objects}
-use Rattle.run_types.specs.Outcomes.{Gives, Raises, Stuck}
-use Rattle.run_types.specs.Placements.{Placement, IsPlacement}
-use Rattle.run_types.specs.RunState.{RunState}
-use Rattle.run_types.specs.Values.{word}
-use Rattle.run_types.specs.World.{World}
-use Rattle.rules_data.specs.Images.{image_byte, ShapeHolds, FunctionHolds, StaticHolds, ThunkHolds, IsDecoded, RelocationHolds}
+use Rattle.neutral_machine.specs.Config.{Config}
+use Rattle.host_model.specs.Objects.{placed_objects}
+use Rattle.neutral_machine.specs.Outcomes.{Gives, Raises, Stuck}
+use Rattle.host_model.specs.Placements.{Placement, IsPlacement}
+use Rattle.host_model.specs.RunState.{RunState}
+use Rattle.host_model.specs.Values.{word}
+use Rattle.host_model.specs.World.{World}
+use Rattle.rules_image.specs.Images.{ShapeHolds, FunctionHolds, StaticHolds, ThunkHolds, IsDecoded, RelocationHolds}
 use Rattle.neutral_machine.specs.Alike.{EndsAlike, StepAlike}
 use Rattle.neutral_machine.specs.Instructions.{IsAt}
 use Rattle.neutral_machine.specs.Room.{HasRoom}
@@ -111,7 +111,8 @@ SameExecuted =
 abbrev pub ImageStep : Type 0
 ImageStep =
     (w : ℕ) (image : Image) (world : World) (P : Placement) (a : Config) (s : Concrete) (here : Site) (i : Insn)
-    → IsWidth w → IsPlacement w world P → IsRunOf image world → MachineStands w world P (mapped image P.image) None a s → a.spot ≡ Place here.place
+    → IsWidth w → IsPlacement w world P → IsRunOf image world → MachineStands w world P (mapped image P.image) None a s
+    → a.spot ≡ Place here.place
     → IsInsnOf image world here i → HasRoom w world a i
     → StepAlike w world P (mapped image P.image) s (executed world a here i) (machine_step w s)
 

@@ -2,8 +2,9 @@
 use Rattle.std.specs.List.{AllZip, list_all, zip}
 use Rattle.std.specs.Option.{option_map_or}
 use Rattle.std.proofs.Math.Nat.{zero-div}
-use Rattle.std.proofs.Common.{◌≡◌, ◌⊎◌, ℕ, zero, suc, ◌%◌, ◌<◌, ◌≤◌, ◌^◌, Bool, true, false, if◌then◌else◌, nat_eq, List, [], ◌∷◌, take, length, Option, Some, None, refl, sym, ap, ◌∙◌, subst, subst₂, arith, inl, inr, ⊎_elim, slice_get}
-use Rattle.std.proofs.lemmas.Bool.{and_parts, eqb-true, ne_eqb}
+use Rattle.std.proofs.Common.{◌≡◌, ◌⊎◌, ℕ, zero, suc, ◌%◌, ◌<◌, ◌≤◌, ◌^◌, Bool, true, false, if◌then◌else◌, nat_eq, List, [], ◌∷◌, take}
+use Rattle.std.proofs.Common.{length, Option, Some, None, refl, sym, ap, ◌∙◌, subst, subst₂, arith, inl, inr, ⊎_elim, slice_get}
+use Rattle.std.proofs.lemmas.Bool.{and_parts, eqb-true}
 use Rattle.std.proofs.lemmas.Option.{none-some, same_Some}
 use Rattle.note_types.specs.Notes.{entry_state}
 use Rattle.note_types.specs.Passing.{IsHandedIn, IsPassed}
@@ -18,19 +19,19 @@ use Rattle.note_types.specs.declared.state.State.{State}
 use Rattle.note_types.specs.declared.types.Ty.{Ty}
 use Rattle.note_types.specs.declared.types.Ty.TheVariants as ty
 use Rattle.note_types.specs.declared.value.Value.{Value}
-use Rattle.run_types.specs.declared.object.TypedObject.{TypedObject}
-use Rattle.run_types.specs.Config.{Registers, StackItem, FunctionFrame, HostFrame, Frame, Function, Host, Config, depth, hosts, locals_among, locals_at}
-use Rattle.run_types.specs.Fits.{Fits, FitsPlain}
-use Rattle.run_types.specs.FitsState.{FitsState}
-use Rattle.run_types.specs.Memory.{Memory, memory_of}
-use Rattle.run_types.specs.NeutralHost.{entered, param_slots}
-use Rattle.run_types.specs.Placements.{place_of, frame_limit}
-use Rattle.run_types.specs.Progress.{NoCall}
-use Rattle.run_types.specs.ScriptValues.{fits, fits_each}
-use Rattle.run_types.specs.Values.{Neutral}
-use Rattle.run_types.specs.World.{World}
-use Rattle.run_types.specs.Written.{value_as}
-use Rattle.run_types.proofs.WrittenFits.{written_fits}
+use Rattle.host_model.specs.declared.object.TypedObject.{TypedObject}
+use Rattle.neutral_machine.specs.Config.{Registers, StackItem, FunctionFrame, HostFrame, Function, Host, Config, depth, hosts, locals_at}
+use Rattle.neutral_machine.specs.Fits.{Fits, FitsPlain}
+use Rattle.neutral_machine.specs.FitsState.{FitsState}
+use Rattle.neutral_machine.specs.Memory.{Memory, memory_of}
+use Rattle.neutral_machine.specs.NeutralHost.{entered, param_slots}
+use Rattle.host_model.specs.Placements.{place_of, frame_limit}
+use Rattle.host_model.specs.Progress.{NoCall}
+use Rattle.host_model.specs.ScriptValues.{fits, fits_each}
+use Rattle.host_model.specs.Values.{Neutral}
+use Rattle.host_model.specs.World.{World}
+use Rattle.neutral_machine.specs.Written.{value_as}
+use Rattle.neutral_machine.proofs.WrittenFits.{written_fits}
 use Rattle.typed_runs.specs.Live.{live_memory}
 use Rattle.typed_runs.specs.Sound.{ParamFits, ParamKind, ThunksFor, IsEntered, FramesKeep, SoundBelow}
 use Rattle.typed_runs.specs.Waiting.{States, BelowHost, Chain}
@@ -41,22 +42,19 @@ use Rattle.invariant_laws.specs.Hosted.{EntersAs, as_entry, as_point, HasStarts}
 use Rattle.invariant_laws.proofs.Chains.{chain_later, below_later}
 use Rattle.invariant_laws.proofs.Same.{SameMemory, same_later, live_same, frames_later, cells_same}
 use Rattle.invariant_laws.proofs.Leaving.{can_be_entered}
-
--- there are no locals at the depth of these frames, nor deeper
-no_locals : (fs : List Frame) (d : ℕ) → depth fs ≤ d → locals_at fs d ≡ None
-no_locals [] d l = refl
-no_locals (Host h ∷ fs) d l = no_locals fs d l
-no_locals (Function f ∷ fs) d l = ap (λ t. if t then locals_among f.items else locals_at fs d) (ne_eqb d (depth fs) (λ e. absurd (omega (arith, e, l)))) ∙ no_locals fs d (omega (arith, l))
+use Rattle.neutral_machine.proofs.Frames.{no_locals}
 
 -- ---- parameters
 
 -- a written value that the firmware hands in
-handed_fits : (notes : Notes) (m : Memory) (d : ℕ) (saved : Registers) (t : Ty) (v : Neutral) → IsHandedIn t → IsPassed t → FitsPlain notes m.objects t v → Fits notes m d saved t v
+handed_fits : (notes : Notes) (m : Memory) (d : ℕ) (saved : Registers) (t : Ty) (v : Neutral) → IsHandedIn t → IsPassed t
+    → FitsPlain notes m.objects t v → Fits notes m d saved t v
 handed_fits notes m d saved ty.Any v h p x = tt
 handed_fits notes m d saved (ty.Int lo hi div) v h p x = x
 handed_fits notes m d saved (ty.Ptr s k n c may) v h p x = x
 handed_fits notes m d saved ty.Handle v h p x = x
-handed_fits notes m d saved (ty.Status g) v h p x = ⊎_elim (λ e. inl e) (λ s. inr (s, λ f has. absurd (no_field f (subst (λ z. HasField z f) p has)))) x
+handed_fits notes m d saved (ty.Status g) v h p x = ⊎_elim (λ e. inl e)
+    (λ s. inr (s, λ f has. absurd (no_field f (subst (λ z. HasField z f) p has)))) x
   where
     no_field : (f : ℕ) → HasField 0 f → ⊥
     no_field f h = let z = ap (λ x. x % 2) (zero-div (2 ^ f)) in absurd (omega (arith, h, z))
@@ -82,14 +80,17 @@ values_fit made ps vs e =
     let a = and_parts (nat_eq (length ps) (length vs)) _ e in
     record { long = eqb-true (length ps) (length vs) a.0; each = go ps vs a.1 }
   where
-    go : (ps : List Param) (vs : List Value) → list_all (λ (p : Param × Value). fits made p.0.ty p.1) (zip ps vs) ≡ true → (k : ℕ) (p : Param) (v : Value) → slice_get ps k ≡ Some p → slice_get vs k ≡ Some v → fits made p.ty v ≡ true
+    go : (ps : List Param) (vs : List Value) → list_all (λ (p : Param × Value). fits made p.0.ty p.1) (zip ps vs) ≡ true
+        → (k : ℕ) (p : Param) (v : Value) → slice_get ps k ≡ Some p → slice_get vs k ≡ Some v → fits made p.ty v ≡ true
     go [] vs e k p v g h = absurd (none-some p g)
     go (q ∷ ps) [] e k p v g h = absurd (none-some v h)
-    go (q ∷ ps) (u ∷ vs) e zero p v g h = let a = and_parts (fits made q.ty u) _ e in subst₂ (λ (x : Param) y. fits made x.ty y ≡ true) (same_Some q p g) (same_Some u v h) a.0
+    go (q ∷ ps) (u ∷ vs) e zero p v g h = let a = and_parts (fits made q.ty u) _ e in
+        subst₂ (λ (x : Param) y. fits made x.ty y ≡ true) (same_Some q p g) (same_Some u v h) a.0
     go (q ∷ ps) (u ∷ vs) e (suc k) p v g h = let a = and_parts (fits made q.ty u) _ e in go ps vs a.1 k p v g h
 
 -- the slots of parameters have their kinds
-slots_kinds : (notes : Notes) (made : List TypedObject) (ps : List Param) (vs : List Value) → length ps ≡ length vs → AllZip ParamKind (param_slots notes made ps vs) ps
+slots_kinds : (notes : Notes) (made : List TypedObject) (ps : List Param) (vs : List Value) → length ps ≡ length vs
+    → AllZip ParamKind (param_slots notes made ps vs) ps
 unfolding param_slots
 slots_kinds notes made [] [] e = tt
 slots_kinds notes made [] (v ∷ vs) e = absurd (omega (arith, e))
@@ -97,21 +98,31 @@ slots_kinds notes made (p ∷ ps) [] e = absurd (omega (arith, e))
 slots_kinds notes made (p ∷ ps) (v ∷ vs) e = (refl, slots_kinds notes made ps vs (omega (arith, e)))
 
 -- and fit them
-slots_fit : (notes : Notes) (m : Memory) (d : ℕ) (f : FunctionFrame) (ps : List Param) (vs : List Value) → Each (λ (p : Param). IsHandedIn p.ty × IsPassed p.ty) ps
+slots_fit : (notes : Notes) (m : Memory) (d : ℕ) (f : FunctionFrame) (ps : List Param) (vs : List Value)
+    → Each (λ (p : Param). IsHandedIn p.ty × IsPassed p.ty) ps
     → ValuesFit m.objects ps vs → AllZip (ParamFits notes m d f) (take (length ps) (param_slots notes m.objects ps vs)) ps
 unfolding param_slots
 slots_fit notes m d f [] vs h x = tt
 slots_fit notes m d f (p ∷ ps) [] h x = absurd (let e = x.long in omega (arith, e))
 slots_fit notes m d f (p ∷ ps) (v ∷ vs) h x =
     let a = h 0 p refl in (
-      (refl, handed_fits notes m d f.saved p.ty (value_as notes m.objects p.ty v) a.0 a.1 (written_fits notes m.objects p.ty v (x.each 0 p v refl refl))),
-      slots_fit notes m d f ps vs (λ k q e. h (suc k) q e) (record { long = let e = x.long in omega (arith, e); each = λ k q u g e. x.each (suc k) q u g e }),
+      (
+        refl,
+        handed_fits notes m d f.saved p.ty (value_as notes m.objects p.ty v) a.0 a.1
+            (written_fits notes m.objects p.ty v (x.each 0 p v refl refl)),
+      ),
+      slots_fit notes m d f ps vs (λ k q e. h (suc k) q e) (record {
+        long = let e = x.long in
+            omega (arith, e);
+        each = λ k q u g e. x.each (suc k) q u g e;
+      }),
     )
 
 -- ---- the state at a function's start
 
 -- a frame that was just made fits the entry state
-pub entry_fits : (notes : Notes) (m : Memory) (d : ℕ) (func ret : ℕ) (regs : Registers) (c : Bool) (made : ℕ) → made ≡ (if nat_eq func notes.entry then 0 else length notes.thunk)
+pub entry_fits : (notes : Notes) (m : Memory) (d : ℕ) (func ret : ℕ) (regs : Registers) (c : Bool) (made : ℕ)
+    → made ≡ (if nat_eq func notes.entry then 0 else length notes.thunk)
     → FitsState notes m d (record { func = func; ret = ret; saved = regs; items = [] }) (entry_state notes func) regs c made
 entry_fits notes m d func ret regs c made e = record {
   registers = by_register;
@@ -153,9 +164,14 @@ pub record CanEnter (world : World) (states : States) (y : Config) (func : ℕ) 
   -- what is below goes on to wait, whatever the host frame on it has
   pub below : (h : HostFrame) → h.saved ≡ y.registers → h.spot ≡ y.spot → BelowHost world states (live_memory world y) y.made h y.frames
 
-module _ (world : World) (states : States) (notes : IsNotes world.notes) (starts : HasStarts world states) (fits_below : StatesFitBelow) where
-  params_passed : (func : ℕ) (note : FnNote) → slice_get world.notes.function func ≡ Some note → IsEntered world.notes func → Each (λ (p : Param). IsHandedIn p.ty × IsPassed p.ty) note.params
-  params_passed func note there may k p e = ((can_be_entered world.notes func note notes there may).takes k p e, ((notes.functions func note there).params k p e).passed)
+module _ (world : World) (states : States) (notes : IsNotes world.notes) (starts : HasStarts world states)
+    (fits_below : StatesFitBelow) where
+  params_passed : (func : ℕ) (note : FnNote) → slice_get world.notes.function func ≡ Some note → IsEntered world.notes func
+      → Each (λ (p : Param). IsHandedIn p.ty × IsPassed p.ty) note.params
+  params_passed func note there may k p e = (
+    (can_be_entered world.notes func note notes there may).takes k p e,
+    ((notes.functions func note there).params k p e).passed,
+  )
 
   -- the frames inside
   abbrev inner : Config → ℕ → FunctionFrame
@@ -164,8 +180,10 @@ module _ (world : World) (states : States) (notes : IsNotes world.notes) (starts
   abbrev outer : Config → ℕ → List StackItem → HostFrame
   outer y func slots = record { func = func; notified = false; saved = y.registers; c = y.c; spot = y.spot; params = slots; call = NoCall }
 
-  entered_same : (y : Config) (func : ℕ) (slots : List StackItem) → SameMemory (live_memory world y) (live_memory world (entered world y func slots))
-  entered_same y func slots = live_same world.notes (memory_of world y) (memory_of world (entered world y func slots)) (record { objects = refl; locals = λ e. go e; cells = λ p. refl })
+  entered_same : (y : Config) (func : ℕ) (slots : List StackItem)
+      → SameMemory (live_memory world y) (live_memory world (entered world y func slots))
+  entered_same y func slots = live_same world.notes (memory_of world y) (memory_of world (entered world y func slots))
+      (record { objects = refl; locals = λ e. go e; cells = λ p. refl })
     where
       go : (e : ℕ) → locals_at (Function (inner y func) ∷ Host (outer y func slots) ∷ y.frames) e ≡ locals_at y.frames e
       go e = by (nat_eq e (depth y.frames)) refl
@@ -174,10 +192,12 @@ module _ (world : World) (states : States) (notes : IsNotes world.notes) (starts
           by true t = sym (no_locals y.frames e (let q = eqb-true e (depth y.frames) t in omega (arith, q)))
           by false t = refl
 
-  thunks_for : (func made : ℕ) → made ≡ (if nat_eq func world.notes.entry then 0 else length world.notes.thunk) → ThunksFor world.notes made func
+  thunks_for : (func made : ℕ) → made ≡ (if nat_eq func world.notes.entry then 0 else length world.notes.thunk)
+      → ThunksFor world.notes made func
   thunks_for func made e = go (nat_eq func world.notes.entry) refl e
     where
-      go : (t : Bool) → nat_eq func world.notes.entry ≡ t → made ≡ (if t then 0 else length world.notes.thunk) → (func ≡ world.notes.entry) ⊎ (made ≡ length world.notes.thunk)
+      go : (t : Bool) → nat_eq func world.notes.entry ≡ t → made ≡ (if t then 0 else length world.notes.thunk) → (func ≡ world.notes.entry)
+          ⊎ (made ≡ length world.notes.thunk)
       go true t e = inl (eqb-true func world.notes.entry t)
       go false t e = inr e
 
@@ -185,50 +205,83 @@ module _ (world : World) (states : States) (notes : IsNotes world.notes) (starts
   slots_of y note vs = param_slots world.notes (memory_of world y).objects note.params vs
 
   entered_frames : (y : Config) (func : ℕ) (vs : List Value) → (x : CanEnter world states y func vs)
-      → FramesKeep world (live_memory world (entered world y func (slots_of y x.note vs))) y.made (Function (inner y func) ∷ Host (outer y func (slots_of y x.note vs)) ∷ y.frames)
+      → FramesKeep world (live_memory world (entered world y func (slots_of y x.note vs))) y.made
+      (Function (inner y func) ∷ Host (outer y func (slots_of y x.note vs)) ∷ y.frames)
   entered_frames y func vs x = (
     (
       x.note,
-      record { there = x.there; within = record { at4 = omega arith; at8 = omega arith }; slots = tt; thunks = thunks_for func y.made x.made },
-      (refl, slots_fit world.notes (live_memory world (entered world y func (slots_of y x.note vs))) (depth y.frames) (inner y func) x.note.params vs (params_passed func x.note x.there x.may) x.values),
+      record {
+        there = x.there;
+        within = record { at4 = omega arith; at8 = omega arith };
+        slots = tt;
+        thunks = thunks_for func y.made x.made;
+      },
+      (
+        refl,
+        slots_fit world.notes (live_memory world (entered world y func (slots_of y x.note vs))) (depth y.frames)
+            (inner y func) x.note.params vs (params_passed func x.note x.there x.may) x.values,
+      ),
     ),
     (
-      record { entered = x.may; note = x.note; there = x.there; kinds = slots_kinds world.notes (memory_of world y).objects x.note.params vs x.values.long },
-      frames_later world (live_memory world y) (live_memory world (entered world y func (slots_of y x.note vs))) y.made y.frames (same_later _ _ (entered_same y func (slots_of y x.note vs))) x.sound.frames,
+      record {
+        entered = x.may;
+        note = x.note;
+        there = x.there;
+        kinds = slots_kinds world.notes (memory_of world y).objects x.note.params vs x.values.long;
+      },
+      frames_later world (live_memory world y) (live_memory world (entered world y func (slots_of y x.note vs))) y.made y.frames
+          (same_later _ _ (entered_same y func (slots_of y x.note vs))) x.sound.frames,
     ),
   )
 
   entered_top : (y : Config) (func : ℕ) (vs : List Value) → (x : CanEnter world states y func vs)
-      → RunsAt world states (entered world y func (slots_of y x.note vs)) (place_of world.notes func) (inner y func) (Host (outer y func (slots_of y x.note vs)) ∷ y.frames)
+      → RunsAt world states (entered world y func (slots_of y x.note vs)) (place_of world.notes func) (inner y func)
+      (Host (outer y func (slots_of y x.note vs)) ∷ y.frames)
   entered_top y func vs x =
       let s = starts.starts func x.note x.there in
-      let at : x.note.place ≡ place_of world.notes func = sym (ap (λ (o : Option FnNote). option_map_or (λ (g : FnNote). g.place) o 0) x.there) in
+      let at : x.note.place ≡ place_of world.notes func = sym (ap
+      (λ (o : Option FnNote). option_map_or (λ (g : FnNote). g.place) o 0) x.there) in
       record {
         state = s.0;
         here = subst (λ p. states func p s.0) at s.1;
         fits = by s.0 s.2;
       }
     where
-      entry : FitsState world.notes (live_memory world (entered world y func (slots_of y x.note vs))) (depth y.frames) (inner y func) (entry_state world.notes func) y.registers false y.made
-      entry = entry_fits world.notes (live_memory world (entered world y func (slots_of y x.note vs))) (depth y.frames) func 0 y.registers false y.made x.made
+      entry : FitsState world.notes (live_memory world (entered world y func (slots_of y x.note vs))) (depth y.frames) (inner y func)
+          (entry_state world.notes func) y.registers false y.made
+      entry = entry_fits world.notes (live_memory world (entered world y func (slots_of y x.note vs)))
+          (depth y.frames) func 0 y.registers false y.made x.made
 
-      by : (s : State) → EntersAs (entry_state world.notes func) s → FitsState world.notes (live_memory world (entered world y func (slots_of y x.note vs))) (depth y.frames) (inner y func) s y.registers false y.made
-      by s (as_entry e) = subst (λ t. FitsState world.notes (live_memory world (entered world y func (slots_of y x.note vs))) (depth y.frames) (inner y func) t y.registers false y.made) (sym e) entry
-      by s (as_point l) = fits_below world.notes (live_memory world (entered world y func (slots_of y x.note vs))) (depth y.frames) (inner y func) (entry_state world.notes func) s y.registers false y.made l entry
+      by : (s : State) → EntersAs (entry_state world.notes func) s
+          → FitsState world.notes (live_memory world (entered world y func (slots_of y x.note vs))) (depth y.frames)
+          (inner y func) s y.registers false y.made
+      by s (as_entry e) = subst (λ t. FitsState world.notes (live_memory world (entered world y func (slots_of y x.note vs)))
+          (depth y.frames) (inner y func) t y.registers false y.made) (sym e) entry
+      by s (as_point l) = fits_below world.notes (live_memory world (entered world y func (slots_of y x.note vs))) (depth y.frames)
+          (inner y func) (entry_state world.notes func) s y.registers false y.made l entry
 
-  pub entered_holds : (y : Config) (func : ℕ) (vs : List Value) → (x : CanEnter world states y func vs) → Holds world states (entered world y func (param_slots world.notes (memory_of world y).objects x.note.params vs))
+  pub entered_holds : (y : Config) (func : ℕ) (vs : List Value) → (x : CanEnter world states y func vs)
+      → Holds world states (entered world y func (param_slots world.notes (memory_of world y).objects x.note.params vs))
   entered_holds y func vs x =
       let same = entered_same y func (slots_of y x.note vs) in
       record {
         served = x.served;
-        sound = record { cells = cells_same world.notes (live_memory world y) (live_memory world (entered world y func (slots_of y x.note vs))) same x.sound.cells; frames = entered_frames y func vs x; few = let z = x.few in omega (arith, z) };
+        sound = record {
+          cells = cells_same world.notes (live_memory world y)
+              (live_memory world (entered world y func (slots_of y x.note vs))) same x.sound.cells;
+          frames = entered_frames y func vs x;
+          few = let z = x.few in omega (arith, z);
+        };
         well = λ on. record {
           top = entered_top y func vs x;
           waiting = (
             tt,
             (
-              below_later world states (live_memory world y) (live_memory world (entered world y func (slots_of y x.note vs))) y.made (Host (outer y func (slots_of y x.note vs))) y.frames (λ d l. same_later _ _ same d) (x.below (outer y func (slots_of y x.note vs)) refl refl),
-              chain_later world states (live_memory world y) (live_memory world (entered world y func (slots_of y x.note vs))) y.made y.frames (λ d l. same_later _ _ same d) x.waiting,
+              below_later world states (live_memory world y) (live_memory world (entered world y func (slots_of y x.note vs))) y.made
+                  (Host (outer y func (slots_of y x.note vs))) y.frames (λ d l. same_later _ _ same d)
+                  (x.below (outer y func (slots_of y x.note vs)) refl refl),
+              chain_later world states (live_memory world y) (live_memory world
+                  (entered world y func (slots_of y x.note vs))) y.made y.frames (λ d l. same_later _ _ same d) x.waiting,
             ),
           );
         };

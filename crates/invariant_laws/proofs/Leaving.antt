@@ -1,6 +1,7 @@
 -- The host leaves a function that has returned to the gate.
 use Rattle.std.specs.Option.{option_map, option_map_or}
-use Rattle.std.proofs.Common.{◌≡◌, ℕ, ◌^◌, Bool, true, false, if◌then◌else◌, nat_lt, List, [], ◌∷◌, ◌++◌, Option, Some, None, refl, sym, ap, ◌∙◌, subst, arith, ⊎_elim, slice_get}
+use Rattle.std.proofs.Common.{◌≡◌, ℕ, ◌^◌, Bool, true, false, if◌then◌else◌, nat_lt, List, [], ◌∷◌, ◌++◌, Option, Some, None, refl, sym, ap}
+use Rattle.std.proofs.Common.{◌∙◌, subst, arith, ⊎_elim, slice_get}
 use Rattle.std.proofs.lemmas.Bool.{lt-ltb, ne_eqb}
 use Rattle.std.proofs.lemmas.Option.{same_Some}
 use Rattle.note_types.specs.Passing.{IsHandedBack}
@@ -17,17 +18,17 @@ use Rattle.note_types.specs.declared.types.Ty.{Ty}
 use Rattle.note_types.specs.declared.types.Ty.TheVariants as ty
 use Rattle.note_types.specs.declared.value.Value.{Value}
 use Rattle.note_types.specs.declared.value.Value.TheVariants as value
-use Rattle.run_types.specs.declared.object.TypedObject.{TypedObject}
-use Rattle.run_types.specs.Config.{Registers, HostFrame, Frame, Function, Host, Config, depth, hosts, call_under_way, with_value}
-use Rattle.run_types.specs.Fits.{IsError, IsSuccess, FitsPlain}
-use Rattle.run_types.specs.HostPlans.{View, Returns, host_plan}
-use Rattle.run_types.specs.Memory.{Memory, memory_of}
-use Rattle.run_types.specs.NeutralHost as neutral
-use Rattle.run_types.specs.NeutralReadings.{neutral_result, neutral_reading}
-use Rattle.run_types.specs.Progress.{NativeCall, NoCall, Asked, Accepted, is_empty}
-use Rattle.run_types.specs.Readings.{sort_of_type}
-use Rattle.run_types.specs.Values.{Neutral, word}
-use Rattle.run_types.specs.World.{World}
+use Rattle.host_model.specs.declared.object.TypedObject.{TypedObject}
+use Rattle.neutral_machine.specs.Config.{Registers, HostFrame, Frame, Function, Host, Config, depth, hosts, call_under_way, with_value}
+use Rattle.neutral_machine.specs.Fits.{IsError, IsSuccess, FitsPlain}
+use Rattle.host_model.specs.HostPlans.{View, Returns, host_plan}
+use Rattle.neutral_machine.specs.Memory.{Memory, memory_of}
+use Rattle.neutral_machine.specs.NeutralHost as neutral
+use Rattle.neutral_machine.specs.NeutralReadings.{neutral_result, neutral_reading}
+use Rattle.host_model.specs.Progress.{NativeCall, NoCall, Asked, Accepted, is_empty}
+use Rattle.host_model.specs.Readings.{sort_of_type}
+use Rattle.host_model.specs.Values.{Neutral, word}
+use Rattle.host_model.specs.World.{World}
 use Rattle.typed_runs.specs.Asked.{GivenByCall, GivenByNative}
 use Rattle.typed_runs.specs.Later.{Later, Preserves}
 use Rattle.typed_runs.specs.Live.{live_memory}
@@ -41,7 +42,8 @@ use Rattle.invariant_laws.proofs.Chains.{native_later, chain_later}
 use Rattle.invariant_laws.proofs.Same.{SameMemory, same_later, live_same, frames_later, cells_same}
 
 -- it is there where the host sees something, and its plan leaves what holds
-pub host_goes_on : (world : World) (states : States) (a : Config) (v : View) → neutral.host_view world a a.spot ≡ Some v → Holds world states (neutral.performed world a (host_plan world a.script v)) → HostGoesOn world states a
+pub host_goes_on : (world : World) (states : States) (a : Config) (v : View) → neutral.host_view world a a.spot ≡ Some v
+    → Holds world states (neutral.performed world a (host_plan world a.script v)) → HostGoesOn world states a
 unfolding neutral.neutral_host_step
 host_goes_on world states a v e h = record {
   after = neutral.performed world a (host_plan world a.script v);
@@ -50,7 +52,8 @@ host_goes_on world states a v e h = record {
 }
 
 -- a configuration that ended so, with more events
-pub ended_holds : (world : World) (states : States) (a : Config) (e : Ending) (t : List Event) → (e ≡ ending.Running → ⊥) → RaisesOnlyDivideError e → Holds world states a → Holds world states (record a { trace = t; ending = e })
+pub ended_holds : (world : World) (states : States) (a : Config) (e : Ending) (t : List Event) → (e ≡ ending.Running → ⊥)
+    → RaisesOnlyDivideError e → Holds world states a → Holds world states (record a { trace = t; ending = e })
 ended_holds world states a e t n r h = record {
   served = h.served;
   sound = record { cells = h.sound.cells; frames = h.sound.frames; few = h.sound.few };
@@ -60,17 +63,24 @@ ended_holds world states a e t n r h = record {
 
 -- ---- the result
 
-result_there : (notes : Notes) (made : List TypedObject) (t : Ty) (v : Neutral) → IsHandedBack t → FitsPlain notes made t v → (r : Value) × (neutral_result notes made (sort_of_type t) v ≡ Some r)
+result_there : (notes : Notes) (made : List TypedObject) (t : Ty) (v : Neutral) → IsHandedBack t → FitsPlain notes made t v → (r : Value)
+    × (neutral_result notes made (sort_of_type t) v ≡ Some r)
 unfolding neutral_result neutral_reading
 result_there notes made ty.Any v b f = (value.Any, refl)
 result_there notes made (ty.Int lo hi div) v b f =
-    let small : nat_lt (word f.x) (2 ^ 32) ≡ true = lt-ltb (word f.x) (2 ^ 32) (let y = f.to in omega (arith, y, b)) in
-    (value.Int (word f.x), ap (λ u. neutral_result notes made (sort_of_type (ty.Int lo hi div)) u) f.is ∙ ap (λ b. if b then Some (value.Int (word f.x)) else None) small)
+    let small : nat_lt (word f.x) (2 ^ 32) ≡ true = lt-ltb (word f.x) (2 ^ 32) (let y = f.to in omega (arith, y, b)) in (
+      value.Int (word f.x),
+      ap (λ u. neutral_result notes made (sort_of_type (ty.Int lo hi div)) u) f.is
+          ∙ ap (λ b. if b then Some (value.Int (word f.x)) else None) small,
+    )
 result_there notes made (ty.Status g) v b f = ⊎_elim
     (λ (e : IsError v). (value.StatusError e.code, ap (neutral_result notes made (sort_of_type (ty.Status g))) e.is))
     (λ (s : IsSuccess v).
-    let small : nat_lt (word s.code) (2 ^ 31) ≡ true = lt-ltb (word s.code) (2 ^ 31) (let y = s.small in omega (arith, y)) in
-    (value.StatusOk (word s.code), ap (neutral_result notes made (sort_of_type (ty.Status g))) s.is ∙ ap (λ b. if b then Some (value.StatusOk (word s.code)) else None) small)) f
+    let small : nat_lt (word s.code) (2 ^ 31) ≡ true = lt-ltb (word s.code) (2 ^ 31) (let y = s.small in omega (arith, y)) in (
+      value.StatusOk (word s.code),
+      ap (neutral_result notes made (sort_of_type (ty.Status g))) s.is
+          ∙ ap (λ b. if b then Some (value.StatusOk (word s.code)) else None) small,
+    )) f
 result_there notes made (ty.Lin n c) v b f = absurd b
 result_there notes made (ty.Scaled n c hi) v b f = absurd b
 result_there notes made (ty.Ptr s k n c may) v b f = absurd b
@@ -85,20 +95,27 @@ result_there notes made (ty.ThunkAt i) v b f = absurd b
 result_there notes made (ty.Saved i) v b f = absurd b
 
 -- a function that the host entered may be entered
-pub can_be_entered : (notes : Notes) (func : ℕ) (note : FnNote) → IsNotes notes → slice_get notes.function func ≡ Some note → IsEntered notes func → CanBeEntered note
+pub can_be_entered : (notes : Notes) (func : ℕ) (note : FnNote) → IsNotes notes → slice_get notes.function func ≡ Some note
+    → IsEntered notes func → CanBeEntered note
 can_be_entered notes func note n there e = ⊎_elim
     (λ same. subst CanBeEntered (same_Some n.entry.0 note (sym n.entry.1 ∙ ap (slice_get notes.function) (sym same) ∙ there)) n.entry.2)
     (λ m. (n.functions func note there).entered (ap (λ (f : FnNote). f.enter) (same_Some note m.0 (sym there ∙ m.1)) ∙ m.2)) e
 
 module _ (world : World) (states : States) (notes : IsNotes world.notes) where
   -- R7 has a reading
-  result_is : (a : Config) (h : HostFrame) → HostKeeps world.notes h → GivenByCall world.notes h.func (live_memory world a) (a.registers 7) → (v : Value) × (neutral.result_of world a h.func ≡ Some v)
+  result_is : (a : Config) (h : HostFrame) → HostKeeps world.notes h → GivenByCall world.notes h.func (live_memory world a) (a.registers 7)
+      → (v : Value) × (neutral.result_of world a h.func ≡ Some v)
   unfolding neutral.result_of
   result_is a h k g =
       let can = can_be_entered world.notes h.func k.note notes k.there k.entered in
-      let fits : FitsPlain world.notes (neutral.objects_at world a) k.note.result (a.registers 7) = subst (λ (o : Option FnNote). FitsPlain world.notes (neutral.objects_at world a) (option_map_or (λ (f : FnNote). f.result) o ty.Any) (a.registers 7)) k.there g in
-      let r = result_there world.notes (neutral.objects_at world a) k.note.result (a.registers 7) can.gives fits in
-      (r.0, ap (λ (o : Option FnNote). neutral_result world.notes (neutral.objects_at world a) (option_map_or (λ (f : FnNote). sort_of_type f.result) o (sort_of_type ty.Any)) (a.registers 7)) k.there ∙ r.1)
+      let fits : FitsPlain world.notes (neutral.objects_at world a) k.note.result (a.registers 7) =
+      subst (λ (o : Option FnNote). FitsPlain world.notes (neutral.objects_at world a)
+      (option_map_or (λ (f : FnNote). f.result) o ty.Any) (a.registers 7)) k.there g in
+      let r = result_there world.notes (neutral.objects_at world a) k.note.result (a.registers 7) can.gives fits in (
+        r.0,
+        ap (λ (o : Option FnNote). neutral_result world.notes (neutral.objects_at world a)
+            (option_map_or (λ (f : FnNote). sort_of_type f.result) o (sort_of_type ty.Any)) (a.registers 7)) k.there ∙ r.1,
+      )
 
   -- R1 to R3 are as they were saved
   pub seven_other : (saved : Registers) (v : Neutral) → Preserves saved (with_value saved 7 v)
@@ -110,22 +127,35 @@ module _ (world : World) (states : States) (notes : IsNotes world.notes) where
 
   -- and once the host frame is left
   abbrev after_leaving : Config → HostFrame → List Frame → List Event → Config
-  after_leaving a h fs t = record a { trace = t; registers = with_value h.saved 7 (a.registers 7); c = h.c; spot = h.spot; frames = fs; ending = ending.Running }
+  after_leaving a h fs t = record a {
+    trace = t;
+    registers = with_value h.saved 7 (a.registers 7);
+    c = h.c;
+    spot = h.spot;
+    frames = fs;
+    ending = ending.Running;
+  }
 
-  same_left : (a : Config) (h : HostFrame) (fs : List Frame) (t : List Event) → SameMemory (live_memory world (at_gate a h fs)) (live_memory world (after_leaving a h fs t))
-  same_left a h fs t = live_same world.notes (memory_of world (at_gate a h fs)) (memory_of world (after_leaving a h fs t)) (record { objects = refl; locals = λ e. refl; cells = λ p. refl })
+  same_left : (a : Config) (h : HostFrame) (fs : List Frame) (t : List Event)
+      → SameMemory (live_memory world (at_gate a h fs)) (live_memory world (after_leaving a h fs t))
+  same_left a h fs t = live_same world.notes (memory_of world (at_gate a h fs)) (memory_of world (after_leaving a h fs t))
+      (record { objects = refl; locals = λ e. refl; cells = λ p. refl })
 
-  left_sound : (a : Config) (h : HostFrame) (fs : List Frame) (t : List Event) → SoundBelow world (at_gate a h fs) → SoundBelow world (after_leaving a h fs t)
+  left_sound : (a : Config) (h : HostFrame) (fs : List Frame) (t : List Event) → SoundBelow world (at_gate a h fs)
+      → SoundBelow world (after_leaving a h fs t)
   left_sound a h fs t s =
       let same = same_left a h fs t in
       record {
         cells = cells_same world.notes (live_memory world (at_gate a h fs)) (live_memory world (after_leaving a h fs t)) same s.cells;
-        frames = frames_later world (live_memory world (at_gate a h fs)) (live_memory world (after_leaving a h fs t)) a.made fs (same_later _ _ same) s.frames.1;
+        frames = frames_later world (live_memory world (at_gate a h fs)) (live_memory world (after_leaving a h fs t)) a.made fs
+            (same_later _ _ same) s.frames.1;
         few = let y = s.few in omega (arith, y);
       }
 
   -- what waits below goes on to wait
-  left_well : (a : Config) (h : HostFrame) (fs : List Frame) (t : List Event) → is_empty (hosts fs) ≡ false → BelowHost world states (live_memory world (at_gate a h fs)) a.made h fs → Chain world states (live_memory world (at_gate a h fs)) a.made fs → GoesOnWell world states (after_leaving a h fs t)
+  left_well : (a : Config) (h : HostFrame) (fs : List Frame) (t : List Event) → is_empty (hosts fs) ≡ false
+      → BelowHost world states (live_memory world (at_gate a h fs)) a.made h fs
+      → Chain world states (live_memory world (at_gate a h fs)) a.made fs → GoesOnWell world states (after_leaving a h fs t)
   left_well a h [] t e b c = absurd (cc)
   left_well a h (Host g ∷ fs) t e b c = absurd b
   left_well a h (Function f ∷ fs) t e b c = record {
@@ -139,13 +169,17 @@ module _ (world : World) (states : States) (notes : IsNotes world.notes) where
       V : Memory
       V = live_memory world (after_leaving a h (Function f ∷ fs) t)
 
-      later : (d : ℕ) → Later d (live_memory world (at_gate a h (Function f ∷ fs))) (live_memory world (after_leaving a h (Function f ∷ fs) t))
+      later : (d : ℕ) → Later d (live_memory world (at_gate a h (Function f ∷ fs)))
+          (live_memory world (after_leaving a h (Function f ∷ fs) t))
       later d = same_later _ _ (same_left a h (Function f ∷ fs) t) d
 
-      native : (entry next : ℕ) (args : List Neutral) → WaitsNative world states (live_memory world (at_gate a h (Function f ∷ fs))) a.made (depth fs) f entry next args h.saved
-          → WaitsNative world states (live_memory world (after_leaving a h (Function f ∷ fs) t)) a.made (depth fs) f entry next args (with_value h.saved 7 (a.registers 7))
+      native : (entry next : ℕ) (args : List Neutral) → WaitsNative world states (live_memory world (at_gate a h (Function f ∷ fs))) a.made
+          (depth fs) f entry next args h.saved
+          → WaitsNative world states (live_memory world (after_leaving a h (Function f ∷ fs) t)) a.made (depth fs) f entry next args
+          (with_value h.saved 7 (a.registers 7))
       native entry next args w =
-          let y = native_later world states _ (live_memory world (after_leaving a h (Function f ∷ fs) t)) a.made (depth fs) f entry next args h.saved (later (depth fs)) w in
+          let y = native_later world states _ (live_memory world (after_leaving a h (Function f ∷ fs) t)) a.made
+          (depth fs) f entry next args h.saved (later (depth fs)) w in
           record {
             call = y.call;
             entry_is = y.entry_is;
@@ -157,31 +191,47 @@ module _ (world : World) (states : States) (notes : IsNotes world.notes) where
               here = y.waits.here;
               fresh = y.waits.fresh;
               thunks = y.waits.thunks;
-              will = will_kept world.notes _ a.made (depth fs) f y.waits.state h.saved (with_value h.saved 7 (a.registers 7)) (GivenByNative world.notes y.signature args) (GivenByNative world.notes y.signature args) (seven_other h.saved (a.registers 7)) (λ V v l g. g) y.waits.will;
+              will = will_kept world.notes _ a.made (depth fs) f y.waits.state h.saved (with_value h.saved 7 (a.registers 7))
+                  (GivenByNative world.notes y.signature args) (GivenByNative world.notes y.signature args)
+                  (seven_other h.saved (a.registers 7)) (λ V v l g. g) y.waits.will;
             };
           }
 
-      go : (call : NativeCall Neutral) → call_under_way fs ≡ call → (s : Spot) → WaitsBelow world states (live_memory world (at_gate a h (Function f ∷ fs))) a.made (depth fs) f call s h.saved → SpotHolds world states (record (after_leaving a h (Function f ∷ fs) t) { spot = s }) s
+      go : (call : NativeCall Neutral) → call_under_way fs ≡ call → (s : Spot)
+          → WaitsBelow world states (live_memory world (at_gate a h (Function f ∷ fs))) a.made (depth fs) f call s h.saved
+          → SpotHolds world states (record (after_leaving a h (Function f ∷ fs) t) { spot = s }) s
       go (Accepted entry callbacks args) is (spot.Place next) w =
-          subst (λ c. TopHolds world states (record (after_leaving a h (Function f ∷ fs) t) { spot = spot.Place next }) c next (Function f ∷ fs)) (sym is) (native entry next args w)
+          subst (λ c. TopHolds world states (record (after_leaving a h (Function f ∷ fs) t) { spot = spot.Place next }) c next
+          (Function f ∷ fs)) (sym is) (native entry next args w)
       go (Accepted entry callbacks args) is spot.Gate w = absurd w
       go (Accepted entry callbacks args) is (spot.Wild y) w = absurd w
       go NoCall is s w = absurd w
       go (Asked p v) is s w = absurd w
 
   -- the step at the gate
-  pub gate_step : (a : Config) (h : HostFrame) (fs : List Frame) → Holds world states (at_gate a h fs) → HostGoesOn world states (at_gate a h fs)
+  pub gate_step : (a : Config) (h : HostFrame) (fs : List Frame) → Holds world states (at_gate a h fs)
+      → HostGoesOn world states (at_gate a h fs)
   unfolding neutral.host_view neutral.performed host_plan
   gate_step a h fs x =
       let w = x.well refl in
       let r = result_is (at_gate a h fs) h x.sound.frames.0 w.top.1 in
-      host_goes_on world states (at_gate a h fs) (Returns (is_empty (hosts fs)) h.func r.0) (ap (option_map (Returns (is_empty (hosts fs)) h.func)) r.1) (go (is_empty (hosts fs)) refl r.0)
+      host_goes_on world states (at_gate a h fs) (Returns (is_empty (hosts fs)) h.func r.0)
+      (ap (option_map (Returns (is_empty (hosts fs)) h.func)) r.1) (go (is_empty (hosts fs)) refl r.0)
     where
-      go : (t : Bool) → is_empty (hosts fs) ≡ t → (v : Value) → Holds world states (neutral.performed world (at_gate a h fs) (host_plan world (at_gate a h fs).script (Returns t h.func v)))
-      go true e v = record { served = x.served; sound = let s = left_sound a h fs a.trace x.sound in record { cells = s.cells; frames = s.frames; few = s.few }; well = λ on. absurd (cc); raised = tt }
+      go : (t : Bool) → is_empty (hosts fs) ≡ t → (v : Value) → Holds world states
+          (neutral.performed world (at_gate a h fs) (host_plan world (at_gate a h fs).script (Returns t h.func v)))
+      go true e v = record {
+        served = x.served;
+        sound = let s = left_sound a h fs a.trace x.sound in
+            record { cells = s.cells; frames = s.frames; few = s.few };
+        well = λ on. absurd (cc);
+        raised = tt;
+      }
       go false e v = record {
         served = x.served;
-        sound = let s = left_sound a h fs (a.trace ++ event.Returned h.func v ∷ []) x.sound in record { cells = s.cells; frames = s.frames; few = s.few };
-        well = λ on. let g = left_well a h fs (a.trace ++ event.Returned h.func v ∷ []) e (x.well refl).waiting.0 (x.well refl).waiting.1 in record { top = g.top; waiting = g.waiting };
+        sound = let s = left_sound a h fs (a.trace ++ event.Returned h.func v ∷ []) x.sound in
+            record { cells = s.cells; frames = s.frames; few = s.few };
+        well = λ on. let g = left_well a h fs (a.trace ++ event.Returned h.func v ∷ []) e (x.well refl).waiting.0 (x.well refl).waiting.1 in
+            record { top = g.top; waiting = g.waiting };
         raised = tt;
       }

@@ -12,5 +12,6 @@ wrap_once true (negsuc n) = grind (arith, ints)
 wrap_once false (pos n) = grind (arith, ints)
 wrap_once false (negsuc n) = grind (arith, ints)
 
-pub wrap_product : (wide : Bool) (m n : ℤ) → FitsSigned w64 m → FitsSigned w64 n → wrap (bits_of wide) (int_wrapping_mul w64 m n) ≡ wrap (bits_of wide) (m *ℤ n)
+pub wrap_product : (wide : Bool) (m n : ℤ) → FitsSigned w64 m → FitsSigned w64 n
+    → wrap (bits_of wide) (int_wrapping_mul w64 m n) ≡ wrap (bits_of wide) (m *ℤ n)
 wrap_product wide m n f g = ap (wrap (bits_of wide)) (wrapping_mul_is w64 m n f g) ∙ wrap_once wide (m *ℤ n)

@@ -1,7 +1,8 @@
 -- Rows of the tables, worked by hand.
 use Rattle.std.specs.Prelude.{◌≡◌, true, false, Ok, Err, refl}
 use Rattle.ebc_insn.specs.declared.CmpOp.TheVariants.{Eq, Lte, Gte, Ulte, Ugte}
-use Rattle.ebc_insn.specs.declared.ArithOp.TheVariants.{Not, Neg, Add, Sub, Mul, Mulu, Div, Divu, Mod, Modu, Xor, Shl, Shr, Ashr, Extb, Extw, Extd}
+use Rattle.ebc_insn.specs.declared.ArithOp.TheVariants.{Not, Neg, Add, Sub, Mul, Mulu, Div, Divu, Mod, Modu, Xor, Shl, Shr, Ashr, Extb}
+use Rattle.ebc_insn.specs.declared.ArithOp.TheVariants.{Extw, Extd}
 use Rattle.machine_alu.specs.Alu.{computed, compared, divide_error}
 
 -- a result of 32 bits has zeros above them, whatever the operands have there

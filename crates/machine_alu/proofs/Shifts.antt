@@ -13,7 +13,8 @@ past_right x y small past = div-eq_of_lt (omega (arith, pow_mono past))
 pub past_left : (x y k : ℕ) → k ≤ y → (x * 2 ^ y) % 2 ^ k ≡ 0
 past_left x y k past =
     let whole : y ≡ y - k + k = omega arith in
-    ap (λ e. (x * 2 ^ e) % 2 ^ k) whole ∙ rw (pow-add 2 (y - k) k, ← mul_assoc x (2 ^ (y - k)) (2 ^ k)) (mul-mod_left (x * 2 ^ (y - k)) (2 ^ k))
+    ap (λ e. (x * 2 ^ e) % 2 ^ k) whole ∙ rw (pow-add 2 (y - k) k, ← mul_assoc x (2 ^ (y - k)) (2 ^ k))
+    (mul-mod_left (x * 2 ^ (y - k)) (2 ^ k))
 
 pub past_negative : (z : ℤ) (y : ℕ) → FitsSigned w64 z → 64 ≤ y → z <ℤ pos 0 → negsuc 0 ≡ shifted z y
 past_negative (pos n) y fits past below = absurd (omega (arith, ints))

@@ -1,11 +1,13 @@
--- What each operation of arithmetic and each comparison gives, at 32 and at 64 bits: UEFI specification, chapter "EFI
--- Byte Code Virtual Machine", section "EBC Instruction Set", from "ADD" to "XOR"; what that leaves open is in
+-- Meaning: what each operation of arithmetic and each comparison gives, at 32 and at 64 bits: UEFI specification, chapter
+-- "EFI Byte Code Virtual Machine", section "EBC Instruction Set", from "ADD" to "XOR"; what that leaves open is in
 -- docs/MACHINE.md, "Arithmetic".
-use Rattle.std.specs.Prelude.{ℕ, ◌+◌, ◌-◌, ◌*◌, ◌/◌, ◌%◌, ◌^◌, Bool, true, false, ◌&&◌, nat_eq, nat_le, nat_lt, if◌then◌else◌, ℤ, pos, negsuc, ◌*ℤ◌, int_le, int_div, int_rem, bit_and, bit_or, bit_xor, Result, Ok, Err}
+use Rattle.std.specs.Prelude.{ℕ, ◌+◌, ◌-◌, ◌*◌, ◌/◌, ◌%◌, ◌^◌, Bool, true, false, ◌&&◌, nat_eq, nat_le, nat_lt, if◌then◌else◌, ℤ, pos}
+use Rattle.std.specs.Prelude.{negsuc, ◌*ℤ◌, int_le, int_div, int_rem, bit_and, bit_or, bit_xor, Result, Ok, Err}
 use Rattle.ebc_insn.specs.declared.CmpOp.{CmpOp}
 use Rattle.ebc_insn.specs.declared.CmpOp.TheVariants.{Eq, Lte, Gte, Ulte, Ugte}
 use Rattle.ebc_insn.specs.declared.ArithOp.{ArithOp}
-use Rattle.ebc_insn.specs.declared.ArithOp.TheVariants.{Not, Neg, Add, Sub, Mul, Mulu, Div, Divu, Mod, Modu, And, Or, Xor, Shl, Shr, Ashr, Extb, Extw, Extd}
+use Rattle.ebc_insn.specs.declared.ArithOp.TheVariants.{Not, Neg, Add, Sub, Mul, Mulu, Div, Divu, Mod, Modu, And, Or, Xor, Shl, Shr, Ashr}
+use Rattle.ebc_insn.specs.declared.ArithOp.TheVariants.{Extb, Extw, Extd}
 use Rattle.machine_alu.specs.declared.DivideError.{DivideError}
 
 -- ---- numbers in some bits

@@ -8,7 +8,7 @@ ghost use Rattle.machine_alu.specs.Alu.{bits_of, low, signed, wrap, shifted, out
 use ebc_insn::{ArithOp, CmpOp};
 
 /// A division by 0.
-#[derive(Clone, Copy, PartialEq, Eq, Debug)]
+#[derive(Clone, Copy, PartialEq, Eq)]
 pub struct DivideError;
 
 /// The result of an operation on operand 1, `a`, and operand 2, `b`, of 64 bits where `wide` and else of 32.

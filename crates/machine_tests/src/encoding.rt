@@ -236,9 +236,9 @@ fn rows() -> [(&'static [u8], Insn); 24] {
 #[test]
 fn instructions(rt: HostRuntime) {
     for (code, insn) in rows() {
-        assert_eq!(rt; decode(code, 0), Ok((insn, code.len())), "{code:?}");
+        assert!(rt; decode(code, 0) == Ok((insn, code.len())));
         assert!(rt; ebc_insn::well_formed(&insn), "{code:?}");
-        assert_eq!(rt; encode(&insn).as_slice(), code);
+        assert!(rt; encode(&insn).as_slice() == code);
     }
 }
 
@@ -264,7 +264,7 @@ fn faults(rt: HostRuntime) {
         (&[0xE0, 0x1A, 0x00, 0x70, 0x00], DecodeFault::Short),
     ];
     for (code, fault) in rows {
-        assert_eq!(rt; decode(code, 0), Err(fault), "{code:?}");
+        assert!(rt; decode(code, 0) == Err(fault));
     }
 }
 
@@ -285,10 +285,10 @@ fn places(rt: HostRuntime) {
         long: false,
         imm: 8,
     };
-    assert_eq!(rt; decode(&code, 0), Ok((first, 4)));
-    assert_eq!(rt; decode(&code, 4), Ok((second, 4)));
-    assert_eq!(rt; decode(&code, 8), Ok((Insn::Ret, 2)));
-    assert_eq!(rt; decode(&code, 10), Err(DecodeFault::Short));
+    assert!(rt; decode(&code, 0) == Ok((first, 4)));
+    assert!(rt; decode(&code, 4) == Ok((second, 4)));
+    assert!(rt; decode(&code, 8) == Ok((Insn::Ret, 2)));
+    assert!(rt; decode(&code, 10) == Err(DecodeFault::Short));
 }
 
 // The bits of the first two bytes that stand for something, as a row of the encoding table has them.
@@ -445,15 +445,14 @@ fn all_first_two_bytes(rt: HostRuntime) {
             };
             match decode(&code, 0) {
                 Ok((insn, length)) => {
-                    assert_eq!(rt; Ok(length), expected, "{b0} {b1}");
-                    assert_eq!(rt;
-                        decode(&code[..length - 1], 0),
-                        Err(DecodeFault::Short),
+                    assert!(rt; Ok(length) == expected, "{b0} {b1}");
+                    assert!(rt;
+                        decode(&code[..length - 1], 0) == Err(DecodeFault::Short),
                         "{b0} {b1}"
                     );
-                    assert_eq!(rt; encode(&insn).as_slice(), &code[..length], "{b0} {b1}");
+                    assert!(rt; encode(&insn).as_slice() == &code[..length], "{b0} {b1}");
                 }
-                Err(fault) => assert_eq!(rt; Err(fault), expected, "{b0} {b1}"),
+                Err(fault) => assert!(rt; Err(fault) == expected, "{b0} {b1}"),
             }
         }
     }

@@ -158,8 +158,8 @@ fn lengths(rt: HostRuntime) {
         ),
     ];
     for (insn, length) in rows {
-        assert!(rt; well_formed(&insn), "{insn:?}");
-        assert_eq!(rt; len(&insn), length, "{insn:?}");
+        assert!(rt; well_formed(&insn));
+        assert!(rt; len(&insn) == length);
     }
 }
 
@@ -256,6 +256,6 @@ fn without_a_spelling(rt: HostRuntime) {
         Insn::StoreSpecial { to: 0, special: 2 },
     ];
     for insn in rows {
-        assert!(rt; !well_formed(&insn), "{insn:?}");
+        assert!(rt; !well_formed(&insn));
     }
 }

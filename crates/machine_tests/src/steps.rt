@@ -135,13 +135,9 @@ fn registers<const W: usize>(rt: &impl Abort, alloc: Global) -> Result<(), Fail>
     ];
     for (bytes, r1, r2, reg, want) in rows {
         let mut w = set_up::<W>(alloc, bytes, r1, r2)?;
-        assert_eq!(rt; w.machine.step(&mut w.mem), StepEnd::Next, "{bytes:?}");
-        assert_eq!(rt; w.machine.regs.get(reg).copied(), Some(want), "{bytes:?}");
-        assert_eq!(rt;
-            w.machine.ip,
-            code.wrapping_add(bytes.len() as u64),
-            "{bytes:?}"
-        );
+        assert!(rt; w.machine.step(&mut w.mem) == StepEnd::Next);
+        assert!(rt; w.machine.regs.get(reg).copied() == Some(want));
+        assert!(rt; w.machine.ip == code.wrapping_add(bytes.len() as u64));
     }
     Ok(())
 }
@@ -189,12 +185,8 @@ fn bytes<const W: usize>(rt: &impl Abort, alloc: Global) -> Result<(), Fail>
     ];
     for (bytes, r1, place, want) in rows {
         let mut w = set_up::<W>(alloc, bytes, r1, 0)?;
-        assert_eq!(rt; w.machine.step(&mut w.mem), StepEnd::Next, "{bytes:?}");
-        assert_eq!(rt;
-            w.mem.load(data.wrapping_add(place), 8),
-            Some(want),
-            "{bytes:?}"
-        );
+        assert!(rt; w.machine.step(&mut w.mem) == StepEnd::Next);
+        assert!(rt; w.mem.load(data.wrapping_add(place), 8) == Some(want));
     }
     Ok(())
 }
@@ -248,16 +240,16 @@ fn control<const W: usize>(rt: &impl Abort, alloc: Global) -> Result<(), Fail>
     for (bytes, r1, flags, ip, after) in rows {
         let mut w = set_up::<W>(alloc, bytes, r1, 0)?;
         w.machine.flags = flags;
-        assert_eq!(rt; w.machine.step(&mut w.mem), StepEnd::Next, "{bytes:?}");
-        assert_eq!(rt; w.machine.ip, ip, "{bytes:?}");
-        assert_eq!(rt; w.machine.flags, after, "{bytes:?}");
+        assert!(rt; w.machine.step(&mut w.mem) == StepEnd::Next);
+        assert!(rt; w.machine.ip == ip);
+        assert!(rt; w.machine.flags == after);
     }
     // A return reads eight bytes at either width, and takes sixteen from the stack.
     let mut w = set_up::<W>(alloc, &[0x04, 0x00], 0, 0)?;
     w.machine.regs[0] = data;
-    assert_eq!(rt; w.machine.step(&mut w.mem), StepEnd::Next);
-    assert_eq!(rt; w.machine.ip, 0x1_0000_0020);
-    assert_eq!(rt; w.machine.regs[0], data.wrapping_add(16));
+    assert!(rt; w.machine.step(&mut w.mem) == StepEnd::Next);
+    assert!(rt; w.machine.ip == 0x1_0000_0020);
+    assert!(rt; w.machine.regs[0] == data.wrapping_add(16));
     Ok(())
 }
 
@@ -315,20 +307,15 @@ fn raised<const W: usize>(rt: &impl Abort, alloc: Global) -> Result<(), Fail>
         w.machine.regs[0] = r0;
         w.machine.flags = 1;
         let before = w.machine;
-        assert_eq!(rt;
-            w.machine.step(&mut w.mem),
-            StepEnd::Raised(exception),
-            "{bytes:?}"
-        );
-        assert_eq!(rt; w.machine, before, "{bytes:?}");
+        assert!(rt; w.machine.step(&mut w.mem) == StepEnd::Raised(exception));
+        assert!(rt; w.machine == before);
     }
     // Code that ends too early, and ip in no object.
     for ip in [code.wrapping_add(63), code.wrapping_add(64), NOWHERE] {
         let mut w = set_up::<W>(alloc, &[], 0, 0)?;
         w.machine.ip = ip;
-        assert_eq!(rt;
-            w.machine.step(&mut w.mem),
-            StepEnd::Raised(Exception::MemoryFault),
+        assert!(rt;
+            w.machine.step(&mut w.mem) == StepEnd::Raised(Exception::MemoryFault),
             "{ip}"
         );
     }
@@ -345,21 +332,18 @@ fn raised_at_both_widths(rt: HostRuntime) -> Result<(), Fail> {
 #[test]
 fn ends(rt: HostRuntime) -> Result<(), Fail> {
     let mut w = set_up::<4>(rt.alloc(), &[0x83, 0x20, 0x35, 0x12, 0x00, 0x00], 0, 0)?;
-    assert_eq!(rt; w.machine.step(&mut w.mem), StepEnd::Native(0x1235));
-    assert_eq!(rt; w.machine.ip, w.code.wrapping_add(6));
+    assert!(rt; w.machine.step(&mut w.mem) == StepEnd::Native(0x1235));
+    assert!(rt; w.machine.ip == w.code.wrapping_add(6));
 
     let mut w = set_up::<4>(rt.alloc(), &[0x00, 0x05], 0, 0)?;
     w.machine.regs[7] = 0x1_0000_0000;
-    assert_eq!(rt;
-        w.machine.step(&mut w.mem),
-        StepEnd::MakeThunk(0x1_0000_0000)
-    );
-    assert_eq!(rt; w.machine.ip, w.code.wrapping_add(2));
+    assert!(rt; w.machine.step(&mut w.mem) == StepEnd::MakeThunk(0x1_0000_0000));
+    assert!(rt; w.machine.ip == w.code.wrapping_add(2));
 
     let mut w = set_up::<8>(rt.alloc(), &[0x00, 0x01], 0, 0)?;
     w.machine.gate = w.code;
     let before = w.machine;
-    assert_eq!(rt; w.machine.step(&mut w.mem), StepEnd::Gate);
-    assert_eq!(rt; w.machine, before);
+    assert!(rt; w.machine.step(&mut w.mem) == StepEnd::Gate);
+    assert!(rt; w.machine == before);
     Ok(())
 }

@@ -26,9 +26,9 @@ fn nine_frames(rt: HostRuntime) -> Result<(), Fail> {
         assert!(rt; frames.push(&frame(func)));
     }
     assert!(rt; !frames.push(&frame(9)));
-    assert_eq!(rt; frames.depth(), 9);
+    assert!(rt; frames.depth() == 9);
     for above in 0..9 {
-        assert_eq!(rt; frames.pop().map(|f| f.func), Some(8 - above));
+        assert!(rt; frames.pop().map(|f| f.func) == Some(8 - above));
     }
     assert!(rt; frames.pop().is_none());
     Ok(())
@@ -39,16 +39,10 @@ fn a_frame_comes_back(rt: HostRuntime) -> Result<(), Fail> {
     let mut frames = FrameStack::new(rt.alloc())?;
     assert!(rt; frames.push(&frame(5)));
     let back = frames.pop().ok_or("no frame")?;
-    assert_eq!(rt;
-        back.regs.as_slice(),
-        [0x1122_3344_5566_7788, 1, 2, 3, 4, 5, 6, 7].as_slice()
-    );
-    assert_eq!(rt; (back.ip, back.flags), (8, 9));
-    assert_eq!(rt;
-        (back.entry, back.callback, back.func, back.count),
-        (10, 11, 5, 12)
-    );
-    assert_eq!(rt; back.slots.as_slice(), frame(5).slots.as_slice());
+    assert!(rt; back.regs.as_slice() == [0x1122_3344_5566_7788, 1, 2, 3, 4, 5, 6, 7].as_slice());
+    assert!(rt; (back.ip, back.flags) == (8, 9));
+    assert!(rt; (back.entry, back.callback, back.func, back.count) == (10, 11, 5, 12));
+    assert!(rt; back.slots.as_slice() == frame(5).slots.as_slice());
     Ok(())
 }
 
@@ -56,13 +50,13 @@ fn a_frame_comes_back(rt: HostRuntime) -> Result<(), Fail> {
 fn the_bytes_of_frames(rt: HostRuntime) -> Result<(), Fail> {
     let mut frames = FrameStack::new(rt.alloc())?;
     assert!(rt; frames.push(&frame(5)));
-    assert_eq!(rt; frames.region().load(0, 8), 0x1122_3344_5566_7788);
-    assert_eq!(rt; frames.region().load(88, 4), 5);
+    assert!(rt; frames.region().load(0, 8) == 0x1122_3344_5566_7788);
+    assert!(rt; frames.region().load(88, 4) == 5);
     assert!(rt; frames.push(&frame(6)));
-    assert_eq!(rt; frames.region().load(224 + 88, 4), 6);
+    assert!(rt; frames.region().load(224 + 88, 4) == 6);
     let _ = frames.pop();
-    assert_eq!(rt; frames.region().load(0, 8), 0x1122_3344_5566_7788);
-    assert_eq!(rt; frames.region().load(88, 4), 5);
+    assert!(rt; frames.region().load(0, 8) == 0x1122_3344_5566_7788);
+    assert!(rt; frames.region().load(88, 4) == 5);
     Ok(())
 }
 
@@ -73,9 +67,9 @@ fn slots_and_a_mark(rt: HostRuntime) -> Result<(), Fail> {
     assert!(rt; frames.push(&frame(6)));
     frames.set_slot(3, 77);
     frames.set_mark(1, 2, 3);
-    assert_eq!(rt; frames.mark(), (1, 2, 3));
-    assert_eq!(rt; frames.slot(1, 3), 77);
-    assert_eq!(rt; frames.slot(1, 4), 17);
-    assert_eq!(rt; frames.slot(0, 3), 16);
+    assert!(rt; frames.mark() == (1, 2, 3));
+    assert!(rt; frames.slot(1, 3) == 77);
+    assert!(rt; frames.slot(1, 4) == 17);
+    assert!(rt; frames.slot(0, 3) == 16);
     Ok(())
 }

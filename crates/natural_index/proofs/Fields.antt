@@ -1,11 +1,13 @@
 -- Fields of a number side by side: put together, and taken apart.
 use Rattle.std.proofs.Common.{◌≡◌, ℕ, ◌+◌, ◌-◌, ◌*◌, ◌/◌, ◌%◌, ◌^◌, ◌<◌, ◌≤◌, bit_or, arith, ap, sym, subst, ◌∙◌}
 use Rattle.std.proofs.Math.Nat.{div-one, div-eq_of_lt, mod-eq_of_lt, add-mul-mod_self_left}
-use Rattle.std.proofs.lemmas.Nat.{shl_whole, or_shifted, or_comm, mul-add-lt, pow-add, shr_high, shr_split, mod_below, pow_pos, mod-pow-add, field_of}
+use Rattle.std.proofs.lemmas.Nat.{shl_whole, or_shifted, or_comm, mul-add-lt, pow-add, shr_high, shr_split, mod_below, pow_pos, mod-pow-add}
+use Rattle.std.proofs.lemmas.Nat.{field_of}
 use Rattle.natural_index.specs.Index.{field_at}
 
 -- a field is put above a number that ends below it
-pub joined : (n place f width : ℕ) → n < 2 ^ place → f < 2 ^ width → width + place ≤ 64 → bit_or n (f * 2 ^ place % 2 ^ 64) ≡ n + 2 ^ place * f
+pub joined : (n place f width : ℕ) → n < 2 ^ place → f < 2 ^ width → width + place ≤ 64
+    → bit_or n (f * 2 ^ place % 2 ^ 64) ≡ n + 2 ^ place * f
 joined n place f width low high room =
     let sum : f * 2 ^ place + n ≡ n + 2 ^ place * f = grind arith in
     ap (bit_or n) (shl_whole f width place 64 high room) ∙ (or_comm n (f * 2 ^ place) ∙ (or_shifted f place n low ∙ sum))
@@ -32,7 +34,8 @@ mod-joined n place f low within =
 -- a field below the topmost one
 pub field_at-below : (n above f place width : ℕ) → width + place ≤ above → field_at (n + 2 ^ above * f) place width ≡ field_at n place width
 field_at-below n above f place width within =
-    sym (field_of (n + 2 ^ above * f) width place) ∙ (ap (λ low. low / 2 ^ place) (mod-joined n above f (width + place) within) ∙ field_of n width place)
+    sym (field_of (n + 2 ^ above * f) width place) ∙ (ap (λ low. low / 2 ^ place) (mod-joined n above f (width + place) within)
+    ∙ field_of n width place)
 
 -- the low bits, taken apart at a field's place
 pub mod-fields : (n place width total : ℕ) → width + place ≡ total → n % 2 ^ total ≡ n % 2 ^ place + 2 ^ place * field_at n place width

@@ -1,6 +1,7 @@
--- Natural indexes: the raw numbers that spell them, and what they count.
--- UEFI specification, chapter "EFI Byte Code Virtual Machine", section "Natural Indexing".
-use Rattle.std.specs.Prelude.{◌≡◌, ◌⊎◌, ℕ, ◌+◌, ◌-◌, ◌*◌, ◌/◌, ◌%◌, ◌^◌, ◌<◌, ◌≤◌, Bool, true, false, ◌==◌, nat_le, Option, Some, None, if◌then◌else◌, ℤ, pos, neg_ℤ, ◌+ℤ◌, ◌*ℤ◌}
+-- Meaning: Natural indexes: the raw numbers that spell them, and what they count. UEFI specification, chapter "EFI Byte Code
+-- Virtual Machine", section "Natural Indexing".
+use Rattle.std.specs.Prelude.{◌≡◌, ◌⊎◌, ℕ, ◌+◌, ◌-◌, ◌*◌, ◌/◌, ◌%◌, ◌^◌, ◌<◌, ◌≤◌, Bool, true, false, ◌==◌, nat_le, Option, Some, None}
+use Rattle.std.specs.Prelude.{if◌then◌else◌, ℤ, pos, neg_ℤ, ◌+ℤ◌, ◌*ℤ◌}
 use Rattle.natural_index.specs.declared.Index.{Index}
 
 -- An index has 16, 32 or 64 bits.

@@ -11,7 +11,7 @@ ghost use Rattle.natural_index.specs.Index.{IsIndexSize, HasRoom, IsIndex, IsSpe
 /// In its spelling the sign is the top bit, and the tag the next three bits. The tag times 2, 4
 /// or 8, in 16, 32 or 64 bits, is the width of the field of natural units, the low bits. The bits
 /// between are the field of bytes, or constant units.
-#[derive(Clone, Copy, PartialEq, Eq, Debug)]
+#[derive(Clone, Copy, PartialEq, Eq)]
 pub struct Index {
     /// Whether both counts are negated.
     pub neg: bool,
@@ -194,83 +194,5 @@ impl Index {
         } else {
             (units, bytes)
         }
-    }
-}
-
-#[cfg(test)]
-mod tests {
-    use super::*;
-
-    #[test]
-    fn spells_in_16_bits(rt: HostRuntime) {
-        let index = Index {
-            neg: true,
-            tag: 2,
-            units: 8,
-            bytes: 4,
-        };
-        assert_eq!(rt; read16(0xA048), Some(index));
-        assert!(rt; index.fits(16));
-        assert_eq!(rt; write16(&index), 0xA048);
-        assert_eq!(rt; index.pair(), (-8, -4));
-
-        let minus_zero = Index {
-            neg: true,
-            tag: 0,
-            units: 0,
-            bytes: 0,
-        };
-        assert_eq!(rt; read16(0x8000), Some(minus_zero));
-        assert_eq!(rt; minus_zero.pair(), (0, 0));
-        assert_eq!(rt; read16(0x7000), None);
-    }
-
-    #[test]
-    fn spells_in_32_and_64_bits(rt: HostRuntime) {
-        // 12 natural bits below 16 for the bytes
-        let index = Index {
-            neg: true,
-            tag: 3,
-            units: 0x123,
-            bytes: 0xABCD,
-        };
-        assert_eq!(rt; read32(0xBABC_D123), index);
-        assert!(rt; index.fits(32));
-        assert_eq!(rt; write32(&index), 0xBABC_D123);
-        assert_eq!(rt; index.pair(), (-291, -43981));
-        assert!(rt; !index.fits(16));
-
-        // 40 natural bits below 20 for the bytes
-        let index = Index {
-            neg: false,
-            tag: 5,
-            units: 0x12_3456_789A,
-            bytes: 0xB_CDEF,
-        };
-        assert_eq!(rt; read64(0x5BCD_EF12_3456_789A), index);
-        assert!(rt; index.fits(64));
-        assert_eq!(rt; write64(&index), 0x5BCD_EF12_3456_789A);
-        assert_eq!(rt; index.pair(), (0x12_3456_789A, 0xB_CDEF));
-    }
-
-    #[test]
-    fn takes_the_smallest(rt: HostRuntime) {
-        for (neg, units, bytes, tag, raw) in [
-            (false, 0, 0, 0, 0x0000),
-            (false, 1, 0, 1, 0x1001),
-            (true, 2, 8, 1, 0x9022),
-            (true, 0, 0, 0, 0x8000),
-        ] {
-            let index = Index {
-                neg,
-                tag,
-                units,
-                bytes,
-            };
-            assert_eq!(rt; smallest(16, neg, units, bytes), Some(index));
-            assert!(rt; index.fits(16));
-            assert_eq!(rt; write16(&index), raw);
-        }
-        assert_eq!(rt; smallest(16, false, 4096, 0), None);
     }
 }

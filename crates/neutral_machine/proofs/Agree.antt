@@ -1,5 +1,6 @@
 -- What shows still shows where the bytes agree and where no address is lost.
-use Rattle.std.proofs.Common.{◌≡◌, ℕ, zero, suc, ◌+◌, ◌-◌, ◌*◌, ◌%◌, ◌^◌, ◌<◌, ◌≤◌, ◌⊎◌, Bool, true, false, if◌then◌else◌, nat_eq, List, [], ◌∷◌, Some, refl, sym, ap, ◌∙◌, subst, arith, inl, inr, ⊎_elim, slice_get, mod-eq_of_lt, option_map, pow-suc}
+use Rattle.std.proofs.Common.{◌≡◌, ℕ, zero, suc, ◌+◌, ◌-◌, ◌*◌, ◌%◌, ◌^◌, ◌<◌, ◌≤◌, ◌⊎◌, Bool, true, false, if◌then◌else◌, nat_eq, List, []}
+use Rattle.std.proofs.Common.{◌∷◌, Some, refl, sym, ap, ◌∙◌, subst, arith, inl, inr, ⊎_elim, slice_get, mod-eq_of_lt, option_map, pow-suc}
 use Rattle.std.proofs.lemmas.Option.{same_Some, none-some}
 use Rattle.note_types.specs.declared.cell.Cell.TheVariants as cell
 use Rattle.ebc_width.specs.Bytes.{little_endian, put}
@@ -13,10 +14,11 @@ use Rattle.note_types.specs.declared.cell.SlotKind.{SlotKind}
 use Rattle.note_types.specs.declared.cell.SlotKind.TheVariants.{N, Q, D}
 use Rattle.note_types.specs.declared.shape.Field.{Field}
 use Rattle.note_types.specs.declared.shape.Shape.{Shape}
-use Rattle.run_types.specs.Values.{Anchor, Neutral, Num, At, Handle, Method, Entry, Error, SignedError, Junk, Addresses, Shows, ShowsIn, word, minus}
-use Rattle.run_types.specs.Config.{StackItem, Pushed, LocalsOf, Frame, Function, Host, depth, locals_among, locals_at}
-use Rattle.run_types.specs.Placements.{Placement, slot_bytes, return_cell}
-use Rattle.run_types.specs.Layout.{item_size, height, total, local_among, local_address}
+use Rattle.host_model.specs.Values.{Anchor, Neutral, Num, At, Handle, Method, Entry, Error, SignedError, Junk, Addresses, Shows, ShowsIn}
+use Rattle.host_model.specs.Values.{word, minus}
+use Rattle.neutral_machine.specs.Config.{StackItem, Pushed, LocalsOf, Frame, Function, Host, depth, locals_among, locals_at}
+use Rattle.host_model.specs.Placements.{Placement, slot_bytes, return_cell}
+use Rattle.neutral_machine.specs.Layout.{item_size, height, total, local_among, local_address}
 use Rattle.neutral_machine.specs.Stands.{ItemShows, ItemsShow, ReturnShows, FramesShow}
 use Rattle.neutral_machine.proofs.Numbers.{minus-is}
 
@@ -66,9 +68,12 @@ powers (suc k) =
     let e : 8 * suc k ≡ suc (suc (suc (suc (suc (suc (suc (suc (8 * k)))))))) = omega arith in
     let f : 256 ^ suc k ≡ 256 ^ k * 256 = pow-suc 256 k in
     let g : 2 ^ suc (suc (suc (suc (suc (suc (suc (suc (8 * k)))))))) ≡ 2 ^ (8 * k) * 2 * 2 * 2 * 2 * 2 * 2 * 2 * 2 =
-    pow-suc 2 _ ∙ ap (λ z. z * 2) (pow-suc 2 _ ∙ ap (λ z. z * 2) (pow-suc 2 _ ∙ ap (λ z. z * 2) (pow-suc 2 _ ∙ ap (λ z. z * 2) (pow-suc 2 _ ∙ ap (λ z. z * 2) (pow-suc 2 _ ∙ ap (λ z. z * 2) (pow-suc 2 _ ∙ ap (λ z. z * 2) (pow-suc 2 _))))))) in
+    pow-suc 2 _ ∙ ap (λ z. z * 2) (pow-suc 2 _ ∙ ap (λ z. z * 2)
+    (pow-suc 2 _ ∙ ap (λ z. z * 2) (pow-suc 2 _ ∙ ap (λ z. z * 2)
+    (pow-suc 2 _ ∙ ap (λ z. z * 2) (pow-suc 2 _ ∙ ap (λ z. z * 2) (pow-suc 2 _ ∙ ap (λ z. z * 2) (pow-suc 2 _))))))) in
     let r = powers k in
-    f ∙ ap (λ z. z * 256) r ∙ (let m : 2 ^ (8 * k) * 256 ≡ 2 ^ (8 * k) * 2 * 2 * 2 * 2 * 2 * 2 * 2 * 2 = omega arith in m) ∙ sym g ∙ ap (λ z. 2 ^ z) (sym e)
+    f ∙ ap (λ z. z * 256) r ∙ (let m : 2 ^ (8 * k) * 256 ≡ 2 ^ (8 * k) * 2 * 2 * 2 * 2 * 2 * 2 * 2 * 2 = omega arith in m) ∙ sym g
+    ∙ ap (λ z. 2 ^ z) (sym e)
 
 -- a number that is put is read cut
 pub read_put : (b : ℕ → ℕ) (a k v : ℕ) → little_endian (put b a k v) a k ≡ v % 2 ^ (8 * k)
@@ -93,17 +98,21 @@ module _ (w end : ℕ) (h : IsWidth w) (small : end ≤ 2 ^ 64) where
   low : (n : ℕ) → 0 < n → n ≤ end → minus end n ≡ end - n
   low n p l = minus-is end n p l small
 
-  item_agree : (A : Addresses) (b c : ℕ → ℕ) (x : ℕ) (i : StackItem) → Agree b c x (x + item_size w i) → ItemShows w A b x i → ItemShows w A c x i
-  item_agree A b c x (Pushed kind v) g s = subst (ShowsIn w A (slot_bytes w kind) v) (agree_in b c x _ x (slot_bytes w kind) g (omega arith) (omega arith)) s
+  item_agree : (A : Addresses) (b c : ℕ → ℕ) (x : ℕ) (i : StackItem) → Agree b c x (x + item_size w i) → ItemShows w A b x i
+      → ItemShows w A c x i
+  item_agree A b c x (Pushed kind v) g s = subst (ShowsIn w A (slot_bytes w kind) v)
+      (agree_in b c x _ x (slot_bytes w kind) g (omega arith) (omega arith)) s
   item_agree A b c x (LocalsOf t) g s = tt
 
   -- items show where their bytes agree
-  pub items_agree : (A : Addresses) (b c : ℕ → ℕ) (under : ℕ) (is : List StackItem) → height w is + under ≤ end → Agree b c (end - (height w is + under)) (end - under) → ItemsShow w A b end under is → ItemsShow w A c end under is
+  pub items_agree : (A : Addresses) (b c : ℕ → ℕ) (under : ℕ) (is : List StackItem) → height w is + under ≤ end
+      → Agree b c (end - (height w is + under)) (end - under) → ItemsShow w A b end under is → ItemsShow w A c end under is
   items_agree A b c under [] l g s = tt
   items_agree A b c under (Pushed kind v ∷ is) l g s =
       let p = slot_positive w kind h in
       let e = low (slot_bytes w kind + (height w is + under)) (omega (arith, p)) (omega (arith, l)) in (
-        item_agree A b c (minus end (slot_bytes w kind + (height w is + under))) (Pushed kind v) (narrower b c _ _ _ _ g (omega (arith, e)) (omega (arith, e, l))) s.0,
+        item_agree A b c (minus end (slot_bytes w kind + (height w is + under))) (Pushed kind v)
+            (narrower b c _ _ _ _ g (omega (arith, e)) (omega (arith, e, l))) s.0,
         items_agree A b c under is (omega (arith, l)) (narrower b c _ _ _ _ g (omega (arith, l)) (omega arith)) s.1,
       )
   items_agree A b c under (LocalsOf t ∷ is) l g s =
@@ -116,7 +125,8 @@ module _ (w end : ℕ) (h : IsWidth w) (small : end ≤ 2 ^ 64) where
   }
 
   -- and frames
-  pub frames_agree : (A : Addresses) (P : Placement) (b c : ℕ → ℕ) (fs : List Frame) → total w fs ≤ end → Agree b c (end - total w fs) end → FramesShow w A b end P fs → FramesShow w A c end P fs
+  pub frames_agree : (A : Addresses) (P : Placement) (b c : ℕ → ℕ) (fs : List Frame) → total w fs ≤ end → Agree b c (end - total w fs) end
+      → FramesShow w A b end P fs → FramesShow w A c end P fs
   frames_agree A P b c [] l g s = tt
   frames_agree A P b c (Function f ∷ fs) l g s =
       let e = low (return_cell + total w fs) (omega arith) (omega (arith, l)) in (
@@ -134,11 +144,13 @@ module _ (w end : ℕ) (h : IsWidth w) (small : end ≤ 2 ^ 64) where
   item_more A B b x (LocalsOf t) e s = tt
 
   -- and where no address is lost
-  pub items_more : (A B : Addresses) (b : ℕ → ℕ) (under : ℕ) (is : List StackItem) → Extends A B → ItemsShow w A b end under is → ItemsShow w B b end under is
+  pub items_more : (A B : Addresses) (b : ℕ → ℕ) (under : ℕ) (is : List StackItem) → Extends A B → ItemsShow w A b end under is
+      → ItemsShow w B b end under is
   items_more A B b under [] e s = tt
   items_more A B b under (i ∷ is) e s = (item_more A B b _ i e s.0, items_more A B b under is e s.1)
 
-  pub frames_more : (A B : Addresses) (P : Placement) (b : ℕ → ℕ) (fs : List Frame) → Extends A B → FramesShow w A b end P fs → FramesShow w B b end P fs
+  pub frames_more : (A B : Addresses) (P : Placement) (b : ℕ → ℕ) (fs : List Frame) → Extends A B → FramesShow w A b end P fs
+      → FramesShow w B b end P fs
   frames_more A B P b [] e s = tt
   frames_more A B P b (Function f ∷ fs) e s = (items_more A B b _ f.items e s.0, s.1, frames_more A B P b fs e s.2)
   frames_more A B P b (Host h ∷ fs) e s = (items_more A B b _ h.params e s.0, frames_more A B P b fs e s.1)
@@ -150,15 +162,20 @@ module _ (w end : ℕ) (h : IsWidth w) (small : end ≤ 2 ^ 64) where
     pub above : end - from ≤ x
     pub below : x + k ≤ end - to
 
-  some_field : (under : ℕ) (is : List StackItem) (s : Shape) (f x : ℕ) (z : Field) → FitsAt w s → size_at w s + (height w is + under) ≤ end → local_among w end under (LocalsOf s ∷ is) f ≡ Some x → slice_get s.fields f ≡ Some z → x ≡ end - (size_at w s + (height w is + under)) + start_at w z
+  some_field : (under : ℕ) (is : List StackItem) (s : Shape) (f x : ℕ) (z : Field) → FitsAt w s → size_at w s + (height w is + under) ≤ end
+      → local_among w end under (LocalsOf s ∷ is) f ≡ Some x → slice_get s.fields f ≡ Some z
+      → x ≡ end - (size_at w s + (height w is + under)) + start_at w z
   some_field under is s f x z fit l g k =
       let i = fit.inside f z k in
-      let e = same_Some _ x (sym (ap (option_map (λ (y : Field). word (minus end (size_at w s + (height w is + under)) + start_at w y))) k) ∙ g) in
+      let e = same_Some _ x (sym (ap (option_map (λ (y : Field). word (minus end (size_at w s + (height w is + under)) + start_at w y))) k)
+      ∙ g) in
       let q = cell_positive w z.cell h in
       sym e ∙ ap (λ y. word (y + start_at w z)) (low _ (omega (arith, fit.positive)) l) ∙ mod-eq_of_lt (omega (arith, i, l, small, q))
 
   -- where a local field lies among items
-  pub local_among_within : (under : ℕ) (is : List StackItem) (s : Shape) (f x : ℕ) (z : Field) → height w is + under ≤ end → local_among w end under is f ≡ Some x → locals_among is ≡ Some s → FitsAt w s → slice_get s.fields f ≡ Some z → Within (height w is + under) under x (cell_size w z.cell)
+  pub local_among_within : (under : ℕ) (is : List StackItem) (s : Shape) (f x : ℕ) (z : Field) → height w is + under ≤ end
+      → local_among w end under is f ≡ Some x → locals_among is ≡ Some s → FitsAt w s → slice_get s.fields f ≡ Some z
+      → Within (height w is + under) under x (cell_size w z.cell)
   local_among_within under [] s f x z l g k fit q = absurd (none-some s k)
   local_among_within under (Pushed kind v ∷ is) s f x z l g k fit q =
       let r = local_among_within under is s f x z (omega (arith, l)) g k fit q in
@@ -172,12 +189,18 @@ module _ (w end : ℕ) (h : IsWidth w) (small : end ≤ 2 ^ 64) where
       record { above = omega (arith, r, l); below = omega (arith, r, i, l) }
 
   -- and among frames
-  pub local_within : (fs : List Frame) (d : ℕ) (s : Shape) (f x : ℕ) (z : Field) → total w fs ≤ end → local_address w end fs d f ≡ Some x → locals_at fs d ≡ Some s → FitsAt w s → slice_get s.fields f ≡ Some z → Within (total w fs) 0 x (cell_size w z.cell)
+  pub local_within : (fs : List Frame) (d : ℕ) (s : Shape) (f x : ℕ) (z : Field) → total w fs ≤ end → local_address w end fs d f ≡ Some x
+      → locals_at fs d ≡ Some s → FitsAt w s → slice_get s.fields f ≡ Some z → Within (total w fs) 0 x (cell_size w z.cell)
   local_within [] d s f x z l g k fit q = absurd (none-some s k)
   local_within (Host h ∷ fs) d s f x z l g k fit q =
       let r = local_within fs d s f x z (omega (arith, l)) g k fit q in record { above = omega (arith, r.above, l); below = r.below }
-  local_within (Function p ∷ fs) d s f x z l g k fit q = go (nat_eq d (depth fs)) g k (λ g k. local_within fs d s f x z (omega (arith, l)) g k fit q)
+  local_within (Function p ∷ fs) d s f x z l g k fit q = go (nat_eq d (depth fs)) g k
+      (λ g k. local_within fs d s f x z (omega (arith, l)) g k fit q)
     where
-      go : (t : Bool) → (if t then local_among w end (return_cell + total w fs) p.items f else local_address w end fs d f) ≡ Some x → (if t then locals_among p.items else locals_at fs d) ≡ Some s → (local_address w end fs d f ≡ Some x → locals_at fs d ≡ Some s → Within (total w fs) 0 x (cell_size w z.cell)) → Within (height w p.items + (return_cell + total w fs)) 0 x (cell_size w z.cell)
-      go true g k next = let r = local_among_within (return_cell + total w fs) p.items s f x z l g k fit q in record { above = r.above; below = omega (arith, r.below) }
+      go : (t : Bool) → (if t then local_among w end (return_cell + total w fs) p.items f else local_address w end fs d f) ≡ Some x
+          → (if t then locals_among p.items else locals_at fs d) ≡ Some s
+          → (local_address w end fs d f ≡ Some x → locals_at fs d ≡ Some s → Within (total w fs) 0 x (cell_size w z.cell))
+          → Within (height w p.items + (return_cell + total w fs)) 0 x (cell_size w z.cell)
+      go true g k next = let r = local_among_within (return_cell + total w fs) p.items s f x z l g k fit q in
+          record { above = r.above; below = omega (arith, r.below) }
       go false g k next = let r = next g k in record { above = omega (arith, r.above, l); below = r.below }

@@ -1,58 +1,29 @@
 -- Operations on values show as the machine's on numbers, wherever things are.
-use Rattle.std.proofs.Common.{◌≡◌, ℕ, zero, suc, ◌+◌, ◌-◌, ◌*◌, ◌/◌, ◌%◌, ◌^◌, ◌<◌, ◌≤◌, Bool, true, false, ◌&&◌, if◌then◌else◌, nat_eq, nat_lt, Option, Some, None, Ok, Err, ℤ, pos, negsuc, ◌*ℤ◌, refl, sym, ap, ap₂, ◌∙◌, subst, subst₂, arith, mul_comm}
-use Rattle.std.proofs.Math.Nat.{mod-le}
+use Rattle.std.proofs.Common.{◌≡◌, ℕ, suc, ◌+◌, ◌-◌, ◌*◌, ◌/◌, ◌%◌, ◌^◌, ◌<◌, Bool, true, false, ◌&&◌, if◌then◌else◌, nat_eq}
+use Rattle.std.proofs.Common.{nat_lt, Option, Some, None, Ok, Err, ℤ, pos, negsuc, ◌*ℤ◌, refl, sym, ap, ap₂, ◌∙◌, subst, subst₂, arith}
+use Rattle.std.proofs.Common.{mul_comm}
 use Rattle.std.proofs.lemmas.Bool.{cond_both, false≢true}
-use Rattle.std.proofs.lemmas.Nat.{mul-mod_first, mod_below, pow_pos, and_le_l, or_lt, xor_lt, shr_le}
+use Rattle.std.proofs.lemmas.Nat.{mul-mod_first}
 use Rattle.ebc_insn.specs.declared.ArithOp.TheVariants as ops
 use Rattle.note_types.specs.declared.exception.Exception.TheVariants as raises
 use Rattle.ebc_width.specs.Width.{wrap64}
 use Rattle.ebc_width.proofs.Laws.{wrap64-neg}
 use Rattle.ebc_insn.specs.declared.ArithOp.{ArithOp}
 use Rattle.ebc_machine.specs.Results.{or_divide_error}
-use Rattle.machine_alu.specs.Alu.{bits_of, low, signed, wrap, outcome, divides, divides_by_zero, divide_error, computed}
-use Rattle.run_types.specs.Values.{Neutral, Junk, Addresses, Shows, number, plain}
-use Rattle.run_types.specs.Outcomes.{Gives, Raises}
+use Rattle.ebc_machine.proofs.ResultLaws.{outcome-below, computed-below}
+use Rattle.machine_alu.specs.Alu.{bits_of, low, signed, outcome, divides, divides_by_zero, divide_error, computed}
+use Rattle.host_model.specs.Values.{Neutral, Junk, Addresses, Shows, number, plain}
+use Rattle.neutral_machine.specs.Outcomes.{Gives, Raises}
 use Rattle.neutral_machine.specs.Alike.{Does}
-use Rattle.run_types.specs.Operations.{is_unary, of_table, on_plain, on_one, on_divisor, by_table}
+use Rattle.neutral_machine.specs.Operations.{is_unary, of_table, on_plain, on_one, on_divisor, by_table}
 use Rattle.neutral_machine.proofs.Values.{plain_shows, number_shows}
 
--- ---- results are numbers of 64 bits
+-- ---- results are numbers of as many bits
 
-wrap_below : (bits : ℕ) (z : ℤ) → wrap bits z < 2 ^ bits
-wrap_below bits (pos n) = mod_below n (2 ^ bits) (pow_pos bits)
-wrap_below bits (negsuc n) = let p = pow_pos bits in omega (arith, p)
-
-outcome_below : (bits : ℕ) (op : ArithOp) (x y : ℕ) → x < 2 ^ bits → y < 2 ^ bits → outcome bits op x y < 2 ^ bits
-outcome_below bits ops.Not x y l m = omega (arith, m)
-outcome_below bits ops.Neg x y l m = mod_below _ _ (pow_pos bits)
-outcome_below bits ops.Add x y l m = mod_below _ _ (pow_pos bits)
-outcome_below bits ops.Sub x y l m = mod_below _ _ (pow_pos bits)
-outcome_below bits ops.Mul x y l m = wrap_below bits _
-outcome_below bits ops.Mulu x y l m = mod_below _ _ (pow_pos bits)
-outcome_below bits ops.Div x y l m = wrap_below bits _
-outcome_below bits ops.Divu x y l m = quotient x y l
-  where
-    quotient : (x y : ℕ) → x < 2 ^ bits → x / y < 2 ^ bits
-    quotient x zero l = let p = pow_pos bits in omega (arith, p)
-    quotient x (suc y) l = let r = div_le x (suc y) in omega (arith, r, l)
-      where
-        div_le : (x y : ℕ) → x / y ≤ x
-        div_le x y = omega arith
-outcome_below bits ops.Mod x y l m = wrap_below bits _
-outcome_below bits ops.Modu x y l m = let r = mod-le x y in omega (arith, r, l)
-outcome_below bits ops.And x y l m = let r = and_le_l x y in omega (arith, r, l)
-outcome_below bits ops.Or x y l m = or_lt bits x y l m
-outcome_below bits ops.Xor x y l m = xor_lt bits x y l m
-outcome_below bits ops.Shl x y l m = mod_below _ _ (pow_pos bits)
-outcome_below bits ops.Shr x y l m = let r = shr_le x y in omega (arith, r, l)
-outcome_below bits ops.Ashr x y l m = wrap_below bits _
-outcome_below bits ops.Extb x y l m = wrap_below bits _
-outcome_below bits ops.Extw x y l m = wrap_below bits _
-outcome_below bits ops.Extd x y l m = wrap_below bits _
-
-table_below : (op : ArithOp) (wide : Bool) (x y : ℕ) → outcome (bits_of wide) op (low (bits_of wide) x) (low (bits_of wide) y) < 2 ^ 64
-table_below op true x y = outcome_below 64 op _ _ (omega arith) (omega arith)
-table_below op false x y = let r = outcome_below 32 op (low 32 x) (low 32 y) (omega arith) (omega arith) in omega (arith, r)
+pub table_below : (op : ArithOp) (wide : Bool) (x y : ℕ)
+    → outcome (bits_of wide) op (low (bits_of wide) x) (low (bits_of wide) y) < 2 ^ bits_of wide
+table_below op true x y = outcome-below 64 op _ _ (omega arith) (omega arith)
+table_below op false x y = outcome-below 32 op _ _ (omega arith) (omega arith)
 
 -- ---- signed products
 
@@ -60,12 +31,15 @@ neg_from : (x y k : ℕ) → x + y ≡ k * 2 ^ 64 → x % 2 ^ 64 ≡ (2 ^ 64 - y
 neg_from x y k e = omega (arith, e)
 
 mod_product : (a b : ℕ) → (a % 2 ^ 64 * (b % 2 ^ 64)) % 2 ^ 64 ≡ (a * b) % 2 ^ 64
-mod_product a b = mul-mod_first a (b % 2 ^ 64) (2 ^ 64) ∙ ap (λ z. z % 2 ^ 64) (mul_comm a (b % 2 ^ 64)) ∙ mul-mod_first b a (2 ^ 64) ∙ ap (λ z. z % 2 ^ 64) (mul_comm b a)
+mod_product a b = mul-mod_first a (b % 2 ^ 64) (2 ^ 64) ∙ ap (λ z. z % 2 ^ 64) (mul_comm a (b % 2 ^ 64)) ∙ mul-mod_first b a (2 ^ 64)
+    ∙ ap (λ z. z % 2 ^ 64) (mul_comm b a)
 
 mod_next : (a b : ℕ) → (a % 2 ^ 64 * (b % 2 ^ 64 + 1)) % 2 ^ 64 ≡ (a * suc b) % 2 ^ 64
 mod_next a b =
     let e : (b % 2 ^ 64 + 1) % 2 ^ 64 ≡ suc b % 2 ^ 64 = omega arith in
-    mul-mod_first a (b % 2 ^ 64 + 1) (2 ^ 64) ∙ ap (λ z. z % 2 ^ 64) (mul_comm a (b % 2 ^ 64 + 1)) ∙ sym (mul-mod_first (b % 2 ^ 64 + 1) a (2 ^ 64)) ∙ ap (λ z. (z * a) % 2 ^ 64) e ∙ mul-mod_first (suc b) a (2 ^ 64) ∙ ap (λ z. z % 2 ^ 64) (mul_comm (suc b) a)
+    mul-mod_first a (b % 2 ^ 64 + 1) (2 ^ 64) ∙ ap (λ z. z % 2 ^ 64) (mul_comm a (b % 2 ^ 64 + 1))
+    ∙ sym (mul-mod_first (b % 2 ^ 64 + 1) a (2 ^ 64)) ∙ ap (λ z. (z * a) % 2 ^ 64) e ∙ mul-mod_first (suc b) a (2 ^ 64)
+    ∙ ap (λ z. z % 2 ^ 64) (mul_comm (suc b) a)
 
 -- a number times one that is less by the modulus
 against : (a b : ℕ) → a % 2 ^ 64 * (2 ^ 64 - 1 - b % 2 ^ 64) + a % 2 ^ 64 * (b % 2 ^ 64 + 1) ≡ a % 2 ^ 64 * 2 ^ 64
@@ -79,9 +53,13 @@ against a b =
 wrap_product : (m n : ℤ) → wrap64 (m *ℤ n) ≡ (wrap64 m * wrap64 n) % 2 ^ 64
 wrap_product (pos a) (pos b) = sym (mod_product a b)
 wrap_product (pos a) (negsuc b) =
-    wrap64-neg (pos (a * suc b)) ∙ ap (λ z. (2 ^ 64 - z) % 2 ^ 64) (sym (mod_next a b)) ∙ sym (neg_from (a % 2 ^ 64 * (2 ^ 64 - 1 - b % 2 ^ 64)) (a % 2 ^ 64 * (b % 2 ^ 64 + 1)) (a % 2 ^ 64) (against a b))
+    wrap64-neg (pos (a * suc b)) ∙ ap (λ z. (2 ^ 64 - z) % 2 ^ 64) (sym (mod_next a b))
+    ∙ sym (neg_from (a % 2 ^ 64 * (2 ^ 64 - 1 - b % 2 ^ 64)) (a % 2 ^ 64 * (b % 2 ^ 64 + 1)) (a % 2 ^ 64) (against a b))
 wrap_product (negsuc a) (pos b) =
-    wrap64-neg (pos (suc a * b)) ∙ ap (λ z. (2 ^ 64 - z % 2 ^ 64) % 2 ^ 64) (mul_comm (suc a) b) ∙ ap (λ z. (2 ^ 64 - z) % 2 ^ 64) (sym (mod_next b a)) ∙ sym (neg_from (b % 2 ^ 64 * (2 ^ 64 - 1 - a % 2 ^ 64)) (b % 2 ^ 64 * (a % 2 ^ 64 + 1)) (b % 2 ^ 64) (against b a)) ∙ ap (λ z. z % 2 ^ 64) (mul_comm (b % 2 ^ 64) (2 ^ 64 - 1 - a % 2 ^ 64))
+    wrap64-neg (pos (suc a * b)) ∙ ap (λ z. (2 ^ 64 - z % 2 ^ 64) % 2 ^ 64) (mul_comm (suc a) b)
+    ∙ ap (λ z. (2 ^ 64 - z) % 2 ^ 64) (sym (mod_next b a)) ∙ sym
+    (neg_from (b % 2 ^ 64 * (2 ^ 64 - 1 - a % 2 ^ 64)) (b % 2 ^ 64 * (a % 2 ^ 64 + 1)) (b % 2 ^ 64) (against b a))
+    ∙ ap (λ z. z % 2 ^ 64) (mul_comm (b % 2 ^ 64) (2 ^ 64 - 1 - a % 2 ^ 64))
 wrap_product (negsuc a) (negsuc b) =
     let x = 2 ^ 64 - 1 - a % 2 ^ 64 in
     let y = 2 ^ 64 - 1 - b % 2 ^ 64 in
@@ -89,12 +67,15 @@ wrap_product (negsuc a) (negsuc b) =
   where
     both : (p q x y j k : ℕ) → x + p ≡ j * 2 ^ 64 → y + q ≡ k * 2 ^ 64 → (x * y) % 2 ^ 64 ≡ (p * q) % 2 ^ 64
     both p q x y j k e f =
-        let e1 : x * y + p * y ≡ j * y * 2 ^ 64 = (let z : x * y + p * y ≡ (x + p) * y = omega arith in z) ∙ ap (λ z. z * y) e ∙ (let z : j * 2 ^ 64 * y ≡ j * y * 2 ^ 64 = omega arith in z) in
-        let e2 : p * q + p * y ≡ p * k * 2 ^ 64 = (let z : p * q + p * y ≡ p * (y + q) = omega arith in z) ∙ ap (λ z. p * z) f ∙ (let z : p * (k * 2 ^ 64) ≡ p * k * 2 ^ 64 = omega arith in z) in
+        let e1 : x * y + p * y ≡ j * y * 2 ^ 64 = (let z : x * y + p * y ≡ (x + p) * y = omega arith in z) ∙ ap (λ z. z * y) e
+        ∙ (let z : j * 2 ^ 64 * y ≡ j * y * 2 ^ 64 = omega arith in z) in
+        let e2 : p * q + p * y ≡ p * k * 2 ^ 64 = (let z : p * q + p * y ≡ p * (y + q) = omega arith in z) ∙ ap (λ z. p * z) f
+        ∙ (let z : p * (k * 2 ^ 64) ≡ p * k * 2 ^ 64 = omega arith in z) in
         neg_from (x * y) (p * y) (j * y) e1 ∙ sym (neg_from (p * q) (p * y) (p * k) e2)
 
 unsigned : (x : ℕ) → x < 2 ^ 64 → wrap64 (signed 64 x) ≡ x
-unsigned x l = cond_both (nat_lt (low 64 x) (2 ^ 63)) (pos (low 64 x)) (negsuc (2 ^ 64 - 1 - low 64 x)) (λ z. wrap64 z ≡ x) (λ e. omega (arith, l)) (λ e. omega (arith, l))
+unsigned x l = cond_both (nat_lt (low 64 x) (2 ^ 63)) (pos (low 64 x)) (negsuc (2 ^ 64 - 1 - low 64 x)) (λ z. wrap64 z ≡ x)
+    (λ e. omega (arith, l)) (λ e. omega (arith, l))
 
 pub signed_product : (x y : ℕ) → x < 2 ^ 64 → y < 2 ^ 64 → outcome 64 ops.Mul x y ≡ (x * y) % 2 ^ 64
 signed_product x y l m = wrap_product (signed 64 x) (signed 64 y) ∙ ap₂ (λ a b. (a * b) % 2 ^ 64) (unsigned x l) (unsigned y m)
@@ -113,25 +94,35 @@ module _ (w : ℕ) (A : Addresses) where
   number_word x l = (l, number_shows w A x l)
 
   -- where nothing is divided by 0 the table gives a number
-  pub gives : (op : ArithOp) (wide : Bool) (x y : ℕ) → divides_by_zero op wide y ≡ false → computed op wide x y ≡ Ok (outcome (bits_of wide) op (low (bits_of wide) x) (low (bits_of wide) y))
+  pub gives : (op : ArithOp) (wide : Bool) (x y : ℕ) → divides_by_zero op wide y ≡ false
+      → computed op wide x y ≡ Ok (outcome (bits_of wide) op (low (bits_of wide) x) (low (bits_of wide) y))
   unfolding computed
   gives op wide x y e = rw e refl
 
-  plain_does : (op : ArithOp) (wide : Bool) (v u : Neutral) (x y : ℕ) (c d : Option ℕ) → divides_by_zero op wide y ≡ false → Word v x → Word u y → plain v ≡ c → plain u ≡ d → Does Word (on_plain op wide c d) (or_divide_error (computed op wide x y))
+  small : (op : ArithOp) (wide : Bool) (x y : ℕ) → divides_by_zero op wide y ≡ false
+      → outcome (bits_of wide) op (low (bits_of wide) x) (low (bits_of wide) y) < 2 ^ 64
+  small op wide x y e = computed-below op wide x y _ (gives op wide x y e)
+
+  plain_does : (op : ArithOp) (wide : Bool) (v u : Neutral) (x y : ℕ) (c d : Option ℕ) → divides_by_zero op wide y ≡ false → Word v x
+      → Word u y → plain v ≡ c → plain u ≡ d → Does Word (on_plain op wide c d) (or_divide_error (computed op wide x y))
   plain_does op wide v u x y (Some c) (Some d) n p q e f =
       let ex = plain_shows w A v x c p.1 e in
       let ey = plain_shows w A u y d q.1 f in
       subst₂ (λ i j. Does Word (of_table (computed op wide i j)) (or_divide_error (computed op wide x y))) ex ey
-      (subst (λ z. Does Word (of_table z) (or_divide_error z)) (sym (gives op wide x y n)) (number_word _ (table_below op wide x y)))
-  plain_does op wide v u x y None d n p q e f = subst (λ z. Does Word (Gives Junk) (or_divide_error z)) (sym (gives op wide x y n)) (junk_word _ (table_below op wide x y))
-  plain_does op wide v u x y (Some c) None n p q e f = subst (λ z. Does Word (Gives Junk) (or_divide_error z)) (sym (gives op wide x y n)) (junk_word _ (table_below op wide x y))
+      (subst (λ z. Does Word (of_table z) (or_divide_error z)) (sym (gives op wide x y n)) (number_word _ (small op wide x y n)))
+  plain_does op wide v u x y None d n p q e f = subst (λ z. Does Word (Gives Junk) (or_divide_error z)) (sym (gives op wide x y n))
+      (junk_word _ (small op wide x y n))
+  plain_does op wide v u x y (Some c) None n p q e f = subst (λ z. Does Word (Gives Junk) (or_divide_error z)) (sym (gives op wide x y n))
+      (junk_word _ (small op wide x y n))
 
   -- no division is no division by 0
   no_divisor : (op : ArithOp) (wide : Bool) (y : ℕ) → divides op ≡ false → divides_by_zero op wide y ≡ false
   no_divisor op wide y e = ap (λ b. b && nat_eq (low (bits_of wide) y) 0) e
 
   -- an operation on operand 2 doesn't look at operand 1
-  unary_same : (op : ArithOp) (wide : Bool) (x y : ℕ) → is_unary op ≡ true → outcome (bits_of wide) op (low (bits_of wide) 0) (low (bits_of wide) y) ≡ outcome (bits_of wide) op (low (bits_of wide) x) (low (bits_of wide) y)
+  unary_same : (op : ArithOp) (wide : Bool) (x y : ℕ) → is_unary op ≡ true
+      → outcome (bits_of wide) op (low (bits_of wide) 0) (low (bits_of wide) y) ≡ outcome (bits_of wide) op (low (bits_of wide) x)
+      (low (bits_of wide) y)
   unary_same ops.Not wide x y e = refl
   unary_same ops.Neg wide x y e = refl
   unary_same ops.Extb wide x y e = refl
@@ -139,28 +130,40 @@ module _ (w : ℕ) (A : Addresses) where
   unary_same ops.Extd wide x y e = refl
   unary_same _ wide x y e = absurd (false≢true e)
 
-  one_does : (op : ArithOp) (wide : Bool) (u : Neutral) (x y : ℕ) (d : Option ℕ) → divides op ≡ false → is_unary op ≡ true → Word u y → plain u ≡ d → Does Word (on_one op wide d) (or_divide_error (computed op wide x y))
+  one_does : (op : ArithOp) (wide : Bool) (u : Neutral) (x y : ℕ) (d : Option ℕ) → divides op ≡ false → is_unary op ≡ true → Word u y
+      → plain u ≡ d → Does Word (on_one op wide d) (or_divide_error (computed op wide x y))
   one_does op wide u x y (Some d) n e q f =
       let ey = plain_shows w A u y d q.1 f in
       subst (λ j. Does Word (of_table (computed op wide 0 j)) (or_divide_error (computed op wide x y))) ey
-      (subst₂ (λ i z. Does Word (of_table i) (or_divide_error z)) (sym (gives op wide 0 y (no_divisor op wide y n) ∙ ap Ok (unary_same op wide x y e))) (sym (gives op wide x y (no_divisor op wide y n))) (number_word _ (table_below op wide x y)))
-  one_does op wide u x y None n e q f = subst (λ z. Does Word (Gives Junk) (or_divide_error z)) (sym (gives op wide x y (no_divisor op wide y n))) (junk_word _ (table_below op wide x y))
+      (subst₂ (λ i z. Does Word (of_table i) (or_divide_error z))
+      (sym (gives op wide 0 y (no_divisor op wide y n) ∙ ap Ok (unary_same op wide x y e)))
+      (sym (gives op wide x y (no_divisor op wide y n))) (number_word _ (small op wide x y (no_divisor op wide y n))))
+  one_does op wide u x y None n e q f = subst (λ z. Does Word (Gives Junk) (or_divide_error z))
+      (sym (gives op wide x y (no_divisor op wide y n))) (junk_word _ (small op wide x y (no_divisor op wide y n)))
 
-  divisor_does : (op : ArithOp) (wide : Bool) (v u : Neutral) (x y : ℕ) (c d : Option ℕ) → Word v x → Word u y → plain v ≡ c → plain u ≡ d → Does Word (on_divisor op wide c d) (or_divide_error (computed op wide x y))
+  divisor_does : (op : ArithOp) (wide : Bool) (v u : Neutral) (x y : ℕ) (c d : Option ℕ) → Word v x → Word u y → plain v ≡ c → plain u ≡ d
+      → Does Word (on_divisor op wide c d) (or_divide_error (computed op wide x y))
   unfolding computed
   divisor_does op wide v u x y c None p q e f = tt
   divisor_does op wide v u x y c (Some d) p q e f =
       let ey = plain_shows w A u y d q.1 f in
-      subst (λ j. Does Word (if divides_by_zero op wide j then Raises raises.DivideError else on_plain op wide c (Some j)) (or_divide_error (computed op wide x y))) ey (go (divides_by_zero op wide y) refl (f ∙ ap Some (sym ey)))
+      subst (λ j. Does Word (if divides_by_zero op wide j then Raises raises.DivideError else on_plain op wide c (Some j))
+      (or_divide_error (computed op wide x y))) ey (go (divides_by_zero op wide y) refl (f ∙ ap Some (sym ey)))
     where
-      go : (t : Bool) → divides_by_zero op wide y ≡ t → plain u ≡ Some y → Does Word (if t then Raises raises.DivideError else on_plain op wide c (Some y)) (or_divide_error (if t then Err divide_error else Ok (outcome (bits_of wide) op (low (bits_of wide) x) (low (bits_of wide) y))))
+      go : (t : Bool) → divides_by_zero op wide y ≡ t → plain u ≡ Some y
+          → Does Word (if t then Raises raises.DivideError else on_plain op wide c (Some y))
+          (or_divide_error (if t then Err divide_error else Ok (outcome (bits_of wide) op (low (bits_of wide) x) (low (bits_of wide) y))))
       go true t g = refl
-      go false t g = subst (λ z. Does Word (on_plain op wide c (Some y)) (or_divide_error z)) (gives op wide x y t) (plain_does op wide v u x y c (Some y) t p q e g)
+      go false t g = subst (λ z. Does Word (on_plain op wide c (Some y)) (or_divide_error z)) (gives op wide x y t)
+          (plain_does op wide v u x y c (Some y) t p q e g)
 
-  pub table_does : (op : ArithOp) (wide : Bool) (v u : Neutral) (x y : ℕ) → Word v x → Word u y → Does Word (by_table op wide v u) (or_divide_error (computed op wide x y))
+  pub table_does : (op : ArithOp) (wide : Bool) (v u : Neutral) (x y : ℕ) → Word v x → Word u y
+      → Does Word (by_table op wide v u) (or_divide_error (computed op wide x y))
   table_does op wide v u x y p q = go (divides op) refl (is_unary op) refl
     where
-      go : (s : Bool) → divides op ≡ s → (t : Bool) → is_unary op ≡ t → Does Word (if s then on_divisor op wide (plain v) (plain u) else (if t then on_one op wide (plain u) else on_plain op wide (plain v) (plain u))) (or_divide_error (computed op wide x y))
+      go : (s : Bool) → divides op ≡ s → (t : Bool) → is_unary op ≡ t
+          → Does Word (if s then on_divisor op wide (plain v) (plain u)
+          else (if t then on_one op wide (plain u) else on_plain op wide (plain v) (plain u))) (or_divide_error (computed op wide x y))
       go true e t f = divisor_does op wide v u x y (plain v) (plain u) p q refl refl
       go false e true f = one_does op wide u x y (plain u) e f q refl
       go false e false f = plain_does op wide v u x y (plain v) (plain u) (no_divisor op wide y e) p q refl refl

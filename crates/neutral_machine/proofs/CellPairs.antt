@@ -2,12 +2,12 @@
 use Rattle.std.proofs.Common.{◌≡◌, ◌+◌, ◌≤◌, ◌⊎◌, ℕ, Bool, true, false, nat_eq, refl, ap₂}
 use Rattle.std.proofs.lemmas.Bool.{eqb-true, and_parts, false≢true}
 use Rattle.note_types.specs.Cells.{cell_size}
-use Rattle.run_types.specs.Values.{CellPlace, FieldOf, FieldOfLocals, same_cell_place}
+use Rattle.host_model.specs.Values.{CellPlace, FieldOf, FieldOfLocals, same_cell_place}
 use Rattle.neutral_machine.specs.Laws.{CellsApart}
 use Rattle.neutral_machine.proofs.Cells.{cells_off}
 
 -- the test of two places answers true only for one
-one_place : (p q : CellPlace) → same_cell_place p q ≡ true → p ≡ q
+pub one_place : (p q : CellPlace) → same_cell_place p q ≡ true → p ≡ q
 one_place (FieldOf k i f) (FieldOf l j g) e =
     let a = and_parts (nat_eq k l) _ e in
     let b = and_parts (nat_eq i j) _ a.1 in

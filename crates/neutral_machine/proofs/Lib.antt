@@ -1,4 +1,3 @@
-pub mod Lists
 pub mod Numbers
 pub mod Placed
 pub mod Agree
@@ -18,3 +17,18 @@ pub mod Compared
 pub mod Thunks
 pub mod RowWorld
 pub mod InsnRows
+pub mod CellTakes
+pub mod Driver
+pub mod DriverRows
+pub mod LentRows
+pub mod LocationRows
+pub mod NamedThings
+pub mod Words
+pub mod PlacedObjects
+pub mod Ranges
+pub mod ReadingAlike
+pub mod Turns
+pub mod WrittenFits
+pub mod WrittenShows
+pub mod Filling
+pub mod Keeping

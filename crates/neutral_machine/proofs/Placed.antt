@@ -1,6 +1,7 @@
 -- Where typed objects lie: each made one inside a placed object, apart from all others, from the stack, from thunk cells and
 -- from code.
-use Rattle.std.proofs.Common.{◌≡◌, ◌≢◌, ℕ, zero, suc, ◌+◌, ◌-◌, ◌*◌, ◌^◌, ◌<◌, ◌≤◌, ◌⊎◌, true, List, [], ◌∷◌, length, map, take, flat_map, Option, Some, None, refl, sym, ap, ap₂, ◌∙◌, subst, subst₂, arith, inl, inr, ⊎_elim, slice_get, le_refl, mul-le-mul, option_map}
+use Rattle.std.proofs.Common.{◌≡◌, ◌≢◌, ℕ, zero, suc, ◌+◌, ◌-◌, ◌*◌, ◌^◌, ◌<◌, ◌≤◌, ◌⊎◌, true, List, [], ◌∷◌, length, map, flat_map, Some}
+use Rattle.std.proofs.Common.{refl, sym, ap, ap₂, ◌∙◌, subst, subst₂, arith, inl, inr, ⊎_elim, slice_get, le_refl, mul-le-mul}
 use Rattle.std.proofs.lemmas.Bool.{lt-ltb, le-ltb, cases_lt, cases_order}
 use Rattle.std.proofs.lemmas.Option.{same_Some, slice_get-map, slice_get_within, get_or_from_slice_get, slice_get-get_or, none-some}
 use Rattle.std.specs.Option.{option_map_or}
@@ -16,43 +17,40 @@ use Rattle.note_types.specs.declared.notes.Static.{Static}
 use Rattle.note_types.specs.declared.script.Script.{Script}
 use Rattle.note_types.specs.declared.script.ScriptObject.{ScriptObject}
 use Rattle.note_types.specs.declared.script.ScriptCall.{ScriptCall}
-use Rattle.run_types.specs.World.{World}
-use Rattle.run_types.specs.declared.object.TypedObject.{TypedObject}
-use Rattle.run_types.specs.Objects.{no_shape, static_object, script_object, placed_objects, made_objects, shape_of}
-use Rattle.run_types.specs.Placements.{object_bytes, object_at, Placement, IsWithin, IsPlacement, area_bytes, stack_bytes, placed_ranges, script_ranges, object_address}
+use Rattle.host_model.specs.World.{World}
+use Rattle.host_model.specs.declared.object.TypedObject.{TypedObject}
+use Rattle.host_model.specs.Objects.{no_shape, static_object, script_object, placed_objects, made_objects, shape_of}
+use Rattle.host_model.specs.Placements.{object_bytes, object_at, Placement, IsWithin, IsPlacement, area_bytes, stack_bytes, placed_ranges}
+use Rattle.host_model.specs.Placements.{script_ranges, object_address}
 use Rattle.note_types.specs.Concrete.{AreDisjoint}
-use Rattle.neutral_machine.specs.WorldFits.{WorldFits, PlacesApart}
-use Rattle.neutral_machine.proofs.Lists.{slice_get-append_left, slice_get-append_right, All_at, AllPairs_at}
+use Rattle.neutral_machine.specs.WorldFits.{WorldFits}
+use Rattle.ebc_base.proofs.Lists.{slice_get-append_left, slice_get-append_right, All_at, AllPairs_at, flat_map-taken, within_some, take-all}
+use Rattle.ebc_base.proofs.Lists.{length-map}
+use Rattle.ebc_base.proofs.Given.{some_of_map}
+use Rattle.rules_image.specs.Images.{AreApart}
 
 -- ---- the objects that a script brings
 
-flat_map-taken : {X Y : Type 0} (f : X → List Y) (n : ℕ) (xs : List X) (j : ℕ) (y : Y) → slice_get (flat_map f (take n xs)) j ≡ Some y → slice_get (flat_map f xs) j ≡ Some y
-flat_map-taken f zero xs j y h = absurd (none-some y h)
-flat_map-taken f (suc n) [] j y h = h
-flat_map-taken f (suc n) (x ∷ xs) j y h = ⊎_elim
-    (λ l. slice_get-append_left (f x) (flat_map f xs) j l ∙ sym (slice_get-append_left (f x) (flat_map f (take n xs)) j l) ∙ h)
-    (λ l. slice_get-append_right (f x) (flat_map f xs) j l ∙ flat_map-taken f n xs (j - length (f x)) y (sym (slice_get-append_right (f x) (flat_map f (take n xs)) j l) ∙ h))
-    (cases_lt j (length (f x)))
-
-take-all : {X : Type 0} (xs : List X) → take (length xs) xs ≡ xs
-take-all [] = refl
-take-all (x ∷ xs) = ap (λ z. x ∷ z) (take-all xs)
-
 -- what is brought by some time is brought in all
-pub placed_in_all : (script : Script) (n j : ℕ) (o : ScriptObject) → slice_get (placed_objects script n) j ≡ Some o → slice_get (placed_objects script (length script.call)) j ≡ Some o
+pub placed_in_all : (script : Script) (n j : ℕ) (o : ScriptObject) → slice_get (placed_objects script n) j ≡ Some o
+    → slice_get (placed_objects script (length script.call)) j ≡ Some o
 unfolding placed_objects
 placed_in_all script n j o h = ⊎_elim
     (λ l. slice_get-append_left script.object _ j l ∙ sym (slice_get-append_left script.object _ j l) ∙ h)
     (λ l. slice_get-append_right script.object _ j l
     ∙ subst (λ cs. slice_get (flat_map (λ (c : ScriptCall). c.make) cs) (j - length script.object) ≡ Some o) (sym (take-all script.call))
-    (flat_map-taken (λ (c : ScriptCall). c.make) n script.call (j - length script.object) o (sym (slice_get-append_right script.object _ j l) ∙ h)))
+    (flat_map-taken (λ (c : ScriptCall). c.make) n script.call (j - length script.object) o
+    (sym (slice_get-append_right script.object _ j l) ∙ h)))
     (cases_lt j (length script.object))
 
-script_ranges_at : (w : ℕ) (notes : Notes) (os : List ScriptObject) (bs : List ℕ) (j b : ℕ) (o : ScriptObject) → slice_get os j ≡ Some o → slice_get bs j ≡ Some b → slice_get (script_ranges w notes os bs) j ≡ Some (record { base = b; size = object_bytes w notes (script_object o) })
+pub script_ranges_at : (w : ℕ) (notes : Notes) (os : List ScriptObject) (bs : List ℕ) (j b : ℕ) (o : ScriptObject) → slice_get os j ≡ Some o
+    → slice_get bs j ≡ Some b → slice_get (script_ranges w notes os bs) j ≡ Some
+    (record { base = b; size = object_bytes w notes (script_object o) })
 unfolding script_ranges
 script_ranges_at w notes [] bs j b o h g = absurd (none-some o h)
 script_ranges_at w notes (p ∷ os) [] j b o h g = absurd (none-some b g)
-script_ranges_at w notes (p ∷ os) (c ∷ bs) zero b o h g = ap₂ (λ c (p : ScriptObject). Some (record { base = c; size = object_bytes w notes (script_object p) })) (same_Some c b g) (same_Some p o h)
+script_ranges_at w notes (p ∷ os) (c ∷ bs) zero b o h g = ap₂ (λ c (p : ScriptObject). Some
+    (record { base = c; size = object_bytes w notes (script_object p) })) (same_Some c b g) (same_Some p o h)
 script_ranges_at w notes (p ∷ os) (c ∷ bs) (suc j) b o h g = script_ranges_at w notes os bs j b o h g
 
 mul-positive : (a b : ℕ) → 1 ≤ a → 1 ≤ b → 0 < a * b
@@ -67,11 +65,30 @@ pub record OfStatic (world : World) (P : Placement) (k base : ℕ) (o : TypedObj
   pub is : static_object static ≡ o
   pub base_is : base ≡ P.image + static.place
 
+-- what an object takes at a width, and at width 8
+pub bytes_le : (w : ℕ) (notes : Notes) (o : TypedObject) → IsWidth w → object_bytes w notes o ≤ object_bytes 8 notes o
+bytes_le w notes o h = by_width (λ v. object_bytes v notes o ≤ object_bytes 8 notes o) w h
+    (mul-le-mul (le_refl o.count) (let e : (shape_of notes o.shape).n * 4 + (shape_of notes o.shape).c ≤
+    (shape_of notes o.shape).n * 8 + (shape_of notes o.shape).c = omega arith in e)) (le_refl _)
+
+-- a static lies in the image
+pub static_in : (w : ℕ) (world : World) (P : Placement) (k base : ℕ) (o : TypedObject) → IsWidth w
+    → ((s : Static) → slice_get world.notes.statics k ≡ Some s
+    → s.place + object_bytes 8 world.notes (static_object s) ≤ world.image_size)
+    → OfStatic world P k base o → (P.image ≤ base) × (base + object_bytes w world.notes o ≤ P.image + world.image_size)
+static_in w world P k base o h within s =
+    let inside : s.static.place + object_bytes 8 world.notes o ≤ world.image_size =
+    subst (λ (p : TypedObject). s.static.place + object_bytes 8 world.notes p ≤ world.image_size) s.is (within s.static s.there) in
+    let least : object_bytes w world.notes o ≤ object_bytes 8 world.notes o = bytes_le w world.notes o h in
+    (omega (arith, s.base_is), omega (arith, s.base_is, inside, least))
+
 -- an object that the script brings, by itself
 pub record OfScript (w : ℕ) (world : World) (P : Placement) (n k base : ℕ) (o : TypedObject) : Type 0 where
   pub later : length world.notes.statics ≤ k
-  pub now : slice_get (placed_ranges w world P n) (suc (suc (suc (k - length world.notes.statics)))) ≡ Some (record { base = base; size = object_bytes w world.notes o })
-  pub ever : slice_get (placed_ranges w world P (length world.script.call)) (suc (suc (suc (k - length world.notes.statics)))) ≡ Some (record { base = base; size = object_bytes w world.notes o })
+  pub now : slice_get (placed_ranges w world P n) (suc (suc (suc (k - length world.notes.statics)))) ≡ Some
+      (record { base = base; size = object_bytes w world.notes o })
+  pub ever : slice_get (placed_ranges w world P (length world.script.call)) (suc (suc (suc (k - length world.notes.statics)))) ≡ Some
+      (record { base = base; size = object_bytes w world.notes o })
 
 -- a typed object is somewhere
 pub record Lies (w : ℕ) (world : World) (P : Placement) (n k : ℕ) (o : TypedObject) : Type 0 where
@@ -79,35 +96,25 @@ pub record Lies (w : ℕ) (world : World) (P : Placement) (n k : ℕ) (o : Typed
   pub address : object_address world.notes P k ≡ Some base
   pub kind : OfStatic world P k base o ⊎ OfScript w world P n k base o
 
-pub some_of_map : {X Y : Type 0} (f : X → Y) (o : Option X) (y : Y) → option_map f o ≡ Some y → (x : X) × (o ≡ Some x) × (f x ≡ y)
-some_of_map f None y h = absurd (none-some y h)
-some_of_map f (Some x) y h = (x, refl, same_Some (f x) y h)
-
-within_some : {X : Type 0} (xs : List X) (k : ℕ) → k < length xs → (x : X) × (slice_get xs k ≡ Some x)
-within_some [] k h = absurd (omega arith)
-within_some (x ∷ xs) zero h = (x, refl)
-within_some (x ∷ xs) (suc k) h = within_some xs k (omega arith)
-
-map_length : {X Y : Type 0} (f : X → Y) (xs : List X) → length (map f xs) ≡ length xs
-map_length f [] = refl
-map_length f (x ∷ xs) = ap suc (map_length f xs)
-
 module _ (w : ℕ) (world : World) (P : Placement) (h : IsWidth w) (ok : WorldFits world) (pl : IsPlacement w world P) where
   abbrev S : ℕ
   S = length world.notes.statics
 
   -- the addresses of static objects and of the script's objects
-  pub static_address : (k : ℕ) (s : Static) → slice_get world.notes.statics k ≡ Some s → object_address world.notes P k ≡ Some (P.image + s.place)
+  pub static_address : (k : ℕ) (s : Static) → slice_get world.notes.statics k ≡ Some s
+      → object_address world.notes P k ≡ Some (P.image + s.place)
   unfolding object_at
   static_address k s g =
       let l = slice_get_within world.notes.statics k s g in
-      rw (lt-ltb k (S + length P.objects) (omega (arith, l))) (rw (lt-ltb k S l) (ap (λ z. Some (P.image + option_map_or (λ (s : Static). s.place) z 0)) g))
+      rw (lt-ltb k (S + length P.objects) (omega (arith, l))) (rw (lt-ltb k S l)
+      (ap (λ z. Some (P.image + option_map_or (λ (s : Static). s.place) z 0)) g))
 
   pub script_address : (k b : ℕ) → S ≤ k → slice_get P.objects (k - S) ≡ Some b → object_address world.notes P k ≡ Some b
   unfolding object_at
   script_address k b l g =
       let m = slice_get_within P.objects (k - S) b g in
-      rw (lt-ltb k (S + length P.objects) (omega (arith, l, m))) (rw (le-ltb k S l) (ap Some (get_or_from_slice_get P.objects (k - S) b _ g)))
+      rw (lt-ltb k (S + length P.objects) (omega (arith, l, m)))
+      (rw (le-ltb k S l) (ap Some (get_or_from_slice_get P.objects (k - S) b _ g)))
 
   lies_static : (n k : ℕ) (o : TypedObject) → k < S → slice_get (map static_object world.notes.statics) k ≡ Some o → Lies w world P n k o
   lies_static n k o l g =
@@ -118,10 +125,12 @@ module _ (w : ℕ) (world : World) (P : Placement) (h : IsWidth w) (ok : WorldFi
         kind = inl (record { static = s.0; there = s.1; is = s.2; base_is = refl });
       }
 
-  lies_script : (n k : ℕ) (o : TypedObject) → S ≤ k → slice_get (map script_object (placed_objects world.script n)) (k - S) ≡ Some o → Lies w world P n k o
+  lies_script : (n k : ℕ) (o : TypedObject) → S ≤ k → slice_get (map script_object (placed_objects world.script n)) (k - S) ≡ Some o
+      → Lies w world P n k o
   unfolding placed_ranges
   lies_script n k o l g =
-      let s = some_of_map script_object (slice_get (placed_objects world.script n) (k - S)) o (sym (slice_get-map script_object (placed_objects world.script n) (k - S)) ∙ g) in
+      let s = some_of_map script_object (slice_get (placed_objects world.script n) (k - S)) o
+      (sym (slice_get-map script_object (placed_objects world.script n) (k - S)) ∙ g) in
       let all = placed_in_all world.script n (k - S) s.0 s.1 in
       let few : k - S < length P.objects = subst (λ z. k - S < z) (sym pl.each) (slice_get_within _ (k - S) s.0 all) in
       let b = within_some P.objects (k - S) few in
@@ -130,18 +139,25 @@ module _ (w : ℕ) (world : World) (P : Placement) (h : IsWidth w) (ok : WorldFi
         address = script_address k b.0 l b.1;
         kind = inr (record {
           later = l;
-          now = subst (λ (p : TypedObject). slice_get (script_ranges w world.notes (placed_objects world.script n) P.objects) (k - S) ≡ Some (record { base = b.0; size = object_bytes w world.notes p })) s.2 (script_ranges_at w world.notes (placed_objects world.script n) P.objects (k - S) b.0 s.0 s.1 b.1);
-          ever = subst (λ (p : TypedObject). slice_get (script_ranges w world.notes (placed_objects world.script (length world.script.call)) P.objects) (k - S) ≡ Some (record { base = b.0; size = object_bytes w world.notes p })) s.2 (script_ranges_at w world.notes _ P.objects (k - S) b.0 s.0 all b.1);
+          now = subst (λ (p : TypedObject). slice_get (script_ranges w world.notes (placed_objects world.script n) P.objects) (k - S) ≡ Some
+              (record { base = b.0; size = object_bytes w world.notes p })) s.2
+              (script_ranges_at w world.notes (placed_objects world.script n) P.objects (k - S) b.0 s.0 s.1 b.1);
+          ever = subst (λ (p : TypedObject). slice_get (script_ranges w world.notes
+              (placed_objects world.script (length world.script.call)) P.objects) (k - S) ≡ Some
+              (record { base = b.0; size = object_bytes w world.notes p })) s.2
+              (script_ranges_at w world.notes _ P.objects (k - S) b.0 s.0 all b.1);
         });
       }
 
   pub lies : (n k : ℕ) (o : TypedObject) → slice_get (made_objects world.notes world.script n) k ≡ Some o → Lies w world P n k o
   unfolding made_objects
   lies n k o g =
-      let e = map_length static_object world.notes.statics in
+      let e = length-map static_object world.notes.statics in
       ⊎_elim
-      (λ l. lies_static n k o l (sym (slice_get-append_left (map static_object world.notes.statics) _ k (subst (λ z. k < z) (sym e) l)) ∙ g))
-      (λ l. lies_script n k o l (subst (λ z. slice_get (map script_object (placed_objects world.script n)) (k - z) ≡ Some o) e (sym (slice_get-append_right (map static_object world.notes.statics) _ k (subst (λ z. z ≤ k) (sym e) l)) ∙ g)))
+      (λ l. lies_static n k o l (sym (slice_get-append_left (map static_object world.notes.statics) _ k (subst (λ z. k < z) (sym e) l))
+      ∙ g))
+      (λ l. lies_script n k o l (subst (λ z. slice_get (map script_object (placed_objects world.script n)) (k - z) ≡ Some o) e
+      (sym (slice_get-append_right (map static_object world.notes.statics) _ k (subst (λ z. z ≤ k) (sym e) l)) ∙ g)))
       (cases_lt k S)
 
   -- ---- the ranges of all that a run may have
@@ -169,81 +185,89 @@ module _ (w : ℕ) (world : World) (P : Placement) (h : IsWidth w) (ok : WorldFi
   pub stack_within : IsWithin w (record { base = P.stack; size = stack_bytes w world.notes })
   stack_within = All_at (IsWithin w) All_ranges 1 _ pl.within stack_at
 
-  -- what an object takes at this width, and at width 8
-  extent_le : (o : TypedObject) → object_bytes w world.notes o ≤ object_bytes 8 world.notes o
-  extent_le o = by_width (λ v. object_bytes v world.notes o ≤ object_bytes 8 world.notes o) w h
-      (mul-le-mul (le_refl o.count) (let e : (shape_of world.notes o.shape).n * 4 + (shape_of world.notes o.shape).c ≤ (shape_of world.notes o.shape).n * 8 + (shape_of world.notes o.shape).c = omega arith in e)) (le_refl _)
-
-  -- a static lies in the image
-  static_in : (k base : ℕ) (o : TypedObject) → OfStatic world P k base o → (P.image ≤ base) × (base + object_bytes w world.notes o ≤ P.image + world.image_size)
-  static_in k base o s =
-      let inside : s.static.place + object_bytes 8 world.notes o ≤ world.image_size = subst (λ (p : TypedObject). s.static.place + object_bytes 8 world.notes p ≤ world.image_size) s.is (ok.statics_inside k s.static s.there) in
-      (omega (arith, s.base_is), omega (arith, s.base_is, inside, extent_le o))
-
   -- ---- objects are off the rest
 
   -- two ranges share no byte, by their numbers
   abbrev pub Off : ℕ → ℕ → ℕ → ℕ → Type 0
   Off a n b m = (a + n ≤ b) ⊎ (b + m ≤ a)
 
-  pub off_stack : (n k : ℕ) (o : TypedObject) (l : Lies w world P n k o) → Off P.stack (stack_bytes w world.notes) l.base (object_bytes w world.notes o)
+  pub off_stack : (n k : ℕ) (o : TypedObject) (l : Lies w world P n k o)
+      → Off P.stack (stack_bytes w world.notes) l.base (object_bytes w world.notes o)
   off_stack n k o l = ⊎_elim
-      (λ s. let i = static_in k l.base o s in ⊎_elim (λ x. inl (omega (arith, x, i.0))) (λ x. inr (omega (arith, x, i.1))) image_off_stack)
+      (λ s. let i = static_in w world P k l.base o h (ok.statics_inside k) s in
+      ⊎_elim (λ x. inl (omega (arith, x, i.0))) (λ x. inr (omega (arith, x, i.1))) image_off_stack)
       (λ s. AllPairs_at AreDisjoint All_ranges 1 (suc (suc (suc (k - S)))) _ _ pl.apart stack_at s.ever (omega arith))
       l.kind
 
   pub object_within : (n k : ℕ) (o : TypedObject) (l : Lies w world P n k o) → l.base + object_bytes w world.notes o ≤ 2 ^ (8 * w)
   object_within n k o l = ⊎_elim
-      (λ s. let i = static_in k l.base o s in omega (arith, i.1, image_within.below))
+      (λ s. let i = static_in w world P k l.base o h (ok.statics_inside k) s in omega (arith, i.1, image_within.below))
       (λ s. (All_at (IsWithin w) All_ranges (suc (suc (suc (k - S)))) _ pl.within s.ever).below)
       l.kind
 
   -- a range of places of the image that a script's object doesn't meet
-  off_image : (n k base : ℕ) (o : TypedObject) → OfScript w world P n k base o → Off P.image world.image_size base (object_bytes w world.notes o)
+  off_image : (n k base : ℕ) (o : TypedObject) → OfScript w world P n k base o
+      → Off P.image world.image_size base (object_bytes w world.notes o)
   off_image n k base o s = AllPairs_at AreDisjoint All_ranges 2 (suc (suc (suc (k - S)))) _ _ pl.apart image_at s.ever (omega arith)
 
   -- two objects are off each other
-  pub objects_off : (n k m : ℕ) (o p : TypedObject) (l : Lies w world P n k o) (r : Lies w world P n m p) → k ≢ m → Off l.base (object_bytes w world.notes o) r.base (object_bytes w world.notes p)
+  pub objects_off : (n k m : ℕ) (o p : TypedObject) (l : Lies w world P n k o) (r : Lies w world P n m p) → k ≢ m
+      → Off l.base (object_bytes w world.notes o) r.base (object_bytes w world.notes p)
   objects_off n k m o p l r ne = ⊎_elim
       (λ s. ⊎_elim
       (λ t. statics s t)
-      (λ t. let i = static_in k l.base o s in ⊎_elim (λ x. inl (omega (arith, x, i.1))) (λ x. inr (omega (arith, x, i.0))) (off_image n m r.base p t))
+      (λ t. let i = static_in w world P k l.base o h (ok.statics_inside k) s in
+      ⊎_elim (λ x. inl (omega (arith, x, i.1))) (λ x. inr (omega (arith, x, i.0)))
+      (off_image n m r.base p t))
       r.kind)
       (λ s. ⊎_elim
-      (λ t. let i = static_in m r.base p t in ⊎_elim (λ x. inr (omega (arith, x, i.1))) (λ x. inl (omega (arith, x, i.0))) (off_image n k l.base o s))
+      (λ t. let i = static_in w world P m r.base p h (ok.statics_inside m) t in
+      ⊎_elim (λ x. inr (omega (arith, x, i.1))) (λ x. inl (omega (arith, x, i.0)))
+      (off_image n k l.base o s))
       (λ t. ⊎_elim
       (λ e. absurd (ne e))
       (λ d. ⊎_elim
-      (λ x. AllPairs_at AreDisjoint All_ranges (suc (suc (suc (k - S)))) (suc (suc (suc (m - S)))) _ _ pl.apart s.ever t.ever (omega (arith, x, s.later, t.later)))
-      (λ x. ⊎_elim inr inl (AllPairs_at AreDisjoint All_ranges (suc (suc (suc (m - S)))) (suc (suc (suc (k - S)))) _ _ pl.apart t.ever s.ever (omega (arith, x, s.later, t.later))))
+      (λ x. AllPairs_at AreDisjoint All_ranges (suc (suc (suc (k - S)))) (suc (suc (suc (m - S)))) _ _ pl.apart s.ever t.ever
+      (omega (arith, x, s.later, t.later)))
+      (λ x. ⊎_elim inr inl (AllPairs_at AreDisjoint All_ranges (suc (suc (suc (m - S))))
+      (suc (suc (suc (k - S)))) _ _ pl.apart t.ever s.ever (omega (arith, x, s.later, t.later))))
       d)
       (cases_order k m))
       r.kind)
       l.kind
     where
-      statics : OfStatic world P k l.base o → OfStatic world P m r.base p → Off l.base (object_bytes w world.notes o) r.base (object_bytes w world.notes p)
+      statics : OfStatic world P k l.base o → OfStatic world P m r.base p
+          → Off l.base (object_bytes w world.notes o) r.base (object_bytes w world.notes p)
       statics s t =
           let d = ok.statics_apart k m s.static t.static s.there t.there ne in
-          let d2 : PlacesApart s.static.place (object_bytes 8 world.notes o) t.static.place (object_bytes 8 world.notes p) =
-          subst₂ (λ (x y : TypedObject). PlacesApart s.static.place (object_bytes 8 world.notes x) t.static.place (object_bytes 8 world.notes y)) s.is t.is d in
-          ⊎_elim (λ x. inl (omega (arith, x, extent_le o, s.base_is, t.base_is))) (λ x. inr (omega (arith, x, extent_le p, s.base_is, t.base_is))) d2
+          let d2 : AreApart s.static.place (object_bytes 8 world.notes o) t.static.place (object_bytes 8 world.notes p) =
+          subst₂ (λ (x y : TypedObject). AreApart s.static.place (object_bytes 8 world.notes x) t.static.place
+          (object_bytes 8 world.notes y)) s.is t.is d in
+          ⊎_elim (λ x. inl (omega (arith, x, bytes_le w world.notes o h, s.base_is, t.base_is)))
+          (λ x. inr (omega (arith, x, bytes_le w world.notes p h, s.base_is, t.base_is))) d2
 
   -- an object is off a range of the image that statics don't meet
-  off_places : (n k q z : ℕ) (o : TypedObject) (l : Lies w world P n k o) → q + z ≤ world.image_size → ((s : Static) → slice_get world.notes.statics k ≡ Some s → static_object s ≡ o → PlacesApart s.place (object_bytes 8 world.notes o) q z) → Off (P.image + q) z l.base (object_bytes w world.notes o)
+  off_places : (n k q z : ℕ) (o : TypedObject) (l : Lies w world P n k o) → q + z ≤ world.image_size
+      → ((s : Static) → slice_get world.notes.statics k ≡ Some s → static_object s ≡ o
+      → AreApart s.place (object_bytes 8 world.notes o) q z) → Off (P.image + q) z l.base (object_bytes w world.notes o)
   off_places n k q z o l inside f = ⊎_elim
-      (λ s. ⊎_elim (λ x. inr (omega (arith, x, extent_le o, s.base_is))) (λ x. inl (omega (arith, x, s.base_is))) (f s.static s.there s.is))
+      (λ s. ⊎_elim (λ x. inr (omega (arith, x, bytes_le w world.notes o h, s.base_is)))
+      (λ x. inl (omega (arith, x, s.base_is))) (f s.static s.there s.is))
       (λ s. ⊎_elim (λ x. inl (omega (arith, x, inside))) (λ x. inr (omega (arith, x, inside))) (off_image n k l.base o s))
       l.kind
 
-  pub off_thunk : (n k i : ℕ) (o : TypedObject) (t : Thunk) (l : Lies w world P n k o) → slice_get world.notes.thunk i ≡ Some t → Off (P.image + t.place) 8 l.base (object_bytes w world.notes o)
+  pub off_thunk : (n k i : ℕ) (o : TypedObject) (t : Thunk) (l : Lies w world P n k o) → slice_get world.notes.thunk i ≡ Some t
+      → Off (P.image + t.place) 8 l.base (object_bytes w world.notes o)
   off_thunk n k i o t l g = off_places n k t.place 8 o l (ok.thunks_inside i t g)
-      (λ s u e. subst (λ (x : TypedObject). PlacesApart s.place (object_bytes 8 world.notes x) t.place 8) e (ok.statics_thunks k i s t u g))
+      (λ s u e. subst (λ (x : TypedObject). AreApart s.place (object_bytes 8 world.notes x) t.place 8) e (ok.statics_thunks k i s t u g))
 
-  pub off_code : (n k j : ℕ) (o : TypedObject) (f : FnNote) (l : Lies w world P n k o) → slice_get world.notes.function j ≡ Some f → Off (P.image + f.place) (f.end - f.place) l.base (object_bytes w world.notes o)
+  pub off_code : (n k j : ℕ) (o : TypedObject) (f : FnNote) (l : Lies w world P n k o) → slice_get world.notes.function j ≡ Some f
+      → Off (P.image + f.place) (f.end - f.place) l.base (object_bytes w world.notes o)
   off_code n k j o f l g =
       let c = ok.code_inside j f g in
       off_places n k f.place (f.end - f.place) o l (omega (arith, c.0, c.1))
-      (λ s u e. ⊎_elim (λ x. inr (omega (arith, x, c.0))) (λ x. inl (subst (λ (y : TypedObject). s.place + object_bytes 8 world.notes y ≤ f.place) e x)) (ok.code_statics j k f s g u))
+      (λ s u e. ⊎_elim (λ x. inr (omega (arith, x, c.0))) (λ x. inl
+      (subst (λ (y : TypedObject). s.place + object_bytes 8 world.notes y ≤ f.place) e x)) (ok.code_statics j k f s g u))
 
   -- ---- what objects hold
 
@@ -258,26 +282,31 @@ module _ (w : ℕ) (world : World) (P : Placement) (h : IsWidth w) (ok : WorldFi
   unfolding placed_ranges
   image_holds n a k x y = covered (placed_ranges w world P n) 2 a k (record { base = P.image; size = world.image_size }) refl x y
 
-  pub object_holds : (n k : ℕ) (o : TypedObject) (l : Lies w world P n k o) (a m : ℕ) → l.base ≤ a → a + m ≤ l.base + object_bytes w world.notes o → holds (placed_ranges w world P n) a m ≡ true
+  pub object_holds : (n k : ℕ) (o : TypedObject) (l : Lies w world P n k o) (a m : ℕ) → l.base ≤ a
+      → a + m ≤ l.base + object_bytes w world.notes o → holds (placed_ranges w world P n) a m ≡ true
   object_holds n k o l a m x y = ⊎_elim
-      (λ s. let i = static_in k l.base o s in image_holds n a m (omega (arith, i.0, x)) (omega (arith, i.1, y)))
+      (λ s. let i = static_in w world P k l.base o h (ok.statics_inside k) s in
+      image_holds n a m (omega (arith, i.0, x)) (omega (arith, i.1, y)))
       (λ s. covered (placed_ranges w world P n) (suc (suc (suc (k - S)))) a m _ s.now x y)
       l.kind
 
   -- an object has bytes, and so doesn't begin at 0
-  object_some : (n k : ℕ) (o : TypedObject) → slice_get (made_objects world.notes world.script n) k ≡ Some o → 0 < object_bytes w world.notes o
+  object_some : (n k : ℕ) (o : TypedObject) → slice_get (made_objects world.notes world.script n) k ≡ Some o
+      → 0 < object_bytes w world.notes o
   object_some n k o g =
       let c = ok.objects n k o g in
       let f = ok.shapes o.shape _ (slice_get-get_or world.notes.shape o.shape no_shape c.0) in
-      let p : 0 < size_at w (shape_of world.notes o.shape) = (by_width (λ v. FitsAt v (shape_of world.notes o.shape)) w h f.at4 f.at8).positive in
+      let p : 0 < size_at w (shape_of world.notes o.shape) = (by_width
+      (λ v. FitsAt v (shape_of world.notes o.shape)) w h f.at4 f.at8).positive in
       mul-positive o.count (size_at w (shape_of world.notes o.shape)) c.1 (omega (arith, p))
 
   starts_above : (r : Range) → IsWithin w r → 0 < r.size → 0 < r.base
   starts_above r i l = ⊎_elim (λ p. p) (λ e. absurd (omega (arith, e, l))) i.above
 
-  pub object_positive : (n k : ℕ) (o : TypedObject) (l : Lies w world P n k o) → slice_get (made_objects world.notes world.script n) k ≡ Some o → 0 < l.base
+  pub object_positive : (n k : ℕ) (o : TypedObject) (l : Lies w world P n k o)
+      → slice_get (made_objects world.notes world.script n) k ≡ Some o → 0 < l.base
   object_positive n k o l g = ⊎_elim
-      (λ s. let i = static_in k l.base o s in
+      (λ s. let i = static_in w world P k l.base o h (ok.statics_inside k) s in
       let b = starts_above _ image_within (omega (arith, i.0, i.1, object_some n k o g)) in omega (arith, i.0, b))
       (λ s. starts_above _ (All_at (IsWithin w) All_ranges (suc (suc (suc (k - S)))) _ pl.within s.ever) (object_some n k o g))
       l.kind

@@ -9,22 +9,42 @@ use Rattle.note_types.specs.declared.ending.Ending.TheVariants.{Running}
 use Rattle.note_types.specs.declared.notes.Notes.{Notes}
 use Rattle.note_types.specs.declared.spot.Spot.TheVariants.{Place, Gate}
 use Rattle.note_types.specs.declared.types.Ty.TheVariants as ty
-use Rattle.run_types.specs.Config.{Config, Registers, StackItem, Frame, Function, Host, Pushed, with_value}
-use Rattle.run_types.specs.Memory.{with_cell}
-use Rattle.run_types.specs.Placements.{Placement, placed_ranges}
-use Rattle.run_types.specs.Progress.{NoCall, script_start}
-use Rattle.run_types.specs.Values.{At, Num, Entry, Error, ObjectOf, ThunkOf, FieldOf, FieldOfLocals, number, null, error_at}
-use Rattle.run_types.specs.World.{World}
+use Rattle.neutral_machine.specs.Config.{Config, Registers, StackItem, Frame, Function, Host, Pushed, with_value}
+use Rattle.neutral_machine.specs.Memory.{with_cell}
+use Rattle.host_model.specs.Placements.{Placement, placed_ranges}
+use Rattle.host_model.specs.Progress.{NoCall, script_start}
+use Rattle.host_model.specs.Values.{At, Num, Entry, Error, ObjectOf, ThunkOf, FieldOf, FieldOfLocals, number, null, error_at}
+use Rattle.host_model.specs.World.{World}
 use Rattle.note_types.specs.declared.shape.Shape.{Shape}
 
 -- ---- the program
 
 -- a natural number and two of 32 bits; locals: a status and a number of 32 bits; a pointer of 64 bits to the first shape
 abbrev pub block : Shape
-block = record { name = []; n = 1; c = 8; fields = record { name = []; n = 0; c = 0; cell = cell.N } ∷ record { name = []; n = 1; c = 0; cell = cell.I32 } ∷ record { name = []; n = 1; c = 4; cell = cell.I32 } ∷ [] }
+block = record {
+  name = [];
+  n = 1;
+  c = 8;
+  fields = record { name = []; n = 0; c = 0; cell = cell.N } ∷ record {
+    name = [];
+    n = 1;
+    c = 0;
+    cell = cell.I32;
+  } ∷ record { name = []; n = 1; c = 4; cell = cell.I32 } ∷ [];
+}
 
 abbrev pub own_locals : Shape
-own_locals = record { name = []; n = 1; c = 4; fields = record { name = []; n = 0; c = 0; cell = cell.Stat } ∷ record { name = []; n = 1; c = 0; cell = cell.I32 } ∷ [] }
+own_locals = record {
+  name = [];
+  n = 1;
+  c = 4;
+  fields = record { name = []; n = 0; c = 0; cell = cell.Stat } ∷ record {
+    name = [];
+    n = 1;
+    c = 0;
+    cell = cell.I32;
+  } ∷ [];
+}
 
 abbrev pub link : Shape
 link = record { name = []; n = 0; c = 8; fields = record { name = []; n = 0; c = 0; cell = cell.P64 0 1 false } ∷ [] }
@@ -36,9 +56,28 @@ row_notes = record {
   shape = block ∷ own_locals ∷ link ∷ [];
   statics = record { place = 0x40; shape = 0; count = 2 } ∷ record { place = 0x60; shape = 2; count = 1 } ∷ [];
   thunk = record { place = 0x68; function = 1 } ∷ [];
-  function =
-      record { name = []; place = 0; «end» = 0x20; level = 1; need = record { n = 1; c = 40 }; locals = Some 1; params = []; result = ty.Any; enter = false }
-      ∷ record { name = []; place = 0x20; «end» = 0x30; level = 0; need = record { n = 0; c = 0 }; locals = None; params = record { kind = Q; ty = ty.Any } ∷ []; result = ty.Any; enter = true }
+  function = record {
+    name = [];
+    place = 0;
+    «end» = 0x20;
+    level = 1;
+    need = record { n = 1; c = 40 };
+    locals = Some 1;
+    params = [];
+    result = ty.Any;
+    enter = false;
+  }
+      ∷ record {
+        name = [];
+        place = 0x20;
+        «end» = 0x30;
+        level = 0;
+        need = record { n = 0; c = 0 };
+        locals = None;
+        params = record { kind = Q; ty = ty.Any } ∷ [];
+        result = ty.Any;
+        enter = true;
+      }
       ∷ [];
   point = [];
   signature = [];
@@ -58,11 +97,13 @@ row_placement = record { native = 0x1000; stack = 0x10000; image = 0x20000; obje
 
 -- ---- a configuration
 
--- R1 is the start of the first static object, R2 a natural unit and 4 bytes, R3 an error, R4 seven, R5 the start of the second one, R6 the thunk of
+-- R1 is the start of the first static object, R2 a natural unit and 4 bytes, R3 an error, R4 seven, R5 the start of the second
+-- one, R6 the thunk of
 -- function 1, R7 the thunk cell
 abbrev pub row_registers : Registers
 row_registers =
-    with_value (with_value (with_value (with_value (with_value (with_value (with_value (λ r. null) 1 (At (ObjectOf 0) 0 0)) 2 (Num 1 4)) 3 (Error 5)) 4 (number 7)) 5 (At (ObjectOf 1) 0 0)) 6 (Entry 1)) 7
+    with_value (with_value (with_value (with_value (with_value (with_value (with_value (λ r. null) 1 (At (ObjectOf 0) 0 0)) 2 (Num 1 4)) 3
+    (Error 5)) 4 (number 7)) 5 (At (ObjectOf 1) 0 0)) 6 (Entry 1)) 7
     (At (ThunkOf 0) 0 0)
 
 -- function 0 stands in the frame that the host entered, with a slot of 64 bits; of the static objects two fields, the one
@@ -75,7 +116,8 @@ config_with items = record {
   registers = row_registers;
   c = false;
   spot = Place 4;
-  cells = with_cell (with_cell (with_cell (with_cell (λ p. Some null) (FieldOf 0 0 0) (number 6)) (FieldOf 0 1 1) (number 11)) (FieldOf 1 0 0) (At (ObjectOf 0) 0 0)) (FieldOfLocals 0 1) (number 21);
+  cells = with_cell (with_cell (with_cell (with_cell (λ p. Some null) (FieldOf 0 0 0) (number 6)) (FieldOf 0 1 1) (number 11))
+      (FieldOf 1 0 0) (At (ObjectOf 0) 0 0)) (FieldOfLocals 0 1) (number 21);
   made = 0;
   frames = Function (record { func = 0; ret = 0; saved = λ r. null; items = items }) ∷ below ∷ [];
   script = script_start;

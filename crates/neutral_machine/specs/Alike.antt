@@ -1,15 +1,16 @@
--- How what a machine does at a width is like what the neutral machine does. docs/SIMULATION.md, "What the laws say".
+-- For proofs: how what a machine does at a width is like what the neutral machine does. docs/SIMULATION.md, "What the laws
+-- say".
 use Rattle.std.specs.Prelude.{◌≡◌, ℕ, Some, None, Result, Ok, Err, ⊤}
 use Rattle.ebc_machine.specs.declared.StepEnd.{StepEnd}
 use Rattle.ebc_machine.specs.declared.StepEnd.TheVariants as ends
 use Rattle.note_types.specs.Concrete.{Concrete}
 use Rattle.note_types.specs.declared.exception.Exception.{Exception}
-use Rattle.run_types.specs.Config.{Config}
-use Rattle.run_types.specs.Layout.{addresses}
-use Rattle.run_types.specs.Outcomes.{Outcome, Gives, Raises, Stuck}
-use Rattle.run_types.specs.Placements.{Placement, thunk_cell_address}
-use Rattle.run_types.specs.Values.{Shows}
-use Rattle.run_types.specs.World.{World}
+use Rattle.neutral_machine.specs.Config.{Config}
+use Rattle.neutral_machine.specs.Layout.{addresses}
+use Rattle.neutral_machine.specs.Outcomes.{Outcome, Gives, Raises, Stuck}
+use Rattle.host_model.specs.Placements.{Placement, thunk_cell_address}
+use Rattle.host_model.specs.Values.{Shows}
+use Rattle.host_model.specs.World.{World}
 use Rattle.neutral_machine.specs.Rows.{NeutralEnd, Next, Native, MakeThunk}
 use Rattle.neutral_machine.specs.Stands.{MachineStands}
 

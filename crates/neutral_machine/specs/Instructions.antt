@@ -1,4 +1,5 @@
--- The instruction at a spot: the image's, and the machine's, which has a relocated immediate moved to where the image lies.
+-- For proofs: the instruction at a spot: the image's, and the machine's, which has a relocated immediate moved to where the
+-- image lies.
 use Rattle.std.specs.Prelude.{◌≡◌, ℕ, ◌+◌, ◌≤◌, length, Option, Some, None, ℤ, ⊤}
 use Rattle.ebc_insn.specs.declared.Insn.TheVariants as insns
 use Rattle.ebc_insn.specs.declared.Extra.TheVariants as extras
@@ -9,10 +10,10 @@ use Rattle.ebc_insn.specs.declared.Insn.{Insn}
 use Rattle.ebc_insn.specs.declared.Extra.{Extra}
 use Rattle.note_types.specs.Concrete.{Concrete}
 use Rattle.note_types.specs.declared.spot.Spot.TheVariants.{Place}
-use Rattle.run_types.specs.Values.{word}
-use Rattle.run_types.specs.Config.{Config}
-use Rattle.run_types.specs.World.{World}
-use Rattle.run_types.specs.Placements.{Placement}
+use Rattle.host_model.specs.Values.{word}
+use Rattle.neutral_machine.specs.Config.{Config}
+use Rattle.host_model.specs.World.{World}
+use Rattle.host_model.specs.Placements.{Placement}
 use Rattle.neutral_machine.specs.Rows.{Site}
 
 -- the immediate of an instruction that may be relocated: MOVI, or a jump or a call with a number beside R0

@@ -1,6 +1,6 @@
--- The operands of an instruction on neutral values, in the same parts as the machine's: the value of operand 2, and where
--- operand 1 is. UEFI specification, chapter "EFI Byte Code Virtual Machine", sections "EBC Instruction Operands" and "Natural
--- Indexing"; in words in docs/SIMULATION.md, "The neutral machine's rows".
+-- For proofs: the operands of an instruction on neutral values, in the same parts as the machine's: the value of operand 2,
+-- and where operand 1 is. UEFI specification, chapter "EFI Byte Code Virtual Machine", sections "EBC Instruction Operands"
+-- and "Natural Indexing"; in words in docs/SIMULATION.md, "The neutral machine's rows".
 use Rattle.std.specs.Prelude.{ℕ, Bool, Option, Some, None, nat_eq, if◌then◌else◌}
 use Rattle.std.specs.Option.{option_map, option_and_then}
 use Rattle.ebc_width.specs.Width.{wrap64}
@@ -9,13 +9,13 @@ use Rattle.natural_index.specs.declared.Index.{Index}
 use Rattle.ebc_insn.specs.declared.Operand.{Operand}
 use Rattle.ebc_insn.specs.declared.Extra.{Extra}
 use Rattle.ebc_insn.specs.declared.Extra.TheVariants.{Nothing, Imm, Idx}
-use Rattle.run_types.specs.Values.{Neutral, Num, At, Junk, LocalOf, FieldOfLocals}
-use Rattle.run_types.specs.Config.{Config, with_value}
-use Rattle.run_types.specs.World.{World}
-use Rattle.run_types.specs.Memory.{memory_of}
-use Rattle.run_types.specs.Outcomes.{Outcome, Gives, Stuck, or_stuck}
-use Rattle.run_types.specs.Operations.{sum_of}
-use Rattle.run_types.specs.Locations.{Access, Location, CellAt, Offset, kept, located_past, located_on_stack, value_at, stored_at}
+use Rattle.host_model.specs.Values.{Neutral, Num, At, Junk, LocalOf, FieldOfLocals}
+use Rattle.neutral_machine.specs.Config.{Config, with_value}
+use Rattle.host_model.specs.World.{World}
+use Rattle.neutral_machine.specs.Memory.{memory_of}
+use Rattle.neutral_machine.specs.Outcomes.{Outcome, Gives, Stuck, or_stuck}
+use Rattle.neutral_machine.specs.Operations.{sum_of}
+use Rattle.neutral_machine.specs.Locations.{Access, Location, CellAt, Offset, kept, located_past, located_on_stack, value_at, stored_at}
 
 -- an operand with what stands beside it: a register, whether it is the memory there, and a pair
 pub record NeutralSide : Type 0 where
@@ -76,7 +76,8 @@ direct_value world a r beside =
 -- the value in memory at a register and a pair, as an access keeps it
 unfoldable pub loaded_by : World → Config → Access → ℕ → Option Offset → Outcome Neutral
 loaded_by world a access r beside =
-    or_stuck (option_map (kept world.notes (memory_of world a).objects access) (option_and_then (value_at world a access) (located_by world a r beside)))
+    or_stuck (option_map (kept world.notes (memory_of world a).objects access)
+    (option_and_then (value_at world a access) (located_by world a r beside)))
 
 -- the configuration with a value in memory at a register and a pair
 unfoldable pub stored_by : World → Config → Access → ℕ → Option Offset → Neutral → Outcome Config

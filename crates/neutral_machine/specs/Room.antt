@@ -1,4 +1,5 @@
--- How far an instruction makes the stack grow, and that there is room for it. docs/SIMULATION.md, "What the laws say".
+-- For proofs: how far an instruction makes the stack grow, and that there is room for it. docs/SIMULATION.md, "What the laws
+-- say".
 use Rattle.std.specs.Prelude.{ℕ, ◌+◌, ◌≤◌, true, false, List, [], ◌∷◌, Option, Some, None, is_none, nat_eq, not, ◌&&◌, if◌then◌else◌}
 use Rattle.natural_index.specs.declared.Index.{Index}
 use Rattle.ebc_insn.specs.declared.Operand.{Operand}
@@ -6,10 +7,10 @@ use Rattle.ebc_insn.specs.declared.Insn.{Insn}
 use Rattle.ebc_insn.specs.declared.Insn.TheVariants as insns
 use Rattle.note_types.specs.Shapes.{size_at}
 use Rattle.note_types.specs.declared.shape.Shape.{Shape}
-use Rattle.run_types.specs.Config.{Config, Frame, Function, Host, locals_among}
-use Rattle.run_types.specs.Layout.{total}
-use Rattle.run_types.specs.Placements.{slot_bytes, return_cell, stack_bytes}
-use Rattle.run_types.specs.World.{World, frame_locals}
+use Rattle.neutral_machine.specs.Config.{Config, Frame, Function, Host, locals_among}
+use Rattle.neutral_machine.specs.Layout.{total}
+use Rattle.host_model.specs.Placements.{slot_bytes, return_cell, stack_bytes}
+use Rattle.host_model.specs.World.{World, frame_locals}
 use Rattle.neutral_machine.specs.Operands.{plainly}
 use Rattle.neutral_machine.specs.Rows.{is_stack_pointer, form_kind}
 

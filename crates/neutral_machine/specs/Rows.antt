@@ -1,7 +1,8 @@
--- What each form of instruction does on neutral values: a row for each, in the same parts as the machine's rows. UEFI
--- specification, chapter "EFI Byte Code Virtual Machine", section "EBC Instruction Set"; in words in docs/SIMULATION.md,
--- "The neutral machine's rows".
-use Rattle.std.specs.Prelude.{ℕ, ◌+◌, ◌-◌, ◌%◌, Bool, true, false, not, ◌&&◌, ◌||◌, List, [], ◌∷◌, map, Option, Some, None, nat_eq, nat_le, nat_lt, if◌then◌else◌, slice_get, ℤ, pos, ◌*ℤ◌, is_some, is_none}
+-- For proofs: what each form of instruction does on neutral values: a row for each, in the same parts as the machine's rows.
+-- UEFI specification, chapter "EFI Byte Code Virtual Machine", section "EBC Instruction Set"; in words in
+-- docs/SIMULATION.md, "The neutral machine's rows".
+use Rattle.std.specs.Prelude.{ℕ, ◌+◌, ◌-◌, ◌%◌, Bool, true, false, not, ◌&&◌, ◌||◌, List, [], ◌∷◌, map, Option, Some, None, nat_eq, nat_le}
+use Rattle.std.specs.Prelude.{nat_lt, if◌then◌else◌, slice_get, ℤ, pos, ◌*ℤ◌, is_some, is_none}
 use Rattle.std.specs.List.{position}
 use Rattle.std.specs.Option.{option_map, option_map_or, option_or}
 use Rattle.ebc_insn.specs.declared.Insn.TheVariants as insns
@@ -27,16 +28,19 @@ use Rattle.note_types.specs.declared.notes.Static.{Static}
 use Rattle.note_types.specs.declared.notes.Thunk.{Thunk}
 use Rattle.note_types.specs.declared.shape.Shape.{Shape}
 use Rattle.note_types.specs.declared.spot.Spot.TheVariants.{Place, Gate}
-use Rattle.run_types.specs.Values.{ObjectOf, ThunkOf, LocalOf, Neutral, At, Junk, CellPlace, FieldOf, FieldOfLocals, Cells, number, null, pair, plain, word}
-use Rattle.run_types.specs.Config.{StackItem, Pushed, LocalsOf, Registers, FunctionFrame, Frame, Function, Host, Config, depth, locals_among}
-use Rattle.run_types.specs.Progress.{NativeCall, NoCall, Asked, Accepted}
-use Rattle.run_types.specs.World.{World, frame_locals}
-use Rattle.run_types.specs.Memory.{memory_of}
-use Rattle.run_types.specs.Outcomes.{Outcome, Gives, Raises, Stuck, ◌>>=◌, or_stuck, unless_stuck}
-use Rattle.run_types.specs.Operations.{combined, compared_as, kept_natural, extended, sign_extended}
-use Rattle.run_types.specs.NeutralHost.{next_thunk}
-use Rattle.run_types.specs.Locations.{Access, Move, Form, Signed, kept, item_units, item_bytes}
-use Rattle.neutral_machine.specs.Operands.{NeutralSide, plainly, indexed, beside_extra, moved_by, value, direct_value, loaded_by, with_register, written}
+use Rattle.host_model.specs.Values.{ObjectOf, ThunkOf, LocalOf, Neutral, At, Junk, CellPlace, FieldOf, FieldOfLocals, Cells, number, null}
+use Rattle.host_model.specs.Values.{pair, plain, word}
+use Rattle.neutral_machine.specs.Config.{StackItem, Pushed, LocalsOf, Registers, FunctionFrame, Frame, Function, Host, Config, depth}
+use Rattle.neutral_machine.specs.Config.{locals_among}
+use Rattle.host_model.specs.Progress.{NativeCall, NoCall, Asked, Accepted}
+use Rattle.host_model.specs.World.{World, frame_locals}
+use Rattle.neutral_machine.specs.Memory.{memory_of}
+use Rattle.neutral_machine.specs.Outcomes.{Outcome, Gives, Raises, Stuck, ◌>>=◌, or_stuck, unless_stuck}
+use Rattle.neutral_machine.specs.Operations.{combined, compared_as, kept_natural, extended, sign_extended}
+use Rattle.neutral_machine.specs.NeutralHost.{next_thunk}
+use Rattle.neutral_machine.specs.Locations.{Access, Move, Form, Signed, kept, item_units, item_bytes}
+use Rattle.neutral_machine.specs.Operands.{NeutralSide, plainly, indexed, beside_extra, moved_by, value, direct_value, loaded_by}
+use Rattle.neutral_machine.specs.Operands.{with_register, written}
 
 -- ---- results
 
@@ -116,7 +120,11 @@ call_without d (Accepted e n vs) = Accepted e n (map (without_local d) vs)
 
 abbrev pub frame_without : ℕ → Frame → Frame
 frame_without d (Function f) = Function (record f { saved = registers_without d f.saved; items = map (item_without d) f.items })
-frame_without d (Host h) = Host (record h { saved = registers_without d h.saved; params = map (item_without d) h.params; call = call_without d h.call })
+frame_without d (Host h) = Host (record h {
+  saved = registers_without d h.saved;
+  params = map (item_without d) h.params;
+  call = call_without d h.call;
+})
 
 abbrev pub cells_without : ℕ → Cells → Cells
 cells_without d cells p = option_map (without_local d) (cells p)
@@ -147,7 +155,8 @@ abbrev pub dropped : ℕ → ℕ → List StackItem → Option Dropped
 dropped n c [] = if nat_eq n 0 && nat_eq c 0 then Some (record { items = []; locals = false }) else None
 dropped n c (i ∷ is) =
     if nat_eq n 0 && nat_eq c 0 then Some (record { items = i ∷ is; locals = false })
-    else if nat_le (item_units i) n && nat_le (item_bytes i) c then with_one (is_locals i) (dropped (n - item_units i) (c - item_bytes i) is)
+    else if nat_le (item_units i) n && nat_le (item_bytes i) c then
+    with_one (is_locals i) (dropped (n - item_units i) (c - item_bytes i) is)
     else None
 
 -- the configuration with other items in the function frame on top
@@ -156,7 +165,8 @@ with_items a f is fs = record a { frames = Function (record f { items = is }) �
 
 abbrev pub after_drop : Config → FunctionFrame → List Frame → Option Dropped → Outcome Config
 after_drop a f fs None = Stuck
-after_drop a f fs (Some d) = if d.locals then Gives (config_without (depth fs) (with_items a f d.items fs)) else Gives (with_items a f d.items fs)
+after_drop a f fs (Some d) = if d.locals then Gives (config_without (depth fs) (with_items a f d.items fs))
+    else Gives (with_items a f d.items fs)
 
 -- the function's locals upon its items, where they aren't there and a pair is their size
 abbrev pub has_size : ℕ → ℕ → Shape → Bool
@@ -456,7 +466,8 @@ executed world a here (insns.Compare op wide left right extra) = compare_row wor
 executed world a here (insns.CompareImm op wide left idx long imm) = compare_imm_row world a here.next op wide (indexed left idx) imm
 executed world a here (insns.Arith op wide left right extra) = arith_row world a here.next op wide (plainly left) (beside_extra right extra)
 executed world a here (insns.Move size bits left right lidx ridx) = move_or_stack world a here.next size left right lidx ridx
-executed world a here (insns.MoveSigned bits left right lidx extra) = move_signed_row world a here.next (indexed left lidx) (beside_extra right extra)
+executed world a here (insns.MoveSigned bits left right lidx extra) =
+    move_signed_row world a here.next (indexed left lidx) (beside_extra right extra)
 executed world a here (insns.MoveImm size bits left lidx imm) = move_imm_row world a here size (indexed left lidx) imm
 executed world a here (insns.MoveImmNatural bits left lidx idx) = move_imm_natural_row world a here.next (indexed left lidx) idx
 executed world a here (insns.MoveRelative bits left lidx imm) = move_relative_row world a here.next (indexed left lidx) imm

@@ -1,7 +1,8 @@
--- When the state of a run at a width stands for a configuration: under a placement, each number of it is that of the value
--- there. Numbers are taken modulo 2 ^ 64. `mapped` has the bytes of the image at its base, by their places.
+-- For proofs: when the state of a run at a width stands for a configuration: under a placement, each number of it is that of
+-- the value there. Numbers are taken modulo 2 ^ 64. `mapped` has the bytes of the image at its base, by their places.
 -- docs/SIMULATION.md, "When a state stands for a configuration".
-use Rattle.std.specs.Prelude.{◌≡◌, ◌≢◌, ℕ, ◌+◌, ◌-◌, ◌*◌, ◌<◌, ◌≤◌, ◌^◌, List, [], ◌∷◌, length, Option, Some, None, nat_eq, if◌then◌else◌, slice_get, slice_index, ⊤}
+use Rattle.std.specs.Prelude.{◌≡◌, ◌≢◌, ℕ, ◌+◌, ◌-◌, ◌*◌, ◌<◌, ◌≤◌, ◌^◌, List, [], ◌∷◌, length, Option, Some, None, nat_eq, if◌then◌else◌}
+use Rattle.std.specs.Prelude.{slice_get, slice_index, ⊤}
 use Rattle.std.specs.List.{AllZip}
 use Rattle.std.specs.Option.{option_map}
 use Rattle.ebc_width.specs.Bytes.{little_endian}
@@ -15,16 +16,17 @@ use Rattle.note_types.specs.declared.notes.Thunk.{Thunk}
 use Rattle.note_types.specs.declared.shape.Field.{Field}
 use Rattle.note_types.specs.declared.spot.Spot.{Spot}
 use Rattle.note_types.specs.declared.spot.Spot.TheVariants as spot
-use Rattle.run_types.specs.Values.{Neutral, Addresses, CellPlace, FieldOf, FieldOfLocals, Shows, ShowsIn, minus}
-use Rattle.run_types.specs.Config.{StackItem, Pushed, LocalsOf, HostFrame, Frame, Function, Host, Config, locals_among}
-use Rattle.run_types.specs.Progress.{NativeCall, NoCall, Asked, Accepted}
-use Rattle.run_types.specs.RunState.{SavedFrame, RunState}
-use Rattle.run_types.specs.World.{World, frame_locals}
-use Rattle.run_types.specs.Objects.{shape_of, made_objects}
-use Rattle.run_types.specs.declared.object.TypedObject.{TypedObject}
-use Rattle.run_types.specs.Placements.{Placement, image_range, slot_bytes, stack_end, object_address, entry_address, placed_ranges, return_cell}
-use Rattle.run_types.specs.Layout.{item_size, height, total, top_of, local_address, addresses}
-use Rattle.run_types.specs.Memory.{memory_of, cell_field}
+use Rattle.host_model.specs.Values.{Neutral, Addresses, CellPlace, FieldOf, FieldOfLocals, Shows, ShowsIn, minus}
+use Rattle.neutral_machine.specs.Config.{StackItem, Pushed, LocalsOf, HostFrame, Frame, Function, Host, Config, locals_among}
+use Rattle.host_model.specs.Progress.{NativeCall, NoCall, Asked, Accepted}
+use Rattle.host_model.specs.RunState.{SavedFrame, RunState}
+use Rattle.host_model.specs.World.{World, frame_locals}
+use Rattle.host_model.specs.Objects.{shape_of, made_objects}
+use Rattle.host_model.specs.declared.object.TypedObject.{TypedObject}
+use Rattle.host_model.specs.Placements.{Placement, image_range, slot_bytes, stack_end, object_address, entry_address, placed_ranges}
+use Rattle.host_model.specs.Placements.{return_cell}
+use Rattle.neutral_machine.specs.Layout.{item_size, height, total, top_of, local_address, addresses}
+use Rattle.neutral_machine.specs.Memory.{memory_of, cell_field}
 use Rattle.neutral_machine.specs.Rows.{flags_of}
 
 -- where a run stands whose next instruction is at an address, the gate being the native area's base
@@ -92,7 +94,8 @@ in_object w world i z (Some o) base = option_map (field_address w world i z o) b
 
 -- the address of a cell
 abbrev pub cell_address : ℕ → World → Placement → Config → CellPlace → Field → Option ℕ
-cell_address w world P a (FieldOf k i f) z = in_object w world i z (slice_get (made_objects world.notes world.script a.script.entries) k) (object_address world.notes P k)
+cell_address w world P a (FieldOf k i f) z = in_object w world i z (slice_get (made_objects world.notes world.script a.script.entries) k)
+    (object_address world.notes P k)
 cell_address w world P a (FieldOfLocals d f) z = local_address w (stack_end w world.notes P) a.frames d f
 
 -- a value shows in a cell
@@ -129,7 +132,8 @@ CodeStands world P mapped b =
 -- ---- the machine
 
 -- A machine and its memory stand for a configuration, but for a thunk cell that may be left out.
-pub record MachineStands (w : ℕ) (world : World) (P : Placement) (mapped : ℕ → ℕ) (but : Option ℕ) (a : Config) (s : Concrete) : Type 0 where
+pub record MachineStands (w : ℕ) (world : World) (P : Placement) (mapped : ℕ → ℕ) (but : Option ℕ) (a : Config)
+    (s : Concrete) : Type 0 where
   pub eight : length s.registers ≡ 8
   pub words : (r : ℕ) → register s r < 2 ^ 64
   pub small : (x : ℕ) → s.byte x < 256
@@ -172,7 +176,8 @@ HostsShow w world P A [] [] = ⊤
 HostsShow w world P A [] (s ∷ ss) = ⊥
 HostsShow w world P A (Function f ∷ fs) ss = HostsShow w world P A fs ss
 HostsShow w world P A (Host h ∷ fs) [] = ⊥
-HostsShow w world P A (Host h ∷ fs) (s ∷ ss) = HostShows w world P A (top_of w (stack_end w world.notes P) fs) h s × HostsShow w world P A fs ss
+HostsShow w world P A (Host h ∷ fs) (s ∷ ss) = HostShows w world P A (top_of w (stack_end w world.notes P) fs) h s
+    × HostsShow w world P A fs ss
 
 -- A run's state stands for a configuration, but for a thunk cell that may be left out.
 pub record StandsBut (w : ℕ) (world : World) (P : Placement) (mapped : ℕ → ℕ) (but : Option ℕ) (a : Config) (s : RunState) : Type 0 where

@@ -2,15 +2,10 @@
 //! a configuration of it. The definitions stand in specs/, one subject a file; docs/SIMULATION.md says them in words.
 #![tactic(auto)]
 
-ghost use Rattle.neutral_machine.specs.Laws.{CellsApart, ThunkMade};
+mod laws;
 
-/// The law that two typed cells share no byte, at either width, wherever the objects lie.
-pub fn cells_apart()
-    ensures { CellsApart }
-{}
-
-/// The law that the machine stands with one thunk more once the thunk's address is stored in the next cell (UEFI
-/// specification, "BREAK", break code 5).
-pub fn thunk_made()
-    ensures { ThunkMade }
-{}
+pub use laws::{
+    cells_apart, cells_take_what_fits, ranges_lie_as_memory, readings_are_alike,
+    stack_is_within_limit, things_are_named, thunk_made, turn_is_seen, written_number_shows,
+    written_value_fits,
+};

@@ -13,11 +13,13 @@ use Rattle.note_draft.specs.Once.{names_in, numbered}
 use Rattle.note_draft.specs.Repeats.{Numbers, first_repeat}
 
 -- where one of two things is found, what would come after both doesn't matter
-either : {A : Type 0} (b : Bool) (f g : Finding) (x y : A) → (refused Twice (cond b (Some f) (Some g)) >>= λ _. Ok x) ≡ (refused Twice (cond b (Some f) (Some g)) >>= λ _. Ok y)
+either : {A : Type 0} (b : Bool) (f g : Finding) (x y : A) → (refused Twice (cond b (Some f) (Some g)) >>= λ _. Ok x) ≡
+    (refused Twice (cond b (Some f) (Some g)) >>= λ _. Ok y)
 either true f g x y = refl
 either false f g x y = refl
 
-found-first : {A : Type 0} (f : Finding) (other : Option Finding) (x y : A) → (refused Twice (sooner (Some f) other) >>= λ _. Ok x) ≡ (refused Twice (sooner (Some f) other) >>= λ _. Ok y)
+found-first : {A : Type 0} (f : Finding) (other : Option Finding) (x y : A)
+    → (refused Twice (sooner (Some f) other) >>= λ _. Ok x) ≡ (refused Twice (sooner (Some f) other) >>= λ _. Ok y)
 unfolding sooner
 found-first f None x y = refl
 found-first f (Some g) x y = either (nat_le f.item g.item) f g x y
@@ -26,7 +28,8 @@ pub numbered-names : (list : TableList) (names : List (List ℕ)) (n : Numbering
     → numbered list n other ≡ (refused Twice (sooner (at list key.Name (first_repeat bytes_eq names)) other) >>= λ _. Ok names)
 unfolding at
 numbered-names list names (Table table) other numbers = rw (numbers.0, numbers.1) refl
-numbered-names list names (Repeat i) other some = rw some (found-first (record { list = list; item = i; key = key.Name }) other (names_in (Repeat i)) names)
+numbered-names list names (Repeat i) other some = rw some (found-first (record { list = list; item = i; key = key.Name }) other
+    (names_in (Repeat i)) names)
 
 -- nothing else found
 pub sooner-none : (first : Option Finding) → sooner first None ≡ first

@@ -1,5 +1,5 @@
--- What the tables of notes stand for, each by the path before its keys, and what the whole text stands for, things by their
--- names; or the first fault in it, key by key. docs/NOTES.md has it in words.
+-- Meaning: what the tables of notes stand for, each by the path before its keys, and what the whole text stands for, things
+-- by their names; or the first fault in it, key by key. docs/NOTES.md has it in words.
 use Rattle.std.specs.Prelude.{ℕ, ◌+◌, ◌-◌, ◌^◌, Bool, ◌||◌, List, [], ◌∷◌, ◌++◌, length, Result, Ok, codes, nat_lt}
 use Rattle.toml.specs.Data.{Data, Items, no_items, item, Members}
 use Rattle.note_types.specs.declared.fault.TomlFault.{TomlFault}
@@ -8,7 +8,6 @@ use Rattle.ebc_base.specs.Steps.{◌>>=◌, passes}
 use Rattle.note_texts.specs.Keys.{number_at, text_at, optional_text_at, flag_at, pair_at, only_keys, row_prefix}
 use Rattle.note_texts.specs.Lists.{list_at, texts_at, texts_beside_at, table_of, tables_at}
 use Rattle.note_texts.specs.CellTexts.{field_of}
-use Rattle.note_texts.specs.Names.{name_of}
 use Rattle.note_texts.specs.SlotTexts.{item_of, param_of, register_of}
 use Rattle.note_texts.specs.TypeTexts.{type_of}
 use Rattle.note_texts.specs.WantTexts.{result_of, want_param_of}
@@ -25,8 +24,9 @@ use Rattle.note_draft.specs.declared.reading.DataLists.{DataLists}
 use Rattle.note_draft.specs.declared.reading.Extent.{Extent}
 use Rattle.note_draft.specs.declared.reading.Interface.{Interface}
 use Rattle.note_draft.specs.declared.draft.NotesDraft.{NotesDraft}
-use Rattle.ebc_names.specs.Tables.{is_named}
+use Rattle.ebc_base.specs.Tables.{is_named}
 use Rattle.note_draft.specs.Names.{distinct}
+use Rattle.ebc_base.specs.Names.{name_of}
 
 -- the greatest place in an image
 abbrev pub last_place : ℕ
@@ -68,7 +68,9 @@ thunk_of prefix table = do
 
 -- the keys of a table of the list `function`
 abbrev pub function_keys : List (List ℕ)
-function_keys = codes "name" ∷ codes "place" ∷ codes "end" ∷ codes "level" ∷ codes "need" ∷ codes "locals" ∷ codes "params" ∷ codes "result" ∷ codes "enter" ∷ []
+function_keys =
+    codes "name" ∷ codes "place" ∷ codes "end" ∷ codes "level" ∷ codes "need" ∷ codes "locals" ∷ codes "params" ∷ codes "result" ∷ codes
+    "enter" ∷ []
 
 -- where a function's code lies, and how deep its calls and its stack go
 unfoldable pub extent_of : List ℕ → Members → Result Extent TomlFault
@@ -95,7 +97,17 @@ function_of prefix table = do
   interface ← interface_of prefix table
   enter ← flag_at prefix (codes "enter") table
   _ ← only_keys prefix function_keys table
-  Ok (record { name = name; place = extent.place; end = extent.end; level = extent.level; need = extent.need; locals = interface.locals; params = interface.params; result = interface.result; enter = enter })
+  Ok (record {
+    name = name;
+    place = extent.place;
+    end = extent.end;
+    level = extent.level;
+    need = extent.need;
+    locals = interface.locals;
+    params = interface.params;
+    result = interface.result;
+    enter = enter;
+  })
 
 -- a table of the list `point`; of its stack, the locals don't count against the limit
 unfoldable pub point_of : List ℕ → Members → Result PointDraft TomlFault
@@ -149,7 +161,9 @@ signatures_at prefix table = list_at prefix (codes "signature") greatest_32 tabl
 
 -- the keys of the whole text
 abbrev pub draft_keys : List (List ℕ)
-draft_keys = codes "version" ∷ codes "entry" ∷ codes "shape" ∷ codes "static" ∷ codes "thunk" ∷ codes "function" ∷ codes "point" ∷ codes "signature" ∷ codes "site" ∷ []
+draft_keys =
+    codes "version" ∷ codes "entry" ∷ codes "shape" ∷ codes "static" ∷ codes "thunk" ∷ codes "function" ∷ codes "point" ∷ codes "signature"
+    ∷ codes "site" ∷ []
 
 -- the lists of data: shapes, static objects and thunk cells
 unfoldable pub data_lists : Members → Result DataLists TomlFault
@@ -182,4 +196,14 @@ draft_of table = do
   code ← code_lists table
   calls ← call_lists table
   _ ← only_keys [] draft_keys table
-  Ok (record { version = version; entry = entry; shape = things.shape; statics = things.statics; thunk = things.thunk; function = code.function; point = code.point; signature = calls.signature; site = calls.site })
+  Ok (record {
+    version = version;
+    entry = entry;
+    shape = things.shape;
+    statics = things.statics;
+    thunk = things.thunk;
+    function = code.function;
+    point = code.point;
+    signature = calls.signature;
+    site = calls.site;
+  })

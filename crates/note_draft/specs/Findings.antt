@@ -1,4 +1,4 @@
--- Where in notes a condition fails, which of two such places comes first, and the path that names it, as
+-- Meaning: where in notes a condition fails, which of two such places comes first, and the path that names it, as
 -- `function[2].need`. docs/NOTES.md lists the conditions.
 use Rattle.std.specs.Prelude.{ℕ, List, ◌++◌, codes, Option, Some, None, Result, Ok, Err, nat_le, if◌then◌else◌}
 use Rattle.std.specs.Fmt.{decimal}

@@ -1,4 +1,4 @@
--- Which names notes give, and the first name in notes that isn't one of them. docs/NOTES.md says what names what.
+-- Meaning: which names notes give, and the first name in notes that isn't one of them. docs/NOTES.md says what names what.
 use Rattle.std.specs.Prelude.{ℕ, List, codes, Option, Some, None, Result, Bool, true, not}
 use Rattle.std.specs.List.{list_all, position}
 use Rattle.note_types.specs.declared.fault.TomlFault.{TomlFault}
@@ -23,7 +23,7 @@ use Rattle.note_draft.specs.declared.finding.Refusal.TheVariants as refusals
 use Rattle.note_draft.specs.declared.finding.TableList.TheVariants as list
 use Rattle.note_draft.specs.declared.tables.NameTables.{NameTables}
 use Rattle.note_draft.specs.Findings.{at, refused, sooner, ◌otherwise◌}
-use Rattle.ebc_names.specs.Tables.{is_named}
+use Rattle.ebc_base.specs.Tables.{is_named}
 
 -- ---- the names in a text
 

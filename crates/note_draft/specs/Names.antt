@@ -1,4 +1,4 @@
--- The names that the notes give, each once. docs/NOTES.md says which things of the notes are named.
+-- Meaning: the names that the notes give, each once. docs/NOTES.md says which things of the notes are named.
 use Rattle.std.specs.Prelude.{ℕ, not, List, [], ◌∷◌, filter, bytes_eq}
 
 -- the distinct names of these, in the order in which each first stands there

@@ -1,4 +1,5 @@
--- What notes name or place twice, and the names that they give where nothing is. docs/NOTES.md says what stands once.
+-- Meaning: what notes name or place twice, and the names that they give where nothing is. docs/NOTES.md says what stands
+-- once.
 use Rattle.std.specs.Prelude.{ℕ, List, [], map, Bool, Option, Some, None, Result, Ok, bytes_eq, nat_eq}
 use Rattle.std.specs.List.{position}
 use Rattle.note_types.specs.declared.fault.TomlFault.{TomlFault}

@@ -1,5 +1,7 @@
--- Repeats in a list, and where places don't ascend. docs/NOTES.md says which lists have no repeat, and which ascend.
-use Rattle.std.specs.Prelude.{◌≡◌, ℕ, ◌-◌, Bool, false, bytes_eq, nat_le, List, Option, None, Some, is_some, length, take, get_or, slice_get}
+-- Meaning: Repeats in a list, and where places don't ascend. docs/NOTES.md says which lists have no repeat, and which
+-- ascend.
+use Rattle.std.specs.Prelude.{◌≡◌, ℕ, ◌-◌, Bool, false, bytes_eq, nat_le, List, Option, None, Some, is_some, length, take, get_or}
+use Rattle.std.specs.Prelude.{slice_get}
 use Rattle.std.specs.List.{find, list_any, range_with_len}
 use Rattle.std.specs.Option.{option_map, unwrap_or}
 use Rattle.note_draft.specs.declared.repeats.Numbering.{Numbering}

@@ -11,7 +11,7 @@ use crate::finding::{Finding, Key, Refusal, TableList, refuse};
 use crate::keyed::Placed;
 use crate::repeats::{Numbering, has_repeat, name_table, repeated_place};
 use crate::tables::NameTables;
-use ebc_names::NameTable;
+use ebc_base::NameTable;
 use note_types::NotesEnd;
 use std::alloc::{AllocError, Global};
 

@@ -10,7 +10,7 @@ use crate::draft::{
     ThunkDraft,
 };
 use crate::stack::StackText;
-use ebc_names::NameTable;
+use ebc_base::NameTable;
 use note_texts::{
     FieldText, FromTable, ItemText, ParamText, RegisterText, ResultText, Row, TypeText,
     WantParamText, row_prefix, table_of_item,

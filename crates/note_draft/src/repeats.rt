@@ -4,7 +4,7 @@ ghost use Rattle.std.specs.List.{list_any};
 ghost use Rattle.note_draft.specs.Repeats.{Numbers, first_descent, first_repeat, has_repeat};
 
 use crate::keyed::{Distinct, Named, Placed};
-use ebc_names::NameTable;
+use ebc_base::NameTable;
 use indexmap::IndexSet;
 use std::alloc::{AllocError, Global};
 

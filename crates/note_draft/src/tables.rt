@@ -1,5 +1,5 @@
 //! The names that notes give.
-use ebc_names::NameTable;
+use ebc_base::NameTable;
 
 /// The names that notes give, by their numbers.
 #[derive(Drop)]

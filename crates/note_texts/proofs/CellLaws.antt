@@ -23,11 +23,13 @@ plain_sound word c h =
     by_word word (codes "entry") _ _ c h (λ w e. moved (IsCellText word) Entry c e w) (λ h.
     none_read c h))))))))
 
-ptr_sound : (null : Bool) (text rest : List ℕ) (c : CellText) → text ≡ codes "ptr" ++ (mark_of null ++ rest) → option_map (λ target. Ptr target.0 target.1 null) (counted_of rest) ≡ Some c → IsCellText text c
+ptr_sound : (null : Bool) (text rest : List ℕ) (c : CellText) → text ≡ codes "ptr" ++ (mark_of null ++ rest)
+    → option_map (λ target. Ptr target.0 target.1 null) (counted_of rest) ≡ Some c → IsCellText text c
 ptr_sound null text rest c whole h = map_some _ _ c h (λ t found e.
     moved (IsCellText text) (Ptr t.0 t.1 null) c e (rest, whole, counted_of-sound rest t found))
 
-p64_sound : (null : Bool) (text rest : List ℕ) (c : CellText) → text ≡ codes "p64" ++ (mark_of null ++ rest) → option_map (λ target. P64 target.0 target.1 null) (counted_of rest) ≡ Some c → IsCellText text c
+p64_sound : (null : Bool) (text rest : List ℕ) (c : CellText) → text ≡ codes "p64" ++ (mark_of null ++ rest)
+    → option_map (λ target. P64 target.0 target.1 null) (counted_of rest) ≡ Some c → IsCellText text c
 p64_sound null text rest c whole h = map_some _ _ c h (λ t found e.
     moved (IsCellText text) (P64 t.0 t.1 null) c e (rest, whole, counted_of-sound rest t found))
 
@@ -64,10 +66,14 @@ cell_of-complete text N h = rw h refl
 cell_of-complete text Stat h = rw h refl
 cell_of-complete text Handle h = rw h refl
 cell_of-complete text Entry h = rw h refl
-cell_of-complete text (Ptr shape count true) (target, whole, counted) = rw whole (marked_again (codes "ptr?") target refl ∙ rw (counted_of-complete target shape count counted) refl)
-cell_of-complete text (Ptr shape count false) (target, whole, counted) = rw whole (marked_again (codes "ptr") target refl ∙ rw (counted_of-complete target shape count counted) refl)
-cell_of-complete text (P64 shape count true) (target, whole, counted) = rw whole (marked_again (codes "p64?") target refl ∙ rw (counted_of-complete target shape count counted) refl)
-cell_of-complete text (P64 shape count false) (target, whole, counted) = rw whole (marked_again (codes "p64") target refl ∙ rw (counted_of-complete target shape count counted) refl)
+cell_of-complete text (Ptr shape count true) (target, whole, counted) =
+    rw whole (marked_again (codes "ptr?") target refl ∙ rw (counted_of-complete target shape count counted) refl)
+cell_of-complete text (Ptr shape count false) (target, whole, counted) =
+    rw whole (marked_again (codes "ptr") target refl ∙ rw (counted_of-complete target shape count counted) refl)
+cell_of-complete text (P64 shape count true) (target, whole, counted) =
+    rw whole (marked_again (codes "p64?") target refl ∙ rw (counted_of-complete target shape count counted) refl)
+cell_of-complete text (P64 shape count false) (target, whole, counted) =
+    rw whole (marked_again (codes "p64") target refl ∙ rw (counted_of-complete target shape count counted) refl)
 cell_of-complete text (Method name) h = rw h.0 (marked_again (codes "method") name refl ∙ rw (name_of-complete name h.1) refl)
 
 pub cell_exact : (text : List ℕ) → ReadsJust (cell_of text) (IsCellText text)

@@ -27,7 +27,8 @@ two_items-more (a ∷ b ∷ []) many = absurd (omega arith)
 two_items-more (a ∷ b ∷ c ∷ vs) many = refl
 
 -- at most one item doesn't count
-pub count_beside-within : (beside : List ℕ) (vs : List Value) (limit : ℕ) → count_beside beside (items_view vs) ≤ limit → length vs ≤ limit + 1
+pub count_beside-within : (beside : List ℕ) (vs : List Value) (limit : ℕ) → count_beside beside (items_view vs) ≤ limit
+    → length vs ≤ limit + 1
 count_beside-within beside vs limit within = elim (cases_Bool (has_text beside (items_view vs))) [
   | inl has ↦ let w = rw (has, count_view vs) at within in omega arith
   | inr not ↦ let w = rw (not, count_view vs) at within in omega arith

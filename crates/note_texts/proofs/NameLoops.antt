@@ -1,8 +1,10 @@
 -- Names that are read one after the other, as a loop does.
-use Rattle.std.proofs.Common.{◌≡◌, ℕ, ◌+◌, ◌≤◌, ◌<◌, List, [], ◌∷◌, ◌++◌, length, get_or, drop, map, Option, Some, None, Bor, option_map, refl, sym, ap, ◌∙◌, append_assoc, arith}
+use Rattle.std.proofs.Common.{◌≡◌, ℕ, ◌+◌, ◌≤◌, ◌<◌, List, [], ◌∷◌, ◌++◌, length, get_or, drop, map, Option, Some, None, Bor, option_map}
+use Rattle.std.proofs.Common.{refl, sym, ap, ◌∙◌, append_assoc, arith}
 use Rattle.std.proofs.lemmas.Grind.{common_steps}
 use Rattle.std.proofs.lemmas.List.{append-nil, drop_more}
-use Rattle.note_texts.specs.Names.{name_of, names_of}
+use Rattle.note_texts.specs.Names.{names_of}
+use Rattle.ebc_base.specs.Names.{name_of}
 
 abbrev pub texts_now : List (Bor (List ℕ)) → List (List ℕ)
 texts_now texts = map (λ text. text.now) texts
@@ -11,19 +13,24 @@ texts_now texts = map (λ text. text.now) texts
 abbrev pub with_front : List (List ℕ) → Option (List (List ℕ)) → Option (List (List ℕ))
 with_front front read = option_map (λ names. front ++ names) read
 
-regroup : (front : List (List ℕ)) (name : List ℕ) (read : Option (List (List ℕ))) → with_front front (option_map (λ names. name ∷ names) read) ≡ with_front (front ++ name ∷ []) read
+regroup : (front : List (List ℕ)) (name : List ℕ) (read : Option (List (List ℕ)))
+    → with_front front (option_map (λ names. name ∷ names) read) ≡ with_front (front ++ name ∷ []) read
 regroup front name (Some names) = ap Some (simp append_assoc)
 regroup front name None = refl
 
-pub names_go_on : (front : List (List ℕ)) (i : ℕ) (texts : List (Bor (List ℕ))) (d : Bor (List ℕ)) (name : List ℕ) (total : Option (List (List ℕ))) → i < length texts → name_of (get_or texts i d).now ≡ Some name
-    → with_front front (names_of (texts_now (drop i texts))) ≡ total → with_front (front ++ name ∷ []) (names_of (texts_now (drop (i + 1) texts))) ≡ total
+pub names_go_on : (front : List (List ℕ)) (i : ℕ) (texts : List (Bor (List ℕ))) (d : Bor (List ℕ)) (name : List ℕ)
+    (total : Option (List (List ℕ))) → i < length texts → name_of (get_or texts i d).now ≡ Some name
+    → with_front front (names_of (texts_now (drop i texts))) ≡ total
+    → with_front (front ++ name ∷ []) (names_of (texts_now (drop (i + 1) texts))) ≡ total
 unfolding names_of
 names_go_on front i texts d name total within found so_far =
-    let one : with_front front (names_of (texts_now (drop i texts))) ≡ with_front (front ++ name ∷ []) (names_of (texts_now (drop (i + 1) texts)))
+    let one : with_front front (names_of (texts_now (drop i texts))) ≡ with_front (front ++ name ∷ [])
+    (names_of (texts_now (drop (i + 1) texts)))
     = rw (drop_more texts i d within, found) (regroup front name (names_of (texts_now (drop (i + 1) texts)))) in
     sym one ∙ so_far
 
-pub names_stop : (front : List (List ℕ)) (i : ℕ) (texts : List (Bor (List ℕ))) (d : Bor (List ℕ)) (total : Option (List (List ℕ))) → i < length texts → name_of (get_or texts i d).now ≡ None
+pub names_stop : (front : List (List ℕ)) (i : ℕ) (texts : List (Bor (List ℕ))) (d : Bor (List ℕ)) (total : Option (List (List ℕ)))
+    → i < length texts → name_of (get_or texts i d).now ≡ None
     → with_front front (names_of (texts_now (drop i texts))) ≡ total → None ≡ total
 unfolding names_of
 names_stop front i texts d total within found so_far =

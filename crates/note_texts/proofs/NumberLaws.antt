@@ -1,5 +1,6 @@
 -- A text is read as a number just where it is what is written of that number.
-use Rattle.std.proofs.Common.{◌≡◌, ◌↔◌, ℕ, ◌+◌, ◌-◌, ◌*◌, ◌/◌, ◌%◌, ◌^◌, ◌<◌, ◌≤◌, List, [], ◌∷◌, ◌++◌, zero, suc, length, get_or, Some, None, true, false, refl, sym, ap, ◌∙◌, arith, rules, inl, inr}
+use Rattle.std.proofs.Common.{◌≡◌, ◌↔◌, ℕ, ◌+◌, ◌-◌, ◌*◌, ◌/◌, ◌%◌, ◌^◌, ◌<◌, ◌≤◌, List, [], ◌∷◌, ◌++◌, zero, suc, length, get_or, Some}
+use Rattle.std.proofs.Common.{None, true, false, refl, sym, ap, ◌∙◌, arith, rules, inl, inr}
 use Rattle.std.proofs.lemmas.Bool.Decides.{nat_tests}
 use Rattle.std.proofs.lemmas.Bool.{cases_Bool}
 use Rattle.std.proofs.lemmas.Fmt.{decimal_by_steps, decimal_digit, first_decimal, decimal-digits_value}
@@ -14,10 +15,11 @@ use Rattle.note_texts.specs.Numbers.{with_digit, number_from, number_of}
 number_append : (n : ℕ) (xs ys : List ℕ) → number_from n (xs ++ ys) ≡ option_and_then (λ m. number_from m ys) (number_from n xs)
 unfolding number_from
 number_append n [] ys = refl
-number_append n (x ∷ xs) ys = elim (with_digit n x) as (λ o. option_and_then (λ m. number_from m (xs ++ ys)) o ≡ option_and_then (λ m. number_from m ys) (option_and_then (λ m. number_from m xs) o)) [
-  | None ↦ refl
-  | Some m ↦ number_append m xs ys
-]
+number_append n (x ∷ xs) ys = elim (with_digit n x) as (λ o. option_and_then (λ m. number_from m (xs ++ ys)) o ≡ option_and_then
+    (λ m. number_from m ys) (option_and_then (λ m. number_from m xs) o)) [
+      | None ↦ refl
+      | Some m ↦ number_append m xs ys
+    ]
 
 next_digit : (m d : ℕ) → d < 10 → 10 * m + d < 2 ^ 64 → with_digit m (48 + d) ≡ Some (10 * m + d)
 next_digit m d small fits =
@@ -69,18 +71,20 @@ own = numerals_by_fold _ (search rules) value_after (search rules)
 digit_is : (n b k : ℕ) → with_digit n b ≡ Some k → (48 ≤ b) × (b ≤ 57) × (10 * n + (b - 48) ≡ k) × (k < 2 ^ 64)
 digit_is n b k h = grind (arith, nat_tests)
 
-digits_are : (n : ℕ) (bs : List ℕ) (m : ℕ) → n < 2 ^ 64 → number_from n bs ≡ Some m → (all_ascii_digits bs ≡ true) × (value_after n bs ≡ m) × (m < 2 ^ 64)
+digits_are : (n : ℕ) (bs : List ℕ) (m : ℕ) → n < 2 ^ 64 → number_from n bs ≡ Some m → (all_ascii_digits bs ≡ true) × (value_after n bs ≡ m)
+    × (m < 2 ^ 64)
 unfolding number_from
 digits_are n [] m fits h = let e : n ≡ m = cc h in (refl, e, omega arith)
-digits_are n (b ∷ bs) m fits h = elim (with_digit n b) as (λ o. with_digit n b ≡ o → option_and_then (λ k. number_from k bs) o ≡ Some m → (all_ascii_digits (b ∷ bs) ≡ true) × (value_after n (b ∷ bs) ≡ m) × (m < 2 ^ 64)) [
-  | None ↦ λ e g. cc g
-  | Some k ↦ λ e g.
-      let d = digit_is n b k e in
-      let rest = digits_are k bs m d.3 g in
-      let low : nat_le 48 b ≡ true = let l = d.0 in grind (arith, nat_tests) in
-      let high : nat_le b 57 ≡ true = let l = d.1 in grind (arith, nat_tests) in
-      (rw (low, high, rest.0) refl, rw d.2 rest.1, rest.2)
-] refl h
+digits_are n (b ∷ bs) m fits h = elim (with_digit n b) as (λ o. with_digit n b ≡ o → option_and_then (λ k. number_from k bs) o ≡ Some m
+    → (all_ascii_digits (b ∷ bs) ≡ true) × (value_after n (b ∷ bs) ≡ m) × (m < 2 ^ 64)) [
+      | None ↦ λ e g. cc g
+      | Some k ↦ λ e g.
+          let d = digit_is n b k e in
+          let rest = digits_are k bs m d.3 g in
+          let low : nat_le 48 b ≡ true = let l = d.0 in grind (arith, nat_tests) in
+          let high : nat_le b 57 ≡ true = let l = d.1 in grind (arith, nat_tests) in
+          (rw (low, high, rest.0) refl, rw d.2 rest.1, rest.2)
+    ] refl h
 
 pub decimal-number_of : (text : List ℕ) (n : ℕ) → number_of text ≡ Some n → (text ≡ decimal n) × (n < 2 ^ 64)
 unfolding number_of

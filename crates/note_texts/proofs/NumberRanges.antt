@@ -1,20 +1,20 @@
 -- Numbers within bounds, names and counts are read just where the grammar has them.
-use Rattle.std.proofs.Common.{◌≡◌, ℕ, ◌+◌, ◌-◌, ◌%◌, ◌^◌, ◌<◌, ◌≤◌, List, [], ◌∷◌, ◌++◌, length, Option, Some, Bool, true, false, refl, ap, subst, ◌∙◌, arith, inl, inr}
+use Rattle.std.proofs.Common.{◌≡◌, ℕ, ◌+◌, ◌-◌, ◌%◌, ◌^◌, ◌<◌, ◌≤◌, List, [], ◌∷◌, ◌++◌, length, Option, Some, Bool, true, false, refl, ap}
+use Rattle.std.proofs.Common.{subst, ◌∙◌, arith, inl, inr}
 use Rattle.std.proofs.lemmas.Bool.Decides.{nat_tests}
-use Rattle.std.proofs.lemmas.Bool.{cases_Bool}
+use Rattle.std.proofs.lemmas.Bool.{cases_Bool, and_parts}
 use Rattle.std.proofs.lemmas.Option.{cond_some, option_and_then_some, same_Some}
 use Rattle.std.proofs.lemmas.Fmt.{decimal_by_steps}
 use Rattle.std.proofs.lemmas.List.Folds.{list_all-append}
 use Rattle.std.specs.Prelude.{nat_le, ◌==◌, ◌&&◌}
 use Rattle.std.specs.Fmt.{decimal}
 use Rattle.std.specs.List.{list_all}
-use Rattle.ebc_names.specs.Names.{is_digit, begins_name, continues_name, is_name}
+use Rattle.ebc_base.specs.Names.{is_digit, begins_name, continues_name, is_name, name_of}
 use Rattle.note_texts.specs.Numbers.{number_of, number_in, within}
-use Rattle.note_texts.specs.Names.{name_of}
 use Rattle.note_texts.specs.CellTexts.{counted_of}
 use Rattle.note_texts.specs.Grammar.{IsName, IsNameText, IsNumber, IsNumberIn, IsCounted, ReadsJust}
 use Rattle.note_texts.proofs.NumberLaws.{number_exact, number_of-decimal, decimal-number_of}
-use Rattle.note_texts.proofs.SplitLaws.{split_cases, lacks, lacks-append, both_true, parts_at-mark, parts_at-none}
+use Rattle.note_texts.proofs.SplitLaws.{split_cases, lacks, lacks-append, parts_at-mark, parts_at-none}
 
 within_is : (low high m n : ℕ) → within low high m ≡ Some n → (m ≡ n) × (low ≤ n) × (n ≤ high)
 within_is low high m n h = grind (arith, nat_tests)
@@ -25,7 +25,8 @@ number_in-sound low high text n h = option_and_then_some (within low high) (numb
     let d = decimal-number_of text m found in
     (d.0 ∙ ap decimal w.0, w.1, w.2))
 
-pub number_in-complete : (low high : ℕ) (text : List ℕ) (n : ℕ) → high < 2 ^ 64 → IsNumberIn low high text n → number_in low high text ≡ Some n
+pub number_in-complete : (low high : ℕ) (text : List ℕ) (n : ℕ) → high < 2 ^ 64 → IsNumberIn low high text n
+    → number_in low high text ≡ Some n
 number_in-complete low high text n small h =
     let a : nat_le low n ≡ true = let l = h.1 in grind (arith, nat_tests) in
     let b : nat_le n high ≡ true = let l = h.2 in grind (arith, nat_tests) in
@@ -50,7 +51,7 @@ other p x mark good bad = elim (cases_Bool (x == mark)) [
 all_lack : (p : ℕ → Bool) (mark : ℕ) (xs : List ℕ) → p mark ≡ false → list_all p xs ≡ true → lacks mark xs ≡ true
 all_lack p mark [] bad h = refl
 all_lack p mark (x ∷ xs) bad h =
-    let both = both_true (p x) (list_all p xs) h in
+    let both = and_parts (p x) (list_all p xs) h in
     rw (other p x mark both.0 bad, all_lack p mark xs bad both.1) refl
 
 begins_continues : (x : ℕ) → begins_name x ≡ true → continues_name x ≡ true
@@ -60,8 +61,8 @@ pub name_lacks : (mark : ℕ) (name : List ℕ) → continues_name mark ≡ fals
 unfolding is_name
 name_lacks mark [] bad h = absurd (cc h)
 name_lacks mark (x ∷ xs) bad h =
-    let p = both_true (begins_name x) (nat_le (length xs) 62 && list_all continues_name xs) h in
-    let q = both_true (nat_le (length xs) 62) (list_all continues_name xs) p.1 in
+    let p = and_parts (begins_name x) (nat_le (length xs) 62 && list_all continues_name xs) h in
+    let q = and_parts (nat_le (length xs) 62) (list_all continues_name xs) p.1 in
     all_lack continues_name mark (x ∷ xs) bad (rw (begins_continues x p.0, q.1) refl)
 
 one_digit : (d : ℕ) → d < 10 → list_all is_digit ((48 + d) ∷ []) ≡ true
@@ -71,7 +72,8 @@ one_digit d small =
     rw (a, b) refl
 
 decimal_digits : (n : ℕ) → n < 2 ^ 64 → list_all is_digit (decimal n) ≡ true
-decimal_digits n fits = decimal_by_steps (λ n ds. list_all is_digit ds ≡ true) one_digit (λ n ds big front. list_all-append is_digit ds ((48 + n % 10) ∷ []) ∙ rw (front, one_digit (n % 10) (omega arith)) refl) n fits
+decimal_digits n fits = decimal_by_steps (λ n ds. list_all is_digit ds ≡ true) one_digit
+    (λ n ds big front. list_all-append is_digit ds ((48 + n % 10) ∷ []) ∙ rw (front, one_digit (n % 10) (omega arith)) refl) n fits
 
 pub decimal_lacks : (mark n : ℕ) → is_digit mark ≡ false → n < 2 ^ 64 → lacks mark (decimal n) ≡ true
 decimal_lacks mark n bad fits = all_lack is_digit mark (decimal n) bad (decimal_digits n fits)
@@ -108,10 +110,12 @@ counted_of-complete text shape count h = elim h.3 [
       rw (starred, cut, name_of-complete shape h.0, number) refl
 ]
 
-pub counted_lacks : (mark : ℕ) (text shape : List ℕ) (count : ℕ) → continues_name mark ≡ false → is_digit mark ≡ false → (42 == mark) ≡ false → IsCounted text shape count → lacks mark text ≡ true
+pub counted_lacks : (mark : ℕ) (text shape : List ℕ) (count : ℕ) → continues_name mark ≡ false → is_digit mark ≡ false
+    → (42 == mark) ≡ false → IsCounted text shape count → lacks mark text ≡ true
 counted_lacks mark text shape count outside no_digit no_star h = elim h.3 [
   | inl plain ↦ rw plain.0 (name_lacks mark shape outside h.0)
-  | inr starred ↦ rw starred (lacks-append mark shape (42 ∷ decimal count) (name_lacks mark shape outside h.0) (rw (no_star, decimal_lacks mark count no_digit h.2) refl))
+  | inr starred ↦ rw starred (lacks-append mark shape (42 ∷ decimal count) (name_lacks mark shape outside h.0)
+      (rw (no_star, decimal_lacks mark count no_digit h.2) refl))
 ]
 
 -- ---- what the readers of numbers and names give

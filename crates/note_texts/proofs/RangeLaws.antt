@@ -1,5 +1,6 @@
 -- Pairs, ranges and what is made of them are read just where the grammar has them.
-use Rattle.std.proofs.Common.{◌≡◌, ℕ, ◌^◌, ◌<◌, ◌≤◌, ℤ, pos, negsuc, List, [], ◌∷◌, zero, suc, get_or, Some, true, false, refl, subst, ◌∙◌, arith, inl, inr}
+use Rattle.std.proofs.Common.{◌≡◌, ℕ, ◌^◌, ◌<◌, ◌≤◌, ℤ, pos, negsuc, List, [], ◌∷◌, zero, suc, get_or, Some, true, false, refl, subst, ◌∙◌}
+use Rattle.std.proofs.Common.{arith, inl, inr}
 use Rattle.std.proofs.lemmas.Bool.Decides.{nat_tests}
 use Rattle.std.proofs.lemmas.Bool.{cases_Bool}
 use Rattle.std.proofs.lemmas.Option.{cond_some, option_and_then_some}
@@ -7,7 +8,7 @@ use Rattle.std.proofs.lemmas.Fmt.{decimal_digit, first_decimal}
 use Rattle.std.specs.Prelude.{option_map, nat_le, ◌==◌, neg_ℤ}
 use Rattle.std.specs.Fmt.{decimal, signed_decimal}
 use Rattle.note_types.specs.Types.{IsNear, IsUnits}
-use Rattle.ebc_names.specs.Names.{is_digit}
+use Rattle.ebc_base.specs.Names.{is_digit}
 use Rattle.note_texts.specs.Numbers.{near_of, number_in, units_of}
 use Rattle.note_texts.specs.Ranges.{after_dot, pair_of, range_of}
 use Rattle.note_texts.specs.TypeGrammar.{range_text, pair_text, IsPairText, IsRangeText}
@@ -18,13 +19,15 @@ use Rattle.note_texts.proofs.Tables.{moved, map_some, none_read}
 
 pub units_of-sound : (low : ℕ) (text : List ℕ) (z : ℤ) → units_of low text ≡ Some z → (text ≡ signed_decimal z) × IsUnits low z
 units_of-sound low text z h = map_some (λ n. pos n) (number_in low (2 ^ 20) text) z h (λ n found e.
-    moved (λ z. (text ≡ signed_decimal z) × IsUnits low z) (pos n) z e (let p = number_in-sound low (2 ^ 20) text n found in (p.0, (p.1, p.2))))
+    moved (λ z. (text ≡ signed_decimal z) × IsUnits low z) (pos n) z e
+    (let p = number_in-sound low (2 ^ 20) text n found in (p.0, (p.1, p.2))))
 
 pub units_of-complete : (low : ℕ) (text : List ℕ) (z : ℤ) → text ≡ signed_decimal z → IsUnits low z → units_of low text ≡ Some z
 units_of-complete low text (pos n) whole h = rw (number_in-complete low (2 ^ 20) text n (omega arith) (whole, h.0, h.1)) refl
 units_of-complete low text (negsuc n) whole h = absurd h
 
-minus_sound : (n : ℕ) (text : List ℕ) (z : ℤ) → text ≡ 45 ∷ decimal n → 1 ≤ n → n ≤ 2 ^ 20 → Some (neg_ℤ (pos n)) ≡ Some z → (text ≡ signed_decimal z) × IsNear z
+minus_sound : (n : ℕ) (text : List ℕ) (z : ℤ) → text ≡ 45 ∷ decimal n → 1 ≤ n → n ≤ 2 ^ 20 → Some (neg_ℤ (pos n)) ≡ Some z
+    → (text ≡ signed_decimal z) × IsNear z
 minus_sound zero text z whole low high e = absurd (omega arith)
 minus_sound (suc m) text z whole low high e = moved (λ z. (text ≡ signed_decimal z) × IsNear z) (negsuc m) z e (whole, omega arith)
 
@@ -57,7 +60,8 @@ no_sign (b ∷ bs) above =
 pub near_of-complete : (text : List ℕ) (z : ℤ) → text ≡ signed_decimal z → IsNear z → near_of text ≡ Some z
 unfolding near_of
 near_of-complete text (pos n) whole h =
-    rw whole (no_sign (decimal n) (first_digit n (omega (arith, h))) ∙ rw (number_in-complete 0 (2 ^ 20) (decimal n) n (omega arith) (refl, omega arith, h)) refl)
+    rw whole (no_sign (decimal n) (first_digit n (omega (arith, h)))
+    ∙ rw (number_in-complete 0 (2 ^ 20) (decimal n) n (omega arith) (refl, omega arith, h)) refl)
 near_of-complete text (negsuc n) whole h =
     rw (whole, number_in-complete 1 (2 ^ 20) (decimal (suc n)) (suc n) (omega arith) (refl, omega arith, omega (arith, h))) refl
 
@@ -124,4 +128,5 @@ range_of-complete text lo hi h =
     rw (h.0, split, number_of-decimal lo low, number_of-decimal hi h.2, ordered) refl
 
 pub range_lacks : (lo hi : ℕ) → lo ≤ hi → hi < 2 ^ 64 → lacks 47 (range_text lo hi) ≡ true
-range_lacks lo hi ordered fits = lacks-append 47 (decimal lo) (46 ∷ 46 ∷ decimal hi) (decimal_lacks 47 lo refl (omega arith)) (rw (decimal_lacks 47 hi refl fits) refl)
+range_lacks lo hi ordered fits = lacks-append 47 (decimal lo) (46 ∷ 46 ∷ decimal hi) (decimal_lacks 47 lo refl (omega arith))
+    (rw (decimal_lacks 47 hi refl fits) refl)

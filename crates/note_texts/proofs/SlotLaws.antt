@@ -1,5 +1,6 @@
 -- Fields, parameters, registers and items are read just where the grammar has them.
-use Rattle.std.proofs.Common.{◌≡◌, ℕ, ◌-◌, ◌^◌, ◌≤◌, List, [], ◌∷◌, ◌++◌, Option, Some, None, Bool, true, false, cond, refl, ap, ◌∙◌, arith, inl, inr}
+use Rattle.std.proofs.Common.{◌≡◌, ℕ, ◌-◌, ◌^◌, ◌≤◌, List, [], ◌∷◌, ◌++◌, Option, Some, None, Bool, true, false, cond, refl, ap, ◌∙◌, arith}
+use Rattle.std.proofs.Common.{inl, inr}
 use Rattle.std.proofs.lemmas.Bool.Decides.{nat_tests}
 use Rattle.std.proofs.lemmas.Option.{option_and_then_some}
 use Rattle.std.specs.Prelude.{codes, ◌==◌}
@@ -44,7 +45,8 @@ field_sound text f h = elim (split_cases 32 text) [
                   let a = name_of-sound one.before name named in
                   let b = number_in-sound 0 (2 ^ 32 - 1) two.before n first in
                   let d = number_in-sound 0 (2 ^ 32 - 1) three.before c second in
-                  let whole : text ≡ name ++ (codes " " ++ (decimal n ++ (codes " " ++ (decimal c ++ (codes " " ++ three.after))))) = one.whole ∙ (rw (a.0, two.whole, b.0, three.whole, d.0) refl) in
+                  let whole : text ≡ name ++ (codes " " ++ (decimal n ++ (codes " " ++ (decimal c ++ (codes " " ++ three.after))))) =
+                  one.whole ∙ (rw (a.0, two.whole, b.0, three.whole, d.0) refl) in
                   moved (IsFieldText text) (record { name = name; n = n; c = c; cell = cell }) f e
                   (three.after, whole, a.1, omega (arith, b.2), omega (arith, d.2), cell_of-sound three.after cell held)))))
               | inr none ↦ none_read f (rw none.0 at g)
@@ -69,7 +71,8 @@ field_read text read h = rw h (λ f. (field_sound text f, field_complete text f)
 
 -- ---- the kinds of slots
 
-pub parameter_kind-sound : (word : List ℕ) (kind : SlotKind) → parameter_kind word ≡ Some kind → (word ≡ kind_text kind) × IsParameterKind kind
+pub parameter_kind-sound : (word : List ℕ) (kind : SlotKind) → parameter_kind word ≡ Some kind → (word ≡ kind_text kind)
+    × IsParameterKind kind
 unfolding parameter_kind
 parameter_kind-sound word kind h =
     by_word word (codes "n") _ _ kind h (λ w e. moved (λ kind. (word ≡ kind_text kind) × IsParameterKind kind) kinds.N kind e (w, tt)) (λ h.
@@ -147,7 +150,8 @@ register_sound text r h = elim (split_cases 32 text) [
       option_and_then_some _ _ r further (λ ty typed e.
       let k = register_number_sound parts.before register found in
       let whole : text ≡ codes "R" ++ (decimal register ++ (codes " " ++ parts.after)) = parts.whole ∙ (rw k.0 refl) in
-      moved (IsRegisterText text) (record { register = register; ty = ty }) r e (parts.after, whole, k.1, k.2, type_of-sound parts.after ty typed)))
+      moved (IsRegisterText text) (record { register = register; ty = ty }) r e
+      (parts.after, whole, k.1, k.2, type_of-sound parts.after ty typed)))
   | inr none ↦ none_read r (rw none.0 at h)
 ]
 
@@ -191,7 +195,8 @@ item_complete : (text : List ℕ) (i : ItemText) → IsItemText text i → item_
 unfolding item_of slot_of
 item_complete text (Slot kind ty) (rest, whole, typed) =
     let split = kind_split kind rest in
-    let slot : slot_of (kind_text kind ++ (32 ∷ rest)) ≡ Some (Slot kind ty) = rw (split, slot_kind_complete kind, type_of-complete rest ty typed) refl in
+    let slot : slot_of (kind_text kind ++ (32 ∷ rest)) ≡ Some (Slot kind ty) =
+    rw (split, slot_kind_complete kind, type_of-complete rest ty typed) refl in
     ap item_of whole ∙ (no_locals kind rest ∙ slot)
 item_complete text Locals h = rw h refl
 

@@ -1,7 +1,8 @@
 -- A text is cut just where the first mark stands.
-use Rattle.std.proofs.Common.{◌≡◌, ℕ, ◌<◌, List, [], ◌∷◌, ◌++◌, length, Some, None, Bool, true, false, not, ◌&&◌, ◌==◌, refl, ap, ◌∙◌, arith, length-append, nat_lt, ◌⊎◌, inl, inr}
+use Rattle.std.proofs.Common.{◌≡◌, ℕ, ◌<◌, List, [], ◌∷◌, ◌++◌, length, Some, None, Bool, true, false, not, ◌&&◌, ◌==◌, refl, ap, ◌∙◌}
+use Rattle.std.proofs.Common.{arith, length-append, nat_lt, ◌⊎◌, inl, inr}
 use Rattle.std.proofs.lemmas.Bool.Decides.{nat_tests}
-use Rattle.std.proofs.lemmas.Bool.{cases_Bool}
+use Rattle.std.proofs.lemmas.Bool.{cases_Bool, and_parts}
 use Rattle.std.proofs.lemmas.List.Sums.{split_at_first, passes_at_first}
 use Rattle.std.proofs.lemmas.List.Folds.{list_all-append}
 use Rattle.std.proofs.Math.Seq.{take-append_seam, drop-append-add}
@@ -11,10 +12,6 @@ use Rattle.note_texts.specs.Splits.{split_at, parts_at}
 -- no byte is the mark
 abbrev pub lacks : ℕ → List ℕ → Bool
 lacks mark text = list_all (λ b. not (b == mark)) text
-
-pub both_true : (a b : Bool) → (a && b) ≡ true → (a ≡ true) × (b ≡ true)
-both_true true b h = (refl, h)
-both_true false b h = cc h
 
 pub not_true : (a : Bool) → not a ≡ true → a ≡ false
 not_true true h = cc h
@@ -26,13 +23,13 @@ lacks-append mark xs ys a b = list_all-append (λ b. not (b == mark)) xs ys ∙ 
 position_at : (mark : ℕ) (xs ys : List ℕ) → lacks mark xs ≡ true → position_or_len (λ b. b == mark) (xs ++ mark ∷ ys) ≡ length xs
 position_at mark [] ys h = let e : (mark == mark) ≡ true = grind (arith, nat_tests) in rw e refl
 position_at mark (x ∷ xs) ys h =
-    let p = both_true (not (x == mark)) (lacks mark xs) h in
+    let p = and_parts (not (x == mark)) (lacks mark xs) h in
     rw (not_true (x == mark) p.0, position_at mark xs ys p.1) (omega arith)
 
 nowhere : (mark : ℕ) (xs : List ℕ) → lacks mark xs ≡ true → position_or_len (λ b. b == mark) xs ≡ length xs
 nowhere mark [] h = refl
 nowhere mark (x ∷ xs) h =
-    let p = both_true (not (x == mark)) (lacks mark xs) h in
+    let p = and_parts (not (x == mark)) (lacks mark xs) h in
     rw (not_true (x == mark) p.0, nowhere mark xs p.1) (omega arith)
 
 pub split_at-mark : (mark : ℕ) (xs ys : List ℕ) → lacks mark xs ≡ true → split_at mark (xs ++ mark ∷ ys) ≡ Some (xs, ys)

@@ -1,5 +1,6 @@
 -- A text is read as a type just where the grammar has that type.
-use Rattle.std.proofs.Common.{◌≡◌, ℕ, ◌+◌, ◌-◌, ◌*◌, ◌^◌, ◌<◌, ℤ, pos, List, [], ◌∷◌, ◌++◌, Option, Some, Bool, true, false, refl, sym, ap, subst, ◌∙◌, arith, inl, inr}
+use Rattle.std.proofs.Common.{◌≡◌, ℕ, ◌+◌, ◌-◌, ◌*◌, ◌^◌, ◌<◌, ℤ, pos, List, [], ◌∷◌, ◌++◌, Option, Some, Bool, true, false, refl, sym, ap}
+use Rattle.std.proofs.Common.{subst, ◌∙◌, arith, inl, inr}
 use Rattle.std.proofs.lemmas.Bool.Decides.{nat_tests}
 use Rattle.std.proofs.lemmas.List.{append-nil}
 use Rattle.std.proofs.lemmas.Option.{cond_some, option_and_then_some}
@@ -8,13 +9,16 @@ use Rattle.std.specs.Fmt.{decimal}
 use Rattle.note_texts.specs.Grammar.{IsCounted, mark_of, ReadsJust}
 use Rattle.note_texts.specs.Splits.{parts_at}
 use Rattle.note_texts.specs.TypeGrammar.{range_text, grants_text, AreNames, IsIntText, IsScaledText, IsOffsetText, IsTypeText}
-use Rattle.note_texts.specs.TypeTexts.{int_of, scaled_of, offset_of, pointer_of, plain_type, granting_type, word_type, number_type, marked_type, type_of}
+use Rattle.note_texts.specs.TypeTexts.{int_of, scaled_of, offset_of, pointer_of, plain_type, granting_type, word_type, number_type}
+use Rattle.note_texts.specs.TypeTexts.{marked_type, type_of}
 use Rattle.note_texts.specs.declared.ty.TypeText.{TypeText}
-use Rattle.note_texts.specs.declared.ty.TypeText.TheVariants.{Any, Int, Lin, Scaled, Ptr, Local, Lent, Status, SignedStatus, Mask, Handle, Entry, Method, ThunkAt, Saved}
+use Rattle.note_texts.specs.declared.ty.TypeText.TheVariants.{Any, Int, Lin, Scaled, Ptr, Local, Lent, Status, SignedStatus, Mask, Handle}
+use Rattle.note_texts.specs.declared.ty.TypeText.TheVariants.{Entry, Method, ThunkAt, Saved}
 use Rattle.note_texts.proofs.CellLaws.{cell_of-sound, cell_of-complete}
 use Rattle.note_texts.proofs.GrantLaws.{granted-sound, granted-complete, grants_lack}
 use Rattle.note_texts.proofs.NumberLaws.{number_of-decimal, decimal-number_of}
-use Rattle.note_texts.proofs.NumberRanges.{number_in-sound, number_in-complete, name_of-sound, name_of-complete, decimal_lacks, counted_of-sound, counted_of-complete, counted_lacks}
+use Rattle.note_texts.proofs.NumberRanges.{number_in-sound, number_in-complete, name_of-sound, name_of-complete, decimal_lacks}
+use Rattle.note_texts.proofs.NumberRanges.{counted_of-sound, counted_of-complete, counted_lacks}
 use Rattle.note_texts.proofs.RangeLaws.{pair_of-sound, pair_of-complete, range_of-sound, range_of-complete, range_lacks}
 use Rattle.note_texts.proofs.SplitLaws.{split_cases, lacks, lacks-append, split_at-mark, parts_at-mark, parts_at-none}
 use Rattle.note_texts.proofs.Tables.{by_word, map_some, moved, none_read}
@@ -73,7 +77,8 @@ scaled_of-sound rest t h = elim (split_cases 44 rest) [
             let a = number_in-sound 1 (2 ^ 64 - 1) parts.before n first in
             let b = decimal-number_of more.before c second in
             let d = decimal-number_of more.after hi third in
-            let whole : rest ≡ decimal n ++ (codes "," ++ (decimal c ++ (codes "," ++ decimal hi))) = parts.whole ∙ (rw (a.0, more.whole, b.0, d.0) refl) in
+            let whole : rest ≡ decimal n ++ (codes "," ++ (decimal c ++ (codes "," ++ decimal hi))) = parts.whole
+            ∙ (rw (a.0, more.whole, b.0, d.0) refl) in
             subst (IsTypeText (codes "scaled:" ++ rest)) p.1 (rest, refl, (whole, a.1, omega (arith, a.2), b.1, d.1, below)))))
         | inr none ↦ none_read t (rw none.0 at g)
       ]
@@ -94,25 +99,29 @@ scaled_of-complete rest n c hi h =
 offset_of-sound : (rest : List ℕ) (p : ℤ × ℤ) → offset_of (Some rest) ≡ Some p → IsOffsetText (43 ∷ rest) p.0 p.1
 offset_of-sound rest p h = inr (rest, refl, pair_of-sound 0 rest p h)
 
-pointer_of-sound : (null : Bool) (text rest : List ℕ) (t : TypeText) → text ≡ codes "ptr" ++ (mark_of null ++ rest) → pointer_of null rest ≡ Some t → IsTypeText text t
+pointer_of-sound : (null : Bool) (text rest : List ℕ) (t : TypeText) → text ≡ codes "ptr" ++ (mark_of null ++ rest)
+    → pointer_of null rest ≡ Some t → IsTypeText text t
 unfolding pointer_of
 pointer_of-sound null text rest t whole h = elim (split_cases 43 rest) [
   | inl parts ↦
       let g = (rw parts.cut at h) in
       option_and_then_some _ _ t g (λ target counted further.
       option_and_then_some _ _ t further (λ offset placed e.
-      let all : text ≡ codes "ptr" ++ (mark_of null ++ (parts.before ++ 43 ∷ parts.after)) = whole ∙ ap (λ rest. codes "ptr" ++ (mark_of null ++ rest)) parts.whole in
+      let all : text ≡ codes "ptr" ++ (mark_of null ++ (parts.before ++ 43 ∷ parts.after)) = whole
+      ∙ ap (λ rest. codes "ptr" ++ (mark_of null ++ rest)) parts.whole in
       moved (IsTypeText text) (Ptr target.0 target.1 offset.0 offset.1 null) t e
       (parts.before, 43 ∷ parts.after, all, counted_of-sound parts.before target counted, offset_of-sound parts.after offset placed)))
   | inr none ↦
       let g = (rw none.1 at h) in
       option_and_then_some _ _ t g (λ target counted e.
-      let all : text ≡ codes "ptr" ++ (mark_of null ++ (rest ++ [])) = whole ∙ ap (λ rest. codes "ptr" ++ (mark_of null ++ rest)) (sym (append-nil rest)) in
+      let all : text ≡ codes "ptr" ++ (mark_of null ++ (rest ++ [])) = whole
+      ∙ ap (λ rest. codes "ptr" ++ (mark_of null ++ rest)) (sym (append-nil rest)) in
       moved (IsTypeText text) (Ptr target.0 target.1 (pos 0) (pos 0) null) t e
       (rest, [], all, counted_of-sound rest target counted, inl (refl, refl, refl)))
 ]
 
-pointer_of-complete : (null : Bool) (target offset shape : List ℕ) (count : ℕ) (n c : ℤ) → IsCounted target shape count → IsOffsetText offset n c → pointer_of null (target ++ offset) ≡ Some (Ptr shape count n c null)
+pointer_of-complete : (null : Bool) (target offset shape : List ℕ) (count : ℕ) (n c : ℤ) → IsCounted target shape count
+    → IsOffsetText offset n c → pointer_of null (target ++ offset) ≡ Some (Ptr shape count n c null)
 unfolding pointer_of
 pointer_of-complete null target offset shape count n c counted placed =
     let lack = counted_lacks 43 target shape count refl refl refl counted in
@@ -136,7 +145,8 @@ plain_sound word t h =
     by_word word (codes "entry") _ _ t h (λ w e. moved (IsTypeText word) Entry t e w) (λ h.
     none_read t h)))))))
 
-granting_sound : (text word fields : List ℕ) (t : TypeText) → text ≡ word ++ 33 ∷ fields → granting_type word fields ≡ Some t → IsTypeText text t
+granting_sound : (text word fields : List ℕ) (t : TypeText) → text ≡ word ++ 33 ∷ fields → granting_type word fields ≡ Some t
+    → IsTypeText text t
 unfolding granting_type
 granting_sound text word fields t whole h =
     by_word word (codes "status") _ _ t h (λ w e. map_some _ _ t e (λ names read e.
@@ -160,7 +170,8 @@ number_sound text word rest t whole h =
     by_word word (codes "int") _ _ t h (λ w e. subst (λ text. IsTypeText text t) (sym (whole ∙ rw w refl)) (int_of-sound rest t e)) (λ h.
     by_word word (codes "lin") _ _ t h (λ w e. map_some _ _ t e (λ p read e.
     moved (IsTypeText text) (Lin p.0 p.1) t e (rest, whole ∙ rw w refl, pair_of-sound 1 rest p read))) (λ h.
-    by_word word (codes "scaled") _ _ t h (λ w e. subst (λ text. IsTypeText text t) (sym (whole ∙ rw w refl)) (scaled_of-sound rest t e)) (λ h.
+    by_word word (codes "scaled") _ _ t h (λ w e. subst (λ text. IsTypeText text t) (sym (whole ∙ rw w refl)) (scaled_of-sound rest t e))
+    (λ h.
     by_word word (codes "thunk") _ _ t h (λ w e. map_some _ _ t e (λ index read e.
     let n = number_in-sound 0 (2 ^ 32 - 1) rest index read in
     moved (IsTypeText text) (ThunkAt index) t e (whole ∙ rw (w, n.0) refl, omega (arith, n.2)))) (λ h.
@@ -197,13 +208,16 @@ marked_again : (word rest : List ℕ) → lacks 58 word ≡ true → type_of (wo
 unfolding type_of
 marked_again word rest h = rw (parts_at-mark 58 word rest h) refl
 
-grants_again : (word fields : List ℕ) → lacks 33 word ≡ true → lacks 58 (word ++ 33 ∷ fields) ≡ true → type_of (word ++ 33 ∷ fields) ≡ granting_type word fields
+grants_again : (word fields : List ℕ) → lacks 33 word ≡ true → lacks 58 (word ++ 33 ∷ fields) ≡ true
+    → type_of (word ++ 33 ∷ fields) ≡ granting_type word fields
 unfolding type_of word_type
 grants_again word fields h g = rw (parts_at-none 58 (word ++ 33 ∷ fields) g, parts_at-mark 33 word fields h) refl
 
-granting_again : (word fields : List ℕ) (names : List (List ℕ)) → lacks 33 word ≡ true → lacks 58 word ≡ true → AreNames names → grants_text names ≡ 33 ∷ fields → type_of (word ++ grants_text names) ≡ granting_type word fields
+granting_again : (word fields : List ℕ) (names : List (List ℕ)) → lacks 33 word ≡ true → lacks 58 word ≡ true → AreNames names
+    → grants_text names ≡ 33 ∷ fields → type_of (word ++ grants_text names) ≡ granting_type word fields
 granting_again word fields names no_mark no_colon h whole =
-    let lack = lacks-append 58 word (33 ∷ fields) no_colon (subst (λ text. lacks 58 text ≡ true) whole (grants_lack 58 names refl refl h)) in
+    let lack = lacks-append 58 word (33 ∷ fields) no_colon (subst (λ text. lacks 58 text ≡ true) whole
+    (grants_lack 58 names refl refl h)) in
     ap (λ text. type_of (word ++ text)) whole ∙ grants_again word fields no_mark lack
 
 status_again : (names : List (List ℕ)) → AreNames names → type_of (codes "status" ++ grants_text names) ≡ Some (Status names)
@@ -229,12 +243,17 @@ pub type_of-complete : (text : List ℕ) (t : TypeText) → IsTypeText text t �
 unfolding type_of word_type plain_type marked_type number_type parts_at
 type_of-complete text Any h = rw h refl
 type_of-complete text (Int lo hi div) h = int_again text lo hi div h
-type_of-complete text (Lin n c) (pair, whole, paired) = rw whole (marked_again (codes "lin") pair refl ∙ rw (pair_of-complete 1 pair n c paired) refl)
-type_of-complete text (Scaled n c hi) (rest, whole, scaled) = rw whole (marked_again (codes "scaled") rest refl ∙ scaled_of-complete rest n c hi scaled)
-type_of-complete text (Ptr shape count n c false) (target, offset, whole, counted, placed) = rw whole (marked_again (codes "ptr") (target ++ offset) refl ∙ pointer_of-complete false target offset shape count n c counted placed)
-type_of-complete text (Ptr shape count n c true) (target, offset, whole, counted, placed) = rw whole (marked_again (codes "ptr?") (target ++ offset) refl ∙ pointer_of-complete true target offset shape count n c counted placed)
+type_of-complete text (Lin n c) (pair, whole, paired) = rw whole
+    (marked_again (codes "lin") pair refl ∙ rw (pair_of-complete 1 pair n c paired) refl)
+type_of-complete text (Scaled n c hi) (rest, whole, scaled) = rw whole
+    (marked_again (codes "scaled") rest refl ∙ scaled_of-complete rest n c hi scaled)
+type_of-complete text (Ptr shape count n c false) (target, offset, whole, counted, placed) =
+    rw whole (marked_again (codes "ptr") (target ++ offset) refl ∙ pointer_of-complete false target offset shape count n c counted placed)
+type_of-complete text (Ptr shape count n c true) (target, offset, whole, counted, placed) =
+    rw whole (marked_again (codes "ptr?") (target ++ offset) refl ∙ pointer_of-complete true target offset shape count n c counted placed)
 type_of-complete text (Local name) h = rw h.0 (marked_again (codes "local") name refl ∙ rw (name_of-complete name h.1) refl)
-type_of-complete text (Lent cell) (rest, whole, spelled) = rw whole (marked_again (codes "lent") rest refl ∙ rw (cell_of-complete rest cell spelled) refl)
+type_of-complete text (Lent cell) (rest, whole, spelled) = rw whole
+    (marked_again (codes "lent") rest refl ∙ rw (cell_of-complete rest cell spelled) refl)
 type_of-complete text (Status names) h = rw h.0 (status_again names h.1)
 type_of-complete text (SignedStatus names) h = rw h.0 (sstatus_again names h.1)
 type_of-complete text Mask h = rw h refl

@@ -1,7 +1,8 @@
 -- What a native method takes and gives is read just where the grammar has it.
-use Rattle.std.proofs.Common.{◌≡◌, ℕ, ◌^◌, ℤ, pos, negsuc, List, [], ◌∷◌, ◌++◌, Option, Some, None, true, false, refl, sym, ap, subst, ◌∙◌, arith, inl, inr}
+use Rattle.std.proofs.Common.{◌≡◌, ℕ, ◌^◌, ℤ, pos, negsuc, List, [], ◌∷◌, ◌++◌, Option, Some, None, true, false, refl, sym, ap, subst, ◌∙◌}
+use Rattle.std.proofs.Common.{arith, inl, inr}
 use Rattle.std.proofs.lemmas.Bool.Decides.{nat_tests}
-use Rattle.std.proofs.lemmas.Bool.{cases_Bool}
+use Rattle.std.proofs.lemmas.Bool.{cases_Bool, and_parts}
 use Rattle.std.proofs.lemmas.Option.{cond_some, option_and_then_some}
 use Rattle.std.proofs.lemmas.Slice.Eq.{bytes_eq-Decides}
 use Rattle.std.specs.Prelude.{bytes_eq, codes}
@@ -23,7 +24,7 @@ use Rattle.note_texts.proofs.CellLaws.{cell_of-sound, cell_of-complete}
 use Rattle.note_texts.proofs.NumberRanges.{number_in-sound, number_in-complete, decimal_lacks}
 use Rattle.note_texts.proofs.RangeLaws.{range_of-sound, range_of-complete}
 use Rattle.note_texts.proofs.SlotLaws.{kind_split, parameter_kind-sound, parameter_kind-complete}
-use Rattle.note_texts.proofs.SplitLaws.{both_true, split_cases, lacks, split_at-mark, parts_at-mark}
+use Rattle.note_texts.proofs.SplitLaws.{split_cases, lacks, split_at-mark, parts_at-mark}
 use Rattle.note_texts.proofs.Tables.{by_word, map_some, moved, none_read}
 use Rattle.note_texts.proofs.TypeLaws.{type_of-sound, type_of-complete}
 
@@ -88,14 +89,18 @@ marked_again word rest h = rw (parts_at-mark 58 word rest h) refl
 want_complete : (text : List ℕ) (w : WantText) → IsWantText text w → want_of text ≡ Some w
 unfolding want_of plain_want marked_want parts_at
 want_complete text Any h = rw h refl
-want_complete text (Int lo hi) (range, whole, ranged) = rw whole (marked_again (codes "int") range refl ∙ rw (range_of-complete range lo hi ranged) refl)
-want_complete text (Size n c) (size, whole, sized) = rw whole (marked_again (codes "size") size refl ∙ rw (size_complete size n c sized) refl)
+want_complete text (Int lo hi) (range, whole, ranged) = rw whole
+    (marked_again (codes "int") range refl ∙ rw (range_of-complete range lo hi ranged) refl)
+want_complete text (Size n c) (size, whole, sized) = rw whole (marked_again (codes "size") size refl
+    ∙ rw (size_complete size n c sized) refl)
 want_complete text Ptr h = rw h refl
 want_complete text Handle h = rw h refl
 want_complete text Status h = rw h refl
 want_complete text Entry h = rw h refl
-want_complete text (Out cell) (rest, whole, spelled) = rw whole (marked_again (codes "out") rest refl ∙ rw (cell_of-complete rest cell spelled) refl)
-want_complete text (Inout cell) (rest, whole, spelled) = rw whole (marked_again (codes "inout") rest refl ∙ rw (cell_of-complete rest cell spelled) refl)
+want_complete text (Out cell) (rest, whole, spelled) = rw whole
+    (marked_again (codes "out") rest refl ∙ rw (cell_of-complete rest cell spelled) refl)
+want_complete text (Inout cell) (rest, whole, spelled) = rw whole
+    (marked_again (codes "inout") rest refl ∙ rw (cell_of-complete rest cell spelled) refl)
 
 pub want_read : (text : List ℕ) (read : Option WantText) → read ≡ want_of text → ReadsJust read (IsWantText text)
 want_read text read h = rw h (λ w. (want_sound text w, want_complete text w))
@@ -134,7 +139,7 @@ given_sound types.Any h = absurd (cc h)
 given_sound (types.Int lo hi div) h = grind (arith, nat_tests)
 given_sound (types.Lin n c) h = absurd (cc h)
 given_sound (types.Scaled n c hi) h = absurd (cc h)
-given_sound (types.Ptr shape count n c null) h = let p = both_true (is_zero n) (is_zero c) h in (zero_sound n p.0, zero_sound c p.1)
+given_sound (types.Ptr shape count n c null) h = let p = and_parts (is_zero n) (is_zero c) h in (zero_sound n p.0, zero_sound c p.1)
 given_sound (types.Local name) h = absurd (cc h)
 given_sound (types.Lent cell) h = absurd (cc h)
 given_sound (types.Status []) h = tt

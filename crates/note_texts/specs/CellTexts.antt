@@ -1,12 +1,12 @@
--- The texts of cells and of fields. docs/NOTES.md lists the cells.
+-- Meaning: the texts of cells and of fields. docs/NOTES.md lists the cells.
 use Rattle.std.specs.Prelude.{ℕ, ◌-◌, ◌^◌, List, Option, Some, None, true, false, bytes_eq, codes, if◌then◌else◌, option_map}
-use Rattle.note_texts.specs.Names.{name_of}
 use Rattle.note_texts.specs.Numbers.{number_in}
 use Rattle.note_texts.specs.Ranges.{count_of}
 use Rattle.note_texts.specs.Splits.{◌>>=◌, parts_at, split_at}
 use Rattle.note_texts.specs.declared.cell.CellText.{CellText}
 use Rattle.note_texts.specs.declared.cell.CellText.TheVariants.{I8, I16, I32, I64, N, Stat, Handle, Entry, Ptr, P64, Method}
 use Rattle.note_texts.specs.declared.cell.FieldText.{FieldText}
+use Rattle.ebc_base.specs.Names.{name_of}
 
 -- `S*K`, or `S` where K is 1: a shape and a count
 unfoldable pub counted_of : List ℕ → Option (List ℕ × ℕ)

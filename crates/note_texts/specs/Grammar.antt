@@ -1,7 +1,7 @@
--- The grammar of small texts: what each text is made of, by its value. docs/NOTES.md has it in words.
+-- For proofs: the grammar of small texts: what each text is made of, by its value. docs/NOTES.md has it in words.
 use Rattle.std.specs.Prelude.{◌≡◌, ◌↔◌, ◌⊎◌, ℕ, ◌^◌, ◌<◌, ◌≤◌, List, ◌++◌, Option, Some, Bool, true, false, IsTrue, codes}
 use Rattle.std.specs.Fmt.{decimal}
-use Rattle.ebc_names.specs.Names.{is_name}
+use Rattle.ebc_base.specs.Names.{is_name}
 use Rattle.note_texts.specs.declared.cell.CellText.{CellText}
 use Rattle.note_texts.specs.declared.cell.CellText.TheVariants as cells
 use Rattle.note_texts.specs.declared.cell.FieldText.{FieldText}
@@ -47,8 +47,10 @@ IsCellText text cells.N = text ≡ codes "n"
 IsCellText text cells.Stat = text ≡ codes "stat"
 IsCellText text cells.Handle = text ≡ codes "handle"
 IsCellText text cells.Entry = text ≡ codes "entry"
-IsCellText text (cells.Ptr shape count null) = (target : List ℕ) × (text ≡ codes "ptr" ++ (mark_of null ++ target)) × IsCounted target shape count
-IsCellText text (cells.P64 shape count null) = (target : List ℕ) × (text ≡ codes "p64" ++ (mark_of null ++ target)) × IsCounted target shape count
+IsCellText text (cells.Ptr shape count null) = (target : List ℕ) × (text ≡ codes "ptr" ++ (mark_of null ++ target))
+    × IsCounted target shape count
+IsCellText text (cells.P64 shape count null) = (target : List ℕ) × (text ≡ codes "p64" ++ (mark_of null ++ target))
+    × IsCounted target shape count
 IsCellText text (cells.Method name) = (text ≡ codes "method:" ++ name) × IsName name
 
 -- `NAME N C CELL`

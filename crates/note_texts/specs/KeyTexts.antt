@@ -1,9 +1,9 @@
--- How a key stands in a path. docs/NOTES.md has it in words.
+-- Meaning: how a key stands in a path. docs/NOTES.md has it in words.
 use Rattle.std.specs.Prelude.{ℕ, ◌+◌, ◌/◌, ◌%◌, ◌||◌, ◌&&◌, ◌==◌, List, [], ◌∷◌, ◌++◌, length, Bool, codes, nat_lt, if◌then◌else◌}
 use Rattle.std.specs.Char.{encode_utf8}
 use Rattle.std.specs.List.{flat_map, list_all}
 use Rattle.std.specs.Str.{chars}
-use Rattle.ebc_names.specs.Names.{is_letter, is_digit}
+use Rattle.ebc_base.specs.Names.{is_letter, is_digit}
 
 -- a byte that a key has without quotes: a letter, a digit, `_` or `-`
 abbrev pub is_bare_byte : ℕ → Bool

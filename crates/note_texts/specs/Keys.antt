@@ -1,6 +1,7 @@
--- The table that a text is, and what stands at one key of a table, or the fault with its path. docs/NOTES.md has it in words.
-use Rattle.std.specs.Prelude.{ℕ, ℤ, pos, negsuc, List, ◌++◌, Option, Some, None, Result, Ok, Err, nat_le, ◌&&◌, if◌then◌else◌, codes, bytes_eq, Bool, false}
-use Rattle.std.specs.List.{list_any}
+-- Meaning: the table that a text is, and what stands at one key of a table, or the fault with its path. docs/NOTES.md has it
+-- in words.
+use Rattle.std.specs.Prelude.{ℕ, ℤ, pos, negsuc, List, ◌++◌, Option, Some, None, Result, Ok, Err, nat_le, ◌&&◌, if◌then◌else◌, codes, Bool}
+use Rattle.std.specs.Prelude.{false}
 use Rattle.std.specs.Str.{is_utf8}
 use Rattle.std.specs.Fmt.{decimal}
 use Rattle.toml.specs.Data.{Data, Items, no_items, item, Members, no_members, member, get_member, as_str, as_integer, as_bool, as_array}
@@ -10,6 +11,7 @@ use Rattle.note_types.specs.declared.fault.TomlFault.TheVariants.{NotToml, Missi
 use Rattle.note_types.specs.declared.notes.Pair.{Pair}
 use Rattle.note_texts.specs.KeyTexts.{key_text}
 use Rattle.ebc_base.specs.Steps.{◌>>=◌, or_else}
+use Rattle.ebc_base.specs.Tables.{is_named}
 
 -- the table that a text is: UTF-8, and a document of TOML
 unfoldable pub document : List ℕ → Result Members TomlFault
@@ -73,14 +75,10 @@ pair_at prefix key high table = do
   c ← whole_number (prefix ++ key) 0 high two.1
   Ok (record { n = n; c = c })
 
--- a key is among these
-abbrev pub is_known : List ℕ → List (List ℕ) → Bool
-is_known key known = list_any (bytes_eq key) known
-
 -- each key is one of these; of those that are not, the first in the order of their bytes is told
 unfoldable pub only_keys : List ℕ → List (List ℕ) → Members → Result (Unit {0}) TomlFault
 only_keys prefix known no_members = Ok tt
-only_keys prefix known (member k d ms) = if is_known k known then only_keys prefix known ms else Err (Kind (prefix ++ key_text k))
+only_keys prefix known (member k d ms) = if is_named k known then only_keys prefix known ms else Err (Kind (prefix ++ key_text k))
 
 -- the path of an item of the list at a path
 abbrev pub item_path : List ℕ → ℕ → List ℕ

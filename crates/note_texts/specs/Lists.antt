@@ -1,5 +1,6 @@
--- What the list at a key of a TOML table says, or the first fault in it. docs/NOTES.md has it in words.
-use Rattle.std.specs.Prelude.{ℕ, ◌+◌, ◌-◌, List, [], ◌∷◌, ◌++◌, Option, Some, None, Result, Ok, nat_le, if◌then◌else◌, bytes_eq, Bool, false, ◌||◌}
+-- Meaning: what the list at a key of a TOML table says, or the first fault in it. docs/NOTES.md has it in words.
+use Rattle.std.specs.Prelude.{ℕ, ◌+◌, ◌-◌, List, [], ◌∷◌, ◌++◌, Option, Some, None, Result, Ok, nat_le, if◌then◌else◌, bytes_eq, Bool}
+use Rattle.std.specs.Prelude.{false, ◌||◌}
 use Rattle.toml.specs.Data.{Data, Items, no_items, item, Members, get_member, as_str, as_array, as_table}
 use Rattle.note_types.specs.declared.fault.TomlFault.{TomlFault}
 use Rattle.note_types.specs.declared.fault.TomlFault.TheVariants.{Kind, Range}
@@ -81,5 +82,6 @@ unfoldable pub rows_of : {A : Type 0} → (List ℕ → Members → Result A Tom
 rows_of reads path ds = each (row_of reads path) 0 ds
 
 -- what the tables of the list at a key stand for, at most limit of them
-unfoldable pub tables_at : {A : Type 0} → (List ℕ → Members → Result A TomlFault) → List ℕ → List ℕ → ℕ → Members → Result (List A) TomlFault
+unfoldable pub tables_at : {A : Type 0} → (List ℕ → Members → Result A TomlFault) → List ℕ → List ℕ → ℕ → Members
+    → Result (List A) TomlFault
 tables_at reads prefix key limit table = list_at prefix key limit table >>= rows_of reads (prefix ++ key)

@@ -1,10 +1,6 @@
--- The names of small texts, alone and several in a row. docs/NOTES.md says where they stand.
-use Rattle.std.specs.Prelude.{ℕ, List, [], ◌∷◌, Option, Some, None, if◌then◌else◌, option_and_then, option_map}
-use Rattle.ebc_names.specs.Names.{is_name}
-
--- the NAME that a text is
-abbrev pub name_of : List ℕ → Option (List ℕ)
-name_of text = if is_name text then Some text else None
+-- Meaning: the names of small texts, alone and several in a row. docs/NOTES.md says where they stand.
+use Rattle.std.specs.Prelude.{ℕ, List, [], ◌∷◌, Option, Some, if◌then◌else◌, option_and_then, option_map}
+use Rattle.ebc_base.specs.Names.{name_of}
 
 -- the NAMEs that these texts are
 unfoldable pub names_of : List (List ℕ) → Option (List (List ℕ))

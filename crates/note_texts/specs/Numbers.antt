@@ -1,7 +1,8 @@
--- The numbers of small texts: decimal digits with no sign and no leading zero, and a number with a sign where the
+-- Meaning: the numbers of small texts: decimal digits with no sign and no leading zero, and a number with a sign where the
 -- grammar says so. docs/NOTES.md says where they stand.
-use Rattle.std.specs.Prelude.{ℕ, ◌+◌, ◌-◌, ◌*◌, ◌^◌, ℤ, pos, neg_ℤ, List, [], ◌∷◌, Option, Some, None, nat_le, nat_lt, ◌==◌, ◌&&◌, if◌then◌else◌, option_and_then, option_map}
-use Rattle.ebc_names.specs.Names.{is_digit}
+use Rattle.std.specs.Prelude.{ℕ, ◌+◌, ◌-◌, ◌*◌, ◌^◌, ℤ, pos, neg_ℤ, List, [], ◌∷◌, Option, Some, None, nat_le, nat_lt, ◌==◌, ◌&&◌}
+use Rattle.std.specs.Prelude.{if◌then◌else◌, option_and_then, option_map}
+use Rattle.ebc_base.specs.Names.{is_digit}
 
 -- the number with one more digit, below 2^64
 abbrev pub with_digit : ℕ → ℕ → Option ℕ

@@ -1,4 +1,4 @@
--- What a function returns that reads in steps and stops at the first fault. docs/NOTES.md has it in words.
+-- For proofs: what a function returns that reads in steps and stops at the first fault. docs/NOTES.md has it in words.
 use Rattle.std.specs.Prelude.{◌≡◌, Result, Ok, Err}
 use Rattle.note_types.specs.declared.fault.TomlFault.{TomlFault}
 use Rattle.note_types.specs.declared.fault.NotesEnd.{NotesEnd}

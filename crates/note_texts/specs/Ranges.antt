@@ -1,5 +1,5 @@
--- The parts of small texts that are numbers in a row: ranges, pairs, and counts that may be left out. docs/NOTES.md says
--- where they stand.
+-- Meaning: the parts of small texts that are numbers in a row: ranges, pairs, and counts that may be left out. docs/NOTES.md
+-- says where they stand.
 use Rattle.std.specs.Prelude.{ℕ, ◌-◌, ◌^◌, ℤ, List, [], ◌∷◌, Option, Some, None, nat_le, ◌==◌, if◌then◌else◌}
 use Rattle.note_texts.specs.Numbers.{near_of, number_in, number_of, units_of}
 use Rattle.note_texts.specs.Splits.{◌>>=◌, split_at}

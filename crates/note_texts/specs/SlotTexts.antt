@@ -1,4 +1,4 @@
--- The texts of parameters, registers and items of the stack. docs/NOTES.md says what they are.
+-- Meaning: the texts of parameters, registers and items of the stack. docs/NOTES.md says what they are.
 use Rattle.std.specs.Prelude.{ℕ, List, [], ◌∷◌, Option, Some, None, ◌==◌, bytes_eq, codes, if◌then◌else◌}
 use Rattle.note_types.specs.declared.cell.SlotKind.{SlotKind}
 use Rattle.note_types.specs.declared.cell.SlotKind.TheVariants as kinds

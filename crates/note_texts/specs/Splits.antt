@@ -1,4 +1,4 @@
--- Small texts that are cut where a mark first stands in them.
+-- Meaning: Small texts that are cut where a mark first stands in them.
 use Rattle.std.specs.Prelude.{ℕ, List, Option, Some, None, ◌==◌, length, nat_lt, if◌then◌else◌, option_and_then}
 use Rattle.std.specs.List.{position_or_len, before_first, after_first}
 

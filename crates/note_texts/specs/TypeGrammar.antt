@@ -1,11 +1,12 @@
--- The grammar of the texts of types: what each is made of, by its value. docs/NOTES.md has it in words.
+-- For proofs: the grammar of the texts of types: what each is made of, by its value. docs/NOTES.md has it in words.
 use Rattle.std.specs.Prelude.{◌≡◌, ◌⊎◌, ℕ, ◌+◌, ◌-◌, ◌*◌, ◌^◌, ◌<◌, ◌≤◌, ℤ, pos, List, [], ◌∷◌, ◌++◌, ⊤, codes}
 use Rattle.std.specs.Fmt.{decimal, signed_decimal}
 use Rattle.std.specs.List.{flat_map}
 use Rattle.note_types.specs.Types.{IsNear, IsUnits}
 use Rattle.note_texts.specs.Grammar.{IsCellText, IsCounted, IsName, mark_of}
 use Rattle.note_texts.specs.declared.ty.TypeText.{TypeText}
-use Rattle.note_texts.specs.declared.ty.TypeText.TheVariants.{Any, Int, Lin, Scaled, Ptr, Local, Lent, Status, SignedStatus, Mask, Handle, Entry, Method, ThunkAt, Saved}
+use Rattle.note_texts.specs.declared.ty.TypeText.TheVariants.{Any, Int, Lin, Scaled, Ptr, Local, Lent, Status, SignedStatus, Mask, Handle}
+use Rattle.note_texts.specs.declared.ty.TypeText.TheVariants.{Entry, Method, ThunkAt, Saved}
 
 -- `LO..HI`
 abbrev pub range_text : ℕ → ℕ → List ℕ

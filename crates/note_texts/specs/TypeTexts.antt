@@ -1,13 +1,16 @@
--- The texts of types. docs/NOTES.md lists the types.
-use Rattle.std.specs.Prelude.{ℕ, ◌+◌, ◌-◌, ◌*◌, ◌^◌, ℤ, pos, List, [], Option, Some, None, Bool, true, false, nat_lt, ◌==◌, bytes_eq, codes, if◌then◌else◌, option_map}
+-- Meaning: the texts of types. docs/NOTES.md lists the types.
+use Rattle.std.specs.Prelude.{ℕ, ◌+◌, ◌-◌, ◌*◌, ◌^◌, ℤ, pos, List, [], Option, Some, None, Bool, true, false, nat_lt, ◌==◌, bytes_eq, codes}
+use Rattle.std.specs.Prelude.{if◌then◌else◌, option_map}
 use Rattle.std.specs.List.{slice_split}
 use Rattle.note_texts.specs.CellTexts.{cell_of, counted_of}
-use Rattle.note_texts.specs.Names.{name_of, names_of}
+use Rattle.note_texts.specs.Names.{names_of}
 use Rattle.note_texts.specs.Numbers.{number_in, number_of}
 use Rattle.note_texts.specs.Ranges.{count_of, pair_of, range_of}
 use Rattle.note_texts.specs.Splits.{◌>>=◌, parts_at, split_at}
 use Rattle.note_texts.specs.declared.ty.TypeText.{TypeText}
-use Rattle.note_texts.specs.declared.ty.TypeText.TheVariants.{Any, Int, Lin, Scaled, Ptr, Local, Lent, Status, SignedStatus, Mask, Handle, Entry, Method, ThunkAt, Saved}
+use Rattle.note_texts.specs.declared.ty.TypeText.TheVariants.{Any, Int, Lin, Scaled, Ptr, Local, Lent, Status, SignedStatus, Mask, Handle}
+use Rattle.note_texts.specs.declared.ty.TypeText.TheVariants.{Entry, Method, ThunkAt, Saved}
+use Rattle.ebc_base.specs.Names.{name_of}
 
 -- `LO..HI` or `LO..HI/DIV`
 unfoldable pub int_of : List ℕ → Option TypeText

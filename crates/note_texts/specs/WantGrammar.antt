@@ -1,4 +1,4 @@
--- The grammar of the texts of what a native method takes and gives. docs/NOTES.md has it in words.
+-- For proofs: the grammar of the texts of what a native method takes and gives. docs/NOTES.md has it in words.
 use Rattle.std.specs.Prelude.{◌≡◌, ℕ, ◌^◌, ◌<◌, ◌≤◌, pos, List, [], ◌++◌, Some, None, ⊤, codes}
 use Rattle.std.specs.Fmt.{decimal}
 use Rattle.note_texts.specs.Grammar.{IsCellText}
@@ -31,7 +31,8 @@ IsWantText text (Inout cell) = (rest : List ℕ) × (text ≡ codes "inout:" ++ 
 
 -- `n WANT` or `q WANT`
 abbrev pub IsWantParamText : List ℕ → WantParamText → Type 0
-IsWantParamText text p = (want : List ℕ) × (text ≡ kind_text p.kind ++ (codes " " ++ want)) × IsParameterKind p.kind × IsWantText want p.want
+IsWantParamText text p = (want : List ℕ) × (text ≡ kind_text p.kind ++ (codes " " ++ want)) × IsParameterKind p.kind
+    × IsWantText want p.want
 
 -- what a native method may give: a status with no grants, a handle, numbers below 2^32, or the start of an instance
 abbrev pub IsGiven : TypeText → Type 0

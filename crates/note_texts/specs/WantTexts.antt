@@ -1,5 +1,6 @@
--- The texts of what a native method takes and gives. docs/NOTES.md lists them.
-use Rattle.std.specs.Prelude.{ℕ, ◌^◌, ℤ, pos, negsuc, List, [], Option, Some, None, Bool, true, false, nat_lt, ◌==◌, ◌&&◌, bytes_eq, codes, if◌then◌else◌, option_map}
+-- Meaning: the texts of what a native method takes and gives. docs/NOTES.md lists them.
+use Rattle.std.specs.Prelude.{ℕ, ◌^◌, ℤ, pos, negsuc, List, [], Option, Some, None, Bool, true, false, nat_lt, ◌==◌, ◌&&◌, bytes_eq, codes}
+use Rattle.std.specs.Prelude.{if◌then◌else◌, option_map}
 use Rattle.note_texts.specs.CellTexts.{cell_of}
 use Rattle.note_texts.specs.Ranges.{range_of, size_of}
 use Rattle.note_texts.specs.SlotTexts.{parameter_kind}

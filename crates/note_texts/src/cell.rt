@@ -2,8 +2,8 @@
 ghost use Rattle.std.specs.Prelude.{◌≡◌, IfOk, Some, None, option_map};
 ghost use Rattle.note_texts.specs.CellTexts.{cell_of, counted_of, field_of, marked_cell, plain_cell};
 ghost use Rattle.note_texts.specs.Grammar.{IsCellText, IsFieldText, ReadsJust};
-ghost use Rattle.note_texts.specs.Names.{name_of};
 ghost use Rattle.note_texts.specs.declared.cell.CellText.TheVariants.{Ptr, P64, Method};
+ghost use Rattle.ebc_base.specs.Names.{name_of};
 
 use crate::from_text::FromText;
 use crate::number::short_number;

@@ -1,11 +1,11 @@
 //! Names.
 ghost use Rattle.std.specs.Prelude.{◌≡◌, Some, None, IfOk, map};
 ghost use Rattle.note_texts.specs.Grammar.{IsNameText, ReadsJust};
-ghost use Rattle.ebc_names.specs.Names.{is_name};
-ghost use Rattle.note_texts.specs.Names.{name_of, names_of};
+ghost use Rattle.ebc_base.specs.Names.{is_name, name_of};
+ghost use Rattle.note_texts.specs.Names.{names_of};
 
 use crate::from_text::FromText;
-use ebc_names::is_name;
+use ebc_base::is_name;
 use note_types::{Name, Names};
 use std::alloc::{AllocError, Global};
 

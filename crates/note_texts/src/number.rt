@@ -1,7 +1,7 @@
 //! Numbers.
 ghost use Rattle.std.specs.Prelude.{◌≡◌, ◌+◌, ◌-◌, ◌*◌, ◌<◌, ◌≤◌, ◌^◌, Some, None, option_map, IfSome, pos};
 ghost use Rattle.note_texts.specs.Grammar.{IsNumber, ReadsJust};
-ghost use Rattle.ebc_names.specs.Names.{is_digit};
+ghost use Rattle.ebc_base.specs.Names.{is_digit};
 ghost use Rattle.note_texts.specs.Numbers.{near_of, number_from, number_in, number_of, units_of, with_digit, within};
 
 const FURTHEST: u64 = 1 << 20;

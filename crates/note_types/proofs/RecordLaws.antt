@@ -1,11 +1,12 @@
 -- What follows from the conditions on notes, in the form in which it is used.
-use Rattle.std.proofs.Common.{◌≡◌, ℕ, ◌+◌, ◌^◌, ◌<◌, ◌≤◌, List, [], ◌∷◌, length, Option, None, Some, slice_get, count_by, if◌then◌else◌, subst, sym, refl, arith}
+use Rattle.std.proofs.Common.{◌≡◌, ℕ, ◌+◌, ◌^◌, ◌<◌, ◌≤◌, List, [], ◌∷◌, length, Option, None, Some, slice_get, count_by, if◌then◌else◌}
+use Rattle.std.proofs.Common.{subst, sym, refl, arith, zero, suc}
 use Rattle.std.specs.Prelude.{IfSome}
 use Rattle.std.proofs.lemmas.List.Sums.{sum_by-cons}
-use Rattle.std.proofs.lemmas.Option.{same_Some}
-use Rattle.note_types.specs.Known.{IsKnown, IsKnownCell, IsState, Names, is_locals, is_slot}
+use Rattle.std.proofs.lemmas.Option.{same_Some, none-some}
+use Rattle.note_types.specs.Known.{IsKnown, IsKnownCell, Names, is_locals, is_slot}
 use Rattle.note_types.specs.Passing.{IsPassed, IsReturned}
-use Rattle.note_types.specs.Records.{IsNotes, IsResultNote}
+use Rattle.note_types.specs.Records.{IsNotes, IsResultNote, Each}
 use Rattle.note_types.specs.declared.items.Item.{Item}
 use Rattle.note_types.specs.declared.items.Item.TheVariants.{Slot, Locals}
 use Rattle.note_types.specs.declared.notes.FnNote.{FnNote}
@@ -14,9 +15,9 @@ use Rattle.note_types.specs.declared.notes.Param.{Param}
 use Rattle.note_types.specs.declared.notes.Signature.{Signature}
 use Rattle.note_types.specs.declared.shape.Field.{Field}
 use Rattle.note_types.specs.declared.shape.Shape.{Shape}
-use Rattle.note_types.specs.declared.state.State.{State}
 use Rattle.note_types.specs.declared.types.Ty.{Ty}
-use Rattle.note_types.specs.declared.types.Ty.TheVariants.{Any, Int, Lin, Scaled, Ptr, Local, Lent, Status, SignedStatus, Mask, Handle, Entry, Method, ThunkAt, Saved}
+use Rattle.note_types.specs.declared.types.Ty.TheVariants.{Any, Int, Lin, Scaled, Ptr, Local, Lent, Status, SignedStatus, Mask, Handle}
+use Rattle.note_types.specs.declared.types.Ty.TheVariants.{Entry, Method, ThunkAt, Saved}
 use Rattle.note_types.proofs.TypeLaws.{no_fields}
 
 -- ---- what the calls of this crate need
@@ -28,7 +29,8 @@ fields_few notes k s h e = let l = (h.shapes k s e).few in omega arith
 -- ---- cells
 
 -- the cells of the shapes are known
-pub cells_known : (notes : Notes) (k x : ℕ) (s : Shape) (y : Field) → IsNotes notes → slice_get notes.shape k ≡ Some s → slice_get s.fields x ≡ Some y → IsKnownCell notes y.cell
+pub cells_known : (notes : Notes) (k x : ℕ) (s : Shape) (y : Field) → IsNotes notes → slice_get notes.shape k ≡ Some s
+    → slice_get s.fields x ≡ Some y → IsKnownCell notes y.cell
 cells_known notes k x s y h e i = ((h.shapes k s e).fields x y i).cell
 
 -- ---- types that pass from one function to another
@@ -78,7 +80,8 @@ returned_passed (Method m) h = h
 returned_passed (Saved r) h = h
 
 -- the types of a function's parameters are known in every function
-pub params_known : (notes : Notes) (k j : ℕ) (f g : FnNote) (p : Param) → IsNotes notes → slice_get notes.function k ≡ Some f → slice_get f.params j ≡ Some p → IsKnown notes g p.ty
+pub params_known : (notes : Notes) (k j : ℕ) (f g : FnNote) (p : Param) → IsNotes notes → slice_get notes.function k ≡ Some f
+    → slice_get f.params j ≡ Some p → IsKnown notes g p.ty
 params_known notes k j f g p h e i = let q = (h.functions k f e).params j p i in passed_known notes f g p.ty q.passed q.known
 
 -- a function's result is known in every function
@@ -87,7 +90,8 @@ results_known notes k f g h e =
     let q = h.functions k f e in passed_known notes f g f.result (returned_passed f.result q.returned) q.result
 
 -- a native method's result is known in every function
-pub replies_known : (notes : Notes) (k : ℕ) (f : FnNote) (g : Signature) (t : Ty) → IsNotes notes → slice_get notes.signature k ≡ Some g → g.result ≡ Some t → IsKnown notes f t
+pub replies_known : (notes : Notes) (k : ℕ) (f : FnNote) (g : Signature) (t : Ty) → IsNotes notes → slice_get notes.signature k ≡ Some g
+    → g.result ≡ Some t → IsKnown notes f t
 replies_known notes k f g t h e r =
     reply g.result t r (h.signatures k g e).result
   where
@@ -111,6 +115,9 @@ slots_and_locals (Locals ∷ items) =
     let b = sum_by-cons (λ x. if is_locals x then 1 else 0) Locals items in
     omega arith
 
--- a state has at most 65 items
-pub items_few : (notes : Notes) (f : FnNote) (s : State) → IsState notes f s → length s.items ≤ 65
-items_few notes f s h = let a = h.few in let b = h.once in let e = slots_and_locals s.items in omega arith
+pub each_none : {A : Type 0} (P : A → Type 0) → Each P []
+each_none P k x e = absurd (none-some x e)
+
+pub each_more : {A : Type 0} (P : A → Type 0) (x : A) (xs : List A) → P x → Each P xs → Each P (x ∷ xs)
+each_more P x xs h g zero y e = subst P (same_Some x y e) h
+each_more P x xs h g (suc k) y e = g k y e

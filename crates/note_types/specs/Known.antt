@@ -1,6 +1,7 @@
--- What a type of a function's register or slot may name, and what a state of a function is: types within their bounds,
--- which name only things of the notes and fields of the function's locals. docs/NOTES.md says what a state is.
-use Rattle.std.specs.Prelude.{◌≡◌, ℕ, ◌^◌, ◌<◌, ◌≤◌, Bool, true, false, List, [], Option, None, Some, length, option_and_then, slice_get, count_by, is_some, ⊤}
+-- Meaning: what a type of a function's register or slot may name, and what a state of a function is: types within their
+-- bounds, which name only things of the notes and fields of the function's locals. docs/NOTES.md says what a state is.
+use Rattle.std.specs.Prelude.{◌≡◌, ℕ, ◌^◌, ◌<◌, ◌≤◌, Bool, true, false, List, [], Option, None, Some, length, option_and_then, slice_get}
+use Rattle.std.specs.Prelude.{count_by, is_some, ⊤}
 use Rattle.note_types.specs.Cells.{IsBoundedCell}
 use Rattle.note_types.specs.FieldSets.{HasField}
 use Rattle.note_types.specs.States.{type_of}
@@ -17,7 +18,8 @@ use Rattle.note_types.specs.declared.shape.Shape.{Shape}
 use Rattle.note_types.specs.declared.state.Fact.{Fact}
 use Rattle.note_types.specs.declared.state.State.{State}
 use Rattle.note_types.specs.declared.types.Ty.{Ty}
-use Rattle.note_types.specs.declared.types.Ty.TheVariants.{Any, Int, Lin, Scaled, Ptr, Local, Lent, Status, SignedStatus, Mask, Handle, Entry, Method, ThunkAt, Saved}
+use Rattle.note_types.specs.declared.types.Ty.TheVariants.{Any, Int, Lin, Scaled, Ptr, Local, Lent, Status, SignedStatus, Mask, Handle}
+use Rattle.note_types.specs.declared.types.Ty.TheVariants.{Entry, Method, ThunkAt, Saved}
 
 -- ---- a function's locals
 

@@ -1,4 +1,4 @@
--- The limits of notes. docs/NOTES.md lists them.
+-- Meaning: the limits of notes. docs/NOTES.md lists them.
 use Rattle.std.specs.Prelude.{ℕ, nat_eq, if◌then◌else◌}
 
 -- how many bytes of code all functions of notes of a version have at most; there is only version 1

@@ -1,12 +1,13 @@
--- Which types notes allow where: what a natural slot keeps, what passes the boundary to the firmware, what a call hands
--- over. docs/NOTES.md, "The conditions" and "Texts", lists them.
+-- For proofs: which types notes allow where: what a natural slot keeps, what passes the boundary to the firmware, what a
+-- call hands over. docs/NOTES.md, "The conditions" and "Texts", lists them.
 use Rattle.std.specs.Prelude.{◌≡◌, ◌^◌, ◌<◌, ℤ, pos, negsuc, ⊤}
 use Rattle.note_types.specs.declared.cell.SlotKind.{SlotKind}
 use Rattle.note_types.specs.declared.cell.SlotKind.TheVariants as kind
 use Rattle.note_types.specs.declared.notes.Want.{Want}
 use Rattle.note_types.specs.declared.notes.Want.TheVariants as want
 use Rattle.note_types.specs.declared.types.Ty.{Ty}
-use Rattle.note_types.specs.declared.types.Ty.TheVariants.{Any, Int, Lin, Scaled, Ptr, Local, Lent, Status, SignedStatus, Mask, Handle, Entry, Method, ThunkAt, Saved}
+use Rattle.note_types.specs.declared.types.Ty.TheVariants.{Any, Int, Lin, Scaled, Ptr, Local, Lent, Status, SignedStatus, Mask, Handle}
+use Rattle.note_types.specs.declared.types.Ty.TheVariants.{Entry, Method, ThunkAt, Saved}
 
 -- the pair is (0, 0)
 abbrev pub IsStart : ℤ → ℤ → Type 0

@@ -1,6 +1,7 @@
--- The conditions on notes: on each record, and on all together. docs/NOTES.md has them in words: the table of the keys has
--- the limits of numbers and lists, and "The conditions" the rest.
-use Rattle.std.specs.Prelude.{◌≡◌, ℕ, ◌+◌, ◌-◌, ◌*◌, ◌^◌, ◌<◌, ◌≤◌, Bool, true, ◌&&◌, nat_le, nat_lt, List, Option, Some, None, IfSome, length, map, slice_get, sum_by, ⊤}
+-- Meaning: the conditions on notes: on each record, and on all together. docs/NOTES.md has them in words: the table of the
+-- keys has the limits of numbers and lists, and "The conditions" the rest.
+use Rattle.std.specs.Prelude.{◌≡◌, ℕ, ◌+◌, ◌-◌, ◌*◌, ◌^◌, ◌<◌, ◌≤◌, Bool, true, ◌&&◌, nat_le, nat_lt, List, Option, Some, None, IfSome}
+use Rattle.std.specs.Prelude.{length, map, slice_get, sum_by, ⊤}
 use Rattle.std.specs.List.{find}
 use Rattle.std.specs.List.Sorted.{IsStrictlyIncreasing}
 use Rattle.note_types.specs.Known.{AreFields, IsKnown, IsKnownCell, IsState, local_fields}

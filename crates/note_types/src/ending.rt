@@ -4,7 +4,7 @@ use crate::reason::Reason;
 use crate::value::Value;
 
 /// How far a run is. One that ended stays as it is.
-#[derive(Clone, Copy, PartialEq, Eq, Debug)]
+#[derive(Clone, Copy, PartialEq, Eq)]
 pub enum Ending {
     /// It goes on.
     Running,

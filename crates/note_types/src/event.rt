@@ -4,7 +4,7 @@ use crate::value::Value;
 
 /// What firmware and code do with one another, as a run reports it. Functions and signatures are their numbers in the
 /// notes' order.
-#[derive(PartialEq, Debug, Drop)]
+#[derive(PartialEq, Drop)]
 pub enum Event {
     /// The call instruction at a place, an offset from the image's base in bytes, called a native method by the signature
     /// of its site, `None` where the place has no site. It has no arguments where the place has no site or an argument

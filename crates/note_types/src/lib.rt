@@ -30,7 +30,7 @@ pub use below::{divides, fits_below, ty_below};
 pub use cell::{Cell, SlotKind, cell_size, content_type};
 pub use ebc_base::{Name, NoMemory, Sequence};
 pub use ending::Ending;
-pub use entry::entry_state;
+pub use entry::{enter, entry_state};
 pub use event::Event;
 pub use exception::Exception;
 pub use fault::{NotesEnd, TomlFault};
@@ -52,8 +52,3 @@ pub use spot::Spot;
 pub use state::{Fact, State};
 pub use types::Ty;
 pub use value::Value;
-
-#[cfg(test)]
-mod record_tests;
-#[cfg(test)]
-mod tests;

@@ -2,7 +2,7 @@
 use crate::seen::Seen;
 
 /// Why a run and its script don't match.
-#[derive(Clone, Copy, PartialEq, Eq, Debug)]
+#[derive(Clone, Copy, PartialEq, Eq)]
 pub enum Reason {
     /// The call instruction at the place, an offset from the image's base in bytes, has no site.
     Site {

@@ -5,7 +5,7 @@ use crate::value::Value;
 use ebc_base::Sequence;
 
 /// What a cell of an object holds at first.
-#[derive(Clone, Copy, PartialEq, Eq, Debug)]
+#[derive(Clone, Copy, PartialEq, Eq)]
 pub struct CellValue {
     pub instance: u64,
     pub field: u32,
@@ -13,7 +13,7 @@ pub struct CellValue {
 }
 
 /// An object of `count` instances of a shape, at least one. What `cells` doesn't name is zero.
-#[derive(Debug, Drop)]
+#[derive(Drop)]
 pub struct ScriptObject {
     pub shape: u32,
     pub count: u64,
@@ -21,21 +21,21 @@ pub struct ScriptObject {
 }
 
 /// A function that the firmware enters during a native call, and the values of its parameters.
-#[derive(Debug, Drop)]
+#[derive(Drop)]
 pub struct Callback {
     pub function: u32,
     pub values: Values,
 }
 
 /// What a native method leaves in the cell that an argument, counted from 0, is the address of.
-#[derive(Clone, Copy, PartialEq, Eq, Debug)]
+#[derive(Clone, Copy, PartialEq, Eq)]
 pub struct OutValue {
     pub argument: u64,
     pub value: Value,
 }
 
 /// What a native method leaves in a cell of a typed object.
-#[derive(Clone, Copy, PartialEq, Eq, Debug)]
+#[derive(Clone, Copy, PartialEq, Eq)]
 pub struct WriteValue {
     pub object: u64,
     pub instance: u64,
@@ -45,7 +45,7 @@ pub struct WriteValue {
 
 /// One native call: which arguments it takes, and what the firmware does then, in this order: it makes objects, enters
 /// functions, writes cells of objects and then cells that the arguments are addresses of, and gives a result.
-#[derive(Debug, Drop)]
+#[derive(Drop)]
 pub struct ScriptCall {
     pub signature: u32,
     pub args: SeenValues,
@@ -58,7 +58,7 @@ pub struct ScriptCall {
 
 /// What the firmware does in a run: the arguments of the entry function, the objects that are there from the start, and
 /// the native calls in the order in which they are to come.
-#[derive(Debug, Drop)]
+#[derive(Drop)]
 pub struct Script {
     pub version: u32,
     pub args: Values,

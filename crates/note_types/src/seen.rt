@@ -2,7 +2,7 @@
 use crate::value::Value;
 
 /// A value that was read from an argument, or, where `lent`, from the cell at the address that is the argument.
-#[derive(Clone, Copy, PartialEq, Eq, Debug)]
+#[derive(Clone, Copy, PartialEq, Eq)]
 pub struct Seen {
     pub lent: bool,
     pub value: Value,

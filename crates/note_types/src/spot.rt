@@ -1,7 +1,7 @@
 //! Where a run stands.
 
 /// Where a run stands between two steps.
-#[derive(Clone, Copy, PartialEq, Eq, Debug)]
+#[derive(Clone, Copy, PartialEq, Eq)]
 pub enum Spot {
     /// At a place of the image, an offset from its base in bytes.
     Place(u32),

@@ -2,7 +2,7 @@
 
 /// A value as a script writes it and a run reports it. Objects, instances, handles, functions and methods are their
 /// numbers: typed objects as docs/HOST.md, "Objects", counts them, functions and methods in the notes' order.
-#[derive(Clone, Copy, PartialEq, Eq, Debug)]
+#[derive(Clone, Copy, PartialEq, Eq)]
 pub enum Value {
     /// A number.
     Int(u64),

@@ -1,7 +1,8 @@
--- How a memory of objects lies in the bytes of one region, its cells: the byte at an address is the cell at the address less the
--- first base.
--- This is how the crate keeps a memory (docs/DECISIONS.md, on the modelled host's memory). No caller sees it.
-use Rattle.std.specs.Prelude.{◌≡◌, ℕ, ◌+◌, ◌-◌, ◌*◌, ◌/◌, ◌^◌, ◌<◌, ◌≤◌, List, length, map, take, drop, sum_by, All, AllPairs, slice_get, slice_index, Some, true}
+-- For proofs: how a memory of objects lies in the bytes of one region, its cells: the byte at an address is the cell at the
+-- address less the first base. This is how the crate keeps a memory (docs/DECISIONS.md, on the modelled host's memory). No
+-- caller sees it.
+use Rattle.std.specs.Prelude.{◌≡◌, ℕ, ◌+◌, ◌-◌, ◌*◌, ◌/◌, ◌^◌, ◌<◌, ◌≤◌, List, length, map, take, drop, sum_by, All, AllPairs, slice_get}
+use Rattle.std.specs.Prelude.{slice_index, Some, true}
 use Rattle.ebc_width.specs.Width.{IsWidth}
 use Rattle.ebc_width.specs.Ranges.{Range, covers, holds}
 use Rattle.object_memory.specs.Memory.{Object, Memory, ranges, padded, first_base, next_base, top_limit}
@@ -22,12 +23,12 @@ pub record IsSpan (w count : ℕ) (s : Span) : Type 0 where
   pub some : 1 ≤ s.size
 
 -- the object at a span
-abbrev pub object_of : ℕ → List ℕ → Span → Object
-object_of w cells s = record { base = s.base; size = s.size; bytes = take s.size (drop (s.base - first_base w) cells) }
+abbrev pub object_in : ℕ → List ℕ → Span → Object
+object_in w cells s = record { base = s.base; size = s.size; bytes = take s.size (drop (s.base - first_base w) cells) }
 
 -- the memory whose objects lie at these spans
 abbrev pub memory_of : ℕ → List Span → List ℕ → ℕ → ℕ → Memory
-memory_of w spans cells limit most = record { objects = map (object_of w cells) spans; byte_limit = limit; object_limit = most }
+memory_of w spans cells limit most = record { objects = map (object_in w cells) spans; byte_limit = limit; object_limit = most }
 
 -- What holds of the parts of a memory, of whose cells the first `count` are taken; `room` is what is reserved for spans.
 pub record IsLayout (w : ℕ) (spans : List Span) (cells : List ℕ) (count most room : ℕ) : Type 0 where
@@ -47,7 +48,8 @@ pub record IsLayout (w : ℕ) (spans : List Span) (cells : List ℕ) (count most
 pub record AreHomes (first : ℕ) (spans : List Span) (homes : List ℕ) : Type 0 where
   pub above : All (λ s. first ≤ s.base) spans
   pub numbers : All (λ n. n < length spans) homes
-  pub found : (i a : ℕ) (s : Span) → slice_get spans i ≡ Some s → s.base ≤ a → a < s.base + padded s.size → slice_get homes ((a - first) / 16) ≡ Some i
+  pub found : (i a : ℕ) (s : Span) → slice_get spans i ≡ Some s → s.base ≤ a → a < s.base + padded s.size
+      → slice_get homes ((a - first) / 16) ≡ Some i
 
 -- What holds of all that a memory is kept in: a home for each 16 cells that are taken; `room` and `index_room` are what is
 -- reserved for spans and for homes.

@@ -24,7 +24,7 @@ pub enum PlaceFault {
 }
 
 /// An object: its number in the order of placing, from 0, and the address of its first byte.
-#[derive(Clone, Copy, PartialEq, Eq, Debug)]
+#[derive(Clone, Copy, PartialEq, Eq)]
 pub struct ObjId {
     pub number: u32,
     pub base: u64,

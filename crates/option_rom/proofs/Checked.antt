@@ -1,5 +1,6 @@
 -- The conditions on an image as they are said, and as they are tried.
-use Rattle.std.proofs.Common.{◌≡◌, ℕ, ◌+◌, ◌*◌, ◌<◌, ◌≤◌, Bool, true, false, not, ◌||◌, List, length, refl, sym, ap, ◌∙◌, subst, Result, Ok, Err}
+use Rattle.std.proofs.Common.{◌≡◌, ℕ, ◌+◌, ◌*◌, ◌<◌, ◌≤◌, Bool, true, false, not, ◌||◌, List, length, refl, sym, ap, ◌∙◌, subst, Result, Ok}
+use Rattle.std.proofs.Common.{Err}
 use Rattle.std.specs.Prelude.{bit_and, bytes_eq, codes, nat_eq, nat_le, nat_lt}
 use Rattle.std.proofs.lemmas.Bool.{and_parts, eq-eqb, eqb-true, le-leb, leb-true, lt-ltb, ltb-true, true≢false}
 use Rattle.std.proofs.lemmas.Slice.Eq.{bytes_eq-Decides}
@@ -7,7 +8,8 @@ use Rattle.ebc_base.specs.Steps.{◌>>=◌, passes}
 use Rattle.pe_image.specs.Fields.{bytes_at}
 use Rattle.option_rom.specs.declared.fault.RomFault.TheVariants as faults
 use Rattle.option_rom.specs.declared.image.RomImage.{RomImage}
-use Rattle.option_rom.specs.Conditions.{Fault, checked, has_blocks, has_header, has_structure, header_checked, is_marked, is_other_or_signed, is_pcir, is_signed, length_checked, size_at}
+use Rattle.option_rom.specs.Conditions.{Fault, checked, has_blocks, has_header, has_structure, header_checked, is_marked}
+use Rattle.option_rom.specs.Conditions.{is_other_or_signed, is_pcir, is_signed, length_checked, size_at}
 use Rattle.option_rom.specs.Fields.{blocks, code_type, efi_signature, indicator, mark, start, structure}
 use Rattle.option_rom.specs.Images.{IsMarkedLast, IsRomImage, image_at, size_of}
 use Rattle.option_rom.specs.Roms.{is_last}
@@ -39,11 +41,13 @@ IsRomImage-checked file at h =
     let two = both_passed (passes (is_marked file at) (faults.Mark, at)) _ tt one.1 in
     let three = both_passed (passes (has_structure file at) (faults.Short, at)) _ tt two.1 in
     let five = both_passed (passes (has_blocks file at) (faults.Length, place + 16)) _ tt both.1 in
-    let length_is = and_parts (nat_lt 0 (blocks file place)) (nat_le (at + size_at file at) (length file)) (is_true (has_blocks file at) _ five.0) in
+    let length_is = and_parts (nat_lt 0 (blocks file place)) (nat_le (at + size_at file at) (length file))
+    (is_true (has_blocks file at) _ five.0) in
     let some : nat_lt 0 (blocks file place) ≡ true = length_is.0 in
     let pcir : bytes_eq (bytes_at file place 4) (codes "PCIR") ≡ true = is_true (is_pcir file at) _ three.1 in
     let signed : code_type file place ≡ 3 → is_signed file at ≡ true =
-    λ is. efi_from (nat_eq (code_type file place) 3) (is_signed file at) (is_true (is_other_or_signed file at) _ five.1) (ap (λ n. nat_eq n 3) is) in
+    λ is. efi_from (nat_eq (code_type file place) 3) (is_signed file at) (is_true (is_other_or_signed file at) _ five.1)
+    (ap (λ n. nat_eq n 3) is) in
     record {
       record_is = refl;
       header = leb-true (at + 26) (length file) (is_true (has_header file at) _ one.0);
@@ -63,7 +67,8 @@ unfolding image_at
 signed_of file r is efi =
     let size : size_of r ≡ size_at file r.offset = ap size_of is.record_is in
     let signature : nat_eq (efi_signature file r.offset) 0x0EF1 ≡ true = eq-eqb (efi_signature file r.offset) 0x0EF1 (is.signed efi) in
-    let begins : nat_le (start file r.offset) (size_at file r.offset) ≡ true = ap (nat_le (start file r.offset)) (sym size) ∙ le-leb (start file r.offset) (size_of r) (is.starts efi) in
+    let begins : nat_le (start file r.offset) (size_at file r.offset) ≡ true = ap (nat_le (start file r.offset)) (sym size)
+    ∙ le-leb (start file r.offset) (size_of r) (is.starts efi) in
     rw (signature, begins) refl
 
 pub checked-image : (file : List ℕ) (r : RomImage) → IsRomImage file r → checked file r.offset ≡ Ok tt
@@ -75,20 +80,24 @@ checked-image file r is =
     let header : nat_le (r.offset + 26) (length file) ≡ true = le-leb (r.offset + 26) (length file) is.header in
     let marked : nat_eq (mark file r.offset) 0xAA55 ≡ true = eq-eqb (mark file r.offset) 0xAA55 is.marked in
     let placed : nat_le (place + 24) (length file) ≡ true = le-leb (place + 24) (length file) is.placed in
-    let pcir : bytes_eq (bytes_at file place 4) (codes "PCIR") ≡ true = (bytes_eq-Decides (bytes_at file place 4) (codes "PCIR")).1 is.pcir in
+    let pcir : bytes_eq (bytes_at file place 4) (codes "PCIR") ≡ true =
+    (bytes_eq-Decides (bytes_at file place 4) (codes "PCIR")).1 is.pcir in
     let some : nat_lt 0 (blocks file place) ≡ true = lt-ltb 0 (blocks file place) (subst (λ n. 0 < n) count is.some) in
-    let within : nat_le (r.offset + size_at file r.offset) (length file) ≡ true = le-leb (r.offset + size_at file r.offset) (length file) (subst (λ n. r.offset + 512 * n ≤ length file) count is.within) in
+    let within : nat_le (r.offset + size_at file r.offset) (length file) ≡ true =
+    le-leb (r.offset + size_at file r.offset) (length file) (subst (λ n. r.offset + 512 * n ≤ length file) count is.within) in
     let other : is_other_or_signed file r.offset ≡ true = by_type (nat_eq (code_type file place) 3) refl in
     rw (header, marked, placed, pcir, some, within, other) refl
   where
     by_type : (b : Bool) → nat_eq (code_type file (structure file r.offset)) 3 ≡ b → (not b || is_signed file r.offset) ≡ true
     by_type false e = refl
-    by_type true e = signed_of file r is (ap (λ (s : RomImage). s.code_type) is.record_is ∙ eqb-true (code_type file (structure file r.offset)) 3 e)
+    by_type true e = signed_of file r is (ap (λ (s : RomImage). s.code_type) is.record_is
+        ∙ eqb-true (code_type file (structure file r.offset)) 3 e)
 
 -- ---- the last image
 
 pub marked_last : (file : List ℕ) (r : RomImage) → is_last file r.offset ≡ true → IsMarkedLast file r
-marked_last file r h zero_there = absurd (true≢false (sym h ∙ ap (λ b. not b) (eq-eqb (bit_and (indicator file (structure file r.offset)) 0x80) 0 zero_there)))
+marked_last file r h zero_there = absurd (true≢false (sym h ∙ ap (λ b. not b)
+    (eq-eqb (bit_and (indicator file (structure file r.offset)) 0x80) 0 zero_there)))
 
 pub not_last : (file : List ℕ) (r : RomImage) → is_last file r.offset ≡ false → ¬ IsMarkedLast file r
 not_last file r h marked = marked (eqb-true (bit_and (indicator file (structure file r.offset)) 0x80) 0 (not_false _ h))

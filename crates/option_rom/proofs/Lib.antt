@@ -1,4 +1,3 @@
-pub mod Padded
 pub mod Checked
 pub mod Walks
 pub mod Takings

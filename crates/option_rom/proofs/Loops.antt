@@ -1,5 +1,6 @@
 -- The loop that reads the images of a file.
-use Rattle.std.proofs.Common.{◌≡◌, ℕ, suc, ◌+◌, ◌-◌, ◌^◌, ◌≤◌, List, [], ◌∷◌, ◌++◌, length, get_or, sym, ap, subst, ◌∙◌, arith, length-append, Option, Some, None, Ok}
+use Rattle.std.proofs.Common.{◌≡◌, ℕ, suc, ◌+◌, ◌-◌, ◌^◌, ◌≤◌, List, [], ◌∷◌, ◌++◌, length, get_or, sym, ap, subst, ◌∙◌, arith}
+use Rattle.std.proofs.Common.{length-append, Option, Some, None, Ok}
 use Rattle.std.specs.Prelude.{All, IfSome}
 use Rattle.std.proofs.lemmas.Option.{IfSome_then}
 use Rattle.option_rom.specs.declared.fault.RomEnd.{RomEnd}
@@ -25,8 +26,10 @@ HasRead-none file images none =
 
 -- one image more is read
 pub HasRead-more :
-    (file : List ℕ) (old new : List RomImage) (now next : Option ℕ) (at : ℕ) → HasRead file old now → now ≡ Some at → checked file at ≡ Ok tt →
-    new ≡ old ++ image_at file at ∷ [] → next ≡ next_of file at → IfSome next (λ n. (at + 512 ≤ n) × (n ≤ length file)) → HasRead file new next
+    (file : List ℕ) (old new : List RomImage) (now next : Option ℕ) (at : ℕ) → HasRead file old now → now ≡ Some at
+    → checked file at ≡ Ok tt →
+    new ≡ old ++ image_at file at ∷ [] → next ≡ next_of file at → IfSome next (λ n. (at + 512 ≤ n) × (n ≤ length file))
+    → HasRead file new next
 HasRead-more file old new now next at h is passes pushed after later =
     let P : Option ℕ → Type 0 = λ o. IfSome o (λ a. (length old ≤ a) × (a ≤ length file)) in
     let ahead : (length old ≤ at) × (at ≤ length file) = subst P is h.ahead in
@@ -34,8 +37,7 @@ HasRead-more file old new now next at h is passes pushed after later =
     let count : length new ≡ length old + 1 = ap length pushed ∙ length-append old (image_at file at ∷ []) in
     let left : length file - length old ≡ length file + 1 - length new = omega arith in
     record {
-      rest =
-          h.rest
+      rest = h.rest
           ∙ (ap (λ o. images_from (length file + 1 - length old) file old o) is
           ∙ (ap (λ n. images_from n file old (Some at)) fuel
           ∙ (one_more (length file - length old) file old at passes

@@ -1,5 +1,6 @@
 -- The walk over the images of a file finds the images of an option ROM, or the first fault.
-use Rattle.std.proofs.Common.{◌≡◌, ℕ, zero, suc, ◌+◌, ◌-◌, ◌<◌, ◌≤◌, ⊎_elim, Bool, true, false, cond, List, [], ◌∷◌, ◌++◌, length, get_or, take, refl, sym, ap, ◌∙◌, subst, arith, length-append, Some, None, Result, Ok, Err}
+use Rattle.std.proofs.Common.{◌≡◌, ℕ, zero, suc, ◌+◌, ◌-◌, ◌<◌, ◌≤◌, ⊎_elim, Bool, true, false, cond, List, [], ◌∷◌, ◌++◌, length, get_or}
+use Rattle.std.proofs.Common.{take, refl, sym, ap, ◌∙◌, subst, arith, length-append, Some, None, Result, Ok, Err}
 use Rattle.std.specs.Prelude.{All, IfSome, nat_le, slice_get, sum_by}
 use Rattle.std.proofs.Math.Seq.{get_or-append_seam, take-append_seam, take-length}
 use Rattle.std.proofs.lemmas.Bool.{cases_lt}
@@ -50,8 +51,7 @@ Stand-push file images r s is at =
     record {
       within = omega (arith, length-append images (r ∷ []));
       each = λ i d less. by_place (λ x. IsRomImage file x) i d less (λ inside. s.each i d inside) is;
-      stands =
-          λ i d less.
+      stands = λ i d less.
           ⊎_elim
           (λ inside.
           ap (λ (x : RomImage). x.offset) (get_or_append_left images (r ∷ []) d i inside)
@@ -82,7 +82,8 @@ reach file images (suc k) s =
     let before = reach file images k (Stand-fewer file images k s) in
     let here : IsRomImage file (get_or images k d) = s.each k d (omega arith) in
     let at : (get_or images k d).offset ≡ reached k images = s.stands k d (omega arith) in
-    let more : reached (suc k) images ≡ reached k images + size_of (get_or images k d) = reached_more images k d (omega (arith, s.within)) in
+    let more : reached (suc k) images ≡ reached k images + size_of (get_or images k d) =
+    reached_more images k d (omega (arith, s.within)) in
     (omega (arith, before.0, here.some), omega (arith, here.within))
 
 -- they follow each other, as the standard says it
@@ -91,8 +92,7 @@ follow file images s =
     record {
       each = s.each;
       first = at_first images (λ d within. s.stands 0 d within);
-      next =
-          λ k d within.
+      next = λ k d within.
           let one : suc k ≡ k + 1 = omega arith in
           let inside : k < length images = omega arith in
           (ap (λ n. (get_or images n d).offset) (sym one) ∙ s.stands (suc k) d (omega arith))
@@ -157,7 +157,8 @@ unfolding next_of
 passed_on n file images r is more =
     one_more n file images r.offset (checked-image file r is)
     ∙ (ap (λ x. images_from n file (images ++ x ∷ []) (next_of file r.offset)) (sym is.record_is)
-    ∙ (ap (λ b. images_from n file (images ++ r ∷ []) (cond b None (Some (r.offset + size_at file r.offset)))) (open_end (is_last file r.offset) refl)
+    ∙ (ap (λ b. images_from n file (images ++ r ∷ []) (cond b None (Some (r.offset + size_at file r.offset))))
+    (open_end (is_last file r.offset) refl)
     ∙ ap (λ m. images_from n file (images ++ r ∷ []) (Some (r.offset + m))) (sym (size-is file r.offset) ∙ ap size_of (sym is.record_is))))
   where
     open_end : (b : Bool) → is_last file r.offset ≡ b → is_last file r.offset ≡ false
@@ -171,7 +172,8 @@ unfolding next_of
 ends_with n file images r is last =
     one_more n file images r.offset (checked-image file r is)
     ∙ (ap (λ x. images_from n file (images ++ x ∷ []) (next_of file r.offset)) (sym is.record_is)
-    ∙ (ap (λ b. images_from n file (images ++ r ∷ []) (cond b None (Some (r.offset + size_at file r.offset)))) (at_end (is_last file r.offset) refl)
+    ∙ (ap (λ b. images_from n file (images ++ r ∷ []) (cond b None (Some (r.offset + size_at file r.offset))))
+    (at_end (is_last file r.offset) refl)
     ∙ none_left n file (images ++ r ∷ [])))
   where
     at_end : (b : Bool) → is_last file r.offset ≡ b → is_last file r.offset ≡ true
@@ -181,7 +183,8 @@ ends_with n file images r is last =
 -- ---- the walk passes images of which none is the last
 
 walked :
-    (file : List ℕ) (images : List RomImage) (k n : ℕ) → Stand file images k → ((i : ℕ) (d : RomImage) → i < k → ¬ IsMarkedLast file (get_or images i d)) →
+    (file : List ℕ) (images : List RomImage) (k n : ℕ) → Stand file images k
+    → ((i : ℕ) (d : RomImage) → i < k → ¬ IsMarkedLast file (get_or images i d)) →
     images_from (k + n) file [] (Some 0) ≡ images_from n file (take k images) (Some (reached k images))
 walked file images zero n s more = let none : 0 + n ≡ n = omega arith in rw none refl
 walked file images (suc k) n s more =
@@ -232,7 +235,8 @@ fault-read file kind offset is =
     let bounds = reach file images k s in
     let n : ℕ = length file - k in
     let fuel : length file + 1 ≡ k + suc n = omega (arith, bounds.0, bounds.1) in
-    let here : checked file (reached k images) ≡ Err (kind, offset) = ap (λ xs. checked file (sum_by size_of xs)) (take-length images) ∙ is.here in
+    let here : checked file (reached k images) ≡ Err (kind, offset) = ap (λ xs. checked file (sum_by size_of xs)) (take-length images)
+    ∙ is.here in
     ap (λ m. images_from m file [] (Some 0)) fuel
     ∙ (walked file images k (suc n) s is.more ∙ one_fails n file (take k images) (reached k images) (kind, offset) here)
 
@@ -281,8 +285,7 @@ rom_by file images r g is at last =
     record {
       follow = follow file (images ++ r ∷ []) (subst (Stand file (images ++ r ∷ [])) count (Stand-push file images r g.stand is at));
       some = omega (arith, length-append images (r ∷ []));
-      last =
-          λ i d within.
+      last = λ i d within.
           ⊎_elim
           (λ inside.
           let open_end : ¬ IsMarkedLast file (get_or (images ++ r ∷ []) i d) =
@@ -290,7 +293,8 @@ rom_by file images r g is at last =
           (λ marked. absurd (open_end marked), λ at_end. absurd (omega (arith, length-append images (r ∷ [])))))
           (λ past.
           let here : length images ≡ i = omega (arith, length-append images (r ∷ [])) in
-          let marked : IsMarkedLast file (get_or (images ++ r ∷ []) i d) = subst (IsMarkedLast file) (sym (get_or-append_seam images r [] d) ∙ ap (λ n. get_or (images ++ r ∷ []) n d) here) last in
+          let marked : IsMarkedLast file (get_or (images ++ r ∷ []) i d) =
+          subst (IsMarkedLast file) (sym (get_or-append_seam images r [] d) ∙ ap (λ n. get_or (images ++ r ∷ []) n d) here) last in
           (λ m. omega (arith, length-append images (r ∷ [])), λ at_end. marked))
           (cases_lt i (length images));
     }
@@ -314,7 +318,8 @@ told zero file images g enough =
     fault_by file images (faults.Short, sum_by size_of images) g (short_past file (sum_by size_of images) (omega (arith, bounds.0)))
 told (suc n) file images g enough =
     by_check (checked file at) refl
-    (λ is more. told n file (images ++ r ∷ []) (GoesOn-more file images r g is (offset-is file at) more) (omega (arith, length-append images (r ∷ []))))
+    (λ is more. told n file (images ++ r ∷ []) (GoesOn-more file images r g is (offset-is file at) more)
+    (omega (arith, length-append images (r ∷ []))))
   where
     at : ℕ
     at = sum_by size_of images
@@ -329,17 +334,20 @@ told (suc n) file images g enough =
         (b : Bool) → is_last file at ≡ b → IsRomImage file r →
         (¬ IsMarkedLast file r → Tells file (images_from n file (images ++ r ∷ []) (Some (sum_by size_of (images ++ r ∷ []))))) →
         Tells file (images_from n file (images ++ r ∷ []) (cond b None (Some (at + size_at file at))))
-    by_last true last is rest = subst (Tells file) (sym (none_left n file (images ++ r ∷ []))) (rom_by file images r g is (offset-is file at) (marked_last file r (ap (is_last file) (offset-is file at) ∙ last)))
+    by_last true last is rest = subst (Tells file) (sym (none_left n file (images ++ r ∷ [])))
+        (rom_by file images r g is (offset-is file at) (marked_last file r (ap (is_last file) (offset-is file at) ∙ last)))
     by_last false open_end is rest =
         subst (λ a. Tells file (images_from n file (images ++ r ∷ []) (Some a))) next_at
         (rest (not_last file r (ap (is_last file) (offset-is file at) ∙ open_end)))
 
     by_check :
         (c : Result (Unit {0}) Fault) → checked file at ≡ c →
-        (IsRomImage file r → ¬ IsMarkedLast file r → Tells file (images_from n file (images ++ r ∷ []) (Some (sum_by size_of (images ++ r ∷ []))))) →
+        (IsRomImage file r → ¬ IsMarkedLast file r → Tells file
+        (images_from n file (images ++ r ∷ []) (Some (sum_by size_of (images ++ r ∷ []))))) →
         Tells file (c >>= (λ _. images_from n file (images ++ r ∷ []) (next_of file at)))
     by_check (Err f) fails rest = fault_by file images f g fails
-    by_check (Ok u) passes_all rest = let is : IsRomImage file r = IsRomImage-checked file at passes_all in by_last (is_last file at) refl is (rest is)
+    by_check (Ok u) passes_all rest = let is : IsRomImage file r = IsRomImage-checked file at passes_all in
+        by_last (is_last file at) refl is (rest is)
 
 pub rom-told : (file : List ℕ) → Tells file (rom_of file)
 unfolding rom_of

@@ -1,5 +1,6 @@
 -- The option ROM that is written is read again, and its EBC image taken out of it.
-use Rattle.std.proofs.Common.{◌≡◌, ℕ, zero, suc, ◌+◌, ◌-◌, ◌*◌, ◌^◌, ◌<◌, ◌≤◌, List, [], ◌∷◌, ◌++◌, length, get_or, refl, ap, arith, length-append, Some, Result, Ok, Err}
+use Rattle.std.proofs.Common.{◌≡◌, ℕ, zero, suc, ◌+◌, ◌-◌, ◌*◌, ◌^◌, ◌<◌, ◌≤◌, List, [], ◌∷◌, ◌++◌, length, get_or, refl, ap, arith}
+use Rattle.std.proofs.Common.{length-append, Some, Result, Ok, Err}
 use Rattle.std.specs.Prelude.{All, IfOk}
 use Rattle.std.proofs.lemmas.List.{length-replicate, take_all}
 use Rattle.ebc_width.specs.Bytes.{little_endian}
@@ -14,7 +15,7 @@ use Rattle.option_rom.specs.Files.{block_count, filling, header_bytes, padded, r
 use Rattle.option_rom.specs.Images.{IsMarkedLast, IsRom, IsRomImage, efi_at, image_at}
 use Rattle.option_rom.specs.Roms.{rom_of}
 use Rattle.option_rom.specs.Takes.{bytes_taken, range_of, taken}
-use Rattle.option_rom.proofs.Padded.{padded-same}
+use Rattle.pe_image.proofs.Padded.{padded-same}
 use Rattle.option_rom.proofs.Walks.{rom-read}
 
 pub rom-length :
@@ -73,12 +74,11 @@ IsRom-wrapped :
 unfolding wrapped rom_bytes header_bytes structure_bytes number_at little_endian
 IsRom-wrapped vendor device system image fits small =
     record {
-      follow =
-          record {
-            each = one (IsRomImage-wrapped vendor device system image fits small);
-            first = refl;
-            next = λ k d within. absurd (omega arith);
-          };
+      follow = record {
+        each = one (IsRomImage-wrapped vendor device system image fits small);
+        first = refl;
+        next = λ k d within. absurd (omega arith);
+      };
       some = omega arith;
       last = λ i d within. (λ marked. omega arith, λ at_end. marked_last i d within);
     }
@@ -101,7 +101,8 @@ pub wrapped-read :
     (vendor device system : ℕ) (image : List ℕ) → system < 2 ^ 16 → length image ≤ 2 ^ 22 →
     rom_of (rom_bytes vendor device system image) ≡ Ok (wrapped system (length image) ∷ [])
 wrapped-read vendor device system image fits small =
-    rom-read (rom_bytes vendor device system image) (wrapped system (length image) ∷ []) (IsRom-wrapped vendor device system image fits small)
+    rom-read (rom_bytes vendor device system image) (wrapped system (length image) ∷ [])
+    (IsRom-wrapped vendor device system image fits small)
 
 pub wrapped-taken :
     (vendor device system : ℕ) (image : List ℕ) →

@@ -1,5 +1,5 @@
--- The option ROM of one EBC image, byte by byte (docs/ROMS.md, "What is written"). A number has its lowest byte first, and what
--- has no word here is zero.
+-- For proofs: the option ROM of one EBC image, byte by byte (docs/ROMS.md, "What is written"). A number has its lowest byte
+-- first, and what has no word here is zero.
 use Rattle.std.specs.Prelude.{ℕ, ◌+◌, ◌-◌, ◌*◌, ◌/◌, List, ◌∷◌, ◌++◌, length, Some, codes}
 use Rattle.std.specs.Int.{w16, w32, to_le_bytes}
 use Rattle.pe_image.specs.Files.{zeros}

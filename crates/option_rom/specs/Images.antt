@@ -1,6 +1,7 @@
--- Option ROMs: a file and the images in it, which follow each other from its beginning on. UEFI specification, "PCI Option
--- ROMs"; PCI Firmware Specification, "PCI Expansion ROM Contents".
-use Rattle.std.specs.Prelude.{◌≡◌, ℕ, ◌+◌, ◌*◌, ◌<◌, ◌≤◌, ◌↔◌, List, length, All, IfSome, Some, None, codes, nat_eq, slice_get, slice_index_or, if◌then◌else◌}
+-- For proofs: Option ROMs: a file and the images in it, which follow each other from its beginning on. UEFI specification,
+-- "PCI Option ROMs"; PCI Firmware Specification, "PCI Expansion ROM Contents".
+use Rattle.std.specs.Prelude.{◌≡◌, ℕ, ◌+◌, ◌*◌, ◌<◌, ◌≤◌, ◌↔◌, List, length, All, IfSome, Some, None, codes, nat_eq, slice_get}
+use Rattle.std.specs.Prelude.{slice_index_or, if◌then◌else◌}
 use Rattle.std.specs.Int.{IsBitSet}
 use Rattle.std.specs.List.{AllAdjacentBelow}
 use Rattle.pe_image.specs.Fields.{bytes_at}

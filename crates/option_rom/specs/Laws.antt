@@ -1,4 +1,4 @@
--- What holds of all files and option ROMs, whatever is called.
+-- For proofs: what holds of all files and option ROMs, whatever is called.
 use Rattle.std.specs.Prelude.{◌≡◌, ℕ, ◌↔◌, ◌≤◌, List, ◌++◌, length, Ok, Err}
 use Rattle.pe_image.specs.declared.image.Image.{Image}
 use Rattle.pe_image.specs.Files.{zeros}

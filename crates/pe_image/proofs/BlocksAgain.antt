@@ -1,5 +1,6 @@
 -- The blocks of relocations that are written are read again.
-use Rattle.std.proofs.Common.{◌≡◌, ℕ, zero, suc, ◌+◌, ◌-◌, ◌*◌, ◌/◌, ◌%◌, ◌^◌, ◌<◌, ◌≤◌, ◌⊎◌, inl, inr, Bool, true, false, cond, List, [], ◌∷◌, ◌++◌, length, map, drop, refl, sym, ap, ap₂, subst, ◌∙◌, arith, append_assoc, length-append}
+use Rattle.std.proofs.Common.{◌≡◌, ℕ, zero, suc, ◌+◌, ◌-◌, ◌*◌, ◌/◌, ◌%◌, ◌^◌, ◌<◌, ◌≤◌, ◌⊎◌, inl, inr, Bool, true, false, cond, List, []}
+use Rattle.std.proofs.Common.{◌∷◌, ◌++◌, length, map, drop, refl, sym, ap, ap₂, subst, ◌∙◌, arith, append_assoc, length-append}
 use Rattle.std.specs.Prelude.{nat_eq, nat_le, All, AllPairs}
 use Rattle.std.specs.Int.{w32, to_le_bytes}
 use Rattle.std.specs.List.{flat_map, range_with_len}
@@ -58,7 +59,10 @@ raw-again file rest q at is = number_from 2 file (entry_bytes q ++ rest) at 0 at
 
 named_one : (e : Entry) (es : List Entry) (q : ℕ) (qs : List ℕ) → e.kind ≡ 10 → e.place ≡ q → Name es qs → Name (e ∷ es) (q ∷ qs)
 unfolding named
-named_one e es q qs kind place rest = record { named_are = rw (kind, place) (ap (λ ps. q ∷ ps) rest.named_are); kinds = (inr kind, rest.kinds) }
+named_one e es q qs kind place rest = record {
+  named_are = rw (kind, place) (ap (λ ps. q ∷ ps) rest.named_are);
+  kinds = (inr kind, rest.kinds);
+}
 
 -- the entries of places on a page name these
 entries-again :
@@ -67,11 +71,13 @@ entries-again :
 unfolding entry_at named
 entries-again file rest k b a [] on is = record { named_are = refl; kinds = tt }
 entries-again file rest k b a (q ∷ qs) on is =
-    let here : drop (b + 2 * a) file ≡ entry_bytes q ++ (flat_map entry_bytes qs ++ rest) = is ∙ append_assoc (entry_bytes q) (flat_map entry_bytes qs) rest in
+    let here : drop (b + 2 * a) file ≡ entry_bytes q ++ (flat_map entry_bytes qs ++ rest) = is
+    ∙ append_assoc (entry_bytes q) (flat_map entry_bytes qs) rest in
     let raw : u16_at file (b + 2 * a) ≡ 10 * 4096 + q % 4096 = raw-again file (flat_map entry_bytes qs ++ rest) q (b + 2 * a) here in
     let page : q / 4096 ≡ k = on.0 in
     let place : b + 2 * (a + 1) ≡ b + 2 * a + 2 = omega arith in
-    let next : drop (b + 2 * (a + 1)) file ≡ flat_map entry_bytes qs ++ rest = rw place (past file (entry_bytes q) (flat_map entry_bytes qs ++ rest) (b + 2 * a) 2 here refl) in
+    let next : drop (b + 2 * (a + 1)) file ≡ flat_map entry_bytes qs
+    ++ rest = rw place (past file (entry_bytes q) (flat_map entry_bytes qs ++ rest) (b + 2 * a) 2 here refl) in
     named_one (entry_at file (4096 * k) (b + 2 * a)) _ q qs (omega arith) (omega arith) (entries-again file rest k b (a + 1) qs on.1 next)
 
 -- and the entry that pads a block names none
@@ -104,7 +110,8 @@ abbrev size_for : List ℕ → ℕ
 size_for qs = 8 + 2 * entry_count (length qs)
 
 block-parts : (k q : ℕ) (qs rest : List ℕ) →
-    block_bytes k (q ∷ qs) ++ rest ≡ to_le_bytes w32 (4096 * k) ++ (to_le_bytes w32 (size_for (q ∷ qs)) ++ (flat_map entry_bytes (q ∷ qs) ++ (zeros (2 * (length (q ∷ qs) % 2)) ++ rest)))
+    block_bytes k (q ∷ qs) ++ rest ≡ to_le_bytes w32 (4096 * k)
+    ++ (to_le_bytes w32 (size_for (q ∷ qs)) ++ (flat_map entry_bytes (q ∷ qs) ++ (zeros (2 * (length (q ∷ qs) % 2)) ++ rest)))
 unfolding block_bytes
 block-parts k q qs rest = simp append_assoc
 
@@ -112,21 +119,28 @@ block-length : (k q : ℕ) (qs : List ℕ) → length (block_bytes k (q ∷ qs))
 unfolding block_bytes
 block-length k q qs =
     let pad : length (zeros (2 * (length (q ∷ qs) % 2))) ≡ 2 * (length (q ∷ qs) % 2) = length-replicate (2 * (length (q ∷ qs) % 2)) 0 in
-    let front : length (to_le_bytes w32 (4096 * k) ++ to_le_bytes w32 (size_for (q ∷ qs)) ++ flat_map entry_bytes (q ∷ qs)) ≡ 8 + 2 * length (q ∷ qs) = length-append (to_le_bytes w32 (4096 * k) ++ to_le_bytes w32 (size_for (q ∷ qs))) (flat_map entry_bytes (q ∷ qs)) ∙ ap (λ n. 8 + n) (entries-length (q ∷ qs)) in
-    length-append (to_le_bytes w32 (4096 * k) ++ to_le_bytes w32 (size_for (q ∷ qs)) ++ flat_map entry_bytes (q ∷ qs)) (zeros (2 * (length (q ∷ qs) % 2)))
+    let front : length (to_le_bytes w32 (4096 * k) ++ to_le_bytes w32 (size_for (q ∷ qs)) ++ flat_map entry_bytes (q ∷ qs)) ≡ 8 + 2 * length
+    (q ∷ qs) = length-append (to_le_bytes w32 (4096 * k) ++ to_le_bytes w32 (size_for (q ∷ qs))) (flat_map entry_bytes (q ∷ qs))
+    ∙ ap (λ n. 8 + n) (entries-length (q ∷ qs)) in
+    length-append (to_le_bytes w32 (4096 * k) ++ to_le_bytes w32 (size_for (q ∷ qs)) ++ flat_map entry_bytes (q ∷ qs))
+    (zeros (2 * (length (q ∷ qs) % 2)))
     ∙ (ap₂ (λ m n. m + n) front pad ∙ omega arith)
 
 -- the bytes of a block behind its page, and behind its size
 abbrev behind_page : ℕ → List ℕ → List ℕ → List ℕ
 behind_page k qs rest = to_le_bytes w32 (size_for qs) ++ (flat_map entry_bytes qs ++ (zeros (2 * (length qs % 2)) ++ rest))
 
-page-again : (file rest : List ℕ) (k at : ℕ) (qs : List ℕ) → k < 2 ^ 20 → drop at file ≡ to_le_bytes w32 (4096 * k) ++ behind_page k qs rest → page_at file at ≡ 4096 * k
+page-again : (file rest : List ℕ) (k at : ℕ) (qs : List ℕ) → k < 2 ^ 20 → drop at file ≡ to_le_bytes w32 (4096 * k) ++ behind_page k qs rest
+    → page_at file at ≡ 4096 * k
 unfolding page_at number_at little_endian
-page-again file rest k at qs small is = number_from 4 file (to_le_bytes w32 (4096 * k) ++ behind_page k qs rest) at 0 at is (omega arith) ∙ omega arith
+page-again file rest k at qs small is = number_from 4 file (to_le_bytes w32 (4096 * k) ++ behind_page k qs rest) at 0 at is (omega arith)
+    ∙ omega arith
 
-size-again : (file rest : List ℕ) (k at : ℕ) (qs : List ℕ) → length qs < 2 ^ 20 → drop at file ≡ to_le_bytes w32 (4096 * k) ++ behind_page k qs rest → block_size file at ≡ size_for qs
+size-again : (file rest : List ℕ) (k at : ℕ) (qs : List ℕ) → length qs < 2 ^ 20 → drop at file ≡ to_le_bytes w32 (4096 * k)
+    ++ behind_page k qs rest → block_size file at ≡ size_for qs
 unfolding block_size number_at little_endian
-size-again file rest k at qs few is = number_from 4 file (to_le_bytes w32 (4096 * k) ++ behind_page k qs rest) at 4 (at + 4) is refl ∙ omega arith
+size-again file rest k at qs few is = number_from 4 file (to_le_bytes w32 (4096 * k) ++ behind_page k qs rest) at 4 (at + 4) is refl
+    ∙ omega arith
 
 is_block-by : (file : List ℕ) (end at m : ℕ) → block_size file at ≡ 8 + 2 * m → at + (8 + 2 * m) ≤ end → is_block file end at ≡ true
 unfolding is_block
@@ -147,8 +161,11 @@ entries-by file k at n odd qs page size first pad =
     let f : ℕ → Entry = λ i. entry_at file (4096 * k) (at + 8 + 2 * i) in
     let count : (block_size file at - 8) / 2 ≡ n + odd = omega arith in
     let all : Name (map f (range_with_len 0 n) ++ map f (range_with_len (0 + n) odd)) (qs ++ []) = Name-append _ _ qs [] first pad in
-    let joined : map f (range_with_len 0 (n + odd)) ≡ map f (range_with_len 0 n) ++ map f (range_with_len (0 + n) odd) = ap (map f) (range_join 0 n odd) ∙ map-append f (range_with_len 0 n) (range_with_len (0 + n) odd) in
-    let same : Name (map f (range_with_len 0 (n + odd))) qs = subst (λ ps. Name (map f (range_with_len 0 (n + odd))) ps) (append-nil qs) (subst (λ es. Name es (qs ++ [])) (sym joined) all) in
+    let joined : map f (range_with_len 0 (n + odd)) ≡ map f (range_with_len 0 n)
+    ++ map f (range_with_len (0 + n) odd) = ap (map f) (range_join 0 n odd)
+    ∙ map-append f (range_with_len 0 n) (range_with_len (0 + n) odd) in
+    let same : Name (map f (range_with_len 0 (n + odd))) qs = subst (λ ps. Name (map f (range_with_len 0 (n + odd))) ps) (append-nil qs)
+    (subst (λ es. Name es (qs ++ [])) (sym joined) all) in
     rw (count, page) same
 
 pub block-again :
@@ -164,9 +181,11 @@ block-again file rest k end at q qs small few on is fits =
     let size : block_size file at ≡ size_for ps = size-again file rest k at ps few whole in
     let entries_at : drop (at + 8) file ≡ flat_map entry_bytes ps ++ (zeros (2 * (n % 2)) ++ rest) =
     past file (to_le_bytes w32 (4096 * k) ++ to_le_bytes w32 (size_for ps)) (flat_map entry_bytes ps ++ (zeros (2 * (n % 2)) ++ rest)) at 8
-    (whole ∙ sym (append_assoc (to_le_bytes w32 (4096 * k)) (to_le_bytes w32 (size_for ps)) (flat_map entry_bytes ps ++ (zeros (2 * (n % 2)) ++ rest)))) refl in
+    (whole ∙ sym (append_assoc (to_le_bytes w32 (4096 * k)) (to_le_bytes w32 (size_for ps))
+    (flat_map entry_bytes ps ++ (zeros (2 * (n % 2)) ++ rest)))) refl in
     let start : at + 8 + 2 * 0 ≡ at + 8 = omega arith in
-    let pad_at : drop (at + 8 + 2 * n) file ≡ zeros (2 * (n % 2)) ++ rest = past file (flat_map entry_bytes ps) (zeros (2 * (n % 2)) ++ rest) (at + 8) (2 * n) entries_at (entries-length ps) in
+    let pad_at : drop (at + 8 + 2 * n) file ≡ zeros (2 * (n % 2))
+    ++ rest = past file (flat_map entry_bytes ps) (zeros (2 * (n % 2)) ++ rest) (at + 8) (2 * n) entries_at (entries-length ps) in
     let none : 0 + n ≡ n = omega arith in
     let first = entries-again file (zeros (2 * (n % 2)) ++ rest) k (at + 8) 0 ps on (rw start entries_at) in
     let pad = padding-again file rest (4096 * k) (at + 8) n (n % 2) (omega arith) pad_at in
@@ -188,13 +207,19 @@ end-read : (file : List ℕ) (end at : ℕ) → at ≡ end → AreRead file end 
 unfolding named
 end-read file end at is =
     let none : is_block file end at ≡ false = no_block_at_end file end at (omega arith) in
-    record { names = rw (entries_none file end at none) (record { named_are = refl; kinds = tt }); all = blocks_end_none file end at none ∙ is }
+    record {
+      names = rw (entries_none file end at none) (record { named_are = refl; kinds = tt });
+      all = blocks_end_none file end at none
+          ∙ is;
+    }
 
 block-read :
-    (file rest : List ℕ) (k end at n : ℕ) (qs more : List ℕ) → end ≤ length file → IsRead file end at n qs rest → AreRead file end (at + n) more →
+    (file rest : List ℕ) (k end at n : ℕ) (qs more : List ℕ) → end ≤ length file → IsRead file end at n qs rest
+    → AreRead file end (at + n) more →
     AreRead file end at (qs ++ more)
 block-read file rest k end at n qs more within first later =
-    let split : entries file end at ≡ block_entries file at ++ entries file end (at + n) = entries_more file end at within first.block ∙ ap (λ m. block_entries file at ++ entries file end (at + m)) first.size in
+    let split : entries file end at ≡ block_entries file at ++ entries file end (at + n) = entries_more file end at within first.block
+    ∙ ap (λ m. block_entries file at ++ entries file end (at + m)) first.size in
     record {
       names = rw split (Name-append (block_entries file at) (entries file end (at + n)) qs more first.names later.names);
       all = blocks_end_more file end at within first.block ∙ (ap (λ m. blocks_end file end (at + m)) first.size ∙ later.all);
@@ -205,7 +230,8 @@ abbrev pub on_pages : List ℕ → List ℕ → List ℕ
 on_pages ps ks = flat_map (λ k. on_page k ps) ks
 
 page-read :
-    (file rest : List ℕ) (ps : List ℕ) (k end at : ℕ) (here more : List ℕ) → k < 2 ^ 20 → length here < 2 ^ 20 → OnPage k here → end ≤ length file →
+    (file rest : List ℕ) (ps : List ℕ) (k end at : ℕ) (here more : List ℕ) → k < 2 ^ 20 → length here < 2 ^ 20 → OnPage k here
+    → end ≤ length file →
     drop at file ≡ block_bytes k here ++ rest → at + length (block_bytes k here) ≤ end →
     (drop (at + length (block_bytes k here)) file ≡ rest → AreRead file end (at + length (block_bytes k here)) more) →
     AreRead file end at (here ++ more)
@@ -227,13 +253,15 @@ filter-few k (p ∷ ps) = by_test (nat_eq (p / 4096) k) (filter-few k ps)
 
 pub pages-read :
     (file rest : List ℕ) (ps : List ℕ) (end at a n : ℕ) → a + n ≤ 1024 → length ps < 2 ^ 20 → end ≤ length file →
-    drop at file ≡ flat_map (page_bytes ps) (range_with_len a n) ++ rest → at + length (flat_map (page_bytes ps) (range_with_len a n)) ≡ end →
+    drop at file ≡ flat_map (page_bytes ps) (range_with_len a n) ++ rest
+    → at + length (flat_map (page_bytes ps) (range_with_len a n)) ≡ end →
     AreRead file end at (on_pages ps (range_with_len a n))
 pages-read file rest ps end at a zero small few within is stops = end-read file end at (omega arith)
 pages-read file rest ps end at a (suc n) small few within is stops =
     let later : List ℕ = flat_map (page_bytes ps) (range_with_len (a + 1) n) in
     let whole : length (page_bytes ps a ++ later) ≡ length (page_bytes ps a) + length later = length-append (page_bytes ps a) later in
-    page-read file (later ++ rest) ps a end at (on_page a ps) (on_pages ps (range_with_len (a + 1) n)) (omega arith) (omega (arith, filter-few a ps)) (on_page-is a ps) within
+    page-read file (later ++ rest) ps a end at (on_page a ps) (on_pages ps (range_with_len (a + 1) n)) (omega arith)
+    (omega (arith, filter-few a ps)) (on_page-is a ps) within
     (is ∙ append_assoc (page_bytes ps a) later rest) (omega arith)
     (λ next. pages-read file rest ps end (at + length (page_bytes ps a)) (a + 1) n (omega arith) few within next (omega arith))
 
@@ -242,7 +270,8 @@ pages-rest : (ps : List ℕ) (k n : ℕ) → AllPairs IsBelow ps → on_pages ps
 pages-rest ps k zero apart = ap (λ j. from_page j ps) (omega arith)
 pages-rest ps k (suc n) apart =
     let split : on_page k ps ++ from_page (k + 1) ps ≡ from_page k ps =
-    ap₂ (λ x y. x ++ y) (sym (page_first k ps apart)) (sym (page_rest k ps apart)) ∙ take-append-drop (count_on k (from_page k ps)) (from_page k ps) in
+    ap₂ (λ x y. x ++ y) (sym (page_first k ps apart)) (sym (page_rest k ps apart))
+    ∙ take-append-drop (count_on k (from_page k ps)) (from_page k ps) in
     let place : k + suc n ≡ k + 1 + n = omega arith in
     append_assoc (on_page k ps) (on_pages ps (range_with_len (k + 1) n)) (from_page (k + suc n) ps)
     ∙ (ap (λ qs. on_page k ps ++ (on_pages ps (range_with_len (k + 1) n) ++ qs)) (ap (λ j. from_page j ps) place)
@@ -264,7 +293,8 @@ pages-all ps apart small =
 pub no_bytes : (ps : List ℕ) (ks : List ℕ) → length (flat_map (page_bytes ps) ks) ≡ 0 → on_pages ps ks ≡ []
 no_bytes ps [] none = refl
 no_bytes ps (k ∷ ks) none =
-    let both : length (page_bytes ps k) + length (flat_map (page_bytes ps) ks) ≡ 0 = sym (length-append (page_bytes ps k) (flat_map (page_bytes ps) ks)) ∙ none in
+    let both : length (page_bytes ps k) + length (flat_map (page_bytes ps) ks) ≡ 0 =
+    sym (length-append (page_bytes ps k) (flat_map (page_bytes ps) ks)) ∙ none in
     ap₂ (λ x y. x ++ y) (empty k (on_page k ps) (omega arith)) (no_bytes ps ks (omega arith))
   where
     empty : (j : ℕ) (qs : List ℕ) → length (block_bytes j qs) ≡ 0 → qs ≡ []

@@ -1,5 +1,6 @@
 -- An image that is read of a file's bytes has a byte at each place.
-use Rattle.std.proofs.Common.{◌≡◌, ℕ, suc, ◌+◌, ◌-◌, ◌<◌, Bool, true, false, if◌then◌else◌, List, [], ◌∷◌, take, drop, min, get_or, subst, arith, Option, Some, None, Ok}
+use Rattle.std.proofs.Common.{◌≡◌, ℕ, suc, ◌+◌, ◌-◌, ◌<◌, Bool, true, false, if◌then◌else◌, List, [], ◌∷◌, take, drop, min, get_or, subst}
+use Rattle.std.proofs.Common.{arith, Option, Some, None, Ok}
 use Rattle.std.specs.Prelude.{All}
 use Rattle.std.specs.List.{filter, find}
 use Rattle.std.specs.Option.{option_map_or}
@@ -35,7 +36,8 @@ section_bytes file s each = of_front (min s.raw_size (extent s)) (drop s.raw_at 
 
 kept_bytes : (file : List ℕ) → IsBytes file → All (λ (s : Section). IsBytes s.bytes) (kept_sections file)
 unfolding kept_sections
-kept_bytes file each = All-map (λ (s : Section). IsBytes s.bytes) (section_of file) (filter (is_kept file) (sections file)) (λ i d within. section_bytes file _ each)
+kept_bytes file each = All-map (λ (s : Section). IsBytes s.bytes) (section_of file) (filter (is_kept file) (sections file))
+    (λ i d within. section_bytes file _ each)
 
 -- the byte at a place of sections whose bytes are bytes
 pub laid_byte : (ss : List Section) → All (λ (s : Section). IsBytes s.bytes) ss → (x : ℕ) → laid ss x < 256
@@ -43,7 +45,8 @@ unfolding laid
 laid_byte [] all x = omega arith
 laid_byte (s ∷ ss) all x = go (has_place x s) (laid_byte ss (λ i d within. all (suc i) d (omega (arith, within))) x)
   where
-    go : (b : Bool) → option_map_or (section_byte x) (find (has_place x) ss) 0 < 256 → option_map_or (section_byte x) (if b then Some s else find (has_place x) ss) 0 < 256
+    go : (b : Bool) → option_map_or (section_byte x) (find (has_place x) ss) 0 < 256
+        → option_map_or (section_byte x) (if b then Some s else find (has_place x) ss) 0 < 256
     go true rest = all 0 s (omega arith) (x - s.place)
     go false rest = rest
 

@@ -1,14 +1,16 @@
--- When a file is an image: fifteen conditions over the whole file, in the order in which they count. Each has the fault that
--- it stands for, and an offset in the file at which it is told. PE/COFF specification, by the sections that specs/Headers
--- and specs/Relocations name; docs/IMAGES.md has the same numbers.
-use Rattle.std.specs.Prelude.{ℕ, ◌+◌, ◌-◌, ◌*◌, ◌%◌, ◌^◌, Bool, false, not, ◌&&◌, ◌||◌, List, [], ◌∷◌, ◌++◌, length, map, Option, Some, None, codes, bytes_eq, nat_eq, nat_le, nat_lt, if◌then◌else◌}
+-- Meaning: when a file is an image: fifteen conditions over the whole file, in the order in which they count. Each has the
+-- fault that it stands for, and an offset in the file at which it is told. PE/COFF specification, by the sections that
+-- specs/Headers and specs/Relocations name; docs/IMAGES.md has the same numbers.
+use Rattle.std.specs.Prelude.{ℕ, ◌+◌, ◌-◌, ◌*◌, ◌%◌, ◌^◌, Bool, false, not, ◌&&◌, ◌||◌, List, [], ◌∷◌, ◌++◌, length, map, Option, Some}
+use Rattle.std.specs.Prelude.{None, codes, bytes_eq, nat_eq, nat_le, nat_lt, if◌then◌else◌}
 use Rattle.std.specs.List.{list_all, range_with_len}
 use Rattle.pe_image.specs.declared.fault.ImageFault.{ImageFault}
 use Rattle.pe_image.specs.declared.fault.ImageFault.TheVariants as faults
 use Rattle.pe_image.specs.declared.section.SectionHeader.{SectionHeader}
 use Rattle.pe_image.specs.declared.relocations.Entry.{Entry}
 use Rattle.pe_image.specs.Fields.{bytes_at}
-use Rattle.pe_image.specs.Headers.{directory, end_of, entry_point, image_size, in_section, machine, magic, optional, optional_size, section_alignment, section_at, section_count, section_table, signature}
+use Rattle.pe_image.specs.Headers.{directory, end_of, entry_point, image_size, in_section, machine, magic, optional, optional_size}
+use Rattle.pe_image.specs.Headers.{section_alignment, section_at, section_count, section_table, signature}
 use Rattle.pe_image.specs.Relocations.{blocks_end, entries, has_directory, home, named, span_in}
 
 -- what has to hold, and what is told where it doesn't
@@ -45,7 +47,8 @@ stub_conditions file =
 abbrev pub header_conditions : List ℕ → List Condition
 header_conditions file =
     need (nat_eq (machine file) 0x0EBC) faults.Machine (signature file + 4)
-    ∷ need (nat_le 112 (optional_size file) && nat_le (section_table file + 40 * section_count file) (length file)) faults.Short (signature file + 20)
+    ∷ need (nat_le 112 (optional_size file) && nat_le (section_table file + 40 * section_count file) (length file)) faults.Short
+    (signature file + 20)
     ∷ need (nat_eq (magic file) 0x020B) faults.Magic (optional file)
     ∷ []
 

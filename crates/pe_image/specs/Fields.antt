@@ -1,4 +1,5 @@
--- Numbers and texts at an offset of a file. PE/COFF specification, "File Headers": the lowest byte of a number comes first.
+-- Meaning: numbers and texts at an offset of a file. PE/COFF specification, "File Headers": the lowest byte of a number
+-- comes first.
 use Rattle.std.specs.Prelude.{ℕ, List, take, drop, slice_index}
 use Rattle.ebc_width.specs.Bytes.{little_endian}
 

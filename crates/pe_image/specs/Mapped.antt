@@ -1,11 +1,12 @@
--- The bytes of an image in memory: its sections at their places, zeros elsewhere, and relocated numbers.
--- PE/COFF specification, "Section Table (Section Headers)" and "The .reloc Section (Image Only)".
-use Rattle.std.specs.Prelude.{ℕ, ◌+◌, ◌-◌, ◌/◌, ◌%◌, ◌^◌, ◌<◌, Bool, ◌&&◌, List, nat_le, nat_lt, slice_index}
+-- Meaning: the bytes of an image in memory: its sections at their places, zeros elsewhere, and relocated numbers. PE/COFF
+-- specification, "Section Table (Section Headers)" and "The .reloc Section (Image Only)".
+use Rattle.std.specs.Prelude.{ℕ, ◌+◌, ◌-◌, ◌/◌, ◌%◌, ◌^◌, ◌<◌, Bool, ◌&&◌, List, nat_le, nat_lt, slice_index, Option}
 use Rattle.std.specs.List.{find}
 use Rattle.std.specs.Option.{option_map_or}
 use Rattle.ebc_width.specs.Bytes.{little_endian}
 use Rattle.pe_image.specs.declared.image.Image.{Image}
 use Rattle.pe_image.specs.declared.image.Section.{Section}
+use Rattle.ebc_width.specs.Width.{distance_of}
 
 -- whether a section has the byte at a place
 abbrev pub has_place : ℕ → Section → Bool
@@ -35,10 +36,18 @@ moved_byte bytes distance x place = (little_endian bytes place 8 + distance) % 2
 unfoldable pub moved : (ℕ → ℕ) → List ℕ → ℕ → ℕ → ℕ
 moved bytes places distance x = option_map_or (moved_byte bytes distance x) (find (is_of x) places) (bytes x)
 
--- how far one address lies from another, modulo 2^64
-abbrev pub distance_of : ℕ → ℕ → ℕ
-distance_of base from = (base + (2 ^ 64 - from)) % 2 ^ 64
-
 -- the byte at a place of an image that is loaded at a base
 unfoldable pub mapped : Image → ℕ → ℕ → ℕ
 mapped image base = moved (laid image.sections) image.relocs (distance_of base image.base)
+
+-- the section that has the byte at a place
+unfoldable pub section_with : Image → ℕ → Option Section
+section_with image place = find (has_place place) image.sections
+
+-- the byte at a place, as the file has it
+abbrev pub image_byte : Image → ℕ → ℕ
+image_byte image = laid image.sections
+
+-- the place that the relocated eight bytes at a place name
+unfoldable pub named_place : Image → ℕ → ℕ
+named_place image p = distance_of (little_endian (image_byte image) p 8) image.base

@@ -12,7 +12,7 @@ pub type Sections = Sequence<Section>;
 pub type Places = Sequence<u32>;
 
 /// A section of an image (PE/COFF specification, "Section Table (Section Headers)").
-#[derive(PartialEq, Debug, Drop)]
+#[derive(PartialEq, Drop)]
 pub struct Section {
     /// Its name, filled up with zeros.
     pub name: [u8; 8],
@@ -27,7 +27,7 @@ pub struct Section {
 }
 
 /// An image (PE/COFF specification, "Optional Header (Image Only)"). Places are offsets from its base.
-#[derive(PartialEq, Debug, Drop)]
+#[derive(PartialEq, Drop)]
 pub struct Image {
     /// The address for which it was linked (ImageBase).
     pub base: u64,

@@ -5,6 +5,7 @@
 #![tactic(auto)]
 
 mod bytes;
+mod bytes_at;
 mod fault;
 mod fields;
 mod headers;
@@ -14,6 +15,7 @@ mod relocations;
 mod section;
 mod writing;
 
+pub use bytes_at::{byte_at, named_place, section_with};
 pub use ebc_base::NoMemory;
 pub use fault::{ImageEnd, ImageFault};
 pub use image::{Bytes, Image, Places, Section, Sections};

@@ -14,7 +14,7 @@ use crate::headers::Headers;
 use std::alloc::{AllocError, Global};
 
 /// An entry of a block: its offset in the file, its type, and the place that it names if it is of a type that names one.
-#[derive(Clone, Copy, PartialEq, Eq, Debug)]
+#[derive(Clone, Copy, PartialEq, Eq)]
 pub(crate) struct Entry {
     pub at: usize,
     pub kind: u16,
@@ -22,14 +22,14 @@ pub(crate) struct Entry {
 }
 
 /// Where in a file some bytes lie.
-#[derive(Clone, Copy, PartialEq, Eq, Debug)]
+#[derive(Clone, Copy, PartialEq, Eq)]
 pub(crate) struct Span {
     pub start: usize,
     pub end: usize,
 }
 
 /// Where a section lies: its number, the place at which it begins, and where it ends.
-#[derive(Clone, Copy, PartialEq, Eq, Debug)]
+#[derive(Clone, Copy, PartialEq, Eq)]
 pub(crate) struct Room {
     pub section: usize,
     pub begin: u64,

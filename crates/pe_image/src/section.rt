@@ -6,7 +6,7 @@ ghost use Rattle.pe_image.specs.Headers.{end_of, extent, has};
 use crate::fault::{ImageEnd, ImageFault};
 
 /// The fields of a section's header, and its own offset in the file.
-#[derive(Clone, Copy, PartialEq, Eq, Debug)]
+#[derive(Clone, Copy, PartialEq, Eq)]
 pub(crate) struct SectionHeader {
     pub at: usize,
     pub virtual_size: u32,

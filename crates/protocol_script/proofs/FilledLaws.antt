@@ -1,6 +1,7 @@
 -- Which instances of an object are settled, one field and one instance more at a time.
-use Rattle.std.proofs.Common.{◌≡◌, ℕ, ◌+◌, ◌≤◌, ◌<◌, zero, suc, List, [], ◌∷◌, length, Option, Some, None, Bool, true, false, refl, sym, ap, subst, ◌∙◌, arith, ⊎_elim, slice_get}
-use Rattle.std.proofs.lemmas.Bool.{cases_lt}
+use Rattle.std.proofs.Common.{◌≡◌, ℕ, ◌+◌, ◌≤◌, ◌<◌, zero, suc, List, [], ◌∷◌, length, Option, Some, None, Bool, true, false, refl, sym, ap}
+use Rattle.std.proofs.Common.{subst, ◌∙◌, arith, ⊎_elim, slice_get}
+use Rattle.std.proofs.lemmas.Bool.{cases_lt, or_parts}
 use Rattle.std.proofs.lemmas.Option.{same_Some}
 use Rattle.std.specs.List.{list_all, list_any, range_with_len}
 use Rattle.std.specs.Option.{option_map_or}
@@ -8,7 +9,7 @@ use Rattle.std.specs.Prelude.{◌||◌, ◌&&◌, not}
 use Rattle.note_types.specs.declared.script.CellValue.{CellValue}
 use Rattle.note_types.specs.declared.shape.Field.{Field}
 use Rattle.protocol_script.specs.Contents.{all_settled, is_filled}
-use Rattle.run_types.specs.Scripts.{is_needed}
+use Rattle.host_model.specs.Scripts.{is_needed}
 
 -- ---- tests of numbers
 
@@ -24,7 +25,8 @@ all-from : (p : ℕ → Bool) (n a : ℕ) → ((k : ℕ) → a ≤ k → k < a +
 all-from p zero a passes = refl
 all-from p (suc n) a passes =
     let here : p a ≡ true = passes a (omega arith) (omega arith) in
-    let rest : list_all p (range_with_len (a + 1) n) ≡ true = all-from p n (a + 1) (λ k low high. passes k (omega (arith, low)) (omega (arith, high))) in
+    let rest : list_all p (range_with_len (a + 1) n) ≡ true = all-from p n (a + 1)
+    (λ k low high. passes k (omega (arith, low)) (omega (arith, high))) in
     rw (here, rest) refl
 
 and_false : (a b : Bool) → b ≡ false → (a && b) ≡ false
@@ -52,20 +54,20 @@ one-fails p n i within here = fails-from p n 0 i (omega arith) (omega (arith, wi
 
 -- ---- where no field has to be given
 
-neither : (a b : Bool) → (a || b) ≡ false → (a ≡ false) × (b ≡ false)
-neither true b h = cc h
-neither false b h = (refl, h)
-
 none-at : {A : Type 0} (p : A → Bool) (xs : List A) (k : ℕ) (x : A) → list_any p xs ≡ false → slice_get xs k ≡ Some x → p x ≡ false
 none-at p [] k x h at = cc at
-none-at p (y ∷ ys) zero x h at = let same : y ≡ x = same_Some _ _ at in ap p (sym same) ∙ (neither (p y) (list_any p ys) h).0
-none-at p (y ∷ ys) (suc k) x h at = none-at p ys k x (neither (p y) (list_any p ys) h).1 at
+none-at p (y ∷ ys) zero x h at = let same : y ≡ x = same_Some _ _ at in ap p (sym same) ∙ (or_parts (p y) (list_any p ys) h).0
+none-at p (y ∷ ys) (suc k) x h at = none-at p ys k x (or_parts (p y) (list_any p ys) h).1 at
 
-optional-at : (fields : List Field) (k : ℕ) (found : Option Field) → slice_get fields k ≡ found → list_any (λ (x : Field). is_needed x.cell) fields ≡ false → option_map_or (λ (x : Field). not (is_needed x.cell)) found true ≡ true
+optional-at : (fields : List Field) (k : ℕ) (found : Option Field) → slice_get fields k ≡ found
+    → list_any (λ (x : Field). is_needed x.cell) fields ≡ false → option_map_or (λ (x : Field). not (is_needed x.cell)) found true ≡ true
 optional-at fields k None at none = refl
-optional-at fields k (Some x) at none = let e : is_needed x.cell ≡ false = none-at (λ (v : Field). is_needed v.cell) fields k x none at in rw e refl
+optional-at fields k (Some x) at none = let e : is_needed x.cell ≡ false = none-at (λ (v : Field). is_needed v.cell) fields k x none at in
+    rw e refl
 
-pub none-needed : (fields : List Field) (cells : List CellValue) (count : ℕ) → list_any (λ (x : Field). is_needed x.cell) fields ≡ false → is_filled fields count cells ≡ true
+pub none-needed : (fields : List Field) (cells : List CellValue) (count : ℕ) → list_any (λ (x : Field). is_needed x.cell) fields ≡ false
+    → is_filled fields count cells ≡ true
 unfolding is_filled all_settled
 none-needed fields cells count none =
-    all-from _ count 0 (λ i low high. all-from _ (length fields) 0 (λ k first last. rw (optional-at fields k (slice_get fields k) refl none) refl))
+    all-from _ count 0 (λ i low high. all-from _ (length fields) 0
+    (λ k first last. rw (optional-at fields k (slice_get fields k) refl none) refl))

@@ -5,3 +5,6 @@ pub mod ObjectLaws
 pub mod PrintedLaws
 pub mod RecordLaws
 pub mod ShapeLaws
+pub mod NamesApart
+pub mod NamesRead
+pub mod ReadLaws

@@ -1,5 +1,6 @@
 -- A draft with the numbers of what it names: its values are such as texts may have, and each thing that it names is there.
-use Rattle.std.proofs.Common.{◌≡◌, ℕ, suc, ◌+◌, ◌^◌, ◌<◌, ◌≤◌, Bool, List, [], ◌∷◌, ◌++◌, length, map, Option, Some, Ok, refl, sym, ap, ap₂, subst, ◌∙◌, slice_get, inl, inr}
+use Rattle.std.proofs.Common.{◌≡◌, ℕ, suc, ◌+◌, ◌^◌, ◌<◌, ◌≤◌, Bool, List, [], ◌∷◌, ◌++◌, length, map, Option, Some, Ok, refl, sym, ap, ap₂}
+use Rattle.std.proofs.Common.{subst, ◌∙◌, slice_get, inl, inr}
 use Rattle.std.proofs.lemmas.Bool.{ltb-true}
 use Rattle.std.proofs.lemmas.List.{map-append}
 use Rattle.std.proofs.lemmas.Option.{cond_some, option_and_then_some}
@@ -22,15 +23,16 @@ use Rattle.note_types.specs.declared.seen.Seen.{Seen}
 use Rattle.note_types.specs.declared.shape.Field.{Field}
 use Rattle.note_types.specs.declared.value.Value.{Value}
 use Rattle.note_types.specs.declared.value.Value.TheVariants as value
-use Rattle.run_types.specs.HostPlans.{field_of}
-use Rattle.run_types.specs.Objects.{made_objects, objects_of, placed_objects, script_object, shape_of, static_object}
-use Rattle.run_types.specs.ScriptValues.{given, lent}
-use Rattle.run_types.specs.Scripts.{IsArgument, IsCallbackOf, IsOutOf, IsWritten, all_made}
-use Rattle.run_types.specs.declared.object.TypedObject.{TypedObject}
-use Rattle.run_types.proofs.Lists.{within_some}
+use Rattle.host_model.specs.HostPlans.{field_of}
+use Rattle.host_model.specs.Objects.{made_objects, objects_of, placed_objects, script_object, shape_of, static_object}
+use Rattle.host_model.specs.ScriptValues.{given, lent}
+use Rattle.host_model.specs.Scripts.{IsArgument, IsCallbackOf, IsOutOf, IsWritten, all_made}
+use Rattle.host_model.specs.declared.object.TypedObject.{TypedObject}
+use Rattle.ebc_base.proofs.Lists.{within_some}
 use Rattle.script_draft.specs.Grammar.{IsWritable}
 use Rattle.script_draft.specs.Lists.{all_of, each_of}
-use Rattle.script_draft.specs.Records.{IsArgumentDraft, IsCallDraft, IsCallbackDraft, IsCellDraft, IsDraft, IsObjectDraft, IsOutDraft, IsWriteDraft}
+use Rattle.script_draft.specs.Records.{IsArgumentDraft, IsCallDraft, IsCallbackDraft, IsCellDraft, IsDraft, IsObjectDraft, IsOutDraft}
+use Rattle.script_draft.specs.Records.{IsWriteDraft}
 use Rattle.script_draft.specs.declared.draft.CallDraft.{CallDraft}
 use Rattle.script_draft.specs.declared.draft.ObjectDraft.{ObjectDraft}
 use Rattle.script_draft.specs.declared.draft.ScriptDraft.{ScriptDraft}
@@ -42,11 +44,14 @@ use Rattle.script_draft.specs.declared.value.ArgumentText.{ArgumentText}
 use Rattle.script_draft.specs.declared.value.ArgumentText.TheVariants as argument
 use Rattle.script_draft.specs.declared.value.ValueText.{ValueText}
 use Rattle.script_draft.specs.declared.value.ValueText.TheVariants as text
-use Rattle.script_draft.proofs.DraftLaws.{all_given, each_more, each_none, found, ok_step, same_Ok}
+use Rattle.script_draft.proofs.DraftLaws.{all_given, found, ok_step, same_Ok}
 use Rattle.protocol_script.specs.Numbers.{field_number, function_number, method_number, narrow, shape_number, signature_number}
-use Rattle.protocol_script.specs.Resolved.{draft_shapes, field_in, resolved, resolved_argument, resolved_call, resolved_callback, resolved_calls, resolved_cell, resolved_object, resolved_objects, resolved_out, resolved_reply, resolved_value, resolved_write, typed_shapes}
+use Rattle.protocol_script.specs.Resolved.{draft_shapes, field_in, resolved, resolved_argument, resolved_call, resolved_callback}
+use Rattle.protocol_script.specs.Resolved.{resolved_calls, resolved_cell, resolved_object, resolved_objects, resolved_out, resolved_reply}
+use Rattle.protocol_script.specs.Resolved.{resolved_value, resolved_write, typed_shapes}
 use Rattle.protocol_script.specs.declared.resolve.Reply.{Reply}
 use Rattle.protocol_script.proofs.ObjectLaws.{map-flat_map, placed-all}
+use Rattle.note_types.proofs.RecordLaws.{each_none, each_more}
 
 -- ---- numbers of names
 
@@ -73,7 +78,8 @@ method_within : (notes : Notes) (name : List ℕ) (k : ℕ) → method_number no
 unfolding method_number
 method_within notes name k h = position_within _ notes.methods k h
 
-field_there : (fields : List Field) (name : List ℕ) (k : ℕ) → field_number fields name ≡ Some k → (x : Field) × (slice_get fields k ≡ Some x)
+field_there : (fields : List Field) (name : List ℕ) (k : ℕ) → field_number fields name ≡ Some k → (x : Field)
+    × (slice_get fields k ≡ Some x)
 unfolding field_number
 field_there fields name k h = within_some fields k (position_within _ fields k h)
 
@@ -88,36 +94,48 @@ value_written notes text.Null v h e = moved (IsWritten notes) value.Null v e tt
 value_written notes (text.StatusOk k) v h e = moved (IsWritten notes) (value.StatusOk k) v e h
 value_written notes (text.StatusError k) v h e = moved (IsWritten notes) (value.StatusError k) v e h
 value_written notes (text.Handle k) v h e = moved (IsWritten notes) (value.Handle k) v e h
-value_written notes (text.Entry name) v h e = map_some _ _ v e (λ f at e. moved (IsWritten notes) (value.Entry f) v e (function_within notes name f at))
-value_written notes (text.Method name) v h e = map_some _ _ v e (λ m at e. moved (IsWritten notes) (value.Method m) v e (method_within notes name m at))
+value_written notes (text.Entry name) v h e = map_some _ _ v e (λ f at e. moved (IsWritten notes) (value.Entry f) v e
+    (function_within notes name f at))
+value_written notes (text.Method name) v h e = map_some _ _ v e
+    (λ m at e. moved (IsWritten notes) (value.Method m) v e (method_within notes name m at))
 value_written notes text.Any v h e = moved (IsWritten notes) value.Any v e tt
 
-argument_written : (notes : Notes) (a : ArgumentText) (s : Seen) → IsArgumentDraft a → resolved_argument notes a ≡ Some s → IsArgument notes s
+argument_written : (notes : Notes) (a : ArgumentText) (s : Seen) → IsArgumentDraft a → resolved_argument notes a ≡ Some s
+    → IsArgument notes s
 unfolding resolved_argument
 argument_written notes argument.Out s h e = moved (IsArgument notes) (given value.Out) s e (inr refl)
-argument_written notes (argument.Lent t) s h e = map_some _ _ s e (λ v at e. moved (IsArgument notes) (lent v) s e (inl (value_written notes t v h at)))
-argument_written notes (argument.Given t) s h e = map_some _ _ s e (λ v at e. moved (IsArgument notes) (given v) s e (inl (value_written notes t v h at)))
+argument_written notes (argument.Lent t) s h e = map_some _ _ s e
+    (λ v at e. moved (IsArgument notes) (lent v) s e (inl (value_written notes t v h at)))
+argument_written notes (argument.Given t) s h e = map_some _ _ s e
+    (λ v at e. moved (IsArgument notes) (given v) s e (inl (value_written notes t v h at)))
 
-cell_written : (notes : Notes) (fields : List Field) (c : CellValueText) (r : CellValue) → IsCellDraft c → resolved_cell notes fields c ≡ Some r → IsWritten notes r.value
+cell_written : (notes : Notes) (fields : List Field) (c : CellValueText) (r : CellValue) → IsCellDraft c
+    → resolved_cell notes fields c ≡ Some r → IsWritten notes r.value
 unfolding resolved_cell
 cell_written notes fields c r h e =
     option_and_then_some _ _ r e (λ f _ e.
     map_some _ _ r e (λ v at e.
-    moved (λ (r : CellValue). IsWritten notes r.value) (record { instance = c.instance; field = f; value = v }) r e (value_written notes c.value v h.value at)))
+    moved (λ (r : CellValue). IsWritten notes r.value) (record { instance = c.instance; field = f; value = v }) r e
+    (value_written notes c.value v h.value at)))
 
-callback_written : (notes : Notes) (b : CallbackText) (r : Callback) → IsCallbackDraft b → resolved_callback notes b ≡ Some r → IsCallbackOf notes r
+callback_written : (notes : Notes) (b : CallbackText) (r : Callback) → IsCallbackDraft b → resolved_callback notes b ≡ Some r
+    → IsCallbackOf notes r
 unfolding resolved_callback
 callback_written notes b r h e =
     option_and_then_some _ _ r e (λ f at e.
     map_some _ _ r e (λ vs all e.
     moved (IsCallbackOf notes) (record { function = f; values = vs }) r e
-    (record { function = function_within notes b.function f at; values = all_given IsWritable (IsWritten notes) (resolved_value notes) b.values vs (value_written notes) h.values all })))
+    (record {
+      function = function_within notes b.function f at;
+      values = all_given IsWritable (IsWritten notes) (resolved_value notes) b.values vs (value_written notes) h.values all;
+    })))
 
 out_written : (notes : Notes) (o : OutText) (r : OutValue) → IsOutDraft o → resolved_out notes o ≡ Some r → IsOutOf notes r
 unfolding resolved_out
 out_written notes o r h e =
     map_some _ _ r e (λ v at e.
-    moved (IsOutOf notes) (record { argument = o.argument; value = v }) r e (record { argument = h.argument; written = value_written notes o.value v h.value at }))
+    moved (IsOutOf notes) (record { argument = o.argument; value = v }) r e
+    (record { argument = h.argument; written = value_written notes o.value v h.value at }))
 
 -- A `write`, where the typed objects have these shapes: its value is one that a text may have, and its field is one of its
 -- object's shape.
@@ -125,7 +143,8 @@ pub record IsNumberedWrite (notes : Notes) (shapes : List (Option ℕ)) (w : Wri
   pub written : IsWritten notes w.value
   pub field : (s : ℕ) → slice_get shapes w.object ≡ Some (Some s) → (x : Field) × (field_of notes s w.field ≡ Some x)
 
-write_written : (notes : Notes) (shapes : List (Option ℕ)) (w : WriteText) (r : WriteValue) → IsWriteDraft w → resolved_write notes shapes w ≡ Some r → IsNumberedWrite notes shapes r
+write_written : (notes : Notes) (shapes : List (Option ℕ)) (w : WriteText) (r : WriteValue) → IsWriteDraft w
+    → resolved_write notes shapes w ≡ Some r → IsNumberedWrite notes shapes r
 unfolding resolved_write
 write_written notes shapes w r h e =
     option_and_then_some _ _ r e (λ f named e.
@@ -134,7 +153,8 @@ write_written notes shapes w r h e =
     (record {
       written = value_written notes w.value v h.value at;
       field = λ s there.
-          let shape : option_and_then (λ (shape : Option ℕ). shape) (slice_get shapes w.object) ≡ Some s = ap (option_and_then (λ (shape : Option ℕ). shape)) there in
+          let shape : option_and_then (λ (shape : Option ℕ). shape) (slice_get shapes w.object) ≡ Some s =
+          ap (option_and_then (λ (shape : Option ℕ). shape)) there in
           let number : field_number (shape_of notes s).fields w.field ≡ Some f = sym (ap (λ z. field_in notes z w.field) shape) ∙ named in
           field_there (shape_of notes s).fields w.field f number;
     })))
@@ -152,20 +172,23 @@ pub record IsObjectFor (notes : Notes) (o : ObjectDraft) (r : ScriptObject) : Ty
   pub numbered : IsNumberedObject notes r
   pub shape : shape_number notes o.shape ≡ Some r.shape
 
-object_for : (notes : Notes) (prefix : List ℕ) (o : ObjectDraft) (r : ScriptObject) → IsObjectDraft o → resolved_object notes prefix o ≡ Ok r → IsObjectFor notes o r
+object_for : (notes : Notes) (prefix : List ℕ) (o : ObjectDraft) (r : ScriptObject) → IsObjectDraft o
+    → resolved_object notes prefix o ≡ Ok r → IsObjectFor notes o r
 unfolding resolved_object
 object_for notes prefix o r h e =
     ok_step _ _ r e (λ s one e.
     ok_step _ _ r e (λ cells two e.
     let at : shape_number notes o.shape ≡ Some s = found (Name (prefix ++ codes "shape")) (shape_number notes o.shape) s one in
     let fields = (shape_of notes s).fields in
-    let all : all_of (resolved_cell notes fields) o.cells ≡ Some cells = found (Name (prefix ++ codes "cells")) (all_of (resolved_cell notes fields) o.cells) cells two in
+    let all : all_of (resolved_cell notes fields) o.cells ≡ Some cells =
+    found (Name (prefix ++ codes "cells")) (all_of (resolved_cell notes fields) o.cells) cells two in
     subst (IsObjectFor notes o) (same_Ok (record { shape = s; count = o.count; cells = cells }) r e)
     (record {
       numbered = record {
         shape = shape_within notes o.shape s at;
         count = h.count;
-        cells = all_given IsCellDraft (λ (c : CellValue). IsWritten notes c.value) (resolved_cell notes fields) o.cells cells (cell_written notes fields) h.cells all;
+        cells = all_given IsCellDraft (λ (c : CellValue). IsWritten notes c.value) (resolved_cell notes fields) o.cells cells
+            (cell_written notes fields) h.cells all;
       };
       shape = at;
     })))
@@ -182,16 +205,21 @@ pub record AreObjectsFor (notes : Notes) (os : List ObjectDraft) (rs : List Scri
 objects_from : (notes : Notes) (path : List ℕ) (i : ℕ) (os : List ObjectDraft) (rs : List ScriptObject) → Each IsObjectDraft os
     → each_of (λ i o. resolved_object notes (row_prefix path i) o) i os ≡ Ok rs → AreObjectsFor notes os rs
 unfolding each_of
-objects_from notes path i [] rs h e = subst (AreObjectsFor notes []) (same_Ok [] rs e) (record { numbered = each_none (IsNumberedObject notes); shapes = refl })
+objects_from notes path i [] rs h e = subst (AreObjectsFor notes []) (same_Ok [] rs e)
+    (record { numbered = each_none (IsNumberedObject notes); shapes = refl })
 objects_from notes path i (o ∷ os) rs h e =
     ok_step _ _ rs e (λ r one e.
     ok_step _ _ rs e (λ more two e.
     let a = object_for notes (row_prefix path i) o r (h 0 o refl) one in
     let b = objects_from notes path (i + 1) os more (λ k x g. h (suc k) x g) two in
     subst (AreObjectsFor notes (o ∷ os)) (same_Ok (r ∷ more) rs e)
-    (record { numbered = each_more (IsNumberedObject notes) r more a.numbered b.numbered; shapes = ap₂ (λ x xs. x ∷ xs) a.shape b.shapes })))
+    (record {
+      numbered = each_more (IsNumberedObject notes) r more a.numbered b.numbered;
+      shapes = ap₂ (λ x xs. x ∷ xs) a.shape b.shapes;
+    })))
 
-objects_for : (notes : Notes) (path : List ℕ) (os : List ObjectDraft) (rs : List ScriptObject) → Each IsObjectDraft os → resolved_objects notes path os ≡ Ok rs → AreObjectsFor notes os rs
+objects_for : (notes : Notes) (path : List ℕ) (os : List ObjectDraft) (rs : List ScriptObject) → Each IsObjectDraft os
+    → resolved_objects notes path os ≡ Ok rs → AreObjectsFor notes os rs
 unfolding resolved_objects
 objects_for notes path os rs h e = objects_from notes path 0 os rs h e
 
@@ -203,7 +231,8 @@ pub record IsNumberedReply (notes : Notes) (shapes : List (Option ℕ)) (r : Rep
   pub write : Each (IsNumberedWrite notes shapes) r.write
   pub result : IsWritten notes r.result
 
-reply_for : (notes : Notes) (shapes : List (Option ℕ)) (prefix : List ℕ) (c : CallDraft) (r : Reply) → IsCallDraft c → resolved_reply notes shapes prefix c ≡ Ok r → IsNumberedReply notes shapes r
+reply_for : (notes : Notes) (shapes : List (Option ℕ)) (prefix : List ℕ) (c : CallDraft) (r : Reply) → IsCallDraft c
+    → resolved_reply notes shapes prefix c ≡ Ok r → IsNumberedReply notes shapes r
 unfolding resolved_reply
 reply_for notes shapes prefix c r h e =
     ok_step _ _ r e (λ outs one e.
@@ -211,9 +240,13 @@ reply_for notes shapes prefix c r h e =
     ok_step _ _ r e (λ result three e.
     subst (IsNumberedReply notes shapes) (same_Ok (record { out = outs; write = writes; result = result }) r e)
     (record {
-      out = all_given IsOutDraft (IsOutOf notes) (resolved_out notes) c.out outs (out_written notes) h.out (found (Name (prefix ++ codes "out")) (all_of (resolved_out notes) c.out) outs one);
-      write = all_given IsWriteDraft (IsNumberedWrite notes shapes) (resolved_write notes shapes) c.write writes (write_written notes shapes) h.write (found (Name (prefix ++ codes "write")) (all_of (resolved_write notes shapes) c.write) writes two);
-      result = value_written notes c.result result h.result (found (Name (prefix ++ codes "result")) (resolved_value notes c.result) result three);
+      out = all_given IsOutDraft (IsOutOf notes) (resolved_out notes) c.out outs (out_written notes) h.out
+          (found (Name (prefix ++ codes "out")) (all_of (resolved_out notes) c.out) outs one);
+      write = all_given IsWriteDraft (IsNumberedWrite notes shapes) (resolved_write notes shapes) c.write writes
+          (write_written notes shapes) h.write (found (Name (prefix ++ codes "write"))
+          (all_of (resolved_write notes shapes) c.write) writes two);
+      result = value_written notes c.result result h.result (found (Name (prefix ++ codes "result"))
+          (resolved_value notes c.result) result three);
     }))))
 
 -- a call with its numbers, where the typed objects have these shapes
@@ -229,7 +262,8 @@ pub record IsCallFor (notes : Notes) (shapes : List (Option ℕ)) (c : CallDraft
   pub numbered : IsNumberedCall notes shapes r
   pub makes : draft_shapes notes c.make ≡ shapes_of r.make
 
-call_for : (notes : Notes) (shapes : List (Option ℕ)) (prefix : List ℕ) (c : CallDraft) (r : ScriptCall) → IsCallDraft c → resolved_call notes shapes prefix c ≡ Ok r → IsCallFor notes shapes c r
+call_for : (notes : Notes) (shapes : List (Option ℕ)) (prefix : List ℕ) (c : CallDraft) (r : ScriptCall) → IsCallDraft c
+    → resolved_call notes shapes prefix c ≡ Ok r → IsCallFor notes shapes c r
 unfolding resolved_call
 call_for notes shapes prefix c r h e =
     ok_step _ _ r e (λ signature one e.
@@ -239,12 +273,23 @@ call_for notes shapes prefix c r h e =
     ok_step _ _ r e (λ reply five e.
     let made = objects_for notes (prefix ++ codes "make") c.make make h.make four in
     let replied = reply_for notes shapes prefix c reply h five in
-    subst (IsCallFor notes shapes c) (same_Ok (record { signature = signature; args = args; enter = enter; make = make; out = reply.out; write = reply.write; result = reply.result }) r e)
+    subst (IsCallFor notes shapes c) (same_Ok (record {
+      signature = signature;
+      args = args;
+      enter = enter;
+      make = make;
+      out = reply.out;
+      write = reply.write;
+      result = reply.result;
+    }) r e)
     (record {
       numbered = record {
-        signature = signature_within notes c.signature signature (found (Name (prefix ++ codes "signature")) (signature_number notes c.signature) signature one);
-        args = all_given IsArgumentDraft (IsArgument notes) (resolved_argument notes) c.args args (argument_written notes) h.args (found (Name (prefix ++ codes "args")) (all_of (resolved_argument notes) c.args) args two);
-        enter = all_given IsCallbackDraft (IsCallbackOf notes) (resolved_callback notes) c.enter enter (callback_written notes) h.enter (found (Name (prefix ++ codes "enter")) (all_of (resolved_callback notes) c.enter) enter three);
+        signature = signature_within notes c.signature signature
+            (found (Name (prefix ++ codes "signature")) (signature_number notes c.signature) signature one);
+        args = all_given IsArgumentDraft (IsArgument notes) (resolved_argument notes) c.args args (argument_written notes) h.args
+            (found (Name (prefix ++ codes "args")) (all_of (resolved_argument notes) c.args) args two);
+        enter = all_given IsCallbackDraft (IsCallbackOf notes) (resolved_callback notes) c.enter enter (callback_written notes) h.enter
+            (found (Name (prefix ++ codes "enter")) (all_of (resolved_callback notes) c.enter) enter three);
         make = made.numbered;
         reply = record { out = replied.out; write = replied.write; result = replied.result };
       };
@@ -259,16 +304,21 @@ pub record AreCallsFor (notes : Notes) (shapes : List (Option ℕ)) (cs : List C
 calls_from : (notes : Notes) (shapes : List (Option ℕ)) (i : ℕ) (cs : List CallDraft) (rs : List ScriptCall) → Each IsCallDraft cs
     → each_of (λ i c. resolved_call notes shapes (row_prefix (codes "call") i) c) i cs ≡ Ok rs → AreCallsFor notes shapes cs rs
 unfolding each_of
-calls_from notes shapes i [] rs h e = subst (AreCallsFor notes shapes []) (same_Ok [] rs e) (record { numbered = each_none (IsNumberedCall notes shapes); makes = refl })
+calls_from notes shapes i [] rs h e = subst (AreCallsFor notes shapes []) (same_Ok [] rs e)
+    (record { numbered = each_none (IsNumberedCall notes shapes); makes = refl })
 calls_from notes shapes i (c ∷ cs) rs h e =
     ok_step _ _ rs e (λ r one e.
     ok_step _ _ rs e (λ more two e.
     let a = call_for notes shapes (row_prefix (codes "call") i) c r (h 0 c refl) one in
     let b = calls_from notes shapes (i + 1) cs more (λ k x g. h (suc k) x g) two in
     subst (AreCallsFor notes shapes (c ∷ cs)) (same_Ok (r ∷ more) rs e)
-    (record { numbered = each_more (IsNumberedCall notes shapes) r more a.numbered b.numbered; makes = ap₂ (λ x xs. x ++ xs) a.makes b.makes })))
+    (record {
+      numbered = each_more (IsNumberedCall notes shapes) r more a.numbered b.numbered;
+      makes = ap₂ (λ x xs. x ++ xs) a.makes b.makes;
+    })))
 
-calls_for : (notes : Notes) (shapes : List (Option ℕ)) (cs : List CallDraft) (rs : List ScriptCall) → Each IsCallDraft cs → resolved_calls notes shapes cs ≡ Ok rs → AreCallsFor notes shapes cs rs
+calls_for : (notes : Notes) (shapes : List (Option ℕ)) (cs : List CallDraft) (rs : List ScriptCall) → Each IsCallDraft cs
+    → resolved_calls notes shapes cs ≡ Ok rs → AreCallsFor notes shapes cs rs
 unfolding resolved_calls
 calls_for notes shapes cs rs h e = calls_from notes shapes 0 cs rs h e
 
@@ -291,7 +341,8 @@ map-map g f (x ∷ xs) = ap (λ z. g (f x) ∷ z) (map-map g f xs)
 
 -- the shapes of the typed objects that a draft has are those of the script
 shapes_are : (notes : Notes) (d : ScriptDraft) (s : Script) → draft_shapes notes d.object ≡ shapes_of s.object
-    → flat_map (λ (c : CallDraft). draft_shapes notes c.make) d.call ≡ flat_map (λ (c : ScriptCall). shapes_of c.make) s.call → typed_shapes notes d ≡ made_shapes (all_made notes s)
+    → flat_map (λ (c : CallDraft). draft_shapes notes c.make) d.call ≡ flat_map (λ (c : ScriptCall). shapes_of c.make) s.call
+    → typed_shapes notes d ≡ made_shapes (all_made notes s)
 unfolding typed_shapes made_objects
 shapes_are notes d s objects calls =
     let shape : TypedObject → Option ℕ = λ o. Some o.shape in
@@ -301,7 +352,8 @@ shapes_are notes d s objects calls =
     ∙ (ap shapes_of (placed-all s)
     ∙ (map-append (λ (o : ScriptObject). Some o.shape) s.object (flat_map objects_of s.call)
     ∙ ap (λ z. shapes_of s.object ++ z) (map-flat_map (λ (o : ScriptObject). Some o.shape) objects_of s.call))) in
-    let whole : made_shapes (all_made notes s) ≡ map (λ (o : Static). Some o.shape) notes.statics ++ (shapes_of s.object ++ flat_map (λ (c : ScriptCall). shapes_of c.make) s.call) =
+    let whole : made_shapes (all_made notes s) ≡ map (λ (o : Static). Some o.shape) notes.statics
+    ++ (shapes_of s.object ++ flat_map (λ (c : ScriptCall). shapes_of c.make) s.call) =
     map-append shape (map static_object notes.statics) (map script_object placed)
     ∙ ap₂ (λ x y. x ++ y) (map-map shape static_object notes.statics) of_placed in
     ap₂ (λ x y. map (λ (o : Static). Some o.shape) notes.statics ++ (x ++ y)) objects calls ∙ sym whole
@@ -319,7 +371,8 @@ script_for notes d s h e =
     subst (IsNumberedScript notes) (same_Ok whole s e)
     (record {
       version = h.version;
-      args = all_given IsWritable (IsWritten notes) (resolved_value notes) d.args args (value_written notes) h.args (found (Name (codes "args")) (all_of (resolved_value notes) d.args) args one);
+      args = all_given IsWritable (IsWritten notes) (resolved_value notes) d.args args (value_written notes) h.args
+          (found (Name (codes "args")) (all_of (resolved_value notes) d.args) args one);
       object = os.numbered;
       call = subst (λ z. Each (IsNumberedCall notes z) call) shapes cs.numbered;
     }))))

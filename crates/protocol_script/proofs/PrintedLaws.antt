@@ -1,5 +1,6 @@
 -- What is printed of a value that scripts can write is read as that value.
-use Rattle.std.proofs.Common.{◌≡◌, ℕ, zero, suc, ◌+◌, ◌^◌, ◌<◌, Bool, true, false, List, [], ◌∷◌, ◌++◌, length, Option, Some, refl, sym, ap, subst, ◌∙◌, arith, slice_get, ⊎_elim}
+use Rattle.std.proofs.Common.{◌≡◌, ℕ, zero, suc, ◌+◌, ◌^◌, ◌<◌, Bool, true, false, List, [], ◌∷◌, ◌++◌, length, Option, Some, refl, sym, ap}
+use Rattle.std.proofs.Common.{subst, ◌∙◌, arith, slice_get, ⊎_elim}
 use Rattle.std.proofs.lemmas.Bool.{cases_Bool, lt-ltb}
 use Rattle.std.proofs.lemmas.Option.{none-some, same_Some, slice_get_within}
 use Rattle.std.proofs.lemmas.Slice.Eq.{bytes_eq-Decides}
@@ -12,9 +13,9 @@ use Rattle.note_types.specs.declared.notes.Notes.{Notes}
 use Rattle.note_types.specs.declared.seen.Seen.{Seen}
 use Rattle.note_types.specs.declared.value.Value.{Value}
 use Rattle.note_types.specs.declared.value.Value.TheVariants as value
-use Rattle.run_types.specs.ScriptValues.{given}
-use Rattle.run_types.specs.Scripts.{IsWritten}
-use Rattle.run_types.proofs.Lists.{within_some}
+use Rattle.host_model.specs.ScriptValues.{given}
+use Rattle.host_model.specs.Scripts.{IsWritten}
+use Rattle.ebc_base.proofs.Lists.{within_some}
 use Rattle.script_draft.specs.Grammar as grammar
 use Rattle.script_draft.specs.Printed.{named_value, seen_text, value_text}
 use Rattle.script_draft.specs.ValueTexts.{argument_of, value_of}
@@ -25,6 +26,7 @@ use Rattle.script_draft.proofs.ValueLaws.{argument_complete, value_complete}
 use Rattle.protocol_script.specs.Numbers.{function_number, method_number, narrow}
 use Rattle.protocol_script.specs.PrintedLaw.{HasNames, PrintedArgumentsAreRead, PrintedValuesAreRead}
 use Rattle.protocol_script.specs.Resolved.{resolved_argument, resolved_value}
+use Rattle.ebc_base.proofs.TableLaws.{same_name}
 
 -- ---- numbers of names
 
@@ -38,7 +40,8 @@ found_first p (y ∷ ys) zero x at h once =
 found_first p (y ∷ ys) (suc k) x at h once = ⊎_elim
     (λ here. let e : 0 ≡ suc k = once 0 y refl here in absurd (omega (arith, e)))
     (λ gone.
-    let rest : position_or_len p ys ≡ k = found_first p ys k x at h (λ j z e g. let n : suc j ≡ suc k = once (suc j) z e g in omega (arith, n)) in
+    let rest : position_or_len p ys ≡ k = found_first p ys k x at h
+    (λ j z e g. let n : suc j ≡ suc k = once (suc j) z e g in omega (arith, n)) in
     rw gone (omega (arith, rest)))
     (cases_Bool (p y))
 
@@ -50,13 +53,11 @@ number_found p xs k x at h once small =
     let few : nat_lt k (2 ^ 32) ≡ true = lt-ltb k (2 ^ 32) small in
     rw (first, within, few) refl
 
-same_name : (a b : List ℕ) → bytes_eq a b ≡ true → a ≡ b
-same_name a b h = (bytes_eq-Decides a b).0 h
-
 its_name : (a : List ℕ) → bytes_eq a a ≡ true
 its_name a = (bytes_eq-Decides a a).1 refl
 
-function_found : (notes : Notes) → IsNotes notes → HasNames notes → (f : ℕ) (g : FnNote) → slice_get notes.function f ≡ Some g → function_number notes g.name ≡ Some f
+function_found : (notes : Notes) → IsNotes notes → HasNames notes → (f : ℕ) (g : FnNote) → slice_get notes.function f ≡ Some g
+    → function_number notes g.name ≡ Some f
 unfolding function_number
 function_found notes ok names f g at =
     let within = slice_get_within notes.function f g at in
@@ -64,7 +65,8 @@ function_found notes ok names f g at =
     number_found (λ (h : FnNote). bytes_eq h.name g.name) notes.function f g at (its_name g.name)
     (λ j h e same. names.functions_once j f h g e at (same_name h.name g.name same)) (omega (arith, within, few))
 
-method_found : (notes : Notes) → IsNotes notes → HasNames notes → (m : ℕ) (name : List ℕ) → slice_get notes.methods m ≡ Some name → method_number notes name ≡ Some m
+method_found : (notes : Notes) → IsNotes notes → HasNames notes → (m : ℕ) (name : List ℕ) → slice_get notes.methods m ≡ Some name
+    → method_number notes name ≡ Some m
 unfolding method_number
 method_found notes ok names m name at =
     let within = slice_get_within notes.methods m name at in
@@ -96,7 +98,8 @@ is_named notes ok names (value.Entry f) h =
     record {
       named = text.Entry g.name;
       writable = names.functions f g there.1;
-      printed = ap (λ (o : Option FnNote). option_map_or grammar.value_text (option_map (λ name. text.Entry name) (option_map (λ (g : FnNote). g.name) o)) []) there.1;
+      printed = ap (λ (o : Option FnNote). option_map_or grammar.value_text
+          (option_map (λ name. text.Entry name) (option_map (λ (g : FnNote). g.name) o)) []) there.1;
       stands = ap (option_map (λ f. value.Entry f)) (function_found notes ok names f g there.1);
     }
 is_named notes ok names (value.Method m) h =
@@ -120,24 +123,29 @@ printed_values notes ok names v h =
 
 -- ---- arguments
 
-out_printed : (notes : Notes) → option_and_then (resolved_argument notes) (argument_of (seen_text notes (given value.Out))) ≡ Some (given value.Out)
+out_printed : (notes : Notes) → option_and_then (resolved_argument notes) (argument_of (seen_text notes (given value.Out))) ≡ Some
+    (given value.Out)
 unfolding value_text resolved_argument
 out_printed notes = ap (option_and_then (resolved_argument notes)) (argument_complete (codes "out") argument.Out refl)
 
 value_printed : (notes : Notes) (lent : Bool) (v : Value) → IsNamed notes v
-    → option_and_then (resolved_argument notes) (argument_of (seen_text notes (record { lent = lent; value = v }))) ≡ Some (record { lent = lent; value = v })
+    → option_and_then (resolved_argument notes) (argument_of (seen_text notes (record { lent = lent; value = v }))) ≡ Some
+    (record { lent = lent; value = v })
 unfolding resolved_argument
 value_printed notes true v n =
     ap (λ t. option_and_then (resolved_argument notes) (argument_of (codes "lent " ++ t))) n.printed
-    ∙ (ap (option_and_then (resolved_argument notes)) (argument_complete (codes "lent " ++ grammar.value_text n.named) (argument.Lent n.named) (refl, n.writable))
+    ∙ (ap (option_and_then (resolved_argument notes)) (argument_complete (codes "lent " ++ grammar.value_text n.named)
+    (argument.Lent n.named) (refl, n.writable))
     ∙ ap (option_map (λ v. record { lent = true; value = v })) n.stands)
 value_printed notes false v n =
     ap (λ t. option_and_then (resolved_argument notes) (argument_of t)) n.printed
-    ∙ (ap (option_and_then (resolved_argument notes)) (argument_complete (grammar.value_text n.named) (argument.Given n.named) (refl, n.writable))
+    ∙ (ap (option_and_then (resolved_argument notes)) (argument_complete (grammar.value_text n.named) (argument.Given n.named)
+    (refl, n.writable))
     ∙ ap (option_map (λ v. record { lent = false; value = v })) n.stands)
 
 pub printed_arguments : PrintedArgumentsAreRead
 printed_arguments notes ok names s h = ⊎_elim
     (λ written. value_printed notes s.lent s.value (is_named notes ok names s.value written))
-    (λ is. subst (λ (z : Seen). option_and_then (resolved_argument notes) (argument_of (seen_text notes z)) ≡ Some z) (sym is) (out_printed notes))
+    (λ is. subst (λ (z : Seen). option_and_then (resolved_argument notes) (argument_of (seen_text notes z)) ≡ Some z) (sym is)
+    (out_printed notes))
     h

@@ -1,13 +1,13 @@
 -- A script that meets the conditions: what they say of each thing by itself.
-use Rattle.std.proofs.Common.{◌≡◌, ℕ, ◌+◌, ◌≤◌, ◌<◌, zero, suc, List, [], ◌∷◌, length, take, Option, Some, None, Result, Ok, Err, Bool, true, false, ◌&&◌, refl, sym, ap, subst, ◌∙◌, arith, slice_get, ⊎_elim}
-use Rattle.std.proofs.lemmas.Bool.{cases_lt}
+use Rattle.std.proofs.Common.{◌≡◌, ℕ, ◌+◌, ◌≤◌, ◌<◌, zero, suc, List, [], ◌∷◌, length, take, Option, Some, None, Result, Ok, Err, Bool}
+use Rattle.std.proofs.Common.{true, false, ◌&&◌, refl, sym, ap, subst, ◌∙◌, arith, slice_get, ⊎_elim}
+use Rattle.std.proofs.lemmas.Bool.{cases_lt, and_parts}
 use Rattle.std.proofs.lemmas.Bool.Decides.{nat_tests}
 use Rattle.std.proofs.lemmas.Option.{same_Some, slice_get-map}
 use Rattle.std.specs.List.{list_all, range_with_len, sum_by}
 use Rattle.std.specs.Option.{option_map, option_map_or}
 use Rattle.std.specs.Prelude.{◌||◌, nat_le, nat_lt, not, codes, ◌++◌}
 use Rattle.ebc_base.specs.Steps.{◌>>=◌, passes}
-use Rattle.note_texts.proofs.SplitLaws.{both_true}
 use Rattle.note_texts.specs.Keys.{document, row_prefix}
 use Rattle.note_types.specs.Cells.{content_type}
 use Rattle.note_types.specs.declared.fault.TomlFault.{TomlFault}
@@ -20,15 +20,17 @@ use Rattle.note_types.specs.declared.script.WriteValue.{WriteValue}
 use Rattle.note_types.specs.declared.shape.Field.{Field}
 use Rattle.note_types.specs.declared.value.Value.{Value}
 use Rattle.note_types.specs.declared.value.Value.TheVariants.{Ptr}
-use Rattle.run_types.specs.HostPlans.{field_of, signature_params}
-use Rattle.run_types.specs.Objects.{made_objects, shape_of}
-use Rattle.run_types.specs.ScriptValues.{fits}
-use Rattle.run_types.specs.declared.object.TypedObject.{TypedObject}
+use Rattle.host_model.specs.HostPlans.{field_of, signature_params}
+use Rattle.host_model.specs.Objects.{made_objects, shape_of}
+use Rattle.host_model.specs.ScriptValues.{fits}
+use Rattle.host_model.specs.declared.object.TypedObject.{TypedObject}
 use Rattle.script_draft.specs.Lists.{all_pass}
-use Rattle.protocol_script.specs.Conditions.{all_tables_pass, args_fit, call_args, call_passes, calls_pass, conditions, has_args, is_there, table_conditions, table_meets, table_passes, tables_pass}
+use Rattle.protocol_script.specs.Conditions.{all_tables_pass, args_fit, call_args, call_passes, calls_pass, conditions, has_args, is_there}
+use Rattle.protocol_script.specs.Conditions.{table_conditions, table_meets, table_passes, tables_pass}
 use Rattle.protocol_script.specs.Contents.{all_settled, are_contents, cell_fits, is_by, is_filled, is_settled}
 use Rattle.protocol_script.specs.Limits.{call_limit, calls_limit, limits, object_limit, objects_limit}
-use Rattle.run_types.specs.Scripts.{IsCallOf, IsCellOf, IsObjectOf, IsScript, IsWriteOf, IsWritten, all_made, callbacks_of, have_room, is_given, is_needed}
+use Rattle.host_model.specs.Scripts.{IsCallOf, IsCellOf, IsObjectOf, IsScript, IsWriteOf, IsWritten, all_made, callbacks_of, have_room}
+use Rattle.host_model.specs.Scripts.{is_given, is_needed}
 use Rattle.protocol_script.specs.ShapeTests.{fits_at, is_shape}
 use Rattle.protocol_script.specs.declared.tables.TableCondition.{TableCondition}
 use Rattle.protocol_script.specs.declared.tables.TableCondition.TheVariants.{Instances, WellFormed, Contents, Pointers}
@@ -37,7 +39,8 @@ use Rattle.protocol_script.specs.Scripts.{script_of}
 use Rattle.script_draft.specs.Drafts.{draft_of}
 use Rattle.script_draft.specs.Once.{once}
 use Rattle.script_draft.proofs.DraftLaws.{draft_is, ok_step, same_Ok}
-use Rattle.protocol_script.proofs.NumberedLaws.{IsNumberedCall, IsNumberedObject, IsNumberedScript, IsNumberedWrite, made_shapes, script_for}
+use Rattle.protocol_script.proofs.NumberedLaws.{IsNumberedCall, IsNumberedObject, IsNumberedScript, IsNumberedWrite, made_shapes}
+use Rattle.protocol_script.proofs.NumberedLaws.{script_for}
 use Rattle.protocol_script.proofs.ShapeLaws.{all-at, shape-of}
 
 -- ---- steps
@@ -50,7 +53,8 @@ pub both-pass : (a b : Result (Unit {0}) TomlFault) → (a >>= λ _. b) ≡ Ok t
 both-pass (Ok u) b h = (refl, h)
 both-pass (Err e) b h = cc h
 
-pub pass-at : {A : Type 0} (check : ℕ → A → Result (Unit {0}) TomlFault) (i : ℕ) (xs : List A) (k : ℕ) (x : A) → all_pass check i xs ≡ Ok tt → slice_get xs k ≡ Some x → check (i + k) x ≡ Ok tt
+pub pass-at : {A : Type 0} (check : ℕ → A → Result (Unit {0}) TomlFault) (i : ℕ) (xs : List A) (k : ℕ) (x : A) → all_pass check i xs ≡ Ok tt
+    → slice_get xs k ≡ Some x → check (i + k) x ≡ Ok tt
 unfolding all_pass
 pass-at check i [] k x h at = cc at
 pass-at check i (y ∷ ys) zero x h at =
@@ -68,7 +72,7 @@ pass-at check i (y ∷ ys) (suc k) x h at =
 number-at : (p : ℕ → Bool) (n a i : ℕ) → list_all p (range_with_len a n) ≡ true → a ≤ i → i < a + n → p i ≡ true
 number-at p zero a i h low high = absurd (omega (arith, low, high))
 number-at p (suc n) a i h low high =
-    let q = both_true (p a) (list_all p (range_with_len (a + 1) n)) h in
+    let q = and_parts (p a) (list_all p (range_with_len (a + 1) n)) h in
     ⊎_elim
     (λ below. number-at p n (a + 1) i q.1 (omega (arith, below)) (omega (arith, high)))
     (λ above. let same : a ≡ i = omega (arith, low, above) in subst (λ z. p z ≡ true) same q.0)
@@ -76,20 +80,24 @@ number-at p (suc n) a i h low high =
 
 -- ---- tables of objects
 
-table-at : (condition : TableCondition) (notes : Notes) (made : List TypedObject) (path : List ℕ) (first : ℕ) (objects : List ScriptObject) (k : ℕ) (o : ScriptObject)
-    → tables_pass condition notes made path first objects ≡ Ok tt → slice_get objects k ≡ Some o → table_meets condition notes made (first + k) o ≡ true
+table-at : (condition : TableCondition) (notes : Notes) (made : List TypedObject) (path : List ℕ) (first : ℕ) (objects : List ScriptObject)
+    (k : ℕ) (o : ScriptObject)
+    → tables_pass condition notes made path first objects ≡ Ok tt → slice_get objects k ≡ Some o
+    → table_meets condition notes made (first + k) o ≡ true
 unfolding tables_pass
 table-at condition notes made path first objects k o h at =
     let here = pass-at (λ i x. table_passes condition notes made path (first + i) i x) 0 objects k o h at in
     let n : 0 + k ≡ k = omega arith in
     ap (λ z. table_meets condition notes made (first + z) o) (sym n) ∙ passed (table_meets condition notes made (first + (0 + k)) o) _ here
 
-cell-field : (notes : Notes) (made : List TypedObject) (o : ScriptObject) (c : CellValue) (found : Option Field) → field_of notes o.shape c.field ≡ found → c.instance < o.count → IsWritten notes c.value
+cell-field : (notes : Notes) (made : List TypedObject) (o : ScriptObject) (c : CellValue) (found : Option Field)
+    → field_of notes o.shape c.field ≡ found → c.instance < o.count → IsWritten notes c.value
     → option_map_or (λ (x : Field). fits made (content_type x.cell) c.value) found false ≡ true → IsCellOf notes made o c
 cell-field notes made o c None at within written h = cc h
 cell-field notes made o c (Some x) at within written h = record { instance = within; field = x; there = at; written = written; value = h }
 
-settled-given : (fields : List Field) (cells : List CellValue) (i f : ℕ) (x : Field) (found : Option Field) → slice_get fields f ≡ found → found ≡ Some x → is_needed x.cell ≡ true
+settled-given : (fields : List Field) (cells : List CellValue) (i f : ℕ) (x : Field) (found : Option Field) → slice_get fields f ≡ found
+    → found ≡ Some x → is_needed x.cell ≡ true
     → (option_map_or (λ (v : Field). not (is_needed v.cell)) found true || is_given cells i f) ≡ true → is_given cells i f ≡ true
 settled-given fields cells i f x None at is needed h = cc is
 settled-given fields cells i f x (Some y) at is needed h =
@@ -103,25 +111,30 @@ pointer-by number p i v is h =
     grind (arith, nat_tests, e)
 
 object-of : (notes : Notes) (made : List TypedObject) (number : ℕ) (o : ScriptObject) → IsNumberedObject notes o
-    → table_meets Instances notes made number o ≡ true → table_meets WellFormed notes made number o ≡ true → table_meets Contents notes made number o ≡ true → table_meets Pointers notes made number o ≡ true
+    → table_meets Instances notes made number o ≡ true → table_meets WellFormed notes made number o ≡ true
+    → table_meets Contents notes made number o ≡ true → table_meets Pointers notes made number o ≡ true
     → IsObjectOf notes made number o
 unfolding table_meets is_shape are_contents is_filled all_settled
 object-of notes made number o numbered inside formed contents pointers =
-    let parts = both_true (list_all (cell_fits notes made o.shape) o.cells) _ contents in
+    let parts = and_parts (list_all (cell_fits notes made o.shape) o.cells) _ contents in
     record {
       known = numbered.shape;
       count = numbered.count;
-      shape = shape-of (shape_of notes o.shape) (both_true _ (fits_at 4 (shape_of notes o.shape) && fits_at 8 (shape_of notes o.shape)) formed).1;
+      shape = shape-of (shape_of notes o.shape) (and_parts _ (fits_at 4 (shape_of notes o.shape)
+          && fits_at 8 (shape_of notes o.shape)) formed).1;
       cells = λ k c at.
           let within : nat_lt c.instance o.count ≡ true = all-at (λ (v : CellValue). nat_lt v.instance o.count) o.cells k c inside at in
           let fit : cell_fits notes made o.shape c ≡ true = all-at (cell_fits notes made o.shape) o.cells k c parts.0 at in
           cell-field notes made o c (field_of notes o.shape c.field) refl (grind (arith, nat_tests, within)) (numbered.cells k c at) fit;
       given = λ i f x within at needed.
           let fields = (shape_of notes o.shape).fields in
-          let all : list_all (is_settled fields o.cells i) (range_with_len 0 (length fields)) ≡ true = number-at _ o.count 0 i parts.1 (omega arith) (omega (arith, within)) in
+          let all : list_all (is_settled fields o.cells i) (range_with_len 0 (length fields)) ≡ true =
+          number-at _ o.count 0 i parts.1 (omega arith) (omega (arith, within)) in
           let there : f < length fields = within_of fields f x at in
-          settled-given fields o.cells i f x (slice_get fields f) refl at needed (number-at (is_settled fields o.cells i) (length fields) 0 f all (omega arith) (omega (arith, there)));
-      earlier = λ k c p i at is. pointer-by number p i c.value is (all-at (λ (v : CellValue). is_by number v.value) o.cells k c pointers at);
+          settled-given fields o.cells i f x (slice_get fields f) refl at needed
+          (number-at (is_settled fields o.cells i) (length fields) 0 f all (omega arith) (omega (arith, there)));
+      earlier = λ k c p i at is. pointer-by number p i c.value is
+          (all-at (λ (v : CellValue). is_by number v.value) o.cells k c pointers at);
     }
   where
     within_of : {A : Type 0} (xs : List A) (k : ℕ) (x : A) → slice_get xs k ≡ Some x → k < length xs
@@ -131,30 +144,44 @@ object-of notes made number o numbered inside formed contents pointers =
 
 -- ---- calls
 
-write-found : (notes : Notes) (made : List TypedObject) (w : WriteValue) (found : Option TypedObject) → slice_get made w.object ≡ found → IsNumberedWrite notes (made_shapes made) w
+write-found : (notes : Notes) (made : List TypedObject) (w : WriteValue) (found : Option TypedObject) → slice_get made w.object ≡ found
+    → IsNumberedWrite notes (made_shapes made) w
     → option_map_or (λ (o : TypedObject). nat_lt w.instance o.count) found false ≡ true → IsWriteOf notes made w
 write-found notes made w None at numbered h = cc h
 write-found notes made w (Some o) at numbered h =
-    let shape : slice_get (made_shapes made) w.object ≡ Some (Some o.shape) = slice_get-map (λ (o : TypedObject). Some o.shape) made w.object ∙ ap (option_map (λ (o : TypedObject). Some o.shape)) at in
+    let shape : slice_get (made_shapes made) w.object ≡ Some (Some o.shape) =
+    slice_get-map (λ (o : TypedObject). Some o.shape) made w.object ∙ ap (option_map (λ (o : TypedObject). Some o.shape)) at in
     let field = numbered.field o.shape shape in
-    record { object = o; there = at; instance = grind (arith, nat_tests, h); field = field.0; is_field = field.1; written = numbered.written }
+    record {
+      object = o;
+      there = at;
+      instance = grind (arith, nat_tests, h);
+      field = field.0;
+      is_field = field.1;
+      written = numbered.written;
+    }
 
 call-at : (condition : TableCondition) (notes : Notes) (script : Script) (made : List TypedObject) (i : ℕ) (c : ScriptCall)
-    → calls_pass condition notes script made ≡ Ok tt → slice_get script.call i ≡ Some c → call_passes condition notes made (length (made_objects notes script i)) i c ≡ Ok tt
+    → calls_pass condition notes script made ≡ Ok tt → slice_get script.call i ≡ Some c
+    → call_passes condition notes made (length (made_objects notes script i)) i c ≡ Ok tt
 unfolding calls_pass
 call-at condition notes script made i c h at =
     let here = pass-at (λ k x. call_passes condition notes made (length (made_objects notes script k)) k x) 0 script.call i c h at in
     let n : 0 + i ≡ i = omega arith in
     subst (λ z. call_passes condition notes made (length (made_objects notes script z)) z c ≡ Ok tt) n here
 
-made-at : (condition : TableCondition) (notes : Notes) (script : Script) (made : List TypedObject) (i : ℕ) (c : ScriptCall) (j : ℕ) (o : ScriptObject)
-    → calls_pass condition notes script made ≡ Ok tt → slice_get script.call i ≡ Some c → slice_get c.make j ≡ Some o → table_meets condition notes made (length (made_objects notes script i) + j) o ≡ true
+made-at : (condition : TableCondition) (notes : Notes) (script : Script) (made : List TypedObject) (i : ℕ) (c : ScriptCall) (j : ℕ)
+    (o : ScriptObject)
+    → calls_pass condition notes script made ≡ Ok tt → slice_get script.call i ≡ Some c → slice_get c.make j ≡ Some o
+    → table_meets condition notes made (length (made_objects notes script i) + j) o ≡ true
 unfolding call_passes
 made-at condition notes script made i c j o h at at-make =
-    table-at condition notes made (row_prefix (codes "call") i ++ codes "make") (length (made_objects notes script i)) c.make j o (both-pass _ _ (call-at condition notes script made i c h at)).0 at-make
+    table-at condition notes made (row_prefix (codes "call") i ++ codes "make") (length (made_objects notes script i)) c.make j o
+    (both-pass _ _ (call-at condition notes script made i c h at)).0 at-make
 
 writes-at : (notes : Notes) (script : Script) (made : List TypedObject) (i : ℕ) (c : ScriptCall)
-    → calls_pass Instances notes script made ≡ Ok tt → slice_get script.call i ≡ Some c → list_all (λ (w : WriteValue). is_there made w.object w.instance) c.write ≡ true
+    → calls_pass Instances notes script made ≡ Ok tt → slice_get script.call i ≡ Some c
+    → list_all (λ (w : WriteValue). is_there made w.object w.instance) c.write ≡ true
 unfolding call_passes
 writes-at notes script made i c h at = passed _ _ (both-pass _ _ (call-at Instances notes script made i c h at)).1
 
@@ -164,7 +191,8 @@ pub record MeetsAll (notes : Notes) (script : Script) (condition : TableConditio
   pub objects : tables_pass condition notes (all_made notes script) (codes "object") (length notes.statics) script.object ≡ Ok tt
   pub calls : calls_pass condition notes script (all_made notes script) ≡ Ok tt
 
-meets-all : (notes : Notes) (script : Script) (condition : TableCondition) → all_tables_pass condition notes script (all_made notes script) ≡ Ok tt → MeetsAll notes script condition
+meets-all : (notes : Notes) (script : Script) (condition : TableCondition)
+    → all_tables_pass condition notes script (all_made notes script) ≡ Ok tt → MeetsAll notes script condition
 unfolding all_tables_pass
 meets-all notes script condition h = let p = both-pass _ _ h in record { objects = p.0; calls = p.1 }
 
@@ -195,26 +223,31 @@ meets-limits : (notes : Notes) (script : Script) → limits notes script ≡ Ok 
 unfolding limits
 meets-limits notes script h = let p = both-pass _ _ h in record { objects = p.0; calls = p.1 }
 
-room-at : (notes : Notes) (objects : List ScriptObject) (k : ℕ) (o : ScriptObject) → objects_limit notes objects ≡ Ok tt → slice_get objects k ≡ Some o → have_room notes (take (k + 1) objects) ≡ true
+room-at : (notes : Notes) (objects : List ScriptObject) (k : ℕ) (o : ScriptObject) → objects_limit notes objects ≡ Ok tt
+    → slice_get objects k ≡ Some o → have_room notes (take (k + 1) objects) ≡ true
 unfolding objects_limit
 room-at notes objects k o h at =
     let here = pass-at (λ i (x : ScriptObject). object_limit notes objects i) 0 objects k o h at in
     let n : 0 + k ≡ k = omega arith in
     ap (λ z. have_room notes (take (z + 1) objects)) (sym n) ∙ passed (have_room notes (take (0 + k + 1) objects)) _ here
 
-limit-at : (notes : Notes) (script : Script) (i : ℕ) (c : ScriptCall) → calls_limit notes script ≡ Ok tt → slice_get script.call i ≡ Some c → call_limit notes script i ≡ Ok tt
+limit-at : (notes : Notes) (script : Script) (i : ℕ) (c : ScriptCall) → calls_limit notes script ≡ Ok tt → slice_get script.call i ≡ Some c
+    → call_limit notes script i ≡ Ok tt
 unfolding calls_limit
 limit-at notes script i c h at =
     let here = pass-at (λ k (x : ScriptCall). call_limit notes script k) 0 script.call i c h at in
     let n : 0 + i ≡ i = omega arith in
     subst (λ z. call_limit notes script z ≡ Ok tt) n here
 
-args-at : (notes : Notes) (script : Script) (i : ℕ) (c : ScriptCall) → all_pass (call_args notes) 0 script.call ≡ Ok tt → slice_get script.call i ≡ Some c → length c.args ≡ length (signature_params notes c.signature)
+args-at : (notes : Notes) (script : Script) (i : ℕ) (c : ScriptCall) → all_pass (call_args notes) 0 script.call ≡ Ok tt
+    → slice_get script.call i ≡ Some c → length c.args ≡ length (signature_params notes c.signature)
 args-at notes script i c h at =
     let e : has_args notes c ≡ true = passed (has_args notes c) _ (pass-at (call_args notes) 0 script.call i c h at) in
     grind (arith, nat_tests, e)
 
-call-of : (notes : Notes) (script : Script) (i : ℕ) (c : ScriptCall) → slice_get script.call i ≡ Some c → IsNumberedCall notes (made_shapes (all_made notes script)) c → all_pass (call_args notes) 0 script.call ≡ Ok tt → MeetsTables notes script → MeetsLimits notes script → IsCallOf notes script i c
+call-of : (notes : Notes) (script : Script) (i : ℕ) (c : ScriptCall) → slice_get script.call i ≡ Some c
+    → IsNumberedCall notes (made_shapes (all_made notes script)) c → all_pass (call_args notes) 0 script.call ≡ Ok tt
+    → MeetsTables notes script → MeetsLimits notes script → IsCallOf notes script i c
 unfolding call_limit
 call-of notes script i c at numbered args tables few =
     let a = both-pass _ _ (limit-at notes script i c few.calls at) in
@@ -236,7 +269,8 @@ call-of notes script i c at numbered args tables few =
           (made-at Contents notes script made i c j o tables.contents.calls at there)
           (made-at Pointers notes script made i c j o tables.pointers.calls at there);
       write = λ k w there.
-          let e : is_there made w.object w.instance ≡ true = all-at (λ (v : WriteValue). is_there made v.object v.instance) c.write k w (writes-at notes script made i c tables.instances.calls at) there in
+          let e : is_there made w.object w.instance ≡ true = all-at (λ (v : WriteValue). is_there made v.object v.instance) c.write k w
+          (writes-at notes script made i c tables.instances.calls at) there in
           write-found notes made w (slice_get made w.object) refl (numbered.reply.write k w there) e;
       few = grind (arith, nat_tests, below);
       room = passed _ _ b.0;
@@ -270,7 +304,9 @@ script-of notes script numbered h =
 pub read-is-script : (notes : Notes) (text : List ℕ) (script : Script) → script_of notes text ≡ Ok script → IsScript notes script
 unfolding script_of
 read-is-script notes text script h =
-    ok_step (document text) (λ table. draft_of table >>= λ d. once d >>= λ _. resolved notes d >>= λ s. conditions notes s >>= λ _. Ok s) script h (λ table one h.
+    ok_step (document text)
+    (λ table. draft_of table >>= λ d. once d >>= λ _. resolved notes d >>= λ s. conditions notes s >>= λ _. Ok s) script h
+    (λ table one h.
     ok_step (draft_of table) (λ d. once d >>= λ _. resolved notes d >>= λ s. conditions notes s >>= λ _. Ok s) script h (λ d two h.
     ok_step (once d) (λ _. resolved notes d >>= λ s. conditions notes s >>= λ _. Ok s) script h (λ u three h.
     ok_step (resolved notes d) (λ s. conditions notes s >>= λ _. Ok s) script h (λ s four h.

@@ -1,5 +1,5 @@
--- The conditions on scripts whose texts and names are right, in the order in which they are tried, and the key at which the
--- first that fails is named. docs/SCRIPTS.md lists them.
+-- Meaning: the conditions on scripts whose texts and names are right, in the order in which they are tried, and the key at
+-- which the first that fails is named. docs/SCRIPTS.md lists them.
 use Rattle.std.specs.Prelude.{ℕ, ◌+◌, Bool, true, false, List, ◌++◌, length, nat_eq, nat_lt, slice_get, Result, codes}
 use Rattle.std.specs.List.{list_all}
 use Rattle.std.specs.Option.{option_map_or}
@@ -12,10 +12,10 @@ use Rattle.note_types.specs.declared.script.ScriptObject.{ScriptObject}
 use Rattle.note_types.specs.declared.script.WriteValue.{WriteValue}
 use Rattle.ebc_base.specs.Steps.{◌>>=◌, passes}
 use Rattle.note_texts.specs.Keys.{row_prefix}
-use Rattle.run_types.specs.HostPlans.{function_params, signature_params}
-use Rattle.run_types.specs.Objects.{made_objects, shape_of}
-use Rattle.run_types.specs.declared.object.TypedObject.{TypedObject}
-use Rattle.run_types.specs.ScriptValues.{fits_each}
+use Rattle.host_model.specs.HostPlans.{function_params, signature_params}
+use Rattle.host_model.specs.Objects.{made_objects, shape_of}
+use Rattle.host_model.specs.declared.object.TypedObject.{TypedObject}
+use Rattle.host_model.specs.ScriptValues.{fits_each}
 use Rattle.script_draft.specs.Lists.{all_pass}
 use Rattle.protocol_script.specs.Contents.{are_by, are_contents, are_inside}
 use Rattle.protocol_script.specs.Limits.{limits}

@@ -1,5 +1,5 @@
--- What the cells of a script's object hold at first: which fit, and which have to be given. docs/SCRIPTS.md, "What the reader
--- refuses".
+-- Meaning: what the cells of a script's object hold at first: which fit, and which have to be given. docs/SCRIPTS.md, "What
+-- the reader refuses".
 use Rattle.std.specs.Prelude.{ℕ, Bool, true, false, not, ◌&&◌, ◌||◌, List, length, nat_le, nat_lt, slice_get}
 use Rattle.std.specs.List.{list_all, range_with_len}
 use Rattle.std.specs.Option.{option_map_or}
@@ -10,11 +10,11 @@ use Rattle.note_types.specs.declared.script.ScriptObject.{ScriptObject}
 use Rattle.note_types.specs.declared.shape.Field.{Field}
 use Rattle.note_types.specs.declared.value.Value.{Value}
 use Rattle.note_types.specs.declared.value.Value.TheVariants as value
-use Rattle.run_types.specs.HostPlans.{field_of}
-use Rattle.run_types.specs.Objects.{shape_of}
-use Rattle.run_types.specs.declared.object.TypedObject.{TypedObject}
-use Rattle.run_types.specs.ScriptValues.{fits}
-use Rattle.run_types.specs.Scripts.{is_given, is_needed}
+use Rattle.host_model.specs.HostPlans.{field_of}
+use Rattle.host_model.specs.Objects.{shape_of}
+use Rattle.host_model.specs.declared.object.TypedObject.{TypedObject}
+use Rattle.host_model.specs.ScriptValues.{fits}
+use Rattle.host_model.specs.Scripts.{is_given, is_needed}
 
 -- the instance of each cell is one of the object's
 abbrev pub are_inside : ScriptObject → Bool

@@ -6,3 +6,4 @@ pub mod PrintedLaw
 pub mod Resolved
 pub mod Scripts
 pub mod ShapeTests
+pub mod ReadLaw

@@ -1,4 +1,4 @@
--- The limits of a script: on its objects, its calls and its callbacks. docs/SCRIPTS.md, "What the reader refuses".
+-- Meaning: the limits of a script: on its objects, its calls and its callbacks. docs/SCRIPTS.md, "What the reader refuses".
 use Rattle.std.specs.Prelude.{◌≡◌, ℕ, ◌+◌, ◌^◌, ◌≤◌, List, ◌++◌, length, take, nat_le, nat_lt, Result, codes}
 use Rattle.std.specs.List.{sum_by}
 use Rattle.note_types.specs.declared.fault.TomlFault.{TomlFault}
@@ -8,8 +8,8 @@ use Rattle.note_types.specs.declared.script.Script.{Script}
 use Rattle.note_types.specs.declared.script.ScriptObject.{ScriptObject}
 use Rattle.ebc_base.specs.Steps.{◌>>=◌, passes}
 use Rattle.note_texts.specs.Keys.{row_prefix}
-use Rattle.run_types.specs.Objects.{placed_objects}
-use Rattle.run_types.specs.Scripts.{callbacks_of, have_room, room_of}
+use Rattle.host_model.specs.Objects.{placed_objects}
+use Rattle.host_model.specs.Scripts.{callbacks_of, have_room, room_of}
 use Rattle.script_draft.specs.Lists.{all_pass}
 use Rattle.protocol_script.specs.declared.limits.Load.{Load}
 use Rattle.protocol_script.specs.declared.limits.Tally.{Tally}

@@ -1,4 +1,4 @@
--- The numbers of things of the notes by their names. docs/SCRIPTS.md, "What the reader refuses".
+-- Meaning: the numbers of things of the notes by their names. docs/SCRIPTS.md, "What the reader refuses".
 use Rattle.std.specs.Prelude.{ℕ, ◌^◌, List, Option, Some, None, bytes_eq, nat_lt, if◌then◌else◌, option_and_then}
 use Rattle.std.specs.List.{position}
 use Rattle.note_types.specs.declared.notes.FnNote.{FnNote}

@@ -1,5 +1,5 @@
--- Drafts with the numbers of what they name, or the first name that isn't there, by the path of its key. docs/SCRIPTS.md,
--- "What the reader refuses".
+-- Meaning: Drafts with the numbers of what they name, or the first name that isn't there, by the path of its key.
+-- docs/SCRIPTS.md, "What the reader refuses".
 use Rattle.std.specs.Prelude.{ℕ, List, ◌++◌, map, codes, Option, Some, None, Result, Ok, option_map, option_and_then, slice_get}
 use Rattle.std.specs.List.{flat_map}
 use Rattle.note_types.specs.declared.fault.TomlFault.{TomlFault}
@@ -19,8 +19,8 @@ use Rattle.note_types.specs.declared.value.Value.{Value}
 use Rattle.note_types.specs.declared.value.Value.TheVariants as value
 use Rattle.ebc_base.specs.Steps.{◌>>=◌, or_else}
 use Rattle.note_texts.specs.Keys.{row_prefix}
-use Rattle.run_types.specs.Objects.{shape_of}
-use Rattle.run_types.specs.ScriptValues.{given, lent}
+use Rattle.host_model.specs.Objects.{shape_of}
+use Rattle.host_model.specs.ScriptValues.{given, lent}
 use Rattle.script_draft.specs.Lists.{all_of, each_of}
 use Rattle.script_draft.specs.declared.draft.CallDraft.{CallDraft}
 use Rattle.script_draft.specs.declared.draft.ObjectDraft.{ObjectDraft}
@@ -63,7 +63,8 @@ resolved_cell notes fields c =
 
 unfoldable pub resolved_callback : Notes → CallbackText → Option Callback
 resolved_callback notes b =
-    option_and_then (λ function. option_map (λ values. record { function = function; values = values }) (all_of (resolved_value notes) b.values))
+    option_and_then (λ function. option_map (λ values. record { function = function; values = values })
+    (all_of (resolved_value notes) b.values))
     (function_number notes b.function)
 
 unfoldable pub resolved_out : Notes → OutText → Option OutValue
@@ -78,7 +79,8 @@ field_in notes (Some shape) name = field_number (shape_of notes shape).fields na
 -- what a cell of an object gets, where the typed objects have these shapes
 unfoldable pub resolved_write : Notes → List (Option ℕ) → WriteText → Option WriteValue
 resolved_write notes shapes w =
-    option_and_then (λ field. option_map (λ v. record { object = w.object; instance = w.instance; field = field; value = v }) (resolved_value notes w.value))
+    option_and_then (λ field. option_map (λ v. record { object = w.object; instance = w.instance; field = field; value = v })
+    (resolved_value notes w.value))
     (field_in notes (option_and_then (λ shape. shape) (slice_get shapes w.object)) w.field)
 
 -- ---- tables
@@ -110,7 +112,15 @@ resolved_call notes shapes prefix c = do
   enter ← or_else (Name (prefix ++ codes "enter")) (all_of (resolved_callback notes) c.enter)
   make ← resolved_objects notes (prefix ++ codes "make") c.make
   reply ← resolved_reply notes shapes prefix c
-  Ok (record { signature = signature; args = args; enter = enter; make = make; out = reply.out; write = reply.write; result = reply.result })
+  Ok (record {
+    signature = signature;
+    args = args;
+    enter = enter;
+    make = make;
+    out = reply.out;
+    write = reply.write;
+    result = reply.result;
+  })
 
 unfoldable pub resolved_calls : Notes → List (Option ℕ) → List CallDraft → Result (List ScriptCall) TomlFault
 resolved_calls notes shapes calls = each_of (λ i c. resolved_call notes shapes (row_prefix (codes "call") i) c) 0 calls
@@ -124,7 +134,8 @@ draft_shapes notes objects = map (λ (o : ObjectDraft). shape_number notes o.sha
 -- the shapes of all typed objects of a run: the static objects, the script's at the start, and those that its calls make
 unfoldable pub typed_shapes : Notes → ScriptDraft → List (Option ℕ)
 typed_shapes notes d =
-    map (λ (o : Static). Some o.shape) notes.statics ++ (draft_shapes notes d.object ++ flat_map (λ (c : CallDraft). draft_shapes notes c.make) d.call)
+    map (λ (o : Static). Some o.shape) notes.statics ++ (draft_shapes notes d.object
+    ++ flat_map (λ (c : CallDraft). draft_shapes notes c.make) d.call)
 
 -- the whole text
 unfoldable pub resolved : Notes → ScriptDraft → Result Script TomlFault

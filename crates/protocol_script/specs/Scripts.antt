@@ -1,4 +1,4 @@
--- The script that a text stands for under notes, or the first fault in it. docs/SCRIPTS.md has it in words.
+-- Meaning: the script that a text stands for under notes, or the first fault in it. docs/SCRIPTS.md has it in words.
 use Rattle.std.specs.Prelude.{ℕ, List, Result, Ok}
 use Rattle.note_types.specs.declared.fault.TomlFault.{TomlFault}
 use Rattle.note_types.specs.declared.notes.Notes.{Notes}

@@ -1,4 +1,4 @@
--- Whether a shape is well formed, as a test. docs/NOTES.md says which shapes are.
+-- Meaning: whether a shape is well formed, as a test. docs/NOTES.md says which shapes are.
 use Rattle.std.specs.Prelude.{ℕ, ◌^◌, Bool, true, ◌&&◌, ◌||◌, List, [], ◌∷◌, length, nat_le, nat_lt}
 use Rattle.std.specs.List.{list_all}
 use Rattle.note_types.specs.Shapes.{end_at, size_at, start_at}

@@ -3,15 +3,15 @@ ghost use Rattle.std.specs.Prelude.{◌≡◌, IfOk, codes};
 ghost use Rattle.note_texts.specs.Outcome.{Gives};
 ghost use Rattle.note_types.specs.declared.fault.TomlFault.TheVariants.{Range};
 ghost use Rattle.ebc_base.specs.Steps.{passes};
-ghost use Rattle.run_types.specs.HostPlans.{function_params, signature_params};
+ghost use Rattle.host_model.specs.HostPlans.{function_params, signature_params};
 ghost use Rattle.script_draft.specs.Lists.{all_pass};
 ghost use Rattle.protocol_script.specs.Conditions.{args_fit, call_args, conditions, has_args};
 
 use crate::limits::keep_limits;
 use crate::objects::{all_objects, objects_at_start};
 use crate::tables::{met_at, tables_meet};
+use host_model::fits_each;
 use note_types::{Name, Notes, NotesEnd, Param, Script, ScriptCall, TomlFault, WantParam};
-use run_types::fits_each;
 use std::alloc::{AllocError, Global};
 
 // The parameters of a function, none where it isn't there.

@@ -3,11 +3,11 @@ ghost use Rattle.std.specs.Prelude.{◌≡◌, not, slice_get, true};
 ghost use Rattle.std.specs.List.{list_all, list_any};
 ghost use Rattle.std.specs.Option.{option_map_or};
 ghost use Rattle.protocol_script.specs.Contents.{all_settled, are_by, are_contents, are_inside, cell_fits, is_by, is_filled, is_settled};
-ghost use Rattle.run_types.specs.Scripts.{is_given, is_needed};
+ghost use Rattle.host_model.specs.Scripts.{is_given, is_needed};
 
 use crate::objects::fields_of;
+use host_model::{TypedObject, fits};
 use note_types::{Cell, CellValue, Field, Notes, ScriptObject, Value, content_type};
-use run_types::{TypedObject, fits};
 
 /// Whether the instance of each cell is one of the object's.
 pub fn are_inside(object: &ScriptObject) -> bool

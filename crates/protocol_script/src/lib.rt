@@ -6,7 +6,7 @@
 
 ghost use Rattle.note_texts.specs.Outcome.{Gives};
 ghost use Rattle.std.specs.Prelude.{IfOk};
-ghost use Rattle.run_types.specs.Scripts.{IsScript};
+ghost use Rattle.host_model.specs.Scripts.{IsScript};
 ghost use Rattle.protocol_script.specs.Scripts.{script_of};
 
 mod conditions;
@@ -21,7 +21,7 @@ mod tables;
 
 use crate::conditions::meet_conditions;
 use crate::resolve::resolve_script;
-pub use laws::printed_texts_are_read;
+pub use laws::{printed_texts_are_read, read_names_are_given, read_notes_print_and_read};
 use note_texts::document;
 use note_types::{Notes, NotesEnd, Script};
 use script_draft::{cells_once, read_draft};

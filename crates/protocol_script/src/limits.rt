@@ -6,10 +6,10 @@ ghost use Rattle.ebc_base.specs.Steps.{passes};
 ghost use Rattle.note_texts.specs.Keys.{row_prefix};
 ghost use Rattle.note_texts.specs.Outcome.{Gives, GivesBy};
 ghost use Rattle.note_types.specs.declared.fault.TomlFault.TheVariants.{Range};
-ghost use Rattle.run_types.specs.Objects.{placed_objects};
-ghost use Rattle.run_types.specs.Placements.{shape_bytes};
+ghost use Rattle.host_model.specs.Objects.{placed_objects};
+ghost use Rattle.host_model.specs.Placements.{shape_bytes};
 ghost use Rattle.protocol_script.specs.Limits.{IsLoad, IsTally, call_limit, calls_limit, limits, object_limit, objects_limit};
-ghost use Rattle.run_types.specs.Scripts.{have_room, room_of};
+ghost use Rattle.host_model.specs.Scripts.{have_room, room_of};
 
 use crate::tables::{met_at, refused_at};
 use note_types::{Notes, NotesEnd, Script, ScriptCall, ScriptObject};

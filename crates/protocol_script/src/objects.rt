@@ -1,12 +1,12 @@
 //! The typed objects of a script, and their shapes.
 ghost use Rattle.std.specs.Prelude.{◌≡◌, ◌++◌, IfOk, OnOk, length, map, Some};
 ghost use Rattle.std.specs.List.{flat_map};
-ghost use Rattle.run_types.specs.Objects.{made_objects, script_object, shape_of, static_object};
+ghost use Rattle.host_model.specs.Objects.{made_objects, script_object, shape_of, static_object};
 ghost use Rattle.protocol_script.specs.Resolved.{draft_shapes, typed_shapes};
 
 use crate::numbers::shape_number;
+use host_model::TypedObject;
 use note_types::{Field, Notes, Script, ScriptCall, ScriptObject, Static};
-use run_types::TypedObject;
 use script_draft::{CallDraft, ObjectDraft, ScriptDraft};
 use std::alloc::{AllocError, Global};
 

@@ -1,7 +1,7 @@
 //! Whether shapes are well formed.
 ghost use Rattle.std.specs.Prelude.{◌≡◌};
 ghost use Rattle.protocol_script.specs.ShapeTests.{is_shape};
-ghost use Rattle.run_types.specs.Objects.{shape_of};
+ghost use Rattle.host_model.specs.Objects.{shape_of};
 
 use note_types::{Notes, Shape, shape_ok};
 

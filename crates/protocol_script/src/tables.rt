@@ -6,14 +6,14 @@ ghost use Rattle.note_texts.specs.Outcome.{Gives};
 ghost use Rattle.note_types.specs.declared.fault.NotesEnd.TheVariants.{Fault};
 ghost use Rattle.note_types.specs.declared.fault.TomlFault.TheVariants.{Range};
 ghost use Rattle.ebc_base.specs.Steps.{passes};
-ghost use Rattle.run_types.specs.Objects.{made_objects};
+ghost use Rattle.host_model.specs.Objects.{made_objects};
 ghost use Rattle.protocol_script.specs.Conditions.{all_tables_pass, call_passes, calls_pass, is_there, table_conditions, table_key, table_meets, table_passes, tables_pass, writes_meet};
 
 use crate::contents::{are_by, are_contents, are_inside};
 use crate::shapes::is_shape_at;
+use host_model::TypedObject;
 use note_texts::row_prefix;
 use note_types::{Name, Notes, NotesEnd, Script, ScriptCall, ScriptObject, TomlFault, WriteValue};
-use run_types::TypedObject;
 use std::alloc::{AllocError, Global};
 
 /// A condition on each table of objects.

@@ -44,6 +44,7 @@ module _ {M : Type 1} {𝓤 : Ura M} (𝓛 : Logic 𝓤) (l : Lft) (inc : Incl l
       (Lends-slots b (o + 1) cs)
 
   pub Lends-cells : (p : Ptr) (cs : List (Option ℕ)) → Lends 𝓛 (cells_owns p cs) (cells_shares p cs) l
-  Lends-cells (block_ptr b o) cs = Lends-both 𝓛 (few_bytes cs) (slots b o cs) (said (few_bytes cs)) (slots_lent b o cs) l (Lends-said 𝓛 (few_bytes cs) tt l)
+  Lends-cells (block_ptr b o) cs = Lends-both 𝓛 (few_bytes cs) (slots b o cs) (said (few_bytes cs)) (slots_lent b o cs) l
+      (Lends-said 𝓛 (few_bytes cs) tt l)
       (Lends-slots b o cs)
   Lends-cells null_ptr cs = Lends-false 𝓛 (said ffalse) l

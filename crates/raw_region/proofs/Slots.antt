@@ -1,5 +1,6 @@
 -- Laws of the slots of a block.
-use Rattle.std.proofs.Common.{◌≡◌, ℕ, zero, suc, ◌+◌, ◌-◌, ◌<◌, ◌≤◌, List, [], ◌∷◌, ◌++◌, length, map, replicate, set, refl, sym, ap, ap₂, ◌∙◌, arith, Option, Some, None}
+use Rattle.std.proofs.Common.{◌≡◌, ℕ, zero, suc, ◌+◌, ◌-◌, ◌<◌, ◌≤◌, List, [], ◌∷◌, ◌++◌, length, map, replicate, set, refl, sym, ap, ap₂}
+use Rattle.std.proofs.Common.{◌∙◌, arith, Option, Some, None}
 use Rattle.std.specs.List.{refill, length_refill}
 use Rattle.std.proofs.lemmas.List.{length-map, length-append, length-replicate, append-nil}
 use Rattle.raw_region.specs.Slots.{written_bytes, AllWritten}
@@ -61,8 +62,16 @@ module _ {A : Type 0} (base : Base) (len : ℕ) (cells : Cells) (deed : Deed A) 
   pub IsFilled-cells_with : (ws : List ℕ) → IsFilled base len (cells_with cells ws) deed alloc
   IsFilled-cells_with ws =
       let bytes = written_bytes cells.slots in let filled = refill (length bytes) bytes ws in let block = kept.block in
-      let count : length filled ≡ len = sym (length_refill (length bytes) bytes ws refl) ∙ length-written_bytes cells.slots len kept.written block.long in
+      let count : length filled ≡ len = sym (length_refill (length bytes) bytes ws refl)
+      ∙ length-written_bytes cells.slots len kept.written block.long in
       record {
-        block = record { cells_at = block.cells_at; long = length-map filled Some ∙ count; deed_at = block.deed_at; deed_len = block.deed_len; deed_alloc = block.deed_alloc };
+        block = record {
+          cells_at = block.cells_at;
+          long = length-map filled Some
+              ∙ count;
+          deed_at = block.deed_at;
+          deed_len = block.deed_len;
+          deed_alloc = block.deed_alloc;
+        };
         written = written_of (map Some filled) filled refl;
       }

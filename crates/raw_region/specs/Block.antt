@@ -1,4 +1,5 @@
--- What holds of the parts of a block: where it begins, how many bytes it has, its cells, and the right to give it back.
+-- For proofs: what holds of the parts of a block: where it begins, how many bytes it has, its cells, and the right to give
+-- it back.
 use Rattle.std.specs.Prelude.{◌≡◌, ℕ, length, replicate, None}
 use Rattle.raw_region.specs.Slots.{AllWritten}
 use Rattle.raw_region.specs.declared.parts.Base.{Base}

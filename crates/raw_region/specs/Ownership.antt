@@ -1,4 +1,4 @@
--- What the parts of a block own, and what they lend to a `&`.
+-- For proofs: what the parts of a block own, and what they lend to a `&`.
 use Rattle.std.specs.Prelude.{ℕ, ◌+◌, ◌^◌, List, [], ◌∷◌, length, Option, Some, None}
 use base.Fraction.{full_share}
 use base.Fml.{Lft, Fml, ftrue, ffalse, fsep, flt, froom}

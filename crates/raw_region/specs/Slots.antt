@@ -1,4 +1,4 @@
--- The slots of a block: each is one byte, written or not yet.
+-- For proofs: the slots of a block: each is one byte, written or not yet.
 use Rattle.std.specs.Prelude.{◌≡◌, ℕ, List, [], ◌∷◌, map, Option, Some, None}
 
 -- the bytes that are written

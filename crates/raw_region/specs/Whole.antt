@@ -1,4 +1,4 @@
--- What a region ends as, once a `&mut` to its bytes has ended.
+-- For proofs: what a region ends as, once a `&mut` to its bytes has ended.
 use Rattle.std.specs.Prelude.{ℕ, List, length}
 use Rattle.std.specs.Borrow.{Fml, MutBor, Array, Lends}
 use Rattle.std.specs.List.{refill}

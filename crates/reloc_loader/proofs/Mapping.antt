@@ -1,5 +1,6 @@
 -- The bytes of an image, one section and one relocation at a time, and in an object of memory.
-use Rattle.std.proofs.Common.{◌≡◌, ℕ, ◌+◌, ◌-◌, ◌*◌, ◌%◌, ◌/◌, ◌^◌, ◌<◌, ◌≤◌, ◌⊎◌, inl, inr, ⊎_elim, Bool, true, false, cond, List, [], ◌∷◌, ◌++◌, length, replicate, take, get_or, refl, sym, ap, subst, ◌∙◌, arith, Option, Some, None, map, zero, suc}
+use Rattle.std.proofs.Common.{◌≡◌, ℕ, ◌+◌, ◌-◌, ◌*◌, ◌%◌, ◌/◌, ◌^◌, ◌<◌, ◌≤◌, ◌⊎◌, inl, inr, ⊎_elim, Bool, true, false, cond, List, [], ◌∷◌}
+use Rattle.std.proofs.Common.{◌++◌, length, replicate, take, get_or, refl, sym, ap, subst, ◌∙◌, arith, Option, Some, None, map, zero, suc}
 use Rattle.std.specs.Prelude.{slice_get, All, AllPairs}
 use Rattle.std.specs.List.{find}
 use Rattle.std.specs.Option.{option_map_or, option_or}
@@ -10,11 +11,13 @@ use Rattle.std.proofs.lemmas.List.Elements.{All-head, All-tail}
 use Rattle.std.proofs.lemmas.List.Folds.{find-append}
 use Rattle.std.proofs.lemmas.Option.{get_or_from_slice_get, same_Some, slice_get_within}
 use Rattle.ebc_width.proofs.Laws.{by_width}
-use Rattle.ebc_width.proofs.ByteLaws.{little_endian-agree, little_endian-moved, overlaid-apart, overlaid-moved, overlaid-within, put-apart, put-moved, put-within}
+use Rattle.ebc_width.proofs.ByteLaws.{little_endian-agree, little_endian-moved, overlaid-apart, overlaid-moved, overlaid-within, put-apart}
+use Rattle.ebc_width.proofs.ByteLaws.{put-moved, put-within}
 use Rattle.ebc_width.proofs.RangeLaws.{covers-inside, holds-at}
 use Rattle.ebc_width.specs.Bytes.{little_endian, overlaid, put}
 use Rattle.ebc_width.specs.Ranges.{holds}
-use Rattle.object_memory.specs.Memory.{IsMemory, IsPlaced, Memory, Object, byte_at, first_base, next_base, padded, placed, range_of, ranges, used, with_bytes}
+use Rattle.object_memory.specs.Memory.{IsMemory, IsPlaced, Memory, Object, byte_at, first_base, next_base, padded, placed, range_of, ranges}
+use Rattle.object_memory.specs.Memory.{used, with_bytes}
 use Rattle.object_memory.specs.declared.ObjId.{ObjId}
 use Rattle.object_memory.proofs.Laws.{byte_at-none, byte_at-with_bytes, holds-with_bytes, with_bytes-agree, with_bytes-same}
 use Rattle.pe_image.specs.declared.image.Section.{Section}
@@ -49,17 +52,20 @@ laid-more xs s x before short =
     kept None = refl
     kept (Some t) = refl
 
-    outside : (x < s.place) ⊎ (s.place + length s.bytes ≤ x) → has_place x s ≡ false → overlaid (laid xs) s.place s.bytes x ≡ option_map_or (section_byte x) (find (has_place x) (xs ++ s ∷ [])) 0
+    outside : (x < s.place) ⊎ (s.place + length s.bytes ≤ x) → has_place x s ≡ false
+        → overlaid (laid xs) s.place s.bytes x ≡ option_map_or (section_byte x) (find (has_place x) (xs ++ s ∷ [])) 0
     outside out not_here =
         overlaid-apart (laid xs) s.place s.bytes x out
         ∙ ap (λ o. option_map_or (section_byte x) o 0)
         (sym (joined ∙ (ap (λ b. option_or (find (has_place x) xs) (cond b (Some s) None)) not_here ∙ kept (find (has_place x) xs))))
 
-    inside : s.place ≤ x → x < s.place + s.size → overlaid (laid xs) s.place s.bytes x ≡ option_map_or (section_byte x) (find (has_place x) (xs ++ s ∷ [])) 0
+    inside : s.place ≤ x → x < s.place + s.size → overlaid (laid xs) s.place s.bytes x ≡ option_map_or (section_byte x)
+        (find (has_place x) (xs ++ s ∷ [])) 0
     inside from to =
         let here : has_place x s ≡ true = grind (arith, nat_tests) in
         let none : find (has_place x) xs ≡ None = none_before xs s.place x before from in
-        let found : find (has_place x) (xs ++ s ∷ []) ≡ Some s = joined ∙ (ap (λ o. option_or o (find (has_place x) (s ∷ []))) none ∙ ap (λ b. cond b (Some s) None) here) in
+        let found : find (has_place x) (xs ++ s ∷ []) ≡ Some s = joined
+        ∙ (ap (λ o. option_or o (find (has_place x) (s ∷ []))) none ∙ ap (λ b. cond b (Some s) None) here) in
         ⊎_elim
         (λ byte. overlaid-within (laid xs) s.place s.bytes x from byte ∙ ap (λ o. option_map_or (section_byte x) o 0) (sym found))
         (λ past. overlaid-apart (laid xs) s.place s.bytes x (inr past)
@@ -68,7 +74,8 @@ laid-more xs s x before short =
         (cases_lt x (s.place + length s.bytes))
 
 -- those before a section end before it
-pub ends_before : (xs : List Section) (i : ℕ) (s : Section) → AllPairs EndsBefore xs → i < length xs → s ≡ get_or xs i s → All (λ t. t.place + t.size ≤ s.place) (take i xs)
+pub ends_before : (xs : List Section) (i : ℕ) (s : Section) → AllPairs EndsBefore xs → i < length xs → s ≡ get_or xs i s
+    → All (λ t. t.place + t.size ≤ s.place) (take i xs)
 ends_before xs i s apart inside is k d within =
     let count : length (take i xs) ≡ i = length-take-le i xs (omega arith) in
     let lower : k < i = omega arith in
@@ -108,17 +115,20 @@ moved-more b qs d p x before =
     number : little_endian (moved b qs d) p 8 ≡ little_endian b p 8
     number = little_endian-agree (moved b qs d) b p 8 (λ y from to. unmoved b qs d p y before from)
 
-    outside : (x < p) ⊎ (p + 8 ≤ x) → is_of x p ≡ false → put (moved b qs d) p 8 ((little_endian (moved b qs d) p 8 + d) % 2 ^ 64) x ≡ option_map_or (moved_byte b d x) (find (is_of x) (qs ++ p ∷ [])) (b x)
+    outside : (x < p) ⊎ (p + 8 ≤ x) → is_of x p ≡ false → put (moved b qs d) p 8
+        ((little_endian (moved b qs d) p 8 + d) % 2 ^ 64) x ≡ option_map_or (moved_byte b d x) (find (is_of x) (qs ++ p ∷ [])) (b x)
     outside out not_here =
         put-apart (moved b qs d) p 8 ((little_endian (moved b qs d) p 8 + d) % 2 ^ 64) x out
         ∙ ap (λ o. option_map_or (moved_byte b d x) o (b x))
         (sym (joined ∙ (ap (λ h. option_or (find (is_of x) qs) (cond h (Some p) None)) not_here ∙ kept (find (is_of x) qs))))
 
-    inside : p ≤ x → x < p + 8 → put (moved b qs d) p 8 ((little_endian (moved b qs d) p 8 + d) % 2 ^ 64) x ≡ option_map_or (moved_byte b d x) (find (is_of x) (qs ++ p ∷ [])) (b x)
+    inside : p ≤ x → x < p + 8 → put (moved b qs d) p 8 ((little_endian (moved b qs d) p 8 + d) % 2 ^ 64) x ≡ option_map_or
+        (moved_byte b d x) (find (is_of x) (qs ++ p ∷ [])) (b x)
     inside from to =
         let here : is_of x p ≡ true = grind (arith, nat_tests) in
         let none : find (is_of x) qs ≡ None = not_of qs p x before from in
-        let found : find (is_of x) (qs ++ p ∷ []) ≡ Some p = joined ∙ (ap (λ o. option_or o (find (is_of x) (p ∷ []))) none ∙ ap (λ h. cond h (Some p) None) here) in
+        let found : find (is_of x) (qs ++ p ∷ []) ≡ Some p = joined
+        ∙ (ap (λ o. option_or o (find (is_of x) (p ∷ []))) none ∙ ap (λ h. cond h (Some p) None) here) in
         put-within (moved b qs d) p 8 ((little_endian (moved b qs d) p 8 + d) % 2 ^ 64) x from to
         ∙ (ap (λ n. (n + d) % 2 ^ 64 / 256 ^ (x - p) % 256) number
         ∙ ap (λ o. option_map_or (moved_byte b d x) o (b x)) (sym found))
@@ -143,7 +153,8 @@ within-in m base size g x from to = grind (arith, nat_tests)
 within-out : (m : Memory) (base size : ℕ) (g : ℕ → ℕ) (x : ℕ) → (base ≤ x → x < base + size → ⊥) → within m base size g x ≡ byte_at m x
 unfolding within
 within-out m base size g x out =
-    ⊎_elim (λ below. grind (arith, nat_tests)) (λ from. ⊎_elim (λ to. absurd (out from to)) (λ past. grind (arith, nat_tests)) (cases_lt x (base + size))) (cases_lt x base)
+    ⊎_elim (λ below. grind (arith, nat_tests)) (λ from. ⊎_elim (λ to. absurd (out from to)) (λ past. grind (arith, nat_tests))
+    (cases_lt x (base + size))) (cases_lt x base)
 
 -- by cases: in the object, or not
 pub within-by :
@@ -153,7 +164,8 @@ within-by m base size g h x there elsewhere =
     ⊎_elim
     (λ below. let out : base ≤ x → x < base + size → ⊥ = λ f t. omega arith in elsewhere out ∙ sym (within-out m base size g x out))
     (λ from. ⊎_elim
-    (λ to. let place : base + (x - base) ≡ x = omega arith in ap h (sym place) ∙ (there (x - base) (omega arith) ∙ sym (within-in m base size g x from to)))
+    (λ to. let place : base + (x - base) ≡ x = omega arith in ap h (sym place)
+    ∙ (there (x - base) (omega arith) ∙ sym (within-in m base size g x from to)))
     (λ past. let out : base ≤ x → x < base + size → ⊥ = λ f t. omega arith in elsewhere out ∙ sym (within-out m base size g x out))
     (cases_lt x (base + size)))
     (cases_lt x base)
@@ -161,19 +173,24 @@ within-by m base size g h x there elsewhere =
 pub within-at : (m : Memory) (base size : ℕ) (g : ℕ → ℕ) (y : ℕ) → y < size → within m base size g (base + y) ≡ g y
 within-at m base size g y inside = within-in m base size g (base + y) (omega arith) (omega arith) ∙ ap g (omega arith)
 
-within-agree : (m : Memory) (base size : ℕ) (g h : ℕ → ℕ) (x : ℕ) → ((y : ℕ) → y < size → g y ≡ h y) → within m base size g x ≡ within m base size h x
+within-agree : (m : Memory) (base size : ℕ) (g h : ℕ → ℕ) (x : ℕ) → ((y : ℕ) → y < size → g y ≡ h y)
+    → within m base size g x ≡ within m base size h x
 within-agree m base size g h x same =
-    within-by m base size h (within m base size g) x (λ y inside. within-at m base size g y inside ∙ same y inside) (λ out. within-out m base size g x out)
+    within-by m base size h (within m base size g) x (λ y inside. within-at m base size g y inside ∙ same y inside)
+    (λ out. within-out m base size g x out)
 
 -- all bytes of the object are zeros, as where there is no section
-zeros-within : (m : Memory) (base size x : ℕ) → ((y : ℕ) → base ≤ y → y < base + size → byte_at m y ≡ 0) → byte_at m x ≡ within m base size (laid []) x
+zeros-within : (m : Memory) (base size x : ℕ) → ((y : ℕ) → base ≤ y → y < base + size → byte_at m y ≡ 0)
+    → byte_at m x ≡ within m base size (laid []) x
 unfolding laid
-zeros-within m base size x zeros = within-by m base size (laid []) (byte_at m) x (λ y inside. zeros (base + y) (omega arith) (omega arith)) (λ out. refl)
+zeros-within m base size x zeros = within-by m base size (laid []) (byte_at m) x (λ y inside. zeros (base + y) (omega arith) (omega arith))
+    (λ out. refl)
 
 -- what lies beside the object lies beside each part of it
 beside : (base size p n x : ℕ) → p + n ≤ size → (base ≤ x → x < base + size → ⊥) → (x < base + p) ⊎ (base + p + n ≤ x)
 beside base size p n x fits out =
-    ⊎_elim (λ below. inl below) (λ from. ⊎_elim (λ to. absurd (out (omega arith) (omega arith))) (λ past. inr past) (cases_lt x (base + p + n))) (cases_lt x (base + p))
+    ⊎_elim (λ below. inl below) (λ from. ⊎_elim (λ to. absurd (out (omega arith) (omega arith))) (λ past. inr past)
+    (cases_lt x (base + p + n))) (cases_lt x (base + p))
 
 overlaid-in_object :
     (m : Memory) (base size : ℕ) (g : ℕ → ℕ) (p : ℕ) (bs : List ℕ) (x : ℕ) → p + length bs ≤ size →
@@ -181,7 +198,8 @@ overlaid-in_object :
 overlaid-in_object m base size g p bs x fits =
     within-by m base size (overlaid g p bs) (overlaid (within m base size g) (base + p) bs) x
     (λ y inside. overlaid-moved (within m base size g) g base p bs y (within-at m base size g y inside))
-    (λ out. overlaid-apart (within m base size g) (base + p) bs x (beside base size p (length bs) x fits out) ∙ within-out m base size g x out)
+    (λ out. overlaid-apart (within m base size g) (base + p) bs x (beside base size p (length bs) x fits out)
+    ∙ within-out m base size g x out)
 
 put-in_object :
     (m : Memory) (base size : ℕ) (g : ℕ → ℕ) (p v x : ℕ) → p + 8 ≤ size →
@@ -191,9 +209,11 @@ put-in_object m base size g p v x fits =
     (λ y inside. put-moved (within m base size g) g base p 8 v y (within-at m base size g y inside))
     (λ out. put-apart (within m base size g) (base + p) 8 v x (beside base size p 8 x fits out) ∙ within-out m base size g x out)
 
-number-in_object : (m : Memory) (base size : ℕ) (g : ℕ → ℕ) (p : ℕ) → p + 8 ≤ size → little_endian (within m base size g) (base + p) 8 ≡ little_endian g p 8
+number-in_object : (m : Memory) (base size : ℕ) (g : ℕ → ℕ) (p : ℕ) → p + 8 ≤ size
+    → little_endian (within m base size g) (base + p) 8 ≡ little_endian g p 8
 number-in_object m base size g p fits =
-    little_endian-moved (within m base size g) g (base + p) p 8 (λ i below. ap (within m base size g) (omega arith) ∙ within-at m base size g (p + i) (omega arith))
+    little_endian-moved (within m base size g) g (base + p) p 8
+    (λ i below. ap (within m base size g) (omega arith) ∙ within-at m base size g (p + i) (omega arith))
 
 -- ---- steps of the loader
 
@@ -201,7 +221,8 @@ pub zeros-step :
     (w : ℕ) (m : Memory) (base size : ℕ) → IsMemory w m → ((y : ℕ) → base ≤ y → y < base + size → byte_at m y ≡ 0) →
     m ≡ with_bytes m (within m base size (laid []))
 zeros-step w m base size memory zeros =
-    sym (with_bytes-same w m memory) ∙ with_bytes-agree m (byte_at m) (within m base size (laid [])) (λ x there. zeros-within m base size x zeros)
+    sym (with_bytes-same w m memory) ∙ with_bytes-agree m (byte_at m) (within m base size (laid []))
+    (λ x there. zeros-within m base size x zeros)
 
 pub laid-step :
     (m old new : Memory) (base size : ℕ) (sections : List Section) (i : ℕ) (s : Section) →
@@ -211,7 +232,8 @@ pub laid-step :
     length s.bytes ≤ s.size → s.place + s.size ≤ size →
     new ≡ with_bytes m (within m base size (laid (take (i + 1) sections)))
 laid-step m old new base size sections i s so_far filled apart inside is short fits =
-    let more : take i sections ++ s ∷ [] ≡ take (i + 1) sections = ap (λ t. take i sections ++ t ∷ []) is ∙ sym (take_more sections i s inside) in
+    let more : take i sections ++ s ∷ [] ≡ take (i + 1) sections = ap (λ t. take i sections ++ t ∷ []) is
+    ∙ sym (take_more sections i s inside) in
     filled
     ∙ (with_bytes-agree m _ (within m base size (laid (take i sections ++ s ∷ []))) (λ x there.
     overlaid-in_object m base size (laid (take i sections)) s.place s.bytes x (omega arith)
@@ -250,17 +272,20 @@ pub moved-all :
     (m old : Memory) (base size : ℕ) (b : ℕ → ℕ) (places : List ℕ) (n d : ℕ) →
     old ≡ with_bytes m (within m base size (moved b (take n places) d)) → length places ≤ n →
     old ≡ with_bytes m (within m base size (moved b places d))
-moved-all m old base size b places n d so_far all = so_far ∙ ap (λ ps. with_bytes m (within m base size (moved b ps d))) (take_all n places all)
+moved-all m old base size b places n d so_far all = so_far ∙ ap (λ ps. with_bytes m (within m base size (moved b ps d)))
+    (take_all n places all)
 
 -- ---- the object
 
 -- the object holds what lies in its size
-pub object_holds : (m : Memory) (id : ObjId) (base size p k : ℕ) → IsPlacedAt m id base size → p + k ≤ size → holds (ranges m) (base + p) k ≡ true
+pub object_holds : (m : Memory) (id : ObjId) (base size p k : ℕ) → IsPlacedAt m id base size → p + k ≤ size
+    → holds (ranges m) (base + p) k ≡ true
 object_holds m id base size p k at fits =
     let o : Object = at.0 in
     let base_is : o.base ≡ base = at.2 in
     let size_is : o.size ≡ size = at.3 in
-    holds-at (ranges m) (base + p) k id.number (range_of o) (slice_get-range m.objects id.number o at.1) (covers-inside (range_of o) (base + p) k (omega arith) (omega arith))
+    holds-at (ranges m) (base + p) k id.number (range_of o) (slice_get-range m.objects id.number o at.1)
+    (covers-inside (range_of o) (base + p) k (omega arith) (omega arith))
   where
     slice_get-range : (os : List Object) (i : ℕ) (o : Object) → slice_get os i ≡ Some o → slice_get (map range_of os) i ≡ Some (range_of o)
     slice_get-range [] i o is = absurd cc
@@ -284,21 +309,28 @@ object_end w m id base size memory at =
     omega arith
 
 -- the bytes of the object are known once those of the memory are
-pub object_byte : (m new : Memory) (id : ObjId) (base size : ℕ) (g : ℕ → ℕ) (y : ℕ) → IsPlacedAt m id base size → new ≡ with_bytes m (within m base size g) → y < size → byte_at new (base + y) ≡ g y
+pub object_byte : (m new : Memory) (id : ObjId) (base size : ℕ) (g : ℕ → ℕ) (y : ℕ) → IsPlacedAt m id base size
+    → new ≡ with_bytes m (within m base size g) → y < size → byte_at new (base + y) ≡ g y
 object_byte m new id base size g y at is inside =
     ap (λ n. byte_at n (base + y)) is
-    ∙ (byte_at-with_bytes m (within m base size g) (base + y) (object_holds m id base size y 1 at (omega arith)) ∙ within-at m base size g y inside)
+    ∙ (byte_at-with_bytes m (within m base size g) (base + y) (object_holds m id base size y 1 at (omega arith))
+    ∙ within-at m base size g y inside)
 
-pub new_holds : (m new : Memory) (id : ObjId) (base size : ℕ) (g : ℕ → ℕ) (p k : ℕ) → IsPlacedAt m id base size → new ≡ with_bytes m g → p + k ≤ size → holds (ranges new) (base + p) k ≡ true
-new_holds m new id base size g p k at is fits = ap (λ n. holds (ranges n) (base + p) k) is ∙ (holds-with_bytes m g (base + p) k ∙ object_holds m id base size p k at fits)
+pub new_holds : (m new : Memory) (id : ObjId) (base size : ℕ) (g : ℕ → ℕ) (p k : ℕ) → IsPlacedAt m id base size → new ≡ with_bytes m g
+    → p + k ≤ size → holds (ranges new) (base + p) k ≡ true
+new_holds m new id base size g p k at is fits = ap (λ n. holds (ranges n) (base + p) k) is
+    ∙ (holds-with_bytes m g (base + p) k ∙ object_holds m id base size p k at fits)
 
-pub section_fits : (sections : List Section) (size i : ℕ) (s : Section) → All (IsSection size) sections → i < length sections → s ≡ get_or sections i s → IsSection size s
+pub section_fits : (sections : List Section) (size i : ℕ) (s : Section) → All (IsSection size) sections → i < length sections
+    → s ≡ get_or sections i s → IsSection size s
 section_fits sections size i s all inside is = subst (IsSection size) (sym is) (all i s inside)
 
-pub place_fits : (places : List ℕ) (size i p : ℕ) → All (λ q. q + 8 ≤ size) places → i < length places → p ≡ get_or places i 0 → p + 8 ≤ size
+pub place_fits : (places : List ℕ) (size i p : ℕ) → All (λ q. q + 8 ≤ size) places → i < length places → p ≡ get_or places i 0
+    → p + 8 ≤ size
 place_fits places size i p all inside is = subst (λ q. q + 8 ≤ size) (sym is) (all i 0 inside)
 
-pub object_others : (m new : Memory) (base size : ℕ) (g : ℕ → ℕ) (x : ℕ) → new ≡ with_bytes m (within m base size g) → (x < base) ⊎ (base + size ≤ x) → byte_at new x ≡ byte_at m x
+pub object_others : (m new : Memory) (base size : ℕ) (g : ℕ → ℕ) (x : ℕ) → new ≡ with_bytes m (within m base size g) → (x < base)
+    ⊎ (base + size ≤ x) → byte_at new x ≡ byte_at m x
 object_others m new base size g x is out = ap (λ n. byte_at n x) is ∙ either (holds (ranges m) x 1) refl
   where
     apart : base ≤ x → x < base + size → ⊥
@@ -306,15 +338,23 @@ object_others m new base size g x is out = ap (λ n. byte_at n x) is ∙ either 
 
     either : (b : Bool) → holds (ranges m) x 1 ≡ b → byte_at (with_bytes m (within m base size g)) x ≡ byte_at m x
     either true there = byte_at-with_bytes m (within m base size g) x there ∙ within-out m base size g x apart
-    either false none = byte_at-none (with_bytes m (within m base size g)) x (holds-with_bytes m (within m base size g) x 1 ∙ none) ∙ sym (byte_at-none m x none)
+    either false none = byte_at-none (with_bytes m (within m base size g)) x (holds-with_bytes m (within m base size g) x 1 ∙ none)
+        ∙ sym (byte_at-none m x none)
 
 -- an object that has just been placed, for the crates above
-pub is_placed_at : (w : ℕ) (m new : Memory) (n base : ℕ) (id : ObjId) → new ≡ placed w m n → id ≡ record { number = length m.objects; base = next_base w m } → id.base ≡ base → IsPlacedAt new id base n
+pub is_placed_at : (w : ℕ) (m new : Memory) (n base : ℕ) (id : ObjId) → new ≡ placed w m n
+    → id ≡ record { number = length m.objects; base = next_base w m } → id.base ≡ base → IsPlacedAt new id base n
 unfolding placed
 is_placed_at w m new n base id is id_is at =
     let o : Object = record { base = next_base w m; size = n; bytes = replicate n 0 } in
-    let place : slice_get (m.objects ++ o ∷ []) (length m.objects) ≡ Some o = last m.objects o in
-    (o, ap (λ (k : Memory). slice_get k.objects id.number) is ∙ (ap (λ (i : ObjId). slice_get (m.objects ++ o ∷ []) i.number) id_is ∙ place), ap (λ (i : ObjId). i.base) (sym id_is) ∙ at, refl, at)
+    let place : slice_get (m.objects ++ o ∷ []) (length m.objects) ≡ Some o = last m.objects o in (
+      o,
+      ap (λ (k : Memory). slice_get k.objects id.number) is ∙ (ap (λ (i : ObjId). slice_get (m.objects ++ o ∷ []) i.number) id_is
+          ∙ place),
+      ap (λ (i : ObjId). i.base) (sym id_is) ∙ at,
+      refl,
+      at,
+    )
   where
     last : (os : List Object) (o : Object) → slice_get (os ++ o ∷ []) (length os) ≡ Some o
     last [] o = refl

@@ -1,4 +1,4 @@
--- An object of memory in which an image is loaded: docs/IMAGES.md, "What is loaded".
+-- For proofs: an object of memory in which an image is loaded: docs/IMAGES.md, "What is loaded".
 use Rattle.std.specs.Prelude.{◌≡◌, ℕ, ◌+◌, ◌-◌, ◌&&◌, Some, nat_le, nat_lt, slice_get, if◌then◌else◌}
 use Rattle.object_memory.specs.Memory.{Memory, Object, byte_at, with_bytes}
 use Rattle.object_memory.specs.declared.ObjId.{ObjId}

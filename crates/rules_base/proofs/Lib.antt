@@ -1,1 +1,2 @@
 mod Euclid
+pub mod FirstRule

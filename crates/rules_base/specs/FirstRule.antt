@@ -1,8 +1,8 @@
--- Rows as relations: what the parts of a row give, and all the rules by which they fail. The rule that a row fails by is
--- the first of these. docs/RULES.md, "The first rule", has the words.
+-- Meaning: Rows as relations: what the parts of a row give, and all the rules by which they fail. The rule that a row fails
+-- by is the first of these. docs/RULES.md, "The first rule", has the words.
 use Rattle.std.specs.Prelude.{◌≡◌, ◌⊎◌, ◌↔◌, ◌≤◌, Bool, true, false, Option, None, Some, Ok, Err}
 use Rattle.note_types.specs.declared.rule.RuleName.{RuleName}
-use Rattle.rules_base.specs.Outcomes.{Gives, number_of_rule}
+use Rattle.rules_base.specs.Outcomes.{number_of_rule, OrRule}
 
 -- rule r is the first of these rules
 pub record IsFirst (fails : RuleName → Type 0) (r : RuleName) : Type 0 where
@@ -17,7 +17,7 @@ pub record Part (A : Type 0) : Type 1 where
   pub fails : RuleName → Type 0
 
 -- a part of one thing, which gives a value or fails by one rule
-abbrev pub alone : {A : Type 0} → Gives A → Part A
+abbrev pub alone : {A : Type 0} → OrRule A → Part A
 alone g = record { gives = λ x. g ≡ Ok x; fails = λ r. g ≡ Err r }
 
 -- two parts beside one another
@@ -51,7 +51,7 @@ broken r holds q = (holds ≡ false) × (r ≡ q)
 -- ---- what a result tells
 
 -- a result tells what a part gives, or the first of the rules by which it fails
-pub record Tells {A : Type 0} (result : Gives A) (p : Part A) : Type 0 where
+pub record Tells {A : Type 0} (result : OrRule A) (p : Part A) : Type 0 where
   pub given : (x : A) → (result ≡ Ok x) ↔ p.gives x
   pub first : (r : RuleName) → (result ≡ Err r) ↔ IsFirst p.fails r
   pub apart : (x : A) (r : RuleName) → p.gives x → p.fails r → ⊥

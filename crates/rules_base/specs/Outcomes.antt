@@ -1,9 +1,7 @@
--- What a part of a typing rule's row gives: a value, or the rule that fails. docs/RULES.md lists the rules in the order in
--- which they are tried.
---
--- A row is made of parts. Parts that stand beside one another are all tried, and where several fail, the rule is the one
--- that is tried first. A part that needs what another part gives (`◌>>=◌`) is tried only where that one gives it. So the
--- rule that a row fails by is the first of all those that fail there.
+-- Meaning: what a part of a typing rule's row gives: a value, or the rule that fails. docs/RULES.md lists the rules in the
+-- order in which they are tried.  A row is made of parts. Parts that stand beside one another are all tried, and where
+-- several fail, the rule is the one that is tried first. A part that needs what another part gives (`◌>>=◌`) is tried only
+-- where that one gives it. So the rule that a row fails by is the first of all those that fail there.
 use Rattle.std.specs.Prelude.{ℕ, Bool, true, false, Option, Some, None, Result, Ok, Err, nat_le, if◌then◌else◌}
 use Rattle.note_types.specs.declared.rule.RuleName.{RuleName}
 use Rattle.note_types.specs.declared.rule.RuleName.TheVariants as rule
@@ -39,11 +37,11 @@ unfoldable pub sooner : RuleName → RuleName → RuleName
 sooner r q = if nat_le (number_of_rule r) (number_of_rule q) then r else q
 
 -- what a part gives: a value, or the rule that fails
-abbrev pub Gives : Type 0 → Type 0
-Gives A = Result A RuleName
+abbrev pub OrRule : Type 0 → Type 0
+OrRule A = Result A RuleName
 
 -- two parts beside one another
-abbrev pub beside : {A B : Type 0} → Gives A → Gives B → Gives (A × B)
+abbrev pub beside : {A B : Type 0} → OrRule A → OrRule B → OrRule (A × B)
 beside (Ok x) (Ok y) = Ok (x, y)
 beside (Ok x) (Err q) = Err q
 beside (Err r) (Ok y) = Err r
@@ -61,13 +59,13 @@ both (Some r) None = Some r
 both (Some r) (Some q) = Some (sooner r q)
 
 -- a part with a condition beside it
-abbrev pub also : {A : Type 0} → Gives A → Option RuleName → Gives A
+abbrev pub also : {A : Type 0} → OrRule A → Option RuleName → OrRule A
 also (Ok x) None = Ok x
 also (Ok x) (Some q) = Err q
 also (Err r) None = Err r
 also (Err r) (Some q) = Err (sooner r q)
 
 -- a value made of what a part gives
-abbrev pub gives_map : {A B : Type 0} → (A → B) → Gives A → Gives B
+abbrev pub gives_map : {A B : Type 0} → (A → B) → OrRule A → OrRule B
 gives_map f (Ok x) = Ok (f x)
 gives_map f (Err r) = Err r

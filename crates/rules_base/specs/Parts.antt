@@ -1,19 +1,17 @@
--- Parts of types that the rows look at: numbers in a range, constants, offsets, pointers that aren't null. docs/NOTES.md
--- says what the types mean.
-use Rattle.std.specs.Prelude.{ℕ, ◌+◌, ◌-◌, ◌%◌, ◌^◌, Bool, true, false, ◌&&◌, nat_lt, nat_le, nat_eq, if◌then◌else◌, Option, Some, None, ℤ, pos, negsuc, int_le, option_and_then}
+-- Meaning: Parts of types that the rows look at: numbers in a range, constants, offsets, pointers that aren't null.
+-- docs/NOTES.md says what the types mean.
+use Rattle.std.specs.Prelude.{ℕ, ◌+◌, ◌-◌, ◌%◌, ◌^◌, Bool, true, false, ◌&&◌, nat_lt, nat_le, nat_eq, if◌then◌else◌, Option, Some, None, ℤ}
+use Rattle.std.specs.Prelude.{pos, negsuc, int_le, option_and_then}
 use Rattle.note_types.specs.declared.types.Ty.{Ty}
 use Rattle.note_types.specs.declared.types.Ty.TheVariants.{Int, Lin, Ptr}
 use Rattle.rules_base.specs.declared.parts.Span.{Span}
 use Rattle.rules_base.specs.declared.parts.Offset.{Offset}
 use Rattle.rules_base.specs.declared.parts.Pointer.{Pointer}
+use Rattle.ebc_base.specs.Steps.{only_if}
 
 -- what follows from a value, where there is one
 abbrev pub and_then : {A B : Type 0} → Option A → (A → Option B) → Option B
 and_then o f = option_and_then f o
-
--- a value, where a test holds
-abbrev pub only_if : {A : Type 0} → Bool → A → Option A
-only_if b x = if b then Some x else None
 
 -- the type of one number
 abbrev pub constant : ℕ → Ty
@@ -43,11 +41,6 @@ divisor_of x = if nat_eq x.lo x.hi then x.lo else x.div
 -- the signed number that 64 bits spell
 abbrev pub signed : ℕ → ℤ
 signed k = if nat_lt k (2 ^ 63) then pos k else negsuc (2 ^ 64 - 1 - k)
-
--- a signed number modulo 2 ^ 64
-abbrev pub wrap : ℤ → ℕ
-wrap (pos n) = n % 2 ^ 64
-wrap (negsuc n) = 2 ^ 64 - 1 - n % 2 ^ 64
 
 -- a number from -2 ^ 20 to 2 ^ 20
 abbrev pub is_near : ℤ → Bool

@@ -1,5 +1,6 @@
--- The places that an operand in memory names. docs/RULES.md, "Places", has the words.
-use Rattle.std.specs.Prelude.{ℕ, ◌-◌, ◌/◌, ◌%◌, ◌^◌, Bool, false, ◌&&◌, nat_le, nat_lt, nat_eq, if◌then◌else◌, Option, Some, None, List, [], ◌∷◌, slice_get, position, pos, ◌+ℤ◌, int_le, unsigned_abs, bit_or}
+-- Meaning: the places that an operand in memory names. docs/RULES.md, "Places", has the words.
+use Rattle.std.specs.Prelude.{ℕ, ◌-◌, ◌/◌, ◌%◌, ◌^◌, Bool, false, ◌&&◌, nat_le, nat_lt, nat_eq, if◌then◌else◌, Option, Some, None, List, []}
+use Rattle.std.specs.Prelude.{◌∷◌, slice_get, position, pos, ◌+ℤ◌, int_le, unsigned_abs, bit_or}
 use Rattle.std.specs.Ordering.{int_eq}
 use Rattle.note_types.specs.States.{type_of}
 use Rattle.note_types.specs.declared.cell.Cell.{Cell}
@@ -20,9 +21,10 @@ use Rattle.rules_base.specs.declared.operand.Distance.{Distance}
 use Rattle.rules_base.specs.declared.place.Place.{Place}
 use Rattle.rules_base.specs.declared.place.Place.TheVariants as place
 use Rattle.rules_base.specs.declared.place.Reach.{Reach}
-use Rattle.rules_base.specs.Parts.{and_then, only_if}
+use Rattle.rules_base.specs.Parts.{and_then}
 use Rattle.std.specs.Option.{option_or}
 use Rattle.note_types.specs.Known.{local_fields, locals_of}
+use Rattle.ebc_base.specs.Steps.{only_if}
 
 -- ---- sets of local fields
 
@@ -61,8 +63,8 @@ abbrev pub begins_at : Reach → Field → Bool
 begins_at at x = int_eq (pos x.n) at.n && int_eq (pos x.c) at.c
 
 -- the number of the field at a pair
-unfoldable pub field_at : List Field → Reach → Option ℕ
-field_at fields at = position (begins_at at) fields
+unfoldable pub field_number_at : List Field → Reach → Option ℕ
+field_number_at fields at = position (begins_at at) fields
 
 -- the cell of a field
 unfoldable pub cell_of : List Field → ℕ → Option Cell
@@ -74,7 +76,7 @@ local_field fields f = and_then (cell_of fields f) (λ cell. only_if (nat_lt f 6
 
 -- the local field at a pair
 abbrev pub local_at : List Field → ℕ → ℕ → Option Place
-local_at fields n c = and_then (field_at fields (record { n = pos n; c = pos c })) (local_field fields)
+local_at fields n c = and_then (field_number_at fields (record { n = pos n; c = pos c })) (local_field fields)
 
 -- ---- the stack
 
@@ -112,7 +114,7 @@ object_cell null cell = Some (place.Object cell null)
 
 -- the field of an object of a shape at a pair
 unfoldable pub field_place : Shape → Reach → Bool → Option Place
-field_place s at null = and_then (field_at s.fields at) (λ f. and_then (cell_of s.fields f) (object_cell null))
+field_place s at null = and_then (field_number_at s.fields at) (λ f. and_then (cell_of s.fields f) (object_cell null))
 
 -- the field of an instance of a shape at a pair
 abbrev pub instance_field : List Shape → ℕ → Reach → Bool → Option Place

@@ -1,5 +1,6 @@
--- Sums, differences and products of types. docs/RULES.md has the rows.
-use Rattle.std.specs.Prelude.{ℕ, zero, suc, ◌+◌, ◌-◌, ◌*◌, ◌/◌, ◌%◌, ◌^◌, Bool, true, false, ◌&&◌, ◌||◌, nat_lt, nat_le, nat_eq, if◌then◌else◌, List, Option, Some, None, slice_get, ℤ, pos, ◌+ℤ◌, int_le, unsigned_abs}
+-- Meaning: Sums, differences and products of types. docs/RULES.md has the rows.
+use Rattle.std.specs.Prelude.{ℕ, zero, suc, ◌+◌, ◌-◌, ◌*◌, ◌/◌, ◌%◌, ◌^◌, Bool, true, false, ◌&&◌, ◌||◌, nat_lt, nat_le, nat_eq}
+use Rattle.std.specs.Prelude.{if◌then◌else◌, List, Option, Some, None, slice_get, ℤ, pos, ◌+ℤ◌, int_le, unsigned_abs}
 use Rattle.note_types.specs.BelowTests.{divides}
 use Rattle.note_types.specs.declared.shape.Shape.{Shape}
 use Rattle.note_types.specs.declared.types.Ty.{Ty}
@@ -7,8 +8,11 @@ use Rattle.note_types.specs.declared.types.Ty.TheVariants.{Any, Int, Lin, Scaled
 use Rattle.rules_base.specs.declared.parts.Offset.{Offset}
 use Rattle.rules_base.specs.declared.parts.Pointer.{Pointer}
 use Rattle.rules_base.specs.declared.parts.Span.{Span}
-use Rattle.rules_base.specs.Parts.{and_then, only_if, constant, constant_of, divisor_of, fall_of, full, is_near, lin_of, near_offset, offset_of, pointer_of, span_of}
+use Rattle.rules_base.specs.Parts.{and_then, constant, constant_of, divisor_of, fall_of, full, is_near, lin_of, near_offset, offset_of}
+use Rattle.rules_base.specs.Parts.{pointer_of, span_of}
 use Rattle.std.specs.Option.{option_or}
+use Rattle.ebc_width.specs.Width.{distance_of}
+use Rattle.ebc_base.specs.Steps.{only_if}
 
 -- ---- divisors
 
@@ -117,13 +121,9 @@ sum shapes a b = or_any (sum_row shapes a b)
 
 -- ---- the rows of a difference
 
--- the number less another one
-abbrev pub less : ℕ → ℕ → ℕ
-less x y = (x + (2 ^ 64 - y)) % 2 ^ 64
-
 -- two constants
 abbrev pub constant_difference : Ty → Ty → Option Ty
-constant_difference a b = and_then (constant_of a) (λ x. and_then (constant_of b) (λ y. Some (constant (less x y))))
+constant_difference a b = and_then (constant_of a) (λ x. and_then (constant_of b) (λ y. Some (constant (distance_of x y))))
 
 -- two Ints
 abbrev pub taken : Span → Span → Ty
@@ -140,7 +140,7 @@ is_moved _ = false
 
 -- the negative of a small constant
 abbrev pub small_negative : ℕ → Option Ty
-small_negative k = and_then (near_offset k) (λ o. Some (constant (less 0 k)))
+small_negative k = and_then (near_offset k) (λ o. Some (constant (distance_of 0 k)))
 
 -- a Lin or a pointer less a small constant
 abbrev pub offset_difference : List Shape → Ty → Ty → Option Ty

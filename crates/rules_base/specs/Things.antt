@@ -1,5 +1,5 @@
--- What starts at a place of the image, and what a relocated immediate is the address of. docs/RULES.md, "Moves", has the
--- words.
+-- Meaning: what starts at a place of the image, and what a relocated immediate is the address of. docs/RULES.md, "Moves",
+-- has the words.
 use Rattle.std.specs.Prelude.{ℕ, Bool, false, ◌&&◌, not, nat_eq, if◌then◌else◌, List, Option, Some, position, Err, ℤ, pos}
 use Rattle.std.specs.List.{find}
 use Rattle.std.specs.Ordering.{int_eq}
@@ -11,10 +11,10 @@ use Rattle.note_types.specs.declared.notes.Thunk.{Thunk}
 use Rattle.note_types.specs.declared.rule.RuleName.TheVariants as rule
 use Rattle.note_types.specs.declared.types.Ty.{Ty}
 use Rattle.note_types.specs.declared.types.Ty.TheVariants.{Ptr, ThunkAt}
-use Rattle.rules_base.specs.Outcomes.{Gives}
 use Rattle.rules_base.specs.Parts.{and_then}
 use Rattle.std.specs.Option.{option_or}
 use Rattle.ebc_base.specs.Steps.{or_else}
+use Rattle.rules_base.specs.Outcomes.{OrRule}
 
 -- ---- places of the image
 
@@ -51,5 +51,5 @@ takes_address Qword bits indirect = nat_eq bits 64 && not indirect
 takes_address _ bits indirect = false
 
 -- a relocated immediate is the address of what starts at its place
-abbrev pub relocated : Notes → Bool → ℕ → Gives Ty
+abbrev pub relocated : Notes → Bool → ℕ → OrRule Ty
 relocated notes takes place = if takes then or_else rule.Relocation (thing_at notes (pos place)) else Err rule.Relocation

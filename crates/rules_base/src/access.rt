@@ -9,7 +9,7 @@ use crate::place::{Place, has_field, place_at};
 use note_types::{Cell, FnNote, Notes, RuleName, SlotKind, State, Ty, content_type, ty_below};
 
 /// How an instruction reaches memory.
-#[derive(Clone, Copy, PartialEq, Eq, Debug)]
+#[derive(Clone, Copy, PartialEq, Eq)]
 pub enum Access {
     /// By MOVb.
     Byte,
@@ -28,14 +28,14 @@ pub enum Access {
 }
 
 /// What a load gives: its type, which is known also where it is a thunk that isn't made.
-#[derive(Clone, Copy, PartialEq, Eq, Debug)]
+#[derive(Clone, Copy, PartialEq, Eq)]
 pub struct Loaded {
     pub ty: Ty,
     pub made: bool,
 }
 
 /// The cell that a store writes, and the number of the local field that it is, where it is one.
-#[derive(Clone, Copy, PartialEq, Eq, Debug)]
+#[derive(Clone, Copy, PartialEq, Eq)]
 pub struct Target {
     pub cell: Cell,
     pub field: Option<u32>,

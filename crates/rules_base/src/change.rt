@@ -7,7 +7,7 @@ use crate::place::with_field;
 use note_types::{Fact, State, Ty};
 
 /// What an instruction changes.
-#[derive(Clone, Copy, PartialEq, Eq, Debug)]
+#[derive(Clone, Copy, PartialEq, Eq)]
 pub enum Change {
     /// A register's type.
     Written { reg: u8, ty: Ty },

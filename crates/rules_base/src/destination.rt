@@ -10,7 +10,7 @@ use ebc_insn::Operand;
 use note_types::{FnNote, Notes, RuleName, State, Ty};
 
 /// Where a result goes.
-#[derive(Clone, Copy, PartialEq, Eq, Debug)]
+#[derive(Clone, Copy, PartialEq, Eq)]
 pub enum Destination {
     /// A register other than R0.
     Register(u8),

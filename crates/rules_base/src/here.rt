@@ -2,7 +2,7 @@
 
 /// Where an instruction stands: its place, the place of the next instruction, the number of the function that it is in,
 /// and the place that a relocated immediate names, where there is one.
-#[derive(Clone, Copy, PartialEq, Eq, Debug)]
+#[derive(Clone, Copy, PartialEq, Eq)]
 pub struct Here {
     pub place: u32,
     pub next: u32,

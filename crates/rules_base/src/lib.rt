@@ -22,14 +22,10 @@ pub use destination::{Destination, destination_of, put};
 pub use here::Here;
 pub use keeps::{kept, kept_dword, kept_natural, kept_signed};
 pub use operand::{
-    Distance, counted, distance_type, extra_distance, index_distance, left_distance,
-    with_immediate, with_index,
+    Distance, counted, extra_distance, index_distance, left_distance, with_immediate, with_index,
 };
-pub use outcome::{also, beside, both, needs, sooner};
-pub use parts::{
-    Offset, Pointer, Span, constant, constant_of, divisor_of, fall_of, full, is_int, is_int_below,
-    is_near, lin_of, near_offset, numbers_up_to, offset_of, pointer_of, signed, span_of, wrap,
-};
+pub use outcome::{also, beside, both, needs};
+pub use parts::{Span, constant, constant_of, full, is_int, is_int_below, span_of, wrap64};
 pub use place::{
     Place, cell_of, has_field, local_fields, locals_size, only_field, place_at, slot_size,
     with_field,

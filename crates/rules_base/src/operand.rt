@@ -5,14 +5,14 @@ ghost use Rattle.natural_index.specs.Index.{IsIndex, IsIndexSize};
 ghost use Rattle.ebc_insn.specs.Spelling.{ExtraFits, LeftFits, RightFits};
 ghost use Rattle.rules_base.specs.Operands.{counted, distance_type, extra_distance, index_distance, with_immediate, with_index};
 
-use crate::parts::{constant, wrap};
+use crate::parts::{constant, wrap64};
 use crate::sums::{lin, sum};
 use ebc_insn::{Extra, Operand};
 use natural_index::Index;
 use note_types::{Shape, Ty};
 
 /// Natural units and bytes, each with its sign, as an index counts them.
-#[derive(Clone, Copy, PartialEq, Eq, Debug)]
+#[derive(Clone, Copy, PartialEq, Eq)]
 pub struct Distance {
     pub n: i64,
     pub c: i64,
@@ -69,7 +69,7 @@ pub fn distance_type(d: Distance) -> Ty
     ensures { result ≡ distance_type d }
 {
     if d.n == 0 {
-        constant(wrap(d.c))
+        constant(wrap64(d.c))
     } else if 1 <= d.n {
         lin(d.n, d.c)
     } else {
@@ -82,7 +82,7 @@ pub fn with_immediate(shapes: &[Shape], t: Ty, extra: &Extra) -> Ty
     ensures { result ≡ with_immediate shapes.now t extra.now }
 {
     match extra {
-        Extra::Imm(v) => sum(shapes, t, constant(wrap(*v))),
+        Extra::Imm(v) => sum(shapes, t, constant(wrap64(*v))),
         Extra::Nothing | Extra::Idx(_) => t,
     }
 }

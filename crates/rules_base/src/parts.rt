@@ -1,12 +1,13 @@
 //! Parts of types that the rows look at.
 
 ghost use Rattle.std.specs.Prelude.{◌≡◌, if◌then◌else◌};
-ghost use Rattle.rules_base.specs.Parts.{constant, constant_of, divisor_of, fall_of, full, is_int, is_int_below, is_near, lin_of, near_offset, offset_of, pointer_of, signed, single, span_of, wrap};
+ghost use Rattle.rules_base.specs.Parts.{constant, constant_of, divisor_of, fall_of, full, is_int, is_int_below, is_near, lin_of, near_offset, offset_of, pointer_of, signed, single, span_of};
+ghost use Rattle.ebc_width.specs.Width.{wrap64};
 
 use note_types::Ty;
 
 /// The numbers from `lo` to `hi` that `div` divides.
-#[derive(Clone, Copy, PartialEq, Eq, Debug)]
+#[derive(Clone, Copy, PartialEq, Eq)]
 pub struct Span {
     pub lo: u64,
     pub hi: u64,
@@ -14,7 +15,7 @@ pub struct Span {
 }
 
 /// Natural units and bytes, each with its sign.
-#[derive(Clone, Copy, PartialEq, Eq, Debug)]
+#[derive(Clone, Copy, PartialEq, Eq)]
 pub struct Offset {
     pub n: i32,
     pub c: i32,
@@ -22,7 +23,7 @@ pub struct Offset {
 
 /// A pointer that is not null: the address of an instance of a shape with at least `count` instances from there on, plus
 /// n natural units and c bytes.
-#[derive(Clone, Copy, PartialEq, Eq, Debug)]
+#[derive(Clone, Copy, PartialEq, Eq)]
 pub struct Pointer {
     pub shape: u32,
     pub count: u64,
@@ -97,8 +98,8 @@ pub fn signed(k: u64) -> i64
 }
 
 /// A signed number modulo 2^64.
-pub fn wrap(z: i64) -> u64
-    ensures { result ≡ wrap z }
+pub fn wrap64(z: i64) -> u64
+    ensures { result ≡ wrap64 z }
 {
     z.cast_unsigned()
 }

@@ -1,14 +1,33 @@
 //! The places that an operand in memory names.
 
 ghost use Rattle.std.specs.Prelude.{◌≡◌, ◌<◌, ◌^◌, pos, ◌+ℤ◌, option_copied};
-ghost use Rattle.rules_base.specs.Places.{begins_at, cell_of, field_at, field_place, from_stack, has_field, instance_field, is_nowhere, local_at, local_field, locals_size, only_field, parameter_at, place_at, pointed, slot_size, stack_at, with_field};
+ghost use Rattle.rules_base.specs.Places.{
+  begins_at,
+  cell_of,
+  field_place,
+  from_stack,
+  has_field,
+  instance_field,
+  is_nowhere,
+  local_at,
+  local_field,
+  locals_size,
+  only_field,
+  parameter_at,
+  place_at,
+  pointed,
+  slot_size,
+  stack_at,
+  with_field,
+  field_number_at,
+};
 ghost use Rattle.note_types.specs.Known.{locals_of, local_fields};
 
 use crate::operand::Distance;
 use note_types::{Cell, Field, FnNote, Item, Notes, Pair, Param, Shape, SlotKind, State, Ty};
 
 /// A place that an operand in memory names.
-#[derive(Clone, Copy, PartialEq, Eq, Debug)]
+#[derive(Clone, Copy, PartialEq, Eq)]
 pub enum Place {
     /// A cell of a typed object or, as of one that is not null, a caller's written local.
     Object { cell: Cell, null: bool },
@@ -115,9 +134,9 @@ fn begins_at(x: &Field, at: Reach) -> bool
 }
 
 // The number of the field at a pair.
-#[tactic(auto, unfolding(crate::specs::Places::field_at))]
-fn field_at(fields: &[Field], at: Reach) -> Option<usize>
-    ensures { result ≡ field_at fields.now at }
+#[tactic(auto, unfolding(crate::specs::Places::field_number_at))]
+fn field_number_at(fields: &[Field], at: Reach) -> Option<usize>
+    ensures { result ≡ field_number_at fields.now at }
 {
     fields.iter().position(|x| begins_at(x, at))
 }
@@ -161,7 +180,7 @@ fn local_at(fields: &[Field], n: u64, c: u64) -> Option<Place>
         n: whole(n),
         c: whole(c),
     };
-    let field = field_at(fields, at)?;
+    let field = field_number_at(fields, at)?;
     local_field(fields, field)
 }
 
@@ -268,7 +287,7 @@ fn field_place(s: &Shape, at: Reach, null: bool) -> Option<Place>
     ensures { result ≡ field_place s.now at null }
 {
     let fields = s.fields.as_slice();
-    let field = field_at(fields, at)?;
+    let field = field_number_at(fields, at)?;
     let cell = cell_of(fields, field)?;
     Some(Place::Object { cell, null })
 }

@@ -1,5 +1,6 @@
--- What the operations of arithmetic give on types. docs/RULES.md, "Arithmetic", has the rows.
-use Rattle.std.specs.Prelude.{ℕ, ◌-◌, ◌/◌, ◌^◌, Bool, true, false, not, ◌&&◌, ◌||◌, min, nat_lt, nat_eq, if◌then◌else◌, Option, Some, None, List, Result, Ok, Err, pos, negsuc}
+-- Meaning: what the operations of arithmetic give on types. docs/RULES.md, "Arithmetic", has the rows.
+use Rattle.std.specs.Prelude.{ℕ, ◌-◌, ◌/◌, ◌^◌, Bool, true, false, not, ◌&&◌, ◌||◌, min, nat_lt, nat_eq, if◌then◌else◌, Option, Some, None}
+use Rattle.std.specs.Prelude.{List, Result, Ok, Err, pos, negsuc}
 use Rattle.std.specs.Ordering.{int_eq}
 use Rattle.ebc_insn.specs.declared.ArithOp.{ArithOp}
 use Rattle.ebc_insn.specs.declared.ArithOp.TheVariants.{Not, Neg, Add, Sub, Mul, Mulu, Divu, Modu, And, Or, Shl, Shr, Extb, Extw, Extd}
@@ -9,9 +10,10 @@ use Rattle.note_types.specs.declared.shape.Shape.{Shape}
 use Rattle.note_types.specs.declared.types.Ty.{Ty}
 use Rattle.note_types.specs.declared.types.Ty.TheVariants.{Any, Int, Lin, Mask, Status}
 use Rattle.rules_base.specs.declared.parts.Span.{Span}
-use Rattle.rules_base.specs.Parts.{and_then, only_if, constant, constant_of, full, is_int, is_int_below, span_of}
+use Rattle.rules_base.specs.Parts.{and_then, constant, constant_of, full, is_int, is_int_below, span_of}
 use Rattle.rules_base.specs.Sums.{sum, difference, product}
 use Rattle.std.specs.Option.{option_or}
+use Rattle.ebc_base.specs.Steps.{only_if}
 
 -- ---- rows on 64 bits
 

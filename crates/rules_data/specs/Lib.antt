@@ -1,6 +1,5 @@
 pub mod Arithmetic
 pub mod Compares
 pub mod Data
-pub mod Images
 pub mod Moves
 pub mod Rule

@@ -1,5 +1,6 @@
--- The rows of the instructions on data as relations: an instruction meets its row in a state, and goes on at a place with a
--- state; or the first of the rules by which the row's parts fail is named. docs/RULES.md, "The first rule", has the words.
+-- For proofs: the rows of the instructions on data as relations: an instruction meets its row in a state, and goes on at a
+-- place with a state; or the first of the rules by which the row's parts fail is named. docs/RULES.md, "The first rule", has
+-- the words.
 use Rattle.std.specs.Prelude.{◌≡◌, ℕ, Bool, Option, None, slice_get, ℤ, is_none}
 use Rattle.ebc_base.specs.Steps.{or_else}
 use Rattle.natural_index.specs.declared.Index.{Index}
@@ -34,7 +35,8 @@ use Rattle.rules_data.specs.Moves.{immediate}
 -- operand 1 that is read and written: its value and the place of the result
 unfoldable pub left_part : Notes → FnNote → State → Bool → Operand → Part Held
 left_part notes f s wide op =
-    seen held (together (alone (left_value notes f s (form_access wide) op nowhere)) (alone (destination notes f s (form_access wide) op nowhere)))
+    seen held (together (alone (left_value notes f s (form_access wide) op nowhere))
+    (alone (destination notes f s (form_access wide) op nowhere)))
 
 -- arithmetic: the store and the condition on the divisor need all values
 unfoldable pub arith_part : Notes → FnNote → State → ArithOp → Bool → Operand → Operand → Extra → Part Change
@@ -51,19 +53,22 @@ compare_part notes f s op wide left right extra =
 -- moves: the store needs the place and the value, and so does the condition that a loaded thunk is made
 unfoldable pub move_part : Notes → FnNote → State → Size → Operand → Operand → Option Index → Option Index → Part Change
 move_part notes f s size left right lidx ridx =
-    afterwards (together (alone (destination notes f s (move_access size) left (index_distance lidx))) (alone (move_value notes f s size right ridx)))
+    afterwards (together (alone (destination notes f s (move_access size) left (index_distance lidx)))
+    (alone (move_value notes f s size right ridx)))
     (λ p. under (alone (put p.0 p.1.ty)) (broken rule.Thunk p.1.made))
 
 -- MOVsn
 unfoldable pub move_signed_part : Notes → FnNote → State → Operand → Operand → Option Index → Extra → Part Change
 move_signed_part notes f s left right lidx extra =
-    afterwards (together (alone (destination notes f s access.Signed left (index_distance lidx))) (alone (signed_value notes f s right extra)))
+    afterwards (together (alone (destination notes f s access.Signed left (index_distance lidx)))
+    (alone (signed_value notes f s right extra)))
     (λ p. alone (put p.0 p.1.ty))
 
 -- MOVI
 unfoldable pub move_imm_part : Notes → FnNote → Here → State → Size → ℕ → Operand → Option Index → ℤ → Part Change
 move_imm_part notes f here s size bits left lidx imm =
-    afterwards (together (alone (immediate notes here.reloc size bits left.indirect imm)) (alone (destination notes f s (move_access size) left (index_distance lidx))))
+    afterwards (together (alone (immediate notes here.reloc size bits left.indirect imm))
+    (alone (destination notes f s (move_access size) left (index_distance lidx))))
     (λ p. alone (put p.1 p.0))
 
 -- ---- all instructions on data
@@ -83,11 +88,13 @@ data_part notes f here s i = only_where (is_none here.reloc) rule.Relocation (pl
 
 -- what an instruction changes
 unfoldable pub change_part : Notes → Here → State → Insn → Part Change
-change_part notes here s i = afterwards (alone (or_else rule.Function (slice_get notes.function here.func))) (λ f. data_part notes f here s i)
+change_part notes here s i = afterwards (alone (or_else rule.Function (slice_get notes.function here.func)))
+    (λ f. data_part notes f here s i)
 
 -- the instruction meets its row in a state, and goes on at a place with a state
 abbrev pub Rule : Notes → Here → State → Insn → ℕ → State → Type 0
-Rule notes here s i next post = (next ≡ here.next) × (change : Change) × (change_part notes here s i).gives change × (post ≡ changed s change)
+Rule notes here s i next post = (next ≡ here.next) × (change : Change) × (change_part notes here s i).gives change
+    × (post ≡ changed s change)
 
 -- the first of the rules by which its row fails
 abbrev pub FirstRule : Notes → Here → State → Insn → RuleName → Type 0

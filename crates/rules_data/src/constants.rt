@@ -5,7 +5,7 @@ ghost use Rattle.rules_data.specs.Moves.{immediate, immediate_index, low_of, rel
 
 use ebc_insn::Size;
 use note_types::{Notes, RuleName, Ty};
-use rules_base::{Distance, Here, constant, lin, relocated, takes_address, thing_at, wrap};
+use rules_base::{Distance, Here, constant, lin, relocated, takes_address, thing_at, wrap64};
 
 // ---- MOVI
 
@@ -34,7 +34,7 @@ pub fn immediate(
 {
     match here.reloc {
         Some(place) => relocated(notes, takes_address(size, bits, indirect), place),
-        None => Ok(constant(low_of(size, wrap(imm)))),
+        None => Ok(constant(low_of(size, wrap64(imm)))),
     }
 }
 
@@ -45,7 +45,7 @@ pub fn immediate_index(d: Distance) -> Ty
     ensures { result ≡ immediate_index d }
 {
     if d.n == 0 && 0 <= d.c {
-        constant(wrap(d.c))
+        constant(wrap64(d.c))
     } else if 1 <= d.n {
         lin(d.n, d.c)
     } else {

@@ -2,11 +2,11 @@
 
 ghost use Rattle.std.specs.Prelude.{◌≡◌, ◌<◌, ◌^◌, length};
 ghost use Rattle.ebc_insn.specs.Spelling.{WellFormed};
-ghost use Rattle.rules_data.specs.Data.{after_data, data_change, data_row, done, kept_state, plain_row};
+ghost use Rattle.rules_data.specs.Data.{after_data, data_change, data_row, plain_row};
 
 use crate::rows::{
-    arith_row, compare_imm_row, compare_row, move_imm_row, move_index_row, move_relative_row,
-    move_row, move_signed_row, store_special_row,
+    Setting, arith_row, compare_imm_row, compare_row, move_imm_row, move_index_row,
+    move_relative_row, move_row, move_signed_row, store_special_row,
 };
 use ebc_insn::Insn;
 use note_types::{FnNote, Notes, RuleName, State};
@@ -28,28 +28,6 @@ pub fn after_data(notes: &Notes, here: &Here, s: &State, i: &Insn) -> Result<Sta
     let mut after = s.copy();
     change.apply(&mut after);
     Ok(after)
-}
-
-/// `after_data` for a checker that keeps one state: the state becomes the one after the instruction, with no copy made.
-///
-/// # Errors
-///
-/// The first rule that fails; the state is then as it was.
-#[tactic(auto, unfolding(crate::specs::Data::after_data))]
-pub fn after_data_in_place(
-    notes: &Notes,
-    here: &Here,
-    s: &mut State,
-    i: &Insn,
-) -> Result<(), RuleName>
-    requires thunks { length notes.now.thunk < 2 ^ 32 }
-    requires well_formed { WellFormed i.now }
-    ensures answer { result ≡ done (after_data notes.now here.now s.old i.now) }
-    ensures state { s.new ≡ kept_state s.old (after_data notes.now here.now s.old i.now) }
-{
-    let change = data_change(notes, here, s, i)?;
-    change.apply(s);
-    Ok(())
 }
 
 /// What an instruction on data changes.
@@ -82,7 +60,15 @@ fn data_row(notes: &Notes, f: &FnNote, here: &Here, s: &State, i: &Insn) -> Resu
             left,
             lidx,
             imm,
-        } => move_imm_row(notes, f, here, s, *size, *bits, left, lidx, *imm),
+        } => move_imm_row(
+            Setting { notes, f, s },
+            here,
+            *size,
+            *bits,
+            left,
+            lidx,
+            *imm,
+        ),
         _ => if here.reloc.is_none() {
             plain_row(notes, f, here, s, i)
         } else {
@@ -103,6 +89,7 @@ fn plain_row(
     requires well_formed { WellFormed i.now }
     ensures { result ≡ plain_row notes.now f.now here.now s.now i.now }
 {
+    let at = Setting { notes, f, s };
     match i {
         Insn::Compare {
             op,
@@ -110,7 +97,7 @@ fn plain_row(
             left,
             right,
             extra,
-        } => compare_row(notes, f, s, *op, *wide, *left, right, extra),
+        } => compare_row(at, *op, *wide, *left, right, extra),
         Insn::CompareImm {
             op,
             wide,
@@ -118,14 +105,14 @@ fn plain_row(
             idx,
             imm,
             ..
-        } => compare_imm_row(notes, f, s, *op, *wide, left, idx, i64::from(*imm)),
+        } => compare_imm_row(at, *op, *wide, left, idx, i64::from(*imm)),
         Insn::Arith {
             op,
             wide,
             left,
             right,
             extra,
-        } => arith_row(notes, f, s, *op, *wide, left, right, extra),
+        } => arith_row(at, *op, *wide, left, right, extra),
         Insn::Move {
             size,
             bits,
@@ -133,14 +120,14 @@ fn plain_row(
             right,
             lidx,
             ridx,
-        } => move_row(notes, f, s, *size, *bits, left, right, lidx, ridx),
+        } => move_row(at, *size, *bits, left, right, lidx, ridx),
         Insn::MoveSigned {
             bits,
             left,
             right,
             lidx,
             extra,
-        } => move_signed_row(notes, f, s, *bits, left, right, lidx, extra),
+        } => move_signed_row(at, *bits, left, right, lidx, extra),
         Insn::MoveImmNatural {
             bits,
             left,

@@ -7,4 +7,4 @@ mod constants;
 mod data;
 mod rows;
 
-pub use data::{after_data, after_data_in_place, data_change};
+pub use data::{after_data, data_change};

@@ -15,8 +15,16 @@ use note_types::{Fact, FnNote, Notes, RuleName, State, Ty};
 use rules_base::{
     Access, Change, Destination, Distance, Here, Loaded, Place, also, beside, constant,
     destination_of, form_access, index_distance, kept, kept_signed, left_distance, load_at, needs,
-    operand_value, place_at, put, register_type, with_immediate, with_index, wrap,
+    operand_value, place_at, put, register_type, with_immediate, with_index, wrap64,
 };
+
+/// Where an instruction on data stands: the notes, its function, and the state before it.
+#[derive(Clone, Copy)]
+pub struct Setting<'a> {
+    pub notes: &'a Notes,
+    pub f: &'a FnNote,
+    pub s: &'a State,
+}
 
 // No distance.
 const NOWHERE: Distance = Distance { n: 0, c: 0 };
@@ -71,9 +79,7 @@ fn left_operand(
 /// NOT to EXTNDD.
 #[tactic(auto, unfolding(crate::specs::Data::arith_row))]
 pub fn arith_row(
-    notes: &Notes,
-    f: &FnNote,
-    s: &State,
+    at: Setting,
     op: ArithOp,
     wide: bool,
     left: &Operand,
@@ -83,14 +89,14 @@ pub fn arith_row(
     requires left { IsOperand left.now }
     requires right { IsOperand right.now }
     requires extra { ExtraFits 16 right.now extra.now }
-    ensures { result ≡ arith_row notes.now f.now s.now op wide left.now right.now extra.now }
+    ensures { result ≡ arith_row at.entry.notes.now at.entry.f.now at.entry.s.now op wide left.now right.now extra.now }
 {
     let access = form_access(wide);
     let (a, b) = beside(
-        left_operand(notes, f, s, access, left),
-        operand_value(notes, f, s, access, right, 16, extra),
+        left_operand(at.notes, at.f, at.s, access, left),
+        operand_value(at.notes, at.f, at.s, access, right, 16, extra),
     )?;
-    let t = computed_type(notes.shape.as_slice(), op, wide, a.ty, b.ty);
+    let t = computed_type(at.notes.shape.as_slice(), op, wide, a.ty, b.ty);
     also(
         put(a.to, t),
         needs(RuleName::Divide, divisor_known(op, b.ty)),
@@ -113,9 +119,7 @@ fn flag(fact: Option<Fact>, holds: bool) -> Result<Change, RuleName>
 /// CMP.
 #[tactic(auto, unfolding(crate::specs::Data::compare_row))]
 pub fn compare_row(
-    notes: &Notes,
-    f: &FnNote,
-    s: &State,
+    at: Setting,
     op: CmpOp,
     wide: bool,
     left: u8,
@@ -125,11 +129,11 @@ pub fn compare_row(
     requires left { left < 8 }
     requires right { IsOperand right.now }
     requires extra { ExtraFits 16 right.now extra.now }
-    ensures { result ≡ compare_row notes.now f.now s.now op wide left right.now extra.now }
+    ensures { result ≡ compare_row at.entry.notes.now at.entry.f.now at.entry.s.now op wide left right.now extra.now }
 {
     let (a, b) = beside(
-        register_type(s, left),
-        operand_value(notes, f, s, form_access(wide), right, 16, extra),
+        register_type(at.s, left),
+        operand_value(at.notes, at.f, at.s, form_access(wide), right, 16, extra),
     )?;
     flag(None, compares(op, wide, a, b.ty))
 }
@@ -142,7 +146,7 @@ fn fact_of(op: CmpOp, wide: bool, left: &Operand, imm: i64) -> Option<Fact>
         Some(Fact {
             reg: left.reg,
             op,
-            k: wrap(imm),
+            k: wrap64(imm),
         })
     } else {
         None
@@ -152,9 +156,7 @@ fn fact_of(op: CmpOp, wide: bool, left: &Operand, imm: i64) -> Option<Fact>
 /// CMPI.
 #[tactic(auto, unfolding(crate::specs::Data::compare_imm_row))]
 pub fn compare_imm_row(
-    notes: &Notes,
-    f: &FnNote,
-    s: &State,
+    at: Setting,
     op: CmpOp,
     wide: bool,
     left: &Operand,
@@ -163,19 +165,19 @@ pub fn compare_imm_row(
 ) -> Result<Change, RuleName>
     requires left { IsOperand left.now }
     requires index { LeftFits 16 left.now idx.now }
-    ensures { result ≡ compare_imm_row notes.now f.now s.now op wide left.now idx.now imm }
+    ensures { result ≡ compare_imm_row at.entry.notes.now at.entry.f.now at.entry.s.now op wide left.now idx.now imm }
 {
     let t = left_value(
-        notes,
-        f,
-        s,
+        at.notes,
+        at.f,
+        at.s,
         form_access(wide),
         left,
         left_distance(16, left, idx),
     )?;
     flag(
         fact_of(op, wide, left, imm),
-        compares(op, wide, t, constant(wrap(imm))),
+        compares(op, wide, t, constant(wrap64(imm))),
     )
 }
 
@@ -267,9 +269,7 @@ fn move_value(
 /// MOVb to MOVqq and MOVn.
 #[tactic(auto, unfolding(crate::specs::Data::move_row))]
 pub fn move_row(
-    notes: &Notes,
-    f: &FnNote,
-    s: &State,
+    at: Setting,
     size: Size,
     bits: u8,
     left: &Operand,
@@ -282,18 +282,18 @@ pub fn move_row(
     requires right { IsOperand right.now }
     requires left_index { LeftFits bits left.now lidx.now }
     requires right_index { RightFits bits ridx.now }
-    ensures { result ≡ move_row notes.now f.now s.now size left.now right.now lidx.now ridx.now }
+    ensures { result ≡ move_row at.entry.notes.now at.entry.f.now at.entry.s.now size left.now right.now lidx.now ridx.now }
 {
     let (to, v) = beside(
         destination_of(
-            notes,
-            f,
-            s,
+            at.notes,
+            at.f,
+            at.s,
             move_access(size),
             left,
             left_distance(bits, left, lidx),
         ),
-        move_value(notes, f, s, size, bits, right, ridx),
+        move_value(at.notes, at.f, at.s, size, bits, right, ridx),
     )?;
     also(put(to, v.ty), needs(RuleName::Thunk, v.made))
 }
@@ -329,9 +329,7 @@ fn signed_value(
 /// MOVsn.
 #[tactic(auto, unfolding(crate::specs::Data::move_signed_row))]
 pub fn move_signed_row(
-    notes: &Notes,
-    f: &FnNote,
-    s: &State,
+    at: Setting,
     bits: u8,
     left: &Operand,
     right: &Operand,
@@ -343,18 +341,18 @@ pub fn move_signed_row(
     requires right { IsOperand right.now }
     requires index { LeftFits bits left.now lidx.now }
     requires extra { ExtraFits bits right.now extra.now }
-    ensures { result ≡ move_signed_row notes.now f.now s.now left.now right.now lidx.now extra.now }
+    ensures { result ≡ move_signed_row at.entry.notes.now at.entry.f.now at.entry.s.now left.now right.now lidx.now extra.now }
 {
     let (to, v) = beside(
         destination_of(
-            notes,
-            f,
-            s,
+            at.notes,
+            at.f,
+            at.s,
             Access::Signed,
             left,
             left_distance(bits, left, lidx),
         ),
-        signed_value(notes, f, s, bits, right, extra),
+        signed_value(at.notes, at.f, at.s, bits, right, extra),
     )?;
     put(to, v.ty)
 }
@@ -362,27 +360,25 @@ pub fn move_signed_row(
 /// MOVI: first whether its relocation is allowed.
 #[tactic(auto, unfolding(crate::specs::Data::move_imm_row))]
 pub fn move_imm_row(
-    notes: &Notes,
-    f: &FnNote,
+    at: Setting,
     here: &Here,
-    s: &State,
     size: Size,
     bits: u8,
     left: &Operand,
     lidx: &Option<Index>,
     imm: i64,
 ) -> Result<Change, RuleName>
-    requires thunks { length notes.now.thunk < 2 ^ 32 }
+    requires thunks { length at.notes.now.thunk < 2 ^ 32 }
     requires left { IsOperand left.now }
     requires index { LeftFits 16 left.now lidx.now }
-    ensures { result ≡ move_imm_row notes.now f.now here.now s.now size bits left.now lidx.now imm }
+    ensures { result ≡ move_imm_row at.entry.notes.now at.entry.f.now here.now at.entry.s.now size bits left.now lidx.now imm }
 {
     let (t, to) = beside(
-        immediate(notes, here, size, bits, left.indirect, imm),
+        immediate(at.notes, here, size, bits, left.indirect, imm),
         destination_of(
-            notes,
-            f,
-            s,
+            at.notes,
+            at.f,
+            at.s,
             move_access(size),
             left,
             left_distance(16, left, lidx),

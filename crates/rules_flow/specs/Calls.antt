@@ -1,5 +1,6 @@
--- Calls of functions and of native methods, returns, and thunks. docs/RULES.md, "Calls", has the words.
-use Rattle.std.specs.Prelude.{ℕ, ◌+◌, Bool, false, not, ◌&&◌, nat_eq, nat_lt, if◌then◌else◌, Option, Some, None, List, [], ◌∷◌, length, slice_get, Ok, Err, ℤ, bit_or}
+-- Meaning: Calls of functions and of native methods, returns, and thunks. docs/RULES.md, "Calls", has the words.
+use Rattle.std.specs.Prelude.{ℕ, ◌+◌, Bool, false, not, ◌&&◌, nat_eq, nat_lt, if◌then◌else◌, Option, Some, None, List, [], ◌∷◌, length}
+use Rattle.std.specs.Prelude.{slice_get, Ok, Err, ℤ, bit_or}
 use Rattle.ebc_insn.specs.declared.Extra.{Extra}
 use Rattle.ebc_insn.specs.declared.Extra.TheVariants.{Nothing}
 use Rattle.ebc_insn.specs.declared.Operand.{Operand}
@@ -19,7 +20,7 @@ use Rattle.rules_base.specs.declared.access.Loaded.{Loaded}
 use Rattle.rules_base.specs.declared.here.Here.{Here}
 use Rattle.rules_base.specs.Access.{load_at}
 use Rattle.rules_base.specs.Operands.{extra_distance}
-use Rattle.rules_base.specs.Outcomes.{Gives, also, both, needs}
+use Rattle.rules_base.specs.Outcomes.{also, both, needs, OrRule}
 use Rattle.rules_base.specs.Parts.{and_then}
 use Rattle.rules_base.specs.Places.{locals_size}
 use Rattle.rules_flow.specs.declared.successors.Successors.{Successors}
@@ -70,33 +71,33 @@ call_fails notes f s g =
     (arguments (local_fields notes f) s.written g.params s.items)
 
 -- a call of the function that begins at a place
-unfoldable pub call_to : Notes → FnNote → State → ℤ → Gives Successors
+unfoldable pub call_to : Notes → FnNote → State → ℤ → OrRule Successors
 call_to notes f s place = do
   g ← or_else rule.Target (callee_at notes place)
   also (Ok (falls (called s g.result s.written))) (call_fails notes f s g)
 
 -- CALL of byte code
-unfoldable pub call_row : Notes → FnNote → Here → State → Bool → Bool → Operand → Extra → Gives Successors
+unfoldable pub call_row : Notes → FnNote → Here → State → Bool → Bool → Operand → Extra → OrRule Successors
 call_row notes f here s far rel op extra = target_of here far rel op extra >>= call_to notes f s
 
 -- ---- CALLEX
 
 -- the method whose address a value is
-abbrev pub method_of : Ty → Gives ℕ
+abbrev pub method_of : Ty → OrRule ℕ
 method_of (ty.Method m) = Ok m
 method_of _ = Err rule.Form
 
 -- what is loaded has to be made before it is looked at
-abbrev pub loaded_method : Loaded → Gives ℕ
+abbrev pub loaded_method : Loaded → OrRule ℕ
 loaded_method l = if l.made then method_of l.ty else Err rule.Thunk
 
 -- a register with nothing beside it
-abbrev pub direct_method : State → ℕ → Extra → Gives ℕ
+abbrev pub direct_method : State → ℕ → Extra → OrRule ℕ
 direct_method s r Nothing = method_of (type_of s r)
 direct_method s r _ = Err rule.Form
 
 -- the method that a native call calls: it is absolute, not far, and its operand isn't on R0
-unfoldable pub callee_method : Notes → FnNote → State → Bool → Bool → Operand → Extra → Gives ℕ
+unfoldable pub callee_method : Notes → FnNote → State → Bool → Bool → Operand → Extra → OrRule ℕ
 callee_method notes f s far rel op extra =
     if far then Err rule.Form
     else if rel then Err rule.Form
@@ -133,13 +134,13 @@ abbrev pub native_called : State → Option Ty → ℕ → State
 native_called s result lent = called s (result_type result lent) (written_after result s.written lent)
 
 -- a call by a signature
-unfoldable pub native_call : Notes → FnNote → State → Signature → Gives Successors
+unfoldable pub native_call : Notes → FnNote → State → Signature → OrRule Successors
 native_call notes f s g =
     also (Ok (falls (native_called s g.result (all_lent_out g.params s.items))))
     (both (needs rule.Thunk (all_made notes s)) (native_arguments (local_fields notes f) s.written g.params s.items))
 
 -- CALLEX
-unfoldable pub call_native_row : Notes → FnNote → Here → State → Bool → Bool → Operand → Extra → Gives Successors
+unfoldable pub call_native_row : Notes → FnNote → Here → State → Bool → Bool → Operand → Extra → OrRule Successors
 call_native_row notes f here s far rel op extra = do
   m ← callee_method notes f s far rel op extra
   g ← or_else rule.Site (signature_at notes here.place m)
@@ -162,7 +163,7 @@ may_return f s =
     nat_eq (length s.items) 0 && (is_saved s 1 && (is_saved s 2 && (is_saved s 3 && is_below (type_of s 7) f.result)))
 
 -- RET
-unfoldable pub return_row : FnNote → State → Gives Successors
+unfoldable pub return_row : FnNote → State → OrRule Successors
 return_row f s = if may_return f s then Ok ends else Err rule.Return
 
 -- ---- BREAK
@@ -176,7 +177,7 @@ abbrev pub with_thunk : State → State
 with_thunk s = record s { made = s.made + 1 }
 
 -- BREAK 5 makes the next thunk, the one whose cell R7 is the address of
-unfoldable pub break_row : Notes → State → ℕ → Gives Successors
+unfoldable pub break_row : Notes → State → ℕ → OrRule Successors
 break_row notes s code =
     if nat_eq code 5 then (if is_next_thunk notes s (type_of s 7) then Ok (falls (with_thunk s)) else Err rule.Thunk)
     else Err rule.Form

@@ -1,4 +1,5 @@
--- The rows of the instructions of control and of the stack. docs/RULES.md, "Control" and "The stack", has the tables.
+-- Meaning: the rows of the instructions of control and of the stack. docs/RULES.md, "Control" and "The stack", has the
+-- tables.
 use Rattle.std.specs.Prelude.{ℕ, Bool, false, not, ◌&&◌, is_none, nat_eq, if◌then◌else◌, Option, Some, None, slice_get, Ok, Err}
 use Rattle.natural_index.specs.declared.Index.{Index}
 use Rattle.ebc_insn.specs.declared.Insn.{Insn}
@@ -15,7 +16,6 @@ use Rattle.note_types.specs.declared.state.State.{State}
 use Rattle.note_types.specs.declared.types.Ty.{Ty}
 use Rattle.rules_base.specs.declared.here.Here.{Here}
 use Rattle.rules_base.specs.Operands.{index_distance}
-use Rattle.rules_base.specs.Outcomes.{Gives}
 use Rattle.rules_base.specs.Things.{relocated, takes_address}
 use Rattle.rules_flow.specs.declared.successors.Successors.{Successors}
 use Rattle.rules_flow.specs.Calls.{break_row, call_native_row, call_row, return_row}
@@ -23,9 +23,10 @@ use Rattle.rules_flow.specs.Frames.{frame_row, pop_row, push_row}
 use Rattle.rules_flow.specs.Jumps.{jump8_row, jump_row}
 use Rattle.ebc_base.specs.Steps.{or_else, ◌>>=◌}
 use Rattle.note_types.specs.declared.rule.RuleName.{RuleName}
+use Rattle.rules_base.specs.Outcomes.{OrRule}
 
 -- a move to R0: MOVq from R0 makes locals and drops items, and no other writes R0
-abbrev pub frame_move : Notes → FnNote → State → Size → Operand → Operand → Option Index → Gives Successors
+abbrev pub frame_move : Notes → FnNote → State → Size → Operand → Operand → Option Index → OrRule Successors
 frame_move notes f s Qword left right ridx =
     if left.indirect then Err rule.Form
     else if nat_eq left.reg 0 && (not right.indirect && nat_eq right.reg 0) then frame_row notes f s (index_distance ridx)
@@ -41,7 +42,7 @@ abbrev pub slot_kind : Bool → SlotKind
 slot_kind wide = if wide then Q else D
 
 -- the row of an instruction that isn't relocated, other than JMP and CALL; those on data have none here
-abbrev pub plain_row : Notes → FnNote → Here → State → Insn → Gives Successors
+abbrev pub plain_row : Notes → FnNote → Here → State → Insn → OrRule Successors
 plain_row notes f here s (insn.Break code) = break_row notes s code
 plain_row notes f here s insn.Ret = return_row f s
 plain_row notes f here s (insn.Call far native rel op extra) = call_native_row notes f here s far rel op extra
@@ -57,11 +58,11 @@ plain_row notes f here s (insn.MoveRelative bits left lidx imm) = Err (to_stack 
 plain_row notes f here s _ = Err rule.Form
 
 -- the row of an instruction that isn't relocated
-abbrev pub unrelocated : Notes → FnNote → Here → State → Insn → Gives Successors
+abbrev pub unrelocated : Notes → FnNote → Here → State → Insn → OrRule Successors
 unrelocated notes f here s i = if is_none here.reloc then plain_row notes f here s i else Err rule.Relocation
 
 -- an address moved to R0: first whether its relocation is allowed
-abbrev pub rule_or : RuleName → Gives Ty → RuleName
+abbrev pub rule_or : RuleName → OrRule Ty → RuleName
 rule_or r (Ok t) = r
 rule_or r (Err q) = q
 
@@ -70,7 +71,7 @@ address_rule notes None takes left = to_stack left
 address_rule notes (Some place) takes left = rule_or (to_stack left) (relocated notes takes place)
 
 -- the row of an instruction
-abbrev pub flow_row : Notes → FnNote → Here → State → Insn → Gives Successors
+abbrev pub flow_row : Notes → FnNote → Here → State → Insn → OrRule Successors
 flow_row notes f here s (insn.Jump cond far rel op extra) = jump_row notes f here s cond far rel op extra
 flow_row notes f here s (insn.Jump8 cond words) = jump8_row notes f here s cond words
 flow_row notes f here s (insn.Call far false rel op extra) = call_row notes f here s far rel op extra
@@ -79,5 +80,5 @@ flow_row notes f here s (insn.MoveImm size bits left lidx imm) =
 flow_row notes f here s i = unrelocated notes f here s i
 
 -- the states after an instruction of control or of the stack, or the first rule that fails
-unfoldable pub after_flow : Notes → Here → State → Insn → Gives Successors
+unfoldable pub after_flow : Notes → Here → State → Insn → OrRule Successors
 after_flow notes here s i = or_else rule.Function (slice_get notes.function here.func) >>= λ f. flow_row notes f here s i

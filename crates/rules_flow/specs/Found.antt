@@ -1,4 +1,4 @@
--- What stands at a place of the code: the first of the points, functions or sites of the notes whose place it is.
+-- Meaning: what stands at a place of the code: the first of the points, functions or sites of the notes whose place it is.
 use Rattle.std.specs.Prelude.{ℕ, Bool, nat_eq, List, Option, None, position, ℤ, pos, int_le, unsigned_abs, if◌then◌else◌}
 
 -- the thing stands at this place

@@ -1,6 +1,7 @@
--- The stack of a function: room, slots that are pushed and popped, locals that are made and dropped. docs/RULES.md, "The
--- stack", has the words.
-use Rattle.std.specs.Prelude.{ℕ, ◌+◌, ◌-◌, ◌*◌, ◌^◌, Bool, true, not, ◌&&◌, nat_eq, nat_lt, nat_le, if◌then◌else◌, List, [], ◌∷◌, length, map, Option, Some, None, Ok, Err, pos, int_le, unsigned_abs, count_by, is_some}
+-- Meaning: the stack of a function: room, slots that are pushed and popped, locals that are made and dropped. docs/RULES.md,
+-- "The stack", has the words.
+use Rattle.std.specs.Prelude.{ℕ, ◌+◌, ◌-◌, ◌*◌, ◌^◌, Bool, true, not, ◌&&◌, nat_eq, nat_lt, nat_le, if◌then◌else◌, List, [], ◌∷◌, length}
+use Rattle.std.specs.Prelude.{map, Option, Some, None, Ok, Err, pos, int_le, unsigned_abs, count_by, is_some}
 use Rattle.std.specs.List.{list_any}
 use Rattle.ebc_insn.specs.declared.Extra.{Extra}
 use Rattle.ebc_insn.specs.declared.Operand.{Operand}
@@ -27,7 +28,7 @@ use Rattle.rules_base.specs.Change.{changed}
 use Rattle.rules_base.specs.Destinations.{put}
 use Rattle.rules_base.specs.Kept.{kept_low, kept_natural}
 use Rattle.rules_base.specs.Operands.{extra_distance, with_immediate}
-use Rattle.rules_base.specs.Outcomes.{Gives, also, beside, gives_map, needs}
+use Rattle.rules_base.specs.Outcomes.{also, beside, gives_map, needs, OrRule}
 use Rattle.rules_base.specs.Parts.{is_int_below}
 use Rattle.rules_base.specs.Places.{locals_size, slot_size}
 use Rattle.rules_base.specs.Values.{operand_value}
@@ -89,7 +90,7 @@ abbrev pub with_item : State → Item → State
 with_item s item = record s { items = item ∷ s.items }
 
 -- PUSHn, PUSH64, PUSH32
-unfoldable pub push_row : Notes → FnNote → State → SlotKind → Operand → Extra → Gives Successors
+unfoldable pub push_row : Notes → FnNote → State → SlotKind → Operand → Extra → OrRule Successors
 push_row notes f s kind op extra = do
   v ← also (operand_value notes f s (slot_access kind) op extra) (needs rule.Stack (has_room notes f (Slot kind ty.Any) s.items))
   also (Ok (falls (with_item s (Slot kind (slot_type kind v.ty))))) (needs rule.Thunk v.made)
@@ -102,12 +103,12 @@ is_popped D t = is_int_below (2 ^ 31) t
 is_popped _ t = true
 
 -- the type in the top slot, which has to be of this kind
-abbrev pub top_type : SlotKind → List Item → Gives Ty
+abbrev pub top_type : SlotKind → List Item → OrRule Ty
 top_type kind (Slot k t ∷ items) = if same_kind kind k && is_popped kind t then Ok t else Err rule.Stack
 top_type kind _ = Err rule.Stack
 
 -- where a pop leaves the value: never through R0
-abbrev pub pop_destination : Notes → FnNote → State → SlotKind → Operand → Extra → Gives Destination
+abbrev pub pop_destination : Notes → FnNote → State → SlotKind → Operand → Extra → OrRule Destination
 pop_destination notes f s kind op extra =
     if nat_eq op.reg 0 then Err rule.Stack
     else if op.indirect then gives_map Memory (target_at notes f s (slot_access kind) op.reg (extra_distance extra))
@@ -126,7 +127,7 @@ abbrev pub without_top : State → State
 without_top s = record s { items = below_top s.items }
 
 -- POPn, POP64, POP32
-unfoldable pub pop_row : Notes → FnNote → State → SlotKind → Operand → Extra → Gives Successors
+unfoldable pub pop_row : Notes → FnNote → State → SlotKind → Operand → Extra → OrRule Successors
 pop_row notes f s kind op extra = do
   p ← beside (top_type kind s.items) (pop_destination notes f s kind op extra)
   change ← put p.1 (popped_type notes op extra p.0)
@@ -139,7 +140,7 @@ abbrev pub is_size : Pair → ℕ → ℕ → Bool
 is_size p n c = nat_eq p.n n && nat_eq p.c c
 
 -- making the locals, which aren't there and take so much
-abbrev pub make_row : Notes → FnNote → State → ℕ → ℕ → Gives Successors
+abbrev pub make_row : Notes → FnNote → State → ℕ → ℕ → OrRule Successors
 make_row notes f s n c =
     if is_some f.locals && (not (list_any is_locals s.items) && (is_size (locals_size notes f) n c && has_room notes f Locals s.items))
     then Ok (falls (with_item s Locals))
@@ -192,16 +193,16 @@ with_left s lost items = record s {
 abbrev pub loses : List Item → List Item → Bool
 loses items left = list_any is_locals items && not (list_any is_locals left)
 
-abbrev pub drop_to : State → Option (List Item) → Gives Successors
+abbrev pub drop_to : State → Option (List Item) → OrRule Successors
 drop_to s None = Err rule.Stack
 drop_to s (Some items) = Ok (falls (with_left s (loses s.items items) items))
 
 -- dropping items from the top that take exactly so much
-abbrev pub drop_row : Notes → FnNote → State → ℕ → ℕ → Gives Successors
+abbrev pub drop_row : Notes → FnNote → State → ℕ → ℕ → OrRule Successors
 drop_row notes f s n c = drop_to s (left_after (locals_size notes f) s.items n c)
 
 -- MOVq R0, R0: down by the size of the locals makes them, and up drops items
-unfoldable pub frame_row : Notes → FnNote → State → Distance → Gives Successors
+unfoldable pub frame_row : Notes → FnNote → State → Distance → OrRule Successors
 frame_row notes f s d =
     if int_le (pos 0) d.n && int_le (pos 0) d.c then drop_row notes f s (unsigned_abs d.n) (unsigned_abs d.c)
     else if int_le d.n (pos 0) && int_le d.c (pos 0) then make_row notes f s (unsigned_abs d.n) (unsigned_abs d.c)

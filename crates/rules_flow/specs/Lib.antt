@@ -5,7 +5,6 @@ pub mod Found
 pub mod Frames
 pub mod Jumps
 pub mod Narrowing
-pub mod Paths
 pub mod Rule
 pub mod Steps
 pub mod Successors

@@ -1,6 +1,6 @@
--- The rows of the instructions of control and of the stack as relations: an instruction meets its row in a state, and goes
--- on at a place with a state; or the first of the rules by which the row's parts fail is named. docs/RULES.md, "The first
--- rule", has the words.
+-- For proofs: the rows of the instructions of control and of the stack as relations: an instruction meets its row in a
+-- state, and goes on at a place with a state; or the first of the rules by which the row's parts fail is named.
+-- docs/RULES.md, "The first rule", has the words.
 use Rattle.std.specs.Prelude.{◌≡◌, ◌⊎◌, ℕ, Bool, false, List, [], ◌∷◌, Some, Ok, slice_get, is_none}
 use Rattle.ebc_base.specs.Steps.{◌>>=◌, or_else}
 use Rattle.ebc_insn.specs.declared.Extra.{Extra}
@@ -51,13 +51,15 @@ ArgumentsFail fields written (p ∷ ps) (x ∷ xs) r = ArgumentFails fields writ
 
 -- the same of what is handed to a native method
 abbrev pub NativeArgumentFails : List Field → ℕ → WantParam → Item → RuleName → Type 0
-NativeArgumentFails fields written p (Slot kind t) r = broken rule.Arguments (same_kind p.kind kind) r ⊎ (wanted fields written p.want t ≡ Some r)
+NativeArgumentFails fields written p (Slot kind t) r = broken rule.Arguments (same_kind p.kind kind) r
+    ⊎ (wanted fields written p.want t ≡ Some r)
 NativeArgumentFails fields written p Locals r = Some rule.Arguments ≡ Some r
 
 abbrev pub NativeArgumentsFail : List Field → ℕ → List WantParam → List Item → RuleName → Type 0
 NativeArgumentsFail fields written [] items r = ⊥
 NativeArgumentsFail fields written (p ∷ ps) [] r = Some rule.Arguments ≡ Some r
-NativeArgumentsFail fields written (p ∷ ps) (x ∷ xs) r = NativeArgumentFails fields written p x r ⊎ NativeArgumentsFail fields written ps xs r
+NativeArgumentsFail fields written (p ∷ ps) (x ∷ xs) r = NativeArgumentFails fields written p x r
+    ⊎ NativeArgumentsFail fields written ps xs r
 
 -- ---- the parts of the rows that have several
 
@@ -87,7 +89,8 @@ call_native_part notes f here s far rel op extra =
 -- pushes: the value and the room, and then that a loaded thunk is made
 unfoldable pub push_part : Notes → FnNote → State → SlotKind → Operand → Extra → Part Successors
 push_part notes f s kind op extra =
-    afterwards (under (alone (operand_value notes f s (slot_access kind) op extra)) (broken rule.Stack (has_room notes f (Slot kind ty.Any) s.items)))
+    afterwards (under (alone (operand_value notes f s (slot_access kind) op extra))
+    (broken rule.Stack (has_room notes f (Slot kind ty.Any) s.items)))
     (λ v. under (alone (Ok (falls (with_item s (Slot kind (slot_type kind v.ty)))))) (broken rule.Thunk v.made))
 
 -- pops: the store needs the top slot and the place
@@ -119,7 +122,8 @@ flow_part notes f here s i = unrelocated_part notes f here s i
 
 -- what an instruction leads to
 unfoldable pub successors_part : Notes → Here → State → Insn → Part Successors
-successors_part notes here s i = afterwards (alone (or_else rule.Function (slice_get notes.function here.func))) (λ f. flow_part notes f here s i)
+successors_part notes here s i = afterwards (alone (or_else rule.Function (slice_get notes.function here.func)))
+    (λ f. flow_part notes f here s i)
 
 -- the state is one of these successors, at a place
 abbrev pub IsSuccessor : Here → Successors → ℕ → State → Type 0

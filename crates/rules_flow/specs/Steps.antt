@@ -1,4 +1,5 @@
--- What an instruction of control or of the stack does, told by what changes: the states that it leads to from a state.
+-- For proofs: what an instruction of control or of the stack does, told by what changes: the states that it leads to from a
+-- state.
 use Rattle.std.specs.Prelude.{◌+◌, ◌^◌, ◌<◌, ◌≤◌, not, drop, length, ⊤}
 use Rattle.note_types.specs.declared.state.State.{State}
 use Rattle.rules_base.specs.Change.{changed}

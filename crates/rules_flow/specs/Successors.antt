@@ -1,4 +1,4 @@
--- What an instruction of control or of the stack leads to.
+-- Meaning: what an instruction of control or of the stack leads to.
 use Rattle.std.specs.Prelude.{ℕ, None, Some}
 use Rattle.note_types.specs.declared.state.State.{State}
 use Rattle.rules_flow.specs.declared.successors.Successors.{Successors}

@@ -1,6 +1,7 @@
 //! The arguments of a call.
 
-ghost use Rattle.std.specs.Prelude.{◌≡◌};
+ghost use Rattle.std.specs.Ordering.{int_eq};
+ghost use Rattle.std.specs.Prelude.{◌≡◌, ◌&&◌, nat_eq, pos};
 ghost use Rattle.rules_flow.specs.Arguments.{all_lent_out, argument, arguments, is_any_start, is_cell, is_exactly, lends, lent_local, lent_out, native_argument, native_arguments, passed, wanted};
 
 use note_types::{Cell, Field, Item, Param, RuleName, Ty, Want, WantParam, ty_below};
@@ -107,13 +108,27 @@ fn is_exactly(n: u32, c: u32, t: Ty) -> bool
     }
 }
 
+// Whether an offset is that of a start.
+fn is_start(n: i32, c: i32) -> bool
+    ensures { result ≡ int_eq n (pos 0) && int_eq c (pos 0) }
+{
+    n == 0 && c == 0
+}
+
+// Whether numbers within these bounds are 0.
+fn is_zero(lo: u64, hi: u64) -> bool
+    ensures { result ≡ nat_eq lo 0 && nat_eq hi 0 }
+{
+    lo == 0 && hi == 0
+}
+
 // The start of an instance of any shape, or null.
 fn is_any_start(t: Ty) -> bool
     ensures { result ≡ is_any_start t }
 {
     match t {
-        Ty::Ptr { n, c, .. } => n == 0 && c == 0,
-        Ty::Int { lo, hi, .. } => lo == 0 && hi == 0,
+        Ty::Ptr { n, c, .. } => is_start(n, c),
+        Ty::Int { lo, hi, .. } => is_zero(lo, hi),
         _ => false,
     }
 }

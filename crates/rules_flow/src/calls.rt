@@ -10,10 +10,10 @@ ghost use Rattle.rules_flow.specs.Steps.{FitsStep, successors_of};
 
 use crate::arguments::{all_lent_out, arguments, native_arguments};
 use crate::frames::{at, items_size};
-use crate::jumps::target_of;
+use crate::jumps::{Aim, target_of};
 use crate::placed::{number_at, number_from};
 use crate::step::{Step, Update};
-use ebc_insn::{Extra, Operand};
+use ebc_insn::Extra;
 use note_types::{FnNote, Notes, Pair, RuleName, Signature, Site, State, Ty, ty_below};
 use rules_base::{
     Access, Here, Loaded, also, both, extra_distance, load_at, local_fields, locals_size, needs,
@@ -124,17 +124,14 @@ pub fn call_row(
     f: &FnNote,
     here: &Here,
     s: &State,
-    far: bool,
-    rel: bool,
-    op: &Operand,
-    extra: &Extra,
+    aim: Aim,
 ) -> Result<Step, RuleName>
     requires thunks { length notes.now.thunk < 2 ^ 32 }
     requires ascend { IsStrictlyIncreasing (map (λ g. g.place) notes.now.function) }
-    ensures goes { gives_map (successors_of s.now) result ≡ call_row notes.now f.now here.now s.now far rel op.now extra.now }
+    ensures goes { gives_map (successors_of s.now) result ≡ call_row notes.now f.now here.now s.now aim.entry.far aim.entry.relative aim.entry.op.now aim.entry.extra.now }
     ensures fits { IfOk result (FitsStep s.now) }
 {
-    let place = target_of(here, far, rel, op, extra)?;
+    let place = target_of(here, aim)?;
     call_to(notes, f, s, place)
 }
 
@@ -174,33 +171,25 @@ fn direct_method(s: &State, reg: u8, extra: &Extra) -> Result<u32, RuleName>
 
 // The method that a native call calls: it is absolute, not far, and its operand isn't on R0.
 #[tactic(auto, unfolding(crate::specs::Calls::callee_method))]
-fn callee_method(
-    notes: &Notes,
-    f: &FnNote,
-    s: &State,
-    far: bool,
-    rel: bool,
-    op: &Operand,
-    extra: &Extra,
-) -> Result<u32, RuleName>
-    requires { TargetFits far op.now extra.now }
-    ensures { result ≡ callee_method notes.now f.now s.now far rel op.now extra.now }
+fn callee_method(notes: &Notes, f: &FnNote, s: &State, aim: Aim) -> Result<u32, RuleName>
+    requires { TargetFits aim.far aim.op.now aim.extra.now }
+    ensures { result ≡ callee_method notes.now f.now s.now aim.entry.far aim.entry.relative aim.entry.op.now aim.entry.extra.now }
 {
-    if far {
+    if aim.far {
         return Err(RuleName::Form);
     }
-    if rel {
+    if aim.relative {
         return Err(RuleName::Form);
     }
-    if op.reg == 0 {
+    if aim.op.reg == 0 {
         return Err(RuleName::Form);
     }
-    if op.indirect {
-        let d = extra_distance(32, op, extra);
-        let loaded = load_at(notes, f, s, Access::Natural, op.reg, d)?;
+    if aim.op.indirect {
+        let d = extra_distance(32, aim.op, aim.extra);
+        let loaded = load_at(notes, f, s, Access::Natural, aim.op.reg, d)?;
         loaded_method(loaded)
     } else {
-        direct_method(s, op.reg, extra)
+        direct_method(s, aim.op.reg, aim.extra)
     }
 }
 
@@ -275,18 +264,15 @@ pub fn call_native_row(
     f: &FnNote,
     here: &Here,
     s: &State,
-    far: bool,
-    rel: bool,
-    op: &Operand,
-    extra: &Extra,
+    aim: Aim,
 ) -> Result<Step, RuleName>
     requires thunks { length notes.now.thunk < 2 ^ 32 }
     requires ascend { IsStrictlyIncreasing (map (λ x. x.place) notes.now.site) }
-    requires target { TargetFits far op.now extra.now }
-    ensures goes { gives_map (successors_of s.now) result ≡ call_native_row notes.now f.now here.now s.now far rel op.now extra.now }
+    requires target { TargetFits aim.far aim.op.now aim.extra.now }
+    ensures goes { gives_map (successors_of s.now) result ≡ call_native_row notes.now f.now here.now s.now aim.entry.far aim.entry.relative aim.entry.op.now aim.entry.extra.now }
     ensures fits { IfOk result (FitsStep s.now) }
 {
-    let method = callee_method(notes, f, s, far, rel, op, extra)?;
+    let method = callee_method(notes, f, s, aim)?;
     let g = signature_at(notes, here.place, method).ok_or(RuleName::Site)?;
     native_call(notes, f, s, g)
 }

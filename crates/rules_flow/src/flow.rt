@@ -6,13 +6,11 @@ ghost use Rattle.ebc_insn.specs.Spelling.{IsOperand, RightFits, WellFormed};
 ghost use Rattle.note_types.specs.Records.{Ascends};
 ghost use Rattle.rules_base.specs.Outcomes.{gives_map};
 ghost use Rattle.rules_flow.specs.Flow.{address_rule, after_flow, flow_row, frame_move, plain_row, slot_kind, to_stack};
-ghost use Rattle.rules_flow.specs.Paths.{kept_state, successors_from};
 ghost use Rattle.rules_flow.specs.Steps.{FitsStep, successors_of};
 
 use crate::calls::{break_row, call_native_row, call_row, return_row};
 use crate::frames::{frame_row, pop_row, push_row};
-use crate::jumps::{jump_row, jump8_row};
-use crate::path::Path;
+use crate::jumps::{Aim, jump_row, jump8_row};
 use crate::step::Step;
 use crate::successors::Successors;
 use ebc_insn::{Insn, Operand, Size};
@@ -34,28 +32,6 @@ pub fn after_flow(notes: &Notes, here: &Here, s: &State, i: &Insn) -> Result<Suc
 {
     let step = flow_step(notes, here, s, i)?;
     Ok(step.successors(s))
-}
-
-/// `after_flow` for a checker that keeps one state: the state becomes the one before the next instruction, where control
-/// may go on there. It is copied for a jump on a condition alone.
-///
-/// # Errors
-///
-/// The first rule that fails; the state is then as it was.
-pub fn after_flow_in_place(
-    notes: &Notes,
-    here: &Here,
-    s: &mut State,
-    i: &Insn,
-) -> Result<Path, RuleName>
-    requires thunks { length notes.now.thunk < 2 ^ 32 }
-    requires ascend { Ascends notes.now }
-    requires well_formed { WellFormed i.now }
-    ensures goes { gives_map (successors_from s.new) result ≡ after_flow notes.now here.now s.old i.now }
-    ensures state { s.new ≡ kept_state s.old (after_flow notes.now here.now s.old i.now) }
-{
-    let step = flow_step(notes, here, s, i)?;
-    Ok(step.make(s))
 }
 
 /// What an instruction of control or of the stack does, told by what changes. A checker that keeps one state makes the
@@ -93,7 +69,18 @@ fn flow_row(notes: &Notes, f: &FnNote, here: &Here, s: &State, i: &Insn) -> Resu
             relative,
             op,
             extra,
-        } => jump_row(notes, f, here, *cond, *far, *relative, op, extra),
+        } => jump_row(
+            notes,
+            f,
+            here,
+            *cond,
+            Aim {
+                far: *far,
+                relative: *relative,
+                op,
+                extra,
+            },
+        ),
         Insn::Jump8 { cond, words } => jump8_row(notes, f, here, *cond, *words),
         Insn::Call {
             far,
@@ -101,7 +88,18 @@ fn flow_row(notes: &Notes, f: &FnNote, here: &Here, s: &State, i: &Insn) -> Resu
             relative,
             op,
             extra,
-        } => call_row(notes, f, here, s, *far, *relative, op, extra),
+        } => call_row(
+            notes,
+            f,
+            here,
+            s,
+            Aim {
+                far: *far,
+                relative: *relative,
+                op,
+                extra,
+            },
+        ),
         Insn::MoveImm {
             size,
             bits,
@@ -138,7 +136,18 @@ fn plain_row(notes: &Notes, f: &FnNote, here: &Here, s: &State, i: &Insn) -> Res
             op,
             extra,
             ..
-        } => call_native_row(notes, f, here, s, *far, *relative, op, extra),
+        } => call_native_row(
+            notes,
+            f,
+            here,
+            s,
+            Aim {
+                far: *far,
+                relative: *relative,
+                op,
+                extra,
+            },
+        ),
         Insn::Push { wide, op, extra } => push_row(notes, f, s, slot_kind(*wide), op, extra),
         Insn::Pop { wide, op, extra } => pop_row(notes, f, s, slot_kind(*wide), op, extra),
         Insn::PushNatural { op, extra } => push_row(notes, f, s, SlotKind::N, op, extra),
@@ -150,7 +159,18 @@ fn plain_row(notes: &Notes, f: &FnNote, here: &Here, s: &State, i: &Insn) -> Res
             right,
             ridx,
             ..
-        } => frame_move(notes, f, s, *size, *bits, left, right, ridx),
+        } => frame_move(
+            notes,
+            f,
+            s,
+            FrameMove {
+                size: *size,
+                bits: *bits,
+                left,
+                right,
+                ridx,
+            },
+        ),
         Insn::MoveSigned { left, .. }
         | Insn::MoveImm { left, .. }
         | Insn::MoveImmNatural { left, .. }
@@ -166,28 +186,29 @@ fn slot_kind(wide: bool) -> SlotKind
     if wide { SlotKind::Q } else { SlotKind::D }
 }
 
+/// MOVb to MOVqq or MOVn, with the first operand as it is.
+#[derive(Clone, Copy)]
+pub struct FrameMove<'a> {
+    pub size: Size,
+    pub bits: u8,
+    pub left: &'a Operand,
+    pub right: &'a Operand,
+    pub ridx: &'a Option<Index>,
+}
+
 // A move to R0: MOVq from R0 makes locals and drops items, and no other writes R0.
-fn frame_move(
-    notes: &Notes,
-    f: &FnNote,
-    s: &State,
-    size: Size,
-    bits: u8,
-    left: &Operand,
-    right: &Operand,
-    ridx: &Option<Index>,
-) -> Result<Step, RuleName>
-    requires size { IsIndexSize bits }
-    requires index { RightFits bits ridx.now }
-    ensures goes { gives_map (successors_of s.now) result ≡ frame_move notes.now f.now s.now size left.now right.now ridx.now }
+fn frame_move(notes: &Notes, f: &FnNote, s: &State, it: FrameMove) -> Result<Step, RuleName>
+    requires size { IsIndexSize it.bits }
+    requires index { RightFits it.bits it.ridx.now }
+    ensures goes { gives_map (successors_of s.now) result ≡ frame_move notes.now f.now s.now it.entry.size it.entry.left.now it.entry.right.now it.entry.ridx.now }
     ensures fits { IfOk result (FitsStep s.now) }
 {
-    if left.indirect {
+    if it.left.indirect {
         return Err(RuleName::Form);
     }
-    match size {
-        Size::Qword if left.reg == 0 && !right.indirect && right.reg == 0 => {
-            frame_row(notes, f, s, index_distance(bits, ridx))
+    match it.size {
+        Size::Qword if it.left.reg == 0 && !it.right.indirect && it.right.reg == 0 => {
+            frame_row(notes, f, s, index_distance(it.bits, it.ridx))
         }
         _ => Err(RuleName::Stack),
     }

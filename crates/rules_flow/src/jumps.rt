@@ -15,6 +15,15 @@ use rules_base::Here;
 
 // ---- targets
 
+/// How an instruction says where it goes: whether it is far and relative, its operand, and what stands beside it.
+#[derive(Clone, Copy)]
+pub struct Aim<'a> {
+    pub far: bool,
+    pub relative: bool,
+    pub op: &'a Operand,
+    pub extra: &'a Extra,
+}
+
 // The place that a relocated immediate names, where there is one.
 fn absolute(reloc: Option<u32>) -> Result<i128, RuleName>
     ensures { result ≡ absolute reloc }
@@ -56,19 +65,13 @@ fn no_target(here: &Here) -> Result<i128, RuleName>
 /// The place to which a jump or a byte code call goes: an immediate of 64 bits, relocated or relative, or a relative one
 /// beside R0.
 #[tactic(auto, unfolding(crate::specs::Jumps::target_of))]
-pub fn target_of(
-    here: &Here,
-    far: bool,
-    rel: bool,
-    op: &Operand,
-    extra: &Extra,
-) -> Result<i128, RuleName>
-    ensures { result ≡ target_of here.now far rel op.now extra.now }
+pub fn target_of(here: &Here, aim: Aim) -> Result<i128, RuleName>
+    ensures { result ≡ target_of here.now aim.entry.far aim.entry.relative aim.entry.op.now aim.entry.extra.now }
 {
-    match (far, rel, extra) {
+    match (aim.far, aim.relative, aim.extra) {
         (true, true, Extra::Imm(imm)) => relative(here, *imm),
         (true, false, Extra::Imm(_)) => absolute(here.reloc),
-        (false, true, Extra::Imm(imm)) => if op.reg == 0 && !op.indirect {
+        (false, true, Extra::Imm(imm)) => if aim.op.reg == 0 && !aim.op.indirect {
             relative(here, *imm)
         } else {
             no_target(here)
@@ -133,16 +136,13 @@ pub fn jump_row(
     f: &FnNote,
     here: &Here,
     cond: Cond,
-    far: bool,
-    rel: bool,
-    op: &Operand,
-    extra: &Extra,
+    aim: Aim,
 ) -> Result<Step, RuleName>
     requires { IsStrictlyIncreasing (map (λ p. p.place) notes.now.point) }
-    ensures goes { (s : State) → gives_map (successors_of s) result ≡ jump_row notes.now f.now here.now s cond far rel op.now extra.now }
+    ensures goes { (s : State) → gives_map (successors_of s) result ≡ jump_row notes.now f.now here.now s cond aim.entry.far aim.entry.relative aim.entry.op.now aim.entry.extra.now }
     ensures fits { (s : State) → IfOk result (FitsStep s) }
 {
-    let place = target_of(here, far, rel, op, extra)?;
+    let place = target_of(here, aim)?;
     jump_to(notes, f, cond, place)
 }
 

@@ -8,14 +8,12 @@ mod flow;
 mod frames;
 mod jumps;
 mod narrowing;
-mod path;
 mod placed;
 mod step;
 mod successors;
 
-pub use flow::{after_flow, after_flow_in_place, flow_step};
+pub use flow::{after_flow, flow_step};
 pub use narrowing::narrow;
-pub use path::Path;
 pub use placed::{Placed, number_at, places_ascend};
 pub use step::{Step, Update};
 pub use successors::Successors;

@@ -12,7 +12,7 @@ use note_types::{Item, State, Ty};
 use rules_base::Change;
 
 /// Where control goes on after an instruction, and what changes in the state.
-#[derive(Clone, Copy, PartialEq, Eq, Debug)]
+#[derive(Clone, Copy, PartialEq, Eq)]
 pub enum Step {
     /// The next instruction, after a change.
     Falls(Update),
@@ -25,7 +25,7 @@ pub enum Step {
 }
 
 /// What changes before the next instruction.
-#[derive(Clone, Copy, PartialEq, Eq, Debug)]
+#[derive(Clone, Copy, PartialEq, Eq)]
 pub enum Update {
     /// A call: R7 has this type, and these local fields are written.
     Called { ty: Ty, written: u64 },

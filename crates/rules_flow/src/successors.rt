@@ -7,7 +7,7 @@ use note_types::State;
 
 /// The states after an instruction: before the next instruction, where control may go there, and before the instruction
 /// at another place of the function.
-#[derive(Debug, Drop)]
+#[derive(Drop)]
 pub struct Successors {
     pub fall: Option<State>,
     pub jump: Option<(u32, State)>,

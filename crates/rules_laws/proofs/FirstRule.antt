@@ -1,16 +1,19 @@
 -- Parts that are put together tell the first rule by which one of them fails.
-use Rattle.std.proofs.Common.{◌≡◌, ◌⊎◌, ◌≤◌, ℕ, Bool, true, false, Option, None, Some, nat_eq, nat_le, if◌then◌else◌, refl, sym, subst, ap, inl, inr, ⊎_elim, arith, ◌∙◌}
+use Rattle.std.proofs.Common.{◌≡◌, ◌⊎◌, ◌≤◌, Bool, true, false, Option, None, Some, nat_le, if◌then◌else◌, refl, sym, subst, ap}
+use Rattle.std.proofs.Common.{inl, inr, ⊎_elim, arith, ◌∙◌}
 use Rattle.std.specs.Prelude.{Ok, Err}
 use Rattle.std.proofs.lemmas.Bool.{leb-true, leb-false}
 use Rattle.note_types.specs.declared.rule.RuleName.{RuleName}
 use Rattle.note_types.specs.declared.rule.RuleName.TheVariants as rule
 use Rattle.ebc_base.specs.Steps.{◌>>=◌}
 use Rattle.rules_base.specs.FirstRule.{IsFirst, Part, Tells, TellsRule, afterwards, alone, broken, only_where, seen, together, under}
-use Rattle.rules_base.specs.Outcomes.{Gives, also, beside, both, gives_map, needs, number_of_rule, sooner}
+use Rattle.rules_base.specs.Outcomes.{also, beside, both, gives_map, needs, number_of_rule, sooner, OrRule}
+use Rattle.rules_base.proofs.FirstRule.{one_first}
 
 -- ---- the first of two
 
-sooner_by : (A C : RuleName → Type 0) (r q : RuleName) (b : Bool) → nat_le (number_of_rule r) (number_of_rule q) ≡ b → IsFirst A r → IsFirst C q → IsFirst (λ s. A s ⊎ C s) (if b then r else q)
+sooner_by : (A C : RuleName → Type 0) (r q : RuleName) (b : Bool) → nat_le (number_of_rule r) (number_of_rule q) ≡ b → IsFirst A r
+    → IsFirst C q → IsFirst (λ s. A s ⊎ C s) (if b then r else q)
 sooner_by A C r q true e a c = let l = leb-true _ _ e in record {
   among = inl a.among;
   first = λ s h. ⊎_elim (λ i. a.first s i) (λ i. let m = c.first s i in omega arith) h;
@@ -30,67 +33,6 @@ first_left A C r a none = record { among = inl a.among; first = λ s h. ⊎_elim
 
 pub first_right : (A C : RuleName → Type 0) (q : RuleName) → ((s : RuleName) → A s → ⊥) → IsFirst C q → IsFirst (λ s. A s ⊎ C s) q
 first_right A C q none c = record { among = inr c.among; first = λ s h. ⊎_elim (λ i. absurd (none s i)) (λ i. c.first s i) h }
-
--- the rule of a number
-rule_of : ℕ → RuleName
-rule_of n =
-    if nat_eq n 1 then rule.Shape
-    else if nat_eq n 2 then rule.Function
-    else if nat_eq n 3 then rule.Static
-    else if nat_eq n 4 then rule.Decode
-    else if nat_eq n 5 then rule.State
-    else if nat_eq n 6 then rule.Point
-    else if nat_eq n 7 then rule.Relocation
-    else if nat_eq n 8 then rule.Form
-    else if nat_eq n 9 then rule.Stack
-    else if nat_eq n 10 then rule.Address
-    else if nat_eq n 11 then rule.Null
-    else if nat_eq n 12 then rule.Unwritten
-    else if nat_eq n 13 then rule.Store
-    else if nat_eq n 14 then rule.Compare
-    else if nat_eq n 15 then rule.Divide
-    else if nat_eq n 16 then rule.Target
-    else if nat_eq n 17 then rule.Site
-    else if nat_eq n 18 then rule.Level
-    else if nat_eq n 19 then rule.Thunk
-    else if nat_eq n 20 then rule.Arguments
-    else if nat_eq n 21 then rule.Return
-    else if nat_eq n 22 then rule.Below
-    else rule.End
-
-of_its_number : (r : RuleName) → rule_of (number_of_rule r) ≡ r
-unfolding rule_of
-of_its_number rule.Shape = refl
-of_its_number rule.Function = refl
-of_its_number rule.Static = refl
-of_its_number rule.Decode = refl
-of_its_number rule.State = refl
-of_its_number rule.Point = refl
-of_its_number rule.Relocation = refl
-of_its_number rule.Form = refl
-of_its_number rule.Stack = refl
-of_its_number rule.Address = refl
-of_its_number rule.Null = refl
-of_its_number rule.Unwritten = refl
-of_its_number rule.Store = refl
-of_its_number rule.Compare = refl
-of_its_number rule.Divide = refl
-of_its_number rule.Target = refl
-of_its_number rule.Site = refl
-of_its_number rule.Level = refl
-of_its_number rule.Thunk = refl
-of_its_number rule.Arguments = refl
-of_its_number rule.Return = refl
-of_its_number rule.Below = refl
-of_its_number rule.End = refl
-
--- two rules of one number are one
-number_again : (r q : RuleName) → number_of_rule r ≡ number_of_rule q → r ≡ q
-number_again r q e = sym (of_its_number r) ∙ ap rule_of e ∙ of_its_number q
-
--- there is one first rule
-pub one_first : (A : RuleName → Type 0) (r q : RuleName) → IsFirst A r → IsFirst A q → r ≡ q
-one_first A r q a b = number_again r q (let l = a.first q b.among in let m = b.first r a.among in omega arith)
 
 -- ---- results
 
@@ -128,12 +70,17 @@ module _ {A : Type 0} (p : Part A) where
   err_nothing r t y h = t.apart y r h (err_first r t).among
 
 -- one thing alone
-pub tells_alone : {A : Type 0} (g : Gives A) → Tells g (alone g)
+pub tells_alone : {A : Type 0} (g : OrRule A) → Tells g (alone g)
 tells_alone (Ok x) = tells_ok x (alone (Ok x)) refl (λ y e. cc) (λ r e. cc)
-tells_alone (Err r) = tells_err r (alone (Err r)) (record { among = refl; first = λ q e. let i : r ≡ q = cc in subst (λ s. number_of_rule r ≤ number_of_rule s) i (omega arith) }) (λ y e. cc)
+tells_alone (Err r) = tells_err r (alone (Err r)) (record {
+  among = refl;
+  first = λ q e. let i : r ≡ q = cc in
+      subst (λ s. number_of_rule r ≤ number_of_rule s) i (omega arith);
+}) (λ y e. cc)
 
 -- parts beside one another
-pub tells_beside : {A B : Type 0} (a : Gives A) (b : Gives B) (p : Part A) (q : Part B) → Tells a p → Tells b q → Tells (beside a b) (together p q)
+pub tells_beside : {A B : Type 0} (a : OrRule A) (b : OrRule B) (p : Part A) (q : Part B) → Tells a p → Tells b q
+    → Tells (beside a b) (together p q)
 tells_beside (Ok x) (Ok y) p q t u =
     tells_ok (x, y) (together p q) (ok_gives p x t, ok_gives q y u)
     (λ z h. let e = ok_one p x t z.0 h.0 in let i = ok_one q y u z.1 h.1 in λ j. (e j, i j))
@@ -143,16 +90,20 @@ tells_beside (Ok x) (Err r) p q t u =
 tells_beside (Err r) (Ok y) p q t u =
     tells_err r (together p q) (first_left p.fails q.fails r (err_first p r t) (ok_passes q y u)) (λ z h. err_nothing p r t z.0 h.0)
 tells_beside (Err r) (Err s) p q t u =
-    tells_err (sooner r s) (together p q) (sooner_first p.fails q.fails r s (err_first p r t) (err_first q s u)) (λ z h. err_nothing p r t z.0 h.0)
+    tells_err (sooner r s) (together p q) (sooner_first p.fails q.fails r s (err_first p r t) (err_first q s u))
+    (λ z h. err_nothing p r t z.0 h.0)
 
 -- a part that needs what another one gives
-pub tells_then : {A B : Type 0} (a : Gives A) (f : A → Gives B) (p : Part A) (q : A → Part B) → Tells a p → ((x : A) → Tells (f x) (q x)) → Tells (a >>= f) (afterwards p q)
+pub tells_then : {A B : Type 0} (a : OrRule A) (f : A → OrRule B) (p : Part A) (q : A → Part B) → Tells a p → ((x : A) → Tells (f x) (q x))
+    → Tells (a >>= f) (afterwards p q)
 tells_then (Err r) f p q t u =
-    tells_err r (afterwards p q) (first_left p.fails _ r (err_first p r t) (λ s h. err_nothing p r t h.0 h.1)) (λ y h. err_nothing p r t h.0 h.1)
+    tells_err r (afterwards p q) (first_left p.fails _ r (err_first p r t) (λ s h. err_nothing p r t h.0 h.1))
+    (λ y h. err_nothing p r t h.0 h.1)
 tells_then {A} (Ok x) f p q t u = record {
   given = λ y. (λ e. (x, ok_gives p x t, ((u x).given y).0 e), λ h. ((u x).given y).1 (back (λ (z : A). (q z).gives y) h.0 h.1 h.2));
   first = λ r. (λ e. first_right p.fails _ r (ok_passes p x t) (there r (((u x).first r).0 e)), λ h. ((u x).first r).1 (here r h));
-  apart = λ y r h k. (u x).apart y r (back (λ (z : A). (q z).gives y) h.0 h.1 h.2) (⊎_elim (λ i. absurd (ok_passes p x t r i)) (λ i. back (λ (z : A). (q z).fails r) i.0 i.1 i.2) k);
+  apart = λ y r h k. (u x).apart y r (back (λ (z : A). (q z).gives y) h.0 h.1 h.2)
+      (⊎_elim (λ i. absurd (ok_passes p x t r i)) (λ i. back (λ (z : A). (q z).fails r) i.0 i.1 i.2) k);
 } where
   back : (P : A → Type 0) (z : A) → p.gives z → P z → P x
   back P z g h = subst P (sym (ok_one p x t z g)) h
@@ -167,7 +118,7 @@ tells_then {A} (Ok x) f p q t u = record {
   }
 
 -- what a part gives, seen as something else
-pub tells_seen : {A B : Type 0} (f : A → B) (a : Gives A) (p : Part A) → Tells a p → Tells (gives_map f a) (seen f p)
+pub tells_seen : {A B : Type 0} (f : A → B) (a : OrRule A) (p : Part A) → Tells a p → Tells (gives_map f a) (seen f p)
 tells_seen f (Ok x) p t = tells_ok (f x) (seen f p) (x, ok_gives p x t, refl) (λ y h. ap f (ok_one p x t h.0 h.1) ∙ h.2) (ok_passes p x t)
 tells_seen f (Err r) p t = tells_err r (seen f p) (err_first p r t) (λ y h. err_nothing p r t h.0 h.1)
 
@@ -191,7 +142,11 @@ some_first A r t = (t.first r).0 refl
 
 -- the first of the rules that are one
 one_rule : (r : RuleName) (A : RuleName → Type 0) → A r → ((q : RuleName) → A q → r ≡ q) → IsFirst A r
-one_rule r A a only = record { among = a; first = λ q h. let e = only q h in subst (λ s. number_of_rule r ≤ number_of_rule s) e (omega arith) }
+one_rule r A a only = record {
+  among = a;
+  first = λ q h. let e = only q h in
+      subst (λ s. number_of_rule r ≤ number_of_rule s) e (omega arith);
+}
 
 -- no condition
 pub tells_none : TellsRule None (λ r. ⊥)
@@ -215,9 +170,11 @@ tells_both (Some r) None A B t u = holds_some (λ r. A r ⊎ B r) r (first_left 
 tells_both (Some r) (Some q) A B t u = holds_some (λ r. A r ⊎ B r) (sooner r q) (sooner_first A B r q (some_first A r t) (some_first B q u))
 
 -- a part with conditions beside it
-pub tells_also : {A : Type 0} (a : Gives A) (c : Option RuleName) (p : Part A) (B : RuleName → Type 0) → Tells a p → TellsRule c B → Tells (also a c) (under p B)
+pub tells_also : {A : Type 0} (a : OrRule A) (c : Option RuleName) (p : Part A) (B : RuleName → Type 0) → Tells a p → TellsRule c B
+    → Tells (also a c) (under p B)
 tells_also (Ok x) None p B t u =
-    tells_ok x (under p B) (ok_gives p x t, none_fails B u) (λ y h. ok_one p x t y h.0) (λ r h. ⊎_elim (ok_passes p x t r) (none_fails B u r) h)
+    tells_ok x (under p B) (ok_gives p x t, none_fails B u) (λ y h. ok_one p x t y h.0)
+    (λ r h. ⊎_elim (ok_passes p x t r) (none_fails B u r) h)
 tells_also (Ok x) (Some q) p B t u =
     tells_err q (under p B) (first_right p.fails B q (ok_passes p x t) (some_first B q u)) (λ y h. h.1 q (some_first B q u).among)
 tells_also (Err r) None p B t u =
@@ -226,6 +183,7 @@ tells_also (Err r) (Some q) p B t u =
     tells_err (sooner r q) (under p B) (sooner_first p.fails B r q (err_first p r t) (some_first B q u)) (λ y h. err_nothing p r t y h.0)
 
 -- an instruction of which a condition has to hold first
-pub tells_where : {A : Type 0} (b : Bool) (r : RuleName) (a : Gives A) (p : Part A) → Tells a p → Tells (if b then a else Err r) (only_where b r p)
+pub tells_where : {A : Type 0} (b : Bool) (r : RuleName) (a : OrRule A) (p : Part A) → Tells a p
+    → Tells (if b then a else Err r) (only_where b r p)
 tells_where true r a p t = t
 tells_where false r a p t = tells_alone (Err r)

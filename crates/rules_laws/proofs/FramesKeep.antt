@@ -1,5 +1,6 @@
 -- Pushes and pops, and making and dropping locals, keep the conditions on a state.
-use Rattle.std.proofs.Common.{◌≡◌, ℕ, zero, suc, ◌+◌, ◌-◌, ◌≤◌, Bool, true, false, not, ◌&&◌, nat_lt, nat_le, nat_eq, List, [], ◌∷◌, length, map, Option, None, Some, slice_get, slice_index_or, if◌then◌else◌, refl, sym, subst, ap, ◌∙◌, arith, pos}
+use Rattle.std.proofs.Common.{◌≡◌, ℕ, zero, suc, ◌+◌, ◌-◌, ◌≤◌, Bool, true, false, not, ◌&&◌, nat_lt, nat_le, nat_eq, List, [], ◌∷◌, length}
+use Rattle.std.proofs.Common.{map, Option, None, Some, slice_get, slice_index_or, if◌then◌else◌, refl, sym, subst, ap, ◌∙◌, arith, pos}
 use Rattle.std.specs.Prelude.{IfSome, IfOk, Result, Ok, Err, count_by, is_some, int_le, unsigned_abs}
 use Rattle.std.specs.List.{list_any}
 use Rattle.std.proofs.lemmas.Bool.{and_parts, leb-true, not-true}
@@ -29,7 +30,9 @@ use Rattle.rules_base.specs.Operands.{extra_distance}
 use Rattle.rules_base.specs.Outcomes.{also, beside, needs}
 use Rattle.rules_base.specs.Places.{locals_size}
 use Rattle.rules_base.specs.Values.{operand_value}
-use Rattle.rules_flow.specs.Frames.{below_top, drop_row, drop_to, forgotten, frame_row, has_room, is_popped, is_size, item_size, left_after, left_item, left_type, loses, make_row, pop_destination, pop_row, popped_type, push_row, slot_access, slot_type, top_type, with_item, with_left, without_top}
+use Rattle.rules_flow.specs.Frames.{below_top, drop_row, drop_to, forgotten, frame_row, has_room, is_popped, is_size, item_size, left_after}
+use Rattle.rules_flow.specs.Frames.{left_item, left_type, loses, make_row, pop_destination, pop_row, popped_type, push_row, slot_access}
+use Rattle.rules_flow.specs.Frames.{slot_type, top_type, with_item, with_left, without_top}
 use Rattle.rules_flow.specs.Successors.{falls}
 use Rattle.rules_laws.proofs.LoadsKeep.{LoadKnown, operand_value-known, status_known, signed_status-known}
 use Rattle.rules_laws.proofs.MovesKeep.{kept_dword-known, kept_natural-known, with_immediate-known}
@@ -51,7 +54,8 @@ SlotsKnown notes f items = (k : ℕ) (kind : SlotKind) (t : Ty) → slice_get it
 abbrev LocalsThere : FnNote → List Item → Type 0
 LocalsThere f items = (k : ℕ) → slice_get items k ≡ Some Locals → is_some f.locals ≡ true
 
-slots_push : (notes : Notes) (f : FnNote) (kind : SlotKind) (t : Ty) (items : List Item) → IsKnown notes f t → SlotsKnown notes f items → SlotsKnown notes f (Slot kind t ∷ items)
+slots_push : (notes : Notes) (f : FnNote) (kind : SlotKind) (t : Ty) (items : List Item) → IsKnown notes f t → SlotsKnown notes f items
+    → SlotsKnown notes f (Slot kind t ∷ items)
 slots_push notes f kind t items h g zero k u e = let P : Ty → Type 0 = IsKnown notes f in let same : t ≡ u = cc in subst P same h
 slots_push notes f kind t items h g (suc n) k u e = g n k u e
 
@@ -88,7 +92,8 @@ locals_slot items = let c = sum_by-cons (λ x. if is_slot x then 1 else 0) Local
 
 -- ---- items pushed and popped
 
-push_keeps : (notes : Notes) (f : FnNote) (s : State) (kind : SlotKind) (t : Ty) → IsState notes f s → IsKnown notes f t → count_by is_slot s.items + 1 ≤ 64 → IsState notes f (with_item s (Slot kind t))
+push_keeps : (notes : Notes) (f : FnNote) (s : State) (kind : SlotKind) (t : Ty) → IsState notes f s → IsKnown notes f t
+    → count_by is_slot s.items + 1 ≤ 64 → IsState notes f (with_item s (Slot kind t))
 push_keeps notes f s kind t h g room = record {
   few = let c = slot_slot kind t s.items in omega arith;
   eight = h.eight;
@@ -100,7 +105,8 @@ push_keeps notes f s kind t h g room = record {
   fact = h.fact;
 }
 
-make_keeps : (notes : Notes) (f : FnNote) (s : State) → IsState notes f s → is_some f.locals ≡ true → list_any is_locals s.items ≡ false → IsState notes f (with_item s Locals)
+make_keeps : (notes : Notes) (f : FnNote) (s : State) → IsState notes f s → is_some f.locals ≡ true → list_any is_locals s.items ≡ false
+    → IsState notes f (with_item s Locals)
 make_keeps notes f s h e g = record {
   few = let c = locals_slot s.items in let o = h.few in omega arith;
   eight = h.eight;
@@ -153,47 +159,62 @@ pub fall_state : (notes : Notes) (f : FnNote) (s : State) → IsState notes f s 
 fall_state notes f s h = (h, tt)
 
 -- where there is room for a slot, there are fewer than 64
-room_left : (notes : Notes) (f : FnNote) (kind : SlotKind) (items : List Item) → has_room notes f (Slot kind ty.Any) items ≡ true → count_by is_slot items + 1 ≤ 64
+room_left : (notes : Notes) (f : FnNote) (kind : SlotKind) (items : List Item) → has_room notes f (Slot kind ty.Any) items ≡ true
+    → count_by is_slot items + 1 ≤ 64
 unfolding has_room
 room_left notes f kind items e =
     let a = and_parts (nat_lt (length items) 65) _ e in
     let b = and_parts (nat_le (count_by is_slot items + 1) 64) _ a.1 in leb-true (count_by is_slot items + 1) 64 b.0
 
-pub push_row-keeps : (notes : Notes) (f : FnNote) (s : State) (kind : SlotKind) (op : Operand) (extra : Extra) → IsNotes notes → ParamsKnown notes f f.params → IsState notes f s → IfOk (push_row notes f s kind op extra) (AreStates notes f)
+pub push_row-keeps : (notes : Notes) (f : FnNote) (s : State) (kind : SlotKind) (op : Operand) (extra : Extra) → IsNotes notes
+    → ParamsKnown notes f f.params → IsState notes f s → IfOk (push_row notes f s kind op extra) (AreStates notes f)
 unfolding push_row
 push_row-keeps notes f s kind op extra n p h =
-    ok_then (λ v. LoadKnown notes f v × (has_room notes f (Slot kind ty.Any) s.items ≡ true)) (AreStates notes f) (also (operand_value notes f s (slot_access kind) op extra) (needs rule.Stack (has_room notes f (Slot kind ty.Any) s.items))) _
-    (ok_needs (LoadKnown notes f) (operand_value notes f s (slot_access kind) op extra) rule.Stack (has_room notes f (Slot kind ty.Any) s.items) (operand_value-known notes f s (slot_access kind) op extra n p h.registers))
+    ok_then (λ v. LoadKnown notes f v × (has_room notes f (Slot kind ty.Any) s.items ≡ true)) (AreStates notes f)
+    (also (operand_value notes f s (slot_access kind) op extra) (needs rule.Stack (has_room notes f (Slot kind ty.Any) s.items))) _
+    (ok_needs (LoadKnown notes f) (operand_value notes f s (slot_access kind) op extra) rule.Stack
+    (has_room notes f (Slot kind ty.Any) s.items) (operand_value-known notes f s (slot_access kind) op extra n p h.registers))
     (λ v i. ok_also (AreStates notes f) (Ok (falls (with_item s (Slot kind (slot_type kind v.ty))))) (needs rule.Thunk v.made)
-    (fall_state notes f (with_item s (Slot kind (slot_type kind v.ty))) (push_keeps notes f s kind (slot_type kind v.ty) h (slot_type-known notes f kind v.ty i.0) (room_left notes f kind s.items i.1))))
+    (fall_state notes f (with_item s (Slot kind (slot_type kind v.ty)))
+    (push_keeps notes f s kind (slot_type kind v.ty) h (slot_type-known notes f kind v.ty i.0) (room_left notes f kind s.items i.1))))
 
-top_type-known : (notes : Notes) (f : FnNote) (kind : SlotKind) (items : List Item) → SlotsKnown notes f items → IfOk (top_type kind items) (IsKnown notes f)
+top_type-known : (notes : Notes) (f : FnNote) (kind : SlotKind) (items : List Item) → SlotsKnown notes f items
+    → IfOk (top_type kind items) (IsKnown notes f)
 top_type-known notes f kind [] h = tt
-top_type-known notes f kind (Slot k t ∷ items) h = ok_choice (IsKnown notes f) (same_kind kind k && is_popped kind t) (Ok t) (Err rule.Stack) (h 0 k t refl) tt
+top_type-known notes f kind (Slot k t ∷ items) h = ok_choice (IsKnown notes f) (same_kind kind k && is_popped kind t) (Ok t)
+    (Err rule.Stack) (h 0 k t refl) tt
 top_type-known notes f kind (Locals ∷ items) h = tt
 
-popped_register : (b : Bool) (r : ℕ) (a : Result Destination RuleName) (d : Bool) → nat_eq r 0 ≡ b → IfOk a DestinationKnown → IfOk (if b then Err rule.Stack else if d then a else Ok (Register r)) DestinationKnown
+popped_register : (b : Bool) (r : ℕ) (a : Result Destination RuleName) (d : Bool) → nat_eq r 0 ≡ b → IfOk a DestinationKnown
+    → IfOk (if b then Err rule.Stack else if d then a else Ok (Register r)) DestinationKnown
 popped_register true r a d e h = tt
 popped_register false zero a d e h = absurd cc
 popped_register false (suc r) a true e h = h
 popped_register false (suc r) a false e h = omega arith
 
-pop_destination-known : (notes : Notes) (f : FnNote) (s : State) (kind : SlotKind) (op : Operand) (extra : Extra) → IfOk (pop_destination notes f s kind op extra) DestinationKnown
+pop_destination-known : (notes : Notes) (f : FnNote) (s : State) (kind : SlotKind) (op : Operand) (extra : Extra)
+    → IfOk (pop_destination notes f s kind op extra) DestinationKnown
 pop_destination-known notes f s kind op extra =
     popped_register (nat_eq op.reg 0) op.reg _ op.indirect refl
-    (ok_map (λ _. Unit {0}) DestinationKnown Memory (target_at notes f s (slot_access kind) op.reg (extra_distance extra)) (ok_anything (target_at notes f s (slot_access kind) op.reg (extra_distance extra))) (λ x h. tt))
+    (ok_map (λ _. Unit {0}) DestinationKnown Memory (target_at notes f s (slot_access kind) op.reg (extra_distance extra))
+    (ok_anything (target_at notes f s (slot_access kind) op.reg (extra_distance extra))) (λ x h. tt))
 
-popped_type-known : (notes : Notes) (f : FnNote) (op : Operand) (extra : Extra) (t : Ty) → IsKnown notes f t → IsKnown notes f (popped_type notes op extra t)
+popped_type-known : (notes : Notes) (f : FnNote) (op : Operand) (extra : Extra) (t : Ty) → IsKnown notes f t
+    → IsKnown notes f (popped_type notes op extra t)
 popped_type-known notes f op extra t h = if_known notes f op.indirect _ _ (λ e. h) (with_immediate-known notes f notes.shape t extra h)
 
-pub pop_row-keeps : (notes : Notes) (f : FnNote) (s : State) (kind : SlotKind) (op : Operand) (extra : Extra) → IsState notes f s → IfOk (pop_row notes f s kind op extra) (AreStates notes f)
+pub pop_row-keeps : (notes : Notes) (f : FnNote) (s : State) (kind : SlotKind) (op : Operand) (extra : Extra) → IsState notes f s
+    → IfOk (pop_row notes f s kind op extra) (AreStates notes f)
 unfolding pop_row
 pop_row-keeps notes f s kind op extra h =
-    ok_then (λ x. IsKnown notes f x.0 × DestinationKnown x.1) (AreStates notes f) (beside (top_type kind s.items) (pop_destination notes f s kind op extra)) _
-    (ok_beside (IsKnown notes f) DestinationKnown (top_type kind s.items) (pop_destination notes f s kind op extra) (top_type-known notes f kind s.items h.slots) (pop_destination-known notes f s kind op extra))
+    ok_then (λ x. IsKnown notes f x.0 × DestinationKnown x.1) (AreStates notes f)
+    (beside (top_type kind s.items) (pop_destination notes f s kind op extra)) _
+    (ok_beside (IsKnown notes f) DestinationKnown (top_type kind s.items) (pop_destination notes f s kind op extra)
+    (top_type-known notes f kind s.items h.slots) (pop_destination-known notes f s kind op extra))
     (λ x i. ok_then (ChangeKnown notes f) (AreStates notes f) (put x.1 (popped_type notes op extra x.0)) _
     (put_known notes f x.1 (popped_type notes op extra x.0) i.1 (popped_type-known notes f op extra x.0 i.0))
-    (λ change j. fall_state notes f (changed (without_top s) change) (changed_keeps notes f (without_top s) change (without_top-keeps notes f s h) j)))
+    (λ change j. fall_state notes f (changed (without_top s) change)
+    (changed_keeps notes f (without_top s) change (without_top-keeps notes f s h) j)))
 
 -- ---- locals made
 
@@ -203,8 +224,10 @@ if_by P false a q h g = g
 
 make_row-keeps : (notes : Notes) (f : FnNote) (s : State) (n c : ℕ) → IsState notes f s → IfOk (make_row notes f s n c) (AreStates notes f)
 make_row-keeps notes f s n c h =
-    if_by (AreStates notes f) (is_some f.locals && (not (list_any is_locals s.items) && (is_size (locals_size notes f) n c && has_room notes f Locals s.items))) _ _
-    (λ e. let p = and_parts (is_some f.locals) (not (list_any is_locals s.items) && (is_size (locals_size notes f) n c && has_room notes f Locals s.items)) e in
+    if_by (AreStates notes f) (is_some f.locals && (not (list_any is_locals s.items)
+    && (is_size (locals_size notes f) n c && has_room notes f Locals s.items))) _ _
+    (λ e. let p = and_parts (is_some f.locals) (not (list_any is_locals s.items)
+    && (is_size (locals_size notes f) n c && has_room notes f Locals s.items)) e in
     let q = and_parts (not (list_any is_locals s.items)) (is_size (locals_size notes f) n c && has_room notes f Locals s.items) p.1 in
     fall_state notes f (with_item s Locals) (make_keeps notes f s h p.0 (not-true (list_any is_locals s.items) q.0)))
     tt
@@ -236,7 +259,8 @@ later_left x items (Some left) h = record {
   slots = let c = slots_tail x items in let l = h.slots in omega arith;
 }
 
-left_if : (b : Bool) (items : List Item) (o q : Option (List Item)) → IfSome o (IsLeft items) → IfSome q (IsLeft items) → IfSome (if b then o else q) (IsLeft items)
+left_if : (b : Bool) (items : List Item) (o q : Option (List Item)) → IfSome o (IsLeft items) → IfSome q (IsLeft items)
+    → IfSome (if b then o else q) (IsLeft items)
 left_if true items o q h g = h
 left_if false items o q h g = g
 
@@ -246,7 +270,8 @@ left_after-left locals [] n c = left_if (nat_eq n 0 && nat_eq c 0) [] (Some []) 
 left_after-left locals (x ∷ items) n c =
     left_if (nat_eq n 0 && nat_eq c 0) (x ∷ items) (Some (x ∷ items)) _ (same_left (x ∷ items))
     (left_if (nat_le (item_size locals x).n n && nat_le (item_size locals x).c c) (x ∷ items) _ None
-    (later_left x items (left_after locals items (n - (item_size locals x).n) (c - (item_size locals x).c)) (left_after-left locals items (n - (item_size locals x).n) (c - (item_size locals x).c))) tt)
+    (later_left x items (left_after locals items (n - (item_size locals x).n) (c - (item_size locals x).c))
+    (left_after-left locals items (n - (item_size locals x).n) (c - (item_size locals x).c))) tt)
 
 forgotten_known : (notes : Notes) (f : FnNote) (t : Ty) → IsKnown notes f t → IsKnown notes f (forgotten t)
 forgotten_known notes f (ty.Local x) h = any_known notes f
@@ -258,7 +283,8 @@ left_type-known : (notes : Notes) (f : FnNote) (lost : Bool) (t : Ty) → IsKnow
 left_type-known notes f lost t h = if_known notes f lost _ _ (λ e. forgotten_known notes f t h) h
 
 -- the types of the registers, one by one
-pub each_register : (P : Ty → Type 0) (a b c d e g h i : Ty) → P ty.Any → P a → P b → P c → P d → P e → P g → P h → P i → (r : ℕ) → P (slice_index_or (a ∷ b ∷ c ∷ d ∷ e ∷ g ∷ h ∷ i ∷ []) r ty.Any)
+pub each_register : (P : Ty → Type 0) (a b c d e g h i : Ty) → P ty.Any → P a → P b → P c → P d → P e → P g → P h → P i → (r : ℕ)
+    → P (slice_index_or (a ∷ b ∷ c ∷ d ∷ e ∷ g ∷ h ∷ i ∷ []) r ty.Any)
 each_register P a b c d e g h i z p q r s t u v w zero = p
 each_register P a b c d e g h i z p q r s t u v w (suc zero) = q
 each_register P a b c d e g h i z p q r s t u v w (suc (suc zero)) = r
@@ -270,7 +296,8 @@ each_register P a b c d e g h i z p q r s t u v w (suc (suc (suc (suc (suc (suc 
 each_register P a b c d e g h i z p q r s t u v w (suc (suc (suc (suc (suc (suc (suc (suc n)))))))) = z
 
 -- a slot among items of which less is known was one before
-slot_before : (lost : Bool) (x : Item) (kind : SlotKind) (t : Ty) → left_item lost x ≡ Slot kind t → (u : Ty) × (x ≡ Slot kind u) × (t ≡ left_type lost u)
+slot_before : (lost : Bool) (x : Item) (kind : SlotKind) (t : Ty) → left_item lost x ≡ Slot kind t → (u : Ty) × (x ≡ Slot kind u)
+    × (t ≡ left_type lost u)
 slot_before lost (Slot k u) kind t e = (u, cc, cc)
 slot_before lost Locals kind t e = absurd cc
 
@@ -278,7 +305,8 @@ locals_before : (lost : Bool) (x : Item) → left_item lost x ≡ Locals → x �
 locals_before lost (Slot k u) e = absurd cc
 locals_before lost Locals e = refl
 
-mapped_before : (g : Item → Item) (xs : List Item) (k : ℕ) (y : Item) → slice_get (map g xs) k ≡ Some y → (x : Item) × (slice_get xs k ≡ Some x) × (g x ≡ y)
+mapped_before : (g : Item → Item) (xs : List Item) (k : ℕ) (y : Item) → slice_get (map g xs) k ≡ Some y → (x : Item)
+    × (slice_get xs k ≡ Some x) × (g x ≡ y)
 mapped_before g [] k y e = absurd cc
 mapped_before g (x ∷ xs) zero y e = (x, refl, cc)
 mapped_before g (x ∷ xs) (suc k) y e = mapped_before g xs k y e
@@ -286,26 +314,32 @@ mapped_before g (x ∷ xs) (suc k) y e = mapped_before g xs k y e
 counted_alike : (lost : Bool) (items : List Item) → count_by is_locals (map (left_item lost) items) ≡ count_by is_locals items
 counted_alike lost [] = refl
 counted_alike lost (Slot kind t ∷ items) = let r = counted_alike lost items in omega arith
-counted_alike lost (Locals ∷ items) = let r = counted_alike lost items in let c = locals_counted items in let d = locals_counted (map (left_item lost) items) in omega arith
+counted_alike lost (Locals ∷ items) = let r = counted_alike lost items in let c = locals_counted items in
+    let d = locals_counted (map (left_item lost) items) in omega arith
 
 slots_alike : (lost : Bool) (items : List Item) → count_by is_slot (map (left_item lost) items) ≡ count_by is_slot items
 slots_alike lost [] = refl
-slots_alike lost (Slot kind t ∷ items) = let r = slots_alike lost items in let c = slot_slot kind t items in let d = slot_slot kind (left_type lost t) (map (left_item lost) items) in omega arith
-slots_alike lost (Locals ∷ items) = let r = slots_alike lost items in let c = locals_slot items in let d = locals_slot (map (left_item lost) items) in omega arith
+slots_alike lost (Slot kind t ∷ items) = let r = slots_alike lost items in let c = slot_slot kind t items in
+    let d = slot_slot kind (left_type lost t) (map (left_item lost) items) in omega arith
+slots_alike lost (Locals ∷ items) = let r = slots_alike lost items in let c = locals_slot items in
+    let d = locals_slot (map (left_item lost) items) in omega arith
 
 left_any : (lost : Bool) → left_type lost ty.Any ≡ ty.Any
 left_any true = refl
 left_any false = refl
 
-with_left-keeps : (notes : Notes) (f : FnNote) (s : State) (lost : Bool) (left : List Item) → IsState notes f s → IsLeft s.items left → IsState notes f (with_left s lost left)
+with_left-keeps : (notes : Notes) (f : FnNote) (s : State) (lost : Bool) (left : List Item) → IsState notes f s → IsLeft s.items left
+    → IsState notes f (with_left s lost left)
 unfolding with_left
 with_left-keeps notes f s lost left h g = record {
   eight = refl;
   unused = ap (left_type lost) h.unused ∙ left_any lost;
   few = let c = slots_alike lost left in let l = g.slots in let o = h.few in omega arith;
   registers = each_register (IsKnown notes f) _ _ _ _ _ _ _ _ (any_known notes f)
-      (left_type-known notes f lost _ (h.registers 0)) (left_type-known notes f lost _ (h.registers 1)) (left_type-known notes f lost _ (h.registers 2)) (left_type-known notes f lost _ (h.registers 3))
-      (left_type-known notes f lost _ (h.registers 4)) (left_type-known notes f lost _ (h.registers 5)) (left_type-known notes f lost _ (h.registers 6)) (left_type-known notes f lost _ (h.registers 7));
+      (left_type-known notes f lost _ (h.registers 0)) (left_type-known notes f lost _ (h.registers 1))
+      (left_type-known notes f lost _ (h.registers 2)) (left_type-known notes f lost _ (h.registers 3))
+      (left_type-known notes f lost _ (h.registers 4)) (left_type-known notes f lost _ (h.registers 5))
+      (left_type-known notes f lost _ (h.registers 6)) (left_type-known notes f lost _ (h.registers 7));
   slots = λ k kind t e.
       let m = mapped_before (left_item lost) left k (Slot kind t) e in
       let b = slot_before lost m.0 kind t m.2 in
@@ -322,15 +356,21 @@ with_left-keeps notes f s lost left h g = record {
   fact = h.fact;
 }
 
-drop_keeps : (notes : Notes) (f : FnNote) (s : State) (o : Option (List Item)) → IsState notes f s → IfSome o (IsLeft s.items) → IfOk (drop_to s o) (AreStates notes f)
+drop_keeps : (notes : Notes) (f : FnNote) (s : State) (o : Option (List Item)) → IsState notes f s → IfSome o (IsLeft s.items)
+    → IfOk (drop_to s o) (AreStates notes f)
 drop_keeps notes f s None h g = tt
-drop_keeps notes f s (Some left) h g = fall_state notes f (with_left s (loses s.items left) left) (with_left-keeps notes f s (loses s.items left) left h g)
+drop_keeps notes f s (Some left) h g = fall_state notes f (with_left s (loses s.items left) left)
+    (with_left-keeps notes f s (loses s.items left) left h g)
 
 drop_row-keeps : (notes : Notes) (f : FnNote) (s : State) (n c : ℕ) → IsState notes f s → IfOk (drop_row notes f s n c) (AreStates notes f)
-drop_row-keeps notes f s n c h = drop_keeps notes f s (left_after (locals_size notes f) s.items n c) h (left_after-left (locals_size notes f) s.items n c)
+drop_row-keeps notes f s n c h = drop_keeps notes f s (left_after (locals_size notes f) s.items n c) h
+    (left_after-left (locals_size notes f) s.items n c)
 
-pub frame_row-keeps : (notes : Notes) (f : FnNote) (s : State) (d : Distance) → IsState notes f s → IfOk (frame_row notes f s d) (AreStates notes f)
+pub frame_row-keeps : (notes : Notes) (f : FnNote) (s : State) (d : Distance) → IsState notes f s
+    → IfOk (frame_row notes f s d) (AreStates notes f)
 unfolding frame_row
 frame_row-keeps notes f s d h =
-    ok_choice (AreStates notes f) (int_le (pos 0) d.n && int_le (pos 0) d.c) _ _ (drop_row-keeps notes f s (unsigned_abs d.n) (unsigned_abs d.c) h)
-    (ok_choice (AreStates notes f) (int_le d.n (pos 0) && int_le d.c (pos 0)) _ _ (make_row-keeps notes f s (unsigned_abs d.n) (unsigned_abs d.c) h) tt)
+    ok_choice (AreStates notes f) (int_le (pos 0) d.n && int_le (pos 0) d.c) _ _
+    (drop_row-keeps notes f s (unsigned_abs d.n) (unsigned_abs d.c) h)
+    (ok_choice (AreStates notes f) (int_le d.n (pos 0) && int_le d.c (pos 0)) _ _
+    (make_row-keeps notes f s (unsigned_abs d.n) (unsigned_abs d.c) h) tt)

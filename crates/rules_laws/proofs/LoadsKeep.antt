@@ -44,21 +44,27 @@ signed_status-known notes f = record { bounded = omega arith; names = no_fields 
 pub status_known : (notes : Notes) (f : FnNote) → IsKnown notes f (ty.Status 0)
 status_known notes f = record { bounded = omega arith; names = no_fields notes f }
 
-loaded_known : (notes : Notes) (f : FnNote) (access : Access) (cell : Cell) → IsKnownCell notes cell → IsKnown notes f (loaded_type access cell)
+loaded_known : (notes : Notes) (f : FnNote) (access : Access) (cell : Cell) → IsKnownCell notes cell
+    → IsKnown notes f (loaded_type access cell)
 loaded_known notes f Signed cell.Stat k = signed_status-known notes f
 loaded_known notes f access cell k = content_type-known notes f cell k
 
 -- ---- loads
 
-object_load-known : (notes : Notes) (f : FnNote) (access : Access) (cell : Cell) (null : Bool) → IsKnownCell notes cell → IfOk (object_load access cell null) (LoadKnown notes f)
+object_load-known : (notes : Notes) (f : FnNote) (access : Access) (cell : Cell) (null : Bool) → IsKnownCell notes cell
+    → IfOk (object_load access cell null) (LoadKnown notes f)
 object_load-known notes f access cell null k =
-    ok_choice (LoadKnown notes f) (loads access cell) _ _ (ok_choice (LoadKnown notes f) null _ _ tt (loaded_known notes f access cell k)) tt
+    ok_choice (LoadKnown notes f) (loads access cell) _ _ (ok_choice (LoadKnown notes f) null _ _ tt
+    (loaded_known notes f access cell k)) tt
 
-local_load-known : (notes : Notes) (f : FnNote) (access : Access) (cell : Cell) (written : Bool) → IsKnownCell notes cell → IfOk (local_load access cell written) (LoadKnown notes f)
+local_load-known : (notes : Notes) (f : FnNote) (access : Access) (cell : Cell) (written : Bool) → IsKnownCell notes cell
+    → IfOk (local_load access cell written) (LoadKnown notes f)
 local_load-known notes f access cell written k =
-    ok_choice (LoadKnown notes f) (loads access cell) _ _ (ok_choice (LoadKnown notes f) written _ _ (loaded_known notes f access cell k) tt) tt
+    ok_choice (LoadKnown notes f) (loads access cell) _ _ (ok_choice (LoadKnown notes f) written _ _
+    (loaded_known notes f access cell k) tt) tt
 
-parameter_load-known : (notes : Notes) (f : FnNote) (access : Access) (kind : SlotKind) (t : Ty) → IsKnown notes f t → IfOk (parameter_load access kind t) (LoadKnown notes f)
+parameter_load-known : (notes : Notes) (f : FnNote) (access : Access) (kind : SlotKind) (t : Ty) → IsKnown notes f t
+    → IfOk (parameter_load access kind t) (LoadKnown notes f)
 parameter_load-known notes f Natural N t k = k
 parameter_load-known notes f Qword Q t k = k
 parameter_load-known notes f Signed N (ty.Status g) k = signed_status-known notes f
@@ -72,7 +78,8 @@ thunk_load-known : (notes : Notes) (f : FnNote) (access : Access) (made : Bool) 
 thunk_load-known notes f Natural made = entry_known notes f
 thunk_load-known notes f _ made = tt
 
-load_place-known : (notes : Notes) (f : FnNote) (s : State) (access : Access) (p : Place) → PlaceKnown notes f p → IfOk (load_place s access p) (LoadKnown notes f)
+load_place-known : (notes : Notes) (f : FnNote) (s : State) (access : Access) (p : Place) → PlaceKnown notes f p
+    → IfOk (load_place s access p) (LoadKnown notes f)
 load_place-known notes f s access (place.Object cell null) k = object_load-known notes f access cell null k
 load_place-known notes f s access (place.Local x cell) k = local_load-known notes f access cell (has_field s.written x) k.2
 load_place-known notes f s access (place.Parameter kind t) k = parameter_load-known notes f access kind t k
@@ -83,7 +90,8 @@ abbrev pub RegistersKnown : Notes → FnNote → State → Type 0
 RegistersKnown notes f s = (r : ℕ) → IsKnown notes f (type_of s r)
 
 -- what a load gives is known
-pub load_at-known : (notes : Notes) (f : FnNote) (s : State) (access : Access) (r : ℕ) (d : Distance) → IsNotes notes → ParamsKnown notes f f.params → RegistersKnown notes f s → IfOk (load_at notes f s access r d) (LoadKnown notes f)
+pub load_at-known : (notes : Notes) (f : FnNote) (s : State) (access : Access) (r : ℕ) (d : Distance) → IsNotes notes
+    → ParamsKnown notes f f.params → RegistersKnown notes f s → IfOk (load_at notes f s access r d) (LoadKnown notes f)
 unfolding load_at
 load_at-known notes f s access r d k p h =
     ok_then (PlaceKnown notes f) (LoadKnown notes f) (or_else rule.Address (place_at notes f s r d)) _
@@ -92,12 +100,14 @@ load_at-known notes f s access r d k p h =
 
 -- ---- operands
 
-pub register_type-known : (notes : Notes) (f : FnNote) (s : State) (r : ℕ) → RegistersKnown notes f s → IfOk (register_type s r) (IsKnown notes f)
+pub register_type-known : (notes : Notes) (f : FnNote) (s : State) (r : ℕ) → RegistersKnown notes f s
+    → IfOk (register_type s r) (IsKnown notes f)
 unfolding register_type
 register_type-known notes f s r h = ok_choice (IsKnown notes f) (nat_eq r 0) _ _ tt (h r)
 
 -- the value of an operand is known
-pub operand_value-known : (notes : Notes) (f : FnNote) (s : State) (access : Access) (op : Operand) (extra : Extra) → IsNotes notes → ParamsKnown notes f f.params → RegistersKnown notes f s → IfOk (operand_value notes f s access op extra) (LoadKnown notes f)
+pub operand_value-known : (notes : Notes) (f : FnNote) (s : State) (access : Access) (op : Operand) (extra : Extra) → IsNotes notes
+    → ParamsKnown notes f f.params → RegistersKnown notes f s → IfOk (operand_value notes f s access op extra) (LoadKnown notes f)
 unfolding operand_value
 operand_value-known notes f s access op extra k p h =
     ok_choice (LoadKnown notes f) op.indirect _ _ (load_at-known notes f s access op.reg (extra_distance extra) k p h)

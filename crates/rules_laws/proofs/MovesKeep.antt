@@ -13,19 +13,22 @@ use Rattle.note_types.specs.declared.notes.FnNote.{FnNote}
 use Rattle.note_types.specs.declared.notes.Notes.{Notes}
 use Rattle.note_types.specs.declared.shape.Shape.{Shape}
 use Rattle.note_types.specs.declared.types.Ty.{Ty}
-use Rattle.note_types.specs.declared.types.Ty.TheVariants.{Any, Int, Lin, Scaled, Ptr, Local, Lent, Status, SignedStatus, Mask, Handle, Entry, Method, ThunkAt, Saved}
+use Rattle.note_types.specs.declared.types.Ty.TheVariants.{Any, Int, Lin, Scaled, Ptr, Local, Lent, Status, SignedStatus, Mask, Handle}
+use Rattle.note_types.specs.declared.types.Ty.TheVariants.{Entry, Method, ThunkAt, Saved}
 use Rattle.rules_base.specs.declared.operand.Distance.{Distance}
 use Rattle.rules_base.specs.Kept.{kept, kept_low, kept_natural, kept_signed}
 use Rattle.rules_base.specs.Operands.{counted, distance_type, with_immediate, with_index}
-use Rattle.rules_base.specs.Parts.{wrap}
 use Rattle.rules_laws.proofs.SumsKeep.{any_known, constant_known, if_known, int_known, lin_known, sum-known}
 use Rattle.note_types.specs.Known.{IsKnown}
+use Rattle.ebc_width.specs.Width.{wrap64}
 
 -- ---- moves
 
-kept_low-known : (notes : Notes) (f : FnNote) (bits : ℕ) (t : Ty) → 2 ^ bits ≤ 2 ^ 64 → IsKnown notes f t → IsKnown notes f (kept_low bits t)
+kept_low-known : (notes : Notes) (f : FnNote) (bits : ℕ) (t : Ty) → 2 ^ bits ≤ 2 ^ 64 → IsKnown notes f t
+    → IsKnown notes f (kept_low bits t)
 kept_low-known notes f bits (Int lo hi div) w h =
-    if_known notes f (nat_lt hi (2 ^ bits)) _ _ (λ e. h) (int_known notes f 0 (2 ^ bits - 1) 1 (omega arith) (omega arith) (omega arith) (omega arith))
+    if_known notes f (nat_lt hi (2 ^ bits)) _ _ (λ e. h) (int_known notes f 0 (2 ^ bits - 1) 1 (omega arith) (omega arith) (omega arith)
+    (omega arith))
 kept_low-known notes f bits _ w h = any_known notes f
 
 pub kept_natural-known : (notes : Notes) (f : FnNote) (t : Ty) → IsKnown notes f t → IsKnown notes f (kept_natural t)
@@ -62,7 +65,7 @@ kept-known notes f Natural t h = kept_natural-known notes f t h
 
 -- ---- operands
 
-pub wrap_below : (z : ℤ) → wrap z < 2 ^ 64
+pub wrap_below : (z : ℤ) → wrap64 z < 2 ^ 64
 wrap_below (pos n) = mod-lt n (omega arith)
 wrap_below (negsuc n) = omega arith
 
@@ -75,11 +78,13 @@ distance_type-known notes f d =
     if_known notes f (int_eq d.n (pos 0)) _ _ (λ e. constant_known notes f _ (wrap_below d.c))
     (if_known notes f (int_le (pos 1) d.n) _ _ (λ e. lin_known notes f d.n d.c (at_least_one_from d.n e)) (any_known notes f))
 
-pub with_immediate-known : (notes : Notes) (f : FnNote) (shapes : List Shape) (t : Ty) (extra : Extra) → IsKnown notes f t → IsKnown notes f (with_immediate shapes t extra)
+pub with_immediate-known : (notes : Notes) (f : FnNote) (shapes : List Shape) (t : Ty) (extra : Extra) → IsKnown notes f t
+    → IsKnown notes f (with_immediate shapes t extra)
 with_immediate-known notes f shapes t Nothing h = h
 with_immediate-known notes f shapes t (Imm v) h = sum-known notes f shapes t _ h (constant_known notes f _ (wrap_below v))
 with_immediate-known notes f shapes t (Idx i) h = h
 
-pub with_index-known : (notes : Notes) (f : FnNote) (shapes : List Shape) (t : Ty) (i : Option Index) → IsKnown notes f t → IsKnown notes f (with_index shapes t i)
+pub with_index-known : (notes : Notes) (f : FnNote) (shapes : List Shape) (t : Ty) (i : Option Index) → IsKnown notes f t
+    → IsKnown notes f (with_index shapes t i)
 with_index-known notes f shapes t None h = h
 with_index-known notes f shapes t (Some i) h = sum-known notes f shapes t _ h (distance_type-known notes f (counted i))

@@ -3,11 +3,12 @@ use Rattle.std.proofs.Common.{◌≡◌, Bool, true, false, Option, None, Some, 
 use Rattle.std.specs.Prelude.{IfSome, IfOk, Result, Ok, Err}
 use Rattle.note_types.specs.declared.rule.RuleName.{RuleName}
 use Rattle.rules_base.specs.Outcomes.{also, beside, gives_map, needs}
-use Rattle.rules_base.specs.Parts.{and_then, only_if}
+use Rattle.rules_base.specs.Parts.{and_then}
 use Rattle.std.specs.Option.{option_or}
-use Rattle.ebc_base.specs.Steps.{or_else, ◌>>=◌}
+use Rattle.ebc_base.specs.Steps.{or_else, ◌>>=◌, only_if}
 
-pub some_then : {A B : Type 0} (P : A → Type 0) (Q : B → Type 0) (o : Option A) (f : A → Option B) → IfSome o P → ((x : A) → P x → IfSome (f x) Q) → IfSome (and_then o f) Q
+pub some_then : {A B : Type 0} (P : A → Type 0) (Q : B → Type 0) (o : Option A) (f : A → Option B) → IfSome o P
+    → ((x : A) → P x → IfSome (f x) Q) → IfSome (and_then o f) Q
 some_then P Q None f h g = tt
 some_then P Q (Some x) f h g = g x h
 
@@ -19,23 +20,14 @@ pub some_if : {A : Type 0} (P : A → Type 0) (b : Bool) (x : A) → (b ≡ true
 some_if P true x h = h refl
 some_if P false x h = tt
 
--- a choice of two
-pub some_choice : {A : Type 0} (P : A → Type 0) (b : Bool) (o q : Option A) → IfSome o P → IfSome q P → IfSome (if b then o else q) P
-some_choice P true o q h g = h
-some_choice P false o q h g = g
-
--- a value of which nothing is said, and one of which it is said that it is there
-pub anything : {A : Type 0} (o : Option A) → IfSome o (λ _. Unit {0})
-anything None = tt
-anything (Some x) = tt
-
 pub some_is : {A : Type 0} (o : Option A) → IfSome o (λ x. o ≡ Some x)
 some_is None = tt
 some_is (Some x) = refl
 
 -- ---- values and rules that fail
 
-pub ok_then : {A B : Type 0} (P : A → Type 0) (Q : B → Type 0) (a : Result A RuleName) (f : A → Result B RuleName) → IfOk a P → ((x : A) → P x → IfOk (f x) Q) → IfOk (a >>= f) Q
+pub ok_then : {A B : Type 0} (P : A → Type 0) (Q : B → Type 0) (a : Result A RuleName) (f : A → Result B RuleName) → IfOk a P
+    → ((x : A) → P x → IfOk (f x) Q) → IfOk (a >>= f) Q
 ok_then P Q (Ok x) f h g = g x h
 ok_then P Q (Err r) f h g = tt
 
@@ -43,7 +35,8 @@ pub ok_some : {A : Type 0} (P : A → Type 0) (r : RuleName) (o : Option A) → 
 ok_some P r None h = tt
 ok_some P r (Some x) h = h
 
-pub ok_beside : {A B : Type 0} (P : A → Type 0) (Q : B → Type 0) (a : Result A RuleName) (b : Result B RuleName) → IfOk a P → IfOk b Q → IfOk (beside a b) (λ p. P p.0 × Q p.1)
+pub ok_beside : {A B : Type 0} (P : A → Type 0) (Q : B → Type 0) (a : Result A RuleName) (b : Result B RuleName) → IfOk a P → IfOk b Q
+    → IfOk (beside a b) (λ p. P p.0 × Q p.1)
 ok_beside P Q (Ok x) (Ok y) h g = (h, g)
 ok_beside P Q (Ok x) (Err q) h g = tt
 ok_beside P Q (Err r) (Ok y) h g = tt
@@ -55,7 +48,8 @@ ok_also P (Ok x) (Some q) h = tt
 ok_also P (Err r) None h = tt
 ok_also P (Err r) (Some q) h = tt
 
-pub ok_map : {A B : Type 0} (P : A → Type 0) (Q : B → Type 0) (f : A → B) (a : Result A RuleName) → IfOk a P → ((x : A) → P x → Q (f x)) → IfOk (gives_map f a) Q
+pub ok_map : {A B : Type 0} (P : A → Type 0) (Q : B → Type 0) (f : A → B) (a : Result A RuleName) → IfOk a P → ((x : A) → P x → Q (f x))
+    → IfOk (gives_map f a) Q
 ok_map P Q f (Ok x) h g = g x h
 ok_map P Q f (Err r) h g = tt
 
@@ -68,7 +62,8 @@ ok_anything (Ok x) = tt
 ok_anything (Err r) = tt
 
 -- a value with a condition beside it, which holds
-pub ok_needs : {A : Type 0} (P : A → Type 0) (a : Result A RuleName) (r : RuleName) (b : Bool) → IfOk a P → IfOk (also a (needs r b)) (λ x. P x × (b ≡ true))
+pub ok_needs : {A : Type 0} (P : A → Type 0) (a : Result A RuleName) (r : RuleName) (b : Bool) → IfOk a P
+    → IfOk (also a (needs r b)) (λ x. P x × (b ≡ true))
 ok_needs P (Ok x) r true h = (h, refl)
 ok_needs P (Ok x) r false h = tt
 ok_needs P (Err q) r true h = tt

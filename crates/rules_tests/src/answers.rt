@@ -1,12 +1,11 @@
-//! What rows are answered. Every row is tried by the call that gives new states and by the one that changes a state in
-//! place.
+//! What rows are answered.
 use crate::notes::notes;
 use crate::row::{Row, row_of};
 use crate::texts::{place, rule, same_state, state_with};
 use ebc_insn::well_formed;
 use note_types::{Notes, RuleName, State};
-use rules_data::{after_data, after_data_in_place};
-use rules_flow::{Path, Successors, after_flow, after_flow_in_place, places_ascend};
+use rules_data::after_data;
+use rules_flow::{Successors, after_flow, places_ascend};
 use std::alloc::Global;
 use std::process::Abort;
 use std::test::Fail;
@@ -102,22 +101,6 @@ fn wanted_successors(state: &State, text: &str) -> Option<Result<Successors, Rul
 
 // ---- what is answered
 
-/// The state that is kept after an instruction on data, or the rule; the state is as it was where a rule fails.
-fn kept_after_data(notes: &Notes, row: &Row) -> Option<Result<State, RuleName>> {
-    let mut state = row.state.copy();
-    if !well_formed(&row.insn) || 10 <= notes.thunk.len() {
-        return None;
-    }
-    match after_data_in_place(notes, &row.here, &mut state, &row.insn) {
-        Ok(()) => Some(Ok(state)),
-        Err(failed) => if same_state(&state, &row.state) {
-            Some(Err(failed))
-        } else {
-            None
-        },
-    }
-}
-
 /// Whether a row on data is answered so. `None` where the answer can't be read.
 fn data_answer(notes: &Notes, row: &Row, text: &str) -> Option<bool> {
     let wanted = wanted_state(&row.state, text)?;
@@ -125,35 +108,7 @@ fn data_answer(notes: &Notes, row: &Row, text: &str) -> Option<bool> {
         return None;
     }
     let answer = after_data(notes, &row.here, &row.state, &row.insn);
-    let kept = kept_after_data(notes, row)?;
-    Some(is_state(&answer, &wanted) && is_state(&kept, &wanted))
-}
-
-/// The successors, of a state that is kept.
-fn successors(path: Path, state: State) -> Successors {
-    match path {
-        Path::Falls => Successors::falls(state),
-        Path::Goes { place } => Successors::goes(place, state),
-        Path::Parts { place, there } => Successors::parts(state, place, there),
-        Path::Ends => Successors::ends(),
-    }
-}
-
-/// The successors of an instruction of control or of the stack whose state is kept, or the rule; the state is as it was
-/// where a rule fails.
-fn kept_after_flow(notes: &Notes, row: &Row) -> Option<Result<Successors, RuleName>> {
-    let mut state = row.state.copy();
-    if !well_formed(&row.insn) || 10 <= notes.thunk.len() || !places_ascend(notes) {
-        return None;
-    }
-    match after_flow_in_place(notes, &row.here, &mut state, &row.insn) {
-        Ok(path) => Some(Ok(successors(path, state))),
-        Err(failed) => if same_state(&state, &row.state) {
-            Some(Err(failed))
-        } else {
-            None
-        },
-    }
+    Some(is_state(&answer, &wanted))
 }
 
 /// Whether a row of control or of the stack is answered so. `None` where the answer can't be read.
@@ -163,8 +118,7 @@ fn flow_answer(notes: &Notes, row: &Row, text: &str) -> Option<bool> {
         return None;
     }
     let answer = after_flow(notes, &row.here, &row.state, &row.insn);
-    let kept = kept_after_flow(notes, row)?;
-    Some(are_successors(&answer, &wanted) && are_successors(&kept, &wanted))
+    Some(are_successors(&answer, &wanted))
 }
 
 /// `NAME | BYTES | WORDS | ANSWER`: whether the row is answered so. `None` where its text can't be read.
@@ -186,7 +140,7 @@ pub fn all_hold(rt: &impl Abort, alloc: Global, kind: Kind, table: &str) -> Resu
     };
     for line in table.split_terminator('\n') {
         if !line.starts_with("# ") {
-            assert_eq!(rt; holds(&notes, kind, line), Some(true), "at {line}");
+            assert!(rt; holds(&notes, kind, line) == Some(true), "at {line}");
         }
     }
     Ok(())

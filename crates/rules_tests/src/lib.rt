@@ -1,6 +1,5 @@
 //! Tests of the typing rules: tables of rows, each an instruction, the state before it, and what the rules answer. They stand
-//! in a crate of their own, above the rules, so that none of these is proved a second time with its tests. The text of notes
-//! and of rows is read here for the bench too.
+//! in a crate of their own, above the rules, so that none of these is proved a second time with its tests.
 #![tactic(auto)]
 
 #[cfg(test)]
@@ -17,8 +16,11 @@ mod comparisons;
 mod control;
 #[cfg(test)]
 mod moves;
-pub mod notes;
-pub mod row;
+#[cfg(test)]
+mod notes;
+#[cfg(test)]
+mod row;
 #[cfg(test)]
 mod stack;
-pub mod texts;
+#[cfg(test)]
+mod texts;

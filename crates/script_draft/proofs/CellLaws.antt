@@ -1,5 +1,6 @@
 -- The cells of a table that were seen, one more at a time, by what names them.
-use Rattle.std.proofs.Common.{◌≡◌, ℕ, ◌+◌, ◌<◌, ◌≤◌, List, [], ◌∷◌, ◌++◌, length, map, take, get_or, Bool, true, false, cond, refl, sym, ap, subst, ◌∙◌, arith}
+use Rattle.std.proofs.Common.{◌≡◌, ℕ, ◌+◌, ◌<◌, ◌≤◌, List, [], ◌∷◌, ◌++◌, length, map, take, get_or, Bool, true, false, cond, refl, sym, ap}
+use Rattle.std.proofs.Common.{subst, ◌∙◌, arith}
 use Rattle.std.proofs.lemmas.List.{take_more, map-append}
 use Rattle.std.specs.Prelude.{◌&&◌, nat_eq, bytes_eq, not}
 use Rattle.std.specs.List.{list_any}
@@ -34,8 +35,11 @@ to_not : (b : Bool) → not b ≡ false → b ≡ true
 to_not true e = refl
 to_not false e = sym e
 
-module _ (eq : ℕ × Bor (List ℕ) → ℕ × Bor (List ℕ) → Bool) (is_eq : (k l : ℕ × Bor (List ℕ)) → eq k l ≡ (nat_eq k.0 l.0 && bytes_eq k.1.now l.1.now)) (x : CellValueText) (y : ℕ × Bor (List ℕ)) (shows : shown_key y ≡ key_of x) where
-  seen-any : (keys : List (ℕ × Bor (List ℕ))) (cells : List CellValueText) → shown keys ≡ map key_of cells → list_any (eq y) keys ≡ list_any (same_cell x) cells
+module _ (eq : ℕ × Bor (List ℕ) → ℕ × Bor (List ℕ) → Bool) (is_eq : (k l : ℕ × Bor (List ℕ))
+    → eq k l ≡ (nat_eq k.0 l.0 && bytes_eq k.1.now l.1.now)) (x : CellValueText) (y : ℕ × Bor (List ℕ))
+    (shows : shown_key y ≡ key_of x) where
+  seen-any : (keys : List (ℕ × Bor (List ℕ))) (cells : List CellValueText) → shown keys ≡ map key_of cells
+      → list_any (eq y) keys ≡ list_any (same_cell x) cells
   seen-any [] [] h = refl
   seen-any [] (c ∷ cs) h = cc h
   seen-any (k ∷ ks) [] h = cc h
@@ -48,7 +52,8 @@ module _ (eq : ℕ × Bor (List ℕ) → ℕ × Bor (List ℕ) → Bool) (is_eq 
       let t : shown ks ≡ map key_of cs = cc h in
       rw (is_eq y k, a, b, d, e, seen-any ks cs t) refl
 
-  module _ (cells : List CellValueText) (number : ℕ) (keys : List (ℕ × Bor (List ℕ))) (within : number < length cells) (is : x ≡ get_or cells number x) (before : AreSeen cells number keys) (new : Bool) (tells : new ≡ not (list_any (eq y) keys)) where
+  module _ (cells : List CellValueText) (number : ℕ) (keys : List (ℕ × Bor (List ℕ))) (within : number < length cells)
+      (is : x ≡ get_or cells number x) (before : AreSeen cells number keys) (new : Bool) (tells : new ≡ not (list_any (eq y) keys)) where
     any-before : list_any (eq y) keys ≡ list_any (same_cell x) (take number cells)
     any-before = seen-any keys (take number cells) before.so_far
 
@@ -57,12 +62,21 @@ module _ (eq : ℕ × Bor (List ℕ) → ℕ × Bor (List ℕ) → Bool) (is_eq 
         let present : list_any (eq y) keys ≡ true = to_not _ (sym tells ∙ not_new) in
         has_repeat-some same_cell cells number x within is before.are_new (sym any-before ∙ present)
 
-    pub AreSeen-more : (after : List (ℕ × Bor (List ℕ))) → new ≡ true → after ≡ cond (list_any (eq y) keys) keys (keys ++ y ∷ []) → AreSeen cells (number + 1) after
+    pub AreSeen-more : (after : List (ℕ × Bor (List ℕ))) → new ≡ true → after ≡ cond (list_any (eq y) keys) keys (keys ++ y ∷ [])
+        → AreSeen cells (number + 1) after
     AreSeen-more after is_new added =
         let absent : list_any (eq y) keys ≡ false = from_not _ (sym tells ∙ is_new) in
         let grown : after ≡ keys ++ y ∷ [] = subst (λ b. after ≡ cond b keys (keys ++ y ∷ [])) absent added in
-        let one : take (number + 1) cells ≡ take number cells ++ x ∷ [] = take_more cells number x within ∙ ap (λ z. take number cells ++ z ∷ []) (sym is) in
+        let one : take (number + 1) cells ≡ take number cells ++ x ∷ [] = take_more cells number x within
+        ∙ ap (λ z. take number cells ++ z ∷ []) (sym is) in
         record {
-          so_far = rw (grown, one, map-append shown_key keys (y ∷ []), map-append key_of (take number cells) (x ∷ []), before.so_far, shows) refl;
+          so_far = rw (
+            grown,
+            one,
+            map-append shown_key keys (y ∷ []),
+            map-append key_of (take number cells) (x ∷ []),
+            before.so_far,
+            shows,
+          ) refl;
           are_new = AreNewBelow-next same_cell cells number x within is before.are_new (sym any-before ∙ absent);
         }

@@ -1,14 +1,14 @@
 -- A draft that was read is within what texts may have.
-use Rattle.std.proofs.Common.{◌≡◌, ℕ, zero, suc, ◌+◌, ◌-◌, ◌^◌, ◌<◌, ◌≤◌, ℤ, pos, negsuc, List, [], ◌∷◌, ◌++◌, Option, Some, None, Result, Ok, Err, refl, subst, arith}
+use Rattle.std.proofs.Common.{◌≡◌, ℕ, suc, ◌+◌, ◌-◌, ◌^◌, ◌<◌, ◌≤◌, ℤ, pos, negsuc, List, [], ◌∷◌, ◌++◌, Option, Some, None, Result, Ok}
+use Rattle.std.proofs.Common.{Err, refl, subst, arith}
 use Rattle.std.proofs.lemmas.Bool.Decides.{nat_tests}
-use Rattle.std.proofs.lemmas.Option.{none-some, option_and_then_some, same_Some}
+use Rattle.std.proofs.lemmas.Option.{option_and_then_some, same_Some}
 use Rattle.std.specs.Prelude.{IfOk, codes}
 use Rattle.toml.specs.Data.{Data, Items, Members, item, no_items}
 use Rattle.ebc_base.specs.Steps.{◌>>=◌, or_else}
 use Rattle.note_texts.specs.Grammar.{IsName}
 use Rattle.note_texts.specs.Keys.{field, natural_in, number_at, row_prefix, text_at, text_of, whole_number}
 use Rattle.note_texts.specs.Lists.{count, each, row_of, rows_of, tables_at, texts_at, texts_of}
-use Rattle.note_texts.specs.Names.{name_of}
 use Rattle.note_texts.specs.Numbers.{number_of}
 use Rattle.note_texts.specs.Outcome.{Gives}
 use Rattle.note_texts.specs.Splits.{parts_at, split_at}
@@ -19,12 +19,13 @@ use Rattle.note_types.specs.Records.{Each}
 use Rattle.note_types.specs.declared.fault.NotesEnd.{NotesEnd}
 use Rattle.note_types.specs.declared.fault.TomlFault.{TomlFault}
 use Rattle.note_types.specs.declared.fault.TomlFault.TheVariants.{Range}
-use Rattle.script_draft.specs.Drafts.{call_of, draft_of, most_items, object_of, reply_of}
+use Rattle.script_draft.specs.Drafts.{call_of, draft_of, most_items, reply_of, object_draft}
 use Rattle.script_draft.specs.Grammar.{IsWritable}
 use Rattle.script_draft.specs.Lists.{all_of}
 use Rattle.script_draft.specs.PartTexts.{callback_of, cell_value_of, out_of, values_after, write_of}
 use Rattle.script_draft.specs.Pieces.{pieces, values_of}
-use Rattle.script_draft.specs.Records.{IsArgumentDraft, IsCallDraft, IsCallbackDraft, IsCellDraft, IsDraft, IsObjectDraft, IsOutDraft, IsWriteDraft}
+use Rattle.script_draft.specs.Records.{IsArgumentDraft, IsCallDraft, IsCallbackDraft, IsCellDraft, IsDraft, IsObjectDraft, IsOutDraft}
+use Rattle.script_draft.specs.Records.{IsWriteDraft}
 use Rattle.script_draft.specs.ValueTexts.{argument_of, value_of}
 use Rattle.script_draft.specs.declared.draft.CallDraft.{CallDraft}
 use Rattle.script_draft.specs.declared.draft.ObjectDraft.{ObjectDraft}
@@ -38,11 +39,14 @@ use Rattle.script_draft.specs.declared.value.ArgumentText.{ArgumentText}
 use Rattle.script_draft.specs.declared.value.ArgumentText.TheVariants.{Out, Lent, Given}
 use Rattle.script_draft.specs.declared.value.ValueText.{ValueText}
 use Rattle.script_draft.proofs.ValueLaws.{argument_sound, value_sound}
+use Rattle.note_types.proofs.RecordLaws.{each_none, each_more}
+use Rattle.ebc_base.specs.Names.{name_of}
 
 -- ---- steps
 
 -- what a step gave, and what the next one made of it
-pub ok_step : {A B E P : Type 0} (a : Result A E) (f : A → Result B E) (y : B) → (a >>= f) ≡ Ok y → ((x : A) → a ≡ Ok x → f x ≡ Ok y → P) → P
+pub ok_step : {A B E P : Type 0} (a : Result A E) (f : A → Result B E) (y : B) → (a >>= f) ≡ Ok y → ((x : A) → a ≡ Ok x → f x ≡ Ok y → P)
+    → P
 ok_step (Ok x) f y h k = k x refl h
 ok_step (Err e) f y h k = cc h
 
@@ -54,13 +58,6 @@ found e None x h = cc h
 found e (Some y) x h = cc h
 
 -- ---- items
-
-pub each_none : {A : Type 0} (P : A → Type 0) → Each P []
-each_none P k x e = absurd (none-some x e)
-
-pub each_more : {A : Type 0} (P : A → Type 0) (x : A) (xs : List A) → P x → Each P xs → Each P (x ∷ xs)
-each_more P x xs h g zero y e = subst P (same_Some x y e) h
-each_more P x xs h g (suc k) y e = g k y e
 
 items_read : {A : Type 0} (P : A → Type 0) (read : ℕ → Data → Result A TomlFault) (i : ℕ) (ds : Items) (xs : List A)
     → ((j : ℕ) (d : Data) (x : A) → read j d ≡ Ok x → P x) → each read i ds ≡ Ok xs → Each P xs
@@ -78,7 +75,8 @@ all_given P Q gives [] ys all h e = subst (Each Q) (same_Some [] ys e) (each_non
 all_given P Q gives (x ∷ xs) ys all h e =
     option_and_then_some _ (gives x) ys e (λ y first further.
     map_some _ (all_of gives xs) ys further (λ zs rest e.
-    moved (Each Q) (y ∷ zs) ys e (each_more Q y zs (all x y (h 0 x refl) first) (all_given P Q gives xs zs all (λ k v g. h (suc k) v g) rest))))
+    moved (Each Q) (y ∷ zs) ys e (each_more Q y zs (all x y (h 0 x refl) first)
+    (all_given P Q gives xs zs all (λ k v g. h (suc k) v g) rest))))
 
 -- ---- keys
 
@@ -93,10 +91,12 @@ number_read : (prefix key : List ℕ) (low high n : ℕ) (table : Members) → n
 unfolding number_at
 number_read prefix key low high n table h = ok_step _ _ n h (λ d _ further. whole_read (prefix ++ key) low high n d further)
 
-text_read : {A : Type 0} (P : A → Type 0) (reads : List ℕ → Option A) (path : List ℕ) (d : Data) (x : A) → ((s : List ℕ) (y : A) → reads s ≡ Some y → P y) → text_of reads path d ≡ Ok x → P x
+text_read : {A : Type 0} (P : A → Type 0) (reads : List ℕ → Option A) (path : List ℕ) (d : Data) (x : A)
+    → ((s : List ℕ) (y : A) → reads s ≡ Some y → P y) → text_of reads path d ≡ Ok x → P x
 text_read P reads path d x all h = ok_step _ _ x h (λ s _ further. all s x (found (Range path) (reads s) x further))
 
-key_read : {A : Type 0} (P : A → Type 0) (reads : List ℕ → Option A) (prefix key : List ℕ) (table : Members) (x : A) → ((s : List ℕ) (y : A) → reads s ≡ Some y → P y) → text_at reads prefix key table ≡ Ok x → P x
+key_read : {A : Type 0} (P : A → Type 0) (reads : List ℕ → Option A) (prefix key : List ℕ) (table : Members) (x : A)
+    → ((s : List ℕ) (y : A) → reads s ≡ Some y → P y) → text_at reads prefix key table ≡ Ok x → P x
 unfolding text_at
 key_read P reads prefix key table x all h = ok_step _ _ x h (λ d _ further. text_read P reads (prefix ++ key) d x all further)
 
@@ -104,9 +104,11 @@ texts_read : {A : Type 0} (P : A → Type 0) (reads : List ℕ → Option A) (pr
     → ((s : List ℕ) (y : A) → reads s ≡ Some y → P y) → texts_at reads prefix key limit table ≡ Ok xs → Each P xs
 unfolding texts_at texts_of
 texts_read P reads prefix key limit table xs all h =
-    ok_step _ _ xs h (λ ds _ further. items_read P (λ i d. text_of reads (prefix ++ key) d) 0 ds xs (λ j d x e. text_read P reads (prefix ++ key) d x all e) further)
+    ok_step _ _ xs h (λ ds _ further. items_read P (λ i d. text_of reads (prefix ++ key) d) 0 ds xs
+    (λ j d x e. text_read P reads (prefix ++ key) d x all e) further)
 
-tables_read : {A : Type 0} (P : A → Type 0) (reads : List ℕ → Members → Result A TomlFault) (prefix key : List ℕ) (limit : ℕ) (table : Members) (xs : List A)
+tables_read : {A : Type 0} (P : A → Type 0) (reads : List ℕ → Members → Result A TomlFault) (prefix key : List ℕ) (limit : ℕ)
+    (table : Members) (xs : List A)
     → ((path : List ℕ) (ms : Members) (y : A) → reads path ms ≡ Ok y → P y) → tables_at reads prefix key limit table ≡ Ok xs → Each P xs
 unfolding tables_at rows_of
 tables_read P reads prefix key limit table xs all h =
@@ -177,8 +179,8 @@ write_is s w h =
 
 -- ---- tables
 
-object_is : (prefix : List ℕ) (table : Members) (o : ObjectDraft) → object_of prefix table ≡ Ok o → IsObjectDraft o
-unfolding object_of
+object_is : (prefix : List ℕ) (table : Members) (o : ObjectDraft) → object_draft prefix table ≡ Ok o → IsObjectDraft o
+unfolding object_draft
 object_is prefix table o h =
     ok_step _ _ o h (λ shape one h.
     ok_step _ _ o h (λ count two h.
@@ -221,12 +223,20 @@ call_is prefix table c h =
     ok_step _ _ c h (λ reply five h.
     ok_step _ _ c h (λ _ _ e.
     let r = reply_is prefix table reply five in
-    subst IsCallDraft (same_Ok (record { signature = signature; args = args; enter = enter; make = make; out = reply.out; write = reply.write; result = reply.result }) c e)
+    subst IsCallDraft (same_Ok (record {
+      signature = signature;
+      args = args;
+      enter = enter;
+      make = make;
+      out = reply.out;
+      write = reply.write;
+      result = reply.result;
+    }) c e)
     (record {
       signature = key_read IsName name_of prefix (codes "signature") table signature name_is one;
       args = texts_read IsArgumentDraft argument_of prefix (codes "args") most_items table args argument_is two;
       enter = texts_read IsCallbackDraft callback_of prefix (codes "enter") most_items table enter callback_is three;
-      make = tables_read IsObjectDraft object_of prefix (codes "make") most_items table make object_is four;
+      make = tables_read IsObjectDraft object_draft prefix (codes "make") most_items table make object_is four;
       out = r.out;
       write = r.write;
       result = r.result;
@@ -246,7 +256,7 @@ draft_is table d h =
     (record {
       version = is;
       args = texts_read IsWritable value_of [] (codes "args") most_items table args value_is two;
-      object = tables_read IsObjectDraft object_of [] (codes "object") most_items table object object_is three;
+      object = tables_read IsObjectDraft object_draft [] (codes "object") most_items table object object_is three;
       call = tables_read IsCallDraft call_of [] (codes "call") most_items table call call_is four;
     }))))))
 

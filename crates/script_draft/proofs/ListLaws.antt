@@ -1,5 +1,6 @@
 -- What the items of a list give, one item more at a time, as a loop does.
-use Rattle.std.proofs.Common.{◌≡◌, ℕ, ◌+◌, ◌≤◌, ◌<◌, List, [], ◌∷◌, ◌++◌, length, get_or, drop, Option, Some, None, Result, Ok, Err, refl, sym, ap, ◌∙◌, append_assoc, option_map, arith}
+use Rattle.std.proofs.Common.{◌≡◌, ℕ, ◌+◌, ◌≤◌, ◌<◌, List, [], ◌∷◌, ◌++◌, length, get_or, drop, Option, Some, None, Result, Ok, Err, refl}
+use Rattle.std.proofs.Common.{sym, ap, ◌∙◌, append_assoc, option_map, arith}
 use Rattle.std.proofs.lemmas.Grind.{common_steps}
 use Rattle.std.proofs.lemmas.List.{append-nil}
 use Rattle.note_types.specs.declared.fault.TomlFault.{TomlFault}
@@ -19,13 +20,15 @@ none_left xs i past = grind (arith, common_steps)
 -- ---- all_pass
 
 module _ {A : Type 0} (check : ℕ → A → Result (Unit {0}) TomlFault) (i : ℕ) (xs : List A) (total : Result (Unit {0}) TomlFault) where
-  pub pass-on : (x : A) → i < length xs → x ≡ get_or xs i x → check i x ≡ Ok tt → all_pass check i (drop i xs) ≡ total → all_pass check (i + 1) (drop (i + 1) xs) ≡ total
+  pub pass-on : (x : A) → i < length xs → x ≡ get_or xs i x → check i x ≡ Ok tt → all_pass check i (drop i xs) ≡ total
+      → all_pass check (i + 1) (drop (i + 1) xs) ≡ total
   unfolding all_pass
   pass-on x lt same h so_far =
       let one : all_pass check i (drop i xs) ≡ all_pass check (i + 1) (drop (i + 1) xs) = rw (from_item xs i x lt same, h) refl in
       sym one ∙ so_far
 
-  pub pass-stop : (e : NotesEnd) (x : A) → i < length xs → x ≡ get_or xs i x → Fails e (check i x) → all_pass check i (drop i xs) ≡ total → Fails e total
+  pub pass-stop : (e : NotesEnd) (x : A) → i < length xs → x ≡ get_or xs i x → Fails e (check i x) → all_pass check i (drop i xs) ≡ total
+      → Fails e total
   unfolding all_pass
   pass-stop ends.NoMemory x lt same h so_far = tt
   pass-stop (ends.Fault f) x lt same h so_far =
@@ -48,7 +51,8 @@ pub onto-none : {A : Type 0} (given : Option (List A)) → onto [] given ≡ giv
 onto-none None = refl
 onto-none (Some ys) = refl
 
-onto-one : {A : Type 0} (front : List A) (y : A) (given : Option (List A)) → onto front (option_map (λ ys. y ∷ ys) given) ≡ onto (front ++ y ∷ []) given
+onto-one : {A : Type 0} (front : List A) (y : A) (given : Option (List A))
+    → onto front (option_map (λ ys. y ∷ ys) given) ≡ onto (front ++ y ∷ []) given
 onto-one front y None = refl
 onto-one front y (Some ys) = ap Some (simp append_assoc)
 
@@ -65,7 +69,8 @@ module _ {A B : Type 0} (gives : A → Option B) (front : List B) (x : A) (xs : 
       let one : onto front (all_of gives (x ∷ xs)) ≡ None = rw h refl in
       sym one ∙ so_far
 
-pub all-done : {A B : Type 0} (gives : A → Option B) (front : List B) (total : Option (List B)) → onto front (all_of gives []) ≡ total → Some front ≡ total
+pub all-done : {A B : Type 0} (gives : A → Option B) (front : List B) (total : Option (List B)) → onto front (all_of gives []) ≡ total
+    → Some front ≡ total
 unfolding all_of
 all-done gives front total so_far =
     let one : onto front (all_of gives []) ≡ Some front = ap Some (append-nil front) in
@@ -81,19 +86,23 @@ pub after-none : {A : Type 0} (given : Result (List A) TomlFault) → after [] g
 after-none (Ok ys) = refl
 after-none (Err f) = refl
 
-after-one : {A : Type 0} (front : List A) (y : A) (given : Result (List A) TomlFault) → after front (given >>= λ ys. Ok (y ∷ ys)) ≡ after (front ++ y ∷ []) given
+after-one : {A : Type 0} (front : List A) (y : A) (given : Result (List A) TomlFault)
+    → after front (given >>= λ ys. Ok (y ∷ ys)) ≡ after (front ++ y ∷ []) given
 after-one front y (Ok ys) = ap Ok (simp append_assoc)
 after-one front y (Err f) = refl
 
-module _ {A B : Type 0} (gives : ℕ → A → Result B TomlFault) (front : List B) (i : ℕ) (xs : List A) (total : Result (List B) TomlFault) where
-  pub each-on : (x : A) (y : B) → i < length xs → x ≡ get_or xs i x → gives i x ≡ Ok y → after front (each_of gives i (drop i xs)) ≡ total → after (front ++ y ∷ []) (each_of gives (i + 1) (drop (i + 1) xs)) ≡ total
+module _ {A B : Type 0} (gives : ℕ → A → Result B TomlFault) (front : List B) (i : ℕ) (xs : List A)
+    (total : Result (List B) TomlFault) where
+  pub each-on : (x : A) (y : B) → i < length xs → x ≡ get_or xs i x → gives i x ≡ Ok y → after front (each_of gives i (drop i xs)) ≡ total
+      → after (front ++ y ∷ []) (each_of gives (i + 1) (drop (i + 1) xs)) ≡ total
   unfolding each_of
   each-on x y lt same h so_far =
       let one : after front (each_of gives i (drop i xs)) ≡ after (front ++ y ∷ []) (each_of gives (i + 1) (drop (i + 1) xs))
       = rw (from_item xs i x lt same, h) (after-one front y (each_of gives (i + 1) (drop (i + 1) xs))) in
       sym one ∙ so_far
 
-  pub each-stop : (e : NotesEnd) (x : A) → i < length xs → x ≡ get_or xs i x → Fails e (gives i x) → after front (each_of gives i (drop i xs)) ≡ total → Fails e total
+  pub each-stop : (e : NotesEnd) (x : A) → i < length xs → x ≡ get_or xs i x → Fails e (gives i x)
+      → after front (each_of gives i (drop i xs)) ≡ total → Fails e total
   unfolding each_of
   each-stop ends.NoMemory x lt same h so_far = tt
   each-stop (ends.Fault f) x lt same h so_far =

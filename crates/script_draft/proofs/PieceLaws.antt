@@ -1,13 +1,13 @@
 -- A text is cut where `, ` first stands in it, and its pieces are those that the cuts leave.
-use Rattle.std.proofs.Common.{◌≡◌, ℕ, ◌+◌, ◌≤◌, ◌<◌, ◌==◌, zero, suc, List, [], ◌∷◌, ◌++◌, length, take, drop, Option, Some, None, Bool, true, false, refl, sym, ap, subst, cond, ◌∙◌, arith, inl, inr, option_map}
-use Rattle.std.proofs.lemmas.Bool.{cases_Bool}
+use Rattle.std.proofs.Common.{◌≡◌, ℕ, ◌+◌, ◌≤◌, ◌<◌, ◌==◌, zero, suc, List, [], ◌∷◌, ◌++◌, length, take, drop, Option, Some, None, Bool}
+use Rattle.std.proofs.Common.{true, false, refl, sym, ap, subst, cond, ◌∙◌, arith, inl, inr, option_map}
+use Rattle.std.proofs.lemmas.Bool.{cases_Bool, and_parts}
 use Rattle.std.proofs.lemmas.Bool.Decides.{nat_tests}
 use Rattle.std.proofs.lemmas.Option.{same_Some}
 use Rattle.std.specs.Option.{MatchOption}
 use Rattle.std.specs.Prelude.{codes}
 use Rattle.std.specs.Str.Pattern.{FindsText, HasTextAt, LacksTextAt, SplitsAroundMatch}
 use denote.Ref.{Bor}
-use Rattle.note_texts.proofs.SplitLaws.{both_true}
 use Rattle.script_draft.specs.Lists.{all_of}
 use Rattle.script_draft.specs.Pieces.{cut, is_comma, onto_first, pieces}
 use Rattle.script_draft.specs.ValueTexts.{value_of}
@@ -15,7 +15,7 @@ use Rattle.script_draft.specs.declared.value.ValueText.{ValueText}
 use Rattle.script_draft.proofs.ListLaws.{all-done, all-on, all-stop, none_left, onto}
 
 are_comma : (b c : ℕ) → is_comma b c ≡ true → (b ≡ 44) × (c ≡ 32)
-are_comma b c h = let p = both_true (b == 44) (c == 32) h in (grind (arith, nat_tests, p.0), grind (arith, nat_tests, p.1))
+are_comma b c h = let p = and_parts (b == 44) (c == 32) h in (grind (arith, nat_tests, p.0), grind (arith, nat_tests, p.1))
 
 no_comma : (b c : ℕ) (bs : List ℕ) → LacksTextAt (codes ", ") (b ∷ c ∷ bs) 0 → is_comma b c ≡ false
 no_comma b c bs lacks = elim (cases_Bool (is_comma b c)) [
@@ -36,12 +36,14 @@ cut-none (b ∷ c ∷ bs) lacks =
 too_short : {A : Type 0} (x y : ℕ) (bs cs : List ℕ) → length bs ≤ 1 → bs ≡ x ∷ y ∷ cs → A
 too_short x y bs cs short same = let e : length bs ≡ length (x ∷ y ∷ cs) = ap length same in absurd (omega (arith, e))
 
-pub cut-some : (s : List ℕ) (i : ℕ) (after : List ℕ) → ((k : ℕ) → k < i → LacksTextAt (codes ", ") s k) → drop i s ≡ codes ", " ++ after → cut s ≡ Some (take i s, after)
+pub cut-some : (s : List ℕ) (i : ℕ) (after : List ℕ) → ((k : ℕ) → k < i → LacksTextAt (codes ", ") s k) → drop i s ≡ codes ", " ++ after
+    → cut s ≡ Some (take i s, after)
 unfolding cut
 cut-some [] zero after lacks here = too_short 44 32 [] after (omega arith) here
 cut-some [] (suc i) after lacks here = too_short 44 32 [] after (omega arith) here
 cut-some (b ∷ []) zero after lacks here = too_short 44 32 (b ∷ []) after (omega arith) here
-cut-some (b ∷ []) (suc i) after lacks here = let e : drop i [] ≡ [] = none_left [] i (omega arith) in too_short 44 32 [] after (omega arith) (sym e ∙ here)
+cut-some (b ∷ []) (suc i) after lacks here = let e : drop i [] ≡ [] = none_left [] i (omega arith) in
+    too_short 44 32 [] after (omega arith) (sym e ∙ here)
 cut-some (b ∷ c ∷ bs) zero after lacks here = let P : List ℕ → Type 0 = λ z. cut z ≡ Some ([], after) in subst P (sym here) refl
 cut-some (b ∷ c ∷ bs) (suc i) after lacks here =
     let gone : is_comma b c ≡ false = no_comma b c bs (lacks 0 (omega arith)) in
@@ -49,7 +51,8 @@ cut-some (b ∷ c ∷ bs) (suc i) after lacks here =
     rw (gone, rest) refl
 
 -- what a search for `, ` finds
-pub cut-found : (s : List ℕ) (parts : Option (Bor (List ℕ) × Bor (List ℕ))) → MatchOption parts (FindsText (codes ", ") s None) (λ p. SplitsAroundMatch (FindsText (codes ", ")) s p.0.now p.1.now)
+pub cut-found : (s : List ℕ) (parts : Option (Bor (List ℕ) × Bor (List ℕ)))
+    → MatchOption parts (FindsText (codes ", ") s None) (λ p. SplitsAroundMatch (FindsText (codes ", ")) s p.0.now p.1.now)
     → option_map (λ p. (p.0.now, p.1.now)) parts ≡ cut s
 cut-found s None lacks = sym (cut-none s lacks)
 cut-found s (Some p) found =
@@ -64,7 +67,8 @@ abbrev pub by_cut : List ℕ → Option (List ℕ × List ℕ) → List (List �
 by_cut s None = s ∷ []
 by_cut s (Some parts) = parts.0 ∷ pieces parts.1
 
-onto_cut : (b : ℕ) (s : List ℕ) (parts : Option (List ℕ × List ℕ)) → onto_first b (by_cut s parts) ≡ by_cut (b ∷ s) (option_map (λ p. (b ∷ p.0, p.1)) parts)
+onto_cut : (b : ℕ) (s : List ℕ) (parts : Option (List ℕ × List ℕ))
+    → onto_first b (by_cut s parts) ≡ by_cut (b ∷ s) (option_map (λ p. (b ∷ p.0, p.1)) parts)
 onto_cut b s None = refl
 onto_cut b s (Some parts) = refl
 
@@ -78,7 +82,8 @@ pieces-cut (b ∷ c ∷ bs) = elim (cases_Bool (is_comma b c)) [
 ]
 
 -- what follows a cut is shorter
-shorter-after : (b n : ℕ) (o : Option (List ℕ × List ℕ)) (p : List ℕ × List ℕ) → ((q : List ℕ × List ℕ) → o ≡ Some q → length q.1 < n) → option_map (λ q. (b ∷ q.0, q.1)) o ≡ Some p → length p.1 < n + 1
+shorter-after : (b n : ℕ) (o : Option (List ℕ × List ℕ)) (p : List ℕ × List ℕ) → ((q : List ℕ × List ℕ) → o ≡ Some q → length q.1 < n)
+    → option_map (λ q. (b ∷ q.0, q.1)) o ≡ Some p → length p.1 < n + 1
 shorter-after b n None p shorter e = cc e
 shorter-after b n (Some q) p shorter e =
     let same : q.1 ≡ p.1 = ap (λ (z : List ℕ × List ℕ). z.1) (same_Some _ _ e) in
@@ -106,7 +111,8 @@ cut-shorter (b ∷ c ∷ bs) p e =
 
 -- ---- the values of the pieces, one more at a time
 
-module _ (front : List ValueText) (rest first after : List ℕ) (total : Option (List ValueText)) (here : cut rest ≡ Some (first, after)) (so_far : onto front (all_of value_of (pieces rest)) ≡ total) where
+module _ (front : List ValueText) (rest first after : List ℕ) (total : Option (List ValueText)) (here : cut rest ≡ Some (first, after))
+    (so_far : onto front (all_of value_of (pieces rest)) ≡ total) where
   in_two : pieces rest ≡ first ∷ pieces after
   in_two = pieces-cut rest ∙ ap (by_cut rest) here
 
@@ -119,7 +125,8 @@ module _ (front : List ValueText) (rest first after : List ℕ) (total : Option 
   pub values-stop : value_of first ≡ None → None ≡ total
   values-stop h = all-stop value_of front first (pieces after) total h so_far_in_two
 
-module _ (front : List ValueText) (rest : List ℕ) (total : Option (List ValueText)) (here : cut rest ≡ None) (so_far : onto front (all_of value_of (pieces rest)) ≡ total) where
+module _ (front : List ValueText) (rest : List ℕ) (total : Option (List ValueText)) (here : cut rest ≡ None)
+    (so_far : onto front (all_of value_of (pieces rest)) ≡ total) where
   in_one : pieces rest ≡ rest ∷ []
   in_one = pieces-cut rest ∙ ap (by_cut rest) here
 

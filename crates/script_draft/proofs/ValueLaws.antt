@@ -18,7 +18,8 @@ use Rattle.script_draft.specs.declared.value.ValueText.TheVariants.{Int, Size, P
 
 -- ---- what is read is written so
 
-size_sound : (rest : List ℕ) (p : ℕ × ℕ) → size_of rest ≡ Some p → (rest ≡ decimal p.0 ++ (codes "," ++ decimal p.1)) × (p.0 ≤ 2 ^ 20) × (p.1 ≤ 2 ^ 20)
+size_sound : (rest : List ℕ) (p : ℕ × ℕ) → size_of rest ≡ Some p → (rest ≡ decimal p.0 ++ (codes "," ++ decimal p.1)) × (p.0 ≤ 2 ^ 20)
+    × (p.1 ≤ 2 ^ 20)
 unfolding size_of
 size_sound rest p h = elim (split_cases 44 rest) [
   | inl parts ↦
@@ -28,7 +29,8 @@ size_sound rest p h = elim (split_cases 44 rest) [
       let a = number_in-sound 0 (2 ^ 20) parts.before n units in
       let b = number_in-sound 0 (2 ^ 20) parts.after c bytes in
       let whole : rest ≡ decimal n ++ (codes "," ++ decimal c) = parts.whole ∙ (rw (a.0, b.0) refl) in
-      moved (λ (p : ℕ × ℕ). (rest ≡ decimal p.0 ++ (codes "," ++ decimal p.1)) × (p.0 ≤ 2 ^ 20) × (p.1 ≤ 2 ^ 20)) (n, c) p e (whole, a.2, b.2)))
+      moved (λ (p : ℕ × ℕ). (rest ≡ decimal p.0 ++ (codes "," ++ decimal p.1)) × (p.0 ≤ 2 ^ 20) × (p.1 ≤ 2 ^ 20)) (n, c) p e
+      (whole, a.2, b.2)))
   | inr none ↦ none_read p (rw none.0 at h)
 ]
 
@@ -119,7 +121,8 @@ instance_complete o i a b =
     let split = split_at-mark 32 (decimal o) (decimal i) (decimal_lacks 32 o refl a) in
     rw (split, number_of-decimal o a, number_of-decimal i b) refl
 
-status_complete : (kind : List ℕ) (code : ℕ) → lacks 32 kind ≡ true → code < 2 ^ 31 → status_of (kind ++ 32 ∷ decimal code) ≡ status_by kind code
+status_complete : (kind : List ℕ) (code : ℕ) → lacks 32 kind ≡ true → code < 2 ^ 31
+    → status_of (kind ++ 32 ∷ decimal code) ≡ status_by kind code
 unfolding status_of
 status_complete kind code mark small =
     let a = number_in-complete 0 (2 ^ 31 - 1) (decimal code) code (omega arith) (refl, omega arith, omega arith) in
@@ -139,8 +142,10 @@ value_complete (Int n) h = marked_again (codes "int") (decimal n) refl ∙ rw (n
 value_complete (Size n c) h = marked_again (codes "size") (decimal n ++ (codes "," ++ decimal c)) refl ∙ rw (size_complete n c h.0 h.1) refl
 value_complete (Ptr o i) h = marked_again (codes "ptr") (decimal o ++ (codes " " ++ decimal i)) refl ∙ instance_complete o i h.0 h.1
 value_complete Null h = plain_again (codes "null") refl
-value_complete (StatusOk code) h = marked_again (codes "status") (codes "ok " ++ decimal code) refl ∙ status_complete (codes "ok") code refl h
-value_complete (StatusError code) h = marked_again (codes "status") (codes "error " ++ decimal code) refl ∙ status_complete (codes "error") code refl h
+value_complete (StatusOk code) h = marked_again (codes "status") (codes "ok " ++ decimal code) refl
+    ∙ status_complete (codes "ok") code refl h
+value_complete (StatusError code) h = marked_again (codes "status") (codes "error " ++ decimal code) refl
+    ∙ status_complete (codes "error") code refl h
 value_complete (Handle k) h =
     let a = number_in-complete 0 1023 (decimal k) k (omega arith) (refl, omega arith, omega arith) in
     marked_again (codes "handle") (decimal k) refl ∙ rw a refl
@@ -175,7 +180,8 @@ plain_given : (word : List ℕ) → lacks 32 word ≡ true → bytes_eq word (co
 unfolding argument_of
 plain_given word mark other = rw (parts_at-none 32 word mark) (rw other refl)
 
-marked_given : (word rest : List ℕ) → lacks 32 word ≡ true → bytes_eq word (codes "lent") ≡ false → argument_of (word ++ 32 ∷ rest) ≡ given_of (word ++ 32 ∷ rest)
+marked_given : (word rest : List ℕ) → lacks 32 word ≡ true → bytes_eq word (codes "lent") ≡ false
+    → argument_of (word ++ 32 ∷ rest) ≡ given_of (word ++ 32 ∷ rest)
 unfolding argument_of
 marked_given word rest mark other = rw (parts_at-mark 32 word rest mark) (rw other refl)
 

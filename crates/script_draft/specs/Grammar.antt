@@ -1,4 +1,5 @@
--- The grammar of values and arguments: what each text is made of, by what it stands for. docs/SCRIPTS.md, "Texts".
+-- For proofs: the grammar of values and arguments: what each text is made of, by what it stands for. docs/SCRIPTS.md,
+-- "Texts".
 use Rattle.std.specs.Prelude.{◌≡◌, ℕ, ◌^◌, ◌<◌, ◌≤◌, List, ◌++◌, codes, ⊤}
 use Rattle.std.specs.Fmt.{decimal}
 use Rattle.note_texts.specs.Grammar.{IsName}

@@ -1,4 +1,5 @@
--- What the items of a list give, one after the other: the first that fails decides. docs/SCRIPTS.md, "What the reader refuses".
+-- Meaning: what the items of a list give, one after the other: the first that fails decides. docs/SCRIPTS.md, "What the
+-- reader refuses".
 use Rattle.std.specs.Prelude.{ℕ, ◌+◌, List, [], ◌∷◌, Option, Some, None, Result, Ok, option_map, option_and_then}
 use Rattle.note_types.specs.declared.fault.TomlFault.{TomlFault}
 use Rattle.ebc_base.specs.Steps.{◌>>=◌}

@@ -1,4 +1,4 @@
--- Cells that stand twice in a table of a script. docs/SCRIPTS.md has it in words.
+-- Meaning: Cells that stand twice in a table of a script. docs/SCRIPTS.md has it in words.
 use Rattle.std.specs.Prelude.{ℕ, List, ◌++◌, Bool, not, ◌&&◌, Result, bytes_eq, codes, nat_eq}
 use Rattle.note_types.specs.declared.fault.TomlFault.{TomlFault}
 use Rattle.note_types.specs.declared.fault.TomlFault.TheVariants.{Twice}

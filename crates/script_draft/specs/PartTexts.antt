@@ -1,6 +1,5 @@
--- The texts of what cells hold and get, and of functions that are entered. docs/SCRIPTS.md lists them.
+-- Meaning: the texts of what cells hold and get, and of functions that are entered. docs/SCRIPTS.md lists them.
 use Rattle.std.specs.Prelude.{ℕ, List, [], Option, Some, None}
-use Rattle.note_texts.specs.Names.{name_of}
 use Rattle.note_texts.specs.Numbers.{number_of}
 use Rattle.note_texts.specs.Splits.{◌>>=◌, parts_at, split_at}
 use Rattle.script_draft.specs.Pieces.{values_of}
@@ -10,6 +9,7 @@ use Rattle.script_draft.specs.declared.parts.CellValueText.{CellValueText}
 use Rattle.script_draft.specs.declared.parts.OutText.{OutText}
 use Rattle.script_draft.specs.declared.parts.WriteText.{WriteText}
 use Rattle.script_draft.specs.declared.value.ValueText.{ValueText}
+use Rattle.ebc_base.specs.Names.{name_of}
 
 -- `INSTANCE FIELD VALUE`
 unfoldable pub cell_value_of : List ℕ → Option CellValueText

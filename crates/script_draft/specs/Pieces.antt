@@ -1,4 +1,4 @@
--- Values in a row, with `, ` between them. docs/SCRIPTS.md, "Texts".
+-- Meaning: values in a row, with `, ` between them. docs/SCRIPTS.md, "Texts".
 use Rattle.std.specs.Prelude.{ℕ, List, [], ◌∷◌, Option, Some, None, Bool, false, ◌==◌, ◌&&◌, if◌then◌else◌, option_map}
 use Rattle.script_draft.specs.Lists.{all_of}
 use Rattle.script_draft.specs.ValueTexts.{value_of}

@@ -1,4 +1,5 @@
--- What holds of a draft that was read: its numbers, names and values are within what texts may have. docs/SCRIPTS.md, "Texts".
+-- For proofs: what holds of a draft that was read: its numbers, names and values are within what texts may have.
+-- docs/SCRIPTS.md, "Texts".
 use Rattle.std.specs.Prelude.{◌≡◌, ◌^◌, ◌<◌, ◌≤◌, ⊤}
 use Rattle.note_texts.specs.Grammar.{IsName}
 use Rattle.note_types.specs.Records.{Each}

@@ -1,6 +1,5 @@
--- The texts of values and arguments. docs/SCRIPTS.md lists them.
+-- Meaning: the texts of values and arguments. docs/SCRIPTS.md lists them.
 use Rattle.std.specs.Prelude.{ℕ, ◌-◌, ◌^◌, List, Option, Some, None, bytes_eq, codes, if◌then◌else◌, option_map}
-use Rattle.note_texts.specs.Names.{name_of}
 use Rattle.note_texts.specs.Numbers.{number_in, number_of}
 use Rattle.note_texts.specs.Ranges.{size_of}
 use Rattle.note_texts.specs.Splits.{◌>>=◌, parts_at, split_at}
@@ -8,6 +7,7 @@ use Rattle.script_draft.specs.declared.value.ArgumentText.{ArgumentText}
 use Rattle.script_draft.specs.declared.value.ArgumentText.TheVariants.{Out, Lent, Given}
 use Rattle.script_draft.specs.declared.value.ValueText.{ValueText}
 use Rattle.script_draft.specs.declared.value.ValueText.TheVariants.{Int, Size, Ptr, Null, StatusOk, StatusError, Handle, Entry, Method, Any}
+use Rattle.ebc_base.specs.Names.{name_of}
 
 -- a value that is one word
 unfoldable pub plain_value : List ℕ → Option ValueText
@@ -66,7 +66,8 @@ given_of text = option_map (λ value. Given value) (value_of text)
 -- the parts of an argument: a word, and what follows a space
 abbrev pub argument_by : List ℕ → List ℕ × Option (List ℕ) → Option ArgumentText
 argument_by text (word, None) = if bytes_eq word (codes "out") then Some Out else given_of text
-argument_by text (word, Some rest) = if bytes_eq word (codes "lent") then option_map (λ value. Lent value) (value_of rest) else given_of text
+argument_by text (word, Some rest) = if bytes_eq word (codes "lent") then option_map (λ value. Lent value) (value_of rest)
+    else given_of text
 
 -- ARGUMENT
 unfoldable pub argument_of : List ℕ → Option ArgumentText

@@ -3,7 +3,7 @@ ghost use Rattle.std.specs.Prelude.{◌≡◌, IfOk};
 ghost use Rattle.toml.specs.View.{table_view};
 ghost use Rattle.note_texts.specs.Keys.{only_keys};
 ghost use Rattle.note_texts.specs.Outcome.{Gives};
-ghost use Rattle.script_draft.specs.Drafts.{call_keys, call_of, draft_of, object_of, reply_of};
+ghost use Rattle.script_draft.specs.Drafts.{call_keys, call_of, draft_of, reply_of, object_draft};
 ghost use Rattle.script_draft.specs.Records.{IsDraft};
 
 use crate::draft::{CallDraft, ObjectDraft, ScriptDraft};
@@ -18,9 +18,9 @@ use toml::Table;
 const MAX_ITEMS: usize = 4_294_967_295;
 
 impl FromTable for ObjectDraft {
-    ghost reads_as = { object_of };
+    ghost reads_as = { object_draft };
 
-    #[tactic(auto, unfolding(crate::specs::Drafts::object_of))]
+    #[tactic(auto, unfolding(crate::specs::Drafts::object_draft))]
     fn from_table(alloc: Global, row: Row) -> Result<Self, NotesEnd> {
         let shape = row.text::<Name>(alloc, "shape")?;
         let count = row.number(alloc, "count", 1, u64::MAX)?;

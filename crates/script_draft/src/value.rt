@@ -1,13 +1,13 @@
 //! The texts of values and arguments.
 ghost use Rattle.std.specs.Prelude.{◌≡◌, ◌-◌, ◌^◌, IfOk, Some, None, option_map};
 ghost use Rattle.note_texts.specs.Grammar.{ReadsJust};
-ghost use Rattle.note_texts.specs.Names.{name_of};
 ghost use Rattle.note_texts.specs.Numbers.{number_in, number_of};
 ghost use Rattle.note_texts.specs.Ranges.{size_of};
 ghost use Rattle.script_draft.specs.Grammar.{IsArgumentText, IsValueText};
 ghost use Rattle.script_draft.specs.ValueTexts.{argument_of, instance_of, marked_value, plain_value, status_of, value_of};
 ghost use Rattle.script_draft.specs.declared.value.ArgumentText.TheVariants.{Given, Lent};
 ghost use Rattle.script_draft.specs.declared.value.ValueText.TheVariants.{Entry, Handle, Int, Method, Size};
+ghost use Rattle.ebc_base.specs.Names.{name_of};
 
 use note_texts::{FromText, number_in, number_of, parts_at, size_of, split_at};
 use note_types::Name;

@@ -1,5 +1,5 @@
 -- What the neutral machine reads at a place is decoded there.
-use Rattle.std.proofs.Common.{◌≡◌, ℕ, zero, suc, ◌+◌, ◌-◌, ◌<◌, ◌≤◌, ◌∷◌, length, take, Some, Result, Ok, Err, refl, sym, ap, ◌∙◌, subst, arith}
+use Rattle.std.proofs.Common.{◌≡◌, ℕ, zero, suc, ◌+◌, ◌-◌, ◌<◌, ◌≤◌, ◌∷◌, length, Some, Result, Ok, Err, sym, ap, ◌∙◌, subst, arith}
 use Rattle.std.proofs.lemmas.Option.{same_Some, none-some}
 use Rattle.ebc_decode.specs.Reading.{read}
 use Rattle.ebc_decode.specs.declared.DecodeFault.{DecodeFault}
@@ -8,10 +8,10 @@ use Rattle.ebc_decode.proofs.Numbers.{IsBytes}
 use Rattle.ebc_insn.specs.Spelling.{spelling}
 use Rattle.ebc_insn.specs.declared.Insn.{Insn}
 use Rattle.ebc_width.specs.Bytes.{window}
-use Rattle.ebc_width.proofs.ByteLaws.{length-window}
-use Rattle.rules_data.specs.Images.{image_byte}
-use Rattle.whole_runs.specs.NeutralImage.{instruction_at, or_none}
+use Rattle.ebc_width.proofs.ByteLaws.{length-window, take-window}
+use Rattle.neutral_machine.specs.NeutralImage.{instruction_at, or_none}
 use Rattle.step_sound.specs.Loaded.{ReadIsDecoded}
+use Rattle.pe_image.specs.Mapped.{image_byte}
 
 -- ---- windows
 
@@ -20,12 +20,6 @@ unfolding window
 window_bytes b small a zero i = omega arith
 window_bytes b small a (suc n) zero = small a
 window_bytes b small a (suc n) (suc i) = window_bytes b small (a + 1) n i
-
-take-window : (b : ℕ → ℕ) (a n m : ℕ) → n ≤ m → take n (window b a m) ≡ window b a n
-unfolding window
-take-window b a zero m h = refl
-take-window b a (suc n) zero h = absurd (omega (arith, h))
-take-window b a (suc n) (suc m) h = ap (λ ys. b a ∷ ys) (take-window b (a + 1) n m (omega (arith, h)))
 
 -- ---- what is read
 

@@ -1,6 +1,7 @@
 -- The places of functions are even, and so are those of points.
 use Rattle.std.specs.List.{find}
-use Rattle.std.proofs.Common.{◌≡◌, ◌⊎◌, ℕ, zero, suc, ◌-◌, ◌%◌, ◌<◌, ◌≤◌, Bool, true, false, if◌then◌else◌, nat_lt, nat_le, List, [], ◌∷◌, length, Some, refl, sym, ap, ◌∙◌, subst, arith, inl, inr, ⊎_elim, slice_get}
+use Rattle.std.proofs.Common.{◌≡◌, ◌⊎◌, ℕ, zero, suc, ◌-◌, ◌%◌, ◌<◌, ◌≤◌, Bool, true, false, if◌then◌else◌, nat_lt, nat_le, List, [], ◌∷◌}
+use Rattle.std.proofs.Common.{length, Some, refl, sym, ap, ◌∙◌, subst, arith, inl, inr, ⊎_elim, slice_get}
 use Rattle.std.proofs.lemmas.Bool.{cases_lt, and_parts, leb-true, ltb-true}
 use Rattle.std.proofs.lemmas.Option.{none-some, same_Some}
 use Rattle.std.proofs.lemmas.List.{length-append}
@@ -13,8 +14,8 @@ use Rattle.note_types.specs.declared.notes.FnNote.{FnNote}
 use Rattle.note_types.specs.declared.notes.Notes.{Notes}
 use Rattle.note_types.specs.declared.notes.Point.{Point}
 use Rattle.pe_image.specs.declared.image.Image.{Image}
-use Rattle.rules_data.specs.Images.{FunctionHolds}
-use Rattle.width_checker.specs.Places.{Leads, IsPlaceOf}
+use Rattle.rules_image.specs.Images.{FunctionHolds}
+use Rattle.rules_image.specs.Places.{Leads, IsPlaceOf}
 use Rattle.width_checker.proofs.Leading.{decode_later}
 use Rattle.step_sound.specs.PlaceStates.{PlacesHold}
 
@@ -41,25 +42,36 @@ pub find_some : {A : Type 0} (t : A → Bool) (xs : List A) (x : A) → find t x
 find_some t [] x e = absurd (none-some x e)
 find_some t (y ∷ ys) x e = go (t y) refl e (find_some t ys x)
   where
-    go : (b : Bool) → t y ≡ b → (if b then Some y else find t ys) ≡ Some x → (find t ys ≡ Some x → (k : ℕ) × (slice_get ys k ≡ Some x) × (t x ≡ true)) → (k : ℕ) × (slice_get (y ∷ ys) k ≡ Some x) × (t x ≡ true)
+    go : (b : Bool) → t y ≡ b → (if b then Some y else find t ys) ≡ Some x
+        → (find t ys ≡ Some x → (k : ℕ) × (slice_get ys k ≡ Some x) × (t x ≡ true)) → (k : ℕ) × (slice_get (y ∷ ys) k ≡ Some x)
+        × (t x ≡ true)
     go true b e more = let same : y ≡ x = same_Some y x e in (0, e, ap t (sym same) ∙ b)
     go false b e more = let r = more e in (suc r.0, r.1, r.2)
 
-module _ (image : Image) (notes : Notes) (ok : IsNotes notes) (functions : (k : ℕ) → FunctionHolds image notes k) (places : PlacesHold image notes) where
+module _ (image : Image) (notes : Notes) (ok : IsNotes notes) (functions : (k : ℕ) → FunctionHolds image notes k)
+    (places : PlacesHold image notes) where
   -- ---- where points stand
 
   -- a point of a function's code is at a place of it
-  pub point_place : (func : ℕ) (f : FnNote) (p : Point) (k : ℕ) → slice_get notes.function func ≡ Some f → slice_get notes.point k ≡ Some p → f.place ≤ p.place → p.place < f.end → IsPlaceOf image f p.place
+  pub point_place : (func : ℕ) (f : FnNote) (p : Point) (k : ℕ) → slice_get notes.function func ≡ Some f → slice_get notes.point k ≡ Some p
+      → f.place ≤ p.place → p.place < f.end → IsPlaceOf image f p.place
   unfolding Leads
   point_place func f p k there at low high = walk (p.place - f.place) 0 f.place refl low (omega arith)
     where
       go : (n count q : ℕ) → Leads image f count q → p.place - q ≤ suc n → (q < p.place) ⊎ (p.place ≤ q) → q ≤ p.place
-          → ((count' r : ℕ) → Leads image f count' r → r ≤ p.place → p.place - r ≤ n → IsPlaceOf image f p.place) → IsPlaceOf image f p.place
+          → ((count' r : ℕ) → Leads image f count' r → r ≤ p.place → p.place - r ≤ n → IsPlaceOf image f p.place)
+          → IsPlaceOf image f p.place
       go n count q leads m (inl less) l more =
           let r = places func f there q (count, leads) in
           let later = decode_later image f q r.next r.insn r.decoded in
           let past : r.next ≤ p.place = ⊎_elim (λ h. absurd (omega (arith, h, less))) (λ h. h) (r.point k p at) in
-          more (suc count) r.next (record { last = q; reached = leads; insn = r.insn; decode = r.decoded; within = omega (arith, past, high) }) past (omega (arith, m, later))
+          more (suc count) r.next (record {
+            last = q;
+            reached = leads;
+            insn = r.insn;
+            decode = r.decoded;
+            within = omega (arith, past, high);
+          }) past (omega (arith, m, later))
       go n count q leads m (inr same) l more = subst (IsPlaceOf image f) (let e : q ≡ p.place = omega (arith, same, l) in e) (count, leads)
 
       walk : (n count q : ℕ) → Leads image f count q → q ≤ p.place → p.place - q ≤ n → IsPlaceOf image f p.place
@@ -67,7 +79,8 @@ module _ (image : Image) (notes : Notes) (ok : IsNotes notes) (functions : (k : 
       walk (suc n) count q leads l m = go n count q leads m (cases_lt q p.place) l (λ c r ls h g. walk n c r ls h g)
 
   -- places are even, and inside the function
-  pub place_even : (func : ℕ) (f : FnNote) (count place : ℕ) → slice_get notes.function func ≡ Some f → Leads image f count place → (place % 2 ≡ 0) × (f.place ≤ place) × (place < f.end)
+  pub place_even : (func : ℕ) (f : FnNote) (count place : ℕ) → slice_get notes.function func ≡ Some f → Leads image f count place
+      → (place % 2 ≡ 0) × (f.place ≤ place) × (place < f.end)
   unfolding Leads
   place_even func f zero place there e =
       let h = functions func f there in

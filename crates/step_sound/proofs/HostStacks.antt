@@ -3,11 +3,11 @@ use Rattle.std.proofs.Common.{◌≡◌, ℕ, zero, suc, ◌+◌, ◌≤◌, Lis
 use Rattle.std.proofs.lemmas.Option.{same_Some, none-some}
 use Rattle.ebc_width.specs.Width.{IsWidth}
 use Rattle.note_types.specs.declared.notes.FnNote.{FnNote}
-use Rattle.run_types.specs.Config.{FunctionFrame, Frame, Function, Host, HostFrame}
-use Rattle.run_types.specs.Layout.{height}
-use Rattle.run_types.specs.Memory.{Memory}
-use Rattle.run_types.specs.Placements.{frame_bytes, pair_at, params_bytes, return_cell}
-use Rattle.run_types.specs.World.{World}
+use Rattle.neutral_machine.specs.Config.{FunctionFrame, Frame, Function, Host, HostFrame}
+use Rattle.neutral_machine.specs.Layout.{height}
+use Rattle.neutral_machine.specs.Memory.{Memory}
+use Rattle.host_model.specs.Placements.{frame_bytes, pair_at, params_bytes, return_cell}
+use Rattle.host_model.specs.World.{World}
 use Rattle.typed_runs.specs.Live.{live_memory}
 use Rattle.typed_runs.specs.Sound.{FrameBelow, FramesKeep}
 use Rattle.typing_laws.proofs.Rooms.{params_height, within_at}
@@ -18,7 +18,8 @@ module _ (w : ℕ) (world : World) (h : IsWidth w) (m : Memory) (made : ℕ) whe
   record TopFits (fs : List Frame) : Type 0 where
     all : TopHostFits w world.notes fs
     need : (f : FunctionFrame) (note : FnNote) → slice_get world.notes.function f.func ≡ Some note → FrameBelow world m f note fs
-        → (t : HostFrame) (host : FnNote) → top_host fs ≡ Some t → slice_get world.notes.function t.func ≡ Some host → pair_at w note.need + (return_cell + top_bytes w fs) ≤ frame_bytes w host
+        → (t : HostFrame) (host : FnNote) → top_host fs ≡ Some t → slice_get world.notes.function t.func ≡ Some host
+        → pair_at w note.need + (return_cell + top_bytes w fs) ≤ frame_bytes w host
 
   top_fits : (fs : List Frame) → FramesKeep world m made fs → TopFits fs
   top_fits [] k = record { all = λ t note e g. absurd (none-some t e); need = λ f note g b t host e q. absurd b }
@@ -37,8 +38,10 @@ module _ (w : ℕ) (world : World) (h : IsWidth w) (m : Memory) (made : ℕ) whe
         omega (arith, p, n, s);
   }
     where
-      here : (u : HostFrame) (note : FnNote) → ◌≡◌ {A = Option HostFrame} (Some t) (Some u) → slice_get world.notes.function u.func ≡ Some note → note ≡ k.0.note
-      here u note e g = same_Some _ _ (sym g ∙ ap (λ (x : HostFrame). slice_get world.notes.function x.func) (sym (same_Some t u e)) ∙ k.0.there)
+      here : (u : HostFrame) (note : FnNote) → ◌≡◌ {A = Option HostFrame} (Some t) (Some u)
+          → slice_get world.notes.function u.func ≡ Some note → note ≡ k.0.note
+      here u note e g = same_Some _ _ (sym g ∙ ap (λ (x : HostFrame). slice_get world.notes.function x.func) (sym (same_Some t u e))
+          ∙ k.0.there)
   top_fits (Function g ∷ fs) k =
       let r = top_fits fs k.1 in
       let keeps = k.0.1 in

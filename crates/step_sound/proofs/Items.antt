@@ -16,7 +16,8 @@ all_items P (y ∷ ys) all zero d l = all.0
 all_items P (y ∷ ys) all (suc k) d l = all_items P ys all.1 k d (omega (arith, l))
 
 -- a test that all items pass
-pub passing : {A : Type 0} (test : A → Bool) (P : A → Type 0) → ((x : A) → test x ≡ true → P x) → (xs : List A) → list_all test xs ≡ true → AllByRecursion P xs
+pub passing : {A : Type 0} (test : A → Bool) (P : A → Type 0) → ((x : A) → test x ≡ true → P x) → (xs : List A) → list_all test xs ≡ true
+    → AllByRecursion P xs
 passing test P h [] e = tt
 passing test P h (x ∷ xs) e = let b = and_parts (test x) (list_all test xs) e in (h x b.0, passing test P h xs b.1)
 

@@ -13,22 +13,24 @@ use Rattle.note_types.specs.declared.spot.Spot.{Spot}
 use Rattle.note_types.specs.declared.spot.Spot.TheVariants as spot
 use Rattle.pe_image.specs.Mapped.{mapped}
 use Rattle.pe_image.specs.declared.image.Image.{Image}
-use Rattle.run_types.specs.Config.{Frame, Function, Host, Config, call_under_way}
-use Rattle.run_types.specs.HostPlans.{host_turn}
-use Rattle.run_types.specs.NeutralRuns.{is_gate, neutral_start, neutral_step, step_if}
-use Rattle.run_types.specs.Placements.{Placement}
-use Rattle.run_types.specs.Progress.{NativeCall, NoCall, Asked, Accepted}
-use Rattle.run_types.specs.RunState.{RunState}
-use Rattle.run_types.specs.Values.{Neutral}
-use Rattle.run_types.specs.World.{World}
+use Rattle.neutral_machine.specs.Config.{Frame, Function, Host, Config, call_under_way}
+use Rattle.host_model.specs.HostPlans.{host_turn}
+use Rattle.neutral_machine.specs.NeutralRuns.{is_gate, neutral_start, neutral_step, step_if}
+use Rattle.host_model.specs.Placements.{Placement}
+use Rattle.host_model.specs.Progress.{NativeCall, NoCall, Asked, Accepted}
+use Rattle.host_model.specs.RunState.{RunState}
+use Rattle.host_model.specs.Values.{Neutral}
+use Rattle.host_model.specs.World.{World}
 use Rattle.typed_runs.specs.Holds.{TopHolds, GateHolds, SpotHolds, Holds}
 use Rattle.typed_runs.specs.Waiting.{States}
-use Rattle.whole_runs.specs.NeutralImage.{static_cells}
-use Rattle.whole_runs.specs.NeutralRun.{neutral_instruction}
-use Rattle.whole_runs.specs.Runs.{run_after, run_of, run_step}
+use Rattle.neutral_machine.specs.NeutralImage.{static_cells}
+use Rattle.neutral_machine.specs.NeutralRun.{neutral_instruction}
+use Rattle.host_model.specs.Runs.{run_after, run_of, run_step}
 use Rattle.step_sound.specs.Invariant.{Invariant, RunHolds, RunsAtPlace}
-use Rattle.step_sound.specs.StepKinds.{AtInstruction, IsPlain, IsNativeCall, IsThunk, IsCall, IsEnter, IsReply, IsLeaving, IsLast, NextStep, plain, native_call, thunk, call, enter, reply, leaving, last, calls_native, makes_thunk}
-use Rattle.step_sound.specs.StepLaws.{StepKeeps, PlainStepsKeep, NativeCallsKeep, ThunksKeep, CallsKeep, EntersKeep, RepliesKeep, LeavingKeeps, LastKeeps, StartMeets, NextStepIsThere}
+use Rattle.step_sound.specs.StepKinds.{AtInstruction, IsPlain, IsNativeCall, IsThunk, IsCall, IsEnter, IsReply, IsLeaving, IsLast, NextStep}
+use Rattle.step_sound.specs.StepKinds.{plain, native_call, thunk, call, enter, reply, leaving, last, calls_native, makes_thunk}
+use Rattle.step_sound.specs.StepLaws.{StepKeeps, PlainStepsKeep, NativeCallsKeep, ThunksKeep, CallsKeep, EntersKeep, RepliesKeep}
+use Rattle.step_sound.specs.StepLaws.{LeavingKeeps, LastKeeps, StartMeets, NextStepIsThere}
 use Rattle.step_sound.proofs.Read.{read_is_run, read_is_run_at, read_starts}
 use Rattle.step_sound.proofs.Relocated.{bytes_loaded}
 use Rattle.step_sound.proofs.RunSteps.{run_step_keeps_standing}
@@ -62,7 +64,8 @@ module _ (w : ℕ) (image : Image) (world : World) (P : Placement) (states : Sta
           wild_gate : spot.Wild x ≢ spot.Gate
           wild_gate h = absurd (cc)
 
-  pub invariant_of : (a : Config) (r : RunState) → Stands w world P (mapped image P.image) a r → Holds world states a → Invariant w image world P states a r
+  pub invariant_of : (a : Config) (r : RunState) → Stands w world P (mapped image P.image) a r → Holds world states a
+      → Invariant w image world P states a r
   invariant_of a r s h = record {
     standing = record { stands = s; served = h.served };
     at_place = λ on n. placed a.spot refl n (h.well on).top;
@@ -78,7 +81,8 @@ module _ (w : ℕ) (image : Image) (world : World) (P : Placement) (states : Sta
 
   -- ---- a step
 
-  keeps : (a : Config) (r : RunState) → Invariant w image world P states a r → a.ending ≡ ending.Running → StepHolds image world states run.read run.rules a → StepKeeps w image world P states a r
+  keeps : (a : Config) (r : RunState) → Invariant w image world P states a r → a.ending ≡ ending.Running
+      → StepHolds image world states run.read run.rules a → StepKeeps w image world P states a r
   unfolding neutral_step
   keeps a r v on s =
       let step = ap (step_if world (neutral_instruction world image) a) on ∙ s.is in
@@ -86,12 +90,14 @@ module _ (w : ℕ) (image : Image) (world : World) (P : Placement) (states : Sta
         after = s.after;
         step = step;
         invariant = invariant_of s.after (run_step w world P r)
-            (run_step_keeps_standing w image world P a s.after r (read_is_run_at w image world P run.width run.read run.placement) (λ on. s.well w run.width) v.standing.stands step)
+            (run_step_keeps_standing w image world P a s.after r (read_is_run_at w image world P run.width run.read run.placement)
+            (λ on. s.well w run.width) v.standing.stands step)
             s.holds;
       }
 
   -- a run that ended stays as it is
-  pub ended_keeps : (a : Config) (r : RunState) → Invariant w image world P states a r → (a.ending ≡ ending.Running → ⊥) → StepKeeps w image world P states a r
+  pub ended_keeps : (a : Config) (r : RunState) → Invariant w image world P states a r → (a.ending ≡ ending.Running → ⊥)
+      → StepKeeps w image world P states a r
   unfolding neutral_step
   ended_keeps a r v n =
       let step = stays a.ending refl in
@@ -99,7 +105,8 @@ module _ (w : ℕ) (image : Image) (world : World) (P : Placement) (states : Sta
         after = a;
         step = step;
         invariant = invariant_of a (run_step w world P r)
-            (run_step_keeps_standing w image world P a a r (read_is_run_at w image world P run.width run.read run.placement) (λ on. absurd (n on)) v.standing.stands step)
+            (run_step_keeps_standing w image world P a a r (read_is_run_at w image world P run.width run.read run.placement)
+            (λ on. absurd (n on)) v.standing.stands step)
             (holds_of a r v);
       }
     where
@@ -111,44 +118,58 @@ module _ (w : ℕ) (image : Image) (world : World) (P : Placement) (states : Sta
       stays ending.ScriptEnd is = refl
 
   -- a step of the host
-  host : (a : Config) (r : RunState) → Invariant w image world P states a r → a.ending ≡ ending.Running → host_turn (is_gate a.spot) (call_under_way a.frames) ≡ true → StepKeeps w image world P states a r
+  host : (a : Config) (r : RunState) → Invariant w image world P states a r → a.ending ≡ ending.Running
+      → host_turn (is_gate a.spot) (call_under_way a.frames) ≡ true → StepKeeps w image world P states a r
   host a r v on t = keeps a r v on (host_keeps image world states run.read run.rules a (holds_of a r v) on t)
 
   -- an instruction
-  code : (a : Config) (r : RunState) (i : Insn) → Invariant w image world P states a r → a.ending ≡ ending.Running → AtInstruction image a i → StepKeeps w image world P states a r
+  code : (a : Config) (r : RunState) (i : Insn) → Invariant w image world P states a r → a.ending ≡ ending.Running → AtInstruction image a i
+      → StepKeeps w image world P states a r
   code a r i v on at =
-      keeps a r v on (code_keeps image world states run.read run.rules a (holds_of a r v) on (ap₂ (λ s (n : NativeCall Neutral). host_turn (is_gate s) n) at.spot at.under))
+      keeps a r v on (code_keeps image world states run.read run.rules a (holds_of a r v) on
+      (ap₂ (λ s (n : NativeCall Neutral). host_turn (is_gate s) n) at.spot at.under))
 
-  within : (a : Config) (r : RunState) → Invariant w image world P states a r → a.ending ≡ ending.Running → (p : ℕ) (n k : ℕ) (vs : List Neutral) → a.spot ≡ spot.Place p → call_under_way a.frames ≡ Accepted n k vs → StepKeeps w image world P states a r
+  within : (a : Config) (r : RunState) → Invariant w image world P states a r → a.ending ≡ ending.Running
+      → (p : ℕ) (n k : ℕ) (vs : List Neutral) → a.spot ≡ spot.Place p → call_under_way a.frames ≡ Accepted n k vs
+      → StepKeeps w image world P states a r
   within a r v on p n k vs es en = host a r v on (ap₂ (λ s (c : NativeCall Neutral). host_turn (is_gate s) c) es en)
 
-  gate : (a : Config) (r : RunState) → Invariant w image world P states a r → a.ending ≡ ending.Running → a.spot ≡ spot.Gate → StepKeeps w image world P states a r
+  gate : (a : Config) (r : RunState) → Invariant w image world P states a r → a.ending ≡ ending.Running → a.spot ≡ spot.Gate
+      → StepKeeps w image world P states a r
   gate a r v on es = host a r v on (ap (λ s. host_turn (is_gate s) (call_under_way a.frames)) es)
 
   -- ---- each kind
 
-  pub plain_keeps : (a : Config) (r : RunState) → Invariant w image world P states a r → a.ending ≡ ending.Running → IsPlain image world a → StepKeeps w image world P states a r
+  pub plain_keeps : (a : Config) (r : RunState) → Invariant w image world P states a r → a.ending ≡ ending.Running → IsPlain image world a
+      → StepKeeps w image world P states a r
   plain_keeps a r v on k = code a r k.insn v on k.at
 
-  pub native_call_keeps : (a : Config) (r : RunState) → Invariant w image world P states a r → a.ending ≡ ending.Running → IsNativeCall image world a → StepKeeps w image world P states a r
+  pub native_call_keeps : (a : Config) (r : RunState) → Invariant w image world P states a r → a.ending ≡ ending.Running
+      → IsNativeCall image world a → StepKeeps w image world P states a r
   native_call_keeps a r v on k = code a r k.insn v on k.at
 
-  pub thunk_keeps : (a : Config) (r : RunState) → Invariant w image world P states a r → a.ending ≡ ending.Running → IsThunk image world a → StepKeeps w image world P states a r
+  pub thunk_keeps : (a : Config) (r : RunState) → Invariant w image world P states a r → a.ending ≡ ending.Running → IsThunk image world a
+      → StepKeeps w image world P states a r
   thunk_keeps a r v on k = code a r k.insn v on k.at
 
-  pub call_keeps : (a : Config) (r : RunState) → Invariant w image world P states a r → a.ending ≡ ending.Running → IsCall image world a → StepKeeps w image world P states a r
+  pub call_keeps : (a : Config) (r : RunState) → Invariant w image world P states a r → a.ending ≡ ending.Running → IsCall image world a
+      → StepKeeps w image world P states a r
   call_keeps a r v on k = host a r v on (ap₂ (λ s (c : NativeCall Neutral). host_turn (is_gate s) c) k.spot k.under)
 
-  pub enter_keeps : (a : Config) (r : RunState) → Invariant w image world P states a r → a.ending ≡ ending.Running → IsEnter image world a → StepKeeps w image world P states a r
+  pub enter_keeps : (a : Config) (r : RunState) → Invariant w image world P states a r → a.ending ≡ ending.Running → IsEnter image world a
+      → StepKeeps w image world P states a r
   enter_keeps a r v on k = within a r v on k.within.next k.within.entry k.callbacks k.within.args k.within.spot k.within.under
 
-  pub reply_keeps : (a : Config) (r : RunState) → Invariant w image world P states a r → a.ending ≡ ending.Running → IsReply image world a → StepKeeps w image world P states a r
+  pub reply_keeps : (a : Config) (r : RunState) → Invariant w image world P states a r → a.ending ≡ ending.Running → IsReply image world a
+      → StepKeeps w image world P states a r
   reply_keeps a r v on k = within a r v on k.within.next k.within.entry k.callbacks k.within.args k.within.spot k.within.under
 
-  pub leaving_keeps : (a : Config) (r : RunState) → Invariant w image world P states a r → a.ending ≡ ending.Running → IsLeaving image world a → StepKeeps w image world P states a r
+  pub leaving_keeps : (a : Config) (r : RunState) → Invariant w image world P states a r → a.ending ≡ ending.Running
+      → IsLeaving image world a → StepKeeps w image world P states a r
   leaving_keeps a r v on k = gate a r v on k.spot
 
-  pub last_keeps : (a : Config) (r : RunState) → Invariant w image world P states a r → a.ending ≡ ending.Running → IsLast image world a → StepKeeps w image world P states a r
+  pub last_keeps : (a : Config) (r : RunState) → Invariant w image world P states a r → a.ending ≡ ending.Running → IsLast image world a
+      → StepKeeps w image world P states a r
   last_keeps a r v on k = gate a r v on k.spot
 
   -- ---- the kind of the next step
@@ -167,11 +188,24 @@ module _ (w : ℕ) (image : Image) (world : World) (P : Placement) (states : Sta
       at_gate (Host h ∷ []) es ef g = last (record { host = h; spot = es; frames = ef })
       at_gate (Host h ∷ f ∷ gs) es ef g = leaving (record { host = h; below = f; rest = gs; spot = es; frames = ef })
 
-      callback : (p n k : ℕ) (vs : List Neutral) (c : _) → a.spot ≡ spot.Place p → call_under_way a.frames ≡ Accepted n k vs → slice_get world.script.call n ≡ Some c → (o : Option Callback) → slice_get c.enter k ≡ o → NextStep image world a
-      callback p n k vs c es en ec (Some b) eo = enter (record { call = c; callbacks = k; within = record { next = p; entry = n; args = vs; spot = es; under = en; entry_is = ec }; callback = b; left = eo })
-      callback p n k vs c es en ec None eo = reply (record { call = c; callbacks = k; within = record { next = p; entry = n; args = vs; spot = es; under = en; entry_is = ec }; none_left = eo })
+      callback : (p n k : ℕ) (vs : List Neutral) (c : _) → a.spot ≡ spot.Place p → call_under_way a.frames ≡ Accepted n k vs
+          → slice_get world.script.call n ≡ Some c → (o : Option Callback) → slice_get c.enter k ≡ o → NextStep image world a
+      callback p n k vs c es en ec (Some b) eo = enter (record {
+        call = c;
+        callbacks = k;
+        within = record { next = p; entry = n; args = vs; spot = es; under = en; entry_is = ec };
+        callback = b;
+        left = eo;
+      })
+      callback p n k vs c es en ec None eo = reply (record {
+        call = c;
+        callbacks = k;
+        within = record { next = p; entry = n; args = vs; spot = es; under = en; entry_is = ec };
+        none_left = eo;
+      })
 
-      at_place : (p : ℕ) (gs : List Frame) (n : NativeCall Neutral) → a.spot ≡ spot.Place p → a.frames ≡ gs → call_under_way a.frames ≡ n → TopHolds world states a n p gs → NextStep image world a
+      at_place : (p : ℕ) (gs : List Frame) (n : NativeCall Neutral) → a.spot ≡ spot.Place p → a.frames ≡ gs → call_under_way a.frames ≡ n
+          → TopHolds world states a n p gs → NextStep image world a
       at_place p (Function f ∷ fs) NoCall es ef en x =
           let i = code_there image world states run.read run.rules a p f fs x in
           by_insn i.0 (record { place = p; size = i.1; spot = es; under = en; insn = i.2 }) (calls_native i.0) (makes_thunk i.0) refl refl
@@ -193,11 +227,13 @@ module _ (w : ℕ) (image : Image) (world : World) (P : Placement) (states : Sta
 
   pub start_meets : Invariant w image world P states (neutral_start world (static_cells world image)) (run_of w world P image 0)
   unfolding run_after
-  start_meets =
-      let q = read_is_run image world run.read in
+  start_meets = let q = read_is_run image world run.read in
       invariant_of (neutral_start world (static_cells world image)) (run_of w world P image 0)
-      (run_starts w world P (mapped image P.image) (static_cells world image) run.width (world_meets image world q) run.placement (statics_show w image world P run.width q run.read.bytes run.placement) (bytes_loaded image P.image run.read.bytes) (read_starts w image world run.read))
-      (start_holds world states (run_world image world run.read states run.rules) state_below (static_cells world image) (statics_fit image world q run.read.bytes))
+      (run_starts w world P (mapped image P.image) (static_cells world image) run.width (world_meets image world q) run.placement
+      (statics_show w image world P run.width q run.read.bytes run.placement) (bytes_loaded image P.image run.read.bytes)
+      (read_starts w image world run.read))
+      (start_holds world states (run_world image world run.read states run.rules) state_below (static_cells world image)
+      (statics_fit image world q run.read.bytes))
 
 -- ---- the laws
 

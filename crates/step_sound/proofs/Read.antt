@@ -11,12 +11,12 @@ use Rattle.note_types.specs.declared.notes.Notes.{Notes}
 use Rattle.note_types.specs.declared.script.Script.{Script}
 use Rattle.note_types.specs.declared.script.ScriptObject.{ScriptObject}
 use Rattle.pe_image.specs.declared.image.Image.{Image}
-use Rattle.run_types.specs.Objects.{placed_objects}
-use Rattle.run_types.specs.Placements.{Placement, IsPlacement}
-use Rattle.run_types.specs.Scripts.{IsScript, have_room, room_of}
-use Rattle.run_types.specs.World.{World}
-use Rattle.run_types.proofs.Lists.{take-all, within_some}
-use Rattle.whole_runs.specs.NeutralImage.{static_cells}
+use Rattle.host_model.specs.Objects.{placed_objects}
+use Rattle.host_model.specs.Placements.{Placement, IsPlacement}
+use Rattle.host_model.specs.Scripts.{IsScript, have_room, room_of}
+use Rattle.host_model.specs.World.{World}
+use Rattle.ebc_base.proofs.Lists.{take-all, within_some}
+use Rattle.neutral_machine.specs.NeutralImage.{static_cells}
 use Rattle.step_sound.specs.ReadWorld.{IsReadWorld}
 use Rattle.step_sound.specs.StepLaw.{IsRunAt}
 
@@ -25,23 +25,28 @@ use Rattle.step_sound.specs.StepLaw.{IsRunAt}
 module _ (notes : Notes) (script : Script) (h : IsScript notes script) where
   -- objects that keep the limits
   few : (os : List ScriptObject) → have_room notes os ≡ true → sum_by (room_of notes) os ≤ 2 ^ 23
-  few os e = leb-true (sum_by (room_of notes) os) (2 ^ 23) (and_parts (nat_le (sum_by (room_of notes) os) (2 ^ 23)) (nat_le (length os) 4096) e).0
+  few os e = leb-true (sum_by (room_of notes) os) (2 ^ 23) (and_parts (nat_le (sum_by (room_of notes) os) (2 ^ 23))
+      (nat_le (length os) 4096) e).0
 
   -- those at the start: the limit is tried at the last one
   start_room : (n : ℕ) → length script.object ≡ n → sum_by (room_of notes) script.object ≤ 2 ^ 23
   start_room zero e = subst (λ os. sum_by (room_of notes) os ≤ 2 ^ 23) (sym (nil_from_length script.object e)) (leb-true 0 (2 ^ 23) refl)
   start_room (suc n) e =
       let s = within_some script.object n (omega (arith, e)) in
-      let all : have_room notes (take (length script.object) script.object) ≡ true = subst (λ k. have_room notes (take k script.object) ≡ true) (let m : n + 1 ≡ length script.object = omega (arith, e) in m) (h.room n s.0 s.1) in
+      let all : have_room notes (take (length script.object) script.object) ≡ true =
+      subst (λ k. have_room notes (take k script.object) ≡ true) (let m : n + 1 ≡ length script.object = omega (arith, e) in m)
+      (h.room n s.0 s.1) in
       few script.object (subst (λ os. have_room notes os ≡ true) (take-all script.object) all)
 
   -- and all: the limit is tried at the last call, or at the last object where there is no call
   room_after : (n : ℕ) → length script.call ≡ n → sum_by (room_of notes) (placed_objects script n) ≤ 2 ^ 23
   unfolding placed_objects
-  room_after zero e = subst (λ os. sum_by (room_of notes) os ≤ 2 ^ 23) (sym (append-nil script.object)) (start_room (length script.object) refl)
+  room_after zero e = subst (λ os. sum_by (room_of notes) os ≤ 2 ^ 23) (sym (append-nil script.object))
+      (start_room (length script.object) refl)
   room_after (suc n) e =
       let s = within_some script.call n (omega (arith, e)) in
-      subst (λ k. sum_by (room_of notes) (placed_objects script k) ≤ 2 ^ 23) (let m : n + 1 ≡ suc n = omega arith in m) (few (placed_objects script (n + 1)) (h.calls n s.0 s.1).room)
+      subst (λ k. sum_by (room_of notes) (placed_objects script k) ≤ 2 ^ 23) (let m : n + 1 ≡ suc n = omega arith in m)
+      (few (placed_objects script (n + 1)) (h.calls n s.0 s.1).room)
 
   pub objects_have_room : sum_by (room_of notes) (placed_objects script (length script.call)) ≤ 2 ^ 23
   objects_have_room = room_after (length script.call) refl
@@ -53,7 +58,8 @@ read_is_run image world r = record {
   well_formed = r.well_formed;
   size = r.size;
   notes = r.notes;
-  objects = λ k o e. let d = objects_are_given world.notes world.script r.script (length world.script.call) k o e in record { shape = d.0; count = d.1 };
+  objects = λ k o e. let d = objects_are_given world.notes world.script r.script (length world.script.call) k o e in
+      record { shape = d.0; count = d.1 };
   shapes = r.shapes;
   functions = r.functions;
   statics = r.statics;
@@ -61,8 +67,15 @@ read_is_run image world r = record {
 }
 
 -- under each valid placement it has what the law of a step asks of a run at a width
-pub read_is_run_at : (w : ℕ) (image : Image) (world : World) (P : Placement) → IsWidth w → IsReadWorld image world → IsPlacement w world P → IsRunAt w image world P
-read_is_run_at w image world P h r p = record { width = h; run = read_is_run image world r; bytes = r.bytes; placement = p; script = calls_are_given world.notes world.script r.script }
+pub read_is_run_at : (w : ℕ) (image : Image) (world : World) (P : Placement) → IsWidth w → IsReadWorld image world → IsPlacement w world P
+    → IsRunAt w image world P
+read_is_run_at w image world P h r p = record {
+  width = h;
+  run = read_is_run image world r;
+  bytes = r.bytes;
+  placement = p;
+  script = calls_are_given world.notes world.script r.script;
+}
 
 -- its start has what the law of a start asks
 pub read_starts : (w : ℕ) (image : Image) (world : World) → IsReadWorld image world → StartGiven w world (static_cells world image)

@@ -1,5 +1,6 @@
 -- The bytes of a loaded image: those that aren't relocated are the image's, and a relocated number is moved with the image.
-use Rattle.std.proofs.Common.{◌≡◌, ℕ, zero, suc, ◌+◌, ◌-◌, ◌/◌, ◌%◌, ◌^◌, ◌<◌, ◌≤◌, Bool, true, false, if◌then◌else◌, nat_le, nat_lt, List, [], ◌∷◌, length, Option, Some, None, refl, sym, ap, ◌∙◌, subst, subst₂, slice_index_or, arith, ⊎_elim}
+use Rattle.std.proofs.Common.{◌≡◌, ℕ, zero, suc, ◌+◌, ◌-◌, ◌/◌, ◌%◌, ◌^◌, ◌<◌, ◌≤◌, Bool, true, false, if◌then◌else◌, nat_le, nat_lt, List}
+use Rattle.std.proofs.Common.{[], ◌∷◌, length, Option, Some, None, refl, sym, ap, ◌∙◌, subst, subst₂, slice_index_or, arith, ⊎_elim}
 use Rattle.std.proofs.lemmas.Bool.{and_from, and_parts, leb-true, ltb-true, le-leb, lt-ltb, true≢false, cases_order}
 use Rattle.std.proofs.lemmas.List.{get_or_default}
 use Rattle.std.specs.List.{find, Contains}
@@ -7,10 +8,11 @@ use Rattle.std.specs.Option.{option_map_or}
 use Rattle.ebc_width.specs.Bytes.{little_endian, put}
 use Rattle.ebc_width.proofs.ByteLaws.{put-within, little_endian-agree, little_endian-same}
 use Rattle.pe_image.specs.Images.{IsImage}
-use Rattle.pe_image.specs.Mapped.{AreBytes, is_of, laid, moved, moved_byte, distance_of, mapped}
+use Rattle.pe_image.specs.Mapped.{AreBytes, is_of, laid, moved, moved_byte, mapped, image_byte, named_place}
 use Rattle.pe_image.specs.declared.image.Image.{Image}
-use Rattle.rules_data.specs.Images.{image_byte, named_place, IsUnrelocated}
-use Rattle.run_types.specs.Values.{word}
+use Rattle.rules_image.specs.Images.{IsUnrelocated}
+use Rattle.host_model.specs.Values.{word}
+use Rattle.ebc_width.specs.Width.{distance_of}
 
 -- ---- what is found
 
@@ -55,14 +57,18 @@ module _ (image : Image) (base : ℕ) where
     where
       by : (o : Option ℕ) → Finds (is_of x) image.relocs o → byte_by x o ≡ laid image.sections x
       by None f = refl
-      by (Some r) f = let b = is_of-bounds x r f.1 in let p = b.0 in let q = b.1 in absurd (free r f.0 (omega (arith, p, m), omega (arith, q, l)))
+      by (Some r) f = let b = is_of-bounds x r f.1 in let p = b.0 in let q = b.1 in
+          absurd (free r f.0 (omega (arith, p, m), omega (arith, q, l)))
 
   -- and so are the numbers in such bytes
-  pub number_kept : (from to p k : ℕ) → IsUnrelocated image from to → from ≤ p → p + k ≤ to → little_endian (mapped image base) p k ≡ little_endian (image_byte image) p k
-  number_kept from to p k free l m = little_endian-agree (mapped image base) (image_byte image) p k (λ x a b. byte_kept from to x free (omega (arith, l, a)) (omega (arith, m, b)))
+  pub number_kept : (from to p k : ℕ) → IsUnrelocated image from to → from ≤ p → p + k ≤ to
+      → little_endian (mapped image base) p k ≡ little_endian (image_byte image) p k
+  number_kept from to p k free l m = little_endian-agree (mapped image base) (image_byte image) p k
+      (λ x a b. byte_kept from to x free (omega (arith, l, a)) (omega (arith, m, b)))
 
   -- two relocations that have one byte are one
-  one_relocation : IsImage image → (x r q : ℕ) → Contains image.relocs r → Contains image.relocs q → is_of x r ≡ true → is_of x q ≡ true → r ≡ q
+  one_relocation : IsImage image → (x r q : ℕ) → Contains image.relocs r → Contains image.relocs q → is_of x r ≡ true → is_of x q ≡ true
+      → r ≡ q
   one_relocation ok x r q c d e f =
       let a = is_of-bounds x r e in
       let b = is_of-bounds x q f in
@@ -77,15 +83,18 @@ module _ (image : Image) (base : ℕ) where
       at_same : c.0 ≡ d.0 → slice_index_or image.relocs c.0 r ≡ slice_index_or image.relocs d.0 q
       at_same s = ap (λ k. slice_index_or image.relocs k r) s ∙ get_or_default image.relocs d.0 r q d.1
 
-      below : (j k y z : ℕ) → slice_index_or image.relocs j y ≡ y → slice_index_or image.relocs k z ≡ z → j < k → k < length image.relocs → y + 8 ≤ z
+      below : (j k y z : ℕ) → slice_index_or image.relocs j y ≡ y → slice_index_or image.relocs k z ≡ z → j < k → k < length image.relocs
+          → y + 8 ≤ z
       below j k y z g h l m = subst₂ (λ u v. u + 8 ≤ v) g (get_or_default image.relocs k y z m ∙ h) (ok.apart j k y l m)
 
   -- the number at a relocated place is moved with the image
-  pub number_moved : IsImage image → (p : ℕ) → Contains image.relocs p → little_endian (mapped image base) p 8 ≡ word (base + named_place image p)
+  pub number_moved : IsImage image → (p : ℕ) → Contains image.relocs p
+      → little_endian (mapped image base) p 8 ≡ word (base + named_place image p)
   unfolding named_place mapped moved
   number_moved ok p c =
       little_endian-agree (mapped image base) (put (λ x. 0) p 8 v) p 8 (λ x l m. byte x l m ∙ sym (put-within (λ x. 0) p 8 v x l m))
-      ∙ little_endian-same (λ x. 0) p 8 v ∙ (let e : v % 256 ^ 8 ≡ word (base + (little_endian (image_byte image) p 8 + (2 ^ 64 - image.base)) % 2 ^ 64) = omega arith in e)
+      ∙ little_endian-same (λ x. 0) p 8 v ∙ (let e : v % 256 ^ 8 ≡ word
+      (base + (little_endian (image_byte image) p 8 + (2 ^ 64 - image.base)) % 2 ^ 64) = omega arith in e)
     where
       v : ℕ
       v = (little_endian (laid image.sections) p 8 + distance_of base image.base) % 2 ^ 64
@@ -95,7 +104,8 @@ module _ (image : Image) (base : ℕ) where
         where
           by : (o : Option ℕ) → Finds (is_of x) image.relocs o → byte_by x o ≡ v / 256 ^ (x - p) % 256
           by None f = absurd (true≢false (sym (is_of-true x p l m) ∙ f p c))
-          by (Some r) f = ap (moved_byte (laid image.sections) (distance_of base image.base) x) (one_relocation ok x r p f.0 c f.1 (is_of-true x p l m))
+          by (Some r) f = ap (moved_byte (laid image.sections) (distance_of base image.base) x)
+              (one_relocation ok x r p f.0 c f.1 (is_of-true x p l m))
 
   -- loaded bytes are bytes where the image's are
   pub bytes_loaded : AreBytes image → (x : ℕ) → mapped image base x < 256

@@ -1,6 +1,7 @@
 -- Where the rows lead: a jump goes to a point of the function, and what falls through is an instruction that may.
 use Rattle.std.specs.Prelude.{IfOk, Ok, Err}
-use Rattle.std.proofs.Common.{int_le, unsigned_abs, ◌≡◌, ℕ, ◌<◌, ◌≤◌, ℤ, ◌*ℤ◌, pos, Bool, true, false, not, ◌&&◌, if◌then◌else◌, nat_eq, nat_lt, nat_le, List, Option, Some, None, is_none, refl, sym, ap, ◌∙◌, subst, inl, inr, slice_get}
+use Rattle.std.proofs.Common.{int_le, unsigned_abs, ◌≡◌, ℕ, ◌<◌, ◌≤◌, ℤ, ◌*ℤ◌, pos, Bool, true, false, not, ◌&&◌, if◌then◌else◌, nat_eq}
+use Rattle.std.proofs.Common.{nat_lt, nat_le, List, Option, Some, None, is_none, refl, sym, ap, ◌∙◌, subst, inl, inr, slice_get}
 use Rattle.std.proofs.lemmas.Bool.{and_parts, leb-true, ltb-true, true≢false}
 use Rattle.std.proofs.lemmas.Option.{none-some, same_Some}
 use Rattle.ebc_insn.specs.declared.Cond.{Cond}
@@ -12,7 +13,7 @@ use Rattle.ebc_insn.specs.declared.Operand.{Operand}
 use Rattle.ebc_insn.specs.declared.Size.{Size}
 use Rattle.ebc_insn.specs.declared.Size.TheVariants.{Qword}
 use Rattle.natural_index.specs.declared.Index.{Index}
-use Rattle.ebc_base.specs.Steps.{or_else, ◌>>=◌}
+use Rattle.ebc_base.specs.Steps.{or_else, ◌>>=◌, only_if}
 use Rattle.note_types.specs.States.{type_of}
 use Rattle.note_types.specs.declared.cell.SlotKind.{SlotKind}
 use Rattle.note_types.specs.declared.cell.SlotKind.TheVariants.{N}
@@ -28,17 +29,19 @@ use Rattle.rules_base.specs.declared.here.Here.{Here}
 use Rattle.rules_base.specs.declared.operand.Distance.{Distance}
 use Rattle.rules_base.specs.Destinations.{put}
 use Rattle.rules_base.specs.Operands.{index_distance}
-use Rattle.rules_base.specs.Outcomes.{Gives, also, beside, gives_map, needs}
-use Rattle.rules_base.specs.Parts.{and_then, only_if}
+use Rattle.rules_base.specs.Outcomes.{also, beside, gives_map, needs, OrRule}
+use Rattle.rules_base.specs.Parts.{and_then}
 use Rattle.rules_base.specs.Places.{locals_size}
 use Rattle.rules_base.specs.Values.{operand_value}
 use Rattle.rules_data.specs.Data.{after_data}
-use Rattle.rules_data.specs.Images as images
+use Rattle.rules_image.specs.Images as images
 use Rattle.rules_flow.specs.Arguments.{all_lent_out}
-use Rattle.rules_flow.specs.Calls.{break_row, call_fails, call_native_row, call_row, call_to, callee_at, callee_method, called, is_next_thunk, may_return, native_call, native_called, return_row, signature_at, with_thunk}
+use Rattle.rules_flow.specs.Calls.{break_row, call_fails, call_native_row, call_row, call_to, callee_at, callee_method, called}
+use Rattle.rules_flow.specs.Calls.{is_next_thunk, may_return, native_call, native_called, return_row, signature_at, with_thunk}
 use Rattle.rules_flow.specs.Flow.{after_flow, flow_row, frame_move, plain_row, slot_kind, unrelocated}
 use Rattle.rules_flow.specs.Found.{number_from}
-use Rattle.rules_flow.specs.Frames.{drop_to, frame_row, has_room, left_after, pop_destination, pop_row, popped_type, push_row, slot_access, slot_type, top_type, with_item}
+use Rattle.rules_flow.specs.Frames.{drop_to, frame_row, has_room, left_after, pop_destination, pop_row, popped_type, push_row, slot_access}
+use Rattle.rules_flow.specs.Frames.{slot_type, top_type, with_item}
 use Rattle.rules_flow.specs.Jumps.{jump8_row, jump_row, jump_to, jumps, place_within, point_at, relative, target_of}
 use Rattle.rules_flow.specs.Successors.{ends, falls}
 use Rattle.rules_flow.specs.declared.successors.Successors.{Successors}
@@ -94,22 +97,26 @@ module _ (notes : Notes) (f : FnNote) (here : Here) (s : State) where
   pair_place : (q p : ℕ) (u t : State) → ◌≡◌ {A = Option (ℕ × State)} (Some (q, u)) (Some (p, t)) → q ≡ p
   pair_place q p u t e = ap (λ (z : ℕ × State). z.0) (same_Some (q, u) (p, t) e)
 
-  jumps_lead : (i : Insn) (cond : Cond) (p : ℕ) → PointIn notes f p → ((t : State) → (jumps s p cond).fall ≡ Some t → images.falls i ≡ true) → RowLeads notes f i (jumps s p cond)
+  jumps_lead : (i : Insn) (cond : Cond) (p : ℕ) → PointIn notes f p → ((t : State) → (jumps s p cond).fall ≡ Some t → images.falls i ≡ true)
+      → RowLeads notes f i (jumps s p cond)
   jumps_lead i conds.Always p q fall = record { jump = λ r t e. subst (PointIn notes f) (pair_place p r _ t e) q; fall = fall }
   jumps_lead i conds.Set p q fall = record { jump = λ r t e. subst (PointIn notes f) (pair_place p r _ t e) q; fall = fall }
   jumps_lead i conds.Clear p q fall = record { jump = λ r t e. subst (PointIn notes f) (pair_place p r _ t e) q; fall = fall }
 
-  jump_to_leads : (i : Insn) (cond : Cond) (place : ℤ) → ((p : ℕ) (t : State) → (jumps s p cond).fall ≡ Some t → images.falls i ≡ true) → IfOk (jump_to notes f s cond place) (RowLeads notes f i)
+  jump_to_leads : (i : Insn) (cond : Cond) (place : ℤ) → ((p : ℕ) (t : State) → (jumps s p cond).fall ≡ Some t → images.falls i ≡ true)
+      → IfOk (jump_to notes f s cond place) (RowLeads notes f i)
   jump_to_leads i cond place fall = go (point_at notes f place) refl
     where
       go : (o : Option ℕ) → point_at notes f place ≡ o → IfOk (or_else rule.Target o >>= λ p. Ok (jumps s p cond)) (RowLeads notes f i)
       go None e = tt
       go (Some p) e = jumps_lead i cond p (point_inside place p e) (fall p)
 
-  jump_leads : (cond : Cond) (far rel : Bool) (op : Operand) (extra : Extra) → IfOk (jump_row notes f here s cond far rel op extra) (RowLeads notes f (insn.Jump cond far rel op extra))
+  jump_leads : (cond : Cond) (far rel : Bool) (op : Operand) (extra : Extra)
+      → IfOk (jump_row notes f here s cond far rel op extra) (RowLeads notes f (insn.Jump cond far rel op extra))
   unfolding jump_row
   jump_leads cond far rel op extra =
-      ok_then (λ _. Unit {0}) (RowLeads notes f (insn.Jump cond far rel op extra)) (target_of here far rel op extra) (jump_to notes f s cond) (ok_anything (target_of here far rel op extra))
+      ok_then (λ _. Unit {0}) (RowLeads notes f (insn.Jump cond far rel op extra)) (target_of here far rel op extra)
+      (jump_to notes f s cond) (ok_anything (target_of here far rel op extra))
       (λ place k. jump_to_leads (insn.Jump cond far rel op extra) cond place (by cond))
     where
       by : (cond : Cond) (p : ℕ) (t : State) → (jumps s p cond).fall ≡ Some t → images.falls (insn.Jump cond far rel op extra) ≡ true
@@ -120,7 +127,8 @@ module _ (notes : Notes) (f : FnNote) (here : Here) (s : State) where
   jump8_leads : (cond : Cond) (words : ℤ) → IfOk (jump8_row notes f here s cond words) (RowLeads notes f (insn.Jump8 cond words))
   unfolding jump8_row
   jump8_leads cond words =
-      ok_then (λ _. Unit {0}) (RowLeads notes f (insn.Jump8 cond words)) (relative here (words *ℤ pos 2)) (jump_to notes f s cond) (ok_anything (relative here (words *ℤ pos 2)))
+      ok_then (λ _. Unit {0}) (RowLeads notes f (insn.Jump8 cond words)) (relative here (words *ℤ pos 2)) (jump_to notes f s cond)
+      (ok_anything (relative here (words *ℤ pos 2)))
       (λ place k. jump_to_leads (insn.Jump8 cond words) cond place (by cond))
     where
       by : (cond : Cond) (p : ℕ) (t : State) → (jumps s p cond).fall ≡ Some t → images.falls (insn.Jump8 cond words) ≡ true
@@ -130,7 +138,7 @@ module _ (notes : Notes) (f : FnNote) (here : Here) (s : State) where
 
   -- ---- the other rows
 
-  no_jump : (i : Insn) (r : Gives Successors) → images.falls i ≡ true → IfOk r NoJump → IfOk r (RowLeads notes f i)
+  no_jump : (i : Insn) (r : OrRule Successors) → images.falls i ≡ true → IfOk r NoJump → IfOk r (RowLeads notes f i)
   no_jump i (Ok x) e n = record { jump = λ p t h. absurd (none-some (p, t) (sym n ∙ h)); fall = λ t h. e }
   no_jump i (Err r) e n = tt
 
@@ -138,19 +146,22 @@ module _ (notes : Notes) (f : FnNote) (here : Here) (s : State) where
   unfolding call_row call_to
   call_stays far rel op extra =
       ok_then (λ _. Unit {0}) NoJump (target_of here far rel op extra) (call_to notes f s) (ok_anything (target_of here far rel op extra))
-      (λ place k. ok_then (λ _. Unit {0}) NoJump (or_else rule.Target (callee_at notes place)) _ (ok_anything (or_else rule.Target (callee_at notes place)))
+      (λ place k. ok_then (λ _. Unit {0}) NoJump (or_else rule.Target (callee_at notes place)) _
+      (ok_anything (or_else rule.Target (callee_at notes place)))
       (λ g j. ok_also NoJump (Ok (falls (called s g.result s.written))) (call_fails notes f s g) refl))
 
   native_stays : (far rel : Bool) (op : Operand) (extra : Extra) → IfOk (call_native_row notes f here s far rel op extra) NoJump
   unfolding call_native_row native_call
   native_stays far rel op extra =
       ok_then (λ _. Unit {0}) NoJump (callee_method notes f s far rel op extra) _ (ok_anything (callee_method notes f s far rel op extra))
-      (λ m k. ok_then (λ _. Unit {0}) NoJump (or_else rule.Site (signature_at notes here.place m)) (native_call notes f s) (ok_anything (or_else rule.Site (signature_at notes here.place m)))
+      (λ m k. ok_then (λ _. Unit {0}) NoJump (or_else rule.Site (signature_at notes here.place m)) (native_call notes f s)
+      (ok_anything (or_else rule.Site (signature_at notes here.place m)))
       (λ g j. ok_also NoJump (Ok (falls (native_called s g.result (all_lent_out g.params s.items)))) _ refl))
 
   return_leads : IfOk (return_row f s) (RowLeads notes f insn.Ret)
   unfolding return_row
-  return_leads = ok_choice (RowLeads notes f insn.Ret) (may_return f s) (Ok ends) (Err rule.Return) (record { jump = λ p t e. absurd (none-some (p, t) e); fall = λ t e. absurd (none-some t e) }) tt
+  return_leads = ok_choice (RowLeads notes f insn.Ret) (may_return f s) (Ok ends) (Err rule.Return)
+      (record { jump = λ p t e. absurd (none-some (p, t) e); fall = λ t e. absurd (none-some t e) }) tt
 
   break_stays : (code : ℕ) → IfOk (break_row notes s code) NoJump
   unfolding break_row
@@ -161,7 +172,8 @@ module _ (notes : Notes) (f : FnNote) (here : Here) (s : State) where
   push_stays : (kind : SlotKind) (op : Operand) (extra : Extra) → IfOk (push_row notes f s kind op extra) NoJump
   unfolding push_row
   push_stays kind op extra =
-      ok_then (λ _. Unit {0}) NoJump (also (operand_value notes f s (slot_access kind) op extra) (needs rule.Stack (has_room notes f (Slot kind ty.Any) s.items))) _ (ok_anything _)
+      ok_then (λ _. Unit {0}) NoJump (also (operand_value notes f s (slot_access kind) op extra)
+      (needs rule.Stack (has_room notes f (Slot kind ty.Any) s.items))) _ (ok_anything _)
       (λ v i. ok_also NoJump (Ok (falls (with_item s (Slot kind (slot_type kind v.ty))))) (needs rule.Thunk v.made) refl)
 
   pop_stays : (kind : SlotKind) (op : Operand) (extra : Extra) → IfOk (pop_row notes f s kind op extra) NoJump
@@ -177,13 +189,16 @@ module _ (notes : Notes) (f : FnNote) (here : Here) (s : State) where
   frame_stays : (d : Distance) → IfOk (frame_row notes f s d) NoJump
   unfolding frame_row
   frame_stays d =
-      ok_choice NoJump (int_le (pos 0) d.n && int_le (pos 0) d.c) _ _ (drop_stays (left_after (locals_size notes f) s.items (unsigned_abs d.n) (unsigned_abs d.c)))
-      (ok_choice NoJump (int_le d.n (pos 0) && int_le d.c (pos 0)) _ _ (ok_choice NoJump _ (Ok (falls (with_item s Locals))) (Err rule.Stack) refl tt) tt)
+      ok_choice NoJump (int_le (pos 0) d.n && int_le (pos 0) d.c) _ _
+      (drop_stays (left_after (locals_size notes f) s.items (unsigned_abs d.n) (unsigned_abs d.c)))
+      (ok_choice NoJump (int_le d.n (pos 0) && int_le d.c (pos 0)) _ _
+      (ok_choice NoJump _ (Ok (falls (with_item s Locals))) (Err rule.Stack) refl tt) tt)
 
   move_stays : (z : Size) (left right : Operand) (ridx : Option Index) → IfOk (frame_move notes f s z left right ridx) NoJump
   move_stays Qword left right ridx =
       ok_choice NoJump left.indirect (Err rule.Form) _ tt
-      (ok_choice NoJump (nat_eq left.reg 0 && (not right.indirect && nat_eq right.reg 0)) (frame_row notes f s (index_distance ridx)) (Err rule.Stack) (frame_stays (index_distance ridx)) tt)
+      (ok_choice NoJump (nat_eq left.reg 0 && (not right.indirect && nat_eq right.reg 0)) (frame_row notes f s (index_distance ridx))
+      (Err rule.Stack) (frame_stays (index_distance ridx)) tt)
   move_stays _ left right ridx = ok_choice NoJump left.indirect (Err rule.Form) (Err rule.Stack) tt tt
 
   plain_leads : (i : Insn) → IfOk (plain_row notes f here s i) (RowLeads notes f i)
@@ -194,7 +209,8 @@ module _ (notes : Notes) (f : FnNote) (here : Here) (s : State) where
   plain_leads (insn.Pop wide op extra) = no_jump (insn.Pop wide op extra) _ refl (pop_stays (slot_kind wide) op extra)
   plain_leads (insn.PushNatural op extra) = no_jump (insn.PushNatural op extra) _ refl (push_stays N op extra)
   plain_leads (insn.PopNatural op extra) = no_jump (insn.PopNatural op extra) _ refl (pop_stays N op extra)
-  plain_leads (insn.Move z bits left right lidx ridx) = no_jump (insn.Move z bits left right lidx ridx) _ refl (move_stays z left right ridx)
+  plain_leads (insn.Move z bits left right lidx ridx) = no_jump (insn.Move z bits left right lidx ridx) _ refl
+      (move_stays z left right ridx)
   plain_leads (insn.MoveSigned bits left right lidx extra) = tt
   plain_leads (insn.MoveImm z bits left lidx imm) = tt
   plain_leads (insn.MoveImmNatural bits left lidx idx) = tt
@@ -202,7 +218,8 @@ module _ (notes : Notes) (f : FnNote) (here : Here) (s : State) where
   plain_leads _ = tt
 
   unrelocated_leads : (i : Insn) → IfOk (unrelocated notes f here s i) (RowLeads notes f i)
-  unrelocated_leads i = ok_choice (RowLeads notes f i) (is_none here.reloc) (plain_row notes f here s i) (Err rule.Relocation) (plain_leads i) tt
+  unrelocated_leads i = ok_choice (RowLeads notes f i) (is_none here.reloc) (plain_row notes f here s i) (Err rule.Relocation)
+      (plain_leads i) tt
 
   flow_leads : (i : Insn) → IfOk (flow_row notes f here s i) (RowLeads notes f i)
   flow_leads (insn.Jump cond far rel op extra) = jump_leads cond far rel op extra
@@ -234,29 +251,35 @@ data_falls (insn.LoadSpecial r) e = refl
 data_falls (insn.StoreSpecial to special) e = refl
 
 -- where the row of an instruction of control or of the stack leads
-pub flow_leads_there : (notes : Notes) (here : Here) (s : State) (i : Insn) (x : Successors) (f : FnNote) → slice_get notes.function here.func ≡ Some f → after_flow notes here s i ≡ Ok x → RowLeads notes f i x
+pub flow_leads_there : (notes : Notes) (here : Here) (s : State) (i : Insn) (x : Successors) (f : FnNote)
+    → slice_get notes.function here.func ≡ Some f → after_flow notes here s i ≡ Ok x → RowLeads notes f i x
 unfolding after_flow
 flow_leads_there notes here s i x f there e =
-    subst (λ (q : Gives Successors). IfOk q (RowLeads notes f i)) e
-    (subst (λ (o : Option FnNote). IfOk (or_else rule.Function o >>= λ g. flow_row notes g here s i) (RowLeads notes f i)) (sym there) (flow_leads notes f here s i))
+    subst (λ (q : OrRule Successors). IfOk q (RowLeads notes f i)) e
+    (subst (λ (o : Option FnNote). IfOk (or_else rule.Function o >>= λ g. flow_row notes g here s i) (RowLeads notes f i)) (sym there)
+    (flow_leads notes f here s i))
 
 -- where the row of an instruction leads
-pub row_leads : (notes : Notes) (here : Here) (s : State) (i : Insn) (x : Successors) (f : FnNote) → slice_get notes.function here.func ≡ Some f → row_of notes here s i ≡ Ok x → RowLeads notes f i x
+pub row_leads : (notes : Notes) (here : Here) (s : State) (i : Insn) (x : Successors) (f : FnNote)
+    → slice_get notes.function here.func ≡ Some f → row_of notes here s i ≡ Ok x → RowLeads notes f i x
 unfolding row_of
 row_leads notes here s i x f there e = go (is_flow i) refl e
   where
-    of_data : is_flow i ≡ false → (r : Gives State) → gives_map falls r ≡ Ok x → RowLeads notes f i x
-    of_data n (Ok t) e = subst (λ (q : Gives Successors). IfOk q (RowLeads notes f i)) e (record { jump = λ p u h. absurd (none-some (p, u) h); fall = λ u h. data_falls i n })
+    of_data : is_flow i ≡ false → (r : OrRule State) → gives_map falls r ≡ Ok x → RowLeads notes f i x
+    of_data n (Ok t) e = subst (λ (q : OrRule Successors). IfOk q (RowLeads notes f i)) e
+        (record { jump = λ p u h. absurd (none-some (p, u) h); fall = λ u h. data_falls i n })
     of_data n (Err r) e = absurd (cc)
 
-    go : (t : Bool) → is_flow i ≡ t → (if t then after_flow notes here s i else gives_map falls (after_data notes here s i)) ≡ Ok x → RowLeads notes f i x
+    go : (t : Bool) → is_flow i ≡ t → (if t then after_flow notes here s i else gives_map falls (after_data notes here s i)) ≡ Ok x
+        → RowLeads notes f i x
     go true n e = flow_leads_there notes here s i x f there e
     go false n e = of_data n (after_data notes here s i) e
 
 -- ---- which instructions fall through
 
 -- one on data that its row accepts
-data_may_fall : (notes : Notes) (here : Here) (s : State) (i : Insn) (t : State) (f : FnNote) → slice_get notes.function here.func ≡ Some f → after_data notes here s i ≡ Ok t → images.falls i ≡ true
+data_may_fall : (notes : Notes) (here : Here) (s : State) (i : Insn) (t : State) (f : FnNote) → slice_get notes.function here.func ≡ Some f
+    → after_data notes here s i ≡ Ok t → images.falls i ≡ true
 data_may_fall notes here s i t f there e = go i (change_found notes f here s i t there e)
   where
     go : (j : Insn) → ChangeFound notes f here s j t → images.falls j ≡ true
@@ -266,6 +289,7 @@ data_may_fall notes here s i t f there e = go i (change_found notes f here s i t
     go _ k = refl
 
 -- an accepted one that has a fall
-pub falls_where_it_may : (notes : Notes) (here : Here) (s : State) (i : Insn) (x : Successors) (f : FnNote) → slice_get notes.function here.func ≡ Some f → Accepted notes here s i x → (t : State) → x.fall ≡ Some t → images.falls i ≡ true
+pub falls_where_it_may : (notes : Notes) (here : Here) (s : State) (i : Insn) (x : Successors) (f : FnNote)
+    → slice_get notes.function here.func ≡ Some f → Accepted notes here s i x → (t : State) → x.fall ≡ Some t → images.falls i ≡ true
 falls_where_it_may notes here s i x f there (inl d) t e = data_may_fall notes here s i d.0 f there d.1
 falls_where_it_may notes here s i x f there (inr o) t e = (flow_leads_there notes here s i x f there o).fall t e

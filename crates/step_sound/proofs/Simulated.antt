@@ -16,31 +16,34 @@ use Rattle.note_types.specs.declared.notes.Notes.{Notes}
 use Rattle.note_types.specs.declared.state.State.{State}
 use Rattle.pe_image.specs.Mapped.{mapped}
 use Rattle.pe_image.specs.declared.image.Image.{Image}
-use Rattle.rules_base.specs.Outcomes.{Gives as Given}
 use Rattle.rules_base.specs.declared.here.Here.{Here}
 use Rattle.rules_data.specs.Data.{after_data}
 use Rattle.rules_flow.specs.Flow.{after_flow}
 use Rattle.rules_flow.specs.Successors.{falls}
 use Rattle.rules_flow.specs.declared.successors.Successors.{Successors}
-use Rattle.run_types.specs.Config.{FunctionFrame, Frame, Config}
-use Rattle.run_types.specs.Outcomes.{Gives, Raises, Stuck}
-use Rattle.run_types.specs.Placements.{Placement}
-use Rattle.run_types.specs.World.{World}
+use Rattle.neutral_machine.specs.Config.{FunctionFrame, Frame, Config}
+use Rattle.neutral_machine.specs.Outcomes.{Gives, Raises, Stuck}
+use Rattle.host_model.specs.Placements.{Placement}
+use Rattle.host_model.specs.World.{World}
 use Rattle.typed_runs.specs.Accepts.{Accepts}
 use Rattle.typing_laws.specs.OneRule.{Accepted, WorldTyped, here_of, StandsTyped, EndsSound}
 use Rattle.typing_laws.proofs.FlowTable.{one_rule}
 use Rattle.typing_laws.proofs.Rooms.{room_fits}
 use Rattle.step_sound.specs.Simulation.{StepStands, StepSimulated, Simulated, site_of}
-use Rattle.whole_runs.specs.Runs.{world_of}
+use Rattle.host_model.specs.Runs.{world_of}
 use Rattle.step_sound.proofs.EvenPlaces.{place_even, spelling_even}
 use Rattle.step_sound.proofs.Read.{read_is_run}
 use Rattle.step_sound.proofs.RowLeads.{falls_where_it_may}
 use Rattle.step_sound.proofs.Worlds.{world_typed}
+use Rattle.rules_base.specs.Outcomes.{OrRule as Given}
 
-module _ (w : ℕ) (h : IsWidth w) (image : Image) (world : World) (P : Placement) (a : Config) (f : FunctionFrame) (fs : List Frame) (note : FnNote) (here : Here) (s : State) (i : Insn) (c : Concrete) (st : StepStands w image world P a f fs note here s i c) (x : Successors) (accepted : Accepted world.notes here s i x) where
+module _ (w : ℕ) (h : IsWidth w) (image : Image) (world : World) (P : Placement) (a : Config) (f : FunctionFrame) (fs : List Frame)
+    (note : FnNote) (here : Here) (s : State) (i : Insn) (c : Concrete) (st : StepStands w image world P a f fs note here s i c)
+    (x : Successors) (accepted : Accepted world.notes here s i x) where
   -- the place is even, and inside the function
   stands_at : (here.place % 2 ≡ 0) × (note.place ≤ here.place) × (here.place < note.end)
-  stands_at = place_even image world.notes st.read.notes st.read.functions st.places here.func note st.place.0 here.place st.there st.place.1
+  stands_at =
+      place_even image world.notes st.read.notes st.read.functions st.places here.func note st.place.0 here.place st.there st.place.1
 
   insn_of : IsInsnOf image world (site_of here) i
   insn_of = record { k = here.func; f = note; function = st.there; from = stands_at.1; decoded = st.decoded; relocation = st.relocation }
@@ -68,13 +71,16 @@ module _ (w : ℕ) (h : IsWidth w) (image : Image) (world : World) (P : Placemen
   typed : WorldTyped world
   typed = world_typed image world st.read st.places
 
-  pub simulated : Simulated w world P (mapped image P.image) (site_of here) x i a f fs c (executed world a (site_of here) i) (machine_step w c)
-  simulated =
-      go (executed world a (site_of here) i)
-      (image_step w image world P a c (site_of here) i h st.placement (read_is_run image world st.read) st.standing st.spot insn_of (room_fits w world a f fs note (site_of here) s i x h typed stands))
+  pub simulated : Simulated w world P (mapped image P.image) (site_of here) x i a f fs c (executed world a (site_of here) i)
+      (machine_step w c)
+  simulated = go (executed world a (site_of here) i)
+      (image_step w image world P a c (site_of here) i h st.placement (read_is_run image world st.read) st.standing st.spot insn_of
+      (room_fits w world a f fs note (site_of here) s i x h typed stands))
       (one_rule world a f fs note (site_of here) s i x typed stands)
     where
-      go : (o : NeutralRow) → StepAlike w world P (mapped image P.image) c o (machine_step w c) → Accepts (EndsSound world (site_of here) x i a f fs) o → Simulated w world P (mapped image P.image) (site_of here) x i a f fs c o (machine_step w c)
+      go : (o : NeutralRow) → StepAlike w world P (mapped image P.image) c o (machine_step w c)
+          → Accepts (EndsSound world (site_of here) x i a f fs) o
+          → Simulated w world P (mapped image P.image) (site_of here) x i a f fs c o (machine_step w c)
       go Stuck alike sound = sound
       go (Raises e) alike sound = (sound, alike)
       go (Gives (e, b)) alike sound = (alike, sound)
@@ -82,23 +88,27 @@ module _ (w : ℕ) (h : IsWidth w) (image : Image) (world : World) (P : Placemen
 -- ---- what the two calls do
 
 -- the step of an instruction on data that its rule accepts
-pub data_simulated : (w : ℕ) (notes : Notes) (here : Here) (s : State) (i : Insn) (before : Concrete) (after : StepEnd × Concrete) → IsWidth w → after ≡ machine_step w before
+pub data_simulated : (w : ℕ) (notes : Notes) (here : Here) (s : State) (i : Insn) (before : Concrete) (after : StepEnd × Concrete)
+    → IsWidth w → after ≡ machine_step w before
     → IfOk (after_data notes here s i) (λ t. StepSimulated w notes here s i before after (falls t))
 data_simulated w notes here s i before after h e = go (after_data notes here s i) refl
   where
     go : (r : Given State) → after_data notes here s i ≡ r → IfOk r (λ t. StepSimulated w notes here s i before after (falls t))
     go (Err r) q = tt
     go (Ok t) q = λ image script P a f fs note st.
-        subst (λ y. Simulated w (world_of image notes script) P (mapped image P.image) (site_of here) (falls t) i a f fs before (executed (world_of image notes script) a (site_of here) i) y) (sym e)
+        subst (λ y. Simulated w (world_of image notes script) P (mapped image P.image) (site_of here) (falls t) i a f fs before
+        (executed (world_of image notes script) a (site_of here) i) y) (sym e)
         (simulated w h image (world_of image notes script) P a f fs note here s i before st (falls t) (inl (t, q, refl)))
 
 -- and of one of control or of the stack
-pub flow_simulated : (w : ℕ) (notes : Notes) (here : Here) (s : State) (i : Insn) (before : Concrete) (after : StepEnd × Concrete) → IsWidth w → after ≡ machine_step w before
+pub flow_simulated : (w : ℕ) (notes : Notes) (here : Here) (s : State) (i : Insn) (before : Concrete) (after : StepEnd × Concrete)
+    → IsWidth w → after ≡ machine_step w before
     → IfOk (after_flow notes here s i) (λ x. StepSimulated w notes here s i before after x)
 flow_simulated w notes here s i before after h e = go (after_flow notes here s i) refl
   where
     go : (r : Given Successors) → after_flow notes here s i ≡ r → IfOk r (λ x. StepSimulated w notes here s i before after x)
     go (Err r) q = tt
     go (Ok x) q = λ image script P a f fs note st.
-        subst (λ y. Simulated w (world_of image notes script) P (mapped image P.image) (site_of here) x i a f fs before (executed (world_of image notes script) a (site_of here) i) y) (sym e)
+        subst (λ y. Simulated w (world_of image notes script) P (mapped image P.image) (site_of here) x i a f fs before
+        (executed (world_of image notes script) a (site_of here) i) y) (sym e)
         (simulated w h image (world_of image notes script) P a f fs note here s i before st x (inr q))

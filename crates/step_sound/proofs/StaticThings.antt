@@ -1,5 +1,5 @@
 -- Static objects: those whose layout doesn't depend on the width, which places are relocated, and that the object at a place is found.
-use Rattle.std.proofs.Common.{◌≡◌, ℕ, ◌*◌, ◌<◌, Bool, true, false, not, nat_eq, List, get_or, Some, refl, sym, ap, ◌∙◌, arith, slice_get, ⊎_elim}
+use Rattle.std.proofs.Common.{◌≡◌, ℕ, ◌*◌, ◌<◌, Bool, true, false, not, nat_eq, List, Some, refl, sym, ap, ◌∙◌, arith, slice_get, ⊎_elim}
 use Rattle.std.specs.List.{list_any, position, Contains}
 use Rattle.std.proofs.lemmas.Bool.{eq-eqb, ne_eqb, eqb-true, or_left, or_right, true≢false}
 use Rattle.std.proofs.lemmas.List.Folds.{list_any_at}
@@ -14,9 +14,9 @@ use Rattle.note_types.specs.declared.notes.Static.{Static}
 use Rattle.note_types.specs.declared.shape.Field.{Field}
 use Rattle.note_types.specs.declared.shape.Shape.{Shape}
 use Rattle.pe_image.specs.declared.image.Image.{Image}
-use Rattle.rules_data.specs.Images.{depends, has_natural, IsStaticAt}
-use Rattle.run_types.specs.Objects.{no_shape, shape_of}
-use Rattle.run_types.specs.World.{World}
+use Rattle.rules_image.specs.Images.{depends, has_natural, IsStaticAt}
+use Rattle.host_model.specs.Objects.{no_shape, shape_of}
+use Rattle.host_model.specs.World.{World}
 use Rattle.step_sound.proofs.Thunks.{first_found}
 
 -- ---- layouts that don't depend on the width
@@ -36,7 +36,8 @@ field_units S f z e g = go (nat_eq z.n 0) refl
     go true q = eqb-true z.n 0 q
     go false q =
         let has : has_natural z ≡ true = or_left (not (nat_eq z.n 0)) _ (ap not q) in
-        let any : list_any has_natural S.fields ≡ true = list_any_at has_natural S.fields f z (slice_get_within S.fields f z g) (ap has_natural (get_or_from_slice_get S.fields f z z g) ∙ has) in
+        let any : list_any has_natural S.fields ≡ true = list_any_at has_natural S.fields f z (slice_get_within S.fields f z g)
+        (ap has_natural (get_or_from_slice_get S.fields f z z g) ∙ has) in
         absurd (true≢false (sym (or_right (not (nat_eq S.n 0)) (list_any has_natural S.fields) any) ∙ e))
 
 -- ---- relocated places
@@ -48,9 +49,6 @@ unlisted xs p away = go (list_any (nat_eq p) xs) refl
     go true e = absurd (away (of_any xs p e))
     go false e = e
 
-pub listed : (xs : List ℕ) (p : ℕ) → Contains xs p → list_any (nat_eq p) xs ≡ true
-listed xs p c = list_any_at (nat_eq p) xs c.0 p c.1 (eq-eqb p (get_or xs c.0 p) (sym c.2))
-
 -- ---- static objects
 
 module _ (image : Image) (world : World) (run : IsRunOf image world) where
@@ -58,8 +56,10 @@ module _ (image : Image) (world : World) (run : IsRunOf image world) where
   fits = world_meets image world run
 
   -- the static object at a place is found by it
-  pub static_found : (place s count : ℕ) (at : IsStaticAt world.notes place s count) → position (λ (x : Static). nat_eq x.place place) world.notes.statics ≡ Some at.k
-  static_found place s count at = first_found (λ (x : Static). nat_eq x.place place) world.notes.statics at.k at.x at.there (eq-eqb at.x.place place at.place_is) before
+  pub static_found : (place s count : ℕ) (at : IsStaticAt world.notes place s count)
+      → position (λ (x : Static). nat_eq x.place place) world.notes.statics ≡ Some at.k
+  static_found place s count at = first_found (λ (x : Static). nat_eq x.place place) world.notes.statics at.k at.x at.there
+      (eq-eqb at.x.place place at.place_is) before
     where
       positive : (k : ℕ) (x : Static) → slice_get world.notes.statics k ≡ Some x → 0 < x.count * size_at 8 (shape_of world.notes x.shape)
       positive k x g =

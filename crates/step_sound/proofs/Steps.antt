@@ -1,6 +1,7 @@
 -- A step of a typed program's run: the neutral machine isn't stuck, and the invariant holds after it.
 use Rattle.std.specs.Prelude.{Ok, Err}
-use Rattle.std.proofs.Common.{◌≡◌, ◌⊎◌, ℕ, ◌%◌, ◌<◌, ◌≤◌, Bool, true, false, if◌then◌else◌, List, ◌∷◌, length, Option, Some, None, option_and_then, refl, sym, ap, ap₂, ◌∙◌, subst, arith, inl, inr}
+use Rattle.std.proofs.Common.{◌≡◌, ◌⊎◌, ℕ, ◌%◌, ◌<◌, ◌≤◌, Bool, true, false, if◌then◌else◌, List, ◌∷◌, length, Option, Some, None}
+use Rattle.std.proofs.Common.{option_and_then, refl, sym, ap, ap₂, ◌∙◌, subst, arith, inl, inr}
 use Rattle.std.proofs.lemmas.Bool.{eq-eqb, true≢false}
 use Rattle.ebc_insn.specs.Spelling.{spelling}
 use Rattle.ebc_insn.specs.declared.Insn.{Insn}
@@ -10,27 +11,27 @@ use Rattle.note_types.specs.declared.spot.Spot.{Spot}
 use Rattle.note_types.specs.declared.spot.Spot.TheVariants as spot
 use Rattle.note_types.specs.declared.state.State.{State}
 use Rattle.pe_image.specs.declared.image.Image.{Image}
-use Rattle.rules_base.specs.Outcomes.{Gives as Given, gives_map}
+use Rattle.rules_base.specs.Outcomes.{gives_map, OrRule as Given}
 use Rattle.rules_data.specs.Data.{after_data}
 use Rattle.rules_flow.specs.Flow.{after_flow}
 use Rattle.rules_flow.specs.Successors.{falls}
 use Rattle.rules_flow.specs.declared.successors.Successors.{Successors}
-use Rattle.run_types.specs.Config.{FunctionFrame, Frame, Function, Config, call_under_way, with_call}
-use Rattle.run_types.specs.HostPlans.{host_turn}
-use Rattle.run_types.specs.NeutralHost.{neutral_host_step, thunk_made}
-use Rattle.run_types.specs.NeutralRuns.{is_gate, running_step}
-use Rattle.run_types.specs.Outcomes.{Outcome, Gives, Raises, Stuck}
-use Rattle.run_types.specs.Progress.{NativeCall, NoCall, Asked, one_instruction}
-use Rattle.run_types.specs.Values.{Neutral}
-use Rattle.run_types.specs.World.{World}
+use Rattle.neutral_machine.specs.Config.{FunctionFrame, Frame, Function, Config, call_under_way, with_call}
+use Rattle.host_model.specs.HostPlans.{host_turn}
+use Rattle.neutral_machine.specs.NeutralHost.{neutral_host_step, thunk_made}
+use Rattle.neutral_machine.specs.NeutralRuns.{is_gate, running_step}
+use Rattle.neutral_machine.specs.Outcomes.{Outcome, Gives, Raises, Stuck}
+use Rattle.host_model.specs.Progress.{NativeCall, NoCall, Asked, one_instruction}
+use Rattle.host_model.specs.Values.{Neutral}
+use Rattle.host_model.specs.World.{World}
 use Rattle.neutral_machine.specs.Rows.{Site, NeutralEnd, Next, Native, MakeThunk, executed}
 use Rattle.instruction_laws.specs.Premises.{IsInsnOf, IsRunOf}
 use Rattle.instruction_laws.proofs.Worlds.{world_meets}
-use Rattle.whole_runs.specs.NeutralImage.{instruction_at, site_at}
-use Rattle.whole_runs.specs.NeutralRun.{instruction_left, instruction_from, neutral_instruction}
+use Rattle.neutral_machine.specs.NeutralImage.{instruction_at, site_at}
+use Rattle.neutral_machine.specs.NeutralRun.{instruction_left, instruction_from, neutral_instruction}
 use Rattle.step_sound.specs.ReadWorld.{IsReadWorld}
 use Rattle.step_sound.specs.StepLaw.{StepGoesWell}
-use Rattle.width_checker.specs.Rows.{row_of, reloc_at, is_flow}
+use Rattle.width_checker.specs.Rows.{row_of, is_flow}
 use Rattle.typed_runs.specs.Live.{live_memory}
 use Rattle.typing_laws.specs.OneRule.{Accepted as RuleAccepts, here_of, StandsTyped}
 use Rattle.typed_runs.specs.Sound.{TopFits, Sound}
@@ -49,6 +50,7 @@ use Rattle.step_sound.proofs.RowLeads.{falls_where_it_may}
 use Rattle.step_sound.proofs.RunSteps.{found_there, site_there}
 use Rattle.step_sound.proofs.Worlds.{run_world, world_typed, thunks_enter}
 use Rattle.step_sound.proofs.Instructing.{Before, HoldsAfter, instruction_holds}
+use Rattle.rules_image.specs.Images.{reloc_at}
 
 -- what fits a state fits each state above it
 pub state_below : StatesFitBelow
@@ -60,11 +62,13 @@ module _ (image : Image) (world : World) (states : States) (r : IsReadWorld imag
 
   -- ---- the instruction at a place
 
-  instruction_is : (c : Config) (here : Site) (i : Insn) → IsInsnOf image world here i → c.spot ≡ spot.Place here.place → neutral_instruction world image c ≡ instruction_left world c here.place (executed world c here i)
+  instruction_is : (c : Config) (here : Site) (i : Insn) → IsInsnOf image world here i → c.spot ≡ spot.Place here.place
+      → neutral_instruction world image c ≡ instruction_left world c here.place (executed world c here i)
   unfolding neutral_instruction
   instruction_is c here i at e =
       ap (instruction_from world image c) e
-      ∙ ap (λ (o : Option (Insn × ℕ)). option_and_then (λ (f : Insn × ℕ). instruction_left world c here.place (executed world c (site_at image here.place f.1) f.0)) o) (found_there image world run here i at)
+      ∙ ap (λ (o : Option (Insn × ℕ)). option_and_then (λ (f : Insn × ℕ). instruction_left world c here.place
+      (executed world c (site_at image here.place f.1) f.0)) o) (found_there image world run here i at)
       ∙ ap (λ (y : Site). instruction_left world c here.place (executed world c y i)) (site_there image world run here i at)
 
   -- an instruction that meets its rules, of the function on top
@@ -82,19 +86,22 @@ module _ (image : Image) (world : World) (states : States) (r : IsReadWorld imag
     unfolding row_of
     accepted = go (is_flow m.insn) m.row
       where
-        of_data : (g : Given State) → after_data world.notes (here_of here f.func) s m.insn ≡ g → gives_map falls g ≡ Ok m.successors → RuleAccepts world.notes (here_of here f.func) s m.insn m.successors
+        of_data : (g : Given State) → after_data world.notes (here_of here f.func) s m.insn ≡ g → gives_map falls g ≡ Ok m.successors
+            → RuleAccepts world.notes (here_of here f.func) s m.insn m.successors
         of_data (Ok t) is e = inl (t, is, sym (same_Ok (falls t) m.successors e))
           where
             same_Ok : (x y : Successors) → ◌≡◌ {A = Given Successors} (Ok x) (Ok y) → x ≡ y
             same_Ok x y e = cc
         of_data (Err q) is e = absurd (cc)
 
-        go : (t : Bool) → (if t then after_flow world.notes (here_of here f.func) s m.insn else gives_map falls (after_data world.notes (here_of here f.func) s m.insn)) ≡ Ok m.successors
+        go : (t : Bool) → (if t then after_flow world.notes (here_of here f.func) s m.insn
+            else gives_map falls (after_data world.notes (here_of here f.func) s m.insn)) ≡ Ok m.successors
             → RuleAccepts world.notes (here_of here f.func) s m.insn m.successors
         go true e = inr e
         go false e = of_data (after_data world.notes (here_of here f.func) s m.insn) refl e
 
-    stands : (x : Config) → x.frames ≡ Function f ∷ fs → x.spot ≡ spot.Place p → Sound world x s → StandsTyped world x f fs m.f here s m.insn m.successors
+    stands : (x : Config) → x.frames ≡ Function f ∷ fs → x.spot ≡ spot.Place p → Sound world x s
+        → StandsTyped world x f fs m.f here s m.insn m.successors
     stands x fr sp sound = record {
       frames = fr;
       spot = sp;
@@ -124,16 +131,24 @@ module _ (image : Image) (world : World) (states : States) (r : IsReadWorld imag
     pub well : (w : ℕ) → IsWidth w → StepGoesWell w image world a after
 
   -- the host's step
-  host_holds : (a : Config) → Holds world states a → host_turn (is_gate a.spot) (call_under_way a.frames) ≡ true → HostGoesOn world states a → StepHolds a
+  host_holds : (a : Config) → Holds world states a → host_turn (is_gate a.spot) (call_under_way a.frames) ≡ true → HostGoesOn world states a
+      → StepHolds a
   host_holds a h turn g = record {
     after = g.after;
-    is = ap (λ t. if t then neutral_host_step world a else neutral_instruction world image (record a { script = one_instruction a.script })) turn ∙ g.is;
+    is = ap (λ t. if t then neutral_host_step world a else neutral_instruction world image
+        (record a { script = one_instruction a.script })) turn ∙ g.is;
     holds = g.holds;
-    well = λ w hw. record { there = λ p e n. absurd (true≢false (sym turn ∙ ap₂ (λ s (k : NativeCall Neutral). host_turn (is_gate s) k) e n)); before = sound_room w world a hw h.sound; after = sound_room w world g.after hw g.holds.sound };
+    well = λ w hw. record {
+      there = λ p e n. absurd (true≢false
+          (sym turn ∙ ap₂ (λ s (k : NativeCall Neutral). host_turn (is_gate s) k) e n));
+      before = sound_room w world a hw h.sound;
+      after = sound_room w world g.after hw g.holds.sound;
+    };
   }
 
   -- what an instruction leaves
-  left_is : (c : Config) (p : ℕ) (o : Outcome (NeutralEnd × Config)) → HoldsAfter world states c p o → (b : Config) × (instruction_left world c p o ≡ Some b) × Holds world states b
+  left_is : (c : Config) (p : ℕ) (o : Outcome (NeutralEnd × Config)) → HoldsAfter world states c p o → (b : Config)
+      × (instruction_left world c p o ≡ Some b) × Holds world states b
   left_is c p Stuck h = absurd h
   left_is c p (Raises e) h = (record c { ending = ending.Raised e }, refl, h)
   left_is c p (Gives (Next, b)) h = (b, refl, h)
@@ -141,13 +156,17 @@ module _ (image : Image) (world : World) (states : States) (r : IsReadWorld imag
   left_is c p (Gives (MakeThunk i, b)) h = (h.1, ap (λ t. if t then thunk_made world b else None) (eq-eqb i b.made h.0) ∙ h.2, h.3)
 
   -- the instruction's step
-  insn_holds : (a : Config) (p : ℕ) (f : FunctionFrame) (fs : List Frame) → Holds world states a → a.ending ≡ ending.Running → a.spot ≡ spot.Place p → a.frames ≡ Function f ∷ fs → call_under_way fs ≡ NoCall
+  insn_holds : (a : Config) (p : ℕ) (f : FunctionFrame) (fs : List Frame) → Holds world states a → a.ending ≡ ending.Running
+      → a.spot ≡ spot.Place p → a.frames ≡ Function f ∷ fs → call_under_way fs ≡ NoCall
       → RunsAt world states a p f fs → StepHolds a
   insn_holds a p f fs h on sp fr under x =
       let q = hold.insns f.func p x.state x.here in
       let c = record a { script = one_instruction a.script } in
       let sound_a : Sound world a x.state = record { top = subst (λ gs. TopFits world a gs x.state) (sym fr) x.fits; below = h.sound } in
-      let sound_c : Sound world c x.state = record { top = subst (λ gs. TopFits world c gs x.state) (sym fr) x.fits; below = record { cells = h.sound.cells; frames = h.sound.frames; few = h.sound.few } } in
+      let sound_c : Sound world c x.state = record {
+        top = subst (λ gs. TopFits world c gs x.state) (sym fr) x.fits;
+        below = record { cells = h.sound.cells; frames = h.sound.frames; few = h.sound.few };
+      } in
       let wt = world_typed image world r hold.places in
       let st = stands p f fs x.state q c fr sp sound_c in
       let sa = stands p f fs x.state q a fr sp sound_a in
@@ -161,14 +180,17 @@ module _ (image : Image) (world : World) (states : States) (r : IsReadWorld imag
         waiting = subst (Chain world states (live_memory world a) a.made) fr (h.well on).waiting;
       } in
       let accepts = one_rule world c f fs q.f site x.state q.insn q.successors wt st in
-      let after = instruction_holds world states (run_world image world r states hold) state_below (thunks_enter image world r) c f fs before site q.insn q.successors q.leads accepts in
+      let after = instruction_holds world states (run_world image world r states hold) state_below
+      (thunks_enter image world r) c f fs before site q.insn q.successors q.leads accepts in
       let left = left_is c p (executed world c site q.insn) after in
       let is = instruction_is c site q.insn (insn_of p f fs x.state q) sp in
       let call : call_under_way a.frames ≡ NoCall = ap call_under_way fr ∙ under in
-      let turn : host_turn (is_gate a.spot) (call_under_way a.frames) ≡ false = ap₂ (λ s (n : NativeCall Neutral). host_turn (is_gate s) n) sp call in
+      let turn : host_turn (is_gate a.spot) (call_under_way a.frames) ≡ false =
+      ap₂ (λ s (n : NativeCall Neutral). host_turn (is_gate s) n) sp call in
       record {
         after = left.0;
-        is = ap (λ t. if t then neutral_host_step world a else neutral_instruction world image (record a { script = one_instruction a.script })) turn ∙ is ∙ left.1;
+        is = ap (λ t. if t then neutral_host_step world a else neutral_instruction world image
+            (record a { script = one_instruction a.script })) turn ∙ is ∙ left.1;
         holds = left.2;
         well = λ w hw. record {
           there = λ y e n. record {
@@ -192,12 +214,10 @@ module _ (image : Image) (world : World) (states : States) (r : IsReadWorld imag
 
   -- ---- whose turn it is
 
-  turn_is : (a : Config) → Holds world states a → a.ending ≡ ending.Running → Turn world states a
-  turn_is a h on = turn_holds world states (run_world image world r states hold) state_below a h on
-
   -- the host's
-  pub host_keeps : (a : Config) → Holds world states a → a.ending ≡ ending.Running → host_turn (is_gate a.spot) (call_under_way a.frames) ≡ true → StepHolds a
-  host_keeps a h on t = go (turn_is a h on)
+  pub host_keeps : (a : Config) → Holds world states a → a.ending ≡ ending.Running
+      → host_turn (is_gate a.spot) (call_under_way a.frames) ≡ true → StepHolds a
+  host_keeps a h on t = go (turn_holds world states (run_world image world r states hold) state_below a h on)
     where
       go : Turn world states a → StepHolds a
       go (of_host turn g) = host_holds a h turn g
@@ -205,15 +225,17 @@ module _ (image : Image) (world : World) (states : States) (r : IsReadWorld imag
           absurd (true≢false (sym t ∙ ap₂ (λ s (n : NativeCall Neutral). host_turn (is_gate s) n) es (ap call_under_way ef ∙ en)))
 
   -- an instruction's
-  pub code_keeps : (a : Config) → Holds world states a → a.ending ≡ ending.Running → host_turn (is_gate a.spot) (call_under_way a.frames) ≡ false → StepHolds a
-  code_keeps a h on t = go (turn_is a h on)
+  pub code_keeps : (a : Config) → Holds world states a → a.ending ≡ ending.Running
+      → host_turn (is_gate a.spot) (call_under_way a.frames) ≡ false → StepHolds a
+  code_keeps a h on t = go (turn_holds world states (run_world image world r states hold) state_below a h on)
     where
       go : Turn world states a → StepHolds a
       go (of_host turn g) = absurd (true≢false (sym turn ∙ t))
       go (of_code p f fs es ef en x) = insn_holds a p f fs h on es ef en x
 
   -- the instruction at the spot, where it is one's turn
-  pub code_there : (a : Config) (p : ℕ) (f : FunctionFrame) (fs : List Frame) → RunsAt world states a p f fs → (i : Insn) × (n : ℕ) × (instruction_at image p ≡ Some (i, n))
+  pub code_there : (a : Config) (p : ℕ) (f : FunctionFrame) (fs : List Frame) → RunsAt world states a p f fs → (i : Insn) × (n : ℕ)
+      × (instruction_at image p ≡ Some (i, n))
   code_there a p f fs x =
       let q = hold.insns f.func p x.state x.here in
       (q.insn, length (spelling q.insn), found_there image world run (here p f fs x.state q) q.insn (insn_of p f fs x.state q))

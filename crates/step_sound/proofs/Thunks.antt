@@ -1,5 +1,7 @@
 -- A thunk cell that keeps its rule names its function wherever the image is loaded.
-use Rattle.std.proofs.Common.{◌≡◌, ℕ, zero, suc, ◌+◌, ◌*◌, ◌%◌, ◌^◌, ◌<◌, ◌≤◌, Bool, true, false, ◌&&◌, if◌then◌else◌, nat_eq, nat_lt, List, [], ◌∷◌, length, get_or, Option, Some, None, refl, sym, ap, ◌∙◌, subst, arith, mod-eq_of_lt, ◌-◌, ⊎_elim, slice_get}
+use Rattle.std.proofs.Common.{◌≡◌, ℕ, zero, suc, ◌+◌, ◌*◌, ◌%◌, ◌^◌, ◌<◌, ◌≤◌, Bool, true, false, ◌&&◌, if◌then◌else◌, nat_eq, nat_lt, List}
+use Rattle.std.proofs.Common.{[], ◌∷◌, length, get_or, Option, Some, None, refl, sym, ap, ◌∙◌, subst, arith, mod-eq_of_lt, ◌-◌, ⊎_elim}
+use Rattle.std.proofs.Common.{slice_get}
 use Rattle.std.proofs.lemmas.Bool.{and_from, eq-eqb, ne_eqb, cases_lt, lt-ltb, ltb-true, ltb-false}
 use Rattle.std.proofs.lemmas.Option.{same_Some, none-some, slice_get_within, slice_get-get_or, get_or_from_slice_get}
 use Rattle.std.specs.List.{position, position_or_len}
@@ -8,8 +10,8 @@ use Rattle.ebc_width.specs.Bytes.{little_endian}
 use Rattle.ebc_width.specs.Width.{extended_at}
 use Rattle.ebc_width.proofs.ByteLaws.{little_endian-below}
 use Rattle.note_types.specs.declared.notes.FnNote.{FnNote}
-use Rattle.pe_image.specs.Mapped.{mapped}
-use Rattle.rules_data.specs.Images.{image_byte, IsThunk}
+use Rattle.pe_image.specs.Mapped.{mapped, image_byte}
+use Rattle.rules_image.specs.Images.{IsThunk}
 use Rattle.step_sound.specs.Loaded.{ThunksAreLoaded}
 use Rattle.step_sound.proofs.Relocated.{number_kept}
 
@@ -17,10 +19,12 @@ use Rattle.step_sound.proofs.Relocated.{number_kept}
 
 -- functions ascend, each past the one before it
 abbrev Ascends : List FnNote → Type 0
-Ascends fs = (k : ℕ) (f : FnNote) → slice_get fs k ≡ Some f → (f.place < f.end) × ((j : ℕ) (g : FnNote) → j + 1 ≡ k → slice_get fs j ≡ Some g → g.end ≤ f.place)
+Ascends fs = (k : ℕ) (f : FnNote) → slice_get fs k ≡ Some f → (f.place < f.end)
+    × ((j : ℕ) (g : FnNote) → j + 1 ≡ k → slice_get fs j ≡ Some g → g.end ≤ f.place)
 
 -- so each lies past all before it
-past_all : (fs : List FnNote) → Ascends fs → (k j : ℕ) (f g : FnNote) → slice_get fs k ≡ Some f → slice_get fs j ≡ Some g → j < k → g.end ≤ f.place
+past_all : (fs : List FnNote) → Ascends fs → (k j : ℕ) (f g : FnNote) → slice_get fs k ≡ Some f → slice_get fs j ≡ Some g → j < k
+    → g.end ≤ f.place
 past_all fs up zero j f g a b l = absurd (omega (arith, l))
 past_all fs up (suc k) j f g a b l = by_before (slice_get fs k) refl (λ h e m. past_all fs up k j h g e b m)
   where
@@ -29,18 +33,21 @@ past_all fs up (suc k) j f g a b l = by_before (slice_get fs k) refl (λ h e m. 
     none_before (y ∷ ys) zero x e q = none-some y (sym e)
     none_before (y ∷ ys) (suc n) x e q = none_before ys n x e q
 
-    by_before : (o : Option FnNote) → slice_get fs k ≡ o → ((h : FnNote) → slice_get fs k ≡ Some h → j < k → g.end ≤ h.place) → g.end ≤ f.place
+    by_before : (o : Option FnNote) → slice_get fs k ≡ o → ((h : FnNote) → slice_get fs k ≡ Some h → j < k → g.end ≤ h.place)
+        → g.end ≤ f.place
     by_before None e before = absurd (none_before fs k f e a)
     by_before (Some h) e before =
         let near = (up (suc k) f a).1 k h (omega arith) e in
         let range = (up k h e).0 in
         ⊎_elim
         (λ m. let far = before h e m in omega (arith, far, near, range))
-        (λ m. let same : j ≡ k = omega (arith, l, m) in let is : g ≡ h = same_Some g h (sym b ∙ ap (slice_get fs) same ∙ e) in subst (λ (x : FnNote). x.end ≤ f.place) (sym is) near)
+        (λ m. let same : j ≡ k = omega (arith, l, m) in let is : g ≡ h = same_Some g h (sym b ∙ ap (slice_get fs) same ∙ e) in
+        subst (λ (x : FnNote). x.end ≤ f.place) (sym is) near)
         (cases_lt j k)
 
 -- the first of a list that passes a test is found, where none before it passes
-pub first_found : {X : Type 0} (t : X → Bool) (xs : List X) (k : ℕ) (x : X) → slice_get xs k ≡ Some x → t x ≡ true → ((j : ℕ) (y : X) → j < k → slice_get xs j ≡ Some y → t y ≡ false) → position t xs ≡ Some k
+pub first_found : {X : Type 0} (t : X → Bool) (xs : List X) (k : ℕ) (x : X) → slice_get xs k ≡ Some x → t x ≡ true
+    → ((j : ℕ) (y : X) → j < k → slice_get xs j ≡ Some y → t y ≡ false) → position t xs ≡ Some k
 first_found t xs k x g e before =
     let l = slice_get_within xs k x g in
     let at : position_or_len t xs ≡ k = position_or_len_is t xs k x (omega (arith, l))
@@ -68,7 +75,8 @@ pub thunks_are_loaded : ThunksAreLoaded
 thunks_are_loaded image world base run bytes i t g = record {
   note = rule.f;
   there = rule.there;
-  found = first_found (λ (f : FnNote). nat_eq f.place rule.f.place && f.enter) world.notes.function t.function rule.f rule.there (and_from _ _ (eq-eqb rule.f.place rule.f.place refl) rule.enter) before;
+  found = first_found (λ (f : FnNote). nat_eq f.place rule.f.place && f.enter) world.notes.function t.function rule.f rule.there
+      (and_from _ _ (eq-eqb rule.f.place rule.f.place refl) rule.enter) before;
   names = λ x e. named x e;
 }
   where
@@ -78,7 +86,8 @@ thunks_are_loaded image world base run bytes i t g = record {
     up : Ascends world.notes.function
     up k f h = let r = run.functions k f h in (r.range, r.past)
 
-    before : (j : ℕ) (y : FnNote) → j < t.function → slice_get world.notes.function j ≡ Some y → (nat_eq y.place rule.f.place && y.enter) ≡ false
+    before : (j : ℕ) (y : FnNote) → j < t.function → slice_get world.notes.function j ≡ Some y
+        → (nat_eq y.place rule.f.place && y.enter) ≡ false
     before j y l h =
         let far = past_all world.notes.function up t.function j rule.f y rule.there h l in
         let range = (up j y h).0 in
@@ -86,7 +95,8 @@ thunks_are_loaded image world base run bytes i t g = record {
 
     named : (x : ℕ) → x ≡ little_endian (mapped image base) t.place 4 → (extended_at 4 x + t.place + 4) % 2 ^ 64 ≡ rule.f.place
     named x e =
-        let same : x ≡ little_endian (image_byte image) t.place 4 = e ∙ number_kept image base t.place (t.place + 8) t.place 4 rule.unrelocated (omega arith) (omega arith) in
+        let same : x ≡ little_endian (image_byte image) t.place 4 = e
+        ∙ number_kept image base t.place (t.place + 8) t.place 4 rule.unrelocated (omega arith) (omega arith) in
         let small = run.notes.thunks i t g in
         let spot = small.place in
         let f = run.notes.functions t.function rule.f rule.there in

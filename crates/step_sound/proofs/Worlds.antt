@@ -1,7 +1,8 @@
 -- What a world that was read gives to the laws: small objects, thunk cells that enter functions, and, with states that meet the typing
 -- rules, what the laws of an instruction on types ask.
 use Rattle.std.specs.List.{sum_by}
-use Rattle.std.proofs.Common.{◌≡◌, ℕ, zero, suc, ◌+◌, ◌-◌, ◌*◌, ◌<◌, ◌≤◌, ◌^◌, if◌then◌else◌, List, [], ◌∷◌, map, length, Option, Some, None, option_and_then, sym, ap, ◌∙◌, arith, ⊎_elim, slice_get}
+use Rattle.std.proofs.Common.{◌≡◌, ℕ, zero, suc, ◌+◌, ◌-◌, ◌*◌, ◌<◌, ◌≤◌, ◌^◌, if◌then◌else◌, List, [], ◌∷◌, map, length, Option, Some}
+use Rattle.std.proofs.Common.{None, option_and_then, sym, ap, ◌∙◌, arith, ⊎_elim, slice_get}
 use Rattle.std.proofs.lemmas.Bool.{cases_lt}
 use Rattle.std.proofs.lemmas.List.Sums.{sum_by-cons}
 use Rattle.std.proofs.lemmas.Option.{none-some, same_Some, slice_get-map}
@@ -9,17 +10,15 @@ use Rattle.note_types.specs.Shapes.{size_at}
 use Rattle.note_types.specs.declared.notes.FnNote.{FnNote}
 use Rattle.note_types.specs.declared.notes.Thunk.{Thunk}
 use Rattle.pe_image.specs.declared.image.Image.{Image}
-use Rattle.run_types.specs.declared.object.TypedObject.{TypedObject}
-use Rattle.run_types.specs.CellLaw.{AreSmall}
-use Rattle.run_types.specs.Objects.{made_objects, placed_objects, shape_of, static_object, script_object}
-use Rattle.run_types.specs.Placements.{object_bytes}
-use Rattle.run_types.specs.Scripts.{room_of}
-use Rattle.run_types.specs.World.{World}
-use Rattle.run_types.proofs.Lists.{slice_get-append_left, slice_get-append_right, within_some}
-use Rattle.run_types.proofs.Placed.{placed_in_all}
+use Rattle.host_model.specs.declared.object.TypedObject.{TypedObject}
+use Rattle.neutral_machine.specs.CellLaw.{AreSmall}
+use Rattle.host_model.specs.Objects.{made_objects, placed_objects, shape_of, static_object, script_object}
+use Rattle.host_model.specs.Placements.{object_bytes}
+use Rattle.host_model.specs.Scripts.{room_of}
+use Rattle.host_model.specs.World.{World}
+use Rattle.ebc_base.proofs.Lists.{slice_get-append_left, slice_get-append_right, within_some}
 use Rattle.neutral_machine.specs.WorldFits.{WorldFits}
 use Rattle.neutral_machine.proofs.Cells.{shape_fits}
-use Rattle.neutral_machine.proofs.Placed.{some_of_map}
 use Rattle.instruction_laws.proofs.Worlds.{world_meets}
 use Rattle.typed_runs.specs.Waiting.{States}
 use Rattle.step_sound.specs.PlaceStates.{PlacesHold, StatesHold}
@@ -29,6 +28,8 @@ use Rattle.typing_laws.specs.OneRule.{WorldTyped}
 use Rattle.invariant_laws.specs.Hosted.{RunWorld}
 use Rattle.step_sound.proofs.Instructing.{ThunksEnter}
 use Rattle.step_sound.proofs.EvenPlaces.{points_even}
+use Rattle.ebc_base.proofs.Given.{some_of_map}
+use Rattle.neutral_machine.proofs.Placed.{placed_in_all}
 
 -- one of the terms is at most the sum
 term_below : {A : Type 0} (f : A → ℕ) (xs : List A) (k : ℕ) (x : A) → slice_get xs k ≡ Some x → f x ≤ sum_by f xs
@@ -41,21 +42,30 @@ module _ (image : Image) (world : World) (r : IsReadWorld image world) where
   fits = world_meets image world (read_is_run image world r)
 
   -- the typed objects of a run are small at width 8
-  pub small_at8 : (n k : ℕ) (o : TypedObject) → slice_get (made_objects world.notes world.script n) k ≡ Some o → object_bytes 8 world.notes o < 2 ^ 32
+  pub small_at8 : (n k : ℕ) (o : TypedObject) → slice_get (made_objects world.notes world.script n) k ≡ Some o
+      → object_bytes 8 world.notes o < 2 ^ 32
   unfolding made_objects
   small_at8 n k o e = ⊎_elim
       (λ l.
-      let s = some_of_map static_object (slice_get world.notes.statics k) o (sym (slice_get-map static_object world.notes.statics k) ∙ sym (slice_get-append_left (map static_object world.notes.statics) (map script_object (placed_objects world.script n)) k l) ∙ e) in
+      let s = some_of_map static_object (slice_get world.notes.statics k) o
+      (sym (slice_get-map static_object world.notes.statics k)
+      ∙ sym (slice_get-append_left (map static_object world.notes.statics) (map script_object (placed_objects world.script n)) k l)
+      ∙ e) in
       let room = fits.statics_inside k s.0 s.1 in
       let size = r.well_formed.size in
       let same = r.size in
-      let bytes : object_bytes 8 world.notes o ≡ s.0.count * size_at 8 (shape_of world.notes s.0.shape) = ap (object_bytes 8 world.notes) (sym s.2) in
+      let bytes : object_bytes 8 world.notes o ≡ s.0.count * size_at 8 (shape_of world.notes s.0.shape) =
+      ap (object_bytes 8 world.notes) (sym s.2) in
       omega (arith, room, size, same, bytes))
       (λ l.
       let j = k - length (map static_object world.notes.statics) in
-      let s = some_of_map script_object (slice_get (placed_objects world.script n) j) o (sym (slice_get-map script_object (placed_objects world.script n) j) ∙ sym (slice_get-append_right (map static_object world.notes.statics) (map script_object (placed_objects world.script n)) k l) ∙ e) in
+      let s = some_of_map script_object (slice_get (placed_objects world.script n) j) o
+      (sym (slice_get-map script_object (placed_objects world.script n) j)
+      ∙ sym (slice_get-append_right (map static_object world.notes.statics) (map script_object (placed_objects world.script n)) k l)
+      ∙ e) in
       let all = objects_have_room world.notes world.script r.script in
-      let one = term_below (room_of world.notes) (placed_objects world.script (length world.script.call)) j s.0 (placed_in_all world.script n j s.0 s.1) in
+      let one = term_below (room_of world.notes) (placed_objects world.script (length world.script.call)) j s.0
+      (placed_in_all world.script n j s.0 s.1) in
       let bytes : object_bytes 8 world.notes (script_object s.0) ≡ object_bytes 8 world.notes o = ap (object_bytes 8 world.notes) s.2 in
       omega (arith, all, one, bytes))
       (cases_lt k (length (map static_object world.notes.statics)))
@@ -80,7 +90,8 @@ module _ (image : Image) (world : World) (r : IsReadWorld image world) where
       let t = within_some world.notes.thunk i l in
       let h = r.thunks i t.0 t.1 in (
         t.0.function,
-        ap (λ (o : Option Thunk). option_and_then (λ (x : Thunk). option_and_then (λ (g : FnNote). if g.enter then Some x.function else None) (slice_get world.notes.function x.function)) o) t.1
+        ap (λ (o : Option Thunk). option_and_then (λ (x : Thunk). option_and_then
+            (λ (g : FnNote). if g.enter then Some x.function else None) (slice_get world.notes.function x.function)) o) t.1
             ∙ ap (λ (o : Option FnNote). option_and_then (λ (g : FnNote). if g.enter then Some t.0.function else None) o) h.there
             ∙ ap (λ b. if b then Some t.0.function else None) h.enter,
       )

@@ -1,5 +1,5 @@
--- What holds of each state of a typed program's run at a width, and of the neutral machine's configuration beside it, in five parts.
--- docs/SIMULATION.md, "The invariant".
+-- For proofs: what holds of each state of a typed program's run at a width, and of the neutral machine's configuration
+-- beside it, in five parts. docs/SIMULATION.md, "The invariant".
 use Rattle.std.specs.Prelude.{◌≡◌, ◌≢◌, ℕ}
 use Rattle.ebc_width.specs.Width.{IsWidth}
 use Rattle.neutral_machine.specs.Stands.{Stands}
@@ -7,10 +7,10 @@ use Rattle.note_types.specs.declared.ending.Ending.TheVariants.{Running}
 use Rattle.note_types.specs.declared.spot.Spot.TheVariants.{Place, Gate}
 use Rattle.pe_image.specs.Mapped.{mapped}
 use Rattle.pe_image.specs.declared.image.Image.{Image}
-use Rattle.run_types.specs.Config.{Config, call_under_way}
-use Rattle.run_types.specs.Placements.{Placement, IsPlacement}
-use Rattle.run_types.specs.RunState.{RunState}
-use Rattle.run_types.specs.World.{World}
+use Rattle.neutral_machine.specs.Config.{Config, call_under_way}
+use Rattle.host_model.specs.Placements.{Placement, IsPlacement}
+use Rattle.host_model.specs.RunState.{RunState}
+use Rattle.host_model.specs.World.{World}
 use Rattle.typed_runs.specs.Endings.{RaisesOnlyDivideError}
 use Rattle.typed_runs.specs.Holds.{TopHolds, GateHolds}
 use Rattle.typed_runs.specs.Live.{live_memory}

@@ -1,5 +1,5 @@
--- The states at the places of an image's functions, and what the typing rules ask of them. docs/RULES.md, "Places and states" and
--- "The verdict"; docs/SIMULATION.md, "The second half".
+-- For proofs: the states at the places of an image's functions, and what the typing rules ask of them. docs/RULES.md,
+-- "Places and states" and "The verdict"; docs/SIMULATION.md, "The second half".
 use Rattle.std.specs.Prelude.{◌≡◌, ℕ, Some, Ok, slice_get}
 use Rattle.ebc_insn.specs.declared.Insn.{Insn}
 use Rattle.note_types.specs.Known.{IsState}
@@ -7,11 +7,11 @@ use Rattle.note_types.specs.declared.notes.FnNote.{FnNote}
 use Rattle.note_types.specs.declared.notes.Notes.{Notes}
 use Rattle.note_types.specs.declared.state.State.{State}
 use Rattle.pe_image.specs.declared.image.Image.{Image}
-use Rattle.rules_data.specs.Images.{EndHolds, IsDecoded, PointHolds, RelocationHolds}
+use Rattle.rules_image.specs.Images.{EndHolds, IsDecoded, PointHolds, RelocationHolds, reloc_at}
 use Rattle.rules_flow.specs.declared.successors.Successors.{Successors}
-use Rattle.run_types.specs.World.{World}
-use Rattle.width_checker.specs.Places.{IsPlaceOf}
-use Rattle.width_checker.specs.Rows.{here_at, reloc_at, row_of}
+use Rattle.host_model.specs.World.{World}
+use Rattle.rules_image.specs.Places.{IsPlaceOf}
+use Rattle.width_checker.specs.Rows.{here_at, row_of}
 use Rattle.typed_runs.specs.Waiting.{States}
 use Rattle.invariant_laws.specs.Hosted.{EntersAs, HasStarts}
 

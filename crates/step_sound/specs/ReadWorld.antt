@@ -1,13 +1,13 @@
--- The world of a run of what was read: an image, notes and a script such as their readers give, where the image keeps the rules on
--- shapes, functions, static objects and thunk cells. docs/SIMULATION.md, "What the laws ask".
+-- For proofs: the world of a run of what was read: an image, notes and a script such as their readers give, where the image
+-- keeps the rules on shapes, functions, static objects and thunk cells. docs/SIMULATION.md, "What the laws ask".
 use Rattle.std.specs.Prelude.{◌≡◌, ℕ}
 use Rattle.note_types.specs.Records.{IsNotes}
 use Rattle.pe_image.specs.Images.{IsImage}
 use Rattle.pe_image.specs.Mapped.{AreBytes}
 use Rattle.pe_image.specs.declared.image.Image.{Image}
-use Rattle.rules_data.specs.Images.{ShapeHolds, FunctionHolds, StaticHolds, ThunkHolds}
-use Rattle.run_types.specs.Scripts.{IsScript}
-use Rattle.run_types.specs.World.{World}
+use Rattle.rules_image.specs.Images.{ShapeHolds, FunctionHolds, StaticHolds, ThunkHolds}
+use Rattle.host_model.specs.Scripts.{IsScript}
+use Rattle.host_model.specs.World.{World}
 
 -- The world of a run of what was read. The first five fields are what the readers promise and how a world is made of that; the
 -- others are rules that the image has to keep with its notes.

@@ -1,5 +1,6 @@
--- The simulation of one step at one width: at an instruction that its rule accepts, from a configuration for which the machine stands
--- and that is sound with the state, the machine does what the neutral machine does, and both go on so. docs/SIMULATION.md, "One step".
+-- For proofs: the simulation of one step at one width: at an instruction that its rule accepts, from a configuration for
+-- which the machine stands and that is sound with the state, the machine does what the neutral machine does, and both go on
+-- so. docs/SIMULATION.md, "One step".
 use Rattle.std.specs.Prelude.{◌≡◌, ℕ, List, ◌∷◌, None, Some, slice_get}
 use Rattle.ebc_insn.specs.declared.Insn.{Insn}
 use Rattle.ebc_machine.specs.declared.StepEnd.{StepEnd}
@@ -19,19 +20,19 @@ use Rattle.note_types.specs.declared.state.State.{State}
 use Rattle.pe_image.specs.Mapped.{mapped}
 use Rattle.pe_image.specs.declared.image.Image.{Image}
 use Rattle.rules_base.specs.declared.here.Here.{Here}
-use Rattle.rules_data.specs.Images.{EndHolds, IsDecoded, RelocationHolds}
+use Rattle.rules_image.specs.Images.{EndHolds, IsDecoded, RelocationHolds}
 use Rattle.rules_flow.specs.declared.successors.Successors.{Successors}
-use Rattle.run_types.specs.Config.{FunctionFrame, Frame, Function, Config, call_under_way}
-use Rattle.run_types.specs.Outcomes.{Gives, Raises, Stuck}
-use Rattle.run_types.specs.Placements.{Placement, IsPlacement}
-use Rattle.run_types.specs.Progress.{NoCall}
-use Rattle.run_types.specs.World.{World}
+use Rattle.neutral_machine.specs.Config.{FunctionFrame, Frame, Function, Config, call_under_way}
+use Rattle.neutral_machine.specs.Outcomes.{Gives, Raises, Stuck}
+use Rattle.host_model.specs.Placements.{Placement, IsPlacement}
+use Rattle.host_model.specs.Progress.{NoCall}
+use Rattle.host_model.specs.World.{World}
 use Rattle.typed_runs.specs.Sound.{Sound}
 use Rattle.typing_laws.specs.OneRule.{EndsSound}
-use Rattle.width_checker.specs.Places.{IsPlaceOf}
+use Rattle.rules_image.specs.Places.{IsPlaceOf}
 use Rattle.step_sound.specs.PlaceStates.{PlacesHold}
 use Rattle.step_sound.specs.ReadWorld.{IsReadWorld}
-use Rattle.whole_runs.specs.Runs.{world_of}
+use Rattle.host_model.specs.Runs.{world_of}
 
 -- ---- before the step
 
@@ -41,7 +42,8 @@ site_of here = record { place = here.place; next = here.next; reloc = here.reloc
 
 -- What is asked before a step: of the image, its notes and the script; of the machine and the configuration for which it stands; and of
 -- the instruction, which stands at the configuration's spot, in the function on top.
-pub record StepStands (w : ℕ) (image : Image) (world : World) (P : Placement) (a : Config) (f : FunctionFrame) (fs : List Frame) (note : FnNote) (here : Here) (s : State) (i : Insn) (c : Concrete) : Type 0 where
+pub record StepStands (w : ℕ) (image : Image) (world : World) (P : Placement) (a : Config) (f : FunctionFrame) (fs : List Frame)
+    (note : FnNote) (here : Here) (s : State) (i : Insn) (c : Concrete) : Type 0 where
   -- image, notes and script were read, and the rules on shapes, functions, static objects and thunk cells hold
   pub read : IsReadWorld image world
   -- at each place of a function an instruction decodes, and no point lies inside it
@@ -73,7 +75,8 @@ pub record StepStands (w : ℕ) (image : Image) (world : World) (P : Placement) 
 -- alike, the machine stands for the configuration that is given, and this one is sound as the instruction asks: with the state of the
 -- successor that was taken, with the entry state of the called function, and but for a state once a function returns or a native
 -- method is called.
-abbrev pub Simulated : ℕ → World → Placement → (ℕ → ℕ) → Site → Successors → Insn → Config → FunctionFrame → List Frame → Concrete → NeutralRow → StepEnd × Concrete → Type 0
+abbrev pub Simulated : ℕ → World → Placement → (ℕ → ℕ) → Site → Successors → Insn → Config → FunctionFrame → List Frame → Concrete
+    → NeutralRow → StepEnd × Concrete → Type 0
 Simulated w world P loaded here x i a f fs c Stuck t = ⊥
 Simulated w world P loaded here x i a f fs c (Raises e) t = (e ≡ DivideError) × (t ≡ (ends.Raised e, c))
 Simulated w world P loaded here x i a f fs c (Gives (e, b)) t = RowsAlike w world P loaded (e, b) t × EndsSound world here x i a f fs (e, b)
@@ -84,4 +87,5 @@ abbrev pub StepSimulated : ℕ → Notes → Here → State → Insn → Concret
 StepSimulated w notes here s i before after x =
     (image : Image) (script : Script) (P : Placement) (a : Config) (f : FunctionFrame) (fs : List Frame) (note : FnNote)
     → StepStands w image (world_of image notes script) P a f fs note here s i before
-    → Simulated w (world_of image notes script) P (mapped image P.image) (site_of here) x i a f fs before (executed (world_of image notes script) a (site_of here) i) after
+    → Simulated w (world_of image notes script) P (mapped image P.image) (site_of here) x i a f fs before
+    (executed (world_of image notes script) a (site_of here) i) after

@@ -1,4 +1,4 @@
--- The kinds of steps of a run: by what comes next in a configuration. docs/HOST.md, "Steps".
+-- For proofs: the kinds of steps of a run: by what comes next in a configuration. docs/HOST.md, "Steps".
 use Rattle.std.specs.Prelude.{◌≡◌, ℕ, Bool, true, false, List, [], ◌∷◌, Some, None, nat_eq, slice_get}
 use Rattle.ebc_insn.specs.declared.Insn.{Insn}
 use Rattle.ebc_insn.specs.declared.Insn.TheVariants as insns
@@ -6,11 +6,11 @@ use Rattle.note_types.specs.declared.script.Callback.{Callback}
 use Rattle.note_types.specs.declared.script.ScriptCall.{ScriptCall}
 use Rattle.note_types.specs.declared.spot.Spot.TheVariants.{Place, Gate}
 use Rattle.pe_image.specs.declared.image.Image.{Image}
-use Rattle.run_types.specs.Config.{Frame, Host, HostFrame, Config, call_under_way}
-use Rattle.run_types.specs.Progress.{NoCall, Asked, Accepted}
-use Rattle.run_types.specs.Values.{Neutral}
-use Rattle.run_types.specs.World.{World}
-use Rattle.whole_runs.specs.NeutralImage.{instruction_at}
+use Rattle.neutral_machine.specs.Config.{Frame, Host, HostFrame, Config, call_under_way}
+use Rattle.host_model.specs.Progress.{NoCall, Asked, Accepted}
+use Rattle.host_model.specs.Values.{Neutral}
+use Rattle.host_model.specs.World.{World}
+use Rattle.neutral_machine.specs.NeutralImage.{instruction_at}
 
 -- ---- instructions
 

@@ -1,5 +1,5 @@
--- The law of a step of a run at a width: the run goes on standing for the configuration of the neutral machine, unless that is
--- stuck. docs/HOST.md, "Laws of its steps".
+-- For proofs: the law of a step of a run at a width: the run goes on standing for the configuration of the neutral machine,
+-- unless that is stuck. docs/HOST.md, "Laws of its steps".
 use Rattle.std.specs.Prelude.{◌≡◌, ℕ, ◌≤◌, Some}
 use Rattle.ebc_insn.specs.declared.Insn.{Insn}
 use Rattle.ebc_width.specs.Width.{IsWidth}
@@ -12,15 +12,15 @@ use Rattle.note_types.specs.declared.ending.Ending.TheVariants.{Running}
 use Rattle.note_types.specs.declared.spot.Spot.TheVariants.{Place}
 use Rattle.pe_image.specs.Mapped.{AreBytes, mapped}
 use Rattle.pe_image.specs.declared.image.Image.{Image}
-use Rattle.run_types.specs.Config.{Config, call_under_way}
-use Rattle.run_types.specs.Layout.{total}
-use Rattle.run_types.specs.NeutralRuns.{neutral_step}
-use Rattle.run_types.specs.Placements.{Placement, IsPlacement, stack_bytes}
-use Rattle.run_types.specs.Progress.{NoCall}
-use Rattle.run_types.specs.RunState.{RunState}
-use Rattle.run_types.specs.World.{World}
-use Rattle.whole_runs.specs.NeutralRun.{neutral_instruction}
-use Rattle.whole_runs.specs.Runs.{run_step}
+use Rattle.neutral_machine.specs.Config.{Config, call_under_way}
+use Rattle.neutral_machine.specs.Layout.{total}
+use Rattle.neutral_machine.specs.NeutralRuns.{neutral_step}
+use Rattle.host_model.specs.Placements.{Placement, IsPlacement, stack_bytes}
+use Rattle.host_model.specs.Progress.{NoCall}
+use Rattle.host_model.specs.RunState.{RunState}
+use Rattle.host_model.specs.World.{World}
+use Rattle.neutral_machine.specs.NeutralRun.{neutral_instruction}
+use Rattle.host_model.specs.Runs.{run_step}
 
 -- what a run of an image has at either width
 pub record IsRunAt (w : ℕ) (image : Image) (world : World) (P : Placement) : Type 0 where
@@ -48,6 +48,7 @@ pub record StepGoesWell (w : ℕ) (image : Image) (world : World) (a b : Config)
 -- After a step the run stands for what the step leaves of the configuration. Of one that has ended nothing is asked.
 abbrev pub RunStepKeepsStanding : Type 0
 RunStepKeepsStanding =
-    (w : ℕ) (image : Image) (world : World) (P : Placement) (a b : Config) (r : RunState) → IsRunAt w image world P → (a.ending ≡ Running → StepGoesWell w image world a b)
+    (w : ℕ) (image : Image) (world : World) (P : Placement) (a b : Config) (r : RunState) → IsRunAt w image world P
+    → (a.ending ≡ Running → StepGoesWell w image world a b)
     → Stands w world P (mapped image P.image) a r → neutral_step world (neutral_instruction world image) a ≡ Some b
     → Stands w world P (mapped image P.image) b (run_step w world P r)

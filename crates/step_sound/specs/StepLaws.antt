@@ -1,19 +1,19 @@
--- One law for each kind of step: from a configuration that meets the invariant the neutral machine isn't stuck, and what its step and
--- the run's step leave meets the invariant. docs/SIMULATION.md, "The laws of the steps".
+-- For proofs: One law for each kind of step: from a configuration that meets the invariant the neutral machine isn't stuck,
+-- and what its step and the run's step leave meets the invariant. docs/SIMULATION.md, "The laws of the steps".
 use Rattle.std.specs.Prelude.{◌≡◌, ℕ, Option, Some}
 use Rattle.invariant_laws.specs.Laws.{states_by}
 use Rattle.note_types.specs.declared.ending.Ending.TheVariants.{Running}
 use Rattle.note_types.specs.declared.state.State.{State}
 use Rattle.pe_image.specs.declared.image.Image.{Image}
-use Rattle.run_types.specs.Config.{Config}
-use Rattle.run_types.specs.NeutralRuns.{neutral_start, neutral_step}
-use Rattle.run_types.specs.Placements.{Placement}
-use Rattle.run_types.specs.RunState.{RunState}
-use Rattle.run_types.specs.World.{World}
+use Rattle.neutral_machine.specs.Config.{Config}
+use Rattle.neutral_machine.specs.NeutralRuns.{neutral_start, neutral_step}
+use Rattle.host_model.specs.Placements.{Placement}
+use Rattle.host_model.specs.RunState.{RunState}
+use Rattle.host_model.specs.World.{World}
 use Rattle.typed_runs.specs.Waiting.{States}
-use Rattle.whole_runs.specs.NeutralImage.{static_cells}
-use Rattle.whole_runs.specs.NeutralRun.{neutral_instruction}
-use Rattle.whole_runs.specs.Runs.{run_of, run_step}
+use Rattle.neutral_machine.specs.NeutralImage.{static_cells}
+use Rattle.neutral_machine.specs.NeutralRun.{neutral_instruction}
+use Rattle.host_model.specs.Runs.{run_of, run_step}
 use Rattle.step_sound.specs.Invariant.{Invariant, RunHolds}
 use Rattle.step_sound.specs.StepKinds.{IsPlain, IsNativeCall, IsThunk, IsCall, IsEnter, IsReply, IsLeaving, IsLast, NextStep}
 
@@ -66,7 +66,8 @@ LastKeeps = KeepsInvariant IsLast
 -- a run's start meets the invariant
 abbrev pub StartMeets : Type 0
 StartMeets =
-    (w : ℕ) (image : Image) (world : World) (P : Placement) (map : (func place : ℕ) → Option State) → RunHolds w image world P (states_by map)
+    (w : ℕ) (image : Image) (world : World) (P : Placement) (map : (func place : ℕ) → Option State)
+    → RunHolds w image world P (states_by map)
     → Invariant w image world P (states_by map) (neutral_start world (static_cells world image)) (run_of w world P image 0)
 
 -- where the invariant holds of a configuration that goes on, the next step is of one of these kinds

@@ -1,5 +1,6 @@
 -- The driver of docs/NOTES.md with its names and its point: its notes meet the conditions on notes.
-use Rattle.std.proofs.Common.{◌≡◌, ℕ, zero, suc, ◌-◌, ◌*◌, ◌^◌, ◌<◌, ◌≤◌, Bool, true, false, List, [], ◌∷◌, length, get_or, slice_get, Some, None, refl, sym, pos, codes, nat_le, nat_lt, arith}
+use Rattle.std.proofs.Common.{◌≡◌, ℕ, zero, suc, ◌-◌, ◌*◌, ◌^◌, ◌<◌, ◌≤◌, Bool, true, false, List, [], ◌∷◌, length, get_or, slice_get, Some}
+use Rattle.std.proofs.Common.{None, refl, sym, pos, codes, nat_le, nat_lt, arith}
 use Rattle.std.specs.Prelude.{IfSome}
 use Rattle.std.specs.Int.{bit_at}
 use Rattle.std.specs.List.{AllByRecursion, sum_by}
@@ -15,7 +16,9 @@ use Rattle.note_types.specs.declared.state.State.{State}
 use Rattle.note_types.specs.declared.types.Ty.{Ty}
 use Rattle.note_types.specs.Limits.{code_limit, point_limit, stack_limit}
 use Rattle.note_types.specs.Passing.{IsHandedBack, IsHandedIn}
-use Rattle.note_types.specs.Records.{CanBeEntered, HasNameLength, IsFieldNote, IsFunctionNote, IsNotes, IsParamNote, IsPointNote, IsResultNote, IsShapeNote, IsSignatureNote, IsSiteNote, IsThunkNote, IsWantNote, code_size, frame_size, function_at}
+use Rattle.note_types.specs.Records.{CanBeEntered, HasNameLength, IsFieldNote, IsFunctionNote, IsNotes, IsParamNote, IsPointNote}
+use Rattle.note_types.specs.Records.{IsResultNote, IsShapeNote, IsSignatureNote, IsSiteNote, IsThunkNote, IsWantNote, code_size, frame_size}
+use Rattle.note_types.specs.Records.{function_at}
 use Rattle.note_types.specs.declared.cell.Cell.TheVariants as cell
 use Rattle.note_types.specs.declared.notes.FnNote.{FnNote}
 use Rattle.note_types.specs.declared.notes.Notes.{Notes}
@@ -25,8 +28,8 @@ use Rattle.note_types.specs.declared.shape.Field.{Field}
 use Rattle.note_types.specs.declared.shape.Shape.{Shape}
 use Rattle.note_types.specs.declared.types.Ty.TheVariants as ty
 use Rattle.note_types.proofs.TypeLaws.{no_fields}
-use Rattle.run_types.specs.World.{World}
-use Rattle.run_types.proofs.Driver.{driver, driver_notes}
+use Rattle.host_model.specs.World.{World}
+use Rattle.neutral_machine.proofs.Driver.{driver, driver_notes}
 use Rattle.step_sound.proofs.Items.{each_item}
 
 -- ---- the notes with names
@@ -62,7 +65,8 @@ after_locate = record {
 abbrev pub driver_named : World
 driver_named = record driver {
   notes = record driver_notes {
-    shape = named_shapes ((codes "Sys", codes "loc" ∷ codes "reg" ∷ []) ∷ (codes "Blk", codes "count" ∷ codes "next" ∷ []) ∷ (codes "L", codes "p" ∷ []) ∷ []) driver_notes.shape;
+    shape = named_shapes ((codes "Sys", codes "loc" ∷ codes "reg" ∷ []) ∷ (codes "Blk", codes "count" ∷ codes "next" ∷ []) ∷
+        (codes "L", codes "p" ∷ []) ∷ []) driver_notes.shape;
     function = named_functions (codes "main" ∷ codes "tick" ∷ []) driver_notes.function;
     signature = named_signatures (codes "locate" ∷ codes "register" ∷ []) driver_notes.signature;
     methods = codes "Locate" ∷ codes "Register" ∷ [];
@@ -93,10 +97,22 @@ status : (f : FnNote) → IsKnown notes f (ty.Status 0)
 status f = record { bounded = below 0 (2 ^ 64) refl; names = no_fields notes f }
 
 table : (f : FnNote) → IsKnown notes f (ty.Ptr 0 1 (pos 0) (pos 0) false)
-table f = record { bounded = (at_most 1 1 refl, (at_most 0 0 refl, at_most 0 (2 ^ 20) refl), at_most 0 (2 ^ 20) refl, below 1 (2 ^ 64) refl, below 0 (2 ^ 32) refl); names = below 0 3 refl }
+table f = record {
+  bounded = (
+    at_most 1 1 refl,
+    (at_most 0 0 refl, at_most 0 (2 ^ 20) refl),
+    at_most 0 (2 ^ 20) refl,
+    below 1 (2 ^ 64) refl,
+    below 0 (2 ^ 32) refl,
+  );
+  names = below 0 3 refl;
+}
 
 word : (f : FnNote) → IsKnown notes f (ty.Int 0 (2 ^ 32 - 1) 1)
-word f = record { bounded = (at_most 0 (2 ^ 32 - 1) refl, below (2 ^ 32 - 1) (2 ^ 64) refl, at_most 1 1 refl, below 1 (2 ^ 64) refl); names = tt }
+word f = record {
+  bounded = (at_most 0 (2 ^ 32 - 1) refl, below (2 ^ 32 - 1) (2 ^ 64) refl, at_most 1 1 refl, below 1 (2 ^ 64) refl);
+  names = tt;
+}
 
 -- ---- shapes
 
@@ -106,17 +122,36 @@ method_cell m l k = record { bounded = below m (2 ^ 32) l; names = below m 2 k }
 block_cell : (may : Bool) → IsKnownCell notes (cell.Ptr 1 1 may)
 block_cell may = record { bounded = (below 1 (2 ^ 32) refl, at_most 1 1 refl, below 1 (2 ^ 64) refl); names = below 1 3 refl }
 
-field_note : (x : Field) → nat_le 1 (length x.name) ≡ true → nat_le (length x.name) 63 ≡ true → nat_lt x.n (2 ^ 32) ≡ true → nat_lt x.c (2 ^ 32) ≡ true → IsKnownCell notes x.cell → IsFieldNote notes x
-field_note x some short units bytes known = record { name = name_length x.name some short; units = below x.n (2 ^ 32) units; bytes = below x.c (2 ^ 32) bytes; cell = known }
+field_note : (x : Field) → nat_le 1 (length x.name) ≡ true → nat_le (length x.name) 63 ≡ true → nat_lt x.n (2 ^ 32) ≡ true
+    → nat_lt x.c (2 ^ 32) ≡ true → IsKnownCell notes x.cell → IsFieldNote notes x
+field_note x some short units bytes known = record {
+  name = name_length x.name some short;
+  units = below x.n (2 ^ 32) units;
+  bytes = below x.c (2 ^ 32) bytes;
+  cell = known;
+}
 
-shape_note : (s : Shape) → nat_le 1 (length s.name) ≡ true → nat_le (length s.name) 63 ≡ true → nat_lt s.n (2 ^ 32) ≡ true → nat_lt s.c (2 ^ 32) ≡ true → nat_le (length s.fields) 256 ≡ true → AllByRecursion (IsFieldNote notes) s.fields → IsShapeNote notes s
-shape_note s some short units bytes few fields = record { name = name_length s.name some short; units = below s.n (2 ^ 32) units; bytes = below s.c (2 ^ 32) bytes; few = at_most (length s.fields) 256 few; fields = each_item (IsFieldNote notes) s.fields fields }
+shape_note : (s : Shape) → nat_le 1 (length s.name) ≡ true → nat_le (length s.name) 63 ≡ true → nat_lt s.n (2 ^ 32) ≡ true
+    → nat_lt s.c (2 ^ 32) ≡ true → nat_le (length s.fields) 256 ≡ true → AllByRecursion (IsFieldNote notes) s.fields → IsShapeNote notes s
+shape_note s some short units bytes few fields = record {
+  name = name_length s.name some short;
+  units = below s.n (2 ^ 32) units;
+  bytes = below s.c (2 ^ 32) bytes;
+  few = at_most (length s.fields) 256 few;
+  fields = each_item (IsFieldNote notes) s.fields fields;
+}
 
 shapes : AllByRecursion (IsShapeNote notes) notes.shape
 shapes = (
-  shape_note _ refl refl refl refl refl (field_note _ refl refl refl refl (method_cell 0 refl refl), (field_note _ refl refl refl refl (method_cell 1 refl refl), tt)),
+  shape_note _ refl refl refl refl refl (
+    field_note _ refl refl refl refl (method_cell 0 refl refl),
+    (field_note _ refl refl refl refl (method_cell 1 refl refl), tt),
+  ),
   (
-    shape_note _ refl refl refl refl refl (field_note _ refl refl refl refl (record { bounded = tt; names = tt }), (field_note _ refl refl refl refl (block_cell true), tt)),
+    shape_note _ refl refl refl refl refl (
+      field_note _ refl refl refl refl (record { bounded = tt; names = tt }),
+      (field_note _ refl refl refl refl (block_cell true), tt),
+    ),
     (
       shape_note _ refl refl refl refl refl (field_note _ refl refl refl refl (block_cell false), tt),
       tt,
@@ -128,7 +163,17 @@ shapes = (
 
 -- what stands for a function that isn't there
 abbrev no_function : FnNote
-no_function = record { name = []; place = 0; «end» = 0; level = 0; need = record { n = 0; c = 0 }; locals = None; params = []; result = ty.Any; enter = false }
+no_function = record {
+  name = [];
+  place = 0;
+  «end» = 0;
+  level = 0;
+  need = record { n = 0; c = 0 };
+  locals = None;
+  params = [];
+  result = ty.Any;
+  enter = false;
+}
 
 abbrev pub main : FnNote
 main = get_or notes.function 0 no_function
@@ -136,8 +181,13 @@ main = get_or notes.function 0 no_function
 abbrev pub tick : FnNote
 tick = get_or notes.function 1 no_function
 
-enterable : (f : FnNote) → AllByRecursion (λ (p : Param). IsHandedIn p.ty) f.params → IsHandedBack f.result → nat_le (9 * frame_size f) stack_limit ≡ true → CanBeEntered f
-enterable f takes gives fits = record { takes = each_item (λ (p : Param). IsHandedIn p.ty) f.params takes; gives = gives; stack = at_most (9 * frame_size f) stack_limit fits }
+enterable : (f : FnNote) → AllByRecursion (λ (p : Param). IsHandedIn p.ty) f.params → IsHandedBack f.result
+    → nat_le (9 * frame_size f) stack_limit ≡ true → CanBeEntered f
+enterable f takes gives fits = record {
+  takes = each_item (λ (p : Param). IsHandedIn p.ty) f.params takes;
+  gives = gives;
+  stack = at_most (9 * frame_size f) stack_limit fits;
+}
 
 main_enterable : CanBeEntered main
 main_enterable = enterable main (tt, ((refl, refl), tt)) tt refl
@@ -179,7 +229,15 @@ tick_note = record {
   locals = tt;
   fields = at_most 0 64 refl;
   few = at_most 1 16 refl;
-  params = each_item (IsParamNote notes tick) tick.params (record { kind = tt; known = word tick; kept = λ e. below (2 ^ 32 - 1) (2 ^ 32) refl; passed = tt }, tt);
+  params = each_item (IsParamNote notes tick) tick.params (
+    record {
+      kind = tt;
+      known = word tick;
+      kept = λ e. below (2 ^ 32 - 1) (2 ^ 32) refl;
+      passed = tt;
+    },
+    tt,
+  );
   result = status tick;
   returned = refl;
   entered = λ e. tick_enterable;
@@ -194,7 +252,8 @@ any f = record { bounded = tt; names = tt }
 one_local : AreFields notes main 1
 unfolding local_fields
 one_local zero h = below 0 1 refl
-one_local (suc x) h = let z : bit_at (2 ^ 0) (suc x) ≡ 0 = bit_at-pow_other 0 (suc x) (λ e. omega (arith, e)) in absurd (omega (arith, h, z))
+one_local (suc x) h = let z : bit_at (2 ^ 0) (suc x) ≡ 0 = bit_at-pow_other 0 (suc x) (λ e. omega (arith, e)) in
+    absurd (omega (arith, h, z))
 
 registers : (r : ℕ) → IsKnown notes main (type_of after_locate r)
 registers zero = any main
@@ -238,7 +297,9 @@ point_note = record {
 
 -- ---- signatures
 
-signature_note : (g : Signature) → nat_le 1 (length g.name) ≡ true → nat_le (length g.name) 63 ≡ true → nat_lt g.method 2 ≡ true → nat_le (length g.params) 16 ≡ true → AllByRecursion (IsWantNote notes) g.params → IfSome g.result (IsResultNote notes) → IsSignatureNote notes g
+signature_note : (g : Signature) → nat_le 1 (length g.name) ≡ true → nat_le (length g.name) 63 ≡ true → nat_lt g.method 2 ≡ true
+    → nat_le (length g.params) 16 ≡ true → AllByRecursion (IsWantNote notes) g.params → IfSome g.result (IsResultNote notes)
+    → IsSignatureNote notes g
 signature_note g some short method few params result = record {
   name = name_length g.name some short;
   method = below g.method 2 method;
@@ -249,7 +310,8 @@ signature_note g some short method few params result = record {
 
 signatures : AllByRecursion (IsSignatureNote notes) notes.signature
 signatures = (
-  signature_note _ refl refl refl refl (record { kind = tt; known = block_cell false; kept = λ e. tt }, tt) (record { given = refl; known = status }),
+  signature_note _ refl refl refl refl (record { kind = tt; known = block_cell false; kept = λ e. tt }, tt)
+      (record { given = refl; known = status }),
   (
     signature_note _ refl refl refl refl (record { kind = tt; known = tt; kept = λ e. tt }, tt) (record { given = refl; known = status }),
     tt,
@@ -282,8 +344,15 @@ driver_notes_meet = record {
   functions = each_item (IsFunctionNote notes) notes.function (main_note, (tick_note, tt));
   points = each_item (IsPointNote notes) notes.point (point_note, tt);
   signatures = each_item (IsSignatureNote notes) notes.signature signatures;
-  sites = each_item (IsSiteNote notes) notes.site (record { place = below 0x1014 (2 ^ 22) refl; signature = below 0 2 refl }, (record { place = below 0x1032 (2 ^ 22) refl; signature = below 1 2 refl }, tt));
+  sites = each_item (IsSiteNote notes) notes.site (
+    record { place = below 0x1014 (2 ^ 22) refl; signature = below 0 2 refl },
+    (record { place = below 0x1032 (2 ^ 22) refl; signature = below 1 2 refl }, tt),
+  );
   methods = each_item HasNameLength notes.methods (name_length (codes "Locate") refl refl, (name_length (codes "Register") refl refl, tt));
-  ascends = record { functions = two_ascend 0x1000 0x1044 (below 0x1000 0x1044 refl); points = λ k l. absurd (omega (arith, l)); sites = two_ascend 0x1014 0x1032 (below 0x1014 0x1032 refl) };
+  ascends = record {
+    functions = two_ascend 0x1000 0x1044 (below 0x1000 0x1044 refl);
+    points = λ k l. absurd (omega (arith, l));
+    sites = two_ascend 0x1014 0x1032 (below 0x1014 0x1032 refl);
+  };
   code = at_most (sum_by code_size notes.function) (code_limit 1) refl;
 }

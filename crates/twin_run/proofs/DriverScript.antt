@@ -1,5 +1,6 @@
 -- The driver's script: it is as the reader of scripts gives one.
-use Rattle.std.proofs.Common.{◌≡◌, ℕ, zero, suc, ◌+◌, ◌^◌, ◌<◌, ◌≤◌, true, List, [], ◌∷◌, length, take, Some, refl, sym, ap, ◌∙◌, subst, arith, inl, inr, codes, nat_lt, slice_get}
+use Rattle.std.proofs.Common.{◌≡◌, ℕ, zero, suc, ◌+◌, ◌^◌, ◌<◌, ◌≤◌, true, List, [], ◌∷◌, length, take, Some, refl, sym, ap, ◌∙◌, subst}
+use Rattle.std.proofs.Common.{arith, inl, inr, codes, nat_lt, slice_get}
 use Rattle.std.specs.List.{sum_by}
 use Rattle.std.proofs.lemmas.Bool.{leb-true, ltb-true, true≢false}
 use Rattle.std.proofs.lemmas.Option.{same_Some, none-some}
@@ -11,10 +12,11 @@ use Rattle.note_types.specs.declared.script.ScriptCall.{ScriptCall}
 use Rattle.note_types.specs.declared.script.ScriptObject.{ScriptObject}
 use Rattle.note_types.specs.declared.shape.Field.{Field}
 use Rattle.note_types.specs.declared.value.Value.TheVariants as value
-use Rattle.run_types.specs.Objects.{made_objects, placed_objects, shape_of}
-use Rattle.run_types.specs.ScriptValues.{fits, fits_each}
-use Rattle.run_types.specs.Scripts.{IsArgument, IsCallOf, IsCallbackOf, IsCellOf, IsObjectOf, IsOutOf, IsScript, IsWritten, all_made, callbacks_of, have_room, is_given, is_needed}
-use Rattle.run_types.proofs.Driver.{locate_call, register_call}
+use Rattle.host_model.specs.Objects.{made_objects, placed_objects, shape_of}
+use Rattle.host_model.specs.ScriptValues.{fits, fits_each}
+use Rattle.host_model.specs.Scripts.{IsArgument, IsCallOf, IsCallbackOf, IsCellOf, IsObjectOf, IsOutOf, IsScript, IsWritten, all_made}
+use Rattle.host_model.specs.Scripts.{callbacks_of, have_room, is_given, is_needed}
+use Rattle.neutral_machine.proofs.Driver.{locate_call, register_call}
 use Rattle.twin_run.proofs.DriverImage.{driver_shapes}
 use Rattle.twin_run.proofs.DriverNotes.{driver_named}
 use Rattle.step_sound.proofs.Items.{each_item}
@@ -41,7 +43,8 @@ table = record { shape = 0; count = 1; cells = method 0 ∷ method 1 ∷ [] }
 abbrev block : ScriptObject
 block = record { shape = 1; count = 1; cells = [] }
 
-table_given : (i f : ℕ) (x : Field) → i < 1 → slice_get (shape_of notes 0).fields f ≡ Some x → is_needed x.cell ≡ true → is_given table.cells i f ≡ true
+table_given : (i f : ℕ) (x : Field) → i < 1 → slice_get (shape_of notes 0).fields f ≡ Some x → is_needed x.cell ≡ true
+    → is_given table.cells i f ≡ true
 table_given zero zero x l g n = refl
 table_given zero (suc zero) x l g n = refl
 table_given zero (suc (suc f)) x l g n = absurd (none-some x g)
@@ -59,15 +62,23 @@ table_is = record {
   cells = each_item (IsCellOf notes (all_made notes script) table) table.cells (
     record { instance = ltb-true 0 1 refl; field = method_field 0 (codes "loc"); there = refl; written = ltb-true 0 2 refl; value = refl },
     (
-      record { instance = ltb-true 0 1 refl; field = method_field 1 (codes "reg"); there = refl; written = ltb-true 1 2 refl; value = refl },
+      record {
+        instance = ltb-true 0 1 refl;
+        field = method_field 1 (codes "reg");
+        there = refl;
+        written = ltb-true 1 2 refl;
+        value = refl;
+      },
       tt,
     ),
   );
   given = table_given;
-  earlier = λ k c p i g e. each_item (λ (x : CellValue). x.value ≡ value.Ptr p i → p ≤ 0) table.cells (no_pointer (method 0) 0 p i refl, (no_pointer (method 1) 1 p i refl, tt)) k c g e;
+  earlier = λ k c p i g e. each_item (λ (x : CellValue). x.value ≡ value.Ptr p i → p ≤ 0) table.cells
+      (no_pointer (method 0) 0 p i refl, (no_pointer (method 1) 1 p i refl, tt)) k c g e;
 }
 
-block_given : (i f : ℕ) (x : Field) → i < 1 → slice_get (shape_of notes 1).fields f ≡ Some x → is_needed x.cell ≡ true → is_given block.cells i f ≡ true
+block_given : (i f : ℕ) (x : Field) → i < 1 → slice_get (shape_of notes 1).fields f ≡ Some x → is_needed x.cell ≡ true
+    → is_given block.cells i f ≡ true
 block_given i zero x l g n = absurd (true≢false (sym n ∙ ap (λ (y : Field). is_needed y.cell) (sym (same_Some _ x g))))
 block_given i (suc zero) x l g n = absurd (true≢false (sym n ∙ ap (λ (y : Field). is_needed y.cell) (sym (same_Some _ x g))))
 block_given i (suc (suc f)) x l g n = absurd (none-some x g)
@@ -82,7 +93,8 @@ block_is = record {
   earlier = λ k c p i g e. absurd (none-some c g);
 }
 
-objects : (k : ℕ) (o : ScriptObject) → slice_get script.object k ≡ Some o → IsObjectOf notes (all_made notes script) (length notes.statics + k) o
+objects : (k : ℕ) (o : ScriptObject) → slice_get script.object k ≡ Some o
+    → IsObjectOf notes (all_made notes script) (length notes.statics + k) o
 objects zero o g = subst (IsObjectOf notes (all_made notes script) 0) (same_Some table o g) table_is
 objects (suc zero) o g = subst (IsObjectOf notes (all_made notes script) 1) (same_Some block o g) block_is
 objects (suc (suc k)) o g = absurd (none-some o g)
@@ -98,7 +110,13 @@ located = record {
   args = refl;
   enter = λ k b g. absurd (none-some b g);
   make = λ j o g. absurd (none-some o g);
-  out = each_item (IsOutOf notes) locate_call.out (record { argument = ltb-true 0 (2 ^ 64) refl; written = (ltb-true 1 (2 ^ 64) refl, ltb-true 0 (2 ^ 64) refl) }, tt);
+  out = each_item (IsOutOf notes) locate_call.out (
+    record {
+      argument = ltb-true 0 (2 ^ 64) refl;
+      written = (ltb-true 1 (2 ^ 64) refl, ltb-true 0 (2 ^ 64) refl);
+    },
+    tt,
+  );
   write = λ k v g. absurd (none-some v g);
   result = ltb-true 0 (2 ^ 31) refl;
   few = ltb-true 0 16384 refl;

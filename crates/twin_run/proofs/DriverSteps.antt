@@ -2,12 +2,12 @@
 use Rattle.std.proofs.Common.{◌≡◌, ℕ, Option, Some, None, refl}
 use Rattle.note_types.specs.declared.ending.Ending.TheVariants.{Finished}
 use Rattle.note_types.specs.declared.value.Value.TheVariants as value
-use Rattle.run_types.specs.Config.{Config}
-use Rattle.run_types.specs.NeutralRuns.{neutral_start}
-use Rattle.run_types.specs.Placements.{own_placement}
-use Rattle.whole_runs.specs.NeutralImage.{static_cells}
-use Rattle.whole_runs.specs.NeutralRun.{config_after}
-use Rattle.whole_runs.specs.Runs.{run_of}
+use Rattle.neutral_machine.specs.Config.{Config}
+use Rattle.neutral_machine.specs.NeutralRuns.{neutral_start}
+use Rattle.host_model.specs.Placements.{own_placement}
+use Rattle.neutral_machine.specs.NeutralImage.{static_cells}
+use Rattle.neutral_machine.specs.NeutralRun.{config_after}
+use Rattle.host_model.specs.Runs.{run_of}
 use Rattle.whole_runs.proofs.Computing.{runs_compute}
 use Rattle.whole_runs.proofs.Programs.{driver_image}
 use Rattle.step_sound.specs.StepKinds.{IsPlain, IsNativeCall, IsThunk, IsCall, IsEnter, IsReply, IsLeaving, IsLast}
@@ -32,7 +32,12 @@ plain = record {
   config = at_step 0;
   reached = refl;
   running = refl;
-  kind = record { insn = _; at = record { place = 0x1000; size = 6; spot = refl; under = refl; insn = refl }; no_call = refl; no_thunk = refl };
+  kind = record {
+    insn = _;
+    at = record { place = 0x1000; size = 6; spot = refl; under = refl; insn = refl };
+    no_call = refl;
+    no_thunk = refl;
+  };
 }
 
 thunk : ComesTo driver_image driver_named IsThunk
@@ -74,7 +79,19 @@ reply = record {
   config = at_step 8;
   reached = refl;
   running = refl;
-  kind = record { call = _; callbacks = 0; within = record { next = 0x1016; entry = 0; args = _; spot = refl; under = refl; entry_is = refl }; none_left = refl };
+  kind = record {
+    call = _;
+    callbacks = 0;
+    within = record {
+      next = 0x1016;
+      entry = 0;
+      args = _;
+      spot = refl;
+      under = refl;
+      entry_is = refl;
+    };
+    none_left = refl;
+  };
 }
 
 enter : ComesTo driver_image driver_named IsEnter
@@ -84,7 +101,20 @@ enter = record {
   config = at_step 20;
   reached = refl;
   running = refl;
-  kind = record { call = _; callbacks = 0; within = record { next = 0x1038; entry = 1; args = _; spot = refl; under = refl; entry_is = refl }; callback = _; left = refl };
+  kind = record {
+    call = _;
+    callbacks = 0;
+    within = record {
+      next = 0x1038;
+      entry = 1;
+      args = _;
+      spot = refl;
+      under = refl;
+      entry_is = refl;
+    };
+    callback = _;
+    left = refl;
+  };
 }
 
 leaving : ComesTo driver_image driver_named IsLeaving

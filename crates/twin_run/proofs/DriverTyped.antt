@@ -6,33 +6,36 @@ use Rattle.natural_index.specs.Index.{fields_of}
 use Rattle.ebc_width.specs.Bytes.{little_endian, put, window}
 use Rattle.ebc_width.specs.Ranges.{holds}
 use Rattle.ebc_insn.specs.Spelling.{field_bytes, bytes_of}
-use Rattle.ebc_decode.specs.Reading.{form_at, is_reserved, has_left_index, size1_at, size2_at, field_at as reading_field_at, insn_at, parts_at, read}
+use Rattle.ebc_decode.specs.Reading.{form_at, is_reserved, has_left_index, size1_at, size2_at, field_at as reading_field_at, insn_at}
+use Rattle.ebc_decode.specs.Reading.{parts_at, read}
 use Rattle.note_types.specs.BelowTests.{same_type, is_below, registers_up_to, items_below, state_below}
 use Rattle.note_types.specs.Known.{local_fields}
 use Rattle.note_types.specs.Records.{function_at}
-use Rattle.pe_image.specs.Mapped.{laid}
+use Rattle.pe_image.specs.Mapped.{laid, named_place}
 use Rattle.rules_base.specs.Access.{load_at, target_at}
 use Rattle.rules_base.specs.Change.{with_type, with_store, with_fact, changed}
 use Rattle.rules_base.specs.Destinations.{destination}
 use Rattle.rules_base.specs.Outcomes.{sooner}
-use Rattle.rules_base.specs.Places.{locals_size, field_at, cell_of, parameter_at, stack_at, field_place, place_at}
+use Rattle.rules_base.specs.Places.{locals_size, cell_of, parameter_at, stack_at, field_place, place_at, field_number_at}
 use Rattle.rules_base.specs.Sums.{gcd, shared, sum_row, sum, difference, product}
 use Rattle.rules_base.specs.Things.{static_at, thunk_at, thing_at}
 use Rattle.rules_base.specs.Values.{register_type, operand_value}
 use Rattle.rules_data.specs.Arithmetic.{wide_row, computed_type}
 use Rattle.rules_data.specs.Compares.{compares}
-use Rattle.rules_data.specs.Data.{left_operand, arith_row, compare_row, compare_imm_row, move_value, move_row, signed_value, move_signed_row, move_imm_row, move_index_row, move_relative_row, store_special_row, data_change, after_data}
-use Rattle.rules_data.specs.Images.{named_place}
+use Rattle.rules_data.specs.Data.{left_operand, arith_row, compare_row, compare_imm_row, move_value, move_row, signed_value}
+use Rattle.rules_data.specs.Data.{move_signed_row, move_imm_row, move_index_row, move_relative_row, store_special_row, data_change}
+use Rattle.rules_data.specs.Data.{after_data}
 use Rattle.rules_flow.specs.Arguments.{arguments, native_arguments, all_lent_out}
-use Rattle.rules_flow.specs.Calls.{callee_at, is_lower, call_to, call_row, callee_method, site_at, signature_at, native_call, call_native_row, may_return, return_row, break_row}
+use Rattle.rules_flow.specs.Calls.{callee_at, is_lower, call_to, call_row, callee_method, site_at, signature_at, native_call}
+use Rattle.rules_flow.specs.Calls.{call_native_row, may_return, return_row, break_row}
 use Rattle.rules_flow.specs.Flow.{after_flow}
 use Rattle.rules_flow.specs.Found.{number_at}
 use Rattle.rules_flow.specs.Frames.{items_size, has_room, push_row, pop_row, left_after, with_left, frame_row}
 use Rattle.rules_flow.specs.Jumps.{target_of, point_at, jump_row, jump8_row}
 use Rattle.rules_flow.specs.Narrowing.{narrow}
 use Rattle.machine_alu.specs.Alu.{computed, compared}
-use Rattle.width_checker.specs.Rows.{reloc_at, row_of}
-use Rattle.whole_runs.specs.NeutralImage.{instruction_at}
+use Rattle.width_checker.specs.Rows.{row_of}
+use Rattle.neutral_machine.specs.NeutralImage.{instruction_at}
 use Rattle.note_types.specs.declared.notes.Notes.{Notes}
 use Rattle.width_checker.specs.Typed.{Typed}
 use Rattle.whole_runs.proofs.Programs.{driver_image}
@@ -41,12 +44,22 @@ use Rattle.twin_run.proofs.DriverImage.{driver_bytes, driver_functions, driver_i
 use Rattle.twin_run.proofs.DriverNotes.{driver_named, driver_notes_meet}
 use Rattle.twin_run.proofs.DriverScript.{driver_script_meets}
 use Rattle.twin_run.proofs.TypedTest.{code_test, image_test, functions_test, code_typed}
+use Rattle.rules_image.specs.Images.{reloc_at}
 
 abbrev notes : Notes
 notes = driver_named.notes
 
 unfoldable rows_compute : ⊤
-unfolding laid fields_of little_endian put window holds field_bytes bytes_of form_at is_reserved has_left_index size1_at size2_at reading_field_at insn_at parts_at read same_type is_below registers_up_to items_below state_below local_fields function_at load_at target_at with_type with_store with_fact changed destination sooner locals_size field_at cell_of parameter_at stack_at field_place place_at gcd shared sum_row sum difference product static_at thunk_at thing_at register_type operand_value wide_row computed_type compares left_operand arith_row compare_row compare_imm_row move_value move_row signed_value move_signed_row move_imm_row move_index_row move_relative_row store_special_row data_change after_data named_place arguments native_arguments all_lent_out callee_at is_lower call_to call_row callee_method site_at signature_at native_call call_native_row may_return return_row break_row after_flow number_at items_size has_room push_row pop_row left_after with_left frame_row target_of point_at jump_row jump8_row narrow computed compared reloc_at row_of instruction_at
+unfolding laid fields_of little_endian put window holds field_bytes bytes_of form_at is_reserved has_left_index size1_at size2_at
+    reading_field_at insn_at parts_at read same_type is_below registers_up_to items_below state_below local_fields function_at load_at
+    target_at with_type with_store with_fact changed destination sooner locals_size field_number_at cell_of parameter_at stack_at
+    field_place
+    place_at gcd shared sum_row sum difference product static_at thunk_at thing_at register_type operand_value wide_row computed_type
+    compares left_operand arith_row compare_row compare_imm_row move_value move_row signed_value move_signed_row move_imm_row move_index_row
+    move_relative_row store_special_row data_change after_data named_place arguments native_arguments all_lent_out callee_at is_lower
+    call_to call_row callee_method site_at signature_at native_call call_native_row may_return return_row break_row after_flow number_at
+    items_size has_room push_row pop_row left_after with_left frame_row target_of point_at jump_row jump8_row narrow computed compared
+    reloc_at row_of instruction_at
 rows_compute = tt
 
 driver_passes : image_test driver_image notes 64 ≡ true
@@ -55,7 +68,12 @@ driver_passes = refl
 
 driver_typed : Typed driver_image notes
 driver_typed = record {
-  tables = record { shapes = driver_shapes; functions = driver_functions; statics = λ k x s g h. absurd (none-some x g); thunks = driver_thunks };
+  tables = record {
+    shapes = driver_shapes;
+    functions = driver_functions;
+    statics = λ k x s g h. absurd (none-some x g);
+    thunks = driver_thunks;
+  };
   code = code_typed driver_image notes driver_bytes refl 64 driver_passes;
 }
 

@@ -10,10 +10,11 @@ use Rattle.note_types.specs.Concrete.{AreDisjoint}
 use Rattle.note_types.specs.declared.notes.Notes.{Notes}
 use Rattle.note_types.specs.declared.script.ScriptObject.{ScriptObject}
 use Rattle.object_memory.specs.Memory.{first_base, padded}
-use Rattle.run_types.specs.Objects.{placed_objects, script_object, shape_of}
-use Rattle.run_types.specs.Placements.{IsWithin, area_bytes, bases_from, object_bytes, own_placement, placed_ranges, script_ranges, stack_bytes}
-use Rattle.run_types.specs.Scripts.{room_of}
-use Rattle.run_types.proofs.Ranges.{stack_is_within_limit}
+use Rattle.host_model.specs.Objects.{placed_objects, script_object, shape_of}
+use Rattle.host_model.specs.Placements.{IsWithin, area_bytes, bases_from, object_bytes, own_placement, placed_ranges, script_ranges}
+use Rattle.host_model.specs.Placements.{stack_bytes}
+use Rattle.host_model.specs.Scripts.{room_of}
+use Rattle.neutral_machine.proofs.Ranges.{stack_is_within_limit}
 use Rattle.twin_run.specs.OwnPlacement.{OwnPlacementIsValid}
 use Rattle.step_sound.proofs.Items.{EachPair, all_items, all_pairs}
 
@@ -31,15 +32,18 @@ used_sum : (notes : Notes) (os : List ScriptObject) → used 8 notes os ≡ sum_
 used_sum notes [] = refl
 used_sum notes (o ∷ os) =
     let rest = used_sum notes os in
-    let one : sum_by (room_of notes) (o ∷ os) ≡ 0 + room_of notes o + sum_by (room_of notes) os = sum_by-append (room_of notes) (o ∷ []) os in
+    let one : sum_by (room_of notes) (o ∷ os) ≡ 0 + room_of notes o + sum_by (room_of notes) os =
+    sum_by-append (room_of notes) (o ∷ []) os in
     omega (arith, rest, one)
 
 -- at either width an object takes no more than at width 8
-bytes_grow : (w : ℕ) (notes : Notes) (o : ScriptObject) → IsWidth w → object_bytes w notes (script_object o) ≤ object_bytes 8 notes (script_object o)
+bytes_grow : (w : ℕ) (notes : Notes) (o : ScriptObject) → IsWidth w
+    → object_bytes w notes (script_object o) ≤ object_bytes 8 notes (script_object o)
 bytes_grow w notes o h =
     let n : ℕ = (shape_of notes o.shape).n in
     let c : ℕ = (shape_of notes o.shape).c in
-    by_width (λ v. o.count * (n * v + c) ≤ o.count * (n * 8 + c)) w h (mul-le o.count (n * 4 + c) o.count (n * 8 + c) (le_refl o.count) (omega arith)) (le_refl (o.count * (n * 8 + c)))
+    by_width (λ v. o.count * (n * v + c) ≤ o.count * (n * 8 + c)) w h
+    (mul-le o.count (n * 4 + c) o.count (n * 8 + c) (le_refl o.count) (omega arith)) (le_refl (o.count * (n * 8 + c)))
 
 used_grows : (w : ℕ) (notes : Notes) (os : List ScriptObject) → IsWidth w → used w notes os ≤ used 8 notes os
 used_grows w notes [] h = le_refl 0
@@ -60,16 +64,23 @@ module _ (w : ℕ) (notes : Notes) where
   as_many b [] = refl
   as_many b (o ∷ os) = ap suc (as_many (b + padded (object_bytes w notes (script_object o))) os)
 
-  within_from : (b : ℕ) (os : List ScriptObject) → AllByRecursion (Lies b (used w notes os)) (script_ranges w notes os (bases_from w notes b os))
+  within_from : (b : ℕ) (os : List ScriptObject) → AllByRecursion (Lies b (used w notes os))
+      (script_ranges w notes os (bases_from w notes b os))
   unfolding bases_from script_ranges
   within_from b [] = tt
   within_from b (o ∷ os) =
-      let n : ℕ = object_bytes w notes (script_object o) in
-      ((le_refl b, omega arith), weaker (Lies (b + padded n) (used w notes os)) (Lies b (padded n + used w notes os)) (λ r l. let x = l.0 in let y = l.1 in (omega (arith, x), omega (arith, y))) (script_ranges w notes os (bases_from w notes (b + padded n) os)) (within_from (b + padded n) os))
+      let n : ℕ = object_bytes w notes (script_object o) in (
+        (le_refl b, omega arith),
+        weaker (Lies (b + padded n) (used w notes os)) (Lies b (padded n + used w notes os))
+            (λ r l. let x = l.0 in let y = l.1 in (omega (arith, x), omega (arith, y)))
+            (script_ranges w notes os (bases_from w notes (b + padded n) os)) (within_from (b + padded n) os),
+      )
 
   -- a range that ends before them is apart from each
-  before : (r : Range) (b : ℕ) (os : List ScriptObject) → r.base + r.size ≤ b → AllByRecursion (AreDisjoint r) (script_ranges w notes os (bases_from w notes b os))
-  before r b os l = weaker (Lies b (used w notes os)) (AreDisjoint r) (λ q m. let x = m.0 in inl (omega (arith, l, x))) (script_ranges w notes os (bases_from w notes b os)) (within_from b os)
+  before : (r : Range) (b : ℕ) (os : List ScriptObject) → r.base + r.size ≤ b
+      → AllByRecursion (AreDisjoint r) (script_ranges w notes os (bases_from w notes b os))
+  before r b os l = weaker (Lies b (used w notes os)) (AreDisjoint r) (λ q m. let x = m.0 in inl (omega (arith, l, x)))
+      (script_ranges w notes os (bases_from w notes b os)) (within_from b os)
 
   apart_from : (b : ℕ) (os : List ScriptObject) → EachPair AreDisjoint (script_ranges w notes os (bases_from w notes b os))
   unfolding bases_from script_ranges
@@ -84,7 +95,8 @@ module _ (w : ℕ) (notes : Notes) where
   at b n = record { base = b; size = n }
 
   abbrev ranges : (a n s i : ℕ) → List ScriptObject → List Range
-  ranges a n s i os = at a n ∷ at (a + padded n) s ∷ at (a + padded n + padded s) i ∷ script_ranges w notes os (bases_from w notes (a + padded n + padded s + padded i) os)
+  ranges a n s i os = at a n ∷ at (a + padded n) s ∷ at (a + padded n + padded s) i ∷ script_ranges w notes os
+      (bases_from w notes (a + padded n + padded s + padded i) os)
 
   all_apart : (a n s i : ℕ) (os : List ScriptObject) → EachPair AreDisjoint (ranges a n s i os)
   all_apart a n s i os =
@@ -99,7 +111,8 @@ module _ (w : ℕ) (notes : Notes) where
         ),
       )
 
-  all_within : (a n s i : ℕ) (os : List ScriptObject) → 0 < a → a + padded n + padded s + padded i + used w notes os ≤ 2 ^ (8 * w) → AllByRecursion (IsWithin w) (ranges a n s i os)
+  all_within : (a n s i : ℕ) (os : List ScriptObject) → 0 < a → a + padded n + padded s + padded i + used w notes os ≤ 2 ^ (8 * w)
+      → AllByRecursion (IsWithin w) (ranges a n s i os)
   all_within a n s i os some l =
       let b : ℕ = a + padded n + padded s + padded i in (
         record { above = inl some; below = omega (arith, l) },
@@ -107,7 +120,9 @@ module _ (w : ℕ) (notes : Notes) where
           record { above = inl (omega (arith, some)); below = omega (arith, l) },
           (
             record { above = inl (omega (arith, some)); below = omega (arith, l) },
-            weaker (Lies b (used w notes os)) (IsWithin w) (λ r m. let x = m.0 in let y = m.1 in record { above = inl (omega (arith, some, x)); below = omega (arith, y, l) }) (script_ranges w notes os (bases_from w notes b os)) (within_from b os),
+            weaker (Lies b (used w notes os)) (IsWithin w) (λ r m. let x = m.0 in let y = m.1 in
+                record { above = inl (omega (arith, some, x)); below = omega (arith, y, l) })
+                (script_ranges w notes os (bases_from w notes b os)) (within_from b os),
           ),
         ),
       )
@@ -139,13 +154,15 @@ own_placement_is_valid w image world h run few =
     let most = run.well_formed.size in
     let grown = used_grows w world.notes os h in
     let sum = used_sum world.notes os in
-    let m : padded n + padded s + padded i + used w world.notes os ≤ 14 * 2 ^ 20 = omega (arith, methods, functions, stack, size, most, grown, sum, few) in
+    let m : padded n + padded s + padded i + used w world.notes os ≤ 14 * 2 ^ 20 =
+    omega (arith, methods, functions, stack, size, most, grown, sum, few) in
     let top : a + (padded n + padded s + padded i + used w world.notes os) ≤ 2 ^ (8 * w) = room_above w _ h m in
     let even = base_even w h in
     record {
       each = as_many w world.notes (a + padded n + padded s + padded i) os;
       apart = all_pairs AreDisjoint (ranges w world.notes a n s i os) (all_apart w world.notes a n s i os);
-      within = all_items (IsWithin w) (ranges w world.notes a n s i os) (all_within w world.notes a n s i os (base_some w h) (omega (arith, top)));
+      within = all_items (IsWithin w) (ranges w world.notes a n s i os)
+          (all_within w world.notes a n s i os (base_some w h) (omega (arith, top)));
       even_native = even;
       even_image = (let e : (a + padded n + padded s) % 2 ≡ 0 = omega (arith, even) in e);
     }

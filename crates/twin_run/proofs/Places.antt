@@ -1,6 +1,7 @@
 -- A typed image has a state at each place to which control comes, and these states meet the typing rules.
 use Rattle.std.specs.Prelude.{IfOk, IfSome, Ok, Err}
-use Rattle.std.proofs.Common.{◌≡◌, ◌⊎◌, ℕ, zero, suc, ◌+◌, ◌-◌, ◌%◌, ◌<◌, ◌≤◌, Bool, true, false, if◌then◌else◌, nat_eq, nat_lt, nat_le, List, [], ◌∷◌, length, Option, Some, refl, sym, ap, ◌∙◌, subst, arith, inl, inr, ⊎_elim, slice_get}
+use Rattle.std.proofs.Common.{◌≡◌, ◌⊎◌, ℕ, zero, suc, ◌+◌, ◌-◌, ◌<◌, ◌≤◌, Bool, true, false, if◌then◌else◌, nat_eq, nat_lt, nat_le}
+use Rattle.std.proofs.Common.{List, [], ◌∷◌, length, Option, Some, refl, sym, ap, ◌∙◌, subst, arith, inl, inr, ⊎_elim, slice_get}
 use Rattle.std.proofs.lemmas.Bool.{cases_lt, and_parts, eqb-true, eqb-false, leb-true, ltb-true}
 use Rattle.std.proofs.lemmas.Option.{none-some, same_Some}
 use Rattle.ebc_insn.specs.Spelling.{WellFormed}
@@ -16,7 +17,7 @@ use Rattle.note_types.specs.declared.notes.Point.{Point}
 use Rattle.note_types.specs.declared.state.State.{State}
 use Rattle.pe_image.specs.declared.image.Image.{Image}
 use Rattle.rules_base.specs.declared.here.Here.{Here}
-use Rattle.rules_base.specs.Outcomes.{Gives, gives_map}
+use Rattle.rules_base.specs.Outcomes.{gives_map, OrRule}
 use Rattle.rules_data.specs.Data.{after_data}
 use Rattle.rules_flow.specs.Flow.{after_flow}
 use Rattle.rules_flow.specs.Successors.{falls}
@@ -24,16 +25,17 @@ use Rattle.rules_flow.specs.declared.successors.Successors.{Successors}
 use Rattle.rules_laws.specs.Keeping.{AreStates}
 use Rattle.rules_laws.proofs.FlowKeeps.{after_flow-keeps}
 use Rattle.rules_laws.proofs.RowsKeep.{after_data-keeps}
-use Rattle.width_checker.specs.Places.{Leads, IsPlaceOf, IsPointAt, IsBefore, of_point, of_fall, Falls, Comes, StateAt}
+use Rattle.rules_image.specs.Places.{Leads, IsPlaceOf}
+use Rattle.width_checker.specs.StatesAt.{IsPointAt, IsBefore, of_point, of_fall, Falls, Comes, StateAt}
 use Rattle.width_checker.specs.Rows.{row_of, here_at, is_flow}
 use Rattle.width_checker.specs.Typed.{EntryBelow, MeetsRules, Typed}
 use Rattle.width_checker.proofs.Leading.{OnePoint, leads_of, state_of, state_one}
 use Rattle.width_checker.proofs.Points.{one_point}
 use Rattle.invariant_laws.specs.Hosted.{EntersAs, as_entry, as_point}
 use Rattle.step_sound.specs.PlaceStates.{Reached, LeadsTo, PlacesHold, InsnHolds, StatesHold}
-use Rattle.step_sound.proofs.EvenPlaces.{find_some, place_even as places_even, point_place as point_places}
-use Rattle.run_types.specs.World.{World}
-use Rattle.run_types.proofs.Lists.{within_some}
+use Rattle.step_sound.proofs.EvenPlaces.{find_some, place_even, point_place}
+use Rattle.host_model.specs.World.{World}
+use Rattle.ebc_base.proofs.Lists.{within_some}
 use Rattle.std.proofs.lemmas.Option.{slice_get_within}
 use Rattle.twin_run.specs.StatesOf.{StandsIn, states_of}
 use Rattle.step_sound.proofs.RowLeads.{RowLeads, row_leads}
@@ -47,15 +49,19 @@ pub data PointThere (notes : Notes) (place : ℕ) : Type 0 where
 
 pub point_there : (notes : Notes) (place : ℕ) → PointThere notes place
 point_there notes place = ⊎_elim
-    (λ (s : (k : ℕ) × (p : Point) × (slice_get notes.point k ≡ Some p) × (p.place ≡ place)). has_point s.1 (record { number = s.0; there = s.2; at = s.3 }))
+    (λ (s : (k : ℕ) × (p : Point) × (slice_get notes.point k ≡ Some p) × (p.place ≡ place)). has_point s.1
+    (record { number = s.0; there = s.2; at = s.3 }))
     (λ n. no_point (λ p at. n at.number p at.there at.at)) (go notes.point)
   where
-    go : (ps : List Point) → ((k : ℕ) × (p : Point) × (slice_get ps k ≡ Some p) × (p.place ≡ place)) ⊎ ((k : ℕ) (p : Point) → slice_get ps k ≡ Some p → p.place ≡ place → ⊥)
+    go : (ps : List Point) → ((k : ℕ) × (p : Point) × (slice_get ps k ≡ Some p) × (p.place ≡ place))
+        ⊎ ((k : ℕ) (p : Point) → slice_get ps k ≡ Some p → p.place ≡ place → ⊥)
     go [] = inr (λ k p e h. none-some p e)
     go (q ∷ ps) = by (nat_eq q.place place) refl (go ps)
       where
-        by : (t : Bool) → nat_eq q.place place ≡ t → ((k : ℕ) × (p : Point) × (slice_get ps k ≡ Some p) × (p.place ≡ place)) ⊎ ((k : ℕ) (p : Point) → slice_get ps k ≡ Some p → p.place ≡ place → ⊥)
-            → ((k : ℕ) × (p : Point) × (slice_get (q ∷ ps) k ≡ Some p) × (p.place ≡ place)) ⊎ ((k : ℕ) (p : Point) → slice_get (q ∷ ps) k ≡ Some p → p.place ≡ place → ⊥)
+        by : (t : Bool) → nat_eq q.place place ≡ t → ((k : ℕ) × (p : Point) × (slice_get ps k ≡ Some p) × (p.place ≡ place))
+            ⊎ ((k : ℕ) (p : Point) → slice_get ps k ≡ Some p → p.place ≡ place → ⊥)
+            → ((k : ℕ) × (p : Point) × (slice_get (q ∷ ps) k ≡ Some p) × (p.place ≡ place))
+            ⊎ ((k : ℕ) (p : Point) → slice_get (q ∷ ps) k ≡ Some p → p.place ≡ place → ⊥)
         by true t more = inl (0, q, refl, eqb-true q.place place t)
         by false t (inl s) = inl (suc s.0, s.1, s.2, s.3)
         by false t (inr n) = inr (λ k p e h. each k p e h)
@@ -72,13 +78,8 @@ module _ (image : Image) (notes : Notes) (ok : IsNotes notes) (typed : Typed ima
 
   -- an instruction stands at each place, with no point inside it
   pub places : PlacesHold image notes
-  places k f there place at = let m = typed.code k f there place at in record { insn = m.insn; next = m.next; decoded = m.decode; point = m.point }
-
-  place_even : (func : ℕ) (f : FnNote) (count place : ℕ) → slice_get notes.function func ≡ Some f → Leads image f count place → (place % 2 ≡ 0) × (f.place ≤ place) × (place < f.end)
-  place_even func f count place there leads = places_even image notes ok typed.tables.functions places func f count place there leads
-
-  point_place : (func : ℕ) (f : FnNote) (p : Point) (k : ℕ) → slice_get notes.function func ≡ Some f → slice_get notes.point k ≡ Some p → f.place ≤ p.place → p.place < f.end → IsPlaceOf image f p.place
-  point_place func f p k there at low high = point_places image notes ok typed.tables.functions places func f p k there at low high
+  places k f there place at = let m = typed.code k f there place at in
+      record { insn = m.insn; next = m.next; decoded = m.decode; point = m.point }
 
   -- the place is one of the function's
   pub place_of_state : (func : ℕ) (f : FnNote) (place : ℕ) (s : State) → StateAt image notes func f place s → IsPlaceOf image f place
@@ -89,27 +90,31 @@ module _ (image : Image) (notes : Notes) (ok : IsNotes notes) (typed : Typed ima
     pub rules : MeetsRules image notes func f place
     pub state_is : rules.state ≡ s
 
-  pub meets_there : (func : ℕ) (f : FnNote) (place : ℕ) (s : State) → slice_get notes.function func ≡ Some f → StateAt image notes func f place s → Meets func f place s
+  pub meets_there : (func : ℕ) (f : FnNote) (place : ℕ) (s : State) → slice_get notes.function func ≡ Some f
+      → StateAt image notes func f place s → Meets func f place s
   meets_there func f place s there at =
       let m = typed.code func f there place (place_of_state func f place s at) in
       record { rules = m; state_is = state_one image notes func f one place m.state s m.has_state at }
 
   -- ---- the state at a start
 
-  pub starts : (k : ℕ) (f : FnNote) → slice_get notes.function k ≡ Some f → (s : State) × StandsIn image notes k f.place s × EntersAs (entry_state notes k) s
+  pub starts : (k : ℕ) (f : FnNote) → slice_get notes.function k ≡ Some f → (s : State) × StandsIn image notes k f.place s
+      × EntersAs (entry_state notes k) s
   unfolding Leads Comes
   starts k f there =
       let m = typed.code k f there f.place (0, refl) in
       let b = state_of image notes k f one 0 f.place (Some (entry_state notes k)) (refl, refl) m.state m.has_state in
       (m.state, record { f = f; there = there; at = m.has_state }, by m.state b m.below.entry)
     where
-      by : (s : State) → IsBefore notes f.place (Some (entry_state notes k)) s → EntryBelow notes k f f.place → EntersAs (entry_state notes k) s
+      by : (s : State) → IsBefore notes f.place (Some (entry_state notes k)) s → EntryBelow notes k f f.place
+          → EntersAs (entry_state notes k) s
       by s (of_point p at e) below = as_point (subst (StateBelow (entry_state notes k)) (sym e) (below refl p at))
       by s (of_fall none e) below = as_entry (sym (same_Some (entry_state notes k) s e))
 
   -- ---- where a fall leads
 
-  pub falls_to : (func : ℕ) (f : FnNote) (place : ℕ) (s t : State) → (at : StateAt image notes func f place s) → (m : Meets func f place s) → m.rules.next < f.end → m.rules.successors.fall ≡ Some t → (z : State) × StateAt image notes func f m.rules.next z × EntersAs t z
+  pub falls_to : (func : ℕ) (f : FnNote) (place : ℕ) (s t : State) → (at : StateAt image notes func f place s) → (m : Meets func f place s)
+      → m.rules.next < f.end → m.rules.successors.fall ≡ Some t → (z : State) × StateAt image notes func f m.rules.next z × EntersAs t z
   unfolding Comes
   falls_to func f place s t at m within e = by (point_there notes m.rules.next)
     where
@@ -132,14 +137,29 @@ module _ (image : Image) (notes : Notes) (ok : IsNotes notes) (typed : Typed ima
       }
 
       by : PointThere notes m.rules.next → (z : State) × StateAt image notes func f m.rules.next z × EntersAs t z
-      by (has_point p there) = (p.state, record { count = suc at.count; come = m.rules.successors.fall; comes = come; before = of_point p there refl }, as_point (m.rules.below.leads.fall t e p there))
-      by (no_point none) = (t, record { count = suc at.count; come = m.rules.successors.fall; comes = come; before = of_fall none e }, as_entry refl)
+      by (has_point p there) = (
+        p.state,
+        record {
+          count = suc at.count;
+          come = m.rules.successors.fall;
+          comes = come;
+          before = of_point p there refl;
+        },
+        as_point (m.rules.below.leads.fall t e p there),
+      )
+      by (no_point none) = (
+        t,
+        record { count = suc at.count; come = m.rules.successors.fall; comes = come; before = of_fall none e },
+        as_entry refl,
+      )
 
   -- ---- the functions' ranges
 
   -- a later function lies past an earlier one
-  functions_rise : (n j : ℕ) (g h : FnNote) → slice_get notes.function j ≡ Some g → slice_get notes.function (j + suc n) ≡ Some h → g.end ≤ h.place
-  functions_rise zero j g h a b = (typed.tables.functions (j + 1) h (ap (slice_get notes.function) (let e : j + 1 ≡ j + suc 0 = omega arith in e) ∙ b)).past j g refl a
+  functions_rise : (n j : ℕ) (g h : FnNote) → slice_get notes.function j ≡ Some g → slice_get notes.function (j + suc n) ≡ Some h
+      → g.end ≤ h.place
+  functions_rise zero j g h a b = (typed.tables.functions (j + 1) h
+      (ap (slice_get notes.function) (let e : j + 1 ≡ j + suc 0 = omega arith in e) ∙ b)).past j g refl a
   functions_rise (suc n) j g h a b =
       let within : j + suc n < length notes.function = let l = slice_get_within notes.function (j + suc (suc n)) h b in omega (arith, l) in
       let m = within_some notes.function (j + suc n) within in
@@ -149,16 +169,20 @@ module _ (image : Image) (notes : Notes) (ok : IsNotes notes) (typed : Typed ima
       omega (arith, low, high, range)
 
   -- a place belongs to one function
-  owner_one : (j k place : ℕ) (g h : FnNote) → slice_get notes.function j ≡ Some g → slice_get notes.function k ≡ Some h → g.place ≤ place → place < g.end → h.place ≤ place → place < h.end → j ≡ k
+  owner_one : (j k place : ℕ) (g h : FnNote) → slice_get notes.function j ≡ Some g → slice_get notes.function k ≡ Some h → g.place ≤ place
+      → place < g.end → h.place ≤ place → place < h.end → j ≡ k
   owner_one j k place g h a b l1 l2 h1 h2 = ⊎_elim
-      (λ less. absurd (let n : j + suc (k - (j + 1)) ≡ k = omega (arith, less) in let r = functions_rise (k - (j + 1)) j g h a (ap (slice_get notes.function) n ∙ b) in omega (arith, r, l2, h1)))
+      (λ less. absurd (let n : j + suc (k - (j + 1)) ≡ k = omega (arith, less) in
+      let r = functions_rise (k - (j + 1)) j g h a (ap (slice_get notes.function) n ∙ b) in omega (arith, r, l2, h1)))
       (λ from. ⊎_elim
-      (λ less. absurd (let n : k + suc (j - (k + 1)) ≡ j = omega (arith, less) in let r = functions_rise (j - (k + 1)) k h g b (ap (slice_get notes.function) n ∙ a) in omega (arith, r, h2, l1)))
+      (λ less. absurd (let n : k + suc (j - (k + 1)) ≡ j = omega (arith, less) in
+      let r = functions_rise (j - (k + 1)) k h g b (ap (slice_get notes.function) n ∙ a) in omega (arith, r, h2, l1)))
       (λ back. omega (arith, from, back)) (cases_lt k j)) (cases_lt j k)
 
   -- ---- states are states of the function
 
-  point_known : (func : ℕ) (f : FnNote) (place : ℕ) (p : Point) → slice_get notes.function func ≡ Some f → f.place ≤ place → place < f.end → IsPointAt notes place p → IsState notes f p.state
+  point_known : (func : ℕ) (f : FnNote) (place : ℕ) (p : Point) → slice_get notes.function func ≡ Some f → f.place ≤ place → place < f.end
+      → IsPointAt notes place p → IsState notes f p.state
   unfolding function_at
   point_known func f place p there low high at =
       let n = ok.points at.number p at.there in
@@ -171,18 +195,21 @@ module _ (image : Image) (notes : Notes) (ok : IsNotes notes) (typed : Typed ima
       let owner : n.owner ≡ f = same_Some n.owner f (sym o.1 ∙ ap (slice_get notes.function) same ∙ there) in
       subst (λ g. IsState notes g p.state) owner n.state
 
-  before_known : (func : ℕ) (f : FnNote) (place : ℕ) (come : Option State) (s : State) → slice_get notes.function func ≡ Some f → f.place ≤ place → place < f.end → IfSome come (IsState notes f) → IsBefore notes place come s → IsState notes f s
-  before_known func f place come s there low high known (of_point p at e) = subst (IsState notes f) (sym e) (point_known func f place p there low high at)
+  before_known : (func : ℕ) (f : FnNote) (place : ℕ) (come : Option State) (s : State) → slice_get notes.function func ≡ Some f
+      → f.place ≤ place → place < f.end → IfSome come (IsState notes f) → IsBefore notes place come s → IsState notes f s
+  before_known func f place come s there low high known (of_point p at e) =
+      subst (IsState notes f) (sym e) (point_known func f place p there low high at)
   before_known func f place come s there low high known (of_fall none e) = subst (λ o. IfSome o (IsState notes f)) e known
 
-  row_known : (here : Here) (s : State) (i : Insn) (x : Successors) (f : FnNote) → slice_get notes.function here.func ≡ Some f → WellFormed i → IsState notes f s → row_of notes here s i ≡ Ok x → AreStates notes f x
+  row_known : (here : Here) (s : State) (i : Insn) (x : Successors) (f : FnNote) → slice_get notes.function here.func ≡ Some f
+      → WellFormed i → IsState notes f s → row_of notes here s i ≡ Ok x → AreStates notes f x
   unfolding row_of
   row_known here s i x f there well known e = go (is_flow i) e
     where
-      flow : (r : Gives Successors) → r ≡ Ok x → IfOk r (AreStates notes f) → AreStates notes f x
+      flow : (r : OrRule Successors) → r ≡ Ok x → IfOk r (AreStates notes f) → AreStates notes f x
       flow r e h = subst (λ q. IfOk q (AreStates notes f)) e h
 
-      of_data : (r : Gives State) → IfOk r (IsState notes f) → gives_map falls r ≡ Ok x → AreStates notes f x
+      of_data : (r : OrRule State) → IfOk r (IsState notes f) → gives_map falls r ≡ Ok x → AreStates notes f x
       of_data (Ok t) h e = flow (gives_map falls (Ok t)) e (h, tt)
       of_data (Err r) h e = absurd (cc)
 
@@ -190,24 +217,31 @@ module _ (image : Image) (notes : Notes) (ok : IsNotes notes) (typed : Typed ima
       go true e = flow _ e (after_flow-keeps notes here s i f there ok known)
       go false e = of_data (after_data notes here s i) (after_data-keeps notes here s i f there ok known well) e
 
-  comes_known : (func : ℕ) (f : FnNote) (n place : ℕ) (come : Option State) → slice_get notes.function func ≡ Some f → Comes image notes func f n place come → IfSome come (IsState notes f)
+  comes_known : (func : ℕ) (f : FnNote) (n place : ℕ) (come : Option State) → slice_get notes.function func ≡ Some f
+      → Comes image notes func f n place come → IfSome come (IsState notes f)
   unfolding Comes
   comes_known func f zero place come there h = subst (λ o. IfSome o (IsState notes f)) (sym h.1) (entry_is_state notes func f)
   comes_known func f (suc n) place come there h =
-      let last = place_even func f n h.last there (leads_of image notes func f n h.last h.came h.reached) in
-      let known = before_known func f h.last h.came h.state there last.1 last.2 (comes_known func f n h.last h.came there h.reached) h.has_state in
+      let last = place_even image notes ok typed.tables.functions places func f n h.last there
+      (leads_of image notes func f n h.last h.came h.reached) in
+      let known = before_known func f h.last h.came h.state there last.1 last.2
+      (comes_known func f n h.last h.came there h.reached) h.has_state in
       let states = row_known (here_at image func h.last place) h.state h.insn h.successors f there h.decode.well_formed known h.row in
       subst (λ o. IfSome o (IsState notes f)) (sym h.falls) states.0
 
   -- the state at a place is one of the function
-  pub state_known : (func : ℕ) (f : FnNote) (place : ℕ) (s : State) → slice_get notes.function func ≡ Some f → StateAt image notes func f place s → IsState notes f s
+  pub state_known : (func : ℕ) (f : FnNote) (place : ℕ) (s : State) → slice_get notes.function func ≡ Some f
+      → StateAt image notes func f place s → IsState notes f s
   state_known func f place s there at =
-      let p = place_even func f at.count place there (leads_of image notes func f at.count place at.come at.comes) in
+      let p = place_even image notes ok typed.tables.functions places func f at.count place there
+      (leads_of image notes func f at.count place at.come at.comes) in
       before_known func f place at.come s there p.1 p.2 (comes_known func f at.count place at.come there at.comes) at.before
 
   -- ---- where an instruction leads
 
-  pub leads_there : (func : ℕ) (f : FnNote) (place : ℕ) (s : State) → slice_get notes.function func ≡ Some f → StateAt image notes func f place s → (m : Meets func f place s) → LeadsTo (states_of image notes) func m.rules.next m.rules.successors
+  pub leads_there : (func : ℕ) (f : FnNote) (place : ℕ) (s : State) → slice_get notes.function func ≡ Some f
+      → StateAt image notes func f place s → (m : Meets func f place s)
+      → LeadsTo (states_of image notes) func m.rules.next m.rules.successors
   leads_there func f place s there at m = record { fall = fall; jump = jump }
     where
       leads : RowLeads notes f m.rules.insn m.rules.successors
@@ -221,19 +255,28 @@ module _ (image : Image) (notes : Notes) (ok : IsNotes notes) (typed : Typed ima
       jump : (p : ℕ) (t : State) → m.rules.successors.jump ≡ Some (p, t) → Reached (states_of image notes) func p t
       jump p t e =
           let q = leads.jump p t e in
-          let reached = point_place func f q.point q.number there q.there (let a = q.at in let l = q.from in omega (arith, a, l)) (let a = q.at in let l = q.to in omega (arith, a, l)) in
+          let reached = point_place image notes ok typed.tables.functions places func f q.point q.number there q.there
+          (let a = q.at in let l = q.from in omega (arith, a, l))
+          (let a = q.at in let l = q.to in omega (arith, a, l)) in
           let r = typed.code func f there p (subst (IsPlaceOf image f) q.at reached) in
           let at_p : IsPointAt notes p q.point = record { number = q.number; there = q.there; at = q.at } in
-          record { state = r.state; here = record { f = f; there = there; at = r.has_state }; from = by r.state r.has_state.come r.has_state.before at_p (m.rules.below.leads.jump p t e q.point at_p) }
+          record {
+            state = r.state;
+            here = record { f = f; there = there; at = r.has_state };
+            from = by r.state r.has_state.come r.has_state.before at_p (m.rules.below.leads.jump p t e q.point at_p);
+          }
         where
-          by : (z : State) (come : Option State) → IsBefore notes p come z → {q : Point} → IsPointAt notes p q → StateBelow t q.state → EntersAs t z
-          by z come (of_point o at' e') {q} here below = as_point (subst (StateBelow t) (ap (λ (x : Point). x.state) (one p q o here at') ∙ sym e') below)
+          by : (z : State) (come : Option State) → IsBefore notes p come z → {q : Point} → IsPointAt notes p q → StateBelow t q.state
+              → EntersAs t z
+          by z come (of_point o at' e') {q} here below = as_point
+              (subst (StateBelow t) (ap (λ (x : Point). x.state) (one p q o here at') ∙ sym e') below)
           by z come (of_fall none e') {q} here below = absurd (none q here)
 
   -- ---- the states
 
   -- the instruction at a place meets the rules in the state there
-  pub insn_holds : (func place : ℕ) (s : State) → StandsIn image notes func place s → InsnHolds image notes (states_of image notes) func place s
+  pub insn_holds : (func place : ℕ) (s : State) → StandsIn image notes func place s
+      → InsnHolds image notes (states_of image notes) func place s
   insn_holds func place s at =
       let m = meets_there func at.f place s at.there at.at in
       record {
@@ -247,12 +290,14 @@ module _ (image : Image) (notes : Notes) (ok : IsNotes notes) (typed : Typed ima
         relocation = m.rules.relocation;
         ends = m.rules.ends;
         successors = m.rules.successors;
-        row = subst (λ t. row_of notes (here_at image func place m.rules.next) t m.rules.insn ≡ Ok m.rules.successors) m.state_is m.rules.row;
+        row = subst
+            (λ t. row_of notes (here_at image func place m.rules.next) t m.rules.insn ≡ Ok m.rules.successors) m.state_is m.rules.row;
         leads = leads_there func at.f place s at.there at.at m;
       }
 
 -- the states of a typed image meet the typing rules
-pub typed_states : (image : Image) (world : World) → IsNotes world.notes → Typed image world.notes → StatesHold image world (states_of image world.notes)
+pub typed_states : (image : Image) (world : World) → IsNotes world.notes → Typed image world.notes
+    → StatesHold image world (states_of image world.notes)
 typed_states image world ok typed = record {
   places = places image world.notes ok typed;
   starts = record { starts = starts image world.notes ok typed };

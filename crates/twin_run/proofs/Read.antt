@@ -1,16 +1,18 @@
 -- The placement that this project takes is valid for what was read.
 use Rattle.ebc_width.specs.Width.{IsWidth}
 use Rattle.pe_image.specs.declared.image.Image.{Image}
-use Rattle.run_types.specs.Placements.{IsPlacement, own_placement}
-use Rattle.run_types.specs.World.{World}
+use Rattle.host_model.specs.Placements.{IsPlacement, own_placement}
+use Rattle.host_model.specs.World.{World}
 use Rattle.std.proofs.Common.{ℕ}
 use Rattle.step_sound.specs.ReadWorld.{IsReadWorld}
 use Rattle.step_sound.proofs.Read.{objects_have_room, read_is_run}
 use Rattle.twin_run.specs.TypedRuns.{IsTypedWorld}
 use Rattle.twin_run.proofs.OwnPlacement.{own_placement_is_valid}
 
-pub read_is_placed : (w : ℕ) (image : Image) (world : World) → IsWidth w → IsReadWorld image world → IsPlacement w world (own_placement w world)
-read_is_placed w image world h r = own_placement_is_valid w image world h (read_is_run image world r) (objects_have_room world.notes world.script r.script)
+pub read_is_placed : (w : ℕ) (image : Image) (world : World) → IsWidth w → IsReadWorld image world
+    → IsPlacement w world (own_placement w world)
+read_is_placed w image world h r = own_placement_is_valid w image world h (read_is_run image world r)
+    (objects_have_room world.notes world.script r.script)
 
 -- what was read and is typed keeps the rules on shapes, functions, static objects and thunk cells
 pub typed_is_read : (image : Image) (world : World) → IsTypedWorld image world → IsReadWorld image world

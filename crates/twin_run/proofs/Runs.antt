@@ -13,24 +13,25 @@ use Rattle.note_types.specs.declared.notes.Notes.{Notes}
 use Rattle.pe_image.specs.Images.{IsImage}
 use Rattle.pe_image.specs.Mapped.{AreBytes, mapped}
 use Rattle.pe_image.specs.declared.image.Image.{Image}
-use Rattle.run_types.specs.Config.{Config}
-use Rattle.run_types.specs.HostSteps.{spot_of}
-use Rattle.run_types.specs.NeutralRuns.{neutral_run, neutral_start, neutral_step}
-use Rattle.run_types.specs.Placements.{Placement, IsPlacement, own_placement}
-use Rattle.run_types.specs.RunState.{RunState}
-use Rattle.run_types.specs.World.{World}
+use Rattle.neutral_machine.specs.Config.{Config}
+use Rattle.host_model.specs.HostSteps.{spot_of}
+use Rattle.neutral_machine.specs.NeutralRuns.{neutral_run, neutral_start, neutral_step}
+use Rattle.host_model.specs.Placements.{Placement, IsPlacement, own_placement}
+use Rattle.host_model.specs.RunState.{RunState}
+use Rattle.host_model.specs.World.{World}
 use Rattle.step_sound.specs.Invariant.{Invariant, RunHolds}
 use Rattle.step_sound.specs.StepKinds.{NextStep, plain, native_call, thunk, call, enter, reply, leaving, last}
 use Rattle.step_sound.specs.StepLaws.{StepKeeps}
-use Rattle.step_sound.proofs.Keeping.{plain_keeps, native_call_keeps, thunk_keeps, call_keeps, enter_keeps, reply_keeps, leaving_keeps, last_keeps, ended_keeps, next_step, start_meets}
+use Rattle.step_sound.proofs.Keeping.{plain_keeps, native_call_keeps, thunk_keeps, call_keeps, enter_keeps, reply_keeps, leaving_keeps}
+use Rattle.step_sound.proofs.Keeping.{last_keeps, ended_keeps, next_step, start_meets}
 use Rattle.step_sound.proofs.Read.{read_is_run}
 use Rattle.typed_runs.specs.Endings.{RaisesOnlyDivideError}
-use Rattle.whole_runs.specs.NeutralImage.{static_cells}
-use Rattle.whole_runs.specs.NeutralRun.{config_after, neutral_instruction}
-use Rattle.whole_runs.specs.Runs.{run_after, run_of, world_of}
+use Rattle.neutral_machine.specs.NeutralImage.{static_cells}
+use Rattle.neutral_machine.specs.NeutralRun.{config_after, neutral_instruction}
+use Rattle.host_model.specs.Runs.{run_after, run_of, world_of}
 use Rattle.width_checker.specs.Typed.{Typed}
-use Rattle.width_checker.specs.declared.verdict.Verdict.{Verdict}
-use Rattle.width_checker.specs.declared.verdict.Verdict.TheVariants.{Neutral}
+use Rattle.plain_check.specs.declared.verdict.Verdict.{Verdict}
+use Rattle.plain_check.specs.declared.verdict.Verdict.TheVariants.{Neutral}
 use Rattle.twin_run.specs.Differs.{DifferAt, nowhere, first}
 use Rattle.twin_run.specs.Headline.{SameAtBothWidths}
 use Rattle.twin_run.specs.StatesOf.{states_of}
@@ -40,11 +41,13 @@ use Rattle.twin_run.proofs.Read.{read_is_placed, typed_is_read}
 
 -- ---- one width
 
-module _ (w : ℕ) (image : Image) (world : World) (P : Placement) (h : IsWidth w) (t : IsTypedWorld image world) (p : IsPlacement w world P) where
+module _ (w : ℕ) (image : Image) (world : World) (P : Placement) (h : IsWidth w) (t : IsTypedWorld image world)
+    (p : IsPlacement w world P) where
   run : RunHolds w image world P (states_of image world.notes)
   run = record { width = h; read = typed_is_read image world t; placement = p; rules = typed_states image world t.notes t.typed }
 
-  step_keeps : (a : Config) (r : RunState) → Invariant w image world P (states_of image world.notes) a r → a.ending ≡ ending.Running → NextStep image world a → StepKeeps w image world P (states_of image world.notes) a r
+  step_keeps : (a : Config) (r : RunState) → Invariant w image world P (states_of image world.notes) a r → a.ending ≡ ending.Running
+      → NextStep image world a → StepKeeps w image world P (states_of image world.notes) a r
   step_keeps a r v on (plain k) = plain_keeps w image world P (states_of image world.notes) run a r v on k
   step_keeps a r v on (native_call k) = native_call_keeps w image world P (states_of image world.notes) run a r v on k
   step_keeps a r v on (thunk k) = thunk_keeps w image world P (states_of image world.notes) run a r v on k
@@ -55,7 +58,8 @@ module _ (w : ℕ) (image : Image) (world : World) (P : Placement) (h : IsWidth 
   step_keeps a r v on (last k) = last_keeps w image world P (states_of image world.notes) run a r v on k
 
   -- whether it goes on or has ended
-  any_step : (a : Config) (r : RunState) → Invariant w image world P (states_of image world.notes) a r → StepKeeps w image world P (states_of image world.notes) a r
+  any_step : (a : Config) (r : RunState) → Invariant w image world P (states_of image world.notes) a r
+      → StepKeeps w image world P (states_of image world.notes) a r
   any_step a r v = go a.ending refl
     where
       ended : (e : Ending) → a.ending ≡ e → (e ≡ ending.Running → ⊥) → StepKeeps w image world P (states_of image world.notes) a r
@@ -69,7 +73,8 @@ module _ (w : ℕ) (image : Image) (world : World) (P : Placement) (h : IsWidth 
       go ending.ScriptEnd is = ended ending.ScriptEnd is (λ e. absurd (cc))
 
   -- after each number of steps
-  pub follows : (k : ℕ) → (a : Config) × (config_after world image k ≡ Some a) × Invariant w image world P (states_of image world.notes) a (run_of w world P image k)
+  pub follows : (k : ℕ) → (a : Config) × (config_after world image k ≡ Some a)
+      × Invariant w image world P (states_of image world.notes) a (run_of w world P image k)
   unfolding neutral_run run_after
   follows zero = (neutral_start world (static_cells world image), refl, start_meets w image world P (states_of image world.notes) run)
   follows (suc k) =
@@ -78,8 +83,10 @@ module _ (w : ℕ) (image : Image) (world : World) (P : Placement) (h : IsWidth 
       (s.after, ap (option_and_then (neutral_step world (neutral_instruction world image))) x.1 ∙ s.step, s.invariant)
 
   -- where the run stands is where the neutral machine does
-  pub spot_shown : (a : Config) (r : RunState) → Invariant w image world P (states_of image world.notes) a r → spot_of world P r.machine ≡ a.spot
-  spot_shown a r v = spot_is w world P (mapped image P.image) h (world_meets image world (read_is_run image world (typed_is_read image world t))) p a r v.standing.stands
+  pub spot_shown : (a : Config) (r : RunState) → Invariant w image world P (states_of image world.notes) a r
+      → spot_of world P r.machine ≡ a.spot
+  spot_shown a r v = spot_is w world P (mapped image P.image) h
+      (world_meets image world (read_is_run image world (typed_is_read image world t))) p a r v.standing.stands
 
 pub machines_follow : MachinesFollow
 machines_follow w image world P k h t p = follows w image world P h t p k
@@ -107,19 +114,26 @@ typed_runs_are_same image world P Q k t p q =
 pub own_typed_runs_are_same : OwnTypedRunsAreSame
 own_typed_runs_are_same image world k t =
     let r = typed_is_read image world t in
-    typed_runs_are_same image world (own_placement 4 world) (own_placement 8 world) k t (read_is_placed 4 image world (inl refl) r) (read_is_placed 8 image world (inr refl) r)
+    typed_runs_are_same image world (own_placement 4 world) (own_placement 8 world) k t (read_is_placed 4 image world (inl refl) r)
+    (read_is_placed 8 image world (inr refl) r)
 
 pub typed_never_differ : TypedNeverDiffer
-typed_never_differ image world limit differ t = (only differ, λ e. subst (DifferAt image world limit) (sym e) (nowhere (λ k l. (own_typed_runs_are_same image world k t).same)))
+typed_never_differ image world limit differ t = (
+  only differ,
+  λ e. subst (DifferAt image world limit) (sym e)
+      (nowhere (λ k l. (own_typed_runs_are_same image world k t).same)),
+)
   where
     only : (d : Option ℕ) → DifferAt image world limit d → d ≡ None
     only _ (nowhere all) = refl
     only _ (first k l n before) = absurd (n (own_typed_runs_are_same image world k t).same)
 
 -- what `check` calls neutral
-pub neutral_is_same : (image : Image) (notes : Notes) → IsImage image → AreBytes image → IsNotes notes → Typed image notes → SameAtBothWidths image notes
+pub neutral_is_same : (image : Image) (notes : Notes) → IsImage image → AreBytes image → IsNotes notes → Typed image notes
+    → SameAtBothWidths image notes
 neutral_is_same image notes i b n typed script P Q k s p q =
-    typed_runs_are_same image (world_of image notes script) P Q k (record { well_formed = i; bytes = b; size = refl; notes = n; script = s; typed = typed }) p q
+    typed_runs_are_same image (world_of image notes script) P Q k
+    (record { well_formed = i; bytes = b; size = refl; notes = n; script = s; typed = typed }) p q
 
 -- so where a verdict is neutral exactly where the image is typed
 pub verdict_is_same : {E : Type 0} (image : Image) (notes : Notes) → IsImage image → AreBytes image → IsNotes notes → (r : Result Verdict E)

@@ -1,14 +1,15 @@
--- The headline's second half: the 32-bit and the 64-bit run of an image stand at the same instruction, have made the same calls with
--- the same replies, and have raised no exception but a division by zero that both raise. docs/SIMULATION.md, "The headline".
+-- Meaning: the headline's second half: the 32-bit and the 64-bit run of an image stand at the same instruction, have made
+-- the same calls with the same replies, and have raised no exception but a division by zero that both raise.
+-- docs/SIMULATION.md, "The headline".
 use Rattle.std.specs.Prelude.{ℕ}
 use Rattle.note_types.specs.declared.notes.Notes.{Notes}
 use Rattle.note_types.specs.declared.script.Script.{Script}
 use Rattle.pe_image.specs.declared.image.Image.{Image}
-use Rattle.run_types.specs.Placements.{Placement, IsPlacement}
-use Rattle.run_types.specs.Scripts.{IsScript}
-use Rattle.run_types.specs.World.{World}
+use Rattle.host_model.specs.Placements.{Placement, IsPlacement}
+use Rattle.host_model.specs.Scripts.{IsScript}
+use Rattle.host_model.specs.World.{World}
 use Rattle.typed_runs.specs.Endings.{RaisesOnlyDivideError}
-use Rattle.whole_runs.specs.Runs.{SameRun, run_of, world_of}
+use Rattle.host_model.specs.Runs.{SameRun, run_of, world_of}
 
 -- The runs after so many steps, at 4 bytes an address under a placement and at 8 under another: they are the same, and raised nothing
 -- but a division by zero. As they are the same, both raised it.
@@ -20,4 +21,5 @@ pub record AreSameAfter (world : World) (image : Image) (P Q : Placement) (k : �
 abbrev pub SameAtBothWidths : Image → Notes → Type 0
 SameAtBothWidths image notes =
     (script : Script) (P Q : Placement) (k : ℕ) → IsScript notes script
-    → IsPlacement 4 (world_of image notes script) P → IsPlacement 8 (world_of image notes script) Q → AreSameAfter (world_of image notes script) image P Q k
+    → IsPlacement 4 (world_of image notes script) P → IsPlacement 8 (world_of image notes script) Q
+    → AreSameAfter (world_of image notes script) image P Q k

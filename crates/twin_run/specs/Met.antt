@@ -1,15 +1,15 @@
--- That all premises of the laws of runs can hold at once, and that a typed program comes to each kind of step. docs/SIMULATION.md, "What
--- the laws ask".
+-- For proofs: that all premises of the laws of runs can hold at once, and that a typed program comes to each kind of step.
+-- docs/SIMULATION.md, "What the laws ask".
 use Rattle.std.specs.Prelude.{◌≡◌, ℕ, Some}
 use Rattle.note_types.specs.declared.ending.Ending.TheVariants.{Running, Finished}
 use Rattle.note_types.specs.declared.value.Value.{Value}
 use Rattle.pe_image.specs.declared.image.Image.{Image}
-use Rattle.run_types.specs.Config.{Config}
-use Rattle.run_types.specs.Placements.{own_placement}
-use Rattle.run_types.specs.World.{World}
+use Rattle.neutral_machine.specs.Config.{Config}
+use Rattle.host_model.specs.Placements.{own_placement}
+use Rattle.host_model.specs.World.{World}
 use Rattle.step_sound.specs.StepKinds.{IsPlain, IsNativeCall, IsThunk, IsCall, IsEnter, IsReply, IsLeaving, IsLast}
-use Rattle.whole_runs.specs.NeutralRun.{config_after}
-use Rattle.whole_runs.specs.Runs.{run_of}
+use Rattle.neutral_machine.specs.NeutralRun.{config_after}
+use Rattle.host_model.specs.Runs.{run_of}
 use Rattle.twin_run.specs.TypedRuns.{IsTypedWorld}
 
 -- after some number of steps the neutral machine's run goes on with a step of a kind

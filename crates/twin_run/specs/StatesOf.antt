@@ -1,10 +1,10 @@
--- The states at the places of a typed image's functions. docs/SIMULATION.md, "The second half".
+-- For proofs: the states at the places of a typed image's functions. docs/SIMULATION.md, "The second half".
 use Rattle.std.specs.Prelude.{◌≡◌, ℕ, Some, slice_get}
 use Rattle.note_types.specs.declared.notes.FnNote.{FnNote}
 use Rattle.note_types.specs.declared.notes.Notes.{Notes}
 use Rattle.note_types.specs.declared.state.State.{State}
 use Rattle.pe_image.specs.declared.image.Image.{Image}
-use Rattle.width_checker.specs.Places.{StateAt}
+use Rattle.width_checker.specs.StatesAt.{StateAt}
 use Rattle.typed_runs.specs.Waiting.{States}
 
 -- at a place of the function of that number stands this state

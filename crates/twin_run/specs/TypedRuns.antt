@@ -1,18 +1,18 @@
--- What holds of the runs of a typed program: both machines follow the neutral machine, and so they are the same. docs/SIMULATION.md,
--- "The headline".
+-- For proofs: what holds of the runs of a typed program: both machines follow the neutral machine, and so they are the same.
+-- docs/SIMULATION.md, "The headline".
 use Rattle.std.specs.Prelude.{◌≡◌, ◌↔◌, ℕ, Option, Some, None}
 use Rattle.ebc_width.specs.Width.{IsWidth}
 use Rattle.note_types.specs.Records.{IsNotes}
 use Rattle.pe_image.specs.Images.{IsImage}
 use Rattle.pe_image.specs.Mapped.{AreBytes}
 use Rattle.pe_image.specs.declared.image.Image.{Image}
-use Rattle.run_types.specs.Config.{Config}
-use Rattle.run_types.specs.Placements.{Placement, IsPlacement, own_placement}
-use Rattle.run_types.specs.Scripts.{IsScript}
-use Rattle.run_types.specs.World.{World}
+use Rattle.neutral_machine.specs.Config.{Config}
+use Rattle.host_model.specs.Placements.{Placement, IsPlacement, own_placement}
+use Rattle.host_model.specs.Scripts.{IsScript}
+use Rattle.host_model.specs.World.{World}
 use Rattle.step_sound.specs.Invariant.{Invariant}
-use Rattle.whole_runs.specs.NeutralRun.{config_after}
-use Rattle.whole_runs.specs.Runs.{run_of}
+use Rattle.neutral_machine.specs.NeutralRun.{config_after}
+use Rattle.host_model.specs.Runs.{run_of}
 use Rattle.width_checker.specs.Typed.{Typed}
 use Rattle.twin_run.specs.Differs.{DifferAt}
 use Rattle.twin_run.specs.Headline.{AreSameAfter}
@@ -36,7 +36,8 @@ pub record IsTypedWorld (image : Image) (world : World) : Type 0 where
 abbrev pub MachinesFollow : Type 0
 MachinesFollow =
     (w : ℕ) (image : Image) (world : World) (P : Placement) (k : ℕ) → IsWidth w → IsTypedWorld image world → IsPlacement w world P
-    → (a : Config) × (config_after world image k ≡ Some a) × Invariant w image world P (states_of image world.notes) a (run_of w world P image k)
+    → (a : Config) × (config_after world image k ≡ Some a) × Invariant w image world P (states_of image world.notes) a
+    (run_of w world P image k)
 
 -- At both widths: the runs are the same after every number of steps, each under a valid placement of its own, and raise nothing but a
 -- division by zero.
@@ -48,8 +49,10 @@ TypedRunsAreSame =
 -- So they are under the placements that this project takes,
 abbrev pub OwnTypedRunsAreSame : Type 0
 OwnTypedRunsAreSame =
-    (image : Image) (world : World) (k : ℕ) → IsTypedWorld image world → AreSameAfter world image (own_placement 4 world) (own_placement 8 world) k
+    (image : Image) (world : World) (k : ℕ) → IsTypedWorld image world
+    → AreSameAfter world image (own_placement 4 world) (own_placement 8 world) k
 
 -- and up to no limit is there a number of steps after which they differ.
 abbrev pub TypedNeverDiffer : Type 0
-TypedNeverDiffer = (image : Image) (world : World) (limit : ℕ) (differ : Option ℕ) → IsTypedWorld image world → DifferAt image world limit differ ↔ (differ ≡ None)
+TypedNeverDiffer = (image : Image) (world : World) (limit : ℕ) (differ : Option ℕ) → IsTypedWorld image world
+    → DifferAt image world limit differ ↔ (differ ≡ None)

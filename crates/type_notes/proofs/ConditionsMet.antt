@@ -11,14 +11,18 @@ use Rattle.note_draft.specs.declared.finding.TableList.TheVariants as list
 use Rattle.note_draft.specs.declared.tables.NameTables.{NameTables}
 use Rattle.note_draft.specs.Findings.{refused}
 use Rattle.note_draft.specs.Repeats.{first_descent}
-use Rattle.type_notes.specs.Conditions.{conditions, disordered, first_past, first_point, gives_unhanded, has_many_locals, holds_locals, keeps_params, keeps_wants, mislocated, overflows, overfull, params_have_thunks, passes_params, regs_are_local, regs_have_thunks, stack_has_thunks, stack_is_local, stray, takes_unhanded, thunkless, thunkless_points, too_large, unfielded, unhanded, unkept, unmet, unpassed, unreturned, written_is_local}
+use Rattle.type_notes.specs.Conditions.{conditions, disordered, first_past, first_point, gives_unhanded, has_many_locals, holds_locals}
+use Rattle.type_notes.specs.Conditions.{keeps_params, keeps_wants, mislocated, overflows, overfull, params_have_thunks, passes_params}
+use Rattle.type_notes.specs.Conditions.{regs_are_local, regs_have_thunks, stack_has_thunks, stack_is_local, stray, takes_unhanded}
+use Rattle.type_notes.specs.Conditions.{thunkless, thunkless_points, too_large, unfielded, unhanded, unkept, unmet, unpassed, unreturned}
+use Rattle.type_notes.specs.Conditions.{written_is_local}
 use Rattle.type_notes.specs.Owners.{first_stray, owner_of}
 use Rattle.type_notes.specs.PointLocals.{PointLocals, point_locals}
 use Rattle.type_notes.specs.TypeKinds.{is_returned}
 use Rattle.type_notes.proofs.ListBounds.{each_fails, each_passes}
 use Rattle.type_notes.proofs.NamesFound.{none_sooner, nothing_refused}
 use Rattle.type_notes.proofs.OrderLemmas.{neither, nothing-at}
-use Rattle.type_notes.proofs.Outcomes.{ok_then, ok_weaken}
+use Rattle.ebc_base.proofs.Given.{ok_then, ok_weaken}
 
 -- each point passes a check of what it names
 abbrev pub PointsPass : NameTables → NotesDraft → (PointLocals → PointDraft → Bool) → Type 0
@@ -50,7 +54,8 @@ pub record IsMet (t : NameTables) (d : NotesDraft) : Type 0 where
   pub code : first_past (code_limit d.version) d.function ≡ None
   pub need : Each (λ f. overflows d.entry f ≡ false) d.function
 
-points_pass : (t : NameTables) (d : NotesDraft) (passes : PointLocals → PointDraft → Bool) → first_point t d passes ≡ None → PointsPass t d passes
+points_pass : (t : NameTables) (d : NotesDraft) (passes : PointLocals → PointDraft → Bool) → first_point t d passes ≡ None
+    → PointsPass t d passes
 unfolding first_point
 points_pass t d passes none = each_passes (λ p. passes (point_locals t d p.place) p) d.point none
 

@@ -45,7 +45,8 @@ or-sound a b f h =
     let e : max (bit_at a f) (bit_at b f) ≡ 1 = sym (bit_at_or a b f) ∙ h in
     let x : bit_at a f < 2 = bit_at-lt a f in
     let y : bit_at b f < 2 = bit_at-lt b f in
-    ⊎_elim (λ none. let r : bit_at b f ≡ 1 = omega arith in inr r) (λ some. let l : bit_at a f ≡ 1 = omega arith in inl l) (cases_lt (bit_at a f) 1)
+    ⊎_elim (λ none. let r : bit_at b f ≡ 1 = omega arith in inr r) (λ some. let l : bit_at a f ≡ 1 = omega arith in inl l)
+    (cases_lt (bit_at a f) 1)
 
 or-left : (a b f : ℕ) → HasField a f → HasField (bit_or a b) f
 or-left a b f h =
@@ -61,23 +62,30 @@ or-right a b f h =
     let m : max (bit_at a f) (bit_at b f) ≡ 1 = omega arith in
     bit_at_or a b f ∙ m
 
-sound : (fields : List FieldText) (names : List (List ℕ)) (set f : ℕ) → HasField (fold (λ s name. bit_or s (field_bit (field_number fields name))) set names) f → HasField set f ⊎ ((f < 64) × SomeNames fields f names)
+sound : (fields : List FieldText) (names : List (List ℕ)) (set f : ℕ)
+    → HasField (fold (λ s name. bit_or s (field_bit (field_number fields name))) set names) f → HasField set f
+    ⊎ ((f < 64) × SomeNames fields f names)
 unfolding field_number
 sound fields [] set f h = inl h
 sound fields (name ∷ names) set f h =
     ⊎_elim
-    (λ first. ⊎_elim (λ before. inl before) (λ here. let p = bit-sound (position (λ x. bytes_eq x.name name) fields) f here in inr (p.0, inl p.1)) (or-sound set (field_bit (field_number fields name)) f first))
+    (λ first. ⊎_elim (λ before. inl before) (λ here. let p = bit-sound (position (λ x. bytes_eq x.name name) fields) f here in
+    inr (p.0, inl p.1)) (or-sound set (field_bit (field_number fields name)) f first))
     (λ later. inr (later.0, inr later.1))
     (sound fields names (bit_or set (field_bit (field_number fields name))) f h)
 
-complete : (fields : List FieldText) (names : List (List ℕ)) (set f : ℕ) → HasField set f ⊎ ((f < 64) × SomeNames fields f names) → HasField (fold (λ s name. bit_or s (field_bit (field_number fields name))) set names) f
+complete : (fields : List FieldText) (names : List (List ℕ)) (set f : ℕ) → HasField set f ⊎ ((f < 64) × SomeNames fields f names)
+    → HasField (fold (λ s name. bit_or s (field_bit (field_number fields name))) set names) f
 unfolding field_number
 complete fields [] set f (inl h) = h
 complete fields [] set f (inr h) = absurd h.1
-complete fields (name ∷ names) set f (inl h) = complete fields names (bit_or set (field_bit (field_number fields name))) f (inl (or-left set (field_bit (field_number fields name)) f h))
+complete fields (name ∷ names) set f (inl h) = complete fields names (bit_or set (field_bit (field_number fields name))) f
+    (inl (or-left set (field_bit (field_number fields name)) f h))
 complete fields (name ∷ names) set f (inr h) =
     ⊎_elim
-    (λ here. complete fields names (bit_or set (field_bit (field_number fields name))) f (inl (or-right set (field_bit (field_number fields name)) f (bit-complete (position (λ x. bytes_eq x.name name) fields) f h.0 here))))
+    (λ here. complete fields names (bit_or set (field_bit (field_number fields name))) f
+    (inl (or-right set (field_bit (field_number fields name)) f
+    (bit-complete (position (λ x. bytes_eq x.name name) fields) f h.0 here))))
     (λ later. complete fields names (bit_or set (field_bit (field_number fields name))) f (inr (h.0, later)))
     h.1
 

@@ -1,6 +1,7 @@
 -- What holds of each item of a list: of a list that was read item by item, of a list in which a search finds none, and of
 -- the images of a list's items.
-use Rattle.std.proofs.Common.{◌≡◌, ℕ, zero, suc, ◌+◌, ◌≤◌, ◌<◌, Bool, true, false, List, [], ◌∷◌, length, map, None, Some, Result, cond, refl, ap, sym, subst, ◌∙◌, arith}
+use Rattle.std.proofs.Common.{◌≡◌, ℕ, zero, suc, ◌+◌, ◌≤◌, ◌<◌, Bool, true, false, List, [], ◌∷◌, length, map, None, Some, Result, cond}
+use Rattle.std.proofs.Common.{refl, ap, sym, subst, ◌∙◌, arith}
 use Rattle.std.specs.Prelude.{IfOk, not, nat_lt, slice_get, ◌||◌}
 use Rattle.std.specs.List.{list_all, list_any, position, position_or_len}
 use Rattle.std.proofs.lemmas.Bool.{and_parts, lt-ltb, ltb-false, not-false}
@@ -10,16 +11,11 @@ use Rattle.toml.specs.Data.{Data, Items, no_items, item}
 use Rattle.note_types.specs.declared.fault.TomlFault.{TomlFault}
 use Rattle.note_types.specs.Records.{Each}
 use Rattle.note_texts.specs.Lists.{count, each}
-use Rattle.type_notes.proofs.Outcomes.{ok_then}
+use Rattle.note_types.proofs.RecordLaws.{each_none, each_more}
+use Rattle.ebc_base.proofs.Lists.{found_within}
+use Rattle.ebc_base.proofs.Given.{ok_then}
 
 -- ---- each item
-
-pub each_none : {A : Type 0} (P : A → Type 0) → Each P []
-each_none P k x e = absurd (none-some x e)
-
-pub each_more : {A : Type 0} (P : A → Type 0) (x : A) (xs : List A) → P x → Each P xs → Each P (x ∷ xs)
-each_more P x xs h g zero y e = subst P (same_Some x y e) h
-each_more P x xs h g (suc k) y e = g k y e
 
 pub each_first : {A : Type 0} (P : A → Type 0) (x : A) (xs : List A) → Each P (x ∷ xs) → P x
 each_first P x xs h = h 0 x refl
@@ -28,7 +24,8 @@ pub each_rest : {A : Type 0} (P : A → Type 0) (x : A) (xs : List A) → Each P
 each_rest P x xs h k y e = h (suc k) y e
 
 -- what holds of the images of the items
-pub each_map : {A B : Type 0} (Q : B → Type 0) (v : A → B) (xs : List A) → ((k : ℕ) (x : A) → slice_get xs k ≡ Some x → Q (v x)) → Each Q (map v xs)
+pub each_map : {A B : Type 0} (Q : B → Type 0) (v : A → B) (xs : List A) → ((k : ℕ) (x : A) → slice_get xs k ≡ Some x → Q (v x))
+    → Each Q (map v xs)
 each_map Q v [] h k y e = absurd (none-some y e)
 each_map Q v (x ∷ xs) h zero y e = subst Q (same_Some (v x) y e) (h zero x refl)
 each_map Q v (x ∷ xs) h (suc k) y e = each_map Q v xs (λ j z i. h (suc j) z i) k y e
@@ -48,7 +45,8 @@ none_given false x e = refl
 -- where a search finds none, each item fails
 pub each_fails : {A : Type 0} (p : A → Bool) (xs : List A) → position p xs ≡ None → Each (λ x. p x ≡ false) xs
 each_fails p xs e k x i =
-    let past : length xs ≤ position_or_len p xs = ltb-false (position_or_len p xs) (length xs) (none_given (nat_lt (position_or_len p xs) (length xs)) (position_or_len p xs) e) in
+    let past : length xs ≤ position_or_len p xs = ltb-false (position_or_len p xs) (length xs)
+    (none_given (nat_lt (position_or_len p xs) (length xs)) (position_or_len p xs) e) in
     let within : k < length xs = slice_get_within xs k x i in
     ap p (sym (get_or_from_slice_get xs k x x i)) ∙ fails_before_first p xs k x (omega arith)
 
@@ -56,29 +54,15 @@ each_fails p xs e k x i =
 pub each_passes : {A : Type 0} (p : A → Bool) (xs : List A) → position (λ x. not (p x)) xs ≡ None → Each (λ x. p x ≡ true) xs
 each_passes p xs e k x i = not-false (p x) (each_fails (λ z. not (p z)) xs e k x i)
 
-within_by : (b r : Bool) (n m : ℕ) → (r ≡ true → n < m) → (b || r) ≡ true → cond (not b) (1 + n) 0 < suc m
-within_by true r n m h e = omega arith
-within_by false r n m h e = let l : n < m = h e in omega arith
-
--- where some item passes, a search finds one
-pub found_within : {A : Type 0} (p : A → Bool) (xs : List A) → list_any p xs ≡ true → position_or_len p xs < length xs
-found_within p [] e = absurd cc
-found_within p (x ∷ xs) e = within_by (p x) (list_any p xs) (position_or_len p xs) (length xs) (found_within p xs) e
-
 -- and it finds that number
 pub found_at : {A : Type 0} (p : A → Bool) (xs : List A) → list_any p xs ≡ true → position p xs ≡ Some (position_or_len p xs)
 found_at p xs e = rw (lt-ltb (position_or_len p xs) (length xs) (found_within p xs e)) refl
 
--- the item of a number within the list
-pub item_at : {A : Type 0} (xs : List A) (k : ℕ) → k < length xs → (x : A) × (slice_get xs k ≡ Some x)
-item_at [] k h = absurd (omega arith)
-item_at (x ∷ xs) zero h = (x, refl)
-item_at (x ∷ xs) (suc k) h = item_at xs k (omega arith)
-
 -- ---- readings
 
 -- what holds of what each item reads as, and as many are read as there are
-pub each_read : {A : Type 0} (P : A → Type 0) (read : ℕ → Data → Result A TomlFault) (ds : Items) (i : ℕ) → ((j : ℕ) (d : Data) → IfOk (read j d) P) → IfOk (each read i ds) (λ xs. (length xs ≡ count ds) × Each P xs)
+pub each_read : {A : Type 0} (P : A → Type 0) (read : ℕ → Data → Result A TomlFault) (ds : Items) (i : ℕ)
+    → ((j : ℕ) (d : Data) → IfOk (read j d) P) → IfOk (each read i ds) (λ xs. (length xs ≡ count ds) × Each P xs)
 unfolding each
 each_read P read no_items i h = (refl, each_none P)
 each_read {A} P read (item d ds) i h =

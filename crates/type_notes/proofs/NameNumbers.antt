@@ -1,5 +1,6 @@
 -- Distinct names, and the item that a name's number is of.
-use Rattle.std.proofs.Common.{◌≡◌, ℕ, ◌<◌, Bool, true, false, List, [], ◌∷◌, length, map, filter, get_or, cond, Some, refl, ap, sym, ◌∙◌, arith}
+use Rattle.std.proofs.Common.{◌≡◌, ℕ, ◌<◌, Bool, true, false, List, [], ◌∷◌, length, map, filter, get_or, cond, Some, refl, ap, sym, ◌∙◌}
+use Rattle.std.proofs.Common.{arith}
 use Rattle.std.specs.Prelude.{bytes_eq, not, slice_get, ◌&&◌, ◌||◌}
 use Rattle.std.specs.List.{list_any}
 use Rattle.std.proofs.lemmas.List.{get_or-map, length-map}
@@ -8,9 +9,11 @@ use Rattle.std.proofs.lemmas.Map.Views.{any-filter_same}
 use Rattle.std.proofs.lemmas.Option.{get_or_from_slice_get}
 use Rattle.std.proofs.lemmas.Slice.Eq.{bytes_eq-Decides}
 use Rattle.note_types.specs.Records.{Each}
-use Rattle.ebc_names.specs.Tables.{is_named, name_number}
+use Rattle.ebc_base.specs.Tables.{is_named, name_number}
 use Rattle.note_draft.specs.Names.{distinct}
-use Rattle.type_notes.proofs.ListBounds.{each_first, each_more, each_none, each_rest, found_within, item_at}
+use Rattle.type_notes.proofs.ListBounds.{each_first, each_rest}
+use Rattle.ebc_base.proofs.Lists.{within_some, found_within}
+use Rattle.note_types.proofs.RecordLaws.{each_none, each_more}
 
 -- ---- distinct names
 
@@ -44,25 +47,29 @@ distinct_has (name ∷ names) = each_more Has name names first (λ k m e. among 
     Has m = is_named m (distinct (name ∷ names)) ≡ true
 
     first : Has name
-    first = ap (λ b. b || list_any (bytes_eq name) (filter (λ other. not (bytes_eq other name)) (distinct names))) ((bytes_eq-Decides name name).1 refl)
+    first = ap (λ b. b || list_any (bytes_eq name) (filter (λ other. not (bytes_eq other name)) (distinct names)))
+        ((bytes_eq-Decides name name).1 refl)
 
     among : (m : List ℕ) → is_named m (distinct names) ≡ true → Has m
     among m e =
-        ap (λ b. bytes_eq m name || b) (any-filter_same (bytes_eq m) (λ other. not (bytes_eq other name)) (not (bytes_eq m name)) (λ k same. ap (λ x. not (bytes_eq x name)) (sym ((bytes_eq-Decides m k).0 same))) (distinct names))
+        ap (λ b. bytes_eq m name || b) (any-filter_same (bytes_eq m) (λ other. not (bytes_eq other name)) (not (bytes_eq m name))
+        (λ k same. ap (λ x. not (bytes_eq x name)) (sym ((bytes_eq-Decides m k).0 same))) (distinct names))
         ∙ one_or (bytes_eq m name) (is_named m (distinct names)) e
 
 -- ---- the item of a name
 
 -- the item whose name it is
-pub named_item : {A : Type 0} (v : A → List ℕ) (xs : List A) (names : List (List ℕ)) (name : List ℕ) → names ≡ map v xs → is_named name names ≡ true → (x : A) × (slice_get xs (name_number name names) ≡ Some x) × (bytes_eq (v x) name ≡ true)
+pub named_item : {A : Type 0} (v : A → List ℕ) (xs : List A) (names : List (List ℕ)) (name : List ℕ) → names ≡ map v xs
+    → is_named name names ≡ true → (x : A) × (slice_get xs (name_number name names) ≡ Some x) × (bytes_eq (v x) name ≡ true)
 named_item v xs names name same e =
     let within : name_number name names < length names = found_within (bytes_eq name) names e in
     let long : length names ≡ length xs = ap length same ∙ length-map xs v in
-    let found = item_at xs (name_number name names) (omega arith) in
+    let found = within_some xs (name_number name names) (omega arith) in
     let x = found.0 in
     let here : get_or names (name_number name names) (v x) ≡ v x =
     ap (λ ns. get_or ns (name_number name names) (v x)) same
-    ∙ (get_or-map v xs (name_number name names) x (v x) (omega arith) ∙ ap v (get_or_from_slice_get xs (name_number name names) x x found.1)) in
+    ∙ (get_or-map v xs (name_number name names) x (v x) (omega arith)
+    ∙ ap v (get_or_from_slice_get xs (name_number name names) x x found.1)) in
     let passes : bytes_eq name (get_or names (name_number name names) (v x)) ≡ true = passes_at_first (bytes_eq name) names (v x) within in
     let equal : name ≡ v x = (bytes_eq-Decides name (v x)).0 (sym (ap (bytes_eq name) here) ∙ passes) in
     (x, found.1, (bytes_eq-Decides (v x) name).1 (sym equal))

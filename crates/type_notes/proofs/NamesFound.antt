@@ -12,12 +12,16 @@ use Rattle.note_draft.specs.declared.finding.Refusal.TheVariants as refusals
 use Rattle.note_draft.specs.declared.finding.TableList.TheVariants as list
 use Rattle.note_draft.specs.declared.tables.NameTables.{NameTables}
 use Rattle.note_draft.specs.Findings.{refused, sooner}
-use Rattle.note_draft.specs.Known.{known, knows_fields, knows_locals, knows_params, knows_regs, knows_result, knows_stack, knows_type, knows_wants, unknown, unknown_in_functions, unknown_in_points, unknown_in_shapes, unknown_in_signatures, unknown_in_sites, unknown_in_statics, unknown_in_thunks}
-use Rattle.ebc_names.specs.Tables.{is_named}
-use Rattle.note_draft.specs.Once.{function_names, method_names, names_of_calls, once, repeated_in_functions, repeated_in_points, repeated_in_shapes, repeated_in_signatures, repeated_place_in, shape_names, signature_names}
+use Rattle.note_draft.specs.Known.{known, knows_fields, knows_locals, knows_params, knows_regs, knows_result, knows_stack, knows_type}
+use Rattle.note_draft.specs.Known.{knows_wants, unknown, unknown_in_functions, unknown_in_points, unknown_in_shapes, unknown_in_signatures}
+use Rattle.note_draft.specs.Known.{unknown_in_sites, unknown_in_statics, unknown_in_thunks}
+use Rattle.ebc_base.specs.Tables.{is_named}
+use Rattle.note_draft.specs.Once.{function_names, method_names, names_of_calls, once, repeated_in_functions, repeated_in_points}
+use Rattle.note_draft.specs.Once.{repeated_in_shapes, repeated_in_signatures, repeated_place_in, shape_names, signature_names}
 use Rattle.type_notes.proofs.ListBounds.{each_passes}
 use Rattle.type_notes.proofs.OrderLemmas.{neither, nothing-at}
-use Rattle.type_notes.proofs.Outcomes.{ok_next, ok_passes, ok_then, ok_weaken}
+use Rattle.type_notes.proofs.Outcomes.{ok_passes}
+use Rattle.ebc_base.proofs.Given.{ok_then, ok_next, ok_weaken}
 
 -- ---- findings
 
@@ -59,7 +63,8 @@ once-names d =
     ok_then S (HasNames d) (shape_names d.shape) _ (ok_next S (refused refusals.Twice (repeated_in_shapes d.shape)) _ (λ _. refl))
     (λ shapes a. ok_next (HasNames d) (refused refusals.Twice (repeated_place_in list.Static (map (λ o. o.place) d.statics))) _
     (λ _. ok_next (HasNames d) (refused refusals.Twice (repeated_place_in list.Thunk (map (λ o. o.place) d.thunk))) _
-    (λ _. ok_then F (HasNames d) (function_names d.function) _ (ok_next F (refused refusals.Twice (repeated_in_functions d.function)) _ (λ _. refl))
+    (λ _. ok_then F (HasNames d) (function_names d.function) _ (ok_next F (refused refusals.Twice (repeated_in_functions d.function)) _
+    (λ _. refl))
     (λ functions b. ok_next (HasNames d) (refused refusals.Twice (repeated_in_points d.point)) _
     (λ _. ok_then G (HasNames d) (names_of_calls d) _ (signatures_named d)
     (λ signatures c. record { shape = a; function = b; signature = c; method = refl }))))))
@@ -112,5 +117,7 @@ pub known-names : (t : NameTables) (d : NotesDraft) → IfOk (known t d) (λ _. 
 unfolding known
 known-names t d =
     let P : Unit {0} → Type 0 = λ _. KnowsNames t d in
-    ok_then (λ _. is_named d.entry t.function ≡ true) P (passes (is_named d.entry t.function) (Name (codes "entry"))) _ (ok_passes (is_named d.entry t.function) (Name (codes "entry")))
-    (λ _ named. ok_weaken (λ _. unknown t d ≡ None) P (refused refusals.Name (unknown t d)) (nothing_refused refusals.Name (unknown t d)) (λ _ nothing. all_known t d named nothing))
+    ok_then (λ _. is_named d.entry t.function ≡ true) P (passes (is_named d.entry t.function) (Name (codes "entry"))) _
+    (ok_passes (is_named d.entry t.function) (Name (codes "entry")))
+    (λ _ named. ok_weaken (λ _. unknown t d ≡ None) P (refused refusals.Name (unknown t d)) (nothing_refused refusals.Name (unknown t d))
+    (λ _ nothing. all_known t d named nothing))

@@ -15,7 +15,8 @@ unfolding notes_in
 fails-known ends.NoMemory d t named fails = tt
 fails-known (ends.Fault f) d t named fails = rw (named, fails) refl
 
-pub fails-conditions : (e : NotesEnd) (d : NotesDraft) (t : NameTables) → once d ≡ Ok t → known t d ≡ Ok tt → Fails e (conditions t d) → Fails e (notes_in d)
+pub fails-conditions : (e : NotesEnd) (d : NotesDraft) (t : NameTables) → once d ≡ Ok t → known t d ≡ Ok tt → Fails e (conditions t d)
+    → Fails e (notes_in d)
 unfolding notes_in
 fails-conditions ends.NoMemory d t named names fails = tt
 fails-conditions (ends.Fault f) d t named names fails = rw (named, names, fails) refl

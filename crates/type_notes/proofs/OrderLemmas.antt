@@ -32,13 +32,15 @@ functions-ascend d nothing = nothing-at list.Function key.Place _ (neither _ _ n
 pub points-ascend : (d : NotesDraft) → disordered d ≡ None → first_descent (map (λ p. p.place) d.point) ≡ None
 points-ascend d nothing = nothing-at list.Point key.Place _ (neither _ _ (neither _ _ nothing).1).0
 
-pub none-astray : (d : NotesDraft) (fs : List FunctionDraft) (ps : List PointDraft) (o : Owners) (owners : _) → fs ≡ d.function → ps ≡ d.point → FindsOwners fs ps o → o ≡ All owners → refused refusals.Range (stray d) ≡ Ok tt
+pub none-astray : (d : NotesDraft) (fs : List FunctionDraft) (ps : List PointDraft) (o : Owners) (owners : _) → fs ≡ d.function
+    → ps ≡ d.point → FindsOwners fs ps o → o ≡ All owners → refused refusals.Range (stray d) ≡ Ok tt
 unfolding at
 none-astray d fs ps o owners functions points are all =
     let found = rw all at are in
     rw (← functions, ← points, found.0) refl
 
-pub one-astray : (d : NotesDraft) (fs : List FunctionDraft) (ps : List PointDraft) (o : Owners) (item : ℕ) → fs ≡ d.function → ps ≡ d.point → FindsOwners fs ps o → o ≡ Stray item
+pub one-astray : (d : NotesDraft) (fs : List FunctionDraft) (ps : List PointDraft) (o : Owners) (item : ℕ) → fs ≡ d.function → ps ≡ d.point
+    → FindsOwners fs ps o → o ≡ Stray item
     → refused refusals.Range (stray d) ≡ Err (Range (path_of (record { list = list.Point; item = item; key = key.Place })))
 unfolding at
 one-astray d fs ps o item functions points are astray =

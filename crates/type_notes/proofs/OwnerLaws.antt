@@ -1,5 +1,6 @@
 -- The function that holds a place, where functions and points ascend by their places.
-use Rattle.std.proofs.Common.{◌≡◌, ℕ, ◌+◌, ◌-◌, ◌≤◌, ◌<◌, zero, suc, List, [], ◌∷◌, ◌++◌, length, map, take, get_or, cond, true, false, Bool, refl, ap, sym, subst, ◌∙◌, ⊎_elim, arith}
+use Rattle.std.proofs.Common.{◌≡◌, ℕ, ◌+◌, ◌-◌, ◌≤◌, ◌<◌, zero, suc, List, [], ◌∷◌, ◌++◌, length, map, take, get_or, cond, true, false}
+use Rattle.std.proofs.Common.{Bool, refl, ap, sym, subst, ◌∙◌, ⊎_elim, arith}
 use Rattle.std.proofs.Math.Bool.{and-false}
 use Rattle.std.proofs.lemmas.Bool.{cases_lt, leb-false, le-leb, lt-leb, le-ltb, lt-ltb}
 use Rattle.std.proofs.lemmas.List.{get_or-map, get_or-take, length-map, length-take-le, map-append, take_all, map_more}
@@ -38,11 +39,13 @@ unfolding first_descent
 ascending-by xs e zero i j is within = let same : i ≡ j = omega arith in subst (λ k. get_or xs i 0 ≤ get_or xs k 0) same (omega arith)
 ascending-by xs e (suc d) i j is within =
     let before : get_or xs i 0 ≤ get_or xs (j - 1) 0 = ascending-by xs e d i (j - 1) (omega arith) (omega arith) in
-    let step : get_or xs (j - 1) 0 < get_or xs j 0 = leb-false _ _ (fails-from_none (descends xs) (length xs - 1) 1 e j (omega arith) (omega arith)) in
+    let step : get_or xs (j - 1) 0 < get_or xs j 0 = leb-false _ _
+    (fails-from_none (descends xs) (length xs - 1) 1 e j (omega arith) (omega arith)) in
     omega arith
 
 -- the same of the images of a list's items
-pub ascending : {A : Type 0} (v : A → ℕ) (items : List A) (i j : ℕ) (x y : A) → first_descent (map v items) ≡ None → i ≤ j → slice_get items i ≡ Some x → slice_get items j ≡ Some y → v x ≤ v y
+pub ascending : {A : Type 0} (v : A → ℕ) (items : List A) (i j : ℕ) (x y : A) → first_descent (map v items) ≡ None → i ≤ j
+    → slice_get items i ≡ Some x → slice_get items j ≡ Some y → v x ≤ v y
 ascending v items i j x y e order first second =
     let n : length (map v items) ≡ length items = length-map items v in
     let within : j < length items = slice_get_within items j y second in
@@ -63,7 +66,8 @@ ahead place f h = ap (λ b. b && nat_lt place f.end) (lt-leb f.place place h)
 holding : (place : ℕ) (f : FunctionDraft) → f.place ≤ place → place < f.end → has_place place f ≡ true
 holding place f low high = ap (λ b. b && nat_lt place f.end) (le-leb f.place place low) ∙ lt-ltb place f.end high
 
-pub EndBy-more : (functions : List FunctionDraft) (i place : ℕ) (f : FunctionDraft) → i < length functions → f ≡ get_or functions i f → f.end ≤ place → EndBy functions i place → EndBy functions (i + 1) place
+pub EndBy-more : (functions : List FunctionDraft) (i place : ℕ) (f : FunctionDraft) → i < length functions → f ≡ get_or functions i f
+    → f.end ≤ place → EndBy functions i place → EndBy functions (i + 1) place
 EndBy-more functions i place f within is here before = λ k g h e.
     ⊎_elim
     (λ below. before k g below e)
@@ -75,7 +79,8 @@ EndBy-more functions i place f within is here before = λ k g h e.
     (cases_lt k i)
 
 -- the functions below number i end by the place, and function i holds it
-pub owner_of-here : (functions : List FunctionDraft) (i place : ℕ) (f : FunctionDraft) → i < length functions → f ≡ get_or functions i f → EndBy functions i place → place < f.end → f.place ≤ place → Some i ≡ owner_of functions place
+pub owner_of-here : (functions : List FunctionDraft) (i place : ℕ) (f : FunctionDraft) → i < length functions → f ≡ get_or functions i f
+    → EndBy functions i place → place < f.end → f.place ≤ place → Some i ≡ owner_of functions place
 unfolding owner_of
 owner_of-here functions i place f within is before high low =
     sym (position-some (has_place place) functions i f within
@@ -83,7 +88,9 @@ owner_of-here functions i place f within is before high low =
     (ap (has_place place) (sym is) ∙ holding place f low high))
 
 -- and function i begins after it
-pub owner_of-ahead : (functions : List FunctionDraft) (i place : ℕ) (f : FunctionDraft) → first_descent (map (λ g. g.place) functions) ≡ None → i < length functions → f ≡ get_or functions i f → EndBy functions i place → place < f.place → None ≡ owner_of functions place
+pub owner_of-ahead : (functions : List FunctionDraft) (i place : ℕ) (f : FunctionDraft)
+    → first_descent (map (λ g. g.place) functions) ≡ None → i < length functions → f ≡ get_or functions i f → EndBy functions i place
+    → place < f.place → None ≡ owner_of functions place
 unfolding owner_of
 owner_of-ahead functions i place f ascends within is before past =
     let there : slice_get functions i ≡ Some f = slice_get-get_or functions i f within ∙ ap Some (sym is) in
@@ -98,10 +105,12 @@ owner_of-ahead functions i place f ascends within is before past =
     (cases_lt k i)))
 
 -- or there is no function i
-pub owner_of-none : (functions : List FunctionDraft) (i place : ℕ) → length functions ≤ i → EndBy functions i place → None ≡ owner_of functions place
+pub owner_of-none : (functions : List FunctionDraft) (i place : ℕ) → length functions ≤ i → EndBy functions i place
+    → None ≡ owner_of functions place
 unfolding owner_of
 owner_of-none functions i place covers before =
-    sym (position-none (has_place place) functions (λ k d h. ended place (get_or functions k d) (before k (get_or functions k d) (omega arith) (slice_get-get_or functions k d h))))
+    sym (position-none (has_place place) functions (λ k d h. ended place (get_or functions k d)
+    (before k (get_or functions k d) (omega arith) (slice_get-get_or functions k d h))))
 
 -- ---- the functions that hold the points
 
@@ -112,20 +121,25 @@ pub record AreFound (functions : List FunctionDraft) (points : List PointDraft) 
   pub ready : (n : ℕ) (p : PointDraft) → number ≤ n → slice_get points n ≡ Some p → EndBy functions from p.place
 
 -- where points have owners, none is astray
-not_stray : (g : PointDraft → Option ℕ) (ps : List PointDraft) (owners : List ℕ) → map Some owners ≡ map g ps → (k : ℕ) (d : PointDraft) → k < length ps → is_none (g (get_or ps k d)) ≡ false
+not_stray : (g : PointDraft → Option ℕ) (ps : List PointDraft) (owners : List ℕ) → map Some owners ≡ map g ps → (k : ℕ) (d : PointDraft)
+    → k < length ps → is_none (g (get_or ps k d)) ≡ false
 not_stray g [] owners e k d h = absurd (omega arith)
 not_stray g (p ∷ ps) [] e k d h = cc
 not_stray g (p ∷ ps) (o ∷ os) e zero d h = let x : g p ≡ Some o = cc in ap is_none x
 not_stray g (p ∷ ps) (o ∷ os) e (suc k) d h = let rest : map Some os ≡ map g ps = cc in not_stray g ps os rest k d (omega arith)
 
 module _ (functions : List FunctionDraft) (points : List PointDraft) where
-  pub AreFound-more : (number from owner : ℕ) (owners : List ℕ) (p : PointDraft) → first_descent (map (λ q. q.place) points) ≡ None → number < length points → p ≡ get_or points number p → AreFound functions points number from owners → Some owner ≡ owner_of functions p.place → EndBy functions owner p.place → owner ≤ length functions → AreFound functions points (number + 1) owner (owners ++ owner ∷ [])
+  pub AreFound-more : (number from owner : ℕ) (owners : List ℕ) (p : PointDraft) → first_descent (map (λ q. q.place) points) ≡ None
+      → number < length points → p ≡ get_or points number p → AreFound functions points number from owners
+      → Some owner ≡ owner_of functions p.place → EndBy functions owner p.place → owner ≤ length functions
+      → AreFound functions points (number + 1) owner (owners ++ owner ∷ [])
   AreFound-more number from owner owners p ascends within is before owned ends fits =
       let there : slice_get points number ≡ Some p = slice_get-get_or points number p within ∙ ap Some (sym is) in
       let v : PointDraft → Option ℕ = λ q. owner_of functions q.place in
       let last : Some owner ≡ v (get_or points number p) = owned ∙ ap v is in
       record {
-        so_far = map-append Some owners (owner ∷ []) ∙ (ap (λ z. z ++ Some owner ∷ []) before.so_far ∙ (ap (λ z. map v (take number points) ++ z ∷ []) last ∙ sym (map_more v points number p within)));
+        so_far = map-append Some owners (owner ∷ []) ∙ (ap (λ z. z ++ Some owner ∷ []) before.so_far
+            ∙ (ap (λ z. map v (take number points) ++ z ∷ []) last ∙ sym (map_more v points number p within)));
         within = fits;
         ready = λ n q h e k f low is_f.
             let le : p.place ≤ q.place = ascending (λ z. z.place) points number n p q ascends (omega arith) there e in
@@ -133,18 +147,21 @@ module _ (functions : List FunctionDraft) (points : List PointDraft) where
             omega arith;
       }
 
-  pub first_stray-none : (number from : ℕ) (owners : List ℕ) → length points ≤ number → AreFound functions points number from owners → (first_stray functions points ≡ None) × (map Some owners ≡ map (λ p. owner_of functions p.place) points)
+  pub first_stray-none : (number from : ℕ) (owners : List ℕ) → length points ≤ number → AreFound functions points number from owners
+      → (first_stray functions points ≡ None) × (map Some owners ≡ map (λ p. owner_of functions p.place) points)
   unfolding first_stray
   first_stray-none number from owners covers before =
       let v : PointDraft → Option ℕ = λ q. owner_of functions q.place in
       let all : map Some owners ≡ map v points = before.so_far ∙ ap (map v) (take_all number points covers) in
       (position-none (λ p. is_none (v p)) points (λ k d h. not_stray v points owners all k d h), all)
 
-  pub first_stray-some : (number from : ℕ) (owners : List ℕ) (p : PointDraft) → number < length points → p ≡ get_or points number p → AreFound functions points number from owners → None ≡ owner_of functions p.place → first_stray functions points ≡ Some number
+  pub first_stray-some : (number from : ℕ) (owners : List ℕ) (p : PointDraft) → number < length points → p ≡ get_or points number p
+      → AreFound functions points number from owners → None ≡ owner_of functions p.place → first_stray functions points ≡ Some number
   unfolding first_stray
   first_stray-some number from owners p within is before none =
       let v : PointDraft → Option ℕ = λ q. owner_of functions q.place in
       let n : length (take number points) ≡ number = length-take-le number points (omega arith) in
       position-some (λ q. is_none (v q)) points number p within
-      (λ k h. subst (λ z. is_none (v z) ≡ false) (get_or-take number points k p h) (not_stray v (take number points) owners before.so_far k p (omega arith)))
+      (λ k h. subst (λ z. is_none (v z) ≡ false) (get_or-take number points k p h)
+      (not_stray v (take number points) owners before.so_far k p (omega arith)))
       (ap (λ z. is_none (v z)) (sym is) ∙ ap is_none (sym none))

@@ -1,6 +1,7 @@
 -- The cells and types of a record that notes stand for are within their bounds and name only what is there, and the notes
 -- allow them where they stand.
-use Rattle.std.proofs.Common.{◌≡◌, ℕ, ◌^◌, ◌<◌, ◌≤◌, ℤ, Bool, true, false, List, [], ◌∷◌, length, Option, None, Some, if◌then◌else◌, refl, ap, sym, subst, ◌∙◌, ⊎_elim, arith}
+use Rattle.std.proofs.Common.{◌≡◌, ℕ, ◌^◌, ◌<◌, ◌≤◌, ℤ, Bool, true, false, List, [], ◌∷◌, length, Option, None, Some, if◌then◌else◌, refl}
+use Rattle.std.proofs.Common.{ap, sym, subst, ◌∙◌, ⊎_elim, arith}
 use Rattle.std.specs.Prelude.{bit_or, bytes_eq, nat_lt, option_map, option_and_then, pos, negsuc, slice_get}
 use Rattle.std.specs.List.{fold, list_all, position, position_or_len}
 use Rattle.std.specs.Ordering.{int_eq}
@@ -28,16 +29,20 @@ use Rattle.note_draft.specs.declared.draft.NotesDraft.{NotesDraft}
 use Rattle.note_draft.specs.declared.draft.ShapeDraft.{ShapeDraft}
 use Rattle.note_draft.specs.declared.tables.NameTables.{NameTables}
 use Rattle.note_draft.specs.Known.{knows_cell, knows_type, knows_want}
-use Rattle.ebc_names.specs.Tables.{is_named, name_number}
+use Rattle.ebc_base.specs.Tables.{is_named, name_number}
 use Rattle.type_notes.specs.Locals.{SomeNames, below_64, field_bit, field_number, field_set, is_field}
 use Rattle.type_notes.specs.PointLocals.{locals_fields, shape_fields}
-use Rattle.type_notes.specs.Resolved.{resolved, resolved_cell, resolved_field, resolved_function, resolved_locals, resolved_shape, resolved_thunk, resolved_type, resolved_want}
-use Rattle.type_notes.specs.TypeKinds.{has_fields, has_thunk, is_bare, is_handed_back, is_handed_in, is_kept, is_kept_want, is_not_negative, is_passed, is_returned, is_start}
+use Rattle.type_notes.specs.Resolved.{resolved, resolved_cell, resolved_field, resolved_function, resolved_locals, resolved_shape}
+use Rattle.type_notes.specs.Resolved.{resolved_thunk, resolved_type, resolved_want}
+use Rattle.type_notes.specs.TypeKinds.{has_fields, has_thunk, is_bare, is_handed_back, is_handed_in, is_kept, is_kept_want, is_not_negative}
+use Rattle.type_notes.specs.TypeKinds.{is_passed, is_returned}
 use Rattle.type_notes.proofs.DraftBounds.{IsDraft}
 use Rattle.type_notes.proofs.FieldSetLaws.{field_set-fields}
-use Rattle.type_notes.proofs.ListBounds.{found_at, found_within}
+use Rattle.type_notes.proofs.ListBounds.{found_at}
 use Rattle.type_notes.proofs.NamesFound.{HasNames}
 use Rattle.type_notes.proofs.TextBounds.{IsCellBounded, IsTypeBounded, IsWantBounded}
+use Rattle.ebc_base.proofs.Lists.{found_within}
+use Rattle.note_types.specs.Types.{is_start}
 
 -- ---- the fields that names name
 
@@ -48,9 +53,11 @@ small_bit false n h = omega arith
 field_bit-below : (n : ℕ) → field_bit n < 2 ^ 64
 field_bit-below n = small_bit (nat_lt n 64) n (λ e. ltb-true n 64 e)
 
-set_below : (fields : List FieldText) (names : List (List ℕ)) (set : ℕ) → set < 2 ^ 64 → fold (λ s name. bit_or s (field_bit (field_number fields name))) set names < 2 ^ 64
+set_below : (fields : List FieldText) (names : List (List ℕ)) (set : ℕ) → set < 2 ^ 64
+    → fold (λ s name. bit_or s (field_bit (field_number fields name))) set names < 2 ^ 64
 set_below fields [] set h = h
-set_below fields (name ∷ names) set h = set_below fields names (bit_or set (field_bit (field_number fields name))) (or_lt 64 set (field_bit (field_number fields name)) h (field_bit-below (field_number fields name)))
+set_below fields (name ∷ names) set h = set_below fields names (bit_or set (field_bit (field_number fields name)))
+    (or_lt 64 set (field_bit (field_number fields name)) h (field_bit-below (field_number fields name)))
 
 -- a set of fields has 64 bits
 pub field_set-below : (fields : List FieldText) (names : List (List ℕ)) → field_set fields names < 2 ^ 64
@@ -61,7 +68,8 @@ named_within : (fields : List FieldText) (f : ℕ) (names : List (List ℕ)) →
 named_within fields f [] h = absurd h
 named_within fields f (name ∷ names) h =
     ⊎_elim
-    (λ here. let p = cond_some (nat_lt (position_or_len (λ x. bytes_eq x.name name) fields) (length fields)) (position_or_len (λ x. bytes_eq x.name name) fields) f here in
+    (λ here. let p = cond_some (nat_lt (position_or_len (λ x. bytes_eq x.name name) fields) (length fields))
+    (position_or_len (λ x. bytes_eq x.name name) fields) f here in
     let within : position_or_len (λ x. bytes_eq x.name name) fields < length fields = ltb-true _ _ p.0 in
     subst (λ k. k < length fields) p.1 within)
     (λ later. named_within fields f names later)
@@ -75,7 +83,8 @@ number_within : (o : Option ℕ) (m n : ℕ) → o ≡ Some m → m < n → n �
 number_within o m n e h few = rw (e, lt-ltb m 64 (omega arith)) (h, omega arith)
 
 -- the number of a field that is there
-pub field_number-within : (fields : List FieldText) (name : List ℕ) → is_field fields name ≡ true → length fields ≤ 64 → (field_number fields name < length fields) × (field_number fields name < 64)
+pub field_number-within : (fields : List FieldText) (name : List ℕ) → is_field fields name ≡ true → length fields ≤ 64
+    → (field_number fields name < length fields) × (field_number fields name < 64)
 unfolding field_number
 field_number-within fields name e few =
     number_within (position (λ f. bytes_eq f.name name) fields) (position_or_len (λ f. bytes_eq f.name name) fields) (length fields)
@@ -89,8 +98,7 @@ module _ (t : NameTables) (d : NotesDraft) (b : IsDraft d) (n : HasNames d t) wh
   shapes_long = length-map d.shape (resolved_shape t) ∙ (sym (length-map d.shape (λ s. s.name)) ∙ ap length (sym n.shape))
 
   pub shapes_few : length t.shape ≤ 1024
-  shapes_few =
-      let few : length d.shape ≤ 1024 = b.shape.0 in
+  shapes_few = let few : length d.shape ≤ 1024 = b.shape.0 in
       let same : length t.shape ≡ length d.shape = ap length n.shape ∙ length-map d.shape (λ s. s.name) in
       omega arith
 
@@ -98,7 +106,8 @@ module _ (t : NameTables) (d : NotesDraft) (b : IsDraft d) (n : HasNames d t) wh
   methods_few = subst (λ names. length names ≤ 1024) (sym n.method) b.signature.methods
 
   -- a shape that is named is there
-  pub shape_there : (s : List ℕ) → is_named s t.shape ≡ true → (name_number s t.shape < length (resolved t d).shape) × (name_number s t.shape < 2 ^ 32)
+  pub shape_there : (s : List ℕ) → is_named s t.shape ≡ true → (name_number s t.shape < length (resolved t d).shape)
+      × (name_number s t.shape < 2 ^ 32)
   shape_there s e =
       let within : name_number s t.shape < length t.shape = found_within (bytes_eq s) t.shape e in
       let long : length (resolved t d).shape ≡ length t.shape = shapes_long in
@@ -106,7 +115,8 @@ module _ (t : NameTables) (d : NotesDraft) (b : IsDraft d) (n : HasNames d t) wh
       (omega arith, omega arith)
 
   -- and a method
-  pub method_there : (m : List ℕ) → is_named m t.method ≡ true → (name_number m t.method < length (resolved t d).methods) × (name_number m t.method < 2 ^ 32)
+  pub method_there : (m : List ℕ) → is_named m t.method ≡ true → (name_number m t.method < length (resolved t d).methods)
+      × (name_number m t.method < 2 ^ 32)
   unfolding resolved
   method_there m e =
       let within : name_number m t.method < length t.method = found_within (bytes_eq m) t.method e in
@@ -136,10 +146,12 @@ module _ (t : NameTables) (d : NotesDraft) (b : IsDraft d) (n : HasNames d t) wh
   fields_long None = refl
   fields_long (Some s) = length-map s.fields (resolved_field t)
 
-  locals_by : (o : Option (List ℕ)) → length (fields_of (option_and_then (slice_get (resolved t d).shape) (resolved_locals t o))) ≡ length (locals_fields t d o)
+  locals_by : (o : Option (List ℕ)) → length (fields_of (option_and_then (slice_get (resolved t d).shape) (resolved_locals t o))) ≡ length
+      (locals_fields t d o)
   unfolding resolved resolved_locals locals_fields
   locals_by None = refl
-  locals_by (Some name) = ap (λ x. length (fields_of x)) (slice_get-map (resolved_shape t) d.shape (name_number name t.shape)) ∙ fields_long (slice_get d.shape (name_number name t.shape))
+  locals_by (Some name) = ap (λ x. length (fields_of x)) (slice_get-map (resolved_shape t) d.shape (name_number name t.shape))
+      ∙ fields_long (slice_get d.shape (name_number name t.shape))
 
   -- a function has as many local fields as its draft
   pub locals_long : (f : FunctionDraft) → length (local_fields (resolved t d) (resolved_function t f)) ≡ length (locals_fields t d f.locals)
@@ -153,20 +165,31 @@ module _ (t : NameTables) (d : NotesDraft) (b : IsDraft d) (n : HasNames d t) wh
   thunk_there i e = subst (λ k. i < k) (sym (length-map d.thunk (resolved_thunk t))) (ltb-true i (length d.thunk) e)
 
   -- a type of a function that names local fields among these
-  pub type_known : (f : FnNote) (fields : List FieldText) (ty : TypeText) → length fields ≤ 64 → length fields ≤ length (local_fields (resolved t d) f) → IsTypeBounded ty → knows_type t ty ≡ true → has_fields fields ty ≡ true → has_thunk (length d.thunk) ty ≡ true → IsKnown (resolved t d) f (resolved_type t fields ty)
+  pub type_known : (f : FnNote) (fields : List FieldText) (ty : TypeText) → length fields ≤ 64
+      → length fields ≤ length (local_fields (resolved t d) f) → IsTypeBounded ty → knows_type t ty ≡ true → has_fields fields ty ≡ true
+      → has_thunk (length d.thunk) ty ≡ true → IsKnown (resolved t d) f (resolved_type t fields ty)
   unfolding resolved_type
   type_known f fields types.Any few long h k l i = record { bounded = tt; names = tt }
   type_known f fields (types.Int lo hi div) few long h k l i = record { bounded = h; names = tt }
   type_known f fields (types.Lin m c) few long h k l i = record { bounded = h; names = tt }
   type_known f fields (types.Scaled m c hi) few long h k l i = record { bounded = h; names = tt }
-  type_known f fields (types.Ptr s c m o null) few long h k l i = let p = shape_there s k in record { bounded = (h.0, h.1, h.2, h.3, p.1); names = p.0 }
+  type_known f fields (types.Ptr s c m o null) few long h k l i = let p = shape_there s k in
+      record { bounded = (h.0, h.1, h.2, h.3, p.1); names = p.0 }
   type_known f fields (types.Local x) few long h k l i =
       let p = field_number-within fields x l few in
       let a : field_number fields x < length fields = p.0 in
       record { bounded = p.1; names = omega arith }
   type_known f fields (types.Lent cell) few long h k l i = let p = cell_known cell h k in record { bounded = p.bounded; names = p.names }
-  type_known f fields (types.Status gs) few long h k l i = record { bounded = field_set-below fields gs; names = λ x e. let a : x < length fields = field_set-within fields gs x e in omega arith }
-  type_known f fields (types.SignedStatus gs) few long h k l i = record { bounded = field_set-below fields gs; names = λ x e. let a : x < length fields = field_set-within fields gs x e in omega arith }
+  type_known f fields (types.Status gs) few long h k l i = record {
+    bounded = field_set-below fields gs;
+    names = λ x e. let a : x < length fields = field_set-within fields gs x e in omega arith;
+  }
+  type_known f fields (types.SignedStatus gs) few long h k l i =
+      record {
+        bounded = field_set-below fields gs;
+        names = λ x e. let a : x < length fields = field_set-within fields gs x e in
+            omega arith;
+      }
   type_known f fields types.Mask few long h k l i = record { bounded = tt; names = tt }
   type_known f fields types.Handle few long h k l i = record { bounded = tt; names = tt }
   type_known f fields types.Entry few long h k l i = record { bounded = tt; names = tt }
@@ -190,7 +213,8 @@ module _ (t : NameTables) (d : NotesDraft) (b : IsDraft d) (n : HasNames d t) wh
 -- ---- which types notes allow where
 
 start : (m c : ℤ) → is_start m c ≡ true → IsStart m c
-start m c e = let p = and_parts (int_eq m (pos 0)) (int_eq c (pos 0)) e in ((Decides-int_eq m (pos 0)).0 p.0, (Decides-int_eq c (pos 0)).0 p.1)
+start m c e = let p = and_parts (int_eq m (pos 0)) (int_eq c (pos 0)) e in
+    ((Decides-int_eq m (pos 0)).0 p.0, (Decides-int_eq c (pos 0)).0 p.1)
 
 not_negative : (c : ℤ) → is_not_negative c ≡ true → IsNotNegative c
 not_negative (pos m) e = tt
@@ -235,7 +259,8 @@ handed_in t fields types.Handle e = tt
 handed_in t fields (types.Status gs) e = tt
 handed_in t fields _ e = absurd cc
 
-pub handed_back : (t : NameTables) (fields : List FieldText) (ty : TypeText) → is_handed_back ty ≡ true → IsHandedBack (resolved_type t fields ty)
+pub handed_back : (t : NameTables) (fields : List FieldText) (ty : TypeText) → is_handed_back ty ≡ true
+    → IsHandedBack (resolved_type t fields ty)
 unfolding resolved_type
 handed_back t fields types.Any e = tt
 handed_back t fields (types.Int lo hi div) e = ltb-true hi (2 ^ 32) e

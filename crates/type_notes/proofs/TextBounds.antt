@@ -1,5 +1,6 @@
 -- The numbers in small texts are within the bounds of what the texts stand for.
-use Rattle.std.proofs.Common.{◌≡◌, ℕ, zero, suc, ◌+◌, ◌-◌, ◌*◌, ◌^◌, ◌<◌, ◌≤◌, ℤ, Bool, true, false, List, [], ◌∷◌, length, Option, None, Some, arith}
+use Rattle.std.proofs.Common.{◌≡◌, ℕ, zero, suc, ◌+◌, ◌-◌, ◌*◌, ◌^◌, ◌<◌, ◌≤◌, ℤ, Bool, true, false, List, [], ◌∷◌, length, Option, None}
+use Rattle.std.proofs.Common.{Some, arith}
 use Rattle.std.specs.Prelude.{IfSome, ⊤, pos, neg_ℤ, nat_le, nat_lt, ◌&&◌, ◌==◌, bytes_eq, codes, option_map}
 use Rattle.std.specs.List.{list_all}
 use Rattle.std.proofs.lemmas.Bool.{and_parts, leb-true, ltb-true}
@@ -19,16 +20,18 @@ use Rattle.note_texts.specs.declared.want.WantParamText.{WantParamText}
 use Rattle.note_texts.specs.declared.want.WantText.{WantText}
 use Rattle.note_texts.specs.declared.want.WantText.TheVariants as wants
 use Rattle.note_texts.specs.CellTexts.{cell_by, cell_of, counted_of, field_of, marked_cell, plain_cell}
-use Rattle.ebc_names.specs.Names.{continues_name, begins_name, is_name, is_digit}
-use Rattle.note_texts.specs.Names.{name_of, names_of}
+use Rattle.ebc_base.specs.Names.{continues_name, begins_name, is_name, is_digit, name_of}
+use Rattle.note_texts.specs.Names.{names_of}
 use Rattle.note_texts.specs.Numbers.{near_of, number_from, number_in, number_of, units_of, with_digit, within}
 use Rattle.note_texts.specs.Ranges.{after_dot, count_of, pair_of, range_of, size_of}
 use Rattle.note_texts.specs.SlotTexts.{param_of, parameter_kind, register_number, register_of, slot_kind, slot_of}
 use Rattle.note_texts.specs.Splits.{parts_at, split_at}
-use Rattle.note_texts.specs.TypeTexts.{granting_type, int_of, marked_type, number_type, offset_of, plain_type, pointer_of, scaled_of, type_by, type_of, word_by, word_type}
+use Rattle.note_texts.specs.TypeTexts.{granting_type, int_of, marked_type, number_type, offset_of, plain_type, pointer_of, scaled_of}
+use Rattle.note_texts.specs.TypeTexts.{type_by, type_of, word_by, word_type}
 use Rattle.note_texts.specs.WantTexts.{given_type, is_result, marked_want, plain_want, result_of, want_by, want_of, want_param_of}
 use Rattle.std.specs.List.{slice_split}
-use Rattle.type_notes.proofs.Outcomes.{some_any, some_choice, some_if, some_map, some_then}
+use Rattle.type_notes.proofs.Outcomes.{some_if, some_map, some_then}
+use Rattle.ebc_base.proofs.Given.{some_choice, some_any}
 
 -- ---- numbers and names
 
@@ -46,7 +49,8 @@ within_bounds low high n =
     (λ e. let p = and_parts (nat_le low n) (nat_le n high) e in (leb-true low n p.0, leb-true n high p.1))
 
 pub number_in-bounds : (low high : ℕ) (text : List ℕ) → IfSome (number_in low high text) (IsWithin low high)
-number_in-bounds low high text = some_then Anything (IsWithin low high) (number_of text) (within low high) (some_any (number_of text)) (λ n _. within_bounds low high n)
+number_in-bounds low high text = some_then Anything (IsWithin low high) (number_of text) (within low high) (some_any (number_of text))
+    (λ n _. within_bounds low high n)
 
 with_digit-below : (n b : ℕ) → IfSome (with_digit n b) (λ m. m < 2 ^ 64)
 with_digit-below n b =
@@ -56,16 +60,19 @@ with_digit-below n b =
 number_from-below : (bs : List ℕ) (n : ℕ) → n < 2 ^ 64 → IfSome (number_from n bs) (λ m. m < 2 ^ 64)
 unfolding number_from
 number_from-below [] n h = h
-number_from-below (b ∷ bs) n h = some_then (λ m. m < 2 ^ 64) (λ m. m < 2 ^ 64) (with_digit n b) (λ m. number_from m bs) (with_digit-below n b) (λ m g. number_from-below bs m g)
+number_from-below (b ∷ bs) n h = some_then (λ m. m < 2 ^ 64) (λ m. m < 2 ^ 64) (with_digit n b) (λ m. number_from m bs)
+    (with_digit-below n b) (λ m g. number_from-below bs m g)
 
 pub number_of-below : (text : List ℕ) → IfSome (number_of text) (λ m. m < 2 ^ 64)
 unfolding number_of
 number_of-below [] = tt
 number_of-below (b ∷ []) = number_from-below (b ∷ []) 0 (omega arith)
-number_of-below (b ∷ c ∷ bs) = some_choice (λ m. m < 2 ^ 64) (b == 48) None (number_from 0 (b ∷ c ∷ bs)) tt (number_from-below (b ∷ c ∷ bs) 0 (omega arith))
+number_of-below (b ∷ c ∷ bs) = some_choice (λ m. m < 2 ^ 64) (b == 48) None (number_from 0 (b ∷ c ∷ bs)) tt
+    (number_from-below (b ∷ c ∷ bs) 0 (omega arith))
 
 units_of-bounds : (low : ℕ) (text : List ℕ) → IfSome (units_of low text) (IsUnits low)
-units_of-bounds low text = some_map (IsWithin low (2 ^ 20)) (IsUnits low) (number_in low (2 ^ 20) text) (λ n. pos n) (number_in-bounds low (2 ^ 20) text) (λ n h. h)
+units_of-bounds low text = some_map (IsWithin low (2 ^ 20)) (IsUnits low) (number_in low (2 ^ 20) text) (λ n. pos n)
+    (number_in-bounds low (2 ^ 20) text) (λ n h. h)
 
 negative_near : (n : ℕ) → IsWithin 1 (2 ^ 20) n → IsNear (neg_ℤ (pos n))
 negative_near zero h = absurd (omega arith)
@@ -75,7 +82,8 @@ near_of-bounds : (text : List ℕ) → IfSome (near_of text) IsNear
 unfolding near_of
 near_of-bounds [] = tt
 near_of-bounds (b ∷ bs) =
-    some_choice IsNear (b == 45) (option_map (λ n. neg_ℤ (pos n)) (number_in 1 (2 ^ 20) bs)) (option_map (λ n. pos n) (number_in 0 (2 ^ 20) (b ∷ bs)))
+    some_choice IsNear (b == 45) (option_map (λ n. neg_ℤ (pos n)) (number_in 1 (2 ^ 20) bs))
+    (option_map (λ n. pos n) (number_in 0 (2 ^ 20) (b ∷ bs)))
     (some_map (IsWithin 1 (2 ^ 20)) IsNear (number_in 1 (2 ^ 20) bs) (λ n. neg_ℤ (pos n)) (number_in-bounds 1 (2 ^ 20) bs) negative_near)
     (some_map (IsWithin 0 (2 ^ 20)) IsNear (number_in 0 (2 ^ 20) (b ∷ bs)) (λ n. pos n) (number_in-bounds 0 (2 ^ 20) (b ∷ bs)) (λ n h. h.1))
 
@@ -137,13 +145,15 @@ unfolding size_of
 size_of-bounds text =
     some_then Anything IsSize (split_at 44 text) _ (some_any (split_at 44 text))
     (λ parts _. some_then (IsWithin 0 (2 ^ 20)) IsSize (number_in 0 (2 ^ 20) parts.0) _ (number_in-bounds 0 (2 ^ 20) parts.0)
-    (λ n g. some_then (IsWithin 0 (2 ^ 20)) IsSize (number_in 0 (2 ^ 20) parts.1) _ (number_in-bounds 0 (2 ^ 20) parts.1) (λ c h. (g.1, h.1))))
+    (λ n g. some_then (IsWithin 0 (2 ^ 20)) IsSize (number_in 0 (2 ^ 20) parts.1) _ (number_in-bounds 0 (2 ^ 20) parts.1)
+    (λ c h. (g.1, h.1))))
 
 counted_of-bounds : (text : List ℕ) → IfSome (counted_of text) (λ target. IsCount target.1)
 unfolding counted_of
 counted_of-bounds text =
     some_then Anything (λ target. IsCount target.1) (name_of (parts_at 42 text).0) _ (some_any (name_of (parts_at 42 text).0))
-    (λ shape _. some_then IsCount (λ target. IsCount target.1) (count_of (parts_at 42 text).1) _ (count_of-bounds (parts_at 42 text).1) (λ count h. h))
+    (λ shape _. some_then IsCount (λ target. IsCount target.1) (count_of (parts_at 42 text).1) _ (count_of-bounds (parts_at 42 text).1)
+    (λ count h. h))
 
 -- ---- cells
 
@@ -168,11 +178,20 @@ plain_cell-bounds word =
 marked_cell-bounds : (word rest : List ℕ) → IfSome (marked_cell word rest) IsCellBounded
 unfolding marked_cell
 marked_cell-bounds word rest =
-    some_choice IsCellBounded (bytes_eq word (codes "ptr")) _ _ (some_map (λ target. IsCount target.1) IsCellBounded (counted_of rest) (λ target. cells.Ptr target.0 target.1 false) (counted_of-bounds rest) (λ target h. h))
-    (some_choice IsCellBounded (bytes_eq word (codes "ptr?")) _ _ (some_map (λ target. IsCount target.1) IsCellBounded (counted_of rest) (λ target. cells.Ptr target.0 target.1 true) (counted_of-bounds rest) (λ target h. h))
-    (some_choice IsCellBounded (bytes_eq word (codes "p64")) _ _ (some_map (λ target. IsCount target.1) IsCellBounded (counted_of rest) (λ target. cells.P64 target.0 target.1 false) (counted_of-bounds rest) (λ target h. h))
-    (some_choice IsCellBounded (bytes_eq word (codes "p64?")) _ _ (some_map (λ target. IsCount target.1) IsCellBounded (counted_of rest) (λ target. cells.P64 target.0 target.1 true) (counted_of-bounds rest) (λ target h. h))
-    (some_choice IsCellBounded (bytes_eq word (codes "method")) _ _ (some_map Anything IsCellBounded (name_of rest) (λ name. cells.Method name) (some_any (name_of rest)) (λ name h. tt)) tt))))
+    some_choice IsCellBounded (bytes_eq word (codes "ptr")) _ _
+    (some_map (λ target. IsCount target.1) IsCellBounded (counted_of rest) (λ target. cells.Ptr target.0 target.1 false)
+    (counted_of-bounds rest) (λ target h. h))
+    (some_choice IsCellBounded (bytes_eq word (codes "ptr?")) _ _
+    (some_map (λ target. IsCount target.1) IsCellBounded (counted_of rest) (λ target. cells.Ptr target.0 target.1 true)
+    (counted_of-bounds rest) (λ target h. h))
+    (some_choice IsCellBounded (bytes_eq word (codes "p64")) _ _
+    (some_map (λ target. IsCount target.1) IsCellBounded (counted_of rest) (λ target. cells.P64 target.0 target.1 false)
+    (counted_of-bounds rest) (λ target h. h))
+    (some_choice IsCellBounded (bytes_eq word (codes "p64?")) _ _
+    (some_map (λ target. IsCount target.1) IsCellBounded (counted_of rest) (λ target. cells.P64 target.0 target.1 true)
+    (counted_of-bounds rest) (λ target h. h))
+    (some_choice IsCellBounded (bytes_eq word (codes "method")) _ _
+    (some_map Anything IsCellBounded (name_of rest) (λ name. cells.Method name) (some_any (name_of rest)) (λ name h. tt)) tt))))
 
 cell_by-bounds : (parts : List ℕ × Option (List ℕ)) → IfSome (cell_by parts) IsCellBounded
 cell_by-bounds (word, None) = plain_cell-bounds word
@@ -195,10 +214,13 @@ field_of-bounds text =
     (λ first _. some_then Anything IsFieldBounded (split_at 32 first.1) _ (some_any (split_at 32 first.1))
     (λ second _. some_then Anything IsFieldBounded (split_at 32 second.1) _ (some_any (split_at 32 second.1))
     (λ third _. some_then HasNameLength IsFieldBounded (name_of first.0) _ (name_of-bounds first.0)
-    (λ name long. some_then (IsWithin 0 (2 ^ 32 - 1)) IsFieldBounded (number_in 0 (2 ^ 32 - 1) second.0) _ (number_in-bounds 0 (2 ^ 32 - 1) second.0)
-    (λ n g. some_then (IsWithin 0 (2 ^ 32 - 1)) IsFieldBounded (number_in 0 (2 ^ 32 - 1) third.0) _ (number_in-bounds 0 (2 ^ 32 - 1) third.0)
+    (λ name long. some_then (IsWithin 0 (2 ^ 32 - 1)) IsFieldBounded (number_in 0 (2 ^ 32 - 1) second.0) _
+    (number_in-bounds 0 (2 ^ 32 - 1) second.0)
+    (λ n g. some_then (IsWithin 0 (2 ^ 32 - 1)) IsFieldBounded (number_in 0 (2 ^ 32 - 1) third.0) _
+    (number_in-bounds 0 (2 ^ 32 - 1) third.0)
     (λ c h. some_then IsCellBounded IsFieldBounded (cell_of third.1) _ (cell_of-bounds third.1)
-    (λ cell i. let a : n ≤ 2 ^ 32 - 1 = g.1 in let b : c ≤ 2 ^ 32 - 1 = h.1 in record { name = long; units = omega arith; bytes = omega arith; cell = i })))))))
+    (λ cell i. let a : n ≤ 2 ^ 32 - 1 = g.1 in let b : c ≤ 2 ^ 32 - 1 = h.1 in
+    record { name = long; units = omega arith; bytes = omega arith; cell = i })))))))
 
 -- ---- types
 
@@ -225,7 +247,8 @@ unfolding scaled_of
 scaled_of-bounds text =
     some_then Anything IsTypeBounded (split_at 44 text) _ (some_any (split_at 44 text))
     (λ first _. some_then Anything IsTypeBounded (split_at 44 first.1) _ (some_any (split_at 44 first.1))
-    (λ second _. some_then (IsWithin 1 (2 ^ 64 - 1)) IsTypeBounded (number_in 1 (2 ^ 64 - 1) first.0) _ (number_in-bounds 1 (2 ^ 64 - 1) first.0)
+    (λ second _. some_then (IsWithin 1 (2 ^ 64 - 1)) IsTypeBounded (number_in 1 (2 ^ 64 - 1) first.0) _
+    (number_in-bounds 1 (2 ^ 64 - 1) first.0)
     (λ n f. some_then (λ m. m < 2 ^ 64) IsTypeBounded (number_of second.0) _ (number_of-below second.0)
     (λ c g. some_then (λ m. m < 2 ^ 64) IsTypeBounded (number_of second.1) _ (number_of-below second.1)
     (λ hi h. some_if IsTypeBounded (nat_lt (hi * (8 * n + c)) (2 ^ 32)) (types.Scaled n c hi)
@@ -257,8 +280,10 @@ granting_type-bounds : (word fields : List ℕ) → IfSome (granting_type word f
 unfolding granting_type
 granting_type-bounds word fields =
     let names = names_of (slice_split (λ b. b == 33) fields) in
-    some_choice IsTypeBounded (bytes_eq word (codes "status")) _ _ (some_map Anything IsTypeBounded names (λ gs. types.Status gs) (some_any names) (λ gs h. tt))
-    (some_choice IsTypeBounded (bytes_eq word (codes "sstatus")) _ _ (some_map Anything IsTypeBounded names (λ gs. types.SignedStatus gs) (some_any names) (λ gs h. tt)) tt)
+    some_choice IsTypeBounded (bytes_eq word (codes "status")) _ _
+    (some_map Anything IsTypeBounded names (λ gs. types.Status gs) (some_any names) (λ gs h. tt))
+    (some_choice IsTypeBounded (bytes_eq word (codes "sstatus")) _ _
+    (some_map Anything IsTypeBounded names (λ gs. types.SignedStatus gs) (some_any names) (λ gs h. tt)) tt)
 
 word_by-bounds : (parts : List ℕ × Option (List ℕ)) → IfSome (word_by parts) IsTypeBounded
 word_by-bounds (word, None) = plain_type-bounds word
@@ -272,19 +297,27 @@ number_type-bounds : (word rest : List ℕ) → IfSome (number_type word rest) I
 unfolding number_type
 number_type-bounds word rest =
     some_choice IsTypeBounded (bytes_eq word (codes "int")) _ _ (int_of-bounds rest)
-    (some_choice IsTypeBounded (bytes_eq word (codes "lin")) _ _ (some_map (IsPairFrom 1) IsTypeBounded (pair_of 1 rest) (λ pair. types.Lin pair.0 pair.1) (pair_of-bounds 1 rest) (λ pair h. h))
+    (some_choice IsTypeBounded (bytes_eq word (codes "lin")) _ _
+    (some_map (IsPairFrom 1) IsTypeBounded (pair_of 1 rest) (λ pair. types.Lin pair.0 pair.1) (pair_of-bounds 1 rest) (λ pair h. h))
     (some_choice IsTypeBounded (bytes_eq word (codes "scaled")) _ _ (scaled_of-bounds rest)
-    (some_choice IsTypeBounded (bytes_eq word (codes "thunk")) _ _ (some_map (IsWithin 0 (2 ^ 32 - 1)) IsTypeBounded (number_in 0 (2 ^ 32 - 1) rest) (λ index. types.ThunkAt index) (number_in-bounds 0 (2 ^ 32 - 1) rest) (λ index h. let a : index ≤ 2 ^ 32 - 1 = h.1 in omega arith))
-    (some_choice IsTypeBounded (bytes_eq word (codes "saved")) _ _ (some_map (IsWithin 1 3) IsTypeBounded (number_in 1 3 rest) (λ register. types.Saved register) (number_in-bounds 1 3 rest) (λ register h. h)) tt))))
+    (some_choice IsTypeBounded (bytes_eq word (codes "thunk")) _ _
+    (some_map (IsWithin 0 (2 ^ 32 - 1)) IsTypeBounded (number_in 0 (2 ^ 32 - 1) rest) (λ index. types.ThunkAt index)
+    (number_in-bounds 0 (2 ^ 32 - 1) rest) (λ index h. let a : index ≤ 2 ^ 32 - 1 = h.1 in omega arith))
+    (some_choice IsTypeBounded (bytes_eq word (codes "saved")) _ _
+    (some_map (IsWithin 1 3) IsTypeBounded (number_in 1 3 rest) (λ register. types.Saved register) (number_in-bounds 1 3 rest)
+    (λ register h. h)) tt))))
 
 marked_type-bounds : (word rest : List ℕ) → IfSome (marked_type word rest) IsTypeBounded
 unfolding marked_type
 marked_type-bounds word rest =
     some_choice IsTypeBounded (bytes_eq word (codes "ptr")) _ _ (pointer_of-bounds false rest)
     (some_choice IsTypeBounded (bytes_eq word (codes "ptr?")) _ _ (pointer_of-bounds true rest)
-    (some_choice IsTypeBounded (bytes_eq word (codes "local")) _ _ (some_map Anything IsTypeBounded (name_of rest) (λ name. types.Local name) (some_any (name_of rest)) (λ name h. tt))
-    (some_choice IsTypeBounded (bytes_eq word (codes "lent")) _ _ (some_map IsCellBounded IsTypeBounded (cell_of rest) (λ cell. types.Lent cell) (cell_of-bounds rest) (λ cell h. h))
-    (some_choice IsTypeBounded (bytes_eq word (codes "method")) _ _ (some_map Anything IsTypeBounded (name_of rest) (λ name. types.Method name) (some_any (name_of rest)) (λ name h. tt))
+    (some_choice IsTypeBounded (bytes_eq word (codes "local")) _ _
+    (some_map Anything IsTypeBounded (name_of rest) (λ name. types.Local name) (some_any (name_of rest)) (λ name h. tt))
+    (some_choice IsTypeBounded (bytes_eq word (codes "lent")) _ _
+    (some_map IsCellBounded IsTypeBounded (cell_of rest) (λ cell. types.Lent cell) (cell_of-bounds rest) (λ cell h. h))
+    (some_choice IsTypeBounded (bytes_eq word (codes "method")) _ _
+    (some_map Anything IsTypeBounded (name_of rest) (λ name. types.Method name) (some_any (name_of rest)) (λ name h. tt))
     (number_type-bounds word rest)))))
 
 type_by-bounds : (parts : List ℕ × Option (List ℕ)) → IfSome (type_by parts) IsTypeBounded
@@ -353,10 +386,14 @@ plain_want-bounds word =
 marked_want-bounds : (word rest : List ℕ) → IfSome (marked_want word rest) IsWantBounded
 unfolding marked_want
 marked_want-bounds word rest =
-    some_choice IsWantBounded (bytes_eq word (codes "int")) _ _ (some_map IsRange IsWantBounded (range_of rest) (λ range. wants.Int range.0 range.1) (range_of-bounds rest) (λ range h. h))
-    (some_choice IsWantBounded (bytes_eq word (codes "size")) _ _ (some_map IsSize IsWantBounded (size_of rest) (λ size. wants.Size size.0 size.1) (size_of-bounds rest) (λ size h. h))
-    (some_choice IsWantBounded (bytes_eq word (codes "out")) _ _ (some_map IsCellBounded IsWantBounded (cell_of rest) (λ cell. wants.Out cell) (cell_of-bounds rest) (λ cell h. h))
-    (some_choice IsWantBounded (bytes_eq word (codes "inout")) _ _ (some_map IsCellBounded IsWantBounded (cell_of rest) (λ cell. wants.Inout cell) (cell_of-bounds rest) (λ cell h. h)) tt)))
+    some_choice IsWantBounded (bytes_eq word (codes "int")) _ _
+    (some_map IsRange IsWantBounded (range_of rest) (λ range. wants.Int range.0 range.1) (range_of-bounds rest) (λ range h. h))
+    (some_choice IsWantBounded (bytes_eq word (codes "size")) _ _
+    (some_map IsSize IsWantBounded (size_of rest) (λ size. wants.Size size.0 size.1) (size_of-bounds rest) (λ size h. h))
+    (some_choice IsWantBounded (bytes_eq word (codes "out")) _ _
+    (some_map IsCellBounded IsWantBounded (cell_of rest) (λ cell. wants.Out cell) (cell_of-bounds rest) (λ cell h. h))
+    (some_choice IsWantBounded (bytes_eq word (codes "inout")) _ _
+    (some_map IsCellBounded IsWantBounded (cell_of rest) (λ cell. wants.Inout cell) (cell_of-bounds rest) (λ cell h. h)) tt)))
 
 want_by-bounds : (parts : List ℕ × Option (List ℕ)) → IfSome (want_by parts) IsWantBounded
 want_by-bounds (word, None) = plain_want-bounds word
@@ -375,7 +412,8 @@ unfolding want_param_of
 want_param_of-bounds text =
     some_then Anything IsWantParamBounded (split_at 32 text) _ (some_any (split_at 32 text))
     (λ parts _. some_then IsParameterKind IsWantParamBounded (parameter_kind parts.0) _ (parameter_kind-is parts.0)
-    (λ kind g. some_then IsWantBounded IsWantParamBounded (want_of parts.1) _ (want_of-bounds parts.1) (λ want h. record { kind = g; want = h })))
+    (λ kind g. some_then IsWantBounded IsWantParamBounded (want_of parts.1) _ (want_of-bounds parts.1)
+    (λ want h. record { kind = g; want = h })))
 
 -- a type within its bounds that a native method may give
 abbrev pub IsGivenBounded : TypeText → Type 0
@@ -386,4 +424,5 @@ unfolding result_of
 result_of-bounds text =
     let P : ResultText → Type 0 = λ r. IfSome r.ty IsGivenBounded in
     some_choice P (bytes_eq text (codes "none")) _ _ tt
-    (some_then IsTypeBounded P (type_of text) given_type (type_of-bounds text) (λ ty h. some_if P (is_result ty) (record { ty = Some ty }) (λ e. (h, e))))
+    (some_then IsTypeBounded P (type_of text) given_type (type_of-bounds text)
+    (λ ty h. some_if P (is_result ty) (record { ty = Some ty }) (λ e. (h, e))))

@@ -1,6 +1,7 @@
--- The conditions on notes whose texts and names are right, in the order in which they are tried, and the key at which
--- the first that fails is named. docs/NOTES.md lists them.
-use Rattle.std.specs.Prelude.{ℕ, ◌+◌, ◌-◌, ◌*◌, List, [], ◌∷◌, map, length, filter, Option, Some, None, Result, Bool, true, false, not, ◌&&◌, ◌||◌, nat_lt, nat_le, take, bytes_eq, if◌then◌else◌}
+-- Meaning: the conditions on notes whose texts and names are right, in the order in which they are tried, and the key at
+-- which the first that fails is named. docs/NOTES.md lists them.
+use Rattle.std.specs.Prelude.{ℕ, ◌+◌, ◌-◌, ◌*◌, List, [], ◌∷◌, map, length, filter, Option, Some, None, Result, Bool, true, false, not}
+use Rattle.std.specs.Prelude.{◌&&◌, ◌||◌, nat_lt, nat_le, take, bytes_eq, if◌then◌else◌}
 use Rattle.std.specs.List.{find, list_all, position, range_with_len, sum_by}
 use Rattle.note_texts.specs.declared.cell.FieldText.{FieldText}
 use Rattle.note_texts.specs.declared.slot.ItemText.{ItemText}

@@ -1,5 +1,5 @@
--- The fields of a function's locals, by their names and numbers, and sets of them. docs/NOTES.md says what a function's
--- locals are.
+-- Meaning: the fields of a function's locals, by their names and numbers, and sets of them. docs/NOTES.md says what a
+-- function's locals are.
 use Rattle.std.specs.Prelude.{◌≡◌, ◌↔◌, ◌⊎◌, ℕ, ◌^◌, ◌<◌, List, [], ◌∷◌, Option, Some, None, Bool, bytes_eq, bit_or, nat_lt, if◌then◌else◌}
 use Rattle.std.specs.List.{fold, list_any, position}
 use Rattle.note_types.specs.FieldSets.{HasField}

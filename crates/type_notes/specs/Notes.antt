@@ -1,4 +1,4 @@
--- The notes that a text stands for, or the first fault in it. docs/NOTES.md has it in words.
+-- Meaning: the notes that a text stands for, or the first fault in it. docs/NOTES.md has it in words.
 use Rattle.std.specs.Prelude.{ℕ, List, Result, Ok}
 use Rattle.note_types.specs.declared.fault.TomlFault.{TomlFault}
 use Rattle.note_types.specs.declared.notes.Notes.{Notes}

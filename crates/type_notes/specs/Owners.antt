@@ -1,4 +1,4 @@
--- The function that holds a place of the code. docs/NOTES.md says where a function's code lies.
+-- Meaning: the function that holds a place of the code. docs/NOTES.md says where a function's code lies.
 use Rattle.std.specs.Prelude.{◌≡◌, ℕ, ◌<◌, ◌≤◌, Bool, ◌&&◌, nat_lt, nat_le, List, Option, None, Some, map, is_none, slice_get}
 use Rattle.std.specs.List.{position}
 use Rattle.note_draft.specs.declared.draft.FunctionDraft.{FunctionDraft}

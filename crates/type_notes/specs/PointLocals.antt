@@ -1,11 +1,11 @@
--- The function that a point belongs to, and its locals. docs/NOTES.md says which function that is.
+-- Meaning: the function that a point belongs to, and its locals. docs/NOTES.md says which function that is.
 use Rattle.std.specs.Prelude.{ℕ, List, [], Option, Some, None, Bool, false, is_some, slice_get, option_and_then}
 use Rattle.note_texts.specs.declared.cell.FieldText.{FieldText}
 use Rattle.note_draft.specs.declared.draft.FunctionDraft.{FunctionDraft}
 use Rattle.note_draft.specs.declared.draft.NotesDraft.{NotesDraft}
 use Rattle.note_draft.specs.declared.draft.ShapeDraft.{ShapeDraft}
 use Rattle.note_draft.specs.declared.tables.NameTables.{NameTables}
-use Rattle.ebc_names.specs.Tables.{name_number}
+use Rattle.ebc_base.specs.Tables.{name_number}
 use Rattle.type_notes.specs.Owners.{owner_of}
 
 -- What a point may name: whether its function has locals, and their fields.

@@ -1,5 +1,5 @@
--- The notes that a draft stands for: each name of a thing of the notes is the thing's number. docs/NOTES.md says how
--- things are numbered.
+-- Meaning: the notes that a draft stands for: each name of a thing of the notes is the thing's number. docs/NOTES.md says
+-- how things are numbered.
 use Rattle.std.specs.Prelude.{ℕ, List, [], ◌∷◌, map, Option, Some, None, ◌&&◌, nat_eq, nat_le, if◌then◌else◌}
 use Rattle.std.specs.List.{find}
 use Rattle.note_texts.specs.declared.cell.CellText.{CellText}
@@ -45,7 +45,7 @@ use Rattle.note_draft.specs.declared.draft.ThunkDraft.{ThunkDraft}
 use Rattle.note_draft.specs.declared.tables.NameTables.{NameTables}
 use Rattle.type_notes.specs.PointLocals.{point_locals}
 use Rattle.type_notes.specs.Locals.{field_number, field_set}
-use Rattle.ebc_names.specs.Tables.{name_number}
+use Rattle.ebc_base.specs.Tables.{name_number}
 
 -- ---- texts
 
@@ -168,8 +168,7 @@ register_type t fields regs r = given_or_left_out t fields r (find (λ x. nat_eq
 unfoldable pub state_of : NameTables → List FieldText → PointDraft → State
 state_of t fields p =
     record {
-      regs =
-          ty.Any ∷
+      regs = ty.Any ∷
           register_type t fields p.regs 1 ∷
           register_type t fields p.regs 2 ∷
           register_type t fields p.regs 3 ∷

@@ -1,7 +1,6 @@
--- Which types notes allow where: what a natural slot keeps, what passes the boundary to the firmware, what a call hands
--- over. docs/NOTES.md lists them.
+-- Meaning: which types notes allow where: what a natural slot keeps, what passes the boundary to the firmware, what a call
+-- hands over. docs/NOTES.md lists them.
 use Rattle.std.specs.Prelude.{ℕ, List, [], ◌∷◌, ◌^◌, Bool, true, false, ◌&&◌, nat_lt, pos, negsuc, ℤ}
-use Rattle.std.specs.Ordering.{int_eq}
 use Rattle.std.specs.List.{list_all}
 use Rattle.note_texts.specs.declared.cell.FieldText.{FieldText}
 use Rattle.note_texts.specs.declared.ty.TypeText.{TypeText}
@@ -9,14 +8,11 @@ use Rattle.note_texts.specs.declared.ty.TypeText.TheVariants as ty
 use Rattle.note_texts.specs.declared.want.WantText.{WantText}
 use Rattle.note_texts.specs.declared.want.WantText.TheVariants as want
 use Rattle.type_notes.specs.Locals.{is_field}
+use Rattle.note_types.specs.Types.{is_start}
 
 -- whether a number is below 2^32
 abbrev pub is_narrow : ℕ → Bool
 is_narrow hi = nat_lt hi (2 ^ 32)
-
--- whether a pair is (0, 0)
-abbrev pub is_start : ℤ → ℤ → Bool
-is_start n c = int_eq n (pos 0) && int_eq c (pos 0)
 
 -- whether a number isn't negative
 abbrev pub is_not_negative : ℤ → Bool

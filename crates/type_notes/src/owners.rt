@@ -7,7 +7,7 @@ use note_draft::{FunctionDraft, PointDraft};
 use std::alloc::{AllocError, Global};
 
 /// The functions that hold the points.
-#[derive(Debug, Drop)]
+#[derive(Drop)]
 pub enum Owners {
     /// For each point the number of the first function that holds its place.
     All(Vec<usize>),

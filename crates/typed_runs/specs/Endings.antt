@@ -1,4 +1,4 @@
--- How a typed program's run may end: the one exception that it may raise.
+-- Meaning: how a typed program's run may end: the one exception that it may raise.
 use Rattle.std.specs.Prelude.{◌≡◌}
 use Rattle.std.specs.Bool.{⊤}
 use Rattle.note_types.specs.declared.ending.Ending.{Ending}

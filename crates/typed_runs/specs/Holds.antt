@@ -1,15 +1,15 @@
--- What holds of each configuration of a typed program's neutral run. It takes the state at each place. docs/SIMULATION.md, "The
--- second half".
+-- For proofs: what holds of each configuration of a typed program's neutral run. It takes the state at each place.
+-- docs/SIMULATION.md, "The second half".
 use Rattle.std.specs.Prelude.{◌≡◌, ℕ, List, [], ◌∷◌, Some, slice_get}
 use Rattle.note_types.specs.declared.ending.Ending.TheVariants as ending
 use Rattle.note_types.specs.declared.spot.Spot.{Spot}
 use Rattle.note_types.specs.declared.spot.Spot.TheVariants as spot
 use Rattle.note_types.specs.declared.state.State.{State}
-use Rattle.run_types.specs.Config.{Frame, Function, Host, FunctionFrame, Config, depth, call_under_way}
-use Rattle.run_types.specs.Progress.{NativeCall, NoCall, Asked, Accepted}
-use Rattle.run_types.specs.FitsState.{FitsState}
-use Rattle.run_types.specs.Values.{Neutral}
-use Rattle.run_types.specs.World.{World}
+use Rattle.neutral_machine.specs.Config.{Frame, Function, Host, FunctionFrame, Config, depth, call_under_way}
+use Rattle.host_model.specs.Progress.{NativeCall, NoCall, Asked, Accepted}
+use Rattle.neutral_machine.specs.FitsState.{FitsState}
+use Rattle.host_model.specs.Values.{Neutral}
+use Rattle.host_model.specs.World.{World}
 use Rattle.typed_runs.specs.Asked.{GivenByCall}
 use Rattle.typed_runs.specs.Endings.{RaisesOnlyDivideError}
 use Rattle.typed_runs.specs.Live.{live_memory}
@@ -28,7 +28,8 @@ pub record RunsAt (world : World) (states : States) (a : Config) (p : ℕ) (f : 
 abbrev pub TopHolds : World → States → Config → NativeCall Neutral → ℕ → List Frame → Type 0
 TopHolds world states a NoCall p (Function f ∷ fs) = RunsAt world states a p f fs
 TopHolds world states a (Asked q v) p (Function f ∷ fs) = AsksWell world states (live_memory world a) a.made (depth fs) f q p v a.registers
-TopHolds world states a (Accepted e n vs) p (Function f ∷ fs) = WaitsNative world states (live_memory world a) a.made (depth fs) f e p vs a.registers
+TopHolds world states a (Accepted e n vs) p (Function f ∷ fs) =
+    WaitsNative world states (live_memory world a) a.made (depth fs) f e p vs a.registers
 TopHolds world states a call p _ = ⊥
 
 -- ---- the gate

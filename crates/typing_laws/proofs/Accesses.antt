@@ -6,8 +6,8 @@ use Rattle.note_types.specs.declared.cell.Cell.TheVariants as cell
 use Rattle.rules_base.specs.declared.access.Access.{Access}
 use Rattle.rules_base.specs.declared.access.Access.TheVariants as rules
 use Rattle.rules_base.specs.Access.{loads, stores}
-use Rattle.run_types.specs.Locations.{Move, Form, Signed, reads, writes}
-use Rattle.run_types.specs.Locations as neutral
+use Rattle.neutral_machine.specs.Locations.{Move, Form, Signed, reads, writes}
+use Rattle.neutral_machine.specs.Locations as neutral
 
 -- the access of the rules that an access of the neutral machine is
 abbrev pub access_of : neutral.Access → Access

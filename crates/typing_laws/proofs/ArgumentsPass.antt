@@ -1,6 +1,7 @@
 -- The arguments of a call: the slots that the rules let be passed fit the parameters of the called function, and those handed to
 -- a native method are what its signature wants.
-use Rattle.std.proofs.Common.{◌≡◌, ℕ, suc, Bool, true, false, if◌then◌else◌, List, [], ◌∷◌, length, take, Option, Some, None, slice_get, refl, sym, ap, ◌∙◌, subst, arith, option_and_then}
+use Rattle.std.proofs.Common.{◌≡◌, ℕ, suc, Bool, true, false, if◌then◌else◌, List, [], ◌∷◌, length, take, Option, Some, None, slice_get}
+use Rattle.std.proofs.Common.{refl, sym, ap, ◌∙◌, subst, arith, option_and_then}
 use Rattle.std.specs.List.{AllZip}
 use Rattle.std.proofs.lemmas.Bool.{and_from, false≢true}
 use Rattle.std.proofs.lemmas.Option.{none-some}
@@ -25,11 +26,11 @@ use Rattle.rules_base.specs.Outcomes.{both, needs}
 use Rattle.rules_base.specs.Places.{cell_of, has_field}
 use Rattle.rules_flow.specs.Arguments.{argument, arguments, is_cell, lends, passed}
 use Rattle.neutral_machine.specs.Rows.{have_kinds}
-use Rattle.run_types.specs.Config.{Registers, StackItem, Pushed, LocalsOf, FunctionFrame}
-use Rattle.run_types.specs.Fits.{IsCellBelow, IsLent, Fits}
-use Rattle.run_types.specs.FitsState.{ItemFits}
-use Rattle.run_types.specs.Memory.{Memory, cell_field, AreWritten}
-use Rattle.run_types.specs.Values.{Neutral, FieldOfLocals}
+use Rattle.neutral_machine.specs.Config.{Registers, StackItem, Pushed, LocalsOf, FunctionFrame}
+use Rattle.neutral_machine.specs.Fits.{IsCellBelow, IsLent, Fits}
+use Rattle.neutral_machine.specs.FitsState.{ItemFits}
+use Rattle.neutral_machine.specs.Memory.{Memory, cell_field, AreWritten}
+use Rattle.host_model.specs.Values.{Neutral, FieldOfLocals}
 use Rattle.typed_runs.specs.Sound.{ParamFits}
 use Rattle.typing_laws.proofs.FitsBelow.{fits_below}
 use Rattle.typing_laws.proofs.LiveCells.{LaterBelow, below_down, passed_up}
@@ -52,9 +53,11 @@ some_never r e = none-some r (sym e)
 
 -- ---- the address of a local field that is lent
 
-module _ (notes : Notes) (note : FnNote) (d : ℕ) (U V : Memory) (written : ℕ) (are : AreWritten U d written) (same_locals : (x : Shape) → U.locals d ≡ Some x → local_fields notes note ≡ x.fields) (l : LaterBelow (suc d) U V) where
+module _ (notes : Notes) (note : FnNote) (d : ℕ) (U V : Memory) (written : ℕ) (are : AreWritten U d written)
+    (same_locals : (x : Shape) → U.locals d ≡ Some x → local_fields notes note ≡ x.fields) (l : LaterBelow (suc d) U V) where
   -- the field that is lent has the cell
-  lent_field : (cell : Cell) (x : ℕ) (z : Field) → cell_field notes U (FieldOfLocals d x) ≡ Some z → is_cell cell (cell_of (local_fields notes note) x) ≡ true → z.cell ≡ cell
+  lent_field : (cell : Cell) (x : ℕ) (z : Field) → cell_field notes U (FieldOfLocals d x) ≡ Some z
+      → is_cell cell (cell_of (local_fields notes note) x) ≡ true → z.cell ≡ cell
   unfolding cell_of
   lent_field cell x z e h = go (U.locals d) refl e
     where
@@ -65,10 +68,13 @@ module _ (notes : Notes) (note : FnNote) (d : ℕ) (U V : Memory) (written : ℕ
           sym (same_cell-equal cell z.cell (sym (ap (λ o. is_cell cell (option_and_then (λ (y : Field). Some y.cell) o)) found) ∙ h))
 
   -- what a Lent or a local field of the cell gives
-  pub lent_below : (saved : Registers) (cell : Cell) (read : Bool) (t : Ty) (v : Neutral) → lends (local_fields notes note) written cell read t ≡ None → Fits notes U d saved t v → IsCellBelow notes V (suc d) cell v × (read ≡ true → IsLent notes V (suc d) cell v)
+  pub lent_below : (saved : Registers) (cell : Cell) (read : Bool) (t : Ty) (v : Neutral)
+      → lends (local_fields notes note) written cell read t ≡ None → Fits notes U d saved t v → IsCellBelow notes V (suc d) cell v
+      × (read ≡ true → IsLent notes V (suc d) cell v)
   lent_below saved cell read (ty.Lent other) v e h =
       let same : cell ≡ other = same_cell-equal cell other (needs_true rule.Arguments _ e) in
-      let k : IsLent notes V (suc d) cell v = passed_up notes d U V (below_down (suc d) d U V (omega arith) l) (suc d) saved saved (ty.Lent cell) v (omega arith) tt (subst (λ c. Fits notes U d saved (ty.Lent c) v) (sym same) h) in
+      let k : IsLent notes V (suc d) cell v = passed_up notes d U V (below_down (suc d) d U V (omega arith) l) (suc d) saved saved
+      (ty.Lent cell) v (omega arith) tt (subst (λ c. Fits notes U d saved (ty.Lent c) v) (sym same) h) in
       (k.cell_below, λ r. k)
   lent_below saved cell read (ty.Local x) v e h = go (is_cell cell (cell_of (local_fields notes note) x)) refl e
     where
@@ -76,13 +82,27 @@ module _ (notes : Notes) (note : FnNote) (d : ℕ) (U V : Memory) (written : ℕ
       there = ap (option_and_then (λ (s : Shape). slice_get s.fields x)) (l.locals d (omega arith)) ∙ h.there
 
       below : is_cell cell (cell_of (local_fields notes note) x) ≡ true → IsCellBelow notes V (suc d) cell v
-      below q = record { e = d; f = x; is = h.is; lower = omega arith; field = h.field; there = there; cell_is = lent_field cell x h.field h.there q }
+      below q = record {
+        e = d;
+        f = x;
+        is = h.is;
+        lower = omega arith;
+        field = h.field;
+        there = there;
+        cell_is = lent_field cell x h.field h.there q;
+      }
 
-      full : (q : is_cell cell (cell_of (local_fields notes note) x) ≡ true) → (r : Bool) → (if r then needs rule.Unwritten (has_field written x) else None) ≡ None → (r ≡ true → IsLent notes V (suc d) cell v)
-      full q true e r = record { cell_below = below q; written = l.written d x (omega arith) (are x (has_field_is written x (needs_true rule.Unwritten _ e))) }
+      full : (q : is_cell cell (cell_of (local_fields notes note) x) ≡ true) → (r : Bool)
+          → (if r then needs rule.Unwritten (has_field written x) else None) ≡ None → (r ≡ true → IsLent notes V (suc d) cell v)
+      full q true e r = record {
+        cell_below = below q;
+        written = l.written d x (omega arith) (are x (has_field_is written x (needs_true rule.Unwritten _ e)));
+      }
       full q false e r = absurd (false≢true r)
 
-      go : (b : Bool) → is_cell cell (cell_of (local_fields notes note) x) ≡ b → (if b then (if read then needs rule.Unwritten (has_field written x) else None) else Some rule.Arguments) ≡ None → IsCellBelow notes V (suc d) cell v × (read ≡ true → IsLent notes V (suc d) cell v)
+      go : (b : Bool) → is_cell cell (cell_of (local_fields notes note) x) ≡ b
+          → (if b then (if read then needs rule.Unwritten (has_field written x) else None) else Some rule.Arguments) ≡ None
+          → IsCellBelow notes V (suc d) cell v × (read ≡ true → IsLent notes V (suc d) cell v)
       go true q e = (below q, full q read e)
       go false q e = absurd (some_never rule.Arguments e)
   lent_below saved cell read ty.Any v e h = absurd (some_never rule.Arguments e)
@@ -102,11 +122,14 @@ module _ (notes : Notes) (note : FnNote) (d : ℕ) (U V : Memory) (written : ℕ
   -- ---- arguments of a function
 
   -- what is below a parameter's type
-  below_passed : (saved other : Registers) (p t : Ty) (v : Neutral) → IsPassed p → needs rule.Arguments (is_below t p) ≡ None → Fits notes U d saved t v → Fits notes V (suc d) other p v
+  below_passed : (saved other : Registers) (p t : Ty) (v : Neutral) → IsPassed p → needs rule.Arguments (is_below t p) ≡ None
+      → Fits notes U d saved t v → Fits notes V (suc d) other p v
   below_passed saved other p t v k e h =
-      passed_up notes d U V (below_down (suc d) d U V (omega arith) l) (suc d) saved other p v (omega arith) k (fits_below notes U d saved t p v ((is_below_exact t p).0 (needs_true rule.Arguments _ e)) h)
+      passed_up notes d U V (below_down (suc d) d U V (omega arith) l) (suc d) saved other p v (omega arith) k
+      (fits_below notes U d saved t p v ((is_below_exact t p).0 (needs_true rule.Arguments _ e)) h)
 
-  passed_fits : (saved other : Registers) (p t : Ty) (v : Neutral) → IsPassed p → passed (local_fields notes note) written p t ≡ None → Fits notes U d saved t v → Fits notes V (suc d) other p v
+  passed_fits : (saved other : Registers) (p t : Ty) (v : Neutral) → IsPassed p → passed (local_fields notes note) written p t ≡ None
+      → Fits notes U d saved t v → Fits notes V (suc d) other p v
   passed_fits saved other (ty.Lent cell) t v k e h = (lent_below saved cell true t v e h).1 refl
   passed_fits saved other ty.Any t v k e h = tt
   passed_fits saved other (ty.Int lo hi div) t v k e h = below_passed saved other (ty.Int lo hi div) t v k e h
@@ -124,7 +147,9 @@ module _ (notes : Notes) (note : FnNote) (d : ℕ) (U V : Memory) (written : ℕ
   passed_fits saved other (ty.Saved q) t v k e h = absurd k
 
   -- The items passed for parameters fit them, said of a frame above, and have their kinds.
-  pub arguments_fit : (f g : FunctionFrame) (ps : List Param) (is : List StackItem) (xs : List Item) → ((k : ℕ) (q : Param) → slice_get ps k ≡ Some q → IsPassed q.ty) → arguments (local_fields notes note) written ps xs ≡ None → AllZip (ItemFits notes U d f) is xs
+  pub arguments_fit : (f g : FunctionFrame) (ps : List Param) (is : List StackItem) (xs : List Item)
+      → ((k : ℕ) (q : Param) → slice_get ps k ≡ Some q → IsPassed q.ty) → arguments (local_fields notes note) written ps xs ≡ None
+      → AllZip (ItemFits notes U d f) is xs
       → AllZip (ParamFits notes V (suc d) g) (take (length ps) is) ps × (have_kinds ps is ≡ true)
   unfolding arguments
   arguments_fit f g [] is xs good e z = (tt, refl)
@@ -132,7 +157,8 @@ module _ (notes : Notes) (note : FnNote) (d : ℕ) (U V : Memory) (written : ℕ
   arguments_fit f g (p ∷ ps) (i ∷ is) [] good e z = absurd z
   arguments_fit f g (p ∷ ps) [] (x ∷ xs) good e z = absurd z
   arguments_fit f g (p ∷ ps) (Pushed kind v ∷ is) (item.Slot k t ∷ xs) good e z =
-      let q = both_none (argument (local_fields notes note) written p (item.Slot k t)) (arguments (local_fields notes note) written ps xs) e in
+      let q = both_none (argument (local_fields notes note) written p (item.Slot k t))
+      (arguments (local_fields notes note) written ps xs) e in
       let c = both_none (needs rule.Arguments (same_kind p.kind k)) (passed (local_fields notes note) written p.ty t) q.0 in
       let r = arguments_fit f g ps is xs (λ j y h. good (suc j) y h) q.1 z.1 in
       let kinds : kind ≡ p.kind = z.0.0 ∙ sym (same_kind-equal p.kind k (needs_true rule.Arguments _ c.0)) in (

@@ -1,5 +1,7 @@
 -- The rows of CALL of byte code and of RET.
-use Rattle.std.proofs.Common.{◌≡◌, ◌≢◌, ℕ, zero, suc, ◌+◌, ◌%◌, ◌^◌, ◌<◌, ◌≤◌, ◌⊎◌, Bool, true, false, not, ◌&&◌, if◌then◌else◌, nat_eq, nat_lt, List, [], ◌∷◌, length, Some, None, Result, Ok, Err, slice_get, slice_index_or, refl, sym, ap, ◌∙◌, subst, arith, inl, inr, ⊎_elim, ℤ, pos}
+use Rattle.std.proofs.Common.{◌≡◌, ◌≢◌, ℕ, zero, suc, ◌+◌, ◌%◌, ◌^◌, ◌<◌, ◌⊎◌, Bool, true, false, not, ◌&&◌, if◌then◌else◌, nat_eq}
+use Rattle.std.proofs.Common.{nat_lt, List, [], ◌∷◌, length, Some, None, Result, Ok, Err, slice_get, slice_index_or, refl, sym, ap, ◌∙◌}
+use Rattle.std.proofs.Common.{subst, arith, inl, inr, ⊎_elim, ℤ, pos}
 use Rattle.std.specs.List.{AllZip}
 use Rattle.std.specs.Option.{option_map_or}
 use Rattle.std.proofs.lemmas.Bool.{and_from, and_parts, eqb-true, eqb-false, ne_eqb, lt-ltb, ltb-true, ltb-false, le-leb, false≢true}
@@ -28,7 +30,8 @@ use Rattle.note_types.proofs.BelowLaws.{is_below_exact}
 use Rattle.rules_base.specs.Outcomes.{both, needs}
 use Rattle.rules_base.specs.Places.{locals_size}
 use Rattle.rules_flow.specs.Arguments.{arguments}
-use Rattle.rules_flow.specs.Calls.{all_made, call_fails, call_size, call_to, callee_at, called, fits_need, is_entry_value, is_lower, is_saved, may_return}
+use Rattle.rules_flow.specs.Calls.{all_made, call_fails, call_size, call_to, callee_at, called, fits_need, is_entry_value, is_lower}
+use Rattle.rules_flow.specs.Calls.{is_saved, may_return}
 use Rattle.rules_flow.specs.Calls as rules_calls
 use Rattle.rules_flow.specs.Frames.{at, items_size}
 use Rattle.rules_flow.specs.Found.{number_at, number_from}
@@ -36,17 +39,18 @@ use Rattle.rules_flow.specs.Jumps.{target_of}
 use Rattle.rules_flow.specs.Successors.{ends, falls}
 use Rattle.rules_flow.specs.declared.successors.Successors.{Successors}
 use Rattle.neutral_machine.specs.Operands.{beside_extra}
-use Rattle.neutral_machine.specs.Rows.{NeutralEnd, Next, Site, aligned, call_row, called_from, function_at, goes, have_kinds, inside, params_match, return_row, returned_from, returned_to, target_at}
+use Rattle.neutral_machine.specs.Rows.{NeutralEnd, Next, Site, aligned, call_row, called_from, function_at, goes, inside, params_match}
+use Rattle.neutral_machine.specs.Rows.{return_row, returned_from, returned_to, target_at}
 use Rattle.neutral_machine.specs.Rows as rows
-use Rattle.run_types.specs.Config.{Registers, StackItem, FunctionFrame, Frame, Function, Host, Config, depth, locals_among, locals_at}
-use Rattle.run_types.specs.Fits.{FitsPlain, Fits}
-use Rattle.run_types.specs.FitsState.{FitsState, ItemFits}
-use Rattle.run_types.specs.Layout.{height}
-use Rattle.run_types.specs.Memory.{Memory}
-use Rattle.run_types.specs.Outcomes.{Outcome, Gives, Stuck, ◌>>=◌, or_stuck}
-use Rattle.run_types.specs.Placements.{pair_at, return_cell}
-use Rattle.run_types.specs.Values.{Neutral}
-use Rattle.run_types.specs.World.{World}
+use Rattle.neutral_machine.specs.Config.{Registers, StackItem, FunctionFrame, Frame, Function, Host, Config, depth, locals_among, locals_at}
+use Rattle.neutral_machine.specs.Fits.{FitsPlain, Fits}
+use Rattle.neutral_machine.specs.FitsState.{FitsState, ItemFits}
+use Rattle.neutral_machine.specs.Layout.{height}
+use Rattle.neutral_machine.specs.Memory.{Memory}
+use Rattle.neutral_machine.specs.Outcomes.{Outcome, Gives, Stuck, ◌>>=◌, or_stuck}
+use Rattle.host_model.specs.Placements.{pair_at, return_cell}
+use Rattle.host_model.specs.Values.{Neutral}
+use Rattle.host_model.specs.World.{World}
 use Rattle.typed_runs.specs.Accepts.{Accepts}
 use Rattle.typed_runs.specs.Asked.{GivenByCall, result_type_of}
 use Rattle.typed_runs.specs.Later.{IsFresh, Later, Preserves, WillFit}
@@ -54,22 +58,24 @@ use Rattle.typed_runs.specs.Live.{live_memory}
 use Rattle.typing_laws.specs.OneRule.{Enters, GoesBack, Returns, here_of}
 use Rattle.typed_runs.specs.Sound.{FrameBelow, GoesWell, KeepsWithin, Sound, SoundBelow}
 use Rattle.typing_laws.proofs.FitsBelow.{fits_below}
-use Rattle.typing_laws.proofs.Rows.{then_some}
+use Rattle.typing_laws.proofs.Rows.{then_some, err_ok}
 use Rattle.typing_laws.proofs.ArgumentsPass.{arguments_fit, both_none, needs_true}
-use Rattle.typing_laws.proofs.ArithRow.{also_ok, err_ok}
+use Rattle.typing_laws.proofs.ArithRow.{also_ok}
 use Rattle.typing_laws.proofs.Context.{TopSound, passed_params, same_locals}
 use Rattle.typing_laws.proofs.ItemsChanged.{few_hosts, top_keeps}
 use Rattle.typing_laws.proofs.Jumps.{aligned_is, number_found, target_found}
-use Rattle.typed_runs.proofs.LaterFits.{fits_later, items_later, later_trans}
+use Rattle.typed_runs.proofs.LaterFits.{fields_later, fits_later, items_later, later_trans}
 use Rattle.typing_laws.proofs.LiveCells.{LaterBelow, below_later, frames_kept}
 use Rattle.typing_laws.proofs.Operands.{some_ok, then_ok}
 use Rattle.typing_laws.proofs.PushFits.{top_height}
 use Rattle.typing_laws.proofs.Relaid.{cells_at, later_at}
+use Rattle.neutral_machine.proofs.Frames.{no_locals}
 
 -- ---- types that a call gives back
 
 -- what fits a result's type in a frame fits it in every frame, and the other way round
-pub returned_plain : (notes : Notes) (m : Memory) (d : ℕ) (saved : Registers) (t : Ty) (v : Neutral) → IsReturned t → Fits notes m d saved t v → FitsPlain notes m.objects t v
+pub returned_plain : (notes : Notes) (m : Memory) (d : ℕ) (saved : Registers) (t : Ty) (v : Neutral) → IsReturned t
+    → Fits notes m d saved t v → FitsPlain notes m.objects t v
 returned_plain notes m d saved ty.Any v k h = h
 returned_plain notes m d saved (ty.Int lo hi div) v k h = h
 returned_plain notes m d saved (ty.Lin n c) v k h = h
@@ -86,7 +92,8 @@ returned_plain notes m d saved (ty.Method q) v k h = h
 returned_plain notes m d saved (ty.ThunkAt q) v k h = absurd k
 returned_plain notes m d saved (ty.Saved q) v k h = absurd k
 
-pub plain_returned : (notes : Notes) (m : Memory) (d : ℕ) (saved : Registers) (t : Ty) (v : Neutral) → IsReturned t → FitsPlain notes m.objects t v → Fits notes m d saved t v
+pub plain_returned : (notes : Notes) (m : Memory) (d : ℕ) (saved : Registers) (t : Ty) (v : Neutral) → IsReturned t
+    → FitsPlain notes m.objects t v → Fits notes m d saved t v
 plain_returned notes m d saved ty.Any v k h = h
 plain_returned notes m d saved (ty.Int lo hi div) v k h = h
 plain_returned notes m d saved (ty.Lin n c) v k h = h
@@ -109,7 +116,8 @@ returned_unsaved t i k e = absurd (subst IsReturned e k)
 -- ---- the state after a call
 
 -- a property of each register after a call
-pub after_call : (P : ℕ → Ty → Type 0) (a b c d t : Ty) → P 1 b → P 2 c → P 3 d → P 4 ty.Any → P 5 ty.Any → P 6 ty.Any → P 7 t → (r : ℕ) → 0 < r → r < 8 → P r (slice_index_or (a ∷ b ∷ c ∷ d ∷ ty.Any ∷ ty.Any ∷ ty.Any ∷ t ∷ []) r ty.Any)
+pub after_call : (P : ℕ → Ty → Type 0) (a b c d t : Ty) → P 1 b → P 2 c → P 3 d → P 4 ty.Any → P 5 ty.Any → P 6 ty.Any → P 7 t → (r : ℕ)
+    → 0 < r → r < 8 → P r (slice_index_or (a ∷ b ∷ c ∷ d ∷ ty.Any ∷ ty.Any ∷ ty.Any ∷ t ∷ []) r ty.Any)
 after_call P a b c d t p1 p2 p3 p4 p5 p6 p7 zero l h = absurd (omega (arith, l))
 after_call P a b c d t p1 p2 p3 p4 p5 p6 p7 (suc zero) l h = p1
 after_call P a b c d t p1 p2 p3 p4 p5 p6 p7 (suc (suc zero)) l h = p2
@@ -126,15 +134,11 @@ called_fresh s t written n = record { unsaved = λ r l h i. saved r l h i; no_fa
   where
     saved : (r : ℕ) → 3 < r → r < 8 → (i : ℕ) → type_of (called s t written) r ≢ ty.Saved i
     saved r l h i = after_call (λ q y. 3 < q → y ≢ ty.Saved i) (type_of s 0) (type_of s 1) (type_of s 2) (type_of s 3) t
-        (λ g. absurd (omega (arith, g))) (λ g. absurd (omega (arith, g))) (λ g. absurd (omega (arith, g))) (λ g e. absurd cc) (λ g e. absurd cc) (λ g e. absurd cc) (λ g. n i) r (omega (arith, l)) h l
+        (λ g. absurd (omega (arith, g))) (λ g. absurd (omega (arith, g))) (λ g. absurd (omega (arith, g))) (λ g e. absurd cc)
+        (λ g e. absurd cc) (λ g e. absurd cc) (λ g. n i) r (omega (arith, l)) h l
 
--- no function frame is at a depth that is as great as there are
-pub none_above : (fs : List Frame) (e : ℕ) → depth fs ≤ e → locals_at fs e ≡ None
-none_above [] e l = refl
-none_above (Function f ∷ fs) e l = ap (λ b. if b then locals_among f.items else locals_at fs e) (ne_eqb e (depth fs) (λ q. absurd (omega (arith, q, l)))) ∙ none_above fs e (omega (arith, l))
-none_above (Host h ∷ fs) e l = none_above fs e l
-
-module _ (world : World) (a : Config) (f : FunctionFrame) (fs : List Frame) (note : FnNote) (s : State) (st : TopSound world a f fs note s) where
+module _ (world : World) (a : Config) (f : FunctionFrame) (fs : List Frame) (note : FnNote) (s : State)
+    (st : TopSound world a f fs note s) where
   -- ---- what the rule of a call says
 
   pub record CallAllowed (z : ℤ) (x : Successors) : Type 0 where
@@ -154,9 +158,11 @@ module _ (world : World) (a : Config) (f : FunctionFrame) (fs : List Frame) (not
   call_allowed z x e =
       then_ok (or_else rule.Target (callee_at world.notes z)) _ x e (λ g e1 e2.
       some_ok rule.Target (callee_at world.notes z) g e1 (λ e3.
-      then_some (number_from (λ (h : FnNote). h.place) world.notes.function z) (λ k. if nat_eq k world.notes.entry then None else slice_get world.notes.function k) g e3 (λ k e4 e5.
+      then_some (number_from (λ (h : FnNote). h.place) world.notes.function z)
+      (λ k. if nat_eq k world.notes.entry then None else slice_get world.notes.function k) g e3 (λ k e4 e5.
       also_ok (Ok (falls (called s g.result s.written))) (call_fails world.notes note s g) x e2 (λ e6 e7.
-      let q = both_none (both (needs rule.Level (is_lower world.notes note s g)) (needs rule.Thunk (all_made world.notes s))) (arguments (local_fields world.notes note) s.written g.params s.items) e7 in
+      let q = both_none (both (needs rule.Level (is_lower world.notes note s g)) (needs rule.Thunk (all_made world.notes s)))
+      (arguments (local_fields world.notes note) s.written g.params s.items) e7 in
       let r = both_none (needs rule.Level (is_lower world.notes note s g)) (needs rule.Thunk (all_made world.notes s)) q.0 in
       let n = not_entry k g (nat_eq k world.notes.entry) refl e5 in
       let h = number_found (λ (h : FnNote). h.place) world.notes.function z k e4 in
@@ -177,7 +183,9 @@ module _ (world : World) (a : Config) (f : FunctionFrame) (fs : List Frame) (not
       falls_is : (y x : Successors) → ◌≡◌ {A = Result Successors RuleName} (Ok y) (Ok x) → y ≡ x
       falls_is y x e = cc
 
-      not_entry : (k : ℕ) (g : FnNote) (b : Bool) → nat_eq k world.notes.entry ≡ b → (if b then None else slice_get world.notes.function k) ≡ Some g → (k ≢ world.notes.entry) × (slice_get world.notes.function k ≡ Some g)
+      not_entry : (k : ℕ) (g : FnNote) (b : Bool) → nat_eq k world.notes.entry ≡ b
+          → (if b then None else slice_get world.notes.function k) ≡ Some g → (k ≢ world.notes.entry)
+          × (slice_get world.notes.function k ≡ Some g)
       not_entry k g true q e = absurd (none-some g e)
       not_entry k g false q e = (eqb-false k world.notes.entry q, e)
 
@@ -206,7 +214,10 @@ module _ (world : World) (a : Config) (f : FunctionFrame) (fs : List Frame) (not
         go true e = absurd (none-some q e)
         go false e = e
 
-    pub entered_sound : (p : ℕ) (g : FnNote) → slice_get world.notes.function k ≡ Some g → k ≢ world.notes.entry → is_lower world.notes note s g ≡ true → a.made ≡ length world.notes.thunk → arguments (local_fields world.notes note) s.written g.params s.items ≡ None → GoesWell world next → Sound world (entered p) (entry_state world.notes k)
+    pub entered_sound : (p : ℕ) (g : FnNote) → slice_get world.notes.function k ≡ Some g → k ≢ world.notes.entry
+        → is_lower world.notes note s g ≡ true → a.made ≡ length world.notes.thunk
+        → arguments (local_fields world.notes note) s.written g.params s.items ≡ None → GoesWell world next
+        → Sound world (entered p) (entry_state world.notes k)
     unfolding is_lower
     entered_sound p g there other lower made args well =
         let U = live_memory world a in
@@ -214,14 +225,18 @@ module _ (world : World) (a : Config) (f : FunctionFrame) (fs : List Frame) (not
         let fr = top_keeps world a f fs note s st in
         let passed = passed_params world st.typed in
         let up : LaterBelow (suc (depth fs)) U V = subst (λ z. LaterBelow (depth z) U V) st.frames (entered_later p) in
-        let params = arguments_fit world.notes note (depth fs) U V s.written st.top.written (same_locals world a f fs note s st) up f callee_frame g.params f.items s.items (λ j q h. passed k j g q there h) args st.top.items in
-        let i = and_parts (nat_lt g.level note.level) (fits_need (items_size (locals_size world.notes note) s.items) g.need note.need) lower in
+        let params = arguments_fit world.notes note (depth fs) U V s.written st.top.written
+        (same_locals world a f fs note s st) up f callee_frame g.params f.items s.items
+        (λ j q h. passed k j g q there h) args st.top.items in
+        let i = and_parts (nat_lt g.level note.level) (fits_need
+        (items_size (locals_size world.notes note) s.items) g.need note.need) lower in
         let j = and_parts (not (nat_lt (at 4 note.need) (call_size 4 (items_size (locals_size world.notes note) s.items) g.need))) _ i.1 in
         let l4 = ltb-false _ _ (not_is _ j.0) in
         let l8 = ltb-false _ _ (not_is _ j.1) in
         let h4 = top_height world a f fs note s st 4 in
         let h8 = top_height world a f fs note s st 8 in
-        let keeps : KeepsWithin (λ w. height w f.items + (return_cell + pair_at w g.need)) note = record { at4 = omega (arith, l4, h4); at8 = omega (arith, l8, h8) } in
+        let keeps : KeepsWithin (λ w. height w f.items + (return_cell + pair_at w g.need)) note =
+        record { at4 = omega (arith, l4, h4); at8 = omega (arith, l8, h8) } in
         let belows : FrameBelow world V callee_frame g (Function f ∷ fs) = ((note, st.there, keeps), params.0, well) in
         record {
           top = record {
@@ -234,7 +249,11 @@ module _ (world : World) (a : Config) (f : FunctionFrame) (fs : List Frame) (not
           below = record {
             cells = cells_at world a (entered p) refl refl (fewer p) st.below.cells;
             frames = (
-              (g, record { there = there; within = record { at4 = omega arith; at8 = omega arith }; slots = tt; thunks = inr made }, subst (FrameBelow world V callee_frame g) (sym st.frames) belows),
+              (
+                g,
+                record { there = there; within = record { at4 = omega arith; at8 = omega arith }; slots = tt; thunks = inr made },
+                subst (FrameBelow world V callee_frame g) (sym st.frames) belows,
+              ),
               frames_kept world passed U V refl a.made a.frames (entered_later p) st.below.frames,
             );
             few = st.below.few;
@@ -245,32 +264,51 @@ module _ (world : World) (a : Config) (f : FunctionFrame) (fs : List Frame) (not
         not_is false e = refl
         not_is true e = absurd (false≢true e)
 
-        entry_fits : (V : Memory) (r : ℕ) → 0 < r → r < 8 → Fits world.notes V (depth a.frames) a.registers (type_of (entry_state world.notes k) r) (a.registers r)
-        entry_fits V r l h = after_call (λ q y. Fits world.notes V (depth a.frames) a.registers y (a.registers q)) ty.Any (ty.Saved 1) (ty.Saved 2) (ty.Saved 3) ty.Any refl refl refl tt tt tt tt r l h
+        entry_fits : (V : Memory) (r : ℕ) → 0 < r → r < 8 → Fits world.notes V (depth a.frames) a.registers
+            (type_of (entry_state world.notes k) r) (a.registers r)
+        entry_fits V r l h = after_call (λ q y. Fits world.notes V (depth a.frames) a.registers y (a.registers q)) ty.Any (ty.Saved 1)
+            (ty.Saved 2) (ty.Saved 3) ty.Any refl refl refl tt tt tt tt r l h
 
     -- the caller will fit the state after the call, once it is given its result
-    pub caller_waits : (p : ℕ) (t : Ty) → IsReturned t → result_type_of world.notes k ≡ t → WillFit world.notes (live_memory world (entered p)) a.made (depth fs) f (called s t s.written) a.registers (GivenByCall world.notes k)
-    caller_waits p t ret is = record { fits = λ V regs c later keeps given. fits V regs c later keeps (subst (λ y. FitsPlain world.notes V.objects y (regs 7)) is given) }
+    pub caller_waits : (p : ℕ) (t : Ty) → IsReturned t → result_type_of world.notes k ≡ t
+        → WillFit world.notes (live_memory world (entered p)) a.made (depth fs) f (called s t s.written) a.registers
+        (GivenByCall world.notes k)
+    caller_waits p t ret is = record {
+      fits = λ V regs c later keeps given. fits V regs c later keeps
+          (subst (λ y. FitsPlain world.notes V.objects y (regs 7)) is given);
+    }
       where
         up : Later (depth fs) (live_memory world a) (live_memory world (entered p))
-        up = below_later (depth fs) (live_memory world a) (live_memory world (entered p)) (subst (λ z. LaterBelow (depth z) (live_memory world a) (live_memory world (entered p))) st.frames (entered_later p))
+        up = below_later (depth fs) (live_memory world a) (live_memory world (entered p))
+            (subst (λ z. LaterBelow (depth z) (live_memory world a) (live_memory world (entered p))) st.frames (entered_later p))
 
-        fits : (V : Memory) (regs : Registers) (c : Bool) → Later (depth fs) (live_memory world (entered p)) V → Preserves a.registers regs → FitsPlain world.notes V.objects t (regs 7) → FitsState world.notes V (depth fs) f (called s t s.written) regs c a.made
+        fits : (V : Memory) (regs : Registers) (c : Bool) → Later (depth fs) (live_memory world (entered p)) V → Preserves a.registers regs
+            → FitsPlain world.notes V.objects t (regs 7) → FitsState world.notes V (depth fs) f (called s t s.written) regs c a.made
         fits V regs c later keeps given =
-            let l : Later (depth fs) (live_memory world a) V = later_trans (depth fs) (live_memory world a) (live_memory world (entered p)) V up later in
-            let old : (r : ℕ) → 0 < r → r < 4 → Fits world.notes V (depth fs) f.saved (type_of s r) (regs r) = λ r q b. subst (Fits world.notes V (depth fs) f.saved (type_of s r)) (sym (keeps r q b)) (fits_later world.notes (depth fs) (live_memory world a) V l f.saved (type_of s r) (a.registers r) (st.top.registers r q (omega (arith, b)))) in
+            let l : Later (depth fs) (live_memory world a) V = later_trans (depth fs) (live_memory world a)
+            (live_memory world (entered p)) V up later in
+            let stay = fields_later world.notes (depth fs) (live_memory world a) V l in
+            let old : (r : ℕ) → 0 < r → r < 4 → Fits world.notes V (depth fs) f.saved (type_of s r) (regs r) =
+            λ r q b. subst (Fits world.notes V (depth fs) f.saved (type_of s r)) (sym (keeps r q b))
+            (fits_later world.notes (depth fs) (live_memory world a) V stay f.saved (type_of s r) (a.registers r)
+            (st.top.registers r q (omega (arith, b)))) in
             record {
-              registers = λ r q b. after_call (λ i y. Fits world.notes V (depth fs) f.saved y (regs i)) (type_of s 0) (type_of s 1) (type_of s 2) (type_of s 3) t
-                  (old 1 (omega arith) (omega arith)) (old 2 (omega arith) (omega arith)) (old 3 (omega arith) (omega arith)) tt tt tt (plain_returned world.notes V (depth fs) f.saved t (regs 7) ret given) r q b;
-              items = items_later world.notes (depth fs) (live_memory world a) V l f f.items s.items st.top.items;
+              registers = λ r q b. after_call (λ i y. Fits world.notes V (depth fs) f.saved y (regs i)) (type_of s 0) (type_of s 1)
+                  (type_of s 2) (type_of s 3) t
+                  (old 1 (omega arith) (omega arith)) (old 2 (omega arith) (omega arith)) (old 3 (omega arith) (omega arith)) tt tt tt
+                  (plain_returned world.notes V (depth fs) f.saved t (regs 7) ret given) r q b;
+              items = items_later world.notes (depth fs) (live_memory world a) V stay f f.items s.items st.top.items;
               written = λ x q. l.written (depth fs) x (omega arith) (st.top.written x q);
               made_are = st.top.made_are;
               fact = λ x e. absurd (none-some x e);
             }
 
   -- A call that its rule allows enters the function.
-  pub call_fits : (site : Site) (far rel : Bool) (op : Operand) (extra : Extra) (x : Successors) → TargetFits far op extra → site.next % 2 ≡ 0 → (x.fall ≡ None) ⊎ (site.next < world.image_size) → rules_calls.call_row world.notes note (here_of site f.func) s far rel op extra ≡ Ok x
-      → Accepts (λ (y : NeutralEnd × Config). (y.0 ≡ Next) × Enters world site x a f fs y.1) (call_row world a site rel (beside_extra op extra))
+  pub call_fits : (site : Site) (far rel : Bool) (op : Operand) (extra : Extra) (x : Successors) → TargetFits far op extra
+      → site.next % 2 ≡ 0 → (x.fall ≡ None) ⊎ (site.next < world.image_size)
+      → rules_calls.call_row world.notes note (here_of site f.func) s far rel op extra ≡ Ok x
+      → Accepts (λ (y : NeutralEnd × Config). (y.0 ≡ Next) × Enters world site x a f fs y.1)
+      (call_row world a site rel (beside_extra op extra))
   unfolding call_row rules_calls.call_row rows.called number_at goes
   call_fits site far rel op extra x w even inside e =
       then_ok (target_of (here_of site f.func) far rel op extra) (call_to world.notes note s) x e (λ z e1 e2. go z e1 (call_allowed z x e2))
@@ -278,7 +316,9 @@ module _ (world : World) (a : Config) (f : FunctionFrame) (fs : List Frame) (not
       Goal : Outcome (NeutralEnd × Config) → Type 0
       Goal o = Accepts (λ (y : NeutralEnd × Config). (y.0 ≡ Next) × Enters world site x a f fs y.1) o
 
-      go : (z : ℤ) → target_of (here_of site f.func) far rel op extra ≡ Ok z → CallAllowed z x → Goal (target_at a site rel (beside_extra op extra) >>= (λ p. aligned p >>= (λ to. or_stuck (function_at world.notes to) >>= (λ g. called_from world a site.next a.frames g) >>= (λ b. goes world b to))))
+      go : (z : ℤ) → target_of (here_of site f.func) far rel op extra ≡ Ok z → CallAllowed z x
+          → Goal (target_at a site rel (beside_extra op extra) >>= (λ p. aligned p >>= (λ to. or_stuck
+          (function_at world.notes to) >>= (λ g. called_from world a site.next a.frames g) >>= (λ b. goes world b to))))
       go z e1 c =
           let code = st.typed.fits.code_inside c.number c.callee c.there in
           let size = st.typed.size in
@@ -286,23 +326,38 @@ module _ (world : World) (a : Config) (f : FunctionFrame) (fs : List Frame) (not
           let l1 = code.1 in
           let small : c.callee.place < 2 ^ 64 = omega (arith, l0, l1, size) in
           let placed : c.callee.place < world.image_size = omega (arith, l0, l1) in
-          let next_in : site.next < world.image_size = ⊎_elim (λ q. absurd (none-some _ (sym q ∙ ap (λ (y : Successors). y.fall) (sym c.falls_to)))) (λ q. q) inside in
+          let next_in : site.next < world.image_size = ⊎_elim (λ q. absurd
+          (none-some _ (sym q ∙ ap (λ (y : Successors). y.fall) (sym c.falls_to)))) (λ q. q) inside in
           let made : a.made ≡ length world.notes.thunk = st.top.made_are ∙ eqb-true s.made (length world.notes.thunk) c.made in
           let U = live_memory world a in
           let passed = passed_params world st.typed in
-          let up : LaterBelow (suc (depth fs)) U (live_memory world (entered c.number site.next c.callee.place)) = subst (λ q. LaterBelow (depth q) U (live_memory world (entered c.number site.next c.callee.place))) st.frames (entered_later c.number site.next c.callee.place) in
-          let kinds = (arguments_fit world.notes note (depth fs) U (live_memory world (entered c.number site.next c.callee.place)) s.written st.top.written (same_locals world a f fs note s st) up f (callee_frame c.number site.next) c.callee.params f.items s.items (λ j q h. passed c.number j c.callee q c.there h) c.args st.top.items).1 in
+          let up : LaterBelow (suc (depth fs)) U (live_memory world (entered c.number site.next c.callee.place)) =
+          subst (λ q. LaterBelow (depth q) U (live_memory world (entered c.number site.next c.callee.place))) st.frames
+          (entered_later c.number site.next c.callee.place) in
+          let kinds = (arguments_fit world.notes note (depth fs) U
+          (live_memory world (entered c.number site.next c.callee.place)) s.written st.top.written
+          (same_locals world a f fs note s st) up f (callee_frame c.number site.next) c.callee.params f.items s.items
+          (λ j q h. passed c.number j c.callee q c.there h) c.args st.top.items).1 in
           let target = target_found world a f fs note s st site f.func far rel op extra z c.callee.place w e1 c.is small in
           let aligned_to = aligned_is world a f fs note s st c.callee.place code.2 in
-          let found : function_at world.notes c.callee.place ≡ Some c.number = found_at c.callee.place c.number (ap (number_from (λ (g : FnNote). g.place) world.notes.function) (sym c.is) ∙ c.found) in
+          let found : function_at world.notes c.callee.place ≡ Some c.number =
+          found_at c.callee.place c.number (ap (number_from (λ (g : FnNote). g.place) world.notes.function) (sym c.is) ∙ c.found) in
           let from_is : called_from world a site.next a.frames c.number ≡ Gives (inside_of c.number) =
           ap (λ q. called_from world a site.next q c.number) st.frames
-          ∙ ap (λ b. if b then Gives (inside_of c.number) else Stuck) (and_from (params_match (slice_get world.notes.function c.number) f.items) (nat_lt site.next world.image_size) (ap (λ o. params_match o f.items) c.there ∙ kinds) (lt-ltb site.next world.image_size next_in)) in
+          ∙ ap (λ b. if b then Gives (inside_of c.number) else Stuck)
+          (and_from (params_match (slice_get world.notes.function c.number) f.items) (nat_lt site.next world.image_size)
+          (ap (λ o. params_match o f.items) c.there ∙ kinds) (lt-ltb site.next world.image_size next_in)) in
           let ret = (st.typed.notes.functions c.number c.callee c.there).returned in
-          let result_is : result_type_of world.notes c.number ≡ c.callee.result = ap (λ o. option_map_or (λ (g : FnNote). g.result) o ty.Any) c.there in
-          subst (λ o. Goal (o >>= (λ p. aligned p >>= (λ to. or_stuck (function_at world.notes to) >>= (λ g. called_from world a site.next a.frames g) >>= (λ b. goes world b to))))) (sym target)
-          (subst (λ o. Goal (o >>= (λ to. or_stuck (function_at world.notes to) >>= (λ g. called_from world a site.next a.frames g) >>= (λ b. goes world b to)))) (sym aligned_to)
-          (subst (λ o. Goal (or_stuck o >>= (λ g. called_from world a site.next a.frames g) >>= (λ b. goes world b c.callee.place))) (sym found)
+          let result_is : result_type_of world.notes c.number ≡ c.callee.result =
+          ap (λ o. option_map_or (λ (g : FnNote). g.result) o ty.Any) c.there in
+          subst (λ o. Goal (o >>= (λ p. aligned p >>= (λ to. or_stuck
+          (function_at world.notes to) >>= (λ g. called_from world a site.next a.frames g) >>= (λ b. goes world b to))))) (sym target)
+          (subst (λ o. Goal
+          (o >>= (λ to. or_stuck
+          (function_at world.notes to) >>= (λ g. called_from world a site.next a.frames g) >>= (λ b. goes world b to))))
+          (sym aligned_to)
+          (subst (λ o. Goal (or_stuck o >>= (λ g. called_from world a site.next a.frames g) >>= (λ b. goes world b c.callee.place)))
+          (sym found)
           (subst (λ o. Goal (o >>= (λ b. goes world b c.callee.place))) (sym from_is)
           (gone c.number c.callee.place placed (record {
             callee = callee_frame c.number site.next;
@@ -323,11 +378,13 @@ module _ (world : World) (a : Config) (f : FunctionFrame) (fs : List Frame) (not
           inside_of : ℕ → Config
           inside_of k = rows.inside a k site.next
 
-          found_at : (p k : ℕ) → number_from (λ (g : FnNote). g.place) world.notes.function (pos p) ≡ Some k → function_at world.notes p ≡ Some k
+          found_at : (p k : ℕ) → number_from (λ (g : FnNote). g.place) world.notes.function (pos p) ≡ Some k
+              → function_at world.notes p ≡ Some k
           found_at p k e = sym (ap (λ b. if b then function_at world.notes p else None) (le-leb 0 p (omega arith))) ∙ e
 
           gone : (k p : ℕ) → p < world.image_size → Enters world site x a f fs (entered k site.next p) → Goal (goes world (inside_of k) p)
-          gone k p l h = subst (λ b. Goal ((if b then Gives (record (inside_of k) { spot = Place p }) else Stuck) >>= (λ b. Gives (Next, b)))) (sym (lt-ltb p world.image_size l)) (refl, h)
+          gone k p l h = subst (λ b. Goal ((if b then Gives (record (inside_of k) { spot = Place p })
+              else Stuck) >>= (λ b. Gives (Next, b)))) (sym (lt-ltb p world.image_size l)) (refl, h)
 
   -- ---- RET
 
@@ -336,14 +393,15 @@ module _ (world : World) (a : Config) (f : FunctionFrame) (fs : List Frame) (not
     left_to = record a { frames = fs }
 
     left_locals : (e : ℕ) → e < depth fs → locals_at fs e ≡ locals_at a.frames e
-    left_locals e l = sym (ap (λ b. if b then locals_among f.items else locals_at fs e) (ne_eqb e (depth fs) (λ q. absurd (omega (arith, q, l))))) ∙ ap (λ z. locals_at z e) (sym st.frames)
+    left_locals e l = sym (ap (λ b. if b then locals_among f.items else locals_at fs e)
+        (ne_eqb e (depth fs) (λ q. absurd (omega (arith, q, l))))) ∙ ap (λ z. locals_at z e) (sym st.frames)
 
     fewer_left : (d : ℕ) (q : Shape) → locals_at fs d ≡ Some q → locals_at a.frames d ≡ Some q
     fewer_left d q e = go (nat_lt d (depth fs)) refl
       where
         go : (b : Bool) → nat_lt d (depth fs) ≡ b → locals_at a.frames d ≡ Some q
         go true h = sym (left_locals d (ltb-true d (depth fs) h)) ∙ e
-        go false h = absurd (none-some q (sym (none_above fs d (ltb-false d (depth fs) h)) ∙ e))
+        go false h = absurd (none-some q (sym (no_locals fs d (ltb-false d (depth fs) h)) ∙ e))
 
     left_later : LaterBelow (depth fs) (live_memory world a) (live_memory world left_to)
     left_later = later_at world a left_to refl refl (depth fs) left_locals
@@ -352,11 +410,13 @@ module _ (world : World) (a : Config) (f : FunctionFrame) (fs : List Frame) (not
     left_sound : SoundBelow world left_to
     left_sound = record {
       cells = cells_at world a left_to refl refl fewer_left st.below.cells;
-      frames = frames_kept world (passed_params world st.typed) (live_memory world a) (live_memory world left_to) refl a.made fs left_later (top_keeps world a f fs note s st).2;
+      frames = frames_kept world (passed_params world st.typed) (live_memory world a) (live_memory world left_to) refl a.made fs left_later
+          (top_keeps world a f fs note s st).2;
       few = few_hosts world a f fs note s st;
     }
 
-  entry_value : (r i : ℕ) (t : Ty) → is_entry_value r t ≡ true → Fits world.notes (live_memory world a) (depth fs) f.saved t (a.registers r) → a.registers r ≡ f.saved r
+  entry_value : (r i : ℕ) (t : Ty) → is_entry_value r t ≡ true → Fits world.notes (live_memory world a) (depth fs) f.saved t (a.registers r)
+      → a.registers r ≡ f.saved r
   entry_value r i (ty.Saved j) e h = h ∙ ap f.saved (eqb-true j r e)
   entry_value r i ty.Any e h = absurd (false≢true e)
   entry_value r i (ty.Int lo hi div) e h = absurd (false≢true e)
@@ -374,14 +434,17 @@ module _ (world : World) (a : Config) (f : FunctionFrame) (fs : List Frame) (not
   entry_value r i (ty.ThunkAt q) e h = absurd (false≢true e)
 
   -- A return that its rule allows goes back, with the function's result.
-  pub return_fits : (site : Site) (x : Successors) → rules_calls.return_row note s ≡ Ok x → Accepts (λ (y : NeutralEnd × Config). (y.0 ≡ Next) × Returns world a f fs y.1) (return_row world a a.frames)
+  pub return_fits : (site : Site) (x : Successors) → rules_calls.return_row note s ≡ Ok x
+      → Accepts (λ (y : NeutralEnd × Config). (y.0 ≡ Next) × Returns world a f fs y.1) (return_row world a a.frames)
   unfolding return_row rules_calls.return_row may_return goes
-  return_fits site x e = test (nat_eq (length s.items) 0 && (is_saved s 1 && (is_saved s 2 && (is_saved s 3 && is_below (type_of s 7) note.result)))) refl e
+  return_fits site x e = test (nat_eq (length s.items) 0 && (is_saved s 1
+      && (is_saved s 2 && (is_saved s 3 && is_below (type_of s 7) note.result)))) refl e
     where
       Goal : Outcome (NeutralEnd × Config) → Type 0
       Goal o = Accepts (λ (y : NeutralEnd × Config). (y.0 ≡ Next) × Returns world a f fs y.1) o
 
-      no_items : (is : List StackItem) (xs : List Item) → length xs ≡ 0 → AllZip (ItemFits world.notes (live_memory world a) (depth fs) f) is xs → is ≡ []
+      no_items : (is : List StackItem) (xs : List Item) → length xs ≡ 0
+          → AllZip (ItemFits world.notes (live_memory world a) (depth fs) f) is xs → is ≡ []
       no_items [] xs h z = refl
       no_items (i ∷ is) [] h z = absurd z
       no_items (i ∷ is) (y ∷ ys) h z = absurd (omega (arith, h))
@@ -393,17 +456,22 @@ module _ (world : World) (a : Config) (f : FunctionFrame) (fs : List Frame) (not
       kept e1 e2 e3 (suc (suc (suc zero))) l h = entry_value 3 3 (type_of s 3) e3 (st.top.registers 3 (omega arith) (omega arith))
       kept e1 e2 e3 (suc (suc (suc (suc r)))) l h = absurd (omega (arith, h))
 
-      given : is_below (type_of s 7) note.result ≡ true → FitsPlain world.notes (live_memory world a).objects (result_type_of world.notes f.func) (a.registers 7)
+      given : is_below (type_of s 7) note.result ≡ true → FitsPlain world.notes (live_memory world a).objects
+          (result_type_of world.notes f.func) (a.registers 7)
       given e =
-          let h = fits_below world.notes (live_memory world a) (depth fs) f.saved (type_of s 7) note.result (a.registers 7) ((is_below_exact (type_of s 7) note.result).0 e) (st.top.registers 7 (omega arith) (omega arith)) in
+          let h = fits_below world.notes (live_memory world a) (depth fs) f.saved (type_of s 7) note.result (a.registers 7)
+          ((is_below_exact (type_of s 7) note.result).0 e) (st.top.registers 7 (omega arith) (omega arith)) in
           let ret = (st.typed.notes.functions f.func note st.there).returned in
-          subst (λ t. FitsPlain world.notes (live_memory world a).objects t (a.registers 7)) (sym (ap (λ o. option_map_or (λ (g : FnNote). g.result) o ty.Any) st.there))
+          subst (λ t. FitsPlain world.notes (live_memory world a).objects t (a.registers 7))
+          (sym (ap (λ o. option_map_or (λ (g : FnNote). g.result) o ty.Any) st.there))
           (returned_plain world.notes (live_memory world a) (depth fs) f.saved note.result (a.registers 7) ret h)
 
       spotted : (p : Spot) → SoundBelow world (record a { frames = fs }) → SoundBelow world (record a { spot = p; frames = fs })
       spotted p h = record { cells = h.cells; frames = h.frames; few = h.few }
 
-      back : (empty : f.items ≡ []) → Preserves f.saved a.registers → FitsPlain world.notes (live_memory world a).objects (result_type_of world.notes f.func) (a.registers 7) → (gs : List Frame) → fs ≡ gs → FrameBelow world (live_memory world a) f note gs → Goal (returned_to world a f gs)
+      back : (empty : f.items ≡ []) → Preserves f.saved a.registers
+          → FitsPlain world.notes (live_memory world a).objects (result_type_of world.notes f.func) (a.registers 7) → (gs : List Frame)
+          → fs ≡ gs → FrameBelow world (live_memory world a) f note gs → Goal (returned_to world a f gs)
       back empty k g [] q b = absurd b
       back empty k g (Host h ∷ gs) q b = (
         refl,
@@ -416,19 +484,24 @@ module _ (world : World) (a : Config) (f : FunctionFrame) (fs : List Frame) (not
         },
       )
       back empty k g (Function h ∷ gs) q b =
-          subst (λ o. Goal (o >>= (λ to. goes world (record a { frames = Function h ∷ gs }) to))) (sym (aligned_is world a f fs note s st f.ret b.2.0))
-          (subst (λ c. Goal ((if c then Gives (record a { spot = Place f.ret; frames = Function h ∷ gs }) else Stuck) >>= (λ b. Gives (Next, b)))) (sym (lt-ltb f.ret world.image_size b.2.1)) (
+          subst (λ o. Goal (o >>= (λ to. goes world (record a { frames = Function h ∷ gs }) to)))
+          (sym (aligned_is world a f fs note s st f.ret b.2.0))
+          (subst (λ c. Goal ((if c then Gives (record a { spot = Place f.ret; frames = Function h ∷ gs })
+          else Stuck) >>= (λ b. Gives (Next, b)))) (sym (lt-ltb f.ret world.image_size b.2.1)) (
             refl,
             record {
               frames = sym q;
               back = subst (λ z. GoesBack f z (record a { spot = Place f.ret; frames = Function h ∷ gs })) (sym q) refl;
               kept = k;
               given = g;
-              sound = subst (λ z. SoundBelow world (record a { spot = Place f.ret; frames = z })) q (spotted (Place f.ret) (left_sound empty));
+              sound = subst (λ z. SoundBelow world (record a { spot = Place f.ret; frames = z })) q
+                  (spotted (Place f.ret) (left_sound empty));
             },
           ))
 
-      test : (b : Bool) → (nat_eq (length s.items) 0 && (is_saved s 1 && (is_saved s 2 && (is_saved s 3 && is_below (type_of s 7) note.result)))) ≡ b → (if b then Ok ends else Err rule.Return) ≡ Ok x → Goal (return_row world a a.frames)
+      test : (b : Bool) → (nat_eq (length s.items) 0 && (is_saved s 1
+          && (is_saved s 2 && (is_saved s 3 && is_below (type_of s 7) note.result)))) ≡ b → (if b then Ok ends else Err rule.Return) ≡ Ok x
+          → Goal (return_row world a a.frames)
       test false q e = absurd (err_ok rule.Return x e)
       test true q e =
           let p1 = and_parts (nat_eq (length s.items) 0) _ q in
@@ -436,4 +509,6 @@ module _ (world : World) (a : Config) (f : FunctionFrame) (fs : List Frame) (not
           let p3 = and_parts (is_saved s 2) _ p2.1 in
           let p4 = and_parts (is_saved s 3) _ p3.1 in
           let empty = no_items f.items s.items (eqb-true (length s.items) 0 p1.0) st.top.items in
-          subst (λ z. Goal (return_row world a z)) (sym st.frames) (subst (λ z. Goal (returned_from world a f z fs)) (sym empty) (back empty (kept p2.0 p3.0 p4.0) (given p4.1) fs refl (top_keeps world a f fs note s st).1))
+          subst (λ z. Goal (return_row world a z)) (sym st.frames)
+          (subst (λ z. Goal (returned_from world a f z fs)) (sym empty)
+          (back empty (kept p2.0 p3.0 p4.0) (given p4.1) fs refl (top_keeps world a f fs note s st).1))

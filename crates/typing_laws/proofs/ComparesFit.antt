@@ -1,5 +1,6 @@
 -- Comparisons that the rules allow are defined.
-use Rattle.std.proofs.Common.{◌≡◌, ℕ, ◌-◌, ◌*◌, ◌^◌, ◌<◌, ◌≤◌, ◌⊎◌, Bool, true, false, ◌&&◌, ◌||◌, if◌then◌else◌, nat_lt, nat_eq, Option, Some, None, refl, sym, ap, ap₂, ◌∙◌, subst, subst₂, arith, inl, inr, ⊎_elim, ℤ, pos}
+use Rattle.std.proofs.Common.{◌≡◌, ℕ, ◌-◌, ◌*◌, ◌^◌, ◌<◌, ◌≤◌, ◌⊎◌, Bool, true, false, ◌&&◌, ◌||◌, if◌then◌else◌, nat_lt, nat_eq, Option}
+use Rattle.std.proofs.Common.{Some, None, refl, sym, ap, ap₂, ◌∙◌, subst, subst₂, arith, inl, inr, ⊎_elim, ℤ, pos}
 use Rattle.std.specs.Ordering.{int_eq}
 use Rattle.std.proofs.lemmas.Bool.{ltb-true, and_parts, or_cases, eqb-true, false≢true, lt-ltb}
 use Rattle.std.proofs.lemmas.Bool.Decides.{Decides-int_eq}
@@ -9,18 +10,20 @@ use Rattle.machine_alu.specs.Alu.{compared}
 use Rattle.note_types.specs.Types.{IsBounded}
 use Rattle.note_types.specs.declared.notes.Notes.{Notes}
 use Rattle.note_types.specs.declared.types.Ty.{Ty}
-use Rattle.note_types.specs.declared.types.Ty.TheVariants.{Any, Int, Lin, Scaled, Ptr, Local, Lent, Status, SignedStatus, Mask, Handle, Entry, Method, ThunkAt, Saved}
+use Rattle.note_types.specs.declared.types.Ty.TheVariants.{Any, Int, Lin, Scaled, Ptr, Local, Lent, Status, SignedStatus, Mask, Handle}
+use Rattle.note_types.specs.declared.types.Ty.TheVariants.{Entry, Method, ThunkAt, Saved}
 use Rattle.rules_base.specs.Parts.{is_int, is_int_below}
 use Rattle.rules_data.specs.Compares.{is_number, is_start, is_status, equates, orders, compares_wide, compares}
 use Rattle.rules_data.specs.Compares as rules
-use Rattle.run_types.specs.Values.{Neutral, Num, At, Error, SignedError, Junk, ObjectOf, number, null, plain, word}
-use Rattle.run_types.specs.Values as values
-use Rattle.run_types.specs.Config.{Registers}
-use Rattle.run_types.specs.Memory.{Memory}
-use Rattle.run_types.specs.Fits.{IsPointer, OrNull, Fits}
-use Rattle.run_types.specs.Objects.{shape_of}
+use Rattle.host_model.specs.Values.{Neutral, Num, At, Error, SignedError, Junk, ObjectOf, number, null, plain, word}
+use Rattle.host_model.specs.Values as values
+use Rattle.neutral_machine.specs.Config.{Registers}
+use Rattle.neutral_machine.specs.Memory.{Memory}
+use Rattle.neutral_machine.specs.Fits.{IsPointer, OrNull, Fits}
+use Rattle.host_model.specs.Objects.{shape_of}
 use Rattle.std.specs.Option.{option_or}
-use Rattle.run_types.specs.Operations.{Instance, instance_of, equal_instances, equal_first, error_at_most, error_at_least, compared_wide, compared_by, compared_as, same_instance}
+use Rattle.neutral_machine.specs.Operations.{Instance, instance_of, equal_instances, equal_first, error_at_most, error_at_least}
+use Rattle.neutral_machine.specs.Operations.{compared_wide, compared_by, compared_as, same_instance}
 use Rattle.typing_laws.proofs.Objects.{ObjectsFit, start_is, instance_is}
 
 -- there is an answer
@@ -40,7 +43,8 @@ module _ (notes : Notes) (m : Memory) (ok : ObjectsFit notes m.objects) (d : ℕ
   Known v u = BothPlain v u ⊎ (IsDefined (equal_first notes m.objects v u) ⊎ IsDefined (equal_first notes m.objects u v))
 
   known_turned : (v u : Neutral) → Known v u → Known u v
-  known_turned v u h = ⊎_elim (λ p. inl (record { x = p.y; y = p.x; first = p.second; second = p.first })) (λ q. ⊎_elim (λ e. inr (inr e)) (λ e. inr (inl e)) q) h
+  known_turned v u h = ⊎_elim (λ p. inl (record { x = p.y; y = p.x; first = p.second; second = p.first }))
+      (λ q. ⊎_elim (λ e. inr (inr e)) (λ e. inr (inl e)) q) h
 
   known_same : (v u x y : Neutral) → v ≡ x → u ≡ y → Known x y → Known v u
   known_same v u x y p q h = subst₂ Known (sym p) (sym q) h
@@ -56,11 +60,20 @@ module _ (notes : Notes) (m : Memory) (ok : ObjectsFit notes m.objects) (d : ℕ
 
   pub pointer_start : (s k : ℕ) (n c : ℤ) (v : Neutral) → 1 ≤ k → n ≡ pos 0 → c ≡ pos 0 → IsPointer notes m.objects s k n c v → IsStart v
   pointer_start s k n c v l en ec f =
-      let g : IsPointer notes m.objects s k (pos 0) (pos 0) v = subst (λ z. IsPointer notes m.objects s k (pos 0) z v) ec (subst (λ z. IsPointer notes m.objects s k z c v) en f) in
+      let g : IsPointer notes m.objects s k (pos 0) (pos 0) v =
+      subst (λ z. IsPointer notes m.objects s k (pos 0) z v) ec (subst (λ z. IsPointer notes m.objects s k z c v) en f) in
       let q = start_is notes m.objects ok s k v l g in
-      record { k = q.k; n = q.j * (shape_of notes s).n; c = q.j * (shape_of notes s).c; instance = record { object = q.k; instance = q.j }; is = q.is; starts = ap (instance_of notes m.objects) (sym q.is) ∙ instance_is notes m.objects ok s k v q l }
+      record {
+        k = q.k;
+        n = q.j * (shape_of notes s).n;
+        c = q.j * (shape_of notes s).c;
+        instance = record { object = q.k; instance = q.j };
+        is = q.is;
+        starts = ap (instance_of notes m.objects) (sym q.is) ∙ instance_is notes m.objects ok s k v q l;
+      }
 
-  or_start : (s k : ℕ) (n c : ℤ) (may : Bool) (v : Neutral) → 1 ≤ k → n ≡ pos 0 → c ≡ pos 0 → OrNull may v (IsPointer notes m.objects s k n c v) → IsStart v ⊎ (v ≡ null)
+  or_start : (s k : ℕ) (n c : ℤ) (may : Bool) (v : Neutral) → 1 ≤ k → n ≡ pos 0 → c ≡ pos 0
+      → OrNull may v (IsPointer notes m.objects s k n c v) → IsStart v ⊎ (v ≡ null)
   or_start s k n c true v l en ec f = ⊎_elim (λ g. inl (pointer_start s k n c v l en ec g)) (λ e. inr e) f
   or_start s k n c false v l en ec f = inl (pointer_start s k n c v l en ec f)
 
@@ -98,24 +111,30 @@ module _ (notes : Notes) (m : Memory) (ok : ObjectsFit notes m.objects) (d : ℕ
       (λ a. ⊎_elim (λ b. two_starts v u a b) (λ b. start_null v u a b) q)
       (λ a. ⊎_elim (λ b. known_turned u v (start_null u v b a)) (λ b. two_nulls v u a b) q) p
 
-  handle_or_null : (b : Ty) (u : Neutral) → (rules.is_handle b || is_number 0 b) ≡ true → Fits notes m d saved b u → ((k : ℕ) × (u ≡ values.Handle k)) ⊎ (u ≡ null)
+  handle_or_null : (b : Ty) (u : Neutral) → (rules.is_handle b || is_number 0 b) ≡ true → Fits notes m d saved b u
+      → ((k : ℕ) × (u ≡ values.Handle k)) ⊎ (u ≡ null)
   handle_or_null Handle u h f = ⊎_elim (λ e. inl (e.k, e.is)) (λ e. inr e) f
   handle_or_null (Int lo hi div) u h f = inr (number_is 0 (Int lo hi div) u h f)
   handle_or_null _ u h f = absurd (false≢true h)
 
-  entry_or_null : (b : Ty) (u : Neutral) → (rules.is_entry b || is_number 0 b) ≡ true → Fits notes m d saved b u → ((k : ℕ) × (u ≡ values.Entry k)) ⊎ (u ≡ null)
+  entry_or_null : (b : Ty) (u : Neutral) → (rules.is_entry b || is_number 0 b) ≡ true → Fits notes m d saved b u
+      → ((k : ℕ) × (u ≡ values.Entry k)) ⊎ (u ≡ null)
   entry_or_null Entry u h f = ⊎_elim (λ e. inl (e.func, e.is)) (λ e. inr e) f
   entry_or_null (Int lo hi div) u h f = inr (number_is 0 (Int lo hi div) u h f)
   entry_or_null _ u h f = absurd (false≢true h)
 
-  handles_known : (v u : Neutral) → ((k : ℕ) × (v ≡ values.Handle k)) ⊎ (v ≡ null) → ((k : ℕ) × (u ≡ values.Handle k)) ⊎ (u ≡ null) → Known v u
+  handles_known : (v u : Neutral) → ((k : ℕ) × (v ≡ values.Handle k)) ⊎ (v ≡ null) → ((k : ℕ) × (u ≡ values.Handle k)) ⊎ (u ≡ null)
+      → Known v u
   handles_known v u p q = ⊎_elim
-      (λ a. ⊎_elim (λ b. known_same v u _ _ a.1 b.1 (inr (inl (nat_eq a.0 b.0, refl)))) (λ b. known_same v u _ _ a.1 b (inr (inl (false, refl)))) q)
+      (λ a. ⊎_elim (λ b. known_same v u _ _ a.1 b.1 (inr (inl (nat_eq a.0 b.0, refl))))
+      (λ b. known_same v u _ _ a.1 b (inr (inl (false, refl)))) q)
       (λ a. ⊎_elim (λ b. known_same v u _ _ a b.1 (inr (inr (false, refl)))) (λ b. two_nulls v u a b) q) p
 
-  entries_known : (v u : Neutral) → ((k : ℕ) × (v ≡ values.Entry k)) ⊎ (v ≡ null) → ((k : ℕ) × (u ≡ values.Entry k)) ⊎ (u ≡ null) → Known v u
+  entries_known : (v u : Neutral) → ((k : ℕ) × (v ≡ values.Entry k)) ⊎ (v ≡ null) → ((k : ℕ) × (u ≡ values.Entry k)) ⊎ (u ≡ null)
+      → Known v u
   entries_known v u p q = ⊎_elim
-      (λ a. ⊎_elim (λ b. known_same v u _ _ a.1 b.1 (inr (inl (nat_eq a.0 b.0, refl)))) (λ b. known_same v u _ _ a.1 b (inr (inl (false, refl)))) q)
+      (λ a. ⊎_elim (λ b. known_same v u _ _ a.1 b.1 (inr (inl (nat_eq a.0 b.0, refl))))
+      (λ b. known_same v u _ _ a.1 b (inr (inl (false, refl)))) q)
       (λ a. ⊎_elim (λ b. known_same v u _ _ a b.1 (inr (inr (false, refl)))) (λ b. two_nulls v u a b) q) p
 
   -- an error, or a number below 2 ^ 31
@@ -135,10 +154,13 @@ module _ (notes : Notes) (m : Memory) (ok : ObjectsFit notes m.objects) (d : ℕ
 
   errors_known : (v u : Neutral) → ErrorOrCode v → ErrorOrCode u → Known v u
   errors_known v u p q = ⊎_elim
-      (λ a. ⊎_elim (λ b. known_same v u _ _ a.1 b.1 (inr (inl (nat_eq a.0 b.0, refl)))) (λ b. known_same v u _ _ a.1 b.1 (inr (inl (error_code a.0 b.0 b.2)))) q)
-      (λ a. ⊎_elim (λ b. known_same v u _ _ a.1 b.1 (inr (inr (error_code b.0 a.0 a.2)))) (λ b. inl (record { x = word a.0; y = word b.0; first = ap plain a.1; second = ap plain b.1 })) q) p
+      (λ a. ⊎_elim (λ b. known_same v u _ _ a.1 b.1 (inr (inl (nat_eq a.0 b.0, refl))))
+      (λ b. known_same v u _ _ a.1 b.1 (inr (inl (error_code a.0 b.0 b.2)))) q)
+      (λ a. ⊎_elim (λ b. known_same v u _ _ a.1 b.1 (inr (inr (error_code b.0 a.0 a.2))))
+      (λ b. inl (record { x = word a.0; y = word b.0; first = ap plain a.1; second = ap plain b.1 })) q) p
 
-  equates_known : (a b : Ty) (v u : Neutral) → IsBounded a → IsBounded b → equates a b ≡ true → Fits notes m d saved a v → Fits notes m d saved b u → Known v u
+  equates_known : (a b : Ty) (v u : Neutral) → IsBounded a → IsBounded b → equates a b ≡ true → Fits notes m d saved a v
+      → Fits notes m d saved b u → Known v u
   equates_known (Ptr s k n c may) b v u l r h f g =
       let p = and_parts (int_eq n (pos 0)) (int_eq c (pos 0) && (is_start b || is_number 0 b)) h in
       let q = and_parts (int_eq c (pos 0)) (is_start b || is_number 0 b) p.1 in
@@ -165,10 +187,12 @@ module _ (notes : Notes) (m : Memory) (ok : ObjectsFit notes m.objects) (d : ℕ
   abbrev Bound : Bool → ℕ → Type 0
   Bound or_error y = (y < 2 ^ 31) ⊎ ((or_error ≡ true) × (y ≡ 2 ^ 64 - 1))
 
-  bound_value : (or_error : Bool) (b : Ty) (u : Neutral) → (is_int_below (2 ^ 31) b || (or_error && is_number (2 ^ 64 - 1) b)) ≡ true → Fits notes m d saved b u → (y : ℕ) × (u ≡ number y) × Bound or_error y
+  bound_value : (or_error : Bool) (b : Ty) (u : Neutral) → (is_int_below (2 ^ 31) b || (or_error && is_number (2 ^ 64 - 1) b)) ≡ true
+      → Fits notes m d saved b u → (y : ℕ) × (u ≡ number y) × Bound or_error y
   bound_value or_error (Int lo hi div) u h f = ⊎_elim
       (λ e. let l = ltb-true hi (2 ^ 31) e in (f.x, f.is, inl (omega (arith, f.to, l))))
-      (λ e. let p = and_parts or_error (is_number (2 ^ 64 - 1) (Int lo hi div)) e in (2 ^ 64 - 1, number_is (2 ^ 64 - 1) (Int lo hi div) u p.1 f, inr (p.0, refl)))
+      (λ e. let p = and_parts or_error (is_number (2 ^ 64 - 1) (Int lo hi div)) e in
+      (2 ^ 64 - 1, number_is (2 ^ 64 - 1) (Int lo hi div) u p.1 f, inr (p.0, refl)))
       (or_cases (nat_lt hi (2 ^ 31)) (or_error && is_number (2 ^ 64 - 1) (Int lo hi div)) h)
   bound_value true Any u h f = absurd (false≢true h)
   bound_value true (Lin n c) u h f = absurd (false≢true h)
@@ -196,7 +220,9 @@ module _ (notes : Notes) (m : Memory) (ok : ObjectsFit notes m.objects) (d : ℕ
       (λ l. (false, ap (λ b. if b then Some false else None) (lt-ltb (word y) (2 ^ 31) (omega (arith, l)))))
       (λ e. absurd (false≢true e.0)) h
 
-  ordered : (order : Neutral → Option ℕ → Option Bool) (or_error : Bool) (a b : Ty) (v u : Neutral) → ((k y : ℕ) → Bound or_error y → IsDefined (order (SignedError k) (plain (number y)))) → orders or_error a b ≡ true → Fits notes m d saved a v → Fits notes m d saved b u → Ordered order v u
+  ordered : (order : Neutral → Option ℕ → Option Bool) (or_error : Bool) (a b : Ty) (v u : Neutral)
+      → ((k y : ℕ) → Bound or_error y → IsDefined (order (SignedError k) (plain (number y)))) → orders or_error a b ≡ true
+      → Fits notes m d saved a v → Fits notes m d saved b u → Ordered order v u
   ordered order or_error (SignedStatus g) b v u k h f t =
       let q = bound_value or_error b u h t in
       ⊎_elim
@@ -214,10 +240,12 @@ module _ (notes : Notes) (m : Memory) (ok : ObjectsFit notes m.objects) (d : ℕ
       none : IsDefined None → ⊥
       none p = absurd cc
 
-  wide_known : (op : CmpOp) (a b : Ty) (v u : Neutral) → IsBounded a → IsBounded b → compares_wide op a b ≡ true → Fits notes m d saved a v → Fits notes m d saved b u → BothPlain v u ⊎ IsDefined (compared_wide notes m.objects op v u)
+  wide_known : (op : CmpOp) (a b : Ty) (v u : Neutral) → IsBounded a → IsBounded b → compares_wide op a b ≡ true → Fits notes m d saved a v
+      → Fits notes m d saved b u → BothPlain v u ⊎ IsDefined (compared_wide notes m.objects op v u)
   wide_known cmps.Eq a b v u l r h f g =
       ⊎_elim (λ p. inl p) (λ q. inr (turned _ _ q))
-      (⊎_elim (λ e. equates_known a b v u l r e f g) (λ e. known_turned u v (equates_known b a u v r l e g f)) (or_cases (equates a b) (equates b a) h))
+      (⊎_elim (λ e. equates_known a b v u l r e f g) (λ e. known_turned u v (equates_known b a u v r l e g f))
+      (or_cases (equates a b) (equates b a) h))
   wide_known cmps.Lte a b v u l r h f g = ordered error_at_most true a b v u at_most_known h f g
   wide_known cmps.Gte a b v u l r h f g = ordered error_at_least false a b v u at_least_known h f g
   wide_known cmps.Ulte a b v u l r h f g = absurd (false≢true h)
@@ -227,7 +255,8 @@ module _ (notes : Notes) (m : Memory) (ok : ObjectsFit notes m.objects) (d : ℕ
   unfolding compared_as
   both_defined op wide v u p = (compared op wide p.x p.y, ap₂ (λ i j. compared_by notes m.objects op wide v u i j) p.first p.second)
 
-  wide_defined : (op : CmpOp) (v u : Neutral) (c e : Option ℕ) → plain v ≡ c → plain u ≡ e → BothPlain v u ⊎ IsDefined (compared_wide notes m.objects op v u) → IsDefined (compared_by notes m.objects op true v u c e)
+  wide_defined : (op : CmpOp) (v u : Neutral) (c e : Option ℕ) → plain v ≡ c → plain u ≡ e → BothPlain v u
+      ⊎ IsDefined (compared_wide notes m.objects op v u) → IsDefined (compared_by notes m.objects op true v u c e)
   wide_defined op v u (Some x) (Some y) p q h = (compared op true x y, refl)
   wide_defined op v u None e p q h = ⊎_elim (λ b. absurd (clash (sym p ∙ b.first))) (λ k. k) h
     where
@@ -243,7 +272,8 @@ module _ (notes : Notes) (m : Memory) (ok : ObjectsFit notes m.objects) (d : ℕ
   int_number _ v h f = absurd (false≢true h)
 
   -- A comparison that the rules allow has an answer.
-  pub compares_fit : (op : CmpOp) (wide : Bool) (a b : Ty) (v u : Neutral) → IsBounded a → IsBounded b → compares op wide a b ≡ true → Fits notes m d saved a v → Fits notes m d saved b u → IsDefined (compared_as notes m.objects op wide v u)
+  pub compares_fit : (op : CmpOp) (wide : Bool) (a b : Ty) (v u : Neutral) → IsBounded a → IsBounded b → compares op wide a b ≡ true
+      → Fits notes m d saved a v → Fits notes m d saved b u → IsDefined (compared_as notes m.objects op wide v u)
   unfolding compares compared_as
   compares_fit op wide a b v u l r h f g = ⊎_elim
       (λ e.

@@ -1,12 +1,11 @@
 -- What each operation gives on values fits what its row gives on types.
-use Rattle.std.proofs.Common.{◌≡◌, ℕ, zero, suc, ◌/◌, ◌^◌, ◌<◌, ◌≤◌, Bool, true, false, not, ◌&&◌, ◌||◌, if◌then◌else◌, Option, Some, None, Result, Ok, Err, refl, sym, ap, ap₂, ◌∙◌, subst, arith, le_refl, ℤ, pos, negsuc}
-use Rattle.std.proofs.Math.Nat.{mod-le}
+use Rattle.std.proofs.Common.{◌≡◌, ℕ, ◌^◌, ◌<◌, Bool, true, false, not, ◌&&◌, ◌||◌, if◌then◌else◌, Option, Some, None}
+use Rattle.std.proofs.Common.{Result, Ok, Err, refl, sym, ap, ap₂, ◌∙◌, subst, arith, le_refl}
 use Rattle.std.proofs.lemmas.Bool.{and_parts, false≢true}
-use Rattle.std.proofs.lemmas.Nat.{mod_below, pow_pos, and_le_l, or_lt, xor_lt, shr_le}
 use Rattle.std.proofs.lemmas.Option.{same_Some, none-some}
 use Rattle.ebc_insn.specs.declared.ArithOp.{ArithOp}
 use Rattle.ebc_insn.specs.declared.ArithOp.TheVariants as ops
-use Rattle.machine_alu.specs.Alu.{bits_of, low, wrap, outcome, divides, divides_by_zero, divide_error, computed}
+use Rattle.machine_alu.specs.Alu.{bits_of, low, outcome, divides, divides_by_zero, divide_error, computed}
 use Rattle.machine_alu.specs.declared.DivideError.{DivideError}
 use Rattle.note_types.specs.declared.exception.Exception.TheVariants as raises
 use Rattle.note_types.specs.Types.{IsBounded}
@@ -15,60 +14,27 @@ use Rattle.note_types.specs.declared.types.Ty.{Ty}
 use Rattle.note_types.specs.declared.types.Ty.TheVariants.{Any, Int}
 use Rattle.rules_base.specs.Parts.{constant, constant_of, full, is_int}
 use Rattle.rules_data.specs.Arithmetic.{is_unary, folded, fold_row, or_ints, other_row, divisor_known}
-use Rattle.run_types.specs.Values.{Neutral, Junk, number, plain, word}
-use Rattle.run_types.specs.Config.{Registers}
-use Rattle.run_types.specs.Memory.{Memory}
-use Rattle.run_types.specs.Fits.{Fits}
-use Rattle.run_types.specs.Outcomes.{Raises}
-use Rattle.run_types.specs.Operations.{shifts_to_mask, coded, of_table, on_plain, on_one, on_divisor, by_table, or_of, combined_wide, combined}
-use Rattle.run_types.specs.Operations as neutral
+use Rattle.host_model.specs.Values.{Neutral, Junk, number, plain, word}
+use Rattle.neutral_machine.specs.Config.{Registers}
+use Rattle.neutral_machine.specs.Memory.{Memory}
+use Rattle.neutral_machine.specs.Fits.{Fits}
+use Rattle.neutral_machine.specs.Outcomes.{Raises}
+use Rattle.neutral_machine.specs.Operations.{of_table, on_plain, on_one, on_divisor, by_table}
+use Rattle.neutral_machine.specs.Operations as neutral
+use Rattle.neutral_machine.proofs.Alu.{table_below}
 use Rattle.typed_runs.specs.Accepts.{Accepts}
 use Rattle.typing_laws.proofs.Rows.{then_some, one_divides, constant_word, constant_fits, number_fits}
 
 -- ---- the table's numbers
 
-wrap_below : (bits : ℕ) (z : ℤ) → wrap bits z < 2 ^ bits
-wrap_below bits (pos n) = mod_below n (2 ^ bits) (pow_pos bits)
-wrap_below bits (negsuc n) = let p = pow_pos bits in omega (arith, p)
-
-outcome_below : (bits : ℕ) (op : ArithOp) (x y : ℕ) → x < 2 ^ bits → y < 2 ^ bits → outcome bits op x y < 2 ^ bits
-outcome_below bits ops.Not x y l m = omega (arith, m)
-outcome_below bits ops.Neg x y l m = mod_below _ _ (pow_pos bits)
-outcome_below bits ops.Add x y l m = mod_below _ _ (pow_pos bits)
-outcome_below bits ops.Sub x y l m = mod_below _ _ (pow_pos bits)
-outcome_below bits ops.Mul x y l m = wrap_below bits _
-outcome_below bits ops.Mulu x y l m = mod_below _ _ (pow_pos bits)
-outcome_below bits ops.Div x y l m = wrap_below bits _
-outcome_below bits ops.Divu x y l m = quotient x y l
-  where
-    quotient : (x y : ℕ) → x < 2 ^ bits → x / y < 2 ^ bits
-    quotient x zero l = let p = pow_pos bits in omega (arith, p)
-    quotient x (suc y) l = let r = div_le x (suc y) in omega (arith, r, l)
-      where
-        div_le : (x y : ℕ) → x / y ≤ x
-        div_le x y = omega arith
-outcome_below bits ops.Mod x y l m = wrap_below bits _
-outcome_below bits ops.Modu x y l m = let r = mod-le x y in omega (arith, r, l)
-outcome_below bits ops.And x y l m = let r = and_le_l x y in omega (arith, r, l)
-outcome_below bits ops.Or x y l m = or_lt bits x y l m
-outcome_below bits ops.Xor x y l m = xor_lt bits x y l m
-outcome_below bits ops.Shl x y l m = mod_below _ _ (pow_pos bits)
-outcome_below bits ops.Shr x y l m = let r = shr_le x y in omega (arith, r, l)
-outcome_below bits ops.Ashr x y l m = wrap_below bits _
-outcome_below bits ops.Extb x y l m = wrap_below bits _
-outcome_below bits ops.Extw x y l m = wrap_below bits _
-outcome_below bits ops.Extd x y l m = wrap_below bits _
-
-table_below : (op : ArithOp) (wide : Bool) (x y : ℕ) → outcome (bits_of wide) op (low (bits_of wide) x) (low (bits_of wide) y) < 2 ^ bits_of wide
-table_below op true x y = outcome_below 64 op _ _ (omega arith) (omega arith)
-table_below op false x y = outcome_below 32 op _ _ (omega arith) (omega arith)
-
 -- what the table gives is the outcome
-pub computed_is : (op : ArithOp) (wide : Bool) (x y r : ℕ) → computed op wide x y ≡ Ok r → r ≡ outcome (bits_of wide) op (low (bits_of wide) x) (low (bits_of wide) y)
+pub computed_is : (op : ArithOp) (wide : Bool) (x y r : ℕ) → computed op wide x y ≡ Ok r
+    → r ≡ outcome (bits_of wide) op (low (bits_of wide) x) (low (bits_of wide) y)
 unfolding computed
 computed_is op wide x y r e = go (divides_by_zero op wide y) e
   where
-    go : (t : Bool) → (if t then Err divide_error else Ok (outcome (bits_of wide) op (low (bits_of wide) x) (low (bits_of wide) y))) ≡ Ok r → r ≡ outcome (bits_of wide) op (low (bits_of wide) x) (low (bits_of wide) y)
+    go : (t : Bool) → (if t then Err divide_error else Ok (outcome (bits_of wide) op (low (bits_of wide) x) (low (bits_of wide) y))) ≡ Ok r
+        → r ≡ outcome (bits_of wide) op (low (bits_of wide) x) (low (bits_of wide) y)
     go true e = absurd cc
     go false e = cc
 
@@ -130,7 +96,8 @@ module _ (P : Neutral → Type 0) (op : ArithOp) (wide : Bool) (v u : Neutral) w
   one_accepts (Some y) q n g = of_table_accepts (computed op wide 0 y) (λ r h. g.one y r q n h)
   one_accepts None q n g = g.not_second q
 
-  divisor_accepts : (e : Option ℕ) → plain u ≡ e → (e ≡ None → ⊥) → is_unary op ≡ false → TableGives → Accepts P (on_divisor op wide (plain v) e)
+  divisor_accepts : (e : Option ℕ) → plain u ≡ e → (e ≡ None → ⊥) → is_unary op ≡ false → TableGives
+      → Accepts P (on_divisor op wide (plain v) e)
   divisor_accepts None q k n g = absurd (k refl)
   divisor_accepts (Some y) q k n g = go (divides_by_zero op wide y)
     where
@@ -148,7 +115,9 @@ module _ (P : Neutral → Type 0) (op : ArithOp) (wide : Bool) (v u : Neutral) w
   pub table_accepts : (divides op ≡ true → plain u ≡ None → ⊥) → TableGives → Accepts P (by_table op wide v u)
   table_accepts k g = go (divides op) refl (neutral.is_unary op) refl
     where
-      go : (s : Bool) → divides op ≡ s → (t : Bool) → neutral.is_unary op ≡ t → Accepts P (if s then on_divisor op wide (plain v) (plain u) else (if t then on_one op wide (plain u) else on_plain op wide (plain v) (plain u)))
+      go : (s : Bool) → divides op ≡ s → (t : Bool) → neutral.is_unary op ≡ t
+          → Accepts P (if s then on_divisor op wide (plain v) (plain u)
+          else (if t then on_one op wide (plain u) else on_plain op wide (plain v) (plain u)))
       go true e t f = divisor_accepts (plain u) refl (k e) (divides_two op e) g
       go false e true f = one_accepts (plain u) refl (sym (same_unary op) ∙ f) g
       go false e false f = plain_accepts (plain v) (plain u) refl refl (sym (same_unary op) ∙ f) g
@@ -160,7 +129,8 @@ module _ (notes : Notes) (m : Memory) (d : ℕ) (saved : Registers) where
   int_plain _ v h f e = false≢true h
 
   -- a constant's value
-  pub constant_plain : (a : Ty) (k x : ℕ) (v : Neutral) → constant_of a ≡ Some k → IsBounded a → Fits notes m d saved a v → plain v ≡ Some x → x ≡ k
+  pub constant_plain : (a : Ty) (k x : ℕ) (v : Neutral) → constant_of a ≡ Some k → IsBounded a → Fits notes m d saved a v → plain v ≡ Some x
+      → x ≡ k
   constant_plain a k x v h b f e =
       let w = constant_word a k h b in
       let q : word k ≡ x = same_Some (word k) x (sym (ap plain (constant_fits notes m d saved a k v h f)) ∙ e) in
@@ -183,10 +153,13 @@ module _ (notes : Notes) (m : Memory) (d : ℕ) (saved : Registers) where
   abbrev first_type : ArithOp → Ty → Ty → Ty
   first_type op a b = if is_unary op then b else a
 
-  first_int : (op : ArithOp) (a b : Ty) (v : Neutral) → is_int (first_type op a b) ≡ true → Fits notes m d saved a v → is_unary op ≡ false → plain v ≡ None → ⊥
+  first_int : (op : ArithOp) (a b : Ty) (v : Neutral) → is_int (first_type op a b) ≡ true → Fits notes m d saved a v → is_unary op ≡ false
+      → plain v ≡ None → ⊥
   first_int op a b v h f n = int_plain a v (sym (ap (λ t. is_int (if t then b else a)) n) ∙ h) f
 
-  pub other_fits : (op : ArithOp) (wide : Bool) (a b : Ty) (v u : Neutral) → IsBounded a → IsBounded b → divisor_known op b ≡ true → Fits notes m d saved a v → Fits notes m d saved b u → Accepts (Fits notes m d saved (other_row op wide (first_type op a b) b)) (by_table op wide v u)
+  pub other_fits : (op : ArithOp) (wide : Bool) (a b : Ty) (v u : Neutral) → IsBounded a → IsBounded b → divisor_known op b ≡ true
+      → Fits notes m d saved a v → Fits notes m d saved b u → Accepts (Fits notes m d saved (other_row op wide (first_type op a b) b))
+      (by_table op wide v u)
   other_fits op wide a b v u l r k f g = go (fold_row op wide (first_type op a b) b) refl
     where
       known : divides op ≡ true → plain u ≡ None → ⊥
@@ -196,8 +169,10 @@ module _ (notes : Notes) (m : Memory) (d : ℕ) (saved : Registers) where
       fold t h =
           then_some (constant_of (first_type op a b)) _ t h (λ x e1 h1. then_some (constant_of b) _ t h1 (λ y e2 h2.
           table_accepts (Fits notes m d saved t) op wide v u known (record {
-            numbers = λ i j q p1 p2 c. subst (λ z. Fits notes m d saved z (number q)) (same_Some _ t h2) (folded_fits wide _ q (same x y i j q e1 e2 p1 p2 c));
-            one = λ j q p2 n c. subst (λ z. Fits notes m d saved z (number q)) (same_Some _ t h2) (folded_fits wide _ q (ap (computed op wide x) (sym (constant_plain b y j u e2 r g p2)) ∙ unary_same op wide x 0 j n ∙ c));
+            numbers = λ i j q p1 p2 c. subst (λ z. Fits notes m d saved z (number q)) (same_Some _ t h2)
+                (folded_fits wide _ q (same x y i j q e1 e2 p1 p2 c));
+            one = λ j q p2 n c. subst (λ z. Fits notes m d saved z (number q)) (same_Some _ t h2)
+                (folded_fits wide _ q (ap (computed op wide x) (sym (constant_plain b y j u e2 r g p2)) ∙ unary_same op wide x 0 j n ∙ c));
             not_first = λ n e. absurd (first_int op a b v (const_int (first_type op a b) x e1) f n e);
             not_second = λ e. absurd (int_plain b u (const_int b y e2) g e);
           })))
@@ -206,15 +181,19 @@ module _ (notes : Notes) (m : Memory) (d : ℕ) (saved : Registers) where
           const_int (Int lo hi div) x e = refl
           const_int _ x e = absurd (none-some x e)
 
-          same : (x y i j q : ℕ) → constant_of (first_type op a b) ≡ Some x → constant_of b ≡ Some y → plain v ≡ Some i → plain u ≡ Some j → computed op wide i j ≡ Ok q → computed op wide x y ≡ Ok q
+          same : (x y i j q : ℕ) → constant_of (first_type op a b) ≡ Some x → constant_of b ≡ Some y → plain v ≡ Some i → plain u ≡ Some j
+              → computed op wide i j ≡ Ok q → computed op wide x y ≡ Ok q
           same x y i j q e1 e2 p1 p2 c = by (is_unary op) refl
             where
               by : (s : Bool) → is_unary op ≡ s → computed op wide x y ≡ Ok q
               by true n = unary_same op wide x i y n ∙ ap (computed op wide i) (sym (constant_plain b y j u e2 r g p2)) ∙ c
-              by false n = ap₂ (computed op wide) (sym (constant_plain a x i v (sym (ap (λ t. constant_of (if t then b else a)) n) ∙ e1) l f p1)) (sym (constant_plain b y j u e2 r g p2)) ∙ c
+              by false n = ap₂ (computed op wide) (sym (constant_plain a x i v
+                  (sym (ap (λ t. constant_of (if t then b else a)) n) ∙ e1) l f p1)) (sym (constant_plain b y j u e2 r g p2)) ∙ c
 
-      ints : (s : Bool) → (is_int (first_type op a b) && is_int b) ≡ s → Accepts (Fits notes m d saved (if s then full (bits_of wide) else Any)) (by_table op wide v u)
-      ints false e = table_accepts (λ _. Unit {0}) op wide v u known (record { numbers = λ _ _ _ _ _ _. tt; one = λ _ _ _ _ _. tt; not_first = λ _ _. tt; not_second = λ _. tt })
+      ints : (s : Bool) → (is_int (first_type op a b) && is_int b) ≡ s
+          → Accepts (Fits notes m d saved (if s then full (bits_of wide) else Any)) (by_table op wide v u)
+      ints false e = table_accepts (λ _. Unit {0}) op wide v u known
+          (record { numbers = λ _ _ _ _ _ _. tt; one = λ _ _ _ _ _. tt; not_first = λ _ _. tt; not_second = λ _. tt })
       ints true e =
           let i = and_parts (is_int (first_type op a b)) (is_int b) e in
           table_accepts (Fits notes m d saved (full (bits_of wide))) op wide v u known (record {
@@ -224,6 +203,7 @@ module _ (notes : Notes) (m : Memory) (d : ℕ) (saved : Registers) where
             not_second = λ e. absurd (int_plain b u i.1 g e);
           })
 
-      go : (o : Option Ty) → fold_row op wide (first_type op a b) b ≡ o → Accepts (Fits notes m d saved (or_ints wide (first_type op a b) b o)) (by_table op wide v u)
+      go : (o : Option Ty) → fold_row op wide (first_type op a b) b ≡ o
+          → Accepts (Fits notes m d saved (or_ints wide (first_type op a b) b o)) (by_table op wide v u)
       go (Some t) h = fold t h
       go None h = ints _ refl

@@ -1,5 +1,6 @@
 -- What is known where an instruction stands: a configuration that is sound with a state of the function on top.
-use Rattle.std.proofs.Common.{◌≡◌, ℕ, ◌^◌, Bool, true, false, if◌then◌else◌, nat_lt, List, [], ◌∷◌, length, take, Option, Some, None, slice_get, refl, sym, ap, ◌∙◌, subst, arith, option_and_then, pos, negsuc}
+use Rattle.std.proofs.Common.{◌≡◌, ℕ, ◌^◌, Bool, true, false, if◌then◌else◌, nat_lt, List, [], ◌∷◌, length, take, Option, Some, None}
+use Rattle.std.proofs.Common.{slice_get, refl, sym, ap, ◌∙◌, subst, arith, option_and_then, pos, negsuc}
 use Rattle.std.specs.List.{AllZip}
 use Rattle.std.proofs.lemmas.Bool.{and_from, eq-eqb, false≢true, le-leb, lt-ltb}
 use Rattle.std.proofs.lemmas.Bool.Decides.{Decides-int_eq}
@@ -23,21 +24,23 @@ use Rattle.note_types.specs.declared.types.Ty.{Ty}
 use Rattle.note_types.specs.declared.types.Ty.TheVariants as ty
 use Rattle.rules_base.specs.Kept.{kept_natural}
 use Rattle.rules_base.specs.Places.{locals_size, size_of}
-use Rattle.run_types.specs.Config.{StackItem, Pushed, LocalsOf, FunctionFrame, Frame, Function, Host, Config, depth, locals_among, locals_at}
-use Rattle.run_types.specs.FitsState.{ItemFits, FitsState}
-use Rattle.run_types.specs.HostPlans.{field_in}
-use Rattle.run_types.specs.Locations.{items_below, parameters_of, parameter_count}
-use Rattle.run_types.specs.Memory.{Memory, cell_field}
-use Rattle.run_types.specs.Objects.{made_objects, no_shape, shape_of}
-use Rattle.run_types.specs.declared.object.TypedObject.{TypedObject}
-use Rattle.run_types.specs.Values.{FieldOf, FieldOfLocals}
-use Rattle.run_types.specs.World.{World, frame_locals}
+use Rattle.neutral_machine.specs.Config.{StackItem, Pushed, LocalsOf, FunctionFrame, Frame, Function, Host, Config, depth, locals_among}
+use Rattle.neutral_machine.specs.Config.{locals_at}
+use Rattle.neutral_machine.specs.FitsState.{ItemFits, FitsState}
+use Rattle.host_model.specs.HostPlans.{field_in}
+use Rattle.neutral_machine.specs.Locations.{items_below, parameters_of, parameter_count}
+use Rattle.neutral_machine.specs.Memory.{Memory, cell_field}
+use Rattle.host_model.specs.Objects.{made_objects, no_shape, shape_of}
+use Rattle.host_model.specs.declared.object.TypedObject.{TypedObject}
+use Rattle.host_model.specs.Values.{FieldOf, FieldOfLocals}
+use Rattle.host_model.specs.World.{World, frame_locals}
 use Rattle.typed_runs.specs.Live.{live_memory}
 use Rattle.typing_laws.specs.OneRule.{WorldTyped}
 use Rattle.typed_runs.specs.Sound.{CellsFit, ParamFits, FrameBelow, FramesKeep, SoundBelow}
-use Rattle.typing_laws.proofs.Objects.{ObjectsFit, there}
+use Rattle.typing_laws.proofs.Objects.{ObjectsFit}
 use Rattle.typing_laws.proofs.LiveCells.{ParamsPassed}
 use Rattle.typing_laws.proofs.OnStack.{any_locals}
+use Rattle.ebc_base.proofs.Lists.{within_some}
 
 -- a parameter's type is within its bounds, and in a natural slot what MOVn keeps
 abbrev pub GoodParam : Param → Type 0
@@ -79,7 +82,7 @@ pub objects_fit : (world : World) (n : ℕ) → WorldTyped world → ObjectsFit 
 objects_fit world n ok = record {
   shaped = λ k o h.
       let r = (ok.fits.objects n k o h).0 in
-      let s = there world.notes.shape o.shape r in
+      let s = within_some world.notes.shape o.shape r in
       subst IsShape (sym (get_or_from_slice_get world.notes.shape o.shape s.0 no_shape s.1)) (ok.fits.shapes o.shape s.0 s.1);
   small = ok.small n;
 }
@@ -89,14 +92,17 @@ pub passed_params : (world : World) → WorldTyped world → ParamsPassed world.
 passed_params world ok j k g q h e = ((ok.notes.functions j g h).params k q e).passed
 
 -- the cells of shapes are within their bounds
-pub bounded_cell : (world : World) → WorldTyped world → (k f : ℕ) (s : Shape) (z : Field) → slice_get world.notes.shape k ≡ Some s → slice_get s.fields f ≡ Some z → IsBoundedCell z.cell
+pub bounded_cell : (world : World) → WorldTyped world → (k f : ℕ) (s : Shape) (z : Field) → slice_get world.notes.shape k ≡ Some s
+    → slice_get s.fields f ≡ Some z → IsBoundedCell z.cell
 bounded_cell world ok k f s z e g = ((ok.notes.shapes k s e).fields f z g).cell.bounded
 
 -- the locals of a function, as the rules and as the neutral machine have them
-pub locals_are : (notes : Notes) (func : ℕ) (note : FnNote) → slice_get notes.function func ≡ Some note → locals_of notes note ≡ frame_locals notes func
+pub locals_are : (notes : Notes) (func : ℕ) (note : FnNote) → slice_get notes.function func ≡ Some note
+    → locals_of notes note ≡ frame_locals notes func
 locals_are notes func note h = sym (ap (option_and_then (locals_of notes)) h)
 
-shape_there : (notes : Notes) (o : Option ℕ) (s : Shape) → option_and_then (slice_get notes.shape) o ≡ Some s → (k : ℕ) × (slice_get notes.shape k ≡ Some s)
+shape_there : (notes : Notes) (o : Option ℕ) (s : Shape) → option_and_then (slice_get notes.shape) o ≡ Some s → (k : ℕ)
+    × (slice_get notes.shape k ≡ Some s)
 shape_there notes None s e = absurd (none-some s e)
 shape_there notes (Some k) s e = (k, e)
 
@@ -108,7 +114,8 @@ locals_there notes func s e = go (slice_get notes.function func) e
     go (Some f) e = shape_there notes f.locals s e
 
 module _ (notes : Notes) (m : Memory) (d : ℕ) (f : FunctionFrame) where
-  pub among_is : (is : List StackItem) (xs : List Item) → AllZip (ItemFits notes m d f) is xs → any_locals is ≡ true → locals_among is ≡ frame_locals notes f.func
+  pub among_is : (is : List StackItem) (xs : List Item) → AllZip (ItemFits notes m d f) is xs → any_locals is ≡ true
+      → locals_among is ≡ frame_locals notes f.func
   among_is [] xs z e = absurd (false≢true e)
   among_is (Pushed kind v ∷ is) (x ∷ xs) z e = among_is is xs z.1 e
   among_is (Pushed kind v ∷ is) [] z e = absurd z
@@ -116,7 +123,8 @@ module _ (notes : Notes) (m : Memory) (d : ℕ) (f : FunctionFrame) where
   among_is (LocalsOf s ∷ is) (item.Slot k t ∷ xs) z e = absurd z.0
   among_is (LocalsOf s ∷ is) [] z e = absurd z
 
-  pub among_some : (is : List StackItem) (xs : List Item) (s : Shape) → AllZip (ItemFits notes m d f) is xs → locals_among is ≡ Some s → frame_locals notes f.func ≡ Some s
+  pub among_some : (is : List StackItem) (xs : List Item) (s : Shape) → AllZip (ItemFits notes m d f) is xs → locals_among is ≡ Some s
+      → frame_locals notes f.func ≡ Some s
   among_some [] xs s z e = absurd (none-some s e)
   among_some (Pushed kind v ∷ is) (x ∷ xs) s z e = among_some is xs s z.1 e
   among_some (Pushed kind v ∷ is) [] s z e = absurd z
@@ -124,7 +132,8 @@ module _ (notes : Notes) (m : Memory) (d : ℕ) (f : FunctionFrame) where
   among_some (LocalsOf q ∷ is) (item.Slot k t ∷ xs) s z e = absurd z.0
   among_some (LocalsOf q ∷ is) [] s z e = absurd z
 
-module _ (world : World) (a : Config) (f : FunctionFrame) (fs : List Frame) (note : FnNote) (s : State) (st : TopSound world a f fs note s) where
+module _ (world : World) (a : Config) (f : FunctionFrame) (fs : List Frame) (note : FnNote) (s : State)
+    (st : TopSound world a f fs note s) where
   pub objects : ObjectsFit world.notes (live_memory world a).objects
   objects = objects_fit world a.script.entries st.typed
 
@@ -132,7 +141,8 @@ module _ (world : World) (a : Config) (f : FunctionFrame) (fs : List Frame) (not
   cells = st.below.cells
 
   pub own_locals : (live_memory world a).locals (depth fs) ≡ locals_among f.items
-  own_locals = ap (λ z. locals_at z (depth fs)) st.frames ∙ ap (λ b. if b then locals_among f.items else locals_at fs (depth fs)) (eq-eqb (depth fs) (depth fs) refl)
+  own_locals = ap (λ z. locals_at z (depth fs)) st.frames ∙ ap (λ b. if b then locals_among f.items else locals_at fs (depth fs))
+      (eq-eqb (depth fs) (depth fs) refl)
 
   pub has_locals : any_locals f.items ≡ true → (live_memory world a).locals (depth fs) ≡ frame_locals world.notes f.func
   has_locals e = own_locals ∙ among_is world.notes (live_memory world a) (depth fs) f f.items s.items st.top.items e
@@ -147,55 +157,66 @@ module _ (world : World) (a : Config) (f : FunctionFrame) (fs : List Frame) (not
   pub same_locals : (x : Shape) → (live_memory world a).locals (depth fs) ≡ Some x → local_fields world.notes note ≡ x.fields
   same_locals x e = fields_same x (own_some x e)
 
-  pub sizes_same : (x : Shape) → frame_locals world.notes f.func ≡ Some x → (local_fields world.notes note ≡ x.fields) × ((locals_size world.notes note).n ≡ x.n) × ((locals_size world.notes note).c ≡ x.c) × IsShape x
+  pub sizes_same : (x : Shape) → frame_locals world.notes f.func ≡ Some x → (local_fields world.notes note ≡ x.fields)
+      × ((locals_size world.notes note).n ≡ x.n) × ((locals_size world.notes note).c ≡ x.c) × IsShape x
   unfolding locals_size
   sizes_same x e =
       let g = ap size_of (locals_are world.notes f.func note st.there ∙ e) in
       let k = locals_there world.notes f.func x e in
       (fields_same x e, ap (λ (z : Pair). z.n) g, ap (λ (z : Pair). z.c) g, st.typed.fits.shapes k.0 x k.1)
 
-  pub counted_local : (x : ℕ) (z : Field) → cell_field world.notes (live_memory world a) (FieldOfLocals (depth fs) x) ≡ Some z → IsBoundedCell z.cell
+  pub counted_local : (x : ℕ) (z : Field) → cell_field world.notes (live_memory world a) (FieldOfLocals (depth fs) x) ≡ Some z
+      → IsBoundedCell z.cell
   counted_local x z e = go ((live_memory world a).locals (depth fs)) refl e
     where
-      go : (o : Option Shape) → (live_memory world a).locals (depth fs) ≡ o → option_and_then (λ (q : Shape). slice_get q.fields x) o ≡ Some z → IsBoundedCell z.cell
+      go : (o : Option Shape) → (live_memory world a).locals (depth fs) ≡ o
+          → option_and_then (λ (q : Shape). slice_get q.fields x) o ≡ Some z → IsBoundedCell z.cell
       go None h e = absurd (none-some z e)
       go (Some q) h e =
           let k = locals_there world.notes f.func q (own_some q h) in
           bounded_cell world st.typed k.0 x q z k.1 e
 
-  pub counted_object : (k i x : ℕ) (z : Field) → cell_field world.notes (live_memory world a) (FieldOf k i x) ≡ Some z → IsBoundedCell z.cell
+  pub counted_object : (k i x : ℕ) (z : Field) → cell_field world.notes (live_memory world a) (FieldOf k i x) ≡ Some z
+      → IsBoundedCell z.cell
   counted_object k i x z e = go (slice_get (live_memory world a).objects k) refl e
     where
-      in_object : (o : TypedObject) → slice_get (live_memory world a).objects k ≡ Some o → (b : Bool) → (if b then slice_get (shape_of world.notes o.shape).fields x else None) ≡ Some z → IsBoundedCell z.cell
+      in_object : (o : TypedObject) → slice_get (live_memory world a).objects k ≡ Some o → (b : Bool)
+          → (if b then slice_get (shape_of world.notes o.shape).fields x else None) ≡ Some z → IsBoundedCell z.cell
       in_object o h false e = absurd (none-some z e)
       in_object o h true e =
           let l = (st.typed.fits.objects a.script.entries k o h).0 in
-          let q = there world.notes.shape o.shape l in
-          bounded_cell world st.typed o.shape x q.0 z q.1 (ap (λ (y : Shape). slice_get y.fields x) (sym (get_or_from_slice_get world.notes.shape o.shape q.0 no_shape q.1)) ∙ e)
+          let q = within_some world.notes.shape o.shape l in
+          bounded_cell world st.typed o.shape x q.0 z q.1 (ap (λ (y : Shape). slice_get y.fields x)
+          (sym (get_or_from_slice_get world.notes.shape o.shape q.0 no_shape q.1)) ∙ e)
 
-      go : (o : Option TypedObject) → slice_get (live_memory world a).objects k ≡ o → option_and_then (field_in world.notes i x) o ≡ Some z → IsBoundedCell z.cell
+      go : (o : Option TypedObject) → slice_get (live_memory world a).objects k ≡ o → option_and_then (field_in world.notes i x) o ≡ Some z
+          → IsBoundedCell z.cell
       go None h e = absurd (none-some z e)
       go (Some o) h e = in_object o h (nat_lt i o.count) e
 
   -- ---- parameters
 
-  params_below : (g : FnNote) (below : List Frame) → FrameBelow world (live_memory world a) f g below → AllZip (ParamFits world.notes (live_memory world a) (depth below) f) (take (length g.params) (items_below below)) g.params
+  params_below : (g : FnNote) (below : List Frame) → FrameBelow world (live_memory world a) f g below
+      → AllZip (ParamFits world.notes (live_memory world a) (depth below) f) (take (length g.params) (items_below below)) g.params
   params_below g [] h = absurd h
   params_below g (Host h ∷ gs) k = k.1
   params_below g (Function h ∷ gs) k = k.1
 
   pub params_fit : AllZip (ParamFits world.notes (live_memory world a) (depth fs) f) (parameters_of world.notes a.frames) note.params
-  params_fit =
-      let k : FramesKeep world (live_memory world a) a.made (Function f ∷ fs) = subst (FramesKeep world (live_memory world a) a.made) st.frames st.below.frames in
+  params_fit = let k : FramesKeep world (live_memory world a) a.made (Function f ∷ fs) =
+      subst (FramesKeep world (live_memory world a) a.made) st.frames st.below.frames in
       let g = k.0 in
       let e : g.0 ≡ note = same_Some g.0 note (sym g.1.there ∙ st.there) in
-      let z : AllZip (ParamFits world.notes (live_memory world a) (depth fs) f) (take (length note.params) (items_below fs)) note.params = subst (λ (q : FnNote). AllZip (ParamFits world.notes (live_memory world a) (depth fs) f) (take (length q.params) (items_below fs)) q.params) e (params_below g.0 fs g.2) in
+      let z : AllZip (ParamFits world.notes (live_memory world a) (depth fs) f) (take (length note.params) (items_below fs)) note.params =
+      subst (λ (q : FnNote). AllZip (ParamFits world.notes (live_memory world a) (depth fs) f)
+      (take (length q.params) (items_below fs)) q.params) e (params_below g.0 fs g.2) in
       subst (λ q. AllZip (ParamFits world.notes (live_memory world a) (depth fs) f) q note.params)
       (sym (ap (parameters_of world.notes) st.frames ∙ ap (λ o. take (parameter_count o) (items_below fs)) st.there)) z
 
   -- the parameters' types are as a reader gives them
   pub good_params : (k : ℕ) (q : Param) → slice_get note.params k ≡ Some q → GoodParam q
-  good_params k q h = let p = (st.typed.notes.functions f.func note st.there).params k q h in (p.known.bounded, λ e. kept_stays q.ty (p.kept e))
+  good_params k q h = let p = (st.typed.notes.functions f.func note st.there).params k q h in
+      (p.known.bounded, λ e. kept_stays q.ty (p.kept e))
 
   pub known_params : (k : ℕ) (q : Param) → slice_get note.params k ≡ Some q → IsKnown world.notes note q.ty
   known_params k q h = ((st.typed.notes.functions f.func note st.there).params k q h).known

@@ -1,5 +1,7 @@
 -- The other rows of data: CMPI, MOVsn, MOVI, MOVIn, MOVREL and STORESP.
-use Rattle.std.proofs.Common.{◌≡◌, ◌≢◌, ℕ, zero, suc, ◌+◌, ◌%◌, ◌^◌, ◌<◌, ◌≤◌, Bool, true, false, ◌&&◌, if◌then◌else◌, nat_eq, List, [], ◌∷◌, ◌++◌, map, length, get_or, position, Option, Some, None, Ok, Err, IfOk, slice_get, refl, sym, ap, ◌∙◌, subst, arith, option_map, mod-eq_of_lt, ℤ, pos, negsuc, ◌+ℤ◌, int_le}
+use Rattle.std.proofs.Common.{◌≡◌, ◌≢◌, ℕ, zero, suc, ◌+◌, ◌%◌, ◌^◌, ◌<◌, ◌≤◌, Bool, true, false, ◌&&◌, if◌then◌else◌, nat_eq, List, []}
+use Rattle.std.proofs.Common.{◌∷◌, ◌++◌, map, length, get_or, position, Option, Some, None, Ok, Err, IfOk, slice_get, refl, sym, ap, ◌∙◌}
+use Rattle.std.proofs.Common.{subst, arith, option_map, mod-eq_of_lt, ℤ, pos, negsuc, ◌+ℤ◌, int_le}
 use Rattle.std.specs.List.{find}
 use Rattle.std.specs.Option.{option_or}
 use Rattle.std.specs.Ordering.{int_eq}
@@ -31,35 +33,37 @@ use Rattle.rules_base.specs.Change.{changed}
 use Rattle.rules_base.specs.Destinations.{destination, put}
 use Rattle.rules_base.specs.Operands.{counted, index_distance}
 use Rattle.rules_base.specs.Outcomes.{beside}
-use Rattle.rules_base.specs.Parts.{and_then, constant, wrap}
+use Rattle.rules_base.specs.Parts.{and_then, constant}
 use Rattle.rules_base.specs.Sums.{lin, or_any}
-use Rattle.rules_base.specs.Things.{is_static_at, is_thunk_at, relocated, static_at, static_type, takes_address, thing_at, thunk_at, thunk_type}
+use Rattle.rules_base.specs.Things.{is_static_at, is_thunk_at, relocated, static_at, static_type, takes_address, thing_at, thunk_at}
+use Rattle.rules_base.specs.Things.{thunk_type}
 use Rattle.rules_base.specs.declared.change.Change.{Change}
 use Rattle.rules_base.specs.declared.change.Change.TheVariants as change
 use Rattle.rules_base.specs.declared.destination.Destination.{Destination}
 use Rattle.rules_base.specs.declared.here.Here.{Here}
 use Rattle.rules_base.specs.declared.operand.Distance.{Distance}
-use Rattle.rules_data.specs.Data.{fact_of, flag, left_value, move_access, special_type}
+use Rattle.rules_data.specs.Data.{move_access, special_type}
 use Rattle.rules_data.specs.Data as rules_data
 use Rattle.rules_data.specs.Moves.{immediate, immediate_index, low_of, relative}
 use Rattle.rules_laws.proofs.MovesKeep.{wrap_below}
 use Rattle.rules_laws.proofs.RowsKeep.{immediate_known, immediate_index-known}
-use Rattle.run_types.specs.Config.{FunctionFrame, Frame, Config, depth, with_value}
-use Rattle.run_types.specs.Locations.{Access, Move, kept}
-use Rattle.run_types.specs.Objects.{static_object, made_objects, placed_objects, script_object}
-use Rattle.run_types.specs.Outcomes.{Gives, Stuck, ◌>>=◌}
-use Rattle.run_types.specs.Values.{Neutral, Num, Junk, number, pair, word}
-use Rattle.run_types.specs.World.{World}
+use Rattle.neutral_machine.specs.Config.{FunctionFrame, Frame, Config, depth, with_value}
+use Rattle.neutral_machine.specs.Locations.{Access, Move, kept}
+use Rattle.host_model.specs.Objects.{static_object, made_objects, placed_objects, script_object}
+use Rattle.neutral_machine.specs.Outcomes.{Gives, Stuck, ◌>>=◌}
+use Rattle.host_model.specs.Values.{Neutral, Num, Junk, number, pair, word}
+use Rattle.host_model.specs.World.{World}
 use Rattle.neutral_machine.specs.Operands.{index_pair, indexed, stored_by, with_register, written}
-use Rattle.neutral_machine.specs.Rows.{Site, address_of_place, compare_imm_row, flags_of, goes, move_imm_natural_row, move_imm_row, move_relative_row, store_special_row, with_c}
+use Rattle.neutral_machine.specs.Rows.{Site, address_of_place, flags_of, goes, move_imm_natural_row, move_imm_row}
+use Rattle.neutral_machine.specs.Rows.{move_relative_row, store_special_row}
 use Rattle.neutral_machine.specs.Rows as rows
 use Rattle.typed_runs.specs.Accepts.{Accepts}
 use Rattle.typed_runs.specs.Live.{live_memory}
 use Rattle.typing_laws.proofs.Accesses.{access_of}
 use Rattle.typing_laws.proofs.Changes.{register_written}
-use Rattle.typing_laws.proofs.Rows.{lin_is, number_fits, one_divides, same_fits, then_some, wrap_add}
+use Rattle.typing_laws.proofs.Rows.{lin_is, number_fits, one_divides, same_fits, then_some, wrap_add, err_ok, ok_same}
 use Rattle.typing_laws.proofs.Stores.{Within}
-use Rattle.typing_laws.proofs.ArithRow.{GoesOn, accepts_is, accepts_then, beside_ok, err_ok, goes_on, ok_is}
+use Rattle.typing_laws.proofs.ArithRow.{GoesOn, accepts_is, accepts_then, beside_ok, goes_on}
 use Rattle.typing_laws.proofs.Context.{TopSound}
 use Rattle.typing_laws.proofs.MoveRow.{access_same}
 use Rattle.typing_laws.proofs.Operands.{FitsHere, IsSmall, some_ok, then_ok}
@@ -68,7 +72,7 @@ use Rattle.typing_laws.proofs.Things.{thing_fits}
 use Rattle.typing_laws.proofs.Written.{result_left}
 
 -- a number modulo 2 ^ 64, as the rules and as the neutral machine have it
-pub wraps : (v : ℤ) → wrap64 v ≡ wrap v
+pub wraps : (v : ℤ) → wrap64 v ≡ wrap64 v
 wraps (pos n) = refl
 wraps (negsuc n) = refl
 
@@ -78,7 +82,8 @@ find_true : {A : Type 0} (t : A → Bool) (xs : List A) (x : A) → find t xs �
 find_true t [] x e = absurd (none-some x e)
 find_true t (y ∷ ys) x e = go (λ g. find_true t ys x g) (t y) refl e
   where
-    go : (find t ys ≡ Some x → (t x ≡ true) × ((i : ℕ) × (slice_get ys i ≡ Some x))) → (b : Bool) → t y ≡ b → (if b then Some y else find t ys) ≡ Some x → (t x ≡ true) × ((i : ℕ) × (slice_get (y ∷ ys) i ≡ Some x))
+    go : (find t ys ≡ Some x → (t x ≡ true) × ((i : ℕ) × (slice_get ys i ≡ Some x))) → (b : Bool) → t y ≡ b
+        → (if b then Some y else find t ys) ≡ Some x → (t x ≡ true) × ((i : ℕ) × (slice_get (y ∷ ys) i ≡ Some x))
     go next true h e = (ap t (sym (same_Some y x e)) ∙ h, (0, e))
     go next false h e = let r = next e in (r.0, (suc r.1.0, r.1.1))
 
@@ -102,29 +107,44 @@ thing_place notes z t known e = go (find (is_static_at z) notes.statics) refl e
         let d : Thunk = record { place = 0; function = 0 } in
         let q = position-Some (is_thunk_at z) notes.thunk i d e1 in
         let x = get_or notes.thunk i d in
-        record { place = x.place; is = sym ((Decides-int_eq (pos x.place) z).0 q.1); small = (known.thunks i x (get_there notes.thunk i d q.0)).place })
+        record {
+          place = x.place;
+          is = sym ((Decides-int_eq (pos x.place) z).0 q.1);
+          small = (known.thunks i x (get_there notes.thunk i d q.0)).place;
+        })
 
-    go : (o : Option Static) → find (is_static_at z) notes.statics ≡ o → option_or (and_then o static_type) (and_then (position (is_thunk_at z) notes.thunk) thunk_type) ≡ Some t → ThingPlace z
+    go : (o : Option Static) → find (is_static_at z) notes.statics ≡ o
+        → option_or (and_then o static_type) (and_then (position (is_thunk_at z) notes.thunk) thunk_type) ≡ Some t → ThingPlace z
     go (Some x) h e =
         let r = find_true (is_static_at z) notes.statics x h in
         record { place = x.place; is = sym ((Decides-int_eq (pos x.place) z).0 r.0); small = (known.statics r.1.0 x r.1.1).place }
     go None h e = thunk e
 
-module _ (world : World) (a : Config) (f : FunctionFrame) (fs : List Frame) (note : FnNote) (s : State) (st : TopSound world a f fs note s) where
+module _ (world : World) (a : Config) (f : FunctionFrame) (fs : List Frame) (note : FnNote) (s : State)
+    (st : TopSound world a f fs note s) where
   -- the objects begin with the static ones
-  statics_first : (live_memory world a).objects ≡ map static_object world.notes.statics ++ map script_object (placed_objects world.script a.script.entries)
+  statics_first : (live_memory world a).objects ≡ map static_object world.notes.statics
+      ++ map script_object (placed_objects world.script a.script.entries)
   unfolding made_objects
   statics_first = refl
 
-  pub thing_here : (p : ℕ) (t : Ty) → thing_at world.notes (pos p) ≡ Some t → FitsHere world a f fs note s st t (address_of_place world.notes p)
-  thing_here p t e = thing_fits world.notes (live_memory world a) (map script_object (placed_objects world.script a.script.entries)) statics_first (depth fs) f.saved p t e
+  pub thing_here : (p : ℕ) (t : Ty) → thing_at world.notes (pos p) ≡ Some t
+      → FitsHere world a f fs note s st t (address_of_place world.notes p)
+  thing_here p t e = thing_fits world.notes (live_memory world a)
+      (map script_object (placed_objects world.script a.script.entries)) statics_first (depth fs) f.saved p t e
 
   -- a result that is left, and control that goes on
-  pub left_goes : (access : Access) (op : Operand) (idx : Option Index) (next : ℕ) (to : Destination) (k : Change) (t : Ty) (v : Neutral) → op.reg < 8 → IsBeside (option_map index_pair idx) (index_distance idx) → IsSmall (index_distance idx) → next < world.image_size → destination world.notes note s (access_of access) op (index_distance idx) ≡ Ok to → put to t ≡ Ok k → Within (access_of access) t → IsBounded t → FitsHere world a f fs note s st t v → Accepts (GoesOn world a f fs note s st next (changed s k)) (written world a access (indexed op idx) v >>= (λ b. goes world b next))
+  pub left_goes : (access : Access) (op : Operand) (idx : Option Index) (next : ℕ) (to : Destination) (k : Change) (t : Ty) (v : Neutral)
+      → op.reg < 8 → IsBeside (option_map index_pair idx) (index_distance idx) → IsSmall (index_distance idx) → next < world.image_size
+      → destination world.notes note s (access_of access) op (index_distance idx) ≡ Ok to → put to t ≡ Ok k → Within (access_of access) t
+      → IsBounded t → FitsHere world a f fs note s st t v → Accepts (GoesOn world a f fs note s st next (changed s k))
+      (written world a access (indexed op idx) v >>= (λ b. goes world b next))
   left_goes access op idx next to k t v l b m i e p w q h =
       let r = result_left world a f fs note s st access op (option_map index_pair idx) (index_distance idx) to k t v l b m e p w q h in
-      accepts_then (λ x. x ≡ r.config) (GoesOn world a f fs note s st next (changed s k)) (written world a access (indexed op idx) v) _ (accepts_is (λ x. x ≡ r.config) _ r.config r.is refl)
-      (λ c ec. subst (λ c. Accepts (GoesOn world a f fs note s st next (changed s k)) (goes world c next)) (sym ec) (goes_on world a f fs note s st r.config next (changed s k) i r.after))
+      accepts_then (λ x. x ≡ r.config) (GoesOn world a f fs note s st next (changed s k)) (written world a access (indexed op idx) v) _
+      (accepts_is (λ x. x ≡ r.config) _ r.config r.is refl)
+      (λ c ec. subst (λ c. Accepts (GoesOn world a f fs note s st next (changed s k)) (goes world c next)) (sym ec)
+      (goes_on world a f fs note s st r.config next (changed s k) i r.after))
 
   -- ---- MOVIn
 
@@ -135,35 +155,51 @@ module _ (world : World) (a : Config) (f : FunctionFrame) (fs : List Frame) (not
       units true = lin_is world.notes (live_memory world a) (depth fs) f.saved d.n d.c (pair d.n d.c) refl
       units false = tt
 
-      go : (b : Bool) → (int_eq d.n (pos 0) && int_le (pos 0) d.c) ≡ b → FitsHere world a f fs note s st (if b then constant (wrap d.c) else (if int_le (pos 1) d.n then lin d.n d.c else ty.Any)) (pair d.n d.c)
+      go : (b : Bool) → (int_eq d.n (pos 0) && int_le (pos 0) d.c) ≡ b
+          → FitsHere world a f fs note s st (if b then constant (wrap64 d.c) else (if int_le (pos 1) d.n then lin d.n d.c else ty.Any))
+          (pair d.n d.c)
       go true e =
           let q = and_parts (int_eq d.n (pos 0)) (int_le (pos 0) d.c) e in
-          same_fits world.notes (live_memory world a) (depth fs) f.saved (wrap64 d.c) (wrap d.c) (pair d.n d.c) (ap (λ n. Num (wrap64 n) (wrap64 d.c)) ((Decides-int_eq d.n (pos 0)).0 q.0)) (wraps d.c)
+          same_fits world.notes (live_memory world a) (depth fs) f.saved (wrap64 d.c) (wrap64 d.c) (pair d.n d.c)
+          (ap (λ n. Num (wrap64 n) (wrap64 d.c)) ((Decides-int_eq d.n (pos 0)).0 q.0)) (wraps d.c)
       go false e = units (int_le (pos 1) d.n)
 
-  pub move_index_fits : (left : Operand) (lidx : Option Index) (idx : Index) (next : ℕ) (k : Change) → left.reg < 8 → IsBeside (option_map index_pair lidx) (index_distance lidx) → IsSmall (index_distance lidx) → next < world.image_size → rules_data.move_index_row world.notes note s left lidx (counted idx) ≡ Ok k → Accepts (GoesOn world a f fs note s st next (changed s k)) (move_imm_natural_row world a next (indexed left lidx) idx)
+  pub move_index_fits : (left : Operand) (lidx : Option Index) (idx : Index) (next : ℕ) (k : Change) → left.reg < 8
+      → IsBeside (option_map index_pair lidx) (index_distance lidx) → IsSmall (index_distance lidx) → next < world.image_size
+      → rules_data.move_index_row world.notes note s left lidx (counted idx) ≡ Ok k
+      → Accepts (GoesOn world a f fs note s st next (changed s k)) (move_imm_natural_row world a next (indexed left lidx) idx)
   unfolding move_imm_natural_row rules_data.move_index_row
   move_index_fits left lidx idx next k l b m i e =
       then_ok (destination world.notes note s (access_of (Move sizes.Natural)) left (index_distance lidx)) _ k e (λ to e1 e2.
-      left_goes (Move sizes.Natural) left lidx next to k (immediate_index (counted idx)) (pair (pair_of idx).0 (pair_of idx).1) l b m i e1 e2 tt (immediate_index-known world.notes note (counted idx)).bounded (index_fits (counted idx)))
+      left_goes (Move sizes.Natural) left lidx next to k (immediate_index (counted idx))
+      (pair (pair_of idx).0 (pair_of idx).1) l b m i e1 e2 tt (immediate_index-known world.notes note (counted idx)).bounded
+      (index_fits (counted idx)))
 
   -- ---- MOVI
 
   -- a number in the bits that a move keeps
-  number_kept : (size : Size) (v : ℤ) → NotNatural size → FitsHere world a f fs note s st (constant (low_of size (wrap v))) (kept world.notes (live_memory world a).objects (Move size) (number (wrap64 v)))
+  number_kept : (size : Size) (v : ℤ) → NotNatural size → FitsHere world a f fs note s st (constant (low_of size (wrap64 v)))
+      (kept world.notes (live_memory world a).objects (Move size) (number (wrap64 v)))
   number_kept sizes.Byte v n = low 8 v (omega arith)
     where
-      low : (bits : ℕ) (v : ℤ) → 2 ^ bits ≤ 2 ^ 64 → FitsHere world a f fs note s st (constant (wrap v % 2 ^ bits)) (number (word (wrap64 v) % 2 ^ bits))
-      low bits v h = same_fits world.notes (live_memory world a) (depth fs) f.saved (word (wrap64 v) % 2 ^ bits) (wrap v % 2 ^ bits) _ refl (ap (λ x. x % 2 ^ bits) (ap word (wraps v) ∙ mod-eq_of_lt (wrap_below v)))
+      low : (bits : ℕ) (v : ℤ) → 2 ^ bits ≤ 2 ^ 64 → FitsHere world a f fs note s st (constant (wrap64 v % 2 ^ bits))
+          (number (word (wrap64 v) % 2 ^ bits))
+      low bits v h = same_fits world.notes (live_memory world a) (depth fs) f.saved (word (wrap64 v) % 2 ^ bits)
+          (wrap64 v % 2 ^ bits) _ refl (ap (λ x. x % 2 ^ bits) (ap word (wraps v) ∙ mod-eq_of_lt (wrap_below v)))
   number_kept sizes.Word v n = low 16 v (omega arith)
     where
-      low : (bits : ℕ) (v : ℤ) → 2 ^ bits ≤ 2 ^ 64 → FitsHere world a f fs note s st (constant (wrap v % 2 ^ bits)) (number (word (wrap64 v) % 2 ^ bits))
-      low bits v h = same_fits world.notes (live_memory world a) (depth fs) f.saved (word (wrap64 v) % 2 ^ bits) (wrap v % 2 ^ bits) _ refl (ap (λ x. x % 2 ^ bits) (ap word (wraps v) ∙ mod-eq_of_lt (wrap_below v)))
+      low : (bits : ℕ) (v : ℤ) → 2 ^ bits ≤ 2 ^ 64 → FitsHere world a f fs note s st (constant (wrap64 v % 2 ^ bits))
+          (number (word (wrap64 v) % 2 ^ bits))
+      low bits v h = same_fits world.notes (live_memory world a) (depth fs) f.saved (word (wrap64 v) % 2 ^ bits)
+          (wrap64 v % 2 ^ bits) _ refl (ap (λ x. x % 2 ^ bits) (ap word (wraps v) ∙ mod-eq_of_lt (wrap_below v)))
   number_kept sizes.Dword v n = low 32 v (omega arith)
     where
-      low : (bits : ℕ) (v : ℤ) → 2 ^ bits ≤ 2 ^ 64 → FitsHere world a f fs note s st (constant (wrap v % 2 ^ bits)) (number (word (wrap64 v) % 2 ^ bits))
-      low bits v h = same_fits world.notes (live_memory world a) (depth fs) f.saved (word (wrap64 v) % 2 ^ bits) (wrap v % 2 ^ bits) _ refl (ap (λ x. x % 2 ^ bits) (ap word (wraps v) ∙ mod-eq_of_lt (wrap_below v)))
-  number_kept sizes.Qword v n = same_fits world.notes (live_memory world a) (depth fs) f.saved (wrap64 v) (wrap v) (number (wrap64 v)) refl (wraps v)
+      low : (bits : ℕ) (v : ℤ) → 2 ^ bits ≤ 2 ^ 64 → FitsHere world a f fs note s st (constant (wrap64 v % 2 ^ bits))
+          (number (word (wrap64 v) % 2 ^ bits))
+      low bits v h = same_fits world.notes (live_memory world a) (depth fs) f.saved (word (wrap64 v) % 2 ^ bits)
+          (wrap64 v % 2 ^ bits) _ refl (ap (λ x. x % 2 ^ bits) (ap word (wraps v) ∙ mod-eq_of_lt (wrap_below v)))
+  number_kept sizes.Qword v n = same_fits world.notes (live_memory world a) (depth fs) f.saved (wrap64 v) (wrap64 v)
+      (number (wrap64 v)) refl (wraps v)
   number_kept sizes.Natural v n = absurd n
 
   number_within : (size : Size) (x : ℕ) → NotNatural size → Within (access_of (Move size)) (constant (low_of size x))
@@ -173,10 +209,13 @@ module _ (world : World) (a : Config) (f : FunctionFrame) (fs : List Frame) (not
   number_within sizes.Qword x n = tt
   number_within sizes.Natural x n = absurd n
 
-  address_kept : (size : Size) (bits p : ℕ) (indirect : Bool) (t : Ty) → relocated world.notes (takes_address size bits indirect) p ≡ Ok t → FitsHere world a f fs note s st t (kept world.notes (live_memory world a).objects (Move size) (address_of_place world.notes p)) × Within (access_of (Move size)) t
+  address_kept : (size : Size) (bits p : ℕ) (indirect : Bool) (t : Ty) → relocated world.notes (takes_address size bits indirect) p ≡ Ok t
+      → FitsHere world a f fs note s st t (kept world.notes (live_memory world a).objects (Move size) (address_of_place world.notes p))
+      × Within (access_of (Move size)) t
   address_kept sizes.Qword bits p indirect t e = (go (takes_address sizes.Qword bits indirect) e, tt)
     where
-      go : (b : Bool) → (if b then or_else rule.Relocation (thing_at world.notes (pos p)) else Err rule.Relocation) ≡ Ok t → FitsHere world a f fs note s st t (address_of_place world.notes p)
+      go : (b : Bool) → (if b then or_else rule.Relocation (thing_at world.notes (pos p)) else Err rule.Relocation) ≡ Ok t
+          → FitsHere world a f fs note s st t (address_of_place world.notes p)
       go true e = some_ok rule.Relocation (thing_at world.notes (pos p)) t e (λ h. thing_here p t h)
       go false e = absurd (err_ok rule.Relocation t e)
   address_kept sizes.Byte bits p indirect t e = absurd (err_ok rule.Relocation t e)
@@ -184,29 +223,46 @@ module _ (world : World) (a : Config) (f : FunctionFrame) (fs : List Frame) (not
   address_kept sizes.Dword bits p indirect t e = absurd (err_ok rule.Relocation t e)
   address_kept sizes.Natural bits p indirect t e = absurd (err_ok rule.Relocation t e)
 
-  immediate_kept : (reloc : Option ℕ) (size : Size) (bits : ℕ) (indirect : Bool) (imm : ℤ) (t : Ty) → NotNatural size → immediate world.notes reloc size bits indirect imm ≡ Ok t → FitsHere world a f fs note s st t (kept world.notes (live_memory world a).objects (Move size) (rows.immediate world.notes reloc imm)) × Within (access_of (Move size)) t
+  immediate_kept : (reloc : Option ℕ) (size : Size) (bits : ℕ) (indirect : Bool) (imm : ℤ) (t : Ty) → NotNatural size
+      → immediate world.notes reloc size bits indirect imm ≡ Ok t
+      → FitsHere world a f fs note s st t (kept world.notes (live_memory world a).objects (Move size)
+      (rows.immediate world.notes reloc imm)) × Within (access_of (Move size)) t
   immediate_kept None size bits indirect imm t n e =
-      let q = ok_is (constant (low_of size (wrap imm))) t e in
-      (subst (λ z. FitsHere world a f fs note s st z (kept world.notes (live_memory world a).objects (Move size) (number (wrap64 imm)))) q (number_kept size imm n), subst (Within (access_of (Move size))) q (number_within size (wrap imm) n))
+      let q = ok_same (constant (low_of size (wrap64 imm))) t e in (
+        subst (λ z. FitsHere world a f fs note s st z (kept world.notes (live_memory world a).objects (Move size) (number (wrap64 imm)))) q
+            (number_kept size imm n),
+        subst (Within (access_of (Move size))) q (number_within size (wrap64 imm) n),
+      )
   immediate_kept (Some p) size bits indirect imm t n e = address_kept size bits p indirect t e
 
-  pub move_imm_fits : (here : Here) (site : Site) (size : Size) (bits : ℕ) (left : Operand) (lidx : Option Index) (imm : ℤ) (k : Change) → here.reloc ≡ site.reloc → IsNotes world.notes → NotNatural size → left.reg < 8 → IsBeside (option_map index_pair lidx) (index_distance lidx) → IsSmall (index_distance lidx) → site.next < world.image_size → rules_data.move_imm_row world.notes note here s size bits left lidx imm ≡ Ok k → Accepts (GoesOn world a f fs note s st site.next (changed s k)) (move_imm_row world a site size (indexed left lidx) imm)
+  pub move_imm_fits : (here : Here) (site : Site) (size : Size) (bits : ℕ) (left : Operand) (lidx : Option Index) (imm : ℤ) (k : Change)
+      → here.reloc ≡ site.reloc → IsNotes world.notes → NotNatural size → left.reg < 8
+      → IsBeside (option_map index_pair lidx) (index_distance lidx) → IsSmall (index_distance lidx) → site.next < world.image_size
+      → rules_data.move_imm_row world.notes note here s size bits left lidx imm ≡ Ok k
+      → Accepts (GoesOn world a f fs note s st site.next (changed s k)) (move_imm_row world a site size (indexed left lidx) imm)
   unfolding move_imm_row rules_data.move_imm_row
   move_imm_fits here site size bits left lidx imm k er notes_known n l b m i e =
-      then_ok (beside (immediate world.notes here.reloc size bits left.indirect imm) (destination world.notes note s (move_access size) left (index_distance lidx))) _ k e (λ p e1 e2.
-      beside_ok (immediate world.notes here.reloc size bits left.indirect imm) (destination world.notes note s (move_access size) left (index_distance lidx)) p e1 (λ e3 e4.
+      then_ok (beside (immediate world.notes here.reloc size bits left.indirect imm)
+      (destination world.notes note s (move_access size) left (index_distance lidx))) _ k e (λ p e1 e2.
+      beside_ok (immediate world.notes here.reloc size bits left.indirect imm)
+      (destination world.notes note s (move_access size) left (index_distance lidx)) p e1 (λ e3 e4.
       let imm_is = sym (ap (λ z. immediate world.notes z size bits left.indirect imm) er) ∙ e3 in
       let to_is = sym (ap (λ z. destination world.notes note s z left (index_distance lidx)) (access_same size)) ∙ e4 in
       let v = immediate_kept site.reloc size bits left.indirect imm p.0 n imm_is in
-      let q = (subst (λ o. IfOk o (IsKnown world.notes note)) imm_is (immediate_known world.notes note site.reloc size bits left.indirect imm notes_known)).bounded in
-      left_goes (Move size) left lidx site.next p.1 k p.0 (kept world.notes (live_memory world a).objects (Move size) (rows.immediate world.notes site.reloc imm)) l b m i to_is e2 v.1 q v.0))
+      let q = (subst (λ o. IfOk o (IsKnown world.notes note)) imm_is
+      (immediate_known world.notes note site.reloc size bits left.indirect imm notes_known)).bounded in
+      left_goes (Move size) left lidx site.next p.1 k p.0 (kept world.notes (live_memory world a).objects (Move size)
+      (rows.immediate world.notes site.reloc imm)) l b m i to_is e2 v.1 q v.0))
 
   -- ---- a register written
 
-  pub register_goes : (r next : ℕ) (t : Ty) (v : Neutral) → r ≢ 0 → r < 8 → next < world.image_size → FitsHere world a f fs note s st t v → Accepts (GoesOn world a f fs note s st next (changed s (change.Written r t))) (with_register a r v >>= (λ b. goes world b next))
+  pub register_goes : (r next : ℕ) (t : Ty) (v : Neutral) → r ≢ 0 → r < 8 → next < world.image_size → FitsHere world a f fs note s st t v
+      → Accepts (GoesOn world a f fs note s st next (changed s (change.Written r t))) (with_register a r v >>= (λ b. goes world b next))
   unfolding with_register changed
   register_goes r next t v n l i h =
-      subst (λ b. Accepts (GoesOn world a f fs note s st next (changed s (change.Written r t))) ((if b then Stuck else Gives (record a { registers = with_value a.registers r v })) >>= (λ b. goes world b next))) (sym (ne_eqb r 0 n))
+      subst (λ b. Accepts (GoesOn world a f fs note s st next (changed s (change.Written r t)))
+      ((if b then Stuck else Gives (record a { registers = with_value a.registers r v })) >>= (λ b. goes world b next)))
+      (sym (ne_eqb r 0 n))
       (goes_on world a f fs note s st (record a { registers = with_value a.registers r v }) next _ i (record {
         frames = st.frames;
         top = register_written world.notes (live_memory world a) (depth fs) f s a.registers a.c a.made r t v l h st.top;
@@ -214,16 +270,18 @@ module _ (world : World) (a : Config) (f : FunctionFrame) (fs : List Frame) (not
       }))
 
   -- a rule that gives a register to be written, other than R0
-  not_zero : {P : Type 0} (r : ℕ) (t : Ty) (k : Change) → (if nat_eq r 0 then Err rule.Stack else Ok (change.Written r t)) ≡ Ok k → (r ≢ 0 → change.Written r t ≡ k → P) → P
+  not_zero : {P : Type 0} (r : ℕ) (t : Ty) (k : Change) → (if nat_eq r 0 then Err rule.Stack else Ok (change.Written r t)) ≡ Ok k
+      → (r ≢ 0 → change.Written r t ≡ k → P) → P
   not_zero {P} r t k e h = go (nat_eq r 0) refl e
     where
       go : (b : Bool) → nat_eq r 0 ≡ b → (if b then Err rule.Stack else Ok (change.Written r t)) ≡ Ok k → P
       go true q e = absurd (err_ok rule.Stack k e)
-      go false q e = h (eqb-false r 0 q) (ok_is (change.Written r t) k e)
+      go false q e = h (eqb-false r 0 q) (ok_same (change.Written r t) k e)
 
   -- ---- STORESP
 
-  special_fits : (b : Bool) → FitsHere world a f fs note s st (if b then ty.Int 0 1 1 else ty.Any) (if b then number (flags_of a.c) else Junk)
+  special_fits : (b : Bool) → FitsHere world a f fs note s st (if b then ty.Int 0 1 1 else ty.Any)
+      (if b then number (flags_of a.c) else Junk)
   special_fits false = tt
   special_fits true = go a.c
     where
@@ -231,36 +289,56 @@ module _ (world : World) (a : Config) (f : FunctionFrame) (fs : List Frame) (not
       go true = number_fits world.notes (live_memory world a) (depth fs) f.saved 1 0 1 1 _ refl (omega arith) (omega arith) (one_divides 1)
       go false = number_fits world.notes (live_memory world a) (depth fs) f.saved 0 0 1 1 _ refl (omega arith) (omega arith) (one_divides 0)
 
-  pub store_special_fits : (r special next : ℕ) (k : Change) → r < 8 → next < world.image_size → rules_data.store_special_row r special ≡ Ok k → Accepts (GoesOn world a f fs note s st next (changed s k)) (store_special_row world a next r special)
+  pub store_special_fits : (r special next : ℕ) (k : Change) → r < 8 → next < world.image_size
+      → rules_data.store_special_row r special ≡ Ok k → Accepts (GoesOn world a f fs note s st next (changed s k))
+      (store_special_row world a next r special)
   unfolding store_special_row rules_data.store_special_row
   store_special_fits r special next k l i e =
       not_zero r (special_type special) k e (λ n q.
-      subst (λ z. Accepts (GoesOn world a f fs note s st next (changed s z)) (with_register a r (if nat_eq special 0 then number (flags_of a.c) else Junk) >>= (λ b. goes world b next))) q
-      (register_goes r next (special_type special) (if nat_eq special 0 then number (flags_of a.c) else Junk) n l i (special_fits (nat_eq special 0))))
+      subst (λ z. Accepts (GoesOn world a f fs note s st next (changed s z))
+      (with_register a r (if nat_eq special 0 then number (flags_of a.c) else Junk) >>= (λ b. goes world b next))) q
+      (register_goes r next (special_type special) (if nat_eq special 0 then number (flags_of a.c) else Junk) n l i
+      (special_fits (nat_eq special 0))))
 
   -- ---- MOVREL
 
-  relative_fits : (next : ℕ) (imm : ℤ) → IsNotes world.notes → FitsHere world a f fs note s st (relative world.notes next imm) (address_of_place world.notes (word (next + wrap64 imm)))
+  relative_fits : (next : ℕ) (imm : ℤ) → IsNotes world.notes → FitsHere world a f fs note s st (relative world.notes next imm)
+      (address_of_place world.notes (word (next + wrap64 imm)))
   relative_fits next imm known = go (thing_at world.notes (pos next +ℤ imm)) refl
     where
-      go : (o : Option Ty) → thing_at world.notes (pos next +ℤ imm) ≡ o → FitsHere world a f fs note s st (or_any o) (address_of_place world.notes (word (next + wrap64 imm)))
+      go : (o : Option Ty) → thing_at world.notes (pos next +ℤ imm) ≡ o
+          → FitsHere world a f fs note s st (or_any o) (address_of_place world.notes (word (next + wrap64 imm)))
       go None e = tt
       go (Some t) e =
           let p = thing_place world.notes (pos next +ℤ imm) t known e in
           let w : wrap64 (pos next +ℤ imm) ≡ word (wrap64 (pos next) + wrap64 imm) = wrap_add (pos next) imm in
           let u : wrap64 (pos p.place) ≡ p.place = (let l = p.small in omega (arith, l)) in
-          let same : word (next + wrap64 imm) ≡ p.place = (let z : word (wrap64 (pos next) + wrap64 imm) ≡ word (next + wrap64 imm) = omega arith in sym z ∙ sym w ∙ ap wrap64 p.is ∙ u) in
-          subst (λ z. FitsHere world a f fs note s st t (address_of_place world.notes z)) (sym same) (thing_here p.place t (ap (thing_at world.notes) (sym p.is) ∙ e))
+          let same : word (next + wrap64 imm) ≡ p.place = (let z : word (wrap64 (pos next) + wrap64 imm) ≡ word (next + wrap64 imm) =
+          omega arith in sym z ∙ sym w ∙ ap wrap64 p.is ∙ u) in
+          subst (λ z. FitsHere world a f fs note s st t (address_of_place world.notes z)) (sym same)
+          (thing_here p.place t (ap (thing_at world.notes) (sym p.is) ∙ e))
 
-  pub move_relative_fits : (here : Here) (left : Operand) (lidx : Option Index) (imm : ℤ) (next : ℕ) (k : Change) → here.next ≡ next → IsNotes world.notes → left.reg < 8 → next < world.image_size → rules_data.move_relative_row world.notes here left imm ≡ Ok k → Accepts (GoesOn world a f fs note s st next (changed s k)) (move_relative_row world a next (indexed left lidx) imm)
+  pub move_relative_fits : (here : Here) (left : Operand) (lidx : Option Index) (imm : ℤ) (next : ℕ) (k : Change) → here.next ≡ next
+      → IsNotes world.notes → left.reg < 8 → next < world.image_size → rules_data.move_relative_row world.notes here left imm ≡ Ok k
+      → Accepts (GoesOn world a f fs note s st next (changed s k)) (move_relative_row world a next (indexed left lidx) imm)
   unfolding move_relative_row rules_data.move_relative_row written
   move_relative_fits here left lidx imm next k en known l i e = go left.indirect refl e
     where
-      go : (b : Bool) → left.indirect ≡ b → (if b then Err rule.Form else (if nat_eq left.reg 0 then Err rule.Stack else Ok (change.Written left.reg (relative world.notes here.next imm)))) ≡ Ok k → Accepts (GoesOn world a f fs note s st next (changed s k)) (written world a (Move sizes.Natural) (indexed left lidx) (address_of_place world.notes (word (next + wrap64 imm))) >>= (λ b. goes world b next))
+      go : (b : Bool) → left.indirect ≡ b → (if b then Err rule.Form
+          else (if nat_eq left.reg 0 then Err rule.Stack else Ok (change.Written left.reg (relative world.notes here.next imm)))) ≡ Ok k
+          → Accepts (GoesOn world a f fs note s st next (changed s k))
+          (written world a (Move sizes.Natural) (indexed left lidx)
+          (address_of_place world.notes (word (next + wrap64 imm))) >>= (λ b. goes world b next))
       go true g e = absurd (err_ok rule.Form k e)
       go false g e = not_zero left.reg (relative world.notes here.next imm) k e (λ n q.
-          subst (λ z. Accepts (GoesOn world a f fs note s st next (changed s z)) (written world a (Move sizes.Natural) (indexed left lidx) (address_of_place world.notes (word (next + wrap64 imm))) >>= (λ b. goes world b next))) q
-          (subst (λ o. Accepts (GoesOn world a f fs note s st next (changed s (change.Written left.reg (relative world.notes here.next imm)))) (o >>= (λ b. goes world b next)))
-          (sym (ap (λ b. if b then stored_by world a (Move sizes.Natural) left.reg (option_map index_pair lidx) (address_of_place world.notes (word (next + wrap64 imm))) else with_register a left.reg (address_of_place world.notes (word (next + wrap64 imm)))) g))
+          subst (λ z. Accepts (GoesOn world a f fs note s st next (changed s z))
+          (written world a (Move sizes.Natural) (indexed left lidx)
+          (address_of_place world.notes (word (next + wrap64 imm))) >>= (λ b. goes world b next))) q
+          (subst (λ o. Accepts (GoesOn world a f fs note s st next
+          (changed s (change.Written left.reg (relative world.notes here.next imm)))) (o >>= (λ b. goes world b next)))
+          (sym (ap (λ b. if b then stored_by world a (Move sizes.Natural) left.reg (option_map index_pair lidx)
+          (address_of_place world.notes (word (next + wrap64 imm)))
+          else with_register a left.reg (address_of_place world.notes (word (next + wrap64 imm)))) g))
           (register_goes left.reg next (relative world.notes here.next imm) (address_of_place world.notes (word (next + wrap64 imm))) n l i
-          (subst (λ z. FitsHere world a f fs note s st (relative world.notes z imm) (address_of_place world.notes (word (next + wrap64 imm)))) (sym en) (relative_fits next imm known)))))
+          (subst (λ z. FitsHere world a f fs note s st (relative world.notes z imm)
+          (address_of_place world.notes (word (next + wrap64 imm)))) (sym en) (relative_fits next imm known)))))

@@ -1,5 +1,6 @@
 -- The table of the rows on data.
-use Rattle.std.proofs.Common.{◌≡◌, ℕ, ◌<◌, Bool, true, false, not, ◌&&◌, if◌then◌else◌, is_none, nat_eq, List, Option, Some, None, Result, Ok, Err, slice_get, refl, sym, ap, ap₂, ◌∙◌, subst, arith, ⊎_elim}
+use Rattle.std.proofs.Common.{◌≡◌, ℕ, ◌<◌, Bool, true, false, not, ◌&&◌, if◌then◌else◌, is_none, nat_eq, List, Option, Some, None, Result}
+use Rattle.std.proofs.Common.{Ok, Err, slice_get, refl, sym, ap, ap₂, ◌∙◌, subst, arith, ⊎_elim}
 use Rattle.std.proofs.lemmas.Bool.{true≢false}
 use Rattle.std.proofs.lemmas.Option.{same_Some, none-some}
 use Rattle.ebc_base.specs.Steps as steps
@@ -31,16 +32,17 @@ use Rattle.rules_data.specs.Data as rules_data
 use Rattle.neutral_machine.specs.Operands.{indexed, plainly}
 use Rattle.neutral_machine.specs.Rows.{NeutralEnd, Site, executed, is_stack_pointer}
 use Rattle.neutral_machine.specs.Rows as rows
-use Rattle.run_types.specs.Config.{FunctionFrame, Frame, Config}
-use Rattle.run_types.specs.World.{World}
+use Rattle.neutral_machine.specs.Config.{FunctionFrame, Frame, Config}
+use Rattle.host_model.specs.World.{World}
 use Rattle.typed_runs.specs.Accepts.{Accepts}
 use Rattle.typing_laws.specs.OneRule.{StandsTyped, WorldTyped, here_of}
 use Rattle.typed_runs.specs.Sound.{TopFits}
 use Rattle.typing_laws.specs.DataTyped.{FallsSound, OneDataRule}
 use Rattle.rules_flow.specs.Successors.{falls}
 use Rattle.rules_flow.specs.declared.successors.Successors.{Successors}
-use Rattle.run_types.specs.Outcomes.{Outcome, Gives, Raises, Stuck}
-use Rattle.typing_laws.proofs.ArithRow.{GoesOn, arith_fits, beside_ok, err_ok, ok_is}
+use Rattle.neutral_machine.specs.Outcomes.{Outcome, Gives, Raises, Stuck}
+use Rattle.typing_laws.proofs.Rows.{err_ok, ok_same}
+use Rattle.typing_laws.proofs.ArithRow.{GoesOn, arith_fits, beside_ok}
 use Rattle.typing_laws.proofs.CompareRow.{compare_fits}
 use Rattle.typing_laws.proofs.CompareSigned.{compare_imm_fits, move_signed_fits}
 use Rattle.typing_laws.proofs.Context.{TopSound}
@@ -65,23 +67,29 @@ no_index bits o None h e = refl
 no_index bits o (Some i) h e = absurd (true≢false (sym h.0 ∙ e))
 
 -- a value left somewhere isn't left in R0
-not_stack : (notes : Notes) (f : FnNote) (s : State) (access : Access) (op : Operand) (d : Distance) (to : Destination) → destination notes f s access op d ≡ Ok to → is_stack_pointer (plainly op) ≡ false
+not_stack : (notes : Notes) (f : FnNote) (s : State) (access : Access) (op : Operand) (d : Distance) (to : Destination)
+    → destination notes f s access op d ≡ Ok to → is_stack_pointer (plainly op) ≡ false
 unfolding destination
 not_stack notes f s access op d to e = go op.indirect refl e
   where
-    direct : op.indirect ≡ false → (b : Bool) → nat_eq op.reg 0 ≡ b → (if b then Err rule.Stack else Ok (Register op.reg)) ≡ Ok to → (not op.indirect && nat_eq op.reg 0) ≡ false
+    direct : op.indirect ≡ false → (b : Bool) → nat_eq op.reg 0 ≡ b → (if b then Err rule.Stack else Ok (Register op.reg)) ≡ Ok to
+        → (not op.indirect && nat_eq op.reg 0) ≡ false
     direct h true q e = absurd (err_ok rule.Stack to e)
     direct h false q e = ap₂ (λ b c. not b && c) h q
 
-    go : (b : Bool) → op.indirect ≡ b → (if b then gives_map Memory (target_at notes f s access op.reg d) else (if nat_eq op.reg 0 then Err rule.Stack else Ok (Register op.reg))) ≡ Ok to → (not op.indirect && nat_eq op.reg 0) ≡ false
+    go : (b : Bool) → op.indirect ≡ b → (if b then gives_map Memory (target_at notes f s access op.reg d)
+        else (if nat_eq op.reg 0 then Err rule.Stack else Ok (Register op.reg))) ≡ Ok to → (not op.indirect && nat_eq op.reg 0) ≡ false
     go true h e = ap (λ b. not b && nat_eq op.reg 0) h
     go false h e = direct h (nat_eq op.reg 0) refl e
 
-pub not_stack_move : (notes : Notes) (f : FnNote) (s : State) (size : Size) (left right : Operand) (lidx ridx : Option Index) (k : Change) → rules_data.move_row notes f s size left right lidx ridx ≡ Ok k → is_stack_pointer (plainly left) ≡ false
+pub not_stack_move : (notes : Notes) (f : FnNote) (s : State) (size : Size) (left right : Operand) (lidx ridx : Option Index) (k : Change)
+    → rules_data.move_row notes f s size left right lidx ridx ≡ Ok k → is_stack_pointer (plainly left) ≡ false
 unfolding rules_data.move_row
 not_stack_move notes f s size left right lidx ridx k e =
-    then_ok (beside (destination notes f s (move_access size) left (index_distance lidx)) (move_value notes f s size right ridx)) _ k e (λ p e1 e2.
-    beside_ok (destination notes f s (move_access size) left (index_distance lidx)) (move_value notes f s size right ridx) p e1 (λ e3 e4. not_stack notes f s (move_access size) left (index_distance lidx) p.0 e3))
+    then_ok (beside (destination notes f s (move_access size) left (index_distance lidx)) (move_value notes f s size right ridx)) _ k e
+    (λ p e1 e2.
+    beside_ok (destination notes f s (move_access size) left (index_distance lidx)) (move_value notes f s size right ridx) p e1
+    (λ e3 e4. not_stack notes f s (move_access size) left (index_distance lidx) p.0 e3))
 
 -- what the state after an instruction on data comes from
 pub record ChangeFound (notes : Notes) (note : FnNote) (here : Here) (s : State) (i : Insn) (t : State) : Type 0 where
@@ -89,44 +97,63 @@ pub record ChangeFound (notes : Notes) (note : FnNote) (here : Here) (s : State)
   pub row : data_row notes note here s i ≡ Ok change
   pub is : changed s change ≡ t
 
-pub change_found : (notes : Notes) (note : FnNote) (here : Here) (s : State) (i : Insn) (t : State) → slice_get notes.function here.func ≡ Some note → after_data notes here s i ≡ Ok t → ChangeFound notes note here s i t
+pub change_found : (notes : Notes) (note : FnNote) (here : Here) (s : State) (i : Insn) (t : State)
+    → slice_get notes.function here.func ≡ Some note → after_data notes here s i ≡ Ok t → ChangeFound notes note here s i t
 unfolding after_data data_change
 change_found notes note here s i t h e = go (slice_get notes.function here.func) h e
   where
-    mapped : (o : Result Change RuleName) → data_row notes note here s i ≡ o → gives_map (changed s) o ≡ Ok t → ChangeFound notes note here s i t
-    mapped (Ok k) q e = record { change = k; row = q; is = ok_is (changed s k) t e }
+    mapped : (o : Result Change RuleName) → data_row notes note here s i ≡ o → gives_map (changed s) o ≡ Ok t
+        → ChangeFound notes note here s i t
+    mapped (Ok k) q e = record { change = k; row = q; is = ok_same (changed s k) t e }
     mapped (Err r) q e = absurd (err_ok r t e)
 
-    go : (o : Option FnNote) → o ≡ Some note → gives_map (changed s) (steps.◌>>=◌ (or_else rule.Function o) (λ f. data_row notes f here s i)) ≡ Ok t → ChangeFound notes note here s i t
+    go : (o : Option FnNote) → o ≡ Some note → gives_map (changed s)
+        (steps.◌>>=◌ (or_else rule.Function o) (λ f. data_row notes f here s i)) ≡ Ok t → ChangeFound notes note here s i t
     go None h e = absurd (none-some note h)
-    go (Some f) h e = mapped (data_row notes note here s i) refl (subst (λ f. gives_map (changed s) (data_row notes f here s i) ≡ Ok t) (same_Some f note h) e)
+    go (Some f) h e = mapped (data_row notes note here s i) refl
+        (subst (λ f. gives_map (changed s) (data_row notes f here s i) ≡ Ok t) (same_Some f note h) e)
 
-module _ (world : World) (a : Config) (f : FunctionFrame) (fs : List Frame) (note : FnNote) (s : State) (st : TopSound world a f fs note s) where
+module _ (world : World) (a : Config) (f : FunctionFrame) (fs : List Frame) (note : FnNote) (s : State)
+    (st : TopSound world a f fs note s) where
   -- An instruction on data that its rule accepts goes on soundly.
-  pub data_fits : (site : Site) (i : Insn) (k : Change) → WellFormed i → site.next < world.image_size → data_row world.notes note (here_of site f.func) s i ≡ Ok k → Accepts (GoesOn world a f fs note s st site.next (changed s k)) (executed world a site i)
+  pub data_fits : (site : Site) (i : Insn) (k : Change) → WellFormed i → site.next < world.image_size
+      → data_row world.notes note (here_of site f.func) s i ≡ Ok k
+      → Accepts (GoesOn world a f fs note s st site.next (changed s k)) (executed world a site i)
   unfolding executed
   data_fits site (insns.Compare op wide left right extra) k w l e =
-      compare_fits world a f fs note s st op wide left right extra site.next k st.typed.notes w.0 (beside_fits 16 right extra (omega arith) w.1 w.2) l (past_test (is_none site.reloc) _ rule.Relocation k e)
+      compare_fits world a f fs note s st op wide left right extra site.next k st.typed.notes w.0
+      (beside_fits 16 right extra (omega arith) w.1 w.2) l (past_test (is_none site.reloc) _ rule.Relocation k e)
   data_fits site (insns.CompareImm op wide left idx long imm) k w l e =
-      compare_imm_fits world a f fs note s st op wide left idx imm site.next k st.typed.notes w.0 (no_index 16 left idx w.1) (left_beside idx) (left_small 16 left idx (omega arith) w.1) l (past_test (is_none site.reloc) _ rule.Relocation k e)
+      compare_imm_fits world a f fs note s st op wide left idx imm site.next k st.typed.notes w.0 (no_index 16 left idx w.1)
+      (left_beside idx) (left_small 16 left idx (omega arith) w.1) l (past_test (is_none site.reloc) _ rule.Relocation k e)
   data_fits site (insns.Arith op wide left right extra) k w l e =
-      arith_fits world a f fs note s st op wide left right extra site.next k st.typed.notes w.0 (beside_fits 16 right extra (omega arith) w.1 w.2) l (past_test (is_none site.reloc) _ rule.Relocation k e)
+      arith_fits world a f fs note s st op wide left right extra site.next k st.typed.notes w.0
+      (beside_fits 16 right extra (omega arith) w.1 w.2) l (past_test (is_none site.reloc) _ rule.Relocation k e)
   data_fits site (insns.Move size bits left right lidx ridx) k w l e =
       let q = past_test (is_none site.reloc) _ rule.Relocation k e in
       let most = move_most size bits w.0 in
-      subst (λ b. Accepts (GoesOn world a f fs note s st site.next (changed s k)) (if b then rows.stack_row world a site.next size right lidx ridx else rows.move_row world a site.next size (indexed left lidx) (indexed right ridx)))
+      subst (λ b. Accepts (GoesOn world a f fs note s st site.next (changed s k))
+      (if b then rows.stack_row world a site.next size right lidx ridx
+      else rows.move_row world a site.next size (indexed left lidx) (indexed right ridx)))
       (sym (not_stack_move world.notes note s size left right lidx ridx k q))
-      (move_fits world a f fs note s st size left right lidx ridx site.next k st.typed.notes w.1 w.2 (left_beside lidx) (left_small bits left lidx most w.3) (left_beside ridx) (right_small bits ridx most w.4) l q)
+      (move_fits world a f fs note s st size left right lidx ridx site.next k st.typed.notes w.1 w.2 (left_beside lidx)
+      (left_small bits left lidx most w.3) (left_beside ridx) (right_small bits ridx most w.4) l q)
   data_fits site (insns.MoveSigned bits left right lidx extra) k w l e =
       let most = word_most bits w.0 in
-      move_signed_fits world a f fs note s st left right lidx extra site.next k st.typed.notes w.1 (left_beside lidx) (left_small bits left lidx most w.3) (beside_fits bits right extra most w.2 w.4) l (past_test (is_none site.reloc) _ rule.Relocation k e)
+      move_signed_fits world a f fs note s st left right lidx extra site.next k st.typed.notes w.1 (left_beside lidx)
+      (left_small bits left lidx most w.3) (beside_fits bits right extra most w.2 w.4) l
+      (past_test (is_none site.reloc) _ rule.Relocation k e)
   data_fits site (insns.MoveImm size bits left lidx imm) k w l e =
-      move_imm_fits world a f fs note s st (here_of site f.func) site size bits left lidx imm k refl st.typed.notes w.1 w.2 (left_beside lidx) (left_small 16 left lidx (omega arith) w.3) l e
+      move_imm_fits world a f fs note s st (here_of site f.func) site size bits left lidx imm k refl st.typed.notes w.1 w.2
+      (left_beside lidx) (left_small 16 left lidx (omega arith) w.3) l e
   data_fits site (insns.MoveImmNatural bits left lidx idx) k w l e =
-      move_index_fits world a f fs note s st left lidx idx site.next k w.1 (left_beside lidx) (left_small 16 left lidx (omega arith) w.2) l (past_test (is_none site.reloc) _ rule.Relocation k e)
+      move_index_fits world a f fs note s st left lidx idx site.next k w.1 (left_beside lidx) (left_small 16 left lidx (omega arith) w.2) l
+      (past_test (is_none site.reloc) _ rule.Relocation k e)
   data_fits site (insns.MoveRelative bits left lidx imm) k w l e =
-      move_relative_fits world a f fs note s st (here_of site f.func) left lidx imm site.next k refl st.typed.notes w.1 l (past_test (is_none site.reloc) _ rule.Relocation k e)
-  data_fits site (insns.StoreSpecial to special) k w l e = store_special_fits world a f fs note s st to special site.next k w.0 l (past_test (is_none site.reloc) _ rule.Relocation k e)
+      move_relative_fits world a f fs note s st (here_of site f.func) left lidx imm site.next k refl st.typed.notes w.1 l
+      (past_test (is_none site.reloc) _ rule.Relocation k e)
+  data_fits site (insns.StoreSpecial to special) k w l e = store_special_fits world a f fs note s st to special site.next k w.0 l
+      (past_test (is_none site.reloc) _ rule.Relocation k e)
   data_fits site (insns.Break code) k w l e = absurd (no_row (is_none site.reloc) rule.Form rule.Relocation k e)
   data_fits site (insns.Jump cond far relative op extra) k w l e = absurd (no_row (is_none site.reloc) rule.Form rule.Relocation k e)
   data_fits site (insns.Jump8 cond words) k w l e = absurd (no_row (is_none site.reloc) rule.Form rule.Relocation k e)
@@ -139,7 +166,8 @@ module _ (world : World) (a : Config) (f : FunctionFrame) (fs : List Frame) (not
   data_fits site (insns.PopNatural op extra) k w l e = absurd (no_row (is_none site.reloc) rule.Form rule.Relocation k e)
 
 -- what is known where an instruction stands
-pub top_sound : (world : World) (a : Config) (f : FunctionFrame) (fs : List Frame) (note : FnNote) (here : Site) (s : State) (i : Insn) (x : Successors) → WorldTyped world → StandsTyped world a f fs note here s i x → TopSound world a f fs note s
+pub top_sound : (world : World) (a : Config) (f : FunctionFrame) (fs : List Frame) (note : FnNote) (here : Site) (s : State) (i : Insn)
+    (x : Successors) → WorldTyped world → StandsTyped world a f fs note here s i x → TopSound world a f fs note s
 top_sound world a f fs note here s i x ok h = record {
   frames = h.frames;
   top = subst (λ z. TopFits world a z s) h.frames h.sound.top;
@@ -150,7 +178,9 @@ top_sound world a f fs note here s i x ok h = record {
 }
 
 -- what an instruction on data leaves
-falls_sound : (world : World) (a : Config) (f : FunctionFrame) (fs : List Frame) (note : FnNote) (s : State) (st : TopSound world a f fs note s) (here : Site) (z : State) (o : Outcome (NeutralEnd × Config)) → Accepts (GoesOn world a f fs note s st here.next z) o → Accepts (FallsSound world here z) o
+falls_sound : (world : World) (a : Config) (f : FunctionFrame) (fs : List Frame) (note : FnNote) (s : State)
+    (st : TopSound world a f fs note s) (here : Site) (z : State) (o : Outcome (NeutralEnd × Config))
+    → Accepts (GoesOn world a f fs note s st here.next z) o → Accepts (FallsSound world here z) o
 falls_sound world a f fs note s st here z Stuck h = h
 falls_sound world a f fs note s st here z (Raises e) h = h
 falls_sound world a f fs note s st here z (Gives (e, b)) h =
@@ -163,4 +193,5 @@ one_data_rule world a f fs note here s i t ok h e =
     let c = change_found world.notes note (here_of here f.func) s i t h.there e in
     let inside : here.next < world.image_size = ⊎_elim (λ n. absurd (none-some t (sym n))) (λ n. n) h.inside in
     subst (λ z. Accepts (FallsSound world here z) (executed world a here i)) c.is
-    (falls_sound world a f fs note s st here (changed s c.change) (executed world a here i) (data_fits world a f fs note s st here i c.change h.well_formed inside c.row))
+    (falls_sound world a f fs note s st here (changed s c.change) (executed world a here i)
+    (data_fits world a f fs note s st here i c.change h.well_formed inside c.row))

@@ -1,5 +1,7 @@
 -- R0 moved: items are dropped from the top, with the locals or without, or the locals are made.
-use Rattle.std.proofs.Common.{◌≡◌, ◌≢◌, ℕ, zero, suc, ◌<◌, ◌≤◌, ◌⊎◌, Bool, true, false, not, ◌&&◌, ◌||◌, if◌then◌else◌, is_none, nat_eq, List, [], ◌∷◌, map, Option, Some, None, Result, Ok, Err, slice_get, slice_index_or, refl, sym, ap, ap₂, ◌∙◌, subst, arith, inl, inr, option_and_then, pos, int_le}
+use Rattle.std.proofs.Common.{◌≡◌, ◌≢◌, ℕ, zero, suc, ◌<◌, ◌≤◌, ◌⊎◌, Bool, true, false, not, ◌&&◌, ◌||◌, if◌then◌else◌, is_none, nat_eq}
+use Rattle.std.proofs.Common.{List, [], ◌∷◌, map, Option, Some, None, Ok, Err, slice_get, slice_index_or, refl, sym, ap, ap₂, ◌∙◌}
+use Rattle.std.proofs.Common.{subst, arith, inl, inr, option_and_then, pos, int_le}
 use Rattle.std.specs.List.{AllZip, list_any}
 use Rattle.std.specs.Option.{option_map}
 use Rattle.std.proofs.lemmas.Bool.{and_parts, cases_eq, eq-eqb, ne_eqb, false≢true, le-leb}
@@ -17,7 +19,6 @@ use Rattle.note_types.specs.declared.items.Item.{Item}
 use Rattle.note_types.specs.declared.items.Item.TheVariants as item
 use Rattle.note_types.specs.declared.notes.FnNote.{FnNote}
 use Rattle.note_types.specs.declared.notes.Notes.{Notes}
-use Rattle.note_types.specs.declared.rule.RuleName.{RuleName}
 use Rattle.note_types.specs.declared.rule.RuleName.TheVariants as rule
 use Rattle.note_types.specs.declared.shape.Field.{Field}
 use Rattle.note_types.specs.declared.shape.Shape.{Shape}
@@ -30,32 +31,38 @@ use Rattle.rules_flow.specs.Flow.{frame_move}
 use Rattle.rules_flow.specs.Frames.{drop_row, drop_to, frame_row, left_after, left_item, left_type, loses, make_row, with_item, with_left}
 use Rattle.rules_flow.specs.Successors.{falls}
 use Rattle.rules_flow.specs.declared.successors.Successors.{Successors}
-use Rattle.neutral_machine.specs.Rows.{NeutralEnd, adjusted, adjusted_by, after_drop, after_make, config_without, dropped, frame_without, goes, is_qword_size, item_without, registers_without, stack_row, with_items, without_local}
-use Rattle.run_types.specs.Config.{StackItem, Pushed, LocalsOf, FunctionFrame, Frame, Function, Config, depth, locals_among, locals_at}
-use Rattle.run_types.specs.Fits.{FitsPlain, Fits}
-use Rattle.run_types.specs.FitsState.{FitsState, ItemFits}
-use Rattle.run_types.specs.Layout.{height}
-use Rattle.run_types.specs.Memory.{Memory, memory_of, cell_field}
-use Rattle.run_types.specs.Operations.{compared_as}
-use Rattle.run_types.specs.Outcomes.{Outcome, Gives, ◌>>=◌, unless_stuck}
-use Rattle.run_types.specs.Placements.{frame_limit}
-use Rattle.run_types.specs.Values.{Neutral, CellPlace, FieldOf, FieldOfLocals, number}
-use Rattle.run_types.specs.World.{World, frame_locals}
+use Rattle.neutral_machine.specs.Rows.{NeutralEnd, adjusted, adjusted_by, after_drop, after_make, config_without, dropped, frame_without}
+use Rattle.neutral_machine.specs.Rows.{goes, is_qword_size, item_without, registers_without, stack_row, with_items, without_local}
+use Rattle.neutral_machine.specs.Config.{StackItem, Pushed, LocalsOf, FunctionFrame, Frame, Function, Config, depth, locals_among}
+use Rattle.neutral_machine.specs.Config.{locals_at}
+use Rattle.neutral_machine.specs.Fits.{FitsPlain, Fits}
+use Rattle.neutral_machine.specs.FitsState.{FitsState, ItemFits}
+use Rattle.neutral_machine.specs.Layout.{height}
+use Rattle.neutral_machine.specs.Memory.{Memory, memory_of, cell_field}
+use Rattle.neutral_machine.specs.Operations.{compared_as}
+use Rattle.neutral_machine.specs.Outcomes.{Outcome, Gives, ◌>>=◌, unless_stuck}
+use Rattle.host_model.specs.Placements.{frame_limit}
+use Rattle.host_model.specs.Values.{Neutral, CellPlace, FieldOf, FieldOfLocals, number}
+use Rattle.host_model.specs.World.{World, frame_locals}
 use Rattle.typed_runs.specs.Accepts.{Accepts}
 use Rattle.typed_runs.specs.Live.{live_memory}
 use Rattle.typed_runs.specs.Sound.{CellsFit, KeepsWithin, SlotsKept}
-use Rattle.typing_laws.proofs.ArithRow.{GoesOn, err_ok, goes_on}
+use Rattle.typing_laws.proofs.Rows.{err_ok, ok_same}
+use Rattle.typing_laws.proofs.ArithRow.{GoesOn, goes_on}
 use Rattle.typing_laws.proofs.Context.{TopSound, passed_params, sizes_same}
 use Rattle.typing_laws.proofs.ItemsChanged.{below_after, few_hosts, items_after, top_after, top_keeps}
 use Rattle.typing_laws.proofs.ItemsDropped.{DropFound, drop_found, once_counted}
 use Rattle.typing_laws.proofs.LiveCells.{LaterBelow, live_held, live_some, live_there}
-use Rattle.typing_laws.proofs.LocalsGone.{below_without, compared_stays, depth_without, forgotten_fits, frames_without, hosts_without, keeps_without, locals_without, plain_without}
+use Rattle.typing_laws.proofs.LocalsGone.{below_without, compared_stays, forgotten_fits, frames_without, hosts_without, keeps_without}
+use Rattle.typing_laws.proofs.LocalsGone.{plain_without}
 use Rattle.typing_laws.proofs.LocalsMade.{make_goes, no_locals}
 use Rattle.typing_laws.proofs.Pushes.{FallsOn}
 use Rattle.typing_laws.proofs.Written.{After}
+use Rattle.neutral_machine.proofs.Drops.{locals_at_map, depth_map}
 
 -- the types of the registers, listed
-listed : (P : ℕ → Ty → Type 0) (t : ℕ → Ty) → ((r : ℕ) → 0 < r → r < 8 → P r (t r)) → (r : ℕ) → 0 < r → r < 8 → P r (slice_index_or (t 0 ∷ t 1 ∷ t 2 ∷ t 3 ∷ t 4 ∷ t 5 ∷ t 6 ∷ t 7 ∷ []) r ty.Any)
+listed : (P : ℕ → Ty → Type 0) (t : ℕ → Ty) → ((r : ℕ) → 0 < r → r < 8 → P r (t r)) → (r : ℕ) → 0 < r → r < 8
+    → P r (slice_index_or (t 0 ∷ t 1 ∷ t 2 ∷ t 3 ∷ t 4 ∷ t 5 ∷ t 6 ∷ t 7 ∷ []) r ty.Any)
 listed P t h zero p l = absurd (omega (arith, p))
 listed P t h (suc zero) p l = h 1 p l
 listed P t h (suc (suc zero)) p l = h 2 p l
@@ -67,7 +74,8 @@ listed P t h (suc (suc (suc (suc (suc (suc (suc zero))))))) p l = h 7 p l
 listed P t h (suc (suc (suc (suc (suc (suc (suc (suc r)))))))) p l = absurd (omega (arith, l))
 
 -- items of which nothing is lost
-items_left : (notes : Notes) (m : Memory) (d : ℕ) (f : FunctionFrame) (is : List StackItem) (xs : List Item) → AllZip (ItemFits notes m d f) is xs → AllZip (ItemFits notes m d f) is (map (left_item false) xs)
+items_left : (notes : Notes) (m : Memory) (d : ℕ) (f : FunctionFrame) (is : List StackItem) (xs : List Item)
+    → AllZip (ItemFits notes m d f) is xs → AllZip (ItemFits notes m d f) is (map (left_item false) xs)
 items_left notes m d f [] [] h = tt
 items_left notes m d f [] (x ∷ xs) h = absurd h
 items_left notes m d f (i ∷ is) [] h = absurd h
@@ -77,20 +85,32 @@ items_left notes m d f (Pushed kind v ∷ is) (item.Locals ∷ xs) h = absurd h.
 items_left notes m d f (LocalsOf s ∷ is) (item.Slot k t ∷ xs) h = absurd h.0
 
 -- items of which the locals are lost
-items_lost : (notes : Notes) (d : ℕ) (U V : Memory) → V.objects ≡ U.objects → LaterBelow d U V → (f g : FunctionFrame) → g.func ≡ f.func → g.saved ≡ registers_without d f.saved → (is : List StackItem) (xs : List Item) → AllZip (ItemFits notes U d f) is xs → AllZip (ItemFits notes V d g) (map (item_without d) is) (map (left_item true) xs)
+items_lost : (notes : Notes) (d : ℕ) (U V : Memory) → V.objects ≡ U.objects → LaterBelow d U V → (f g : FunctionFrame) → g.func ≡ f.func
+    → g.saved ≡ registers_without d f.saved → (is : List StackItem) (xs : List Item) → AllZip (ItemFits notes U d f) is xs
+    → AllZip (ItemFits notes V d g) (map (item_without d) is) (map (left_item true) xs)
 items_lost notes d U V same l f g ef eg [] [] h = tt
 items_lost notes d U V same l f g ef eg [] (x ∷ xs) h = absurd h
 items_lost notes d U V same l f g ef eg (i ∷ is) [] h = absurd h
-items_lost notes d U V same l f g ef eg (Pushed kind v ∷ is) (item.Slot k t ∷ xs) h =
-    ((h.0.0, subst (λ r. Fits notes V d r (left_type true t) (without_local d v)) (sym eg) (forgotten_fits notes d U V same l f.saved t v h.0.1)), items_lost notes d U V same l f g ef eg is xs h.1)
-items_lost notes d U V same l f g ef eg (LocalsOf s ∷ is) (item.Locals ∷ xs) h = (ap (frame_locals notes) ef ∙ h.0, items_lost notes d U V same l f g ef eg is xs h.1)
+items_lost notes d U V same l f g ef eg (Pushed kind v ∷ is) (item.Slot k t ∷ xs) h = (
+  (
+    h.0.0,
+    subst (λ r. Fits notes V d r (left_type true t) (without_local d v)) (sym eg)
+        (forgotten_fits notes d U V same l f.saved t v h.0.1),
+  ),
+  items_lost notes d U V same l f g ef eg is xs h.1,
+)
+items_lost notes d U V same l f g ef eg (LocalsOf s ∷ is) (item.Locals ∷ xs) h =
+    (ap (frame_locals notes) ef ∙ h.0, items_lost notes d U V same l f g ef eg is xs h.1)
 items_lost notes d U V same l f g ef eg (Pushed kind v ∷ is) (item.Locals ∷ xs) h = absurd h.0
 items_lost notes d U V same l f g ef eg (LocalsOf s ∷ is) (item.Slot k t ∷ xs) h = absurd h.0
 
-module _ (world : World) (a : Config) (f : FunctionFrame) (fs : List Frame) (note : FnNote) (s : State) (st : TopSound world a f fs note s) where
+module _ (world : World) (a : Config) (f : FunctionFrame) (fs : List Frame) (note : FnNote) (s : State)
+    (st : TopSound world a f fs note s) where
   -- ---- the locals stay
 
-  pub kept_goes : (n c : ℕ) (left : List Item) (r : DropFound world.notes (live_memory world a) (depth fs) f (locals_size world.notes note) (λ x q. let z = sizes_same world a f fs note s st x q in (z.1, z.2)) n c f.items s.items left) → r.gone ≡ false → After world (with_items a f r.rest fs) (record f { items = r.rest }) fs (with_left s false left)
+  pub kept_goes : (n c : ℕ) (left : List Item) (r : DropFound world.notes (live_memory world a) (depth fs) f (locals_size world.notes note)
+      (λ x q. let z = sizes_same world a f fs note s st x q in (z.1, z.2)) n c f.items s.items left) → r.gone ≡ false
+      → After world (with_items a f r.rest fs) (record f { items = r.rest }) fs (with_left s false left)
   unfolding with_left
   kept_goes n c left r g =
       let same = r.stay g in
@@ -99,14 +119,19 @@ module _ (world : World) (a : Config) (f : FunctionFrame) (fs : List Frame) (not
       record {
         frames = refl;
         top = record {
-          registers = λ x l b. listed (λ q y. Fits world.notes (live_memory world (with_items a f r.rest fs)) (depth fs) f.saved y (a.registers q)) (type_of s) t.registers x l b;
-          items = items_left world.notes (live_memory world (with_items a f r.rest fs)) (depth fs) (record f { items = r.rest }) r.rest left t.items;
+          registers = λ x l b. listed (λ q y. Fits world.notes (live_memory world (with_items a f r.rest fs)) (depth fs) f.saved y
+              (a.registers q)) (type_of s) t.registers x l b;
+          items = items_left world.notes (live_memory world (with_items a f r.rest fs)) (depth fs)
+              (record f { items = r.rest }) r.rest left t.items;
           written = t.written;
           made_are = t.made_are;
           fact = t.fact;
         };
         below = below_after world a f fs note s st r.rest same
-            (record { at4 = (let x = k.0.within.at4 in let y = r.lower 4 in omega (arith, x, y)); at8 = (let x = k.0.within.at8 in let y = r.lower 8 in omega (arith, x, y)) })
+            (record {
+              at4 = (let x = k.0.within.at4 in let y = r.lower 4 in omega (arith, x, y));
+              at8 = (let x = k.0.within.at8 in let y = r.lower 8 in omega (arith, x, y));
+            })
             (r.kept (live_memory world a).objects k.0.slots);
       }
 
@@ -121,7 +146,8 @@ module _ (world : World) (a : Config) (f : FunctionFrame) (fs : List Frame) (not
 
     lost_locals : (e : ℕ) → locals_at lost_config.frames e ≡ (if nat_eq e (depth fs) then None else locals_at a.frames e)
     lost_locals e =
-        locals_without (depth fs) (Function (record f { items = rest }) ∷ fs) e ∙ ap (λ o. if nat_eq e (depth fs) then o else locals_at fs e) gone
+        locals_at_map (depth fs) (Function (record f { items = rest }) ∷ fs) e
+        ∙ ap (λ o. if nat_eq e (depth fs) then o else locals_at fs e) gone
         ∙ go (nat_eq e (depth fs)) refl
       where
         go : (b : Bool) → nat_eq e (depth fs) ≡ b → (if b then None else locals_at fs e) ≡ (if b then None else locals_at a.frames e)
@@ -131,12 +157,16 @@ module _ (world : World) (a : Config) (f : FunctionFrame) (fs : List Frame) (not
     other_locals : (e : ℕ) → e ≢ depth fs → locals_at lost_config.frames e ≡ locals_at a.frames e
     other_locals e n = lost_locals e ∙ ap (λ b. if b then None else locals_at a.frames e) (ne_eqb e (depth fs) n)
 
-    other_field : (e x : ℕ) → e ≢ depth fs → cell_field world.notes (live_memory world lost_config) (FieldOfLocals e x) ≡ cell_field world.notes (live_memory world a) (FieldOfLocals e x)
+    other_field : (e x : ℕ) → e ≢ depth fs → cell_field world.notes (live_memory world lost_config)
+        (FieldOfLocals e x) ≡ cell_field world.notes (live_memory world a) (FieldOfLocals e x)
     other_field e x n = ap (option_and_then (λ (q : Shape). slice_get q.fields x)) (other_locals e n)
 
     -- a cell that is there still
-    still_held : (p : CellPlace) (z : Field) (v : Neutral) → cell_field world.notes (live_memory world lost_config) p ≡ Some z → cell_field world.notes (live_memory world a) p ≡ Some z → (live_memory world a).cells p ≡ Some v → (live_memory world lost_config).cells p ≡ Some (without_local (depth fs) v)
-    still_held p z v e g h = live_there world.notes (memory_of world lost_config) p z (Some (without_local (depth fs) v)) e (ap (option_map (without_local (depth fs))) (live_held world.notes (memory_of world a) p v h))
+    still_held : (p : CellPlace) (z : Field) (v : Neutral) → cell_field world.notes (live_memory world lost_config) p ≡ Some z
+        → cell_field world.notes (live_memory world a) p ≡ Some z → (live_memory world a).cells p ≡ Some v
+        → (live_memory world lost_config).cells p ≡ Some (without_local (depth fs) v)
+    still_held p z v e g h = live_there world.notes (memory_of world lost_config) p z (Some (without_local (depth fs) v)) e
+        (ap (option_map (without_local (depth fs))) (live_held world.notes (memory_of world a) p v h))
 
     lost_later : LaterBelow (depth fs) (live_memory world a) (live_memory world lost_config)
     lost_later = record {
@@ -144,7 +174,10 @@ module _ (world : World) (a : Config) (f : FunctionFrame) (fs : List Frame) (not
       locals = λ e l. other_locals e (below_not e l);
       written = λ e x l h.
           let z = live_some world.notes (memory_of world a) (FieldOfLocals e x) h.value h.is in
-          record { value = without_local (depth fs) h.value; is = still_held (FieldOfLocals e x) z.0 h.value (other_field e x (below_not e l) ∙ z.1) z.1 h.is };
+          record {
+            value = without_local (depth fs) h.value;
+            is = still_held (FieldOfLocals e x) z.0 h.value (other_field e x (below_not e l) ∙ z.1) z.1 h.is;
+          };
     }
       where
         below_not : (e : ℕ) → e < depth fs → e ≢ depth fs
@@ -153,29 +186,37 @@ module _ (world : World) (a : Config) (f : FunctionFrame) (fs : List Frame) (not
     lost_cells : CellsFit world.notes (live_memory world lost_config)
     lost_cells = record { fit = fit; all = all }
       where
-        before : (p : CellPlace) (z : Field) → cell_field world.notes (live_memory world lost_config) p ≡ Some z → cell_field world.notes (live_memory world a) p ≡ Some z
+        before : (p : CellPlace) (z : Field) → cell_field world.notes (live_memory world lost_config) p ≡ Some z
+            → cell_field world.notes (live_memory world a) p ≡ Some z
         before (FieldOf k i x) z e = e
         before (FieldOfLocals d x) z e = go (cases_eq d (depth fs))
           where
             go : (d ≡ depth fs) ⊎ (d ≢ depth fs) → cell_field world.notes (live_memory world a) (FieldOfLocals d x) ≡ Some z
-            go (inl q) = absurd (none-some z (sym (ap (option_and_then (λ (q : Shape). slice_get q.fields x)) (lost_locals d ∙ ap (λ b. if b then None else locals_at a.frames d) (eq-eqb d (depth fs) q))) ∙ e))
+            go (inl q) = absurd (none-some z (sym (ap (option_and_then (λ (q : Shape). slice_get q.fields x))
+                (lost_locals d ∙ ap (λ b. if b then None else locals_at a.frames d) (eq-eqb d (depth fs) q))) ∙ e))
             go (inr n) = sym (other_field d x n) ∙ e
 
-        value_before : (o : Option Neutral) (v : Neutral) → option_map (without_local (depth fs)) o ≡ Some v → (u : Neutral) × (o ≡ Some u) × (without_local (depth fs) u ≡ v)
+        value_before : (o : Option Neutral) (v : Neutral) → option_map (without_local (depth fs)) o ≡ Some v → (u : Neutral) × (o ≡ Some u)
+            × (without_local (depth fs) u ≡ v)
         value_before None v h = absurd (none-some v h)
         value_before (Some u) v h = (u, refl, same_Some (without_local (depth fs) u) v h)
 
-        fit : (p : CellPlace) (z : Field) (v : Neutral) → cell_field world.notes (live_memory world lost_config) p ≡ Some z → (live_memory world lost_config).cells p ≡ Some v → FitsPlain world.notes (live_memory world a).objects (content_type z.cell) v
+        fit : (p : CellPlace) (z : Field) (v : Neutral) → cell_field world.notes (live_memory world lost_config) p ≡ Some z
+            → (live_memory world lost_config).cells p ≡ Some v → FitsPlain world.notes (live_memory world a).objects (content_type z.cell) v
         fit p z v e h =
             let g = before p z e in
             let u = value_before (a.cells p) v (live_held world.notes (memory_of world lost_config) p v h) in
             subst (FitsPlain world.notes (live_memory world a).objects (content_type z.cell)) u.2
-            (plain_without world.notes (live_memory world a).objects (depth fs) (content_type z.cell) u.0 (st.below.cells.fit p z u.0 g (live_there world.notes (memory_of world a) p z (Some u.0) g u.1)))
+            (plain_without world.notes (live_memory world a).objects (depth fs) (content_type z.cell) u.0
+            (st.below.cells.fit p z u.0 g (live_there world.notes (memory_of world a) p z (Some u.0) g u.1)))
 
-        all : (k i x : ℕ) (z : Field) → cell_field world.notes (live_memory world lost_config) (FieldOf k i x) ≡ Some z → (v : Neutral) × ((live_memory world lost_config).cells (FieldOf k i x) ≡ Some v)
+        all : (k i x : ℕ) (z : Field) → cell_field world.notes (live_memory world lost_config) (FieldOf k i x) ≡ Some z → (v : Neutral)
+            × ((live_memory world lost_config).cells (FieldOf k i x) ≡ Some v)
         all k i x z e = let r = st.below.cells.all k i x z e in (without_local (depth fs) r.0, still_held (FieldOf k i x) z r.0 e e r.1)
 
-    pub lost_goes : (left : List Item) → KeepsWithin (λ w. height w rest) note → SlotsKept world.notes (live_memory world a).objects rest → AllZip (ItemFits world.notes (live_memory world a) (depth fs) f) rest left → After world lost_config lost_frame (map (frame_without (depth fs)) fs) (with_left s true left)
+    pub lost_goes : (left : List Item) → KeepsWithin (λ w. height w rest) note → SlotsKept world.notes (live_memory world a).objects rest
+        → AllZip (ItemFits world.notes (live_memory world a) (depth fs) f) rest left
+        → After world lost_config lost_frame (map (frame_without (depth fs)) fs) (with_left s true left)
     unfolding with_left
     lost_goes left within slots z =
         let k = top_keeps world a f fs note s st in
@@ -184,20 +225,33 @@ module _ (world : World) (a : Config) (f : FunctionFrame) (fs : List Frame) (not
         let V = live_memory world lost_config in
         record {
           frames = refl;
-          top = subst (λ d. FitsState world.notes V d lost_frame (with_left s true left) lost_config.registers a.c a.made) (sym (depth_without (depth fs) fs)) (record {
-            registers = λ x l b. listed (λ q y. Fits world.notes V (depth fs) lost_frame.saved y (without_local (depth fs) (a.registers q))) (λ r. left_type true (type_of s r))
-                (λ r l b. forgotten_fits world.notes (depth fs) U V refl lost_later f.saved (type_of s r) (a.registers r) (st.top.registers r l b)) x l b;
-            items = items_lost world.notes (depth fs) U V refl lost_later f lost_frame refl refl rest left z;
-            written = λ x q. absurd (omega (arith, q));
-            made_are = st.top.made_are;
-            fact = λ x e. let g = (st.top.fact x e).gave in record { gave = ap (λ v. compared_as world.notes U.objects x.op true v (number x.k)) (compared_stays world.notes U.objects x.op (depth fs) x.k a.c (a.registers x.reg) g) ∙ g };
-          });
+          top = subst (λ d. FitsState world.notes V d lost_frame (with_left s true left) lost_config.registers a.c a.made)
+              (sym (depth_map (depth fs) fs)) (record {
+                registers = λ x l b. listed (λ q y. Fits world.notes V (depth fs) lost_frame.saved y
+                    (without_local (depth fs) (a.registers q)))
+                    (λ r. left_type true (type_of s r))
+                    (λ r l b. forgotten_fits world.notes (depth fs) U V refl lost_later f.saved (type_of s r) (a.registers r)
+                    (st.top.registers r l b)) x l b;
+                items = items_lost world.notes (depth fs) U V refl lost_later f lost_frame refl refl rest left z;
+                written = λ x q. absurd (omega (arith, q));
+                made_are = st.top.made_are;
+                fact = λ x e. let g = (st.top.fact x e).gave in record {
+                  gave = ap (λ v. compared_as world.notes U.objects x.op true v (number x.k))
+                      (compared_stays world.notes U.objects x.op (depth fs) x.k a.c (a.registers x.reg) g) ∙ g;
+                };
+              });
           below = record {
             cells = lost_cells;
             frames = (
               (
                 note,
-                keeps_without world passed (depth fs) U V refl a.made (record f { items = rest }) note (registers_without (depth fs) f.saved) (record { there = st.there; within = within; slots = slots; thunks = k.0.thunks }),
+                keeps_without world passed (depth fs) U V refl a.made (record f { items = rest }) note
+                    (registers_without (depth fs) f.saved) (record {
+                      there = st.there;
+                      within = within;
+                      slots = slots;
+                      thunks = k.0.thunks;
+                    }),
                 below_without world passed (depth fs) U V refl f lost_frame note fs st.there refl refl (omega arith) lost_later k.1,
               ),
               frames_without world passed (depth fs) U V refl a.made fs (omega arith) lost_later k.2,
@@ -208,22 +262,27 @@ module _ (world : World) (a : Config) (f : FunctionFrame) (fs : List Frame) (not
 
 -- ---- the rules
 
-module _ (world : World) (a : Config) (f : FunctionFrame) (fs : List Frame) (note : FnNote) (s : State) (st : TopSound world a f fs note s) where
-  falls_is : (x y : Successors) → ◌≡◌ {A = Result Successors RuleName} (Ok x) (Ok y) → x ≡ y
-  falls_is x y e = cc
-
+module _ (world : World) (a : Config) (f : FunctionFrame) (fs : List Frame) (note : FnNote) (s : State)
+    (st : TopSound world a f fs note s) where
   abbrev Falls : ℕ → Successors → Outcome (NeutralEnd × Config) → Type 0
   Falls next x o = FallsOn world a f fs note s st next x o
 
   -- items dropped from the top
-  pub drop_goes : (n c next : ℕ) (x : Successors) → next < world.image_size → drop_row world.notes note s n c ≡ Ok x → Falls next x (after_drop a f fs (dropped n c f.items) >>= (λ b. goes world b next))
+  pub drop_goes : (n c next : ℕ) (x : Successors) → next < world.image_size → drop_row world.notes note s n c ≡ Ok x
+      → Falls next x (after_drop a f fs (dropped n c f.items) >>= (λ b. goes world b next))
   drop_goes n c next x i e = go (left_after (locals_size world.notes note) s.items n c) refl e
     where
-      found : (left : List Item) (r : DropFound world.notes (live_memory world a) (depth fs) f (locals_size world.notes note) (λ x q. let z = sizes_same world a f fs note s st x q in (z.1, z.2)) n c f.items s.items left) → falls (with_left s (loses s.items left) left) ≡ x → Falls next x (after_drop a f fs (dropped n c f.items) >>= (λ b. goes world b next))
+      found : (left : List Item) (r : DropFound world.notes (live_memory world a) (depth fs) f (locals_size world.notes note)
+          (λ x q. let z = sizes_same world a f fs note s st x q in (z.1, z.2)) n c f.items s.items left)
+          → falls (with_left s (loses s.items left) left) ≡ x → Falls next x
+          (after_drop a f fs (dropped n c f.items) >>= (λ b. goes world b next))
       found left r q = cases r.gone refl
         where
           k : KeepsWithin (λ w. height w r.rest) note
-          k = let t = top_keeps world a f fs note s st in record { at4 = (let x = t.0.within.at4 in let y = r.lower 4 in omega (arith, x, y)); at8 = (let x = t.0.within.at8 in let y = r.lower 8 in omega (arith, x, y)) }
+          k = let t = top_keeps world a f fs note s st in record {
+            at4 = (let x = t.0.within.at4 in let y = r.lower 4 in omega (arith, x, y));
+            at8 = (let x = t.0.within.at8 in let y = r.lower 8 in omega (arith, x, y));
+          }
 
           never : (b : Bool) → (b && not b) ≡ false
           never true = refl
@@ -231,13 +290,16 @@ module _ (world : World) (a : Config) (f : FunctionFrame) (fs : List Frame) (not
 
           cases : (g : Bool) → r.gone ≡ g → Falls next x (after_drop a f fs (dropped n c f.items) >>= (λ b. goes world b next))
           cases false g =
-              let lost : loses s.items left ≡ false = ap (λ b. b && not (list_any is_locals left)) (r.any ∙ ap (λ b. b || list_any is_locals left) g) ∙ never (list_any is_locals left) in
+              let lost : loses s.items left ≡ false = ap (λ b. b && not (list_any is_locals left))
+              (r.any ∙ ap (λ b. b || list_any is_locals left) g) ∙ never (list_any is_locals left) in
               record {
                 state = with_left s false left;
                 falls_to = ap (λ (y : Successors). y.fall) (sym q) ∙ ap (λ b. Some (with_left s b left)) lost;
                 goes = subst (λ o. Accepts (GoesOn world a f fs note s st next (with_left s false left)) (o >>= (λ b. goes world b next)))
-                    (sym (ap (after_drop a f fs) r.found ∙ ap (λ b. if b then Gives (config_without (depth fs) (with_items a f r.rest fs)) else Gives (with_items a f r.rest fs)) g))
-                    (goes_on world a f fs note s st (with_items a f r.rest fs) next (with_left s false left) i (kept_goes world a f fs note s st n c left r g));
+                    (sym (ap (after_drop a f fs) r.found ∙ ap (λ b. if b then Gives (config_without (depth fs) (with_items a f r.rest fs))
+                    else Gives (with_items a f r.rest fs)) g))
+                    (goes_on world a f fs note s st (with_items a f r.rest fs) next (with_left s false left) i
+                    (kept_goes world a f fs note s st n c left r g));
               }
           cases true g =
               let none = r.once g (once_counted s.items st.state.once) in
@@ -247,38 +309,59 @@ module _ (world : World) (a : Config) (f : FunctionFrame) (fs : List Frame) (not
                 state = with_left s true left;
                 falls_to = ap (λ (y : Successors). y.fall) (sym q) ∙ ap (λ b. Some (with_left s b left)) lost;
                 goes = subst (λ o. Accepts (GoesOn world a f fs note s st next (with_left s true left)) (o >>= (λ b. goes world b next)))
-                    (sym (ap (after_drop a f fs) r.found ∙ ap (λ b. if b then Gives (config_without (depth fs) (with_items a f r.rest fs)) else Gives (with_items a f r.rest fs)) g))
+                    (sym (ap (after_drop a f fs) r.found ∙ ap (λ b. if b then Gives (config_without (depth fs) (with_items a f r.rest fs))
+                    else Gives (with_items a f r.rest fs)) g))
                     (goes_on world a f fs note s st (config_without (depth fs) (with_items a f r.rest fs)) next (with_left s true left) i
-                    (lost_goes world a f fs note s st r.rest gone left k (r.kept (live_memory world a).objects (top_keeps world a f fs note s st).0.slots) r.fits));
+                    (lost_goes world a f fs note s st r.rest gone left k
+                    (r.kept (live_memory world a).objects (top_keeps world a f fs note s st).0.slots) r.fits));
               }
 
-      go : (o : Option (List Item)) → left_after (locals_size world.notes note) s.items n c ≡ o → drop_to s o ≡ Ok x → Falls next x (after_drop a f fs (dropped n c f.items) >>= (λ b. goes world b next))
+      go : (o : Option (List Item)) → left_after (locals_size world.notes note) s.items n c ≡ o → drop_to s o ≡ Ok x
+          → Falls next x (after_drop a f fs (dropped n c f.items) >>= (λ b. goes world b next))
       go None h e = absurd (err_ok rule.Stack x e)
-      go (Some left) h e = found left (drop_found world.notes (live_memory world a) (depth fs) f (locals_size world.notes note) (λ x q. let z = sizes_same world a f fs note s st x q in (z.1, z.2)) n c f.items s.items left st.top.items h) (falls_is _ x e)
+      go (Some left) h e = found left (drop_found world.notes (live_memory world a) (depth fs) f (locals_size world.notes note)
+          (λ x q. let z = sizes_same world a f fs note s st x q in (z.1, z.2)) n c f.items s.items left st.top.items h) (ok_same _ x e)
 
-  made_falls : (n c next : ℕ) (x : Successors) → next < world.image_size → make_row world.notes note s n c ≡ Ok x → Falls next x (after_make a f fs n c (frame_locals world.notes f.func) >>= (λ b. goes world b next))
-  made_falls n c next x i e = let r = make_goes world a f fs note s st n c next x i e in record { state = with_item s item.Locals; falls_to = r.0; goes = r.1 }
+  made_falls : (n c next : ℕ) (x : Successors) → next < world.image_size → make_row world.notes note s n c ≡ Ok x
+      → Falls next x (after_make a f fs n c (frame_locals world.notes f.func) >>= (λ b. goes world b next))
+  made_falls n c next x i e = let r = make_goes world a f fs note s st n c next x i e in
+      record { state = with_item s item.Locals; falls_to = r.0; goes = r.1 }
 
   -- R0 moved down makes the locals
-  moved_down : (u c next : ℕ) (x : Successors) → (nat_eq u 0 && nat_eq c 0) ≡ false → Falls next x (after_make a f fs u c (frame_locals world.notes f.func) >>= (λ b. goes world b next)) → Falls next x (adjusted world a (Function f ∷ fs) true u c >>= (λ b. goes world b next))
-  moved_down u c next x h r = subst (λ b. Falls next x ((if not b then after_make a f fs u c (frame_locals world.notes f.func) else after_drop a f fs (dropped u c f.items)) >>= (λ b. goes world b next))) (sym h) r
+  moved_down : (u c next : ℕ) (x : Successors) → (nat_eq u 0 && nat_eq c 0) ≡ false
+      → Falls next x (after_make a f fs u c (frame_locals world.notes f.func) >>= (λ b. goes world b next))
+      → Falls next x (adjusted world a (Function f ∷ fs) true u c >>= (λ b. goes world b next))
+  moved_down u c next x h r = subst (λ b. Falls next x ((if not b then after_make a f fs u c (frame_locals world.notes f.func)
+      else after_drop a f fs (dropped u c f.items)) >>= (λ b. goes world b next))) (sym h) r
 
   -- R0 moved by an index
-  index_falls : (neg : Bool) (u c next : ℕ) (x : Successors) → next < world.image_size → frame_row world.notes note s (record { n = signed neg u; c = signed neg c }) ≡ Ok x → Falls next x (adjusted world a (Function f ∷ fs) neg u c >>= (λ b. goes world b next))
+  index_falls : (neg : Bool) (u c next : ℕ) (x : Successors) → next < world.image_size
+      → frame_row world.notes note s (record { n = signed neg u; c = signed neg c }) ≡ Ok x
+      → Falls next x (adjusted world a (Function f ∷ fs) neg u c >>= (λ b. goes world b next))
   unfolding frame_row
   index_falls false u c next x i e =
-      drop_goes u c next x i (sym (ap₂ (λ p q. if p && q then drop_row world.notes note s u c else (if int_le (pos u) (pos 0) && int_le (pos c) (pos 0) then make_row world.notes note s u c else Err rule.Stack)) (le-leb 0 u (omega arith)) (le-leb 0 c (omega arith))) ∙ e)
+      drop_goes u c next x i (sym (ap₂ (λ p q. if p && q then drop_row world.notes note s u c
+      else (if int_le (pos u) (pos 0) && int_le (pos c) (pos 0) then make_row world.notes note s u c else Err rule.Stack))
+      (le-leb 0 u (omega arith)) (le-leb 0 c (omega arith))) ∙ e)
   index_falls true zero zero next x i e = drop_goes 0 0 next x i e
-  index_falls true (suc m) zero next x i e = moved_down (suc m) 0 next x (ap (λ b. b && nat_eq 0 0) (ne_eqb (suc m) 0 (λ q. absurd (omega (arith, q))))) (made_falls (suc m) 0 next x i e)
-  index_falls true zero (suc k) next x i e = moved_down 0 (suc k) next x (ap (λ b. nat_eq 0 0 && b) (ne_eqb (suc k) 0 (λ q. absurd (omega (arith, q))))) (made_falls 0 (suc k) next x i e)
-  index_falls true (suc m) (suc k) next x i e = moved_down (suc m) (suc k) next x (ap (λ b. b && nat_eq (suc k) 0) (ne_eqb (suc m) 0 (λ q. absurd (omega (arith, q))))) (made_falls (suc m) (suc k) next x i e)
+  index_falls true (suc m) zero next x i e = moved_down (suc m) 0 next x
+      (ap (λ b. b && nat_eq 0 0) (ne_eqb (suc m) 0 (λ q. absurd (omega (arith, q))))) (made_falls (suc m) 0 next x i e)
+  index_falls true zero (suc k) next x i e = moved_down 0 (suc k) next x
+      (ap (λ b. nat_eq 0 0 && b) (ne_eqb (suc k) 0 (λ q. absurd (omega (arith, q))))) (made_falls 0 (suc k) next x i e)
+  index_falls true (suc m) (suc k) next x i e = moved_down (suc m) (suc k) next x
+      (ap (λ b. b && nat_eq (suc k) 0) (ne_eqb (suc m) 0 (λ q. absurd (omega (arith, q))))) (made_falls (suc m) (suc k) next x i e)
 
-  adjusted_falls : (ridx : Option Index) (next : ℕ) (x : Successors) → next < world.image_size → frame_row world.notes note s (index_distance ridx) ≡ Ok x → Falls next x (adjusted_by world a ridx >>= (λ b. goes world b next))
-  adjusted_falls None next x i e = subst (λ z. Falls next x (adjusted world a z false 0 0 >>= (λ b. goes world b next))) (sym st.frames) (index_falls false 0 0 next x i e)
-  adjusted_falls (Some j) next x i e = subst (λ z. Falls next x (adjusted world a z j.neg j.units j.bytes >>= (λ b. goes world b next))) (sym st.frames) (index_falls j.neg j.units j.bytes next x i e)
+  adjusted_falls : (ridx : Option Index) (next : ℕ) (x : Successors) → next < world.image_size
+      → frame_row world.notes note s (index_distance ridx) ≡ Ok x → Falls next x (adjusted_by world a ridx >>= (λ b. goes world b next))
+  adjusted_falls None next x i e = subst (λ z. Falls next x (adjusted world a z false 0 0 >>= (λ b. goes world b next))) (sym st.frames)
+      (index_falls false 0 0 next x i e)
+  adjusted_falls (Some j) next x i e = subst (λ z. Falls next x (adjusted world a z j.neg j.units j.bytes >>= (λ b. goes world b next)))
+      (sym st.frames) (index_falls j.neg j.units j.bytes next x i e)
 
   -- MOVq of R0 to R0 that its rule accepts goes on soundly.
-  pub frame_goes : (size : Size) (bits : ℕ) (left right : Operand) (lidx ridx : Option Index) (next : ℕ) (x : Successors) → LeftFits bits left lidx → next < world.image_size → frame_move world.notes note s size left right ridx ≡ Ok x → Falls next x (stack_row world a next size right lidx ridx)
+  pub frame_goes : (size : Size) (bits : ℕ) (left right : Operand) (lidx ridx : Option Index) (next : ℕ) (x : Successors)
+      → LeftFits bits left lidx → next < world.image_size → frame_move world.notes note s size left right ridx ≡ Ok x
+      → Falls next x (stack_row world a next size right lidx ridx)
   unfolding stack_row
   frame_goes sizes.Qword bits left right lidx ridx next x l i e = go left.indirect refl e
     where
@@ -286,13 +369,21 @@ module _ (world : World) (a : Config) (f : FunctionFrame) (fs : List Frame) (not
       none h None l = refl
       none h (Some j) l = absurd (false≢true (sym h ∙ l.0))
 
-      test : left.indirect ≡ false → (b : Bool) → (nat_eq left.reg 0 && (not right.indirect && nat_eq right.reg 0)) ≡ b → (if b then frame_row world.notes note s (index_distance ridx) else Err rule.Stack) ≡ Ok x → Falls next x (unless_stuck (is_qword_size sizes.Qword && (is_none lidx && (not right.indirect && nat_eq right.reg 0))) (adjusted_by world a ridx >>= (λ b. goes world b next)))
+      test : left.indirect ≡ false → (b : Bool) → (nat_eq left.reg 0 && (not right.indirect && nat_eq right.reg 0)) ≡ b
+          → (if b then frame_row world.notes note s (index_distance ridx) else Err rule.Stack) ≡ Ok x
+          → Falls next x (unless_stuck (is_qword_size sizes.Qword && (is_none lidx && (not right.indirect && nat_eq right.reg 0)))
+          (adjusted_by world a ridx >>= (λ b. goes world b next)))
       test h false q e = absurd (err_ok rule.Stack x e)
       test h true q e =
           let p = and_parts (nat_eq left.reg 0) (not right.indirect && nat_eq right.reg 0) q in
-          subst (λ b. Falls next x (unless_stuck b (adjusted_by world a ridx >>= (λ b. goes world b next)))) (sym (ap₂ (λ b c. b && c) (none h lidx l) p.1)) (adjusted_falls ridx next x i e)
+          subst (λ b. Falls next x (unless_stuck b (adjusted_by world a ridx >>= (λ b. goes world b next))))
+          (sym (ap₂ (λ b c. b && c) (none h lidx l) p.1)) (adjusted_falls ridx next x i e)
 
-      go : (b : Bool) → left.indirect ≡ b → (if b then Err rule.Form else (if nat_eq left.reg 0 && (not right.indirect && nat_eq right.reg 0) then frame_row world.notes note s (index_distance ridx) else Err rule.Stack)) ≡ Ok x → Falls next x (unless_stuck (is_qword_size sizes.Qword && (is_none lidx && (not right.indirect && nat_eq right.reg 0))) (adjusted_by world a ridx >>= (λ b. goes world b next)))
+      go : (b : Bool) → left.indirect ≡ b → (if b then Err rule.Form
+          else (if nat_eq left.reg 0 && (not right.indirect && nat_eq right.reg 0) then frame_row world.notes note s (index_distance ridx)
+          else Err rule.Stack)) ≡ Ok x → Falls next x (unless_stuck
+          (is_qword_size sizes.Qword && (is_none lidx && (not right.indirect && nat_eq right.reg 0)))
+          (adjusted_by world a ridx >>= (λ b. goes world b next)))
       go true h e = absurd (err_ok rule.Form x e)
       go false h e = test h (nat_eq left.reg 0 && (not right.indirect && nat_eq right.reg 0)) refl e
   frame_goes sizes.Byte bits left right lidx ridx next x l i e = absurd (no_move left.indirect e)

@@ -3,14 +3,15 @@ use Rattle.std.proofs.Common.{◌≡◌, ℕ, ◌≤◌, true, false, sym, ap, �
 use Rattle.std.proofs.Math.Nat.{dvd_trans}
 use Rattle.std.proofs.lemmas.Bool.{false≢true, true≢false}
 use Prim.Native.Nat.{◌∣◌}
-use Rattle.note_types.specs.Below.{RangeBelow, PointerBelow, TakesNull, NullBelow, StatusBelow, GrantsBelow, Below, below_any, below_equal, below_range, below_pointer, below_null, below_status, below_grants}
+use Rattle.note_types.specs.Below.{RangeBelow, PointerBelow, TakesNull, NullBelow, StatusBelow, GrantsBelow, Below, below_any, below_equal}
+use Rattle.note_types.specs.Below.{below_range, below_pointer, below_null, below_status, below_grants}
 use Rattle.note_types.specs.declared.notes.Notes.{Notes}
 use Rattle.note_types.specs.declared.types.Ty.{Ty}
 use Rattle.note_types.specs.declared.types.Ty.TheVariants.{Int, Ptr, Status, SignedStatus, Handle, Entry}
-use Rattle.run_types.specs.Values.{Neutral, null, number}
-use Rattle.run_types.specs.Config.{Registers}
-use Rattle.run_types.specs.Memory.{Memory, AreWritten}
-use Rattle.run_types.specs.Fits.{IsPointer, Fits}
+use Rattle.host_model.specs.Values.{Neutral, null, number}
+use Rattle.neutral_machine.specs.Config.{Registers}
+use Rattle.neutral_machine.specs.Memory.{Memory, AreWritten}
+use Rattle.neutral_machine.specs.Fits.{IsPointer, Fits}
 
 module _ (notes : Notes) (m : Memory) (d : ℕ) (saved : Registers) where
   range_fits : (a b : Ty) (v : Neutral) → RangeBelow a b → Fits notes m d saved a v → Fits notes m d saved b v
@@ -22,19 +23,23 @@ module _ (notes : Notes) (m : Memory) (d : ℕ) (saved : Registers) where
         is = f.is;
         from = omega (arith, f.from, l);
         to = omega (arith, f.to, r);
-        divided = ⊎_elim (λ z. dvd_trans _ z f.divided) (λ z. let e1 = z.0 in let e : lo ≡ f.x = omega (arith, f.from, f.to, e1) in subst (λ y. by ∣ y) e z.1) h.2;
+        divided = ⊎_elim (λ z. dvd_trans _ z f.divided) (λ z. let e1 = z.0 in let e : lo ≡ f.x = omega (arith, f.from, f.to, e1) in
+            subst (λ y. by ∣ y) e z.1) h.2;
       }
   range_fits _ _ v h f = absurd h
 
-  same_pointer : (s t k l : ℕ) (n p c e : ℤ) (v : Neutral) → s ≡ t → n ≡ p → c ≡ e → l ≤ k → IsPointer notes m.objects s k n c v → IsPointer notes m.objects t l p e v
+  same_pointer : (s t k l : ℕ) (n p c e : ℤ) (v : Neutral) → s ≡ t → n ≡ p → c ≡ e → l ≤ k → IsPointer notes m.objects s k n c v
+      → IsPointer notes m.objects t l p e v
   same_pointer s t k l n p c e v es en ec le f =
-      let g : IsPointer notes m.objects t k p e v = subst (λ z. IsPointer notes m.objects t k p z v) ec (subst (λ z. IsPointer notes m.objects t k z c v) en (subst (λ z. IsPointer notes m.objects z k n c v) es f)) in
+      let g : IsPointer notes m.objects t k p e v = subst (λ z. IsPointer notes m.objects t k p z v) ec
+      (subst (λ z. IsPointer notes m.objects t k z c v) en (subst (λ z. IsPointer notes m.objects z k n c v) es f)) in
       record { k = g.k; j = g.j; object = g.object; is = g.is; there = g.there; shape = g.shape; room = omega (arith, g.room, le) }
 
   pointer_fits : (a b : Ty) (v : Neutral) → PointerBelow a b → Fits notes m d saved a v → Fits notes m d saved b v
   pointer_fits (Ptr s k n c false) (Ptr t l p e false) v h f = same_pointer s t k l n p c e v h.0 h.1 h.2 h.3 f
   pointer_fits (Ptr s k n c false) (Ptr t l p e true) v h f = inl (same_pointer s t k l n p c e v h.0 h.1 h.2 h.3 f)
-  pointer_fits (Ptr s k n c true) (Ptr t l p e true) v h f = ⊎_elim (λ g. inl (same_pointer s t k l n p c e v h.0 h.1 h.2 h.3 g)) (λ g. inr g) f
+  pointer_fits (Ptr s k n c true) (Ptr t l p e true) v h f = ⊎_elim (λ g. inl (same_pointer s t k l n p c e v h.0 h.1 h.2 h.3 g))
+      (λ g. inr g) f
   pointer_fits (Ptr s k n c true) (Ptr t l p e false) v h f = ⊎_elim (λ z. absurd (true≢false z)) (λ z. absurd (false≢true z)) h.4
   pointer_fits _ _ v h f = absurd h
 

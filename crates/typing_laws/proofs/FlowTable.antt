@@ -1,5 +1,7 @@
 -- The table of the rows of control and of the stack, and with it the rules of all instructions.
-use Rattle.std.proofs.Common.{◌≡◌, ◌≢◌, ℕ, ◌%◌, ◌<◌, ◌⊎◌, Bool, true, false, not, ◌&&◌, if◌then◌else◌, is_none, is_some, nat_eq, List, Option, Some, None, Result, Ok, Err, slice_get, refl, sym, ap, ap₂, ◌∙◌, subst, arith, inl, ⊎_elim, pos, int_le, unsigned_abs}
+use Rattle.std.proofs.Common.{◌≡◌, ◌≢◌, ℕ, ◌%◌, ◌<◌, ◌⊎◌, Bool, true, false, not, ◌&&◌, if◌then◌else◌, is_none, is_some, nat_eq, List}
+use Rattle.std.proofs.Common.{Option, Some, None, Result, Ok, Err, slice_get, refl, sym, ap, ap₂, ◌∙◌, subst, arith, inl, ⊎_elim, pos}
+use Rattle.std.proofs.Common.{int_le, unsigned_abs}
 use Rattle.std.specs.List.{list_any}
 use Rattle.std.proofs.lemmas.Bool.{and_parts, true≢false}
 use Rattle.std.proofs.lemmas.Option.{same_Some, none-some}
@@ -41,15 +43,16 @@ use Rattle.rules_flow.specs.declared.successors.Successors.{Successors}
 use Rattle.neutral_machine.specs.Operands.{indexed, plainly}
 use Rattle.neutral_machine.specs.Rows.{NeutralEnd, Next, Native, MakeThunk, Site, executed, is_stack_pointer}
 use Rattle.neutral_machine.specs.Rows as rows
-use Rattle.run_types.specs.Config.{FunctionFrame, Frame, Config}
-use Rattle.run_types.specs.Outcomes.{Outcome, Gives, Raises, Stuck}
-use Rattle.run_types.specs.Values.{Neutral}
-use Rattle.run_types.specs.World.{World}
+use Rattle.neutral_machine.specs.Config.{FunctionFrame, Frame, Config}
+use Rattle.neutral_machine.specs.Outcomes.{Outcome, Gives, Raises, Stuck}
+use Rattle.host_model.specs.Values.{Neutral}
+use Rattle.host_model.specs.World.{World}
 use Rattle.typed_runs.specs.Accepts.{Accepts}
-use Rattle.typing_laws.specs.OneRule.{WorldTyped, StandsTyped, Accepted, Asks, Makes, EndsSound, GoesOnSound, IsTaken, OneRule, here_of}
+use Rattle.typing_laws.specs.OneRule.{Asks, Makes, EndsSound, GoesOnSound, IsTaken, OneRule, here_of}
 use Rattle.typing_laws.specs.OneRule as ends
 use Rattle.typed_runs.specs.Sound.{TopFits}
-use Rattle.typing_laws.proofs.ArithRow.{BesideFits, GoesOn, err_ok, ok_is}
+use Rattle.typing_laws.proofs.Rows.{err_ok, ok_same}
+use Rattle.typing_laws.proofs.ArithRow.{BesideFits, GoesOn}
 use Rattle.typing_laws.proofs.Calls.{call_fits, return_fits}
 use Rattle.typing_laws.proofs.Context.{TopSound}
 use Rattle.typing_laws.proofs.DataTable.{change_found, data_fits, no_row, past_test, top_sound}
@@ -71,7 +74,7 @@ err_falls : (r : RuleName) → AllFall (Err r)
 err_falls r x e = absurd (err_ok r x e)
 
 ok_falls : (t : State) → AllFall (Ok (falls t))
-ok_falls t x e = λ q. absurd (none-some t (sym q ∙ ap (λ (y : Successors). y.fall) (sym (ok_is (falls t) x e))))
+ok_falls t x e = λ q. absurd (none-some t (sym q ∙ ap (λ (y : Successors). y.fall) (sym (ok_same (falls t) x e))))
 
 if_falls : (b : Bool) (o p : Result Successors RuleName) → AllFall o → AllFall p → AllFall (if b then o else p)
 if_falls true o p h g = h
@@ -80,9 +83,12 @@ if_falls false o p h g = g
 frame_falls : (notes : Notes) (note : FnNote) (s : State) (d : Distance) → AllFall (frame_row notes note s d)
 unfolding frame_row
 frame_falls notes note s d =
-    if_falls (int_le (pos 0) d.n && int_le (pos 0) d.c) _ _ (dropping (left_after (locals_size notes note) s.items (unsigned_abs d.n) (unsigned_abs d.c)))
+    if_falls (int_le (pos 0) d.n && int_le (pos 0) d.c) _ _ (dropping
+    (left_after (locals_size notes note) s.items (unsigned_abs d.n) (unsigned_abs d.c)))
     (if_falls (int_le d.n (pos 0) && int_le d.c (pos 0)) _ _
-    (if_falls (is_some note.locals && (not (list_any is_locals s.items) && (is_size (locals_size notes note) (unsigned_abs d.n) (unsigned_abs d.c) && has_room notes note item.Locals s.items))) _ _ (ok_falls _) (err_falls rule.Stack))
+    (if_falls (is_some note.locals && (not (list_any is_locals s.items)
+    && (is_size (locals_size notes note) (unsigned_abs d.n) (unsigned_abs d.c) && has_room notes note item.Locals s.items))) _ _
+    (ok_falls _) (err_falls rule.Stack))
     (err_falls rule.Stack))
   where
     dropping : (o : Option (List Item)) → AllFall (drop_to s o)
@@ -90,23 +96,32 @@ frame_falls notes note s d =
     dropping (Some is) = ok_falls _
 
 -- a move of R0 goes on at the next place
-pub move_falls : (notes : Notes) (note : FnNote) (s : State) (size : Size) (left right : Operand) (ridx : Option Index) → AllFall (frame_move notes note s size left right ridx)
+pub move_falls : (notes : Notes) (note : FnNote) (s : State) (size : Size) (left right : Operand) (ridx : Option Index)
+    → AllFall (frame_move notes note s size left right ridx)
 move_falls notes note s sizes.Qword left right ridx =
-    if_falls left.indirect _ _ (err_falls rule.Form) (if_falls (nat_eq left.reg 0 && (not right.indirect && nat_eq right.reg 0)) _ _ (frame_falls notes note s (index_distance ridx)) (err_falls rule.Stack))
+    if_falls left.indirect _ _ (err_falls rule.Form) (if_falls (nat_eq left.reg 0 && (not right.indirect && nat_eq right.reg 0)) _ _
+    (frame_falls notes note s (index_distance ridx)) (err_falls rule.Stack))
 move_falls notes note s sizes.Byte left right ridx = if_falls left.indirect _ _ (err_falls rule.Form) (err_falls rule.Stack)
 move_falls notes note s sizes.Word left right ridx = if_falls left.indirect _ _ (err_falls rule.Form) (err_falls rule.Stack)
 move_falls notes note s sizes.Dword left right ridx = if_falls left.indirect _ _ (err_falls rule.Form) (err_falls rule.Stack)
 move_falls notes note s sizes.Natural left right ridx = if_falls left.indirect _ _ (err_falls rule.Form) (err_falls rule.Stack)
 
 -- and its operand 1 is R0 itself, moved by the index
-pub move_stack : (notes : Notes) (note : FnNote) (s : State) (size : Size) (left right : Operand) (ridx : Option Index) (x : Successors) → frame_move notes note s size left right ridx ≡ Ok x → (is_stack_pointer (plainly left) ≡ true) × (frame_row notes note s (index_distance ridx) ≡ Ok x)
+pub move_stack : (notes : Notes) (note : FnNote) (s : State) (size : Size) (left right : Operand) (ridx : Option Index) (x : Successors)
+    → frame_move notes note s size left right ridx ≡ Ok x → (is_stack_pointer (plainly left) ≡ true)
+    × (frame_row notes note s (index_distance ridx) ≡ Ok x)
 move_stack notes note s sizes.Qword left right ridx x e = go left.indirect refl e
   where
-    direct : left.indirect ≡ false → (b : Bool) → (nat_eq left.reg 0 && (not right.indirect && nat_eq right.reg 0)) ≡ b → (if b then frame_row notes note s (index_distance ridx) else Err rule.Stack) ≡ Ok x → ((not left.indirect && nat_eq left.reg 0) ≡ true) × (frame_row notes note s (index_distance ridx) ≡ Ok x)
+    direct : left.indirect ≡ false → (b : Bool) → (nat_eq left.reg 0 && (not right.indirect && nat_eq right.reg 0)) ≡ b
+        → (if b then frame_row notes note s (index_distance ridx) else Err rule.Stack) ≡ Ok x
+        → ((not left.indirect && nat_eq left.reg 0) ≡ true) × (frame_row notes note s (index_distance ridx) ≡ Ok x)
     direct h true q e = (ap₂ (λ b c. not b && c) h (and_parts (nat_eq left.reg 0) (not right.indirect && nat_eq right.reg 0) q).0, e)
     direct h false q e = absurd (err_ok rule.Stack x e)
 
-    go : (b : Bool) → left.indirect ≡ b → (if b then Err rule.Form else (if nat_eq left.reg 0 && (not right.indirect && nat_eq right.reg 0) then frame_row notes note s (index_distance ridx) else Err rule.Stack)) ≡ Ok x → ((not left.indirect && nat_eq left.reg 0) ≡ true) × (frame_row notes note s (index_distance ridx) ≡ Ok x)
+    go : (b : Bool) → left.indirect ≡ b → (if b then Err rule.Form
+        else (if nat_eq left.reg 0 && (not right.indirect && nat_eq right.reg 0) then frame_row notes note s (index_distance ridx)
+        else Err rule.Stack)) ≡ Ok x → ((not left.indirect && nat_eq left.reg 0) ≡ true)
+        × (frame_row notes note s (index_distance ridx) ≡ Ok x)
     go true h e = absurd (err_ok rule.Form x e)
     go false h e = direct h (nat_eq left.reg 0 && (not right.indirect && nat_eq right.reg 0)) refl e
 move_stack notes note s sizes.Byte left right ridx x e = absurd (no_row left.indirect rule.Form rule.Stack x e)
@@ -114,7 +129,8 @@ move_stack notes note s sizes.Word left right ridx x e = absurd (no_row left.ind
 move_stack notes note s sizes.Dword left right ridx x e = absurd (no_row left.indirect rule.Form rule.Stack x e)
 move_stack notes note s sizes.Natural left right ridx x e = absurd (no_row left.indirect rule.Form rule.Stack x e)
 
-pop_falls : (notes : Notes) (note : FnNote) (s : State) (kind : SlotKind) (op : Operand) (extra : Extra) → AllFall (pop_row notes note s kind op extra)
+pop_falls : (notes : Notes) (note : FnNote) (s : State) (kind : SlotKind) (op : Operand) (extra : Extra)
+    → AllFall (pop_row notes note s kind op extra)
 unfolding pop_row
 pop_falls notes note s kind op extra x e =
     then_ok (beside (top_type kind s.items) (pop_destination notes note s kind op extra)) _ x e (λ p e1 e2.
@@ -126,24 +142,33 @@ pop_falls notes note s kind op extra x e =
 target_beside : (far : Bool) (op : Operand) (extra : Extra) → TargetFits far op extra → BesideFits op extra
 target_beside false op extra w = beside_fits 32 op extra (omega arith) w.0 w.1
 target_beside true op Nothing w = absurd w
-target_beside true op (Imm v) w = record { register = (let e = w.0 in omega (arith, e)); memory = λ m. absurd (true≢false (sym m ∙ w.1)); direct = λ m i e. absurd cc }
+target_beside true op (Imm v) w = record {
+  register = (let e = w.0 in omega (arith, e));
+  memory = λ m. absurd (true≢false (sym m ∙ w.1));
+  direct = λ m i e. absurd cc;
+}
 target_beside true op (Idx i) w = absurd w
 
 -- what the row of an instruction comes from
-pub row_found : (notes : Notes) (note : FnNote) (here : Here) (s : State) (i : Insn) (x : Successors) → slice_get notes.function here.func ≡ Some note → after_flow notes here s i ≡ Ok x → flow_row notes note here s i ≡ Ok x
+pub row_found : (notes : Notes) (note : FnNote) (here : Here) (s : State) (i : Insn) (x : Successors)
+    → slice_get notes.function here.func ≡ Some note → after_flow notes here s i ≡ Ok x → flow_row notes note here s i ≡ Ok x
 unfolding after_flow
 row_found notes note here s i x h e = go (slice_get notes.function here.func) h e
   where
-    go : (o : Option FnNote) → o ≡ Some note → steps.◌>>=◌ (or_else rule.Function o) (λ f. flow_row notes f here s i) ≡ Ok x → flow_row notes note here s i ≡ Ok x
+    go : (o : Option FnNote) → o ≡ Some note → steps.◌>>=◌ (or_else rule.Function o) (λ f. flow_row notes f here s i) ≡ Ok x
+        → flow_row notes note here s i ≡ Ok x
     go None h e = absurd (none-some note h)
     go (Some f) h e = subst (λ f. flow_row notes f here s i ≡ Ok x) (same_Some f note h) e
 
-module _ (world : World) (a : Config) (f : FunctionFrame) (fs : List Frame) (note : FnNote) (s : State) (st : TopSound world a f fs note s) (site : Site) (x : Successors) where
+module _ (world : World) (a : Config) (f : FunctionFrame) (fs : List Frame) (note : FnNote) (s : State) (st : TopSound world a f fs note s)
+    (site : Site) (x : Successors) where
   abbrev Ends : Insn → Outcome (NeutralEnd × Config) → Type 0
   Ends i o = Accepts (EndsSound world site x i a f fs) o
 
   -- an instruction that goes on where it says
-  goes_on_soundly : (i : Insn) (p : ℕ) (z : State) (o : Outcome (NeutralEnd × Config)) → ((b : Config) → ends.GoesOn world site x b → GoesOnSound world site x i a f fs b) → IsTaken site x p z → Accepts (GoesOn world a f fs note s st p z) o → Ends i o
+  goes_on_soundly : (i : Insn) (p : ℕ) (z : State) (o : Outcome (NeutralEnd × Config))
+      → ((b : Config) → ends.GoesOn world site x b → GoesOnSound world site x i a f fs b) → IsTaken site x p z
+      → Accepts (GoesOn world a f fs note s st p z) o → Ends i o
   goes_on_soundly i p z Stuck k t h = h
   goes_on_soundly i p z (Raises e) k t h = h
   goes_on_soundly i p z (Gives (Native v, b)) k t h = absurd (let e = h.ends in cc)
@@ -156,32 +181,41 @@ module _ (world : World) (a : Config) (f : FunctionFrame) (fs : List Frame) (not
     sound = record { top = subst (λ fs. TopFits world b fs z) (sym h.after.frames) h.after.top; below = h.after.below };
   })
 
-  takes_soundly : (i : Insn) (o : Outcome (NeutralEnd × Config)) → ((b : Config) → ends.GoesOn world site x b → GoesOnSound world site x i a f fs b) → TakesOn world a f fs note s st site x o → Ends i o
+  takes_soundly : (i : Insn) (o : Outcome (NeutralEnd × Config))
+      → ((b : Config) → ends.GoesOn world site x b → GoesOnSound world site x i a f fs b) → TakesOn world a f fs note s st site x o
+      → Ends i o
   takes_soundly i o k h = goes_on_soundly i h.place h.state o k h.taken h.goes
 
-  falls_soundly : (i : Insn) (o : Outcome (NeutralEnd × Config)) → ((b : Config) → ends.GoesOn world site x b → GoesOnSound world site x i a f fs b) → FallsOn world a f fs note s st site.next x o → Ends i o
+  falls_soundly : (i : Insn) (o : Outcome (NeutralEnd × Config))
+      → ((b : Config) → ends.GoesOn world site x b → GoesOnSound world site x i a f fs b) → FallsOn world a f fs note s st site.next x o
+      → Ends i o
   falls_soundly i o k h = goes_on_soundly i site.next h.state o k (inl (refl, h.falls_to)) h.goes
 
   -- an instruction that ends so, whatever it says of the configuration
-  next_soundly : (i : Insn) (P : Config → Type 0) (o : Outcome (NeutralEnd × Config)) → ((b : Config) → P b → GoesOnSound world site x i a f fs b) → Accepts (λ (y : NeutralEnd × Config). (y.0 ≡ Next) × P y.1) o → Ends i o
+  next_soundly : (i : Insn) (P : Config → Type 0) (o : Outcome (NeutralEnd × Config))
+      → ((b : Config) → P b → GoesOnSound world site x i a f fs b) → Accepts (λ (y : NeutralEnd × Config). (y.0 ≡ Next) × P y.1) o
+      → Ends i o
   next_soundly i P Stuck k h = h
   next_soundly i P (Raises e) k h = h
   next_soundly i P (Gives (Native v, b)) k h = absurd (let e = h.0 in cc)
   next_soundly i P (Gives (MakeThunk n, b)) k h = absurd (let e = h.0 in cc)
   next_soundly i P (Gives (Next, b)) k h = k b h.1
 
-  native_soundly : (i : Insn) (o : Outcome (NeutralEnd × Config)) → Accepts (λ (y : NeutralEnd × Config). (v : Neutral) × (y.0 ≡ Native v) × Asks world site x a f fs v y.1) o → Ends i o
+  native_soundly : (i : Insn) (o : Outcome (NeutralEnd × Config))
+      → Accepts (λ (y : NeutralEnd × Config). (v : Neutral) × (y.0 ≡ Native v) × Asks world site x a f fs v y.1) o → Ends i o
   native_soundly i Stuck h = h
   native_soundly i (Raises e) h = h
   native_soundly i (Gives (Native v, b)) h = let q : v ≡ h.0 = (let e = h.1 in cc) in subst (λ y. Asks world site x a f fs y b) (sym q) h.2
   native_soundly i (Gives (MakeThunk n, b)) h = absurd (let e = h.1 in cc)
   native_soundly i (Gives (Next, b)) h = absurd (let e = h.1 in cc)
 
-  thunk_soundly : (i : Insn) (o : Outcome (NeutralEnd × Config)) → Accepts (λ (y : NeutralEnd × Config). (n : ℕ) × (y.0 ≡ MakeThunk n) × Makes world site x a f fs n y.1) o → Ends i o
+  thunk_soundly : (i : Insn) (o : Outcome (NeutralEnd × Config))
+      → Accepts (λ (y : NeutralEnd × Config). (n : ℕ) × (y.0 ≡ MakeThunk n) × Makes world site x a f fs n y.1) o → Ends i o
   thunk_soundly i Stuck h = h
   thunk_soundly i (Raises e) h = h
   thunk_soundly i (Gives (Native v, b)) h = absurd (let e = h.1 in cc)
-  thunk_soundly i (Gives (MakeThunk n, b)) h = let q : n ≡ h.0 = (let e = h.1 in cc) in subst (λ y. Makes world site x a f fs y b) (sym q) h.2
+  thunk_soundly i (Gives (MakeThunk n, b)) h = let q : n ≡ h.0 = (let e = h.1 in cc) in
+      subst (λ y. Makes world site x a f fs y b) (sym q) h.2
   thunk_soundly i (Gives (Next, b)) h = absurd (let e = h.1 in cc)
 
   -- the next place is inside the image, where control goes on there
@@ -189,40 +223,58 @@ module _ (world : World) (a : Config) (f : FunctionFrame) (fs : List Frame) (not
   next_inside h n = ⊎_elim (λ q. absurd (n q)) (λ q. q) h
 
   -- An instruction of control or of the stack that its rule accepts goes on soundly.
-  flow_fits : (i : Insn) → WellFormed i → site.next % 2 ≡ 0 → (x.fall ≡ None) ⊎ (site.next < world.image_size) → flow_row world.notes note (here_of site f.func) s i ≡ Ok x → Ends i (executed world a site i)
+  flow_fits : (i : Insn) → WellFormed i → site.next % 2 ≡ 0 → (x.fall ≡ None) ⊎ (site.next < world.image_size)
+      → flow_row world.notes note (here_of site f.func) s i ≡ Ok x → Ends i (executed world a site i)
   unfolding executed
-  flow_fits (insns.Jump cond far relative op extra) w even l e = takes_soundly (insns.Jump cond far relative op extra) _ (λ b h. h) (jump_fits world a f fs note s st site cond far relative op extra x w l e)
-  flow_fits (insns.Jump8 cond words) w even l e = takes_soundly (insns.Jump8 cond words) _ (λ b h. h) (jump8_fits world a f fs note s st site cond words x l e)
+  flow_fits (insns.Jump cond far relative op extra) w even l e =
+      takes_soundly (insns.Jump cond far relative op extra) _ (λ b h. h)
+      (jump_fits world a f fs note s st site cond far relative op extra x w l e)
+  flow_fits (insns.Jump8 cond words) w even l e = takes_soundly (insns.Jump8 cond words) _ (λ b h. h)
+      (jump8_fits world a f fs note s st site cond words x l e)
   flow_fits (insns.Call far false relative op extra) w even l e =
-      next_soundly (insns.Call far false relative op extra) (λ b. ends.Enters world site x a f fs b) _ (λ b h. h) (call_fits world a f fs note s st site far relative op extra x w even l e)
+      next_soundly (insns.Call far false relative op extra) (λ b. ends.Enters world site x a f fs b) _ (λ b h. h)
+      (call_fits world a f fs note s st site far relative op extra x w even l e)
   flow_fits (insns.Call far true relative op extra) w even l e =
-      native_soundly (insns.Call far true relative op extra) _ (native_fits world a f fs note s st site far relative op extra x (target_beside far op extra w) l (past_test (is_none site.reloc) _ rule.Relocation x e))
-  flow_fits insns.Ret w even l e = next_soundly insns.Ret (λ b. ends.Returns world a f fs b) _ (λ b h. h) (return_fits world a f fs note s st site x (past_test (is_none site.reloc) _ rule.Relocation x e))
-  flow_fits (insns.Break code) w even l e = thunk_soundly (insns.Break code) _ (break_fits world a f fs note s st site code x l (past_test (is_none site.reloc) _ rule.Relocation x e))
+      native_soundly (insns.Call far true relative op extra) _ (native_fits world a f fs note s st site far relative op extra x
+      (target_beside far op extra w) l (past_test (is_none site.reloc) _ rule.Relocation x e))
+  flow_fits insns.Ret w even l e = next_soundly insns.Ret (λ b. ends.Returns world a f fs b) _ (λ b h. h)
+      (return_fits world a f fs note s st site x (past_test (is_none site.reloc) _ rule.Relocation x e))
+  flow_fits (insns.Break code) w even l e = thunk_soundly (insns.Break code) _
+      (break_fits world a f fs note s st site code x l (past_test (is_none site.reloc) _ rule.Relocation x e))
   flow_fits (insns.Push wide op extra) w even l e =
       let q = past_test (is_none site.reloc) _ rule.Relocation x e in
-      let i = next_inside l (push_rule world a f fs note s st (slot_kind wide) op extra x q (λ t e1 made room out. ok_falls _ x (ap Ok out))) in
-      falls_soundly (insns.Push wide op extra) _ (λ b h. h) (push_wide_fits world a f fs note s st wide op extra site.next x (beside_fits 16 op extra (omega arith) w.0 w.1) i q)
+      let i = next_inside l (push_rule world a f fs note s st (slot_kind wide) op extra x q
+      (λ t e1 made room out. ok_falls _ x (ap Ok out))) in
+      falls_soundly (insns.Push wide op extra) _ (λ b h. h) (push_wide_fits world a f fs note s st wide op extra site.next x
+      (beside_fits 16 op extra (omega arith) w.0 w.1) i q)
   flow_fits (insns.PushNatural op extra) w even l e =
       let q = past_test (is_none site.reloc) _ rule.Relocation x e in
       let i = next_inside l (push_rule world a f fs note s st N op extra x q (λ t e1 made room out. ok_falls _ x (ap Ok out))) in
-      falls_soundly (insns.PushNatural op extra) _ (λ b h. h) (push_natural_fits world a f fs note s st op extra site.next x st.typed.notes (beside_fits 16 op extra (omega arith) w.0 w.1) i q)
+      falls_soundly (insns.PushNatural op extra) _ (λ b h. h) (push_natural_fits world a f fs note s st op extra site.next x st.typed.notes
+      (beside_fits 16 op extra (omega arith) w.0 w.1) i q)
   flow_fits (insns.Pop wide op extra) w even l e =
       let q = past_test (is_none site.reloc) _ rule.Relocation x e in
       let i = next_inside l (pop_falls world.notes note s (slot_kind wide) op extra x q) in
-      falls_soundly (insns.Pop wide op extra) _ (λ b h. h) (pop_wide_fits world a f fs note s st wide op extra site.next x (beside_fits 16 op extra (omega arith) w.0 w.1) i q)
+      falls_soundly (insns.Pop wide op extra) _ (λ b h. h) (pop_wide_fits world a f fs note s st wide op extra site.next x
+      (beside_fits 16 op extra (omega arith) w.0 w.1) i q)
   flow_fits (insns.PopNatural op extra) w even l e =
       let q = past_test (is_none site.reloc) _ rule.Relocation x e in
       let i = next_inside l (pop_falls world.notes note s N op extra x q) in
-      falls_soundly (insns.PopNatural op extra) _ (λ b h. h) (pop_natural_fits world a f fs note s st op extra site.next x (beside_fits 16 op extra (omega arith) w.0 w.1) i q)
+      falls_soundly (insns.PopNatural op extra) _ (λ b h. h) (pop_natural_fits world a f fs note s st op extra site.next x
+      (beside_fits 16 op extra (omega arith) w.0 w.1) i q)
   flow_fits (insns.Move size bits left right lidx ridx) w even l e =
       let q = past_test (is_none site.reloc) _ rule.Relocation x e in
       let i = next_inside l (move_falls world.notes note s size left right ridx x q) in
-      subst (λ b. Ends (insns.Move size bits left right lidx ridx) (if b then rows.stack_row world a site.next size right lidx ridx else rows.move_row world a site.next size (indexed left lidx) (indexed right ridx)))
+      subst (λ b. Ends (insns.Move size bits left right lidx ridx)
+      (if b then rows.stack_row world a site.next size right lidx ridx
+      else rows.move_row world a site.next size (indexed left lidx) (indexed right ridx)))
       (sym (move_stack world.notes note s size left right ridx x q).0)
-      (falls_soundly (insns.Move size bits left right lidx ridx) _ (λ b h. h) (frame_goes world a f fs note s st size bits left right lidx ridx site.next x w.3 i q))
-  flow_fits (insns.MoveSigned bits left right lidx extra) w even l e = absurd (no_row (is_none site.reloc) (to_stack left) rule.Relocation x e)
-  flow_fits (insns.MoveImm size bits left lidx imm) w even l e = absurd (err_ok (address_rule world.notes site.reloc (takes_address size bits left.indirect) left) x e)
+      (falls_soundly (insns.Move size bits left right lidx ridx) _ (λ b h. h)
+      (frame_goes world a f fs note s st size bits left right lidx ridx site.next x w.3 i q))
+  flow_fits (insns.MoveSigned bits left right lidx extra) w even l e =
+      absurd (no_row (is_none site.reloc) (to_stack left) rule.Relocation x e)
+  flow_fits (insns.MoveImm size bits left lidx imm) w even l e =
+      absurd (err_ok (address_rule world.notes site.reloc (takes_address size bits left.indirect) left) x e)
   flow_fits (insns.MoveImmNatural bits left lidx idx) w even l e = absurd (no_row (is_none site.reloc) (to_stack left) rule.Relocation x e)
   flow_fits (insns.MoveRelative bits left lidx imm) w even l e = absurd (no_row (is_none site.reloc) (to_stack left) rule.Relocation x e)
   flow_fits (insns.Compare op wide left right extra) w even l e = absurd (no_row (is_none site.reloc) rule.Form rule.Relocation x e)
@@ -232,7 +284,8 @@ module _ (world : World) (a : Config) (f : FunctionFrame) (fs : List Frame) (not
   flow_fits (insns.StoreSpecial to special) w even l e = absurd (no_row (is_none site.reloc) rule.Form rule.Relocation x e)
 
   -- an instruction on data goes on in the function
-  data_goes : (i : Insn) (k : Change) → data_row world.notes note (here_of site f.func) s i ≡ Ok k → (b : Config) → ends.GoesOn world site x b → GoesOnSound world site x i a f fs b
+  data_goes : (i : Insn) (k : Change) → data_row world.notes note (here_of site f.func) s i ≡ Ok k → (b : Config)
+      → ends.GoesOn world site x b → GoesOnSound world site x i a f fs b
   data_goes (insns.Compare op wide left right extra) k e b h = h
   data_goes (insns.CompareImm op wide left idx long imm) k e b h = h
   data_goes (insns.Arith op wide left right extra) k e b h = h
@@ -260,13 +313,16 @@ one_rule world a f fs note here s i x ok h = ⊎_elim on_data on_flow h.accepted
     st : TopSound world a f fs note s
     st = top_sound world a f fs note here s i x ok h
 
-    on_data : (t : State) × (after_data world.notes (here_of here f.func) s i ≡ Ok t) × (x ≡ falls t) → Accepts (EndsSound world here x i a f fs) (executed world a here i)
+    on_data : (t : State) × (after_data world.notes (here_of here f.func) s i ≡ Ok t) × (x ≡ falls t)
+        → Accepts (EndsSound world here x i a f fs) (executed world a here i)
     on_data (t, e, q) =
         let c = change_found world.notes note (here_of here f.func) s i t h.there e in
         let fall : x.fall ≡ Some t = ap (λ (y : Successors). y.fall) q in
         let inside : here.next < world.image_size = ⊎_elim (λ n. absurd (none-some t (sym n ∙ fall))) (λ n. n) h.inside in
-        goes_on_soundly world a f fs note s st here x i here.next (changed s c.change) (executed world a here i) (data_goes world a f fs note s st here x i c.change c.row)
+        goes_on_soundly world a f fs note s st here x i here.next (changed s c.change) (executed world a here i)
+        (data_goes world a f fs note s st here x i c.change c.row)
         (inl (refl, fall ∙ ap Some (sym c.is))) (data_fits world a f fs note s st here i c.change h.well_formed inside c.row)
 
     on_flow : after_flow world.notes (here_of here f.func) s i ≡ Ok x → Accepts (EndsSound world here x i a f fs) (executed world a here i)
-    on_flow e = flow_fits world a f fs note s st here x i h.well_formed h.even h.inside (row_found world.notes note (here_of here f.func) s i x h.there e)
+    on_flow e = flow_fits world a f fs note s st here x i h.well_formed h.even h.inside
+        (row_found world.notes note (here_of here f.func) s i x h.there e)

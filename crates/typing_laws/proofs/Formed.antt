@@ -1,5 +1,6 @@
 -- What stands beside the operands of a well-formed instruction.
-use Rattle.std.proofs.Common.{◌≡◌, ℕ, zero, suc, ◌-◌, ◌^◌, ◌<◌, ◌≤◌, Bool, true, false, Option, Some, None, refl, sym, ◌∙◌, arith, inl, inr, option_map, pos}
+use Rattle.std.proofs.Common.{◌≡◌, ℕ, zero, suc, ◌-◌, ◌^◌, ◌<◌, ◌≤◌, Bool, true, false, Option, Some, None, refl, sym, ◌∙◌, arith, inl, inr}
+use Rattle.std.proofs.Common.{option_map, pos}
 use Rattle.std.proofs.Math.Pow.{pow_mono}
 use Rattle.std.proofs.lemmas.Bool.{true≢false}
 use Rattle.natural_index.specs.Index.{HasRoom, IsIndex, IsIndexSize, natural_bits, signed}
@@ -57,7 +58,11 @@ right_small bits (Some i) l h = index_small bits i l h
 pub beside_fits : (bits : ℕ) (o : Operand) (extra : Extra) → bits ≤ 64 → o.reg < 8 → ExtraFits bits o extra → BesideFits o extra
 beside_fits bits o Nothing l r h = record { register = r; memory = λ m. ((refl, refl), nowhere_small); direct = λ m i e. absurd cc }
 beside_fits bits o (Imm v) l r h = record { register = r; memory = λ m. absurd (true≢false (sym m ∙ h.0)); direct = λ m i e. absurd cc }
-beside_fits bits o (Idx j) l r h = record { register = r; memory = λ m. ((refl, refl), index_small bits j l h.1); direct = λ m i e. absurd (true≢false (sym h.0 ∙ m)) }
+beside_fits bits o (Idx j) l r h = record {
+  register = r;
+  memory = λ m. ((refl, refl), index_small bits j l h.1);
+  direct = λ m i e. absurd (true≢false (sym h.0 ∙ m));
+}
 
 -- the sizes of indexes
 pub word_most : (bits : ℕ) → IsWordOrDword bits → bits ≤ 64

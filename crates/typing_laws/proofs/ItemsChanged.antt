@@ -9,24 +9,26 @@ use Rattle.note_types.specs.declared.notes.Notes.{Notes}
 use Rattle.note_types.specs.declared.state.State.{State}
 use Rattle.note_types.specs.declared.types.Ty.{Ty}
 use Rattle.neutral_machine.specs.Rows.{with_items}
-use Rattle.run_types.specs.Config.{StackItem, Pushed, LocalsOf, FunctionFrame, Frame, Function, Config, depth, hosts, locals_among, locals_at}
-use Rattle.run_types.specs.Fits.{Fits}
-use Rattle.run_types.specs.FitsState.{ItemFits, FitsState}
-use Rattle.run_types.specs.Layout.{height}
-use Rattle.run_types.specs.Memory.{Memory}
-use Rattle.run_types.specs.Placements.{frame_limit}
-use Rattle.run_types.specs.Values.{Neutral}
-use Rattle.run_types.specs.World.{World}
+use Rattle.neutral_machine.specs.Config.{StackItem, Pushed, LocalsOf, FunctionFrame, Frame, Function, Config, depth, hosts, locals_among}
+use Rattle.neutral_machine.specs.Config.{locals_at}
+use Rattle.neutral_machine.specs.Fits.{Fits}
+use Rattle.neutral_machine.specs.FitsState.{ItemFits, FitsState}
+use Rattle.neutral_machine.specs.Layout.{height}
+use Rattle.neutral_machine.specs.Memory.{Memory}
+use Rattle.host_model.specs.Placements.{frame_limit}
+use Rattle.host_model.specs.Values.{Neutral}
+use Rattle.host_model.specs.World.{World}
 use Rattle.typed_runs.specs.Later.{Later}
 use Rattle.typed_runs.specs.Live.{live_memory}
 use Rattle.typed_runs.specs.Sound.{FrameKeeps, FrameBelow, FramesKeep, KeepsWithin, SlotsKept, SoundBelow}
 use Rattle.typing_laws.proofs.Context.{TopSound, passed_params}
-use Rattle.typed_runs.proofs.LaterFits.{fits_later, items_later}
+use Rattle.typed_runs.proofs.LaterFits.{FieldsLater, fields_later, fits_later, items_later}
 use Rattle.typing_laws.proofs.LiveCells.{LaterBelow, below_later, below_kept, frames_kept}
 use Rattle.typing_laws.proofs.Relaid.{cells_at, later_at}
 
 -- what fits a frame fits it with other items
-pub items_moved : (notes : Notes) (m : Memory) (d : ℕ) (f : FunctionFrame) (js : List StackItem) (is : List StackItem) (xs : List Item) → AllZip (ItemFits notes m d f) is xs → AllZip (ItemFits notes m d (record f { items = js })) is xs
+pub items_moved : (notes : Notes) (m : Memory) (d : ℕ) (f : FunctionFrame) (js : List StackItem) (is : List StackItem) (xs : List Item)
+    → AllZip (ItemFits notes m d f) is xs → AllZip (ItemFits notes m d (record f { items = js })) is xs
 items_moved notes m d f js [] [] z = tt
 items_moved notes m d f js [] (x ∷ xs) z = absurd z
 items_moved notes m d f js (i ∷ is) [] z = absurd z
@@ -36,17 +38,25 @@ items_moved notes m d f js (Pushed k v ∷ is) (item.Locals ∷ xs) z = absurd z
 items_moved notes m d f js (LocalsOf s ∷ is) (item.Slot l t ∷ xs) z = absurd z.0
 
 -- what holds of the frame on top, and of those below it
-pub top_keeps : (world : World) (a : Config) (f : FunctionFrame) (fs : List Frame) (note : FnNote) (s : State) (st : TopSound world a f fs note s) → FrameKeeps world.notes (live_memory world a).objects a.made f note × FrameBelow world (live_memory world a) f note fs × FramesKeep world (live_memory world a) a.made fs
+pub top_keeps : (world : World) (a : Config) (f : FunctionFrame) (fs : List Frame) (note : FnNote) (s : State)
+    (st : TopSound world a f fs note s) → FrameKeeps world.notes (live_memory world a).objects a.made f note
+    × FrameBelow world (live_memory world a) f note fs × FramesKeep world (live_memory world a) a.made fs
 top_keeps world a f fs note s st =
-    let k : FramesKeep world (live_memory world a) a.made (Function f ∷ fs) = subst (FramesKeep world (live_memory world a) a.made) st.frames st.below.frames in
+    let k : FramesKeep world (live_memory world a) a.made (Function f ∷ fs) =
+    subst (FramesKeep world (live_memory world a) a.made) st.frames st.below.frames in
     let g = k.0 in
-    let e : g.0 ≡ note = same_Some g.0 note (sym g.1.there ∙ st.there) in
-    (subst (FrameKeeps world.notes (live_memory world a).objects a.made f) e g.1, subst (λ n. FrameBelow world (live_memory world a) f n fs) e g.2, k.1)
+    let e : g.0 ≡ note = same_Some g.0 note (sym g.1.there ∙ st.there) in (
+      subst (FrameKeeps world.notes (live_memory world a).objects a.made f) e g.1,
+      subst (λ n. FrameBelow world (live_memory world a) f n fs) e g.2,
+      k.1,
+    )
 
-pub few_hosts : (world : World) (a : Config) (f : FunctionFrame) (fs : List Frame) (note : FnNote) (s : State) (st : TopSound world a f fs note s) → length (hosts fs) ≤ frame_limit
+pub few_hosts : (world : World) (a : Config) (f : FunctionFrame) (fs : List Frame) (note : FnNote) (s : State)
+    (st : TopSound world a f fs note s) → length (hosts fs) ≤ frame_limit
 few_hosts world a f fs note s st = subst (λ z. length (hosts z) ≤ frame_limit) st.frames st.below.few
 
-module _ (world : World) (a : Config) (f : FunctionFrame) (fs : List Frame) (note : FnNote) (s : State) (st : TopSound world a f fs note s) (js : List StackItem) (same : locals_among js ≡ locals_among f.items) where
+module _ (world : World) (a : Config) (f : FunctionFrame) (fs : List Frame) (note : FnNote) (s : State) (st : TopSound world a f fs note s)
+    (js : List StackItem) (same : locals_among js ≡ locals_among f.items) where
   abbrev pub frame : FunctionFrame
   frame = record f { items = js }
 
@@ -62,8 +72,12 @@ module _ (world : World) (a : Config) (f : FunctionFrame) (fs : List Frame) (not
   pub later_here : (d : ℕ) → Later d (live_memory world a) (live_memory world after)
   later_here d = below_later d (live_memory world a) (live_memory world after) (later (suc d))
 
-  pub fits_after : (t : Ty) (v : Neutral) → Fits world.notes (live_memory world a) (depth fs) f.saved t v → Fits world.notes (live_memory world after) (depth fs) f.saved t v
-  fits_after t v h = fits_later world.notes (depth fs) (live_memory world a) (live_memory world after) (later_here (depth fs)) f.saved t v h
+  fields_here : FieldsLater world.notes (depth fs) (live_memory world a) (live_memory world after)
+  fields_here = fields_later world.notes (depth fs) (live_memory world a) (live_memory world after) (later_here (depth fs))
+
+  pub fits_after : (t : Ty) (v : Neutral) → Fits world.notes (live_memory world a) (depth fs) f.saved t v
+      → Fits world.notes (live_memory world after) (depth fs) f.saved t v
+  fits_after t v h = fits_later world.notes (depth fs) (live_memory world a) (live_memory world after) fields_here f.saved t v h
 
   -- the frames keep, where the items keep within the need
   pub below_after : KeepsWithin (λ w. height w js) note → SlotsKept world.notes (live_memory world a).objects js → SoundBelow world after
@@ -75,20 +89,25 @@ module _ (world : World) (a : Config) (f : FunctionFrame) (fs : List Frame) (not
           (
             note,
             record { there = st.there; within = within; slots = slots; thunks = k.0.thunks },
-            below_kept world (passed_params world st.typed) (live_memory world a) (live_memory world after) refl f frame note fs st.there refl refl (later (depth fs)) k.1,
+            below_kept world (passed_params world st.typed) (live_memory world a)
+                (live_memory world after) refl f frame note fs st.there refl refl (later (depth fs)) k.1,
           ),
-          frames_kept world (passed_params world st.typed) (live_memory world a) (live_memory world after) refl a.made fs (later (depth fs)) k.2,
+          frames_kept world (passed_params world st.typed) (live_memory world a) (live_memory world after) refl a.made fs
+              (later (depth fs)) k.2,
         );
         few = few_hosts world a f fs note s st;
       }
 
   -- the items that are as before fit
-  pub items_after : (is : List StackItem) (xs : List Item) → AllZip (ItemFits world.notes (live_memory world a) (depth fs) f) is xs → AllZip (ItemFits world.notes (live_memory world after) (depth fs) frame) is xs
+  pub items_after : (is : List StackItem) (xs : List Item) → AllZip (ItemFits world.notes (live_memory world a) (depth fs) f) is xs
+      → AllZip (ItemFits world.notes (live_memory world after) (depth fs) frame) is xs
   items_after is xs z =
-      items_moved world.notes (live_memory world after) (depth fs) f js is xs (items_later world.notes (depth fs) (live_memory world a) (live_memory world after) (later_here (depth fs)) f is xs z)
+      items_moved world.notes (live_memory world after) (depth fs) f js is xs
+      (items_later world.notes (depth fs) (live_memory world a) (live_memory world after) fields_here f is xs z)
 
   -- the frame on top fits the state with other items
-  pub top_after : (xs : List Item) → AllZip (ItemFits world.notes (live_memory world after) (depth fs) frame) js xs → FitsState world.notes (live_memory world after) (depth fs) frame (record s { items = xs }) a.registers a.c a.made
+  pub top_after : (xs : List Item) → AllZip (ItemFits world.notes (live_memory world after) (depth fs) frame) js xs
+      → FitsState world.notes (live_memory world after) (depth fs) frame (record s { items = xs }) a.registers a.c a.made
   top_after xs z = record {
     registers = λ x l n. fits_after _ (a.registers x) (st.top.registers x l n);
     items = z;

@@ -1,5 +1,6 @@
 -- Items dropped from the top: what the rules leave of the items of a state, the neutral machine leaves of a frame's.
-use Rattle.std.proofs.Common.{◌≡◌, ℕ, ◌-◌, ◌≤◌, Bool, true, false, ◌&&◌, ◌||◌, if◌then◌else◌, nat_eq, nat_le, List, [], ◌∷◌, Option, Some, None, count_by, refl, sym, ap, ap₂, ◌∙◌, subst, arith}
+use Rattle.std.proofs.Common.{◌≡◌, ℕ, ◌-◌, ◌≤◌, Bool, true, false, ◌&&◌, ◌||◌, if◌then◌else◌, nat_eq, nat_le, List, [], ◌∷◌, Option, Some}
+use Rattle.std.proofs.Common.{None, count_by, refl, sym, ap, ap₂, ◌∙◌, subst, arith}
 use Rattle.std.specs.List.{AllZip, list_any}
 use Rattle.std.proofs.lemmas.List.Sums.{sum_by-cons}
 use Rattle.std.proofs.lemmas.Bool.{false≢true, true≢false}
@@ -14,13 +15,13 @@ use Rattle.note_types.specs.declared.shape.Shape.{Shape}
 use Rattle.rules_flow.specs.Frames.{item_size, left_after}
 use Rattle.neutral_machine.specs.Rows.{Dropped, dropped, with_one}
 use Rattle.neutral_machine.specs.Rows as rows
-use Rattle.run_types.specs.Config.{StackItem, Pushed, LocalsOf, FunctionFrame, locals_among}
-use Rattle.run_types.specs.FitsState.{ItemFits}
-use Rattle.run_types.specs.Layout.{height}
-use Rattle.run_types.specs.Locations.{item_bytes, item_units}
-use Rattle.run_types.specs.Memory.{Memory}
-use Rattle.run_types.specs.declared.object.TypedObject.{TypedObject}
-use Rattle.run_types.specs.World.{frame_locals}
+use Rattle.neutral_machine.specs.Config.{StackItem, Pushed, LocalsOf, FunctionFrame, locals_among}
+use Rattle.neutral_machine.specs.FitsState.{ItemFits}
+use Rattle.neutral_machine.specs.Layout.{height}
+use Rattle.neutral_machine.specs.Locations.{item_bytes, item_units}
+use Rattle.neutral_machine.specs.Memory.{Memory}
+use Rattle.host_model.specs.declared.object.TypedObject.{TypedObject}
+use Rattle.host_model.specs.World.{frame_locals}
 use Rattle.typed_runs.specs.Sound.{SlotsKept}
 use Rattle.typing_laws.proofs.OnStack.{units_are}
 
@@ -32,22 +33,27 @@ Once (item.Locals ∷ xs) = list_any is_locals xs ≡ false
 
 none_counted : (xs : List Item) → count_by is_locals xs ≤ 0 → list_any is_locals xs ≡ false
 none_counted [] l = refl
-none_counted (item.Slot kind t ∷ xs) l = none_counted xs (let c = sum_by-cons (λ x. if is_locals x then 1 else 0) (item.Slot kind t) xs in omega (arith, c, l))
+none_counted (item.Slot kind t ∷ xs) l = none_counted xs (let c = sum_by-cons (λ x. if is_locals x then 1 else 0) (item.Slot kind t) xs in
+    omega (arith, c, l))
 none_counted (item.Locals ∷ xs) l = absurd (let c = sum_by-cons (λ x. if is_locals x then 1 else 0) item.Locals xs in omega (arith, c, l))
 
 pub once_counted : (xs : List Item) → count_by is_locals xs ≤ 1 → Once xs
 once_counted [] l = tt
-once_counted (item.Slot kind t ∷ xs) l = once_counted xs (let c = sum_by-cons (λ x. if is_locals x then 1 else 0) (item.Slot kind t) xs in omega (arith, c, l))
-once_counted (item.Locals ∷ xs) l = none_counted xs (let c = sum_by-cons (λ x. if is_locals x then 1 else 0) item.Locals xs in omega (arith, c, l))
+once_counted (item.Slot kind t ∷ xs) l = once_counted xs (let c = sum_by-cons (λ x. if is_locals x then 1 else 0) (item.Slot kind t) xs in
+    omega (arith, c, l))
+once_counted (item.Locals ∷ xs) l = none_counted xs (let c = sum_by-cons (λ x. if is_locals x then 1 else 0) item.Locals xs in
+    omega (arith, c, l))
 
 -- what is left of natural slots
-pub kept_rest : (notes : Notes) (os : List TypedObject) (i : StackItem) (is : List StackItem) → SlotsKept notes os (i ∷ is) → SlotsKept notes os is
+pub kept_rest : (notes : Notes) (os : List TypedObject) (i : StackItem) (is : List StackItem) → SlotsKept notes os (i ∷ is)
+    → SlotsKept notes os is
 kept_rest notes os (Pushed N v) is h = h.1
 kept_rest notes os (Pushed Q v) is h = h
 kept_rest notes os (Pushed D v) is h = h
 kept_rest notes os (LocalsOf s) is h = h
 
-module _ (notes : Notes) (m : Memory) (d : ℕ) (f : FunctionFrame) (size : Pair) (same : (s : Shape) → frame_locals notes f.func ≡ Some s → (size.n ≡ s.n) × (size.c ≡ s.c)) where
+module _ (notes : Notes) (m : Memory) (d : ℕ) (f : FunctionFrame) (size : Pair)
+    (same : (s : Shape) → frame_locals notes f.func ≡ Some s → (size.n ≡ s.n) × (size.c ≡ s.c)) where
   -- the items that are left
   pub record DropFound (n c : ℕ) (is : List StackItem) (xs left : List Item) : Type 0 where
     pub rest : List StackItem
@@ -60,7 +66,8 @@ module _ (notes : Notes) (m : Memory) (d : ℕ) (f : FunctionFrame) (size : Pair
     pub any : list_any is_locals xs ≡ (gone || list_any is_locals left)
     pub once : gone ≡ true → Once xs → list_any is_locals left ≡ false
 
-  units_same : (i : StackItem) (x : Item) → ItemFits notes m d f i x → (item_units i ≡ (item_size size x).n) × (item_bytes i ≡ (item_size size x).c)
+  units_same : (i : StackItem) (x : Item) → ItemFits notes m d f i x → (item_units i ≡ (item_size size x).n)
+      × (item_bytes i ≡ (item_size size x).c)
   units_same (Pushed kind v) (item.Slot k t) h = units_are kind k v h.0
   units_same (LocalsOf s) item.Locals h = let e = same s h in (sym e.0, sym e.1)
   units_same (Pushed kind v) item.Locals h = absurd h
@@ -70,7 +77,9 @@ module _ (notes : Notes) (m : Memory) (d : ℕ) (f : FunctionFrame) (size : Pair
   left_is x y e = cc
 
   -- the item on top is dropped too
-  more : (n c p q : ℕ) (i : StackItem) (x : Item) (is : List StackItem) (xs left : List Item) → ItemFits notes m d f i x → dropped n c (i ∷ is) ≡ with_one (rows.is_locals i) (dropped p q is) → DropFound p q is xs left → DropFound n c (i ∷ is) (x ∷ xs) left
+  more : (n c p q : ℕ) (i : StackItem) (x : Item) (is : List StackItem) (xs left : List Item) → ItemFits notes m d f i x
+      → dropped n c (i ∷ is) ≡ with_one (rows.is_locals i) (dropped p q is) → DropFound p q is xs left
+      → DropFound n c (i ∷ is) (x ∷ xs) left
   more n c p q (Pushed kind v) (item.Slot k t) is xs left h e r = record {
     rest = r.rest;
     gone = r.gone;
@@ -101,7 +110,8 @@ module _ (notes : Notes) (m : Memory) (d : ℕ) (f : FunctionFrame) (size : Pair
   more n c p q (LocalsOf s) (item.Slot k t) is xs left h e r = absurd h
 
   -- nothing is dropped
-  nothing_more : (n c : ℕ) (is : List StackItem) (xs left : List Item) → AllZip (ItemFits notes m d f) is xs → dropped n c is ≡ Some (record { items = is; locals = false }) → xs ≡ left → DropFound n c is xs left
+  nothing_more : (n c : ℕ) (is : List StackItem) (xs left : List Item) → AllZip (ItemFits notes m d f) is xs
+      → dropped n c is ≡ Some (record { items = is; locals = false }) → xs ≡ left → DropFound n c is xs left
   nothing_more n c is xs left z e q = record {
     rest = is;
     gone = false;
@@ -115,12 +125,14 @@ module _ (notes : Notes) (m : Memory) (d : ℕ) (f : FunctionFrame) (size : Pair
   }
 
   -- What the rules leave is what the neutral machine leaves.
-  pub drop_found : (n c : ℕ) (is : List StackItem) (xs left : List Item) → AllZip (ItemFits notes m d f) is xs → left_after size xs n c ≡ Some left → DropFound n c is xs left
+  pub drop_found : (n c : ℕ) (is : List StackItem) (xs left : List Item) → AllZip (ItemFits notes m d f) is xs
+      → left_after size xs n c ≡ Some left → DropFound n c is xs left
   unfolding left_after
   drop_found n c [] [] left z e = go (nat_eq n 0 && nat_eq c 0) refl e
     where
       go : (b : Bool) → (nat_eq n 0 && nat_eq c 0) ≡ b → (if b then Some [] else None) ≡ Some left → DropFound n c [] [] left
-      go true g e = nothing_more n c [] [] left tt (ap (λ b. if b then Some (record { items = []; locals = false }) else None) g) (left_is [] left e)
+      go true g e = nothing_more n c [] [] left tt (ap (λ b. if b then Some (record { items = []; locals = false }) else None) g)
+          (left_is [] left e)
       go false g e = absurd (none-some left e)
   drop_found n c [] (x ∷ xs) left z e = absurd z
   drop_found n c (i ∷ is) [] left z e = absurd z
@@ -131,9 +143,13 @@ module _ (notes : Notes) (m : Memory) (d : ℕ) (f : FunctionFrame) (size : Pair
       u = units_same i x z.0
 
       whole : Bool → Bool → ℕ → ℕ → Option Dropped
-      whole b k p q = if b then Some (record { items = i ∷ is; locals = false }) else (if k then with_one (rows.is_locals i) (dropped p q is) else None)
+      whole b k p q = if b then Some (record { items = i ∷ is; locals = false })
+          else (if k then with_one (rows.is_locals i) (dropped p q is) else None)
 
-      next : ((p q : ℕ) → left_after size xs p q ≡ Some left → DropFound p q is xs left) → (nat_eq n 0 && nat_eq c 0) ≡ false → (k : Bool) → (nat_le (item_size size x).n n && nat_le (item_size size x).c c) ≡ k → (if k then left_after size xs (n - (item_size size x).n) (c - (item_size size x).c) else None) ≡ Some left → DropFound n c (i ∷ is) (x ∷ xs) left
+      next : ((p q : ℕ) → left_after size xs p q ≡ Some left → DropFound p q is xs left) → (nat_eq n 0 && nat_eq c 0) ≡ false → (k : Bool)
+          → (nat_le (item_size size x).n n && nat_le (item_size size x).c c) ≡ k
+          → (if k then left_after size xs (n - (item_size size x).n) (c - (item_size size x).c) else None) ≡ Some left
+          → DropFound n c (i ∷ is) (x ∷ xs) left
       next again g false k e = absurd (none-some left e)
       next again g true k e =
           more n c (n - (item_size size x).n) (c - (item_size size x).c) i x is xs left z.0
@@ -142,6 +158,11 @@ module _ (notes : Notes) (m : Memory) (d : ℕ) (f : FunctionFrame) (size : Pair
           ∙ ap (λ b. whole false b (n - (item_size size x).n) (c - (item_size size x).c)) k)
           (again (n - (item_size size x).n) (c - (item_size size x).c) e)
 
-      go : ((p q : ℕ) → left_after size xs p q ≡ Some left → DropFound p q is xs left) → (b : Bool) → (nat_eq n 0 && nat_eq c 0) ≡ b → (if b then Some (x ∷ xs) else (if nat_le (item_size size x).n n && nat_le (item_size size x).c c then left_after size xs (n - (item_size size x).n) (c - (item_size size x).c) else None)) ≡ Some left → DropFound n c (i ∷ is) (x ∷ xs) left
-      go again true g e = nothing_more n c (i ∷ is) (x ∷ xs) left z (ap (λ b. whole b (nat_le (item_units i) n && nat_le (item_bytes i) c) (n - item_units i) (c - item_bytes i)) g) (left_is (x ∷ xs) left e)
+      go : ((p q : ℕ) → left_after size xs p q ≡ Some left → DropFound p q is xs left) → (b : Bool) → (nat_eq n 0 && nat_eq c 0) ≡ b
+          → (if b then Some (x ∷ xs) else (if nat_le (item_size size x).n n && nat_le (item_size size x).c c then
+          left_after size xs (n - (item_size size x).n) (c - (item_size size x).c) else None)) ≡ Some left
+          → DropFound n c (i ∷ is) (x ∷ xs) left
+      go again true g e = nothing_more n c (i ∷ is) (x ∷ xs) left z
+          (ap (λ b. whole b (nat_le (item_units i) n && nat_le (item_bytes i) c) (n - item_units i) (c - item_bytes i)) g)
+          (left_is (x ∷ xs) left e)
       go again false g e = next again g (nat_le (item_size size x).n n && nat_le (item_size size x).c c) refl e

@@ -1,5 +1,7 @@
 -- The rows of the jumps: to a point of the function, with what a comparison said.
-use Rattle.std.proofs.Common.{◌≡◌, ℕ, ◌+◌, ◌%◌, ◌^◌, ◌<◌, ◌⊎◌, Bool, true, false, not, ◌&&◌, if◌then◌else◌, is_some, nat_eq, nat_le, nat_lt, List, [], ◌∷◌, get_or, position, Option, Some, None, Result, Ok, Err, slice_get, refl, sym, ap, ap₂, ◌∙◌, subst, arith, inl, inr, ⊎_elim, ℤ, pos, negsuc, ◌+ℤ◌, ◌*ℤ◌, int_le}
+use Rattle.std.proofs.Common.{◌≡◌, ℕ, ◌+◌, ◌%◌, ◌^◌, ◌<◌, ◌⊎◌, Bool, true, false, not, ◌&&◌, if◌then◌else◌, is_some, nat_eq, nat_le, nat_lt}
+use Rattle.std.proofs.Common.{List, [], ◌∷◌, get_or, position, Option, Some, None, Result, Ok, Err, slice_get, refl, sym, ap, ap₂, ◌∙◌}
+use Rattle.std.proofs.Common.{subst, arith, inl, inr, ⊎_elim, ℤ, pos, negsuc, ◌+ℤ◌, ◌*ℤ◌, int_le}
 use Rattle.std.proofs.lemmas.Bool.{and_parts, eqb-true, eq-eqb, ltb-true, false≢true}
 use Rattle.std.proofs.lemmas.List.Quantifiers.{position-Some}
 use Rattle.std.proofs.lemmas.Option.{same_Some, none-some, get_or_from_slice_get}
@@ -25,25 +27,26 @@ use Rattle.rules_flow.specs.declared.successors.Successors.{Successors}
 use Rattle.neutral_machine.specs.Operands.{beside_extra, moved_by}
 use Rattle.neutral_machine.specs.Rows.{NeutralEnd, Site, aligned, is_taken, jump8_row, jump_row, target_at}
 use Rattle.neutral_machine.specs.Rows as rows
-use Rattle.run_types.specs.Config.{FunctionFrame, Frame, Config, depth}
-use Rattle.run_types.specs.FitsState.{FitsState}
-use Rattle.run_types.specs.Outcomes.{Outcome, Gives, Raises, Stuck, ◌>>=◌}
-use Rattle.run_types.specs.Values.{plain, word}
+use Rattle.neutral_machine.specs.Config.{FunctionFrame, Frame, Config, depth}
+use Rattle.neutral_machine.specs.FitsState.{FitsState}
+use Rattle.neutral_machine.specs.Outcomes.{Outcome, Gives, Raises, Stuck, ◌>>=◌}
+use Rattle.host_model.specs.Values.{plain, word}
 use Rattle.note_types.specs.declared.exception.Exception.TheVariants as raises
-use Rattle.run_types.specs.World.{World}
+use Rattle.host_model.specs.World.{World}
 use Rattle.typed_runs.specs.Accepts.{Accepts}
 use Rattle.typed_runs.specs.Live.{live_memory}
 use Rattle.typing_laws.specs.OneRule.{IsTaken, here_of}
-use Rattle.typing_laws.proofs.Objects.{there}
-use Rattle.typing_laws.proofs.Rows.{if_some, then_some, wrap_add}
-use Rattle.typing_laws.proofs.ArithRow.{GoesOn, err_ok, goes_on}
+use Rattle.typing_laws.proofs.Rows.{if_some, then_some, wrap_add, err_ok}
+use Rattle.typing_laws.proofs.ArithRow.{GoesOn, goes_on}
 use Rattle.typing_laws.proofs.CompareRow.{narrow_fits}
 use Rattle.typing_laws.proofs.Context.{TopSound}
 use Rattle.typing_laws.proofs.Operands.{some_ok, then_ok}
 use Rattle.typing_laws.proofs.Written.{After}
+use Rattle.ebc_base.proofs.Lists.{within_some}
 
 -- An instruction that goes on at a successor, with its state.
-pub record TakesOn (world : World) (a : Config) (f : FunctionFrame) (fs : List Frame) (note : FnNote) (s : State) (st : TopSound world a f fs note s) (here : Site) (x : Successors) (o : Outcome (NeutralEnd × Config)) : Type 0 where
+pub record TakesOn (world : World) (a : Config) (f : FunctionFrame) (fs : List Frame) (note : FnNote) (s : State)
+    (st : TopSound world a f fs note s) (here : Site) (x : Successors) (o : Outcome (NeutralEnd × Config)) : Type 0 where
   pub place : ℕ
   pub state : State
   pub taken : IsTaken here x place state
@@ -57,7 +60,8 @@ pub record FoundAt {A : Type 0} (place_of : A → ℕ) (xs : List A) (z : ℤ) (
   pub there : slice_get xs k ≡ Some thing
   pub is : z ≡ pos (place_of thing)
 
-pub number_found : {A : Type 0} (place_of : A → ℕ) (xs : List A) (z : ℤ) (k : ℕ) → number_from place_of xs z ≡ Some k → FoundAt place_of xs z k
+pub number_found : {A : Type 0} (place_of : A → ℕ) (xs : List A) (z : ℤ) (k : ℕ) → number_from place_of xs z ≡ Some k
+    → FoundAt place_of xs z k
 unfolding number_at
 number_found place_of xs (negsuc n) k e = absurd (none-some k e)
 number_found place_of [] (pos n) k e = absurd (go (int_le (pos 0) (pos n)) e)
@@ -71,13 +75,14 @@ number_found place_of (y ∷ ys) (pos n) k e = go (int_le (pos 0) (pos n)) e
     go false e = absurd (none-some k e)
     go true e =
         let q = position-Some (is_at place_of n) (y ∷ ys) k y e in
-        let x = there (y ∷ ys) k q.0 in
+        let x = within_some (y ∷ ys) k q.0 in
         record { thing = x.0; there = x.1; is = ap pos (sym (eqb-true _ n (same x.0 x.1 q.1))) }
       where
         same : (z : _) → slice_get (y ∷ ys) k ≡ Some z → nat_eq (place_of (get_or (y ∷ ys) k y)) n ≡ true → nat_eq (place_of z) n ≡ true
         same z h g = ap (λ w. nat_eq (place_of w) n) (sym (get_or_from_slice_get (y ∷ ys) k z y h)) ∙ g
 
-module _ (world : World) (a : Config) (f : FunctionFrame) (fs : List Frame) (note : FnNote) (s : State) (st : TopSound world a f fs note s) where
+module _ (world : World) (a : Config) (f : FunctionFrame) (fs : List Frame) (note : FnNote) (s : State)
+    (st : TopSound world a f fs note s) where
   -- a point of the function
   pub record PointThere (z : ℤ) (p : ℕ) : Type 0 where
     pub is : z ≡ pos p
@@ -87,7 +92,8 @@ module _ (world : World) (a : Config) (f : FunctionFrame) (fs : List Frame) (not
   point_there : (z : ℤ) (p : ℕ) → point_at world.notes note z ≡ Some p → PointThere z p
   unfolding point_at
   point_there z p e =
-      then_some (and_then (number_from (λ (q : Point). q.place) world.notes.point z) (slice_get world.notes.point)) (place_within note) p e (λ y e1 e2.
+      then_some (and_then (number_from (λ (q : Point). q.place) world.notes.point z) (slice_get world.notes.point)) (place_within note) p e
+      (λ y e1 e2.
       then_some (number_from (λ (q : Point). q.place) world.notes.point z) (slice_get world.notes.point) y e1 (λ k e3 e4.
       if_some (nat_le note.place y.place && nat_lt y.place note.end) y.place p e2 (λ t e5.
       let found = number_found (λ (q : Point). q.place) world.notes.point z k e3 in
@@ -116,7 +122,8 @@ module _ (world : World) (a : Config) (f : FunctionFrame) (fs : List Frame) (not
   small_again next imm = omega arith
 
   -- an immediate beside R0
-  relative_target : (site : Site) (func : ℕ) (op : Operand) (imm z : ℤ) (p : ℕ) → op.reg ≡ 0 → op.indirect ≡ false → relative (here_of site func) imm ≡ Ok z → z ≡ pos p → p < 2 ^ 64 → target_at a site true (beside_extra op (Imm imm)) ≡ Gives p
+  relative_target : (site : Site) (func : ℕ) (op : Operand) (imm z : ℤ) (p : ℕ) → op.reg ≡ 0 → op.indirect ≡ false
+      → relative (here_of site func) imm ≡ Ok z → z ≡ pos p → p < 2 ^ 64 → target_at a site true (beside_extra op (Imm imm)) ≡ Gives p
   unfolding target_at
   relative_target site func op imm z p er ei e ez l = go (is_some site.reloc) e
     where
@@ -126,7 +133,8 @@ module _ (world : World) (a : Config) (f : FunctionFrame) (fs : List Frame) (not
       whole : Bool → ℕ → Outcome ℕ
       whole i r = if i then Stuck else rows.past site.next (plain (moved_by (rows.base_at a r) (Some (record { n = 0; c = wrap64 imm }))))
 
-      go : (b : Bool) → (if b then Err rule.Relocation else Ok (pos site.next +ℤ imm)) ≡ Ok z → target_at a site true (beside_extra op (Imm imm)) ≡ Gives p
+      go : (b : Bool) → (if b then Err rule.Relocation else Ok (pos site.next +ℤ imm)) ≡ Ok z
+          → target_at a site true (beside_extra op (Imm imm)) ≡ Gives p
       go true e = absurd (err_ok rule.Relocation z e)
       go false e =
           ap₂ (λ i r. whole i r) ei er ∙ ap Gives (small_again site.next imm ∙ past_next site.next p imm (z_is _ z e ∙ ez) l)
@@ -138,11 +146,13 @@ module _ (world : World) (a : Config) (f : FunctionFrame) (fs : List Frame) (not
       go true e = err_ok rule.Relocation z e
       go false e = err_ok rule.Form z e
 
-  absolute_target : (site : Site) (op : Operand) (imm z : ℤ) (p : ℕ) → op.reg ≡ 0 → op.indirect ≡ false → (o : Option ℕ) → site.reloc ≡ o → absolute o ≡ Ok z → z ≡ pos p → target_at a site false (beside_extra op (Imm imm)) ≡ Gives p
+  absolute_target : (site : Site) (op : Operand) (imm z : ℤ) (p : ℕ) → op.reg ≡ 0 → op.indirect ≡ false → (o : Option ℕ) → site.reloc ≡ o
+      → absolute o ≡ Ok z → z ≡ pos p → target_at a site false (beside_extra op (Imm imm)) ≡ Gives p
   unfolding target_at
   absolute_target site op imm z p er ei None h e ez = absurd (err_ok rule.Relocation z e)
   absolute_target site op imm z p er ei (Some q) h e ez =
-      ap₂ (λ i r. if i then Stuck else rows.named_place (nat_eq r 0 && true) site.reloc) ei er ∙ ap (rows.named_place true) h ∙ ap Gives (place_is q p (z_is (pos q) z e ∙ ez))
+      ap₂ (λ i r. if i then Stuck else rows.named_place (nat_eq r 0 && true) site.reloc) ei er ∙ ap (rows.named_place true) h
+      ∙ ap Gives (place_is q p (z_is (pos q) z e ∙ ez))
     where
       z_is : (x y : ℤ) → ◌≡◌ {A = Result ℤ RuleName} (Ok x) (Ok y) → x ≡ y
       z_is x y e = cc
@@ -151,7 +161,9 @@ module _ (world : World) (a : Config) (f : FunctionFrame) (fs : List Frame) (not
       place_is q p e = cc
 
   -- the place that the rules find is the one to which the neutral machine goes
-  pub target_found : (site : Site) (func : ℕ) (far rel : Bool) (op : Operand) (extra : Extra) (z : ℤ) (p : ℕ) → TargetFits far op extra → target_of (here_of site func) far rel op extra ≡ Ok z → z ≡ pos p → p < 2 ^ 64 → target_at a site rel (beside_extra op extra) ≡ Gives p
+  pub target_found : (site : Site) (func : ℕ) (far rel : Bool) (op : Operand) (extra : Extra) (z : ℤ) (p : ℕ) → TargetFits far op extra
+      → target_of (here_of site func) far rel op extra ≡ Ok z → z ≡ pos p → p < 2 ^ 64
+      → target_at a site rel (beside_extra op extra) ≡ Gives p
   unfolding target_of
   target_found site func true true op (Imm imm) z p w e ez l = relative_target site func op imm z p w.0 w.1 e ez l
   target_found site func true false op (Imm imm) z p w e ez l = absolute_target site op imm z p w.0 w.1 site.reloc refl e ez
@@ -161,8 +173,11 @@ module _ (world : World) (a : Config) (f : FunctionFrame) (fs : List Frame) (not
       not_is false e = refl
       not_is true e = absurd (false≢true e)
 
-      go : (b : Bool) → (nat_eq op.reg 0 && not op.indirect) ≡ b → (if b then relative (here_of site func) imm else no_target (here_of site func)) ≡ Ok z → target_at a site true (beside_extra op (Imm imm)) ≡ Gives p
-      go true q e = let t = and_parts (nat_eq op.reg 0) (not op.indirect) q in relative_target site func op imm z p (eqb-true op.reg 0 t.0) (not_is op.indirect t.1) e ez l
+      go : (b : Bool) → (nat_eq op.reg 0 && not op.indirect) ≡ b
+          → (if b then relative (here_of site func) imm else no_target (here_of site func)) ≡ Ok z
+          → target_at a site true (beside_extra op (Imm imm)) ≡ Gives p
+      go true q e = let t = and_parts (nat_eq op.reg 0) (not op.indirect) q in
+          relative_target site func op imm z p (eqb-true op.reg 0 t.0) (not_is op.indirect t.1) e ez l
       go false q e = absurd (no_targets site func z e)
   target_found site func false false op (Imm imm) z p w e ez l = absurd (no_targets site func z e)
   target_found site func true rel op Nothing z p w e ez l = absurd w
@@ -183,28 +198,37 @@ module _ (world : World) (a : Config) (f : FunctionFrame) (fs : List Frame) (not
 
   narrowed_here : (c : Bool) → a.c ≡ c → After world a f fs (narrow s c)
   narrowed_here c e =
-      subst (λ b. After world a f fs (narrow s b)) e (stays (narrow s a.c) (narrow_fits world.notes (live_memory world a) (depth fs) f s a.registers a.c a.made (λ r. (st.state.registers r).bounded)
+      subst (λ b. After world a f fs (narrow s b)) e (stays (narrow s a.c)
+      (narrow_fits world.notes (live_memory world a) (depth fs) f s a.registers a.c a.made (λ r. (st.state.registers r).bounded)
       (λ x h. let k = st.state.fact x h in let k0 = k.0 in (omega (arith, k0), k.1, k.2)) st.top))
 
   -- a jump to a place that its rule allows
-  pub jump_goes : (site : Site) (cond : Cond) (x : Successors) (z : ℤ) (target : Outcome ℕ) → (x.fall ≡ None) ⊎ (site.next < world.image_size) → jump_to world.notes note s cond z ≡ Ok x → ((p : ℕ) → z ≡ pos p → p < 2 ^ 64 → target ≡ Gives p)
-      → TakesOn world a f fs note s st site x (if is_taken cond a.c then (target >>= (λ p. aligned p >>= (λ to. rows.goes world a to))) else rows.goes world a site.next)
+  pub jump_goes : (site : Site) (cond : Cond) (x : Successors) (z : ℤ) (target : Outcome ℕ) → (x.fall ≡ None)
+      ⊎ (site.next < world.image_size) → jump_to world.notes note s cond z ≡ Ok x → ((p : ℕ) → z ≡ pos p → p < 2 ^ 64 → target ≡ Gives p)
+      → TakesOn world a f fs note s st site x (if is_taken cond a.c then (target >>= (λ p. aligned p >>= (λ to. rows.goes world a to)))
+      else rows.goes world a site.next)
   jump_goes site cond x z target inside e at =
-      then_ok (or_else rule.Target (point_at world.notes note z)) (λ p. Ok (jumps s p cond)) x e (λ p e1 e2. some_ok rule.Target (point_at world.notes note z) p e1 (λ e3. go p (point_there z p e3) cond (is_jumps _ x e2) a.c refl))
+      then_ok (or_else rule.Target (point_at world.notes note z)) (λ p. Ok (jumps s p cond)) x e
+      (λ p e1 e2. some_ok rule.Target (point_at world.notes note z) p e1
+      (λ e3. go p (point_there z p e3) cond (is_jumps _ x e2) a.c refl))
     where
       is_jumps : (y x : Successors) → ◌≡◌ {A = Result Successors RuleName} (Ok y) (Ok x) → y ≡ x
       is_jumps y x e = cc
 
-      there_jump : (p : ℕ) (t : PointThere z p) (zs : State) → After world a f fs zs → x.jump ≡ Some (p, zs) → TakesOn world a f fs note s st site x (target >>= (λ p. aligned p >>= (λ to. rows.goes world a to)))
+      there_jump : (p : ℕ) (t : PointThere z p) (zs : State) → After world a f fs zs → x.jump ≡ Some (p, zs)
+          → TakesOn world a f fs note s st site x (target >>= (λ p. aligned p >>= (λ to. rows.goes world a to)))
       there_jump p t zs h j = record {
         place = p;
         state = zs;
         taken = inr j;
-        goes = subst (λ o. Accepts (GoesOn world a f fs note s st p zs) (o >>= (λ p. aligned p >>= (λ to. rows.goes world a to)))) (sym (at p t.is (let l = st.typed.size in let i = t.inside in omega (arith, l, i))))
-            (subst (λ o. Accepts (GoesOn world a f fs note s st p zs) (o >>= (λ to. rows.goes world a to))) (sym (aligned_is p t.even)) (goes_on world a f fs note s st a p zs t.inside h));
+        goes = subst (λ o. Accepts (GoesOn world a f fs note s st p zs) (o >>= (λ p. aligned p >>= (λ to. rows.goes world a to))))
+            (sym (at p t.is (let l = st.typed.size in let i = t.inside in omega (arith, l, i))))
+            (subst (λ o. Accepts (GoesOn world a f fs note s st p zs) (o >>= (λ to. rows.goes world a to))) (sym (aligned_is p t.even))
+            (goes_on world a f fs note s st a p zs t.inside h));
       }
 
-      falls_there : (zs : State) → After world a f fs zs → x.fall ≡ Some zs → TakesOn world a f fs note s st site x (rows.goes world a site.next)
+      falls_there : (zs : State) → After world a f fs zs → x.fall ≡ Some zs
+          → TakesOn world a f fs note s st site x (rows.goes world a site.next)
       falls_there zs h j = record {
         place = site.next;
         state = zs;
@@ -212,24 +236,33 @@ module _ (world : World) (a : Config) (f : FunctionFrame) (fs : List Frame) (not
         goes = goes_on world a f fs note s st a site.next zs (⊎_elim (λ q. absurd (none-some zs (sym q ∙ j))) (λ q. q) inside) h;
       }
 
-      go : (p : ℕ) → PointThere z p → (cond : Cond) → jumps s p cond ≡ x → (c : Bool) → a.c ≡ c → TakesOn world a f fs note s st site x (if is_taken cond c then (target >>= (λ p. aligned p >>= (λ to. rows.goes world a to))) else rows.goes world a site.next)
+      go : (p : ℕ) → PointThere z p → (cond : Cond) → jumps s p cond ≡ x → (c : Bool) → a.c ≡ c
+          → TakesOn world a f fs note s st site x (if is_taken cond c then (target >>= (λ p. aligned p >>= (λ to. rows.goes world a to)))
+          else rows.goes world a site.next)
       go p t conds.Always q c h = there_jump p t s (stays s st.top) (ap (λ (y : Successors). y.jump) (sym q))
       go p t conds.Set q true h = there_jump p t (narrow s true) (narrowed_here true h) (ap (λ (y : Successors). y.jump) (sym q))
       go p t conds.Set q false h = falls_there (narrow s false) (narrowed_here false h) (ap (λ (y : Successors). y.fall) (sym q))
       go p t conds.Clear q true h = falls_there (narrow s true) (narrowed_here true h) (ap (λ (y : Successors). y.fall) (sym q))
       go p t conds.Clear q false h = there_jump p t (narrow s false) (narrowed_here false h) (ap (λ (y : Successors). y.jump) (sym q))
 
-  pub jump_fits : (site : Site) (cond : Cond) (far rel : Bool) (op : Operand) (extra : Extra) (x : Successors) → TargetFits far op extra → (x.fall ≡ None) ⊎ (site.next < world.image_size) → rules_jumps.jump_row world.notes note (here_of site f.func) s cond far rel op extra ≡ Ok x → TakesOn world a f fs note s st site x (jump_row world a site cond rel (beside_extra op extra))
+  pub jump_fits : (site : Site) (cond : Cond) (far rel : Bool) (op : Operand) (extra : Extra) (x : Successors) → TargetFits far op extra
+      → (x.fall ≡ None) ⊎ (site.next < world.image_size) → rules_jumps.jump_row world.notes note
+      (here_of site f.func) s cond far rel op extra ≡ Ok x → TakesOn world a f fs note s st site x
+      (jump_row world a site cond rel (beside_extra op extra))
   unfolding jump_row rules_jumps.jump_row
   jump_fits site cond far rel op extra x w inside e =
       then_ok (target_of (here_of site f.func) far rel op extra) (jump_to world.notes note s cond) x e (λ z e1 e2.
-      jump_goes site cond x z (target_at a site rel (beside_extra op extra)) inside e2 (λ p q l. target_found site f.func far rel op extra z p w e1 q l))
+      jump_goes site cond x z (target_at a site rel (beside_extra op extra)) inside e2
+      (λ p q l. target_found site f.func far rel op extra z p w e1 q l))
 
-  pub jump8_fits : (site : Site) (cond : Cond) (words : ℤ) (x : Successors) → (x.fall ≡ None) ⊎ (site.next < world.image_size) → rules_jumps.jump8_row world.notes note (here_of site f.func) s cond words ≡ Ok x → TakesOn world a f fs note s st site x (jump8_row world a site.next cond words)
+  pub jump8_fits : (site : Site) (cond : Cond) (words : ℤ) (x : Successors) → (x.fall ≡ None) ⊎ (site.next < world.image_size)
+      → rules_jumps.jump8_row world.notes note (here_of site f.func) s cond words ≡ Ok x
+      → TakesOn world a f fs note s st site x (jump8_row world a site.next cond words)
   unfolding jump8_row rules_jumps.jump8_row
   jump8_fits site cond words x inside e =
       then_ok (relative (here_of site f.func) (words *ℤ pos 2)) (jump_to world.notes note s cond) x e (λ z e1 e2.
-      jump_goes site cond x z (Gives (word (site.next + wrap64 (words *ℤ pos 2)))) inside e2 (λ p q l. ap Gives (past_next site.next p (words *ℤ pos 2) (target_is z e1 ∙ q) l)))
+      jump_goes site cond x z (Gives (word (site.next + wrap64 (words *ℤ pos 2)))) inside e2
+      (λ p q l. ap Gives (past_next site.next p (words *ℤ pos 2) (target_is z e1 ∙ q) l)))
     where
       z_is : (x y : ℤ) → ◌≡◌ {A = Result ℤ RuleName} (Ok x) (Ok y) → x ≡ y
       z_is x y e = cc
@@ -237,6 +270,7 @@ module _ (world : World) (a : Config) (f : FunctionFrame) (fs : List Frame) (not
       target_is : (z : ℤ) → relative (here_of site f.func) (words *ℤ pos 2) ≡ Ok z → pos site.next +ℤ (words *ℤ pos 2) ≡ z
       target_is z e = go (is_some site.reloc) e
         where
-          go : (b : Bool) → (if b then Err rule.Relocation else Ok (pos site.next +ℤ (words *ℤ pos 2))) ≡ Ok z → pos site.next +ℤ (words *ℤ pos 2) ≡ z
+          go : (b : Bool) → (if b then Err rule.Relocation else Ok (pos site.next +ℤ (words *ℤ pos 2))) ≡ Ok z
+              → pos site.next +ℤ (words *ℤ pos 2) ≡ z
           go true e = absurd (err_ok rule.Relocation z e)
           go false e = z_is _ z e

@@ -1,5 +1,6 @@
 -- What moves keep of a value fits what the rules keep of its type.
-use Rattle.std.proofs.Common.{◌≡◌, ℕ, ◌+◌, ◌*◌, ◌%◌, ◌^◌, ◌<◌, ◌≤◌, Bool, true, false, ◌&&◌, if◌then◌else◌, nat_lt, refl, sym, ap, ◌∙◌, subst, arith, inl, inr, ⊎_elim, mod-eq_of_lt, ℤ, pos, negsuc, int_le}
+use Rattle.std.proofs.Common.{◌≡◌, ℕ, ◌+◌, ◌*◌, ◌%◌, ◌^◌, ◌<◌, ◌≤◌, Bool, true, false, ◌&&◌, if◌then◌else◌, nat_lt, refl, sym, ap, ◌∙◌}
+use Rattle.std.proofs.Common.{subst, arith, inl, inr, ⊎_elim, mod-eq_of_lt, ℤ, pos, negsuc, int_le}
 use Rattle.std.specs.Ordering.{int_eq}
 use Rattle.std.proofs.Math.Nat.{mul-le-mul_right}
 use Rattle.std.proofs.lemmas.Bool.{ltb-true, and_parts, false≢true, lt-ltb}
@@ -11,15 +12,16 @@ use Rattle.ebc_width.specs.Width.{wrap64}
 use Rattle.note_types.specs.Types.{IsBounded}
 use Rattle.note_types.specs.declared.notes.Notes.{Notes}
 use Rattle.note_types.specs.declared.types.Ty.{Ty}
-use Rattle.note_types.specs.declared.types.Ty.TheVariants.{Any, Int, Lin, Scaled, Ptr, Local, Lent, Status, SignedStatus, Mask, Handle, Entry, Method, ThunkAt, Saved}
+use Rattle.note_types.specs.declared.types.Ty.TheVariants.{Any, Int, Lin, Scaled, Ptr, Local, Lent, Status, SignedStatus, Mask, Handle}
+use Rattle.note_types.specs.declared.types.Ty.TheVariants.{Entry, Method, ThunkAt, Saved}
 use Rattle.rules_base.specs.Parts.{full}
 use Rattle.rules_base.specs.Kept as rules
-use Rattle.run_types.specs.Values.{Neutral, Num, At, Junk, ObjectOf, number, null, word}
-use Rattle.run_types.specs.Config.{Registers}
-use Rattle.run_types.specs.Memory.{Memory}
-use Rattle.run_types.specs.Fits.{IsPointer, OrNull, Fits}
-use Rattle.run_types.specs.Operations.{is_kept_at, kept_natural, narrowed, sign_extended}
-use Rattle.run_types.specs.Locations.{Move, kept}
+use Rattle.host_model.specs.Values.{Neutral, Num, At, Junk, ObjectOf, number, null, word}
+use Rattle.neutral_machine.specs.Config.{Registers}
+use Rattle.neutral_machine.specs.Memory.{Memory}
+use Rattle.neutral_machine.specs.Fits.{IsPointer, OrNull, Fits}
+use Rattle.neutral_machine.specs.Operations.{is_kept_at, kept_natural, narrowed, sign_extended}
+use Rattle.neutral_machine.specs.Locations.{Move, kept}
 use Rattle.typing_laws.proofs.Rows.{one_divides, number_fits}
 use Rattle.typing_laws.proofs.Objects.{ObjectsFit, start_is, start_kept}
 
@@ -31,16 +33,19 @@ module _ (notes : Notes) (m : Memory) (ok : ObjectsFit notes m.objects) (d : ℕ
   unfolding kept_natural
   num_stays n c l = ap (λ b. if b then Num n c else Junk) (lt-ltb _ _ l)
 
-  at_stays : (v : Neutral) (k n c : ℕ) → v ≡ At (ObjectOf k) n c → is_kept_at notes m.objects (ObjectOf k) n c ≡ true → kept_natural notes m.objects v ≡ v
+  at_stays : (v : Neutral) (k n c : ℕ) → v ≡ At (ObjectOf k) n c → is_kept_at notes m.objects (ObjectOf k) n c ≡ true
+      → kept_natural notes m.objects v ≡ v
   unfolding kept_natural
   at_stays v k n c e h = ap (kept_natural notes m.objects) e ∙ ap (λ b. if b then At (ObjectOf k) n c else Junk) h ∙ sym e
 
   pub number_stays : (x : ℕ) → x < 2 ^ 32 → kept_natural notes m.objects (number x) ≡ number x
   number_stays x l = num_stays 0 x (omega (arith, l))
 
-  start_stays : (s k : ℕ) (n c : ℤ) (v : Neutral) → 1 ≤ k → n ≡ pos 0 → c ≡ pos 0 → IsPointer notes m.objects s k n c v → kept_natural notes m.objects v ≡ v
+  start_stays : (s k : ℕ) (n c : ℤ) (v : Neutral) → 1 ≤ k → n ≡ pos 0 → c ≡ pos 0 → IsPointer notes m.objects s k n c v
+      → kept_natural notes m.objects v ≡ v
   start_stays s k n c v l en ec f =
-      let g : IsPointer notes m.objects s k (pos 0) (pos 0) v = subst (λ z. IsPointer notes m.objects s k (pos 0) z v) ec (subst (λ z. IsPointer notes m.objects s k z c v) en f) in
+      let g : IsPointer notes m.objects s k (pos 0) (pos 0) v =
+      subst (λ z. IsPointer notes m.objects s k (pos 0) z v) ec (subst (λ z. IsPointer notes m.objects s k z c v) en f) in
       let q = start_is notes m.objects ok s k v l g in
       at_stays v q.k _ _ q.is (start_kept notes m.objects ok s k v q)
 
@@ -49,10 +54,12 @@ module _ (notes : Notes) (m : Memory) (ok : ObjectsFit notes m.objects) (d : ℕ
   null_stays v e = ap (kept_natural notes m.objects) e ∙ sym e
 
   -- what is kept of a value that stays
-  stays : (t : Ty) (v : Neutral) → kept_natural notes m.objects v ≡ v → Fits notes m d saved t v → Fits notes m d saved t (kept_natural notes m.objects v)
+  stays : (t : Ty) (v : Neutral) → kept_natural notes m.objects v ≡ v → Fits notes m d saved t v
+      → Fits notes m d saved t (kept_natural notes m.objects v)
   stays t v e f = subst (λ z. Fits notes m d saved t z) (sym e) f
 
-  or_null_stays : (s k : ℕ) (n c : ℤ) (may : Bool) (v : Neutral) → 1 ≤ k → n ≡ pos 0 → c ≡ pos 0 → OrNull may v (IsPointer notes m.objects s k n c v) → kept_natural notes m.objects v ≡ v
+  or_null_stays : (s k : ℕ) (n c : ℤ) (may : Bool) (v : Neutral) → 1 ≤ k → n ≡ pos 0 → c ≡ pos 0
+      → OrNull may v (IsPointer notes m.objects s k n c v) → kept_natural notes m.objects v ≡ v
   or_null_stays s k n c true v l en ec f = ⊎_elim (λ g. start_stays s k n c v l en ec g) (λ e. null_stays v e) f
   or_null_stays s k n c false v l en ec f = start_stays s k n c v l en ec f
 
@@ -61,13 +68,15 @@ module _ (notes : Notes) (m : Memory) (ok : ObjectsFit notes m.objects) (d : ℕ
   lin_small (pos i) (negsuc j) b h = absurd (false≢true h)
   lin_small (negsuc i) c b h = absurd b.0
 
-  pub natural_fits : (t : Ty) (v : Neutral) → IsBounded t → Fits notes m d saved t v → Fits notes m d saved (rules.kept_natural t) (kept_natural notes m.objects v)
+  pub natural_fits : (t : Ty) (v : Neutral) → IsBounded t → Fits notes m d saved t v
+      → Fits notes m d saved (rules.kept_natural t) (kept_natural notes m.objects v)
   unfolding kept_natural
   natural_fits Any v b f = tt
   natural_fits (Int lo hi div) v b f = go (nat_lt hi (2 ^ 32)) refl
     where
       go : (i : Bool) → nat_lt hi (2 ^ 32) ≡ i → Fits notes m d saved (if i then Int lo hi div else Any) (kept_natural notes m.objects v)
-      go true h = let l = ltb-true hi (2 ^ 32) h in stays (Int lo hi div) v (ap (kept_natural notes m.objects) f.is ∙ number_stays f.x (omega (arith, f.to, l)) ∙ sym f.is) f
+      go true h = let l = ltb-true hi (2 ^ 32) h in stays (Int lo hi div) v
+          (ap (kept_natural notes m.objects) f.is ∙ number_stays f.x (omega (arith, f.to, l)) ∙ sym f.is) f
       go false h = tt
   natural_fits (Lin n c) v b f = go (int_le (pos 0) c) refl
     where
@@ -81,14 +90,17 @@ module _ (notes : Notes) (m : Memory) (ok : ObjectsFit notes m.objects) (d : ℕ
       stays (Scaled n c hi) v (ap (kept_natural notes m.objects) f.is ∙ num_stays (f.i * n) (f.i * c) (omega (arith, e, g, h)) ∙ sym f.is) f
   natural_fits (Ptr s k n c may) v b f = go (int_eq n (pos 0) && int_eq c (pos 0)) refl
     where
-      go : (i : Bool) → (int_eq n (pos 0) && int_eq c (pos 0)) ≡ i → Fits notes m d saved (if i then Ptr s k n c may else Any) (kept_natural notes m.objects v)
+      go : (i : Bool) → (int_eq n (pos 0) && int_eq c (pos 0)) ≡ i
+          → Fits notes m d saved (if i then Ptr s k n c may else Any) (kept_natural notes m.objects v)
       go true h =
           let p = and_parts (int_eq n (pos 0)) (int_eq c (pos 0)) h in
-          stays (Ptr s k n c may) v (or_null_stays s k n c may v b.0 ((Decides-int_eq n (pos 0)).0 p.0) ((Decides-int_eq c (pos 0)).0 p.1) f) f
+          stays (Ptr s k n c may) v (or_null_stays s k n c may v b.0 ((Decides-int_eq n (pos 0)).0 p.0)
+          ((Decides-int_eq c (pos 0)).0 p.1) f) f
       go false h = tt
   natural_fits (Local x) v b f = stays (Local x) v (ap (kept_natural notes m.objects) f.is ∙ sym f.is) f
   natural_fits (Lent cell) v b f = stays (Lent cell) v (ap (kept_natural notes m.objects) f.cell_below.is ∙ sym f.cell_below.is) f
-  natural_fits (Status g) v b f = stays (Status g) v (⊎_elim (λ e. ap (kept_natural notes m.objects) e.is ∙ sym e.is) (λ s. let l = s.0.small in ap (kept_natural notes m.objects) s.0.is ∙ number_stays s.0.code (omega (arith, l)) ∙ sym s.0.is) f) f
+  natural_fits (Status g) v b f = stays (Status g) v (⊎_elim (λ e. ap (kept_natural notes m.objects) e.is ∙ sym e.is)
+      (λ s. let l = s.0.small in ap (kept_natural notes m.objects) s.0.is ∙ number_stays s.0.code (omega (arith, l)) ∙ sym s.0.is) f) f
   natural_fits (SignedStatus g) v b f = tt
   natural_fits Mask v b f = stays Mask v (ap (kept_natural notes m.objects) f ∙ sym f) f
   natural_fits Handle v b f = stays Handle v (⊎_elim (λ e. ap (kept_natural notes m.objects) e.is ∙ sym e.is) (λ e. null_stays v e) f) f
@@ -102,7 +114,8 @@ module _ (notes : Notes) (m : Memory) (ok : ObjectsFit notes m.objects) (d : ℕ
   narrowed_is : (bits x : ℕ) (v : Neutral) → v ≡ number x → narrowed bits v ≡ number (word x % 2 ^ bits)
   narrowed_is bits x v e = ap (narrowed bits) e
 
-  pub low_fits : (bits : ℕ) (t : Ty) (v : Neutral) → 2 ^ bits ≤ 2 ^ 64 → Fits notes m d saved t v → Fits notes m d saved (rules.kept_low bits t) (narrowed bits v)
+  pub low_fits : (bits : ℕ) (t : Ty) (v : Neutral) → 2 ^ bits ≤ 2 ^ 64 → Fits notes m d saved t v
+      → Fits notes m d saved (rules.kept_low bits t) (narrowed bits v)
   low_fits bits (Int lo hi div) v p f = go (nat_lt hi (2 ^ bits)) refl
     where
       go : (i : Bool) → nat_lt hi (2 ^ bits) ≡ i → Fits notes m d saved (if i then Int lo hi div else full bits) (narrowed bits v)
@@ -113,7 +126,8 @@ module _ (notes : Notes) (m : Memory) (ok : ObjectsFit notes m.objects) (d : ℕ
           subst (λ z. Fits notes m d saved (Int lo hi div) z) (sym (narrowed_is bits f.x v f.is ∙ ap number e ∙ sym f.is)) f
       go false h =
           let q = mod_below (word f.x) (2 ^ bits) (pow_pos bits) in
-          number_fits notes m d saved (word f.x % 2 ^ bits) 0 _ 1 _ (narrowed_is bits f.x v f.is) (omega arith) (omega (arith, q)) (one_divides _)
+          number_fits notes m d saved (word f.x % 2 ^ bits) 0 _ 1 _ (narrowed_is bits f.x v f.is) (omega arith) (omega (arith, q))
+          (one_divides _)
   low_fits bits Any v p f = tt
   low_fits bits (Lin n c) v p f = tt
   low_fits bits (Scaled n c hi) v p f = tt
@@ -130,7 +144,8 @@ module _ (notes : Notes) (m : Memory) (ok : ObjectsFit notes m.objects) (d : ℕ
   low_fits bits (Saved i) v p f = tt
 
   -- What a move keeps of a value fits what it keeps of its type.
-  pub kept_fits : (size : Size) (t : Ty) (v : Neutral) → IsBounded t → Fits notes m d saved t v → Fits notes m d saved (rules.kept size t) (kept notes m.objects (Move size) v)
+  pub kept_fits : (size : Size) (t : Ty) (v : Neutral) → IsBounded t → Fits notes m d saved t v
+      → Fits notes m d saved (rules.kept size t) (kept notes m.objects (Move size) v)
   kept_fits sizes.Byte t v b f = low_fits 8 t v (omega arith) f
   kept_fits sizes.Word t v b f = low_fits 16 t v (omega arith) f
   kept_fits sizes.Dword t v b f = low_fits 32 t v (omega arith) f
@@ -152,11 +167,15 @@ module _ (notes : Notes) (m : Memory) (ok : ObjectsFit notes m.objects) (d : ℕ
   unfolding sign_extended
   signed_fits (Status g) v f = ⊎_elim
       (λ e. inl (record { code = e.code; is = ap sign_extended e.is; small = e.small }))
-      (λ s. let l = s.0.small in inr (record { code = s.0.code; is = ap sign_extended s.0.is ∙ extended_number s.0.code l; small = l }, s.1)) f
+      (λ s. let l = s.0.small in inr (
+        record { code = s.0.code; is = ap sign_extended s.0.is ∙ extended_number s.0.code l; small = l },
+        s.1,
+      )) f
   signed_fits (Int lo hi div) v f = go (nat_lt hi (2 ^ 31)) refl
     where
       go : (i : Bool) → nat_lt hi (2 ^ 31) ≡ i → Fits notes m d saved (if i then Int lo hi div else Any) (sign_extended v)
-      go true h = let l = ltb-true hi (2 ^ 31) h in subst (λ z. Fits notes m d saved (Int lo hi div) z) (sym (ap sign_extended f.is ∙ extended_number f.x (omega (arith, f.to, l)) ∙ sym f.is)) f
+      go true h = let l = ltb-true hi (2 ^ 31) h in subst (λ z. Fits notes m d saved (Int lo hi div) z)
+          (sym (ap sign_extended f.is ∙ extended_number f.x (omega (arith, f.to, l)) ∙ sym f.is)) f
       go false h = tt
   signed_fits Any v f = tt
   signed_fits (Lin n c) v f = tt

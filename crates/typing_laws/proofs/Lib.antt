@@ -46,3 +46,4 @@ pub mod SumsFit
 pub mod Things
 pub mod WideFit
 pub mod Written
+pub mod AccessesAgree

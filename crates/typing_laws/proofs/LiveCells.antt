@@ -1,5 +1,6 @@
 -- The cells that are there, before and after a change: what they hold, and what frames and types see of them.
-use Rattle.std.proofs.Common.{◌≡◌, ℕ, suc, ◌%◌, ◌<◌, ◌≤◌, Bool, true, false, if◌then◌else◌, is_some, List, [], ◌∷◌, Option, Some, None, slice_get, refl, sym, ap, ◌∙◌, subst, arith, inl, inr, ⊎_elim, option_and_then, ℤ}
+use Rattle.std.proofs.Common.{◌≡◌, ℕ, suc, ◌%◌, ◌<◌, ◌≤◌, Bool, true, false, if◌then◌else◌, is_some, List, [], ◌∷◌, Option, Some, None}
+use Rattle.std.proofs.Common.{slice_get, refl, sym, ap, ◌∙◌, subst, arith, inl, inr, ⊎_elim, option_and_then}
 use Rattle.std.specs.List.{AllZip}
 use Rattle.std.proofs.lemmas.Option.{none-some}
 use Rattle.note_types.specs.Passing.{IsPassed}
@@ -9,14 +10,16 @@ use Rattle.note_types.specs.declared.notes.Param.{Param}
 use Rattle.note_types.specs.declared.shape.Field.{Field}
 use Rattle.note_types.specs.declared.shape.Shape.{Shape}
 use Rattle.note_types.specs.declared.types.Ty.{Ty}
-use Rattle.note_types.specs.declared.types.Ty.TheVariants.{Any, Int, Lin, Scaled, Ptr, Local, Lent, Status, SignedStatus, Mask, Handle, Entry, Method, ThunkAt, Saved}
-use Rattle.run_types.specs.Config.{Registers, StackItem, Pushed, LocalsOf, FunctionFrame, Frame, Function, Host, depth}
-use Rattle.run_types.specs.Fits.{IsPointer, OrNull, Fits}
-use Rattle.run_types.specs.Memory.{Memory, cell_field, IsWritten, AreWritten}
-use Rattle.run_types.specs.declared.object.TypedObject.{TypedObject}
-use Rattle.run_types.specs.Values.{Neutral, CellPlace}
-use Rattle.run_types.specs.World.{World}
+use Rattle.note_types.specs.declared.types.Ty.TheVariants.{Any, Int, Lin, Scaled, Ptr, Local, Lent, Status, SignedStatus, Mask, Handle}
+use Rattle.note_types.specs.declared.types.Ty.TheVariants.{Entry, Method, ThunkAt, Saved}
+use Rattle.neutral_machine.specs.Config.{Registers, StackItem, Pushed, LocalsOf, FunctionFrame, Frame, Function, Host, depth}
+use Rattle.neutral_machine.specs.Fits.{Fits}
+use Rattle.neutral_machine.specs.Memory.{Memory, cell_field, AreWritten, IsFieldWritten}
+use Rattle.host_model.specs.declared.object.TypedObject.{TypedObject}
+use Rattle.host_model.specs.Values.{Neutral, CellPlace}
+use Rattle.host_model.specs.World.{World}
 use Rattle.typed_runs.specs.Later.{Later}
+use Rattle.typed_runs.proofs.LaterFits.{or_null_later, pointer_later}
 use Rattle.typed_runs.specs.Live.{live_cells}
 use Rattle.typed_runs.specs.Sound.{ParamFits, FrameKeeps, FrameBelow, FramesKeep}
 
@@ -31,14 +34,17 @@ live_held notes m p v e = go (is_some (cell_field notes m p)) e
     go false e = absurd (none-some v e)
 
 -- a cell that is there holds what the cell holds
-pub live_there : (notes : Notes) (m : Memory) (p : CellPlace) (z : Field) (o : Option Neutral) → cell_field notes m p ≡ Some z → m.cells p ≡ o → live_cells notes m p ≡ o
+pub live_there : (notes : Notes) (m : Memory) (p : CellPlace) (z : Field) (o : Option Neutral) → cell_field notes m p ≡ Some z
+    → m.cells p ≡ o → live_cells notes m p ≡ o
 live_there notes m p z o e h = ap (λ x. if is_some x then m.cells p else None) e ∙ h
 
 -- it is there
-pub live_some : (notes : Notes) (m : Memory) (p : CellPlace) (v : Neutral) → live_cells notes m p ≡ Some v → (z : Field) × (cell_field notes m p ≡ Some z)
+pub live_some : (notes : Notes) (m : Memory) (p : CellPlace) (v : Neutral) → live_cells notes m p ≡ Some v → (z : Field)
+    × (cell_field notes m p ≡ Some z)
 live_some notes m p v e = go (cell_field notes m p) refl e
   where
-    go : (o : Option Field) → cell_field notes m p ≡ o → (if is_some o then m.cells p else None) ≡ Some v → (z : Field) × (cell_field notes m p ≡ Some z)
+    go : (o : Option Field) → cell_field notes m p ≡ o → (if is_some o then m.cells p else None) ≡ Some v → (z : Field)
+        × (cell_field notes m p ≡ Some z)
     go None h e = absurd (none-some v e)
     go (Some z) h e = (z, h)
 
@@ -48,41 +54,56 @@ live_some notes m p v e = go (cell_field notes m p) refl e
 pub record LaterBelow (d : ℕ) (U V : Memory) : Type 0 where
   pub objects : (k : ℕ) (o : TypedObject) → slice_get U.objects k ≡ Some o → slice_get V.objects k ≡ Some o
   pub locals : (e : ℕ) → e < d → V.locals e ≡ U.locals e
-  pub written : (e f : ℕ) → e < d → IsWritten U e f → IsWritten V e f
+  pub written : (e f : ℕ) → e < d → IsFieldWritten U e f → IsFieldWritten V e f
 
 pub below_down : (d e : ℕ) (U V : Memory) → e ≤ d → LaterBelow d U V → LaterBelow e U V
-below_down d e U V l p = record { objects = p.objects; locals = λ c h. p.locals c (omega (arith, l, h)); written = λ c f h. p.written c f (omega (arith, l, h)) }
+below_down d e U V l p = record {
+  objects = p.objects;
+  locals = λ c h. p.locals c (omega (arith, l, h));
+  written = λ c f h. p.written c f (omega (arith, l, h));
+}
 
 -- what comes later as a frame sees it does so as what is below the next depth does, and the other way round
 pub later_below : (d : ℕ) (U V : Memory) → Later d U V → LaterBelow (suc d) U V
-later_below d U V p = record { objects = p.objects; locals = λ e h. p.locals e (omega (arith, h)); written = λ e f h. p.written e f (omega (arith, h)) }
+later_below d U V p = record {
+  objects = p.objects;
+  locals = λ e h. p.locals e (omega (arith, h));
+  written = λ e f h. p.written e f (omega (arith, h));
+}
 
 pub below_later : (d : ℕ) (U V : Memory) → LaterBelow (suc d) U V → Later d U V
-below_later d U V p = record { objects = p.objects; locals = λ e h. p.locals e (omega (arith, h)); written = λ e f h. p.written e f (omega (arith, h)) }
+below_later d U V p = record {
+  objects = p.objects;
+  locals = λ e h. p.locals e (omega (arith, h));
+  written = λ e f h. p.written e f (omega (arith, h));
+}
 
 module _ (notes : Notes) (d : ℕ) (U V : Memory) (l : LaterBelow d U V) where
-  pointer_later : (s k : ℕ) (n c : ℤ) (v : Neutral) → IsPointer notes U.objects s k n c v → IsPointer notes V.objects s k n c v
-  pointer_later s k n c v h = record { k = h.k; j = h.j; object = h.object; is = h.is; there = l.objects h.k h.object h.there; shape = h.shape; room = h.room }
-
-  or_null_later : (b : Bool) (v : Neutral) (P Q : Type 0) → (P → Q) → OrNull b v P → OrNull b v Q
-  or_null_later true v P Q f h = ⊎_elim (λ p. inl (f p)) (λ q. inr q) h
-  or_null_later false v P Q f h = f h
-
   none_granted : (m : Memory) (e g : ℕ) → g ≡ 0 → AreWritten m e g
   none_granted m e g h x q = absurd (omega (arith, h, q))
 
   -- What fits a type that says nothing of its own frame fits it in a frame above too, whatever that keeps of its entry.
-  pub passed_up : (e : ℕ) (saved other : Registers) (t : Ty) (v : Neutral) → d ≤ e → IsPassed t → Fits notes U d saved t v → Fits notes V e other t v
+  pub passed_up : (e : ℕ) (saved other : Registers) (t : Ty) (v : Neutral) → d ≤ e → IsPassed t → Fits notes U d saved t v
+      → Fits notes V e other t v
   passed_up e saved other Any v h p x = tt
   passed_up e saved other (Int lo hi div) v h p x = x
   passed_up e saved other (Lin n c) v h p x = x
   passed_up e saved other (Scaled n c hi) v h p x = x
-  passed_up e saved other (Ptr s k n c may) v h p x = or_null_later may v _ _ (λ q. pointer_later s k n c v q) x
+  passed_up e saved other (Ptr s k n c may) v h p x =
+      or_null_later may v _ _ (λ q. pointer_later notes U.objects V.objects l.objects s k n c v q) x
   passed_up e saved other (Local f) v h p x = absurd p
   passed_up e saved other (Lent cell) v h p x =
       let b = x.cell_below in
       record {
-        cell_below = record { e = b.e; f = b.f; is = b.is; lower = omega (arith, b.lower, h); field = b.field; there = ap (option_and_then (λ (s : Shape). slice_get s.fields b.f)) (l.locals b.e b.lower) ∙ b.there; cell_is = b.cell_is };
+        cell_below = record {
+          e = b.e;
+          f = b.f;
+          is = b.is;
+          lower = omega (arith, b.lower, h);
+          field = b.field;
+          there = ap (option_and_then (λ (s : Shape). slice_get s.fields b.f)) (l.locals b.e b.lower) ∙ b.there;
+          cell_is = b.cell_is;
+        };
         written = l.written b.e b.f b.lower x.written;
       }
   passed_up e saved other (Status g) v h p x = ⊎_elim (λ q. inl q) (λ q. inr (q.0, none_granted V e g p)) x
@@ -95,28 +116,43 @@ module _ (notes : Notes) (d : ℕ) (U V : Memory) (l : LaterBelow d U V) where
   passed_up e saved other (Saved i) v h p x = absurd p
 
   -- so the parameters of a frame at that depth, which may keep other registers now
-  pub params_up : (f g : FunctionFrame) (is : List StackItem) (ps : List Param) → ((k : ℕ) (q : Param) → slice_get ps k ≡ Some q → IsPassed q.ty) → AllZip (ParamFits notes U d f) is ps → AllZip (ParamFits notes V d g) is ps
+  pub params_up : (f g : FunctionFrame) (is : List StackItem) (ps : List Param)
+      → ((k : ℕ) (q : Param) → slice_get ps k ≡ Some q → IsPassed q.ty) → AllZip (ParamFits notes U d f) is ps
+      → AllZip (ParamFits notes V d g) is ps
   params_up f g [] [] h z = tt
   params_up f g [] (p ∷ ps) h z = absurd z
   params_up f g (i ∷ is) [] h z = absurd z
-  params_up f g (Pushed kind v ∷ is) (p ∷ ps) h z = ((z.0.0, passed_up d f.saved g.saved p.ty v (omega arith) (h 0 p refl) z.0.1), params_up f g is ps (λ k q e. h (suc k) q e) z.1)
+  params_up f g (Pushed kind v ∷ is) (p ∷ ps) h z = (
+    (z.0.0, passed_up d f.saved g.saved p.ty v (omega arith) (h 0 p refl) z.0.1),
+    params_up f g is ps (λ k q e. h (suc k) q e) z.1,
+  )
   params_up f g (LocalsOf s ∷ is) (p ∷ ps) h z = absurd z.0
 
 -- ---- frames
 
 -- each function's parameters are passed
 abbrev pub ParamsPassed : Notes → Type 0
-ParamsPassed notes = (j k : ℕ) (g : FnNote) (q : Param) → slice_get notes.function j ≡ Some g → slice_get g.params k ≡ Some q → IsPassed q.ty
+ParamsPassed notes = (j k : ℕ) (g : FnNote) (q : Param) → slice_get notes.function j ≡ Some g → slice_get g.params k ≡ Some q
+    → IsPassed q.ty
 
 module _ (world : World) (passed : ParamsPassed world.notes) (U V : Memory) (same : V.objects ≡ U.objects) where
   -- what a frame finds below it, where it keeps other registers
-  pub below_kept : (f g : FunctionFrame) (n : FnNote) (fs : List Frame) → slice_get world.notes.function f.func ≡ Some n → g.func ≡ f.func → g.ret ≡ f.ret → LaterBelow (depth fs) U V → FrameBelow world U f n fs → FrameBelow world V g n fs
+  pub below_kept : (f g : FunctionFrame) (n : FnNote) (fs : List Frame) → slice_get world.notes.function f.func ≡ Some n → g.func ≡ f.func
+      → g.ret ≡ f.ret → LaterBelow (depth fs) U V → FrameBelow world U f n fs → FrameBelow world V g n fs
   below_kept f g n [] h ef er l k = absurd k
-  below_kept f g n (Host t ∷ fs) h ef er l k = (ef ∙ k.0, params_up world.notes (depth fs) U V l f g _ n.params (λ j q e. passed f.func j n q h e) k.1)
-  below_kept f g n (Function t ∷ fs) h ef er l k =
-      (k.0, params_up world.notes (depth (Function t ∷ fs)) U V l f g _ n.params (λ j q e. passed f.func j n q h e) k.1, subst (λ p. (p % 2 ≡ 0) × (p < world.image_size)) (sym er) k.2)
+  below_kept f g n (Host t ∷ fs) h ef er l k = (
+    ef ∙ k.0,
+    params_up world.notes (depth fs) U V l f g _ n.params
+        (λ j q e. passed f.func j n q h e) k.1,
+  )
+  below_kept f g n (Function t ∷ fs) h ef er l k = (
+    k.0,
+    params_up world.notes (depth (Function t ∷ fs)) U V l f g _ n.params (λ j q e. passed f.func j n q h e) k.1,
+    subst (λ p. (p % 2 ≡ 0) × (p < world.image_size)) (sym er) k.2,
+  )
 
-  keeps_kept : (made : ℕ) (f : FunctionFrame) (n : FnNote) → FrameKeeps world.notes U.objects made f n → FrameKeeps world.notes V.objects made f n
+  keeps_kept : (made : ℕ) (f : FunctionFrame) (n : FnNote) → FrameKeeps world.notes U.objects made f n
+      → FrameKeeps world.notes V.objects made f n
   keeps_kept made f n k = subst (λ o. FrameKeeps world.notes o made f n) (sym same) k
 
   pub frames_kept : (made : ℕ) (fs : List Frame) → LaterBelow (depth fs) U V → FramesKeep world U made fs → FramesKeep world V made fs

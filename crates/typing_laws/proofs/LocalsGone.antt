@@ -1,6 +1,7 @@
 -- The locals of a frame are dropped: no value is an address of them any more, and what fits goes on to fit, but for what says
 -- something of them.
-use Rattle.std.proofs.Common.{◌≡◌, ◌≢◌, ℕ, zero, suc, ◌+◌, ◌*◌, ◌%◌, ◌<◌, ◌≤◌, Bool, true, false, if◌then◌else◌, nat_eq, List, [], ◌∷◌, map, take, length, Some, slice_get, refl, sym, ap, ap₂, ◌∙◌, subst, arith, inl, inr, ⊎_elim}
+use Rattle.std.proofs.Common.{◌≡◌, ◌≢◌, ℕ, zero, suc, ◌+◌, ◌*◌, ◌%◌, ◌<◌, ◌≤◌, Bool, true, false, if◌then◌else◌, nat_eq, List, [], ◌∷◌, map}
+use Rattle.std.proofs.Common.{take, length, Some, slice_get, refl, sym, ap, ◌∙◌, subst, arith, inl, inr, ⊎_elim}
 use Rattle.std.specs.List.{AllZip}
 use Rattle.std.proofs.lemmas.Bool.{ne_eqb}
 use Rattle.std.proofs.lemmas.Option.{none-some}
@@ -15,41 +16,27 @@ use Rattle.note_types.specs.declared.types.Ty.{Ty}
 use Rattle.note_types.specs.declared.types.Ty.TheVariants as ty
 use Rattle.rules_flow.specs.Frames.{forgotten}
 use Rattle.neutral_machine.specs.Rows.{frame_without, item_without, registers_without, without_local}
-use Rattle.run_types.specs.Config.{Registers, StackItem, Pushed, LocalsOf, FunctionFrame, Frame, Function, Host, depth, hosts, locals_among, locals_at}
-use Rattle.run_types.specs.Fits.{IsNumber, IsMultiple, IsPointer, IsSuccess, IsError, IsSignedError, IsHandle, IsEntry, OrNull, FitsPlain, Fits}
-use Rattle.run_types.specs.Layout.{height, item_size}
-use Rattle.run_types.specs.Memory.{Memory, AreWritten}
-use Rattle.run_types.specs.Operations.{compared_as, instance_of, kept_natural}
-use Rattle.run_types.specs.Placements.{pair_at, return_cell}
-use Rattle.run_types.specs.Values.{Neutral, At, Num, Handle, Method, Entry, Error, SignedError, Junk, ObjectOf, ThunkOf, LocalOf, number, null, mask, pair}
-use Rattle.run_types.specs.World.{World}
-use Rattle.run_types.specs.declared.object.TypedObject.{TypedObject}
+use Rattle.neutral_machine.specs.Config.{Registers, StackItem, Pushed, LocalsOf, FunctionFrame, Frame, Function, Host, depth, hosts}
+use Rattle.neutral_machine.specs.Fits.{IsNumber, IsMultiple, IsPointer, IsSuccess, IsError, IsSignedError, IsHandle, IsEntry, OrNull}
+use Rattle.neutral_machine.specs.Fits.{FitsPlain, Fits}
+use Rattle.neutral_machine.specs.Layout.{height, item_size}
+use Rattle.neutral_machine.specs.Memory.{Memory, AreWritten}
+use Rattle.neutral_machine.specs.Operations.{compared_as, instance_of, kept_natural}
+use Rattle.host_model.specs.Placements.{pair_at, return_cell}
+use Rattle.host_model.specs.Values.{Neutral, At, Num, Handle, Method, Entry, Error, SignedError, Junk, ObjectOf, ThunkOf, LocalOf, number}
+use Rattle.host_model.specs.Values.{null, mask, pair}
+use Rattle.host_model.specs.World.{World}
+use Rattle.host_model.specs.declared.object.TypedObject.{TypedObject}
 use Rattle.typed_runs.specs.Sound.{FrameBelow, FrameKeeps, FramesKeep, KeepsWithin, ParamFits, ParamKind, ParamsFit, SlotsKept}
 use Rattle.typing_laws.proofs.LiveCells.{LaterBelow, ParamsPassed, below_down, passed_up}
+use Rattle.neutral_machine.proofs.Drops.{depth_map, stays}
 
 -- ---- frames, their items and locals
-
-pub depth_without : (e : ℕ) (fs : List Frame) → depth (map (frame_without e) fs) ≡ depth fs
-depth_without e [] = refl
-depth_without e (Function f ∷ fs) = ap suc (depth_without e fs)
-depth_without e (Host h ∷ fs) = depth_without e fs
 
 pub hosts_without : (e : ℕ) (fs : List Frame) → length (hosts (map (frame_without e) fs)) ≡ length (hosts fs)
 hosts_without e [] = refl
 hosts_without e (Function f ∷ fs) = hosts_without e fs
 hosts_without e (Host h ∷ fs) = ap suc (hosts_without e fs)
-
-pub among_without : (e : ℕ) (is : List StackItem) → locals_among (map (item_without e) is) ≡ locals_among is
-among_without e [] = refl
-among_without e (Pushed kind v ∷ is) = among_without e is
-among_without e (LocalsOf s ∷ is) = refl
-
-pub locals_without : (e : ℕ) (fs : List Frame) (d : ℕ) → locals_at (map (frame_without e) fs) d ≡ locals_at fs d
-locals_without e [] d = refl
-locals_without e (Function f ∷ fs) d =
-    ap₂ (λ n o. if nat_eq d n then o else locals_at (map (frame_without e) fs) d) (depth_without e fs) (among_without e f.items)
-    ∙ ap (λ o. if nat_eq d (depth fs) then locals_among f.items else o) (locals_without e fs d)
-locals_without e (Host h ∷ fs) d = locals_without e fs d
 
 pub height_without : (e w : ℕ) (is : List StackItem) → height w (map (item_without e) is) ≡ height w is
 height_without e w [] = refl
@@ -64,11 +51,13 @@ take_map g (suc n) (x ∷ xs) = ap (λ ys. g x ∷ ys) (take_map g n xs)
 -- ---- values
 
 -- what natural size keeps it keeps without an address of locals
-kept_without : (notes : Notes) (os : List TypedObject) (e : ℕ) (v : Neutral) → kept_natural notes os v ≡ v → kept_natural notes os (without_local e v) ≡ without_local e v
+kept_without : (notes : Notes) (os : List TypedObject) (e : ℕ) (v : Neutral) → kept_natural notes os v ≡ v
+    → kept_natural notes os (without_local e v) ≡ without_local e v
 unfolding kept_natural
 kept_without notes os e (At (LocalOf d f) n c) h = go (nat_eq d e) h
   where
-    go : (b : Bool) → kept_natural notes os (At (LocalOf d f) n c) ≡ At (LocalOf d f) n c → kept_natural notes os (if b then Junk else At (LocalOf d f) n c) ≡ (if b then Junk else At (LocalOf d f) n c)
+    go : (b : Bool) → kept_natural notes os (At (LocalOf d f) n c) ≡ At (LocalOf d f) n c
+        → kept_natural notes os (if b then Junk else At (LocalOf d f) n c) ≡ (if b then Junk else At (LocalOf d f) n c)
     go true h = refl
     go false h = h
 kept_without notes os e (At (ObjectOf k) n c) h = h
@@ -81,22 +70,20 @@ kept_without notes os e (Error k) h = h
 kept_without notes os e (SignedError k) h = h
 kept_without notes os e Junk h = h
 
-pub slots_without : (notes : Notes) (os : List TypedObject) (e : ℕ) (is : List StackItem) → SlotsKept notes os is → SlotsKept notes os (map (item_without e) is)
+pub slots_without : (notes : Notes) (os : List TypedObject) (e : ℕ) (is : List StackItem) → SlotsKept notes os is
+    → SlotsKept notes os (map (item_without e) is)
 slots_without notes os e [] h = tt
 slots_without notes os e (Pushed slots.N v ∷ is) h = (kept_without notes os e v h.0, slots_without notes os e is h.1)
 slots_without notes os e (Pushed slots.Q v ∷ is) h = slots_without notes os e is h
 slots_without notes os e (Pushed slots.D v ∷ is) h = slots_without notes os e is h
 slots_without notes os e (LocalsOf s ∷ is) h = slots_without notes os e is h
 
--- a value that is one which stays
-stays : (e : ℕ) (v u : Neutral) → without_local e u ≡ u → v ≡ u → without_local e v ≡ v
-stays e v u p q = ap (without_local e) q ∙ p ∙ sym q
-
 local_stays : (e d f n c : ℕ) → d ≢ e → without_local e (At (LocalOf d f) n c) ≡ At (LocalOf d f) n c
 local_stays e d f n c l = ap (λ b. if b then Junk else At (LocalOf d f) n c) (ne_eqb d e l)
 
 -- a value that a comparison with a number looks at is no address of locals
-pub compared_stays : (notes : Notes) (os : List TypedObject) (op : CmpOp) (e k : ℕ) (c : Bool) (v : Neutral) → compared_as notes os op true v (number k) ≡ Some c → without_local e v ≡ v
+pub compared_stays : (notes : Notes) (os : List TypedObject) (op : CmpOp) (e k : ℕ) (c : Bool) (v : Neutral)
+    → compared_as notes os op true v (number k) ≡ Some c → without_local e v ≡ v
 unfolding compared_as instance_of
 compared_stays notes os cmps.Eq e k c (At (LocalOf d f) n m) h = absurd (none-some c h)
 compared_stays notes os cmps.Lte e k c (At (LocalOf d f) n m) h = absurd (none-some c h)
@@ -115,11 +102,13 @@ compared_stays notes os op e k c Junk h = refl
 
 -- ---- types
 
-or_null_without : (e : ℕ) (may : Bool) (v : Neutral) (P : Neutral → Type 0) → (P v → without_local e v ≡ v) → OrNull may v (P v) → OrNull may (without_local e v) (P (without_local e v))
+or_null_without : (e : ℕ) (may : Bool) (v : Neutral) (P : Neutral → Type 0) → (P v → without_local e v ≡ v) → OrNull may v (P v)
+    → OrNull may (without_local e v) (P (without_local e v))
 or_null_without e true v P f h = ⊎_elim (λ p. inl (subst P (sym (f p)) p)) (λ q. inr (stays e v null refl q ∙ q)) h
 or_null_without e false v P f h = subst P (sym (f h)) h
 
-pub plain_without : (notes : Notes) (os : List TypedObject) (e : ℕ) (t : Ty) (v : Neutral) → FitsPlain notes os t v → FitsPlain notes os t (without_local e v)
+pub plain_without : (notes : Notes) (os : List TypedObject) (e : ℕ) (t : Ty) (v : Neutral) → FitsPlain notes os t v
+    → FitsPlain notes os t (without_local e v)
 plain_without notes os e ty.Any v h = tt
 plain_without notes os e (ty.Int lo hi div) v h = subst (IsNumber lo hi div) (sym (stays e v (number h.x) refl h.is)) h
 plain_without notes os e (ty.Lin n c) v h = stays e v (pair n c) refl h ∙ h
@@ -127,11 +116,16 @@ plain_without notes os e (ty.Scaled n c hi) v h = subst (IsMultiple n c hi) (sym
 plain_without notes os e (ty.Ptr s k n c may) v h = or_null_without e may v (IsPointer notes os s k n c) (λ p. stays e v _ refl p.is) h
 plain_without notes os e (ty.Local f) v h = absurd h
 plain_without notes os e (ty.Lent cell) v h = absurd h
-plain_without notes os e (ty.Status g) v h = ⊎_elim (λ p. inl (subst IsError (sym (stays e v (Error p.code) refl p.is)) p)) (λ q. inr (subst IsSuccess (sym (stays e v (number q.code) refl q.is)) q)) h
-plain_without notes os e (ty.SignedStatus g) v h = ⊎_elim (λ p. inl (subst IsSignedError (sym (stays e v (SignedError p.code) refl p.is)) p)) (λ q. inr (subst IsSuccess (sym (stays e v (number q.code) refl q.is)) q)) h
+plain_without notes os e (ty.Status g) v h = ⊎_elim (λ p. inl (subst IsError (sym (stays e v (Error p.code) refl p.is)) p))
+    (λ q. inr (subst IsSuccess (sym (stays e v (number q.code) refl q.is)) q)) h
+plain_without notes os e (ty.SignedStatus g) v h = ⊎_elim (λ p. inl
+    (subst IsSignedError (sym (stays e v (SignedError p.code) refl p.is)) p))
+    (λ q. inr (subst IsSuccess (sym (stays e v (number q.code) refl q.is)) q)) h
 plain_without notes os e ty.Mask v h = stays e v mask refl h ∙ h
-plain_without notes os e ty.Handle v h = ⊎_elim (λ p. inl (subst IsHandle (sym (stays e v (Handle p.k) refl p.is)) p)) (λ q. inr (stays e v null refl q ∙ q)) h
-plain_without notes os e ty.Entry v h = ⊎_elim (λ p. inl (subst IsEntry (sym (stays e v (Entry p.func) refl p.is)) p)) (λ q. inr (stays e v null refl q ∙ q)) h
+plain_without notes os e ty.Handle v h = ⊎_elim (λ p. inl (subst IsHandle (sym (stays e v (Handle p.k) refl p.is)) p))
+    (λ q. inr (stays e v null refl q ∙ q)) h
+plain_without notes os e ty.Entry v h = ⊎_elim (λ p. inl (subst IsEntry (sym (stays e v (Entry p.func) refl p.is)) p))
+    (λ q. inr (stays e v null refl q ∙ q)) h
 plain_without notes os e (ty.Method k) v h = stays e v (Method k) refl h ∙ h
 plain_without notes os e (ty.ThunkAt i) v h = stays e v (At (ThunkOf i) 0 0) refl h ∙ h
 plain_without notes os e (ty.Saved i) v h = absurd h
@@ -144,23 +138,28 @@ module _ (notes : Notes) (d e : ℕ) (U V : Memory) (same : V.objects ≡ U.obje
   below_e b h q = absurd (omega (arith, h, q, under))
 
   -- what fits a type that is passed fits it without the locals of that frame or of one above
-  pub passed_without : (saved other : Registers) (t : Ty) (v : Neutral) → IsPassed t → Fits notes U d saved t v → Fits notes V d other t (without_local e v)
+  pub passed_without : (saved other : Registers) (t : Ty) (v : Neutral) → IsPassed t → Fits notes U d saved t v
+      → Fits notes V d other t (without_local e v)
   passed_without saved other ty.Any v p x = tt
   passed_without saved other (ty.Int lo hi div) v p x = plain_without notes V.objects e (ty.Int lo hi div) v x
   passed_without saved other (ty.Lin n c) v p x = plain_without notes V.objects e (ty.Lin n c) v x
   passed_without saved other (ty.Scaled n c hi) v p x = plain_without notes V.objects e (ty.Scaled n c hi) v x
-  passed_without saved other (ty.Ptr s k n c may) v p x = plain_without notes V.objects e (ty.Ptr s k n c may) v (subst (λ o. FitsPlain notes o (ty.Ptr s k n c may) v) (sym same) x)
+  passed_without saved other (ty.Ptr s k n c may) v p x = plain_without notes V.objects e (ty.Ptr s k n c may) v
+      (subst (λ o. FitsPlain notes o (ty.Ptr s k n c may) v) (sym same) x)
   passed_without saved other (ty.Local f) v p x = absurd p
   passed_without saved other (ty.Lent cell) v p x =
       let b = x.cell_below in
       passed_up notes d U V l d saved other (ty.Lent cell) (without_local e v) (omega arith) tt
-      (subst (Fits notes U d saved (ty.Lent cell)) (sym (stays e v (At (LocalOf b.e b.f) 0 0) (local_stays e b.e b.f 0 0 (below_e b.e b.lower)) b.is)) x)
+      (subst (Fits notes U d saved (ty.Lent cell)) (sym (stays e v (At (LocalOf b.e b.f) 0 0)
+      (local_stays e b.e b.f 0 0 (below_e b.e b.lower)) b.is)) x)
   passed_without saved other (ty.Status g) v p x =
       passed_up notes d U V l d saved other (ty.Status g) (without_local e v) (omega arith) p
-      (⊎_elim (λ q. inl (subst IsError (sym (stays e v (Error q.code) refl q.is)) q)) (λ q. inr (subst IsSuccess (sym (stays e v (number q.0.code) refl q.0.is)) q.0, q.1)) x)
+      (⊎_elim (λ q. inl (subst IsError (sym (stays e v (Error q.code) refl q.is)) q))
+      (λ q. inr (subst IsSuccess (sym (stays e v (number q.0.code) refl q.0.is)) q.0, q.1)) x)
   passed_without saved other (ty.SignedStatus g) v p x =
       passed_up notes d U V l d saved other (ty.SignedStatus g) (without_local e v) (omega arith) p
-      (⊎_elim (λ q. inl (subst IsSignedError (sym (stays e v (SignedError q.code) refl q.is)) q)) (λ q. inr (subst IsSuccess (sym (stays e v (number q.0.code) refl q.0.is)) q.0, q.1)) x)
+      (⊎_elim (λ q. inl (subst IsSignedError (sym (stays e v (SignedError q.code) refl q.is)) q))
+      (λ q. inr (subst IsSuccess (sym (stays e v (number q.0.code) refl q.0.is)) q.0, q.1)) x)
   passed_without saved other ty.Mask v p x = plain_without notes V.objects e ty.Mask v x
   passed_without saved other ty.Handle v p x = plain_without notes V.objects e ty.Handle v x
   passed_without saved other ty.Entry v p x = plain_without notes V.objects e ty.Entry v x
@@ -168,34 +167,52 @@ module _ (notes : Notes) (d e : ℕ) (U V : Memory) (same : V.objects ≡ U.obje
   passed_without saved other (ty.ThunkAt i) v p x = plain_without notes V.objects e (ty.ThunkAt i) v x
   passed_without saved other (ty.Saved i) v p x = absurd p
 
-  params_without : (f g : FunctionFrame) (is : List StackItem) (ps : List Param) → ((k : ℕ) (q : Param) → slice_get ps k ≡ Some q → IsPassed q.ty) → AllZip (ParamFits notes U d f) is ps → AllZip (ParamFits notes V d g) (map (item_without e) is) ps
+  params_without : (f g : FunctionFrame) (is : List StackItem) (ps : List Param)
+      → ((k : ℕ) (q : Param) → slice_get ps k ≡ Some q → IsPassed q.ty) → AllZip (ParamFits notes U d f) is ps
+      → AllZip (ParamFits notes V d g) (map (item_without e) is) ps
   params_without f g [] [] h z = tt
   params_without f g [] (p ∷ ps) h z = absurd z
   params_without f g (i ∷ is) [] h z = absurd z
-  params_without f g (Pushed kind v ∷ is) (p ∷ ps) h z = ((z.0.0, passed_without f.saved g.saved p.ty v (h 0 p refl) z.0.1), params_without f g is ps (λ k q r. h (suc k) q r) z.1)
+  params_without f g (Pushed kind v ∷ is) (p ∷ ps) h z = (
+    (z.0.0, passed_without f.saved g.saved p.ty v (h 0 p refl) z.0.1),
+    params_without f g is ps (λ k q r. h (suc k) q r) z.1,
+  )
   params_without f g (LocalsOf s ∷ is) (p ∷ ps) h z = absurd z.0
 
-  pub taken_without : (f g : FunctionFrame) (n : FnNote) (is : List StackItem) → ((k : ℕ) (q : Param) → slice_get n.params k ≡ Some q → IsPassed q.ty) → ParamsFit notes U d f n is → ParamsFit notes V d g n (map (item_without e) is)
-  taken_without f g n is h z = subst (λ xs. AllZip (ParamFits notes V d g) xs n.params) (sym (take_map (item_without e) (length n.params) is)) (params_without f g (take (length n.params) is) n.params h z)
+  pub taken_without : (f g : FunctionFrame) (n : FnNote) (is : List StackItem)
+      → ((k : ℕ) (q : Param) → slice_get n.params k ≡ Some q → IsPassed q.ty) → ParamsFit notes U d f n is
+      → ParamsFit notes V d g n (map (item_without e) is)
+  taken_without f g n is h z = subst (λ xs. AllZip (ParamFits notes V d g) xs n.params)
+      (sym (take_map (item_without e) (length n.params) is)) (params_without f g (take (length n.params) is) n.params h z)
 
 -- What fits a type in the frame whose locals go fits what is known then.
 module _ (notes : Notes) (d : ℕ) (U V : Memory) (same : V.objects ≡ U.objects) (l : LaterBelow d U V) where
-  pub forgotten_fits : (saved : Registers) (t : Ty) (v : Neutral) → Fits notes U d saved t v → Fits notes V d (registers_without d saved) (forgotten t) (without_local d v)
+  pub forgotten_fits : (saved : Registers) (t : Ty) (v : Neutral) → Fits notes U d saved t v
+      → Fits notes V d (registers_without d saved) (forgotten t) (without_local d v)
   forgotten_fits saved (ty.Local f) v x = tt
-  forgotten_fits saved (ty.Status g) v x = ⊎_elim (λ q. inl (subst IsError (sym (stays d v (Error q.code) refl q.is)) q)) (λ q. inr (subst IsSuccess (sym (stays d v (number q.0.code) refl q.0.is)) q.0, none_granted V d)) x
-  forgotten_fits saved (ty.SignedStatus g) v x = ⊎_elim (λ q. inl (subst IsSignedError (sym (stays d v (SignedError q.code) refl q.is)) q)) (λ q. inr (subst IsSuccess (sym (stays d v (number q.0.code) refl q.0.is)) q.0, none_granted V d)) x
+  forgotten_fits saved (ty.Status g) v x = ⊎_elim (λ q. inl (subst IsError (sym (stays d v (Error q.code) refl q.is)) q))
+      (λ q. inr (subst IsSuccess (sym (stays d v (number q.0.code) refl q.0.is)) q.0, none_granted V d)) x
+  forgotten_fits saved (ty.SignedStatus g) v x = ⊎_elim (λ q. inl (subst IsSignedError (sym (stays d v (SignedError q.code) refl q.is)) q))
+      (λ q. inr (subst IsSuccess (sym (stays d v (number q.0.code) refl q.0.is)) q.0, none_granted V d)) x
   forgotten_fits saved (ty.Saved i) v x = ap (without_local d) x
   forgotten_fits saved ty.Any v x = tt
-  forgotten_fits saved (ty.Int lo hi div) v x = passed_without notes d d U V same l (omega arith) saved (registers_without d saved) (ty.Int lo hi div) v tt x
-  forgotten_fits saved (ty.Lin n c) v x = passed_without notes d d U V same l (omega arith) saved (registers_without d saved) (ty.Lin n c) v tt x
-  forgotten_fits saved (ty.Scaled n c hi) v x = passed_without notes d d U V same l (omega arith) saved (registers_without d saved) (ty.Scaled n c hi) v tt x
-  forgotten_fits saved (ty.Ptr s k n c may) v x = passed_without notes d d U V same l (omega arith) saved (registers_without d saved) (ty.Ptr s k n c may) v tt x
-  forgotten_fits saved (ty.Lent cell) v x = passed_without notes d d U V same l (omega arith) saved (registers_without d saved) (ty.Lent cell) v tt x
+  forgotten_fits saved (ty.Int lo hi div) v x = passed_without notes d d U V same l (omega arith) saved (registers_without d saved)
+      (ty.Int lo hi div) v tt x
+  forgotten_fits saved (ty.Lin n c) v x = passed_without notes d d U V same l (omega arith) saved (registers_without d saved)
+      (ty.Lin n c) v tt x
+  forgotten_fits saved (ty.Scaled n c hi) v x = passed_without notes d d U V same l (omega arith) saved (registers_without d saved)
+      (ty.Scaled n c hi) v tt x
+  forgotten_fits saved (ty.Ptr s k n c may) v x = passed_without notes d d U V same l (omega arith) saved (registers_without d saved)
+      (ty.Ptr s k n c may) v tt x
+  forgotten_fits saved (ty.Lent cell) v x = passed_without notes d d U V same l (omega arith) saved (registers_without d saved)
+      (ty.Lent cell) v tt x
   forgotten_fits saved ty.Mask v x = passed_without notes d d U V same l (omega arith) saved (registers_without d saved) ty.Mask v tt x
   forgotten_fits saved ty.Handle v x = passed_without notes d d U V same l (omega arith) saved (registers_without d saved) ty.Handle v tt x
   forgotten_fits saved ty.Entry v x = passed_without notes d d U V same l (omega arith) saved (registers_without d saved) ty.Entry v tt x
-  forgotten_fits saved (ty.Method k) v x = passed_without notes d d U V same l (omega arith) saved (registers_without d saved) (ty.Method k) v tt x
-  forgotten_fits saved (ty.ThunkAt i) v x = passed_without notes d d U V same l (omega arith) saved (registers_without d saved) (ty.ThunkAt i) v tt x
+  forgotten_fits saved (ty.Method k) v x = passed_without notes d d U V same l (omega arith) saved (registers_without d saved)
+      (ty.Method k) v tt x
+  forgotten_fits saved (ty.ThunkAt i) v x = passed_without notes d d U V same l (omega arith) saved (registers_without d saved)
+      (ty.ThunkAt i) v tt x
 
 -- ---- frames
 
@@ -207,43 +224,58 @@ kinds_without e (Pushed kind v ∷ is) (p ∷ ps) h = (h.0, kinds_without e is p
 kinds_without e (LocalsOf s ∷ is) (p ∷ ps) h = absurd h.0
 
 module _ (world : World) (passed : ParamsPassed world.notes) (e : ℕ) (U V : Memory) (same : V.objects ≡ U.objects) where
-  within_without : (is : List StackItem) (n : FnNote) (r : ℕ → ℕ) → KeepsWithin (λ w. height w is + r w) n → KeepsWithin (λ w. height w (map (item_without e) is) + r w) n
+  within_without : (is : List StackItem) (n : FnNote) (r : ℕ → ℕ) → KeepsWithin (λ w. height w is + r w) n
+      → KeepsWithin (λ w. height w (map (item_without e) is) + r w) n
   within_without is n r k =
       let a = height_without e 4 is in
       let b = height_without e 8 is in
       record { at4 = (let x = k.at4 in omega (arith, x, a)); at8 = (let x = k.at8 in omega (arith, x, b)) }
 
-  pub keeps_without : (made : ℕ) (f : FunctionFrame) (n : FnNote) (saved : Registers) → FrameKeeps world.notes U.objects made f n → FrameKeeps world.notes V.objects made (record f { saved = saved; items = map (item_without e) f.items }) n
+  pub keeps_without : (made : ℕ) (f : FunctionFrame) (n : FnNote) (saved : Registers) → FrameKeeps world.notes U.objects made f n
+      → FrameKeeps world.notes V.objects made (record f { saved = saved; items = map (item_without e) f.items }) n
   keeps_without made f n saved k =
       let a = height_without e 4 f.items in
       let b = height_without e 8 f.items in
       record {
         there = k.there;
         within = record { at4 = (let x = k.within.at4 in omega (arith, x, a)); at8 = (let x = k.within.at8 in omega (arith, x, b)) };
-        slots = subst (λ o. SlotsKept world.notes o (map (item_without e) f.items)) (sym same) (slots_without world.notes U.objects e f.items k.slots);
+        slots = subst (λ o. SlotsKept world.notes o (map (item_without e) f.items)) (sym same)
+            (slots_without world.notes U.objects e f.items k.slots);
         thunks = k.thunks;
       }
 
-  pub below_without : (f g : FunctionFrame) (n : FnNote) (fs : List Frame) → slice_get world.notes.function f.func ≡ Some n → g.func ≡ f.func → g.ret ≡ f.ret → depth fs ≤ e → LaterBelow (depth fs) U V → FrameBelow world U f n fs → FrameBelow world V g n (map (frame_without e) fs)
+  pub below_without : (f g : FunctionFrame) (n : FnNote) (fs : List Frame) → slice_get world.notes.function f.func ≡ Some n
+      → g.func ≡ f.func → g.ret ≡ f.ret → depth fs ≤ e → LaterBelow (depth fs) U V → FrameBelow world U f n fs
+      → FrameBelow world V g n (map (frame_without e) fs)
   below_without f g n [] h ef er u l k = absurd k
   below_without f g n (Host t ∷ fs) h ef er u l k = (
     ef ∙ k.0,
-    subst (λ d. ParamsFit world.notes V d g n (map (item_without e) t.params)) (sym (depth_without e fs))
+    subst (λ d. ParamsFit world.notes V d g n (map (item_without e) t.params)) (sym (depth_map e fs))
         (taken_without world.notes (depth fs) e U V same l u f g n t.params (λ j q r. passed f.func j n q h r) k.1),
   )
   below_without f g n (Function t ∷ fs) h ef er u l k = (
     (k.0.0, k.0.1, within_without t.items k.0.0 (λ w. return_cell + pair_at w n.need) k.0.2),
-    subst (λ d. ParamsFit world.notes V (suc d) g n (map (item_without e) t.items)) (sym (depth_without e fs))
+    subst (λ d. ParamsFit world.notes V (suc d) g n (map (item_without e) t.items)) (sym (depth_map e fs))
         (taken_without world.notes (depth (Function t ∷ fs)) e U V same l u f g n t.items (λ j q r. passed f.func j n q h r) k.1),
     subst (λ p. (p % 2 ≡ 0) × (p < world.image_size)) (sym er) k.2,
   )
 
-  pub frames_without : (made : ℕ) (fs : List Frame) → depth fs ≤ e → LaterBelow (depth fs) U V → FramesKeep world U made fs → FramesKeep world V made (map (frame_without e) fs)
+  pub frames_without : (made : ℕ) (fs : List Frame) → depth fs ≤ e → LaterBelow (depth fs) U V → FramesKeep world U made fs
+      → FramesKeep world V made (map (frame_without e) fs)
   frames_without made [] u l k = tt
-  frames_without made (Host t ∷ fs) u l k =
-      (record { entered = k.0.entered; note = k.0.note; there = k.0.there; kinds = kinds_without e t.params k.0.note.params k.0.kinds }, frames_without made fs u l k.1)
+  frames_without made (Host t ∷ fs) u l k = (
+    record { entered = k.0.entered; note = k.0.note; there = k.0.there; kinds = kinds_without e t.params k.0.note.params k.0.kinds },
+    frames_without made fs u l k.1,
+  )
   frames_without made (Function t ∷ fs) u l k =
       let down = below_down (suc (depth fs)) (depth fs) U V (omega arith) l in (
-        (k.0.0, keeps_without made t k.0.0 (registers_without e t.saved) k.0.1, below_without t (record t { saved = registers_without e t.saved; items = map (item_without e) t.items }) k.0.0 fs k.0.1.there refl refl (omega (arith, u)) down k.0.2),
+        (
+          k.0.0,
+          keeps_without made t k.0.0 (registers_without e t.saved) k.0.1,
+          below_without t (record t {
+            saved = registers_without e t.saved;
+            items = map (item_without e) t.items;
+          }) k.0.0 fs k.0.1.there refl refl (omega (arith, u)) down k.0.2,
+        ),
         frames_without made fs (omega (arith, u)) down k.1,
       )

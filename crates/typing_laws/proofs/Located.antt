@@ -1,5 +1,6 @@
 -- A field of an instance is what its exact pair names.
-use Rattle.std.proofs.Common.{◌≡◌, ℕ, zero, suc, ◌+◌, ◌*◌, ◌/◌, ◌^◌, ◌<◌, ◌≤◌, Bool, true, false, if◌then◌else◌, nat_lt, nat_eq, List, [], ◌∷◌, Option, Some, None, slice_get, refl, sym, ap, ap₂, ◌∙◌, arith, ⊎_elim, option_map, option_and_then}
+use Rattle.std.proofs.Common.{◌≡◌, ℕ, zero, suc, ◌+◌, ◌*◌, ◌/◌, ◌^◌, ◌<◌, ◌≤◌, Bool, true, false, if◌then◌else◌, nat_lt, nat_eq, List, []}
+use Rattle.std.proofs.Common.{◌∷◌, Option, Some, None, slice_get, refl, sym, ap, ap₂, ◌∙◌, arith, ⊎_elim, option_map, option_and_then}
 use Rattle.std.proofs.Math.Nat.{mul-le-mul_right}
 use Rattle.std.proofs.lemmas.Bool.{lt-ltb, eq-eqb, and_from, and_parts, eqb-true, cases_Bool}
 use Rattle.std.proofs.lemmas.Nat.{div-mul-add}
@@ -11,15 +12,16 @@ use Rattle.note_types.specs.declared.cell.Cell.TheVariants as cell
 use Rattle.note_types.specs.declared.notes.Notes.{Notes}
 use Rattle.note_types.specs.declared.shape.Field.{Field}
 use Rattle.note_types.specs.declared.shape.Shape.{Shape}
-use Rattle.run_types.specs.Values.{ObjectOf, At, CellPlace, FieldOf, word}
-use Rattle.run_types.specs.Objects.{shape_of}
-use Rattle.run_types.specs.declared.object.TypedObject.{TypedObject}
-use Rattle.run_types.specs.Operations.{instance_at}
-use Rattle.run_types.specs.Locations.{CellAt, is_field, find_field, cell_in, located_past}
+use Rattle.host_model.specs.Values.{ObjectOf, At, CellPlace, FieldOf, word}
+use Rattle.host_model.specs.Objects.{shape_of}
+use Rattle.host_model.specs.declared.object.TypedObject.{TypedObject}
+use Rattle.neutral_machine.specs.Operations.{instance_at}
+use Rattle.neutral_machine.specs.Locations.{CellAt, is_field, find_field, cell_in, located_past}
 use Rattle.typing_laws.proofs.Objects.{ObjectsFit}
 
 -- the first field that meets a test
-pub find_first : (t : Field → Bool) (f : ℕ) (xs : List Field) (i : ℕ) (z : Field) → slice_get xs i ≡ Some z → t z ≡ true → ((k : ℕ) (y : Field) → k < i → slice_get xs k ≡ Some y → t y ≡ false) → find_field t f xs ≡ Some (f + i)
+pub find_first : (t : Field → Bool) (f : ℕ) (xs : List Field) (i : ℕ) (z : Field) → slice_get xs i ≡ Some z → t z ≡ true
+    → ((k : ℕ) (y : Field) → k < i → slice_get xs k ≡ Some y → t y ≡ false) → find_field t f xs ≡ Some (f + i)
 find_first t f [] i z e h u = absurd (none-some z e)
 find_first t f (x ∷ xs) zero z e h u =
     let same : x ≡ z = same_Some x z e in
@@ -60,12 +62,17 @@ module _ (notes : Notes) (objects : List TypedObject) (ok : ObjectsFit notes obj
   IsFirstAt s i z = (k : ℕ) (y : Field) → k < i → slice_get s.fields k ≡ Some y → y.n ≡ z.n → y.c ≡ z.c → ⊥
 
   -- A field of an instance is what its exact pair names.
-  pub field_located : (k j i : ℕ) (o : TypedObject) (z : Field) → slice_get objects k ≡ Some o → j < o.count → slice_get (shape_of notes o.shape).fields i ≡ Some z → IsFirstAt (shape_of notes o.shape) i z → located_past notes objects (At (ObjectOf k) (word (j * (shape_of notes o.shape).n + z.n)) (word (j * (shape_of notes o.shape).c + z.c))) ≡ Some (CellAt (FieldOf k j i))
+  pub field_located : (k j i : ℕ) (o : TypedObject) (z : Field) → slice_get objects k ≡ Some o → j < o.count
+      → slice_get (shape_of notes o.shape).fields i ≡ Some z → IsFirstAt (shape_of notes o.shape) i z
+      → located_past notes objects (At (ObjectOf k) (word (j * (shape_of notes o.shape).n + z.n))
+      (word (j * (shape_of notes o.shape).c + z.c))) ≡ Some (CellAt (FieldOf k j i))
   unfolding located_past
   field_located k j i o z e l g first =
       ap (λ x. option_map CellAt (option_and_then (cell_in notes k (word (j * S.n + z.n)) (word (j * S.c + z.c))) x)) e
-      ∙ ap (option_map CellAt) (ap found quotient ∙ ap (λ b. if b then option_map (FieldOf k j) (find_field test 0 S.fields) else None) (lt-ltb j o.count l)
-      ∙ ap (option_map (FieldOf k j)) (find_first test 0 S.fields i z g (passes z refl refl) others ∙ ap Some (let e0 : 0 + i ≡ i = omega arith in e0)))
+      ∙ ap (option_map CellAt) (ap found quotient ∙ ap (λ b. if b then option_map (FieldOf k j) (find_field test 0 S.fields) else None)
+      (lt-ltb j o.count l)
+      ∙ ap (option_map (FieldOf k j)) (find_first test 0 S.fields i z g (passes z refl refl) others
+      ∙ ap Some (let e0 : 0 + i ≡ i = omega arith in e0)))
     where
       S : Shape
       S = shape_of notes o.shape
@@ -83,16 +90,17 @@ module _ (notes : Notes) (objects : List TypedObject) (ok : ObjectsFit notes obj
       pair_small h y q = small_pair j o.count S.n S.c y.n y.c l small (inside8 h y q)
 
       found : ℕ → Option (CellPlace)
-      found x = if nat_lt x o.count then option_map (FieldOf k x) (find_field (is_field S x (word (j * S.n + z.n)) (word (j * S.c + z.c))) 0 S.fields) else None
+      found x = if nat_lt x o.count then option_map (FieldOf k x)
+          (find_field (is_field S x (word (j * S.n + z.n)) (word (j * S.c + z.c))) 0 S.fields) else None
 
       quotient : instance_at S (word (j * S.n + z.n)) (word (j * S.c + z.c)) ≡ j
-      quotient =
-          let p = pair_small i z g in
+      quotient = let p = pair_small i z g in
           let r = well.at4.inside i z g in
           let c = cell_positive z.cell in
           let e1 : word (j * S.n + z.n) ≡ j * S.n + z.n = omega (arith, p.units) in
           let e2 : word (j * S.c + z.c) ≡ j * S.c + z.c = omega (arith, p.bytes) in
-          ap₂ (λ x y. word (x * 4 + y) / size_at 4 S) e1 e2 ∙ ap (λ x. x / size_at 4 S) p.whole ∙ div-mul-add j (size_at 4 S) (z.n * 4 + z.c) (omega (arith, r, c))
+          ap₂ (λ x y. word (x * 4 + y) / size_at 4 S) e1 e2 ∙ ap (λ x. x / size_at 4 S) p.whole
+          ∙ div-mul-add j (size_at 4 S) (z.n * 4 + z.c) (omega (arith, r, c))
 
       test : Field → Bool
       test y = is_field S j (word (j * S.n + z.n)) (word (j * S.c + z.c)) y
@@ -105,7 +113,8 @@ module _ (notes : Notes) (objects : List TypedObject) (ok : ObjectsFit notes obj
         where
           clash : test y ≡ true → ⊥
           clash t =
-              let a = and_parts (nat_eq (word (j * S.n + z.n)) (word (j * S.n + y.n))) (nat_eq (word (j * S.c + z.c)) (word (j * S.c + y.c))) t in
+              let a = and_parts (nat_eq (word (j * S.n + z.n)) (word (j * S.n + y.n)))
+              (nat_eq (word (j * S.c + z.c)) (word (j * S.c + y.c))) t in
               let n1 = eqb-true _ _ a.0 in
               let c1 = eqb-true _ _ a.1 in
               let p = pair_small i z g in

@@ -1,5 +1,6 @@
 -- The values that the moves give: what a move keeps it keeps again, and a register moved by an index.
-use Rattle.std.proofs.Common.{◌≡◌, ◌≢◌, ℕ, ◌+◌, ◌*◌, ◌%◌, ◌^◌, ◌<◌, ◌≤◌, Bool, true, false, if◌then◌else◌, nat_lt, List, Option, Some, None, refl, sym, ap, ◌∙◌, subst, arith, ⊎_elim, option_map, ℤ, pos, negsuc, int_le, mod-eq_of_lt}
+use Rattle.std.proofs.Common.{◌≡◌, ◌≢◌, ℕ, ◌+◌, ◌*◌, ◌%◌, ◌^◌, ◌<◌, ◌≤◌, Bool, true, false, if◌then◌else◌, nat_lt, List, Option, Some, None}
+use Rattle.std.proofs.Common.{refl, sym, ap, ◌∙◌, subst, arith, ⊎_elim, option_map, ℤ, pos, negsuc, int_le, mod-eq_of_lt}
 use Rattle.std.specs.Ordering.{int_eq}
 use Rattle.std.proofs.lemmas.Bool.{cases_Bool}
 use Rattle.std.proofs.lemmas.Bool.Decides.{Decides-int_eq}
@@ -15,17 +16,17 @@ use Rattle.note_types.specs.declared.types.Ty.TheVariants as ty
 use Rattle.rules_base.specs.declared.operand.Distance.{Distance}
 use Rattle.rules_base.specs.Kept as rules
 use Rattle.rules_base.specs.Operands.{counted, distance_type, with_index}
-use Rattle.rules_base.specs.Parts.{constant, wrap}
+use Rattle.rules_base.specs.Parts.{constant}
 use Rattle.rules_base.specs.Sums.{lin}
 use Rattle.rules_laws.proofs.MovesKeep.{distance_type-known, with_index-known}
-use Rattle.run_types.specs.Values.{Neutral, Num, At, Handle, Method, Entry, Error, SignedError, Junk, number, pair, plain, word}
-use Rattle.run_types.specs.Config.{FunctionFrame, Frame, Config, depth}
-use Rattle.run_types.specs.declared.object.TypedObject.{TypedObject}
-use Rattle.run_types.specs.World.{World}
+use Rattle.host_model.specs.Values.{Neutral, Num, At, Handle, Method, Entry, Error, SignedError, Junk, number, pair, plain, word}
+use Rattle.neutral_machine.specs.Config.{FunctionFrame, Frame, Config, depth}
+use Rattle.host_model.specs.declared.object.TypedObject.{TypedObject}
+use Rattle.host_model.specs.World.{World}
 use Rattle.typed_runs.specs.Live.{live_memory}
-use Rattle.run_types.specs.Operations.{is_kept_at, kept_natural, narrowed, on_number}
+use Rattle.neutral_machine.specs.Operations.{is_kept_at, kept_natural, narrowed, on_number}
 use Rattle.neutral_machine.specs.Operands.{index_pair, moved_by}
-use Rattle.run_types.specs.Locations.{Move, Offset, kept}
+use Rattle.neutral_machine.specs.Locations.{Move, Offset, kept}
 use Rattle.std.proofs.lemmas.Nat.{mod_below}
 use Rattle.note_types.specs.declared.notes.Notes.{Notes}
 use Rattle.typing_laws.proofs.Rows.{same_fits, lin_is}
@@ -44,13 +45,16 @@ narrowed_twice bits v h p = go (plain v)
     go (Some x) = ap number (again x (2 ^ bits) h p)
       where
         again : (x n : ℕ) → n ≤ 2 ^ 64 → 0 < n → word (x % n) % n ≡ x % n
-        again x n h p = let l = mod_below x n p in ap (λ z. z % n) (let e : word (x % n) ≡ x % n = omega (arith, l, h) in e) ∙ mod-eq_of_lt l
+        again x n h p = let l = mod_below x n p in ap (λ z. z % n) (let e : word (x % n) ≡ x % n = omega (arith, l, h) in e)
+            ∙ mod-eq_of_lt l
 
-pub natural_twice : (notes : Notes) (os : List TypedObject) (v : Neutral) → kept_natural notes os (kept_natural notes os v) ≡ kept_natural notes os v
+pub natural_twice : (notes : Notes) (os : List TypedObject) (v : Neutral)
+    → kept_natural notes os (kept_natural notes os v) ≡ kept_natural notes os v
 unfolding kept_natural
 natural_twice notes os (Num n c) = go (nat_lt (word (n * 4 + c)) (2 ^ 32)) refl
   where
-    go : (b : Bool) → nat_lt (word (n * 4 + c)) (2 ^ 32) ≡ b → kept_natural notes os (if b then Num n c else Junk) ≡ (if b then Num n c else Junk)
+    go : (b : Bool) → nat_lt (word (n * 4 + c)) (2 ^ 32) ≡ b → kept_natural notes os (if b then Num n c else Junk) ≡
+        (if b then Num n c else Junk)
     go true e = ap (λ b. if b then Num n c else Junk) e
     go false e = refl
 natural_twice notes os (At a n c) = go (is_kept_at notes os a n c) refl
@@ -66,27 +70,32 @@ natural_twice notes os (Error k) = refl
 natural_twice notes os Junk = refl
 
 -- What a move keeps it keeps again.
-pub kept_twice : (notes : Notes) (os : List TypedObject) (size : Size) (v : Neutral) → kept notes os (Move size) (kept notes os (Move size) v) ≡ kept notes os (Move size) v
+pub kept_twice : (notes : Notes) (os : List TypedObject) (size : Size) (v : Neutral)
+    → kept notes os (Move size) (kept notes os (Move size) v) ≡ kept notes os (Move size) v
 kept_twice notes os sizes.Byte v = narrowed_twice 8 v (omega arith) (omega arith)
 kept_twice notes os sizes.Word v = narrowed_twice 16 v (omega arith) (omega arith)
 kept_twice notes os sizes.Dword v = narrowed_twice 32 v (omega arith) (omega arith)
 kept_twice notes os sizes.Qword v = refl
 kept_twice notes os sizes.Natural v = natural_twice notes os v
 
-module _ (world : World) (a : Config) (f : FunctionFrame) (fs : List Frame) (note : FnNote) (s : State) (st : TopSound world a f fs note s) where
+module _ (world : World) (a : Config) (f : FunctionFrame) (fs : List Frame) (note : FnNote) (s : State)
+    (st : TopSound world a f fs note s) where
   -- what an index adds
   pub distance_fits : (i : Index) → FitsHere world a f fs note s st (distance_type (counted i)) (Num (index_pair i).n (index_pair i).c)
   distance_fits i = go (counted i)
     where
-      wraps : (v : ℤ) → wrap64 v ≡ wrap v
+      wraps : (v : ℤ) → wrap64 v ≡ wrap64 v
       wraps (pos n) = refl
       wraps (negsuc n) = refl
 
       go : (d : Distance) → FitsHere world a f fs note s st (distance_type d) (pair d.n d.c)
       go d = ⊎_elim
-          (λ e. subst (λ b. FitsHere world a f fs note s st (if b then constant (wrap d.c) else (if int_le (pos 1) d.n then lin d.n d.c else ty.Any)) (pair d.n d.c)) (sym e)
-          (same_fits world.notes (live_memory world a) (depth fs) f.saved (wrap64 d.c) (wrap d.c) (pair d.n d.c) (ap (λ n. Num (wrap64 n) (wrap64 d.c)) ((Decides-int_eq d.n (pos 0)).0 e)) (wraps d.c)))
-          (λ e. subst (λ b. FitsHere world a f fs note s st (if b then constant (wrap d.c) else (if int_le (pos 1) d.n then lin d.n d.c else ty.Any)) (pair d.n d.c)) (sym e) (units (int_le (pos 1) d.n)))
+          (λ e. subst (λ b. FitsHere world a f fs note s st (if b then constant (wrap64 d.c)
+          else (if int_le (pos 1) d.n then lin d.n d.c else ty.Any)) (pair d.n d.c)) (sym e)
+          (same_fits world.notes (live_memory world a) (depth fs) f.saved (wrap64 d.c) (wrap64 d.c) (pair d.n d.c)
+          (ap (λ n. Num (wrap64 n) (wrap64 d.c)) ((Decides-int_eq d.n (pos 0)).0 e)) (wraps d.c)))
+          (λ e. subst (λ b. FitsHere world a f fs note s st (if b then constant (wrap64 d.c)
+          else (if int_le (pos 1) d.n then lin d.n d.c else ty.Any)) (pair d.n d.c)) (sym e) (units (int_le (pos 1) d.n)))
           (cases_Bool (int_eq d.n (pos 0)))
         where
           units : (b : Bool) → FitsHere world a f fs note s st (if b then lin d.n d.c else ty.Any) (pair d.n d.c)
@@ -94,15 +103,23 @@ module _ (world : World) (a : Config) (f : FunctionFrame) (fs : List Frame) (not
           units false = tt
 
   -- A register's value moved by the index beside it, as a move keeps it.
-  pub moved_fits : (size : Size) (r : ℕ) (i : Option Index) → r ≢ 0 → r < 8 → FitsHere world a f fs note s st (rules.kept size (with_index world.notes.shape (type_of s r) i)) (kept world.notes (live_memory world a).objects (Move size) (moved_by (a.registers r) (option_map index_pair i)))
+  pub moved_fits : (size : Size) (r : ℕ) (i : Option Index) → r ≢ 0 → r < 8
+      → FitsHere world a f fs note s st (rules.kept size (with_index world.notes.shape (type_of s r) i))
+      (kept world.notes (live_memory world a).objects (Move size) (moved_by (a.registers r) (option_map index_pair i)))
   moved_fits size r i n l =
-      kept_fits world.notes (live_memory world a) (objects world a f fs note s st) (depth fs) f.saved size (with_index world.notes.shape (type_of s r) i) _
+      kept_fits world.notes (live_memory world a) (objects world a f fs note s st) (depth fs) f.saved size
+      (with_index world.notes.shape (type_of s r) i) _
       (with_index-known world.notes note world.notes.shape (type_of s r) i (st.state.registers r)).bounded (beside i)
     where
-      beside : (i : Option Index) → FitsHere world a f fs note s st (with_index world.notes.shape (type_of s r) i) (moved_by (a.registers r) (option_map index_pair i))
+      beside : (i : Option Index) → FitsHere world a f fs note s st (with_index world.notes.shape (type_of s r) i)
+          (moved_by (a.registers r) (option_map index_pair i))
       beside None = register_fits world a f fs note s st r n l
-      beside (Some i) = sum_fits world.notes (live_memory world a) (depth fs) f.saved (type_of s r) (distance_type (counted i)) (a.registers r) (Num (index_pair i).n (index_pair i).c) (st.state.registers r).bounded (distance_type-known world.notes note (counted i)).bounded (register_fits world a f fs note s st r n l) (distance_fits i)
+      beside (Some i) = sum_fits world.notes (live_memory world a) (depth fs) f.saved (type_of s r) (distance_type (counted i))
+          (a.registers r) (Num (index_pair i).n (index_pair i).c) (st.state.registers r).bounded
+          (distance_type-known world.notes note (counted i)).bounded (register_fits world a f fs note s st r n l) (distance_fits i)
 
   -- What a move loads it keeps.
-  pub loaded_kept : (size : Size) (r : ℕ) (b : Option Offset) (t : Ty) (q : OperandFits world a f fs note s st (Move size) r b t) → kept world.notes (live_memory world a).objects (Move size) q.value ≡ q.value
-  loaded_kept size r b t q = ap (kept world.notes (live_memory world a).objects (Move size)) q.is ∙ kept_twice world.notes (live_memory world a).objects size q.whole ∙ sym q.is
+  pub loaded_kept : (size : Size) (r : ℕ) (b : Option Offset) (t : Ty) (q : OperandFits world a f fs note s st (Move size) r b t)
+      → kept world.notes (live_memory world a).objects (Move size) q.value ≡ q.value
+  loaded_kept size r b t q = ap (kept world.notes (live_memory world a).objects (Move size)) q.is
+      ∙ kept_twice world.notes (live_memory world a).objects size q.whole ∙ sym q.is

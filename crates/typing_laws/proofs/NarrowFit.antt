@@ -1,5 +1,7 @@
 -- What a comparison says narrows the types soundly, on the successor where it holds and on the other one.
-use Rattle.std.proofs.Common.{◌≡◌, ℕ, zero, suc, ◌+◌, ◌-◌, ◌^◌, ◌<◌, ◌≤◌, Bool, true, false, not, ◌&&◌, if◌then◌else◌, nat_lt, nat_le, nat_eq, min, max, Some, None, refl, sym, ap, ap₂, ◌∙◌, subst, arith, ⊎_elim, mod-eq_of_lt, ℤ, pos, negsuc, int_le}
+use Rattle.std.proofs.Common.{◌≡◌, ℕ, zero, suc, ◌+◌, ◌-◌, ◌^◌, ◌<◌, ◌≤◌, Bool, true, false, not, ◌&&◌, if◌then◌else◌, nat_lt, nat_le}
+use Rattle.std.proofs.Common.{nat_eq, min, max, Some, None, refl, sym, ap, ap₂, ◌∙◌, subst, arith, ⊎_elim, mod-eq_of_lt, ℤ, pos, negsuc}
+use Rattle.std.proofs.Common.{int_le}
 use Prim.Native.Nat.{◌∣◌}
 use Rattle.std.proofs.lemmas.Bool.{ltb-true, leb-true, leb-false, and_parts, eqb-true, eqb-false, false≢true, true≢false, lt-ltb}
 use Rattle.std.proofs.lemmas.Option.{same_Some}
@@ -11,21 +13,24 @@ use Rattle.note_types.specs.BelowTests.{divides}
 use Rattle.note_types.specs.Types.{IsBounded}
 use Rattle.note_types.specs.declared.notes.Notes.{Notes}
 use Rattle.note_types.specs.declared.types.Ty.{Ty}
-use Rattle.note_types.specs.declared.types.Ty.TheVariants.{Any, Int, Lin, Scaled, Ptr, Local, Lent, Status, SignedStatus, Mask, Handle, Entry, Method, ThunkAt, Saved}
+use Rattle.note_types.specs.declared.types.Ty.TheVariants.{Any, Int, Lin, Scaled, Ptr, Local, Lent, Status, SignedStatus, Mask, Handle}
+use Rattle.note_types.specs.declared.types.Ty.TheVariants.{Entry, Method, ThunkAt, Saved}
 use Rattle.rules_base.specs.declared.parts.Span.{Span}
-use Rattle.rules_flow.specs.Narrowing.{int_of, cut_to, at_most, past, at_least, short_of, exactly, other_than, is_plain, up_to, from, narrowed_span, is_not_null, narrowed, is_success, is_signed_success, granted}
-use Rattle.run_types.specs.Values.{Neutral, Error, SignedError, number, null, plain, word}
-use Rattle.run_types.specs.Config.{Registers}
-use Rattle.run_types.specs.Memory.{Memory, AreWritten}
-use Rattle.run_types.specs.Fits.{IsNumber, IsPointer, OrNull, Fits}
+use Rattle.rules_flow.specs.Narrowing.{int_of, cut_to, at_most, past, at_least, short_of, exactly, other_than, is_plain, up_to, from}
+use Rattle.rules_flow.specs.Narrowing.{narrowed_span, is_not_null, narrowed, is_success, is_signed_success, granted}
+use Rattle.host_model.specs.Values.{Neutral, Error, SignedError, number, null, plain, word}
+use Rattle.neutral_machine.specs.Config.{Registers}
+use Rattle.neutral_machine.specs.Memory.{Memory, AreWritten}
+use Rattle.neutral_machine.specs.Fits.{IsNumber, IsPointer, OrNull, Fits}
 use Rattle.std.specs.Option.{option_or}
-use Rattle.run_types.specs.Operations.{compared_by, compared_as}
+use Rattle.neutral_machine.specs.Operations.{compared_by, compared_as}
 use Rattle.typing_laws.proofs.Rows.{number_fits}
 
 -- ---- comparisons of numbers
 
 small_signed : (x : ℕ) → x < 2 ^ 63 → signed 64 x ≡ pos x
-small_signed x l = ap (λ b. if b then pos (low 64 x) else negsuc (2 ^ 64 - 1 - low 64 x)) (lt-ltb (low 64 x) (2 ^ 63) (omega (arith, l))) ∙ ap pos (omega (arith, l))
+small_signed x l = ap (λ b. if b then pos (low 64 x) else negsuc (2 ^ 64 - 1 - low 64 x)) (lt-ltb (low 64 x) (2 ^ 63) (omega (arith, l)))
+    ∙ ap pos (omega (arith, l))
 
 -- the order of small numbers is that of signed ones
 pub lte_is : (x k : ℕ) → x < 2 ^ 63 → k < 2 ^ 63 → compared cmps.Lte true x k ≡ nat_le x k
@@ -48,7 +53,7 @@ pub ugte_is : (x k : ℕ) → x < 2 ^ 64 → k < 2 ^ 64 → compared cmps.Ugte t
 unfolding compared
 ugte_is x k l r = ap₂ nat_le (mod-eq_of_lt r) (mod-eq_of_lt l)
 
-divides_is : (e y : ℕ) → 0 < e → divides e y ≡ true → e ∣ y
+pub divides_is : (e y : ℕ) → 0 < e → divides e y ≡ true → e ∣ y
 divides_is zero y p h = absurd (omega arith)
 divides_is (suc e) y p h = dvd_of_mod-eq-zero (suc e) (eqb-true _ _ h)
 
@@ -87,7 +92,8 @@ module _ (notes : Notes) (m : Memory) (d : ℕ) (saved : Registers) where
     exactly_fits : (k : ℕ) → f.x ≡ k → Fits notes m d saved (exactly x k) v
     exactly_fits k e = go (nat_le x.lo k && (nat_le k x.hi && divides x.div k)) refl
       where
-        go : (t : Bool) → (nat_le x.lo k && (nat_le k x.hi && divides x.div k)) ≡ t → Fits notes m d saved (if t then Int k k x.div else int_of x) v
+        go : (t : Bool) → (nat_le x.lo k && (nat_le k x.hi && divides x.div k)) ≡ t
+            → Fits notes m d saved (if t then Int k k x.div else int_of x) v
         go true h =
             let a = and_parts (nat_le x.lo k) (nat_le k x.hi && divides x.div k) h in
             let b = and_parts (nat_le k x.hi) (divides x.div k) a.1 in
@@ -98,10 +104,12 @@ module _ (notes : Notes) (m : Memory) (d : ℕ) (saved : Registers) where
     other_fits k n = go (nat_eq x.lo k) refl
       where
         end : (t : Bool) → nat_eq x.hi k ≡ t → Fits notes m d saved (if t then cut_to x x.lo (k - 1) else int_of x) v
-        end true h = let e = eqb-true x.hi k h in let l : f.x < k = omega (arith, f.to, e, n) in cut_fits x.lo (k - 1) f.from (omega (arith, l))
+        end true h = let e = eqb-true x.hi k h in let l : f.x < k = omega (arith, f.to, e, n) in
+            cut_fits x.lo (k - 1) f.from (omega (arith, l))
         end false h = f
 
-        go : (t : Bool) → nat_eq x.lo k ≡ t → Fits notes m d saved (if t then past x k else (if nat_eq x.hi k then cut_to x x.lo (k - 1) else int_of x)) v
+        go : (t : Bool) → nat_eq x.lo k ≡ t → Fits notes m d saved
+            (if t then past x k else (if nat_eq x.hi k then cut_to x x.lo (k - 1) else int_of x)) v
         go true h = let e = eqb-true x.lo k h in let l : k < f.x = omega (arith, f.from, e, n) in past_fits k l
         go false h = end (nat_eq x.hi k) refl
 
@@ -113,14 +121,16 @@ module _ (notes : Notes) (m : Memory) (d : ℕ) (saved : Registers) where
     from_fits k true e = at_least_fits k (leb-true k f.x e)
     from_fits k false e = short_fits k (let l = leb-false k f.x e in omega (arith, l))
 
-    if_plain : (k : ℕ) (t : Ty) → (x.hi < 2 ^ 63 → k < 2 ^ 63 → Fits notes m d saved t v) → Fits notes m d saved (if is_plain x k then t else int_of x) v
+    if_plain : (k : ℕ) (t : Ty) → (x.hi < 2 ^ 63 → k < 2 ^ 63 → Fits notes m d saved t v)
+        → Fits notes m d saved (if is_plain x k then t else int_of x) v
     if_plain k t h = go (is_plain x k) refl
       where
         go : (b : Bool) → is_plain x k ≡ b → Fits notes m d saved (if b then t else int_of x) v
         go true e = let p = and_parts (nat_lt x.hi (2 ^ 63)) (nat_lt k (2 ^ 63)) e in h (ltb-true _ _ p.0) (ltb-true _ _ p.1)
         go false e = f
 
-    span_narrows : (op : CmpOp) (c : Bool) (k : ℕ) → k < 2 ^ 64 → compared op true f.x k ≡ c → Fits notes m d saved (narrowed_span op c x k) v
+    span_narrows : (op : CmpOp) (c : Bool) (k : ℕ) → k < 2 ^ 64 → compared op true f.x k ≡ c
+        → Fits notes m d saved (narrowed_span op c x k) v
     span_narrows cmps.Eq true k r e = exactly_fits k (eqb-true f.x k (sym (eq_is f.x k (omega (arith, f.to, w)) r) ∙ e))
     span_narrows cmps.Eq false k r e = other_fits k (λ g. eqb-false f.x k (sym (eq_is f.x k (omega (arith, f.to, w)) r) ∙ e) g)
     span_narrows cmps.Ulte c k r e = up_to_fits k c (sym (ulte_is f.x k (omega (arith, f.to, w)) r) ∙ e)
@@ -134,21 +144,28 @@ module _ (notes : Notes) (m : Memory) (d : ℕ) (saved : Registers) where
   abbrev pub Gave : CmpOp → Neutral → ℕ → Bool → Type 0
   Gave op v k c = compared_as notes m.objects op true v (number k) ≡ Some c
 
-  number_gave : (op : CmpOp) (v : Neutral) (x k : ℕ) (c : Bool) → v ≡ number x → x < 2 ^ 64 → k < 2 ^ 64 → Gave op v k c → compared op true x k ≡ c
+  number_gave : (op : CmpOp) (v : Neutral) (x k : ℕ) (c : Bool) → v ≡ number x → x < 2 ^ 64 → k < 2 ^ 64 → Gave op v k c
+      → compared op true x k ≡ c
   unfolding compared_as
   number_gave op v x k c e l r h =
-      ap₂ (compared op true) (sym (mod-eq_of_lt l)) (sym (mod-eq_of_lt r)) ∙ same_Some (compared op true (word x) (word k)) c (sym (ap (λ z. compared_by notes m.objects op true z (number k) (plain z) (Some (word k))) e) ∙ h)
+      ap₂ (compared op true) (sym (mod-eq_of_lt l)) (sym (mod-eq_of_lt r))
+      ∙ same_Some (compared op true (word x) (word k)) c (sym
+      (ap (λ z. compared_by notes m.objects op true z (number k) (plain z) (Some (word k))) e) ∙ h)
 
   -- a comparison with null that fails is of no null
   null_equal : (v : Neutral) → v ≡ null → Gave cmps.Eq v 0 false → ⊥
   unfolding compared_as compared
-  null_equal v e h = absurd (true≢false (same_Some true false (sym (ap (λ z. compared_as notes m.objects cmps.Eq true z (number 0)) e) ∙ h)))
+  null_equal v e h = absurd (true≢false (same_Some true false (sym (ap (λ z. compared_as notes m.objects cmps.Eq true z (number 0)) e)
+      ∙ h)))
 
-  not_null_fits : (s n : ℕ) (i j : ℤ) (may : Bool) (op : CmpOp) (c : Bool) (k : ℕ) (v : Neutral) → Gave op v k c → OrNull may v (IsPointer notes m.objects s n i j v) → (t : Bool) → is_not_null op c k ≡ t → Fits notes m d saved (Ptr s n i j (may && not t)) v
+  not_null_fits : (s n : ℕ) (i j : ℤ) (may : Bool) (op : CmpOp) (c : Bool) (k : ℕ) (v : Neutral) → Gave op v k c
+      → OrNull may v (IsPointer notes m.objects s n i j v) → (t : Bool) → is_not_null op c k ≡ t
+      → Fits notes m d saved (Ptr s n i j (may && not t)) v
   not_null_fits s n i j true op c k v h f false e = f
   not_null_fits s n i j false op c k v h f false e = f
   not_null_fits s n i j false op c k v h f true e = f
-  not_null_fits s n i j true cmps.Eq false k v h f true e = ⊎_elim (λ p. p) (λ q. absurd (null_equal v q (subst (λ z. Gave cmps.Eq v z false) (eqb-true k 0 e) h))) f
+  not_null_fits s n i j true cmps.Eq false k v h f true e = ⊎_elim (λ p. p)
+      (λ q. absurd (null_equal v q (subst (λ z. Gave cmps.Eq v z false) (eqb-true k 0 e) h))) f
   not_null_fits s n i j true cmps.Eq true k v h f true e = absurd (false≢true e)
   not_null_fits s n i j true cmps.Lte c k v h f true e = absurd (false≢true e)
   not_null_fits s n i j true cmps.Gte c k v h f true e = absurd (false≢true e)
@@ -156,7 +173,8 @@ module _ (notes : Notes) (m : Memory) (d : ℕ) (saved : Registers) where
   not_null_fits s n i j true cmps.Ugte c k v h f true e = absurd (false≢true e)
 
   -- A value of which a comparison gave C fits the narrowed type.
-  pub narrowed_fits : (op : CmpOp) (c : Bool) (t : Ty) (k : ℕ) (v : Neutral) → IsBounded t → k < 2 ^ 64 → Gave op v k c → Fits notes m d saved t v → Fits notes m d saved (narrowed op c t k) v
+  pub narrowed_fits : (op : CmpOp) (c : Bool) (t : Ty) (k : ℕ) (v : Neutral) → IsBounded t → k < 2 ^ 64 → Gave op v k c
+      → Fits notes m d saved t v → Fits notes m d saved (narrowed op c t k) v
   narrowed_fits op c (Int lo hi div) k v b r h f =
       let w = b.1 in
       span_narrows (record { lo = lo; hi = hi; div = div }) v f w b.2 op c k r (number_gave op v f.x k c f.is (omega (arith, f.to, w)) r h)
@@ -183,18 +201,22 @@ module _ (notes : Notes) (m : Memory) (d : ℕ) (saved : Registers) where
   error_unequal : (v : Neutral) (i k : ℕ) → v ≡ Error i → k < 2 ^ 31 → Gave cmps.Eq v k true → ⊥
   unfolding compared_as
   error_unequal v i k e l h =
-      absurd (true≢false (same_Some true false (sym h ∙ ap (λ z. compared_as notes m.objects cmps.Eq true z (number k)) e ∙ ap (λ b. option_or (if b then Some false else None) None) (lt-ltb (word k) (2 ^ 31) (omega (arith, l))))))
+      absurd (true≢false (same_Some true false (sym h ∙ ap (λ z. compared_as notes m.objects cmps.Eq true z (number k)) e
+      ∙ ap (λ b. option_or (if b then Some false else None) None) (lt-ltb (word k) (2 ^ 31) (omega (arith, l))))))
 
   signed_not_above : (v : Neutral) (i k : ℕ) → v ≡ SignedError i → k < 2 ^ 31 → Gave cmps.Gte v k true → ⊥
   unfolding compared_as
   signed_not_above v i k e l h =
-      absurd (true≢false (same_Some true false (sym h ∙ ap (λ z. compared_as notes m.objects cmps.Gte true z (number k)) e ∙ ap (λ b. if b then Some false else None) (lt-ltb (word k) (2 ^ 31) (omega (arith, l))))))
+      absurd (true≢false (same_Some true false (sym h ∙ ap (λ z. compared_as notes m.objects cmps.Gte true z (number k)) e
+      ∙ ap (λ b. if b then Some false else None) (lt-ltb (word k) (2 ^ 31) (omega (arith, l))))))
 
   signed_at_most : (v : Neutral) (i : ℕ) → v ≡ SignedError i → Gave cmps.Lte v (2 ^ 64 - 1) false → ⊥
   unfolding compared_as
-  signed_at_most v i e h = absurd (true≢false (same_Some true false (sym (ap (λ z. compared_as notes m.objects cmps.Lte true z (number (2 ^ 64 - 1))) e) ∙ h)))
+  signed_at_most v i e h = absurd (true≢false (same_Some true false
+      (sym (ap (λ z. compared_as notes m.objects cmps.Lte true z (number (2 ^ 64 - 1))) e) ∙ h)))
 
-  success_grants : (op : CmpOp) (c : Bool) (k g : ℕ) (v : Neutral) → Gave op v k c → Fits notes m d saved (Status g) v → (t : Bool) → is_success op c k ≡ t → AreWritten m d (if t then g else 0)
+  success_grants : (op : CmpOp) (c : Bool) (k g : ℕ) (v : Neutral) → Gave op v k c → Fits notes m d saved (Status g) v → (t : Bool)
+      → is_success op c k ≡ t → AreWritten m d (if t then g else 0)
   success_grants op c k g v h f false e = none_written
   success_grants cmps.Eq true k g v h f true e = ⊎_elim (λ i. absurd (error_unequal v i.code k i.is (ltb-true k (2 ^ 31) e) h)) (λ s. s.1) f
   success_grants cmps.Eq false k g v h f true e = absurd (false≢true e)
@@ -203,18 +225,22 @@ module _ (notes : Notes) (m : Memory) (d : ℕ) (saved : Registers) where
   success_grants cmps.Ulte c k g v h f true e = absurd (false≢true e)
   success_grants cmps.Ugte c k g v h f true e = absurd (false≢true e)
 
-  signed_grants : (op : CmpOp) (c : Bool) (k g : ℕ) (v : Neutral) → Gave op v k c → Fits notes m d saved (SignedStatus g) v → (t : Bool) → is_signed_success op c k ≡ t → AreWritten m d (if t then g else 0)
+  signed_grants : (op : CmpOp) (c : Bool) (k g : ℕ) (v : Neutral) → Gave op v k c → Fits notes m d saved (SignedStatus g) v → (t : Bool)
+      → is_signed_success op c k ≡ t → AreWritten m d (if t then g else 0)
   signed_grants op c k g v h f false e = none_written
-  signed_grants cmps.Gte true k g v h f true e = ⊎_elim (λ i. absurd (signed_not_above v i.code k i.is (ltb-true k (2 ^ 31) e) h)) (λ s. s.1) f
+  signed_grants cmps.Gte true k g v h f true e = ⊎_elim (λ i. absurd (signed_not_above v i.code k i.is (ltb-true k (2 ^ 31) e) h))
+      (λ s. s.1) f
   signed_grants cmps.Gte false k g v h f true e = absurd (false≢true e)
-  signed_grants cmps.Lte false k g v h f true e = ⊎_elim (λ i. absurd (signed_at_most v i.code i.is (subst (λ z. Gave cmps.Lte v z false) (eqb-true k (2 ^ 64 - 1) e) h))) (λ s. s.1) f
+  signed_grants cmps.Lte false k g v h f true e = ⊎_elim (λ i. absurd
+      (signed_at_most v i.code i.is (subst (λ z. Gave cmps.Lte v z false) (eqb-true k (2 ^ 64 - 1) e) h))) (λ s. s.1) f
   signed_grants cmps.Lte true k g v h f true e = absurd (false≢true e)
   signed_grants cmps.Eq c k g v h f true e = absurd (false≢true e)
   signed_grants cmps.Ulte c k g v h f true e = absurd (false≢true e)
   signed_grants cmps.Ugte c k g v h f true e = absurd (false≢true e)
 
   -- What a comparison says is written is written.
-  pub granted_written : (op : CmpOp) (c : Bool) (t : Ty) (k : ℕ) (v : Neutral) → Gave op v k c → Fits notes m d saved t v → AreWritten m d (granted op c t k)
+  pub granted_written : (op : CmpOp) (c : Bool) (t : Ty) (k : ℕ) (v : Neutral) → Gave op v k c → Fits notes m d saved t v
+      → AreWritten m d (granted op c t k)
   granted_written op c (Status g) k v h f = success_grants op c k g v h f (is_success op c k) refl
   granted_written op c (SignedStatus g) k v h f = signed_grants op c k g v h f (is_signed_success op c k) refl
   granted_written op c (Int lo hi div) k v h f = none_written

@@ -1,6 +1,7 @@
 -- The arguments of a call of a native method: what the rules let be handed over is what its signature wants, and the local fields
 -- that are lent to be written are written once the cells that were lent are.
-use Rattle.std.proofs.Common.{◌≡◌, ℕ, suc, ◌%◌, ◌^◌, ◌≤◌, ◌⊎◌, Bool, true, false, ◌&&◌, if◌then◌else◌, nat_eq, nat_lt, List, [], ◌∷◌, Some, None, slice_get, refl, sym, ap, ap₂, ◌∙◌, subst, arith, inl, inr, ⊎_elim, ℤ, pos}
+use Rattle.std.proofs.Common.{◌≡◌, ℕ, suc, ◌%◌, ◌^◌, ◌≤◌, ◌⊎◌, Bool, true, false, ◌&&◌, if◌then◌else◌, nat_eq, nat_lt, List, [], ◌∷◌, Some}
+use Rattle.std.proofs.Common.{None, slice_get, refl, sym, ap, ap₂, ◌∙◌, subst, arith, inl, inr, ⊎_elim, ℤ, pos}
 use Rattle.std.specs.List.{AllZip}
 use Rattle.std.specs.Ordering.{int_eq}
 use Rattle.std.proofs.lemmas.Bool.{and_parts, eqb-true, false≢true}
@@ -31,14 +32,14 @@ use Rattle.note_types.proofs.SameLaws.{same_kind-equal, same_kind-refl}
 use Rattle.rules_base.specs.Outcomes.{needs}
 use Rattle.rules_base.specs.Places.{only_field}
 use Rattle.rules_flow.specs.Arguments.{all_lent_out, is_any_start, is_exactly, lent_out, native_argument, native_arguments, wanted}
-use Rattle.run_types.specs.Config.{Registers, StackItem, Pushed, LocalsOf, FunctionFrame}
-use Rattle.run_types.specs.Fits.{IsPointer, Fits}
-use Rattle.run_types.specs.FitsState.{ItemFits}
-use Rattle.run_types.specs.Memory.{Memory, AreWritten, IsWritten}
-use Rattle.run_types.specs.NeutralReadings.{neutral_slots, slot_given}
-use Rattle.run_types.specs.Readings.{before_all}
-use Rattle.run_types.specs.Values.{Neutral, Num, null, number, pair}
-use Rattle.run_types.specs.declared.object.TypedObject.{TypedObject}
+use Rattle.neutral_machine.specs.Config.{Registers, StackItem, Pushed, LocalsOf, FunctionFrame}
+use Rattle.neutral_machine.specs.Fits.{IsPointer, Fits}
+use Rattle.neutral_machine.specs.FitsState.{ItemFits}
+use Rattle.neutral_machine.specs.Memory.{Memory, AreWritten, IsFieldWritten}
+use Rattle.neutral_machine.specs.NeutralReadings.{neutral_slots, slot_given}
+use Rattle.host_model.specs.Readings.{before_all}
+use Rattle.host_model.specs.Values.{Neutral, Num, null, number, pair}
+use Rattle.host_model.specs.declared.object.TypedObject.{TypedObject}
 use Rattle.typed_runs.specs.Asked.{ArgumentFits, ArgumentsFit, IsAnyPointer, OutWritten, OutsWritten}
 use Rattle.typed_runs.specs.Sound.{SlotsKept}
 use Rattle.typing_laws.proofs.FitsBelow.{fits_below}
@@ -55,14 +56,17 @@ only_one x f h = go (nat_lt x 64) h
     go true h = power_bit x f h
     go false h = let z = bit_at-zero f in absurd (omega (arith, z, h))
 
-module _ (notes : Notes) (note : FnNote) (d : ℕ) (U : Memory) (written : ℕ) (are : AreWritten U d written) (same_locals : (x : Shape) → U.locals d ≡ Some x → local_fields notes note ≡ x.fields) where
+module _ (notes : Notes) (note : FnNote) (d : ℕ) (U : Memory) (written : ℕ) (are : AreWritten U d written)
+    (same_locals : (x : Shape) → U.locals d ≡ Some x → local_fields notes note ≡ x.fields) where
   same_memory : LaterBelow (suc d) U U
   same_memory = record { objects = λ k o h. h; locals = λ e l. refl; written = λ e f l h. h }
 
-  below_wanted : (saved : Registers) (p t : Ty) (v : Neutral) → needs rule.Arguments (is_below t p) ≡ None → Fits notes U d saved t v → Fits notes U d saved p v
+  below_wanted : (saved : Registers) (p t : Ty) (v : Neutral) → needs rule.Arguments (is_below t p) ≡ None → Fits notes U d saved t v
+      → Fits notes U d saved p v
   below_wanted saved p t v e h = fits_below notes U d saved t p v ((is_below_exact t p).0 (needs_true rule.Arguments _ e)) h
 
-  exactly_fits : (saved : Registers) (n c : ℕ) (t : Ty) (v : Neutral) → IsBounded t → is_exactly n c t ≡ true → Fits notes U d saved t v → v ≡ pair (pos n) (pos c)
+  exactly_fits : (saved : Registers) (n c : ℕ) (t : Ty) (v : Neutral) → IsBounded t → is_exactly n c t ≡ true → Fits notes U d saved t v
+      → v ≡ pair (pos n) (pos c)
   exactly_fits saved n c (ty.Lin m i) v b e h =
       let q = and_parts (int_eq m (pos n)) (int_eq i (pos c)) e in
       h ∙ ap₂ pair ((Decides-int_eq m (pos n)).0 q.0) ((Decides-int_eq i (pos c)).0 q.1)
@@ -73,7 +77,8 @@ module _ (notes : Notes) (note : FnNote) (d : ℕ) (U : Memory) (written : ℕ) 
       let el = eqb-true lo c r.0 in
       let eh = eqb-true hi c r.1 in
       let w = b.1 in
-      h.is ∙ ap₂ Num (let z : 0 ≡ n % 2 ^ 64 = omega (arith, en) in z) (let z : h.x ≡ c % 2 ^ 64 = omega (arith, h.from, h.to, el, eh, w) in z)
+      h.is ∙ ap₂ Num (let z : 0 ≡ n % 2 ^ 64 = omega (arith, en) in z)
+      (let z : h.x ≡ c % 2 ^ 64 = omega (arith, h.from, h.to, el, eh, w) in z)
   exactly_fits saved n c ty.Any v b e h = absurd (false≢true e)
   exactly_fits saved n c (ty.Scaled m i hi) v b e h = absurd (false≢true e)
   exactly_fits saved n c (ty.Ptr q k m i may) v b e h = absurd (false≢true e)
@@ -88,12 +93,26 @@ module _ (notes : Notes) (note : FnNote) (d : ℕ) (U : Memory) (written : ℕ) 
   exactly_fits saved n c (ty.ThunkAt q) v b e h = absurd (false≢true e)
   exactly_fits saved n c (ty.Saved q) v b e h = absurd (false≢true e)
 
-  start_pointer : (s k : ℕ) (n c : ℤ) (v : Neutral) → 1 ≤ k → n ≡ pos 0 → c ≡ pos 0 → IsPointer notes U.objects s k n c v → IsAnyPointer notes U.objects v
+  start_pointer : (s k : ℕ) (n c : ℤ) (v : Neutral) → 1 ≤ k → n ≡ pos 0 → c ≡ pos 0 → IsPointer notes U.objects s k n c v
+      → IsAnyPointer notes U.objects v
   start_pointer s k n c v l en ec h =
-      let g : IsPointer notes U.objects s k (pos 0) (pos 0) v = subst (λ z. IsPointer notes U.objects s k (pos 0) z v) ec (subst (λ z. IsPointer notes U.objects s k z c v) en h) in
-      record { shape = s; is = record { k = g.k; j = g.j; object = g.object; is = g.is; there = g.there; shape = g.shape; room = omega (arith, g.room, l) } }
+      let g : IsPointer notes U.objects s k (pos 0) (pos 0) v =
+      subst (λ z. IsPointer notes U.objects s k (pos 0) z v) ec (subst (λ z. IsPointer notes U.objects s k z c v) en h) in
+      record {
+        shape = s;
+        is = record {
+          k = g.k;
+          j = g.j;
+          object = g.object;
+          is = g.is;
+          there = g.there;
+          shape = g.shape;
+          room = omega (arith, g.room, l);
+        };
+      }
 
-  any_start : (saved : Registers) (t : Ty) (v : Neutral) → IsBounded t → is_any_start t ≡ true → Fits notes U d saved t v → IsAnyPointer notes U.objects v ⊎ (v ≡ null)
+  any_start : (saved : Registers) (t : Ty) (v : Neutral) → IsBounded t → is_any_start t ≡ true → Fits notes U d saved t v
+      → IsAnyPointer notes U.objects v ⊎ (v ≡ null)
   any_start saved (ty.Ptr s k n c false) v b e h =
       let q = and_parts (int_eq n (pos 0)) (int_eq c (pos 0)) e in
       inl (start_pointer s k n c v b.0 ((Decides-int_eq n (pos 0)).0 q.0) ((Decides-int_eq c (pos 0)).0 q.1) h)
@@ -119,7 +138,8 @@ module _ (notes : Notes) (note : FnNote) (d : ℕ) (U : Memory) (written : ℕ) 
   any_start saved (ty.Saved q) v b e h = absurd (false≢true e)
 
   -- a value that the rules let be handed over is what is wanted
-  wanted_fits : (saved : Registers) (p : Want) (t : Ty) (v : Neutral) → IsBounded t → wanted (local_fields notes note) written p t ≡ None → Fits notes U d saved t v → ArgumentFits notes U d p v
+  wanted_fits : (saved : Registers) (p : Want) (t : Ty) (v : Neutral) → IsBounded t → wanted (local_fields notes note) written p t ≡ None
+      → Fits notes U d saved t v → ArgumentFits notes U d p v
   wanted_fits saved want.Any t v b e h = tt
   wanted_fits saved (want.Int lo hi) t v b e h = below_wanted saved (ty.Int lo hi 1) t v e h
   wanted_fits saved (want.Size n c) t v b e h = exactly_fits saved n c t v b (needs_true rule.Arguments _ e) h
@@ -128,17 +148,19 @@ module _ (notes : Notes) (note : FnNote) (d : ℕ) (U : Memory) (written : ℕ) 
   wanted_fits saved want.Status t v b e h = ⊎_elim (λ q. inl q) (λ q. inr q.0) (below_wanted saved (ty.Status 0) t v e h)
   wanted_fits saved want.Entry t v b e h = below_wanted saved ty.Entry t v e h
   wanted_fits saved (want.Out cell) t v b e h = (lent_below notes note d U U written are same_locals same_memory saved cell false t v e h).0
-  wanted_fits saved (want.Inout cell) t v b e h = (lent_below notes note d U U written are same_locals same_memory saved cell true t v e h).1 refl
+  wanted_fits saved (want.Inout cell) t v b e h =
+      (lent_below notes note d U U written are same_locals same_memory saved cell true t v e h).1 refl
 
   -- the field that a slot lends to be written is written, once its cell is
-  slot_written : (saved : Registers) (p : WantParam) (kind : SlotKind) (t : Ty) (v : Neutral) (V : Memory) → Fits notes U d saved t v → OutWritten V p v → AreWritten V d (lent_out p.want (item.Slot kind t))
+  slot_written : (saved : Registers) (p : WantParam) (kind : SlotKind) (t : Ty) (v : Neutral) (V : Memory) → Fits notes U d saved t v
+      → OutWritten V p v → AreWritten V d (lent_out p.want (item.Slot kind t))
   slot_written saved p kind t v V z h = go p.want refl t z
     where
       none : AreWritten V d 0
       none x q = absurd (let b = bit_at-zero x in omega (arith, b, q))
 
       go : (w : Want) → p.want ≡ w → (t : Ty) → Fits notes U d saved t v → AreWritten V d (lent_out w (item.Slot kind t))
-      go (want.Out cell) e (ty.Local x) z = λ y q. subst (IsWritten V d) (sym (only_one x y q)) (h cell e d x z.is)
+      go (want.Out cell) e (ty.Local x) z = λ y q. subst (IsFieldWritten V d) (sym (only_one x y q)) (h cell e d x z.is)
       go (want.Out cell) e ty.Any z = none
       go (want.Out cell) e (ty.Int lo hi div) z = none
       go (want.Out cell) e (ty.Lin n c) z = none
@@ -163,7 +185,8 @@ module _ (notes : Notes) (note : FnNote) (d : ℕ) (U : Memory) (written : ℕ) 
       go (want.Inout cell) e t z = none
 
   -- the value that a slot gives back is the one in it
-  given_is : (os : List TypedObject) (kind : SlotKind) (v : Neutral) (is : List StackItem) → IsParameterKind kind → SlotsKept notes os (Pushed kind v ∷ is) → (slot_given notes os kind v ≡ v) × SlotsKept notes os is
+  given_is : (os : List TypedObject) (kind : SlotKind) (v : Neutral) (is : List StackItem) → IsParameterKind kind
+      → SlotsKept notes os (Pushed kind v ∷ is) → (slot_given notes os kind v ≡ v) × SlotsKept notes os is
   given_is os kinds.N v is k h = (h.0, h.1)
   given_is os kinds.Q v is k h = (refl, h)
   given_is os kinds.D v is k h = absurd k
@@ -175,25 +198,36 @@ module _ (notes : Notes) (note : FnNote) (d : ℕ) (U : Memory) (written : ℕ) 
     pub fit : ArgumentsFit notes U d ps args
     pub lent : (V : Memory) → OutsWritten V ps args → AreWritten V d (all_lent_out ps xs)
 
-  pub arguments_handed : (f : FunctionFrame) (ps : List WantParam) (is : List StackItem) (xs : List Item) → ((k : ℕ) (p : WantParam) → slice_get ps k ≡ Some p → IsWantNote notes p) → ((k : ℕ) (kind : SlotKind) (t : Ty) → slice_get xs k ≡ Some (item.Slot kind t) → IsKnown notes note t)
-      → SlotsKept notes U.objects is → native_arguments (local_fields notes note) written ps xs ≡ None → AllZip (ItemFits notes U d f) is xs → Handed f ps is xs
+  pub arguments_handed : (f : FunctionFrame) (ps : List WantParam) (is : List StackItem) (xs : List Item)
+      → ((k : ℕ) (p : WantParam) → slice_get ps k ≡ Some p → IsWantNote notes p)
+      → ((k : ℕ) (kind : SlotKind) (t : Ty) → slice_get xs k ≡ Some (item.Slot kind t) → IsKnown notes note t)
+      → SlotsKept notes U.objects is → native_arguments (local_fields notes note) written ps xs ≡ None → AllZip (ItemFits notes U d f) is xs
+      → Handed f ps is xs
   unfolding native_arguments neutral_slots all_lent_out
-  arguments_handed f [] is xs good known kept e z = record { args = []; args_are = refl; fit = tt; lent = λ V h x q. absurd (let b = bit_at-zero x in omega (arith, b, q)) }
+  arguments_handed f [] is xs good known kept e z = record {
+    args = [];
+    args_are = refl;
+    fit = tt;
+    lent = λ V h x q. absurd (let b = bit_at-zero x in omega (arith, b, q));
+  }
   arguments_handed f (p ∷ ps) [] [] good known kept e z = absurd (some_never rule.Arguments e)
   arguments_handed f (p ∷ ps) (i ∷ is) [] good known kept e z = absurd z
   arguments_handed f (p ∷ ps) [] (x ∷ xs) good known kept e z = absurd z
   arguments_handed f (p ∷ ps) (Pushed kind v ∷ is) (item.Slot k t ∷ xs) good known kept e z =
-      let q = both_none (native_argument (local_fields notes note) written p (item.Slot k t)) (native_arguments (local_fields notes note) written ps xs) e in
+      let q = both_none (native_argument (local_fields notes note) written p (item.Slot k t))
+      (native_arguments (local_fields notes note) written ps xs) e in
       let c = both_none (needs rule.Arguments (same_kind p.kind k)) (wanted (local_fields notes note) written p.want t) q.0 in
       let same : kind ≡ p.kind = z.0.0 ∙ sym (same_kind-equal p.kind k (needs_true rule.Arguments _ c.0)) in
       let g = given_is U.objects kind v is (subst IsParameterKind (sym same) (good 0 p refl).kind) kept in
       let r = arguments_handed f ps is xs (λ j y h. good (suc j) y h) (λ j y u h. known (suc j) y u h) g.1 q.1 z.1 in
       record {
         args = v ∷ r.args;
-        args_are = ap (λ b. if b then before_all (Some (slot_given notes U.objects kind v)) (neutral_slots notes U.objects ps is) else None) (ap (λ y. same_kind y p.kind) same ∙ same_kind-refl p.kind)
+        args_are = ap (λ b. if b then before_all (Some (slot_given notes U.objects kind v)) (neutral_slots notes U.objects ps is) else None)
+            (ap (λ y. same_kind y p.kind) same ∙ same_kind-refl p.kind)
             ∙ ap₂ (λ y ys. before_all (Some y) ys) g.0 r.args_are;
         fit = (wanted_fits f.saved p.want t v (known 0 k t refl).bounded c.1 z.0.1, r.fit);
-        lent = λ V h x o. ⊎_elim (λ y. slot_written f.saved p k t v V z.0.1 h.0 x y) (λ y. r.lent V h.1 x y) (either_field (lent_out p.want (item.Slot k t)) (all_lent_out ps xs) x o);
+        lent = λ V h x o. ⊎_elim (λ y. slot_written f.saved p k t v V z.0.1 h.0 x y) (λ y. r.lent V h.1 x y)
+            (either_field (lent_out p.want (item.Slot k t)) (all_lent_out ps xs) x o);
       }
   arguments_handed f (p ∷ ps) (LocalsOf s ∷ is) (item.Locals ∷ xs) good known kept e z =
       absurd (some_never rule.Arguments (both_none (Some rule.Arguments) (native_arguments (local_fields notes note) written ps xs) e).0)

@@ -1,5 +1,7 @@
 -- The rows of CALLEX and of BREAK 5.
-use Rattle.std.proofs.Common.{◌≡◌, ◌≢◌, ℕ, suc, ◌+◌, ◌<◌, ◌⊎◌, Bool, true, false, ◌&&◌, if◌then◌else◌, nat_eq, nat_lt, position, List, [], ◌∷◌, length, Option, Some, None, IfSome, Result, Ok, Err, slice_get, refl, sym, ap, ap₂, ◌∙◌, subst, arith, inl, inr, ⊎_elim}
+use Rattle.std.proofs.Common.{◌≡◌, ◌≢◌, ℕ, suc, ◌+◌, ◌<◌, ◌⊎◌, Bool, true, false, ◌&&◌, if◌then◌else◌, nat_eq, nat_lt, position, List, []}
+use Rattle.std.proofs.Common.{◌∷◌, length, Option, Some, None, IfSome, Result, Ok, Err, slice_get, refl, sym, ap, ap₂, ◌∙◌, subst, arith}
+use Rattle.std.proofs.Common.{inl, inr, ⊎_elim}
 use Rattle.std.specs.List.{find, position_or_len}
 use Rattle.std.specs.Option.{option_map}
 use Rattle.std.proofs.lemmas.Bool.{and_from, and_parts, eqb-true, eqb-false, eq-eqb, lt-ltb, ltb-true, false≢true}
@@ -12,7 +14,7 @@ use Rattle.ebc_insn.specs.declared.Extra.TheVariants.{Nothing, Imm, Idx}
 use Rattle.ebc_insn.specs.declared.Operand.{Operand}
 use Rattle.ebc_insn.specs.declared.Size.TheVariants as sizes
 use Rattle.note_types.specs.Known.{local_fields}
-use Rattle.note_types.specs.Passing.{IsGiven, IsReturned}
+use Rattle.note_types.specs.Passing.{IsGiven}
 use Rattle.note_types.specs.Records.{IsResultNote}
 use Rattle.note_types.specs.States.{type_of}
 use Rattle.note_types.specs.declared.notes.FnNote.{FnNote}
@@ -33,39 +35,40 @@ use Rattle.rules_base.specs.Parts.{and_then}
 use Rattle.rules_base.specs.declared.access.Access.TheVariants as access
 use Rattle.rules_base.specs.declared.access.Loaded.{Loaded}
 use Rattle.rules_flow.specs.Arguments.{all_lent_out, native_arguments}
-use Rattle.rules_flow.specs.Calls.{all_made, break_row, called, callee_method, direct_method, is_next_thunk, loaded_method, method_of, native_call, native_called, of_method, result_type, signature_at, site_at, with_thunk, written_after}
+use Rattle.rules_flow.specs.Calls.{all_made, break_row, callee_method, direct_method, is_next_thunk, loaded_method, method_of, native_call}
+use Rattle.rules_flow.specs.Calls.{native_called, of_method, result_type, signature_at, site_at, with_thunk, written_after}
 use Rattle.rules_flow.specs.Calls as rules_calls
 use Rattle.rules_flow.specs.Found.{is_at, number_at}
 use Rattle.rules_flow.specs.Successors.{falls}
 use Rattle.rules_flow.specs.declared.successors.Successors.{Successors}
 use Rattle.neutral_machine.specs.Operands.{beside_extra, extra_pair, loaded_by, moved_by}
-use Rattle.neutral_machine.specs.Rows.{NeutralEnd, Next, Native, MakeThunk, Site, at_place, base_at, call_native_row, native_target}
+use Rattle.neutral_machine.specs.Rows.{NeutralEnd, Native, MakeThunk, Site, at_place, base_at, call_native_row, native_target}
 use Rattle.neutral_machine.specs.Rows as rows
-use Rattle.run_types.specs.Config.{Registers, FunctionFrame, Frame, Function, Host, Config, depth}
-use Rattle.run_types.specs.Fits.{Fits}
-use Rattle.run_types.specs.FitsState.{FitsState}
-use Rattle.run_types.specs.HostPlans.{site_of}
-use Rattle.run_types.specs.Locations.{Move}
-use Rattle.run_types.specs.Memory.{Memory, AreWritten}
-use Rattle.run_types.specs.NeutralHost.{next_thunk}
-use Rattle.run_types.specs.Operations.{kept_natural}
-use Rattle.run_types.specs.Outcomes.{Outcome, Gives, Stuck, ◌>>=◌, or_stuck}
-use Rattle.run_types.specs.Values.{Neutral, At, Method, ThunkOf, null}
-use Rattle.run_types.specs.World.{World}
+use Rattle.neutral_machine.specs.Config.{Registers, FunctionFrame, Frame, Function, Host, Config, depth}
+use Rattle.neutral_machine.specs.Fits.{Fits}
+use Rattle.neutral_machine.specs.FitsState.{FitsState}
+use Rattle.host_model.specs.HostPlans.{site_of}
+use Rattle.neutral_machine.specs.Locations.{Move}
+use Rattle.neutral_machine.specs.Memory.{Memory, AreWritten}
+use Rattle.neutral_machine.specs.NeutralHost.{next_thunk}
+use Rattle.neutral_machine.specs.Operations.{kept_natural}
+use Rattle.neutral_machine.specs.Outcomes.{Outcome, Gives, Stuck, ◌>>=◌, or_stuck}
+use Rattle.host_model.specs.Values.{Neutral, At, Method, ThunkOf, null}
+use Rattle.host_model.specs.World.{World}
 use Rattle.typed_runs.specs.Accepts.{Accepts}
 use Rattle.typed_runs.specs.Asked.{GivenByNative, GivenByType, OutsWritten}
 use Rattle.typed_runs.specs.Later.{Later, Preserves, WillFit}
 use Rattle.typed_runs.specs.Live.{live_memory}
 use Rattle.typing_laws.specs.OneRule.{Asks, Makes, here_of}
 use Rattle.typed_runs.specs.Sound.{FramesKeep, Sound, ThunksFor, TopFits}
-use Rattle.typing_laws.proofs.Rows.{then_some}
+use Rattle.typing_laws.proofs.Rows.{then_some, err_ok, ok_same}
 use Rattle.typing_laws.proofs.ArgumentsPass.{both_none, needs_true}
-use Rattle.typing_laws.proofs.ArithRow.{BesideFits, also_ok, err_ok, ok_is}
+use Rattle.typing_laws.proofs.ArithRow.{BesideFits, also_ok}
 use Rattle.typing_laws.proofs.Calls.{after_call, called_fresh}
 use Rattle.typing_laws.proofs.CompareRow.{either_field}
 use Rattle.typing_laws.proofs.Context.{TopSound, same_locals}
 use Rattle.typing_laws.proofs.ItemsChanged.{top_keeps}
-use Rattle.typed_runs.proofs.LaterFits.{fits_later, items_later}
+use Rattle.typed_runs.proofs.LaterFits.{fields_later, fits_later, items_later}
 use Rattle.typing_laws.proofs.NativeArguments.{Handed, arguments_handed}
 use Rattle.typing_laws.proofs.Operands.{load_fits, register_fits, some_ok, then_ok}
 
@@ -89,13 +92,16 @@ pub record SignatureFound (notes : Notes) (place m : ℕ) (g : Signature) : Type
 signature_found : (notes : Notes) (place m : ℕ) (g : Signature) → signature_at notes place m ≡ Some g → SignatureFound notes place m g
 unfolding signature_at site_at number_at site_of
 signature_found notes place m g e =
-    then_some (and_then (and_then (position (is_at (λ (x : SiteNote). x.place) place) notes.site) (slice_get notes.site)) (λ (x : SiteNote). slice_get notes.signature x.signature)) (of_method m) g e (λ h e1 e2.
-    then_some (and_then (position (is_at (λ (x : SiteNote). x.place) place) notes.site) (slice_get notes.site)) (λ (x : SiteNote). slice_get notes.signature x.signature) h e1 (λ x e3 e4.
+    then_some (and_then (and_then (position (is_at (λ (x : SiteNote). x.place) place) notes.site) (slice_get notes.site))
+    (λ (x : SiteNote). slice_get notes.signature x.signature)) (of_method m) g e (λ h e1 e2.
+    then_some (and_then (position (is_at (λ (x : SiteNote). x.place) place) notes.site) (slice_get notes.site))
+    (λ (x : SiteNote). slice_get notes.signature x.signature) h e1 (λ x e3 e4.
     then_some (position (is_at (λ (x : SiteNote). x.place) place) notes.site) (slice_get notes.site) x e3 (λ k e5 e6.
     let r = by_method h (nat_eq h.method m) refl e2 in
     record {
       number = x.signature;
-      site = ap (option_map (λ (s : SiteNote). s.signature)) (position_found (is_at (λ (x : SiteNote). x.place) place) notes.site k e5 ∙ e6);
+      site = ap (option_map (λ (s : SiteNote). s.signature)) (position_found (is_at (λ (x : SiteNote). x.place) place) notes.site k e5
+          ∙ e6);
       there = e4 ∙ ap Some r.1;
       method = ap (λ (y : Signature). y.method) (sym r.1) ∙ r.0;
     })))
@@ -105,23 +111,6 @@ signature_found notes place m g e =
     by_method h false q e = absurd (none-some g e)
 
 -- ---- results of native methods
-
-given_returned : (t : Ty) → IsGiven t → IsReturned t
-given_returned ty.Any h = absurd h
-given_returned (ty.Int lo hi div) h = tt
-given_returned (ty.Lin n c) h = absurd h
-given_returned (ty.Scaled n c hi) h = absurd h
-given_returned (ty.Ptr s k n c may) h = tt
-given_returned (ty.Local x) h = absurd h
-given_returned (ty.Lent cell) h = absurd h
-given_returned (ty.Status g) h = h
-given_returned (ty.SignedStatus g) h = absurd h
-given_returned ty.Mask h = absurd h
-given_returned ty.Handle h = tt
-given_returned ty.Entry h = absurd h
-given_returned (ty.Method q) h = absurd h
-given_returned (ty.ThunkAt q) h = absurd h
-given_returned (ty.Saved q) h = absurd h
 
 result_unsaved : (o : Option Ty) (lent i : ℕ) → ((t : Ty) → o ≡ Some t → IsGiven t) → result_type o lent ≢ ty.Saved i
 result_unsaved None lent i h = λ e. absurd cc
@@ -142,13 +131,19 @@ result_unsaved (Some (ty.ThunkAt q)) lent i h = λ e. absurd cc
 result_unsaved (Some (ty.Saved q)) lent i h = λ e. absurd (h (ty.Saved q) refl)
 
 -- what a native call gives fits the result's type, and says which fields are written
-given_fits : (notes : Notes) (V : Memory) (d : ℕ) (saved : Registers) (ps : List WantParam) (vs : List Neutral) (o : Option Ty) (written lent : ℕ) (v : Neutral) → ((t : Ty) → o ≡ Some t → IsGiven t) → (OutsWritten V ps vs → AreWritten V d lent) → AreWritten V d written → GivenByType notes ps vs V v o
+given_fits : (notes : Notes) (V : Memory) (d : ℕ) (saved : Registers) (ps : List WantParam) (vs : List Neutral) (o : Option Ty)
+    (written lent : ℕ) (v : Neutral) → ((t : Ty) → o ≡ Some t → IsGiven t) → (OutsWritten V ps vs → AreWritten V d lent)
+    → AreWritten V d written → GivenByType notes ps vs V v o
     → Fits notes V d saved (result_type o lent) v × AreWritten V d (written_after o written lent)
-given_fits notes V d saved ps vs None written lent v g out w h = (tt, λ x q. ⊎_elim (λ y. w x y) (λ y. out h x y) (either_field written lent x q))
+given_fits notes V d saved ps vs None written lent v g out w h =
+    (tt, λ x q. ⊎_elim (λ y. w x y) (λ y. out h x y) (either_field written lent x q))
 given_fits notes V d saved ps vs (Some (ty.Status k)) written lent v g out w h = (⊎_elim (λ e. inl e) (λ s. inr (s.0, out s.1)) h, w)
-given_fits notes V d saved ps vs (Some (ty.Int lo hi div)) written lent v g out w h = (h.0, λ x q. ⊎_elim (λ y. w x y) (λ y. out h.1 x y) (either_field written lent x q))
-given_fits notes V d saved ps vs (Some (ty.Ptr s k n c may)) written lent v g out w h = (h.0, λ x q. ⊎_elim (λ y. w x y) (λ y. out h.1 x y) (either_field written lent x q))
-given_fits notes V d saved ps vs (Some ty.Handle) written lent v g out w h = (h.0, λ x q. ⊎_elim (λ y. w x y) (λ y. out h.1 x y) (either_field written lent x q))
+given_fits notes V d saved ps vs (Some (ty.Int lo hi div)) written lent v g out w h =
+    (h.0, λ x q. ⊎_elim (λ y. w x y) (λ y. out h.1 x y) (either_field written lent x q))
+given_fits notes V d saved ps vs (Some (ty.Ptr s k n c may)) written lent v g out w h =
+    (h.0, λ x q. ⊎_elim (λ y. w x y) (λ y. out h.1 x y) (either_field written lent x q))
+given_fits notes V d saved ps vs (Some ty.Handle) written lent v g out w h =
+    (h.0, λ x q. ⊎_elim (λ y. w x y) (λ y. out h.1 x y) (either_field written lent x q))
 given_fits notes V d saved ps vs (Some ty.Any) written lent v g out w h = absurd (g ty.Any refl)
 given_fits notes V d saved ps vs (Some (ty.Lin n c)) written lent v g out w h = absurd (g (ty.Lin n c) refl)
 given_fits notes V d saved ps vs (Some (ty.Scaled n c hi)) written lent v g out w h = absurd (g (ty.Scaled n c hi) refl)
@@ -161,24 +156,36 @@ given_fits notes V d saved ps vs (Some (ty.Method q)) written lent v g out w h =
 given_fits notes V d saved ps vs (Some (ty.ThunkAt q)) written lent v g out w h = absurd (g (ty.ThunkAt q) refl)
 given_fits notes V d saved ps vs (Some (ty.Saved q)) written lent v g out w h = absurd (g (ty.Saved q) refl)
 
-module _ (world : World) (a : Config) (f : FunctionFrame) (fs : List Frame) (note : FnNote) (s : State) (st : TopSound world a f fs note s) where
+module _ (world : World) (a : Config) (f : FunctionFrame) (fs : List Frame) (note : FnNote) (s : State)
+    (st : TopSound world a f fs note s) where
   spotted : ℕ → Config
   spotted p = record a { spot = Place p }
 
   -- the frame will fit the state after the call, once it is given what a native call gives
-  native_waits : (p : ℕ) (g : Signature) (h : Handed world.notes note (depth fs) (live_memory world a) s.written st.top.written (same_locals world a f fs note s st) f g.params f.items s.items) → ((t : Ty) → g.result ≡ Some t → IsGiven t)
-      → WillFit world.notes (live_memory world a) a.made (depth fs) f (native_called s g.result (all_lent_out g.params s.items)) a.registers (GivenByNative world.notes g h.args)
+  native_waits : (p : ℕ) (g : Signature) (h : Handed world.notes note (depth fs) (live_memory world a) s.written st.top.written
+      (same_locals world a f fs note s st) f g.params f.items s.items) → ((t : Ty) → g.result ≡ Some t → IsGiven t)
+      → WillFit world.notes (live_memory world a) a.made (depth fs) f (native_called s g.result (all_lent_out g.params s.items)) a.registers
+      (GivenByNative world.notes g h.args)
   native_waits p g h good = record { fits = fits }
     where
-      fits : (V : Memory) (regs : Registers) (c : Bool) → Later (depth fs) (live_memory world a) V → Preserves a.registers regs → GivenByNative world.notes g h.args V (regs 7) → FitsState world.notes V (depth fs) f (native_called s g.result (all_lent_out g.params s.items)) regs c a.made
+      fits : (V : Memory) (regs : Registers) (c : Bool) → Later (depth fs) (live_memory world a) V → Preserves a.registers regs
+          → GivenByNative world.notes g h.args V (regs 7) → FitsState world.notes V (depth fs) f
+          (native_called s g.result (all_lent_out g.params s.items)) regs c a.made
       fits V regs c l keeps given =
-          let old : (r : ℕ) → 0 < r → r < 4 → Fits world.notes V (depth fs) f.saved (type_of s r) (regs r) = λ r q b. subst (Fits world.notes V (depth fs) f.saved (type_of s r)) (sym (keeps r q b)) (fits_later world.notes (depth fs) (live_memory world a) V l f.saved (type_of s r) (a.registers r) (st.top.registers r q (omega (arith, b)))) in
+          let stay = fields_later world.notes (depth fs) (live_memory world a) V l in
+          let old : (r : ℕ) → 0 < r → r < 4 → Fits world.notes V (depth fs) f.saved (type_of s r) (regs r) =
+          λ r q b. subst (Fits world.notes V (depth fs) f.saved (type_of s r)) (sym (keeps r q b))
+          (fits_later world.notes (depth fs) (live_memory world a) V stay f.saved (type_of s r) (a.registers r)
+          (st.top.registers r q (omega (arith, b)))) in
           let was : AreWritten V (depth fs) s.written = λ x q. l.written (depth fs) x (omega arith) (st.top.written x q) in
-          let r = given_fits world.notes V (depth fs) f.saved g.params h.args g.result s.written (all_lent_out g.params s.items) (regs 7) good (h.lent V) was given in
+          let r = given_fits world.notes V (depth fs) f.saved g.params h.args g.result s.written (all_lent_out g.params s.items)
+          (regs 7) good (h.lent V) was given in
           record {
-            registers = λ q i b. after_call (λ j y. Fits world.notes V (depth fs) f.saved y (regs j)) (type_of s 0) (type_of s 1) (type_of s 2) (type_of s 3) (result_type g.result (all_lent_out g.params s.items))
-                (old 1 (omega arith) (omega arith)) (old 2 (omega arith) (omega arith)) (old 3 (omega arith) (omega arith)) tt tt tt r.0 q i b;
-            items = items_later world.notes (depth fs) (live_memory world a) V l f f.items s.items st.top.items;
+            registers = λ q i b. after_call (λ j y. Fits world.notes V (depth fs) f.saved y (regs j)) (type_of s 0) (type_of s 1)
+                (type_of s 2) (type_of s 3) (result_type g.result (all_lent_out g.params s.items))
+                (old 1 (omega arith) (omega arith)) (old 2 (omega arith) (omega arith))
+                (old 3 (omega arith) (omega arith)) tt tt tt r.0 q i b;
+            items = items_later world.notes (depth fs) (live_memory world a) V stay f f.items s.items st.top.items;
             written = r.1;
             made_are = st.top.made_are;
             fact = λ x e. absurd (none-some x e);
@@ -187,7 +194,7 @@ module _ (world : World) (a : Config) (f : FunctionFrame) (fs : List Frame) (not
   -- ---- the target
 
   method_is : (t : Ty) (m : ℕ) → method_of t ≡ Ok m → t ≡ ty.Method m
-  method_is (ty.Method k) m e = ap ty.Method (ok_is k m e)
+  method_is (ty.Method k) m e = ap ty.Method (ok_same k m e)
   method_is ty.Any m e = absurd (err_ok rule.Form m e)
   method_is (ty.Int lo hi div) m e = absurd (err_ok rule.Form m e)
   method_is (ty.Lin n c) m e = absurd (err_ok rule.Form m e)
@@ -204,54 +211,80 @@ module _ (world : World) (a : Config) (f : FunctionFrame) (fs : List Frame) (not
   method_is (ty.Saved q) m e = absurd (err_ok rule.Form m e)
 
   -- the target is the method that the rules find
-  target_is : (far rel : Bool) (op : Operand) (extra : Extra) (m : ℕ) → BesideFits op extra → callee_method world.notes note s far rel op extra ≡ Ok m → (rel ≡ false) × (native_target world a (beside_extra op extra) ≡ Gives (Method m))
+  target_is : (far rel : Bool) (op : Operand) (extra : Extra) (m : ℕ) → BesideFits op extra
+      → callee_method world.notes note s far rel op extra ≡ Ok m → (rel ≡ false)
+      × (native_target world a (beside_extra op extra) ≡ Gives (Method m))
   unfolding callee_method kept_natural
   target_is true rel op extra m b e = absurd (err_ok rule.Form m e)
   target_is false true op extra m b e = absurd (err_ok rule.Form m e)
   target_is false false op extra m b e = (refl, zero_reg (nat_eq op.reg 0) refl e)
     where
       whole : Bool → Bool → Outcome Neutral
-      whole i z = if i then (if z then Stuck else loaded_by world a (Move sizes.Natural) op.reg (extra_pair extra)) else Gives (kept_natural world.notes (live_memory world a).objects (moved_by (base_at a op.reg) (extra_pair extra)))
+      whole i z = if i then (if z then Stuck else loaded_by world a (Move sizes.Natural) op.reg (extra_pair extra))
+          else Gives (kept_natural world.notes (live_memory world a).objects (moved_by (base_at a op.reg) (extra_pair extra)))
 
-      memory : op.indirect ≡ true → nat_eq op.reg 0 ≡ false → steps.◌>>=◌ (load_at world.notes note s access.Natural op.reg (extra_distance extra)) loaded_method ≡ Ok m → whole op.indirect (nat_eq op.reg 0) ≡ Gives (Method m)
-      memory g z e = then_ok (load_at world.notes note s access.Natural op.reg (extra_distance extra)) loaded_method m e (λ t e1 e2. made t t.made refl e1 e2)
+      memory : op.indirect ≡ true → nat_eq op.reg 0 ≡ false → steps.◌>>=◌
+          (load_at world.notes note s access.Natural op.reg (extra_distance extra)) loaded_method ≡ Ok m
+          → whole op.indirect (nat_eq op.reg 0) ≡ Gives (Method m)
+      memory g z e = then_ok (load_at world.notes note s access.Natural op.reg (extra_distance extra)) loaded_method m e
+          (λ t e1 e2. made t t.made refl e1 e2)
         where
-          made : (t : Loaded) (j : Bool) → t.made ≡ j → load_at world.notes note s access.Natural op.reg (extra_distance extra) ≡ Ok t → (if j then method_of t.ty else Err rule.Thunk) ≡ Ok m → whole op.indirect (nat_eq op.reg 0) ≡ Gives (Method m)
+          made : (t : Loaded) (j : Bool) → t.made ≡ j → load_at world.notes note s access.Natural op.reg (extra_distance extra) ≡ Ok t
+              → (if j then method_of t.ty else Err rule.Thunk) ≡ Ok m → whole op.indirect (nat_eq op.reg 0) ≡ Gives (Method m)
           made t false q e1 e2 = absurd (err_ok rule.Thunk m e2)
           made t true q e1 e2 =
               let n = b.memory g in
-              let r = load_fits world a f fs note s st (Move sizes.Natural) op.reg (extra_pair extra) (extra_distance extra) t b.register n.0 n.1 e1 q in
-              let v : r.value ≡ Method m = subst (λ y. Fits world.notes (live_memory world a) (depth fs) f.saved y r.value) (method_is t.ty m e2) r.fits in
+              let r = load_fits world a f fs note s st (Move sizes.Natural) op.reg (extra_pair extra)
+              (extra_distance extra) t b.register n.0 n.1 e1 q in
+              let v : r.value ≡ Method m = subst (λ y. Fits world.notes (live_memory world a) (depth fs) f.saved y r.value)
+              (method_is t.ty m e2) r.fits in
               ap₂ whole g z ∙ r.loaded ∙ ap Gives v
 
-      direct : (extra : Extra) → op.indirect ≡ false → nat_eq op.reg 0 ≡ false → direct_method s op.reg extra ≡ Ok m → (if op.indirect then (if nat_eq op.reg 0 then Stuck else loaded_by world a (Move sizes.Natural) op.reg (extra_pair extra)) else Gives (kept_natural world.notes (live_memory world a).objects (moved_by (base_at a op.reg) (extra_pair extra)))) ≡ Gives (Method m)
+      direct : (extra : Extra) → op.indirect ≡ false → nat_eq op.reg 0 ≡ false → direct_method s op.reg extra ≡ Ok m
+          → (if op.indirect then (if nat_eq op.reg 0 then Stuck else loaded_by world a (Move sizes.Natural) op.reg (extra_pair extra))
+          else Gives (kept_natural world.notes (live_memory world a).objects (moved_by (base_at a op.reg) (extra_pair extra)))) ≡ Gives
+          (Method m)
       direct Nothing g z e =
-          let v : a.registers op.reg ≡ Method m = subst (λ y. Fits world.notes (live_memory world a) (depth fs) f.saved y (a.registers op.reg)) (method_is (type_of s op.reg) m e) (register_fits world a f fs note s st op.reg (eqb-false op.reg 0 z) b.register) in
-          ap (λ i. if i then (if nat_eq op.reg 0 then Stuck else loaded_by world a (Move sizes.Natural) op.reg None) else Gives (kept_natural world.notes (live_memory world a).objects (base_at a op.reg))) g
-          ∙ ap (λ i. Gives (kept_natural world.notes (live_memory world a).objects (if i then null else a.registers op.reg))) z ∙ ap (λ x. Gives (kept_natural world.notes (live_memory world a).objects x)) v
+          let v : a.registers op.reg ≡ Method m = subst (λ y. Fits world.notes (live_memory world a) (depth fs) f.saved y
+          (a.registers op.reg)) (method_is (type_of s op.reg) m e)
+          (register_fits world a f fs note s st op.reg (eqb-false op.reg 0 z) b.register) in
+          ap (λ i. if i then (if nat_eq op.reg 0 then Stuck else loaded_by world a (Move sizes.Natural) op.reg None)
+          else Gives (kept_natural world.notes (live_memory world a).objects (base_at a op.reg))) g
+          ∙ ap (λ i. Gives (kept_natural world.notes (live_memory world a).objects (if i then null else a.registers op.reg))) z
+          ∙ ap (λ x. Gives (kept_natural world.notes (live_memory world a).objects x)) v
       direct (Imm v) g z e = absurd (err_ok rule.Form m e)
       direct (Idx i) g z e = absurd (err_ok rule.Form m e)
 
-      side : (j : Bool) → op.indirect ≡ j → nat_eq op.reg 0 ≡ false → (if j then steps.◌>>=◌ (load_at world.notes note s access.Natural op.reg (extra_distance extra)) loaded_method else direct_method s op.reg extra) ≡ Ok m → whole op.indirect (nat_eq op.reg 0) ≡ Gives (Method m)
+      side : (j : Bool) → op.indirect ≡ j → nat_eq op.reg 0 ≡ false
+          → (if j then steps.◌>>=◌ (load_at world.notes note s access.Natural op.reg (extra_distance extra)) loaded_method
+          else direct_method s op.reg extra) ≡ Ok m → whole op.indirect (nat_eq op.reg 0) ≡ Gives (Method m)
       side true g z e = memory g z e
       side false g z e = direct extra g z e
 
-      zero_reg : (j : Bool) → nat_eq op.reg 0 ≡ j → (if j then Err rule.Form else (if op.indirect then steps.◌>>=◌ (load_at world.notes note s access.Natural op.reg (extra_distance extra)) loaded_method else direct_method s op.reg extra)) ≡ Ok m → whole op.indirect (nat_eq op.reg 0) ≡ Gives (Method m)
+      zero_reg : (j : Bool) → nat_eq op.reg 0 ≡ j → (if j then Err rule.Form
+          else (if op.indirect then steps.◌>>=◌ (load_at world.notes note s access.Natural op.reg (extra_distance extra)) loaded_method
+          else direct_method s op.reg extra)) ≡ Ok m → whole op.indirect (nat_eq op.reg 0) ≡ Gives (Method m)
       zero_reg true z e = absurd (err_ok rule.Form m e)
       zero_reg false z e = side op.indirect refl z e
 
   -- ---- CALLEX
 
-  pub native_fits : (site : Site) (far rel : Bool) (op : Operand) (extra : Extra) (x : Successors) → BesideFits op extra → (x.fall ≡ None) ⊎ (site.next < world.image_size) → rules_calls.call_native_row world.notes note (here_of site f.func) s far rel op extra ≡ Ok x
-      → Accepts (λ (y : NeutralEnd × Config). (v : Neutral) × (y.0 ≡ Native v) × Asks world site x a f fs v y.1) (call_native_row world a site.next rel (beside_extra op extra))
+  pub native_fits : (site : Site) (far rel : Bool) (op : Operand) (extra : Extra) (x : Successors) → BesideFits op extra → (x.fall ≡ None)
+      ⊎ (site.next < world.image_size) → rules_calls.call_native_row world.notes note (here_of site f.func) s far rel op extra ≡ Ok x
+      → Accepts (λ (y : NeutralEnd × Config). (v : Neutral) × (y.0 ≡ Native v) × Asks world site x a f fs v y.1)
+      (call_native_row world a site.next rel (beside_extra op extra))
   unfolding call_native_row rules_calls.call_native_row native_call spotted
   native_fits site far rel op extra x b inside e =
       then_ok (callee_method world.notes note s far rel op extra) _ x e (λ m e1 e2.
       then_ok (or_else rule.Site (signature_at world.notes site.place m)) (native_call world.notes note s) x e2 (λ g e3 e4.
       some_ok rule.Site (signature_at world.notes site.place m) g e3 (λ e5.
-      also_ok (Ok (falls (native_called s g.result (all_lent_out g.params s.items)))) (both (needs rule.Thunk (all_made world.notes s)) (native_arguments (local_fields world.notes note) s.written g.params s.items)) x e4 (λ e6 e7.
-      let q = both_none (needs rule.Thunk (all_made world.notes s)) (native_arguments (local_fields world.notes note) s.written g.params s.items) e7 in
-      goal m g (target_is far rel op extra m b e1) (signature_found world.notes site.place m g e5) (needs_true rule.Thunk _ q.0) q.1 (falls_is _ x e6)))))
+      also_ok (Ok (falls (native_called s g.result (all_lent_out g.params s.items))))
+      (both (needs rule.Thunk (all_made world.notes s)) (native_arguments
+      (local_fields world.notes note) s.written g.params s.items)) x e4 (λ e6 e7.
+      let q = both_none (needs rule.Thunk (all_made world.notes s))
+      (native_arguments (local_fields world.notes note) s.written g.params s.items) e7 in
+      goal m g (target_is far rel op extra m b e1) (signature_found world.notes site.place m g e5) (needs_true rule.Thunk _ q.0) q.1
+      (falls_is _ x e6)))))
     where
       falls_is : (y x : Successors) → ◌≡◌ {A = Result Successors RuleName} (Ok y) (Ok x) → y ≡ x
       falls_is y x e = cc
@@ -259,16 +292,25 @@ module _ (world : World) (a : Config) (f : FunctionFrame) (fs : List Frame) (not
       Goal : Outcome (NeutralEnd × Config) → Type 0
       Goal o = Accepts (λ (y : NeutralEnd × Config). (v : Neutral) × (y.0 ≡ Native v) × Asks world site x a f fs v y.1) o
 
-      goal : (m : ℕ) (g : Signature) → (rel ≡ false) × (native_target world a (beside_extra op extra) ≡ Gives (Method m)) → SignatureFound world.notes site.place m g → all_made world.notes s ≡ true → native_arguments (local_fields world.notes note) s.written g.params s.items ≡ None → falls (native_called s g.result (all_lent_out g.params s.items)) ≡ x
-          → Goal (if rel then Stuck else (native_target world a (beside_extra op extra) >>= (λ v. at_place world a site.next >>= (λ b. Gives (Native v, b)))))
+      goal : (m : ℕ) (g : Signature) → (rel ≡ false) × (native_target world a (beside_extra op extra) ≡ Gives (Method m))
+          → SignatureFound world.notes site.place m g → all_made world.notes s ≡ true
+          → native_arguments (local_fields world.notes note) s.written g.params s.items ≡ None
+          → falls (native_called s g.result (all_lent_out g.params s.items)) ≡ x
+          → Goal (if rel then Stuck else (native_target world a
+          (beside_extra op extra) >>= (λ v. at_place world a site.next >>= (λ b. Gives (Native v, b)))))
       goal m g t found made args out =
           let sig = st.typed.notes.signatures found.number g found.there in
-          let h = arguments_handed world.notes note (depth fs) (live_memory world a) s.written st.top.written (same_locals world a f fs note s st) f g.params f.items s.items sig.params st.state.slots (top_keeps world a f fs note s st).0.slots args st.top.items in
+          let h = arguments_handed world.notes note (depth fs) (live_memory world a) s.written st.top.written
+          (same_locals world a f fs note s st) f g.params f.items s.items sig.params st.state.slots
+          (top_keeps world a f fs note s st).0.slots args st.top.items in
           let good : (t : Ty) → g.result ≡ Some t → IsGiven t = λ t q. result_given g.result sig_result t q in
-          let next_in : site.next < world.image_size = ⊎_elim (λ q. absurd (none-some _ (sym q ∙ ap (λ (y : Successors). y.fall) (sym out)))) (λ q. q) inside in
-          subst (λ i. Goal (if i then Stuck else (native_target world a (beside_extra op extra) >>= (λ v. at_place world a site.next >>= (λ b. Gives (Native v, b)))))) (sym t.0)
+          let next_in : site.next < world.image_size = ⊎_elim (λ q. absurd
+          (none-some _ (sym q ∙ ap (λ (y : Successors). y.fall) (sym out)))) (λ q. q) inside in
+          subst (λ i. Goal (if i then Stuck else (native_target world a
+          (beside_extra op extra) >>= (λ v. at_place world a site.next >>= (λ b. Gives (Native v, b)))))) (sym t.0)
           (subst (λ o. Goal (o >>= (λ v. at_place world a site.next >>= (λ b. Gives (Native v, b))))) (sym t.1)
-          (subst (λ i. Goal ((if i then Gives (spotted site.next) else Stuck) >>= (λ b. Gives (Native (Method m), b)))) (sym (lt-ltb site.next world.image_size next_in)) (
+          (subst (λ i. Goal ((if i then Gives (spotted site.next) else Stuck) >>= (λ b. Gives (Native (Method m), b))))
+          (sym (lt-ltb site.next world.image_size next_in)) (
             Method m,
             refl,
             record {
@@ -286,7 +328,9 @@ module _ (world : World) (a : Config) (f : FunctionFrame) (fs : List Frame) (not
               sound = record { cells = st.below.cells; frames = st.below.frames; few = st.below.few };
               state = native_called s g.result (all_lent_out g.params s.items);
               falls = ap (λ (y : Successors). y.fall) (sym out);
-              fresh = called_fresh s (result_type g.result (all_lent_out g.params s.items)) (written_after g.result s.written (all_lent_out g.params s.items)) (λ i. result_unsaved g.result (all_lent_out g.params s.items) i good);
+              fresh = called_fresh s (result_type g.result (all_lent_out g.params s.items))
+                  (written_after g.result s.written (all_lent_out g.params s.items))
+                  (λ i. result_unsaved g.result (all_lent_out g.params s.items) i good);
               waits = native_waits site.next g h good;
             },
           )))
@@ -304,11 +348,18 @@ module _ (world : World) (a : Config) (f : FunctionFrame) (fs : List Frame) (not
   thunks_more func l (inl e) = inl e
   thunks_more func l (inr e) = absurd (omega (arith, l, e))
 
-  frames_more : (m : Memory) (gs : List Frame) → a.made < length world.notes.thunk → FramesKeep world m a.made gs → FramesKeep world m (suc a.made) gs
+  frames_more : (m : Memory) (gs : List Frame) → a.made < length world.notes.thunk → FramesKeep world m a.made gs
+      → FramesKeep world m (suc a.made) gs
   frames_more m [] l h = tt
   frames_more m (Host t ∷ gs) l h = (h.0, frames_more m gs l h.1)
-  frames_more m (Function t ∷ gs) l h =
-      ((h.0.0, record { there = h.0.1.there; within = h.0.1.within; slots = h.0.1.slots; thunks = thunks_more t.func l h.0.1.thunks }, h.0.2), frames_more m gs l h.1)
+  frames_more m (Function t ∷ gs) l h = (
+    (
+      h.0.0,
+      record { there = h.0.1.there; within = h.0.1.within; slots = h.0.1.slots; thunks = thunks_more t.func l h.0.1.thunks },
+      h.0.2,
+    ),
+    frames_more m gs l h.1,
+  )
 
   one_more : ℕ → Config
   one_more p = record a { spot = Place p; made = suc a.made }
@@ -326,8 +377,10 @@ module _ (world : World) (a : Config) (f : FunctionFrame) (fs : List Frame) (not
     below = record { cells = st.below.cells; frames = frames_more (live_memory world a) a.frames l st.below.frames; few = st.below.few };
   }
 
-  pub break_fits : (site : Site) (code : ℕ) (x : Successors) → (x.fall ≡ None) ⊎ (site.next < world.image_size) → break_row world.notes s code ≡ Ok x
-      → Accepts (λ (y : NeutralEnd × Config). (n : ℕ) × (y.0 ≡ MakeThunk n) × Makes world site x a f fs n y.1) (rows.break_row world a site.next code)
+  pub break_fits : (site : Site) (code : ℕ) (x : Successors) → (x.fall ≡ None) ⊎ (site.next < world.image_size)
+      → break_row world.notes s code ≡ Ok x
+      → Accepts (λ (y : NeutralEnd × Config). (n : ℕ) × (y.0 ≡ MakeThunk n) × Makes world site x a f fs n y.1)
+      (rows.break_row world a site.next code)
   unfolding break_row rows.break_row spotted one_more
   break_fits site code x inside e = go (nat_eq code 5) refl e
     where
@@ -337,15 +390,21 @@ module _ (world : World) (a : Config) (f : FunctionFrame) (fs : List Frame) (not
       falls_is : (y x : Successors) → ◌≡◌ {A = Result Successors RuleName} (Ok y) (Ok x) → y ≡ x
       falls_is y x e = cc
 
-      made : (i : ℕ) → type_of s 7 ≡ ty.ThunkAt i → (nat_eq i s.made && nat_lt i (length world.notes.thunk)) ≡ true → falls (with_thunk s) ≡ x → Goal (rows.break_row world a site.next 5)
+      made : (i : ℕ) → type_of s 7 ≡ ty.ThunkAt i → (nat_eq i s.made && nat_lt i (length world.notes.thunk)) ≡ true
+          → falls (with_thunk s) ≡ x → Goal (rows.break_row world a site.next 5)
       made i t q out =
           let p = and_parts (nat_eq i s.made) (nat_lt i (length world.notes.thunk)) q in
           let e1 : i ≡ a.made = eqb-true i s.made p.0 ∙ sym st.top.made_are in
           let l : a.made < length world.notes.thunk = (let y = ltb-true i (length world.notes.thunk) p.1 in omega (arith, y, e1)) in
-          let v : a.registers 7 ≡ At (ThunkOf i) 0 0 = subst (λ y. Fits world.notes (live_memory world a) (depth fs) f.saved y (a.registers 7)) t (st.top.registers 7 (omega arith) (omega arith)) in
-          let next_in : site.next < world.image_size = ⊎_elim (λ q. absurd (none-some _ (sym q ∙ ap (λ (y : Successors). y.fall) (sym out)))) (λ q. q) inside in
-          subst (λ o. Goal (or_stuck o >>= (λ i. at_place world a site.next >>= (λ b. Gives (MakeThunk i, b))))) (sym (ap (next_thunk a) v ∙ ap (λ b. if b then Some i else None) (and_from (nat_eq i a.made) (nat_eq 0 0 && nat_eq 0 0) (eq-eqb i a.made e1) refl)))
-          (subst (λ b. Goal ((if b then Gives (spotted site.next) else Stuck) >>= (λ b. Gives (MakeThunk i, b)))) (sym (lt-ltb site.next world.image_size next_in)) (
+          let v : a.registers 7 ≡ At (ThunkOf i) 0 0 = subst (λ y. Fits world.notes (live_memory world a) (depth fs) f.saved y
+          (a.registers 7)) t (st.top.registers 7 (omega arith) (omega arith)) in
+          let next_in : site.next < world.image_size = ⊎_elim (λ q. absurd
+          (none-some _ (sym q ∙ ap (λ (y : Successors). y.fall) (sym out)))) (λ q. q) inside in
+          subst (λ o. Goal (or_stuck o >>= (λ i. at_place world a site.next >>= (λ b. Gives (MakeThunk i, b)))))
+          (sym (ap (next_thunk a) v ∙ ap (λ b. if b then Some i else None)
+          (and_from (nat_eq i a.made) (nat_eq 0 0 && nat_eq 0 0) (eq-eqb i a.made e1) refl)))
+          (subst (λ b. Goal ((if b then Gives (spotted site.next) else Stuck) >>= (λ b. Gives (MakeThunk i, b))))
+          (sym (lt-ltb site.next world.image_size next_in)) (
             i,
             refl,
             record {
@@ -360,7 +419,8 @@ module _ (world : World) (a : Config) (f : FunctionFrame) (fs : List Frame) (not
             },
           ))
 
-      thunk : (t : Ty) → type_of s 7 ≡ t → (b : Bool) → is_next_thunk world.notes s t ≡ b → (if b then Ok (falls (with_thunk s)) else Err rule.Thunk) ≡ Ok x → Goal (rows.break_row world a site.next 5)
+      thunk : (t : Ty) → type_of s 7 ≡ t → (b : Bool) → is_next_thunk world.notes s t ≡ b
+          → (if b then Ok (falls (with_thunk s)) else Err rule.Thunk) ≡ Ok x → Goal (rows.break_row world a site.next 5)
       thunk t h false q e = absurd (err_ok rule.Thunk x e)
       thunk (ty.ThunkAt i) h true q e = made i h q (falls_is _ x e)
       thunk ty.Any h true q e = absurd (false≢true q)
@@ -378,6 +438,8 @@ module _ (world : World) (a : Config) (f : FunctionFrame) (fs : List Frame) (not
       thunk (ty.Method k) h true q e = absurd (false≢true q)
       thunk (ty.Saved k) h true q e = absurd (false≢true q)
 
-      go : (b : Bool) → nat_eq code 5 ≡ b → (if b then (if is_next_thunk world.notes s (type_of s 7) then Ok (falls (with_thunk s)) else Err rule.Thunk) else Err rule.Form) ≡ Ok x → Goal (rows.break_row world a site.next code)
+      go : (b : Bool) → nat_eq code 5 ≡ b → (if b then (if is_next_thunk world.notes s (type_of s 7) then Ok (falls (with_thunk s))
+          else Err rule.Thunk) else Err rule.Form) ≡ Ok x → Goal (rows.break_row world a site.next code)
       go false q e = absurd (err_ok rule.Form x e)
-      go true q e = subst (λ c. Goal (rows.break_row world a site.next c)) (sym (eqb-true code 5 q)) (thunk (type_of s 7) refl (is_next_thunk world.notes s (type_of s 7)) refl e)
+      go true q e = subst (λ c. Goal (rows.break_row world a site.next c)) (sym (eqb-true code 5 q))
+          (thunk (type_of s 7) refl (is_next_thunk world.notes s (type_of s 7)) refl e)

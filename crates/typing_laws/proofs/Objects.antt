@@ -1,5 +1,6 @@
 -- Typed objects: small ones of well-formed shapes, and where their instances start.
-use Rattle.std.proofs.Common.{◌≡◌, ℕ, zero, suc, ◌+◌, ◌*◌, ◌/◌, ◌^◌, ◌<◌, ◌≤◌, true, ◌&&◌, if◌then◌else◌, nat_lt, nat_eq, List, [], ◌∷◌, length, Option, Some, None, slice_get, refl, ap, ap₂, ◌∙◌, subst, arith, pos}
+use Rattle.std.proofs.Common.{◌≡◌, ℕ, suc, ◌+◌, ◌*◌, ◌/◌, ◌^◌, ◌<◌, ◌≤◌, true, ◌&&◌, if◌then◌else◌, nat_lt, nat_eq, List, ◌∷◌, Option, Some}
+use Rattle.std.proofs.Common.{None, slice_get, ap, ap₂, ◌∙◌, subst, arith, pos}
 use Rattle.std.proofs.Math.Nat.{mul-le-mul_right}
 use Rattle.std.proofs.lemmas.Bool.{lt-ltb, eq-eqb, and_from}
 use Rattle.std.proofs.lemmas.Nat.{div-mul-add}
@@ -7,22 +8,18 @@ use Rattle.ebc_width.specs.Width.{wrap64}
 use Rattle.note_types.specs.Shapes.{IsShape, size_at}
 use Rattle.note_types.specs.declared.notes.Notes.{Notes}
 use Rattle.note_types.specs.declared.shape.Shape.{Shape}
-use Rattle.run_types.specs.Values.{ObjectOf, Neutral, At, word}
-use Rattle.run_types.specs.Objects.{shape_of}
-use Rattle.run_types.specs.declared.object.TypedObject.{TypedObject}
-use Rattle.run_types.specs.Placements.{object_bytes}
-use Rattle.run_types.specs.Fits.{IsPointer}
-use Rattle.run_types.specs.Operations.{Instance, instance_at, starts_if, instance_of, extent_if, is_kept_at}
+use Rattle.host_model.specs.Values.{ObjectOf, Neutral, At, word}
+use Rattle.host_model.specs.Objects.{shape_of}
+use Rattle.host_model.specs.declared.object.TypedObject.{TypedObject}
+use Rattle.host_model.specs.Placements.{object_bytes}
+use Rattle.neutral_machine.specs.Fits.{IsPointer}
+use Rattle.neutral_machine.specs.Operations.{Instance, instance_at, starts_if, instance_of, extent_if, is_kept_at}
+use Rattle.ebc_base.proofs.Lists.{within_some}
 
 -- objects have well-formed shapes and are small
 pub record ObjectsFit (notes : Notes) (objects : List TypedObject) : Type 0 where
   pub shaped : (k : ℕ) (o : TypedObject) → slice_get objects k ≡ Some o → IsShape (shape_of notes o.shape)
   pub small : (k : ℕ) (o : TypedObject) → slice_get objects k ≡ Some o → object_bytes 8 notes o < 2 ^ 32
-
-pub there : {A : Type 0} (xs : List A) (k : ℕ) → k < length xs → (x : A) × (slice_get xs k ≡ Some x)
-there [] k h = absurd (omega arith)
-there (x ∷ xs) zero h = (x, refl)
-there (x ∷ xs) (suc k) h = there xs k (omega arith)
 
 -- ---- the start of an instance
 
@@ -66,7 +63,8 @@ module _ (notes : Notes) (objects : List TypedObject) (ok : ObjectsFit notes obj
   start_is s count v l f =
       let S = shape_of notes s in
       let well : IsShape S = subst (λ i. IsShape (shape_of notes i)) f.shape (ok.shaped f.k f.object f.there) in
-      let small : f.object.count * size_at 8 S < 2 ^ 32 = subst (λ i. f.object.count * size_at 8 (shape_of notes i) < 2 ^ 32) f.shape (ok.small f.k f.object f.there) in
+      let small : f.object.count * size_at 8 S < 2 ^ 32 = subst (λ i. f.object.count * size_at 8 (shape_of notes i) < 2 ^ 32) f.shape
+      (ok.small f.k f.object f.there) in
       let st = start_of f.j f.object.count S.n S.c (omega (arith, f.room, l)) well.at4.positive small in
       record {
         k = f.k;
@@ -75,40 +73,48 @@ module _ (notes : Notes) (objects : List TypedObject) (ok : ObjectsFit notes obj
         there = f.there;
         shape = f.shape;
         room = f.room;
-        is = f.is ∙ ap₂ (At (ObjectOf f.k)) (let e : word (f.j * S.n + wrap64 (pos 0)) ≡ f.j * S.n = omega (arith, st.units) in e) (let e : word (f.j * S.c + wrap64 (pos 0)) ≡ f.j * S.c = omega (arith, st.bytes) in e);
+        is = f.is ∙ ap₂ (At (ObjectOf f.k)) (let e : word (f.j * S.n + wrap64 (pos 0)) ≡ f.j * S.n = omega (arith, st.units) in e)
+            (let e : word (f.j * S.c + wrap64 (pos 0)) ≡ f.j * S.c = omega (arith, st.bytes) in e);
         start = st;
         positive = well.at4.positive;
       }
 
   -- natural size keeps it
-  pub start_kept : (s count : ℕ) (v : Neutral) (q : Start s count v) → is_kept_at notes objects (ObjectOf q.k) (q.j * (shape_of notes s).n) (q.j * (shape_of notes s).c) ≡ true
+  pub start_kept : (s count : ℕ) (v : Neutral) (q : Start s count v)
+      → is_kept_at notes objects (ObjectOf q.k) (q.j * (shape_of notes s).n) (q.j * (shape_of notes s).c) ≡ true
   start_kept s count v q =
-      let e : extent_if notes (slice_get objects q.k) ≡ q.object.count * size_at 4 (shape_of notes s) = ap (extent_if notes) q.there ∙ ap (λ i. q.object.count * size_at 4 (shape_of notes i)) q.shape in
+      let e : extent_if notes (slice_get objects q.k) ≡ q.object.count * size_at 4 (shape_of notes s) = ap (extent_if notes) q.there
+      ∙ ap (λ i. q.object.count * size_at 4 (shape_of notes i)) q.shape in
       lt-ltb _ _ (omega (arith, e, q.start.inside, q.start.most))
 
   -- it is the start of that instance
-  pub instance_is : (s count : ℕ) (v : Neutral) (q : Start s count v) → 1 ≤ count → instance_of notes objects v ≡ Some (record { object = q.k; instance = q.j })
+  pub instance_is : (s count : ℕ) (v : Neutral) (q : Start s count v) → 1 ≤ count
+      → instance_of notes objects v ≡ Some (record { object = q.k; instance = q.j })
   unfolding instance_of
   instance_is s count v q l =
       ap (instance_of notes objects) q.is ∙ ap (starts_if notes q.k (q.j * (shape_of notes s).n) (q.j * (shape_of notes s).c)) q.there
-      ∙ ap (λ i. body (shape_of notes i)) q.shape ∙ ap found (quotient q.j (shape_of notes s).n (shape_of notes s).c q.positive (omega (arith, q.start.inside, q.start.most)))
+      ∙ ap (λ i. body (shape_of notes i)) q.shape ∙ ap found (quotient q.j (shape_of notes s).n (shape_of notes s).c q.positive
+      (omega (arith, q.start.inside, q.start.most)))
       ∙ ap (λ b. if b then Some (record { object = q.k; instance = q.j }) else None) yes_found
     where
       body : Shape → Option Instance
       body z =
           let i = instance_at z (q.j * (shape_of notes s).n) (q.j * (shape_of notes s).c) in
-          if nat_lt i q.object.count && (nat_eq (q.j * (shape_of notes s).n) (word (i * z.n)) && nat_eq (q.j * (shape_of notes s).c) (word (i * z.c))) then Some (record { object = q.k; instance = i }) else None
+          if nat_lt i q.object.count && (nat_eq (q.j * (shape_of notes s).n) (word (i * z.n))
+          && nat_eq (q.j * (shape_of notes s).c) (word (i * z.c))) then Some (record { object = q.k; instance = i }) else None
 
       found : ℕ → Option Instance
       found i =
-          if nat_lt i q.object.count && (nat_eq (q.j * (shape_of notes s).n) (word (i * (shape_of notes s).n)) && nat_eq (q.j * (shape_of notes s).c) (word (i * (shape_of notes s).c))) then Some (record { object = q.k; instance = i }) else None
+          if nat_lt i q.object.count && (nat_eq (q.j * (shape_of notes s).n) (word (i * (shape_of notes s).n))
+          && nat_eq (q.j * (shape_of notes s).c) (word (i * (shape_of notes s).c))) then Some (record { object = q.k; instance = i })
+          else None
 
       same_word : (x : ℕ) → x < 2 ^ 32 → nat_eq x (word x) ≡ true
       same_word x l = eq-eqb x (word x) (omega (arith, l))
 
-      yes_found : (nat_lt q.j q.object.count && (nat_eq (q.j * (shape_of notes s).n) (word (q.j * (shape_of notes s).n)) && nat_eq (q.j * (shape_of notes s).c) (word (q.j * (shape_of notes s).c)))) ≡ true
-      yes_found =
-          and_from _ _ (lt-ltb q.j q.object.count (omega (arith, q.room, l)))
+      yes_found : (nat_lt q.j q.object.count && (nat_eq (q.j * (shape_of notes s).n) (word (q.j * (shape_of notes s).n))
+          && nat_eq (q.j * (shape_of notes s).c) (word (q.j * (shape_of notes s).c)))) ≡ true
+      yes_found = and_from _ _ (lt-ltb q.j q.object.count (omega (arith, q.room, l)))
           (and_from _ _ (same_word (q.j * (shape_of notes s).n) q.start.units) (same_word (q.j * (shape_of notes s).c) q.start.bytes))
 
       quotient : (j n c : ℕ) → 0 < n * 4 + c → j * n * 4 + j * c < 2 ^ 32 → word (j * n * 4 + j * c) / (n * 4 + c) ≡ j

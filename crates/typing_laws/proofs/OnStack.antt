@@ -1,5 +1,7 @@
 -- What the rules say that lies on the stack is what the neutral machine finds there: a local field or a parameter.
-use Rattle.std.proofs.Common.{◌≡◌, ℕ, suc, ◌+◌, ◌-◌, ◌<◌, ◌≤◌, ◌⊎◌, Bool, true, false, ◌&&◌, if◌then◌else◌, nat_lt, nat_le, nat_eq, List, [], ◌∷◌, Option, Some, None, slice_get, refl, sym, ap, ◌∙◌, arith, inl, inr, ⊎_elim, option_map, option_and_then, pos}
+use Rattle.std.proofs.Common.{◌≡◌, ℕ, suc, ◌+◌, ◌-◌, ◌<◌, ◌≤◌, ◌⊎◌, Bool, true, false, ◌&&◌, if◌then◌else◌, nat_lt, nat_le, nat_eq, List}
+use Rattle.std.proofs.Common.{[], ◌∷◌, Option, Some, None, slice_get, refl, sym, ap, ◌∙◌, arith, inl, inr, ⊎_elim, option_map}
+use Rattle.std.proofs.Common.{option_and_then, pos}
 use Rattle.std.specs.List.{AllZip}
 use Rattle.std.proofs.lemmas.Bool.{leb-true, eq-eqb, and_from, and_parts, eqb-true, true≢false, cases_Bool}
 use Rattle.std.proofs.lemmas.Option.{same_Some, none-some}
@@ -18,27 +20,30 @@ use Rattle.rules_base.specs.declared.place.Place.{Place}
 use Rattle.rules_base.specs.declared.place.Place.TheVariants as place
 use Rattle.std.specs.Option.{option_or}
 use Rattle.rules_base.specs.Parts.{and_then}
-use Rattle.rules_base.specs.Places.{cell_of, field_at, local_at, past, slot_size, stack_at}
+use Rattle.rules_base.specs.Places.{cell_of, local_at, past, slot_size, stack_at, field_number_at}
 use Rattle.rules_base.specs.Places as rules
-use Rattle.run_types.specs.Values.{Neutral, FieldOfLocals}
-use Rattle.run_types.specs.Config.{StackItem, Pushed, LocalsOf, FunctionFrame}
-use Rattle.run_types.specs.World.{frame_locals}
-use Rattle.run_types.specs.Memory.{Memory}
-use Rattle.run_types.specs.Fits.{Fits}
-use Rattle.run_types.specs.FitsState.{ItemFits}
+use Rattle.host_model.specs.Values.{Neutral, FieldOfLocals}
+use Rattle.neutral_machine.specs.Config.{StackItem, Pushed, LocalsOf, FunctionFrame}
+use Rattle.host_model.specs.World.{frame_locals}
+use Rattle.neutral_machine.specs.Memory.{Memory}
+use Rattle.neutral_machine.specs.Fits.{Fits}
+use Rattle.neutral_machine.specs.FitsState.{ItemFits}
 use Rattle.typed_runs.specs.Sound.{ParamFits}
-use Rattle.run_types.specs.Locations.{Location, CellAt, ParamAt, Offset, find_field, item_units, item_bytes, parameter_at, located_among}
+use Rattle.neutral_machine.specs.Locations.{Location, CellAt, ParamAt, Offset, find_field, item_units, item_bytes, parameter_at}
+use Rattle.neutral_machine.specs.Locations.{located_among}
 use Rattle.typing_laws.proofs.Rows.{then_some, if_some}
 use Rattle.typing_laws.proofs.Located.{find_first, cell_positive}
 use Rattle.typing_laws.proofs.Pointed.{FieldFound, field_found, CellThere}
 
 -- no field meets a test
-find_none : (t : Field → Bool) (f : ℕ) (xs : List Field) → ((k : ℕ) (y : Field) → slice_get xs k ≡ Some y → t y ≡ false) → find_field t f xs ≡ None
+find_none : (t : Field → Bool) (f : ℕ) (xs : List Field) → ((k : ℕ) (y : Field) → slice_get xs k ≡ Some y → t y ≡ false)
+    → find_field t f xs ≡ None
 find_none t f [] u = refl
 find_none t f (x ∷ xs) u =
     ap (λ b. if b then Some f else find_field t (suc f) xs) (u 0 x refl) ∙ find_none t (suc f) xs (λ k y g. u (suc k) y g)
 
-pub units_are : (k l : SlotKind) (v : Neutral) → k ≡ l → (item_units (Pushed k v) ≡ (slot_size l).n) × (item_bytes (Pushed k v) ≡ (slot_size l).c)
+pub units_are : (k l : SlotKind) (v : Neutral) → k ≡ l → (item_units (Pushed k v) ≡ (slot_size l).n)
+    × (item_bytes (Pushed k v) ≡ (slot_size l).c)
 units_are N N v e = (refl, refl)
 units_are Q Q v e = (refl, refl)
 units_are D D v e = (refl, refl)
@@ -53,7 +58,8 @@ same_pos : (a b : ℕ) → pos a ≡ pos b → a ≡ b
 same_pos a b e = cc
 
 -- what lies past a size
-past_some : {P : Type 0} (size : Pair) (n c : ℕ) (rest : ℕ → ℕ → Option Place) (p : Place) → past size n c rest ≡ Some p → (size.n ≤ n → size.c ≤ c → rest (n - size.n) (c - size.c) ≡ Some p → P) → P
+past_some : {P : Type 0} (size : Pair) (n c : ℕ) (rest : ℕ → ℕ → Option Place) (p : Place) → past size n c rest ≡ Some p
+    → (size.n ≤ n → size.c ≤ c → rest (n - size.n) (c - size.c) ≡ Some p → P) → P
 past_some {P} size n c rest p h k = go (nat_le size.n n && nat_le size.c c) refl h
   where
     go : (b : Bool) → (nat_le size.n n && nat_le size.c c) ≡ b → (if b then rest (n - size.n) (c - size.c) else None) ≡ Some p → P
@@ -80,20 +86,29 @@ module _ (notes : Notes) (m : Memory) (d : ℕ) (f : FunctionFrame) (Good : Para
     pub fits : Fits notes m d f.saved param.ty value
     pub good : Good param
 
-  param_named : (at : Offset) (j n0 c0 n c : ℕ) (is : List StackItem) (ps : List Param) (p : Place) → ((k : ℕ) (q : Param) → slice_get ps k ≡ Some q → Good q) → at.n ≡ n0 + n → at.c ≡ c0 + c → AllZip (ParamFits notes m d f) is ps → rules.parameter_at ps n c ≡ Some p → ParamNamed is j p (parameter_at at j n0 c0 is)
+  param_named : (at : Offset) (j n0 c0 n c : ℕ) (is : List StackItem) (ps : List Param) (p : Place)
+      → ((k : ℕ) (q : Param) → slice_get ps k ≡ Some q → Good q) → at.n ≡ n0 + n → at.c ≡ c0 + c → AllZip (ParamFits notes m d f) is ps
+      → rules.parameter_at ps n c ≡ Some p → ParamNamed is j p (parameter_at at j n0 c0 is)
   unfolding rules.parameter_at
   param_named at j n0 c0 n c is [] p ok en ec z h = absurd (none-some p h)
   param_named at j n0 c0 n c [] (q ∷ ps) p ok en ec z h = absurd z
   param_named at j n0 c0 n c (LocalsOf s ∷ is) (q ∷ ps) p ok en ec z h = absurd z.0
-  param_named at j n0 c0 n c (Pushed kind v ∷ is) (q ∷ ps) p ok en ec z h = go (λ n1 c1 a b y. param_named at (suc j) (n0 + item_units (Pushed kind v)) (c0 + item_bytes (Pushed kind v)) n1 c1 is ps p (λ k q e. ok (suc k) q e) a b z.1 y) (nat_eq n 0 && nat_eq c 0) refl h
+  param_named at j n0 c0 n c (Pushed kind v ∷ is) (q ∷ ps) p ok en ec z h =
+      go (λ n1 c1 a b y. param_named at (suc j) (n0 + item_units (Pushed kind v)) (c0 + item_bytes (Pushed kind v)) n1 c1 is ps p
+      (λ k q e. ok (suc k) q e) a b z.1 y) (nat_eq n 0 && nat_eq c 0) refl h
     where
       u : (item_units (Pushed kind v) ≡ (slot_size q.kind).n) × (item_bytes (Pushed kind v) ≡ (slot_size q.kind).c)
       u = units_are kind q.kind v z.0.0
 
-      here : (b : Bool) → (nat_eq at.n n0 && nat_eq at.c c0) ≡ b → (if b then Some (ParamAt j) else parameter_at at (suc j) (n0 + item_units (Pushed kind v)) (c0 + item_bytes (Pushed kind v)) is) ≡ parameter_at at j n0 c0 (Pushed kind v ∷ is)
-      here b e = ap (λ t. if t then Some (ParamAt j) else parameter_at at (suc j) (n0 + item_units (Pushed kind v)) (c0 + item_bytes (Pushed kind v)) is) (sym e)
+      here : (b : Bool) → (nat_eq at.n n0 && nat_eq at.c c0) ≡ b
+          → (if b then Some (ParamAt j) else parameter_at at (suc j) (n0 + item_units (Pushed kind v))
+          (c0 + item_bytes (Pushed kind v)) is) ≡ parameter_at at j n0 c0 (Pushed kind v ∷ is)
+      here b e = ap (λ t. if t then Some (ParamAt j) else parameter_at at (suc j) (n0 + item_units (Pushed kind v))
+          (c0 + item_bytes (Pushed kind v)) is) (sym e)
 
-      next : (nat_eq at.n n0 && nat_eq at.c c0) ≡ false → ParamNamed is (suc j) p (parameter_at at (suc j) (n0 + item_units (Pushed kind v)) (c0 + item_bytes (Pushed kind v)) is) → ParamNamed (Pushed kind v ∷ is) j p (parameter_at at j n0 c0 (Pushed kind v ∷ is))
+      next : (nat_eq at.n n0 && nat_eq at.c c0) ≡ false → ParamNamed is (suc j) p
+          (parameter_at at (suc j) (n0 + item_units (Pushed kind v)) (c0 + item_bytes (Pushed kind v)) is)
+          → ParamNamed (Pushed kind v ∷ is) j p (parameter_at at j n0 c0 (Pushed kind v ∷ is))
       next e r = record {
         i = suc r.i;
         param = r.param;
@@ -115,7 +130,12 @@ module _ (notes : Notes) (m : Memory) (d : ℕ) (f : FunctionFrame) (Good : Para
               let b = eqb-true at.c c0 w.1 in
               and_from _ _ (eq-eqb n 0 (omega (arith, a, en))) (eq-eqb c 0 (omega (arith, b, ec)))
 
-      go : ((n1 c1 : ℕ) → at.n ≡ n0 + item_units (Pushed kind v) + n1 → at.c ≡ c0 + item_bytes (Pushed kind v) + c1 → rules.parameter_at ps n1 c1 ≡ Some p → ParamNamed is (suc j) p (parameter_at at (suc j) (n0 + item_units (Pushed kind v)) (c0 + item_bytes (Pushed kind v)) is)) → (b : Bool) → (nat_eq n 0 && nat_eq c 0) ≡ b → (if b then Some (place.Parameter q.kind q.ty) else past (slot_size q.kind) n c (rules.parameter_at ps)) ≡ Some p → ParamNamed (Pushed kind v ∷ is) j p (parameter_at at j n0 c0 (Pushed kind v ∷ is))
+      go : ((n1 c1 : ℕ) → at.n ≡ n0 + item_units (Pushed kind v) + n1 → at.c ≡ c0 + item_bytes (Pushed kind v) + c1
+          → rules.parameter_at ps n1 c1 ≡ Some p → ParamNamed is (suc j) p
+          (parameter_at at (suc j) (n0 + item_units (Pushed kind v)) (c0 + item_bytes (Pushed kind v)) is)) → (b : Bool)
+          → (nat_eq n 0 && nat_eq c 0) ≡ b → (if b then Some (place.Parameter q.kind q.ty)
+          else past (slot_size q.kind) n c (rules.parameter_at ps)) ≡ Some p
+          → ParamNamed (Pushed kind v ∷ is) j p (parameter_at at j n0 c0 (Pushed kind v ∷ is))
       go again true e g =
           let w = and_parts (nat_eq n 0) (nat_eq c 0) e in
           let a = eqb-true n 0 w.0 in
@@ -124,7 +144,8 @@ module _ (notes : Notes) (m : Memory) (d : ℕ) (f : FunctionFrame) (Good : Para
             i = 0;
             param = q;
             value = v;
-            located = sym (here true (and_from _ _ (eq-eqb at.n n0 (omega (arith, a, en))) (eq-eqb at.c c0 (omega (arith, b, ec))))) ∙ ap (λ x. Some (ParamAt x)) (let y : j ≡ j + 0 = omega arith in y);
+            located = sym (here true (and_from _ _ (eq-eqb at.n n0 (omega (arith, a, en))) (eq-eqb at.c c0 (omega (arith, b, ec)))))
+                ∙ ap (λ x. Some (ParamAt x)) (let y : j ≡ j + 0 = omega arith in y);
             there = ap (λ x. Some (Pushed x v)) z.0.0;
             place_is = sym (same_Some _ p g);
             fits = z.0.1;
@@ -133,33 +154,47 @@ module _ (notes : Notes) (m : Memory) (d : ℕ) (f : FunctionFrame) (Good : Para
       go again false e g = past_some (slot_size q.kind) n c (rules.parameter_at ps) p g (λ l r y.
           let u0 = u.0 in
           let u1 = u.1 in
-          next (apart e) (again (n - (slot_size q.kind).n) (c - (slot_size q.kind).c) (omega (arith, en, u0, l)) (omega (arith, ec, u1, r)) y))
+          next (apart e) (again (n - (slot_size q.kind).n) (c - (slot_size q.kind).c) (omega (arith, en, u0, l))
+          (omega (arith, ec, u1, r)) y))
 
   -- ---- locals and parameters
 
   -- what the rules say lies there is found there
   pub record OnStack (params : List StackItem) (p : Place) (l : Location) : Type 0 where
-    pub names : ((x : ℕ) × (cell : Cell) × (p ≡ place.Local x cell) × (l ≡ CellAt (FieldOfLocals d x)) × CellThere notes m d (FieldOfLocals d x) cell)
-        ⊎ ((j : ℕ) × (q : Param) × (v : Neutral) × (p ≡ place.Parameter q.kind q.ty) × (l ≡ ParamAt j) × (slice_get params j ≡ Some (Pushed q.kind v)) × Fits notes m d f.saved q.ty v × Good q)
+    pub names : ((x : ℕ) × (cell : Cell) × (p ≡ place.Local x cell) × (l ≡ CellAt (FieldOfLocals d x))
+        × CellThere notes m d (FieldOfLocals d x) cell)
+        ⊎ ((j : ℕ) × (q : Param) × (v : Neutral) × (p ≡ place.Parameter q.kind q.ty) × (l ≡ ParamAt j)
+        × (slice_get params j ≡ Some (Pushed q.kind v)) × Fits notes m d f.saved q.ty v × Good q)
 
-  module _ (fields : List Field) (size : Pair) (same : (s : Shape) → frame_locals notes f.func ≡ Some s → (fields ≡ s.fields) × (size.n ≡ s.n) × (size.c ≡ s.c) × IsShape s) (params : List StackItem) (ps : List Param) (z : AllZip (ParamFits notes m d f) params ps) (good : (k : ℕ) (q : Param) → slice_get ps k ≡ Some q → Good q) where
-    pub stack_named : (at : Offset) (n0 c0 n c : ℕ) (is : List StackItem) (xs : List Item) (p : Place) → (any_locals is ≡ true → m.locals d ≡ frame_locals notes f.func) → at.n ≡ n0 + n → at.c ≡ c0 + c → AllZip (ItemFits notes m d f) is xs → stack_at fields size ps xs n c ≡ Some p → (l : Location) × (located_among at d n0 c0 params is ≡ Some l) × OnStack params p l
+  module _ (fields : List Field) (size : Pair) (same : (s : Shape) → frame_locals notes f.func ≡ Some s → (fields ≡ s.fields)
+      × (size.n ≡ s.n) × (size.c ≡ s.c) × IsShape s) (params : List StackItem) (ps : List Param)
+      (z : AllZip (ParamFits notes m d f) params ps) (good : (k : ℕ) (q : Param) → slice_get ps k ≡ Some q → Good q) where
+    pub stack_named : (at : Offset) (n0 c0 n c : ℕ) (is : List StackItem) (xs : List Item) (p : Place)
+        → (any_locals is ≡ true → m.locals d ≡ frame_locals notes f.func) → at.n ≡ n0 + n → at.c ≡ c0 + c
+        → AllZip (ItemFits notes m d f) is xs → stack_at fields size ps xs n c ≡ Some p → (l : Location)
+        × (located_among at d n0 c0 params is ≡ Some l) × OnStack params p l
     unfolding stack_at cell_of
     stack_named at n0 c0 n c [] [] p has en ec g h = go (nat_le 16 c) refl h
       where
-        go : (b : Bool) → nat_le 16 c ≡ b → (if b then rules.parameter_at ps n (c - 16) else None) ≡ Some p → (l : Location) × (parameter_at at 0 n0 (c0 + 16) params ≡ Some l) × OnStack params p l
+        go : (b : Bool) → nat_le 16 c ≡ b → (if b then rules.parameter_at ps n (c - 16) else None) ≡ Some p → (l : Location)
+            × (parameter_at at 0 n0 (c0 + 16) params ≡ Some l) × OnStack params p l
         go false e h = absurd (none-some p h)
         go true e h =
             let l = leb-true 16 c e in
-            let r = param_named at 0 n0 (c0 + 16) n (c - 16) params ps p good en (omega (arith, ec, l)) z h in
-            (ParamAt r.i, r.located ∙ ap (λ x. Some (ParamAt x)) (let e0 : 0 + r.i ≡ r.i = omega arith in e0), record { names = inr (r.i, r.param, r.value, r.place_is, refl, r.there, r.fits, r.good) })
+            let r = param_named at 0 n0 (c0 + 16) n (c - 16) params ps p good en (omega (arith, ec, l)) z h in (
+              ParamAt r.i,
+              r.located ∙ ap (λ x. Some (ParamAt x)) (let e0 : 0 + r.i ≡ r.i = omega arith in e0),
+              record { names = inr (r.i, r.param, r.value, r.place_is, refl, r.there, r.fits, r.good) },
+            )
     stack_named at n0 c0 n c (Pushed kind v ∷ is) (item.Slot k t ∷ xs) p has en ec g h =
         past_some (slot_size k) n c (stack_at fields size ps xs) p h (λ l r y.
         let u = units_are kind k v g.0.0 in
         let u0 = u.0 in
         let u1 = u.1 in
-        stack_named at (n0 + item_units (Pushed kind v)) (c0 + item_bytes (Pushed kind v)) (n - (slot_size k).n) (c - (slot_size k).c) is xs p has (omega (arith, en, u0, l)) (omega (arith, ec, u1, r)) g.1 y)
-    stack_named at n0 c0 n c (LocalsOf s ∷ is) (item.Locals ∷ xs) p has en ec g h = go (λ n1 c1 a b y. stack_named at (n0 + s.n) (c0 + s.c) n1 c1 is xs p (λ _. has refl) a b g.1 y) (local_at fields n c) refl h
+        stack_named at (n0 + item_units (Pushed kind v)) (c0 + item_bytes (Pushed kind v)) (n - (slot_size k).n)
+        (c - (slot_size k).c) is xs p has (omega (arith, en, u0, l)) (omega (arith, ec, u1, r)) g.1 y)
+    stack_named at n0 c0 n c (LocalsOf s ∷ is) (item.Locals ∷ xs) p has en ec g h =
+        go (λ n1 c1 a b y. stack_named at (n0 + s.n) (c0 + s.c) n1 c1 is xs p (λ _. has refl) a b g.1 y) (local_at fields n c) refl h
       where
         facts : (fields ≡ s.fields) × (size.n ≡ s.n) × (size.c ≡ s.c) × IsShape s
         facts = same s g.0
@@ -175,7 +210,8 @@ module _ (notes : Notes) (m : Memory) (d : ℕ) (f : FunctionFrame) (Good : Para
         first i y r =
             let en1 : y.n ≡ n = same_pos y.n n r.units in
             let ec1 : y.c ≡ c = same_pos y.c c r.bytes in
-            find_first test 0 s.fields i y (ap (λ q. slice_get q i) (sym facts.0) ∙ r.get) (and_from _ _ (eq-eqb at.n (n0 + y.n) (omega (arith, en, en1))) (eq-eqb at.c (c0 + y.c) (omega (arith, ec, ec1))))
+            find_first test 0 s.fields i y (ap (λ q. slice_get q i) (sym facts.0) ∙ r.get)
+            (and_from _ _ (eq-eqb at.n (n0 + y.n) (omega (arith, en, en1))) (eq-eqb at.c (c0 + y.c) (omega (arith, ec, ec1))))
             (λ k w l q. ⊎_elim (λ t. absurd (clash k w l q en1 ec1 t)) (λ t. t) (cases_Bool (test w)))
             ∙ ap Some (let e0 : 0 + i ≡ i = omega arith in e0)
           where
@@ -186,11 +222,26 @@ module _ (notes : Notes) (m : Memory) (d : ℕ) (f : FunctionFrame) (Good : Para
                 let x2 = eqb-true _ _ a.1 in
                 r.first k w l (ap (λ i. slice_get i k) facts.0 ∙ q) (omega (arith, x1, en, en1)) (omega (arith, x2, ec, ec1))
 
-        found : (i : ℕ) (y : Field) → FieldFound fields (record { n = pos n; c = pos c }) i y → p ≡ place.Local i y.cell → (l : Location) × (located_among at d n0 c0 params (LocalsOf s ∷ is) ≡ Some l) × OnStack params p l
+        found : (i : ℕ) (y : Field) → FieldFound fields (record { n = pos n; c = pos c }) i y → p ≡ place.Local i y.cell → (l : Location)
+            × (located_among at d n0 c0 params (LocalsOf s ∷ is) ≡ Some l) × OnStack params p l
         found i y r e = (
           CellAt (FieldOfLocals d i),
-          ap (λ q. option_or (option_map (λ f. CellAt (FieldOfLocals d f)) q) (located_among at d (n0 + s.n) (c0 + s.c) params is)) (first i y r),
-          record { names = inl (i, y.cell, e, refl, record { field = y; there = ap (option_and_then (λ (q : Shape). slice_get q.fields i)) locals ∙ ap (λ q. slice_get q i) (sym facts.0) ∙ r.get; cell_is = refl }) },
+          ap (λ q. option_or (option_map (λ f. CellAt (FieldOfLocals d f)) q) (located_among at d (n0 + s.n) (c0 + s.c) params is))
+              (first i y r),
+          record {
+            names = inl (
+              i,
+              y.cell,
+              e,
+              refl,
+              record {
+                field = y;
+                there = ap (option_and_then (λ (q : Shape). slice_get q.fields i)) locals ∙ ap (λ q. slice_get q i) (sym facts.0)
+                    ∙ r.get;
+                cell_is = refl;
+              },
+            );
+          },
         )
 
         -- nothing of the locals is past them
@@ -206,18 +257,33 @@ module _ (notes : Notes) (m : Memory) (d : ℕ) (f : FunctionFrame) (Good : Para
                 let w = cell_positive y.cell in
                 omega (arith, x1, x2, i, w, en, ec, l, r)
 
-        beyond : ((n1 c1 : ℕ) → at.n ≡ n0 + s.n + n1 → at.c ≡ c0 + s.c + c1 → stack_at fields size ps xs n1 c1 ≡ Some p → (l : Location) × (located_among at d (n0 + s.n) (c0 + s.c) params is ≡ Some l) × OnStack params p l) → past size n c (stack_at fields size ps xs) ≡ Some p → (l : Location) × (located_among at d n0 c0 params (LocalsOf s ∷ is) ≡ Some l) × OnStack params p l
+        beyond : ((n1 c1 : ℕ) → at.n ≡ n0 + s.n + n1 → at.c ≡ c0 + s.c + c1 → stack_at fields size ps xs n1 c1 ≡ Some p → (l : Location)
+            × (located_among at d (n0 + s.n) (c0 + s.c) params is ≡ Some l) × OnStack params p l)
+            → past size n c (stack_at fields size ps xs) ≡ Some p → (l : Location)
+            × (located_among at d n0 c0 params (LocalsOf s ∷ is) ≡ Some l) × OnStack params p l
         beyond again h = past_some size n c (stack_at fields size ps xs) p h (λ l r y.
             let f1 = facts.1 in
             let f2 = facts.2 in
-            let rest = again (n - size.n) (c - size.c) (omega (arith, en, f1, l)) (omega (arith, ec, f2, r)) y in
-            (rest.0, ap (λ q. option_or (option_map (λ f. CellAt (FieldOfLocals d f)) q) (located_among at d (n0 + s.n) (c0 + s.c) params is)) (none (omega (arith, f1, l)) (omega (arith, f2, r))) ∙ rest.1, rest.2))
+            let rest = again (n - size.n) (c - size.c) (omega (arith, en, f1, l)) (omega (arith, ec, f2, r)) y in (
+              rest.0,
+              ap (λ q. option_or (option_map (λ f. CellAt (FieldOfLocals d f)) q)
+                  (located_among at d (n0 + s.n) (c0 + s.c) params is)) (none (omega (arith, f1, l)) (omega (arith, f2, r)))
+                  ∙ rest.1,
+              rest.2,
+            ))
 
-        go : ((n1 c1 : ℕ) → at.n ≡ n0 + s.n + n1 → at.c ≡ c0 + s.c + c1 → stack_at fields size ps xs n1 c1 ≡ Some p → (l : Location) × (located_among at d (n0 + s.n) (c0 + s.c) params is ≡ Some l) × OnStack params p l) → (o : Option Place) → local_at fields n c ≡ o → option_or o (past size n c (stack_at fields size ps xs)) ≡ Some p → (l : Location) × (located_among at d n0 c0 params (LocalsOf s ∷ is) ≡ Some l) × OnStack params p l
+        go : ((n1 c1 : ℕ) → at.n ≡ n0 + s.n + n1 → at.c ≡ c0 + s.c + c1 → stack_at fields size ps xs n1 c1 ≡ Some p → (l : Location)
+            × (located_among at d (n0 + s.n) (c0 + s.c) params is ≡ Some l) × OnStack params p l) → (o : Option Place)
+            → local_at fields n c ≡ o → option_or o (past size n c (stack_at fields size ps xs)) ≡ Some p → (l : Location)
+            × (located_among at d n0 c0 params (LocalsOf s ∷ is) ≡ Some l) × OnStack params p l
         go again None e h = beyond again h
         go again (Some q) e h =
-            then_some (field_at fields (record { n = pos n; c = pos c })) _ q e (λ i e1 h1. then_some (and_then (slice_get fields i) (λ y. Some y.cell)) _ q h1 (λ w e2 h2. then_some (slice_get fields i) (λ y. Some y.cell) w e2 (λ y e3 h3. if_some (nat_lt i 64) (place.Local i w) q h2 (λ l h4.
-            found i y (field_found fields (record { n = pos n; c = pos c }) i y e1 e3) (sym (same_Some q p h) ∙ sym h4 ∙ ap (place.Local i) (sym (same_Some y.cell w h3)))))))
+            then_some (field_number_at fields (record { n = pos n; c = pos c })) _ q e
+            (λ i e1 h1. then_some (and_then (slice_get fields i) (λ y. Some y.cell)) _ q h1
+            (λ w e2 h2. then_some (slice_get fields i) (λ y. Some y.cell) w e2
+            (λ y e3 h3. if_some (nat_lt i 64) (place.Local i w) q h2 (λ l h4.
+            found i y (field_found fields (record { n = pos n; c = pos c }) i y e1 e3)
+            (sym (same_Some q p h) ∙ sym h4 ∙ ap (place.Local i) (sym (same_Some y.cell w h3)))))))
     stack_named at n0 c0 n c [] (x ∷ xs) p has en ec g h = absurd g
     stack_named at n0 c0 n c (i ∷ is) [] p has en ec g h = absurd g
     stack_named at n0 c0 n c (Pushed kind v ∷ is) (item.Locals ∷ xs) p has en ec g h = absurd g.0

@@ -1,5 +1,7 @@
 -- The values of operands fit the types that the rules give.
-use Rattle.std.proofs.Common.{◌≡◌, ◌≢◌, ℕ, suc, ◌+◌, ◌%◌, ◌^◌, ◌<◌, ◌⊎◌, Bool, true, false, ◌&&◌, if◌then◌else◌, nat_eq, List, length, Option, Some, None, Result, Ok, Err, slice_get, refl, sym, ap, ap₂, ◌∙◌, subst, arith, inl, inr, ⊎_elim, option_map, option_and_then, ℤ, pos, negsuc, int_le, unsigned_abs}
+use Rattle.std.proofs.Common.{◌≡◌, ◌≢◌, ℕ, suc, ◌+◌, ◌%◌, ◌^◌, ◌<◌, ◌⊎◌, Bool, true, false, ◌&&◌, if◌then◌else◌, nat_eq, List, length}
+use Rattle.std.proofs.Common.{Option, Some, None, Result, Ok, Err, slice_get, refl, sym, ap, ap₂, ◌∙◌, subst, arith, inl, inr, ⊎_elim}
+use Rattle.std.proofs.Common.{option_map, option_and_then, ℤ, pos, negsuc, int_le, unsigned_abs}
 use Rattle.std.proofs.lemmas.Bool.{le-leb, ne_eqb, eqb-true, eqb-false, cases_Bool}
 use Rattle.std.proofs.lemmas.Option.{none-some}
 use Rattle.ebc_insn.specs.declared.Size.TheVariants as sizes
@@ -21,21 +23,24 @@ use Rattle.rules_base.specs.Access.{known, loads, parameter_load, load_place, lo
 use Rattle.ebc_base.specs.Steps.{◌>>=◌, or_else}
 use Rattle.note_types.specs.Known.{local_fields, Names}
 use Rattle.rules_base.specs.Places.{from_stack, locals_size, place_at, pointed, stack_at}
-use Rattle.run_types.specs.Values.{Neutral, FieldOfLocals}
-use Rattle.run_types.specs.Config.{StackItem, Pushed, FunctionFrame, Frame, Config, depth}
-use Rattle.run_types.specs.World.{World}
+use Rattle.host_model.specs.Values.{Neutral, FieldOfLocals}
+use Rattle.neutral_machine.specs.Config.{StackItem, Pushed, FunctionFrame, Frame, Config, depth}
+use Rattle.host_model.specs.World.{World}
 use Rattle.typed_runs.specs.Live.{live_memory}
-use Rattle.run_types.specs.Fits.{Fits}
-use Rattle.run_types.specs.Outcomes.{Gives, or_stuck}
-use Rattle.run_types.specs.Operations.{kept_natural, sign_extended}
+use Rattle.neutral_machine.specs.Fits.{Fits}
+use Rattle.neutral_machine.specs.Outcomes.{Gives, or_stuck}
+use Rattle.neutral_machine.specs.Operations.{kept_natural, sign_extended}
 use Rattle.neutral_machine.specs.Operands.{offset_of, moved_by, located_by, loaded_by}
-use Rattle.run_types.specs.Locations.{Access, Move, Form, Signed, Location, CellAt, Offset, kept, slot_value, value_at, parameters_of, located_past, located_on_stack, located_among}
+use Rattle.neutral_machine.specs.Locations.{Access, Move, Form, Signed, Location, CellAt, Offset, kept, slot_value, value_at, parameters_of}
+use Rattle.neutral_machine.specs.Locations.{located_past, located_on_stack, located_among}
+use Rattle.typing_laws.proofs.Rows.{err_ok, ok_same}
 use Rattle.typing_laws.proofs.Accesses.{access_of}
 use Rattle.typing_laws.proofs.KeptFit.{natural_fits, signed_fits}
 use Rattle.typing_laws.proofs.Pointed.{IsBeside, Named, may_be_null, pointed_named}
 use Rattle.typing_laws.proofs.OnStack.{OnStack, stack_named}
 use Rattle.typing_laws.proofs.Loads.{finish, LoadFits, place_load}
-use Rattle.typing_laws.proofs.Context.{GoodParam, TopSound, objects, cells, has_locals, same_locals, sizes_same, counted_local, counted_object, params_fit, good_params}
+use Rattle.typing_laws.proofs.Context.{GoodParam, TopSound, objects, cells, has_locals, same_locals, sizes_same, counted_local}
+use Rattle.typing_laws.proofs.Context.{counted_object, params_fit, good_params}
 
 -- the parts of a distance are numbers of 64 bits
 pub record IsSmall (d : Distance) : Type 0 where
@@ -43,7 +48,8 @@ pub record IsSmall (d : Distance) : Type 0 where
   pub bytes : (n : ℕ) → d.c ≡ pos n → n < 2 ^ 64
 
 -- what stands beside R0, where it isn't negative
-beside_zero : (b : Option Offset) (d : Distance) (n c : ℕ) → IsBeside b d → IsSmall d → d.n ≡ pos n → d.c ≡ pos c → ((offset_of b).n ≡ 0 + n) × ((offset_of b).c ≡ 0 + c)
+beside_zero : (b : Option Offset) (d : Distance) (n c : ℕ) → IsBeside b d → IsSmall d → d.n ≡ pos n → d.c ≡ pos c
+    → ((offset_of b).n ≡ 0 + n) × ((offset_of b).c ≡ 0 + c)
 beside_zero None d n c h s en ec = (zero_is n (sym en ∙ h.0), zero_is c (sym ec ∙ h.1))
   where
     zero_is : (n : ℕ) → pos n ≡ pos 0 → 0 ≡ 0 + n
@@ -56,15 +62,13 @@ beside_zero (Some p) d n c h s en ec =
     (omega (arith, a, e1), omega (arith, b, e2))
 
 -- what a part gives, and what another part makes of it
-pub then_ok : {A B P : Type 0} (o : Result A RuleName) (k : A → Result B RuleName) (y : B) → (o >>= k) ≡ Ok y → ((x : A) → o ≡ Ok x → k x ≡ Ok y → P) → P
+pub then_ok : {A B P : Type 0} (o : Result A RuleName) (k : A → Result B RuleName) (y : B) → (o >>= k) ≡ Ok y
+    → ((x : A) → o ≡ Ok x → k x ≡ Ok y → P) → P
 then_ok (Ok x) k y e f = f x refl e
 then_ok (Err r) k y e f = absurd (bad e)
   where
     bad : Err r ≡ Ok y → ⊥
     bad e = absurd cc
-
-ok_same : {A : Type 0} (y x : A) → ◌≡◌ {A = Result A RuleName} (Ok y) (Ok x) → y ≡ x
-ok_same y x e = cc
 
 pub some_ok : {A P : Type 0} (r : RuleName) (o : Option A) (x : A) → or_else r o ≡ Ok x → (o ≡ Some x → P) → P
 some_ok r None x e f = absurd (bad e)
@@ -73,7 +77,8 @@ some_ok r None x e f = absurd (bad e)
     bad e = absurd cc
 some_ok {A} r (Some y) x e f = f (ap Some (ok_same y x e))
 
-module _ (world : World) (a : Config) (f : FunctionFrame) (fs : List Frame) (note : FnNote) (s : State) (st : TopSound world a f fs note s) where
+module _ (world : World) (a : Config) (f : FunctionFrame) (fs : List Frame) (note : FnNote) (s : State)
+    (st : TopSound world a f fs note s) where
   abbrev pub FitsHere : Ty → Neutral → Type 0
   FitsHere t v = Fits world.notes (live_memory world a) (depth fs) f.saved t v
 
@@ -88,11 +93,14 @@ module _ (world : World) (a : Config) (f : FunctionFrame) (fs : List Frame) (not
     pub whole : Neutral
     pub is : value ≡ kept world.notes (live_memory world a).objects access whole
 
-  at_location : (access : Access) (r : ℕ) (b : Option Offset) (t : Ty) (l : Location) → located_by world a r b ≡ Some l → LoadFits world a (objects world a f fs note s st) (cells world a f fs note s st) (depth fs) (counted_local world a f fs note s st) f.saved s st.top.written st.top.made_are access l t → OperandFits access r b t
+  at_location : (access : Access) (r : ℕ) (b : Option Offset) (t : Ty) (l : Location) → located_by world a r b ≡ Some l
+      → LoadFits world a (objects world a f fs note s st) (cells world a f fs note s st) (depth fs)
+      (counted_local world a f fs note s st) f.saved s st.top.written st.top.made_are access l t → OperandFits access r b t
   unfolding loaded_by
   at_location access r b t l e h = record {
     value = kept world.notes (live_memory world a).objects access h.value;
-    loaded = ap (λ o. or_stuck (option_map (kept world.notes (live_memory world a).objects access) (option_and_then (value_at world a access) o))) e
+    loaded = ap (λ o. or_stuck (option_map (kept world.notes (live_memory world a).objects access)
+        (option_and_then (value_at world a access) o))) e
         ∙ ap (λ o. or_stuck (option_map (kept world.notes (live_memory world a).objects access) o)) h.at;
     fits = h.fits;
     whole = h.value;
@@ -100,7 +108,8 @@ module _ (world : World) (a : Config) (f : FunctionFrame) (fs : List Frame) (not
   }
 
   -- a load never is of a place that may be null
-  no_null : (access : Access) (p : Place) (r : Loaded) → load_place s (access_of access) p ≡ Ok r → may_be_null world.notes (live_memory world a) (depth fs) p ≡ false
+  no_null : (access : Access) (p : Place) (r : Loaded) → load_place s (access_of access) p ≡ Ok r
+      → may_be_null world.notes (live_memory world a) (depth fs) p ≡ false
   no_null access (place.Object c false) r e = refl
   no_null access (place.Object c true) r e = absurd (go (loads (access_of access) c) e)
     where
@@ -113,22 +122,24 @@ module _ (world : World) (a : Config) (f : FunctionFrame) (fs : List Frame) (not
 
   -- ---- through a register
 
-  pub by_register : (r : ℕ) (b : Option Offset) → r ≢ 0 → located_by world a r b ≡ located_past world.notes (live_memory world a).objects (moved_by (a.registers r) b)
-  by_register r b n = ap (λ t. if t then located_on_stack world.notes a.frames (offset_of b) else located_past world.notes (live_memory world a).objects (moved_by (a.registers r) b)) (ne_eqb r 0 n)
+  pub by_register : (r : ℕ) (b : Option Offset) → r ≢ 0 → located_by world a r b ≡ located_past world.notes (live_memory world a).objects
+      (moved_by (a.registers r) b)
+  by_register r b n = ap (λ t. if t then located_on_stack world.notes a.frames (offset_of b)
+      else located_past world.notes (live_memory world a).objects (moved_by (a.registers r) b)) (ne_eqb r 0 n)
 
-  pub register_named : (r : ℕ) (b : Option Offset) (d : Distance) (p : Place) → r ≢ 0 → r < 8 → IsBeside b d → pointed world.notes note (type_of s r) d ≡ Some p → may_be_null world.notes (live_memory world a) (depth fs) p ≡ false → Named world.notes (live_memory world a) (depth fs) (moved_by (a.registers r) b) p
+  pub register_named : (r : ℕ) (b : Option Offset) (d : Distance) (p : Place) → r ≢ 0 → r < 8 → IsBeside b d
+      → pointed world.notes note (type_of s r) d ≡ Some p → may_be_null world.notes (live_memory world a) (depth fs) p ≡ false
+      → Named world.notes (live_memory world a) (depth fs) (moved_by (a.registers r) b) p
   register_named r b d p n l h e q =
       let k = st.state.registers r in
-      pointed_named world.notes (live_memory world a) (objects world a f fs note s st) (cells world a f fs note s st) note (depth fs) f.saved (counted_object world a f fs note s st) (same_locals world a f fs note s st)
+      pointed_named world.notes (live_memory world a) (objects world a f fs note s st) (cells world a f fs note s st) note
+      (depth fs) f.saved (counted_object world a f fs note s st) (same_locals world a f fs note s st)
       (type_of s r) (a.registers r) b d p k.bounded (λ i g. thunk_in (type_of s r) i g k.names) h (register_fits r n l) e q
     where
       thunk_in : (t : Ty) (i : ℕ) → t ≡ ty.ThunkAt i → Names world.notes note t → i < length world.notes.thunk
       thunk_in t i e h = subst (λ z. Names world.notes note z) e h
 
   -- ---- on the stack
-
-  no_load : (r : Loaded) → Err rule.Address ≡ Ok r → ⊥
-  no_load r e = absurd cc
 
   loaded_ty : (t : Ty) (r : Loaded) → known t ≡ Ok r → t ≡ r.ty
   loaded_ty t r e = cc
@@ -137,88 +148,134 @@ module _ (world : World) (a : Config) (f : FunctionFrame) (fs : List Frame) (not
   weaker : (g : ℕ) (v : Neutral) → FitsHere (ty.SignedStatus g) v → FitsHere (ty.SignedStatus 0) v
   weaker g v h = ⊎_elim (λ e. inl e) (λ q. inr (q.0, λ x i. absurd (omega (arith, i)))) h
 
-  parameter_value : (access : Access) (k : SlotKind) (t : Ty) (v : Neutral) (o : Option StackItem) (r : Loaded) → o ≡ Some (Pushed k v) → GoodParam (record { kind = k; ty = t }) → FitsHere t v → parameter_load (access_of access) k t ≡ Ok r → (slot_value access o ≡ Some v) × FitsHere r.ty (finish access (kept world.notes (live_memory world a).objects access v))
-  parameter_value (Move sizes.Byte) N t v o r e g h q = absurd (no_load r q)
-  parameter_value (Move sizes.Byte) Q t v o r e g h q = absurd (no_load r q)
-  parameter_value (Move sizes.Byte) D t v o r e g h q = absurd (no_load r q)
-  parameter_value (Move sizes.Word) N t v o r e g h q = absurd (no_load r q)
-  parameter_value (Move sizes.Word) Q t v o r e g h q = absurd (no_load r q)
-  parameter_value (Move sizes.Word) D t v o r e g h q = absurd (no_load r q)
-  parameter_value (Move sizes.Dword) N t v o r e g h q = absurd (no_load r q)
-  parameter_value (Move sizes.Dword) Q t v o r e g h q = absurd (no_load r q)
-  parameter_value (Move sizes.Dword) D t v o r e g h q = absurd (no_load r q)
-  parameter_value (Move sizes.Qword) N t v o r e g h q = absurd (no_load r q)
-  parameter_value (Move sizes.Qword) Q t v o r e g h q = (ap (slot_value (Move sizes.Qword)) e, subst (λ z. FitsHere z v) (loaded_ty t r q) h)
-  parameter_value (Move sizes.Qword) D t v o r e g h q = absurd (no_load r q)
-  parameter_value (Move sizes.Natural) N t v o r e g h q = (ap (slot_value (Move sizes.Natural)) e, subst (λ z. FitsHere z (kept_natural world.notes (live_memory world a).objects v)) (g.1 refl ∙ loaded_ty t r q) (natural_fits world.notes (live_memory world a) (objects world a f fs note s st) (depth fs) f.saved t v g.0 h))
-  parameter_value (Move sizes.Natural) Q t v o r e g h q = absurd (no_load r q)
-  parameter_value (Move sizes.Natural) D t v o r e g h q = absurd (no_load r q)
-  parameter_value (Form true) N t v o r e g h q = absurd (no_load r q)
-  parameter_value (Form true) Q t v o r e g h q = absurd (no_load r q)
-  parameter_value (Form true) D t v o r e g h q = absurd (no_load r q)
-  parameter_value (Form false) N t v o r e g h q = absurd (no_load r q)
-  parameter_value (Form false) Q t v o r e g h q = absurd (no_load r q)
-  parameter_value (Form false) D t v o r e g h q = absurd (no_load r q)
+  parameter_value : (access : Access) (k : SlotKind) (t : Ty) (v : Neutral) (o : Option StackItem) (r : Loaded) → o ≡ Some (Pushed k v)
+      → GoodParam (record { kind = k; ty = t }) → FitsHere t v → parameter_load (access_of access) k t ≡ Ok r
+      → (slot_value access o ≡ Some v) × FitsHere r.ty (finish access (kept world.notes (live_memory world a).objects access v))
+  parameter_value (Move sizes.Byte) N t v o r e g h q = absurd (err_ok rule.Address r q)
+  parameter_value (Move sizes.Byte) Q t v o r e g h q = absurd (err_ok rule.Address r q)
+  parameter_value (Move sizes.Byte) D t v o r e g h q = absurd (err_ok rule.Address r q)
+  parameter_value (Move sizes.Word) N t v o r e g h q = absurd (err_ok rule.Address r q)
+  parameter_value (Move sizes.Word) Q t v o r e g h q = absurd (err_ok rule.Address r q)
+  parameter_value (Move sizes.Word) D t v o r e g h q = absurd (err_ok rule.Address r q)
+  parameter_value (Move sizes.Dword) N t v o r e g h q = absurd (err_ok rule.Address r q)
+  parameter_value (Move sizes.Dword) Q t v o r e g h q = absurd (err_ok rule.Address r q)
+  parameter_value (Move sizes.Dword) D t v o r e g h q = absurd (err_ok rule.Address r q)
+  parameter_value (Move sizes.Qword) N t v o r e g h q = absurd (err_ok rule.Address r q)
+  parameter_value (Move sizes.Qword) Q t v o r e g h q = (
+    ap (slot_value (Move sizes.Qword)) e,
+    subst (λ z. FitsHere z v) (loaded_ty t r q) h,
+  )
+  parameter_value (Move sizes.Qword) D t v o r e g h q = absurd (err_ok rule.Address r q)
+  parameter_value (Move sizes.Natural) N t v o r e g h q = (
+    ap (slot_value (Move sizes.Natural)) e,
+    subst (λ z. FitsHere z (kept_natural world.notes (live_memory world a).objects v)) (g.1 refl ∙ loaded_ty t r q)
+        (natural_fits world.notes (live_memory world a) (objects world a f fs note s st) (depth fs) f.saved t v g.0 h),
+  )
+  parameter_value (Move sizes.Natural) Q t v o r e g h q = absurd (err_ok rule.Address r q)
+  parameter_value (Move sizes.Natural) D t v o r e g h q = absurd (err_ok rule.Address r q)
+  parameter_value (Form true) N t v o r e g h q = absurd (err_ok rule.Address r q)
+  parameter_value (Form true) Q t v o r e g h q = absurd (err_ok rule.Address r q)
+  parameter_value (Form true) D t v o r e g h q = absurd (err_ok rule.Address r q)
+  parameter_value (Form false) N t v o r e g h q = absurd (err_ok rule.Address r q)
+  parameter_value (Form false) Q t v o r e g h q = absurd (err_ok rule.Address r q)
+  parameter_value (Form false) D t v o r e g h q = absurd (err_ok rule.Address r q)
   parameter_value Signed N (ty.Status x) v o r e g h q = (
     ap (slot_value Signed) e,
     subst (λ z. FitsHere z (sign_extended (kept_natural world.notes (live_memory world a).objects v))) (loaded_ty (ty.SignedStatus 0) r q)
-        (weaker x _ (signed_fits world.notes (live_memory world a) (objects world a f fs note s st) (depth fs) f.saved (ty.Status x) _ (natural_fits world.notes (live_memory world a) (objects world a f fs note s st) (depth fs) f.saved (ty.Status x) v g.0 h))),
+        (weaker x _ (signed_fits world.notes (live_memory world a) (objects world a f fs note s st) (depth fs) f.saved (ty.Status x) _
+        (natural_fits world.notes (live_memory world a) (objects world a f fs note s st) (depth fs) f.saved (ty.Status x) v g.0 h))),
   )
-  parameter_value Signed N _ v o r e g h q = absurd (no_load r q)
+  parameter_value Signed N _ v o r e g h q = absurd (err_ok rule.Address r q)
   parameter_value Signed Q (ty.Status x) v o r e g h q = (
     ap (slot_value Signed) e,
     subst (λ z. FitsHere z (sign_extended (kept_natural world.notes (live_memory world a).objects v))) (loaded_ty (ty.SignedStatus 0) r q)
-        (weaker x _ (signed_fits world.notes (live_memory world a) (objects world a f fs note s st) (depth fs) f.saved (ty.Status x) _ (natural_fits world.notes (live_memory world a) (objects world a f fs note s st) (depth fs) f.saved (ty.Status x) v g.0 h))),
+        (weaker x _ (signed_fits world.notes (live_memory world a) (objects world a f fs note s st) (depth fs) f.saved (ty.Status x) _
+        (natural_fits world.notes (live_memory world a) (objects world a f fs note s st) (depth fs) f.saved (ty.Status x) v g.0 h))),
   )
-  parameter_value Signed Q _ v o r e g h q = absurd (no_load r q)
-  parameter_value Signed D t v o r e g h q = absurd (no_load r q)
+  parameter_value Signed Q _ v o r e g h q = absurd (err_ok rule.Address r q)
+  parameter_value Signed D t v o r e g h q = absurd (err_ok rule.Address r q)
 
-  on_stack : (access : Access) (p : Place) (l : Location) (r : Loaded) → OnStack world.notes (live_memory world a) (depth fs) f GoodParam (parameters_of world.notes a.frames) p l → load_place s (access_of access) p ≡ Ok r → r.made ≡ true → LoadFits world a (objects world a f fs note s st) (cells world a f fs note s st) (depth fs) (counted_local world a f fs note s st) f.saved s st.top.written st.top.made_are access l r.ty
+  on_stack : (access : Access) (p : Place) (l : Location) (r : Loaded)
+      → OnStack world.notes (live_memory world a) (depth fs) f GoodParam (parameters_of world.notes a.frames) p l
+      → load_place s (access_of access) p ≡ Ok r → r.made ≡ true
+      → LoadFits world a (objects world a f fs note s st) (cells world a f fs note s st) (depth fs)
+      (counted_local world a f fs note s st) f.saved s st.top.written st.top.made_are access l r.ty
   unfolding value_at
   on_stack access p l r o e h = ⊎_elim
-      (λ q. subst (λ z. LoadFits world a (objects world a f fs note s st) (cells world a f fs note s st) (depth fs) (counted_local world a f fs note s st) f.saved s st.top.written st.top.made_are access z r.ty) (sym q.3)
-      (place_load world a (objects world a f fs note s st) (cells world a f fs note s st) (depth fs) (counted_local world a f fs note s st) f.saved s st.top.written st.top.made_are access (place.Local q.0 q.1) (CellAt (FieldOfLocals (depth fs) q.0)) r (refl, q.4) (sym (ap (load_place s (access_of access)) q.2) ∙ e) h))
-      (λ q. subst (λ z. LoadFits world a (objects world a f fs note s st) (cells world a f fs note s st) (depth fs) (counted_local world a f fs note s st) f.saved s st.top.written st.top.made_are access z r.ty) (sym q.4)
-      (let w = parameter_value access (q.1).kind (q.1).ty q.2 (slice_get (parameters_of world.notes a.frames) q.0) r q.5 q.7 q.6 (sym (ap (load_place s (access_of access)) q.3) ∙ e) in
+      (λ q. subst (λ z. LoadFits world a (objects world a f fs note s st) (cells world a f fs note s st) (depth fs)
+      (counted_local world a f fs note s st) f.saved s st.top.written st.top.made_are access z r.ty) (sym q.3)
+      (place_load world a (objects world a f fs note s st) (cells world a f fs note s st) (depth fs)
+      (counted_local world a f fs note s st) f.saved s st.top.written st.top.made_are access (place.Local q.0 q.1)
+      (CellAt (FieldOfLocals (depth fs) q.0)) r (refl, q.4) (sym (ap (load_place s (access_of access)) q.2) ∙ e) h))
+      (λ q. subst (λ z. LoadFits world a (objects world a f fs note s st) (cells world a f fs note s st) (depth fs)
+      (counted_local world a f fs note s st) f.saved s st.top.written st.top.made_are access z r.ty) (sym q.4)
+      (let w = parameter_value access (q.1).kind (q.1).ty q.2 (slice_get (parameters_of world.notes a.frames) q.0) r q.5 q.7 q.6
+      (sym (ap (load_place s (access_of access)) q.3) ∙ e) in
       record { value = q.2; at = w.0; fits = w.1 }))
       o.names
 
   -- what lies at a distance above R0
-  pub stack_found : (b : Option Offset) (d : Distance) (p : Place) → IsBeside b d → IsSmall d → from_stack (local_fields world.notes note) (locals_size world.notes note) note.params s.items d ≡ Some p → (l : Location) × (located_by world a 0 b ≡ Some l) × OnStack world.notes (live_memory world a) (depth fs) f GoodParam (parameters_of world.notes a.frames) p l
+  pub stack_found : (b : Option Offset) (d : Distance) (p : Place) → IsBeside b d → IsSmall d
+      → from_stack (local_fields world.notes note) (locals_size world.notes note) note.params s.items d ≡ Some p → (l : Location)
+      × (located_by world a 0 b ≡ Some l) × OnStack world.notes (live_memory world a) (depth fs) f GoodParam
+      (parameters_of world.notes a.frames) p l
   unfolding located_on_stack
   stack_found b d p h m e = go d.n refl d.c refl e
     where
-      go : (x : ℤ) → d.n ≡ x → (y : ℤ) → d.c ≡ y → (if int_le (pos 0) x && int_le (pos 0) y then stack_at (local_fields world.notes note) (locals_size world.notes note) note.params s.items (unsigned_abs x) (unsigned_abs y) else None) ≡ Some p → (l : Location) × (located_by world a 0 b ≡ Some l) × OnStack world.notes (live_memory world a) (depth fs) f GoodParam (parameters_of world.notes a.frames) p l
+      go : (x : ℤ) → d.n ≡ x → (y : ℤ) → d.c ≡ y → (if int_le (pos 0) x && int_le (pos 0) y then
+          stack_at (local_fields world.notes note) (locals_size world.notes note) note.params s.items (unsigned_abs x) (unsigned_abs y)
+          else None) ≡ Some p → (l : Location) × (located_by world a 0 b ≡ Some l)
+          × OnStack world.notes (live_memory world a) (depth fs) f GoodParam (parameters_of world.notes a.frames) p l
       go (pos n) en (pos c) ec e =
           let z = beside_zero b d n c h m en ec in
-          let r = stack_named world.notes (live_memory world a) (depth fs) f GoodParam (local_fields world.notes note) (locals_size world.notes note) (sizes_same world a f fs note s st) (parameters_of world.notes a.frames) note.params (params_fit world a f fs note s st) (good_params world a f fs note s st)
-          (offset_of b) 0 0 n c f.items s.items p (has_locals world a f fs note s st) z.0 z.1 st.top.items (natural_case n c e) in
-          (r.0, ap (λ k. located_on_stack world.notes k (offset_of b)) st.frames ∙ ap (λ k. located_among (offset_of b) (depth fs) 0 0 (parameters_of world.notes k) f.items) (sym st.frames) ∙ r.1, r.2)
+          let r = stack_named world.notes (live_memory world a) (depth fs) f GoodParam (local_fields world.notes note)
+          (locals_size world.notes note) (sizes_same world a f fs note s st) (parameters_of world.notes a.frames) note.params
+          (params_fit world a f fs note s st) (good_params world a f fs note s st)
+          (offset_of b) 0 0 n c f.items s.items p (has_locals world a f fs note s st) z.0 z.1 st.top.items (natural_case n c e) in (
+            r.0,
+            ap (λ k. located_on_stack world.notes k (offset_of b)) st.frames
+                ∙ ap (λ k. located_among (offset_of b) (depth fs) 0 0 (parameters_of world.notes k) f.items) (sym st.frames) ∙ r.1,
+            r.2,
+          )
         where
-          natural_case : (n c : ℕ) → (if int_le (pos 0) (pos n) && int_le (pos 0) (pos c) then stack_at (local_fields world.notes note) (locals_size world.notes note) note.params s.items n c else None) ≡ Some p → stack_at (local_fields world.notes note) (locals_size world.notes note) note.params s.items n c ≡ Some p
-          natural_case n c e = sym (ap₂ (λ i j. if i && j then stack_at (local_fields world.notes note) (locals_size world.notes note) note.params s.items n c else None) (le-leb 0 n (omega arith)) (le-leb 0 c (omega arith))) ∙ e
-      go (pos n) en (negsuc c) ec e = absurd (none-some p (sym (ap (λ i. if i && false then stack_at (local_fields world.notes note) (locals_size world.notes note) note.params s.items n (suc c) else None) (le-leb 0 n (omega arith))) ∙ e))
+          natural_case : (n c : ℕ) → (if int_le (pos 0) (pos n) && int_le (pos 0) (pos c) then
+              stack_at (local_fields world.notes note) (locals_size world.notes note) note.params s.items n c else None) ≡ Some p
+              → stack_at (local_fields world.notes note) (locals_size world.notes note) note.params s.items n c ≡ Some p
+          natural_case n c e = sym (ap₂ (λ i j. if i && j then stack_at (local_fields world.notes note)
+              (locals_size world.notes note) note.params s.items n c else None) (le-leb 0 n (omega arith)) (le-leb 0 c (omega arith))) ∙ e
+      go (pos n) en (negsuc c) ec e = absurd (none-some p (sym (ap
+          (λ i. if i && false then stack_at (local_fields world.notes note) (locals_size world.notes note) note.params s.items n (suc c)
+          else None) (le-leb 0 n (omega arith))) ∙ e))
       go (negsuc n) en y ec e = absurd (none-some p e)
 
   -- ---- all loads
 
   -- A load that the rules allow gives what fits.
-  pub load_fits : (access : Access) (r : ℕ) (b : Option Offset) (d : Distance) (t : Loaded) → r < 8 → IsBeside b d → IsSmall d → load_at world.notes note s (access_of access) r d ≡ Ok t → t.made ≡ true → OperandFits access r b t.ty
+  pub load_fits : (access : Access) (r : ℕ) (b : Option Offset) (d : Distance) (t : Loaded) → r < 8 → IsBeside b d → IsSmall d
+      → load_at world.notes note s (access_of access) r d ≡ Ok t → t.made ≡ true → OperandFits access r b t.ty
   unfolding load_at place_at
   load_fits access r b d t l h m e q =
-      then_ok (or_else rule.Address (place_at world.notes note s r d)) (load_place s (access_of access)) t e (λ p e1 e2. some_ok rule.Address (place_at world.notes note s r d) p e1 (λ e3. at_place p e3 e2))
+      then_ok (or_else rule.Address (place_at world.notes note s r d)) (load_place s (access_of access)) t e
+      (λ p e1 e2. some_ok rule.Address (place_at world.notes note s r d) p e1 (λ e3. at_place p e3 e2))
     where
-      at_place : (p : Place) → place_at world.notes note s r d ≡ Some p → load_place s (access_of access) p ≡ Ok t → OperandFits access r b t.ty
+      at_place : (p : Place) → place_at world.notes note s r d ≡ Some p → load_place s (access_of access) p ≡ Ok t
+          → OperandFits access r b t.ty
       at_place p e3 e2 = go (cases_Bool (nat_eq r 0))
         where
           go : (nat_eq r 0 ≡ true) ⊎ (nat_eq r 0 ≡ false) → OperandFits access r b t.ty
           go k = ⊎_elim
               (λ y.
               let z : r ≡ 0 = eqb-true r 0 y in
-              let found = stack_found b d p h m (sym (ap (λ i. if i then from_stack (local_fields world.notes note) (locals_size world.notes note) note.params s.items d else pointed world.notes note (type_of s r) d) y) ∙ e3) in
+              let found = stack_found b d p h m (sym (ap (λ i. if i then
+              from_stack (local_fields world.notes note) (locals_size world.notes note) note.params s.items d
+              else pointed world.notes note (type_of s r) d) y) ∙ e3) in
               at_location access r b t.ty found.0 (ap (λ i. located_by world a i b) z ∙ found.1) (on_stack access p found.0 t found.2 e2 q))
               (λ y.
               let n : r ≢ 0 = eqb-false r 0 y in
-              let g = register_named r b d p n l h (sym (ap (λ i. if i then from_stack (local_fields world.notes note) (locals_size world.notes note) note.params s.items d else pointed world.notes note (type_of s r) d) y) ∙ e3) (no_null access p t e2) in
-              at_location access r b t.ty g.location (by_register r b n ∙ g.located) (place_load world a (objects world a f fs note s st) (cells world a f fs note s st) (depth fs) (counted_local world a f fs note s st) f.saved s st.top.written st.top.made_are access p g.location t g.names e2 q))
+              let g = register_named r b d p n l h (sym (ap (λ i. if i then
+              from_stack (local_fields world.notes note) (locals_size world.notes note) note.params s.items d
+              else pointed world.notes note (type_of s r) d) y) ∙ e3) (no_null access p t e2) in
+              at_location access r b t.ty g.location (by_register r b n ∙ g.located)
+              (place_load world a (objects world a f fs note s st) (cells world a f fs note s st) (depth fs)
+              (counted_local world a f fs note s st) f.saved s st.top.written st.top.made_are access p g.location t g.names e2 q))
               k

@@ -1,5 +1,6 @@
 -- What the rules say that a pointer names is what the neutral machine finds there.
-use Rattle.std.proofs.Common.{◌≡◌, ℕ, ◌+◌, ◌*◌, ◌%◌, ◌^◌, ◌<◌, ◌≤◌, Bool, true, false, ◌&&◌, if◌then◌else◌, nat_lt, List, length, Option, Some, None, slice_get, refl, sym, ap, ap₂, ◌∙◌, subst, arith, option_and_then, ℤ, pos, ◌+ℤ◌}
+use Rattle.std.proofs.Common.{◌≡◌, ℕ, ◌+◌, ◌*◌, ◌%◌, ◌^◌, ◌<◌, ◌≤◌, Bool, true, false, ◌&&◌, if◌then◌else◌, nat_lt, List, length, Option}
+use Rattle.std.proofs.Common.{Some, None, slice_get, refl, sym, ap, ap₂, ◌∙◌, subst, arith, option_and_then, ℤ, pos, ◌+ℤ◌}
 use Rattle.std.specs.Ordering.{int_eq}
 use Rattle.std.proofs.Math.Nat.{add-mod-mod}
 use Rattle.std.proofs.lemmas.Bool.{lt-ltb, and_parts, true≢false}
@@ -15,30 +16,32 @@ use Rattle.note_types.specs.declared.notes.Notes.{Notes}
 use Rattle.note_types.specs.declared.shape.Field.{Field}
 use Rattle.note_types.specs.declared.shape.Shape.{Shape}
 use Rattle.note_types.specs.declared.types.Ty.{Ty}
-use Rattle.note_types.specs.declared.types.Ty.TheVariants.{Any, Int, Lin, Scaled, Ptr, Local, Lent, Status, SignedStatus, Mask, Handle, Entry, Method, ThunkAt, Saved}
+use Rattle.note_types.specs.declared.types.Ty.TheVariants.{Any, Int, Lin, Scaled, Ptr, Local, Lent, Status, SignedStatus, Mask, Handle}
+use Rattle.note_types.specs.declared.types.Ty.TheVariants.{Entry, Method, ThunkAt, Saved}
 use Rattle.rules_base.specs.declared.operand.Distance.{Distance}
 use Rattle.rules_base.specs.declared.place.Place.{Place}
 use Rattle.rules_base.specs.declared.place.Place.TheVariants as place
 use Rattle.rules_base.specs.declared.place.Reach.{Reach}
-use Rattle.rules_base.specs.Parts.{and_then, only_if}
+use Rattle.rules_base.specs.Parts.{and_then}
 use Rattle.note_types.specs.Known.{local_fields}
-use Rattle.rules_base.specs.Places.{begins_at, cell_of, field_at, field_place, instance_field, is_nowhere, local_field, pointed}
-use Rattle.run_types.specs.Values.{Anchor, ObjectOf, ThunkOf, LocalOf, Neutral, Num, At, CellPlace, FieldOf, FieldOfLocals, word}
-use Rattle.run_types.specs.Config.{Registers}
-use Rattle.run_types.specs.Objects.{shape_of, no_shape}
-use Rattle.run_types.specs.Memory.{Memory}
-use Rattle.run_types.specs.Memory as memory
-use Rattle.run_types.specs.HostPlans.{field_in}
-use Rattle.run_types.specs.Fits.{IsPointer, Fits}
+use Rattle.rules_base.specs.Places.{begins_at, cell_of, field_place, instance_field, is_nowhere, local_field, pointed, field_number_at}
+use Rattle.host_model.specs.Values.{Anchor, ObjectOf, ThunkOf, LocalOf, Neutral, Num, At, CellPlace, FieldOf, FieldOfLocals, word}
+use Rattle.neutral_machine.specs.Config.{Registers}
+use Rattle.host_model.specs.Objects.{shape_of, no_shape}
+use Rattle.neutral_machine.specs.Memory.{Memory}
+use Rattle.neutral_machine.specs.Memory as memory
+use Rattle.host_model.specs.HostPlans.{field_in}
+use Rattle.neutral_machine.specs.Fits.{IsPointer, Fits}
 use Rattle.typed_runs.specs.Sound.{CellsFit}
-use Rattle.run_types.specs.Operations.{sum_of}
+use Rattle.neutral_machine.specs.Operations.{sum_of}
 use Rattle.neutral_machine.specs.Operands.{moved_by}
-use Rattle.run_types.specs.Locations.{Location, CellAt, ParamAt, Offset, located_past}
-use Rattle.run_types.specs.Locations as locations
+use Rattle.neutral_machine.specs.Locations.{Location, CellAt, Offset, located_past}
+use Rattle.neutral_machine.specs.Locations as locations
 use Rattle.typing_laws.proofs.Rows.{then_some, if_some, wrap_add}
 use Rattle.typing_laws.proofs.SumsFit.{moved_pair}
 use Rattle.typing_laws.proofs.Objects.{ObjectsFit}
 use Rattle.typing_laws.proofs.Located.{IsFirstAt, field_located}
+use Rattle.ebc_base.specs.Steps.{only_if}
 
 -- what stands beside an operand is this distance
 abbrev pub IsBeside : Option Offset → Distance → Type 0
@@ -59,11 +62,15 @@ moved_some : (x : ℕ) (n e : ℤ) (p z : ℕ) → p ≡ wrap64 e → pos z ≡ 
 moved_some x n e p z h g =
     ap (λ i. word (word (x + wrap64 n) + i)) h ∙ moved_pair x n e ∙ ap (λ i. word (x + i)) (sym (ap wrap64 g)) ∙ add-mod-mod x z (2 ^ 64)
 
-pub moved_at : (A : Anchor) (x y : ℕ) (n c : ℤ) (v : Neutral) (b : Option Offset) (d : Distance) (zn zc : ℕ) → v ≡ At A (word (x + wrap64 n)) (word (y + wrap64 c)) → IsBeside b d → pos zn ≡ n +ℤ d.n → pos zc ≡ c +ℤ d.c → moved_by v b ≡ At A (word (x + zn)) (word (y + zc))
+pub moved_at : (A : Anchor) (x y : ℕ) (n c : ℤ) (v : Neutral) (b : Option Offset) (d : Distance) (zn zc : ℕ)
+    → v ≡ At A (word (x + wrap64 n)) (word (y + wrap64 c)) → IsBeside b d → pos zn ≡ n +ℤ d.n → pos zc ≡ c +ℤ d.c
+    → moved_by v b ≡ At A (word (x + zn)) (word (y + zc))
 moved_at A x y n c v None d zn zc e h p q = e ∙ ap₂ (At A) (moved_none x n d.n zn h.0 p) (moved_none y c d.c zc h.1 q)
-moved_at A x y n c v (Some o) d zn zc e h p q = ap (λ i. sum_of i (Num o.n o.c)) e ∙ ap₂ (At A) (moved_some x n d.n o.n zn h.0 p) (moved_some y c d.c o.c zc h.1 q)
+moved_at A x y n c v (Some o) d zn zc e h p q = ap (λ i. sum_of i (Num o.n o.c)) e
+    ∙ ap₂ (At A) (moved_some x n d.n o.n zn h.0 p) (moved_some y c d.c o.c zc h.1 q)
 
-pub not_moved : (A : Anchor) (v : Neutral) (b : Option Offset) (d : Distance) → v ≡ At A 0 0 → IsBeside b d → is_nowhere d ≡ true → moved_by v b ≡ At A 0 0
+pub not_moved : (A : Anchor) (v : Neutral) (b : Option Offset) (d : Distance) → v ≡ At A 0 0 → IsBeside b d → is_nowhere d ≡ true
+    → moved_by v b ≡ At A 0 0
 not_moved A v None d e h g = e
 not_moved A v (Some o) d e h g =
     let p = and_parts (int_eq d.n (pos 0)) (int_eq d.c (pos 0)) g in
@@ -80,8 +87,9 @@ pub record FieldFound (fields : List Field) (at : Reach) (i : ℕ) (z : Field) :
   pub bytes : pos z.c ≡ at.c
   pub first : (k : ℕ) (y : Field) → k < i → slice_get fields k ≡ Some y → y.n ≡ z.n → y.c ≡ z.c → ⊥
 
-pub field_found : (fields : List Field) (at : Reach) (i : ℕ) (z : Field) → field_at fields at ≡ Some i → slice_get fields i ≡ Some z → FieldFound fields at i z
-unfolding field_at
+pub field_found : (fields : List Field) (at : Reach) (i : ℕ) (z : Field) → field_number_at fields at ≡ Some i → slice_get fields i ≡ Some z
+    → FieldFound fields at i z
+unfolding field_number_at
 field_found fields at i z e g =
     let p = position-Some (begins_at at) fields i z e in
     let b : begins_at at z ≡ true = sym (ap (begins_at at) (get_or_from_slice_get fields i z z g)) ∙ p.1 in
@@ -123,27 +131,37 @@ module _ (notes : Notes) (m : Memory) (d : ℕ) where
   may_be_null (place.Object cell null) = null
   may_be_null _ = false
 
-module _ (notes : Notes) (m : Memory) (ok : ObjectsFit notes m.objects) (cells : CellsFit notes m) (note : FnNote) (d : ℕ) (saved : Registers) (counted : (k i f : ℕ) (z : Field) → memory.cell_field notes m (FieldOf k i f) ≡ Some z → IsBoundedCell z.cell) (same_locals : (s : Shape) → m.locals d ≡ Some s → local_fields notes note ≡ s.fields) where
-  shape_is : (k : ℕ) (s : Shape) → slice_get notes.shape k ≡ Some s → shape_of notes k ≡ s
-  shape_is k s h = get_or_from_slice_get notes.shape k s no_shape h
-
+module _ (notes : Notes) (m : Memory) (ok : ObjectsFit notes m.objects) (cells : CellsFit notes m) (note : FnNote) (d : ℕ)
+    (saved : Registers) (counted : (k i f : ℕ) (z : Field) → memory.cell_field notes m (FieldOf k i f) ≡ Some z → IsBoundedCell z.cell)
+    (same_locals : (s : Shape) → m.locals d ≡ Some s → local_fields notes note ≡ s.fields) where
   -- a field of the instance that a pointer names
-  object_named : (s k : ℕ) (n c : ℤ) (v : Neutral) (b : Option Offset) (t : Distance) (p : Place) → 1 ≤ k → IsBeside b t → IsPointer notes m.objects s k n c v → instance_field notes.shape s (record { n = n +ℤ t.n; c = c +ℤ t.c }) false ≡ Some p → Named notes m d (moved_by v b) p
+  object_named : (s k : ℕ) (n c : ℤ) (v : Neutral) (b : Option Offset) (t : Distance) (p : Place) → 1 ≤ k → IsBeside b t
+      → IsPointer notes m.objects s k n c v → instance_field notes.shape s (record { n = n +ℤ t.n; c = c +ℤ t.c }) false ≡ Some p
+      → Named notes m d (moved_by v b) p
   unfolding field_place cell_of
   object_named s k n c v b t p l h f e =
-      then_some (slice_get notes.shape s) _ p e (λ x e1 h1. then_some (field_at x.fields at) _ p h1 (λ i e2 h2. then_some (and_then (slice_get x.fields i) (λ z. Some z.cell)) _ p h2 (λ y e3 h3. then_some (slice_get x.fields i) (λ z. Some z.cell) y e3 (λ z e4 h4.
+      then_some (slice_get notes.shape s) _ p e (λ x e1 h1. then_some (field_number_at x.fields at) _ p h1
+      (λ i e2 h2. then_some (and_then (slice_get x.fields i) (λ z. Some z.cell)) _ p h2
+      (λ y e3 h3. then_some (slice_get x.fields i) (λ z. Some z.cell) y e3 (λ z e4 h4.
       let r = field_found x.fields at i z e2 e4 in
-      let es : shape_of notes f.object.shape ≡ x = ap (shape_of notes) f.shape ∙ shape_is s x e1 in
-      let e5 : shape_of notes s ≡ x = shape_is s x e1 in
+      let es : shape_of notes f.object.shape ≡ x = ap (shape_of notes) f.shape ∙ get_or_from_slice_get notes.shape s x no_shape e1 in
+      let e5 : shape_of notes s ≡ x = get_or_from_slice_get notes.shape s x no_shape e1 in
       let g : slice_get (shape_of notes f.object.shape).fields i ≡ Some z = ap (λ (q : Shape). slice_get q.fields i) es ∙ e4 in
-      let first : IsFirstAt notes m.objects ok (shape_of notes f.object.shape) i z = subst (λ q. IsFirstAt notes m.objects ok q i z) (sym es) r.first in
-      let place_is : v ≡ At (ObjectOf f.k) (word (f.j * (shape_of notes f.object.shape).n + wrap64 n)) (word (f.j * (shape_of notes f.object.shape).c + wrap64 c)) = f.is ∙ ap (λ q. At (ObjectOf f.k) (word (f.j * (shape_of notes q).n + wrap64 n)) (word (f.j * (shape_of notes q).c + wrap64 c))) (sym f.shape) in
+      let first : IsFirstAt notes m.objects ok (shape_of notes f.object.shape) i z =
+      subst (λ q. IsFirstAt notes m.objects ok q i z) (sym es) r.first in
+      let place_is : v ≡ At (ObjectOf f.k) (word (f.j * (shape_of notes f.object.shape).n + wrap64 n))
+      (word (f.j * (shape_of notes f.object.shape).c + wrap64 c)) = f.is
+      ∙ ap (λ q. At (ObjectOf f.k) (word (f.j * (shape_of notes q).n + wrap64 n)) (word (f.j * (shape_of notes q).c + wrap64 c)))
+      (sym f.shape) in
       let inside : f.j < f.object.count = omega (arith, f.room, l) in
-      let at_cell = moved_at (ObjectOf f.k) (f.j * (shape_of notes f.object.shape).n) (f.j * (shape_of notes f.object.shape).c) n c v b t z.n z.c place_is h r.units r.bytes in
+      let at_cell = moved_at (ObjectOf f.k) (f.j * (shape_of notes f.object.shape).n)
+      (f.j * (shape_of notes f.object.shape).c) n c v b t z.n z.c place_is h r.units r.bytes in
       let found = field_located notes m.objects ok f.k f.j i f.object z f.there inside g first in
       let field_is : memory.cell_field notes m (FieldOf f.k f.j i) ≡ Some z =
-      ap (λ q. option_and_then (field_in notes f.j i) q) f.there ∙ ap (λ q. if q then slice_get (shape_of notes f.object.shape).fields i else None) (lt-ltb f.j f.object.count inside) ∙ g in
-      subst (λ q. Named notes m d (moved_by v b) q) (ap (λ q. place.Object q false) (same_Some z.cell y h4) ∙ same_Some (place.Object y false) p h3) (record {
+      ap (λ q. option_and_then (field_in notes f.j i) q) f.there
+      ∙ ap (λ q. if q then slice_get (shape_of notes f.object.shape).fields i else None) (lt-ltb f.j f.object.count inside) ∙ g in
+      subst (λ q. Named notes m d (moved_by v b) q) (ap (λ q. place.Object q false) (same_Some z.cell y h4)
+      ∙ same_Some (place.Object y false) p h3) (record {
         location = CellAt (FieldOf f.k f.j i);
         located = ap (located_past notes m.objects) at_cell ∙ found;
         names = (record { field = z; there = field_is; cell_is = refl }, cells.all f.k f.j i z field_is, counted f.k f.j i z field_is);
@@ -152,27 +170,32 @@ module _ (notes : Notes) (m : Memory) (ok : ObjectsFit notes m.objects) (cells :
       at : Reach
       at = record { n = n +ℤ t.n; c = c +ℤ t.c }
 
-  local_named : (x : ℕ) (v : Neutral) (b : Option Offset) (t : Distance) (p : Place) → IsBeside b t → Fits notes m d saved (Local x) v → (if is_nowhere t then local_field (local_fields notes note) x else None) ≡ Some p → Named notes m d (moved_by v b) p
+  local_named : (x : ℕ) (v : Neutral) (b : Option Offset) (t : Distance) (p : Place) → IsBeside b t → Fits notes m d saved (Local x) v
+      → (if is_nowhere t then local_field (local_fields notes note) x else None) ≡ Some p → Named notes m d (moved_by v b) p
   unfolding cell_of located_past
   local_named x v b t p h f e = go (is_nowhere t) refl e
     where
-      go : (i : Bool) → is_nowhere t ≡ i → (if i then local_field (local_fields notes note) x else None) ≡ Some p → Named notes m d (moved_by v b) p
+      go : (i : Bool) → is_nowhere t ≡ i → (if i then local_field (local_fields notes note) x else None) ≡ Some p
+          → Named notes m d (moved_by v b) p
       go false g e = absurd (none-some p e)
       go true g e = named
         where
           at_cell : moved_by v b ≡ At (LocalOf d x) 0 0
           at_cell = not_moved (LocalOf d x) v b t f.is h g
 
-          the_cell : (o : Option Shape) → m.locals d ≡ o → option_and_then (λ (s : Shape). slice_get s.fields x) o ≡ Some f.field → slice_get (local_fields notes note) x ≡ Some f.field
+          the_cell : (o : Option Shape) → m.locals d ≡ o → option_and_then (λ (s : Shape). slice_get s.fields x) o ≡ Some f.field
+              → slice_get (local_fields notes note) x ≡ Some f.field
           the_cell None q r = absurd (none-some f.field r)
           the_cell (Some s) q r = ap (λ z. slice_get z x) (same_locals s q) ∙ r
 
           cell_there : cell_of (local_fields notes note) x ≡ Some f.field.cell
           cell_there = ap (λ q. and_then q (λ (z : Field). Some z.cell)) (the_cell (m.locals d) refl f.there)
 
-          place_is : (c : Option Cell) → cell_of (local_fields notes note) x ≡ c → and_then c (λ q. only_if (nat_lt x 64) (place.Local x q)) ≡ Some p → place.Local x f.field.cell ≡ p
+          place_is : (c : Option Cell) → cell_of (local_fields notes note) x ≡ c
+              → and_then c (λ q. only_if (nat_lt x 64) (place.Local x q)) ≡ Some p → place.Local x f.field.cell ≡ p
           place_is None q r = absurd (none-some p r)
-          place_is (Some c) q r = if_some (nat_lt x 64) (place.Local x c) p r (λ l s. ap (place.Local x) (same_Some f.field.cell c (sym cell_there ∙ q)) ∙ s)
+          place_is (Some c) q r = if_some (nat_lt x 64) (place.Local x c) p r
+              (λ l s. ap (place.Local x) (same_Some f.field.cell c (sym cell_there ∙ q)) ∙ s)
 
           named : Named notes m d (moved_by v b) p
           named = subst (λ q. Named notes m d (moved_by v b) q) (place_is (cell_of (local_fields notes note) x) refl e) (record {
@@ -181,7 +204,9 @@ module _ (notes : Notes) (m : Memory) (ok : ObjectsFit notes m.objects) (cells :
             names = (refl, record { field = f.field; there = f.there; cell_is = refl });
           })
 
-  lent_named : (cell : Cell) (v : Neutral) (b : Option Offset) (t : Distance) (p : Place) → IsBoundedCell cell → IsBeside b t → Fits notes m d saved (Lent cell) v → (if is_nowhere t then Some (place.Object cell false) else None) ≡ Some p → Named notes m d (moved_by v b) p
+  lent_named : (cell : Cell) (v : Neutral) (b : Option Offset) (t : Distance) (p : Place) → IsBoundedCell cell → IsBeside b t
+      → Fits notes m d saved (Lent cell) v → (if is_nowhere t then Some (place.Object cell false) else None) ≡ Some p
+      → Named notes m d (moved_by v b) p
   unfolding located_past
   lent_named cell v b t p k h f e = go (is_nowhere t) refl e
     where
@@ -190,10 +215,16 @@ module _ (notes : Notes) (m : Memory) (ok : ObjectsFit notes m.objects) (cells :
       go true g e = subst (λ q. Named notes m d (moved_by v b) q) (same_Some _ p e) (record {
         location = CellAt (FieldOfLocals f.cell_below.e f.cell_below.f);
         located = ap (located_past notes m.objects) (not_moved (LocalOf f.cell_below.e f.cell_below.f) v b t f.cell_below.is h g);
-        names = (record { field = f.cell_below.field; there = f.cell_below.there; cell_is = f.cell_below.cell_is }, (f.written.value, f.written.is), k);
+        names = (
+          record { field = f.cell_below.field; there = f.cell_below.there; cell_is = f.cell_below.cell_is },
+          (f.written.value, f.written.is),
+          k,
+        );
       })
 
-  thunk_named : (i : ℕ) (v : Neutral) (b : Option Offset) (t : Distance) (p : Place) → i < length notes.thunk → IsBeside b t → Fits notes m d saved (ThunkAt i) v → (if is_nowhere t then Some (place.ThunkCell i) else None) ≡ Some p → Named notes m d (moved_by v b) p
+  thunk_named : (i : ℕ) (v : Neutral) (b : Option Offset) (t : Distance) (p : Place) → i < length notes.thunk → IsBeside b t
+      → Fits notes m d saved (ThunkAt i) v → (if is_nowhere t then Some (place.ThunkCell i) else None) ≡ Some p
+      → Named notes m d (moved_by v b) p
   unfolding located_past
   thunk_named i v b t p l h f e = go (is_nowhere t) refl e
     where
@@ -206,11 +237,15 @@ module _ (notes : Notes) (m : Memory) (ok : ObjectsFit notes m.objects) (cells :
       })
 
   -- What the rules say that a register's value and a pair name is found there, unless it may be null.
-  pub pointed_named : (t : Ty) (v : Neutral) (b : Option Offset) (e : Distance) (p : Place) → IsBounded t → ((i : ℕ) → t ≡ ThunkAt i → i < length notes.thunk) → IsBeside b e → Fits notes m d saved t v → pointed notes note t e ≡ Some p → may_be_null notes m d p ≡ false → Named notes m d (moved_by v b) p
+  pub pointed_named : (t : Ty) (v : Neutral) (b : Option Offset) (e : Distance) (p : Place) → IsBounded t
+      → ((i : ℕ) → t ≡ ThunkAt i → i < length notes.thunk) → IsBeside b e → Fits notes m d saved t v → pointed notes note t e ≡ Some p
+      → may_be_null notes m d p ≡ false → Named notes m d (moved_by v b) p
   unfolding field_place
   pointed_named (Ptr s k n c false) v b e p l i h f g q = object_named s k n c v b e p l.0 h f g
   pointed_named (Ptr s k n c true) v b e p l i h f g q =
-      then_some (slice_get notes.shape s) _ p g (λ x e1 h1. then_some (field_at x.fields (record { n = n +ℤ e.n; c = c +ℤ e.c })) _ p h1 (λ j e2 h2. then_some (cell_of x.fields j) _ p h2 (λ y e3 h3.
+      then_some (slice_get notes.shape s) _ p g (λ x e1 h1. then_some
+      (field_number_at x.fields (record { n = n +ℤ e.n; c = c +ℤ e.c })) _ p h1
+      (λ j e2 h2. then_some (cell_of x.fields j) _ p h2 (λ y e3 h3.
       absurd (true≢false (ap (may_be_null notes m d) (same_Some (place.Object y true) p h3) ∙ q)))))
   pointed_named (Local x) v b e p l i h f g q = local_named x v b e p h f g
   pointed_named (Lent cell) v b e p l i h f g q = lent_named cell v b e p l h f g

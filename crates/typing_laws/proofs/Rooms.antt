@@ -1,7 +1,9 @@
 -- The frames of a sound configuration lie on the stack: each host frame and what stands on it keeps within what its function
 -- takes, and the stack has nine times the most that such a function takes. So has what an instruction puts there that its rule
 -- accepts.
-use Rattle.std.proofs.Common.{◌≡◌, ℕ, zero, suc, ◌+◌, ◌*◌, ◌≤◌, ◌⊎◌, Bool, true, false, not, ◌&&◌, ◌||◌, if◌then◌else◌, is_none, is_some, nat_eq, nat_lt, List, [], ◌∷◌, length, Option, Some, None, Ok, Err, slice_get, refl, sym, ap, ap₂, ◌∙◌, subst, arith, inl, inr, ⊎_elim, le_refl, mul-le-mul, le_trans}
+use Rattle.std.proofs.Common.{◌≡◌, ℕ, zero, suc, ◌+◌, ◌*◌, ◌≤◌, ◌⊎◌, Bool, true, false, not, ◌&&◌, ◌||◌, if◌then◌else◌, is_none, is_some}
+use Rattle.std.proofs.Common.{nat_eq, nat_lt, List, [], ◌∷◌, length, Option, Some, None, Ok, Err, slice_get, refl, sym, ap, ap₂, ◌∙◌, subst}
+use Rattle.std.proofs.Common.{arith, inl, inr, ⊎_elim, le_refl, mul-le-mul, le_trans}
 use Rattle.std.specs.List.{AllZip, list_any}
 use Rattle.std.proofs.lemmas.Bool.{and_parts, eq-eqb, false≢true, ltb-false}
 use Rattle.std.proofs.lemmas.Option.{same_Some, none-some}
@@ -37,16 +39,16 @@ use Rattle.rules_flow.specs.Successors.{falls}
 use Rattle.rules_flow.specs.declared.successors.Successors.{Successors}
 use Rattle.neutral_machine.specs.Room.{HasRoom, index_growth, locals_growth, size_if}
 use Rattle.neutral_machine.specs.Rows.{Site, form_kind}
-use Rattle.run_types.specs.Config.{StackItem, Pushed, LocalsOf, FunctionFrame, Frame, Function, Host, Config, hosts, locals_among}
-use Rattle.run_types.specs.Layout.{height, total}
-use Rattle.run_types.specs.Memory.{Memory}
-use Rattle.run_types.specs.Placements.{frame_bytes, most_bytes, pair_at, params_bytes, return_cell, slot_bytes, stack_bytes}
-use Rattle.run_types.specs.Values.{null}
-use Rattle.run_types.specs.World.{World, frame_locals}
+use Rattle.neutral_machine.specs.Config.{StackItem, Pushed, LocalsOf, FunctionFrame, Frame, Function, Host, Config, hosts, locals_among}
+use Rattle.neutral_machine.specs.Layout.{height, total}
+use Rattle.neutral_machine.specs.Memory.{Memory}
+use Rattle.host_model.specs.Placements.{frame_bytes, most_bytes, pair_at, params_bytes, return_cell, slot_bytes, stack_bytes}
+use Rattle.host_model.specs.Values.{null}
+use Rattle.host_model.specs.World.{World, frame_locals}
 use Rattle.typed_runs.specs.Live.{live_memory}
 use Rattle.typing_laws.specs.OneRule.{WorldTyped, StandsTyped, here_of}
 use Rattle.typed_runs.specs.Sound.{KeepsWithin, IsEntered, FrameBelow, ParamKind, FramesKeep, SoundBelow}
-use Rattle.typing_laws.proofs.ArithRow.{err_ok}
+use Rattle.typing_laws.proofs.Rows.{err_ok}
 use Rattle.typing_laws.proofs.Calls.{call_allowed}
 use Rattle.typing_laws.proofs.Context.{TopSound, sizes_same}
 use Rattle.typing_laws.proofs.DataTable.{change_found, no_row, not_stack_move, past_test, top_sound}
@@ -67,13 +69,16 @@ pub within_at : (w : ℕ) (below : ℕ → ℕ) (note : FnNote) → IsWidth w �
 within_at w below note h k = by_width (λ v. below v ≤ pair_at v note.need) w h k.at4 k.at8
 
 -- a function that may be entered takes no more than the most
-most_at : (w entry i : ℕ) (fs : List FnNote) (j : ℕ) (f : FnNote) → slice_get fs j ≡ Some f → (i + j ≡ entry) ⊎ (f.enter ≡ true) → frame_bytes w f ≤ most_bytes w entry i fs
+most_at : (w entry i : ℕ) (fs : List FnNote) (j : ℕ) (f : FnNote) → slice_get fs j ≡ Some f → (i + j ≡ entry) ⊎ (f.enter ≡ true)
+    → frame_bytes w f ≤ most_bytes w entry i fs
 unfolding most_bytes
 most_at w entry i [] j f g e = absurd (none-some f g)
 most_at w entry i (x ∷ xs) zero f g e =
     let same : x ≡ f = same_Some x f g in
-    let t : (nat_eq i entry || x.enter) ≡ true = ⊎_elim (λ p. ap (λ b. b || x.enter) (eq-eqb i entry (omega (arith, p)))) (λ p. or_true (nat_eq i entry) x.enter (subst (λ (y : FnNote). y.enter ≡ true) (sym same) p)) e in
-    let r : (if nat_eq i entry || x.enter then frame_bytes w x else 0) ≡ frame_bytes w f = ap (λ b. if b then frame_bytes w x else 0) t ∙ ap (frame_bytes w) same in
+    let t : (nat_eq i entry || x.enter) ≡ true = ⊎_elim (λ p. ap (λ b. b || x.enter) (eq-eqb i entry (omega (arith, p))))
+    (λ p. or_true (nat_eq i entry) x.enter (subst (λ (y : FnNote). y.enter ≡ true) (sym same) p)) e in
+    let r : (if nat_eq i entry || x.enter then frame_bytes w x else 0) ≡ frame_bytes w f = ap (λ b. if b then frame_bytes w x else 0) t
+    ∙ ap (frame_bytes w) same in
     omega (arith, r)
   where
     or_true : (a b : Bool) → b ≡ true → (a || b) ≡ true
@@ -83,14 +88,17 @@ most_at w entry i (x ∷ xs) (suc j) f g e =
     let r = most_at w entry (i + 1) xs j f g (⊎_elim (λ p. inl (omega (arith, p))) inr e) in omega (arith, r)
 
 module _ (w : ℕ) (world : World) (h : IsWidth w) (m : Memory) (made : ℕ) where
-  entered_bytes : (func : ℕ) (note : FnNote) → IsEntered world.notes func → slice_get world.notes.function func ≡ Some note → frame_bytes w note ≤ most_bytes w world.notes.entry 0 world.notes.function
+  entered_bytes : (func : ℕ) (note : FnNote) → IsEntered world.notes func → slice_get world.notes.function func ≡ Some note
+      → frame_bytes w note ≤ most_bytes w world.notes.entry 0 world.notes.function
   entered_bytes func note e g = most_at w world.notes.entry 0 world.notes.function func note g
-      (⊎_elim (λ p. inl (omega (arith, p))) (λ p. inr (let same : p.0 ≡ note = same_Some _ _ (sym p.1 ∙ g) in subst (λ (y : FnNote). y.enter ≡ true) same p.2)) e)
+      (⊎_elim (λ p. inl (omega (arith, p))) (λ p. inr (let same : p.0 ≡ note = same_Some _ _ (sym p.1 ∙ g) in
+      subst (λ (y : FnNote). y.enter ≡ true) same p.2)) e)
 
   -- frames take no more than their host frames have room for, with what a function on top of them may still use
   pub record RoomFor (fs : List Frame) : Type 0 where
     pub all : total w fs ≤ length (hosts fs) * most_bytes w world.notes.entry 0 world.notes.function
-    pub need : (f : FunctionFrame) (note : FnNote) → slice_get world.notes.function f.func ≡ Some note → FrameBelow world m f note fs → pair_at w note.need + (return_cell + total w fs) ≤ length (hosts fs) * most_bytes w world.notes.entry 0 world.notes.function
+    pub need : (f : FunctionFrame) (note : FnNote) → slice_get world.notes.function f.func ≡ Some note → FrameBelow world m f note fs
+        → pair_at w note.need + (return_cell + total w fs) ≤ length (hosts fs) * most_bytes w world.notes.entry 0 world.notes.function
 
   times_suc : (n g : ℕ) → suc n * g ≡ g + n * g
   times_suc n g = omega arith
@@ -132,11 +140,13 @@ sound_room w world a h s =
 
 -- ---- what an instruction puts there
 
-module _ (w : ℕ) (world : World) (a : Config) (f : FunctionFrame) (fs : List Frame) (note : FnNote) (s : State) (st : TopSound world a f fs note s) (h : IsWidth w) where
+module _ (w : ℕ) (world : World) (a : Config) (f : FunctionFrame) (fs : List Frame) (note : FnNote) (s : State)
+    (st : TopSound world a f fs note s) (h : IsWidth w) where
   -- what keeps within the function's need, with its items, has room upon the frames
   room_upon : (x : ℕ) → x + height w f.items ≤ pair_at w note.need → x + total w a.frames ≤ stack_bytes w world.notes
   room_upon x l =
-      let k : FramesKeep world (live_memory world a) a.made (Function f ∷ fs) = subst (FramesKeep world (live_memory world a) a.made) st.frames st.below.frames in
+      let k : FramesKeep world (live_memory world a) a.made (Function f ∷ fs) =
+      subst (FramesKeep world (live_memory world a) a.made) st.frames st.below.frames in
       let r = room_for w world h (live_memory world a) a.made fs k.1 in
       let q = r.need f k.0.0 k.0.1.there k.0.2 in
       let same : k.0.0 ≡ note = same_Some _ _ (sym k.0.1.there ∙ st.there) in
@@ -149,17 +159,20 @@ module _ (w : ℕ) (world : World) (a : Config) (f : FunctionFrame) (fs : List F
   total_fits : 0 + total w a.frames ≤ stack_bytes w world.notes
   total_fits = let l = sound_room w world a h st.below in omega (arith, l)
 
-  slot_room : (kind : SlotKind) → has_room world.notes note (item.Slot kind ty.Any) s.items ≡ true → slot_bytes w kind + total w a.frames ≤ stack_bytes w world.notes
+  slot_room : (kind : SlotKind) → has_room world.notes note (item.Slot kind ty.Any) s.items ≡ true
+      → slot_bytes w kind + total w a.frames ≤ stack_bytes w world.notes
   slot_room kind r =
       let g = room_within world a f fs note s st (item.Slot kind ty.Any) w r h in
       let e = slot_same w kind kind null refl in
       room_upon (slot_bytes w kind) (omega (arith, g, e))
 
-  if_room : (b : Bool) (x : ℕ) → x + total w a.frames ≤ stack_bytes w world.notes → (if b then x else 0) + total w a.frames ≤ stack_bytes w world.notes
+  if_room : (b : Bool) (x : ℕ) → x + total w a.frames ≤ stack_bytes w world.notes
+      → (if b then x else 0) + total w a.frames ≤ stack_bytes w world.notes
   if_room true x l = l
   if_room false x l = total_fits
 
-  locals_room : has_room world.notes note item.Locals s.items ≡ true → locals_growth w world a.frames + total w a.frames ≤ stack_bytes w world.notes
+  locals_room : has_room world.notes note item.Locals s.items ≡ true
+      → locals_growth w world a.frames + total w a.frames ≤ stack_bytes w world.notes
   locals_room r =
       subst (λ z. locals_growth w world z + total w a.frames ≤ stack_bytes w world.notes) (sym st.frames)
       (if_room (is_none (locals_among f.items)) (size_if w (frame_locals world.notes f.func)) (go (frame_locals world.notes f.func) refl))
@@ -172,38 +185,50 @@ module _ (w : ℕ) (world : World) (a : Config) (f : FunctionFrame) (fs : List F
           let q : at w (locals_size world.notes note) ≡ size_if w (Some x) = ap₂ (λ n c. n * w + c) z.1 z.2 in
           room_upon (size_if w (Some x)) (omega (arith, g, q))
 
-  make_room : (n c : ℕ) (x : Successors) → make_row world.notes note s n c ≡ Ok x → locals_growth w world a.frames + total w a.frames ≤ stack_bytes w world.notes
-  make_room n c x e = go (is_some note.locals && (not (list_any is_locals s.items) && (is_size (locals_size world.notes note) n c && has_room world.notes note item.Locals s.items))) refl e
+  make_room : (n c : ℕ) (x : Successors) → make_row world.notes note s n c ≡ Ok x
+      → locals_growth w world a.frames + total w a.frames ≤ stack_bytes w world.notes
+  make_room n c x e = go (is_some note.locals && (not (list_any is_locals s.items)
+      && (is_size (locals_size world.notes note) n c && has_room world.notes note item.Locals s.items))) refl e
     where
-      go : (b : Bool) → (is_some note.locals && (not (list_any is_locals s.items) && (is_size (locals_size world.notes note) n c && has_room world.notes note item.Locals s.items))) ≡ b → (if b then Ok (falls (rules_frames.with_item s item.Locals)) else Err rule.Stack) ≡ Ok x → locals_growth w world a.frames + total w a.frames ≤ stack_bytes w world.notes
+      go : (b : Bool) → (is_some note.locals && (not (list_any is_locals s.items)
+          && (is_size (locals_size world.notes note) n c && has_room world.notes note item.Locals s.items))) ≡ b
+          → (if b then Ok (falls (rules_frames.with_item s item.Locals)) else Err rule.Stack) ≡ Ok x
+          → locals_growth w world a.frames + total w a.frames ≤ stack_bytes w world.notes
       go false q e = absurd (err_ok rule.Stack x e)
       go true q e =
           let p1 = and_parts (is_some note.locals) _ q in
           let p2 = and_parts (not (list_any is_locals s.items)) _ p1.1 in
           locals_room (and_parts (is_size (locals_size world.notes note) n c) (has_room world.notes note item.Locals s.items) p2.1).1
 
-  index_room : (neg : Bool) (u c : ℕ) (x : Successors) → frame_row world.notes note s (record { n = signed neg u; c = signed neg c }) ≡ Ok x → (if neg && not (nat_eq u 0 && nat_eq c 0) then locals_growth w world a.frames else 0) + total w a.frames ≤ stack_bytes w world.notes
+  index_room : (neg : Bool) (u c : ℕ) (x : Successors) → frame_row world.notes note s (record { n = signed neg u; c = signed neg c }) ≡ Ok x
+      → (if neg && not (nat_eq u 0 && nat_eq c 0) then locals_growth w world a.frames else 0) + total w a.frames ≤ stack_bytes w world.notes
   unfolding frame_row
   index_room false u c x e = total_fits
   index_room true zero zero x e = total_fits
-  index_room true (suc m) zero x e = if_room (not (nat_eq (suc m) 0 && nat_eq 0 0)) (locals_growth w world a.frames) (make_room (suc m) 0 x e)
-  index_room true zero (suc k) x e = if_room (not (nat_eq 0 0 && nat_eq (suc k) 0)) (locals_growth w world a.frames) (make_room 0 (suc k) x e)
-  index_room true (suc m) (suc k) x e = if_room (not (nat_eq (suc m) 0 && nat_eq (suc k) 0)) (locals_growth w world a.frames) (make_room (suc m) (suc k) x e)
+  index_room true (suc m) zero x e = if_room (not (nat_eq (suc m) 0 && nat_eq 0 0)) (locals_growth w world a.frames)
+      (make_room (suc m) 0 x e)
+  index_room true zero (suc k) x e = if_room (not (nat_eq 0 0 && nat_eq (suc k) 0)) (locals_growth w world a.frames)
+      (make_room 0 (suc k) x e)
+  index_room true (suc m) (suc k) x e = if_room (not (nat_eq (suc m) 0 && nat_eq (suc k) 0)) (locals_growth w world a.frames)
+      (make_room (suc m) (suc k) x e)
 
-  moved_room : (ridx : Option Index) (x : Successors) → frame_row world.notes note s (index_distance ridx) ≡ Ok x → index_growth w world a ridx + total w a.frames ≤ stack_bytes w world.notes
+  moved_room : (ridx : Option Index) (x : Successors) → frame_row world.notes note s (index_distance ridx) ≡ Ok x
+      → index_growth w world a ridx + total w a.frames ≤ stack_bytes w world.notes
   moved_room None x e = total_fits
   moved_room (Some i) x e = index_room i.neg i.units i.bytes x e
 
   lower_room : (g : FnNote) → is_lower world.notes note s g ≡ true → return_cell + total w a.frames ≤ stack_bytes w world.notes
   unfolding is_lower
   lower_room g lower =
-      let i = and_parts (nat_lt g.level note.level) (fits_need (items_size (locals_size world.notes note) s.items) g.need note.need) lower in
+      let i = and_parts (nat_lt g.level note.level) (fits_need (items_size
+      (locals_size world.notes note) s.items) g.need note.need) lower in
       let j = and_parts (not (nat_lt (at 4 note.need) (call_size 4 (items_size (locals_size world.notes note) s.items) g.need))) _ i.1 in
       let l4 = ltb-false _ _ (not_is _ j.0) in
       let l8 = ltb-false _ _ (not_is _ j.1) in
       let h4 = top_height world a f fs note s st 4 in
       let h8 = top_height world a f fs note s st 8 in
-      room_upon return_cell (by_width (λ v. return_cell + height v f.items ≤ pair_at v note.need) w h (omega (arith, l4, h4)) (omega (arith, l8, h8)))
+      room_upon return_cell (by_width (λ v. return_cell + height v f.items ≤ pair_at v note.need) w h (omega (arith, l4, h4))
+      (omega (arith, l8, h8)))
     where
       not_is : (b : Bool) → not b ≡ true → b ≡ false
       not_is false e = refl
@@ -212,7 +237,9 @@ module _ (w : ℕ) (world : World) (a : Config) (f : FunctionFrame) (fs : List F
   -- an instruction on data puts nothing there
   data_room : (site : Site) (i : Insn) (k : Change) → data_row world.notes note (here_of site f.func) s i ≡ Ok k → HasRoom w world a i
   data_room site (insns.Move size bits left right lidx ridx) k e =
-      subst (λ b. (if b then index_growth w world a ridx else 0) + total w a.frames ≤ stack_bytes w world.notes) (sym (not_stack_move world.notes note s size left right lidx ridx k (past_test (is_none site.reloc) _ rule.Relocation k e))) total_fits
+      subst (λ b. (if b then index_growth w world a ridx else 0) + total w a.frames ≤ stack_bytes w world.notes)
+      (sym (not_stack_move world.notes note s size left right lidx ridx k
+      (past_test (is_none site.reloc) _ rule.Relocation k e))) total_fits
   data_room site (insns.Compare op wide left right extra) k e = total_fits
   data_room site (insns.CompareImm op wide left idx long imm) k e = total_fits
   data_room site (insns.Arith op wide left right extra) k e = total_fits
@@ -232,27 +259,33 @@ module _ (w : ℕ) (world : World) (a : Config) (f : FunctionFrame) (fs : List F
   data_room site (insns.PushNatural op extra) k e = absurd (no_row (is_none site.reloc) rule.Form rule.Relocation k e)
   data_room site (insns.PopNatural op extra) k e = total_fits
 
-  push_room : (kind : SlotKind) (op : Operand) (extra : Extra) (x : Successors) → push_row world.notes note s kind op extra ≡ Ok x → slot_bytes w kind + total w a.frames ≤ stack_bytes w world.notes
+  push_room : (kind : SlotKind) (op : Operand) (extra : Extra) (x : Successors) → push_row world.notes note s kind op extra ≡ Ok x
+      → slot_bytes w kind + total w a.frames ≤ stack_bytes w world.notes
   push_room kind op extra x e = push_rule world a f fs note s st kind op extra x e (λ t e1 made room out. slot_room kind room)
 
   kind_same : (wide : Bool) → slot_kind wide ≡ form_kind wide
   kind_same true = refl
   kind_same false = refl
 
-  call_room : (site : Site) (far rel : Bool) (op : Operand) (extra : Extra) (x : Successors) → rules_calls.call_row world.notes note (here_of site f.func) s far rel op extra ≡ Ok x → return_cell + total w a.frames ≤ stack_bytes w world.notes
+  call_room : (site : Site) (far rel : Bool) (op : Operand) (extra : Extra) (x : Successors)
+      → rules_calls.call_row world.notes note (here_of site f.func) s far rel op extra ≡ Ok x
+      → return_cell + total w a.frames ≤ stack_bytes w world.notes
   unfolding rules_calls.call_row
   call_room site far rel op extra x e =
-      then_ok (target_of (here_of site f.func) far rel op extra) (call_to world.notes note s) x e (λ z e1 e2. let c = call_allowed world a f fs note s st z x e2 in lower_room c.callee c.lower)
+      then_ok (target_of (here_of site f.func) far rel op extra) (call_to world.notes note s) x e
+      (λ z e1 e2. let c = call_allowed world a f fs note s st z x e2 in lower_room c.callee c.lower)
 
   flow_room : (site : Site) (i : Insn) (x : Successors) → flow_row world.notes note (here_of site f.func) s i ≡ Ok x → HasRoom w world a i
   flow_room site (insns.Push wide op extra) x e =
-      subst (λ k. slot_bytes w k + total w a.frames ≤ stack_bytes w world.notes) (kind_same wide) (push_room (slot_kind wide) op extra x (past_test (is_none site.reloc) _ rule.Relocation x e))
+      subst (λ k. slot_bytes w k + total w a.frames ≤ stack_bytes w world.notes) (kind_same wide)
+      (push_room (slot_kind wide) op extra x (past_test (is_none site.reloc) _ rule.Relocation x e))
   flow_room site (insns.PushNatural op extra) x e = push_room N op extra x (past_test (is_none site.reloc) _ rule.Relocation x e)
   flow_room site (insns.Call far false relative op extra) x e = call_room site far relative op extra x e
   flow_room site (insns.Call far true relative op extra) x e = total_fits
   flow_room site (insns.Move size bits left right lidx ridx) x e =
       let q = move_stack world.notes note s size left right ridx x (past_test (is_none site.reloc) _ rule.Relocation x e) in
-      subst (λ b. (if b then index_growth w world a ridx else 0) + total w a.frames ≤ stack_bytes w world.notes) (sym q.0) (moved_room ridx x q.1)
+      subst (λ b. (if b then index_growth w world a ridx else 0) + total w a.frames ≤ stack_bytes w world.notes) (sym q.0)
+      (moved_room ridx x q.1)
   flow_room site (insns.Compare op wide left right extra) x e = total_fits
   flow_room site (insns.CompareImm op wide left idx long imm) x e = total_fits
   flow_room site (insns.Arith op wide left right extra) x e = total_fits
@@ -270,7 +303,10 @@ module _ (w : ℕ) (world : World) (a : Config) (f : FunctionFrame) (fs : List F
   flow_room site (insns.PopNatural op extra) x e = total_fits
 
 -- The stack has room for what an instruction puts there that its rule accepts.
-pub room_fits : (w : ℕ) (world : World) (a : Config) (f : FunctionFrame) (fs : List Frame) (note : FnNote) (here : Site) (s : State) (i : Insn) (x : Successors) → IsWidth w → WorldTyped world → StandsTyped world a f fs note here s i x → HasRoom w world a i
+pub room_fits : (w : ℕ) (world : World) (a : Config) (f : FunctionFrame) (fs : List Frame) (note : FnNote) (here : Site) (s : State)
+    (i : Insn) (x : Successors) → IsWidth w → WorldTyped world → StandsTyped world a f fs note here s i x → HasRoom w world a i
 room_fits w world a f fs note here s i x q ok h =
-    ⊎_elim (λ d. let c = change_found world.notes note (here_of here f.func) s i d.0 h.there d.1 in data_room w world a f fs note s (top_sound world a f fs note here s i x ok h) q here i c.change c.row)
-    (λ e. flow_room w world a f fs note s (top_sound world a f fs note here s i x ok h) q here i x (row_found world.notes note (here_of here f.func) s i x h.there e)) h.accepted
+    ⊎_elim (λ d. let c = change_found world.notes note (here_of here f.func) s i d.0 h.there d.1 in
+    data_room w world a f fs note s (top_sound world a f fs note here s i x ok h) q here i c.change c.row)
+    (λ e. flow_room w world a f fs note s (top_sound world a f fs note here s i x ok h) q here i x
+    (row_found world.notes note (here_of here f.func) s i x h.there e)) h.accepted

@@ -1,5 +1,6 @@
 -- Parts of types that the rows look at, and the values that fit them.
-use Rattle.std.proofs.Common.{◌≡◌, ℕ, zero, suc, ◌+◌, ◌-◌, ◌%◌, ◌^◌, ◌<◌, ◌≤◌, Bool, true, false, ◌&&◌, if◌then◌else◌, nat_lt, nat_eq, Option, Some, None, refl, sym, ap, ap₂, ◌∙◌, subst, arith, add_comm, ℤ, pos, negsuc, ◌+ℤ◌}
+use Rattle.std.proofs.Common.{◌≡◌, ℕ, zero, suc, ◌+◌, ◌-◌, ◌%◌, ◌^◌, ◌<◌, ◌≤◌, Bool, true, false, ◌&&◌, if◌then◌else◌, nat_lt, nat_eq}
+use Rattle.std.proofs.Common.{Option, Some, None, Result, Ok, Err, refl, sym, ap, ap₂, ◌∙◌, subst, arith, add_comm, ℤ, pos, negsuc, ◌+ℤ◌}
 use Rattle.std.proofs.Math.Nat.{dvd_refl, dvd-zero, dvd_of_mod-eq-zero, dvd-mod_iff}
 use Rattle.std.proofs.lemmas.Bool.{ltb-true, ltb-false, eqb-true, cond_both}
 use Rattle.std.proofs.lemmas.Option.{same_Some, none-some}
@@ -7,22 +8,32 @@ use Prim.Native.Nat.{◌∣◌}
 use Rattle.ebc_width.specs.Width.{wrap64}
 use Rattle.note_types.specs.Types.{IsBounded}
 use Rattle.note_types.specs.declared.notes.Notes.{Notes}
+use Rattle.note_types.specs.declared.rule.RuleName.{RuleName}
 use Rattle.note_types.specs.declared.types.Ty.{Ty}
 use Rattle.note_types.specs.declared.types.Ty.TheVariants.{Any, Int, Lin, Ptr}
 use Rattle.rules_base.specs.declared.parts.Span.{Span}
 use Rattle.rules_base.specs.declared.parts.Offset.{Offset}
 use Rattle.rules_base.specs.declared.parts.Pointer.{Pointer}
 use Rattle.std.specs.Option.{option_or}
-use Rattle.rules_base.specs.Parts.{and_then, only_if, constant, constant_of, single, divisor_of, full, is_near, lin_of, near_offset, offset_of, pointer_of, signed, span_of}
+use Rattle.rules_base.specs.Parts.{and_then, constant, constant_of, single, divisor_of, full, is_near, lin_of, near_offset, offset_of}
+use Rattle.rules_base.specs.Parts.{pointer_of, signed, span_of}
 use Rattle.rules_base.specs.Sums.{at_least_one, euclid, gcd, shared, lin, or_any}
-use Rattle.run_types.specs.Values.{Neutral, number, pair, word}
-use Rattle.run_types.specs.Config.{Registers}
-use Rattle.run_types.specs.Memory.{Memory}
-use Rattle.run_types.specs.Fits.{IsNumber, IsPointer, Fits}
+use Rattle.host_model.specs.Values.{Neutral, number, pair, word}
+use Rattle.neutral_machine.specs.Config.{Registers}
+use Rattle.neutral_machine.specs.Memory.{Memory}
+use Rattle.neutral_machine.specs.Fits.{IsNumber, IsPointer, Fits}
+use Rattle.ebc_base.specs.Steps.{only_if}
 
--- ---- options
+-- ---- results and options
 
-pub then_some : {A B P : Type 0} (o : Option A) (f : A → Option B) (y : B) → and_then o f ≡ Some y → ((x : A) → o ≡ Some x → f x ≡ Some y → P) → P
+pub ok_same : {A : Type 0} (y x : A) → ◌≡◌ {A = Result A RuleName} (Ok y) (Ok x) → y ≡ x
+ok_same y x e = cc
+
+pub err_ok : {A : Type 0} (r : RuleName) (y : A) → ◌≡◌ {A = Result A RuleName} (Err r) (Ok y) → ⊥
+err_ok r y e = absurd cc
+
+pub then_some : {A B P : Type 0} (o : Option A) (f : A → Option B) (y : B) → and_then o f ≡ Some y
+    → ((x : A) → o ≡ Some x → f x ≡ Some y → P) → P
 then_some None f y e k = absurd (none-some y e)
 then_some (Some x) f y e k = k x refl e
 
@@ -71,7 +82,8 @@ divisor_divides x v f = go (nat_eq x.lo x.hi) refl
 -- ---- signed numbers
 
 sub_wrap : (a b : ℕ) → wrap64 (pos a +ℤ negsuc b) ≡ word (wrap64 (pos a) + wrap64 (negsuc b))
-sub_wrap a b = cond_both (nat_lt a (suc b)) (negsuc (suc b - suc a)) (pos (a - suc b)) (λ z. wrap64 z ≡ word (wrap64 (pos a) + wrap64 (negsuc b)))
+sub_wrap a b = cond_both (nat_lt a (suc b)) (negsuc (suc b - suc a)) (pos (a - suc b))
+    (λ z. wrap64 z ≡ word (wrap64 (pos a) + wrap64 (negsuc b)))
     (λ t. let l = ltb-true a (suc b) t in omega arith)
     (λ t. let l = ltb-false a (suc b) t in omega arith)
 
@@ -94,7 +106,8 @@ span_word _ x h b = absurd (none-some x h)
 
 pub constant_word : (a : Ty) (k : ℕ) → constant_of a ≡ Some k → IsBounded a → k < 2 ^ 64
 constant_word a k h b = then_some (span_of a) single k h
-    (λ x p q. if_some (nat_eq x.lo x.hi) x.lo k q (λ t e. let l = span_word a x p b in let z = eqb-true x.lo x.hi t in omega (arith, l, z, e)))
+    (λ x p q. if_some (nat_eq x.lo x.hi) x.lo k q (λ t e. let l = span_word a x p b in let z = eqb-true x.lo x.hi t in
+    omega (arith, l, z, e)))
 
 module _ (notes : Notes) (m : Memory) (d : ℕ) (saved : Registers) where
   -- ---- values of parts
@@ -106,18 +119,22 @@ module _ (notes : Notes) (m : Memory) (d : ℕ) (saved : Registers) where
   pub constant_fits : (a : Ty) (k : ℕ) (v : Neutral) → constant_of a ≡ Some k → Fits notes m d saved a v → v ≡ number k
   constant_fits a k v h f = then_some (span_of a) single k h
       (λ x p q. if_some (nat_eq x.lo x.hi) x.lo k q
-      (λ t e. let g = span_fits a x v p f in let z = eqb-true x.lo x.hi t in g.is ∙ ap number (let y : g.x ≡ k = omega (arith, g.from, g.to, z, e) in y)))
+      (λ t e. let g = span_fits a x v p f in let z = eqb-true x.lo x.hi t in g.is
+      ∙ ap number (let y : g.x ≡ k = omega (arith, g.from, g.to, z, e) in y)))
 
   pub lin_fits : (a : Ty) (o : Offset) (v : Neutral) → lin_of a ≡ Some o → Fits notes m d saved a v → v ≡ pair o.n o.c
   lin_fits (Lin n c) o v h f = subst (λ (z : Offset). v ≡ pair z.n z.c) (same_Some _ o h) f
   lin_fits _ o v h f = absurd (none-some o h)
 
-  pub pointer_fits : (a : Ty) (p : Pointer) (v : Neutral) → pointer_of a ≡ Some p → Fits notes m d saved a v → IsPointer notes m.objects p.shape p.count p.n p.c v
-  pointer_fits (Ptr s k n c false) p v h f = subst (λ (z : Pointer). IsPointer notes m.objects z.shape z.count z.n z.c v) (same_Some _ p h) f
+  pub pointer_fits : (a : Ty) (p : Pointer) (v : Neutral) → pointer_of a ≡ Some p → Fits notes m d saved a v
+      → IsPointer notes m.objects p.shape p.count p.n p.c v
+  pointer_fits (Ptr s k n c false) p v h f = subst (λ (z : Pointer). IsPointer notes m.objects z.shape z.count z.n z.c v)
+      (same_Some _ p h) f
   pointer_fits (Ptr s k n c true) p v h f = absurd (none-some p h)
   pointer_fits _ p v h f = absurd (none-some p h)
 
-  constant_offset : (a : Ty) (o : Offset) (v : Neutral) → IsBounded a → and_then (constant_of a) near_offset ≡ Some o → Fits notes m d saved a v → v ≡ pair o.n o.c
+  constant_offset : (a : Ty) (o : Offset) (v : Neutral) → IsBounded a → and_then (constant_of a) near_offset ≡ Some o
+      → Fits notes m d saved a v → v ≡ pair o.n o.c
   constant_offset a o v b h f = then_some (constant_of a) near_offset o h
       (λ k p q. if_some (is_near (signed k)) (record { n = pos 0; c = signed k }) o q
       (λ t e. constant_fits a k v p f ∙ ap number (sym (signed_wrap k (constant_word a k p b))) ∙ ap (λ (z : Offset). pair z.n z.c) e))
@@ -150,16 +167,19 @@ module _ (notes : Notes) (m : Memory) (d : ℕ) (saved : Registers) where
 
   -- a row is sound for an operation where the type that it gives fits what the operation gives
   abbrev pub RowFits : (Neutral → Neutral → Neutral) → (Ty → Ty → Option Ty) → Type 0
-  RowFits op row = (a b t : Ty) (v u : Neutral) → IsBounded a → IsBounded b → row a b ≡ Some t → Fits notes m d saved a v → Fits notes m d saved b u → Fits notes m d saved t (op v u)
+  RowFits op row = (a b t : Ty) (v u : Neutral) → IsBounded a → IsBounded b → row a b ≡ Some t → Fits notes m d saved a v
+      → Fits notes m d saved b u → Fits notes m d saved t (op v u)
 
-  pub or_fits : (op : Neutral → Neutral → Neutral) (r s : Ty → Ty → Option Ty) → RowFits op r → RowFits op s → RowFits op (λ a b. option_or (r a b) (s a b))
+  pub or_fits : (op : Neutral → Neutral → Neutral) (r s : Ty → Ty → Option Ty) → RowFits op r → RowFits op s
+      → RowFits op (λ a b. option_or (r a b) (s a b))
   or_fits op r s p q a b t v u x y h f g = go (r a b) refl h
     where
       go : (o : Option Ty) → r a b ≡ o → option_or o (s a b) ≡ Some t → Fits notes m d saved t (op v u)
       go None e z = q a b t v u x y z f g
       go (Some k) e z = p a b t v u x y (e ∙ z) f g
 
-  pub any_fits : (op : Neutral → Neutral → Neutral) (r : Ty → Ty → Option Ty) (a b : Ty) (v u : Neutral) → RowFits op r → IsBounded a → IsBounded b → Fits notes m d saved a v → Fits notes m d saved b u → Fits notes m d saved (or_any (r a b)) (op v u)
+  pub any_fits : (op : Neutral → Neutral → Neutral) (r : Ty → Ty → Option Ty) (a b : Ty) (v u : Neutral) → RowFits op r → IsBounded a
+      → IsBounded b → Fits notes m d saved a v → Fits notes m d saved b u → Fits notes m d saved (or_any (r a b)) (op v u)
   any_fits op r a b v u p x y f g = go (r a b) refl
     where
       go : (o : Option Ty) → r a b ≡ o → Fits notes m d saved (or_any o) (op v u)
@@ -167,14 +187,20 @@ module _ (notes : Notes) (m : Memory) (d : ℕ) (saved : Registers) where
       go (Some t) e = p a b t v u x y e f g
 
   -- rows of two Ints
-  pub two_spans : (op : Neutral → Neutral → Neutral) (f : Span → Span → Ty) → ((x y : Span) (v u : Neutral) → x.hi < 2 ^ 64 → y.hi < 2 ^ 64 → IsNumber x.lo x.hi x.div v → IsNumber y.lo y.hi y.div u → Fits notes m d saved (f x y) (op v u)) → RowFits op (λ a b. and_then (span_of a) (λ x. and_then (span_of b) (λ y. Some (f x y))))
+  pub two_spans : (op : Neutral → Neutral → Neutral) (f : Span → Span → Ty)
+      → ((x y : Span) (v u : Neutral) → x.hi < 2 ^ 64 → y.hi < 2 ^ 64 → IsNumber x.lo x.hi x.div v → IsNumber y.lo y.hi y.div u
+      → Fits notes m d saved (f x y) (op v u)) → RowFits op (λ a b. and_then (span_of a) (λ x. and_then (span_of b) (λ y. Some (f x y))))
   two_spans op f k a b t v u l r h p q =
       then_some (span_of a) _ t h (λ x e1 h1. then_some (span_of b) _ t h1 (λ y e2 h2.
-      subst (λ z. Fits notes m d saved z (op v u)) (same_Some _ t h2) (k x y v u (span_word a x e1 l) (span_word b y e2 r) (span_fits a x v e1 p) (span_fits b y u e2 q))))
+      subst (λ z. Fits notes m d saved z (op v u)) (same_Some _ t h2)
+      (k x y v u (span_word a x e1 l) (span_word b y e2 r) (span_fits a x v e1 p) (span_fits b y u e2 q))))
 
   -- rows of two constants
-  pub two_constants : (op : Neutral → Neutral → Neutral) (f : ℕ → ℕ → Ty) → ((x y : ℕ) → x < 2 ^ 64 → y < 2 ^ 64 → Fits notes m d saved (f x y) (op (number x) (number y))) → RowFits op (λ a b. and_then (constant_of a) (λ x. and_then (constant_of b) (λ y. Some (f x y))))
+  pub two_constants : (op : Neutral → Neutral → Neutral) (f : ℕ → ℕ → Ty)
+      → ((x y : ℕ) → x < 2 ^ 64 → y < 2 ^ 64 → Fits notes m d saved (f x y) (op (number x) (number y)))
+      → RowFits op (λ a b. and_then (constant_of a) (λ x. and_then (constant_of b) (λ y. Some (f x y))))
   two_constants op f k a b t v u l r h p q =
       then_some (constant_of a) _ t h (λ x e1 h1. then_some (constant_of b) _ t h1 (λ y e2 h2.
       subst (λ z. Fits notes m d saved z (op v u)) (same_Some _ t h2)
-      (subst (λ z. Fits notes m d saved (f x y) z) (ap₂ op (sym (constant_fits a x v e1 p)) (sym (constant_fits b y u e2 q))) (k x y (constant_word a x e1 l) (constant_word b y e2 r)))))
+      (subst (λ z. Fits notes m d saved (f x y) z) (ap₂ op (sym (constant_fits a x v e1 p)) (sym (constant_fits b y u e2 q)))
+      (k x y (constant_word a x e1 l) (constant_word b y e2 r)))))

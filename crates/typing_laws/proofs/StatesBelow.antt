@@ -7,9 +7,9 @@ use Rattle.note_types.specs.declared.items.Item.{Item}
 use Rattle.note_types.specs.declared.items.Item.TheVariants as item
 use Rattle.note_types.specs.declared.notes.Notes.{Notes}
 use Rattle.note_types.specs.declared.state.State.{State}
-use Rattle.run_types.specs.Config.{Registers, StackItem, Pushed, LocalsOf, FunctionFrame}
-use Rattle.run_types.specs.Memory.{Memory}
-use Rattle.run_types.specs.FitsState.{ItemFits, FitsState}
+use Rattle.neutral_machine.specs.Config.{Registers, StackItem, Pushed, LocalsOf, FunctionFrame}
+use Rattle.neutral_machine.specs.Memory.{Memory}
+use Rattle.neutral_machine.specs.FitsState.{ItemFits, FitsState}
 use Rattle.typing_laws.proofs.FitsBelow.{fits_below}
 
 module _ (notes : Notes) (m : Memory) (d : ℕ) (f : FunctionFrame) where
@@ -21,7 +21,8 @@ module _ (notes : Notes) (m : Memory) (d : ℕ) (f : FunctionFrame) where
   item_below (Pushed kind v) item.Locals item.Locals h g = absurd g
   item_below (LocalsOf s) (item.Slot k a) (item.Slot l b) h g = absurd g
 
-  items_below : (is : List StackItem) (xs ys : List Item) → AllZip ItemBelow xs ys → AllZip (ItemFits notes m d f) is xs → AllZip (ItemFits notes m d f) is ys
+  items_below : (is : List StackItem) (xs ys : List Item) → AllZip ItemBelow xs ys → AllZip (ItemFits notes m d f) is xs
+      → AllZip (ItemFits notes m d f) is ys
   items_below [] [] [] h g = tt
   items_below (i ∷ is) (x ∷ xs) (y ∷ ys) h g = (item_below i x y h.0 g.0, items_below is xs ys h.1 g.1)
   items_below is [] (y ∷ ys) h g = absurd h
@@ -30,7 +31,8 @@ module _ (notes : Notes) (m : Memory) (d : ℕ) (f : FunctionFrame) where
   items_below (i ∷ is) [] [] h g = absurd g
 
   -- A frame that fits a state fits each state above it.
-  pub state_fits_below : (s t : State) (regs : Registers) (c : Bool) (made : ℕ) → StateBelow s t → FitsState notes m d f s regs c made → FitsState notes m d f t regs c made
+  pub state_fits_below : (s t : State) (regs : Registers) (c : Bool) (made : ℕ) → StateBelow s t → FitsState notes m d f s regs c made
+      → FitsState notes m d f t regs c made
   state_fits_below s t regs c made h g = record {
     registers = λ r a b. fits_below notes m d f.saved _ _ (regs r) (h.registers r a b) (g.registers r a b);
     items = items_below f.items s.items t.items h.items g.items;

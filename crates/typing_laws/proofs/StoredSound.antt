@@ -1,7 +1,8 @@
 -- A cell that is stored leaves a configuration sound.
-use Rattle.std.proofs.Common.{◌≡◌, ℕ, ◌^◌, ◌⊎◌, Bool, true, false, ◌&&◌, if◌then◌else◌, nat_lt, nat_eq, Option, Some, None, refl, sym, ap, ap₂, ◌∙◌, subst, arith, inl, inr, ⊎_elim, bit_or, is_some}
+use Rattle.std.proofs.Common.{◌≡◌, ℕ, ◌^◌, ◌⊎◌, Bool, true, false, if◌then◌else◌, nat_lt, nat_eq, Option, Some, None, refl, sym, ap}
+use Rattle.std.proofs.Common.{◌∙◌, subst, arith, inl, inr, ⊎_elim, bit_or, is_some}
 use Rattle.std.specs.Int.{bit_at}
-use Rattle.std.proofs.lemmas.Bool.{cases_eq, eqb-true, and_parts, false≢true, eq-eqb, and_from}
+use Rattle.std.proofs.lemmas.Bool.{cases_eq, eq-eqb, and_from}
 use Rattle.std.proofs.lemmas.Nat.Bits.{bit_at_or, bit_at-pow_other, bit_at-lt, bit_at-zero}
 use Rattle.std.proofs.lemmas.Option.{same_Some}
 use Rattle.note_types.specs.Cells.{content_type}
@@ -11,27 +12,16 @@ use Rattle.note_types.specs.declared.shape.Field.{Field}
 use Rattle.note_types.specs.declared.state.State.{State}
 use Rattle.rules_base.specs.Change.{with_store}
 use Rattle.rules_base.specs.Places.{with_field}
-use Rattle.run_types.specs.Values.{Neutral, CellPlace, FieldOf, FieldOfLocals, same_cell_place}
-use Rattle.run_types.specs.Config.{Registers, FunctionFrame}
-use Rattle.run_types.specs.Memory.{Memory, cell_field, IsWritten, with_cell}
-use Rattle.run_types.specs.Fits.{FitsPlain}
-use Rattle.run_types.specs.FitsState.{FitsState}
+use Rattle.host_model.specs.Values.{Neutral, CellPlace, FieldOf, FieldOfLocals, same_cell_place}
+use Rattle.neutral_machine.specs.Config.{Registers, FunctionFrame}
+use Rattle.neutral_machine.specs.Memory.{Memory, cell_field, with_cell, IsFieldWritten}
+use Rattle.neutral_machine.specs.Fits.{FitsPlain}
+use Rattle.neutral_machine.specs.FitsState.{FitsState}
 use Rattle.typed_runs.specs.Sound.{CellsFit}
-use Rattle.typed_runs.proofs.LaterFits.{fits_later, items_later}
+use Rattle.typed_runs.proofs.LaterFits.{FieldsLater, fields_later, fits_later, items_later}
 use Rattle.typed_runs.specs.Later.{Later}
 use Rattle.typed_runs.specs.Live.{live_cells}
-
--- two cells that are one
-same_place : (p q : CellPlace) → same_cell_place p q ≡ true → p ≡ q
-same_place (FieldOf k i f) (FieldOf l j g) e =
-    let a = and_parts (nat_eq k l) (nat_eq i j && nat_eq f g) e in
-    let b = and_parts (nat_eq i j) (nat_eq f g) a.1 in
-    ap₂ (λ x (y : ℕ × ℕ). FieldOf x y.0 y.1) (eqb-true k l a.0) (ap₂ (λ x y. (x, y)) (eqb-true i j b.0) (eqb-true f g b.1))
-same_place (FieldOfLocals d f) (FieldOfLocals e g) h =
-    let a = and_parts (nat_eq d e) (nat_eq f g) h in
-    ap₂ FieldOfLocals (eqb-true d e a.0) (eqb-true f g a.1)
-same_place (FieldOf k i f) (FieldOfLocals e g) h = absurd (false≢true h)
-same_place (FieldOfLocals d f) (FieldOf l j g) h = absurd (false≢true h)
+use Rattle.neutral_machine.proofs.CellPairs.{one_place}
 
 own_place : (d x : ℕ) → same_cell_place (FieldOfLocals d x) (FieldOfLocals d x) ≡ true
 own_place d x = and_from (nat_eq d d) (nat_eq x x) (eq-eqb d d refl) (eq-eqb x x refl)
@@ -68,7 +58,7 @@ module _ (notes : Notes) (m : Memory) (p : CellPlace) (v : Neutral) (z : Field) 
   -- the cell that is stored, and the others
   stored_cell : (q : CellPlace) → same_cell_place p q ≡ true → after.cells q ≡ Some v
   stored_cell q s =
-      ap (λ o. if is_some o then with_cell m.cells p v q else None) (ap (cell_field notes m) (sym (same_place p q s)) ∙ here)
+      ap (λ o. if is_some o then with_cell m.cells p v q else None) (ap (cell_field notes m) (sym (one_place p q s)) ∙ here)
       ∙ ap (λ b. if b then Some v else m.cells q) s
 
   other_cell : (q : CellPlace) → same_cell_place p q ≡ false → after.cells q ≡ (live notes m).cells q
@@ -81,45 +71,57 @@ module _ (notes : Notes) (m : Memory) (p : CellPlace) (v : Neutral) (z : Field) 
     written = λ e f l h. go e f h (same_cell_place p (FieldOfLocals e f)) refl;
   }
     where
-      go : (e f : ℕ) → IsWritten (live notes m) e f → (b : Bool) → same_cell_place p (FieldOfLocals e f) ≡ b → IsWritten after e f
+      go : (e f : ℕ) → IsFieldWritten (live notes m) e f → (b : Bool) → same_cell_place p (FieldOfLocals e f) ≡ b → IsFieldWritten after e f
       go e f h true q = record { value = v; is = stored_cell (FieldOfLocals e f) q }
       go e f h false q = record { value = h.value; is = other_cell (FieldOfLocals e f) q ∙ h.is }
 
+  stay : (d : ℕ) → FieldsLater notes d (live notes m) after
+  stay d = fields_later notes d (live notes m) after (store_later d)
+
   -- the cells fit
   pub cells_stored : FitsPlain notes m.objects (content_type z.cell) v → CellsFit notes (live notes m) → CellsFit notes after
-  cells_stored f h = record { fit = λ q y u g k. fit q y u g k (same_cell_place p q) refl; all = λ k i x y g. all k i x y g (same_cell_place p (FieldOf k i x)) refl }
+  cells_stored f h = record {
+    fit = λ q y u g k. fit q y u g k (same_cell_place p q) refl;
+    all = λ k i x y g. all k i x y g (same_cell_place p (FieldOf k i x)) refl;
+  }
     where
-      fit : (q : CellPlace) (y : Field) (u : Neutral) → cell_field notes m q ≡ Some y → after.cells q ≡ Some u → (b : Bool) → same_cell_place p q ≡ b → FitsPlain notes m.objects (content_type y.cell) u
+      fit : (q : CellPlace) (y : Field) (u : Neutral) → cell_field notes m q ≡ Some y → after.cells q ≡ Some u → (b : Bool)
+          → same_cell_place p q ≡ b → FitsPlain notes m.objects (content_type y.cell) u
       fit q y u g k true s =
-          let same : z ≡ y = same_Some z y (sym here ∙ ap (cell_field notes m) (same_place p q s) ∙ g) in
+          let same : z ≡ y = same_Some z y (sym here ∙ ap (cell_field notes m) (one_place p q s) ∙ g) in
           let is : v ≡ u = same_Some v u (sym (stored_cell q s) ∙ k) in
-          subst (λ (i : Field). FitsPlain notes m.objects (content_type i.cell) u) same (subst (λ i. FitsPlain notes m.objects (content_type z.cell) i) is f)
+          subst (λ (i : Field). FitsPlain notes m.objects (content_type i.cell) u) same
+          (subst (λ i. FitsPlain notes m.objects (content_type z.cell) i) is f)
       fit q y u g k false s = h.fit q y u g (sym (other_cell q s) ∙ k)
 
-      all : (k i x : ℕ) (y : Field) → cell_field notes m (FieldOf k i x) ≡ Some y → (b : Bool) → same_cell_place p (FieldOf k i x) ≡ b → (u : Neutral) × (after.cells (FieldOf k i x) ≡ Some u)
+      all : (k i x : ℕ) (y : Field) → cell_field notes m (FieldOf k i x) ≡ Some y → (b : Bool) → same_cell_place p (FieldOf k i x) ≡ b
+          → (u : Neutral) × (after.cells (FieldOf k i x) ≡ Some u)
       all k i x y g true s = (v, stored_cell (FieldOf k i x) s)
       all k i x y g false s = let r = h.all k i x y g in (r.0, other_cell (FieldOf k i x) s ∙ r.1)
 
   -- the frame on top fits the state, a local field that is stored being written
-  pub state_stored : (d : ℕ) (f : FunctionFrame) (s : State) (o : Option ℕ) (regs : Registers) (c : Bool) (made : ℕ) → ((x : ℕ) → o ≡ Some x → p ≡ FieldOfLocals d x) → FitsState notes (live notes m) d f s regs c made → FitsState notes after d f (with_store s o) regs c made
+  pub state_stored : (d : ℕ) (f : FunctionFrame) (s : State) (o : Option ℕ) (regs : Registers) (c : Bool) (made : ℕ)
+      → ((x : ℕ) → o ≡ Some x → p ≡ FieldOfLocals d x) → FitsState notes (live notes m) d f s regs c made
+      → FitsState notes after d f (with_store s o) regs c made
   unfolding with_store
   state_stored d f s None regs c made h g = record {
-    registers = λ r a b. fits_later notes d (live notes m) after (store_later d) f.saved _ (regs r) (g.registers r a b);
-    items = items_later notes d (live notes m) after (store_later d) f f.items s.items g.items;
+    registers = λ r a b. fits_later notes d (live notes m) after (stay d) f.saved _ (regs r) (g.registers r a b);
+    items = items_later notes d (live notes m) after (stay d) f f.items s.items g.items;
     written = λ x q. (store_later d).written d x (omega arith) (g.written x q);
     made_are = g.made_are;
     fact = λ x e. record { gave = (g.fact x e).gave };
   }
   state_stored d f s (Some x) regs c made h g = record {
-    registers = λ r a b. fits_later notes d (live notes m) after (store_later d) f.saved _ (regs r) (g.registers r a b);
-    items = items_later notes d (live notes m) after (store_later d) f f.items s.items g.items;
+    registers = λ r a b. fits_later notes d (live notes m) after (stay d) f.saved _ (regs r) (g.registers r a b);
+    items = items_later notes d (live notes m) after (stay d) f f.items s.items g.items;
     written = λ y q. ⊎_elim (λ k. (store_later d).written d y (omega arith) (g.written y k)) (λ e. own y e) (added_field s.written x y q);
     made_are = g.made_are;
     fact = λ y e. record { gave = (g.fact y e).gave };
   }
     where
-      own : (y : ℕ) → y ≡ x → IsWritten after d y
+      own : (y : ℕ) → y ≡ x → IsFieldWritten after d y
       own y e = record {
         value = v;
-        is = stored_cell (FieldOfLocals d y) (ap (λ z. same_cell_place z (FieldOfLocals d y)) (h x refl) ∙ ap (λ z. same_cell_place (FieldOfLocals d x) (FieldOfLocals d z)) e ∙ own_place d x);
+        is = stored_cell (FieldOfLocals d y) (ap (λ z. same_cell_place z (FieldOfLocals d y)) (h x refl)
+            ∙ ap (λ z. same_cell_place (FieldOfLocals d x) (FieldOfLocals d z)) e ∙ own_place d x);
       }

@@ -1,6 +1,7 @@
 -- What the rules let be stored fits the cell that it is stored to.
-use Rattle.std.proofs.Common.{◌≡◌, ℕ, ◌+◌, ◌-◌, ◌^◌, ◌<◌, ◌≤◌, Bool, true, false, ◌&&◌, ◌||◌, nat_le, nat_eq, refl, ap, ◌∙◌, subst, arith, inl, inr, ⊎_elim, pos}
-use Rattle.std.proofs.lemmas.Bool.{lt-ltb, le-leb, eq-eqb, and_from, false≢true}
+use Rattle.std.proofs.Common.{◌≡◌, ℕ, ◌+◌, ◌-◌, ◌^◌, ◌<◌, ◌≤◌, Bool, true, false, ◌&&◌, ◌||◌, nat_le, nat_eq, refl, ap, ◌∙◌, subst, arith}
+use Rattle.std.proofs.Common.{inl, inr, ⊎_elim, pos}
+use Rattle.std.proofs.lemmas.Bool.{lt-ltb, le-leb, eq-eqb, and_from, false≢true, or_left, or_right}
 use Rattle.note_types.specs.BelowTests.{is_below}
 use Rattle.note_types.specs.Cells.{IsBoundedCell, content_type}
 use Rattle.note_types.specs.Types.{IsBounded}
@@ -14,13 +15,14 @@ use Rattle.rules_base.specs.declared.access.Access.{Access}
 use Rattle.rules_base.specs.declared.access.Access.TheVariants as access
 use Rattle.rules_base.specs.Access.{stores, takes}
 use Rattle.rules_base.specs.Parts.{is_int}
-use Rattle.run_types.specs.Values.{Neutral, number, plain, word}
-use Rattle.run_types.specs.Config.{Registers}
-use Rattle.run_types.specs.Memory.{Memory}
-use Rattle.run_types.specs.Fits.{OrNull, IsPointer, FitsPlain, Fits}
-use Rattle.run_types.specs.Operations.{instance_of, is_null}
-use Rattle.run_types.specs.Locations.{fits_bits, is_error, is_instance, room_if, fits_cell}
-use Rattle.run_types.specs.Locations as locations
+use Rattle.host_model.specs.Values.{Neutral, plain}
+use Rattle.neutral_machine.specs.Config.{Registers}
+use Rattle.neutral_machine.specs.Memory.{Memory}
+use Rattle.neutral_machine.specs.Fits.{OrNull, IsPointer, FitsPlain, Fits}
+use Rattle.neutral_machine.specs.Operations.{instance_of, is_null}
+use Rattle.neutral_machine.specs.Locations.{fits_bits, is_error, is_instance, room_if, fits_cell}
+use Rattle.neutral_machine.specs.Locations as locations
+use Rattle.neutral_machine.proofs.CellTakes.{bits_fit}
 use Rattle.typing_laws.proofs.Rows.{one_divides}
 use Rattle.typing_laws.proofs.Objects.{ObjectsFit, start_is, instance_is}
 use Rattle.typing_laws.proofs.FitsBelow.{fits_below}
@@ -31,13 +33,6 @@ Within access.Byte (ty.Int lo hi div) = hi < 2 ^ 8
 Within access.Word (ty.Int lo hi div) = hi < 2 ^ 16
 Within access.Dword (ty.Int lo hi div) = hi < 2 ^ 32
 Within _ _ = Unit {0}
-
-or_left : (a b : Bool) → a ≡ true → (a || b) ≡ true
-or_left a b e = ap (λ x. x || b) e
-
-or_right : (a b : Bool) → b ≡ true → (a || b) ≡ true
-or_right true b e = refl
-or_right false b e = e
 
 module _ (notes : Notes) (m : Memory) (ok : ObjectsFit notes m.objects) (d : ℕ) (saved : Registers) where
   -- what fits a content type here fits it in every frame
@@ -54,21 +49,23 @@ module _ (notes : Notes) (m : Memory) (ok : ObjectsFit notes m.objects) (d : ℕ
   content_plain (cell.P64 s k may) v f = f
   content_plain (cell.Method n) v f = f
 
-  bits_fit : (bits x : ℕ) (v : Neutral) → v ≡ number x → x < 2 ^ bits → 2 ^ bits ≤ 2 ^ 64 → fits_bits bits (plain v) ≡ true
-  bits_fit bits x v e l h = ap (λ z. fits_bits bits (plain z)) e ∙ lt-ltb (word x) (2 ^ bits) (let w : word x ≡ x = omega (arith, l, h) in omega (arith, w, l))
-
-  instance_fits : (s k : ℕ) (v : Neutral) → 1 ≤ k → IsPointer notes m.objects s k (pos 0) (pos 0) v → is_instance m.objects s k (instance_of notes m.objects v) ≡ true
+  instance_fits : (s k : ℕ) (v : Neutral) → 1 ≤ k → IsPointer notes m.objects s k (pos 0) (pos 0) v
+      → is_instance m.objects s k (instance_of notes m.objects v) ≡ true
   instance_fits s k v l f =
       let q = start_is notes m.objects ok s k v l f in
       ap (is_instance m.objects s k) (instance_is notes m.objects ok s k v q l) ∙ ap (room_if s k q.j) q.there
-      ∙ and_from (nat_eq q.object.shape s) (nat_le (q.j + k) q.object.count) (eq-eqb q.object.shape s q.shape) (le-leb (q.j + k) q.object.count q.room)
+      ∙ and_from (nat_eq q.object.shape s) (nat_le (q.j + k) q.object.count) (eq-eqb q.object.shape s q.shape)
+      (le-leb (q.j + k) q.object.count q.room)
 
-  pointer_fits : (s k : ℕ) (may : Bool) (v : Neutral) → 1 ≤ k → OrNull may v (IsPointer notes m.objects s k (pos 0) (pos 0) v) → (is_instance m.objects s k (instance_of notes m.objects v) || (may && is_null v)) ≡ true
-  pointer_fits s k true v l f = ⊎_elim (λ p. or_left _ (is_null v) (instance_fits s k v l p)) (λ e. or_right (is_instance m.objects s k (instance_of notes m.objects v)) (is_null v) (ap is_null e)) f
+  pointer_fits : (s k : ℕ) (may : Bool) (v : Neutral) → 1 ≤ k → OrNull may v (IsPointer notes m.objects s k (pos 0) (pos 0) v)
+      → (is_instance m.objects s k (instance_of notes m.objects v) || (may && is_null v)) ≡ true
+  pointer_fits s k true v l f = ⊎_elim (λ p. or_left _ (is_null v) (instance_fits s k v l p))
+      (λ e. or_right (is_instance m.objects s k (instance_of notes m.objects v)) (is_null v) (ap is_null e)) f
   pointer_fits s k false v l f = or_left _ false (instance_fits s k v l f)
 
   -- what fits a cell's content type is taken by the cell
-  pub content_fits : (c : Cell) (v : Neutral) → IsBoundedCell c → Fits notes m d saved (content_type c) v → fits_cell notes m.objects c v ≡ true
+  pub content_fits : (c : Cell) (v : Neutral) → IsBoundedCell c → Fits notes m d saved (content_type c) v
+      → fits_cell notes m.objects c v ≡ true
   unfolding fits_cell
   content_fits cell.I8 v k f = bits_fit 8 f.x v f.is (omega (arith, f.to)) (omega arith)
   content_fits cell.I16 v k f = bits_fit 16 f.x v f.is (omega (arith, f.to)) (omega arith)
@@ -78,17 +75,22 @@ module _ (notes : Notes) (m : Memory) (ok : ObjectsFit notes m.objects) (d : ℕ
   content_fits cell.Stat v k f = ⊎_elim
       (λ e. or_right (fits_bits 31 (plain v)) (is_error v) (ap is_error e.is ∙ lt-ltb e.code (2 ^ 31) e.small))
       (λ s. or_left (fits_bits 31 (plain v)) (is_error v) (bits_fit 31 s.0.code v s.0.is s.0.small (omega arith))) f
-  content_fits cell.Handle v k f = ⊎_elim (λ e. ap (λ z. locations.is_handle z || is_null z) e.is) (λ e. ap (λ z. locations.is_handle z || is_null z) e) f
-  content_fits cell.Entry v k f = ⊎_elim (λ e. ap (λ z. locations.is_entry z || is_null z) e.is) (λ e. ap (λ z. locations.is_entry z || is_null z) e) f
+  content_fits cell.Handle v k f = ⊎_elim (λ e. ap (λ z. locations.is_handle z || is_null z) e.is)
+      (λ e. ap (λ z. locations.is_handle z || is_null z) e) f
+  content_fits cell.Entry v k f = ⊎_elim (λ e. ap (λ z. locations.is_entry z || is_null z) e.is)
+      (λ e. ap (λ z. locations.is_entry z || is_null z) e) f
   content_fits (cell.Ptr s k may) v l f = pointer_fits s k may v l.1 f
   content_fits (cell.P64 s k may) v l f = pointer_fits s k may v l.1 f
   content_fits (cell.Method n) v k f = ap (locations.is_method n) f ∙ eq-eqb n n refl
 
-  below_content : (c : Cell) (t : Ty) (v : Neutral) → is_below t (content_type c) ≡ true → Fits notes m d saved t v → Fits notes m d saved (content_type c) v
+  below_content : (c : Cell) (t : Ty) (v : Neutral) → is_below t (content_type c) ≡ true → Fits notes m d saved t v
+      → Fits notes m d saved (content_type c) v
   below_content c t v e f = fits_below notes m d saved t (content_type c) v ((is_below_exact t (content_type c)).0 e) f
 
-  int_content : (c : Cell) (t : Ty) (v : Neutral) (top : ℕ) → is_int t ≡ true → ((lo hi div : ℕ) → t ≡ ty.Int lo hi div → hi ≤ top) → Fits notes m d saved t v → Fits notes m d saved (ty.Int 0 top 1) v
-  int_content c (ty.Int lo hi div) v top e h f = let l = h lo hi div refl in record { x = f.x; is = f.is; from = omega arith; to = omega (arith, f.to, l); divided = one_divides f.x }
+  int_content : (c : Cell) (t : Ty) (v : Neutral) (top : ℕ) → is_int t ≡ true → ((lo hi div : ℕ) → t ≡ ty.Int lo hi div → hi ≤ top)
+      → Fits notes m d saved t v → Fits notes m d saved (ty.Int 0 top 1) v
+  int_content c (ty.Int lo hi div) v top e h f = let l = h lo hi div refl in
+      record { x = f.x; is = f.is; from = omega arith; to = omega (arith, f.to, l); divided = one_divides f.x }
   int_content c _ v top e h f = absurd (false≢true e)
 
   within_Byte : (t : Ty) (lo hi div : ℕ) → t ≡ ty.Int lo hi div → Within access.Byte t → hi ≤ 2 ^ 8 - 1
@@ -104,7 +106,8 @@ module _ (notes : Notes) (m : Memory) (ok : ObjectsFit notes m.objects) (d : ℕ
   bounded t lo hi div q w = let z = subst IsBounded q w in let l = z.1 in omega (arith, l)
 
   -- What the rules let be stored to a cell fits its content type.
-  pub taken_fits : (a : Access) (c : Cell) (t : Ty) (v : Neutral) → stores a c ≡ true → takes c t ≡ true → Within a t → IsBounded t → Fits notes m d saved t v → Fits notes m d saved (content_type c) v
+  pub taken_fits : (a : Access) (c : Cell) (t : Ty) (v : Neutral) → stores a c ≡ true → takes c t ≡ true → Within a t → IsBounded t
+      → Fits notes m d saved t v → Fits notes m d saved (content_type c) v
   taken_fits access.Byte cell.I8 t v e h w b f = int_content cell.I8 t v (2 ^ 8 - 1) h (λ lo hi div q. within_Byte t lo hi div q w) f
   taken_fits access.Byte cell.I16 t v e h w b f = absurd (false≢true e)
   taken_fits access.Byte cell.I32 t v e h w b f = absurd (false≢true e)

@@ -1,6 +1,8 @@
 -- The rows of sums, differences and products are sound.
-use Rattle.std.proofs.Common.{◌≡◌, ℕ, zero, suc, ◌+◌, ◌-◌, ◌*◌, ◌/◌, ◌%◌, ◌^◌, ◌<◌, ◌≤◌, Bool, true, false, ◌&&◌, ◌||◌, if◌then◌else◌, nat_lt, nat_le, nat_eq, Option, Some, slice_get, refl, sym, ap, ap₂, ◌∙◌, subst, arith, ⊎_elim, add_comm, le_refl, ℤ, ◌+ℤ◌}
-use Rattle.std.proofs.Math.Nat.{add-mod-mod, mod-add-mod, dvd-add, dvd-sub, dvd_trans, dvd_of_mod-eq-zero, mod-eq-zero_of_dvd}
+use Rattle.std.proofs.Common.{◌≡◌, ℕ, zero, suc, ◌+◌, ◌-◌, ◌*◌, ◌/◌, ◌%◌, ◌^◌, ◌<◌, ◌≤◌, Bool, true, false, ◌&&◌, ◌||◌, if◌then◌else◌}
+use Rattle.std.proofs.Common.{nat_lt, nat_le, nat_eq, Option, Some, slice_get, refl, sym, ap, ap₂, ◌∙◌, subst, arith, ⊎_elim, add_comm}
+use Rattle.std.proofs.Common.{le_refl, ℤ, ◌+ℤ◌}
+use Rattle.std.proofs.Math.Nat.{add-mod-mod, mod-add-mod, dvd-add, dvd-sub, dvd_trans, mod-eq-zero_of_dvd}
 use Rattle.std.proofs.lemmas.Bool.{ltb-true, leb-true, and_parts, eqb-true, or_cases}
 use Rattle.std.proofs.lemmas.Nat.{le-div, div-add-mod'}
 use Rattle.std.proofs.lemmas.Option.{same_Some, none-some, get_or_from_slice_get}
@@ -16,15 +18,20 @@ use Rattle.rules_base.specs.declared.parts.Span.{Span}
 use Rattle.rules_base.specs.declared.parts.Offset.{Offset}
 use Rattle.rules_base.specs.declared.parts.Pointer.{Pointer}
 use Rattle.std.specs.Option.{option_or}
-use Rattle.rules_base.specs.Parts.{and_then, constant, constant_of, divisor_of, fall_of, full, is_near, lin_of, offset_of, pointer_of, span_of}
-use Rattle.rules_base.specs.Sums.{shared, pointer_at, onward, constant_sum, fall_sum, added, int_sum, lin_sum, by_scaled, scaled_sum, strides, by_bytes, bytes_sum, offset_sum, pointer_sum, sum_row, sum}
-use Rattle.run_types.specs.Values.{ObjectOf, Neutral, Num, At, Handle, Method, Entry, Error, SignedError, Junk, number, pair, word}
-use Rattle.run_types.specs.Config.{Registers}
-use Rattle.run_types.specs.Objects.{shape_of, no_shape}
-use Rattle.run_types.specs.Memory.{Memory}
-use Rattle.run_types.specs.Fits.{IsNumber, IsPointer, Fits}
-use Rattle.run_types.specs.Operations.{sum_of}
-use Rattle.typing_laws.proofs.Rows.{then_some, if_some, one_divides, DividesBoth, shared_divides, divisor_divides, wrap_add, span_word, constant_word, span_fits, constant_fits, lin_fits, pointer_fits, offset_fits, number_fits, word_fits, lin_is, RowFits, or_fits, any_fits, two_spans, two_constants}
+use Rattle.rules_base.specs.Parts.{and_then, constant, constant_of, divisor_of, fall_of, full, is_near, lin_of, offset_of, pointer_of}
+use Rattle.rules_base.specs.Parts.{span_of}
+use Rattle.rules_base.specs.Sums.{shared, pointer_at, onward, constant_sum, fall_sum, added, int_sum, lin_sum, by_scaled, scaled_sum}
+use Rattle.rules_base.specs.Sums.{strides, by_bytes, bytes_sum, offset_sum, pointer_sum, sum_row, sum}
+use Rattle.host_model.specs.Values.{ObjectOf, Neutral, Num, At, Handle, Method, Entry, Error, SignedError, Junk, number, pair, word}
+use Rattle.neutral_machine.specs.Config.{Registers}
+use Rattle.host_model.specs.Objects.{shape_of, no_shape}
+use Rattle.neutral_machine.specs.Memory.{Memory}
+use Rattle.neutral_machine.specs.Fits.{IsNumber, IsPointer, Fits}
+use Rattle.neutral_machine.specs.Operations.{sum_of}
+use Rattle.typing_laws.proofs.Rows.{then_some, if_some, one_divides, DividesBoth, shared_divides, divisor_divides, wrap_add, span_word}
+use Rattle.typing_laws.proofs.Rows.{constant_word, span_fits, constant_fits, lin_fits, pointer_fits, offset_fits, number_fits, word_fits}
+use Rattle.typing_laws.proofs.Rows.{lin_is, RowFits, or_fits, any_fits, two_spans, two_constants}
+use Rattle.typing_laws.proofs.NarrowFit.{divides_is}
 
 -- ---- sums of values
 
@@ -65,7 +72,8 @@ moved j i s n d h = mod-add-mod (j * s + n) (2 ^ 64) d ∙ ap word (let e : j * 
 
 pub moved_pair : (m : ℕ) (y z : ℤ) → word (word (m + wrap64 y) + wrap64 z) ≡ word (m + wrap64 (y +ℤ z))
 moved_pair m y z =
-    mod-add-mod (m + wrap64 y) (2 ^ 64) (wrap64 z) ∙ ap word (let e : m + wrap64 y + wrap64 z ≡ m + (wrap64 y + wrap64 z) = omega arith in e)
+    mod-add-mod (m + wrap64 y) (2 ^ 64) (wrap64 z) ∙ ap word (let e : m + wrap64 y + wrap64 z ≡ m + (wrap64 y + wrap64 z) = omega arith in
+    e)
     ∙ sym (add-mod-mod m (wrap64 y + wrap64 z) (2 ^ 64)) ∙ ap (λ x. word (m + x)) (sym (wrap_add y z))
 
 -- a multiple of a divisor
@@ -82,10 +90,6 @@ times_of (suc d) x hi p k l =
     let r : x / suc d * suc d ≤ hi = omega (arith, e) in
     record { q = x / suc d; is = e; to = le-div (x / suc d) hi (suc d) p r }
 
-divides_is : (d y : ℕ) → 0 < d → divides d y ≡ true → d ∣ y
-divides_is zero y p h = absurd (omega arith)
-divides_is (suc d) y p h = dvd_of_mod-eq-zero (suc d) (eqb-true _ _ h)
-
 zero_times : (q s : ℕ) → s ≡ 0 → 0 ≡ q * s
 zero_times q s h = rw h (omega arith)
 
@@ -99,7 +103,8 @@ module _ (notes : Notes) (m : Memory) (d : ℕ) (saved : Registers) where
   constants_fit = two_constants notes m d saved sum_of (λ x y. constant ((x + y) % 2 ^ 64))
       (λ x y l r. number_fits notes m d saved ((x + y) % 2 ^ 64) _ _ 1 _ refl (le_refl _) (le_refl _) (one_divides _))
 
-  added_fits : (x y : Span) (v u : Neutral) → x.hi < 2 ^ 64 → y.hi < 2 ^ 64 → IsNumber x.lo x.hi x.div v → IsNumber y.lo y.hi y.div u → Fits notes m d saved (added x y) (sum_of v u)
+  added_fits : (x y : Span) (v u : Neutral) → x.hi < 2 ^ 64 → y.hi < 2 ^ 64 → IsNumber x.lo x.hi x.div v → IsNumber y.lo y.hi y.div u
+      → Fits notes m d saved (added x y) (sum_of v u)
   added_fits x y v u l r p q = go (nat_lt (x.lo + y.lo) (2 ^ 64) && nat_lt (x.hi + y.hi) (2 ^ 64)) refl
     where
       g : DividesBoth (shared (divisor_of x) (divisor_of y)) (divisor_of x) (divisor_of y)
@@ -108,7 +113,9 @@ module _ (notes : Notes) (m : Memory) (d : ℕ) (saved : Registers) where
       is : sum_of v u ≡ number (word (p.x + q.x))
       is = ap₂ sum_of p.is q.is
 
-      go : (t : Bool) → (nat_lt (x.lo + y.lo) (2 ^ 64) && nat_lt (x.hi + y.hi) (2 ^ 64)) ≡ t → Fits notes m d saved (if t then Int (x.lo + y.lo) (x.hi + y.hi) (shared (divisor_of x) (divisor_of y)) else full 64) (sum_of v u)
+      go : (t : Bool) → (nat_lt (x.lo + y.lo) (2 ^ 64) && nat_lt (x.hi + y.hi) (2 ^ 64)) ≡ t
+          → Fits notes m d saved (if t then Int (x.lo + y.lo) (x.hi + y.hi) (shared (divisor_of x) (divisor_of y)) else full 64)
+          (sum_of v u)
       go true h =
           let h1 = (and_parts (nat_lt (x.lo + y.lo) (2 ^ 64)) (nat_lt (x.hi + y.hi) (2 ^ 64)) h).1 in
           let less = ltb-true (x.hi + y.hi) (2 ^ 64) h1 in
@@ -122,8 +129,10 @@ module _ (notes : Notes) (m : Memory) (d : ℕ) (saved : Registers) where
 
   fall_fits : RowFits notes m d saved sum_of fall_sum
   fall_fits a b t v u l r h f g =
-      then_some (span_of a) _ t h (λ x e1 h1. then_some (and_then (constant_of b) fall_of) _ t h1 (λ n e2 h2. then_some (constant_of b) fall_of n e2 (λ k e3 h3.
-      if_some (nat_le 18446744073708503040 k) (2 ^ 64 - 1 - k + 1) n h3 (λ t1 e4. if_some (nat_le n x.lo) (Int (x.lo - n) (x.hi - n) (shared x.div n)) t h2 (λ t2 e5.
+      then_some (span_of a) _ t h (λ x e1 h1. then_some (and_then (constant_of b) fall_of) _ t h1
+      (λ n e2 h2. then_some (constant_of b) fall_of n e2 (λ k e3 h3.
+      if_some (nat_le 18446744073708503040 k) (2 ^ 64 - 1 - k + 1) n h3
+      (λ t1 e4. if_some (nat_le n x.lo) (Int (x.lo - n) (x.hi - n) (shared x.div n)) t h2 (λ t2 e5.
       let p = span_fits notes m d saved a x v e1 f in
       let q = constant_fits notes m d saved b k u e3 g in
       let k1 = constant_word b k e3 r in
@@ -131,7 +140,8 @@ module _ (notes : Notes) (m : Memory) (d : ℕ) (saved : Registers) where
       let l1 = leb-true n x.lo t2 in
       let c = shared_divides x.div n in
       let e : word (p.x + k) ≡ p.x - n = omega (arith, p.from, p.to, w, k1, l1, e4) in
-      subst (λ z. Fits notes m d saved z (sum_of v u)) e5 (number_fits notes m d saved (p.x - n) _ _ _ _ (ap₂ sum_of p.is q ∙ ap number e) (omega (arith, p.from)) (omega (arith, p.to))
+      subst (λ z. Fits notes m d saved z (sum_of v u)) e5 (number_fits notes m d saved (p.x - n) _ _ _ _ (ap₂ sum_of p.is q ∙ ap number e)
+      (omega (arith, p.from)) (omega (arith, p.to))
       (dvd-sub _ (dvd_trans _ c.first p.divided) c.second)))))))
 
   lins_fit : RowFits notes m d saved sum_of lin_sum
@@ -140,13 +150,11 @@ module _ (notes : Notes) (m : Memory) (d : ℕ) (saved : Registers) where
       let p = lin_fits notes m d saved a x v e1 f in
       let q = offset_fits notes m d saved b y u r e2 g in
       subst (λ z. Fits notes m d saved z (sum_of v u)) (same_Some _ t h2)
-      (lin_is notes m d saved (x.n +ℤ y.n) (x.c +ℤ y.c) (sum_of v u) (ap₂ sum_of p q ∙ ap₂ Num (sym (wrap_add x.n y.n)) (sym (wrap_add x.c y.c))))))
+      (lin_is notes m d saved (x.n +ℤ y.n) (x.c +ℤ y.c) (sum_of v u)
+      (ap₂ sum_of p q ∙ ap₂ Num (sym (wrap_add x.n y.n)) (sym (wrap_add x.c y.c))))))
 
-  -- the shape of a pointer
-  shape_is : (k : ℕ) (s : Shape) → slice_get notes.shape k ≡ Some s → shape_of notes k ≡ s
-  shape_is k s h = get_or_from_slice_get notes.shape k s no_shape h
-
-  by_scaled_fits : (p : Pointer) (s : Shape) (b t : Ty) (v u : Neutral) → shape_of notes p.shape ≡ s → by_scaled p s b ≡ Some t → IsPointer notes m.objects p.shape p.count p.n p.c v → Fits notes m d saved b u → Fits notes m d saved t (sum_of v u)
+  by_scaled_fits : (p : Pointer) (s : Shape) (b t : Ty) (v u : Neutral) → shape_of notes p.shape ≡ s → by_scaled p s b ≡ Some t
+      → IsPointer notes m.objects p.shape p.count p.n p.c v → Fits notes m d saved b u → Fits notes m d saved t (sum_of v u)
   by_scaled_fits p s (Scaled n c hi) t v u es h f g =
       if_some (nat_eq s.n n && (nat_eq s.c c && nat_lt hi p.count)) (onward p hi) t h (λ e1 e2.
       let a = and_parts (nat_eq s.n n) (nat_eq s.c c && nat_lt hi p.count) e1 in
@@ -158,7 +166,8 @@ module _ (notes : Notes) (m : Memory) (d : ℕ) (saved : Registers) where
         k = f.k;
         j = f.j + g.i;
         object = f.object;
-        is = ap₂ sum_of f.is g.is ∙ ap₂ (At (ObjectOf f.k)) (moved f.j g.i (shape_of notes p.shape).n (wrap64 p.n) (g.i * n) (ap (λ z. g.i * z) en)) (moved f.j g.i (shape_of notes p.shape).c (wrap64 p.c) (g.i * c) (ap (λ z. g.i * z) ec));
+        is = ap₂ sum_of f.is g.is ∙ ap₂ (At (ObjectOf f.k)) (moved f.j g.i (shape_of notes p.shape).n (wrap64 p.n) (g.i * n)
+            (ap (λ z. g.i * z) en)) (moved f.j g.i (shape_of notes p.shape).c (wrap64 p.c) (g.i * c) (ap (λ z. g.i * z) ec));
         there = f.there;
         shape = f.shape;
         room = omega (arith, f.room, g.to, less);
@@ -168,9 +177,10 @@ module _ (notes : Notes) (m : Memory) (d : ℕ) (saved : Registers) where
   scaled_fits : RowFits notes m d saved sum_of (scaled_sum notes.shape)
   scaled_fits a b t v u l r h f g =
       then_some (pointer_of a) _ t h (λ p e1 h1. then_some (slice_get notes.shape p.shape) _ t h1 (λ s e2 h2.
-      by_scaled_fits p s b t v u (shape_is p.shape s e2) h2 (pointer_fits notes m d saved a p v e1 f) g))
+      by_scaled_fits p s b t v u (get_or_from_slice_get notes.shape p.shape s no_shape e2) h2 (pointer_fits notes m d saved a p v e1 f) g))
 
-  by_bytes_fits : (p : Pointer) (s : Shape) (x : Span) (t : Ty) (v u : Neutral) → shape_of notes p.shape ≡ s → by_bytes p s x ≡ Some t → IsPointer notes m.objects p.shape p.count p.n p.c v → IsNumber x.lo x.hi x.div u → Fits notes m d saved t (sum_of v u)
+  by_bytes_fits : (p : Pointer) (s : Shape) (x : Span) (t : Ty) (v u : Neutral) → shape_of notes p.shape ≡ s → by_bytes p s x ≡ Some t
+      → IsPointer notes m.objects p.shape p.count p.n p.c v → IsNumber x.lo x.hi x.div u → Fits notes m d saved t (sum_of v u)
   by_bytes_fits p s x t v u es h f g =
       if_some (nat_eq s.n 0 && (strides s.c x && nat_lt (x.hi / s.c) p.count)) (onward p (x.hi / s.c)) t h (λ e1 e2.
       let a = and_parts (nat_eq s.n 0) (strides s.c x && nat_lt (x.hi / s.c) p.count) e1 in
@@ -185,24 +195,30 @@ module _ (notes : Notes) (m : Memory) (d : ℕ) (saved : Registers) where
         k = f.k;
         j = f.j + q.q;
         object = f.object;
-        is = ap₂ sum_of f.is g.is ∙ ap₂ (At (ObjectOf f.k)) (moved f.j q.q (shape_of notes p.shape).n (wrap64 p.n) 0 (zero_times q.q _ n0)) (moved f.j q.q (shape_of notes p.shape).c (wrap64 p.c) g.x (q.is ∙ ap (λ z. q.q * z) ec));
+        is = ap₂ sum_of f.is g.is ∙ ap₂ (At (ObjectOf f.k)) (moved f.j q.q (shape_of notes p.shape).n (wrap64 p.n) 0 (zero_times q.q _ n0))
+            (moved f.j q.q (shape_of notes p.shape).c (wrap64 p.c) g.x (q.is ∙ ap (λ z. q.q * z) ec));
         there = f.there;
         shape = f.shape;
         room = omega (arith, f.room, q.to, less);
       }))
     where
-      strided : (x : Span) (s : ℕ) (g : IsNumber x.lo x.hi x.div u) → 0 < s → (divides s x.div || (nat_eq x.lo x.hi && divides s x.lo)) ≡ true → s ∣ g.x
+      strided : (x : Span) (s : ℕ) (g : IsNumber x.lo x.hi x.div u) → 0 < s
+          → (divides s x.div || (nat_eq x.lo x.hi && divides s x.lo)) ≡ true → s ∣ g.x
       strided x s g p h = ⊎_elim
           (λ e. dvd_trans _ (divides_is s x.div p e) g.divided)
-          (λ e. let z = and_parts (nat_eq x.lo x.hi) (divides s x.lo) e in let y = eqb-true x.lo x.hi z.0 in let k : x.lo ≡ g.x = omega (arith, g.from, g.to, y) in subst (λ i. s ∣ i) k (divides_is s x.lo p z.1))
+          (λ e. let z = and_parts (nat_eq x.lo x.hi) (divides s x.lo) e in let y = eqb-true x.lo x.hi z.0 in
+          let k : x.lo ≡ g.x = omega (arith, g.from, g.to, y) in subst (λ i. s ∣ i) k (divides_is s x.lo p z.1))
           (or_cases (divides s x.div) (nat_eq x.lo x.hi && divides s x.lo) h)
 
   bytes_fit : RowFits notes m d saved sum_of (bytes_sum notes.shape)
   bytes_fit a b t v u l r h f g =
-      then_some (pointer_of a) _ t h (λ p e1 h1. then_some (slice_get notes.shape p.shape) _ t h1 (λ s e2 h2. then_some (span_of b) _ t h2 (λ x e3 h3.
-      by_bytes_fits p s x t v u (shape_is p.shape s e2) h3 (pointer_fits notes m d saved a p v e1 f) (span_fits notes m d saved b x u e3 g))))
+      then_some (pointer_of a) _ t h (λ p e1 h1. then_some (slice_get notes.shape p.shape) _ t h1
+      (λ s e2 h2. then_some (span_of b) _ t h2 (λ x e3 h3.
+      by_bytes_fits p s x t v u (get_or_from_slice_get notes.shape p.shape s no_shape e2) h3 (pointer_fits notes m d saved a p v e1 f)
+      (span_fits notes m d saved b x u e3 g))))
 
-  pointer_at_fits : (p : Pointer) (o : Offset) (v u : Neutral) → IsPointer notes m.objects p.shape p.count p.n p.c v → u ≡ pair o.n o.c → Fits notes m d saved (pointer_at p (p.n +ℤ o.n) (p.c +ℤ o.c)) (sum_of v u)
+  pointer_at_fits : (p : Pointer) (o : Offset) (v u : Neutral) → IsPointer notes m.objects p.shape p.count p.n p.c v → u ≡ pair o.n o.c
+      → Fits notes m d saved (pointer_at p (p.n +ℤ o.n) (p.c +ℤ o.c)) (sum_of v u)
   pointer_at_fits p o v u f g = go (is_near (p.n +ℤ o.n) && is_near (p.c +ℤ o.c))
     where
       go : (b : Bool) → Fits notes m d saved (if b then Ptr p.shape p.count (p.n +ℤ o.n) (p.c +ℤ o.c) false else Any) (sum_of v u)
@@ -211,7 +227,8 @@ module _ (notes : Notes) (m : Memory) (d : ℕ) (saved : Registers) where
         k = f.k;
         j = f.j;
         object = f.object;
-        is = ap₂ sum_of f.is g ∙ ap₂ (At (ObjectOf f.k)) (moved_pair (f.j * (shape_of notes p.shape).n) p.n o.n) (moved_pair (f.j * (shape_of notes p.shape).c) p.c o.c);
+        is = ap₂ sum_of f.is g ∙ ap₂ (At (ObjectOf f.k)) (moved_pair (f.j * (shape_of notes p.shape).n) p.n o.n)
+            (moved_pair (f.j * (shape_of notes p.shape).c) p.c o.c);
         there = f.there;
         shape = f.shape;
         room = f.room;
@@ -224,7 +241,8 @@ module _ (notes : Notes) (m : Memory) (d : ℕ) (saved : Registers) where
       (pointer_at_fits p o v u (pointer_fits notes m d saved a p v e1 f) (offset_fits notes m d saved b o u r e2 g))))
 
   pointers_fit : RowFits notes m d saved sum_of (pointer_sum notes.shape)
-  pointers_fit = or_fits notes m d saved sum_of (scaled_sum notes.shape) (λ a b. option_or (bytes_sum notes.shape a b) (offset_sum a b)) scaled_fits
+  pointers_fit = or_fits notes m d saved sum_of (scaled_sum notes.shape)
+      (λ a b. option_or (bytes_sum notes.shape a b) (offset_sum a b)) scaled_fits
       (or_fits notes m d saved sum_of (bytes_sum notes.shape) offset_sum bytes_fit offsets_fit)
 
   -- the rows of a sum, in their order
@@ -234,8 +252,7 @@ module _ (notes : Notes) (m : Memory) (d : ℕ) (saved : Registers) where
       (option_or (lin_sum a b) (option_or (lin_sum b a) (option_or (pointer_sum notes.shape a b) (pointer_sum notes.shape b a)))))))
 
   rows_fit : RowFits notes m d saved sum_of rows
-  rows_fit =
-      or_fits notes m d saved sum_of constant_sum _ constants_fit
+  rows_fit = or_fits notes m d saved sum_of constant_sum _ constants_fit
       (or_fits notes m d saved sum_of fall_sum _ fall_fits
       (or_fits notes m d saved sum_of (λ a b. fall_sum b a) _ (sum_flips fall_sum fall_fits)
       (or_fits notes m d saved sum_of int_sum _ ints_fit
@@ -244,6 +261,7 @@ module _ (notes : Notes) (m : Memory) (d : ℕ) (saved : Registers) where
       (or_fits notes m d saved sum_of (pointer_sum notes.shape) _ pointers_fit (sum_flips (pointer_sum notes.shape) pointers_fit)))))))
 
   -- The sum of values fits the sum of types.
-  pub sum_fits : (a b : Ty) (v u : Neutral) → IsBounded a → IsBounded b → Fits notes m d saved a v → Fits notes m d saved b u → Fits notes m d saved (sum notes.shape a b) (sum_of v u)
+  pub sum_fits : (a b : Ty) (v u : Neutral) → IsBounded a → IsBounded b → Fits notes m d saved a v → Fits notes m d saved b u
+      → Fits notes m d saved (sum notes.shape a b) (sum_of v u)
   unfolding sum sum_row
   sum_fits a b v u l r f g = any_fits notes m d saved sum_of rows a b v u rows_fit l r f g

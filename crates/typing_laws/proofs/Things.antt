@@ -1,9 +1,9 @@
 -- What starts at a place of the image: the rules' type fits the neutral machine's address.
-use Rattle.std.proofs.Common.{◌≡◌, ℕ, zero, suc, ◌+◌, ◌*◌, Bool, true, false, if◌then◌else◌, nat_eq, List, [], ◌∷◌, ◌++◌, map, length, Option, Some, None, slice_get, position, not, nat_lt, refl, sym, ap, ap₂, ◌∙◌, subst, arith, ⊎_elim, pos}
+use Rattle.std.proofs.Common.{◌≡◌, ℕ, zero, suc, ◌+◌, ◌*◌, Bool, true, false, if◌then◌else◌, nat_eq, List, [], ◌∷◌, ◌++◌, map, length}
+use Rattle.std.proofs.Common.{Option, Some, None, slice_get, position, not, nat_lt, refl, sym, ap, ap₂, ◌∙◌, subst, arith, ⊎_elim, pos}
 use Rattle.std.specs.List.{find, position_or_len}
 use Rattle.std.specs.Option.{option_map, option_map_or, option_or}
 use Rattle.std.proofs.lemmas.List.Folds.{find_at}
-use Rattle.typing_laws.proofs.Objects.{there}
 use Rattle.std.specs.Ordering.{int_eq}
 use Rattle.std.proofs.lemmas.Bool.{eqb-true, eqb-false, cases_Bool, lt-ltb}
 use Rattle.std.proofs.lemmas.Bool.Decides.{Decides-int_eq}
@@ -16,14 +16,15 @@ use Rattle.note_types.specs.declared.types.Ty.{Ty}
 use Rattle.note_types.specs.declared.types.Ty.TheVariants as ty
 use Rattle.rules_base.specs.Parts.{and_then}
 use Rattle.rules_base.specs.Things.{is_static_at, is_thunk_at, static_type, thunk_type, static_at, thunk_at, thing_at}
-use Rattle.run_types.specs.Values.{ObjectOf, ThunkOf, Neutral, At, Junk, word}
-use Rattle.run_types.specs.Config.{Registers}
-use Rattle.run_types.specs.Objects.{static_object, shape_of}
-use Rattle.run_types.specs.declared.object.TypedObject.{TypedObject}
-use Rattle.run_types.specs.Memory.{Memory}
-use Rattle.run_types.specs.Fits.{Fits}
+use Rattle.host_model.specs.Values.{ObjectOf, ThunkOf, Neutral, At, Junk, word}
+use Rattle.neutral_machine.specs.Config.{Registers}
+use Rattle.host_model.specs.Objects.{static_object, shape_of}
+use Rattle.host_model.specs.declared.object.TypedObject.{TypedObject}
+use Rattle.neutral_machine.specs.Memory.{Memory}
+use Rattle.neutral_machine.specs.Fits.{Fits}
 use Rattle.neutral_machine.specs.Rows.{address_of_place}
 use Rattle.typing_laws.proofs.Rows.{then_some}
+use Rattle.ebc_base.proofs.Lists.{within_some}
 
 pos_same : (a b : ℕ) → pos a ≡ pos b → a ≡ b
 pos_same a b e = cc
@@ -32,7 +33,8 @@ pos_same a b e = cc
 same_test : (a b : ℕ) → int_eq (pos a) (pos b) ≡ nat_eq a b
 same_test a b = ⊎_elim
     (λ e. (Decides-int_eq (pos a) (pos b)).1 (ap pos (eqb-true a b e)) ∙ sym e)
-    (λ e. ⊎_elim (λ g. absurd (eqb-false a b e (pos_same a b ((Decides-int_eq (pos a) (pos b)).0 g)))) (λ g. g ∙ sym e) (cases_Bool (int_eq (pos a) (pos b))))
+    (λ e. ⊎_elim (λ g. absurd (eqb-false a b e (pos_same a b ((Decides-int_eq (pos a) (pos b)).0 g)))) (λ g. g ∙ sym e)
+    (cases_Bool (int_eq (pos a) (pos b))))
     (cases_Bool (nat_eq a b))
 
 -- the first place is the same by tests that agree
@@ -61,7 +63,8 @@ static_found p ss x e =
     }
 
 static_none : (p : ℕ) (ss : List Static) → find (is_static_at (pos p)) ss ≡ None → position (λ (s : Static). nat_eq s.place p) ss ≡ None
-static_none p ss e = sym (position_same (is_static_at (pos p)) (λ (s : Static). nat_eq s.place p) (λ (s : Static). same_test s.place p) ss) ∙ go (position (is_static_at (pos p)) ss) refl
+static_none p ss e = sym (position_same (is_static_at (pos p)) (λ (s : Static). nat_eq s.place p) (λ (s : Static). same_test s.place p) ss)
+    ∙ go (position (is_static_at (pos p)) ss) refl
   where
     n : ℕ
     n = position_or_len (is_static_at (pos p)) ss
@@ -71,7 +74,7 @@ static_none p ss e = sym (position_same (is_static_at (pos p)) (λ (s : Static).
     go (Some i) h =
         let w = position-Some (is_static_at (pos p)) ss i (record { place = 0; shape = 0; count = 0 }) h in
         let s : i ≡ n = position_is i h in
-        let q = there ss i w.0 in
+        let q = within_some ss i w.0 in
         absurd (none-some q.0 (sym e ∙ find_at (is_static_at (pos p)) ss ∙ ap (slice_get ss) (sym s) ∙ q.1))
       where
         position_is : (i : ℕ) → position (is_static_at (pos p)) ss ≡ Some i → i ≡ n
@@ -81,37 +84,46 @@ static_none p ss e = sym (position_same (is_static_at (pos p)) (λ (s : Static).
             cases true h = sym (same_Some n i h)
             cases false h = absurd (none-some i h)
 
-front : (ss : List Static) (os : List TypedObject) (i : ℕ) (x : Static) → slice_get ss i ≡ Some x → slice_get (map static_object ss ++ os) i ≡ Some (static_object x)
+front : (ss : List Static) (os : List TypedObject) (i : ℕ) (x : Static) → slice_get ss i ≡ Some x
+    → slice_get (map static_object ss ++ os) i ≡ Some (static_object x)
 front [] os i x e = absurd (none-some x e)
 front (s ∷ ss) os zero x e = ap (λ z. Some (static_object z)) (same_Some s x e)
 front (s ∷ ss) os (suc i) x e = front ss os i x e
 
-module _ (notes : Notes) (m : Memory) (os : List TypedObject) (are : m.objects ≡ map static_object notes.statics ++ os) (d : ℕ) (saved : Registers) where
+module _ (notes : Notes) (m : Memory) (os : List TypedObject) (are : m.objects ≡ map static_object notes.statics ++ os) (d : ℕ)
+    (saved : Registers) where
   -- What the rules say starts at a place is what its address is.
   pub thing_fits : (p : ℕ) (t : Ty) → thing_at notes (pos p) ≡ Some t → Fits notes m d saved t (address_of_place notes p)
   unfolding thing_at static_at thunk_at address_of_place
   thing_fits p t e = go (find (is_static_at (pos p)) notes.statics) refl e
     where
       address : Option ℕ → Option ℕ → Neutral
-      address o q = option_map_or (λ v. v) (option_or (option_map (λ k. At (ObjectOf k) 0 0) o) (option_map (λ i. At (ThunkOf i) 0 0) q)) Junk
+      address o q = option_map_or (λ v. v) (option_or (option_map (λ k. At (ObjectOf k) 0 0) o)
+          (option_map (λ i. At (ThunkOf i) 0 0) q)) Junk
 
       zero_word : (n : ℕ) → 0 ≡ word (0 * n + 0)
       zero_word n = omega arith
 
-      thunk : find (is_static_at (pos p)) notes.statics ≡ None → and_then (position (is_thunk_at (pos p)) notes.thunk) thunk_type ≡ Some t → Fits notes m d saved t (address_of_place notes p)
+      thunk : find (is_static_at (pos p)) notes.statics ≡ None → and_then (position (is_thunk_at (pos p)) notes.thunk) thunk_type ≡ Some t
+          → Fits notes m d saved t (address_of_place notes p)
       thunk h e = then_some (position (is_thunk_at (pos p)) notes.thunk) thunk_type t e (λ i e1 e2.
-          let r = sym (position_same (is_thunk_at (pos p)) (λ (y : Thunk). nat_eq y.place p) (λ (y : Thunk). same_test y.place p) notes.thunk) ∙ e1 in
+          let r = sym (position_same (is_thunk_at (pos p)) (λ (y : Thunk). nat_eq y.place p)
+          (λ (y : Thunk). same_test y.place p) notes.thunk) ∙ e1 in
           subst (λ z. Fits notes m d saved z (address_of_place notes p)) (same_Some (ty.ThunkAt i) t e2)
           (ap₂ address (static_none p notes.statics h) r))
 
-      go : (o : Option Static) → find (is_static_at (pos p)) notes.statics ≡ o → option_or (and_then o static_type) (and_then (position (is_thunk_at (pos p)) notes.thunk) thunk_type) ≡ Some t → Fits notes m d saved t (address_of_place notes p)
+      go : (o : Option Static) → find (is_static_at (pos p)) notes.statics ≡ o
+          → option_or (and_then o static_type) (and_then (position (is_thunk_at (pos p)) notes.thunk) thunk_type) ≡ Some t
+          → Fits notes m d saved t (address_of_place notes p)
       go (Some x) h e =
           let r = static_found p notes.statics x h in
-          subst (λ z. Fits notes m d saved z (address_of_place notes p)) (same_Some (ty.Ptr x.shape x.count (pos 0) (pos 0) false) t e) (record {
+          subst (λ z. Fits notes m d saved z (address_of_place notes p)) (same_Some (ty.Ptr x.shape x.count (pos 0) (pos 0) false) t e)
+          (record {
             k = r.i;
             j = 0;
             object = static_object x;
-            is = ap (λ o. address o (position (λ (y : Thunk). nat_eq y.place p) notes.thunk)) r.from ∙ ap₂ (At (ObjectOf r.i)) (zero_word (shape_of notes x.shape).n) (zero_word (shape_of notes x.shape).c);
+            is = ap (λ o. address o (position (λ (y : Thunk). nat_eq y.place p) notes.thunk)) r.from
+                ∙ ap₂ (At (ObjectOf r.i)) (zero_word (shape_of notes x.shape).n) (zero_word (shape_of notes x.shape).c);
             there = ap (λ os. slice_get os r.i) are ∙ front notes.statics os r.i x r.there;
             shape = refl;
             room = omega arith;

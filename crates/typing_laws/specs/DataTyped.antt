@@ -1,4 +1,4 @@
--- The rules of instructions on data are true of the neutral machine.
+-- For proofs: the rules of instructions on data are true of the neutral machine.
 use Rattle.std.specs.Prelude.{◌≡◌, List, Ok}
 use Rattle.ebc_insn.specs.declared.Insn.{Insn}
 use Rattle.neutral_machine.specs.Rows.{NeutralEnd, Next, Site, executed}
@@ -7,8 +7,8 @@ use Rattle.note_types.specs.declared.spot.Spot.TheVariants.{Place}
 use Rattle.note_types.specs.declared.state.State.{State}
 use Rattle.rules_data.specs.Data.{after_data}
 use Rattle.rules_flow.specs.Successors.{falls}
-use Rattle.run_types.specs.Config.{FunctionFrame, Frame, Config}
-use Rattle.run_types.specs.World.{World}
+use Rattle.neutral_machine.specs.Config.{FunctionFrame, Frame, Config}
+use Rattle.host_model.specs.World.{World}
 use Rattle.typed_runs.specs.Accepts.{Accepts}
 use Rattle.typing_laws.specs.OneRule.{WorldTyped, StandsTyped, here_of}
 use Rattle.typed_runs.specs.Sound.{Sound}

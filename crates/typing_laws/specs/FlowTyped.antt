@@ -1,4 +1,4 @@
--- What follows from the rules for the stack.
+-- For proofs: what follows from the rules for the stack.
 use Rattle.std.specs.Prelude.{ℕ, ◌≤◌, List}
 use Rattle.ebc_insn.specs.declared.Insn.{Insn}
 use Rattle.ebc_width.specs.Width.{IsWidth}
@@ -7,10 +7,10 @@ use Rattle.neutral_machine.specs.Rows.{Site}
 use Rattle.note_types.specs.declared.notes.FnNote.{FnNote}
 use Rattle.note_types.specs.declared.state.State.{State}
 use Rattle.rules_flow.specs.declared.successors.Successors.{Successors}
-use Rattle.run_types.specs.Config.{FunctionFrame, Frame, Config}
-use Rattle.run_types.specs.Layout.{total}
-use Rattle.run_types.specs.Placements.{stack_bytes}
-use Rattle.run_types.specs.World.{World}
+use Rattle.neutral_machine.specs.Config.{FunctionFrame, Frame, Config}
+use Rattle.neutral_machine.specs.Layout.{total}
+use Rattle.host_model.specs.Placements.{stack_bytes}
+use Rattle.host_model.specs.World.{World}
 use Rattle.typing_laws.specs.OneRule.{WorldTyped, StandsTyped}
 use Rattle.typed_runs.specs.Sound.{SoundBelow}
 
@@ -21,5 +21,6 @@ SoundFitsStack = (w : ℕ) (world : World) (a : Config) → IsWidth w → SoundB
 -- The stack has room for what an instruction puts there that its rule accepts, at either width.
 abbrev pub RuleFitsStack : Type 0
 RuleFitsStack =
-    (w : ℕ) (world : World) (a : Config) (f : FunctionFrame) (fs : List Frame) (note : FnNote) (here : Site) (s : State) (i : Insn) (x : Successors)
+    (w : ℕ) (world : World) (a : Config) (f : FunctionFrame) (fs : List Frame) (note : FnNote) (here : Site) (s : State) (i : Insn)
+    (x : Successors)
     → IsWidth w → WorldTyped world → StandsTyped world a f fs note here s i x → HasRoom w world a i

@@ -1,3 +1,4 @@
 pub mod OneRule
 pub mod DataTyped
 pub mod FlowTyped
+pub mod AccessTables

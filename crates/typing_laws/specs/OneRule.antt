@@ -1,5 +1,5 @@
--- One instruction that its rule accepts: what the neutral machine then does from a sound configuration. Widths, placements and
--- bytes don't come into it.
+-- For proofs: One instruction that its rule accepts: what the neutral machine then does from a sound configuration. Widths,
+-- placements and bytes don't come into it.
 use Rattle.std.specs.Prelude.{◌≡◌, ◌⊎◌, ℕ, suc, ◌%◌, ◌^◌, ◌<◌, false, List, [], ◌∷◌, Some, None, Ok, slice_get, length}
 use Rattle.ebc_insn.specs.Spelling.{WellFormed}
 use Rattle.ebc_insn.specs.declared.Insn.{Insn}
@@ -20,14 +20,14 @@ use Rattle.rules_data.specs.Data.{after_data}
 use Rattle.rules_flow.specs.declared.successors.Successors.{Successors}
 use Rattle.rules_flow.specs.Flow.{after_flow}
 use Rattle.rules_flow.specs.Successors.{falls}
-use Rattle.run_types.specs.Config.{FunctionFrame, Frame, Function, Host, Config, depth}
-use Rattle.run_types.specs.HostPlans.{site_of}
-use Rattle.run_types.specs.NeutralReadings.{neutral_slots}
-use Rattle.run_types.specs.Objects.{made_objects}
-use Rattle.run_types.specs.declared.object.TypedObject.{TypedObject}
-use Rattle.run_types.specs.Placements.{object_bytes}
-use Rattle.run_types.specs.Values.{Neutral, At, Method, ThunkOf}
-use Rattle.run_types.specs.World.{World}
+use Rattle.neutral_machine.specs.Config.{FunctionFrame, Frame, Function, Host, Config, depth}
+use Rattle.host_model.specs.HostPlans.{site_of}
+use Rattle.neutral_machine.specs.NeutralReadings.{neutral_slots}
+use Rattle.host_model.specs.Objects.{made_objects}
+use Rattle.host_model.specs.declared.object.TypedObject.{TypedObject}
+use Rattle.host_model.specs.Placements.{object_bytes}
+use Rattle.host_model.specs.Values.{Neutral, At, Method, ThunkOf}
+use Rattle.host_model.specs.World.{World}
 use Rattle.typed_runs.specs.Accepts.{Accepts}
 use Rattle.typed_runs.specs.Asked.{ArgumentsFit, GivenByCall, GivenByNative}
 use Rattle.typed_runs.specs.Later.{IsFresh, Preserves, WillFit}
@@ -53,12 +53,14 @@ pub record WorldTyped (world : World) : Type 0 where
   pub fits : WorldFits world
   pub notes : IsNotes world.notes
   pub points : Each (λ (p : Point). p.place % 2 ≡ 0) world.notes.point
-  pub small : (n k : ℕ) (o : TypedObject) → slice_get (made_objects world.notes world.script n) k ≡ Some o → object_bytes 8 world.notes o < 2 ^ 32
+  pub small : (n k : ℕ) (o : TypedObject) → slice_get (made_objects world.notes world.script n) k ≡ Some o
+      → object_bytes 8 world.notes o < 2 ^ 32
   pub size : world.image_size < 2 ^ 64
 
 -- An instruction of the function on top stands at the configuration's spot, and its rule accepts it in a state with which the
 -- configuration is sound: the next place is even, and inside the image where control may go on there.
-pub record StandsTyped (world : World) (a : Config) (f : FunctionFrame) (fs : List Frame) (note : FnNote) (here : Site) (s : State) (i : Insn) (x : Successors) : Type 0 where
+pub record StandsTyped (world : World) (a : Config) (f : FunctionFrame) (fs : List Frame) (note : FnNote) (here : Site) (s : State)
+    (i : Insn) (x : Successors) : Type 0 where
   pub frames : a.frames ≡ Function f ∷ fs
   pub spot : a.spot ≡ Place here.place
   pub there : slice_get world.notes.function f.func ≡ Some note
@@ -84,7 +86,8 @@ pub record GoesOn (world : World) (here : Site) (x : Successors) (b : Config) : 
   pub sound : Sound world b state
 
 -- A function is entered: the configuration is sound with its entry state, and the caller will fit the state where it goes on.
-pub record Enters (world : World) (here : Site) (x : Successors) (a : Config) (f : FunctionFrame) (fs : List Frame) (b : Config) : Type 0 where
+pub record Enters (world : World) (here : Site) (x : Successors) (a : Config) (f : FunctionFrame) (fs : List Frame)
+    (b : Config) : Type 0 where
   pub callee : FunctionFrame
   pub note : FnNote
   pub there : slice_get world.notes.function callee.func ≡ Some note
@@ -115,7 +118,8 @@ pub record Returns (world : World) (a : Config) (f : FunctionFrame) (fs : List F
 
 -- A native method is called: the place has a site of a signature of it, the slots on top are what that wants, all thunks are
 -- made, and the function will fit the state where it goes on. Nothing but the spot has changed.
-pub record Asks (world : World) (here : Site) (x : Successors) (a : Config) (f : FunctionFrame) (fs : List Frame) (target : Neutral) (b : Config) : Type 0 where
+pub record Asks (world : World) (here : Site) (x : Successors) (a : Config) (f : FunctionFrame) (fs : List Frame) (target : Neutral)
+    (b : Config) : Type 0 where
   pub spot : b.spot ≡ Place here.next
   pub frames : b.frames ≡ Function f ∷ fs
   pub number : ℕ
@@ -135,7 +139,8 @@ pub record Asks (world : World) (here : Site) (x : Successors) (a : Config) (f :
 
 -- A thunk is made: it is the next one, the function is the entry function, and with it made the configuration is sound with
 -- the state where the function goes on.
-pub record Makes (world : World) (here : Site) (x : Successors) (a : Config) (f : FunctionFrame) (fs : List Frame) (thunk : ℕ) (b : Config) : Type 0 where
+pub record Makes (world : World) (here : Site) (x : Successors) (a : Config) (f : FunctionFrame) (fs : List Frame) (thunk : ℕ)
+    (b : Config) : Type 0 where
   pub spot : b.spot ≡ Place here.next
   pub frames : b.frames ≡ Function f ∷ fs
   pub named : b.registers 7 ≡ At (ThunkOf thunk) 0 0

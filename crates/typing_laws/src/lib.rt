@@ -3,6 +3,7 @@
 #![tactic(auto)]
 
 ghost use Rattle.typed_runs.specs.Laws.{StatesFitBelow};
+ghost use Rattle.typing_laws.specs.AccessTables.{FormsAgree, LoadsAgree, ParametersAgree, StoresAgree};
 ghost use Rattle.typing_laws.specs.DataTyped.{OneDataRule};
 ghost use Rattle.typing_laws.specs.FlowTyped.{RuleFitsStack, SoundFitsStack};
 ghost use Rattle.typing_laws.specs.OneRule.{OneRule};
@@ -29,4 +30,12 @@ pub fn one_rule()
 pub fn rules_fit_stack()
     ensures sound { SoundFitsStack }
     ensures rule { RuleFitsStack }
+{}
+
+/// What the rules let be loaded and stored is what the neutral machine reads and writes, by the same accesses.
+pub fn tables_agree()
+    ensures loads { LoadsAgree }
+    ensures stores { StoresAgree }
+    ensures parameters { ParametersAgree }
+    ensures forms { FormsAgree }
 {}

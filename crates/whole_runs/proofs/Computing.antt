@@ -8,35 +8,68 @@ use Rattle.ebc_decode.specs.Reading.{form_at, is_reserved, has_left_index, size1
 use Rattle.machine_alu.specs.Alu.{computed, compared}
 use Rattle.note_types.specs.BelowTests.{same_type}
 use Rattle.note_types.specs.Concrete.{loaded, stored, rest_from, with_register, at_ip, with_flags}
-use Rattle.run_types.specs.HostPlans.{field_at as plan_field_at, filling, reply_stores, site_of, argument_refused, call_plan, enter_plan, all_named_right, reply_fits, reply_plan, host_plan}
-use Rattle.run_types.specs.HostSteps.{spot_of, written_number, asking_at, writes_mapped, result_of, host_view, after_stores, with_object, with_objects, with_slots, inside, performed, host_step, thunk_view, thunk_made}
-use Rattle.run_types.specs.Locations.{located_past, located_on_stack, fits_cell, value_at, stored_at}
-use Rattle.run_types.specs.NeutralHost.{asking_at as neutral_host_asking_at, writes_there, all_lent, lent_there, result_of as neutral_host_result_of, host_view as neutral_host_host_view, after_stores as neutral_host_after_stores, with_objects as neutral_host_with_objects, param_slots, performed as neutral_host_performed, neutral_host_step, thunk_made as neutral_host_thunk_made}
-use Rattle.run_types.specs.NeutralReadings.{neutral_reading, neutral_result, neutral_argument, neutral_arguments, neutral_slots}
-use Rattle.run_types.specs.NeutralRuns.{start_cells, neutral_start, neutral_step, neutral_run}
-use Rattle.run_types.specs.Objects.{placed_objects, made_objects}
-use Rattle.run_types.specs.Operations.{combined, kept_natural, sign_extended, instance_of, compared_as}
-use Rattle.run_types.specs.Placements.{most_bytes, object_at, script_ranges, placed_ranges, bases_from, own_placement}
-use Rattle.run_types.specs.Readings.{pointer_from, reading_of, argument_read, arguments_read, slots_from}
-use Rattle.run_types.specs.ScriptValues.{same_value, fits, fits_each}
-use Rattle.run_types.specs.Start.{bare_machine, start_machine, run_start}
-use Rattle.run_types.specs.Written.{written_value}
+use Rattle.host_model.specs.HostPlans.{field_at as plan_field_at, filling, reply_stores, site_of, argument_refused, call_plan, enter_plan}
+use Rattle.host_model.specs.HostPlans.{all_named_right, reply_fits, reply_plan, host_plan}
+use Rattle.host_model.specs.HostSteps.{spot_of, written_number, asking_at, writes_mapped, result_of, host_view, after_stores, with_object}
+use Rattle.host_model.specs.HostSteps.{with_objects, with_slots, inside, performed, host_step, thunk_view, thunk_made}
+use Rattle.neutral_machine.specs.Locations.{located_past, located_on_stack, fits_cell, value_at, stored_at}
+use Rattle.neutral_machine.specs.NeutralHost.{asking_at as neutral_host_asking_at, writes_there, all_lent, lent_there}
+use Rattle.neutral_machine.specs.NeutralHost.{result_of as neutral_host_result_of, host_view as neutral_host_host_view}
+use Rattle.neutral_machine.specs.NeutralHost.{after_stores as neutral_host_after_stores, with_objects as neutral_host_with_objects}
+use Rattle.neutral_machine.specs.NeutralHost.{param_slots, performed as neutral_host_performed, neutral_host_step}
+use Rattle.neutral_machine.specs.NeutralHost.{thunk_made as neutral_host_thunk_made}
+use Rattle.neutral_machine.specs.NeutralReadings.{neutral_reading, neutral_result, neutral_argument, neutral_arguments, neutral_slots}
+use Rattle.neutral_machine.specs.NeutralRuns.{start_cells, neutral_start, neutral_step, neutral_run}
+use Rattle.host_model.specs.Objects.{placed_objects, made_objects}
+use Rattle.neutral_machine.specs.Operations.{combined, kept_natural, sign_extended, instance_of, compared_as}
+use Rattle.host_model.specs.Placements.{most_bytes, object_at, script_ranges, placed_ranges, bases_from, own_placement}
+use Rattle.host_model.specs.Readings.{pointer_from, reading_of, argument_read, arguments_read, slots_from}
+use Rattle.host_model.specs.ScriptValues.{same_value, fits, fits_each}
+use Rattle.host_model.specs.Start.{bare_machine, start_machine, run_start}
+use Rattle.neutral_machine.specs.Written.{written_value}
 use Rattle.ebc_machine.specs.Data.{arith_row, compare_row, compare_imm_row}
 use Rattle.ebc_machine.specs.Fetch.{fetched}
 use Rattle.ebc_machine.specs.Flow.{target_number, target_at, jump_row, jump8_row, called, call_row, call_native_row, return_row, break_row}
-use Rattle.ebc_machine.specs.Moves.{move_row, move_signed_row, move_imm_row, move_imm_natural_row, move_relative_row, load_special_row, store_special_row}
+use Rattle.ebc_machine.specs.Moves.{move_row, move_signed_row, move_imm_row, move_imm_natural_row, move_relative_row, load_special_row}
+use Rattle.ebc_machine.specs.Moves.{store_special_row}
 use Rattle.ebc_machine.specs.Operands.{sum_at, address, loaded_at, stored_at as machine_stored_at, value, written}
 use Rattle.ebc_machine.specs.Results.{goes}
 use Rattle.ebc_machine.specs.Stack.{raised_by, lowered_by, pushed, push_row, popped, pop_row}
 use Rattle.ebc_machine.specs.Step.{executed, instruction_done, machine_step}
-use Rattle.neutral_machine.specs.Operands.{loaded_by, stored_by, value as neutral_value, with_register as neutral_with_register, written as neutral_written}
-use Rattle.neutral_machine.specs.Rows.{goes as neutral_goes, arith_row as neutral_arith_row, compare_row as neutral_compare_row, compare_imm_row as neutral_compare_imm_row, stack_row, move_row as neutral_move_row, move_signed_row as neutral_move_signed_row, address_of_place, move_imm_row as neutral_move_imm_row, move_imm_natural_row as neutral_move_imm_natural_row, move_relative_row as neutral_move_relative_row, store_special_row as neutral_store_special_row, push_row as neutral_push_row, push_natural_row, popped as neutral_popped, pop_row as neutral_pop_row, pop_natural_row, target_at as neutral_target_at, jump_row as neutral_jump_row, jump8_row as neutral_jump8_row, called as neutral_called, call_row as neutral_call_row, call_native_row as neutral_call_native_row, return_row as neutral_return_row, break_row as neutral_break_row, executed as neutral_executed}
-use Rattle.pe_image.specs.Mapped.{laid, moved, mapped}
-use Rattle.rules_data.specs.Images.{named_place}
-use Rattle.whole_runs.specs.NeutralImage.{instruction_at, static_cells}
-use Rattle.whole_runs.specs.NeutralRun.{neutral_instruction}
-use Rattle.whole_runs.specs.Runs.{after_instruction, instruction_step, running_step, run_step, run_after}
+use Rattle.neutral_machine.specs.Operands.{loaded_by, stored_by, value as neutral_value, with_register as neutral_with_register}
+use Rattle.neutral_machine.specs.Operands.{written as neutral_written}
+use Rattle.neutral_machine.specs.Rows.{goes as neutral_goes, arith_row as neutral_arith_row, compare_row as neutral_compare_row}
+use Rattle.neutral_machine.specs.Rows.{compare_imm_row as neutral_compare_imm_row, stack_row, move_row as neutral_move_row}
+use Rattle.neutral_machine.specs.Rows.{move_signed_row as neutral_move_signed_row, address_of_place, move_imm_row as neutral_move_imm_row}
+use Rattle.neutral_machine.specs.Rows.{move_imm_natural_row as neutral_move_imm_natural_row, move_relative_row as neutral_move_relative_row}
+use Rattle.neutral_machine.specs.Rows.{store_special_row as neutral_store_special_row, push_row as neutral_push_row, push_natural_row}
+use Rattle.neutral_machine.specs.Rows.{popped as neutral_popped, pop_row as neutral_pop_row, pop_natural_row}
+use Rattle.neutral_machine.specs.Rows.{target_at as neutral_target_at, jump_row as neutral_jump_row, jump8_row as neutral_jump8_row}
+use Rattle.neutral_machine.specs.Rows.{called as neutral_called, call_row as neutral_call_row, call_native_row as neutral_call_native_row}
+use Rattle.neutral_machine.specs.Rows.{return_row as neutral_return_row, break_row as neutral_break_row, executed as neutral_executed}
+use Rattle.pe_image.specs.Mapped.{laid, moved, mapped, named_place}
+use Rattle.neutral_machine.specs.NeutralImage.{instruction_at, static_cells}
+use Rattle.neutral_machine.specs.NeutralRun.{neutral_instruction}
+use Rattle.host_model.specs.Runs.{after_instruction, instruction_step, running_step, run_step, run_after}
 
 unfoldable pub runs_compute : ⊤
-unfolding fields_of little_endian put window holds field_bytes bytes_of form_at is_reserved has_left_index size1_at size2_at field_at insn_at parts_at read computed compared same_type loaded stored rest_from with_register at_ip with_flags plan_field_at filling reply_stores site_of argument_refused call_plan enter_plan all_named_right reply_fits reply_plan host_plan spot_of written_number asking_at writes_mapped result_of host_view after_stores with_object with_objects with_slots inside performed host_step thunk_view thunk_made located_past located_on_stack fits_cell value_at stored_at neutral_host_asking_at writes_there all_lent lent_there neutral_host_result_of neutral_host_host_view neutral_host_after_stores neutral_host_with_objects param_slots neutral_host_performed neutral_host_step neutral_host_thunk_made neutral_reading neutral_result neutral_argument neutral_arguments neutral_slots start_cells neutral_start neutral_step neutral_run placed_objects made_objects combined kept_natural sign_extended instance_of compared_as most_bytes object_at script_ranges placed_ranges bases_from own_placement pointer_from reading_of argument_read arguments_read slots_from same_value fits fits_each bare_machine start_machine run_start written_value arith_row compare_row compare_imm_row fetched target_number target_at jump_row jump8_row called call_row call_native_row return_row break_row move_row move_signed_row move_imm_row move_imm_natural_row move_relative_row load_special_row store_special_row sum_at address loaded_at machine_stored_at value written goes raised_by lowered_by pushed push_row popped pop_row executed instruction_done machine_step loaded_by stored_by neutral_value neutral_with_register neutral_written neutral_goes neutral_arith_row neutral_compare_row neutral_compare_imm_row stack_row neutral_move_row neutral_move_signed_row address_of_place neutral_move_imm_row neutral_move_imm_natural_row neutral_move_relative_row neutral_store_special_row neutral_push_row push_natural_row neutral_popped neutral_pop_row pop_natural_row neutral_target_at neutral_jump_row neutral_jump8_row neutral_called neutral_call_row neutral_call_native_row neutral_return_row neutral_break_row neutral_executed laid moved mapped named_place instruction_at static_cells neutral_instruction after_instruction instruction_step running_step run_step run_after
+unfolding fields_of little_endian put window holds field_bytes bytes_of form_at is_reserved has_left_index size1_at size2_at field_at
+    insn_at parts_at read computed compared same_type loaded stored rest_from with_register at_ip with_flags plan_field_at filling
+    reply_stores site_of argument_refused call_plan enter_plan all_named_right reply_fits reply_plan host_plan spot_of written_number
+    asking_at writes_mapped result_of host_view after_stores with_object with_objects with_slots inside performed host_step thunk_view
+    thunk_made located_past located_on_stack fits_cell value_at stored_at neutral_host_asking_at writes_there all_lent lent_there
+    neutral_host_result_of neutral_host_host_view neutral_host_after_stores neutral_host_with_objects param_slots neutral_host_performed
+    neutral_host_step neutral_host_thunk_made neutral_reading neutral_result neutral_argument neutral_arguments neutral_slots start_cells
+    neutral_start neutral_step neutral_run placed_objects made_objects combined kept_natural sign_extended instance_of
+    compared_as most_bytes object_at script_ranges placed_ranges bases_from own_placement pointer_from reading_of argument_read
+    arguments_read slots_from same_value fits fits_each bare_machine start_machine run_start written_value arith_row compare_row
+    compare_imm_row fetched target_number target_at jump_row jump8_row called call_row call_native_row return_row break_row move_row
+    move_signed_row move_imm_row move_imm_natural_row move_relative_row load_special_row store_special_row sum_at address loaded_at
+    machine_stored_at value written goes raised_by lowered_by pushed push_row popped pop_row executed instruction_done machine_step
+    loaded_by stored_by neutral_value neutral_with_register neutral_written neutral_goes neutral_arith_row neutral_compare_row
+    neutral_compare_imm_row stack_row neutral_move_row neutral_move_signed_row address_of_place neutral_move_imm_row
+    neutral_move_imm_natural_row neutral_move_relative_row neutral_store_special_row neutral_push_row push_natural_row neutral_popped
+    neutral_pop_row pop_natural_row neutral_target_at neutral_jump_row neutral_jump8_row neutral_called neutral_call_row
+    neutral_call_native_row neutral_return_row neutral_break_row neutral_executed laid moved mapped named_place instruction_at static_cells
+    neutral_instruction after_instruction instruction_step running_step run_step run_after
 runs_compute = tt

@@ -6,9 +6,9 @@ use Rattle.note_types.specs.declared.event.Event.TheVariants as event
 use Rattle.note_types.specs.declared.reason.Reason.TheVariants as reason
 use Rattle.note_types.specs.declared.spot.Spot.TheVariants as spot
 use Rattle.note_types.specs.declared.value.Value.TheVariants as value
-use Rattle.run_types.specs.ScriptValues.{given}
-use Rattle.run_types.specs.World.{World}
-use Rattle.run_types.proofs.Driver.{driver, driver_with, locate_call, register_call}
+use Rattle.host_model.specs.ScriptValues.{given}
+use Rattle.host_model.specs.World.{World}
+use Rattle.neutral_machine.proofs.Driver.{driver, driver_with, locate_call, register_call}
 use Rattle.whole_runs.proofs.Computing.{runs_compute}
 use Rattle.whole_runs.proofs.Programs.{driver_image}
 use Rattle.whole_runs.proofs.Rows.{Everywhere}
@@ -46,12 +46,14 @@ finished = record { at4 = refl; at8 = refl; neutral = refl }
 -- ---- variants
 
 -- the script has no second call
-left_over : Everywhere (driver_with (locate_call ∷ [])) driver_image 20 (record { spot = spot.Place 0x1038; trace = asked; ending = ending.ScriptEnd })
+left_over : Everywhere (driver_with (locate_call ∷ [])) driver_image 20
+    (record { spot = spot.Place 0x1038; trace = asked; ending = ending.ScriptEnd })
 unfolding runs_compute
 left_over = record { at4 = refl; at8 = refl; neutral = refl }
 
 -- and a run that ended stays as it is
-left_over_still : Everywhere (driver_with (locate_call ∷ [])) driver_image 21 (record { spot = spot.Place 0x1038; trace = asked; ending = ending.ScriptEnd })
+left_over_still : Everywhere (driver_with (locate_call ∷ [])) driver_image 21
+    (record { spot = spot.Place 0x1038; trace = asked; ending = ending.ScriptEnd })
 unfolding runs_compute
 left_over_still = record { at4 = refl; at8 = refl; neutral = refl }
 
@@ -60,7 +62,11 @@ abbrev refusing : World
 refusing = driver_with (record locate_call { out = []; result = value.StatusError 14 } ∷ register_call ∷ [])
 
 refused : Everywhere refusing driver_image 16
-    (record { spot = spot.Gate; trace = event.Called 0x1014 (Some 0) (given value.Out ∷ []) ∷ event.Replied 0 (value.StatusError 14) ∷ []; ending = ending.Finished (value.StatusError 14) })
+    (record {
+      spot = spot.Gate;
+      trace = event.Called 0x1014 (Some 0) (given value.Out ∷ []) ∷ event.Replied 0 (value.StatusError 14) ∷ [];
+      ending = ending.Finished (value.StatusError 14);
+    })
 unfolding runs_compute
 refused = record { at4 = refl; at8 = refl; neutral = refl }
 
@@ -69,6 +75,10 @@ abbrev mistaken : World
 mistaken = driver_with (record locate_call { out = record { argument = 0; value = value.Ptr 0 0 } ∷ [] } ∷ register_call ∷ [])
 
 mismatched : Everywhere mistaken driver_image 9
-    (record { spot = spot.Place 0x1016; trace = event.Called 0x1014 (Some 0) (given value.Out ∷ []) ∷ []; ending = ending.Mismatch (reason.Reply 0) })
+    (record {
+      spot = spot.Place 0x1016;
+      trace = event.Called 0x1014 (Some 0) (given value.Out ∷ []) ∷ [];
+      ending = ending.Mismatch (reason.Reply 0);
+    })
 unfolding runs_compute
 mismatched = record { at4 = refl; at8 = refl; neutral = refl }

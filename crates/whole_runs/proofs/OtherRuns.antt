@@ -9,23 +9,28 @@ use Rattle.note_types.specs.declared.exception.Exception.TheVariants as raises
 use Rattle.note_types.specs.declared.reason.Reason.TheVariants as reason
 use Rattle.note_types.specs.declared.spot.Spot.TheVariants as spot
 use Rattle.note_types.specs.declared.value.Value.TheVariants as value
-use Rattle.run_types.specs.Config.{Config}
-use Rattle.run_types.specs.HostSteps.{written_number}
-use Rattle.run_types.specs.Placements.{object_at, own_placement, thunk_at}
-use Rattle.run_types.specs.Readings.{StatusOf, reading_of}
-use Rattle.run_types.specs.ScriptValues.{given, lent}
-use Rattle.run_types.specs.Values.{Neutral, At, ObjectOf, FieldOf, FieldOfLocals, number, signed_error_at}
-use Rattle.run_types.proofs.Driver.{driver, driver_notes}
-use Rattle.whole_runs.specs.NeutralRun.{config_after}
-use Rattle.whole_runs.specs.Reports.{report_after}
-use Rattle.whole_runs.specs.Runs.{run_of}
+use Rattle.neutral_machine.specs.Config.{Config}
+use Rattle.host_model.specs.HostSteps.{written_number}
+use Rattle.host_model.specs.Placements.{object_at, own_placement, thunk_at}
+use Rattle.host_model.specs.Readings.{StatusOf, reading_of}
+use Rattle.host_model.specs.ScriptValues.{given, lent}
+use Rattle.host_model.specs.Values.{Neutral, At, ObjectOf, FieldOf, FieldOfLocals, number, signed_error_at}
+use Rattle.neutral_machine.proofs.Driver.{driver, driver_notes}
+use Rattle.neutral_machine.specs.NeutralRun.{config_after}
+use Rattle.host_model.specs.Reports.{report_after}
+use Rattle.host_model.specs.Runs.{run_of}
 use Rattle.whole_runs.proofs.Computing.{runs_compute}
-use Rattle.whole_runs.proofs.Programs.{driver_image, dividing_image, lending_image, lending_world, nest_image, nest_world, plain_world, pointer_image, pointer_world, static_image, static_world, width_image}
+use Rattle.whole_runs.proofs.Programs.{driver_image, dividing_image, lending_image, lending_world, nest_image, nest_world, plain_world}
+use Rattle.whole_runs.proofs.Programs.{pointer_image, pointer_world, static_image, static_world, width_image}
 use Rattle.whole_runs.proofs.Rows.{AtWidths, Everywhere}
 
 -- ---- an exception
 
-divides : Everywhere plain_world dividing_image 3 (record { spot = spot.Place 0x1008; trace = []; ending = ending.Raised raises.DivideError })
+divides : Everywhere plain_world dividing_image 3 (record {
+  spot = spot.Place 0x1008;
+  trace = [];
+  ending = ending.Raised raises.DivideError;
+})
 unfolding runs_compute
 divides = record { at4 = refl; at8 = refl; neutral = refl }
 
@@ -65,7 +70,11 @@ unfolding runs_compute
 static_read = record { at4 = refl; at8 = refl; neutral = refl }
 
 -- a static number, read through a relocated address in a static pointer of 64 bits
-pointer_followed : Everywhere pointer_world pointer_image 5 (record { spot = spot.Gate; trace = []; ending = ending.Finished (value.Int 0x539) })
+pointer_followed : Everywhere pointer_world pointer_image 5 (record {
+  spot = spot.Gate;
+  trace = [];
+  ending = ending.Finished (value.Int 0x539);
+})
 unfolding runs_compute
 pointer_followed = record { at4 = refl; at8 = refl; neutral = refl }
 
@@ -83,7 +92,11 @@ nested : Everywhere nest_world nest_image 35 (record { spot = spot.Place 0x100E;
 unfolding runs_compute
 nested = record { at4 = refl; at8 = refl; neutral = refl }
 
-too_deep : Everywhere nest_world nest_image 36 (record { spot = spot.Place 0x100E; trace = nine_deep; ending = ending.Mismatch reason.Depth })
+too_deep : Everywhere nest_world nest_image 36 (record {
+  spot = spot.Place 0x100E;
+  trace = nine_deep;
+  ending = ending.Mismatch reason.Depth;
+})
 unfolding runs_compute
 too_deep = record { at4 = refl; at8 = refl; neutral = refl }
 
@@ -148,14 +161,19 @@ served_neutral = refl
 -- ---- a cell that is lent, an object that is made, and a pointer that is written
 
 lends : Everywhere lending_world lending_image 13
-    (record { spot = spot.Gate; trace = event.Called 0x1010 (Some 0) (lent (value.Int 5) ∷ []) ∷ event.Replied 0 (value.StatusOk 0) ∷ []; ending = ending.Finished (value.Int 77) })
+    (record {
+      spot = spot.Gate;
+      trace = event.Called 0x1010 (Some 0) (lent (value.Int 5) ∷ []) ∷ event.Replied 0 (value.StatusOk 0) ∷ [];
+      ending = ending.Finished (value.Int 77);
+    })
 unfolding runs_compute
 lends = record { at4 = refl; at8 = refl; neutral = refl }
 
 -- the number in so many bytes of an object, so far from its start, once the reply is stored
 abbrev in_object : ℕ → (object offset size : ℕ) → Option ℕ
 in_object w object offset size =
-    loaded (run_of w lending_world (own_placement w lending_world) lending_image 8).machine (object_at lending_world.notes (own_placement w lending_world) object + offset) size
+    loaded (run_of w lending_world (own_placement w lending_world) lending_image 8).machine
+    (object_at lending_world.notes (own_placement w lending_world) object + offset) size
 
 pointer_4 : in_object 4 1 4 4 ≡ Some (object_at lending_world.notes (own_placement 4 lending_world) 2 + 8)
 unfolding runs_compute
@@ -175,7 +193,8 @@ made_8 = refl
 
 -- in the neutral machine: none where there is no cell or no configuration
 abbrev neutral_cell : (k object instance field : ℕ) → Option (Option Neutral)
-neutral_cell k object instance field = option_map (λ (a : Config). a.cells (FieldOf object instance field)) (config_after lending_world lending_image k)
+neutral_cell k object instance field = option_map (λ (a : Config). a.cells (FieldOf object instance field))
+    (config_after lending_world lending_image k)
 
 pointer_neutral : neutral_cell 8 1 0 1 ≡ Some (Some (At (ObjectOf 2) 2 0))
 unfolding runs_compute
@@ -196,10 +215,12 @@ unfolding runs_compute
 absent_neutral = refl
 
 -- what the local holds before the call, and after the reply
-local_before : option_map (λ (a : Config). a.cells (FieldOfLocals 0 0)) (config_after lending_world lending_image 6) ≡ Some (Some (number 5))
+local_before : option_map (λ (a : Config). a.cells (FieldOfLocals 0 0)) (config_after lending_world lending_image 6) ≡ Some
+    (Some (number 5))
 unfolding runs_compute
 local_before = refl
 
-local_after : option_map (λ (a : Config). a.cells (FieldOfLocals 0 0)) (config_after lending_world lending_image 8) ≡ Some (Some (number 77))
+local_after : option_map (λ (a : Config). a.cells (FieldOfLocals 0 0)) (config_after lending_world lending_image 8) ≡ Some
+    (Some (number 77))
 unfolding runs_compute
 local_after = refl

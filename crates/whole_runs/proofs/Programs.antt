@@ -15,9 +15,9 @@ use Rattle.note_types.specs.declared.types.Ty.{Ty}
 use Rattle.note_types.specs.declared.types.Ty.TheVariants as ty
 use Rattle.note_types.specs.declared.value.Value.TheVariants as value
 use Rattle.pe_image.specs.declared.image.Image.{Image}
-use Rattle.run_types.proofs.Driver.{driver, driver_notes}
-use Rattle.run_types.specs.ScriptValues.{lent}
-use Rattle.run_types.specs.World.{World}
+use Rattle.neutral_machine.proofs.Driver.{driver, driver_notes}
+use Rattle.host_model.specs.ScriptValues.{lent}
+use Rattle.host_model.specs.World.{World}
 
 -- ---- parts
 
@@ -38,8 +38,7 @@ image_of code data_bytes relocs = record {
   entry = 0x1000;
   size = 0x2010;
   subsystem = 11;
-  sections =
-      record { name = []; place = 0x1000; size = length code; flags = 0; bytes = code }
+  sections = record { name = []; place = 0x1000; size = length code; flags = 0; bytes = code }
       ∷ record { name = []; place = 0x2000; size = length data_bytes; flags = 0; bytes = data_bytes }
       ∷ [];
   relocs = relocs;
@@ -65,7 +64,15 @@ lending_call = record {
   signature = 0;
   args = lent (value.Int 5) ∷ [];
   enter = [];
-  make = record { shape = 1; count = 2; cells = record { instance = 1; field = 0; value = value.Int 9 } ∷ record { instance = 0; field = 1; value = value.Ptr 2 1 } ∷ [] } ∷ [];
+  make = record {
+    shape = 1;
+    count = 2;
+    cells = record { instance = 1; field = 0; value = value.Int 9 } ∷ record {
+      instance = 0;
+      field = 1;
+      value = value.Ptr 2 1;
+    } ∷ [];
+  } ∷ [];
   out = record { argument = 0; value = value.Int 77 } ∷ [];
   write = record { object = 1; instance = 0; field = 1; value = value.Ptr 2 1 } ∷ [];
   result = value.StatusOk 0;
@@ -74,16 +81,49 @@ lending_call = record {
 abbrev pub lending_world : World
 lending_world = record {
   notes = record driver_notes {
-    shape =
-        record { name = []; n = 2; c = 0; fields = record { name = []; n = 0; c = 0; cell = cell.Method 0 } ∷ record { name = []; n = 1; c = 0; cell = cell.Method 1 } ∷ [] }
-        ∷ record { name = []; n = 2; c = 0; fields = record { name = []; n = 0; c = 0; cell = cell.I32 } ∷ record { name = []; n = 1; c = 0; cell = cell.Ptr 1 1 true } ∷ [] }
+    shape = record {
+      name = [];
+      n = 2;
+      c = 0;
+      fields = record { name = []; n = 0; c = 0; cell = cell.Method 0 } ∷ record {
+        name = [];
+        n = 1;
+        c = 0;
+        cell = cell.Method 1;
+      } ∷ [];
+    }
+        ∷ record {
+          name = [];
+          n = 2;
+          c = 0;
+          fields = record { name = []; n = 0; c = 0; cell = cell.I32 } ∷ record {
+            name = [];
+            n = 1;
+            c = 0;
+            cell = cell.Ptr 1 1 true;
+          } ∷ [];
+        }
         ∷ single 1 0 cell.I32
         ∷ [];
     thunk = [];
-    function =
-        record { name = []; place = 0x1000; «end» = 0x101E; level = 0; need = record { n = 2; c = 0 }; locals = Some 2; params = natural ty.Handle ∷ natural (ty.Ptr 0 1 (pos 0) (pos 0) false) ∷ []; result = number_result; enter = false }
+    function = record {
+      name = [];
+      place = 0x1000;
+      «end» = 0x101E;
+      level = 0;
+      need = record { n = 2; c = 0 };
+      locals = Some 2;
+      params = natural ty.Handle ∷ natural (ty.Ptr 0 1 (pos 0) (pos 0) false) ∷ [];
+      result = number_result;
+      enter = false;
+    }
         ∷ [];
-    signature = record { name = []; method = 0; params = record { kind = N; want = want.Inout cell.I32 } ∷ []; result = Some (ty.Status 0) } ∷ [];
+    signature = record {
+      name = [];
+      method = 0;
+      params = record { kind = N; want = want.Inout cell.I32 } ∷ [];
+      result = Some (ty.Status 0);
+    } ∷ [];
     site = record { place = 0x1010; signature = 0 } ∷ [];
   };
   script = record driver.script { call = lending_call ∷ [] };
@@ -100,7 +140,17 @@ lending_image = image_of
 
 -- one function without parameters from 1000 on, whose result may be anything
 abbrev plain_function : ℕ → Ty → FnNote
-plain_function stop result = record { name = []; place = 0x1000; «end» = stop; level = 0; need = record { n = 0; c = 0 }; locals = None; params = []; result = result; enter = false }
+plain_function stop result = record {
+  name = [];
+  place = 0x1000;
+  «end» = stop;
+  level = 0;
+  need = record { n = 0; c = 0 };
+  locals = None;
+  params = [];
+  result = result;
+  enter = false;
+}
 
 abbrev plain_notes : ℕ → Ty → Notes
 plain_notes stop result = record {
@@ -135,7 +185,10 @@ width_image = image_of (0x78 ∷ 0x04 ∷ 0x01 ∷ 0x10 ∷ 0x6D ∷ 0x04 ∷ 0x
 -- a static number at 2000, which the code reads through a relocated address
 abbrev pub static_world : World
 static_world = record {
-  notes = record (plain_notes 0x100E number_result) { shape = single 0 4 cell.I32 ∷ []; statics = record { place = 0x2000; shape = 0; count = 1 } ∷ [] };
+  notes = record (plain_notes 0x100E number_result) {
+    shape = single 0 4 cell.I32 ∷ [];
+    statics = record { place = 0x2000; shape = 0; count = 1 } ∷ [];
+  };
   script = nothing;
   image_size = 0x2010;
 }
@@ -178,7 +231,15 @@ calling place stop enter = record {
 }
 
 abbrev nest_call : ScriptCall
-nest_call = record { signature = 0; args = []; enter = record { function = 1; values = value.Ptr 0 0 ∷ [] } ∷ []; make = []; out = []; write = []; result = value.StatusOk 0 }
+nest_call = record {
+  signature = 0;
+  args = [];
+  enter = record { function = 1; values = value.Ptr 0 0 ∷ [] } ∷ [];
+  make = [];
+  out = [];
+  write = [];
+  result = value.StatusOk 0;
+}
 
 abbrev pub nest_world : World
 nest_world = record {
@@ -199,4 +260,5 @@ nest_world = record {
 }
 
 abbrev pub nest_image : Image
-nest_image = image_of (0x72 ∷ 0x84 ∷ 0x40 ∷ 0x10 ∷ 0x03 ∷ 0x2C ∷ 0x04 ∷ 0x00 ∷ 0x72 ∷ 0x84 ∷ 0x40 ∷ 0x10 ∷ 0x03 ∷ 0x2C ∷ 0x04 ∷ 0x00 ∷ []) [] []
+nest_image =
+    image_of (0x72 ∷ 0x84 ∷ 0x40 ∷ 0x10 ∷ 0x03 ∷ 0x2C ∷ 0x04 ∷ 0x00 ∷ 0x72 ∷ 0x84 ∷ 0x40 ∷ 0x10 ∷ 0x03 ∷ 0x2C ∷ 0x04 ∷ 0x00 ∷ []) [] []

@@ -1,8 +1,9 @@
 -- What a run shows at both widths and in the neutral machine.
 use Rattle.std.specs.Prelude.{◌≡◌, ℕ, Some}
 use Rattle.pe_image.specs.declared.image.Image.{Image}
-use Rattle.run_types.specs.World.{World}
-use Rattle.whole_runs.specs.Reports.{Report, report_after, neutral_report_after}
+use Rattle.host_model.specs.World.{World}
+use Rattle.host_model.specs.Reports.{Report, report_after}
+use Rattle.neutral_machine.specs.NeutralReports.{neutral_report_after}
 
 -- a run shows this after so many steps, at either width
 pub record AtWidths (world : World) (image : Image) (k : ℕ) (shown : Report) : Type 0 where

@@ -1,5 +1,6 @@
 -- The verdict is one: an image isn't both typed and refused, nor refused twice.
-use Rattle.std.proofs.Common.{◌≡◌, ℕ, ◌+◌, ◌-◌, ◌<◌, ◌≤◌, ◌↔◌, zero, suc, List, [], ◌∷◌, length, get_or, refl, sym, ap, subst, ◌∙◌, ⊎_elim, arith}
+use Rattle.std.proofs.Common.{◌≡◌, ℕ, ◌+◌, ◌-◌, ◌<◌, ◌≤◌, ◌↔◌, zero, suc, ◌∷◌, length, get_or, refl, sym, ap, subst, ◌∙◌, ⊎_elim}
+use Rattle.std.proofs.Common.{arith}
 use Rattle.std.specs.Prelude.{Some, slice_get}
 use Rattle.std.proofs.lemmas.Bool.{cases_lt}
 use Rattle.std.proofs.lemmas.Option.{same_Some, slice_get_within, slice_get-get_or}
@@ -11,59 +12,16 @@ use Rattle.note_types.specs.declared.rule.RuleName.{RuleName}
 use Rattle.note_types.specs.declared.rule.RuleName.TheVariants as rule
 use Rattle.pe_image.specs.declared.image.Image.{Image}
 use Rattle.rules_base.specs.FirstRule.{IsFirst}
-use Rattle.rules_base.specs.Outcomes.{number_of_rule}
-use Rattle.rules_data.specs.Images.{FunctionHolds}
-use Rattle.width_checker.specs.declared.verdict.Verdict.{Verdict}
-use Rattle.width_checker.specs.declared.verdict.Verdict.TheVariants.{Neutral, Refused}
-use Rattle.width_checker.specs.Places.{IsPlaceOf, Leads}
+use Rattle.rules_image.specs.Images.{FunctionHolds}
+use Rattle.plain_check.specs.declared.verdict.Verdict.{Verdict}
+use Rattle.plain_check.specs.declared.verdict.Verdict.TheVariants.{Neutral, Refused}
+use Rattle.rules_image.specs.Places.{IsPlaceOf, Leads}
 use Rattle.width_checker.specs.Typed.{Typed}
-use Rattle.width_checker.specs.Verdicts.{FailsAt, IsFirstFailing, IsRefused, IsVerdict, RefusesInsn, by_function, by_insn, by_shape, by_static, by_thunk}
+use Rattle.width_checker.specs.Verdicts.{FailsAt, IsRefused, IsVerdict, RefusesInsn, by_function, by_insn, by_shape, by_static, by_thunk}
 use Rattle.width_checker.proofs.Failing.{meets_all}
 use Rattle.width_checker.proofs.Leading.{OnePoint, start_first}
-
--- ---- rules by their numbers
-
-rule_of : ℕ → RuleName
-rule_of n = get_or all n rule.End
-  where
-    all : List RuleName
-    all =
-        rule.End ∷ rule.Shape ∷ rule.Function ∷ rule.Static ∷ rule.Decode ∷ rule.State ∷ rule.Point ∷ rule.Relocation ∷ rule.Form ∷ rule.Stack
-        ∷ rule.Address ∷ rule.Null ∷ rule.Unwritten ∷ rule.Store ∷ rule.Compare ∷ rule.Divide ∷ rule.Target ∷ rule.Site ∷ rule.Level
-        ∷ rule.Thunk ∷ rule.Arguments ∷ rule.Return ∷ rule.Below ∷ []
-
-of_its_number : (r : RuleName) → rule_of (number_of_rule r) ≡ r
-unfolding rule_of
-of_its_number rule.Shape = refl
-of_its_number rule.Function = refl
-of_its_number rule.Static = refl
-of_its_number rule.Decode = refl
-of_its_number rule.State = refl
-of_its_number rule.Point = refl
-of_its_number rule.Relocation = refl
-of_its_number rule.Form = refl
-of_its_number rule.Stack = refl
-of_its_number rule.Address = refl
-of_its_number rule.Null = refl
-of_its_number rule.Unwritten = refl
-of_its_number rule.Store = refl
-of_its_number rule.Compare = refl
-of_its_number rule.Divide = refl
-of_its_number rule.Target = refl
-of_its_number rule.Site = refl
-of_its_number rule.Level = refl
-of_its_number rule.Thunk = refl
-of_its_number rule.Arguments = refl
-of_its_number rule.Return = refl
-of_its_number rule.Below = refl
-of_its_number rule.End = refl
-
-one_first : (A : RuleName → Type 0) (r q : RuleName) → IsFirst A r → IsFirst A q → r ≡ q
-one_first A r q a b =
-    let up = a.first q b.among in
-    let down = b.first r a.among in
-    let same : number_of_rule r ≡ number_of_rule q = omega arith in
-    sym (of_its_number r) ∙ ap rule_of same ∙ of_its_number q
+use Rattle.rules_image.specs.Checks.{IsFirstFailing}
+use Rattle.rules_base.proofs.FirstRule.{one_first}
 
 -- ---- the first thing of which a rule doesn't hold is one
 
@@ -95,13 +53,15 @@ pub function_before : (image : Image) (notes : Notes) → AreFunctions image not
 function_before image notes all j k f g less there here = behind image notes all (k - (j + 1)) j k f g (omega arith) there here
 
 -- a place of a function is before its end
-pub place_within : (image : Image) (notes : Notes) → AreFunctions image notes → (k : ℕ) (f : FnNote) → slice_get notes.function k ≡ Some f → (n p : ℕ) → Leads image f n p → p < f.end
+pub place_within : (image : Image) (notes : Notes) → AreFunctions image notes → (k : ℕ) (f : FnNote) → slice_get notes.function k ≡ Some f
+    → (n p : ℕ) → Leads image f n p → p < f.end
 unfolding Leads
 place_within image notes all k f there zero p a = let r = (all k f there).range in omega arith
 place_within image notes all k f there (suc n) p a = a.within
 
 -- a place belongs to one function
-same_number : (image : Image) (notes : Notes) → AreFunctions image notes → (j k p : ℕ) (f g : FnNote) → slice_get notes.function j ≡ Some f → slice_get notes.function k ≡ Some g
+same_number : (image : Image) (notes : Notes) → AreFunctions image notes → (j k p : ℕ) (f g : FnNote) → slice_get notes.function j ≡ Some f
+    → slice_get notes.function k ≡ Some g
     → IsPlaceOf image f p → IsPlaceOf image g p → j ≡ k
 same_number image notes all j k p f g there here a b =
     let from_f = start_first image f a.0 p a.1 in
@@ -109,7 +69,8 @@ same_number image notes all j k p f g there here a b =
     let in_f = place_within image notes all j f there a.0 p a.1 in
     let in_g = place_within image notes all k g here b.0 p b.1 in
     ⊎_elim (λ less. absurd (let h = function_before image notes all j k f g less there here in omega arith))
-    (λ from. ⊎_elim (λ less. absurd (let h = function_before image notes all k j g f less here there in omega arith)) (λ back. omega arith) (cases_lt k j))
+    (λ from. ⊎_elim (λ less. absurd (let h = function_before image notes all k j g f less here there in omega arith)) (λ back. omega arith)
+    (cases_lt k j))
     (cases_lt j k)
 
 -- ---- the first instruction at which a rule fails is one
@@ -127,10 +88,13 @@ module _ (image : Image) (notes : Notes) (one : OnePoint notes) where
 
   same_rule : (p : ℕ) (r s : RuleName) → RefusesInsn image notes p r → RefusesInsn image notes p s → r ≡ s
   same_rule p r s a b =
-      let number : b.number ≡ a.number = same_number image notes a.tables.functions b.number a.number p b.f a.f b.there a.there b.reached a.reached in
+      let number : b.number ≡ a.number =
+      same_number image notes a.tables.functions b.number a.number p b.f a.f b.there a.there b.reached a.reached in
       let there : slice_get notes.function a.number ≡ Some b.f = subst (λ k. slice_get notes.function k ≡ Some b.f) number b.there in
       let f : b.f ≡ a.f = same_Some b.f a.f (sym there ∙ a.there) in
-      let fails : IsFirst (FailsAt image notes a.number a.f p) s = subst (λ g. IsFirst (FailsAt image notes a.number g p) s) f (subst (λ k. IsFirst (FailsAt image notes k b.f p) s) number b.fails) in
+      let fails : IsFirst (FailsAt image notes a.number a.f p) s =
+      subst (λ g. IsFirst (FailsAt image notes a.number g p) s) f
+      (subst (λ k. IsFirst (FailsAt image notes k b.f p) s) number b.fails) in
       one_first (FailsAt image notes a.number a.f p) r s a.fails fails
 
   -- ---- the verdict

@@ -9,14 +9,15 @@ use Rattle.note_types.specs.declared.rule.RuleName.TheVariants as rule
 use Rattle.note_types.specs.declared.state.State.{State}
 use Rattle.pe_image.specs.declared.image.Image.{Image}
 use Rattle.rules_base.specs.FirstRule.{IsFirst}
-use Rattle.rules_base.specs.Outcomes.{Gives, number_of_rule}
-use Rattle.rules_data.specs.Images.{EndHolds, IsDecoded, PointHolds, RelocationHolds}
+use Rattle.rules_base.specs.Outcomes.{number_of_rule, OrRule}
+use Rattle.rules_image.specs.Images.{EndHolds, IsDecoded, PointHolds, RelocationHolds, reloc_at}
 use Rattle.rules_flow.specs.declared.successors.Successors.{Successors}
-use Rattle.width_checker.specs.Places.{StateAt}
-use Rattle.width_checker.specs.Rows.{here_at, reloc_at, row_of}
+use Rattle.width_checker.specs.StatesAt.{StateAt}
+use Rattle.width_checker.specs.Rows.{here_at, row_of}
 use Rattle.width_checker.specs.Typed.{BelowHolds, MeetsRules}
-use Rattle.width_checker.specs.Verdicts.{FailsAt, HasState, fails_below, fails_decode, fails_end, fails_point, fails_relocation, fails_row, fails_state}
-use Rattle.width_checker.proofs.Decoding.{decoded_once}
+use Rattle.width_checker.specs.Verdicts.{FailsAt, HasState, fails_below, fails_decode, fails_end, fails_point, fails_relocation, fails_row}
+use Rattle.width_checker.specs.Verdicts.{fails_state}
+use Rattle.rules_image.proofs.Decoding.{decoded_once}
 use Rattle.width_checker.proofs.Leading.{OnePoint, state_one}
 
 last_rule : (r : RuleName) → number_of_rule r ≤ 23
@@ -48,13 +49,13 @@ last_rule rule.End = omega arith
 by_name : (r q named : RuleName) → q ≡ named → number_of_rule r ≤ number_of_rule named → number_of_rule r ≤ number_of_rule q
 by_name r q named e h = subst (λ x. number_of_rule r ≤ number_of_rule x) (sym e) h
 
-same_row : (a b : Gives Successors) (r q : RuleName) → a ≡ b → a ≡ Err r → b ≡ Err q → r ≡ q
+same_row : (a b : OrRule Successors) (r q : RuleName) → a ≡ b → a ≡ Err r → b ≡ Err q → r ≡ q
 same_row a b r q e f g = cc
 
-row_apart : (a b : Gives Successors) (x : Successors) (r : RuleName) → a ≡ b → a ≡ Ok x → b ≡ Err r → ⊥
+row_apart : (a b : OrRule Successors) (x : Successors) (r : RuleName) → a ≡ b → a ≡ Ok x → b ≡ Err r → ⊥
 row_apart a b x r e f g = cc
 
-row_same : (a b : Gives Successors) (x y : Successors) → a ≡ b → a ≡ Ok x → b ≡ Ok y → x ≡ y
+row_same : (a b : OrRule Successors) (x y : Successors) → a ≡ b → a ≡ Ok x → b ≡ Ok y → x ≡ y
 row_same a b x y e f g = cc
 
 module _ (image : Image) (notes : Notes) (func : ℕ) (f : FnNote) (place : ℕ) where
@@ -75,7 +76,8 @@ module _ (image : Image) (notes : Notes) (func : ℕ) (f : FnNote) (place : ℕ)
       first q (fails_end i next d miss e) = absurd (none i next d)
 
   -- an instruction is there, and no state before it
-  pub no_state : (i : Insn) (next : ℕ) → IsDecoded image f place i next → ¬ HasState image notes func f place → IsFirst (FailsAt image notes func f place) rule.State
+  pub no_state : (i : Insn) (next : ℕ) → IsDecoded image f place i next → ¬ HasState image notes func f place
+      → IsFirst (FailsAt image notes func f place) rule.State
   no_state i next d none = record { among = fails_state none refl; first = first }
     where
       first : (q : RuleName) → FailsAt image notes func f place q → 5 ≤ number_of_rule q
@@ -87,7 +89,8 @@ module _ (image : Image) (notes : Notes) (func : ℕ) (f : FnNote) (place : ℕ)
       first q (fails_below j m s x b at row miss e) = absurd (none (s, at))
       first q (fails_end j m b miss e) = by_name rule.State q rule.End e (omega arith)
 
-  module _ (i : Insn) (next : ℕ) (d : IsDecoded image f place i next) (s : State) (at : StateAt image notes func f place s) (one : OnePoint notes) where
+  module _ (i : Insn) (next : ℕ) (d : IsDecoded image f place i next) (s : State) (at : StateAt image notes func f place s)
+      (one : OnePoint notes) where
     -- what is said of the instruction there is said of this one
     of_insn : (P : Insn → ℕ → Type 0) (j : Insn) (m : ℕ) → IsDecoded image f place j m → P i next → P j m
     of_insn P j m b h = let same = decoded_once image f place i j next m d b in subst (λ x. P x m) same.0 (subst (λ x. P i x) same.1 h)
@@ -114,7 +117,8 @@ module _ (image : Image) (notes : Notes) (func : ℕ) (f : FnNote) (place : ℕ)
 
     module _ (point : PointHolds notes place next) where
       -- the relocation isn't allowed
-      pub not_relocated : ¬ RelocationHolds image notes place i next (reloc_at image next) → IsFirst (FailsAt image notes func f place) rule.Relocation
+      pub not_relocated : ¬ RelocationHolds image notes place i next (reloc_at image next)
+          → IsFirst (FailsAt image notes func f place) rule.Relocation
       not_relocated none = record { among = fails_relocation i next d none refl; first = first }
         where
           first : (q : RuleName) → FailsAt image notes func f place q → 7 ≤ number_of_rule q
@@ -122,27 +126,32 @@ module _ (image : Image) (notes : Notes) (func : ℕ) (f : FnNote) (place : ℕ)
           first q (fails_state miss e) = absurd (miss (s, at))
           first q (fails_point j m b miss e) = absurd (miss (of_insn (λ x k. PointHolds notes place k) j m b point))
           first q (fails_relocation j m b miss e) = by_name rule.Relocation q rule.Relocation e (omega arith)
-          first q (fails_row j m t b there p r row) = absurd (of_insn (λ x k. ¬ RelocationHolds image notes place x k (reloc_at image k)) j m b none r)
+          first q (fails_row j m t b there p r row) = absurd (of_insn
+              (λ x k. ¬ RelocationHolds image notes place x k (reloc_at image k)) j m b none r)
           first q (fails_below j m t x b there row miss e) = by_name rule.Relocation q rule.Below e (omega arith)
           first q (fails_end j m b miss e) = by_name rule.Relocation q rule.End e (omega arith)
 
       module _ (reloc : RelocationHolds image notes place i next (reloc_at image next)) where
         -- the row fails
-        pub row_fails : (r : RuleName) → row_of notes (here_at image func place next) s i ≡ Err r → IsFirst (FailsAt image notes func f place) r
+        pub row_fails : (r : RuleName) → row_of notes (here_at image func place next) s i ≡ Err r
+            → IsFirst (FailsAt image notes func f place) r
         row_fails r row = record { among = fails_row i next s d at point reloc row; first = first }
           where
             first : (q : RuleName) → FailsAt image notes func f place q → number_of_rule r ≤ number_of_rule q
             first q (fails_decode miss e) = absurd (miss (record { insn = i; next = next; decode = d }))
             first q (fails_state miss e) = absurd (miss (s, at))
             first q (fails_point j m b miss e) = absurd (miss (of_insn (λ x k. PointHolds notes place k) j m b point))
-            first q (fails_relocation j m b miss e) = absurd (miss (of_insn (λ x k. RelocationHolds image notes place x k (reloc_at image k)) j m b reloc))
+            first q (fails_relocation j m b miss e) = absurd (miss
+                (of_insn (λ x k. RelocationHolds image notes place x k (reloc_at image k)) j m b reloc))
             first q (fails_row j m t b there p l again) =
-                let same : r ≡ q = same_row _ _ r q (same_rows j m t b there) row again in subst (λ x. number_of_rule r ≤ number_of_rule x) same (omega arith)
+                let same : r ≡ q = same_row _ _ r q (same_rows j m t b there) row again in
+                subst (λ x. number_of_rule r ≤ number_of_rule x) same (omega arith)
             first q (fails_below j m t x b there again miss e) = absurd (row_apart _ _ x r (sym (same_rows j m t b there)) again row)
             first q (fails_end j m b miss e) = by_name r q rule.End e (last_rule r)
 
         module _ (x : Successors) (row : row_of notes (here_at image func place next) s i ≡ Ok x) where
-          of_row : (P : ℕ → Successors → Type 0) (j : Insn) (m : ℕ) (t : State) (y : Successors) → IsDecoded image f place j m → StateAt image notes func f place t
+          of_row : (P : ℕ → Successors → Type 0) (j : Insn) (m : ℕ) (t : State) (y : Successors) → IsDecoded image f place j m
+              → StateAt image notes func f place t
               → row_of notes (here_at image func place m) t j ≡ Ok y → P next x → P m y
           of_row P j m t y b there again h =
               let same : x ≡ y = row_same _ _ x y (same_rows j m t b there) row again in
@@ -156,7 +165,8 @@ module _ (image : Image) (notes : Notes) (func : ℕ) (f : FnNote) (place : ℕ)
               first q (fails_decode miss e) = absurd (miss (record { insn = i; next = next; decode = d }))
               first q (fails_state miss e) = absurd (miss (s, at))
               first q (fails_point j m b miss e) = absurd (miss (of_insn (λ y k. PointHolds notes place k) j m b point))
-              first q (fails_relocation j m b miss e) = absurd (miss (of_insn (λ y k. RelocationHolds image notes place y k (reloc_at image k)) j m b reloc))
+              first q (fails_relocation j m b miss e) = absurd (miss
+                  (of_insn (λ y k. RelocationHolds image notes place y k (reloc_at image k)) j m b reloc))
               first q (fails_row j m t b there p l again) = absurd (row_apart _ _ x q (same_rows j m t b there) row again)
               first q (fails_below j m t y b there again miss e) = by_name rule.Below q rule.Below e (omega arith)
               first q (fails_end j m b miss e) = by_name rule.Below q rule.End e (omega arith)
@@ -170,9 +180,11 @@ module _ (image : Image) (notes : Notes) (func : ℕ) (f : FnNote) (place : ℕ)
                 first q (fails_decode miss e) = absurd (miss (record { insn = i; next = next; decode = d }))
                 first q (fails_state miss e) = absurd (miss (s, at))
                 first q (fails_point j m b miss e) = absurd (miss (of_insn (λ y k. PointHolds notes place k) j m b point))
-                first q (fails_relocation j m b miss e) = absurd (miss (of_insn (λ y k. RelocationHolds image notes place y k (reloc_at image k)) j m b reloc))
+                first q (fails_relocation j m b miss e) = absurd
+                    (miss (of_insn (λ y k. RelocationHolds image notes place y k (reloc_at image k)) j m b reloc))
                 first q (fails_row j m t b there p l again) = absurd (row_apart _ _ x q (same_rows j m t b there) row again)
-                first q (fails_below j m t y b there again miss e) = absurd (miss (of_row (λ k z. BelowHolds notes func f place k z) j m t y b there again below))
+                first q (fails_below j m t y b there again miss e) =
+                    absurd (miss (of_row (λ k z. BelowHolds notes func f place k z) j m t y b there again below))
                 first q (fails_end j m b miss e) = by_name rule.End q rule.End e (omega arith)
 
             -- all hold, so none fails
@@ -180,12 +192,16 @@ module _ (image : Image) (notes : Notes) (func : ℕ) (f : FnNote) (place : ℕ)
             none_fails ends q (fails_decode miss e) = miss (record { insn = i; next = next; decode = d })
             none_fails ends q (fails_state miss e) = miss (s, at)
             none_fails ends q (fails_point j m b miss e) = miss (of_insn (λ y k. PointHolds notes place k) j m b point)
-            none_fails ends q (fails_relocation j m b miss e) = miss (of_insn (λ y k. RelocationHolds image notes place y k (reloc_at image k)) j m b reloc)
+            none_fails ends q (fails_relocation j m b miss e) =
+                miss (of_insn (λ y k. RelocationHolds image notes place y k (reloc_at image k)) j m b reloc)
             none_fails ends q (fails_row j m t b there p l again) = row_apart _ _ x q (same_rows j m t b there) row again
-            none_fails ends q (fails_below j m t y b there again miss e) = miss (of_row (λ k z. BelowHolds notes func f place k z) j m t y b there again below)
+            none_fails ends q (fails_below j m t y b there again miss e) =
+                miss (of_row (λ k z. BelowHolds notes func f place k z) j m t y b there again below)
             none_fails ends q (fails_end j m b miss e) = miss (of_insn (λ y k. EndHolds f y k) j m b ends)
 
 -- at a place that meets its rules none fails
-pub meets_all : (image : Image) (notes : Notes) (func : ℕ) (f : FnNote) (place : ℕ) → OnePoint notes → MeetsRules image notes func f place → (q : RuleName) → FailsAt image notes func f place q → ⊥
+pub meets_all : (image : Image) (notes : Notes) (func : ℕ) (f : FnNote) (place : ℕ) → OnePoint notes → MeetsRules image notes func f place
+    → (q : RuleName) → FailsAt image notes func f place q → ⊥
 meets_all image notes func f place one m =
-    none_fails image notes func f place m.insn m.next m.decode m.state m.has_state one m.point m.relocation m.successors m.row m.below m.ends
+    none_fails image notes func f place m.insn m.next m.decode m.state m.has_state one m.point m.relocation m.successors m.row m.below
+    m.ends

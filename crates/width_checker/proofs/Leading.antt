@@ -10,11 +10,12 @@ use Rattle.note_types.specs.declared.notes.Notes.{Notes}
 use Rattle.note_types.specs.declared.notes.Point.{Point}
 use Rattle.note_types.specs.declared.state.State.{State}
 use Rattle.pe_image.specs.declared.image.Image.{Image}
-use Rattle.rules_data.specs.Images.{IsDecoded}
+use Rattle.rules_image.specs.Images.{IsDecoded}
 use Rattle.rules_flow.specs.declared.successors.Successors.{Successors}
-use Rattle.width_checker.specs.Places.{Comes, IsBefore, IsPointAt, Leads, StateAt, of_fall, of_point}
+use Rattle.rules_image.specs.Places.{Leads}
+use Rattle.width_checker.specs.StatesAt.{Comes, IsBefore, IsPointAt, StateAt, of_fall, of_point}
 use Rattle.width_checker.specs.Rows.{here_at, row_of}
-use Rattle.width_checker.proofs.Decoding.{decoded_once}
+use Rattle.rules_image.proofs.Decoding.{decoded_once}
 
 -- ---- places
 
@@ -35,7 +36,8 @@ leads_one image f (suc n) p q a b =
     (decoded_once image f a.last a.insn b.insn p q a.decode there).1
 
 -- more lengths lead further, past the instruction at a place
-pub leads_past : (image : Image) (f : FnNote) (n m p q r : ℕ) (i : Insn) → Leads image f n p → Leads image f m q → n < m → IsDecoded image f p i r → r ≤ q
+pub leads_past : (image : Image) (f : FnNote) (n m p q r : ℕ) (i : Insn) → Leads image f n p → Leads image f m q → n < m
+    → IsDecoded image f p i r → r ≤ q
 unfolding Leads
 leads_past image f n zero p q r i a b less d = absurd (omega arith)
 leads_past image f n (suc m) p q r i a b less d =
@@ -70,11 +72,13 @@ count_one image f n m p a b =
     (cases_lt n m)
 
 -- the places before the next one are those before this one, and this one
-pub places_before : (image : Image) (f : FnNote) (n m p q r : ℕ) (i : Insn) → Leads image f n p → IsDecoded image f p i r → Leads image f m q → q < r → (q < p) ⊎ (q ≡ p)
+pub places_before : (image : Image) (f : FnNote) (n m p q r : ℕ) (i : Insn) → Leads image f n p → IsDecoded image f p i r
+    → Leads image f m q → q < r → (q < p) ⊎ (q ≡ p)
 places_before image f n m p q r i a d b less =
     ⊎_elim (λ more. absurd (let h = leads_past image f n m p q r i a b more d in omega arith))
     (λ from. ⊎_elim (λ below. inl (leads_further image f m n q p b a below))
-    (λ back. let same : m ≡ n = omega arith in let there : Leads image f n q = subst (λ k. Leads image f k q) same b in inr (leads_one image f n q p there a))
+    (λ back. let same : m ≡ n = omega arith in let there : Leads image f n q = subst (λ k. Leads image f k q) same b in
+    inr (leads_one image f n q p there a))
     (cases_lt m n))
     (cases_lt n m)
 
@@ -92,7 +96,8 @@ start_by_none image f n a = count_one image f n 0 f.place a refl
 
 -- ---- states
 
-pub leads_of : (image : Image) (notes : Notes) (func : ℕ) (f : FnNote) (n p : ℕ) (c : Option State) → Comes image notes func f n p c → Leads image f n p
+pub leads_of : (image : Image) (notes : Notes) (func : ℕ) (f : FnNote) (n p : ℕ) (c : Option State) → Comes image notes func f n p c
+    → Leads image f n p
 unfolding Leads Comes
 leads_of image notes func f zero p c h = h.0
 leads_of image notes func f (suc n) p c h = record {
@@ -107,24 +112,29 @@ leads_of image notes func f (suc n) p c h = record {
 abbrev pub OnePoint : Notes → Type 0
 OnePoint notes = (place : ℕ) (p q : Point) → IsPointAt notes place p → IsPointAt notes place q → p ≡ q
 
-pub before_one : (notes : Notes) → OnePoint notes → (place : ℕ) (c : Option State) (s t : State) → IsBefore notes place c s → IsBefore notes place c t → s ≡ t
+pub before_one : (notes : Notes) → OnePoint notes → (place : ℕ) (c : Option State) (s t : State) → IsBefore notes place c s
+    → IsBefore notes place c t → s ≡ t
 before_one notes one place c s t (of_point p at e) (of_point q there g) = e ∙ ap (λ (x : Point). x.state) (one place p q at there) ∙ sym g
 before_one notes one place c s t (of_point p at e) (of_fall none g) = absurd (none p at)
 before_one notes one place c s t (of_fall none e) (of_point q there g) = absurd (none q there)
 before_one notes one place c s t (of_fall none e) (of_fall miss g) = same_Some s t (sym e ∙ g)
 
 -- what comes after one instruction is one
-falls_one : (notes : Notes) (func p q : ℕ) (s : State) (i : Insn) (image : Image) (x y : Successors) → row_of notes (here_at image func p q) s i ≡ Ok x → row_of notes (here_at image func p q) s i ≡ Ok y → x ≡ y
+falls_one : (notes : Notes) (func p q : ℕ) (s : State) (i : Insn) (image : Image) (x y : Successors)
+    → row_of notes (here_at image func p q) s i ≡ Ok x → row_of notes (here_at image func p q) s i ≡ Ok y → x ≡ y
 falls_one notes func p q s i image x y a b = cc
 
-pub comes_one : (image : Image) (notes : Notes) (func : ℕ) (f : FnNote) → OnePoint notes → (n p : ℕ) (c d : Option State) → Comes image notes func f n p c → Comes image notes func f n p d → c ≡ d
+pub comes_one : (image : Image) (notes : Notes) (func : ℕ) (f : FnNote) → OnePoint notes → (n p : ℕ) (c d : Option State)
+    → Comes image notes func f n p c → Comes image notes func f n p d → c ≡ d
 unfolding Comes
 comes_one image notes func f one zero p c d a b = a.1 ∙ sym b.1
 comes_one image notes func f one (suc n) p c d a b =
-    let place : b.last ≡ a.last = leads_one image f n b.last a.last (leads_of image notes func f n b.last b.came b.reached) (leads_of image notes func f n a.last a.came a.reached) in
+    let place : b.last ≡ a.last = leads_one image f n b.last a.last (leads_of image notes func f n b.last b.came b.reached)
+    (leads_of image notes func f n a.last a.came a.reached) in
     let again : Comes image notes func f n a.last b.came = subst (λ x. Comes image notes func f n x b.came) place b.reached in
     let came : b.came ≡ a.came = comes_one image notes func f one n a.last b.came a.came again a.reached in
-    let had : IsBefore notes a.last a.came b.state = subst (λ o. IsBefore notes a.last o b.state) came (subst (λ x. IsBefore notes x b.came b.state) place b.has_state) in
+    let had : IsBefore notes a.last a.came b.state = subst (λ o. IsBefore notes a.last o b.state) came
+    (subst (λ x. IsBefore notes x b.came b.state) place b.has_state) in
     let state : b.state ≡ a.state = before_one notes one a.last a.came b.state a.state had a.has_state in
     let there : IsDecoded image f a.last b.insn p = subst (λ x. IsDecoded image f x b.insn p) place b.decode in
     let insn : b.insn ≡ a.insn = (decoded_once image f a.last b.insn a.insn p p there a.decode).0 in
@@ -136,13 +146,16 @@ comes_one image notes func f one (suc n) p c d a b =
     a.falls ∙ ap (λ (x : Successors). x.fall) same ∙ sym b.falls
 
 -- the state before a place is the one that was found there
-pub state_of : (image : Image) (notes : Notes) (func : ℕ) (f : FnNote) → OnePoint notes → (n p : ℕ) (c : Option State) → Comes image notes func f n p c
+pub state_of : (image : Image) (notes : Notes) (func : ℕ) (f : FnNote) → OnePoint notes → (n p : ℕ) (c : Option State)
+    → Comes image notes func f n p c
     → (s : State) → StateAt image notes func f p s → IsBefore notes p c s
 state_of image notes func f one n p c h s at =
-    let count : at.count ≡ n = count_one image f at.count n p (leads_of image notes func f at.count p at.come at.comes) (leads_of image notes func f n p c h) in
+    let count : at.count ≡ n = count_one image f at.count n p (leads_of image notes func f at.count p at.come at.comes)
+    (leads_of image notes func f n p c h) in
     let comes : Comes image notes func f n p at.come = subst (λ k. Comes image notes func f k p at.come) count at.comes in
     subst (λ o. IsBefore notes p o s) (comes_one image notes func f one n p at.come c comes h) at.before
 
-pub state_one : (image : Image) (notes : Notes) (func : ℕ) (f : FnNote) → OnePoint notes → (p : ℕ) (s t : State) → StateAt image notes func f p s → StateAt image notes func f p t → s ≡ t
+pub state_one : (image : Image) (notes : Notes) (func : ℕ) (f : FnNote) → OnePoint notes → (p : ℕ) (s t : State)
+    → StateAt image notes func f p s → StateAt image notes func f p t → s ≡ t
 state_one image notes func f one p s t a b =
     before_one notes one p b.come s t (state_of image notes func f one b.count p b.come b.comes s a) b.before

@@ -1,45 +1,20 @@
 -- Where the checker stands in the list of points, which ascend.
-use Rattle.std.proofs.Common.{◌≡◌, ℕ, zero, suc, ◌+◌, ◌-◌, ◌<◌, ◌≤◌, ◌↔◌, List, length, map, get_or, refl, sym, ap, subst, ◌∙◌, inl, inr, ⊎_elim, arith, ltb}
-use Rattle.std.specs.Prelude.{Bool, true, false, IsTrue, Option, None, Some, slice_get}
-use Rattle.std.specs.List.Sorted.{IsNonDecreasingBy, IsPartitionPoint, IsPartitionedBy, IsStrictlyIncreasing}
-use Rattle.std.specs.Option.{option_map}
-use Rattle.std.proofs.lemmas.Bool.{cases_lt, ltb-false, ltb-true}
-use Rattle.std.proofs.lemmas.List.{length-map}
-use Rattle.std.proofs.lemmas.List.Sorted.{IsPartitionedBy-ltb}
-use Rattle.std.proofs.lemmas.Option.{get_or_from_slice_get, none-some, same_Some, slice_get-get_or, slice_get-map, slice_get_past, slice_get_read, slice_get_within}
+use Rattle.std.proofs.Common.{◌≡◌, ℕ, ◌+◌, ◌-◌, ◌<◌, ◌≤◌, ◌↔◌, List, length, get_or, refl, sym, ap, subst, ◌∙◌, inl, inr, ⊎_elim, arith}
+use Rattle.std.specs.Prelude.{Bool, IsTrue, Option, None, Some, slice_get}
+use Rattle.std.proofs.lemmas.Bool.{cases_lt}
+use Rattle.std.proofs.lemmas.Option.{none-some, same_Some, slice_get-get_or, slice_get_past, slice_get_read, slice_get_within}
 use Rattle.note_types.specs.Records.{Ascends}
 use Rattle.note_types.specs.States.{StateBelow}
 use Rattle.note_types.specs.declared.notes.Notes.{Notes}
 use Rattle.note_types.specs.declared.notes.Point.{Point}
 use Rattle.note_types.specs.declared.state.State.{State}
-use Rattle.rules_data.specs.Images.{PointHolds}
-use Rattle.width_checker.specs.Places.{IsBefore, IsPointAt, of_fall, of_point}
+use Rattle.rules_image.specs.Images.{PointHolds}
+use Rattle.width_checker.specs.StatesAt.{IsBefore, IsPointAt, of_fall, of_point}
 use Rattle.width_checker.specs.Typed.{IsBelowPoint}
-use Rattle.width_checker.specs.Walks.{Arrives, PointsFrom}
+use Rattle.width_checker.specs.Walks.{Arrives}
 use Rattle.width_checker.proofs.Leading.{OnePoint}
-
-numbers_rise : (xs : List ℕ) → IsStrictlyIncreasing xs → (n j : ℕ) → j + suc n < length xs → get_or xs j 0 < get_or xs (j + suc n) 0
-numbers_rise xs up zero j within = let h = up j (omega arith) in subst (λ k. get_or xs j 0 < get_or xs k 0) {x = j + 1} {y = j + 1} (omega arith) h
-numbers_rise xs up (suc n) j within =
-    let first = numbers_rise xs up n j (omega arith) in
-    let last : get_or xs (j + suc n) 0 < get_or xs (j + suc (suc n)) 0 = subst (λ k. get_or xs (j + suc n) 0 < get_or xs k 0) {x = j + suc n + 1} {y = j + suc (suc n)} (omega arith) (up (j + suc n) (omega arith)) in
-    omega arith
-
-place_at : (notes : Notes) (k : ℕ) (p : Point) → slice_get notes.point k ≡ Some p → get_or (map (λ (x : Point). x.place) notes.point) k 0 ≡ p.place
-place_at notes k p there =
-    get_or_from_slice_get (map (λ (x : Point). x.place) notes.point) k p.place 0
-    (slice_get-map (λ (x : Point). x.place) notes.point k ∙ ap (option_map (λ (x : Point). x.place)) there)
-
-pub points_rise : (notes : Notes) → Ascends notes → (j k : ℕ) (p q : Point) → j < k → slice_get notes.point j ≡ Some p → slice_get notes.point k ≡ Some q → p.place < q.place
-points_rise notes up j k p q less there here =
-    let places : List ℕ = map (λ (x : Point). x.place) notes.point in
-    let inside : k < length places = let l = slice_get_within notes.point k q here in let m = length-map notes.point (λ (x : Point). x.place) in omega arith in
-    let n : ℕ = k - (j + 1) in
-    let e : j + suc n ≡ k = omega arith in
-    let h : get_or places j 0 < get_or places k 0 = subst (λ i. get_or places j 0 < get_or places i 0) e (numbers_rise places up.points n j (omega arith)) in
-    let a = place_at notes j p there in
-    let b = place_at notes k q here in
-    omega arith
+use Rattle.rules_image.specs.Marks.{PointsFrom}
+use Rattle.rules_image.proofs.Ascending.{points_rise}
 
 -- ---- the point at a place
 
@@ -64,7 +39,8 @@ module _ (notes : Notes) (up : Ascends notes) (place n : ℕ) (from : PointsFrom
   pub none_here : NoneHere → (p : Point) → IsPointAt notes place p → ⊥
   none_here none p at = none p (at_mark p at) at.at
 
-  pub below_here : (s : State) (p : Point) (b : Bool) → slice_get notes.point n ≡ Some p → p.place ≡ place → (IsTrue b ↔ StateBelow s p.state) → IsTrue b ↔ IsBelowPoint notes place s
+  pub below_here : (s : State) (p : Point) (b : Bool) → slice_get notes.point n ≡ Some p → p.place ≡ place
+      → (IsTrue b ↔ StateBelow s p.state) → IsTrue b ↔ IsBelowPoint notes place s
   below_here s p b there at h = (
     λ t q here. let same : p ≡ q = same_Some p q (sym there ∙ at_mark q here) in subst (λ (x : Point). StateBelow s x.state) same (h.0 t),
     λ all. h.1 (all p (record { number = n; there = there; at = at })),
@@ -75,7 +51,8 @@ module _ (notes : Notes) (up : Ascends notes) (place n : ℕ) (from : PointsFrom
 
   -- ---- the state that is taken there
 
-  pub arrives_point : OnePoint notes → (c : Option State) (p : Point) → slice_get notes.point n ≡ Some p → p.place ≡ place → Arrives notes place c (Some p.state)
+  pub arrives_point : OnePoint notes → (c : Option State) (p : Point) → slice_get notes.point n ≡ Some p → p.place ≡ place
+      → Arrives notes place c (Some p.state)
   arrives_point one c p there at s =
       let here : IsPointAt notes place p = record { number = n; there = there; at = at } in (
         λ e. of_point p here (sym (same_Some p.state s e)),
@@ -98,7 +75,8 @@ module _ (notes : Notes) (up : Ascends notes) (place n : ℕ) (from : PointsFrom
   pub points_more : (p : Point) → slice_get notes.point n ≡ Some p → p.place ≡ place → PointsFrom notes (place + 1) (n + 1)
   points_more p there at k q here = (
     λ less. ⊎_elim (λ before. let h = (from k q here).0 before in omega arith)
-        (λ above. let e : k ≡ n = omega arith in let same : p ≡ q = same_Some p q (sym there ∙ subst (λ i. slice_get notes.point i ≡ Some q) e here) in
+        (λ above. let e : k ≡ n = omega arith in let same : p ≡ q =
+        same_Some p q (sym there ∙ subst (λ i. slice_get notes.point i ≡ Some q) e here) in
         let r : p.place ≡ q.place = ap (λ (x : Point). x.place) same in omega arith)
         (cases_lt k n),
     λ above. let h = points_rise notes up n k p q (omega arith) there here in omega arith,
@@ -108,7 +86,8 @@ module _ (notes : Notes) (up : Ascends notes) (place n : ℕ) (from : PointsFrom
   points_same none k q here = (
     λ less. let h = (from k q here).0 less in omega arith,
     λ above. let low = (from k q here).1 above in
-        ⊎_elim (λ same. absurd (none_here none q (record { number = k; there = here; at = omega arith }))) (λ more. omega arith) (cases_lt q.place (place + 1)),
+        ⊎_elim (λ same. absurd (none_here none q (record { number = k; there = here; at = omega arith }))) (λ more. omega arith)
+        (cases_lt q.place (place + 1)),
   )
 
 -- ---- points inside an instruction
@@ -118,7 +97,8 @@ module _ (notes : Notes) (up : Ascends notes) (place next n : ℕ) (from : Point
   no_point_some p there past k q here =
       ⊎_elim (λ less. let h = (from k q here).0 less in inl (omega arith))
       (λ above. ⊎_elim (λ more. let h = points_rise notes up n k p q more there here in inr (omega arith))
-      (λ back. let e : k ≡ n = omega arith in let same : p ≡ q = same_Some p q (sym there ∙ subst (λ i. slice_get notes.point i ≡ Some q) e here) in
+      (λ back. let e : k ≡ n = omega arith in let same : p ≡ q =
+      same_Some p q (sym there ∙ subst (λ i. slice_get notes.point i ≡ Some q) e here) in
       let r : p.place ≡ q.place = ap (λ (x : Point). x.place) same in inr (omega arith))
       (cases_lt n k))
       (cases_lt k n)
@@ -144,33 +124,16 @@ module _ (notes : Notes) (up : Ascends notes) (place next n : ℕ) (from : Point
 
 pub one_point : (notes : Notes) → Ascends notes → OnePoint notes
 one_point notes up place p q a b =
-    ⊎_elim (λ less. absurd (let h = points_rise notes up a.number b.number p q less a.there b.there in let e = a.at in let g = b.at in omega arith))
-    (λ from. ⊎_elim (λ less. absurd (let h = points_rise notes up b.number a.number q p less b.there a.there in let e = a.at in let g = b.at in omega arith))
-    (λ back. let same : b.number ≡ a.number = omega arith in same_Some p q (sym a.there ∙ subst (λ k. slice_get notes.point k ≡ Some q) same b.there))
+    ⊎_elim (λ less. absurd (let h = points_rise notes up a.number b.number p q less a.there b.there in let e = a.at in let g = b.at in
+    omega arith))
+    (λ from. ⊎_elim (λ less. absurd (let h = points_rise notes up b.number a.number q p less b.there a.there in let e = a.at in
+    let g = b.at in omega arith))
+    (λ back. let same : b.number ≡ a.number = omega arith in same_Some p q
+    (sym a.there ∙ subst (λ k. slice_get notes.point k ≡ Some q) same b.there))
     (cases_lt b.number a.number))
     (cases_lt a.number b.number)
 
 -- ---- where a binary search ends
-
-places_up : (notes : Notes) → Ascends notes → IsNonDecreasingBy (λ (p : Point). p.place) notes.point
-places_up notes up i j d below within =
-    ⊎_elim (λ less.
-    let there = slice_get-get_or notes.point i d (omega arith) in
-    let here = slice_get-get_or notes.point j d within in
-    let rise = points_rise notes up i j _ _ less there here in omega arith)
-    (λ back. let same : i ≡ j = omega arith in let e : (get_or notes.point i d).place ≡ (get_or notes.point j d).place = ap (λ k. (get_or notes.point k d).place) same in omega arith)
-    (cases_lt i j)
-
-pub points_parted : (notes : Notes) (place : ℕ) → Ascends notes → IsPartitionedBy (λ (p : Point). ltb p.place place) notes.point
-points_parted notes place up = IsPartitionedBy-ltb (λ (p : Point). p.place) notes.point place (places_up notes up)
-
-pub points_from : (notes : Notes) (place n : ℕ) → IsPartitionPoint (λ (p : Point). ltb p.place place ≡ true) (λ (p : Point). ltb p.place place ≡ false) notes.point n → PointsFrom notes place n
-points_from notes place n parted k p there =
-    let inside : k < length notes.point = slice_get_within notes.point k p there in
-    let at : get_or notes.point k p ≡ p = get_or_from_slice_get notes.point k p p there in (
-      λ less. ltb-true _ _ (subst (λ (q : Point). ltb q.place place ≡ true) at (parted.0 k p (omega arith) less)),
-      λ above. ltb-false _ _ (subst (λ (q : Point). ltb q.place place ≡ false) at (parted.1 k p above inside)),
-    )
 
 -- ---- what is looked up in the list
 

@@ -1,12 +1,6 @@
-pub mod Checks
-pub mod Contents
 pub mod Paths
-pub mod Places
-pub mod PlainChecks
-pub mod PlainRules
-pub mod PlainRuns
 pub mod Rows
-pub mod Tables
 pub mod Typed
 pub mod Verdicts
 pub mod Walks
+pub mod StatesAt

@@ -1,5 +1,6 @@
--- Where control goes on after an instruction, told beside the state that is kept and the one at the place of a jump taken.
-use Rattle.std.specs.Prelude.{Bool, true, false, Option, Some, None, if◌then◌else◌}
+-- For proofs: where control goes on after an instruction, told beside the state that is kept and the one at the place of a
+-- jump taken.
+use Rattle.std.specs.Prelude.{Bool, true, false, if◌then◌else◌}
 use Rattle.note_types.specs.declared.state.State.{State}
 use Rattle.rules_flow.specs.declared.successors.Successors.{Successors}
 use Rattle.rules_flow.specs.Successors.{ends, falls, goes, parts}
@@ -18,7 +19,3 @@ abbrev pub does_fall : Path → Bool
 does_fall path.Falls = true
 does_fall (path.Parts place) = true
 does_fall _ = false
-
--- the kept state, where it is one before the instruction that comes
-abbrev pub come_of : Bool → State → Option State
-come_of falls s = if falls then Some s else None

@@ -1,5 +1,5 @@
--- The row of an instruction: what rules_data or rules_flow gives for it. docs/RULES.md has the rows.
-use Rattle.std.specs.Prelude.{ℕ, Bool, true, false, not, ◌&&◌, nat_eq, Option, if◌then◌else◌}
+-- Meaning: the row of an instruction: what rules_data or rules_flow gives for it. docs/RULES.md has the rows.
+use Rattle.std.specs.Prelude.{ℕ, Bool, true, false, not, ◌&&◌, nat_eq, if◌then◌else◌}
 use Rattle.ebc_insn.specs.declared.Insn.{Insn}
 use Rattle.ebc_insn.specs.declared.Insn.TheVariants as insn
 use Rattle.ebc_insn.specs.declared.Operand.{Operand}
@@ -7,16 +7,12 @@ use Rattle.note_types.specs.declared.notes.Notes.{Notes}
 use Rattle.note_types.specs.declared.state.State.{State}
 use Rattle.pe_image.specs.declared.image.Image.{Image}
 use Rattle.rules_base.specs.declared.here.Here.{Here}
-use Rattle.rules_base.specs.Outcomes.{Gives, gives_map}
+use Rattle.rules_base.specs.Outcomes.{gives_map, OrRule}
 use Rattle.rules_data.specs.Data.{after_data}
-use Rattle.rules_data.specs.Images.{is_relocated, named_at}
+use Rattle.rules_image.specs.Images.{reloc_at}
 use Rattle.rules_flow.specs.declared.successors.Successors.{Successors}
 use Rattle.rules_flow.specs.Flow.{after_flow}
 use Rattle.rules_flow.specs.Successors.{falls}
-
--- the place that the relocated immediate of an instruction that ends before `next` names, where it has one
-unfoldable pub reloc_at : Image → ℕ → Option ℕ
-reloc_at image next = named_at image next (is_relocated image next)
 
 -- where an instruction of function `func` stands
 abbrev pub here_at : Image → ℕ → ℕ → ℕ → Here
@@ -46,5 +42,5 @@ is_flow (insn.MoveRelative bits left lidx imm) = is_r0 left
 is_flow i = false
 
 -- the states after an instruction in a state, or the first rule of its row that fails
-unfoldable pub row_of : Notes → Here → State → Insn → Gives Successors
+unfoldable pub row_of : Notes → Here → State → Insn → OrRule Successors
 row_of notes here s i = if is_flow i then after_flow notes here s i else gives_map falls (after_data notes here s i)

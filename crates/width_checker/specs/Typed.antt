@@ -1,4 +1,4 @@
--- Typed images: every instruction meets every rule under the notes. docs/RULES.md, "The verdict", has the words.
+-- Meaning: typed images: every instruction meets every rule under the notes. docs/RULES.md, "The verdict", has the words.
 use Rattle.std.specs.Prelude.{◌≡◌, ℕ, Ok, Some, slice_get}
 use Rattle.ebc_insn.specs.declared.Insn.{Insn}
 use Rattle.note_types.specs.Notes.{entry_state}
@@ -8,10 +8,12 @@ use Rattle.note_types.specs.declared.notes.Notes.{Notes}
 use Rattle.note_types.specs.declared.notes.Point.{Point}
 use Rattle.note_types.specs.declared.state.State.{State}
 use Rattle.pe_image.specs.declared.image.Image.{Image}
-use Rattle.rules_data.specs.Images.{EndHolds, FunctionHolds, IsDecoded, PointHolds, RelocationHolds, ShapeHolds, StaticHolds, ThunkHolds}
+use Rattle.rules_image.specs.Images.{EndHolds, FunctionHolds, IsDecoded, PointHolds, RelocationHolds, ShapeHolds, StaticHolds, ThunkHolds}
+use Rattle.rules_image.specs.Images.{reloc_at}
 use Rattle.rules_flow.specs.declared.successors.Successors.{Successors}
-use Rattle.width_checker.specs.Places.{IsPlaceOf, IsPointAt, StateAt}
-use Rattle.width_checker.specs.Rows.{here_at, reloc_at, row_of}
+use Rattle.rules_image.specs.Places.{IsPlaceOf}
+use Rattle.width_checker.specs.StatesAt.{IsPointAt, StateAt}
+use Rattle.width_checker.specs.Rows.{here_at, row_of}
 
 -- ---- shapes, functions, static objects and thunk cells
 
@@ -62,4 +64,5 @@ pub record MeetsRules (image : Image) (notes : Notes) (func : ℕ) (f : FnNote) 
 -- instruction at each place of each function meets its rules.
 pub record Typed (image : Image) (notes : Notes) : Type 0 where
   pub tables : TablesHold image notes
-  pub code : (k : ℕ) (f : FnNote) → slice_get notes.function k ≡ Some f → (place : ℕ) → IsPlaceOf image f place → MeetsRules image notes k f place
+  pub code : (k : ℕ) (f : FnNote) → slice_get notes.function k ≡ Some f → (place : ℕ) → IsPlaceOf image f place
+      → MeetsRules image notes k f place

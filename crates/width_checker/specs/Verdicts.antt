@@ -1,5 +1,5 @@
--- The verdict on an image under notes: neutral where it is typed, and else the first place at which a rule fails, with the
--- first rule that fails there. docs/RULES.md, "The verdict", has the words.
+-- Meaning: the verdict on an image under notes: neutral where it is typed, and else the first place at which a rule fails,
+-- with the first rule that fails there. docs/RULES.md, "The verdict", has the words.
 use Rattle.std.specs.Prelude.{◌≡◌, ℕ, ◌<◌, Ok, Err, Some, slice_get}
 use Rattle.ebc_insn.specs.declared.Insn.{Insn}
 use Rattle.note_types.specs.declared.notes.FnNote.{FnNote}
@@ -11,20 +11,18 @@ use Rattle.note_types.specs.declared.rule.RuleName.TheVariants as rule
 use Rattle.note_types.specs.declared.state.State.{State}
 use Rattle.pe_image.specs.declared.image.Image.{Image}
 use Rattle.rules_base.specs.FirstRule.{IsFirst}
-use Rattle.rules_data.specs.Images.{EndHolds, FunctionHolds, IsDecoded, PointHolds, RelocationHolds, ShapeHolds, StaticHolds, ThunkHolds}
+use Rattle.rules_image.specs.Images.{EndHolds, FunctionHolds, IsDecoded, PointHolds, RelocationHolds, ShapeHolds, StaticHolds, ThunkHolds}
+use Rattle.rules_image.specs.Images.{reloc_at}
 use Rattle.rules_flow.specs.declared.successors.Successors.{Successors}
-use Rattle.width_checker.specs.declared.verdict.Verdict.{Verdict}
-use Rattle.width_checker.specs.declared.verdict.Verdict.TheVariants.{Neutral, Refused}
-use Rattle.width_checker.specs.Places.{IsPlaceOf, StateAt}
-use Rattle.width_checker.specs.Rows.{here_at, reloc_at, row_of}
+use Rattle.plain_check.specs.declared.verdict.Verdict.{Verdict}
+use Rattle.plain_check.specs.declared.verdict.Verdict.TheVariants.{Neutral, Refused}
+use Rattle.rules_image.specs.Places.{IsPlaceOf}
+use Rattle.width_checker.specs.StatesAt.{StateAt}
+use Rattle.width_checker.specs.Rows.{here_at, row_of}
 use Rattle.width_checker.specs.Typed.{BelowHolds, MeetsRules, TablesHold, Typed}
+use Rattle.rules_image.specs.Checks.{IsFirstFailing}
 
 -- ---- shapes, functions, static objects and thunk cells
-
--- thing k is the first of which a rule doesn't hold
-pub record IsFirstFailing (Holds : ℕ → Type 0) (k : ℕ) : Type 0 where
-  pub fails : ¬ Holds k
-  pub before : (j : ℕ) → j < k → Holds j
 
 -- the first shape that isn't well formed is refused; its place is its number
 pub record RefusesShape (notes : Notes) (place : ℕ) : Type 0 where

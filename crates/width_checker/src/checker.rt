@@ -4,25 +4,22 @@ ghost use Rattle.std.specs.Prelude.{◌≡◌, ◌<◌, ◌≤◌, ◌↔◌, �
 ghost use Rattle.note_types.specs.Records.{IsNotes};
 ghost use Rattle.note_types.specs.declared.rule.RuleName.{RuleName};
 ghost use Rattle.pe_image.specs.Images.{IsImage};
-ghost use Rattle.width_checker.specs.Checks.{AreAllApart, things};
-ghost use Rattle.rules_data.specs.Images.{FunctionHolds, ShapeHolds};
+ghost use Rattle.rules_image.specs.Checks.{AreAllApart, things};
+ghost use Rattle.rules_image.specs.Images.{FunctionHolds, ShapeHolds};
 ghost use Rattle.width_checker.specs.Typed.{TablesHold, Typed};
 ghost use Rattle.width_checker.specs.Verdicts.{IsRefused, IsVerdict};
 
-use crate::apart::all_apart;
 use crate::refusal::Refusal;
-use crate::statics::check_statics;
-use crate::tables::{check_functions, check_shapes};
-use crate::thunks::check_thunks;
-use crate::verdict::Verdict;
 use crate::walk::check_code;
 use ebc_base::NoMemory;
 use note_types::{Notes, RuleName};
 use pe_image::Image;
+use plain_check::Verdict;
+use rules_image::{all_apart, check_functions, check_shapes, check_statics, check_thunks};
 use std::alloc::Global;
 
 /// What a check sorts in: room for the numbers of all static objects, thunk cells and functions of the notes.
-#[derive(Debug, Drop)]
+#[derive(Drop)]
 pub struct Checker {
     /// What stands here before a check doesn't matter.
     pub order: Vec<u32>,

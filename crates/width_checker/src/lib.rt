@@ -4,28 +4,14 @@
 //! that works on registers alone; docs/PLAIN.md has its rules.
 #![tactic(auto)]
 
-mod apart;
-mod bytes;
 mod checker;
-mod content;
-mod entry;
-mod marks;
-mod plain;
-mod ranges;
 mod refusal;
-mod relocation;
 mod row;
-mod statics;
-mod tables;
-mod thunks;
-mod verdict;
 mod walk;
 
 pub use checker::{Checker, check};
 pub use ebc_base::NoMemory;
 pub use note_types::RuleName;
-pub use plain::check_plain;
+pub use plain_check::{Verdict, check_plain};
 pub use refusal::Refusal;
-pub use tables::{check_functions, check_shapes};
-pub use verdict::Verdict;
 pub use walk::check_code;

@@ -17,7 +17,7 @@ use rules_data::data_change;
 use rules_flow::{Step, flow_step, narrow};
 
 /// Where control goes on after an instruction, beside the state that is kept and the one at the place of a jump taken.
-#[derive(Clone, Copy, Debug)]
+#[derive(Clone, Copy)]
 pub(crate) enum Path {
     /// The next instruction, with the state that is kept.
     Falls,

@@ -4,30 +4,30 @@ ghost use Rattle.std.specs.Prelude.{◌≡◌, ◌+◌, ◌<◌, ◌≤◌, ◌�
 ghost use Rattle.note_types.specs.Records.{Ascends, IsNotes};
 ghost use Rattle.pe_image.specs.Images.{IsImage};
 ghost use Rattle.rules_base.specs.FirstRule.{IsFirst};
-ghost use Rattle.rules_data.specs.Images.{IsDecoded, IsFunction, PointHolds};
-ghost use Rattle.width_checker.specs.Paths.{come_of, successors_from};
-ghost use Rattle.width_checker.specs.Places.{IsPlaceOf};
+ghost use Rattle.rules_image.specs.Images.{IsDecoded, IsFunction, PointHolds};
+ghost use Rattle.width_checker.specs.Paths.{successors_from};
+ghost use Rattle.rules_image.specs.Places.{IsPlaceOf};
 ghost use Rattle.width_checker.specs.Typed.{IsBelowPoint, LeadsBelow, MeetsRules, TablesHold, Typed};
 ghost use Rattle.width_checker.specs.Verdicts.{FailsAt, RefusesInsn};
-ghost use Rattle.width_checker.specs.Walks.{Arrives, FailsIn, FunctionsMeet, IsCodeOf, Passes, PointsFrom, StandsAt};
+ghost use Rattle.width_checker.specs.Walks.{Arrives, FailsIn, FunctionsMeet, Passes, StandsAt};
+ghost use Rattle.rules_image.specs.Marks.{PointsFrom};
+ghost use Rattle.rules_image.specs.Tables.{IsCodeOf};
+ghost use Rattle.ebc_base.specs.Steps.{only_if};
 
-use crate::entry::enter;
-use crate::marks::{Marks, first_point, first_reloc};
 use crate::refusal::Refusal;
-use crate::relocation::{ends_within, past, relocation};
 use crate::row::{Path, advance};
-use crate::tables::code_of;
 use ebc_decode::decode;
 use ebc_insn::Insn;
-use note_types::{FnNote, Notes, RuleName, State, entry_state, fits_below};
+use note_types::{FnNote, Notes, RuleName, State, enter, entry_state, fits_below};
 use pe_image::Image;
 use rules_base::Here;
+use rules_image::{Marks, code_of, ends_within, first_point, first_reloc, past, relocation};
 
 // Takes the state of the point at a place, where one is: whether the state that came is below it.
 fn arrive(notes: &Notes, at: u32, marks: &mut Marks, state: &mut State) -> bool
     requires ascend { Ascends notes.now }
     requires points { PointsFrom notes.now at marks.old.point }
-    ensures arrives { Arrives notes.now at (come_of marks.old.falls state.old) (come_of marks.new.falls state.new) }
+    ensures arrives { Arrives notes.now at (only_if marks.old.falls state.old) (only_if marks.new.falls state.new) }
     ensures points { PointsFrom notes.now (at + 1) marks.new.point }
     ensures reloc { marks.new.reloc ≡ marks.old.reloc }
     ensures below { IsTrue result ↔ IsBelowPoint notes.now at state.old }

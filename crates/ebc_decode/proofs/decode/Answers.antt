@@ -23,7 +23,8 @@ found bytes (Err f) each e = tt
 within :
     (at : ℕ) (code : List ℕ) (r : Result (Insn × ℕ) DecodeFault) → at ≤ length code →
     r ≡ read (drop at code) → IfOk r (λ x. (2 ≤ x.1) × (at + x.1 ≤ length code))
-within at code (Ok (i, n)) h e = let sizes = read_length (drop at code) i n (sym e) in (sizes.0, omega (arith, sizes.1, length-drop at code))
+within at code (Ok (i, n)) h e = let sizes = read_length (drop at code) i n (sym e) in
+    (sizes.0, omega (arith, sizes.1, length-drop at code))
 within at code (Err f) h e = tt
 
 none :
@@ -33,13 +34,17 @@ none bytes (Ok x) e = tt
 none bytes (Err f) e = λ i rest well same. read_none bytes f i rest (sym e) well same
 
 pub returns-clause-found : goal.returns-clause-found
-returns-clause-found c = found (drop c.args.at c.args.code.now) c.read.result (IsBytes-drop c.args.at c.args.code.now (λ i. omega (arith, c.type_inv.code i))) (c.read.ensures ∙ ap read (rest_whole c.args.at c.args.code.now))
+returns-clause-found c = found (drop c.args.at c.args.code.now) c.read.result
+    (IsBytes-drop c.args.at c.args.code.now (λ i. omega (arith, c.type_inv.code i)))
+    (c.read.ensures ∙ ap read (rest_whole c.args.at c.args.code.now))
 
 pub returns-clause-length : goal.returns-clause-length
-returns-clause-length c = within c.args.at c.args.code.now c.read.result c.requires (c.read.ensures ∙ ap read (rest_whole c.args.at c.args.code.now))
+returns-clause-length c = within c.args.at c.args.code.now c.read.result c.requires
+    (c.read.ensures ∙ ap read (rest_whole c.args.at c.args.code.now))
 
 pub returns-clause-only : goal.returns-clause-only
 returns-clause-only c = λ i rest well e. c.read.ensures ∙ (ap read (rest_whole c.args.at c.args.code.now ∙ e) ∙ read_again i rest well)
 
 pub returns-clause-none : goal.returns-clause-none
-returns-clause-none c = none (drop c.args.at c.args.code.now) c.read.result (c.read.ensures ∙ ap read (rest_whole c.args.at c.args.code.now))
+returns-clause-none c = none (drop c.args.at c.args.code.now) c.read.result
+    (c.read.ensures ∙ ap read (rest_whole c.args.at c.args.code.now))

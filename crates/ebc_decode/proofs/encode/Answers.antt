@@ -11,4 +11,5 @@ spelling_again :
 spelling_again bytes i rest h e = rw e (read_again i rest h)
 
 pub returns-clause-read_again : goal.returns-clause-read_again
-returns-clause-read_again c = λ rest. spelling_again c.bytes_of.result.items c.args.i.now rest c.requires (c.bytes_of.ensures ∙ ap bytes_of c.parts.ensures)
+returns-clause-read_again c = λ rest. spelling_again c.bytes_of.result.items c.args.i.now rest c.requires
+    (c.bytes_of.ensures ∙ ap bytes_of c.parts.ensures)

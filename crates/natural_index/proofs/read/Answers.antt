@@ -8,4 +8,5 @@ unfolding fields_of
 returns-clause-fields c = search rules
 
 pub returns-clause-spelled : goal.returns-clause-spelled
-returns-clause-spelled c = rw (returns-clause-fields c) (spelled c.args.bits c.args.raw (omega (arith, c.requires.size)) c.requires.within c.requires.split)
+returns-clause-spelled c = rw (returns-clause-fields c) (spelled c.args.bits c.args.raw
+    (omega (arith, c.requires.size)) c.requires.within c.requires.split)

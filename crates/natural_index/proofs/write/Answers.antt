@@ -11,10 +11,12 @@ byte_bit false = refl
 pub returns-clause-raw : goal.returns-clause-raw
 returns-clause-raw c =
     let i = c.args.i.now in
-    rw (c.natural_width-natural.ensures, byte_bit i.neg) (packed c.args.bits i (omega (arith, c.requires.size)) (omega (arith, c.requires.size)) c.requires.room)
+    rw (c.natural_width-natural.ensures, byte_bit i.neg) (packed c.args.bits i (omega (arith, c.requires.size))
+    (omega (arith, c.requires.size)) c.requires.room)
 
 pub returns-clause-within : goal.returns-clause-within
 returns-clause-within c = rw (returns-clause-raw c) (raw_below c.args.bits c.args.i.now (omega (arith, c.requires.size)) c.requires.room)
 
 pub returns-clause-read_again : goal.returns-clause-read_again
-returns-clause-read_again c = rw (returns-clause-raw c) (index_again c.args.bits c.args.i.now (omega (arith, c.requires.size)) c.requires.room)
+returns-clause-read_again c = rw (returns-clause-raw c) (index_again c.args.bits c.args.i.now
+    (omega (arith, c.requires.size)) c.requires.room)

@@ -1,7 +1,8 @@
 use Rattle.std.proofs.Common.{◌≡◌, take}
 use Rattle.object_memory.specs.Memory.{IsMemory, with_bytes}
 use Rattle.reloc_loader.specs.Loads.{within}
-use Rattle.pe_image.specs.Mapped.{distance_of, laid, moved}
+use Rattle.pe_image.specs.Mapped.{laid, moved}
+use Rattle.ebc_width.specs.Width.{distance_of}
 use Rattle.reloc_loader.proofs.load.Given as goal
 
 abbrev pub invariant-loop-section : goal.invariant-loop-section
@@ -14,6 +15,7 @@ invariant-loop-section g l =
 abbrev pub invariant-loop-place : goal.invariant-loop-place
 invariant-loop-place g l =
     record {
-      is : l.mem ≡ with_bytes l.fn.mem (within l.fn.mem l.base l.image.size (moved (laid l.image.sections) (take l.place-index l.image.relocs) (distance_of l.base l.image.base)));
+      is : l.mem ≡ with_bytes l.fn.mem (within l.fn.mem l.base l.image.size
+          (moved (laid l.image.sections) (take l.place-index l.image.relocs) (distance_of l.base l.image.base)));
       memory : IsMemory g.row.W l.mem;
     }

@@ -2,4 +2,6 @@ use Rattle.twin_run.proofs.Runs.{verdict_is_same}
 use Rattle.twin_run.proofs.check.Goals as goal
 
 pub returns-clause-alike : goal.returns-clause-alike
-returns-clause-alike c = verdict_is_same c.args.image.now c.args.notes.now c.requires.image c.requires.bytes c.requires.notes c.check.result c.check.ensures.neutral
+returns-clause-alike c =
+    verdict_is_same c.args.image.now c.args.notes.now c.requires.image c.requires.bytes c.requires.notes c.check.result
+    c.check.ensures.neutral

@@ -1,7 +1,8 @@
 use Rattle.std.proofs.Common.{rules, ◌≡◌, ◌-◌, ◌<◌, ◌==◌, arith, [], get_or, false, take, ◌∙◌}
 use Rattle.asm_text.proofs.TrimLaws.{back_none, back_step, back_stop}
 use Rattle.asm_text.proofs.splits.trim_back.Goals as goal
-use Rattle.asm_text.proofs.splits.trim_back.Goals.{else-loop-test, then-loop-test+then-kept-eq0, then-kept-eq0-via-then-kept-eq0, then-kept-eq0-via-else-kept-eq0+then-text-kept-ne32}
+use Rattle.asm_text.proofs.splits.trim_back.Goals.{else-loop-test, then-loop-test+then-kept-eq0, then-kept-eq0-via-then-kept-eq0}
+use Rattle.asm_text.proofs.splits.trim_back.Goals.{then-kept-eq0-via-else-kept-eq0+then-text-kept-ne32}
 
 pub loop-preserved : goal.loop-preserved
 loop-preserved c =

@@ -11,7 +11,8 @@ loop-text-smaller c =
 pub loop-text-preserved : goal.loop-text-preserved
 loop-text-preserved c =
     let cut : line_cut c.loop-text.rest.now ≡ Some (c.in-Some.text.now, c.in-Some.more.now) = cc c.in-Some.ensures in
-    labels_more c.loop-text.labels c.add_label.new.labels c.loop-text.rest.now c.in-Some.text.now c.in-Some.more.now (lines_of c.args.source.now) cut c.in_ok-add_label.ensures c.loop-text.invariant
+    labels_more c.loop-text.labels c.add_label.new.labels c.loop-text.rest.now c.in-Some.text.now c.in-Some.more.now
+    (lines_of c.args.source.now) cut c.in_ok-add_label.ensures c.loop-text.invariant
 
 pub returns : goal.returns
 returns c = labels_all c.loop-text.labels c.loop-text.rest.now (lines_of c.args.source.now) (sym c.in_default.ensures) c.loop-text.invariant

@@ -1,5 +1,8 @@
 use Rattle.std.proofs.Common.{◌≡◌, ◌⊎◌, None, ◌∙◌}
-use Rattle.ebc_cli.proofs.HeadlineLemmas.{Tells, answer-ok, answer-stop, answers, leaves-part, exactly, alike, refused, lists-always, lists-exactly, assembles-always, assembles-exactly, bad-source-line, bad-input, missing, too-large, neutral-printed, refused-printed, plain-alike, plain-exactly, plain-refused, plain-neutral-printed, plain-refused-printed, unput, untold}
+use Rattle.ebc_cli.proofs.HeadlineLemmas.{Tells, answer-ok, answer-stop, answers, leaves-part, exactly, alike, refused, lists-always}
+use Rattle.ebc_cli.proofs.HeadlineLemmas.{lists-exactly, assembles-always, assembles-exactly, bad-source-line, bad-input, missing}
+use Rattle.ebc_cli.proofs.HeadlineLemmas.{too-large, neutral-printed, refused-printed, plain-alike, plain-exactly, plain-refused}
+use Rattle.ebc_cli.proofs.HeadlineLemmas.{plain-neutral-printed, plain-refused-printed, unput, untold}
 use Rattle.ebc_cli.proofs.OutputLemmas.{but-output, writes-none}
 use Rattle.ebc_cli.specs.Commands.{command_of, output_of, word_bytes}
 use Rattle.ebc_cli.specs.Outputs.{written_name}
@@ -7,7 +10,8 @@ use Rattle.ebc_cli.proofs.answer.ebc.Goals as goal
 use Rattle.ebc_cli.proofs.answer.ebc.Goals.{in-Ok, in-Err-Stop, Joined-reply}
 use Rattle.ebc_cli.proofs.answer.ebc.Given.{Over}
 
-tells : (g : Over) (c : Joined-reply g) → Tells (g.F.Folder.contents c.args.folder.now) (word_bytes c.args.words.now) c.match-decide.reply c.finish.result
+tells : (g : Over) (c : Joined-reply g) → Tells (g.F.Folder.contents c.args.folder.now)
+    (word_bytes c.args.words.now) c.match-decide.reply c.finish.result
 tells g c = record {
   told = elim c.match-decide.branch [
     | in-Ok w ↦ rw w.reply-is (answer-ok _ _ _ _ w.in-Ok.reply w.in-Ok.ensures.decided)
@@ -17,7 +21,8 @@ tells g c = record {
 }
 
 -- the reply writes nothing, or the file that the words name
-output : (g : Over) (c : Joined-reply g) → (written_name c.match-decide.reply.output ≡ None) ⊎ (written_name c.match-decide.reply.output ≡ output_of (command_of (word_bytes c.args.words.now)))
+output : (g : Over) (c : Joined-reply g) → (written_name c.match-decide.reply.output ≡ None)
+    ⊎ (written_name c.match-decide.reply.output ≡ output_of (command_of (word_bytes c.args.words.now)))
 output g c = elim c.match-decide.branch [
   | in-Ok w ↦ rw w.reply-is w.in-Ok.ensures.reply.output
   | in-Err-Stop w ↦ rw w.reply-is (rw w.in-Err-Stop.field-0-is at w.in-Err-Stop.ensures.stop).output
@@ -30,7 +35,8 @@ pub returns-clause-files : goal.returns-clause-files
 returns-clause-files g c = but-output _ _ _ _ _ (output g c) c.decide.ensures.contents c.finish.ensures.others
 
 pub returns-clause-write_fault_leaves : goal.returns-clause-write_fault_leaves
-returns-clause-write_fault_leaves g c = leaves-part _ _ _ _ _ _ _ (tells g c) c.finish.ensures.part (rw c.decide.ensures.contents at c.finish.ensures.others)
+returns-clause-write_fault_leaves g c = leaves-part _ _ _ _ _ _ _ (tells g c) c.finish.ensures.part
+    (rw c.decide.ensures.contents at c.finish.ensures.others)
 
 pub returns-clause-neutral_exactly : goal.returns-clause-neutral_exactly
 returns-clause-neutral_exactly g c = exactly _ _ _ _ (tells g c)

@@ -8,4 +8,6 @@ returns-in_err-image-clause-follows g c =
     rw (p.1, p.2) (image-ends _ _ _ _ _ _ c.in_err-image.ensures.follows)
 
 pub returns-in-Err-clause-follows : goal.returns-in-Err-clause-follows
-returns-in-Err-clause-follows g c = notes-end _ _ _ _ _ _ _ c.in_ok-image.image c.in-Err.end c.read_as.ensures.contents c.in_ok-image.ensures.follows c.in-Err.ensures.follows
+returns-in-Err-clause-follows g c =
+    notes-end _ _ _ _ _ _ _ c.in_ok-image.image c.in-Err.end c.read_as.ensures.contents c.in_ok-image.ensures.follows
+    c.in-Err.ensures.follows

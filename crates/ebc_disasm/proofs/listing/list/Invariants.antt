@@ -8,5 +8,6 @@ use Rattle.ebc_disasm.proofs.listing.list.Given as goal
 abbrev pub invariant-loop-section : goal.invariant-loop-section
 invariant-loop-section l = record {
   lines : l.out.items ≡ text_of (flat_map (section_lines l.image) (take l.section-index l.image.sections));
-  coming : (k : ℕ) (d : Section) → l.section-index ≤ k → k < length l.image.sections → IsComing l.image (get_or l.image.sections k d).place l.coming.relocs.now l.coming.labels.now;
+  coming : (k : ℕ) (d : Section) → l.section-index ≤ k → k < length l.image.sections
+      → IsComing l.image (get_or l.image.sections k d).place l.coming.relocs.now l.coming.labels.now;
 }

@@ -9,8 +9,10 @@ use Rattle.ebc_disasm.proofs.sections.append_section.Goals as goal
 pub loop-at-init : goal.loop-at-init
 loop-at-init c = record {
   short = omega arith;
-  coming = later c.args.image.now c.args.section.now.place (c.args.section.now.place + 0) c.args.coming.relocs.now c.args.coming.labels.now c.requires.coming (omega arith);
-  lines = first_lines c.args.image.now c.args.section.now c.has_code-code.result c.in_ok-bytes.bytes.items c.args.out.now.items c.append_line.new.out.items
+  coming = later c.args.image.now c.args.section.now.place
+      (c.args.section.now.place + 0) c.args.coming.relocs.now c.args.coming.labels.now c.requires.coming (omega arith);
+  lines = first_lines c.args.image.now c.args.section.now c.has_code-code.result c.in_ok-bytes.bytes.items c.args.out.now.items
+      c.append_line.new.out.items
       c.has_code-code.ensures c.in_ok-bytes.ensures.bytes
       (c.in_ok-append_line.ensures ∙ ap (λ (l : Listed). c.args.out.now.items ++ line_text l) c.heading.ensures.same);
 }
@@ -25,19 +27,24 @@ loop-at-preserved c =
     in
     let some : 1 ≤ c.in_ok-count.count = c.in_ok-count.ensures.count.1 in
     let most : c.in_ok-count.count ≤ length rest = c.in_ok-count.ensures.count.2 in
-    let long : length rest ≡ length c.in_ok-bytes.bytes.items - c.loop-at.at = ap length is ∙ length-drop c.loop-at.at c.in_ok-bytes.bytes.items in
+    let long : length rest ≡ length c.in_ok-bytes.bytes.items - c.loop-at.at = ap length is
+    ∙ length-drop c.loop-at.at c.in_ok-bytes.bytes.items in
     let inside : c.loop-at.at ≤ length c.in_ok-bytes.bytes.items = c.loop-at.invariant.short in
     record {
       short = omega (arith, some, most, long, inside);
-      coming = later c.args.image.now (c.args.section.now.place + c.loop-at.at + 1) (c.args.section.now.place + (c.loop-at.at + c.in_ok-count.count)) c.in_ok-count.after.relocs.now c.in_ok-count.after.labels.now
+      coming = later c.args.image.now (c.args.section.now.place + c.loop-at.at + 1)
+          (c.args.section.now.place + (c.loop-at.at + c.in_ok-count.count)) c.in_ok-count.after.relocs.now c.in_ok-count.after.labels.now
           c.in_ok-count.ensures.coming (omega (arith, some));
-      lines = more_lines c.args.image.now c.has_code-code.result (c.args.section.now.place + c.loop-at.at) (c.args.section.now.place + (c.loop-at.at + c.in_ok-count.count)) c.in_ok-count.count c.loop-at.at
-          c.in_ok-bytes.bytes.items rest c.loop-at.out.items c.append_item.new.out.items (c.args.out.now.items ++ text_of (section_lines c.args.image.now c.args.section.now))
+      lines = more_lines c.args.image.now c.has_code-code.result (c.args.section.now.place + c.loop-at.at)
+          (c.args.section.now.place + (c.loop-at.at + c.in_ok-count.count)) c.in_ok-count.count c.loop-at.at
+          c.in_ok-bytes.bytes.items rest c.loop-at.out.items c.append_item.new.out.items
+          (c.args.out.now.items ++ text_of (section_lines c.args.image.now c.args.section.now))
           is c.in_ok-count.ensures.count.0 some most (omega arith) c.in_ok-count.ensures.lines c.loop-at.invariant.lines;
     }
 
 pub returns-clause-lines : goal.returns-clause-lines
 returns-clause-lines c =
     let past : length c.in_ok-bytes.bytes.items ≤ c.loop-at.at = omega arith in
-    last_lines c.args.image.now c.has_code-code.result (c.args.section.now.place + c.loop-at.at) c.loop-at.at c.in_ok-bytes.bytes.items c.loop-at.out.items
+    last_lines c.args.image.now c.has_code-code.result
+    (c.args.section.now.place + c.loop-at.at) c.loop-at.at c.in_ok-bytes.bytes.items c.loop-at.out.items
     (c.args.out.now.items ++ text_of (section_lines c.args.image.now c.args.section.now)) past c.loop-at.invariant.lines

@@ -10,5 +10,6 @@ invariant-loop-read l =
       last : HasLast l.fixups.items;
       at : l.at ≡ l.start + fixup_size * l._read;
       within : l.at ≤ length l.file;
-      rest : fixups_at l.count l.file l.sections.code.now l.sections.contents.now l.symbols [] l.start ≡ fixups_at (l.count - l._read) l.file l.sections.code.now l.sections.contents.now l.symbols l.fixups.items l.at;
+      rest : fixups_at l.count l.file l.sections.code.now l.sections.contents.now l.symbols [] l.start ≡ fixups_at
+          (l.count - l._read) l.file l.sections.code.now l.sections.contents.now l.symbols l.fixups.items l.at;
     }

@@ -9,5 +9,6 @@ invariant-loop-read l =
       count : length l.symbols.items ≡ l._read;
       at : l.at ≡ l.start + symbols_size l.symbols.items;
       within : l.at ≤ length l.file;
-      rest : symbols_at l.count l.file l.sections.code.now l.sections.contents.now [] l.start ≡ symbols_at (l.count - l._read) l.file l.sections.code.now l.sections.contents.now l.symbols.items l.at;
+      rest : symbols_at l.count l.file l.sections.code.now l.sections.contents.now [] l.start ≡ symbols_at
+          (l.count - l._read) l.file l.sections.code.now l.sections.contents.now l.symbols.items l.at;
     }

@@ -18,5 +18,6 @@ returns-clause-full c =
 pub returns-clause-pushed : goal.returns-clause-pushed
 returns-clause-pushed c =
     let b = slice_index c.self.inside.region in let after = slice_index c.write_frame.new.region in let start = c.start_of.result in
-    frames-push b after c.self.inside.depth start c.args.self.now c.args.frame.now c.self.view_is c.start_of.ensures.start c.write_frame.ensures.frame
+    frames-push b after c.self.inside.depth start c.args.self.now c.args.frame.now c.self.view_is c.start_of.ensures.start
+    c.write_frame.ensures.frame
     (same_below b after start 224 c.write_frame.ensures.apart)

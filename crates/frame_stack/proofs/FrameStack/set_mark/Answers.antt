@@ -12,4 +12,5 @@ returns-clause-after c =
     (Puts-same _ _ _ _ _ _ c.store-3.ensures.bytes c.from-3.ensures)
 
 pub returns-clause-len : goal.returns-clause-len
-returns-clause-len c = length_is (slice_index c.self.inside.region) (slice_index c.store-3.new.self) c.self.inside.depth c.args.self.now c.self.view_is
+returns-clause-len c = length_is (slice_index c.self.inside.region)
+    (slice_index c.store-3.new.self) c.self.inside.depth c.args.self.now c.self.view_is

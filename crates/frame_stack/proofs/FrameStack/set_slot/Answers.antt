@@ -10,4 +10,5 @@ returns-clause-after c =
     c.self.view_is c.top-top.ensures.top c.requires.slot (search rules) c.store.ensures.bytes
 
 pub returns-clause-len : goal.returns-clause-len
-returns-clause-len c = length_is (slice_index c.self.inside.region) (slice_index c.store.new.self) c.self.inside.depth c.args.self.now c.self.view_is
+returns-clause-len c = length_is (slice_index c.self.inside.region)
+    (slice_index c.store.new.self) c.self.inside.depth c.args.self.now c.self.view_is

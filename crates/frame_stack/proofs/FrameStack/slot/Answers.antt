@@ -16,4 +16,5 @@ pub returns : goal.returns
 returns c = λ f is.
     let b = slice_index c.self.inside.region in
     c.load.ensures.number
-    ∙ slot_is b c.self.inside.depth c.args.below c.start_of.result c.args.slot c.args.self.now f c.self.view_is is c.start_of.ensures.start c.requires.slot
+    ∙ slot_is b c.self.inside.depth c.args.below c.start_of.result c.args.slot c.args.self.now f c.self.view_is is c.start_of.ensures.start
+    c.requires.slot

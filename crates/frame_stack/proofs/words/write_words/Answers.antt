@@ -12,7 +12,8 @@ loop-k-init c = record {
 
 pub loop-k-preserved : goal.loop-k-preserved
 loop-k-preserved c =
-    let k = c.loop-k.k in let b = slice_index c.loop-k.region in let after = slice_index c.store.new.self in let kept = c.loop-k.invariant in
+    let k = c.loop-k.k in let b = slice_index c.loop-k.region in let after = slice_index c.store.new.self in
+    let kept = c.loop-k.invariant in
     let small : get_or c.args.words.now k 0 < 2 ^ 64 = search rules in
     record {
       words = written-next b after c.args.offset k c.args.words.now c.loop-k-test.true small kept.words c.store.ensures.bytes;

@@ -8,5 +8,6 @@ use Rattle.note_draft.proofs.once.points_once.Goals as goal
 pub returns : goal.returns
 unfolding repeated_in_points
 returns c =
-    let first : c.sooner-first.result ≡ repeated_in_points c.args.points.now = rw (c.sooner-first.ensures, c.at.ensures, c.at-2.ensures, c.first_repeating_register-regs.ensures, c.in_ok-places.ensures) refl in
+    let first : c.sooner-first.result ≡ repeated_in_points c.args.points.now =
+    rw (c.sooner-first.ensures, c.at.ensures, c.at-2.ensures, c.first_repeating_register-regs.ensures, c.in_ok-places.ensures) refl in
     subst (λ found. Gives c.refuse.result (refused Twice found)) first c.refuse.ensures

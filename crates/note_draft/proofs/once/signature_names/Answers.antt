@@ -13,5 +13,6 @@ pub returns : goal.returns
 unfolding repeated_in_signatures
 returns c =
     let same : numbered list.Signature c.in_ok-numbering.numbering None ≡ signature_names c.args.signatures.now
-    = numbered-names list.Signature (map (λ x. x.name) c.args.signatures.now) c.in_ok-numbering.numbering None c.in_ok-numbering.ensures ∙ rw (sooner-none (at list.Signature key.Name (first_repeat bytes_eq (map (λ x. x.name) c.args.signatures.now)))) refl in
+    = numbered-names list.Signature (map (λ x. x.name) c.args.signatures.now) c.in_ok-numbering.numbering None c.in_ok-numbering.ensures
+    ∙ rw (sooner-none (at list.Signature key.Name (first_repeat bytes_eq (map (λ x. x.name) c.args.signatures.now)))) refl in
     subst (λ read. Gives c.numbered.result read) same c.numbered.ensures

@@ -3,7 +3,8 @@ use Rattle.std.proofs.lemmas.Result.{err_from_is_err_and}
 use Rattle.toml.specs.View.{items_view}
 use Rattle.note_draft.specs.Drafts.{signatures_from}
 use Rattle.note_draft.specs.Names.{distinct}
-use Rattle.note_draft.proofs.MethodLemmas.{method_names-push, method_names-room, signatures-init, signatures-go_on, signatures-stop, signatures-done}
+use Rattle.note_draft.proofs.MethodLemmas.{method_names-push, method_names-room, signatures-init, signatures-go_on, signatures-stop}
+use Rattle.note_draft.proofs.MethodLemmas.{signatures-done}
 use Rattle.note_draft.proofs.reading.signatures_of.Goals as goal
 
 pub loop-i-init : goal.loop-i-init
@@ -18,19 +19,30 @@ loop-i-init c = record {
     no_names = refl
 
 pub add-requires : goal.add-requires
-add-requires c = method_names-room c.loop-i.methods c.loop-i.signatures.items c.loop-i.invariant.named (omega (arith, c.loop-i.invariant.counted, c.loop-i-test.true, c.requires))
+add-requires c = method_names-room c.loop-i.methods c.loop-i.signatures.items c.loop-i.invariant.named
+    (omega (arith, c.loop-i.invariant.counted, c.loop-i-test.true, c.requires))
 
 pub returns-in_err-signature-clause-signatures : goal.returns-in_err-signature-clause-signatures
 returns-in_err-signature-clause-signatures c =
     let p = err_from_is_err_and c.from_residual.result c.from_residual.ensures.1 in
-    rw (p.1, p.2) (signatures-stop c.in_err-signature.field-0.0 c.args.path.now c.loop-i.signatures.items c.loop-i.i c.args.values.now c.index-values-i.result (signatures_from [] c.args.path.now 0 (items_view c.args.values.now)) c.loop-i-test.true c.index-values-i.is (rw (← c.loop-i.invariant.named) c.in_err-signature.ensures) c.loop-i.invariant.so_far)
+    rw (p.1, p.2)
+    (signatures-stop c.in_err-signature.field-0.0 c.args.path.now c.loop-i.signatures.items c.loop-i.i c.args.values.now
+    c.index-values-i.result (signatures_from [] c.args.path.now 0
+    (items_view c.args.values.now)) c.loop-i-test.true c.index-values-i.is
+    (rw (← c.loop-i.invariant.named) c.in_err-signature.ensures) c.loop-i.invariant.so_far)
 
 pub loop-i-preserved : goal.loop-i-preserved
 loop-i-preserved c = record {
-  so_far = rw c.in_ok-push.ensures.items (signatures-go_on c.args.path.now c.loop-i.signatures.items c.loop-i.i c.args.values.now c.index-values-i.result c.in_ok-signature.signature _ c.loop-i-test.true c.index-values-i.is (rw (← c.loop-i.invariant.named) c.in_ok-signature.ensures) c.loop-i.invariant.so_far);
-  named = rw c.in_ok-push.ensures.items (method_names-push c.loop-i.methods c.add.new.self c.loop-i.signatures.items c.in_ok-signature.signature c.loop-i.invariant.named c.in_ok-add.ensures.ok);
+  so_far = rw c.in_ok-push.ensures.items
+      (signatures-go_on c.args.path.now c.loop-i.signatures.items c.loop-i.i c.args.values.now c.index-values-i.result
+      c.in_ok-signature.signature _ c.loop-i-test.true c.index-values-i.is
+      (rw (← c.loop-i.invariant.named) c.in_ok-signature.ensures) c.loop-i.invariant.so_far);
+  named = rw c.in_ok-push.ensures.items
+      (method_names-push c.loop-i.methods c.add.new.self c.loop-i.signatures.items c.in_ok-signature.signature c.loop-i.invariant.named
+      c.in_ok-add.ensures.ok);
   counted = rw c.in_ok-push.ensures.items (rw length-append (omega (arith, c.loop-i.invariant.counted)));
 }
 
 pub returns-clause-signatures : goal.returns-clause-signatures
-returns-clause-signatures c = signatures-done c.args.path.now c.loop-i.signatures.items c.loop-i.i c.args.values.now _ c.loop-i-test.false c.loop-i.invariant.so_far
+returns-clause-signatures c =
+    signatures-done c.args.path.now c.loop-i.signatures.items c.loop-i.i c.args.values.now _ c.loop-i-test.false c.loop-i.invariant.so_far

@@ -7,6 +7,7 @@ use Rattle.note_texts.proofs.items.texts_of.Given as goal
 
 abbrev pub invariant-loop-i : goal.invariant-loop-i
 invariant-loop-i g l = record {
-  so_far : with_front l.texts.items (each (λ i d. text_of g.T.FromText.reads_as l.path d) l.i (items_view (drop l.i l.values))) ≡ texts_of g.T.FromText.reads_as l.path (items_view l.values);
+  so_far : with_front l.texts.items (each (λ i d. text_of g.T.FromText.reads_as l.path d) l.i
+      (items_view (drop l.i l.values))) ≡ texts_of g.T.FromText.reads_as l.path (items_view l.values);
   counted : length l.texts.items ≡ l.i;
 }

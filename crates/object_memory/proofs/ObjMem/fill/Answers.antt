@@ -19,7 +19,9 @@ invariant_of-self g c =
     let place : ℕ = c.args.addr - c.first.result in
     let found = c.in-Some.ensures.found in
     let from : first_base g.row.W + place ≡ c.args.addr = grind arith in
-    let below : place + (length c.args.bytes.now) ≤ 16 * length c.self.inside.homes.items = held_below g.row.W spans cells _ c.self.inside.object_limit _ c.args.addr (length c.args.bytes.now) _ place _ c.args.self.now c.self.invariant.layout c.self.view_is found from in
+    let below : place + (length c.args.bytes.now) ≤ 16 * length c.self.inside.homes.items =
+    held_below g.row.W spans cells _ c.self.inside.object_limit _ c.args.addr
+    (length c.args.bytes.now) _ place _ c.args.self.now c.self.invariant.layout c.self.view_is found from in
     IsKept-written g.row.W spans cells c.fill.new.self c.self.inside.homes.items _ _ _ c.self.invariant c.fill.ensures.len
     (λ i. rw (c.fill.ensures.bytes i) (overlaid-below (slice_index cells) _ _ i (search rules) (c.self.invariant.layout.bytes i)))
     (λ i behind. c.fill.ensures.bytes i ∙ overlaid-apart (slice_index cells) place c.args.bytes.now i (inr (omega (arith, below, behind))))
@@ -45,4 +47,5 @@ returns-clause-memory g c = IsMemory-memory_of g.row.W c.self.inside.spans.items
     (invariant_of-self g c).layout
 
 pub returns-clause-bytes : goal.returns-clause-bytes
-returns-clause-bytes g c = λ x. ap (λ m. byte_at m x) (returns-clause-after g c) ∙ byte_at-memory_filled c.args.self.now c.args.addr c.args.bytes.now x c.in-Some.ensures.found.held
+returns-clause-bytes g c = λ x. ap (λ m. byte_at m x) (returns-clause-after g c)
+    ∙ byte_at-memory_filled c.args.self.now c.args.addr c.args.bytes.now x c.in-Some.ensures.found.held

@@ -8,7 +8,8 @@ use Rattle.object_memory.proofs.Views.{held_number-memory_of, inside_cells}
 use Rattle.object_memory.proofs.ObjMem.load.Goals as goal
 
 pub returns-in_err-find-clause-number : goal.returns-in_err-find-clause-number
-returns-in_err-find-clause-number g c = c.from_residual.ensures ∙ sym (held_number-absent c.args.self.now c.args.addr c.args.count c.in_err-find.ensures.none)
+returns-in_err-find-clause-number g c = c.from_residual.ensures
+    ∙ sym (held_number-absent c.args.self.now c.args.addr c.args.count c.in_err-find.ensures.none)
 
 pub returns-clause-number : goal.returns-clause-number
 returns-clause-number g c =
@@ -20,5 +21,6 @@ returns-clause-number g c =
     let held : holds (ranges (memory_of g.row.W spans cells (length cells) c.self.inside.object_limit)) c.args.addr c.args.count ≡ true = ap
     (λ m. holds (ranges m) c.args.addr c.args.count) c.self.view_is ∙ found.held in
     ap Some c.load.ensures.number
-    ∙ sym (held_number-memory_of g.row.W spans cells (length cells) c.self.inside.object_limit c.args.addr c.args.count place (inside_cells g.row.W spans cells _ _ _ c.self.invariant.layout) held from)
+    ∙ sym (held_number-memory_of g.row.W spans cells (length cells) c.self.inside.object_limit c.args.addr c.args.count place
+    (inside_cells g.row.W spans cells _ _ _ c.self.invariant.layout) held from)
     ∙ ap (λ m. held_number m c.args.addr c.args.count) c.self.view_is

@@ -1,4 +1,5 @@
-use Rattle.std.proofs.Common.{rules, ◌≡◌, ℕ, ◌+◌, ◌-◌, ◌*◌, ◌/◌, ◌≤◌, ◌<◌, List, ◌∷◌, ◌++◌, [], length, take, replicate, arith, sym, ap, ap₂, subst, subst₂, ◌∙◌, vec_capacity}
+use Rattle.std.proofs.Common.{rules, ◌≡◌, ℕ, ◌+◌, ◌-◌, ◌*◌, ◌/◌, ◌≤◌, ◌<◌, List, ◌∷◌, ◌++◌, [], length, take, replicate, arith, sym, ap}
+use Rattle.std.proofs.Common.{ap₂, subst, subst₂, ◌∙◌, vec_capacity}
 use Rattle.std.proofs.lemmas.List.{take_all}
 use Rattle.object_memory.specs.declared.span.Span.{Span}
 use Rattle.object_memory.specs.Memory.{Memory, IsMemory, byte_at, next_base, padded, placed, first_base}
@@ -12,10 +13,15 @@ record IsNext (w : ℕ) (spans : List Span) (homes : List ℕ) (n : ℕ) (more_s
   longer : more_spans ≡ spans ++ next_span w (16 * length homes) n ∷ []
   housed : more_homes ≡ homes ++ replicate (padded n / 16) (length spans)
 
-is_next : (w : ℕ) (spans : List Span) (homes : List ℕ) (n : ℕ) {more_spans : List Span} {more_homes : List ℕ} {first before size taken places number : ℕ} → more_spans ≡ spans ++ record { base = first + before; size = size } ∷ [] → more_homes ≡ take ((before + taken) / 16) homes ++ replicate ((before + taken) / 16 - places) number → first ≡ first_base w → before ≡ 16 * length homes → size ≡ n → taken ≡ padded n → places ≡ length homes → number ≡ length spans → IsNext w spans homes n more_spans more_homes
+is_next : (w : ℕ) (spans : List Span) (homes : List ℕ)
+    (n : ℕ) {more_spans : List Span} {more_homes : List ℕ} {first before size taken places number : ℕ} → more_spans ≡ spans
+    ++ record { base = first + before; size = size } ∷ [] → more_homes ≡ take ((before + taken) / 16) homes
+    ++ replicate ((before + taken) / 16 - places) number → first ≡ first_base w → before ≡ 16 * length homes → size ≡ n → taken ≡ padded n
+    → places ≡ length homes → number ≡ length spans → IsNext w spans homes n more_spans more_homes
 is_next w spans homes n {before = before} {taken = taken} longer housed f b s t p u = record {
   longer = longer ∙ ap₂ (λ base k. spans ++ record { base = base; size = k } ∷ []) (ap₂ (λ x y. x + y) f b) s;
-  housed = housed ∙ ap₂ (λ xs k. xs ++ k) (take_all ((before + taken) / 16) homes (omega arith)) (ap₂ (λ k x. replicate k x) (omega arith) u);
+  housed = housed ∙ ap₂ (λ xs k. xs ++ k) (take_all ((before + taken) / 16) homes (omega arith))
+      (ap₂ (λ k x. replicate k x) (omega arith) u);
 }
 
 pub invariant_of-self : goal.invariant_of-self
@@ -30,7 +36,8 @@ invariant_of-self g c =
     let more : length spans < c.self.inside.object_limit = search rules in
     subst₂ (λ s h. IsKept g.row.W s cells h c.self.inside.object_limit (vec_capacity c.push.new.self) (vec_capacity c.resize.new.self))
     (sym next.longer) (sym next.housed)
-    (IsKept-next_span g.row.W spans cells homes _ _ _ _ _ n c.self.invariant c.requires.some fits more c.in-Ok-push.ensures.capacity c.in-Ok.ensures.capacity)
+    (IsKept-next_span g.row.W spans cells homes _ _ _ _ _ n c.self.invariant c.requires.some fits more c.in-Ok-push.ensures.capacity
+    c.in-Ok.ensures.capacity)
 
 pub returns-clause-placed : goal.returns-clause-placed
 returns-clause-placed g c =
@@ -55,7 +62,8 @@ returns-then-after-len-clause-memory g c =
     (IsMemory-memory_of g.row.W c.self.inside.spans.items c.self.inside.region c.self.inside.object_limit _ _ c.self.invariant.layout)
 
 pub returns-clause-bytes : goal.returns-clause-bytes
-returns-clause-bytes g c = λ x. ap (λ m. byte_at m x) (returns-clause-placed g c) ∙ byte_at-placed g.row.W c.args.self.now (c.args.size * c.args.count) x
+returns-clause-bytes g c = λ x. ap (λ m. byte_at m x) (returns-clause-placed g c)
+    ∙ byte_at-placed g.row.W c.args.self.now (c.args.size * c.args.count) x
 
 pub returns-clause-zeros : goal.returns-clause-zeros
 returns-clause-zeros g c = λ x from to.
@@ -66,7 +74,8 @@ returns-clause-zeros g c = λ x from to.
     (IsMemory-memory_of g.row.W spans cells c.self.inside.object_limit _ _ c.self.invariant.layout) in
     let base : c.first.result + 16 * length homes ≡ next_base g.row.W c.args.self.now =
     ap (λ a. a + 16 * length homes) c.first.ensures
-    ∙ sym (next_base-memory_of g.row.W spans cells (length cells) c.self.inside.object_limit (16 * length homes) c.self.invariant.layout.whole)
+    ∙ sym (next_base-memory_of g.row.W spans cells (length cells) c.self.inside.object_limit
+    (16 * length homes) c.self.invariant.layout.whole)
     ∙ ap (next_base g.row.W) c.self.view_is in
     let same : c.len.result ≡ length homes = search rules in
     returns-clause-bytes g c x ∙ byte_at-above g.row.W c.args.self.now x memory (omega (arith, from, base, same))

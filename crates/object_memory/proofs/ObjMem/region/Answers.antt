@@ -17,5 +17,6 @@ returns-clause-bytes g c = λ x i at.
     let cells : List ℕ = c.self.inside.region in let spans : List Span = c.self.inside.spans.items in
     let there = offset_of-some g.row.W c.args.self.now x i at in let held = ap (λ m. holds (ranges m) x 1) c.self.view_is ∙ there.0 in
     ap (slice_index cells) (sym there.1)
-    ∙ sym (byte_at-memory_of g.row.W spans cells (length cells) c.self.inside.object_limit x (inside_cells g.row.W spans cells _ _ _ c.self.invariant.layout) held)
+    ∙ sym (byte_at-memory_of g.row.W spans cells (length cells) c.self.inside.object_limit x
+    (inside_cells g.row.W spans cells _ _ _ c.self.invariant.layout) held)
     ∙ ap (λ m. byte_at m x) c.self.view_is

@@ -11,10 +11,17 @@ loop-i-init c = refl
 pub returns-in_err-call_args : goal.returns-in_err-call_args
 returns-in_err-call_args c =
     let p = err_from_is_err_and c.from_residual.result c.from_residual.ensures.1 in
-    rw (p.1, p.2) (pass-stop (call_args c.args.notes.now) c.loop-i.i c.args.calls.now (all_pass (call_args c.args.notes.now) 0 c.args.calls.now) c.in_err-call_args.field-0.0 c.index-calls-i.result c.loop-i-test.true c.index-calls-i.is c.in_err-call_args.ensures c.loop-i.invariant)
+    rw (p.1, p.2) (pass-stop (call_args c.args.notes.now) c.loop-i.i c.args.calls.now
+    (all_pass
+    (call_args c.args.notes.now) 0 c.args.calls.now) c.in_err-call_args.field-0.0 c.index-calls-i.result c.loop-i-test.true
+    c.index-calls-i.is c.in_err-call_args.ensures c.loop-i.invariant)
 
 pub loop-i-preserved : goal.loop-i-preserved
-loop-i-preserved c = pass-on (call_args c.args.notes.now) c.loop-i.i c.args.calls.now (all_pass (call_args c.args.notes.now) 0 c.args.calls.now) c.index-calls-i.result c.loop-i-test.true c.index-calls-i.is c.in_ok-call_args.ensures c.loop-i.invariant
+loop-i-preserved c = pass-on (call_args c.args.notes.now) c.loop-i.i c.args.calls.now
+    (all_pass
+    (call_args c.args.notes.now) 0 c.args.calls.now) c.index-calls-i.result c.loop-i-test.true c.index-calls-i.is c.in_ok-call_args.ensures
+    c.loop-i.invariant
 
 pub returns : goal.returns
-returns c = pass-done (call_args c.args.notes.now) c.loop-i.i c.args.calls.now (all_pass (call_args c.args.notes.now) 0 c.args.calls.now) c.loop-i-test.false c.loop-i.invariant
+returns c = pass-done (call_args c.args.notes.now) c.loop-i.i c.args.calls.now
+    (all_pass (call_args c.args.notes.now) 0 c.args.calls.now) c.loop-i-test.false c.loop-i.invariant

@@ -1,5 +1,5 @@
 use Rattle.std.proofs.Common.{◌≡◌, ◌++◌, map, take}
-use Rattle.run_types.specs.Objects.{script_object}
+use Rattle.host_model.specs.Objects.{script_object}
 use Rattle.protocol_script.proofs.objects.add_objects.Given as goal
 
 abbrev pub invariant-loop-object : goal.invariant-loop-object

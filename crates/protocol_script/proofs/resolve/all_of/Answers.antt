@@ -23,7 +23,8 @@ loop-text-preserved g c =
     let total = all_of gives xs in
     let item = from_item xs i c.text-item.result c.loop-text-test.true c.text-item.is in
     rw c.in_ok-push.ensures.items
-    (all-on gives c.loop-text.values.items c.text-item.result (drop (i + 1) xs) total c.in-Some.value (sym c.in_ok-value.ensures ∙ c.in-Some.is)
+    (all-on gives c.loop-text.values.items c.text-item.result (drop (i + 1) xs) total c.in-Some.value
+    (sym c.in_ok-value.ensures ∙ c.in-Some.is)
     (subst (λ z. onto c.loop-text.values.items (all_of gives z) ≡ total) item c.loop-text.invariant))
 
 pub returns : goal.returns
@@ -34,4 +35,5 @@ returns g c =
     let total = all_of gives xs in
     let none = none_left xs c.loop-text.text-index c.loop-text-test.false in
     rw c.new.ensures
-    (all-done gives c.loop-text.values.items total (subst (λ z. onto c.loop-text.values.items (all_of gives z) ≡ total) none c.loop-text.invariant))
+    (all-done gives c.loop-text.values.items total (subst (λ z. onto c.loop-text.values.items
+    (all_of gives z) ≡ total) none c.loop-text.invariant))

@@ -7,4 +7,5 @@ use Rattle.protocol_script.specs.Resolved.{resolved_call, resolved_calls}
 use Rattle.protocol_script.proofs.resolve.resolve_calls.Given as goal
 
 abbrev pub invariant-loop-i : goal.invariant-loop-i
-invariant-loop-i l = after l.values.items (each_of (λ i o. resolved_call l.notes l.shapes (row_prefix (codes "call") i) o) l.i (drop l.i l.calls)) ≡ resolved_calls l.notes l.shapes l.calls
+invariant-loop-i l = after l.values.items (each_of (λ i o. resolved_call l.notes l.shapes (row_prefix (codes "call") i) o) l.i
+    (drop l.i l.calls)) ≡ resolved_calls l.notes l.shapes l.calls

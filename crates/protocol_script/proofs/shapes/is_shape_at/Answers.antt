@@ -1,5 +1,5 @@
 use Rattle.std.proofs.Common.{◌≡◌, ◌∙◌, ap, rules}
-use Rattle.run_types.specs.Objects.{no_shape, shape_of}
+use Rattle.host_model.specs.Objects.{no_shape, shape_of}
 use Rattle.protocol_script.specs.ShapeTests.{is_shape}
 use Rattle.protocol_script.proofs.ShapeLaws.{no-shape}
 use Rattle.protocol_script.proofs.shapes.is_shape_at.Goals as goal

@@ -1,5 +1,5 @@
 use Rattle.std.proofs.Common.{◌≡◌, drop, length}
-use Rattle.run_types.specs.Objects.{made_objects}
+use Rattle.host_model.specs.Objects.{made_objects}
 use Rattle.script_draft.specs.Lists.{all_pass}
 use Rattle.protocol_script.specs.Conditions.{call_passes, calls_pass}
 use Rattle.protocol_script.proofs.tables.calls_pass.Given as goal
@@ -7,7 +7,8 @@ use Rattle.protocol_script.proofs.tables.calls_pass.Given as goal
 abbrev pub invariant-loop-i : goal.invariant-loop-i
 invariant-loop-i l = record {
   so_far :
-      all_pass (λ i c. call_passes l.trial.condition l.trial.notes.now l.trial.made.now (length (made_objects l.trial.notes.now l.script i)) i c) l.i (drop l.i l.calls)
+      all_pass (λ i c. call_passes l.trial.condition l.trial.notes.now l.trial.made.now
+      (length (made_objects l.trial.notes.now l.script i)) i c) l.i (drop l.i l.calls)
       ≡ calls_pass l.trial.condition l.trial.notes.now l.script l.trial.made.now;
   count : l.first ≡ length (made_objects l.trial.notes.now l.script l.i);
 }

@@ -11,10 +11,15 @@ loop-i-init c = refl
 pub returns-in_err-object_once : goal.returns-in_err-object_once
 returns-in_err-object_once c =
     let p = err_from_is_err_and c.from_residual.result c.from_residual.ensures.1 in
-    rw (p.1, p.2) (pass-stop (object_once c.args.path.now) c.loop-i.i c.args.objects.now (objects_once c.args.path.now c.args.objects.now) c.in_err-object_once.field-0.0 c.index-objects-i.result c.loop-i-test.true c.index-objects-i.is c.in_err-object_once.ensures c.loop-i.invariant)
+    rw (p.1, p.2) (pass-stop (object_once c.args.path.now) c.loop-i.i c.args.objects.now
+    (objects_once c.args.path.now c.args.objects.now) c.in_err-object_once.field-0.0 c.index-objects-i.result c.loop-i-test.true
+    c.index-objects-i.is c.in_err-object_once.ensures c.loop-i.invariant)
 
 pub loop-i-preserved : goal.loop-i-preserved
-loop-i-preserved c = pass-on (object_once c.args.path.now) c.loop-i.i c.args.objects.now (objects_once c.args.path.now c.args.objects.now) c.index-objects-i.result c.loop-i-test.true c.index-objects-i.is c.in_ok-object_once.ensures c.loop-i.invariant
+loop-i-preserved c = pass-on (object_once c.args.path.now) c.loop-i.i c.args.objects.now
+    (objects_once c.args.path.now c.args.objects.now) c.index-objects-i.result c.loop-i-test.true c.index-objects-i.is
+    c.in_ok-object_once.ensures c.loop-i.invariant
 
 pub returns : goal.returns
-returns c = pass-done (object_once c.args.path.now) c.loop-i.i c.args.objects.now (objects_once c.args.path.now c.args.objects.now) c.loop-i-test.false c.loop-i.invariant
+returns c = pass-done (object_once c.args.path.now) c.loop-i.i c.args.objects.now
+    (objects_once c.args.path.now c.args.objects.now) c.loop-i-test.false c.loop-i.invariant

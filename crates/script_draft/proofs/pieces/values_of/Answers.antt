@@ -12,7 +12,8 @@ loop-first-init c = (c.utf8.text, rw c.new-values.ensures.items (onto-none (all_
 
 pub returns-in_default-2 : goal.returns-in_default-2
 returns-in_default-2 c =
-    values-stop c.loop-first.values.items c.loop-first.rest.now c.in-Some.first.now c.in-Some.after.now (values_of c.args.text.now) (sym c.in-Some.ensures) c.loop-first.invariant.1 (sym c.in_ok-value.ensures.value ∙ c.in_default-2.is)
+    values-stop c.loop-first.values.items c.loop-first.rest.now c.in-Some.first.now c.in-Some.after.now (values_of c.args.text.now)
+    (sym c.in-Some.ensures) c.loop-first.invariant.1 (sym c.in_ok-value.ensures.value ∙ c.in_default-2.is)
 
 pub loop-first-smaller : goal.loop-first-smaller
 loop-first-smaller c = cut-shorter c.loop-first.rest.now (c.in-Some.first.now, c.in-Some.after.now) (sym c.in-Some.ensures)
@@ -21,14 +22,17 @@ pub loop-first-preserved : goal.loop-first-preserved
 loop-first-preserved c = (
   search rules,
   rw c.in_ok-push.ensures.items
-      (values-on c.loop-first.values.items c.loop-first.rest.now c.in-Some.first.now c.in-Some.after.now (values_of c.args.text.now) (sym c.in-Some.ensures) c.loop-first.invariant.1 c.in-Some-2.value (sym c.in_ok-value.ensures.value ∙ c.in-Some-2.is)),
+      (values-on c.loop-first.values.items c.loop-first.rest.now c.in-Some.first.now c.in-Some.after.now (values_of c.args.text.now)
+      (sym c.in-Some.ensures) c.loop-first.invariant.1 c.in-Some-2.value (sym c.in_ok-value.ensures.value ∙ c.in-Some-2.is)),
 )
 
 pub returns-in_default-3 : goal.returns-in_default-3
 returns-in_default-3 c =
-    last-stop c.loop-first.values.items c.loop-first.rest.now (values_of c.args.text.now) (sym c.in_default.ensures) c.loop-first.invariant.1 (sym c.in_ok-value-2.ensures.value ∙ c.in_default-3.is)
+    last-stop c.loop-first.values.items c.loop-first.rest.now (values_of c.args.text.now)
+    (sym c.in_default.ensures) c.loop-first.invariant.1 (sym c.in_ok-value-2.ensures.value ∙ c.in_default-3.is)
 
 pub returns : goal.returns
 returns c =
     rw (c.new.ensures, c.in_ok-push-2.ensures.items)
-    (last-done c.loop-first.values.items c.loop-first.rest.now (values_of c.args.text.now) (sym c.in_default.ensures) c.loop-first.invariant.1 c.in-Some-3.value (sym c.in_ok-value-2.ensures.value ∙ c.in-Some-3.is))
+    (last-done c.loop-first.values.items c.loop-first.rest.now (values_of c.args.text.now)
+    (sym c.in_default.ensures) c.loop-first.invariant.1 c.in-Some-3.value (sym c.in_ok-value-2.ensures.value ∙ c.in-Some-3.is))

@@ -7,7 +7,8 @@ pub returns-then-code-limit : goal.returns-then-code-limit
 returns-then-code-limit c =
     let fs = c.args.functions.now in
     let f = c.index-functions-i.result in
-    let more : code_of (take (c.loop-i.i + 1) fs) ≡ code_of (take c.loop-i.i fs) + code_size f = code_more fs c.loop-i.i f c.loop-i-test.true c.index-functions-i.is in
+    let more : code_of (take (c.loop-i.i + 1) fs) ≡ code_of (take c.loop-i.i fs) + code_size f =
+    code_more fs c.loop-i.i f c.loop-i-test.true c.index-functions-i.is in
     let before : c.loop-i.code ≡ code_of (take c.loop-i.i fs) = c.loop-i.invariant.so_far in
     let size : c.code_size-code.result ≡ code_size f = c.code_size-code.ensures.value in
     let above : c.args.limit < c.loop-i.code + c.code_size-code.result = c.if-code-limit.true in
@@ -17,7 +18,8 @@ pub loop-i-preserved : goal.loop-i-preserved
 loop-i-preserved c =
     let fs = c.args.functions.now in
     let f = c.index-functions-i.result in
-    let more : code_of (take (c.loop-i.i + 1) fs) ≡ code_of (take c.loop-i.i fs) + code_size f = code_more fs c.loop-i.i f c.loop-i-test.true c.index-functions-i.is in
+    let more : code_of (take (c.loop-i.i + 1) fs) ≡ code_of (take c.loop-i.i fs) + code_size f =
+    code_more fs c.loop-i.i f c.loop-i-test.true c.index-functions-i.is in
     let before : c.loop-i.code ≡ code_of (take c.loop-i.i fs) = c.loop-i.invariant.so_far in
     let size : c.code_size-code.result ≡ code_size f = c.code_size-code.ensures.value in
     let within : c.loop-i.code + c.code_size-code.result ≤ c.args.limit = c.if-code-limit.false in

@@ -6,8 +6,16 @@ use Rattle.type_notes.proofs.points.resolve_points.Goals as goal
 
 pub loop-item-preserved : goal.loop-item-preserved
 loop-item-preserved c =
-    let own : AreOwners c.args.draft.now.function c.as_slice-drafts.result.now c.args.owners.now = rw c.as_slice-drafts.ensures c.requires in
-    let is : record { place = c.index-drafts-item.result.place; state = c.state_of.result } ≡ resolved_point c.args.names.now c.args.draft.now c.index-drafts-item.result
-    = point-resolved c.args.names.now c.args.draft.now c.loop-item.item c.as_slice-drafts.result.now c.args.owners.now c.index-drafts-item.result c.locals_of_function-locals.result.fields.now c.state_of.result own c.loop-item-test.true c.index-drafts-item.is c.locals_of_function-locals.ensures.fields c.state_of.ensures in
+    let own : AreOwners c.args.draft.now.function c.as_slice-drafts.result.now c.args.owners.now =
+    rw c.as_slice-drafts.ensures c.requires in
+    let is : record {
+      place = c.index-drafts-item.result.place;
+      state = c.state_of.result;
+    } ≡ resolved_point c.args.names.now c.args.draft.now c.index-drafts-item.result
+    = point-resolved c.args.names.now c.args.draft.now c.loop-item.item c.as_slice-drafts.result.now c.args.owners.now
+    c.index-drafts-item.result c.locals_of_function-locals.result.fields.now c.state_of.result own c.loop-item-test.true
+    c.index-drafts-item.is c.locals_of_function-locals.ensures.fields c.state_of.ensures in
     rw c.in_ok-push.ensures.items
-    (points-more (resolved_point c.args.names.now c.args.draft.now) c.as_slice-drafts.result.now c.loop-item.item c.index-drafts-item.result c.loop-item.points.items _ c.loop-item-test.true c.index-drafts-item.is is c.loop-item.invariant)
+    (points-more
+    (resolved_point c.args.names.now c.args.draft.now) c.as_slice-drafts.result.now c.loop-item.item c.index-drafts-item.result
+    c.loop-item.points.items _ c.loop-item-test.true c.index-drafts-item.is is c.loop-item.invariant)

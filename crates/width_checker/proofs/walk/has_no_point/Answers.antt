@@ -16,6 +16,7 @@ returns-in-Some c =
 
 pub returns-in-None : goal.returns-in-None
 returns-in-None c = (
-  λ t. no_point_none c.args.notes.now c.requires.ascend c.args.at c.args.next c.args.first c.requires.points (looked_past _ _ _ c.as_slice.ensures c.in-None.ensures.lookup.3),
+  λ t. no_point_none c.args.notes.now c.requires.ascend c.args.at c.args.next c.args.first c.requires.points
+      (looked_past _ _ _ c.as_slice.ensures c.in-None.ensures.lookup.3),
   λ h. refl,
 )

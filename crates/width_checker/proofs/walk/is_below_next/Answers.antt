@@ -10,7 +10,8 @@ returns-then-p-place c =
     let look = c.in-Some.ensures.lookup in
     let p : Point = c.in-Some.p.now in
     let there : slice_get c.args.notes.now.point c.args.first ≡ Some p = looked _ _ _ p c.as_slice.ensures look.3.0 look.1 in
-    below_here c.args.notes.now c.requires.ascend c.args.place c.args.first c.requires.points c.args.state.now p _ there c.if-p-place.true c.fits_below.ensures.meaning
+    below_here c.args.notes.now c.requires.ascend c.args.place c.args.first c.requires.points c.args.state.now p _ there c.if-p-place.true
+    c.fits_below.ensures.meaning
 
 pub returns-else-p-place : goal.returns-else-p-place
 returns-else-p-place c =

@@ -1,13 +1,15 @@
 use Rattle.std.proofs.Common.{arith}
-use Rattle.width_checker.proofs.Decoding.{is_decoded, not_decoded}
+use Rattle.rules_image.proofs.Decoding.{is_decoded, not_decoded}
 use Rattle.width_checker.proofs.Failing.{no_insn}
 use Rattle.width_checker.proofs.walk.step.Goals as goal
 
 pub returns-in_default-clause-fails : goal.returns-in_default-clause-fails
 returns-in_default-clause-fails c =
     no_insn c.args.image.now c.args.notes.now c.args.func c.args.f.now c.args.at
-    (not_decoded c.args.image.now c.args.f.now c.args.code.now c.args.at c.requires.code c.requires.from (omega arith) c.in_default.ensures.none)
+    (not_decoded c.args.image.now c.args.f.now c.args.code.now c.args.at c.requires.code c.requires.from
+    (omega arith) c.in_default.ensures.none)
 
 pub pass-requires-clause-decode : goal.pass-requires-clause-decode
 pass-requires-clause-decode c =
-    is_decoded c.args.image.now c.args.f.now c.args.code.now c.args.at c.in-Ok.insn c.in-Ok.len c.requires.code c.requires.from (omega arith) c.in-Ok.ensures.found c.in-Ok.ensures.length.1
+    is_decoded c.args.image.now c.args.f.now c.args.code.now c.args.at c.in-Ok.insn c.in-Ok.len c.requires.code c.requires.from
+    (omega arith) c.in-Ok.ensures.found c.in-Ok.ensures.length.1

@@ -2,7 +2,8 @@ use Rattle.std.proofs.Common.{rules, ◌≡◌, ◌++◌, sym, ◌∙◌, ap, ar
 use Rattle.asm_text.specs.Numbers.{number}
 use Rattle.asm_text.specs.Splits.{cut}
 use Rattle.asm_text.specs.Texts.{bytes_read}
-use Rattle.asm_text.proofs.PieceLaws.{cut_some, listed, listed_whole, none_read, on_ok, reads_bad, reads_end, reads_last_bad, reads_next, reads_whole}
+use Rattle.asm_text.proofs.PieceLaws.{cut_some, listed, listed_whole, none_read, on_ok, reads_bad, reads_end, reads_last_bad, reads_next}
+use Rattle.asm_text.proofs.PieceLaws.{reads_whole}
 use Rattle.asm_text.proofs.statements.Numbers.append_to.Goals as goal
 
 pub loop-init : goal.loop-init
@@ -28,7 +29,8 @@ loop-preserved c =
     let put : c.append_number.new.out.items ≡ c.loop.out.items ++ b = search rules in
     let rest = listed c.args.self.now.bits c.in-Some.more.now in (
       next.0,
-      ap (λ t. t ++ rest) put ∙ (append_assoc c.loop.out.items b rest ∙ (ap (λ t. c.loop.out.items ++ t) (sym next.1) ∙ c.loop.invariant.1)),
+      ap (λ t. t ++ rest) put ∙ (append_assoc c.loop.out.items b rest
+          ∙ (ap (λ t. c.loop.out.items ++ t) (sym next.1) ∙ c.loop.invariant.1)),
       omega (arith, shorter, bound),
     )
 
@@ -36,7 +38,9 @@ pub returns-in-None : goal.returns-in-None
 returns-in-None c =
     let here : cut c.loop.rest.now ≡ None = search rules in
     on_ok c.append_number-in-None.result _ _ c.append_number-in-None.ensures
-    (λ put. put ∙ (ap (λ t. c.loop.out.items ++ t) (sym (reads_end c.args.self.now.bits c.loop.rest.now here c.loop.invariant.0)) ∙ (c.loop.invariant.1 ∙ ap (λ t. c.args.out.now.items ++ t) (listed_whole c.args.self.now.bits c.args.self.now.text.now c.requires.1))))
+    (λ put. put ∙ (ap (λ t. c.loop.out.items ++ t) (sym (reads_end c.args.self.now.bits c.loop.rest.now here c.loop.invariant.0))
+    ∙ (c.loop.invariant.1 ∙ ap (λ t. c.args.out.now.items ++ t)
+    (listed_whole c.args.self.now.bits c.args.self.now.text.now c.requires.1))))
 
 pub returns : goal.returns
 returns c =

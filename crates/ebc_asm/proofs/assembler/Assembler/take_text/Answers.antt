@@ -10,4 +10,5 @@ returns-in_err-line-clause-takes c = λ texts known before holds.
 
 pub returns-clause-takes : goal.returns-clause-takes
 returns-clause-takes c = λ texts known before holds.
-    text_taken c.take.result texts before (seen_line c.in_ok-line.line) c.args.text.now c.take.new.self c.in_ok-line.ensures.same (c.take.ensures.takes texts known before holds)
+    text_taken c.take.result texts before (seen_line c.in_ok-line.line) c.args.text.now c.take.new.self c.in_ok-line.ensures.same
+    (c.take.ensures.takes texts known before holds)

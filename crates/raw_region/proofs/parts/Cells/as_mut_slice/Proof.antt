@@ -14,7 +14,8 @@ use types.Logic.{Logic, sem}
 use contract.Monad.{fact}
 use contract.Running.{tables, tables_of}
 use sound.WpLaws.{WpFn-mono}
-use types.Kit.{Item, ⋆, ‵, raw, ◌⊛◌, some, later, await, pick, at_ret, ◌$◌, ◌∵◌, !, qed, by, move, keep, use1, split, join, group, rewrite, fsplit, fsplit3, fjoin, fpack, feq_l, flt_l, flt_i, suffices, frame, done}
+use types.Kit.{Item, ⋆, ‵, raw, ◌⊛◌, some, later, await, pick, at_ret, ◌$◌, ◌∵◌, !, qed, by, move, keep, use1, split, join, group, rewrite}
+use types.Kit.{fsplit, fsplit3, fjoin, fpack, feq_l, flt_l, flt_i, suffices, frame, done}
 use types.Part.{whole, sub, agg}
 use types.Run.{stop, fld, of_opd, and_then, no_more, first, blocks, exec, returns, enter}
 use types.ByLocal.{alloc_all, pass_all, free_all, look_at, get, get_in, sets, sets_last, env, take_at, give_at}
@@ -124,9 +125,11 @@ module _ {M : Type 1} {𝓤 : Ura M} (𝓛 : Logic 𝓤) (C : Calls 𝓤 𝓛.H)
         fpack ! (List Val) (λ us. fsep (cell_at full_share Cr.mir us rb ro) (Cr.own_val new us)) vs $ done !
 
   exits : (v : Val) (r : MutBor (List ℕ)) → Answers d r
-      → ent 𝓤 (sep 𝓤 (sem 𝓛 ((MutSlice (named 0) κ u8).own_val r (v ∷ []))) (sep 𝓤 (A.lft κ q) (sem 𝓛 (follows Cr (Array u8 0) γ r.ghost_name (cells_with d))))) (Post v)
+      → ent 𝓤 (sep 𝓤 (sem 𝓛 ((MutSlice (named 0) κ u8).own_val r (v ∷ [])))
+      (sep 𝓤 (A.lft κ q) (sem 𝓛 (follows Cr (Array u8 0) γ r.ghost_name (cells_with d))))) (Post v)
   exits v r answered =
-      qed 𝓛 (‵ ((MutSlice (named 0) κ u8).own_val r (v ∷ [])) ∷ ‵ (flft κ q) ∷ ‵ (follows Cr (Array u8 0) γ r.ghost_name (cells_with d)) ∷ []) ∵
+      qed 𝓛 (‵ ((MutSlice (named 0) κ u8).own_val r (v ∷ [])) ∷ ‵ (flft κ q) ∷ ‵
+      (follows Cr (Array u8 0) γ r.ghost_name (cells_with d)) ∷ []) ∵
       suffices ! _ (ends_at 𝓛 ended stayed (spec 𝓛) bound v r (tt, (tt, (tt, tt))) (tt, (tt, (tt, tt)))) $
       nothing ! $ nothing ! $ fjoin ! $ nothing ! $ fjoin ! $ nothing ! $ fjoin ! $ join ! $
       nothing ! $ move ! (2 ∷ 0 ∷ []) $ join ! $ join ! $ frame ! $ says ! answered $ done !
@@ -146,26 +149,30 @@ module _ {M : Type 1} {𝓤 : Ura M} (𝓛 : Logic 𝓤) (C : Calls 𝓤 𝓛.H)
       take_at ! 2 $ rewrite ! 0 (λ (p : Ptr). ‵ (fat full_share (layout Bs) (l 2) 0 (word p))) (asked.0 ∙ e) refl $ give_at ! 2 $ first ! $
       blocks ! $
       let few : length bytes < 2 ^ 63 = omega (arith, ap length written, length-map bytes Some) in
-      let way = back vs b o e few in let roomy : length bytes < 2 ^ 64 = omega arith in let fitting : length bytes * 1 < 2 ^ 63 = omega arith in
+      let way = back vs b o e few in let roomy : length bytes < 2 ^ 64 = omega arith in
+      let fitting : length bytes * 1 < 2 ^ 63 = omega arith in
       rewrite ! 0 (λ (cs : List (Option ℕ)). ‵ (slots b o cs)) written refl $ use1 𝓛 (‵ (cells (mem u8) bytes b o)) (to_cells 𝓛 b bytes o) $
       sets_last ! (agg ! (and_then ! (get_in ! (fld ! refl (stop !)) (sub ! 0 refl (whole !))) (and_then ! (get ! refl) (no_more !)))) refl
       (tt, (tt, (record { fits = fits }, tt))) $
       exec ! C Λ En (after 1 function.body) (at_ret En Post) $
       sets ! (of_opd ! (get ! refl)) refl (tt, (tt, (record { fits = fits }, tt))) $
       move ! (1 ∷ 2 ∷ []) $ fjoin ! $ move ! (2 ∷ 3 ∷ 4 ∷ 1 ∷ 0 ∷ []) $ group ! 5 $
-      use1 𝓛 (later (some (λ (δ : GName). raw (Elements 𝓛 Cr u8 (cells_with d) (named 0) κ q rb ro b o γ bytes (roomy, fitting) (sem 𝓛 (Rest vs b o)) way δ))))
+      use1 𝓛 (later (some (λ (δ : GName). raw (Elements 𝓛 Cr u8 (cells_with d) (named 0) κ q rb ro b o γ bytes (roomy, fitting)
+      (sem 𝓛 (Rest vs b o)) way δ))))
       (lends_Elements 𝓛 Cr u8 (cells_with d) (named 0) κ q rb ro b o γ bytes (roomy, fitting) (sem 𝓛 (Rest vs b o)) way code code) $
       await ! tt $ pick ! (λ δ.
       let r : MutBor (List ℕ) = record { ref_ptr = (b, o); ghost_name = δ; now = bytes } in
       returns ! (look_at ! 0 refl) $ free_all ! refl $ keep ! (0 ∷ []) $
-      by ! (subst (λ (k : ℕ). ent 𝓤 (Elements 𝓛 Cr u8 (cells_with d) (named 0) κ q rb ro b o γ bytes (roomy, fitting) (sem 𝓛 (Rest vs b o)) way δ) (Post (slice_val (b, o) k))) long
+      by ! (subst (λ (k : ℕ). ent 𝓤 (Elements 𝓛 Cr u8 (cells_with d) (named 0) κ q rb ro b o γ bytes (roomy, fitting)
+      (sem 𝓛 (Rest vs b o)) way δ) (Post (slice_val (b, o) k))) long
       (exits (slice_val (b, o) (length bytes)) r refl)))))))
 
   entry : Asks d base len
       → ent 𝓤 (on_entry 𝓛 ended.signature (κ, tt) (q, tt) (self, (base, (len, tt))) (us0, (us1, (us2, tt))))
       (WpFn 𝓤 H C Λ function (us0 ++ (us1 ++ (us2 ++ []))) Post)
   entry asked =
-      qed 𝓛 ((‵ (flft κ q) ⊛ ‵ ftrue) ∷ ‵ (owns (MutRef (named 0) κ Cr ∷ Bs ∷ usize ∷ []) (self, (base, (len, tt))) (us0, (us1, (us2, tt)))) ∷ []) ∵
+      qed 𝓛 ((‵ (flft κ q) ⊛ ‵ ftrue) ∷ ‵ (owns (MutRef (named 0) κ Cr ∷ Bs ∷ usize ∷ []) (self, (base, (len, tt)))
+      (us0, (us1, (us2, tt)))) ∷ []) ∵
       split ! $ move ! (2 ∷ []) $
       fsplit ! $
       fsplit3 ! $ feq_l ! (λ e0.
@@ -175,7 +182,8 @@ module _ {M : Type 1} {𝓤 : Ura M} (𝓛 : Logic 𝓤) (C : Calls 𝓤 𝓛.H)
       fsplit ! $
       fsplit ! $ feq_l ! (λ e2. flt_l ! (λ fits.
       keep ! (1 ∷ 2 ∷ 3 ∷ []) $
-      by ! (subst (λ (ws : List Val × List Val × List Val). ent 𝓤 (⋆ 𝓛 Had) (WpFn 𝓤 H C Λ function (ws.0 ++ (ws.1 ++ (ws.2 ++ []))) Post)) (λ j. (sym e0 j, sym e1 j, sym e2 j)) (walk asked fits))))))
+      by ! (subst (λ (ws : List Val × List Val × List Val). ent 𝓤 (⋆ 𝓛 Had) (WpFn 𝓤 H C Λ function (ws.0 ++ (ws.1 ++ (ws.2 ++ []))) Post))
+      (λ j. (sym e0 j, sym e1 j, sym e2 j)) (walk asked fits))))))
 
 meets : {M : Type 1} {𝓤 : Ura M} (𝓛 : Logic 𝓤) (𝓣 : Tables 𝓤 𝓛.H)
     → Meets 𝓛 ended.signature (WpFn 𝓤 𝓛.H 𝓣.C 𝓣.Λ function) (closing 𝓛 ended (spec 𝓛))
@@ -189,7 +197,8 @@ meets {𝓤 = 𝓤} 𝓛 𝓣 =
     )
     (spec 𝓛) (WpFn 𝓤 𝓛.H 𝓣.C 𝓣.Λ function) (WpFn-mono 𝓤 𝓛.H 𝓛.laws 𝓣 function)
     (λ z. let a = z.0.3 in let vss = z.0.4 in
-    needs 𝓤 (Asks a.0.now a.1.0 a.1.1.0) _ (entry 𝓛 𝓣.C 𝓣.Λ z.0.0.0 z.0.1.0 a.0.ref_ptr.0 a.0.ref_ptr.1 a.0.ghost_name a.0.now a.1.0 a.1.1.0 vss.0 vss.1.0 vss.1.1.0))
+    needs 𝓤 (Asks a.0.now a.1.0 a.1.1.0) _
+    (entry 𝓛 𝓣.C 𝓣.Λ z.0.0.0 z.0.1.0 a.0.ref_ptr.0 a.0.ref_ptr.1 a.0.ghost_name a.0.now a.1.0 a.1.1.0 vss.0 vss.1.0 vss.1.1.0))
 
 pub as_mut_slice_spec : {M : Type 1} → stated.statement M
 unfolding tables_of

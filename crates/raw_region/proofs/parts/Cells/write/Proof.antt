@@ -13,7 +13,8 @@ use types.Logic.{Logic}
 use contract.Monad.{fact}
 use contract.Running.{tables, tables_of}
 use sound.WpLaws.{WpFn-mono}
-use types.Kit.{Item, ⋆, ‵, ◌⊛◌, at_ret, ◌$◌, ◌∵◌, !, qed, by, move, keep, use1, use2, split, join, rewrite, fsplit, fsplit3, fjoin, fjoin3, feq_i, feq_l, suffices, frame, done}
+use types.Kit.{Item, ⋆, ‵, ◌⊛◌, at_ret, ◌$◌, ◌∵◌, !, qed, by, move, keep, use1, use2, split, join, rewrite, fsplit, fsplit3, fjoin, fjoin3}
+use types.Kit.{feq_i, feq_l, suffices, frame, done}
 use types.Part.{whole, sub}
 use types.Run.{init, stop, fld, unit_lit, of_opd, assigns_last, first, blocks, exec, returns, enter}
 use types.ByLocal.{alloc_all, pass_all, free_all, look_at, get, get_in, through, sets, env}
@@ -51,7 +52,17 @@ abbrev function : Fn
 function = code.function
 
 abbrev ended : Ended
-ended = record { signature = record { lifetimes = 1; outlives = []; params = RefMutOf (0 ∷ []) tt (plain (λ _. Cr)) (λ _. tt) ∷ plain (λ _. Bs) ∷ plain (λ _. usize) ∷ plain (λ _. u8) ∷ []; result = plain (λ _. unit) }; kept = (yes, (no, (no, (no, tt)))) }
+ended = record {
+  signature = record {
+    lifetimes = 1;
+    outlives = [];
+    params =
+        RefMutOf (0 ∷ []) tt (plain (λ _. Cr)) (λ _. tt) ∷ plain (λ _. Bs) ∷ plain (λ _. usize) ∷ plain (λ _. u8) ∷ [];
+    result =
+        plain (λ _. unit);
+  };
+  kept = (yes, (no, (no, (no, tt))));
+}
 
 abbrev stayed : Stays ended.signature.params ended.kept
 stayed = (
@@ -69,7 +80,12 @@ abbrev Gives0 : Cr.Denot → Bs.Denot → (usize).Denot → u8.Denot → (unit).
 Gives0 d base index item r new = (new.at ≡ d.at) × (new.slots ≡ set d.slots index (Some item))
 
 abbrev spec : {M : Type 1} {𝓤 : Ura M} (𝓛 : Logic 𝓤) → Clauses 𝓤 ended
-spec {𝓤 = 𝓤} 𝓛 κs a = record { ghost = Unit {0}; requires = λ _. fact 𝓤 (Asks a.0.now a.1.0 a.1.1.0 a.1.1.1.0); ensures = λ _ r w. fact 𝓤 (Gives0 a.0.now a.1.0 a.1.1.0 a.1.1.1.0 r w.0.now) }
+spec {𝓤 = 𝓤} 𝓛 κs a = record {
+  ghost = Unit {0};
+  requires = λ _. fact 𝓤 (Asks a.0.now a.1.0 a.1.1.0 a.1.1.1.0);
+  ensures =
+      λ _ r w. fact 𝓤 (Gives0 a.0.now a.1.0 a.1.1.0 a.1.1.1.0 r w.0.now);
+}
 
 module _ {M : Type 1} {𝓤 : Ura M} (𝓛 : Logic 𝓤) (C : Calls 𝓤 𝓛.H) (Λ : Loops 𝓤 𝓛.H) (κ : Lft) (q : Share) (rb ro : ℕ) (γ : GName)
     (d : Cr.Denot) (base : Bs.Denot) (index : (usize).Denot) (item : u8.Denot) (us0 us1 us2 us3 : List Val) where
@@ -85,7 +101,8 @@ module _ {M : Type 1} {𝓤 : Ura M} (𝓛 : Logic 𝓤) (C : Calls 𝓤 𝓛.H)
   Post = (walk_of 𝓛 ended stayed (spec 𝓛)).post bound
 
   exits : us0 ≡ vptr rb ro ∷ [] → (r : (unit).Denot) (v : Val) (new : Cr.Denot) → Gives0 d base index item r new
-      → ent 𝓤 (⋆ 𝓛 (‵ (fobs γ (Cr.coded.code new)) ∷ ‵ (fbor κ (Borrowed (mem Cr) rb ro γ)) ∷ ‵ (flft κ q) ∷ ‵ ((unit).own_val r (v ∷ [])) ∷ [])) (Post v)
+      → ent 𝓤 (⋆ 𝓛 (‵ (fobs γ (Cr.coded.code new)) ∷ ‵ (fbor κ (Borrowed (mem Cr) rb ro γ)) ∷ ‵ (flft κ q) ∷ ‵
+      ((unit).own_val r (v ∷ [])) ∷ [])) (Post v)
   exits passed r v new g0 =
       qed 𝓛 (‵ (fobs γ (Cr.coded.code new)) ∷ ‵ (fbor κ (Borrowed (mem Cr) rb ro γ)) ∷ ‵ (flft κ q) ∷ ‵ ((unit).own_val r (v ∷ [])) ∷ []) ∵
       suffices ! _ (ends_at 𝓛 ended stayed (spec 𝓛) bound v r (new, (tt, (tt, (tt, tt)))) (tt, (tt, (tt, (tt, tt))))) $ says ! g0 $
@@ -101,7 +118,13 @@ module _ {M : Type 1} {𝓤 : Ura M} (𝓛 : Logic 𝓤) (C : Calls 𝓤 𝓛.H)
       let within = asked.1 in
       let new : Cr.Denot = record { mark = d.mark; at = d.at; slots = set d.slots index (Some item) } in
       qed 𝓛 Had ∵ enter ! C Λ function (vptr rb ro ∷ word base.ptr ∷ vint w64 index ∷ vint w8 item ∷ []) _ $
-      alloc_all ! (λ l. pass_all ! refl ((tt, tt), (word-Good [] base.ptr, ((tt, record { fits = fits_index }), ((tt, record { fits = fits_item }), tt)))) $
+      alloc_all ! (λ l. pass_all ! refl (
+        (tt, tt),
+        (
+          word-Good [] base.ptr,
+          ((tt, record { fits = fits_index }), ((tt, record { fits = fits_item }), tt)),
+        ),
+      ) $
       let En : Env 𝓤 H = env function.locals l in
       opens ! tt Cr {h = d} rb ro (λ vs. move ! (1 ∷ []) $ fsplit ! $ move ! (1 ∷ []) $
       in_a_block ! d.at (λ p. cells_owns p d.slots) (id⊢ 𝓤 (never 𝓤)) (λ b o e. fsplit ! $ flt_l ! (λ small.
@@ -126,7 +149,8 @@ module _ {M : Type 1} {𝓤 : Ura M} (𝓛 : Logic 𝓤) (C : Calls 𝓤 𝓛.H)
       → ent 𝓤 (on_entry 𝓛 ended.signature (κ, tt) (q, tt) (self, (base, (index, (item, tt)))) (us0, (us1, (us2, (us3, tt)))))
       (WpFn 𝓤 H C Λ function (us0 ++ (us1 ++ (us2 ++ (us3 ++ [])))) Post)
   entry asked =
-      qed 𝓛 ((‵ (flft κ q) ⊛ ‵ ftrue) ∷ ‵ (owns (MutRef (named 0) κ Cr ∷ Bs ∷ usize ∷ u8 ∷ []) (self, (base, (index, (item, tt)))) (us0, (us1, (us2, (us3, tt))))) ∷ []) ∵
+      qed 𝓛 ((‵ (flft κ q) ⊛ ‵ ftrue) ∷ ‵ (owns (MutRef (named 0) κ Cr ∷ Bs ∷ usize ∷ u8 ∷ []) (self, (base, (index, (item, tt))))
+      (us0, (us1, (us2, (us3, tt))))) ∷ []) ∵
       split ! $ move ! (2 ∷ []) $
       fsplit ! $
       fsplit3 ! $ feq_l ! (λ e0.
@@ -138,7 +162,9 @@ module _ {M : Type 1} {𝓤 : Ura M} (𝓛 : Logic 𝓤) (C : Calls 𝓤 𝓛.H)
       fsplit ! $
       fsplit ! $ feq_l ! (λ e3. flt_l ! (λ fits_item.
       keep ! (1 ∷ 2 ∷ 3 ∷ []) $
-      by ! (subst (λ (ws : List Val × List Val × List Val × List Val). ent 𝓤 (⋆ 𝓛 Had) (WpFn 𝓤 H C Λ function (ws.0 ++ (ws.1 ++ (ws.2 ++ (ws.3 ++ [])))) Post)) (λ j. (sym e0 j, sym e1 j, sym e2 j, sym e3 j)) (walk e0 asked fits_index fits_item))))))))
+      by ! (subst (λ (ws : List Val × List Val × List Val × List Val). ent 𝓤 (⋆ 𝓛 Had)
+      (WpFn 𝓤 H C Λ function (ws.0 ++ (ws.1 ++ (ws.2 ++ (ws.3 ++ [])))) Post)) (λ j. (sym e0 j, sym e1 j, sym e2 j, sym e3 j))
+      (walk e0 asked fits_index fits_item))))))))
 
 meets : {M : Type 1} {𝓤 : Ura M} (𝓛 : Logic 𝓤) (𝓣 : Tables 𝓤 𝓛.H)
     → Meets 𝓛 ended.signature (WpFn 𝓤 𝓛.H 𝓣.C 𝓣.Λ function) (closing 𝓛 ended (spec 𝓛))
@@ -156,7 +182,9 @@ meets {𝓤 = 𝓤} 𝓛 𝓣 =
         ),
       ),
     ) (spec 𝓛) (WpFn 𝓤 𝓛.H 𝓣.C 𝓣.Λ function) (WpFn-mono 𝓤 𝓛.H 𝓛.laws 𝓣 function)
-    (λ z. needs 𝓤 (Asks z.0.3.0.now z.0.3.1.0 z.0.3.1.1.0 z.0.3.1.1.1.0) _ (entry 𝓛 𝓣.C 𝓣.Λ z.0.0.0 z.0.1.0 z.0.3.0.ref_ptr.0 z.0.3.0.ref_ptr.1 z.0.3.0.ghost_name z.0.3.0.now z.0.3.1.0 z.0.3.1.1.0 z.0.3.1.1.1.0 z.0.4.0 z.0.4.1.0 z.0.4.1.1.0 z.0.4.1.1.1.0))
+    (λ z. needs 𝓤 (Asks z.0.3.0.now z.0.3.1.0 z.0.3.1.1.0 z.0.3.1.1.1.0) _
+    (entry 𝓛 𝓣.C 𝓣.Λ z.0.0.0 z.0.1.0 z.0.3.0.ref_ptr.0 z.0.3.0.ref_ptr.1 z.0.3.0.ghost_name z.0.3.0.now z.0.3.1.0 z.0.3.1.1.0
+    z.0.3.1.1.1.0 z.0.4.0 z.0.4.1.0 z.0.4.1.1.0 z.0.4.1.1.1.0))
 
 pub write_spec : {M : Type 1} → stated.statement M
 unfolding tables_of

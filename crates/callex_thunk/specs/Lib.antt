@@ -1,0 +1,2 @@
+pub mod HostFrames
+pub mod Slots

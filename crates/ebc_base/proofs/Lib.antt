@@ -1,0 +1,5 @@
+pub mod NameText
+pub mod TableLaws
+pub mod Lists
+pub mod Truth
+pub mod Given

@@ -1,0 +1,190 @@
+//! The rows: what each line does, and what is printed of it.
+use crate::file::{File, digits_of};
+use ebc_cli::{Outcome, ebc};
+use ebc_outside::{Folder, MemFolder, MemSink, ReadEnd};
+use std::alloc::{AllocError, Global};
+
+/// What lines are taken for.
+#[derive(Clone, Copy)]
+enum Part {
+    /// For what is done next.
+    Row,
+    /// For the lines of a file.
+    Text,
+    /// For the bytes of a file.
+    Bytes,
+}
+
+/// The files and the output of a row, and the file that is written down.
+#[derive(Drop)]
+pub struct Rows {
+    folder: MemFolder,
+    out: MemSink,
+    // The files of all rows so far, with which others may begin.
+    copies: MemFolder,
+    part: Part,
+    name: String,
+    file: File,
+}
+
+// No method has a contract, so that the many clauses of `ebc` are known in `outcome` alone, and what calls it is proved without them.
+impl Rows {
+    /// A row without files.
+    pub fn new(alloc: Global) -> Rows {
+        Rows {
+            folder: MemFolder::new(alloc),
+            out: MemSink::new(alloc),
+            copies: MemFolder::new(alloc),
+            part: Part::Row,
+            name: String::new(alloc),
+            file: File::of(Vec::new(alloc)),
+        }
+    }
+
+    /// Does what a line says. The answer is what is printed of it.
+    pub fn tell(&mut self, alloc: Global, line: &str) -> Result<String, AllocError> {
+        if line == "end" {
+            return self.end(alloc);
+        }
+        match self.part {
+            Part::Row => self.row_line(alloc, line),
+            Part::Text => {
+                self.file.put_line(line)?;
+                Ok(String::new(alloc))
+            }
+            Part::Bytes => {
+                let known = self.bytes_line(alloc, line)?;
+                told_of(alloc, known, line)
+            }
+        }
+    }
+
+    // The file that was written down stands under its name.
+    fn end(&mut self, alloc: Global) -> Result<String, AllocError> {
+        self.folder
+            .insert(self.name.as_str(), self.file.bytes.as_slice())?;
+        self.copies
+            .insert(self.name.as_str(), self.file.bytes.as_slice())?;
+        self.part = Part::Row;
+        Ok(String::new(alloc))
+    }
+
+    fn row_line(&mut self, alloc: Global, line: &str) -> Result<String, AllocError> {
+        let (word, rest) = line.split_once(' ').unwrap_or((line, ""));
+        match word {
+            "row" => self.begin(alloc, rest),
+            "text" => self.write_down(alloc, Part::Text, rest),
+            "bytes" => self.write_down(alloc, Part::Bytes, rest),
+            "fail" => self.fail(alloc, rest),
+            "call" => self.call(alloc, rest),
+            "show" => self.show(alloc, rest),
+            "" | "--" => Ok(String::new(alloc)),
+            _ => told_of(alloc, false, line),
+        }
+    }
+
+    fn begin(&mut self, alloc: Global, name: &str) -> Result<String, AllocError> {
+        self.folder = MemFolder::new(alloc);
+        self.out = MemSink::new(alloc);
+        format!(in alloc; "row {name}\n")
+    }
+
+    fn write_down(&mut self, alloc: Global, part: Part, name: &str) -> Result<String, AllocError> {
+        self.part = part;
+        self.name = String::from_str(alloc, name)?;
+        self.file = File::of(Vec::new(alloc));
+        Ok(String::new(alloc))
+    }
+
+    // A line of bytes: whether it is one.
+    fn bytes_line(&mut self, alloc: Global, line: &str) -> Result<bool, AllocError> {
+        let (word, rest) = line.split_once(' ').unwrap_or((line, ""));
+        match word {
+            "from" => self.begin_with(alloc, rest),
+            "cut" => Ok(self.file.cut(rest)),
+            "fill" => match rest.split_once(' ') {
+                Some((length, digits)) => self.file.fill(length, digits),
+                None => Ok(false),
+            },
+            _ => self.bytes_words(line),
+        }
+    }
+
+    fn bytes_words(&mut self, line: &str) -> Result<bool, AllocError> {
+        for word in line.split_whitespace() {
+            if !self.file.put_word(word)? {
+                return Ok(false);
+            }
+        }
+        Ok(true)
+    }
+
+    // The file begins with the bytes of another.
+    fn begin_with(&mut self, alloc: Global, name: &str) -> Result<bool, AllocError> {
+        match self.copies.read(alloc, name, 0x50_0000) {
+            Ok(bytes) => {
+                self.file = File::of(bytes);
+                Ok(true)
+            }
+            Err(ReadEnd::NoMemory) => Err(AllocError),
+            Err(_) => Ok(false),
+        }
+    }
+
+    // Lets the read of this number fail, counted from 1, and the first write and the first put.
+    fn fail(&mut self, alloc: Global, read: &str) -> Result<String, AllocError> {
+        let Ok(read) = read.parse::<u64>() else {
+            return told_of(alloc, false, read);
+        };
+        self.folder.fail_reads(vec![in alloc; read]?);
+        self.folder.fail_writes(vec![in alloc; 1]?);
+        self.out.fail_puts(vec![in alloc; 1]?);
+        Ok(String::new(alloc))
+    }
+
+    // The one call of the program.
+    fn outcome(&mut self, alloc: Global, words: &Vec<String>) -> Outcome {
+        ebc(alloc, words, &mut self.folder, &mut self.out)
+    }
+
+    // Does the words of a line, split at its spaces: these, the exit status and the outcome, and what is printed.
+    fn call(&mut self, alloc: Global, line: &str) -> Result<String, AllocError> {
+        let words = words_of(alloc, line)?;
+        let before = self.out.text().len();
+        let outcome = self.outcome(alloc, &words);
+        let printed = self.out.text().get(before..).unwrap_or(b"");
+        let printed = str::from_utf8(printed).unwrap_or("no text\n");
+        format!(in alloc; "> {line}\n{} {outcome:?}\n{printed}", outcome.code())
+    }
+
+    // The bytes of a file in digits, or that it isn't there.
+    fn show(&mut self, alloc: Global, name: &str) -> Result<String, AllocError> {
+        match self.folder.read(alloc, name, 1048576) {
+            Ok(bytes) => {
+                let digits = digits_of(alloc, bytes.as_slice())?;
+                format!(in alloc; "= {name} {digits}\n")
+            }
+            Err(ReadEnd::Missing) => format!(in alloc; "= {name} missing\n"),
+            Err(ReadEnd::Fault) => format!(in alloc; "= {name} not read\n"),
+            Err(ReadEnd::NoMemory) => Err(AllocError),
+        }
+    }
+}
+
+// What is printed of a line that may be none.
+fn told_of(alloc: Global, known: bool, line: &str) -> Result<String, AllocError> {
+    if known {
+        Ok(String::new(alloc))
+    } else {
+        format!(in alloc; "no line: {line}\n")
+    }
+}
+
+// The words of a line, as the program is handed them.
+fn words_of(alloc: Global, line: &str) -> Result<Vec<String>, AllocError> {
+    let mut words = Vec::new(alloc);
+    for word in line.split(' ') {
+        words.push(String::from_str(alloc, word)?)?;
+    }
+    Ok(words)
+}

@@ -1,0 +1,14 @@
+pub mod Objects
+pub mod Placements
+pub mod ScriptValues
+pub mod Scripts
+pub mod Values
+pub mod Readings
+pub mod Progress
+pub mod World
+pub mod RunState
+pub mod Start
+pub mod HostPlans
+pub mod HostSteps
+pub mod Runs
+pub mod Reports

@@ -1,0 +1,76 @@
+-- A valid placement gives the things that values name their addresses, and typed objects lie apart.
+use Rattle.std.proofs.Common.{◌≡◌, ℕ, ◌<◌, Bool, true, false, if◌then◌else◌, nat_lt, List, length, Some, None, refl, sym, ap, arith, inl}
+use Rattle.std.proofs.Common.{inr, ⊎_elim, slice_get}
+use Rattle.std.proofs.lemmas.Bool.{ltb-true, lt-ltb}
+use Rattle.std.proofs.Math.Nat.{mul-pos}
+use Rattle.std.proofs.lemmas.Option.{same_Some, none-some}
+use Rattle.ebc_width.specs.Width.{IsWidth}
+use Rattle.neutral_machine.specs.Config.{Frame}
+use Rattle.neutral_machine.specs.Layout.{addresses}
+use Rattle.neutral_machine.specs.Named.{Named, HasInstances, HasObjects, ThingsAreNamed}
+use Rattle.host_model.specs.declared.object.TypedObject.{TypedObject}
+use Rattle.host_model.specs.Objects.{made_objects}
+use Rattle.host_model.specs.Placements.{Placement, IsPlacement, IsWithin, all_ranges, placed_ranges, native_range, handle_count, handle_at}
+use Rattle.host_model.specs.Placements.{method_at, thunk_at, there, object_bytes}
+use Rattle.host_model.specs.World.{World}
+use Rattle.ebc_base.proofs.Lists.{All_at}
+use Rattle.neutral_machine.proofs.Locals.{fits_at}
+use Rattle.neutral_machine.proofs.PlacedObjects.{lies, object_above, object_below, objects_off}
+
+-- one of so many things
+there_some : (count i at x : ℕ) → there count i at ≡ Some x → (i < count) × (x ≡ at)
+there_some count i at x e = go (nat_lt i count) refl e
+  where
+    go : (b : Bool) → nat_lt i count ≡ b → (if b then Some at else None) ≡ Some x → (i < count) × (x ≡ at)
+    go true l e = (ltb-true i count l, sym (same_Some at x e))
+    go false l e = absurd (none-some x e)
+
+pub some_there : (count i at : ℕ) → i < count → there count i at ≡ Some at
+some_there count i at l = ap (λ b. if b then Some at else None) (lt-ltb i count l)
+
+module _ (w : ℕ) (world : World) (P : Placement) (h : IsWidth w) (ok : HasObjects world) (pl : IsPlacement w world P) (entries : ℕ) where
+  native_within : IsWithin w (native_range world.notes P)
+  unfolding placed_ranges
+  native_within = All_at (IsWithin w) (all_ranges w world P) 0 _ pl.within refl
+
+  native_above : 0 < P.native
+  native_above = ⊎_elim (λ l. l) (λ e. absurd (omega (arith, e))) native_within.above
+
+  instances : (k : ℕ) (o : TypedObject) → slice_get (made_objects world.notes world.script entries) k ≡ Some o
+      → HasInstances w world.notes o
+  instances k o g = record { some = ok.counted entries k o g; wide = (fits_at w _ h (ok.shaped entries k o g)).positive }
+
+  pub takes_bytes : (k : ℕ) (o : TypedObject) → slice_get (made_objects world.notes world.script entries) k ≡ Some o
+      → 0 < object_bytes w world.notes o
+  takes_bytes k o g = let i = instances k o g in mul-pos i.some i.wide
+
+  pub things_named : (fs : List Frame) → Named w world.notes P (made_objects world.notes world.script entries)
+      (addresses w world.notes P fs)
+  things_named fs = record {
+    width = h;
+    native = native_above;
+    area = native_within.below;
+    handle = λ k x e. there_some handle_count k (handle_at world.notes P k) x e;
+    method = λ k x e. there_some (length world.notes.methods) k (method_at P k) x e;
+    entry = λ k x e. there_some (length world.notes.function) k (thunk_at world.notes P k) x e;
+    handles = λ k l. some_there handle_count k (handle_at world.notes P k) l;
+    methods = λ k l. some_there (length world.notes.methods) k (method_at P k) l;
+    entries = λ k l. some_there (length world.notes.function) k (thunk_at world.notes P k) l;
+    objects = λ k o g. let l = lies w world P h ok pl entries k o g in some_there _ k _ l.numbered;
+    sized = instances;
+    within = λ k o g.
+        let l = lies w world P h ok pl entries k o g in
+        let e = l.is in
+        let p = object_above w world P h ok pl k o l (takes_bytes k o g) in
+        let q = object_below w world P h ok pl k o l in
+        (omega (arith, e, p), omega (arith, e, q));
+    apart = λ j k o q a b ne.
+        let l = lies w world P h ok pl entries j o a in
+        let m = lies w world P h ok pl entries k q b in
+        let e = l.is in
+        let f = m.is in
+        ⊎_elim (λ x. inl (omega (arith, x, e, f))) (λ x. inr (omega (arith, x, e, f))) (objects_off w world P h ok pl j k o q l m ne);
+  }
+
+pub things_are_named : ThingsAreNamed
+things_are_named w world P h ok pl entries fs = things_named w world P h ok pl entries fs

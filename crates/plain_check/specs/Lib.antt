@@ -1,0 +1,3 @@
+pub mod PlainChecks
+pub mod PlainRules
+pub mod PlainRuns

@@ -1,0 +1,10 @@
+pub mod ContentLemmas
+pub mod Disjoint
+pub mod Firsts
+pub mod RangesLemmas
+pub mod Relocs
+pub mod Sections
+pub mod StaticLaws
+pub mod ThunkLaws
+pub mod Decoding
+pub mod Ascending

@@ -1,6 +1,0 @@
-use Rattle.run_types.proofs.NamedThings.{things_named}
-use Rattle.run_types.proofs.ReadingAlike.{reads_alike, results_alike}
-use Rattle.run_types.proofs.laws.readings_are_alike.Goals as goal
-
-pub returns : goal.returns
-returns c = λ w world P h ok pl entries fs. let n = things_named w world P h ok pl entries fs in (reads_alike w _ P _ _ n, results_alike w _ P _ _ n)

@@ -1,6 +1,0 @@
-use Rattle.run_types.proofs.NamedThings.{things_named}
-use Rattle.run_types.proofs.WrittenShows.{value_shows}
-use Rattle.run_types.proofs.laws.written_number_shows.Goals as goal
-
-pub returns : goal.returns
-returns c = λ w world P h ok pl entries fs. value_shows w _ P _ _ (things_named w world P h ok pl entries fs)

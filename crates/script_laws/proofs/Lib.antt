@@ -1,3 +1,0 @@
-pub mod NamesApart
-pub mod NamesRead
-pub mod ReadLaws

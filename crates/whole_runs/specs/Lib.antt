@@ -1,4 +1,0 @@
-pub mod NeutralImage
-pub mod NeutralRun
-pub mod Reports
-pub mod Runs

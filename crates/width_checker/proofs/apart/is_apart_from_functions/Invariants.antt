@@ -1,8 +1,0 @@
-use Rattle.std.proofs.Common.{ℕ, ◌-◌, ◌<◌}
-use Rattle.note_types.specs.declared.notes.FnNote.{FnNote}
-use Rattle.rules_data.specs.Images.{AreApart}
-use Rattle.width_checker.proofs.Firsts.{HoldsOf}
-use Rattle.width_checker.proofs.apart.is_apart_from_functions.Given as goal
-
-abbrev pub invariant-loop-number : goal.invariant-loop-number
-invariant-loop-number l = (k : ℕ) → k < l.number → HoldsOf (λ j (f : FnNote). AreApart l.place l.size f.place (f.end - f.place)) l.functions k

@@ -1,7 +1,0 @@
-use Rattle.std.proofs.Common.{sym, ◌∙◌, arith, length}
-use Rattle.width_checker.specs.PlainChecks.{marked}
-use Rattle.width_checker.proofs.PlainPlacesLemmas.{judged-end}
-use Rattle.width_checker.proofs.plain.first_refusal.Goals as goal
-
-pub returns : goal.returns
-returns c = sym (c.loop-at.invariant.1 ∙ judged-end (marked c.args.marks.now) (length c.args.code.now) c.loop-at.at c.args.code.now (omega arith))

@@ -1,6 +1,0 @@
-use Rattle.std.proofs.Common.{ℕ, ◌<◌}
-use Rattle.width_checker.specs.Tables.{FitsAt}
-use Rattle.width_checker.proofs.tables.first_unfit.Given as goal
-
-abbrev pub invariant-loop-number : goal.invariant-loop-number
-invariant-loop-number l = (k : ℕ) → k < l.number → FitsAt l.shapes k
