@@ -10,6 +10,10 @@ use Rattle.ebc_object.specs.declared.object.Object.{Object}
 use Rattle.ebc_object.specs.Files.{object_bytes}
 use Rattle.ebc_outside.specs.Files.{Files, AppendsPart}
 use Rattle.note_types.specs.declared.notes.Notes.{Notes}
+use Rattle.option_rom.specs.declared.fault.RomFault.{RomFault}
+use Rattle.option_rom.specs.declared.fault.TakeFault.{TakeFault}
+use Rattle.option_rom.specs.declared.image.RomImage.{RomImage}
+use Rattle.option_rom.specs.Files.{rom_bytes}
 use Rattle.note_types.specs.declared.rule.RuleName.{RuleName}
 use Rattle.pe_image.specs.declared.image.Image.{Image}
 use Rattle.ebc_disasm.specs.Listings.{listing_of}
@@ -32,15 +36,19 @@ use Rattle.ebc_cli.specs.declared.reply.Reply.{Reply}
 use Rattle.ebc_cli.specs.declared.work.Work.{Work}
 use Rattle.ebc_cli.specs.declared.work.Work.TheVariants as works
 use Rattle.ebc_cli.specs.Commands.{command_of, output_of}
-use Rattle.ebc_cli.specs.Faults.{asm_fault_text}
+use Rattle.ebc_cli.specs.Faults.{asm_fault_text, rom_fault_text, take_fault_text}
 use Rattle.ebc_cli.specs.Outcomes.{IsAnswer}
 use Rattle.ebc_cli.specs.Outputs.{SameBut, files_left, printed, text_of, written_name}
 use Rattle.ebc_cli.specs.Readings.{file, done, go_on, large_reply}
+use Rattle.ebc_cli.specs.RomTexts.{rom_listing}
 use Rattle.ebc_cli.specs.Texts.{bad_line, neutral_line, refused_line}
-use Rattle.ebc_cli.specs.Works.{work_of, code_check, verdict_reply, listing_reply, object_reply, TellsVerdict, IsReplyOf, plain_code_limit}
+use Rattle.ebc_cli.specs.Works.{work_of, code_check, verdict_reply, listing_reply, file_reply, TellsVerdict, IsReplyOf, plain_code_limit}
 use Rattle.ebc_cli.specs.Answers.{IsAnswerOf, Decides, Answers, Assembles, LeavesPart, ChecksCode, ChecksImage, ListsImage, HasBadInput}
-use Rattle.ebc_cli.specs.Answers.{HasBadLine, HasLargeFile, HasMissingFile, HasNoText, writes_object, empty_listing, SameForScripts}
+use Rattle.ebc_cli.specs.Answers.{HasBadLine, HasMissingFile, HasNoText, writes_object, writes_rom, writes_taken, empty_listing}
+use Rattle.ebc_cli.specs.Answers.{SameForScripts}
+use Rattle.ebc_cli.specs.Answers.{Wraps, ListsRom, Takes, HasBadRom, HasBadTaking, IsTooLarge}
 use Rattle.ebc_cli.proofs.StopLemmas.{assembly-work, bad-exactly, bad-line-told, image-work, large-exactly, listing-work, missing-exactly}
+use Rattle.ebc_cli.proofs.StopLemmas.{bad-rom-told, bad-taking-told, rom-listing-work, taking-work, wrapping-work}
 
 -- a reply that was decided is an answer, whether the reading went through or stopped
 pub answer-ok : (contents : Option Files) (words before now : List (List ℕ)) (reply : Reply)
@@ -72,7 +80,8 @@ answers (Some files) words reply outcome before now left tells text files_are =
       answer = tells.told;
       same = tells.same answered;
       text = text answered;
-      files_are = files_are answered;
+      files_are =
+          files_are answered;
     }
 
 pub leaves-part : (contents : Option Files) (words : List (List ℕ)) (reply : Reply) (outcome : Outcome) (before now : Option (List ℕ))
@@ -194,7 +203,7 @@ missing (Some files) words reply outcome tells =
     λ word answered. of-reply outcome reply.outcome _ (tells.same answered) (missing-exactly words files reply word tells.told)
 
 pub too-large : (contents : Option Files) (words : List (List ℕ)) (reply : Reply) (outcome : Outcome) → Tells contents words reply outcome
-    → IfSome contents (λ files. (word : ℕ) → IsAnswer outcome → outcome ≡ outcomes.TooLarge word ↔ HasLargeFile words files word)
+    → IfSome contents (λ files. (word : ℕ) → IsAnswer outcome → outcome ≡ outcomes.TooLarge word ↔ IsTooLarge words files word)
 too-large None words reply outcome tells = tt
 too-large (Some files) words reply outcome tells =
     λ word answered. of-reply outcome reply.outcome _ (tells.same answered) (large-exactly words files reply word tells.told)
@@ -229,7 +238,7 @@ lists-exactly (Some files) words reply outcome before now tells text = λ image 
 -- ---- `asm SRC OBJ`
 
 object-told : (words : List (List ℕ)) (files : Files) (reply : Reply) (name : List ℕ) (object : Object) → Assembles words files name object
-    → IsAnswerOf words files reply → reply ≡ object_reply name (object_bytes object)
+    → IsAnswerOf words files reply → reply ≡ file_reply name (object_bytes object)
 object-told words files reply name object c told = rw (assembly-work words files name object c) at told
 
 pub assembles-always : (contents : Option Files) (words : List (List ℕ)) (reply : Reply) (outcome : Outcome)
@@ -257,6 +266,91 @@ bad-source-line None words reply outcome before now tells text = tt
 bad-source-line (Some files) words reply outcome before now tells text = λ name kind line c answered.
     text answered ∙ ap (λ (r : Reply). printed (text_of r.output) before) (bad-line-told words files name kind line reply c tells.told)
 
+-- ---- `rom wrap VENDOR DEVICE IMAGE ROM`
+
+wrapping-told : (words : List (List ℕ)) (files : Files) (reply : Reply) (vendor device : ℕ) (bytes : List ℕ) (image : Image) (name : List ℕ)
+    → Wraps words files vendor device bytes image name → IsAnswerOf words files reply
+    → reply ≡ file_reply name (rom_bytes vendor device image.subsystem bytes)
+wrapping-told words files reply vendor device bytes image name c told =
+    rw (wrapping-work words files vendor device bytes image name c) at told
+
+pub wraps-always : (contents : Option Files) (words : List (List ℕ)) (reply : Reply) (outcome : Outcome)
+    → Tells contents words reply outcome
+    → IfSome contents (λ files. (vendor device : ℕ) (bytes : List ℕ) (image : Image) (name : List ℕ)
+    → Wraps words files vendor device bytes image name → IsAnswer outcome → outcome ≡ outcomes.Done)
+wraps-always None words reply outcome tells = tt
+wraps-always (Some files) words reply outcome tells = λ vendor device bytes image name c answered.
+    tells.same answered ∙ ap (λ (r : Reply). r.outcome) (wrapping-told words files reply vendor device bytes image name c tells.told)
+
+pub wraps-exactly : (contents : Option Files) (words : List (List ℕ)) (reply : Reply) (outcome : Outcome) (left : Option Files)
+    → Tells contents words reply outcome → (IsAnswer outcome → left ≡ option_map (files_left reply.output) contents)
+    → IfSome contents (λ files. (vendor device : ℕ) (bytes : List ℕ) (image : Image) (name : List ℕ)
+    → Wraps words files vendor device bytes image name → IsAnswer outcome
+    → left ≡ Some (insert files name (rom_bytes vendor device image.subsystem bytes)))
+wraps-exactly None words reply outcome left tells files_are = tt
+wraps-exactly (Some files) words reply outcome left tells files_are = λ vendor device bytes image name c answered.
+    files_are answered
+    ∙ ap (λ (r : Reply). Some (files_left r.output files)) (wrapping-told words files reply vendor device bytes image name c tells.told)
+
+-- ---- `rom list ROM`
+
+rom-listing-told : (words : List (List ℕ)) (files : Files) (reply : Reply) (images : List RomImage) → ListsRom words files images
+    → IsAnswerOf words files reply → reply ≡ listing_reply (rom_listing images)
+rom-listing-told words files reply images c told = rw (rom-listing-work words files images c) at told
+
+pub lists-rom-always : (contents : Option Files) (words : List (List ℕ)) (reply : Reply) (outcome : Outcome)
+    → Tells contents words reply outcome
+    → IfSome contents (λ files. (images : List RomImage) → ListsRom words files images → IsAnswer outcome → outcome ≡ outcomes.Done)
+lists-rom-always None words reply outcome tells = tt
+lists-rom-always (Some files) words reply outcome tells = λ images c answered.
+    tells.same answered ∙ ap (λ (r : Reply). r.outcome) (rom-listing-told words files reply images c tells.told)
+
+pub lists-rom-exactly : (contents : Option Files) (words : List (List ℕ)) (reply : Reply) (outcome : Outcome) (before now : Option (List ℕ))
+    → Tells contents words reply outcome → (IsAnswer outcome → now ≡ printed (text_of reply.output) before)
+    → IfSome contents (λ files. (images : List RomImage) → ListsRom words files images → IsAnswer outcome
+    → now ≡ printed (rom_listing images) before)
+lists-rom-exactly None words reply outcome before now tells text = tt
+lists-rom-exactly (Some files) words reply outcome before now tells text = λ images c answered.
+    text answered ∙ ap (λ (r : Reply). printed (text_of r.output) before) (rom-listing-told words files reply images c tells.told)
+
+pub bad-rom-line : (contents : Option Files) (words : List (List ℕ)) (reply : Reply) (outcome : Outcome) (before now : Option (List ℕ))
+    → Tells contents words reply outcome → (IsAnswer outcome → now ≡ printed (text_of reply.output) before)
+    → IfSome contents (λ files. (name : List ℕ) (kind : RomFault) (offset : ℕ) → HasBadRom words files name kind offset → IsAnswer outcome
+    → now ≡ printed (bad_line name (rom_fault_text kind) (decimal offset)) before)
+bad-rom-line None words reply outcome before now tells text = tt
+bad-rom-line (Some files) words reply outcome before now tells text = λ name kind offset c answered.
+    text answered ∙ ap (λ (r : Reply). printed (text_of r.output) before) (bad-rom-told words files name kind offset reply c tells.told)
+
+-- ---- `rom take ROM NUMBER IMAGE`
+
+taking-told : (words : List (List ℕ)) (files : Files) (reply : Reply) (name bytes : List ℕ) → Takes words files name bytes
+    → IsAnswerOf words files reply → reply ≡ file_reply name bytes
+taking-told words files reply name bytes c told = rw (taking-work words files name bytes c) at told
+
+pub takes-always : (contents : Option Files) (words : List (List ℕ)) (reply : Reply) (outcome : Outcome)
+    → Tells contents words reply outcome
+    → IfSome contents (λ files. (name bytes : List ℕ) → Takes words files name bytes → IsAnswer outcome → outcome ≡ outcomes.Done)
+takes-always None words reply outcome tells = tt
+takes-always (Some files) words reply outcome tells = λ name bytes c answered.
+    tells.same answered ∙ ap (λ (r : Reply). r.outcome) (taking-told words files reply name bytes c tells.told)
+
+pub takes-exactly : (contents : Option Files) (words : List (List ℕ)) (reply : Reply) (outcome : Outcome) (left : Option Files)
+    → Tells contents words reply outcome → (IsAnswer outcome → left ≡ option_map (files_left reply.output) contents)
+    → IfSome contents (λ files. (name bytes : List ℕ) → Takes words files name bytes → IsAnswer outcome
+    → left ≡ Some (insert files name bytes))
+takes-exactly None words reply outcome left tells files_are = tt
+takes-exactly (Some files) words reply outcome left tells files_are = λ name bytes c answered.
+    files_are answered ∙ ap (λ (r : Reply). Some (files_left r.output files)) (taking-told words files reply name bytes c tells.told)
+
+pub bad-taking-line : (contents : Option Files) (words : List (List ℕ)) (reply : Reply) (outcome : Outcome) (before now : Option (List ℕ))
+    → Tells contents words reply outcome → (IsAnswer outcome → now ≡ printed (text_of reply.output) before)
+    → IfSome contents (λ files. (name : List ℕ) (kind : TakeFault) (offset : ℕ) → HasBadTaking words files name kind offset
+    → IsAnswer outcome → now ≡ printed (bad_line name (take_fault_text kind) (decimal offset)) before)
+bad-taking-line None words reply outcome before now tells text = tt
+bad-taking-line (Some files) words reply outcome before now tells text = λ name kind offset c answered.
+    text answered ∙ ap (λ (r : Reply). printed (text_of r.output) before) (bad-taking-told words files name kind offset reply c tells.told)
+    ∙ rw c.place refl
+
 -- ---- answers with no text
 
 -- such an answer prints nothing, and where it writes no file its words name none
@@ -269,6 +363,14 @@ silent : (words : List (List ℕ)) (files : Files) (reply : Reply) → HasNoText
 silent words files reply (writes_object name object c) told = record {
   text = ap (λ (r : Reply). text_of r.output) (object-told words files reply name object c told);
   names = λ named. rw c.command (λ none. cc);
+}
+silent words files reply (writes_rom vendor device bytes image name c) told = record {
+  text = ap (λ (r : Reply). text_of r.output) (wrapping-told words files reply vendor device bytes image name c told);
+  names = λ named. rw c.command (λ none. cc);
+}
+silent words files reply (writes_taken name bytes c) told = record {
+  text = ap (λ (r : Reply). text_of r.output) (taking-told words files reply name bytes c told);
+  names = λ named. rw c.source.command (λ none. cc);
 }
 silent words files reply (empty_listing image c empty) told = record {
   text = ap (λ (r : Reply). text_of r.output) (listing-told words files reply image c told) ∙ empty;

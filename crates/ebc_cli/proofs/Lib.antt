@@ -1,4 +1,5 @@
 pub mod HexLemmas
+pub mod RomLemmas
 pub mod ReadingsLemmas
 pub mod OutputLemmas
 pub mod StopLemmas

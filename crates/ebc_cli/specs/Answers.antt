@@ -1,5 +1,6 @@
 -- Meaning: the answer of the program to its words, over the files of a folder: docs/COMMANDS.md, "The answer".
-use Rattle.std.specs.Prelude.{◌≡◌, ◌↔◌, ◌⊎◌, ℕ, ◌<◌, ◌≤◌, List, [], ◌++◌, length, Option, Some, None, Result, Ok, Err}
+use Rattle.std.specs.Prelude.{◌≡◌, ◌≢◌, ◌↔◌, ◌⊎◌, ℕ, ◌<◌, ◌≤◌, List, [], ◌++◌, length, Option, Some, None, Result, Ok, Err}
+use Rattle.std.specs.Fmt.{decimal}
 use Rattle.std.specs.FinMap.{get}
 use Rattle.ebc_outside.specs.Files.{Files, AppendsPart}
 use Rattle.asm_text.specs.declared.fault.AsmFault.{AsmFault}
@@ -9,6 +10,12 @@ use Rattle.ebc_object.specs.declared.object.Object.{Object}
 use Rattle.note_types.specs.declared.fault.TomlFault.{TomlFault}
 use Rattle.note_types.specs.declared.notes.Notes.{Notes}
 use Rattle.note_types.specs.declared.script.Script.{Script}
+use Rattle.option_rom.specs.declared.fault.RomFault.{RomFault}
+use Rattle.option_rom.specs.declared.fault.TakeFault.{TakeFault}
+use Rattle.option_rom.specs.declared.image.RomImage.{RomImage}
+use Rattle.option_rom.specs.Images.{IsRom}
+use Rattle.option_rom.specs.Roms.{FailsFirst}
+use Rattle.option_rom.specs.Takes.{bytes_taken, taken}
 use Rattle.protocol_script.specs.Scripts.{script_of}
 use Rattle.host_model.specs.Placements.{Placement, IsPlacement}
 use Rattle.twin_run.specs.Headline.{AreSameAfter}
@@ -19,14 +26,14 @@ use Rattle.pe_image.specs.Images.{image_of}
 use Rattle.type_notes.specs.Notes.{notes_of}
 use Rattle.ebc_cli.specs.declared.outcome.Outcome.{Outcome}
 use Rattle.ebc_cli.specs.declared.outcome.Outcome.TheVariants as outcomes
-use Rattle.ebc_cli.specs.declared.command.Command.TheVariants.{Assemble, CheckCode, CheckImage, ListImage}
+use Rattle.ebc_cli.specs.declared.command.Command.TheVariants.{Assemble, CheckCode, CheckImage, ListImage, ListRom, TakeRom, WrapRom}
 use Rattle.ebc_cli.specs.declared.reply.End.{End}
 use Rattle.ebc_cli.specs.declared.reply.End.TheVariants as ends
 use Rattle.ebc_cli.specs.declared.reply.Reply.{Reply}
 use Rattle.ebc_cli.specs.declared.work.Work.{Work}
 use Rattle.ebc_cli.specs.Commands.{command_of, output_of}
-use Rattle.ebc_cli.specs.Faults.{asm_fault_number, image_fault_number, toml_fault_number}
-use Rattle.ebc_cli.specs.Inputs.{image_limit, notes_limit, source_limit}
+use Rattle.ebc_cli.specs.Faults.{asm_fault_number, image_fault_number, rom_fault_number, take_fault_number, toml_fault_number}
+use Rattle.ebc_cli.specs.Inputs.{image_limit, notes_limit, rom_limit, source_limit, taking_offset}
 use Rattle.ebc_cli.specs.Outcomes.{IsAnswer}
 use Rattle.ebc_cli.specs.Outputs.{SameBut, files_left, printed, text_of, written_name}
 use Rattle.ebc_cli.specs.Readings.{FileReading, AsksPart, MissingHasCause}
@@ -100,16 +107,52 @@ pub record Assembles (words : List (List ℕ)) (files : Files) (name : List ℕ)
   pub source_file : HasFile files source_name source_limit text
   pub object_is : object_of text ≡ Ok object
 
--- the words are `check IMAGE NOTES` or `list IMAGE`, and the image has this name
-pub data NamesImage (words : List (List ℕ)) (name : List ℕ) : Type 0 where
-  to_check : (notes_name : List ℕ) → command_of words ≡ Some (CheckImage name notes_name) → NamesImage words name
-  to_list : command_of words ≡ Some (ListImage name) → NamesImage words name
+-- the words are `rom wrap VENDOR DEVICE IMAGE ROM`, and the folder has a file within its limit, of these bytes, that stands for this
+-- image; the option ROM is to be written under this name
+pub record Wraps (words : List (List ℕ)) (files : Files) (vendor device : ℕ) (bytes : List ℕ) (image : Image) (name : List ℕ) : Type 0 where
+  pub image_name : List ℕ
+  pub command : command_of words ≡ Some (WrapRom vendor device image_name name)
+  pub image_file : HasFile files image_name image_limit bytes
+  pub image_is : image_of bytes ≡ Ok image
 
--- the image's file is no image: its first fault has this number
-pub record HasBadImage (words : List (List ℕ)) (files : Files) (fault : ℕ) : Type 0 where
+-- the words are `rom list ROM`, and the folder has a file within its limit that is the option ROM of these images
+pub record ListsRom (words : List (List ℕ)) (files : Files) (images : List RomImage) : Type 0 where
   pub name : List ℕ
   pub bytes : List ℕ
-  pub command : NamesImage words name
+  pub command : command_of words ≡ Some (ListRom name)
+  pub rom_file : HasFile files name rom_limit bytes
+  pub rom_is : IsRom bytes images
+
+-- the words are `rom take ROM NUMBER IMAGE` with this number, which is at most 65,535, and the folder has a file within its limit, of
+-- these bytes, that is the option ROM of these images
+pub record TakesFrom (words : List (List ℕ)) (files : Files) (rom_name name : List ℕ) (number : ℕ) (rom : List ℕ)
+    (images : List RomImage) : Type 0 where
+  pub command : command_of words ≡ Some (TakeRom rom_name (decimal number) name)
+  pub within : number ≤ 65535
+  pub rom_file : HasFile files rom_name rom_limit rom
+  pub rom_is : IsRom rom images
+
+-- and the image with the number gives these bytes, which are to be written under this name
+pub record Takes (words : List (List ℕ)) (files : Files) (name bytes : List ℕ) : Type 0 where
+  pub rom_name : List ℕ
+  pub number : ℕ
+  pub rom : List ℕ
+  pub images : List RomImage
+  pub source : TakesFrom words files rom_name name number rom images
+  pub taken_are : bytes_taken rom images number ≡ Ok bytes
+
+-- the words are `check IMAGE NOTES`, `list IMAGE` or `rom wrap VENDOR DEVICE IMAGE ROM`, and the image has this name, which is that word
+pub data NamesImage (words : List (List ℕ)) (word : ℕ) (name : List ℕ) : Type 0 where
+  to_check : (notes_name : List ℕ) → word ≡ 1 → command_of words ≡ Some (CheckImage name notes_name) → NamesImage words word name
+  to_list : word ≡ 1 → command_of words ≡ Some (ListImage name) → NamesImage words word name
+  to_wrap : (vendor device : ℕ) (rom_name : List ℕ) → word ≡ 4 → command_of words ≡ Some (WrapRom vendor device name rom_name)
+      → NamesImage words word name
+
+-- the image's file is no image: its first fault has this number
+pub record HasBadImage (words : List (List ℕ)) (files : Files) (word fault : ℕ) : Type 0 where
+  pub name : List ℕ
+  pub bytes : List ℕ
+  pub command : NamesImage words word name
   pub image_file : HasFile files name image_limit bytes
   pub kind : ImageFault
   pub offset : ℕ
@@ -152,19 +195,49 @@ pub record HasBadSource (words : List (List ℕ)) (files : Files) (fault : ℕ) 
   pub bad_line : HasBadLine words files name kind line
   pub number : fault ≡ asm_fault_number kind
 
+-- the words are `rom list ROM`, or `rom take ROM NUMBER IMAGE` with a number of at most 65,535, and the option ROM has this name: so its
+-- turn comes
+pub data NamesRom (words : List (List ℕ)) (name : List ℕ) : Type 0 where
+  to_list_rom : command_of words ≡ Some (ListRom name) → NamesRom words name
+  to_take : (number : ℕ) (image_name : List ℕ) → number ≤ 65535 → command_of words ≡ Some (TakeRom name (decimal number) image_name)
+      → NamesRom words name
+
+-- the file of the option ROM, of this name, is none: this is its first fault, at this offset
+pub record HasBadRom (words : List (List ℕ)) (files : Files) (name : List ℕ) (kind : RomFault) (offset : ℕ) : Type 0 where
+  pub bytes : List ℕ
+  pub turn : NamesRom words name
+  pub rom_file : HasFile files name rom_limit bytes
+  pub fails : FailsFirst bytes kind offset
+
+-- the option ROM of this name has no image to take with the number of the words: this is the first fault, and where that image begins,
+-- or where the images end if none has the number
+pub record HasBadTaking (words : List (List ℕ)) (files : Files) (name : List ℕ) (kind : TakeFault) (offset : ℕ) : Type 0 where
+  pub image_name : List ℕ
+  pub number : ℕ
+  pub rom : List ℕ
+  pub images : List RomImage
+  pub source : TakesFrom words files name image_name number rom images
+  pub fails : taken images number ≡ Err kind
+  pub place : offset ≡ taking_offset images number
+
 -- the first file with a fault is that of this word, and its first fault has this number
 pub data HasBadInput (words : List (List ℕ)) (files : Files) (word fault : ℕ) : Type 0 where
-  bad_image : word ≡ 1 → HasBadImage words files fault → HasBadInput words files word fault
+  bad_image : HasBadImage words files word fault → HasBadInput words files word fault
   bad_notes : word ≡ 2 → HasBadNotes words files fault → HasBadInput words files word fault
   bad_source : word ≡ 1 → HasBadSource words files fault → HasBadInput words files word fault
+  bad_rom : (name : List ℕ) (kind : RomFault) (offset : ℕ) → word ≡ 2 → fault ≡ rom_fault_number kind
+      → HasBadRom words files name kind offset → HasBadInput words files word fault
+  bad_taking : (name : List ℕ) (kind : TakeFault) (offset : ℕ) → word ≡ 2 → fault ≡ take_fault_number kind
+      → HasBadTaking words files name kind offset → HasBadInput words files word fault
 
 -- the turn of the file of this word comes, by its name and its limit
 pub data HasTurn (words : List (List ℕ)) (files : Files) (word : ℕ) (name : List ℕ) (limit : ℕ) : Type 0 where
   code_turn : word ≡ 1 → limit ≡ plain_code_limit → command_of words ≡ Some (CheckCode name) → HasTurn words files word name limit
-  image_turn : word ≡ 1 → limit ≡ image_limit → NamesImage words name → HasTurn words files word name limit
+  image_turn : limit ≡ image_limit → NamesImage words word name → HasTurn words files word name limit
   notes_turn : word ≡ 2 → limit ≡ notes_limit → ComesToNotes words files name → HasTurn words files word name limit
   source_turn : (object_name : List ℕ) → word ≡ 1 → limit ≡ source_limit → command_of words ≡ Some (Assemble name object_name)
       → HasTurn words files word name limit
+  rom_turn : word ≡ 2 → limit ≡ rom_limit → NamesRom words name → HasTurn words files word name limit
 
 -- the file of this word, in its turn, isn't there
 pub record HasMissingFile (words : List (List ℕ)) (files : Files) (word : ℕ) : Type 0 where
@@ -182,10 +255,26 @@ pub record HasLargeFile (words : List (List ℕ)) (files : Files) (word : ℕ) :
   pub there : get files name ≡ Some bytes
   pub past : limit < length bytes
 
--- the answer to the words has no text: they are `asm SRC OBJ` and SRC stands for an object, or they are `list IMAGE` and the listing of
--- the image is empty
+-- the words are `rom take ROM NUMBER IMAGE`, and the number, which is this word, is more than 65,535
+pub record HasLargeNumber (words : List (List ℕ)) (word : ℕ) : Type 0 where
+  pub rom_name : List ℕ
+  pub digits : List ℕ
+  pub image_name : List ℕ
+  pub word_is : word ≡ 3
+  pub command : command_of words ≡ Some (TakeRom rom_name digits image_name)
+  pub past : (n : ℕ) → n ≤ 65535 → digits ≢ decimal n
+
+-- a number among the words is past its limit, or the file of this word, in its turn, is
+pub data IsTooLarge (words : List (List ℕ)) (files : Files) (word : ℕ) : Type 0 where
+  large_number : HasLargeNumber words word → IsTooLarge words files word
+  large_file : HasLargeFile words files word → IsTooLarge words files word
+
+-- the answer to the words has no text: a file is written, or they are `list IMAGE` and the listing of the image is empty
 pub data HasNoText (words : List (List ℕ)) (files : Files) : Type 0 where
   writes_object : (name : List ℕ) (object : Object) → Assembles words files name object → HasNoText words files
+  writes_rom : (vendor device : ℕ) (bytes : List ℕ) (image : Image) (name : List ℕ) → Wraps words files vendor device bytes image name
+      → HasNoText words files
+  writes_taken : (name bytes : List ℕ) → Takes words files name bytes → HasNoText words files
   empty_listing : (image : Image) → ListsImage words files image → listing_of image ≡ [] → HasNoText words files
 
 -- ---- what `neutral` means

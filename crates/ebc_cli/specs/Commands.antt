@@ -1,8 +1,9 @@
 -- Meaning: the commands that words spell: docs/COMMANDS.md, "Commands". Words are seen as their bytes.
-use Rattle.std.specs.Prelude.{ℕ, List, [], ◌∷◌, map, codes, bytes_eq, if◌then◌else◌, Option, Some, None, String, Vec, string_bytes}
+use Rattle.std.specs.Prelude.{ℕ, List, [], ◌∷◌, map, codes, bytes_eq, if◌then◌else◌, ◌&&◌, Option, Some, None, String, Vec, string_bytes}
 use Rattle.std.specs.declared.alloc.Global.{Global}
 use Rattle.ebc_cli.specs.declared.command.Command.{Command}
-use Rattle.ebc_cli.specs.declared.command.Command.TheVariants.{Assemble, CheckCode, CheckImage, ListImage}
+use Rattle.ebc_cli.specs.declared.command.Command.TheVariants.{Assemble, CheckCode, CheckImage, ListImage, ListRom, TakeRom, WrapRom}
+use Rattle.ebc_cli.specs.Numbers.{identifier_of, is_number}
 
 -- the words as their bytes
 abbrev pub word_bytes : Vec (String Global) Global → List (List ℕ)
@@ -19,7 +20,16 @@ of_two_files make [] two = None
 of_two_files make (b ∷ bytes) [] = None
 of_two_files make (b ∷ bytes) (c ∷ others) = Some (make (b ∷ bytes) (c ∷ others))
 
--- the command of the words, where they are one: its name, and then a word for each file
+-- `rom take ROM NUMBER IMAGE`: the number is kept as its digits, whatever its size
+abbrev pub taking_of : List ℕ → List ℕ → List ℕ → Option Command
+taking_of rom number image = if is_number number then of_two_files (λ rom image. TakeRom rom number image) rom image else None
+
+-- `rom wrap VENDOR DEVICE IMAGE ROM`
+abbrev pub wrapping_of : Option ℕ → Option ℕ → List ℕ → List ℕ → Option Command
+wrapping_of (Some vendor) (Some device) image rom = of_two_files (WrapRom vendor device) image rom
+wrapping_of vendor device image rom = None
+
+-- the command of the words, where they are one: its name, and then a word for each number and each file
 abbrev pub command_of : List (List ℕ) → Option Command
 command_of (word ∷ file ∷ []) =
     if bytes_eq word (codes "check") then of_file CheckCode file
@@ -28,10 +38,19 @@ command_of (word ∷ file ∷ []) =
 command_of (word ∷ one ∷ two ∷ []) =
     if bytes_eq word (codes "check") then of_two_files CheckImage one two
     else if bytes_eq word (codes "asm") then of_two_files Assemble one two
+    else if bytes_eq word (codes "rom") && bytes_eq one (codes "list") then of_file ListRom two
+    else None
+command_of (word ∷ act ∷ rom ∷ number ∷ image ∷ []) =
+    if bytes_eq word (codes "rom") && bytes_eq act (codes "take") then taking_of rom number image else None
+command_of (word ∷ act ∷ vendor ∷ device ∷ image ∷ rom ∷ []) =
+    if bytes_eq word (codes "rom") && bytes_eq act (codes "wrap")
+    then wrapping_of (identifier_of vendor) (identifier_of device) image rom
     else None
 command_of words = None
 
 -- the name under which a command writes a file, if it writes one
 abbrev pub output_of : Option Command → Option (List ℕ)
 output_of (Some (Assemble source object)) = Some object
+output_of (Some (WrapRom vendor device image rom)) = Some rom
+output_of (Some (TakeRom rom number image)) = Some image
 output_of command = None

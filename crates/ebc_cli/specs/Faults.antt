@@ -5,6 +5,10 @@ use Rattle.asm_text.specs.declared.fault.AsmFault.{AsmFault}
 use Rattle.asm_text.specs.declared.fault.AsmFault.TheVariants as asm
 use Rattle.note_types.specs.declared.fault.TomlFault.{TomlFault}
 use Rattle.note_types.specs.declared.fault.TomlFault.TheVariants as toml
+use Rattle.option_rom.specs.declared.fault.RomFault.{RomFault}
+use Rattle.option_rom.specs.declared.fault.RomFault.TheVariants as roms
+use Rattle.option_rom.specs.declared.fault.TakeFault.{TakeFault}
+use Rattle.option_rom.specs.declared.fault.TakeFault.TheVariants as takes
 use Rattle.pe_image.specs.declared.fault.ImageFault.{ImageFault}
 use Rattle.pe_image.specs.declared.fault.ImageFault.TheVariants as images
 
@@ -82,3 +86,29 @@ asm_fault_text asm.Label = codes "label"
 asm_fault_text asm.Twice = codes "twice"
 asm_fault_text asm.Far = codes "far"
 asm_fault_text asm.Section = codes "section"
+
+-- ---- option ROMs, and the images that are taken out of them
+
+abbrev pub rom_fault_number : RomFault → ℕ
+rom_fault_number roms.Short = 1
+rom_fault_number roms.Mark = 2
+rom_fault_number roms.Pcir = 3
+rom_fault_number roms.Length = 4
+rom_fault_number roms.Efi = 5
+
+abbrev pub rom_fault_text : RomFault → List ℕ
+rom_fault_text roms.Short = codes "short"
+rom_fault_text roms.Mark = codes "mark"
+rom_fault_text roms.Pcir = codes "pcir"
+rom_fault_text roms.Length = codes "length"
+rom_fault_text roms.Efi = codes "efi"
+
+abbrev pub take_fault_number : TakeFault → ℕ
+take_fault_number takes.Number = 6
+take_fault_number takes.NotEbc = 7
+take_fault_number takes.Compressed = 8
+
+abbrev pub take_fault_text : TakeFault → List ℕ
+take_fault_text takes.Number = codes "number"
+take_fault_text takes.NotEbc = codes "notebc"
+take_fault_text takes.Compressed = codes "compressed"

@@ -1,12 +1,21 @@
--- Meaning: the images, notes and sources that files hold, or the reply to the first fault: docs/COMMANDS.md, "The answer".
-use Rattle.std.specs.Prelude.{◌≡◌, ℕ, List, Result, Ok, Err}
+-- Meaning: the images, notes, sources and option ROMs that files hold, or the reply to the first fault: docs/COMMANDS.md,
+-- "The answer".
+use Rattle.std.specs.Prelude.{◌≡◌, ℕ, ◌-◌, List, length, Result, Ok, Err, slice_get}
+use Rattle.std.specs.Option.{option_map_or}
 use Rattle.std.specs.Fmt.{decimal}
 use Rattle.asm_text.specs.declared.fault.AsmFault.{AsmFault}
 use Rattle.ebc_asm.specs.Sources.{object_of}
+use Rattle.ebc_base.specs.Steps.{or_else}
 use Rattle.ebc_object.specs.declared.object.Object.{Object}
 use Rattle.ebc_outside.specs.Files.{Files}
 use Rattle.note_types.specs.declared.fault.TomlFault.{TomlFault}
 use Rattle.note_types.specs.declared.notes.Notes.{Notes}
+use Rattle.option_rom.specs.declared.fault.RomFault.{RomFault}
+use Rattle.option_rom.specs.declared.fault.TakeFault.{TakeFault}
+use Rattle.option_rom.specs.declared.image.RomImage.{RomImage}
+use Rattle.option_rom.specs.Images.{end_of}
+use Rattle.option_rom.specs.Roms.{rom_of}
+use Rattle.option_rom.specs.Takes.{bytes_taken}
 use Rattle.pe_image.specs.declared.fault.ImageFault.{ImageFault}
 use Rattle.pe_image.specs.declared.image.Image.{Image}
 use Rattle.pe_image.specs.Images.{IsImage, image_of}
@@ -18,8 +27,10 @@ use Rattle.ebc_cli.specs.declared.reply.End.TheVariants as ends
 use Rattle.ebc_cli.specs.declared.reply.Reply.{Reply}
 use Rattle.ebc_cli.specs.Faults.{asm_fault_number, asm_fault_text, image_fault_number, image_fault_text, toml_fault_number, toml_fault_text}
 use Rattle.ebc_cli.specs.Faults.{key_path}
+use Rattle.ebc_cli.specs.Faults.{rom_fault_number, rom_fault_text, take_fault_number, take_fault_text}
+use Rattle.ebc_cli.specs.Numbers.{rom_number}
 use Rattle.ebc_cli.specs.Outputs.{prints}
-use Rattle.ebc_cli.specs.Readings.{FileReading, ◌>>=◌, file, told}
+use Rattle.ebc_cli.specs.Readings.{FileReading, ◌>>=◌, done, file, large_reply, told}
 use Rattle.ebc_cli.specs.Texts.{bad_line}
 
 -- ---- limits
@@ -35,6 +46,10 @@ notes_limit = 1048576
 -- how many bytes a source may have: 1 MiB
 abbrev pub source_limit : ℕ
 source_limit = 1048576
+
+-- how many bytes an option ROM may have: 16 MiB
+abbrev pub rom_limit : ℕ
+rom_limit = 16777216
 
 -- ---- faults
 
@@ -53,6 +68,21 @@ bad_notes_reply word name fault = bad_reply word name (toml_fault_number fault) 
 -- a source that stands for no object; the fault is told by the number of its line
 abbrev pub bad_source_reply : ℕ → List ℕ → AsmFault × ℕ → Reply
 bad_source_reply word name (kind, line) = bad_reply word name (asm_fault_number kind) (asm_fault_text kind) (decimal line)
+
+-- a file that is no option ROM; the fault is told by its offset
+abbrev pub bad_rom_reply : ℕ → List ℕ → RomFault × ℕ → Reply
+bad_rom_reply word name (kind, offset) = bad_reply word name (rom_fault_number kind) (rom_fault_text kind) (decimal offset)
+
+-- where the image with this number begins, or the images end where none has it
+abbrev pub taking_offset : List RomImage → ℕ → ℕ
+taking_offset images number =
+    option_map_or (λ (r : RomImage). r.offset) (slice_get images number)
+    (option_map_or end_of (slice_get images (length images - 1)) 0)
+
+-- an option ROM out of which no image with this number is taken; the fault is told by that offset
+abbrev pub bad_taking_reply : ℕ → List ℕ → List RomImage → ℕ → TakeFault → Reply
+bad_taking_reply word name images number kind =
+    bad_reply word name (take_fault_number kind) (take_fault_text kind) (decimal (taking_offset images number))
 
 -- ---- what files are read as
 
@@ -74,11 +104,29 @@ notes_meaning word name text = or_reply (bad_notes_reply word name) (notes_of te
 abbrev pub source_meaning : ℕ → List ℕ → List ℕ → Result Object Reply
 source_meaning word name text = or_reply (bad_source_reply word name) (object_of text)
 
+abbrev pub rom_meaning : ℕ → List ℕ → List ℕ → Result (List RomImage) Reply
+rom_meaning word name bytes = or_reply (bad_rom_reply word name) (rom_of bytes)
+
+-- the bytes that are taken out of an option ROM
+abbrev pub taking_meaning : ℕ → List ℕ → List ℕ → List RomImage → ℕ → Result (List ℕ) Reply
+taking_meaning word name rom images number = or_reply (bad_taking_reply word name images number) (bytes_taken rom images number)
+
+-- the number that a word spells, or the reply to a larger one
+abbrev pub number_meaning : ℕ → List ℕ → Result ℕ Reply
+number_meaning word digits = or_else (large_reply word digits) (rom_number digits)
+
 -- what the file that a word names is read as, by its limit and its meaning
 unfoldable pub input : {A : Type 0} → ℕ → (ℕ → List ℕ → List ℕ → Result A Reply) → ℕ → List ℕ → Files → FileReading A
 input limit meaning word name files = do
   bytes ← file word name limit files
   told (meaning word name bytes)
+
+-- what it is read as, and its bytes
+unfoldable pub input_with_bytes : {A : Type 0} → ℕ → (ℕ → List ℕ → List ℕ → Result A Reply) → ℕ → List ℕ → Files → FileReading (A × List ℕ)
+input_with_bytes limit meaning word name files = do
+  bytes ← file word name limit files
+  value ← told (meaning word name bytes)
+  done (value, bytes)
 
 -- what a function made of bytes is their meaning, unless memory ran out
 abbrev pub Means : {A : Type 0} → Result A End → Result A Reply → Type 0

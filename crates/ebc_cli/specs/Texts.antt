@@ -41,13 +41,15 @@ abbrev pub refused_line : ℕ → RuleName → List ℕ
 refused_line place rule = codes "refused " ++ (place_text place ++ (codes " " ++ (rule_text rule ++ codes "\n")))
 
 abbrev pub usage_line : List ℕ
-usage_line = codes "usage: asm SRC OBJ | check CODE | check IMAGE NOTES | list IMAGE\n"
+usage_line =
+    codes "usage: asm SRC OBJ | check CODE | check IMAGE NOTES | list IMAGE"
+    ++ codes " | rom wrap VENDOR DEVICE IMAGE ROM | rom list ROM | rom take ROM NUMBER IMAGE\n"
 
 -- a file that the folder doesn't hold
 abbrev pub missing_line : List ℕ → List ℕ
 missing_line name = codes "missing " ++ (name ++ codes "\n")
 
--- a file past its limit
+-- a file, or a number, past its limit
 abbrev pub large_line : List ℕ → List ℕ
 large_line name = codes "large " ++ (name ++ codes "\n")
 

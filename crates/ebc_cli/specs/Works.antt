@@ -7,6 +7,7 @@ use Rattle.ebc_outside.specs.Files.{Files}
 use Rattle.note_types.specs.declared.notes.Notes.{Notes}
 use Rattle.note_types.specs.declared.rule.RuleName.{RuleName}
 use Rattle.note_types.specs.Records.{IsNotes}
+use Rattle.option_rom.specs.Files.{rom_bytes}
 use Rattle.pe_image.specs.declared.image.Image.{Image}
 use Rattle.ebc_disasm.specs.Listings.{listing_of}
 use Rattle.twin_run.specs.Headline.{SameAtBothWidths}
@@ -22,9 +23,12 @@ use Rattle.ebc_cli.specs.declared.reply.Reply.{Reply}
 use Rattle.ebc_cli.specs.declared.work.Work.{Work}
 use Rattle.ebc_cli.specs.declared.work.Work.TheVariants as works
 use Rattle.ebc_cli.specs.Commands.{command_of}
-use Rattle.ebc_cli.specs.Inputs.{IsReadImage, image_limit, image_meaning, input, notes_limit, notes_meaning, source_limit, source_meaning}
+use Rattle.ebc_cli.specs.Inputs.{IsReadImage, image_limit, image_meaning, input, input_with_bytes, notes_limit, notes_meaning, source_limit}
+use Rattle.ebc_cli.specs.Inputs.{source_meaning}
+use Rattle.ebc_cli.specs.Inputs.{number_meaning, rom_limit, rom_meaning, taking_meaning}
 use Rattle.ebc_cli.specs.Outputs.{prints, writes}
 use Rattle.ebc_cli.specs.Readings.{FileReading, done, ◌>>=◌, file, told}
+use Rattle.ebc_cli.specs.RomTexts.{rom_listing}
 use Rattle.ebc_cli.specs.Texts.{neutral_line, refused_line, usage_line}
 
 -- how many bytes plain code may have: 256 KiB
@@ -61,12 +65,40 @@ assembly source_name object_name files = do
   object ← input source_limit source_meaning 1 source_name files
   done (works.WriteObject object_name object)
 
+-- `rom wrap VENDOR DEVICE IMAGE ROM`: the subsystem is that of the image
+unfoldable pub rom_wrapping : ℕ → ℕ → List ℕ → List ℕ → Files → FileReading Work
+rom_wrapping vendor device image_name rom_name files = do
+  read ← input_with_bytes image_limit image_meaning 4 image_name files
+  done (works.WriteRom rom_name vendor device read.0.subsystem read.1)
+
+-- `rom list ROM`
+unfoldable pub rom_images : List ℕ → Files → FileReading Work
+rom_images name files = do
+  images ← input rom_limit rom_meaning 2 name files
+  done (works.ListRom images)
+
+-- `rom take ROM NUMBER IMAGE`, once the number is known
+unfoldable pub rom_taking_of : List ℕ → ℕ → List ℕ → Files → FileReading Work
+rom_taking_of rom_name number image_name files = do
+  read ← input_with_bytes rom_limit rom_meaning 2 rom_name files
+  bytes ← told (taking_meaning 2 rom_name read.1 read.0 number)
+  done (works.WriteTaken image_name bytes)
+
+-- `rom take ROM NUMBER IMAGE`: the number comes before the file
+unfoldable pub rom_taking : List ℕ → List ℕ → List ℕ → Files → FileReading Work
+rom_taking rom_name digits image_name files = do
+  number ← told (number_meaning 3 digits)
+  rom_taking_of rom_name number image_name files
+
 abbrev pub work_for : Option Command → Files → FileReading Work
 work_for None files = told (Err usage_reply)
 work_for (Some (commands.CheckCode code)) files = code_check code files
 work_for (Some (commands.CheckImage image notes)) files = image_check image notes files
 work_for (Some (commands.ListImage image)) files = image_listing image files
 work_for (Some (commands.Assemble source object)) files = assembly source object files
+work_for (Some (commands.WrapRom vendor device image rom)) files = rom_wrapping vendor device image rom files
+work_for (Some (commands.ListRom rom)) files = rom_images rom files
+work_for (Some (commands.TakeRom rom number image)) files = rom_taking rom number image files
 
 -- the files that the words ask for, and the work, or the reply at which the reading stops
 unfoldable pub work_of : List (List ℕ) → Files → FileReading Work
@@ -74,17 +106,22 @@ work_of words files = work_for (command_of words) files
 
 -- ---- what is replied
 
--- code that was read is within its limit, what was read as an image is one, what was read as notes are notes, and what a source
--- stands for is an object
+-- code that was read is within its limit, what was read as an image is one, what was read as notes are notes, what a source
+-- stands for is an object, and the file that goes into an option ROM is within the limit of images
 abbrev pub CanBeDone : Work → Type 0
 CanBeDone (works.CheckCode code) = length code ≤ plain_code_limit
 CanBeDone (works.CheckImage image notes) = IsReadImage image × IsNotes notes
 CanBeDone (works.ListImage image) = IsReadImage image
 CanBeDone (works.WriteObject name object) = IsObject object
+CanBeDone (works.WriteRom name vendor device subsystem image) = length image ≤ image_limit
+CanBeDone (works.ListRom images) = Unit {0}
+CanBeDone (works.WriteTaken name bytes) = Unit {0}
 
 -- the name under which a file is to be written, if one is
 abbrev pub output_name : Work → Option (List ℕ)
 output_name (works.WriteObject name object) = Some name
+output_name (works.WriteRom name vendor device subsystem image) = Some name
+output_name (works.WriteTaken name bytes) = Some name
 output_name work = None
 
 abbrev pub verdict_reply : Verdict → Reply
@@ -95,9 +132,9 @@ verdict_reply (verdicts.Refused place rule) = prints (outcomes.Refused place rul
 abbrev pub listing_reply : List ℕ → Reply
 listing_reply text = prints outcomes.Done text
 
--- an object's file is written, and nothing is printed
-abbrev pub object_reply : List ℕ → List ℕ → Reply
-object_reply name bytes = writes outcomes.Done name bytes
+-- a file is written, and nothing is printed
+abbrev pub file_reply : List ℕ → List ℕ → Reply
+file_reply name bytes = writes outcomes.Done name bytes
 
 -- the reply tells the verdict on an image under notes: neutral exactly where the image is typed, and then its runs are the same at both
 -- widths; and refused at a place by a rule exactly where that is the first place at which a rule fails, and the first rule that fails there
@@ -112,7 +149,10 @@ abbrev pub IsReplyTo : Work → Reply → Type 0
 IsReplyTo (works.CheckCode code) reply = reply ≡ verdict_reply (plain_verdict code)
 IsReplyTo (works.CheckImage image notes) reply = TellsVerdict image notes reply
 IsReplyTo (works.ListImage image) reply = reply ≡ listing_reply (listing_of image)
-IsReplyTo (works.WriteObject name object) reply = reply ≡ object_reply name (object_bytes object)
+IsReplyTo (works.WriteObject name object) reply = reply ≡ file_reply name (object_bytes object)
+IsReplyTo (works.WriteRom name vendor device subsystem image) reply = reply ≡ file_reply name (rom_bytes vendor device subsystem image)
+IsReplyTo (works.ListRom images) reply = reply ≡ listing_reply (rom_listing images)
+IsReplyTo (works.WriteTaken name bytes) reply = reply ≡ file_reply name bytes
 
 -- a reading that went through is replied to as its work, and else by the reply at which it stopped
 abbrev pub IsReplyOf : Result Work Reply → Reply → Type 0

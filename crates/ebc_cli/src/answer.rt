@@ -8,18 +8,24 @@ ghost use Rattle.ebc_object.specs.Files.{object_bytes};
 ghost use Rattle.ebc_object.specs.declared.object.Object.{Object};
 ghost use Rattle.note_types.specs.declared.notes.Notes.{Notes};
 ghost use Rattle.note_types.specs.declared.rule.RuleName.{RuleName};
+ghost use Rattle.option_rom.specs.declared.fault.RomFault.{RomFault};
+ghost use Rattle.option_rom.specs.declared.fault.TakeFault.{TakeFault};
+ghost use Rattle.option_rom.specs.declared.image.RomImage.{RomImage};
+ghost use Rattle.option_rom.specs.Files.{rom_bytes};
 ghost use Rattle.pe_image.specs.declared.image.Image.{Image};
 ghost use Rattle.ebc_disasm.specs.Listings.{listing_of};
 ghost use Rattle.plain_check.specs.PlainRules as plain;
 ghost use Rattle.plain_check.specs.PlainRuns.{RunsAlike};
 ghost use Rattle.width_checker.specs.Typed.{Typed};
 ghost use Rattle.width_checker.specs.Verdicts.{IsRefused};
-ghost use Rattle.ebc_cli.specs.Answers.{Answers, AnswersWords, Assembles, Decides, LeavesPart, ChecksCode, ChecksImage, ListsImage, HasBadInput, HasBadLine, HasLargeFile, HasMissingFile, HasNoText, SameForScripts};
+ghost use Rattle.ebc_cli.specs.Answers.{Answers, AnswersWords, Assembles, Decides, LeavesPart, ChecksCode, ChecksImage, ListsImage, HasBadInput, HasBadLine, HasMissingFile, HasNoText, SameForScripts};
+ghost use Rattle.ebc_cli.specs.Answers.{Wraps, ListsRom, Takes, HasBadRom, HasBadTaking, IsTooLarge};
 ghost use Rattle.ebc_cli.specs.Commands.{command_of, output_of, word_bytes};
-ghost use Rattle.ebc_cli.specs.Faults.{asm_fault_text};
+ghost use Rattle.ebc_cli.specs.Faults.{asm_fault_text, rom_fault_text, take_fault_text};
 ghost use Rattle.ebc_cli.specs.Outcomes.{IsAnswer};
 ghost use Rattle.ebc_cli.specs.Outputs.{SameBut, printed};
 ghost use Rattle.ebc_cli.specs.Readings.{AsksPart, IfStop};
+ghost use Rattle.ebc_cli.specs.RomTexts.{rom_listing};
 ghost use Rattle.ebc_cli.specs.Texts.{bad_line, neutral_line, refused_line};
 ghost use Rattle.ebc_cli.specs.Works.{work_of, plain_code_limit};
 
@@ -89,13 +95,41 @@ pub fn ebc<F: Folder, O: Sink>(
         HasBadLine (word_bytes words.now) files name kind line →
         IsAnswer result → O.written out.new ≡ printed (bad_line name (asm_fault_text kind) (decimal line)) (O.written out.old)) }
 
-    // A file is missing exactly where it is the first, in its turn, that isn't there, and too large exactly where it is the first
-    // past its limit; and it is bad input exactly where it is the first that stands for no image, no notes or no object, by its
-    // first fault.
+    // `rom wrap VENDOR DEVICE IMAGE ROM` puts each image within the limit into an option ROM, and ROM then holds exactly its file.
+    ensures wraps_always { IfSome (F.contents folder.old) (λ files. (vendor device : ℕ) (bytes : List ℕ) (image : Image) (name : List ℕ) →
+        Wraps (word_bytes words.now) files vendor device bytes image name → IsAnswer result → result ≡ Outcome.Done) }
+    ensures wraps_exactly { IfSome (F.contents folder.old) (λ files. (vendor device : ℕ) (bytes : List ℕ) (image : Image) (name : List ℕ) →
+        Wraps (word_bytes words.now) files vendor device bytes image name → IsAnswer result →
+        F.contents folder.new ≡ Some (insert files name (rom_bytes vendor device image.subsystem bytes))) }
+
+    // `rom list ROM` lists each option ROM within the limit, and what is printed is exactly its listing.
+    ensures lists_rom_always { IfSome (F.contents folder.old) (λ files. (images : List RomImage) →
+        ListsRom (word_bytes words.now) files images → IsAnswer result → result ≡ Outcome.Done) }
+    ensures lists_rom_exactly { IfSome (F.contents folder.old) (λ files. (images : List RomImage) →
+        ListsRom (word_bytes words.now) files images →
+        IsAnswer result → O.written out.new ≡ printed (rom_listing images) (O.written out.old)) }
+    ensures bad_rom_line { IfSome (F.contents folder.old) (λ files. (name : List ℕ) (kind : RomFault) (offset : ℕ) →
+        HasBadRom (word_bytes words.now) files name kind offset →
+        IsAnswer result → O.written out.new ≡ printed (bad_line name (rom_fault_text kind) (decimal offset)) (O.written out.old)) }
+
+    // `rom take ROM NUMBER IMAGE` takes each image of EBC that isn't compressed out of an option ROM, and IMAGE then holds exactly
+    // what it carries.
+    ensures takes_always { IfSome (F.contents folder.old) (λ files. (name bytes : List ℕ) →
+        Takes (word_bytes words.now) files name bytes → IsAnswer result → result ≡ Outcome.Done) }
+    ensures takes_exactly { IfSome (F.contents folder.old) (λ files. (name bytes : List ℕ) →
+        Takes (word_bytes words.now) files name bytes →
+        IsAnswer result → F.contents folder.new ≡ Some (insert files name bytes)) }
+    ensures bad_taking_line { IfSome (F.contents folder.old) (λ files. (name : List ℕ) (kind : TakeFault) (offset : ℕ) →
+        HasBadTaking (word_bytes words.now) files name kind offset →
+        IsAnswer result → O.written out.new ≡ printed (bad_line name (take_fault_text kind) (decimal offset)) (O.written out.old)) }
+
+    // A file is missing exactly where it is the first, in its turn, that isn't there. A number is too large exactly where it is past
+    // its limit, and a file where it is the first past its own. A file is bad input exactly where it is the first that stands for no
+    // image, no notes, no object or no option ROM, or has no image to take, by its first fault.
     ensures missing_exactly { IfSome (F.contents folder.old) (λ files. (word : ℕ) →
         IsAnswer result → result ≡ Outcome.Missing word ↔ HasMissingFile (word_bytes words.now) files word) }
     ensures too_large_exactly { IfSome (F.contents folder.old) (λ files. (word : ℕ) →
-        IsAnswer result → result ≡ Outcome.TooLarge word ↔ HasLargeFile (word_bytes words.now) files word) }
+        IsAnswer result → result ≡ Outcome.TooLarge word ↔ IsTooLarge (word_bytes words.now) files word) }
     ensures bad_input_exactly { IfSome (F.contents folder.old) (λ files. (word fault : ℕ) →
         IsAnswer result → result ≡ Outcome.BadInput word fault ↔ HasBadInput (word_bytes words.now) files word fault) }
 

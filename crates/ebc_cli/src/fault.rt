@@ -1,9 +1,11 @@
 //! The faults of the files that a command reads: their numbers, and their names as they are printed.
 ghost use Rattle.std.specs.Prelude.{◌≡◌};
 ghost use Rattle.ebc_cli.specs.Faults.{asm_fault_number, asm_fault_text, image_fault_number, image_fault_text, toml_fault_number, toml_fault_text, key_path};
+ghost use Rattle.ebc_cli.specs.Faults.{rom_fault_number, rom_fault_text, take_fault_number, take_fault_text};
 
 use ebc_asm::AsmFault;
 use note_types::TomlFault;
+use option_rom::{RomFault, TakeFault};
 use pe_image::ImageFault;
 
 /// The number of a fault of an image, from 1 to 10.
@@ -113,5 +115,53 @@ pub fn asm_fault_text(fault: AsmFault) -> &'static str
         AsmFault::Twice => "twice",
         AsmFault::Far => "far",
         AsmFault::Section => "section",
+    }
+}
+
+/// The number of a fault of an option ROM, from 1 to 5.
+pub fn rom_fault_number(fault: RomFault) -> u8
+    ensures { result ≡ rom_fault_number fault }
+{
+    match fault {
+        RomFault::Short => 1,
+        RomFault::Mark => 2,
+        RomFault::Pcir => 3,
+        RomFault::Length => 4,
+        RomFault::Efi => 5,
+    }
+}
+
+/// The name of a fault of an option ROM.
+pub fn rom_fault_text(fault: RomFault) -> &'static str
+    ensures { result.now ≡ rom_fault_text fault }
+{
+    match fault {
+        RomFault::Short => "short",
+        RomFault::Mark => "mark",
+        RomFault::Pcir => "pcir",
+        RomFault::Length => "length",
+        RomFault::Efi => "efi",
+    }
+}
+
+/// The number of a fault of what is to be taken out of an option ROM, from 6 to 8.
+pub fn take_fault_number(fault: TakeFault) -> u8
+    ensures { result ≡ take_fault_number fault }
+{
+    match fault {
+        TakeFault::Number => 6,
+        TakeFault::NotEbc => 7,
+        TakeFault::Compressed => 8,
+    }
+}
+
+/// The name of a fault of what is to be taken out of an option ROM.
+pub fn take_fault_text(fault: TakeFault) -> &'static str
+    ensures { result.now ≡ take_fault_text fault }
+{
+    match fault {
+        TakeFault::Number => "number",
+        TakeFault::NotEbc => "notebc",
+        TakeFault::Compressed => "compressed",
     }
 }

@@ -1,9 +1,10 @@
-//! Reading the images, notes and sources that files hold.
-ghost use Rattle.std.specs.Prelude.{◌≡◌, ◌≤◌, ℕ, List, None, Result, IfSome, IfOk, IsErrOf, length};
+//! Reading the images, notes, sources and option ROMs that files hold.
+ghost use Rattle.std.specs.Prelude.{◌≡◌, ◌≤◌, ℕ, List, None, Result, All, IfSome, IfOk, IsErrOf, Ok, length};
 ghost use Rattle.ebc_object.specs.Objects.{IsObject};
 ghost use Rattle.ebc_outside.specs.Counts.{Rose};
 ghost use Rattle.note_types.specs.Records.{IsNotes};
-ghost use Rattle.ebc_cli.specs.Inputs.{IsReadImage, Means, image_limit, image_meaning, input, notes_limit, notes_meaning, source_limit, source_meaning};
+ghost use Rattle.option_rom.specs.Takes.{IsTakeable};
+ghost use Rattle.ebc_cli.specs.Inputs.{IsReadImage, Means, image_limit, image_meaning, input, input_with_bytes, notes_limit, notes_meaning, rom_limit, rom_meaning, source_limit, source_meaning};
 ghost use Rattle.ebc_cli.specs.Outcomes.{IsBadInput};
 ghost use Rattle.ebc_cli.specs.Outputs.{written_name};
 ghost use Rattle.ebc_cli.specs.Readings.{Follows, IfStop, CommandAnswer};
@@ -13,9 +14,11 @@ use crate::reading::file;
 use crate::reply::End;
 use crate::text;
 use ebc_asm::{AsmEnd, assemble};
+use ebc_base::Sequence;
 use ebc_object::Object;
 use ebc_outside::Folder;
 use note_types::{Notes, NotesEnd};
+use option_rom::{RomEnd, RomImages, read_rom};
 use pe_image::{Image, ImageEnd, read_image};
 use std::alloc::Global;
 use type_notes::read_notes;
@@ -67,6 +70,35 @@ pub fn read_as<T: Input, F: Folder>(
     let bytes = file(alloc, folder, word, name, T::LIMIT)?;
     match T::of(alloc, word, name, bytes.as_slice()) {
         Ok(value) => Ok(value),
+        Err(end) => Err(end),
+    }
+}
+
+/// What is read in the file that a word names, and its bytes.
+#[tactic(auto, unfolding(crate::specs::Inputs::input_with_bytes))]
+pub fn read_with_bytes<T: Input, F: Folder>(
+    alloc: Global,
+    folder: &mut F,
+    word: u8,
+    name: &str,
+) -> Result<(T, Sequence<u8>), End>
+    ensures follows { IfSome (F.contents folder.old) (λ files.
+        Follows (F.asked folder.old) (F.asked folder.new) result (input_with_bytes T.LIMIT T.meaning word name.now files)) }
+    ensures stop { IfStop result (CommandAnswer (F.contents folder.old)
+        (F.read_faults folder.old) (F.read_faults folder.new)) }
+    ensures fault { IsErrOf result End.ReadFault →
+        Rose (F.read_faults folder.old) (F.read_faults folder.new) }
+    ensures uncounted { IfSome (F.contents folder.old) (λ _. ¬ IsErrOf result End.ReadFault →
+        F.read_faults folder.new ≡ F.read_faults folder.old) }
+    ensures contents { F.contents folder.new ≡ F.contents folder.old }
+    ensures write_faults { F.write_faults folder.new ≡ F.write_faults folder.old }
+    ensures meaning { IfOk result (λ read. T.meaning word name.now read.1 ≡ Ok read.0) }
+    ensures valid { IfOk result (λ read. T.IsValid read.0) }
+    ensures within { IfOk result (λ read. length read.1 ≤ T.LIMIT) }
+{
+    let bytes = file(alloc, folder, word, name, T::LIMIT)?;
+    match T::of(alloc, word, name, bytes.as_slice()) {
+        Ok(value) => Ok((value, bytes)),
         Err(end) => Err(end),
     }
 }
@@ -128,6 +160,26 @@ impl Input for Object {
                 alloc, word, name, kind, line,
             )?)),
             Err(AsmEnd::NoMemory) => Err(End::NoMemory),
+        }
+    }
+}
+
+impl Input for RomImages {
+    ghost meaning = { rom_meaning };
+
+    ghost IsValid = { All IsTakeable };
+
+    ghost LIMIT = { rom_limit };
+
+    const LIMIT: u64 = 16777216;
+
+    fn of(alloc: Global, word: u8, name: &str, bytes: &[u8]) -> Result<RomImages, End> {
+        match read_rom(alloc, bytes) {
+            Ok(images) => Ok(images),
+            Err(RomEnd::Fault { kind, offset }) => Err(End::Stop(text::bad_rom(
+                alloc, word, name, kind, offset,
+            )?)),
+            Err(RomEnd::NoMemory) => Err(End::NoMemory),
         }
     }
 }

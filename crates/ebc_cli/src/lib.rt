@@ -2,7 +2,8 @@
 //!
 //! The one public call is [`ebc`]. docs/COMMANDS.md lists the commands, the lines that they print and the exit
 //! status; docs/RULES.md has the rules of the check of images, docs/PLAIN.md those of the plain check,
-//! docs/ASSEMBLY.md the language of sources and what is listed of an image, and docs/OBJECTS.md the file of an object.
+//! docs/ASSEMBLY.md the language of sources and what is listed of an image, docs/OBJECTS.md the file of an object, and docs/ROMS.md
+//! option ROMs.
 #![tactic(auto)]
 
 mod answer;
@@ -10,9 +11,11 @@ mod command;
 mod fault;
 mod finishing;
 mod input;
+mod number;
 mod outcome;
 mod reading;
 mod reply;
+mod rom_text;
 mod text;
 mod work;
 

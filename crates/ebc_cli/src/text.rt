@@ -1,20 +1,23 @@
 //! The lines that are printed.
 ghost use Rattle.std.specs.Prelude.{◌≡◌, Some, IfOk, string_bytes};
+ghost use Rattle.option_rom.specs.Images.{end_of};
 ghost use Rattle.ebc_cli.specs.Texts.{place_text, rule_text};
 ghost use Rattle.ebc_cli.specs.Readings.{missing_reply, large_reply};
-ghost use Rattle.ebc_cli.specs.Inputs.{bad_reply, bad_image_reply, bad_notes_reply, bad_source_reply};
+ghost use Rattle.ebc_cli.specs.Inputs.{bad_reply, bad_image_reply, bad_notes_reply, bad_source_reply, bad_rom_reply, bad_taking_reply, taking_offset};
 ghost use Rattle.ebc_cli.specs.Outputs.{prints};
-ghost use Rattle.ebc_cli.specs.Works.{verdict_reply, listing_reply, object_reply, usage_reply};
+ghost use Rattle.ebc_cli.specs.Works.{verdict_reply, listing_reply, file_reply, usage_reply};
 
 use crate::fault::{
     asm_fault_number, asm_fault_text, image_fault_number, image_fault_text, key_path,
-    toml_fault_number, toml_fault_text,
+    rom_fault_number, rom_fault_text, take_fault_number, take_fault_text, toml_fault_number,
+    toml_fault_text,
 };
 use crate::outcome::Outcome;
 use crate::reply::{Output, Reply};
 use ebc_asm::AsmFault;
 use ebc_base::{Name, Sequence};
 use note_types::TomlFault;
+use option_rom::{RomFault, RomImage, TakeFault};
 use pe_image::ImageFault;
 use std::alloc::{AllocError, Global};
 use std::fmt;
@@ -101,9 +104,9 @@ pub fn listing(text: Vec<u8>) -> Reply
     printed(Outcome::Done, text)
 }
 
-/// The answer of an assembly: the object's file is written, and nothing is printed.
-pub fn object(name: Name, bytes: Vec<u8>) -> Reply
-    ensures { result ≡ object_reply name bytes.items }
+/// The answer that writes a file under a name, and prints nothing.
+pub fn file(name: Name, bytes: Vec<u8>) -> Reply
+    ensures { result ≡ file_reply name bytes.items }
 {
     Reply {
         outcome: Outcome::Done,
@@ -118,7 +121,8 @@ pub fn object(name: Name, bytes: Vec<u8>) -> Reply
 pub fn usage(alloc: Global) -> Result<Reply, AllocError>
     ensures { IfOk result (λ r. r ≡ usage_reply) }
 {
-    let text = b"usage: asm SRC OBJ | check CODE | check IMAGE NOTES | list IMAGE\n";
+    let text =
+        b"usage: asm SRC OBJ | check CODE | check IMAGE NOTES | list IMAGE | rom wrap VENDOR DEVICE IMAGE ROM | rom list ROM | rom take ROM NUMBER IMAGE\n";
     Ok(printed(Outcome::BadWords, text.to_vec(alloc)?))
 }
 
@@ -130,7 +134,7 @@ pub fn missing(alloc: Global, word: u8, name: &str) -> Result<Reply, AllocError>
     Ok(printed(Outcome::Missing { word }, text))
 }
 
-/// The answer where the file of the name is past its limit.
+/// The answer where the file of the name, or the number that is this word, is past its limit.
 pub fn large(alloc: Global, word: u8, name: &str) -> Result<Reply, AllocError>
     ensures { IfOk result (λ r. r ≡ large_reply word name.now) }
 {
@@ -219,6 +223,72 @@ pub fn bad_source(
         name,
         number,
         asm_fault_text(kind),
+        detail.as_str(),
+    )
+}
+
+/// The answer where the file of the name is no option ROM, by a fault at an offset.
+pub fn bad_rom(
+    alloc: Global,
+    word: u8,
+    name: &str,
+    kind: RomFault,
+    offset: u32,
+) -> Result<Reply, AllocError>
+    ensures { IfOk result (λ r. r ≡ bad_rom_reply word name.now (kind, offset)) }
+{
+    let detail = format!(in alloc; "{offset}")?;
+    let number = rom_fault_number(kind);
+    bad(
+        alloc,
+        word,
+        name,
+        number,
+        rom_fault_text(kind),
+        detail.as_str(),
+    )
+}
+
+// Where an image of an option ROM ends.
+fn end_of(image: &RomImage) -> u64
+    ensures { result ≡ end_of image.now }
+{
+    u64::from(image.offset) + 512 * u64::from(image.blocks)
+}
+
+// Where the image with a number begins, or the images end where none has it.
+fn taking_offset(images: &[RomImage], number: u32) -> u64
+    ensures { result ≡ taking_offset images.now number }
+{
+    if let Some(image) = images.get(number as usize) {
+        return u64::from(image.offset);
+    }
+    match images.last() {
+        Some(image) => end_of(image),
+        None => 0,
+    }
+}
+
+/// The answer where no image with a number is taken out of the option ROM of the name, which has these images.
+pub fn bad_taking(
+    alloc: Global,
+    word: u8,
+    name: &str,
+    images: &[RomImage],
+    number: u32,
+    kind: TakeFault,
+) -> Result<Reply, AllocError>
+    ensures { IfOk result (λ r. r ≡ bad_taking_reply word name.now images.now number kind) }
+{
+    let offset = taking_offset(images, number);
+    let detail = format!(in alloc; "{offset}")?;
+    let fault = take_fault_number(kind);
+    bad(
+        alloc,
+        word,
+        name,
+        fault,
+        take_fault_text(kind),
         detail.as_str(),
     )
 }

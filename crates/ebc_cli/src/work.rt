@@ -1,24 +1,30 @@
 //! The work that words ask for, and the reply to it.
-ghost use Rattle.std.specs.Prelude.{◌≡◌, ◌≢◌, None, IfSome, IfOk, IsErrOf};
+ghost use Rattle.std.specs.Prelude.{◌≡◌, ◌≢◌, All, None, Ok, Some, IfSome, IfOk, IsErrOf};
 ghost use Rattle.ebc_outside.specs.Counts.{Rose};
 ghost use Rattle.note_types.specs.Records.{IsNotes};
+ghost use Rattle.option_rom.specs.Roms.{rom_of};
+ghost use Rattle.option_rom.specs.Takes.{IsTakeable};
 ghost use Rattle.ebc_cli.specs.Answers.{AnswersWords};
 ghost use Rattle.ebc_cli.specs.Commands.{command_of, output_of, word_bytes};
 ghost use Rattle.ebc_cli.specs.Outcomes.{IsWorkAnswer};
 ghost use Rattle.ebc_cli.specs.Readings.{Follows, IfStop, CommandAnswer};
 ghost use Rattle.ebc_cli.specs.Outputs.{written_name};
-ghost use Rattle.ebc_cli.specs.Works.{CanBeDone, IsReplyTo, image_check, output_name, work_of};
+ghost use Rattle.ebc_cli.specs.Inputs.{Means, number_meaning, taking_meaning};
+ghost use Rattle.ebc_cli.specs.Works.{CanBeDone, IsReplyTo, image_check, output_name, rom_taking, rom_taking_of, rom_wrapping, work_of};
 
 use crate::command::{Command, command_of};
-use crate::input::read_as;
+use crate::input::{read_as, read_with_bytes};
+use crate::number::rom_number;
 use crate::reading::file;
 use crate::reply::{End, Reply};
+use crate::rom_text::rom_listing;
 use crate::text;
 use ebc_base::{Name, NoMemory, Sequence};
 use ebc_disasm::list;
 use ebc_object::{Object, write_object};
 use ebc_outside::Folder;
 use note_types::Notes;
+use option_rom::{RomImage, RomImages, take, wrap};
 use pe_image::Image;
 use std::alloc::Global;
 use twin_run::check;
@@ -31,17 +37,44 @@ const PLAIN_CODE_LIMIT: u64 = 262144;
 #[derive(Drop)]
 pub enum Work {
     /// The plain check of raw code.
-    CheckCode { code: Sequence<u8> },
+    CheckCode {
+        code: Sequence<u8>,
+    },
     /// The check of an image under notes.
-    CheckImage { image: Image, notes: Notes },
+    CheckImage {
+        image: Image,
+        notes: Notes,
+    },
     /// The listing of an image.
-    ListImage { image: Image },
+    ListImage {
+        image: Image,
+    },
     /// The writing of an object's file under a name.
-    WriteObject { name: Name, object: Object },
+    WriteObject {
+        name: Name,
+        object: Object,
+    },
+    /// The writing of an option ROM under a name, for the device of a vendor, with the file of an image of a subsystem in it.
+    WriteRom {
+        name: Name,
+        vendor: u16,
+        device: u16,
+        subsystem: u16,
+        image: Sequence<u8>,
+    },
+    /// The listing of an option ROM.
+    ListRom {
+        images: RomImages,
+    },
+    /// The writing of what was taken out of an option ROM, under a name.
+    WriteTaken {
+        name: Name,
+        bytes: Sequence<u8>,
+    },
 }
 
 /// Reads the files that the words name, and says what the words ask for.
-#[tactic(auto, unfolding(crate::specs::Works::work_of, crate::specs::Works::code_check, crate::specs::Works::image_listing, crate::specs::Works::assembly))]
+#[tactic(auto, unfolding(crate::specs::Works::work_of, crate::specs::Works::code_check, crate::specs::Works::image_listing, crate::specs::Works::assembly, crate::specs::Works::rom_images))]
 pub fn read_work<F: Folder>(alloc: Global, words: &Vec<String>, folder: &mut F) -> Result<Work, End>
     ensures follows { IfSome (F.contents folder.old) (λ files.
         Follows (F.asked folder.old) (F.asked folder.new) result (work_of (word_bytes words.now) files)) }
@@ -79,6 +112,21 @@ pub fn read_work<F: Folder>(alloc: Global, words: &Vec<String>, folder: &mut F) 
             let object = read_as(alloc, folder, 1, source.as_str())?;
             Ok(Work::WriteObject { name, object })
         }
+        Some(
+            Command::WrapRom {
+                vendor,
+                device,
+                image,
+                rom,
+            },
+        ) => read_wrapping(alloc, vendor, device, image.as_str(), rom, folder),
+        Some(Command::ListRom { rom }) => {
+            let images = read_as(alloc, folder, 2, rom.as_str())?;
+            Ok(Work::ListRom { images })
+        }
+        Some(Command::TakeRom { rom, number, image }) => {
+            read_taking(alloc, rom.as_str(), number.as_str(), image, folder)
+        }
     }
 }
 
@@ -110,6 +158,121 @@ fn read_image_check<F: Folder>(
     }
 }
 
+// `rom wrap VENDOR DEVICE IMAGE ROM`
+#[tactic(auto, unfolding(crate::specs::Works::rom_wrapping))]
+fn read_wrapping<F: Folder>(
+    alloc: Global,
+    vendor: u16,
+    device: u16,
+    image: &str,
+    rom: Name,
+    folder: &mut F,
+) -> Result<Work, End>
+    ensures follows { IfSome (F.contents folder.old) (λ files.
+        Follows (F.asked folder.old) (F.asked folder.new) result (rom_wrapping vendor device image.now rom files)) }
+    ensures work { IfOk result CanBeDone }
+    ensures output { IfOk result (λ work. output_name work ≡ Some rom) }
+    ensures stop { IfStop result (CommandAnswer (F.contents folder.old)
+        (F.read_faults folder.old) (F.read_faults folder.new)) }
+    ensures fault { IsErrOf result End.ReadFault →
+        Rose (F.read_faults folder.old) (F.read_faults folder.new) }
+    ensures uncounted { IfSome (F.contents folder.old) (λ _. ¬ IsErrOf result End.ReadFault →
+        F.read_faults folder.new ≡ F.read_faults folder.old) }
+    ensures contents { F.contents folder.new ≡ F.contents folder.old }
+    ensures write_faults { F.write_faults folder.new ≡ F.write_faults folder.old }
+{
+    let (image, bytes) = read_with_bytes::<Image, F>(alloc, folder, 4, image)?;
+    Ok(Work::WriteRom {
+        name: rom,
+        vendor,
+        device,
+        subsystem: image.subsystem,
+        image: bytes,
+    })
+}
+
+// The number that a word spells, or the answer to a larger one.
+fn number_of(alloc: Global, word: u8, digits: &str) -> Result<u32, End>
+    ensures { Means result (number_meaning word digits.now) }
+{
+    match rom_number(digits) {
+        Some(number) => Ok(number),
+        None => Err(End::Stop(text::large(alloc, word, digits)?)),
+    }
+}
+
+// What the image with a number carries, or the answer to the first fault.
+#[tactic(auto, using(crate::proofs::RomLemmas::ends_inside), unfolding(option_rom::specs::Takes::bytes_taken))]
+fn taken(
+    alloc: Global,
+    name: &str,
+    rom: &[u8],
+    images: &[RomImage],
+    number: u32,
+) -> Result<Sequence<u8>, End>
+    requires images { rom_of rom.now ≡ Ok images.now }
+    requires takeable { All IsTakeable images.now }
+    ensures { Means result (taking_meaning 2 name.now rom.now images.now number) }
+{
+    match take(images, number) {
+        Ok((begin, end)) => Ok(Sequence::new(Vec::from_slice(alloc, &rom[begin..end])?)),
+        Err(kind) => Err(End::Stop(text::bad_taking(alloc, 2, name, images, number, kind)?)),
+    }
+}
+
+// `rom take ROM NUMBER IMAGE`, once the number is known.
+#[tactic(auto, unfolding(crate::specs::Works::rom_taking_of))]
+fn read_taking_of<F: Folder>(
+    alloc: Global,
+    rom: &str,
+    number: u32,
+    image: Name,
+    folder: &mut F,
+) -> Result<Work, End>
+    ensures follows { IfSome (F.contents folder.old) (λ files.
+        Follows (F.asked folder.old) (F.asked folder.new) result (rom_taking_of rom.now number image files)) }
+    ensures work { IfOk result CanBeDone }
+    ensures output { IfOk result (λ work. output_name work ≡ Some image) }
+    ensures stop { IfStop result (CommandAnswer (F.contents folder.old)
+        (F.read_faults folder.old) (F.read_faults folder.new)) }
+    ensures fault { IsErrOf result End.ReadFault →
+        Rose (F.read_faults folder.old) (F.read_faults folder.new) }
+    ensures uncounted { IfSome (F.contents folder.old) (λ _. ¬ IsErrOf result End.ReadFault →
+        F.read_faults folder.new ≡ F.read_faults folder.old) }
+    ensures contents { F.contents folder.new ≡ F.contents folder.old }
+    ensures write_faults { F.write_faults folder.new ≡ F.write_faults folder.old }
+{
+    let (images, bytes) = read_with_bytes::<RomImages, F>(alloc, folder, 2, rom)?;
+    let bytes = taken(alloc, rom, bytes.as_slice(), images.as_slice(), number)?;
+    Ok(Work::WriteTaken { name: image, bytes })
+}
+
+// `rom take ROM NUMBER IMAGE`
+#[tactic(auto, unfolding(crate::specs::Works::rom_taking))]
+fn read_taking<F: Folder>(
+    alloc: Global,
+    rom: &str,
+    digits: &str,
+    image: Name,
+    folder: &mut F,
+) -> Result<Work, End>
+    ensures follows { IfSome (F.contents folder.old) (λ files.
+        Follows (F.asked folder.old) (F.asked folder.new) result (rom_taking rom.now digits.now image files)) }
+    ensures work { IfOk result CanBeDone }
+    ensures output { IfOk result (λ work. output_name work ≡ Some image) }
+    ensures stop { IfStop result (CommandAnswer (F.contents folder.old)
+        (F.read_faults folder.old) (F.read_faults folder.new)) }
+    ensures fault { IsErrOf result End.ReadFault →
+        Rose (F.read_faults folder.old) (F.read_faults folder.new) }
+    ensures uncounted { IfSome (F.contents folder.old) (λ _. ¬ IsErrOf result End.ReadFault →
+        F.read_faults folder.new ≡ F.read_faults folder.old) }
+    ensures contents { F.contents folder.new ≡ F.contents folder.old }
+    ensures write_faults { F.write_faults folder.new ≡ F.write_faults folder.old }
+{
+    let number = number_of(alloc, 3, digits)?;
+    read_taking_of(alloc, rom, number, image, folder)
+}
+
 impl Work {
     /// Does the work.
     pub fn reply(&self, alloc: Global) -> Result<Reply, NoMemory>
@@ -133,7 +296,25 @@ impl Work {
             }
             Work::WriteObject { name, object } => {
                 let file = write_object(alloc, object)?;
-                Ok(text::object(name.copy(alloc)?, file))
+                Ok(text::file(name.copy(alloc)?, file))
+            }
+            Work::WriteRom {
+                name,
+                vendor,
+                device,
+                subsystem,
+                image,
+            } => {
+                let file = wrap(alloc, *vendor, *device, *subsystem, image.as_slice())?;
+                Ok(text::file(name.copy(alloc)?, file))
+            }
+            Work::ListRom { images } => {
+                let listing = rom_listing(alloc, images.as_slice())?;
+                Ok(text::listing(listing))
+            }
+            Work::WriteTaken { name, bytes } => {
+                let file = Vec::from_slice(alloc, bytes.as_slice())?;
+                Ok(text::file(name.copy(alloc)?, file))
             }
         }
     }

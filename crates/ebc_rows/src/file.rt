@@ -2,7 +2,7 @@
 use std::alloc::{AllocError, Global};
 
 /// How many bytes a file may have, which is past each limit of the program.
-const LIMIT: usize = 0x50_0000;
+pub const LIMIT: usize = 0x110_0000;
 
 /// The bytes of a file so far, and the place of the next one.
 #[derive(Drop)]
@@ -12,10 +12,20 @@ pub struct File {
 }
 
 impl File {
-    /// A file of these bytes, behind which the next one comes.
-    pub fn of(bytes: Vec<u8>) -> File {
-        let place = bytes.len();
-        File { bytes, place }
+    /// A file without bytes.
+    pub fn new(alloc: Global) -> File {
+        File {
+            bytes: Vec::new(alloc),
+            place: 0,
+        }
+    }
+
+    /// Puts bytes, one after the other.
+    pub fn put_bytes(&mut self, bytes: &[u8]) -> Result<(), AllocError> {
+        for byte in bytes {
+            self.put(*byte)?;
+        }
+        Ok(())
     }
 
     /// Puts the bytes of a line of text and a line feed.

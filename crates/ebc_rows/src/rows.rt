@@ -1,5 +1,5 @@
 //! The rows: what each line does, and what is printed of it.
-use crate::file::{File, digits_of};
+use crate::file::{File, LIMIT, digits_of};
 use ebc_cli::{Outcome, ebc};
 use ebc_outside::{Folder, MemFolder, MemSink, ReadEnd};
 use std::alloc::{AllocError, Global};
@@ -20,7 +20,7 @@ enum Part {
 pub struct Rows {
     folder: MemFolder,
     out: MemSink,
-    // The files of all rows so far, with which others may begin.
+    // The files of all rows so far, whose bytes others may have.
     copies: MemFolder,
     part: Part,
     name: String,
@@ -37,7 +37,7 @@ impl Rows {
             copies: MemFolder::new(alloc),
             part: Part::Row,
             name: String::new(alloc),
-            file: File::of(Vec::new(alloc)),
+            file: File::new(alloc),
         }
     }
 
@@ -78,6 +78,7 @@ impl Rows {
             "fail" => self.fail(alloc, rest),
             "call" => self.call(alloc, rest),
             "show" => self.show(alloc, rest),
+            "parts" => self.parts(alloc, rest),
             "" | "--" => Ok(String::new(alloc)),
             _ => told_of(alloc, false, line),
         }
@@ -92,7 +93,7 @@ impl Rows {
     fn write_down(&mut self, alloc: Global, part: Part, name: &str) -> Result<String, AllocError> {
         self.part = part;
         self.name = String::from_str(alloc, name)?;
-        self.file = File::of(Vec::new(alloc));
+        self.file = File::new(alloc);
         Ok(String::new(alloc))
     }
 
@@ -100,7 +101,7 @@ impl Rows {
     fn bytes_line(&mut self, alloc: Global, line: &str) -> Result<bool, AllocError> {
         let (word, rest) = line.split_once(' ').unwrap_or((line, ""));
         match word {
-            "from" => self.begin_with(alloc, rest),
+            "from" => self.put_file(alloc, rest),
             "cut" => Ok(self.file.cut(rest)),
             "fill" => match rest.split_once(' ') {
                 Some((length, digits)) => self.file.fill(length, digits),
@@ -119,11 +120,11 @@ impl Rows {
         Ok(true)
     }
 
-    // The file begins with the bytes of another.
-    fn begin_with(&mut self, alloc: Global, name: &str) -> Result<bool, AllocError> {
-        match self.copies.read(alloc, name, 0x50_0000) {
+    // Puts the bytes of another file.
+    fn put_file(&mut self, alloc: Global, name: &str) -> Result<bool, AllocError> {
+        match self.copies.read(alloc, name, LIMIT as u64) {
             Ok(bytes) => {
-                self.file = File::of(bytes);
+                self.file.put_bytes(bytes.as_slice())?;
                 Ok(true)
             }
             Err(ReadEnd::NoMemory) => Err(AllocError),
@@ -155,6 +156,28 @@ impl Rows {
         let printed = self.out.text().get(before..).unwrap_or(b"");
         let printed = str::from_utf8(printed).unwrap_or("no text\n");
         format!(in alloc; "> {line}\n{} {outcome:?}\n{printed}", outcome.code())
+    }
+
+    // Does words once for each first part of a file, which stands under its name, and tells an answer where it changes, with the
+    // length from which on it comes.
+    fn parts(&mut self, alloc: Global, line: &str) -> Result<String, AllocError> {
+        let (name, words) = line.split_once(' ').unwrap_or((line, ""));
+        let whole = match self.folder.read(alloc, name, LIMIT as u64) {
+            Ok(whole) => whole,
+            Err(ReadEnd::NoMemory) => return Err(AllocError),
+            Err(_) => return told_of(alloc, false, line),
+        };
+        let mut told = String::new(alloc);
+        let mut last = String::new(alloc);
+        for length in 0..whole.len() {
+            self.folder.insert(name, &whole.as_slice()[..length])?;
+            let answer = self.call(alloc, words)?;
+            if answer.as_str() != last.as_str() {
+                told.push_str(format!(in alloc; "from {length}\n{answer}")?.as_str())?;
+                last = answer;
+            }
+        }
+        Ok(told)
     }
 
     // The bytes of a file in digits, or that it isn't there.

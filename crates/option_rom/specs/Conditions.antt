@@ -1,5 +1,5 @@
--- For proofs: when an image stands at an offset of a file: six conditions, in the order in which they count. Each has the
--- fault that it stands for, and an offset in the file at which it is told. The standards are those that specs/Fields names;
+-- Meaning: when an image stands at an offset of a file: six conditions, in the order in which they count. Each has the fault
+-- that it stands for, and an offset in the file at which it is told. The standards are those that specs/Fields names;
 -- docs/ROMS.md has the same numbers.
 use Rattle.std.specs.Prelude.{ℕ, ◌+◌, ◌*◌, Bool, not, ◌&&◌, ◌||◌, List, length, Result, codes, bytes_eq, nat_eq, nat_le, nat_lt}
 use Rattle.ebc_base.specs.Steps.{◌>>=◌, passes}

@@ -1,4 +1,4 @@
--- For proofs: the fields of an image in an option ROM: which stands at which offset. Numbers have their lowest byte first.
+-- Meaning: the fields of an image in an option ROM: which stands at which offset. Numbers have their lowest byte first.
 use Rattle.std.specs.Prelude.{ℕ, ◌+◌, List, slice_index}
 use Rattle.pe_image.specs.Fields.{u16_at, u32_at}
 

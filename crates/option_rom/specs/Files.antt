@@ -1,4 +1,4 @@
--- For proofs: the option ROM of one EBC image, byte by byte (docs/ROMS.md, "What is written"). A number has its lowest byte
+-- Meaning: the option ROM of one EBC image, byte by byte (docs/ROMS.md, "What is written"). A number has its lowest byte
 -- first, and what has no word here is zero.
 use Rattle.std.specs.Prelude.{ℕ, ◌+◌, ◌-◌, ◌*◌, ◌/◌, List, ◌∷◌, ◌++◌, length, Some, codes}
 use Rattle.std.specs.Int.{w16, w32, to_le_bytes}

@@ -1,5 +1,5 @@
--- For proofs: Option ROMs: a file and the images in it, which follow each other from its beginning on. UEFI specification,
--- "PCI Option ROMs"; PCI Firmware Specification, "PCI Expansion ROM Contents".
+-- Meaning: Option ROMs: a file and the images in it, which follow each other from its beginning on. UEFI specification, "PCI
+-- Option ROMs"; PCI Firmware Specification, "PCI Expansion ROM Contents".
 use Rattle.std.specs.Prelude.{◌≡◌, ℕ, ◌+◌, ◌*◌, ◌<◌, ◌≤◌, ◌↔◌, List, length, All, IfSome, Some, None, codes, nat_eq, slice_get}
 use Rattle.std.specs.Prelude.{slice_index_or, if◌then◌else◌}
 use Rattle.std.specs.Int.{IsBitSet}

@@ -1,4 +1,4 @@
--- For proofs: what a file is read as: the images of an option ROM, or its first fault. The standards are those that
+-- Meaning: what a file is read as: the images of an option ROM, or its first fault. The standards are those that
 -- specs/Images and specs/Conditions name.
 use Rattle.std.specs.Prelude.{◌≡◌, ℕ, zero, suc, ◌+◌, Bool, not, List, [], ◌∷◌, ◌++◌, length, sum_by, All, Option, Some, None, Result, Ok}
 use Rattle.std.specs.Prelude.{Err, bit_and, nat_eq, if◌then◌else◌}

@@ -1,5 +1,5 @@
--- For proofs: which bytes of an option ROM are the EBC image that an image of the ROM carries. UEFI specification, "PCI
--- Option ROMs", EFI_PCI_EXPANSION_ROM_HEADER.
+-- Meaning: which bytes of an option ROM are the EBC image that an image of the ROM carries. UEFI specification, "PCI Option
+-- ROMs", EFI_PCI_EXPANSION_ROM_HEADER.
 use Rattle.std.specs.Prelude.{ℕ, ◌+◌, ◌^◌, ◌<◌, ◌≤◌, Bool, false, ◌&&◌, List, IfSome, Result, Ok, nat_eq, slice_get, slice_range}
 use Rattle.std.specs.Option.{option_map_or}
 use Rattle.ebc_base.specs.Steps.{◌>>=◌, or_else, passes}

@@ -1,8 +1,9 @@
 use Rattle.std.proofs.Common.{◌≡◌, ◌⊎◌, None, ◌∙◌}
 use Rattle.ebc_cli.proofs.HeadlineLemmas.{Tells, answer-ok, answer-stop, answers, leaves-part, exactly, alike, refused, lists-always}
-use Rattle.ebc_cli.proofs.HeadlineLemmas.{lists-exactly, assembles-always, assembles-exactly, bad-source-line, bad-input, missing}
-use Rattle.ebc_cli.proofs.HeadlineLemmas.{too-large, neutral-printed, refused-printed, plain-alike, plain-exactly, plain-refused}
-use Rattle.ebc_cli.proofs.HeadlineLemmas.{plain-neutral-printed, plain-refused-printed, unput, untold}
+use Rattle.ebc_cli.proofs.HeadlineLemmas.{lists-exactly, assembles-always, assembles-exactly, bad-source-line, wraps-always, wraps-exactly}
+use Rattle.ebc_cli.proofs.HeadlineLemmas.{lists-rom-always, lists-rom-exactly, takes-always, takes-exactly, bad-rom-line, bad-taking-line}
+use Rattle.ebc_cli.proofs.HeadlineLemmas.{bad-input, missing, too-large, neutral-printed, refused-printed, plain-alike, plain-exactly}
+use Rattle.ebc_cli.proofs.HeadlineLemmas.{plain-refused, plain-neutral-printed, plain-refused-printed, unput, untold}
 use Rattle.ebc_cli.proofs.OutputLemmas.{but-output, writes-none}
 use Rattle.ebc_cli.specs.Commands.{command_of, output_of, word_bytes}
 use Rattle.ebc_cli.specs.Outputs.{written_name}
@@ -61,6 +62,30 @@ returns-clause-assembles_exactly g c = assembles-exactly _ _ _ _ _ (tells g c) (
 
 pub returns-clause-bad_source_line : goal.returns-clause-bad_source_line
 returns-clause-bad_source_line g c = bad-source-line _ _ _ _ _ _ (tells g c) c.finish.ensures.text
+
+pub returns-clause-wraps_always : goal.returns-clause-wraps_always
+returns-clause-wraps_always g c = wraps-always _ _ _ _ (tells g c)
+
+pub returns-clause-wraps_exactly : goal.returns-clause-wraps_exactly
+returns-clause-wraps_exactly g c = wraps-exactly _ _ _ _ _ (tells g c) (rw c.decide.ensures.contents at c.finish.ensures.files)
+
+pub returns-clause-lists_rom_always : goal.returns-clause-lists_rom_always
+returns-clause-lists_rom_always g c = lists-rom-always _ _ _ _ (tells g c)
+
+pub returns-clause-lists_rom_exactly : goal.returns-clause-lists_rom_exactly
+returns-clause-lists_rom_exactly g c = lists-rom-exactly _ _ _ _ _ _ (tells g c) c.finish.ensures.text
+
+pub returns-clause-bad_rom_line : goal.returns-clause-bad_rom_line
+returns-clause-bad_rom_line g c = bad-rom-line _ _ _ _ _ _ (tells g c) c.finish.ensures.text
+
+pub returns-clause-takes_always : goal.returns-clause-takes_always
+returns-clause-takes_always g c = takes-always _ _ _ _ (tells g c)
+
+pub returns-clause-takes_exactly : goal.returns-clause-takes_exactly
+returns-clause-takes_exactly g c = takes-exactly _ _ _ _ _ (tells g c) (rw c.decide.ensures.contents at c.finish.ensures.files)
+
+pub returns-clause-bad_taking_line : goal.returns-clause-bad_taking_line
+returns-clause-bad_taking_line g c = bad-taking-line _ _ _ _ _ _ (tells g c) c.finish.ensures.text
 
 pub returns-clause-bad_input_exactly : goal.returns-clause-bad_input_exactly
 returns-clause-bad_input_exactly g c = bad-input _ _ _ _ (tells g c)

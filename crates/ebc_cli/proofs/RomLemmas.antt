@@ -1,0 +1,107 @@
+-- What is taken out of option ROMs, the numbers by which it is asked for, and the lines of a listing.
+use Rattle.std.proofs.Common.{◌≡◌, ℕ, suc, ◌+◌, ◌-◌, ◌<◌, ◌≤◌, List, [], ◌++◌, drop, length, get_or, length-drop, drop-cons}
+use Rattle.std.proofs.Common.{append-nil, append_assoc, Option, Some, None, Result, Ok, Err, nat_eq, refl, sym, ap, ◌∙◌, arith}
+use Rattle.std.proofs.lemmas.Bool.Decides.{nat_tests}
+use Rattle.std.proofs.lemmas.List.{drop_all}
+use Rattle.std.specs.Fmt.{decimal}
+use Rattle.note_texts.proofs.NumberRanges.{number_in-complete, number_in-sound}
+use Rattle.ebc_base.specs.Steps.{◌>>=◌, or_else}
+use Rattle.option_rom.specs.declared.fault.TakeFault.{TakeFault}
+use Rattle.option_rom.specs.declared.image.RomImage.{RomImage}
+use Rattle.option_rom.specs.Roms.{rom_of}
+use Rattle.option_rom.specs.Takes.{bytes_taken, taken}
+use Rattle.option_rom.proofs.Takings.{taken_inside}
+use Rattle.option_rom.proofs.Walks.{read-rom}
+use Rattle.ebc_cli.specs.declared.reply.Reply.{Reply}
+use Rattle.ebc_cli.specs.Inputs.{number_meaning}
+use Rattle.ebc_cli.specs.Numbers.{rom_number}
+use Rattle.ebc_cli.specs.Readings.{large_reply}
+use Rattle.ebc_cli.specs.RomTexts.{last_mark, rom_line, rom_lines, rom_listing}
+
+-- ---- what is taken
+
+-- a step that can't fail fails by the one before
+step-err : {A B E : Type 0} (r : Result A E) (f : A → B) (e : E) → (r >>= (λ x. Ok (f x))) ≡ Err e → r ≡ Err e
+step-err (Ok x) f e h = absurd cc
+step-err (Err first) f e h = let same : first ≡ e = cc in ap Err same
+
+-- bytes are taken where a range is
+pub taken-err : (rom : List ℕ) (images : List RomImage) (number : ℕ) (kind : TakeFault)
+    → bytes_taken rom images number ≡ Err kind → taken images number ≡ Err kind
+unfolding bytes_taken
+taken-err rom images number kind e = step-err (taken images number) _ kind e
+
+pub taken-none : (rom : List ℕ) (images : List RomImage) (number : ℕ) (kind : TakeFault)
+    → taken images number ≡ Err kind → bytes_taken rom images number ≡ Err kind
+unfolding bytes_taken
+taken-none rom images number kind e = rw e refl
+
+-- what is taken out of an option ROM that was read ends inside it
+pub ends_inside : (rom : List ℕ) (images : List RomImage) (number begin end : ℕ) → rom_of rom ≡ Ok images
+    → taken images number ≡ Ok (begin, end) → end ≤ length rom
+ends_inside rom images number begin end read is = (taken_inside rom images number begin end (read-rom rom images read) is).1
+
+-- ---- the lines of a listing
+
+-- the line of an image comes before those of the images from the next on
+lines-from : (images : List RomImage) (number next : ℕ) (d : RomImage) → number < length images → next ≡ suc number
+    → rom_lines number (drop number images)
+    ≡ rom_line number (get_or images number d) (last_mark (nat_eq next (length images))) ++ rom_lines next (drop next images)
+unfolding rom_lines
+lines-from images number next d within is =
+    let left : length (drop (suc number) images) ≡ length images - suc number = length-drop (suc number) images in
+    let last : nat_eq (length (drop (suc number) images)) 0 ≡ nat_eq (suc number) (length images) = rw left (grind (arith, nat_tests)) in
+    rw (is, drop-cons images number d within, last) refl
+
+-- a line that is appended is no longer to come
+pub line-appended : (images : List RomImage) (number : ℕ) (d : RomImage) (old line new : List ℕ) → number < length images
+    → new ≡ old ++ line → line ≡ rom_line number (get_or images number d) (last_mark (nat_eq (number + 1) (length images)))
+    → new ++ rom_lines (number + 1) (drop (number + 1) images) ≡ old ++ rom_lines number (drop number images)
+line-appended images number d old line new within appended is =
+    let ahead : rom_lines number (drop number images) ≡ line ++ rom_lines (number + 1) (drop (number + 1) images) =
+    lines-from images number (number + 1) d within (omega arith)
+    ∙ ap (λ l. l ++ rom_lines (number + 1) (drop (number + 1) images)) (sym is) in
+    ap (λ l. l ++ rom_lines (number + 1) (drop (number + 1) images)) appended
+    ∙ (append_assoc old line (rom_lines (number + 1) (drop (number + 1) images)) ∙ ap (λ l. old ++ l) (sym ahead))
+
+-- no lines are left behind the last image
+pub lines-done : (text : List ℕ) (images : List RomImage) (number : ℕ) → length images ≤ number
+    → text ++ rom_lines number (drop number images) ≡ rom_lines 0 images → text ≡ rom_listing images
+unfolding rom_lines
+lines-done text images number all so_far =
+    let none : drop number images ≡ [] = drop_all number images all in
+    let whole : text ++ [] ≡ rom_lines 0 images = rw none at so_far in
+    sym (append-nil text) ∙ whole
+
+-- ---- numbers
+
+-- a number that is read is spelled by its digits
+pub number-read : (digits : List ℕ) (n : ℕ) → rom_number digits ≡ Some n → (digits ≡ decimal n) × (n ≤ 65535)
+number-read digits n e = let is = number_in-sound 0 65535 digits n e in (is.0, is.2)
+
+pub number-spelled : (n : ℕ) → n ≤ 65535 → rom_number (decimal n) ≡ Some n
+number-spelled n within = number_in-complete 0 65535 (decimal n) n (omega arith) (refl, omega arith, within)
+
+pub number-past : (digits : List ℕ) → ((n : ℕ) → n ≤ 65535 → digits ≡ decimal n → ⊥) → rom_number digits ≡ None
+number-past digits none = by_read (rom_number digits) refl
+  where
+    by_read : (o : Option ℕ) → rom_number digits ≡ o → rom_number digits ≡ None
+    by_read None e = e
+    by_read (Some n) e = let is = number-read digits n e in absurd (none n is.1 is.0)
+
+-- a number that is read is at most 65,535; one that isn't is more
+pub number-ok : (word : ℕ) (digits : List ℕ) (n : ℕ) → number_meaning word digits ≡ Ok n → rom_number digits ≡ Some n
+number-ok word digits n e = by_read (rom_number digits) refl e
+  where
+    by_read : (o : Option ℕ) → rom_number digits ≡ o → or_else (large_reply word digits) o ≡ Ok n → rom_number digits ≡ Some n
+    by_read None e h = absurd cc
+    by_read (Some m) e h = let same : m ≡ n = cc in e ∙ ap Some same
+
+pub number-err : (word : ℕ) (digits : List ℕ) (reply : Reply) → number_meaning word digits ≡ Err reply
+    → (rom_number digits ≡ None) × (reply ≡ large_reply word digits)
+number-err word digits reply e = by_read (rom_number digits) refl e
+  where
+    by_read : (o : Option ℕ) → rom_number digits ≡ o → or_else (large_reply word digits) o ≡ Err reply
+        → (rom_number digits ≡ None) × (reply ≡ large_reply word digits)
+    by_read None e h = (e, cc)
+    by_read (Some m) e h = absurd cc

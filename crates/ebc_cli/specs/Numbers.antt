@@ -1,0 +1,36 @@
+-- Meaning: the numbers among the words: docs/COMMANDS.md, "Commands". Words are seen as their bytes.
+use Rattle.std.specs.Prelude.{ℕ, ◌+◌, ◌-◌, ◌*◌, List, [], ◌∷◌, Option, Some, None, Bool, false, not, nat_le, ◌==◌, ◌&&◌, if◌then◌else◌}
+use Rattle.std.specs.List.{list_all}
+use Rattle.ebc_base.specs.Names.{is_digit}
+use Rattle.note_texts.specs.Numbers.{number_in}
+
+-- ---- identifiers of vendors and devices
+
+-- what a digit counts: `0` to `9`, `a` to `f`
+abbrev pub hex_digit : ℕ → Option ℕ
+hex_digit b =
+    if nat_le 48 b && nat_le b 57 then Some (b - 48)
+    else if nat_le 97 b && nat_le b 102 then Some (b - 87)
+    else None
+
+-- the number of four digits, the highest first
+abbrev pub of_digits : Option ℕ → Option ℕ → Option ℕ → Option ℕ → Option ℕ
+of_digits (Some a) (Some b) (Some c) (Some d) = Some (4096 * a + 256 * b + 16 * c + d)
+of_digits a b c d = None
+
+-- the identifier that four lower-case hexadecimal digits spell
+unfoldable pub identifier_of : List ℕ → Option ℕ
+identifier_of (a ∷ b ∷ c ∷ d ∷ []) = of_digits (hex_digit a) (hex_digit b) (hex_digit c) (hex_digit d)
+identifier_of word = None
+
+-- ---- numbers of images in option ROMs
+
+-- decimal digits, the first of several no `0`
+unfoldable pub is_number : List ℕ → Bool
+is_number [] = false
+is_number (b ∷ []) = list_all is_digit (b ∷ [])
+is_number (b ∷ c ∷ bs) = not (b == 48) && list_all is_digit (b ∷ c ∷ bs)
+
+-- the number that these digits spell, where it is at most 65,535
+abbrev pub rom_number : List ℕ → Option ℕ
+rom_number word = number_in 0 65535 word

@@ -1,0 +1,70 @@
+//! The numbers among the words.
+ghost use Rattle.std.specs.Prelude.{◌≡◌, ◌<◌, IfSome};
+ghost use Rattle.std.specs.List.{list_all};
+ghost use Rattle.ebc_base.specs.Names.{is_digit};
+ghost use Rattle.ebc_cli.specs.Numbers.{hex_digit, identifier_of, is_number, rom_number};
+
+use note_texts::number_in;
+
+// What a hexadecimal digit counts, of which the letters are lower-case.
+fn hex_digit(byte: u8) -> Option<u8>
+    ensures value { result ≡ hex_digit byte }
+    ensures below { IfSome result (λ d. d < 16) }
+{
+    match byte {
+        b'0'..=b'9' => Some(byte - b'0'),
+        b'a'..=b'f' => Some(byte - 87),
+        _ => None,
+    }
+}
+
+/// The identifier of a vendor or a device that a word spells in four lower-case hexadecimal digits.
+#[tactic(auto, unfolding(crate::specs::Numbers::identifier_of))]
+pub fn identifier_of(word: &str) -> Option<u16>
+    ensures { result ≡ identifier_of word.now }
+{
+    match word.as_bytes() {
+        [a, b, c, d] => {
+            let a = u16::from(hex_digit(*a)?);
+            let b = u16::from(hex_digit(*b)?);
+            let c = u16::from(hex_digit(*c)?);
+            let d = u16::from(hex_digit(*d)?);
+            Some(4096 * a + 256 * b + 16 * c + d)
+        }
+        _ => None,
+    }
+}
+
+fn is_digit(byte: u8) -> bool
+    ensures { result ≡ is_digit byte }
+{
+    byte.is_ascii_digit()
+}
+
+fn all_digits(bytes: &[u8]) -> bool
+    ensures { result ≡ list_all is_digit bytes.now }
+{
+    bytes.iter().all(|byte| is_digit(*byte))
+}
+
+/// Whether a word is a number in decimal digits with no leading zero, whatever its size.
+#[tactic(auto, unfolding(crate::specs::Numbers::is_number))]
+pub fn is_number(word: &str) -> bool
+    ensures { result ≡ is_number word.now }
+{
+    match word.as_bytes() {
+        [] => false,
+        [only] => is_digit(*only),
+        [first, second, rest @ ..] => {
+            *first != b'0' && is_digit(*first) && is_digit(*second) && all_digits(rest)
+        }
+    }
+}
+
+/// The number of an image in an option ROM that a word spells, where it is at most 65,535.
+pub fn rom_number(word: &str) -> Option<u32>
+    ensures { result ≡ rom_number word.now }
+{
+    let number = number_in(0, 65535, word.as_bytes())?;
+    Some(number as u32)
+}
