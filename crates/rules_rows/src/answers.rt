@@ -1,14 +1,10 @@
 //! What rows are answered.
-use crate::notes::notes;
 use crate::row::{Row, row_of};
 use crate::texts::{place, rule, same_state, state_with};
 use ebc_insn::well_formed;
 use note_types::{Notes, RuleName, State};
 use rules_data::after_data;
 use rules_flow::{Successors, after_flow, places_ascend};
-use std::alloc::Global;
-use std::process::Abort;
-use std::test::Fail;
 
 /// The two kinds of instructions.
 #[derive(Clone, Copy, PartialEq, Eq)]
@@ -122,7 +118,7 @@ fn flow_answer(notes: &Notes, row: &Row, text: &str) -> Option<bool> {
 }
 
 /// `NAME | BYTES | WORDS | ANSWER`: whether the row is answered so. `None` where its text can't be read.
-fn holds(notes: &Notes, kind: Kind, text: &str) -> Option<bool> {
+pub fn holds(notes: &Notes, kind: Kind, text: &str) -> Option<bool> {
     let (_name, rest) = text.split_once(" | ")?;
     let (bytes, rest) = rest.split_once(" | ")?;
     let (words, answer) = rest.split_once(" | ")?;
@@ -131,17 +127,4 @@ fn holds(notes: &Notes, kind: Kind, text: &str) -> Option<bool> {
         Kind::Data => data_answer(notes, &row, answer),
         Kind::Flow => flow_answer(notes, &row, answer),
     }
-}
-
-/// Tries each line of a table as a row; one that begins with `# ` is a heading.
-pub fn all_hold(rt: &impl Abort, alloc: Global, kind: Kind, table: &str) -> Result<(), Fail> {
-    let Some(notes) = notes(alloc) else {
-        return Err(Fail::new("the notes can't be read"));
-    };
-    for line in table.split_terminator('\n') {
-        if !line.starts_with("# ") {
-            assert!(rt; holds(&notes, kind, line) == Some(true), "at {line}");
-        }
-    }
-    Ok(())
 }

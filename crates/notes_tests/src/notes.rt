@@ -1,5 +1,0 @@
-//! Texts of notes.
-mod conditions;
-mod driver;
-mod passes;
-mod texts;
