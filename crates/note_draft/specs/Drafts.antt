@@ -11,6 +11,7 @@ use Rattle.note_texts.specs.CellTexts.{field_of}
 use Rattle.note_texts.specs.SlotTexts.{item_of, param_of, register_of}
 use Rattle.note_texts.specs.TypeTexts.{type_of}
 use Rattle.note_texts.specs.WantTexts.{result_of, want_param_of}
+use Rattle.note_texts.specs.declared.want.ResultText.{ResultText}
 use Rattle.note_draft.specs.declared.draft.ShapeDraft.{ShapeDraft}
 use Rattle.note_draft.specs.declared.draft.StaticDraft.{StaticDraft}
 use Rattle.note_draft.specs.declared.draft.ThunkDraft.{ThunkDraft}
@@ -21,6 +22,7 @@ use Rattle.note_draft.specs.declared.draft.SiteDraft.{SiteDraft}
 use Rattle.note_draft.specs.declared.reading.CallLists.{CallLists}
 use Rattle.note_draft.specs.declared.reading.CodeLists.{CodeLists}
 use Rattle.note_draft.specs.declared.reading.DataLists.{DataLists}
+use Rattle.note_draft.specs.declared.reading.DraftLists.{DraftLists}
 use Rattle.note_draft.specs.declared.reading.Extent.{Extent}
 use Rattle.note_draft.specs.declared.reading.Interface.{Interface}
 use Rattle.note_draft.specs.declared.draft.NotesDraft.{NotesDraft}
@@ -89,14 +91,20 @@ interface_of prefix table = do
   result ← text_at type_of prefix (codes "result") table
   Ok (record { locals = locals; params = params; result = result })
 
+-- whether a function is marked `enter`; its table may have no keys but a function's
+unfoldable pub function_enter : List ℕ → Members → Result Bool TomlFault
+function_enter prefix table = do
+  enter ← flag_at prefix (codes "enter") table
+  _ ← only_keys prefix function_keys table
+  Ok enter
+
 -- a table of the list `function`
 unfoldable pub function_of : List ℕ → Members → Result FunctionDraft TomlFault
 function_of prefix table = do
   name ← text_at name_of prefix (codes "name") table
   extent ← extent_of prefix table
   interface ← interface_of prefix table
-  enter ← flag_at prefix (codes "enter") table
-  _ ← only_keys prefix function_keys table
+  enter ← function_enter prefix table
   Ok (record {
     name = name;
     place = extent.place;
@@ -109,6 +117,17 @@ function_of prefix table = do
     enter = enter;
   })
 
+-- the keys of a table of the list `point`
+abbrev pub point_keys : List (List ℕ)
+point_keys = codes "place" ∷ codes "regs" ∷ codes "stack" ∷ codes "written" ∷ codes "made" ∷ []
+
+-- how many thunks are made at a point; its table may have no keys but a point's
+unfoldable pub point_made : List ℕ → Members → Result ℕ TomlFault
+point_made prefix table = do
+  made ← number_at prefix (codes "made") 0 greatest_32 table
+  _ ← only_keys prefix point_keys table
+  Ok made
+
 -- a table of the list `point`; of its stack, the locals don't count against the limit
 unfoldable pub point_of : List ℕ → Members → Result PointDraft TomlFault
 point_of prefix table = do
@@ -116,23 +135,34 @@ point_of prefix table = do
   regs ← texts_at register_of prefix (codes "regs") greatest_64 table
   stack ← texts_beside_at item_of prefix (codes "stack") 64 (codes "locals") table
   written ← texts_at name_of prefix (codes "written") greatest_64 table
-  made ← number_at prefix (codes "made") 0 greatest_32 table
-  _ ← only_keys prefix (codes "place" ∷ codes "regs" ∷ codes "stack" ∷ codes "written" ∷ codes "made" ∷ []) table
+  made ← point_made prefix table
   Ok (record { place = place; regs = regs; stack = stack; written = written; made = made })
 
 -- whether a method is one of these, or they are fewer than 1024
 abbrev pub has_room : List (List ℕ) → List ℕ → Bool
 has_room methods method = is_named method methods || nat_lt (length methods) 1024
 
--- a table of the list `signature` after others that name these methods: all signatures name at most 1024
+-- the method of a signature after others that name these methods: all signatures name at most 1024
+unfoldable pub method_of : List (List ℕ) → List ℕ → Members → Result (List ℕ) TomlFault
+method_of methods prefix table = do
+  method ← text_at name_of prefix (codes "method") table
+  _ ← passes (has_room methods method) (Range (prefix ++ codes "method"))
+  Ok method
+
+-- the result of a signature; its table may have no keys but a signature's
+unfoldable pub signature_result : List ℕ → Members → Result ResultText TomlFault
+signature_result prefix table = do
+  result ← text_at result_of prefix (codes "result") table
+  _ ← only_keys prefix (codes "name" ∷ codes "method" ∷ codes "params" ∷ codes "result" ∷ []) table
+  Ok result
+
+-- a table of the list `signature` after others that name these methods
 unfoldable pub signature_of : List (List ℕ) → List ℕ → Members → Result SignatureDraft TomlFault
 signature_of methods prefix table = do
   name ← text_at name_of prefix (codes "name") table
-  method ← text_at name_of prefix (codes "method") table
-  _ ← passes (has_room methods method) (Range (prefix ++ codes "method"))
+  method ← method_of methods prefix table
   params ← texts_at want_param_of prefix (codes "params") 16 table
-  result ← text_at result_of prefix (codes "result") table
-  _ ← only_keys prefix (codes "name" ∷ codes "method" ∷ codes "params" ∷ codes "result" ∷ []) table
+  result ← signature_result prefix table
   Ok (record { name = name; method = method; params = params; result = result })
 
 -- a table of the list `site`
@@ -187,23 +217,29 @@ call_lists table = do
   site ← tables_at site_of [] (codes "site") greatest_32 table
   Ok (record { signature = signature; site = site })
 
+-- all lists
+unfoldable pub draft_lists : Members → Result DraftLists TomlFault
+draft_lists table = do
+  things ← data_lists table
+  code ← code_lists table
+  calls ← call_lists table
+  Ok (record { things = things; code = code; calls = calls })
+
 -- the whole text
 unfoldable pub draft_of : Members → Result NotesDraft TomlFault
 draft_of table = do
   version ← number_at [] (codes "version") 1 1 table
   entry ← text_at name_of [] (codes "entry") table
-  things ← data_lists table
-  code ← code_lists table
-  calls ← call_lists table
+  lists ← draft_lists table
   _ ← only_keys [] draft_keys table
   Ok (record {
     version = version;
     entry = entry;
-    shape = things.shape;
-    statics = things.statics;
-    thunk = things.thunk;
-    function = code.function;
-    point = code.point;
-    signature = calls.signature;
-    site = calls.site;
+    shape = lists.things.shape;
+    statics = lists.things.statics;
+    thunk = lists.things.thunk;
+    function = lists.code.function;
+    point = lists.code.point;
+    signature = lists.calls.signature;
+    site = lists.calls.site;
   })

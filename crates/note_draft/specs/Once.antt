@@ -16,6 +16,7 @@ use Rattle.note_draft.specs.declared.finding.Key.TheVariants as key
 use Rattle.note_draft.specs.declared.finding.Refusal.TheVariants.{Twice}
 use Rattle.note_draft.specs.declared.finding.TableList.{TableList}
 use Rattle.note_draft.specs.declared.finding.TableList.TheVariants as list
+use Rattle.note_draft.specs.declared.once.CallNames.{CallNames}
 use Rattle.note_draft.specs.declared.repeats.Numbering.{Numbering}
 use Rattle.note_draft.specs.declared.repeats.Numbering.TheVariants.{Table, Repeat}
 use Rattle.note_draft.specs.declared.tables.NameTables.{NameTables}
@@ -91,24 +92,38 @@ function_names functions = refused Twice (repeated_in_functions functions) >>= �
 abbrev pub signature_names : List SignatureDraft → Result (List (List ℕ)) TomlFault
 signature_names signatures = refused Twice (repeated_in_signatures signatures) >>= λ _. Ok (map (λ s. s.name) signatures)
 
--- the names of the signatures, unless one of them or the place of a site stands there twice
-unfoldable pub names_of_calls : NotesDraft → Result (List (List ℕ)) TomlFault
-names_of_calls d = do
-  signatures ← signature_names d.signature
-  _ ← refused Twice (repeated_place_in list.Site (map (λ s. s.place) d.site))
-  Ok signatures
+-- the names of the shapes, unless one of them, a field of a shape or the place of a static object or a thunk cell stands
+-- there twice
+unfoldable pub names_of_data : NotesDraft → Result (List (List ℕ)) TomlFault
+names_of_data d = do
+  shapes ← shape_names d.shape
+  _ ← refused Twice (repeated_place_in list.Static (map (λ o. o.place) d.statics))
+  _ ← refused Twice (repeated_place_in list.Thunk (map (λ o. o.place) d.thunk))
+  Ok shapes
+
+-- the names of the functions, unless one of them, the place of a function or a point or a register of a point stands there
+-- twice
+unfoldable pub names_of_code : NotesDraft → Result (List (List ℕ)) TomlFault
+names_of_code d = do
+  functions ← function_names d.function
+  _ ← refused Twice (repeated_in_points d.point)
+  Ok functions
 
 -- the methods that signatures name, in the order in which they first do
 abbrev pub method_names : List SignatureDraft → List (List ℕ)
 method_names signatures = distinct (map (λ s. s.method) signatures)
 
+-- the names of the signatures and their methods, unless a name of a signature or the place of a site stands there twice
+unfoldable pub names_of_calls : NotesDraft → Result CallNames TomlFault
+names_of_calls d = do
+  signatures ← signature_names d.signature
+  _ ← refused Twice (repeated_place_in list.Site (map (λ s. s.place) d.site))
+  Ok (record { signature = signatures; method = method_names d.signature })
+
 -- the names that notes give, unless a name, a place or a register stands there twice
 unfoldable pub once : NotesDraft → Result NameTables TomlFault
 once d = do
-  shapes ← shape_names d.shape
-  _ ← refused Twice (repeated_place_in list.Static (map (λ o. o.place) d.statics))
-  _ ← refused Twice (repeated_place_in list.Thunk (map (λ o. o.place) d.thunk))
-  functions ← function_names d.function
-  _ ← refused Twice (repeated_in_points d.point)
-  signatures ← names_of_calls d
-  Ok (record { shape = shapes; function = functions; signature = signatures; method = method_names d.signature })
+  shapes ← names_of_data d
+  functions ← names_of_code d
+  calls ← names_of_calls d
+  Ok (record { shape = shapes; function = functions; signature = calls.signature; method = calls.method })

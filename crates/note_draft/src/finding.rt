@@ -7,7 +7,7 @@ use note_types::{Name, NotesEnd, TomlFault};
 use std::alloc::{AllocError, Global};
 
 /// A list of tables.
-#[derive(Clone, Copy, PartialEq, Eq, Debug)]
+#[derive(Clone, Copy)]
 pub enum TableList {
     Shape,
     Static,
@@ -35,7 +35,7 @@ impl TableList {
 }
 
 /// A key of a table.
-#[derive(Clone, Copy, PartialEq, Eq, Debug)]
+#[derive(Clone, Copy)]
 pub enum Key {
     Name,
     Fields,
@@ -77,7 +77,7 @@ impl Key {
 }
 
 /// The key at which a condition fails, in the item of that number, from 0.
-#[derive(Clone, Copy, PartialEq, Eq, Debug)]
+#[derive(Clone, Copy)]
 pub struct Finding {
     pub list: TableList,
     pub item: usize,

@@ -4,7 +4,7 @@ ghost use Rattle.std.specs.List.{position};
 ghost use Rattle.note_draft.specs.declared.finding.Refusal.TheVariants.{Twice};
 ghost use Rattle.note_texts.specs.Outcome.{Gives};
 ghost use Rattle.note_draft.specs.Findings.{refused};
-ghost use Rattle.note_draft.specs.Once.{function_names, method_names, names_in, names_of_calls, numbered, once, repeat_in, repeated_in_points, repeated_place_in, repeats_field, repeats_register, shape_names, signature_names};
+ghost use Rattle.note_draft.specs.Once.{function_names, method_names, names_in, names_of_calls, names_of_code, names_of_data, numbered, once, repeat_in, repeated_in_points, repeated_place_in, repeats_field, repeats_register, shape_names, signature_names};
 
 use crate::draft::{FunctionDraft, NotesDraft, PointDraft, ShapeDraft, SignatureDraft};
 use crate::finding::{Finding, Key, Refusal, TableList, refuse};
@@ -122,14 +122,46 @@ fn method_names(alloc: Global, signatures: &[SignatureDraft]) -> Result<NameTabl
     Ok(names)
 }
 
+// The names of the shapes, where nothing of the lists of data stands there twice.
+#[tactic(auto, unfolding(crate::specs::Once::names_of_data))]
+fn names_of_data(alloc: Global, draft: &NotesDraft) -> Result<NameTable, NotesEnd>
+    requires { length draft.now.shape < 2 ^ 32 }
+    ensures { Gives result (names_of_data draft.now) }
+{
+    let shape = shape_names(alloc, draft.shape.as_slice())?;
+    places_once(alloc, TableList::Static, draft.statics.as_slice())?;
+    places_once(alloc, TableList::Thunk, draft.thunk.as_slice())?;
+    Ok(shape)
+}
+
+// The names of the functions, where nothing of the lists of code stands there twice.
+#[tactic(auto, unfolding(crate::specs::Once::names_of_code))]
+fn names_of_code(alloc: Global, draft: &NotesDraft) -> Result<NameTable, NotesEnd>
+    requires { length draft.now.function < 2 ^ 32 }
+    ensures { Gives result (names_of_code draft.now) }
+{
+    let function = function_names(alloc, draft.function.as_slice())?;
+    points_once(alloc, draft.point.as_slice())?;
+    Ok(function)
+}
+
+/// The names that the lists of native calls give.
+#[derive(Drop)]
+pub struct CallNames {
+    pub signature: NameTable,
+    /// The methods, in the order in which the signatures first name them.
+    pub method: NameTable,
+}
+
 #[tactic(auto, unfolding(crate::specs::Once::names_of_calls))]
-fn names_of_calls(alloc: Global, draft: &NotesDraft) -> Result<NameTable, NotesEnd>
+fn names_of_calls(alloc: Global, draft: &NotesDraft) -> Result<CallNames, NotesEnd>
     requires { length draft.now.signature < 2 ^ 32 }
     ensures { Gives result (names_of_calls draft.now) }
 {
-    let names = signature_names(alloc, draft.signature.as_slice())?;
+    let signature = signature_names(alloc, draft.signature.as_slice())?;
     places_once(alloc, TableList::Site, draft.site.as_slice())?;
-    Ok(names)
+    let method = method_names(alloc, draft.signature.as_slice())?;
+    Ok(CallNames { signature, method })
 }
 
 /// The names that notes give, where no name, place or register stands there twice.
@@ -144,13 +176,9 @@ pub fn number_names(alloc: Global, draft: &NotesDraft) -> Result<NameTables, Not
     requires signatures { length draft.now.signature < 2 ^ 32 }
     ensures { Gives result (once draft.now) }
 {
-    let shape = shape_names(alloc, draft.shape.as_slice())?;
-    places_once(alloc, TableList::Static, draft.statics.as_slice())?;
-    places_once(alloc, TableList::Thunk, draft.thunk.as_slice())?;
-    let function = function_names(alloc, draft.function.as_slice())?;
-    points_once(alloc, draft.point.as_slice())?;
-    let signature = names_of_calls(alloc, draft)?;
-    let method = method_names(alloc, draft.signature.as_slice())?;
+    let shape = names_of_data(alloc, draft)?;
+    let function = names_of_code(alloc, draft)?;
+    let CallNames { signature, method } = names_of_calls(alloc, draft)?;
     Ok(NameTables {
         shape,
         function,

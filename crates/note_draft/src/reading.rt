@@ -1,9 +1,10 @@
 //! The first pass over notes: the draft that a TOML table stands for, by its keys and those of the tables of its lists.
-ghost use Rattle.std.specs.Prelude.{◌≡◌, ◌≤◌, ◌<◌, ◌^◌, [], length, IfOk};
+ghost use Rattle.std.specs.Prelude.{◌≡◌, ◌≤◌, ◌<◌, ◌-◌, ◌^◌, [], length, IfOk};
 ghost use Rattle.toml.specs.View.{view, table_view, items_view};
 ghost use Rattle.note_texts.specs.Keys.{only_keys};
+ghost use Rattle.ebc_base.specs.Tables.{with_name};
 ghost use Rattle.note_texts.specs.Outcome.{Gives, GivesBy};
-ghost use Rattle.note_draft.specs.Drafts.{call_lists, code_lists, data_lists, draft_keys, extent_of, function_keys, interface_of, shape_of, static_of, thunk_of, function_of, point_of, has_room, signature_in, signature_of, site_of, signatures_from, signatures_at, draft_of};
+ghost use Rattle.note_draft.specs.Drafts.{call_lists, code_lists, data_lists, draft_keys, draft_lists, extent_of, function_enter, function_keys, interface_of, shape_of, static_of, thunk_of, function_of, point_keys, point_made, point_of, has_room, method_of, signature_in, signature_of, signature_result, site_of, signatures_from, signatures_at, draft_of};
 
 use crate::draft::{
     FunctionDraft, NotesDraft, PointDraft, ShapeDraft, SignatureDraft, SiteDraft, StaticDraft,
@@ -148,6 +149,16 @@ fn only_function_keys(alloc: Global, row: Row) -> Result<(), NotesEnd>
     )
 }
 
+// Whether a function is marked `enter`; its table may have no keys but a function's.
+#[tactic(auto, unfolding(crate::specs::Drafts::function_enter))]
+fn function_enter(alloc: Global, row: Row) -> Result<bool, NotesEnd>
+    ensures { Gives result (function_enter row.entry.prefix.now (table_view row.entry.table.now)) }
+{
+    let enter = row.flag(alloc, "enter")?;
+    only_function_keys(alloc, row)?;
+    Ok(enter)
+}
+
 impl FromTable for FunctionDraft {
     ghost reads_as = { function_of };
 
@@ -156,8 +167,7 @@ impl FromTable for FunctionDraft {
         let name = row.text::<Name>(alloc, "name")?;
         let extent = extent_of(alloc, row)?;
         let interface = interface_of(alloc, row)?;
-        let enter = row.flag(alloc, "enter")?;
-        only_function_keys(alloc, row)?;
+        let enter = function_enter(alloc, row)?;
         let Interface {
             locals,
             params,
@@ -177,6 +187,22 @@ impl FromTable for FunctionDraft {
     }
 }
 
+fn only_point_keys(alloc: Global, row: Row) -> Result<(), NotesEnd>
+    ensures { Gives result (only_keys row.entry.prefix.now point_keys (table_view row.entry.table.now)) }
+{
+    row.only_keys(alloc, &["place", "regs", "stack", "written", "made"])
+}
+
+// How many thunks are made at a point; its table may have no keys but a point's.
+#[tactic(auto, unfolding(crate::specs::Drafts::point_made))]
+fn point_made(alloc: Global, row: Row) -> Result<u32, NotesEnd>
+    ensures { Gives result (point_made row.entry.prefix.now (table_view row.entry.table.now)) }
+{
+    let made = row.number(alloc, "made", 0, u32::MAX as u64)?;
+    only_point_keys(alloc, row)?;
+    Ok(made as u32)
+}
+
 impl FromTable for PointDraft {
     ghost reads_as = { point_of };
 
@@ -186,14 +212,13 @@ impl FromTable for PointDraft {
         let regs = row.texts::<RegisterText>(alloc, "regs", usize::MAX)?;
         let stack = row.texts_beside::<ItemText>(alloc, "stack", MAX_SLOTS, "locals")?;
         let written = row.texts::<Name>(alloc, "written", usize::MAX)?;
-        let made = row.number(alloc, "made", 0, u32::MAX as u64)?;
-        row.only_keys(alloc, &["place", "regs", "stack", "written", "made"])?;
+        let made = point_made(alloc, row)?;
         Ok(PointDraft {
             place: place as u32,
             regs: Sequence::new(regs),
             stack: StackText::new(stack),
             written: Names::new(written),
-            made: made as u32,
+            made,
         })
     }
 }
@@ -219,19 +244,37 @@ fn has_room(methods: &NameTable, method: &Name) -> bool
     methods.has(method) || methods.len() < MAX_METHODS
 }
 
+// The method of a signature after others that name these methods.
+#[tactic(auto, unfolding(crate::specs::Drafts::method_of))]
+fn method_of(alloc: Global, methods: &NameTable, row: Row) -> Result<Name, NotesEnd>
+    ensures { Gives result (method_of methods.now row.entry.prefix.now (table_view row.entry.table.now)) }
+{
+    let method = row.text::<Name>(alloc, "method")?;
+    if !has_room(methods, &method) {
+        return Err(NotesEnd::Fault(TomlFault::Range(row.path(alloc, "method")?)));
+    }
+    Ok(method)
+}
+
+// The result of a signature; its table may have no keys but a signature's.
+#[tactic(auto, unfolding(crate::specs::Drafts::signature_result))]
+fn signature_result(alloc: Global, row: Row) -> Result<ResultText, NotesEnd>
+    ensures { Gives result (signature_result row.entry.prefix.now (table_view row.entry.table.now)) }
+{
+    let result = row.text::<ResultText>(alloc, "result")?;
+    row.only_keys(alloc, &["name", "method", "params", "result"])?;
+    Ok(result)
+}
+
 // A signature after others that name these methods.
 #[tactic(auto, unfolding(crate::specs::Drafts::signature_of))]
 fn signature(alloc: Global, methods: &NameTable, row: Row) -> Result<SignatureDraft, NotesEnd>
     ensures { Gives result (signature_of methods.now row.entry.prefix.now (table_view row.entry.table.now)) }
 {
     let name = row.text::<Name>(alloc, "name")?;
-    let method = row.text::<Name>(alloc, "method")?;
-    if !has_room(methods, &method) {
-        return Err(NotesEnd::Fault(TomlFault::Range(row.path(alloc, "method")?)));
-    }
+    let method = method_of(alloc, methods, row)?;
     let params = row.texts::<WantParamText>(alloc, "params", MAX_PARAMS)?;
-    let result = row.text::<ResultText>(alloc, "result")?;
-    row.only_keys(alloc, &["name", "method", "params", "result"])?;
+    let result = signature_result(alloc, row)?;
     Ok(SignatureDraft {
         name,
         method,
@@ -261,6 +304,42 @@ fn signature_in(
     )
 }
 
+// A signature after others that name these methods, which get its own beside them.
+fn next_signature(
+    alloc: Global,
+    methods: &mut NameTable,
+    path: &str,
+    index: usize,
+    value: &Value,
+) -> Result<SignatureDraft, NotesEnd>
+    requires { length methods.old < 2 ^ 32 - 1 }
+    ensures signature { Gives result (signature_in methods.old path.now index (view value.now)) }
+    ensures methods { IfOk result (λ signature. methods.new ≡ with_name signature.method methods.old) }
+{
+    let signature = signature_in(alloc, methods, path, index, value)?;
+    methods.add(alloc, &signature.method)?;
+    Ok(signature)
+}
+
+// The signatures of a list; their methods are put into the table, which has none before.
+fn next_signatures(
+    alloc: Global,
+    methods: &mut NameTable,
+    path: &str,
+    values: &[Value],
+) -> Result<Vec<SignatureDraft>, NotesEnd>
+    requires few { length values.now < 2 ^ 32 }
+    requires none { methods.old ≡ [] }
+    ensures signatures { GivesBy (λ drafts. drafts.items) result (signatures_from [] path.now 0 (items_view values.now)) }
+    ensures all { IfOk result (λ drafts. length drafts.items ≡ length values.now) }
+{
+    let mut signatures = Vec::new(alloc);
+    for i in 0..values.len() {
+        signatures.push(next_signature(alloc, methods, path, i, &values[i])?)?;
+    }
+    Ok(signatures)
+}
+
 fn signatures_of(
     alloc: Global,
     path: &str,
@@ -271,13 +350,7 @@ fn signatures_of(
     ensures all { IfOk result (λ drafts. length drafts.items ≡ length values.now) }
 {
     let mut methods = NameTable::new(alloc);
-    let mut signatures = Vec::new(alloc);
-    for i in 0..values.len() {
-        let signature = signature_in(alloc, &methods, path, i, &values[i])?;
-        methods.add(alloc, &signature.method)?;
-        signatures.push(signature)?;
-    }
-    Ok(signatures)
+    next_signatures(alloc, &mut methods, path, values)
 }
 
 #[tactic(auto, unfolding(crate::specs::Drafts::signatures_at))]
@@ -356,6 +429,31 @@ fn call_lists(alloc: Global, table: &Table) -> Result<CallLists, NotesEnd>
     })
 }
 
+/// All lists of the text.
+#[derive(Drop)]
+pub struct DraftLists {
+    pub things: DataLists,
+    pub code: CodeLists,
+    pub calls: CallLists,
+}
+
+#[tactic(auto, unfolding(crate::specs::Drafts::draft_lists))]
+fn draft_lists(alloc: Global, table: &Table) -> Result<DraftLists, NotesEnd>
+    ensures lists { Gives result (draft_lists (table_view table.now)) }
+    ensures shapes { IfOk result (λ lists. length lists.things.shape ≤ 1024) }
+    ensures functions { IfOk result (λ lists. length lists.code.function ≤ 4096) }
+    ensures signatures { IfOk result (λ lists. length lists.calls.signature < 2 ^ 32) }
+{
+    let things = data_lists(alloc, table)?;
+    let code = code_lists(alloc, table)?;
+    let calls = call_lists(alloc, table)?;
+    Ok(DraftLists {
+        things,
+        code,
+        calls,
+    })
+}
+
 fn only_draft_keys(alloc: Global, table: &Table) -> Result<(), NotesEnd>
     ensures { Gives result (only_keys [] draft_keys (table_view table.now)) }
 {
@@ -392,26 +490,22 @@ pub fn read_draft(alloc: Global, table: &Table) -> Result<NotesDraft, NotesEnd>
     let row = Row { prefix: "", table };
     let version = row.number(alloc, "version", 1, 1)?;
     let entry = row.text::<Name>(alloc, "entry")?;
-    let things = data_lists(alloc, table)?;
-    let code = code_lists(alloc, table)?;
-    let calls = call_lists(alloc, table)?;
+    let lists = draft_lists(alloc, table)?;
     only_draft_keys(alloc, table)?;
-    let DataLists {
-        shape,
-        statics,
-        thunk,
-    } = things;
-    let CodeLists { function, point } = code;
-    let CallLists { signature, site } = calls;
+    let DraftLists {
+        things,
+        code,
+        calls,
+    } = lists;
     Ok(NotesDraft {
         version: version as u32,
         entry,
-        shape,
-        statics,
-        thunk,
-        function,
-        point,
-        signature,
-        site,
+        shape: things.shape,
+        statics: things.statics,
+        thunk: things.thunk,
+        function: code.function,
+        point: code.point,
+        signature: calls.signature,
+        site: calls.site,
     })
 }

@@ -6,18 +6,19 @@ use Rattle.ebc_base.specs.Steps.{or_else, passes}
 use Rattle.note_types.specs.declared.fault.TomlFault.TheVariants.{Kind, Range}
 use Rattle.note_types.specs.Records.{Each}
 use Rattle.note_texts.specs.Grammar.{IsName}
-use Rattle.note_texts.specs.Keys.{field, flag_at, number_at, only_keys, row_prefix, text_at, text_of}
+use Rattle.note_texts.specs.Keys.{field, number_at, only_keys, row_prefix, text_at, text_of}
 use Rattle.note_texts.specs.Lists.{count, each, list_at, row_of, rows_of, table_of, tables_at, texts_at}
 use Rattle.ebc_base.specs.Names.{is_name, name_of}
-use Rattle.note_texts.specs.WantTexts.{result_of, want_param_of}
+use Rattle.note_texts.specs.WantTexts.{want_param_of}
 use Rattle.note_draft.specs.declared.draft.FunctionDraft.{FunctionDraft}
 use Rattle.note_draft.specs.declared.draft.NotesDraft.{NotesDraft}
 use Rattle.note_draft.specs.declared.draft.SignatureDraft.{SignatureDraft}
 use Rattle.note_draft.specs.declared.reading.CallLists.{CallLists}
 use Rattle.note_draft.specs.declared.reading.CodeLists.{CodeLists}
-use Rattle.note_draft.specs.Drafts.{call_lists, code_lists, data_lists, draft_keys, draft_of, extent_of, function_keys, function_of}
-use Rattle.note_draft.specs.Drafts.{greatest_32, has_room, interface_of, point_of, signature_in, signature_of, signatures_at}
-use Rattle.note_draft.specs.Drafts.{signatures_from, site_of}
+use Rattle.note_draft.specs.declared.reading.DraftLists.{DraftLists}
+use Rattle.note_draft.specs.Drafts.{call_lists, code_lists, data_lists, draft_keys, draft_lists, draft_of, extent_of, function_enter}
+use Rattle.note_draft.specs.Drafts.{function_of, greatest_32, has_room, interface_of, method_of, point_of, signature_in, signature_of}
+use Rattle.note_draft.specs.Drafts.{signature_result, signatures_at, signatures_from, site_of}
 use Rattle.note_draft.specs.Names.{distinct}
 use Rattle.type_notes.proofs.ListBounds.{each_read}
 use Rattle.type_notes.proofs.Outcomes.{some_if}
@@ -50,8 +51,7 @@ function_named prefix table =
     ok_then IsName IsNamedFunction (text_at name_of prefix (codes "name") table) _ (name_read prefix (codes "name") table)
     (λ name is. ok_next IsNamedFunction (extent_of prefix table) _
     (λ extent. ok_next IsNamedFunction (interface_of prefix table) _
-    (λ interface. ok_next IsNamedFunction (flag_at prefix (codes "enter") table) _
-    (λ enter. ok_next IsNamedFunction (only_keys prefix function_keys table) _ (λ _. is)))))
+    (λ interface. ok_next IsNamedFunction (function_enter prefix table) _ (λ enter. is))))
 
 functions_named : (table : Members) → IfOk (code_lists table) (λ (code : CodeLists). Each IsNamedFunction code.function)
 unfolding code_lists tables_at rows_of
@@ -68,16 +68,19 @@ functions_named table =
 
 -- ---- methods
 
+method_is : (methods : List (List ℕ)) (prefix : List ℕ) (table : Members) → IfOk (method_of methods prefix table) IsName
+unfolding method_of
+method_is methods prefix table =
+    ok_then IsName IsName (text_at name_of prefix (codes "method") table) _ (name_read prefix (codes "method") table)
+    (λ method is. ok_next IsName (passes (has_room methods method) (Range (prefix ++ codes "method"))) _ (λ _. is))
+
 method_named : (methods : List (List ℕ)) (prefix : List ℕ) (table : Members) → IfOk (signature_of methods prefix table) HasNamedMethod
 unfolding signature_of
 method_named methods prefix table =
     ok_next HasNamedMethod (text_at name_of prefix (codes "name") table) _
-    (λ name. ok_then IsName HasNamedMethod (text_at name_of prefix (codes "method") table) _ (name_read prefix (codes "method") table)
-    (λ method is. ok_next HasNamedMethod (passes (has_room methods method) (Range (prefix ++ codes "method"))) _
-    (λ _. ok_next HasNamedMethod (texts_at want_param_of prefix (codes "params") 16 table) _
-    (λ params. ok_next HasNamedMethod (text_at result_of prefix (codes "result") table) _
-    (λ result. ok_next HasNamedMethod (only_keys prefix (codes "name" ∷ codes "method" ∷ codes "params" ∷ codes "result" ∷ []) table) _
-    (λ _. is))))))
+    (λ name. ok_then IsName HasNamedMethod (method_of methods prefix table) _ (method_is methods prefix table)
+    (λ method is. ok_next HasNamedMethod (texts_at want_param_of prefix (codes "params") 16 table) _
+    (λ params. ok_next HasNamedMethod (signature_result prefix table) _ (λ result. is))))
 
 methods_from : (before : List (List ℕ)) (path : List ℕ) (i : ℕ) (ds : Items) → IfOk (signatures_from before path i ds) (Each HasNamedMethod)
 unfolding signatures_from
@@ -105,12 +108,23 @@ pub record IsNamed (d : NotesDraft) : Type 0 where
   pub functions : Each IsNamedFunction d.function
   pub methods : Each HasNamedMethod d.signature
 
+record AreNamed (lists : DraftLists) : Type 0 where
+  pub functions : Each IsNamedFunction lists.code.function
+  pub methods : Each HasNamedMethod lists.calls.signature
+
+lists_named : (table : Members) → IfOk (draft_lists table) AreNamed
+unfolding draft_lists
+lists_named table =
+    ok_next AreNamed (data_lists table) _
+    (λ things. ok_then (λ (code : CodeLists). Each IsNamedFunction code.function) AreNamed (code_lists table) _ (functions_named table)
+    (λ code named. ok_then (λ (calls : CallLists). Each HasNamedMethod calls.signature) AreNamed (call_lists table) _ (methods_named table)
+    (λ calls are. record { functions = named; methods = are })))
+
 pub draft_named : (table : Members) → IfOk (draft_of table) IsNamed
 unfolding draft_of
 draft_named table =
     ok_next IsNamed (number_at [] (codes "version") 1 1 table) _
     (λ version. ok_next IsNamed (text_at name_of [] (codes "entry") table) _
-    (λ entry. ok_next IsNamed (data_lists table) _
-    (λ things. ok_then (λ (code : CodeLists). Each IsNamedFunction code.function) IsNamed (code_lists table) _ (functions_named table)
-    (λ code named. ok_then (λ (calls : CallLists). Each HasNamedMethod calls.signature) IsNamed (call_lists table) _ (methods_named table)
-    (λ calls are. ok_next IsNamed (only_keys [] draft_keys table) _ (λ _. record { functions = named; methods = are }))))))
+    (λ entry. ok_then AreNamed IsNamed (draft_lists table) _ (lists_named table)
+    (λ lists named. ok_next IsNamed (only_keys [] draft_keys table) _
+    (λ _. record { functions = named.functions; methods = named.methods }))))

@@ -18,11 +18,11 @@ use Rattle.note_draft.specs.declared.tables.NameTables.{NameTables}
 use Rattle.note_draft.specs.Drafts.{draft_of}
 use Rattle.note_draft.specs.Findings.{refused}
 use Rattle.note_draft.specs.Known.{known}
-use Rattle.note_draft.specs.Once.{function_names, method_names, names_of_calls, once, repeated_in_functions, repeated_in_points}
-use Rattle.note_draft.specs.Once.{repeated_place_in, shape_names}
+use Rattle.note_draft.specs.Once.{function_names, method_names, names_of_calls, names_of_code, names_of_data, once}
+use Rattle.note_draft.specs.Once.{repeated_in_functions, repeated_in_points}
 use Rattle.note_draft.specs.Repeats.{first_repeat}
 use Rattle.type_notes.specs.Conditions.{conditions}
-use Rattle.type_notes.specs.Notes.{notes_in, notes_of}
+use Rattle.type_notes.specs.Notes.{known_names, notes_in, notes_of}
 use Rattle.type_notes.specs.Resolved.{resolved, resolved_function}
 use Rattle.type_notes.proofs.ListBounds.{each_map}
 use Rattle.type_notes.proofs.NamesFound.{none_sooner, nothing_refused, once-names}
@@ -51,17 +51,21 @@ none_again d =
     (refused refusals.Twice (repeated_in_functions d.function)) _ (nothing_refused refusals.Twice (repeated_in_functions d.function))
     (λ _ none. nothing-at list.Function key.Name (first_repeat bytes_eq (names_of d)) (none_sooner _ _ none).0)
 
+functions_apart : (d : NotesDraft) → IfOk (names_of_code d) (λ names. first_repeat bytes_eq (names_of d) ≡ None)
+unfolding names_of_code
+functions_apart d =
+    let F : List (List ℕ) → Type 0 = λ names. first_repeat bytes_eq (names_of d) ≡ None in
+    ok_then F F (function_names d.function) _ (none_again d)
+    (λ functions apart. ok_next F (refused refusals.Twice (repeated_in_points d.point)) _ (λ _. apart))
+
 functions_once : (d : NotesDraft) → IfOk (once d) (λ t. first_repeat bytes_eq (names_of d) ≡ None)
 unfolding once
 functions_once d =
     let P : NameTables → Type 0 = λ t. first_repeat bytes_eq (names_of d) ≡ None in
     let F : List (List ℕ) → Type 0 = λ names. first_repeat bytes_eq (names_of d) ≡ None in
-    ok_next P (shape_names d.shape) _
-    (λ shapes. ok_next P (refused refusals.Twice (repeated_place_in list.Static (map (λ o. o.place) d.statics))) _
-    (λ _. ok_next P (refused refusals.Twice (repeated_place_in list.Thunk (map (λ o. o.place) d.thunk))) _
-    (λ _. ok_then F P (function_names d.function) _ (none_again d)
-    (λ functions apart. ok_next P (refused refusals.Twice (repeated_in_points d.point)) _
-    (λ _. ok_next P (names_of_calls d) _ (λ signatures. apart))))))
+    ok_next P (names_of_data d) _
+    (λ shapes. ok_then F P (names_of_code d) _ (functions_apart d)
+    (λ functions apart. ok_next P (names_of_calls d) _ (λ calls. apart)))
 
 -- ---- names by their numbers
 
@@ -114,12 +118,21 @@ ok_both : {A E : Type 0} (P Q : A → Type 0) (a : Result A E) → IfOk a P → 
 ok_both P Q (Ok x) h g = (h, g)
 ok_both P Q (Err e) h g = tt
 
+-- the names of a draft are those that it gives, and its functions have names of their own
+names_apart : (d : NotesDraft)
+    → IfOk (known_names d) (λ (t : NameTables). found.HasNames d t × (first_repeat bytes_eq (names_of d) ≡ None))
+unfolding known_names
+names_apart d =
+    let P : NameTables → Type 0 = λ t. found.HasNames d t × (first_repeat bytes_eq (names_of d) ≡ None) in
+    ok_then P P (once d) _
+    (ok_both (found.HasNames d) (λ t. first_repeat bytes_eq (names_of d) ≡ None) (once d) (once-names d) (functions_once d))
+    (λ t h. ok_next P (known t d) _ (λ _. h))
+
 draft_names : (d : NotesDraft) → IsNamed d → IfOk (notes_in d) HasNames
 unfolding notes_in
 draft_names d named =
-    ok_then (λ t. found.HasNames d t × (first_repeat bytes_eq (names_of d) ≡ None)) HasNames (once d) _
-    (ok_both (found.HasNames d) (λ t. first_repeat bytes_eq (names_of d) ≡ None) (once d) (once-names d) (functions_once d))
-    (λ t h. ok_next HasNames (known t d) _ (λ _. ok_next HasNames (conditions t d) _ (λ _. names_in t d named h.0 h.1)))
+    ok_then (λ t. found.HasNames d t × (first_repeat bytes_eq (names_of d) ≡ None)) HasNames (known_names d) _ (names_apart d)
+    (λ t h. ok_next HasNames (conditions t d) _ (λ _. names_in t d named h.0 h.1))
 
 notes_names : (text : List ℕ) → IfOk (notes_of text) HasNames
 unfolding notes_of

@@ -6,10 +6,12 @@ use Rattle.std.proofs.lemmas.Bool.Decides.{nat_tests}
 use Rattle.std.proofs.lemmas.Option.{same_Some, slice_get-map}
 use Rattle.std.specs.List.{list_all, range_with_len, sum_by}
 use Rattle.std.specs.Option.{option_map, option_map_or}
-use Rattle.std.specs.Prelude.{◌||◌, nat_le, nat_lt, not, codes, ◌++◌}
+use Rattle.std.specs.Prelude.{◌||◌, nat_le, nat_lt, not, codes, ◌++◌, IfOk}
 use Rattle.ebc_base.specs.Steps.{◌>>=◌, passes}
 use Rattle.note_texts.specs.Keys.{document, row_prefix}
+use Rattle.note_texts.specs.Outcome.{Gives}
 use Rattle.note_types.specs.Cells.{content_type}
+use Rattle.note_types.specs.declared.fault.NotesEnd.{NotesEnd}
 use Rattle.note_types.specs.declared.fault.TomlFault.{TomlFault}
 use Rattle.note_types.specs.declared.notes.Notes.{Notes}
 use Rattle.note_types.specs.declared.script.CellValue.{CellValue}
@@ -35,9 +37,11 @@ use Rattle.protocol_script.specs.ShapeTests.{fits_at, is_shape}
 use Rattle.protocol_script.specs.declared.tables.TableCondition.{TableCondition}
 use Rattle.protocol_script.specs.declared.tables.TableCondition.TheVariants.{Instances, WellFormed, Contents, Pointers}
 use Rattle.protocol_script.specs.Resolved.{resolved}
-use Rattle.protocol_script.specs.Scripts.{script_of}
+use Rattle.protocol_script.specs.Scripts.{script_in, script_of}
+use Rattle.script_draft.specs.declared.draft.ScriptDraft.{ScriptDraft}
 use Rattle.script_draft.specs.Drafts.{draft_of}
 use Rattle.script_draft.specs.Once.{once}
+use Rattle.script_draft.specs.Records.{IsDraft}
 use Rattle.script_draft.proofs.DraftLaws.{draft_is, ok_step, same_Ok}
 use Rattle.protocol_script.proofs.NumberedLaws.{IsNumberedCall, IsNumberedObject, IsNumberedScript, IsNumberedWrite, made_shapes}
 use Rattle.protocol_script.proofs.NumberedLaws.{script_for}
@@ -300,15 +304,24 @@ script-of notes script numbered h =
       room = λ k o at. room-at notes script.object k o few.objects at;
     }
 
+-- the script that a draft stands for under notes meets the conditions on scripts
+draft-is-script : (notes : Notes) (d : ScriptDraft) (script : Script) → IsDraft d → script_in notes d ≡ Ok script → IsScript notes script
+unfolding script_in
+draft-is-script notes d script is h =
+    ok_step (resolved notes d) (λ s. conditions notes s >>= λ _. Ok s) script h (λ s one h.
+    ok_step (conditions notes s) (λ _. Ok s) script h (λ v two e.
+    subst (IsScript notes) (same_Ok s script e) (script-of notes s (script_for notes d s is one) two)))
+
+-- so does one that a function gives that reads a draft
+pub gives-script : (notes : Notes) (d : ScriptDraft) (result : Result Script NotesEnd) → IsDraft d → Gives result (script_in notes d)
+    → IfOk result (IsScript notes)
+gives-script notes d (Ok script) is e = draft-is-script notes d script is e
+gives-script notes d (Err end) is e = tt
+
 -- the script that a text stands for under notes meets the conditions on scripts
 pub read-is-script : (notes : Notes) (text : List ℕ) (script : Script) → script_of notes text ≡ Ok script → IsScript notes script
 unfolding script_of
 read-is-script notes text script h =
-    ok_step (document text)
-    (λ table. draft_of table >>= λ d. once d >>= λ _. resolved notes d >>= λ s. conditions notes s >>= λ _. Ok s) script h
-    (λ table one h.
-    ok_step (draft_of table) (λ d. once d >>= λ _. resolved notes d >>= λ s. conditions notes s >>= λ _. Ok s) script h (λ d two h.
-    ok_step (once d) (λ _. resolved notes d >>= λ s. conditions notes s >>= λ _. Ok s) script h (λ u three h.
-    ok_step (resolved notes d) (λ s. conditions notes s >>= λ _. Ok s) script h (λ s four h.
-    ok_step (conditions notes s) (λ _. Ok s) script h (λ v five e.
-    subst (IsScript notes) (same_Ok s script e) (script-of notes s (script_for notes d s (draft_is table d two) four) five))))))
+    ok_step (document text) (λ table. draft_of table >>= λ d. once d >>= λ _. script_in notes d) script h (λ table one h.
+    ok_step (draft_of table) (λ d. once d >>= λ _. script_in notes d) script h (λ d two h.
+    ok_step (once d) (λ _. script_in notes d) script h (λ u three h. draft-is-script notes d script (draft_is table d two) h)))

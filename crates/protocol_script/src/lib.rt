@@ -7,7 +7,7 @@
 ghost use Rattle.note_texts.specs.Outcome.{Gives};
 ghost use Rattle.std.specs.Prelude.{IfOk};
 ghost use Rattle.host_model.specs.Scripts.{IsScript};
-ghost use Rattle.protocol_script.specs.Scripts.{script_of};
+ghost use Rattle.protocol_script.specs.Scripts.{script_in, script_of};
 
 mod conditions;
 mod contents;
@@ -24,8 +24,18 @@ use crate::resolve::resolve_script;
 pub use laws::{printed_texts_are_read, read_names_are_given, read_notes_print_and_read};
 use note_texts::document;
 use note_types::{Notes, NotesEnd, Script};
-use script_draft::{cells_once, read_draft};
+use script_draft::{ScriptDraft, cells_once, read_draft};
 use std::alloc::Global;
+
+// The script that a draft stands for under the notes of its program.
+#[tactic(auto, unfolding(crate::specs::Scripts::script_in))]
+fn script_in(alloc: Global, notes: &Notes, draft: &ScriptDraft) -> Result<Script, NotesEnd>
+    ensures { Gives result (script_in notes.now draft.now) }
+{
+    let script = resolve_script(alloc, notes, draft)?;
+    meet_conditions(alloc, notes, &script)?;
+    Ok(script)
+}
 
 /// The script that a text stands for under the notes of its program.
 ///
@@ -42,7 +52,5 @@ pub fn read_script(alloc: Global, text: &[u8], notes: &Notes) -> Result<Script, 
     let table = document(alloc, text)?;
     let draft = read_draft(alloc, &table)?;
     cells_once(alloc, &draft)?;
-    let script = resolve_script(alloc, notes, &draft)?;
-    meet_conditions(alloc, notes, &script)?;
-    Ok(script)
+    script_in(alloc, notes, &draft)
 }

@@ -316,6 +316,19 @@ fn resolve_objects(
     Ok(Sequence::new(values))
 }
 
+// The objects that the firmware makes in a call.
+fn resolve_made(
+    alloc: Global,
+    notes: &Notes,
+    prefix: &str,
+    call: &CallDraft,
+) -> Result<Sequence<ScriptObject>, NotesEnd>
+    ensures { Gives result (resolved_objects notes.now (prefix.now ++ codes "make") call.now.make) }
+{
+    let path = format!(in alloc; "{prefix}make")?;
+    resolve_objects(alloc, notes, path.as_str(), call.make.as_slice())
+}
+
 /// What the firmware leaves and gives where it replies.
 #[derive(Drop)]
 pub struct Reply {
@@ -364,8 +377,7 @@ fn resolve_call(
     let signature = known(alloc, prefix, "signature", signature)?;
     let args = all_known(alloc, scope, prefix, "args", call.args.as_slice())?;
     let enter = all_known(alloc, scope, prefix, "enter", call.enter.as_slice())?;
-    let path = format!(in alloc; "{prefix}make")?;
-    let make = resolve_objects(alloc, notes, path.as_str(), call.make.as_slice())?;
+    let make = resolve_made(alloc, notes, prefix, call)?;
     let Reply { out, write, result } = resolve_reply(alloc, notes, shapes, prefix, call)?;
     Ok(ScriptCall {
         signature,

@@ -13,8 +13,9 @@ use Rattle.note_types.specs.declared.notes.Pair.{Pair}
 use Rattle.note_types.specs.Records.{Each, HasNameLength, IsPlace}
 use Rattle.note_texts.specs.declared.slot.ItemText.{ItemText}
 use Rattle.note_texts.specs.declared.slot.ItemText.TheVariants as items
+use Rattle.note_texts.specs.declared.want.ResultText.{ResultText}
 use Rattle.note_texts.specs.CellTexts.{field_of}
-use Rattle.note_texts.specs.Keys.{field, flag_at, natural_in, number_at, only_keys, optional_text_at, pair_at, row_prefix, text_at, text_of}
+use Rattle.note_texts.specs.Keys.{field, natural_in, number_at, only_keys, optional_text_at, pair_at, row_prefix, text_at, text_of}
 use Rattle.note_texts.specs.Keys.{two_items, whole_number}
 use Rattle.note_texts.specs.Lists.{array_at, count, count_beside, each, has_text, is_text, list_at, row_of, rows_of, same_text, table_of}
 use Rattle.note_texts.specs.Lists.{tables_at, texts_at, texts_beside_at, texts_of}
@@ -32,10 +33,12 @@ use Rattle.note_draft.specs.declared.draft.ThunkDraft.{ThunkDraft}
 use Rattle.note_draft.specs.declared.reading.CallLists.{CallLists}
 use Rattle.note_draft.specs.declared.reading.CodeLists.{CodeLists}
 use Rattle.note_draft.specs.declared.reading.DataLists.{DataLists}
+use Rattle.note_draft.specs.declared.reading.DraftLists.{DraftLists}
 use Rattle.note_draft.specs.declared.reading.Extent.{Extent}
 use Rattle.note_draft.specs.declared.reading.Interface.{Interface}
-use Rattle.note_draft.specs.Drafts.{call_lists, code_lists, data_lists, draft_of, extent_of, function_of, greatest_32, greatest_64}
-use Rattle.note_draft.specs.Drafts.{has_room, interface_of, last_place, point_of, shape_of, signature_in, signature_of, signatures_at}
+use Rattle.note_draft.specs.Drafts.{call_lists, code_lists, data_lists, draft_lists, draft_of, extent_of, function_enter, function_of}
+use Rattle.note_draft.specs.Drafts.{greatest_32, greatest_64, has_room, interface_of, last_place, method_of, point_keys}
+use Rattle.note_draft.specs.Drafts.{point_made, point_of, shape_of, signature_in, signature_of, signature_result, signatures_at}
 use Rattle.note_draft.specs.Drafts.{signatures_from, site_of, static_of, thunk_of}
 use Rattle.ebc_base.specs.Tables.{is_named, with_name}
 use Rattle.note_draft.specs.Names.{distinct}
@@ -312,9 +315,8 @@ function_of-bounds prefix table =
     (text_at-bounds HasNameLength name_of prefix (codes "name") table name_of-bounds)
     (λ name long. ok_then IsExtent IsFunctionDraft (extent_of prefix table) _ (extent_of-bounds prefix table)
     (λ extent x. ok_then IsInterface IsFunctionDraft (interface_of prefix table) _ (interface_of-bounds prefix table)
-    (λ interface y. ok_next IsFunctionDraft (flag_at prefix (codes "enter") table) _
-    (λ enter. ok_next IsFunctionDraft (only_keys prefix _ table) _
-    (λ _. record { name = long; place = x.place; end = x.end; level = x.level; need = x.need; params = y.params; result = y.result })))))
+    (λ interface y. ok_next IsFunctionDraft (function_enter prefix table) _
+    (λ enter. record { name = long; place = x.place; end = x.end; level = x.level; need = x.need; params = y.params; result = y.result }))))
 
 -- ---- points
 
@@ -323,6 +325,15 @@ pub record IsPointDraft (p : PointDraft) : Type 0 where
   pub regs : Each (λ r. IsTypeBounded r.ty) p.regs
   pub stack : IsStack p.stack
   pub made : p.made < 2 ^ 32
+
+point_made-bounds : (prefix : List ℕ) (table : Members) → IfOk (point_made prefix table) (λ made. made < 2 ^ 32)
+unfolding point_made
+point_made-bounds prefix table =
+    let P : ℕ → Type 0 = λ made. made < 2 ^ 32 in
+    ok_then (IsWithin 0 greatest_32) P (number_at prefix (codes "made") 0 greatest_32 table) _
+    (number_at-bounds prefix (codes "made") 0 greatest_32 table)
+    (λ made small. ok_next P (only_keys prefix point_keys table) _
+    (λ _. let a : made ≤ 2 ^ 32 - 1 = small.1 in let b : made < 2 ^ 32 = omega arith in b))
 
 point_of-bounds : (prefix : List ℕ) (table : Members) → IfOk (point_of prefix table) IsPointDraft
 unfolding point_of
@@ -335,16 +346,8 @@ point_of-bounds prefix table =
     (λ regs known. ok_then IsStack IsPointDraft (texts_beside_at item_of prefix (codes "stack") 64 (codes "locals") table) _
     (stack_at-bounds prefix table)
     (λ stack few. ok_next IsPointDraft (texts_at name_of prefix (codes "written") greatest_64 table) _
-    (λ written. ok_then (IsWithin 0 greatest_32) IsPointDraft (number_at prefix (codes "made") 0 greatest_32 table) _
-    (number_at-bounds prefix (codes "made") 0 greatest_32 table)
-    (λ made small. ok_next IsPointDraft
-    (only_keys prefix (codes "place" ∷ codes "regs" ∷ codes "stack" ∷ codes "written" ∷ codes "made" ∷ []) table) _
-    (λ _. let a : made ≤ 2 ^ 32 - 1 = small.1 in record {
-      place = place_below place low;
-      regs = known.1;
-      stack = few;
-      made = omega arith;
-    }))))))
+    (λ written. ok_then (λ made. made < 2 ^ 32) IsPointDraft (point_made prefix table) _ (point_made-bounds prefix table)
+    (λ made small. record { place = place_below place low; regs = known.1; stack = few; made = small })))))
 
 -- ---- signatures and sites
 
@@ -367,6 +370,32 @@ room_left false names m e h =
 abbrev pub IsSignatureAfter : List (List ℕ) → SignatureDraft → Type 0
 IsSignatureAfter methods s = IsSignatureDraft s × (length methods ≤ 1024 → length (with_name s.method methods) ≤ 1024)
 
+-- a name that has room beside others
+record IsMethodAfter (methods : List (List ℕ)) (method : List ℕ) : Type 0 where
+  pub long : HasNameLength method
+  pub room : has_room methods method ≡ true
+
+method_of-bounds : (methods : List (List ℕ)) (prefix : List ℕ) (table : Members)
+    → IfOk (method_of methods prefix table) (IsMethodAfter methods)
+unfolding method_of
+method_of-bounds methods prefix table =
+    let P : List ℕ → Type 0 = IsMethodAfter methods in
+    ok_then HasNameLength P (text_at name_of prefix (codes "method") table) _
+    (text_at-bounds HasNameLength name_of prefix (codes "method") table name_of-bounds)
+    (λ method there. ok_then (λ _. has_room methods method ≡ true) P (passes (has_room methods method) (Range (prefix ++ codes "method"))) _
+    (ok_passes (has_room methods method) (Range (prefix ++ codes "method")))
+    (λ _ room. record { long = there; room = room }))
+
+signature_result-bounds : (prefix : List ℕ) (table : Members)
+    → IfOk (signature_result prefix table) (λ (r : ResultText). IfSome r.ty IsGivenBounded)
+unfolding signature_result
+signature_result-bounds prefix table =
+    let P : ResultText → Type 0 = λ r. IfSome r.ty IsGivenBounded in
+    ok_then P P (text_at result_of prefix (codes "result") table) _
+    (text_at-bounds P result_of prefix (codes "result") table result_of-bounds)
+    (λ result given. ok_next P (only_keys prefix (codes "name" ∷ codes "method" ∷ codes "params" ∷ codes "result" ∷ []) table) _
+    (λ _. given))
+
 signature_of-bounds : (methods : List (List ℕ)) (prefix : List ℕ) (table : Members)
     → IfOk (signature_of methods prefix table) (IsSignatureAfter methods)
 unfolding signature_of
@@ -374,19 +403,14 @@ signature_of-bounds methods prefix table =
     let P : SignatureDraft → Type 0 = IsSignatureAfter methods in
     ok_then HasNameLength P (text_at name_of prefix (codes "name") table) _
     (text_at-bounds HasNameLength name_of prefix (codes "name") table name_of-bounds)
-    (λ name long. ok_then HasNameLength P (text_at name_of prefix (codes "method") table) _
-    (text_at-bounds HasNameLength name_of prefix (codes "method") table name_of-bounds)
-    (λ method there. ok_then (λ _. has_room methods method ≡ true) P (passes (has_room methods method) (Range (prefix ++ codes "method"))) _
-    (ok_passes (has_room methods method) (Range (prefix ++ codes "method")))
-    (λ _ room. ok_then (IsList 16 IsWantParamBounded) P (texts_at want_param_of prefix (codes "params") 16 table) _
+    (λ name long. ok_then (IsMethodAfter methods) P (method_of methods prefix table) _ (method_of-bounds methods prefix table)
+    (λ method there. ok_then (IsList 16 IsWantParamBounded) P (texts_at want_param_of prefix (codes "params") 16 table) _
     (texts_at-bounds IsWantParamBounded want_param_of prefix (codes "params") 16 table want_param_of-bounds)
-    (λ params few. ok_then (λ r. IfSome r.ty IsGivenBounded) P (text_at result_of prefix (codes "result") table) _
-    (text_at-bounds (λ r. IfSome r.ty IsGivenBounded) result_of prefix (codes "result") table result_of-bounds)
-    (λ result given. ok_next P (only_keys prefix (codes "name" ∷ codes "method" ∷ codes "params" ∷ codes "result" ∷ []) table) _
-    (λ _. (
-      record { name = long; method = there; params = few; result = given },
-      λ h. room_left (is_named method methods) methods method room h,
-    )))))))
+    (λ params few. ok_then (λ r. IfSome r.ty IsGivenBounded) P (signature_result prefix table) _ (signature_result-bounds prefix table)
+    (λ result given. (
+      record { name = long; method = there.long; params = few; result = given },
+      λ h. room_left (is_named method methods) methods method there.room h,
+    )))))
 
 -- the methods of signatures
 abbrev pub methods_of : List SignatureDraft → List (List ℕ)
@@ -495,6 +519,19 @@ call_lists-bounds table =
     (tables_at-bounds (λ o. IsPlace o.place) site_of (codes "site") greatest_32 table site_of-bounds)
     (λ site b. record { signature = a; site = b }))
 
+record AreLists (x : DraftLists) : Type 0 where
+  pub things : AreData x.things
+  pub code : AreCode x.code
+  pub calls : AreCalls x.calls
+
+draft_lists-bounds : (table : Members) → IfOk (draft_lists table) AreLists
+unfolding draft_lists
+draft_lists-bounds table =
+    ok_then AreData AreLists (data_lists table) _ (data_lists-bounds table)
+    (λ things a. ok_then AreCode AreLists (code_lists table) _ (code_lists-bounds table)
+    (λ code b. ok_then AreCalls AreLists (call_lists table) _ (call_lists-bounds table)
+    (λ calls c. record { things = a; code = b; calls = c })))
+
 -- what the first pass tells of a draft
 pub record IsDraft (d : NotesDraft) : Type 0 where
   pub version : d.version ≡ 1
@@ -511,18 +548,16 @@ unfolding draft_of
 draft_of-bounds table =
     ok_then (IsWithin 1 1) IsDraft (number_at [] (codes "version") 1 1 table) _ (number_at-bounds [] (codes "version") 1 1 table)
     (λ version one. ok_next IsDraft (text_at name_of [] (codes "entry") table) _
-    (λ entry. ok_then AreData IsDraft (data_lists table) _ (data_lists-bounds table)
-    (λ things a. ok_then AreCode IsDraft (code_lists table) _ (code_lists-bounds table)
-    (λ code b. ok_then AreCalls IsDraft (call_lists table) _ (call_lists-bounds table)
-    (λ calls c. ok_next IsDraft (only_keys [] _ table) _
+    (λ entry. ok_then AreLists IsDraft (draft_lists table) _ (draft_lists-bounds table)
+    (λ lists are. ok_next IsDraft (only_keys [] _ table) _
     (λ _. let low : 1 ≤ version = one.0 in let high : version ≤ 1 = one.1 in
     record {
       version = omega arith;
-      shape = a.shape;
-      statics = a.statics;
-      thunk = a.thunk;
-      function = b.function;
-      point = b.point;
-      signature = c.signature;
-      site = c.site;
-    }))))))
+      shape = are.things.shape;
+      statics = are.things.statics;
+      thunk = are.things.thunk;
+      function = are.code.function;
+      point = are.code.point;
+      signature = are.calls.signature;
+      site = are.calls.site;
+    }))))

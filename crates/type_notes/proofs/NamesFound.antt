@@ -10,14 +10,16 @@ use Rattle.note_draft.specs.declared.finding.Key.TheVariants as key
 use Rattle.note_draft.specs.declared.finding.Refusal.{Refusal}
 use Rattle.note_draft.specs.declared.finding.Refusal.TheVariants as refusals
 use Rattle.note_draft.specs.declared.finding.TableList.TheVariants as list
+use Rattle.note_draft.specs.declared.once.CallNames.{CallNames}
 use Rattle.note_draft.specs.declared.tables.NameTables.{NameTables}
 use Rattle.note_draft.specs.Findings.{refused, sooner}
 use Rattle.note_draft.specs.Known.{known, knows_fields, knows_locals, knows_params, knows_regs, knows_result, knows_stack, knows_type}
 use Rattle.note_draft.specs.Known.{knows_wants, unknown, unknown_in_functions, unknown_in_points, unknown_in_shapes, unknown_in_signatures}
 use Rattle.note_draft.specs.Known.{unknown_in_sites, unknown_in_statics, unknown_in_thunks}
 use Rattle.ebc_base.specs.Tables.{is_named}
-use Rattle.note_draft.specs.Once.{function_names, method_names, names_of_calls, once, repeated_in_functions, repeated_in_points}
-use Rattle.note_draft.specs.Once.{repeated_in_shapes, repeated_in_signatures, repeated_place_in, shape_names, signature_names}
+use Rattle.note_draft.specs.Once.{function_names, method_names, names_of_calls, names_of_code, names_of_data, once}
+use Rattle.note_draft.specs.Once.{repeated_in_functions, repeated_in_points, repeated_in_shapes, repeated_in_signatures}
+use Rattle.note_draft.specs.Once.{repeated_place_in, shape_names, signature_names}
 use Rattle.type_notes.proofs.ListBounds.{each_passes}
 use Rattle.type_notes.proofs.OrderLemmas.{neither, nothing-at}
 use Rattle.type_notes.proofs.Outcomes.{ok_passes}
@@ -47,27 +49,43 @@ pub record HasNames (d : NotesDraft) (t : NameTables) : Type 0 where
   pub signature : t.signature ≡ map (λ s. s.name) d.signature
   pub method : t.method ≡ method_names d.signature
 
-signatures_named : (d : NotesDraft) → IfOk (names_of_calls d) (λ names. names ≡ map (λ s. s.name) d.signature)
+shapes_named : (d : NotesDraft) → IfOk (names_of_data d) (λ names. names ≡ map (λ s. s.name) d.shape)
+unfolding names_of_data
+shapes_named d =
+    let P : List (List ℕ) → Type 0 = λ names. names ≡ map (λ s. s.name) d.shape in
+    ok_then P P (shape_names d.shape) _ (ok_next P (refused refusals.Twice (repeated_in_shapes d.shape)) _ (λ _. refl))
+    (λ names e. ok_next P (refused refusals.Twice (repeated_place_in list.Static (map (λ o. o.place) d.statics))) _
+    (λ _. ok_next P (refused refusals.Twice (repeated_place_in list.Thunk (map (λ o. o.place) d.thunk))) _ (λ _. e)))
+
+functions_named : (d : NotesDraft) → IfOk (names_of_code d) (λ names. names ≡ map (λ f. f.name) d.function)
+unfolding names_of_code
+functions_named d =
+    let P : List (List ℕ) → Type 0 = λ names. names ≡ map (λ f. f.name) d.function in
+    ok_then P P (function_names d.function) _ (ok_next P (refused refusals.Twice (repeated_in_functions d.function)) _ (λ _. refl))
+    (λ names e. ok_next P (refused refusals.Twice (repeated_in_points d.point)) _ (λ _. e))
+
+record AreCallNames (d : NotesDraft) (calls : CallNames) : Type 0 where
+  pub signature : calls.signature ≡ map (λ s. s.name) d.signature
+  pub method : calls.method ≡ method_names d.signature
+
+calls_named : (d : NotesDraft) → IfOk (names_of_calls d) (AreCallNames d)
 unfolding names_of_calls
-signatures_named d =
+calls_named d =
     let P : List (List ℕ) → Type 0 = λ names. names ≡ map (λ s. s.name) d.signature in
-    ok_then P P (signature_names d.signature) _ (ok_next P (refused refusals.Twice (repeated_in_signatures d.signature)) _ (λ _. refl))
-    (λ names e. ok_next P (refused refusals.Twice (repeated_place_in list.Site (map (λ s. s.place) d.site))) _ (λ _. e))
+    let Q : CallNames → Type 0 = AreCallNames d in
+    ok_then P Q (signature_names d.signature) _ (ok_next P (refused refusals.Twice (repeated_in_signatures d.signature)) _ (λ _. refl))
+    (λ names e. ok_next Q (refused refusals.Twice (repeated_place_in list.Site (map (λ s. s.place) d.site))) _
+    (λ _. record { signature = e; method = refl }))
 
 pub once-names : (d : NotesDraft) → IfOk (once d) (HasNames d)
 unfolding once
 once-names d =
     let S : List (List ℕ) → Type 0 = λ names. names ≡ map (λ s. s.name) d.shape in
     let F : List (List ℕ) → Type 0 = λ names. names ≡ map (λ f. f.name) d.function in
-    let G : List (List ℕ) → Type 0 = λ names. names ≡ map (λ s. s.name) d.signature in
-    ok_then S (HasNames d) (shape_names d.shape) _ (ok_next S (refused refusals.Twice (repeated_in_shapes d.shape)) _ (λ _. refl))
-    (λ shapes a. ok_next (HasNames d) (refused refusals.Twice (repeated_place_in list.Static (map (λ o. o.place) d.statics))) _
-    (λ _. ok_next (HasNames d) (refused refusals.Twice (repeated_place_in list.Thunk (map (λ o. o.place) d.thunk))) _
-    (λ _. ok_then F (HasNames d) (function_names d.function) _ (ok_next F (refused refusals.Twice (repeated_in_functions d.function)) _
-    (λ _. refl))
-    (λ functions b. ok_next (HasNames d) (refused refusals.Twice (repeated_in_points d.point)) _
-    (λ _. ok_then G (HasNames d) (names_of_calls d) _ (signatures_named d)
-    (λ signatures c. record { shape = a; function = b; signature = c; method = refl }))))))
+    ok_then S (HasNames d) (names_of_data d) _ (shapes_named d)
+    (λ shapes a. ok_then F (HasNames d) (names_of_code d) _ (functions_named d)
+    (λ functions b. ok_then (AreCallNames d) (HasNames d) (names_of_calls d) _ (calls_named d)
+    (λ calls c. record { shape = a; function = b; signature = c.signature; method = c.method })))
 
 -- ---- the names that a draft uses
 

@@ -28,7 +28,7 @@ use Rattle.note_draft.specs.Known.{known}
 use Rattle.note_draft.specs.Once.{once}
 use Rattle.note_draft.specs.Repeats.{descends, first_descent}
 use Rattle.type_notes.specs.Conditions.{code_of, conditions, first_past}
-use Rattle.type_notes.specs.Notes.{notes_in, notes_of}
+use Rattle.type_notes.specs.Notes.{known_names, notes_in, notes_of}
 use Rattle.type_notes.specs.Resolved.{resolved, resolved_function, resolved_point, resolved_shape, resolved_signature, resolved_site}
 use Rattle.type_notes.specs.Resolved.{resolved_static, resolved_thunk}
 use Rattle.type_notes.proofs.ConditionsMet.{MeetsConditions, conditions-met}
@@ -180,13 +180,20 @@ module _ (t : NameTables) (d : NotesDraft) (b : IsDraft d) (n : HasNames d t) wh
       code = code_within m;
     }
 
+-- the names of a draft are those that it gives, and those that it uses are among them
+pub known_names-are : (d : NotesDraft) → IfOk (known_names d) (λ t. HasNames d t × KnowsNames t d)
+unfolding known_names
+known_names-are d =
+    let P : NameTables → Type 0 = λ t. HasNames d t × KnowsNames t d in
+    ok_then (HasNames d) P (once d) _ (once-names d)
+    (λ t n. ok_then (λ _. KnowsNames t d) P (known t d) _ (known-names t d) (λ _ w. (n, w)))
+
 -- what a draft within its bounds stands for
 notes_in-notes : (d : NotesDraft) → IsDraft d → IfOk (notes_in d) IsNotes
 unfolding notes_in
 notes_in-notes d b =
-    ok_then (HasNames d) IsNotes (once d) _ (once-names d)
-    (λ t n. ok_then (λ _. KnowsNames t d) IsNotes (known t d) _ (known-names t d)
-    (λ _ w. ok_then (λ _. MeetsConditions t d) IsNotes (conditions t d) _ (conditions-met t d) (λ _ m. resolved-notes t d b n w m)))
+    ok_then (λ t. HasNames d t × KnowsNames t d) IsNotes (known_names d) _ (known_names-are d)
+    (λ t h. ok_then (λ _. MeetsConditions t d) IsNotes (conditions t d) _ (conditions-met t d) (λ _ m. resolved-notes t d b h.0 h.1 m))
 
 -- the notes that a text stands for meet the conditions on notes
 pub notes_of-notes : (text : List ℕ) → IfOk (notes_of text) IsNotes

@@ -431,6 +431,54 @@ fn resolve_calls(
     })
 }
 
+/// All lists with numbers.
+#[derive(Drop)]
+struct ListNotes {
+    things: DataNotes,
+    code: CodeNotes,
+    calls: CallNotes,
+}
+
+fn resolve_lists(
+    alloc: Global,
+    names: &NameTables,
+    draft: &NotesDraft,
+    owners: &[usize],
+) -> Result<ListNotes, NoMemory>
+    requires { AreOwners draft.now.function draft.now.point owners.now }
+    ensures shape { IfOk result (λ lists. lists.things.shape ≡ map (resolved_shape names.now) draft.now.shape) }
+    ensures statics { IfOk result (λ lists. lists.things.statics ≡ map (resolved_static names.now) draft.now.statics) }
+    ensures thunk { IfOk result (λ lists. lists.things.thunk ≡ map (resolved_thunk names.now) draft.now.thunk) }
+    ensures function { IfOk result (λ lists. lists.code.function ≡ map (resolved_function names.now) draft.now.function) }
+    ensures point { IfOk result (λ lists. lists.code.point ≡ map (resolved_point names.now draft.now) draft.now.point) }
+    ensures signature { IfOk result (λ lists. lists.calls.signature ≡ map (resolved_signature names.now) draft.now.signature) }
+    ensures site { IfOk result (λ lists. lists.calls.site ≡ map (resolved_site names.now) draft.now.site) }
+{
+    let things = resolve_data(alloc, names, draft)?;
+    let code = resolve_code(alloc, names, draft, owners)?;
+    let calls = resolve_calls(alloc, names, draft)?;
+    Ok(ListNotes {
+        things,
+        code,
+        calls,
+    })
+}
+
+fn methods_of(alloc: Global, names: NameTables) -> Result<Names, NoMemory>
+    ensures { IfOk result (λ methods. methods ≡ names.method) }
+{
+    let NameTables {
+        shape,
+        function,
+        signature,
+        method,
+    } = names;
+    drop(shape);
+    drop(function);
+    drop(signature);
+    Ok(method.into_names(alloc)?)
+}
+
 /// The notes that a draft stands for. The owner of a point is the number of its function.
 ///
 /// # Errors
@@ -447,16 +495,19 @@ pub fn resolve_notes(
     ensures { IfOk result (λ notes. notes ≡ resolved names draft.now) }
 {
     let entry = names.function.number(&draft.entry);
-    let data = resolve_data(alloc, &names, draft)?;
-    let code = resolve_code(alloc, &names, draft, owners)?;
-    let calls = resolve_calls(alloc, &names, draft)?;
-    let methods = names.method.into_names(alloc)?;
+    let lists = resolve_lists(alloc, &names, draft, owners)?;
+    let methods = methods_of(alloc, names)?;
+    let ListNotes {
+        things,
+        code,
+        calls,
+    } = lists;
     Ok(Notes {
         version: draft.version,
         entry,
-        shape: data.shape,
-        statics: data.statics,
-        thunk: data.thunk,
+        shape: things.shape,
+        statics: things.statics,
+        thunk: things.thunk,
         function: code.function,
         point: code.point,
         signature: calls.signature,

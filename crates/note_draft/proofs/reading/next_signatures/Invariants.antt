@@ -3,7 +3,7 @@ use Rattle.toml.specs.View.{items_view}
 use Rattle.note_draft.specs.Drafts.{signatures_from}
 use Rattle.note_draft.specs.Names.{distinct}
 use Rattle.note_draft.proofs.MethodLemmas.{methods_of, still}
-use Rattle.note_draft.proofs.reading.signatures_of.Given as goal
+use Rattle.note_draft.proofs.reading.next_signatures.Given as goal
 
 abbrev pub invariant-loop-i : goal.invariant-loop-i
 invariant-loop-i l = record {
