@@ -14,4 +14,5 @@ pub mod Values
 pub mod InsnLaws
 pub mod CleanLaws
 pub mod Fitting
+pub mod LabelLaws
 pub mod ListLaws

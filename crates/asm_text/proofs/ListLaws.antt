@@ -102,11 +102,11 @@ pub label_is_name : (place : ℕ) → is_name (label_text place) ≡ true
 unfolding is_name
 label_is_name place = rw (length_hex 8 place, tails (hex_text 8 place) (glyphs_text 8 place)) refl
 
-label_clean : (place : ℕ) → clean (label_text place) ≡ true
+pub label_clean : (place : ℕ) → clean (label_text place) ≡ true
 unfolding clean
 label_clean place = rw (clean_hex 8 place) refl
 
-lacks_both : (b : ℕ) (xs ys : List ℕ) → lacks b xs ≡ true → lacks b ys ≡ true → lacks b (xs ++ ys) ≡ true
+pub lacks_both : (b : ℕ) (xs ys : List ℕ) → lacks b xs ≡ true → lacks b ys ≡ true → lacks b (xs ++ ys) ≡ true
 unfolding lacks
 lacks_both b [] ys h g = g
 lacks_both b (x ∷ xs) ys h g =
@@ -135,10 +135,10 @@ nothing_trimmed = refl
 label_line : (place : ℕ) → line_in (label_text place ++ 58 ∷ []) ≡ Ok (record { label = Some (label_text place); statement = None })
 label_line place =
     let t : List ℕ = label_text place ++ 58 ∷ [] in
-    let named : name (trim (label_text place)) ≡ Ok (label_text place) = ap name (trim_clean (label_text place) (label_clean place) refl)
+    let named : name (trim_front (label_text place)) ≡ Ok (label_text place) = ap name (front_clean (label_text place) refl)
     ∙ rw (label_is_name place) refl in
     let bare : statement_in (trim []) ≡ Ok None = ap statement_in nothing_trimmed in
-    let whole : made labelled (both (name (trim (label_text place))) (statement_in (trim []))) ≡ Ok
+    let whole : made labelled (both (name (trim_front (label_text place))) (statement_in (trim []))) ≡ Ok
     (record { label = Some (label_text place); statement = None }) = ap (λ r. made labelled (both r (statement_in (trim [])))) named
     ∙ ap (λ r. made labelled (both (Ok (label_text place)) r)) bare in
     parts_of_line t (Some (label_text place, [])) (label_ascii place) (label_lacks place)

@@ -5,7 +5,7 @@ use Rattle.ebc_base.specs.Names.{name_of}
 use Rattle.asm_text.specs.declared.fault.AsmFault.{AsmFault}
 use Rattle.asm_text.specs.declared.fault.AsmFault.TheVariants as faults
 use Rattle.asm_text.specs.Faults.{both, made}
-use Rattle.asm_text.specs.Splits.{trim, until, without_comment}
+use Rattle.asm_text.specs.Splits.{trim, trim_front, until, without_comment}
 use Rattle.asm_text.specs.Statements.{Statement, name, statement_of}
 
 -- What a line says.
@@ -31,10 +31,10 @@ labelled p = record { label = Some p.0; statement = p.1 }
 abbrev pub unlabelled : Option Statement → Line
 unlabelled s = record { label = None; statement = s }
 
--- the line whose label, if any, stands before the first colon
+-- the line whose label, if any, stands before the first colon: spaces may stand in front of it, and none before the colon
 abbrev pub parted : List ℕ → Option (List ℕ × List ℕ) → Result Line AsmFault
 parted text None = made unlabelled (statement_in (trim text))
-parted text (Some p) = made labelled (both (name (trim p.0)) (statement_in (trim p.1)))
+parted text (Some p) = made labelled (both (name (trim_front p.0)) (statement_in (trim p.1)))
 
 -- what a line says, or the lowest of its faults
 unfoldable pub line_in : List ℕ → Result Line AsmFault
@@ -43,7 +43,7 @@ line_in text =
 
 abbrev pub label_in : Option (List ℕ × List ℕ) → Option (List ℕ)
 label_in None = None
-label_in (Some p) = name_of (trim p.0)
+label_in (Some p) = name_of (trim_front p.0)
 
 -- the label of a line, whatever else is wrong with it
 abbrev pub label_of : List ℕ → Option (List ℕ)

@@ -7,7 +7,7 @@ ghost use Rattle.asm_text.specs.Lines.{is_ascii, is_ascii_byte, label_of, line_i
 ghost use Rattle.asm_text.specs.Texts.{IsHeldLine, IsHeldStatement, seen_line, seen_statement};
 
 use crate::fault::{AsmFault, both};
-use crate::splits::{trim, until, without_comment};
+use crate::splits::{trim, trim_front, until, without_comment};
 use crate::statements::{Statement, name, statement_of};
 use ebc_base::name_text;
 
@@ -47,7 +47,7 @@ fn labelled<'a>(front: &'a [u8], back: &'a [u8]) -> Result<Line<'a>, AsmFault>
     ensures same { made seen_line result ≡ parted front.now (Some (front.now, back.now)) }
     ensures held { IfOk result IsHeldLine }
 {
-    let (label, statement) = both(name(trim(front)), statement_in(trim(back)))?;
+    let (label, statement) = both(name(trim_front(front)), statement_in(trim(back)))?;
     let label = Some(label);
     Ok(Line { label, statement })
 }
@@ -82,7 +82,7 @@ pub fn label_of(line: &[u8]) -> Option<&str>
         return None;
     }
     let (front, _) = until(b':', without_comment(line))?;
-    name_text(trim(front))
+    name_text(trim_front(front))
 }
 
 /// The first line of a text, without its line feed, and what follows it: none where the text is empty.

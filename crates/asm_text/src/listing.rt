@@ -50,13 +50,22 @@ impl Listed {
         }
     }
 
+    /// Appends the line without its line feed. It fails only where there is no memory for it.
+    pub fn append_text(&self, alloc: Global, out: &mut Vec<u8>) -> Result<(), AllocError>
+        requires { ListedFits self.now }
+        ensures { OnOk result (out.new.items ≡ out.old.items ++ listed_text self.now) }
+    {
+        let line = self.line(alloc)?;
+        out.extend_from_slice(line.as_bytes())?;
+        Ok(())
+    }
+
     /// Appends the line and its line feed. It fails only where there is no memory for them.
     pub fn append_to(&self, alloc: Global, out: &mut Vec<u8>) -> Result<(), AllocError>
         requires { ListedFits self.now }
         ensures { OnOk result (out.new.items ≡ out.old.items ++ (listed_text self.now ++ 10 ∷ [])) }
     {
-        let line = self.line(alloc)?;
-        out.extend_from_slice(line.as_bytes())?;
+        self.append_text(alloc, out)?;
         out.push(b'\n')?;
         Ok(())
     }

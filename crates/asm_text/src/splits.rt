@@ -72,7 +72,8 @@ pub(crate) fn halves(text: &[u8]) -> Option<(&[u8], &[u8])>
     Some((first, second))
 }
 
-fn trim_front(text: &[u8]) -> &[u8]
+// A text without the spaces in front.
+pub(crate) fn trim_front(text: &[u8]) -> &[u8]
     ensures { result.now ≡ trim_front text.now }
 {
     match text.iter().position(|b| *b != b' ') {

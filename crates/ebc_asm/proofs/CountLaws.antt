@@ -189,7 +189,7 @@ parted_short n text None le h =
 parted_short n text (Some p) le h =
     let e = trim_short p.1 in
     let f : length p.1 < length text = h.1 in
-    labelled_short n (length (trim p.1)) (name (trim p.0)) (statement_in (trim p.1)) (omega (arith, le, e, f))
+    labelled_short n (length (trim p.1)) (name (trim_front p.0)) (statement_in (trim p.1)) (omega (arith, le, e, f))
     (statement_in_short (trim p.1))
 
 or_fault : {A : Type 0} (Q : A → Type 0) (b : Bool) (r : Result A AsmFault) (f : AsmFault) → IfOk r Q → IfOk (cond b r (Err f)) Q

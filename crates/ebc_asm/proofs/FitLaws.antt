@@ -31,7 +31,7 @@ use Rattle.asm_text.specs.declared.form.Form.{Form}
 use Rattle.asm_text.specs.declared.form.Form.TheVariants as forms
 use Rattle.asm_text.specs.Lines.{Line, line_in, parted, statement_in}
 use Rattle.asm_text.specs.Lines as lines
-use Rattle.asm_text.specs.Splits.{halves, is_empty, sole, trim, until, without_comment, word_part}
+use Rattle.asm_text.specs.Splits.{halves, is_empty, sole, trim, trim_front, until, without_comment, word_part}
 use Rattle.asm_text.specs.Statements.{Statement, directed, directive_of, instruction, name, statement_of, starts_point}
 use Rattle.asm_text.specs.Statements as statements
 use Rattle.asm_text.specs.declared.directive.Directive.{Directive}
@@ -280,8 +280,8 @@ parted_fits : (text : List ℕ) (o : Option (List ℕ × List ℕ)) → IfOk (pa
 parted_fits text None = kept_made NamesAre LineNames lines.unlabelled (statement_in (trim text)) (statement_in_fits (trim text))
     (λ s h. (tt, h))
 parted_fits text (Some p) =
-    kept_made (λ q. (is_name q.0 ≡ true) × NamesAre q.1) LineNames lines.labelled (both (name (trim p.0)) (statement_in (trim p.1)))
-    (kept_both (λ n. is_name n ≡ true) NamesAre (name (trim p.0)) (statement_in (trim p.1)) (name_fits (trim p.0))
+    kept_made (λ q. (is_name q.0 ≡ true) × NamesAre q.1) LineNames lines.labelled (both (name (trim_front p.0)) (statement_in (trim p.1)))
+    (kept_both (λ n. is_name n ≡ true) NamesAre (name (trim_front p.0)) (statement_in (trim p.1)) (name_fits (trim_front p.0))
     (statement_in_fits (trim p.1))) (λ q h. h)
 
 line_names : (text : List ℕ) → IfOk (line_in text) LineNames

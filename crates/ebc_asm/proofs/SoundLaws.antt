@@ -1,4 +1,5 @@
--- What a source of at most 1 MiB stands for is an object.
+-- What a source stands for is an object, where it has no more symbols and fixups than an object may have; a source of at most 1 MiB
+-- has no more.
 use Rattle.std.proofs.Common.{◌≡◌, ℕ, ◌+◌, ◌≤◌, List, [], ◌∷◌, ◌++◌, length, map, Result, Ok, Err, Bool, true, false, refl, sym, ap, subst}
 use Rattle.std.proofs.Common.{arith}
 use Rattle.std.proofs.lemmas.Bool.Decides.{nat_tests}
@@ -54,11 +55,15 @@ passed texts before t l h = read_passed texts before (line_in t) l h
 
 -- ---- lines
 
--- Lines of at most so many names have what is read, in sections that aren't too large.
-record Reads (n : ℕ) (ls : List Line) : Type 0 where
-  fit : AreFit ls
-  code : length (section_of false false ls) ≤ most
-  contents : length (section_of true false ls) ≤ most
+-- Lines have what is read, in sections that aren't too large.
+pub record Reads (ls : List Line) : Type 0 where
+  pub fit : AreFit ls
+  pub code : length (section_of false false ls) ≤ most
+  pub contents : length (section_of true false ls) ≤ most
+
+-- Such lines have at most so many names.
+record ReadsFew (n : ℕ) (ls : List Line) : Type 0 where
+  reads : Reads ls
   few : names_in_lines ls ≤ n
 
 fit_last : (ls : List Line) (l : Line) → AreFit ls → LineFits l → AreFit (ls ++ l ∷ [])
@@ -87,60 +92,60 @@ section_within w ls l h r =
     (λ e. ap (λ d. section_of d false ls) e) (room_of ls l r))
 
 reads_more : (texts : List (List ℕ)) (before : List Line) (t : List ℕ) (l : Line) (n : ℕ) → line_behind texts before t ≡ Ok l
-    → Reads n before → Reads (n + length t) (before ++ l ∷ [])
+    → ReadsFew n before → ReadsFew (n + length t) (before ++ l ∷ [])
 reads_more texts before t l n h r =
     let p = passed texts before t l h in
     let more = names_in_more before l in
     let few = line_few t l p.0 in
     let old = r.few in
     record {
-      fit = fit_last before l r.fit (line_fits t l p.0);
-      code = section_within false before l r.code p.1;
-      contents = section_within true before l r.contents p.1;
+      reads = record {
+        fit = fit_last before l r.reads.fit (line_fits t l p.0);
+        code = section_within false before l r.reads.code p.1;
+        contents = section_within true before l r.reads.contents p.1;
+      };
       few = omega (arith, more, few, old);
     }
 
 reads_step : (texts : List (List ℕ)) (before : List Line) (t : List ℕ) (ts : List (List ℕ)) (ls : List Line) (n : ℕ)
     (r : Result Line AsmFault) → line_behind texts before t ≡ r
-    → (numbered before r >>= (λ l. lines_behind texts (before ++ l ∷ []) ts)) ≡ Ok ls → Reads n before
-    → ((l : Line) → lines_behind texts (before ++ l ∷ []) ts ≡ Ok ls → Reads (n + length t) (before ++ l ∷ [])
-    → Reads ((n + length t) + size_of ts) ls)
-    → Reads (n + (length t + size_of ts)) ls
+    → (numbered before r >>= (λ l. lines_behind texts (before ++ l ∷ []) ts)) ≡ Ok ls → ReadsFew n before
+    → ((l : Line) → lines_behind texts (before ++ l ∷ []) ts ≡ Ok ls → ReadsFew (n + length t) (before ++ l ∷ [])
+    → ReadsFew ((n + length t) + size_of ts) ls)
+    → ReadsFew (n + (length t + size_of ts)) ls
 reads_step texts before t ts ls n (Ok l) e h r rest =
     let whole = rest l h (reads_more texts before t l n e r) in
     let few = whole.few in
-    record { fit = whole.fit; code = whole.code; contents = whole.contents; few = omega (arith, few) }
+    record { reads = whole.reads; few = omega (arith, few) }
 reads_step texts before t ts ls n (Err f) e h r rest = absurd (cc h)
 
 reads_all : (texts : List (List ℕ)) (before : List Line) (ts : List (List ℕ)) (ls : List Line) (n : ℕ)
-    → lines_behind texts before ts ≡ Ok ls → Reads n before → Reads (n + size_of ts) ls
+    → lines_behind texts before ts ≡ Ok ls → ReadsFew n before → ReadsFew (n + size_of ts) ls
 unfolding lines_behind
 reads_all texts before [] ls n h r =
     let e : before ≡ ls = cc h in
     let few = r.few in
-    subst (λ x. Reads (n + 0) x) e (record { fit = r.fit; code = r.code; contents = r.contents; few = omega (arith, few) })
+    subst (λ x. ReadsFew (n + 0) x) e (record { reads = r.reads; few = omega (arith, few) })
 reads_all texts before (t ∷ ts) ls n h r =
     reads_step texts before t ts ls n (line_behind texts before t) refl h r
     (λ l g q. reads_all texts (before ++ l ∷ []) ts ls (n + length t) g q)
 
 -- ---- the object
 
-is_object : (n : ℕ) (ls : List Line) → n ≤ most → Reads n ls → IsObject (object_in ls)
+-- Lines that are read make an object, where it has no more symbols and fixups than one may have.
+pub is_object : (ls : List Line) → Reads ls → length (object_in ls).symbols ≤ most → length (object_in ls).fixups ≤ most
+    → IsObject (object_in ls)
 unfolding object_in
-is_object n ls small r =
-    let few = r.few in
-    let named : length (names_with [] ls) ≤ most = let e = names_few [] ls in omega (arith, e, few, small) in
+is_object ls r few few_fixups =
     let symbols : length (map (symbol_of ls) (names_with [] ls)) ≡ length (names_with [] ls) =
     length-map (names_with [] ls) (symbol_of ls) in
     let code = are_fixups false false 0 0 (names_with [] ls) ls [] refl r.fit (known_in [] ls) in
     let contents = are_fixups true false 0 0 (names_with [] ls) ls [] refl r.fit (known_in [] ls) in
-    let both = length-append (fixups_in false start (names_with [] ls) ls) (fixups_in true start (names_with [] ls) ls) in
-    let fixups = fixups_few false 0 0 (names_with [] ls) ls in
     record {
       code_size = r.code;
       contents_size = r.contents;
-      symbol_count = omega (arith, symbols, named);
-      fixup_count = omega (arith, both, fixups, few, small);
+      symbol_count = few;
+      fixup_count = few_fixups;
       symbols = all_symbols ls (names_with [] ls) (are_names [] ls tt r.fit);
       names = named_apart ls (names_with [] ls) (apart_in [] ls tt);
       fixups = All-append (IsFixup (section_of false false ls) (section_of true false ls) (length (map (symbol_of ls) (names_with [] ls))))
@@ -157,20 +162,55 @@ is_object n ls small r =
           (ascending true 0 (section_of true false ls) (names_with [] ls) (fixups_in true start (names_with [] ls) ls) contents);
     }
 
-nothing_read : Reads 0 []
-unfolding section_of
-nothing_read = record { fit = tt; code = omega arith; contents = omega arith; few = omega arith }
+-- lines make no more symbols than they have names
+pub symbols_few : (ls : List Line) → length (object_in ls).symbols ≤ names_in_lines ls
+unfolding object_in
+symbols_few ls =
+    let named = names_few [] ls in
+    let symbols = length-map (names_with [] ls) (symbol_of ls) in
+    omega (arith, named, symbols)
 
-object_from : (source : List ℕ) (r : Result (List Line) Fault) (o : Object) → lines_behind (lines_of source) [] (lines_of source) ≡ r
-    → (r >>= (λ ls. Ok (object_in ls))) ≡ Ok o → length source ≤ most → IsObject o
-object_from source (Ok ls) o e h small =
-    let size = lines_size source in
-    let is : object_in ls ≡ o = cc h in
-    subst IsObject is (is_object (0 + size_of (lines_of source)) ls (omega (arith, size, small))
-    (reads_all (lines_of source) [] (lines_of source) ls 0 e nothing_read))
-object_from source (Err f) o e h small = absurd (cc h)
+-- nor more fixups
+pub object_fixups_few : (ls : List Line) → length (object_in ls).fixups ≤ names_in_lines ls
+unfolding object_in
+object_fixups_few ls =
+    let both = length-append (fixups_in false start (names_with [] ls) ls) (fixups_in true start (names_with [] ls) ls) in
+    let fixups = fixups_few false 0 0 (names_with [] ls) ls in
+    omega (arith, both, fixups)
+
+nothing_read : ReadsFew 0 []
+unfolding section_of
+nothing_read = record { reads = record { fit = tt; code = omega arith; contents = omega arith }; few = omega arith }
+
+all_read : (source : List ℕ) (ls : List Line) → lines_behind (lines_of source) [] (lines_of source) ≡ Ok ls
+    → ReadsFew (0 + size_of (lines_of source)) ls
+all_read source ls h = reads_all (lines_of source) [] (lines_of source) ls 0 h nothing_read
+
+-- The lines of a source without a fault have what is read.
+pub lines_read : (source : List ℕ) (ls : List Line) → lines_behind (lines_of source) [] (lines_of source) ≡ Ok ls → Reads ls
+lines_read source ls h = (all_read source ls h).reads
+
+-- the lines of a source that stands for an object
+lines_for : (source : List ℕ) (r : Result (List Line) Fault) (o : Object) → lines_behind (lines_of source) [] (lines_of source) ≡ r
+    → (r >>= (λ ls. Ok (object_in ls))) ≡ Ok o
+    → (ls : List Line) × (object_in ls ≡ o) × ReadsFew (0 + size_of (lines_of source)) ls
+lines_for source (Ok ls) o e h = let is : object_in ls ≡ o = cc h in (ls, is, all_read source ls e)
+lines_for source (Err f) o e h = absurd (cc h)
+
+-- What a source stands for is an object, where it has no more symbols and fixups than one may have.
+pub counted : (source : List ℕ) (o : Object) → object_of source ≡ Ok o → length o.symbols ≤ most → length o.fixups ≤ most → IsObject o
+unfolding object_of
+counted source o h =
+    let p = lines_for source (lines_behind (lines_of source) [] (lines_of source)) o refl h in
+    subst (λ x. length x.symbols ≤ most → length x.fixups ≤ most → IsObject x) p.1 (is_object p.0 p.2.reads)
 
 -- what a source of at most 1 MiB stands for is an object
 pub sound : (source : List ℕ) (o : Object) → object_of source ≡ Ok o → length source ≤ most → IsObject o
 unfolding object_of
-sound source o h small = object_from source (lines_behind (lines_of source) [] (lines_of source)) o refl h small
+sound source o h small =
+    let p = lines_for source (lines_behind (lines_of source) [] (lines_of source)) o refl h in
+    let size = lines_size source in
+    let few = p.2.few in
+    let symbols = symbols_few p.0 in
+    let fixups = object_fixups_few p.0 in
+    subst IsObject p.1 (is_object p.0 p.2.reads (omega (arith, size, few, symbols, small)) (omega (arith, size, few, fixups, small)))

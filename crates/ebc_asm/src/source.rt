@@ -58,13 +58,15 @@ fn take_lines(alloc: Global, labels: &NameTable, source: &[u8]) -> Result<Assemb
     Ok(assembler)
 }
 
-/// The object that a source stands for (docs/ASSEMBLY.md, "Objects"). That of a source of at most 1 MiB has a file.
+/// The object that a source stands for (docs/ASSEMBLY.md, "Objects"). It has a file where it has at most 2^20 symbols and as many
+/// fixups; that of a source of at most 1 MiB has no more.
 ///
 /// # Errors
 ///
 /// The first line that fails, from 1, with the lowest of its faults (docs/ASSEMBLY.md, "Faults"); and want of memory.
 pub fn assemble(alloc: Global, source: &[u8]) -> Result<Object, AsmEnd>
     ensures reading { Gives result (object_of source.now) }
+    ensures counted { IfOk result (λ object. length object.symbols ≤ most → length object.fixups ≤ most → IsObject object) }
     ensures sound { length source.now ≤ most → IfOk result IsObject }
 {
     let labels = labels_in(alloc, source)?;

@@ -4,3 +4,4 @@ pub mod Lines
 pub mod Fits
 pub mod Firsts
 pub mod Spots
+pub mod Halving

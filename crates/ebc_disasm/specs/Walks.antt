@@ -1,11 +1,12 @@
--- For proofs: what the code keeps of the relocations and labels that are still to come. No caller sees it.
-use Rattle.std.specs.Prelude.{◌≡◌, ⊤, ℕ, ◌+◌, ◌^◌, ◌<◌, ◌≤◌, List, Bool, true, false, not, ◌&&◌, ◌||◌, Option, Some, None, option_map}
-use Rattle.std.specs.Prelude.{nat_eq, nat_lt, if◌then◌else◌}
-use Rattle.std.specs.List.{find, list_any}
+-- For proofs: what the code keeps of the relocations and labels that are still to come, and how it finds a section. No caller sees it.
+use Rattle.std.specs.Prelude.{◌≡◌, ⊤, ℕ, ◌+◌, ◌^◌, ◌<◌, ◌≤◌, List, length, Bool, true, false, not, ◌&&◌, ◌||◌, Option, Some, None}
+use Rattle.std.specs.Prelude.{option_map, nat_eq, nat_lt, if◌then◌else◌}
+use Rattle.std.specs.List.{AllWithin, find, list_any}
 use Rattle.ebc_insn.specs.declared.Insn.{Insn}
 use Rattle.asm_text.specs.declared.listing.Listed.{Listed}
 use Rattle.asm_text.specs.Writing.{ListedFits}
 use Rattle.pe_image.specs.declared.image.Image.{Image}
+use Rattle.pe_image.specs.declared.image.Section.{Section}
 use Rattle.ebc_disasm.specs.declared.items.Spot.{Spot}
 use Rattle.ebc_disasm.specs.Listings.{is_cut, labels, named, takes_label, with_label}
 
@@ -65,3 +66,9 @@ pub record IsComing (image : Image) (x : ℕ) (left marked : List ℕ) : Type 0 
 pub record IsSpot (image : Image) (spot : Spot) : Type 0 where
   pub reloc : spot.reloc ≡ find (reaches 8 spot.place) image.relocs
   pub label : (n : ℕ) → is_cut image spot.place n ≡ is_before (spot.place + n) spot.label
+
+-- The sections before one of this number end at a place or before it, and the others behind it.
+abbrev pub EndsParted : List Section → ℕ → ℕ → Type 0
+EndsParted sections x n =
+    AllWithin (λ (s : Section). s.place + s.size ≤ x) sections 0 n
+    × AllWithin (λ (s : Section). x < s.place + s.size) sections n (length sections)

@@ -4,7 +4,8 @@ ghost use Rattle.std.specs.Prelude.{◌≡◌, ◌≤◌, IfOk, length, vec_len}
 ghost use Rattle.pe_image.specs.Images.{IsImage};
 ghost use Rattle.ebc_disasm.specs.Listings.{bytes_of, named};
 
-use pe_image::{Image, Section, named_place, section_with};
+use crate::lookups::{named_place, section_with};
+use pe_image::{Image, Section};
 use std::alloc::{AllocError, Global};
 
 // The target of the relocation at a place, if it is in a section.

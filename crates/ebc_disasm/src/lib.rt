@@ -4,6 +4,7 @@
 mod bytes;
 mod items;
 mod listing;
+mod lookups;
 mod places;
 mod sections;
 

@@ -10,7 +10,8 @@ use ebc_base::NoMemory;
 use pe_image::Image;
 use std::alloc::Global;
 
-/// The listing of an image: assembly text that says each byte of its sections in their order (docs/ASSEMBLY.md, "Listings").
+/// The listing of an image: assembly text that says each byte of its sections in their order (docs/ASSEMBLY.md, "Listings"). It
+/// takes time in proportion to the sections and the text, and, for n relocations among s sections, to n log n and n log s.
 ///
 /// # Errors
 ///
