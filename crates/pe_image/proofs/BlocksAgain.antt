@@ -106,7 +106,7 @@ entries-length : (qs : List ℕ) → length (flat_map entry_bytes qs) ≡ 2 * le
 entries-length [] = refl
 entries-length (q ∷ qs) = length-append (entry_bytes q) (flat_map entry_bytes qs) ∙ (ap (λ n. 2 + n) (entries-length qs) ∙ omega arith)
 
-abbrev size_for : List ℕ → ℕ
+abbrev pub size_for : List ℕ → ℕ
 size_for qs = 8 + 2 * entry_count (length qs)
 
 block-parts : (k q : ℕ) (qs rest : List ℕ) →
@@ -115,7 +115,7 @@ block-parts : (k q : ℕ) (qs rest : List ℕ) →
 unfolding block_bytes
 block-parts k q qs rest = simp append_assoc
 
-block-length : (k q : ℕ) (qs : List ℕ) → length (block_bytes k (q ∷ qs)) ≡ size_for (q ∷ qs)
+pub block-length : (k q : ℕ) (qs : List ℕ) → length (block_bytes k (q ∷ qs)) ≡ size_for (q ∷ qs)
 unfolding block_bytes
 block-length k q qs =
     let pad : length (zeros (2 * (length (q ∷ qs) % 2))) ≡ 2 * (length (q ∷ qs) % 2) = length-replicate (2 * (length (q ∷ qs) % 2)) 0 in

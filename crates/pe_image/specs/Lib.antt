@@ -7,3 +7,4 @@ pub mod Walks
 pub mod Files
 pub mod Linked
 pub mod Mapped
+pub mod Sizes

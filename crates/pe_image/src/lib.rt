@@ -13,6 +13,7 @@ mod image;
 mod reading;
 mod relocations;
 mod section;
+mod size;
 mod writing;
 
 pub use bytes_at::{byte_at, named_place, section_with};
@@ -20,4 +21,5 @@ pub use ebc_base::NoMemory;
 pub use fault::{ImageEnd, ImageFault};
 pub use image::{Bytes, Image, Places, Section, Sections};
 pub use reading::read_image;
+pub use size::linked_size;
 pub use writing::write_image;

@@ -13,7 +13,7 @@ use ebc_base::{NoMemory, Sequence};
 use std::alloc::{AllocError, Global};
 
 // How many pages the largest image has.
-const PAGES: u32 = 1024;
+pub(crate) const PAGES: u32 = 1024;
 
 // The marks in front of the headers.
 #[tactic(auto, unfolding(crate::specs::Files::stub_bytes))]
@@ -209,7 +209,7 @@ fn append_entries(file: &mut Vec<u8>, places: &[u32]) -> Result<(), AllocError>
 }
 
 // How many of the first places lie on a page.
-fn count_on(page: u32, places: &[u32]) -> usize
+pub(crate) fn count_on(page: u32, places: &[u32]) -> usize
     ensures count { result ≡ prefix_len (λ p. nat_eq (p / 4096) page) places.now }
     ensures within { result ≤ length places.now }
 {

@@ -1,0 +1,150 @@
+-- The image that objects are linked to is in the linker's layout.
+use Rattle.std.proofs.Common.{◌≡◌, ℕ, ◌+◌, ◌-◌, ◌*◌, ◌/◌, ◌%◌, ◌^◌, ◌<◌, ◌≤◌, List, [], ◌∷◌, ◌++◌, length, get_or, refl, sym, ap, subst, ◌∙◌, arith}
+use Rattle.std.proofs.Common.{Ok}
+use Rattle.std.specs.Prelude.{All, codes}
+use Rattle.std.specs.List.{Any, Contains, flat_map}
+use Rattle.std.proofs.lemmas.List.Elements.{All-append, All-cons, All-contains, All-nil}
+use Rattle.ebc_object.specs.Objects.{IsObject}
+use Rattle.ebc_object.specs.declared.object.Object.{Object}
+use Rattle.pe_image.specs.Conditions.{most}
+use Rattle.pe_image.specs.Files.{file_sections, next_place, reloc_section, reloc_sections, rounded}
+use Rattle.pe_image.specs.Linked.{Has, IsLinked, linked_sections, section_if, text_sections}
+use Rattle.pe_image.specs.Mapped.{laid}
+use Rattle.pe_image.specs.declared.image.Image.{Image}
+use Rattle.pe_image.specs.declared.image.Section.{Section}
+use Rattle.pe_image.proofs.Held.{IsBytes, laid_byte}
+use Rattle.ebc_link.specs.declared.layout.Home.{Home}
+use Rattle.ebc_link.specs.declared.plan.LinkPlan.{LinkPlan}
+use Rattle.ebc_link.specs.Plans.{IsPlan}
+use Rattle.ebc_link.specs.Layout.{Laid, code_end, code_start, contents_end, contents_from, contents_start, homes_from, homes_of, laid_objects, laid_with}
+use Rattle.ebc_link.specs.Layout.{text_from}
+use Rattle.ebc_link.specs.Symbols.{Definition, definitions}
+use Rattle.ebc_link.specs.Fixups.{code_of, contents_of, filled_section, relocs_in, relocs_of}
+use Rattle.ebc_link.specs.Linked.{IsEntry}
+use Rattle.ebc_link.specs.Links.{linked_image, links}
+use Rattle.ebc_link.proofs.FillLaws.{length-filled}
+use Rattle.ebc_link.proofs.FoundLaws.{entry_is}
+use Rattle.ebc_link.proofs.LaidLaws.{laid_at}
+use Rattle.ebc_link.proofs.LinkLaws.{made}
+use Rattle.ebc_link.proofs.RelocLaws.{IsRun, code_run, contents_run, relocs_apart}
+use Rattle.ebc_link.proofs.StandLaws.{Stands, code_grows, length-contents, length-text, stands}
+
+-- ---- how long code and data are
+
+pub text_ends : (base : ℕ) (ds : List Definition) (objects : List Object) → All IsObject objects
+    → code_start + length (text_from (code_of base ds) code_start (laid_objects objects)) ≡ code_end code_start objects
+unfolding laid_objects homes_of
+text_ends base ds objects all =
+    length-text (code_of base ds) code_start (contents_start objects) objects (λ o h object. length-filled 1 base ds (laid_at o h) object) all
+
+pub contents_ends : (base : ℕ) (ds : List Definition) (objects : List Object) → All IsObject objects
+    → contents_start objects + length (contents_from (contents_of base ds) (contents_start objects) (laid_objects objects))
+    ≡ contents_end (contents_start objects) objects
+unfolding laid_objects homes_of
+contents_ends base ds objects all =
+    length-contents (contents_of base ds) code_start (contents_start objects) objects (λ o h object. length-filled 2 base ds (laid_at o h) object) all
+
+-- ---- sections
+
+pub contents_place : (text : List ℕ) → next_place (text_sections text) 0x1000 ≡ rounded 0x1000 (0x1000 + length text)
+unfolding next_place
+contents_place [] = refl
+contents_place (b ∷ bs) = refl
+
+-- a place in the code is in a section
+pub in_text : (text contents : List ℕ) (rest : List Section) (p n : ℕ) → 0 < n → 0x1000 ≤ p → p + n ≤ 0x1000 + length text
+    → Any (Has p n) (linked_sections text contents ++ rest)
+unfolding linked_sections
+in_text [] contents rest p n some low high = absurd (omega (arith, low, high, some))
+in_text (b ∷ bs) contents rest p n some low high = (0, _, omega arith, refl, (low, high))
+
+-- and so is one in the data
+pub in_contents : (text contents : List ℕ) (rest : List Section) (p n : ℕ) → 0 < n → rounded 0x1000 (0x1000 + length text) ≤ p
+    → p + n ≤ rounded 0x1000 (0x1000 + length text) + length contents → Any (Has p n) (linked_sections text contents ++ rest)
+unfolding linked_sections next_place
+in_contents text [] rest p n some low high = absurd (omega (arith, low, high, some))
+in_contents [] (c ∷ cs) rest p n some low high = (0, _, omega arith, refl, (omega (arith, low), omega (arith, high)))
+in_contents (b ∷ bs) (c ∷ cs) rest p n some low high = (1, _, omega arith, refl, (low, high))
+
+bytes_if : (name : List ℕ) (flags place : ℕ) (bytes : List ℕ) → IsBytes bytes
+    → All (λ (s : Section). IsBytes s.bytes) (section_if name flags place bytes)
+bytes_if name flags place [] each = All-nil (λ (s : Section). IsBytes s.bytes)
+bytes_if name flags place (b ∷ bs) each = All-cons (λ (s : Section). IsBytes s.bytes) _ [] each (All-nil (λ (s : Section). IsBytes s.bytes))
+
+-- what stands in the sections of bytes is bytes
+pub bytes_laid : (text contents : List ℕ) → IsBytes text → IsBytes contents → (x : ℕ) → laid (linked_sections text contents) x < 256
+unfolding linked_sections
+bytes_laid text contents one two =
+    laid_byte (linked_sections text contents)
+    (All-append (λ (s : Section). IsBytes s.bytes) (text_sections text) _ (bytes_if _ _ _ text one) (bytes_if _ _ _ contents two))
+
+-- ---- relocations
+
+in_sections : (text contents : List ℕ) (rest : List Section) (code_last contents_first contents_last : ℕ) (xs ys : List ℕ)
+    → 0x1000 + length text ≡ code_last → contents_first ≡ rounded 0x1000 code_last → contents_first + length contents ≡ contents_last
+    → IsRun 0x1000 code_last xs → IsRun contents_first contents_last ys
+    → All (λ p. Any (Has p 8) (linked_sections text contents ++ rest)) (xs ++ ys)
+in_sections text contents rest code_last contents_first contents_last xs ys ends begins behind one two =
+    All-append (λ p. Any (Has p 8) (linked_sections text contents ++ rest)) xs ys
+    (λ i d inside. in_text text contents rest (get_or xs i d) 8 (omega arith) (one.within i d inside).0
+        (omega (arith, ends, (one.within i d inside).1)))
+    (λ i d inside. in_contents text contents rest (get_or ys i d) 8 (omega arith)
+        (omega (arith, ends, begins, (two.within i d inside).0)) (omega (arith, ends, begins, behind, (two.within i d inside).1)))
+
+relocs_inside : (objects : List Object) (text contents : List ℕ) (rest : List Section) → All IsObject objects
+    → code_start + length text ≡ code_end code_start objects
+    → contents_start objects + length contents ≡ contents_end (contents_start objects) objects
+    → All (λ p. Any (Has p 8) (linked_sections text contents ++ rest)) (relocs_of (laid_objects objects))
+unfolding relocs_of laid_objects homes_of contents_start
+relocs_inside objects text contents rest all ends behind =
+    let start : ℕ = contents_start objects in
+    let ls : List Laid = laid_with objects (homes_from code_start start objects) in
+    in_sections text contents rest (code_end code_start objects) start (contents_end start objects)
+    (flat_map (relocs_in 1) ls) (flat_map (relocs_in 2) ls) ends refl behind (code_run code_start start objects all)
+    (contents_run code_start start objects all)
+
+-- ---- the entry
+
+pub entry_within : (objects : List Object) (name : List ℕ) (x : ℕ) → IsEntry (laid_objects objects) name x
+    → (x % 2 ≡ 0) × (code_start ≤ x) × (x + 1 ≤ code_end code_start objects)
+unfolding laid_objects homes_of
+entry_within objects name x (l, s, there, own, defines, named, kind, even, within, is) =
+    let at : Stands code_start (contents_start objects) (code_end code_start objects) (contents_end (contents_start objects) objects) l =
+    All-contains (Stands code_start (contents_start objects) (code_end code_start objects) (contents_end (contents_start objects) objects))
+    (laid_with objects (homes_from code_start (contents_start objects) objects)) l (stands code_start (contents_start objects) objects) there in
+    (omega (arith, is, even, at.even), omega (arith, is, at.code_low), omega (arith, is, within, at.code_high))
+
+-- ---- all
+
+pub linked_layout : (objects : List Object) (plan : LinkPlan) (entry : ℕ) → All IsObject objects → IsPlan plan
+    → IsEntry (laid_objects objects) plan.entry entry
+    → (linked_image plan (definitions (laid_objects objects)) (laid_objects objects) (contents_start objects) entry).size ≤ most
+    → IsLinked (linked_image plan (definitions (laid_objects objects)) (laid_objects objects) (contents_start objects) entry)
+unfolding linked_image file_sections reloc_sections reloc_section
+linked_layout objects plan entry all is_plan enters small =
+    let ds : List Definition = definitions (laid_objects objects) in
+    let ls : List Laid = laid_objects objects in
+    let text : List ℕ = text_from (code_of plan.base ds) code_start ls in
+    let contents : List ℕ = contents_from (contents_of plan.base ds) (contents_start objects) ls in
+    let image : Image = linked_image plan ds ls (contents_start objects) entry in
+    let at = entry_within objects plan.entry entry enters in
+    let ends = text_ends plan.base ds objects all in
+    record {
+      sections = (text, contents, refl);
+      size = refl;
+      small = small;
+      apart = relocs_apart objects all;
+      relocated = relocs_inside objects text contents (reloc_sections image) all ends (contents_ends plan.base ds objects all);
+      even = at.0;
+      entry = in_text text contents (reloc_sections image) entry 1 (omega arith) at.1 (omega (arith, ends, at.2));
+      base = omega (arith, is_plan.small);
+      subsystem = omega (arith, is_plan.subsystem);
+    }
+
+pub links_layout : (objects : List Object) (plan : LinkPlan) (image : Image) → All IsObject objects → IsPlan plan
+    → links objects plan ≡ Ok image → IsLinked image
+unfolding links
+links_layout objects plan image all is_plan e =
+    let m = made plan (laid_objects objects) (contents_start objects) image e in
+    subst IsLinked (sym m.is)
+    (linked_layout objects plan m.place all is_plan (entry_is (laid_objects objects) plan.entry m.place m.enters) m.small)

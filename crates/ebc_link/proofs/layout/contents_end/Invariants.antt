@@ -1,0 +1,10 @@
+use Rattle.std.proofs.Common.{◌≡◌, ◌+◌, ◌*◌, ◌≤◌, drop}
+use Rattle.ebc_link.specs.Layout.{contents_end}
+use Rattle.ebc_link.proofs.layout.contents_end.Given as goal
+
+abbrev pub invariant-loop-object : goal.invariant-loop-object
+invariant-loop-object l =
+    record {
+      end : contents_end l.end (drop l.object-index l.objects) ≡ contents_end l.start l.objects;
+      small : l.end ≤ l.start + 1048584 * l.object-index;
+    }

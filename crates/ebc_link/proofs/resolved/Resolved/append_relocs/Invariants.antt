@@ -1,0 +1,10 @@
+use Rattle.std.proofs.Common.{◌≡◌, ◌++◌, drop}
+use Rattle.std.specs.List.{flat_map}
+use Rattle.ebc_link.specs.Fixups.{relocs_in}
+use Rattle.ebc_link.specs.Walks.{laid_in}
+use Rattle.ebc_link.proofs.resolved.Resolved.append_relocs.Given as goal
+
+abbrev pub invariant-loop-number : goal.invariant-loop-number
+invariant-loop-number l =
+    l.relocs.items ++ flat_map (relocs_in l.section) (drop l.number (laid_in l.self))
+    ≡ l.fn.relocs.items ++ flat_map (relocs_in l.section) (laid_in l.self)

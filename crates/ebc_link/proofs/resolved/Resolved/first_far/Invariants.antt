@@ -1,0 +1,9 @@
+use Rattle.std.proofs.Common.{◌≡◌, drop}
+use Rattle.ebc_link.specs.Fixups.{far_in}
+use Rattle.ebc_link.specs.Symbols.{first_in}
+use Rattle.ebc_link.specs.Walks.{defined_in, laid_in}
+use Rattle.ebc_link.proofs.resolved.Resolved.first_far.Given as goal
+
+abbrev pub invariant-loop-number : goal.invariant-loop-number
+invariant-loop-number l =
+    first_in (far_in (defined_in l.self)) (drop l.number (laid_in l.self)) ≡ first_in (far_in (defined_in l.self)) (laid_in l.self)
