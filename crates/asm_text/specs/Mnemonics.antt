@@ -59,9 +59,9 @@ abbrev pub native_text : Bool → List ℕ
 native_text true = codes "EX"
 native_text false = []
 
-abbrev pub absolute_text : Bool → List ℕ
-absolute_text true = []
-absolute_text false = codes "a"
+abbrev pub relative_text : Bool → List ℕ
+relative_text true = []
+relative_text false = codes "a"
 
 abbrev pub long_text : Bool → List ℕ
 long_text false = codes "w"
@@ -103,9 +103,9 @@ stem_of_form forms.PopNatural = codes "POP"
 -- what follows them
 abbrev pub suffix_of_form : Form → List ℕ
 suffix_of_form forms.Break = []
-suffix_of_form (forms.Jump cond far relative) = wide_text far ++ (absolute_text relative ++ cond_text cond)
+suffix_of_form (forms.Jump cond far relative) = wide_text far ++ (relative_text relative ++ cond_text cond)
 suffix_of_form (forms.Jump8 cond) = 56 ∷ cond_text cond
-suffix_of_form (forms.Call far native relative) = wide_text far ++ (native_text native ++ absolute_text relative)
+suffix_of_form (forms.Call far native relative) = wide_text far ++ (native_text native ++ relative_text relative)
 suffix_of_form forms.Ret = []
 suffix_of_form (forms.Compare op wide) = wide_text wide ++ cmp_text op
 suffix_of_form (forms.CompareImm op wide long) = wide_text wide ++ (long_text long ++ cmp_text op)

@@ -1,7 +1,7 @@
 //! Mnemonics as they are written.
 
 ghost use Rattle.std.specs.Prelude.{◌≡◌, ◌∷◌, ◌++◌, Some, []};
-ghost use Rattle.asm_text.specs.Mnemonics.{absolute_text, arith_stem, bits_letter, cmp_text, cond_text, long_text, native_text, size_letter, stem_of_form, suffix_of_form, wide_text, word_of};
+ghost use Rattle.asm_text.specs.Mnemonics.{relative_text, arith_stem, bits_letter, cmp_text, cond_text, long_text, native_text, size_letter, stem_of_form, suffix_of_form, wide_text, word_of};
 
 use crate::form::Form;
 use ebc_insn::{ArithOp, CmpOp, Cond, Size};
@@ -49,8 +49,8 @@ fn wide_text(wide: bool) -> &'static str
     if wide { "64" } else { "32" }
 }
 
-fn absolute_text(relative: bool) -> &'static str
-    ensures { result.now ≡ absolute_text relative }
+fn relative_text(relative: bool) -> &'static str
+    ensures { result.now ≡ relative_text relative }
 {
     if relative { "" } else { "a" }
 }
@@ -137,13 +137,13 @@ fn suffix_of_form(form: Form) -> (&'static str, &'static str, &'static str)
             cond,
             far,
             relative,
-        } => (wide_text(far), absolute_text(relative), cond_text(cond)),
+        } => (wide_text(far), relative_text(relative), cond_text(cond)),
         Form::Jump8(cond) => ("", "8", cond_text(cond)),
         Form::Call {
             far,
             native,
             relative,
-        } => (wide_text(far), native_text(native), absolute_text(relative)),
+        } => (wide_text(far), native_text(native), relative_text(relative)),
         Form::Ret => ("", "", ""),
         Form::Compare { op, wide } => ("", wide_text(wide), cmp_text(op)),
         Form::CompareImm { op, wide, long } => (wide_text(wide), long_text(long), cmp_text(op)),

@@ -36,7 +36,8 @@ use Rattle.neutral_machine.specs.WorldFits.{WorldFits}
 use Rattle.neutral_machine.proofs.Agree.{frames_agree}
 use Rattle.neutral_machine.proofs.Cells.{InObject, in_object_at, ObjectCell, object_cell, object_place, in_locals_at, local_cell, end_small}
 use Rattle.ebc_base.proofs.Lists.{slice_get-append_left, slice_get-append_right}
-use Rattle.neutral_machine.proofs.Placed.{Lies, lies, objects_off}
+use Rattle.neutral_machine.proofs.Placed.{lies, objects_off}
+use Rattle.neutral_machine.proofs.PlacedObjects.{Lies}
 use Rattle.neutral_machine.proofs.Placed.{off_stack, off_thunk, off_code}
 use Rattle.neutral_machine.proofs.Stored.{width_le}
 use Rattle.host_laws.proofs.Growing.{made_more, ranges_of, ranges_more, all_zeroed, others_stay, inside_zero, zeroed_small, objects_placed}

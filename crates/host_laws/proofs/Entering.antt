@@ -1,10 +1,10 @@
 -- Entering a function: a run that stands for a configuration stands for it inside the function.
-use Rattle.std.proofs.Common.{◌≡◌, ◌≢◌, ℕ, suc, ◌+◌, ◌-◌, ◌*◌, ◌%◌, ◌^◌, ◌<◌, ◌≤◌, Bool, true, false, if◌then◌else◌, nat_eq, List, []}
+use Rattle.std.proofs.Common.{◌≡◌, ℕ, suc, ◌+◌, ◌-◌, ◌*◌, ◌%◌, ◌^◌, ◌<◌, ◌≤◌, Bool, true, false, if◌then◌else◌, nat_eq, List, []}
 use Rattle.std.proofs.Common.{◌∷◌, ◌++◌, map, length, Option, Some, None, refl, sym, ap, ap₂, ◌∙◌, subst, subst₂, arith, inl, inr, ⊎_elim}
 use Rattle.std.proofs.Common.{slice_get, slice_set, mod-eq_of_lt}
 use Rattle.std.specs.List.{AllByRecursion}
 use Rattle.std.specs.Option.{option_map_or, option_and_then}
-use Rattle.std.proofs.lemmas.Bool.{ne_eqb, eqb-true}
+use Rattle.std.proofs.lemmas.Bool.{eqb-true}
 use Rattle.note_types.specs.declared.exception.Exception.TheVariants as raises
 use Rattle.note_types.specs.declared.spot.Spot.TheVariants as spot
 use Rattle.ebc_width.specs.Width.{IsWidth, cut_at}
@@ -18,16 +18,13 @@ use Rattle.host_model.specs.HostSteps.{call_under_way as marks_under_way}
 use Rattle.host_model.specs.Progress.{one_callback, NativeCall, NoCall, Asked, Accepted, ScriptPlace, one_callback as neutral_callback}
 use Rattle.host_model.specs.declared.object.TypedObject.{TypedObject}
 use Rattle.host_model.specs.Objects.{made_objects, placed_objects}
-use Rattle.ebc_width.specs.Ranges.{covers}
-use Rattle.ebc_width.proofs.RangeLaws.{covers-inside}
-use Rattle.host_model.specs.Placements.{image_range, Placement, stack_bytes, slot_bytes, params_bytes, return_cell, IsPlacement}
+use Rattle.host_model.specs.Placements.{Placement, stack_bytes, slot_bytes, params_bytes, return_cell, IsPlacement}
 use Rattle.host_model.specs.Placements.{stack_end, placed_ranges}
 use Rattle.host_model.specs.RunState.{RunState}
 use Rattle.note_types.specs.declared.ending.Ending.TheVariants.{Raised}
 use Rattle.note_types.specs.declared.event.Event.{Event}
 use Rattle.note_types.specs.declared.notes.FnNote.{FnNote}
 use Rattle.note_types.specs.declared.notes.Notes.{Notes}
-use Rattle.note_types.specs.declared.spot.Spot.{Spot}
 use Rattle.note_types.specs.declared.notes.Param.{Param}
 use Rattle.note_types.specs.declared.value.Value.{Value}
 use Rattle.neutral_machine.specs.Config.{StackItem, FunctionFrame, HostFrame, Frame, Function, Host, Config, depth, locals_at}
@@ -36,8 +33,7 @@ use Rattle.neutral_machine.specs.NeutralHost.{param_slots, performed as neutral_
 use Rattle.neutral_machine.specs.Layout.{addresses, height, local_address, total}
 use Rattle.host_model.specs.Values.{minus, Neutral, Addresses, ShowsIn}
 use Rattle.neutral_machine.specs.Named.{Named}
-use Rattle.neutral_machine.specs.Rows.{flags_of}
-use Rattle.neutral_machine.specs.Stands.{ItemsShow, ReturnShows, FramesShow, CallShows, MachineStands, Stands, spot_at}
+use Rattle.neutral_machine.specs.Stands.{ItemsShow, ReturnShows, FramesShow, CallShows, MachineStands, Stands}
 use Rattle.host_model.specs.World.{World}
 use Rattle.neutral_machine.specs.WorldFits.{WorldFits}
 use Rattle.neutral_machine.specs.Written.{value_as}
@@ -47,7 +43,8 @@ use Rattle.neutral_machine.proofs.Agree.{shows_more, frames_agree, frames_more, 
 use Rattle.neutral_machine.proofs.Cells.{end_small}
 use Rattle.neutral_machine.proofs.Frames.{SameLocals, no_locals, no_address, same_extends, BelowTop, stack_stands}
 use Rattle.neutral_machine.proofs.Numbers.{minus-is}
-use Rattle.neutral_machine.proofs.Placed.{native_off_image, stack_within, stack_holds}
+use Rattle.neutral_machine.proofs.Placed.{stack_within, stack_holds}
+use Rattle.neutral_machine.proofs.Spots.{place_spot, turned_stands}
 use Rattle.host_laws.proofs.Things.{named as named_things}
 use Rattle.host_laws.proofs.Marks.{total_marked, extends_marked, machine_marked, machine_told}
 use Rattle.host_laws.proofs.Replies.{call_more, hosts_more, hosts_marked, marks_show}
@@ -204,40 +201,6 @@ module _ (w : ℕ) (world : World) (P : Placement) (mapped : ℕ → ℕ) (h : I
       by_address d f true e = sym (no_address w End fs d f (let q = eqb-true d (depth fs) e in omega (arith, q)))
       by_address d f false e = refl
 
-  -- C and the spot, with flags and ip
-  spotted : (but : Option ℕ) (a : Config) (s : Concrete) (c : Bool) (flags : ℕ) (at : Spot) (ip : ℕ) → flags ≡ flags_of c
-      → spot_at world P ip ≡ at → MachineStands w world P mapped but a s
-      → MachineStands w world P mapped but (record a { c = c; spot = at }) (record s { flags = flags; ip = ip })
-  spotted but a s c flags at ip e g st =
-      record {
-        eight = st.eight;
-        words = st.words;
-        small = st.small;
-        registers = st.registers;
-        locals = st.locals;
-        top = st.top;
-        frames = st.frames;
-        cells = st.cells;
-        thunks = st.thunks;
-        code = st.code;
-        objects = st.objects;
-        flags = e;
-        gate = st.gate;
-        spot = g;
-      }
-
-  -- a place of the image is that spot
-  spot_at_place : (p : ℕ) → p < world.image_size → spot_at world P (P.image + p) ≡ spot.Place p
-  spot_at_place p l =
-      let off : P.image + p ≢ P.native = λ e. ⊎_elim (λ x. omega (arith, x, e)) (λ x. omega (arith, x, e, l))
-      (native_off_image w world P h ok pl) in
-      let d : P.image + p - P.image ≡ p = omega arith in
-      ap (λ b. if b then spot.Gate else if covers (P.image + p) 1 (image_range world P) then spot.Place (P.image + p - P.image)
-      else spot.Wild (P.image + p)) (ne_eqb (P.image + p) P.native off)
-      ∙ ap (λ b. if b then spot.Place (P.image + p - P.image) else spot.Wild (P.image + p))
-      (covers-inside (image_range world P) (P.image + p) 1 (omega arith) (omega (arith, l)))
-      ∙ ap spot.Place d
-
   -- the frames of a function that is entered
   entered_frames : Config → ℕ → List StackItem → List Frame
   entered_frames a f slots =
@@ -323,8 +286,8 @@ module _ (w : ℕ) (world : World) (P : Placement) (mapped : ℕ → ℕ) (h : I
       let place = (ok.code_inside f e.note e.there) in (
         record s { registers = slice_set s.registers 0 top; ip = P.image + e.note.place; flags = 0; byte = b },
         inside_is a.script.entries s (P.image + e.note.place) top ps xs st.objects r0 (omega (arith, room)) (omega (arith, room)),
-        spotted None _ _ false 0 (spot.Place e.note.place) (P.image + e.note.place) refl
-            (spot_at_place e.note.place (let p = place.0 in let q = place.1 in omega (arith, p, q))) stands,
+        turned_stands w world P mapped None _ _ false (spot.Place e.note.place) 0 (P.image + e.note.place) refl
+            (place_spot w world P h ok pl e.note.place (let p = place.0 in let q = place.1 in omega (arith, p, q))) stands,
       )
 
   -- ---- the enter step

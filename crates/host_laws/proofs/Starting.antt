@@ -40,7 +40,8 @@ use Rattle.host_model.specs.World.{World}
 use Rattle.neutral_machine.specs.WorldFits.{WorldFits}
 use Rattle.neutral_machine.proofs.Cells.{InObject, in_object_at, ObjectCell, object_cell, object_place}
 use Rattle.ebc_base.proofs.Lists.{slice_get-append_right}
-use Rattle.neutral_machine.proofs.Placed.{Lies, lies, objects_off}
+use Rattle.neutral_machine.proofs.Placed.{lies, objects_off}
+use Rattle.neutral_machine.proofs.PlacedObjects.{Lies}
 use Rattle.neutral_machine.proofs.Placed.{off_thunk, off_code}
 use Rattle.host_laws.proofs.Accepting.{of_object, its_range, read_zero}
 use Rattle.ebc_base.proofs.Lists.{length-map}

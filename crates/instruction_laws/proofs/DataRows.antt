@@ -49,8 +49,9 @@ use Rattle.neutral_machine.proofs.Values.{number_shows, kept_shows}
 use Rattle.neutral_machine.proofs.Bounds.{bounded, objects_below}
 use Rattle.neutral_machine.proofs.Combined.{combined_does}
 use Rattle.neutral_machine.proofs.Compared.{compared_same}
+use Rattle.neutral_machine.proofs.Spots.{turned_stands}
 use Rattle.instruction_laws.proofs.Accesses.{Beside, ShowsWord}
-use Rattle.instruction_laws.proofs.Operands.{turned_stands, bind_does, nothing_beside, direct_shows, values, writes_does, registers_written}
+use Rattle.instruction_laws.proofs.Operands.{bind_does, nothing_beside, direct_shows, values, writes_does, registers_written}
 use Rattle.instruction_laws.proofs.Operands.{address_of, goes_does}
 
 pub form_size : (w : ℕ) (wide : Bool) → form_bytes wide ≡ access_bytes w (Form wide)
@@ -114,7 +115,7 @@ module _ (w : ℕ) (world : World) (P : Placement) (mapped : ℕ → ℕ) (h : I
 
   flag_stands : (a : Config) (s : Concrete) (c : Bool) → Stand a s → Stand (with_c a c) (with_flags s (machine_data.with_c s.flags c))
   unfolding with_flags
-  flag_stands a s c st = turned_stands w world P mapped h ok pl None a s c a.spot (machine_data.with_c s.flags c) s.ip
+  flag_stands a s c st = turned_stands w world P mapped None a s c a.spot (machine_data.with_c s.flags c) s.ip
       (flag_number s.flags a.c c st.flags) st.spot st
 
   compared_goes : (a : Config) (s : Concrete) (next : ℕ) (op : CmpOp) (wide : Bool) (v u : Neutral) (x y : ℕ) → Stand a s → Word a v x

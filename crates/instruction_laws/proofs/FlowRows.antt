@@ -53,8 +53,9 @@ use Rattle.neutral_machine.proofs.Cells.{end_small}
 use Rattle.neutral_machine.proofs.Values.{kept_natural_shows, number_shows, plain_shows}
 use Rattle.neutral_machine.proofs.Bounds.{bounded, objects_below}
 use Rattle.neutral_machine.proofs.Frames.{framed, call_stands, return_stands, top_below, stored_on_top, later_store, in_frames}
+use Rattle.neutral_machine.proofs.Spots.{turned_stands}
 use Rattle.instruction_laws.proofs.Accesses.{ShowsWord, ShowsBytes, moved_shows, loads_bytes}
-use Rattle.instruction_laws.proofs.Operands.{turned_stands, bind_does, extra_beside, registers_written, address_of, address_is, at_stands}
+use Rattle.instruction_laws.proofs.Operands.{bind_does, extra_beside, registers_written, address_of, address_is, at_stands}
 use Rattle.instruction_laws.proofs.Operands.{goes_does}
 use Rattle.neutral_machine.proofs.Words.{width_word}
 
@@ -421,7 +422,7 @@ module _ (w : ℕ) (world : World) (P : Placement) (mapped : ℕ → ℕ) (h : I
 
   gate_stands : (a : Config) (s : Concrete) → St a s → St (record a { spot = Gate }) (at_ip s P.native)
   unfolding at_ip
-  gate_stands a s st = turned_stands w world P mapped h ok pl None a s a.c Gate s.flags P.native st.flags
+  gate_stands a s st = turned_stands w world P mapped None a s a.c Gate s.flags P.native st.flags
       (rw (eq-eqb P.native P.native refl) refl) st
 
   gate_goes : (a : Config) (s : Concrete) → St a s → Does (RowsAlike w world P mapped) (Gives (Next, record a { spot = Gate }))

@@ -24,11 +24,6 @@ use Rattle.note_types.specs.Shapes.{start_at}
 use Rattle.note_types.specs.declared.exception.Exception.{Exception}
 use Rattle.note_types.specs.declared.spot.Spot.TheVariants.{Place}
 use Rattle.host_model.specs.Values.{Neutral, Shows, FieldOf, FieldOfLocals, word, minus}
-use Rattle.ebc_width.specs.Ranges.{covers}
-use Rattle.ebc_width.proofs.RangeLaws.{covers-inside}
-use Rattle.host_model.specs.Placements.{image_range}
-use Rattle.note_types.specs.declared.spot.Spot.{Spot}
-use Rattle.neutral_machine.specs.Rows.{flags_of}
 use Rattle.neutral_machine.specs.Config.{FunctionFrame, Frame, Function, Host, Config, depth, with_value}
 use Rattle.host_model.specs.World.{World}
 use Rattle.host_model.specs.Placements.{Placement, IsPlacement, stack_bytes, stack_end, return_cell}
@@ -40,13 +35,14 @@ use Rattle.neutral_machine.specs.Locations.{parameters_of}
 use Rattle.neutral_machine.specs.Operands.{NeutralSide, plainly, indexed, beside_extra, index_pair, extra_pair, offset_of, moved_by}
 use Rattle.neutral_machine.specs.Operands.{local_at_location, direct_value, loaded_by, stored_by}
 use Rattle.neutral_machine.specs.Rows.{NeutralEnd, Next, Native, MakeThunk, at_place}
-use Rattle.neutral_machine.specs.Stands.{OwnLocalsAll, MachineStands, spot_at}
+use Rattle.neutral_machine.specs.Stands.{OwnLocalsAll, MachineStands}
 use Rattle.neutral_machine.specs.WorldFits.{WorldFits}
 use Rattle.neutral_machine.proofs.Numbers.{minus-is}
-use Rattle.neutral_machine.proofs.Placed.{image_within, native_off_image}
+use Rattle.neutral_machine.proofs.Placed.{image_within}
 use Rattle.neutral_machine.proofs.Agree.{cell_positive, shown_in}
 use Rattle.neutral_machine.proofs.Cells.{end_small}
 use Rattle.instruction_laws.proofs.Accesses.{Beside, ShowsWord, moved_shows, loads, stores, top_is, top_address, locals_fit_at}
+use Rattle.neutral_machine.proofs.Spots.{place_spot, turned_stands}
 use Rattle.neutral_machine.proofs.Stack.{field_there}
 use Rattle.neutral_machine.proofs.Words.{width_word}
 
@@ -234,41 +230,12 @@ module _ (w : ℕ) (world : World) (P : Placement) (mapped : ℕ → ℕ) (h : I
 
   -- ---- where control goes
 
-  place_spot : (p : ℕ) → p < world.image_size → spot_at world P (P.image + p) ≡ Place p
-  place_spot p l =
-      let off = native_off_image w world P h ok pl in
-      let n : nat_eq (P.image + p) P.native ≡ false = ne_eqb (P.image + p) P.native
-      (λ e. ⊎_elim (λ x. omega (arith, x, e)) (λ x. omega (arith, x, e, l)) off) in
-      let i : covers (P.image + p) 1 (image_range world P) ≡ true =
-      covers-inside (image_range world P) (P.image + p) 1 (omega arith) (omega (arith, l)) in
-      rw n (rw i (ap Place (let e : P.image + p - P.image ≡ p = omega arith in e)))
-
-  -- the machine with other flags, and control elsewhere
-  pub turned_stands : (but : Option ℕ) (a : Config) (s : Concrete) (c : Bool) (p : Spot) (flags ip : ℕ) → flags ≡ flags_of c
-      → spot_at world P ip ≡ p → MachineStands w world P mapped but a s
-      → MachineStands w world P mapped but (record a { c = c; spot = p }) (record s { flags = flags; ip = ip })
-  turned_stands but a s c p flags ip f e st = record {
-    eight = st.eight;
-    words = st.words;
-    small = st.small;
-    registers = st.registers;
-    locals = st.locals;
-    top = st.top;
-    frames = st.frames;
-    cells = st.cells;
-    thunks = st.thunks;
-    code = st.code;
-    objects = st.objects;
-    flags = f;
-    gate = st.gate;
-    spot = e;
-  }
-
   -- the machine at a place of the image
   pub at_stands : (but : Option ℕ) (a : Config) (s : Concrete) (p : ℕ) → p < world.image_size → MachineStands w world P mapped but a s
       → MachineStands w world P mapped but (record a { spot = Place p }) (at_ip s (P.image + p))
   unfolding at_ip
-  at_stands but a s p l st = turned_stands but a s a.c (Place p) s.flags (P.image + p) st.flags (place_spot p l) st
+  at_stands but a s p l st = turned_stands w world P mapped but a s a.c (Place p) s.flags (P.image + p) st.flags
+      (place_spot w world P h ok pl p l) st
 
   -- the machine's address of a place
   abbrev pub address_of : ℕ → ℕ

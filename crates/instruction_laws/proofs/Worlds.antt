@@ -13,7 +13,7 @@ use Rattle.rules_image.specs.Images.{IsFunction, IsStatic, IsThunk, AreApart}
 use Rattle.host_model.specs.Objects.{no_shape, shape_of, made_objects, placed_objects, static_object, script_object}
 use Rattle.host_model.specs.World.{World}
 use Rattle.host_model.specs.declared.object.TypedObject.{TypedObject}
-use Rattle.neutral_machine.proofs.Placed.{placed_in_all}
+use Rattle.neutral_machine.proofs.PlacedObjects.{placed_in_all}
 use Rattle.instruction_laws.specs.Premises.{IsRunOf, WorldMeets}
 use Rattle.ebc_base.proofs.Lists.{slice_get-append_left, slice_get-append_right}
 use Rattle.ebc_base.proofs.Given.{some_of_map}

@@ -55,7 +55,7 @@ use Rattle.invariant_laws.proofs.Same.{SameMemory, same_later, frames_later, cel
 use Rattle.invariant_laws.proofs.Readings.{arguments_read}
 use Rattle.invariant_laws.proofs.Filling.{AreFirst, AreMade, filled_fit, filled_later}
 use Rattle.invariant_laws.proofs.Leaving.{host_goes_on, ended_holds}
-use Rattle.neutral_machine.proofs.Placed.{placed_in_all}
+use Rattle.neutral_machine.proofs.PlacedObjects.{placed_in_all}
 use Rattle.typed_runs.proofs.LaterFits.{later_trans}
 
 -- ---- how runs end with a script

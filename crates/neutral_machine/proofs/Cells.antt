@@ -23,8 +23,9 @@ use Rattle.neutral_machine.specs.Memory.{memory_of, cell_field}
 use Rattle.host_model.specs.HostPlans.{field_in}
 use Rattle.neutral_machine.specs.Stands.{OwnLocalsAll, cell_address, in_object}
 use Rattle.neutral_machine.specs.WorldFits.{WorldFits}
-use Rattle.neutral_machine.proofs.Placed.{Lies, lies, Off, off_stack, off_thunk, off_code, image_off_stack, object_within, objects_off}
+use Rattle.neutral_machine.proofs.Placed.{lies, Off, off_stack, off_thunk, off_code, image_off_stack, object_within, objects_off}
 use Rattle.neutral_machine.proofs.Placed.{object_holds, stack_holds, stack_within}
+use Rattle.neutral_machine.proofs.PlacedObjects.{Lies}
 use Rattle.neutral_machine.proofs.Agree.{Within, local_within}
 use Rattle.neutral_machine.proofs.Locals.{fits_at, locals_fit, local_there, locals_off}
 use Rattle.neutral_machine.proofs.Words.{width_word}

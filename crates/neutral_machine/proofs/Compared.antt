@@ -27,7 +27,8 @@ use Rattle.neutral_machine.specs.Operations.{equal_handle, equal_entry, unequal_
 use Rattle.neutral_machine.specs.Operations.{error_at_least, compared_wide, compared_by, compared_as}
 use Rattle.neutral_machine.specs.WorldFits.{WorldFits}
 use Rattle.neutral_machine.proofs.Numbers.{lin_mod}
-use Rattle.neutral_machine.proofs.Placed.{Lies, lies, object_within, objects_off, object_positive}
+use Rattle.neutral_machine.proofs.Placed.{lies, object_within, objects_off, object_positive}
+use Rattle.neutral_machine.proofs.PlacedObjects.{Lies}
 use Rattle.neutral_machine.proofs.Locals.{fits_at}
 use Rattle.neutral_machine.proofs.Cells.{shape_fits}
 use Rattle.neutral_machine.proofs.Values.{plain_shows}

@@ -32,3 +32,4 @@ pub mod WrittenFits
 pub mod WrittenShows
 pub mod Filling
 pub mod Keeping
+pub mod Spots

@@ -1,6 +1,6 @@
 -- A valid placement gives the things that values name their addresses, and typed objects lie apart.
-use Rattle.std.proofs.Common.{◌≡◌, ℕ, ◌<◌, Bool, true, false, if◌then◌else◌, nat_lt, List, length, Some, None, refl, sym, ap, arith, inl}
-use Rattle.std.proofs.Common.{inr, ⊎_elim, slice_get}
+use Rattle.std.proofs.Common.{◌≡◌, ℕ, ◌+◌, ◌<◌, Bool, true, false, if◌then◌else◌, nat_lt, List, length, Some, None, refl, sym, ap, arith}
+use Rattle.std.proofs.Common.{inl, inr, ⊎_elim, slice_get}
 use Rattle.std.proofs.lemmas.Bool.{ltb-true, lt-ltb}
 use Rattle.std.proofs.Math.Nat.{mul-pos}
 use Rattle.std.proofs.lemmas.Option.{same_Some, none-some}
@@ -11,11 +11,11 @@ use Rattle.neutral_machine.specs.Named.{Named, HasInstances, HasObjects, ThingsA
 use Rattle.host_model.specs.declared.object.TypedObject.{TypedObject}
 use Rattle.host_model.specs.Objects.{made_objects}
 use Rattle.host_model.specs.Placements.{Placement, IsPlacement, IsWithin, all_ranges, placed_ranges, native_range, handle_count, handle_at}
-use Rattle.host_model.specs.Placements.{method_at, thunk_at, there, object_bytes}
+use Rattle.host_model.specs.Placements.{method_at, thunk_at, there, object_at, object_bytes}
 use Rattle.host_model.specs.World.{World}
 use Rattle.ebc_base.proofs.Lists.{All_at}
 use Rattle.neutral_machine.proofs.Locals.{fits_at}
-use Rattle.neutral_machine.proofs.PlacedObjects.{lies, object_above, object_below, objects_off}
+use Rattle.neutral_machine.proofs.PlacedObjects.{Lies, StaticsFit, lies, object_above, object_below, objects_off}
 
 -- one of so many things
 there_some : (count i at x : ℕ) → there count i at ≡ Some x → (i < count) × (x ≡ at)
@@ -29,6 +29,14 @@ pub some_there : (count i at : ℕ) → i < count → there count i at ≡ Some 
 some_there count i at l = ap (λ b. if b then Some at else None) (lt-ltb i count l)
 
 module _ (w : ℕ) (world : World) (P : Placement) (h : IsWidth w) (ok : HasObjects world) (pl : IsPlacement w world P) (entries : ℕ) where
+  fit : StaticsFit world
+  fit = record { inside = ok.inside; apart = ok.apart }
+
+  -- it is one of all objects, and where it lies
+  lies_at : (k : ℕ) (o : TypedObject) (l : Lies w world P entries k o)
+      → (k < length world.notes.statics + length P.objects) × (l.base ≡ object_at world.notes P k)
+  lies_at k o l = there_some (length world.notes.statics + length P.objects) k (object_at world.notes P k) l.base l.address
+
   native_within : IsWithin w (native_range world.notes P)
   unfolding placed_ranges
   native_within = All_at (IsWithin w) (all_ranges w world P) 0 _ pl.within refl
@@ -56,20 +64,21 @@ module _ (w : ℕ) (world : World) (P : Placement) (h : IsWidth w) (ok : HasObje
     handles = λ k l. some_there handle_count k (handle_at world.notes P k) l;
     methods = λ k l. some_there (length world.notes.methods) k (method_at P k) l;
     entries = λ k l. some_there (length world.notes.function) k (thunk_at world.notes P k) l;
-    objects = λ k o g. let l = lies w world P h ok pl entries k o g in some_there _ k _ l.numbered;
+    objects = λ k o g. let l = lies w world P h fit pl entries k o g in some_there _ k _ (lies_at k o l).0;
     sized = instances;
     within = λ k o g.
-        let l = lies w world P h ok pl entries k o g in
-        let e = l.is in
-        let p = object_above w world P h ok pl k o l (takes_bytes k o g) in
-        let q = object_below w world P h ok pl k o l in
+        let l = lies w world P h fit pl entries k o g in
+        let e = (lies_at k o l).1 in
+        let p = object_above w world P h fit pl entries k o l (takes_bytes k o g) in
+        let q = object_below w world P h fit pl entries k o l in
         (omega (arith, e, p), omega (arith, e, q));
     apart = λ j k o q a b ne.
-        let l = lies w world P h ok pl entries j o a in
-        let m = lies w world P h ok pl entries k q b in
-        let e = l.is in
-        let f = m.is in
-        ⊎_elim (λ x. inl (omega (arith, x, e, f))) (λ x. inr (omega (arith, x, e, f))) (objects_off w world P h ok pl j k o q l m ne);
+        let l = lies w world P h fit pl entries j o a in
+        let m = lies w world P h fit pl entries k q b in
+        let e = (lies_at j o l).1 in
+        let f = (lies_at k q m).1 in
+        ⊎_elim (λ x. inl (omega (arith, x, e, f))) (λ x. inr (omega (arith, x, e, f)))
+        (objects_off w world P h fit pl entries j k o q l m ne);
   }
 
 pub things_are_named : ThingsAreNamed

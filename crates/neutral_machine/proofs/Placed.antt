@@ -1,186 +1,61 @@
--- Where typed objects lie: each made one inside a placed object, apart from all others, from the stack, from thunk cells and
--- from code.
-use Rattle.std.proofs.Common.{◌≡◌, ◌≢◌, ℕ, zero, suc, ◌+◌, ◌-◌, ◌*◌, ◌^◌, ◌<◌, ◌≤◌, ◌⊎◌, true, List, [], ◌∷◌, length, map, flat_map, Some}
-use Rattle.std.proofs.Common.{refl, sym, ap, ap₂, ◌∙◌, subst, subst₂, arith, inl, inr, ⊎_elim, slice_get, le_refl, mul-le-mul}
-use Rattle.std.proofs.lemmas.Bool.{lt-ltb, le-ltb, cases_lt, cases_order}
-use Rattle.std.proofs.lemmas.Option.{same_Some, slice_get-map, slice_get_within, get_or_from_slice_get, slice_get-get_or, none-some}
-use Rattle.std.specs.Option.{option_map_or}
+-- Where typed objects lie: each made one inside a placed object, apart from the stack, from thunk cells and from code.
+use Rattle.std.proofs.Common.{◌≡◌, ◌≢◌, ℕ, suc, ◌+◌, ◌-◌, ◌*◌, ◌^◌, ◌<◌, ◌≤◌, ◌⊎◌, true, List, length, Some}
+use Rattle.std.proofs.Common.{refl, subst, arith, inl, inr, ⊎_elim, slice_get, mul-le-mul}
+use Rattle.std.proofs.lemmas.Option.{slice_get-get_or}
 use Rattle.ebc_width.proofs.RangeLaws.{holds-at, covers-inside}
 use Rattle.note_types.specs.Shapes.{FitsAt, size_at}
 use Rattle.ebc_width.specs.Width.{IsWidth}
 use Rattle.ebc_width.proofs.Laws.{by_width}
 use Rattle.ebc_width.specs.Ranges.{Range, holds}
-use Rattle.note_types.specs.declared.notes.Notes.{Notes}
 use Rattle.note_types.specs.declared.notes.FnNote.{FnNote}
 use Rattle.note_types.specs.declared.notes.Thunk.{Thunk}
 use Rattle.note_types.specs.declared.notes.Static.{Static}
-use Rattle.note_types.specs.declared.script.Script.{Script}
-use Rattle.note_types.specs.declared.script.ScriptObject.{ScriptObject}
-use Rattle.note_types.specs.declared.script.ScriptCall.{ScriptCall}
 use Rattle.host_model.specs.World.{World}
 use Rattle.host_model.specs.declared.object.TypedObject.{TypedObject}
-use Rattle.host_model.specs.Objects.{no_shape, static_object, script_object, placed_objects, made_objects, shape_of}
-use Rattle.host_model.specs.Placements.{object_bytes, object_at, Placement, IsWithin, IsPlacement, area_bytes, stack_bytes, placed_ranges}
-use Rattle.host_model.specs.Placements.{script_ranges, object_address}
+use Rattle.host_model.specs.Objects.{no_shape, static_object, made_objects, shape_of}
+use Rattle.host_model.specs.Placements.{object_bytes, Placement, IsWithin, IsPlacement, area_bytes, stack_bytes, placed_ranges}
+use Rattle.host_model.specs.Placements.{object_address}
 use Rattle.note_types.specs.Concrete.{AreDisjoint}
 use Rattle.neutral_machine.specs.WorldFits.{WorldFits}
-use Rattle.ebc_base.proofs.Lists.{slice_get-append_left, slice_get-append_right, All_at, AllPairs_at, flat_map-taken, within_some, take-all}
-use Rattle.ebc_base.proofs.Lists.{length-map}
-use Rattle.ebc_base.proofs.Given.{some_of_map}
+use Rattle.ebc_base.proofs.Lists.{All_at, AllPairs_at}
 use Rattle.rules_image.specs.Images.{AreApart}
-
--- ---- the objects that a script brings
-
--- what is brought by some time is brought in all
-pub placed_in_all : (script : Script) (n j : ℕ) (o : ScriptObject) → slice_get (placed_objects script n) j ≡ Some o
-    → slice_get (placed_objects script (length script.call)) j ≡ Some o
-unfolding placed_objects
-placed_in_all script n j o h = ⊎_elim
-    (λ l. slice_get-append_left script.object _ j l ∙ sym (slice_get-append_left script.object _ j l) ∙ h)
-    (λ l. slice_get-append_right script.object _ j l
-    ∙ subst (λ cs. slice_get (flat_map (λ (c : ScriptCall). c.make) cs) (j - length script.object) ≡ Some o) (sym (take-all script.call))
-    (flat_map-taken (λ (c : ScriptCall). c.make) n script.call (j - length script.object) o
-    (sym (slice_get-append_right script.object _ j l) ∙ h)))
-    (cases_lt j (length script.object))
-
-pub script_ranges_at : (w : ℕ) (notes : Notes) (os : List ScriptObject) (bs : List ℕ) (j b : ℕ) (o : ScriptObject) → slice_get os j ≡ Some o
-    → slice_get bs j ≡ Some b → slice_get (script_ranges w notes os bs) j ≡ Some
-    (record { base = b; size = object_bytes w notes (script_object o) })
-unfolding script_ranges
-script_ranges_at w notes [] bs j b o h g = absurd (none-some o h)
-script_ranges_at w notes (p ∷ os) [] j b o h g = absurd (none-some b g)
-script_ranges_at w notes (p ∷ os) (c ∷ bs) zero b o h g = ap₂ (λ c (p : ScriptObject). Some
-    (record { base = c; size = object_bytes w notes (script_object p) })) (same_Some c b g) (same_Some p o h)
-script_ranges_at w notes (p ∷ os) (c ∷ bs) (suc j) b o h g = script_ranges_at w notes os bs j b o h g
+use Rattle.neutral_machine.proofs.PlacedObjects as objects
+use Rattle.neutral_machine.proofs.PlacedObjects.{Lies, StaticsFit, bytes_le, static_in}
 
 mul-positive : (a b : ℕ) → 1 ≤ a → 1 ≤ b → 0 < a * b
 mul-positive a b l m = let e : 1 * 1 ≤ a * b = mul-le-mul l m in omega (arith, e)
-
--- ---- where an object lies
-
--- a static, in the image
-pub record OfStatic (world : World) (P : Placement) (k base : ℕ) (o : TypedObject) : Type 0 where
-  pub static : Static
-  pub there : slice_get world.notes.statics k ≡ Some static
-  pub is : static_object static ≡ o
-  pub base_is : base ≡ P.image + static.place
-
--- what an object takes at a width, and at width 8
-pub bytes_le : (w : ℕ) (notes : Notes) (o : TypedObject) → IsWidth w → object_bytes w notes o ≤ object_bytes 8 notes o
-bytes_le w notes o h = by_width (λ v. object_bytes v notes o ≤ object_bytes 8 notes o) w h
-    (mul-le-mul (le_refl o.count) (let e : (shape_of notes o.shape).n * 4 + (shape_of notes o.shape).c ≤
-    (shape_of notes o.shape).n * 8 + (shape_of notes o.shape).c = omega arith in e)) (le_refl _)
-
--- a static lies in the image
-pub static_in : (w : ℕ) (world : World) (P : Placement) (k base : ℕ) (o : TypedObject) → IsWidth w
-    → ((s : Static) → slice_get world.notes.statics k ≡ Some s
-    → s.place + object_bytes 8 world.notes (static_object s) ≤ world.image_size)
-    → OfStatic world P k base o → (P.image ≤ base) × (base + object_bytes w world.notes o ≤ P.image + world.image_size)
-static_in w world P k base o h within s =
-    let inside : s.static.place + object_bytes 8 world.notes o ≤ world.image_size =
-    subst (λ (p : TypedObject). s.static.place + object_bytes 8 world.notes p ≤ world.image_size) s.is (within s.static s.there) in
-    let least : object_bytes w world.notes o ≤ object_bytes 8 world.notes o = bytes_le w world.notes o h in
-    (omega (arith, s.base_is), omega (arith, s.base_is, inside, least))
-
--- an object that the script brings, by itself
-pub record OfScript (w : ℕ) (world : World) (P : Placement) (n k base : ℕ) (o : TypedObject) : Type 0 where
-  pub later : length world.notes.statics ≤ k
-  pub now : slice_get (placed_ranges w world P n) (suc (suc (suc (k - length world.notes.statics)))) ≡ Some
-      (record { base = base; size = object_bytes w world.notes o })
-  pub ever : slice_get (placed_ranges w world P (length world.script.call)) (suc (suc (suc (k - length world.notes.statics)))) ≡ Some
-      (record { base = base; size = object_bytes w world.notes o })
-
--- a typed object is somewhere
-pub record Lies (w : ℕ) (world : World) (P : Placement) (n k : ℕ) (o : TypedObject) : Type 0 where
-  pub base : ℕ
-  pub address : object_address world.notes P k ≡ Some base
-  pub kind : OfStatic world P k base o ⊎ OfScript w world P n k base o
 
 module _ (w : ℕ) (world : World) (P : Placement) (h : IsWidth w) (ok : WorldFits world) (pl : IsPlacement w world P) where
   abbrev S : ℕ
   S = length world.notes.statics
 
-  -- the addresses of static objects and of the script's objects
+  fit : StaticsFit world
+  fit = record { inside = ok.statics_inside; apart = ok.statics_apart }
+
   pub static_address : (k : ℕ) (s : Static) → slice_get world.notes.statics k ≡ Some s
       → object_address world.notes P k ≡ Some (P.image + s.place)
-  unfolding object_at
-  static_address k s g =
-      let l = slice_get_within world.notes.statics k s g in
-      rw (lt-ltb k (S + length P.objects) (omega (arith, l))) (rw (lt-ltb k S l)
-      (ap (λ z. Some (P.image + option_map_or (λ (s : Static). s.place) z 0)) g))
-
-  pub script_address : (k b : ℕ) → S ≤ k → slice_get P.objects (k - S) ≡ Some b → object_address world.notes P k ≡ Some b
-  unfolding object_at
-  script_address k b l g =
-      let m = slice_get_within P.objects (k - S) b g in
-      rw (lt-ltb k (S + length P.objects) (omega (arith, l, m)))
-      (rw (le-ltb k S l) (ap Some (get_or_from_slice_get P.objects (k - S) b _ g)))
-
-  lies_static : (n k : ℕ) (o : TypedObject) → k < S → slice_get (map static_object world.notes.statics) k ≡ Some o → Lies w world P n k o
-  lies_static n k o l g =
-      let s = some_of_map static_object (slice_get world.notes.statics k) o (sym (slice_get-map static_object world.notes.statics k) ∙ g) in
-      record {
-        base = P.image + s.0.place;
-        address = static_address k s.0 s.1;
-        kind = inl (record { static = s.0; there = s.1; is = s.2; base_is = refl });
-      }
-
-  lies_script : (n k : ℕ) (o : TypedObject) → S ≤ k → slice_get (map script_object (placed_objects world.script n)) (k - S) ≡ Some o
-      → Lies w world P n k o
-  unfolding placed_ranges
-  lies_script n k o l g =
-      let s = some_of_map script_object (slice_get (placed_objects world.script n) (k - S)) o
-      (sym (slice_get-map script_object (placed_objects world.script n) (k - S)) ∙ g) in
-      let all = placed_in_all world.script n (k - S) s.0 s.1 in
-      let few : k - S < length P.objects = subst (λ z. k - S < z) (sym pl.each) (slice_get_within _ (k - S) s.0 all) in
-      let b = within_some P.objects (k - S) few in
-      record {
-        base = b.0;
-        address = script_address k b.0 l b.1;
-        kind = inr (record {
-          later = l;
-          now = subst (λ (p : TypedObject). slice_get (script_ranges w world.notes (placed_objects world.script n) P.objects) (k - S) ≡ Some
-              (record { base = b.0; size = object_bytes w world.notes p })) s.2
-              (script_ranges_at w world.notes (placed_objects world.script n) P.objects (k - S) b.0 s.0 s.1 b.1);
-          ever = subst (λ (p : TypedObject). slice_get (script_ranges w world.notes
-              (placed_objects world.script (length world.script.call)) P.objects) (k - S) ≡ Some
-              (record { base = b.0; size = object_bytes w world.notes p })) s.2
-              (script_ranges_at w world.notes _ P.objects (k - S) b.0 s.0 all b.1);
-        });
-      }
+  static_address k s g = objects.static_address w world P h fit pl k s g
 
   pub lies : (n k : ℕ) (o : TypedObject) → slice_get (made_objects world.notes world.script n) k ≡ Some o → Lies w world P n k o
-  unfolding made_objects
-  lies n k o g =
-      let e = length-map static_object world.notes.statics in
-      ⊎_elim
-      (λ l. lies_static n k o l (sym (slice_get-append_left (map static_object world.notes.statics) _ k (subst (λ z. k < z) (sym e) l))
-      ∙ g))
-      (λ l. lies_script n k o l (subst (λ z. slice_get (map script_object (placed_objects world.script n)) (k - z) ≡ Some o) e
-      (sym (slice_get-append_right (map static_object world.notes.statics) _ k (subst (λ z. z ≤ k) (sym e) l)) ∙ g)))
-      (cases_lt k S)
+  lies n k o g = objects.lies w world P h fit pl n k o g
 
   -- ---- the ranges of all that a run may have
 
   abbrev All_ranges : List Range
   All_ranges = placed_ranges w world P (length world.script.call)
 
-  range_of : ℕ → TypedObject → Range
-  range_of base o = record { base = base; size = object_bytes w world.notes o }
-
   stack_at : slice_get All_ranges 1 ≡ Some (record { base = P.stack; size = stack_bytes w world.notes })
   unfolding placed_ranges
   stack_at = refl
 
   image_at : slice_get All_ranges 2 ≡ Some (record { base = P.image; size = world.image_size })
-  unfolding placed_ranges
-  image_at = refl
+  image_at = objects.image_at w world P h fit pl
 
   pub image_off_stack : (P.stack + stack_bytes w world.notes ≤ P.image) ⊎ (P.image + world.image_size ≤ P.stack)
   image_off_stack = AllPairs_at AreDisjoint All_ranges 1 2 _ _ pl.apart stack_at image_at (omega arith)
 
   pub image_within : IsWithin w (record { base = P.image; size = world.image_size })
-  image_within = All_at (IsWithin w) All_ranges 2 _ pl.within image_at
+  image_within = objects.image_within w world P h fit pl
 
   pub stack_within : IsWithin w (record { base = P.stack; size = stack_bytes w world.notes })
   stack_within = All_at (IsWithin w) All_ranges 1 _ pl.within stack_at
@@ -200,51 +75,12 @@ module _ (w : ℕ) (world : World) (P : Placement) (h : IsWidth w) (ok : WorldFi
       l.kind
 
   pub object_within : (n k : ℕ) (o : TypedObject) (l : Lies w world P n k o) → l.base + object_bytes w world.notes o ≤ 2 ^ (8 * w)
-  object_within n k o l = ⊎_elim
-      (λ s. let i = static_in w world P k l.base o h (ok.statics_inside k) s in omega (arith, i.1, image_within.below))
-      (λ s. (All_at (IsWithin w) All_ranges (suc (suc (suc (k - S)))) _ pl.within s.ever).below)
-      l.kind
-
-  -- a range of places of the image that a script's object doesn't meet
-  off_image : (n k base : ℕ) (o : TypedObject) → OfScript w world P n k base o
-      → Off P.image world.image_size base (object_bytes w world.notes o)
-  off_image n k base o s = AllPairs_at AreDisjoint All_ranges 2 (suc (suc (suc (k - S)))) _ _ pl.apart image_at s.ever (omega arith)
+  object_within n k o l = objects.object_below w world P h fit pl n k o l
 
   -- two objects are off each other
   pub objects_off : (n k m : ℕ) (o p : TypedObject) (l : Lies w world P n k o) (r : Lies w world P n m p) → k ≢ m
       → Off l.base (object_bytes w world.notes o) r.base (object_bytes w world.notes p)
-  objects_off n k m o p l r ne = ⊎_elim
-      (λ s. ⊎_elim
-      (λ t. statics s t)
-      (λ t. let i = static_in w world P k l.base o h (ok.statics_inside k) s in
-      ⊎_elim (λ x. inl (omega (arith, x, i.1))) (λ x. inr (omega (arith, x, i.0)))
-      (off_image n m r.base p t))
-      r.kind)
-      (λ s. ⊎_elim
-      (λ t. let i = static_in w world P m r.base p h (ok.statics_inside m) t in
-      ⊎_elim (λ x. inr (omega (arith, x, i.1))) (λ x. inl (omega (arith, x, i.0)))
-      (off_image n k l.base o s))
-      (λ t. ⊎_elim
-      (λ e. absurd (ne e))
-      (λ d. ⊎_elim
-      (λ x. AllPairs_at AreDisjoint All_ranges (suc (suc (suc (k - S)))) (suc (suc (suc (m - S)))) _ _ pl.apart s.ever t.ever
-      (omega (arith, x, s.later, t.later)))
-      (λ x. ⊎_elim inr inl (AllPairs_at AreDisjoint All_ranges (suc (suc (suc (m - S))))
-      (suc (suc (suc (k - S)))) _ _ pl.apart t.ever s.ever (omega (arith, x, s.later, t.later))))
-      d)
-      (cases_order k m))
-      r.kind)
-      l.kind
-    where
-      statics : OfStatic world P k l.base o → OfStatic world P m r.base p
-          → Off l.base (object_bytes w world.notes o) r.base (object_bytes w world.notes p)
-      statics s t =
-          let d = ok.statics_apart k m s.static t.static s.there t.there ne in
-          let d2 : AreApart s.static.place (object_bytes 8 world.notes o) t.static.place (object_bytes 8 world.notes p) =
-          subst₂ (λ (x y : TypedObject). AreApart s.static.place (object_bytes 8 world.notes x) t.static.place
-          (object_bytes 8 world.notes y)) s.is t.is d in
-          ⊎_elim (λ x. inl (omega (arith, x, bytes_le w world.notes o h, s.base_is, t.base_is)))
-          (λ x. inr (omega (arith, x, bytes_le w world.notes p h, s.base_is, t.base_is))) d2
+  objects_off n k m o p l r ne = objects.objects_off w world P h fit pl n k m o p l r ne
 
   -- an object is off a range of the image that statics don't meet
   off_places : (n k q z : ℕ) (o : TypedObject) (l : Lies w world P n k o) → q + z ≤ world.image_size
@@ -253,7 +89,8 @@ module _ (w : ℕ) (world : World) (P : Placement) (h : IsWidth w) (ok : WorldFi
   off_places n k q z o l inside f = ⊎_elim
       (λ s. ⊎_elim (λ x. inr (omega (arith, x, bytes_le w world.notes o h, s.base_is)))
       (λ x. inl (omega (arith, x, s.base_is))) (f s.static s.there s.is))
-      (λ s. ⊎_elim (λ x. inl (omega (arith, x, inside))) (λ x. inr (omega (arith, x, inside))) (off_image n k l.base o s))
+      (λ s. ⊎_elim (λ x. inl (omega (arith, x, inside))) (λ x. inr (omega (arith, x, inside)))
+      (objects.off_image w world P h fit pl n k l.base o s))
       l.kind
 
   pub off_thunk : (n k i : ℕ) (o : TypedObject) (t : Thunk) (l : Lies w world P n k o) → slice_get world.notes.thunk i ≡ Some t
@@ -300,16 +137,9 @@ module _ (w : ℕ) (world : World) (P : Placement) (h : IsWidth w) (ok : WorldFi
       (λ v. FitsAt v (shape_of world.notes o.shape)) w h f.at4 f.at8).positive in
       mul-positive o.count (size_at w (shape_of world.notes o.shape)) c.1 (omega (arith, p))
 
-  starts_above : (r : Range) → IsWithin w r → 0 < r.size → 0 < r.base
-  starts_above r i l = ⊎_elim (λ p. p) (λ e. absurd (omega (arith, e, l))) i.above
-
   pub object_positive : (n k : ℕ) (o : TypedObject) (l : Lies w world P n k o)
       → slice_get (made_objects world.notes world.script n) k ≡ Some o → 0 < l.base
-  object_positive n k o l g = ⊎_elim
-      (λ s. let i = static_in w world P k l.base o h (ok.statics_inside k) s in
-      let b = starts_above _ image_within (omega (arith, i.0, i.1, object_some n k o g)) in omega (arith, i.0, b))
-      (λ s. starts_above _ (All_at (IsWithin w) All_ranges (suc (suc (suc (k - S)))) _ pl.within s.ever) (object_some n k o g))
-      l.kind
+  object_positive n k o l g = objects.object_above w world P h fit pl n k o l (object_some n k o g)
 
   native_at_first : slice_get All_ranges 0 ≡ Some (record { base = P.native; size = area_bytes world.notes })
   unfolding placed_ranges

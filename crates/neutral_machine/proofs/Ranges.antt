@@ -25,7 +25,7 @@ use Rattle.host_model.specs.World.{World}
 use Rattle.ebc_base.proofs.Lists.{slice_get-append_right, All_at, AllPairs_at, length-map}
 use Rattle.neutral_machine.proofs.NamedThings.{takes_bytes}
 use Rattle.ebc_width.proofs.Laws.{by_width}
-use Rattle.neutral_machine.proofs.Placed.{placed_in_all, script_ranges_at}
+use Rattle.neutral_machine.proofs.PlacedObjects.{placed_in_all, script_ranges_at}
 
 -- ---- the stack
 

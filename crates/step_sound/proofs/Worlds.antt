@@ -29,7 +29,7 @@ use Rattle.invariant_laws.specs.Hosted.{RunWorld}
 use Rattle.step_sound.proofs.Instructing.{ThunksEnter}
 use Rattle.step_sound.proofs.EvenPlaces.{points_even}
 use Rattle.ebc_base.proofs.Given.{some_of_map}
-use Rattle.neutral_machine.proofs.Placed.{placed_in_all}
+use Rattle.neutral_machine.proofs.PlacedObjects.{placed_in_all}
 
 -- one of the terms is at most the sum
 term_below : {A : Type 0} (f : A → ℕ) (xs : List A) (k : ℕ) (x : A) → slice_get xs k ≡ Some x → f x ≤ sum_by f xs

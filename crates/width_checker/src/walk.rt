@@ -104,119 +104,117 @@ fn leads_below(
     }
 }
 
-// Goes through an instruction of function `func` from a place up to `next`.
-fn pass(
-    image: &Image,
-    notes: &Notes,
+// A walk through a function of an image under notes: the function, and its number.
+#[derive(Clone, Copy)]
+struct Walk<'a> {
+    image: &'a Image,
+    notes: &'a Notes,
     func: u32,
-    f: &FnNote,
-    at: u32,
-    next: u32,
-    insn: &Insn,
-    marks: &mut Marks,
-    state: &mut State,
-    taken: &mut State,
-) -> Result<(), RuleName>
-    requires image { IsImage image.now }
-    requires notes { IsNotes notes.now }
-    requires decode { IsDecoded image.now f.now at insn.now next }
-    requires within { at < f.now.end }
-    requires stands { StandsAt image.now notes.now func f.now at marks.old state.old }
-    ensures passes { OnOk result (Passes image.now notes.now func f.now at next marks.new state.new) }
-    ensures fails { IfErr result (IsFirst (FailsAt image.now notes.now func f.now at)) }
-{
-    let arrived_below = arrive(notes, at, marks, state);
-    if !marks.falls {
-        return Err(RuleName::State);
-    }
-    if !has_no_point(notes, at, next, marks.point) {
-        return Err(RuleName::Point);
-    }
-    let Ok(reloc) = relocation(image, notes, insn, at, next, marks.reloc) else {
-        return Err(RuleName::Relocation);
-    };
-    let here = Here {
-        place: at,
-        next,
-        func,
-        reloc,
-    };
-    let path = advance(notes, &here, state, taken, insn)?;
-    if at == f.place && !arrived_below {
-        return Err(RuleName::Below);
-    }
-    if !leads_below(notes, marks.point, next, &path, state, taken) {
-        return Err(RuleName::Below);
-    }
-    if !ends_within(f, insn, next) {
-        return Err(RuleName::End);
-    }
-    marks.falls = path.falls();
-    marks.reloc = past(image, at, next, marks.reloc);
-    Ok(())
+    f: &'a FnNote,
 }
 
-// Goes through the instruction at a place of function `func`: the next place.
-fn step(
-    image: &Image,
-    notes: &Notes,
-    func: u32,
-    f: &FnNote,
-    code: &[u8],
-    at: u32,
-    marks: &mut Marks,
-    state: &mut State,
-    taken: &mut State,
-) -> Result<u32, RuleName>
-    requires image { IsImage image.now }
-    requires notes { IsNotes notes.now }
-    requires code { IsCodeOf image.now f.now code.now }
-    requires size { f.now.end ≤ 2 ^ 22 }
-    requires from { f.now.place ≤ at }
-    requires within { at < f.now.end }
-    requires stands { StandsAt image.now notes.now func f.now at marks.old state.old }
-    ensures passes { IfOk result (λ next. Passes image.now notes.now func f.now at next marks.new state.new) }
-    ensures fails { IfErr result (IsFirst (FailsAt image.now notes.now func f.now at)) }
-{
-    let Ok((insn, len)) = decode(code, (at - f.place) as usize) else {
-        return Err(RuleName::Decode);
-    };
-    let next = at + len as u32;
-    pass(image, notes, func, f, at, next, &insn, marks, state, taken)?;
-    Ok(next)
-}
-
-// Goes through function `func`, with a state to keep and one to write for the jumps taken, whatever they hold.
-fn check_function(
-    image: &Image,
-    notes: &Notes,
-    func: u32,
-    f: &FnNote,
-    state: &mut State,
-    taken: &mut State,
-) -> Result<(), Refusal>
-    requires image { IsImage image.now }
-    requires notes { IsNotes notes.now }
-    requires there { slice_get notes.now.function func ≡ Some f.now }
-    requires holds { IsFunction image.now notes.now func f.now }
-    ensures meets { OnOk result ((p : ℕ) → IsPlaceOf image.now f.now p → MeetsRules image.now notes.now func f.now p) }
-    ensures fails { IfErr result (FailsIn image.now notes.now func f.now) }
-{
-    let code = code_of(image, f);
-    enter(notes, func, state);
-    let mut marks = Marks {
-        point: first_point(notes, f.place),
-        reloc: first_reloc(image, f.place),
-        falls: true,
-    };
-    let mut at = f.place;
-    while at < f.end {
-        match step(image, notes, func, f, code, at, &mut marks, state, taken) {
-            Ok(next) => at = next,
-            Err(rule) => return Err(Refusal { place: at, rule }),
+impl<'a> Walk<'a> {
+    // Goes through an instruction, from its place up to `next`.
+    fn pass(
+        &self,
+        at: u32,
+        next: u32,
+        insn: &Insn,
+        marks: &mut Marks,
+        state: &mut State,
+        taken: &mut State,
+    ) -> Result<(), RuleName>
+        requires image { IsImage self.now.image.now }
+        requires notes { IsNotes self.now.notes.now }
+        requires decode { IsDecoded self.now.image.now self.now.f.now at insn.now next }
+        requires within { at < self.now.f.now.end }
+        requires stands { StandsAt self.now.image.now self.now.notes.now self.now.func self.now.f.now at marks.old state.old }
+        ensures passes { OnOk result (Passes self.now.image.now self.now.notes.now self.now.func self.now.f.now at next marks.new state.new) }
+        ensures fails { IfErr result (IsFirst (FailsAt self.now.image.now self.now.notes.now self.now.func self.now.f.now at)) }
+    {
+        let arrived_below = arrive(self.notes, at, marks, state);
+        if !marks.falls {
+            return Err(RuleName::State);
         }
+        if !has_no_point(self.notes, at, next, marks.point) {
+            return Err(RuleName::Point);
+        }
+        let Ok(reloc) = relocation(self.image, self.notes, insn, at, next, marks.reloc) else {
+            return Err(RuleName::Relocation);
+        };
+        let here = Here {
+            place: at,
+            next,
+            func: self.func,
+            reloc,
+        };
+        let path = advance(self.notes, &here, state, taken, insn)?;
+        if at == self.f.place && !arrived_below {
+            return Err(RuleName::Below);
+        }
+        if !leads_below(self.notes, marks.point, next, &path, state, taken) {
+            return Err(RuleName::Below);
+        }
+        if !ends_within(self.f, insn, next) {
+            return Err(RuleName::End);
+        }
+        marks.falls = path.falls();
+        marks.reloc = past(self.image, at, next, marks.reloc);
+        Ok(())
     }
-    Ok(())
+
+    // Goes through the instruction at a place, where these are the function's bytes: the next place.
+    fn step(
+        &self,
+        code: &[u8],
+        at: u32,
+        marks: &mut Marks,
+        state: &mut State,
+        taken: &mut State,
+    ) -> Result<u32, RuleName>
+        requires image { IsImage self.now.image.now }
+        requires notes { IsNotes self.now.notes.now }
+        requires code { IsCodeOf self.now.image.now self.now.f.now code.now }
+        requires size { self.now.f.now.end ≤ 2 ^ 22 }
+        requires from { self.now.f.now.place ≤ at }
+        requires within { at < self.now.f.now.end }
+        requires stands { StandsAt self.now.image.now self.now.notes.now self.now.func self.now.f.now at marks.old state.old }
+        ensures passes { IfOk result (λ next. Passes self.now.image.now self.now.notes.now self.now.func self.now.f.now at next marks.new state.new) }
+        ensures fails { IfErr result (IsFirst (FailsAt self.now.image.now self.now.notes.now self.now.func self.now.f.now at)) }
+    {
+        let Ok((insn, len)) = decode(code, (at - self.f.place) as usize) else {
+            return Err(RuleName::Decode);
+        };
+        let next = at + len as u32;
+        self.pass(at, next, &insn, marks, state, taken)?;
+        Ok(next)
+    }
+
+    // Goes through the function, with a state to keep and one to write for the jumps taken, whatever they hold.
+    fn check(&self, state: &mut State, taken: &mut State) -> Result<(), Refusal>
+        requires image { IsImage self.now.image.now }
+        requires notes { IsNotes self.now.notes.now }
+        requires there { slice_get self.now.notes.now.function self.now.func ≡ Some self.now.f.now }
+        requires holds { IsFunction self.now.image.now self.now.notes.now self.now.func self.now.f.now }
+        ensures meets { OnOk result ((p : ℕ) → IsPlaceOf self.now.image.now self.now.f.now p → MeetsRules self.now.image.now self.now.notes.now self.now.func self.now.f.now p) }
+        ensures fails { IfErr result (FailsIn self.now.image.now self.now.notes.now self.now.func self.now.f.now) }
+    {
+        let code = code_of(self.image, self.f);
+        enter(self.notes, self.func, state);
+        let mut marks = Marks {
+            point: first_point(self.notes, self.f.place),
+            reloc: first_reloc(self.image, self.f.place),
+            falls: true,
+        };
+        let mut at = self.f.place;
+        while at < self.f.end {
+            match self.step(code, at, &mut marks, state, taken) {
+                Ok(next) => at = next,
+                Err(rule) => return Err(Refusal { place: at, rule }),
+            }
+        }
+        Ok(())
+    }
 }
 
 // Goes through these functions, all of the notes, in their order.
@@ -231,7 +229,13 @@ fn check_each(image: &Image, notes: &Notes, functions: &[FnNote]) -> Result<(), 
     let mut state = entry_state(notes, notes.entry);
     let mut taken = state.copy();
     for (func, f) in functions.iter().enumerate() {
-        match check_function(image, notes, func as u32, f, &mut state, &mut taken) {
+        let walk = Walk {
+            image,
+            notes,
+            func: func as u32,
+            f,
+        };
+        match walk.check(&mut state, &mut taken) {
             Ok(()) => {}
             Err(refusal) => return Err(refusal),
         }

@@ -5,15 +5,15 @@ use Rattle.rules_image.proofs.Firsts.{item_there}
 use Rattle.width_checker.proofs.Walking.{functions_more, refuses}
 use Rattle.width_checker.proofs.walk.check_each.Goals as goal
 
-pub check_function-requires-clause-there : goal.check_function-requires-clause-there
-check_function-requires-clause-there c =
+pub check-requires-clause-there : goal.check-requires-clause-there
+check-requires-clause-there c =
     subst (λ (fs : List FnNote). slice_get fs c.loop-func.func ≡ Some c.index-functions-func.result) c.requires.functions
     (item_there
     (λ k (f : FnNote). Unit {0}) c.args.functions.now c.loop-func.func c.index-functions-func.result c.loop-func-test.true
     c.index-functions-func.is)
 
-pub check_function-requires-clause-holds : goal.check_function-requires-clause-holds
-check_function-requires-clause-holds c =
+pub check-requires-clause-holds : goal.check-requires-clause-holds
+check-requires-clause-holds c =
     c.requires.tables.functions c.loop-func.func c.index-functions-func.result
     (subst (λ (fs : List FnNote). slice_get fs c.loop-func.func ≡ Some c.index-functions-func.result) c.requires.functions
     (item_there
