@@ -1,0 +1,5 @@
+pub mod Sets
+pub mod SettledStates
+pub mod SettledTypes
+pub mod StateJoins
+pub mod TypeJoins

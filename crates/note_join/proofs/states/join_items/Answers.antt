@@ -1,0 +1,26 @@
+use Rattle.std.proofs.Common.{ap, ◌∙◌, ◌++◌, [], ◌∷◌, List, take, length, arith, subst, sym, ◌<◌}
+use Rattle.note_types.specs.declared.items.Item.{Item}
+use Rattle.note_types.specs.declared.cell.SlotKind.TheVariants.{N}
+use Rattle.note_types.specs.declared.items.Item.TheVariants.{Slot}
+use Rattle.note_types.specs.declared.types.Ty.TheVariants as ty
+use Rattle.note_join.specs.JoinStates.{join_item, zipped}
+use Rattle.note_join.proofs.StateJoins.{zipped_more, zipped_within}
+use Rattle.note_join.proofs.states.join_items.Goals as goal
+
+pub loop-number-init : goal.loop-number-init
+unfolding zipped
+loop-number-init c = c.new-items.ensures
+
+pub push_below-requires : goal.push_below-requires
+push_below-requires c =
+    let q = zipped_within join_item c.loop-number.number c.args.xs.now (take c.loop-number.number c.args.ys.now) in
+    let P : List Item → _ = λ zs. length zs < 65 in
+    subst P (sym c.loop-number.invariant) (omega arith)
+
+pub loop-number-preserved : goal.loop-number-preserved
+loop-number-preserved c =
+    c.push_below.ensures
+    ∙ (ap (λ (zs : List Item). zs ++ (c.join_item.result ∷ [])) c.loop-number.invariant
+    ∙ (ap (λ (x : Item). zipped join_item (take c.loop-number.number c.args.xs.now) (take c.loop-number.number c.args.ys.now) ++ (x ∷ []))
+    c.join_item.ensures
+    ∙ zipped_more join_item c.args.xs.now c.args.ys.now c.loop-number.number (Slot N ty.Any) (omega arith) (omega arith)))

@@ -1,0 +1,11 @@
+use Rattle.std.proofs.Common.{◌≡◌, ◌↔◌, IsTrue, arith}
+use Rattle.std.proofs.lemmas.Grind.{common_steps}
+use Rattle.std.proofs.lemmas.Bool.Decides.{same_from_decides}
+use Rattle.note_types.proofs.SameLaws.{Decides-same_type}
+use Rattle.note_join.proofs.types.same_type.Goals as goal
+
+same : (c : goal.After-eq) → IsTrue c.eq.result ↔ (c.args.a.now ≡ c.args.b.now)
+same c = grind (arith, common_steps)
+
+pub returns : goal.returns
+returns c = same_from_decides _ _ (same c) (Decides-same_type _ _)

@@ -1,0 +1,4 @@
+pub mod Join
+pub mod JoinStates
+pub mod Laws
+pub mod Ranks
