@@ -4,19 +4,19 @@ use Rattle.asm_text.specs.declared.fault.AsmFault.{AsmFault}
 use Rattle.asm_text.specs.declared.fault.AsmFault.TheVariants.{Word, Operand, Number, Index, Label, Twice, Far, Section}
 
 -- the number of a fault
-abbrev pub rank : AsmFault → ℕ
-rank Word = 1
-rank Operand = 2
-rank Number = 3
-rank Index = 4
-rank Label = 5
-rank Twice = 6
-rank Far = 7
-rank Section = 8
+abbrev pub asm_fault_number : AsmFault → ℕ
+asm_fault_number Word = 1
+asm_fault_number Operand = 2
+asm_fault_number Number = 3
+asm_fault_number Index = 4
+asm_fault_number Label = 5
+asm_fault_number Twice = 6
+asm_fault_number Far = 7
+asm_fault_number Section = 8
 
 -- the fault with the lower number
 abbrev pub lower : AsmFault → AsmFault → AsmFault
-lower a b = if nat_le (rank a) (rank b) then a else b
+lower a b = if nat_le (asm_fault_number a) (asm_fault_number b) then a else b
 
 -- both values, or the lower of their faults
 abbrev pub both : {A B : Type 0} → Result A AsmFault → Result B AsmFault → Result (A × B) AsmFault

@@ -1,7 +1,7 @@
 //! What is wrong with a line, and which of two faults is named.
 
 ghost use Rattle.std.specs.Prelude.{◌≡◌};
-ghost use Rattle.asm_text.specs.Faults.{both, lower, rank};
+ghost use Rattle.asm_text.specs.Faults.{asm_fault_number, both, lower};
 
 /// What is wrong with a line of assembly text (docs/ASSEMBLY.md, "Faults"). Of several faults of a line the lowest is
 /// named, in the order in which they stand here.
@@ -25,25 +25,28 @@ pub enum AsmFault {
     Section,
 }
 
-fn rank(fault: AsmFault) -> u8
-    ensures { result ≡ rank fault }
-{
-    match fault {
-        AsmFault::Word => 1,
-        AsmFault::Operand => 2,
-        AsmFault::Number => 3,
-        AsmFault::Index => 4,
-        AsmFault::Label => 5,
-        AsmFault::Twice => 6,
-        AsmFault::Far => 7,
-        AsmFault::Section => 8,
+impl AsmFault {
+    /// The number of the fault, from 1 to 8, by the order in which they stand here.
+    pub fn number(self) -> u8
+        ensures { result ≡ asm_fault_number self }
+    {
+        match self {
+            AsmFault::Word => 1,
+            AsmFault::Operand => 2,
+            AsmFault::Number => 3,
+            AsmFault::Index => 4,
+            AsmFault::Label => 5,
+            AsmFault::Twice => 6,
+            AsmFault::Far => 7,
+            AsmFault::Section => 8,
+        }
     }
 }
 
 fn lower(a: AsmFault, b: AsmFault) -> AsmFault
     ensures { result ≡ lower a b }
 {
-    if rank(a) <= rank(b) { a } else { b }
+    if a.number() <= b.number() { a } else { b }
 }
 
 // Both values, or the lower fault.

@@ -27,7 +27,7 @@ unfolding names_with
 apart_in ns [] h = h
 apart_in ns (l ∷ ls) h = apart_in (and_names l ns) ls (apart_names l ns h)
 
-kept_in : (n : List ℕ) (ns : List (List ℕ)) (ls : List Line) → is_named n ns ≡ true → is_named n (names_with ns ls) ≡ true
+pub kept_in : (n : List ℕ) (ns : List (List ℕ)) (ls : List Line) → is_named n ns ≡ true → is_named n (names_with ns ls) ≡ true
 unfolding names_with
 kept_in n ns [] h = h
 kept_in n ns (l ∷ ls) h = kept_in n (and_names l ns) ls (rw (and_names_is l ns) (named_still n ns (added_names l ns) h))

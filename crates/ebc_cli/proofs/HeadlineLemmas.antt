@@ -6,6 +6,8 @@ use Rattle.std.proofs.lemmas.Bool.Decides.{nat_tests}
 use Rattle.std.specs.FinMap.{insert}
 use Rattle.std.specs.Fmt.{decimal}
 use Rattle.asm_text.specs.declared.fault.AsmFault.{AsmFault}
+use Rattle.ebc_link.specs.Links.{Fault}
+use Rattle.ebc_link.specs.declared.plan.LinkPlan.{LinkPlan}
 use Rattle.ebc_object.specs.declared.object.Object.{Object}
 use Rattle.ebc_object.specs.Files.{object_bytes}
 use Rattle.ebc_outside.specs.Files.{Files, AppendsPart}
@@ -15,6 +17,7 @@ use Rattle.option_rom.specs.declared.fault.TakeFault.{TakeFault}
 use Rattle.option_rom.specs.declared.image.RomImage.{RomImage}
 use Rattle.option_rom.specs.Files.{rom_bytes}
 use Rattle.note_types.specs.declared.rule.RuleName.{RuleName}
+use Rattle.pe_image.specs.Files.{file_of}
 use Rattle.pe_image.specs.declared.image.Image.{Image}
 use Rattle.ebc_disasm.specs.Listings.{listing_of}
 use Rattle.protocol_script.proofs.RecordLaws.{read-is-script}
@@ -36,7 +39,7 @@ use Rattle.ebc_cli.specs.declared.reply.Reply.{Reply}
 use Rattle.ebc_cli.specs.declared.work.Work.{Work}
 use Rattle.ebc_cli.specs.declared.work.Work.TheVariants as works
 use Rattle.ebc_cli.specs.Commands.{command_of, output_of}
-use Rattle.ebc_cli.specs.Faults.{asm_fault_text, rom_fault_text, take_fault_text}
+use Rattle.ebc_cli.specs.Faults.{asm_fault_text, link_detail, link_fault_text, rom_fault_text, take_fault_text}
 use Rattle.ebc_cli.specs.Outcomes.{IsAnswer}
 use Rattle.ebc_cli.specs.Outputs.{SameBut, files_left, printed, text_of, written_name}
 use Rattle.ebc_cli.specs.Readings.{file, done, go_on, large_reply}
@@ -46,8 +49,10 @@ use Rattle.ebc_cli.specs.Works.{work_of, code_check, verdict_reply, listing_repl
 use Rattle.ebc_cli.specs.Answers.{IsAnswerOf, Decides, Answers, Assembles, LeavesPart, ChecksCode, ChecksImage, ListsImage, HasBadInput}
 use Rattle.ebc_cli.specs.Answers.{HasBadLine, HasMissingFile, HasNoText, writes_object, writes_rom, writes_taken, empty_listing}
 use Rattle.ebc_cli.specs.Answers.{SameForScripts}
+use Rattle.ebc_cli.specs.Answers.{HasBadLink, Links, writes_image}
 use Rattle.ebc_cli.specs.Answers.{Wraps, ListsRom, Takes, HasBadRom, HasBadTaking, IsTooLarge}
 use Rattle.ebc_cli.proofs.StopLemmas.{assembly-work, bad-exactly, bad-line-told, image-work, large-exactly, listing-work, missing-exactly}
+use Rattle.ebc_cli.proofs.StopLemmas.{bad-link-told, linking-work}
 use Rattle.ebc_cli.proofs.StopLemmas.{bad-rom-told, bad-taking-told, rom-listing-work, taking-work, wrapping-work}
 
 -- a reply that was decided is an answer, whether the reading went through or stopped
@@ -266,6 +271,37 @@ bad-source-line None words reply outcome before now tells text = tt
 bad-source-line (Some files) words reply outcome before now tells text = λ name kind line c answered.
     text answered ∙ ap (λ (r : Reply). printed (text_of r.output) before) (bad-line-told words files name kind line reply c tells.told)
 
+-- ---- `link PLAN IMAGE`
+
+linking-told : (words : List (List ℕ)) (files : Files) (reply : Reply) (name : List ℕ) (image : Image) → Links words files name image
+    → IsAnswerOf words files reply → reply ≡ file_reply name (file_of image)
+linking-told words files reply name image c told = rw (linking-work words files name image c) at told
+
+pub links-always : (contents : Option Files) (words : List (List ℕ)) (reply : Reply) (outcome : Outcome)
+    → Tells contents words reply outcome
+    → IfSome contents (λ files. (name : List ℕ) (image : Image) → Links words files name image → IsAnswer outcome
+    → outcome ≡ outcomes.Done)
+links-always None words reply outcome tells = tt
+links-always (Some files) words reply outcome tells = λ name image c answered. tells.same answered
+    ∙ ap (λ (r : Reply). r.outcome) (linking-told words files reply name image c tells.told)
+
+pub links-exactly : (contents : Option Files) (words : List (List ℕ)) (reply : Reply) (outcome : Outcome) (left : Option Files)
+    → Tells contents words reply outcome
+    → (IsAnswer outcome → left ≡ option_map (files_left reply.output) contents)
+    → IfSome contents (λ files. (name : List ℕ) (image : Image) → Links words files name image → IsAnswer outcome
+    → left ≡ Some (insert files name (file_of image)))
+links-exactly None words reply outcome left tells files_are = tt
+links-exactly (Some files) words reply outcome left tells files_are = λ name image c answered.
+    files_are answered ∙ ap (λ (r : Reply). Some (files_left r.output files)) (linking-told words files reply name image c tells.told)
+
+pub bad-link-line : (contents : Option Files) (words : List (List ℕ)) (reply : Reply) (outcome : Outcome) (before now : Option (List ℕ))
+    → Tells contents words reply outcome → (IsAnswer outcome → now ≡ printed (text_of reply.output) before)
+    → IfSome contents (λ files. (name : List ℕ) (plan : LinkPlan) (fault : Fault) → HasBadLink words files name plan fault
+    → IsAnswer outcome → now ≡ printed (bad_line name (link_fault_text fault) (link_detail plan fault)) before)
+bad-link-line None words reply outcome before now tells text = tt
+bad-link-line (Some files) words reply outcome before now tells text = λ name plan fault c answered.
+    text answered ∙ ap (λ (r : Reply). printed (text_of r.output) before) (bad-link-told words files name plan fault reply c tells.told)
+
 -- ---- `rom wrap VENDOR DEVICE IMAGE ROM`
 
 wrapping-told : (words : List (List ℕ)) (files : Files) (reply : Reply) (vendor device : ℕ) (bytes : List ℕ) (image : Image) (name : List ℕ)
@@ -363,6 +399,10 @@ silent : (words : List (List ℕ)) (files : Files) (reply : Reply) → HasNoText
 silent words files reply (writes_object name object c) told = record {
   text = ap (λ (r : Reply). text_of r.output) (object-told words files reply name object c told);
   names = λ named. rw c.command (λ none. cc);
+}
+silent words files reply (writes_image name image c) told = record {
+  text = ap (λ (r : Reply). text_of r.output) (linking-told words files reply name image c told);
+  names = λ named. rw c.has_plan.command (λ none. cc);
 }
 silent words files reply (writes_rom vendor device bytes image name c) told = record {
   text = ap (λ (r : Reply). text_of r.output) (wrapping-told words files reply vendor device bytes image name c told);

@@ -2,5 +2,7 @@ pub mod HexLemmas
 pub mod RomLemmas
 pub mod ReadingsLemmas
 pub mod OutputLemmas
+pub mod InputLemmas
+pub mod LinkLemmas
 pub mod StopLemmas
 pub mod HeadlineLemmas

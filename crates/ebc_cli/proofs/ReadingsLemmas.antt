@@ -13,7 +13,7 @@ use Rattle.ebc_cli.specs.declared.reply.End.TheVariants as ends
 use Rattle.ebc_cli.specs.Readings.{FileReading, ◌>>=◌, go_on, done, AsksPart, Follows}
 
 -- what a second reading asked for comes after what the first one did
-later-part : (before mid now one all : List (List ℕ)) → mid ≡ before ++ one → AsksPart mid all now → AsksPart before (one ++ all) now
+pub later-part : (before mid now one all : List (List ℕ)) → mid ≡ before ++ one → AsksPart mid all now → AsksPart before (one ++ all) now
 later-part before mid now one all led part = record {
   first = one ++ part.first;
   others = part.others;

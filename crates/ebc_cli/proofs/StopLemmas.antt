@@ -1,14 +1,21 @@
 -- What comes of reading the files that words name: the work, or the reply at which the reading stops, by its cause.
-use Rattle.std.proofs.Common.{◌≡◌, ◌↔◌, ◌⊎◌, ℕ, ◌<◌, ◌≤◌, List, [], ◌∷◌, length, Option, Some, None, Result, Ok, Err}
+use Rattle.std.proofs.Common.{◌≡◌, ◌↔◌, ◌⊎◌, ℕ, ◌<◌, ◌≤◌, List, [], ◌∷◌, ◌++◌, length, Option, Some, None, Result, Ok, Err}
 use Rattle.std.proofs.Common.{Bool, true, false, nat_lt, if◌then◌else◌, inl, inr, refl, sym, ap, ◌∙◌, arith}
 use Rattle.std.proofs.lemmas.Bool.{le-ltb, lt-ltb}
 use Rattle.std.proofs.lemmas.Bool.Decides.{nat_tests}
 use Rattle.std.specs.FinMap.{get}
 use Rattle.std.specs.Fmt.{decimal}
+use Rattle.asm_text.specs.Faults.{asm_fault_number}
 use Rattle.asm_text.specs.declared.fault.AsmFault.{AsmFault}
 use Rattle.ebc_asm.specs.Sources.{object_of}
+use Rattle.ebc_link.specs.Links.{Fault, links}
+use Rattle.ebc_link.specs.PlanTexts.{plan_of}
+use Rattle.ebc_link.specs.declared.plan.LinkPlan.{LinkPlan}
+use Rattle.ebc_object.specs.Readings.{object_of_file}
+use Rattle.ebc_object.specs.declared.fault.ObjectFault.{ObjectFault}
 use Rattle.ebc_object.specs.declared.object.Object.{Object}
 use Rattle.ebc_outside.specs.Files.{Files}
+use Rattle.note_types.specs.declared.fault.TomlFault.{TomlFault}
 use Rattle.note_types.specs.declared.notes.Notes.{Notes}
 use Rattle.option_rom.specs.declared.fault.RomFault.{RomFault}
 use Rattle.option_rom.specs.declared.fault.TakeFault.{TakeFault}
@@ -24,14 +31,15 @@ use Rattle.plain_check.specs.declared.verdict.Verdict.{Verdict}
 use Rattle.plain_check.specs.declared.verdict.Verdict.TheVariants.{Neutral, Refused}
 use Rattle.plain_check.specs.PlainChecks.{plain_verdict}
 use Rattle.ebc_cli.specs.declared.command.Command.{Command}
-use Rattle.ebc_cli.specs.declared.command.Command.TheVariants.{Assemble, CheckCode, CheckImage, ListImage, ListRom, TakeRom, WrapRom}
+use Rattle.ebc_cli.specs.declared.command.Command.TheVariants.{Assemble, CheckCode, CheckImage, Link, ListImage, ListRom, TakeRom, WrapRom}
 use Rattle.ebc_cli.specs.declared.outcome.Outcome.{Outcome}
 use Rattle.ebc_cli.specs.declared.outcome.Outcome.TheVariants as outcomes
 use Rattle.ebc_cli.specs.declared.reply.Reply.{Reply}
 use Rattle.ebc_cli.specs.declared.work.Work.{Work}
 use Rattle.ebc_cli.specs.declared.work.Work.TheVariants as works
 use Rattle.ebc_cli.specs.Commands.{command_of}
-use Rattle.ebc_cli.specs.Faults.{asm_fault_number, image_fault_number, rom_fault_number, take_fault_number, toml_fault_number}
+use Rattle.ebc_cli.specs.Faults.{image_fault_number, link_fault_number, object_fault_number, rom_fault_number}
+use Rattle.ebc_cli.specs.Faults.{take_fault_number, toml_fault_number}
 use Rattle.ebc_cli.specs.Numbers.{rom_number}
 use Rattle.ebc_cli.specs.Outcomes.{IsWorkAnswer}
 use Rattle.ebc_cli.specs.Readings.{FileReading, ◌>>=◌, file, measured, go_on, done, told, missing_reply, large_reply}
@@ -39,160 +47,24 @@ use Rattle.ebc_cli.specs.Inputs.{input, or_reply, image_limit, image_meaning, no
 use Rattle.ebc_cli.specs.Inputs.{bad_image_reply, bad_notes_reply, bad_source_reply}
 use Rattle.ebc_cli.specs.Inputs.{input_with_bytes, rom_limit, rom_meaning, bad_rom_reply, bad_taking_reply, taking_offset, taking_meaning}
 use Rattle.ebc_cli.specs.Inputs.{number_meaning}
+use Rattle.ebc_cli.specs.Inputs.{bad_link_reply, bad_object_reply, bad_plan_reply, link_meaning, object_limit, object_meaning, plan_limit}
+use Rattle.ebc_cli.specs.Inputs.{plan_meaning}
+use Rattle.ebc_cli.specs.Linkings.{each_object, linked_by, linked_image}
 use Rattle.ebc_cli.specs.Works.{work_of, work_for, code_check, image_check, image_listing, assembly, verdict_reply, usage_reply, IsReplyOf}
 use Rattle.ebc_cli.specs.Works.{plain_code_limit}
-use Rattle.ebc_cli.specs.Works.{rom_wrapping, rom_images, rom_taking, rom_taking_of}
-use Rattle.ebc_cli.specs.Answers.{IsAnswerOf, HasFile, Assembles, ChecksImage, ListsImage, NamesImage, to_check, to_list, to_wrap}
+use Rattle.ebc_cli.specs.Works.{linking, rom_wrapping, rom_images, rom_taking, rom_taking_of}
+use Rattle.ebc_cli.specs.Answers.{IsAnswerOf, HasFile, HasObjects, Assembles, ChecksImage, ListsImage, NamesImage, to_check, to_list}
+use Rattle.ebc_cli.specs.Answers.{to_wrap}
 use Rattle.ebc_cli.specs.Answers.{ComesToNotes, HasTurn, code_turn, image_turn, notes_turn, source_turn, rom_turn, HasMissingFile}
 use Rattle.ebc_cli.specs.Answers.{HasLargeFile, HasBadImage, HasBadLine, HasBadNotes, HasBadInput, bad_image, bad_notes, bad_source}
-use Rattle.ebc_cli.specs.Answers.{bad_rom, bad_taking}
+use Rattle.ebc_cli.specs.Answers.{bad_link, bad_object, bad_plan, bad_rom, bad_taking}
+use Rattle.ebc_cli.specs.Answers.{ComesToObject, HasBadLink, HasBadObject, HasBadPlan, HasPlan, Links, object_turn, plan_turn}
+use Rattle.ebc_cli.proofs.LinkLemmas.{ObjectStops, object-unread, objects-read, objects-stop, objects-stopped, objects-value}
+use Rattle.ebc_cli.proofs.InputLemmas.{OneStops, first_stops, second_stops, go-on-err, NotRead, is_gone, is_past, measured-err, IsRead}
+use Rattle.ebc_cli.proofs.InputLemmas.{input-ok, input-err, IsReadWith, input-with-ok, input-with-err, or-err, or-ok, one-stop}
 use Rattle.ebc_cli.proofs.RomLemmas.{number-err, number-ok, number-past, number-read, number-spelled, taken-err, taken-none}
 use Rattle.ebc_cli.specs.Answers.{Wraps, ListsRom, TakesFrom, Takes, NamesRom, to_list_rom, to_take, HasBadRom, HasBadTaking}
 use Rattle.ebc_cli.specs.Answers.{HasLargeNumber, IsTooLarge, large_number, large_file}
-
--- ---- steps of reading
-
--- a value that comes of two steps comes of both
-record BothGo {A B : Type 0} (v : Result A Reply) (f : A → FileReading B) (y : B) : Type 0 where
-  one : A
-  first : v ≡ Ok one
-  second : (f one).value ≡ Ok y
-
-go-on-ok : {A B : Type 0} (asked : List (List ℕ)) (v : Result A Reply) (f : A → FileReading B) (y : B) → (go_on asked v f).value ≡ Ok y
-    → BothGo v f y
-go-on-ok asked (Ok x) f y e = record { one = x; first = refl; second = e }
-go-on-ok asked (Err reply) f y e = absurd cc
-
--- a reply at which two steps stop is that of the first, or of the second where the first went on
-data OneStops {A B : Type 0} (v : Result A Reply) (f : A → FileReading B) (reply : Reply) : Type 0 where
-  first_stops : v ≡ Err reply → OneStops v f reply
-  second_stops : (x : A) → v ≡ Ok x → (f x).value ≡ Err reply → OneStops v f reply
-
-go-on-err : {A B : Type 0} (asked : List (List ℕ)) (v : Result A Reply) (f : A → FileReading B) (reply : Reply)
-    → (go_on asked v f).value ≡ Err reply → OneStops v f reply
-go-on-err asked (Ok x) f reply e = second_stops x refl e
-go-on-err asked (Err first) f reply e = let same : first ≡ reply = cc in first_stops (ap Err same)
-
--- ---- a file
-
-sized : (name : List ℕ) (limit : ℕ) (files : Files) (reply : Reply) (found bytes : List ℕ) (past : Bool) → get files name ≡ Some found
-    → nat_lt limit (length found) ≡ past → (if past then Err reply else Ok found) ≡ Ok bytes → HasFile files name limit bytes
-sized name limit files reply found bytes true there e same = absurd cc
-sized name limit files reply found bytes false there e same =
-    let is : found ≡ bytes = cc in record { there = rw (sym is) there; fits = rw (sym is) (grind (arith, nat_tests)) }
-
-measured-ok : (word : ℕ) (name : List ℕ) (limit : ℕ) (files : Files) (x : Option (List ℕ)) (bytes : List ℕ) → get files name ≡ x
-    → measured word name limit x ≡ Ok bytes → HasFile files name limit bytes
-measured-ok word name limit files None bytes there e = absurd cc
-measured-ok word name limit files (Some found) bytes there e = sized name limit files _ found bytes _ there refl e
-
--- a file that isn't read is missing or too large, and the reply says so
-data NotRead (word : ℕ) (name : List ℕ) (limit : ℕ) (files : Files) (reply : Reply) : Type 0 where
-  is_gone : get files name ≡ None → reply ≡ missing_reply word name → NotRead word name limit files reply
-  is_past : (bytes : List ℕ) → get files name ≡ Some bytes → limit < length bytes → reply ≡ large_reply word name
-      → NotRead word name limit files reply
-
-sized-err : (word : ℕ) (name : List ℕ) (limit : ℕ) (files : Files) (found : List ℕ) (reply : Reply) (past : Bool)
-    → get files name ≡ Some found → nat_lt limit (length found) ≡ past
-    → (if past then Err (large_reply word name) else Ok found) ≡ Err reply → NotRead word name limit files reply
-sized-err word name limit files found reply true there e same = is_past found there (grind (arith, nat_tests)) cc
-sized-err word name limit files found reply false there e same = absurd cc
-
-measured-err : (word : ℕ) (name : List ℕ) (limit : ℕ) (files : Files) (x : Option (List ℕ)) (reply : Reply) → get files name ≡ x
-    → measured word name limit x ≡ Err reply → NotRead word name limit files reply
-measured-err word name limit files None reply there e = is_gone there cc
-measured-err word name limit files (Some found) reply there e = sized-err word name limit files found reply _ there refl e
-
--- ---- what a file is read as
-
--- the file is there, and its bytes have this meaning
-record IsRead {A : Type 0} (limit : ℕ) (meaning : List ℕ → Result A Reply) (name : List ℕ) (files : Files)
-    (value : Result A Reply) : Type 0 where
-  bytes : List ℕ
-  file : HasFile files name limit bytes
-  is : meaning bytes ≡ value
-
-input-ok : {A : Type 0} (limit : ℕ) (meaning : ℕ → List ℕ → List ℕ → Result A Reply) (word : ℕ) (name : List ℕ) (files : Files) (x : A)
-    → (input limit meaning word name files).value ≡ Ok x → IsRead limit (meaning word name) name files (Ok x)
-unfolding input file
-input-ok limit meaning word name files x e =
-    let both = go-on-ok (name ∷ []) (measured word name limit (get files name)) (λ bytes. told (meaning word name bytes)) x e in
-    record { bytes = both.one; file = measured-ok word name limit files (get files name) both.one refl both.first; is = both.second }
-
--- where the reading of a file stops, it wasn't read, or its bytes mean the reply
-input-err : {A : Type 0} (limit : ℕ) (meaning : ℕ → List ℕ → List ℕ → Result A Reply) (word : ℕ) (name : List ℕ) (files : Files)
-    (reply : Reply)
-    → (input limit meaning word name files).value ≡ Err reply
-    → NotRead word name limit files reply ⊎ IsRead limit (meaning word name) name files (Err reply)
-unfolding input file
-input-err limit meaning word name files reply e =
-    elim (go-on-err (name ∷ []) (measured word name limit (get files name)) (λ bytes. told (meaning word name bytes)) reply e) [
-      | first_stops stops ↦ inl (measured-err word name limit files (get files name) reply refl stops)
-      | second_stops bytes goes stops ↦
-          inr record { bytes = bytes; file = measured-ok word name limit files (get files name) bytes refl goes; is = stops }
-    ]
-
--- where a file is read with its bytes, it is there, and they have this meaning
-record IsReadWith {A : Type 0} (limit : ℕ) (meaning : List ℕ → Result A Reply) (name : List ℕ) (files : Files)
-    (read : A × List ℕ) : Type 0 where
-  file : HasFile files name limit read.1
-  is : meaning read.1 ≡ Ok read.0
-
--- a value with bytes comes of these bytes
-with-bytes : {A : Type 0} (value : Result A Reply) (bytes : List ℕ) (read : A × List ℕ)
-    → (go_on {B = A × List ℕ} [] value (λ v. done (v, bytes))).value ≡ Ok read → (value ≡ Ok read.0) × (bytes ≡ read.1)
-with-bytes {A = A} (Ok v) bytes read e =
-    let same : ◌≡◌ {A = A × List ℕ} (v, bytes) read = cc in
-    (ap (λ (p : A × List ℕ). Ok p.0) same, ap (λ (p : A × List ℕ). p.1) same)
-with-bytes (Err reply) bytes read e = absurd cc
-
-with-bytes-err : {A : Type 0} (value : Result A Reply) (bytes : List ℕ) (reply : Reply)
-    → (go_on {B = A × List ℕ} [] value (λ v. done (v, bytes))).value ≡ Err reply → value ≡ Err reply
-with-bytes-err (Ok v) bytes reply e = absurd cc
-with-bytes-err (Err first) bytes reply e = let same : first ≡ reply = cc in ap Err same
-
-input-with-ok : {A : Type 0} (limit : ℕ) (meaning : ℕ → List ℕ → List ℕ → Result A Reply) (word : ℕ) (name : List ℕ) (files : Files)
-    (read : A × List ℕ)
-    → (input_with_bytes limit meaning word name files).value ≡ Ok read → IsReadWith limit (meaning word name) name files read
-unfolding input_with_bytes file
-input-with-ok limit meaning word name files read e =
-    let both = go-on-ok (name ∷ []) (measured word name limit (get files name))
-    (λ bytes. go_on [] (meaning word name bytes) (λ v. done (v, bytes))) read e in
-    let found = with-bytes (meaning word name both.one) both.one read both.second in
-    record {
-      file = rw found.1 at (measured-ok word name limit files (get files name) both.one refl both.first);
-      is = rw found.1 at found.0;
-    }
-
-input-with-err : {A : Type 0} (limit : ℕ) (meaning : ℕ → List ℕ → List ℕ → Result A Reply) (word : ℕ) (name : List ℕ) (files : Files)
-    (reply : Reply)
-    → (input_with_bytes limit meaning word name files).value ≡ Err reply
-    → NotRead word name limit files reply ⊎ IsRead limit (meaning word name) name files (Err reply)
-unfolding input_with_bytes file
-input-with-err limit meaning word name files reply e =
-    elim (go-on-err (name ∷ []) (measured word name limit (get files name))
-    (λ bytes. go_on [] (meaning word name bytes) (λ v. done (v, bytes))) reply e) [
-      | first_stops stops ↦ inl (measured-err word name limit files (get files name) reply refl stops)
-      | second_stops bytes goes stops ↦ inr record {
-        bytes = bytes;
-        file = measured-ok word name limit files (get files name) bytes refl goes;
-        is = with-bytes-err (meaning word name bytes) bytes reply stops;
-      }
-    ]
-
--- a reply in a value's place is the reply to a fault
-record Failed {A E : Type 0} (reply : E → Reply) (r : Result A E) (stopped : Reply) : Type 0 where
-  fault : E
-  is : r ≡ Err fault
-  told_is : reply fault ≡ stopped
-
-or-err : {A E : Type 0} (reply : E → Reply) (r : Result A E) (stopped : Reply) → or_reply reply r ≡ Err stopped → Failed reply r stopped
-or-err reply (Ok x) stopped e = absurd cc
-or-err reply (Err fault) stopped e = record { fault = fault; is = refl; told_is = cc }
-
-or-ok : {A E : Type 0} (reply : E → Reply) (r : Result A E) (x : A) → or_reply reply r ≡ Ok x → r ≡ Ok x
-or-ok reply (Ok y) x e = let same : y ≡ x = cc in ap Ok same
-or-ok reply (Err fault) x e = absurd cc
 
 -- ---- why a reading stops
 
@@ -308,16 +180,6 @@ rom-stops words files name reply turn (inr read) =
 
 -- ---- the readings of the commands
 
--- a reading that stops before its work stops by the first file
-work-stop : {A B : Type 0} (v : Result A Reply) (make : A → B) (reply : Reply) → OneStops v (λ x. done (make x)) reply → v ≡ Err reply
-work-stop v make reply (first_stops stops) = stops
-work-stop v make reply (second_stops x goes stops) = absurd cc
-
--- a file of one command stops its reading
-one-stop : {A B : Type 0} (run : FileReading A) (make : A → B) (reply : Reply) → (run >>= (λ x. done (make x))).value ≡ Err reply
-    → run.value ≡ Err reply
-one-stop run make reply e = work-stop run.value make reply (go-on-err run.asked run.value (λ x. done (make x)) reply e)
-
 image-read : (words : List (List ℕ)) (files : Files) (a b : List ℕ) (image : Image) → command_of words ≡ Some (CheckImage a b)
     → IsRead image_limit (image_meaning 1 a) a files (Ok image) → ComesToNotes words files b
 image-read words files a b image command read = record {
@@ -399,6 +261,92 @@ rom-taking-stops words files reply a digits b command e =
           numbered-stops words files reply a b number (rw is.0 at command) is.1 stops
     ]
 
+-- ---- linking
+
+plan-stops : (words : List (List ℕ)) (files : Files) (name image_name : List ℕ) (reply : Reply)
+    → command_of words ≡ Some (Link name image_name)
+    → NotRead 1 name plan_limit files reply ⊎ IsRead plan_limit (plan_meaning 1 name) name files (Err reply)
+    → Stops words files reply.outcome
+plan-stops words files name image_name reply command (inl none) =
+    turn-stops words files 1 name plan_limit reply (plan_turn image_name refl refl command) none
+plan-stops words files name image_name reply command (inr read) =
+    let failed = or-err (bad_plan_reply 1 name) (plan_of read.bytes) reply read.is in
+    bad_file 1 (toml_fault_number failed.fault) (bad_plan name failed.fault refl refl record {
+      image_name = image_name;
+      text = read.bytes;
+      command = command;
+      plan_file = read.file;
+      no_plan = failed.is;
+    }) (outcome-of reply _ (sym failed.told_is))
+
+object-fault : (words : List (List ℕ)) (files : Files) (name bytes : List ℕ) (p : ObjectFault × ℕ) (reply : Reply)
+    → ComesToObject words files name → HasFile files name object_limit bytes → object_of_file bytes ≡ Err p
+    → bad_object_reply 1 name p ≡ reply → Stops words files reply.outcome
+object-fault words files name bytes (kind, offset) reply turn there no_object is_told =
+    bad_file 1 (object_fault_number kind) (bad_object name kind offset refl refl record {
+      bytes = bytes;
+      turn = turn;
+      object_file = there;
+      no_object = no_object;
+    }) (outcome-of reply _ (sym is_told))
+
+object-stops : (words : List (List ℕ)) (files : Files) (name : List ℕ) (reply : Reply) → ComesToObject words files name
+    → NotRead 1 name object_limit files reply ⊎ IsRead object_limit (object_meaning 1 name) name files (Err reply)
+    → Stops words files reply.outcome
+object-stops words files name reply turn (inl none) = turn-stops words files 1 name object_limit reply (object_turn refl refl turn) none
+object-stops words files name reply turn (inr read) =
+    let failed = or-err (bad_object_reply 1 name) (object_of_file read.bytes) reply read.is in
+    object-fault words files name read.bytes failed.fault reply turn read.file failed.is failed.told_is
+
+-- where the plan is known, the command stops by an object or by what they are linked to
+planned-stops : (words : List (List ℕ)) (files : Files) (reply : Reply) (a b : List ℕ) (plan : LinkPlan) → HasPlan words files a b plan
+    → (linked_by a plan files).value ≡ Err reply → Stops words files reply.outcome
+unfolding linked_by
+planned-stops words files reply a b plan has_plan e =
+    let all = each_object plan.objects files in
+    elim (go-on-err all.asked all.value (λ objects. told (link_meaning 1 a objects plan)) reply e) [
+      | first_stops stops ↦
+          let x = objects-stop files plan.objects reply stops in
+          object-stops words files x.name reply (record {
+            plan_name = a;
+            image_name = b;
+            plan = plan;
+            front = x.front;
+            back = x.back;
+            before = x.before;
+            has_plan = has_plan;
+            names = x.names_are;
+            has_objects = x.has_objects;
+          }) x.stops
+      | second_stops objects goes stops ↦
+          let failed = or-err (bad_link_reply 1 a plan) (links objects plan) reply stops in
+          bad_file 1 (link_fault_number failed.fault) (bad_link a plan failed.fault refl refl record {
+            image_name = b;
+            objects = objects;
+            has_plan = has_plan;
+            has_objects = objects-read files plan.objects objects goes;
+            no_image = failed.is;
+          }) (outcome-of reply _ (sym failed.told_is))
+    ]
+
+linking-stops : (words : List (List ℕ)) (files : Files) (reply : Reply) (a b : List ℕ) → command_of words ≡ Some (Link a b)
+    → (linking a b files).value ≡ Err reply → Stops words files reply.outcome
+unfolding linking linked_image
+linking-stops words files reply a b command e =
+    let plan_in = input plan_limit plan_meaning 1 a files in
+    elim (go-on-err plan_in.asked plan_in.value (λ plan. linked_by a plan files) reply
+    (one-stop (plan_in >>= (λ plan. linked_by a plan files)) (λ image. works.WriteImage b image) reply e)) [
+      | first_stops stops ↦ plan-stops words files a b reply command (input-err plan_limit plan_meaning 1 a files reply stops)
+      | second_stops plan goes stops ↦
+          let read = input-ok plan_limit plan_meaning 1 a files plan goes in
+          planned-stops words files reply a b plan (record {
+            text = read.bytes;
+            command = command;
+            plan_file = read.file;
+            plan_is = or-ok (bad_plan_reply 1 a) (plan_of read.bytes) plan read.is;
+          }) stops
+    ]
+
 by-command : (words : List (List ℕ)) (files : Files) (reply : Reply) (c : Option Command) → command_of words ≡ c
     → (work_for c files).value ≡ Err reply → Stops words files reply.outcome
 unfolding code_check image_check image_listing assembly rom_wrapping rom_images file
@@ -418,6 +366,7 @@ by-command words files reply (Some (Assemble a b)) command e =
     source-stops words files a b reply command
     (input-err source_limit source_meaning 1 a files reply (one-stop (input source_limit source_meaning 1 a files)
     (λ object. works.WriteObject b object) reply e))
+by-command words files reply (Some (Link a b)) command e = linking-stops words files reply a b command e
 by-command words files reply (Some (WrapRom vendor device a b)) command e =
     image-stops words files 4 a reply (to_wrap vendor device b refl command)
     (input-with-err image_limit image_meaning 4 a files reply
@@ -455,6 +404,57 @@ pub assembly-work : (words : List (List ℕ)) (files : Files) (name : List ℕ) 
 unfolding work_of assembly input file
 assembly-work words files name object c =
     rw (c.command, c.source_file.there, le-ltb source_limit (length c.text) c.source_file.fits, c.object_is) refl
+
+-- what a reading comes to doesn't hang on what was asked for
+value-alone : {A B : Type 0} (one two : List (List ℕ)) (v : Result A Reply) (f : A → FileReading B)
+    → (go_on one v f).value ≡ (go_on two v f).value
+value-alone one two (Ok x) f = refl
+value-alone one two (Err reply) f = refl
+
+-- nor does what comes of two readings, of which the first went through
+inner-goes : {A B C : Type 0} (asked : List (List ℕ)) (v : Result A Reply) (f : A → FileReading B) (k : B → FileReading C) (x : A)
+    → v ≡ Ok x → (go_on (go_on asked v f).asked (go_on asked v f).value k).value ≡ (go_on (f x).asked (f x).value k).value
+inner-goes asked v f k x e = rw e (value-alone (asked ++ (f x).asked) (f x).asked (f x).value k)
+
+-- a plan that is there is read, and what its objects are linked to decides
+planned-value : (words : List (List ℕ)) (files : Files) (a b : List ℕ) (plan : LinkPlan) → HasPlan words files a b plan
+    → (work_of words files).value ≡ (linked_by a plan files >>= (λ image. done (works.WriteImage b image))).value
+unfolding work_of linking linked_image input file
+planned-value words files a b plan c =
+    rw (c.command, c.plan_file.there, le-ltb plan_limit (length c.text) c.plan_file.fits, c.plan_is)
+    (value-alone (a ∷ (linked_by a plan files).asked) (linked_by a plan files).asked (linked_by a plan files).value
+    (λ image. done (works.WriteImage b image)))
+
+-- what comes of the objects comes of the words
+objects-work : (words : List (List ℕ)) (files : Files) (a b : List ℕ) (plan : LinkPlan) (objects : List Object)
+    → HasPlan words files a b plan → HasObjects files plan.objects objects
+    → (work_of words files).value ≡ (told (link_meaning 1 a objects plan) >>= (λ image. done (works.WriteImage b image))).value
+unfolding linked_by
+objects-work words files a b plan objects c has =
+    planned-value words files a b plan c
+    ∙ inner-goes (each_object plan.objects files).asked (each_object plan.objects files).value
+    (λ objects. told (link_meaning 1 a objects plan)) (λ image. done (works.WriteImage b image)) objects
+    (objects-value files plan.objects objects has)
+
+pub linking-work : (words : List (List ℕ)) (files : Files) (name : List ℕ) (image : Image) → Links words files name image
+    → (work_of words files).value ≡ Ok (works.WriteImage name image)
+linking-work words files name image c =
+    objects-work words files c.plan_name name c.plan c.objects c.has_plan c.has_objects ∙ rw c.image_is refl
+
+-- a file that is no object stops the reading
+bad-object-read : (files : Files) (name : List ℕ) (kind : ObjectFault) (offset : ℕ) (bytes : List ℕ) → HasFile files name object_limit bytes
+    → object_of_file bytes ≡ Err (kind, offset)
+    → (input object_limit object_meaning 1 name files).value ≡ Err (bad_object_reply 1 name (kind, offset))
+unfolding input file
+bad-object-read files name kind offset bytes found none = rw (found.there, le-ltb object_limit (length bytes) found.fits, none) refl
+
+-- an object that stops the reading, in its turn, stops the words
+object-stopped : (words : List (List ℕ)) (files : Files) (name : List ℕ) (reply : Reply) → ComesToObject words files name
+    → (input object_limit object_meaning 1 name files).value ≡ Err reply → (work_of words files).value ≡ Err reply
+unfolding linked_by
+object-stopped words files name reply t stops =
+    planned-value words files t.plan_name t.image_name t.plan t.has_plan
+    ∙ rw (t.names, objects-stopped files t.front name t.back t.before reply t.has_objects stops) refl
 
 pub wrapping-work : (words : List (List ℕ)) (files : Files) (vendor device : ℕ) (bytes : List ℕ) (image : Image) (name : List ℕ)
     → Wraps words files vendor device bytes image name
@@ -512,12 +512,17 @@ rom-unread words files name reply (to_take number image_name within command) sto
 
 unread : (words : List (List ℕ)) (files : Files) (word : ℕ) (name : List ℕ) (limit : ℕ) (reply : Reply)
     → HasTurn words files word name limit → measured word name limit (get files name) ≡ Err reply → (work_of words files).value ≡ Err reply
-unfolding work_of code_check image_check assembly input file
+unfolding work_of code_check image_check assembly linking linked_image input file
 unread words files word name limit reply (code_turn number size command) stops =
     let here : measured 1 name plain_code_limit (get files name) ≡ Err reply = rw (number, size) at stops in
     rw (command, here) refl
 unread words files word name limit reply (image_turn size command) stops =
     image-unread words files word name reply command (rw size at stops)
+unread words files word name limit reply (object_turn number size turn) stops =
+    object-stopped words files name reply turn (object-unread files name reply (rw (number, size) at stops))
+unread words files word name limit reply (plan_turn image_name number size command) stops =
+    let here : measured 1 name plan_limit (get files name) ≡ Err reply = rw (number, size) at stops in
+    rw (command, here) refl
 unread words files word name limit reply (rom_turn number size turn) stops =
     rom-unread words files name reply turn (rw (number, size) at stops)
 unread words files word name limit reply (notes_turn number size turn) stops =
@@ -571,6 +576,22 @@ unfolding work_of assembly input file
 bad-line-work words files name kind line x =
     rw (x.command, x.source_file.there, le-ltb source_limit (length x.text) x.source_file.fits, x.no_object) refl
 
+bad-plan-work : (words : List (List ℕ)) (files : Files) (name : List ℕ) (found : TomlFault) → HasBadPlan words files name found
+    → (work_of words files).value ≡ Err (bad_plan_reply 1 name found)
+unfolding work_of linking linked_image input file
+bad-plan-work words files name found x =
+    rw (x.command, x.plan_file.there, le-ltb plan_limit (length x.text) x.plan_file.fits, x.no_plan) refl
+
+bad-object-work : (words : List (List ℕ)) (files : Files) (name : List ℕ) (kind : ObjectFault) (offset : ℕ)
+    → HasBadObject words files name kind offset → (work_of words files).value ≡ Err (bad_object_reply 1 name (kind, offset))
+bad-object-work words files name kind offset x = object-stopped words files name _ x.turn (bad-object-read files name kind offset x.bytes
+    x.object_file x.no_object)
+
+bad-link-work : (words : List (List ℕ)) (files : Files) (name : List ℕ) (plan : LinkPlan) (fault : Fault)
+    → HasBadLink words files name plan fault → (work_of words files).value ≡ Err (bad_link_reply 1 name plan fault)
+bad-link-work words files name plan fault x =
+    objects-work words files name x.image_name plan x.objects x.has_plan x.has_objects ∙ rw x.no_image refl
+
 bad-rom-by : (words : List (List ℕ)) (files : Files) (name bytes : List ℕ) (kind : RomFault) (offset : ℕ) → NamesRom words name
     → HasFile files name rom_limit bytes → rom_of bytes ≡ Err (kind, offset)
     → (work_of words files).value ≡ Err (bad_rom_reply 2 name (kind, offset))
@@ -605,6 +626,11 @@ pub bad-line-told : (words : List (List ℕ)) (files : Files) (name : List ℕ) 
     → HasBadLine words files name kind line → IsAnswerOf words files reply → reply ≡ bad_source_reply 1 name (kind, line)
 bad-line-told words files name kind line reply x told = replied _ _ reply (bad-line-work words files name kind line x) told
 
+-- the answer to objects that aren't linked is that to the first fault
+pub bad-link-told : (words : List (List ℕ)) (files : Files) (name : List ℕ) (plan : LinkPlan) (fault : Fault) (reply : Reply)
+    → HasBadLink words files name plan fault → IsAnswerOf words files reply → reply ≡ bad_link_reply 1 name plan fault
+bad-link-told words files name plan fault reply x told = replied _ _ reply (bad-link-work words files name plan fault x) told
+
 -- the answer to an option ROM with a fault is that to its first one
 pub bad-rom-told : (words : List (List ℕ)) (files : Files) (name : List ℕ) (kind : RomFault) (offset : ℕ) (reply : Reply)
     → HasBadRom words files name kind offset → IsAnswerOf words files reply → reply ≡ bad_rom_reply 2 name (kind, offset)
@@ -624,6 +650,12 @@ bad-back words files reply w f told (bad_rom name kind offset word number x) =
     outcome-of reply _ (replied _ _ reply (bad-rom-work words files name kind offset x) told) ∙ rw (word, number) refl
 bad-back words files reply w f told (bad_taking name kind offset word number x) =
     outcome-of reply _ (replied _ _ reply (bad-taking-work words files name kind offset x) told) ∙ rw (word, number) refl
+bad-back words files reply w f told (bad_plan name found word number x) =
+    outcome-of reply _ (replied _ _ reply (bad-plan-work words files name found x) told) ∙ rw (word, number) refl
+bad-back words files reply w f told (bad_object name kind offset word number x) =
+    outcome-of reply _ (replied _ _ reply (bad-object-work words files name kind offset x) told) ∙ rw (word, number) refl
+bad-back words files reply w f told (bad_link name plan found word number x) =
+    outcome-of reply _ (replied _ _ reply (bad-link-work words files name plan found x) told) ∙ rw (word, number) refl
 bad-back words files reply w f told (bad_notes word x) =
     outcome-of reply _ (replied _ _ reply (bad-notes-work words files f x) told) ∙ rw (word, x.number) refl
 bad-back words files reply w f told (bad_source word x) =
@@ -644,6 +676,7 @@ stopped (Ok (works.CheckCode code)) reply told none = absurd (none (works-by rep
 stopped (Ok (works.CheckImage image notes)) reply told none = absurd (none (works-by reply _ told.told (verdict-works told.verdict)))
 stopped (Ok (works.ListImage image)) reply told none = absurd (none (works-by reply _ told tt))
 stopped (Ok (works.WriteObject name object)) reply told none = absurd (none (works-by reply _ told tt))
+stopped (Ok (works.WriteImage name image)) reply told none = absurd (none (works-by reply _ told tt))
 stopped (Ok (works.WriteRom name vendor device subsystem image)) reply told none = absurd (none (works-by reply _ told tt))
 stopped (Ok (works.ListRom images)) reply told none = absurd (none (works-by reply _ told tt))
 stopped (Ok (works.WriteTaken name bytes)) reply told none = absurd (none (works-by reply _ told tt))

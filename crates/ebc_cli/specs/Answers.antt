@@ -1,11 +1,17 @@
 -- Meaning: the answer of the program to its words, over the files of a folder: docs/COMMANDS.md, "The answer".
-use Rattle.std.specs.Prelude.{◌≡◌, ◌≢◌, ◌↔◌, ◌⊎◌, ℕ, ◌<◌, ◌≤◌, List, [], ◌++◌, length, Option, Some, None, Result, Ok, Err}
+use Rattle.std.specs.Prelude.{◌≡◌, ◌≢◌, ◌↔◌, ◌⊎◌, ℕ, ◌<◌, ◌≤◌, List, [], ◌∷◌, ◌++◌, length, Option, Some, None, Result, Ok, Err}
 use Rattle.std.specs.Fmt.{decimal}
 use Rattle.std.specs.FinMap.{get}
 use Rattle.ebc_outside.specs.Files.{Files, AppendsPart}
+use Rattle.asm_text.specs.Faults.{asm_fault_number}
 use Rattle.asm_text.specs.declared.fault.AsmFault.{AsmFault}
 use Rattle.ebc_asm.specs.Sources.{object_of}
 use Rattle.ebc_disasm.specs.Listings.{listing_of}
+use Rattle.ebc_link.specs.Links.{Fault, links}
+use Rattle.ebc_link.specs.PlanTexts.{plan_of}
+use Rattle.ebc_link.specs.declared.plan.LinkPlan.{LinkPlan}
+use Rattle.ebc_object.specs.Readings.{object_of_file}
+use Rattle.ebc_object.specs.declared.fault.ObjectFault.{ObjectFault}
 use Rattle.ebc_object.specs.declared.object.Object.{Object}
 use Rattle.note_types.specs.declared.fault.TomlFault.{TomlFault}
 use Rattle.note_types.specs.declared.notes.Notes.{Notes}
@@ -26,14 +32,15 @@ use Rattle.pe_image.specs.Images.{image_of}
 use Rattle.type_notes.specs.Notes.{notes_of}
 use Rattle.ebc_cli.specs.declared.outcome.Outcome.{Outcome}
 use Rattle.ebc_cli.specs.declared.outcome.Outcome.TheVariants as outcomes
-use Rattle.ebc_cli.specs.declared.command.Command.TheVariants.{Assemble, CheckCode, CheckImage, ListImage, ListRom, TakeRom, WrapRom}
+use Rattle.ebc_cli.specs.declared.command.Command.TheVariants.{Assemble, CheckCode, CheckImage, Link, ListImage, ListRom, TakeRom, WrapRom}
 use Rattle.ebc_cli.specs.declared.reply.End.{End}
 use Rattle.ebc_cli.specs.declared.reply.End.TheVariants as ends
 use Rattle.ebc_cli.specs.declared.reply.Reply.{Reply}
 use Rattle.ebc_cli.specs.declared.work.Work.{Work}
 use Rattle.ebc_cli.specs.Commands.{command_of, output_of}
-use Rattle.ebc_cli.specs.Faults.{asm_fault_number, image_fault_number, rom_fault_number, take_fault_number, toml_fault_number}
-use Rattle.ebc_cli.specs.Inputs.{image_limit, notes_limit, rom_limit, source_limit, taking_offset}
+use Rattle.ebc_cli.specs.Faults.{image_fault_number, link_fault_number, object_fault_number, rom_fault_number}
+use Rattle.ebc_cli.specs.Faults.{take_fault_number, toml_fault_number}
+use Rattle.ebc_cli.specs.Inputs.{image_limit, notes_limit, object_limit, plan_limit, rom_limit, source_limit, taking_offset}
 use Rattle.ebc_cli.specs.Outcomes.{IsAnswer}
 use Rattle.ebc_cli.specs.Outputs.{SameBut, files_left, printed, text_of, written_name}
 use Rattle.ebc_cli.specs.Readings.{FileReading, AsksPart, MissingHasCause}
@@ -106,6 +113,35 @@ pub record Assembles (words : List (List ℕ)) (files : Files) (name : List ℕ)
   pub command : command_of words ≡ Some (Assemble source_name name)
   pub source_file : HasFile files source_name source_limit text
   pub object_is : object_of text ≡ Ok object
+
+-- the words are `link PLAN IMAGE`, and the folder has a file of the first name, within its limit, that stands for this plan
+pub record HasPlan (words : List (List ℕ)) (files : Files) (plan_name name : List ℕ) (plan : LinkPlan) : Type 0 where
+  pub text : List ℕ
+  pub command : command_of words ≡ Some (Link plan_name name)
+  pub plan_file : HasFile files plan_name plan_limit text
+  pub plan_is : plan_of text ≡ Ok plan
+
+-- the folder has a file of this name, within its limit, that stands for this object
+pub record HasObject (files : Files) (name : List ℕ) (object : Object) : Type 0 where
+  pub bytes : List ℕ
+  pub object_file : HasFile files name object_limit bytes
+  pub object_is : object_of_file bytes ≡ Ok object
+
+-- the folder has files of these names that stand for these objects, one for each
+abbrev pub HasObjects : Files → List (List ℕ) → List Object → Type 0
+HasObjects files [] [] = Unit {0}
+HasObjects files (name ∷ names) (object ∷ objects) = HasObject files name object × HasObjects files names objects
+HasObjects files names objects = ⊥
+
+-- the words are `link PLAN IMAGE`, the folder has the plan and the objects that it names, these are linked to this image, and the image is
+-- to be written under this name
+pub record Links (words : List (List ℕ)) (files : Files) (name : List ℕ) (image : Image) : Type 0 where
+  pub plan_name : List ℕ
+  pub plan : LinkPlan
+  pub objects : List Object
+  pub has_plan : HasPlan words files plan_name name plan
+  pub has_objects : HasObjects files plan.objects objects
+  pub image_is : links objects plan ≡ Ok image
 
 -- the words are `rom wrap VENDOR DEVICE IMAGE ROM`, and the folder has a file within its limit, of these bytes, that stands for this
 -- image; the option ROM is to be written under this name
@@ -195,6 +231,41 @@ pub record HasBadSource (words : List (List ℕ)) (files : Files) (fault : ℕ) 
   pub bad_line : HasBadLine words files name kind line
   pub number : fault ≡ asm_fault_number kind
 
+-- the words are `link PLAN IMAGE`, and the plan, of this name, is a text within its limit that stands for none: this is its first fault
+pub record HasBadPlan (words : List (List ℕ)) (files : Files) (name : List ℕ) (found : TomlFault) : Type 0 where
+  pub image_name : List ℕ
+  pub text : List ℕ
+  pub command : command_of words ≡ Some (Link name image_name)
+  pub plan_file : HasFile files name plan_limit text
+  pub no_plan : plan_of text ≡ Err found
+
+-- the words are `link PLAN IMAGE`, and the plan names this object after others that the folder has: so its turn comes
+pub record ComesToObject (words : List (List ℕ)) (files : Files) (name : List ℕ) : Type 0 where
+  pub plan_name : List ℕ
+  pub image_name : List ℕ
+  pub plan : LinkPlan
+  pub front : List (List ℕ)
+  pub back : List (List ℕ)
+  pub before : List Object
+  pub has_plan : HasPlan words files plan_name image_name plan
+  pub names : plan.objects ≡ front ++ name ∷ back
+  pub has_objects : HasObjects files front before
+
+-- the file of this name, in its turn, is no object: this is its first fault, at this offset
+pub record HasBadObject (words : List (List ℕ)) (files : Files) (name : List ℕ) (kind : ObjectFault) (offset : ℕ) : Type 0 where
+  pub bytes : List ℕ
+  pub turn : ComesToObject words files name
+  pub object_file : HasFile files name object_limit bytes
+  pub no_object : object_of_file bytes ≡ Err (kind, offset)
+
+-- the words are `link PLAN IMAGE`, and the objects that the plan of this name names aren't linked: this is the first fault
+pub record HasBadLink (words : List (List ℕ)) (files : Files) (name : List ℕ) (plan : LinkPlan) (fault : Fault) : Type 0 where
+  pub image_name : List ℕ
+  pub objects : List Object
+  pub has_plan : HasPlan words files name image_name plan
+  pub has_objects : HasObjects files plan.objects objects
+  pub no_image : links objects plan ≡ Err fault
+
 -- the words are `rom list ROM`, or `rom take ROM NUMBER IMAGE` with a number of at most 65,535, and the option ROM has this name: so its
 -- turn comes
 pub data NamesRom (words : List (List ℕ)) (name : List ℕ) : Type 0 where
@@ -225,6 +296,12 @@ pub data HasBadInput (words : List (List ℕ)) (files : Files) (word fault : ℕ
   bad_image : HasBadImage words files word fault → HasBadInput words files word fault
   bad_notes : word ≡ 2 → HasBadNotes words files fault → HasBadInput words files word fault
   bad_source : word ≡ 1 → HasBadSource words files fault → HasBadInput words files word fault
+  bad_plan : (name : List ℕ) (found : TomlFault) → word ≡ 1 → fault ≡ toml_fault_number found → HasBadPlan words files name found
+      → HasBadInput words files word fault
+  bad_object : (name : List ℕ) (kind : ObjectFault) (offset : ℕ) → word ≡ 1 → fault ≡ object_fault_number kind
+      → HasBadObject words files name kind offset → HasBadInput words files word fault
+  bad_link : (name : List ℕ) (plan : LinkPlan) (found : Fault) → word ≡ 1 → fault ≡ link_fault_number found
+      → HasBadLink words files name plan found → HasBadInput words files word fault
   bad_rom : (name : List ℕ) (kind : RomFault) (offset : ℕ) → word ≡ 2 → fault ≡ rom_fault_number kind
       → HasBadRom words files name kind offset → HasBadInput words files word fault
   bad_taking : (name : List ℕ) (kind : TakeFault) (offset : ℕ) → word ≡ 2 → fault ≡ take_fault_number kind
@@ -237,6 +314,9 @@ pub data HasTurn (words : List (List ℕ)) (files : Files) (word : ℕ) (name : 
   notes_turn : word ≡ 2 → limit ≡ notes_limit → ComesToNotes words files name → HasTurn words files word name limit
   source_turn : (object_name : List ℕ) → word ≡ 1 → limit ≡ source_limit → command_of words ≡ Some (Assemble name object_name)
       → HasTurn words files word name limit
+  plan_turn : (image_name : List ℕ) → word ≡ 1 → limit ≡ plan_limit → command_of words ≡ Some (Link name image_name)
+      → HasTurn words files word name limit
+  object_turn : word ≡ 1 → limit ≡ object_limit → ComesToObject words files name → HasTurn words files word name limit
   rom_turn : word ≡ 2 → limit ≡ rom_limit → NamesRom words name → HasTurn words files word name limit
 
 -- the file of this word, in its turn, isn't there
@@ -272,6 +352,7 @@ pub data IsTooLarge (words : List (List ℕ)) (files : Files) (word : ℕ) : Typ
 -- the answer to the words has no text: a file is written, or they are `list IMAGE` and the listing of the image is empty
 pub data HasNoText (words : List (List ℕ)) (files : Files) : Type 0 where
   writes_object : (name : List ℕ) (object : Object) → Assembles words files name object → HasNoText words files
+  writes_image : (name : List ℕ) (image : Image) → Links words files name image → HasNoText words files
   writes_rom : (vendor device : ℕ) (bytes : List ℕ) (image : Image) (name : List ℕ) → Wraps words files vendor device bytes image name
       → HasNoText words files
   writes_taken : (name bytes : List ℕ) → Takes words files name bytes → HasNoText words files

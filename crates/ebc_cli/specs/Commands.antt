@@ -2,7 +2,7 @@
 use Rattle.std.specs.Prelude.{ℕ, List, [], ◌∷◌, map, codes, bytes_eq, if◌then◌else◌, ◌&&◌, Option, Some, None, String, Vec, string_bytes}
 use Rattle.std.specs.declared.alloc.Global.{Global}
 use Rattle.ebc_cli.specs.declared.command.Command.{Command}
-use Rattle.ebc_cli.specs.declared.command.Command.TheVariants.{Assemble, CheckCode, CheckImage, ListImage, ListRom, TakeRom, WrapRom}
+use Rattle.ebc_cli.specs.declared.command.Command.TheVariants.{Assemble, CheckCode, CheckImage, Link, ListImage, ListRom, TakeRom, WrapRom}
 use Rattle.ebc_cli.specs.Numbers.{identifier_of, is_number}
 
 -- the words as their bytes
@@ -38,6 +38,7 @@ command_of (word ∷ file ∷ []) =
 command_of (word ∷ one ∷ two ∷ []) =
     if bytes_eq word (codes "check") then of_two_files CheckImage one two
     else if bytes_eq word (codes "asm") then of_two_files Assemble one two
+    else if bytes_eq word (codes "link") then of_two_files Link one two
     else if bytes_eq word (codes "rom") && bytes_eq one (codes "list") then of_file ListRom two
     else None
 command_of (word ∷ act ∷ rom ∷ number ∷ image ∷ []) =
@@ -51,6 +52,7 @@ command_of words = None
 -- the name under which a command writes a file, if it writes one
 abbrev pub output_of : Option Command → Option (List ℕ)
 output_of (Some (Assemble source object)) = Some object
+output_of (Some (Link plan image)) = Some image
 output_of (Some (WrapRom vendor device image rom)) = Some rom
 output_of (Some (TakeRom rom number image)) = Some image
 output_of command = None

@@ -1,8 +1,13 @@
 -- Meaning: the faults of the files that a command reads, by their numbers and as they are printed: docs/COMMANDS.md,
 -- "Faults".
 use Rattle.std.specs.Prelude.{ℕ, List, codes}
+use Rattle.std.specs.Fmt.{decimal}
 use Rattle.asm_text.specs.declared.fault.AsmFault.{AsmFault}
 use Rattle.asm_text.specs.declared.fault.AsmFault.TheVariants as asm
+use Rattle.ebc_link.specs.Links.{Entry, Far, Fault, Size, Twice, Undefined}
+use Rattle.ebc_link.specs.declared.plan.LinkPlan.{LinkPlan}
+use Rattle.ebc_object.specs.declared.fault.ObjectFault.{ObjectFault}
+use Rattle.ebc_object.specs.declared.fault.ObjectFault.TheVariants as objects
 use Rattle.note_types.specs.declared.fault.TomlFault.{TomlFault}
 use Rattle.note_types.specs.declared.fault.TomlFault.TheVariants as toml
 use Rattle.option_rom.specs.declared.fault.RomFault.{RomFault}
@@ -65,17 +70,7 @@ key_path (toml.Name path) = path
 key_path (toml.Range path) = path
 key_path (toml.Twice path) = path
 
--- ---- sources
-
-abbrev pub asm_fault_number : AsmFault → ℕ
-asm_fault_number asm.Word = 1
-asm_fault_number asm.Operand = 2
-asm_fault_number asm.Number = 3
-asm_fault_number asm.Index = 4
-asm_fault_number asm.Label = 5
-asm_fault_number asm.Twice = 6
-asm_fault_number asm.Far = 7
-asm_fault_number asm.Section = 8
+-- ---- sources, whose faults have the numbers of `asm_fault_number` of asm_text
 
 abbrev pub asm_fault_text : AsmFault → List ℕ
 asm_fault_text asm.Word = codes "word"
@@ -86,6 +81,44 @@ asm_fault_text asm.Label = codes "label"
 asm_fault_text asm.Twice = codes "twice"
 asm_fault_text asm.Far = codes "far"
 asm_fault_text asm.Section = codes "section"
+
+-- ---- objects, and what they are linked to
+
+abbrev pub object_fault_number : ObjectFault → ℕ
+object_fault_number objects.Short = 1
+object_fault_number objects.Mark = 2
+object_fault_number objects.Count = 3
+object_fault_number objects.Range = 4
+object_fault_number objects.Order = 5
+
+abbrev pub object_fault_text : ObjectFault → List ℕ
+object_fault_text objects.Short = codes "short"
+object_fault_text objects.Mark = codes "mark"
+object_fault_text objects.Count = codes "count"
+object_fault_text objects.Range = codes "range"
+object_fault_text objects.Order = codes "order"
+
+abbrev pub link_fault_number : Fault → ℕ
+link_fault_number (Undefined name) = 1
+link_fault_number (Twice name) = 2
+link_fault_number (Far place) = 3
+link_fault_number Entry = 4
+link_fault_number Size = 5
+
+abbrev pub link_fault_text : Fault → List ℕ
+link_fault_text (Undefined name) = codes "undefined"
+link_fault_text (Twice name) = codes "twice"
+link_fault_text (Far place) = codes "far"
+link_fault_text Entry = codes "entry"
+link_fault_text Size = codes "size"
+
+-- the name that a link fault is about, which for the entry is the plan's, the place of a fixup, or a dash
+abbrev pub link_detail : LinkPlan → Fault → List ℕ
+link_detail plan (Undefined name) = name
+link_detail plan (Twice name) = name
+link_detail plan (Far place) = decimal place
+link_detail plan Entry = plan.entry
+link_detail plan Size = codes "-"
 
 -- ---- option ROMs, and the images that are taken out of them
 

@@ -1,11 +1,17 @@
--- Meaning: the images, notes, sources and option ROMs that files hold, or the reply to the first fault: docs/COMMANDS.md,
--- "The answer".
+-- Meaning: the images, notes, sources, link plans, objects and option ROMs that files hold, or the reply to the first fault:
+-- docs/COMMANDS.md, "The answer".
 use Rattle.std.specs.Prelude.{◌≡◌, ℕ, ◌-◌, List, length, Result, Ok, Err, slice_get}
 use Rattle.std.specs.Option.{option_map_or}
 use Rattle.std.specs.Fmt.{decimal}
+use Rattle.asm_text.specs.Faults.{asm_fault_number}
 use Rattle.asm_text.specs.declared.fault.AsmFault.{AsmFault}
 use Rattle.ebc_asm.specs.Sources.{object_of}
 use Rattle.ebc_base.specs.Steps.{or_else}
+use Rattle.ebc_link.specs.Links.{Fault, links}
+use Rattle.ebc_link.specs.PlanTexts.{plan_of}
+use Rattle.ebc_link.specs.declared.plan.LinkPlan.{LinkPlan}
+use Rattle.ebc_object.specs.Readings.{object_of_file}
+use Rattle.ebc_object.specs.declared.fault.ObjectFault.{ObjectFault}
 use Rattle.ebc_object.specs.declared.object.Object.{Object}
 use Rattle.ebc_outside.specs.Files.{Files}
 use Rattle.note_types.specs.declared.fault.TomlFault.{TomlFault}
@@ -25,8 +31,8 @@ use Rattle.ebc_cli.specs.declared.outcome.Outcome.TheVariants.{BadInput}
 use Rattle.ebc_cli.specs.declared.reply.End.{End}
 use Rattle.ebc_cli.specs.declared.reply.End.TheVariants as ends
 use Rattle.ebc_cli.specs.declared.reply.Reply.{Reply}
-use Rattle.ebc_cli.specs.Faults.{asm_fault_number, asm_fault_text, image_fault_number, image_fault_text, toml_fault_number, toml_fault_text}
-use Rattle.ebc_cli.specs.Faults.{key_path}
+use Rattle.ebc_cli.specs.Faults.{asm_fault_text, image_fault_number, image_fault_text, toml_fault_number, toml_fault_text}
+use Rattle.ebc_cli.specs.Faults.{key_path, link_detail, link_fault_number, link_fault_text, object_fault_number, object_fault_text}
 use Rattle.ebc_cli.specs.Faults.{rom_fault_number, rom_fault_text, take_fault_number, take_fault_text}
 use Rattle.ebc_cli.specs.Numbers.{rom_number}
 use Rattle.ebc_cli.specs.Outputs.{prints}
@@ -46,6 +52,14 @@ notes_limit = 1048576
 -- how many bytes a source may have: 1 MiB
 abbrev pub source_limit : ℕ
 source_limit = 1048576
+
+-- how many bytes a link plan may have: 1 MiB
+abbrev pub plan_limit : ℕ
+plan_limit = 1048576
+
+-- how many bytes the file of an object may have: 1 MiB
+abbrev pub object_limit : ℕ
+object_limit = 1048576
 
 -- how many bytes an option ROM may have: 16 MiB
 abbrev pub rom_limit : ℕ
@@ -68,6 +82,18 @@ bad_notes_reply word name fault = bad_reply word name (toml_fault_number fault) 
 -- a source that stands for no object; the fault is told by the number of its line
 abbrev pub bad_source_reply : ℕ → List ℕ → AsmFault × ℕ → Reply
 bad_source_reply word name (kind, line) = bad_reply word name (asm_fault_number kind) (asm_fault_text kind) (decimal line)
+
+-- a text that stands for no link plan; the fault is told by the path of its key
+abbrev pub bad_plan_reply : ℕ → List ℕ → TomlFault → Reply
+bad_plan_reply word name fault = bad_reply word name (toml_fault_number fault) (toml_fault_text fault) (key_path fault)
+
+-- a file that is no object; the fault is told by its offset
+abbrev pub bad_object_reply : ℕ → List ℕ → ObjectFault × ℕ → Reply
+bad_object_reply word name (kind, offset) = bad_reply word name (object_fault_number kind) (object_fault_text kind) (decimal offset)
+
+-- a link plan by which objects aren't linked; the fault is told by what it is about
+abbrev pub bad_link_reply : ℕ → List ℕ → LinkPlan → Fault → Reply
+bad_link_reply word name plan fault = bad_reply word name (link_fault_number fault) (link_fault_text fault) (link_detail plan fault)
 
 -- a file that is no option ROM; the fault is told by its offset
 abbrev pub bad_rom_reply : ℕ → List ℕ → RomFault × ℕ → Reply
@@ -103,6 +129,16 @@ notes_meaning word name text = or_reply (bad_notes_reply word name) (notes_of te
 
 abbrev pub source_meaning : ℕ → List ℕ → List ℕ → Result Object Reply
 source_meaning word name text = or_reply (bad_source_reply word name) (object_of text)
+
+abbrev pub plan_meaning : ℕ → List ℕ → List ℕ → Result LinkPlan Reply
+plan_meaning word name text = or_reply (bad_plan_reply word name) (plan_of text)
+
+abbrev pub object_meaning : ℕ → List ℕ → List ℕ → Result Object Reply
+object_meaning word name bytes = or_reply (bad_object_reply word name) (object_of_file bytes)
+
+-- the image that objects are linked to by a plan
+abbrev pub link_meaning : ℕ → List ℕ → List Object → LinkPlan → Result Image Reply
+link_meaning word name objects plan = or_reply (bad_link_reply word name plan) (links objects plan)
 
 abbrev pub rom_meaning : ℕ → List ℕ → List ℕ → Result (List RomImage) Reply
 rom_meaning word name bytes = or_reply (bad_rom_reply word name) (rom_of bytes)

@@ -7,5 +7,6 @@ pub mod Numbers
 pub mod Commands
 pub mod Readings
 pub mod Inputs
+pub mod Linkings
 pub mod Works
 pub mod Answers

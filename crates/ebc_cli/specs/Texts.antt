@@ -42,7 +42,7 @@ refused_line place rule = codes "refused " ++ (place_text place ++ (codes " " ++
 
 abbrev pub usage_line : List ℕ
 usage_line =
-    codes "usage: asm SRC OBJ | check CODE | check IMAGE NOTES | list IMAGE"
+    codes "usage: asm SRC OBJ | link PLAN IMAGE | check CODE | check IMAGE NOTES | list IMAGE"
     ++ codes " | rom wrap VENDOR DEVICE IMAGE ROM | rom list ROM | rom take ROM NUMBER IMAGE\n"
 
 -- a file that the folder doesn't hold

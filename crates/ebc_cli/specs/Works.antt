@@ -8,6 +8,8 @@ use Rattle.note_types.specs.declared.notes.Notes.{Notes}
 use Rattle.note_types.specs.declared.rule.RuleName.{RuleName}
 use Rattle.note_types.specs.Records.{IsNotes}
 use Rattle.option_rom.specs.Files.{rom_bytes}
+use Rattle.pe_image.specs.Files.{file_of}
+use Rattle.pe_image.specs.Linked.{IsLinked}
 use Rattle.pe_image.specs.declared.image.Image.{Image}
 use Rattle.ebc_disasm.specs.Listings.{listing_of}
 use Rattle.twin_run.specs.Headline.{SameAtBothWidths}
@@ -26,6 +28,7 @@ use Rattle.ebc_cli.specs.Commands.{command_of}
 use Rattle.ebc_cli.specs.Inputs.{IsReadImage, image_limit, image_meaning, input, input_with_bytes, notes_limit, notes_meaning, source_limit}
 use Rattle.ebc_cli.specs.Inputs.{source_meaning}
 use Rattle.ebc_cli.specs.Inputs.{number_meaning, rom_limit, rom_meaning, taking_meaning}
+use Rattle.ebc_cli.specs.Linkings.{linked_image}
 use Rattle.ebc_cli.specs.Outputs.{prints, writes}
 use Rattle.ebc_cli.specs.Readings.{FileReading, done, ◌>>=◌, file, told}
 use Rattle.ebc_cli.specs.RomTexts.{rom_listing}
@@ -65,6 +68,12 @@ assembly source_name object_name files = do
   object ← input source_limit source_meaning 1 source_name files
   done (works.WriteObject object_name object)
 
+-- `link PLAN IMAGE`
+unfoldable pub linking : List ℕ → List ℕ → Files → FileReading Work
+linking plan_name image_name files = do
+  image ← linked_image plan_name files
+  done (works.WriteImage image_name image)
+
 -- `rom wrap VENDOR DEVICE IMAGE ROM`: the subsystem is that of the image
 unfoldable pub rom_wrapping : ℕ → ℕ → List ℕ → List ℕ → Files → FileReading Work
 rom_wrapping vendor device image_name rom_name files = do
@@ -96,6 +105,7 @@ work_for (Some (commands.CheckCode code)) files = code_check code files
 work_for (Some (commands.CheckImage image notes)) files = image_check image notes files
 work_for (Some (commands.ListImage image)) files = image_listing image files
 work_for (Some (commands.Assemble source object)) files = assembly source object files
+work_for (Some (commands.Link plan image)) files = linking plan image files
 work_for (Some (commands.WrapRom vendor device image rom)) files = rom_wrapping vendor device image rom files
 work_for (Some (commands.ListRom rom)) files = rom_images rom files
 work_for (Some (commands.TakeRom rom number image)) files = rom_taking rom number image files
@@ -107,12 +117,14 @@ work_of words files = work_for (command_of words) files
 -- ---- what is replied
 
 -- code that was read is within its limit, what was read as an image is one, what was read as notes are notes, what a source
--- stands for is an object, and the file that goes into an option ROM is within the limit of images
+-- stands for is an object, what objects are linked to is in the linker's layout, and the file that goes into an option ROM is within
+-- the limit of images
 abbrev pub CanBeDone : Work → Type 0
 CanBeDone (works.CheckCode code) = length code ≤ plain_code_limit
 CanBeDone (works.CheckImage image notes) = IsReadImage image × IsNotes notes
 CanBeDone (works.ListImage image) = IsReadImage image
 CanBeDone (works.WriteObject name object) = IsObject object
+CanBeDone (works.WriteImage name image) = IsLinked image
 CanBeDone (works.WriteRom name vendor device subsystem image) = length image ≤ image_limit
 CanBeDone (works.ListRom images) = Unit {0}
 CanBeDone (works.WriteTaken name bytes) = Unit {0}
@@ -120,6 +132,7 @@ CanBeDone (works.WriteTaken name bytes) = Unit {0}
 -- the name under which a file is to be written, if one is
 abbrev pub output_name : Work → Option (List ℕ)
 output_name (works.WriteObject name object) = Some name
+output_name (works.WriteImage name image) = Some name
 output_name (works.WriteRom name vendor device subsystem image) = Some name
 output_name (works.WriteTaken name bytes) = Some name
 output_name work = None
@@ -150,6 +163,7 @@ IsReplyTo (works.CheckCode code) reply = reply ≡ verdict_reply (plain_verdict 
 IsReplyTo (works.CheckImage image notes) reply = TellsVerdict image notes reply
 IsReplyTo (works.ListImage image) reply = reply ≡ listing_reply (listing_of image)
 IsReplyTo (works.WriteObject name object) reply = reply ≡ file_reply name (object_bytes object)
+IsReplyTo (works.WriteImage name image) reply = reply ≡ file_reply name (file_of image)
 IsReplyTo (works.WriteRom name vendor device subsystem image) reply = reply ≡ file_reply name (rom_bytes vendor device subsystem image)
 IsReplyTo (works.ListRom images) reply = reply ≡ listing_reply (rom_listing images)
 IsReplyTo (works.WriteTaken name bytes) reply = reply ≡ file_reply name bytes

@@ -4,6 +4,8 @@ ghost use Rattle.ebc_outside.specs.Counts.{Rose};
 ghost use Rattle.std.specs.Fmt.{decimal};
 ghost use Rattle.std.specs.FinMap.{insert};
 ghost use Rattle.asm_text.specs.declared.fault.AsmFault.{AsmFault};
+ghost use Rattle.ebc_link.specs.Links.{Fault};
+ghost use Rattle.ebc_link.specs.declared.plan.LinkPlan.{LinkPlan};
 ghost use Rattle.ebc_object.specs.Files.{object_bytes};
 ghost use Rattle.ebc_object.specs.declared.object.Object.{Object};
 ghost use Rattle.note_types.specs.declared.notes.Notes.{Notes};
@@ -12,6 +14,7 @@ ghost use Rattle.option_rom.specs.declared.fault.RomFault.{RomFault};
 ghost use Rattle.option_rom.specs.declared.fault.TakeFault.{TakeFault};
 ghost use Rattle.option_rom.specs.declared.image.RomImage.{RomImage};
 ghost use Rattle.option_rom.specs.Files.{rom_bytes};
+ghost use Rattle.pe_image.specs.Files.{file_of};
 ghost use Rattle.pe_image.specs.declared.image.Image.{Image};
 ghost use Rattle.ebc_disasm.specs.Listings.{listing_of};
 ghost use Rattle.plain_check.specs.PlainRules as plain;
@@ -19,9 +22,9 @@ ghost use Rattle.plain_check.specs.PlainRuns.{RunsAlike};
 ghost use Rattle.width_checker.specs.Typed.{Typed};
 ghost use Rattle.width_checker.specs.Verdicts.{IsRefused};
 ghost use Rattle.ebc_cli.specs.Answers.{Answers, AnswersWords, Assembles, Decides, LeavesPart, ChecksCode, ChecksImage, ListsImage, HasBadInput, HasBadLine, HasMissingFile, HasNoText, SameForScripts};
-ghost use Rattle.ebc_cli.specs.Answers.{Wraps, ListsRom, Takes, HasBadRom, HasBadTaking, IsTooLarge};
+ghost use Rattle.ebc_cli.specs.Answers.{Links, Wraps, ListsRom, Takes, HasBadLink, HasBadRom, HasBadTaking, IsTooLarge};
 ghost use Rattle.ebc_cli.specs.Commands.{command_of, output_of, word_bytes};
-ghost use Rattle.ebc_cli.specs.Faults.{asm_fault_text, rom_fault_text, take_fault_text};
+ghost use Rattle.ebc_cli.specs.Faults.{asm_fault_text, link_detail, link_fault_text, rom_fault_text, take_fault_text};
 ghost use Rattle.ebc_cli.specs.Outcomes.{IsAnswer};
 ghost use Rattle.ebc_cli.specs.Outputs.{SameBut, printed};
 ghost use Rattle.ebc_cli.specs.Readings.{AsksPart, IfStop};
@@ -95,6 +98,17 @@ pub fn ebc<F: Folder, O: Sink>(
         HasBadLine (word_bytes words.now) files name kind line →
         IsAnswer result → O.written out.new ≡ printed (bad_line name (asm_fault_text kind) (decimal line)) (O.written out.old)) }
 
+    // `link PLAN IMAGE` links the objects that each plan within the limit names, where they have no fault, and IMAGE then holds exactly
+    // the file of the image that they are linked to.
+    ensures links_always { IfSome (F.contents folder.old) (λ files. (name : List ℕ) (image : Image) →
+        Links (word_bytes words.now) files name image → IsAnswer result → result ≡ Outcome.Done) }
+    ensures links_exactly { IfSome (F.contents folder.old) (λ files. (name : List ℕ) (image : Image) →
+        Links (word_bytes words.now) files name image →
+        IsAnswer result → F.contents folder.new ≡ Some (insert files name (file_of image))) }
+    ensures bad_link_line { IfSome (F.contents folder.old) (λ files. (name : List ℕ) (plan : LinkPlan) (fault : Fault) →
+        HasBadLink (word_bytes words.now) files name plan fault →
+        IsAnswer result → O.written out.new ≡ printed (bad_line name (link_fault_text fault) (link_detail plan fault)) (O.written out.old)) }
+
     // `rom wrap VENDOR DEVICE IMAGE ROM` puts each image within the limit into an option ROM, and ROM then holds exactly its file.
     ensures wraps_always { IfSome (F.contents folder.old) (λ files. (vendor device : ℕ) (bytes : List ℕ) (image : Image) (name : List ℕ) →
         Wraps (word_bytes words.now) files vendor device bytes image name → IsAnswer result → result ≡ Outcome.Done) }
@@ -125,7 +139,8 @@ pub fn ebc<F: Folder, O: Sink>(
 
     // A file is missing exactly where it is the first, in its turn, that isn't there. A number is too large exactly where it is past
     // its limit, and a file where it is the first past its own. A file is bad input exactly where it is the first that stands for no
-    // image, no notes, no object or no option ROM, or has no image to take, by its first fault.
+    // image, no notes, no object, no link plan or no option ROM, or has no image to take, by its first fault; or a plan by which objects
+    // aren't linked.
     ensures missing_exactly { IfSome (F.contents folder.old) (λ files. (word : ℕ) →
         IsAnswer result → result ≡ Outcome.Missing word ↔ HasMissingFile (word_bytes words.now) files word) }
     ensures too_large_exactly { IfSome (F.contents folder.old) (λ files. (word : ℕ) →

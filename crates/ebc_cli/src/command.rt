@@ -27,6 +27,11 @@ pub enum Command {
         source: Name,
         object: Name,
     },
+    /// `link PLAN IMAGE`: the linking of the objects that a plan names, whose image is written under a name.
+    Link {
+        plan: Name,
+        image: Name,
+    },
     /// `rom wrap VENDOR DEVICE IMAGE ROM`: an image in an option ROM, which is written under a name, for the device of a vendor.
     WrapRom {
         vendor: u16,
@@ -99,6 +104,11 @@ fn with_two_words(
         let source = Name::new(String::from_str(alloc, one.as_str())?);
         let object = Name::new(String::from_str(alloc, two.as_str())?);
         return Ok(Some(Command::Assemble { source, object }));
+    }
+    if word.as_str() == "link" {
+        let plan = Name::new(String::from_str(alloc, one.as_str())?);
+        let image = Name::new(String::from_str(alloc, two.as_str())?);
+        return Ok(Some(Command::Link { plan, image }));
     }
     if word.as_str() == "rom" && one.as_str() == "list" {
         let rom = Name::new(String::from_str(alloc, two.as_str())?);

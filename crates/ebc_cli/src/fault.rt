@@ -1,9 +1,10 @@
 //! The faults of the files that a command reads: their numbers, and their names as they are printed.
 ghost use Rattle.std.specs.Prelude.{◌≡◌};
-ghost use Rattle.ebc_cli.specs.Faults.{asm_fault_number, asm_fault_text, image_fault_number, image_fault_text, toml_fault_number, toml_fault_text, key_path};
-ghost use Rattle.ebc_cli.specs.Faults.{rom_fault_number, rom_fault_text, take_fault_number, take_fault_text};
+ghost use Rattle.ebc_cli.specs.Faults.{asm_fault_text, image_fault_number, image_fault_text, toml_fault_number, toml_fault_text, key_path};
+ghost use Rattle.ebc_cli.specs.Faults.{object_fault_number, object_fault_text, rom_fault_number, rom_fault_text, take_fault_number, take_fault_text};
 
 use ebc_asm::AsmFault;
+use ebc_object::ObjectFault;
 use note_types::TomlFault;
 use option_rom::{RomFault, TakeFault};
 use pe_image::ImageFault;
@@ -86,22 +87,6 @@ pub fn key_path(fault: &TomlFault) -> &str
     }
 }
 
-/// The number of a fault of a source, from 1 to 8.
-pub fn asm_fault_number(fault: AsmFault) -> u8
-    ensures { result ≡ asm_fault_number fault }
-{
-    match fault {
-        AsmFault::Word => 1,
-        AsmFault::Operand => 2,
-        AsmFault::Number => 3,
-        AsmFault::Index => 4,
-        AsmFault::Label => 5,
-        AsmFault::Twice => 6,
-        AsmFault::Far => 7,
-        AsmFault::Section => 8,
-    }
-}
-
 /// The name of a fault of a source.
 pub fn asm_fault_text(fault: AsmFault) -> &'static str
     ensures { result.now ≡ asm_fault_text fault }
@@ -115,6 +100,32 @@ pub fn asm_fault_text(fault: AsmFault) -> &'static str
         AsmFault::Twice => "twice",
         AsmFault::Far => "far",
         AsmFault::Section => "section",
+    }
+}
+
+/// The number of a fault of an object, from 1 to 5.
+pub fn object_fault_number(fault: ObjectFault) -> u8
+    ensures { result ≡ object_fault_number fault }
+{
+    match fault {
+        ObjectFault::Short => 1,
+        ObjectFault::Mark => 2,
+        ObjectFault::Count => 3,
+        ObjectFault::Range => 4,
+        ObjectFault::Order => 5,
+    }
+}
+
+/// The name of a fault of an object.
+pub fn object_fault_text(fault: ObjectFault) -> &'static str
+    ensures { result.now ≡ object_fault_text fault }
+{
+    match fault {
+        ObjectFault::Short => "short",
+        ObjectFault::Mark => "mark",
+        ObjectFault::Count => "count",
+        ObjectFault::Range => "range",
+        ObjectFault::Order => "order",
     }
 }
 

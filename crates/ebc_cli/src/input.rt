@@ -1,10 +1,11 @@
-//! Reading the images, notes, sources and option ROMs that files hold.
+//! Reading the images, notes, sources, link plans and option ROMs that files hold.
 ghost use Rattle.std.specs.Prelude.{◌≡◌, ◌≤◌, ℕ, List, None, Result, All, IfSome, IfOk, IsErrOf, Ok, length};
+ghost use Rattle.ebc_link.specs.Plans.{IsPlan};
 ghost use Rattle.ebc_object.specs.Objects.{IsObject};
 ghost use Rattle.ebc_outside.specs.Counts.{Rose};
 ghost use Rattle.note_types.specs.Records.{IsNotes};
 ghost use Rattle.option_rom.specs.Takes.{IsTakeable};
-ghost use Rattle.ebc_cli.specs.Inputs.{IsReadImage, Means, image_limit, image_meaning, input, input_with_bytes, notes_limit, notes_meaning, rom_limit, rom_meaning, source_limit, source_meaning};
+ghost use Rattle.ebc_cli.specs.Inputs.{IsReadImage, Means, image_limit, image_meaning, input, input_with_bytes, notes_limit, notes_meaning, plan_limit, plan_meaning, rom_limit, rom_meaning, source_limit, source_meaning};
 ghost use Rattle.ebc_cli.specs.Outcomes.{IsBadInput};
 ghost use Rattle.ebc_cli.specs.Outputs.{written_name};
 ghost use Rattle.ebc_cli.specs.Readings.{Follows, IfStop, CommandAnswer};
@@ -15,6 +16,7 @@ use crate::reply::End;
 use crate::text;
 use ebc_asm::{AsmEnd, assemble};
 use ebc_base::Sequence;
+use ebc_link::{LinkPlan, read_plan};
 use ebc_object::Object;
 use ebc_outside::Folder;
 use note_types::{Notes, NotesEnd};
@@ -160,6 +162,26 @@ impl Input for Object {
                 alloc, word, name, kind, line,
             )?)),
             Err(AsmEnd::NoMemory) => Err(End::NoMemory),
+        }
+    }
+}
+
+impl Input for LinkPlan {
+    ghost meaning = { plan_meaning };
+
+    ghost IsValid = { IsPlan };
+
+    ghost LIMIT = { plan_limit };
+
+    const LIMIT: u64 = 1048576;
+
+    fn of(alloc: Global, word: u8, name: &str, bytes: &[u8]) -> Result<LinkPlan, End> {
+        match read_plan(alloc, bytes) {
+            Ok(plan) => Ok(plan),
+            Err(NotesEnd::Fault(fault)) => Err(End::Stop(text::bad_plan(
+                alloc, word, name, &fault,
+            )?)),
+            Err(NotesEnd::NoMemory) => Err(End::NoMemory),
         }
     }
 }

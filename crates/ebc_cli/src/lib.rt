@@ -11,6 +11,7 @@ mod command;
 mod fault;
 mod finishing;
 mod input;
+mod linking;
 mod number;
 mod outcome;
 mod reading;

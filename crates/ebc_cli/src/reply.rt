@@ -4,7 +4,7 @@ ghost use Rattle.ebc_cli.specs.declared.reply.End.TheVariants.{NoMemory};
 
 use crate::outcome::Outcome;
 use ebc_base::{Name, NoMemory, Sequence};
-use std::alloc::AllocError;
+use std::alloc::{AllocError, AllocFailed};
 
 /// What an answer prints or writes.
 #[derive(Drop)]
@@ -37,6 +37,14 @@ impl From<AllocError> for End {
     ghost from_gives = { λ _ e. e ≡ NoMemory };
 
     fn from(_: AllocError) -> Self {
+        End::NoMemory
+    }
+}
+
+impl<T: Drop> From<AllocFailed<T>> for End {
+    ghost from_gives = { λ _ e. e ≡ NoMemory };
+
+    fn from(_: AllocFailed<T>) -> Self {
         End::NoMemory
     }
 }

@@ -4,18 +4,20 @@ ghost use Rattle.option_rom.specs.Images.{end_of};
 ghost use Rattle.ebc_cli.specs.Texts.{place_text, rule_text};
 ghost use Rattle.ebc_cli.specs.Readings.{missing_reply, large_reply};
 ghost use Rattle.ebc_cli.specs.Inputs.{bad_reply, bad_image_reply, bad_notes_reply, bad_source_reply, bad_rom_reply, bad_taking_reply, taking_offset};
+ghost use Rattle.ebc_cli.specs.Inputs.{bad_object_reply, bad_plan_reply};
 ghost use Rattle.ebc_cli.specs.Outputs.{prints};
 ghost use Rattle.ebc_cli.specs.Works.{verdict_reply, listing_reply, file_reply, usage_reply};
 
 use crate::fault::{
-    asm_fault_number, asm_fault_text, image_fault_number, image_fault_text, key_path,
-    rom_fault_number, rom_fault_text, take_fault_number, take_fault_text, toml_fault_number,
-    toml_fault_text,
+    asm_fault_text, image_fault_number, image_fault_text, key_path, object_fault_number,
+    object_fault_text, rom_fault_number, rom_fault_text, take_fault_number, take_fault_text,
+    toml_fault_number, toml_fault_text,
 };
 use crate::outcome::Outcome;
 use crate::reply::{Output, Reply};
 use ebc_asm::AsmFault;
 use ebc_base::{Name, Sequence};
+use ebc_object::ObjectFault;
 use note_types::TomlFault;
 use option_rom::{RomFault, RomImage, TakeFault};
 use pe_image::ImageFault;
@@ -122,7 +124,7 @@ pub fn usage(alloc: Global) -> Result<Reply, AllocError>
     ensures { IfOk result (λ r. r ≡ usage_reply) }
 {
     let text =
-        b"usage: asm SRC OBJ | check CODE | check IMAGE NOTES | list IMAGE | rom wrap VENDOR DEVICE IMAGE ROM | rom list ROM | rom take ROM NUMBER IMAGE\n";
+        b"usage: asm SRC OBJ | link PLAN IMAGE | check CODE | check IMAGE NOTES | list IMAGE | rom wrap VENDOR DEVICE IMAGE ROM | rom list ROM | rom take ROM NUMBER IMAGE\n";
     Ok(printed(Outcome::BadWords, text.to_vec(alloc)?))
 }
 
@@ -142,8 +144,8 @@ pub fn large(alloc: Global, word: u8, name: &str) -> Result<Reply, AllocError>
     Ok(printed(Outcome::TooLarge { word }, text))
 }
 
-// The answer where the file of the name has a fault, by its number, its name and where in the file it stands.
-fn bad(
+/// The answer where the file of the name has a fault, by its number, its name and where in the file it stands.
+pub fn bad(
     alloc: Global,
     word: u8,
     name: &str,
@@ -216,13 +218,49 @@ pub fn bad_source(
     ensures { IfOk result (λ r. r ≡ bad_source_reply word name.now (kind, line)) }
 {
     let detail = format!(in alloc; "{line}")?;
-    let number = asm_fault_number(kind);
+    bad(
+        alloc,
+        word,
+        name,
+        kind.number(),
+        asm_fault_text(kind),
+        detail.as_str(),
+    )
+}
+
+/// The answer where the file of the name stands for no link plan.
+pub fn bad_plan(alloc: Global, word: u8, name: &str, fault: &TomlFault) -> Result<Reply, AllocError>
+    ensures { IfOk result (λ r. r ≡ bad_plan_reply word name.now fault.now) }
+{
+    let number = toml_fault_number(fault);
     bad(
         alloc,
         word,
         name,
         number,
-        asm_fault_text(kind),
+        toml_fault_text(fault),
+        key_path(fault),
+    )
+}
+
+/// The answer where the file of the name is no object, by a fault at an offset.
+pub fn bad_object(
+    alloc: Global,
+    word: u8,
+    name: &str,
+    kind: ObjectFault,
+    offset: u64,
+) -> Result<Reply, AllocError>
+    ensures { IfOk result (λ r. r ≡ bad_object_reply word name.now (kind, offset)) }
+{
+    let detail = format!(in alloc; "{offset}")?;
+    let number = object_fault_number(kind);
+    bad(
+        alloc,
+        word,
+        name,
+        number,
+        object_fault_text(kind),
         detail.as_str(),
     )
 }

@@ -14,6 +14,7 @@ ghost use Rattle.ebc_cli.specs.Works.{CanBeDone, IsReplyTo, image_check, output_
 
 use crate::command::{Command, command_of};
 use crate::input::{read_as, read_with_bytes};
+use crate::linking::read_linked;
 use crate::number::rom_number;
 use crate::reading::file;
 use crate::reply::{End, Reply};
@@ -25,7 +26,7 @@ use ebc_object::{Object, write_object};
 use ebc_outside::Folder;
 use note_types::Notes;
 use option_rom::{RomImage, RomImages, take, wrap};
-use pe_image::Image;
+use pe_image::{Image, write_image};
 use std::alloc::Global;
 use twin_run::check;
 use width_checker::check_plain;
@@ -54,6 +55,11 @@ pub enum Work {
         name: Name,
         object: Object,
     },
+    /// The writing of an image's file under a name.
+    WriteImage {
+        name: Name,
+        image: Image,
+    },
     /// The writing of an option ROM under a name, for the device of a vendor, with the file of an image of a subsystem in it.
     WriteRom {
         name: Name,
@@ -74,7 +80,7 @@ pub enum Work {
 }
 
 /// Reads the files that the words name, and says what the words ask for.
-#[tactic(auto, unfolding(crate::specs::Works::work_of, crate::specs::Works::code_check, crate::specs::Works::image_listing, crate::specs::Works::assembly, crate::specs::Works::rom_images))]
+#[tactic(auto, unfolding(crate::specs::Works::work_of, crate::specs::Works::code_check, crate::specs::Works::image_listing, crate::specs::Works::assembly, crate::specs::Works::linking, crate::specs::Works::rom_images))]
 pub fn read_work<F: Folder>(alloc: Global, words: &Vec<String>, folder: &mut F) -> Result<Work, End>
     ensures follows { IfSome (F.contents folder.old) (λ files.
         Follows (F.asked folder.old) (F.asked folder.new) result (work_of (word_bytes words.now) files)) }
@@ -111,6 +117,10 @@ pub fn read_work<F: Folder>(alloc: Global, words: &Vec<String>, folder: &mut F) 
         ) => {
             let object = read_as(alloc, folder, 1, source.as_str())?;
             Ok(Work::WriteObject { name, object })
+        }
+        Some(Command::Link { plan, image: name }) => {
+            let image = read_linked(alloc, plan.as_str(), folder)?;
+            Ok(Work::WriteImage { name, image })
         }
         Some(
             Command::WrapRom {
@@ -296,6 +306,10 @@ impl Work {
             }
             Work::WriteObject { name, object } => {
                 let file = write_object(alloc, object)?;
+                Ok(text::file(name.copy(alloc)?, file))
+            }
+            Work::WriteImage { name, image } => {
+                let file = write_image(alloc, image)?;
                 Ok(text::file(name.copy(alloc)?, file))
             }
             Work::WriteRom {

@@ -1,11 +1,13 @@
 -- Which bytes stand where in the sections of an image that objects are linked to.
-use Rattle.std.proofs.Common.{◌≡◌, ℕ, zero, suc, ◌+◌, ◌-◌, ◌*◌, ◌/◌, ◌<◌, ◌≤◌, ◌⊎◌, inl, inr, ⊎_elim, Bool, true, false, cond, ◌&&◌, List, [], ◌∷◌, ◌++◌}
-use Rattle.std.proofs.Common.{length, get_or, Option, Some, None, refl, sym, ap, subst, ◌∙◌, arith, append-nil, length-append}
+use Rattle.std.proofs.Common.{◌≡◌, ℕ, suc, ◌+◌, ◌-◌, ◌<◌, ◌≤◌, ◌⊎◌, inl, ⊎_elim, Bool, true, false, cond, ◌&&◌, List}
+use Rattle.std.proofs.Common.{[], ◌∷◌, ◌++◌}
+use Rattle.std.proofs.Common.{length, drop, get_or, Some, refl, sym, ap, subst, ◌∙◌, arith, append_assoc, append-nil}
+use Rattle.std.proofs.Common.{length-append}
 use Rattle.std.specs.Prelude.{All, AllPairs, codes, nat_le, nat_lt, slice_index}
 use Rattle.std.specs.List.{Contains, find}
 use Rattle.std.specs.Option.{option_map_or}
 use Rattle.std.proofs.lemmas.Bool.Decides.{nat_tests}
-use Rattle.std.proofs.lemmas.List.{get_or-append_right, get_or-replicate, get_or_append_left, length-replicate}
+use Rattle.std.proofs.lemmas.List.{drop_all, get_or-append_right, get_or-replicate, get_or_append_left, length-replicate}
 use Rattle.std.proofs.lemmas.List.Elements.{All-head, All-tail}
 use Rattle.ebc_width.specs.Bytes.{overlaid}
 use Rattle.ebc_width.proofs.ByteLaws.{overlaid-agree}
@@ -16,6 +18,7 @@ use Rattle.pe_image.specs.Mapped.{has_place, laid, section_byte}
 use Rattle.pe_image.specs.declared.image.Section.{Section}
 use Rattle.ebc_link.specs.Layout.{Laid, section_from, start_of}
 use Rattle.ebc_link.specs.Fixups.{put_at, with_fixups}
+use Rattle.ebc_link.specs.Walks.{ArePacked}
 use Rattle.ebc_link.proofs.FillLaws.{put_before, put_behind, put_inside, put_length}
 use Rattle.ebc_link.proofs.FoundLaws.{first_of_all, further}
 use Rattle.ebc_link.proofs.ImageLaws.{contents_place}
@@ -33,7 +36,7 @@ laid_if name flags place [] rest x = by_lower (nat_le place x) (nat_lt x (place 
     none x place = grind (arith, nat_tests)
 
     by_lower : (a b : Bool) → (a && b) ≡ false → laid rest x ≡ cond (a && b) (slice_index [] (x - place)) (laid rest x)
-    by_lower a b no = ap (λ t. cond t (slice_index [] (x - place)) (laid rest x)) (sym no)
+    by_lower a b out = ap (λ t. cond t (slice_index [] (x - place)) (laid rest x)) (sym out)
 laid_if name flags place (b ∷ bs) rest x = by_place (nat_le place x && nat_lt x (place + length (b ∷ bs)))
   where
     it : Section
@@ -65,11 +68,6 @@ laid_linked text contents x =
 
 -- ---- the bytes of objects, one object's behind another's
 
--- The objects' bytes begin behind an end, each behind those before.
-abbrev pub ArePacked : ℕ → (Laid → List ℕ) → ℕ → List Laid → Type 0
-ArePacked section bytes end [] = Unit {0}
-ArePacked section bytes end (l ∷ ls) = (end ≤ start_of l.home section) × ArePacked section bytes (start_of l.home section + length (bytes l)) ls
-
 pub packed_behind : (section : ℕ) (bytes : Laid → List ℕ) (end : ℕ) (ls : List Laid) (l : Laid) → ArePacked section bytes end ls
     → Contains ls l → end ≤ start_of l.home section
 packed_behind section bytes end [] l packed there = nowhere _ l there
@@ -77,27 +75,27 @@ packed_behind section bytes end (m ∷ ls) l packed there =
     head_or_later (end ≤ start_of l.home section) m ls l there
     (λ same. subst (λ z. end ≤ start_of z.home section) same packed.0)
     (λ later.
-        let behind = packed_behind section bytes (start_of m.home section + length (bytes m)) ls l packed.1 later in
-        omega (arith, packed.0, behind))
+    let behind = packed_behind section bytes (start_of m.home section + length (bytes m)) ls l packed.1 later in
+    omega (arith, packed.0, behind))
 
 -- what stands past a gap and some bytes
 past_gap : (gap : ℕ) (xs ys : List ℕ) (k : ℕ) → get_or (zeros gap ++ (xs ++ ys)) (gap + length xs + k) 0 ≡ get_or ys k 0
 past_gap gap xs ys k =
     let one : gap + length xs + k - gap ≡ length xs + k = omega arith in
     let two : length xs + k - length xs ≡ k = omega arith in
-    get_or-append_right (zeros gap) (xs ++ ys) gap (gap + length xs + k) 0 (length-replicate gap 0) (omega arith)
+    get_or-append_right (zeros gap) (xs ++ ys) gap (gap + length xs + k) 0 (length-replicate {A = ℕ} gap 0) (omega arith)
     ∙ (ap (λ n. get_or (xs ++ ys) n 0) one
     ∙ (get_or-append_right xs ys (length xs) (length xs + k) 0 refl (omega arith) ∙ ap (λ n. get_or ys n 0) two))
 
 after_gap : (gap : ℕ) (xs ys : List ℕ) (k : ℕ) → k < length xs → get_or (zeros gap ++ (xs ++ ys)) (gap + k) 0 ≡ get_or xs k 0
 after_gap gap xs ys k within =
     let one : gap + k - gap ≡ k = omega arith in
-    get_or-append_right (zeros gap) (xs ++ ys) gap (gap + k) 0 (length-replicate gap 0) (omega arith)
+    get_or-append_right (zeros gap) (xs ++ ys) gap (gap + k) 0 (length-replicate {A = ℕ} gap 0) (omega arith)
     ∙ (ap (λ n. get_or (xs ++ ys) n 0) one ∙ get_or_append_left xs ys 0 k within)
 
 in_gap : (gap : ℕ) (xs : List ℕ) (k : ℕ) → k < gap → get_or (zeros gap ++ xs) k 0 ≡ 0
 in_gap gap xs k within =
-    get_or_append_left (zeros gap) xs 0 k (omega (arith, within, length-replicate gap 0)) ∙ get_or-replicate gap k 0 0 within
+    get_or_append_left (zeros gap) xs 0 k (omega (arith, within, length-replicate {A = ℕ} gap 0)) ∙ get_or-replicate gap k 0 0 within
 
 pub at_object : (section : ℕ) (bytes : Laid → List ℕ) (end : ℕ) (ls : List Laid) (l : Laid) (i : ℕ) → ArePacked section bytes end ls
     → Contains ls l → i < length (bytes l)
@@ -110,17 +108,17 @@ at_object section bytes end (m ∷ ls) l i packed there within =
     let all : List ℕ = zeros (start - end) ++ (bytes m ++ behind) in
     head_or_later (get_or all (start_of l.home section + i - end) 0 ≡ get_or (bytes l) i 0) m ls l there
     (λ same.
-        subst (λ (z : Laid). get_or all (start_of z.home section + i - end) 0 ≡ get_or (bytes z) i 0) same
-        (let at : start + i - end ≡ start - end + i = omega (arith, packed.0) in
-        let fits : i < length (bytes m) = subst (λ (z : Laid). i < length (bytes z)) (sym same) within in
-        ap (λ n. get_or all n 0) at ∙ after_gap (start - end) (bytes m) behind i fits))
+    subst (λ (z : Laid). get_or all (start_of z.home section + i - end) 0 ≡ get_or (bytes z) i 0) same
+    (let at : start + i - end ≡ start - end + i = omega (arith, packed.0) in
+    let fits : i < length (bytes m) = subst (λ (z : Laid). i < length (bytes z)) (sym same) within in
+    ap (λ n. get_or all n 0) at ∙ after_gap (start - end) (bytes m) behind i fits))
     (λ later.
-        let far = packed_behind section bytes (start + length (bytes m)) ls l packed.1 later in
-        let at : start_of l.home section + i - end ≡ start - end + length (bytes m) + (start_of l.home section + i - (start + length (bytes m))) =
-        omega (arith, packed.0, far) in
-        ap (λ n. get_or all n 0) at
-        ∙ (past_gap (start - end) (bytes m) behind (start_of l.home section + i - (start + length (bytes m)))
-        ∙ at_object section bytes (start + length (bytes m)) ls l i packed.1 later within))
+    let far = packed_behind section bytes (start + length (bytes m)) ls l packed.1 later in
+    let k : ℕ = start_of l.home section + i - (start + length (bytes m)) in
+    let at : start_of l.home section + i - end ≡ start - end + length (bytes m) + k = omega (arith, packed.0, far) in
+    ap (λ n. get_or all n 0) at
+    ∙ (past_gap (start - end) (bytes m) behind k
+    ∙ at_object section bytes (start + length (bytes m)) ls l i packed.1 later within))
 
 -- A place isn't among the bytes of an object.
 abbrev pub IsApart : ℕ → (Laid → List ℕ) → ℕ → Laid → Type 0
@@ -136,10 +134,10 @@ between_objects section bytes end (m ∷ ls) x packed low apart =
     ⊎_elim
     (λ before. in_gap (start - end) (bytes m ++ behind) (x - end) (omega (arith, before, packed.0, low)))
     (λ past.
-        let at : x - end ≡ start - end + length (bytes m) + (x - (start + length (bytes m))) = omega (arith, past, packed.0) in
-        ap (λ n. get_or (zeros (start - end) ++ (bytes m ++ behind)) n 0) at
-        ∙ (past_gap (start - end) (bytes m) behind (x - (start + length (bytes m)))
-        ∙ between_objects section bytes (start + length (bytes m)) ls x packed.1 past (λ l there. apart l (further m ls l there))))
+    let at : x - end ≡ start - end + length (bytes m) + (x - (start + length (bytes m))) = omega (arith, past, packed.0) in
+    ap (λ n. get_or (zeros (start - end) ++ (bytes m ++ behind)) n 0) at
+    ∙ (past_gap (start - end) (bytes m) behind (x - (start + length (bytes m)))
+    ∙ between_objects section bytes (start + length (bytes m)) ls x packed.1 past (λ l there. apart l (further m ls l there))))
     (apart m (first_of_all ls m))
 
 -- ---- the bytes of an object, with its fixups
@@ -180,10 +178,50 @@ filled_at over bytes (g ∷ fs) f j lie apart there within =
     let put : List ℕ = put_at bytes g.offset (over g) in
     head_or_later (get_or (with_fixups over put fs) (f.offset + j) 0 ≡ get_or (over f) j 0) g fs f there
     (λ same.
-        subst (λ (h : Fixup). get_or (with_fixups over put fs) (h.offset + j) 0 ≡ get_or (over h) j 0) same
-        (let low : j < length (over g) = subst (λ (h : Fixup). j < length (over h)) (sym same) within in
-        unfilled over put fs (g.offset + j) (lie_on over bytes g fs lie)
-        (λ i d inside. inl (omega (arith, low, apart 0 (suc i) d (omega arith) (omega (arith, inside)))))
-        ∙ put_inside bytes g.offset (over g) j here low))
+    subst (λ (h : Fixup). get_or (with_fixups over put fs) (h.offset + j) 0 ≡ get_or (over h) j 0) same
+    (let low : j < length (over g) = subst (λ (h : Fixup). j < length (over h)) (sym same) within in
+    unfilled over put fs (g.offset + j) (lie_on over bytes g fs lie)
+    (λ i d inside. inl (omega (arith, low, apart 0 (suc i) d (omega arith) (omega (arith, inside)))))
+    ∙ put_inside bytes g.offset (over g) j here low))
     (λ later. filled_at over put fs f j (lie_on over bytes g fs lie)
-        (λ i k d before inside. apart (suc i) (suc k) d (omega (arith, before)) (omega (arith, inside))) later within)
+    (λ i k d before inside. apart (suc i) (suc k) d (omega (arith, before)) (omega (arith, inside))) later within)
+
+-- ---- the bytes of objects, one object more
+
+-- what a list has one step on, if it is packed
+pub packed_more : (section : ℕ) (bytes : Laid → List ℕ) (end next : ℕ) (ls rest : List Laid) (l : Laid) → ls ≡ l ∷ rest
+    → ArePacked section bytes end ls → next ≡ start_of l.home section + length (bytes l)
+    → (end ≤ start_of l.home section) × ArePacked section bytes next rest
+packed_more section bytes end next ls rest l is packed at =
+    let both = subst (ArePacked section bytes end) is packed in
+    (both.0, subst (λ n. ArePacked section bytes n rest) (sym at) both.1)
+
+pub section_more :
+    (section : ℕ) (bytes : Laid → List ℕ) (start : ℕ) (ls rest : List Laid) (l : Laid) (old padded new whole : List ℕ) → ls ≡ l ∷ rest
+    → ArePacked section bytes (start + length old) ls → padded ≡ old ++ zeros (start_of l.home section - (start + length old))
+    → new ≡ padded ++ bytes l → old ++ section_from section bytes (start + length old) ls ≡ whole
+    → (new ++ section_from section bytes (start + length new) rest ≡ whole) × ArePacked section bytes (start + length new) rest
+unfolding section_from
+section_more section bytes start ls rest l old padded new whole is packed pad put before =
+    let end : ℕ = start + length old in
+    let gap : List ℕ = zeros (start_of l.home section - end) in
+    let next : ℕ = start_of l.home section + length (bytes l) in
+    let low : end ≤ start_of l.home section = (subst (ArePacked section bytes end) is packed).0 in
+    let one : length padded ≡ length old + length gap = ap length pad ∙ length-append old gap in
+    let two : length new ≡ length padded + length (bytes l) = ap length put ∙ length-append padded (bytes l) in
+    let three : length gap ≡ start_of l.home section - end = length-replicate {A = ℕ} (start_of l.home section - end) 0 in
+    let at : start + length new ≡ next = omega (arith, one, two, three, low) in
+    let behind : List ℕ = section_from section bytes next rest in
+    let joins : new ++ section_from section bytes (start + length new) rest ≡ old ++ (gap ++ (bytes l ++ behind)) =
+    ap (λ n. new ++ section_from section bytes n rest) at
+    ∙ (ap (λ xs. xs ++ behind) (put ∙ ap (λ xs. xs ++ bytes l) pad)
+    ∙ (append_assoc (old ++ gap) (bytes l) behind ∙ append_assoc old gap (bytes l ++ behind))) in (
+      joins ∙ (ap (λ ms. old ++ section_from section bytes end ms) (sym is) ∙ before),
+      (packed_more section bytes end (start + length new) ls rest l is packed at).1,
+    )
+
+pub section_all : (section : ℕ) (bytes : Laid → List ℕ) (end i : ℕ) (ls : List Laid) (old whole : List ℕ) → length ls ≤ i
+    → old ++ section_from section bytes end (drop i ls) ≡ whole → old ≡ whole
+unfolding section_from
+section_all section bytes end i ls old whole past before =
+    sym (append-nil old) ∙ (ap (λ ms. old ++ section_from section bytes end ms) (sym (drop_all i ls past)) ∙ before)

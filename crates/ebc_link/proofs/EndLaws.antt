@@ -1,5 +1,5 @@
 -- What an end of a part says of the whole.
-use Rattle.std.proofs.Common.{◌≡◌, List, ℕ, ◌++◌, Option, Some, None, Result, Ok, Err, refl, sym, ap, subst, ◌∙◌}
+use Rattle.std.proofs.Common.{◌≡◌, List, ◌++◌, Option, Some, None, Result, Ok, Err, refl, sym, ap, subst, ◌∙◌}
 use Rattle.std.proofs.lemmas.List.{map-append}
 use Rattle.ebc_link.specs.declared.end.LinkEnd.{LinkEnd}
 use Rattle.ebc_link.specs.declared.end.LinkEnd.TheVariants as ends
@@ -17,19 +17,19 @@ fails_never (ends.Far place) x h reading = absurd cc
 fails_never ends.Entry x h reading = absurd cc
 fails_never ends.Size x h reading = absurd cc
 
-fails_so : {X Y : Type 0} → (e : LinkEnd) (f : Fault) → Fails {X = X} e (Err f) → Fails {X = Y} e (Err f)
-fails_so ends.NoMemory f h = tt
-fails_so (ends.Undefined name) f h = cc
-fails_so (ends.Twice name) f h = cc
-fails_so (ends.Far place) f h = cc
-fails_so ends.Entry f h = cc
-fails_so ends.Size f h = cc
+fails_so : (X Y : Type 0) (e : LinkEnd) (f : Fault) → Fails {X = X} e (Err f) → Fails {X = Y} e (Err f)
+fails_so X Y ends.NoMemory f h = tt
+fails_so X Y (ends.Undefined name) f h = cc
+fails_so X Y (ends.Twice name) f h = cc
+fails_so X Y (ends.Far place) f h = cc
+fails_so X Y ends.Entry f h = cc
+fails_so X Y ends.Size f h = cc
 
 -- what fails fails whatever was to follow
 pub fails_first : {A Y : Type 0} → (fault : A → Fault) (e : LinkEnd) (o : Option A) (next : Unit {0} → Result Y Fault)
     → Fails e (unless_some fault o) → Fails e (unless_some fault o >>= next)
 fails_first fault e None next h = fails_never e tt h (next tt)
-fails_first fault e (Some x) next h = fails_so e (fault x) h
+fails_first {A} {Y} fault e (Some x) next h = fails_so (Unit {0}) Y e (fault x) h
 
 -- what goes on has nothing of a kind
 pub none_where_ok : {A : Type 0} → (fault : A → Fault) (o : Option A) → unless_some fault o ≡ Ok tt → o ≡ None
@@ -62,7 +62,7 @@ twice-fails e old now before one rest all is parts none h =
     let names : names_of now ≡ names_of old ++ names_of before = ap names_of is ∙ names-append old before in
     fails_as Twice e (first_again (names_of now) (names_of one)) (first_again (names_of old) (names_of all))
     (λ name some.
-        ap (first_again (names_of old)) parts
-        ∙ (again_behind (names_of old) (names_of before) (names_of one ++ names_of rest) none
-        ∙ again_among (names_of old ++ names_of before) (names_of one) (names_of rest) name
-        (ap (λ ns. first_again ns (names_of one)) (sym names) ∙ some))) h
+    ap (first_again (names_of old)) parts
+    ∙ (again_behind (names_of old) (names_of before) (names_of one ++ names_of rest) none
+    ∙ again_among (names_of old ++ names_of before) (names_of one) (names_of rest) name
+    (ap (λ ns. first_again ns (names_of one)) (sym names) ∙ some))) h

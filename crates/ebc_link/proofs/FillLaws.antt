@@ -1,12 +1,12 @@
 -- Bytes with others over them: how many there are, and which stand where.
-use Rattle.std.proofs.Common.{◌≡◌, ℕ, ◌+◌, ◌-◌, ◌<◌, ◌≤◌, Bool, true, List, [], ◌∷◌, ◌++◌, length, get_or, take, drop, refl, sym, ap, subst, ◌∙◌}
+use Rattle.std.proofs.Common.{◌≡◌, ℕ, ◌+◌, ◌-◌, ◌<◌, ◌≤◌, cond, List, [], ◌∷◌, ◌++◌, length, get_or, take, drop, refl, sym, ap}
+use Rattle.std.proofs.Common.{subst, ◌∙◌}
 use Rattle.std.proofs.Common.{arith, length-append, length-drop, length-take-le}
 use Rattle.std.specs.Prelude.{All, nat_eq}
 use Rattle.std.specs.Int.{w64, to_le_bytes}
-use Rattle.std.specs.List.{filter}
-use Rattle.std.proofs.lemmas.Bool.{eqb-true}
+use Rattle.std.proofs.lemmas.Bool.{eq-eqb, eqb-true, ne_eqb}
 use Rattle.std.proofs.lemmas.Bool.Decides.{nat_tests}
-use Rattle.std.proofs.lemmas.List.{get_or-append_right, get_or-drop, get_or-take, get_or_append_left}
+use Rattle.std.proofs.lemmas.List.{drop_all, drop_more, get_or-append_right, get_or-drop, get_or-take, get_or_append_left}
 use Rattle.std.proofs.lemmas.List.Elements.{All-filter, All-head, All-tail, filter_passes}
 use Rattle.ebc_width.specs.Width.{wrap64}
 use Rattle.ebc_object.specs.Objects.{IsFixup, IsObject, section_bytes, width}
@@ -34,7 +34,8 @@ pub put_before : (bytes : List ℕ) (at : ℕ) (over : List ℕ) (i : ℕ) → a
 unfolding put_at
 put_before bytes at over i within low =
     let front : length (take at bytes) ≡ at = length-take-le at bytes (omega (arith, within)) in
-    get_or_append_left (take at bytes) (over ++ drop (at + length over) bytes) 0 i (omega (arith, front, low)) ∙ get_or-take at bytes i 0 low
+    get_or_append_left (take at bytes) (over ++ drop (at + length over) bytes) 0 i (omega (arith, front, low))
+    ∙ get_or-take at bytes i 0 low
 
 pub put_inside : (bytes : List ℕ) (at : ℕ) (over : List ℕ) (i : ℕ) → at + length over ≤ length bytes → i < length over
     → get_or (put_at bytes at over) (at + i) 0 ≡ get_or over i 0
@@ -99,6 +100,42 @@ length-filled section base ds l object =
     let bytes = section_bytes l.object.code l.object.contents section in
     length-with_fixups over bytes (in_section section l.object.fixups)
     (λ i d within.
-        let f : Fixup = get_or (in_section section l.object.fixups) i d in
-        subst (λ n. f.offset + n ≤ length bytes) (sym (length-bytes_for base (places_of ds l) l.home f))
-        (fixups_within l.object section object i d within))
+    let f : Fixup = get_or (in_section section l.object.fixups) i d in
+    subst (λ n. f.offset + n ≤ length bytes) (sym (length-bytes_for base (places_of ds l) l.home f))
+    (fixups_within l.object section object i d within))
+
+-- ---- fixups filled in one after the other
+
+-- the fixup of a number is filled in where it is of the section
+pub fill_more : (over : Fixup → List ℕ) (section : ℕ) (fs : List Fixup) (i : ℕ) (d : Fixup) (bytes new whole : List ℕ) → i < length fs
+    → (get_or fs i d).section ≡ section → new ≡ put_at bytes (get_or fs i d).offset (over (get_or fs i d))
+    → with_fixups over bytes (in_section section (drop i fs)) ≡ whole
+    → with_fixups over new (in_section section (drop (i + 1) fs)) ≡ whole
+unfolding with_fixups
+fill_more over section fs i d bytes new whole within is put before =
+    let f : Fixup = get_or fs i d in
+    let rest : List Fixup = in_section section (drop (i + 1) fs) in
+    let step : in_section section (drop i fs) ≡ cond (nat_eq f.section section) (f ∷ rest) rest =
+    ap (in_section section) (drop_more fs i d within) in
+    let here : in_section section (drop i fs) ≡ f ∷ rest = step ∙ ap (λ t. cond t (f ∷ rest) rest) (eq-eqb f.section section is) in
+    let same : with_fixups over bytes (in_section section (drop i fs)) ≡ with_fixups over (put_at bytes f.offset (over f)) rest =
+    ap (with_fixups over bytes) here in
+    ap (λ bs. with_fixups over bs rest) put ∙ (sym same ∙ before)
+
+-- and one of another section is passed over
+pub fill_past : (over : Fixup → List ℕ) (section : ℕ) (fs : List Fixup) (i : ℕ) (d : Fixup) (bytes new whole : List ℕ) → i < length fs
+    → ((get_or fs i d).section ≡ section → ⊥) → new ≡ bytes → with_fixups over bytes (in_section section (drop i fs)) ≡ whole
+    → with_fixups over new (in_section section (drop (i + 1) fs)) ≡ whole
+fill_past over section fs i d bytes new whole within apart same before =
+    let f : Fixup = get_or fs i d in
+    let rest : List Fixup = in_section section (drop (i + 1) fs) in
+    let step : in_section section (drop i fs) ≡ cond (nat_eq f.section section) (f ∷ rest) rest =
+    ap (in_section section) (drop_more fs i d within) in
+    let here : in_section section (drop i fs) ≡ rest = step ∙ ap (λ t. cond t (f ∷ rest) rest) (ne_eqb f.section section apart) in
+    ap (λ bs. with_fixups over bs rest) same ∙ (sym (ap (with_fixups over bytes) here) ∙ before)
+
+pub fill_all : (over : Fixup → List ℕ) (section : ℕ) (fs : List Fixup) (i : ℕ) (bytes whole : List ℕ) → length fs ≤ i
+    → with_fixups over bytes (in_section section (drop i fs)) ≡ whole → bytes ≡ whole
+unfolding with_fixups
+fill_all over section fs i bytes whole past before =
+    sym (ap (λ gs. with_fixups over bytes (in_section section gs)) (drop_all i fs past)) ∙ before

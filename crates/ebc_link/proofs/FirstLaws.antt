@@ -1,6 +1,6 @@
 -- The first thing of a list, or of objects, of which something holds, one thing more.
-use Rattle.std.proofs.Common.{◌≡◌, ℕ, ◌+◌, ◌<◌, ◌≤◌, Bool, true, false, cond, List, [], ◌∷◌, length, get_or, drop, Option, Some, None}
-use Rattle.std.proofs.Common.{refl, sym, ap, ◌∙◌}
+use Rattle.std.proofs.Common.{◌≡◌, ℕ, ◌+◌, ◌<◌, ◌≤◌, Bool, true, false, cond, List, ◌∷◌, length, get_or, drop, Option, Some, None}
+use Rattle.std.proofs.Common.{sym, ap, ◌∙◌}
 use Rattle.std.specs.List.{find}
 use Rattle.std.specs.Option.{option_or}
 use Rattle.std.proofs.lemmas.List.{drop_all}
@@ -12,16 +12,16 @@ use Rattle.ebc_link.proofs.LaidLaws.{at_hand}
 
 pub find_more : {X : Type 0} → (p : X → Bool) (xs : List X) (i : ℕ) (x : X) → i < length xs → x ≡ get_or xs i x → p x ≡ false
     → find p (drop i xs) ≡ find p xs → find p (drop (i + 1) xs) ≡ find p xs
-find_more p xs i x within is no before =
+find_more p xs i x within is fails before =
     let step : find p (drop i xs) ≡ cond (p x) (Some x) (find p (drop (i + 1) xs)) = ap (find p) (at_hand xs i x within is) in
     let passed : cond (p x) (Some x) (find p (drop (i + 1) xs)) ≡ find p (drop (i + 1) xs) =
-    ap (λ b. cond b (Some x) (find p (drop (i + 1) xs))) no in
+    ap (λ b. cond b (Some x) (find p (drop (i + 1) xs))) fails in
     sym (step ∙ passed) ∙ before
 
 pub find_here : {X : Type 0} → (p : X → Bool) (xs : List X) (i : ℕ) (x : X) → i < length xs → x ≡ get_or xs i x → p x ≡ true
     → find p (drop i xs) ≡ find p xs → find p xs ≡ Some x
-find_here p xs i x within is yes before =
-    sym before ∙ (ap (find p) (at_hand xs i x within is) ∙ ap (λ b. cond b (Some x) (find p (drop (i + 1) xs))) yes)
+find_here p xs i x within is passes before =
+    sym before ∙ (ap (find p) (at_hand xs i x within is) ∙ ap (λ b. cond b (Some x) (find p (drop (i + 1) xs))) passes)
 
 pub find_none : {X : Type 0} → (p : X → Bool) (xs : List X) (i : ℕ) → length xs ≤ i → find p (drop i xs) ≡ find p xs → find p xs ≡ None
 find_none p xs i past before = sym before ∙ ap (find p) (drop_all i xs past)

@@ -1,9 +1,10 @@
 -- What is found is there.
-use Rattle.std.proofs.Common.{◌≡◌, ℕ, zero, suc, ◌%◌, ◌<◌, Bool, true, false, cond, ◌&&◌, List, [], ◌∷◌, length, get_or, Option, Some, None, refl, sym, ap}
+use Rattle.std.proofs.Common.{◌≡◌, ℕ, zero, suc, ◌%◌, Bool, true, false, cond, ◌&&◌, List, [], ◌∷◌, length, Option, Some}
+use Rattle.std.proofs.Common.{None, refl, sym, ap}
 use Rattle.std.proofs.Common.{◌∙◌, arith, subst}
 use Rattle.std.specs.Prelude.{bytes_eq, nat_eq, nat_lt}
 use Rattle.std.specs.List.{Contains, find}
-use Rattle.std.specs.Option.{option_map, option_or}
+use Rattle.std.specs.Option.{option_or}
 use Rattle.std.proofs.lemmas.Bool.{and_parts, eqb-true, ltb-true}
 use Rattle.ebc_base.proofs.Given.{some_of_map}
 use Rattle.ebc_base.proofs.TableLaws.{same_name}
@@ -64,12 +65,25 @@ pub entry_is : (ls : List Laid) (name : List ℕ) (x : ℕ) → first_in (entry_
 entry_is ls name x e =
     let object = first_some (entry_in name) ls x e in
     let l : Laid = object.0 in
-    let named = some_of_map (λ (s : Symbol). place_in l.home 1 s.offset) (find (is_entry name (length l.object.code)) l.object.symbols) x object.2 in
+    let size : ℕ = length l.object.code in
+    let place = λ (s : Symbol). place_in l.home 1 s.offset in
+    let named = some_of_map place (find (is_entry name size) l.object.symbols) x object.2 in
     let s : Symbol = named.0 in
-    let there = find_some (is_entry name (length l.object.code)) l.object.symbols s named.1 in
-    let one = and_parts (is_definition s) (bytes_eq s.name name && (nat_eq s.kind 1 && (nat_eq (s.offset % 2) 0 && nat_lt s.offset (length l.object.code)))) there.1 in
-    let two = and_parts (bytes_eq s.name name) (nat_eq s.kind 1 && (nat_eq (s.offset % 2) 0 && nat_lt s.offset (length l.object.code))) one.1 in
-    let three = and_parts (nat_eq s.kind 1) (nat_eq (s.offset % 2) 0 && nat_lt s.offset (length l.object.code)) two.1 in
-    let four = and_parts (nat_eq (s.offset % 2) 0) (nat_lt s.offset (length l.object.code)) three.1 in
-    (l, s, object.1, there.0, one.0, same_name s.name name two.0, eqb-true s.kind 1 three.0, eqb-true (s.offset % 2) 0 four.0,
-    ltb-true s.offset (length l.object.code) four.1, sym named.2)
+    let there = find_some (is_entry name size) l.object.symbols s named.1 in
+    let within : Bool = nat_lt s.offset size in
+    let even : Bool = nat_eq (s.offset % 2) 0 in
+    let one = and_parts (is_definition s) (bytes_eq s.name name && (nat_eq s.kind 1 && (even && within))) there.1 in
+    let two = and_parts (bytes_eq s.name name) (nat_eq s.kind 1 && (even && within)) one.1 in
+    let three = and_parts (nat_eq s.kind 1) (even && within) two.1 in
+    let four = and_parts even within three.1 in (
+      l,
+      s,
+      object.1,
+      there.0,
+      one.0,
+      same_name s.name name two.0,
+      eqb-true s.kind 1 three.0,
+      eqb-true (s.offset % 2) 0 four.0,
+      ltb-true s.offset size four.1,
+      sym named.2,
+    )

@@ -1,20 +1,22 @@
 -- What symbols define for all, and the places of symbols.
-use Rattle.std.proofs.Common.{◌≡◌, ℕ, zero, suc, ◌+◌, ◌<◌, Bool, true, false, cond, not, List, [], ◌∷◌, ◌++◌, length, get_or, map, take, drop}
+use Rattle.std.proofs.Common.{◌≡◌, ℕ, suc, ◌+◌, ◌<◌, Bool, true, false, cond, not, List, [], ◌∷◌, ◌++◌, length, get_or, map, take}
+use Rattle.std.proofs.Common.{drop}
 use Rattle.std.proofs.Common.{Option, Some, None, refl, sym, ap, ap₂, ◌∙◌, arith, append-nil}
 use Rattle.std.specs.Prelude.{bytes_eq, filter, nat_eq, slice_get, ◌&&◌, ◌||◌}
-use Rattle.std.specs.List.{find, flat_map, list_any}
+use Rattle.std.specs.List.{find}
 use Rattle.std.specs.Option.{is_some, option_map, option_map_or}
 use Rattle.std.proofs.lemmas.List.{map-append, take-append-drop}
 use Rattle.std.proofs.lemmas.List.Concat.{flat_map-append}
 use Rattle.std.proofs.lemmas.List.Elements.{filter-append}
 use Rattle.ebc_base.specs.Steps.{only_if}
-use Rattle.ebc_base.specs.Tables.{is_named, name_number}
+use Rattle.ebc_base.specs.Tables.{is_named, name_number, with_name}
 use Rattle.ebc_object.specs.declared.object.Symbol.{Symbol}
 use Rattle.ebc_link.specs.declared.layout.Home.{Home}
 use Rattle.ebc_link.specs.Layout.{Laid, place_in}
 use Rattle.ebc_link.specs.Symbols.{Definition, defined_place, definition_in, definitions, definitions_in, definitions_of, is_definition}
-use Rattle.ebc_link.specs.Symbols.{is_undefined, names_of, symbol_place}
+use Rattle.ebc_link.specs.Symbols.{first_again, is_undefined, names_of, symbol_place}
 use Rattle.ebc_link.specs.Walks.{defined_with}
+use Rattle.ebc_link.proofs.AgainLaws.{again_new, again_none, again_old}
 use Rattle.ebc_link.proofs.LaidLaws.{at_hand, taken}
 
 -- ---- names with a place each
@@ -55,7 +57,7 @@ place-named name (n ∷ ns) (p ∷ ps) e = by_name (bytes_eq name n) (place-name
     by_name false later = let next : 1 + name_number name ns ≡ suc (name_number name ns) = omega arith in
         ap (slice_get (p ∷ ps)) next ∙ later
 
-found-named : (name : List ℕ) (ds : List Definition) → is_named name (names_of ds) ≡ is_some (find (is_of name) ds)
+pub found-named : (name : List ℕ) (ds : List Definition) → is_named name (names_of ds) ≡ is_some (find (is_of name) ds)
 found-named name [] = refl
 found-named name (d ∷ ds) = by_name (bytes_eq name d.name) (found-named name ds)
   where
@@ -77,7 +79,7 @@ place-used ds h s is =
     ∙ (ap (λ b. only_if b (defined_place ds s.name)) (sym (found-named s.name ds))
     ∙ (by_named (is_named s.name (names_of ds))
     ∙ ap (λ k. only_if (not (nat_eq k 0 && not (is_named s.name (names_of ds))))
-        (cond (nat_eq k 0) (defined_place ds s.name) (place_in h s.kind s.offset))) (sym is)))
+    (cond (nat_eq k 0) (defined_place ds s.name) (place_in h s.kind s.offset))) (sym is)))
   where
     by_named : (b : Bool) → only_if b (defined_place ds s.name) ≡ only_if (not (not b)) (defined_place ds s.name)
     by_named true = refl
@@ -121,7 +123,8 @@ pub definitions-split : (h : Home) (ss : List Symbol) (i : ℕ) (s : Symbol) →
     ≡ names_of (definitions_in h (take i ss)) ++ (names_of (definitions_in h (s ∷ [])) ++ names_of (definitions_in h (drop (i + 1) ss)))
 definitions-split h ss i s within is =
     let name = λ (d : Definition). d.name in
-    let parts : ss ≡ take i ss ++ (s ∷ drop (i + 1) ss) = sym (take-append-drop i ss) ∙ ap (λ ts. take i ss ++ ts) (at_hand ss i s within is) in
+    let parts : ss ≡ take i ss ++ (s ∷ drop (i + 1) ss) =
+    sym (take-append-drop i ss) ∙ ap (λ ts. take i ss ++ ts) (at_hand ss i s within is) in
     ap (λ ts. names_of (definitions_in h ts)) parts
     ∙ (ap names_of (definitions-append h (take i ss) (s ∷ drop (i + 1) ss))
     ∙ (map-append name (definitions_in h (take i ss)) (definitions_in h (s ∷ drop (i + 1) ss))
@@ -148,3 +151,32 @@ objects-split ls rest i l is =
     ∙ (ap names_of (flat_map-append definitions_of (take i ls) (l ∷ rest))
     ∙ (map-append name (definitions (take i ls)) (definitions (l ∷ rest))
     ∙ ap (λ ns. names_of (definitions (take i ls)) ++ ns) (map-append name (definitions_of l) (definitions rest))))
+
+-- ---- a symbol is taken
+
+pub add_other : (before : List Definition) (h : Home) (s : Symbol) → is_definition s ≡ false
+    → first_again (names_of before) (names_of (definitions_in h (s ∷ []))) ≡ None
+add_other before h s other =
+    ap (λ ds. first_again (names_of before) (names_of ds)) (definitions-other h s other) ∙ again_none (names_of before)
+
+pub add_old : (ns : List (List ℕ)) (ps : List ℕ) (h : Home) (s : Symbol) → is_definition s ≡ true → length ps ≡ length ns
+    → is_named s.name ns ≡ true → first_again (names_of (defined_with ns ps)) (names_of (definitions_in h (s ∷ []))) ≡ Some s.name
+add_old ns ps h s defines paired named =
+    ap (λ ds. first_again (names_of (defined_with ns ps)) (names_of ds)) (definitions-one h s defines)
+    ∙ (ap (λ ms. first_again ms (s.name ∷ [])) (names-defined ns ps paired) ∙ again_old ns s.name named)
+
+pub add_new : (ns : List (List ℕ)) (ps : List ℕ) (h : Home) (s : Symbol) → is_definition s ≡ true → length ps ≡ length ns
+    → is_named s.name ns ≡ false → first_again (names_of (defined_with ns ps)) (names_of (definitions_in h (s ∷ []))) ≡ None
+add_new ns ps h s defines paired new =
+    ap (λ ds. first_again (names_of (defined_with ns ps)) (names_of ds)) (definitions-one h s defines)
+    ∙ (ap (λ ms. first_again ms (s.name ∷ [])) (names-defined ns ps paired) ∙ again_new ns s.name new)
+
+pub add_defined :
+    (ns ms : List (List ℕ)) (ps qs : List ℕ) (h : Home) (s : Symbol) (p : ℕ) → is_definition s ≡ true → length ps ≡ length ns
+    → is_named s.name ns ≡ false → ms ≡ with_name s.name ns → qs ≡ ps ++ p ∷ [] → p ≡ place_in h s.kind s.offset
+    → defined_with ms qs ≡ defined_with ns ps ++ definitions_in h (s ∷ [])
+add_defined ns ms ps qs h s p defines paired new named put at =
+    ap₂ defined_with (named ∙ ap (λ b. cond b ns (ns ++ s.name ∷ [])) new) put
+    ∙ (defined-push ns ps s.name p paired
+    ∙ (ap (λ n. defined_with ns ps ++ defined_at s.name n ∷ []) at
+    ∙ ap (λ ds. defined_with ns ps ++ ds) (sym (definitions-one h s defines))))

@@ -1,42 +1,33 @@
 -- What stands at fixups of an image that objects are linked to, its relocations, and its code and data.
-use Rattle.std.proofs.Common.{◌≡◌, ◌↔◌, ℕ, ◌+◌, ◌-◌, ◌*◌, ◌%◌, ◌^◌, ◌<◌, ◌≤◌, ◌⊎◌, inl, inr, ⊎_elim, Bool, true, false, cond, not, ◌&&◌, List, [], ◌∷◌, ◌++◌}
-use Rattle.std.proofs.Common.{append-nil, length, get_or, map, take, Option, Some, None, Ok, refl, sym, ap, subst, ◌∙◌, arith}
-use Rattle.std.specs.Prelude.{All, codes, nat_eq, slice_get, slice_index, ℤ, pos, negsuc, ◌+ℤ◌, ◌*ℤ◌, ◌-ℤ◌, int_div, int_rem}
-use Rattle.std.specs.Int.{w64, to_le_bytes}
+use Rattle.std.proofs.Common.{◌≡◌, ℕ, ◌+◌, ◌*◌, ◌%◌, ◌^◌, ◌<◌, ◌≤◌, ◌⊎◌, inl, inr, ⊎_elim, true, false, cond, ◌&&◌}
+use Rattle.std.proofs.Common.{List, [], ◌∷◌}
+use Rattle.std.proofs.Common.{append-nil, length, refl, sym, ap, subst, ◌∙◌, arith}
+use Rattle.std.specs.Prelude.{All, nat_eq, ℤ, pos, ◌+ℤ◌, ◌*ℤ◌, ◌-ℤ◌, int_div, int_rem}
 use Rattle.std.specs.Ordering.{int_eq}
-use Rattle.std.specs.List.{Contains, filter, find, flat_map}
+use Rattle.std.specs.List.{Contains, filter, flat_map}
 use Rattle.std.proofs.lemmas.Bool.{and_parts, cases_lt, eqb-true}
 use Rattle.std.proofs.lemmas.Bool.Decides.{Decides-int_eq, nat_tests}
 use Rattle.std.proofs.lemmas.Int.{ints, quot-rem}
 use Rattle.std.proofs.lemmas.List.Elements.{All-contains, Contains-append_cases, Contains-append_left, Contains-append_right}
 use Rattle.ebc_width.specs.Bytes.{little_endian}
 use Rattle.ebc_width.specs.Width.{signed_at, wrap64}
-use Rattle.ebc_base.proofs.Lists.{within_some}
 use Rattle.ebc_object.specs.Objects.{IsFixup, IsObject, section_bytes, width}
 use Rattle.ebc_object.specs.declared.object.Fixup.{Fixup}
 use Rattle.ebc_object.specs.declared.object.Object.{Object}
-use Rattle.ebc_object.specs.declared.object.Symbol.{Symbol}
-use Rattle.pe_image.specs.Linked.{IsLinked, linked_sections, section_if, text_sections}
-use Rattle.pe_image.specs.Files.{next_place}
+use Rattle.pe_image.specs.Linked.{linked_sections}
 use Rattle.pe_image.specs.Mapped.{laid}
 use Rattle.pe_image.specs.declared.image.Image.{Image}
 use Rattle.pe_image.specs.declared.image.Section.{Section}
 use Rattle.ebc_link.specs.declared.layout.Home.{Home}
-use Rattle.ebc_link.specs.declared.plan.LinkPlan.{LinkPlan}
-use Rattle.ebc_link.specs.Plans.{IsPlan}
 use Rattle.ebc_link.specs.Layout.{Laid, code_start, contents_from, contents_start, laid_objects, place_in, start_of, text_from}
-use Rattle.ebc_link.specs.Symbols.{Definition, definitions, first_in, places_of, symbol_place, undefined_in}
-use Rattle.ebc_link.specs.Fixups.{bytes_for, code_of, contents_of, counted, distance_to, far_in, filled_section, holds_signed, is_address, is_near, is_whole, place_of, relocs_in, relocs_of, target_of, value_of}
-use Rattle.ebc_link.specs.Linked.{Holds, IsAddress, IsFilled, Linked, StandsAt}
+use Rattle.ebc_link.specs.Symbols.{Definition, places_of}
+use Rattle.ebc_link.specs.Fixups.{bytes_for, code_of, contents_of, counted, distance_to, holds_signed, is_address}
+use Rattle.ebc_link.specs.Fixups.{is_near, is_whole, place_of, relocs_in, relocs_of, target_of, value_of}
+use Rattle.ebc_link.specs.Linked.{Holds, IsAddress}
 use Rattle.ebc_link.specs.Linked.Holds.{address, bytes, words}
-use Rattle.ebc_link.specs.Links.{linked_image, links}
-use Rattle.ebc_link.proofs.FoundLaws.{entry_is, first_nowhere}
-use Rattle.ebc_link.proofs.ImageLaws.{contents_ends, linked_layout, text_ends}
-use Rattle.ebc_link.proofs.LinkLaws.{IsMade, made}
 use Rattle.ebc_link.proofs.FillLaws.{width_small}
 use Rattle.ebc_link.proofs.NumberLaws.{back_1, back_2, back_4, back_8, number_there}
-use Rattle.ebc_link.proofs.OwnLaws.{code_byte, contents_byte, fixup_byte, own_byte, zero_between}
-use Rattle.ebc_link.proofs.SymbolLaws.{find_nowhere, none_mapped, stands_at, target_is}
+use Rattle.ebc_link.proofs.OwnLaws.{code_byte, contents_byte, fixup_byte}
 use Rattle.ebc_link.proofs.ThereLaws.{joined, kept, mapped, was_joined, was_kept, was_mapped}
 
 -- ---- the sections tell the code and the data
@@ -76,19 +67,23 @@ leads a b d is = omega (arith, ints, is)
 
 -- a distance is spelled by its bytes, where they hold it
 back : (n : ℕ) (d : ℤ) → (n ≡ 2) ⊎ ((n ≡ 4) ⊎ (n ≡ 8)) → holds_signed n d ≡ true → signed_at (8 * n) (wrap64 d % 256 ^ n) ≡ d
-back n d size held = ⊎_elim
-    (λ two. subst (λ k. signed_at (8 * k) (wrap64 d % 256 ^ k) ≡ d) (sym two) (back_2 d (subst (λ k. holds_signed k d ≡ true) two held)))
+back n d size held =
+    let spells = λ (k : ℕ). signed_at (8 * k) (wrap64 d % 256 ^ k) ≡ d in
+    let holds_it = λ (k : ℕ). holds_signed k d ≡ true in
+    ⊎_elim
+    (λ two. subst spells (sym two) (back_2 d (subst holds_it two held)))
     (λ larger. ⊎_elim
-        (λ four. subst (λ k. signed_at (8 * k) (wrap64 d % 256 ^ k) ≡ d) (sym four) (back_4 d (subst (λ k. holds_signed k d ≡ true) four held)))
-        (λ eight. subst (λ k. signed_at (8 * k) (wrap64 d % 256 ^ k) ≡ d) (sym eight) (back_8 d (subst (λ k. holds_signed k d ≡ true) eight held)))
-        larger)
+    (λ four. subst spells (sym four) (back_4 d (subst holds_it four held)))
+    (λ eight. subst spells (sym eight) (back_8 d (subst holds_it eight held)))
+    larger)
     size
 
 -- ---- fixups
 
 -- what is near is a whole number of what its kind counts, and its bytes hold that
 near_is : (places : List ℕ) (h : Home) (f : Fixup) → is_near places h f ≡ true → nat_eq f.kind 5 ≡ false
-    → (is_whole f.kind (distance_to places h f) ≡ true) × (holds_signed (width f.kind) (counted f.kind (distance_to places h f)) ≡ true)
+    → (is_whole f.kind (distance_to places h f) ≡ true)
+    × (holds_signed (width f.kind) (counted f.kind (distance_to places h f)) ≡ true)
 unfolding is_near
 near_is places h f near other =
     let d : ℤ = distance_to places h f in
@@ -119,9 +114,9 @@ sizes : (k : ℕ) → 2 ≤ k → k ≤ 4 → (width k ≡ 2) ⊎ ((width k ≡ 
 sizes k low high = ⊎_elim
     (λ small. let is : k ≡ 2 = omega (arith, small, low) in inl (ap width is))
     (λ from. ⊎_elim
-        (λ mid. let is : k ≡ 3 = omega (arith, mid, from) in inr (inl (ap width is)))
-        (λ large. let is : k ≡ 4 = omega (arith, large, high) in inr (inr (ap width is)))
-        (cases_lt k 4))
+    (λ mid. let is : k ≡ 3 = omega (arith, mid, from) in inr (inl (ap width is)))
+    (λ large. let is : k ≡ 4 = omega (arith, large, high) in inr (inr (ap width is)))
+    (cases_lt k 4))
     (cases_lt k 3)
 
 -- the number that stands at a fixup leads to its symbol
@@ -135,43 +130,43 @@ holds base image l f places low high near small number =
     let target : ℕ = target_of places f in
     five (Holds base image l f target) f.kind low high
     (λ one.
-        let other : nat_eq f.kind 5 ≡ false = grind (arith, nat_tests) in
-        let parts = near_is places l.home f near other in
-        let half : counted f.kind d ≡ int_div d (pos 2) = ap (λ k. counted k d) one in
-        let byte : width f.kind ≡ 1 = ap width one in
-        let held : holds_signed 1 (int_div d (pos 2)) ≡ true =
-        ap (λ z. holds_signed 1 z) (sym half) ∙ (ap (λ n. holds_signed n (counted f.kind d)) (sym byte) ∙ parts.1) in
-        let spelled : little_endian (laid image.sections) (place_of l.home f) 1 ≡ wrap64 (int_div d (pos 2)) % 256 ^ 1 =
-        ap (λ n. little_endian (laid image.sections) (place_of l.home f) n) (sym byte)
-        ∙ (number
-        ∙ (ap (λ z. wrap64 z % 256 ^ width f.kind) (counts_distance base places l.home f other ∙ half)
-        ∙ ap (λ n. wrap64 (int_div d (pos 2)) % 256 ^ n) byte)) in
-        words one
-        (leads target from d refl
-        ∙ ap (λ z. pos from +ℤ z)
-        (near_whole f.kind d one parts.0
-        ∙ ap (λ z. z *ℤ pos 2) (sym (ap (signed_at 8) spelled ∙ back_1 (int_div d (pos 2)) held)))))
+    let other : nat_eq f.kind 5 ≡ false = grind (arith, nat_tests) in
+    let parts = near_is places l.home f near other in
+    let half : counted f.kind d ≡ int_div d (pos 2) = ap (λ k. counted k d) one in
+    let byte : width f.kind ≡ 1 = ap width one in
+    let held : holds_signed 1 (int_div d (pos 2)) ≡ true =
+    ap (λ z. holds_signed 1 z) (sym half) ∙ (ap (λ n. holds_signed n (counted f.kind d)) (sym byte) ∙ parts.1) in
+    let spelled : little_endian (laid image.sections) (place_of l.home f) 1 ≡ wrap64 (int_div d (pos 2)) % 256 ^ 1 =
+    ap (λ n. little_endian (laid image.sections) (place_of l.home f) n) (sym byte)
+    ∙ (number
+    ∙ (ap (λ z. wrap64 z % 256 ^ width f.kind) (counts_distance base places l.home f other ∙ half)
+    ∙ ap (λ n. wrap64 (int_div d (pos 2)) % 256 ^ n) byte)) in
+    words one
+    (leads target from d refl
+    ∙ ap (λ z. pos from +ℤ z)
+    (near_whole f.kind d one parts.0
+    ∙ ap (λ z. z *ℤ pos 2) (sym (ap (signed_at 8) spelled ∙ back_1 (int_div d (pos 2)) held)))))
     (λ two four.
-        let other : nat_eq f.kind 5 ≡ false = grind (arith, nat_tests) in
-        let no_words : nat_eq f.kind 1 ≡ false = grind (arith, nat_tests) in
-        let parts = near_is places l.home f near other in
-        let whole : counted f.kind d ≡ d = ap (λ t. cond t (int_div d (pos 2)) d) no_words in
-        let held : holds_signed (width f.kind) d ≡ true = ap (holds_signed (width f.kind)) (sym whole) ∙ parts.1 in
-        let spelled : little_endian (laid image.sections) (place_of l.home f) (width f.kind) ≡ wrap64 d % 256 ^ width f.kind =
-        number ∙ ap (λ z. wrap64 z % 256 ^ width f.kind) (counts_distance base places l.home f other ∙ whole) in
-        bytes two four
-        (leads target from d refl
-        ∙ ap (λ z. pos from +ℤ z)
-        (sym (ap (signed_at (8 * width f.kind)) spelled ∙ back (width f.kind) d (sizes f.kind two four) held))))
+    let other : nat_eq f.kind 5 ≡ false = grind (arith, nat_tests) in
+    let no_words : nat_eq f.kind 1 ≡ false = grind (arith, nat_tests) in
+    let parts = near_is places l.home f near other in
+    let whole : counted f.kind d ≡ d = ap (λ t. cond t (int_div d (pos 2)) d) no_words in
+    let held : holds_signed (width f.kind) d ≡ true = ap (holds_signed (width f.kind)) (sym whole) ∙ parts.1 in
+    let spelled : little_endian (laid image.sections) (place_of l.home f) (width f.kind) ≡ wrap64 d % 256 ^ width f.kind =
+    number ∙ ap (λ z. wrap64 z % 256 ^ width f.kind) (counts_distance base places l.home f other ∙ whole) in
+    bytes two four
+    (leads target from d refl
+    ∙ ap (λ z. pos from +ℤ z)
+    (sym (ap (signed_at (8 * width f.kind)) spelled ∙ back (width f.kind) d (sizes f.kind two four) held))))
     (λ last.
-        let is : nat_eq f.kind 5 ≡ true = grind (arith, nat_tests) in
-        let wide : width f.kind ≡ 8 = ap width last in
-        let whole : (base + target) % 2 ^ 64 % 256 ^ 8 ≡ base + target = omega (arith, small) in
-        address last
-        (ap (λ n. little_endian (laid image.sections) (place_of l.home f) n) (sym wide)
-        ∙ (number
-        ∙ (ap (λ z. wrap64 z % 256 ^ width f.kind) (counts_address base places l.home f is)
-        ∙ (ap (λ n. (base + target) % 2 ^ 64 % 256 ^ n) wide ∙ whole)))))
+    let is : nat_eq f.kind 5 ≡ true = grind (arith, nat_tests) in
+    let wide : width f.kind ≡ 8 = ap width last in
+    let whole : (base + target) % 2 ^ 64 % 256 ^ 8 ≡ base + target = omega (arith, small) in
+    address last
+    (ap (λ n. little_endian (laid image.sections) (place_of l.home f) n) (sym wide)
+    ∙ (number
+    ∙ (ap (λ z. wrap64 z % 256 ^ width f.kind) (counts_address base places l.home f is)
+    ∙ (ap (λ n. (base + target) % 2 ^ 64 % 256 ^ n) wide ∙ whole)))))
 
 -- the bytes that stand at a fixup
 pub spelled_there : (base : ℕ) (ds : List Definition) (objects : List Object) (all : All IsObject objects) (l : Laid) (f : Fixup)
@@ -187,21 +182,23 @@ spelled_there base ds objects all l f there object has =
     (contents_from (contents_of base ds) (contents_start objects) (laid_objects objects)) in
     number_there (laid sections) (place_of l.home f) (width f.kind) (wrap64 (value_of base (places_of ds l) l.home f)) (width_small f.kind)
     (λ j within. ⊎_elim
-        (λ one.
-            let ends : f.offset + width f.kind ≤ length l.object.code =
-            subst (λ s. f.offset + width f.kind ≤ length (section_bytes l.object.code l.object.contents s)) one fixup.within in
-            let at : place_of l.home f + j ≡ l.home.code + (f.offset + j) = ap (λ s. start_of l.home s + f.offset + j) one ∙ omega arith in
-            ap (laid sections) at
-            ∙ (code_byte base ds objects all l (f.offset + j) there (omega (arith, ends, within))
-            ∙ fixup_byte 1 base ds l f j object has one within))
-        (λ two.
-            let ends : f.offset + width f.kind ≤ length l.object.contents =
-            subst (λ s. f.offset + width f.kind ≤ length (section_bytes l.object.code l.object.contents s)) two fixup.within in
-            let at : place_of l.home f + j ≡ l.home.contents + (f.offset + j) = ap (λ s. start_of l.home s + f.offset + j) two ∙ omega arith in
-            ap (laid sections) at
-            ∙ (contents_byte base ds objects all l (f.offset + j) there (omega (arith, ends, within))
-            ∙ fixup_byte 2 base ds l f j object has two within))
-        fixup.section)
+    (λ one.
+    let ends : f.offset + width f.kind ≤ length l.object.code =
+    subst (λ s. f.offset + width f.kind ≤ length (section_bytes l.object.code l.object.contents s)) one fixup.within in
+    let at : place_of l.home f + j ≡ l.home.code + (f.offset + j) =
+    ap (λ s. start_of l.home s + f.offset + j) one ∙ omega arith in
+    ap (laid sections) at
+    ∙ (code_byte base ds objects all l (f.offset + j) there (omega (arith, ends, within))
+    ∙ fixup_byte 1 base ds l f j object has one within))
+    (λ two.
+    let ends : f.offset + width f.kind ≤ length l.object.contents =
+    subst (λ s. f.offset + width f.kind ≤ length (section_bytes l.object.code l.object.contents s)) two fixup.within in
+    let at : place_of l.home f + j ≡ l.home.contents + (f.offset + j) =
+    ap (λ s. start_of l.home s + f.offset + j) two ∙ omega arith in
+    ap (laid sections) at
+    ∙ (contents_byte base ds objects all l (f.offset + j) there (omega (arith, ends, within))
+    ∙ fixup_byte 2 base ds l f j object has two within))
+    fixup.section)
 
 -- ---- relocations
 

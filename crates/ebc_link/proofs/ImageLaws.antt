@@ -1,8 +1,11 @@
 -- The image that objects are linked to is in the linker's layout.
-use Rattle.std.proofs.Common.{◌≡◌, ℕ, ◌+◌, ◌-◌, ◌*◌, ◌/◌, ◌%◌, ◌^◌, ◌<◌, ◌≤◌, List, [], ◌∷◌, ◌++◌, length, get_or, refl, sym, ap, subst, ◌∙◌, arith}
-use Rattle.std.proofs.Common.{Ok}
+use Rattle.std.proofs.Common.{◌≡◌, ℕ, ◌+◌, ◌%◌, ◌<◌, ◌≤◌, List, [], ◌∷◌, ◌++◌, length, get_or, refl, sym, ap, subst}
+use Rattle.std.proofs.Common.{◌∙◌, arith}
+use Rattle.std.proofs.Common.{Ok, ⊎_elim}
+use Rattle.std.proofs.lemmas.Bool.{cases_lt}
+use Rattle.std.proofs.lemmas.List.{get_or_past}
 use Rattle.std.specs.Prelude.{All, codes}
-use Rattle.std.specs.List.{Any, Contains, flat_map}
+use Rattle.std.specs.List.{Any, flat_map}
 use Rattle.std.proofs.lemmas.List.Elements.{All-append, All-cons, All-contains, All-nil}
 use Rattle.ebc_object.specs.Objects.{IsObject}
 use Rattle.ebc_object.specs.declared.object.Object.{Object}
@@ -13,13 +16,13 @@ use Rattle.pe_image.specs.Mapped.{laid}
 use Rattle.pe_image.specs.declared.image.Image.{Image}
 use Rattle.pe_image.specs.declared.image.Section.{Section}
 use Rattle.pe_image.proofs.Held.{IsBytes, laid_byte}
-use Rattle.ebc_link.specs.declared.layout.Home.{Home}
 use Rattle.ebc_link.specs.declared.plan.LinkPlan.{LinkPlan}
 use Rattle.ebc_link.specs.Plans.{IsPlan}
-use Rattle.ebc_link.specs.Layout.{Laid, code_end, code_start, contents_end, contents_from, contents_start, homes_from, homes_of, laid_objects, laid_with}
+use Rattle.ebc_link.specs.Layout.{Laid, code_end, code_start, contents_end, contents_from, contents_start, homes_from, homes_of}
+use Rattle.ebc_link.specs.Layout.{laid_objects, laid_with}
 use Rattle.ebc_link.specs.Layout.{text_from}
 use Rattle.ebc_link.specs.Symbols.{Definition, definitions}
-use Rattle.ebc_link.specs.Fixups.{code_of, contents_of, filled_section, relocs_in, relocs_of}
+use Rattle.ebc_link.specs.Fixups.{code_of, contents_of, relocs_in, relocs_of}
 use Rattle.ebc_link.specs.Linked.{IsEntry}
 use Rattle.ebc_link.specs.Links.{linked_image, links}
 use Rattle.ebc_link.proofs.FillLaws.{length-filled}
@@ -27,7 +30,7 @@ use Rattle.ebc_link.proofs.FoundLaws.{entry_is}
 use Rattle.ebc_link.proofs.LaidLaws.{laid_at}
 use Rattle.ebc_link.proofs.LinkLaws.{made}
 use Rattle.ebc_link.proofs.RelocLaws.{IsRun, code_run, contents_run, relocs_apart}
-use Rattle.ebc_link.proofs.StandLaws.{Stands, code_grows, length-contents, length-text, stands}
+use Rattle.ebc_link.proofs.StandLaws.{Stands, length-contents, length-text, stands}
 
 -- ---- how long code and data are
 
@@ -35,14 +38,16 @@ pub text_ends : (base : ℕ) (ds : List Definition) (objects : List Object) → 
     → code_start + length (text_from (code_of base ds) code_start (laid_objects objects)) ≡ code_end code_start objects
 unfolding laid_objects homes_of
 text_ends base ds objects all =
-    length-text (code_of base ds) code_start (contents_start objects) objects (λ o h object. length-filled 1 base ds (laid_at o h) object) all
+    length-text (code_of base ds) code_start (contents_start objects) objects
+    (λ o h object. length-filled 1 base ds (laid_at o h) object) all
 
 pub contents_ends : (base : ℕ) (ds : List Definition) (objects : List Object) → All IsObject objects
     → contents_start objects + length (contents_from (contents_of base ds) (contents_start objects) (laid_objects objects))
     ≡ contents_end (contents_start objects) objects
 unfolding laid_objects homes_of
 contents_ends base ds objects all =
-    length-contents (contents_of base ds) code_start (contents_start objects) objects (λ o h object. length-filled 2 base ds (laid_at o h) object) all
+    length-contents (contents_of base ds) code_start (contents_start objects) objects
+    (λ o h object. length-filled 2 base ds (laid_at o h) object) all
 
 -- ---- sections
 
@@ -50,6 +55,19 @@ pub contents_place : (text : List ℕ) → next_place (text_sections text) 0x100
 unfolding next_place
 contents_place [] = refl
 contents_place (b ∷ bs) = refl
+
+-- sections that are appended one after the other
+pub sections_by :
+    (text contents : List ℕ) (none one two : List Section) (place : ℕ) → none ≡ []
+    → one ≡ none ++ section_if (codes ".text" ++ 0 ∷ 0 ∷ 0 ∷ []) 0x60000020 0x1000 text
+    → two ≡ one ++ section_if (codes ".data" ++ 0 ∷ 0 ∷ 0 ∷ []) 0xC0000040 place contents
+    → place ≡ rounded 0x1000 (0x1000 + length text) → two ≡ linked_sections text contents
+unfolding linked_sections
+sections_by text contents none one two place empty first second at =
+    let behind = λ (n : ℕ). section_if (codes ".data" ++ 0 ∷ 0 ∷ 0 ∷ []) 0xC0000040 n contents in
+    second
+    ∙ (ap (λ ss. ss ++ behind place) (first ∙ ap (λ ss. ss ++ text_sections text) empty)
+    ∙ ap (λ n. text_sections text ++ behind n) (at ∙ sym (contents_place text)))
 
 -- a place in the code is in a section
 pub in_text : (text contents : List ℕ) (rest : List Section) (p n : ℕ) → 0 < n → 0x1000 ≤ p → p + n ≤ 0x1000 + length text
@@ -71,6 +89,12 @@ bytes_if : (name : List ℕ) (flags place : ℕ) (bytes : List ℕ) → IsBytes 
 bytes_if name flags place [] each = All-nil (λ (s : Section). IsBytes s.bytes)
 bytes_if name flags place (b ∷ bs) each = All-cons (λ (s : Section). IsBytes s.bytes) _ [] each (All-nil (λ (s : Section). IsBytes s.bytes))
 
+pub bytes_there : (xs : List ℕ) → ((i : ℕ) → i < length xs → get_or xs i 0 < 256) → IsBytes xs
+bytes_there xs each i = ⊎_elim
+    (λ within. each i within)
+    (λ past. subst (λ n. n < 256) (sym (get_or_past xs i 0 past)) (omega arith))
+    (cases_lt i (length xs))
+
 -- what stands in the sections of bytes is bytes
 pub bytes_laid : (text contents : List ℕ) → IsBytes text → IsBytes contents → (x : ℕ) → laid (linked_sections text contents) x < 256
 unfolding linked_sections
@@ -87,9 +111,9 @@ in_sections : (text contents : List ℕ) (rest : List Section) (code_last conten
 in_sections text contents rest code_last contents_first contents_last xs ys ends begins behind one two =
     All-append (λ p. Any (Has p 8) (linked_sections text contents ++ rest)) xs ys
     (λ i d inside. in_text text contents rest (get_or xs i d) 8 (omega arith) (one.within i d inside).0
-        (omega (arith, ends, (one.within i d inside).1)))
+    (omega (arith, ends, (one.within i d inside).1)))
     (λ i d inside. in_contents text contents rest (get_or ys i d) 8 (omega arith)
-        (omega (arith, ends, begins, (two.within i d inside).0)) (omega (arith, ends, begins, behind, (two.within i d inside).1)))
+    (omega (arith, ends, begins, (two.within i d inside).0)) (omega (arith, ends, begins, behind, (two.within i d inside).1)))
 
 relocs_inside : (objects : List Object) (text contents : List ℕ) (rest : List Section) → All IsObject objects
     → code_start + length text ≡ code_end code_start objects
@@ -111,7 +135,8 @@ unfolding laid_objects homes_of
 entry_within objects name x (l, s, there, own, defines, named, kind, even, within, is) =
     let at : Stands code_start (contents_start objects) (code_end code_start objects) (contents_end (contents_start objects) objects) l =
     All-contains (Stands code_start (contents_start objects) (code_end code_start objects) (contents_end (contents_start objects) objects))
-    (laid_with objects (homes_from code_start (contents_start objects) objects)) l (stands code_start (contents_start objects) objects) there in
+    (laid_with objects (homes_from code_start (contents_start objects) objects)) l
+    (stands code_start (contents_start objects) objects) there in
     (omega (arith, is, even, at.even), omega (arith, is, at.code_low), omega (arith, is, within, at.code_high))
 
 -- ---- all

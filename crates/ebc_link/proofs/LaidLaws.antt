@@ -1,10 +1,10 @@
 -- Objects and where they stand, by their numbers.
-use Rattle.std.proofs.Common.{◌≡◌, ℕ, zero, suc, ◌+◌, ◌<◌, ◌≤◌, List, [], ◌∷◌, ◌++◌, length, get_or, map, take, drop, refl, sym, ap, ◌∙◌, arith}
-use Rattle.std.proofs.lemmas.List.{drop_more, get_or-map, take_more}
+use Rattle.std.proofs.Common.{◌≡◌, ℕ, zero, suc, ◌+◌, ◌<◌, List, [], ◌∷◌, ◌++◌, length, get_or, map, take, drop, refl, sym, ap, ◌∙◌}
+use Rattle.std.proofs.Common.{arith}
+use Rattle.std.proofs.lemmas.List.{drop_more, get_or-map, get_or_default, take_more}
 use Rattle.ebc_object.specs.declared.object.Object.{Object}
 use Rattle.ebc_link.specs.declared.layout.Home.{Home}
 use Rattle.ebc_link.specs.Layout.{Laid, laid_with}
-use Rattle.ebc_link.specs.Symbols.{Definition, places_of}
 
 -- ---- in any list
 
@@ -37,6 +37,19 @@ pub record IsAt (os : List Object) (hs : List Home) (i : ℕ) (o : Object) (h : 
   pub homes : length hs ≡ length os
   pub object : o ≡ get_or os i o
   pub home : h ≡ get_or hs i h
+
+pub at_number : (os : List Object) (hs : List Home) (i : ℕ) (o : Object) (d : Home) → i < length os → length hs ≡ length os
+    → o ≡ get_or os i o → IsAt os hs i o (get_or hs i d)
+at_number os hs i o d within homes is =
+    record {
+      within = within;
+      homes = homes;
+      object = is;
+      home = get_or_default hs i d (get_or hs i d) (omega (arith, within, homes));
+    }
+
+abbrev pub no_home : Home
+no_home = record { code = 0; contents = 0 }
 
 pub laid_within : (os : List Object) (hs : List Home) (i : ℕ) (o : Object) (h : Home) → IsAt os hs i o h → i < length (laid_with os hs)
 laid_within os hs i o h at = omega (arith, at.within, length-laid os hs at.homes)

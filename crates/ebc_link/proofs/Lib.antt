@@ -1,9 +1,10 @@
-pub mod HomeLaws
 pub mod LaidLaws
+pub mod HomeLaws
 pub mod FirstLaws
 pub mod AgainLaws
 pub mod EndLaws
 pub mod GlobalLaws
+pub mod ResolvedLaws
 pub mod FillLaws
 pub mod StandLaws
 pub mod RelocLaws
@@ -17,4 +18,5 @@ pub mod OwnLaws
 pub mod SymbolLaws
 pub mod HoldLaws
 pub mod LinkedLaws
+pub mod AnswerLaws
 pub mod PlanLaws

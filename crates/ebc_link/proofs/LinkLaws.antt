@@ -1,5 +1,5 @@
 -- What objects are linked to, by the tries in their order; and back.
-use Rattle.std.proofs.Common.{◌≡◌, ℕ, ◌≤◌, ◌<◌, Bool, true, false, List, [], Option, Some, None, Result, Ok, Err, refl, sym, ap, subst, ◌∙◌}
+use Rattle.std.proofs.Common.{◌≡◌, ℕ, ◌≤◌, ◌<◌, Bool, true, false, List, [], Option, Some, None, Result, Ok, Err, refl}
 use Rattle.std.specs.Prelude.{nat_le}
 use Rattle.std.proofs.lemmas.Bool.{le-leb, leb-true, lt-leb}
 use Rattle.ebc_base.specs.Steps.{◌>>=◌, or_else, passes}
@@ -85,8 +85,8 @@ pub record IsMade (plan : LinkPlan) (ls : List Laid) (contents : ℕ) (image : I
   pub small : (linked_image plan (definitions ls) ls contents place).size ≤ most
   pub is : image ≡ linked_image plan (definitions ls) ls contents place
 
-same_ok : {X : Type 0} → (x y : X) → Ok {E = Fault} x ≡ Ok y → y ≡ x
-same_ok x y e = cc
+same_ok : {X E : Type 0} → (r : Result X E) (x y : X) → r ≡ Ok x → r ≡ Ok y → y ≡ x
+same_ok r x y one two = cc
 
 pub made : (plan : LinkPlan) (ls : List Laid) (contents : ℕ) (image : Image) → links_laid plan ls contents ≡ Ok image
     → IsMade plan ls contents image
@@ -103,5 +103,6 @@ made plan ls contents image e =
       place = entry.0;
       enters = entry.1;
       small = leb-true (linked_image plan (definitions ls) ls contents entry.0).size most size.0;
-      is = same_ok (linked_image plan (definitions ls) ls contents entry.0) image size.1;
+      is = same_ok {E = Fault} (Ok (linked_image plan (definitions ls) ls contents entry.0))
+          (linked_image plan (definitions ls) ls contents entry.0) image refl size.1;
     }

@@ -1,35 +1,36 @@
 -- What objects are linked to is a linked image.
-use Rattle.std.proofs.Common.{◌≡◌, ◌≢◌, ℕ, ◌+◌, ◌-◌, ◌*◌, ◌/◌, ◌^◌, ◌<◌, ◌≤◌, ⊎_elim, inl, inr, Bool, true, false, not, ◌&&◌, List, [], length, get_or, Option, None}
+use Rattle.std.proofs.Common.{◌≡◌, ◌≢◌, ℕ, ◌+◌, ◌^◌, ◌<◌, ◌≤◌, ⊎_elim, Bool, true, not, List, []}
+use Rattle.std.proofs.Common.{length, get_or, None}
 use Rattle.std.proofs.Common.{Some, Ok, refl, sym, ap, subst, ◌∙◌, arith}
 use Rattle.std.specs.Prelude.{All, nat_eq, slice_get}
-use Rattle.std.specs.List.{Contains, filter, find, flat_map}
+use Rattle.std.specs.List.{Contains, find}
 use Rattle.std.proofs.lemmas.Bool.{and_parts, cases_lt, eqb-false, not-false, not-true}
-use Rattle.std.proofs.lemmas.List.Elements.{All-contains, Contains-get_or}
+use Rattle.std.proofs.lemmas.List.Elements.{All-contains}
 use Rattle.std.proofs.lemmas.Option.{gets}
 use Rattle.ebc_width.specs.Bytes.{little_endian}
 use Rattle.ebc_base.proofs.Lists.{within_some}
-use Rattle.ebc_object.specs.Objects.{IsFixup, IsObject, IsSymbol, section_bytes, width}
+use Rattle.ebc_object.specs.Objects.{IsFixup, IsObject, IsSymbol, width}
 use Rattle.ebc_object.specs.declared.object.Fixup.{Fixup}
 use Rattle.ebc_object.specs.declared.object.Object.{Object}
 use Rattle.ebc_object.specs.declared.object.Symbol.{Symbol}
 use Rattle.pe_image.specs.Conditions.{most}
-use Rattle.pe_image.specs.Files.{rounded}
 use Rattle.pe_image.specs.Mapped.{laid}
-use Rattle.pe_image.specs.Linked.{IsLinked, linked_sections}
+use Rattle.pe_image.specs.Linked.{linked_sections}
 use Rattle.pe_image.specs.declared.image.Image.{Image}
 use Rattle.ebc_link.specs.declared.plan.LinkPlan.{LinkPlan}
 use Rattle.ebc_link.specs.Plans.{IsPlan}
-use Rattle.ebc_link.specs.Layout.{Laid, code_end, code_start, contents_end, contents_from, contents_start, homes_of, laid_objects, laid_with, place_in}
-use Rattle.ebc_link.specs.Layout.{start_of, text_from}
-use Rattle.ebc_link.specs.Symbols.{Definition, definitions, first_in, is_definition, places_of, symbol_place, undefined_in}
-use Rattle.ebc_link.specs.Fixups.{code_of, contents_of, far_in, is_near, place_of, relocs_of, target_of}
-use Rattle.ebc_link.specs.Linked.{IsFilled, Linked, StandsAt}
+use Rattle.ebc_link.specs.Layout.{Laid, code_end, code_start, contents_end, contents_from, contents_start, laid_objects}
+use Rattle.ebc_link.specs.Layout.{place_in}
+use Rattle.ebc_link.specs.Layout.{text_from}
+use Rattle.ebc_link.specs.Symbols.{Definition, definitions, first_in, is_definition, places_of, symbol_place}
+use Rattle.ebc_link.specs.Fixups.{code_of, contents_of, far_in, is_near, place_of, target_of}
+use Rattle.ebc_link.specs.Linked.{IsFilled, Linked, StandsAt, own_bytes}
 use Rattle.ebc_link.specs.Linked.StandsAt.{other, own}
 use Rattle.ebc_link.specs.Links.{entry_in, linked_image, links}
 use Rattle.ebc_link.proofs.FoundLaws.{entry_is, first_nowhere}
 use Rattle.ebc_link.proofs.HoldLaws.{contents_in, holds, is_there, spelled_there, text_of, was_there, with_flags}
 use Rattle.ebc_link.proofs.ImageLaws.{contents_ends, linked_layout, text_ends}
-use Rattle.ebc_link.proofs.LinkLaws.{AreResolved, IsMade, made}
+use Rattle.ebc_link.proofs.LinkLaws.{AreResolved, made}
 use Rattle.ebc_link.proofs.OwnLaws.{code_byte, contents_byte, object_so, own_byte, stands_so, zero_between}
 use Rattle.ebc_link.proofs.StandLaws.{Stands, code_small, contents_small}
 use Rattle.ebc_link.proofs.SymbolLaws.{find_nowhere, none_mapped, stands_at, target_is}
@@ -48,13 +49,13 @@ own_small objects m t all few defined object at has =
     let contents = contents_small (contents_start objects) objects all in
     ⊎_elim
     (λ small.
-        let one : t.kind ≡ 1 = omega (arith, small, defined) in
-        let within : t.offset ≤ length m.object.code = subst (λ k. t.offset ≤ length (section_bytes m.object.code m.object.contents k)) one symbol.offset in
-        subst (λ k. place_in m.home k t.offset < 2 ^ 32) (sym one) (omega (arith, within, at.code_high, code, few)))
+    let one : t.kind ≡ 1 = omega (arith, small, defined) in
+    let within : t.offset ≤ length m.object.code = subst (λ k. t.offset ≤ length (own_bytes m k)) one symbol.offset in
+    subst (λ k. place_in m.home k t.offset < 2 ^ 32) (sym one) (omega (arith, within, at.code_high, code, few)))
     (λ large.
-        let two : t.kind ≡ 2 = omega (arith, large, symbol.kind) in
-        let within : t.offset ≤ length m.object.contents = subst (λ k. t.offset ≤ length (section_bytes m.object.code m.object.contents k)) two symbol.offset in
-        subst (λ k. place_in m.home k t.offset < 2 ^ 32) (sym two) (omega (arith, within, at.contents_high, contents, code, few)))
+    let two : t.kind ≡ 2 = omega (arith, large, symbol.kind) in
+    let within : t.offset ≤ length m.object.contents = subst (λ k. t.offset ≤ length (own_bytes m k)) two symbol.offset in
+    subst (λ k. place_in m.home k t.offset < 2 ^ 32) (sym two) (omega (arith, within, at.contents_high, contents, code, few)))
     (cases_lt t.kind 2)
 
 is_own : (t : Symbol) → is_definition t ≡ true → t.kind ≢ 0
@@ -63,15 +64,18 @@ is_own t defines = eqb-false t.kind 0 (not-true (nat_eq t.kind 0) (and_parts (na
 place_small : (objects : List Object) (l : Laid) (s : Symbol) (place : ℕ) → All IsObject objects → length objects ≤ 256
     → Contains (laid_objects objects) l → Contains l.object.symbols s → StandsAt (laid_objects objects) l s place → place < 2 ^ 32
 place_small objects l s place all few there has (own kind is) =
-    subst (λ p. p < 2 ^ 32) (sym is) (own_small objects l s all few kind (object_so 0 [] objects all l there) (stands_so 0 [] objects all l there) has)
-place_small objects l s place all few there has (other kind m t in_it holds defines named is) =
     subst (λ p. p < 2 ^ 32) (sym is)
-    (own_small objects m t all few (is_own t defines) (object_so 0 [] objects all m in_it) (stands_so 0 [] objects all m in_it) holds)
+    (own_small objects l s all few kind (object_so 0 [] objects all l there) (stands_so 0 [] objects all l there) has)
+place_small objects l s place all few there has (other kind m t in_it has_it defines named is) =
+    subst (λ p. p < 2 ^ 32) (sym is)
+    (own_small objects m t all few (is_own t defines) (object_so 0 [] objects all m in_it) (stands_so 0 [] objects all m in_it)
+    has_it)
 
 -- ---- a fixup
 
 filled : (base : ℕ) (objects : List Object) (image : Image) (l : Laid) (f : Fixup) → All IsObject objects → length objects ≤ 256
-    → base < 2 ^ 32 → AreResolved (laid_objects objects) → first_in (far_in (definitions (laid_objects objects))) (laid_objects objects) ≡ None
+    → base < 2 ^ 32 → AreResolved (laid_objects objects)
+    → first_in (far_in (definitions (laid_objects objects))) (laid_objects objects) ≡ None
     → image.sections ≡ linked_sections (text_from (code_of base (definitions (laid_objects objects))) code_start (laid_objects objects))
     (contents_from (contents_of base (definitions (laid_objects objects))) (contents_start objects) (laid_objects objects))
     → Contains (laid_objects objects) l → Contains l.object.fixups f → IsFilled base image (laid_objects objects) l f
@@ -89,11 +93,16 @@ filled base objects image l f all few low resolved near sections there has =
     let small = place_small objects l s (symbol_place ds l.home s) all few there in_it stands in
     let none : far_in ds l ≡ None = first_nowhere (far_in ds) ls l near there in
     let is_far : (g : Fixup) → Bool = λ (g : Fixup). not (is_near (places_of ds l) l.home g) in
-    let not_far = find_nowhere is_far l.object.fixups f (none_mapped (place_of l.home) (find is_far l.object.fixups) none) has in
-    (s, target_of (places_of ds l) f, symbol.1, subst (StandsAt ls l s) (sym target) stands,
-    holds base image l f (places_of ds l) fixup.kind.0 fixup.kind.1 (not-false (is_near (places_of ds l) l.home f) not_far)
-    (omega (arith, target, small, low))
-    (ap (λ ss. little_endian (laid ss) (place_of l.home f) (width f.kind)) sections ∙ spelled_there base ds objects all l f there object has))
+    let not_far = find_nowhere is_far l.object.fixups f (none_mapped (place_of l.home) (find is_far l.object.fixups) none) has in (
+      s,
+      target_of (places_of ds l) f,
+      symbol.1,
+      subst (StandsAt ls l s) (sym target) stands,
+      holds base image l f (places_of ds l) fixup.kind.0 fixup.kind.1 (not-false (is_near (places_of ds l) l.home f) not_far)
+          (omega (arith, target, small, low))
+          (ap (λ ss. little_endian (laid ss) (place_of l.home f) (width f.kind)) sections
+          ∙ spelled_there base ds objects all l f there object has),
+    )
   where
     got : (xs : List Symbol) (k : ℕ) (x : Symbol) → slice_get xs k ≡ Some x → x ≡ get_or xs k x
     got xs k x e = grind (arith, gets)
@@ -122,9 +131,10 @@ is_linked objects plan image all few is_plan e =
           layout = linked_layout objects plan x all is_plan entry small;
           ends = λ t c is.
               let one : text ≡ t = sym (text_of text contents) ∙ (ap (with_flags 0x60000020) is ∙ text_of t c) in
-              let two : contents ≡ c = sym (contents_in text contents) ∙ (ap (with_flags 0xC0000040) is ∙ contents_in t c) in
-              (ap (λ ts. code_start + length ts) (sym one) ∙ text_ends base ds objects all,
-              ap (λ cs. contents_start objects + length cs) (sym two) ∙ contents_ends base ds objects all);
+              let two : contents ≡ c = sym (contents_in text contents) ∙ (ap (with_flags 0xC0000040) is ∙ contents_in t c) in (
+                ap (λ ts. code_start + length ts) (sym one) ∙ text_ends base ds objects all,
+                ap (λ cs. contents_start objects + length cs) (sym two) ∙ contents_ends base ds objects all,
+              );
           base = refl;
           subsystem = refl;
           code = λ l there i within none.
@@ -133,8 +143,8 @@ is_linked objects plan image all few is_plan e =
               contents_byte base ds objects all l i there within ∙ own_byte 2 base ds l i (object_so base ds objects all l there) none;
           between = zero_between base ds objects all;
           fixups = λ l f there has.
-              filled base objects (linked_image plan ds (laid_objects objects) (contents_start objects) x) l f all few is_plan.small resolved near refl
-              there has;
+              filled base objects (linked_image plan ds (laid_objects objects) (contents_start objects) x) l f all few is_plan.small
+              resolved near refl there has;
           relocs = λ p. (is_there (laid_objects objects) p, was_there (laid_objects objects) (object_so base ds objects all) p);
           entry = entry;
         }

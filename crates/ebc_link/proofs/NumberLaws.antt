@@ -1,7 +1,8 @@
 -- Numbers in the bytes of fixups, and the numbers that these spell.
-use Rattle.std.proofs.Common.{◌≡◌, ℕ, ◌+◌, ◌-◌, ◌*◌, ◌/◌, ◌%◌, ◌^◌, ◌<◌, ◌≤◌, ◌⊎◌, inl, inr, ⊎_elim, Bool, true, false, cond, ◌&&◌, List, get_or, take, refl}
+use Rattle.std.proofs.Common.{◌≡◌, ℕ, ◌+◌, ◌-◌, ◌%◌, ◌^◌, ◌<◌, ◌≤◌, true, cond, ◌&&◌}
+use Rattle.std.proofs.Common.{get_or, take}
 use Rattle.std.proofs.Common.{sym, ap, ◌∙◌, arith}
-use Rattle.std.specs.Prelude.{ℤ, pos, negsuc, int_le, nat_le, nat_lt}
+use Rattle.std.specs.Prelude.{ℤ, pos, negsuc, int_le}
 use Rattle.std.specs.Int.{w64, to_le_bytes}
 use Rattle.std.proofs.lemmas.Bool.{and_parts, le-ltb, leb-true, lt-ltb}
 use Rattle.std.proofs.lemmas.List.{get_or-take}
@@ -9,7 +10,7 @@ use Rattle.ebc_width.specs.Bytes.{little_endian, put}
 use Rattle.ebc_width.specs.Width.{signed_at, wrap64}
 use Rattle.ebc_width.proofs.ByteLaws.{little_endian-agree, little_endian-same, put-within}
 use Rattle.ebc_width.proofs.Numbers.{get_or-to_le_bytes}
-use Rattle.ebc_link.specs.Fixups.{holds_signed, largest}
+use Rattle.ebc_link.specs.Fixups.{holds_signed}
 
 -- what the low bytes of a number spell
 pub number_there : (b : ℕ → ℕ) (place n v : ℕ) → n ≤ 8 → ((j : ℕ) → j < n → b (place + j) ≡ get_or (take n (to_le_bytes w64 v)) j 0)
@@ -18,13 +19,13 @@ number_there b place n v few each =
     let zero_bytes : ℕ → ℕ = λ x. 0 in
     little_endian-agree b (put zero_bytes place n v) place n
     (λ x low high.
-        let j : ℕ = x - place in
-        let at : place + j ≡ x = omega (arith, low) in
-        let within : j < n = omega (arith, low, high) in
-        ap b (sym at)
-        ∙ (each j within
-        ∙ (get_or-take n (to_le_bytes w64 v) j 0 within
-        ∙ (get_or-to_le_bytes v j (omega (arith, within, few)) ∙ sym (put-within zero_bytes place n v x low high)))))
+    let j : ℕ = x - place in
+    let at : place + j ≡ x = omega (arith, low) in
+    let within : j < n = omega (arith, low, high) in
+    ap b (sym at)
+    ∙ (each j within
+    ∙ (get_or-take n (to_le_bytes w64 v) j 0 within
+    ∙ (get_or-to_le_bytes v j (omega (arith, within, few)) ∙ sym (put-within zero_bytes place n v x low high)))))
     ∙ little_endian-same zero_bytes place n v
 
 -- ---- signed numbers

@@ -1,7 +1,8 @@
 -- The bytes of each object where it stands in the image that objects are linked to.
-use Rattle.std.proofs.Common.{◌≡◌, ℕ, ◌+◌, ◌-◌, ◌*◌, ◌/◌, ◌<◌, ◌≤◌, ◌⊎◌, inl, inr, ⊎_elim, Bool, true, false, List, [], ◌∷◌, length, get_or, refl, sym, ap}
+use Rattle.std.proofs.Common.{◌≡◌, ℕ, ◌+◌, ◌<◌, ◌≤◌, ◌⊎◌, inl, inr, ⊎_elim, Bool, true, false, List, [], ◌∷◌, length}
+use Rattle.std.proofs.Common.{get_or, sym, ap}
 use Rattle.std.proofs.Common.{subst, ◌∙◌, arith}
-use Rattle.std.specs.Prelude.{All, AllPairs, nat_eq, nat_le, nat_lt, ◌&&◌, slice_index}
+use Rattle.std.specs.Prelude.{All, nat_eq, nat_lt}
 use Rattle.std.specs.List.{Contains, list_any}
 use Rattle.std.proofs.lemmas.Bool.{cases_lt, or_parts}
 use Rattle.std.proofs.lemmas.Bool.Decides.{nat_tests}
@@ -9,19 +10,21 @@ use Rattle.std.proofs.lemmas.List.Elements.{All-cons, All-contains, All-head, Al
 use Rattle.std.proofs.lemmas.List.Kept.{AllPairs-filter}
 use Rattle.ebc_width.specs.Bytes.{overlaid}
 use Rattle.ebc_width.proofs.ByteLaws.{overlaid-apart, overlaid-within}
-use Rattle.ebc_object.specs.Objects.{EndsBefore, IsFixup, IsObject, section_bytes, width}
+use Rattle.ebc_object.specs.Objects.{EndsBefore, IsFixup, IsObject, width}
 use Rattle.ebc_object.specs.declared.object.Fixup.{Fixup}
 use Rattle.ebc_object.specs.declared.object.Object.{Object}
 use Rattle.pe_image.specs.Files.{rounded}
 use Rattle.pe_image.specs.Linked.{linked_sections}
 use Rattle.pe_image.specs.Mapped.{laid}
 use Rattle.ebc_link.specs.declared.layout.Home.{Home}
-use Rattle.ebc_link.specs.Layout.{Laid, code_end, code_start, contents_end, contents_from, contents_start, homes_from, homes_of, laid_objects, laid_with}
-use Rattle.ebc_link.specs.Layout.{start_of, text_from}
+use Rattle.ebc_link.specs.Layout.{Laid, code_end, code_start, contents_end, contents_from, contents_start, homes_from, homes_of}
+use Rattle.ebc_link.specs.Layout.{laid_objects, laid_with}
+use Rattle.ebc_link.specs.Layout.{text_from}
 use Rattle.ebc_link.specs.Symbols.{Definition, places_of}
 use Rattle.ebc_link.specs.Fixups.{bytes_for, code_of, contents_of, filled_section, in_section}
-use Rattle.ebc_link.specs.Linked.{IsOutside, fills}
-use Rattle.ebc_link.proofs.BytesLaws.{ArePacked, LieIn, at_object, between_objects, filled_at, laid_linked, unfilled}
+use Rattle.ebc_link.specs.Linked.{IsOutside, fills, own_bytes}
+use Rattle.ebc_link.specs.Walks.{ArePacked}
+use Rattle.ebc_link.proofs.BytesLaws.{LieIn, at_object, between_objects, filled_at, laid_linked, unfilled}
 use Rattle.ebc_link.proofs.FillLaws.{all-in_section, fixups_within, length-bytes_for, length-filled}
 use Rattle.ebc_link.proofs.ImageLaws.{contents_ends, text_ends}
 use Rattle.ebc_link.proofs.LaidLaws.{laid_at}
@@ -38,10 +41,11 @@ packed_code bytes code contents [] long objects = tt
 packed_code bytes code contents (o ∷ os) long objects =
     let h : Home = record { code = rounded 2 code; contents = rounded 8 contents } in
     let d : ℕ = rounded 8 contents + length o.contents in
-    let ls : List Laid = laid_with os (homes_from (rounded 2 code + length o.code) d os) in
-    (omega arith,
-    subst (λ n. ArePacked 1 bytes (rounded 2 code + n) ls) (sym (long o h (All-head IsObject o os objects)))
-    (packed_code bytes (rounded 2 code + length o.code) d os long (All-tail IsObject o os objects)))
+    let ls : List Laid = laid_with os (homes_from (rounded 2 code + length o.code) d os) in (
+      omega arith,
+      subst (λ n. ArePacked 1 bytes (rounded 2 code + n) ls) (sym (long o h (All-head IsObject o os objects)))
+          (packed_code bytes (rounded 2 code + length o.code) d os long (All-tail IsObject o os objects)),
+    )
 
 pub packed_contents : (bytes : Laid → List ℕ) (code contents : ℕ) (os : List Object)
     → ((o : Object) (h : Home) → IsObject o → length (bytes (laid_at o h)) ≡ length o.contents) → All IsObject os
@@ -51,10 +55,11 @@ packed_contents bytes code contents [] long objects = tt
 packed_contents bytes code contents (o ∷ os) long objects =
     let h : Home = record { code = rounded 2 code; contents = rounded 8 contents } in
     let c : ℕ = rounded 2 code + length o.code in
-    let ls : List Laid = laid_with os (homes_from c (rounded 8 contents + length o.contents) os) in
-    (omega arith,
-    subst (λ n. ArePacked 2 bytes (rounded 8 contents + n) ls) (sym (long o h (All-head IsObject o os objects)))
-    (packed_contents bytes c (rounded 8 contents + length o.contents) os long (All-tail IsObject o os objects)))
+    let ls : List Laid = laid_with os (homes_from c (rounded 8 contents + length o.contents) os) in (
+      omega arith,
+      subst (λ n. ArePacked 2 bytes (rounded 8 contents + n) ls) (sym (long o h (All-head IsObject o os objects)))
+          (packed_contents bytes c (rounded 8 contents + length o.contents) os long (All-tail IsObject o os objects)),
+    )
 
 pub objects_laid : (os : List Object) (hs : List Home) (l : Laid) → All IsObject os → Contains (laid_with os hs) l → IsObject l.object
 objects_laid os hs l objects there = All-contains (λ (m : Laid). IsObject m.object) (laid_with os hs) l (each os hs objects) there
@@ -83,20 +88,25 @@ module _ (base : ℕ) (ds : List Definition) (objects : List Object) (all : All 
       → Stands code_start (contents_start objects) (code_end code_start objects) (contents_end (contents_start objects) objects) l
   unfolding laid_objects homes_of
   stands_so l there =
-      All-contains (Stands code_start (contents_start objects) (code_end code_start objects) (contents_end (contents_start objects) objects))
-      (laid_with objects (homes_from code_start (contents_start objects) objects)) l (stands code_start (contents_start objects) objects) there
+      let start : ℕ = contents_start objects in
+      All-contains (Stands code_start start (code_end code_start objects) (contents_end start objects))
+      (laid_with objects (homes_from code_start start objects)) l (stands code_start start objects) there
 
   pub object_so : (l : Laid) → Contains (laid_objects objects) l → IsObject l.object
   unfolding laid_objects
   object_so l there = objects_laid objects (homes_of objects) l all there
 
-  code_packed : ArePacked 1 (code_of base ds) code_start (laid_objects objects)
+  pub code_packed : ArePacked 1 (code_of base ds) code_start (laid_objects objects)
   unfolding laid_objects homes_of
-  code_packed = packed_code (code_of base ds) code_start (contents_start objects) objects (λ o h object. length-filled 1 base ds (laid_at o h) object) all
+  code_packed =
+      packed_code (code_of base ds) code_start (contents_start objects) objects
+      (λ o h object. length-filled 1 base ds (laid_at o h) object) all
 
-  contents_packed : ArePacked 2 (contents_of base ds) (contents_start objects) (laid_objects objects)
+  pub contents_packed : ArePacked 2 (contents_of base ds) (contents_start objects) (laid_objects objects)
   unfolding laid_objects homes_of
-  contents_packed = packed_contents (contents_of base ds) code_start (contents_start objects) objects (λ o h object. length-filled 2 base ds (laid_at o h) object) all
+  contents_packed =
+      packed_contents (contents_of base ds) code_start (contents_start objects) objects
+      (λ o h object. length-filled 2 base ds (laid_at o h) object) all
 
   -- what stands in the code of an object
   pub code_byte : (l : Laid) (i : ℕ) → Contains (laid_objects objects) l → i < length l.object.code
@@ -124,7 +134,8 @@ module _ (base : ℕ) (ds : List Definition) (objects : List Object) (all : All 
       (inr (omega (arith, at.contents_low, starts_behind)))
       ∙ (overlaid-within (λ y. 0) (contents_start objects) contents (l.home.contents + i)
       (omega (arith, at.contents_low)) (omega (arith, within, at.contents_high, behind))
-      ∙ at_object 2 (contents_of base ds) (contents_start objects) (laid_objects objects) l i contents_packed there (omega (arith, within, long)))))
+      ∙ at_object 2 (contents_of base ds) (contents_start objects) (laid_objects objects) l i contents_packed there
+      (omega (arith, within, long)))))
 
   -- zeros stand where no object does
   pub zero_between : (x : ℕ) → ((l : Laid) → Contains (laid_objects objects) l → IsOutside x l) → laid (linked_sections text contents) x ≡ 0
@@ -135,24 +146,24 @@ module _ (base : ℕ) (ds : List Definition) (objects : List Object) (all : All 
       ∙ (ap (λ p. overlaid (overlaid (λ y. 0) p contents) 0x1000 text x) starts_behind
       ∙ ⊎_elim
       (λ low. overlaid-apart (overlaid (λ y. 0) (contents_start objects) contents) 0x1000 text x (inl low)
-          ∙ overlaid-apart (λ y. 0) (contents_start objects) contents x (inl (omega (arith, low, starts_behind))))
+      ∙ overlaid-apart (λ y. 0) (contents_start objects) contents x (inl (omega (arith, low, starts_behind))))
       (λ from. ⊎_elim
-          (λ in_it. overlaid-within (overlaid (λ y. 0) (contents_start objects) contents) 0x1000 text x from in_it
-              ∙ between_objects 1 (code_of base ds) code_start (laid_objects objects) x code_packed from
-              (λ l there. let long = length-filled 1 base ds l (object_so l there) in
-                  ⊎_elim (λ low. inl low) (λ high. inr (omega (arith, high, long))) (outside l there).0))
-          (λ past. overlaid-apart (overlaid (λ y. 0) (contents_start objects) contents) 0x1000 text x (inr past)
-              ∙ ⊎_elim
-              (λ low. overlaid-apart (λ y. 0) (contents_start objects) contents x (inl low))
-              (λ begun. ⊎_elim
-                  (λ in_it. overlaid-within (λ y. 0) (contents_start objects) contents x begun in_it
-                      ∙ between_objects 2 (contents_of base ds) (contents_start objects) (laid_objects objects) x contents_packed begun
-                      (λ l there. let long = length-filled 2 base ds l (object_so l there) in
-                          ⊎_elim (λ low. inl low) (λ high. inr (omega (arith, high, long))) (outside l there).1))
-                  (λ beyond. overlaid-apart (λ y. 0) (contents_start objects) contents x (inr beyond))
-                  (cases_lt x (contents_start objects + length contents)))
-              (cases_lt x (contents_start objects)))
-          (cases_lt x (0x1000 + length text)))
+      (λ in_it. overlaid-within (overlaid (λ y. 0) (contents_start objects) contents) 0x1000 text x from in_it
+      ∙ between_objects 1 (code_of base ds) code_start (laid_objects objects) x code_packed from
+      (λ l there. let long = length-filled 1 base ds l (object_so l there) in
+      ⊎_elim (λ low. inl low) (λ high. inr (omega (arith, high, long))) (outside l there).0))
+      (λ past. overlaid-apart (overlaid (λ y. 0) (contents_start objects) contents) 0x1000 text x (inr past)
+      ∙ ⊎_elim
+      (λ low. overlaid-apart (λ y. 0) (contents_start objects) contents x (inl low))
+      (λ begun. ⊎_elim
+      (λ in_it. overlaid-within (λ y. 0) (contents_start objects) contents x begun in_it
+      ∙ between_objects 2 (contents_of base ds) (contents_start objects) (laid_objects objects) x contents_packed begun
+      (λ l there. let long = length-filled 2 base ds l (object_so l there) in
+      ⊎_elim (λ low. inl low) (λ high. inr (omega (arith, high, long))) (outside l there).1))
+      (λ beyond. overlaid-apart (λ y. 0) (contents_start objects) contents x (inr beyond))
+      (cases_lt x (contents_start objects + length contents)))
+      (cases_lt x (contents_start objects)))
+      (cases_lt x (0x1000 + length text)))
       (cases_lt x 0x1000))
 
 -- ---- the bytes of a section, with its fixups
@@ -164,7 +175,7 @@ any_none p (x ∷ xs) e =
 
 not_filled : (section i : ℕ) (f : Fixup) (n : ℕ) → fills section i f ≡ false → f.section ≡ section → n ≡ width f.kind
     → (i < f.offset) ⊎ (f.offset + n ≤ i)
-not_filled section i f n no is wide = ⊎_elim
+not_filled section i f n free is wide = ⊎_elim
     (λ low. inl low)
     (λ from. inr (let e : nat_lt i (f.offset + width f.kind) ≡ false = passed from in grind (arith, nat_tests)))
     (cases_lt i f.offset)
@@ -173,40 +184,43 @@ not_filled section i f n no is wide = ⊎_elim
     passed from = grind (arith, nat_tests)
 
 lie_so : (section base : ℕ) (ds : List Definition) (l : Laid) → IsObject l.object
-    → LieIn (bytes_for base (places_of ds l) l.home) (length (section_bytes l.object.code l.object.contents section)) (in_section section l.object.fixups)
+    → LieIn (bytes_for base (places_of ds l) l.home) (length (own_bytes l section)) (in_section section l.object.fixups)
 lie_so section base ds l object i d inside =
     let f : Fixup = get_or (in_section section l.object.fixups) i d in
-    subst (λ n. f.offset + n ≤ length (section_bytes l.object.code l.object.contents section))
+    subst (λ n. f.offset + n ≤ length (own_bytes l section))
     (sym (length-bytes_for base (places_of ds l) l.home f)) (fixups_within l.object section object i d inside)
 
 -- a byte that no fixup fills in is the object's
-pub own_byte : (section base : ℕ) (ds : List Definition) (l : Laid) (i : ℕ) → IsObject l.object → list_any (fills section i) l.object.fixups ≡ false
-    → get_or (filled_section section base ds l) i 0 ≡ get_or (section_bytes l.object.code l.object.contents section) i 0
+pub own_byte : (section base : ℕ) (ds : List Definition) (l : Laid) (i : ℕ) → IsObject l.object
+    → list_any (fills section i) l.object.fixups ≡ false
+    → get_or (filled_section section base ds l) i 0 ≡ get_or (own_bytes l section) i 0
 own_byte section base ds l i object none =
     let over = bytes_for base (places_of ds l) l.home in
-    unfilled over (section_bytes l.object.code l.object.contents section) (in_section section l.object.fixups) i (lie_so section base ds l object)
+    unfilled over (own_bytes l section) (in_section section l.object.fixups) i (lie_so section base ds l object)
     (λ k d inside.
-        let f : Fixup = get_or (in_section section l.object.fixups) k d in
-        let both = all-in_section (λ (g : Fixup). fills section i g ≡ false) section l.object.fixups
-        (any_none (fills section i) l.object.fixups none) k d inside in
-        not_filled section i f (length (over f)) both.0 both.1 (length-bytes_for base (places_of ds l) l.home f))
+    let f : Fixup = get_or (in_section section l.object.fixups) k d in
+    let both = all-in_section (λ (g : Fixup). fills section i g ≡ false) section l.object.fixups
+    (any_none (fills section i) l.object.fixups none) k d inside in
+    not_filled section i f (length (over f)) both.0 both.1 (length-bytes_for base (places_of ds l) l.home f))
 
 -- and one that a fixup fills in is the fixup's
-pub fixup_byte : (section base : ℕ) (ds : List Definition) (l : Laid) (f : Fixup) (j : ℕ) → IsObject l.object → Contains l.object.fixups f
-    → f.section ≡ section → j < width f.kind
+pub fixup_byte : (section base : ℕ) (ds : List Definition) (l : Laid) (f : Fixup) (j : ℕ) → IsObject l.object
+    → Contains l.object.fixups f → f.section ≡ section → j < width f.kind
     → get_or (filled_section section base ds l) (f.offset + j) 0 ≡ get_or (bytes_for base (places_of ds l) l.home f) j 0
 fixup_byte section base ds l f j object there is within =
     let over = bytes_for base (places_of ds l) l.home in
     let of_section = λ (g : Fixup). nat_eq g.section section in
     let here : of_section f ≡ true = grind (arith, nat_tests) in
     let long = length-bytes_for base (places_of ds l) l.home f in
-    filled_at over (section_bytes l.object.code l.object.contents section) (in_section section l.object.fixups) f j (lie_so section base ds l object)
+    let fixups : List Fixup = l.object.fixups in
+    let is_one : Fixup → Type 0 = IsFixup l.object.code l.object.contents (length l.object.symbols) in
+    filled_at over (own_bytes l section) (in_section section fixups) f j (lie_so section base ds l object)
     (λ i k d before inside.
-        let g : Fixup = get_or (in_section section l.object.fixups) i d in
-        let h : Fixup = get_or (in_section section l.object.fixups) k d in
-        let one = all-in_section (IsFixup l.object.code l.object.contents (length l.object.symbols)) section l.object.fixups object.fixups i d (omega (arith, before, inside)) in
-        let two = all-in_section (IsFixup l.object.code l.object.contents (length l.object.symbols)) section l.object.fixups object.fixups k d inside in
-        let ends : EndsBefore g h = AllPairs-filter EndsBefore of_section l.object.fixups object.ascend i k d before inside in
-        let wide = length-bytes_for base (places_of ds l) l.home g in
-        ⊎_elim (λ low. absurd (omega (arith, low, one.1, two.1))) (λ both. omega (arith, wide, both.1)) ends)
+    let g : Fixup = get_or (in_section section l.object.fixups) i d in
+    let h : Fixup = get_or (in_section section l.object.fixups) k d in
+    let one = all-in_section is_one section fixups object.fixups i d (omega (arith, before, inside)) in
+    let two = all-in_section is_one section fixups object.fixups k d inside in
+    let ends : EndsBefore g h = AllPairs-filter EndsBefore of_section l.object.fixups object.ascend i k d before inside in
+    let wide = length-bytes_for base (places_of ds l) l.home g in
+    ⊎_elim (λ low. absurd (omega (arith, low, one.1, two.1))) (λ both. omega (arith, wide, both.1)) ends)
     (kept of_section l.object.fixups f there here) (omega (arith, within, long))

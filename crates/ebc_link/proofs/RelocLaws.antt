@@ -1,5 +1,6 @@
 -- The places of addresses ascend, each in its section.
-use Rattle.std.proofs.Common.{◌≡◌, ℕ, ◌+◌, ◌-◌, ◌*◌, ◌/◌, ◌<◌, ◌≤◌, inl, inr, ⊎_elim, Bool, true, List, [], ◌∷◌, ◌++◌, length, get_or, map, refl, sym}
+use Rattle.std.proofs.Common.{◌≡◌, ℕ, ◌+◌, ◌-◌, ◌<◌, ◌≤◌, ⊎_elim, List, [], ◌∷◌, ◌++◌, length, get_or}
+use Rattle.std.proofs.Common.{map, refl}
 use Rattle.std.proofs.Common.{ap, subst, ◌∙◌, arith, length-append}
 use Rattle.std.specs.Prelude.{All, AllPairs, nat_eq}
 use Rattle.std.specs.List.{filter, flat_map}
@@ -13,7 +14,8 @@ use Rattle.ebc_object.specs.declared.object.Object.{Object}
 use Rattle.pe_image.specs.Files.{rounded}
 use Rattle.pe_image.specs.Images.{IsBelow}
 use Rattle.ebc_link.specs.declared.layout.Home.{Home}
-use Rattle.ebc_link.specs.Layout.{Laid, code_end, code_start, contents_end, contents_start, homes_from, homes_of, laid_objects, laid_with, place_in, start_of}
+use Rattle.ebc_link.specs.Layout.{Laid, code_end, code_start, contents_end, contents_start, homes_from, homes_of, laid_objects, laid_with}
+use Rattle.ebc_link.specs.Layout.{start_of}
 use Rattle.ebc_link.specs.Fixups.{is_address, place_of, relocs_in, relocs_of}
 use Rattle.ebc_link.proofs.LaidLaws.{laid_at}
 use Rattle.ebc_link.proofs.StandLaws.{code_grows, contents_grow}
@@ -26,7 +28,11 @@ pub record IsRun (low high : ℕ) (places : List ℕ) : Type 0 where
   pub apart : AllPairs IsBelow places
 
 pub run_none : (low high : ℕ) → IsRun low high []
-run_none low high = record { within = All-nil (λ p. (low ≤ p) × (p + 8 ≤ high)); apart = λ i j d before inside. absurd (omega (arith, inside)) }
+run_none low high =
+    record {
+      within = All-nil (λ p. (low ≤ p) × (p + 8 ≤ high));
+      apart = λ i j d before inside. absurd (omega (arith, inside));
+    }
 
 wider : (low high a b : ℕ) (places : List ℕ) → a ≤ low → high ≤ b → IsRun low high places → IsRun a b places
 wider low high a b places lower higher run =
@@ -42,23 +48,23 @@ apart_append xs ys first second between i j d before inside =
     let total = length-append xs ys in
     ⊎_elim
     (λ low_j.
-        let a = get_or_append_left xs ys d i (omega (arith, before, low_j)) in
-        let b = get_or_append_left xs ys d j low_j in
-        let both : get_or xs i d + 8 ≤ get_or xs j d = first i j d before low_j in
-        omega (arith, a, b, both))
+    let a = get_or_append_left xs ys d i (omega (arith, before, low_j)) in
+    let b = get_or_append_left xs ys d j low_j in
+    let both : get_or xs i d + 8 ≤ get_or xs j d = first i j d before low_j in
+    omega (arith, a, b, both))
     (λ high_j. ⊎_elim
-        (λ low_i.
-            let a = get_or_append_left xs ys d i low_i in
-            let b = get_or-append_right xs ys (length xs) j d refl high_j in
-            let both = between i (j - length xs) d low_i (omega (arith, total, inside, high_j)) in
-            omega (arith, a, b, both))
-        (λ high_i.
-            let a = get_or-append_right xs ys (length xs) i d refl high_i in
-            let b = get_or-append_right xs ys (length xs) j d refl high_j in
-            let both : get_or ys (i - length xs) d + 8 ≤ get_or ys (j - length xs) d =
-            second (i - length xs) (j - length xs) d (omega (arith, before, high_i)) (omega (arith, total, inside, high_j)) in
-            omega (arith, a, b, both))
-        (cases_lt i (length xs)))
+    (λ low_i.
+    let a = get_or_append_left xs ys d i low_i in
+    let b = get_or-append_right xs ys (length xs) j d refl high_j in
+    let both = between i (j - length xs) d low_i (omega (arith, total, inside, high_j)) in
+    omega (arith, a, b, both))
+    (λ high_i.
+    let a = get_or-append_right xs ys (length xs) i d refl high_i in
+    let b = get_or-append_right xs ys (length xs) j d refl high_j in
+    let both : get_or ys (i - length xs) d + 8 ≤ get_or ys (j - length xs) d =
+    second (i - length xs) (j - length xs) d (omega (arith, before, high_i)) (omega (arith, total, inside, high_j)) in
+    omega (arith, a, b, both))
+    (cases_lt i (length xs)))
     (cases_lt j (length xs))
 
 pub run_append : (low mid high : ℕ) (xs ys : List ℕ) → low ≤ mid → mid ≤ high → IsRun low mid xs → IsRun mid high ys
@@ -69,7 +75,7 @@ run_append low mid high xs ys lower higher first second =
           (wider mid high low high ys lower (omega arith) second).within;
       apart = apart_append xs ys first.apart second.apart
           (λ i j d inside within.
-              omega (arith, (first.within i d inside).1, (second.within j d within).0));
+          omega (arith, (first.within i d inside).1, (second.within j d within).0));
     }
 
 -- ---- the places of one object
@@ -77,20 +83,24 @@ run_append low mid high xs ys lower higher first second =
 -- an address of a section of an object, with what the object says of it
 address_at : (o : Object) (section i : ℕ) (d : Fixup) → IsObject o → i < length (filter (is_address section) o.fixups)
     → IsFixup o.code o.contents (length o.symbols) (get_or (filter (is_address section) o.fixups) i d)
-    × ((get_or (filter (is_address section) o.fixups) i d).kind ≡ 5) × ((get_or (filter (is_address section) o.fixups) i d).section ≡ section)
+    × ((get_or (filter (is_address section) o.fixups) i d).kind ≡ 5)
+    × ((get_or (filter (is_address section) o.fixups) i d).section ≡ section)
 address_at o section i d object inside =
     let f : Fixup = get_or (filter (is_address section) o.fixups) i d in
-    let passes = and_parts (nat_eq f.kind 5) (nat_eq f.section section) (filter_passes (is_address section) o.fixups i d inside) in
-    (All-filter (is_address section) (IsFixup o.code o.contents (length o.symbols)) o.fixups object.fixups i d inside,
-    eqb-true f.kind 5 passes.0, eqb-true f.section section passes.1)
+    let passes = and_parts (nat_eq f.kind 5) (nat_eq f.section section) (filter_passes (is_address section) o.fixups i d inside) in (
+      All-filter (is_address section) (IsFixup o.code o.contents (length o.symbols)) o.fixups object.fixups i d inside,
+      eqb-true f.kind 5 passes.0,
+      eqb-true f.section section passes.1,
+    )
 
-address_ends : (code contents : List ℕ) (symbols section : ℕ) (f : Fixup) → IsFixup code contents symbols f → f.kind ≡ 5 → f.section ≡ section
-    → f.offset + 8 ≤ length (section_bytes code contents section)
+address_ends : (code contents : List ℕ) (symbols section : ℕ) (f : Fixup) → IsFixup code contents symbols f → f.kind ≡ 5
+    → f.section ≡ section → f.offset + 8 ≤ length (section_bytes code contents section)
 address_ends code contents symbols section f fixup kind is =
     subst (λ s. f.offset + 8 ≤ length (section_bytes code contents s)) is
     (subst (λ k. f.offset + width k ≤ length (section_bytes code contents f.section)) kind fixup.within)
 
-address_before : (section : ℕ) (f g : Fixup) → EndsBefore f g → f.kind ≡ 5 → f.section ≡ section → g.section ≡ section → f.offset + 8 ≤ g.offset
+address_before : (section : ℕ) (f g : Fixup) → EndsBefore f g → f.kind ≡ 5 → f.section ≡ section → g.section ≡ section
+    → f.offset + 8 ≤ g.offset
 address_before section f g ends kind one two =
     ⊎_elim (λ low. absurd (omega (arith, low, one, two)))
     (λ both. subst (λ k. f.offset + width k ≤ g.offset) kind both.1) ends
@@ -107,9 +117,9 @@ run_in o h section object =
     let start : ℕ = start_of h section in
     let at : (i d : ℕ) → i < length ps → (get_or ps i d ≡ start + (get_or fs i no_fixup).offset) =
     λ i d inside.
-        let f : Fixup = get_or fs i no_fixup in
-        let address = address_at o section i no_fixup object (omega (arith, long, inside)) in
-        get_or-map (place_of h) fs i no_fixup d (omega (arith, long, inside)) ∙ ap (λ s. start_of h s + f.offset) address.2 in
+    let f : Fixup = get_or fs i no_fixup in
+    let address = address_at o section i no_fixup object (omega (arith, long, inside)) in
+    get_or-map (place_of h) fs i no_fixup d (omega (arith, long, inside)) ∙ ap (λ s. start_of h s + f.offset) address.2 in
     record {
       within = λ i d inside.
           let address = address_at o section i no_fixup object (omega (arith, long, inside)) in
@@ -118,7 +128,8 @@ run_in o h section object =
       apart = λ i j d before inside.
           let one = address_at o section i no_fixup object (omega (arith, long, before, inside)) in
           let two = address_at o section j no_fixup object (omega (arith, long, inside)) in
-          let ends = AllPairs-filter EndsBefore (is_address section) o.fixups object.ascend i j no_fixup before (omega (arith, long, inside)) in
+          let ends = AllPairs-filter EndsBefore (is_address section) o.fixups object.ascend i j no_fixup before
+          (omega (arith, long, inside)) in
           let gap = address_before section (get_or fs i no_fixup) (get_or fs j no_fixup) ends one.1 one.2 two.2 in
           omega (arith, at i d (omega (arith, before, inside)), at j d inside, gap);
     }
@@ -135,7 +146,8 @@ code_run code contents (o ∷ os) objects =
     let d : ℕ = rounded 8 contents + length o.contents in
     run_append code c (code_end c os) (relocs_in 1 (laid_at o h)) (flat_map (relocs_in 1) (laid_with os (homes_from c d os)))
     (omega arith) (code_grows c os)
-    (wider (rounded 2 code) c code c (relocs_in 1 (laid_at o h)) (omega arith) (omega arith) (run_in o h 1 (All-head IsObject o os objects)))
+    (wider (rounded 2 code) c code c (relocs_in 1 (laid_at o h)) (omega arith) (omega arith)
+    (run_in o h 1 (All-head IsObject o os objects)))
     (code_run c d os (All-tail IsObject o os objects))
 
 pub contents_run : (code contents : ℕ) (os : List Object) → All IsObject os
@@ -160,6 +172,7 @@ relocs_apart objects all =
     let text = code_run code_start start objects all in
     let behind = contents_run code_start start objects all in
     let ls : List Laid = laid_with objects (homes_from code_start start objects) in
-    let wide = wider code_start (code_end code_start objects) code_start start (flat_map (relocs_in 1) ls) (omega arith) (omega arith) text in
+    let wide = wider code_start (code_end code_start objects) code_start start (flat_map (relocs_in 1) ls) (omega arith)
+    (omega arith) text in
     (run_append code_start start (contents_end start objects) (flat_map (relocs_in 1) ls) (flat_map (relocs_in 2) ls)
     (omega (arith, code_grows code_start objects)) (contents_grow start objects) wide behind).apart

@@ -1,5 +1,5 @@
 -- Where objects stand: in order, each behind the ones before.
-use Rattle.std.proofs.Common.{◌≡◌, ℕ, zero, suc, ◌+◌, ◌-◌, ◌*◌, ◌/◌, ◌%◌, ◌<◌, ◌≤◌, List, [], ◌∷◌, ◌++◌, length, get_or, refl, sym, ap, ◌∙◌}
+use Rattle.std.proofs.Common.{◌≡◌, ℕ, suc, ◌+◌, ◌-◌, ◌*◌, ◌%◌, ◌≤◌, List, [], ◌∷◌, ◌++◌, length, refl, ap, ◌∙◌}
 use Rattle.std.proofs.Common.{arith, length-append}
 use Rattle.std.specs.Prelude.{All}
 use Rattle.std.proofs.lemmas.List.{length-replicate}
@@ -98,7 +98,7 @@ length-text bytes code contents (o ∷ os) long objects =
     ap (λ n. rounded 2 code + length o.code + length (section_from 1 bytes (rounded 2 code + n) ls)) here
     ∙ length-text bytes (rounded 2 code + length o.code) d os long (All-tail IsObject o os objects) in
     let gap = length-append (zeros (rounded 2 code - code)) (bytes (laid_at o h) ++ rest) in
-    let filling = length-replicate (rounded 2 code - code) 0 in
+    let filling = length-replicate {A = ℕ} (rounded 2 code - code) 0 in
     let both = length-append (bytes (laid_at o h)) rest in
     omega (arith, here, later, gap, filling, both)
 
@@ -117,6 +117,6 @@ length-contents bytes code contents (o ∷ os) long objects =
     ap (λ n. rounded 8 contents + length o.contents + length (section_from 2 bytes (rounded 8 contents + n) ls)) here
     ∙ length-contents bytes c (rounded 8 contents + length o.contents) os long (All-tail IsObject o os objects) in
     let gap = length-append (zeros (rounded 8 contents - contents)) (bytes (laid_at o h) ++ rest) in
-    let filling = length-replicate (rounded 8 contents - contents) 0 in
+    let filling = length-replicate {A = ℕ} (rounded 8 contents - contents) 0 in
     let both = length-append (bytes (laid_at o h)) rest in
     omega (arith, here, later, gap, filling, both)

@@ -1,8 +1,9 @@
 -- Each symbol stands at the place that fixups take for it.
-use Rattle.std.proofs.Common.{◌≡◌, ◌≢◌, ℕ, ◌<◌, Bool, true, false, cond, not, ◌&&◌, List, [], ◌∷◌, length, get_or, map, Option, Some, None, refl, sym, ap}
-use Rattle.std.proofs.Common.{subst, ◌∙◌}
-use Rattle.std.specs.Prelude.{bytes_eq, filter, nat_eq, slice_get}
-use Rattle.std.specs.List.{Contains, find, flat_map}
+use Rattle.std.proofs.Common.{◌≡◌, ℕ, ◌<◌, Bool, true, false, cond, not, ◌&&◌, List, [], ◌∷◌, length, get_or, Option, Some}
+use Rattle.std.proofs.Common.{None, refl, sym, ap}
+use Rattle.std.proofs.Common.{◌∙◌}
+use Rattle.std.specs.Prelude.{filter, nat_eq}
+use Rattle.std.specs.List.{Contains, find}
 use Rattle.std.specs.Option.{is_some, option_map, option_map_or}
 use Rattle.std.proofs.lemmas.Bool.{eqb-false, eqb-true}
 use Rattle.std.proofs.lemmas.List.{get_or-map}
@@ -10,9 +11,9 @@ use Rattle.ebc_base.proofs.TableLaws.{same_name}
 use Rattle.ebc_base.specs.Tables.{is_named}
 use Rattle.ebc_object.specs.declared.object.Fixup.{Fixup}
 use Rattle.ebc_object.specs.declared.object.Symbol.{Symbol}
-use Rattle.ebc_link.specs.declared.layout.Home.{Home}
 use Rattle.ebc_link.specs.Layout.{Laid, place_in}
-use Rattle.ebc_link.specs.Symbols.{Definition, defined_place, definition_in, definitions, definitions_of, first_in, is_definition, is_undefined, names_of}
+use Rattle.ebc_link.specs.Symbols.{Definition, defined_place, definition_in, definitions, definitions_of, first_in, is_definition}
+use Rattle.ebc_link.specs.Symbols.{is_undefined, names_of}
 use Rattle.ebc_link.specs.Symbols.{places_of, symbol_place, undefined_in}
 use Rattle.ebc_link.specs.Fixups.{target_of}
 use Rattle.ebc_link.specs.Linked.{StandsAt}
@@ -48,9 +49,15 @@ found_place ls name (Some d) e some =
     let m : Laid = object.0 in
     let symbol = was_mapped (definition_in m.home) (filter is_definition m.object.symbols) d object.2 in
     let t : Symbol = symbol.0 in
-    let defines = was_kept is_definition m.object.symbols t symbol.1 in
-    (m, t, object.1, defines.0, defines.1, ap (λ (e : Definition). e.name) symbol.2 ∙ sym (same_name name d.name there.1),
-    sym (ap (λ (e : Definition). e.place) symbol.2))
+    let defines = was_kept is_definition m.object.symbols t symbol.1 in (
+      m,
+      t,
+      object.1,
+      defines.0,
+      defines.1,
+      ap (λ (e : Definition). e.name) symbol.2 ∙ sym (same_name name d.name there.1),
+      sym (ap (λ (e : Definition). e.place) symbol.2),
+    )
 
 not_and : (a b : Bool) → a ≡ true → (a && not b) ≡ false → b ≡ true
 not_and true true one e = refl
@@ -70,7 +77,8 @@ stands_at ls l s there has none = by_kind (nat_eq s.kind 0) refl
         let no_other : is_undefined (definitions ls) s ≡ false =
         find_nowhere (is_undefined (definitions ls)) l.object.symbols s
         (none_mapped (λ (t : Symbol). t.name) (find (is_undefined (definitions ls)) l.object.symbols) here) has in
-        let named : is_named s.name (names_of (definitions ls)) ≡ true = not_and (nat_eq s.kind 0) (is_named s.name (names_of (definitions ls))) e no_other in
+        let named : is_named s.name (names_of (definitions ls)) ≡ true =
+        not_and (nat_eq s.kind 0) (is_named s.name (names_of (definitions ls))) e no_other in
         let found = found_place ls s.name (find (is_of s.name) (definitions ls)) refl (sym (found-named s.name (definitions ls)) ∙ named) in
         other (eqb-true s.kind 0 e) found.0 found.1 found.2 found.3 found.4 found.5 found.6
 

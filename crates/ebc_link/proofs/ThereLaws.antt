@@ -1,5 +1,6 @@
 -- What is in a list that is made of another.
-use Rattle.std.proofs.Common.{◌≡◌, ℕ, zero, suc, ◌<◌, inl, inr, ⊎_elim, Bool, true, false, cond, List, [], ◌∷◌, ◌++◌, length, get_or, map, refl, sym, ap}
+use Rattle.std.proofs.Common.{◌≡◌, zero, suc, ⊎_elim, Bool, true, false, cond, List, [], ◌∷◌, ◌++◌, map}
+use Rattle.std.proofs.Common.{refl, sym, ap}
 use Rattle.std.proofs.Common.{◌∙◌, arith, subst}
 use Rattle.std.specs.List.{Contains, filter, flat_map}
 use Rattle.std.proofs.lemmas.List.Elements.{Contains-append_cases, Contains-append_left, Contains-append_right}
@@ -20,7 +21,7 @@ kept p [] x there passes = nowhere _ x there
 kept {X} p (y ∷ xs) x there passes =
     head_or_later (Contains (cond (p y) (y ∷ filter p xs) (filter p xs)) x) y xs x there
     (λ same. subst (λ b. Contains (cond b (y ∷ filter p xs) (filter p xs)) x) (sym (ap p same ∙ passes))
-        (subst (λ z. Contains (z ∷ filter p xs) x) (sym same) (first_of_all (filter p xs) x)))
+    (subst (λ z. Contains (z ∷ filter p xs) x) (sym same) (first_of_all (filter p xs) x)))
     (λ later. by_test (p y) (kept p xs x later passes))
   where
     by_test : (b : Bool) → Contains (filter p xs) x → Contains (cond b (y ∷ filter p xs) (filter p xs)) x

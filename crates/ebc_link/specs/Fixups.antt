@@ -1,4 +1,4 @@
--- For proofs: what fixups fill in. docs/LINKING.md, "Fixups"; docs/OBJECTS.md has the kinds of fixups: 1 to 4 are distances, of
+-- Meaning: what fixups fill in. docs/LINKING.md, "Fixups"; docs/OBJECTS.md has the kinds of fixups: 1 to 4 are distances, of
 -- which 1 counts words of two bytes, and 5 is an address.
 use Rattle.std.specs.Prelude.{ℕ, ◌+◌, ◌-◌, ◌*◌, ◌^◌, Bool, true, not, ◌&&◌, List, [], ◌∷◌, ◌++◌, length, map, filter, take, drop, Option}
 use Rattle.std.specs.Prelude.{nat_eq, slice_index, ℤ, pos, negsuc, ◌-ℤ◌, int_div, int_rem, int_le, if◌then◌else◌}

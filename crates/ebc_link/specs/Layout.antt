@@ -1,4 +1,4 @@
--- For proofs: where the code and the data of objects stand in an image. docs/LINKING.md, "Layout". A place is an offset from the
+-- Meaning: where the code and the data of objects stand in an image. docs/LINKING.md, "Layout". A place is an offset from the
 -- image's base. Code begins at a multiple of 0x1000, and so do data: a place is a multiple of 2 or 8 where its offset in the
 -- section is.
 use Rattle.std.specs.Prelude.{ℕ, ◌+◌, ◌-◌, List, [], ◌∷◌, ◌++◌, length, nat_eq, if◌then◌else◌}

@@ -1,4 +1,4 @@
--- For proofs: what objects are linked to: an image, or the first fault. docs/LINKING.md, "Faults".
+-- Meaning: what objects are linked to: an image, or the first fault. docs/LINKING.md, "Faults".
 use Rattle.std.specs.Prelude.{◌≡◌, ℕ, ◌%◌, Bool, ◌&&◌, List, [], length, Option, Some, None, Result, Ok, Err, nat_eq, nat_le, nat_lt}
 use Rattle.std.specs.Prelude.{bytes_eq}
 use Rattle.std.specs.List.{find}

@@ -1,4 +1,4 @@
--- For proofs: the link plan that a text stands for, or the first fault in it, key by key. docs/LINKING.md, "Plans".
+-- Meaning: the link plan that a text stands for, or the first fault in it, key by key. docs/LINKING.md, "Plans".
 use Rattle.std.specs.Prelude.{ℕ, ◌-◌, ◌^◌, ◌%◌, ◌==◌, ◌&&◌, List, [], ◌∷◌, length, Option, Some, None, is_none, Result, Ok, codes}
 use Rattle.std.specs.Prelude.{nat_eq, nat_le, if◌then◌else◌}
 use Rattle.toml.specs.Data.{Items, Members, as_array}

@@ -1,4 +1,4 @@
--- For proofs: the places of symbols: those that an object defines, and those that another makes global. docs/LINKING.md, "Symbols".
+-- Meaning: the places of symbols: those that an object defines, and those that another makes global. docs/LINKING.md, "Symbols".
 use Rattle.std.specs.Prelude.{ℕ, Bool, not, ◌&&◌, List, [], ◌∷◌, ◌++◌, map, filter, Option, Some, None, nat_eq, bytes_eq}
 use Rattle.std.specs.Prelude.{if◌then◌else◌}
 use Rattle.std.specs.List.{find, flat_map}

@@ -1,6 +1,6 @@
 //! What objects define for all, and the places of their symbols.
 
-ghost use Rattle.std.specs.Prelude.{◌≡◌, ◌+◌, ◌<◌, ◌≤◌, ◌^◌, ◌++◌, ◌∷◌, [], bytes_eq, length, map, not, All, IfOk, OnOk};
+ghost use Rattle.std.specs.Prelude.{◌≡◌, ◌+◌, ◌<◌, ◌≤◌, ◌^◌, ◌++◌, ◌∷◌, [], bytes_eq, length, map, not, slice_get, All, IfOk, OnOk};
 ghost use Rattle.std.specs.List.{find};
 ghost use Rattle.std.specs.Option.{option_map};
 ghost use Rattle.ebc_base.specs.Steps.{only_if};
@@ -107,13 +107,19 @@ impl Globals {
         Ok(globals)
     }
 
+    // The place of a number.
+    fn place_numbered(&self, number: usize) -> Option<u32>
+        ensures { result ≡ slice_get self.now.places.items number }
+    {
+        self.places.as_slice().get(number).copied()
+    }
+
     // The place of the definition of a name, if there is one.
     fn place(&self, name: &Name) -> Option<u32>
         requires { IsPaired self.now }
         ensures { result ≡ option_map (λ (d : Definition). d.place) (find (λ (d : Definition). bytes_eq name.now d.name) (defined self.now)) }
     {
-        let number = self.names.number(name) as usize;
-        self.places.as_slice().get(number).copied()
+        self.place_numbered(self.names.number(name) as usize)
     }
 
     // The place of a symbol of an object, unless nothing defines its name.

@@ -3,7 +3,7 @@
 ghost use Rattle.std.specs.Prelude.{◌≡◌, ◌+◌, ◌<◌, ◌≤◌, ◌^◌, length, All, IfOk};
 ghost use Rattle.ebc_object.specs.Objects.{IsObject};
 ghost use Rattle.ebc_link.specs.Layout.{code_end, code_start, contents_end, contents_start, homes_of, start_of};
-ghost use Rattle.ebc_link.specs.Walks.{IsLow};
+ghost use Rattle.ebc_link.specs.Walks.{IsBounds, IsLow};
 ghost use Rattle.pe_image.specs.Files.{rounded};
 
 use ebc_object::Object;
@@ -34,6 +34,14 @@ impl Home {
     }
 }
 
+/// Where the code of objects ends, and where their data begin and end.
+#[derive(Clone, Copy)]
+pub(crate) struct Bounds {
+    pub code_end: u32,
+    pub contents_start: u32,
+    pub contents_end: u32,
+}
+
 // A place rounded up to a multiple of a unit.
 pub(crate) fn rounded(unit: u32, place: u32) -> u32
     requires unit { 0 < unit }
@@ -43,9 +51,9 @@ pub(crate) fn rounded(unit: u32, place: u32) -> u32
     (place + (unit - 1)) / unit * unit
 }
 
-/// Where the code of objects ends.
+// Where the code of objects ends.
 #[tactic(auto, unfolding(crate::specs::Layout::code_end))]
-pub(crate) fn code_end(objects: &[Object]) -> u32
+fn code_end(objects: &[Object]) -> u32
     requires objects { All IsObject objects.now }
     requires few { length objects.now ≤ 256 }
     ensures end { result ≡ code_end code_start objects.now }
@@ -58,9 +66,9 @@ pub(crate) fn code_end(objects: &[Object]) -> u32
     end
 }
 
-/// Where the data of objects end that begin at a place.
+// Where the data of objects end that begin at a place.
 #[tactic(auto, unfolding(crate::specs::Layout::contents_end))]
-pub(crate) fn contents_end(objects: &[Object], start: u32) -> u32
+fn contents_end(objects: &[Object], start: u32) -> u32
     requires objects { All IsObject objects.now }
     requires few { length objects.now ≤ 256 }
     requires start { start ≤ 2 ^ 29 + 0x1000 }
@@ -74,14 +82,20 @@ pub(crate) fn contents_end(objects: &[Object], start: u32) -> u32
     end
 }
 
-/// Where the data of objects begin, by where their code ends.
+/// Where the code of objects ends, and where their data begin and end.
 #[tactic(auto, unfolding(crate::specs::Layout::contents_start))]
-pub(crate) fn contents_start(code_end: u32) -> u32
-    requires { code_end ≤ 2 ^ 29 }
-    ensures start { result ≡ rounded 0x1000 code_end }
-    ensures small { result ≤ 2 ^ 29 + 0x1000 }
+pub(crate) fn bounds_of(objects: &[Object]) -> Bounds
+    requires objects { All IsObject objects.now }
+    requires few { length objects.now ≤ 256 }
+    ensures { IsBounds objects.now result }
 {
-    rounded(0x1000, code_end)
+    let code_end = code_end(objects);
+    let contents_start = rounded(0x1000, code_end);
+    Bounds {
+        code_end,
+        contents_start,
+        contents_end: contents_end(objects, contents_start),
+    }
 }
 
 /// Where each object stands, with the data from a place on.

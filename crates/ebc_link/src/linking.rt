@@ -1,26 +1,37 @@
 //! The linking of objects.
 
-ghost use Rattle.std.specs.Prelude.{◌≡◌, ◌+◌, ◌<◌, ◌≤◌, ◌^◌, All, AllPairs, IfOk, length};
+ghost use Rattle.std.specs.Prelude.{◌≡◌, ◌-◌, ◌≤◌, ◌^◌, All, AllPairs, IfOk, length};
 ghost use Rattle.ebc_object.specs.Objects.{IsObject};
-ghost use Rattle.pe_image.specs.Images.{IsImage};
+ghost use Rattle.pe_image.specs.Images.{IsBelow, IsImage};
 ghost use Rattle.pe_image.specs.Linked.{IsLinked};
 ghost use Rattle.pe_image.specs.Mapped.{AreBytes};
+ghost use Rattle.pe_image.specs.Sizes.{IsLinkedSize};
+ghost use Rattle.ebc_link.specs.Linked.{Linked};
 ghost use Rattle.ebc_link.specs.Links.{Gives, links};
 ghost use Rattle.ebc_link.specs.Plans.{IsPlan};
 
 use crate::end::LinkEnd;
-use crate::globals::Globals;
-use crate::layout::{CODE_START, code_end, contents_end, contents_start, homes};
+use crate::layout::{Bounds, CODE_START, bounds_of};
 use crate::plan::LinkPlan;
 use crate::resolved::Resolved;
-use crate::sections::linked_sections;
-use ebc_base::Sequence;
 use ebc_object::Object;
 use pe_image::{Image, linked_size};
 use std::alloc::Global;
 
 // How many bytes an image may take: 4 MiB.
 const MOST: u64 = 0x40_0000;
+
+// How large an image is with code and data in these bounds and relocations at these places.
+fn size(bounds: Bounds, relocs: &[u32]) -> u64
+    requires code { (0x1000 ≤ bounds.code_end) × (bounds.code_end ≤ 2 ^ 29) }
+    requires contents { (bounds.contents_start ≤ bounds.contents_end) × (bounds.contents_end ≤ 2 ^ 30) }
+    requires apart { AllPairs IsBelow relocs.now }
+    ensures { IsLinkedSize (bounds.code_end - 0x1000) (bounds.contents_end - bounds.contents_start) relocs.now result }
+{
+    let code = bounds.code_end - CODE_START;
+    let contents = bounds.contents_end - bounds.contents_start;
+    linked_size(code as usize, contents as usize, relocs)
+}
 
 /// The image that objects are linked to, as a plan says. docs/LINKING.md has the rules. There are as many objects as the plan
 /// names, and they are laid in its order; their names don't matter here.
@@ -34,22 +45,13 @@ pub fn link(alloc: Global, objects: &[Object], plan: &LinkPlan) -> Result<Image,
     requires plan { IsPlan plan.now }
     requires count { length objects.now ≡ length plan.now.objects }
     ensures answer { Gives result (links objects.now plan.now) }
+    ensures linked { IfOk result (Linked objects.now plan.now) }
     ensures layout { IfOk result IsLinked }
     ensures image { IfOk result IsImage }
     ensures bytes { IfOk result AreBytes }
 {
-    let text_end = code_end(objects);
-    let start = contents_start(text_end);
-    let end = contents_end(objects, start);
-    let homes = homes(alloc, objects, start)?;
-    let globals = Globals::of(alloc, objects, &homes)?;
-    let places = globals.places(alloc, objects, &homes)?;
-    let resolved = Resolved {
-        objects,
-        homes,
-        globals,
-        places,
-    };
+    let bounds = bounds_of(objects);
+    let resolved = Resolved::of(alloc, objects, bounds.contents_start)?;
     if let Some(place) = resolved.first_far() {
         return Err(LinkEnd::Far(place));
     }
@@ -57,22 +59,9 @@ pub fn link(alloc: Global, objects: &[Object], plan: &LinkPlan) -> Result<Image,
         return Err(LinkEnd::Entry);
     };
     let relocs = resolved.relocs(alloc)?;
-    let size = linked_size(
-        (text_end - CODE_START) as usize,
-        (end - start) as usize,
-        &relocs,
-    );
+    let size = size(bounds, &relocs);
     if size > MOST {
         return Err(LinkEnd::Size);
     }
-    let text = resolved.bytes(alloc, 1, CODE_START, text_end, plan.base)?;
-    let contents = resolved.bytes(alloc, 2, start, end, plan.base)?;
-    Ok(Image {
-        base: plan.base,
-        entry,
-        size: size as u32,
-        subsystem: plan.subsystem,
-        sections: Sequence::new(linked_sections(alloc, text, contents)?),
-        relocs: Sequence::new(relocs),
-    })
+    Ok(resolved.image(alloc, plan, bounds, entry, size as u32, relocs)?)
 }

@@ -1,6 +1,7 @@
 //! The sections of a linked image.
 
-ghost use Rattle.std.specs.Prelude.{◌≡◌, ◌+◌, ◌<◌, ◌≤◌, ◌^◌, ◌++◌, length, IfOk, OnOk};
+ghost use Rattle.pe_image.specs.Mapped.{laid};
+ghost use Rattle.std.specs.Prelude.{◌≡◌, ℕ, ◌+◌, ◌<◌, ◌≤◌, ◌^◌, ◌++◌, length, IfOk, OnOk};
 ghost use Rattle.pe_image.specs.Linked.{linked_sections, section_if};
 
 use crate::layout::{CODE_START, rounded};
@@ -41,7 +42,8 @@ pub(crate) fn linked_sections(
 ) -> Result<Vec<Section>, AllocError>
     requires text { length text.items ≤ 2 ^ 30 }
     requires contents { length contents.items < 2 ^ 32 }
-    ensures { IfOk result (λ sections. sections.items ≡ linked_sections text.items contents.items) }
+    ensures sections { IfOk result (λ sections. sections.items ≡ linked_sections text.items contents.items) }
+    ensures bytes { IfOk result (λ sections. (x : ℕ) → laid sections.items x < 256) }
 {
     let mut sections = Vec::new(alloc);
     let contents_place = rounded(0x1000, CODE_START + text.len() as u32);

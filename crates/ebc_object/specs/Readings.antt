@@ -1,4 +1,4 @@
--- For proofs: what a file is read as: its fields are read and tried in the order in which they stand, and the first that
+-- Meaning: what a file is read as: its fields are read and tried in the order in which they stand, and the first that
 -- fails gives the fault, with its offset. docs/OBJECTS.md, "Reading".
 use Rattle.std.specs.Prelude.{◌≡◌, ℕ, zero, suc, ◌+◌, ◌*◌, Bool, not, ◌&&◌, ◌||◌, List, [], ◌∷◌, ◌++◌, length, map, take, drop, slice_index}
 use Rattle.std.specs.Prelude.{Result, Ok, Err, codes, bytes_eq, nat_eq, nat_le, nat_lt, sum_by, if◌then◌else◌}

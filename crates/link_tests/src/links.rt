@@ -135,7 +135,7 @@ const LINKS: &str = "\
 .global start#start: RET|start|1000 2000: 1000 04 00: :
 .global start#start: RET#.db 1/.global g#g: RET|g|1004 2000: 1000 04 00 01 00 04 00: :
 .global s#s: RET#.data#.db 1/.data#.db 2/.data/.data#.db 3|s|1000 3000: 1000 04 00: 2000 01 00 00 00 00 00 00 00 02 00 00 00 00 00 00 00 03:
-.global s#s: RET#.db 1/.data#.db 2/.global t#t: RET|t|1004 3000: 1000 04 00 01 00 04 00: 2000 02:
+.global s#s: RET#.db 1/.data#.db 2/.global t#t: RET|t|1004 3000: 1000 04 00 01 00 04 00: 2000 02 00 00 00 00 00 00 00:
 .global s#s: RET#.db 1//.data#.db 2|s|1000 3000: 1000 04 00 01 00: 2000 02:
 .global s#s: RET#.dq d#.data#d:|s|1000 3000: 1000 04 00 00 20 01 00 00 00 00 00: : 1002
 .global s#.data#d: .dq d#.code#s: RET|s|1000 4000: 1000 04 00: 2000 00 20 01 00 00 00 00 00: 2000
@@ -244,23 +244,33 @@ fn large(alloc: Global, zeros: usize, line: &str) -> Result<Vec<Object>, Fail> {
     Ok(objects)
 }
 
+/// The size of what these objects are linked to, in hexadecimal digits, or the fault, is what is wanted.
+fn tells_size(
+    rt: &impl Abort,
+    alloc: Global,
+    zeros: usize,
+    line: &str,
+    wanted: &str,
+) -> Result<(), Fail> {
+    let objects = large(alloc, zeros, line)?;
+    let told = match linked(alloc, &objects, "s")? {
+        Ok(image) => {
+            let size = image.size;
+            format!(in alloc; "{size:x}")?
+        }
+        Err(end) => said(alloc, end)?,
+    };
+    assert!(rt; told.as_str() == wanted, "told {told}, wanted {wanted}");
+    Ok(())
+}
+
 /// An image may take 4 MiB, its relocations counted, and no byte more.
 #[test]
 fn tells_what_is_too_large(rt: HostRuntime) -> Result<(), Fail> {
     let alloc = rt.alloc();
-    for (zeros, line, wanted) in [
-        (0xF_EFFE, "", "linked"),
-        (0xF_F000, "", "Size"),
-        (0xF_DFF6, ".dq s", "linked"),
-        (0xF_DFF8, ".dq s", "Size"),
-        (0xF_DFF8, ".dq u", "Undefined u"),
-    ] {
-        let told = match linked(alloc, &large(alloc, zeros, line)?, "s")? {
-            Ok(image) if image.size == 0x40_0000 => String::from_str(alloc, "linked")?,
-            Ok(_) => String::from_str(alloc, "another size")?,
-            Err(end) => said(alloc, end)?,
-        };
-        assert!(rt; told.as_str() == wanted, "told {told}, wanted {wanted}");
-    }
-    Ok(())
+    tells_size(&rt, alloc, 0xF_EFFE, "", "400000")?;
+    tells_size(&rt, alloc, 0xF_F000, "", "Size")?;
+    tells_size(&rt, alloc, 0xF_DFF6, ".dq s", "400000")?;
+    tells_size(&rt, alloc, 0xF_DFF8, ".dq s", "Size")?;
+    tells_size(&rt, alloc, 0xF_DFF8, ".dq u", "Undefined u")
 }

@@ -210,11 +210,12 @@ code_lists table = do
   point ← tables_at point_of [] (codes "point") 16384 table
   Ok (record { function = function; point = point })
 
--- the lists of native calls: signatures and sites
+-- the lists of native calls, signatures and sites; the text may have no keys but those of notes
 unfoldable pub call_lists : Members → Result CallLists TomlFault
 call_lists table = do
   signature ← signatures_at [] table
   site ← tables_at site_of [] (codes "site") greatest_32 table
+  _ ← only_keys [] draft_keys table
   Ok (record { signature = signature; site = site })
 
 -- all lists
@@ -231,7 +232,6 @@ draft_of table = do
   version ← number_at [] (codes "version") 1 1 table
   entry ← text_at name_of [] (codes "entry") table
   lists ← draft_lists table
-  _ ← only_keys [] draft_keys table
   Ok (record {
     version = version;
     entry = entry;

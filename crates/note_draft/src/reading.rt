@@ -408,6 +408,26 @@ fn code_lists(alloc: Global, table: &Table) -> Result<CodeLists, NotesEnd>
     })
 }
 
+fn only_draft_keys(alloc: Global, table: &Table) -> Result<(), NotesEnd>
+    ensures { Gives result (only_keys [] draft_keys (table_view table.now)) }
+{
+    let row = Row { prefix: "", table };
+    row.only_keys(
+        alloc,
+        &[
+            "version",
+            "entry",
+            "shape",
+            "static",
+            "thunk",
+            "function",
+            "point",
+            "signature",
+            "site",
+        ],
+    )
+}
+
 /// The lists of native calls.
 #[derive(Drop)]
 pub struct CallLists {
@@ -415,6 +435,7 @@ pub struct CallLists {
     pub site: Sequence<SiteDraft>,
 }
 
+// The lists of native calls; the text may have no keys but those of notes.
 #[tactic(auto, unfolding(crate::specs::Drafts::call_lists))]
 fn call_lists(alloc: Global, table: &Table) -> Result<CallLists, NotesEnd>
     ensures lists { Gives result (call_lists (table_view table.now)) }
@@ -423,6 +444,7 @@ fn call_lists(alloc: Global, table: &Table) -> Result<CallLists, NotesEnd>
     let row = Row { prefix: "", table };
     let signature = signatures(alloc, row)?;
     let site = row.tables::<SiteDraft>(alloc, "site", MAX_TABLES)?;
+    only_draft_keys(alloc, table)?;
     Ok(CallLists {
         signature: Sequence::new(signature),
         site: Sequence::new(site),
@@ -454,26 +476,6 @@ fn draft_lists(alloc: Global, table: &Table) -> Result<DraftLists, NotesEnd>
     })
 }
 
-fn only_draft_keys(alloc: Global, table: &Table) -> Result<(), NotesEnd>
-    ensures { Gives result (only_keys [] draft_keys (table_view table.now)) }
-{
-    let row = Row { prefix: "", table };
-    row.only_keys(
-        alloc,
-        &[
-            "version",
-            "entry",
-            "shape",
-            "static",
-            "thunk",
-            "function",
-            "point",
-            "signature",
-            "site",
-        ],
-    )
-}
-
 /// The draft that a table stands for, the whole text of notes.
 ///
 /// # Errors
@@ -491,7 +493,6 @@ pub fn read_draft(alloc: Global, table: &Table) -> Result<NotesDraft, NotesEnd>
     let version = row.number(alloc, "version", 1, 1)?;
     let entry = row.text::<Name>(alloc, "entry")?;
     let lists = draft_lists(alloc, table)?;
-    only_draft_keys(alloc, table)?;
     let DraftLists {
         things,
         code,

@@ -9,7 +9,7 @@ const NOTES: &[u8] = b"version = 1
 entry = 'main'
 function = [{ name = 'main', place = 16, end = 32, level = 0, need = [0, 0], result = 'any' }]";
 
-fn no_text<T>(read: Result<T, NotesEnd>) -> Result<(), Fail> {
+fn no_text<T: Drop>(read: Result<T, NotesEnd>) -> Result<(), Fail> {
     match read {
         Err(NotesEnd::Fault(TomlFault::NotToml)) => Ok(()),
         _ => Err(Fail::new("bytes that are no text are read")),

@@ -100,7 +100,8 @@ methods_named table =
     ok_then (Each HasNamedMethod) P (signatures_at [] table) _
     (ok_next (Each HasNamedMethod) (list_at [] (codes "signature") greatest_32 table) (signatures_from [] ([] ++ codes "signature") 0)
     (λ ds. methods_from [] ([] ++ codes "signature") 0 ds))
-    (λ signatures are. ok_next P (tables_at site_of [] (codes "site") greatest_32 table) _ (λ sites. are))
+    (λ signatures are. ok_next P (tables_at site_of [] (codes "site") greatest_32 table) _
+    (λ sites. ok_next P (only_keys [] draft_keys table) _ (λ _. are)))
 
 -- ---- the draft
 
@@ -126,5 +127,4 @@ draft_named table =
     ok_next IsNamed (number_at [] (codes "version") 1 1 table) _
     (λ version. ok_next IsNamed (text_at name_of [] (codes "entry") table) _
     (λ entry. ok_then AreNamed IsNamed (draft_lists table) _ (lists_named table)
-    (λ lists named. ok_next IsNamed (only_keys [] draft_keys table) _
-    (λ _. record { functions = named.functions; methods = named.methods }))))
+    (λ lists named. record { functions = named.functions; methods = named.methods })))

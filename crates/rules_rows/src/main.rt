@@ -9,18 +9,24 @@ mod row;
 mod tables;
 mod texts;
 
+use note_types::Notes;
 use notes::notes;
 use std::io::{self, BufRead, BufReader};
 use tables::Tables;
 
 fn main(rt: HostRuntime) -> io::Result<()> {
+    match notes(rt.alloc()) {
+        Some(notes) => try_rows(&rt, &notes),
+        None => print!(rt; "the notes can't be read\n"),
+    }
+}
+
+// Tries the rows under these notes.
+fn try_rows(rt: &HostRuntime, notes: &Notes) -> io::Result<()> {
     let alloc = rt.alloc();
-    let Some(notes) = notes(alloc) else {
-        return print!(rt; "the notes can't be read\n");
-    };
     let mut tables = Tables::new(alloc);
     for line in BufReader::new(alloc, rt.reader())?.lines(alloc) {
-        let told = tables.tell(alloc, &notes, line?.as_str())?;
+        let told = tables.tell(alloc, notes, line?.as_str())?;
         print!(rt; "{told}")?;
     }
     Ok(())

@@ -60,13 +60,14 @@ impl Tables {
         kind: Kind,
         line: &str,
     ) -> Result<String, AllocError> {
-        match holds(notes, kind, line) {
+        let word = match holds(notes, kind, line) {
             Some(true) => {
                 self.held = self.held.saturating_add(1);
-                Ok(String::new(alloc))
+                return Ok(String::new(alloc));
             }
-            Some(false) => format!(in alloc; "otherwise: {line}\n"),
-            None => format!(in alloc; "no row: {line}\n"),
-        }
+            Some(false) => "otherwise",
+            None => "no row",
+        };
+        format!(in alloc; "{word}: {line}\n")
     }
 }

@@ -8,6 +8,7 @@ use Rattle.note_types.specs.declared.fault.NotesEnd.{NotesEnd}
 use Rattle.note_types.specs.declared.fault.NotesEnd.TheVariants as ends
 use Rattle.ebc_base.specs.Steps.{◌>>=◌}
 use Rattle.note_texts.specs.Outcome.{Fails}
+use Rattle.note_texts.proofs.Loop.{with_front}
 use Rattle.script_draft.specs.Lists.{all_of, all_pass, each_of}
 
 -- the items from number i on, of which there is one
@@ -78,39 +79,36 @@ all-done gives front total so_far =
 
 -- ---- each_of
 
--- what was given before, and what is still given
-abbrev pub after : {A : Type 0} → List A → Result (List A) TomlFault → Result (List A) TomlFault
-after front given = given >>= λ ys. Ok (front ++ ys)
+pub with_front-none : {A : Type 0} (given : Result (List A) TomlFault) → with_front [] given ≡ given
+with_front-none (Ok ys) = refl
+with_front-none (Err f) = refl
 
-pub after-none : {A : Type 0} (given : Result (List A) TomlFault) → after [] given ≡ given
-after-none (Ok ys) = refl
-after-none (Err f) = refl
-
-after-one : {A : Type 0} (front : List A) (y : A) (given : Result (List A) TomlFault)
-    → after front (given >>= λ ys. Ok (y ∷ ys)) ≡ after (front ++ y ∷ []) given
-after-one front y (Ok ys) = ap Ok (simp append_assoc)
-after-one front y (Err f) = refl
+with_front-one : {A : Type 0} (front : List A) (y : A) (given : Result (List A) TomlFault)
+    → with_front front (given >>= λ ys. Ok (y ∷ ys)) ≡ with_front (front ++ y ∷ []) given
+with_front-one front y (Ok ys) = ap Ok (simp append_assoc)
+with_front-one front y (Err f) = refl
 
 module _ {A B : Type 0} (gives : ℕ → A → Result B TomlFault) (front : List B) (i : ℕ) (xs : List A)
     (total : Result (List B) TomlFault) where
-  pub each-on : (x : A) (y : B) → i < length xs → x ≡ get_or xs i x → gives i x ≡ Ok y → after front (each_of gives i (drop i xs)) ≡ total
-      → after (front ++ y ∷ []) (each_of gives (i + 1) (drop (i + 1) xs)) ≡ total
+  pub each-on : (x : A) (y : B) → i < length xs → x ≡ get_or xs i x → gives i x ≡ Ok y
+      → with_front front (each_of gives i (drop i xs)) ≡ total
+      → with_front (front ++ y ∷ []) (each_of gives (i + 1) (drop (i + 1) xs)) ≡ total
   unfolding each_of
   each-on x y lt same h so_far =
-      let one : after front (each_of gives i (drop i xs)) ≡ after (front ++ y ∷ []) (each_of gives (i + 1) (drop (i + 1) xs))
-      = rw (from_item xs i x lt same, h) (after-one front y (each_of gives (i + 1) (drop (i + 1) xs))) in
+      let one : with_front front (each_of gives i (drop i xs)) ≡ with_front (front ++ y ∷ []) (each_of gives (i + 1) (drop (i + 1) xs))
+      = rw (from_item xs i x lt same, h) (with_front-one front y (each_of gives (i + 1) (drop (i + 1) xs))) in
       sym one ∙ so_far
 
   pub each-stop : (e : NotesEnd) (x : A) → i < length xs → x ≡ get_or xs i x → Fails e (gives i x)
-      → after front (each_of gives i (drop i xs)) ≡ total → Fails e total
+      → with_front front (each_of gives i (drop i xs)) ≡ total → Fails e total
   unfolding each_of
   each-stop ends.NoMemory x lt same h so_far = tt
   each-stop (ends.Fault f) x lt same h so_far =
-      let one : after front (each_of gives i (drop i xs)) ≡ Err f = rw (from_item xs i x lt same, h) refl in
+      let one : with_front front (each_of gives i (drop i xs)) ≡ Err f = rw (from_item xs i x lt same, h) refl in
       sym so_far ∙ one
 
-  pub each-done : length xs ≤ i → after front (each_of gives i (drop i xs)) ≡ total → total ≡ Ok front
+  pub each-done : length xs ≤ i → with_front front (each_of gives i (drop i xs)) ≡ total → total ≡ Ok front
   unfolding each_of
   each-done past so_far =
-      let one : after front (each_of gives i (drop i xs)) ≡ Ok front = rw (none_left xs i past) (ap Ok (append-nil front)) in
+      let one : with_front front (each_of gives i (drop i xs)) ≡ Ok front = rw (none_left xs i past) (ap Ok (append-nil front)) in
       sym so_far ∙ one

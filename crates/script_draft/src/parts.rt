@@ -39,130 +39,106 @@ pub struct WriteText {
     pub value: ValueText,
 }
 
-#[tactic(auto, unfolding(crate::specs::PartTexts::cell_value_of))]
-fn cell_value_of(alloc: Global, text: &str) -> Result<Option<CellValueText>, AllocError>
-    ensures { IfOk result (λ cell. cell ≡ cell_value_of text.now) }
-{
-    let Some((instance, rest)) = split_at(b' ', text) else {
-        return Ok(None);
-    };
-    let Some((field, value)) = split_at(b' ', rest) else {
-        return Ok(None);
-    };
-    let Some(instance) = number_of(instance.as_bytes()) else {
-        return Ok(None);
-    };
-    let Some(field) = Name::from_text(alloc, field)? else {
-        return Ok(None);
-    };
-    let Some(value) = ValueText::from_text(alloc, value)? else {
-        return Ok(None);
-    };
-    Ok(Some(CellValueText {
-        instance,
-        field,
-        value,
-    }))
-}
-
 impl FromText for CellValueText {
     ghost reads_as = { cell_value_of };
 
+    #[tactic(auto, unfolding(crate::specs::PartTexts::cell_value_of))]
     fn from_text(alloc: Global, text: &str) -> Result<Option<Self>, AllocError>
         ensures value { IfOk result (λ cell. cell ≡ cell_value_of text.now) }
     {
-        cell_value_of(alloc, text)
+        let Some((instance, rest)) = split_at(b' ', text) else {
+            return Ok(None);
+        };
+        let Some((field, value)) = split_at(b' ', rest) else {
+            return Ok(None);
+        };
+        let Some(instance) = number_of(instance.as_bytes()) else {
+            return Ok(None);
+        };
+        let Some(field) = Name::from_text(alloc, field)? else {
+            return Ok(None);
+        };
+        let Some(value) = ValueText::from_text(alloc, value)? else {
+            return Ok(None);
+        };
+        Ok(Some(CellValueText {
+            instance,
+            field,
+            value,
+        }))
     }
-}
-
-#[tactic(auto, unfolding(crate::specs::PartTexts::callback_of))]
-fn callback_of(alloc: Global, text: &str) -> Result<Option<CallbackText>, AllocError>
-    ensures { IfOk result (λ callback. callback ≡ callback_of text.now) }
-{
-    let (name, rest) = parts_at(b' ', text);
-    let Some(function) = Name::from_text(alloc, name)? else {
-        return Ok(None);
-    };
-    let Some(rest) = rest else {
-        return Ok(Some(CallbackText {
-            function,
-            values: Sequence::new(Vec::new(alloc)),
-        }));
-    };
-    let Some(values) = values_of(alloc, rest)? else {
-        return Ok(None);
-    };
-    Ok(Some(CallbackText { function, values }))
 }
 
 impl FromText for CallbackText {
     ghost reads_as = { callback_of };
 
+    #[tactic(auto, unfolding(crate::specs::PartTexts::callback_of))]
     fn from_text(alloc: Global, text: &str) -> Result<Option<Self>, AllocError>
         ensures value { IfOk result (λ callback. callback ≡ callback_of text.now) }
     {
-        callback_of(alloc, text)
+        let (name, rest) = parts_at(b' ', text);
+        let Some(function) = Name::from_text(alloc, name)? else {
+            return Ok(None);
+        };
+        let Some(rest) = rest else {
+            return Ok(Some(CallbackText {
+                function,
+                values: Sequence::new(Vec::new(alloc)),
+            }));
+        };
+        let Some(values) = values_of(alloc, rest)? else {
+            return Ok(None);
+        };
+        Ok(Some(CallbackText { function, values }))
     }
-}
-
-#[tactic(auto, unfolding(crate::specs::PartTexts::out_of))]
-fn out_of(alloc: Global, text: &str) -> Result<Option<OutText>, AllocError>
-    ensures { IfOk result (λ out. out ≡ out_of text.now) }
-{
-    let Some((argument, value)) = split_at(b' ', text) else {
-        return Ok(None);
-    };
-    let Some(argument) = number_of(argument.as_bytes()) else {
-        return Ok(None);
-    };
-    let Some(value) = ValueText::from_text(alloc, value)? else {
-        return Ok(None);
-    };
-    Ok(Some(OutText { argument, value }))
 }
 
 impl FromText for OutText {
     ghost reads_as = { out_of };
 
+    #[tactic(auto, unfolding(crate::specs::PartTexts::out_of))]
     fn from_text(alloc: Global, text: &str) -> Result<Option<Self>, AllocError>
         ensures value { IfOk result (λ out. out ≡ out_of text.now) }
     {
-        out_of(alloc, text)
+        let Some((argument, value)) = split_at(b' ', text) else {
+            return Ok(None);
+        };
+        let Some(argument) = number_of(argument.as_bytes()) else {
+            return Ok(None);
+        };
+        let Some(value) = ValueText::from_text(alloc, value)? else {
+            return Ok(None);
+        };
+        Ok(Some(OutText { argument, value }))
     }
-}
-
-#[tactic(auto, unfolding(crate::specs::PartTexts::write_of))]
-fn write_of(alloc: Global, text: &str) -> Result<Option<WriteText>, AllocError>
-    ensures { IfOk result (λ write. write ≡ write_of text.now) }
-{
-    let Some((object, rest)) = split_at(b' ', text) else {
-        return Ok(None);
-    };
-    let Some(object) = number_of(object.as_bytes()) else {
-        return Ok(None);
-    };
-    let Some(cell) = CellValueText::from_text(alloc, rest)? else {
-        return Ok(None);
-    };
-    let CellValueText {
-        instance,
-        field,
-        value,
-    } = cell;
-    Ok(Some(WriteText {
-        object,
-        instance,
-        field,
-        value,
-    }))
 }
 
 impl FromText for WriteText {
     ghost reads_as = { write_of };
 
+    #[tactic(auto, unfolding(crate::specs::PartTexts::write_of))]
     fn from_text(alloc: Global, text: &str) -> Result<Option<Self>, AllocError>
         ensures value { IfOk result (λ write. write ≡ write_of text.now) }
     {
-        write_of(alloc, text)
+        let Some((object, rest)) = split_at(b' ', text) else {
+            return Ok(None);
+        };
+        let Some(object) = number_of(object.as_bytes()) else {
+            return Ok(None);
+        };
+        let Some(cell) = CellValueText::from_text(alloc, rest)? else {
+            return Ok(None);
+        };
+        let CellValueText {
+            instance,
+            field,
+            value,
+        } = cell;
+        Ok(Some(WriteText {
+            object,
+            instance,
+            field,
+            value,
+        }))
     }
 }

@@ -517,7 +517,7 @@ call_lists-bounds table =
     ok_then IsSignatureList AreCalls (signatures_at [] table) _ (signatures_at-bounds table)
     (λ signature a. ok_then (IsList greatest_32 (λ o. IsPlace o.place)) AreCalls (tables_at site_of [] (codes "site") greatest_32 table) _
     (tables_at-bounds (λ o. IsPlace o.place) site_of (codes "site") greatest_32 table site_of-bounds)
-    (λ site b. record { signature = a; site = b }))
+    (λ site b. ok_next AreCalls (only_keys [] _ table) _ (λ _. record { signature = a; site = b })))
 
 record AreLists (x : DraftLists) : Type 0 where
   pub things : AreData x.things
@@ -549,8 +549,7 @@ draft_of-bounds table =
     ok_then (IsWithin 1 1) IsDraft (number_at [] (codes "version") 1 1 table) _ (number_at-bounds [] (codes "version") 1 1 table)
     (λ version one. ok_next IsDraft (text_at name_of [] (codes "entry") table) _
     (λ entry. ok_then AreLists IsDraft (draft_lists table) _ (draft_lists-bounds table)
-    (λ lists are. ok_next IsDraft (only_keys [] _ table) _
-    (λ _. let low : 1 ≤ version = one.0 in let high : version ≤ 1 = one.1 in
+    (λ lists are. let low : 1 ≤ version = one.0 in let high : version ≤ 1 = one.1 in
     record {
       version = omega arith;
       shape = are.things.shape;
@@ -560,4 +559,4 @@ draft_of-bounds table =
       point = are.code.point;
       signature = are.calls.signature;
       site = are.calls.site;
-    }))))
+    })))

@@ -479,6 +479,36 @@ fn methods_of(alloc: Global, names: NameTables) -> Result<Names, NoMemory>
     Ok(method.into_names(alloc)?)
 }
 
+// The notes that have these lists, and the methods of the names.
+fn notes_of_lists(
+    alloc: Global,
+    version: u32,
+    entry: u32,
+    lists: ListNotes,
+    names: NameTables,
+) -> Result<Notes, NoMemory>
+    ensures { IfOk result (λ notes. notes ≡ record { version = version; entry = entry; shape = lists.things.shape; statics = lists.things.statics; thunk = lists.things.thunk; function = lists.code.function; point = lists.code.point; signature = lists.calls.signature; site = lists.calls.site; methods = names.method }) }
+{
+    let methods = methods_of(alloc, names)?;
+    let ListNotes {
+        things,
+        code,
+        calls,
+    } = lists;
+    Ok(Notes {
+        version,
+        entry,
+        shape: things.shape,
+        statics: things.statics,
+        thunk: things.thunk,
+        function: code.function,
+        point: code.point,
+        signature: calls.signature,
+        site: calls.site,
+        methods,
+    })
+}
+
 /// The notes that a draft stands for. The owner of a point is the number of its function.
 ///
 /// # Errors
@@ -496,22 +526,5 @@ pub fn resolve_notes(
 {
     let entry = names.function.number(&draft.entry);
     let lists = resolve_lists(alloc, &names, draft, owners)?;
-    let methods = methods_of(alloc, names)?;
-    let ListNotes {
-        things,
-        code,
-        calls,
-    } = lists;
-    Ok(Notes {
-        version: draft.version,
-        entry,
-        shape: things.shape,
-        statics: things.statics,
-        thunk: things.thunk,
-        function: code.function,
-        point: code.point,
-        signature: calls.signature,
-        site: calls.site,
-        methods,
-    })
+    notes_of_lists(alloc, draft.version, entry, lists, names)
 }

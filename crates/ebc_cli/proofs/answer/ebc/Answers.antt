@@ -1,6 +1,7 @@
 use Rattle.std.proofs.Common.{◌≡◌, ◌⊎◌, None, ◌∙◌}
 use Rattle.ebc_cli.proofs.HeadlineLemmas.{Tells, answer-ok, answer-stop, answers, leaves-part, exactly, alike, refused, lists-always}
 use Rattle.ebc_cli.proofs.HeadlineLemmas.{lists-exactly, assembles-always, assembles-exactly, bad-source-line, wraps-always, wraps-exactly}
+use Rattle.ebc_cli.proofs.HeadlineLemmas.{links-always, links-exactly, bad-link-line}
 use Rattle.ebc_cli.proofs.HeadlineLemmas.{lists-rom-always, lists-rom-exactly, takes-always, takes-exactly, bad-rom-line, bad-taking-line}
 use Rattle.ebc_cli.proofs.HeadlineLemmas.{bad-input, missing, too-large, neutral-printed, refused-printed, plain-alike, plain-exactly}
 use Rattle.ebc_cli.proofs.HeadlineLemmas.{plain-refused, plain-neutral-printed, plain-refused-printed, unput, untold}
@@ -62,6 +63,15 @@ returns-clause-assembles_exactly g c = assembles-exactly _ _ _ _ _ (tells g c) (
 
 pub returns-clause-bad_source_line : goal.returns-clause-bad_source_line
 returns-clause-bad_source_line g c = bad-source-line _ _ _ _ _ _ (tells g c) c.finish.ensures.text
+
+pub returns-clause-links_always : goal.returns-clause-links_always
+returns-clause-links_always g c = links-always _ _ _ _ (tells g c)
+
+pub returns-clause-links_exactly : goal.returns-clause-links_exactly
+returns-clause-links_exactly g c = links-exactly _ _ _ _ _ (tells g c) (rw c.decide.ensures.contents at c.finish.ensures.files)
+
+pub returns-clause-bad_link_line : goal.returns-clause-bad_link_line
+returns-clause-bad_link_line g c = bad-link-line _ _ _ _ _ _ (tells g c) c.finish.ensures.text
 
 pub returns-clause-wraps_always : goal.returns-clause-wraps_always
 returns-clause-wraps_always g c = wraps-always _ _ _ _ (tells g c)

@@ -2,13 +2,13 @@ use Rattle.std.specs.Prelude.{codes}
 use Rattle.std.proofs.lemmas.Result.{err_from_is_err_and}
 use Rattle.note_texts.specs.Keys.{row_prefix}
 use Rattle.script_draft.specs.Lists.{each_of}
-use Rattle.script_draft.proofs.ListLaws.{after-none, each-on, each-stop, each-done}
+use Rattle.script_draft.proofs.ListLaws.{with_front-none, each-on, each-stop, each-done}
 use Rattle.protocol_script.specs.Resolved.{resolved_call, resolved_calls}
 use Rattle.protocol_script.proofs.resolve.resolve_calls.Goals as goal
 
 pub loop-i-init : goal.loop-i-init
 unfolding resolved_calls
-loop-i-init c = rw c.new-values.ensures.items (after-none (each_of
+loop-i-init c = rw c.new-values.ensures.items (with_front-none (each_of
     (λ i o. resolved_call c.args.notes.now c.args.shapes.now (row_prefix (codes "call") i) o) 0 c.args.calls.now))
 
 pub returns-in_err-resolve_item_call : goal.returns-in_err-resolve_item_call

@@ -1,11 +1,16 @@
 use Rattle.std.proofs.Common.{◌≡◌, ◌+◌, ◌++◌, drop, length}
 use Rattle.ebc_link.specs.Fixups.{filled_section}
 use Rattle.ebc_link.specs.Layout.{section_from}
-use Rattle.ebc_link.specs.Walks.{defined_in, laid_in}
+use Rattle.ebc_link.specs.Walks.{ArePacked, defined_in, laid_in}
 use Rattle.ebc_link.proofs.resolved.Resolved.bytes.Given as goal
 
 abbrev pub invariant-loop-number : goal.invariant-loop-number
 invariant-loop-number l =
-    let filled = filled_section l.section l.base (defined_in l.self) in
-    l.bytes.items ++ section_from l.section filled (l.start + length l.bytes.items) (drop l.number (laid_in l.self))
-    ≡ section_from l.section filled l.start (laid_in l.self)
+    record {
+      joined : l.bytes.items
+          ++ section_from l.section (filled_section l.section l.base (defined_in l.self)) (l.start + length l.bytes.items)
+          (drop l.number (laid_in l.self))
+          ≡ section_from l.section (filled_section l.section l.base (defined_in l.self)) l.start (laid_in l.self);
+      packed : ArePacked l.section (filled_section l.section l.base (defined_in l.self)) (l.start + length l.bytes.items)
+          (drop l.number (laid_in l.self));
+    }

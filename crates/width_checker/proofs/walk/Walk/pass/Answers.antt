@@ -261,6 +261,7 @@ returns-clause-passes c =
         comes = λ less. subst (λ b. ComesTo image n c.args.self.now.func f c.args.next (only_if b c.advance.new.s))
             (sym c.falls-marks.ensures)
             (comes_next image n c.args.self.now.func f c.args.at c.args.next _ s i c.advance.new.s c.advance.new.taken
-            c.in_ok-path.path comes ((c.arrive-arrived_below.ensures.arrives s).0 (come_true _ s c.if-not-marks.false)) c.requires.decode less row);
+            c.in_ok-path.path comes ((c.arrive-arrived_below.ensures.arrives s).0 (come_true _ s c.if-not-marks.false))
+            c.requires.decode less row);
       };
     }

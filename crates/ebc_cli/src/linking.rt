@@ -1,0 +1,157 @@
+//! Reading a link plan and the objects that it names, and linking them.
+ghost use Rattle.std.specs.Prelude.{◌≡◌, ◌≤◌, All, None, Err, Ok, Some, IfSome, IfOk, IsErrOf, length};
+ghost use Rattle.ebc_link.specs.Plans.{IsPlan};
+ghost use Rattle.ebc_object.specs.Objects.{IsObject};
+ghost use Rattle.ebc_outside.specs.Counts.{Rose};
+ghost use Rattle.pe_image.specs.Linked.{IsLinked};
+ghost use Rattle.ebc_cli.specs.Inputs.{Means, bad_reply, input, link_meaning, object_limit, object_meaning};
+ghost use Rattle.ebc_cli.specs.Linkings.{each_object, linked_by, linked_image};
+ghost use Rattle.ebc_cli.specs.Outcomes.{IsBadInput};
+ghost use Rattle.ebc_cli.specs.Outputs.{written_name};
+ghost use Rattle.ebc_cli.specs.Readings.{Follows, IfStop, CommandAnswer};
+
+use crate::input::read_as;
+use crate::reading::file;
+use crate::reply::End;
+use crate::text;
+use ebc_base::{Name, Sequence};
+use ebc_link::{LinkEnd, LinkPlan, link};
+use ebc_object::{Object, ObjectEnd, read_object};
+use ebc_outside::Folder;
+use pe_image::Image;
+use std::alloc::Global;
+
+/// How many bytes the file of an object may have.
+const OBJECT_LIMIT: u64 = 1048576;
+
+// The object that a file of this name stands for.
+#[tactic(auto, unfolding(crate::specs::Inputs::input))]
+fn read_object_file<F: Folder>(alloc: Global, name: &str, folder: &mut F) -> Result<Object, End>
+    ensures follows { IfSome (F.contents folder.old) (λ files.
+        Follows (F.asked folder.old) (F.asked folder.new) result (input object_limit object_meaning 1 name.now files)) }
+    ensures stop { IfStop result (CommandAnswer (F.contents folder.old)
+        (F.read_faults folder.old) (F.read_faults folder.new)) }
+    ensures fault { IsErrOf result End.ReadFault →
+        Rose (F.read_faults folder.old) (F.read_faults folder.new) }
+    ensures uncounted { IfSome (F.contents folder.old) (λ _. ¬ IsErrOf result End.ReadFault →
+        F.read_faults folder.new ≡ F.read_faults folder.old) }
+    ensures count { F.read_faults folder.old ≤ F.read_faults folder.new }
+    ensures contents { F.contents folder.new ≡ F.contents folder.old }
+    ensures write_faults { F.write_faults folder.new ≡ F.write_faults folder.old }
+    ensures object { IfOk result IsObject }
+{
+    let bytes = file(alloc, folder, 1, name, OBJECT_LIMIT)?;
+    match read_object(alloc, bytes.as_slice()) {
+        Ok(object) => Ok(object),
+        Err(ObjectEnd::Fault { kind, offset }) => {
+            Err(End::Stop(text::bad_object(alloc, 1, name, kind, offset)?))
+        }
+        Err(ObjectEnd::NoMemory) => Err(End::NoMemory),
+    }
+}
+
+// The objects of these names.
+fn read_objects<F: Folder>(
+    alloc: Global,
+    names: &[Name],
+    folder: &mut F,
+) -> Result<Sequence<Object>, End>
+    ensures follows { IfSome (F.contents folder.old) (λ files.
+        Follows (F.asked folder.old) (F.asked folder.new) result (each_object names.now files)) }
+    ensures stop { IfStop result (CommandAnswer (F.contents folder.old)
+        (F.read_faults folder.old) (F.read_faults folder.new)) }
+    ensures fault { IsErrOf result End.ReadFault →
+        Rose (F.read_faults folder.old) (F.read_faults folder.new) }
+    ensures uncounted { IfSome (F.contents folder.old) (λ _. ¬ IsErrOf result End.ReadFault →
+        F.read_faults folder.new ≡ F.read_faults folder.old) }
+    ensures count { F.read_faults folder.old ≤ F.read_faults folder.new }
+    ensures contents { F.contents folder.new ≡ F.contents folder.old }
+    ensures write_faults { F.write_faults folder.new ≡ F.write_faults folder.old }
+    ensures objects { IfOk result (λ objects. All IsObject objects) }
+    ensures many { IfOk result (λ objects. length objects ≡ length names.now) }
+{
+    let mut objects = Vec::new(alloc);
+    for name in names {
+        let object = read_object_file(alloc, name.as_str(), folder)?;
+        objects.push(object)?;
+    }
+    Ok(Sequence::new(objects))
+}
+
+// The answer to objects that aren't linked by the plan of this name.
+fn unlinked(alloc: Global, name: &str, number: u8, fault: &str, detail: &str) -> Result<Image, End>
+    ensures meaning { Means result (Err (bad_reply 1 name.now number fault.now detail.now)) }
+    ensures stop { IfStop result (λ reply. IsBadInput reply.outcome) }
+    ensures output { IfStop result (λ reply. written_name reply.output ≡ None) }
+{
+    Err(End::Stop(text::bad(alloc, 1, name, number, fault, detail)?))
+}
+
+// What the objects are linked to, or the answer to the first fault.
+fn linked(alloc: Global, name: &str, objects: &[Object], plan: &LinkPlan) -> Result<Image, End>
+    requires objects { All IsObject objects.now }
+    requires plan { IsPlan plan.now }
+    requires count { length objects.now ≡ length plan.now.objects }
+    ensures image { Means result (link_meaning 1 name.now objects.now plan.now) }
+    ensures layout { IfOk result IsLinked }
+    ensures stop { IfStop result (λ reply. IsBadInput reply.outcome) }
+    ensures output { IfStop result (λ reply. written_name reply.output ≡ None) }
+{
+    match link(alloc, objects, plan) {
+        Ok(image) => Ok(image),
+        Err(LinkEnd::Undefined(symbol)) => unlinked(alloc, name, 1, "undefined", symbol.as_str()),
+        Err(LinkEnd::Twice(symbol)) => unlinked(alloc, name, 2, "twice", symbol.as_str()),
+        Err(LinkEnd::Far(place)) => {
+            let place = format!(in alloc; "{place}")?;
+            unlinked(alloc, name, 3, "far", place.as_str())
+        }
+        Err(LinkEnd::Entry) => unlinked(alloc, name, 4, "entry", plan.entry.as_str()),
+        Err(LinkEnd::Size) => unlinked(alloc, name, 5, "size", "-"),
+        Err(LinkEnd::NoMemory) => Err(End::NoMemory),
+    }
+}
+
+// What the objects of a plan are linked to.
+#[tactic(auto, unfolding(crate::specs::Linkings::linked_by))]
+fn read_objects_of<F: Folder>(
+    alloc: Global,
+    name: &str,
+    plan: &LinkPlan,
+    folder: &mut F,
+) -> Result<Image, End>
+    requires plan { IsPlan plan.now }
+    ensures follows { IfSome (F.contents folder.old) (λ files.
+        Follows (F.asked folder.old) (F.asked folder.new) result (linked_by name.now plan.now files)) }
+    ensures stop { IfStop result (CommandAnswer (F.contents folder.old)
+        (F.read_faults folder.old) (F.read_faults folder.new)) }
+    ensures fault { IsErrOf result End.ReadFault →
+        Rose (F.read_faults folder.old) (F.read_faults folder.new) }
+    ensures uncounted { IfSome (F.contents folder.old) (λ _. ¬ IsErrOf result End.ReadFault →
+        F.read_faults folder.new ≡ F.read_faults folder.old) }
+    ensures count { F.read_faults folder.old ≤ F.read_faults folder.new }
+    ensures contents { F.contents folder.new ≡ F.contents folder.old }
+    ensures write_faults { F.write_faults folder.new ≡ F.write_faults folder.old }
+    ensures layout { IfOk result IsLinked }
+{
+    let objects = read_objects(alloc, plan.objects.as_slice(), folder)?;
+    linked(alloc, name, objects.as_slice(), plan)
+}
+
+/// What the objects of the plan of this name are linked to, read one after the other behind the plan.
+#[tactic(auto, unfolding(crate::specs::Linkings::linked_image))]
+pub fn read_linked<F: Folder>(alloc: Global, name: &str, folder: &mut F) -> Result<Image, End>
+    ensures follows { IfSome (F.contents folder.old) (λ files.
+        Follows (F.asked folder.old) (F.asked folder.new) result (linked_image name.now files)) }
+    ensures stop { IfStop result (CommandAnswer (F.contents folder.old)
+        (F.read_faults folder.old) (F.read_faults folder.new)) }
+    ensures fault { IsErrOf result End.ReadFault →
+        Rose (F.read_faults folder.old) (F.read_faults folder.new) }
+    ensures uncounted { IfSome (F.contents folder.old) (λ _. ¬ IsErrOf result End.ReadFault →
+        F.read_faults folder.new ≡ F.read_faults folder.old) }
+    ensures contents { F.contents folder.new ≡ F.contents folder.old }
+    ensures write_faults { F.write_faults folder.new ≡ F.write_faults folder.old }
+    ensures layout { IfOk result IsLinked }
+{
+    let plan = read_as::<LinkPlan, F>(alloc, folder, 1, name)?;
+    read_objects_of(alloc, name, &plan, folder)
+}

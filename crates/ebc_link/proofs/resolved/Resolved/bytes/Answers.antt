@@ -1,0 +1,39 @@
+use Rattle.std.proofs.Common.{◌≡◌, ℕ, ◌+◌, ◌-◌, ◌++◌, List, drop, length, ap, ap₂, arith, rules, ◌∙◌}
+use Rattle.pe_image.specs.Files.{zeros}
+use Rattle.ebc_object.specs.Objects.{section_bytes}
+use Rattle.ebc_link.specs.Fixups.{bytes_for, filled_section, in_section, with_fixups}
+use Rattle.ebc_link.specs.Layout.{section_from, start_of}
+use Rattle.ebc_link.specs.Walks.{defined_in, laid_in, laid_of}
+use Rattle.ebc_link.proofs.BytesLaws.{section_all, section_more}
+use Rattle.ebc_link.proofs.LaidLaws.{length-laid}
+use Rattle.ebc_link.proofs.resolved.Resolved.bytes.Goals as goal
+
+pub loop-number-preserved : goal.loop-number-preserved
+loop-number-preserved c =
+    let r = c.args.self.now in
+    let ds = defined_in r in
+    let i = c.loop-number.number in
+    let p = c.piece-piece.result in
+    let section = c.args.section in
+    let old = c.loop-number.bytes.items in
+    let bytes = filled_section section c.args.base ds in
+    let whole = section_from section bytes c.args.start (laid_in r) in
+    let long : c.len.result ≡ length old = search rules in
+    let gap : c.start.result - (c.args.start + c.len.result) ≡ start_of p.home section - (c.args.start + length old) =
+    ap₂ (λ n m. n - (c.args.start + m)) c.start.ensures.start long in
+    let filled = λ (ps : List ℕ).
+    c.append_zeros.new.bytes.items ++ with_fixups (bytes_for c.args.base ps p.home)
+    (section_bytes p.object.now.code p.object.now.contents section) (in_section section p.object.now.fixups) in
+    let both =
+    section_more section bytes c.args.start (drop i (laid_in r)) (drop (i + 1) (laid_in r)) (laid_of p) old
+    c.append_zeros.new.bytes.items c.append_bytes.new.all.items whole c.piece-piece.ensures.laid c.loop-number.invariant.packed
+    (c.in_ok-append_zeros.ensures ∙ ap (λ n. old ++ zeros n) gap) (c.in_ok-append_bytes.ensures ∙ ap filled c.piece-piece.ensures.places)
+    c.loop-number.invariant.joined in
+    record { joined = both.0; packed = both.1 }
+
+pub returns : goal.returns
+returns c =
+    let r = c.args.self.now in
+    let long = length-laid r.objects.now r.homes.items c.requires.resolved.homes in
+    section_all c.args.section (filled_section c.args.section c.args.base (defined_in r)) _ c.loop-number.number (laid_in r)
+    c.loop-number.bytes.items _ (omega (arith, long, c.loop-number-test.false)) c.loop-number.invariant.joined

@@ -1,0 +1,30 @@
+use Rattle.std.proofs.Common.{◌+◌, drop, sym, ◌∙◌, arith}
+use Rattle.ebc_link.specs.Fixups.{far_in}
+use Rattle.ebc_link.proofs.ResolvedLaws.{far_so}
+use Rattle.ebc_link.specs.Walks.{defined_in, laid_in, laid_of}
+use Rattle.ebc_link.proofs.FirstLaws.{first_here, first_more, first_none}
+use Rattle.ebc_link.proofs.LaidLaws.{length-laid}
+use Rattle.ebc_link.proofs.resolved.Resolved.first_far.Goals as goal
+
+pub returns-in-Some : goal.returns-in-Some
+returns-in-Some c =
+    let r = c.args.self.now in
+    let i = c.loop-number.number in
+    let p = c.piece.result in
+    sym (first_here (far_in (defined_in r)) (laid_in r) (drop (i + 1) (laid_in r)) i (laid_of p) c.in-Some.place c.piece.ensures.laid
+    (far_so (defined_in r) p c.first_far.result c.piece.ensures.places c.first_far.ensures ∙ c.in-Some.is) c.loop-number.invariant)
+
+pub loop-number-preserved : goal.loop-number-preserved
+loop-number-preserved c =
+    let r = c.args.self.now in
+    let i = c.loop-number.number in
+    let p = c.piece.result in
+    first_more (far_in (defined_in r)) (laid_in r) (drop (i + 1) (laid_in r)) i (laid_of p) c.piece.ensures.laid
+    (far_so (defined_in r) p c.first_far.result c.piece.ensures.places c.first_far.ensures ∙ c.in_default.is) c.loop-number.invariant
+
+pub returns : goal.returns
+returns c =
+    let r = c.args.self.now in
+    let long = length-laid r.objects.now r.homes.items c.requires.homes in
+    sym (first_none (far_in (defined_in r)) (laid_in r) c.loop-number.number (omega (arith, long, c.loop-number-test.false))
+    c.loop-number.invariant)

@@ -1,0 +1,23 @@
+use Rattle.ebc_link.proofs.LaidLaws.{laid_more}
+use Rattle.ebc_link.proofs.ResolvedLaws.{is_at, length-places, low_at, object_at, places_at}
+use Rattle.ebc_link.specs.Walks.{defined_in}
+use Rattle.ebc_link.proofs.resolved.Resolved.piece.Goals as goal
+
+pub returns-clause-places : goal.returns-clause-places
+returns-clause-places c =
+    places_at c.args.self.now c.args.number c.index-self-number.result c.index.result.now c.as_slice.result.now c.index-2.result.now
+    c.requires.resolved c.requires.number c.index.ensures c.as_slice.ensures c.index-2.ensures
+
+pub returns-clause-laid : goal.returns-clause-laid
+returns-clause-laid c =
+    laid_more c.args.self.now.objects.now c.args.self.now.homes.items c.args.number _ c.index.result.now
+    (is_at c.args.self.now c.args.number c.index-self-number.result c.index.result.now c.requires.resolved c.requires.number
+    c.index.ensures)
+
+pub returns-clause-piece : goal.returns-clause-piece
+returns-clause-piece c =
+    record {
+      object = object_at c.args.self.now c.args.number c.index-self-number.result c.requires.resolved c.requires.number;
+      low = low_at c.args.self.now c.args.number c.index.result.now c.requires.resolved c.requires.number c.index.ensures;
+      places = length-places (defined_in c.args.self.now) _ c.index.result.now c.as_slice.result.now (returns-clause-places c);
+    }

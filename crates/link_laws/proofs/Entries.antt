@@ -1,0 +1,76 @@
+-- The label of the entry is made global where it stands.
+use Rattle.std.proofs.Common.{◌≡◌, ⊎_elim, ℕ, ◌+◌, ◌<◌, ◌≤◌, List, [], ◌∷◌, ◌++◌, length, Bool, true, false, cond}
+use Rattle.std.proofs.Common.{sym, ap, ◌∙◌, arith}
+use Rattle.std.proofs.Common.{length-drop, subst}
+use Rattle.std.specs.Prelude.{nat_eq}
+use Rattle.std.specs.List.{list_any}
+use Rattle.std.proofs.lemmas.Bool.{cases_lt, or_left, or_right}
+use Rattle.std.proofs.lemmas.Bool.Decides.{nat_tests}
+use Rattle.std.proofs.lemmas.List.{map-append}
+use Rattle.std.proofs.lemmas.List.Folds.{list_any-append}
+use Rattle.asm_text.specs.declared.listing.Listed.{Listed}
+use Rattle.asm_text.specs.declared.listing.Listed.TheVariants as listed
+use Rattle.asm_text.specs.Names.{label_text}
+use Rattle.asm_text.specs.Writing.{listed_line}
+use Rattle.ebc_asm.specs.Symbols.{makes_global}
+use Rattle.ebc_asm.proofs.NumberLaws.{same_bytes}
+use Rattle.pe_image.specs.declared.image.Image.{Image}
+use Rattle.ebc_disasm.specs.Listings.{is_inside, item_at, label_lines, labels}
+use Rattle.link_laws.proofs.PlaceLaws.{AreUncut, behind_item, cut_is, uncut_item}
+use Rattle.link_laws.proofs.Walks.{IsStep, walk}
+use Rattle.link_laws.proofs.Sources.{source}
+use Rattle.link_laws.proofs.Listings.{IsShown, all_lines, code_lines, data_lines, data_place, entry_labelled}
+
+-- one of these lines makes the entry global
+abbrev pub IsGlobal : Image → List Listed → Type 0
+IsGlobal image ls = list_any (makes_global (label_text image.entry)) (source ls) ≡ true
+
+global_front : (image : Image) (xs ys : List Listed) → IsGlobal image xs → IsGlobal image (xs ++ ys)
+global_front image xs ys h =
+    ap (list_any (makes_global (label_text image.entry))) (map-append listed_line xs ys)
+    ∙ (list_any-append (makes_global (label_text image.entry)) (source xs) (source ys) ∙ or_left _ _ h)
+
+global_back : (image : Image) (xs ys : List Listed) → IsGlobal image ys → IsGlobal image (xs ++ ys)
+global_back image xs ys h =
+    ap (list_any (makes_global (label_text image.entry))) (map-append listed_line xs ys)
+    ∙ (list_any-append (makes_global (label_text image.entry)) (source xs) (source ys) ∙ or_right _ _ h)
+
+global_here : (image : Image) (x : ℕ) → x ≡ image.entry → IsGlobal image (label_lines image x)
+unfolding label_lines
+global_here image x same =
+    let yes : nat_eq x image.entry ≡ true = grind (arith, nat_tests) in
+    let lines : Bool → List Listed = λ c.
+    cond c (listed.Global x ∷ listed.Label x ∷ []) (cond (list_any (nat_eq x) (labels image)) (listed.Label x ∷ []) []) in
+    let name : makes_global (label_text image.entry) (listed_line (listed.Global x)) ≡ true =
+    subst (λ y. makes_global (label_text image.entry) (listed_line (listed.Global y)) ≡ true) (sym same) (same_bytes
+    (label_text image.entry)) in
+    ap (λ c. list_any (makes_global (label_text image.entry)) (source (lines c))) yes ∙ or_left _ _ name
+
+abbrev HasEntry : Image → ℕ → List ℕ → List Listed → Type 0
+HasEntry image x bytes ls = x ≤ image.entry → image.entry < x + length bytes → IsGlobal image ls
+
+entry_step : (image : Image) (code : Bool) → AreUncut image → IsStep image code (HasEntry image)
+entry_step image code all x b bytes rest each item later from to =
+    let n : ℕ = (item_at image code x (b ∷ bytes)).1 in
+    let l : Listed = (item_at image code x (b ∷ bytes)).0 in
+    let within = item.within in
+    let left = length-drop n (b ∷ bytes) in
+    let uncut : list_any (is_inside x n) (labels image) ≡ false = cut_is image x n ∙ uncut_item image code x b bytes all in
+    ⊎_elim
+    (λ past.
+    let behind : x + n ≤ image.entry = behind_item (labels image) x n image.entry uncut (entry_labelled image) past in
+    global_back image (label_lines image x ++ l ∷ []) rest (later behind (omega (arith, to, left, within))))
+    (λ same.
+    global_front image (label_lines image x ++ l ∷ []) rest
+    (global_front image (label_lines image x) (l ∷ []) (global_here image x (omega (arith, same, from)))))
+    (cases_lt x image.entry)
+
+-- The lines of an image that is entered in its code make the entry global.
+pub entry_global : (image : Image) (text contents : List ℕ) → IsShown image text contents → IsGlobal image (all_lines image text contents)
+entry_global image text contents s =
+    let ls : List Listed = code_lines image text in
+    let here : IsGlobal image ls =
+    walk image true (HasEntry image) (λ x from to. absurd (omega (arith, from, to)))
+    (entry_step image true s.uncut) 0x1000 text s.text_bytes
+    s.entry_from s.entry_to in
+    global_front image ls (data_lines image (data_place text) contents) here

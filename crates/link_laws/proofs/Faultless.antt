@@ -1,0 +1,184 @@
+-- No fault of the linker comes of the object of a listing.
+use Rattle.std.proofs.Common.{◌≡◌, ℕ, ◌%◌, ◌<◌, ◌≤◌, List, [], ◌∷◌, ◌++◌, length, map, Some, None, Ok, Bool, true}
+use Rattle.std.proofs.Common.{false, not, cond}
+use Rattle.std.proofs.Common.{◌&&◌, ◌||◌, refl, sym, ap, subst, ◌∙◌, arith, append-nil}
+use Rattle.std.specs.Prelude.{bytes_eq, nat_eq, nat_le, nat_lt, if◌then◌else◌}
+use Rattle.std.specs.List.{AllByRecursion, filter, find}
+use Rattle.std.specs.Option.{option_map, option_or}
+use Rattle.std.proofs.lemmas.Bool.{and_from, and_parts, or_from, or_parts}
+use Rattle.std.proofs.lemmas.Bool.Decides.{nat_tests}
+use Rattle.std.proofs.lemmas.List.Folds.{list_any-append}
+use Rattle.ebc_base.specs.Tables.{is_named}
+use Rattle.ebc_base.proofs.TableLaws.{same_name}
+use Rattle.ebc_asm.proofs.PlaceLaws.{other_way}
+use Rattle.ebc_asm.proofs.StateLaws.{Apart}
+use Rattle.ebc_object.specs.declared.object.Fixup.{Fixup}
+use Rattle.ebc_object.specs.declared.object.Object.{Object}
+use Rattle.ebc_object.specs.declared.object.Symbol.{Symbol}
+use Rattle.pe_image.specs.Conditions.{most}
+use Rattle.pe_image.specs.declared.image.Image.{Image}
+use Rattle.link_laws.proofs.Lists.{all_map, all_of, each_of, find_none}
+use Rattle.ebc_link.specs.declared.plan.LinkPlan.{LinkPlan}
+use Rattle.ebc_link.specs.Layout.{Laid, place_in}
+use Rattle.ebc_link.specs.Symbols.{places_of}
+use Rattle.ebc_link.specs.Symbols.{Definition, definition_in, definitions, first_again, first_in, is_definition, is_undefined, names_of}
+use Rattle.ebc_link.specs.Symbols.{undefined_in}
+use Rattle.ebc_link.specs.Fixups.{far_in, is_near, place_of}
+use Rattle.ebc_link.specs.Links.{entry_in, is_entry, linked_image, links_laid}
+
+-- ---- searches
+
+-- the one that passes is found by its name
+pub find_named : (p : Symbol → Bool) (f : List ℕ → Symbol) (n : List ℕ) (ns : List (List ℕ)) → is_named n ns ≡ true → p (f n) ≡ true
+    → ((m : List ℕ) → p (f m) ≡ true → m ≡ n) → find p (map f ns) ≡ Some (f n)
+find_named p f n [] there passes only = cc there
+find_named p f n (m ∷ ms) there passes only =
+    first (p (f m)) (bytes_eq n m) refl refl there (λ h. find_named p f n ms h passes only)
+  where
+    first : (a b : Bool) → p (f m) ≡ a → bytes_eq n m ≡ b → (b || is_named n ms) ≡ true
+        → (is_named n ms ≡ true → find p (map f ms) ≡ Some (f n)) → cond a (Some (f m)) (find p (map f ms)) ≡ Some (f n)
+    first true b e g h later = ap (λ k. Some (f k)) (only m e)
+    first false true e g h later =
+        let same : n ≡ m = same_name n m g in
+        let yes : p (f m) ≡ true = subst (λ k. p (f k) ≡ true) same passes in
+        cc (sym e ∙ yes)
+    first false false e g h later = later h
+
+-- ---- a name that is defined twice
+
+not_in_filter : (p : List ℕ → Bool) (n : List ℕ) (ns : List (List ℕ)) → is_named n ns ≡ false → is_named n (filter p ns) ≡ false
+not_in_filter p n [] h = refl
+not_in_filter p n (m ∷ ns) h =
+    let parts = or_parts (bytes_eq n m) (is_named n ns) h in
+    first (p m) parts.0 (not_in_filter p n ns parts.1)
+  where
+    first : (b : Bool) → bytes_eq n m ≡ false → is_named n (filter p ns) ≡ false
+        → is_named n (cond b (m ∷ filter p ns) (filter p ns)) ≡ false
+    first true e later = or_from _ _ e later
+    first false e later = later
+
+pub apart_filter : (p : List ℕ → Bool) (ns : List (List ℕ)) → Apart ns → Apart (filter p ns)
+apart_filter p [] h = tt
+apart_filter p (n ∷ ns) h = first (p n) (not_in_filter p n ns h.0) (apart_filter p ns h.1)
+  where
+    first : (b : Bool) → is_named n (filter p ns) ≡ false → Apart (filter p ns) → Apart (cond b (n ∷ filter p ns) (filter p ns))
+    first true new later = (new, later)
+    first false new later = later
+
+-- names that aren't among others aren't among these and one more
+more_before : (n : List ℕ) (before ns : List (List ℕ)) → AllByRecursion (λ m. is_named m before ≡ false) ns → is_named n ns ≡ false
+    → AllByRecursion (λ m. is_named m (before ++ n ∷ []) ≡ false) ns
+more_before n before [] all new = tt
+more_before n before (m ∷ ns) all new =
+    let p = or_parts (bytes_eq n m) (is_named n ns) new in (
+      list_any-append (bytes_eq m) before (n ∷ []) ∙ or_from _ _ all.0 (or_from _ _ (other_way n m (bytes_eq m n) refl p.0) refl),
+      more_before n before ns all.1 p.1,
+    )
+
+pub none_again : (before ns : List (List ℕ)) → Apart ns → AllByRecursion (λ m. is_named m before ≡ false) ns → first_again before ns ≡ None
+unfolding first_again
+none_again before [] apart new = refl
+none_again before (n ∷ ns) apart new =
+    ap (λ b. if b then Some n else first_again (before ++ n ∷ []) ns) new.0
+    ∙ none_again (before ++ n ∷ []) ns apart.1 (more_before n before ns new.1 apart.0)
+
+-- the names of definitions are some of the names of symbols
+pub defined_names : (h : Laid) (f : List ℕ → Symbol) (ns : List (List ℕ)) → ((n : List ℕ) → (f n).name ≡ n)
+    → names_of (map (definition_in h.home) (filter is_definition (map f ns))) ≡ filter (λ n. is_definition (f n)) ns
+defined_names h f [] same = refl
+defined_names h f (n ∷ ns) same = first (is_definition (f n)) (defined_names h f ns same)
+  where
+    first : (b : Bool) → names_of (map (definition_in h.home) (filter is_definition (map f ns))) ≡ filter (λ n. is_definition (f n)) ns
+        → names_of (map (definition_in h.home) (cond b (f n ∷ filter is_definition (map f ns)) (filter is_definition (map f ns))))
+        ≡ cond b (n ∷ filter (λ n. is_definition (f n)) ns) (filter (λ n. is_definition (f n)) ns)
+    first true rest =
+        ap (λ m. m ∷ names_of (map (definition_in h.home) (filter is_definition (map f ns)))) (same n) ∙ ap (λ ms. n ∷ ms) rest
+    first false rest = rest
+
+-- ---- one object alone
+
+pub sole_twice : (o : Object) (h : Laid) (f : List ℕ → Symbol) (ns : List (List ℕ)) → o.symbols ≡ map f ns → ((n : List ℕ) → (f n).name ≡ n)
+    → Apart ns → first_again [] (names_of (definitions (record { object = o; home = h.home } ∷ []))) ≡ None
+unfolding definitions
+sole_twice o h f ns symbols same apart =
+    let kept : List (List ℕ) = filter (λ n. is_definition (f n)) ns in
+    let names : names_of (map (definition_in h.home) (filter is_definition o.symbols) ++ []) ≡ kept =
+    ap names_of (append-nil (map (definition_in h.home) (filter is_definition o.symbols)))
+    ∙ (ap (λ ss. names_of (map (definition_in h.home) (filter is_definition ss))) symbols ∙ defined_names h f ns same) in
+    ap (first_again []) names ∙ none_again [] kept (apart_filter (λ n. is_definition (f n)) ns apart) (all_of
+    (λ m. is_named m [] ≡ false) kept (λ m. refl))
+
+pub sole_undefined : (ds : List Definition) (o : Object) (h : Laid) (f : List ℕ → Symbol) (ns : List (List ℕ)) → o.symbols ≡ map f ns
+    → AllByRecursion (λ n. nat_eq (f n).kind 0 ≡ false) ns → first_in (undefined_in ds) (record { object = o; home = h.home } ∷ []) ≡ None
+unfolding first_in
+sole_undefined ds o h f ns symbols placed =
+    let none : find (is_undefined ds) (map f ns) ≡ None =
+    find_none (is_undefined ds) (map f ns) (all_map (λ s. is_undefined ds s ≡ false) f ns (each ns placed)) in
+    let found : find (is_undefined ds) o.symbols ≡ None = ap (find (is_undefined ds)) symbols ∙ none in
+    ap (λ x. option_or (option_map (λ (s : Symbol). s.name) x) None) found
+  where
+    each : (ms : List (List ℕ)) → AllByRecursion (λ n. nat_eq (f n).kind 0 ≡ false) ms
+        → AllByRecursion (λ n. is_undefined ds (f n) ≡ false) ms
+    each [] all = tt
+    each (m ∷ ms) all = (ap (λ b. b && not (is_named (f m).name (names_of ds))) all.0, each ms all.1)
+
+near_address : (places : List ℕ) (l : Laid) (f : Fixup) → f.kind ≡ 5 → not (is_near places l.home f) ≡ false
+unfolding is_near
+near_address places l f five = rw five refl
+
+pub sole_far : (ds : List Definition) (l : Laid) → AllByRecursion (λ (f : Fixup). f.kind ≡ 5) l.object.fixups
+    → first_in (far_in ds) (l ∷ []) ≡ None
+unfolding first_in
+sole_far ds l five =
+    let none : find (λ (f : Fixup). not (is_near (places_of ds l) l.home f)) l.object.fixups ≡ None =
+    find_none (λ (f : Fixup). not (is_near (places_of ds l) l.home f)) l.object.fixups
+    (each_of (λ (f : Fixup). f.kind ≡ 5) (λ (f : Fixup). not (is_near (places_of ds l) l.home f) ≡ false) l.object.fixups
+    (λ f kind. near_address (places_of ds l) l f kind) five) in
+    ap (λ x. option_or (option_map (place_of l.home) x) None) none
+
+-- What is asked of the symbol of the entry.
+pub record IsEntrySymbol (o : Object) (s : Symbol) : Type 0 where
+  pub global : s.global ≡ 1
+  pub kind : s.kind ≡ 1
+  pub even : s.offset % 2 ≡ 0
+  pub within : s.offset < length o.code
+
+entry_passes : (o : Object) (s : Symbol) → IsEntrySymbol o s → bytes_eq s.name s.name ≡ true
+    → is_entry s.name (length o.code) s ≡ true
+entry_passes o s is same =
+    let even = is.even in
+    let within = is.within in
+    let a : nat_eq (s.offset % 2) 0 ≡ true = grind (arith, nat_tests) in
+    let b : nat_lt s.offset (length o.code) ≡ true = grind (arith, nat_tests) in
+    rw (is.global, is.kind, same) (and_from _ _ a b)
+
+pub sole_entry : (l : Laid) (f : List ℕ → Symbol) (name : List ℕ) (ns : List (List ℕ)) → l.object.symbols ≡ map f ns
+    → ((n : List ℕ) → (f n).name ≡ n) → is_named name ns ≡ true → bytes_eq name name ≡ true → IsEntrySymbol l.object (f name)
+    → first_in (entry_in name) (l ∷ []) ≡ Some (place_in l.home 1 (f name).offset)
+unfolding first_in
+sole_entry l f name ns symbols named there same is =
+    let size : ℕ = length l.object.code in
+    let passes : is_entry name size (f name) ≡ true =
+    subst (λ n. is_entry n size (f name) ≡ true) (named name)
+    (entry_passes l.object (f name) is (subst (λ n. bytes_eq n n ≡ true) (sym (named name)) same)) in
+    let found : find (is_entry name size) l.object.symbols ≡ Some (f name) =
+    ap (find (is_entry name size)) symbols ∙ find_named (is_entry name size) f name ns there passes only in
+    ap (λ x. option_or (option_map (λ (s : Symbol). place_in l.home 1 s.offset) x) None) found
+  where
+    only : (m : List ℕ) → is_entry name (length l.object.code) (f m) ≡ true → m ≡ name
+    only m e =
+        let p = and_parts (is_definition (f m)) _ e in
+        let q = and_parts (bytes_eq (f m).name name) _ p.1 in
+        sym (named m) ∙ same_name (f m).name name q.0
+
+-- ---- the image
+
+-- Where there is no fault, objects are linked.
+pub linked : (plan : LinkPlan) (ls : List Laid) (contents entry : ℕ) (image : Image)
+    → first_again [] (names_of (definitions ls)) ≡ None → first_in (undefined_in (definitions ls)) ls ≡ None
+    → first_in (far_in (definitions ls)) ls ≡ None → first_in (entry_in plan.entry) ls ≡ Some entry
+    → linked_image plan (definitions ls) ls contents entry ≡ image → image.size ≤ most → links_laid plan ls contents ≡ Ok image
+unfolding links_laid
+linked plan ls contents entry image twice undefined far found is small =
+    let fits : nat_le image.size most ≡ true = grind (arith, nat_tests) in
+    rw (twice, undefined, far, found) (rw is (rw fits refl))

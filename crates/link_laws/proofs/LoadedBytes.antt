@@ -1,0 +1,80 @@
+-- The bytes of an image that is loaded at a base, and what is decoded there.
+use Rattle.std.proofs.Common.{List, Ok, Some, [], ap, arith, cond, false, get_or, length, subst, suc, sym, true, zero, ℕ, ◌%◌, ◌++◌, ◌+◌}
+use Rattle.std.proofs.Common.{◌-◌, ◌/◌, ◌<◌, ◌^◌, ◌∙◌, ◌∷◌, ◌≡◌, ◌≤◌}
+use Rattle.std.specs.List.{AllByRecursion, Contains, find}
+use Rattle.std.specs.Option.{option_map_or}
+use Rattle.std.specs.Prelude.{AllPairs}
+use Rattle.std.proofs.lemmas.Bool.Decides.{nat_tests}
+use Rattle.std.proofs.lemmas.List.{ext_get_or}
+use Rattle.ebc_insn.specs.Spelling.{WellFormed, spelling}
+use Rattle.ebc_insn.specs.declared.Insn.{Insn}
+use Rattle.ebc_width.proofs.ByteLaws.{get_or-window, length-window, window-append}
+use Rattle.ebc_width.specs.Bytes.{little_endian, window}
+use Rattle.ebc_width.specs.Width.{distance_of}
+use Rattle.ebc_decode.proofs.Again.{read_again}
+use Rattle.ebc_decode.specs.Reading.{read}
+use Rattle.pe_image.proofs.Pages.{pairs_tail}
+use Rattle.pe_image.specs.Images.{IsBelow}
+use Rattle.pe_image.specs.Mapped.{is_of, laid, mapped, moved, moved_byte}
+use Rattle.pe_image.specs.declared.image.Image.{Image}
+use Rattle.link_laws.proofs.Lists.{find_none}
+
+-- ---- bytes of a loaded image
+
+-- a byte that no relocation has stays
+pub mapped_free : (image : Image) (base x : ℕ) → AllByRecursion (λ r. is_of x r ≡ false) image.relocs
+    → mapped image base x ≡ laid image.sections x
+unfolding mapped moved
+mapped_free image base x free =
+    ap (λ o. option_map_or (moved_byte (laid image.sections) (distance_of base image.base) x) o (laid image.sections x))
+    (find_none (is_of x) image.relocs free)
+
+not_both : (x q r : ℕ) → q + 8 ≤ r → is_of x r ≡ true → is_of x q ≡ false
+not_both x q r far here = grind (arith, nat_tests)
+
+-- the one relocation that has a byte is found
+found_one : (x r : ℕ) (rs : List ℕ) → Contains rs r → AllPairs IsBelow rs → is_of x r ≡ true → find (is_of x) rs ≡ Some r
+found_one x r [] there apart here = absurd (let low = there.1 in omega (arith, low))
+found_one x r (q ∷ rs) (zero, low, is) apart here =
+    let yes : is_of x q ≡ true = subst (λ p. is_of x p ≡ true) (sym is) here in
+    ap (λ b. cond b (Some q) (find (is_of x) rs)) yes ∙ ap Some is
+found_one x r (q ∷ rs) (suc k, low, is) apart here =
+    let below : q + 8 ≤ get_or rs k r = apart 0 (suc k) r (omega arith) low in
+    let far : q + 8 ≤ r = subst (λ p. q + 8 ≤ p) is below in
+    let no_ : is_of x q ≡ false = not_both x q r far here in
+    ap (λ b. cond b (Some q) (find (is_of x) rs)) no_ ∙ found_one x r rs (k, omega (arith, low), is) (pairs_tail q rs apart) here
+
+-- a byte of a relocated number is that of the number at the base
+pub mapped_moved : (image : Image) (base x r : ℕ) → Contains image.relocs r → AllPairs IsBelow image.relocs → is_of x r ≡ true
+    → mapped image base x ≡ (little_endian (laid image.sections) r 8 + distance_of base image.base) % 2 ^ 64 / 256 ^ (x - r) % 256
+unfolding mapped moved
+mapped_moved image base x r there apart here =
+    ap (λ o. option_map_or (moved_byte (laid image.sections) (distance_of base image.base) x) o (laid image.sections x))
+    (found_one x r image.relocs there apart here)
+
+-- an address, moved by the distance of two bases
+pub moved_address : (base at place n : ℕ) → at < 2 ^ 64 → n ≡ at + place → n < 2 ^ 64
+    → (n + distance_of base at) % 2 ^ 64 ≡ (base + place) % 2 ^ 64
+moved_address base at place n small is low = omega (arith, is, small, low)
+
+-- ---- a window of a loaded image
+
+-- bytes that a window has are those of a list
+pub window_is : (b : ℕ → ℕ) (a : ℕ) (bytes : List ℕ) → ((k : ℕ) → k < length bytes → b (a + k) ≡ get_or bytes k 0)
+    → window b a (length bytes) ≡ bytes
+window_is b a bytes same =
+    let long = length-window b a (length bytes) in
+    ext_get_or 0 (window b a (length bytes)) bytes long
+    (λ k low. get_or-window b a (length bytes) k 0 (omega (arith, low, long)) ∙ same k (omega (arith, low, long)))
+
+-- what is decoded where an instruction is spelled
+pub decoded : (b : ℕ → ℕ) (p size : ℕ) (j : Insn) → WellFormed j → p + length (spelling j) ≤ size
+    → ((k : ℕ) → k < length (spelling j) → b (p + k) ≡ get_or (spelling j) k 0)
+    → read (window b p (size - p)) ≡ Ok (j, length (spelling j))
+decoded b p size j well within same =
+    let n : ℕ = length (spelling j) in
+    let count : size - p ≡ n + (size - p - n) = omega (arith, within) in
+    let parts : window b p (size - p) ≡ spelling j ++ window b (p + n) (size - p - n) =
+    ap (window b p) count ∙ (window-append b p n (size - p - n)
+    ∙ ap (λ bs. bs ++ window b (p + n) (size - p - n)) (window_is b p (spelling j) same)) in
+    ap read parts ∙ read_again j (window b (p + n) (size - p - n)) well

@@ -1,0 +1,289 @@
+-- The sections, the places of labels, the fixups and the names of the lines of a listing, as those of a source.
+use Rattle.std.proofs.Common.{◌≡◌, ℕ, ◌+◌, ◌-◌, ◌^◌, ◌<◌, List, [], ◌∷◌, ◌++◌, length, map, Some, None, Bool, true, false}
+use Rattle.std.proofs.Common.{cond}
+use Rattle.std.proofs.Common.{not, ◌&&◌, refl, sym, ap, ◌∙◌, arith, append_assoc, length-append}
+use Rattle.std.specs.Prelude.{bytes_eq, nat_eq, if◌then◌else◌}
+use Rattle.std.specs.List.{AllByRecursion, list_any}
+use Rattle.std.proofs.lemmas.Bool.{or_from, or_parts}
+use Rattle.std.proofs.lemmas.Bool.Decides.{nat_tests}
+use Rattle.std.proofs.lemmas.List.{map-append}
+use Rattle.ebc_insn.specs.declared.Insn.{Insn}
+use Rattle.ebc_insn.specs.declared.Insn.TheVariants as insns
+use Rattle.ebc_insn.specs.declared.Size.TheVariants as sizes
+use Rattle.ebc_insn.specs.Spelling.{spelling}
+use Rattle.ebc_base.specs.Tables.{name_number}
+use Rattle.ebc_base.proofs.TableLaws.{same_name}
+use Rattle.ebc_object.specs.declared.object.Fixup.{Fixup}
+use Rattle.asm_text.specs.declared.listing.Listed.{Listed}
+use Rattle.asm_text.specs.declared.listing.Listed.TheVariants as listed
+use Rattle.asm_text.specs.Lines.{Line}
+use Rattle.asm_text.specs.Names.{label_text}
+use Rattle.asm_text.specs.Writing.{listed_line}
+use Rattle.ebc_asm.specs.Pieces.{bytes_of, data_after, distance_kind, ends_in_data, if_there, immediate_size, is_distance, section_of}
+use Rattle.ebc_asm.specs.Pieces.{use_of}
+use Rattle.ebc_asm.specs.Symbols.{Ends, Place, ends_after, fixups_in, fixups_of, from_of, here, is_labelled, place_of}
+use Rattle.ebc_asm.specs.Symbols.{section_kind}
+use Rattle.ebc_asm.proofs.LineLaws.{ends_of}
+use Rattle.ebc_asm.proofs.NumberLaws.{same_bytes}
+use Rattle.ebc_disasm.specs.Listings.{takes_label}
+use Rattle.link_laws.proofs.ItemLaws.{line_bytes}
+use Rattle.link_laws.proofs.SectionLaws.{bytes_of_lines}
+use Rattle.link_laws.proofs.PlaceLaws.{is_label_of}
+use Rattle.link_laws.proofs.FixupWalk.{target_use, use_at, uses_from}
+use Rattle.link_laws.proofs.LabelLaws.{labels_apart}
+use Rattle.link_laws.proofs.Bodies.{takes_address}
+use Rattle.link_laws.proofs.Lines.{is_head}
+
+-- lines of a listing as lines of a source
+abbrev pub source : List Listed → List Line
+source ls = map listed_line ls
+
+-- ---- which section lines stand in
+
+after_line : (d : Bool) (l : Listed) → is_head l ≡ false → data_after d (listed_line l).statement ≡ d
+after_line d listed.Code h = cc h
+after_line d listed.Data h = cc h
+after_line d (listed.Label place) h = refl
+after_line d (listed.Global place) h = refl
+after_line d (listed.Place target) h = refl
+after_line d (listed.Word n) h = refl
+after_line d (listed.Byte n) h = refl
+after_line d (listed.Instruction i label) h = refl
+
+pub ends_same : (d : Bool) (ls : List Listed) → list_any is_head ls ≡ false → ends_in_data d (source ls) ≡ d
+unfolding ends_in_data
+ends_same d [] h = refl
+ends_same d (l ∷ ls) h =
+    let p = or_parts (is_head l) (list_any is_head ls) h in
+    ap (λ c. ends_in_data c (source ls)) (after_line d l p.0) ∙ ends_same d ls p.1
+
+pub ends_append : (d : Bool) (xs ys : List Line) → ends_in_data d (xs ++ ys) ≡ ends_in_data (ends_in_data d xs) ys
+unfolding ends_in_data
+ends_append d [] ys = refl
+ends_append d (x ∷ xs) ys = ends_append (data_after d x.statement) xs ys
+
+-- ---- the bytes of a section
+
+there : {A : Type 0} (d : Bool) (xs : List A) → if_there d d xs ≡ xs
+there true xs = refl
+there false xs = refl
+
+not_there : {A : Type 0} (d : Bool) (xs : List A) → if_there (not d) d xs ≡ []
+not_there true xs = refl
+not_there false xs = refl
+
+pub section_append : (w d : Bool) (xs ys : List Line) → section_of w d (xs ++ ys) ≡ section_of w d xs ++ section_of w (ends_in_data d xs) ys
+unfolding section_of ends_in_data
+section_append w d [] ys = refl
+section_append w d (x ∷ xs) ys =
+    ap (λ bs. if_there w d (bytes_of x.statement) ++ bs) (section_append w (data_after d x.statement) xs ys)
+    ∙ sym (append_assoc (if_there w d (bytes_of x.statement)) (section_of w (data_after d x.statement) xs)
+    (section_of w (ends_in_data (data_after d x.statement) xs) ys))
+
+pub section_here : (d : Bool) (ls : List Listed) → list_any is_head ls ≡ false → section_of d d (source ls) ≡ bytes_of_lines ls
+unfolding section_of
+section_here d [] h = refl
+section_here d (l ∷ ls) h =
+    let p = or_parts (is_head l) (list_any is_head ls) h in
+    let rest : section_of d (data_after d (listed_line l).statement) (source ls) ≡ bytes_of_lines ls =
+    ap (λ c. section_of d c (source ls)) (after_line d l p.0) ∙ section_here d ls p.1 in
+    ap (λ bs. if_there d d (line_bytes l) ++ bs) rest ∙ ap (λ bs. bs ++ bytes_of_lines ls) (there d (line_bytes l))
+
+pub section_other : (d : Bool) (ls : List Listed) → list_any is_head ls ≡ false → section_of (not d) d (source ls) ≡ []
+unfolding section_of
+section_other d [] h = refl
+section_other d (l ∷ ls) h =
+    let p = or_parts (is_head l) (list_any is_head ls) h in
+    ap (λ bs. bs ++ section_of (not d) (data_after d (listed_line l).statement) (source ls)) (not_there d (line_bytes l))
+    ∙ (ap (λ c. section_of (not d) c (source ls)) (after_line d l p.0) ∙ section_other d ls p.1)
+
+-- ---- where sections end
+
+pub ends_of_append : (e : Ends) (xs ys : List Line) → ends_of e (xs ++ ys) ≡ ends_of (ends_of e xs) ys
+unfolding ends_of
+ends_of_append e [] ys = refl
+ends_of_append e (x ∷ xs) ys = ends_of_append (ends_after e x) xs ys
+
+-- ---- labels
+
+-- where the next line stands
+abbrev pub next_place : Ends → Place
+next_place e = record { kind = section_kind e.in_data; offset = here e }
+
+-- a label that none of some lines has stands where it stands behind them
+pub place_past : (e : Ends) (name : List ℕ) (xs ys : List Line) → list_any (is_labelled name) xs ≡ false
+    → place_of e name (xs ++ ys) ≡ place_of (ends_of e xs) name ys
+unfolding place_of ends_of
+place_past e name [] ys h = refl
+place_past e name (x ∷ xs) ys h =
+    let p = or_parts (is_labelled name x) (list_any (is_labelled name) xs) h in
+    ap (λ b. cond b (next_place e) (place_of (ends_after e x) name (xs ++ ys))) p.0 ∙ place_past (ends_after e x) name xs ys p.1
+
+pub place_label : (e : Ends) (y : ℕ) (ls : List Line)
+    → place_of e (label_text y) (listed_line (listed.Label y) ∷ ls) ≡ next_place e
+unfolding place_of
+place_label e y ls =
+    ap (λ b. cond b (next_place e) (place_of (ends_after e (listed_line (listed.Label y))) (label_text y) ls)) (same_bytes (label_text y))
+
+-- A label is of a place below 2 ^ 32.
+abbrev pub IsLowLabel : Listed → Type 0
+IsLowLabel (listed.Label place) = place < 2 ^ 32
+IsLowLabel l = Unit {0}
+
+other_label : (y p : ℕ) (b : Bool) → bytes_eq (label_text y) (label_text p) ≡ b → y < 2 ^ 32 → p < 2 ^ 32 → nat_eq p y ≡ false → b ≡ false
+other_label y p false e small low other = refl
+other_label y p true e small low other =
+    let same : y ≡ p = labels_apart y p small low (same_name (label_text y) (label_text p) e) in
+    let yes : nat_eq p y ≡ true = grind (arith, nat_tests) in
+    cc (sym other ∙ yes)
+
+not_labelled : (y : ℕ) (l : Listed) → y < 2 ^ 32 → IsLowLabel l → is_label_of y l ≡ false
+    → is_labelled (label_text y) (listed_line l) ≡ false
+not_labelled y (listed.Label p) small low other =
+    other_label y p (bytes_eq (label_text y) (label_text p)) refl small low other
+not_labelled y listed.Code small low other = refl
+not_labelled y listed.Data small low other = refl
+not_labelled y (listed.Global p) small low other = refl
+not_labelled y (listed.Place p) small low other = refl
+not_labelled y (listed.Word n) small low other = refl
+not_labelled y (listed.Byte n) small low other = refl
+not_labelled y (listed.Instruction i p) small low other = refl
+
+pub none_labelled : (y : ℕ) (ls : List Listed) → y < 2 ^ 32 → AllByRecursion IsLowLabel ls → list_any (is_label_of y) ls ≡ false
+    → list_any (is_labelled (label_text y)) (source ls) ≡ false
+none_labelled y [] small low none = refl
+none_labelled y (l ∷ ls) small low none =
+    let p = or_parts (is_label_of y l) (list_any (is_label_of y) ls) none in
+    or_from _ _ (not_labelled y l small low.0 p.0) (none_labelled y ls small low.1 p.1)
+
+-- ---- fixups
+
+-- the fixup of an address in a section that begins at a place, by the place where it is and that which it names
+abbrev pub fixup_at : Bool → ℕ → List (List ℕ) → ℕ × ℕ → Fixup
+fixup_at d s names used = record {
+  section = section_kind d;
+  kind = 5;
+  offset = used.0 - s;
+  symbol = name_number (label_text used.1) names;
+  from = 0;
+}
+
+pub fixups_append : (w : Bool) (e : Ends) (names : List (List ℕ)) (xs ys : List Line)
+    → fixups_in w e names (xs ++ ys) ≡ fixups_in w e names xs ++ fixups_in w (ends_of e xs) names ys
+unfolding fixups_in ends_of
+fixups_append w e names [] ys = refl
+fixups_append w e names (x ∷ xs) ys =
+    ap (λ fs. if_there w e.in_data (fixups_of e.in_data (here e) names (use_of x.statement)) ++ fs)
+    (fixups_append w (ends_after e x) names xs ys)
+    ∙ sym (append_assoc (if_there w e.in_data (fixups_of e.in_data (here e) names (use_of x.statement)))
+    (fixups_in w (ends_after e x) names xs) (fixups_in w (ends_of (ends_after e x) xs) names ys))
+
+far_address : (far relative : Bool) → (far && not relative) ≡ true → (relative ≡ false) × (◌≡◌ {A = ℕ} (if far then 8 else 4) 8)
+far_address true false h = (refl, refl)
+far_address true true h = cc h
+far_address false relative h = cc h
+
+address_insn : (i : Insn) → takes_label i ≡ true → (is_distance i ≡ false) × (immediate_size i ≡ 8)
+address_insn (insns.MoveImm sizes.Qword bits left lidx imm) h = (refl, refl)
+address_insn (insns.Jump cond far relative op extra) h = far_address far relative h
+address_insn (insns.Call far native relative op extra) h = far_address far relative h
+address_insn i h = cc h
+
+line_fixups : (d : Bool) (s n : ℕ) (names : List (List ℕ)) (l : Listed) → takes_address l ≡ true
+    → fixups_of d n names (use_of (listed_line l).statement) ≡ map (fixup_at d s names) (use_at (s + n) (target_use l))
+line_fixups d s n names listed.Code h = refl
+line_fixups d s n names listed.Data h = refl
+line_fixups d s n names (listed.Label place) h = refl
+line_fixups d s n names (listed.Global place) h = refl
+line_fixups d s n names (listed.Word m) h = refl
+line_fixups d s n names (listed.Byte m) h = refl
+line_fixups d s n names (listed.Instruction i None) h = refl
+line_fixups d s n names (listed.Place t) h =
+    let make : ℕ → List Fixup = λ k. record {
+      section = section_kind d;
+      kind = 5;
+      offset = k;
+      symbol = name_number (label_text t) names;
+      from = 0;
+    } ∷ [] in
+    let same : n + 0 ≡ s + n + 0 - s = omega arith in
+    ap make same
+line_fixups d s n names (listed.Instruction i (Some t)) h =
+    let a = address_insn i h in
+    let long : ℕ = length (spelling i) in
+    let make : Bool → ℕ → List Fixup = λ b k. record {
+      section = section_kind d;
+      kind = (if b then distance_kind k else 5);
+      offset = n + (long - k);
+      symbol = name_number (label_text t) names;
+      from = from_of n (if b then Some long else None);
+    } ∷ [] in
+    let at_offset : ℕ → List Fixup = λ k. record {
+      section = section_kind d;
+      kind = 5;
+      offset = k;
+      symbol = name_number (label_text t) names;
+      from = 0;
+    } ∷ [] in
+    let same : n + (long - 8) ≡ s + n + (long - 8) - s = omega arith in
+    ap (λ b. make b (immediate_size i)) a.0 ∙ (ap (λ k. make false k) a.1 ∙ ap at_offset same)
+
+-- where sections end behind some lines, by numbers
+abbrev pub ends_at : Bool → ℕ → ℕ → Ends
+ends_at d c k = record { in_data = d; code_end = c; data_end = k }
+
+here_more : (d : Bool) (c k n : ℕ) → here (ends_at d (if d then c else c + n) (if d then k + n else k)) ≡ here (ends_at d c k) + n
+here_more true c k n = refl
+here_more false c k n = refl
+
+-- the fixups of lines of one section
+pub fixups_here : (d : Bool) (c k s : ℕ) (names : List (List ℕ)) (ls : List Listed) → list_any is_head ls ≡ false
+    → AllByRecursion (λ l. takes_address l ≡ true) ls
+    → fixups_in d (ends_at d c k) names (source ls) ≡ map (fixup_at d s names) (uses_from (s + here (ends_at d c k)) ls)
+unfolding fixups_in
+fixups_here d c k s names [] h takes = refl
+fixups_here d c k s names (l ∷ ls) h takes =
+    let p = or_parts (is_head l) (list_any is_head ls) h in
+    let n : ℕ = length (line_bytes l) in
+    let x : ℕ = here (ends_at d c k) in
+    let c2 : ℕ = (if d then c else c + n) in
+    let k2 : ℕ = (if d then k + n else k) in
+    let first : if_there d d (fixups_of d x names (use_of (listed_line l).statement)) ≡ map (fixup_at d s names) (use_at (s + x)
+    (target_use l)) =
+    there d (fixups_of d x names (use_of (listed_line l).statement)) ∙ line_fixups d s x names l takes.0 in
+    let next : s + here (ends_at d c2 k2) ≡ s + x + n = ap (λ m. s + m) (here_more d c k n) ∙ omega arith in
+    let rest : fixups_in d (ends_at (data_after d (listed_line l).statement) c2 k2) names (source ls)
+    ≡ map (fixup_at d s names) (uses_from (s + x + n) ls) =
+    ap (λ b. fixups_in d (ends_at b c2 k2) names (source ls)) (after_line d l p.0)
+    ∙ (fixups_here d c2 k2 s names ls p.1 takes.1 ∙ ap (λ m. map (fixup_at d s names) (uses_from m ls)) next) in
+    ap (λ fs. fs ++ fixups_in d (ends_at (data_after d (listed_line l).statement) c2 k2) names (source ls)) first
+    ∙ (ap (λ fs. map (fixup_at d s names) (use_at (s + x) (target_use l)) ++ fs) rest
+    ∙ sym (map-append (fixup_at d s names) (use_at (s + x) (target_use l)) (uses_from (s + x + n) ls)))
+
+pub fixups_other : (d : Bool) (c k : ℕ) (names : List (List ℕ)) (ls : List Listed) → list_any is_head ls ≡ false
+    → fixups_in (not d) (ends_at d c k) names (source ls) ≡ []
+unfolding fixups_in
+fixups_other d c k names [] h = refl
+fixups_other d c k names (l ∷ ls) h =
+    let p = or_parts (is_head l) (list_any is_head ls) h in
+    let n : ℕ = length (line_bytes l) in
+    let x : ℕ = here (ends_at d c k) in
+    let c2 : ℕ = (if d then c else c + n) in
+    let k2 : ℕ = (if d then k + n else k) in
+    ap (λ fs. fs ++ fixups_in (not d) (ends_at (data_after d (listed_line l).statement) c2 k2) names (source ls))
+    (not_there d (fixups_of d x names (use_of (listed_line l).statement)))
+    ∙ (ap (λ b. fixups_in (not d) (ends_at b c2 k2) names (source ls)) (after_line d l p.0) ∙ fixups_other d c2 k2 names ls p.1)
+
+-- ---- where sections end behind lines of the code
+
+pub ends_code : (c k : ℕ) (ls : List Listed) → list_any is_head ls ≡ false
+    → ends_of (ends_at false c k) (source ls) ≡ ends_at false (c + length (bytes_of_lines ls)) k
+unfolding ends_of
+ends_code c k [] h = let same : c ≡ c + 0 = omega arith in ap (λ n. ends_at false n k) same
+ends_code c k (l ∷ ls) h =
+    let p = or_parts (is_head l) (list_any is_head ls) h in
+    let n : ℕ = length (line_bytes l) in
+    let more = length-append (line_bytes l) (bytes_of_lines ls) in
+    let count : c + n + length (bytes_of_lines ls) ≡ c + length (bytes_of_lines (l ∷ ls)) = omega (arith, more) in
+    ap (λ b. ends_of (ends_at b (c + n) k) (source ls)) (after_line false l p.0)
+    ∙ (ends_code (c + n) k ls p.1 ∙ ap (λ m. ends_at false m k) count)

@@ -1,0 +1,18 @@
+//! Laws of the linker: what is linked of the listing of an image, and what is decoded of a loaded image that was linked.
+//!
+//! docs/crates/link_laws.md says what the laws are for; specs/Laws.antt and specs/Loads.antt have them.
+#![tactic(auto)]
+
+ghost use Rattle.link_laws.specs.Laws.{ListsAgain};
+ghost use Rattle.link_laws.specs.Loads.{LinkedLoads};
+
+/// The listing of an image in the linker's layout, assembled and linked, is the image again.
+#[tactic(auto, using(crate::proofs::Again::lists_again))]
+pub fn listings_link_again()
+    ensures again { ListsAgain }
+{}
+
+/// Each instruction of a source stands in the loaded image that its object is linked to, with what its name stands for.
+pub fn linked_images_load()
+    ensures loads { LinkedLoads }
+{}

@@ -1,0 +1,54 @@
+-- Laws of what a host keeps: it is what the notes and the placement have.
+use Rattle.std.proofs.Common.{◌≡◌, ℕ, zero, suc, ◌+◌, ◌-◌, ◌*◌, ◌%◌, ◌^◌, List, [], ◌∷◌, length, map, Option, Some, None}
+use Rattle.std.proofs.Common.{refl, ap, ap₂, ◌∙◌, arith}
+use Rattle.std.proofs.Common.{if◌then◌else◌, slice_get}
+use Rattle.std.specs.Prelude.{nat_lt, slice_index, slice_index_or}
+use Rattle.std.specs.Option.{option_map_or}
+use Rattle.std.proofs.lemmas.List.{length-map}
+use Rattle.note_types.specs.Shapes.{size_at}
+use Rattle.note_types.specs.declared.notes.Notes.{Notes}
+use Rattle.note_types.specs.declared.notes.Static.{Static}
+use Rattle.note_types.specs.declared.shape.Shape.{Shape}
+use Rattle.host_model.specs.Objects.{no_shape}
+use Rattle.host_model.specs.declared.object.TypedObject.{TypedObject}
+use Rattle.host_model.specs.Placements.{instance_address, object_at, shape_bytes}
+use Rattle.native_host.specs.declared.places.Places.{Places}
+use Rattle.native_host.specs.Kept.{IsOf, instance_bytes, object_base, placement_of}
+
+-- a number that an item of a list has, and 0 past its end
+index-map : {A : Type 0} (f : A → ℕ) (xs : List A) (k : ℕ) → slice_index (map f xs) k ≡ option_map_or f (slice_get xs k) 0
+index-map f [] k = refl
+index-map f (x ∷ xs) zero = refl
+index-map f (x ∷ xs) (suc k) = index-map f xs k
+
+index-sizes : (w : ℕ) (xs : List Shape) (k : ℕ) → slice_index (map (size_at w) xs) k ≡ size_at w (slice_index_or xs k no_shape)
+index-sizes w [] k = omega arith
+index-sizes w (x ∷ xs) zero = refl
+index-sizes w (x ∷ xs) (suc k) = index-sizes w xs k
+
+pub object_base-is : (w : ℕ) (notes : Notes) (p : Places) (k : ℕ) → IsOf w notes p → object_base p k ≡ object_at notes (placement_of p) k
+unfolding object_at
+object_base-is w notes p k of =
+    let count : length p.statics ≡ length notes.statics = ap length of.statics ∙ length-map notes.statics (λ (s : Static). s.place) in
+    ap₂ (λ n x. if nat_lt k n then p.image + x else slice_index p.objects (k - n)) count
+    (ap (λ xs. slice_index xs k) of.statics ∙ index-map (λ (s : Static). s.place) notes.statics k)
+
+pub instance_bytes-is : (w : ℕ) (notes : Notes) (p : Places) (s : ℕ) → IsOf w notes p → instance_bytes p s ≡ shape_bytes w notes s
+instance_bytes-is w notes p s of = ap (λ xs. slice_index xs s) of.sizes ∙ index-sizes w notes.shape s
+
+sizes-agree : (f g : ℕ → ℕ) (o : Option TypedObject) → ((s : ℕ) → f s ≡ g s)
+    → option_map_or (λ (t : TypedObject). f t.shape) o 0 ≡ option_map_or (λ (t : TypedObject). g t.shape) o 0
+sizes-agree f g None same = refl
+sizes-agree f g (Some t) same = same t.shape
+
+-- the address of an instance, as a host counts it
+pub instance-is : (w : ℕ) (notes : Notes) (p : Places) (made : List TypedObject) (o i : ℕ) → IsOf w notes p
+    → object_base p o + i * option_map_or (λ (t : TypedObject). instance_bytes p t.shape) (slice_get made o) 0
+    ≡ instance_address w notes (placement_of p) made o i
+instance-is w notes p made o i of =
+    ap₂ (λ b n. b + i * n) (object_base-is w notes p o of)
+    (sizes-agree (instance_bytes p) (shape_bytes w notes) (slice_get made o) (λ s. instance_bytes-is w notes p s of))
+
+-- a product modulo 2 ^ 64 counts as the product in a sum modulo 2 ^ 64
+pub word-sum : (b x : ℕ) → (b + x % 2 ^ 64) % 2 ^ 64 ≡ (b + x) % 2 ^ 64
+word-sum b x = omega arith

@@ -1,0 +1,4 @@
+pub mod KeptLaws
+pub mod ReadingLaws
+pub mod ResultLaws
+pub mod ThunkLaws

@@ -1,0 +1,4 @@
+pub mod Hosts
+pub mod Kept
+pub mod Sorts
+pub mod Steps
