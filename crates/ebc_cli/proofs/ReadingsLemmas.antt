@@ -1,5 +1,5 @@
 -- Readings one after the other, for commands of several files.
-use Rattle.std.proofs.Common.{◌≡◌, ℕ, List, ◌++◌, Option, Some, None, IfSome, Result, Ok, Err, refl, sym, ap, ◌∙◌, append_assoc}
+use Rattle.std.proofs.Common.{◌≡◌, ℕ, List, ◌++◌, Option, Some, None, IfSome, Result, Ok, Err, refl, sym, ap, ◌∙◌, append_assoc, append-nil}
 use Rattle.ebc_outside.specs.Files.{Files}
 use Rattle.ebc_cli.specs.declared.reply.End.{End}
 use Rattle.ebc_cli.specs.declared.reply.Reply.{Reply}
@@ -66,6 +66,28 @@ next-ends None mid before between now run f x end same one two = tt
 next-ends (Some files) mid before between now run f x end same one two =
     ends-after before between now (run files) (f files) x end one (rw same at two)
 
+-- what comes of a reading that went through and of what follows it comes of the whole
+pub next-follows : {A B : Type 0} (old mid : Option Files) (before between now : List (List ℕ)) (run : Files → FileReading A)
+    (f : Files → A → FileReading B) (x : A) (result : Result B End) → mid ≡ old
+    → IfSome old (λ files. Follows before between (Ok x) (run files))
+    → IfSome mid (λ files. Follows between now result (f files x))
+    → IfSome old (λ files. Follows before now result (run files >>= f files))
+next-follows None mid before between now run f x result same one two = tt
+next-follows (Some files) mid before between now run f x (Err end) same one two =
+    ends-after before between now (run files) (f files) x end one (rw same at two)
+next-follows (Some files) mid before between now run f x (Ok y) same one two =
+    let then : Follows between now (Ok y) (f files x) = rw same at two in
+    rw one.0
+    (then.0, then.1 ∙ ap (λ names. names ++ (f files x).asked) one.1 ∙ append_assoc before (run files).asked (f files x).asked)
+
+-- what is made of what a reading gave comes of it
+pub made-follows : {A B : Type 0} (old : Option Files) (before now : List (List ℕ)) (run : Files → FileReading A) (make : A → B) (x : A)
+    → IfSome old (λ files. Follows before now (Ok x) (run files))
+    → IfSome old (λ files. Follows before now (Ok (make x)) (run files >>= (λ y. done (make y))))
+made-follows None before now run make x one = tt
+made-follows (Some files) before now run make x one =
+    rw one.0 (refl, one.1 ∙ ap (λ names. before ++ names) (sym (append-nil (run files).asked)))
+
 -- ---- the files of `check IMAGE NOTES`
 
 abbrev image_run : List ℕ → Files → FileReading Image
@@ -96,3 +118,13 @@ unfolding image_check
 notes-end old mid before between now a b image end same one two =
     next-ends old mid before between now (image_run a) (noted b) image end same one
     (first-ends mid between now (notes_run b) (checked image) end two)
+
+-- where both files are read, the work is the check of what they are
+pub checked-follows : (old mid : Option Files) (before between now : List (List ℕ)) (a b : List ℕ) (image : Image) (notes : Notes) → mid ≡ old
+    → IfSome old (λ files. Follows before between (Ok image) (input image_limit image_meaning 1 a files))
+    → IfSome mid (λ files. Follows between now (Ok notes) (input notes_limit notes_meaning 2 b files))
+    → IfSome old (λ files. Follows before now (Ok (works.CheckImage image notes)) (image_check a b files))
+unfolding image_check
+checked-follows old mid before between now a b image notes same one two =
+    next-follows old mid before between now (image_run a) (noted b) image (Ok (works.CheckImage image notes)) same one
+    (made-follows mid between now (notes_run b) (λ notes. works.CheckImage image notes) notes two)

@@ -1,5 +1,5 @@
 -- Laws of entering and leaving: the machine inside a function, and the frame that keeps it as it was.
-use Rattle.std.proofs.Common.{◌≡◌, ℕ, ◌+◌, ◌-◌, ◌%◌, ◌^◌, ◌<◌, ◌≤◌, false, List, sym, ap, ap₂, ◌∙◌, arith}
+use Rattle.std.proofs.Common.{◌≡◌, ℕ, ◌+◌, ◌-◌, ◌%◌, ◌^◌, ◌<◌, ◌≤◌, true, false, List, sym, ap, ap₂, ◌∙◌, arith}
 use Rattle.std.specs.Prelude.{slice_set, nat_le}
 use Rattle.std.proofs.lemmas.Bool.Decides.{nat_tests}
 use Rattle.std.proofs.Math.Nat.{mod-eq_of_lt}
@@ -34,9 +34,18 @@ inside-cells w s target top n ps numbers bytes most is =
 
 -- the frame that keeps a machine is read as the one that keeps its state
 pub saved-frame : (w : ℕ) (m : Machine w) (n : Memory) (func : ℕ) → func < 2 ^ 31
-    → saved_of (frame_of m func) ≡ frame_for (concrete_of m n) func
+    → saved_of (frame_of m func) ≡ frame_for false (concrete_of m n) func
 unfolding saved_of call_of frame_of
 saved-frame w m n func less =
     let unmarked : nat_le (2 ^ 31) func ≡ false = grind (arith, nat_tests) in
     ap₂ (λ f b. record { func = f; notified = b; registers = m.regs; ip = m.ip; flags = m.flags; call = NoCall })
     (mod-eq_of_lt less) unmarked
+
+-- and so is one of a notification
+pub marked-frame : (w : ℕ) (m : Machine w) (n : Memory) (func : ℕ) → func < 2 ^ 31
+    → saved_of (frame_of m (func + 2 ^ 31)) ≡ frame_for true (concrete_of m n) func
+unfolding saved_of call_of frame_of
+marked-frame w m n func less =
+    let marked : nat_le (2 ^ 31) (func + 2 ^ 31) ≡ true = grind (arith, nat_tests) in
+    let number : (func + 2 ^ 31) % 2 ^ 31 ≡ func = omega arith in
+    ap₂ (λ f b. record { func = f; notified = b; registers = m.regs; ip = m.ip; flags = m.flags; call = NoCall }) number marked

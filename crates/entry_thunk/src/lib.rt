@@ -4,16 +4,16 @@
 
 mod cells;
 
-ghost use Rattle.std.specs.Prelude.{◌≡◌, ℕ, ◌+◌, ◌<◌, ◌≤◌, ◌^◌, ◌↔◌, [], ◌∷◌, length, drop, slice_get, slice_index, replicate, Some, None, IsNone, IfSome, IfNone};
+ghost use Rattle.std.specs.Prelude.{◌≡◌, ℕ, ◌+◌, ◌<◌, ◌≤◌, ◌^◌, ◌↔◌, [], ◌∷◌, true, false, length, drop, slice_get, slice_index, replicate, Some, None, IsNone, IfSome, IfNone};
 ghost use Rattle.ebc_width.specs.Width.{IsWidth};
 ghost use Rattle.object_memory.specs.Memory.{Memory};
 ghost use Rattle.frame_stack.specs.declared.Frame.{Frame};
 ghost use Rattle.ebc_machine.specs.States.{concrete_of, KeepsObjects};
 ghost use Rattle.host_model.specs.Placements.{frame_limit};
-ghost use Rattle.host_model.specs.HostSteps.{inside, frame_for, outside};
+ghost use Rattle.host_model.specs.HostSteps.{inside, frame_for};
 ghost use Rattle.callex_thunk.specs.HostFrames.{saved_of};
 ghost use Rattle.entry_thunk.specs.Cells.{params_of};
-ghost use Rattle.entry_thunk.specs.Entering.{OnDone, OnRefused, frame_of};
+ghost use Rattle.entry_thunk.specs.Entering.{OnDone, OnRefused, frame_of, once_left, registers_left};
 
 use crate::cells::{cells_mapped, params_bytes, store_cells};
 use callex_thunk::NO_ENTRY;
@@ -46,6 +46,8 @@ pub struct LeftEntry {
     pub func: u32,
     /// R7 as it was where the function returned.
     pub r7: u64,
+    /// Whether the function was entered as a notification.
+    pub notified: bool,
 }
 
 /// Enters a function for the host. What the machine holds is kept in a frame on top of the others; below R0 the arguments,
@@ -72,7 +74,60 @@ pub fn enter<const W: usize>(
     ensures fault { (result ≡ EnterEnd.StackFault) ↔ ((length frames.old < frame_limit) × (inside W (concrete_of m.old mem.old) target (params_of kinds.now) args.now ≡ None)) }
     ensures inside { OnDone result (inside W (concrete_of m.old mem.old) target (params_of kinds.now) args.now ≡ Some (concrete_of m.new mem.new)) }
     ensures frame { OnDone result (frames.new ≡ frame_of m.old func ∷ frames.old) }
-    ensures saved { saved_of (frame_of m.old func) ≡ frame_for (concrete_of m.old mem.old) func }
+    ensures saved { saved_of (frame_of m.old func) ≡ frame_for false (concrete_of m.old mem.old) func }
+    ensures objects { KeepsObjects mem.old mem.new }
+    ensures machine { OnRefused result (m.new ≡ m.old) }
+    ensures memory { OnRefused result (mem.new ≡ mem.old) }
+    ensures frames { OnRefused result (frames.new ≡ frames.old) }
+{
+    enter_by(m, mem, frames, func, target, kinds, args)
+}
+
+/// Enters a function as a notification: what `enter` does, under the same conditions, but that the frame is marked. `leave`
+/// takes back R7 too then.
+pub fn notify<const W: usize>(
+    m: &mut Machine<W>,
+    mem: &mut ObjMem<W>,
+    frames: &mut FrameStack,
+    func: u32,
+    target: u64,
+    kinds: &[SlotKind],
+    args: &[u64],
+) -> EnterEnd
+    requires width { IsWidth W }
+    requires each { length kinds.now ≡ length args.now }
+    requires few { length kinds.now ≤ 16 }
+    requires func { func < 2 ^ 31 }
+    ensures deep { (result ≡ EnterEnd.TooDeep) ↔ (length frames.old ≡ frame_limit) }
+    ensures fault { (result ≡ EnterEnd.StackFault) ↔ ((length frames.old < frame_limit) × (inside W (concrete_of m.old mem.old) target (params_of kinds.now) args.now ≡ None)) }
+    ensures inside { OnDone result (inside W (concrete_of m.old mem.old) target (params_of kinds.now) args.now ≡ Some (concrete_of m.new mem.new)) }
+    ensures frame { OnDone result (frames.new ≡ frame_of m.old (func + 2 ^ 31) ∷ frames.old) }
+    ensures saved { saved_of (frame_of m.old (func + 2 ^ 31)) ≡ frame_for true (concrete_of m.old mem.old) func }
+    ensures objects { KeepsObjects mem.old mem.new }
+    ensures machine { OnRefused result (m.new ≡ m.old) }
+    ensures memory { OnRefused result (mem.new ≡ mem.old) }
+    ensures frames { OnRefused result (frames.new ≡ frames.old) }
+{
+    enter_by(m, mem, frames, func + NOTIFIED, target, kinds, args)
+}
+
+// Enters a function, in a frame that has this number for it.
+fn enter_by<const W: usize>(
+    m: &mut Machine<W>,
+    mem: &mut ObjMem<W>,
+    frames: &mut FrameStack,
+    number: u32,
+    target: u64,
+    kinds: &[SlotKind],
+    args: &[u64],
+) -> EnterEnd
+    requires width { IsWidth W }
+    requires each { length kinds.now ≡ length args.now }
+    requires few { length kinds.now ≤ 16 }
+    ensures deep { (result ≡ EnterEnd.TooDeep) ↔ (length frames.old ≡ frame_limit) }
+    ensures fault { (result ≡ EnterEnd.StackFault) ↔ ((length frames.old < frame_limit) × (inside W (concrete_of m.old mem.old) target (params_of kinds.now) args.now ≡ None)) }
+    ensures inside { OnDone result (inside W (concrete_of m.old mem.old) target (params_of kinds.now) args.now ≡ Some (concrete_of m.new mem.new)) }
+    ensures frame { OnDone result (frames.new ≡ frame_of m.old number ∷ frames.old) }
     ensures objects { KeepsObjects mem.old mem.new }
     ensures machine { OnRefused result (m.new ≡ m.old) }
     ensures memory { OnRefused result (mem.new ≡ mem.old) }
@@ -86,7 +141,7 @@ pub fn enter<const W: usize>(
         return EnterEnd::StackFault;
     }
     store_cells(mem, top, m.gate, kinds, args);
-    let _ = frames.push(&frame_of(m, func));
+    let _ = frames.push(&frame_of(m, number));
     m.regs[0] = top;
     m.ip = target;
     m.flags = 0;
@@ -110,26 +165,38 @@ fn frame_of<const W: usize>(m: &Machine<W>, func: u32) -> Frame
     }
 }
 
-/// Leaves the function of the top frame: R0 to R6, ip and the flags are as they were where it was entered, and the frame
-/// is taken away. None exactly where there is no frame, and then nothing changes.
+// The registers once a frame is left in which R7 is this: a frame of a notification gives R7 back too.
+fn registers_left(frame: &Frame, r7: u64) -> [u64; 8]
+    ensures { result ≡ registers_left frame.now r7 }
+{
+    let mut regs = frame.regs;
+    if frame.func < NOTIFIED {
+        regs[7] = r7;
+    }
+    regs
+}
+
+/// Leaves the function of the top frame: R0 to R6, ip and the flags are as they were where it was entered, R7 too where it
+/// was entered as a notification, and the frame is taken away. None exactly where there is no frame, and then nothing
+/// changes.
 #[tactic(auto, unfolding(callex_thunk::specs::HostFrames::saved_of))]
 pub fn leave<const W: usize>(m: &mut Machine<W>, frames: &mut FrameStack) -> Option<LeftEntry>
     ensures none { IsNone result ↔ (frames.old ≡ []) }
     ensures frames { frames.new ≡ drop 1 frames.old }
-    ensures machine { (f : Frame) (n : Memory) → slice_get frames.old 0 ≡ Some f → concrete_of m.new n ≡ outside (concrete_of m.old n) (saved_of f) }
+    ensures machine { (f : Frame) (n : Memory) → slice_get frames.old 0 ≡ Some f → concrete_of m.new n ≡ once_left (concrete_of m.old n) (saved_of f) }
     ensures func { (f : Frame) → slice_get frames.old 0 ≡ Some f → IfSome result (λ e. e.func ≡ (saved_of f).func) }
     ensures r7 { IfSome result (λ e. e.r7 ≡ slice_index m.old.regs 7) }
+    ensures notified { (f : Frame) → slice_get frames.old 0 ≡ Some f → IfSome result (λ e. e.notified ≡ (saved_of f).notified) }
     ensures same { IfNone result (m.new ≡ m.old) }
 {
     let frame = frames.pop()?;
     let r7 = m.regs[7];
-    let mut regs = frame.regs;
-    regs[7] = r7;
-    m.regs = regs;
+    m.regs = registers_left(&frame, r7);
     m.ip = frame.ip;
     m.flags = frame.flags;
     Some(LeftEntry {
         func: frame.func % NOTIFIED,
         r7,
+        notified: NOTIFIED <= frame.func,
     })
 }

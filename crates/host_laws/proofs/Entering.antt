@@ -12,12 +12,13 @@ use Rattle.ebc_width.specs.Bytes.{little_endian, put}
 use Rattle.ebc_width.proofs.ByteLaws.{put-apart, put-below, little_endian-agree, little_endian-apart}
 use Rattle.note_types.specs.Concrete.{Concrete, stored, register}
 use Rattle.ebc_width.specs.Ranges.{holds}
-use Rattle.host_model.specs.HostPlans.{Enters}
-use Rattle.host_model.specs.HostSteps.{written_number, with_slots, inside, frame_for, performed, with_call as with_marks}
-use Rattle.host_model.specs.HostSteps.{call_under_way as marks_under_way}
-use Rattle.host_model.specs.Progress.{one_callback, NativeCall, NoCall, Asked, Accepted, ScriptPlace, one_callback as neutral_callback}
+use Rattle.host_model.specs.HostPlans.{Enters, Notifies, function_params}
+use Rattle.host_model.specs.HostSteps.{objects_at, written_number, with_slots, inside, frame_for, entered, performed}
+use Rattle.host_model.specs.HostSteps.{call_under_way as marks_under_way, with_call as with_marks}
+use Rattle.host_model.specs.Progress.{one_callback, one_notification, NativeCall, NoCall, Asked, Accepted, ScriptPlace}
+use Rattle.host_model.specs.Progress.{one_callback as neutral_callback}
 use Rattle.host_model.specs.declared.object.TypedObject.{TypedObject}
-use Rattle.host_model.specs.Objects.{made_objects, placed_objects}
+use Rattle.host_model.specs.Objects.{made_objects}
 use Rattle.host_model.specs.Placements.{Placement, stack_bytes, slot_bytes, params_bytes, return_cell, IsPlacement}
 use Rattle.host_model.specs.Placements.{stack_end, placed_ranges}
 use Rattle.host_model.specs.RunState.{RunState}
@@ -29,7 +30,8 @@ use Rattle.note_types.specs.declared.notes.Param.{Param}
 use Rattle.note_types.specs.declared.value.Value.{Value}
 use Rattle.neutral_machine.specs.Config.{StackItem, FunctionFrame, HostFrame, Frame, Function, Host, Config, depth, locals_at}
 use Rattle.neutral_machine.specs.Config.{call_under_way, with_call}
-use Rattle.neutral_machine.specs.NeutralHost.{param_slots, performed as neutral_performed, entered as neutral_entered}
+use Rattle.neutral_machine.specs.NeutralHost.{param_slots, objects_at as neutral_objects_at, entered as neutral_entered}
+use Rattle.neutral_machine.specs.NeutralHost.{performed as neutral_performed}
 use Rattle.neutral_machine.specs.Layout.{addresses, height, local_address, total}
 use Rattle.host_model.specs.Values.{minus, Neutral, Addresses, ShowsIn}
 use Rattle.neutral_machine.specs.Named.{Named}
@@ -46,7 +48,7 @@ use Rattle.neutral_machine.proofs.Numbers.{minus-is}
 use Rattle.neutral_machine.proofs.Placed.{stack_within, stack_holds}
 use Rattle.neutral_machine.proofs.Spots.{place_spot, turned_stands}
 use Rattle.host_laws.proofs.Things.{named as named_things}
-use Rattle.host_laws.proofs.Marks.{total_marked, extends_marked, machine_marked, machine_told}
+use Rattle.host_laws.proofs.Marks.{total_marked, extends_marked, machine_counted, machine_marked, machine_told}
 use Rattle.host_laws.proofs.Replies.{call_more, hosts_more, hosts_marked, marks_show}
 use Rattle.host_laws.specs.PlanFits.{CanEnter}
 use Rattle.neutral_machine.proofs.Words.{width_word}
@@ -201,23 +203,23 @@ module _ (w : ℕ) (world : World) (P : Placement) (mapped : ℕ → ℕ) (h : I
       by_address d f true e = sym (no_address w End fs d f (let q = eqb-true d (depth fs) e in omega (arith, q)))
       by_address d f false e = refl
 
-  -- the frames of a function that is entered
-  entered_frames : Config → ℕ → List StackItem → List Frame
-  entered_frames a f slots =
+  -- the frames of a function that is entered, as a notification or not
+  entered_frames : Bool → Config → ℕ → List StackItem → List Frame
+  entered_frames notified a f slots =
       Function (record { func = f; ret = 0; saved = a.registers; items = [] }) ∷ Host
-      (record { func = f; notified = false; saved = a.registers; c = a.c; spot = a.spot; params = slots; call = NoCall }) ∷ a.frames
+      (record { func = f; notified = notified; saved = a.registers; c = a.c; spot = a.spot; params = slots; call = NoCall }) ∷ a.frames
 
-  enter_machine : (a : Config) (s : Concrete) (f : ℕ) (values : List Value) (made : List TypedObject)
+  enter_machine : (notified : Bool) (a : Config) (s : Concrete) (f : ℕ) (values : List Value) (made : List TypedObject)
       → Named w world.notes P made (addresses w world.notes P a.frames) → (e : CanEnter w world a f values)
       → MachineStands w world P mapped None a s
       → (t : Concrete) × (inside w s (P.image + e.note.place) e.note.params (map (written_number w world.notes P made) values) ≡ Some t)
       × MachineStands w world P mapped None (record a {
         c = false;
         spot = spot.Place e.note.place;
-        frames = entered_frames a f (param_slots world.notes made e.note.params values);
+        frames = entered_frames notified a f (param_slots world.notes made e.note.params values);
       }) t
   unfolding entered_frames entry_bytes
-  enter_machine a s f values made named e st =
+  enter_machine notified a s f values made named e st =
       let ps = e.note.params in
       let xs = map (written_number w world.notes P made) values in
       let slots = param_slots world.notes made ps values in
@@ -226,7 +228,7 @@ module _ (w : ℕ) (world : World) (P : Placement) (mapped : ℕ → ℕ) (h : I
       let room = e.room in
       let es = end_small w world P h ok pl in
       let top = End - (return_cell + (params_bytes w ps + T)) in
-      let gs = entered_frames a f slots in
+      let gs = entered_frames notified a f slots in
       let inner : return_cell + (height w slots + T) ≡ return_cell + (params_bytes w ps + T) = ap (λ n. return_cell + (n + T)) hs in
       let all : total w gs ≡ return_cell + (params_bytes w ps + T) =
       (let z : 0 + (return_cell + (height w slots + T)) ≡ return_cell + (height w slots + T) = omega arith in z) ∙ inner in
@@ -247,7 +249,7 @@ module _ (w : ℕ) (world : World) (P : Placement) (mapped : ℕ → ℕ) (h : I
       ∙ put-apart one (top + 8) 8 0 q (⊎_elim (λ r. inr (omega (arith, r, room))) (λ r. inl (omega (arith, r, room))) d)
       ∙ put-apart s.byte top 8 s.gate q (⊎_elim (λ r. inr (omega (arith, r, room))) (λ r. inl (omega (arith, r, room))) d)) in
       let same = inside_same (record { func = f; ret = 0; saved = a.registers; items = [] })
-      (record { func = f; notified = false; saved = a.registers; c = a.c; spot = a.spot; params = slots; call = NoCall }) a.frames in
+      (record { func = f; notified = notified; saved = a.registers; c = a.c; spot = a.spot; params = slots; call = NoCall }) a.frames in
       let ext = same_extends w world P mapped h ok pl a.frames gs same in
       let A = addresses w world.notes P gs in
       let named' : Named w world.notes P made A = record {
@@ -305,24 +307,23 @@ module _ (w : ℕ) (world : World) (P : Placement) (mapped : ℕ → ℕ) (h : I
   callback_shows A (Accepted k n vs) (Asked q x) s = s
   callback_shows A (Accepted k n vs) (Accepted f m xs) s = (s.0, ap suc s.1, s.2)
 
-  -- a run inside a function, with its frame of the host
-  pub entered_stands : (a : Config) (r : RunState) (f : ℕ) (values : List Value) (made : List TypedObject)
-      → made ≡ made_objects world.notes world.script a.script.entries → (e : CanEnter w world a f values) → Stands w world P mapped a r
-      → Stands w world P mapped (neutral_entered world a f (param_slots world.notes made e.note.params values))
-      (option_map_or (λ (s : Concrete). record r { machine = s; hosts = frame_for r.machine f ∷ r.hosts })
-      (inside w r.machine (P.image + e.note.place) e.note.params (map (written_number w world.notes P made) values))
-      (record r { ending = Raised raises.StackFault }))
+  -- a run inside a function whose note is this, with its frame of the host
+  entered_by_note : (notified : Bool) (a : Config) (r : RunState) (f : ℕ) (values : List Value) (e : CanEnter w world a f values)
+      → Stands w world P mapped a r
+      → Stands w world P mapped
+      (neutral_entered notified world a f (param_slots world.notes (neutral_objects_at world a) e.note.params values))
+      (option_map_or (λ (s : Concrete). record r { machine = s; hosts = frame_for notified r.machine f ∷ r.hosts })
+      (inside w r.machine (P.image + e.note.place) e.note.params
+      (map (written_number w world.notes P (neutral_objects_at world a)) values)) (record r { ending = Raised raises.StackFault }))
   unfolding entered_frames
-  entered_stands a r f values made me e st =
-      let named : Named w world.notes P made (addresses w world.notes P a.frames) =
-      subst (λ m. Named w world.notes P m (addresses w world.notes P a.frames)) (sym me)
-      (named_things w world P h ok pl a.script.entries a.frames) in
-      let m = enter_machine a r.machine f values made named e st.machine in
+  entered_by_note notified a r f values e st =
+      let made = neutral_objects_at world a in
+      let m = enter_machine notified a r.machine f values made (named_things w world P h ok pl a.script.entries a.frames) e st.machine in
       let slots = param_slots world.notes made e.note.params values in
-      let gs = entered_frames a f slots in
+      let gs = entered_frames notified a f slots in
       let k : HostFrame = record {
         func = f;
-        notified = false;
+        notified = notified;
         saved = a.registers;
         c = a.c;
         spot = a.spot;
@@ -334,7 +335,7 @@ module _ (w : ℕ) (world : World) (P : Placement) (mapped : ℕ → ℕ) (h : I
       let place : option_map_or (λ (g : FnNote). g.place) (slice_get world.notes.function f) 0 ≡ e.note.place =
       ap (λ y. option_map_or (λ (g : FnNote). g.place) y 0) e.there in
       let inner : Stands w world P mapped (record a { c = false; spot = spot.Place e.note.place; frames = gs })
-      (record r { machine = m.0; hosts = frame_for r.machine f ∷ r.hosts }) =
+      (record r { machine = m.0; hosts = frame_for notified r.machine f ∷ r.hosts }) =
       record {
         machine = m.2;
         hosts = (
@@ -359,9 +360,32 @@ module _ (w : ℕ) (world : World) (P : Placement) (mapped : ℕ → ℕ) (h : I
       } in
       subst₂ (λ (y : Config) (z : RunState). Stands w world P mapped y z)
       (ap (λ p. record a { c = false; spot = spot.Place p; frames = gs }) (sym place))
-      (ap (λ o. option_map_or (λ (s : Concrete). record r { machine = s; hosts = frame_for r.machine f ∷ r.hosts }) o
+      (ap (λ o. option_map_or (λ (s : Concrete). record r { machine = s; hosts = frame_for notified r.machine f ∷ r.hosts }) o
       (record r { ending = Raised raises.StackFault })) (sym m.1))
       inner
+
+  -- a run inside a function, as the notes have it
+  pub entered_stands : (notified : Bool) (a : Config) (r : RunState) (f : ℕ) (values : List Value) → CanEnter w world a f values
+      → Stands w world P mapped a r
+      → Stands w world P mapped
+      (neutral_entered notified world a f (param_slots world.notes (neutral_objects_at world a) (function_params world.notes f) values))
+      (entered notified w world P r f (map (written_number w world.notes P (objects_at world r)) values))
+  entered_stands notified a r f values n st =
+      let made = neutral_objects_at world a in
+      let same : made ≡ objects_at world r =
+      ap (λ (p : ScriptPlace). made_objects world.notes world.script p.entries) (sym st.script) in
+      let params : function_params world.notes f ≡ n.note.params = ap (λ y. option_map_or (λ (g : FnNote). g.params) y []) n.there in
+      let place : option_map_or (λ (g : FnNote). g.place) (slice_get world.notes.function f) 0 ≡ n.note.place =
+      ap (λ y. option_map_or (λ (g : FnNote). g.place) y 0) n.there in
+      subst₂ (λ (y : Config) (z : RunState). Stands w world P mapped y z)
+      (ap (λ ps. neutral_entered notified world a f (param_slots world.notes made ps values)) (sym params))
+      (ap (λ m. option_map_or (λ (t : Concrete). record r { machine = t; hosts = frame_for notified r.machine f ∷ r.hosts })
+      (inside w r.machine (P.image + n.note.place) n.note.params (map (written_number w world.notes P m) values))
+      (record r { ending = Raised raises.StackFault })) same
+      ∙ ap₂ (λ q ps. option_map_or (λ (t : Concrete). record r { machine = t; hosts = frame_for notified r.machine f ∷ r.hosts })
+      (inside w r.machine (P.image + q) ps (map (written_number w world.notes P (objects_at world r)) values))
+      (record r { ending = Raised raises.StackFault })) (sym place) (sym params))
+      (entered_by_note notified a r f values n st)
 
   -- the run with other marks and more events
   pub marked_stands : (a : Config) (r : RunState) (c : NativeCall Neutral) (d : NativeCall ℕ) (es : List Event)
@@ -385,7 +409,7 @@ module _ (w : ℕ) (world : World) (P : Placement) (mapped : ℕ → ℕ) (h : I
   pub enter_stands : (a : Config) (r : RunState) (e : Event) (entry f : ℕ) (values : List Value) → CanEnter w world a f values
       → Stands w world P mapped a r
       → Stands w world P mapped (neutral_performed world a (Enters e entry f values)) (performed w world P r (Enters e entry f values))
-  unfolding neutral_performed performed made_objects placed_objects
+  unfolding neutral_performed performed
   enter_stands a r e entry f values n st =
       let A = addresses w world.notes P a.frames in
       let c = neutral_callback (call_under_way a.frames) in
@@ -404,21 +428,32 @@ module _ (w : ℕ) (world : World) (P : Placement) (mapped : ℕ → ℕ) (h : I
         fit = n.fit;
         room = omega (arith, room, total_is);
       } in
-      let made = made_objects world.notes world.script a.script.entries in
-      let same : made ≡ made_objects world.notes world.script r.script.entries =
-      ap (λ (p : ScriptPlace). made_objects world.notes world.script p.entries) (sym st.script) in
-      let params : option_map_or (λ (g : FnNote). g.params) (slice_get world.notes.function f) [] ≡ n.note.params =
-      ap (λ y. option_map_or (λ (g : FnNote). g.params) y []) n.there in
-      let place : option_map_or (λ (g : FnNote). g.place) (slice_get world.notes.function f) 0 ≡ n.note.place =
-      ap (λ y. option_map_or (λ (g : FnNote). g.place) y 0) n.there in
-      let inner = entered_stands b s f values made refl n' marked in
-      subst₂ (λ (y : Config) (z : RunState). Stands w world P mapped y z)
-      (ap (λ ps. neutral_entered world b f (param_slots world.notes made ps values)) (sym params))
-      (ap (λ m. option_map_or (λ (t : Concrete). record s { machine = t; hosts = frame_for r.machine f ∷ with_marks d r.hosts })
-      (inside w r.machine (P.image + n.note.place) n.note.params (map (written_number w world.notes P m) values))
-      (record s { ending = Raised raises.StackFault })) same
-      ∙ ap₂ (λ q ps. option_map_or (λ (t : Concrete). record s { machine = t; hosts = frame_for r.machine f ∷ with_marks d r.hosts })
-      (inside w r.machine (P.image + q) ps (map (written_number w world.notes P
-      (made_objects world.notes world.script r.script.entries)) values)) (record s { ending = Raised raises.StackFault })) (sym place)
-      (sym params))
-      inner
+      entered_stands false b s f values n' marked
+
+  -- ---- the notify step
+
+  -- one more notification is counted, and told
+  noted_stands : (a : Config) (r : RunState) (e : Event) → Stands w world P mapped a r
+      → Stands w world P mapped (record a { script = one_notification a.script; trace = a.trace ++ e ∷ [] })
+      (record r { script = one_notification r.script; trace = r.trace ++ e ∷ [] })
+  noted_stands a r e st =
+      record {
+        machine = machine_told w world P mapped None (record a { script = one_notification a.script }) r.machine (a.trace ++ e ∷ [])
+            a.ending (machine_counted w world P mapped None a r.machine (a.script.notifications + 1) a.script.instructions
+            a.script.thunks st.machine);
+        hosts = st.hosts;
+        script = ap one_notification st.script;
+        trace = ap (λ t. t ++ e ∷ []) st.trace;
+        ending = st.ending;
+      }
+
+  -- a notification is entered
+  pub notify_stands : (a : Config) (r : RunState) (e : Event) (f : ℕ) (values : List Value) → CanEnter w world a f values
+      → Stands w world P mapped a r
+      → Stands w world P mapped (neutral_performed world a (Notifies e f values)) (performed w world P r (Notifies e f values))
+  unfolding neutral_performed performed
+  notify_stands a r e f values n st =
+      let b : Config = record a { script = one_notification a.script; trace = a.trace ++ e ∷ [] } in
+      let s : RunState = record r { script = one_notification r.script; trace = r.trace ++ e ∷ [] } in
+      let n' : CanEnter w world b f values = record { note = n.note; there = n.there; as_many = n.as_many; fit = n.fit; room = n.room } in
+      entered_stands true b s f values n' (noted_stands a r e st)

@@ -6,7 +6,7 @@ use Rattle.std.specs.Option.{option_map}
 use Rattle.std.proofs.lemmas.Option.{same_Some, none-some}
 use Rattle.note_types.specs.declared.spot.Spot.TheVariants as spot
 use Rattle.ebc_width.specs.Width.{IsWidth}
-use Rattle.host_model.specs.HostPlans.{View, Returns, Calls, GoesOn, Asks, host_plan}
+use Rattle.host_model.specs.HostPlans.{View, Calls, GoesOn, IsDue, Asks, is_due, return_view, host_plan}
 use Rattle.host_model.specs.HostSteps.{host_step, slots_asked as numbers_asked, call_under_way as marks_under_way}
 use Rattle.host_model.specs.Placements.{Placement, stack_bytes, IsPlacement}
 use Rattle.host_model.specs.Progress.{NativeCall, NoCall, Asked, Accepted, copied, is_empty}
@@ -17,13 +17,14 @@ use Rattle.neutral_machine.specs.Config.{Frame, Function, Host, Config, hosts, c
 use Rattle.neutral_machine.specs.NeutralHost.{host_view, return_seen, call_seen, asking_at, lent_there, result_of, writes_there}
 use Rattle.neutral_machine.specs.NeutralHost.{slots_asked, performed, neutral_host_step}
 use Rattle.neutral_machine.specs.Layout.{addresses, total}
+use Rattle.note_types.specs.declared.value.Value.{Value}
 use Rattle.host_laws.specs.ScriptGiven.{ScriptGiven}
 use Rattle.neutral_machine.specs.Stands.{CallShows, Stands}
 use Rattle.host_model.specs.Values.{Neutral, Shows}
 use Rattle.host_model.specs.World.{World}
 use Rattle.neutral_machine.specs.WorldFits.{WorldFits}
 use Rattle.neutral_machine.proofs.Words.{if_some}
-use Rattle.host_laws.proofs.Plans.{call_fits, next_fits, slots_shown}
+use Rattle.host_laws.proofs.Plans.{call_fits, due_fits, next_fits, slots_shown}
 use Rattle.host_laws.proofs.Replies.{marks_show}
 use Rattle.host_laws.proofs.Steps.{host_step_stands}
 use Rattle.host_laws.specs.PlanFits.{PlanFits}
@@ -36,20 +37,24 @@ module _ (w : ℕ) (world : World) (P : Placement) (mapped : ℕ → ℕ) (h : I
   returns_fit a r [] v at e = absurd (none-some v e)
   returns_fit a r (Function f ∷ fs) v at e = absurd (none-some v e)
   returns_fit a r (Host k ∷ fs) v at e =
-      let q = some_of_map (Returns (is_empty (hosts fs)) k.func) (result_of world a k.func) v e in
-      subst (λ (u : View). PlanFits w world P a r (host_plan world a.script u)) q.2 (by (is_empty (hosts fs)))
+      let q = some_of_map (return_view k.notified (is_empty (hosts fs)) k.func) (result_of world a k.func) v e in
+      subst (λ (u : View). PlanFits w world P a r (host_plan world a.script u)) q.2 (by k.notified (is_empty (hosts fs)) q.0)
     where
-      by : (b : Bool) → PlanFits w world P a r (host_plan world a.script
-          (Returns b k.func (some_of_map (Returns (is_empty (hosts fs)) k.func) (result_of world a k.func) v e).0))
-      by true = record { frame = k; rest = fs; is = at }
-      by false = record { frame = k; rest = fs; is = at }
+      by : (n b : Bool) (t : Value) → PlanFits w world P a r (host_plan world a.script (return_view n b k.func t))
+      by true b t = record { frame = k; rest = fs; is = at }
+      by false true t = record { frame = k; rest = fs; is = at }
+      by false false t = record { frame = k; rest = fs; is = at }
 
   calls_fit : (a : Config) (r : RunState) → total w a.frames ≤ stack_bytes w world.notes → Stands w world P mapped a r
       → ScriptGiven world.notes world.script → (c : NativeCall Neutral) → call_under_way a.frames ≡ c
       → (v : View) → call_seen world a c ≡ Some v → total w (performed world a
       (host_plan world a.script v)).frames ≤ stack_bytes w world.notes → PlanFits w world P a r (host_plan world a.script v)
   unfolding host_plan
-  calls_fit a r room st given NoCall at v e after = absurd (none-some v e)
+  calls_fit a r room st given NoCall at v e after =
+      subst (λ (u : View). total w (performed world a (host_plan world a.script u)).frames ≤ stack_bytes w world.notes
+      → PlanFits w world P a r (host_plan world a.script u))
+      (if_some (is_due world.script a.script) (IsDue (length (hosts a.frames))) v e).1
+      (due_fits w world P mapped h ok pl a r given) after
   calls_fit a r room st given (Accepted entry callbacks slots) at v e after =
       let q = if_some (lent_there world a.frames entry slots) (GoesOn entry callbacks (length (hosts a.frames))
       (writes_there world a entry)) v e in

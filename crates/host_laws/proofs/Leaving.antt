@@ -5,8 +5,8 @@ use Rattle.std.proofs.lemmas.List.{length-set, get_or-set_same, get_or-set_other
 use Rattle.ebc_width.specs.Width.{IsWidth}
 use Rattle.note_types.specs.Cells.{cell_size}
 use Rattle.note_types.specs.Concrete.{Concrete, register}
-use Rattle.host_model.specs.HostPlans.{Finishes, Leaves, Ends}
-use Rattle.host_model.specs.HostSteps.{performed, left, outside}
+use Rattle.host_model.specs.HostPlans.{Finishes, Leaves, Ends, Resumes}
+use Rattle.host_model.specs.HostSteps.{performed, left, outside, resumed, as_before}
 use Rattle.host_model.specs.Placements.{Placement, IsPlacement, stack_end}
 use Rattle.host_model.specs.RunState.{SavedFrame, RunState}
 use Rattle.note_types.specs.declared.ending.Ending.{Ending}
@@ -15,7 +15,7 @@ use Rattle.note_types.specs.declared.event.Event.{Event}
 use Rattle.note_types.specs.declared.shape.Field.{Field}
 use Rattle.note_types.specs.declared.value.Value.{Value}
 use Rattle.neutral_machine.specs.Config.{HostFrame, Frame, Function, Host, Config, with_value}
-use Rattle.neutral_machine.specs.NeutralHost.{performed as neutral_performed, left as neutral_left}
+use Rattle.neutral_machine.specs.NeutralHost.{performed as neutral_performed, left as neutral_left, resumed as neutral_resumed}
 use Rattle.neutral_machine.specs.Layout.{addresses, top_of}
 use Rattle.neutral_machine.specs.Memory.{memory_of, cell_field}
 use Rattle.neutral_machine.specs.Stands.{HostShows, HostsShow, CellShows, cell_address, MachineStands, Stands}
@@ -135,6 +135,73 @@ module _ (w : ℕ) (world : World) (P : Placement) (mapped : ℕ → ℕ) (h : I
             ending = refl;
           })
 
+  -- ---- the frame of a notification
+
+  -- the configuration and the machine once the top host frame, which is one of a notification, is left
+  again : Config → HostFrame → List Frame → Config
+  again a k fs = record a { registers = k.saved; c = k.c; spot = k.spot; frames = fs }
+
+  resumed_machine : (but : Option ℕ) (a : Config) (s : Concrete) (k : HostFrame) (fs : List Frame) (x : SavedFrame)
+      → a.frames ≡ Host k ∷ fs → MachineStands w world P mapped but a s
+      → HostShows w world P (addresses w world.notes P a.frames) (top_of w (stack_end w world.notes P) fs) k x
+      → MachineStands w world P mapped but (again a k fs) (as_before s x)
+  unfolding again under
+  resumed_machine but a s k fs x at st host =
+      let was : MachineStands w world P mapped but (under a k fs) (outside s x) = left_machine but a s k fs x at st host in
+      let held : HostShows w world P (addresses w world.notes P (Host k ∷ fs)) (top_of w (stack_end w world.notes P) fs) k x =
+      subst (λ (z : List Frame). HostShows w world P (addresses w world.notes P z) (top_of w (stack_end w world.notes P) fs) k x) at
+      host in
+      record {
+        eight = held.eight;
+        words = held.words;
+        small = was.small;
+        registers = λ r l m. shows_more w (addresses w world.notes P (Host k ∷ fs)) (addresses w world.notes P fs) (k.saved r) _
+            (extends_below k fs) (held.registers r l m);
+        locals = was.locals;
+        top = held.top_is;
+        frames = was.frames;
+        cells = was.cells;
+        thunks = was.thunks;
+        code = was.code;
+        objects = was.objects;
+        flags = was.flags;
+        gate = was.gate;
+        spot = was.spot;
+      }
+
+  -- the top host frame is left, R7 as it was
+  resumed_stands : (a : Config) (r : RunState) (k : HostFrame) (fs : List Frame) → a.frames ≡ Host k ∷ fs
+      → Stands w world P mapped a r → (t : List Event)
+      → Stands w world P mapped (record (neutral_resumed a a.frames) { trace = a.trace ++ t; ending = a.ending })
+      (record (resumed r r.hosts) { trace = r.trace ++ t; ending = r.ending })
+  unfolding again
+  resumed_stands a r k fs at st t =
+      subst (λ (z : List Frame). Stands w world P mapped (record (neutral_resumed a z) { trace = a.trace ++ t; ending = a.ending })
+      (record (resumed r r.hosts) { trace = r.trace ++ t; ending = r.ending })) (sym at)
+      (go r.hosts refl (subst (λ (z : List Frame). HostsShow w world P (addresses w world.notes P a.frames) z r.hosts) at st.hosts))
+    where
+      go : (ss : List SavedFrame) → r.hosts ≡ ss → HostsShow w world P (addresses w world.notes P a.frames) (Host k ∷ fs) r.hosts
+          → Stands w world P mapped (record (neutral_resumed a (Host k ∷ fs)) { trace = a.trace ++ t; ending = a.ending })
+          (record (resumed r r.hosts) { trace = r.trace ++ t; ending = r.ending })
+      go [] eq s = absurd (subst (HostsShow w world P (addresses w world.notes P a.frames) (Host k ∷ fs)) eq s)
+      go (x ∷ ss) eq s =
+          let g = subst (HostsShow w world P (addresses w world.notes P a.frames) (Host k ∷ fs)) eq s in
+          let A = addresses w world.notes P a.frames in
+          let more : Extends A (addresses w world.notes P fs) =
+          subst (λ (z : List Frame). Extends (addresses w world.notes P z) (addresses w world.notes P fs)) (sym at)
+          (extends_below k fs) in
+          subst (λ (y : List SavedFrame). Stands w world P mapped
+          (record (neutral_resumed a (Host k ∷ fs)) { trace = a.trace ++ t; ending = a.ending })
+          (record (resumed r y) { trace = r.trace ++ t; ending = r.ending })) (sym eq)
+          (record {
+            machine = machine_told w world P mapped None (again a k fs) (as_before r.machine x) (a.trace ++ t) a.ending
+                (resumed_machine None a r.machine k fs x at st.machine g.0);
+            hosts = hosts_more w world P mapped h ok pl A (addresses w world.notes P fs) fs ss more g.1;
+            script = st.script;
+            trace = ap (λ y. y ++ t) st.trace;
+            ending = st.ending;
+          })
+
   -- ---- the plans
 
   trace_left : (r : RunState) (ss : List SavedFrame) → (left r ss).trace ≡ r.trace
@@ -154,6 +221,24 @@ module _ (w : ℕ) (world : World) (P : Placement) (mapped : ℕ → ℕ) (h : I
   neutral_ending_left a [] = refl
   neutral_ending_left a (Function f ∷ fs) = refl
   neutral_ending_left a (Host k ∷ fs) = refl
+
+  trace_resumed : (r : RunState) (ss : List SavedFrame) → (resumed r ss).trace ≡ r.trace
+  trace_resumed r [] = refl
+  trace_resumed r (x ∷ ss) = refl
+
+  ending_resumed : (r : RunState) (ss : List SavedFrame) → (resumed r ss).ending ≡ r.ending
+  ending_resumed r [] = refl
+  ending_resumed r (x ∷ ss) = refl
+
+  neutral_trace_resumed : (a : Config) (fs : List Frame) → (neutral_resumed a fs).trace ≡ a.trace
+  neutral_trace_resumed a [] = refl
+  neutral_trace_resumed a (Function f ∷ fs) = refl
+  neutral_trace_resumed a (Host k ∷ fs) = refl
+
+  neutral_ending_resumed : (a : Config) (fs : List Frame) → (neutral_resumed a fs).ending ≡ a.ending
+  neutral_ending_resumed a [] = refl
+  neutral_ending_resumed a (Function f ∷ fs) = refl
+  neutral_ending_resumed a (Host k ∷ fs) = refl
 
   -- a run that ends
   pub end_stands : (a : Config) (r : RunState) (es : List Event) (e : Ending) → Stands w world P mapped a r
@@ -179,6 +264,19 @@ module _ (w : ℕ) (world : World) (P : Placement) (mapped : ℕ → ℕ) (h : I
       (ap₂ (λ t n. record (left r r.hosts) { trace = t ++ e ∷ []; ending = n }) (sym (trace_left r r.hosts))
       (sym st.ending ∙ sym (ending_left r r.hosts)))
       (left_stands a r k fs at st (e ∷ []) a.ending)
+
+  -- a notification returns
+  pub resume_stands : (a : Config) (r : RunState) (k : HostFrame) (fs : List Frame) (e : Event) → a.frames ≡ Host k ∷ fs
+      → Stands w world P mapped a r
+      → Stands w world P mapped (neutral_performed world a (Resumes e)) (performed w world P r (Resumes e))
+  unfolding neutral_performed performed
+  resume_stands a r k fs e at st =
+      subst₂ (λ (y : Config) (z : RunState). Stands w world P mapped y z)
+      (ap₂ (λ t n. record (neutral_resumed a a.frames) { trace = t ++ e ∷ []; ending = n })
+      (sym (neutral_trace_resumed a a.frames)) (sym (neutral_ending_resumed a a.frames)))
+      (ap₂ (λ t n. record (resumed r r.hosts) { trace = t ++ e ∷ []; ending = n })
+      (sym (trace_resumed r r.hosts)) (sym (ending_resumed r r.hosts)))
+      (resumed_stands a r k fs at st (e ∷ []))
 
   -- the first function returns, and the run ends with its result
   pub finish_stands : (a : Config) (r : RunState) (k : HostFrame) (fs : List Frame) (v : Value) → a.frames ≡ Host k ∷ fs

@@ -7,6 +7,7 @@ use Rattle.note_types.specs.Concrete.{Concrete}
 use Rattle.host_model.specs.Placements.{Placement, return_cell, stack_end}
 use Rattle.host_model.specs.Progress.{NativeCall}
 use Rattle.note_types.specs.declared.ending.Ending.{Ending}
+use Rattle.note_types.specs.Cells.{cell_size}
 use Rattle.note_types.specs.declared.event.Event.{Event}
 use Rattle.note_types.specs.declared.notes.Notes.{Notes}
 use Rattle.note_types.specs.declared.shape.Field.{Field}
@@ -15,7 +16,8 @@ use Rattle.neutral_machine.specs.Config.{Frame, Function, Host, Config, depth, l
 use Rattle.neutral_machine.specs.Layout.{addresses, local_address, local_among, total, height}
 use Rattle.host_model.specs.Values.{minus, Neutral, Addresses, Anchor, ObjectOf, ThunkOf, LocalOf, CellPlace, FieldOf, FieldOfLocals}
 use Rattle.neutral_machine.specs.Memory.{memory_of, cell_field}
-use Rattle.neutral_machine.specs.Stands.{ItemsShow, ReturnShows, return_address, FramesShow, cell_address, MachineStands, OwnLocalsAll}
+use Rattle.neutral_machine.specs.Stands.{ItemsShow, ReturnShows, return_address, FramesShow, CellShows, cell_address, MachineStands}
+use Rattle.neutral_machine.specs.Stands.{OwnLocalsAll}
 use Rattle.host_model.specs.World.{World}
 use Rattle.neutral_machine.proofs.Agree.{Extends, shows_more, shows_in_more, frames_more}
 
@@ -133,3 +135,31 @@ module _ (w : ℕ) (world : World) (P : Placement) (mapped : ℕ → ℕ) where
         gate = st.gate;
         spot = st.spot;
       }
+
+  -- nor does how far the run is in its script, but for the calls accepted
+  pub machine_counted : (but : Option ℕ) (a : Config) (s : Concrete) (n i t : ℕ) → MachineStands w world P mapped but a s
+      → MachineStands w world P mapped but (record a { script = record a.script { notifications = n; instructions = i; thunks = t } }) s
+  machine_counted but a s n i t st =
+      record {
+        eight = st.eight;
+        words = st.words;
+        small = st.small;
+        registers = st.registers;
+        locals = st.locals;
+        top = st.top;
+        frames = st.frames;
+        cells = cells;
+        thunks = st.thunks;
+        code = st.code;
+        objects = st.objects;
+        flags = st.flags;
+        gate = st.gate;
+        spot = st.spot;
+      }
+    where
+      cells : (p : CellPlace) (z : Field) (v : Neutral) → cell_field world.notes (memory_of world a) p ≡ Some z → a.cells p ≡ Some v
+          → CellShows w (addresses w world.notes P a.frames) s.byte
+          (cell_address w world P (record a { script = record a.script { notifications = n; instructions = i; thunks = t } }) p z)
+          (cell_size w z.cell) v
+      cells (FieldOf k j f) z v g c = st.cells (FieldOf k j f) z v g c
+      cells (FieldOfLocals d f) z v g c = st.cells (FieldOfLocals d f) z v g c

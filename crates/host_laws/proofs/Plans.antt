@@ -1,6 +1,6 @@
 -- What the host plans can be carried out alike: the conditions of each plan follow from what the host saw, from the conditions on
 -- the script, and from the room for what it leaves.
-use Rattle.std.proofs.Common.{◌≡◌, ℕ, ◌+◌, ◌≤◌, Bool, true, false, not, ◌&&◌, if◌then◌else◌, nat_eq, nat_le, List, [], ◌∷◌, ◌++◌, map}
+use Rattle.std.proofs.Common.{◌≡◌, ℕ, ◌+◌, ◌≤◌, Bool, true, false, not, ◌&&◌, if◌then◌else◌, nat_eq, nat_le, List, [], ◌∷◌, map}
 use Rattle.std.proofs.Common.{length, Option, Some, None, refl, sym, ap, ◌∙◌, subst, arith, slice_get}
 use Rattle.std.specs.List.{AllZip, AllByRecursion, list_all, flat_map}
 use Rattle.std.specs.Option.{option_map, option_map_or, option_or, option_and_then}
@@ -16,6 +16,7 @@ use Rattle.host_model.specs.HostPlans.{Ends, host_plan, call_plan, call_settled,
 use Rattle.host_model.specs.HostPlans.{asked_args, objects_made_by, filling, enter_plan, may_enter, callback_fits, function_params}
 use Rattle.host_model.specs.HostPlans.{reply_plan, reply_fits, reply_stores, next_plan, signature_params, signature_method}
 use Rattle.host_model.specs.HostPlans.{signature_result, site_of, field_at, lent_at, write_store, out_store, write_fits}
+use Rattle.host_model.specs.HostPlans.{IsDue, Notifies, notify_plan, notification_fits}
 use Rattle.host_model.specs.HostSteps.{slots_of as numbers_of, slots_asked as numbers_asked, call_under_way as marks_under_way}
 use Rattle.host_model.specs.declared.object.TypedObject.{TypedObject}
 use Rattle.host_model.specs.Objects.{script_object, made_objects, placed_objects}
@@ -31,6 +32,7 @@ use Rattle.note_types.specs.declared.notes.FnNote.{FnNote}
 use Rattle.note_types.specs.declared.notes.Notes.{Notes}
 use Rattle.note_types.specs.declared.notes.WantParam.{WantParam}
 use Rattle.note_types.specs.declared.script.Callback.{Callback}
+use Rattle.note_types.specs.declared.script.Notify.{Notify}
 use Rattle.note_types.specs.declared.script.OutValue.{OutValue}
 use Rattle.note_types.specs.declared.script.ScriptCall.{ScriptCall}
 use Rattle.note_types.specs.declared.script.WriteValue.{WriteValue}
@@ -265,7 +267,7 @@ module _ (w : ℕ) (world : World) (P : Placement) (mapped : ℕ → ℕ) (h : I
           (asked_signature asking) (asked_args asking)) e in
           let s = settled place asking n.0 in
           let c = left_over (slice_get world.script.call a.script.entries) (asked_signature asking) (asked_args asking) n.1 in
-          let cg = given a.script.entries c.0 c.1 in
+          let cg = given.calls a.script.entries c.0 c.1 in
           record {
             call = c.0;
             there = c.1;
@@ -375,6 +377,75 @@ module _ (w : ℕ) (world : World) (P : Placement) (mapped : ℕ → ℕ) (h : I
               (reply_plan world.notes made entry all c))).frames ≤ stack_bytes w world.notes
               → PlanFits w world P a r (option_map_or (enter_plan world.notes made entry callbacks (length (hosts a.frames))) q
               (reply_plan world.notes made entry all c))
-          by_callback None g l = reply_fits_plan a r entry entry all c (given entry c e)
+          by_callback None g l = reply_fits_plan a r entry entry all c (given.calls entry c e)
               (lent_cells world a (copied (call_under_way a.frames)) entry c e lent)
-          by_callback (Some b) g l = enter_fits a r entry entry callbacks c b (given entry c e) g l
+          by_callback (Some b) g l = enter_fits a r entry entry callbacks c b (given.calls entry c e) g l
+
+  -- ---- a notification that is due
+
+  -- the stack has room for a function that is entered as a notification, where the frames inside it fit
+  room_noted : (a : Config) (e : Event) (f : ℕ) (values : List Value) (g : FnNote) → function_params world.notes f ≡ g.params
+      → length g.params ≡ length values → total w (performed world a (Notifies e f values)).frames ≤ stack_bytes w world.notes
+      → return_cell + (params_bytes w g.params + total w a.frames) ≤ stack_bytes w world.notes
+  unfolding performed
+  room_noted a e f values g same many l =
+      let made = made_objects world.notes world.script a.script.entries in
+      let slots : height w (param_slots world.notes made (function_params world.notes f) values) ≡ params_bytes w g.params =
+      ap (λ ps. height w (param_slots world.notes made ps values)) same ∙ heights w world.notes made g.params values many in
+      let inside : 0 + (return_cell + (height w (param_slots world.notes made (function_params world.notes f) values)
+      + total w a.frames)) ≤ stack_bytes w world.notes = l in
+      omega (arith, inside, slots)
+
+  -- the plan of a notification that is due fits, whatever it is
+  notify_fits : (a : Config) (r : RunState) (n : Notify) → AllByRecursion (IsValue world.notes) n.args
+      → total w (performed world a (notify_plan world (made_objects world.notes world.script a.script.entries) a.script
+      (length (hosts a.frames)) n)).frames ≤ stack_bytes w world.notes
+      → PlanFits w world P a r (notify_plan world (made_objects world.notes world.script a.script.entries) a.script
+      (length (hosts a.frames)) n)
+  unfolding notify_plan
+  notify_fits a r n given room = go (notification_fits world made a.script n) refl (nat_le frame_limit (length (hosts a.frames))) room
+    where
+      made : List TypedObject
+      made = made_objects world.notes world.script a.script.entries
+
+      -- the plan, by whether the notification fits and whether it is too deep
+      entering : (t d : Bool) → Plan
+      entering t d =
+          if not t then Ends [] (Mismatch (reason.Notify a.script.notifications))
+          else if d then Ends [] (Mismatch reason.Depth)
+          else Notifies (event.Notified n.function (map given_value n.args)) n.function n.args
+
+      go : (t : Bool) → notification_fits world made a.script n ≡ t → (d : Bool)
+          → total w (performed world a (entering t d)).frames ≤ stack_bytes w world.notes → PlanFits w world P a r (entering t d)
+      go false t d l = tt
+      go true t true l = tt
+      go true t false l =
+          let all_fit = fits_each made (function_params world.notes n.function) n.args in
+          let served = nat_le (length world.notes.thunk) a.script.thunks in
+          let q = and_parts (may_enter world.notes n.function) (all_fit && served) t in
+          let f = may_enter_there world.notes n.function q.0 in
+          let params : function_params world.notes n.function ≡ f.0.params = ap (λ o. option_map_or (λ (g : FnNote). g.params) o []) f.1 in
+          let many = ap length (sym params)
+          ∙ as_many made (function_params world.notes n.function) n.args (and_parts all_fit served q.1).0 in
+          record {
+            note = f.0;
+            there = f.1;
+            as_many = many;
+            fit = given;
+            room = room_noted a (event.Notified n.function (map given_value n.args)) n.function n.args f.0 params many l;
+          }
+
+  pub due_fits : (a : Config) (r : RunState) → ScriptGiven world.notes world.script
+      → total w (performed world a (host_plan world a.script (IsDue (length (hosts a.frames))))).frames ≤ stack_bytes w world.notes
+      → PlanFits w world P a r (host_plan world a.script (IsDue (length (hosts a.frames))))
+  unfolding host_plan
+  due_fits a r given room = by_notification (slice_get world.script.notify a.script.notifications) refl room
+    where
+      plan : Notify → Plan
+      plan = notify_plan world (made_objects world.notes world.script a.script.entries) a.script (length (hosts a.frames))
+
+      by_notification : (q : Option Notify) → slice_get world.script.notify a.script.notifications ≡ q
+          → total w (performed world a (option_map_or plan q (Ends [] ScriptEnd))).frames ≤ stack_bytes w world.notes
+          → PlanFits w world P a r (option_map_or plan q (Ends [] ScriptEnd))
+      by_notification None e l = tt
+      by_notification (Some n) e l = notify_fits a r n (given.notified a.script.notifications n e) l

@@ -130,7 +130,10 @@ call_given notes script n c at h =
     }
 
 pub calls_are_given : CallsAreGiven
-calls_are_given notes script h n c at = call_given notes script n c at (h.calls n c at)
+calls_are_given notes script h = record {
+  calls = λ n c at. call_given notes script n c at (h.calls n c at);
+  notified = λ n x at. all_each (IsValue notes) x.args (λ k v e. is_value notes v ((h.notify.each n x at).args k v e));
+}
 
 -- ---- the start
 

@@ -34,10 +34,10 @@ pub record LocalsStand (w : ℕ) (notes : Notes) (P : Placement) (made : List Ty
       → A.anchor (LocalOf d f) ≡ Some x
       → cells (FieldOfLocals d f) ≡ Some u → Shows w A (content_value notes made z.cell u) (little_endian byte x (cell_size w z.cell))
 
--- the host frames are of the same functions and have the same marks
+-- the host frames are of the same functions, entered as notifications or not, and have the same marks
 abbrev pub HostsAlike : ℕ → Addresses → List HostFrame → List SavedFrame → Type 0
 HostsAlike w A [] [] = ⊤
-HostsAlike w A (h ∷ hs) (s ∷ ss) = (s.func ≡ h.func) × CallShows w A h.call s.call × HostsAlike w A hs ss
+HostsAlike w A (h ∷ hs) (s ∷ ss) = (s.func ≡ h.func) × (s.notified ≡ h.notified) × CallShows w A h.call s.call × HostsAlike w A hs ss
 HostsAlike w A _ _ = ⊥
 
 -- The parts of standing for a configuration that what the host sees depends on.

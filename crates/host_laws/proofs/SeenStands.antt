@@ -246,7 +246,7 @@ module _ (w : ℕ) (world : World) (P : Placement) (mapped : ℕ → ℕ) (h : I
   hosts_alike A [] (x ∷ ss) s = absurd s
   hosts_alike A (Function f ∷ fs) ss s = hosts_alike A fs ss s
   hosts_alike A (Host k ∷ fs) [] s = absurd s
-  hosts_alike A (Host k ∷ fs) (x ∷ ss) s = (s.0.func, s.0.call, hosts_alike A fs ss s.1)
+  hosts_alike A (Host k ∷ fs) (x ∷ ss) s = (s.0.func, s.0.notified, s.0.call, hosts_alike A fs ss s.1)
 
   -- ---- all of it
 

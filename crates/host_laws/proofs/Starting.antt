@@ -1,14 +1,13 @@
 -- Where a run starts: the machine with the script's objects, before the entry function is entered, stands for the configuration
 -- with them.
 use Rattle.std.proofs.Common.{◌≡◌, ℕ, zero, suc, ◌+◌, ◌-◌, ◌*◌, ◌%◌, ◌^◌, ◌<◌, ◌≤◌, ◌⊎◌, Bool, true, false, if◌then◌else◌, List, [], ◌∷◌}
-use Rattle.std.proofs.Common.{◌++◌, map, length, Some, None, refl, sym, ap, ap₂, ◌∙◌, subst, subst₂, arith, inl, inr, ⊎_elim, slice_get}
+use Rattle.std.proofs.Common.{◌++◌, map, length, Some, None, refl, sym, ap, ◌∙◌, subst, subst₂, arith, inl, inr, ⊎_elim, slice_get}
 use Rattle.std.proofs.Common.{slice_index}
-use Rattle.std.specs.Option.{option_map, option_map_or}
+use Rattle.std.specs.Option.{option_map}
 use Rattle.std.proofs.Math.Nat.{zero-mod}
 use Rattle.std.proofs.lemmas.Bool.{lt-ltb, le-ltb, cases_lt, eq-eqb}
 use Rattle.std.proofs.lemmas.List.{append-nil}
 use Rattle.std.proofs.lemmas.Option.{same_Some, none-some}
-use Rattle.note_types.specs.declared.exception.Exception.TheVariants as raises
 use Rattle.note_types.specs.declared.spot.Spot.TheVariants as spot
 use Rattle.ebc_width.specs.Width.{IsWidth}
 use Rattle.ebc_width.specs.Bytes.{little_endian}
@@ -18,7 +17,7 @@ use Rattle.ebc_width.proofs.RangeLaws.{covers-inside}
 use Rattle.ebc_width.proofs.ByteLaws.{little_endian-agree}
 use Rattle.note_types.specs.Concrete.{Concrete}
 use Rattle.host_model.specs.HostPlans.{field_at, filling}
-use Rattle.host_model.specs.HostSteps.{with_objects, after_stores, written_number, inside, frame_for}
+use Rattle.host_model.specs.HostSteps.{with_objects, after_stores}
 use Rattle.host_model.specs.declared.object.TypedObject.{TypedObject}
 use Rattle.host_model.specs.Objects.{script_object, made_objects, placed_objects, static_object}
 use Rattle.host_model.specs.Placements.{image_range, Placement, object_at, object_bytes, IsPlacement, area_bytes, stack_bytes, stack_end}
@@ -26,11 +25,10 @@ use Rattle.host_model.specs.Placements.{placed_ranges}
 use Rattle.host_model.specs.Progress.{script_start}
 use Rattle.host_model.specs.RunState.{RunState}
 use Rattle.host_model.specs.Start.{bare_machine, image_byte, start_machine, run_start}
-use Rattle.note_types.specs.declared.ending.Ending.TheVariants.{Running, Raised}
-use Rattle.note_types.specs.declared.notes.FnNote.{FnNote}
+use Rattle.note_types.specs.declared.ending.Ending.TheVariants.{Running}
 use Rattle.note_types.specs.declared.shape.Field.{Field}
 use Rattle.neutral_machine.specs.Config.{Config}
-use Rattle.neutral_machine.specs.NeutralHost.{with_objects as neutral_objects, param_slots, entered as neutral_entered}
+use Rattle.neutral_machine.specs.NeutralHost.{with_objects as neutral_objects}
 use Rattle.neutral_machine.specs.NeutralRuns.{start_cells, bare_config, neutral_start}
 use Rattle.neutral_machine.specs.Layout.{addresses}
 use Rattle.neutral_machine.specs.Memory.{memory_of, cell_field}
@@ -260,13 +258,4 @@ module _ (w : ℕ) (world : World) (P : Placement) (mapped : ℕ → ℕ) (stati
       } in
       let st : Stands w world P mapped before r = record { machine = filled; hosts = tt; script = refl; trace = refl; ending = refl } in
       let n = given.entry before refl in
-      let params : option_map_or (λ (g : FnNote). g.params) (slice_get world.notes.function world.notes.entry) [] ≡ n.note.params =
-      ap (λ y. option_map_or (λ (g : FnNote). g.params) y []) n.there in
-      let place : option_map_or (λ (g : FnNote). g.place) (slice_get world.notes.function world.notes.entry) 0 ≡ n.note.place =
-      ap (λ y. option_map_or (λ (g : FnNote). g.place) y 0) n.there in
-      subst₂ (λ (y : Config) (z : RunState). Stands w world P mapped y z)
-      (ap (λ ps. neutral_entered world before world.notes.entry (param_slots world.notes made ps world.script.args)) (sym params))
-      (ap₂ (λ q ps. option_map_or (λ (t : Concrete). record r { machine = t; hosts = frame_for r.machine world.notes.entry ∷ [] })
-      (inside w r.machine (P.image + q) ps (map (written_number w world.notes P made) world.script.args))
-      (record r { ending = Raised raises.StackFault })) (sym place) (sym params))
-      (entered_stands w world P mapped h ok pl before r world.notes.entry world.script.args made refl n st)
+      entered_stands w world P mapped h ok pl false before r world.notes.entry world.script.args n st

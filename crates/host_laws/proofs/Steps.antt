@@ -2,7 +2,7 @@
 use Rattle.std.proofs.Common.{◌≡◌, ℕ, ◌≤◌, Some, sym, ap, ◌∙◌, subst}
 use Rattle.std.specs.Option.{option_map_or}
 use Rattle.ebc_width.specs.Width.{IsWidth}
-use Rattle.host_model.specs.HostPlans.{View, Plan, Finishes, Leaves, Accepts, Enters, Replies, Ends, host_plan}
+use Rattle.host_model.specs.HostPlans.{View, Plan, Finishes, Leaves, Accepts, Enters, Replies, Resumes, Notifies, Ends, host_plan}
 use Rattle.host_model.specs.HostSteps.{host_step, host_view, performed}
 use Rattle.host_model.specs.Placements.{Placement, stack_bytes, IsPlacement}
 use Rattle.host_model.specs.Progress.{ScriptPlace}
@@ -14,8 +14,8 @@ use Rattle.neutral_machine.specs.Stands.{Stands}
 use Rattle.host_model.specs.World.{World}
 use Rattle.neutral_machine.specs.WorldFits.{WorldFits}
 use Rattle.host_laws.proofs.Accepting.{accept_stands}
-use Rattle.host_laws.proofs.Entering.{enter_stands}
-use Rattle.host_laws.proofs.Leaving.{end_stands, leave_stands, finish_stands}
+use Rattle.host_laws.proofs.Entering.{enter_stands, notify_stands}
+use Rattle.host_laws.proofs.Leaving.{end_stands, leave_stands, resume_stands, finish_stands}
 use Rattle.host_laws.proofs.Replies.{reply_stands}
 use Rattle.host_laws.proofs.Views.{views_stand}
 use Rattle.host_laws.specs.PlanFits.{PlanFits}
@@ -36,6 +36,8 @@ module _ (w : ℕ) (world : World) (P : Placement) (mapped : ℕ → ℕ) (h : I
       (accept_stands w world P mapped h ok pl a r e f.call stores f.there room st f.names f.shown))
   performed_stands a r (Enters e entry f values) room st n = enter_stands w world P mapped h ok pl a r e entry f values n st
   performed_stands a r (Replies e stores kind v) room st f = reply_stands w world P mapped h ok pl a r e stores kind v room st f.0 f.1
+  performed_stands a r (Resumes e) room st f = resume_stands w world P mapped h ok pl a r f.frame f.rest e f.is st
+  performed_stands a r (Notifies e f values) room st n = notify_stands w world P mapped h ok pl a r e f values n st
   performed_stands a r (Ends es e) room st f = end_stands w world P mapped h ok pl a r es e st
 
   -- The host's step, whatever the configuration holds: where the neutral machine isn't stuck and its plan fits, the run stands for

@@ -15,8 +15,8 @@ use Rattle.note_types.specs.BelowTests.{same_cell}
 use Rattle.note_types.specs.Cells.{cell_size}
 use Rattle.note_types.specs.Concrete.{register}
 use Rattle.ebc_width.specs.Ranges.{covers, holds}
-use Rattle.host_model.specs.HostPlans.{Asking, NoSite, Asks, View, Returns, Calls, GoesOn, field_at, signature_params, signature_method}
-use Rattle.host_model.specs.HostPlans.{site_of}
+use Rattle.host_model.specs.HostPlans.{Asking, NoSite, Asks, View, Calls, GoesOn, field_at, signature_params, signature_method}
+use Rattle.host_model.specs.HostPlans.{site_of, return_view, due_view}
 use Rattle.host_model.specs.HostSteps.{spot_of, cell_address, host_view, slots_of, asking_at, asking_by, writes_mapped, write_mapped}
 use Rattle.host_model.specs.HostSteps.{result_of, return_seen, call_seen, call_under_way}
 use Rattle.host_model.specs.Progress.{is_empty, ScriptPlace, NativeCall, NoCall, Asked, Accepted}
@@ -270,7 +270,7 @@ module _ (w : ℕ) (world : World) (P : Placement) (A : Addresses) (a : Config) 
   count_alike [] [] h = refl
   count_alike [] (s ∷ ss) h = absurd h
   count_alike (x ∷ hs) [] h = absurd h
-  count_alike (x ∷ hs) (s ∷ ss) h = ap suc (count_alike hs ss h.2)
+  count_alike (x ∷ hs) (s ∷ ss) h = ap suc (count_alike hs ss h.3)
 
   last_alike : (hs : List HostFrame) (ss : List SavedFrame) → HostsAlike w A hs ss → is_empty ss ≡ is_empty hs
   last_alike [] [] h = refl
@@ -284,10 +284,10 @@ module _ (w : ℕ) (world : World) (P : Placement) (A : Addresses) (a : Config) 
   return_alike (Function f ∷ fs) ss v h e = absurd (cc)
   return_alike (Host x ∷ fs) [] v h e = absurd h
   return_alike (Host x ∷ fs) (s ∷ ss) v h e =
-      let q = some_of_map (Returns (is_empty (hosts fs)) x.func) (neutral_result_of world a x.func) v e in
-      ap (λ f. Some (Returns (is_empty ss) f (result_of w world P r f))) h.0
-      ∙ ap (λ b. Some (Returns b x.func (result_of w world P r x.func))) (last_alike (hosts fs) ss h.2)
-      ∙ ap (λ t. Some (Returns (is_empty (hosts fs)) x.func t)) (result_alike x.func q.0 q.1) ∙ ap Some q.2
+      let q = some_of_map (return_view x.notified (is_empty (hosts fs)) x.func) (neutral_result_of world a x.func) v e in
+      ap₂ (λ n f. Some (return_view n (is_empty ss) f (result_of w world P r f))) h.1 h.0
+      ∙ ap (λ b. Some (return_view x.notified b x.func (result_of w world P r x.func))) (last_alike (hosts fs) ss h.3)
+      ∙ ap (λ t. Some (return_view x.notified (is_empty (hosts fs)) x.func t)) (result_alike x.func q.0 q.1) ∙ ap Some q.2
 
   -- ---- the native call under way
 
@@ -298,11 +298,14 @@ module _ (w : ℕ) (world : World) (P : Placement) (A : Addresses) (a : Config) 
   marks_alike [] (s ∷ ss) h = absurd h
   marks_alike (Function f ∷ fs) ss h = marks_alike fs ss h
   marks_alike (Host x ∷ fs) [] h = absurd h
-  marks_alike (Host x ∷ fs) (s ∷ ss) h = h.1
+  marks_alike (Host x ∷ fs) (s ∷ ss) h = h.2
 
   call_alike : (c : NativeCall Neutral) (d : NativeCall ℕ) (v : View) → CallShows w A c d → neutral_call_seen world a c ≡ Some v
       → call_seen w world P r d ≡ Some v
-  call_alike NoCall d v h e = absurd (cc)
+  call_alike NoCall NoCall v h e =
+      ap₂ (λ p n. due_view world p n) ok.script (count_alike (hosts a.frames) r.hosts ok.hosts) ∙ e
+  call_alike NoCall (Asked q x) v h e = absurd h
+  call_alike NoCall (Accepted f m xs) v h e = absurd h
   call_alike (Asked p t) NoCall v h e = absurd h
   call_alike (Asked p t) (Asked q x) v h e =
       let y = some_of_map (Calls p) (neutral_asking_at world a p t) v e in

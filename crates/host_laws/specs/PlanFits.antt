@@ -7,7 +7,7 @@ use Rattle.note_types.specs.declared.script.ScriptCall.{ScriptCall}
 use Rattle.note_types.specs.declared.shape.Field.{Field}
 use Rattle.note_types.specs.declared.value.Value.{Value}
 use Rattle.neutral_machine.specs.Config.{Config, Frame, Host, HostFrame, call_under_way}
-use Rattle.host_model.specs.HostPlans.{Store, Plan, Finishes, Leaves, Accepts, Enters, Replies, Ends}
+use Rattle.host_model.specs.HostPlans.{Store, Plan, Finishes, Leaves, Accepts, Enters, Replies, Resumes, Notifies, Ends}
 use Rattle.host_model.specs.HostSteps as width
 use Rattle.neutral_machine.specs.Layout.{addresses, total}
 use Rattle.neutral_machine.specs.Memory.{memory_of, cell_field}
@@ -71,4 +71,6 @@ PlanFits w world P a r (Accepts e entry objects stores) = CanAccept w world P a 
 PlanFits w world P a r (Enters e entry f values) = CanEnter w world a f values
 PlanFits w world P a r (Replies e stores kind v) = AllByRecursion (StoreNames world a (copied (call_under_way a.frames))) stores
     × IsValue world.notes v
+PlanFits w world P a r (Resumes e) = TopHost a
+PlanFits w world P a r (Notifies e f values) = CanEnter w world a f values
 PlanFits w world P a r (Ends es e) = ⊤

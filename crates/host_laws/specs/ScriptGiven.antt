@@ -7,6 +7,7 @@ use Rattle.host_model.specs.declared.object.TypedObject.{TypedObject}
 use Rattle.host_model.specs.Objects.{made_objects}
 use Rattle.note_types.specs.declared.notes.Notes.{Notes}
 use Rattle.note_types.specs.declared.script.Callback.{Callback}
+use Rattle.note_types.specs.declared.script.Notify.{Notify}
 use Rattle.note_types.specs.declared.script.OutValue.{OutValue}
 use Rattle.note_types.specs.declared.script.Script.{Script}
 use Rattle.note_types.specs.declared.script.ScriptCall.{ScriptCall}
@@ -32,5 +33,7 @@ pub record CallGiven (notes : Notes) (script : Script) (n : ℕ) (c : ScriptCall
   pub writes : AllByRecursion (λ (v : WriteValue). IsValue notes v.value) c.write
   pub result : IsValue notes c.result
 
-abbrev pub ScriptGiven : Notes → Script → Type 0
-ScriptGiven notes script = (n : ℕ) (c : ScriptCall) → slice_get script.call n ≡ Some c → CallGiven notes script n c
+-- what is given of all calls and all notifications of a script
+pub record ScriptGiven (notes : Notes) (script : Script) : Type 0 where
+  pub calls : (n : ℕ) (c : ScriptCall) → slice_get script.call n ≡ Some c → CallGiven notes script n c
+  pub notified : (n : ℕ) (x : Notify) → slice_get script.notify n ≡ Some x → AllByRecursion (IsValue notes) x.args

@@ -12,7 +12,7 @@ use Rattle.host_model.specs.World.{World}
 use Rattle.host_laws.specs.ScriptGiven.{ScriptGiven}
 use Rattle.host_laws.specs.StartGiven.{StartGiven}
 
--- the values and the cells of each call
+-- the values and the cells of each call, and the values of each notification
 abbrev pub CallsAreGiven : Type 0
 CallsAreGiven = (notes : Notes) (script : Script) → IsScript notes script → ScriptGiven notes script
 

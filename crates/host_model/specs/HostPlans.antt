@@ -28,7 +28,9 @@ use Rattle.note_types.specs.declared.notes.WantParam.{WantParam}
 use Rattle.note_types.specs.declared.reason.Reason.TheVariants as reason
 use Rattle.note_types.specs.declared.script.Callback.{Callback}
 use Rattle.note_types.specs.declared.script.CellValue.{CellValue}
+use Rattle.note_types.specs.declared.script.Notify.{Notify}
 use Rattle.note_types.specs.declared.script.OutValue.{OutValue}
+use Rattle.note_types.specs.declared.script.Script.{Script}
 use Rattle.note_types.specs.declared.script.ScriptCall.{ScriptCall}
 use Rattle.note_types.specs.declared.script.ScriptObject.{ScriptObject}
 use Rattle.note_types.specs.declared.script.WriteValue.{WriteValue}
@@ -40,12 +42,17 @@ use Rattle.note_types.specs.declared.value.Value.TheVariants as value
 
 -- ---- whose step it is
 
--- whether the next step is the host's: where a function has returned to the gate, and where a native call is under way
-abbrev pub host_turn : {A : Type 0} → Bool → NativeCall A → Bool
-host_turn true call = true
-host_turn false NoCall = false
-host_turn false (Asked place target) = true
-host_turn false (Accepted entry callbacks slots) = true
+-- a notification is left, and so many instructions are done as it waits for
+unfoldable pub is_due : Script → ScriptPlace → Bool
+is_due script at = option_map_or (λ (n : Notify). nat_le n.at at.instructions) (slice_get script.notify at.notifications) false
+
+-- whether the next step is the host's: where a function has returned to the gate, where a native call is under way, and else
+-- where a notification is due
+abbrev pub host_turn : {A : Type 0} → (gate : Bool) → NativeCall A → (due : Bool) → Bool
+host_turn true call due = true
+host_turn false NoCall due = due
+host_turn false (Asked place target) due = true
+host_turn false (Accepted entry callbacks slots) due = true
 
 -- ---- what the host sees
 
@@ -57,13 +64,25 @@ pub data Asking : Type 0 where
   Asks : (signature : ℕ) (elsewhere : Option ℕ) (args : List Seen) → Asking
 
 -- What the host sees when it has a step to do: a function that it entered has returned, the first one or another, with this
--- value; a call instruction at a place asks for a native call; or a call is under way that the script's call `entry` answers,
+-- value; a call instruction at a place asks for a native call; a call is under way that the script's call `entry` answers,
 -- where so many callbacks were entered, so many frames of the host are there, and all cells that its reply writes are mapped
--- or not.
+-- or not; a function that it entered as a notification has returned, with this value; or a notification is due, where so many
+-- frames of the host are there.
 pub data View : Type 0 where
   Returns : (first : Bool) (function : ℕ) (value : Value) → View
   Calls : (place : ℕ) (asking : Asking) → View
   GoesOn : (entry callbacks frames : ℕ) (mapped : Bool) → View
+  NotifiedReturns : (function : ℕ) (value : Value) → View
+  IsDue : (frames : ℕ) → View
+
+-- what it sees where a function has returned that it entered, as a notification or not
+abbrev pub return_view : (notified first : Bool) → (function : ℕ) → Value → View
+return_view true first f v = NotifiedReturns f v
+return_view false first f v = Returns first f v
+
+-- what it sees where no native call is under way
+abbrev pub due_view : World → ScriptPlace → (frames : ℕ) → Option View
+due_view world at frames = if is_due world.script at then Some (IsDue frames) else None
 
 -- ---- what the host does
 
@@ -79,14 +98,17 @@ pub record Store : Type 0 where
   pub value : Value
 
 -- What the host does in a step. It takes a result and leaves the run; it leaves a function; it accepts a native call, makes
--- these objects and fills them; it enters a function with these values; it stores values and gives a result of a type; or the
--- run ends. Each but the first and the last adds an event, and the last may.
+-- these objects and fills them; it enters a function with these values; it stores values and gives a result of a type; it leaves
+-- a function that it entered as a notification; it enters one so; or the run ends. Each but the first and the last adds an
+-- event, and the last may.
 pub data Plan : Type 0 where
   Finishes : (result : Value) → Plan
   Leaves : (event : Event) → Plan
   Accepts : (event : Event) (entry : ℕ) (objects : List TypedObject) (stores : List Store) → Plan
   Enters : (event : Event) (entry function : ℕ) (values : List Value) → Plan
   Replies : (event : Event) (stores : List Store) (kind : Option Ty) (result : Value) → Plan
+  Resumes : (event : Event) → Plan
+  Notifies : (event : Event) (function : ℕ) (values : List Value) → Plan
   Ends : (events : List Event) (ending : Ending) → Plan
 
 -- ---- cells of objects
@@ -290,6 +312,21 @@ reply_plan notes made entry mapped c =
     (signature_result notes c.signature) c.result
     else Ends [] (Mismatch (reason.Reply entry))
 
+-- ---- the notify step
+
+-- the function of a notification may be entered with its values, and all thunks of the notes were served
+abbrev pub notification_fits : World → List TypedObject → ScriptPlace → Notify → Bool
+notification_fits world made at n =
+    may_enter world.notes n.function
+    && (fits_each made (function_params world.notes n.function) n.args && nat_le (length world.notes.thunk) at.thunks)
+
+-- a notification of the script, the next one
+unfoldable pub notify_plan : World → List TypedObject → ScriptPlace → (frames : ℕ) → Notify → Plan
+notify_plan world made at frames n =
+    if not (notification_fits world made at n) then Ends [] (Mismatch (reason.Notify at.notifications))
+    else if nat_le frame_limit frames then Ends [] (Mismatch reason.Depth)
+    else Notifies (event.Notified n.function (map given n.args)) n.function n.args
+
 -- ---- the host's plan
 
 -- a native call that was accepted goes on with its next callback, and with its reply after the last one
@@ -305,6 +342,10 @@ host_plan world at (Calls place asking) = call_plan world at.entries place askin
 host_plan world at (GoesOn entry callbacks frames mapped) =
     option_map_or (next_plan world.notes (made_objects world.notes world.script at.entries) entry callbacks frames mapped)
     (slice_get world.script.call entry) (Ends [] ScriptEnd)
+host_plan world at (NotifiedReturns f v) = Resumes (event.Resumed f v)
+host_plan world at (IsDue frames) =
+    option_map_or (notify_plan world (made_objects world.notes world.script at.entries) at frames)
+    (slice_get world.script.notify at.notifications) (Ends [] ScriptEnd)
 
 -- ---- thunks
 

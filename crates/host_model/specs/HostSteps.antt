@@ -1,5 +1,5 @@
 -- Meaning: what the modelled host sees of a run at a width of w bytes, and what its plans leave. docs/HOST.md, "Steps".
-use Rattle.std.specs.Prelude.{ℕ, suc, ◌+◌, ◌-◌, ◌*◌, Bool, false, ◌&&◌, List, [], ◌∷◌, ◌++◌, map, length, Option, Some, None, nat_eq}
+use Rattle.std.specs.Prelude.{ℕ, suc, ◌+◌, ◌-◌, ◌*◌, Bool, true, false, ◌&&◌, List, [], ◌∷◌, ◌++◌, map, length, Option, Some, None, nat_eq}
 use Rattle.std.specs.Prelude.{if◌then◌else◌, slice_get, slice_index, slice_set}
 use Rattle.std.specs.List.{list_all, position}
 use Rattle.std.specs.Option.{option_map_or, option_and_then}
@@ -8,14 +8,17 @@ use Rattle.ebc_width.specs.Bytes.{little_endian}
 use Rattle.note_types.specs.Cells.{cell_size}
 use Rattle.note_types.specs.Concrete.{Concrete, stored, register, with_register}
 use Rattle.ebc_width.specs.Ranges.{Range, covers, holds}
-use Rattle.host_model.specs.HostPlans.{Asking, NoSite, Unmapped, Asks, View, Returns, Calls, GoesOn, Target, InObject, InArgument, Store}
-use Rattle.host_model.specs.HostPlans.{Plan, Finishes, Leaves, Accepts, Enters, Replies, Ends, ThunkView, NotMapped, NamesNone, Names}
+use Rattle.host_model.specs.HostPlans.{Asking, NoSite, Unmapped, Asks, View, Calls, GoesOn, Target, InObject, InArgument, Store}
+use Rattle.host_model.specs.HostPlans.{return_view, due_view}
+use Rattle.host_model.specs.HostPlans.{Plan, Finishes, Leaves, Accepts, Enters, Replies, Resumes, Notifies, Ends}
+use Rattle.host_model.specs.HostPlans.{ThunkView, NotMapped, NamesNone, Names}
 use Rattle.host_model.specs.HostPlans.{field_at, signature_params, signature_method, site_of, function_params, host_plan}
 use Rattle.host_model.specs.World.{World}
 use Rattle.host_model.specs.Objects.{TypedObject, made_objects}
 use Rattle.host_model.specs.Placements.{Placement, slot_bytes, return_cell, params_bytes, image_range, method_at, thunk_at, handle_at}
 use Rattle.host_model.specs.Placements.{instance_address, object_range, code_at}
-use Rattle.host_model.specs.Progress.{one_entry, one_thunk, NativeCall, NoCall, Asked, Accepted, copied, one_callback, is_empty}
+use Rattle.host_model.specs.Progress.{one_entry, one_notification, one_thunk, NativeCall, NoCall, Asked, Accepted, copied, one_callback}
+use Rattle.host_model.specs.Progress.{is_empty}
 use Rattle.host_model.specs.RunState.{SavedFrame, RunState}
 use Rattle.host_model.specs.Values.{word, minus, error_at}
 use Rattle.host_model.specs.Readings.{sort_of_type, reading_of, arguments_read, slots_from}
@@ -130,11 +133,11 @@ result_of w world P r f =
 -- what the host sees where the top frame is there and its function has returned
 abbrev pub return_seen : ℕ → World → Placement → RunState → List SavedFrame → Option View
 return_seen w world P r [] = None
-return_seen w world P r (f ∷ fs) = Some (Returns (is_empty fs) f.func (result_of w world P r f.func))
+return_seen w world P r (f ∷ fs) = Some (return_view f.notified (is_empty fs) f.func (result_of w world P r f.func))
 
--- what the host sees of a native call that is under way
+-- what the host sees of a native call that is under way, and where none is, of a notification that is due
 abbrev pub call_seen : ℕ → World → Placement → RunState → NativeCall ℕ → Option View
-call_seen w world P r NoCall = None
+call_seen w world P r NoCall = due_view world r.script (length r.hosts)
 call_seen w world P r (Asked place target) = Some (Calls place (asking_at w world P r place target))
 call_seen w world P r (Accepted entry callbacks slots) = Some (GoesOn entry callbacks (length r.hosts) (writes_mapped w world P r entry))
 
@@ -189,14 +192,14 @@ inside w s target params numbers =
     (stored low (cut_at w (top + 8)) 8 0))
     (stored called (cut_at w top) 8 s.gate)
 
--- the frame that keeps what the machine holds where a function is entered
-abbrev pub frame_for : Concrete → ℕ → SavedFrame
-frame_for s f = record { func = f; notified = false; registers = s.registers; ip = s.ip; flags = s.flags; call = NoCall }
+-- the frame that keeps what the machine holds where a function is entered, as a notification or not
+abbrev pub frame_for : (notified : Bool) → Concrete → ℕ → SavedFrame
+frame_for notified s f = record { func = f; notified = notified; registers = s.registers; ip = s.ip; flags = s.flags; call = NoCall }
 
 -- the run inside a function, or ended where the cells below R0 aren't mapped
-abbrev pub entered : ℕ → World → Placement → RunState → ℕ → List ℕ → RunState
-entered w world P r f numbers =
-    option_map_or (λ s. record r { machine = s; hosts = frame_for r.machine f ∷ r.hosts })
+abbrev pub entered : (notified : Bool) → ℕ → World → Placement → RunState → ℕ → List ℕ → RunState
+entered notified w world P r f numbers =
+    option_map_or (λ s. record r { machine = s; hosts = frame_for notified r.machine f ∷ r.hosts })
     (inside w r.machine (code_at world.notes P f) (function_params world.notes f) numbers)
     (record r { ending = Raised raises.StackFault })
 
@@ -208,6 +211,15 @@ outside s f = record s { registers = slice_set f.registers 7 (register s 7); ip 
 abbrev pub left : RunState → List SavedFrame → RunState
 left r [] = r
 left r (f ∷ fs) = record r { machine = outside r.machine f; hosts = fs }
+
+-- the machine once the frame of a notification is left: R0 to R7, ip and the flags as they were
+abbrev pub as_before : Concrete → SavedFrame → Concrete
+as_before s f = record s { registers = f.registers; ip = f.ip; flags = f.flags }
+
+-- the run once its top frame is left, which is one of a notification
+abbrev pub resumed : RunState → List SavedFrame → RunState
+resumed r [] = r
+resumed r (f ∷ fs) = record r { machine = as_before r.machine f; hosts = fs }
 
 -- the slots that the call step copies
 abbrev pub slots_asked : ℕ → World → RunState → NativeCall ℕ → List ℕ
@@ -228,7 +240,7 @@ performed w world P r (Accepts e entry objects stores) =
       trace = r.trace ++ e ∷ [];
     }
 performed w world P r (Enters e entry f values) =
-    entered w world P
+    entered false w world P
     (record r { hosts = with_call (one_callback (call_under_way r.hosts)) r.hosts; trace = r.trace ++ e ∷ [] })
     f (map (written_number w world.notes P (objects_at world r)) values)
 performed w world P r (Replies e stores kind v) =
@@ -239,6 +251,11 @@ performed w world P r (Replies e stores kind v) =
       hosts = with_call NoCall r.hosts;
       trace = r.trace ++ e ∷ [];
     }
+performed w world P r (Resumes e) = with_events (resumed r r.hosts) (e ∷ [])
+performed w world P r (Notifies e f values) =
+    entered true w world P
+    (record r { script = one_notification r.script; trace = r.trace ++ e ∷ [] })
+    f (map (written_number w world.notes P (objects_at world r)) values)
 performed w world P r (Ends es ending) = record r { trace = r.trace ++ es; ending = ending }
 
 -- ---- the host's step

@@ -21,6 +21,10 @@ one_entry p = record p { entries = p.entries + 1 }
 abbrev pub one_instruction : ScriptPlace → ScriptPlace
 one_instruction p = record p { instructions = p.instructions + 1 }
 
+-- once one more notification was entered
+abbrev pub one_notification : ScriptPlace → ScriptPlace
+one_notification p = record p { notifications = p.notifications + 1 }
+
 -- once one more thunk was served
 abbrev pub one_thunk : ScriptPlace → ScriptPlace
 one_thunk p = record p { thunks = p.thunks + 1 }

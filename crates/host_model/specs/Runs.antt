@@ -11,7 +11,7 @@ use Rattle.note_types.specs.declared.notes.Notes.{Notes}
 use Rattle.note_types.specs.declared.script.Script.{Script}
 use Rattle.pe_image.specs.Mapped.{mapped}
 use Rattle.pe_image.specs.declared.image.Image.{Image}
-use Rattle.host_model.specs.HostPlans.{host_turn}
+use Rattle.host_model.specs.HostPlans.{host_turn, is_due}
 use Rattle.host_model.specs.HostSteps.{spot_of, call_place, call_under_way, with_call, host_step, thunk_view, thunk_made}
 use Rattle.host_model.specs.Placements.{Placement}
 use Rattle.host_model.specs.Progress.{one_instruction, Asked}
@@ -43,7 +43,8 @@ instruction_step w world P r = after_instruction w world P (record r { script = 
 -- a step of a run that goes on: the host's, or the machine's
 unfoldable pub running_step : ℕ → World → Placement → RunState → RunState
 running_step w world P r =
-    if host_turn (nat_eq r.machine.ip r.machine.gate) (call_under_way r.hosts) then host_step w world P r else instruction_step w world P r
+    if host_turn (nat_eq r.machine.ip r.machine.gate) (call_under_way r.hosts) (is_due world.script r.script) then host_step w world P r
+    else instruction_step w world P r
 
 -- a step of a run, by how it ended
 abbrev pub step_if : ℕ → World → Placement → RunState → Ending → RunState

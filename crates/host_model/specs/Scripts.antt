@@ -1,11 +1,13 @@
 -- Meaning: what holds of a script that was read under notes: its values are within what a text may have, the things that it
 -- names are there, and the conditions are met, said of each thing by itself. That no table gives a cell twice isn't said
 -- here. docs/SCRIPTS.md, "What the reader refuses", has them in words.
-use Rattle.std.specs.Prelude.{◌≡◌, ◌⊎◌, ℕ, ◌+◌, ◌^◌, ◌≤◌, ◌<◌, Bool, true, false, not, ◌&&◌, List, Some, length, nat_eq, nat_le, slice_get}
-use Rattle.std.specs.Prelude.{take, ⊤}
+use Rattle.std.specs.Prelude.{◌≡◌, ◌⊎◌, ℕ, ◌+◌, ◌^◌, ◌≤◌, ◌<◌, Bool, true, false, not, ◌&&◌, List, [], Some, length, map, nat_eq, nat_le}
+use Rattle.std.specs.Prelude.{slice_get, take, ⊤}
 use Rattle.std.specs.List.{list_any, sum_by}
+use Rattle.std.specs.List.Sorted.{IsStrictlyIncreasing}
 use Rattle.object_memory.specs.Memory.{padded}
 use Rattle.note_types.specs.Cells.{content_type}
+use Rattle.note_types.specs.Limits.{IsVersion}
 use Rattle.note_types.specs.Records.{Each}
 use Rattle.note_types.specs.Shapes.{IsShape}
 use Rattle.note_types.specs.declared.cell.Cell.{Cell}
@@ -13,6 +15,7 @@ use Rattle.note_types.specs.declared.cell.Cell.TheVariants as cell
 use Rattle.note_types.specs.declared.notes.Notes.{Notes}
 use Rattle.note_types.specs.declared.script.Callback.{Callback}
 use Rattle.note_types.specs.declared.script.CellValue.{CellValue}
+use Rattle.note_types.specs.declared.script.Notify.{Notify}
 use Rattle.note_types.specs.declared.script.OutValue.{OutValue}
 use Rattle.note_types.specs.declared.script.Script.{Script}
 use Rattle.note_types.specs.declared.script.ScriptCall.{ScriptCall}
@@ -137,14 +140,30 @@ pub record IsCallOf (notes : Notes) (script : Script) (number : ℕ) (c : Script
   pub room : have_room notes (placed_objects script (number + 1)) ≡ true
   pub callbacks : sum_by callbacks_of (take (number + 1) script.call) ≤ 16384
 
+-- ---- notifications
+
+-- a notification enters a function of the notes with values, after at most 10,000,000 instructions
+pub record IsNotifyOf (notes : Notes) (n : Notify) : Type 0 where
+  pub at : n.at ≤ 10000000
+  pub function : n.function < length notes.function
+  pub args : Each (IsWritten notes) n.args
+
+-- The notifications of a script: version 1 has none; there are few, and each waits for more instructions than the one before.
+pub record HasNotifications (notes : Notes) (script : Script) : Type 0 where
+  pub each : Each (IsNotifyOf notes) script.notify
+  pub none : script.version ≡ 1 → script.notify ≡ []
+  pub few : length script.notify ≤ 16384
+  pub ascend : IsStrictlyIncreasing (map (λ (n : Notify). n.at) script.notify)
+
 -- ---- the whole
 
 -- a script that was read
 pub record IsScript (notes : Notes) (script : Script) : Type 0 where
-  pub version : script.version ≡ 1
+  pub version : IsVersion script.version
   pub written : Each (IsWritten notes) script.args
   pub args : fits_each (made_objects notes script 0) (function_params notes notes.entry) script.args ≡ true
   pub objects : (k : ℕ) (o : ScriptObject) → slice_get script.object k ≡ Some o
       → IsObjectOf notes (all_made notes script) (length notes.statics + k) o
   pub calls : (i : ℕ) (c : ScriptCall) → slice_get script.call i ≡ Some c → IsCallOf notes script i c
   pub room : (k : ℕ) (o : ScriptObject) → slice_get script.object k ≡ Some o → have_room notes (take (k + 1) script.object) ≡ true
+  pub notify : HasNotifications notes script

@@ -1,6 +1,6 @@
 -- Meaning: where a run starts at a width of w bytes: inside the entry function, with the script's arguments, in the host's
 -- first frame. docs/HOST.md, "The start".
-use Rattle.std.specs.Prelude.{ℕ, ◌-◌, [], ◌∷◌, map, length, if◌then◌else◌}
+use Rattle.std.specs.Prelude.{ℕ, ◌-◌, false, [], ◌∷◌, map, length, if◌then◌else◌}
 use Rattle.ebc_width.specs.Ranges.{covers}
 use Rattle.note_types.specs.Concrete.{Concrete}
 use Rattle.host_model.specs.HostPlans.{filling}
@@ -40,6 +40,6 @@ start_machine w world P mapped =
 -- the run before its first step; `mapped` has the bytes of the image at its base
 unfoldable pub run_start : ℕ → World → Placement → (ℕ → ℕ) → RunState
 run_start w world P mapped =
-    entered w world P
+    entered false w world P
     (record { machine = start_machine w world P mapped; hosts = []; script = script_start; trace = []; ending = Running })
     world.notes.entry (map (written_number w world.notes P (made_objects world.notes world.script 0)) world.script.args)

@@ -5,7 +5,7 @@ ghost use Rattle.ebc_width.specs.Width.{IsWidth};
 
 use callex_thunk::{NO_ENTRY, ThunkFault, gather};
 use ebc_machine::Machine;
-use entry_thunk::{EnterEnd, LeftEntry, enter, leave};
+use entry_thunk::{EnterEnd, LeftEntry, enter, leave, notify};
 use frame_stack::{Frame, FrameStack};
 use note_types::{Name, Sequence, Signature, SlotKind, Want, WantParam};
 use object_memory::ObjMem;
@@ -75,7 +75,12 @@ fn enters_and_leaves<const W: usize>(
     m.ip = GATE;
     m.flags = 1;
     let left = leave(&mut m, &mut frames);
-    assert_eq!(rt; left, Some(LeftEntry { func: 3, r7: 15 }));
+    let told = LeftEntry {
+        func: 3,
+        r7: 15,
+        notified: false,
+    };
+    assert_eq!(rt; left, Some(told));
     assert_eq!(rt; m.regs.as_slice(), [end, 1, 2, 3, 4, 5, 6, 15].as_slice());
     assert_eq!(rt; (m.ip, m.flags, m.gate), (0x500, 3, GATE));
     assert_eq!(rt; leave(&mut m, &mut frames), None);
@@ -86,6 +91,42 @@ fn enters_and_leaves<const W: usize>(
 fn a_function_is_entered_and_left(rt: HostRuntime) -> Result<(), Fail> {
     enters_and_leaves::<4>(&rt, rt.alloc(), [16, 12, 4])?;
     enters_and_leaves::<8>(&rt, rt.alloc(), [20, 12, 4])
+}
+
+// A function is entered as a notification and left: R7 and the flags are given back too.
+fn notifies_and_leaves<const W: usize>(rt: &impl Abort, alloc: Global) -> Result<(), Fail>
+    requires { IsWidth W }
+{
+    let (mut m, mut mem, end) = at_stack::<W>(alloc, 64)?;
+    let mut frames = FrameStack::new(alloc)?;
+    let before = m;
+    let kinds = [SlotKind::Q];
+    let done = notify(&mut m, &mut mem, &mut frames, 3, 0x2000, &kinds, &[5]);
+    assert_eq!(rt; done, EnterEnd::Done);
+    let top = end.wrapping_sub(24);
+    assert_eq!(rt; m.regs.as_slice(), [top, 1, 2, 3, 4, 5, 6, 7].as_slice());
+    assert_eq!(rt; (m.ip, m.flags, m.gate), (0x2000, 0, GATE));
+    assert_eq!(rt; number(&mem, end.wrapping_sub(8), true), 5);
+    assert_eq!(rt; number(&mem, top, true), GATE);
+
+    m.regs = [8, 9, 10, 11, 12, 13, 14, 15];
+    m.ip = GATE;
+    m.flags = 1;
+    let told = LeftEntry {
+        func: 3,
+        r7: 15,
+        notified: true,
+    };
+    assert_eq!(rt; leave(&mut m, &mut frames), Some(told));
+    assert!(rt; m == before);
+    assert_eq!(rt; leave(&mut m, &mut frames), None);
+    Ok(())
+}
+
+#[test]
+fn a_notification_is_entered_and_left(rt: HostRuntime) -> Result<(), Fail> {
+    notifies_and_leaves::<4>(&rt, rt.alloc())?;
+    notifies_and_leaves::<8>(&rt, rt.alloc())
 }
 
 // Nine functions of one wide parameter are entered one in the other, each with 24 bytes of the stack, and no tenth.
@@ -103,6 +144,8 @@ fn enters_nine<const W: usize>(rt: &impl Abort, alloc: Global, bytes: u32) -> Re
     }
     let before = m;
     let done = enter(&mut m, &mut mem, &mut frames, 9, 0x2000, &kinds, &[5]);
+    assert_eq!(rt; done, EnterEnd::TooDeep);
+    let done = notify(&mut m, &mut mem, &mut frames, 9, 0x2000, &kinds, &[5]);
     assert_eq!(rt; done, EnterEnd::TooDeep);
     assert!(rt; m == before);
     for above in 0..9 {

@@ -305,6 +305,7 @@ module _ (world : World) (states : States) (ok : RunWorld world states) where
       } in
       record {
         served = x.served;
+        thunks = x.thunks;
         sound = record {
           cells = cells_live world.notes (memory_of world (accepted a p f fs c w.args t))
               (cells_same world.notes _ (memory_of world (accepted a p f fs c w.args t)) (accepted_same a p f fs c w.args t e)

@@ -2,9 +2,9 @@
 use Rattle.std.specs.List.{AllZip, list_all, zip}
 use Rattle.std.specs.Option.{option_map_or}
 use Rattle.std.proofs.Math.Nat.{zero-div}
-use Rattle.std.proofs.Common.{◌≡◌, ◌⊎◌, ℕ, zero, suc, ◌%◌, ◌<◌, ◌≤◌, ◌^◌, Bool, true, false, if◌then◌else◌, nat_eq, List, [], ◌∷◌, take}
-use Rattle.std.proofs.Common.{length, Option, Some, None, refl, sym, ap, ◌∙◌, subst, subst₂, arith, inl, inr, ⊎_elim, slice_get}
-use Rattle.std.proofs.lemmas.Bool.{and_parts, eqb-true}
+use Rattle.std.proofs.Common.{◌≡◌, ◌⊎◌, ℕ, zero, suc, ◌%◌, ◌<◌, ◌≤◌, ◌^◌, Bool, true, false, not, if◌then◌else◌, nat_eq, List, [], ◌∷◌}
+use Rattle.std.proofs.Common.{take, length, Option, Some, None, refl, sym, ap, ◌∙◌, subst, subst₂, arith, inl, inr, ⊎_elim, slice_get}
+use Rattle.std.proofs.lemmas.Bool.{and_parts, eqb-true, false≢true}
 use Rattle.std.proofs.lemmas.Option.{none-some, same_Some}
 use Rattle.note_types.specs.Notes.{entry_state}
 use Rattle.note_types.specs.Passing.{IsHandedIn, IsPassed}
@@ -25,6 +25,8 @@ use Rattle.neutral_machine.specs.Fits.{Fits, FitsPlain}
 use Rattle.neutral_machine.specs.FitsState.{FitsState}
 use Rattle.neutral_machine.specs.Memory.{Memory, memory_of}
 use Rattle.neutral_machine.specs.NeutralHost.{entered, param_slots}
+use Rattle.ebc_base.proofs.Lists.{within_some}
+use Rattle.host_model.specs.HostPlans.{function_params, may_enter}
 use Rattle.host_model.specs.Placements.{place_of, frame_limit}
 use Rattle.host_model.specs.Progress.{NoCall}
 use Rattle.host_model.specs.ScriptValues.{fits, fits_each}
@@ -118,6 +120,35 @@ slots_fit notes m d f (p ∷ ps) (v ∷ vs) h x =
       }),
     )
 
+-- ---- functions that the firmware enters later
+
+-- a function that isn't the entry function may be entered with these values
+pub record MayBeEntered (notes : Notes) (made : List TypedObject) (func : ℕ) (vs : List Value) : Type 0 where
+  pub note : FnNote
+  pub there : slice_get notes.function func ≡ Some note
+  pub may : IsEntered notes func
+  pub other : nat_eq func notes.entry ≡ false
+  pub values : ValuesFit made note.params vs
+
+pub may_be_entered : (notes : Notes) (made : List TypedObject) (func : ℕ) (vs : List Value) → func < length notes.function
+    → may_enter notes func ≡ true → fits_each made (function_params notes func) vs ≡ true → MayBeEntered notes made func vs
+may_be_entered notes made func vs l enter fit =
+    let note = within_some notes.function func l in
+    let test = and_parts (not (nat_eq func notes.entry)) _ enter in
+    let marked : note.0.enter ≡ true = sym (ap (λ (o : Option FnNote). option_map_or (λ (g : FnNote). g.enter) o false) note.1) ∙ test.1 in
+    record {
+      note = note.0;
+      there = note.1;
+      may = inr (note.0, note.1, marked);
+      other = not_true (nat_eq func notes.entry) test.0;
+      values = values_fit made note.0.params vs
+          (sym (ap (λ (o : Option FnNote). fits_each made (option_map_or (λ (g : FnNote). g.params) o []) vs) note.1) ∙ fit);
+    }
+  where
+    not_true : (e : Bool) → not e ≡ true → e ≡ false
+    not_true true h = absurd (false≢true h)
+    not_true false h = refl
+
 -- ---- the state at a function's start
 
 -- a frame that was just made fits the entry state
@@ -148,10 +179,11 @@ entry_fits notes m d func ret regs c made e = record {
 
 -- ---- entering
 
--- What holds of a configuration in which the host enters a function: its cells fit, its frames keep and wait, the values fit the
--- parameters, and as many thunks are made as the function's entry state says.
-pub record CanEnter (world : World) (states : States) (y : Config) (func : ℕ) (vs : List Value) : Type 0 where
+-- What holds of a configuration in which the host enters a function, as a notification or not: its cells fit, its frames keep and
+-- wait, the values fit the parameters, and as many thunks are made as the function's entry state says.
+pub record CanEnter (world : World) (states : States) (mark : Bool) (y : Config) (func : ℕ) (vs : List Value) : Type 0 where
   pub served : y.script.thunks ≡ y.made
+  pub thunks : y.made ≤ length world.notes.thunk
   pub sound : SoundBelow world y
   pub few : length (hosts y.frames) < frame_limit
   pub waiting : Chain world states (live_memory world y) y.made y.frames
@@ -161,11 +193,12 @@ pub record CanEnter (world : World) (states : States) (y : Config) (func : ℕ) 
   pub may : IsEntered world.notes func
   pub made : y.made ≡ (if nat_eq func world.notes.entry then 0 else length world.notes.thunk)
   pub values : ValuesFit (memory_of world y).objects note.params vs
-  -- what is below goes on to wait, whatever the host frame on it has
-  pub below : (h : HostFrame) → h.saved ≡ y.registers → h.spot ≡ y.spot → BelowHost world states (live_memory world y) y.made h y.frames
+  -- what is below waits, with the configuration's registers, C and spot in the host frame upon it
+  pub below : (h : HostFrame) → h.notified ≡ mark → h.saved ≡ y.registers → h.c ≡ y.c → h.spot ≡ y.spot
+      → BelowHost world states (live_memory world y) y.made h y.frames
 
 module _ (world : World) (states : States) (notes : IsNotes world.notes) (starts : HasStarts world states)
-    (fits_below : StatesFitBelow) where
+    (fits_below : StatesFitBelow) (mark : Bool) where
   params_passed : (func : ℕ) (note : FnNote) → slice_get world.notes.function func ≡ Some note → IsEntered world.notes func
       → Each (λ (p : Param). IsHandedIn p.ty × IsPassed p.ty) note.params
   params_passed func note there may k p e = (
@@ -178,11 +211,11 @@ module _ (world : World) (states : States) (notes : IsNotes world.notes) (starts
   inner y func = record { func = func; ret = 0; saved = y.registers; items = [] }
 
   abbrev outer : Config → ℕ → List StackItem → HostFrame
-  outer y func slots = record { func = func; notified = false; saved = y.registers; c = y.c; spot = y.spot; params = slots; call = NoCall }
+  outer y func slots = record { func = func; notified = mark; saved = y.registers; c = y.c; spot = y.spot; params = slots; call = NoCall }
 
   entered_same : (y : Config) (func : ℕ) (slots : List StackItem)
-      → SameMemory (live_memory world y) (live_memory world (entered world y func slots))
-  entered_same y func slots = live_same world.notes (memory_of world y) (memory_of world (entered world y func slots))
+      → SameMemory (live_memory world y) (live_memory world (entered mark world y func slots))
+  entered_same y func slots = live_same world.notes (memory_of world y) (memory_of world (entered mark world y func slots))
       (record { objects = refl; locals = λ e. go e; cells = λ p. refl })
     where
       go : (e : ℕ) → locals_at (Function (inner y func) ∷ Host (outer y func slots) ∷ y.frames) e ≡ locals_at y.frames e
@@ -204,8 +237,8 @@ module _ (world : World) (states : States) (notes : IsNotes world.notes) (starts
   abbrev slots_of : Config → FnNote → List Value → List StackItem
   slots_of y note vs = param_slots world.notes (memory_of world y).objects note.params vs
 
-  entered_frames : (y : Config) (func : ℕ) (vs : List Value) → (x : CanEnter world states y func vs)
-      → FramesKeep world (live_memory world (entered world y func (slots_of y x.note vs))) y.made
+  entered_frames : (y : Config) (func : ℕ) (vs : List Value) → (x : CanEnter world states mark y func vs)
+      → FramesKeep world (live_memory world (entered mark world y func (slots_of y x.note vs))) y.made
       (Function (inner y func) ∷ Host (outer y func (slots_of y x.note vs)) ∷ y.frames)
   entered_frames y func vs x = (
     (
@@ -218,7 +251,7 @@ module _ (world : World) (states : States) (notes : IsNotes world.notes) (starts
       },
       (
         refl,
-        slots_fit world.notes (live_memory world (entered world y func (slots_of y x.note vs))) (depth y.frames)
+        slots_fit world.notes (live_memory world (entered mark world y func (slots_of y x.note vs))) (depth y.frames)
             (inner y func) x.note.params vs (params_passed func x.note x.there x.may) x.values,
       ),
     ),
@@ -229,13 +262,13 @@ module _ (world : World) (states : States) (notes : IsNotes world.notes) (starts
         there = x.there;
         kinds = slots_kinds world.notes (memory_of world y).objects x.note.params vs x.values.long;
       },
-      frames_later world (live_memory world y) (live_memory world (entered world y func (slots_of y x.note vs))) y.made y.frames
+      frames_later world (live_memory world y) (live_memory world (entered mark world y func (slots_of y x.note vs))) y.made y.frames
           (same_later _ _ (entered_same y func (slots_of y x.note vs))) x.sound.frames,
     ),
   )
 
-  entered_top : (y : Config) (func : ℕ) (vs : List Value) → (x : CanEnter world states y func vs)
-      → RunsAt world states (entered world y func (slots_of y x.note vs)) (place_of world.notes func) (inner y func)
+  entered_top : (y : Config) (func : ℕ) (vs : List Value) → (x : CanEnter world states mark y func vs)
+      → RunsAt world states (entered mark world y func (slots_of y x.note vs)) (place_of world.notes func) (inner y func)
       (Host (outer y func (slots_of y x.note vs)) ∷ y.frames)
   entered_top y func vs x =
       let s = starts.starts func x.note x.there in
@@ -247,28 +280,29 @@ module _ (world : World) (states : States) (notes : IsNotes world.notes) (starts
         fits = by s.0 s.2;
       }
     where
-      entry : FitsState world.notes (live_memory world (entered world y func (slots_of y x.note vs))) (depth y.frames) (inner y func)
+      entry : FitsState world.notes (live_memory world (entered mark world y func (slots_of y x.note vs))) (depth y.frames) (inner y func)
           (entry_state world.notes func) y.registers false y.made
-      entry = entry_fits world.notes (live_memory world (entered world y func (slots_of y x.note vs)))
+      entry = entry_fits world.notes (live_memory world (entered mark world y func (slots_of y x.note vs)))
           (depth y.frames) func 0 y.registers false y.made x.made
 
       by : (s : State) → EntersAs (entry_state world.notes func) s
-          → FitsState world.notes (live_memory world (entered world y func (slots_of y x.note vs))) (depth y.frames)
+          → FitsState world.notes (live_memory world (entered mark world y func (slots_of y x.note vs))) (depth y.frames)
           (inner y func) s y.registers false y.made
-      by s (as_entry e) = subst (λ t. FitsState world.notes (live_memory world (entered world y func (slots_of y x.note vs)))
+      by s (as_entry e) = subst (λ t. FitsState world.notes (live_memory world (entered mark world y func (slots_of y x.note vs)))
           (depth y.frames) (inner y func) t y.registers false y.made) (sym e) entry
-      by s (as_point l) = fits_below world.notes (live_memory world (entered world y func (slots_of y x.note vs))) (depth y.frames)
+      by s (as_point l) = fits_below world.notes (live_memory world (entered mark world y func (slots_of y x.note vs))) (depth y.frames)
           (inner y func) (entry_state world.notes func) s y.registers false y.made l entry
 
-  pub entered_holds : (y : Config) (func : ℕ) (vs : List Value) → (x : CanEnter world states y func vs)
-      → Holds world states (entered world y func (param_slots world.notes (memory_of world y).objects x.note.params vs))
+  pub entered_holds : (y : Config) (func : ℕ) (vs : List Value) → (x : CanEnter world states mark y func vs)
+      → Holds world states (entered mark world y func (param_slots world.notes (memory_of world y).objects x.note.params vs))
   entered_holds y func vs x =
       let same = entered_same y func (slots_of y x.note vs) in
       record {
         served = x.served;
+        thunks = x.thunks;
         sound = record {
           cells = cells_same world.notes (live_memory world y)
-              (live_memory world (entered world y func (slots_of y x.note vs))) same x.sound.cells;
+              (live_memory world (entered mark world y func (slots_of y x.note vs))) same x.sound.cells;
           frames = entered_frames y func vs x;
           few = let z = x.few in omega (arith, z);
         };
@@ -277,11 +311,11 @@ module _ (world : World) (states : States) (notes : IsNotes world.notes) (starts
           waiting = (
             tt,
             (
-              below_later world states (live_memory world y) (live_memory world (entered world y func (slots_of y x.note vs))) y.made
+              below_later world states (live_memory world y) (live_memory world (entered mark world y func (slots_of y x.note vs))) y.made
                   (Host (outer y func (slots_of y x.note vs))) y.frames (λ d l. same_later _ _ same d)
-                  (x.below (outer y func (slots_of y x.note vs)) refl refl),
+                  (x.below (outer y func (slots_of y x.note vs)) refl refl refl refl),
               chain_later world states (live_memory world y) (live_memory world
-                  (entered world y func (slots_of y x.note vs))) y.made y.frames (λ d l. same_later _ _ same d) x.waiting,
+                  (entered mark world y func (slots_of y x.note vs))) y.made y.frames (λ d l. same_later _ _ same d) x.waiting,
             ),
           );
         };

@@ -1,8 +1,8 @@
--- The host leaves a function that has returned to the gate.
+-- The host leaves a function that has returned to the gate: the entry function, one of a callback, or one of a notification.
 use Rattle.std.specs.Option.{option_map, option_map_or}
 use Rattle.std.proofs.Common.{◌≡◌, ℕ, ◌^◌, Bool, true, false, if◌then◌else◌, nat_lt, List, [], ◌∷◌, ◌++◌, Option, Some, None, refl, sym, ap}
 use Rattle.std.proofs.Common.{◌∙◌, subst, arith, ⊎_elim, slice_get}
-use Rattle.std.proofs.lemmas.Bool.{lt-ltb, ne_eqb}
+use Rattle.std.proofs.lemmas.Bool.{lt-ltb, ne_eqb, true≢false}
 use Rattle.std.proofs.lemmas.Option.{same_Some}
 use Rattle.note_types.specs.Passing.{IsHandedBack}
 use Rattle.note_types.specs.Records.{IsNotes, CanBeEntered}
@@ -21,7 +21,7 @@ use Rattle.note_types.specs.declared.value.Value.TheVariants as value
 use Rattle.host_model.specs.declared.object.TypedObject.{TypedObject}
 use Rattle.neutral_machine.specs.Config.{Registers, HostFrame, Frame, Function, Host, Config, depth, hosts, call_under_way, with_value}
 use Rattle.neutral_machine.specs.Fits.{IsError, IsSuccess, FitsPlain}
-use Rattle.host_model.specs.HostPlans.{View, Returns, host_plan}
+use Rattle.host_model.specs.HostPlans.{View, host_plan, return_view}
 use Rattle.neutral_machine.specs.Memory.{Memory, memory_of}
 use Rattle.neutral_machine.specs.NeutralHost as neutral
 use Rattle.neutral_machine.specs.NeutralReadings.{neutral_result, neutral_reading}
@@ -33,7 +33,7 @@ use Rattle.typed_runs.specs.Asked.{GivenByCall, GivenByNative}
 use Rattle.typed_runs.specs.Later.{Later, Preserves}
 use Rattle.typed_runs.specs.Live.{live_memory}
 use Rattle.typed_runs.specs.Sound.{SoundBelow, HostKeeps, IsEntered}
-use Rattle.typed_runs.specs.Waiting.{States, WaitsNative, WaitsBelow, BelowHost, Chain}
+use Rattle.typed_runs.specs.Waiting.{States, WaitsNative, WaitsBelow, InterruptedBelow, BelowMarked, BelowHost, Chain}
 use Rattle.typed_runs.specs.Endings.{RaisesOnlyDivideError}
 use Rattle.typed_runs.specs.Holds.{TopHolds, SpotHolds, GoesOnWell, Holds}
 use Rattle.invariant_laws.specs.Hosted.{HostGoesOn}
@@ -56,6 +56,7 @@ pub ended_holds : (world : World) (states : States) (a : Config) (e : Ending) (t
     → RaisesOnlyDivideError e → Holds world states a → Holds world states (record a { trace = t; ending = e })
 ended_holds world states a e t n r h = record {
   served = h.served;
+  thunks = h.thunks;
   sound = record { cells = h.sound.cells; frames = h.sound.frames; few = h.sound.few };
   well = λ on. absurd (n on);
   raised = r;
@@ -125,41 +126,46 @@ module _ (world : World) (states : States) (notes : IsNotes world.notes) where
   abbrev at_gate : Config → HostFrame → List Frame → Config
   at_gate a h fs = record a { spot = spot.Gate; frames = Host h ∷ fs; ending = ending.Running }
 
-  -- and once the host frame is left
-  abbrev after_leaving : Config → HostFrame → List Frame → List Event → Config
-  after_leaving a h fs t = record a {
+  -- and once the host frame is left, with these registers
+  abbrev after_leaving : Config → HostFrame → Registers → List Frame → List Event → Config
+  after_leaving a h regs fs t = record a {
     trace = t;
-    registers = with_value h.saved 7 (a.registers 7);
+    registers = regs;
     c = h.c;
     spot = h.spot;
     frames = fs;
     ending = ending.Running;
   }
 
-  same_left : (a : Config) (h : HostFrame) (fs : List Frame) (t : List Event)
-      → SameMemory (live_memory world (at_gate a h fs)) (live_memory world (after_leaving a h fs t))
-  same_left a h fs t = live_same world.notes (memory_of world (at_gate a h fs)) (memory_of world (after_leaving a h fs t))
+  same_left : (a : Config) (h : HostFrame) (regs : Registers) (fs : List Frame) (t : List Event)
+      → SameMemory (live_memory world (at_gate a h fs)) (live_memory world (after_leaving a h regs fs t))
+  same_left a h regs fs t = live_same world.notes (memory_of world (at_gate a h fs)) (memory_of world (after_leaving a h regs fs t))
       (record { objects = refl; locals = λ e. refl; cells = λ p. refl })
 
-  left_sound : (a : Config) (h : HostFrame) (fs : List Frame) (t : List Event) → SoundBelow world (at_gate a h fs)
-      → SoundBelow world (after_leaving a h fs t)
-  left_sound a h fs t s =
-      let same = same_left a h fs t in
+  left_sound : (a : Config) (h : HostFrame) (regs : Registers) (fs : List Frame) (t : List Event) → SoundBelow world (at_gate a h fs)
+      → SoundBelow world (after_leaving a h regs fs t)
+  left_sound a h regs fs t s =
+      let same = same_left a h regs fs t in
       record {
-        cells = cells_same world.notes (live_memory world (at_gate a h fs)) (live_memory world (after_leaving a h fs t)) same s.cells;
-        frames = frames_later world (live_memory world (at_gate a h fs)) (live_memory world (after_leaving a h fs t)) a.made fs
+        cells = cells_same world.notes (live_memory world (at_gate a h fs)) (live_memory world (after_leaving a h regs fs t)) same s.cells;
+        frames = frames_later world (live_memory world (at_gate a h fs)) (live_memory world (after_leaving a h regs fs t)) a.made fs
             (same_later _ _ same) s.frames.1;
         few = let y = s.few in omega (arith, y);
       }
 
-  -- what waits below goes on to wait
-  left_well : (a : Config) (h : HostFrame) (fs : List Frame) (t : List Event) → is_empty (hosts fs) ≡ false
+  -- the registers once a callback is left
+  abbrev given_back : Config → HostFrame → Registers
+  given_back a h = with_value h.saved 7 (a.registers 7)
+
+  -- below a callback what waits goes on to wait
+  left_well : (a : Config) (h : HostFrame) (fs : List Frame) (t : List Event) → is_empty (hosts fs) ≡ false → h.notified ≡ false
       → BelowHost world states (live_memory world (at_gate a h fs)) a.made h fs
-      → Chain world states (live_memory world (at_gate a h fs)) a.made fs → GoesOnWell world states (after_leaving a h fs t)
-  left_well a h [] t e b c = absurd (cc)
-  left_well a h (Host g ∷ fs) t e b c = absurd b
-  left_well a h (Function f ∷ fs) t e b c = record {
-    top = go (call_under_way fs) refl h.spot b;
+      → Chain world states (live_memory world (at_gate a h fs)) a.made fs
+      → GoesOnWell world states (after_leaving a h (given_back a h) fs t)
+  left_well a h [] t e n b c = absurd (cc)
+  left_well a h (Host g ∷ fs) t e n b c = absurd b
+  left_well a h (Function f ∷ fs) t e n b c = record {
+    top = go (call_under_way fs) refl h.spot (subst (λ m. BelowMarked m world states U a.made h f fs) n b);
     waiting = chain_later world states U V a.made (Function f ∷ fs) (λ d l. later d) c;
   }
     where
@@ -167,18 +173,18 @@ module _ (world : World) (states : States) (notes : IsNotes world.notes) where
       U = live_memory world (at_gate a h (Function f ∷ fs))
 
       V : Memory
-      V = live_memory world (after_leaving a h (Function f ∷ fs) t)
+      V = live_memory world (after_leaving a h (given_back a h) (Function f ∷ fs) t)
 
       later : (d : ℕ) → Later d (live_memory world (at_gate a h (Function f ∷ fs)))
-          (live_memory world (after_leaving a h (Function f ∷ fs) t))
-      later d = same_later _ _ (same_left a h (Function f ∷ fs) t) d
+          (live_memory world (after_leaving a h (given_back a h) (Function f ∷ fs) t))
+      later d = same_later _ _ (same_left a h (given_back a h) (Function f ∷ fs) t) d
 
       native : (entry next : ℕ) (args : List Neutral) → WaitsNative world states (live_memory world (at_gate a h (Function f ∷ fs))) a.made
           (depth fs) f entry next args h.saved
-          → WaitsNative world states (live_memory world (after_leaving a h (Function f ∷ fs) t)) a.made (depth fs) f entry next args
-          (with_value h.saved 7 (a.registers 7))
+          → WaitsNative world states (live_memory world (after_leaving a h (given_back a h) (Function f ∷ fs) t)) a.made (depth fs) f
+          entry next args (given_back a h)
       native entry next args w =
-          let y = native_later world states _ (live_memory world (after_leaving a h (Function f ∷ fs) t)) a.made
+          let y = native_later world states _ (live_memory world (after_leaving a h (given_back a h) (Function f ∷ fs) t)) a.made
           (depth fs) f entry next args h.saved (later (depth fs)) w in
           record {
             call = y.call;
@@ -191,7 +197,7 @@ module _ (world : World) (states : States) (notes : IsNotes world.notes) where
               here = y.waits.here;
               fresh = y.waits.fresh;
               thunks = y.waits.thunks;
-              will = will_kept world.notes _ a.made (depth fs) f y.waits.state h.saved (with_value h.saved 7 (a.registers 7))
+              will = will_kept world.notes _ a.made (depth fs) f y.waits.state h.saved (given_back a h)
                   (GivenByNative world.notes y.signature args) (GivenByNative world.notes y.signature args)
                   (seven_other h.saved (a.registers 7)) (λ V v l g. g) y.waits.will;
             };
@@ -199,14 +205,50 @@ module _ (world : World) (states : States) (notes : IsNotes world.notes) where
 
       go : (call : NativeCall Neutral) → call_under_way fs ≡ call → (s : Spot)
           → WaitsBelow world states (live_memory world (at_gate a h (Function f ∷ fs))) a.made (depth fs) f call s h.saved
-          → SpotHolds world states (record (after_leaving a h (Function f ∷ fs) t) { spot = s }) s
+          → SpotHolds world states (record (after_leaving a h (given_back a h) (Function f ∷ fs) t) { spot = s }) s
       go (Accepted entry callbacks args) is (spot.Place next) w =
-          subst (λ c. TopHolds world states (record (after_leaving a h (Function f ∷ fs) t) { spot = spot.Place next }) c next
-          (Function f ∷ fs)) (sym is) (native entry next args w)
+          subst (λ c. TopHolds world states (record (after_leaving a h (given_back a h) (Function f ∷ fs) t) { spot = spot.Place next }) c
+          next (Function f ∷ fs)) (sym is) (native entry next args w)
       go (Accepted entry callbacks args) is spot.Gate w = absurd w
       go (Accepted entry callbacks args) is (spot.Wild y) w = absurd w
       go NoCall is s w = absurd w
       go (Asked p v) is s w = absurd w
+
+  -- below a notification the function that was interrupted goes on
+  resumed_well : (a : Config) (h : HostFrame) (fs : List Frame) (t : List Event) → h.notified ≡ true
+      → BelowHost world states (live_memory world (at_gate a h fs)) a.made h fs
+      → Chain world states (live_memory world (at_gate a h fs)) a.made fs → GoesOnWell world states (after_leaving a h h.saved fs t)
+  resumed_well a h [] t n b c = absurd (true≢false (sym n ∙ b))
+  resumed_well a h (Host g ∷ fs) t n b c = absurd b
+  resumed_well a h (Function f ∷ fs) t n b c = record {
+    top = go (call_under_way fs) refl h.spot (subst (λ m. BelowMarked m world states U a.made h f fs) n b);
+    waiting = chain_later world states U V a.made (Function f ∷ fs) (λ d l. later d) c;
+  }
+    where
+      U : Memory
+      U = live_memory world (at_gate a h (Function f ∷ fs))
+
+      V : Memory
+      V = live_memory world (after_leaving a h h.saved (Function f ∷ fs) t)
+
+      later : (d : ℕ) → Later d (live_memory world (at_gate a h (Function f ∷ fs)))
+          (live_memory world (after_leaving a h h.saved (Function f ∷ fs) t))
+      later d = same_later _ _ (same_left a h h.saved (Function f ∷ fs) t) d
+
+      go : (call : NativeCall Neutral) → call_under_way fs ≡ call → (s : Spot)
+          → InterruptedBelow world.notes states (live_memory world (at_gate a h (Function f ∷ fs))) a.made (depth fs) f call s h.saved h.c
+          → SpotHolds world states (record (after_leaving a h h.saved (Function f ∷ fs) t) { spot = s }) s
+      go NoCall is (spot.Place p) w =
+          subst (λ c. TopHolds world states (record (after_leaving a h h.saved (Function f ∷ fs) t) { spot = spot.Place p }) c p
+          (Function f ∷ fs)) (sym is) (record {
+            state = w.state;
+            here = w.here;
+            fits = w.fits (live_memory world (after_leaving a h h.saved (Function f ∷ fs) t)) (later (depth fs));
+          })
+      go NoCall is spot.Gate w = absurd w
+      go NoCall is (spot.Wild y) w = absurd w
+      go (Asked p v) is s w = absurd w
+      go (Accepted entry callbacks args) is s w = absurd w
 
   -- the step at the gate
   pub gate_step : (a : Config) (h : HostFrame) (fs : List Frame) → Holds world states (at_gate a h fs)
@@ -215,23 +257,42 @@ module _ (world : World) (states : States) (notes : IsNotes world.notes) where
   gate_step a h fs x =
       let w = x.well refl in
       let r = result_is (at_gate a h fs) h x.sound.frames.0 w.top.1 in
-      host_goes_on world states (at_gate a h fs) (Returns (is_empty (hosts fs)) h.func r.0)
-      (ap (option_map (Returns (is_empty (hosts fs)) h.func)) r.1) (go (is_empty (hosts fs)) refl r.0)
+      host_goes_on world states (at_gate a h fs) (return_view h.notified (is_empty (hosts fs)) h.func r.0)
+      (ap (option_map (return_view h.notified (is_empty (hosts fs)) h.func)) r.1) (by_mark h.notified refl r.0)
     where
-      go : (t : Bool) → is_empty (hosts fs) ≡ t → (v : Value) → Holds world states
-          (neutral.performed world (at_gate a h fs) (host_plan world (at_gate a h fs).script (Returns t h.func v)))
-      go true e v = record {
+      go : (t : Bool) → is_empty (hosts fs) ≡ t → h.notified ≡ false → (v : Value) → Holds world states
+          (neutral.performed world (at_gate a h fs) (host_plan world (at_gate a h fs).script (return_view false t h.func v)))
+      go true e n v = record {
         served = x.served;
-        sound = let s = left_sound a h fs a.trace x.sound in
+        thunks = x.thunks;
+        sound = let s = left_sound a h (given_back a h) fs a.trace x.sound in
             record { cells = s.cells; frames = s.frames; few = s.few };
         well = λ on. absurd (cc);
         raised = tt;
       }
-      go false e v = record {
+      go false e n v = record {
         served = x.served;
-        sound = let s = left_sound a h fs (a.trace ++ event.Returned h.func v ∷ []) x.sound in
+        thunks = x.thunks;
+        sound = let s = left_sound a h (given_back a h) fs (a.trace ++ event.Returned h.func v ∷ []) x.sound in
             record { cells = s.cells; frames = s.frames; few = s.few };
-        well = λ on. let g = left_well a h fs (a.trace ++ event.Returned h.func v ∷ []) e (x.well refl).waiting.0 (x.well refl).waiting.1 in
+        well = λ on.
+            let w = (x.well refl).waiting in
+            let g = left_well a h fs (a.trace ++ event.Returned h.func v ∷ []) e n w.0 w.1 in
             record { top = g.top; waiting = g.waiting };
         raised = tt;
       }
+
+      by_mark : (n : Bool) → h.notified ≡ n → (v : Value) → Holds world states (neutral.performed world (at_gate a h fs)
+          (host_plan world (at_gate a h fs).script (return_view n (is_empty (hosts fs)) h.func v)))
+      by_mark true n v = record {
+        served = x.served;
+        thunks = x.thunks;
+        sound = let s = left_sound a h h.saved fs (a.trace ++ event.Resumed h.func v ∷ []) x.sound in
+            record { cells = s.cells; frames = s.frames; few = s.few };
+        well = λ on.
+            let w = (x.well refl).waiting in
+            let g = resumed_well a h fs (a.trace ++ event.Resumed h.func v ∷ []) n w.0 w.1 in
+            record { top = g.top; waiting = g.waiting };
+        raised = tt;
+      }
+      by_mark false n v = go (is_empty (hosts fs)) refl n v

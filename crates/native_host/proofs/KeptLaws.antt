@@ -2,7 +2,7 @@
 use Rattle.std.proofs.Common.{◌≡◌, ℕ, zero, suc, ◌+◌, ◌-◌, ◌*◌, ◌%◌, ◌^◌, List, [], ◌∷◌, length, map, Option, Some, None}
 use Rattle.std.proofs.Common.{refl, ap, ap₂, ◌∙◌, arith}
 use Rattle.std.proofs.Common.{if◌then◌else◌, slice_get}
-use Rattle.std.specs.Prelude.{nat_lt, slice_index, slice_index_or}
+use Rattle.std.specs.Prelude.{IfNone, nat_lt, slice_index, slice_index_or}
 use Rattle.std.specs.Option.{option_map_or}
 use Rattle.std.proofs.lemmas.List.{length-map}
 use Rattle.note_types.specs.Shapes.{size_at}
@@ -12,6 +12,8 @@ use Rattle.note_types.specs.declared.shape.Shape.{Shape}
 use Rattle.host_model.specs.Objects.{no_shape}
 use Rattle.host_model.specs.declared.object.TypedObject.{TypedObject}
 use Rattle.host_model.specs.Placements.{instance_address, object_at, shape_bytes}
+use Rattle.note_types.specs.declared.shape.Field.{Field}
+use Rattle.host_model.specs.HostSteps.{cell_address}
 use Rattle.native_host.specs.declared.places.Places.{Places}
 use Rattle.native_host.specs.Kept.{IsOf, instance_bytes, object_base, placement_of}
 
@@ -52,3 +54,15 @@ instance-is w notes p made o i of =
 -- a product modulo 2 ^ 64 counts as the product in a sum modulo 2 ^ 64
 pub word-sum : (b x : ℕ) → (b + x % 2 ^ 64) % 2 ^ 64 ≡ (b + x) % 2 ^ 64
 word-sum b x = omega arith
+
+-- the address of a field of an instance, as a host counts it
+pub address-is : (w : ℕ) (notes : Notes) (p : Places) (made : List TypedObject) (o i base size start : ℕ) (x : Field) → IsOf w notes p
+    → base ≡ object_base p o → size ≡ option_map_or (λ (t : TypedObject). instance_bytes p t.shape) (slice_get made o) 0
+    → start ≡ x.n * w + x.c → base + i * size + start ≡ cell_address w notes (placement_of p) made o i x
+address-is w notes p made o i base size start x of at bytes from =
+    ap₂ (λ a b. a + b) (ap₂ (λ b n. b + i * n) at bytes ∙ instance-is w notes p made o i of) from
+
+-- what holds where there is no number
+pub if-none : (r : Option ℕ) (A : Type 0) → A → IfNone r A
+if-none None A a = a
+if-none (Some x) A a = tt

@@ -1,4 +1,10 @@
+pub mod EnterLaws
 pub mod KeptLaws
+pub mod NotifyLaws
 pub mod ReadingLaws
+pub mod ReplyLaws
 pub mod ResultLaws
+pub mod StepLaws
+pub mod StoreLaws
 pub mod ThunkLaws
+pub mod TopLaws

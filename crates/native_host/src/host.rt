@@ -10,8 +10,9 @@ pub struct Host<const W: usize> {
     pub(crate) places: Places,
     // The typed objects that are made.
     pub(crate) made: Vec<TypedObject>,
-    // How many calls of the script were accepted, and how many thunks were served.
+    // How many calls of the script were accepted, how many notifications were entered, and how many thunks were served.
     pub(crate) entries: u32,
+    pub(crate) notifications: u32,
     pub(crate) thunks: u64,
     pub(crate) trace: Vec<Event>,
 }

@@ -2,9 +2,15 @@
 //! it is started. docs/HOST.md says what the host is; the definitions that the contracts cite stand in `host_model`.
 #![tactic(auto)]
 
+mod cells;
+mod entering;
 mod host;
+mod items;
+mod next;
+mod notify;
 mod places;
 mod reading;
+mod replying;
 mod sort;
 mod step;
 mod thunks;

@@ -11,6 +11,8 @@ ghost use Rattle.host_model.specs.Placements.{Placement, thunk_at};
 ghost use Rattle.host_model.specs.World.{World};
 ghost use Rattle.callex_thunk.specs.Slots.{memory_state};
 ghost use Rattle.entry_thunk.specs.Cells.{with_memory};
+ghost use Rattle.note_types.specs.declared.script.Script.{Script};
+ghost use Rattle.native_host.specs.Hosts.{IsServing};
 ghost use Rattle.native_host.specs.Kept.{IsOf, placement_of};
 ghost use Rattle.native_host.specs.Steps.{OnAccepted, OnEnd, thunk_step};
 
@@ -63,6 +65,7 @@ impl<const W: usize> Host<W> {
         ensures objects { KeepsObjects mem.old mem.new }
         ensures memory { OnEnd result (mem.new ≡ mem.old) }
         ensures same { OnEnd result (self.new ≡ self.old) }
+        ensures serving { (script : Script) → IsServing W notes.now script self.old → IsServing W notes.now script self.new }
         ensures served { self.new ≡ record self.old { thunks = self.new.thunks } }
         ensures count { OnAccepted result (self.new.thunks ≡ min (self.old.thunks + 1) (2 ^ 64 - 1)) }
     {

@@ -12,7 +12,8 @@ ghost use Rattle.host_model.specs.Readings.{reading_of, sort_of_type};
 ghost use Rattle.host_model.specs.RunState.{RunState};
 ghost use Rattle.host_model.specs.Values.{word};
 ghost use Rattle.host_model.specs.World.{World};
-ghost use Rattle.native_host.specs.Hosts.{HasRoom, IsHost, Tells, result_sort};
+ghost use Rattle.note_types.specs.declared.script.Script.{Script};
+ghost use Rattle.native_host.specs.Hosts.{HasRoom, IsHost, IsServing, Tells, result_sort};
 ghost use Rattle.native_host.specs.Kept.{IsOf, instance_bytes, placement_of};
 ghost use Rattle.native_host.specs.Sorts.{sort_of};
 
@@ -108,10 +109,29 @@ impl<const W: usize> Host<W> {
         ensures run { (world : World) (r : RunState) → world.notes ≡ notes.now → IsHost W world self.old → Tells self.old r → register r.machine 7 ≡ r7 → result ≡ result_of W world (placement_of self.old.places) r func }
         ensures event { self.new.trace.items ≡ self.old.trace.items ++ Event.Returned func result ∷ [] }
         ensures same { self.new ≡ record self.old { trace = self.new.trace } }
+        ensures serving { (script : Script) → IsServing W notes.now script self.old → IsServing W notes.now script self.new }
         ensures room { (n : ℕ) → HasRoom self.old (n + 1) → HasRoom self.new n }
     {
         let value = self.result_of(notes, func, r7);
         tell(&mut self.trace, Event::Returned { func, value });
+        value
+    }
+
+    /// The same value as that of `result_of`, and the event that the function, which was entered as a notification, returned
+    /// it. There is room for the event.
+    pub fn resumed(&mut self, notes: &Notes, func: u32, r7: u64) -> Value
+        requires width { IsWidth W }
+        requires notes { IsOf W notes.now self.old.places }
+        requires room { HasRoom self.old 1 }
+        ensures read { result ≡ reading_of W notes.now (placement_of self.old.places) self.old.made.items (result_sort notes.now func) (cut_at W r7) }
+        ensures run { (world : World) (r : RunState) → world.notes ≡ notes.now → IsHost W world self.old → Tells self.old r → register r.machine 7 ≡ r7 → result ≡ result_of W world (placement_of self.old.places) r func }
+        ensures event { self.new.trace.items ≡ self.old.trace.items ++ Event.Resumed func result ∷ [] }
+        ensures same { self.new ≡ record self.old { trace = self.new.trace } }
+        ensures serving { (script : Script) → IsServing W notes.now script self.old → IsServing W notes.now script self.new }
+        ensures room { (n : ℕ) → HasRoom self.old (n + 1) → HasRoom self.new n }
+    {
+        let value = self.result_of(notes, func, r7);
+        tell(&mut self.trace, Event::Resumed { func, value });
         value
     }
 }

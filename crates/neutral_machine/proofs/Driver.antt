@@ -1,10 +1,11 @@
 -- A small driver, the one of docs/NOTES.md with its script of docs/SCRIPTS.md, as closed terms that rows compute with. Names
 -- don't matter here.
-use Rattle.std.specs.Prelude.{◌-◌, ◌^◌, true, false, List, [], ◌∷◌, Some, None, pos}
+use Rattle.std.specs.Prelude.{ℕ, ◌-◌, ◌^◌, true, false, List, [], ◌∷◌, Some, None, pos}
 use Rattle.note_types.specs.declared.cell.Cell.TheVariants as cell
 use Rattle.note_types.specs.declared.cell.SlotKind.TheVariants.{N}
 use Rattle.note_types.specs.declared.notes.Notes.{Notes}
 use Rattle.note_types.specs.declared.notes.Want.TheVariants as want
+use Rattle.note_types.specs.declared.script.Notify.{Notify}
 use Rattle.note_types.specs.declared.script.ScriptCall.{ScriptCall}
 use Rattle.note_types.specs.declared.types.Ty.TheVariants as ty
 use Rattle.note_types.specs.declared.value.Value.TheVariants as value
@@ -95,11 +96,12 @@ register_call = record {
   result = value.StatusOk 0;
 }
 
-abbrev pub driver_with : List ScriptCall → World
-driver_with calls = record {
+-- the driver with a script of these calls and, under version 2, these notifications
+abbrev pub driver_notified : (version : ℕ) → List ScriptCall → List Notify → World
+driver_notified version calls notify = record {
   notes = driver_notes;
   script = record {
-    version = 1;
+    version = version;
     args = value.Handle 0 ∷ value.Ptr 0 0 ∷ [];
     object = record {
       shape = 0;
@@ -113,9 +115,13 @@ driver_with calls = record {
         ∷ record { shape = 1; count = 1; cells = [] }
         ∷ [];
     call = calls;
+    notify = notify;
   };
   image_size = 0x2008;
 }
+
+abbrev pub driver_with : List ScriptCall → World
+driver_with calls = driver_notified 1 calls []
 
 abbrev pub driver : World
 driver = driver_with (locate_call ∷ register_call ∷ [])

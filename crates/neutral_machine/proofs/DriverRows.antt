@@ -1,23 +1,26 @@
 -- Rows of a small driver, the one of docs/NOTES.md with its script of docs/SCRIPTS.md: the definitions of the host compute
 -- them. A slip in one of the definitions shows here at once.
-use Rattle.std.proofs.Common.{◌≡◌, ◌+◌, ◌^◌, ◌<◌, true, false, List, [], ◌∷◌, Some, None, refl, arith}
+use Rattle.std.proofs.Common.{◌≡◌, ℕ, ◌+◌, ◌^◌, ◌<◌, true, false, List, [], ◌∷◌, Some, None, refl, arith}
 use Rattle.note_types.specs.declared.cell.Cell.TheVariants as cell
 use Rattle.note_types.specs.declared.ending.Ending.TheVariants.{Mismatch, ScriptEnd}
 use Rattle.note_types.specs.declared.event.Event.TheVariants as event
 use Rattle.note_types.specs.declared.notes.Notes.{Notes}
 use Rattle.note_types.specs.declared.reason.Reason.TheVariants as reason
+use Rattle.note_types.specs.declared.script.Notify.{Notify}
 use Rattle.note_types.specs.declared.types.Ty.TheVariants as ty
+use Rattle.note_types.specs.declared.value.Value.{Value}
 use Rattle.note_types.specs.declared.value.Value.TheVariants as value
-use Rattle.host_model.specs.HostPlans.{Asks, NoSite, GoesOn, Returns, InArgument, Accepts, Ends, Enters, Finishes, Leaves, Replies}
-use Rattle.host_model.specs.HostPlans.{call_plan, argument_refused, host_plan, enter_plan, reply_plan, reply_fits, reply_stores}
-use Rattle.host_model.specs.HostPlans.{all_named_right, field_at, filling}
+use Rattle.host_model.specs.HostPlans.{Asks, NoSite, GoesOn, Returns, NotifiedReturns, IsDue, InArgument, Accepts, Ends, Enters}
+use Rattle.host_model.specs.HostPlans.{Finishes, Leaves, Replies, Resumes, Notifies, is_due, call_plan, argument_refused, host_plan}
+use Rattle.host_model.specs.HostPlans.{enter_plan, reply_plan, reply_fits, reply_stores, notify_plan, all_named_right, field_at, filling}
 use Rattle.host_model.specs.HostSteps.{entered_at, thunk_place, written_number}
 use Rattle.host_model.specs.declared.object.TypedObject.{TypedObject}
 use Rattle.host_model.specs.Objects.{made_objects, placed_objects}
 use Rattle.host_model.specs.Placements.{Placement}
 use Rattle.host_model.specs.Progress.{ScriptPlace, script_start, one_entry}
 use Rattle.host_model.specs.ScriptValues.{fits, fits_each, given, same_value}
-use Rattle.neutral_machine.proofs.Driver.{driver, driver_notes, driver_with, locate_call}
+use Rattle.host_model.specs.World.{World}
+use Rattle.neutral_machine.proofs.Driver.{driver, driver_notes, driver_notified, driver_with, locate_call, register_call}
 
 -- how far a run is once one call was accepted
 abbrev one_call : ScriptPlace
@@ -121,6 +124,72 @@ finished = refl
 returned : host_plan driver script_start (Returns false 1 (value.StatusOk 0)) ≡ Leaves (event.Returned 1 (value.StatusOk 0))
 unfolding host_plan
 returned = refl
+
+-- ---- notifications
+
+-- the function that is a callback, after so many instructions
+abbrev ticking : (at : ℕ) → List Value → Notify
+ticking at values = record { at = at; function = 1; args = values }
+
+-- the driver with one notification
+abbrev notified_by : Notify → World
+notified_by n = driver_notified 2 (locate_call ∷ register_call ∷ []) (n ∷ [])
+
+-- how far a run is after so many instructions, once so many notifications were entered and so many thunks served
+abbrev come : (notifications instructions thunks : ℕ) → ScriptPlace
+come notifications instructions thunks = record { entries = 1; notifications = notifications; instructions = instructions; thunks = thunks }
+
+due_in_time : is_due (notified_by (ticking 2 (value.Int 7 ∷ []))).script (come 0 2 1) ≡ true
+unfolding is_due
+due_in_time = refl
+
+due_late : is_due (notified_by (ticking 2 (value.Int 7 ∷ []))).script (come 0 30 1) ≡ true
+unfolding is_due
+due_late = refl
+
+not_due_yet : is_due (notified_by (ticking 2 (value.Int 7 ∷ []))).script (come 0 1 1) ≡ false
+unfolding is_due
+not_due_yet = refl
+
+none_left : is_due (notified_by (ticking 2 (value.Int 7 ∷ []))).script (come 1 30 1) ≡ false
+unfolding is_due
+none_left = refl
+
+notified : host_plan (notified_by (ticking 2 (value.Int 7 ∷ []))) (come 0 2 1) (IsDue 1)
+    ≡ Notifies (event.Notified 1 (given (value.Int 7) ∷ [])) 1 (value.Int 7 ∷ [])
+unfolding host_plan notify_plan fits_each fits made_objects placed_objects
+notified = refl
+
+-- the thunk cell isn't made yet
+notified_early : host_plan (notified_by (ticking 1 (value.Int 7 ∷ []))) (come 0 1 0) (IsDue 1) ≡ Ends [] (Mismatch (reason.Notify 0))
+unfolding host_plan notify_plan fits_each fits made_objects placed_objects
+notified_early = refl
+
+-- a value of another type, one too many, and the entry function
+notified_wrongly : host_plan (notified_by (ticking 2 (value.Null ∷ []))) (come 0 2 1) (IsDue 1) ≡ Ends [] (Mismatch (reason.Notify 0))
+unfolding host_plan notify_plan fits_each fits made_objects placed_objects
+notified_wrongly = refl
+
+notified_with_two : host_plan (notified_by (ticking 2 (value.Int 7 ∷ value.Int 8 ∷ []))) (come 0 2 1) (IsDue 1)
+    ≡ Ends [] (Mismatch (reason.Notify 0))
+unfolding host_plan notify_plan fits_each fits made_objects placed_objects
+notified_with_two = refl
+
+notified_entry :
+    host_plan (notified_by (record { at = 2; function = 0; args = value.Handle 0 ∷ value.Ptr 0 0 ∷ [] })) (come 0 2 1) (IsDue 1)
+    ≡ Ends [] (Mismatch (reason.Notify 0))
+unfolding host_plan notify_plan fits_each fits made_objects placed_objects
+notified_entry = refl
+
+-- a tenth frame isn't made
+notified_too_deep : host_plan (notified_by (ticking 2 (value.Int 7 ∷ []))) (come 0 2 1) (IsDue 9) ≡ Ends [] (Mismatch reason.Depth)
+unfolding host_plan notify_plan fits_each fits made_objects placed_objects
+notified_too_deep = refl
+
+resumed : host_plan (notified_by (ticking 2 (value.Int 7 ∷ []))) (come 1 4 1) (NotifiedReturns 1 (value.StatusOk 0))
+    ≡ Resumes (event.Resumed 1 (value.StatusOk 0))
+unfolding host_plan
+resumed = refl
 
 -- ---- the thunk cell
 

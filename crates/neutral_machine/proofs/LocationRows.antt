@@ -42,7 +42,7 @@ taking kind = record {
     site = [];
     methods = [];
   };
-  script = record { version = 1; args = value.StatusError 14 ∷ []; object = []; call = [] };
+  script = record { version = 1; args = value.StatusError 14 ∷ []; object = []; call = []; notify = [] };
   image_size = 0x1006;
 }
 

@@ -1,7 +1,7 @@
 -- Where typed objects lie under a valid placement: a static one in the image, one of the script's by itself, and each apart
 -- from all others.
 use Rattle.std.proofs.Common.{◌≡◌, ◌≢◌, ℕ, zero, suc, ◌+◌, ◌-◌, ◌*◌, ◌^◌, ◌<◌, ◌≤◌, ◌⊎◌, List}
-use Rattle.std.proofs.Common.{[], ◌∷◌, length, map, flat_map, Some, None, refl, sym, ap, ap₂, ◌∙◌, subst, subst₂, arith, inl, inr, ⊎_elim}
+use Rattle.std.proofs.Common.{[], ◌∷◌, length, map, flat_map, Some, refl, sym, ap, ap₂, ◌∙◌, subst, subst₂, arith, inl, inr, ⊎_elim}
 use Rattle.std.proofs.Common.{slice_get, le_refl, mul-le-mul}
 use Rattle.std.specs.Option.{option_map_or}
 use Rattle.std.proofs.lemmas.Bool.{lt-ltb, le-ltb, cases_lt, cases_order}

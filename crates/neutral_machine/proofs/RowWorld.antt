@@ -88,7 +88,7 @@ row_notes = record {
 abbrev pub row_world : World
 row_world = record {
   notes = row_notes;
-  script = record { version = 1; args = []; object = []; call = [] };
+  script = record { version = 1; args = []; object = []; call = []; notify = [] };
   image_size = 0x70;
 }
 

@@ -4,14 +4,15 @@ use Rattle.std.specs.Prelude.{ℕ, suc, ◌+◌, Bool, true, false, ◌&&◌, Li
 use Rattle.std.specs.Prelude.{if◌then◌else◌, is_some, slice_get}
 use Rattle.std.specs.List.{list_all}
 use Rattle.std.specs.Option.{option_map, option_map_or, option_and_then}
-use Rattle.host_model.specs.HostPlans.{Asking, NoSite, Asks, View, Returns, Calls, GoesOn, Target, InObject, InArgument, Store, Plan}
-use Rattle.host_model.specs.HostPlans.{Finishes, Leaves, Accepts, Enters, Replies, Ends, cell_lent, field_at, signature_params}
-use Rattle.host_model.specs.HostPlans.{signature_method, site_of, function_params, host_plan}
+use Rattle.host_model.specs.HostPlans.{Asking, NoSite, Asks, View, Calls, GoesOn, Target, InObject, InArgument, Store, Plan}
+use Rattle.host_model.specs.HostPlans.{Finishes, Leaves, Accepts, Enters, Replies, Resumes, Notifies, Ends, cell_lent, field_at}
+use Rattle.host_model.specs.HostPlans.{signature_params, signature_method, site_of, function_params, host_plan, return_view, due_view}
 use Rattle.note_types.specs.Cells.{content_type}
 use Rattle.host_model.specs.World.{World}
 use Rattle.host_model.specs.declared.object.TypedObject.{TypedObject}
 use Rattle.host_model.specs.Objects.{made_objects}
-use Rattle.host_model.specs.Progress.{one_entry, one_thunk, NativeCall, NoCall, Asked, Accepted, copied, one_callback, is_empty}
+use Rattle.host_model.specs.Progress.{one_entry, one_notification, one_thunk, NativeCall, NoCall, Asked, Accepted, copied, one_callback}
+use Rattle.host_model.specs.Progress.{is_empty}
 use Rattle.host_model.specs.Readings.{sort_of_type}
 use Rattle.note_types.specs.declared.cell.Cell.{Cell}
 use Rattle.note_types.specs.declared.ending.Ending.TheVariants.{Finished}
@@ -94,12 +95,13 @@ result_of world a f =
 
 -- what the host sees at the gate: none unless no function frame is left in the top host frame
 abbrev pub return_seen : World → Config → List Frame → Option View
-return_seen world a (Host h ∷ fs) = option_map (Returns (is_empty (hosts fs)) h.func) (result_of world a h.func)
+return_seen world a (Host h ∷ fs) = option_map (return_view h.notified (is_empty (hosts fs)) h.func) (result_of world a h.func)
 return_seen world a _ = None
 
--- what the host sees of a native call that is under way: none unless the cells that it was lent are there
+-- what the host sees of a native call that is under way: none unless the cells that it was lent are there; and where no call is
+-- under way, of a notification that is due
 abbrev pub call_seen : World → Config → NativeCall Neutral → Option View
-call_seen world a NoCall = None
+call_seen world a NoCall = due_view world a.script (length (hosts a.frames))
 call_seen world a (Asked place target) = option_map (Calls place) (asking_at world a place target)
 call_seen world a (Accepted entry callbacks slots) =
     if lent_there world a.frames entry slots then Some (GoesOn entry callbacks (length (hosts a.frames)) (writes_there world a entry))
@@ -142,14 +144,14 @@ unfoldable pub param_slots : Notes → List TypedObject → List Param → List 
 param_slots notes made (p ∷ ps) (v ∷ vs) = Pushed p.kind (value_as notes made p.ty v) ∷ param_slots notes made ps vs
 param_slots notes made _ _ = []
 
--- the configuration inside a function that the host enters
-abbrev pub entered : World → Config → ℕ → List StackItem → Config
-entered world a f params =
+-- the configuration inside a function that the host enters, as a notification or not
+abbrev pub entered : (notified : Bool) → World → Config → ℕ → List StackItem → Config
+entered notified world a f params =
     record a {
       c = false;
       spot = spot.Place (place_of world.notes f);
       frames = Function (record { func = f; ret = 0; saved = a.registers; items = [] })
-          ∷ Host (record { func = f; notified = false; saved = a.registers; c = a.c; spot = a.spot; params = params; call = NoCall })
+          ∷ Host (record { func = f; notified = notified; saved = a.registers; c = a.c; spot = a.spot; params = params; call = NoCall })
           ∷ a.frames;
     }
 
@@ -157,6 +159,11 @@ entered world a f params =
 abbrev pub left : Config → List Frame → Config
 left a (Host h ∷ fs) = record a { registers = with_value h.saved 7 (a.registers 7); c = h.c; spot = h.spot; frames = fs }
 left a _ = a
+
+-- the configuration once its top host frame is left, which is one of a notification: R1 to R7, C and the spot as they were
+abbrev pub resumed : Config → List Frame → Config
+resumed a (Host h ∷ fs) = record a { registers = h.saved; c = h.c; spot = h.spot; frames = fs }
+resumed a _ = a
 
 -- the slots that the call step copies
 abbrev pub slots_asked : World → Config → NativeCall Neutral → List Neutral
@@ -176,7 +183,7 @@ performed world a (Accepts e entry objects stores) =
       trace = a.trace ++ e ∷ [];
     }
 performed world a (Enters e entry f values) =
-    entered world
+    entered false world
     (record a { frames = with_call (one_callback (call_under_way a.frames)) a.frames; trace = a.trace ++ e ∷ [] })
     f (param_slots world.notes (objects_at world a) (function_params world.notes f) values)
 performed world a (Replies e stores kind v) =
@@ -187,6 +194,11 @@ performed world a (Replies e stores kind v) =
       frames = with_call NoCall a.frames;
       trace = a.trace ++ e ∷ [];
     }
+performed world a (Resumes e) = let b = resumed a a.frames in record b { trace = b.trace ++ e ∷ [] }
+performed world a (Notifies e f values) =
+    entered true world
+    (record a { script = one_notification a.script; trace = a.trace ++ e ∷ [] })
+    f (param_slots world.notes (objects_at world a) (function_params world.notes f) values)
 performed world a (Ends es ending) = record a { trace = a.trace ++ es; ending = ending }
 
 -- ---- the host's step

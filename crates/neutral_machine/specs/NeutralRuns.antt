@@ -2,7 +2,7 @@
 -- docs/HOST.md, "The start" and "Steps".
 use Rattle.std.specs.Prelude.{ℕ, zero, suc, Bool, true, false, [], length, Option, Some, if◌then◌else◌}
 use Rattle.std.specs.Option.{option_and_then}
-use Rattle.host_model.specs.HostPlans.{host_turn, filling, function_params}
+use Rattle.host_model.specs.HostPlans.{host_turn, is_due, filling, function_params}
 use Rattle.host_model.specs.World.{World}
 use Rattle.host_model.specs.Objects.{made_objects}
 use Rattle.host_model.specs.Progress.{script_start, one_instruction}
@@ -41,7 +41,7 @@ bare_config world statics =
 -- the configuration before the first step: inside the entry function, with the script's arguments
 unfoldable pub neutral_start : World → Cells → Config
 neutral_start world statics =
-    entered world (bare_config world statics) world.notes.entry
+    entered false world (bare_config world statics) world.notes.entry
     (param_slots world.notes (made_objects world.notes world.script 0) (function_params world.notes world.notes.entry) world.script.args)
 
 -- ---- steps
@@ -54,7 +54,7 @@ is_gate _ = false
 -- a step of a configuration that runs: the host's, or an instruction's, which counts
 abbrev pub running_step : World → (Config → Option Config) → Config → Option Config
 running_step world instruction a =
-    if host_turn (is_gate a.spot) (call_under_way a.frames) then neutral_host_step world a
+    if host_turn (is_gate a.spot) (call_under_way a.frames) (is_due world.script a.script) then neutral_host_step world a
     else instruction (record a { script = one_instruction a.script })
 
 abbrev pub step_if : World → (Config → Option Config) → Config → Ending → Option Config

@@ -2,6 +2,7 @@
 -- by their names; or the first fault in it, key by key. docs/NOTES.md has it in words.
 use Rattle.std.specs.Prelude.{ℕ, ◌+◌, ◌-◌, ◌^◌, Bool, ◌||◌, List, [], ◌∷◌, ◌++◌, length, Result, Ok, codes, nat_lt}
 use Rattle.toml.specs.Data.{Data, Items, no_items, item, Members}
+use Rattle.note_types.specs.Limits.{point_limit}
 use Rattle.note_types.specs.declared.fault.TomlFault.{TomlFault}
 use Rattle.note_types.specs.declared.fault.TomlFault.TheVariants.{Range}
 use Rattle.ebc_base.specs.Steps.{◌>>=◌, passes}
@@ -203,11 +204,11 @@ data_lists table = do
   thunk ← tables_at thunk_of [] (codes "thunk") greatest_32 table
   Ok (record { shape = shape; statics = statics; thunk = thunk })
 
--- the lists of code: functions and points
-unfoldable pub code_lists : Members → Result CodeLists TomlFault
-code_lists table = do
+-- the lists of code, in notes of a version: functions and points
+unfoldable pub code_lists : ℕ → Members → Result CodeLists TomlFault
+code_lists version table = do
   function ← tables_at function_of [] (codes "function") 4096 table
-  point ← tables_at point_of [] (codes "point") 16384 table
+  point ← tables_at point_of [] (codes "point") (point_limit version) table
   Ok (record { function = function; point = point })
 
 -- the lists of native calls, signatures and sites; the text may have no keys but those of notes
@@ -218,20 +219,20 @@ call_lists table = do
   _ ← only_keys [] draft_keys table
   Ok (record { signature = signature; site = site })
 
--- all lists
-unfoldable pub draft_lists : Members → Result DraftLists TomlFault
-draft_lists table = do
+-- all lists, in notes of a version
+unfoldable pub draft_lists : ℕ → Members → Result DraftLists TomlFault
+draft_lists version table = do
   things ← data_lists table
-  code ← code_lists table
+  code ← code_lists version table
   calls ← call_lists table
   Ok (record { things = things; code = code; calls = calls })
 
 -- the whole text
 unfoldable pub draft_of : Members → Result NotesDraft TomlFault
 draft_of table = do
-  version ← number_at [] (codes "version") 1 1 table
+  version ← number_at [] (codes "version") 1 2 table
   entry ← text_at name_of [] (codes "entry") table
-  lists ← draft_lists table
+  lists ← draft_lists version table
   Ok (record {
     version = version;
     entry = entry;

@@ -16,7 +16,7 @@ use note_texts::{
     FieldText, FromTable, ItemText, ParamText, RegisterText, ResultText, Row, TypeText,
     WantParamText, row_prefix, table_of_item,
 };
-use note_types::{Name, Names, NotesEnd, Pair, Sequence, TomlFault};
+use note_types::{Name, Names, NotesEnd, Pair, Sequence, TomlFault, point_limit};
 use std::alloc::Global;
 use toml::{Table, Value};
 
@@ -33,8 +33,6 @@ const MAX_SLOTS: usize = 64;
 const MAX_SHAPES: usize = 1024;
 
 const MAX_FUNCTIONS: usize = 4096;
-
-const MAX_POINTS: usize = 16_384;
 
 const MAX_METHODS: usize = 1024;
 
@@ -395,13 +393,14 @@ pub struct CodeLists {
 }
 
 #[tactic(auto, unfolding(crate::specs::Drafts::code_lists))]
-fn code_lists(alloc: Global, table: &Table) -> Result<CodeLists, NotesEnd>
-    ensures lists { Gives result (code_lists (table_view table.now)) }
+fn code_lists(alloc: Global, version: u32, table: &Table) -> Result<CodeLists, NotesEnd>
+    ensures lists { Gives result (code_lists version (table_view table.now)) }
     ensures functions { IfOk result (λ lists. length lists.function ≤ 4096) }
 {
     let row = Row { prefix: "", table };
     let function = row.tables::<FunctionDraft>(alloc, "function", MAX_FUNCTIONS)?;
-    let point = row.tables::<PointDraft>(alloc, "point", MAX_POINTS)?;
+    let most = point_limit(version) as usize;
+    let point = row.tables::<PointDraft>(alloc, "point", most)?;
     Ok(CodeLists {
         function: Sequence::new(function),
         point: Sequence::new(point),
@@ -460,14 +459,14 @@ pub struct DraftLists {
 }
 
 #[tactic(auto, unfolding(crate::specs::Drafts::draft_lists))]
-fn draft_lists(alloc: Global, table: &Table) -> Result<DraftLists, NotesEnd>
-    ensures lists { Gives result (draft_lists (table_view table.now)) }
+fn draft_lists(alloc: Global, version: u32, table: &Table) -> Result<DraftLists, NotesEnd>
+    ensures lists { Gives result (draft_lists version (table_view table.now)) }
     ensures shapes { IfOk result (λ lists. length lists.things.shape ≤ 1024) }
     ensures functions { IfOk result (λ lists. length lists.code.function ≤ 4096) }
     ensures signatures { IfOk result (λ lists. length lists.calls.signature < 2 ^ 32) }
 {
     let things = data_lists(alloc, table)?;
-    let code = code_lists(alloc, table)?;
+    let code = code_lists(alloc, version, table)?;
     let calls = call_lists(alloc, table)?;
     Ok(DraftLists {
         things,
@@ -490,16 +489,16 @@ pub fn read_draft(alloc: Global, table: &Table) -> Result<NotesDraft, NotesEnd>
     ensures signatures { IfOk result (λ draft. length draft.signature < 2 ^ 32) }
 {
     let row = Row { prefix: "", table };
-    let version = row.number(alloc, "version", 1, 1)?;
+    let version = row.number(alloc, "version", 1, 2)? as u32;
     let entry = row.text::<Name>(alloc, "entry")?;
-    let lists = draft_lists(alloc, table)?;
+    let lists = draft_lists(alloc, version, table)?;
     let DraftLists {
         things,
         code,
         calls,
     } = lists;
     Ok(NotesDraft {
-        version: version as u32,
+        version,
         entry,
         shape: things.shape,
         statics: things.statics,

@@ -5,7 +5,7 @@ use Rattle.std.specs.Prelude.{length, map, slice_get, sum_by, ⊤}
 use Rattle.std.specs.List.{find}
 use Rattle.std.specs.List.Sorted.{IsStrictlyIncreasing}
 use Rattle.note_types.specs.Known.{AreFields, IsKnown, IsKnownCell, IsState, local_fields}
-use Rattle.note_types.specs.Limits.{code_limit, point_limit, stack_limit}
+use Rattle.note_types.specs.Limits.{IsVersion, code_limit, point_limit, stack_limit}
 use Rattle.note_types.specs.Passing.{IsGiven, IsHandedBack, IsHandedIn, IsKept, IsKeptWant, IsParameterKind, IsPassed, IsReturned}
 use Rattle.note_types.specs.declared.cell.SlotKind.TheVariants.{N}
 use Rattle.note_types.specs.declared.notes.FnNote.{FnNote}
@@ -172,7 +172,7 @@ pub record Ascends (notes : Notes) : Type 0 where
 
 -- The conditions on notes, as docs/NOTES.md lists them. They don't ask that shapes are well formed, nor anything of code.
 pub record IsNotes (notes : Notes) : Type 0 where
-  pub version : notes.version ≡ 1
+  pub version : IsVersion notes.version
   pub few : HasFewThings notes
   pub entry : (f : FnNote) × (slice_get notes.function notes.entry ≡ Some f) × CanBeEntered f
   pub shapes : Each (IsShapeNote notes) notes.shape

@@ -30,4 +30,14 @@ pub enum Event {
         entry: u32,
         value: Value,
     },
+    /// The firmware entered a function as a notification, with the values as the script writes them.
+    Notified {
+        func: u32,
+        args: Args,
+    },
+    /// A function that the firmware entered as a notification returned a value.
+    Resumed {
+        func: u32,
+        value: Value,
+    },
 }

@@ -43,8 +43,9 @@ pub use notes::{
 pub use reason::Reason;
 pub use rule::RuleName;
 pub use script::{
-    Callback, Callbacks, CellValue, CellValues, OutValue, OutValues, Script, ScriptCall,
-    ScriptCalls, ScriptObject, ScriptObjects, SeenValues, Values, WriteValue, WriteValues,
+    Callback, Callbacks, CellValue, CellValues, Notifications, Notify, OutValue, OutValues, Script,
+    ScriptCall, ScriptCalls, ScriptObject, ScriptObjects, SeenValues, Values, WriteValue,
+    WriteValues,
 };
 pub use seen::Seen;
 pub use shape::{Field, Fields, Shape, ShapeFault, Shapes, shape_ok};

@@ -39,4 +39,12 @@ pub enum Reason {
     Thunk {
         address: u64,
     },
+    /// The script's notification of that number, from 0, can't be entered so, or not before all thunk cells are made.
+    Notify {
+        number: u32,
+    },
+    /// A method that is bound to that function of another image is called before all thunk cells of that image are made.
+    Bind {
+        function: u32,
+    },
 }

@@ -56,14 +56,25 @@ pub struct ScriptCall {
     pub result: Value,
 }
 
+/// A function that the firmware enters as a notification, before the first instruction that comes once `at` instructions are
+/// done, and the values of its parameters.
+#[derive(Drop)]
+pub struct Notify {
+    pub at: u64,
+    pub function: u32,
+    pub args: Values,
+}
+
 /// What the firmware does in a run: the arguments of the entry function, the objects that are there from the start, and
-/// the native calls in the order in which they are to come.
+/// the native calls and the notifications, each in the order in which they are to come. A script of version 1 has no
+/// notifications.
 #[derive(Drop)]
 pub struct Script {
     pub version: u32,
     pub args: Values,
     pub object: ScriptObjects,
     pub call: ScriptCalls,
+    pub notify: Notifications,
 }
 
 /// A list of values.
@@ -89,3 +100,6 @@ pub type WriteValues = Sequence<WriteValue>;
 
 /// A list of native calls.
 pub type ScriptCalls = Sequence<ScriptCall>;
+
+/// A list of notifications.
+pub type Notifications = Sequence<Notify>;

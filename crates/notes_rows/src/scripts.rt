@@ -1,7 +1,8 @@
 //! The records of scripts in text: a record as its name and its fields, a case as its name and what it holds.
 use crate::text::{Shown, Text};
 use note_types::{
-    Callback, CellValue, OutValue, Script, ScriptCall, ScriptObject, Seen, Value, WriteValue,
+    Callback, CellValue, Notify, OutValue, Script, ScriptCall, ScriptObject, Seen, Value,
+    WriteValue,
 };
 use std::alloc::AllocError;
 
@@ -113,12 +114,22 @@ impl Shown for ScriptCall {
     }
 }
 
+impl Shown for Notify {
+    fn show(&self, text: &mut Text) -> Result<(), AllocError> {
+        text.put("Notify { at: ", &self.at)?;
+        text.put(", function: ", &self.function)?;
+        text.put(", args: ", &self.args)?;
+        text.word(" }")
+    }
+}
+
 impl Shown for Script {
     fn show(&self, text: &mut Text) -> Result<(), AllocError> {
         text.put("Script { version: ", &self.version)?;
         text.put(", args: ", &self.args)?;
         text.put(", object: ", &self.object)?;
         text.put(", call: ", &self.call)?;
+        text.put(", notify: ", &self.notify)?;
         text.word(" }")
     }
 }

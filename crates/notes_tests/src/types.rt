@@ -411,7 +411,8 @@ fn divisors(rt: HostRuntime) {
 #[test]
 fn limits(rt: HostRuntime) {
     assert!(rt; (code_limit(1), point_limit(1)) == (256 * 1024, 16 * 1024));
-    assert!(rt; (code_limit(2), point_limit(2)) == (0, 0));
+    assert!(rt; (code_limit(2), point_limit(2)) == (1024 * 1024, 32 * 1024));
+    assert!(rt; (code_limit(3), point_limit(3)) == (0, 0));
 }
 
 #[test]

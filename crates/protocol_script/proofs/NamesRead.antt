@@ -4,6 +4,7 @@ use Rattle.std.specs.Prelude.{IfOk, IfSome, codes}
 use Rattle.toml.specs.Data.{Items, no_items, item, Members, as_str}
 use Rattle.ebc_base.specs.Steps.{or_else, passes}
 use Rattle.note_types.specs.declared.fault.TomlFault.TheVariants.{Kind, Range}
+use Rattle.note_types.specs.Limits.{point_limit}
 use Rattle.note_types.specs.Records.{Each}
 use Rattle.note_texts.specs.Grammar.{IsName}
 use Rattle.note_texts.specs.Keys.{field, number_at, only_keys, row_prefix, text_at, text_of}
@@ -53,9 +54,10 @@ function_named prefix table =
     (λ extent. ok_next IsNamedFunction (interface_of prefix table) _
     (λ interface. ok_next IsNamedFunction (function_enter prefix table) _ (λ enter. is))))
 
-functions_named : (table : Members) → IfOk (code_lists table) (λ (code : CodeLists). Each IsNamedFunction code.function)
+functions_named : (version : ℕ) (table : Members)
+    → IfOk (code_lists version table) (λ (code : CodeLists). Each IsNamedFunction code.function)
 unfolding code_lists tables_at rows_of
-functions_named table =
+functions_named version table =
     let path = [] ++ codes "function" in
     let P : CodeLists → Type 0 = λ code. Each IsNamedFunction code.function in
     ok_then (Each IsNamedFunction) P (tables_at function_of [] (codes "function") 4096 table) _
@@ -64,7 +66,7 @@ functions_named table =
     (each_read IsNamedFunction (row_of function_of path) ds 0 (λ j d. ok_next IsNamedFunction (table_of path j d)
     (function_of (row_prefix path j)) (function_named (row_prefix path j))))
     (λ fs h. h.1)))
-    (λ functions are. ok_next P (tables_at point_of [] (codes "point") 16384 table) _ (λ points. are))
+    (λ functions are. ok_next P (tables_at point_of [] (codes "point") (point_limit version) table) _ (λ points. are))
 
 -- ---- methods
 
@@ -113,18 +115,19 @@ record AreNamed (lists : DraftLists) : Type 0 where
   pub functions : Each IsNamedFunction lists.code.function
   pub methods : Each HasNamedMethod lists.calls.signature
 
-lists_named : (table : Members) → IfOk (draft_lists table) AreNamed
+lists_named : (version : ℕ) (table : Members) → IfOk (draft_lists version table) AreNamed
 unfolding draft_lists
-lists_named table =
+lists_named version table =
     ok_next AreNamed (data_lists table) _
-    (λ things. ok_then (λ (code : CodeLists). Each IsNamedFunction code.function) AreNamed (code_lists table) _ (functions_named table)
+    (λ things. ok_then (λ (code : CodeLists). Each IsNamedFunction code.function) AreNamed (code_lists version table) _
+    (functions_named version table)
     (λ code named. ok_then (λ (calls : CallLists). Each HasNamedMethod calls.signature) AreNamed (call_lists table) _ (methods_named table)
     (λ calls are. record { functions = named; methods = are })))
 
 pub draft_named : (table : Members) → IfOk (draft_of table) IsNamed
 unfolding draft_of
 draft_named table =
-    ok_next IsNamed (number_at [] (codes "version") 1 1 table) _
+    ok_next IsNamed (number_at [] (codes "version") 1 2 table) _
     (λ version. ok_next IsNamed (text_at name_of [] (codes "entry") table) _
-    (λ entry. ok_then AreNamed IsNamed (draft_lists table) _ (lists_named table)
+    (λ entry. ok_then AreNamed IsNamed (draft_lists version table) _ (lists_named version table)
     (λ lists named. record { functions = named.functions; methods = named.methods })))

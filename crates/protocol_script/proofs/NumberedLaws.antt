@@ -8,12 +8,14 @@ use Rattle.std.specs.List.{flat_map, position, position_or_len}
 use Rattle.std.specs.Prelude.{codes, nat_lt, option_and_then}
 use Rattle.note_texts.specs.Keys.{row_prefix}
 use Rattle.note_texts.proofs.Tables.{map_some, moved}
+use Rattle.note_types.specs.Limits.{IsVersion}
 use Rattle.note_types.specs.Records.{Each}
 use Rattle.note_types.specs.declared.fault.TomlFault.TheVariants.{Name}
 use Rattle.note_types.specs.declared.notes.Notes.{Notes}
 use Rattle.note_types.specs.declared.notes.Static.{Static}
 use Rattle.note_types.specs.declared.script.Callback.{Callback}
 use Rattle.note_types.specs.declared.script.CellValue.{CellValue}
+use Rattle.note_types.specs.declared.script.Notify.{Notify}
 use Rattle.note_types.specs.declared.script.OutValue.{OutValue}
 use Rattle.note_types.specs.declared.script.Script.{Script}
 use Rattle.note_types.specs.declared.script.ScriptCall.{ScriptCall}
@@ -26,14 +28,15 @@ use Rattle.note_types.specs.declared.value.Value.TheVariants as value
 use Rattle.host_model.specs.HostPlans.{field_of}
 use Rattle.host_model.specs.Objects.{made_objects, objects_of, placed_objects, script_object, shape_of, static_object}
 use Rattle.host_model.specs.ScriptValues.{given, lent}
-use Rattle.host_model.specs.Scripts.{IsArgument, IsCallbackOf, IsOutOf, IsWritten, all_made}
+use Rattle.host_model.specs.Scripts.{IsArgument, IsCallbackOf, IsNotifyOf, IsOutOf, IsWritten, all_made}
 use Rattle.host_model.specs.declared.object.TypedObject.{TypedObject}
 use Rattle.ebc_base.proofs.Lists.{within_some}
 use Rattle.script_draft.specs.Grammar.{IsWritable}
 use Rattle.script_draft.specs.Lists.{all_of, each_of}
-use Rattle.script_draft.specs.Records.{IsArgumentDraft, IsCallDraft, IsCallbackDraft, IsCellDraft, IsDraft, IsObjectDraft, IsOutDraft}
-use Rattle.script_draft.specs.Records.{IsWriteDraft}
+use Rattle.script_draft.specs.Records.{IsArgumentDraft, IsCallDraft, IsCallbackDraft, IsCellDraft, IsDraft, IsNotifyDraft, IsObjectDraft}
+use Rattle.script_draft.specs.Records.{IsOutDraft, IsWriteDraft}
 use Rattle.script_draft.specs.declared.draft.CallDraft.{CallDraft}
+use Rattle.script_draft.specs.declared.draft.NotifyDraft.{NotifyDraft}
 use Rattle.script_draft.specs.declared.draft.ObjectDraft.{ObjectDraft}
 use Rattle.script_draft.specs.declared.draft.ScriptDraft.{ScriptDraft}
 use Rattle.script_draft.specs.declared.parts.CallbackText.{CallbackText}
@@ -47,8 +50,8 @@ use Rattle.script_draft.specs.declared.value.ValueText.TheVariants as text
 use Rattle.script_draft.proofs.DraftLaws.{all_given, found, ok_step, same_Ok}
 use Rattle.protocol_script.specs.Numbers.{field_number, function_number, method_number, narrow, shape_number, signature_number}
 use Rattle.protocol_script.specs.Resolved.{draft_shapes, field_in, resolved, resolved_argument, resolved_call, resolved_callback}
-use Rattle.protocol_script.specs.Resolved.{resolved_calls, resolved_cell, resolved_object, resolved_objects, resolved_out, resolved_reply}
-use Rattle.protocol_script.specs.Resolved.{resolved_value, resolved_write, typed_shapes}
+use Rattle.protocol_script.specs.Resolved.{resolved_calls, resolved_cell, resolved_notifications, resolved_notify, resolved_object}
+use Rattle.protocol_script.specs.Resolved.{resolved_objects, resolved_out, resolved_reply, resolved_value, resolved_write, typed_shapes}
 use Rattle.protocol_script.specs.declared.resolve.Reply.{Reply}
 use Rattle.protocol_script.proofs.ObjectLaws.{map-flat_map, placed-all}
 use Rattle.note_types.proofs.RecordLaws.{each_none, each_more}
@@ -330,10 +333,52 @@ made_shapes made = map (λ (o : TypedObject). Some o.shape) made
 
 -- a script with its numbers
 pub record IsNumberedScript (notes : Notes) (s : Script) : Type 0 where
-  pub version : s.version ≡ 1
+  pub version : IsVersion s.version
   pub args : Each (IsWritten notes) s.args
   pub object : Each (IsNumberedObject notes) s.object
   pub call : Each (IsNumberedCall notes (made_shapes (all_made notes s))) s.call
+  pub notify : Each (IsNotifyOf notes) s.notify
+  pub none : s.version ≡ 1 → s.notify ≡ []
+
+-- ---- notifications
+
+notify_for : (notes : Notes) (prefix : List ℕ) (n : NotifyDraft) (r : Notify) → IsNotifyDraft n → resolved_notify notes prefix n ≡ Ok r
+    → IsNotifyOf notes r
+unfolding resolved_notify
+notify_for notes prefix n r h e =
+    ok_step _ _ r e (λ function one e.
+    ok_step _ _ r e (λ args two e.
+    subst (IsNotifyOf notes) (same_Ok (record { at = n.at; function = function; args = args }) r e)
+    (record {
+      at = h.at;
+      function = function_within notes n.function function
+          (found (Name (prefix ++ codes "function")) (function_number notes n.function) function one);
+      args = all_given IsWritable (IsWritten notes) (resolved_value notes) n.args args (value_written notes) h.args
+          (found (Name (prefix ++ codes "args")) (all_of (resolved_value notes) n.args) args two);
+    })))
+
+notifications_from : (notes : Notes) (i : ℕ) (ns : List NotifyDraft) (rs : List Notify) → Each IsNotifyDraft ns
+    → each_of (λ i n. resolved_notify notes (row_prefix (codes "notify") i) n) i ns ≡ Ok rs → Each (IsNotifyOf notes) rs
+unfolding each_of
+notifications_from notes i [] rs h e = subst (Each (IsNotifyOf notes)) (same_Ok [] rs e) (each_none (IsNotifyOf notes))
+notifications_from notes i (n ∷ ns) rs h e =
+    ok_step _ _ rs e (λ r one e.
+    ok_step _ _ rs e (λ more two e.
+    subst (Each (IsNotifyOf notes)) (same_Ok (r ∷ more) rs e)
+    (each_more (IsNotifyOf notes) r more (notify_for notes (row_prefix (codes "notify") i) n r (h 0 n refl) one)
+    (notifications_from notes (i + 1) ns more (λ k x g. h (suc k) x g) two))))
+
+notifications_for : (notes : Notes) (ns : List NotifyDraft) (rs : List Notify) → Each IsNotifyDraft ns
+    → resolved_notifications notes ns ≡ Ok rs → Each (IsNotifyOf notes) rs
+unfolding resolved_notifications
+notifications_for notes ns rs h e = notifications_from notes 0 ns rs h e
+
+-- where none are read, none stand for them
+notifications_none : (notes : Notes) (ns : List NotifyDraft) (rs : List Notify) → ns ≡ [] → resolved_notifications notes ns ≡ Ok rs
+    → rs ≡ []
+unfolding resolved_notifications each_of
+notifications_none notes [] rs n e = sym (same_Ok [] rs e)
+notifications_none notes (x ∷ ns) rs n e = cc n
 
 map-map : {A B C : Type 0} (g : B → C) (f : A → B) (xs : List A) → map g (map f xs) ≡ map (λ x. g (f x)) xs
 map-map g f [] = refl
@@ -364,7 +409,8 @@ script_for notes d s h e =
     ok_step _ _ s e (λ args one e.
     ok_step _ _ s e (λ object two e.
     ok_step _ _ s e (λ call three e.
-    let whole : Script = record { version = d.version; args = args; object = object; call = call } in
+    ok_step _ _ s e (λ notify four e.
+    let whole : Script = record { version = d.version; args = args; object = object; call = call; notify = notify } in
     let os = objects_for notes (codes "object") d.object object h.object two in
     let cs = calls_for notes (typed_shapes notes d) d.call call h.call three in
     let shapes : typed_shapes notes d ≡ made_shapes (all_made notes whole) = shapes_are notes d whole os.shapes cs.makes in
@@ -375,4 +421,6 @@ script_for notes d s h e =
           (found (Name (codes "args")) (all_of (resolved_value notes) d.args) args one);
       object = os.numbered;
       call = subst (λ z. Each (IsNumberedCall notes z) call) shapes cs.numbered;
-    }))))
+      notify = notifications_for notes d.notify notify h.notify four;
+      none = λ one. notifications_none notes d.notify notify (h.none one) four;
+    })))))

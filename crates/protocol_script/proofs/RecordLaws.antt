@@ -1,12 +1,15 @@
 -- A script that meets the conditions: what they say of each thing by itself.
 use Rattle.std.proofs.Common.{◌≡◌, ℕ, ◌+◌, ◌≤◌, ◌<◌, zero, suc, List, [], ◌∷◌, length, take, Option, Some, None, Result, Ok, Err, Bool}
-use Rattle.std.proofs.Common.{true, false, ◌&&◌, refl, sym, ap, subst, ◌∙◌, arith, slice_get, ⊎_elim}
-use Rattle.std.proofs.lemmas.Bool.{cases_lt, and_parts}
+use Rattle.std.proofs.Common.{true, false, ◌&&◌, ◌-◌, nat_eq, refl, sym, ap, subst, subst₂, ◌∙◌, arith, slice_get, ⊎_elim, map, get_or}
+use Rattle.std.proofs.lemmas.Bool.{cases_lt, and_parts, leb-true, ltb-true, ne_eqb}
 use Rattle.std.proofs.lemmas.Bool.Decides.{nat_tests}
 use Rattle.std.proofs.lemmas.Option.{same_Some, slice_get-map}
+use Rattle.std.proofs.lemmas.List.{length-map}
 use Rattle.std.specs.List.{list_all, range_with_len, sum_by}
+use Rattle.std.specs.List.Sorted.{IsStrictlyIncreasing}
 use Rattle.std.specs.Option.{option_map, option_map_or}
 use Rattle.std.specs.Prelude.{◌||◌, nat_le, nat_lt, not, codes, ◌++◌, IfOk}
+use Rattle.ebc_base.proofs.Lists.{within_some}
 use Rattle.ebc_base.specs.Steps.{◌>>=◌, passes}
 use Rattle.note_texts.specs.Keys.{document, row_prefix}
 use Rattle.note_texts.specs.Outcome.{Gives}
@@ -15,6 +18,7 @@ use Rattle.note_types.specs.declared.fault.NotesEnd.{NotesEnd}
 use Rattle.note_types.specs.declared.fault.TomlFault.{TomlFault}
 use Rattle.note_types.specs.declared.notes.Notes.{Notes}
 use Rattle.note_types.specs.declared.script.CellValue.{CellValue}
+use Rattle.note_types.specs.declared.script.Notify.{Notify}
 use Rattle.note_types.specs.declared.script.Script.{Script}
 use Rattle.note_types.specs.declared.script.ScriptCall.{ScriptCall}
 use Rattle.note_types.specs.declared.script.ScriptObject.{ScriptObject}
@@ -28,7 +32,8 @@ use Rattle.host_model.specs.ScriptValues.{fits}
 use Rattle.host_model.specs.declared.object.TypedObject.{TypedObject}
 use Rattle.script_draft.specs.Lists.{all_pass}
 use Rattle.protocol_script.specs.Conditions.{all_tables_pass, args_fit, call_args, call_passes, calls_pass, conditions, has_args, is_there}
-use Rattle.protocol_script.specs.Conditions.{table_conditions, table_meets, table_passes, tables_pass}
+use Rattle.protocol_script.specs.Conditions.{is_later, notify_ascends, notify_at, notify_conditions, table_conditions, table_meets}
+use Rattle.protocol_script.specs.Conditions.{table_passes, tables_pass, waits_for}
 use Rattle.protocol_script.specs.Contents.{all_settled, are_contents, cell_fits, is_by, is_filled, is_settled}
 use Rattle.protocol_script.specs.Limits.{call_limit, calls_limit, limits, object_limit, objects_limit}
 use Rattle.host_model.specs.Scripts.{IsCallOf, IsCellOf, IsObjectOf, IsScript, IsWriteOf, IsWritten, all_made, callbacks_of, have_room}
@@ -281,6 +286,37 @@ call-of notes script i c at numbered args tables few =
       callbacks = grind (arith, nat_tests, callbacks);
     }
 
+-- each notification waits for more instructions than the one before
+later-at : (ns : List Notify) (i : ℕ) (n : Notify) → notify_ascends ns ≡ Ok tt → slice_get ns i ≡ Some n → is_later ns i ≡ true
+unfolding notify_ascends
+later-at ns i n h at =
+    let here = pass-at (λ k (x : Notify). notify_at ns k) 0 ns i n h at in
+    let z : 0 + i ≡ i = omega arith in
+    passed (is_later ns i) _ (subst (λ k. notify_at ns k ≡ Ok tt) z here)
+
+waits-at : (ns : List Notify) (k : ℕ) → waits_for ns k ≡ get_or (map (λ (n : Notify). n.at) ns) k 0
+waits-at [] k = refl
+waits-at (n ∷ ns) zero = refl
+waits-at (n ∷ ns) (suc k) = waits-at ns k
+
+ascends-of : (ns : List Notify) → notify_ascends ns ≡ Ok tt → IsStrictlyIncreasing (map (λ (n : Notify). n.at) ns)
+ascends-of ns h k l =
+    let many : length (map (λ (n : Notify). n.at) ns) ≡ length ns = length-map ns (λ (n : Notify). n.at) in
+    let n = within_some ns (k + 1) (omega (arith, l, many)) in
+    let later : is_later ns (k + 1) ≡ true = later-at ns (k + 1) n.0 h n.1 in
+    let first : nat_eq (k + 1) 0 ≡ false = ne_eqb (k + 1) 0 (λ z. omega (arith, z)) in
+    let back : k + 1 - 1 ≡ k = omega arith in
+    let waits : ℕ → Bool = λ j. nat_lt (waits_for ns j) (waits_for ns (k + 1)) in
+    let less : waits k ≡ true = subst (λ j. waits j ≡ true) back (subst (λ b. (b || waits (k + 1 - 1)) ≡ true) first later) in
+    subst₂ (λ x y. x < y) (waits-at ns k) (waits-at ns (k + 1)) (ltb-true (waits_for ns k) (waits_for ns (k + 1)) less)
+
+notifications-of : (script : Script) → notify_conditions script ≡ Ok tt
+    → (length script.notify ≤ 16384) × IsStrictlyIncreasing (map (λ (n : Notify). n.at) script.notify)
+unfolding notify_conditions
+notifications-of script h =
+    let p = both-pass _ _ h in
+    (leb-true (length script.notify) 16384 (passed (nat_le (length script.notify) 16384) _ p.0), ascends-of script.notify p.1)
+
 pub script-of : (notes : Notes) (script : Script) → IsNumberedScript notes script → conditions notes script ≡ Ok tt → IsScript notes script
 unfolding conditions args_fit
 script-of notes script numbered h =
@@ -288,7 +324,9 @@ script-of notes script numbered h =
     let b = both-pass _ _ a.1 in
     let d = both-pass _ _ b.1 in
     let tables = meets-tables notes script d.0 in
-    let few = meets-limits notes script d.1 in
+    let f = both-pass _ _ d.1 in
+    let few = meets-limits notes script f.0 in
+    let noted = notifications-of script f.1 in
     let made = all_made notes script in
     record {
       version = numbered.version;
@@ -302,6 +340,7 @@ script-of notes script numbered h =
           (table-at Pointers notes made (codes "object") (length notes.statics) script.object k o tables.pointers.objects at);
       calls = λ i c at. call-of notes script i c at (numbered.call i c at) b.0 tables few;
       room = λ k o at. room-at notes script.object k o few.objects at;
+      notify = record { each = numbered.notify; none = numbered.none; few = noted.0; ascend = noted.1 };
     }
 
 -- the script that a draft stands for under notes meets the conditions on scripts

@@ -1,11 +1,12 @@
 -- Meaning: the conditions on scripts whose texts and names are right, in the order in which they are tried, and the key at
 -- which the first that fails is named. docs/SCRIPTS.md lists them.
-use Rattle.std.specs.Prelude.{ℕ, ◌+◌, Bool, true, false, List, ◌++◌, length, nat_eq, nat_lt, slice_get, Result, codes}
+use Rattle.std.specs.Prelude.{ℕ, ◌+◌, ◌-◌, Bool, true, false, ◌||◌, List, ◌++◌, length, nat_eq, nat_le, nat_lt, slice_get, Result, codes}
 use Rattle.std.specs.List.{list_all}
 use Rattle.std.specs.Option.{option_map_or}
 use Rattle.note_types.specs.declared.fault.TomlFault.{TomlFault}
 use Rattle.note_types.specs.declared.fault.TomlFault.TheVariants.{Range}
 use Rattle.note_types.specs.declared.notes.Notes.{Notes}
+use Rattle.note_types.specs.declared.script.Notify.{Notify}
 use Rattle.note_types.specs.declared.script.Script.{Script}
 use Rattle.note_types.specs.declared.script.ScriptCall.{ScriptCall}
 use Rattle.note_types.specs.declared.script.ScriptObject.{ScriptObject}
@@ -91,6 +92,34 @@ all_tables_pass condition notes script made = do
   _ ← tables_pass condition notes made (codes "object") (length notes.statics) script.object
   calls_pass condition notes script made
 
+-- ---- 8. there are at most 16,384 notifications; 9. each waits for more instructions than the one before
+
+-- there are few notifications
+abbrev pub notify_few : Script → Result (Unit {0}) TomlFault
+notify_few script = passes (nat_le (length script.notify) 16384) (Range (codes "notify"))
+
+-- how many instructions the notification of that number waits for
+abbrev pub waits_for : List Notify → ℕ → ℕ
+waits_for notifications i = option_map_or (λ (n : Notify). n.at) (slice_get notifications i) 0
+
+-- the notification of that number waits for more of them than the one before, if it isn't the first
+abbrev pub is_later : List Notify → ℕ → Bool
+is_later notifications i = nat_eq i 0 || nat_lt (waits_for notifications (i - 1)) (waits_for notifications i)
+
+-- the table of that number of the list `notify` is one of a later notification
+abbrev pub notify_at : List Notify → ℕ → Result (Unit {0}) TomlFault
+notify_at notifications i = passes (is_later notifications i) (Range (row_prefix (codes "notify") i ++ codes "at"))
+
+-- each table of the list is
+unfoldable pub notify_ascends : List Notify → Result (Unit {0}) TomlFault
+notify_ascends notifications = all_pass (λ i (n : Notify). notify_at notifications i) 0 notifications
+
+-- the conditions on notifications, in their order
+unfoldable pub notify_conditions : Script → Result (Unit {0}) TomlFault
+notify_conditions script = do
+  _ ← notify_few script
+  notify_ascends script.notify
+
 -- ---- all together
 
 -- the conditions on tables of objects, where these are all typed objects
@@ -107,4 +136,5 @@ conditions notes script = do
   _ ← passes (args_fit notes script) (Range (codes "args"))
   _ ← all_pass (call_args notes) 0 script.call
   _ ← table_conditions notes script (made_objects notes script (length script.call))
-  limits notes script
+  _ ← limits notes script
+  notify_conditions script

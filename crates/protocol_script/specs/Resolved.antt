@@ -8,6 +8,7 @@ use Rattle.note_types.specs.declared.notes.Notes.{Notes}
 use Rattle.note_types.specs.declared.notes.Static.{Static}
 use Rattle.note_types.specs.declared.script.Callback.{Callback}
 use Rattle.note_types.specs.declared.script.CellValue.{CellValue}
+use Rattle.note_types.specs.declared.script.Notify.{Notify}
 use Rattle.note_types.specs.declared.script.OutValue.{OutValue}
 use Rattle.note_types.specs.declared.script.Script.{Script}
 use Rattle.note_types.specs.declared.script.ScriptCall.{ScriptCall}
@@ -23,6 +24,7 @@ use Rattle.host_model.specs.Objects.{shape_of}
 use Rattle.host_model.specs.ScriptValues.{given, lent}
 use Rattle.script_draft.specs.Lists.{all_of, each_of}
 use Rattle.script_draft.specs.declared.draft.CallDraft.{CallDraft}
+use Rattle.script_draft.specs.declared.draft.NotifyDraft.{NotifyDraft}
 use Rattle.script_draft.specs.declared.draft.ObjectDraft.{ObjectDraft}
 use Rattle.script_draft.specs.declared.draft.ScriptDraft.{ScriptDraft}
 use Rattle.script_draft.specs.declared.parts.CallbackText.{CallbackText}
@@ -125,6 +127,17 @@ resolved_call notes shapes prefix c = do
 unfoldable pub resolved_calls : Notes → List (Option ℕ) → List CallDraft → Result (List ScriptCall) TomlFault
 resolved_calls notes shapes calls = each_of (λ i c. resolved_call notes shapes (row_prefix (codes "call") i) c) 0 calls
 
+-- a table of the list `notify`, by the path before its keys
+unfoldable pub resolved_notify : Notes → List ℕ → NotifyDraft → Result Notify TomlFault
+resolved_notify notes prefix n = do
+  function ← or_else (Name (prefix ++ codes "function")) (function_number notes n.function)
+  args ← or_else (Name (prefix ++ codes "args")) (all_of (resolved_value notes) n.args)
+  Ok (record { at = n.at; function = function; args = args })
+
+-- the tables of the list `notify`
+unfoldable pub resolved_notifications : Notes → List NotifyDraft → Result (List Notify) TomlFault
+resolved_notifications notes notifications = each_of (λ i n. resolved_notify notes (row_prefix (codes "notify") i) n) 0 notifications
+
 -- ---- the whole
 
 -- the shapes of these tables of objects, each where it is there
@@ -143,4 +156,5 @@ resolved notes d = do
   args ← or_else (Name (codes "args")) (all_of (resolved_value notes) d.args)
   object ← resolved_objects notes (codes "object") d.object
   call ← resolved_calls notes (typed_shapes notes d) d.call
-  Ok (record { version = d.version; args = args; object = object; call = call })
+  notify ← resolved_notifications notes d.notify
+  Ok (record { version = d.version; args = args; object = object; call = call; notify = notify })

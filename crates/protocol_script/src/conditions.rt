@@ -5,14 +5,17 @@ ghost use Rattle.note_types.specs.declared.fault.TomlFault.TheVariants.{Range};
 ghost use Rattle.ebc_base.specs.Steps.{passes};
 ghost use Rattle.host_model.specs.HostPlans.{function_params, signature_params};
 ghost use Rattle.script_draft.specs.Lists.{all_pass};
-ghost use Rattle.protocol_script.specs.Conditions.{args_fit, call_args, conditions, has_args};
+ghost use Rattle.protocol_script.specs.Conditions.{args_fit, call_args, conditions, has_args, is_later, notify_ascends, notify_at, notify_conditions, notify_few, waits_for};
 
 use crate::limits::keep_limits;
 use crate::objects::{all_objects, objects_at_start};
 use crate::tables::{met_at, tables_meet};
 use host_model::fits_each;
-use note_types::{Name, Notes, NotesEnd, Param, Script, ScriptCall, TomlFault, WantParam};
+use note_types::{Name, Notes, NotesEnd, Notify, Param, Script, ScriptCall, TomlFault, WantParam};
 use std::alloc::{AllocError, Global};
+
+/// Notifications of a script.
+const MAX_NOTIFICATIONS: usize = 16_384;
 
 // The parameters of a function, none where it isn't there.
 fn function_params(notes: &Notes, function: u32) -> &[Param]
@@ -78,6 +81,56 @@ fn all_args(alloc: Global, notes: &Notes, calls: &[ScriptCall]) -> Result<(), No
     Ok(())
 }
 
+// How many instructions the notification of that number waits for.
+fn waits_for(notifications: &[Notify], index: usize) -> u64
+    ensures { result ≡ waits_for notifications.now index }
+{
+    match notifications.get(index) {
+        Some(notify) => notify.at,
+        None => 0,
+    }
+}
+
+// Whether it waits for more of them than the one before, if it isn't the first.
+fn is_later(notifications: &[Notify], index: usize) -> bool
+    ensures { result ≡ is_later notifications.now index }
+{
+    index == 0 || waits_for(notifications, index - 1) < waits_for(notifications, index)
+}
+
+fn notify_at(alloc: Global, notifications: &[Notify], index: usize) -> Result<(), NotesEnd>
+    ensures { Gives result (notify_at notifications.now index) }
+{
+    met_at(alloc, is_later(notifications, index), "notify", index, "at")
+}
+
+fn notify_ascends(alloc: Global, notifications: &[Notify]) -> Result<(), NotesEnd>
+    ensures { Gives result (notify_ascends notifications.now) }
+{
+    for i in 0..notifications.len() {
+        notify_at(alloc, notifications, i)?;
+    }
+    Ok(())
+}
+
+fn notify_few(alloc: Global, script: &Script) -> Result<(), NotesEnd>
+    ensures { Gives result (notify_few script.now) }
+{
+    if script.notify.len() <= MAX_NOTIFICATIONS {
+        return Ok(());
+    }
+    let path = String::from_str(alloc, "notify")?;
+    Err(NotesEnd::Fault(TomlFault::Range(Name::new(path))))
+}
+
+#[tactic(auto, unfolding(crate::specs::Conditions::notify_conditions))]
+fn notifications_meet(alloc: Global, script: &Script) -> Result<(), NotesEnd>
+    ensures { Gives result (notify_conditions script.now) }
+{
+    notify_few(alloc, script)?;
+    notify_ascends(alloc, script.notify.as_slice())
+}
+
 /// Nothing where a script meets all conditions.
 ///
 /// # Errors
@@ -91,5 +144,6 @@ pub fn meet_conditions(alloc: Global, notes: &Notes, script: &Script) -> Result<
     all_args(alloc, notes, script.call.as_slice())?;
     let made = all_objects(alloc, notes, script)?;
     tables_meet(alloc, notes, script, made.as_slice())?;
-    keep_limits(alloc, notes, script)
+    keep_limits(alloc, notes, script)?;
+    notifications_meet(alloc, script)
 }

@@ -7,7 +7,7 @@ ghost use Rattle.note_types.specs.declared.notes.Notes.{Notes as NotesRecord};
 ghost use Rattle.note_types.specs.declared.shape.Field.{Field as FieldRecord};
 ghost use Rattle.note_texts.specs.Keys.{row_prefix};
 ghost use Rattle.script_draft.specs.Lists.{all_of};
-ghost use Rattle.protocol_script.specs.Resolved.{field_in, resolved, resolved_argument, resolved_call, resolved_calls, resolved_callback, resolved_cell, resolved_object, resolved_objects, resolved_out, resolved_reply, resolved_value, resolved_write};
+ghost use Rattle.protocol_script.specs.Resolved.{field_in, resolved, resolved_argument, resolved_call, resolved_calls, resolved_callback, resolved_cell, resolved_notifications, resolved_notify, resolved_object, resolved_objects, resolved_out, resolved_reply, resolved_value, resolved_write};
 
 use crate::numbers::{
     field_number, function_number, method_number, shape_number, signature_number,
@@ -15,12 +15,12 @@ use crate::numbers::{
 use crate::objects::{fields_of, typed_shapes};
 use note_texts::row_prefix;
 use note_types::{
-    Callback, CellValue, Field, Name, Notes, NotesEnd, OutValue, OutValues, Script, ScriptCall,
-    ScriptObject, Seen, Sequence, TomlFault, Value, WriteValue, WriteValues,
+    Callback, CellValue, Field, Name, Notes, NotesEnd, Notify, OutValue, OutValues, Script,
+    ScriptCall, ScriptObject, Seen, Sequence, TomlFault, Value, WriteValue, WriteValues,
 };
 use script_draft::{
-    ArgumentText, CallDraft, CallbackText, CellValueText, ObjectDraft, OutText, ScriptDraft,
-    ValueText, WriteText,
+    ArgumentText, CallDraft, CallbackText, CellValueText, NotifyDraft, ObjectDraft, OutText,
+    ScriptDraft, ValueText, WriteText,
 };
 use std::alloc::{AllocError, Global};
 
@@ -418,6 +418,56 @@ fn resolve_calls(
     Ok(Sequence::new(values))
 }
 
+#[tactic(auto, unfolding(crate::specs::Resolved::resolved_notify))]
+fn resolve_notify(
+    alloc: Global,
+    notes: &Notes,
+    prefix: &str,
+    notify: &NotifyDraft,
+) -> Result<Notify, NotesEnd>
+    ensures { Gives result (resolved_notify notes.now prefix.now notify.now) }
+{
+    let scope = Scope {
+        notes,
+        fields: &[],
+        shapes: &[],
+    };
+    let function = function_number(notes, &notify.function);
+    let function = known(alloc, prefix, "function", function)?;
+    let args = all_known(alloc, scope, prefix, "args", notify.args.as_slice())?;
+    Ok(Notify {
+        at: notify.at,
+        function,
+        args,
+    })
+}
+
+fn resolve_item_notify(
+    alloc: Global,
+    notes: &Notes,
+    index: usize,
+    notify: &NotifyDraft,
+) -> Result<Notify, NotesEnd>
+    ensures { Gives result (resolved_notify notes.now (row_prefix (codes "notify") index) notify.now) }
+{
+    let prefix = row_prefix(alloc, "notify", index)?;
+    resolve_notify(alloc, notes, prefix.as_str(), notify)
+}
+
+fn resolve_notifications(
+    alloc: Global,
+    notes: &Notes,
+    notifications: &[NotifyDraft],
+) -> Result<Sequence<Notify>, NotesEnd>
+    ensures { Gives result (resolved_notifications notes.now notifications.now) }
+{
+    let mut values = Vec::new(alloc);
+    for i in 0..notifications.len() {
+        values.push(resolve_item_notify(alloc, notes, i, &notifications[i])?)?;
+    }
+    Ok(Sequence::new(values))
+}
+
 /// The script that a draft stands for.
 ///
 /// # Errors
@@ -436,10 +486,12 @@ pub fn resolve_script(alloc: Global, notes: &Notes, draft: &ScriptDraft) -> Resu
     let object = resolve_objects(alloc, notes, "object", draft.object.as_slice())?;
     let shapes = typed_shapes(alloc, notes, draft)?;
     let call = resolve_calls(alloc, notes, shapes.as_slice(), draft.call.as_slice())?;
+    let notify = resolve_notifications(alloc, notes, draft.notify.as_slice())?;
     Ok(Script {
         version: draft.version,
         args,
         object,
         call,
+        notify,
     })
 }

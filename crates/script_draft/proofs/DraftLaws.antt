@@ -1,6 +1,7 @@
 -- A draft that was read is within what texts may have.
 use Rattle.std.proofs.Common.{◌≡◌, ℕ, suc, ◌+◌, ◌-◌, ◌^◌, ◌<◌, ◌≤◌, ℤ, pos, negsuc, List, [], ◌∷◌, ◌++◌, Option, Some, None, Result, Ok}
-use Rattle.std.proofs.Common.{Err, refl, subst, arith}
+use Rattle.std.proofs.Common.{Err, Bool, true, false, nat_eq, if◌then◌else◌, refl, sym, ap, ◌∙◌, subst, arith}
+use Rattle.std.proofs.lemmas.Bool.{true≢false}
 use Rattle.std.proofs.lemmas.Bool.Decides.{nat_tests}
 use Rattle.std.proofs.lemmas.Option.{option_and_then_some, same_Some}
 use Rattle.std.specs.Prelude.{IfOk, codes}
@@ -15,19 +16,21 @@ use Rattle.note_texts.specs.Splits.{parts_at, split_at}
 use Rattle.note_texts.proofs.NumberLaws.{decimal-number_of}
 use Rattle.note_texts.proofs.NumberRanges.{name_of-sound}
 use Rattle.note_texts.proofs.Tables.{map_some, moved}
+use Rattle.note_draft.proofs.VersionLaws.{is_version}
 use Rattle.note_types.specs.Records.{Each}
 use Rattle.note_types.specs.declared.fault.NotesEnd.{NotesEnd}
 use Rattle.note_types.specs.declared.fault.TomlFault.{TomlFault}
 use Rattle.note_types.specs.declared.fault.TomlFault.TheVariants.{Range}
-use Rattle.script_draft.specs.Drafts.{call_of, draft_of, most_items, reply_of, object_draft}
+use Rattle.script_draft.specs.Drafts.{call_of, draft_of, most_items, notifications_of, notify_of, object_draft, reply_of}
 use Rattle.script_draft.specs.Grammar.{IsWritable}
 use Rattle.script_draft.specs.Lists.{all_of}
 use Rattle.script_draft.specs.PartTexts.{callback_of, cell_value_of, out_of, values_after, write_of}
 use Rattle.script_draft.specs.Pieces.{pieces, values_of}
-use Rattle.script_draft.specs.Records.{IsArgumentDraft, IsCallDraft, IsCallbackDraft, IsCellDraft, IsDraft, IsObjectDraft, IsOutDraft}
-use Rattle.script_draft.specs.Records.{IsWriteDraft}
+use Rattle.script_draft.specs.Records.{IsArgumentDraft, IsCallDraft, IsCallbackDraft, IsCellDraft, IsDraft, IsNotifyDraft, IsObjectDraft}
+use Rattle.script_draft.specs.Records.{IsOutDraft, IsWriteDraft}
 use Rattle.script_draft.specs.ValueTexts.{argument_of, value_of}
 use Rattle.script_draft.specs.declared.draft.CallDraft.{CallDraft}
+use Rattle.script_draft.specs.declared.draft.NotifyDraft.{NotifyDraft}
 use Rattle.script_draft.specs.declared.draft.ObjectDraft.{ObjectDraft}
 use Rattle.script_draft.specs.declared.draft.ScriptDraft.{ScriptDraft}
 use Rattle.script_draft.specs.declared.parts.CallbackText.{CallbackText}
@@ -242,6 +245,40 @@ call_is prefix table c h =
       result = r.result;
     })))))))
 
+notify_is : (prefix : List ℕ) (table : Members) (n : NotifyDraft) → notify_of prefix table ≡ Ok n → IsNotifyDraft n
+unfolding notify_of
+notify_is prefix table n h =
+    ok_step _ _ n h (λ at one h.
+    ok_step _ _ n h (λ function two h.
+    ok_step _ _ n h (λ args three h.
+    ok_step _ _ n h (λ _ _ e.
+    subst IsNotifyDraft (same_Ok (record { at = at; function = function; args = args }) n e)
+    (record {
+      at = (number_read prefix (codes "at") 0 10000000 at table one).1;
+      function = key_read IsName name_of prefix (codes "function") table function name_is two;
+      args = texts_read IsWritable value_of prefix (codes "args") most_items table args value_is three;
+    })))))
+
+-- the notifications of a script, of which version 1 has none
+record HasDrafts (version : ℕ) (ns : List NotifyDraft) : Type 0 where
+  pub each : Each IsNotifyDraft ns
+  pub none : version ≡ 1 → ns ≡ []
+
+notifications_are : (version : ℕ) (table : Members) (ns : List NotifyDraft) → notifications_of version table ≡ Ok ns → HasDrafts version ns
+unfolding notifications_of
+notifications_are version table ns h = by (nat_eq version 2) refl h
+  where
+    by : (b : Bool) → nat_eq version 2 ≡ b → (if b then tables_at notify_of [] (codes "notify") most_items table else Ok []) ≡ Ok ns
+        → HasDrafts version ns
+    by true two e = record {
+      each = tables_read IsNotifyDraft notify_of [] (codes "notify") most_items table ns notify_is e;
+      none = λ one. absurd (true≢false (sym two ∙ ap (λ n. nat_eq n 2) one));
+    }
+    by false other e = record {
+      each = subst (Each IsNotifyDraft) (same_Ok [] ns e) (each_none IsNotifyDraft);
+      none = λ one. sym (same_Ok [] ns e);
+    }
+
 pub draft_is : (table : Members) (d : ScriptDraft) → draft_of table ≡ Ok d → IsDraft d
 unfolding draft_of
 draft_is table d h =
@@ -249,16 +286,19 @@ draft_is table d h =
     ok_step _ _ d h (λ args two h.
     ok_step _ _ d h (λ object three h.
     ok_step _ _ d h (λ call four h.
+    ok_step _ _ d h (λ notify five h.
     ok_step _ _ d h (λ _ _ e.
-    let n = number_read [] (codes "version") 1 1 version table one in
-    let is : version ≡ 1 = let a = n.0 in let b = n.1 in omega arith in
-    subst IsDraft (same_Ok (record { version = version; args = args; object = object; call = call }) d e)
+    let n = number_read [] (codes "version") 1 2 version table one in
+    let noted = notifications_are version table notify five in
+    subst IsDraft (same_Ok (record { version = version; args = args; object = object; call = call; notify = notify }) d e)
     (record {
-      version = is;
+      version = is_version version n.0 n.1;
       args = texts_read IsWritable value_of [] (codes "args") most_items table args value_is two;
       object = tables_read IsObjectDraft object_draft [] (codes "object") most_items table object object_is three;
       call = tables_read IsCallDraft call_of [] (codes "call") most_items table call call_is four;
-    }))))))
+      notify = noted.each;
+      none = noted.none;
+    })))))))
 
 pub draft_meets : (table : Members) (r : Result ScriptDraft NotesEnd) → Gives r (draft_of table) → IfOk r IsDraft
 draft_meets table (Ok d) h = draft_is table d h

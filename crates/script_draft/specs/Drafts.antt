@@ -1,6 +1,6 @@
 -- Meaning: what the tables of scripts stand for, each by the path before its keys, and what the whole text stands for,
 -- things of the notes by their names; or the first fault in it, key by key. docs/SCRIPTS.md has it in words.
-use Rattle.std.specs.Prelude.{ℕ, ◌-◌, ◌^◌, List, [], ◌∷◌, Result, Ok, codes}
+use Rattle.std.specs.Prelude.{ℕ, ◌-◌, ◌^◌, List, [], ◌∷◌, Result, Ok, codes, if◌then◌else◌, nat_eq}
 use Rattle.toml.specs.Data.{Members}
 use Rattle.note_types.specs.declared.fault.TomlFault.{TomlFault}
 use Rattle.ebc_base.specs.Steps.{◌>>=◌}
@@ -9,6 +9,7 @@ use Rattle.note_texts.specs.Lists.{texts_at, tables_at}
 use Rattle.script_draft.specs.PartTexts.{callback_of, cell_value_of, out_of, write_of}
 use Rattle.script_draft.specs.ValueTexts.{argument_of, value_of}
 use Rattle.script_draft.specs.declared.draft.CallDraft.{CallDraft}
+use Rattle.script_draft.specs.declared.draft.NotifyDraft.{NotifyDraft}
 use Rattle.script_draft.specs.declared.draft.ObjectDraft.{ObjectDraft}
 use Rattle.script_draft.specs.declared.draft.ScriptDraft.{ScriptDraft}
 use Rattle.script_draft.specs.declared.reading.Reply.{Reply}
@@ -58,12 +59,31 @@ call_of prefix table = do
     result = reply.result;
   })
 
+-- a table of the list `notify`
+unfoldable pub notify_of : List ℕ → Members → Result NotifyDraft TomlFault
+notify_of prefix table = do
+  at ← number_at prefix (codes "at") 0 10000000 table
+  function ← text_at name_of prefix (codes "function") table
+  args ← texts_at value_of prefix (codes "args") most_items table
+  _ ← only_keys prefix (codes "at" ∷ codes "function" ∷ codes "args" ∷ []) table
+  Ok (record { at = at; function = function; args = args })
+
+-- the list `notify`, which is one of version 2
+unfoldable pub notifications_of : ℕ → Members → Result (List NotifyDraft) TomlFault
+notifications_of version table = if nat_eq version 2 then tables_at notify_of [] (codes "notify") most_items table else Ok []
+
+-- the keys of the whole text, by its version
+abbrev pub script_keys : ℕ → List (List ℕ)
+script_keys version =
+    codes "version" ∷ codes "args" ∷ codes "object" ∷ codes "call" ∷ (if nat_eq version 2 then codes "notify" ∷ [] else [])
+
 -- the whole text
 unfoldable pub draft_of : Members → Result ScriptDraft TomlFault
 draft_of table = do
-  version ← number_at [] (codes "version") 1 1 table
+  version ← number_at [] (codes "version") 1 2 table
   args ← texts_at value_of [] (codes "args") most_items table
   object ← tables_at object_draft [] (codes "object") most_items table
   call ← tables_at call_of [] (codes "call") most_items table
-  _ ← only_keys [] (codes "version" ∷ codes "args" ∷ codes "object" ∷ codes "call" ∷ []) table
-  Ok (record { version = version; args = args; object = object; call = call })
+  notify ← notifications_of version table
+  _ ← only_keys [] (script_keys version) table
+  Ok (record { version = version; args = args; object = object; call = call; notify = notify })

@@ -1,10 +1,12 @@
 -- For proofs: what holds of a draft that was read: its numbers, names and values are within what texts may have.
 -- docs/SCRIPTS.md, "Texts".
-use Rattle.std.specs.Prelude.{◌≡◌, ◌^◌, ◌<◌, ◌≤◌, ⊤}
+use Rattle.std.specs.Prelude.{◌≡◌, ◌^◌, ◌<◌, ◌≤◌, [], ⊤}
 use Rattle.note_texts.specs.Grammar.{IsName}
+use Rattle.note_types.specs.Limits.{IsVersion}
 use Rattle.note_types.specs.Records.{Each}
 use Rattle.script_draft.specs.Grammar.{IsWritable}
 use Rattle.script_draft.specs.declared.draft.CallDraft.{CallDraft}
+use Rattle.script_draft.specs.declared.draft.NotifyDraft.{NotifyDraft}
 use Rattle.script_draft.specs.declared.draft.ObjectDraft.{ObjectDraft}
 use Rattle.script_draft.specs.declared.draft.ScriptDraft.{ScriptDraft}
 use Rattle.script_draft.specs.declared.parts.CallbackText.{CallbackText}
@@ -52,8 +54,15 @@ pub record IsCallDraft (c : CallDraft) : Type 0 where
   pub write : Each IsWriteDraft c.write
   pub result : IsWritable c.result
 
+pub record IsNotifyDraft (n : NotifyDraft) : Type 0 where
+  pub at : n.at ≤ 10000000
+  pub function : IsName n.function
+  pub args : Each IsWritable n.args
+
 pub record IsDraft (d : ScriptDraft) : Type 0 where
-  pub version : d.version ≡ 1
+  pub version : IsVersion d.version
   pub args : Each IsWritable d.args
   pub object : Each IsObjectDraft d.object
   pub call : Each IsCallDraft d.call
+  pub notify : Each IsNotifyDraft d.notify
+  pub none : d.version ≡ 1 → d.notify ≡ []

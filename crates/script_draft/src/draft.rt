@@ -24,6 +24,15 @@ pub struct CallDraft {
     pub result: ValueText,
 }
 
+/// A table of the list `notify`.
+#[derive(Drop)]
+pub struct NotifyDraft {
+    /// How many instructions it waits for.
+    pub at: u64,
+    pub function: Name,
+    pub args: Sequence<ValueText>,
+}
+
 /// The whole text.
 #[derive(Drop)]
 pub struct ScriptDraft {
@@ -31,4 +40,5 @@ pub struct ScriptDraft {
     pub args: Sequence<ValueText>,
     pub object: Sequence<ObjectDraft>,
     pub call: Sequence<CallDraft>,
+    pub notify: Sequence<NotifyDraft>,
 }

@@ -12,7 +12,7 @@ mod pieces;
 mod reading;
 mod value;
 
-pub use draft::{CallDraft, ObjectDraft, ScriptDraft};
+pub use draft::{CallDraft, NotifyDraft, ObjectDraft, ScriptDraft};
 pub use once::cells_once;
 pub use parts::{CallbackText, CellValueText, OutText, WriteText};
 pub use reading::read_draft;

@@ -1,12 +1,13 @@
 //! The first pass over scripts: the draft that a TOML table stands for, by its keys and those of the tables of its lists.
-ghost use Rattle.std.specs.Prelude.{◌≡◌, IfOk};
+ghost use Rattle.std.specs.Prelude.{◌≡◌, [], IfOk};
 ghost use Rattle.toml.specs.View.{table_view};
 ghost use Rattle.note_texts.specs.Keys.{only_keys};
 ghost use Rattle.note_texts.specs.Outcome.{Gives};
-ghost use Rattle.script_draft.specs.Drafts.{call_keys, call_of, draft_of, reply_of, object_draft};
+ghost use Rattle.script_draft.specs.Drafts.{call_keys, call_of, draft_of, notifications_of, notify_of, object_draft};
+ghost use Rattle.script_draft.specs.Drafts.{reply_of, script_keys};
 ghost use Rattle.script_draft.specs.Records.{IsDraft};
 
-use crate::draft::{CallDraft, ObjectDraft, ScriptDraft};
+use crate::draft::{CallDraft, NotifyDraft, ObjectDraft, ScriptDraft};
 use crate::parts::{CallbackText, CellValueText, OutText, WriteText};
 use crate::value::{ArgumentText, ValueText};
 use note_texts::{FromTable, Row};
@@ -16,6 +17,9 @@ use toml::Table;
 
 /// Items of a list.
 const MAX_ITEMS: usize = 4_294_967_295;
+
+/// Instructions that a notification waits for.
+const MAX_INSTRUCTIONS: u64 = 10_000_000;
 
 impl FromTable for ObjectDraft {
     ghost reads_as = { object_draft };
@@ -97,21 +101,66 @@ impl FromTable for CallDraft {
     }
 }
 
+impl FromTable for NotifyDraft {
+    ghost reads_as = { notify_of };
+
+    #[tactic(auto, unfolding(crate::specs::Drafts::notify_of))]
+    fn from_table(alloc: Global, row: Row) -> Result<Self, NotesEnd> {
+        let at = row.number(alloc, "at", 0, MAX_INSTRUCTIONS)?;
+        let function = row.text::<Name>(alloc, "function")?;
+        let args = row.texts::<ValueText>(alloc, "args", MAX_ITEMS)?;
+        row.only_keys(alloc, &["at", "function", "args"])?;
+        Ok(NotifyDraft {
+            at,
+            function,
+            args: Sequence::new(args),
+        })
+    }
+}
+
+#[tactic(auto, unfolding(crate::specs::Drafts::notifications_of))]
+fn notifications_of(
+    alloc: Global,
+    version: u32,
+    table: &Table,
+) -> Result<Sequence<NotifyDraft>, NotesEnd>
+    ensures { Gives result (notifications_of version (table_view table.now)) }
+{
+    if version != 2 {
+        return Ok(Sequence::new(Vec::new(alloc)));
+    }
+    let row = Row { prefix: "", table };
+    let notify = row.tables::<NotifyDraft>(alloc, "notify", MAX_ITEMS)?;
+    Ok(Sequence::new(notify))
+}
+
+fn only_script_keys(alloc: Global, version: u32, table: &Table) -> Result<(), NotesEnd>
+    ensures { Gives result (only_keys [] (script_keys version) (table_view table.now)) }
+{
+    let row = Row { prefix: "", table };
+    if version == 2 {
+        return row.only_keys(alloc, &["version", "args", "object", "call", "notify"]);
+    }
+    row.only_keys(alloc, &["version", "args", "object", "call"])
+}
+
 #[tactic(auto, unfolding(crate::specs::Drafts::draft_of))]
 fn read_keys(alloc: Global, table: &Table) -> Result<ScriptDraft, NotesEnd>
     ensures { Gives result (draft_of (table_view table.now)) }
 {
     let row = Row { prefix: "", table };
-    let version = row.number(alloc, "version", 1, 1)?;
+    let version = row.number(alloc, "version", 1, 2)? as u32;
     let args = row.texts::<ValueText>(alloc, "args", MAX_ITEMS)?;
     let object = row.tables::<ObjectDraft>(alloc, "object", MAX_ITEMS)?;
     let call = row.tables::<CallDraft>(alloc, "call", MAX_ITEMS)?;
-    row.only_keys(alloc, &["version", "args", "object", "call"])?;
+    let notify = notifications_of(alloc, version, table)?;
+    only_script_keys(alloc, version, table)?;
     Ok(ScriptDraft {
-        version: version as u32,
+        version,
         args: Sequence::new(args),
         object: Sequence::new(object),
         call: Sequence::new(call),
+        notify,
     })
 }
 

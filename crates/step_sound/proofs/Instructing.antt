@@ -86,6 +86,7 @@ pub record Before (world : World) (states : States) (c : Config) (f : FunctionFr
   pub under : call_under_way fs ≡ NoCall
   pub running : c.ending ≡ ending.Running
   pub served : c.script.thunks ≡ c.made
+  pub thunks : c.made ≤ length world.notes.thunk
   pub sound : SoundBelow world c
   pub waiting : Chain world states (live_memory world c) c.made (Function f ∷ fs)
 
@@ -150,6 +151,9 @@ module _ (world : World) (states : States) (ok : RunWorld world states) (fits_be
     served_after : (may : Bool) (b : Config) → Left world may f fs c b → b.script.thunks ≡ b.made
     served_after may b l = ap (λ (p : ScriptPlace). p.thunks) l.script ∙ before.served ∙ sym l.made
 
+    thunks_after : (may : Bool) (b : Config) → Left world may f fs c b → b.made ≤ length world.notes.thunk
+    thunks_after may b l = subst (λ n. n ≤ length world.notes.thunk) (sym l.made) before.thunks
+
     running_after : (may : Bool) (b : Config) → Left world may f fs c b → RaisesOnlyDivideError b.ending
     running_after may b l = subst RaisesOnlyDivideError (sym (l.ending ∙ before.running)) tt
 
@@ -159,6 +163,7 @@ module _ (world : World) (states : States) (ok : RunWorld world states) (fits_be
         → Holds world states b
     goes_on_holds x b leads l g = record {
       served = served_after false b l;
+      thunks = thunks_after false b l;
       sound = g.sound.below;
       well = λ on. well l.frames;
       raised = running_after false b l;
@@ -210,6 +215,7 @@ module _ (world : World) (states : States) (ok : RunWorld world states) (fits_be
         } in
         record {
           served = served_after true b l;
+          thunks = thunks_after true b l;
           sound = g.sound.below;
           well = λ on. at_top b g.callee (Function f ∷ fs) g.note.place g.frames before.under g.spot
               (record {
@@ -230,6 +236,7 @@ module _ (world : World) (states : States) (ok : RunWorld world states) (fits_be
     returns_holds : (b : Config) → Left world true f fs c b → Returns world c f fs b → Holds world states b
     returns_holds b l g = record {
       served = served_after true b l;
+      thunks = thunks_after true b l;
       sound = g.sound;
       well = λ on. well fs refl;
       raised = running_after true b l;
@@ -328,6 +335,7 @@ module _ (world : World) (states : States) (ok : RunWorld world states) (fits_be
             (below_after false b l, chain_after false b l) in
             record {
               served = served_after false b l;
+              thunks = thunks_after false b l;
               sound = record {
                 cells = cells_same world.notes (live_memory world b) V same g.sound.cells;
                 frames = frames_call world V b.made mark (Function f ∷ fs)
@@ -392,6 +400,7 @@ module _ (world : World) (states : States) (ok : RunWorld world states) (fits_be
             (below_after false b l, chain_after false b l) in
             record {
               served = ap (λ n. n + 1) s;
+              thunks = let n = g.next in let h = g.there in omega (arith, n, h);
               sound = record {
                 cells = g.sound.below.cells;
                 frames = subst (λ n. FramesKeep world (live_memory world b) n b.frames) one_more g.sound.below.frames;
@@ -408,6 +417,7 @@ module _ (world : World) (states : States) (ok : RunWorld world states) (fits_be
     raised_holds : (e : Exception) → e ≡ raises.DivideError → Holds world states (record c { ending = ending.Raised e })
     raised_holds e is = record {
       served = before.served;
+      thunks = before.thunks;
       sound = record { cells = before.sound.cells; frames = before.sound.frames; few = before.sound.few };
       well = λ on. absurd (cc);
       raised = is;

@@ -13,24 +13,25 @@ use Rattle.note_types.specs.declared.spot.Spot.{Spot}
 use Rattle.note_types.specs.declared.spot.Spot.TheVariants as spot
 use Rattle.pe_image.specs.Mapped.{mapped}
 use Rattle.pe_image.specs.declared.image.Image.{Image}
-use Rattle.neutral_machine.specs.Config.{Frame, Function, Host, Config, call_under_way}
-use Rattle.host_model.specs.HostPlans.{host_turn}
+use Rattle.neutral_machine.specs.Config.{FunctionFrame, HostFrame, Frame, Function, Host, Config, call_under_way}
+use Rattle.host_model.specs.HostPlans.{host_turn, is_due}
 use Rattle.neutral_machine.specs.NeutralRuns.{is_gate, neutral_start, neutral_step, step_if}
 use Rattle.host_model.specs.Placements.{Placement}
 use Rattle.host_model.specs.Progress.{NativeCall, NoCall, Asked, Accepted}
 use Rattle.host_model.specs.RunState.{RunState}
 use Rattle.host_model.specs.Values.{Neutral}
 use Rattle.host_model.specs.World.{World}
-use Rattle.typed_runs.specs.Holds.{TopHolds, GateHolds, SpotHolds, Holds}
+use Rattle.typed_runs.specs.Holds.{RunsAt, TopHolds, GateHolds, SpotHolds, Holds}
 use Rattle.typed_runs.specs.Waiting.{States}
 use Rattle.neutral_machine.specs.NeutralImage.{static_cells}
 use Rattle.neutral_machine.specs.NeutralRun.{neutral_instruction}
 use Rattle.host_model.specs.Runs.{run_after, run_of, run_step}
 use Rattle.step_sound.specs.Invariant.{Invariant, RunHolds, RunsAtPlace}
-use Rattle.step_sound.specs.StepKinds.{AtInstruction, IsPlain, IsNativeCall, IsThunk, IsCall, IsEnter, IsReply, IsLeaving, IsLast, NextStep}
-use Rattle.step_sound.specs.StepKinds.{plain, native_call, thunk, call, enter, reply, leaving, last, calls_native, makes_thunk}
+use Rattle.step_sound.specs.StepKinds.{AtInstruction, IsPlain, IsNativeCall, IsThunk, IsCall, IsEnter, IsReply, IsNotify, IsLeaving}
+use Rattle.step_sound.specs.StepKinds.{IsResuming, IsLast, NextStep, plain, native_call, thunk, call, enter, reply, notify, leaving}
+use Rattle.step_sound.specs.StepKinds.{resuming, last, calls_native, makes_thunk}
 use Rattle.step_sound.specs.StepLaws.{StepKeeps, PlainStepsKeep, NativeCallsKeep, ThunksKeep, CallsKeep, EntersKeep, RepliesKeep}
-use Rattle.step_sound.specs.StepLaws.{LeavingKeeps, LastKeeps, StartMeets, NextStepIsThere}
+use Rattle.step_sound.specs.StepLaws.{NotifiesKeep, LeavingKeeps, ResumingKeeps, LastKeeps, StartMeets, NextStepIsThere}
 use Rattle.step_sound.proofs.Read.{read_is_run, read_is_run_at, read_starts}
 use Rattle.step_sound.proofs.Relocated.{bytes_loaded}
 use Rattle.step_sound.proofs.RunSteps.{run_step_keeps_standing}
@@ -45,6 +46,7 @@ module _ (w : ℕ) (image : Image) (world : World) (P : Placement) (states : Sta
   pub holds_of : (a : Config) (r : RunState) → Invariant w image world P states a r → Holds world states a
   holds_of a r v = record {
     served = v.standing.served;
+    thunks = v.standing.thunks;
     sound = v.sound.sound;
     well = λ on. record { top = top on a.spot refl; waiting = v.waiting on };
     raised = v.sound.raised;
@@ -67,7 +69,7 @@ module _ (w : ℕ) (image : Image) (world : World) (P : Placement) (states : Sta
   pub invariant_of : (a : Config) (r : RunState) → Stands w world P (mapped image P.image) a r → Holds world states a
       → Invariant w image world P states a r
   invariant_of a r s h = record {
-    standing = record { stands = s; served = h.served };
+    standing = record { stands = s; served = h.served; thunks = h.thunks };
     at_place = λ on n. placed a.spot refl n (h.well on).top;
     at_gate = λ on e. subst (SpotHolds world states a) e (h.well on).top;
     waiting = λ on. (h.well on).waiting;
@@ -119,24 +121,25 @@ module _ (w : ℕ) (image : Image) (world : World) (P : Placement) (states : Sta
 
   -- a step of the host
   host : (a : Config) (r : RunState) → Invariant w image world P states a r → a.ending ≡ ending.Running
-      → host_turn (is_gate a.spot) (call_under_way a.frames) ≡ true → StepKeeps w image world P states a r
+      → host_turn (is_gate a.spot) (call_under_way a.frames) (is_due world.script a.script) ≡ true → StepKeeps w image world P states a r
   host a r v on t = keeps a r v on (host_keeps image world states run.read run.rules a (holds_of a r v) on t)
 
   -- an instruction
-  code : (a : Config) (r : RunState) (i : Insn) → Invariant w image world P states a r → a.ending ≡ ending.Running → AtInstruction image a i
-      → StepKeeps w image world P states a r
+  code : (a : Config) (r : RunState) (i : Insn) → Invariant w image world P states a r → a.ending ≡ ending.Running
+      → AtInstruction image world a i → StepKeeps w image world P states a r
   code a r i v on at =
       keeps a r v on (code_keeps image world states run.read run.rules a (holds_of a r v) on
-      (ap₂ (λ s (n : NativeCall Neutral). host_turn (is_gate s) n) at.spot at.under))
+      (ap₂ (λ s (n : NativeCall Neutral). host_turn (is_gate s) n (is_due world.script a.script)) at.spot at.under ∙ at.not_due))
 
   within : (a : Config) (r : RunState) → Invariant w image world P states a r → a.ending ≡ ending.Running
       → (p : ℕ) (n k : ℕ) (vs : List Neutral) → a.spot ≡ spot.Place p → call_under_way a.frames ≡ Accepted n k vs
       → StepKeeps w image world P states a r
-  within a r v on p n k vs es en = host a r v on (ap₂ (λ s (c : NativeCall Neutral). host_turn (is_gate s) c) es en)
+  within a r v on p n k vs es en =
+      host a r v on (ap₂ (λ s (c : NativeCall Neutral). host_turn (is_gate s) c (is_due world.script a.script)) es en)
 
   gate : (a : Config) (r : RunState) → Invariant w image world P states a r → a.ending ≡ ending.Running → a.spot ≡ spot.Gate
       → StepKeeps w image world P states a r
-  gate a r v on es = host a r v on (ap (λ s. host_turn (is_gate s) (call_under_way a.frames)) es)
+  gate a r v on es = host a r v on (ap (λ s. host_turn (is_gate s) (call_under_way a.frames) (is_due world.script a.script)) es)
 
   -- ---- each kind
 
@@ -154,7 +157,8 @@ module _ (w : ℕ) (image : Image) (world : World) (P : Placement) (states : Sta
 
   pub call_keeps : (a : Config) (r : RunState) → Invariant w image world P states a r → a.ending ≡ ending.Running → IsCall image world a
       → StepKeeps w image world P states a r
-  call_keeps a r v on k = host a r v on (ap₂ (λ s (c : NativeCall Neutral). host_turn (is_gate s) c) k.spot k.under)
+  call_keeps a r v on k =
+      host a r v on (ap₂ (λ s (c : NativeCall Neutral). host_turn (is_gate s) c (is_due world.script a.script)) k.spot k.under)
 
   pub enter_keeps : (a : Config) (r : RunState) → Invariant w image world P states a r → a.ending ≡ ending.Running → IsEnter image world a
       → StepKeeps w image world P states a r
@@ -164,9 +168,18 @@ module _ (w : ℕ) (image : Image) (world : World) (P : Placement) (states : Sta
       → StepKeeps w image world P states a r
   reply_keeps a r v on k = within a r v on k.within.next k.within.entry k.callbacks k.within.args k.within.spot k.within.under
 
+  pub notify_keeps : (a : Config) (r : RunState) → Invariant w image world P states a r → a.ending ≡ ending.Running → IsNotify image world a
+      → StepKeeps w image world P states a r
+  notify_keeps a r v on k =
+      host a r v on (ap₂ (λ s (c : NativeCall Neutral). host_turn (is_gate s) c (is_due world.script a.script)) k.spot k.under ∙ k.due)
+
   pub leaving_keeps : (a : Config) (r : RunState) → Invariant w image world P states a r → a.ending ≡ ending.Running
       → IsLeaving image world a → StepKeeps w image world P states a r
   leaving_keeps a r v on k = gate a r v on k.spot
+
+  pub resuming_keeps : (a : Config) (r : RunState) → Invariant w image world P states a r → a.ending ≡ ending.Running
+      → IsResuming image world a → StepKeeps w image world P states a r
+  resuming_keeps a r v on k = gate a r v on k.spot
 
   pub last_keeps : (a : Config) (r : RunState) → Invariant w image world P states a r → a.ending ≡ ending.Running → IsLast image world a
       → StepKeeps w image world P states a r
@@ -177,16 +190,21 @@ module _ (w : ℕ) (image : Image) (world : World) (P : Placement) (states : Sta
   pub next_step : (a : Config) (r : RunState) → Invariant w image world P states a r → a.ending ≡ ending.Running → NextStep image world a
   next_step a r v on = by_spot a.spot refl ((holds_of a r v).well on).top
     where
-      by_insn : (i : Insn) → AtInstruction image a i → (b c : Bool) → calls_native i ≡ b → makes_thunk i ≡ c → NextStep image world a
+      by_insn : (i : Insn) → AtInstruction image world a i → (b c : Bool) → calls_native i ≡ b → makes_thunk i ≡ c → NextStep image world a
       by_insn i at true c eb ec = native_call (record { insn = i; at = at; call = eb })
       by_insn i at false true eb ec = thunk (record { insn = i; at = at; thunk = ec })
       by_insn i at false false eb ec = plain (record { insn = i; at = at; no_call = eb; no_thunk = ec })
+
+      by_mark : (h : HostFrame) (f : Frame) (gs : List Frame) → a.spot ≡ spot.Gate → a.frames ≡ Host h ∷ f ∷ gs → (n : Bool)
+          → h.notified ≡ n → NextStep image world a
+      by_mark h f gs es ef true en = resuming (record { host = h; below = f; rest = gs; spot = es; frames = ef; notified = en })
+      by_mark h f gs es ef false en = leaving (record { host = h; below = f; rest = gs; spot = es; frames = ef; notified = en })
 
       at_gate : (gs : List Frame) → a.spot ≡ spot.Gate → a.frames ≡ gs → GateHolds world a gs → NextStep image world a
       at_gate [] es ef g = absurd g
       at_gate (Function f ∷ gs) es ef g = absurd g
       at_gate (Host h ∷ []) es ef g = last (record { host = h; spot = es; frames = ef })
-      at_gate (Host h ∷ f ∷ gs) es ef g = leaving (record { host = h; below = f; rest = gs; spot = es; frames = ef })
+      at_gate (Host h ∷ f ∷ gs) es ef g = by_mark h f gs es ef h.notified refl
 
       callback : (p n k : ℕ) (vs : List Neutral) (c : _) → a.spot ≡ spot.Place p → call_under_way a.frames ≡ Accepted n k vs
           → slice_get world.script.call n ≡ Some c → (o : Option Callback) → slice_get c.enter k ≡ o → NextStep image world a
@@ -204,11 +222,18 @@ module _ (w : ℕ) (image : Image) (world : World) (P : Placement) (states : Sta
         none_left = eo;
       })
 
+      by_due : (p : ℕ) (f : FunctionFrame) (fs : List Frame) → a.spot ≡ spot.Place p → call_under_way a.frames ≡ NoCall
+          → RunsAt world states a p f fs → (t : Bool) → is_due world.script a.script ≡ t → NextStep image world a
+      by_due p f fs es en x true et = notify (record { place = p; spot = es; under = en; due = et })
+      by_due p f fs es en x false et =
+          let i = code_there image world states run.read run.rules a p f fs x in
+          by_insn i.0 (record { place = p; size = i.1; spot = es; under = en; not_due = et; insn = i.2 })
+          (calls_native i.0) (makes_thunk i.0) refl refl
+
       at_place : (p : ℕ) (gs : List Frame) (n : NativeCall Neutral) → a.spot ≡ spot.Place p → a.frames ≡ gs → call_under_way a.frames ≡ n
           → TopHolds world states a n p gs → NextStep image world a
       at_place p (Function f ∷ fs) NoCall es ef en x =
-          let i = code_there image world states run.read run.rules a p f fs x in
-          by_insn i.0 (record { place = p; size = i.1; spot = es; under = en; insn = i.2 }) (calls_native i.0) (makes_thunk i.0) refl refl
+          by_due p f fs es en x (is_due world.script a.script) refl
       at_place p (Function f ∷ fs) (Asked q u) es ef en x = call (record { next = p; place = q; target = u; spot = es; under = en })
       at_place p (Function f ∷ fs) (Accepted n k vs) es ef en x = callback p n k vs x.call es en x.entry_is (slice_get x.call.enter k) refl
       at_place p [] NoCall es ef en x = absurd x
@@ -255,8 +280,14 @@ enters_keep w image world P map a r h v on k = enter_keeps w image world P (stat
 pub replies_keep : RepliesKeep
 replies_keep w image world P map a r h v on k = reply_keeps w image world P (states_by map) h a r v on k
 
+pub notifies_keep : NotifiesKeep
+notifies_keep w image world P map a r h v on k = notify_keeps w image world P (states_by map) h a r v on k
+
 pub leaving_keeps_all : LeavingKeeps
 leaving_keeps_all w image world P map a r h v on k = leaving_keeps w image world P (states_by map) h a r v on k
+
+pub resuming_keeps_all : ResumingKeeps
+resuming_keeps_all w image world P map a r h v on k = resuming_keeps w image world P (states_by map) h a r v on k
 
 pub last_keeps_all : LastKeeps
 last_keeps_all w image world P map a r h v on k = last_keeps w image world P (states_by map) h a r v on k

@@ -13,7 +13,7 @@ use Rattle.ebc_width.specs.Bytes.{window}
 use Rattle.ebc_width.specs.Ranges.{covers}
 use Rattle.host_laws.proofs.Entering.{marked_stands}
 use Rattle.host_laws.proofs.HostLaw.{host_law}
-use Rattle.host_laws.proofs.Marks.{machine_told}
+use Rattle.host_laws.proofs.Marks.{machine_counted, machine_told}
 use Rattle.host_laws.proofs.Replies.{marks_show}
 use Rattle.host_laws.proofs.Thunks.{names_stand, thunk_stands}
 use Rattle.instruction_laws.specs.Premises.{IsInsnOf, IsRunOf, RunAlike}
@@ -24,32 +24,29 @@ use Rattle.ebc_insn.specs.declared.Insn.TheVariants as insns
 use Rattle.neutral_machine.specs.Operands.{plainly}
 use Rattle.neutral_machine.specs.Room.{HasRoom, growth, index_growth}
 use Rattle.neutral_machine.specs.Rows.{is_stack_pointer, Site, NeutralRow, Next, Native, MakeThunk, executed}
-use Rattle.neutral_machine.specs.Stands.{MachineStands, Stands, CallShows, CellShows, cell_address, spot_at}
+use Rattle.neutral_machine.specs.Stands.{Stands, CallShows, spot_at}
 use Rattle.neutral_machine.specs.WorldFits.{WorldFits}
-use Rattle.note_types.specs.Cells.{cell_size}
 use Rattle.note_types.specs.Concrete.{Concrete}
 use Rattle.note_types.specs.declared.ending.Ending.{Ending}
 use Rattle.note_types.specs.declared.ending.Ending.TheVariants as ending
 use Rattle.note_types.specs.declared.notes.FnNote.{FnNote}
 use Rattle.note_types.specs.declared.notes.Thunk.{Thunk}
-use Rattle.note_types.specs.declared.shape.Field.{Field}
 use Rattle.note_types.specs.declared.spot.Spot.{Spot}
 use Rattle.note_types.specs.declared.spot.Spot.TheVariants as spot
 use Rattle.pe_image.specs.Mapped.{mapped, image_byte}
 use Rattle.pe_image.specs.declared.image.Image.{Image}
 use Rattle.rules_image.specs.Images.{named_at, is_relocated}
 use Rattle.neutral_machine.specs.Config.{Config, call_under_way, with_call}
-use Rattle.host_model.specs.HostPlans.{Names, ThunkView, host_turn}
+use Rattle.host_model.specs.HostPlans.{Names, ThunkView, host_turn, is_due}
 use Rattle.host_model.specs.HostSteps as width
 use Rattle.neutral_machine.specs.Layout.{addresses, total}
-use Rattle.neutral_machine.specs.Memory.{memory_of, cell_field}
 use Rattle.neutral_machine.specs.NeutralHost.{neutral_host_step, next_thunk, thunk_function, thunk_made}
 use Rattle.neutral_machine.specs.NeutralRuns.{is_gate, neutral_step, running_step as neutral_running, step_if as neutral_if}
 use Rattle.neutral_machine.specs.Outcomes.{Gives, Raises, Stuck}
 use Rattle.host_model.specs.Placements.{Placement, image_range, stack_bytes, thunk_cell_address}
 use Rattle.host_model.specs.Progress.{NativeCall, NoCall, Asked, Accepted, one_instruction, one_thunk}
 use Rattle.host_model.specs.RunState.{RunState}
-use Rattle.host_model.specs.Values.{Addresses, CellPlace, FieldOf, FieldOfLocals, Neutral, Shows}
+use Rattle.host_model.specs.Values.{Addresses, Neutral, Shows}
 use Rattle.host_model.specs.World.{World}
 use Rattle.neutral_machine.specs.NeutralImage.{instruction_at, or_none, site_at}
 use Rattle.neutral_machine.specs.NeutralRun.{instruction_from, instruction_left, neutral_instruction}
@@ -57,55 +54,25 @@ use Rattle.host_model.specs.Runs.{after_instruction, instruction_step, run_step,
 use Rattle.step_sound.specs.StepLaw.{IsRunAt, StepGoesWell, RunStepKeepsStanding}
 use Rattle.step_sound.proofs.Thunks.{thunks_are_loaded}
 
--- ---- what counts say
-
--- how far a run is in its script, but for the calls accepted, says nothing of the machine
-counts_told : (w : ℕ) (world : World) (P : Placement) (mapped : ℕ → ℕ) (but : Option ℕ) (a : Config) (s : Concrete) (n i t : ℕ)
-    → MachineStands w world P mapped but a s
-    → MachineStands w world P mapped but (record a { script = record a.script { notifications = n; instructions = i; thunks = t } }) s
-counts_told w world P mapped but a s n i t st = record {
-  eight = st.eight;
-  words = st.words;
-  small = st.small;
-  registers = st.registers;
-  locals = st.locals;
-  top = st.top;
-  frames = st.frames;
-  cells = cells;
-  thunks = st.thunks;
-  code = st.code;
-  objects = st.objects;
-  flags = st.flags;
-  gate = st.gate;
-  spot = st.spot;
-}
-  where
-    cells : (p : CellPlace) (z : Field) (v : Neutral) → cell_field world.notes (memory_of world a) p ≡ Some z → a.cells p ≡ Some v
-        → CellShows w (addresses w world.notes P a.frames) s.byte
-        (cell_address w world P (record a { script = record a.script { notifications = n; instructions = i; thunks = t } }) p z)
-        (cell_size w z.cell) v
-    cells (FieldOf k j f) z v g c = st.cells (FieldOf k j f) z v g c
-    cells (FieldOfLocals d f) z v g c = st.cells (FieldOfLocals d f) z v g c
-
 -- ---- whose turn it is
 
-same_turn : (w : ℕ) (A : Addresses) (g : Bool) (c : NativeCall Neutral) (d : NativeCall ℕ) → CallShows w A c d
-    → host_turn g c ≡ host_turn g d
-same_turn w A true c d s = refl
-same_turn w A false NoCall NoCall s = refl
-same_turn w A false NoCall (Asked q x) s = absurd s
-same_turn w A false NoCall (Accepted f m xs) s = absurd s
-same_turn w A false (Asked p v) NoCall s = absurd s
-same_turn w A false (Asked p v) (Asked q x) s = refl
-same_turn w A false (Asked p v) (Accepted f m xs) s = absurd s
-same_turn w A false (Accepted e n vs) NoCall s = absurd s
-same_turn w A false (Accepted e n vs) (Asked q x) s = absurd s
-same_turn w A false (Accepted e n vs) (Accepted f m xs) s = refl
+same_turn : (w : ℕ) (A : Addresses) (g : Bool) (c : NativeCall Neutral) (d : NativeCall ℕ) (due : Bool) → CallShows w A c d
+    → host_turn g c due ≡ host_turn g d due
+same_turn w A true c d due s = refl
+same_turn w A false NoCall NoCall due s = refl
+same_turn w A false NoCall (Asked q x) due s = absurd s
+same_turn w A false NoCall (Accepted f m xs) due s = absurd s
+same_turn w A false (Asked p v) NoCall due s = absurd s
+same_turn w A false (Asked p v) (Asked q x) due s = refl
+same_turn w A false (Asked p v) (Accepted f m xs) due s = absurd s
+same_turn w A false (Accepted e n vs) NoCall due s = absurd s
+same_turn w A false (Accepted e n vs) (Asked q x) due s = absurd s
+same_turn w A false (Accepted e n vs) (Accepted f m xs) due s = refl
 
-no_call : (c : NativeCall Neutral) → host_turn false c ≡ false → c ≡ NoCall
-no_call NoCall t = refl
-no_call (Asked p v) t = absurd (true≢false t)
-no_call (Accepted e n vs) t = absurd (true≢false t)
+no_call : (c : NativeCall Neutral) (due : Bool) → host_turn false c due ≡ false → c ≡ NoCall
+no_call NoCall due t = refl
+no_call (Asked p v) due t = absurd (true≢false t)
+no_call (Accepted e n vs) due t = absurd (true≢false t)
 
 gate_at : (world : World) (P : Placement) (ip : ℕ) → is_gate (spot_at world P ip) ≡ nat_eq ip P.native
 gate_at world P ip = go (nat_eq ip P.native) (covers ip 1 (image_range world P))
@@ -193,7 +160,7 @@ module _ (w : ℕ) (image : Image) (world : World) (P : Placement) (q : IsRunAt 
 
   counted_stands : (a : Config) (r : RunState) → Stands w world P B a r → Stands w world P B (counted a) (counted_run r)
   counted_stands a r st = record {
-    machine = counts_told w world P B None a r.machine a.script.notifications (a.script.instructions + 1) a.script.thunks st.machine;
+    machine = machine_counted w world P B None a r.machine a.script.notifications (a.script.instructions + 1) a.script.thunks st.machine;
     hosts = st.hosts;
     script = ap one_instruction st.script;
     trace = st.trace;
@@ -249,7 +216,7 @@ module _ (w : ℕ) (image : Image) (world : World) (P : Placement) (q : IsRunAt 
           made_is (option_and_then (thunk_function world.notes) (next_thunk b (b.registers 7))) made in
           let done : Stands w world P B (record b { made = b.made + 1; script = one_thunk b.script })
           (width.thunk_made w world P r s (P.image + t.place) (Names t.function)) = record {
-            machine = counts_told w world P B None (record b { made = b.made + 1 }) _ b.script.notifications b.script.instructions
+            machine = machine_counted w world P B None (record b { made = b.made + 1 }) _ b.script.notifications b.script.instructions
                 (b.script.thunks + 1) served;
             hosts = st.hosts;
             script = ap one_thunk st.script;
@@ -307,7 +274,7 @@ module _ (w : ℕ) (image : Image) (world : World) (P : Placement) (q : IsRunAt 
   -- ---- the instruction at the spot
 
   instruction_stands : (a b : Config) (r : RunState) → StepGoesWell w image world a b
-      → host_turn (is_gate a.spot) (call_under_way a.frames) ≡ false → Stands w world P B a r
+      → host_turn (is_gate a.spot) (call_under_way a.frames) (is_due world.script a.script) ≡ false → Stands w world P B a r
       → neutral_instruction world image (counted a) ≡ Some b → Stands w world P B b (instruction_step w world P r)
   unfolding neutral_instruction instruction_step
   instruction_stands a b r well turn st e = by_spot a.spot refl e
@@ -318,7 +285,8 @@ module _ (w : ℕ) (image : Image) (world : World) (P : Placement) (q : IsRunAt 
       by_spot (spot.Wild x) at e = absurd (none-some b e)
       by_spot (spot.Place p) at e =
           let x = well.there p at (no_call (call_under_way a.frames)
-          (subst (λ y. host_turn (is_gate y) (call_under_way a.frames) ≡ false) at turn)) in
+          (is_due world.script a.script)
+          (subst (λ y. host_turn (is_gate y) (call_under_way a.frames) (is_due world.script a.script) ≡ false) at turn)) in
           let found : instruction_at image p ≡ Some (x.insn, length (spelling x.insn)) = ap (instruction_at image) (sym x.at)
           ∙ found_there image world q.run x.here x.insn x.stands in
           let site : site_at image p (length (spelling x.insn)) ≡ x.here = ap (λ y. site_at image y (length (spelling x.insn))) (sym x.at)
@@ -338,25 +306,28 @@ module _ (w : ℕ) (image : Image) (world : World) (P : Placement) (q : IsRunAt 
   -- ---- whose turn
 
   turn_is : (a : Config) (r : RunState) → Stands w world P B a r
-      → host_turn (is_gate a.spot) (call_under_way a.frames) ≡ host_turn (nat_eq r.machine.ip r.machine.gate) (width.call_under_way r.hosts)
+      → host_turn (is_gate a.spot) (call_under_way a.frames) (is_due world.script a.script)
+      ≡ host_turn (nat_eq r.machine.ip r.machine.gate) (width.call_under_way r.hosts) (is_due world.script r.script)
   turn_is a r st =
       let gate : is_gate a.spot ≡ nat_eq r.machine.ip r.machine.gate = ap is_gate (sym st.machine.spot) ∙ gate_at world P r.machine.ip
       ∙ ap (nat_eq r.machine.ip) (sym st.machine.gate) in
-      ap (λ g. host_turn g (call_under_way a.frames)) gate
+      ap₂ (λ g p. host_turn g (call_under_way a.frames) (is_due world.script p)) gate (sym st.script)
       ∙ same_turn w (addresses w world.notes P a.frames) (nat_eq r.machine.ip r.machine.gate) (call_under_way a.frames)
-      (width.call_under_way r.hosts)
+      (width.call_under_way r.hosts) (is_due world.script r.script)
       (marks_show w world P B q.width fits q.placement (addresses w world.notes P a.frames) a.frames r.hosts st.hosts)
 
   running_stands : (a b : Config) (r : RunState) → StepGoesWell w image world a b → Stands w world P B a r
       → neutral_running world (neutral_instruction world image) a ≡ Some b → Stands w world P B b (running_step w world P r)
   unfolding running_step
-  running_stands a b r well st e = by_turn (host_turn (is_gate a.spot) (call_under_way a.frames)) refl (turn_is a r st) e
+  running_stands a b r well st e =
+      by_turn (host_turn (is_gate a.spot) (call_under_way a.frames) (is_due world.script a.script)) refl (turn_is a r st) e
     where
-      by_turn : (t : Bool) → host_turn (is_gate a.spot) (call_under_way a.frames) ≡ t
-          → t ≡ host_turn (nat_eq r.machine.ip r.machine.gate) (width.call_under_way r.hosts)
+      by_turn : (t : Bool) → host_turn (is_gate a.spot) (call_under_way a.frames) (is_due world.script a.script) ≡ t
+          → t ≡ host_turn (nat_eq r.machine.ip r.machine.gate) (width.call_under_way r.hosts) (is_due world.script r.script)
           → (if t then neutral_host_step world a else neutral_instruction world image (counted a)) ≡ Some b
-          → Stands w world P B b (if host_turn (nat_eq r.machine.ip r.machine.gate) (width.call_under_way r.hosts) then
-          width.host_step w world P r else instruction_step w world P r)
+          → Stands w world P B b
+          (if host_turn (nat_eq r.machine.ip r.machine.gate) (width.call_under_way r.hosts) (is_due world.script r.script)
+          then width.host_step w world P r else instruction_step w world P r)
       by_turn true mine t e =
           subst (λ x. Stands w world P B b (if x then width.host_step w world P r else instruction_step w world P r)) t
           (host_law w world P B q.width fits q.placement a b r well.before well.after q.script st e)

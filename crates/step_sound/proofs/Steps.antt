@@ -1,13 +1,12 @@
 -- A step of a typed program's run: the neutral machine isn't stuck, and the invariant holds after it.
 use Rattle.std.specs.Prelude.{Ok, Err}
-use Rattle.std.proofs.Common.{◌≡◌, ◌⊎◌, ℕ, ◌%◌, ◌<◌, ◌≤◌, Bool, true, false, if◌then◌else◌, List, ◌∷◌, length, Option, Some, None}
+use Rattle.std.proofs.Common.{◌≡◌, ◌⊎◌, ℕ, ◌%◌, ◌<◌, ◌≤◌, Bool, true, false, if◌then◌else◌, List, [], ◌∷◌, length, Option, Some, None}
 use Rattle.std.proofs.Common.{option_and_then, refl, sym, ap, ap₂, ◌∙◌, subst, arith, inl, inr}
 use Rattle.std.proofs.lemmas.Bool.{eq-eqb, true≢false}
 use Rattle.ebc_insn.specs.Spelling.{spelling}
 use Rattle.ebc_insn.specs.declared.Insn.{Insn}
 use Rattle.ebc_width.specs.Width.{IsWidth}
 use Rattle.note_types.specs.declared.ending.Ending.TheVariants as ending
-use Rattle.note_types.specs.declared.spot.Spot.{Spot}
 use Rattle.note_types.specs.declared.spot.Spot.TheVariants as spot
 use Rattle.note_types.specs.declared.state.State.{State}
 use Rattle.pe_image.specs.declared.image.Image.{Image}
@@ -16,8 +15,8 @@ use Rattle.rules_data.specs.Data.{after_data}
 use Rattle.rules_flow.specs.Flow.{after_flow}
 use Rattle.rules_flow.specs.Successors.{falls}
 use Rattle.rules_flow.specs.declared.successors.Successors.{Successors}
-use Rattle.neutral_machine.specs.Config.{FunctionFrame, Frame, Function, Config, call_under_way, with_call}
-use Rattle.host_model.specs.HostPlans.{host_turn}
+use Rattle.neutral_machine.specs.Config.{FunctionFrame, Frame, Function, Host, Config, call_under_way, with_call}
+use Rattle.host_model.specs.HostPlans.{host_turn, is_due}
 use Rattle.neutral_machine.specs.NeutralHost.{neutral_host_step, thunk_made}
 use Rattle.neutral_machine.specs.NeutralRuns.{is_gate, running_step}
 use Rattle.neutral_machine.specs.Outcomes.{Outcome, Gives, Raises, Stuck}
@@ -30,13 +29,13 @@ use Rattle.instruction_laws.proofs.Worlds.{world_meets}
 use Rattle.neutral_machine.specs.NeutralImage.{instruction_at, site_at}
 use Rattle.neutral_machine.specs.NeutralRun.{instruction_left, instruction_from, neutral_instruction}
 use Rattle.step_sound.specs.ReadWorld.{IsReadWorld}
-use Rattle.step_sound.specs.StepLaw.{StepGoesWell}
+use Rattle.step_sound.specs.StepLaw.{InsnStands, StepGoesWell}
 use Rattle.width_checker.specs.Rows.{row_of, is_flow}
 use Rattle.typed_runs.specs.Live.{live_memory}
 use Rattle.typing_laws.specs.OneRule.{Accepted as RuleAccepts, here_of, StandsTyped}
 use Rattle.typed_runs.specs.Sound.{TopFits, Sound}
 use Rattle.typed_runs.specs.Waiting.{States, Chain}
-use Rattle.typed_runs.specs.Holds.{RunsAt, Holds}
+use Rattle.typed_runs.specs.Holds.{RunsAt, TopHolds, SpotHolds, Holds}
 use Rattle.typed_runs.specs.Laws.{StatesFitBelow}
 use Rattle.typing_laws.proofs.FlowTable.{one_rule}
 use Rattle.typing_laws.proofs.Rooms.{sound_room, room_fits}
@@ -130,20 +129,46 @@ module _ (image : Image) (world : World) (states : States) (r : IsReadWorld imag
     pub holds : Holds world states after
     pub well : (w : ℕ) → IsWidth w → StepGoesWell w image world a after
 
+  -- where no native call is under way an instruction stands at the spot, and the stack has room for it
+  insn_stands : (a : Config) → Holds world states a → a.ending ≡ ending.Running → (p : ℕ) → a.spot ≡ spot.Place p
+      → call_under_way a.frames ≡ NoCall → (w : ℕ) → IsWidth w → InsnStands w image world a p
+  insn_stands a h on p sp under w hw =
+      go a.frames refl (subst (λ n. TopHolds world states a n p a.frames) under (subst (SpotHolds world states a) sp (h.well on).top))
+    where
+      go : (gs : List Frame) → a.frames ≡ gs → TopHolds world states a NoCall p gs → InsnStands w image world a p
+      go [] fr x = absurd x
+      go (Host k ∷ gs) fr x = absurd x
+      go (Function f ∷ fs) fr x =
+          let q = hold.insns f.func p x.state x.here in
+          let sound : Sound world a x.state = record { top = subst (λ gs. TopFits world a gs x.state) (sym fr) x.fits; below = h.sound } in
+          let site = here p f fs x.state q in
+          record {
+            here = site;
+            insn = q.insn;
+            stands = insn_of p f fs x.state q;
+            at = refl;
+            room = room_fits w world a f fs q.f site x.state q.insn q.successors hw (world_typed image world r hold.places)
+                (stands p f fs x.state q a fr sp sound);
+          }
+
+  -- a step goes well from where it holds to where it holds
+  goes_well : (a b : Config) → Holds world states a → a.ending ≡ ending.Running → Holds world states b → (w : ℕ) → IsWidth w
+      → StepGoesWell w image world a b
+  goes_well a b h on k w hw = record {
+    there = λ p sp under. insn_stands a h on p sp under w hw;
+    before = sound_room w world a hw h.sound;
+    after = sound_room w world b hw k.sound;
+  }
+
   -- the host's step
-  host_holds : (a : Config) → Holds world states a → host_turn (is_gate a.spot) (call_under_way a.frames) ≡ true → HostGoesOn world states a
-      → StepHolds a
-  host_holds a h turn g = record {
+  host_holds : (a : Config) → Holds world states a → a.ending ≡ ending.Running
+      → host_turn (is_gate a.spot) (call_under_way a.frames) (is_due world.script a.script) ≡ true → HostGoesOn world states a → StepHolds a
+  host_holds a h on turn g = record {
     after = g.after;
     is = ap (λ t. if t then neutral_host_step world a else neutral_instruction world image
         (record a { script = one_instruction a.script })) turn ∙ g.is;
     holds = g.holds;
-    well = λ w hw. record {
-      there = λ p e n. absurd (true≢false
-          (sym turn ∙ ap₂ (λ s (k : NativeCall Neutral). host_turn (is_gate s) k) e n));
-      before = sound_room w world a hw h.sound;
-      after = sound_room w world g.after hw g.holds.sound;
-    };
+    well = goes_well a g.after h on g.holds;
   }
 
   -- what an instruction leaves
@@ -157,25 +182,24 @@ module _ (image : Image) (world : World) (states : States) (r : IsReadWorld imag
 
   -- the instruction's step
   insn_holds : (a : Config) (p : ℕ) (f : FunctionFrame) (fs : List Frame) → Holds world states a → a.ending ≡ ending.Running
-      → a.spot ≡ spot.Place p → a.frames ≡ Function f ∷ fs → call_under_way fs ≡ NoCall
+      → a.spot ≡ spot.Place p → a.frames ≡ Function f ∷ fs → call_under_way fs ≡ NoCall → is_due world.script a.script ≡ false
       → RunsAt world states a p f fs → StepHolds a
-  insn_holds a p f fs h on sp fr under x =
+  insn_holds a p f fs h on sp fr under due x =
       let q = hold.insns f.func p x.state x.here in
       let c = record a { script = one_instruction a.script } in
-      let sound_a : Sound world a x.state = record { top = subst (λ gs. TopFits world a gs x.state) (sym fr) x.fits; below = h.sound } in
       let sound_c : Sound world c x.state = record {
         top = subst (λ gs. TopFits world c gs x.state) (sym fr) x.fits;
         below = record { cells = h.sound.cells; frames = h.sound.frames; few = h.sound.few };
       } in
       let wt = world_typed image world r hold.places in
       let st = stands p f fs x.state q c fr sp sound_c in
-      let sa = stands p f fs x.state q a fr sp sound_a in
       let site = here p f fs x.state q in
       let before : Before world states c f fs = record {
         frames = fr;
         under = under;
         running = on;
         served = h.served;
+        thunks = h.thunks;
         sound = record { cells = h.sound.cells; frames = h.sound.frames; few = h.sound.few };
         waiting = subst (Chain world states (live_memory world a) a.made) fr (h.well on).waiting;
       } in
@@ -185,53 +209,37 @@ module _ (image : Image) (world : World) (states : States) (r : IsReadWorld imag
       let left = left_is c p (executed world c site q.insn) after in
       let is = instruction_is c site q.insn (insn_of p f fs x.state q) sp in
       let call : call_under_way a.frames ≡ NoCall = ap call_under_way fr ∙ under in
-      let turn : host_turn (is_gate a.spot) (call_under_way a.frames) ≡ false =
-      ap₂ (λ s (n : NativeCall Neutral). host_turn (is_gate s) n) sp call in
+      let turn : host_turn (is_gate a.spot) (call_under_way a.frames) (is_due world.script a.script) ≡ false =
+      ap₂ (λ s (n : NativeCall Neutral). host_turn (is_gate s) n (is_due world.script a.script)) sp call ∙ due in
       record {
         after = left.0;
         is = ap (λ t. if t then neutral_host_step world a else neutral_instruction world image
             (record a { script = one_instruction a.script })) turn ∙ is ∙ left.1;
         holds = left.2;
-        well = λ w hw. record {
-          there = λ y e n. record {
-            here = site;
-            insn = q.insn;
-            stands = insn_of p f fs x.state q;
-            at = place_of (sym sp ∙ e);
-            room = room_fits w world a f fs q.f site x.state q.insn q.successors hw wt sa;
-          };
-          before = sound_room w world a hw h.sound;
-          after = sound_room w world left.0 hw left.2.sound;
-        };
+        well = goes_well a left.0 h on left.2;
       }
-    where
-      spot_place : Spot → ℕ
-      spot_place (spot.Place q) = q
-      spot_place s = 0
-
-      place_of : {y z : ℕ} → spot.Place y ≡ spot.Place z → y ≡ z
-      place_of e = ap spot_place e
 
   -- ---- whose turn it is
 
   -- the host's
   pub host_keeps : (a : Config) → Holds world states a → a.ending ≡ ending.Running
-      → host_turn (is_gate a.spot) (call_under_way a.frames) ≡ true → StepHolds a
+      → host_turn (is_gate a.spot) (call_under_way a.frames) (is_due world.script a.script) ≡ true → StepHolds a
   host_keeps a h on t = go (turn_holds world states (run_world image world r states hold) state_below a h on)
     where
       go : Turn world states a → StepHolds a
-      go (of_host turn g) = host_holds a h turn g
-      go (of_code p f fs es ef en x) =
-          absurd (true≢false (sym t ∙ ap₂ (λ s (n : NativeCall Neutral). host_turn (is_gate s) n) es (ap call_under_way ef ∙ en)))
+      go (of_host turn g) = host_holds a h on turn g
+      go (of_code p f fs es ef en ed x) =
+          absurd (true≢false (sym t ∙ ap₂ (λ s (n : NativeCall Neutral). host_turn (is_gate s) n (is_due world.script a.script)) es
+          (ap call_under_way ef ∙ en) ∙ ed))
 
   -- an instruction's
   pub code_keeps : (a : Config) → Holds world states a → a.ending ≡ ending.Running
-      → host_turn (is_gate a.spot) (call_under_way a.frames) ≡ false → StepHolds a
+      → host_turn (is_gate a.spot) (call_under_way a.frames) (is_due world.script a.script) ≡ false → StepHolds a
   code_keeps a h on t = go (turn_holds world states (run_world image world r states hold) state_below a h on)
     where
       go : Turn world states a → StepHolds a
       go (of_host turn g) = absurd (true≢false (sym turn ∙ t))
-      go (of_code p f fs es ef en x) = insn_holds a p f fs h on es ef en x
+      go (of_code p f fs es ef en ed x) = insn_holds a p f fs h on es ef en ed x
 
   -- the instruction at the spot, where it is one's turn
   pub code_there : (a : Config) (p : ℕ) (f : FunctionFrame) (fs : List Frame) → RunsAt world states a p f fs → (i : Insn) × (n : ℕ)

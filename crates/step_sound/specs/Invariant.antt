@@ -1,6 +1,6 @@
 -- For proofs: what holds of each state of a typed program's run at a width, and of the neutral machine's configuration
 -- beside it, in five parts. docs/SIMULATION.md, "The invariant".
-use Rattle.std.specs.Prelude.{◌≡◌, ◌≢◌, ℕ}
+use Rattle.std.specs.Prelude.{◌≡◌, ◌≢◌, ℕ, ◌≤◌, length}
 use Rattle.ebc_width.specs.Width.{IsWidth}
 use Rattle.neutral_machine.specs.Stands.{Stands}
 use Rattle.note_types.specs.declared.ending.Ending.TheVariants.{Running}
@@ -19,10 +19,11 @@ use Rattle.typed_runs.specs.Waiting.{States, Chain}
 use Rattle.step_sound.specs.PlaceStates.{StatesHold}
 use Rattle.step_sound.specs.ReadWorld.{IsReadWorld}
 
--- the state of the run stands for the configuration, and the script has served as many thunks as are made
+-- the state of the run stands for the configuration, and the script has served as many thunks as are made, no more than there are
 pub record StandsServed (w : ℕ) (image : Image) (world : World) (P : Placement) (a : Config) (r : RunState) : Type 0 where
   pub stands : Stands w world P (mapped image P.image) a r
   pub served : a.script.thunks ≡ a.made
+  pub thunks : a.made ≤ length world.notes.thunk
 
 -- the run stands at a place, where the function on top fits the state there; or it asks for a native call, or waits within one, and
 -- what that gives is left aside until the reply

@@ -15,7 +15,8 @@ use Rattle.neutral_machine.specs.NeutralImage.{static_cells}
 use Rattle.neutral_machine.specs.NeutralRun.{neutral_instruction}
 use Rattle.host_model.specs.Runs.{run_of, run_step}
 use Rattle.step_sound.specs.Invariant.{Invariant, RunHolds}
-use Rattle.step_sound.specs.StepKinds.{IsPlain, IsNativeCall, IsThunk, IsCall, IsEnter, IsReply, IsLeaving, IsLast, NextStep}
+use Rattle.step_sound.specs.StepKinds.{IsPlain, IsNativeCall, IsThunk, IsCall, IsEnter, IsReply, IsNotify, IsLeaving, IsResuming, IsLast}
+use Rattle.step_sound.specs.StepKinds.{NextStep}
 
 -- a step that keeps the invariant
 pub record StepKeeps (w : ℕ) (image : Image) (world : World) (P : Placement) (states : States) (a : Config) (r : RunState) : Type 0 where
@@ -55,8 +56,14 @@ EntersKeep = KeepsInvariant IsEnter
 abbrev pub RepliesKeep : Type 0
 RepliesKeep = KeepsInvariant IsReply
 
+abbrev pub NotifiesKeep : Type 0
+NotifiesKeep = KeepsInvariant IsNotify
+
 abbrev pub LeavingKeeps : Type 0
 LeavingKeeps = KeepsInvariant IsLeaving
+
+abbrev pub ResumingKeeps : Type 0
+ResumingKeeps = KeepsInvariant IsResuming
 
 abbrev pub LastKeeps : Type 0
 LastKeeps = KeepsInvariant IsLast

@@ -8,7 +8,7 @@ mod flow;
 ghost use Rattle.step_sound.specs.HostStack.{HostFramesFit};
 ghost use Rattle.step_sound.specs.Loaded.{ReadIsDecoded, StaticsAreShown, ThunksAreLoaded};
 ghost use Rattle.step_sound.specs.StepLaw.{RunStepKeepsStanding};
-ghost use Rattle.step_sound.specs.StepLaws.{CallsKeep, EntersKeep, LastKeeps, LeavingKeeps, NativeCallsKeep, NextStepIsThere, PlainStepsKeep, RepliesKeep, StartMeets, ThunksKeep};
+ghost use Rattle.step_sound.specs.StepLaws.{CallsKeep, EntersKeep, LastKeeps, LeavingKeeps, NativeCallsKeep, NextStepIsThere, NotifiesKeep, PlainStepsKeep, RepliesKeep, ResumingKeeps, StartMeets, ThunksKeep};
 
 pub use crate::data::sound_data;
 pub use crate::flow::sound_flow;
@@ -55,9 +55,19 @@ pub fn replies_keep()
     ensures { RepliesKeep }
 {}
 
+/// So does its notify step, which enters a notification or ends the run.
+pub fn notifies_keep()
+    ensures { NotifiesKeep }
+{}
+
 /// So does leaving a callback.
 pub fn leaving_keeps()
     ensures { LeavingKeeps }
+{}
+
+/// So does leaving a notification, after which the run goes on where it was interrupted.
+pub fn resuming_keeps()
+    ensures { ResumingKeeps }
 {}
 
 /// So does leaving the first frame, which ends the run.

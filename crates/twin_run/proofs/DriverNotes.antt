@@ -1,6 +1,6 @@
 -- The driver of docs/NOTES.md with its names and its point: its notes meet the conditions on notes.
 use Rattle.std.proofs.Common.{◌≡◌, ℕ, zero, suc, ◌-◌, ◌*◌, ◌^◌, ◌<◌, ◌≤◌, Bool, true, false, List, [], ◌∷◌, length, get_or, slice_get, Some}
-use Rattle.std.proofs.Common.{None, refl, sym, pos, codes, nat_le, nat_lt, arith}
+use Rattle.std.proofs.Common.{None, refl, sym, pos, codes, nat_le, nat_lt, arith, inl}
 use Rattle.std.specs.Prelude.{IfSome}
 use Rattle.std.specs.Int.{bit_at}
 use Rattle.std.specs.List.{AllByRecursion, sum_by}
@@ -24,12 +24,14 @@ use Rattle.note_types.specs.declared.notes.FnNote.{FnNote}
 use Rattle.note_types.specs.declared.notes.Notes.{Notes}
 use Rattle.note_types.specs.declared.notes.Param.{Param}
 use Rattle.note_types.specs.declared.notes.Signature.{Signature}
+use Rattle.note_types.specs.declared.script.Notify.{Notify}
 use Rattle.note_types.specs.declared.shape.Field.{Field}
 use Rattle.note_types.specs.declared.shape.Shape.{Shape}
 use Rattle.note_types.specs.declared.types.Ty.TheVariants as ty
+use Rattle.note_types.specs.declared.value.Value.TheVariants as value
 use Rattle.note_types.proofs.TypeLaws.{no_fields}
 use Rattle.host_model.specs.World.{World}
-use Rattle.neutral_machine.proofs.Driver.{driver, driver_notes}
+use Rattle.neutral_machine.proofs.Driver.{driver_notes, driver_notified, locate_call, register_call}
 use Rattle.step_sound.proofs.Items.{each_item}
 
 -- ---- the notes with names
@@ -62,8 +64,13 @@ after_locate = record {
   fact = None;
 }
 
+-- the second function is entered with 7 once two instructions are done
+abbrev pub ticking : Notify
+ticking = record { at = 2; function = 1; args = value.Int 7 ∷ [] }
+
+-- the driver with its script, which has a notification
 abbrev pub driver_named : World
-driver_named = record driver {
+driver_named = record (driver_notified 2 (locate_call ∷ register_call ∷ []) (ticking ∷ [])) {
   notes = record driver_notes {
     shape = named_shapes ((codes "Sys", codes "loc" ∷ codes "reg" ∷ []) ∷ (codes "Blk", codes "count" ∷ codes "next" ∷ []) ∷
         (codes "L", codes "p" ∷ []) ∷ []) driver_notes.shape;
@@ -326,7 +333,7 @@ two_ascend a b l (suc k) m = absurd (omega (arith, m))
 
 pub driver_notes_meet : IsNotes notes
 driver_notes_meet = record {
-  version = refl;
+  version = inl refl;
   few = record {
     shapes = at_most 3 1024 refl;
     statics = below 0 (2 ^ 32) refl;

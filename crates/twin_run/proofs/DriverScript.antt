@@ -1,4 +1,4 @@
--- The driver's script: it is as the reader of scripts gives one.
+-- The driver's script, with a notification: it is as the reader of scripts gives one.
 use Rattle.std.proofs.Common.{◌≡◌, ℕ, zero, suc, ◌+◌, ◌^◌, ◌<◌, ◌≤◌, true, List, [], ◌∷◌, length, take, Some, refl, sym, ap, ◌∙◌, subst}
 use Rattle.std.proofs.Common.{arith, inl, inr, codes, nat_lt, slice_get}
 use Rattle.std.specs.List.{sum_by}
@@ -14,11 +14,11 @@ use Rattle.note_types.specs.declared.shape.Field.{Field}
 use Rattle.note_types.specs.declared.value.Value.TheVariants as value
 use Rattle.host_model.specs.Objects.{made_objects, placed_objects, shape_of}
 use Rattle.host_model.specs.ScriptValues.{fits, fits_each}
-use Rattle.host_model.specs.Scripts.{IsArgument, IsCallOf, IsCallbackOf, IsCellOf, IsObjectOf, IsOutOf, IsScript, IsWritten, all_made}
-use Rattle.host_model.specs.Scripts.{callbacks_of, have_room, is_given, is_needed}
+use Rattle.host_model.specs.Scripts.{HasNotifications, IsArgument, IsCallOf, IsCallbackOf, IsCellOf, IsNotifyOf, IsObjectOf, IsOutOf}
+use Rattle.host_model.specs.Scripts.{IsScript, IsWritten, all_made, callbacks_of, have_room, is_given, is_needed}
 use Rattle.neutral_machine.proofs.Driver.{locate_call, register_call}
 use Rattle.twin_run.proofs.DriverImage.{driver_shapes}
-use Rattle.twin_run.proofs.DriverNotes.{driver_named}
+use Rattle.twin_run.proofs.DriverNotes.{driver_named, ticking}
 use Rattle.step_sound.proofs.Items.{each_item}
 
 abbrev notes : Notes
@@ -149,6 +149,23 @@ calls zero c g = subst (IsCallOf notes script 0) (same_Some locate_call c g) loc
 calls (suc zero) c g = subst (IsCallOf notes script 1) (same_Some register_call c g) registered
 calls (suc (suc i)) c g = absurd (none-some c g)
 
+-- ---- notifications
+
+notifications : HasNotifications notes script
+notifications = record {
+  each = each_item (IsNotifyOf notes) (ticking ∷ []) (
+    record {
+      at = leb-true 2 10000000 refl;
+      function = ltb-true 1 2 refl;
+      args = each_item (IsWritten notes) ticking.args (ltb-true 7 (2 ^ 64) refl, tt);
+    },
+    tt,
+  );
+  none = λ e. absurd (omega (arith, e));
+  few = leb-true 1 16384 refl;
+  ascend = λ k l. absurd (omega (arith, l));
+}
+
 -- ---- the whole
 
 room : (k : ℕ) (o : ScriptObject) → slice_get script.object k ≡ Some o → have_room notes (take (k + 1) script.object) ≡ true
@@ -159,10 +176,11 @@ room (suc (suc k)) o g = absurd (none-some o g)
 pub driver_script_meets : IsScript notes script
 unfolding made_objects placed_objects fits fits_each
 driver_script_meets = record {
-  version = refl;
+  version = inr refl;
   written = each_item (IsWritten notes) script.args (ltb-true 0 1024 refl, ((ltb-true 0 (2 ^ 64) refl, ltb-true 0 (2 ^ 64) refl), tt));
   args = refl;
   objects = objects;
   calls = calls;
   room = room;
+  notify = notifications;
 }

@@ -10,7 +10,7 @@ use Rattle.neutral_machine.specs.NeutralRun.{config_after}
 use Rattle.host_model.specs.Runs.{run_of}
 use Rattle.whole_runs.proofs.Computing.{runs_compute}
 use Rattle.whole_runs.proofs.Programs.{driver_image}
-use Rattle.step_sound.specs.StepKinds.{IsPlain, IsNativeCall, IsThunk, IsCall, IsEnter, IsReply, IsLeaving, IsLast}
+use Rattle.step_sound.specs.StepKinds.{IsPlain, IsNativeCall, IsThunk, IsNotify, IsCall, IsEnter, IsReply, IsLeaving, IsResuming, IsLast}
 use Rattle.twin_run.specs.Met.{ComesTo, TypedPremisesAreMet}
 use Rattle.twin_run.proofs.DriverNotes.{driver_named}
 use Rattle.twin_run.proofs.DriverTyped.{driver_world}
@@ -34,7 +34,7 @@ plain = record {
   running = refl;
   kind = record {
     insn = _;
-    at = record { place = 0x1000; size = 6; spot = refl; under = refl; insn = refl };
+    at = record { place = 0x1000; size = 6; spot = refl; under = refl; not_due = refl; insn = refl };
     no_call = refl;
     no_thunk = refl;
   };
@@ -47,26 +47,40 @@ thunk = record {
   config = at_step 1;
   reached = refl;
   running = refl;
-  kind = record { insn = _; at = record { place = 0x1006; size = 2; spot = refl; under = refl; insn = refl }; thunk = refl };
+  kind = record {
+    insn = _;
+    at = record { place = 0x1006; size = 2; spot = refl; under = refl; not_due = refl; insn = refl };
+    thunk = refl;
+  };
 }
 
 native_call : ComesTo driver_image driver_named IsNativeCall
 unfolding runs_compute
 native_call = record {
-  steps = 6;
-  config = at_step 6;
+  steps = 10;
+  config = at_step 10;
   reached = refl;
   running = refl;
-  kind = record { insn = _; at = record { place = 0x1014; size = 2; spot = refl; under = refl; insn = refl }; call = refl };
+  kind = record { insn = _; at = record { place = 0x1014; size = 2; spot = refl; under = refl; not_due = refl; insn = refl }; call = refl };
 }
 
 -- ---- steps of the host
 
+notify : ComesTo driver_image driver_named IsNotify
+unfolding runs_compute
+notify = record {
+  steps = 2;
+  config = at_step 2;
+  reached = refl;
+  running = refl;
+  kind = record { place = 0x1008; spot = refl; under = refl; due = refl };
+}
+
 call : ComesTo driver_image driver_named IsCall
 unfolding runs_compute
 call = record {
-  steps = 7;
-  config = at_step 7;
+  steps = 11;
+  config = at_step 11;
   reached = refl;
   running = refl;
   kind = record { next = 0x1016; place = 0x1014; target = _; spot = refl; under = refl };
@@ -75,8 +89,8 @@ call = record {
 reply : ComesTo driver_image driver_named IsReply
 unfolding runs_compute
 reply = record {
-  steps = 8;
-  config = at_step 8;
+  steps = 12;
+  config = at_step 12;
   reached = refl;
   running = refl;
   kind = record {
@@ -97,8 +111,8 @@ reply = record {
 enter : ComesTo driver_image driver_named IsEnter
 unfolding runs_compute
 enter = record {
-  steps = 20;
-  config = at_step 20;
+  steps = 24;
+  config = at_step 24;
   reached = refl;
   running = refl;
   kind = record {
@@ -120,18 +134,28 @@ enter = record {
 leaving : ComesTo driver_image driver_named IsLeaving
 unfolding runs_compute
 leaving = record {
-  steps = 23;
-  config = at_step 23;
+  steps = 27;
+  config = at_step 27;
   reached = refl;
   running = refl;
-  kind = record { host = _; below = _; rest = _; spot = refl; frames = refl };
+  kind = record { host = _; below = _; rest = _; spot = refl; frames = refl; notified = refl };
+}
+
+resuming : ComesTo driver_image driver_named IsResuming
+unfolding runs_compute
+resuming = record {
+  steps = 5;
+  config = at_step 5;
+  reached = refl;
+  running = refl;
+  kind = record { host = _; below = _; rest = _; spot = refl; frames = refl; notified = refl };
 }
 
 last : ComesTo driver_image driver_named IsLast
 unfolding runs_compute
 last = record {
-  steps = 31;
-  config = at_step 31;
+  steps = 35;
+  config = at_step 35;
   reached = refl;
   running = refl;
   kind = record { host = _; spot = refl; frames = refl };
@@ -139,7 +163,7 @@ last = record {
 
 -- ---- the end
 
-finished : (run_of 4 driver_named (own_placement 4 driver_named) driver_image 32).ending ≡ Finished (value.StatusOk 0)
+finished : (run_of 4 driver_named (own_placement 4 driver_named) driver_image 36).ending ≡ Finished (value.StatusOk 0)
 unfolding runs_compute
 finished = refl
 
@@ -152,12 +176,14 @@ typed_premises_are_met = (
     plain = plain;
     native_call = native_call;
     thunk = thunk;
+    notify = notify;
     call = call;
     enter = enter;
     reply = reply;
     leaving = leaving;
+    resuming = resuming;
     last = last;
-    steps = 32;
+    steps = 36;
     result = value.StatusOk 0;
     finished = finished;
   },

@@ -20,10 +20,10 @@ use Rattle.host_model.specs.Placements.{Placement, IsPlacement, own_placement}
 use Rattle.host_model.specs.RunState.{RunState}
 use Rattle.host_model.specs.World.{World}
 use Rattle.step_sound.specs.Invariant.{Invariant, RunHolds}
-use Rattle.step_sound.specs.StepKinds.{NextStep, plain, native_call, thunk, call, enter, reply, leaving, last}
+use Rattle.step_sound.specs.StepKinds.{NextStep, plain, native_call, thunk, call, enter, reply, notify, leaving, resuming, last}
 use Rattle.step_sound.specs.StepLaws.{StepKeeps}
-use Rattle.step_sound.proofs.Keeping.{plain_keeps, native_call_keeps, thunk_keeps, call_keeps, enter_keeps, reply_keeps, leaving_keeps}
-use Rattle.step_sound.proofs.Keeping.{last_keeps, ended_keeps, next_step, start_meets}
+use Rattle.step_sound.proofs.Keeping.{plain_keeps, native_call_keeps, thunk_keeps, call_keeps, enter_keeps, reply_keeps, notify_keeps}
+use Rattle.step_sound.proofs.Keeping.{leaving_keeps, resuming_keeps, last_keeps, ended_keeps, next_step, start_meets}
 use Rattle.step_sound.proofs.Read.{read_is_run}
 use Rattle.typed_runs.specs.Endings.{RaisesOnlyDivideError}
 use Rattle.neutral_machine.specs.NeutralImage.{static_cells}
@@ -54,7 +54,9 @@ module _ (w : ℕ) (image : Image) (world : World) (P : Placement) (h : IsWidth 
   step_keeps a r v on (call k) = call_keeps w image world P (states_of image world.notes) run a r v on k
   step_keeps a r v on (enter k) = enter_keeps w image world P (states_of image world.notes) run a r v on k
   step_keeps a r v on (reply k) = reply_keeps w image world P (states_of image world.notes) run a r v on k
+  step_keeps a r v on (notify k) = notify_keeps w image world P (states_of image world.notes) run a r v on k
   step_keeps a r v on (leaving k) = leaving_keeps w image world P (states_of image world.notes) run a r v on k
+  step_keeps a r v on (resuming k) = resuming_keeps w image world P (states_of image world.notes) run a r v on k
   step_keeps a r v on (last k) = last_keeps w image world P (states_of image world.notes) run a r v on k
 
   -- whether it goes on or has ended

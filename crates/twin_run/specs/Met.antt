@@ -7,7 +7,7 @@ use Rattle.pe_image.specs.declared.image.Image.{Image}
 use Rattle.neutral_machine.specs.Config.{Config}
 use Rattle.host_model.specs.Placements.{own_placement}
 use Rattle.host_model.specs.World.{World}
-use Rattle.step_sound.specs.StepKinds.{IsPlain, IsNativeCall, IsThunk, IsCall, IsEnter, IsReply, IsLeaving, IsLast}
+use Rattle.step_sound.specs.StepKinds.{IsPlain, IsNativeCall, IsThunk, IsNotify, IsCall, IsEnter, IsReply, IsLeaving, IsResuming, IsLast}
 use Rattle.neutral_machine.specs.NeutralRun.{config_after}
 use Rattle.host_model.specs.Runs.{run_of}
 use Rattle.twin_run.specs.TypedRuns.{IsTypedWorld}
@@ -26,10 +26,12 @@ pub record GoesThroughAll (image : Image) (world : World) : Type 0 where
   pub plain : ComesTo image world IsPlain
   pub native_call : ComesTo image world IsNativeCall
   pub thunk : ComesTo image world IsThunk
+  pub notify : ComesTo image world IsNotify
   pub call : ComesTo image world IsCall
   pub enter : ComesTo image world IsEnter
   pub reply : ComesTo image world IsReply
   pub leaving : ComesTo image world IsLeaving
+  pub resuming : ComesTo image world IsResuming
   pub last : ComesTo image world IsLast
   pub steps : ℕ
   pub result : Value

@@ -10,6 +10,7 @@ use Rattle.ebc_base.specs.Steps.{◌>>=◌, or_else, passes}
 use Rattle.note_types.specs.declared.fault.TomlFault.{TomlFault}
 use Rattle.note_types.specs.declared.fault.TomlFault.TheVariants.{Kind, Range}
 use Rattle.note_types.specs.declared.notes.Pair.{Pair}
+use Rattle.note_types.specs.Limits.{IsVersion, point_limit}
 use Rattle.note_types.specs.Records.{Each, HasNameLength, IsPlace}
 use Rattle.note_texts.specs.declared.slot.ItemText.{ItemText}
 use Rattle.note_texts.specs.declared.slot.ItemText.TheVariants as items
@@ -44,6 +45,7 @@ use Rattle.ebc_base.specs.Tables.{is_named, with_name}
 use Rattle.note_draft.specs.Names.{distinct}
 use Rattle.note_draft.specs.Once.{method_names}
 use Rattle.note_draft.proofs.DistinctLaws.{distinct-push}
+use Rattle.note_draft.proofs.VersionLaws.{is_version}
 use Rattle.type_notes.specs.Conditions.{is_locals}
 use Rattle.type_notes.proofs.ListBounds.{each_read}
 use Rattle.type_notes.proofs.Outcomes.{ok_if, ok_passes}
@@ -494,17 +496,18 @@ data_lists-bounds table =
     (tables_at-bounds (λ o. IsPlace o.place) thunk_of (codes "thunk") greatest_32 table thunk_of-bounds)
     (λ thunk c. record { shape = a; statics = b; thunk = c })))
 
-record AreCode (x : CodeLists) : Type 0 where
+record AreCode (version : ℕ) (x : CodeLists) : Type 0 where
   pub function : IsList 4096 IsFunctionDraft x.function
-  pub point : IsList 16384 IsPointDraft x.point
+  pub point : IsList (point_limit version) IsPointDraft x.point
 
-code_lists-bounds : (table : Members) → IfOk (code_lists table) AreCode
+code_lists-bounds : (version : ℕ) (table : Members) → IfOk (code_lists version table) (AreCode version)
 unfolding code_lists
-code_lists-bounds table =
-    ok_then (IsList 4096 IsFunctionDraft) AreCode (tables_at function_of [] (codes "function") 4096 table) _
+code_lists-bounds version table =
+    ok_then (IsList 4096 IsFunctionDraft) (AreCode version) (tables_at function_of [] (codes "function") 4096 table) _
     (tables_at-bounds IsFunctionDraft function_of (codes "function") 4096 table function_of-bounds)
-    (λ function a. ok_then (IsList 16384 IsPointDraft) AreCode (tables_at point_of [] (codes "point") 16384 table) _
-    (tables_at-bounds IsPointDraft point_of (codes "point") 16384 table point_of-bounds)
+    (λ function a. ok_then (IsList (point_limit version) IsPointDraft) (AreCode version)
+    (tables_at point_of [] (codes "point") (point_limit version) table) _
+    (tables_at-bounds IsPointDraft point_of (codes "point") (point_limit version) table point_of-bounds)
     (λ point b. record { function = a; point = b }))
 
 record AreCalls (x : CallLists) : Type 0 where
@@ -519,39 +522,39 @@ call_lists-bounds table =
     (tables_at-bounds (λ o. IsPlace o.place) site_of (codes "site") greatest_32 table site_of-bounds)
     (λ site b. ok_next AreCalls (only_keys [] _ table) _ (λ _. record { signature = a; site = b })))
 
-record AreLists (x : DraftLists) : Type 0 where
+record AreLists (version : ℕ) (x : DraftLists) : Type 0 where
   pub things : AreData x.things
-  pub code : AreCode x.code
+  pub code : AreCode version x.code
   pub calls : AreCalls x.calls
 
-draft_lists-bounds : (table : Members) → IfOk (draft_lists table) AreLists
+draft_lists-bounds : (version : ℕ) (table : Members) → IfOk (draft_lists version table) (AreLists version)
 unfolding draft_lists
-draft_lists-bounds table =
-    ok_then AreData AreLists (data_lists table) _ (data_lists-bounds table)
-    (λ things a. ok_then AreCode AreLists (code_lists table) _ (code_lists-bounds table)
-    (λ code b. ok_then AreCalls AreLists (call_lists table) _ (call_lists-bounds table)
+draft_lists-bounds version table =
+    ok_then AreData (AreLists version) (data_lists table) _ (data_lists-bounds table)
+    (λ things a. ok_then (AreCode version) (AreLists version) (code_lists version table) _ (code_lists-bounds version table)
+    (λ code b. ok_then AreCalls (AreLists version) (call_lists table) _ (call_lists-bounds table)
     (λ calls c. record { things = a; code = b; calls = c })))
 
 -- what the first pass tells of a draft
 pub record IsDraft (d : NotesDraft) : Type 0 where
-  pub version : d.version ≡ 1
+  pub version : IsVersion d.version
   pub shape : IsList 1024 IsShapeDraft d.shape
   pub statics : IsList greatest_32 IsStaticDraft d.statics
   pub thunk : IsList greatest_32 (λ o. IsPlace o.place) d.thunk
   pub function : IsList 4096 IsFunctionDraft d.function
-  pub point : IsList 16384 IsPointDraft d.point
+  pub point : IsList (point_limit d.version) IsPointDraft d.point
   pub signature : IsSignatureList d.signature
   pub site : IsList greatest_32 (λ o. IsPlace o.place) d.site
 
 pub draft_of-bounds : (table : Members) → IfOk (draft_of table) IsDraft
 unfolding draft_of
 draft_of-bounds table =
-    ok_then (IsWithin 1 1) IsDraft (number_at [] (codes "version") 1 1 table) _ (number_at-bounds [] (codes "version") 1 1 table)
+    ok_then (IsWithin 1 2) IsDraft (number_at [] (codes "version") 1 2 table) _ (number_at-bounds [] (codes "version") 1 2 table)
     (λ version one. ok_next IsDraft (text_at name_of [] (codes "entry") table) _
-    (λ entry. ok_then AreLists IsDraft (draft_lists table) _ (draft_lists-bounds table)
-    (λ lists are. let low : 1 ≤ version = one.0 in let high : version ≤ 1 = one.1 in
+    (λ entry. ok_then (AreLists version) IsDraft (draft_lists version table) _ (draft_lists-bounds version table)
+    (λ lists are.
     record {
-      version = omega arith;
+      version = is_version version one.0 one.1;
       shape = are.things.shape;
       statics = are.things.statics;
       thunk = are.things.thunk;

@@ -12,7 +12,7 @@ use Rattle.note_types.specs.declared.notes.FnNote.{FnNote}
 use Rattle.note_types.specs.declared.notes.Notes.{Notes}
 use Rattle.note_types.specs.declared.notes.Point.{Point}
 use Rattle.note_types.specs.declared.notes.Site.{Site}
-use Rattle.note_types.specs.Limits.{code_limit, point_limit}
+use Rattle.note_types.specs.Limits.{code_limit, point_limit, IsVersion}
 use Rattle.note_types.specs.Records.{Ascends, HasFewThings, IsFunctionNote, IsNotes, IsPointNote, IsShapeNote, IsSignatureNote, IsSiteNote}
 use Rattle.note_types.specs.Records.{IsStaticNote, IsThunkNote}
 use Rattle.note_types.specs.Records as records
@@ -93,7 +93,6 @@ module _ (t : NameTables) (d : NotesDraft) (b : IsDraft d) (n : HasNames d t) wh
       let statics : length d.statics ≤ 2 ^ 32 - 1 = b.statics.0 in
       let thunks : length d.thunk ≤ 2 ^ 32 - 1 = b.thunk.0 in
       let functions : length d.function ≤ 4096 = b.function.0 in
-      let points : length d.point ≤ 16384 = b.point.0 in
       let signatures : length d.signature ≤ 2 ^ 32 - 1 = b.signature.list.0 in
       let sites : length d.site ≤ 2 ^ 32 - 1 = b.site.0 in
       let shapes_as = length-map d.shape (resolved_shape t) in
@@ -108,7 +107,7 @@ module _ (t : NameTables) (d : NotesDraft) (b : IsDraft d) (n : HasNames d t) wh
         statics = omega arith;
         thunks = omega arith;
         functions = omega arith;
-        points = subst (λ v. length (map (resolved_point t d) d.point) ≤ point_limit v) (sym b.version) (omega arith);
+        points = subst (λ n. n ≤ point_limit d.version) (sym points_as) b.point.0;
         signatures = omega arith;
         sites = omega arith;
         methods = methods_few t d b n;
@@ -129,7 +128,7 @@ module _ (t : NameTables) (d : NotesDraft) (b : IsDraft d) (n : HasNames d t) wh
   code_within m = subst (λ z. z ≤ code_limit d.version) (sym (code_alike t d.function))
       (within (code_limit d.version) d.function m.met.code)
 
-  version_is : (resolved t d).version ≡ 1
+  version_is : IsVersion (resolved t d).version
   unfolding resolved
   version_is = b.version
 

@@ -45,9 +45,10 @@ first_past-none limit fs i covers before = find-none (λ k. nat_lt limit (code_o
     (λ k _ h. before k (omega arith))
 
 -- the limit is small, whatever the version
-limit_by : (b : Bool) → (if b then 262144 else 0) < 2 ^ 32
-limit_by true = omega arith
-limit_by false = omega arith
+limit_by : (b c : Bool) → (if b then 262144 else if c then 1048576 else 0) < 2 ^ 32
+limit_by true c = omega arith
+limit_by false true = omega arith
+limit_by false false = omega arith
 
 pub code_limit-small : (version : ℕ) → code_limit version < 2 ^ 32
-code_limit-small version = limit_by (nat_eq version 1)
+code_limit-small version = limit_by (nat_eq version 1) (nat_eq version 2)

@@ -1,6 +1,6 @@
 -- For proofs: what holds of each configuration of a typed program's neutral run. It takes the state at each place.
 -- docs/SIMULATION.md, "The second half".
-use Rattle.std.specs.Prelude.{◌≡◌, ℕ, List, [], ◌∷◌, Some, slice_get}
+use Rattle.std.specs.Prelude.{◌≡◌, ℕ, ◌≤◌, List, [], ◌∷◌, length}
 use Rattle.note_types.specs.declared.ending.Ending.TheVariants as ending
 use Rattle.note_types.specs.declared.spot.Spot.{Spot}
 use Rattle.note_types.specs.declared.spot.Spot.TheVariants as spot
@@ -54,10 +54,11 @@ pub record GoesOnWell (world : World) (states : States) (a : Config) : Type 0 wh
   pub top : SpotHolds world states a a.spot
   pub waiting : Chain world states (live_memory world a) a.made a.frames
 
--- What holds of a configuration: each thunk that was made was served; it is sound but for its top frame; it goes on well while it
--- runs; and it raised nothing but a division by zero.
+-- What holds of a configuration: each thunk that was made was served, and no more are made than there are; it is sound but for
+-- its top frame; it goes on well while it runs; and it raised nothing but a division by zero.
 pub record Holds (world : World) (states : States) (a : Config) : Type 0 where
   pub served : a.script.thunks ≡ a.made
+  pub thunks : a.made ≤ length world.notes.thunk
   pub sound : SoundBelow world a
   pub well : a.ending ≡ ending.Running → GoesOnWell world states a
   pub raised : RaisesOnlyDivideError a.ending

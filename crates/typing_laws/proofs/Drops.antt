@@ -53,8 +53,8 @@ use Rattle.typing_laws.proofs.Context.{TopSound, passed_params, sizes_same}
 use Rattle.typing_laws.proofs.ItemsChanged.{below_after, few_hosts, items_after, top_after, top_keeps}
 use Rattle.typing_laws.proofs.ItemsDropped.{DropFound, drop_found, once_counted}
 use Rattle.typing_laws.proofs.LiveCells.{LaterBelow, live_held, live_some, live_there}
-use Rattle.typing_laws.proofs.LocalsGone.{below_without, compared_stays, forgotten_fits, frames_without, hosts_without, keeps_without}
-use Rattle.typing_laws.proofs.LocalsGone.{plain_without}
+use Rattle.typed_runs.proofs.StatesLater.{compared_stays}
+use Rattle.typing_laws.proofs.LocalsGone.{below_without, forgotten_fits, frames_without, hosts_without, keeps_without, plain_without}
 use Rattle.typing_laws.proofs.LocalsMade.{make_goes, no_locals}
 use Rattle.typing_laws.proofs.Pushes.{FallsOn}
 use Rattle.typing_laws.proofs.Written.{After}

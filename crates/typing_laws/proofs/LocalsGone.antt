@@ -4,9 +4,6 @@ use Rattle.std.proofs.Common.{◌≡◌, ◌≢◌, ℕ, zero, suc, ◌+◌, ◌
 use Rattle.std.proofs.Common.{take, length, Some, slice_get, refl, sym, ap, ◌∙◌, subst, arith, inl, inr, ⊎_elim}
 use Rattle.std.specs.List.{AllZip}
 use Rattle.std.proofs.lemmas.Bool.{ne_eqb}
-use Rattle.std.proofs.lemmas.Option.{none-some}
-use Rattle.ebc_insn.specs.declared.CmpOp.{CmpOp}
-use Rattle.ebc_insn.specs.declared.CmpOp.TheVariants as cmps
 use Rattle.note_types.specs.Passing.{IsPassed}
 use Rattle.note_types.specs.declared.cell.SlotKind.TheVariants as slots
 use Rattle.note_types.specs.declared.notes.FnNote.{FnNote}
@@ -21,7 +18,7 @@ use Rattle.neutral_machine.specs.Fits.{IsNumber, IsMultiple, IsPointer, IsSucces
 use Rattle.neutral_machine.specs.Fits.{FitsPlain, Fits}
 use Rattle.neutral_machine.specs.Layout.{height, item_size}
 use Rattle.neutral_machine.specs.Memory.{Memory, AreWritten}
-use Rattle.neutral_machine.specs.Operations.{compared_as, instance_of, kept_natural}
+use Rattle.neutral_machine.specs.Operations.{kept_natural}
 use Rattle.host_model.specs.Placements.{pair_at, return_cell}
 use Rattle.host_model.specs.Values.{Neutral, At, Num, Handle, Method, Entry, Error, SignedError, Junk, ObjectOf, ThunkOf, LocalOf, number}
 use Rattle.host_model.specs.Values.{null, mask, pair}
@@ -80,25 +77,6 @@ slots_without notes os e (LocalsOf s ∷ is) h = slots_without notes os e is h
 
 local_stays : (e d f n c : ℕ) → d ≢ e → without_local e (At (LocalOf d f) n c) ≡ At (LocalOf d f) n c
 local_stays e d f n c l = ap (λ b. if b then Junk else At (LocalOf d f) n c) (ne_eqb d e l)
-
--- a value that a comparison with a number looks at is no address of locals
-pub compared_stays : (notes : Notes) (os : List TypedObject) (op : CmpOp) (e k : ℕ) (c : Bool) (v : Neutral)
-    → compared_as notes os op true v (number k) ≡ Some c → without_local e v ≡ v
-unfolding compared_as instance_of
-compared_stays notes os cmps.Eq e k c (At (LocalOf d f) n m) h = absurd (none-some c h)
-compared_stays notes os cmps.Lte e k c (At (LocalOf d f) n m) h = absurd (none-some c h)
-compared_stays notes os cmps.Gte e k c (At (LocalOf d f) n m) h = absurd (none-some c h)
-compared_stays notes os cmps.Ulte e k c (At (LocalOf d f) n m) h = absurd (none-some c h)
-compared_stays notes os cmps.Ugte e k c (At (LocalOf d f) n m) h = absurd (none-some c h)
-compared_stays notes os op e k c (At (ObjectOf i) n m) h = refl
-compared_stays notes os op e k c (At (ThunkOf i) n m) h = refl
-compared_stays notes os op e k c (Num n m) h = refl
-compared_stays notes os op e k c (Handle i) h = refl
-compared_stays notes os op e k c (Method i) h = refl
-compared_stays notes os op e k c (Entry i) h = refl
-compared_stays notes os op e k c (Error i) h = refl
-compared_stays notes os op e k c (SignedError i) h = refl
-compared_stays notes os op e k c Junk h = refl
 
 -- ---- types
 

@@ -9,7 +9,7 @@ use Rattle.machine_alu.specs.Alu.{computed, compared}
 use Rattle.note_types.specs.BelowTests.{same_type}
 use Rattle.note_types.specs.Concrete.{loaded, stored, rest_from, with_register, at_ip, with_flags}
 use Rattle.host_model.specs.HostPlans.{field_at as plan_field_at, filling, reply_stores, site_of, argument_refused, call_plan, enter_plan}
-use Rattle.host_model.specs.HostPlans.{all_named_right, reply_fits, reply_plan, host_plan}
+use Rattle.host_model.specs.HostPlans.{all_named_right, reply_fits, reply_plan, is_due, notify_plan, host_plan}
 use Rattle.host_model.specs.HostSteps.{spot_of, written_number, asking_at, writes_mapped, result_of, host_view, after_stores, with_object}
 use Rattle.host_model.specs.HostSteps.{with_objects, with_slots, inside, performed, host_step, thunk_view, thunk_made}
 use Rattle.neutral_machine.specs.Locations.{located_past, located_on_stack, fits_cell, value_at, stored_at}
@@ -55,7 +55,8 @@ use Rattle.host_model.specs.Runs.{after_instruction, instruction_step, running_s
 unfoldable pub runs_compute : ⊤
 unfolding fields_of little_endian put window holds field_bytes bytes_of form_at is_reserved has_left_index size1_at size2_at field_at
     insn_at parts_at read computed compared same_type loaded stored rest_from with_register at_ip with_flags plan_field_at filling
-    reply_stores site_of argument_refused call_plan enter_plan all_named_right reply_fits reply_plan host_plan spot_of written_number
+    reply_stores site_of argument_refused call_plan enter_plan all_named_right reply_fits reply_plan is_due notify_plan host_plan
+    spot_of written_number
     asking_at writes_mapped result_of host_view after_stores with_object with_objects with_slots inside performed host_step thunk_view
     thunk_made located_past located_on_stack fits_cell value_at stored_at neutral_host_asking_at writes_there all_lent lent_there
     neutral_host_result_of neutral_host_host_view neutral_host_after_stores neutral_host_with_objects param_slots neutral_host_performed

@@ -20,11 +20,11 @@ abbrev located : List Event
 located = event.Called 0x1014 (Some 0) (given value.Out ∷ []) ∷ event.Replied 0 (value.StatusOk 0) ∷ []
 
 -- the second call
-abbrev asked : List Event
+abbrev pub asked : List Event
 asked = located ++ event.Called 0x1032 (Some 1) (given (value.Entry 1) ∷ []) ∷ []
 
 -- all events
-abbrev whole : List Event
+abbrev pub whole : List Event
 whole =
     asked
     ++ event.Entered 1 (given (value.Int 1) ∷ []) ∷ event.Returned 1 (value.StatusOk 0)

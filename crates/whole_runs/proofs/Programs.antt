@@ -167,7 +167,7 @@ plain_notes stop result = record {
 }
 
 abbrev nothing : Script
-nothing = record { version = 1; args = []; object = []; call = [] }
+nothing = record { version = 1; args = []; object = []; call = []; notify = [] }
 
 abbrev pub plain_world : World
 plain_world = record { notes = plain_notes 0x100C ty.Any; script = nothing; image_size = 0x2010 }
@@ -255,6 +255,7 @@ nest_world = record {
     args = value.Ptr 0 0 ∷ [];
     object = record { shape = 0; count = 1; cells = record { instance = 0; field = 0; value = value.Method 0 } ∷ [] } ∷ [];
     call = nest_call ∷ nest_call ∷ nest_call ∷ nest_call ∷ nest_call ∷ nest_call ∷ nest_call ∷ nest_call ∷ nest_call ∷ nest_call ∷ [];
+    notify = [];
   };
   image_size = 0x2010;
 }

@@ -1,0 +1,174 @@
+-- Laws of stores of values: one after the other, in cells that are there or not.
+use Rattle.std.proofs.Common.{◌≡◌, ℕ, ◌+◌, ◌*◌, ◌^◌, ◌<◌, ◌≤◌, Bool, true, false, List, [], ◌∷◌, ◌++◌, length, drop, get_or, Some, None}
+use Rattle.std.proofs.Common.{refl, sym, ap, ◌∙◌, arith}
+use Rattle.std.specs.List.{flat_map}
+use Rattle.std.specs.Prelude.{slice_index}
+use Rattle.std.specs.Option.{option_map_or}
+use Rattle.std.proofs.lemmas.List.{drop_all, drop_more}
+use Rattle.ebc_width.specs.Ranges.{Range, holds}
+use Rattle.ebc_width.specs.Width.{IsWidth}
+use Rattle.ebc_width.proofs.Laws.{by_width}
+use Rattle.object_memory.specs.Memory.{IsMemory, Memory, first_base, memory_after, next_base, ranges}
+use Rattle.object_memory.proofs.Laws.{holds-bounds, memory_after-absent}
+use Rattle.note_types.specs.Cells.{cell_size}
+use Rattle.note_types.specs.Concrete.{Concrete, stored}
+use Rattle.note_types.specs.declared.cell.Cell.{Cell}
+use Rattle.note_types.specs.declared.cell.Cell.TheVariants as cell
+use Rattle.note_types.specs.declared.notes.Notes.{Notes}
+use Rattle.note_types.specs.declared.notes.WantParam.{WantParam}
+use Rattle.note_types.specs.declared.script.OutValue.{OutValue}
+use Rattle.note_types.specs.declared.script.WriteValue.{WriteValue}
+use Rattle.note_types.specs.declared.shape.Field.{Field}
+use Rattle.note_types.specs.declared.value.Value.{Value}
+use Rattle.host_model.specs.HostPlans.{InArgument, InObject, Store, field_at, lent_at, out_store, write_store}
+use Rattle.host_model.specs.HostSteps.{after_store, after_stores, cell_address, written_number}
+use Rattle.host_model.specs.Placements.{Placement}
+use Rattle.host_model.specs.declared.object.TypedObject.{TypedObject}
+use Rattle.entry_thunk.specs.Cells.{with_memory}
+use Rattle.entry_thunk.proofs.CellLaws.{stored-memory}
+use Rattle.native_host.specs.Stores.{after_number, is_mapped}
+
+-- ---- a store at an address
+
+-- where the cell isn't mapped nothing changes
+pub after-absent : (w : ℕ) (notes : Notes) (P : Placement) (made : List TypedObject) (s : Concrete) (m : Memory) (a : ℕ) (c : Cell) (v :
+    Value)
+    → holds (ranges m) a (cell_size w c) ≡ false → after_number w notes P made (with_memory s m) a c v ≡ with_memory s m
+unfolding stored
+after-absent w notes P made s m a c v absent = rw absent refl
+
+after-either : (w : ℕ) (notes : Notes) (P : Placement) (made : List TypedObject) (s : Concrete) (m n : Memory) (a x : ℕ) (c : Cell) (v :
+    Value)
+    (b : Bool) → holds (ranges m) a (cell_size w c) ≡ b → x ≡ written_number w notes P made v → n ≡ memory_after m a (cell_size w c) x
+    → after_number w notes P made (with_memory s m) a c v ≡ with_memory s n
+after-either w notes P made s m n a x c v true held number is =
+    ap (λ y. option_map_or (λ t. t) (stored (with_memory s m) a (cell_size w c) y) (with_memory s m)) (sym number)
+    ∙ ap (λ o. option_map_or (λ t. t) o (with_memory s m)) (stored-memory s m n a (cell_size w c) x held is)
+after-either w notes P made s m n a x c v false absent number is =
+    after-absent w notes P made s m a c v absent ∙ ap (with_memory s) (sym (is ∙ memory_after-absent m a (cell_size w c) x absent))
+
+pub after-number : (w : ℕ) (notes : Notes) (P : Placement) (made : List TypedObject) (s : Concrete) (m n : Memory) (a k x : ℕ) (c : Cell)
+    (v : Value)
+    → k ≡ cell_size w c → x ≡ written_number w notes P made v → n ≡ memory_after m a k x
+    → after_number w notes P made (with_memory s m) a c v ≡ with_memory s n
+after-number w notes P made s m n a k x c v size number is =
+    after-either w notes P made s m n a x c v (holds (ranges m) a (cell_size w c)) refl number
+    (is ∙ ap (λ j. memory_after m a j x) size)
+
+-- ---- addresses that no object has
+
+width-some : (w : ℕ) → IsWidth w → 1 ≤ w
+width-some w width = by_width (λ v. 1 ≤ v) w width (omega arith) (omega arith)
+
+pub cell-some : (w : ℕ) (c : Cell) → IsWidth w → 1 ≤ cell_size w c
+cell-some w cell.I8 width = omega arith
+cell-some w cell.I16 width = omega arith
+cell-some w cell.I32 width = omega arith
+cell-some w cell.I64 width = omega arith
+cell-some w cell.N width = width-some w width
+cell-some w cell.Stat width = width-some w width
+cell-some w cell.Handle width = width-some w width
+cell-some w cell.Entry width = width-some w width
+cell-some w (cell.Ptr s k null) width = width-some w width
+cell-some w (cell.P64 s k null) width = omega arith
+cell-some w (cell.Method m) width = width-some w width
+
+-- past 2 ^ 64, and at 0, nothing is mapped
+pub absent-past : (w : ℕ) (m : Memory) (a k : ℕ) → IsWidth w → IsMemory w m → 1 ≤ k → 2 ^ 64 ≤ a → holds (ranges m) a k ≡ false
+absent-past w m a k width memory some past = either (holds (ranges m) a k) refl
+  where
+    either : (b : Bool) → holds (ranges m) a k ≡ b → b ≡ false
+    either false none = refl
+    either true held =
+        let bounds = holds-bounds w m a k memory held in
+        let to : a + k ≤ next_base w m = bounds.1 in
+        let kept = memory.bytes_kept in
+        let wraps = memory.no_wrap in
+        let most : 2 ^ (8 * w) ≤ 2 ^ 64 = by_width (λ v. 2 ^ (8 * v) ≤ 2 ^ 64) w width (omega arith) (omega arith) in
+        absurd (omega (arith, to, kept, wraps, most, some, past))
+
+pub absent-zero : (w : ℕ) (m : Memory) (k : ℕ) → IsWidth w → IsMemory w m → holds (ranges m) 0 k ≡ false
+absent-zero w m k width memory = either (holds (ranges m) 0 k) refl
+  where
+    either : (b : Bool) → holds (ranges m) 0 k ≡ b → b ≡ false
+    either false none = refl
+    either true held =
+        let bounds = holds-bounds w m 0 k memory held in
+        let from : first_base w ≤ 0 = bounds.0 in
+        let above : 1 ≤ first_base w = by_width (λ v. 1 ≤ first_base v) w width (omega arith) (omega arith) in
+        absurd (omega (arith, from, above))
+
+-- ---- stores one after the other
+
+pub stores-none : (w : ℕ) (notes : Notes) (P : Placement) (made : List TypedObject) (slots : List ℕ) (s : Concrete)
+    → after_stores w notes P made slots [] s ≡ s
+unfolding after_stores
+stores-none w notes P made slots s = refl
+
+pub stores-append : (w : ℕ) (notes : Notes) (P : Placement) (made : List TypedObject) (slots : List ℕ) (us vs : List Store) (s : Concrete)
+    → after_stores w notes P made slots (us ++ vs) s ≡ after_stores w notes P made slots vs (after_stores w notes P made slots us s)
+unfolding after_stores
+stores-append w notes P made slots [] vs s = refl
+stores-append w notes P made slots (u ∷ us) vs s = stores-append w notes P made slots us vs (after_store w notes P made slots s u)
+
+-- the stores of the items of a list from number k on, of which the first are done
+pub stores-next : {A : Type 0} (w : ℕ) (notes : Notes) (P : Placement) (made : List TypedObject) (slots : List ℕ) (f : A → List Store)
+    (xs : List A) (k : ℕ) (d : A) (s t : Concrete) → k < length xs → after_stores w notes P made slots (f (get_or xs k d)) s ≡ t
+    → after_stores w notes P made slots (flat_map f (drop k xs)) s ≡ after_stores w notes P made slots (flat_map f (drop (k + 1) xs)) t
+stores-next w notes P made slots f xs k d s t less one =
+    ap (λ ys. after_stores w notes P made slots (flat_map f ys) s) (drop_more xs k d less)
+    ∙ (stores-append w notes P made slots (f (get_or xs k d)) (flat_map f (drop (k + 1) xs)) s
+    ∙ ap (after_stores w notes P made slots (flat_map f (drop (k + 1) xs))) one)
+
+pub stores-end : {A : Type 0} (w : ℕ) (notes : Notes) (P : Placement) (made : List TypedObject) (slots : List ℕ) (f : A → List Store)
+    (xs : List A) (k : ℕ) (s : Concrete) → length xs ≤ k → after_stores w notes P made slots (flat_map f (drop k xs)) s ≡ s
+unfolding after_stores
+stores-end w notes P made slots f xs k s last = ap (λ ys. after_stores w notes P made slots (flat_map f ys) s) (drop_all k xs last)
+
+-- ---- a store in a field
+
+pub write-none : (w : ℕ) (notes : Notes) (P : Placement) (made : List TypedObject) (slots : List ℕ) (v : WriteValue) (s : Concrete)
+    → None ≡ field_at notes made v.object v.instance v.field → after_stores w notes P made slots (write_store notes made v) s ≡ s
+unfolding after_stores
+write-none w notes P made slots v s none =
+    ap (λ o. after_stores w notes P made slots
+    (option_map_or (λ (x : Field). record { target = InObject v.object v.instance v.field; cell = x.cell; value = v.value } ∷ []) o []) s)
+    (sym none)
+
+pub write-some : (w : ℕ) (notes : Notes) (P : Placement) (made : List TypedObject) (slots : List ℕ) (v : WriteValue) (s : Concrete) (x :
+    Field)
+    → Some x ≡ field_at notes made v.object v.instance v.field
+    → after_stores w notes P made slots (write_store notes made v) s
+    ≡ after_number w notes P made s (cell_address w notes P made v.object v.instance x) x.cell v.value
+unfolding after_stores
+write-some w notes P made slots v s x some =
+    ap (λ o. after_stores w notes P made slots
+    (option_map_or (λ (x : Field). record { target = InObject v.object v.instance v.field; cell = x.cell; value = v.value } ∷ []) o []) s)
+    (sym some)
+    ∙ ap (λ o. after_number w notes P made s (option_map_or (cell_address w notes P made v.object v.instance) o 0) x.cell v.value) (sym
+    some)
+
+-- a cell of an object that is there is mapped or not
+pub mapped-some : (w : ℕ) (notes : Notes) (P : Placement) (made : List TypedObject) (objects : List Range) (v : WriteValue) (x : Field)
+    → Some x ≡ field_at notes made v.object v.instance v.field
+    → is_mapped w notes P made objects v ≡ holds objects (cell_address w notes P made v.object v.instance x) (cell_size w x.cell)
+mapped-some w notes P made objects v x some =
+    ap (λ o. option_map_or (λ (x : Field). holds objects (cell_address w notes P made v.object v.instance x) (cell_size w x.cell)) o false)
+    (sym some)
+
+-- ---- a store in the cell of an argument
+
+pub out-none : (w : ℕ) (notes : Notes) (P : Placement) (made : List TypedObject) (slots : List ℕ) (params : List WantParam) (o : OutValue)
+    (s : Concrete) → None ≡ lent_at params o.argument → after_stores w notes P made slots (out_store params o) s ≡ s
+unfolding after_stores
+out-none w notes P made slots params o s none =
+    ap (λ q. after_stores w notes P made slots
+    (option_map_or (λ c. record { target = InArgument o.argument; cell = c; value = o.value } ∷ []) q []) s) (sym none)
+
+pub out-some : (w : ℕ) (notes : Notes) (P : Placement) (made : List TypedObject) (slots : List ℕ) (params : List WantParam) (o : OutValue)
+    (s : Concrete) (c : Cell) → Some c ≡ lent_at params o.argument
+    → after_stores w notes P made slots (out_store params o) s ≡ after_number w notes P made s (slice_index slots o.argument) c o.value
+unfolding after_stores
+out-some w notes P made slots params o s c some =
+    ap (λ q. after_stores w notes P made slots
+    (option_map_or (λ c. record { target = InArgument o.argument; cell = c; value = o.value } ∷ []) q []) s) (sym some)

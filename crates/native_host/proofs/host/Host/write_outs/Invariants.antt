@@ -1,0 +1,19 @@
+use Rattle.std.proofs.Common.{◌≡◌, drop}
+use Rattle.std.specs.List.{flat_map}
+use Rattle.note_types.specs.Concrete.{Concrete}
+use Rattle.ebc_machine.specs.States.{KeepsObjects}
+use Rattle.host_model.specs.HostSteps.{after_stores}
+use Rattle.entry_thunk.specs.Cells.{with_memory}
+use Rattle.native_host.specs.Kept.{placement_of}
+use Rattle.host_model.specs.HostPlans.{out_store}
+use Rattle.native_host.specs.Hosts.{top_slots}
+use Rattle.native_host.proofs.host.Host.write_outs.Given as goal
+
+abbrev pub invariant-loop-out : goal.invariant-loop-out
+invariant-loop-out g l = record {
+  stores : (s : Concrete) → after_stores g.row.W l.notes (placement_of l.self.places) l.self.made.items (top_slots l.frames)
+      (flat_map (out_store l.params) (drop l.out-index l.outs)) (with_memory s l.mem)
+      ≡ after_stores g.row.W l.notes (placement_of l.self.places) l.self.made.items (top_slots l.frames) (flat_map (out_store l.params)
+      l.outs) (with_memory s l.fn.mem);
+  objects : KeepsObjects l.fn.mem l.mem;
+}

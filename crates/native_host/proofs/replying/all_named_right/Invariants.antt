@@ -1,0 +1,6 @@
+use Rattle.std.proofs.Common.{◌≡◌, drop}
+use Rattle.host_model.specs.HostPlans.{all_named_right}
+use Rattle.native_host.proofs.replying.all_named_right.Given as goal
+
+abbrev pub invariant-loop-k : goal.invariant-loop-k
+invariant-loop-k l = all_named_right l.error l.k (drop l.k l.params) l.outs ≡ all_named_right l.error 0 l.params l.outs

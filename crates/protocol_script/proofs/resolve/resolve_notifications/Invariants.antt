@@ -1,0 +1,11 @@
+use Rattle.std.specs.Prelude.{codes}
+use Rattle.std.proofs.Common.{◌≡◌, drop}
+use Rattle.note_texts.specs.Keys.{row_prefix}
+use Rattle.note_texts.proofs.Loop.{with_front}
+use Rattle.script_draft.specs.Lists.{each_of}
+use Rattle.protocol_script.specs.Resolved.{resolved_notifications, resolved_notify}
+use Rattle.protocol_script.proofs.resolve.resolve_notifications.Given as goal
+
+abbrev pub invariant-loop-i : goal.invariant-loop-i
+invariant-loop-i l = with_front l.values.items (each_of (λ i o. resolved_notify l.notes (row_prefix (codes "notify") i) o) l.i
+    (drop l.i l.notifications)) ≡ resolved_notifications l.notes l.notifications
