@@ -32,19 +32,20 @@ use Rattle.width_checker.specs.Verdicts.{IsRefused}
 use Rattle.plain_check.proofs.Runs.{neutral-alike}
 use Rattle.plain_check.proofs.Rules.{neutral-exactly}
 use Rattle.plain_check.proofs.Refusals.{refused-exactly}
-use Rattle.ebc_cli.specs.declared.outcome.Outcome.{Outcome}
-use Rattle.ebc_cli.specs.declared.outcome.Outcome.TheVariants as outcomes
-use Rattle.ebc_cli.specs.declared.reply.End.TheVariants.{Stop}
-use Rattle.ebc_cli.specs.declared.reply.Reply.{Reply}
+use Rattle.cli_base.specs.declared.outcome.Outcome.{Outcome}
+use Rattle.cli_base.specs.declared.outcome.Outcome.TheVariants as outcomes
+use Rattle.cli_base.specs.declared.reply.End.TheVariants.{Stop}
+use Rattle.cli_base.specs.declared.reply.Reply.{Reply}
 use Rattle.ebc_cli.specs.declared.work.Work.{Work}
 use Rattle.ebc_cli.specs.declared.work.Work.TheVariants as works
 use Rattle.ebc_cli.specs.Commands.{command_of, output_of}
 use Rattle.ebc_cli.specs.Faults.{asm_fault_text, link_detail, link_fault_text, rom_fault_text, take_fault_text}
-use Rattle.ebc_cli.specs.Outcomes.{IsAnswer}
-use Rattle.ebc_cli.specs.Outputs.{SameBut, files_left, printed, text_of, written_name}
-use Rattle.ebc_cli.specs.Readings.{file, done, go_on, large_reply}
+use Rattle.cli_base.specs.Outcomes.{IsAnswer}
+use Rattle.cli_base.specs.Outputs.{SameBut, files_left, printed, text_of, written_name}
+use Rattle.cli_base.specs.Readings.{file, done, go_on, large_reply}
 use Rattle.ebc_cli.specs.RomTexts.{rom_listing}
-use Rattle.ebc_cli.specs.Texts.{bad_line, neutral_line, refused_line}
+use Rattle.ebc_cli.specs.Texts.{neutral_line, refused_line}
+use Rattle.cli_base.specs.Texts.{bad_line}
 use Rattle.ebc_cli.specs.Works.{work_of, code_check, verdict_reply, listing_reply, file_reply, TellsVerdict, IsReplyOf, plain_code_limit}
 use Rattle.ebc_cli.specs.Answers.{IsAnswerOf, Decides, Answers, Assembles, LeavesPart, ChecksCode, ChecksImage, ListsImage, HasBadInput}
 use Rattle.ebc_cli.specs.Answers.{HasBadLine, HasMissingFile, HasNoText, writes_object, writes_rom, writes_taken, empty_listing}

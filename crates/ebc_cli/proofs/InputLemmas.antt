@@ -4,9 +4,10 @@ use Rattle.std.proofs.Common.{Bool, true, false, nat_lt, if◌then◌else◌, in
 use Rattle.std.proofs.lemmas.Bool.Decides.{nat_tests}
 use Rattle.std.specs.FinMap.{get}
 use Rattle.ebc_outside.specs.Files.{Files}
-use Rattle.ebc_cli.specs.declared.reply.Reply.{Reply}
-use Rattle.ebc_cli.specs.Readings.{FileReading, ◌>>=◌, file, measured, go_on, done, told, missing_reply, large_reply}
-use Rattle.ebc_cli.specs.Inputs.{input, or_reply, input_with_bytes}
+use Rattle.cli_base.specs.declared.reply.Reply.{Reply}
+use Rattle.cli_base.specs.Readings.{FileReading, ◌>>=◌, file, measured, go_on, done, told, missing_reply, large_reply}
+use Rattle.ebc_cli.specs.Inputs.{input, input_with_bytes}
+use Rattle.cli_base.specs.Inputs.{or_reply}
 use Rattle.ebc_cli.specs.Answers.{HasFile}
 
 -- ---- steps of reading

@@ -1,7 +1,6 @@
 pub mod HexLemmas
 pub mod RomLemmas
 pub mod ReadingsLemmas
-pub mod OutputLemmas
 pub mod InputLemmas
 pub mod LinkLemmas
 pub mod StopLemmas

@@ -7,16 +7,16 @@ use Rattle.std.specs.FinMap.{get}
 use Rattle.ebc_object.specs.Readings.{object_of_file}
 use Rattle.ebc_object.specs.declared.object.Object.{Object}
 use Rattle.ebc_outside.specs.Files.{Files}
-use Rattle.ebc_cli.specs.declared.reply.Reply.{Reply}
+use Rattle.cli_base.specs.declared.reply.Reply.{Reply}
 use Rattle.ebc_cli.specs.Inputs.{bad_object_reply, input, object_limit, object_meaning, plan_limit, plan_meaning}
 use Rattle.ebc_cli.specs.Linkings.{each_object, linked_by, linked_image}
 use Rattle.ebc_link.specs.declared.plan.LinkPlan.{LinkPlan}
 use Rattle.ebc_object.specs.Objects.{IsObject}
 use Rattle.pe_image.specs.declared.image.Image.{Image}
 use Rattle.std.proofs.lemmas.List.Elements.{All-push, All-same}
-use Rattle.ebc_cli.specs.Readings.{FileReading, ◌>>=◌, Follows, done, file, go_on, measured}
-use Rattle.ebc_cli.specs.declared.reply.End.{End}
-use Rattle.ebc_cli.specs.declared.reply.End.TheVariants as ends
+use Rattle.cli_base.specs.Readings.{FileReading, ◌>>=◌, Follows, done, file, go_on, measured}
+use Rattle.cli_base.specs.declared.reply.End.{End}
+use Rattle.cli_base.specs.declared.reply.End.TheVariants as ends
 use Rattle.ebc_cli.proofs.ReadingsLemmas.{ends-after, ends-before, later-part}
 use Rattle.ebc_cli.specs.Answers.{HasObject, HasObjects}
 use Rattle.ebc_cli.proofs.InputLemmas.{NotRead, IsRead, first_stops, second_stops, go-on-err, go-on-ok, input-err, input-ok}

@@ -1,16 +1,17 @@
 -- Readings one after the other, for commands of several files.
 use Rattle.std.proofs.Common.{◌≡◌, ℕ, List, ◌++◌, Option, Some, None, IfSome, Result, Ok, Err, refl, sym, ap, ◌∙◌, append_assoc, append-nil}
 use Rattle.ebc_outside.specs.Files.{Files}
-use Rattle.ebc_cli.specs.declared.reply.End.{End}
-use Rattle.ebc_cli.specs.declared.reply.Reply.{Reply}
+use Rattle.cli_base.specs.declared.reply.End.{End}
+use Rattle.cli_base.specs.declared.reply.Reply.{Reply}
 use Rattle.note_types.specs.declared.notes.Notes.{Notes}
 use Rattle.pe_image.specs.declared.image.Image.{Image}
 use Rattle.ebc_cli.specs.declared.work.Work.{Work}
 use Rattle.ebc_cli.specs.declared.work.Work.TheVariants as works
-use Rattle.ebc_cli.specs.Inputs.{image_limit, image_meaning, input, notes_limit, notes_meaning}
+use Rattle.ebc_cli.specs.Inputs.{input, notes_limit, notes_meaning}
+use Rattle.cli_base.specs.Inputs.{image_limit, image_meaning}
 use Rattle.ebc_cli.specs.Works.{image_check}
-use Rattle.ebc_cli.specs.declared.reply.End.TheVariants as ends
-use Rattle.ebc_cli.specs.Readings.{FileReading, ◌>>=◌, go_on, done, AsksPart, Follows}
+use Rattle.cli_base.specs.declared.reply.End.TheVariants as ends
+use Rattle.cli_base.specs.Readings.{FileReading, ◌>>=◌, go_on, done, AsksPart, Follows}
 
 -- what a second reading asked for comes after what the first one did
 pub later-part : (before mid now one all : List (List ℕ)) → mid ≡ before ++ one → AsksPart mid all now → AsksPart before (one ++ all) now
@@ -120,7 +121,8 @@ notes-end old mid before between now a b image end same one two =
     (first-ends mid between now (notes_run b) (checked image) end two)
 
 -- where both files are read, the work is the check of what they are
-pub checked-follows : (old mid : Option Files) (before between now : List (List ℕ)) (a b : List ℕ) (image : Image) (notes : Notes) → mid ≡ old
+pub checked-follows : (old mid : Option Files) (before between now : List (List ℕ)) (a b : List ℕ) (image : Image) (notes : Notes)
+    → mid ≡ old
     → IfSome old (λ files. Follows before between (Ok image) (input image_limit image_meaning 1 a files))
     → IfSome mid (λ files. Follows between now (Ok notes) (input notes_limit notes_meaning 2 b files))
     → IfSome old (λ files. Follows before now (Ok (works.CheckImage image notes)) (image_check a b files))

@@ -12,10 +12,10 @@ use Rattle.option_rom.specs.Roms.{rom_of}
 use Rattle.option_rom.specs.Takes.{bytes_taken, taken}
 use Rattle.option_rom.proofs.Takings.{taken_inside}
 use Rattle.option_rom.proofs.Walks.{read-rom}
-use Rattle.ebc_cli.specs.declared.reply.Reply.{Reply}
+use Rattle.cli_base.specs.declared.reply.Reply.{Reply}
 use Rattle.ebc_cli.specs.Inputs.{number_meaning}
 use Rattle.ebc_cli.specs.Numbers.{rom_number}
-use Rattle.ebc_cli.specs.Readings.{large_reply}
+use Rattle.cli_base.specs.Readings.{large_reply}
 use Rattle.ebc_cli.specs.RomTexts.{last_mark, rom_line, rom_lines, rom_listing}
 
 -- ---- what is taken

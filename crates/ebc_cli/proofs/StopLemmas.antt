@@ -32,19 +32,22 @@ use Rattle.plain_check.specs.declared.verdict.Verdict.TheVariants.{Neutral, Refu
 use Rattle.plain_check.specs.PlainChecks.{plain_verdict}
 use Rattle.ebc_cli.specs.declared.command.Command.{Command}
 use Rattle.ebc_cli.specs.declared.command.Command.TheVariants.{Assemble, CheckCode, CheckImage, Link, ListImage, ListRom, TakeRom, WrapRom}
-use Rattle.ebc_cli.specs.declared.outcome.Outcome.{Outcome}
-use Rattle.ebc_cli.specs.declared.outcome.Outcome.TheVariants as outcomes
-use Rattle.ebc_cli.specs.declared.reply.Reply.{Reply}
+use Rattle.cli_base.specs.declared.outcome.Outcome.{Outcome}
+use Rattle.cli_base.specs.declared.outcome.Outcome.TheVariants as outcomes
+use Rattle.cli_base.specs.declared.reply.Reply.{Reply}
 use Rattle.ebc_cli.specs.declared.work.Work.{Work}
 use Rattle.ebc_cli.specs.declared.work.Work.TheVariants as works
 use Rattle.ebc_cli.specs.Commands.{command_of}
-use Rattle.ebc_cli.specs.Faults.{image_fault_number, link_fault_number, object_fault_number, rom_fault_number}
+use Rattle.ebc_cli.specs.Faults.{link_fault_number, object_fault_number, rom_fault_number}
+use Rattle.cli_base.specs.Faults.{image_fault_number}
 use Rattle.ebc_cli.specs.Faults.{take_fault_number, toml_fault_number}
 use Rattle.ebc_cli.specs.Numbers.{rom_number}
-use Rattle.ebc_cli.specs.Outcomes.{IsWorkAnswer}
-use Rattle.ebc_cli.specs.Readings.{FileReading, ◌>>=◌, file, measured, go_on, done, told, missing_reply, large_reply}
-use Rattle.ebc_cli.specs.Inputs.{input, or_reply, image_limit, image_meaning, notes_limit, notes_meaning, source_limit, source_meaning}
-use Rattle.ebc_cli.specs.Inputs.{bad_image_reply, bad_notes_reply, bad_source_reply}
+use Rattle.cli_base.specs.Outcomes.{IsWorkAnswer}
+use Rattle.cli_base.specs.Readings.{FileReading, ◌>>=◌, file, measured, go_on, done, told, missing_reply, large_reply}
+use Rattle.ebc_cli.specs.Inputs.{input, notes_limit, notes_meaning, source_limit, source_meaning}
+use Rattle.cli_base.specs.Inputs.{or_reply, image_limit, image_meaning}
+use Rattle.ebc_cli.specs.Inputs.{bad_notes_reply, bad_source_reply}
+use Rattle.cli_base.specs.Inputs.{bad_image_reply}
 use Rattle.ebc_cli.specs.Inputs.{input_with_bytes, rom_limit, rom_meaning, bad_rom_reply, bad_taking_reply, taking_offset, taking_meaning}
 use Rattle.ebc_cli.specs.Inputs.{number_meaning}
 use Rattle.ebc_cli.specs.Inputs.{bad_link_reply, bad_object_reply, bad_plan_reply, link_meaning, object_limit, object_meaning, plan_limit}

@@ -30,20 +30,22 @@ use Rattle.pe_image.specs.declared.fault.ImageFault.{ImageFault}
 use Rattle.pe_image.specs.declared.image.Image.{Image}
 use Rattle.pe_image.specs.Images.{image_of}
 use Rattle.type_notes.specs.Notes.{notes_of}
-use Rattle.ebc_cli.specs.declared.outcome.Outcome.{Outcome}
-use Rattle.ebc_cli.specs.declared.outcome.Outcome.TheVariants as outcomes
+use Rattle.cli_base.specs.declared.outcome.Outcome.{Outcome}
+use Rattle.cli_base.specs.declared.outcome.Outcome.TheVariants as outcomes
 use Rattle.ebc_cli.specs.declared.command.Command.TheVariants.{Assemble, CheckCode, CheckImage, Link, ListImage, ListRom, TakeRom, WrapRom}
-use Rattle.ebc_cli.specs.declared.reply.End.{End}
-use Rattle.ebc_cli.specs.declared.reply.End.TheVariants as ends
-use Rattle.ebc_cli.specs.declared.reply.Reply.{Reply}
+use Rattle.cli_base.specs.declared.reply.End.{End}
+use Rattle.cli_base.specs.declared.reply.End.TheVariants as ends
+use Rattle.cli_base.specs.declared.reply.Reply.{Reply}
 use Rattle.ebc_cli.specs.declared.work.Work.{Work}
 use Rattle.ebc_cli.specs.Commands.{command_of, output_of}
-use Rattle.ebc_cli.specs.Faults.{image_fault_number, link_fault_number, object_fault_number, rom_fault_number}
+use Rattle.ebc_cli.specs.Faults.{link_fault_number, object_fault_number, rom_fault_number}
+use Rattle.cli_base.specs.Faults.{image_fault_number}
 use Rattle.ebc_cli.specs.Faults.{take_fault_number, toml_fault_number}
-use Rattle.ebc_cli.specs.Inputs.{image_limit, notes_limit, object_limit, plan_limit, rom_limit, source_limit, taking_offset}
-use Rattle.ebc_cli.specs.Outcomes.{IsAnswer}
-use Rattle.ebc_cli.specs.Outputs.{SameBut, files_left, printed, text_of, written_name}
-use Rattle.ebc_cli.specs.Readings.{FileReading, AsksPart, MissingHasCause}
+use Rattle.ebc_cli.specs.Inputs.{notes_limit, object_limit, plan_limit, rom_limit, source_limit, taking_offset}
+use Rattle.cli_base.specs.Inputs.{image_limit}
+use Rattle.cli_base.specs.Outcomes.{IsAnswer}
+use Rattle.cli_base.specs.Outputs.{SameBut, files_left, printed, text_of, written_name}
+use Rattle.cli_base.specs.Readings.{FileReading, AsksPart, MissingHasCause}
 use Rattle.ebc_cli.specs.Works.{work_of, IsReplyOf, plain_code_limit}
 
 -- a reply is an answer to the words

@@ -1,13 +1,8 @@
 -- Meaning: the commands that words spell: docs/COMMANDS.md, "Commands". Words are seen as their bytes.
-use Rattle.std.specs.Prelude.{ℕ, List, [], ◌∷◌, map, codes, bytes_eq, if◌then◌else◌, ◌&&◌, Option, Some, None, String, Vec, string_bytes}
-use Rattle.std.specs.declared.alloc.Global.{Global}
+use Rattle.std.specs.Prelude.{ℕ, List, [], ◌∷◌, codes, bytes_eq, if◌then◌else◌, ◌&&◌, Option, Some, None}
 use Rattle.ebc_cli.specs.declared.command.Command.{Command}
 use Rattle.ebc_cli.specs.declared.command.Command.TheVariants.{Assemble, CheckCode, CheckImage, Link, ListImage, ListRom, TakeRom, WrapRom}
 use Rattle.ebc_cli.specs.Numbers.{identifier_of, is_number}
-
--- the words as their bytes
-abbrev pub word_bytes : Vec (String Global) Global → List (List ℕ)
-word_bytes words = map string_bytes words.items
 
 -- a word that isn't empty names a file
 abbrev pub of_file : (List ℕ → Command) → List ℕ → Option Command

@@ -1,4 +1,4 @@
--- Meaning: the images, notes, sources, link plans, objects and option ROMs that files hold, or the reply to the first fault:
+-- Meaning: the notes, sources, link plans, objects and option ROMs that files hold, or the reply to the first fault:
 -- docs/COMMANDS.md, "The answer".
 use Rattle.std.specs.Prelude.{◌≡◌, ℕ, ◌-◌, List, length, Result, Ok, Err, slice_get}
 use Rattle.std.specs.Option.{option_map_or}
@@ -22,28 +22,17 @@ use Rattle.option_rom.specs.declared.image.RomImage.{RomImage}
 use Rattle.option_rom.specs.Images.{end_of}
 use Rattle.option_rom.specs.Roms.{rom_of}
 use Rattle.option_rom.specs.Takes.{bytes_taken}
-use Rattle.pe_image.specs.declared.fault.ImageFault.{ImageFault}
 use Rattle.pe_image.specs.declared.image.Image.{Image}
-use Rattle.pe_image.specs.Images.{IsImage, image_of}
-use Rattle.pe_image.specs.Mapped.{AreBytes}
 use Rattle.type_notes.specs.Notes.{notes_of}
-use Rattle.ebc_cli.specs.declared.outcome.Outcome.TheVariants.{BadInput}
-use Rattle.ebc_cli.specs.declared.reply.End.{End}
-use Rattle.ebc_cli.specs.declared.reply.End.TheVariants as ends
-use Rattle.ebc_cli.specs.declared.reply.Reply.{Reply}
-use Rattle.ebc_cli.specs.Faults.{asm_fault_text, image_fault_number, image_fault_text, toml_fault_number, toml_fault_text}
+use Rattle.cli_base.specs.declared.reply.Reply.{Reply}
+use Rattle.ebc_cli.specs.Faults.{asm_fault_text, toml_fault_number, toml_fault_text}
 use Rattle.ebc_cli.specs.Faults.{key_path, link_detail, link_fault_number, link_fault_text, object_fault_number, object_fault_text}
 use Rattle.ebc_cli.specs.Faults.{rom_fault_number, rom_fault_text, take_fault_number, take_fault_text}
 use Rattle.ebc_cli.specs.Numbers.{rom_number}
-use Rattle.ebc_cli.specs.Outputs.{prints}
-use Rattle.ebc_cli.specs.Readings.{FileReading, ◌>>=◌, done, file, large_reply, told}
-use Rattle.ebc_cli.specs.Texts.{bad_line}
+use Rattle.cli_base.specs.Inputs.{bad_reply, or_reply}
+use Rattle.cli_base.specs.Readings.{FileReading, ◌>>=◌, done, file, large_reply, told}
 
 -- ---- limits
-
--- how many bytes the file of an image may have: 4 MiB
-abbrev pub image_limit : ℕ
-image_limit = 4194304
 
 -- how many bytes a text of notes may have: 1 MiB
 abbrev pub notes_limit : ℕ
@@ -66,14 +55,6 @@ abbrev pub rom_limit : ℕ
 rom_limit = 16777216
 
 -- ---- faults
-
--- a file with a fault: its number, its name, and where in the file it stands
-abbrev pub bad_reply : ℕ → List ℕ → ℕ → List ℕ → List ℕ → Reply
-bad_reply word name number fault detail = prints (BadInput word number) (bad_line name fault detail)
-
--- a file that is no image; the fault is told by its offset
-abbrev pub bad_image_reply : ℕ → List ℕ → ImageFault × ℕ → Reply
-bad_image_reply word name (kind, offset) = bad_reply word name (image_fault_number kind) (image_fault_text kind) (decimal offset)
 
 -- a text that stands for no notes; the fault is told by the path of its key
 abbrev pub bad_notes_reply : ℕ → List ℕ → TomlFault → Reply
@@ -111,18 +92,6 @@ bad_taking_reply word name images number kind =
     bad_reply word name (take_fault_number kind) (take_fault_text kind) (decimal (taking_offset images number))
 
 -- ---- what files are read as
-
--- an image that was read is one, and each of its places has a byte
-abbrev pub IsReadImage : Image → Type 0
-IsReadImage image = IsImage image × AreBytes image
-
--- a value, or the reply to a fault
-abbrev pub or_reply : {A E : Type 0} → (E → Reply) → Result A E → Result A Reply
-or_reply reply (Ok x) = Ok x
-or_reply reply (Err fault) = Err (reply fault)
-
-abbrev pub image_meaning : ℕ → List ℕ → List ℕ → Result Image Reply
-image_meaning word name bytes = or_reply (bad_image_reply word name) (image_of bytes)
 
 abbrev pub notes_meaning : ℕ → List ℕ → List ℕ → Result Notes Reply
 notes_meaning word name text = or_reply (bad_notes_reply word name) (notes_of text)
@@ -163,10 +132,3 @@ input_with_bytes limit meaning word name files = do
   bytes ← file word name limit files
   value ← told (meaning word name bytes)
   done (value, bytes)
-
--- what a function made of bytes is their meaning, unless memory ran out
-abbrev pub Means : {A : Type 0} → Result A End → Result A Reply → Type 0
-Means (Ok x) meaning = meaning ≡ Ok x
-Means (Err (ends.Stop reply)) meaning = meaning ≡ Err reply
-Means (Err ends.NoMemory) meaning = Unit {0}
-Means (Err ends.ReadFault) meaning = ⊥

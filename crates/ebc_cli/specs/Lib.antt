@@ -1,11 +1,8 @@
-pub mod Outcomes
-pub mod Outputs
 pub mod Faults
 pub mod Texts
 pub mod RomTexts
 pub mod Numbers
 pub mod Commands
-pub mod Readings
 pub mod Inputs
 pub mod Linkings
 pub mod Works

@@ -5,7 +5,7 @@ use Rattle.ebc_object.specs.declared.object.Object.{Object}
 use Rattle.ebc_outside.specs.Files.{Files}
 use Rattle.pe_image.specs.declared.image.Image.{Image}
 use Rattle.ebc_cli.specs.Inputs.{input, link_meaning, object_limit, object_meaning, plan_limit, plan_meaning}
-use Rattle.ebc_cli.specs.Readings.{FileReading, done, ◌>>=◌, told}
+use Rattle.cli_base.specs.Readings.{FileReading, done, ◌>>=◌, told}
 
 -- the objects of these names, each read whole before the next; a fault of one is told by its own name
 unfoldable pub each_object : List (List ℕ) → Files → FileReading (List Object)

@@ -1,12 +1,8 @@
 -- Meaning: what the program prints: docs/COMMANDS.md, "Printed lines".
 use Rattle.std.specs.Prelude.{ℕ, List, ◌++◌, codes}
-use Rattle.asm_text.specs.Numbers.{hex_text}
 use Rattle.note_types.specs.declared.rule.RuleName.{RuleName}
 use Rattle.note_types.specs.declared.rule.RuleName.TheVariants as rules
-
--- a place, an offset in bytes, in eight hexadecimal digits
-unfoldable pub place_text : ℕ → List ℕ
-place_text place = hex_text 8 place
+use Rattle.run_texts.specs.RunTexts.{place_text}
 
 -- a rule by its name
 abbrev pub rule_text : RuleName → List ℕ
@@ -44,15 +40,3 @@ abbrev pub usage_line : List ℕ
 usage_line =
     codes "usage: asm SRC OBJ | link PLAN IMAGE | check CODE | check IMAGE NOTES | list IMAGE"
     ++ codes " | rom wrap VENDOR DEVICE IMAGE ROM | rom list ROM | rom take ROM NUMBER IMAGE\n"
-
--- a file that the folder doesn't hold
-abbrev pub missing_line : List ℕ → List ℕ
-missing_line name = codes "missing " ++ (name ++ codes "\n")
-
--- a file, or a number, past its limit
-abbrev pub large_line : List ℕ → List ℕ
-large_line name = codes "large " ++ (name ++ codes "\n")
-
--- a file with a fault, and where in it the fault stands
-abbrev pub bad_line : List ℕ → List ℕ → List ℕ → List ℕ
-bad_line name fault detail = codes "bad " ++ (name ++ (codes " " ++ (fault ++ (codes " " ++ (detail ++ codes "\n")))))

@@ -18,19 +18,20 @@ use Rattle.plain_check.specs.declared.verdict.Verdict.TheVariants as verdicts
 use Rattle.plain_check.specs.PlainChecks.{plain_verdict}
 use Rattle.width_checker.specs.Typed.{Typed}
 use Rattle.width_checker.specs.Verdicts.{IsRefused}
-use Rattle.ebc_cli.specs.declared.outcome.Outcome.TheVariants as outcomes
+use Rattle.cli_base.specs.declared.outcome.Outcome.TheVariants as outcomes
 use Rattle.ebc_cli.specs.declared.command.Command.{Command}
 use Rattle.ebc_cli.specs.declared.command.Command.TheVariants as commands
-use Rattle.ebc_cli.specs.declared.reply.Reply.{Reply}
+use Rattle.cli_base.specs.declared.reply.Reply.{Reply}
 use Rattle.ebc_cli.specs.declared.work.Work.{Work}
 use Rattle.ebc_cli.specs.declared.work.Work.TheVariants as works
 use Rattle.ebc_cli.specs.Commands.{command_of}
-use Rattle.ebc_cli.specs.Inputs.{IsReadImage, image_limit, image_meaning, input, input_with_bytes, notes_limit, notes_meaning, source_limit}
+use Rattle.ebc_cli.specs.Inputs.{input, input_with_bytes, notes_limit, notes_meaning, source_limit}
+use Rattle.cli_base.specs.Inputs.{IsReadImage, image_limit, image_meaning}
 use Rattle.ebc_cli.specs.Inputs.{source_meaning}
 use Rattle.ebc_cli.specs.Inputs.{number_meaning, rom_limit, rom_meaning, taking_meaning}
 use Rattle.ebc_cli.specs.Linkings.{linked_image}
-use Rattle.ebc_cli.specs.Outputs.{prints, writes}
-use Rattle.ebc_cli.specs.Readings.{FileReading, done, ◌>>=◌, file, told}
+use Rattle.cli_base.specs.Outputs.{prints, writes}
+use Rattle.cli_base.specs.Readings.{FileReading, done, ◌>>=◌, file, told}
 use Rattle.ebc_cli.specs.RomTexts.{rom_listing}
 use Rattle.ebc_cli.specs.Texts.{neutral_line, refused_line, usage_line}
 

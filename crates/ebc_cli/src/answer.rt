@@ -23,19 +23,19 @@ ghost use Rattle.width_checker.specs.Typed.{Typed};
 ghost use Rattle.width_checker.specs.Verdicts.{IsRefused};
 ghost use Rattle.ebc_cli.specs.Answers.{Answers, AnswersWords, Assembles, Decides, LeavesPart, ChecksCode, ChecksImage, ListsImage, HasBadInput, HasBadLine, HasMissingFile, HasNoText, SameForScripts};
 ghost use Rattle.ebc_cli.specs.Answers.{Links, Wraps, ListsRom, Takes, HasBadLink, HasBadRom, HasBadTaking, IsTooLarge};
-ghost use Rattle.ebc_cli.specs.Commands.{command_of, output_of, word_bytes};
+ghost use Rattle.ebc_cli.specs.Commands.{command_of, output_of};
+ghost use Rattle.cli_base.specs.Words.{word_bytes};
 ghost use Rattle.ebc_cli.specs.Faults.{asm_fault_text, link_detail, link_fault_text, rom_fault_text, take_fault_text};
-ghost use Rattle.ebc_cli.specs.Outcomes.{IsAnswer};
-ghost use Rattle.ebc_cli.specs.Outputs.{SameBut, printed};
-ghost use Rattle.ebc_cli.specs.Readings.{AsksPart, IfStop};
+ghost use Rattle.cli_base.specs.Outcomes.{IsAnswer};
+ghost use Rattle.cli_base.specs.Outputs.{SameBut, printed};
+ghost use Rattle.cli_base.specs.Readings.{AsksPart, IfStop};
 ghost use Rattle.ebc_cli.specs.RomTexts.{rom_listing};
-ghost use Rattle.ebc_cli.specs.Texts.{bad_line, neutral_line, refused_line};
+ghost use Rattle.ebc_cli.specs.Texts.{neutral_line, refused_line};
+ghost use Rattle.cli_base.specs.Texts.{bad_line};
 ghost use Rattle.ebc_cli.specs.Works.{work_of, plain_code_limit};
 
-use crate::finishing::finish;
-use crate::outcome::Outcome;
-use crate::reply::{End, Reply};
 use crate::work::read_work;
+use cli_base::{End, Outcome, Reply, finish};
 use ebc_outside::{Folder, Sink};
 use std::alloc::Global;
 

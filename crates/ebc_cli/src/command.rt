@@ -1,6 +1,7 @@
 //! The commands that words spell.
 ghost use Rattle.std.specs.Prelude.{◌≡◌, [], ◌∷◌, string_bytes, IfOk};
-ghost use Rattle.ebc_cli.specs.Commands.{command_of, word_bytes};
+ghost use Rattle.ebc_cli.specs.Commands.{command_of};
+ghost use Rattle.cli_base.specs.Words.{word_bytes};
 
 use crate::number::{identifier_of, is_number};
 use ebc_base::Name;

@@ -1,49 +1,12 @@
-//! The faults of the files that a command reads: their numbers, and their names as they are printed.
+//! The faults of the files but images that a command reads: their numbers, and their names as they are printed.
 ghost use Rattle.std.specs.Prelude.{◌≡◌};
-ghost use Rattle.ebc_cli.specs.Faults.{asm_fault_text, image_fault_number, image_fault_text, toml_fault_number, toml_fault_text, key_path};
+ghost use Rattle.ebc_cli.specs.Faults.{asm_fault_text, toml_fault_number, toml_fault_text, key_path};
 ghost use Rattle.ebc_cli.specs.Faults.{object_fault_number, object_fault_text, rom_fault_number, rom_fault_text, take_fault_number, take_fault_text};
 
 use ebc_asm::AsmFault;
 use ebc_object::ObjectFault;
 use note_types::TomlFault;
 use option_rom::{RomFault, TakeFault};
-use pe_image::ImageFault;
-
-/// The number of a fault of an image, from 1 to 10.
-pub fn image_fault_number(fault: ImageFault) -> u8
-    ensures { result ≡ image_fault_number fault }
-{
-    match fault {
-        ImageFault::Short => 1,
-        ImageFault::Mz => 2,
-        ImageFault::Pe => 3,
-        ImageFault::Machine => 4,
-        ImageFault::Magic => 5,
-        ImageFault::Section => 6,
-        ImageFault::Overlap => 7,
-        ImageFault::Align => 8,
-        ImageFault::Reloc => 9,
-        ImageFault::Entry => 10,
-    }
-}
-
-/// The name of a fault of an image.
-pub fn image_fault_text(fault: ImageFault) -> &'static str
-    ensures { result.now ≡ image_fault_text fault }
-{
-    match fault {
-        ImageFault::Short => "short",
-        ImageFault::Mz => "mz",
-        ImageFault::Pe => "pe",
-        ImageFault::Machine => "machine",
-        ImageFault::Magic => "magic",
-        ImageFault::Section => "section",
-        ImageFault::Overlap => "overlap",
-        ImageFault::Align => "align",
-        ImageFault::Reloc => "reloc",
-        ImageFault::Entry => "entry",
-    }
-}
 
 /// The number of a fault of a TOML text, from 1 to 6.
 pub fn toml_fault_number(fault: &TomlFault) -> u8

@@ -5,15 +5,15 @@ ghost use Rattle.ebc_object.specs.Objects.{IsObject};
 ghost use Rattle.ebc_outside.specs.Counts.{Rose};
 ghost use Rattle.note_types.specs.Records.{IsNotes};
 ghost use Rattle.option_rom.specs.Takes.{IsTakeable};
-ghost use Rattle.ebc_cli.specs.Inputs.{IsReadImage, Means, image_limit, image_meaning, input, input_with_bytes, notes_limit, notes_meaning, plan_limit, plan_meaning, rom_limit, rom_meaning, source_limit, source_meaning};
-ghost use Rattle.ebc_cli.specs.Outcomes.{IsBadInput};
-ghost use Rattle.ebc_cli.specs.Outputs.{written_name};
-ghost use Rattle.ebc_cli.specs.Readings.{Follows, IfStop, CommandAnswer};
-ghost use Rattle.ebc_cli.specs.declared.reply.Reply.{Reply};
+ghost use Rattle.ebc_cli.specs.Inputs.{input, input_with_bytes, notes_limit, notes_meaning, plan_limit, plan_meaning, rom_limit, rom_meaning, source_limit, source_meaning};
+ghost use Rattle.cli_base.specs.Inputs.{IsReadImage, Means, image_limit, image_meaning};
+ghost use Rattle.cli_base.specs.Outcomes.{IsBadInput};
+ghost use Rattle.cli_base.specs.Outputs.{written_name};
+ghost use Rattle.cli_base.specs.Readings.{Follows, IfStop, CommandAnswer};
+ghost use Rattle.cli_base.specs.declared.reply.Reply.{Reply};
 
-use crate::reading::file;
-use crate::reply::End;
 use crate::text;
+use cli_base::{End, IMAGE_LIMIT, file, image_in};
 use ebc_asm::{AsmEnd, assemble};
 use ebc_base::Sequence;
 use ebc_link::{LinkPlan, read_plan};
@@ -21,7 +21,7 @@ use ebc_object::Object;
 use ebc_outside::Folder;
 use note_types::{Notes, NotesEnd};
 use option_rom::{RomEnd, RomImages, read_rom};
-use pe_image::{Image, ImageEnd, read_image};
+use pe_image::Image;
 use std::alloc::Global;
 use type_notes::read_notes;
 
@@ -112,16 +112,10 @@ impl Input for Image {
 
     ghost LIMIT = { image_limit };
 
-    const LIMIT: u64 = 4194304;
+    const LIMIT: u64 = IMAGE_LIMIT;
 
     fn of(alloc: Global, word: u8, name: &str, bytes: &[u8]) -> Result<Image, End> {
-        match read_image(alloc, bytes) {
-            Ok(image) => Ok(image),
-            Err(ImageEnd::Fault { kind, offset }) => Err(End::Stop(text::bad_image(
-                alloc, word, name, kind, offset,
-            )?)),
-            Err(ImageEnd::NoMemory) => Err(End::NoMemory),
-        }
+        image_in(alloc, word, name, bytes)
     }
 }
 

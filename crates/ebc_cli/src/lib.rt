@@ -9,17 +9,13 @@
 mod answer;
 mod command;
 mod fault;
-mod finishing;
 mod input;
 mod linking;
 mod number;
-mod outcome;
-mod reading;
-mod reply;
 mod rom_text;
 mod text;
 mod work;
 
 pub use answer::ebc;
-pub use outcome::Outcome;
+pub use cli_base::Outcome;
 pub use width_checker::RuleName;

@@ -4,16 +4,17 @@ ghost use Rattle.ebc_link.specs.Plans.{IsPlan};
 ghost use Rattle.ebc_object.specs.Objects.{IsObject};
 ghost use Rattle.ebc_outside.specs.Counts.{Rose};
 ghost use Rattle.pe_image.specs.Linked.{IsLinked};
-ghost use Rattle.ebc_cli.specs.Inputs.{Means, bad_reply, input, link_meaning, object_limit, object_meaning};
+ghost use Rattle.ebc_cli.specs.Inputs.{input, link_meaning, object_limit, object_meaning};
+ghost use Rattle.cli_base.specs.Inputs.{Means, bad_reply};
 ghost use Rattle.ebc_cli.specs.Linkings.{each_object, linked_by, linked_image};
-ghost use Rattle.ebc_cli.specs.Outcomes.{IsBadInput};
-ghost use Rattle.ebc_cli.specs.Outputs.{written_name};
-ghost use Rattle.ebc_cli.specs.Readings.{Follows, IfStop, CommandAnswer};
+ghost use Rattle.cli_base.specs.Outcomes.{IsBadInput};
+ghost use Rattle.cli_base.specs.Outputs.{written_name};
+ghost use Rattle.cli_base.specs.Readings.{Follows, IfStop, CommandAnswer};
 
 use crate::input::read_as;
-use crate::reading::file;
-use crate::reply::End;
 use crate::text;
+use cli_base::text::bad;
+use cli_base::{End, file};
 use ebc_base::{Name, Sequence};
 use ebc_link::{LinkEnd, LinkPlan, link};
 use ebc_object::{Object, ObjectEnd, read_object};
@@ -84,7 +85,7 @@ fn unlinked(alloc: Global, name: &str, number: u8, fault: &str, detail: &str) ->
     ensures stop { IfStop result (λ reply. IsBadInput reply.outcome) }
     ensures output { IfStop result (λ reply. written_name reply.output ≡ None) }
 {
-    Err(End::Stop(text::bad(alloc, 1, name, number, fault, detail)?))
+    Err(End::Stop(bad(alloc, 1, name, number, fault, detail)?))
 }
 
 // What the objects are linked to, or the answer to the first fault.

@@ -2,9 +2,9 @@
 ghost use Rattle.std.specs.Prelude.{◌≡◌, ◌+◌, ◌<◌, ◌++◌, drop, length, Some, IfOk, OnOk, string_bytes};
 ghost use Rattle.ebc_cli.specs.RomTexts.{compression_text, efi_text, last_mark, machine_text, rom_line, rom_lines, rom_listing};
 
-use crate::text::Place;
 use ebc_base::NoMemory;
 use option_rom::{EfiPart, RomImage};
+use run_texts::Place;
 use std::alloc::{AllocError, Global};
 use std::fmt;
 

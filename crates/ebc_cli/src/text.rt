@@ -1,43 +1,25 @@
 //! The lines that are printed.
 ghost use Rattle.std.specs.Prelude.{◌≡◌, Some, IfOk, string_bytes};
 ghost use Rattle.option_rom.specs.Images.{end_of};
-ghost use Rattle.ebc_cli.specs.Texts.{place_text, rule_text};
-ghost use Rattle.ebc_cli.specs.Readings.{missing_reply, large_reply};
-ghost use Rattle.ebc_cli.specs.Inputs.{bad_reply, bad_image_reply, bad_notes_reply, bad_source_reply, bad_rom_reply, bad_taking_reply, taking_offset};
+ghost use Rattle.ebc_cli.specs.Texts.{rule_text};
+ghost use Rattle.ebc_cli.specs.Inputs.{bad_notes_reply, bad_source_reply, bad_rom_reply, bad_taking_reply, taking_offset};
 ghost use Rattle.ebc_cli.specs.Inputs.{bad_object_reply, bad_plan_reply};
-ghost use Rattle.ebc_cli.specs.Outputs.{prints};
 ghost use Rattle.ebc_cli.specs.Works.{verdict_reply, listing_reply, file_reply, usage_reply};
 
 use crate::fault::{
-    asm_fault_text, image_fault_number, image_fault_text, key_path, object_fault_number,
-    object_fault_text, rom_fault_number, rom_fault_text, take_fault_number, take_fault_text,
-    toml_fault_number, toml_fault_text,
+    asm_fault_text, key_path, object_fault_number, object_fault_text, rom_fault_number,
+    rom_fault_text, take_fault_number, take_fault_text, toml_fault_number, toml_fault_text,
 };
-use crate::outcome::Outcome;
-use crate::reply::{Output, Reply};
+use cli_base::text::{bad, printed};
+use cli_base::{Outcome, Output, Reply};
 use ebc_asm::AsmFault;
 use ebc_base::{Name, Sequence};
 use ebc_object::ObjectFault;
 use note_types::TomlFault;
 use option_rom::{RomFault, RomImage, TakeFault};
-use pe_image::ImageFault;
+use run_texts::Place;
 use std::alloc::{AllocError, Global};
-use std::fmt;
 use width_checker::{RuleName, Verdict};
-
-/// A place, an offset in bytes, printed in eight hexadecimal digits.
-#[derive(Clone, Copy, PartialEq, Eq)]
-pub struct Place(pub u32);
-
-impl fmt::Display for Place {
-    ghost output = { λ p. Some (place_text p.0) };
-
-    #[tactic(auto, using(crate::proofs::HexLemmas::place))]
-    fn fmt<W: fmt::Write>(&self, f: &mut fmt::Formatter<W>) -> fmt::Result {
-        let place = self.0;
-        write!(f, "{place:08x}")
-    }
-}
 
 // The name of a rule, as it is printed.
 fn rule_text(rule: RuleName) -> &'static str
@@ -67,16 +49,6 @@ fn rule_text(rule: RuleName) -> &'static str
         RuleName::Return => "return",
         RuleName::Below => "below",
         RuleName::End => "end",
-    }
-}
-
-// The answer that prints a text.
-fn printed(outcome: Outcome, text: Vec<u8>) -> Reply
-    ensures { result ≡ prints outcome text.items }
-{
-    Reply {
-        outcome,
-        output: Output::Text(Sequence::new(text)),
     }
 }
 
@@ -126,65 +98,6 @@ pub fn usage(alloc: Global) -> Result<Reply, AllocError>
     let text =
         b"usage: asm SRC OBJ | link PLAN IMAGE | check CODE | check IMAGE NOTES | list IMAGE | rom wrap VENDOR DEVICE IMAGE ROM | rom list ROM | rom take ROM NUMBER IMAGE\n";
     Ok(printed(Outcome::BadWords, text.to_vec(alloc)?))
-}
-
-/// The answer where the folder has no file of the name.
-pub fn missing(alloc: Global, word: u8, name: &str) -> Result<Reply, AllocError>
-    ensures { IfOk result (λ r. r ≡ missing_reply word name.now) }
-{
-    let text = format!(in alloc; "missing {name}\n")?.into_bytes();
-    Ok(printed(Outcome::Missing { word }, text))
-}
-
-/// The answer where the file of the name, or the number that is this word, is past its limit.
-pub fn large(alloc: Global, word: u8, name: &str) -> Result<Reply, AllocError>
-    ensures { IfOk result (λ r. r ≡ large_reply word name.now) }
-{
-    let text = format!(in alloc; "large {name}\n")?.into_bytes();
-    Ok(printed(Outcome::TooLarge { word }, text))
-}
-
-/// The answer where the file of the name has a fault, by its number, its name and where in the file it stands.
-pub fn bad(
-    alloc: Global,
-    word: u8,
-    name: &str,
-    number: u8,
-    fault: &str,
-    detail: &str,
-) -> Result<Reply, AllocError>
-    ensures { IfOk result (λ r. r ≡ bad_reply word name.now number fault.now detail.now) }
-{
-    let text = format!(in alloc; "bad {name} {fault} {detail}\n")?.into_bytes();
-    Ok(printed(
-        Outcome::BadInput {
-            word,
-            fault: number,
-        },
-        text,
-    ))
-}
-
-/// The answer where the file of the name is no image, by a fault at an offset.
-pub fn bad_image(
-    alloc: Global,
-    word: u8,
-    name: &str,
-    kind: ImageFault,
-    offset: u64,
-) -> Result<Reply, AllocError>
-    ensures { IfOk result (λ r. r ≡ bad_image_reply word name.now (kind, offset)) }
-{
-    let detail = format!(in alloc; "{offset}")?;
-    let number = image_fault_number(kind);
-    bad(
-        alloc,
-        word,
-        name,
-        number,
-        image_fault_text(kind),
-        detail.as_str(),
-    )
 }
 
 /// The answer where the file of the name stands for no notes.

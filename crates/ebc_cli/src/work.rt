@@ -5,21 +5,23 @@ ghost use Rattle.note_types.specs.Records.{IsNotes};
 ghost use Rattle.option_rom.specs.Roms.{rom_of};
 ghost use Rattle.option_rom.specs.Takes.{IsTakeable};
 ghost use Rattle.ebc_cli.specs.Answers.{AnswersWords};
-ghost use Rattle.ebc_cli.specs.Commands.{command_of, output_of, word_bytes};
-ghost use Rattle.ebc_cli.specs.Outcomes.{IsWorkAnswer};
-ghost use Rattle.ebc_cli.specs.Readings.{Follows, IfStop, CommandAnswer};
-ghost use Rattle.ebc_cli.specs.Outputs.{written_name};
-ghost use Rattle.ebc_cli.specs.Inputs.{Means, number_meaning, taking_meaning};
+ghost use Rattle.ebc_cli.specs.Commands.{command_of, output_of};
+ghost use Rattle.cli_base.specs.Words.{word_bytes};
+ghost use Rattle.cli_base.specs.Outcomes.{IsWorkAnswer};
+ghost use Rattle.cli_base.specs.Readings.{Follows, IfStop, CommandAnswer};
+ghost use Rattle.cli_base.specs.Outputs.{written_name};
+ghost use Rattle.ebc_cli.specs.Inputs.{number_meaning, taking_meaning};
+ghost use Rattle.cli_base.specs.Inputs.{Means};
 ghost use Rattle.ebc_cli.specs.Works.{CanBeDone, IsReplyTo, image_check, output_name, rom_taking, rom_taking_of, rom_wrapping, work_of};
 
 use crate::command::{Command, command_of};
 use crate::input::{read_as, read_with_bytes};
 use crate::linking::read_linked;
 use crate::number::rom_number;
-use crate::reading::file;
-use crate::reply::{End, Reply};
 use crate::rom_text::rom_listing;
 use crate::text;
+use cli_base::text::large;
+use cli_base::{End, Reply, file};
 use ebc_base::{Name, NoMemory, Sequence};
 use ebc_disasm::list;
 use ebc_object::{Object, write_object};
@@ -207,7 +209,7 @@ fn number_of(alloc: Global, word: u8, digits: &str) -> Result<u32, End>
 {
     match rom_number(digits) {
         Some(number) => Ok(number),
-        None => Err(End::Stop(text::large(alloc, word, digits)?)),
+        None => Err(End::Stop(large(alloc, word, digits)?)),
     }
 }
 

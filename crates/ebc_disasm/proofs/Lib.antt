@@ -1,6 +1,8 @@
 pub mod Targets
 pub mod Coming
 pub mod Lines
+pub mod CodeLines
+pub mod CodeWalk
 pub mod Fits
 pub mod Firsts
 pub mod Spots

@@ -50,9 +50,9 @@ fn section_byte(s: &Section, place: u64) -> u8
     s.bytes.as_slice().get(at).copied().unwrap_or(0)
 }
 
-// The byte at a place: 0 in no section.
+/// The byte at a place: 0 in no section. It takes time in proportion to the number of digits of the number of sections.
 #[tactic(auto, unfolding(pe_image::specs::Mapped::laid, pe_image::specs::Mapped::section_with))]
-fn byte_at(image: &Image, place: u64) -> u8
+pub fn byte_at(image: &Image, place: u64) -> u8
     requires { IsImage image.now }
     ensures { result ≡ image_byte image.now place }
 {

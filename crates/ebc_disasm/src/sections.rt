@@ -5,7 +5,7 @@ ghost use Rattle.std.specs.List.{list_any};
 ghost use Rattle.pe_image.specs.Images.{IsImage, IsSection};
 ghost use Rattle.asm_text.specs.Writing.{ListedFits};
 ghost use Rattle.ebc_disasm.specs.Listings.{has_code, heading, item_at, label_lines, labels, line_text, section_lines, text_of};
-ghost use Rattle.ebc_disasm.specs.Walks.{IsComing, is_at};
+ghost use Rattle.ebc_disasm.specs.Walks.{IsComing, ItemFits, is_at};
 
 use crate::bytes::bytes_of;
 use crate::items::{Spot, is_at, item_at};
@@ -54,6 +54,49 @@ fn append_labels(
     Ok(())
 }
 
+// What comes next at a place: its label, what is listed there with the count of its bytes, and what is to come behind.
+#[derive(Clone, Copy)]
+pub(crate) struct Next<'a> {
+    pub label: Option<u32>,
+    pub line: Listed,
+    pub count: usize,
+    pub coming: Coming<'a>,
+}
+
+// What comes next at a place, where some bytes begin.
+pub(crate) fn next_at<'a>(
+    image: &Image,
+    code: bool,
+    place: u32,
+    bytes: &[u8],
+    coming: Coming<'a>,
+) -> Next<'a>
+    requires image { IsImage image.now }
+    requires within { place + length bytes.now < 2 ^ 23 }
+    requires some { 0 < length bytes.now }
+    requires coming { IsComing image.now place coming.relocs.now coming.labels.now }
+    ensures label { list_any (nat_eq place) (labels image.now) ≡ is_at place result.label }
+    ensures item { (result.line, result.count) ≡ item_at image.now code place bytes.now }
+    ensures fits { ItemFits (length bytes.now) (result.line, result.count) }
+    ensures coming { IsComing image.now (place + 1) result.coming.relocs.now result.coming.labels.now }
+{
+    let relocs = past(coming.relocs, 8, place);
+    let here = past(coming.labels, 1, place);
+    let labels = past(here, 1, place + 1);
+    let spot = Spot {
+        place,
+        reloc: relocs.first().copied(),
+        label: labels.first().copied(),
+    };
+    let (line, count) = item_at(image, code, spot, bytes);
+    Next {
+        label: here.first().copied(),
+        line,
+        count,
+        coming: Coming { relocs, labels },
+    }
+}
+
 // Appends the lines of a place, and says how many bytes are listed by them, and what is to come.
 fn append_item<'a>(
     alloc: Global,
@@ -72,21 +115,14 @@ fn append_item<'a>(
     ensures count { IfOk result (λ p. (p.0 ≡ (item_at image.now code place bytes.now).1) × (1 ≤ p.0) × (p.0 ≤ length bytes.now)) }
     ensures coming { IfOk result (λ p. IsComing image.now (place + 1) p.1.relocs.now p.1.labels.now) }
 {
-    let relocs = past(coming.relocs, 8, place);
-    let here = past(coming.labels, 1, place);
-    append_labels(alloc, image, place, here.first().copied(), out)?;
-    let labels = past(here, 1, place + 1);
-    let spot = Spot {
-        place,
-        reloc: relocs.first().copied(),
-        label: labels.first().copied(),
-    };
-    let (line, count) = item_at(image, code, spot, bytes);
-    append_line(alloc, line, out)?;
-    Ok((count, Coming { relocs, labels }))
+    let next = next_at(image, code, place, bytes, coming);
+    append_labels(alloc, image, place, next.label, out)?;
+    append_line(alloc, next.line, out)?;
+    Ok((next.count, next.coming))
 }
 
-fn has_code(section: &Section) -> bool
+// Whether a section has code.
+pub(crate) fn has_code(section: &Section) -> bool
     ensures { result ≡ has_code section.now }
 {
     section.flags / 32 % 2 == 1

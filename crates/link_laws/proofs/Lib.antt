@@ -29,3 +29,8 @@ pub mod Immediates
 pub mod Beside
 pub mod Holding
 pub mod Loaded
+pub mod Fitted
+pub mod ListedAgain
+pub mod Once
+pub mod Numbers
+pub mod OneLinked

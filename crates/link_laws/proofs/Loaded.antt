@@ -49,6 +49,7 @@ use Rattle.ebc_link.specs.declared.plan.LinkPlan.{LinkPlan}
 use Rattle.link_laws.proofs.Apart.{laid_inside}
 use Rattle.link_laws.proofs.Beside.{IsAside, IsBeside, address_aside, all_beside, aside_free, before_number, ends_here, knows_back}
 use Rattle.link_laws.proofs.Beside.{line_byte, line_fixups, own_fixup}
+use Rattle.link_laws.proofs.Fitted.{insn_is_read}
 use Rattle.link_laws.proofs.Holding.{IsFar, holds_address, holds_distance}
 use Rattle.link_laws.proofs.Immediates.{TakesNumber, takes_number}
 use Rattle.link_laws.proofs.Lists.{each_of}
@@ -549,15 +550,21 @@ are_fit : (ls : List Line) → AllByRecursion IsRead ls → AreFit ls
 are_fit [] all = tt
 are_fit (l ∷ ls) all = (line_fits all.0.0 l all.0.1, are_fit ls all.1)
 
+read_here : (front back : List Line) (line : Line) → AllByRecursion IsRead (front ++ line ∷ back) → IsRead line
+read_here [] back line all = all.0
+read_here (l ∷ ls) back line all = read_here ls back line all.1
+
 pub linked_loads : LinkedLoads
-linked_loads objects plan image base l front back line i name linked bytes all there is read_ statement fits code =
+linked_loads objects plan image base l front back line i name linked bytes all there is read_ statement code =
+    let each : AllByRecursion IsRead (front ++ line ∷ back) = recursion_from_All IsRead (front ++ line ∷ back) read_ in
+    let here : IsRead line = read_here front back line each in
     line_loads objects plan image base l front back line i name (record {
       linked = linked;
       all = all;
       bytes = bytes;
       there = there;
       is = is;
-      fit = are_fit (front ++ line ∷ back) (recursion_from_All IsRead (front ++ line ∷ back) read_);
+      fit = are_fit (front ++ line ∷ back) each;
       statement = statement;
       code = code;
-    }) fits
+    }) (insn_is_read here.0 line i name here.1 statement)

@@ -14,7 +14,6 @@ use Rattle.ebc_decode.specs.Reading.{read}
 use Rattle.ebc_object.specs.Objects.{IsObject}
 use Rattle.ebc_object.specs.declared.object.Object.{Object}
 use Rattle.ebc_object.specs.declared.object.Symbol.{Symbol}
-use Rattle.asm_text.specs.Instructions.{InsnFits}
 use Rattle.asm_text.specs.Lines.{Line, line_in}
 use Rattle.asm_text.specs.Statements as statements
 use Rattle.ebc_asm.specs.Pieces.{ends_in_data, immediate_size, is_distance, section_of}
@@ -65,13 +64,13 @@ line_place l front = l.home.code + length (section_of false false front)
 abbrev pub IsDecoded : Image → ℕ → ℕ → Insn → ℕ → Type 0
 IsDecoded image base p j n = read (window (mapped image base) p (image.size - p)) ≡ Ok (j, n)
 
--- Where an object that is linked is that of lines that are read, each instruction in its code, which is as it is read, stands in
--- the image, loaded at any base: what is decoded behind the object's code before it is the instruction with its symbols resolved.
+-- Where an object that is linked is that of lines that are read, each instruction in its code stands in the image, loaded at any
+-- base: what is decoded behind the object's code before it is the instruction with its symbols resolved.
 abbrev pub LinkedLoads : Type 0
 LinkedLoads =
     (objects : List Object) (plan : LinkPlan) (image : Image) (base : ℕ) (l : Laid) (front back : List Line) (line : Line) (i : Insn)
     (name : Option (List ℕ)) → Linked objects plan image → AreBytes image → All IsObject objects → Contains (laid_objects objects) l
     → l.object ≡ object_in (front ++ line ∷ back) → All IsRead (front ++ line ∷ back)
-    → line.statement ≡ Some (statements.Instruction i name) → InsnFits (i, name) → ends_in_data false front ≡ false
+    → line.statement ≡ Some (statements.Instruction i name) → ends_in_data false front ≡ false
     → (j : Insn) × IsResolved (laid_objects objects) l base (line_place l front + length (spelling i)) i name j
     × IsDecoded image base (line_place l front) j (length (spelling i))

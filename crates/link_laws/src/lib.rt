@@ -3,8 +3,13 @@
 //! docs/crates/link_laws.md says what the laws are for; specs/Laws.antt and specs/Loads.antt have them.
 #![tactic(auto)]
 
+mod relinking;
+
+ghost use Rattle.link_laws.specs.Fixes.{LinkedAgree};
 ghost use Rattle.link_laws.specs.Laws.{ListsAgain};
 ghost use Rattle.link_laws.specs.Loads.{LinkedLoads};
+
+pub use relinking::relinked;
 
 /// The listing of an image in the linker's layout, assembled and linked, is the image again.
 #[tactic(auto, using(crate::proofs::Again::lists_again))]
@@ -15,4 +20,10 @@ pub fn listings_link_again()
 /// Each instruction of a source stands in the loaded image that its object is linked to, with what its name stands for.
 pub fn linked_images_load()
     ensures loads { LinkedLoads }
+{}
+
+/// Where no name is defined twice, two images that objects are linked to by a plan agree: what `Linked` says of an image fixes its bytes,
+/// its relocations and its entry.
+pub fn linked_images_agree()
+    ensures agree { LinkedAgree }
 {}

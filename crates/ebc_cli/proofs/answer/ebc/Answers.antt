@@ -5,9 +5,10 @@ use Rattle.ebc_cli.proofs.HeadlineLemmas.{links-always, links-exactly, bad-link-
 use Rattle.ebc_cli.proofs.HeadlineLemmas.{lists-rom-always, lists-rom-exactly, takes-always, takes-exactly, bad-rom-line, bad-taking-line}
 use Rattle.ebc_cli.proofs.HeadlineLemmas.{bad-input, missing, too-large, neutral-printed, refused-printed, plain-alike, plain-exactly}
 use Rattle.ebc_cli.proofs.HeadlineLemmas.{plain-refused, plain-neutral-printed, plain-refused-printed, unput, untold}
-use Rattle.ebc_cli.proofs.OutputLemmas.{but-output, writes-none}
-use Rattle.ebc_cli.specs.Commands.{command_of, output_of, word_bytes}
-use Rattle.ebc_cli.specs.Outputs.{written_name}
+use Rattle.cli_base.proofs.OutputLemmas.{but-output, writes-none}
+use Rattle.ebc_cli.specs.Commands.{command_of, output_of}
+use Rattle.cli_base.specs.Words.{word_bytes}
+use Rattle.cli_base.specs.Outputs.{written_name}
 use Rattle.ebc_cli.proofs.answer.ebc.Goals as goal
 use Rattle.ebc_cli.proofs.answer.ebc.Goals.{in-Ok, in-Err-Stop, Joined-reply}
 use Rattle.ebc_cli.proofs.answer.ebc.Given.{Over}

@@ -8,4 +8,4 @@ pub returns-clause-lines : goal.returns-clause-lines
 returns-clause-lines c =
     item_lines (label_lines c.args.image.now c.args.place) (item_at c.args.image.now c.args.code c.args.place c.args.bytes.now).0
     c.args.out.now.items c.append_labels.new.out.items c.append_line.new.out.items c.in_ok-append_labels.ensures
-    (c.in_ok-append_line.ensures ∙ ap (λ (p : Listed × ℕ). c.append_labels.new.out.items ++ line_text p.0) c.item_at-line.ensures.same)
+    (c.in_ok-append_line.ensures ∙ ap (λ (p : Listed × ℕ). c.append_labels.new.out.items ++ line_text p.0) c.next_at-next.ensures.item)

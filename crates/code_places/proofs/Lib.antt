@@ -1,0 +1,2 @@
+mod ByteLines
+mod ShownLemmas

@@ -1,0 +1,227 @@
+-- An instruction of a line that is read has a spelling, and its name, if any, stands where one may.
+use Rattle.std.proofs.Common.{◌≡◌, inl, inr, ℕ, List, [], ◌∷◌, Option, Some, None, Result, Ok, Err, Bool, true, false, refl, subst, cond}
+use Rattle.std.specs.Prelude.{⊤, IfOk, option_map, option_and_then, if◌then◌else◌, ◌==◌, ◌&&◌, codes, bytes_eq}
+use Rattle.ebc_base.specs.Steps.{◌>>=◌, or_else}
+use Rattle.ebc_base.specs.Names.{is_name}
+use Rattle.ebc_insn.specs.declared.Insn.{Insn}
+use Rattle.ebc_insn.specs.declared.Size.{Size}
+use Rattle.ebc_insn.specs.declared.Size.TheVariants as sizes
+use Rattle.asm_text.specs.declared.fault.AsmFault.{AsmFault}
+use Rattle.asm_text.specs.declared.form.Form.{Form}
+use Rattle.asm_text.specs.declared.form.Form.TheVariants as forms
+use Rattle.asm_text.specs.declared.directive.Directive.{Directive}
+use Rattle.asm_text.specs.declared.directive.Directive.TheVariants as directives
+use Rattle.asm_text.specs.Faults.{both}
+use Rattle.asm_text.specs.Instructions.{InsnFits, insn_in, insn_of}
+use Rattle.asm_text.specs.Lines as lines
+use Rattle.asm_text.specs.Lines.{Line, line_in, parted, statement_in}
+use Rattle.asm_text.specs.Mnemonics.{FormFits, arith_of, bits_at, call_end, call_form, cmp_of, compare_form}
+use Rattle.asm_text.specs.Mnemonics.{compare_imm_form, cond_of, form_of, jump_end, jump_form, long_at, move_form, move_imm_form}
+use Rattle.asm_text.specs.Mnemonics.{move_imm_letters}
+use Rattle.asm_text.specs.Mnemonics.{move_letters, other_form, relative_letter, signed_form, size_at, stem_form, stem_of}
+use Rattle.asm_text.specs.Mnemonics.{wide_of}
+use Rattle.asm_text.specs.Splits.{trim, trim_front, until, without_comment, is_empty, word_part}
+use Rattle.asm_text.specs.Statements as statements
+use Rattle.asm_text.specs.Statements.{Statement, directed, directive_of, instruction, name, starts_point, statement_of}
+use Rattle.asm_text.proofs.Fitting.{any_ok, insn_fits, kept_both, kept_made}
+
+-- ---- the forms of mnemonics
+
+abbrev FitsForm : Option Form → Type 0
+FitsForm None = ⊤
+FitsForm (Some f) = FormFits f
+
+if_fits : (b : Bool) (o p : Option Form) → FitsForm o → FitsForm p → FitsForm (if b then o else p)
+if_fits true o p h g = h
+if_fits false o p h g = g
+
+map_fits : {A : Type 0} (f : A → Form) (o : Option A) → ((a : A) → FormFits (f a)) → FitsForm (option_map f o)
+map_fits f None h = tt
+map_fits f (Some a) h = h a
+
+then_fits : {A : Type 0} (f : A → Option Form) (o : Option A) → ((a : A) → FitsForm (f a)) → FitsForm (option_and_then f o)
+then_fits f None h = tt
+then_fits f (Some a) h = h a
+
+bits_index : (one two three : Bool) (f : ℕ → Option Form) → FitsForm (f 16) → FitsForm (f 32) → FitsForm (f 64) →
+    FitsForm (option_and_then f (if one then Some 16 else if two then Some 32 else if three then Some 64 else None))
+bits_index true two three f h g i = h
+bits_index false true three f h g i = g
+bits_index false false true f h g i = i
+bits_index false false false f h g i = tt
+
+bits_fits : (b : ℕ) (f : ℕ → Option Form) → FitsForm (f 16) → FitsForm (f 32) → FitsForm (f 64) → FitsForm (option_and_then f (bits_at b))
+bits_fits b f h g i = bits_index (b == 119) (b == 100) (b == 113) f h g i
+
+move_fits : (size : Size) (b : ℕ) → FitsForm (option_and_then (λ bits. move_form size bits) (bits_at b))
+move_fits sizes.Byte b = bits_fits b (λ bits. move_form sizes.Byte bits) (inl refl) (inr refl) tt
+move_fits sizes.Word b = bits_fits b (λ bits. move_form sizes.Word bits) (inl refl) (inr refl) tt
+move_fits sizes.Dword b = bits_fits b (λ bits. move_form sizes.Dword bits) (inl refl) (inr refl) tt
+move_fits sizes.Qword b = bits_fits b (λ bits. move_form sizes.Qword bits) (inl refl) (inr (inl refl)) (inr (inr refl))
+move_fits sizes.Natural b = bits_fits b (λ bits. move_form sizes.Natural bits) (inl refl) (inr refl) tt
+
+move_imm_fits : (size : Size) (b : ℕ) → FitsForm (option_and_then (λ bits. move_imm_form size bits) (bits_at b))
+move_imm_fits sizes.Byte b = bits_fits b (λ bits. move_imm_form sizes.Byte bits) (inl refl, tt) (inr (inl refl), tt) (inr (inr refl), tt)
+move_imm_fits sizes.Word b = bits_fits b (λ bits. move_imm_form sizes.Word bits) (inl refl, tt) (inr (inl refl), tt) (inr (inr refl), tt)
+move_imm_fits sizes.Dword b = bits_fits b (λ bits. move_imm_form sizes.Dword bits) (inl refl, tt) (inr (inl refl), tt) (inr (inr refl), tt)
+move_imm_fits sizes.Qword b = bits_fits b (λ bits. move_imm_form sizes.Qword bits) (inl refl, tt) (inr (inl refl), tt) (inr (inr refl), tt)
+move_imm_fits sizes.Natural b = bits_fits b (λ bits. move_imm_form sizes.Natural bits) (inl refl) (inr (inl refl)) (inr (inr refl))
+
+letters_fit : (s : List ℕ) → FitsForm (move_letters s)
+letters_fit [] = tt
+letters_fit (s ∷ []) = tt
+letters_fit (s ∷ w ∷ []) = then_fits (λ size. option_and_then (λ bits. move_form size bits) (bits_at w)) (size_at s)
+    (λ size. move_fits size w)
+letters_fit (s ∷ n ∷ w ∷ []) = if_fits (s == 115 && n == 110) (option_and_then signed_form (bits_at w)) None
+    (bits_fits w signed_form (inl refl) (inr refl) tt) tt
+letters_fit (s ∷ n ∷ w ∷ x ∷ rest) = tt
+
+imm_letters_fit : (s : List ℕ) → FitsForm (move_imm_letters s)
+imm_letters_fit [] = tt
+imm_letters_fit (s ∷ []) = tt
+imm_letters_fit (s ∷ w ∷ []) =
+    then_fits (λ size. option_and_then (λ bits. move_imm_form size bits) (bits_at w)) (size_at s) (λ size. move_imm_fits size w)
+imm_letters_fit (s ∷ w ∷ x ∷ rest) = tt
+
+mapped_bits : (one two three : Bool) →
+    FitsForm (option_map (λ bits. forms.MoveRelative bits)
+    (if one then Some 16 else if two then Some 32 else if three then Some 64 else None))
+mapped_bits true two three = inl refl
+mapped_bits false true three = inr (inl refl)
+mapped_bits false false true = inr (inr refl)
+mapped_bits false false false = tt
+
+relative_fits : (s : List ℕ) → FitsForm (relative_letter s)
+relative_fits [] = tt
+relative_fits (w ∷ []) = mapped_bits (w == 119) (w == 100) (w == 113)
+relative_fits (w ∷ x ∷ rest) = tt
+
+jump_end_fits : (far : Bool) (s : List ℕ) → FitsForm (jump_end far s)
+jump_end_fits far [] = tt
+jump_end_fits far (b ∷ bs) = if_fits (b == 97) _ _ (map_fits (λ c. forms.Jump c far false) (cond_of bs) (λ c. tt))
+    (map_fits (λ c. forms.Jump c far true) (cond_of (b ∷ bs)) (λ c. tt))
+
+jump_fits : (s : List ℕ) → FitsForm (jump_form s)
+jump_fits [] = tt
+jump_fits (b ∷ []) = if_fits (b == 56) _ None tt tt
+jump_fits (b ∷ c ∷ rest) = if_fits (b == 56) _ _ (map_fits (λ d. forms.Jump8 d) (cond_of (c ∷ rest)) (λ d. tt))
+    (then_fits (λ far. jump_end far rest) (wide_of (b ∷ c ∷ [])) (λ far. jump_end_fits far rest))
+
+call_end_fits : (far : Bool) (s : List ℕ) → FitsForm (call_end far s)
+call_end_fits far s = if_fits (bytes_eq s []) _ _ tt (if_fits (bytes_eq s (codes "a")) _ _ tt
+    (if_fits (bytes_eq s (codes "EX")) _ _ tt (if_fits (bytes_eq s (codes "EXa")) _ None tt tt)))
+
+call_fits : (s : List ℕ) → FitsForm (call_form s)
+call_fits [] = tt
+call_fits (b ∷ []) = tt
+call_fits (b ∷ c ∷ rest) = then_fits (λ far. call_end far rest) (wide_of (b ∷ c ∷ [])) (λ far. call_end_fits far rest)
+
+compare_fits : (s : List ℕ) → FitsForm (compare_form s)
+compare_fits [] = tt
+compare_fits (b ∷ []) = tt
+compare_fits (b ∷ c ∷ rest) = then_fits (λ wide. option_map (λ op. forms.Compare op wide) (cmp_of rest)) (wide_of (b ∷ c ∷ []))
+    (λ wide. map_fits (λ op. forms.Compare op wide) (cmp_of rest) (λ op. tt))
+
+compare_imm_fits : (s : List ℕ) → FitsForm (compare_imm_form s)
+compare_imm_fits [] = tt
+compare_imm_fits (b ∷ []) = tt
+compare_imm_fits (b ∷ c ∷ []) = tt
+compare_imm_fits (b ∷ c ∷ d ∷ rest) =
+    then_fits (λ wide. option_and_then (λ long. option_map (λ op. forms.CompareImm op wide long) (cmp_of rest)) (long_at d))
+    (wide_of (b ∷ c ∷ []))
+    (λ wide. then_fits (λ long. option_map (λ op. forms.CompareImm op wide long) (cmp_of rest)) (long_at d)
+    (λ long. map_fits (λ op. forms.CompareImm op wide long) (cmp_of rest) (λ op. tt)))
+
+other_fits : (stem suffix : List ℕ) → FitsForm (other_form stem suffix)
+unfolding other_form
+other_fits stem suffix =
+    if_fits (bytes_eq stem (codes "PUSH")) _ _ (if_fits (bytes_eq suffix (codes "n")) _ _ tt
+    (map_fits (λ wide. forms.Push wide) (wide_of suffix) (λ wide. tt)))
+    (if_fits (bytes_eq stem (codes "POP")) _ _ (if_fits (bytes_eq suffix (codes "n")) _ _ tt
+    (map_fits (λ wide. forms.Pop wide) (wide_of suffix) (λ wide. tt)))
+    (if_fits (bytes_eq stem (codes "RET")) _ _ (if_fits (bytes_eq suffix []) _ None tt tt)
+    (if_fits (bytes_eq stem (codes "BREAK")) _ _ (if_fits (bytes_eq suffix []) _ None tt tt)
+    (if_fits (bytes_eq stem (codes "LOADSP")) _ _ (if_fits (bytes_eq suffix []) _ None tt tt)
+    (if_fits (bytes_eq stem (codes "STORESP")) _ _ (if_fits (bytes_eq suffix []) _ None tt tt)
+    (then_fits (λ op. option_map (λ wide. forms.Arith op wide) (wide_of suffix)) (arith_of stem)
+    (λ op. map_fits (λ wide. forms.Arith op wide) (wide_of suffix) (λ wide. tt))))))))
+
+stem_fits : (stem suffix : List ℕ) → FitsForm (stem_form stem suffix)
+unfolding stem_form
+stem_fits stem suffix =
+    if_fits (bytes_eq stem (codes "MOV")) _ _ (letters_fit suffix)
+    (if_fits (bytes_eq stem (codes "MOVI")) _ _ (imm_letters_fit suffix)
+    (if_fits (bytes_eq stem (codes "MOVREL")) _ _ (relative_fits suffix)
+    (if_fits (bytes_eq stem (codes "JMP")) _ _ (jump_fits suffix)
+    (if_fits (bytes_eq stem (codes "CALL")) _ _ (call_fits suffix)
+    (if_fits (bytes_eq stem (codes "CMP")) _ _ (compare_fits suffix)
+    (if_fits (bytes_eq stem (codes "CMPI")) _ _ (compare_imm_fits suffix) (other_fits stem suffix)))))))
+
+-- a mnemonic names a form that there is
+form_fits : (word : List ℕ) → FitsForm (form_of word)
+unfolding form_of
+form_fits word = stem_fits (stem_of word).0 (stem_of word).1
+
+-- ---- instructions, statements and lines
+
+read_form : (fault : AsmFault) (o : Option Form) (text : List ℕ) → FitsForm o → IfOk (or_else fault o >>= (λ f. insn_of f text)) InsnFits
+read_form fault None text h = tt
+read_form fault (Some f) text h = insn_fits f text h
+
+text_fits : (text : List ℕ) → IfOk (insn_in text) InsnFits
+unfolding insn_in
+text_fits text = read_form _ (form_of (word_part text).0) (word_part text).1 (form_fits (word_part text).0)
+
+-- a statement that is an instruction has such a one
+abbrev StatementFits : Statement → Type 0
+StatementFits (statements.Instruction i n) = InsnFits (i, n)
+StatementFits s = ⊤
+
+if_ok : {A E : Type 0} (Q : A → Type 0) (b : Bool) (r s : Result A E) → IfOk r Q → IfOk s Q → IfOk (cond b r s) Q
+if_ok Q true r s h g = h
+if_ok Q false r s h g = g
+
+directed_fits : (d : Directive) (text : List ℕ) → IfOk (directed d text) StatementFits
+directed_fits directives.Code text = if_ok StatementFits (is_empty text) (Ok statements.Code) (Err _) tt tt
+directed_fits directives.Data text = if_ok StatementFits (is_empty text) (Ok statements.Data) (Err _) tt tt
+directed_fits directives.Global text = kept_made (λ _. ⊤) StatementFits (λ n. statements.Global n) _ (any_ok _) (λ n h. tt)
+directed_fits (directives.Numbers bits) text = if_ok StatementFits (bits == 64 && is_name text) (Ok (statements.Place text)) _ tt
+    (kept_made (λ _. ⊤) StatementFits (λ vs. statements.Numbers bits vs) _ (any_ok _) (λ vs h. tt))
+directed_fits directives.Thunk text = kept_made (λ _. ⊤) StatementFits (λ n. statements.Thunk n) _ (any_ok _) (λ n h. tt)
+directed_fits directives.Zeros text = kept_made (λ _. ⊤) StatementFits (λ n. statements.Zeros n) _ (any_ok _) (λ n h. tt)
+
+directive_fits : (fault : AsmFault) (o : Option Directive) (text : List ℕ) → IfOk (or_else fault o >>= (λ d. directed d text)) StatementFits
+directive_fits fault None text = tt
+directive_fits fault (Some d) text = directed_fits d text
+
+statement_fits : (text : List ℕ) → IfOk (statement_of text) StatementFits
+unfolding statement_of
+statement_fits text =
+    if_ok StatementFits (starts_point text) _ _ (directive_fits _ (directive_of (word_part text).0) (word_part text).1)
+    (kept_made InsnFits StatementFits instruction (insn_in text) (text_fits text) (λ i h. h))
+
+abbrev OptionFits : Option Statement → Type 0
+OptionFits None = ⊤
+OptionFits (Some s) = StatementFits s
+
+option_fits : (text : List ℕ) → IfOk (statement_in text) OptionFits
+option_fits [] = tt
+option_fits (b ∷ bs) = kept_made StatementFits OptionFits Some (statement_of (b ∷ bs)) (statement_fits (b ∷ bs)) (λ s h. h)
+
+abbrev LineFits : Line → Type 0
+LineFits l = OptionFits l.statement
+
+parted_fits : (text : List ℕ) (o : Option (List ℕ × List ℕ)) → IfOk (parted text o) LineFits
+parted_fits text None = kept_made OptionFits LineFits lines.unlabelled (statement_in (trim text)) (option_fits (trim text)) (λ s h. h)
+parted_fits text (Some p) =
+    kept_made (λ q. ⊤ × OptionFits q.1) LineFits lines.labelled (both (name (trim_front p.0)) (statement_in (trim p.1)))
+    (kept_both (λ _. ⊤) OptionFits (name (trim_front p.0)) (statement_in (trim p.1)) (any_ok _) (option_fits (trim p.1))) (λ q h. h.1)
+
+line_reads : (text : List ℕ) → IfOk (line_in text) LineFits
+unfolding line_in
+line_reads text = if_ok LineFits (lines.is_ascii text) _ (Err _) (parted_fits (without_comment text) (until 58 (without_comment text))) tt
+
+-- an instruction of a line that is read is as it is read
+pub insn_is_read : (text : List ℕ) (l : Line) (i : Insn) (n : Option (List ℕ)) → line_in text ≡ Ok l
+    → l.statement ≡ Some (statements.Instruction i n) → InsnFits (i, n)
+insn_is_read text l i n e is = subst OptionFits is (subst (λ r. IfOk r LineFits) e (line_reads text))
