@@ -1,9 +1,14 @@
+pub mod AskingLaws
+pub mod ComingLaws
 pub mod EnterLaws
 pub mod KeptLaws
 pub mod NotifyLaws
+pub mod PlaceLaws
+pub mod PlacedLaws
 pub mod ReadingLaws
 pub mod ReplyLaws
 pub mod ResultLaws
+pub mod StartLaws
 pub mod StepLaws
 pub mod StoreLaws
 pub mod ThunkLaws

@@ -1,10 +1,12 @@
 -- Laws of stores of values: one after the other, in cells that are there or not.
-use Rattle.std.proofs.Common.{◌≡◌, ℕ, ◌+◌, ◌*◌, ◌^◌, ◌<◌, ◌≤◌, Bool, true, false, List, [], ◌∷◌, ◌++◌, length, drop, get_or, Some, None}
-use Rattle.std.proofs.Common.{refl, sym, ap, ◌∙◌, arith}
+use Rattle.std.proofs.Common.{◌≡◌, ℕ, ◌+◌, ◌*◌, ◌^◌, ◌<◌, ◌≤◌, Bool, true, false, if◌then◌else◌, List, [], ◌∷◌, ◌++◌, length, drop}
+use Rattle.std.proofs.Common.{get_or, Option, Some, None}
+use Rattle.std.proofs.Common.{refl, sym, ap, ap₂, ◌∙◌, arith, add-one}
 use Rattle.std.specs.List.{flat_map}
-use Rattle.std.specs.Prelude.{slice_index}
-use Rattle.std.specs.Option.{option_map_or}
+use Rattle.std.specs.Prelude.{nat_lt, slice_get, slice_index}
+use Rattle.std.specs.Option.{option_and_then, option_map_or}
 use Rattle.std.proofs.lemmas.List.{drop_all, drop_more}
+use Rattle.std.proofs.lemmas.Bool.{true≢false}
 use Rattle.ebc_width.specs.Ranges.{Range, holds}
 use Rattle.ebc_width.specs.Width.{IsWidth}
 use Rattle.ebc_width.proofs.Laws.{by_width}
@@ -15,13 +17,17 @@ use Rattle.note_types.specs.Concrete.{Concrete, stored}
 use Rattle.note_types.specs.declared.cell.Cell.{Cell}
 use Rattle.note_types.specs.declared.cell.Cell.TheVariants as cell
 use Rattle.note_types.specs.declared.notes.Notes.{Notes}
+use Rattle.note_types.specs.declared.script.CellValue.{CellValue}
 use Rattle.note_types.specs.declared.notes.WantParam.{WantParam}
 use Rattle.note_types.specs.declared.script.OutValue.{OutValue}
+use Rattle.note_types.specs.declared.script.ScriptObject.{ScriptObject}
 use Rattle.note_types.specs.declared.script.WriteValue.{WriteValue}
 use Rattle.note_types.specs.declared.shape.Field.{Field}
 use Rattle.note_types.specs.declared.value.Value.{Value}
-use Rattle.host_model.specs.HostPlans.{InArgument, InObject, Store, field_at, lent_at, out_store, write_store}
+use Rattle.host_model.specs.HostPlans.{InArgument, InObject, Store, cell_store, field_at, field_in, field_of, filling, lent_at}
+use Rattle.host_model.specs.HostPlans.{object_stores, out_store, write_store}
 use Rattle.host_model.specs.HostSteps.{after_store, after_stores, cell_address, written_number}
+use Rattle.host_model.specs.Objects.{script_object}
 use Rattle.host_model.specs.Placements.{Placement}
 use Rattle.host_model.specs.declared.object.TypedObject.{TypedObject}
 use Rattle.entry_thunk.specs.Cells.{with_memory}
@@ -31,14 +37,14 @@ use Rattle.native_host.specs.Stores.{after_number, is_mapped}
 -- ---- a store at an address
 
 -- where the cell isn't mapped nothing changes
-pub after-absent : (w : ℕ) (notes : Notes) (P : Placement) (made : List TypedObject) (s : Concrete) (m : Memory) (a : ℕ) (c : Cell) (v :
-    Value)
+pub after-absent : (w : ℕ) (notes : Notes) (P : Placement) (made : List TypedObject) (s : Concrete) (m : Memory) (a : ℕ) (c : Cell)
+    (v : Value)
     → holds (ranges m) a (cell_size w c) ≡ false → after_number w notes P made (with_memory s m) a c v ≡ with_memory s m
 unfolding stored
 after-absent w notes P made s m a c v absent = rw absent refl
 
-after-either : (w : ℕ) (notes : Notes) (P : Placement) (made : List TypedObject) (s : Concrete) (m n : Memory) (a x : ℕ) (c : Cell) (v :
-    Value)
+after-either : (w : ℕ) (notes : Notes) (P : Placement) (made : List TypedObject) (s : Concrete) (m n : Memory) (a x : ℕ) (c : Cell)
+    (v : Value)
     (b : Bool) → holds (ranges m) a (cell_size w c) ≡ b → x ≡ written_number w notes P made v → n ≡ memory_after m a (cell_size w c) x
     → after_number w notes P made (with_memory s m) a c v ≡ with_memory s n
 after-either w notes P made s m n a x c v true held number is =
@@ -47,8 +53,8 @@ after-either w notes P made s m n a x c v true held number is =
 after-either w notes P made s m n a x c v false absent number is =
     after-absent w notes P made s m a c v absent ∙ ap (with_memory s) (sym (is ∙ memory_after-absent m a (cell_size w c) x absent))
 
-pub after-number : (w : ℕ) (notes : Notes) (P : Placement) (made : List TypedObject) (s : Concrete) (m n : Memory) (a k x : ℕ) (c : Cell)
-    (v : Value)
+pub after-number : (w : ℕ) (notes : Notes) (P : Placement) (made : List TypedObject) (s : Concrete) (m n : Memory) (a k x : ℕ)
+    (c : Cell) (v : Value)
     → k ≡ cell_size w c → x ≡ written_number w notes P made v → n ≡ memory_after m a k x
     → after_number w notes P made (with_memory s m) a c v ≡ with_memory s n
 after-number w notes P made s m n a k x c v size number is =
@@ -135,8 +141,8 @@ write-none w notes P made slots v s none =
     (option_map_or (λ (x : Field). record { target = InObject v.object v.instance v.field; cell = x.cell; value = v.value } ∷ []) o []) s)
     (sym none)
 
-pub write-some : (w : ℕ) (notes : Notes) (P : Placement) (made : List TypedObject) (slots : List ℕ) (v : WriteValue) (s : Concrete) (x :
-    Field)
+pub write-some : (w : ℕ) (notes : Notes) (P : Placement) (made : List TypedObject) (slots : List ℕ) (v : WriteValue) (s : Concrete)
+    (x : Field)
     → Some x ≡ field_at notes made v.object v.instance v.field
     → after_stores w notes P made slots (write_store notes made v) s
     ≡ after_number w notes P made s (cell_address w notes P made v.object v.instance x) x.cell v.value
@@ -145,8 +151,8 @@ write-some w notes P made slots v s x some =
     ap (λ o. after_stores w notes P made slots
     (option_map_or (λ (x : Field). record { target = InObject v.object v.instance v.field; cell = x.cell; value = v.value } ∷ []) o []) s)
     (sym some)
-    ∙ ap (λ o. after_number w notes P made s (option_map_or (cell_address w notes P made v.object v.instance) o 0) x.cell v.value) (sym
-    some)
+    ∙ ap (λ o. after_number w notes P made s (option_map_or (cell_address w notes P made v.object v.instance) o 0) x.cell v.value)
+    (sym some)
 
 -- a cell of an object that is there is mapped or not
 pub mapped-some : (w : ℕ) (notes : Notes) (P : Placement) (made : List TypedObject) (objects : List Range) (v : WriteValue) (x : Field)
@@ -172,3 +178,65 @@ unfolding after_stores
 out-some w notes P made slots params o s c some =
     ap (λ q. after_stores w notes P made slots
     (option_map_or (λ c. record { target = InArgument o.argument; cell = c; value = o.value } ∷ []) q []) s) (sym some)
+
+-- ---- what a cell of an object of a script holds at first
+
+-- it is stored as a reply's value in that cell is
+module _ (w : ℕ) (notes : Notes) (P : Placement) (made : List TypedObject) (slots : List ℕ) (k : ℕ) (o : ScriptObject) (c : CellValue) where
+  abbrev as_write : WriteValue
+  as_write = record { object = k; instance = c.instance; field = c.field; value = c.value }
+
+  abbrev one : Field → List Store
+  one x = record { target = InObject k c.instance c.field; cell = x.cell; value = c.value } ∷ []
+
+  abbrev found : Option Field
+  found = field_at notes made k c.instance c.field
+
+  field-there : slice_get made k ≡ Some (script_object o) → found ≡ field_in notes c.instance c.field (script_object o)
+  unfolding field_at
+  field-there there = ap (option_and_then (field_in notes c.instance c.field)) there
+
+  -- a cell of no instance: the store goes to address 0
+  no-instance : (s : Concrete) (m : Memory) → IsWidth w → IsMemory w m → found ≡ None → (f : Option Field)
+      → after_stores w notes P made slots (option_map_or one f []) (with_memory s m) ≡ with_memory s m
+  unfolding after_stores
+  no-instance s m width memory none None = refl
+  no-instance s m width memory none (Some x) =
+      ap (λ q. after_number w notes P made (with_memory s m) (option_map_or (cell_address w notes P made k c.instance) q 0) x.cell
+      c.value) none
+      ∙ after-absent w notes P made s m 0 x.cell c.value (absent-zero w m (cell_size w x.cell) width memory)
+
+  by-instance : (s : Concrete) (m : Memory) (b : Bool) → IsWidth w → IsMemory w m → slice_get made k ≡ Some (script_object o)
+      → nat_lt c.instance o.count ≡ b
+      → after_stores w notes P made slots (option_map_or one (field_of notes o.shape c.field) []) (with_memory s m)
+      ≡ after_stores w notes P made slots (option_map_or one found []) (with_memory s m)
+  by-instance s m true width memory there inside =
+      let same : found ≡ field_of notes o.shape c.field =
+      field-there there ∙ ap (λ (b : Bool). if b then field_of notes o.shape c.field else None) inside in
+      ap (λ f. after_stores w notes P made slots (option_map_or one f []) (with_memory s m)) (sym same)
+  by-instance s m false width memory there outside =
+      let none : found ≡ None =
+      field-there there ∙ ap (λ (b : Bool). if b then field_of notes o.shape c.field else None) outside in
+      no-instance s m width memory none (field_of notes o.shape c.field)
+      ∙ sym (ap (λ f. after_stores w notes P made slots (option_map_or one f []) (with_memory s m)) none
+      ∙ no-instance s m width memory none None)
+
+  pub cell-is-write : (s : Concrete) (m : Memory) → IsWidth w → IsMemory w m → slice_get made k ≡ Some (script_object o)
+      → after_stores w notes P made slots (cell_store notes k o c) (with_memory s m)
+      ≡ after_stores w notes P made slots (write_store notes made as_write) (with_memory s m)
+  cell-is-write s m width memory there = by-instance s m (nat_lt c.instance o.count) width memory there refl
+
+-- ---- objects one after the other
+
+pub filling-next : (notes : Notes) (first k : ℕ) (os : List ScriptObject) (d : ScriptObject) → k < length os
+    → filling notes (first + k) (drop k os)
+    ≡ object_stores notes (first + k, get_or os k d) ++ filling notes (first + (k + 1)) (drop (k + 1) os)
+unfolding filling
+filling-next notes first k os d less =
+    ap (λ qs. filling notes (first + k) qs) (drop_more os k d less)
+    ∙ ap (λ n. object_stores notes (first + k, get_or os k d) ++ filling notes n (drop (k + 1) os))
+    (let e : first + k + 1 ≡ first + (k + 1) = omega arith in e)
+
+pub filling-end : (notes : Notes) (first k : ℕ) (os : List ScriptObject) → length os ≤ k → filling notes (first + k) (drop k os) ≡ []
+unfolding filling
+filling-end notes first k os past = ap (λ qs. filling notes (first + k) qs) (drop_all k os past)

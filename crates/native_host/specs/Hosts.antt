@@ -1,17 +1,19 @@
 -- For proofs: when a host is the host of a run, and what else it has to have at a step. docs/HOST.md, "The state".
-use Rattle.std.specs.Prelude.{◌≡◌, ℕ, ◌+◌, ◌-◌, ◌^◌, ◌≤◌, false, List, [], Some, length, min, nat_eq, slice_get, take, vec_capacity}
+use Rattle.std.specs.Prelude.{◌≡◌, ℕ, ◌+◌, ◌-◌, ◌*◌, ◌^◌, ◌≤◌, false, List, [], Some, length, min, nat_eq, slice_get, take, vec_capacity}
 use Rattle.std.specs.Option.{option_map_or}
-use Rattle.object_memory.specs.Memory.{Memory}
+use Rattle.std.specs.List.{sum_by}
+use Rattle.ebc_width.specs.Ranges.{Range}
+use Rattle.object_memory.specs.Memory.{Memory, padded, ranges}
 use Rattle.note_types.specs.Records.{IsNotes}
 use Rattle.note_types.specs.declared.notes.FnNote.{FnNote}
 use Rattle.note_types.specs.declared.notes.Notes.{Notes}
 use Rattle.note_types.specs.declared.script.Script.{Script}
 use Rattle.note_types.specs.declared.types.Ty.TheVariants as ty
 use Rattle.host_model.specs.Objects.{made_objects}
-use Rattle.host_model.specs.Placements.{own_placement}
+use Rattle.host_model.specs.Placements.{Placement, all_ranges, own_placement, placed_ranges, stack_range}
 use Rattle.host_model.specs.Readings.{Sort, sort_of_type}
 use Rattle.host_model.specs.RunState.{RunState, SavedFrame}
-use Rattle.host_model.specs.Scripts.{IsScript, all_made}
+use Rattle.host_model.specs.Scripts.{IsScript, all_made, callbacks_of}
 use Rattle.host_model.specs.World.{World}
 use Rattle.frame_stack.specs.declared.Frame.{Frame}
 use Rattle.callex_thunk.specs.declared.TheConstants.{NO_ENTRY}
@@ -41,9 +43,24 @@ pub record IsServing (w : ℕ) (notes : Notes) (script : Script) (h : Host w) : 
   pub host : IsHost w (host_world notes script h) h
   pub reserved : length (all_made notes script) ≤ vec_capacity h.made
 
+-- A memory has what a host has placed once so many calls of the script were accepted, and room for what it is still to place.
+pub record IsMemoryOf (w : ℕ) (world : World) (P : Placement) (entries : ℕ) (m : Memory) : Type 0 where
+  pub objects : ranges m ≡ placed_ranges w world P entries
+  pub bytes : m.byte_limit ≡ sum_by (λ (r : Range). padded r.size) (all_ranges w world P)
+  pub count : m.object_limit ≡ length (all_ranges w world P)
+
+-- The stack lies in a memory.
+abbrev pub HasStack : ℕ → Notes → Placement → Memory → Type 0
+HasStack w notes P m = slice_get (ranges m) 1 ≡ Some (stack_range w notes P)
+
 -- A host has room for so many events more.
 abbrev pub HasRoom : {w : ℕ} → Host w → ℕ → Type 0
 HasRoom h n = length h.trace.items + n ≤ vec_capacity h.trace
+
+-- the most events that a script can give: a native call and its reply, a callback and a notification and their returns, and one
+-- more call, which ends the run
+abbrev pub all_events : Script → ℕ
+all_events script = 1 + 2 * length script.call + 2 * sum_by callbacks_of script.call + 2 * length script.notify
 
 -- ---- the state of its run
 

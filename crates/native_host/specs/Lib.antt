@@ -1,6 +1,9 @@
+pub mod Askings
 pub mod Entering
 pub mod Hosts
 pub mod Kept
+pub mod Placing
 pub mod Sorts
+pub mod Starting
 pub mod Steps
 pub mod Stores

@@ -1,10 +1,12 @@
 -- For proofs: what steps of the host come to, for whoever runs the machine. docs/HOST.md, "Steps".
-use Rattle.std.specs.Prelude.{ℕ, Bool, List, map, Option, Some, None, ⊤}
+use Rattle.std.specs.Prelude.{ℕ, Bool, List, length, map, slice_get, Option, Some, None, ⊤}
+use Rattle.std.specs.Option.{option_map_or}
 use Rattle.note_types.specs.Concrete.{with_register}
-use Rattle.host_model.specs.HostPlans.{IsDue, Plan, Accepts, Enters, Replies, Notifies, Ends, ThunkView, NotMapped, NamesNone, Names}
-use Rattle.host_model.specs.HostPlans.{host_plan}
-use Rattle.host_model.specs.HostSteps.{entered, objects_at, written_number}
+use Rattle.host_model.specs.HostPlans.{Calls, IsDue, Plan, Accepts, Enters, Replies, Notifies, Ends, ThunkView, NotMapped, NamesNone}
+use Rattle.host_model.specs.HostPlans.{Names, host_plan}
+use Rattle.host_model.specs.HostSteps.{asking_at, entered, objects_at, with_call, written_number}
 use Rattle.host_model.specs.Placements.{Placement}
+use Rattle.host_model.specs.Progress.{Asked}
 use Rattle.host_model.specs.RunState.{RunState}
 use Rattle.host_model.specs.ScriptValues.{given}
 use Rattle.host_model.specs.World.{World}
@@ -12,8 +14,15 @@ use Rattle.note_types.specs.declared.ending.Ending.{Ending}
 use Rattle.note_types.specs.declared.ending.Ending.TheVariants as ending
 use Rattle.note_types.specs.declared.exception.Exception.TheVariants as raises
 use Rattle.note_types.specs.declared.reason.Reason.TheVariants as reason
+use Rattle.note_types.specs.declared.script.Script.{Script}
+use Rattle.note_types.specs.declared.script.ScriptCall.{ScriptCall}
 use Rattle.note_types.specs.declared.seen.Seen.{Seen}
 use Rattle.note_types.specs.declared.value.Value.{Value}
+use Rattle.object_memory.specs.Memory.{Memory}
+use Rattle.frame_stack.specs.declared.Frame.{Frame}
+use Rattle.callex_thunk.specs.HostFrames.{saved_of}
+use Rattle.native_host.specs.Hosts.{shown}
+use Rattle.native_host.specs.declared.host.Host.{Host}
 use Rattle.native_host.specs.declared.step.HostStep.{HostStep}
 use Rattle.native_host.specs.declared.step.HostStep.TheVariants as step
 
@@ -38,6 +47,18 @@ step_of number _ = None
 -- what the host does where a notification is due, with so many frames of the host
 abbrev pub due_plan : World → RunState → (frames : ℕ) → Plan
 due_plan world r frames = host_plan world r.script (IsDue frames)
+
+-- the state of a run with what a host tells, where a call instruction at a place asks for a native call with a target
+abbrev pub asked : {w : ℕ} → Host w → Memory → List Frame → (place target : ℕ) → RunState → RunState
+asked h m frames place target r = shown h m (with_call (Asked place target) (map saved_of frames)) r
+
+-- what the host does there
+abbrev pub asked_plan : ℕ → World → Placement → RunState → (place target : ℕ) → Plan
+asked_plan w world P r place target = host_plan world r.script (Calls place (asking_at w world P r place target))
+
+-- how many arguments the script's call of that number has
+abbrev pub entry_count : Script → ℕ → ℕ
+entry_count script entry = option_map_or (λ (c : ScriptCall). length c.args) (slice_get script.call entry) 0
 
 -- The run once whoever runs the machine has done its part of a step: it enters the function, as a notification or not, with
 -- the numbers of these values; it puts the number of a reply into R7; or the run ends.

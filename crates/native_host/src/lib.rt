@@ -2,6 +2,8 @@
 //! it is started. docs/HOST.md says what the host is; the definitions that the contracts cite stand in `host_model`.
 #![tactic(auto)]
 
+mod arguments;
+mod asking;
 mod cells;
 mod entering;
 mod host;
@@ -9,13 +11,16 @@ mod items;
 mod next;
 mod notify;
 mod places;
+mod placing;
 mod reading;
 mod replying;
 mod sort;
+mod starting;
 mod step;
 mod thunks;
 mod values;
 
 pub use host::Host;
 pub use note_types::{Args, Event, Reason};
+pub use starting::start;
 pub use step::HostStep;

@@ -1,5 +1,5 @@
 //! A native call that goes on: its callbacks, and its reply (docs/HOST.md, "Steps").
-ghost use Rattle.std.specs.Prelude.{◌≡◌, ℕ, ◌+◌, ◌<◌, ◌^◌, false, length, map, slice_get, slice_index, Some};
+ghost use Rattle.std.specs.Prelude.{◌≡◌, ℕ, ◌+◌, ◌<◌, ◌≤◌, ◌^◌, false, length, map, slice_get, slice_index, Some, vec_capacity};
 ghost use Rattle.std.specs.List.{flat_map};
 ghost use Rattle.ebc_width.specs.Width.{IsWidth};
 ghost use Rattle.frame_stack.specs.declared.Frame.{Frame};
@@ -12,6 +12,7 @@ ghost use Rattle.note_types.specs.declared.value.Value.{Value};
 ghost use Rattle.ebc_machine.specs.States.{KeepsObjects};
 ghost use Rattle.host_model.specs.HostPlans.{View, enter_plan, function_params, host_plan, out_store, reply_plan};
 ghost use Rattle.host_model.specs.HostSteps.{after_stores, call_seen, call_under_way, performed, written_number};
+ghost use Rattle.host_model.specs.Placements.{frame_limit};
 ghost use Rattle.host_model.specs.RunState.{RunState};
 ghost use Rattle.callex_thunk.specs.HostFrames.{saved_of};
 ghost use Rattle.entry_thunk.specs.Cells.{with_memory};
@@ -61,6 +62,8 @@ impl<const W: usize> Host<W> {
         ensures kept { self.new ≡ record self.old { trace = self.new.trace } }
         ensures len { length frames.new ≡ length frames.old }
         ensures room { (n : ℕ) → HasRoom self.old (n + 1) → HasRoom self.new n }
+        ensures capacity { vec_capacity self.old.trace ≤ vec_capacity self.new.trace }
+        ensures depth { OnEnter result (λ func args. length frames.new < frame_limit) }
     {
         let (entry, callback, _) = frames.mark();
         let Some(call) = item_at(&script.call, entry as usize) else {
@@ -95,6 +98,8 @@ impl<const W: usize> Host<W> {
         ensures kept { self.new ≡ record self.old { trace = self.new.trace } }
         ensures len { length frames.new ≡ length frames.old }
         ensures room { (n : ℕ) → HasRoom self.old (n + 1) → HasRoom self.new n }
+        ensures capacity { vec_capacity self.old.trace ≤ vec_capacity self.new.trace }
+        ensures depth { OnEnter result (λ func args. length frames.new < frame_limit) }
     {
         if !can_enter(notes, self.made.as_slice(), next.function, &next.values) {
             return HostStep::Mismatch(Reason::Enter { entry, callback });
@@ -140,6 +145,8 @@ impl<const W: usize> Host<W> {
         ensures kept { self.new ≡ record self.old { trace = self.new.trace } }
         ensures len { length frames.new ≡ length frames.old }
         ensures room { (n : ℕ) → HasRoom self.old (n + 1) → HasRoom self.new n }
+        ensures capacity { vec_capacity self.old.trace ≤ vec_capacity self.new.trace }
+        ensures depth { OnEnter result (λ func args. length frames.new < frame_limit) }
     {
         let Some(signature) = item_at(&notes.signature, call.signature as usize) else {
             unreachable!();

@@ -1,5 +1,8 @@
 //! What a step of the host comes to.
-use note_types::{Args, Exception, Reason};
+ghost use Rattle.std.specs.Prelude.{◌≡◌, IsSome, Some};
+ghost use Rattle.native_host.specs.Steps.{end_step};
+
+use note_types::{Args, Ending, Exception, Reason};
 
 /// What a step of the host comes to, for whoever runs the machine.
 #[derive(Drop)]
@@ -16,4 +19,16 @@ pub enum HostStep {
     ScriptEnd,
     /// The run ends: this is raised.
     Raised(Exception),
+}
+
+/// What the end of a run comes to.
+pub(crate) fn end_step(ending: &Ending) -> HostStep
+    requires { IsSome (end_step ending.now) }
+    ensures { Some result ≡ end_step ending.now }
+{
+    match ending {
+        Ending::Mismatch(reason) => HostStep::Mismatch(*reason),
+        Ending::Raised(exception) => HostStep::Raised(*exception),
+        _ => HostStep::ScriptEnd,
+    }
 }

@@ -1,0 +1,270 @@
+-- Laws of the objects of a script that a host places at the start: they come next, one after the other, and lie at their bases.
+use Rattle.std.proofs.Common.{◌≡◌, ℕ, zero, suc, ◌+◌, ◌*◌, ◌-◌, ◌^◌, ◌<◌, ◌≤◌, ◌⊎◌, List, [], ◌∷◌, ◌++◌, length, map, Some, None, Option}
+use Rattle.std.proofs.Common.{slice_get, slice_index}
+use Rattle.std.proofs.Common.{refl, sym, ap, ap₂, ◌∙◌, subst, arith, le_refl, if◌then◌else◌, ⊎_elim, nat_lt, false}
+use Rattle.std.specs.List.{flat_map, sum_by}
+use Rattle.std.proofs.lemmas.Bool.{le-ltb}
+use Rattle.std.proofs.lemmas.List.{append-nil, append_assoc}
+use Rattle.std.proofs.lemmas.List.Sums.{sum_by-cons}
+use Rattle.std.proofs.lemmas.Nat.{mul-le}
+use Rattle.std.proofs.lemmas.Option.{none-some, same_Some}
+use Rattle.ebc_base.proofs.Lists.{length-map, slice_get-append_right}
+use Rattle.ebc_width.specs.Ranges.{Range}
+use Rattle.ebc_width.specs.Width.{IsWidth}
+use Rattle.ebc_width.proofs.Laws.{by_width}
+use Rattle.object_memory.specs.Memory.{IsFull, Memory, Object, first_base, next_base, padded, placed, range_of, ranges, used}
+use Rattle.note_types.specs.Concrete.{Concrete}
+use Rattle.note_types.specs.Shapes.{IsShape, size_at}
+use Rattle.note_types.specs.declared.notes.Notes.{Notes}
+use Rattle.note_types.specs.declared.script.Script.{Script}
+use Rattle.note_types.specs.declared.script.ScriptObject.{ScriptObject}
+use Rattle.host_model.specs.HostPlans.{filling}
+use Rattle.host_model.specs.HostSteps.{after_stores, with_object, with_objects}
+use Rattle.host_model.specs.Objects.{made_objects, objects_of, placed_objects, script_object, shape_of, static_object}
+use Rattle.host_model.specs.declared.object.TypedObject.{TypedObject}
+use Rattle.host_model.specs.Placements.{Placement, all_ranges, area_bytes, bases_from, image_range, native_range, object_at, object_bytes}
+use Rattle.host_model.specs.Placements.{object_range, own_placement, placed_ranges, script_ranges, stack_bytes, stack_range, static_place}
+use Rattle.host_model.specs.Scripts.{IsObjectOf, IsScript, all_made}
+use Rattle.host_model.specs.Start.{bare_machine, start_machine}
+use Rattle.host_model.specs.World.{World}
+use Rattle.entry_thunk.specs.Cells.{with_memory}
+use Rattle.native_host.specs.Placing.{AreComing, IsNext}
+use Rattle.native_host.specs.Starting.{rooms_in}
+use Rattle.native_host.proofs.PlacedLaws.{limits_placed, next_placed, objects_placed}
+use Rattle.native_host.proofs.StartLaws.{all_count, all_placed, all_rest_made, all_rooms, all_sum, room_same, rooms_small, sizes}
+use Rattle.object_memory.proofs.Laws.{used-placed}
+
+-- an object past the static ones lies at its base
+object-past : (notes : Notes) (P : Placement) (j : ℕ) → object_at notes P (length notes.statics + j) ≡ slice_index P.objects j
+unfolding object_at
+object-past notes P j =
+    let n : ℕ = length notes.statics in
+    let no : nat_lt (n + j) n ≡ false = le-ltb (n + j) n (omega arith) in
+    let left : n + j - n ≡ j = omega arith in
+    ap (λ b. if b then P.image + static_place notes (n + j) else slice_index P.objects (n + j - n)) no ∙ ap (slice_index P.objects) left
+
+-- an object of a script that was read has bytes
+pub bytes_some : (w : ℕ) (notes : Notes) (made : List TypedObject) (n : ℕ) (o : ScriptObject) → IsWidth w → IsObjectOf notes made n o
+    → 1 ≤ object_bytes w notes (script_object o)
+bytes_some w notes made n o h is =
+    by_width (λ v. 1 ≤ o.count * size_at v (shape_of notes o.shape)) w h
+    (mul-le 1 1 o.count (size_at 4 (shape_of notes o.shape)) is.count.0 is.shape.at4.positive)
+    (mul-le 1 1 o.count (size_at 8 (shape_of notes o.shape)) is.count.0 is.shape.at8.positive)
+
+module _ (w : ℕ) (notes : Notes) (P : Placement) where
+  -- the bases from number j on are these
+  abbrev AreFrom : ℕ → List ℕ → Type 0
+  AreFrom j bs = (i : ℕ) → slice_index P.objects (j + i) ≡ slice_index bs i
+
+  from-next : (j b : ℕ) (bs : List ℕ) → AreFrom j (b ∷ bs) → AreFrom (j + 1) bs
+  from-next j b bs from i = ap (slice_index P.objects) (let e : j + 1 + i ≡ j + suc i = omega arith in e) ∙ from (suc i)
+
+  -- objects whose bases come next can be placed, one after the other
+  pub are_coming : (os more : List ScriptObject) (j : ℕ) (m : Memory) → AreFrom j (bases_from w notes (next_base w m) (os ++ more))
+      → used m + rooms_in (sizes w notes) os ≤ m.byte_limit → length m.objects + length os ≤ m.object_limit
+      → ((k : ℕ) (o : ScriptObject) → slice_get os k ≡ Some o → 1 ≤ object_bytes w notes (script_object o))
+      → rooms_in (sizes w notes) os < 2 ^ 32 → AreComing w notes P (length notes.statics + j) m os
+  unfolding bases_from rooms_in
+  are_coming [] more j m from bytes count some small = tt
+  are_coming (o ∷ os) more j m from bytes count some small =
+      let n : ℕ = object_bytes w notes (script_object o) in
+      let room = room_same w notes o in
+      let none : length notes.statics + (j + 1) ≡ length notes.statics + j + 1 = omega arith in
+      let after = next_placed w m n in
+      let took = used-placed w m n in
+      let grew = objects_placed w m n in
+      let limits = limits_placed w m n in
+      let l = limits.0 in
+      let k = limits.1 in
+      let at : slice_index P.objects j ≡ next_base w m = ap (slice_index P.objects) (let e : j ≡ j + 0 = omega arith in e) ∙ from 0 in
+      let rest : AreFrom (j + 1) (bases_from w notes (next_base w (placed w m n)) (os ++ more)) =
+      subst (λ b. AreFrom (j + 1) (bases_from w notes b (os ++ more))) (sym after)
+      (from-next j (next_base w m) (bases_from w notes (next_base w m + padded n) (os ++ more)) from) in (
+        record {
+          some = some 0 o refl;
+          below = omega (arith, room, small);
+          room = ⊎_elim (λ over. omega (arith, over, room, bytes)) (λ over. omega (arith, over, count));
+          base = sym at ∙ sym (object-past notes P j);
+        },
+        subst (λ x. AreComing w notes P x (placed w m n) os) none
+            (are_coming os more (j + 1) (placed w m n) rest (omega (arith, took, room, bytes, l)) (omega (arith, grew, count, k))
+            (λ i x g. some (suc i) x g) (omega (arith, small))),
+      )
+
+  -- once they are placed they lie there
+  pub lie_there : (os : List ScriptObject) (bs : List ℕ) (j : ℕ) (s : Concrete) → AreFrom j bs → length os ≤ length bs
+      → (with_objects w notes P (length notes.statics + j) (map script_object os) s).objects ≡ s.objects ++ script_ranges w notes os bs
+  unfolding with_objects with_object script_ranges
+  lie_there [] bs j s from few = sym (append-nil s.objects)
+  lie_there (o ∷ os) [] j s from few = absurd (omega (arith, few))
+  lie_there (o ∷ os) (b ∷ bs) j s from few =
+      let n : ℕ = length notes.statics in
+      let r : Range = record { base = b; size = object_bytes w notes (script_object o) } in
+      let at : slice_index P.objects j ≡ b = ap (slice_index P.objects) (let e : j ≡ j + 0 = omega arith in e) ∙ from 0 in
+      let range : object_range w notes P (n + j) (script_object o) ≡ r =
+      ap (λ x. record { base = x; size = object_bytes w notes (script_object o) }) (object-past notes P j ∙ at) in
+      let next : suc (n + j) ≡ n + (j + 1) = omega arith in
+      let t : Concrete = with_object s (object_range w notes P (n + j) (script_object o)) in
+      ap (λ x. (with_objects w notes P x (map script_object os) t).objects) next
+      ∙ (lie_there os bs (j + 1) t (from-next j b bs from) (omega (arith, few))
+      ∙ (ap (λ q. (s.objects ++ q ∷ []) ++ script_ranges w notes os bs) range ∙ append_assoc s.objects (r ∷ [])
+      (script_ranges w notes os bs)))
+
+-- ---- the typed objects that are made
+
+pub made_at_start : (notes : Notes) (script : Script)
+    → map static_object notes.statics ++ map script_object script.object ≡ made_objects notes script 0
+unfolding made_objects placed_objects
+made_at_start notes script =
+    ap (λ os. map static_object notes.statics ++ map script_object os) (sym (append-nil script.object))
+
+get-map : (os : List ScriptObject) (k : ℕ) (o : ScriptObject) → slice_get os k ≡ Some o
+    → slice_get (map script_object os) k ≡ Some (script_object o)
+get-map [] k o g = absurd (none-some o g)
+get-map (x ∷ os) zero o g = ap (λ z. Some (script_object z)) (same_Some x o g)
+get-map (x ∷ os) (suc k) o g = get-map os k o g
+
+-- those that were made last stand past those before
+pub made_last : (made : List TypedObject) (os : List ScriptObject) (k : ℕ) (o : ScriptObject) → slice_get os k ≡ Some o
+    → slice_get (made ++ map script_object os) (length made + k) ≡ Some (script_object o)
+made_last made os k o g =
+    slice_get-append_right made (map script_object os) (length made + k) (omega arith)
+    ∙ (ap (slice_get (map script_object os)) (let e : length made + k - length made ≡ k = omega arith in e) ∙ get-map os k o g)
+
+-- ---- the placement that this project takes
+
+pub own_native : (w : ℕ) (world : World) (P : Placement) → P ≡ own_placement w world → P.native ≡ first_base w
+unfolding own_placement
+own_native w world P e = ap (λ (Q : Placement). Q.native) e
+
+pub own_stack : (w : ℕ) (world : World) (P : Placement) → P ≡ own_placement w world → P.stack ≡ P.native + padded (area_bytes world.notes)
+unfolding own_placement
+own_stack w world P e =
+    ap (λ (Q : Placement). Q.stack) e ∙ ap (λ n. n + padded (area_bytes world.notes)) (sym (own_native w world P e))
+
+pub own_image : (w : ℕ) (world : World) (P : Placement) → P ≡ own_placement w world
+    → P.image ≡ P.stack + padded (stack_bytes w world.notes)
+unfolding own_placement
+own_image w world P e =
+    ap (λ (Q : Placement). Q.image) e
+    ∙ ap (λ n. n + padded (stack_bytes w world.notes)) (sym (ap (λ (Q : Placement). Q.stack) e))
+
+own-objects : (w : ℕ) (world : World) (P : Placement) → P ≡ own_placement w world → P.objects ≡ bases_from w world.notes
+    (first_base w + padded (area_bytes world.notes) + padded (stack_bytes w world.notes) + padded world.image_size)
+    (placed_objects world.script (length world.script.call))
+unfolding own_placement
+own-objects w world P e = ap (λ (Q : Placement). Q.objects) e
+
+bases-count : (w : ℕ) (notes : Notes) (b : ℕ) (os : List ScriptObject) → length (bases_from w notes b os) ≡ length os
+unfolding bases_from
+bases-count w notes b [] = refl
+bases-count w notes b (o ∷ os) = ap suc (bases-count w notes (b + padded (object_bytes w notes (script_object o))) os)
+
+abbrev size_of : Range → ℕ
+size_of r = padded r.size
+
+used-ranges : (os : List Object) → sum_by (λ (o : Object). padded o.size) os ≡ sum_by size_of (map range_of os)
+used-ranges [] = refl
+used-ranges (o ∷ os) =
+    let rest = used-ranges os in
+    let one = sum_by-cons (λ (p : Object). padded p.size) o os in
+    let other = sum_by-cons size_of (range_of o) (map range_of os) in
+    omega (arith, rest, one, other)
+
+-- ---- what is placed at the start
+
+module _ (w : ℕ) (world : World) (P : Placement) (m : Memory) (own : P ≡ own_placement w world)
+    (lie : ranges m ≡ native_range world.notes P ∷ stack_range w world.notes P ∷ image_range world P ∷ []) where
+  used-three : used m ≡ padded (area_bytes world.notes) + padded (stack_bytes w world.notes) + padded world.image_size
+  used-three = used-ranges m.objects ∙ (ap (sum_by size_of) lie ∙ omega arith)
+
+  count-three : length m.objects ≡ 3
+  count-three = sym (length-map range_of m.objects) ∙ ap length lie
+
+  from-start : AreFrom w world.notes P 0
+      (bases_from w world.notes (next_base w m) (world.script.object ++ flat_map objects_of world.script.call))
+  from-start i =
+      let took = used-three in
+      let next : first_base w + padded (area_bytes world.notes) + padded (stack_bytes w world.notes) + padded world.image_size
+      ≡ next_base w m = omega (arith, took) in
+      ap (slice_index P.objects) (let e : 0 + i ≡ i = omega arith in e)
+      ∙ ap (λ bs. slice_index bs i) (own-objects w world P own ∙ ap₂ (bases_from w world.notes) next (all_placed world.script))
+
+  pub start_coming : IsWidth w → IsScript world.notes world.script
+      → m.byte_limit ≡ sum_by (λ (r : Range). padded r.size) (all_ranges w world (own_placement w world))
+      → m.object_limit ≡ length (all_ranges w world (own_placement w world))
+      → AreComing w world.notes P (length world.notes.statics) m world.script.object
+  start_coming width script bytes count =
+      let took = used-three in
+      let three = count-three in
+      let sum = all_sum w world in
+      let rooms = all_rooms (sizes w world.notes) world.script in
+      let small = rooms_small world.notes world.script script w width in
+      let number = all_count w world in
+      let made = all_rest_made world.script in
+      subst (λ n. AreComing w world.notes P n m world.script.object)
+      (let e : length world.notes.statics + 0 ≡ length world.notes.statics = omega arith in e)
+      (are_coming w world.notes P world.script.object (flat_map objects_of world.script.call) 0 m from-start
+      (omega (arith, took, sum, rooms, bytes)) (omega (arith, three, number, made, count))
+      (λ k o g. bytes_some w world.notes (all_made world.notes world.script) (length world.notes.statics + k) o width
+      (script.objects k o g))
+      (omega (arith, rooms, small)))
+
+  -- the ranges once the objects are placed that are there from the start
+  pub start_ranges : (s : Concrete) → (with_objects w world.notes P (length world.notes.statics) (map script_object world.script.object)
+      (with_memory s m)).objects ≡ placed_ranges w world P 0
+  unfolding placed_ranges placed_objects
+  start_ranges s =
+      let os : List ScriptObject = world.script.object in
+      let zero_more : length world.notes.statics ≡ length world.notes.statics + 0 = omega arith in
+      let bases = ap length (own-objects w world P own) ∙ bases-count w world.notes _
+      (placed_objects world.script (length world.script.call)) in
+      let made = all_rest_made world.script in
+      ap (λ n. (with_objects w world.notes P n (map script_object os) (with_memory s m)).objects) zero_more
+      ∙ (lie_there w world.notes P os P.objects 0 (with_memory s m) (λ i. ap (slice_index P.objects) (let e : 0 + i ≡ i = omega arith in e))
+      (omega (arith, bases, made))
+      ∙ (ap (λ rs. rs ++ script_ranges w world.notes os P.objects) lie
+      ∙ ap (λ zs. native_range world.notes P ∷ stack_range w world.notes P ∷ image_range world P ∷ script_ranges w world.notes zs P.objects)
+      (sym (append-nil os))))
+
+-- where the native area, the stack and the image lie
+pub bare_ranges : (w : ℕ) (world : World) (P : Placement) (f : ℕ → ℕ) (m : Memory)
+    → with_memory (bare_machine w world P f) m ≡ bare_machine w world P f
+    → ranges m ≡ native_range world.notes P ∷ stack_range w world.notes P ∷ image_range world P ∷ []
+unfolding bare_machine
+bare_ranges w world P f m e = ap (λ (s : Concrete). s.objects) e
+
+-- the state once they are filled
+module _ (w : ℕ) (world : World) (P : Placement) (f : ℕ → ℕ) (m1 m2 m3 : Memory) (a b : ℕ) (os ps : List ScriptObject)
+    (made : List TypedObject)
+    (ea : a ≡ length world.notes.statics) (eb : b ≡ length world.notes.statics) (p : os ≡ world.script.object)
+    (q : ps ≡ world.script.object)
+    (is : made ≡ made_objects world.notes world.script 0)
+    (one : with_memory (bare_machine w world P f) m1 ≡ bare_machine w world P f)
+    (two : (s : Concrete) → with_objects w world.notes P a (map script_object os) (with_memory s m1) ≡ with_memory s m2)
+    (three : (s : Concrete) (slots : List ℕ) → after_stores w world.notes P made slots (filling world.notes b ps) (with_memory s m2)
+    ≡ with_memory s m3) where
+  pub placed_all : (s : Concrete) → with_objects w world.notes P (length world.notes.statics) (map script_object world.script.object)
+      (with_memory s m1)
+      ≡ with_memory s m2
+  placed_all s = ap₂ (λ x zs. with_objects w world.notes P x (map script_object zs) (with_memory s m1)) (sym ea) (sym p) ∙ two s
+
+  filled : (s : Concrete) → after_stores w world.notes P (made_objects world.notes world.script 0) []
+      (filling world.notes (length world.notes.statics) world.script.object) (with_memory s m2) ≡ with_memory s m3
+  filled s =
+      ap (λ ts. after_stores w world.notes P ts [] (filling world.notes (length world.notes.statics) world.script.object)
+      (with_memory s m2)) (sym is)
+      ∙ (ap₂ (λ x zs. after_stores w world.notes P made [] (filling world.notes x zs) (with_memory s m2)) (sym eb) (sym q) ∙ three s [])
+
+  start-is : start_machine w world P f ≡ with_memory (bare_machine w world P f) m3
+  unfolding start_machine
+  start-is =
+      let s : Concrete = bare_machine w world P f in
+      let stores = filling world.notes (length world.notes.statics) world.script.object in
+      let made0 = made_objects world.notes world.script 0 in
+      ap (λ t. after_stores w world.notes P made0 [] stores
+      (with_objects w world.notes P (length world.notes.statics) (map script_object world.script.object) t)) (sym one)
+      ∙ (ap (after_stores w world.notes P made0 [] stores) (placed_all s) ∙ filled s)
+
+  pub start_state : with_memory (start_machine w world P f) m3 ≡ start_machine w world P f
+  start_state = ap (λ s. with_memory s m3) start-is ∙ sym start-is

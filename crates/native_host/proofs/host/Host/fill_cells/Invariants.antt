@@ -1,0 +1,18 @@
+use Rattle.std.proofs.Common.{◌≡◌, ℕ, List, drop}
+use Rattle.std.specs.List.{flat_map}
+use Rattle.note_types.specs.Concrete.{Concrete}
+use Rattle.ebc_machine.specs.States.{KeepsObjects}
+use Rattle.host_model.specs.HostSteps.{after_stores}
+use Rattle.entry_thunk.specs.Cells.{with_memory}
+use Rattle.native_host.specs.Kept.{placement_of}
+use Rattle.host_model.specs.HostPlans.{cell_store}
+use Rattle.native_host.proofs.host.Host.fill_cells.Given as goal
+
+abbrev pub invariant-loop-cell : goal.invariant-loop-cell
+invariant-loop-cell g l = record {
+  stores : (s : Concrete) (slots : List ℕ) → after_stores g.row.W l.notes (placement_of l.self.places) l.self.made.items slots
+      (flat_map (cell_store l.notes l.number l.object) (drop l.cell-index l.cells)) (with_memory s l.mem)
+      ≡ after_stores g.row.W l.notes (placement_of l.self.places) l.self.made.items slots
+      (flat_map (cell_store l.notes l.number l.object) l.cells) (with_memory s l.fn.mem);
+  objects : KeepsObjects l.fn.mem l.mem;
+}

@@ -1,0 +1,7 @@
+use Rattle.std.proofs.Common.{◌≡◌, ◌+◌, drop, length}
+use Rattle.host_model.specs.Objects.{placed_objects}
+use Rattle.native_host.specs.Starting.{rest_made}
+use Rattle.native_host.proofs.starting.count_objects.Given as goal
+
+abbrev pub invariant-loop-call : goal.invariant-loop-call
+invariant-loop-call l = l.count + rest_made (drop l.call-index l.script.call) ≡ length (placed_objects l.script (length l.script.call))

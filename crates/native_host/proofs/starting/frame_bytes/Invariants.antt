@@ -1,0 +1,7 @@
+use Rattle.std.proofs.Common.{◌≡◌, ◌+◌, drop}
+use Rattle.host_model.specs.Placements.{frame_bytes, params_bytes}
+use Rattle.native_host.proofs.starting.frame_bytes.Given as goal
+
+abbrev pub invariant-loop-param : goal.invariant-loop-param
+invariant-loop-param g l =
+    l.bytes + params_bytes g.row.W (drop l.param-index l.function.params) ≡ frame_bytes g.row.W l.function
