@@ -33,4 +33,5 @@ pub mod Fitted
 pub mod ListedAgain
 pub mod Once
 pub mod Numbers
+pub mod OneRecord
 pub mod OneLinked

@@ -1,4 +1,4 @@
--- Linked images of the same objects agree.
+-- Linked images of the same objects are one.
 use Rattle.std.proofs.Common.{◌≡◌, ◌⊎◌, inl, inr, ℕ, ◌+◌, ◌-◌, ◌<◌, ◌≤◌, List, [], ◌∷◌, Some, None, Bool, true, false, length}
 use Rattle.std.proofs.Common.{refl, ap, sym, subst, ◌∙◌, arith, ⊎_elim}
 use Rattle.std.specs.Prelude.{◌↔◌, ◌||◌}
@@ -19,7 +19,8 @@ use Rattle.ebc_link.specs.Linked.{Holds, IsFilled, IsOutside, Linked, StandsAt, 
 use Rattle.ebc_link.specs.Symbols.{definitions, first_again, names_of}
 use Rattle.link_laws.proofs.Once.{one_entry, one_stand}
 use Rattle.link_laws.proofs.Numbers.{same_byte, same_number}
-use Rattle.link_laws.specs.Fixes.{LinkedAgree}
+use Rattle.link_laws.proofs.OneRecord.{one_ascending, one_image, one_sections, size_is}
+use Rattle.link_laws.specs.Fixes.{LinkedIsOne}
 
 -- ---- where a place lies
 
@@ -174,7 +175,7 @@ one_byte objects plan one two a x (of_one o) = byte_of_one objects plan one two 
 one_byte objects plan one two a x (of_none all) = a.first.between x all ∙ sym (a.second.between x all)
 
 -- two linked images have the same bytes
-pub bytes_are : (objects : List Object) (plan : LinkPlan) (one two : Image) → AreLinked objects plan one two → (x : ℕ)
+bytes_are : (objects : List Object) (plan : LinkPlan) (one two : Image) → AreLinked objects plan one two → (x : ℕ)
     → laid one.sections x ≡ laid two.sections x
 bytes_are objects plan one two a x = one_byte objects plan one two a x (lies (laid_objects objects) x)
 
@@ -184,14 +185,13 @@ same_places objects plan one two a x =
     (λ there. (a.second.relocs x).1 ((a.first.relocs x).0 there), λ there. (a.first.relocs x).1 ((a.second.relocs x).0 there))
 
 -- the law
-pub linked_agree : LinkedAgree
-linked_agree objects plan one two once first second first_bytes second_bytes =
+pub linked_is_one : LinkedIsOne
+linked_is_one objects plan one two once first second first_bytes second_bytes =
     let a : AreLinked objects plan one two =
     record { once = once; first = first; second = second; first_bytes = first_bytes; second_bytes = second_bytes } in
-    record {
-      base = first.base ∙ sym second.base;
-      subsystem = first.subsystem ∙ sym second.subsystem;
-      entry = one_entry (laid_objects objects) plan.entry one.entry two.entry once first.entry second.entry;
-      bytes = bytes_are objects plan one two a;
-      relocs = same_places objects plan one two a;
-    }
+    let sections : one.sections ≡ two.sections = one_sections objects plan one two first second (bytes_are objects plan one two a) in
+    let relocs : one.relocs ≡ two.relocs =
+    one_ascending one.relocs two.relocs first.layout.apart second.layout.apart (same_places objects plan one two a) in
+    one_image one two (first.base ∙ sym second.base)
+    (one_entry (laid_objects objects) plan.entry one.entry two.entry once first.entry second.entry)
+    (size_is one two first.layout.size second.layout.size sections relocs) (first.subsystem ∙ sym second.subsystem) sections relocs

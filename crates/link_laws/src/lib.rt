@@ -5,7 +5,7 @@
 
 mod relinking;
 
-ghost use Rattle.link_laws.specs.Fixes.{LinkedAgree};
+ghost use Rattle.link_laws.specs.Fixes.{LinkedIsOne};
 ghost use Rattle.link_laws.specs.Laws.{ListsAgain};
 ghost use Rattle.link_laws.specs.Loads.{LinkedLoads};
 
@@ -22,8 +22,7 @@ pub fn linked_images_load()
     ensures loads { LinkedLoads }
 {}
 
-/// Where no name is defined twice, two images that objects are linked to by a plan agree: what `Linked` says of an image fixes its bytes,
-/// its relocations and its entry.
-pub fn linked_images_agree()
-    ensures agree { LinkedAgree }
+/// Where no name is defined twice, `Linked` fixes the image: two images that objects are linked to by a plan are one.
+pub fn linked_images_are_one()
+    ensures one { LinkedIsOne }
 {}
