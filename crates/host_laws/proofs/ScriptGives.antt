@@ -1,8 +1,8 @@
 -- A script that was read gives what the laws of the host's steps and of a run's start ask of it.
-use Rattle.std.proofs.Common.{◌≡◌, ℕ, zero, suc, ◌+◌, ◌-◌, ◌<◌, ◌≤◌, true, List, [], ◌∷◌, ◌++◌, map, take, length, Some, refl, sym, ap, ◌∙◌}
-use Rattle.std.proofs.Common.{subst, arith, slice_get, ⊎_elim}
-use Rattle.std.proofs.lemmas.Bool.{cases_lt, lt-ltb}
-use Rattle.std.proofs.lemmas.Option.{none-some, slice_get-map, slice_get_within}
+use Rattle.std.proofs.Common.{◌≡◌, ℕ, suc, ◌+◌, ◌-◌, ◌<◌, ◌≤◌, true, List, [], ◌∷◌, ◌++◌, map, take, length, Some, refl, ap, ◌∙◌}
+use Rattle.std.proofs.Common.{subst, arith, slice_get}
+use Rattle.std.proofs.lemmas.Bool.{lt-ltb}
+use Rattle.std.proofs.lemmas.Option.{slice_get-map, slice_get_within}
 use Rattle.std.specs.List.{AllByRecursion, flat_map}
 use Rattle.std.specs.Option.{option_map, option_map_or}
 use Rattle.note_types.specs.Records.{Each}
@@ -29,6 +29,7 @@ use Rattle.host_model.specs.World.{World}
 use Rattle.neutral_machine.specs.WrittenLaw.{IsValue}
 use Rattle.ebc_base.proofs.Lists.{length-map, slice_get-append_left, slice_get-append_right}
 use Rattle.neutral_machine.proofs.Ranges.{most_above}
+use Rattle.neutral_machine.proofs.ScriptObjects.{each_append, each_flat, each_take}
 use Rattle.host_laws.specs.PlanFits.{CanEnter, StoreNames}
 use Rattle.host_laws.specs.ScriptGiven.{CallGiven, StoreGiven}
 use Rattle.host_laws.specs.ScriptLaw.{CallsAreGiven, ObjectsAreGiven, StartIsGiven}
@@ -45,23 +46,6 @@ all_each P (x ∷ xs) h = (h 0 x refl, all_each P xs (λ k y e. h (suc k) y e))
 
 map_at : {A B : Type 0} (f : A → B) (xs : List A) (k : ℕ) (x : A) → slice_get xs k ≡ Some x → slice_get (map f xs) k ≡ Some (f x)
 map_at f xs k x e = slice_get-map f xs k ∙ ap (option_map f) e
-
--- what holds of each item of two lists holds of each of both
-each_append : {A : Type 0} (P : A → Type 0) (xs ys : List A) → Each P xs → Each P ys → Each P (xs ++ ys)
-each_append P xs ys h g k x e = ⊎_elim
-    (λ l. h k x (sym (slice_get-append_left xs ys k l) ∙ e))
-    (λ l. g (k - length xs) x (sym (slice_get-append_right xs ys k l) ∙ e))
-    (cases_lt k (length xs))
-
-each_flat : {A B : Type 0} (P : B → Type 0) (f : A → List B) (xs : List A) → Each (λ x. Each P (f x)) xs → Each P (flat_map f xs)
-each_flat P f [] h k x e = absurd (none-some x e)
-each_flat P f (y ∷ ys) h k x e = each_append P (f y) (flat_map f ys) (h 0 y refl) (each_flat P f ys (λ j z g. h (suc j) z g)) k x e
-
-each_take : {A : Type 0} (P : A → Type 0) (n : ℕ) (xs : List A) → Each P xs → Each P (take n xs)
-each_take P zero xs h k x e = absurd (none-some x e)
-each_take P (suc n) [] h k x e = absurd (none-some x e)
-each_take P (suc n) (y ∷ ys) h zero x e = h 0 x e
-each_take P (suc n) (y ∷ ys) h (suc k) x e = each_take P n ys (λ j z g. h (suc j) z g) k x e
 
 -- ---- stores
 

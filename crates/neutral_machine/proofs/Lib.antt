@@ -25,6 +25,7 @@ pub mod LocationRows
 pub mod NamedThings
 pub mod Words
 pub mod PlacedObjects
+pub mod ScriptObjects
 pub mod Ranges
 pub mod ReadingAlike
 pub mod Turns

@@ -1,10 +1,9 @@
 -- What the host places lies as the objects of a machine's memory do, and the stack is within the limit of notes.
-use Rattle.std.proofs.Common.{◌≡◌, ℕ, zero, suc, ◌+◌, ◌-◌, ◌*◌, ◌^◌, ◌<◌, ◌≤◌, ◌⊎◌, max, Bool, true, false, ◌||◌, if◌then◌else◌, nat_eq}
-use Rattle.std.proofs.Common.{List, [], ◌∷◌, length, map, Option, Some, refl, sym, ap, ◌∙◌, subst, arith, inl, inr, ⊎_elim, slice_get}
-use Rattle.std.proofs.Common.{option_map}
+use Rattle.std.proofs.Common.{◌≡◌, ℕ, zero, suc, ◌+◌, ◌*◌, ◌^◌, ◌<◌, ◌≤◌, ◌⊎◌, max, Bool, true, false, ◌||◌, if◌then◌else◌, nat_eq}
+use Rattle.std.proofs.Common.{List, [], ◌∷◌, length, Some, refl, sym, ap, ◌∙◌, subst, arith, inl, inr, ⊎_elim, slice_get}
 use Rattle.std.proofs.Math.Nat.{le-max_left, le-max_right, max-le}
 use Rattle.std.proofs.lemmas.Bool.{eq-eqb, eqb-true, or_cases}
-use Rattle.std.proofs.lemmas.Option.{same_Some, none-some, slice_get-map}
+use Rattle.std.proofs.lemmas.Option.{same_Some, none-some}
 use Rattle.ebc_width.specs.Ranges.{Range}
 use Rattle.ebc_width.specs.Width.{IsWidth}
 use Rattle.note_types.specs.Concrete.{AreDisjoint}
@@ -15,15 +14,15 @@ use Rattle.note_types.specs.declared.notes.FnNote.{FnNote}
 use Rattle.note_types.specs.declared.notes.Notes.{Notes}
 use Rattle.note_types.specs.declared.notes.Param.{Param}
 use Rattle.note_types.specs.declared.script.ScriptObject.{ScriptObject}
-use Rattle.neutral_machine.specs.Named.{HasObjects}
-use Rattle.host_model.specs.Objects.{static_object, script_object, placed_objects, made_objects}
+use Rattle.host_model.specs.Objects.{script_object, placed_objects}
 use Rattle.host_model.specs.Placements.{Placement, IsPlacement, IsWithin, all_ranges, placed_ranges, script_ranges, native_range}
 use Rattle.host_model.specs.Placements.{stack_range, image_range, object_bytes, frame_bytes, params_bytes, slot_bytes, pair_at, most_bytes}
 use Rattle.host_model.specs.Placements.{stack_bytes}
 use Rattle.neutral_machine.specs.RangeLaw.{LiesAsMemory, RangesLieAsMemory, StackIsWithinLimit}
+use Rattle.host_model.specs.Scripts.{IsScript}
 use Rattle.host_model.specs.World.{World}
-use Rattle.ebc_base.proofs.Lists.{slice_get-append_right, All_at, AllPairs_at, length-map}
-use Rattle.neutral_machine.proofs.NamedThings.{takes_bytes}
+use Rattle.ebc_base.proofs.Lists.{All_at, AllPairs_at}
+use Rattle.neutral_machine.proofs.ScriptObjects.{object_takes_bytes}
 use Rattle.ebc_width.proofs.Laws.{by_width}
 use Rattle.neutral_machine.proofs.PlacedObjects.{placed_in_all, script_ranges_at}
 
@@ -114,7 +113,7 @@ range_of_object w notes (o ∷ os) (b ∷ bs) zero r g = record { object = o; ba
 range_of_object w notes (o ∷ os) (b ∷ bs) (suc j) r g =
     let q = range_of_object w notes os bs j r g in record { object = q.object; base = q.base; there = q.there; at = q.at; is = q.is }
 
-module _ (w : ℕ) (world : World) (P : Placement) (h : IsWidth w) (ok : HasObjects world) (image : 0 < world.image_size)
+module _ (w : ℕ) (world : World) (P : Placement) (h : IsWidth w) (ok : IsScript world.notes world.script) (image : 0 < world.image_size)
     (entered : world.notes.entry < length world.notes.function) (pl : IsPlacement w world P) (entries : ℕ) where
   above : (r : Range) → IsWithin w r → 0 < r.size → (1 ≤ r.base) × (r.base + r.size ≤ 2 ^ (8 * w))
   above r i some = (⊎_elim (λ l. l) (λ e. absurd (omega (arith, e, some))) i.above, i.below)
@@ -134,16 +133,6 @@ module _ (w : ℕ) (world : World) (P : Placement) (h : IsWidth w) (ok : HasObje
       within (x ∷ xs) zero l = (x, refl)
       within (x ∷ xs) (suc k) l = within xs k (omega arith)
 
-  made_at : (j : ℕ) (o : ScriptObject) → slice_get (placed_objects world.script entries) j ≡ Some o
-      → slice_get (made_objects world.notes world.script entries) (length world.notes.statics + j) ≡ Some (script_object o)
-  unfolding made_objects
-  made_at j o g =
-      let e = length-map static_object world.notes.statics in
-      slice_get-append_right (map static_object world.notes.statics) _ (length world.notes.statics + j) (omega (arith, e))
-      ∙ ap (slice_get (map script_object (placed_objects world.script entries)))
-      (let z : length world.notes.statics + j - length (map static_object world.notes.statics) ≡ j = omega (arith, e) in z)
-      ∙ slice_get-map script_object (placed_objects world.script entries) j ∙ ap (λ (q : Option ScriptObject). option_map script_object q) g
-
   placed : (k : ℕ) (r : Range) → slice_get (placed_ranges w world P entries) k ≡ Some r → Placed k r
   unfolding placed_ranges
   placed zero r g = record { ever = g; some = subst (λ (q : Range). 0 < q.size) (same_Some (native_range world.notes P) r g) (omega arith) }
@@ -159,8 +148,7 @@ module _ (w : ℕ) (world : World) (P : Placement) (h : IsWidth w) (ok : HasObje
         ever = subst (λ (x : Range). slice_get (script_ranges w world.notes
             (placed_objects world.script (length world.script.call)) P.objects) j ≡ Some x) q.is
             (script_ranges_at w world.notes _ P.objects j q.base q.object (placed_in_all world.script entries j q.object q.there) q.at);
-        some = subst (λ (x : Range). 0 < x.size) q.is (takes_bytes w world P h ok pl entries (length world.notes.statics + j)
-            (script_object q.object) (made_at j q.object q.there));
+        some = subst (λ (x : Range). 0 < x.size) q.is (object_takes_bytes w world.notes world.script h ok entries j q.object q.there);
       }
 
   pub lies_as_memory : LiesAsMemory w world P entries

@@ -7,12 +7,13 @@ use Rattle.note_types.specs.Concrete.{AreDisjoint}
 use Rattle.note_types.specs.Limits.{stack_limit}
 use Rattle.note_types.specs.Records.{IsNotes}
 use Rattle.note_types.specs.declared.notes.Notes.{Notes}
-use Rattle.neutral_machine.specs.Named.{HasObjects}
 use Rattle.host_model.specs.Placements.{Placement, IsPlacement, placed_ranges, stack_bytes}
+use Rattle.host_model.specs.Scripts.{IsScript}
 use Rattle.host_model.specs.World.{World}
 
--- Where an image takes bytes and the entry function is there, all that is placed after each number of calls lies above
--- address 0, within the width, and apart: the objects of a machine's memory lie so (`IsConcrete`).
+-- Where the script was read, an image takes bytes and the entry function is there, all that is placed after each number of
+-- calls lies above address 0, within the width, and apart: the objects of a machine's memory lie so (`IsConcrete`). Nothing is
+-- asked of the image's code.
 pub record LiesAsMemory (w : ℕ) (world : World) (P : Placement) (entries : ℕ) : Type 0 where
   pub inside : (k : ℕ) (r : Range) → slice_get (placed_ranges w world P entries) k ≡ Some r → (1 ≤ r.base) × (r.base + r.size ≤ 2 ^ (8 * w))
   pub apart : (j k : ℕ) (r q : Range) → j < k → slice_get (placed_ranges w world P entries) j ≡ Some r
@@ -20,7 +21,7 @@ pub record LiesAsMemory (w : ℕ) (world : World) (P : Placement) (entries : ℕ
 
 abbrev pub RangesLieAsMemory : Type 0
 RangesLieAsMemory =
-    (w : ℕ) (world : World) (P : Placement) → IsWidth w → HasObjects world → 0 < world.image_size
+    (w : ℕ) (world : World) (P : Placement) → IsWidth w → IsScript world.notes world.script → 0 < world.image_size
     → world.notes.entry < length world.notes.function
     → IsPlacement w world P → (entries : ℕ) → LiesAsMemory w world P entries
 

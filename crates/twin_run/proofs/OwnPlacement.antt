@@ -141,17 +141,16 @@ room_above w m h l = by_width (λ v. first_base v + m ≤ 2 ^ (8 * v)) w h (omeg
 
 pub own_placement_is_valid : OwnPlacementIsValid
 unfolding own_placement placed_ranges
-own_placement_is_valid w image world h run few =
+own_placement_is_valid w image world h well_formed size notes few =
     let os : List ScriptObject = placed_objects world.script (length world.script.call) in
     let a : ℕ = first_base w in
     let n : ℕ = area_bytes world.notes in
     let s : ℕ = stack_bytes w world.notes in
     let i : ℕ = world.image_size in
-    let methods = run.notes.few.methods in
-    let functions = run.notes.few.functions in
-    let stack = stack_is_within_limit w world.notes h run.notes in
-    let size = run.size in
-    let most = run.well_formed.size in
+    let methods = notes.few.methods in
+    let functions = notes.few.functions in
+    let stack = stack_is_within_limit w world.notes h notes in
+    let most = well_formed.size in
     let grown = used_grows w world.notes os h in
     let sum = used_sum world.notes os in
     let m : padded n + padded s + padded i + used w world.notes os ≤ 14 * 2 ^ 20 =

@@ -5,13 +5,13 @@ use Rattle.host_model.specs.Placements.{IsPlacement, own_placement}
 use Rattle.host_model.specs.World.{World}
 use Rattle.std.proofs.Common.{ℕ}
 use Rattle.step_sound.specs.ReadWorld.{IsReadWorld}
-use Rattle.step_sound.proofs.Read.{objects_have_room, read_is_run}
+use Rattle.step_sound.proofs.Read.{objects_have_room}
 use Rattle.twin_run.specs.TypedRuns.{IsTypedWorld}
 use Rattle.twin_run.proofs.OwnPlacement.{own_placement_is_valid}
 
 pub read_is_placed : (w : ℕ) (image : Image) (world : World) → IsWidth w → IsReadWorld image world
     → IsPlacement w world (own_placement w world)
-read_is_placed w image world h r = own_placement_is_valid w image world h (read_is_run image world r)
+read_is_placed w image world h r = own_placement_is_valid w image world h r.well_formed r.size r.notes
     (objects_have_room world.notes world.script r.script)
 
 -- what was read and is typed keeps the rules on shapes, functions, static objects and thunk cells
