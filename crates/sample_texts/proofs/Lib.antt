@@ -1,0 +1,4 @@
+mod Rows
+pub mod PlanLaws
+pub mod SumLaws
+pub mod TextLaws
