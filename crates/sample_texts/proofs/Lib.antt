@@ -1,4 +1,5 @@
 mod Rows
+pub mod LengthLaws
 pub mod PlanLaws
 pub mod SumLaws
 pub mod TextLaws

@@ -1,5 +1,5 @@
 //! The source of a sample.
-ghost use Rattle.std.specs.Prelude.{◌≡◌, ◌<◌, IfOk, string_bytes};
+ghost use Rattle.std.specs.Prelude.{◌≡◌, ◌<◌, ◌≤◌, ◌^◌, IfOk, length, string_bytes};
 ghost use Rattle.sample_texts.specs.Samples.{calling_function, function_source, last_function, source_text};
 
 use ebc_base::NoMemory;
@@ -31,13 +31,14 @@ fn function_source(alloc: Global, functions: u32, number: u32) -> Result<String,
     }
 }
 
-/// The source of a sample of so many functions, in assembly text.
+/// The source of a sample of so many functions, in assembly text. That of at most 4,096 functions has at most 1 MiB.
 ///
 /// # Errors
 ///
 /// Want of memory alone.
 pub fn source(alloc: Global, functions: u32) -> Result<Vec<u8>, NoMemory>
-    ensures { IfOk result (λ text. text.items ≡ source_text functions) }
+    ensures text { IfOk result (λ text. text.items ≡ source_text functions) }
+    ensures short { functions ≤ 4096 → IfOk result (λ text. length text.items ≤ 2 ^ 20) }
 {
     let mut text = b".global f0\n".to_vec(alloc)?;
     for number in 0..functions {
