@@ -1,8 +1,8 @@
 -- Laws of what a call instruction asks for: the site at a place, and the arguments one after the other.
-use Rattle.std.proofs.Common.{◌≡◌, ℕ, zero, suc, ◌+◌, ◌<◌, ◌≤◌, Bool, true, false, if◌then◌else◌, cond, nat_eq, ltb, List, [], ◌∷◌}
+use Rattle.std.proofs.Common.{◌≡◌, ℕ, zero, suc, ◌+◌, ◌<◌, ◌≤◌, Bool, true, false, if◌then◌else◌, nat_eq, ltb, List, [], ◌∷◌}
 use Rattle.std.proofs.Common.{length, map, drop, get_or, ◌++◌, append_assoc, append-nil}
 use Rattle.std.proofs.Common.{Option, Some, None, ⊎_elim, refl, sym, ap, ap₂, ◌∙◌, arith, add-one}
-use Rattle.std.specs.List.{find, position_or_len}
+use Rattle.std.specs.List.{find}
 use Rattle.std.specs.Option.{IsSomeAnd, option_and_then, option_map_or}
 use Rattle.std.specs.List.Sorted.{IsNonDecreasingBy, IsPartitionPoint, IsPartitionedBy, IsStrictlyIncreasing}
 use Rattle.std.proofs.lemmas.Option.{none-some, same_Some, slice_get-get_or}
@@ -89,7 +89,7 @@ site-parts xs t up = IsPartitionedBy-ltb place_in xs t (places_rise xs up)
 abbrev pub Begins : List Site → ℕ → ℕ → Type 0
 Begins xs t k = IsPartitionPoint (λ x. ltb (place_in x) t ≡ true) (λ x. ltb (place_in x) t ≡ false) xs k
 
-other-place : (a t : ℕ) → (a ≡ t → ⊥) → nat_eq a t ≡ false
+pub other-place : (a t : ℕ) → (a ≡ t → ⊥) → nat_eq a t ≡ false
 other-place a t other = grind arith
 
 same-place : (a t : ℕ) → a ≡ t → nat_eq a t ≡ true

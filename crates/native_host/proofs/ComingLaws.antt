@@ -1,10 +1,10 @@
--- Laws of the objects of a script that a host places at the start: they come next, one after the other, and lie at their bases.
-use Rattle.std.proofs.Common.{◌≡◌, ℕ, zero, suc, ◌+◌, ◌*◌, ◌-◌, ◌^◌, ◌<◌, ◌≤◌, ◌⊎◌, List, [], ◌∷◌, ◌++◌, length, map, Some, None, Option}
+-- Laws of the objects of a script that a host places: they come next, one after the other, and lie at their bases.
+use Rattle.std.proofs.Common.{◌≡◌, ℕ, zero, suc, ◌+◌, ◌*◌, ◌-◌, ◌^◌, ◌<◌, ◌≤◌, List, [], ◌∷◌, ◌++◌, length, map, Some}
 use Rattle.std.proofs.Common.{slice_get, slice_index}
-use Rattle.std.proofs.Common.{refl, sym, ap, ap₂, ◌∙◌, subst, arith, le_refl, if◌then◌else◌, ⊎_elim, nat_lt, false}
+use Rattle.std.proofs.Common.{refl, sym, ap, ap₂, ◌∙◌, subst, arith, if◌then◌else◌, ⊎_elim, nat_lt, false}
 use Rattle.std.specs.List.{flat_map, sum_by}
 use Rattle.std.proofs.lemmas.Bool.{le-ltb}
-use Rattle.std.proofs.lemmas.List.{append-nil, append_assoc}
+use Rattle.std.proofs.lemmas.List.{append-nil, append_assoc, length-append}
 use Rattle.std.proofs.lemmas.List.Sums.{sum_by-cons}
 use Rattle.std.proofs.lemmas.Nat.{mul-le}
 use Rattle.std.proofs.lemmas.Option.{none-some, same_Some}
@@ -12,9 +12,9 @@ use Rattle.ebc_base.proofs.Lists.{length-map, slice_get-append_right}
 use Rattle.ebc_width.specs.Ranges.{Range}
 use Rattle.ebc_width.specs.Width.{IsWidth}
 use Rattle.ebc_width.proofs.Laws.{by_width}
-use Rattle.object_memory.specs.Memory.{IsFull, Memory, Object, first_base, next_base, padded, placed, range_of, ranges, used}
+use Rattle.object_memory.specs.Memory.{Memory, Object, first_base, next_base, padded, placed, range_of, ranges, used}
 use Rattle.note_types.specs.Concrete.{Concrete}
-use Rattle.note_types.specs.Shapes.{IsShape, size_at}
+use Rattle.note_types.specs.Shapes.{size_at}
 use Rattle.note_types.specs.declared.notes.Notes.{Notes}
 use Rattle.note_types.specs.declared.script.Script.{Script}
 use Rattle.note_types.specs.declared.script.ScriptObject.{ScriptObject}
@@ -28,10 +28,11 @@ use Rattle.host_model.specs.Scripts.{IsObjectOf, IsScript, all_made}
 use Rattle.host_model.specs.Start.{bare_machine, start_machine}
 use Rattle.host_model.specs.World.{World}
 use Rattle.entry_thunk.specs.Cells.{with_memory}
-use Rattle.native_host.specs.Placing.{AreComing, IsNext}
-use Rattle.native_host.specs.Starting.{rooms_in}
+use Rattle.native_host.specs.Placing.{AreComing}
+use Rattle.native_host.specs.Starting.{room_in, rooms_in}
 use Rattle.native_host.proofs.PlacedLaws.{limits_placed, next_placed, objects_placed}
-use Rattle.native_host.proofs.StartLaws.{all_count, all_placed, all_rest_made, all_rooms, all_sum, room_same, rooms_small, sizes}
+use Rattle.native_host.proofs.StartLaws.{all_count, all_placed, all_sum, ranges-count, ranges_sum, room_same}
+use Rattle.native_host.proofs.StartLaws.{rooms_append, rooms_small, sizes}
 use Rattle.object_memory.proofs.Laws.{used-placed}
 
 -- an object past the static ones lies at its base
@@ -171,61 +172,163 @@ used-ranges (o ∷ os) =
     let other = sum_by-cons size_of (range_of o) (map range_of os) in
     omega (arith, rest, one, other)
 
+-- ---- what is placed next
+
+-- the bases of objects past others
+bases-past : (w : ℕ) (notes : Notes) (b : ℕ) (xs ys : List ScriptObject) (i : ℕ)
+    → slice_index (bases_from w notes b (xs ++ ys)) (length xs + i)
+    ≡ slice_index (bases_from w notes (b + rooms_in (sizes w notes) xs) ys) i
+unfolding bases_from rooms_in
+bases-past w notes b [] ys i =
+    ap₂ (λ a k. slice_index (bases_from w notes a ys) k) (let e : b ≡ b + 0 = omega arith in e) (let e : 0 + i ≡ i = omega arith in e)
+bases-past w notes b (x ∷ xs) ys i =
+    let n : ℕ = object_bytes w notes (script_object x) in
+    let room = room_same w notes x in
+    let past : b + padded n + rooms_in (sizes w notes) xs ≡ b + (room_in (sizes w notes) x + rooms_in (sizes w notes) xs) =
+    omega (arith, room) in
+    ap (slice_index (b ∷ bases_from w notes (b + padded n) (xs ++ ys)))
+    (let e : suc (length xs) + i ≡ suc (length xs + i) = omega arith in e)
+    ∙ (bases-past w notes (b + padded n) xs ys i ∙ ap (λ a. slice_index (bases_from w notes a ys) i) past)
+
+-- where the first of some objects lie
+ranges-front : (w : ℕ) (notes : Notes) (b : ℕ) (xs ys : List ScriptObject)
+    → script_ranges w notes xs (bases_from w notes b (xs ++ ys)) ≡ script_ranges w notes xs (bases_from w notes b xs)
+unfolding script_ranges bases_from
+ranges-front w notes b [] ys = refl
+ranges-front w notes b (x ∷ xs) ys =
+    let n : ℕ = object_bytes w notes (script_object x) in
+    ap (λ rs. record { base = b; size = n } ∷ rs) (ranges-front w notes (b + padded n) xs ys)
+
+-- where those past them lie
+ranges-past : (w : ℕ) (notes : Notes) (b : ℕ) (xs ys zs : List ScriptObject)
+    → script_ranges w notes (xs ++ ys) (bases_from w notes b (xs ++ zs)) ≡ script_ranges w notes xs (bases_from w notes b (xs ++ zs))
+    ++ script_ranges w notes ys (bases_from w notes (b + rooms_in (sizes w notes) xs) zs)
+unfolding script_ranges bases_from rooms_in
+ranges-past w notes b [] ys zs =
+    ap (λ a. script_ranges w notes ys (bases_from w notes a zs)) (let e : b ≡ b + 0 = omega arith in e)
+ranges-past w notes b (x ∷ xs) ys zs =
+    let n : ℕ = object_bytes w notes (script_object x) in
+    let room = room_same w notes x in
+    let past : b + padded n + rooms_in (sizes w notes) xs ≡ b + (room_in (sizes w notes) x + rooms_in (sizes w notes) xs) =
+    omega (arith, room) in
+    ap (λ rs. record { base = b; size = n } ∷ rs)
+    (ranges-past w notes (b + padded n) xs ys zs
+    ∙ ap (λ a. script_ranges w notes xs (bases_from w notes (b + padded n) (xs ++ zs))
+    ++ script_ranges w notes ys (bases_from w notes a zs)) past)
+
+-- the address past the image
+abbrev past_image : ℕ → World → ℕ
+past_image w world =
+    first_base w + padded (area_bytes world.notes) + padded (stack_bytes w world.notes) + padded world.image_size
+
+-- The memory has the first objects of the script, `before`; `make` come next, and then the rest.
+module _ (w : ℕ) (world : World) (P : Placement) (m : Memory) (before make rest : List ScriptObject) (own : P ≡ own_placement w world)
+    (all : placed_objects world.script (length world.script.call) ≡ before ++ (make ++ rest))
+    (lie : ranges m ≡ native_range world.notes P ∷ stack_range w world.notes P ∷ image_range world P
+    ∷ script_ranges w world.notes before P.objects) where
+  bases-are : P.objects ≡ bases_from w world.notes (past_image w world) (before ++ (make ++ rest))
+  bases-are = own-objects w world P own ∙ ap (bases_from w world.notes (past_image w world)) all
+
+  front-are : script_ranges w world.notes before P.objects
+      ≡ script_ranges w world.notes before (bases_from w world.notes (past_image w world) before)
+  front-are =
+      ap (script_ranges w world.notes before) bases-are ∙ ranges-front w world.notes (past_image w world) before (make ++ rest)
+
+  used-before : used m ≡ padded (area_bytes world.notes) + padded (stack_bytes w world.notes) + padded world.image_size
+      + rooms_in (sizes w world.notes) before
+  used-before =
+      let rs : List Range = script_ranges w world.notes before P.objects in
+      let r0 : Range = native_range world.notes P in
+      let r1 : Range = stack_range w world.notes P in
+      let r2 : Range = image_range world P in
+      let sum2 = sum_by-cons size_of r2 rs in
+      let sum1 = sum_by-cons size_of r1 (r2 ∷ rs) in
+      let sum0 = sum_by-cons size_of r0 (r1 ∷ r2 ∷ rs) in
+      let front = ap (sum_by size_of) front-are ∙ ranges_sum w world.notes (past_image w world) before in
+      used-ranges m.objects ∙ (ap (sum_by size_of) lie ∙ omega (arith, sum2, sum1, sum0, front))
+
+  count-before : length m.objects ≡ length before + 3
+  count-before =
+      let front = ap length front-are ∙ ranges-count w world.notes (past_image w world) before in
+      sym (length-map range_of m.objects) ∙ (ap length lie ∙ omega (arith, front))
+
+  next-is : next_base w m ≡ past_image w world + rooms_in (sizes w world.notes) before
+  next-is = let took = used-before in omega (arith, took)
+
+  from-before : AreFrom w world.notes P (length before) (bases_from w world.notes (next_base w m) (make ++ rest))
+  from-before i =
+      ap (λ bs. slice_index bs (length before + i)) bases-are
+      ∙ (bases-past w world.notes (past_image w world) before (make ++ rest) i
+      ∙ ap (λ a. slice_index (bases_from w world.notes a (make ++ rest)) i) (sym next-is))
+
+  pub next_coming : IsWidth w → IsScript world.notes world.script
+      → m.byte_limit ≡ sum_by (λ (r : Range). padded r.size) (all_ranges w world P)
+      → m.object_limit ≡ length (all_ranges w world P)
+      → ((k : ℕ) (o : ScriptObject) → slice_get make k ≡ Some o → 1 ≤ object_bytes w world.notes (script_object o))
+      → AreComing w world.notes P (length world.notes.statics + length before) m make
+  next_coming width script bytes count some =
+      let took = used-before in
+      let three = count-before in
+      let limit = bytes ∙ (ap (λ Q. sum_by size_of (all_ranges w world Q)) own ∙ all_sum w world) in
+      let number = count ∙ (ap (λ Q. length (all_ranges w world Q)) own ∙ all_count w world) in
+      let rooms = ap (rooms_in (sizes w world.notes)) all ∙ rooms_append (sizes w world.notes) before (make ++ rest) in
+      let more = rooms_append (sizes w world.notes) make rest in
+      let small = rooms_small world.notes world.script script w width in
+      let both = ap length all ∙ length-append before (make ++ rest) in
+      let last = length-append make rest in
+      are_coming w world.notes P make rest (length before) m from-before (omega (arith, took, limit, rooms, more))
+      (omega (arith, three, number, both, last)) some (omega (arith, rooms, more, small))
+
+  -- the ranges once they are placed
+  pub next_ranges : (s : Concrete) → (with_objects w world.notes P (length world.notes.statics + length before) (map script_object make)
+      (with_memory s m)).objects ≡ native_range world.notes P ∷ stack_range w world.notes P ∷ image_range world P
+      ∷ script_ranges w world.notes (before ++ make) P.objects
+  next_ranges s =
+      let bs : List ℕ = bases_from w world.notes (next_base w m) (make ++ rest) in
+      let few = bases-count w world.notes (next_base w m) (make ++ rest) in
+      let last = length-append make rest in
+      let tail : script_ranges w world.notes (before ++ make) P.objects
+      ≡ script_ranges w world.notes before P.objects ++ script_ranges w world.notes make bs =
+      ap (script_ranges w world.notes (before ++ make)) bases-are
+      ∙ (ranges-past w world.notes (past_image w world) before make (make ++ rest)
+      ∙ ap₂ (λ u v. script_ranges w world.notes before u ++ script_ranges w world.notes make (bases_from w world.notes v (make ++ rest)))
+      (sym bases-are) (sym next-is)) in
+      lie_there w world.notes P make bs (length before) (with_memory s m) from-before (omega (arith, few, last))
+      ∙ (ap (λ rs. rs ++ script_ranges w world.notes make bs) lie
+      ∙ ap (λ rs. native_range world.notes P ∷ stack_range w world.notes P ∷ image_range world P ∷ rs) (sym tail))
+
 -- ---- what is placed at the start
 
 module _ (w : ℕ) (world : World) (P : Placement) (m : Memory) (own : P ≡ own_placement w world)
     (lie : ranges m ≡ native_range world.notes P ∷ stack_range w world.notes P ∷ image_range world P ∷ []) where
-  used-three : used m ≡ padded (area_bytes world.notes) + padded (stack_bytes w world.notes) + padded world.image_size
-  used-three = used-ranges m.objects ∙ (ap (sum_by size_of) lie ∙ omega arith)
+  bare : ranges m ≡ native_range world.notes P ∷ stack_range w world.notes P ∷ image_range world P
+      ∷ script_ranges w world.notes [] P.objects
+  unfolding script_ranges
+  bare = lie
 
-  count-three : length m.objects ≡ 3
-  count-three = sym (length-map range_of m.objects) ∙ ap length lie
-
-  from-start : AreFrom w world.notes P 0
-      (bases_from w world.notes (next_base w m) (world.script.object ++ flat_map objects_of world.script.call))
-  from-start i =
-      let took = used-three in
-      let next : first_base w + padded (area_bytes world.notes) + padded (stack_bytes w world.notes) + padded world.image_size
-      ≡ next_base w m = omega (arith, took) in
-      ap (slice_index P.objects) (let e : 0 + i ≡ i = omega arith in e)
-      ∙ ap (λ bs. slice_index bs i) (own-objects w world P own ∙ ap₂ (bases_from w world.notes) next (all_placed world.script))
+  no_more : length world.notes.statics + 0 ≡ length world.notes.statics
+  no_more = omega arith
 
   pub start_coming : IsWidth w → IsScript world.notes world.script
       → m.byte_limit ≡ sum_by (λ (r : Range). padded r.size) (all_ranges w world (own_placement w world))
       → m.object_limit ≡ length (all_ranges w world (own_placement w world))
       → AreComing w world.notes P (length world.notes.statics) m world.script.object
   start_coming width script bytes count =
-      let took = used-three in
-      let three = count-three in
-      let sum = all_sum w world in
-      let rooms = all_rooms (sizes w world.notes) world.script in
-      let small = rooms_small world.notes world.script script w width in
-      let number = all_count w world in
-      let made = all_rest_made world.script in
-      subst (λ n. AreComing w world.notes P n m world.script.object)
-      (let e : length world.notes.statics + 0 ≡ length world.notes.statics = omega arith in e)
-      (are_coming w world.notes P world.script.object (flat_map objects_of world.script.call) 0 m from-start
-      (omega (arith, took, sum, rooms, bytes)) (omega (arith, three, number, made, count))
+      subst (λ n. AreComing w world.notes P n m world.script.object) no_more
+      (next_coming w world P m [] world.script.object (flat_map objects_of world.script.call) own (all_placed world.script) bare width
+      script (bytes ∙ ap (λ Q. sum_by size_of (all_ranges w world Q)) (sym own)) (count ∙ ap (λ Q. length (all_ranges w world Q)) (sym own))
       (λ k o g. bytes_some w world.notes (all_made world.notes world.script) (length world.notes.statics + k) o width
-      (script.objects k o g))
-      (omega (arith, rooms, small)))
+      (script.objects k o g)))
 
   -- the ranges once the objects are placed that are there from the start
   pub start_ranges : (s : Concrete) → (with_objects w world.notes P (length world.notes.statics) (map script_object world.script.object)
       (with_memory s m)).objects ≡ placed_ranges w world P 0
   unfolding placed_ranges placed_objects
   start_ranges s =
-      let os : List ScriptObject = world.script.object in
-      let zero_more : length world.notes.statics ≡ length world.notes.statics + 0 = omega arith in
-      let bases = ap length (own-objects w world P own) ∙ bases-count w world.notes _
-      (placed_objects world.script (length world.script.call)) in
-      let made = all_rest_made world.script in
-      ap (λ n. (with_objects w world.notes P n (map script_object os) (with_memory s m)).objects) zero_more
-      ∙ (lie_there w world.notes P os P.objects 0 (with_memory s m) (λ i. ap (slice_index P.objects) (let e : 0 + i ≡ i = omega arith in e))
-      (omega (arith, bases, made))
-      ∙ (ap (λ rs. rs ++ script_ranges w world.notes os P.objects) lie
-      ∙ ap (λ zs. native_range world.notes P ∷ stack_range w world.notes P ∷ image_range world P ∷ script_ranges w world.notes zs P.objects)
-      (sym (append-nil os))))
+      ap (λ n. (with_objects w world.notes P n (map script_object world.script.object) (with_memory s m)).objects) (sym no_more)
+      ∙ (next_ranges w world P m [] world.script.object (flat_map objects_of world.script.call) own (all_placed world.script) bare s
+      ∙ ap (λ zs. native_range world.notes P ∷ stack_range w world.notes P ∷ image_range world P
+      ∷ script_ranges w world.notes zs P.objects) (sym (append-nil world.script.object)))
 
 -- where the native area, the stack and the image lie
 pub bare_ranges : (w : ℕ) (world : World) (P : Placement) (f : ℕ → ℕ) (m : Memory)
@@ -235,36 +338,23 @@ unfolding bare_machine
 bare_ranges w world P f m e = ap (λ (s : Concrete). s.objects) e
 
 -- the state once they are filled
-module _ (w : ℕ) (world : World) (P : Placement) (f : ℕ → ℕ) (m1 m2 m3 : Memory) (a b : ℕ) (os ps : List ScriptObject)
-    (made : List TypedObject)
-    (ea : a ≡ length world.notes.statics) (eb : b ≡ length world.notes.statics) (p : os ≡ world.script.object)
-    (q : ps ≡ world.script.object)
+module _ (w : ℕ) (world : World) (P : Placement) (f : ℕ → ℕ) (m n : Memory) (first : ℕ) (os : List ScriptObject)
+    (made : List TypedObject) (at : first ≡ length world.notes.statics) (these : os ≡ world.script.object)
     (is : made ≡ made_objects world.notes world.script 0)
-    (one : with_memory (bare_machine w world P f) m1 ≡ bare_machine w world P f)
-    (two : (s : Concrete) → with_objects w world.notes P a (map script_object os) (with_memory s m1) ≡ with_memory s m2)
-    (three : (s : Concrete) (slots : List ℕ) → after_stores w world.notes P made slots (filling world.notes b ps) (with_memory s m2)
-    ≡ with_memory s m3) where
-  pub placed_all : (s : Concrete) → with_objects w world.notes P (length world.notes.statics) (map script_object world.script.object)
-      (with_memory s m1)
-      ≡ with_memory s m2
-  placed_all s = ap₂ (λ x zs. with_objects w world.notes P x (map script_object zs) (with_memory s m1)) (sym ea) (sym p) ∙ two s
-
-  filled : (s : Concrete) → after_stores w world.notes P (made_objects world.notes world.script 0) []
-      (filling world.notes (length world.notes.statics) world.script.object) (with_memory s m2) ≡ with_memory s m3
-  filled s =
-      ap (λ ts. after_stores w world.notes P ts [] (filling world.notes (length world.notes.statics) world.script.object)
-      (with_memory s m2)) (sym is)
-      ∙ (ap₂ (λ x zs. after_stores w world.notes P made [] (filling world.notes x zs) (with_memory s m2)) (sym eb) (sym q) ∙ three s [])
-
-  start-is : start_machine w world P f ≡ with_memory (bare_machine w world P f) m3
+    (bare : with_memory (bare_machine w world P f) m ≡ bare_machine w world P f)
+    (filled : (s : Concrete) (slots : List ℕ) → after_stores w world.notes P made slots (filling world.notes first os)
+    (with_objects w world.notes P first (map script_object os) (with_memory s m)) ≡ with_memory s n) where
+  start-is : start_machine w world P f ≡ with_memory (bare_machine w world P f) n
   unfolding start_machine
   start-is =
       let s : Concrete = bare_machine w world P f in
-      let stores = filling world.notes (length world.notes.statics) world.script.object in
-      let made0 = made_objects world.notes world.script 0 in
-      ap (λ t. after_stores w world.notes P made0 [] stores
-      (with_objects w world.notes P (length world.notes.statics) (map script_object world.script.object) t)) (sym one)
-      ∙ (ap (after_stores w world.notes P made0 [] stores) (placed_all s) ∙ filled s)
+      let k : ℕ = length world.notes.statics in
+      ap (λ t. after_stores w world.notes P (made_objects world.notes world.script 0) [] (filling world.notes k world.script.object)
+      (with_objects w world.notes P k (map script_object world.script.object) t)) (sym bare)
+      ∙ (ap (λ ts. after_stores w world.notes P ts [] (filling world.notes k world.script.object)
+      (with_objects w world.notes P k (map script_object world.script.object) (with_memory s m))) (sym is)
+      ∙ (ap₂ (λ x zs. after_stores w world.notes P made [] (filling world.notes x zs)
+      (with_objects w world.notes P x (map script_object zs) (with_memory s m))) (sym at) (sym these) ∙ filled s []))
 
-  pub start_state : with_memory (start_machine w world P f) m3 ≡ start_machine w world P f
-  start_state = ap (λ s. with_memory s m3) start-is ∙ sym start-is
+  pub start_state : with_memory (start_machine w world P f) n ≡ start_machine w world P f
+  start_state = ap (λ s. with_memory s n) start-is ∙ sym start-is

@@ -23,7 +23,7 @@ index-map f [] k = refl
 index-map f (x ∷ xs) zero = refl
 index-map f (x ∷ xs) (suc k) = index-map f xs k
 
-index-sizes : (w : ℕ) (xs : List Shape) (k : ℕ) → slice_index (map (size_at w) xs) k ≡ size_at w (slice_index_or xs k no_shape)
+pub index-sizes : (w : ℕ) (xs : List Shape) (k : ℕ) → slice_index (map (size_at w) xs) k ≡ size_at w (slice_index_or xs k no_shape)
 index-sizes w [] k = omega arith
 index-sizes w (x ∷ xs) zero = refl
 index-sizes w (x ∷ xs) (suc k) = index-sizes w xs k

@@ -1,4 +1,6 @@
+pub mod AcceptLaws
 pub mod AskingLaws
+pub mod CallLaws
 pub mod ComingLaws
 pub mod EnterLaws
 pub mod KeptLaws

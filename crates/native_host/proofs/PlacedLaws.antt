@@ -1,7 +1,7 @@
 -- Laws of what is placed at the start: the native area, the stack and the image, and the objects that are to come.
-use Rattle.std.proofs.Common.{◌≡◌, ℕ, zero, suc, ◌+◌, ◌*◌, ◌-◌, ◌%◌, ◌^◌, ◌<◌, ◌≤◌, ◌⊎◌, ◌&&◌, true, false, Bool, List, [], ◌∷◌, ◌++◌}
-use Rattle.std.proofs.Common.{length, map, Some}
-use Rattle.std.proofs.Common.{refl, sym, ap, ap₂, ◌∙◌, subst, arith, le_refl, if◌then◌else◌, inl, inr, ⊎_elim}
+use Rattle.std.proofs.Common.{◌≡◌, ℕ, ◌+◌, ◌-◌, ◌%◌, ◌<◌, ◌≤◌, ◌⊎◌, ◌&&◌, true, false, Bool, List, [], ◌∷◌, ◌++◌}
+use Rattle.std.proofs.Common.{length, map}
+use Rattle.std.proofs.Common.{refl, sym, ap, ap₂, ◌∙◌, arith, if◌then◌else◌, inl, inr, ⊎_elim}
 use Rattle.std.specs.List.{find, sum_by}
 use Rattle.std.specs.Option.{option_map_or}
 use Rattle.std.specs.Prelude.{nat_le}
@@ -10,7 +10,7 @@ use Rattle.std.proofs.Math.Path.{fun_ext}
 use Rattle.ebc_width.specs.Ranges.{Range, covers}
 use Rattle.ebc_width.specs.Width.{IsWidth}
 use Rattle.ebc_width.proofs.Laws.{by_width}
-use Rattle.ebc_width.proofs.RangeLaws.{covers-bounds, covers-inside}
+use Rattle.ebc_width.proofs.RangeLaws.{covers-bounds}
 use Rattle.object_memory.specs.Memory.{IsFull, Memory, Object, byte_at, byte_of, first_base, has_byte, next_base, object_at}
 use Rattle.object_memory.specs.Memory.{padded, placed, range_of, ranges, used}
 use Rattle.object_memory.proofs.Laws.{byte_at-placed, ranges-with_bytes, used-placed}

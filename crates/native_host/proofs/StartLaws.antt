@@ -1,53 +1,49 @@
 -- Laws of the start: what is counted over a script and notes, and what all that is placed takes.
-use Rattle.std.proofs.Common.{◌≡◌, ℕ, zero, suc, ◌+◌, ◌*◌, ◌^◌, ◌<◌, ◌≤◌, true, false, Bool, ◌||◌, List, [], ◌∷◌, ◌++◌, length, map, drop}
+use Rattle.std.proofs.Common.{◌≡◌, ℕ, zero, suc, ◌+◌, ◌*◌, ◌^◌, ◌<◌, ◌≤◌, true, ◌||◌, List, [], ◌∷◌, ◌++◌, length, map}
 use Rattle.std.proofs.Common.{take, Some, None}
-use Rattle.std.proofs.Common.{refl, sym, ap, ap₂, ◌∙◌, subst, arith, le_refl, nat_le, nat_eq, slice_get, slice_index, max, if◌then◌else◌}
-use Rattle.std.proofs.Common.{slice_index_or, Option}
+use Rattle.std.proofs.Common.{refl, sym, ap, ap₂, ◌∙◌, subst, arith, le_refl, nat_le, nat_eq, slice_get, if◌then◌else◌}
+use Rattle.std.proofs.Common.{Option}
 use Rattle.std.proofs.lemmas.Option.{none-some, same_Some}
 use Rattle.std.specs.List.{flat_map, sum_by}
 use Rattle.std.proofs.lemmas.Bool.{and_parts, eq-eqb, leb-true}
-use Rattle.std.proofs.lemmas.List.{append-nil, nil_from_length}
-use Rattle.std.proofs.lemmas.List.Sums.{sum_by-append, sum_by-cons}
+use Rattle.std.proofs.lemmas.List.{append-nil, length-append, nil_from_length}
+use Rattle.std.proofs.lemmas.List.Sums.{sum_by-cons}
 use Rattle.std.proofs.lemmas.Nat.{mul-le}
 use Rattle.ebc_base.proofs.Lists.{length-map, take-all, within_some}
 use Rattle.ebc_width.specs.Width.{IsWidth}
 use Rattle.ebc_width.proofs.Laws.{by_width}
 use Rattle.ebc_width.specs.Ranges.{Range}
 use Rattle.object_memory.specs.Memory.{first_base, padded}
-use Rattle.note_types.specs.Records.{CanBeEntered, Each, IsNotes, frame_size}
+use Rattle.note_types.specs.Records.{CanBeEntered, IsNotes}
 use Rattle.note_types.specs.Shapes.{size_at}
 use Rattle.note_types.specs.declared.cell.SlotKind.TheVariants.{N, Q, D}
 use Rattle.note_types.specs.declared.notes.FnNote.{FnNote}
 use Rattle.note_types.specs.declared.notes.Notes.{Notes}
 use Rattle.note_types.specs.declared.notes.Param.{Param}
-use Rattle.note_types.specs.declared.shape.Shape.{Shape}
 use Rattle.note_types.specs.declared.script.Script.{Script}
 use Rattle.note_types.specs.declared.script.ScriptCall.{ScriptCall}
 use Rattle.note_types.specs.declared.script.ScriptObject.{ScriptObject}
-use Rattle.host_model.specs.Objects.{made_objects, no_shape, objects_of, placed_objects, script_object, shape_of, static_object}
+use Rattle.host_model.specs.Objects.{made_objects, objects_of, placed_objects, script_object, shape_of, static_object}
 use Rattle.host_model.specs.Placements.{all_ranges, area_bytes, bases_from, frame_bytes, most_bytes, object_bytes, own_placement}
 use Rattle.host_model.specs.Placements.{pair_at, params_bytes, placed_ranges, script_ranges, slot_bytes, stack_bytes}
 use Rattle.host_model.specs.World.{World}
-use Rattle.host_model.specs.Scripts.{IsScript, all_made, callbacks_of, have_room, room_of}
+use Rattle.host_model.specs.Scripts.{IsScript, callbacks_of, have_room, room_of}
 use Rattle.native_host.specs.Hosts.{all_events}
+use Rattle.native_host.proofs.KeptLaws.{index-sizes}
 use Rattle.native_host.specs.Starting.{bases_in, bases_made, rest_events, rest_made, room_in, rooms_in, rooms_made}
 
 -- ---- counts over a script
 
-length-both : {A : Type 0} (xs ys : List A) → length (xs ++ ys) ≡ length xs + length ys
-length-both [] ys = omega arith
-length-both (x ∷ xs) ys = let rest = length-both xs ys in omega (arith, rest)
-
 made-calls : (cs : List ScriptCall) → length (flat_map objects_of cs) ≡ rest_made cs
 unfolding rest_made
 made-calls [] = refl
-made-calls (c ∷ cs) = length-both c.make (flat_map objects_of cs) ∙ ap (λ n. length c.make + n) (made-calls cs)
+made-calls (c ∷ cs) = length-append c.make (flat_map objects_of cs) ∙ ap (λ n. length c.make + n) (made-calls cs)
 
 pub all_rest_made : (script : Script) → length script.object + rest_made script.call ≡ length (placed_objects script (length script.call))
 unfolding placed_objects
 all_rest_made script =
     ap (λ n. length script.object + n) (sym (made-calls script.call))
-    ∙ (sym (length-both script.object (flat_map objects_of script.call))
+    ∙ (sym (length-append script.object (flat_map objects_of script.call))
     ∙ ap (λ cs. length (script.object ++ flat_map objects_of cs)) (sym (take-all script.call)))
 
 events-calls : (cs : List ScriptCall) → rest_events cs ≡ 2 * length cs + 2 * sum_by callbacks_of cs
@@ -127,7 +123,7 @@ stack_some w notes h =
 
 -- ---- where objects lie, by the sizes of the shapes alone
 
-rooms_append : (sizes : List ℕ) (xs ys : List ScriptObject) → rooms_in sizes (xs ++ ys) ≡ rooms_in sizes xs + rooms_in sizes ys
+pub rooms_append : (sizes : List ℕ) (xs ys : List ScriptObject) → rooms_in sizes (xs ++ ys) ≡ rooms_in sizes xs + rooms_in sizes ys
 unfolding rooms_in
 rooms_append sizes [] ys = omega arith
 rooms_append sizes (x ∷ xs) ys = let rest = rooms_append sizes xs ys in omega (arith, rest)
@@ -171,11 +167,6 @@ all_bases sizes b script =
     ∙ ap (λ zs. bases_in sizes b script.object ++ zs) (bases_calls sizes (b + rooms_in sizes script.object) script.call))
 
 -- ---- by the sizes that notes give
-
-index-sizes : (w : ℕ) (xs : List Shape) (k : ℕ) → slice_index (map (size_at w) xs) k ≡ size_at w (slice_index_or xs k no_shape)
-index-sizes w [] k = omega arith
-index-sizes w (x ∷ xs) zero = refl
-index-sizes w (x ∷ xs) (suc k) = index-sizes w xs k
 
 -- the sizes that notes give
 abbrev pub sizes : ℕ → Notes → List ℕ
@@ -280,7 +271,7 @@ module _ (notes : Notes) (script : Script) (h : IsScript notes script) where
 abbrev size_of : Range → ℕ
 size_of r = padded r.size
 
-ranges_sum : (w : ℕ) (notes : Notes) (b : ℕ) (os : List ScriptObject)
+pub ranges_sum : (w : ℕ) (notes : Notes) (b : ℕ) (os : List ScriptObject)
     → sum_by size_of (script_ranges w notes os (bases_from w notes b os)) ≡ rooms_in (sizes w notes) os
 unfolding script_ranges bases_from rooms_in
 ranges_sum w notes b [] = refl
@@ -313,15 +304,15 @@ all_sum w world =
 
 -- ---- and how many things there are
 
-pub made_count : (notes : Notes) (script : Script)
-    → length (all_made notes script) ≡ length notes.statics + length (placed_objects script (length script.call))
+pub made_count : (notes : Notes) (script : Script) (accepted : ℕ)
+    → length (made_objects notes script accepted) ≡ length notes.statics + length (placed_objects script accepted)
 unfolding made_objects
-made_count notes script =
-    let os : List ScriptObject = placed_objects script (length script.call) in
-    length-both (map static_object notes.statics) (map script_object os)
+made_count notes script accepted =
+    let os : List ScriptObject = placed_objects script accepted in
+    length-append (map static_object notes.statics) (map script_object os)
     ∙ ap₂ (λ a b. a + b) (length-map static_object notes.statics) (length-map script_object os)
 
-ranges-count : (w : ℕ) (notes : Notes) (b : ℕ) (os : List ScriptObject)
+pub ranges-count : (w : ℕ) (notes : Notes) (b : ℕ) (os : List ScriptObject)
     → length (script_ranges w notes os (bases_from w notes b os)) ≡ length os
 unfolding script_ranges bases_from
 ranges-count w notes b [] = refl

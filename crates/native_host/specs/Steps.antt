@@ -56,6 +56,11 @@ asked h m frames place target r = shown h m (with_call (Asked place target) (map
 abbrev pub asked_plan : ℕ → World → Placement → RunState → (place target : ℕ) → Plan
 asked_plan w world P r place target = host_plan world r.script (Calls place (asking_at w world P r place target))
 
+-- the state of a run with what a host tells after the call step: a call that isn't accepted stays asked for
+abbrev pub settled : {w : ℕ} → Host w → Memory → List Frame → (place target : ℕ) → HostStep → RunState → RunState
+settled h m frames place target step.Accepted r = shown h m (map saved_of frames) r
+settled h m frames place target _ r = asked h m frames place target r
+
 -- how many arguments the script's call of that number has
 abbrev pub entry_count : Script → ℕ → ℕ
 entry_count script entry = option_map_or (λ (c : ScriptCall). length c.args) (slice_get script.call entry) 0
@@ -90,6 +95,12 @@ OnAccepted _ P = ⊤
 abbrev pub OnEnter : HostStep → ((func : ℕ) → (args : List Seen) → Type 0) → Type 0
 OnEnter (step.Enter f args) P = P f args
 OnEnter _ P = ⊤
+
+-- The step neither enters a function nor gives a reply.
+abbrev pub IsSettled : HostStep → Type 0
+IsSettled (step.Enter f args) = ⊥
+IsSettled (step.Reply n) = ⊥
+IsSettled _ = ⊤
 
 -- where the run ends
 abbrev pub OnEnd : HostStep → Type 0 → Type 0

@@ -4,6 +4,7 @@
 
 mod arguments;
 mod asking;
+mod call;
 mod cells;
 mod entering;
 mod host;
@@ -20,6 +21,7 @@ mod step;
 mod thunks;
 mod values;
 
+pub use call::Request;
 pub use host::Host;
 pub use note_types::{Args, Event, Reason};
 pub use starting::start;

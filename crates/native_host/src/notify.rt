@@ -1,10 +1,11 @@
 //! Notifications: whether one is due, and entering it (docs/HOST.md, "Steps", on the notify step).
-ghost use Rattle.std.specs.Prelude.{◌≡◌, ℕ, ◌+◌, ◌-◌, ◌<◌, ◌^◌, true, List, length, min, Some};
+ghost use Rattle.std.specs.Prelude.{◌≡◌, ℕ, ◌+◌, ◌-◌, ◌<◌, ◌^◌, ◌≤◌, true, List, length, min, Some, vec_capacity};
 ghost use Rattle.object_memory.specs.Memory.{Memory};
 ghost use Rattle.note_types.specs.Records.{IsNotes};
 ghost use Rattle.note_types.specs.declared.script.Script.{Script};
 ghost use Rattle.host_model.specs.HostPlans.{function_params, is_due, notification_fits};
 ghost use Rattle.host_model.specs.HostSteps.{performed, written_number};
+ghost use Rattle.host_model.specs.Placements.{frame_limit};
 ghost use Rattle.host_model.specs.Progress.{ScriptPlace};
 ghost use Rattle.host_model.specs.RunState.{RunState, SavedFrame};
 ghost use Rattle.native_host.specs.Entering.{can_enter};
@@ -55,6 +56,8 @@ impl<const W: usize> Host<W> {
         ensures same { OnEnd result (self.new ≡ self.old) }
         ensures kept { self.new ≡ record self.old { notifications = self.new.notifications; trace = self.new.trace } }
         ensures room { (n : ℕ) → HasRoom self.old (n + 1) → HasRoom self.new n }
+        ensures capacity { vec_capacity self.old.trace ≤ vec_capacity self.new.trace }
+        ensures depth { OnEnter result (λ func args. length frames.now < frame_limit) }
     {
         let number = self.notifications;
         let Some(notify) = item_at(&script.notify, number as usize) else {

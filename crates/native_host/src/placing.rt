@@ -2,7 +2,7 @@
 ghost use Rattle.std.specs.Prelude.{◌≡◌, ℕ, ◌+◌, ◌*◌, ◌<◌, ◌≤◌, ◌^◌, ◌∷◌, [], ◌++◌, List, length, map, slice_get, Some, vec_capacity};
 ghost use Rattle.std.specs.List.{flat_map};
 ghost use Rattle.ebc_width.specs.Width.{IsWidth};
-ghost use Rattle.object_memory.specs.Memory.{placed};
+ghost use Rattle.object_memory.specs.Memory.{placed, ranges};
 ghost use Rattle.note_types.specs.Concrete.{Concrete};
 ghost use Rattle.note_types.specs.declared.script.ScriptObject.{ScriptObject};
 ghost use Rattle.ebc_machine.specs.States.{KeepsObjects};
@@ -11,7 +11,7 @@ ghost use Rattle.host_model.specs.HostSteps.{after_stores, with_object, with_obj
 ghost use Rattle.host_model.specs.Objects.{script_object};
 ghost use Rattle.host_model.specs.Placements.{object_bytes, object_range};
 ghost use Rattle.entry_thunk.specs.Cells.{with_memory};
-ghost use Rattle.native_host.specs.Placing.{AreComing, IsNext};
+ghost use Rattle.native_host.specs.Placing.{AreComing, IsNext, with_made};
 ghost use Rattle.native_host.specs.Kept.{IsOf, placement_of};
 
 use crate::host::Host;
@@ -44,13 +44,8 @@ impl<const W: usize> Host<W> {
         };
     }
 
-    /// Places the objects of a script that come next.
-    pub(crate) fn place_objects(
-        &mut self,
-        notes: &Notes,
-        mem: &mut ObjMem<W>,
-        objects: &[ScriptObject],
-    )
+    // Places the objects of a script that come next.
+    fn place_objects(&mut self, notes: &Notes, mem: &mut ObjMem<W>, objects: &[ScriptObject])
         requires notes { IsOf W notes.now self.old.places }
         requires coming { AreComing W notes.now (placement_of self.old.places) (length self.old.made.items) mem.old objects.now }
         requires reserved { length self.old.made.items + length objects.now ≤ vec_capacity self.old.made }
@@ -122,14 +117,8 @@ impl<const W: usize> Host<W> {
         self.fill_cells(notes, mem, number, object, object.cells.as_slice());
     }
 
-    /// Stores what the cells of objects of a script hold at first, which are made with the numbers from `first` on.
-    pub(crate) fn fill_objects(
-        &self,
-        notes: &Notes,
-        mem: &mut ObjMem<W>,
-        first: u64,
-        objects: &[ScriptObject],
-    )
+    // Stores what the cells of objects of a script hold at first, which are made with the numbers from `first` on.
+    fn fill_objects(&self, notes: &Notes, mem: &mut ObjMem<W>, first: u64, objects: &[ScriptObject])
         requires width { IsWidth W }
         requires notes { IsOf W notes.now self.now.places }
         requires made { (k : ℕ) (o : ScriptObject) → slice_get objects.now k ≡ Some o → slice_get self.now.made.items (first + k) ≡ Some (script_object o) }
@@ -140,5 +129,36 @@ impl<const W: usize> Host<W> {
         for (k, object) in objects.iter().enumerate() {
             self.fill_object(notes, mem, first + k as u64, object);
         }
+    }
+
+    // How many typed objects are made.
+    fn count_made(&self) -> u64
+        ensures { result ≡ length self.now.made.items }
+    {
+        self.made.len() as u64
+    }
+
+    /// Places the objects of a script that come next, and stores what their cells hold at first.
+    pub(crate) fn make_objects(
+        &mut self,
+        notes: &Notes,
+        mem: &mut ObjMem<W>,
+        objects: &[ScriptObject],
+    )
+        requires width { IsWidth W }
+        requires notes { IsOf W notes.now self.old.places }
+        requires coming { AreComing W notes.now (placement_of self.old.places) (length self.old.made.items) mem.old objects.now }
+        requires reserved { length self.old.made.items + length objects.now ≤ vec_capacity self.old.made }
+        requires few { length self.old.made.items + length objects.now < 2 ^ 63 }
+        ensures after { (s : Concrete) (slots : List ℕ) → with_made W notes.now (placement_of self.old.places) self.old.made.items objects.now slots (with_memory s mem.old) ≡ with_memory s mem.new }
+        ensures made { self.new.made.items ≡ self.old.made.items ++ map script_object objects.now }
+        ensures same { self.new ≡ record self.old { made = self.new.made } }
+        ensures reserved { vec_capacity self.old.made ≤ vec_capacity self.new.made }
+        ensures ranges { (s : Concrete) → ranges mem.new ≡ (with_objects W notes.now (placement_of self.old.places) (length self.old.made.items) (map script_object objects.now) (with_memory s mem.old)).objects }
+        ensures limits { (mem.new.byte_limit ≡ mem.old.byte_limit) × (mem.new.object_limit ≡ mem.old.object_limit) }
+    {
+        let first = self.count_made();
+        self.place_objects(notes, mem, objects);
+        self.fill_objects(notes, mem, first, objects);
     }
 }

@@ -377,13 +377,6 @@ impl<const W: usize> Host<W> {
         load_image(image, self.places.image, id, mem);
     }
 
-    // How many typed objects are made.
-    fn count_made(&self) -> u64
-        ensures { result ≡ length self.now.made.items }
-    {
-        self.made.len() as u64
-    }
-
     // Places all that is there from the start, and fills it.
     fn place_all(&mut self, notes: &Notes, mem: &mut ObjMem<W>, image: &Image, script: &Script)
         requires width { IsWidth W }
@@ -398,8 +391,6 @@ impl<const W: usize> Host<W> {
         ensures reserved { vec_capacity self.old.made ≤ vec_capacity self.new.made }
     {
         self.place_image(notes, mem, image);
-        let first = self.count_made();
-        self.place_objects(notes, mem, script.object.as_slice());
-        self.fill_objects(notes, mem, first, script.object.as_slice());
+        self.make_objects(notes, mem, script.object.as_slice());
     }
 }

@@ -111,6 +111,7 @@ impl<const W: usize> Host<W> {
         ensures same { self.new ≡ record self.old { trace = self.new.trace } }
         ensures serving { (script : Script) → IsServing W notes.now script self.old → IsServing W notes.now script self.new }
         ensures room { (n : ℕ) → HasRoom self.old (n + 1) → HasRoom self.new n }
+        ensures capacity { vec_capacity self.old.trace ≤ vec_capacity self.new.trace }
     {
         let value = self.result_of(notes, func, r7);
         tell(&mut self.trace, Event::Returned { func, value });
@@ -129,6 +130,7 @@ impl<const W: usize> Host<W> {
         ensures same { self.new ≡ record self.old { trace = self.new.trace } }
         ensures serving { (script : Script) → IsServing W notes.now script self.old → IsServing W notes.now script self.new }
         ensures room { (n : ℕ) → HasRoom self.old (n + 1) → HasRoom self.new n }
+        ensures capacity { vec_capacity self.old.trace ≤ vec_capacity self.new.trace }
     {
         let value = self.result_of(notes, func, r7);
         tell(&mut self.trace, Event::Resumed { func, value });

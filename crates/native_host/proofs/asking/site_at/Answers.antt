@@ -1,8 +1,7 @@
-use Rattle.std.proofs.Common.{List, Some, refl, ap, sym, ◌∙◌, ltb, rules, true, false}
+use Rattle.std.proofs.Common.{List, Some, ap, sym, ◌∙◌, ltb, rules}
 use Rattle.std.specs.Option.{option_map}
 use Rattle.std.proofs.lemmas.Bool.{ltb-true}
 use Rattle.std.proofs.lemmas.List.Sorted.{IsPartitionPoint-from_clause}
-use Rattle.std.proofs.lemmas.Option.{slice_get-get_or}
 use Rattle.note_types.specs.declared.notes.Site.{Site}
 use Rattle.native_host.proofs.AskingLaws.{Begins, place_in, site-found, site-missed, site-parts, site-past}
 use Rattle.native_host.proofs.asking.site_at.Goals as goal

@@ -1,4 +1,4 @@
-use Rattle.std.proofs.Common.{ap, sym, ◌∙◌, arith, ◌+◌}
+use Rattle.std.proofs.Common.{ap, length, sym, ◌∙◌, arith, ◌+◌}
 use Rattle.host_model.specs.Runs.{world_of}
 use Rattle.native_host.proofs.StartLaws.{all_count, events_few, made_count, objects_few}
 use Rattle.native_host.proofs.starting.fresh_host.Goals as goal
@@ -32,7 +32,7 @@ returns-clause-fresh g c =
     let places = c.in_ok-places.ensures in
     let count = c.count_objects-objects.ensures in
     let room = c.in_ok-made.ensures.room in
-    let all = made_count c.args.notes.now c.args.script.now in
+    let all = made_count c.args.notes.now c.args.script.now (length c.args.script.now.call) in
     record {
       placement = places.placement;
       size = places.size;

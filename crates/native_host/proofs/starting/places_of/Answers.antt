@@ -1,4 +1,4 @@
-use Rattle.std.proofs.Common.{rules, ◌≡◌, ℕ, ◌+◌, ◌-◌, length, ap, arith}
+use Rattle.std.proofs.Common.{rules, ◌≡◌, length, ap, arith}
 use Rattle.host_model.specs.Objects.{placed_objects}
 use Rattle.host_model.specs.Runs.{world_of}
 use Rattle.native_host.specs.Starting.{rooms_in}

@@ -1,4 +1,4 @@
-use Rattle.std.proofs.Common.{◌≡◌, ℕ, ◌++◌, Some, drop, length}
+use Rattle.std.proofs.Common.{◌≡◌, ◌++◌, Some, drop, length}
 use Rattle.std.specs.Prelude.{slice_get}
 use Rattle.frame_stack.specs.declared.Frame.{Frame}
 use Rattle.object_memory.specs.Memory.{byte_at}

@@ -1,7 +1,7 @@
-use Rattle.std.proofs.Common.{◌≡◌, true, Some, sym, ap, ap₂, ◌∙◌}
+use Rattle.std.proofs.Common.{◌≡◌, Some, sym, ap, ap₂, ◌∙◌}
 use Rattle.std.proofs.lemmas.Option.{none-some, same_Some}
 use Rattle.ebc_width.specs.Bytes.{little_endian}
-use Rattle.ebc_width.specs.Ranges.{covers, holds}
+use Rattle.ebc_width.specs.Ranges.{covers}
 use Rattle.ebc_width.proofs.RangeLaws.{holds-at}
 use Rattle.object_memory.specs.Memory.{byte_at, held_number, ranges}
 use Rattle.object_memory.proofs.Laws.{held_number-held}

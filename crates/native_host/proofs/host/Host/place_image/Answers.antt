@@ -1,5 +1,5 @@
-use Rattle.std.proofs.Common.{◌≡◌, ℕ, ◌+◌, ◌*◌, ◌%◌, ◌<◌, sym, ap, ◌∙◌, arith}
-use Rattle.object_memory.specs.Memory.{first_base, next_base, padded, placed}
+use Rattle.std.proofs.Common.{◌≡◌, ◌+◌, ◌*◌, sym, ap, ◌∙◌, arith}
+use Rattle.object_memory.specs.Memory.{first_base, padded, placed}
 use Rattle.reloc_loader.proofs.Mapping.{is_placed_at}
 use Rattle.host_model.specs.Placements.{area_bytes, stack_bytes}
 use Rattle.native_host.specs.Kept.{placement_of}

@@ -1,4 +1,4 @@
-use Rattle.std.proofs.Common.{◌≡◌, ◌+◌, ◌*◌, length, ap, ◌∙◌, arith}
+use Rattle.std.proofs.Common.{◌≡◌, ◌*◌, length, ap, ◌∙◌, arith}
 use Rattle.object_memory.specs.Memory.{next_base, placed}
 use Rattle.object_memory.specs.declared.ObjId.{ObjId}
 use Rattle.host_model.specs.Objects.{script_object}
