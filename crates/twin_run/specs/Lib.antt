@@ -4,3 +4,5 @@ pub mod OwnPlacement
 pub mod StatesOf
 pub mod TypedRuns
 pub mod Met
+pub mod Room
+pub mod Runner

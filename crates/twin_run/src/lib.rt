@@ -2,6 +2,11 @@
 //! rests on. docs/SIMULATION.md has it in words.
 #![tactic(auto)]
 
+mod entering;
+mod hosting;
+mod instructions;
+mod runner;
+
 ghost use Rattle.std.specs.Prelude.{◌≡◌, ◌↔◌, ℕ, IfOk};
 ghost use Rattle.note_types.specs.Records.{IsNotes};
 ghost use Rattle.note_types.specs.declared.rule.RuleName.{RuleName};
@@ -17,6 +22,7 @@ ghost use Rattle.width_checker.specs.Verdicts.{IsRefused, IsVerdict};
 use ebc_base::NoMemory;
 use note_types::Notes;
 use pe_image::Image;
+pub use runner::{Runner, start};
 use std::alloc::Global;
 use width_checker::Verdict;
 

@@ -1,0 +1,168 @@
+-- Laws of a step of a run: whose it is, and what the runner needs for it and is at after it.
+use Rattle.std.proofs.Common.{◌≡◌, ℕ, ◌+◌, ◌-◌, ◌^◌, ◌<◌, ◌≤◌, Bool, true, false, List, [], ◌∷◌, length, map, min, Option, Some, None}
+use Rattle.std.proofs.Common.{refl, sym}
+use Rattle.std.proofs.Common.{ap, ◌∙◌, subst, arith, nat_eq, nat_le, slice_get, if◌then◌else◌}
+use Rattle.std.specs.Prelude.{vec_capacity}
+use Rattle.std.specs.Option.{option_map_or}
+use Rattle.std.proofs.lemmas.Bool.{leb-true}
+use Rattle.std.proofs.lemmas.Bool.Decides.{nat_tests}
+use Rattle.note_types.specs.declared.ending.Ending.{Ending}
+use Rattle.note_types.specs.declared.ending.Ending.TheVariants.{Running, Finished, Raised, Mismatch, ScriptEnd}
+use Rattle.note_types.specs.declared.notes.Notes.{Notes}
+use Rattle.note_types.specs.declared.script.Notify.{Notify}
+use Rattle.note_types.specs.declared.script.Script.{Script}
+use Rattle.object_memory.specs.Memory.{Memory}
+use Rattle.frame_stack.specs.declared.Frame.{Frame}
+use Rattle.callex_thunk.specs.HostFrames.{saved_of}
+use Rattle.host_model.specs.HostPlans.{host_turn, is_due}
+use Rattle.host_model.specs.HostSteps.{call_under_way, host_step, with_call}
+use Rattle.host_model.specs.Placements.{Placement, own_placement}
+use Rattle.host_model.specs.Progress.{NativeCall, NoCall, Asked, Accepted, ScriptPlace}
+use Rattle.host_model.specs.RunState.{RunState, SavedFrame}
+use Rattle.host_model.specs.Runs.{instruction_step, run_step, running_step, step_if}
+use Rattle.host_model.specs.Scripts.{IsScript}
+use Rattle.host_model.specs.World.{World}
+use Rattle.native_host.specs.Hosts.{HasRoom, IsMemoryOf, IsServing, host_world}
+use Rattle.native_host.specs.Kept.{placement_of}
+use Rattle.native_host.specs.declared.host.Host.{Host}
+use Rattle.twin_run.specs.Room.{AreInside, HasEvents}
+use Rattle.twin_run.specs.Runner.{IsAt, IsReady, IsRunner, Runs, hosts_of}
+use Rattle.twin_run.specs.declared.runner.AskedCall.{AskedCall}
+use Rattle.twin_run.specs.declared.runner.Runner.{Runner}
+use Rattle.twin_run.proofs.RoomLaws.{has_room, inside_some, step_events}
+use Rattle.twin_run.proofs.RunnerLaws.{is_placed, is_world}
+
+-- ---- whose step it is
+
+abbrev pub turned : ℕ → World → Placement → RunState → Bool → RunState
+turned w world P r b = if b then host_step w world P r else instruction_step w world P r
+
+-- a step of the host or of the machine is the run's
+pub turn_is : (w : ℕ) (world : World) (P : Placement) (r : RunState) (b : Bool) (c : NativeCall ℕ) (d : Bool)
+    → nat_eq r.machine.ip r.machine.gate ≡ b → call_under_way r.hosts ≡ c → is_due world.script r.script ≡ d
+    → turned w world P r (host_turn b c d) ≡ running_step w world P r
+unfolding running_step
+turn_is w world P r b c d gate call due = sym (λ i. turned w world P r (host_turn (gate i) (call i) (due i)))
+
+pub asked_under_way : (a : AskedCall) (fs : List Frame) → 0 < length fs → call_under_way (hosts_of (Some a) fs) ≡ Asked a.place a.target
+asked_under_way a [] some = absurd (omega arith)
+asked_under_way a (f ∷ fs) some = refl
+
+-- a native call is asked for
+pub asked_call : (w : ℕ) (world : World) (x : Runner w) (r : RunState) (a : AskedCall) → IsAt w world x r → x.asked ≡ Some a
+    → 0 < length x.frames → call_under_way r.hosts ≡ Asked a.place a.target
+asked_call w world x r a at is some =
+    ap call_under_way (sym at.hosts ∙ ap (λ o. hosts_of o x.frames) is) ∙ asked_under_way a x.frames some
+
+pub none_when : {A : Type 0} (o : Option A) → ((x : A) → o ≡ Some x → ⊥) → o ≡ None
+none_when None over = refl
+none_when (Some x) over = absurd (over x refl)
+
+-- none is
+pub other_call : (w : ℕ) (world : World) (x : Runner w) (r : RunState) (c : NativeCall ℕ) → IsAt w world x r → x.asked ≡ None
+    → call_under_way (map saved_of x.frames) ≡ c → call_under_way r.hosts ≡ c
+other_call w world x r c at is call = ap call_under_way (sym at.hosts ∙ ap (λ o. hosts_of o x.frames) is) ∙ call
+
+-- ---- notifications that are due
+
+within_min : (a i m : ℕ) → a ≤ m → nat_le a (min i m) ≡ nat_le a i
+within_min a i m few = by (nat_le i m) refl where
+  by : (b : Bool) → nat_le i m ≡ b → nat_le a (min i m) ≡ nat_le a i
+  by true is = let less = leb-true i m is in let same : min i m ≡ i = omega (arith, less) in ap (nat_le a) same
+  by false is = let more : m < i = grind (arith, nat_tests) in let same : min i m ≡ m = omega (arith, more) in
+      let here : nat_le a m ≡ true = grind (arith, nat_tests) in
+      let there : nat_le a i ≡ true = grind (arith, nat_tests) in
+      ap (nat_le a) same ∙ (here ∙ sym there)
+
+-- an instruction count that stops at its most tells the same
+pub due_same : (notes : Notes) (script : Script) (at to : ScriptPlace) → IsScript notes script → to.notifications ≡ at.notifications
+    → to.instructions ≡ min at.instructions (2 ^ 64 - 1) → is_due script to ≡ is_due script at
+unfolding is_due
+due_same notes script at to is same count =
+    (λ i. option_map_or (λ (n : Notify). nat_le n.at (count i)) (slice_get script.notify (same i)) false)
+    ∙ by (slice_get script.notify at.notifications) refl where
+      by : (o : Option Notify) → slice_get script.notify at.notifications ≡ o
+          → option_map_or (λ (n : Notify). nat_le n.at (min at.instructions (2 ^ 64 - 1))) (slice_get script.notify at.notifications) false
+          ≡ option_map_or (λ (n : Notify). nat_le n.at at.instructions) (slice_get script.notify at.notifications) false
+      by None none = ap (λ o. option_map_or (λ (n : Notify). nat_le n.at (min at.instructions (2 ^ 64 - 1))) o false) none
+          ∙ sym (ap (λ o. option_map_or (λ (n : Notify). nat_le n.at at.instructions) o false) none)
+      by (Some n) there =
+          let early = (is.notify.each at.notifications n there).at in
+          let same : nat_le n.at (min at.instructions (2 ^ 64 - 1)) ≡ nat_le n.at at.instructions
+          = within_min n.at at.instructions (2 ^ 64 - 1) (omega (arith, early)) in
+          ap (λ o. option_map_or (λ (n : Notify). nat_le n.at (min at.instructions (2 ^ 64 - 1))) o false) there
+          ∙ (same ∙ sym (ap (λ o. option_map_or (λ (n : Notify). nat_le n.at at.instructions) o false) there))
+
+-- whether one is due, in the words of the code
+pub due_there : (w : ℕ) (world : World) (x : Runner w) (r : RunState) (script : Script) (b : Bool) → IsAt w world x r
+    → world.script ≡ script
+    → ((at : ScriptPlace) → at.notifications ≡ x.host.notifications → at.instructions ≡ x.done → b ≡ is_due script at)
+    → is_due world.script r.script ≡ b
+due_there w world x r script b at same is =
+    let to : ScriptPlace = record r.script { notifications = x.host.notifications; instructions = x.done } in
+    sym (is to refl refl
+    ∙ (ap (λ s. is_due s to) (sym same)
+    ∙ due_same world.notes world.script r.script to at.serving.scripted (sym at.tells.notifications) at.done))
+
+-- ---- what a step needs
+
+hosts_length : (o : Option AskedCall) (fs : List Frame) → 0 < length (hosts_of o fs) → 0 < length fs
+hosts_length None [] some = some
+hosts_length None (f ∷ fs) some = omega arith
+hosts_length (Some a) [] some = some
+hosts_length (Some a) (f ∷ fs) some = omega arith
+
+pub is_ready : (w : ℕ) (notes : Notes) (script : Script) (x : Runner w) → Runs w notes script x → x.ending ≡ Running
+    → IsReady w notes script x
+is_ready w notes script x runs on =
+    let world = runs.world in
+    let r = runs.state in
+    let at = runs.is.at in
+    let go = sym at.ending ∙ on in
+    let worlds : world ≡ host_world notes script x.host = sym (is_world w world x.host at.size)
+    ∙ (λ i. record { notes = runs.its_notes i; script = runs.its_script i; image_size = x.host.places.image_size }) in
+    let placed = sym (is_placed w world x.host at.serving at.size) in
+    let told = has_room world.script (vec_capacity x.host.trace) r runs.is.events go in
+    let trace = ap (λ t. length t) at.tells.trace in
+    record {
+      serving = subst (λ (V : World). IsServing w V.notes V.script x.host) worlds at.serving;
+      memory = subst (λ (V : World). IsMemoryOf w V (placement_of x.host.places) x.host.entries x.mem) worlds
+          (subst (λ (Q : Placement). IsMemoryOf w world Q x.host.entries x.mem) placed at.memory);
+      room = omega (arith, told, trace);
+      inside = hosts_length x.asked x.frames (subst (λ (hs : List SavedFrame). 0 < length hs) (sym at.hosts) (inside_some r.hosts
+          (runs.is.events.inside go)));
+    }
+
+-- ---- what a step leaves
+
+more_events : (script : Script) (most least : ℕ) (r : RunState) → HasEvents script least r → least ≤ most → HasEvents script most r
+more_events script most least r has less = record {
+  inside = has.inside;
+  room = λ on. let room = has.room on in omega (arith, room, less);
+}
+
+pub went_on : (w : ℕ) (world : World) (x y : Runner w) (r : RunState) → IsRunner w world x r → x.ending ≡ Running
+    → IsAt w world y (running_step w world (own_placement w world) r) → vec_capacity x.host.trace ≤ vec_capacity y.host.trace
+    → IsRunner w world y (run_step w world (own_placement w world) r)
+unfolding run_step
+went_on w world x y r is on at capacity =
+    let go = sym is.at.ending ∙ on in
+    subst (λ (e : Ending). IsRunner w world y (step_if w world (own_placement w world) r e)) (sym go)
+    (record {
+      at = at;
+      events = more_events world.script (vec_capacity y.host.trace) (vec_capacity x.host.trace) (running_step w world (own_placement w
+          world) r) (step_events w world (own_placement w world) (vec_capacity x.host.trace) r go is.events) capacity;
+    })
+
+stays_ended : (w : ℕ) (world : World) (P : Placement) (r : RunState) (e : Ending) → (e ≡ Running → ⊥) → r ≡ step_if w world P r e
+stays_ended w world P r Running over = absurd (over refl)
+stays_ended w world P r (Finished v) over = refl
+stays_ended w world P r (Raised x) over = refl
+stays_ended w world P r (Mismatch x) over = refl
+stays_ended w world P r ScriptEnd over = refl
+
+pub stayed : (w : ℕ) (world : World) (x : Runner w) (r : RunState) → IsRunner w world x r → (x.ending ≡ Running → ⊥)
+    → IsRunner w world x (run_step w world (own_placement w world) r)
+unfolding run_step
+stayed w world x r is over =
+    subst (IsRunner w world x) (stays_ended w world (own_placement w world) r r.ending (λ e. over (is.at.ending ∙ e))) is

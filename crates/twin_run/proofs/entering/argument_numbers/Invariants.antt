@@ -1,0 +1,11 @@
+use Rattle.std.proofs.Common.{◌≡◌, length, map, take}
+use Rattle.note_types.specs.declared.notes.Notes.{Notes}
+use Rattle.note_types.specs.declared.seen.Seen.{Seen}
+use Rattle.host_model.specs.HostSteps.{written_number}
+use Rattle.native_host.specs.Kept.{IsOf, placement_of}
+use Rattle.twin_run.proofs.entering.argument_numbers.Given as goal
+
+abbrev pub invariant-loop-arg : goal.invariant-loop-arg
+invariant-loop-arg g l = (length l.numbers.items ≡ l.arg-index) × ((notes : Notes) → IsOf g.row.W notes l.host.places
+    → l.numbers.items ≡ map (λ (s : Seen). written_number g.row.W notes (placement_of l.host.places) l.host.made.items s.value) (take
+    l.arg-index l.args))

@@ -1,0 +1,50 @@
+use Rattle.host_model.specs.Progress.{one_instruction}
+use Rattle.twin_run.proofs.InstructionLaws.{at_thunk, before_thunk, gate_at, native_at, next_at, raised_at, thunk_at_step}
+use Rattle.twin_run.proofs.runner.Runner.instruction.Goals as goal
+
+pub returns-in-Next-clause-at : goal.returns-in-Next-clause-at
+returns-in-Next-clause-at g c = λ world r notes at.
+    next_at g.row.W world c.args.self.now r c.step.new.self c.step.new.mem c.saturating_add-self.result at (
+      c.in-Next.ensures.step,
+      c.in-Next.ensures.objects,
+      c.saturating_add-self.ensures,
+    )
+
+pub returns-in-Native-clause-at : goal.returns-in-Native-clause-at
+returns-in-Native-clause-at g c = λ world r notes at.
+    native_at g.row.W world c.args.self.now r c.step.new.self c.step.new.mem c.saturating_add-self.result c.call_place-place.result
+    c.in-Native.target at
+    (c.in-Native.ensures.step, c.in-Native.ensures.objects, c.saturating_add-self.ensures) c.call_place-place.ensures
+
+pub returns-in-Gate-clause-at : goal.returns-in-Gate-clause-at
+returns-in-Gate-clause-at g c = λ world r notes at.
+    gate_at g.row.W world c.args.self.now r c.step.new.self c.step.new.mem c.saturating_add-self.result at (
+      c.in-Gate.ensures.step,
+      c.in-Gate.ensures.objects,
+      c.saturating_add-self.ensures,
+    )
+
+pub returns-in-MakeThunk-clause-at : goal.returns-in-MakeThunk-clause-at
+returns-in-MakeThunk-clause-at g c = λ world r notes at.
+    thunk_at_step g.row.W world c.args.self.now c.serve_thunk.new.self r c.step.new.self c.step.new.mem c.saturating_add-self.result
+    c.in-MakeThunk.addr at (
+      c.in-MakeThunk.ensures.step,
+      c.in-MakeThunk.ensures.objects,
+      c.saturating_add-self.ensures,
+    )
+    (c.serve_thunk.ensures.at world (record r { script = one_instruction r.script }) notes
+    (before_thunk g.row.W world c.args.self.now r c.step.new.self c.step.new.mem c.saturating_add-self.result c.in-MakeThunk.addr at (
+      c.in-MakeThunk.ensures.step,
+      c.in-MakeThunk.ensures.objects,
+      c.saturating_add-self.ensures,
+    ))
+    (at_thunk g.row.W world c.args.self.now r c.step.new.self c.step.new.mem c.saturating_add-self.result c.in-MakeThunk.addr at (
+      c.in-MakeThunk.ensures.step,
+      c.in-MakeThunk.ensures.objects,
+      c.saturating_add-self.ensures,
+    )))
+
+pub returns-in-Raised-clause-at : goal.returns-in-Raised-clause-at
+returns-in-Raised-clause-at g c = λ world r notes at.
+    raised_at g.row.W world c.args.self.now r c.step.new.self c.step.new.mem c.saturating_add-self.result c.in-Raised.exception at
+    (c.in-Raised.ensures.step, c.in-Raised.ensures.objects, c.saturating_add-self.ensures) c.in-Raised.ensures.raised

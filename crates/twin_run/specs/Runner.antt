@@ -1,0 +1,55 @@
+-- For proofs: when a runner is at a state of a run. docs/HOST.md, "The state" and "Runs".
+use Rattle.std.specs.Prelude.{◌≡◌, ℕ, ◌-◌, ◌^◌, ◌<◌, List, length, map, min, Option, Some, None, vec_capacity}
+use Rattle.note_types.specs.declared.notes.Notes.{Notes}
+use Rattle.note_types.specs.declared.script.Script.{Script}
+use Rattle.ebc_machine.specs.States.{concrete_of}
+use Rattle.frame_stack.specs.declared.Frame.{Frame}
+use Rattle.callex_thunk.specs.HostFrames.{saved_of}
+use Rattle.host_model.specs.HostSteps.{with_call}
+use Rattle.host_model.specs.Placements.{own_placement}
+use Rattle.host_model.specs.Progress.{Asked}
+use Rattle.host_model.specs.RunState.{RunState, SavedFrame}
+use Rattle.host_model.specs.World.{World}
+use Rattle.native_host.specs.Hosts.{HasRoom, IsMemoryOf, IsServing, Tells, host_world}
+use Rattle.native_host.specs.Kept.{placement_of}
+use Rattle.twin_run.specs.Room.{HasEvents}
+use Rattle.twin_run.specs.declared.runner.AskedCall.{AskedCall}
+use Rattle.twin_run.specs.declared.runner.Runner.{Runner}
+
+-- the frames of the host, where a native call is asked for above the top one or not
+abbrev pub hosts_of : Option AskedCall → List Frame → List SavedFrame
+hosts_of None frames = map saved_of frames
+hosts_of (Some a) frames = with_call (Asked a.place a.target) (map saved_of frames)
+
+-- What a runner holds is a state of a run: its host serves in the run's world, and its memory is the host's.
+pub record IsAt (w : ℕ) (world : World) (x : Runner w) (r : RunState) : Type 0 where
+  pub serving : IsServing w world.notes world.script x.host
+  pub size : x.host.places.image_size ≡ world.image_size
+  pub image_size : x.image_size ≡ world.image_size
+  pub memory : IsMemoryOf w world (own_placement w world) x.host.entries x.mem
+  pub machine : concrete_of x.machine x.mem ≡ r.machine
+  pub hosts : hosts_of x.asked x.frames ≡ r.hosts
+  pub tells : Tells x.host r
+  pub done : x.done ≡ min r.script.instructions (2 ^ 64 - 1)
+  pub ending : x.ending ≡ r.ending
+
+-- A runner is the runner of a run in this state: there is room for all events that may still come.
+pub record IsRunner (w : ℕ) (world : World) (x : Runner w) (r : RunState) : Type 0 where
+  pub at : IsAt w world x r
+  pub events : HasEvents world.script (vec_capacity x.host.trace) r
+
+-- A runner is the runner of some run, under notes and with a script.
+pub record Runs (w : ℕ) (notes : Notes) (script : Script) (x : Runner w) : Type 0 where
+  pub world : World
+  pub its_notes : world.notes ≡ notes
+  pub its_script : world.script ≡ script
+  pub state : RunState
+  pub is : IsRunner w world x state
+
+-- What a step of the host needs of a runner: its host serves, its memory is the host's, there is room for an event, and the run is
+-- inside a function that the host entered.
+pub record IsReady (w : ℕ) (notes : Notes) (script : Script) (x : Runner w) : Type 0 where
+  pub serving : IsServing w notes script x.host
+  pub memory : IsMemoryOf w (host_world notes script x.host) (placement_of x.host.places) x.host.entries x.mem
+  pub room : HasRoom x.host 1
+  pub inside : 0 < length x.frames

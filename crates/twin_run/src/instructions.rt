@@ -1,0 +1,82 @@
+//! The instructions of a run (docs/HOST.md, "Runs").
+ghost use Rattle.std.specs.Prelude.{◌≡◌, ℕ, ◌-◌, Some, None, if◌then◌else◌};
+ghost use Rattle.ebc_width.specs.Ranges.{covers};
+ghost use Rattle.ebc_width.specs.Width.{IsWidth};
+ghost use Rattle.ebc_machine.specs.States.{concrete_of};
+ghost use Rattle.note_types.specs.declared.script.Script.{Script};
+ghost use Rattle.host_model.specs.HostSteps.{call_place, thunk_made, thunk_view};
+ghost use Rattle.host_model.specs.Placements.{Placement, image_range, own_placement};
+ghost use Rattle.host_model.specs.RunState.{RunState};
+ghost use Rattle.host_model.specs.Runs.{instruction_step};
+ghost use Rattle.host_model.specs.World.{World};
+ghost use Rattle.native_host.specs.Kept.{IsOf, placement_of};
+ghost use Rattle.twin_run.specs.Runner.{IsAt};
+
+use crate::runner::{AskedCall, Runner};
+use ebc_machine::{Machine, StepEnd};
+use native_host::HostStep;
+use note_types::{Ending, Notes};
+
+impl<const W: usize> Runner<W> {
+    // The place of the image at an address, and none outside the image.
+    pub(crate) fn image_place(&self, addr: u64) -> Option<u32>
+        ensures { (world : World) (P : Placement) → P.image ≡ (placement_of self.now.host.places).image → world.image_size ≡ self.now.image_size → result ≡ (if covers addr 1 (image_range world P) then Some (addr - P.image) else None) }
+    {
+        let base = self.host.image_base();
+        let size = self.image_size;
+        if base <= addr && addr - base < u64::from(size) {
+            Some((addr - base) as u32)
+        } else {
+            None
+        }
+    }
+
+    // The place of a call instruction at an address.
+    fn call_place(&self, addr: u64) -> u32
+        ensures { (world : World) (P : Placement) → P.image ≡ (placement_of self.now.host.places).image → world.image_size ≡ self.now.image_size → result ≡ call_place world P addr }
+    {
+        match self.image_place(addr) {
+            Some(place) => place,
+            None => 0xFFFF_FFFF,
+        }
+    }
+
+    // One instruction, which counts.
+    pub(crate) fn instruction(&mut self, notes: &Notes)
+        requires width { IsWidth W }
+        requires notes { IsOf W notes.now self.old.host.places }
+        ensures at { (world : World) (r : RunState) → world.notes ≡ notes.now → IsAt W world self.old r → IsAt W world self.new (instruction_step W world (own_placement W world) r) }
+        ensures trace { self.new.host.trace ≡ self.old.host.trace }
+    {
+        let before = self.machine;
+        self.done = self.done.saturating_add(1);
+        match self.machine.step(&mut self.mem) {
+            StepEnd::Next => {}
+            StepEnd::Native(target) => {
+                let place = self.call_place(before.ip);
+                self.asked = Some(AskedCall { place, target });
+            }
+            StepEnd::Gate => {}
+            StepEnd::MakeThunk(addr) => self.serve_thunk(notes, &before, addr),
+            StepEnd::Raised(exception) => self.ending = Ending::Raised(exception),
+        }
+    }
+
+    // Serves the thunk cell at an address for an instruction that is done; the machine is as it was before where the cell isn't
+    // mapped.
+    fn serve_thunk(&mut self, notes: &Notes, before: &Machine<W>, addr: u64)
+        requires width { IsWidth W }
+        requires notes { IsOf W notes.now self.old.host.places }
+        ensures at { (world : World) (r : RunState) → world.notes ≡ notes.now → r.machine ≡ concrete_of before.now self.old.mem → IsAt W world self.old (record r { machine = concrete_of self.old.machine self.old.mem }) → IsAt W world self.new (thunk_made W world (own_placement W world) r (concrete_of self.old.machine self.old.mem) addr (thunk_view world (own_placement W world) (concrete_of self.old.machine self.old.mem) addr)) }
+        ensures trace { self.new.host.trace ≡ self.old.host.trace }
+    {
+        match self.host.make_thunk(notes, &mut self.mem, addr) {
+            HostStep::Mismatch(reason) => self.ending = Ending::Mismatch(reason),
+            HostStep::Raised(exception) => {
+                self.machine = *before;
+                self.ending = Ending::Raised(exception);
+            }
+            _ => {}
+        }
+    }
+}

@@ -1,0 +1,174 @@
+//! The runner of a run at one width (docs/HOST.md, "Runs").
+ghost use Rattle.std.specs.Prelude.{◌≡◌, ℕ, ◌<◌, ◌≤◌, IfOk, length, map, vec_capacity};
+ghost use Rattle.std.specs.Bool.{OnFalse, OnTrue};
+ghost use Rattle.ebc_width.specs.Width.{IsWidth};
+ghost use Rattle.frame_stack.specs.declared.Frame.{Frame};
+ghost use Rattle.note_types.specs.Records.{IsNotes};
+ghost use Rattle.note_types.specs.declared.ending.Ending.TheVariants.{Running};
+ghost use Rattle.pe_image.specs.Images.{IsImage};
+ghost use Rattle.pe_image.specs.Mapped.{AreBytes};
+ghost use Rattle.callex_thunk.specs.HostFrames.{saved_of};
+ghost use Rattle.host_model.specs.HostSteps.{call_under_way, spot_of};
+ghost use Rattle.host_model.specs.Placements.{own_placement};
+ghost use Rattle.host_model.specs.Progress.{NoCall};
+ghost use Rattle.host_model.specs.RunState.{RunState};
+ghost use Rattle.host_model.specs.Runs.{run_of, run_step, running_step, world_of};
+ghost use Rattle.host_model.specs.Scripts.{IsScript};
+ghost use Rattle.host_model.specs.World.{World};
+ghost use Rattle.native_host.specs.Hosts.{IsCalled};
+ghost use Rattle.twin_run.specs.Runner.{IsAt, IsReady, IsRunner, Runs};
+
+use crate::entering::numbers_of;
+use callex_thunk::NO_ENTRY;
+use ebc_base::NoMemory;
+use ebc_machine::Machine;
+use frame_stack::FrameStack;
+use native_host::Host;
+use note_types::{Ending, Event, Notes, Script, Spot};
+use object_memory::ObjMem;
+use pe_image::Image;
+use std::alloc::Global;
+
+/// A native call that a call instruction asks for.
+#[derive(Clone, Copy)]
+pub(crate) struct AskedCall {
+    /// The place of the instruction, 0xFFFFFFFF outside the image.
+    pub place: u32,
+    /// The address that is called.
+    pub target: u64,
+}
+
+/// A run of an image on the modelled host, at a width of `W` bytes, step by step (docs/HOST.md). Nothing is allocated once it is
+/// started.
+#[derive(Drop)]
+pub struct Runner<const W: usize> {
+    pub(crate) host: Host<W>,
+    pub(crate) mem: ObjMem<W>,
+    pub(crate) machine: Machine<W>,
+    pub(crate) frames: FrameStack,
+    // The native call that is asked for in the top frame, until the host accepts it.
+    pub(crate) asked: Option<AskedCall>,
+    // How many instructions are done, up to 2^64 - 1.
+    pub(crate) done: u64,
+    // The bytes that the image takes.
+    pub(crate) image_size: u32,
+    pub(crate) ending: Ending,
+}
+
+/// Starts a run of an image under notes and with a script, all of which were read: the state before the first step.
+///
+/// # Errors
+///
+/// There is no memory for the run. No other call of the runner takes any.
+pub fn start<const W: usize>(
+    alloc: Global,
+    image: &Image,
+    notes: &Notes,
+    script: &Script,
+) -> Result<Runner<W>, NoMemory>
+    requires width { IsWidth W }
+    requires image { IsImage image.now }
+    requires bytes { AreBytes image.now }
+    requires notes { IsNotes notes.now }
+    requires script { IsScript notes.now script.now }
+    ensures start { IfOk result (λ x. IsRunner W (world_of image.now notes.now script.now) x (run_of W (world_of image.now notes.now script.now) (own_placement W (world_of image.now notes.now script.now)) image.now 0)) }
+{
+    let (host, mem) = native_host::start::<W>(alloc, image, notes, script)?;
+    let frames = FrameStack::new(alloc)?;
+    let numbers = numbers_of(&host, &script.args);
+    let machine = Machine {
+        regs: [host.stack_end(), 0, 0, 0, 0, 0, 0, 0],
+        ip: host.gate(),
+        flags: 0,
+        gate: host.gate(),
+    };
+    let mut runner = Runner {
+        host,
+        mem,
+        machine,
+        frames,
+        asked: None,
+        done: 0,
+        image_size: image.size,
+        ending: Ending::Running,
+    };
+    runner.enter(notes, notes.entry, numbers.as_slice(), false);
+    Ok(runner)
+}
+
+impl<const W: usize> Runner<W> {
+    /// One step of the run under its notes and with its script, the host's or the machine's. A run that ended stays as it is.
+    pub fn step(&mut self, notes: &Notes, script: &Script)
+        requires width { IsWidth W }
+        requires runs { Runs W notes.now script.now self.old }
+        ensures step { (world : World) (r : RunState) → world.notes ≡ notes.now → world.script ≡ script.now → IsRunner W world self.old r → IsRunner W world self.new (run_step W world (own_placement W world) r) }
+    {
+        if let Ending::Running = self.ending {
+            self.go_on(notes, script);
+        }
+    }
+
+    // One step of a run that goes on.
+    fn go_on(&mut self, notes: &Notes, script: &Script)
+        requires width { IsWidth W }
+        requires ready { IsReady W notes.now script.now self.old }
+        ensures at { (world : World) (r : RunState) → world.notes ≡ notes.now → world.script ≡ script.now → IsAt W world self.old r → IsAt W world self.new (running_step W world (own_placement W world) r) }
+        ensures capacity { vec_capacity self.old.host.trace ≤ vec_capacity self.new.host.trace }
+    {
+        if self.machine.ip == self.machine.gate {
+            self.leave_function(notes);
+        } else if let Some(asked) = self.asked {
+            self.call(notes, script, asked);
+        } else if self.is_called() {
+            self.next(notes, script);
+        } else if self.host.due(script, self.done) {
+            self.notify(notes, script);
+        } else {
+            self.instruction(notes);
+        }
+    }
+
+    // Whether a native call that the script answers is under way above the top frame.
+    fn is_called(&self) -> bool
+        requires { 0 < length self.now.frames }
+        ensures called { OnTrue result (IsCalled self.now.frames) }
+        ensures none { OnFalse result (call_under_way (map saved_of self.now.frames) ≡ NoCall) }
+    {
+        let (entry, _, _) = self.frames.mark();
+        entry != NO_ENTRY
+    }
+
+    /// How the run ended, or that it goes on.
+    pub fn ending(&self) -> Ending
+        ensures { (world : World) (r : RunState) → IsRunner W world self.now r → result ≡ r.ending }
+    {
+        self.ending
+    }
+
+    /// Where the run stands.
+    pub fn spot(&self) -> Spot
+        ensures { (world : World) (r : RunState) → IsRunner W world self.now r → result ≡ spot_of world (own_placement W world) r.machine }
+    {
+        if self.machine.ip == self.machine.gate {
+            return Spot::Gate;
+        }
+        match self.image_place(self.machine.ip) {
+            Some(place) => Spot::Place(place),
+            None => Spot::Wild(self.machine.ip),
+        }
+    }
+
+    /// The events so far, the first one first.
+    pub fn trace(&self) -> &Vec<Event>
+        ensures { (world : World) (r : RunState) → IsRunner W world self.now r → result.now.items ≡ r.trace }
+    {
+        self.host.trace()
+    }
+
+    /// The events, handed over.
+    pub fn into_trace(self) -> Vec<Event>
+        ensures { (world : World) (r : RunState) → IsRunner W world self.entry r → result.items ≡ r.trace }
+    {
+        self.host.into_trace()
+    }
+}
