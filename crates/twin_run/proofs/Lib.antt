@@ -7,6 +7,7 @@ pub mod DriverTyped
 pub mod EnteringLaws
 pub mod HostingLaws
 pub mod InstructionLaws
+pub mod OnItsWay
 pub mod OwnPlacement
 pub mod Places
 pub mod Read
@@ -15,4 +16,6 @@ pub mod RunnerLaws
 pub mod Runs
 pub mod ThunkSteps
 pub mod TurnLaws
+pub mod SameEvents
+pub mod Stepping
 pub mod TypedTest

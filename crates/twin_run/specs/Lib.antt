@@ -6,3 +6,5 @@ pub mod TypedRuns
 pub mod Met
 pub mod Room
 pub mod Runner
+pub mod OnItsWay
+pub mod Reported

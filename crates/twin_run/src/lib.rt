@@ -2,10 +2,14 @@
 //! rests on. docs/SIMULATION.md has it in words.
 #![tactic(auto)]
 
+mod comparing;
 mod entering;
 mod hosting;
 mod instructions;
+mod one_run;
+mod reports;
 mod runner;
+mod two_runs;
 
 ghost use Rattle.std.specs.Prelude.{◌≡◌, ◌↔◌, ℕ, IfOk};
 ghost use Rattle.note_types.specs.Records.{IsNotes};
@@ -21,9 +25,12 @@ ghost use Rattle.width_checker.specs.Verdicts.{IsRefused, IsVerdict};
 
 use ebc_base::NoMemory;
 use note_types::Notes;
+pub use one_run::run;
 use pe_image::Image;
+pub use reports::{RunReport, TwinReport};
 pub use runner::{Runner, start};
 use std::alloc::Global;
+pub use two_runs::twin;
 use width_checker::Verdict;
 
 /// The verdict on an image under notes, as `width_checker::check` gives it. Where it is neutral, the runs of the image on the modelled

@@ -1,0 +1,203 @@
+-- Runners on their way along runs: one at its start, after a step more, and at the end; and two, which show where the runs part.
+use Rattle.std.specs.Prelude.{◌≢◌, IsTrue}
+use Rattle.std.proofs.Common.{◌≡◌, ◌↔◌, ◌⊎◌, ℕ, ◌+◌, ◌-◌, ◌<◌, ◌≤◌, Bool, true, false, if◌then◌else◌, List, ◌++◌, length, drop}
+use Rattle.std.proofs.Common.{Some, None, refl, sym, ap, ◌∙◌, subst, inl, inr, arith, add-one}
+use Rattle.std.proofs.Math.Seq.{drop-append_seam}
+use Rattle.std.proofs.lemmas.Bool.{cases_lt, false≢true}
+use Rattle.note_types.specs.declared.ending.Ending.TheVariants.{Running}
+use Rattle.note_types.specs.declared.event.Event.{Event}
+use Rattle.note_types.specs.declared.notes.Notes.{Notes}
+use Rattle.note_types.specs.declared.script.Script.{Script}
+use Rattle.pe_image.specs.Mapped.{mapped}
+use Rattle.pe_image.specs.declared.image.Image.{Image}
+use Rattle.host_model.specs.HostSteps.{spot_of}
+use Rattle.host_model.specs.Placements.{own_placement}
+use Rattle.host_model.specs.RunState.{RunState}
+use Rattle.host_model.specs.Runs.{SameRun, run_after, run_step}
+use Rattle.host_model.specs.World.{World}
+use Rattle.twin_run.specs.Differs.{DifferAt, OwnRunsSame, first, nowhere}
+use Rattle.twin_run.specs.OnItsWay.{AreInStep, IsOnItsWay, IsSameButFirst}
+use Rattle.twin_run.specs.Reported.{IsReport, own_run}
+use Rattle.twin_run.specs.Runner.{IsRunner, Runs}
+use Rattle.twin_run.specs.declared.reports.RunReport.{RunReport}
+use Rattle.twin_run.specs.declared.runner.Runner.{Runner}
+use Rattle.twin_run.proofs.Stepping.{ended-is-last, step-tells}
+
+-- each number below the next one is below this one, or is this one
+pub below-next : (j k : ℕ) → j < k + 1 → (j < k) ⊎ (j ≡ k)
+below-next j k l = elim (cases_lt j k) as (λ _. (j < k) ⊎ (j ≡ k)) [ inl m ↦ inl m | inr m ↦ inr (omega (arith, l, m)) ]
+
+-- ---- one run
+
+-- the state that a step takes a runner to
+abbrev pub Steps : (w : ℕ) (world : World) (x y : Runner w) → Type 0
+Steps w world x y = (r : RunState) → IsRunner w world x r → IsRunner w world y (run_step w world (own_placement w world) r)
+
+module _ (w : ℕ) (image : Image) (world : World) where
+  run-next : (k : ℕ) → own_run w image world (k + 1) ≡ run_step w world (own_placement w world) (own_run w image world k)
+  unfolding run_after
+  run-next k = ap (own_run w image world) (add-one k)
+
+  -- at the start
+  pub starts : (limit : ℕ) (x : Runner w) → IsRunner w world x (own_run w image world 0) → IsOnItsWay w image world limit 0 x
+  starts limit x is = record { most = omega arith; goes_on = λ j l. absurd (omega (arith, l)); there = is }
+
+  -- after a step more
+  pub goes-on : (limit k : ℕ) (x y : Runner w) → IsOnItsWay w image world limit k x → k < limit
+      → (own_run w image world k).ending ≡ Running → Steps w world x y → IsOnItsWay w image world limit (k + 1) y
+  goes-on limit k x y on less running step = record {
+    most = omega (arith, less);
+    goes_on = λ j l. elim (below-next j k l) as (λ _. (own_run w image world j).ending ≡ Running) [
+      | inl m ↦ on.goes_on j m
+      | inr e ↦ ap (λ i. (own_run w image world i).ending) e ∙ running
+    ];
+    there = subst (IsRunner w world y) (sym (run-next k)) (step (own_run w image world k) on.there);
+  }
+
+  -- at the end, which is the run's or the limit
+  pub reports : (limit k : ℕ) (x : Runner w) (report : RunReport) → IsOnItsWay w image world limit k x
+      → ((own_run w image world k).ending ≢ Running) ⊎ (k ≡ limit) → report.steps ≡ k
+      → ((r : RunState) → IsRunner w world x r → report.spot ≡ spot_of world (own_placement w world) r.machine)
+      → ((r : RunState) → IsRunner w world x r → report.ending ≡ r.ending)
+      → ((r : RunState) → IsRunner w world x r → report.events.items ≡ r.trace) → IsReport w image world limit report
+  reports limit k x report on over is spot ending events =
+      let at : RunState = own_run w image world k in
+      let back : own_run w image world k ≡ own_run w image world report.steps = ap (own_run w image world) (sym is) in
+      record {
+        steps = record {
+          most = subst (λ n. n ≤ limit) (sym is) on.most;
+          goes_on = λ j l. on.goes_on j (subst (λ n. j < n) is l);
+          done = subst (λ n. ((own_run w image world n).ending ≢ Running) ⊎ (n ≡ limit)) (sym is) over;
+        };
+        spot = spot at on.there ∙ ap (λ (r : RunState). spot_of world (own_placement w world) r.machine) back;
+        ending = ending at on.there ∙ ap (λ (r : RunState). r.ending) back;
+        events = events at on.there ∙ ap (λ (r : RunState). r.trace) back;
+      }
+
+  -- a runner on its way is the runner of some run
+  pub runs : (notes : Notes) (script : Script) (limit k : ℕ) (x : Runner w) → world.notes ≡ notes → world.script ≡ script
+      → IsOnItsWay w image world limit k x → Runs w notes script x
+  runs notes script limit k x n s on = record { world = world; its_notes = n; its_script = s; state = own_run w image world k; is = on.there }
+
+  -- once it has ended a run stays as it is
+  stays : (k j : ℕ) → k ≤ j → (own_run w image world k).ending ≢ Running → own_run w image world j ≡ own_run w image world k
+  stays k j l over =
+      let e : j ≡ k + (j - k) = omega (arith, l) in
+      ap (own_run w image world) e
+      ∙ ended-is-last w world (own_placement w world) (mapped image (own_placement w world).image) k (j - k) over
+
+-- a runner of some run is still one after a step
+pub still-runs : (w : ℕ) (notes : Notes) (script : Script) (x y : Runner w) → Runs w notes script x
+    → ((world : World) (r : RunState) → world.notes ≡ notes → world.script ≡ script → IsRunner w world x r
+    → IsRunner w world y (run_step w world (own_placement w world) r)) → Runs w notes script y
+still-runs w notes script x y runs step = record {
+  world = runs.world;
+  its_notes = runs.its_notes;
+  its_script = runs.its_script;
+  state = run_step w runs.world (own_placement w runs.world) runs.state;
+  is = step runs.world runs.state runs.its_notes runs.its_script runs.is;
+}
+
+-- ---- two runs
+
+-- lists that go on from one list are one where they are from there on
+same-rest : (old : List Event) (xs ys : List Event) (es fs : List Event) → xs ≡ old ++ es → ys ≡ old ++ fs
+    → drop (length old) xs ≡ drop (length old) ys → xs ≡ ys
+same-rest old xs ys es fs p q e =
+    let one : drop (length old) xs ≡ es = ap (drop (length old)) p ∙ drop-append_seam old es in
+    let other : drop (length old) ys ≡ fs = ap (drop (length old)) q ∙ drop-append_seam old fs in
+    p ∙ ap (λ t. old ++ t) (sym one ∙ e ∙ other) ∙ sym q
+
+module _ (image : Image) (world : World) where
+  -- at the start no event is left out
+  same-from_none : (r s : RunState) → IsSameButFirst world 0 r s ↔ SameRun world (own_placement 4 world) r (own_placement 8 world) s
+  same-from_none r s = (
+    λ x. record { spot = x.spot; trace = x.events; ending = x.ending },
+    λ x. record { spot = x.spot; ending = x.ending; events = x.trace },
+  )
+
+  -- after a step of runs that were the same it is enough to compare the events that are new
+  same-from_old : (r s : RunState) → SameRun world (own_placement 4 world) r (own_placement 8 world) s
+      → let x : RunState = run_step 4 world (own_placement 4 world) r in
+      let y : RunState = run_step 8 world (own_placement 8 world) s in
+      IsSameButFirst world (length r.trace) x y ↔ SameRun world (own_placement 4 world) x (own_placement 8 world) y
+  same-from_old r s same =
+      let p = step-tells 4 world (own_placement 4 world) r in
+      let q = step-tells 8 world (own_placement 8 world) s in (
+        λ v. record {
+          spot = v.spot;
+          trace = same-rest r.trace _ _ p.0 q.0 p.1 (q.1 ∙ ap (λ t. t ++ q.0) (sym same.trace)) v.events;
+          ending = v.ending;
+        },
+        λ v. record { spot = v.spot; ending = v.ending; events = ap (drop (length r.trace)) v.trace },
+      )
+
+  pub starts-in_step : (limit : ℕ) (x : Runner 4) (y : Runner 8) (same : Bool) → IsRunner 4 world x (own_run 4 image world 0)
+      → IsRunner 8 world y (own_run 8 image world 0)
+      → (IsTrue same ↔ IsSameButFirst world 0 (own_run 4 image world 0) (own_run 8 image world 0))
+      → AreInStep image world limit 0 x y same
+  starts-in_step limit x y same at4 at8 compared =
+      let whole = same-from_none (own_run 4 image world 0) (own_run 8 image world 0) in
+      record {
+        at4 = starts 4 image world limit x at4;
+        at8 = starts 8 image world limit y at8;
+        before = λ j l. absurd (omega (arith, l));
+        now = (λ t. whole.0 (compared.0 t), λ s. compared.1 (whole.1 s));
+      }
+
+  -- the events that are told so far
+  pub told : (limit k : ℕ) (x : Runner 4) (n : ℕ) (events : List Event) → IsOnItsWay 4 image world limit k x → n ≡ length events
+      → ((r : RunState) → IsRunner 4 world x r → events ≡ r.trace) → n ≡ length (own_run 4 image world k).trace
+  told limit k x n events on is tells = is ∙ ap length (tells (own_run 4 image world k) on.there)
+
+  pub goes-on_in_step : (limit k n : ℕ) (x u : Runner 4) (y v : Runner 8) (same : Bool) → AreInStep image world limit k x y true → k < limit
+      → (own_run 4 image world k).ending ≡ Running → n ≡ length (own_run 4 image world k).trace → Steps 4 world x u → Steps 8 world y v
+      → ((r s : RunState) → IsRunner 4 world u r → IsRunner 8 world v s → IsTrue same ↔ IsSameButFirst world n r s)
+      → AreInStep image world limit (k + 1) u v same
+  goes-on_in_step limit k n x u y v same were less running is one other compared =
+      let r : RunState = own_run 4 image world k in
+      let s : RunState = own_run 8 image world k in
+      let now : OwnRunsSame image world k = were.now.0 refl in
+      let at4 = goes-on 4 image world limit k x u were.at4 less running one in
+      let at8 = goes-on 8 image world limit k y v were.at8 less (sym now.ending ∙ running) other in
+      let P : ℕ → RunState → RunState → Type 0 = λ m a b. IsTrue same ↔ IsSameButFirst world m a b in
+      let new = subst (λ m. P m (run_step 4 world (own_placement 4 world) r) (run_step 8 world (own_placement 8 world) s)) is
+      (compared _ _ (one r were.at4.there) (other s were.at8.there)) in
+      let whole = same-from_old r s now in
+      let Q : RunState → RunState → Type 0 =
+      λ a b. IsTrue same ↔ SameRun world (own_placement 4 world) a (own_placement 8 world) b in
+      record {
+        at4 = at4;
+        at8 = at8;
+        before = λ j l. elim (below-next j k l) as (λ _. OwnRunsSame image world j) [
+          | inl m ↦ were.before j m
+          | inr e ↦ subst (OwnRunsSame image world) (sym e) now
+        ];
+        now = subst (λ a. Q a (own_run 8 image world (k + 1))) (sym (run-next 4 image world k))
+            (subst (Q (run_step 4 world (own_placement 4 world) r)) (sym (run-next 8 image world k))
+            ((λ t. whole.0 (new.0 t), λ z. new.1 (whole.1 z))));
+      }
+
+  -- where the runs part, once the two runners go on no more in step
+  pub parts : (limit k : ℕ) (x : Runner 4) (y : Runner 8) (same : Bool) → AreInStep image world limit k x y same
+      → (same ≡ false) ⊎ (((own_run 4 image world k).ending ≢ Running) ⊎ (k ≡ limit))
+      → DifferAt image world limit (if same then None else Some k)
+  parts limit k x y false are over =
+      first k are.at4.most (λ s. false≢true (are.now.1 s)) are.before
+  parts limit k x y true are over = nowhere (λ j l. elim (cases_lt j k) as (λ _. OwnRunsSame image world j) [
+    | inl m ↦ are.before j m
+    | inr m ↦ later j l m over
+  ])
+    where
+      later : (j : ℕ) → j ≤ limit → k ≤ j → (true ≡ false) ⊎ (((own_run 4 image world k).ending ≢ Running) ⊎ (k ≡ limit))
+          → OwnRunsSame image world j
+      later j l m (inl e) = absurd (false≢true (sym e))
+      later j l m (inr (inl ended)) =
+          let now : OwnRunsSame image world k = are.now.0 refl in
+          let Q : RunState → RunState → Type 0 =
+          λ a b. SameRun world (own_placement 4 world) a (own_placement 8 world) b in
+          subst (λ a. Q a (own_run 8 image world j)) (sym (stays 4 image world k j m ended))
+          (subst (Q (own_run 4 image world k)) (sym (stays 8 image world k j m (λ e. ended (now.ending ∙ e)))) now)
+      later j l m (inr (inr e)) =
+          let same_step : k ≡ j = omega (arith, l, m, e) in
+          subst (OwnRunsSame image world) same_step (are.now.0 refl)

@@ -1,0 +1,71 @@
+use Rattle.std.specs.Prelude.{◌≢◌}
+use Rattle.std.proofs.Common.{◌≡◌, ◌⊎◌, ℕ, Bool, false, if◌then◌else◌, Option, Some, None, refl, sym, ap, ◌∙◌, subst, inl, inr, arith}
+use Rattle.std.proofs.lemmas.Bool.{false≢true}
+use Rattle.note_types.specs.declared.ending.Ending.TheVariants.{Running}
+use Rattle.pe_image.specs.declared.image.Image.{Image}
+use Rattle.host_model.specs.Runs.{world_of}
+use Rattle.host_model.specs.World.{World}
+use Rattle.twin_run.specs.Differs.{DifferAt}
+use Rattle.twin_run.specs.OnItsWay.{AreInStep}
+use Rattle.twin_run.specs.Reported.{own_run}
+use Rattle.twin_run.proofs.OnItsWay.{goes-on_in_step, parts, starts-in_step, told}
+use Rattle.twin_run.proofs.Runs.{typed_never_differ}
+use Rattle.twin_run.proofs.two_runs.twin.Goals as goal
+use Rattle.twin_run.proofs.two_runs.twin.Goals.{then-loop-same-test+then-taken-steps+else-goes_on, then-loop-same-test+else-taken-steps}
+use Rattle.twin_run.proofs.two_runs.twin.Goals.{else-loop-same-test, then-same, else-same}
+
+pub loop-same-init : goal.loop-same-init
+loop-same-init c =
+    let world : World = world_of c.args.image.now c.args.notes.now c.args.script.now in
+    let at4 = c.in_ok-at4.ensures.start in
+    let at8 = c.in_ok-at8.ensures.start in
+    starts-in_step c.args.image.now world c.args.steps c.in_ok-at4.at4 c.in_ok-at8.at8 c.same_but_first-same.result at4 at8
+    (c.same_but_first-same.ensures world _ _ at4 at8)
+
+pub loop-same-preserved : goal.loop-same-preserved
+loop-same-preserved c =
+    let image : Image = c.args.image.now in
+    let world : World = world_of c.args.image.now c.args.notes.now c.args.script.now in
+    let are = c.loop-same.invariant in
+    let were = subst (AreInStep image world c.args.steps c.loop-same.taken c.loop-same.at4 c.loop-same.at8) c.loop-same-test.true are in
+    goes-on_in_step image world c.args.steps c.loop-same.taken c.len-told.result c.loop-same.at4 c.step.new.self c.loop-same.at8
+    c.step-in-loop-same.new.self c.same_but_first-same-in-loop-same.result were c.if-taken-steps.true
+    ((c.goes_on.ensures world _ are.at4.there).0 c.if-goes_on.true)
+    (told image world c.args.steps c.loop-same.taken c.loop-same.at4 c.len-told.result c.trace.result.now.items are.at4
+    (c.len-told.ensures ∙ c.trace.result.now.ok.0)
+    (c.trace.ensures world))
+    (λ r is. c.step.ensures.step world r refl refl is) (λ r is. c.step-in-loop-same.ensures.step world r refl refl is)
+    (c.same_but_first-same-in-loop-same.ensures world)
+
+pub returns-clause-differ : goal.returns-clause-differ
+returns-clause-differ c =
+    let image : Image = c.args.image.now in
+    let world : World = world_of c.args.image.now c.args.notes.now c.args.script.now in
+    let are = c.loop-same.invariant in
+    let over : (c.loop-same.same ≡ false) ⊎ (((own_run 4 image world c.loop-same.taken).ending ≢ Running)
+    ⊎ (c.loop-same.taken ≡ c.args.steps)) =
+    elim c.loop-same-test.branch as (λ _. (c.loop-same.same ≡ false) ⊎ (((own_run 4 image world c.loop-same.taken).ending ≢ Running)
+    ⊎ (c.loop-same.taken ≡ c.args.steps))) [
+      | then-loop-same-test+then-taken-steps+else-goes_on w ↦
+          inr (inl (λ e. false≢true (sym w.if-goes_on.false ∙ (w.goes_on.ensures world _ are.at4.there).1 e)))
+      | then-loop-same-test+else-taken-steps w ↦ inr (inr (omega (arith, w.if-taken-steps.false, are.at4.most)))
+      | else-loop-same-test w ↦ inl w.loop-same-test.false
+    ] in
+    let where_they_part = parts image world c.args.steps c.loop-same.taken c.loop-same.at4 c.loop-same.at8 c.loop-same.same are over in
+    let answer : Bool → Option ℕ = λ b. if b then None else Some c.loop-same.taken in
+    elim c.if-same.branch as (λ _. DifferAt image world c.args.steps c.if-same.result) [
+      | then-same w ↦ subst (DifferAt image world c.args.steps) (ap answer w.if-same.true ∙ sym w.result-is) where_they_part
+      | else-same w ↦ subst (DifferAt image world c.args.steps) (ap answer w.if-same.false ∙ sym w.result-is) where_they_part
+    ]
+
+pub returns-clause-same_where_typed : goal.returns-clause-same_where_typed
+returns-clause-same_where_typed c = λ typed.
+    (typed_never_differ c.args.image.now (world_of c.args.image.now c.args.notes.now c.args.script.now) c.args.steps c.if-same.result
+    (record {
+      well_formed = c.requires.image;
+      bytes = c.requires.bytes;
+      size = refl;
+      notes = c.requires.notes;
+      script = c.requires.script;
+      typed = typed;
+    })).0 (returns-clause-differ c)
