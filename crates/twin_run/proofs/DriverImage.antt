@@ -46,7 +46,7 @@ driver_image_meets = record {
 
 -- ---- its bytes
 
-byte_at : (xs : List ℕ) → list_all (λ b. nat_lt b 256) xs ≡ true → IsBytes xs
+pub byte_at : (xs : List ℕ) → list_all (λ b. nat_lt b 256) xs ≡ true → IsBytes xs
 byte_at [] e k = omega arith
 byte_at (x ∷ xs) e zero = ltb-true x 256 (and_parts (nat_lt x 256) (list_all (λ b. nat_lt b 256) xs) e).0
 byte_at (x ∷ xs) e (suc k) = byte_at xs (and_parts (nat_lt x 256) (list_all (λ b. nat_lt b 256) xs) e).1 k

@@ -92,7 +92,7 @@ at_most a b e = leb-true a b e
 below : (a b : ℕ) → nat_lt a b ≡ true → a < b
 below a b e = ltb-true a b e
 
-name_length : (name : List ℕ) → nat_le 1 (length name) ≡ true → nat_le (length name) 63 ≡ true → HasNameLength name
+pub name_length : (name : List ℕ) → nat_le 1 (length name) ≡ true → nat_le (length name) 63 ≡ true → HasNameLength name
 name_length name l m = (leb-true 1 (length name) l, leb-true (length name) 63 m)
 
 -- ---- types
@@ -327,7 +327,7 @@ signatures = (
 
 -- ---- all
 
-two_ascend : (a b : ℕ) → a < b → IsStrictlyIncreasing (a ∷ b ∷ [])
+pub two_ascend : (a b : ℕ) → a < b → IsStrictlyIncreasing (a ∷ b ∷ [])
 two_ascend a b l zero m = l
 two_ascend a b l (suc k) m = absurd (omega (arith, m))
 

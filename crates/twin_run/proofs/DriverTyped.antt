@@ -49,7 +49,7 @@ use Rattle.rules_image.specs.Images.{reloc_at}
 abbrev notes : Notes
 notes = driver_named.notes
 
-unfoldable rows_compute : ⊤
+unfoldable pub rows_compute : ⊤
 unfolding laid fields_of little_endian put window holds field_bytes bytes_of form_at is_reserved has_left_index size1_at size2_at
     reading_field_at insn_at parts_at read same_type is_below registers_up_to items_below state_below local_fields function_at load_at
     target_at with_type with_store with_fact changed destination sooner locals_size field_number_at cell_of parameter_at stack_at

@@ -1,0 +1,13 @@
+pub mod Agreeing
+pub mod Calling
+pub mod Crossing
+pub mod Finishing
+pub mod Following
+pub mod Holding
+pub mod Joining
+pub mod Resting
+pub mod SideSteps
+pub mod Sides
+pub mod Steps
+pub mod Telling
+pub mod Values

@@ -1,0 +1,61 @@
+-- For proofs: what holds of the runs of a pair of typed images whose binds agree: both follow the neutral pair, and so they are the
+-- same. docs/PAIRS.md, "Laws".
+use Rattle.std.specs.Prelude.{◌≡◌, ℕ, Option, Some}
+use Rattle.ebc_width.specs.Width.{IsWidth}
+use Rattle.host_model.specs.Placements.{IsPlacement, Placement}
+use Rattle.host_model.specs.World.{World}
+use Rattle.invariant_laws.specs.Laws.{states_by}
+use Rattle.neutral_machine.specs.Config.{Config}
+use Rattle.neutral_pair.specs.NeutralPair.{neutral_pair_run}
+use Rattle.note_types.specs.declared.state.State.{State}
+use Rattle.pair_laws.specs.Laws.{PairStands}
+use Rattle.pair_model.specs.Binds.{AllAgree}
+use Rattle.pair_model.specs.PairRuns.{pair_run, SamePair}
+use Rattle.pair_model.specs.Pairs.{Both, PairWorld, PairState}
+use Rattle.pe_image.specs.declared.image.Image.{Image}
+use Rattle.step_sound.specs.PlaceStates.{StatesHold}
+use Rattle.step_sound.specs.ReadWorld.{IsReadWorld}
+use Rattle.typed_runs.specs.Endings.{RaisesOnlyDivideError}
+use Rattle.typed_runs.specs.Waiting.{States}
+
+-- A side: its image, notes and script were read, and the states at places meet the typing rules.
+pub record TypedSide (image : Image) (world : World) (states : States) : Type 0 where
+  pub read : IsReadWorld image world
+  pub rules : StatesHold image world states
+
+-- A pair: so it is of each side, and each bind agrees with the notes of both.
+pub record TypedPair (images : Both Image) (world : PairWorld) (sa sb : States) : Type 0 where
+  pub a : TypedSide images.a world.a sa
+  pub b : TypedSide images.b world.b sb
+  pub binds : AllAgree world.a.notes world.b.notes world.binds
+
+-- valid placements of both images at a width
+pub record ArePlaced (w : ℕ) (world : PairWorld) (P : Both Placement) : Type 0 where
+  pub a : IsPlacement w world.a P.a
+  pub b : IsPlacement w world.b P.b
+
+-- After so many steps the neutral pair isn't stuck, the run of the pair at a width stands for it, and it raised nothing but a division
+-- by zero.
+pub record PairFollows (w : ℕ) (images : Both Image) (world : PairWorld) (P : Both Placement) (k : ℕ) : Type 0 where
+  pub pair : PairState Config
+  pub reached : neutral_pair_run world images k ≡ Some pair
+  pub stands : PairStands w images world P pair (pair_run w world P images k)
+  pub raised : RaisesOnlyDivideError pair.ending
+
+-- So it is at either width, under valid placements.
+abbrev pub PairsFollow : Type 0
+PairsFollow =
+    (w : ℕ) (images : Both Image) (world : PairWorld) (a b : (func place : ℕ) → Option State) (P : Both Placement) (k : ℕ)
+    → IsWidth w → TypedPair images world (states_by a) (states_by b) → ArePlaced w world P → PairFollows w images world P k
+
+-- The runs after so many steps, at 4 bytes an address under placements and at 8 under others: they are the same, and raised nothing but
+-- a division by zero. As they are the same, both raised it.
+pub record SamePairAfter (images : Both Image) (world : PairWorld) (P Q : Both Placement) (k : ℕ) : Type 0 where
+  pub same : SamePair world P (pair_run 4 world P images k) Q (pair_run 8 world Q images k)
+  pub raised : RaisesOnlyDivideError (pair_run 4 world P images k).ending
+
+-- So they are for all valid placements and every number of steps.
+abbrev pub PairsAreSame : Type 0
+PairsAreSame =
+    (images : Both Image) (world : PairWorld) (a b : (func place : ℕ) → Option State) (P Q : Both Placement) (k : ℕ)
+    → TypedPair images world (states_by a) (states_by b) → ArePlaced 4 world P → ArePlaced 8 world Q → SamePairAfter images world P Q k

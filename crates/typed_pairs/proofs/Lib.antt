@@ -1,0 +1,4 @@
+pub mod Doubling
+pub mod DoublingImages
+pub mod DoublingTyped
+pub mod Typed
