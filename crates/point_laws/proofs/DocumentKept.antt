@@ -1,0 +1,128 @@
+-- A document of notes with what is printed of points at the key `point` stands for the notes with these points.
+use Rattle.std.proofs.Common.{◌≡◌, ℕ, ◌≤◌, false, List, [], length, map, Result, Ok, refl, ◌∙◌, codes}
+use Rattle.std.specs.Prelude.{IfOk, bytes_eq}
+use Rattle.toml.specs.Data.{Members, get_member}
+use Rattle.ebc_base.specs.Names.{name_of}
+use Rattle.ebc_base.proofs.Given.{ok_then}
+use Rattle.note_types.specs.Limits.{point_limit}
+use Rattle.note_types.specs.declared.fault.TomlFault.{TomlFault}
+use Rattle.note_types.specs.declared.notes.Notes.{Notes}
+use Rattle.note_texts.specs.Keys.{document, number_at, only_keys, text_at}
+use Rattle.note_texts.specs.Lists.{array_at, list_at, tables_at}
+use Rattle.note_draft.specs.Drafts.{call_lists, code_lists, data_lists, draft_keys, draft_lists, draft_of, function_of, greatest_32}
+use Rattle.note_draft.specs.Drafts.{point_of}
+use Rattle.note_draft.specs.Drafts.{shape_of, signatures_at, site_of, static_of, thunk_of}
+use Rattle.note_draft.specs.declared.draft.NotesDraft.{NotesDraft}
+use Rattle.note_draft.specs.declared.draft.PointDraft.{PointDraft}
+use Rattle.note_draft.specs.declared.reading.CallLists.{CallLists}
+use Rattle.note_draft.specs.declared.reading.CodeLists.{CodeLists}
+use Rattle.note_draft.specs.declared.reading.DraftLists.{DraftLists}
+use Rattle.type_notes.specs.Notes.{notes_in, notes_of}
+use Rattle.type_notes.specs.Resolved.{resolved}
+use Rattle.type_notes.proofs.Outcomes.{ok_given}
+use Rattle.point_laws.specs.PointTables.{point_draft, points_members}
+use Rattle.point_laws.specs.PrintedPoints.{PrintedPointsStand, with_printed}
+use Rattle.point_laws.proofs.PointsRead.{all_printed, is_read, tables_again}
+use Rattle.point_laws.proofs.PointsStand.{ok_with, printed_accepted}
+
+module _ (old new : Members) (others : (key : List ℕ) → bytes_eq key (codes "point") ≡ false → get_member key new ≡ get_member key old)
+    (keys : only_keys [] draft_keys new ≡ Ok tt) (few : ℕ → Type 0) (drafts : List PointDraft)
+    (printed : (version : ℕ) → few version → tables_at point_of [] (codes "point") (point_limit version) new ≡ Ok drafts) where
+  number_kept : number_at [] (codes "version") 1 2 new ≡ number_at [] (codes "version") 1 2 old
+  unfolding number_at
+  number_kept = rw (others (codes "version") refl) refl
+
+  entry_kept : text_at name_of [] (codes "entry") new ≡ text_at name_of [] (codes "entry") old
+  unfolding text_at
+  entry_kept = rw (others (codes "entry") refl) refl
+
+  tables_kept : {A : Type 0} (reads : List ℕ → Members → Result A TomlFault) (key : List ℕ) (limit : ℕ)
+      → bytes_eq key (codes "point") ≡ false → tables_at reads [] key limit new ≡ tables_at reads [] key limit old
+  unfolding tables_at list_at array_at
+  tables_kept reads key limit e = rw (others key e) refl
+
+  signatures_kept : signatures_at [] new ≡ signatures_at [] old
+  unfolding signatures_at list_at array_at
+  signatures_kept = rw (others (codes "signature") refl) refl
+
+  data_kept : data_lists new ≡ data_lists old
+  unfolding data_lists
+  data_kept =
+      rw (
+        tables_kept shape_of (codes "shape") 1024 refl,
+        tables_kept static_of (codes "static") greatest_32 refl,
+        tables_kept thunk_of (codes "thunk") greatest_32 refl,
+      ) refl
+
+  code_kept : (version : ℕ) → few version
+      → IfOk (code_lists version old) (λ code. code_lists version new ≡ Ok (record code { point = drafts }))
+  unfolding code_lists
+  code_kept version small =
+      let P : CodeLists → Type 0 = λ code. code_lists version new ≡ Ok (record code { point = drafts }) in
+      ok_with P (tables_at function_of [] (codes "function") 4096 old) _
+      (λ functions a. ok_with P (tables_at point_of [] (codes "point") (point_limit version) old) _
+      (λ points b. rw (tables_kept function_of (codes "function") 4096 refl ∙ a, printed version small) refl))
+
+  calls_kept : IfOk (call_lists old) (λ calls. call_lists new ≡ Ok calls)
+  unfolding call_lists
+  calls_kept =
+      let P : CallLists → Type 0 = λ calls. call_lists new ≡ Ok calls in
+      ok_with P (signatures_at [] old) _
+      (λ signatures a. ok_with P (tables_at site_of [] (codes "site") greatest_32 old) _
+      (λ sites b. ok_with P (only_keys [] draft_keys old) _
+      (λ _ c. rw (signatures_kept ∙ a, tables_kept site_of (codes "site") greatest_32 refl ∙ b, keys) refl)))
+
+  lists_kept : (version : ℕ) → few version → IfOk (draft_lists version old)
+      (λ lists. draft_lists version new ≡ Ok (record lists { code = record lists.code { point = drafts } }))
+  unfolding draft_lists
+  lists_kept version small =
+      let P : DraftLists → Type 0 = λ lists. draft_lists version new ≡ Ok (record lists { code = record lists.code { point = drafts } }) in
+      ok_with P (data_lists old) _
+      (λ things a. ok_then (λ code. code_lists version new ≡ Ok (record code { point = drafts })) P (code_lists version old) _
+      (code_kept version small)
+      (λ code b. ok_then (λ calls. call_lists new ≡ Ok calls) P (call_lists old) _ calls_kept
+      (λ calls c. rw (data_kept ∙ a, b, c) refl)))
+
+  version_read : IfOk (draft_of old) (λ d. number_at [] (codes "version") 1 2 old ≡ Ok d.version)
+  unfolding draft_of
+  version_read =
+      let P : NotesDraft → Type 0 = λ d. number_at [] (codes "version") 1 2 old ≡ Ok d.version in
+      ok_with P (number_at [] (codes "version") 1 2 old) _
+      (λ version a. ok_with P (text_at name_of [] (codes "entry") old) _
+      (λ entry b. ok_with P (draft_lists version old) _ (λ lists c. a)))
+
+  draft_kept : (v : ℕ) → number_at [] (codes "version") 1 2 old ≡ Ok v → few v
+      → IfOk (draft_of old) (λ d. draft_of new ≡ Ok (record d { point = drafts }))
+  unfolding draft_of
+  draft_kept v at small =
+      let P : NotesDraft → Type 0 = λ d. draft_of new ≡ Ok (record d { point = drafts }) in
+      rw at
+      (ok_with P (text_at name_of [] (codes "entry") old) _
+      (λ entry b. ok_then (λ lists. draft_lists v new ≡ Ok (record lists { code = record lists.code { point = drafts } })) P
+      (draft_lists v old) _ (lists_kept v small)
+      (λ lists c. rw (number_kept ∙ at, entry_kept ∙ b, c) refl)))
+
+same_list : (key : List ℕ) (limit : ℕ) (a b : Members) → get_member key a ≡ get_member key b
+    → tables_at point_of [] key limit a ≡ tables_at point_of [] key limit b
+unfolding tables_at list_at array_at
+same_list key limit a b e = rw e refl
+
+stands_for : (text : List ℕ) (ms : Members) (q : NotesDraft) (notes : Notes) → document text ≡ Ok ms → draft_of ms ≡ Ok q
+    → notes_in q ≡ Ok notes → notes_of text ≡ Ok notes
+unfolding notes_of
+stands_for text ms q notes a b c = rw (a, b, c) refl
+
+pub printed_stand : PrintedPointsStand
+printed_stand text next d t h ps n up few new read has =
+    let notes = resolved t d in
+    let drafts = map (point_draft notes) ps in
+    let small : ℕ → Type 0 = λ version. length ps ≤ point_limit version in
+    let lists : (version : ℕ) → small version → tables_at point_of [] (codes "point") (point_limit version) new ≡ Ok drafts =
+    λ version room. same_list (codes "point") (point_limit version) new (points_members notes ps) has.list
+    ∙ tables_again d t ps (point_limit version) (all_printed d t (is_read text d t h) ps n) room in
+    let version = ok_given (λ (q : NotesDraft). number_at [] (codes "version") 1 2 h.members ≡ Ok q.version) (draft_of h.members) d h.draft
+    (version_read h.members new has.others has.keys small drafts lists) in
+    let draft : draft_of new ≡ Ok (with_printed d t ps) =
+    ok_given (λ (q : NotesDraft). draft_of new ≡ Ok (record q { point = drafts })) (draft_of h.members) d h.draft
+    (draft_kept h.members new has.others has.keys small drafts lists d.version version few) in
+    stands_for next new (with_printed d t ps) _ read draft (printed_accepted text d t h ps n up)

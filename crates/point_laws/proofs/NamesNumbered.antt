@@ -1,0 +1,161 @@
+-- Names that stand once: each is the name of the thing with its number, and fields are their sets again.
+use Rattle.std.proofs.Common.{◌≡◌, ℕ, zero, suc, ◌+◌, ◌^◌, ◌/◌, ◌%◌, ◌<◌, ◌≤◌, Bool, true, false, List, [], ◌∷◌}
+use Rattle.std.proofs.Common.{length, filter, map}
+use Rattle.std.proofs.Common.{cond, get_or, Option, Some, refl, sym, ap, subst, ◌∙◌, inl, inr, ⊎_elim, arith, slice_get}
+use Rattle.std.specs.Int.{bit_at}
+use Rattle.std.specs.List.{position, position_or_len, range_with_len}
+use Rattle.std.specs.Option.{option_map_or}
+use Rattle.std.specs.Prelude.{bytes_eq, option_map}
+use Rattle.std.proofs.lemmas.Bool.{cases_Bool, cases_lt, eq-eqb, lt-ltb}
+use Rattle.std.proofs.lemmas.List.Sums.{position_or_len_is}
+use Rattle.std.proofs.lemmas.Nat.Bits.{bit_at-lt, same_from_bits_below}
+use Rattle.std.proofs.lemmas.Option.{get_or_from_slice_get, same_Some, slice_get-get_or, slice_get-map, slice_get_within}
+use Rattle.std.proofs.lemmas.Slice.Eq.{bytes_eq-Decides}
+use Rattle.ebc_base.specs.Tables.{name_number}
+use Rattle.ebc_base.proofs.Lists.{within_some}
+use Rattle.note_types.specs.FieldSets.{HasField}
+use Rattle.note_types.specs.declared.shape.Field.{Field}
+use Rattle.note_texts.specs.declared.cell.FieldText.{FieldText}
+use Rattle.note_draft.specs.declared.tables.NameTables.{NameTables}
+use Rattle.rules_base.specs.Places.{has_field}
+use Rattle.type_notes.specs.Locals.{SomeNames, field_number, field_set}
+use Rattle.type_notes.specs.Resolved.{resolved_field}
+use Rattle.type_notes.proofs.FieldSetLaws.{field_set-fields}
+use Rattle.type_notes.proofs.ResolvedTypes.{field_set-below}
+use Rattle.point_texts.specs.PrintedTypes.{field_name, field_names, names_below}
+use Rattle.point_texts.proofs.PrintedTypeLaws.{has}
+
+-- things of one name are one
+abbrev pub Once : {A : Type 0} → (A → List ℕ) → List A → Type 0
+Once {A} name xs = (j k : ℕ) (x y : A) → slice_get xs j ≡ Some x → slice_get xs k ≡ Some y → name x ≡ name y → j ≡ k
+
+-- the first thing of a name is the one that has it
+module _ {A : Type 0} (name : A → List ℕ) (xs : List A) (once : Once name xs) (p : A → Bool) (k : ℕ) (x : A)
+    (there : slice_get xs k ≡ Some x) (only : (y : A) → p y ≡ true → name y ≡ name x) (passes : p x ≡ true) where
+  not_before : (j : ℕ) → j < k → p (get_or xs j x) ≡ false
+  not_before j below = ⊎_elim
+      (λ same.
+      let within = slice_get_within xs k x there in
+      let e : j ≡ k = once j k (get_or xs j x) x (slice_get-get_or xs j x (omega arith)) there (only (get_or xs j x) same) in
+      absurd (omega arith))
+      (λ other. other)
+      (cases_Bool (p (get_or xs j x)))
+
+  pub first_of_name : position_or_len p xs ≡ k
+  first_of_name =
+      let within = slice_get_within xs k x there in
+      position_or_len_is p xs k x (omega arith) not_before (λ _. ap p (get_or_from_slice_get xs k x x there) ∙ passes)
+
+  pub found_of_name : position p xs ≡ Some k
+  found_of_name =
+      let within = slice_get_within xs k x there in
+      rw (first_of_name, lt-ltb k (length xs) within) refl
+
+same : (a : List ℕ) → bytes_eq a a ≡ true
+same a = (bytes_eq-Decides a a).1 refl
+
+-- the number of a name in a table of names
+pub number_of_name : (names : List (List ℕ)) → Once (λ name. name) names → (k : ℕ) (name : List ℕ) → slice_get names k ≡ Some name
+    → name_number name names ≡ k
+number_of_name names once k name there = first_of_name (λ name. name) names once (bytes_eq name) k name there
+    (λ y e. sym ((bytes_eq-Decides name y).0 e)) (same name)
+
+-- ---- fields
+
+module _ (t : NameTables) (fs : List FieldText) (once : Once (λ (g : FieldText). g.name) fs) (few : length fs ≤ 64) where
+  -- the fields that these texts stand for
+  abbrev fields : List Field
+  fields = map (resolved_field t) fs
+
+  pub name_kept : (x : ℕ) (g : FieldText) → slice_get fs x ≡ Some g → field_name fields x ≡ g.name
+  unfolding resolved_field
+  name_kept x g there = ap (λ (o : Option Field). option_map_or (λ (y : Field). y.name) o [])
+      (slice_get-map (resolved_field t) fs x ∙ ap (option_map (resolved_field t)) there)
+
+  -- a field's number is found by its name
+  field_found : (x : ℕ) → x < length fs → position (λ (g : FieldText). bytes_eq g.name (field_name fields x)) fs ≡ Some x
+  field_found x within =
+      let g = within_some fs x within in
+      let name : field_name fields x ≡ g.0.name = name_kept x g.0 g.1 in
+      ap (λ n. position (λ (y : FieldText). bytes_eq y.name n) fs) name
+      ∙ found_of_name (λ (y : FieldText). y.name) fs once (λ y. bytes_eq y.name g.0.name) x g.0 g.1
+      (λ y e. (bytes_eq-Decides y.name g.0.name).0 e) (same g.0.name)
+
+  pub field_again : (x : ℕ) → x < length fs → field_number fs (field_name fields x) ≡ x
+  unfolding field_number
+  field_again x within = rw (field_found x within, lt-ltb x 64 (omega arith)) refl
+
+  -- a field of the set has its name among those of the set
+  module _ (set : ℕ) (known : (x : ℕ) → HasField set x → x < length fs) where
+    kept_named : (i n : ℕ) (b : Bool) (ns : List ℕ) → has_field set n ≡ b
+        → (SomeNames fs i (map (field_name fields) ns) → HasField set i)
+        → SomeNames fs i (map (field_name fields) (cond b (n ∷ ns) ns)) → HasField set i
+    kept_named i n true ns e rest h = ⊎_elim
+        (λ here.
+        let it : n ≡ i = same_Some n i (sym (field_found n (known n (has set n e))) ∙ here) in
+        subst (HasField set) it (has set n e))
+        rest h
+    kept_named i n false ns e rest h = rest h
+
+    named_has : (i : ℕ) (ns : List ℕ) → SomeNames fs i (map (field_name fields) (filter (has_field set) ns)) → HasField set i
+    named_has i [] h = absurd h
+    named_has i (n ∷ ns) h = kept_named i n (has_field set n) (filter (has_field set) ns) refl (named_has i ns) h
+
+    kept_more : (i n : ℕ) (b : Bool) (ns : List ℕ) → SomeNames fs i (map (field_name fields) ns)
+        → SomeNames fs i (map (field_name fields) (cond b (n ∷ ns) ns))
+    kept_more i n true ns h = inr h
+    kept_more i n false ns h = h
+
+    kept_here : (i : ℕ) (b : Bool) (ns : List ℕ) → b ≡ true → i < length fs → SomeNames fs i (map (field_name fields) (cond b (i ∷ ns) ns))
+    kept_here i true ns e within = inl (field_found i within)
+    kept_here i false ns e within = absurd cc
+
+    has_named : (i : ℕ) → has_field set i ≡ true → i < length fs → (a n : ℕ) → a ≤ i → i < a + n
+        → SomeNames fs i (map (field_name fields) (filter (has_field set) (range_with_len a n)))
+    has_named i e within a zero low high = absurd (omega arith)
+    has_named i e within a (suc n) low high = ⊎_elim
+        (λ below. kept_more i a (has_field set a) (filter (has_field set) (range_with_len (a + 1) n))
+        (has_named i e within (a + 1) n (omega arith) (omega arith)))
+        (λ above.
+        let it : i ≡ a = omega arith in
+        subst (λ k. SomeNames fs i (map (field_name fields) (filter (has_field set) (k ∷ range_with_len (a + 1) n)))) it
+        (kept_here i (has_field set i) (filter (has_field set) (range_with_len (a + 1) n)) e within))
+        (cases_lt a i)
+
+    below_has : (i n : ℕ) → SomeNames fs i (names_below fields set n) → HasField set i
+    unfolding names_below
+    below_has i n h = named_has i (range_with_len 0 n) h
+
+    has_below : (i n : ℕ) → has_field set i ≡ true → i < length fs → i < n → SomeNames fs i (names_below fields set n)
+    unfolding names_below
+    has_below i n e within low = has_named i e within 0 n (omega arith) (omega arith)
+
+    has_by : (i : ℕ) → i < 64 → HasField set i → has_field set i ≡ true
+    has_by i small h = rw (lt-ltb i 64 small, eq-eqb (set / 2 ^ i % 2) 1 h) refl
+
+    bit_again : (i : ℕ) → i < 64 → bit_at (field_set fs (field_names fields set)) i ≡ bit_at set i
+    bit_again i small =
+        let exact = field_set-fields fs (field_names fields set) i in
+        let a = bit_at (field_set fs (field_names fields set)) i in
+        let x : a < 2 = bit_at-lt (field_set fs (field_names fields set)) i in
+        let y : bit_at set i < 2 = bit_at-lt set i in
+        ⊎_elim
+        (λ out. ⊎_elim
+        (λ none. let l : a ≡ 0 = omega arith in let r : bit_at set i ≡ 0 = omega arith in l ∙ sym r)
+        (λ one.
+        let h : HasField set i = (let e : bit_at set i ≡ 1 = omega arith in e) in
+        let w = known i h in
+        let g : a ≡ 1 = exact.1 (small, has_below i 64 (has_by i small h) w small) in
+        absurd (omega arith))
+        (cases_lt (bit_at set i) 1))
+        (λ in_it.
+        let g : HasField (field_set fs (field_names fields set)) i = (let e : a ≡ 1 = omega arith in e) in
+        let named = exact.0 g in
+        let r : bit_at set i ≡ 1 = below_has i 64 named.1 in
+        let l : a ≡ 1 = omega arith in l ∙ sym r)
+        (cases_lt a 1)
+
+    pub set_again : set < 2 ^ 64 → field_set fs (field_names fields set) ≡ set
+    set_again small =
+        let names = field_names fields set in
+        same_from_bits_below 64 (field_set fs names) set (field_set-below fs names) small bit_again

@@ -1,0 +1,480 @@
+-- Under notes that a text stands for, what is printed of points is a document of TOML, and is read as the points.
+use Rattle.std.proofs.Common.{◌≡◌, ℕ, zero, suc, ◌+◌, ◌-◌, ◌^◌, ◌<◌, ◌≤◌, Bool, true, false, ◌||◌, List, [], ◌∷◌, ◌++◌, length}
+use Rattle.std.proofs.Common.{filter, map, cond}
+use Rattle.std.proofs.Common.{Option, Some, None, refl, sym, ap, subst, ◌∙◌, ⊎_elim, arith, codes, slice_get, nat_le}
+use Rattle.std.specs.List.{flat_map, position_or_len, range_with_len}
+use Rattle.std.specs.Option.{option_map_or}
+use Rattle.std.specs.Prelude.{IfOk, Ok, bytes_eq, count_by, is_none, option_and_then, option_map}
+use Rattle.std.proofs.lemmas.Bool.{cases_Bool, le-leb, lt-ltb}
+use Rattle.std.proofs.lemmas.List.{length-map}
+use Rattle.std.proofs.lemmas.List.Folds.{find_at, flat_map-map}
+use Rattle.std.proofs.lemmas.List.Sums.{sum_by-cons}
+use Rattle.std.proofs.lemmas.Option.{none-some, slice_get-map, slice_get_within}
+use Rattle.std.proofs.lemmas.Str.{IsAscii-append, IsUtf8-from_ascii, is_utf8-from_IsUtf8}
+use Rattle.std.proofs.lemmas.Str.Ascii.{IsAscii-nil}
+use Rattle.std.specs.Str.{IsAscii, is_utf8}
+use Rattle.toml.specs.Data.{array, member, no_members, table, item}
+use Rattle.ebc_base.specs.Tables.{name_number}
+use Rattle.ebc_base.proofs.Given.{ok_next, ok_then, some_of_map}
+use Rattle.note_types.proofs.RecordLaws.{each_none, slots_and_locals}
+use Rattle.ebc_base.proofs.TableLaws.{position_or_len-map}
+use Rattle.note_types.specs.Known.{IsKnown, fields_of, is_locals, is_slot, local_fields}
+use Rattle.note_types.specs.Limits.{point_limit}
+use Rattle.note_types.specs.Records.{Each, IsNotes, IsPointNote, function_at}
+use Rattle.note_types.specs.Records as records
+use Rattle.note_types.specs.declared.cell.SlotKind.{SlotKind}
+use Rattle.note_types.specs.declared.cell.SlotKind.TheVariants as kinds
+use Rattle.note_types.specs.declared.items.Item.{Item}
+use Rattle.note_types.specs.declared.items.Item.TheVariants as items
+use Rattle.note_types.specs.declared.notes.FnNote.{FnNote}
+use Rattle.note_types.specs.declared.notes.Notes.{Notes}
+use Rattle.note_types.specs.declared.notes.Point.{Point}
+use Rattle.note_types.specs.declared.shape.Field.{Field}
+use Rattle.note_types.specs.declared.shape.Shape.{Shape}
+use Rattle.note_types.specs.declared.state.Fact.{Fact}
+use Rattle.note_types.specs.declared.state.State.{State}
+use Rattle.note_types.specs.declared.types.Ty.{Ty}
+use Rattle.note_texts.specs.Grammar.{IsName}
+use Rattle.note_texts.specs.Keys.{document}
+use Rattle.note_texts.specs.Lists.{array_at, count, count_beside, each, has_text, list_at, rows_of, tables_at}
+use Rattle.note_texts.specs.SlotTexts.{item_of, register_of}
+use Rattle.note_texts.specs.TypeGrammar.{AreNames}
+use Rattle.note_texts.specs.declared.cell.FieldText.{FieldText}
+use Rattle.note_draft.specs.Drafts.{draft_of, point_of}
+use Rattle.note_draft.specs.Known.{known}
+use Rattle.note_draft.specs.Once.{once}
+use Rattle.note_draft.specs.declared.draft.FunctionDraft.{FunctionDraft}
+use Rattle.note_draft.specs.declared.draft.NotesDraft.{NotesDraft}
+use Rattle.note_draft.specs.declared.draft.ShapeDraft.{ShapeDraft}
+use Rattle.note_draft.specs.declared.tables.NameTables.{NameTables}
+use Rattle.type_notes.specs.Notes.{known_names, notes_in, notes_of}
+use Rattle.type_notes.specs.Owners.{has_place, owner_of}
+use Rattle.type_notes.specs.PointLocals.{locals_fields, locals_in, point_locals, shape_fields}
+use Rattle.type_notes.specs.Resolved.{resolved, resolved_field, resolved_function, resolved_locals, resolved_point}
+use Rattle.type_notes.specs.Resolved.{resolved_shape, state_of}
+use Rattle.type_notes.proofs.ListBounds.{each_first, each_map, each_rest}
+use Rattle.type_notes.proofs.NamesFound as found
+use Rattle.type_notes.proofs.NotesLaws.{known_names-are, notes_of-notes}
+use Rattle.type_notes.proofs.Outcomes.{ok_given}
+use Rattle.point_texts.specs.NamedTypes.{HaveNames}
+use Rattle.point_texts.specs.PrintedStates.{fields_at, item_text, item_texts, point_text, points_text, register_text, register_texts}
+use Rattle.point_texts.specs.PrintedStates.{told_up_to}
+use Rattle.point_texts.specs.PrintedTypes.{field_name, field_names, names_below}
+use Rattle.rules_base.specs.Places.{has_field}
+use Rattle.point_texts.proofs.PrintedTypeLaws.{below_are}
+use Rattle.point_laws.specs.PointTables.{draft_in, item_draft, members_in, point_draft, point_members, points_members, register_draft}
+use Rattle.point_laws.specs.PointTables.{strings, tables_of}
+use Rattle.point_laws.specs.PrintedPoints.{IsReading, PrintedPointsAreRead, PrintedPointsAreTables}
+use Rattle.point_laws.proofs.NamesGiven.{HasNamesOnce, IsNamedShape, draft_named, names_once}
+use Rattle.point_laws.proofs.NamesNumbered.{Once}
+use Rattle.point_laws.proofs.PointsDocument.{AllToldPlain, Told, told_document, told_members, told_parsed, told_text}
+use Rattle.point_laws.proofs.TomlTexts.{AllPlain}
+use Rattle.point_laws.proofs.PointsResolved as resolving
+use Rattle.point_laws.proofs.PointsResolved.{AreNamesOf}
+use Rattle.point_laws.proofs.TablesRead.{AllTables, count_strings, names_again, point_read, tables_read, texts_again}
+use Rattle.point_laws.proofs.TextsRead as reading
+use Rattle.point_laws.proofs.TextsRead.{AllKnown, KnownItem, names_are_plain}
+use Rattle.protocol_script.specs.PrintedLaw.{HasNames}
+use Rattle.protocol_script.proofs.ReadLaws.{read_names}
+use Rattle.point_laws.proofs.AsciiTexts.{told_ascii}
+
+-- ---- the function of a point, and its locals
+
+-- the function of a place is that of a draft, whose locals a point there may name
+pub record IsOwned (t : NameTables) (d : NotesDraft) (place : ℕ) (f : FnNote) : Type 0 where
+  pub number : ℕ
+  pub draft : FunctionDraft
+  pub same : resolved_function t draft ≡ f
+  pub there : slice_get (resolved t d).function number ≡ Some f
+  pub held : is_none (owner_of d.function place) ≡ false
+  pub locals : point_locals t d place ≡ locals_in t d (Some draft)
+
+pub owned : (t : NameTables) (d : NotesDraft) (place : ℕ) (f : FnNote) → function_at (resolved t d) place ≡ Some f → IsOwned t d place f
+unfolding function_at resolved resolved_function owner_of point_locals
+owned t d place f there =
+    let P : FnNote → Bool = records.has_place place in
+    let fs = map (resolved_function t) d.function in
+    let k = position_or_len (has_place place) d.function in
+    let first : position_or_len P fs ≡ k = sym (position_or_len-map P (resolved_function t) d.function) in
+    let here : slice_get fs k ≡ Some f = ap (slice_get fs) (sym first) ∙ (sym (find_at P fs) ∙ there) in
+    let at : option_map (resolved_function t) (slice_get d.function k) ≡ Some f =
+    sym (slice_get-map (resolved_function t) d.function k) ∙ here in
+    let g = some_of_map (resolved_function t) (slice_get d.function k) f at in
+    let within = slice_get_within d.function k g.0 g.1 in
+    let owner : owner_of d.function place ≡ Some k = rw (lt-ltb k (length d.function) within) refl in
+    record {
+      number = k;
+      draft = g.0;
+      same = g.2;
+      there = here;
+      held = ap is_none owner;
+      locals = ap (λ o. locals_in t d (option_and_then (slice_get d.function) o)) owner ∙ ap (locals_in t d) g.1;
+    }
+
+fields_by : (t : NameTables) (o : Option ShapeDraft) → fields_of (option_map (resolved_shape t) o) ≡ map (resolved_field t) (shape_fields o)
+unfolding resolved_shape
+fields_by t None = refl
+fields_by t (Some s) = refl
+
+locals_by : (t : NameTables) (d : NotesDraft) (locals : Option (List ℕ))
+    → fields_of (option_and_then (slice_get (map (resolved_shape t) d.shape)) (resolved_locals t locals))
+    ≡ map (resolved_field t) (locals_fields t d locals)
+unfolding resolved_locals locals_fields
+locals_by t d None = refl
+locals_by t d (Some name) =
+    ap fields_of (slice_get-map (resolved_shape t) d.shape (name_number name t.shape))
+    ∙ fields_by t (slice_get d.shape (name_number name t.shape))
+
+-- the fields of its locals are those that the draft has
+pub its_fields : (t : NameTables) (d : NotesDraft) (g : FunctionDraft)
+    → local_fields (resolved t d) (resolved_function t g) ≡ map (resolved_field t) (locals_fields t d g.locals)
+unfolding local_fields resolved resolved_function
+its_fields t d g = locals_by t d g.locals
+
+-- ---- what a reading gives
+
+-- what is known of notes that a text stands for
+pub record IsRead (d : NotesDraft) (t : NameTables) : Type 0 where
+  pub notes : IsNotes (resolved t d)
+  pub names : found.HasNames d t
+  pub shapes : Each IsNamedShape d.shape
+  pub once : HasNamesOnce d
+  pub given : HasNames (resolved t d)
+
+once_known : (d : NotesDraft) → IfOk (known_names d) (λ t. HasNamesOnce d)
+unfolding known_names
+once_known d = ok_then (λ _. HasNamesOnce d) (λ t. HasNamesOnce d) (once d) _ (names_once d)
+    (λ t h. ok_next (λ t. HasNamesOnce d) (known t d) _ (λ _. h))
+
+pub is_read : (text : List ℕ) (d : NotesDraft) (t : NameTables) → IsReading text d t → IsRead d t
+unfolding notes_of notes_in known_names
+is_read text d t h =
+    let read : notes_of text ≡ Ok (resolved t d) = rw (h.document, h.draft, h.names, h.conditions) refl in
+    record {
+      notes = ok_given IsNotes (notes_of text) (resolved t d) read (notes_of-notes text);
+      names = (ok_given _ (known_names d) t h.names (known_names-are d)).0;
+      shapes = ok_given _ (draft_of h.members) d h.draft (draft_named h.members);
+      once = ok_given _ (known_names d) t h.names (once_known d);
+      given = read_names text (resolved t d) read;
+    }
+
+-- ---- names
+
+no_fields : Each (λ (x : FieldText). IsName x.name) []
+no_fields = each_none (λ (x : FieldText). IsName x.name)
+
+none_once : Once (λ (x : FieldText). x.name) []
+none_once j k x y first second e = absurd (none-some x first)
+
+named_by : (o : Option ShapeDraft) → ((s : ShapeDraft) → o ≡ Some s → IsNamedShape s)
+    → Each (λ (x : FieldText). IsName x.name) (shape_fields o)
+named_by None h = no_fields
+named_by (Some s) h = (h s refl).fields
+
+once_in : (o : Option ShapeDraft) → ((s : ShapeDraft) → o ≡ Some s → Once (λ (x : FieldText). x.name) s.fields)
+    → Once (λ (x : FieldText). x.name) (shape_fields o)
+once_in None h = none_once
+once_in (Some s) h = h s refl
+
+-- the names of the shapes of the record are those of the draft
+shape_names_kept : (t : NameTables) (ss : List ShapeDraft)
+    → map (λ (s : Shape). s.name) (map (resolved_shape t) ss) ≡ map (λ (s : ShapeDraft). s.name) ss
+unfolding resolved_shape
+shape_names_kept t [] = refl
+shape_names_kept t (s ∷ ss) = ap (λ names. s.name ∷ names) (shape_names_kept t ss)
+
+shape_named : (t : NameTables) (s : ShapeDraft) → IsNamedShape s → IsName (resolved_shape t s).name
+unfolding resolved_shape
+shape_named t s h = h.name
+
+field_named : (t : NameTables) (x : FieldText) → IsName x.name → IsName (resolved_field t x).name
+unfolding resolved_field
+field_named t x h = h
+
+methods_kept : (t : NameTables) (d : NotesDraft) → t.method ≡ (resolved t d).methods
+unfolding resolved
+methods_kept t d = refl
+
+shapes_kept : (t : NameTables) (d : NotesDraft) → (resolved t d).shape ≡ map (resolved_shape t) d.shape
+unfolding resolved
+shapes_kept t d = refl
+
+module _ (d : NotesDraft) (t : NameTables) (r : IsRead d t) where
+  locals_named : (locals : Option (List ℕ)) → Each (λ (x : FieldText). IsName x.name) (locals_fields t d locals)
+  unfolding locals_fields
+  locals_named None = no_fields
+  locals_named (Some name) = named_by (slice_get d.shape (name_number name t.shape)) (λ s e. r.shapes (name_number name t.shape) s e)
+
+  pub locals_once : (locals : Option (List ℕ)) → Once (λ (x : FieldText). x.name) (locals_fields t d locals)
+  unfolding locals_fields
+  locals_once None = none_once
+  locals_once (Some name) = once_in (slice_get d.shape (name_number name t.shape)) (λ s e. r.once.fields (name_number name t.shape) s e)
+
+  have_names : (f : FnNote) (fs : List FieldText) → local_fields (resolved t d) f ≡ map (resolved_field t) fs
+      → Each (λ (x : FieldText). IsName x.name) fs → HaveNames (resolved t d) (local_fields (resolved t d) f)
+  have_names f fs same named =
+      record {
+        shapes = subst (Each (λ (s : Shape). IsName s.name)) (sym (shapes_kept t d))
+            (each_map (λ (s : Shape). IsName s.name) (resolved_shape t) d.shape (λ k s at. shape_named t s (r.shapes k s at)));
+        methods = r.given.methods;
+        fields = subst (Each (λ (x : Field). IsName x.name)) (sym same)
+            (each_map (λ (x : Field). IsName x.name) (resolved_field t) fs (λ k x at. field_named t x (named k x at)));
+      }
+
+  pub are_names : (f : FnNote) (fs : List FieldText) → local_fields (resolved t d) f ≡ map (resolved_field t) fs
+      → Once (λ (x : FieldText). x.name) fs → length (local_fields (resolved t d) f) ≤ 64 → AreNamesOf t (resolved t d) f fs
+  are_names f fs same once few =
+      let long : length (local_fields (resolved t d) f) ≡ length fs = ap length same ∙ length-map fs (resolved_field t) in
+      record {
+        shapes = r.names.shape ∙ (sym (shape_names_kept t d.shape) ∙ ap (map (λ (s : Shape). s.name)) (sym (shapes_kept t d)));
+        shapes_once = subst (Once (λ name. name)) (sym r.names.shape) r.once.shapes;
+        methods = methods_kept t d;
+        methods_once = subst (Once (λ name. name)) (sym (methods_kept t d)) r.given.methods_once;
+        fields = same;
+        fields_once = once;
+        few = omega arith;
+      }
+
+-- ---- items of the stack
+
+one_known : (notes : Notes) (f : FnNote) (x : Item) → ((kind : SlotKind) (t : Ty) → x ≡ items.Slot kind t → IsKnown notes f t)
+    → KnownItem notes f x
+one_known notes f (items.Slot kind t) h = h kind t refl
+one_known notes f items.Locals h = tt
+
+pub all_known : (notes : Notes) (f : FnNote) (xs : List Item)
+    → ((k : ℕ) (kind : SlotKind) (t : Ty) → slice_get xs k ≡ Some (items.Slot kind t) → IsKnown notes f t) → AllKnown notes f xs
+all_known notes f [] h = tt
+all_known notes f (x ∷ xs) h = (one_known notes f x (λ kind t e. h 0 kind t (ap Some e)), all_known notes f xs (λ k. h (suc k)))
+
+slot_other : (notes : Notes) (fields : List Field) (kind : SlotKind) (t : Ty)
+    → bytes_eq (item_text notes fields (items.Slot kind t)) (codes "locals") ≡ false
+slot_other notes fields kinds.N t = refl
+slot_other notes fields kinds.Q t = refl
+slot_other notes fields kinds.D t = refl
+
+-- where no text is `locals`, no item is
+no_locals : (notes : Notes) (fields : List Field) (xs : List Item)
+    → has_text (codes "locals") (strings (item_texts notes fields xs)) ≡ false → count_by is_locals xs ≡ 0
+no_locals notes fields [] e = refl
+no_locals notes fields (items.Slot kind t ∷ xs) e =
+    let rest : count_by is_locals xs ≡ 0 =
+    no_locals notes fields xs (sym (ap (λ b. b || has_text (codes "locals") (strings (item_texts notes fields xs)))
+    (slot_other notes fields kind t)) ∙ e) in
+    let b : count_by is_locals (items.Slot kind t ∷ xs) ≡ 0 + count_by is_locals xs =
+    sum_by-cons (λ y. cond (is_locals y) 1 0) (items.Slot kind t) xs in
+    omega arith
+no_locals notes fields (items.Locals ∷ xs) e = absurd cc
+
+few_beside : (notes : Notes) (fields : List Field) (xs : List Item) → count_by is_slot xs ≤ 64 → count_by is_locals xs ≤ 1
+    → nat_le (count_beside (codes "locals") (strings (item_texts notes fields xs))) 64 ≡ true
+few_beside notes fields xs few once =
+    let ts = item_texts notes fields xs in
+    let parts = slots_and_locals xs in
+    let long : count (strings ts) ≡ length xs = count_strings ts ∙ length-map xs (item_text notes fields) in
+    ⊎_elim
+    (λ some. rw some (le-leb (count (strings ts) - 1) 64 (omega arith)))
+    (λ none.
+    let without = no_locals notes fields xs none in
+    rw none (le-leb (count (strings ts)) 64 (omega arith)))
+    (cases_Bool (has_text (codes "locals") (strings ts)))
+
+-- ---- one point
+
+short_if : {X : Type 0} (b : Bool) (x : X) (ys : List X) (n : ℕ) → length ys ≤ n → length (cond b (x ∷ ys) ys) ≤ suc n
+short_if true x ys n h = omega arith
+short_if false x ys n h = omega arith
+
+kept_short : (p : ℕ → Bool) (a n : ℕ) → length (filter p (range_with_len a n)) ≤ n
+kept_short p a zero = omega arith
+kept_short p a (suc n) = short_if (p a) a (filter p (range_with_len (a + 1) n)) n (kept_short p (a + 1) n)
+
+told_short : (s : State) (n : ℕ) → length (told_up_to s n) ≤ n
+unfolding told_up_to
+told_short s n = kept_short _ 1 n
+
+names_short : (fields : List Field) (set n : ℕ) → length (names_below fields set n) ≤ n
+unfolding names_below
+names_short fields set n =
+    let short = kept_short (has_field set) 0 n in
+    let kept = filter (has_field set) (range_with_len 0 n) in
+    let long : length (map (field_name fields) kept) ≡ length kept = length-map kept (field_name fields) in
+    omega arith
+
+same_state : (s : State) (regs : List Ty) (stack : List Item) (written : ℕ) (fact : Option Fact) → regs ≡ s.regs → stack ≡ s.items
+    → written ≡ s.written → fact ≡ s.fact
+    → record { regs = regs; items = stack; written = written; made = s.made; fact = fact } ≡ s
+same_state s regs stack written fact a b c e = rw (a, b, c, e) refl
+
+-- what is printed of a point, and what it is read as
+pub record IsPrinted (t : NameTables) (d : NotesDraft) (p : Point) : Type 0 where
+  pub table : (prefix : List ℕ) → point_of prefix (point_members (resolved t d) p) ≡ Ok (point_draft (resolved t d) p)
+  pub point : resolved_point t d (point_draft (resolved t d) p) ≡ p
+  pub regs : AllPlain (register_texts (resolved t d) (fields_at (resolved t d) p.place) p.state)
+  pub stack : AllPlain (item_texts (resolved t d) (fields_at (resolved t d) p.place) p.state.items)
+  pub written : AllPlain (field_names (fields_at (resolved t d) p.place) p.state.written)
+  pub place : p.place < 2 ^ 63
+  pub made : p.state.made < 2 ^ 63
+
+module _ (d : NotesDraft) (t : NameTables) (p : Point) (n : IsPointNote (resolved t d) p) (fs : List FieldText)
+    (h : HaveNames (resolved t d) (local_fields (resolved t d) n.owner)) (a : AreNamesOf t (resolved t d) n.owner fs) where
+  abbrev fields : List Field
+  fields = local_fields (resolved t d) n.owner
+
+  items_known : AllKnown (resolved t d) n.owner p.state.items
+  items_known = all_known (resolved t d) n.owner p.state.items n.state.slots
+
+  written_named : AreNames (field_names fields p.state.written)
+  written_named = below_are (resolved t d) n.owner p.state.written 64 h n.written
+
+  table_again : (prefix : List ℕ) → point_of prefix (members_in (resolved t d) fields p) ≡ Ok (draft_in (resolved t d) fields p)
+  table_again prefix =
+      let place = n.place in
+      let made = n.made in
+      let told = told_short p.state 7 in
+      let long : length (register_texts (resolved t d) fields p.state) ≡ length (told_up_to p.state 7) =
+      length-map (told_up_to p.state 7) (register_text (resolved t d) fields p.state) in
+      let short = names_short fields p.state.written 64 in
+      point_read prefix p.place p.state.made (register_texts (resolved t d) fields p.state) (item_texts (resolved t d) fields p.state.items)
+      (field_names fields p.state.written) (map (register_draft (resolved t d) fields p.state) (told_up_to p.state 7))
+      (map (item_draft (resolved t d) fields) p.state.items) (field_names fields p.state.written)
+      (omega arith) (omega arith) (omega arith) (few_beside (resolved t d) fields p.state.items n.state.few n.state.once) (omega arith)
+      (texts_again register_of (register_text (resolved t d) fields p.state) (register_draft (resolved t d) fields p.state)
+      (prefix ++ codes "regs") (told_up_to p.state 7) (reading.registers_read (resolved t d) n.owner h p.state n.state))
+      (texts_again item_of (item_text (resolved t d) fields) (item_draft (resolved t d) fields) (prefix ++ codes "stack") p.state.items
+      (reading.items_read (resolved t d) n.owner h p.state.items items_known))
+      (names_again (prefix ++ codes "written") (field_names fields p.state.written) written_named)
+
+  state_again : state_of t fs (draft_in (resolved t d) fields p) ≡ p.state
+  unfolding state_of
+  state_again = same_state p.state _ _ _ None (resolving.registers_again t (resolved t d) n.owner fs a p.state n.state)
+      (resolving.items_again t (resolved t d) n.owner fs a p.state.items items_known)
+      (resolving.set_read t (resolved t d) n.owner fs a p.state.written n.written n.set) (sym n.fact)
+
+  point_again : (point_locals t d p.place).fields ≡ fs → resolved_point t d (draft_in (resolved t d) fields p) ≡ p
+  unfolding resolved_point
+  point_again same =
+      ap (λ (fl : List FieldText). record { place = p.place; state = state_of t fl (draft_in (resolved t d) fields p) }) same
+      ∙ ap (λ (s : State). record { place = p.place; state = s }) state_again
+
+  here : fields_at (resolved t d) p.place ≡ fields
+  unfolding fields_at
+  here = ap (λ o. option_map_or (local_fields (resolved t d)) o []) n.there
+
+  printed : (point_locals t d p.place).fields ≡ fs → IsPrinted t d p
+  printed same =
+      let place = n.place in
+      let made = n.made in
+      record {
+        table = λ prefix. subst (λ fl. point_of prefix (members_in (resolved t d) fl p) ≡ Ok (draft_in (resolved t d) fl p)) (sym here)
+            (table_again prefix);
+        point = subst (λ fl. resolved_point t d (draft_in (resolved t d) fl p) ≡ p) (sym here) (point_again same);
+        regs = subst (λ fl. AllPlain (register_texts (resolved t d) fl p.state)) (sym here)
+            (reading.registers_plain (resolved t d) n.owner h p.state n.state);
+        stack = subst (λ fl. AllPlain (item_texts (resolved t d) fl p.state.items)) (sym here)
+            (reading.items_plain (resolved t d) n.owner h p.state.items items_known);
+        written = subst (λ fl. AllPlain (field_names fl p.state.written)) (sym here)
+            (names_are_plain (field_names fields p.state.written) written_named);
+        place = omega arith;
+        made = omega arith;
+      }
+
+pub is_printed : (d : NotesDraft) (t : NameTables) → IsRead d t → (p : Point) → IsPointNote (resolved t d) p → IsPrinted t d p
+is_printed d t r p n =
+    let o = owned t d p.place n.owner n.there in
+    let fs = locals_fields t d o.draft.locals in
+    let same : local_fields (resolved t d) n.owner ≡ map (resolved_field t) fs =
+    ap (local_fields (resolved t d)) (sym o.same) ∙ its_fields t d o.draft in
+    let few : length (local_fields (resolved t d) n.owner) ≤ 64 = (r.notes.functions o.number n.owner o.there).fields in
+    printed d t p n fs (have_names d t r n.owner fs same (locals_named d t r o.draft.locals))
+    (are_names d t r n.owner fs same (locals_once d t r o.draft.locals) few) (ap (λ l. l.fields) o.locals)
+
+-- ---- the points
+
+abbrev pub AllPrinted : NameTables → NotesDraft → List Point → Type 0
+AllPrinted t d [] = Unit {0}
+AllPrinted t d (p ∷ ps) = IsPrinted t d p × AllPrinted t d ps
+
+pub all_printed : (d : NotesDraft) (t : NameTables) → IsRead d t → (ps : List Point) → Each (IsPointNote (resolved t d)) ps
+    → AllPrinted t d ps
+all_printed d t r [] h = tt
+all_printed d t r (p ∷ ps) h = (
+  is_printed d t r p (each_first (IsPointNote (resolved t d)) p ps h),
+  all_printed d t r ps (each_rest (IsPointNote (resolved t d)) p ps h),
+)
+
+told_of : Notes → Point → Told
+told_of notes p =
+    record {
+      place = p.place;
+      made = p.state.made;
+      regs = register_texts notes (fields_at notes p.place) p.state;
+      stack = item_texts notes (fields_at notes p.place) p.state.items;
+      written = field_names (fields_at notes p.place) p.state.written;
+    }
+
+all_plain : (d : NotesDraft) (t : NameTables) (ps : List Point) → AllPrinted t d ps → AllToldPlain (map (told_of (resolved t d)) ps)
+unfolding told_of
+all_plain d t [] h = tt
+all_plain d t (p ∷ ps) h =
+    (record { place = h.0.place; made = h.0.made; regs = h.0.regs; stack = h.0.stack; written = h.0.written }, all_plain d t ps h.1)
+
+text_told : (notes : Notes) (ps : List Point) → points_text notes ps ≡ flat_map told_text (map (told_of notes) ps)
+unfolding point_text told_of
+text_told notes ps = sym (flat_map-map told_text (told_of notes) ps)
+
+tables_told : (notes : Notes) (ps : List Point) → tables_of told_members (map (told_of notes) ps) ≡ tables_of (point_members notes) ps
+unfolding told_of
+tables_told notes [] = refl
+tables_told notes (p ∷ ps) = ap (item (table (point_members notes p))) (tables_told notes ps)
+
+document_told : (notes : Notes) (ps : List Point) → told_document (map (told_of notes) ps) ≡ points_members notes ps
+unfolding told_of
+document_told notes [] = refl
+document_told notes (p ∷ ps) =
+    ap (λ ds. member (codes "point") (array (item (table (point_members notes p)) ds)) no_members) (tables_told notes ps)
+
+all_ascii : (xs : List Told) → AllToldPlain xs → IsAscii (flat_map told_text xs)
+all_ascii [] h = IsAscii-nil
+all_ascii (x ∷ xs) h = IsAscii-append (told_text x) (flat_map told_text xs) (told_ascii x h.0) (all_ascii xs h.1)
+
+document_of : (xs : List Told) → AllToldPlain xs → document (flat_map told_text xs) ≡ Ok (told_document xs)
+unfolding document
+document_of xs h =
+    let text = flat_map told_text xs in
+    let utf8 : is_utf8 text ≡ true = is_utf8-from_IsUtf8 text (IsUtf8-from_ascii text (all_ascii xs h)) in
+    rw (utf8, told_parsed xs h) refl
+
+pub printed_tables : PrintedPointsAreTables
+printed_tables text d t h ps n =
+    let notes = resolved t d in
+    let all = all_printed d t (is_read text d t h) ps n in
+    ap document (text_told notes ps)
+    ∙ (document_of (map (told_of notes) ps) (all_plain d t ps all) ∙ ap (λ m. Ok m) (document_told notes ps))
+
+all_tables : (d : NotesDraft) (t : NameTables) (ps : List Point) → AllPrinted t d ps
+    → AllTables point_of (point_members (resolved t d)) (point_draft (resolved t d)) ps
+all_tables d t [] h = tt
+all_tables d t (p ∷ ps) h = (h.0.table, all_tables d t ps h.1)
+
+all_points : (d : NotesDraft) (t : NameTables) (ps : List Point) → AllPrinted t d ps
+    → map (resolved_point t d) (map (point_draft (resolved t d)) ps) ≡ ps
+all_points d t [] h = refl
+all_points d t (p ∷ ps) h = rw (h.0.point, all_points d t ps h.1) refl
+
+no_tables : (limit : ℕ) → tables_at point_of [] (codes "point") limit no_members ≡ Ok []
+unfolding tables_at list_at array_at rows_of each
+no_tables limit = rw (le-leb 0 limit (omega arith)) refl
+
+pub tables_again : (d : NotesDraft) (t : NameTables) (ps : List Point) (limit : ℕ) → AllPrinted t d ps → length ps ≤ limit
+    → tables_at point_of [] (codes "point") limit (points_members (resolved t d) ps) ≡ Ok (map (point_draft (resolved t d)) ps)
+tables_again d t [] limit h few = no_tables limit
+tables_again d t (p ∷ ps) limit h few =
+    tables_read point_of (point_members (resolved t d)) (point_draft (resolved t d)) (codes "point") limit
+    (points_members (resolved t d) (p ∷ ps)) (p ∷ ps) refl few (all_tables d t (p ∷ ps) h)
+
+pub printed_points : PrintedPointsAreRead
+printed_points text d t h ps n few =
+    let notes = resolved t d in
+    let all = all_printed d t (is_read text d t h) ps n in
+    rw (printed_tables text d t h ps n, tables_again d t ps (point_limit d.version) all few) (ap (λ xs. Ok xs) (all_points d t ps all))

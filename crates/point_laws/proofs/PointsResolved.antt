@@ -1,0 +1,228 @@
+-- The draft of a point stands for the point.
+use Rattle.std.proofs.Common.{◌≡◌, ℕ, zero, suc, ◌+◌, ◌^◌, ◌<◌, ◌≤◌, Bool, true, false, not, List, [], ◌∷◌, length}
+use Rattle.std.proofs.Common.{filter, map}
+use Rattle.std.proofs.Common.{cond, Option, Some, None, refl, sym, ap, subst, ◌∙◌, ⊎_elim, arith, slice_get, nat_eq}
+use Rattle.std.proofs.Common.{nat_le}
+use Rattle.std.specs.List.{find, range_with_len}
+use Rattle.std.specs.Option.{option_map_or}
+use Rattle.std.specs.Prelude.{option_map}
+use Rattle.std.proofs.lemmas.Bool.{and_parts, cases_lt, eq-eqb, eqb-true, le-leb, ltb-true}
+use Rattle.std.proofs.lemmas.Bool.Decides.{nat_tests}
+use Rattle.std.proofs.lemmas.List.{length-map}
+use Rattle.std.proofs.lemmas.List.FromFn.{fill_by_all}
+use Rattle.std.proofs.lemmas.Option.{slice_get-map}
+use Rattle.ebc_base.specs.Tables.{name_number}
+use Rattle.ebc_base.proofs.Lists.{within_some}
+use Rattle.note_types.specs.Known.{AreFields, CellNames, IsKnown, IsState, local_fields}
+use Rattle.note_types.specs.States.{type_of}
+use Rattle.note_types.specs.declared.cell.Cell.{Cell}
+use Rattle.note_types.specs.declared.cell.Cell.TheVariants as cell
+use Rattle.note_types.specs.declared.items.Item.{Item}
+use Rattle.note_types.specs.declared.items.Item.TheVariants as item
+use Rattle.note_types.specs.declared.notes.FnNote.{FnNote}
+use Rattle.note_types.specs.declared.notes.Notes.{Notes}
+use Rattle.note_types.specs.declared.shape.Shape.{Shape}
+use Rattle.note_types.specs.declared.state.State.{State}
+use Rattle.note_types.specs.declared.types.Ty.{Ty}
+use Rattle.note_types.specs.declared.types.Ty.TheVariants as ty
+use Rattle.note_texts.specs.declared.cell.FieldText.{FieldText}
+use Rattle.note_texts.specs.declared.slot.RegisterText.{RegisterText}
+use Rattle.note_draft.specs.declared.tables.NameTables.{NameTables}
+use Rattle.type_notes.specs.Locals.{field_number, field_set}
+use Rattle.type_notes.specs.Resolved.{given_or_left_out, left_out, register_type, resolved_cell, resolved_field, resolved_item}
+use Rattle.type_notes.specs.Resolved.{resolved_type}
+use Rattle.point_texts.specs.NamedTypes.{named_cell, named_type}
+use Rattle.point_texts.specs.PrintedStates.{is_left_out, told_up_to}
+use Rattle.point_texts.specs.PrintedTypes.{field_name, field_names, method_name, shape_name}
+use Rattle.point_laws.specs.PointTables.{item_draft, register_draft}
+use Rattle.point_laws.proofs.TextsRead.{AllKnown, KnownItem}
+use Rattle.point_laws.proofs.NamesNumbered.{Once, field_again, number_of_name, set_again}
+
+-- names and tables of names agree with notes, and these fields with their texts
+pub record AreNamesOf (t : NameTables) (notes : Notes) (f : FnNote) (fs : List FieldText) : Type 0 where
+  pub shapes : t.shape ≡ map (λ (s : Shape). s.name) notes.shape
+  pub shapes_once : Once (λ name. name) t.shape
+  pub methods : t.method ≡ notes.methods
+  pub methods_once : Once (λ name. name) t.method
+  pub fields : local_fields notes f ≡ map (resolved_field t) fs
+  pub fields_once : Once (λ (g : FieldText). g.name) fs
+  pub few : length fs ≤ 64
+
+-- the name of a thing that is there
+pub name_there : {A : Type 0} (name : A → List ℕ) (xs : List A) (names : List (List ℕ)) (k : ℕ) → names ≡ map name xs → k < length xs
+    → slice_get names k ≡ Some (option_map_or name (slice_get xs k) [])
+name_there name xs names k same within =
+    let x = within_some xs k within in
+    ap (λ ns. slice_get ns k) same
+    ∙ (slice_get-map name xs k ∙ (ap (option_map name) x.1 ∙ ap (λ o. Some (option_map_or name o [])) (sym x.1)))
+
+module _ (t : NameTables) (notes : Notes) (f : FnNote) (fs : List FieldText) (a : AreNamesOf t notes f fs) where
+  shape_again : (s : ℕ) → s < length notes.shape → name_number (shape_name notes s) t.shape ≡ s
+  shape_again s within = number_of_name t.shape a.shapes_once s (shape_name notes s)
+      (name_there (λ (x : Shape). x.name) notes.shape t.shape s a.shapes within)
+
+  method_again : (m : ℕ) → m < length notes.methods → name_number (method_name notes m) t.method ≡ m
+  method_again m within =
+      let name = within_some notes.methods m within in
+      number_of_name t.method a.methods_once m (method_name notes m)
+      (ap (λ ns. slice_get ns m) a.methods ∙ (name.1 ∙ ap (λ (o : Option (List ℕ)). Some (option_map_or (λ n. n) o [])) (sym name.1)))
+
+  cell_again : (c : Cell) → CellNames notes c → resolved_cell t (named_cell notes c) ≡ c
+  unfolding resolved_cell named_cell
+  cell_again cell.I8 n = refl
+  cell_again cell.I16 n = refl
+  cell_again cell.I32 n = refl
+  cell_again cell.I64 n = refl
+  cell_again cell.N n = refl
+  cell_again cell.Stat n = refl
+  cell_again cell.Handle n = refl
+  cell_again cell.Entry n = refl
+  cell_again (cell.Ptr s k null) n = ap (λ x. cell.Ptr x k null) (shape_again s n)
+  cell_again (cell.P64 s k null) n = ap (λ x. cell.P64 x k null) (shape_again s n)
+  cell_again (cell.Method m) n = ap (λ x. cell.Method x) (method_again m n)
+
+  long : length (local_fields notes f) ≡ length fs
+  long = ap length a.fields ∙ length-map fs (resolved_field t)
+
+  field_read : (x : ℕ) → x < length (local_fields notes f) → field_number fs (field_name (local_fields notes f) x) ≡ x
+  field_read x within =
+      let e = long in
+      ap (λ fields. field_number fs (field_name fields x)) a.fields ∙ field_again t fs a.fields_once a.few x (omega arith)
+
+  pub set_read : (set : ℕ) → AreFields notes f set → set < 2 ^ 64 → field_set fs (field_names (local_fields notes f) set) ≡ set
+  set_read set known small =
+      let e = long in
+      ap (λ fields. field_set fs (field_names fields set)) a.fields
+      ∙ set_again t fs a.fields_once a.few set (λ x h. let w = known x h in omega arith) small
+
+  type_again : (x : Ty) → IsKnown notes f x → resolved_type t fs (named_type notes (local_fields notes f) x) ≡ x
+  unfolding resolved_type named_type
+  type_again ty.Any k = refl
+  type_again (ty.Int lo hi div) k = refl
+  type_again (ty.Lin n c) k = refl
+  type_again (ty.Scaled n c hi) k = refl
+  type_again (ty.Ptr s count n c null) k = ap (λ y. ty.Ptr y count n c null) (shape_again s k.names)
+  type_again (ty.Local x) k = ap (λ y. ty.Local y) (field_read x k.names)
+  type_again (ty.Lent c) k = ap (λ y. ty.Lent y) (cell_again c k.names)
+  type_again (ty.Status set) k = ap (λ y. ty.Status y) (set_read set k.names k.bounded)
+  type_again (ty.SignedStatus set) k = ap (λ y. ty.SignedStatus y) (set_read set k.names k.bounded)
+  type_again ty.Mask k = refl
+  type_again ty.Handle k = refl
+  type_again ty.Entry k = refl
+  type_again (ty.Method m) k = ap (λ y. ty.Method y) (method_again m k.names)
+  type_again (ty.ThunkAt i) k = refl
+  type_again (ty.Saved r) k = refl
+
+  -- ---- items
+
+  item_again : (x : Item) → KnownItem notes f x → resolved_item t fs (item_draft notes (local_fields notes f) x) ≡ x
+  unfolding resolved_item
+  item_again (item.Slot kind x) k = ap (λ y. item.Slot kind y) (type_again x k)
+  item_again item.Locals k = refl
+
+  pub items_again : (xs : List Item) → AllKnown notes f xs
+      → map (resolved_item t fs) (map (item_draft notes (local_fields notes f)) xs) ≡ xs
+  items_again [] k = refl
+  items_again (x ∷ xs) k = rw (item_again x k.0, items_again xs k.1) refl
+
+  -- ---- registers
+
+  -- a register is found among those that are told
+  module _ (s : State) (p : ℕ → Bool) where
+    abbrev draft : ℕ → RegisterText
+    draft r = register_draft notes (local_fields notes f) s r
+
+    sought : ℕ → List ℕ → Option RegisterText
+    sought r ns = find (λ (x : RegisterText). nat_eq x.register r) (map draft ns)
+
+    passed_over : (r n : ℕ) (b : Bool) (ns : List ℕ) → nat_eq n r ≡ false → sought r (cond b (n ∷ ns) ns) ≡ sought r ns
+    unfolding sought
+    passed_over r n true ns other = rw other refl
+    passed_over r n false ns other = refl
+
+    not_found : (r a n : ℕ) → r < a → sought r (filter p (range_with_len a n)) ≡ None
+    unfolding sought
+    not_found r a zero above = refl
+    not_found r a (suc n) above =
+        let other : nat_eq a r ≡ false = grind (arith, nat_tests) in
+        passed_over r a (p a) (filter p (range_with_len (a + 1) n)) other ∙ not_found r (a + 1) n (omega arith)
+
+    found_by : (r : ℕ) (b : Bool) (ns : List ℕ) → sought r ns ≡ None → sought r (cond b (r ∷ ns) ns) ≡ cond b (Some (draft r)) None
+    unfolding sought
+    found_by r true ns none = rw (eq-eqb r r refl) refl
+    found_by r false ns none = none
+
+    found_told : (r a n : ℕ) → a ≤ r → r < a + n → sought r (filter p (range_with_len a n)) ≡ cond (p r) (Some (draft r)) None
+    found_told r a zero low high = absurd (omega arith)
+    found_told r a (suc n) low high = ⊎_elim
+        (λ below.
+        let other : nat_eq a r ≡ false = grind (arith, nat_tests) in
+        passed_over r a (p a) (filter p (range_with_len (a + 1) n)) other ∙ found_told r (a + 1) n (omega arith) (omega arith))
+        (λ above.
+        let it : r ≡ a = omega arith in
+        subst (λ k. sought r (filter p (k ∷ range_with_len (a + 1) n)) ≡ cond (p r) (Some (draft r)) None) it
+        (found_by r (p r) (filter p (range_with_len (a + 1) n)) (not_found r (a + 1) n (omega arith))))
+        (cases_lt a r)
+
+  left : (r : ℕ) (x : Ty) → 1 ≤ r → is_left_out r x ≡ true → left_out r ≡ x
+  left r ty.Any low e =
+      let above : nat_le r 3 ≡ false = (let h = ltb-true 3 r e in grind (arith, nat_tests)) in
+      rw (le-leb 1 r low, above) refl
+  left r (ty.Int lo hi div) low e = absurd cc
+  left r (ty.Lin n c) low e = absurd cc
+  left r (ty.Scaled n c hi) low e = absurd cc
+  left r (ty.Ptr s count n c null) low e = absurd cc
+  left r (ty.Local x) low e = absurd cc
+  left r (ty.Lent c) low e = absurd cc
+  left r (ty.Status set) low e = absurd cc
+  left r (ty.SignedStatus set) low e = absurd cc
+  left r ty.Mask low e = absurd cc
+  left r ty.Handle low e = absurd cc
+  left r ty.Entry low e = absurd cc
+  left r (ty.Method m) low e = absurd cc
+  left r (ty.ThunkAt i) low e = absurd cc
+  left r (ty.Saved y) low e =
+      let both = and_parts (nat_eq y r) (nat_le r 3) e in
+      rw (le-leb 1 r low, both.1) (ap (λ k. ty.Saved k) (sym (eqb-true y r both.0)))
+
+  told_or_left : (s : State) (r : ℕ) (b : Bool) → 1 ≤ r → IsKnown notes f (type_of s r) → is_left_out r (type_of s r) ≡ b
+      → given_or_left_out t fs r (cond (not b) (Some (register_draft notes (local_fields notes f) s r)) None) ≡ type_of s r
+  told_or_left s r true low k e = left r (type_of s r) low e
+  told_or_left s r false low k e = type_again (type_of s r) k
+
+  told_found : (s : State) (r n : ℕ) → 1 ≤ r → r ≤ n
+      → sought s (λ x. not (is_left_out x (type_of s x))) r (told_up_to s n)
+      ≡ cond (not (is_left_out r (type_of s r))) (Some (register_draft notes (local_fields notes f) s r)) None
+  unfolding told_up_to
+  told_found s r n low high = found_told s (λ x. not (is_left_out x (type_of s x))) r 1 n low (omega arith)
+
+  register_again : (s : State) → IsState notes f s → (r : ℕ) → 1 ≤ r → r ≤ 7
+      → register_type t fs (map (register_draft notes (local_fields notes f) s) (told_up_to s 7)) r ≡ type_of s r
+  unfolding register_type sought
+  register_again s k r low high =
+      ap (given_or_left_out t fs r) (told_found s r 7 low high)
+      ∙ told_or_left s r (is_left_out r (type_of s r)) low (k.registers r) refl
+
+  pub registers_again : (s : State) → IsState notes f s
+      → ty.Any ∷
+      register_type t fs (map (register_draft notes (local_fields notes f) s) (told_up_to s 7)) 1 ∷
+      register_type t fs (map (register_draft notes (local_fields notes f) s) (told_up_to s 7)) 2 ∷
+      register_type t fs (map (register_draft notes (local_fields notes f) s) (told_up_to s 7)) 3 ∷
+      register_type t fs (map (register_draft notes (local_fields notes f) s) (told_up_to s 7)) 4 ∷
+      register_type t fs (map (register_draft notes (local_fields notes f) s) (told_up_to s 7)) 5 ∷
+      register_type t fs (map (register_draft notes (local_fields notes f) s) (told_up_to s 7)) 6 ∷
+      register_type t fs (map (register_draft notes (local_fields notes f) s) (told_up_to s 7)) 7 ∷ [] ≡ s.regs
+  registers_again s k =
+      let unused : type_of s 0 ≡ ty.Any = k.unused in
+      let all : s.regs ≡ map (type_of s) (range_with_len 0 8) = fill_by_all (type_of s) s.regs 8 ty.Any k.eight (λ j h. refl) in
+      rw (
+        register_again s k 1 (omega arith) (omega arith),
+        register_again s k 2 (omega arith) (omega arith),
+        register_again s k 3 (omega arith) (omega arith),
+        register_again s k 4 (omega arith) (omega arith),
+        register_again s k 5 (omega arith) (omega arith),
+        register_again s k 6 (omega arith) (omega arith),
+        register_again s k 7 (omega arith) (omega arith),
+      )
+      (ap (λ (x : Ty). x ∷ type_of s 1 ∷ type_of s 2 ∷ type_of s 3 ∷ type_of s 4 ∷ type_of s 5 ∷ type_of s 6 ∷ type_of s 7 ∷ [])
+      (sym unused) ∙ sym all)

@@ -1,0 +1,2 @@
+pub mod PointTables
+pub mod PrintedPoints

@@ -1,0 +1,3 @@
+pub mod KeptNumbers
+pub mod PrintedTypeLaws
+mod Rows

@@ -1,0 +1,3 @@
+pub mod NamedTypes
+pub mod PrintedStates
+pub mod PrintedTypes
