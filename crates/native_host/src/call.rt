@@ -23,6 +23,7 @@ use note_types::{Notes, Script};
 use object_memory::ObjMem;
 
 /// What a call instruction asks the host for: a native call, from the call instruction at a place of the image.
+#[derive(Clone, Copy)]
 pub struct Request {
     /// The place of the instruction, 0xFFFFFFFF outside the image.
     pub place: u32,

@@ -1,42 +1,36 @@
 -- Laws of the start of a run: what the stores of the start leave, and what a runner is at before the first step.
-use Rattle.std.proofs.Common.{◌≡◌, ℕ, suc, ◌+◌, ◌*◌, ◌-◌, ◌%◌, ◌^◌, ◌<◌, ◌≤◌, Bool, true, false, List, [], ◌∷◌, length, map, min, Option}
+use Rattle.std.proofs.Common.{◌≡◌, ℕ, suc, ◌%◌, ◌^◌, ◌<◌, ◌≤◌, Bool, true, false, List, [], ◌∷◌, length, map}
 use Rattle.std.proofs.Common.{Some, None}
-use Rattle.std.proofs.Common.{refl, sym, ap, ◌∙◌, subst, arith, drop, if◌then◌else◌}
+use Rattle.std.proofs.Common.{refl, sym, ap, ◌∙◌, subst, arith, if◌then◌else◌}
 use Rattle.std.specs.Prelude.{vec_capacity}
-use Rattle.std.specs.List.{sum_by}
 use Rattle.std.specs.Option.{option_map_or}
 use Rattle.std.proofs.Math.Nat.{mod-eq_of_lt}
 use Rattle.ebc_width.specs.Bytes.{put}
 use Rattle.ebc_width.specs.Ranges.{holds}
-use Rattle.object_memory.specs.Memory.{Memory, byte_at, ranges}
+use Rattle.object_memory.specs.Memory.{Memory}
 use Rattle.pe_image.specs.Mapped.{mapped}
 use Rattle.pe_image.specs.declared.image.Image.{Image}
 use Rattle.note_types.specs.Concrete.{Concrete, stored}
-use Rattle.note_types.specs.declared.ending.Ending.TheVariants.{Running, Raised}
-use Rattle.note_types.specs.declared.exception.Exception.TheVariants as raises
+use Rattle.note_types.specs.declared.ending.Ending.TheVariants.{Running}
 use Rattle.note_types.specs.declared.notes.Notes.{Notes}
 use Rattle.note_types.specs.declared.script.Script.{Script}
 use Rattle.note_types.specs.declared.value.Value.{Value}
 use Rattle.ebc_machine.specs.States.{concrete_of}
 use Rattle.ebc_machine.specs.declared.Machine.{Machine}
-use Rattle.frame_stack.specs.declared.Frame.{Frame}
 use Rattle.entry_thunk.specs.Cells.{with_memory}
 use Rattle.host_model.specs.HostPlans.{Store, function_params}
 use Rattle.host_model.specs.HostSteps.{after_store, after_stores, entered, frame_for, inside, with_object, with_objects, written_number}
 use Rattle.host_model.specs.Objects.{made_objects}
 use Rattle.host_model.specs.Placements.{Placement, code_at, object_range, own_placement, stack_end}
-use Rattle.host_model.specs.Progress.{ScriptPlace, script_start}
+use Rattle.host_model.specs.Progress.{script_start}
 use Rattle.host_model.specs.RunState.{RunState}
 use Rattle.host_model.specs.Runs.{run_after, run_of, world_of}
 use Rattle.host_model.specs.Start.{bare_machine, run_start, start_machine}
 use Rattle.host_model.specs.World.{World}
 use Rattle.host_model.specs.declared.object.TypedObject.{TypedObject}
 use Rattle.native_host.specs.Hosts.{HasRoom, IsHost, IsMemoryOf, IsServing, all_events}
-use Rattle.native_host.specs.Kept.{placement_of}
-use Rattle.native_host.specs.Starting.{rest_events}
 use Rattle.native_host.proofs.StartLaws.{all_rest_events}
 use Rattle.native_host.specs.declared.host.Host.{Host}
-use Rattle.twin_run.specs.Room.{HasEvents}
 use Rattle.twin_run.specs.Runner.{IsAt, IsRunner, hosts_of}
 use Rattle.twin_run.specs.declared.runner.Runner.{Runner}
 use Rattle.twin_run.proofs.EnteringLaws.{few_params, params_there}

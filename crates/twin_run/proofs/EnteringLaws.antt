@@ -26,7 +26,7 @@ use Rattle.entry_thunk.specs.declared.EnterEnd.TheVariants as ends
 use Rattle.host_model.specs.HostPlans.{function_params}
 use Rattle.host_model.specs.HostSteps.{entered, frame_for, inside, with_slots}
 use Rattle.host_model.specs.Placements.{Placement, code_at, own_placement, params_bytes, return_cell, slot_bytes}
-use Rattle.host_model.specs.RunState.{RunState, SavedFrame}
+use Rattle.host_model.specs.RunState.{RunState}
 use Rattle.host_model.specs.Values.{minus}
 use Rattle.host_model.specs.World.{World}
 use Rattle.native_host.specs.Kept.{placement_of}

@@ -1,9 +1,8 @@
 -- Laws of the host's steps in a run: which step is the host's, and what a runner is at after it.
-use Rattle.std.proofs.Common.{◌≡◌, ℕ, suc, ◌+◌, ◌-◌, ◌^◌, ◌<◌, ◌≤◌, Bool, true, false, List, [], ◌∷◌, ◌++◌, length, map, min, Option, Some}
-use Rattle.std.proofs.Common.{None, refl, sym, ap, ◌∙◌, subst, arith, nat_eq, nat_le, drop, take, slice_get, slice_index, slice_set}
-use Rattle.std.proofs.Common.{if◌then◌else◌, append-nil}
+use Rattle.std.proofs.Common.{◌≡◌, ℕ, ◌<◌, Bool, true, false, List, [], ◌∷◌, ◌++◌, length, map, Option, Some}
+use Rattle.std.proofs.Common.{None, refl, sym, ap, ◌∙◌, subst, arith, nat_eq, drop, take, slice_get, slice_index, slice_set}
+use Rattle.std.proofs.Common.{if◌then◌else◌}
 use Rattle.std.specs.Option.{option_map_or}
-use Rattle.std.proofs.lemmas.Bool.Decides.{nat_tests}
 use Rattle.ebc_base.proofs.Lists.{length-map, within_some}
 use Rattle.object_memory.specs.Memory.{Memory}
 use Rattle.note_types.specs.Concrete.{Concrete, register}
@@ -22,15 +21,13 @@ use Rattle.callex_thunk.specs.HostFrames.{call_of, saved_of}
 use Rattle.callex_thunk.specs.declared.TheConstants.{NO_ENTRY}
 use Rattle.entry_thunk.specs.Entering.{once_left}
 use Rattle.entry_thunk.proofs.CellLaws.{keeps-none}
-use Rattle.host_model.specs.HostPlans.{Calls, GoesOn, IsDue, View, function_params, host_plan, host_turn, is_due, return_view}
+use Rattle.host_model.specs.HostPlans.{Calls, GoesOn, IsDue, View, function_params, host_plan, is_due, return_view}
 use Rattle.host_model.specs.HostSteps.{call_seen, call_under_way, host_step, host_view, objects_at, performed, result_of, return_seen}
-use Rattle.host_model.specs.HostSteps.{with_call}
 use Rattle.host_model.specs.Objects.{made_objects}
 use Rattle.host_model.specs.HostSteps.{as_before, asking_at, outside, writes_mapped, written_number}
 use Rattle.host_model.specs.Placements.{Placement, frame_limit, own_placement}
 use Rattle.host_model.specs.Progress.{NativeCall, NoCall, Asked, Accepted, is_empty}
 use Rattle.host_model.specs.RunState.{RunState, SavedFrame}
-use Rattle.host_model.specs.Runs.{instruction_step, running_step}
 use Rattle.host_model.specs.World.{World}
 use Rattle.native_host.specs.Hosts.{CountsThunks, IsCalled, IsHost, IsMemoryOf, IsServing, Tells, host_world, shown}
 use Rattle.native_host.specs.Kept.{placement_of}

@@ -1,9 +1,9 @@
 -- Laws of instructions: what a runner is at after one, by how the machine's step ends.
-use Rattle.std.proofs.Common.{◌≡◌, ℕ, ◌+◌, ◌-◌, ◌^◌, ◌<◌, ◌≤◌, Bool, true, false, List, [], ◌∷◌, length, map, min, Option, Some, None}
+use Rattle.std.proofs.Common.{◌≡◌, ℕ, ◌+◌, ◌-◌, ◌^◌, List, [], ◌∷◌, map, min, Option, Some, None}
 use Rattle.std.proofs.Common.{refl, sym, ap}
 use Rattle.std.proofs.Common.{◌∙◌, subst, arith}
 use Rattle.std.specs.Option.{option_map_or}
-use Rattle.object_memory.specs.Memory.{Memory, byte_at, ranges}
+use Rattle.object_memory.specs.Memory.{Memory}
 use Rattle.note_types.specs.Concrete.{Concrete, stored}
 use Rattle.note_types.specs.declared.ending.Ending.{Ending}
 use Rattle.note_types.specs.declared.ending.Ending.TheVariants.{Raised, Mismatch}
@@ -24,7 +24,7 @@ use Rattle.entry_thunk.specs.Cells.{with_memory}
 use Rattle.host_model.specs.HostPlans.{ThunkView, NotMapped, NamesNone, Names}
 use Rattle.host_model.specs.HostSteps.{call_place, thunk_made, thunk_view, with_call}
 use Rattle.host_model.specs.Placements.{Placement, own_placement, thunk_at}
-use Rattle.host_model.specs.Progress.{NativeCall, Asked, one_instruction, one_thunk}
+use Rattle.host_model.specs.Progress.{NativeCall, Asked, one_instruction}
 use Rattle.host_model.specs.RunState.{RunState, SavedFrame}
 use Rattle.host_model.specs.Runs.{after_instruction, instruction_step}
 use Rattle.host_model.specs.World.{World}

@@ -1,6 +1,6 @@
 -- Laws of the events that may still come: no step of a run that goes on raises what its trace has and what may still come.
 use Rattle.std.proofs.Common.{◌≡◌, ℕ, zero, suc, ◌+◌, ◌-◌, ◌*◌, ◌<◌, ◌≤◌, Bool, true, false, not, ◌&&◌, List, [], ◌∷◌, ◌++◌, length, map}
-use Rattle.std.proofs.Common.{drop, take, Option, Some, None, refl, sym, ap, ◌∙◌, subst, arith, slice_get, nat_eq, nat_le, length-append}
+use Rattle.std.proofs.Common.{drop, Option, Some, None, refl, sym, ap, subst, arith, slice_get, nat_eq, nat_le, length-append}
 use Rattle.std.proofs.Common.{if◌then◌else◌, add-one}
 use Rattle.std.specs.Prelude.{⊤}
 use Rattle.std.specs.List.{sum_by}
@@ -12,11 +12,10 @@ use Rattle.ebc_machine.specs.declared.StepEnd.TheVariants as ends
 use Rattle.ebc_machine.specs.Step.{machine_step}
 use Rattle.note_types.specs.Concrete.{Concrete}
 use Rattle.note_types.specs.declared.ending.Ending.{Ending}
-use Rattle.note_types.specs.declared.ending.Ending.TheVariants.{Running, Finished, Raised, Mismatch, ScriptEnd}
+use Rattle.note_types.specs.declared.ending.Ending.TheVariants.{Running, Raised, Mismatch, ScriptEnd}
 use Rattle.note_types.specs.declared.event.Event.{Event}
 use Rattle.note_types.specs.declared.event.Event.TheVariants as event
 use Rattle.note_types.specs.declared.exception.Exception.TheVariants as raises
-use Rattle.note_types.specs.declared.notes.Notes.{Notes}
 use Rattle.note_types.specs.declared.reason.Reason.TheVariants as reason
 use Rattle.note_types.specs.declared.script.Callback.{Callback}
 use Rattle.note_types.specs.declared.script.Notify.{Notify}
@@ -24,13 +23,13 @@ use Rattle.note_types.specs.declared.script.Script.{Script}
 use Rattle.note_types.specs.declared.script.ScriptCall.{ScriptCall}
 use Rattle.note_types.specs.declared.seen.Seen.{Seen}
 use Rattle.note_types.specs.declared.value.Value.{Value}
-use Rattle.host_model.specs.HostPlans.{Asking, NoSite, Unmapped, Asks, Plan, View, IsDue, GoesOn, Ends, Enters, Replies, Notifies}
+use Rattle.host_model.specs.HostPlans.{Asking, NoSite, Unmapped, Asks, View, IsDue, GoesOn, Ends, Enters, Replies, Notifies}
 use Rattle.host_model.specs.HostPlans.{ThunkView, NotMapped, NamesNone}
 use Rattle.host_model.specs.HostPlans.{Names, function_params, reply_stores, signature_params, signature_result}
 use Rattle.host_model.specs.HostPlans.{argument_refused, asking_refused, call_event, call_plan, call_settled, callback_fits, enter_plan}
 use Rattle.host_model.specs.HostPlans.{entry_refused, host_plan, host_turn, is_due, next_plan, notification_fits, notify_plan, reply_fits}
-use Rattle.host_model.specs.HostPlans.{reply_plan, asked_signature, asked_args, return_view, due_view}
-use Rattle.host_model.specs.HostSteps.{call_seen, call_under_way, entered, frame_for, host_step, host_view, performed, return_seen}
+use Rattle.host_model.specs.HostPlans.{reply_plan, asked_signature, asked_args, return_view}
+use Rattle.host_model.specs.HostSteps.{call_seen, call_under_way, frame_for, host_step, host_view, performed, return_seen}
 use Rattle.host_model.specs.HostSteps.{thunk_made}
 use Rattle.host_model.specs.HostSteps.{thunk_view, with_call, inside, written_number}
 use Rattle.host_model.specs.Objects.{made_objects}

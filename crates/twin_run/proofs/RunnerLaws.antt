@@ -1,26 +1,21 @@
 -- Laws of runners: what a runner holds is a state of its run, and what changes of it are changes of the state.
-use Rattle.std.proofs.Common.{◌≡◌, ℕ, ◌+◌, ◌-◌, ◌<◌, ◌≤◌, ◌^◌, Bool, true, false, List, [], ◌∷◌, length, map, min, Option, Some, None}
+use Rattle.std.proofs.Common.{◌≡◌, ℕ, ◌-◌, Bool, true, false, List, Option, Some, None}
 use Rattle.std.proofs.Common.{refl, sym}
-use Rattle.std.proofs.Common.{ap, ◌∙◌, subst, arith, eq-eqb, nat_eq, slice_set, if◌then◌else◌}
-use Rattle.std.proofs.lemmas.Option.{same_Some}
+use Rattle.std.proofs.Common.{ap, ◌∙◌, subst, eq-eqb, nat_eq, slice_set, if◌then◌else◌}
 use Rattle.ebc_width.specs.Ranges.{covers}
-use Rattle.object_memory.specs.Memory.{Memory, byte_at, ranges}
+use Rattle.object_memory.specs.Memory.{Memory}
 use Rattle.note_types.specs.Concrete.{Concrete, with_register}
 use Rattle.note_types.specs.declared.ending.Ending.{Ending}
-use Rattle.note_types.specs.declared.notes.Notes.{Notes}
-use Rattle.note_types.specs.declared.script.Script.{Script}
 use Rattle.note_types.specs.declared.spot.Spot.{Spot}
 use Rattle.note_types.specs.declared.spot.Spot.TheVariants as spot
 use Rattle.ebc_machine.specs.States.{KeepsObjects, concrete_of}
-use Rattle.ebc_machine.specs.declared.Machine.{Machine}
 use Rattle.frame_stack.specs.declared.Frame.{Frame}
-use Rattle.callex_thunk.specs.HostFrames.{saved_of}
 use Rattle.entry_thunk.specs.Cells.{with_memory}
 use Rattle.host_model.specs.HostSteps.{spot_of}
 use Rattle.host_model.specs.Placements.{Placement, image_range, own_placement}
-use Rattle.host_model.specs.RunState.{RunState, SavedFrame}
+use Rattle.host_model.specs.RunState.{RunState}
 use Rattle.host_model.specs.World.{World}
-use Rattle.native_host.specs.Hosts.{HasRoom, IsMemoryOf, IsServing, Tells, host_world, shown}
+use Rattle.native_host.specs.Hosts.{IsMemoryOf, IsServing, host_world, shown}
 use Rattle.native_host.specs.Kept.{placement_of}
 use Rattle.native_host.specs.declared.host.Host.{Host}
 use Rattle.native_host.proofs.AskingLaws.{other-place}

@@ -1,5 +1,5 @@
 -- Laws of a step of a run: whose it is, and what the runner needs for it and is at after it.
-use Rattle.std.proofs.Common.{◌≡◌, ℕ, ◌+◌, ◌-◌, ◌^◌, ◌<◌, ◌≤◌, Bool, true, false, List, [], ◌∷◌, length, map, min, Option, Some, None}
+use Rattle.std.proofs.Common.{◌≡◌, ℕ, ◌-◌, ◌^◌, ◌<◌, ◌≤◌, Bool, true, false, List, [], ◌∷◌, length, map, min, Option, Some, None}
 use Rattle.std.proofs.Common.{refl, sym}
 use Rattle.std.proofs.Common.{ap, ◌∙◌, subst, arith, nat_eq, nat_le, slice_get, if◌then◌else◌}
 use Rattle.std.specs.Prelude.{vec_capacity}
@@ -11,21 +11,19 @@ use Rattle.note_types.specs.declared.ending.Ending.TheVariants.{Running, Finishe
 use Rattle.note_types.specs.declared.notes.Notes.{Notes}
 use Rattle.note_types.specs.declared.script.Notify.{Notify}
 use Rattle.note_types.specs.declared.script.Script.{Script}
-use Rattle.object_memory.specs.Memory.{Memory}
 use Rattle.frame_stack.specs.declared.Frame.{Frame}
 use Rattle.callex_thunk.specs.HostFrames.{saved_of}
 use Rattle.host_model.specs.HostPlans.{host_turn, is_due}
-use Rattle.host_model.specs.HostSteps.{call_under_way, host_step, with_call}
+use Rattle.host_model.specs.HostSteps.{call_under_way, host_step}
 use Rattle.host_model.specs.Placements.{Placement, own_placement}
-use Rattle.host_model.specs.Progress.{NativeCall, NoCall, Asked, Accepted, ScriptPlace}
+use Rattle.host_model.specs.Progress.{NativeCall, Asked, ScriptPlace}
 use Rattle.host_model.specs.RunState.{RunState, SavedFrame}
 use Rattle.host_model.specs.Runs.{instruction_step, run_step, running_step, step_if}
 use Rattle.host_model.specs.Scripts.{IsScript}
 use Rattle.host_model.specs.World.{World}
-use Rattle.native_host.specs.Hosts.{HasRoom, IsMemoryOf, IsServing, host_world}
+use Rattle.native_host.specs.Hosts.{IsMemoryOf, IsServing, host_world}
 use Rattle.native_host.specs.Kept.{placement_of}
-use Rattle.native_host.specs.declared.host.Host.{Host}
-use Rattle.twin_run.specs.Room.{AreInside, HasEvents}
+use Rattle.twin_run.specs.Room.{HasEvents}
 use Rattle.twin_run.specs.Runner.{IsAt, IsReady, IsRunner, Runs, hosts_of}
 use Rattle.twin_run.specs.declared.runner.AskedCall.{AskedCall}
 use Rattle.twin_run.specs.declared.runner.Runner.{Runner}

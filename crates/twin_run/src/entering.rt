@@ -1,5 +1,5 @@
 //! Entering functions (docs/HOST.md, "The start").
-ghost use Rattle.std.specs.Prelude.{◌≡◌, ℕ, ◌+◌, ◌^◌, ◌<◌, ◌≤◌, ◌∷◌, length, map, None, slice_get, Some, take};
+ghost use Rattle.std.specs.Prelude.{◌≡◌, ◌+◌, ◌^◌, ◌<◌, ◌≤◌, ◌∷◌, length, map, None, slice_get, Some, take};
 ghost use Rattle.ebc_width.specs.Width.{IsWidth};
 ghost use Rattle.note_types.specs.Records.{IsNotes};
 ghost use Rattle.note_types.specs.declared.notes.Notes.{Notes};
@@ -19,7 +19,6 @@ ghost use Rattle.twin_run.specs.Runner.{IsAt};
 
 use crate::runner::Runner;
 use arrayvec::ArrayVec;
-use ebc_machine::Machine;
 use entry_thunk::{EnterEnd, enter, notify};
 use native_host::{Args, Host};
 use note_types::{Ending, Exception, FnNote, Notes, Param, SlotKind, Values};

@@ -1,11 +1,11 @@
 //! The steps of the host in a run (docs/HOST.md, "Steps").
-ghost use Rattle.std.specs.Prelude.{◌≡◌, ℕ, ◌<◌, ◌≤◌, None, true, false, length, nat_eq, Some, vec_capacity};
+ghost use Rattle.std.specs.Prelude.{◌≡◌, ◌<◌, ◌≤◌, None, true, false, length, nat_eq, Some, vec_capacity};
 ghost use Rattle.ebc_width.specs.Width.{IsWidth};
 ghost use Rattle.note_types.specs.Records.{IsNotes};
 ghost use Rattle.host_model.specs.HostPlans.{function_params, is_due};
 ghost use Rattle.host_model.specs.HostSteps.{call_under_way, host_step};
 ghost use Rattle.host_model.specs.Placements.{frame_limit, own_placement};
-ghost use Rattle.host_model.specs.Progress.{Accepted, Asked, NoCall};
+ghost use Rattle.host_model.specs.Progress.{NoCall};
 ghost use Rattle.host_model.specs.RunState.{RunState};
 ghost use Rattle.host_model.specs.World.{World};
 ghost use Rattle.native_host.specs.Hosts.{HasRoom, IsCalled};
@@ -55,15 +55,10 @@ impl<const W: usize> Runner<W> {
             target: asked.target,
             slots: self.machine.regs[0],
         };
-        let step = self
+        match self
             .host
-            .call(notes, script, &mut self.mem, &mut self.frames, &request);
-        let Request {
-            place: _,
-            target: _,
-            slots: _,
-        } = request;
-        match step {
+            .call(notes, script, &mut self.mem, &mut self.frames, &request)
+        {
             HostStep::Accepted => self.asked = None,
             ended => self.take(notes, ended, false),
         }

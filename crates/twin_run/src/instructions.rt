@@ -1,9 +1,8 @@
 //! The instructions of a run (docs/HOST.md, "Runs").
-ghost use Rattle.std.specs.Prelude.{◌≡◌, ℕ, ◌-◌, Some, None, if◌then◌else◌};
+ghost use Rattle.std.specs.Prelude.{◌≡◌, ◌-◌, Some, None, if◌then◌else◌};
 ghost use Rattle.ebc_width.specs.Ranges.{covers};
 ghost use Rattle.ebc_width.specs.Width.{IsWidth};
 ghost use Rattle.ebc_machine.specs.States.{concrete_of};
-ghost use Rattle.note_types.specs.declared.script.Script.{Script};
 ghost use Rattle.host_model.specs.HostSteps.{call_place, thunk_made, thunk_view};
 ghost use Rattle.host_model.specs.Placements.{Placement, image_range, own_placement};
 ghost use Rattle.host_model.specs.RunState.{RunState};

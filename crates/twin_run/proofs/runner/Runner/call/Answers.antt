@@ -7,9 +7,9 @@ pub returns-in-Accepted-clause-at : goal.returns-in-Accepted-clause-at
 returns-in-Accepted-clause-at g c = λ world r notes script away at.
     let w = g.row.W in
     let x = c.args.self.now in
-    let h = c.call-step.new.self in
-    let m = c.call-step.new.mem in
-    let fs = c.call-step.new.frames in
+    let h = c.call.new.self in
+    let m = c.call.new.mem in
+    let fs = c.call.new.frames in
     let facts = c.in-Accepted.ensures in
     let part = call_part w world c.args.notes.now c.args.script.now x r c.args.asked h m fs _ step.Accepted notes script at c.requires.asked
     c.requires.ready.inside away refl facts.after in
@@ -25,9 +25,9 @@ take-requires g c = (
     (
       c.requires.ready.serving.read,
       (
-        c.call-step.ensures.serving.host.notes,
+        c.call.ensures.serving.host.notes,
         settled_enters _ _
-            c.call-step.ensures.settled,
+            c.call.ensures.settled,
       ),
     ),
   ),
@@ -37,11 +37,11 @@ pub returns-in_default-clause-at : goal.returns-in_default-clause-at
 returns-in_default-clause-at g c = λ world r notes script away at.
     let w = g.row.W in
     let x = c.args.self.now in
-    let h = c.call-step.new.self in
-    let m = c.call-step.new.mem in
-    let fs = c.call-step.new.frames in
-    let st = c.call-step.result in
-    let facts = c.call-step.ensures in
+    let h = c.call.new.self in
+    let m = c.call.new.mem in
+    let fs = c.call.new.frames in
+    let st = c.call.result in
+    let facts = c.call.ensures in
     let part = call_part w world c.args.notes.now c.args.script.now x r c.args.asked h m fs _ st notes script at c.requires.asked
     c.requires.ready.inside away refl facts.after in
     let mid = called_host w world c.args.notes.now c.args.script.now x r h m fs x.asked notes script at facts.serving facts.memory

@@ -2,7 +2,7 @@ use Rattle.std.proofs.Common.{false, true, refl, subst}
 use Rattle.host_model.specs.HostPlans.{is_due}
 use Rattle.host_model.specs.HostSteps.{call_under_way}
 use Rattle.host_model.specs.Placements.{own_placement}
-use Rattle.host_model.specs.Progress.{Accepted, Asked, NoCall}
+use Rattle.host_model.specs.Progress.{Asked, NoCall}
 use Rattle.native_host.proofs.TopLaws.{under-way}
 use Rattle.twin_run.specs.Runner.{IsAt}
 use Rattle.twin_run.proofs.RunnerLaws.{away_there, gate_there}

@@ -1,4 +1,4 @@
-use Rattle.std.proofs.Common.{◌≡◌, List, ℕ, sym, subst, ◌∙◌}
+use Rattle.std.proofs.Common.{List, ℕ, sym, subst, ◌∙◌}
 use Rattle.host_model.specs.HostSteps.{entered}
 use Rattle.host_model.specs.Placements.{own_placement}
 use Rattle.native_host.specs.Steps.{taken}
