@@ -2,7 +2,7 @@
 use Rattle.std.specs.Prelude.{ℕ}
 use Rattle.cli_base.specs.declared.outcome.Outcome.{Outcome}
 use Rattle.cli_base.specs.declared.outcome.Outcome.TheVariants.{Done, Refused, BadWords, BadInput, ReadFault, WriteFault, NoMemory}
-use Rattle.cli_base.specs.declared.outcome.Outcome.TheVariants.{TooLarge}
+use Rattle.cli_base.specs.declared.outcome.Outcome.TheVariants.{TooLarge, Differ}
 use Rattle.cli_base.specs.declared.outcome.Outcome.TheVariants.{Missing}
 
 -- the exit status that each outcome has
@@ -15,6 +15,7 @@ exit_status ReadFault = 4
 exit_status WriteFault = 5
 exit_status NoMemory = 6
 exit_status (TooLarge word) = 7
+exit_status (Differ step) = 8
 exit_status (Missing word) = 9
 
 -- an answer of the work, which is neither a failure of the outside nor want of memory
@@ -36,6 +37,7 @@ IsCommandAnswer outcome = Unit {0}
 abbrev pub IsWorkAnswer : Outcome → Type 0
 IsWorkAnswer Done = Unit {0}
 IsWorkAnswer (Refused place rule) = Unit {0}
+IsWorkAnswer (Differ step) = Unit {0}
 IsWorkAnswer outcome = ⊥
 
 -- an answer that a file isn't of its form

@@ -24,6 +24,8 @@ pub enum Outcome {
     NoMemory,
     /// The file that this word names, counted from 0, is past its limit.
     TooLarge { word: u8 },
+    /// Two runs differ, first after so many steps.
+    Differ { step: u64 },
     /// The folder has no file that this word, counted from 0, names.
     Missing { word: u8 },
 }
@@ -42,6 +44,7 @@ impl Outcome {
             Outcome::WriteFault => 5,
             Outcome::NoMemory => 6,
             Outcome::TooLarge { .. } => 7,
+            Outcome::Differ { .. } => 8,
             Outcome::Missing { .. } => 9,
         }
     }

@@ -1,6 +1,7 @@
 -- What comes of reading files: the value that was read, or why the reading stops.
 use Rattle.std.proofs.Common.{◌≡◌, ◌⊎◌, ℕ, ◌<◌, List, [], ◌∷◌, length, Option, Some, None, Result, Ok, Err}
 use Rattle.std.proofs.Common.{Bool, true, false, nat_lt, if◌then◌else◌, inl, inr, refl, sym, ap, arith}
+use Rattle.std.proofs.lemmas.Bool.{le-ltb}
 use Rattle.std.proofs.lemmas.Bool.Decides.{nat_tests}
 use Rattle.std.specs.FinMap.{get}
 use Rattle.ebc_outside.specs.Files.{Files}
@@ -91,6 +92,19 @@ input-err limit meaning word name files reply e =
       | second_stops bytes goes stops ↦
           inr record { bytes = bytes; file = measured-ok word name limit files (get files name) bytes refl goes; is = stops }
     ]
+
+-- and back: a file that is there is read as its bytes mean
+pub read-means : {A : Type 0} (limit : ℕ) (meaning : ℕ → List ℕ → List ℕ → Result A Reply) (word : ℕ) (name : List ℕ) (files : Files)
+    (bytes : List ℕ) (value : Result A Reply)
+    → HasFile files name limit bytes → meaning word name bytes ≡ value → (input limit meaning word name files).value ≡ value
+unfolding input file
+read-means limit meaning word name files bytes value found is = rw (found.there, le-ltb limit (length bytes) found.fits) is
+
+-- and one that isn't read is told of
+pub unread-means : {A : Type 0} (limit : ℕ) (meaning : ℕ → List ℕ → List ℕ → Result A Reply) (word : ℕ) (name : List ℕ) (files : Files)
+    (reply : Reply) → measured word name limit (get files name) ≡ Err reply → (input limit meaning word name files).value ≡ Err reply
+unfolding input file
+unread-means limit meaning word name files reply stops = rw stops refl
 
 -- where a file is read with its bytes, it is there, and they have this meaning
 pub record IsReadWith {A : Type 0} (limit : ℕ) (meaning : List ℕ → Result A Reply) (name : List ℕ) (files : Files)

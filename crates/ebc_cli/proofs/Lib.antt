@@ -1,7 +1,13 @@
 pub mod HexLemmas
 pub mod RomLemmas
 pub mod ReadingsLemmas
+pub mod RunReadings
 pub mod InputLemmas
+pub mod NumberLemmas
+pub mod CauseLemmas
+pub mod RunLemmas
 pub mod LinkLemmas
 pub mod StopLemmas
+pub mod WorkAnswers
 pub mod HeadlineLemmas
+pub mod RunAnswers

@@ -1,21 +1,15 @@
--- What is taken out of option ROMs, the numbers by which it is asked for, and the lines of a listing.
+-- What is taken out of option ROMs, and the lines of a listing.
 use Rattle.std.proofs.Common.{◌≡◌, ℕ, suc, ◌+◌, ◌-◌, ◌<◌, ◌≤◌, List, [], ◌++◌, drop, length, get_or, length-drop, drop-cons}
-use Rattle.std.proofs.Common.{append-nil, append_assoc, Option, Some, None, Result, Ok, Err, nat_eq, refl, sym, ap, ◌∙◌, arith}
+use Rattle.std.proofs.Common.{append-nil, append_assoc, Result, Ok, Err, nat_eq, refl, sym, ap, ◌∙◌, arith}
 use Rattle.std.proofs.lemmas.Bool.Decides.{nat_tests}
 use Rattle.std.proofs.lemmas.List.{drop_all}
-use Rattle.std.specs.Fmt.{decimal}
-use Rattle.note_texts.proofs.NumberRanges.{number_in-complete, number_in-sound}
-use Rattle.ebc_base.specs.Steps.{◌>>=◌, or_else}
+use Rattle.ebc_base.specs.Steps.{◌>>=◌}
 use Rattle.option_rom.specs.declared.fault.TakeFault.{TakeFault}
 use Rattle.option_rom.specs.declared.image.RomImage.{RomImage}
 use Rattle.option_rom.specs.Roms.{rom_of}
 use Rattle.option_rom.specs.Takes.{bytes_taken, taken}
 use Rattle.option_rom.proofs.Takings.{taken_inside}
 use Rattle.option_rom.proofs.Walks.{read-rom}
-use Rattle.cli_base.specs.declared.reply.Reply.{Reply}
-use Rattle.ebc_cli.specs.Inputs.{number_meaning}
-use Rattle.ebc_cli.specs.Numbers.{rom_number}
-use Rattle.cli_base.specs.Readings.{large_reply}
 use Rattle.ebc_cli.specs.RomTexts.{last_mark, rom_line, rom_lines, rom_listing}
 
 -- ---- what is taken
@@ -72,36 +66,3 @@ lines-done text images number all so_far =
     let none : drop number images ≡ [] = drop_all number images all in
     let whole : text ++ [] ≡ rom_lines 0 images = rw none at so_far in
     sym (append-nil text) ∙ whole
-
--- ---- numbers
-
--- a number that is read is spelled by its digits
-pub number-read : (digits : List ℕ) (n : ℕ) → rom_number digits ≡ Some n → (digits ≡ decimal n) × (n ≤ 65535)
-number-read digits n e = let is = number_in-sound 0 65535 digits n e in (is.0, is.2)
-
-pub number-spelled : (n : ℕ) → n ≤ 65535 → rom_number (decimal n) ≡ Some n
-number-spelled n within = number_in-complete 0 65535 (decimal n) n (omega arith) (refl, omega arith, within)
-
-pub number-past : (digits : List ℕ) → ((n : ℕ) → n ≤ 65535 → digits ≡ decimal n → ⊥) → rom_number digits ≡ None
-number-past digits none = by_read (rom_number digits) refl
-  where
-    by_read : (o : Option ℕ) → rom_number digits ≡ o → rom_number digits ≡ None
-    by_read None e = e
-    by_read (Some n) e = let is = number-read digits n e in absurd (none n is.1 is.0)
-
--- a number that is read is at most 65,535; one that isn't is more
-pub number-ok : (word : ℕ) (digits : List ℕ) (n : ℕ) → number_meaning word digits ≡ Ok n → rom_number digits ≡ Some n
-number-ok word digits n e = by_read (rom_number digits) refl e
-  where
-    by_read : (o : Option ℕ) → rom_number digits ≡ o → or_else (large_reply word digits) o ≡ Ok n → rom_number digits ≡ Some n
-    by_read None e h = absurd cc
-    by_read (Some m) e h = let same : m ≡ n = cc in e ∙ ap Some same
-
-pub number-err : (word : ℕ) (digits : List ℕ) (reply : Reply) → number_meaning word digits ≡ Err reply
-    → (rom_number digits ≡ None) × (reply ≡ large_reply word digits)
-number-err word digits reply e = by_read (rom_number digits) refl e
-  where
-    by_read : (o : Option ℕ) → rom_number digits ≡ o → or_else (large_reply word digits) o ≡ Err reply
-        → (rom_number digits ≡ None) × (reply ≡ large_reply word digits)
-    by_read None e h = (e, cc)
-    by_read (Some m) e h = absurd cc

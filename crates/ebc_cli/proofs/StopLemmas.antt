@@ -1,5 +1,5 @@
 -- What comes of reading the files that words name: the work, or the reply at which the reading stops, by its cause.
-use Rattle.std.proofs.Common.{◌≡◌, ◌↔◌, ◌⊎◌, ℕ, ◌<◌, ◌≤◌, List, [], ◌∷◌, ◌++◌, length, Option, Some, None, Result, Ok, Err}
+use Rattle.std.proofs.Common.{◌≡◌, ◌↔◌, ◌⊎◌, ℕ, ◌+◌, ◌<◌, ◌≤◌, List, [], ◌∷◌, ◌++◌, length, Option, Some, None, Result, Ok, Err}
 use Rattle.std.proofs.Common.{Bool, true, false, nat_lt, if◌then◌else◌, inl, inr, refl, sym, ap, ◌∙◌, arith}
 use Rattle.std.proofs.lemmas.Bool.{le-ltb, lt-ltb}
 use Rattle.std.proofs.lemmas.Bool.Decides.{nat_tests}
@@ -15,6 +15,7 @@ use Rattle.ebc_object.specs.Readings.{object_of_file}
 use Rattle.ebc_object.specs.declared.fault.ObjectFault.{ObjectFault}
 use Rattle.ebc_object.specs.declared.object.Object.{Object}
 use Rattle.ebc_outside.specs.Files.{Files}
+use Rattle.note_texts.specs.Numbers.{number_in}
 use Rattle.note_types.specs.declared.fault.TomlFault.{TomlFault}
 use Rattle.note_types.specs.declared.notes.Notes.{Notes}
 use Rattle.option_rom.specs.declared.fault.RomFault.{RomFault}
@@ -31,7 +32,8 @@ use Rattle.plain_check.specs.declared.verdict.Verdict.{Verdict}
 use Rattle.plain_check.specs.declared.verdict.Verdict.TheVariants.{Neutral, Refused}
 use Rattle.plain_check.specs.PlainChecks.{plain_verdict}
 use Rattle.ebc_cli.specs.declared.command.Command.{Command}
-use Rattle.ebc_cli.specs.declared.command.Command.TheVariants.{Assemble, CheckCode, CheckImage, Link, ListImage, ListRom, TakeRom, WrapRom}
+use Rattle.ebc_cli.specs.declared.command.Command.TheVariants.{Assemble, CheckCode, CheckImage, Link, ListImage, ListRom, Run, TakeRom}
+use Rattle.ebc_cli.specs.declared.command.Command.TheVariants.{Twin, WrapRom}
 use Rattle.cli_base.specs.declared.outcome.Outcome.{Outcome}
 use Rattle.cli_base.specs.declared.outcome.Outcome.TheVariants as outcomes
 use Rattle.cli_base.specs.declared.reply.Reply.{Reply}
@@ -41,21 +43,21 @@ use Rattle.ebc_cli.specs.Commands.{command_of}
 use Rattle.ebc_cli.specs.Faults.{link_fault_number, object_fault_number, rom_fault_number}
 use Rattle.cli_base.specs.Faults.{image_fault_number}
 use Rattle.ebc_cli.specs.Faults.{take_fault_number, toml_fault_number}
-use Rattle.ebc_cli.specs.Numbers.{rom_number}
 use Rattle.cli_base.specs.Outcomes.{IsWorkAnswer}
 use Rattle.cli_base.specs.Readings.{FileReading, ◌>>=◌, file, measured, go_on, done, told, missing_reply, large_reply}
 use Rattle.ebc_cli.specs.Inputs.{input, notes_limit, notes_meaning, source_limit, source_meaning}
 use Rattle.cli_base.specs.Inputs.{or_reply, image_limit, image_meaning}
-use Rattle.ebc_cli.specs.Inputs.{bad_notes_reply, bad_source_reply}
+use Rattle.ebc_cli.specs.Inputs.{bad_notes_reply, bad_source_reply, script_limit, script_meaning}
 use Rattle.cli_base.specs.Inputs.{bad_image_reply}
 use Rattle.ebc_cli.specs.Inputs.{input_with_bytes, rom_limit, rom_meaning, bad_rom_reply, bad_taking_reply, taking_offset, taking_meaning}
-use Rattle.ebc_cli.specs.Inputs.{number_meaning}
+use Rattle.ebc_cli.specs.Inputs.{number_meaning, rom_number_limit, step_limit}
 use Rattle.ebc_cli.specs.Inputs.{bad_link_reply, bad_object_reply, bad_plan_reply, link_meaning, object_limit, object_meaning, plan_limit}
 use Rattle.ebc_cli.specs.Inputs.{plan_meaning}
 use Rattle.ebc_cli.specs.Linkings.{each_object, linked_by, linked_image}
+use Rattle.ebc_cli.specs.Runnings.{twin_outcome}
 use Rattle.ebc_cli.specs.Works.{work_of, work_for, code_check, image_check, image_listing, assembly, verdict_reply, usage_reply, IsReplyOf}
 use Rattle.ebc_cli.specs.Works.{plain_code_limit}
-use Rattle.ebc_cli.specs.Works.{linking, rom_wrapping, rom_images, rom_taking, rom_taking_of}
+use Rattle.ebc_cli.specs.Works.{linking, rom_wrapping, rom_images, rom_taking, rom_taking_of, running, twinning}
 use Rattle.ebc_cli.specs.Answers.{IsAnswerOf, HasFile, HasObjects, Assembles, ChecksImage, ListsImage, NamesImage, to_check, to_list}
 use Rattle.ebc_cli.specs.Answers.{to_wrap}
 use Rattle.ebc_cli.specs.Answers.{ComesToNotes, HasTurn, code_turn, image_turn, notes_turn, source_turn, rom_turn, HasMissingFile}
@@ -65,75 +67,15 @@ use Rattle.ebc_cli.specs.Answers.{ComesToObject, HasBadLink, HasBadObject, HasBa
 use Rattle.ebc_cli.proofs.LinkLemmas.{ObjectStops, object-unread, objects-read, objects-stop, objects-stopped, objects-value}
 use Rattle.ebc_cli.proofs.InputLemmas.{OneStops, first_stops, second_stops, go-on-err, NotRead, is_gone, is_past, measured-err, IsRead}
 use Rattle.ebc_cli.proofs.InputLemmas.{input-ok, input-err, IsReadWith, input-with-ok, input-with-err, or-err, or-ok, one-stop}
-use Rattle.ebc_cli.proofs.RomLemmas.{number-err, number-ok, number-past, number-read, number-spelled, taken-err, taken-none}
+use Rattle.ebc_cli.proofs.InputLemmas.{read-means, unread-means}
+use Rattle.ebc_cli.proofs.CauseLemmas.{Stops, no_command, missing_file, too_large, bad_file, outcome-of, turn-stops, image-stops, notes-stops}
+use Rattle.ebc_cli.proofs.CauseLemmas.{number-stops}
+use Rattle.ebc_cli.proofs.NumberLemmas.{number-ok, number-past, number-read, rom-number}
+use Rattle.ebc_cli.proofs.RomLemmas.{taken-err, taken-none}
+use Rattle.ebc_cli.proofs.RunLemmas.{run-image-stopped, run-notes-stopped, run-script-stopped, run-stopped, running-stops, twinning-stops}
 use Rattle.ebc_cli.specs.Answers.{Wraps, ListsRom, TakesFrom, Takes, NamesRom, to_list_rom, to_take, HasBadRom, HasBadTaking}
-use Rattle.ebc_cli.specs.Answers.{HasLargeNumber, IsTooLarge, large_number, large_file}
-
--- ---- why a reading stops
-
--- the cause of a reply at which a reading stops
-data Stops (words : List (List ℕ)) (files : Files) (outcome : Outcome) : Type 0 where
-  no_command : outcome ≡ outcomes.BadWords → Stops words files outcome
-  missing_file : (word : ℕ) → HasMissingFile words files word → outcome ≡ outcomes.Missing word → Stops words files outcome
-  too_large : (word : ℕ) → IsTooLarge words files word → outcome ≡ outcomes.TooLarge word → Stops words files outcome
-  bad_file : (word fault : ℕ) → HasBadInput words files word fault → outcome ≡ outcomes.BadInput word fault → Stops words files outcome
-
-outcome-of : (one two : Reply) → one ≡ two → one.outcome ≡ two.outcome
-outcome-of one two same = ap (λ (r : Reply). r.outcome) same
-
-turn-stops : (words : List (List ℕ)) (files : Files) (word : ℕ) (name : List ℕ) (limit : ℕ) (reply : Reply)
-    → HasTurn words files word name limit → NotRead word name limit files reply → Stops words files reply.outcome
-turn-stops words files word name limit reply turn (is_gone gone e) =
-    missing_file word record { name = name; limit = limit; turn = turn; gone = gone } (outcome-of reply _ e)
-turn-stops words files word name limit reply turn (is_past bytes there past e) =
-    too_large word (large_file record {
-      name = name;
-      limit = limit;
-      bytes = bytes;
-      turn = turn;
-      there = there;
-      past = past;
-    }) (outcome-of reply _ e)
-
-image-fault : (words : List (List ℕ)) (files : Files) (word : ℕ) (name bytes : List ℕ) (p : ImageFault × ℕ) (reply : Reply)
-    → NamesImage words word name → HasFile files name image_limit bytes → image_of bytes ≡ Err p → bad_image_reply word name p ≡ reply
-    → Stops words files reply.outcome
-image-fault words files word name bytes (kind, offset) reply command there no_image is_told =
-    bad_file word (image_fault_number kind) (bad_image record {
-      name = name;
-      bytes = bytes;
-      command = command;
-      image_file = there;
-      kind = kind;
-      offset = offset;
-      no_image = no_image;
-      number = refl;
-    }) (outcome-of reply _ (sym is_told))
-
-image-stops : (words : List (List ℕ)) (files : Files) (word : ℕ) (name : List ℕ) (reply : Reply) → NamesImage words word name
-    → NotRead word name image_limit files reply ⊎ IsRead image_limit (image_meaning word name) name files (Err reply)
-    → Stops words files reply.outcome
-image-stops words files word name reply command (inl none) = turn-stops words files word name image_limit reply
-    (image_turn refl command) none
-image-stops words files word name reply command (inr read) =
-    let failed = or-err (bad_image_reply word name) (image_of read.bytes) reply read.is in
-    image-fault words files word name read.bytes failed.fault reply command read.file failed.is failed.told_is
-
-notes-stops : (words : List (List ℕ)) (files : Files) (name : List ℕ) (reply : Reply) → ComesToNotes words files name
-    → NotRead 2 name notes_limit files reply ⊎ IsRead notes_limit (notes_meaning 2 name) name files (Err reply)
-    → Stops words files reply.outcome
-notes-stops words files name reply turn (inl none) = turn-stops words files 2 name notes_limit reply (notes_turn refl refl turn) none
-notes-stops words files name reply turn (inr read) =
-    let failed = or-err (bad_notes_reply 2 name) (notes_of read.bytes) reply read.is in
-    bad_file 2 (toml_fault_number failed.fault) (bad_notes refl record {
-      name = name;
-      text = read.bytes;
-      turn = turn;
-      notes_file = read.file;
-      found = failed.fault;
-      no_notes = failed.is;
-      number = refl;
-    }) (outcome-of reply _ (sym failed.told_is))
+use Rattle.ebc_cli.specs.Answers.{HasLargeNumber, IsTooLarge, large_number, large_file, to_run_on, to_check_under, to_run_under, script_turn}
+use Rattle.ebc_cli.specs.Answers.{NamesNotes, HasBadScript, bad_script, NamesNumber, image_number, run_steps, twin_steps}
 
 source-fault : (words : List (List ℕ)) (files : Files) (name object_name text : List ℕ) (p : AsmFault × ℕ) (reply : Reply)
     → command_of words ≡ Some (Assemble name object_name) → HasFile files name source_limit text → object_of text ≡ Err p
@@ -184,12 +126,12 @@ rom-stops words files name reply turn (inr read) =
 -- ---- the readings of the commands
 
 image-read : (words : List (List ℕ)) (files : Files) (a b : List ℕ) (image : Image) → command_of words ≡ Some (CheckImage a b)
-    → IsRead image_limit (image_meaning 1 a) a files (Ok image) → ComesToNotes words files b
+    → IsRead image_limit (image_meaning 1 a) a files (Ok image) → ComesToNotes words files 2 b
 image-read words files a b image command read = record {
   image_name = a;
   bytes = read.bytes;
   image = image;
-  command = command;
+  command = to_check_under refl command;
   image_file = read.file;
   image_is = or-ok (bad_image_reply 1 a) (image_of read.bytes) image read.is;
 }
@@ -201,13 +143,13 @@ check-stops : (words : List (List ℕ)) (files : Files) (reply : Reply) (a b : L
 check-stops words files reply a b command (first_stops stops) =
     image-stops words files 1 a reply (to_check b refl command) (input-err image_limit image_meaning 1 a files reply stops)
 check-stops words files reply a b command (second_stops image goes stops) =
-    notes-stops words files b reply (image-read words files a b image command (input-ok image_limit image_meaning 1 a files image goes))
+    notes-stops words files 2 b reply (image-read words files a b image command (input-ok image_limit image_meaning 1 a files image goes))
     (input-err notes_limit notes_meaning 2 b files reply
     (one-stop (input notes_limit notes_meaning 2 b files) (λ notes. works.CheckImage image notes) reply stops))
 
 -- where taking an image out of an option ROM that was read stops, it has none to take
 taking-stops : (words : List (List ℕ)) (files : Files) (reply : Reply) (a b : List ℕ) (number : ℕ) (read : List RomImage × List ℕ)
-    → command_of words ≡ Some (TakeRom a (decimal number) b) → number ≤ 65535 → IsReadWith rom_limit (rom_meaning 2 a) a files read
+    → command_of words ≡ Some (TakeRom a (decimal number) b) → number ≤ rom_number_limit → IsReadWith rom_limit (rom_meaning 2 a) a files read
     → taking_meaning 2 a read.1 read.0 number ≡ Err reply → Stops words files reply.outcome
 taking-stops words files reply a b number read command within is_read stops =
     let failed = or-err (bad_taking_reply 2 a read.0 number) (bytes_taken read.1 read.0 number) reply stops in
@@ -228,7 +170,7 @@ taking-stops words files reply a b number read command within is_read stops =
 
 -- where the command stops after its number was read, it stops by the option ROM or by what is taken
 numbered-stops : (words : List (List ℕ)) (files : Files) (reply : Reply) (a b : List ℕ) (number : ℕ)
-    → command_of words ≡ Some (TakeRom a (decimal number) b) → number ≤ 65535
+    → command_of words ≡ Some (TakeRom a (decimal number) b) → number ≤ rom_number_limit
     → (rom_taking_of a number b files).value ≡ Err reply → Stops words files reply.outcome
 unfolding rom_taking_of
 numbered-stops words files reply a b number command within e =
@@ -247,20 +189,11 @@ rom-taking-stops : (words : List (List ℕ)) (files : Files) (reply : Reply) (a 
     → command_of words ≡ Some (TakeRom a digits b) → (rom_taking a digits b files).value ≡ Err reply → Stops words files reply.outcome
 unfolding rom_taking
 rom-taking-stops words files reply a digits b command e =
-    elim (go-on-err [] (number_meaning 3 digits) (λ number. rom_taking_of a number b files) reply e) [
+    elim (go-on-err [] (number_meaning rom_number_limit 3 digits) (λ number. rom_taking_of a number b files) reply e) [
       | first_stops stops ↦
-          let none = number-err 3 digits reply stops in
-          too_large 3 (large_number record {
-            rom_name = a;
-            digits = digits;
-            image_name = b;
-            word_is = refl;
-            command = command;
-            past = λ n within same. let found : rom_number digits ≡ Some n = rw same (number-spelled n within) in
-                let both : None ≡ Some n = sym none.0 ∙ found in cc;
-          }) (outcome-of reply _ none.1)
+          number-stops words files 3 digits rom_number_limit reply (image_number a b refl refl command) (omega arith) stops
       | second_stops number goes stops ↦
-          let is = number-read digits number (number-ok 3 digits number goes) in
+          let is = number-read rom_number_limit digits number (number-ok rom_number_limit 3 digits number goes) in
           numbered-stops words files reply a b number (rw is.0 at command) is.1 stops
     ]
 
@@ -370,6 +303,8 @@ by-command words files reply (Some (Assemble a b)) command e =
     (input-err source_limit source_meaning 1 a files reply (one-stop (input source_limit source_meaning 1 a files)
     (λ object. works.WriteObject b object) reply e))
 by-command words files reply (Some (Link a b)) command e = linking-stops words files reply a b command e
+by-command words files reply (Some (Run width a b c digits)) command e = running-stops words files reply width a b c digits command e
+by-command words files reply (Some (Twin a b c digits)) command e = twinning-stops words files reply a b c digits command e
 by-command words files reply (Some (WrapRom vendor device a b)) command e =
     image-stops words files 4 a reply (to_wrap vendor device b refl command)
     (input-with-err image_limit image_meaning 4 a files reply
@@ -481,7 +416,7 @@ unfolding work_of rom_taking rom_taking_of input_with_bytes file
 taking-value words files rom_name name number rom images c =
     rw (
       c.command,
-      number-spelled number c.within,
+      rom-number number c.within,
       c.rom_file.there,
       le-ltb rom_limit (length rom) c.rom_file.fits,
       rom-read rom images c.rom_is,
@@ -505,17 +440,40 @@ image-unread words files word name reply (to_list number command) stops =
 image-unread words files word name reply (to_wrap vendor device rom_name number command) stops =
     let here : measured 4 name image_limit (get files name) ≡ Err reply = rw number at stops in
     rw (command, here) refl
+image-unread words files word name reply (to_run_on b c command) stops =
+    run-stopped words files word name b c reply command
+    (run-image-stopped files word name b c reply (unread-means image_limit image_meaning word name files reply stops))
 
 rom-unread : (words : List (List ℕ)) (files : Files) (name : List ℕ) (reply : Reply) → NamesRom words name
     → measured 2 name rom_limit (get files name) ≡ Err reply → (work_of words files).value ≡ Err reply
 unfolding work_of rom_images rom_taking rom_taking_of input input_with_bytes file
 rom-unread words files name reply (to_list_rom command) stops = rw (command, stops) refl
 rom-unread words files name reply (to_take number image_name within command) stops =
-    rw (command, number-spelled number within, stops) refl
+    rw (command, rom-number number within, stops) refl
+
+-- notes that stop the reading, in their turn, stop the words
+notes-stopped-by : (words : List (List ℕ)) (files : Files) (word : ℕ) (a name : List ℕ) (image : Image) (reply : Reply)
+    → NamesNotes words word a name → ((w : ℕ) → (input image_limit image_meaning w a files).value ≡ Ok image)
+    → (input notes_limit notes_meaning word name files).value ≡ Err reply → (work_of words files).value ≡ Err reply
+unfolding work_of image_check
+notes-stopped-by words files word a name image reply (to_check_under number command) one stops =
+    let two : (input notes_limit notes_meaning 2 name files).value ≡ Err reply = rw number at stops in
+    rw (command, one 1, two) refl
+notes-stopped-by words files word a name image reply (to_run_under image_word c number command) one stops =
+    let two : (input notes_limit notes_meaning (image_word + 1) name files).value ≡ Err reply = rw number at stops in
+    run-stopped words files image_word a name c reply command
+    (run-notes-stopped files image_word a name c image reply (one image_word) two)
+
+notes-stopped : (words : List (List ℕ)) (files : Files) (word : ℕ) (name : List ℕ) (reply : Reply) → ComesToNotes words files word name
+    → (input notes_limit notes_meaning word name files).value ≡ Err reply → (work_of words files).value ≡ Err reply
+notes-stopped words files word name reply turn stops =
+    notes-stopped-by words files word turn.image_name name turn.image reply turn.command
+    (λ w. read-means image_limit image_meaning w turn.image_name files turn.bytes (Ok turn.image) turn.image_file (rw turn.image_is refl))
+    stops
 
 unread : (words : List (List ℕ)) (files : Files) (word : ℕ) (name : List ℕ) (limit : ℕ) (reply : Reply)
     → HasTurn words files word name limit → measured word name limit (get files name) ≡ Err reply → (work_of words files).value ≡ Err reply
-unfolding work_of code_check image_check assembly linking linked_image input file
+unfolding work_of code_check assembly linking linked_image input file
 unread words files word name limit reply (code_turn number size command) stops =
     let here : measured 1 name plain_code_limit (get files name) ≡ Err reply = rw (number, size) at stops in
     rw (command, here) refl
@@ -528,9 +486,11 @@ unread words files word name limit reply (plan_turn image_name number size comma
     rw (command, here) refl
 unread words files word name limit reply (rom_turn number size turn) stops =
     rom-unread words files name reply turn (rw (number, size) at stops)
-unread words files word name limit reply (notes_turn number size turn) stops =
-    let here : measured 2 name notes_limit (get files name) ≡ Err reply = rw (number, size) at stops in
-    rw (turn.command, turn.image_file.there, le-ltb image_limit (length turn.bytes) turn.image_file.fits, turn.image_is, here) refl
+unread words files word name limit reply (notes_turn size turn) stops =
+    notes-stopped words files word name reply turn (unread-means notes_limit notes_meaning word name files reply (rw size at stops))
+unread words files word name limit reply (script_turn notes size turn) stops =
+    run-script-stopped words files word name notes reply turn
+    (unread-means script_limit (script_meaning notes) word name files reply (rw size at stops))
 unread words files word name limit reply (source_turn object_name number size command) stops =
     let here : measured 1 name source_limit (get files name) ≡ Err reply = rw (number, size) at stops in
     rw (command, here) refl
@@ -553,25 +513,25 @@ bad-image-by words files word name bytes kind offset (to_list number command) fo
     rw (number, command, found.there, le-ltb image_limit (length bytes) found.fits, none) refl
 bad-image-by words files word name bytes kind offset (to_wrap vendor device rom_name number command) found none =
     rw (number, command, found.there, le-ltb image_limit (length bytes) found.fits, none) refl
+bad-image-by words files word name bytes kind offset (to_run_on b c command) found none =
+    run-stopped words files word name b c _ command
+    (run-image-stopped files word name b c _ (read-means image_limit image_meaning word name files bytes _ found (rw none refl)))
 
 bad-image-work : (words : List (List ℕ)) (files : Files) (w f : ℕ) (x : HasBadImage words files w f)
     → (work_of words files).value ≡ Err (bad_image_reply w x.name (x.kind, x.offset))
 bad-image-work words files w f x = bad-image-by words files w x.name x.bytes x.kind x.offset x.command x.image_file x.no_image
 
-bad-notes-work : (words : List (List ℕ)) (files : Files) (f : ℕ) (x : HasBadNotes words files f)
-    → (work_of words files).value ≡ Err (bad_notes_reply 2 x.name x.found)
-unfolding work_of image_check input file
-bad-notes-work words files f x =
-    let t = x.turn in
-    rw (
-      t.command,
-      t.image_file.there,
-      x.notes_file.there,
-      le-ltb image_limit (length t.bytes) t.image_file.fits,
-      le-ltb notes_limit (length x.text) x.notes_file.fits,
-      t.image_is,
-      x.no_notes,
-    ) refl
+bad-notes-work : (words : List (List ℕ)) (files : Files) (w f : ℕ) (x : HasBadNotes words files w f)
+    → (work_of words files).value ≡ Err (bad_notes_reply w x.name x.found)
+bad-notes-work words files w f x =
+    notes-stopped words files w x.name _ x.turn
+    (read-means notes_limit notes_meaning w x.name files x.text _ x.notes_file (rw x.no_notes refl))
+
+bad-script-work : (words : List (List ℕ)) (files : Files) (w f : ℕ) (x : HasBadScript words files w f)
+    → (work_of words files).value ≡ Err (bad_notes_reply w x.name x.found)
+bad-script-work words files w f x =
+    run-script-stopped words files w x.name x.notes _ x.turn
+    (read-means script_limit (script_meaning x.notes) w x.name files x.text _ x.script_file (rw x.no_script refl))
 
 bad-line-work : (words : List (List ℕ)) (files : Files) (name : List ℕ) (kind : AsmFault) (line : ℕ) → HasBadLine words files name kind line
     → (work_of words files).value ≡ Err (bad_source_reply 1 name (kind, line))
@@ -602,7 +562,7 @@ unfolding work_of rom_images rom_taking rom_taking_of input input_with_bytes fil
 bad-rom-by words files name bytes kind offset (to_list_rom command) found none =
     rw (command, found.there, le-ltb rom_limit (length bytes) found.fits, none) refl
 bad-rom-by words files name bytes kind offset (to_take number image_name within command) found none =
-    rw (command, number-spelled number within, found.there, le-ltb rom_limit (length bytes) found.fits, none) refl
+    rw (command, rom-number number within, found.there, le-ltb rom_limit (length bytes) found.fits, none) refl
 
 bad-rom-work : (words : List (List ℕ)) (files : Files) (name : List ℕ) (kind : RomFault) (offset : ℕ)
     → HasBadRom words files name kind offset → (work_of words files).value ≡ Err (bad_rom_reply 2 name (kind, offset))
@@ -616,10 +576,22 @@ bad-taking-work words files name kind offset x =
     taking-value words files name x.image_name x.number x.rom x.images x.source
     ∙ rw (taken-none x.rom x.images x.number kind x.fails) refl
 
+large-number-by : (words : List (List ℕ)) (files : Files) (word : ℕ) (digits : List ℕ) (limit : ℕ) → NamesNumber words word digits limit
+    → number_in 0 limit digits ≡ None → (work_of words files).value ≡ Err (large_reply word digits)
+unfolding work_of rom_taking running twinning
+large-number-by words files word digits limit (image_number a b number size command) none =
+    let here : number_in 0 rom_number_limit digits ≡ None = rw size at none in
+    rw (number, command, here) refl
+large-number-by words files word digits limit (run_steps width a b c number size command) none =
+    let here : number_in 0 step_limit digits ≡ None = rw size at none in
+    rw (number, command, here) refl
+large-number-by words files word digits limit (twin_steps a b c number size command) none =
+    let here : number_in 0 step_limit digits ≡ None = rw size at none in
+    rw (number, command, here) refl
+
 large-number-work : (words : List (List ℕ)) (files : Files) (word : ℕ) (x : HasLargeNumber words word)
     → (work_of words files).value ≡ Err (large_reply word x.digits)
-unfolding work_of rom_taking
-large-number-work words files word x = rw (x.word_is, x.command, number-past x.digits x.past) refl
+large-number-work words files word x = large-number-by words files word x.digits x.limit x.command (number-past x.limit x.digits x.past)
 
 replied : (v : Result Work Reply) (stopped reply : Reply) → v ≡ Err stopped → IsReplyOf v reply → reply ≡ stopped
 replied v stopped reply e told = rw e at told
@@ -659,8 +631,10 @@ bad-back words files reply w f told (bad_object name kind offset word number x) 
     outcome-of reply _ (replied _ _ reply (bad-object-work words files name kind offset x) told) ∙ rw (word, number) refl
 bad-back words files reply w f told (bad_link name plan found word number x) =
     outcome-of reply _ (replied _ _ reply (bad-link-work words files name plan found x) told) ∙ rw (word, number) refl
-bad-back words files reply w f told (bad_notes word x) =
-    outcome-of reply _ (replied _ _ reply (bad-notes-work words files f x) told) ∙ rw (word, x.number) refl
+bad-back words files reply w f told (bad_notes x) =
+    outcome-of reply _ (replied _ _ reply (bad-notes-work words files w f x) told) ∙ rw x.number refl
+bad-back words files reply w f told (bad_script x) =
+    outcome-of reply _ (replied _ _ reply (bad-script-work words files w f x) told) ∙ rw x.number refl
 bad-back words files reply w f told (bad_source word x) =
     outcome-of reply _ (bad-line-told words files x.name x.kind x.line reply x.bad_line told) ∙ rw (word, x.number) refl
 
@@ -670,6 +644,10 @@ verdict-works : (verdict : Verdict) → IsWorkAnswer (verdict_reply verdict).out
 verdict-works Neutral = tt
 verdict-works (Refused place rule) = tt
 
+twin-works : (differ : Option ℕ) → IsWorkAnswer (twin_outcome differ)
+twin-works None = tt
+twin-works (Some step) = tt
+
 works-by : (reply told : Reply) → reply ≡ told → IsWorkAnswer told.outcome → IsWorkAnswer reply.outcome
 works-by reply told same works = rw same works
 
@@ -678,6 +656,8 @@ stopped : (v : Result Work Reply) (reply : Reply) → IsReplyOf v reply → (IsW
 stopped (Ok (works.CheckCode code)) reply told none = absurd (none (works-by reply _ told (verdict-works (plain_verdict code))))
 stopped (Ok (works.CheckImage image notes)) reply told none = absurd (none (works-by reply _ told.told (verdict-works told.verdict)))
 stopped (Ok (works.ListImage image)) reply told none = absurd (none (works-by reply _ told tt))
+stopped (Ok (works.Run width image notes script steps)) reply told none = absurd (none (works-by reply _ told.told tt))
+stopped (Ok (works.Twin image notes script steps)) reply told none = absurd (none (works-by reply _ told.told (twin-works told.report.differ)))
 stopped (Ok (works.WriteObject name object)) reply told none = absurd (none (works-by reply _ told tt))
 stopped (Ok (works.WriteImage name image)) reply told none = absurd (none (works-by reply _ told tt))
 stopped (Ok (works.WriteRom name vendor device subsystem image)) reply told none = absurd (none (works-by reply _ told tt))

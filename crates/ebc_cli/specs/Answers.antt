@@ -1,5 +1,5 @@
 -- Meaning: the answer of the program to its words, over the files of a folder: docs/COMMANDS.md, "The answer".
-use Rattle.std.specs.Prelude.{◌≡◌, ◌≢◌, ◌↔◌, ◌⊎◌, ℕ, ◌<◌, ◌≤◌, List, [], ◌∷◌, ◌++◌, length, Option, Some, None, Result, Ok, Err}
+use Rattle.std.specs.Prelude.{◌≡◌, ◌≢◌, ◌↔◌, ◌⊎◌, ℕ, ◌+◌, ◌<◌, ◌≤◌, List, [], ◌∷◌, ◌++◌, length, Option, Some, None, Result, Ok, Err}
 use Rattle.std.specs.Fmt.{decimal}
 use Rattle.std.specs.FinMap.{get}
 use Rattle.ebc_outside.specs.Files.{Files, AppendsPart}
@@ -25,6 +25,9 @@ use Rattle.option_rom.specs.Takes.{bytes_taken, taken}
 use Rattle.protocol_script.specs.Scripts.{script_of}
 use Rattle.host_model.specs.Placements.{Placement, IsPlacement}
 use Rattle.twin_run.specs.Headline.{AreSameAfter}
+use Rattle.twin_run.specs.Reported.{IsReport}
+use Rattle.twin_run.specs.declared.reports.RunReport.{RunReport}
+use Rattle.twin_run.specs.declared.reports.TwinReport.{TwinReport}
 use Rattle.host_model.specs.Runs.{world_of}
 use Rattle.pe_image.specs.declared.fault.ImageFault.{ImageFault}
 use Rattle.pe_image.specs.declared.image.Image.{Image}
@@ -32,7 +35,9 @@ use Rattle.pe_image.specs.Images.{image_of}
 use Rattle.type_notes.specs.Notes.{notes_of}
 use Rattle.cli_base.specs.declared.outcome.Outcome.{Outcome}
 use Rattle.cli_base.specs.declared.outcome.Outcome.TheVariants as outcomes
-use Rattle.ebc_cli.specs.declared.command.Command.TheVariants.{Assemble, CheckCode, CheckImage, Link, ListImage, ListRom, TakeRom, WrapRom}
+use Rattle.ebc_cli.specs.declared.command.Command.TheVariants.{Assemble, CheckCode, CheckImage, Link, ListImage, ListRom, Run, TakeRom}
+use Rattle.ebc_cli.specs.declared.command.Command.TheVariants.{Twin, WrapRom}
+use Rattle.ebc_cli.specs.declared.width.Width.{Width}
 use Rattle.cli_base.specs.declared.reply.End.{End}
 use Rattle.cli_base.specs.declared.reply.End.TheVariants as ends
 use Rattle.cli_base.specs.declared.reply.Reply.{Reply}
@@ -41,11 +46,13 @@ use Rattle.ebc_cli.specs.Commands.{command_of, output_of}
 use Rattle.ebc_cli.specs.Faults.{link_fault_number, object_fault_number, rom_fault_number}
 use Rattle.cli_base.specs.Faults.{image_fault_number}
 use Rattle.ebc_cli.specs.Faults.{take_fault_number, toml_fault_number}
-use Rattle.ebc_cli.specs.Inputs.{notes_limit, object_limit, plan_limit, rom_limit, source_limit, taking_offset}
+use Rattle.ebc_cli.specs.Inputs.{notes_limit, object_limit, plan_limit, rom_limit, rom_number_limit, script_limit, source_limit, step_limit}
+use Rattle.ebc_cli.specs.Inputs.{taking_offset}
 use Rattle.cli_base.specs.Inputs.{image_limit}
 use Rattle.cli_base.specs.Outcomes.{IsAnswer}
 use Rattle.cli_base.specs.Outputs.{SameBut, files_left, printed, text_of, written_name}
 use Rattle.cli_base.specs.Readings.{FileReading, AsksPart, MissingHasCause}
+use Rattle.ebc_cli.specs.Runnings.{IsTwinReport, report_text, twin_outcome, twin_report_text}
 use Rattle.ebc_cli.specs.Works.{work_of, IsReplyOf, plain_code_limit}
 
 -- a reply is an answer to the words
@@ -99,6 +106,39 @@ pub record ChecksImage (words : List (List ℕ)) (files : Files) (image : Image)
   pub notes_file : HasFile files notes_name notes_limit text
   pub image_is : image_of bytes ≡ Ok image
   pub notes_are : notes_of text ≡ Ok notes
+
+-- the folder has files of these names, within their limits, that stand for this image, these notes and this script under them
+pub record HasRunFiles (files : Files) (image_name notes_name script_name : List ℕ) (image : Image) (notes : Notes)
+    (script : Script) : Type 0 where
+  pub bytes : List ℕ
+  pub text : List ℕ
+  pub script_text : List ℕ
+  pub image_file : HasFile files image_name image_limit bytes
+  pub notes_file : HasFile files notes_name notes_limit text
+  pub script_file : HasFile files script_name script_limit script_text
+  pub image_is : image_of bytes ≡ Ok image
+  pub notes_are : notes_of text ≡ Ok notes
+  pub script_is : script_of notes script_text ≡ Ok script
+
+-- the words are `run WIDTH IMAGE NOTES SCRIPT STEPS` with this width and this number of steps, which is at most 10,000,000, and the
+-- folder has files that stand for this image, these notes and this script
+pub record RunsImage (words : List (List ℕ)) (files : Files) (width : Width) (image : Image) (notes : Notes) (script : Script)
+    (steps : ℕ) : Type 0 where
+  pub image_name : List ℕ
+  pub notes_name : List ℕ
+  pub script_name : List ℕ
+  pub command : command_of words ≡ Some (Run width image_name notes_name script_name (decimal steps))
+  pub within : steps ≤ step_limit
+  pub has_files : HasRunFiles files image_name notes_name script_name image notes script
+
+-- the words are `twin IMAGE NOTES SCRIPT STEPS`, and so here
+pub record TwinsImage (words : List (List ℕ)) (files : Files) (image : Image) (notes : Notes) (script : Script) (steps : ℕ) : Type 0 where
+  pub image_name : List ℕ
+  pub notes_name : List ℕ
+  pub script_name : List ℕ
+  pub command : command_of words ≡ Some (Twin image_name notes_name script_name (decimal steps))
+  pub within : steps ≤ step_limit
+  pub has_files : HasRunFiles files image_name notes_name script_name image notes script
 
 -- the words are `list IMAGE`, and the folder has a file within its limit that stands for this image
 pub record ListsImage (words : List (List ℕ)) (files : Files) (image : Image) : Type 0 where
@@ -166,7 +206,7 @@ pub record ListsRom (words : List (List ℕ)) (files : Files) (images : List Rom
 pub record TakesFrom (words : List (List ℕ)) (files : Files) (rom_name name : List ℕ) (number : ℕ) (rom : List ℕ)
     (images : List RomImage) : Type 0 where
   pub command : command_of words ≡ Some (TakeRom rom_name (decimal number) name)
-  pub within : number ≤ 65535
+  pub within : number ≤ rom_number_limit
   pub rom_file : HasFile files rom_name rom_limit rom
   pub rom_is : IsRom rom images
 
@@ -179,12 +219,24 @@ pub record Takes (words : List (List ℕ)) (files : Files) (name bytes : List �
   pub source : TakesFrom words files rom_name name number rom images
   pub taken_are : bytes_taken rom images number ≡ Ok bytes
 
--- the words are `check IMAGE NOTES`, `list IMAGE` or `rom wrap VENDOR DEVICE IMAGE ROM`, and the image has this name, which is that word
+-- the words are `run WIDTH IMAGE NOTES SCRIPT STEPS` or `twin IMAGE NOTES SCRIPT STEPS` with at most 10,000,000 steps, so that the turn
+-- of files comes, which have these names; the image is that word, and the others those behind it
+pub data NamesRun (words : List (List ℕ)) (word : ℕ) (image_name notes_name script_name : List ℕ) : Type 0 where
+  to_run : (width : Width) (steps : ℕ) → word ≡ 2 → steps ≤ step_limit
+      → command_of words ≡ Some (Run width image_name notes_name script_name (decimal steps))
+      → NamesRun words word image_name notes_name script_name
+  to_twin : (steps : ℕ) → word ≡ 1 → steps ≤ step_limit
+      → command_of words ≡ Some (Twin image_name notes_name script_name (decimal steps))
+      → NamesRun words word image_name notes_name script_name
+
+-- the words are `check IMAGE NOTES`, `list IMAGE`, `rom wrap VENDOR DEVICE IMAGE ROM`, or `run` or `twin` as above, and the image has this
+-- name, which is that word
 pub data NamesImage (words : List (List ℕ)) (word : ℕ) (name : List ℕ) : Type 0 where
   to_check : (notes_name : List ℕ) → word ≡ 1 → command_of words ≡ Some (CheckImage name notes_name) → NamesImage words word name
   to_list : word ≡ 1 → command_of words ≡ Some (ListImage name) → NamesImage words word name
   to_wrap : (vendor device : ℕ) (rom_name : List ℕ) → word ≡ 4 → command_of words ≡ Some (WrapRom vendor device name rom_name)
       → NamesImage words word name
+  to_run_on : (notes_name script_name : List ℕ) → NamesRun words word name notes_name script_name → NamesImage words word name
 
 -- the image's file is no image: its first fault has this number
 pub record HasBadImage (words : List (List ℕ)) (files : Files) (word fault : ℕ) : Type 0 where
@@ -197,23 +249,57 @@ pub record HasBadImage (words : List (List ℕ)) (files : Files) (word fault : �
   pub no_image : image_of bytes ≡ Err (kind, offset)
   pub number : fault ≡ image_fault_number kind
 
--- the words are `check IMAGE NOTES`, the notes have this name, and the image's file, within its limit, is an image: so their turn comes
-pub record ComesToNotes (words : List (List ℕ)) (files : Files) (name : List ℕ) : Type 0 where
+-- the words are `check IMAGE NOTES`, or `run` or `twin` as above; the image has the first of these names and the notes the second, which
+-- is that word
+pub data NamesNotes (words : List (List ℕ)) (word : ℕ) (image_name name : List ℕ) : Type 0 where
+  to_check_under : word ≡ 2 → command_of words ≡ Some (CheckImage image_name name) → NamesNotes words word image_name name
+  to_run_under : (image_word : ℕ) (script_name : List ℕ) → word ≡ image_word + 1 → NamesRun words image_word image_name name script_name
+      → NamesNotes words word image_name name
+
+-- the notes have this name, which is that word, and the image's file, within its limit, is an image: so their turn comes
+pub record ComesToNotes (words : List (List ℕ)) (files : Files) (word : ℕ) (name : List ℕ) : Type 0 where
   pub image_name : List ℕ
   pub bytes : List ℕ
   pub image : Image
-  pub command : command_of words ≡ Some (CheckImage image_name name)
+  pub command : NamesNotes words word image_name name
   pub image_file : HasFile files image_name image_limit bytes
   pub image_is : image_of bytes ≡ Ok image
 
 -- the text under the name of the notes, in its turn, stands for none: its first fault has this number
-pub record HasBadNotes (words : List (List ℕ)) (files : Files) (fault : ℕ) : Type 0 where
+pub record HasBadNotes (words : List (List ℕ)) (files : Files) (word fault : ℕ) : Type 0 where
   pub name : List ℕ
   pub text : List ℕ
-  pub turn : ComesToNotes words files name
+  pub turn : ComesToNotes words files word name
   pub notes_file : HasFile files name notes_limit text
   pub found : TomlFault
   pub no_notes : notes_of text ≡ Err found
+  pub number : fault ≡ toml_fault_number found
+
+-- the script has this name, which is that word, and the files of the image and of the notes, within their limits, are an image and
+-- these notes: so its turn comes
+pub record ComesToScript (words : List (List ℕ)) (files : Files) (word : ℕ) (name : List ℕ) (notes : Notes) : Type 0 where
+  pub image_word : ℕ
+  pub image_name : List ℕ
+  pub notes_name : List ℕ
+  pub bytes : List ℕ
+  pub text : List ℕ
+  pub image : Image
+  pub word_is : word ≡ image_word + 2
+  pub command : NamesRun words image_word image_name notes_name name
+  pub image_file : HasFile files image_name image_limit bytes
+  pub notes_file : HasFile files notes_name notes_limit text
+  pub image_is : image_of bytes ≡ Ok image
+  pub notes_are : notes_of text ≡ Ok notes
+
+-- the text under the name of the script, in its turn, stands for none under the notes: its first fault has this number
+pub record HasBadScript (words : List (List ℕ)) (files : Files) (word fault : ℕ) : Type 0 where
+  pub name : List ℕ
+  pub text : List ℕ
+  pub notes : Notes
+  pub turn : ComesToScript words files word name notes
+  pub script_file : HasFile files name script_limit text
+  pub found : TomlFault
+  pub no_script : script_of notes text ≡ Err found
   pub number : fault ≡ toml_fault_number found
 
 -- the words are `asm SRC OBJ`, and the file of this name, within its limit, is no source of an object: its first line with a
@@ -272,7 +358,7 @@ pub record HasBadLink (words : List (List ℕ)) (files : Files) (name : List ℕ
 -- turn comes
 pub data NamesRom (words : List (List ℕ)) (name : List ℕ) : Type 0 where
   to_list_rom : command_of words ≡ Some (ListRom name) → NamesRom words name
-  to_take : (number : ℕ) (image_name : List ℕ) → number ≤ 65535 → command_of words ≡ Some (TakeRom name (decimal number) image_name)
+  to_take : (number : ℕ) (image_name : List ℕ) → number ≤ rom_number_limit → command_of words ≡ Some (TakeRom name (decimal number) image_name)
       → NamesRom words name
 
 -- the file of the option ROM, of this name, is none: this is its first fault, at this offset
@@ -296,7 +382,8 @@ pub record HasBadTaking (words : List (List ℕ)) (files : Files) (name : List �
 -- the first file with a fault is that of this word, and its first fault has this number
 pub data HasBadInput (words : List (List ℕ)) (files : Files) (word fault : ℕ) : Type 0 where
   bad_image : HasBadImage words files word fault → HasBadInput words files word fault
-  bad_notes : word ≡ 2 → HasBadNotes words files fault → HasBadInput words files word fault
+  bad_notes : HasBadNotes words files word fault → HasBadInput words files word fault
+  bad_script : HasBadScript words files word fault → HasBadInput words files word fault
   bad_source : word ≡ 1 → HasBadSource words files fault → HasBadInput words files word fault
   bad_plan : (name : List ℕ) (found : TomlFault) → word ≡ 1 → fault ≡ toml_fault_number found → HasBadPlan words files name found
       → HasBadInput words files word fault
@@ -313,7 +400,8 @@ pub data HasBadInput (words : List (List ℕ)) (files : Files) (word fault : ℕ
 pub data HasTurn (words : List (List ℕ)) (files : Files) (word : ℕ) (name : List ℕ) (limit : ℕ) : Type 0 where
   code_turn : word ≡ 1 → limit ≡ plain_code_limit → command_of words ≡ Some (CheckCode name) → HasTurn words files word name limit
   image_turn : limit ≡ image_limit → NamesImage words word name → HasTurn words files word name limit
-  notes_turn : word ≡ 2 → limit ≡ notes_limit → ComesToNotes words files name → HasTurn words files word name limit
+  notes_turn : limit ≡ notes_limit → ComesToNotes words files word name → HasTurn words files word name limit
+  script_turn : (notes : Notes) → limit ≡ script_limit → ComesToScript words files word name notes → HasTurn words files word name limit
   source_turn : (object_name : List ℕ) → word ≡ 1 → limit ≡ source_limit → command_of words ≡ Some (Assemble name object_name)
       → HasTurn words files word name limit
   plan_turn : (image_name : List ℕ) → word ≡ 1 → limit ≡ plan_limit → command_of words ≡ Some (Link name image_name)
@@ -337,14 +425,22 @@ pub record HasLargeFile (words : List (List ℕ)) (files : Files) (word : ℕ) :
   pub there : get files name ≡ Some bytes
   pub past : limit < length bytes
 
--- the words are `rom take ROM NUMBER IMAGE`, and the number, which is this word, is more than 65,535
+-- the words have a number, which is this word, has these digits and may be so large: NUMBER of `rom take ROM NUMBER IMAGE`, or STEPS of
+-- `run WIDTH IMAGE NOTES SCRIPT STEPS` or `twin IMAGE NOTES SCRIPT STEPS`
+pub data NamesNumber (words : List (List ℕ)) (word : ℕ) (digits : List ℕ) (limit : ℕ) : Type 0 where
+  image_number : (rom_name image_name : List ℕ) → word ≡ 3 → limit ≡ rom_number_limit
+      → command_of words ≡ Some (TakeRom rom_name digits image_name) → NamesNumber words word digits limit
+  run_steps : (width : Width) (image_name notes_name script_name : List ℕ) → word ≡ 5 → limit ≡ step_limit
+      → command_of words ≡ Some (Run width image_name notes_name script_name digits) → NamesNumber words word digits limit
+  twin_steps : (image_name notes_name script_name : List ℕ) → word ≡ 4 → limit ≡ step_limit
+      → command_of words ≡ Some (Twin image_name notes_name script_name digits) → NamesNumber words word digits limit
+
+-- the words have a number, which is this word and is past its limit
 pub record HasLargeNumber (words : List (List ℕ)) (word : ℕ) : Type 0 where
-  pub rom_name : List ℕ
   pub digits : List ℕ
-  pub image_name : List ℕ
-  pub word_is : word ≡ 3
-  pub command : command_of words ≡ Some (TakeRom rom_name digits image_name)
-  pub past : (n : ℕ) → n ≤ 65535 → digits ≢ decimal n
+  pub limit : ℕ
+  pub command : NamesNumber words word digits limit
+  pub past : (n : ℕ) → n ≤ limit → digits ≢ decimal n
 
 -- a number among the words is past its limit, or the file of this word, in its turn, is
 pub data IsTooLarge (words : List (List ℕ)) (files : Files) (word : ℕ) : Type 0 where
@@ -369,6 +465,24 @@ SameForScripts image notes =
     (text : List ℕ) (script : Script) (P Q : Placement) (k : ℕ) → script_of notes text ≡ Ok script
     → IsPlacement 4 (world_of image notes script) P → IsPlacement 8 (world_of image notes script) Q
     → AreSameAfter (world_of image notes script) image P Q k
+
+-- ---- what runs show
+
+-- what was printed is the text of a report of the run at a width, up to a number of steps
+pub record ShowsRun (w : ℕ) (image : Image) (notes : Notes) (script : Script) (steps : ℕ) (before now : Option (List ℕ)) : Type 0 where
+  pub report : RunReport
+  pub shown : IsReport w image (world_of image notes script) steps report
+  pub text : now ≡ printed (report_text notes report) before
+
+-- The outcome and what was printed are those of a report of the runs at both widths, each up to a number of steps, of which this is the
+-- least after which they aren't the same, if there is one.
+pub record ShowsTwin (image : Image) (notes : Notes) (script : Script) (steps : ℕ) (differ : Option ℕ) (outcome : Outcome)
+    (before now : Option (List ℕ)) : Type 0 where
+  pub report : TwinReport
+  pub shown : IsTwinReport image notes script steps report
+  pub least : report.differ ≡ differ
+  pub same : outcome ≡ twin_outcome differ
+  pub text : now ≡ printed (twin_report_text notes report) before
 
 -- ---- causes
 

@@ -1,8 +1,9 @@
 -- Meaning: the commands that words spell: docs/COMMANDS.md, "Commands". Words are seen as their bytes.
 use Rattle.std.specs.Prelude.{ℕ, List, [], ◌∷◌, codes, bytes_eq, if◌then◌else◌, ◌&&◌, Option, Some, None}
 use Rattle.ebc_cli.specs.declared.command.Command.{Command}
-use Rattle.ebc_cli.specs.declared.command.Command.TheVariants.{Assemble, CheckCode, CheckImage, Link, ListImage, ListRom, TakeRom, WrapRom}
-use Rattle.ebc_cli.specs.Numbers.{identifier_of, is_number}
+use Rattle.ebc_cli.specs.declared.command.Command.TheVariants.{Assemble, CheckCode, CheckImage, Link, ListImage, ListRom, Run, TakeRom, Twin, WrapRom}
+use Rattle.ebc_cli.specs.declared.width.Width.{Width}
+use Rattle.ebc_cli.specs.Numbers.{identifier_of, is_number, width_of}
 
 -- a word that isn't empty names a file
 abbrev pub of_file : (List ℕ → Command) → List ℕ → Option Command
@@ -15,6 +16,24 @@ of_two_files make [] two = None
 of_two_files make (b ∷ bytes) [] = None
 of_two_files make (b ∷ bytes) (c ∷ others) = Some (make (b ∷ bytes) (c ∷ others))
 
+-- three words, of which none is empty, name three files
+abbrev pub of_three_files : (List ℕ → List ℕ → List ℕ → Command) → List ℕ → List ℕ → List ℕ → Option Command
+of_three_files make [] two three = None
+of_three_files make (b ∷ bytes) [] three = None
+of_three_files make (b ∷ bytes) (c ∷ others) [] = None
+of_three_files make (b ∷ bytes) (c ∷ others) (d ∷ more) = Some (make (b ∷ bytes) (c ∷ others) (d ∷ more))
+
+-- `run WIDTH IMAGE NOTES SCRIPT STEPS`: the number is kept as its digits, whatever its size
+abbrev pub running_of : Option Width → List ℕ → List ℕ → List ℕ → List ℕ → Option Command
+running_of None image notes script steps = None
+running_of (Some width) image notes script steps =
+    if is_number steps then of_three_files (λ image notes script. Run width image notes script steps) image notes script else None
+
+-- `twin IMAGE NOTES SCRIPT STEPS`, and so here
+abbrev pub twinning_of : List ℕ → List ℕ → List ℕ → List ℕ → Option Command
+twinning_of image notes script steps =
+    if is_number steps then of_three_files (λ image notes script. Twin image notes script steps) image notes script else None
+
 -- `rom take ROM NUMBER IMAGE`: the number is kept as its digits, whatever its size
 abbrev pub taking_of : List ℕ → List ℕ → List ℕ → Option Command
 taking_of rom number image = if is_number number then of_two_files (λ rom image. TakeRom rom number image) rom image else None
@@ -23,6 +42,21 @@ taking_of rom number image = if is_number number then of_two_files (λ rom image
 abbrev pub wrapping_of : Option ℕ → Option ℕ → List ℕ → List ℕ → Option Command
 wrapping_of (Some vendor) (Some device) image rom = of_two_files (WrapRom vendor device) image rom
 wrapping_of vendor device image rom = None
+
+-- the command of five words
+unfoldable pub of_five_words : List ℕ → List ℕ → List ℕ → List ℕ → List ℕ → Option Command
+of_five_words word one two three four =
+    if bytes_eq word (codes "twin") then twinning_of one two three four
+    else if bytes_eq word (codes "rom") && bytes_eq one (codes "take") then taking_of two three four
+    else None
+
+-- the command of six words
+unfoldable pub of_six_words : List ℕ → List ℕ → List ℕ → List ℕ → List ℕ → List ℕ → Option Command
+of_six_words word one two three four five =
+    if bytes_eq word (codes "run") then running_of (width_of one) two three four five
+    else if bytes_eq word (codes "rom") && bytes_eq one (codes "wrap")
+    then wrapping_of (identifier_of two) (identifier_of three) four five
+    else None
 
 -- the command of the words, where they are one: its name, and then a word for each number and each file
 abbrev pub command_of : List (List ℕ) → Option Command
@@ -36,12 +70,8 @@ command_of (word ∷ one ∷ two ∷ []) =
     else if bytes_eq word (codes "link") then of_two_files Link one two
     else if bytes_eq word (codes "rom") && bytes_eq one (codes "list") then of_file ListRom two
     else None
-command_of (word ∷ act ∷ rom ∷ number ∷ image ∷ []) =
-    if bytes_eq word (codes "rom") && bytes_eq act (codes "take") then taking_of rom number image else None
-command_of (word ∷ act ∷ vendor ∷ device ∷ image ∷ rom ∷ []) =
-    if bytes_eq word (codes "rom") && bytes_eq act (codes "wrap")
-    then wrapping_of (identifier_of vendor) (identifier_of device) image rom
-    else None
+command_of (word ∷ one ∷ two ∷ three ∷ four ∷ []) = of_five_words word one two three four
+command_of (word ∷ one ∷ two ∷ three ∷ four ∷ five ∷ []) = of_six_words word one two three four five
 command_of words = None
 
 -- the name under which a command writes a file, if it writes one

@@ -1,4 +1,4 @@
--- Meaning: the notes, sources, link plans, objects and option ROMs that files hold, or the reply to the first fault:
+-- Meaning: the notes, scripts, sources, link plans, objects and option ROMs that files hold, or the reply to the first fault:
 -- docs/COMMANDS.md, "The answer".
 use Rattle.std.specs.Prelude.{◌≡◌, ℕ, ◌-◌, List, length, Result, Ok, Err, slice_get}
 use Rattle.std.specs.Option.{option_map_or}
@@ -15,7 +15,9 @@ use Rattle.ebc_object.specs.declared.fault.ObjectFault.{ObjectFault}
 use Rattle.ebc_object.specs.declared.object.Object.{Object}
 use Rattle.ebc_outside.specs.Files.{Files}
 use Rattle.note_types.specs.declared.fault.TomlFault.{TomlFault}
+use Rattle.note_texts.specs.Numbers.{number_in}
 use Rattle.note_types.specs.declared.notes.Notes.{Notes}
+use Rattle.note_types.specs.declared.script.Script.{Script}
 use Rattle.option_rom.specs.declared.fault.RomFault.{RomFault}
 use Rattle.option_rom.specs.declared.fault.TakeFault.{TakeFault}
 use Rattle.option_rom.specs.declared.image.RomImage.{RomImage}
@@ -23,12 +25,12 @@ use Rattle.option_rom.specs.Images.{end_of}
 use Rattle.option_rom.specs.Roms.{rom_of}
 use Rattle.option_rom.specs.Takes.{bytes_taken}
 use Rattle.pe_image.specs.declared.image.Image.{Image}
+use Rattle.protocol_script.specs.Scripts.{script_of}
 use Rattle.type_notes.specs.Notes.{notes_of}
 use Rattle.cli_base.specs.declared.reply.Reply.{Reply}
 use Rattle.ebc_cli.specs.Faults.{asm_fault_text, toml_fault_number, toml_fault_text}
 use Rattle.ebc_cli.specs.Faults.{key_path, link_detail, link_fault_number, link_fault_text, object_fault_number, object_fault_text}
 use Rattle.ebc_cli.specs.Faults.{rom_fault_number, rom_fault_text, take_fault_number, take_fault_text}
-use Rattle.ebc_cli.specs.Numbers.{rom_number}
 use Rattle.cli_base.specs.Inputs.{bad_reply, or_reply}
 use Rattle.cli_base.specs.Readings.{FileReading, ◌>>=◌, done, file, large_reply, told}
 
@@ -37,6 +39,10 @@ use Rattle.cli_base.specs.Readings.{FileReading, ◌>>=◌, done, file, large_re
 -- how many bytes a text of notes may have: 1 MiB
 abbrev pub notes_limit : ℕ
 notes_limit = 1048576
+
+-- how many bytes a script may have: 1 MiB
+abbrev pub script_limit : ℕ
+script_limit = 1048576
 
 -- how many bytes a source may have: 1 MiB
 abbrev pub source_limit : ℕ
@@ -54,9 +60,17 @@ object_limit = 1048576
 abbrev pub rom_limit : ℕ
 rom_limit = 16777216
 
+-- the greatest number by which an image of an option ROM may be asked for
+abbrev pub rom_number_limit : ℕ
+rom_number_limit = 65535
+
+-- how many steps a run may be asked for
+abbrev pub step_limit : ℕ
+step_limit = 10000000
+
 -- ---- faults
 
--- a text that stands for no notes; the fault is told by the path of its key
+-- a text that stands for no notes, or for no script under them; the fault is told by the path of its key
 abbrev pub bad_notes_reply : ℕ → List ℕ → TomlFault → Reply
 bad_notes_reply word name fault = bad_reply word name (toml_fault_number fault) (toml_fault_text fault) (key_path fault)
 
@@ -96,6 +110,9 @@ bad_taking_reply word name images number kind =
 abbrev pub notes_meaning : ℕ → List ℕ → List ℕ → Result Notes Reply
 notes_meaning word name text = or_reply (bad_notes_reply word name) (notes_of text)
 
+abbrev pub script_meaning : Notes → ℕ → List ℕ → List ℕ → Result Script Reply
+script_meaning notes word name text = or_reply (bad_notes_reply word name) (script_of notes text)
+
 abbrev pub source_meaning : ℕ → List ℕ → List ℕ → Result Object Reply
 source_meaning word name text = or_reply (bad_source_reply word name) (object_of text)
 
@@ -116,9 +133,9 @@ rom_meaning word name bytes = or_reply (bad_rom_reply word name) (rom_of bytes)
 abbrev pub taking_meaning : ℕ → List ℕ → List ℕ → List RomImage → ℕ → Result (List ℕ) Reply
 taking_meaning word name rom images number = or_reply (bad_taking_reply word name images number) (bytes_taken rom images number)
 
--- the number that a word spells, or the reply to a larger one
-abbrev pub number_meaning : ℕ → List ℕ → Result ℕ Reply
-number_meaning word digits = or_else (large_reply word digits) (rom_number digits)
+-- the number that a word spells, where it is within a limit, or the reply to a larger one
+abbrev pub number_meaning : ℕ → ℕ → List ℕ → Result ℕ Reply
+number_meaning limit word digits = or_else (large_reply word digits) (number_in 0 limit digits)
 
 -- what the file that a word names is read as, by its limit and its meaning
 unfoldable pub input : {A : Type 0} → ℕ → (ℕ → List ℕ → List ℕ → Result A Reply) → ℕ → List ℕ → Files → FileReading A

@@ -5,5 +5,6 @@ pub mod Numbers
 pub mod Commands
 pub mod Inputs
 pub mod Linkings
+pub mod Runnings
 pub mod Works
 pub mod Answers

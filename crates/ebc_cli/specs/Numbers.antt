@@ -1,8 +1,10 @@
--- Meaning: the numbers among the words: docs/COMMANDS.md, "Commands". Words are seen as their bytes.
+-- Meaning: the numbers and the widths among the words: docs/COMMANDS.md, "Commands". Words are seen as their bytes.
 use Rattle.std.specs.Prelude.{ℕ, ◌+◌, ◌-◌, ◌*◌, List, [], ◌∷◌, Option, Some, None, Bool, false, not, nat_le, ◌==◌, ◌&&◌, if◌then◌else◌}
+use Rattle.std.specs.Prelude.{bytes_eq, codes}
 use Rattle.std.specs.List.{list_all}
 use Rattle.ebc_base.specs.Names.{is_digit}
-use Rattle.note_texts.specs.Numbers.{number_in}
+use Rattle.ebc_cli.specs.declared.width.Width.{Width}
+use Rattle.ebc_cli.specs.declared.width.Width.TheVariants.{Bits32, Bits64}
 
 -- ---- identifiers of vendors and devices
 
@@ -23,7 +25,7 @@ unfoldable pub identifier_of : List ℕ → Option ℕ
 identifier_of (a ∷ b ∷ c ∷ d ∷ []) = of_digits (hex_digit a) (hex_digit b) (hex_digit c) (hex_digit d)
 identifier_of word = None
 
--- ---- numbers of images in option ROMs
+-- ---- numbers of images in option ROMs, and of steps
 
 -- decimal digits, the first of several no `0`
 unfoldable pub is_number : List ℕ → Bool
@@ -31,6 +33,13 @@ is_number [] = false
 is_number (b ∷ []) = list_all is_digit (b ∷ [])
 is_number (b ∷ c ∷ bs) = not (b == 48) && list_all is_digit (b ∷ c ∷ bs)
 
--- the number that these digits spell, where it is at most 65,535
-abbrev pub rom_number : List ℕ → Option ℕ
-rom_number word = number_in 0 65535 word
+-- ---- widths
+
+-- the width of a run, as how many bits an address has
+abbrev pub width_of : List ℕ → Option Width
+width_of word = if bytes_eq word (codes "32") then Some Bits32 else if bytes_eq word (codes "64") then Some Bits64 else None
+
+-- how many bytes an address has
+abbrev pub address_bytes : Width → ℕ
+address_bytes Bits32 = 4
+address_bytes Bits64 = 8

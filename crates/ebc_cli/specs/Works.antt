@@ -6,7 +6,9 @@ use Rattle.ebc_object.specs.Objects.{IsObject}
 use Rattle.ebc_outside.specs.Files.{Files}
 use Rattle.note_types.specs.declared.notes.Notes.{Notes}
 use Rattle.note_types.specs.declared.rule.RuleName.{RuleName}
+use Rattle.note_types.specs.declared.script.Script.{Script}
 use Rattle.note_types.specs.Records.{IsNotes}
+use Rattle.host_model.specs.Scripts.{IsScript}
 use Rattle.option_rom.specs.Files.{rom_bytes}
 use Rattle.pe_image.specs.Files.{file_of}
 use Rattle.pe_image.specs.Linked.{IsLinked}
@@ -24,15 +26,18 @@ use Rattle.ebc_cli.specs.declared.command.Command.TheVariants as commands
 use Rattle.cli_base.specs.declared.reply.Reply.{Reply}
 use Rattle.ebc_cli.specs.declared.work.Work.{Work}
 use Rattle.ebc_cli.specs.declared.work.Work.TheVariants as works
+use Rattle.ebc_cli.specs.declared.width.Width.{Width}
 use Rattle.ebc_cli.specs.Commands.{command_of}
 use Rattle.ebc_cli.specs.Inputs.{input, input_with_bytes, notes_limit, notes_meaning, source_limit}
 use Rattle.cli_base.specs.Inputs.{IsReadImage, image_limit, image_meaning}
 use Rattle.ebc_cli.specs.Inputs.{source_meaning}
-use Rattle.ebc_cli.specs.Inputs.{number_meaning, rom_limit, rom_meaning, taking_meaning}
+use Rattle.ebc_cli.specs.Inputs.{number_meaning, rom_limit, rom_meaning, rom_number_limit, step_limit, taking_meaning}
 use Rattle.ebc_cli.specs.Linkings.{linked_image}
 use Rattle.cli_base.specs.Outputs.{prints, writes}
 use Rattle.cli_base.specs.Readings.{FileReading, done, ◌>>=◌, file, told}
+use Rattle.ebc_cli.specs.Numbers.{address_bytes}
 use Rattle.ebc_cli.specs.RomTexts.{rom_listing}
+use Rattle.ebc_cli.specs.Runnings.{run_files, TellsRun, TellsTwin}
 use Rattle.ebc_cli.specs.Texts.{neutral_line, refused_line, usage_line}
 
 -- how many bytes plain code may have: 256 KiB
@@ -75,6 +80,20 @@ linking plan_name image_name files = do
   image ← linked_image plan_name files
   done (works.WriteImage image_name image)
 
+-- `run WIDTH IMAGE NOTES SCRIPT STEPS`: the number comes before the files
+unfoldable pub running : Width → List ℕ → List ℕ → List ℕ → List ℕ → Files → FileReading Work
+running width image_name notes_name script_name digits files = do
+  steps ← told (number_meaning step_limit 5 digits)
+  read ← run_files 2 image_name notes_name script_name files
+  done (works.Run width read.0 read.1 read.2 steps)
+
+-- `twin IMAGE NOTES SCRIPT STEPS`, and so here
+unfoldable pub twinning : List ℕ → List ℕ → List ℕ → List ℕ → Files → FileReading Work
+twinning image_name notes_name script_name digits files = do
+  steps ← told (number_meaning step_limit 4 digits)
+  read ← run_files 1 image_name notes_name script_name files
+  done (works.Twin read.0 read.1 read.2 steps)
+
 -- `rom wrap VENDOR DEVICE IMAGE ROM`: the subsystem is that of the image
 unfoldable pub rom_wrapping : ℕ → ℕ → List ℕ → List ℕ → Files → FileReading Work
 rom_wrapping vendor device image_name rom_name files = do
@@ -97,7 +116,7 @@ rom_taking_of rom_name number image_name files = do
 -- `rom take ROM NUMBER IMAGE`: the number comes before the file
 unfoldable pub rom_taking : List ℕ → List ℕ → List ℕ → Files → FileReading Work
 rom_taking rom_name digits image_name files = do
-  number ← told (number_meaning 3 digits)
+  number ← told (number_meaning rom_number_limit 3 digits)
   rom_taking_of rom_name number image_name files
 
 abbrev pub work_for : Option Command → Files → FileReading Work
@@ -107,6 +126,8 @@ work_for (Some (commands.CheckImage image notes)) files = image_check image note
 work_for (Some (commands.ListImage image)) files = image_listing image files
 work_for (Some (commands.Assemble source object)) files = assembly source object files
 work_for (Some (commands.Link plan image)) files = linking plan image files
+work_for (Some (commands.Run width image notes script steps)) files = running width image notes script steps files
+work_for (Some (commands.Twin image notes script steps)) files = twinning image notes script steps files
 work_for (Some (commands.WrapRom vendor device image rom)) files = rom_wrapping vendor device image rom files
 work_for (Some (commands.ListRom rom)) files = rom_images rom files
 work_for (Some (commands.TakeRom rom number image)) files = rom_taking rom number image files
@@ -117,8 +138,8 @@ work_of words files = work_for (command_of words) files
 
 -- ---- what is replied
 
--- code that was read is within its limit, what was read as an image is one, what was read as notes are notes, what a source
--- stands for is an object, what objects are linked to is in the linker's layout, and the file that goes into an option ROM is within
+-- code that was read is within its limit, what was read as an image is one, what was read as notes are notes, what was read as a script
+-- is one under them, what a source stands for is an object, what objects are linked to is in the linker's layout, and the file that goes into an option ROM is within
 -- the limit of images
 abbrev pub CanBeDone : Work → Type 0
 CanBeDone (works.CheckCode code) = length code ≤ plain_code_limit
@@ -126,6 +147,8 @@ CanBeDone (works.CheckImage image notes) = IsReadImage image × IsNotes notes
 CanBeDone (works.ListImage image) = IsReadImage image
 CanBeDone (works.WriteObject name object) = IsObject object
 CanBeDone (works.WriteImage name image) = IsLinked image
+CanBeDone (works.Run width image notes script steps) = IsReadImage image × IsNotes notes × IsScript notes script
+CanBeDone (works.Twin image notes script steps) = IsReadImage image × IsNotes notes × IsScript notes script
 CanBeDone (works.WriteRom name vendor device subsystem image) = length image ≤ image_limit
 CanBeDone (works.ListRom images) = Unit {0}
 CanBeDone (works.WriteTaken name bytes) = Unit {0}
@@ -165,6 +188,8 @@ IsReplyTo (works.CheckImage image notes) reply = TellsVerdict image notes reply
 IsReplyTo (works.ListImage image) reply = reply ≡ listing_reply (listing_of image)
 IsReplyTo (works.WriteObject name object) reply = reply ≡ file_reply name (object_bytes object)
 IsReplyTo (works.WriteImage name image) reply = reply ≡ file_reply name (file_of image)
+IsReplyTo (works.Run width image notes script steps) reply = TellsRun (address_bytes width) image notes script steps reply
+IsReplyTo (works.Twin image notes script steps) reply = TellsTwin image notes script steps reply
 IsReplyTo (works.WriteRom name vendor device subsystem image) reply = reply ≡ file_reply name (rom_bytes vendor device subsystem image)
 IsReplyTo (works.ListRom images) reply = reply ≡ listing_reply (rom_listing images)
 IsReplyTo (works.WriteTaken name bytes) reply = reply ≡ file_reply name bytes

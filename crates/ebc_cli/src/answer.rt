@@ -1,5 +1,5 @@
 //! The top call: what is read, what is answered, and what is printed or written.
-ghost use Rattle.std.specs.Prelude.{◌≡◌, ◌≢◌, ◌++◌, ◌↔◌, ◌⊎◌, ◌≤◌, ℕ, List, length, Some, None, IfSome, IfNone, IfOk, IsErrOf};
+ghost use Rattle.std.specs.Prelude.{◌≡◌, ◌≢◌, ◌++◌, ◌↔◌, ◌⊎◌, ◌≤◌, ℕ, List, length, Option, Some, None, IfSome, IfNone, IfOk, IsErrOf};
 ghost use Rattle.ebc_outside.specs.Counts.{Rose};
 ghost use Rattle.std.specs.Fmt.{decimal};
 ghost use Rattle.std.specs.FinMap.{insert};
@@ -10,6 +10,8 @@ ghost use Rattle.ebc_object.specs.Files.{object_bytes};
 ghost use Rattle.ebc_object.specs.declared.object.Object.{Object};
 ghost use Rattle.note_types.specs.declared.notes.Notes.{Notes};
 ghost use Rattle.note_types.specs.declared.rule.RuleName.{RuleName};
+ghost use Rattle.note_types.specs.declared.script.Script.{Script};
+ghost use Rattle.host_model.specs.Runs.{world_of};
 ghost use Rattle.option_rom.specs.declared.fault.RomFault.{RomFault};
 ghost use Rattle.option_rom.specs.declared.fault.TakeFault.{TakeFault};
 ghost use Rattle.option_rom.specs.declared.image.RomImage.{RomImage};
@@ -19,9 +21,13 @@ ghost use Rattle.pe_image.specs.declared.image.Image.{Image};
 ghost use Rattle.ebc_disasm.specs.Listings.{listing_of};
 ghost use Rattle.plain_check.specs.PlainRules as plain;
 ghost use Rattle.plain_check.specs.PlainRuns.{RunsAlike};
+ghost use Rattle.twin_run.specs.Differs.{DifferAt};
 ghost use Rattle.width_checker.specs.Typed.{Typed};
 ghost use Rattle.width_checker.specs.Verdicts.{IsRefused};
 ghost use Rattle.ebc_cli.specs.Answers.{Answers, AnswersWords, Assembles, Decides, LeavesPart, ChecksCode, ChecksImage, ListsImage, HasBadInput, HasBadLine, HasMissingFile, HasNoText, SameForScripts};
+ghost use Rattle.ebc_cli.specs.Answers.{RunsImage, ShowsRun, ShowsTwin, TwinsImage};
+ghost use Rattle.ebc_cli.specs.Numbers.{address_bytes};
+ghost use Rattle.ebc_cli.specs.declared.width.Width.{Width};
 ghost use Rattle.ebc_cli.specs.Answers.{Links, Wraps, ListsRom, Takes, HasBadLink, HasBadRom, HasBadTaking, IsTooLarge};
 ghost use Rattle.ebc_cli.specs.Commands.{command_of, output_of};
 ghost use Rattle.cli_base.specs.Words.{word_bytes};
@@ -81,6 +87,33 @@ pub fn ebc<F: Folder, O: Sink>(
     ensures neutral_alike { IfSome (F.contents folder.old) (λ files. (image : Image) (notes : Notes) →
         ChecksImage (word_bytes words.now) files image notes → result ≡ Outcome.Done → SameForScripts image notes) }
 
+    // `run WIDTH IMAGE NOTES SCRIPT STEPS` runs each image within the limit, checked or not, and what is printed is exactly what its run
+    // at that width shows: its events, and where it stands and how far it is after so many steps, or once it has ended.
+    ensures runs_always { IfSome (F.contents folder.old) (λ files.
+        (width : Width) (image : Image) (notes : Notes) (script : Script) (steps : ℕ) →
+        RunsImage (word_bytes words.now) files width image notes script steps → IsAnswer result → result ≡ Outcome.Done) }
+    ensures runs_exactly { IfSome (F.contents folder.old) (λ files.
+        (width : Width) (image : Image) (notes : Notes) (script : Script) (steps : ℕ) →
+        RunsImage (word_bytes words.now) files width image notes script steps → IsAnswer result →
+        ShowsRun (address_bytes width) image notes script steps (O.written out.old) (O.written out.new)) }
+
+    // `twin IMAGE NOTES SCRIPT STEPS` runs it at both widths, and what is printed is exactly what both runs show, and whether they are
+    // the same after each number of steps up to STEPS, or the least after which they aren't: the answer is Done exactly in the one case
+    // and Differ exactly in the other. Where the image is typed under the notes they are the same.
+    ensures twins_exactly { IfSome (F.contents folder.old) (λ files. (image : Image) (notes : Notes) (script : Script) (steps : ℕ) →
+        TwinsImage (word_bytes words.now) files image notes script steps → IsAnswer result →
+        (differ : Option ℕ) × ShowsTwin image notes script steps differ result (O.written out.old) (O.written out.new)) }
+    ensures same_exactly { IfSome (F.contents folder.old) (λ files. (image : Image) (notes : Notes) (script : Script) (steps : ℕ) →
+        TwinsImage (word_bytes words.now) files image notes script steps →
+        IsAnswer result → result ≡ Outcome.Done ↔ DifferAt image (world_of image notes script) steps None) }
+    ensures differ_exactly { IfSome (F.contents folder.old) (λ files.
+        (image : Image) (notes : Notes) (script : Script) (steps step : ℕ) →
+        TwinsImage (word_bytes words.now) files image notes script steps →
+        IsAnswer result → result ≡ Outcome.Differ step ↔ DifferAt image (world_of image notes script) steps (Some step)) }
+    ensures twin_same { IfSome (F.contents folder.old) (λ files. (image : Image) (notes : Notes) (script : Script) (steps : ℕ) →
+        TwinsImage (word_bytes words.now) files image notes script steps → Typed image notes → IsAnswer result →
+        (result ≡ Outcome.Done) × ShowsTwin image notes script steps None result (O.written out.old) (O.written out.new)) }
+
     // `list IMAGE` lists each image within the limit, and what is printed is exactly its listing.
     ensures lists_always { IfSome (F.contents folder.old) (λ files. (image : Image) →
         ListsImage (word_bytes words.now) files image → IsAnswer result → result ≡ Outcome.Done) }
@@ -139,7 +172,7 @@ pub fn ebc<F: Folder, O: Sink>(
 
     // A file is missing exactly where it is the first, in its turn, that isn't there. A number is too large exactly where it is past
     // its limit, and a file where it is the first past its own. A file is bad input exactly where it is the first that stands for no
-    // image, no notes, no object, no link plan or no option ROM, or has no image to take, by its first fault; or a plan by which objects
+    // image, no notes, no script, no object, no link plan or no option ROM, or has no image to take, by its first fault; or a plan by which objects
     // aren't linked.
     ensures missing_exactly { IfSome (F.contents folder.old) (λ files. (word : ℕ) →
         IsAnswer result → result ≡ Outcome.Missing word ↔ HasMissingFile (word_bytes words.now) files word) }

@@ -1,9 +1,11 @@
 //! The commands that words spell.
 ghost use Rattle.std.specs.Prelude.{◌≡◌, [], ◌∷◌, string_bytes, IfOk};
-ghost use Rattle.ebc_cli.specs.Commands.{command_of};
+ghost use Rattle.ebc_cli.specs.Commands.{command_of, of_five_words, of_six_words, running_of, taking_of, twinning_of, wrapping_of};
+ghost use Rattle.ebc_cli.specs.Numbers.{identifier_of, width_of};
 ghost use Rattle.cli_base.specs.Words.{word_bytes};
 
 use crate::number::{identifier_of, is_number};
+use crate::width::{Width, width_of};
 use ebc_base::Name;
 use std::alloc::{AllocError, Global};
 
@@ -33,6 +35,22 @@ pub enum Command {
         plan: Name,
         image: Name,
     },
+    /// `run WIDTH IMAGE NOTES SCRIPT STEPS`: the run of an image at a width, under notes and with a script. The number of steps is in
+    /// decimal digits, whatever its size.
+    Run {
+        width: Width,
+        image: Name,
+        notes: Name,
+        script: Name,
+        steps: Name,
+    },
+    /// `twin IMAGE NOTES SCRIPT STEPS`: its runs at both widths. The number of steps is in decimal digits, whatever its size.
+    Twin {
+        image: Name,
+        notes: Name,
+        script: Name,
+        steps: Name,
+    },
     /// `rom wrap VENDOR DEVICE IMAGE ROM`: an image in an option ROM, which is written under a name, for the device of a vendor.
     WrapRom {
         vendor: u16,
@@ -60,9 +78,9 @@ pub fn command_of(alloc: Global, words: &Vec<String>) -> Result<Option<Command>,
     match words.as_slice() {
         [word, file] => with_one_file(alloc, word, file),
         [word, one, two] => with_two_words(alloc, word, one, two),
-        [word, act, rom, number, image] => rom_taking(alloc, word, act, rom, number, image),
-        [word, act, vendor, device, image, rom] => {
-            rom_wrapping(alloc, word, act, vendor, device, image, rom)
+        [word, one, two, three, four] => of_five_words(alloc, word, one, two, three, four),
+        [word, one, two, three, four, five] => {
+            of_six_words(alloc, word, one, two, three, four, five)
         }
         _ => Ok(None),
     }
@@ -118,18 +136,111 @@ fn with_two_words(
     Ok(None)
 }
 
-fn rom_taking(
+#[tactic(auto, unfolding(crate::specs::Commands::of_five_words))]
+fn of_five_words(
     alloc: Global,
     word: &String,
-    act: &String,
+    one: &String,
+    two: &String,
+    three: &String,
+    four: &String,
+) -> Result<Option<Command>, AllocError>
+    ensures { IfOk result (λ command. command ≡ of_five_words (string_bytes word.now) (string_bytes one.now) (string_bytes two.now)
+        (string_bytes three.now) (string_bytes four.now)) }
+{
+    if word.as_str() == "twin" {
+        return twinning(alloc, one, two, three, four);
+    }
+    if word.as_str() == "rom" && one.as_str() == "take" {
+        return rom_taking(alloc, two, three, four);
+    }
+    Ok(None)
+}
+
+#[tactic(auto, unfolding(crate::specs::Commands::of_six_words))]
+fn of_six_words(
+    alloc: Global,
+    word: &String,
+    one: &String,
+    two: &String,
+    three: &String,
+    four: &String,
+    five: &String,
+) -> Result<Option<Command>, AllocError>
+    ensures { IfOk result (λ command. command ≡ of_six_words (string_bytes word.now) (string_bytes one.now) (string_bytes two.now)
+        (string_bytes three.now) (string_bytes four.now) (string_bytes five.now)) }
+{
+    if word.as_str() == "run" {
+        return running(alloc, one, two, three, four, five);
+    }
+    if word.as_str() == "rom" && one.as_str() == "wrap" {
+        return rom_wrapping(alloc, two, three, four, five);
+    }
+    Ok(None)
+}
+
+fn running(
+    alloc: Global,
+    width: &String,
+    image: &String,
+    notes: &String,
+    script: &String,
+    steps: &String,
+) -> Result<Option<Command>, AllocError>
+    ensures { IfOk result (λ command. command ≡ running_of (width_of (string_bytes width.now)) (string_bytes image.now)
+        (string_bytes notes.now) (string_bytes script.now) (string_bytes steps.now)) }
+{
+    let Some(width) = width_of(width.as_str()) else {
+        return Ok(None);
+    };
+    if !is_number(steps.as_str()) {
+        return Ok(None);
+    }
+    if image.len() == 0 || notes.len() == 0 || script.len() == 0 {
+        return Ok(None);
+    }
+    Ok(Some(Command::Run {
+        width,
+        image: Name::new(String::from_str(alloc, image.as_str())?),
+        notes: Name::new(String::from_str(alloc, notes.as_str())?),
+        script: Name::new(String::from_str(alloc, script.as_str())?),
+        steps: Name::new(String::from_str(alloc, steps.as_str())?),
+    }))
+}
+
+fn twinning(
+    alloc: Global,
+    image: &String,
+    notes: &String,
+    script: &String,
+    steps: &String,
+) -> Result<Option<Command>, AllocError>
+    ensures { IfOk result (λ command. command ≡ twinning_of (string_bytes image.now) (string_bytes notes.now)
+        (string_bytes script.now) (string_bytes steps.now)) }
+{
+    if !is_number(steps.as_str()) {
+        return Ok(None);
+    }
+    if image.len() == 0 || notes.len() == 0 || script.len() == 0 {
+        return Ok(None);
+    }
+    Ok(Some(Command::Twin {
+        image: Name::new(String::from_str(alloc, image.as_str())?),
+        notes: Name::new(String::from_str(alloc, notes.as_str())?),
+        script: Name::new(String::from_str(alloc, script.as_str())?),
+        steps: Name::new(String::from_str(alloc, steps.as_str())?),
+    }))
+}
+
+fn rom_taking(
+    alloc: Global,
     rom: &String,
     number: &String,
     image: &String,
 ) -> Result<Option<Command>, AllocError>
-    ensures { IfOk result (λ command. command ≡ command_of (string_bytes word.now ∷ string_bytes act.now ∷ string_bytes rom.now
-        ∷ string_bytes number.now ∷ string_bytes image.now ∷ [])) }
+    ensures { IfOk result (λ command. command ≡ taking_of (string_bytes rom.now) (string_bytes number.now) (string_bytes image.now)) }
 {
-    if word.as_str() != "rom" || act.as_str() != "take" || !is_number(number.as_str()) {
+    if !is_number(number.as_str()) {
         return Ok(None);
     }
     if rom.len() == 0 || image.len() == 0 {
@@ -144,19 +255,14 @@ fn rom_taking(
 
 fn rom_wrapping(
     alloc: Global,
-    word: &String,
-    act: &String,
     vendor: &String,
     device: &String,
     image: &String,
     rom: &String,
 ) -> Result<Option<Command>, AllocError>
-    ensures { IfOk result (λ command. command ≡ command_of (string_bytes word.now ∷ string_bytes act.now ∷ string_bytes vendor.now
-        ∷ string_bytes device.now ∷ string_bytes image.now ∷ string_bytes rom.now ∷ [])) }
+    ensures { IfOk result (λ command. command ≡ wrapping_of (identifier_of (string_bytes vendor.now))
+        (identifier_of (string_bytes device.now)) (string_bytes image.now) (string_bytes rom.now)) }
 {
-    if word.as_str() != "rom" || act.as_str() != "wrap" {
-        return Ok(None);
-    }
     let Some(vendor) = identifier_of(vendor.as_str()) else {
         return Ok(None);
     };

@@ -2,7 +2,7 @@
 //!
 //! The one public call is [`ebc`]. docs/COMMANDS.md lists the commands, the lines that they print and the exit
 //! status; docs/RULES.md has the rules of the check of images, docs/PLAIN.md those of the plain check,
-//! docs/ASSEMBLY.md the language of sources and what is listed of an image, docs/OBJECTS.md the file of an object, and docs/ROMS.md
+//! docs/ASSEMBLY.md the language of sources and what is listed of an image, docs/HOST.md what a run is, docs/OBJECTS.md the file of an object, and docs/ROMS.md
 //! option ROMs.
 #![tactic(auto)]
 
@@ -13,7 +13,9 @@ mod input;
 mod linking;
 mod number;
 mod rom_text;
+mod running;
 mod text;
+mod width;
 mod work;
 
 pub use answer::ebc;

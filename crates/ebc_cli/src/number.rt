@@ -2,9 +2,7 @@
 ghost use Rattle.std.specs.Prelude.{◌≡◌, ◌<◌, IfSome};
 ghost use Rattle.std.specs.List.{list_all};
 ghost use Rattle.ebc_base.specs.Names.{is_digit};
-ghost use Rattle.ebc_cli.specs.Numbers.{hex_digit, identifier_of, is_number, rom_number};
-
-use note_texts::number_in;
+ghost use Rattle.ebc_cli.specs.Numbers.{hex_digit, identifier_of, is_number};
 
 // What a hexadecimal digit counts, of which the letters are lower-case.
 fn hex_digit(byte: u8) -> Option<u8>
@@ -59,12 +57,4 @@ pub fn is_number(word: &str) -> bool
             *first != b'0' && is_digit(*first) && is_digit(*second) && all_digits(rest)
         }
     }
-}
-
-/// The number of an image in an option ROM that a word spells, where it is at most 65,535.
-pub fn rom_number(word: &str) -> Option<u32>
-    ensures { result ≡ rom_number word.now }
-{
-    let number = number_in(0, 65535, word.as_bytes())?;
-    Some(number as u32)
 }

@@ -96,11 +96,11 @@ pub fn usage(alloc: Global) -> Result<Reply, AllocError>
     ensures { IfOk result (λ r. r ≡ usage_reply) }
 {
     let text =
-        b"usage: asm SRC OBJ | link PLAN IMAGE | check CODE | check IMAGE NOTES | list IMAGE | rom wrap VENDOR DEVICE IMAGE ROM | rom list ROM | rom take ROM NUMBER IMAGE\n";
+        b"usage: asm SRC OBJ | link PLAN IMAGE | check CODE | check IMAGE NOTES | list IMAGE | run WIDTH IMAGE NOTES SCRIPT STEPS | twin IMAGE NOTES SCRIPT STEPS | rom wrap VENDOR DEVICE IMAGE ROM | rom list ROM | rom take ROM NUMBER IMAGE\n";
     Ok(printed(Outcome::BadWords, text.to_vec(alloc)?))
 }
 
-/// The answer where the file of the name stands for no notes.
+/// The answer where the file of the name stands for no notes, or for no script under them.
 pub fn bad_notes(
     alloc: Global,
     word: u8,

@@ -1,5 +1,5 @@
 //! The work that words ask for, and the reply to it.
-ghost use Rattle.std.specs.Prelude.{◌≡◌, ◌≢◌, All, None, Ok, Some, IfSome, IfOk, IsErrOf};
+ghost use Rattle.std.specs.Prelude.{◌≡◌, ◌≢◌, ◌≤◌, All, None, Ok, Some, IfSome, IfOk, IsErrOf};
 ghost use Rattle.ebc_outside.specs.Counts.{Rose};
 ghost use Rattle.note_types.specs.Records.{IsNotes};
 ghost use Rattle.option_rom.specs.Roms.{rom_of};
@@ -10,23 +10,25 @@ ghost use Rattle.cli_base.specs.Words.{word_bytes};
 ghost use Rattle.cli_base.specs.Outcomes.{IsWorkAnswer};
 ghost use Rattle.cli_base.specs.Readings.{Follows, IfStop, CommandAnswer};
 ghost use Rattle.cli_base.specs.Outputs.{written_name};
-ghost use Rattle.ebc_cli.specs.Inputs.{number_meaning, taking_meaning};
+ghost use Rattle.ebc_cli.specs.Inputs.{number_meaning, rom_number_limit, step_limit, taking_meaning};
 ghost use Rattle.cli_base.specs.Inputs.{Means};
-ghost use Rattle.ebc_cli.specs.Works.{CanBeDone, IsReplyTo, image_check, output_name, rom_taking, rom_taking_of, rom_wrapping, work_of};
+ghost use Rattle.ebc_cli.specs.Works.{CanBeDone, IsReplyTo, image_check, output_name, rom_taking, rom_taking_of, rom_wrapping, running, twinning, work_of};
 
 use crate::command::{Command, command_of};
 use crate::input::{read_as, read_with_bytes};
 use crate::linking::read_linked;
-use crate::number::rom_number;
 use crate::rom_text::rom_listing;
+use crate::running::{read_run, run_reply, twin_reply};
 use crate::text;
+use crate::width::Width;
 use cli_base::text::large;
 use cli_base::{End, Reply, file};
 use ebc_base::{Name, NoMemory, Sequence};
 use ebc_disasm::list;
 use ebc_object::{Object, write_object};
 use ebc_outside::Folder;
-use note_types::Notes;
+use note_texts::number_in;
+use note_types::{Notes, Script};
 use option_rom::{RomImage, RomImages, take, wrap};
 use pe_image::{Image, write_image};
 use std::alloc::Global;
@@ -35,6 +37,12 @@ use width_checker::check_plain;
 
 /// How many bytes a file of plain code may have.
 const PLAIN_CODE_LIMIT: u64 = 262144;
+
+/// The greatest number by which an image of an option ROM may be asked for.
+const ROM_NUMBER_LIMIT: u64 = 65535;
+
+/// How many steps a run may be asked for.
+const STEP_LIMIT: u64 = 10000000;
 
 /// What a command has to do once its files are read.
 #[derive(Drop)]
@@ -61,6 +69,21 @@ pub enum Work {
     WriteImage {
         name: Name,
         image: Image,
+    },
+    /// The run of an image at a width, under notes and with a script, for at most so many steps.
+    Run {
+        width: Width,
+        image: Image,
+        notes: Notes,
+        script: Script,
+        steps: u64,
+    },
+    /// The runs of an image at both widths.
+    Twin {
+        image: Image,
+        notes: Notes,
+        script: Script,
+        steps: u64,
     },
     /// The writing of an option ROM under a name, for the device of a vendor, with the file of an image of a subsystem in it.
     WriteRom {
@@ -125,6 +148,38 @@ pub fn read_work<F: Folder>(alloc: Global, words: &Vec<String>, folder: &mut F) 
             Ok(Work::WriteImage { name, image })
         }
         Some(
+            Command::Run {
+                width,
+                image,
+                notes,
+                script,
+                steps,
+            },
+        ) => read_running(
+            alloc,
+            width,
+            image.as_str(),
+            notes.as_str(),
+            script.as_str(),
+            steps.as_str(),
+            folder,
+        ),
+        Some(
+            Command::Twin {
+                image,
+                notes,
+                script,
+                steps,
+            },
+        ) => read_twinning(
+            alloc,
+            image.as_str(),
+            notes.as_str(),
+            script.as_str(),
+            steps.as_str(),
+            folder,
+        ),
+        Some(
             Command::WrapRom {
                 vendor,
                 device,
@@ -170,6 +225,74 @@ fn read_image_check<F: Folder>(
     }
 }
 
+// `run WIDTH IMAGE NOTES SCRIPT STEPS`
+#[tactic(auto, unfolding(crate::specs::Works::running))]
+fn read_running<F: Folder>(
+    alloc: Global,
+    width: Width,
+    image: &str,
+    notes: &str,
+    script: &str,
+    digits: &str,
+    folder: &mut F,
+) -> Result<Work, End>
+    ensures follows { IfSome (F.contents folder.old) (λ files.
+        Follows (F.asked folder.old) (F.asked folder.new) result (running width image.now notes.now script.now digits.now files)) }
+    ensures work { IfOk result CanBeDone }
+    ensures output { IfOk result (λ work. output_name work ≡ None) }
+    ensures stop { IfStop result (CommandAnswer (F.contents folder.old)
+        (F.read_faults folder.old) (F.read_faults folder.new)) }
+    ensures fault { IsErrOf result End.ReadFault →
+        Rose (F.read_faults folder.old) (F.read_faults folder.new) }
+    ensures uncounted { IfSome (F.contents folder.old) (λ _. ¬ IsErrOf result End.ReadFault →
+        F.read_faults folder.new ≡ F.read_faults folder.old) }
+    ensures contents { F.contents folder.new ≡ F.contents folder.old }
+    ensures write_faults { F.write_faults folder.new ≡ F.write_faults folder.old }
+{
+    let steps = number_of(alloc, STEP_LIMIT, 5, digits)?;
+    let (image, notes, script) = read_run(alloc, folder, 2, image, notes, script)?;
+    Ok(Work::Run {
+        width,
+        image,
+        notes,
+        script,
+        steps,
+    })
+}
+
+// `twin IMAGE NOTES SCRIPT STEPS`
+#[tactic(auto, unfolding(crate::specs::Works::twinning))]
+fn read_twinning<F: Folder>(
+    alloc: Global,
+    image: &str,
+    notes: &str,
+    script: &str,
+    digits: &str,
+    folder: &mut F,
+) -> Result<Work, End>
+    ensures follows { IfSome (F.contents folder.old) (λ files.
+        Follows (F.asked folder.old) (F.asked folder.new) result (twinning image.now notes.now script.now digits.now files)) }
+    ensures work { IfOk result CanBeDone }
+    ensures output { IfOk result (λ work. output_name work ≡ None) }
+    ensures stop { IfStop result (CommandAnswer (F.contents folder.old)
+        (F.read_faults folder.old) (F.read_faults folder.new)) }
+    ensures fault { IsErrOf result End.ReadFault →
+        Rose (F.read_faults folder.old) (F.read_faults folder.new) }
+    ensures uncounted { IfSome (F.contents folder.old) (λ _. ¬ IsErrOf result End.ReadFault →
+        F.read_faults folder.new ≡ F.read_faults folder.old) }
+    ensures contents { F.contents folder.new ≡ F.contents folder.old }
+    ensures write_faults { F.write_faults folder.new ≡ F.write_faults folder.old }
+{
+    let steps = number_of(alloc, STEP_LIMIT, 4, digits)?;
+    let (image, notes, script) = read_run(alloc, folder, 1, image, notes, script)?;
+    Ok(Work::Twin {
+        image,
+        notes,
+        script,
+        steps,
+    })
+}
+
 // `rom wrap VENDOR DEVICE IMAGE ROM`
 #[tactic(auto, unfolding(crate::specs::Works::rom_wrapping))]
 fn read_wrapping<F: Folder>(
@@ -203,11 +326,12 @@ fn read_wrapping<F: Folder>(
     })
 }
 
-// The number that a word spells, or the answer to a larger one.
-fn number_of(alloc: Global, word: u8, digits: &str) -> Result<u32, End>
-    ensures { Means result (number_meaning word digits.now) }
+// The number that a word spells, where it is within a limit, or the answer to a larger one.
+fn number_of(alloc: Global, limit: u64, word: u8, digits: &str) -> Result<u64, End>
+    ensures meaning { Means result (number_meaning limit word digits.now) }
+    ensures within { IfOk result (λ n. n ≤ limit) }
 {
-    match rom_number(digits) {
+    match number_in(0, limit, digits.as_bytes()) {
         Some(number) => Ok(number),
         None => Err(End::Stop(large(alloc, word, digits)?)),
     }
@@ -281,8 +405,8 @@ fn read_taking<F: Folder>(
     ensures contents { F.contents folder.new ≡ F.contents folder.old }
     ensures write_faults { F.write_faults folder.new ≡ F.write_faults folder.old }
 {
-    let number = number_of(alloc, 3, digits)?;
-    read_taking_of(alloc, rom, number, image, folder)
+    let number = number_of(alloc, ROM_NUMBER_LIMIT, 3, digits)?;
+    read_taking_of(alloc, rom, number as u32, image, folder)
 }
 
 impl Work {
@@ -314,6 +438,19 @@ impl Work {
                 let file = write_image(alloc, image)?;
                 Ok(text::file(name.copy(alloc)?, file))
             }
+            Work::Run {
+                width,
+                image,
+                notes,
+                script,
+                steps,
+            } => run_reply(alloc, *width, image, notes, script, *steps),
+            Work::Twin {
+                image,
+                notes,
+                script,
+                steps,
+            } => twin_reply(alloc, image, notes, script, *steps),
             Work::WriteRom {
                 name,
                 vendor,

@@ -19,3 +19,4 @@ pub mod TurnLaws
 pub mod SameEvents
 pub mod Stepping
 pub mod TypedTest
+pub mod Differing

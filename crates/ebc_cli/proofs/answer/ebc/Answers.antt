@@ -5,6 +5,7 @@ use Rattle.ebc_cli.proofs.HeadlineLemmas.{links-always, links-exactly, bad-link-
 use Rattle.ebc_cli.proofs.HeadlineLemmas.{lists-rom-always, lists-rom-exactly, takes-always, takes-exactly, bad-rom-line, bad-taking-line}
 use Rattle.ebc_cli.proofs.HeadlineLemmas.{bad-input, missing, too-large, neutral-printed, refused-printed, plain-alike, plain-exactly}
 use Rattle.ebc_cli.proofs.HeadlineLemmas.{plain-refused, plain-neutral-printed, plain-refused-printed, unput, untold}
+use Rattle.ebc_cli.proofs.RunAnswers.{runs-always, runs-exactly, twins-exactly, same-exactly, differ-exactly, twin-same}
 use Rattle.cli_base.proofs.OutputLemmas.{but-output, writes-none}
 use Rattle.ebc_cli.specs.Commands.{command_of, output_of}
 use Rattle.cli_base.specs.Words.{word_bytes}
@@ -49,6 +50,24 @@ returns-clause-neutral_alike g c = alike _ _ _ _ (tells g c)
 
 pub returns-clause-refused_exactly : goal.returns-clause-refused_exactly
 returns-clause-refused_exactly g c = refused _ _ _ _ (tells g c)
+
+pub returns-clause-runs_always : goal.returns-clause-runs_always
+returns-clause-runs_always g c = runs-always _ _ _ _ (tells g c)
+
+pub returns-clause-runs_exactly : goal.returns-clause-runs_exactly
+returns-clause-runs_exactly g c = runs-exactly _ _ _ _ _ _ (tells g c) c.finish.ensures.text
+
+pub returns-clause-twins_exactly : goal.returns-clause-twins_exactly
+returns-clause-twins_exactly g c = twins-exactly _ _ _ _ _ _ (tells g c) c.finish.ensures.text
+
+pub returns-clause-same_exactly : goal.returns-clause-same_exactly
+returns-clause-same_exactly g c = same-exactly _ _ _ _ (tells g c)
+
+pub returns-clause-differ_exactly : goal.returns-clause-differ_exactly
+returns-clause-differ_exactly g c = differ-exactly _ _ _ _ (tells g c)
+
+pub returns-clause-twin_same : goal.returns-clause-twin_same
+returns-clause-twin_same g c = twin-same _ _ _ _ _ _ (tells g c) c.finish.ensures.text
 
 pub returns-clause-lists_always : goal.returns-clause-lists_always
 returns-clause-lists_always g c = lists-always _ _ _ _ (tells g c)
