@@ -125,13 +125,13 @@ joined_found notes f s t e h g =
     }
 
 -- a leader's state, where it has one, is found
-abbrev SomeFound : Notes → FnNote → Option State → Type 0
+abbrev pub SomeFound : Notes → FnNote → Option State → Type 0
 SomeFound notes f o = (s : State) → o ≡ Some s → IsFound notes f s
 
-abbrev AllFound : Notes → FnNote → List State → Type 0
+abbrev pub AllFound : Notes → FnNote → List State → Type 0
 AllFound notes f ts = (k : ℕ) (t : State) → slice_get ts k ≡ Some t → IsFound notes f t
 
-all_in-found : (notes : Notes) (f : FnNote) (ts : List State) (had come : Option State) → SomeFound notes f had → AllFound notes f ts
+pub all_in-found : (notes : Notes) (f : FnNote) (ts : List State) (had come : Option State) → SomeFound notes f had → AllFound notes f ts
     → all_in had ts ≡ Some come → SomeFound notes f come
 unfolding all_in
 all_in-found notes f [] had come h g e = λ s q. h s (same_Some had come e ∙ q)
@@ -230,14 +230,14 @@ module _ (image : Image) (notes : Notes) (leaders : List ℕ) (states : States) 
       h.decode.well_formed h.row in
       some_at (IsFound notes f) h.successors.fall s r.0 h.falls
 
-  given_at-found : (k : ℕ) (f : FnNote) → slice_get notes.function k ≡ Some f → (leader place : ℕ) (ts : List State)
+  pub given_at-found : (k : ℕ) (f : FnNote) → slice_get notes.function k ≡ Some f → (leader place : ℕ) (ts : List State)
       → GivenAt image notes leaders states k f leader place ts → AllFound notes f ts
   given_at-found k f e leader place ts (gives_none h q) = subst (AllFound notes f) (sym q) (λ k t e. absurd cc)
   given_at-found k f e leader place ts (gives s i next x h d q g) =
       let r = row_found k f e place next s i x (comes_found k f e h.0 place s h.1) d.well_formed q in
       subst (AllFound notes f) (sym g) (given_found notes f leader next x r.0 r.1)
 
-  has_come-found : (k : ℕ) (f : FnNote) → slice_get notes.function k ≡ Some f → (leader : ℕ) → Contains leaders leader → IsWithin f leader
+  pub has_come-found : (k : ℕ) (f : FnNote) → slice_get notes.function k ≡ Some f → (leader : ℕ) → Contains leaders leader → IsWithin f leader
       → (place : ℕ) (come : Option State)
       → HasCome image notes leaders states k f leader place come → SomeFound notes f come
   unfolding HasCome

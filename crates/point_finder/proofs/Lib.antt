@@ -1,0 +1,13 @@
+pub mod Advancing
+pub mod Chains
+pub mod Failing
+pub mod Gathering
+pub mod Going
+pub mod Lone
+pub mod Passing
+pub mod PointLists
+pub mod Resting
+pub mod Rounding
+pub mod Searching
+pub mod Settling
+pub mod StatesAt

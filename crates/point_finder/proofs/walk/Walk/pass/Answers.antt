@@ -1,0 +1,171 @@
+use Rattle.std.proofs.Common.{◌≡◌, ℕ, List, Ok, refl, subst, sym, arith}
+use Rattle.std.proofs.lemmas.Result.{err_from_is_err_and}
+use Rattle.ebc_insn.specs.declared.Insn.{Insn}
+use Rattle.note_types.specs.declared.notes.FnNote.{FnNote}
+use Rattle.note_types.specs.declared.notes.Notes.{Notes}
+use Rattle.note_types.specs.declared.state.State.{State}
+use Rattle.pe_image.specs.declared.image.Image.{Image}
+use Rattle.rules_image.specs.Images.{PointHolds, RelocationHolds, reloc_at}
+use Rattle.width_checker.specs.Rows.{here_at, row_of}
+use Rattle.width_checker.proofs.Leading.{decode_later}
+use Rattle.note_infer.specs.Rounds.{States, marked}
+use Rattle.point_finder.specs.Coming.{state_at}
+use Rattle.point_finder.proofs.Failing.{clashes, falls_out, not_relocated, point_inside, row_fails}
+use Rattle.point_finder.proofs.Passing.{clash_in, no_clash_in, other_read, range_of, row_here}
+use Rattle.point_finder.proofs.walk.Walk.pass.Goals as goal
+
+pub has_no_point-requires-clause-ascend : goal.has_no_point-requires-clause-ascend
+has_no_point-requires-clause-ascend c =
+    (other_read c.args.self.now.image.now c.args.self.now.notes.now c.args.self.now.marked.now c.args.self.now.leaders.now
+    c.requires.setting).ascends
+
+pub has_no_point-requires-clause-later : goal.has_no_point-requires-clause-later
+has_no_point-requires-clause-later c =
+    decode_later c.args.self.now.image.now c.args.self.now.f.now c.args.at c.args.next c.args.insn.now c.requires.decode
+
+pub returns-then-not-has_no_point-clause-fails : goal.returns-then-not-has_no_point-clause-fails
+returns-then-not-has_no_point-clause-fails c =
+    let image : Image = c.args.self.now.image.now in
+    let notes : Notes = c.args.self.now.notes.now in
+    let leaders : List ℕ = c.args.self.now.leaders.now in
+    let f : FnNote = c.args.self.now.f.now in
+    let k : ℕ = c.args.self.now.func in
+    let i : Insn = c.args.insn.now in
+    let s : State = c.args.state.now in
+    let g = c.requires.setting in
+    let d = c.requires.decode in
+    let states : States = state_at leaders c.args.coming.now.before.items in
+    let come : States = state_at leaders c.args.coming.now.states.items in
+    point_inside image notes leaders states k f c.args.at s i c.args.next d
+    (λ h. let yes = c.has_no_point.ensures.1 (subst (λ m. PointHolds m c.args.at c.args.next) (sym g.marks) h) in
+    let is = c.if-not-has_no_point.true in cc)
+
+pub relocation-requires-clause-later : goal.relocation-requires-clause-later
+relocation-requires-clause-later c =
+    decode_later c.args.self.now.image.now c.args.self.now.f.now c.args.at c.args.next c.args.insn.now c.requires.decode
+
+pub returns-in_default-clause-fails : goal.returns-in_default-clause-fails
+returns-in_default-clause-fails c =
+    let image : Image = c.args.self.now.image.now in
+    let notes : Notes = c.args.self.now.notes.now in
+    let leaders : List ℕ = c.args.self.now.leaders.now in
+    let f : FnNote = c.args.self.now.f.now in
+    let k : ℕ = c.args.self.now.func in
+    let i : Insn = c.args.insn.now in
+    let s : State = c.args.state.now in
+    let g = c.requires.setting in
+    let d = c.requires.decode in
+    let states : States = state_at leaders c.args.coming.now.before.items in
+    let come : States = state_at leaders c.args.coming.now.states.items in
+    let point : PointHolds (marked notes leaders) c.args.at c.args.next =
+    subst (λ m. PointHolds m c.args.at c.args.next) g.marks (c.has_no_point.ensures.0 c.if-not-has_no_point.false) in
+    not_relocated image notes leaders states k f c.args.at s i c.args.next d point c.in_default.ensures.fails
+
+pub row-requires-clause-ascend : goal.row-requires-clause-ascend
+row-requires-clause-ascend c =
+    (other_read c.args.self.now.image.now c.args.self.now.notes.now c.args.self.now.marked.now c.args.self.now.leaders.now
+    c.requires.setting).ascends
+
+pub returns-in_err-after-clause-fails : goal.returns-in_err-after-clause-fails
+returns-in_err-after-clause-fails c =
+    let image : Image = c.args.self.now.image.now in
+    let notes : Notes = c.args.self.now.notes.now in
+    let leaders : List ℕ = c.args.self.now.leaders.now in
+    let f : FnNote = c.args.self.now.f.now in
+    let k : ℕ = c.args.self.now.func in
+    let i : Insn = c.args.insn.now in
+    let s : State = c.args.state.now in
+    let g = c.requires.setting in
+    let d = c.requires.decode in
+    let states : States = state_at leaders c.args.coming.now.before.items in
+    let come : States = state_at leaders c.args.coming.now.states.items in
+    let point : PointHolds (marked notes leaders) c.args.at c.args.next =
+    subst (λ m. PointHolds m c.args.at c.args.next) g.marks (c.has_no_point.ensures.0 c.if-not-has_no_point.false) in
+    let reloc : RelocationHolds image notes c.args.at i c.args.next (reloc_at image c.args.next) =
+    subst (RelocationHolds image notes c.args.at i c.args.next) c.in-Ok.ensures.holds.0 c.in-Ok.ensures.holds.1 in
+    let p = err_from_is_err_and c.from_residual.result c.from_residual.ensures.1 in
+    rw (p.1, p.2)
+    (row_fails image notes leaders states k f c.args.at s i c.args.next d point reloc _
+    (row_here image notes c.args.self.now.marked.now leaders k c.args.at c.args.next c.in-Ok.reloc s i _ g.marks c.in-Ok.ensures.holds.0
+    c.in_err-after.ensures))
+
+pub returns-then-not-take_after-clause-fails : goal.returns-then-not-take_after-clause-fails
+returns-then-not-take_after-clause-fails c =
+    let image : Image = c.args.self.now.image.now in
+    let notes : Notes = c.args.self.now.notes.now in
+    let leaders : List ℕ = c.args.self.now.leaders.now in
+    let f : FnNote = c.args.self.now.f.now in
+    let k : ℕ = c.args.self.now.func in
+    let i : Insn = c.args.insn.now in
+    let s : State = c.args.state.now in
+    let g = c.requires.setting in
+    let d = c.requires.decode in
+    let states : States = state_at leaders c.args.coming.now.before.items in
+    let come : States = state_at leaders c.args.coming.now.states.items in
+    let point : PointHolds (marked notes leaders) c.args.at c.args.next =
+    subst (λ m. PointHolds m c.args.at c.args.next) g.marks (c.has_no_point.ensures.0 c.if-not-has_no_point.false) in
+    let reloc : RelocationHolds image notes c.args.at i c.args.next (reloc_at image c.args.next) =
+    subst (RelocationHolds image notes c.args.at i c.args.next) c.in-Ok.ensures.holds.0 c.in-Ok.ensures.holds.1 in
+    let row : row_of (marked notes leaders) (here_at image k c.args.at c.args.next) s i ≡ Ok c.in_ok-after.after =
+    row_here image notes c.args.self.now.marked.now leaders k c.args.at c.args.next c.in-Ok.reloc s i (Ok c.in_ok-after.after) g.marks
+    c.in-Ok.ensures.holds.0 c.in_ok-after.ensures in
+    clashes image notes leaders states k f c.args.at s i c.args.next d point reloc c.in_ok-after.after row
+    (clash_in image notes leaders states come k f c.args.at c.args.next c.in_ok-after.after c.requires.there (omega (arith, c.requires.within))
+    c.requires.reached c.if-not-take_after.ensures.clash)
+
+pub returns-then-not-ends_within-clause-fails : goal.returns-then-not-ends_within-clause-fails
+returns-then-not-ends_within-clause-fails c =
+    let image : Image = c.args.self.now.image.now in
+    let notes : Notes = c.args.self.now.notes.now in
+    let leaders : List ℕ = c.args.self.now.leaders.now in
+    let f : FnNote = c.args.self.now.f.now in
+    let k : ℕ = c.args.self.now.func in
+    let i : Insn = c.args.insn.now in
+    let s : State = c.args.state.now in
+    let g = c.requires.setting in
+    let d = c.requires.decode in
+    let states : States = state_at leaders c.args.coming.now.before.items in
+    let come : States = state_at leaders c.args.coming.now.states.items in
+    let point : PointHolds (marked notes leaders) c.args.at c.args.next =
+    subst (λ m. PointHolds m c.args.at c.args.next) g.marks (c.has_no_point.ensures.0 c.if-not-has_no_point.false) in
+    let reloc : RelocationHolds image notes c.args.at i c.args.next (reloc_at image c.args.next) =
+    subst (RelocationHolds image notes c.args.at i c.args.next) c.in-Ok.ensures.holds.0 c.in-Ok.ensures.holds.1 in
+    let row : row_of (marked notes leaders) (here_at image k c.args.at c.args.next) s i ≡ Ok c.in_ok-after.after =
+    row_here image notes c.args.self.now.marked.now leaders k c.args.at c.args.next c.in-Ok.reloc s i (Ok c.in_ok-after.after) g.marks
+    c.in-Ok.ensures.holds.0 c.in_ok-after.ensures in
+    falls_out image notes leaders states k f c.args.at s i c.args.next d point reloc c.in_ok-after.after row
+    (no_clash_in image notes leaders states come (state_at leaders c.take_after.new.self.states.items) k f c.args.at c.args.next
+    c.in_ok-after.after c.requires.there (range_of image notes c.args.self.now.marked.now leaders g k f c.requires.there)
+    (omega (arith, c.requires.within)) c.requires.reached c.if-not-take_after.ensures.taken)
+    (λ h. let yes = c.ends_within.ensures.1 h in let is = c.if-not-ends_within.true in cc)
+
+pub returns-clause-passes : goal.returns-clause-passes
+returns-clause-passes c =
+    let image : Image = c.args.self.now.image.now in
+    let notes : Notes = c.args.self.now.notes.now in
+    let leaders : List ℕ = c.args.self.now.leaders.now in
+    let f : FnNote = c.args.self.now.f.now in
+    let k : ℕ = c.args.self.now.func in
+    let i : Insn = c.args.insn.now in
+    let s : State = c.args.state.now in
+    let g = c.requires.setting in
+    let d = c.requires.decode in
+    let states : States = state_at leaders c.args.coming.now.before.items in
+    let come : States = state_at leaders c.args.coming.now.states.items in
+    let point : PointHolds (marked notes leaders) c.args.at c.args.next =
+    subst (λ m. PointHolds m c.args.at c.args.next) g.marks (c.has_no_point.ensures.0 c.if-not-has_no_point.false) in
+    let reloc : RelocationHolds image notes c.args.at i c.args.next (reloc_at image c.args.next) =
+    subst (RelocationHolds image notes c.args.at i c.args.next) c.in-Ok.ensures.holds.0 c.in-Ok.ensures.holds.1 in
+    let row : row_of (marked notes leaders) (here_at image k c.args.at c.args.next) s i ≡ Ok c.in_ok-after.after =
+    row_here image notes c.args.self.now.marked.now leaders k c.args.at c.args.next c.in-Ok.reloc s i (Ok c.in_ok-after.after) g.marks
+    c.in-Ok.ensures.holds.0 c.in_ok-after.ensures in
+    record {
+      decode = d;
+      point = point;
+      relocation = reloc;
+      x = c.in_ok-after.after;
+      row = row;
+      takes = c.if-not-take_after.ensures.taken;
+      ends = c.ends_within.ensures.0 c.if-not-ends_within.false;
+      fall_is = refl;
+    }

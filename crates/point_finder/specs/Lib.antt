@@ -1,0 +1,5 @@
+pub mod Coming
+pub mod Finding
+pub mod Passing
+pub mod Reaching
+pub mod Starting

@@ -1,0 +1,67 @@
+//! Rounds, until one changes nothing.
+
+ghost use Rattle.std.specs.Prelude.{◌≡◌, ◌^◌, IfErr, OnOk, map};
+ghost use Rattle.note_infer.specs.PointStates.{AreFound};
+ghost use Rattle.note_infer.specs.Rounds.{IsStuck};
+ghost use Rattle.point_finder.specs.Coming.{IsComing, state_at};
+ghost use Rattle.point_finder.specs.Passing.{IsSetting};
+ghost use Rattle.point_finder.specs.Reaching.{AllRest, Reached};
+ghost use Rattle.point_finder.specs.Starting.{AreStarts};
+
+use crate::coming::Coming;
+use crate::walk::{Stop, Walk};
+use note_types::{Notes, State};
+use pe_image::Image;
+
+/// Where a walk begins: the number of a function, a place of its code, and the state there.
+#[derive(Drop)]
+pub(crate) struct Start {
+    pub func: u32,
+    pub place: u32,
+    pub state: State,
+}
+
+/// An image under notes, the same notes with the leaders as points, and the leaders.
+#[derive(Clone, Copy)]
+pub(crate) struct Rounds<'a> {
+    pub image: &'a Image,
+    pub notes: &'a Notes,
+    pub marked: &'a Notes,
+    pub leaders: &'a [u32],
+}
+
+impl<'a> Rounds<'a> {
+    /// Walks on from each of these starts.
+    ///
+    /// # Errors
+    ///
+    /// The round is stuck.
+    pub fn walk_all(&self, starts: &[Start], coming: &mut Coming) -> Result<(), Stop>
+        requires setting { IsSetting self.now.image.now self.now.notes.now self.now.marked.now self.now.leaders.now }
+        requires found { AreFound self.now.notes.now self.now.leaders.now (state_at self.now.leaders.now coming.old.before.items) }
+        requires starts { AreStarts self.now.notes.now self.now.leaders.now (state_at self.now.leaders.now coming.old.before.items) starts.now }
+        requires rest { AllRest self.now.image.now self.now.notes.now self.now.leaders.now (state_at self.now.leaders.now coming.old.before.items) (map (λ x. x.place) starts.now) }
+        requires coming { IsComing self.now.leaders.now coming.old }
+        requires reached { Reached self.now.image.now self.now.notes.now self.now.leaders.now (state_at self.now.leaders.now coming.old.before.items) (state_at self.now.leaders.now coming.old.states.items) 0 }
+        ensures reached { OnOk result (Reached self.now.image.now self.now.notes.now self.now.leaders.now (state_at self.now.leaders.now coming.new.before.items) (state_at self.now.leaders.now coming.new.states.items) (2 ^ 22)) }
+        ensures stuck { IfErr result (λ stop. IsStuck self.now.image.now self.now.notes.now self.now.leaders.now (state_at self.now.leaders.now coming.old.before.items) stop.place stop.rule stop.state) }
+        ensures coming { OnOk result (IsComing self.now.leaders.now coming.new) }
+        ensures before { coming.new.before.items ≡ coming.old.before.items }
+    {
+        for start in starts {
+            let walk = Walk {
+                image: self.image,
+                notes: self.notes,
+                marked: self.marked,
+                leaders: self.leaders,
+                func: start.func,
+                f: &self.notes.function.as_slice()[start.func as usize],
+            };
+            match walk.go(start.place, &start.state, coming) {
+                Ok(()) => {}
+                Err(stop) => return Err(stop),
+            }
+        }
+        Ok(())
+    }
+}
