@@ -1,5 +1,5 @@
 -- The causes of a reply at which a reading of files stops, and those that commands share.
-use Rattle.std.proofs.Common.{◌≡◌, ◌⊎◌, ℕ, ◌^◌, ◌<◌, List, Result, Ok, Err, inl, inr, refl, sym, ap}
+use Rattle.std.proofs.Common.{◌≡◌, ◌⊎◌, ℕ, ◌^◌, ◌<◌, List, Err, inl, inr, refl, sym, ap}
 use Rattle.ebc_outside.specs.Files.{Files}
 use Rattle.pe_image.specs.declared.fault.ImageFault.{ImageFault}
 use Rattle.pe_image.specs.Images.{image_of}
@@ -11,8 +11,8 @@ use Rattle.cli_base.specs.Faults.{image_fault_number}
 use Rattle.cli_base.specs.Inputs.{bad_image_reply, image_limit, image_meaning}
 use Rattle.ebc_cli.specs.Faults.{toml_fault_number}
 use Rattle.ebc_cli.specs.Inputs.{bad_notes_reply, notes_limit, notes_meaning, number_meaning}
-use Rattle.ebc_cli.specs.Answers.{HasFile, NamesImage, ComesToNotes, HasTurn, image_turn, notes_turn, HasMissingFile, HasLargeFile}
-use Rattle.ebc_cli.specs.Answers.{HasBadImage, HasBadNotes, HasBadInput, bad_image, bad_notes, IsTooLarge, large_file, large_number}
+use Rattle.ebc_cli.specs.Answers.{HasFile, NamesImage, ComesToNotes, HasTurn, image_turn, notes_turn, HasMissingFile}
+use Rattle.ebc_cli.specs.Answers.{HasBadInput, bad_image, bad_notes, IsTooLarge, large_file, large_number}
 use Rattle.ebc_cli.specs.Answers.{NamesNumber}
 use Rattle.ebc_cli.proofs.InputLemmas.{NotRead, is_gone, is_past, IsRead, or-err}
 use Rattle.ebc_cli.proofs.NumberLemmas.{number-err, past-number}

@@ -1,5 +1,5 @@
 -- The numbers among the words: which digits spell one within its limit, and which is past it.
-use Rattle.std.proofs.Common.{◌≡◌, ◌≢◌, ℕ, ◌^◌, ◌<◌, ◌≤◌, List, Option, Some, None, Result, Ok, Err, refl, sym, ap, ◌∙◌, arith}
+use Rattle.std.proofs.Common.{◌≡◌, ◌≢◌, ℕ, ◌^◌, ◌<◌, ◌≤◌, List, Option, Some, None, Ok, Err, refl, sym, ap, ◌∙◌, arith}
 use Rattle.std.specs.Fmt.{decimal}
 use Rattle.ebc_base.specs.Steps.{or_else}
 use Rattle.note_texts.proofs.NumberRanges.{number_in-complete, number_in-sound}

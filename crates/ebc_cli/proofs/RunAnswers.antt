@@ -97,7 +97,8 @@ ends-exactly image notes script steps reply outcome differ t same =
       λ least. is ∙ ap twin_outcome (one_differs image (world_of image notes script) steps t.report.differ differ t.shown.differ least),
     )
 
-pub same-exactly : (contents : Option Files) (words : List (List ℕ)) (reply : Reply) (outcome : Outcome) → Tells contents words reply outcome
+pub same-exactly : (contents : Option Files) (words : List (List ℕ)) (reply : Reply) (outcome : Outcome)
+    → Tells contents words reply outcome
     → IfSome contents (λ files. (image : Image) (notes : Notes) (script : Script) (steps : ℕ)
     → TwinsImage words files image notes script steps → IsAnswer outcome
     → outcome ≡ outcomes.Done ↔ DifferAt image (world_of image notes script) steps None)

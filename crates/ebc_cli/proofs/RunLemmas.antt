@@ -1,7 +1,5 @@
 -- The readings of `run` and `twin`: why one stops, and what the files of a run come to.
-use Rattle.std.proofs.Common.{◌≡◌, ◌⊎◌, ℕ, ◌+◌, ◌≤◌, List, [], Some, Result, Ok, Err, inl, inr, refl, sym, arith}
-use Rattle.std.specs.FinMap.{get}
-use Rattle.std.specs.Fmt.{decimal}
+use Rattle.std.proofs.Common.{◌≡◌, ◌⊎◌, ℕ, ◌+◌, List, [], Some, Ok, Err, inl, inr, refl, sym, arith}
 use Rattle.ebc_outside.specs.Files.{Files}
 use Rattle.note_types.specs.declared.notes.Notes.{Notes}
 use Rattle.note_types.specs.declared.script.Script.{Script}
@@ -11,20 +9,21 @@ use Rattle.protocol_script.specs.Scripts.{script_of}
 use Rattle.type_notes.specs.Notes.{notes_of}
 use Rattle.cli_base.specs.declared.reply.Reply.{Reply}
 use Rattle.cli_base.specs.Inputs.{bad_image_reply, image_limit, image_meaning}
-use Rattle.cli_base.specs.Readings.{◌>>=◌, done, measured}
+use Rattle.cli_base.specs.Readings.{◌>>=◌, done}
 use Rattle.ebc_cli.specs.declared.command.Command.TheVariants.{Run, Twin}
 use Rattle.ebc_cli.specs.declared.width.Width.{Width}
 use Rattle.ebc_cli.specs.declared.work.Work.TheVariants as works
 use Rattle.ebc_cli.specs.Commands.{command_of}
 use Rattle.ebc_cli.specs.Faults.{toml_fault_number}
-use Rattle.ebc_cli.specs.Inputs.{bad_notes_reply, input, notes_limit, notes_meaning, number_meaning, script_limit, script_meaning, step_limit}
+use Rattle.ebc_cli.specs.Inputs.{bad_notes_reply, input, notes_limit, notes_meaning, number_meaning, script_limit, script_meaning}
+use Rattle.ebc_cli.specs.Inputs.{step_limit}
 use Rattle.ebc_cli.specs.Runnings.{run_files}
 use Rattle.ebc_cli.specs.Works.{running, twinning, work_of}
-use Rattle.ebc_cli.specs.Answers.{HasFile, HasRunFiles, RunsImage, TwinsImage, NamesRun, to_run, to_twin, to_run_on, to_run_under}
+use Rattle.ebc_cli.specs.Answers.{HasRunFiles, RunsImage, TwinsImage, NamesRun, to_run, to_twin, to_run_on, to_run_under}
 use Rattle.ebc_cli.specs.Answers.{ComesToScript, script_turn, bad_script, run_steps, twin_steps}
 use Rattle.ebc_cli.proofs.CauseLemmas.{Stops, bad_file, image-stops, notes-stops, number-stops, outcome-of, turn-stops}
 use Rattle.ebc_cli.proofs.InputLemmas.{NotRead, IsRead, first_stops, second_stops, go-on-err, input-err, input-ok, one-stop, or-err, or-ok}
-use Rattle.ebc_cli.proofs.InputLemmas.{read-means, unread-means}
+use Rattle.ebc_cli.proofs.InputLemmas.{read-means}
 use Rattle.ebc_cli.proofs.NumberLemmas.{number-ok, number-read, step-number}
 use Rattle.ebc_cli.proofs.RunReadings.{whole}
 

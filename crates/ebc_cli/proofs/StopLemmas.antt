@@ -1,8 +1,7 @@
 -- What comes of reading the files that words name: the work, or the reply at which the reading stops, by its cause.
-use Rattle.std.proofs.Common.{◌≡◌, ◌↔◌, ◌⊎◌, ℕ, ◌+◌, ◌<◌, ◌≤◌, List, [], ◌∷◌, ◌++◌, length, Option, Some, None, Result, Ok, Err}
-use Rattle.std.proofs.Common.{Bool, true, false, nat_lt, if◌then◌else◌, inl, inr, refl, sym, ap, ◌∙◌, arith}
+use Rattle.std.proofs.Common.{◌≡◌, ◌↔◌, ◌⊎◌, ℕ, ◌+◌, ◌≤◌, List, [], ◌∷◌, ◌++◌, length, Option, Some, None, Result, Ok, Err}
+use Rattle.std.proofs.Common.{inl, inr, refl, sym, ap, ◌∙◌, arith}
 use Rattle.std.proofs.lemmas.Bool.{le-ltb, lt-ltb}
-use Rattle.std.proofs.lemmas.Bool.Decides.{nat_tests}
 use Rattle.std.specs.FinMap.{get}
 use Rattle.std.specs.Fmt.{decimal}
 use Rattle.asm_text.specs.Faults.{asm_fault_number}
@@ -27,7 +26,6 @@ use Rattle.option_rom.proofs.Walks.{fault-read, read-fault, read-rom, rom-read}
 use Rattle.pe_image.specs.declared.fault.ImageFault.{ImageFault}
 use Rattle.pe_image.specs.declared.image.Image.{Image}
 use Rattle.pe_image.specs.Images.{image_of}
-use Rattle.type_notes.specs.Notes.{notes_of}
 use Rattle.plain_check.specs.declared.verdict.Verdict.{Verdict}
 use Rattle.plain_check.specs.declared.verdict.Verdict.TheVariants.{Neutral, Refused}
 use Rattle.plain_check.specs.PlainChecks.{plain_verdict}
@@ -41,12 +39,11 @@ use Rattle.ebc_cli.specs.declared.work.Work.{Work}
 use Rattle.ebc_cli.specs.declared.work.Work.TheVariants as works
 use Rattle.ebc_cli.specs.Commands.{command_of}
 use Rattle.ebc_cli.specs.Faults.{link_fault_number, object_fault_number, rom_fault_number}
-use Rattle.cli_base.specs.Faults.{image_fault_number}
 use Rattle.ebc_cli.specs.Faults.{take_fault_number, toml_fault_number}
 use Rattle.cli_base.specs.Outcomes.{IsWorkAnswer}
 use Rattle.cli_base.specs.Readings.{FileReading, ◌>>=◌, file, measured, go_on, done, told, missing_reply, large_reply}
 use Rattle.ebc_cli.specs.Inputs.{input, notes_limit, notes_meaning, source_limit, source_meaning}
-use Rattle.cli_base.specs.Inputs.{or_reply, image_limit, image_meaning}
+use Rattle.cli_base.specs.Inputs.{image_limit, image_meaning}
 use Rattle.ebc_cli.specs.Inputs.{bad_notes_reply, bad_source_reply, script_limit, script_meaning}
 use Rattle.cli_base.specs.Inputs.{bad_image_reply}
 use Rattle.ebc_cli.specs.Inputs.{input_with_bytes, rom_limit, rom_meaning, bad_rom_reply, bad_taking_reply, taking_offset, taking_meaning}
@@ -64,17 +61,18 @@ use Rattle.ebc_cli.specs.Answers.{ComesToNotes, HasTurn, code_turn, image_turn, 
 use Rattle.ebc_cli.specs.Answers.{HasLargeFile, HasBadImage, HasBadLine, HasBadNotes, HasBadInput, bad_image, bad_notes, bad_source}
 use Rattle.ebc_cli.specs.Answers.{bad_link, bad_object, bad_plan, bad_rom, bad_taking}
 use Rattle.ebc_cli.specs.Answers.{ComesToObject, HasBadLink, HasBadObject, HasBadPlan, HasPlan, Links, object_turn, plan_turn}
-use Rattle.ebc_cli.proofs.LinkLemmas.{ObjectStops, object-unread, objects-read, objects-stop, objects-stopped, objects-value}
-use Rattle.ebc_cli.proofs.InputLemmas.{OneStops, first_stops, second_stops, go-on-err, NotRead, is_gone, is_past, measured-err, IsRead}
+use Rattle.ebc_cli.proofs.LinkLemmas.{object-unread, objects-read, objects-stop, objects-stopped, objects-value}
+use Rattle.ebc_cli.proofs.InputLemmas.{OneStops, first_stops, second_stops, go-on-err, NotRead, measured-err, IsRead}
 use Rattle.ebc_cli.proofs.InputLemmas.{input-ok, input-err, IsReadWith, input-with-ok, input-with-err, or-err, or-ok, one-stop}
 use Rattle.ebc_cli.proofs.InputLemmas.{read-means, unread-means}
-use Rattle.ebc_cli.proofs.CauseLemmas.{Stops, no_command, missing_file, too_large, bad_file, outcome-of, turn-stops, image-stops, notes-stops}
-use Rattle.ebc_cli.proofs.CauseLemmas.{number-stops}
+use Rattle.ebc_cli.proofs.CauseLemmas.{Stops, no_command, missing_file, too_large, bad_file, outcome-of, turn-stops, image-stops}
+use Rattle.ebc_cli.proofs.CauseLemmas.{notes-stops, number-stops}
 use Rattle.ebc_cli.proofs.NumberLemmas.{number-ok, number-past, number-read, rom-number}
 use Rattle.ebc_cli.proofs.RomLemmas.{taken-err, taken-none}
 use Rattle.ebc_cli.proofs.RunLemmas.{run-image-stopped, run-notes-stopped, run-script-stopped, run-stopped, running-stops, twinning-stops}
 use Rattle.ebc_cli.specs.Answers.{Wraps, ListsRom, TakesFrom, Takes, NamesRom, to_list_rom, to_take, HasBadRom, HasBadTaking}
-use Rattle.ebc_cli.specs.Answers.{HasLargeNumber, IsTooLarge, large_number, large_file, to_run_on, to_check_under, to_run_under, script_turn}
+use Rattle.ebc_cli.specs.Answers.{HasLargeNumber, IsTooLarge, large_number, large_file, to_run_on, to_check_under, to_run_under}
+use Rattle.ebc_cli.specs.Answers.{script_turn}
 use Rattle.ebc_cli.specs.Answers.{NamesNotes, HasBadScript, bad_script, NamesNumber, image_number, run_steps, twin_steps}
 
 source-fault : (words : List (List ℕ)) (files : Files) (name object_name text : List ℕ) (p : AsmFault × ℕ) (reply : Reply)
@@ -149,7 +147,8 @@ check-stops words files reply a b command (second_stops image goes stops) =
 
 -- where taking an image out of an option ROM that was read stops, it has none to take
 taking-stops : (words : List (List ℕ)) (files : Files) (reply : Reply) (a b : List ℕ) (number : ℕ) (read : List RomImage × List ℕ)
-    → command_of words ≡ Some (TakeRom a (decimal number) b) → number ≤ rom_number_limit → IsReadWith rom_limit (rom_meaning 2 a) a files read
+    → command_of words ≡ Some (TakeRom a (decimal number) b) → number ≤ rom_number_limit
+    → IsReadWith rom_limit (rom_meaning 2 a) a files read
     → taking_meaning 2 a read.1 read.0 number ≡ Err reply → Stops words files reply.outcome
 taking-stops words files reply a b number read command within is_read stops =
     let failed = or-err (bad_taking_reply 2 a read.0 number) (bytes_taken read.1 read.0 number) reply stops in
@@ -657,7 +656,8 @@ stopped (Ok (works.CheckCode code)) reply told none = absurd (none (works-by rep
 stopped (Ok (works.CheckImage image notes)) reply told none = absurd (none (works-by reply _ told.told (verdict-works told.verdict)))
 stopped (Ok (works.ListImage image)) reply told none = absurd (none (works-by reply _ told tt))
 stopped (Ok (works.Run width image notes script steps)) reply told none = absurd (none (works-by reply _ told.told tt))
-stopped (Ok (works.Twin image notes script steps)) reply told none = absurd (none (works-by reply _ told.told (twin-works told.report.differ)))
+stopped (Ok (works.Twin image notes script steps)) reply told none =
+    absurd (none (works-by reply _ told.told (twin-works told.report.differ)))
 stopped (Ok (works.WriteObject name object)) reply told none = absurd (none (works-by reply _ told tt))
 stopped (Ok (works.WriteImage name image)) reply told none = absurd (none (works-by reply _ told tt))
 stopped (Ok (works.WriteRom name vendor device subsystem image)) reply told none = absurd (none (works-by reply _ told tt))

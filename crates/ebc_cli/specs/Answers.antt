@@ -358,8 +358,8 @@ pub record HasBadLink (words : List (List ℕ)) (files : Files) (name : List ℕ
 -- turn comes
 pub data NamesRom (words : List (List ℕ)) (name : List ℕ) : Type 0 where
   to_list_rom : command_of words ≡ Some (ListRom name) → NamesRom words name
-  to_take : (number : ℕ) (image_name : List ℕ) → number ≤ rom_number_limit → command_of words ≡ Some (TakeRom name (decimal number) image_name)
-      → NamesRom words name
+  to_take : (number : ℕ) (image_name : List ℕ) → number ≤ rom_number_limit
+      → command_of words ≡ Some (TakeRom name (decimal number) image_name) → NamesRom words name
 
 -- the file of the option ROM, of this name, is none: this is its first fault, at this offset
 pub record HasBadRom (words : List (List ℕ)) (files : Files) (name : List ℕ) (kind : RomFault) (offset : ℕ) : Type 0 where

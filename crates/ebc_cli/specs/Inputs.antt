@@ -1,6 +1,6 @@
 -- Meaning: the notes, scripts, sources, link plans, objects and option ROMs that files hold, or the reply to the first fault:
 -- docs/COMMANDS.md, "The answer".
-use Rattle.std.specs.Prelude.{◌≡◌, ℕ, ◌-◌, List, length, Result, Ok, Err, slice_get}
+use Rattle.std.specs.Prelude.{ℕ, ◌-◌, List, length, Result, slice_get}
 use Rattle.std.specs.Option.{option_map_or}
 use Rattle.std.specs.Fmt.{decimal}
 use Rattle.asm_text.specs.Faults.{asm_fault_number}

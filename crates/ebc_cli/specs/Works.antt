@@ -6,7 +6,6 @@ use Rattle.ebc_object.specs.Objects.{IsObject}
 use Rattle.ebc_outside.specs.Files.{Files}
 use Rattle.note_types.specs.declared.notes.Notes.{Notes}
 use Rattle.note_types.specs.declared.rule.RuleName.{RuleName}
-use Rattle.note_types.specs.declared.script.Script.{Script}
 use Rattle.note_types.specs.Records.{IsNotes}
 use Rattle.host_model.specs.Scripts.{IsScript}
 use Rattle.option_rom.specs.Files.{rom_bytes}
@@ -139,8 +138,8 @@ work_of words files = work_for (command_of words) files
 -- ---- what is replied
 
 -- code that was read is within its limit, what was read as an image is one, what was read as notes are notes, what was read as a script
--- is one under them, what a source stands for is an object, what objects are linked to is in the linker's layout, and the file that goes into an option ROM is within
--- the limit of images
+-- is one under them, what a source stands for is an object, what objects are linked to is in the linker's layout, and the file that goes
+-- into an option ROM is within the limit of images
 abbrev pub CanBeDone : Work → Type 0
 CanBeDone (works.CheckCode code) = length code ≤ plain_code_limit
 CanBeDone (works.CheckImage image notes) = IsReadImage image × IsNotes notes

@@ -21,4 +21,5 @@ pub one_differs : (image : Image) (world : World) (limit : â„•) (a b : Option â„
 one_differs image world limit _ _ (nowhere all) (nowhere also) = refl
 one_differs image world limit _ _ (nowhere all) (first k most n before) = absurd (n (all k most))
 one_differs image world limit _ _ (first k most n before) (nowhere all) = absurd (n (all k most))
-one_differs image world limit _ _ (first k most n before) (first j within m earlier) = ap Some (same_first image world k j n before m earlier)
+one_differs image world limit _ _ (first k most n before) (first j within m earlier) =
+    ap Some (same_first image world k j n before m earlier)

@@ -24,7 +24,7 @@ use Rattle.twin_run.specs.declared.runner.Runner.{Runner}
 use Rattle.twin_run.proofs.Stepping.{ended-is-last, step-tells}
 
 -- each number below the next one is below this one, or is this one
-pub below-next : (j k : ℕ) → j < k + 1 → (j < k) ⊎ (j ≡ k)
+below-next : (j k : ℕ) → j < k + 1 → (j < k) ⊎ (j ≡ k)
 below-next j k l = elim (cases_lt j k) as (λ _. (j < k) ⊎ (j ≡ k)) [ inl m ↦ inl m | inr m ↦ inr (omega (arith, l, m)) ]
 
 -- ---- one run
@@ -73,11 +73,6 @@ module _ (w : ℕ) (image : Image) (world : World) where
         ending = ending at on.there ∙ ap (λ (r : RunState). r.ending) back;
         events = events at on.there ∙ ap (λ (r : RunState). r.trace) back;
       }
-
-  -- a runner on its way is the runner of some run
-  pub runs : (notes : Notes) (script : Script) (limit k : ℕ) (x : Runner w) → world.notes ≡ notes → world.script ≡ script
-      → IsOnItsWay w image world limit k x → Runs w notes script x
-  runs notes script limit k x n s on = record { world = world; its_notes = n; its_script = s; state = own_run w image world k; is = on.there }
 
   -- once it has ended a run stays as it is
   stays : (k j : ℕ) → k ≤ j → (own_run w image world k).ending ≢ Running → own_run w image world j ≡ own_run w image world k

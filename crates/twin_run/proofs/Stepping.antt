@@ -14,8 +14,8 @@ use Rattle.note_types.specs.declared.exception.Exception.TheVariants as raises
 use Rattle.host_model.specs.HostPlans.{Plan, View, host_plan, host_turn, is_due}
 use Rattle.host_model.specs.HostPlans.{Finishes, Leaves, Accepts, Enters, Replies, Resumes, Notifies, Ends}
 use Rattle.host_model.specs.HostPlans.{ThunkView, Names, NamesNone, NotMapped, function_params}
-use Rattle.host_model.specs.HostSteps.{call_under_way, entered, frame_for, host_step, host_view, inside, left, performed, resumed, thunk_made}
-use Rattle.host_model.specs.HostSteps.{objects_at, thunk_view, with_call, written_number}
+use Rattle.host_model.specs.HostSteps.{call_under_way, entered, frame_for, host_step, host_view, inside, left, performed}
+use Rattle.host_model.specs.HostSteps.{objects_at, resumed, thunk_made, thunk_view, with_call, written_number}
 use Rattle.host_model.specs.Placements.{Placement, code_at}
 use Rattle.host_model.specs.Progress.{one_callback, one_instruction, one_notification}
 use Rattle.host_model.specs.RunState.{RunState, SavedFrame}

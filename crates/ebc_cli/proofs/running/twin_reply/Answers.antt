@@ -1,5 +1,4 @@
 use Rattle.std.proofs.Common.{refl}
-use Rattle.cli_base.specs.Outputs.{prints}
 use Rattle.ebc_cli.proofs.running.twin_reply.Goals as goal
 
 pub returns-clause-tells : goal.returns-clause-tells
