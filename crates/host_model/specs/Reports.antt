@@ -1,4 +1,4 @@
--- For proofs: what a run shows: where it stands, the events, and how it ended. docs/HOST.md, "Runs".
+-- Meaning: what a run shows: where it stands, the events, and how it ended. docs/HOST.md, "Runs".
 use Rattle.std.specs.Prelude.{ℕ, List}
 use Rattle.note_types.specs.declared.ending.Ending.{Ending}
 use Rattle.note_types.specs.declared.event.Event.{Event}

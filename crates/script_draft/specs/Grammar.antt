@@ -1,4 +1,4 @@
--- For proofs: the grammar of values and arguments: what each text is made of, by what it stands for. docs/SCRIPTS.md,
+-- Meaning: the grammar of values and arguments: what each text is made of, by what it stands for. docs/SCRIPTS.md,
 -- "Texts".
 use Rattle.std.specs.Prelude.{◌≡◌, ℕ, ◌^◌, ◌<◌, ◌≤◌, List, ◌++◌, codes, ⊤}
 use Rattle.std.specs.Fmt.{decimal}

@@ -1,4 +1,4 @@
--- For proofs: the texts of values that reports print: those of scripts, with things of the notes by their names, and `wild`
+-- Meaning: the texts of values that reports print: those of scripts, with things of the notes by their names, and `wild`
 -- with 16 hexadecimal digits. docs/SCRIPTS.md, "Texts".
 use Rattle.std.specs.Prelude.{ℕ, ◌/◌, ◌%◌, zero, suc, List, [], ◌∷◌, ◌++◌, Option, Some, None, codes, if◌then◌else◌, option_map, slice_get}
 use Rattle.std.specs.Option.{option_map_or}

@@ -1,4 +1,4 @@
--- For proofs: where two runs part: the least number of steps after which they aren't the same. docs/HOST.md, "Runs".
+-- Meaning: where two runs part: the least number of steps after which they aren't the same. docs/HOST.md, "Runs".
 use Rattle.std.specs.Prelude.{ℕ, ◌<◌, ◌≤◌, Option, Some, None}
 use Rattle.pe_image.specs.declared.image.Image.{Image}
 use Rattle.host_model.specs.Placements.{own_placement}
