@@ -237,7 +237,8 @@ module _ (image : Image) (notes : Notes) (leaders : List ℕ) (states : States) 
       let r = row_found k f e place next s i x (comes_found k f e h.0 place s h.1) d.well_formed q in
       subst (AllFound notes f) (sym g) (given_found notes f leader next x r.0 r.1)
 
-  pub has_come-found : (k : ℕ) (f : FnNote) → slice_get notes.function k ≡ Some f → (leader : ℕ) → Contains leaders leader → IsWithin f leader
+  pub has_come-found : (k : ℕ) (f : FnNote) → slice_get notes.function k ≡ Some f → (leader : ℕ) → Contains leaders leader
+      → IsWithin f leader
       → (place : ℕ) (come : Option State)
       → HasCome image notes leaders states k f leader place come → SomeFound notes f come
   unfolding HasCome

@@ -143,6 +143,7 @@ module _ (image : Image) (notes : Notes) (leaders : List ℕ) (states : States) 
   rest_to range come zero place r here = subst (Reached image notes leaders states come) {x = place} {y = place + zero} (omega arith) r
   rest_to range come (suc count) place r here =
       subst (Reached image notes leaders states come) {x = suc place + count} {y = place + suc count} (omega arith)
-      (rest_to range come count (suc place) (rest_on range come place r (λ k f there inside. here k f there place (omega arith) (omega arith)
+      (rest_to range come count (suc place)
+      (rest_on range come place r (λ k f there inside. here k f there place (omega arith) (omega arith)
       inside))
       (λ k f there p low high inside. here k f there p (omega arith) (omega arith) inside))

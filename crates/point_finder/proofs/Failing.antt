@@ -14,7 +14,8 @@ use Rattle.rules_flow.specs.declared.successors.Successors.{Successors}
 use Rattle.rules_image.specs.Images.{EndHolds, IsDecoded, PointHolds, RelocationHolds, reloc_at}
 use Rattle.rules_image.proofs.Decoding.{decoded_once}
 use Rattle.width_checker.specs.Rows.{here_at, row_of}
-use Rattle.note_infer.specs.Rounds.{Clashes, FailsIn, States, fails_below, fails_decode, fails_end, fails_point, fails_relocation, fails_row}
+use Rattle.note_infer.specs.Rounds.{Clashes, FailsIn, States, fails_below, fails_decode, fails_end, fails_point, fails_relocation}
+use Rattle.note_infer.specs.Rounds.{fails_row}
 use Rattle.note_infer.specs.Rounds.{marked}
 
 last_rule : (r : RuleName) → number_of_rule r ≤ 23
@@ -81,7 +82,8 @@ module _ (image : Image) (notes : Notes) (leaders : List ℕ) (states : States) 
         ≡ row_of (marked notes leaders) (here_at image func place k) s x) j m b refl
 
     -- a leader is inside
-    pub point_inside : ¬ PointHolds (marked notes leaders) place next → IsFirst (FailsIn image notes leaders states func f place s) rule.Point
+    pub point_inside : ¬ PointHolds (marked notes leaders) place next
+        → IsFirst (FailsIn image notes leaders states func f place s) rule.Point
     point_inside none = record { among = fails_point i next d none refl; first = first }
       where
         first : (q : RuleName) → FailsIn image notes leaders states func f place s q → 6 ≤ number_of_rule q

@@ -1,5 +1,6 @@
 -- How the leaders are gathered, instruction by instruction and function by function.
-use Rattle.std.proofs.Common.{◌≡◌, ◌⊎◌, ℕ, zero, suc, ◌+◌, ◌^◌, ◌<◌, ◌≤◌, List, [], ◌∷◌, ◌++◌, length, refl, sym, subst, ◌∙◌, inl, inr, ⊎_elim}
+use Rattle.std.proofs.Common.{◌≡◌, ◌⊎◌, ℕ, zero, suc, ◌+◌, ◌^◌, ◌<◌, ◌≤◌, List, [], ◌∷◌, ◌++◌, length, refl, sym, subst, ◌∙◌, inl, inr}
+use Rattle.std.proofs.Common.{⊎_elim}
 use Rattle.std.proofs.Common.{arith}
 use Rattle.std.specs.Prelude.{Some, pos, slice_get}
 use Rattle.std.specs.List.{Contains}
@@ -126,7 +127,8 @@ place_below image f range zero p h = omega arith
 place_below image f range (suc n) p h = h.within
 
 -- at the function's end all are before
-pub named_at-end : (image : Image) (f : FnNote) (at p : ℕ) → f.place < f.end → f.end ≤ at → IsLeaderOf image f p → IsNamedBefore image f at p
+pub named_at-end : (image : Image) (f : FnNote) (at p : ℕ) → f.place < f.end → f.end ≤ at → IsLeaderOf image f p
+    → IsNamedBefore image f at p
 named_at-end image f at p range past l =
     named_by image f at p l (let h = place_below image f range l.reached.0 l.from l.reached.1 in omega arith)
 

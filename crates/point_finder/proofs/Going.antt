@@ -17,7 +17,8 @@ use Rattle.rules_image.proofs.Decoding.{decoded_once}
 use Rattle.width_checker.proofs.Deciding.{function_before}
 use Rattle.width_checker.proofs.Leading.{decode_later}
 use Rattle.note_infer.specs.PointStates.{AreFound}
-use Rattle.note_infer.specs.Rounds.{Begins, Comes, FailsIn, FallsTo, HasState, IsStuck, IsWithin, States, all_in, given, gives, gives_none, marked}
+use Rattle.note_infer.specs.Rounds.{Begins, Comes, FailsIn, FallsTo, HasState, IsStuck, IsWithin, States, all_in, given, gives}
+use Rattle.note_infer.specs.Rounds.{gives_none, marked}
 use Rattle.note_infer.proofs.RoundStates.{given_at-found}
 use Rattle.point_finder.specs.Passing.{IsSetting, Passes}
 use Rattle.point_finder.specs.Reaching.{IsClosed, Passed, Reached, Stood, stood, stood_none}
@@ -111,7 +112,8 @@ module _ (image : Image) (notes other : Notes) (leaders : List ℕ) (g : IsSetti
 
     reached_more : Reached image notes leaders states after (suc at)
     reached_more =
-        advance image notes leaders states (marks_read image notes other leaders g) found (range_of image notes other leaders g) come after at
+        advance image notes leaders states (marks_read image notes other leaders g) found (range_of image notes other leaders g) come
+        after at
         reached joined_here
         (λ j h here below. for_all (λ n q. Stood image notes leaders states after n q at) (stood passed_here) j h here
         (λ apart. stood_none (none_there h j here apart at within)))

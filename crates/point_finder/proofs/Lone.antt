@@ -15,7 +15,8 @@ use Rattle.rules_image.specs.Images.{EndHolds, IsDecoded, PointHolds, Relocation
 use Rattle.rules_image.proofs.Decoding.{decoded_once}
 use Rattle.width_checker.specs.Rows.{here_at, row_of}
 use Rattle.note_infer.specs.Rounds.{Clashes, FailsIn, GivenAt, HasCome, HasState, IsWithin, NoneFailsBefore, States, all_in}
-use Rattle.note_infer.specs.Rounds.{fails_below, fails_decode, fails_end, fails_point, fails_relocation, fails_row, given, gives, gives_none}
+use Rattle.note_infer.specs.Rounds.{fails_below, fails_decode, fails_end, fails_point, fails_relocation, fails_row, given, gives}
+use Rattle.note_infer.specs.Rounds.{gives_none}
 use Rattle.note_infer.specs.Rounds.{marked}
 use Rattle.point_finder.specs.Reaching.{Passed, Reached, Stood, stood, stood_none}
 use Rattle.point_finder.proofs.Chains.{PointsBefore, chain_within, one_chain, rows_one}
@@ -116,7 +117,8 @@ module _ (image : Image) (notes : Notes) (leaders : List ℕ) (states come : Sta
       (omega arith) t.given_is (gives s i next y has d row refl))
       t.all clash.clash
 
-  none_at : (p : ℕ) (s : State) → p < place → HasState image notes leaders states k f p s → (x : Passed image notes leaders states come k f p)
+  none_at : (p : ℕ) (s : State) → p < place → HasState image notes leaders states k f p s
+      → (x : Passed image notes leaders states come k f p)
       → (r : RuleName) → FailsIn image notes leaders states k f p s r → ⊥
   none_at p s less has x r (fails_decode miss e) = miss (record { insn = x.insn; next = x.next; decode = x.decode })
   none_at p s less has x r (fails_point i next d miss e) =

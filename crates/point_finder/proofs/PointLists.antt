@@ -14,7 +14,8 @@ with_more : (x : ℕ) (o : Option State) (ps qs : List Point) → with_point x o
 with_more x None ps qs = refl
 with_more x (Some s) ps qs = refl
 
-points_append : (states : States) (xs : List ℕ) (x : ℕ) → points_of states (xs ++ x ∷ []) ≡ points_of states xs ++ with_point x (states x) []
+points_append : (states : States) (xs : List ℕ) (x : ℕ)
+    → points_of states (xs ++ x ∷ []) ≡ points_of states xs ++ with_point x (states x) []
 unfolding points_of
 points_append states [] x = refl
 points_append states (y ∷ ys) x =

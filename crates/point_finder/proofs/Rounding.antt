@@ -1,5 +1,6 @@
 -- A round over all starts: what rests between two walks is passed over, and after the last one the round is whole.
-use Rattle.std.proofs.Common.{◌≡◌, ℕ, zero, suc, ◌+◌, ◌-◌, ◌^◌, ◌<◌, ◌≤◌, List, [], ◌∷◌, length, map, get_or, refl, sym, ap, subst, ◌∙◌, ⊎_elim}
+use Rattle.std.proofs.Common.{◌≡◌, ℕ, zero, suc, ◌+◌, ◌-◌, ◌^◌, ◌<◌, ◌≤◌, List, [], ◌∷◌, length, map, get_or, refl, sym, ap, subst, ◌∙◌}
+use Rattle.std.proofs.Common.{⊎_elim}
 use Rattle.std.proofs.Common.{arith}
 use Rattle.std.specs.Prelude.{Some, slice_get}
 use Rattle.std.specs.List.{Contains}
@@ -146,7 +147,8 @@ module _ (image : Image) (notes other : Notes) (leaders : List ℕ) (g : IsSetti
       let h = w.done s.0 s.1 (omega arith) s.2 in omega arith)
 
   -- a walk takes the round further
-  pub walked_more : (come after : States) (n : ℕ) (x : Start) → slice_get starts n ≡ Some x → Walked image notes leaders states come starts n
+  pub walked_more : (come after : States) (n : ℕ) (x : Start) → slice_get starts n ≡ Some x
+      → Walked image notes leaders states come starts n
       → (f : FnNote) → slice_get notes.function x.func ≡ Some f → HasPassed image notes leaders f states after x.place
       → Walked image notes leaders states after starts (n + 1)
   walked_more come after n x there w f here p = record {
@@ -167,7 +169,8 @@ module _ (image : Image) (notes other : Notes) (leaders : List ℕ) (g : IsSetti
   }
     where
       mine : IsWithin f x.place
-      mine = start_within notes leaders states x.func f here (range_of image notes other leaders g x.func f here) x refl (are.each n x there)
+      mine = start_within notes leaders states x.func f here (range_of image notes other leaders g x.func f here) x refl
+          (are.each n x there)
 
       no_start : (y : Start) → IsStart notes leaders states y → x.place < y.place → y.place < p.end → ⊥
       no_start y s less inside = by_begin s.f s.there s.begins

@@ -7,7 +7,8 @@ use Rattle.rules_image.proofs.Decoding.{is_decoded, not_decoded}
 use Rattle.width_checker.proofs.Leading.{decode_later}
 use Rattle.note_infer.specs.Leaders.{IsLeaderOf}
 use Rattle.point_finder.specs.Finding.{Adds, IsNamedBefore}
-use Rattle.point_finder.proofs.Gathering.{adds_none, adds_push, adds_same, before_cases, before_here, before_more, leader_from, named_at-end, named_at-stop, named_once, next_place, none_before, start_place}
+use Rattle.point_finder.proofs.Gathering.{adds_none, adds_push, adds_same, before_cases, before_here, before_more, leader_from}
+use Rattle.point_finder.proofs.Gathering.{named_at-end, named_at-stop, named_once, next_place, none_before, start_place}
 use Rattle.point_finder.proofs.leaders.add_leaders.Goals as goal
 
 pub loop-at-init : goal.loop-at-init
@@ -45,7 +46,8 @@ loop-at-preserved-in_ok-push c =
     is_decoded image f c.code_of-code.result.now at c.in-Ok.insn c.in-Ok.len c.code_of-code.ensures c.loop-at.invariant.from (omega arith)
     c.in-Ok.ensures.found c.in-Ok.ensures.length.1 in
     let reached : IsPlaceOf image f at = c.loop-at.invariant.reached c.loop-at-test.true in
-    let more = adds_push (IsNamedBefore image f at) (IsNamedBefore image f next) c.args.places.now.items c.loop-at.places.items c.in-Some.place
+    let more = adds_push (IsNamedBefore image f at) (IsNamedBefore image f next) c.args.places.now.items c.loop-at.places.items
+    c.in-Some.place
     c.loop-at.invariant.adds (before_more image f at next c.in-Ok.insn reached d)
     (before_here image f at next c.in-Ok.insn reached d c.in-Some.place c.in-Some.ensures.some)
     (λ p h. named_once image f at next c.in-Ok.insn p c.in-Some.place c.in-Some.ensures.some

@@ -20,7 +20,8 @@ loop-start-init c = record {
   coming = c.requires.coming;
   before = refl;
   walked = walked_none c.args.self.now.image.now c.args.self.now.notes.now c.args.self.now.leaders.now
-      (state_at c.args.self.now.leaders.now c.args.coming.now.before.items) (state_at c.args.self.now.leaders.now c.args.coming.now.states.items)
+      (state_at c.args.self.now.leaders.now c.args.coming.now.before.items)
+      (state_at c.args.self.now.leaders.now c.args.coming.now.states.items)
       c.args.starts.now c.requires.reached;
 }
 

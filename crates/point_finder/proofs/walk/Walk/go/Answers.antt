@@ -13,7 +13,8 @@ use Rattle.point_finder.proofs.Going.{alone_more, alone_next, closed_next, has_f
 use Rattle.point_finder.proofs.Passing.{range_of}
 use Rattle.width_checker.proofs.Leading.{decode_later}
 use Rattle.point_finder.proofs.walk.Walk.go.Goals as goal
-use Rattle.point_finder.proofs.walk.Walk.go.Goals.{in_default-via-in-Some+then-next-self+else-not-is_leader, in_default-via-in-Some+else-next-self, in_default-via-in_default}
+use Rattle.point_finder.proofs.walk.Walk.go.Goals.{in_default-via-in-Some+then-next-self+else-not-is_leader}
+use Rattle.point_finder.proofs.walk.Walk.go.Goals.{in_default-via-in-Some+else-next-self, in_default-via-in_default}
 
 pub code_of-code-requires-clause-range : goal.code_of-code-requires-clause-range
 code_of-code-requires-clause-range c = (c.requires.setting.functions c.args.self.now.func c.args.self.now.f.now c.requires.there).range

@@ -110,7 +110,8 @@ returns-then-not-take_after-clause-fails c =
     row_here image notes c.args.self.now.marked.now leaders k c.args.at c.args.next c.in-Ok.reloc s i (Ok c.in_ok-after.after) g.marks
     c.in-Ok.ensures.holds.0 c.in_ok-after.ensures in
     clashes image notes leaders states k f c.args.at s i c.args.next d point reloc c.in_ok-after.after row
-    (clash_in image notes leaders states come k f c.args.at c.args.next c.in_ok-after.after c.requires.there (omega (arith, c.requires.within))
+    (clash_in image notes leaders states come k f c.args.at c.args.next c.in_ok-after.after c.requires.there
+    (omega (arith, c.requires.within))
     c.requires.reached c.if-not-take_after.ensures.clash)
 
 pub returns-then-not-ends_within-clause-fails : goal.returns-then-not-ends_within-clause-fails
