@@ -410,12 +410,12 @@ fn read_taking<F: Folder>(
 }
 
 impl Work {
-    /// Does the work.
-    pub fn reply(&self, alloc: Global) -> Result<Reply, NoMemory>
-        requires { CanBeDone self.now }
-        ensures reply { IfOk result (IsReplyTo self.now) }
+    /// Does the work, with what was read for it.
+    pub fn reply(self, alloc: Global) -> Result<Reply, NoMemory>
+        requires { CanBeDone self }
+        ensures reply { IfOk result (IsReplyTo self) }
         ensures answer { IfOk result (λ r. IsWorkAnswer r.outcome) }
-        ensures output { IfOk result (λ r. written_name r.output ≡ output_name self.now) }
+        ensures output { IfOk result (λ r. written_name r.output ≡ output_name self) }
     {
         match self {
             Work::CheckCode { code } => {
@@ -423,20 +423,20 @@ impl Work {
                 Ok(text::verdict(alloc, verdict)?)
             }
             Work::CheckImage { image, notes } => {
-                let verdict = check(alloc, image, notes)?;
+                let verdict = check(alloc, &image, &notes)?;
                 Ok(text::verdict(alloc, verdict)?)
             }
             Work::ListImage { image } => {
-                let listing = list(alloc, image)?;
+                let listing = list(alloc, &image)?;
                 Ok(text::listing(listing))
             }
             Work::WriteObject { name, object } => {
-                let file = write_object(alloc, object)?;
-                Ok(text::file(name.copy(alloc)?, file))
+                let file = write_object(alloc, &object)?;
+                Ok(text::file(name, file))
             }
             Work::WriteImage { name, image } => {
-                let file = write_image(alloc, image)?;
-                Ok(text::file(name.copy(alloc)?, file))
+                let file = write_image(alloc, &image)?;
+                Ok(text::file(name, file))
             }
             Work::Run {
                 width,
@@ -444,13 +444,13 @@ impl Work {
                 notes,
                 script,
                 steps,
-            } => run_reply(alloc, *width, image, notes, script, *steps),
+            } => run_reply(alloc, width, &image, &notes, &script, steps),
             Work::Twin {
                 image,
                 notes,
                 script,
                 steps,
-            } => twin_reply(alloc, image, notes, script, *steps),
+            } => twin_reply(alloc, &image, &notes, &script, steps),
             Work::WriteRom {
                 name,
                 vendor,
@@ -458,8 +458,8 @@ impl Work {
                 subsystem,
                 image,
             } => {
-                let file = wrap(alloc, *vendor, *device, *subsystem, image.as_slice())?;
-                Ok(text::file(name.copy(alloc)?, file))
+                let file = wrap(alloc, vendor, device, subsystem, image.as_slice())?;
+                Ok(text::file(name, file))
             }
             Work::ListRom { images } => {
                 let listing = rom_listing(alloc, images.as_slice())?;
@@ -467,7 +467,7 @@ impl Work {
             }
             Work::WriteTaken { name, bytes } => {
                 let file = Vec::from_slice(alloc, bytes.as_slice())?;
-                Ok(text::file(name.copy(alloc)?, file))
+                Ok(text::file(name, file))
             }
         }
     }
