@@ -1,9 +1,15 @@
 pub mod Advancing
+pub mod Answering
 pub mod Chains
+pub mod Changing
+pub mod Entering
 pub mod Failing
 pub mod Gathering
 pub mod Going
 pub mod Lone
+pub mod OneAnswer
+pub mod OneRound
+pub mod Owning
 pub mod Passing
 pub mod PointLists
 pub mod Resting
@@ -11,3 +17,4 @@ pub mod Rounding
 pub mod Searching
 pub mod Settling
 pub mod StatesAt
+pub mod Turning

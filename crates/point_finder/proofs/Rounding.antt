@@ -86,7 +86,7 @@ start_within notes leaders states k f there range x at s =
     by_begin h range (at_entry c p e) = (omega arith, omega arith)
 
 -- a place of the work is that of a start
-start_of : (starts : List Start) (p : ℕ) → Contains (map (λ (x : Start). x.place) starts) p
+pub start_of : (starts : List Start) (p : ℕ) → Contains (map (λ (x : Start). x.place) starts) p
     → (j : ℕ) × (x : Start) × (slice_get starts j ≡ Some x) × (x.place ≡ p)
 start_of [] p c = absurd (let short = c.1 in omega arith)
 start_of (x ∷ xs) p (zero, short, e) = (zero, x, refl, e)

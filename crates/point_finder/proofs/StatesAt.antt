@@ -13,10 +13,10 @@ use Rattle.note_infer.specs.Rounds.{IsWithin, States, all_in}
 use Rattle.point_finder.specs.Coming.{ClashesAt, Takes, TakesNumber, given_to, state_at}
 
 -- numbers that rise, each below all later ones
-abbrev Rise : List ℕ → Type 0
+abbrev pub Rise : List ℕ → Type 0
 Rise xs = (i j : ℕ) → i < j → j < length xs → get_or xs i 0 < get_or xs j 0
 
-rise_of : (xs : List ℕ) → IsStrictlyIncreasing xs → Rise xs
+pub rise_of : (xs : List ℕ) → IsStrictlyIncreasing xs → Rise xs
 rise_of xs up i j less short = AllPairs-from_increasing xs up i j 0 less short
 
 eq_true : (x y : ℕ) → x ≡ y → nat_eq x y ≡ true

@@ -1,6 +1,6 @@
 //! What has come to the leaders in a round.
 
-ghost use Rattle.std.specs.Prelude.{◌≡◌, ◌<◌, ◌↔◌, IfNone, IfOk, IfSome, IsTrue, None, length, replicate, slice_index, slice_index_or, slice_set, true};
+ghost use Rattle.std.specs.Prelude.{◌≡◌, ◌<◌, ◌↔◌, IfNone, IfOk, IfSome, IsTrue, None, Some, false, length, replicate, slice_index, slice_index_or, slice_set, true};
 ghost use Rattle.std.specs.Bool.{OnFalse, OnTrue};
 ghost use Rattle.std.specs.List.{Contains};
 ghost use Rattle.std.specs.List.Sorted.{IsStrictlyIncreasing};
@@ -8,6 +8,7 @@ ghost use Rattle.note_join.specs.JoinStates.{taken_in, without_fact};
 ghost use Rattle.note_infer.specs.Rounds.{by_fall, by_jump, given};
 ghost use Rattle.point_finder.specs.Coming.{ClashesAt, IsComing, Takes, TakesNumber, given_to, state_at};
 
+use crate::states::same_state;
 use ebc_base::NoMemory;
 use note_join::join_states;
 use note_types::{FnNote, State};
@@ -72,6 +73,16 @@ pub(crate) fn is_leader(leaders: &[u32], place: u32) -> bool
 {
     match number_at(leaders, place) {
         Some(_) => true,
+        None => false,
+    }
+}
+
+// Whether this state is the one that is known.
+fn is_known(known: &Option<State>, state: &State) -> bool
+    ensures { IsTrue result ↔ (known.now ≡ Some state.now) }
+{
+    match known {
+        Some(had) => same_state(had, state),
         None => false,
     }
 }
@@ -166,5 +177,35 @@ impl Coming {
         ensures before { self.new.before.items ≡ self.old.before.items }
     {
         self.take_fall(leaders, f, next, &x.fall) && self.take_jump(leaders, f, &x.jump)
+    }
+
+    /// What has come to a leader, by its number, becomes the state of the round before: that state, where it is another one.
+    pub fn take_over(&mut self, number: usize) -> Option<State>
+        requires before { number < length self.old.before.items }
+        requires states { number < length self.old.states.items }
+        requires given { number < length self.old.given.items }
+        requires quiet { slice_index_or self.old.given.items number true ≡ false → slice_index_or self.old.states.items number None ≡ slice_index_or self.old.before.items number None }
+        requires known { slice_index_or self.old.states.items number None ≡ None → slice_index_or self.old.before.items number None ≡ None }
+        ensures some { IfSome result (λ s. slice_index_or self.old.states.items number None ≡ Some s) }
+        ensures differs { IfSome result (λ s. slice_index_or self.old.before.items number None ≡ Some s → ⊥) }
+        ensures same { IfNone result (slice_index_or self.old.states.items number None ≡ slice_index_or self.old.before.items number None) }
+        ensures before { self.new.before.items ≡ slice_set self.old.before.items number (slice_index_or self.old.states.items number None) }
+        ensures states { self.new.states.items ≡ self.old.states.items }
+        ensures given { self.new.given.items ≡ slice_set self.old.given.items number false }
+    {
+        let given = self.given[number];
+        self.given[number] = false;
+        if !given {
+            return None;
+        }
+        let Some(state) = &self.states[number] else {
+            return None;
+        };
+        if is_known(&self.before[number], state) {
+            return None;
+        }
+        let state = state.copy();
+        self.before[number] = Some(state.copy());
+        Some(state)
     }
 }

@@ -2,15 +2,19 @@
 //! docs/crates/point_finder.md has the way.
 #![tactic(auto)]
 
+mod beginnings;
 mod coming;
 mod copies;
+mod finder;
 mod jumps;
 mod leaders;
 mod marks;
 mod rounds;
 mod row;
+mod states;
 mod tables;
 mod walk;
 
 pub use ebc_base::NoMemory;
+pub use finder::infer;
 pub use note_infer::Inferred;

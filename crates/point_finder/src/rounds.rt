@@ -1,17 +1,23 @@
 //! Rounds, until one changes nothing.
 
-ghost use Rattle.std.specs.Prelude.{◌≡◌, ◌^◌, IfErr, OnOk, map};
+ghost use Rattle.std.specs.Prelude.{◌≡◌, ◌^◌, IfErr, IfOk, OnOk, length, map};
+ghost use Rattle.width_checker.specs.Typed.{TablesHold};
+ghost use Rattle.note_infer.specs.Inferred.{IsSettled};
 ghost use Rattle.note_infer.specs.PointStates.{AreFound};
 ghost use Rattle.note_infer.specs.Rounds.{IsStuck};
 ghost use Rattle.point_finder.specs.Coming.{IsComing, state_at};
+ghost use Rattle.point_finder.specs.declared.rounds.NotFound.TheVariants as failures;
 ghost use Rattle.point_finder.specs.Passing.{IsSetting};
 ghost use Rattle.point_finder.specs.Reaching.{AllRest, Reached};
 ghost use Rattle.point_finder.specs.Starting.{AreStarts};
+ghost use Rattle.point_finder.specs.Stopping.{IsNotFound};
 
 use crate::coming::Coming;
 use crate::walk::{Stop, Walk};
+use ebc_base::NoMemory;
 use note_types::{Notes, State};
 use pe_image::Image;
+use std::alloc::Global;
 
 /// Where a walk begins: the number of a function, a place of its code, and the state there.
 #[derive(Drop)]
@@ -19,6 +25,21 @@ pub(crate) struct Start {
     pub func: u32,
     pub place: u32,
     pub state: State,
+}
+
+/// Why no states are found: there is no memory, or a round is stuck.
+#[derive(Drop)]
+pub(crate) enum NotFound {
+    NoMemory,
+    Stuck(Stop),
+}
+
+impl From<NoMemory> for NotFound {
+    ghost from_gives = { λ _ e. e ≡ failures.NoMemory };
+
+    fn from(_: NoMemory) -> Self {
+        NotFound::NoMemory
+    }
 }
 
 /// An image under notes, the same notes with the leaders as points, and the leaders.
@@ -63,5 +84,30 @@ impl<'a> Rounds<'a> {
             }
         }
         Ok(())
+    }
+
+    /// The states at the leaders after the round that changes nothing.
+    ///
+    /// # Errors
+    ///
+    /// There is no memory for them, or a round is stuck.
+    pub fn settle(&self, alloc: Global) -> Result<Vec<Option<State>>, NotFound>
+        requires setting { IsSetting self.now.image.now self.now.notes.now self.now.marked.now self.now.leaders.now }
+        requires tables { TablesHold self.now.image.now self.now.notes.now }
+        ensures settled { IfOk result (λ states. IsSettled self.now.image.now self.now.notes.now self.now.leaders.now (state_at self.now.leaders.now states.items)) }
+        ensures long { IfOk result (λ states. length states.items ≡ length self.now.leaders.now) }
+        ensures stuck { IfErr result (IsNotFound self.now.image.now self.now.notes.now self.now.leaders.now) }
+    {
+        let mut coming = Coming::new(alloc, self.leaders.len())?;
+        let mut starts = self.entries(alloc, &mut coming)?;
+        loop {
+            if let Err(stop) = self.walk_all(starts.as_slice(), &mut coming) {
+                return Err(NotFound::Stuck(stop));
+            }
+            starts = self.changes(alloc, &mut coming)?;
+            if starts.is_empty() {
+                return Ok(coming.states);
+            }
+        }
     }
 }
