@@ -38,6 +38,7 @@ abbrev pub IsWorkAnswer : Outcome → Type 0
 IsWorkAnswer Done = Unit {0}
 IsWorkAnswer (Refused place rule) = Unit {0}
 IsWorkAnswer (Differ step) = Unit {0}
+IsWorkAnswer (TooLarge word) = Unit {0}
 IsWorkAnswer outcome = ⊥
 
 -- an answer that a file isn't of its form

@@ -41,18 +41,22 @@ use Rattle.ebc_cli.specs.declared.work.Work.TheVariants as works
 use Rattle.ebc_cli.specs.Commands.{command_of, output_of}
 use Rattle.ebc_cli.specs.Faults.{asm_fault_text, link_detail, link_fault_text, rom_fault_text, take_fault_text}
 use Rattle.cli_base.specs.Outcomes.{IsAnswer}
-use Rattle.cli_base.specs.Outputs.{SameBut, files_left, printed, text_of, written_name}
+use Rattle.cli_base.specs.Outputs.{SameBut, files_left, printed, prints, text_of, written_name}
 use Rattle.cli_base.specs.Readings.{file, done, go_on, large_reply}
 use Rattle.ebc_cli.specs.RomTexts.{rom_listing}
 use Rattle.ebc_cli.specs.Texts.{neutral_line, refused_line}
 use Rattle.cli_base.specs.Texts.{bad_line}
 use Rattle.ebc_cli.specs.Works.{work_of, code_check, verdict_reply, listing_reply, file_reply, TellsVerdict, IsReplyOf, plain_code_limit}
 use Rattle.ebc_cli.specs.Answers.{IsAnswerOf, Decides, Answers, Assembles, LeavesPart, ChecksCode, ChecksImage, ListsImage, HasBadInput}
-use Rattle.ebc_cli.specs.Answers.{HasBadLine, HasMissingFile, HasNoText, writes_object, writes_rom, writes_taken, empty_listing}
+use Rattle.ebc_cli.specs.Answers.{HasBadLine, HasMissingFile, HasNoText, writes_object, writes_rom, writes_taken, empty_listing, no_points, InfersPoints}
 use Rattle.ebc_cli.specs.Answers.{SameForScripts}
+use Rattle.ebc_cli.specs.Inferrings.{TellsInferred, inferred_reply}
+use Rattle.note_infer.specs.Inferred.{IsInferred}
+use Rattle.note_infer.specs.declared.inferred.Inferred.TheVariants.{Points}
 use Rattle.ebc_cli.specs.Answers.{HasBadLink, Links, writes_image}
 use Rattle.ebc_cli.specs.Answers.{Wraps, ListsRom, Takes, HasBadRom, HasBadTaking, IsTooLarge}
 use Rattle.ebc_cli.proofs.StopLemmas.{assembly-work, bad-exactly, bad-line-told, image-work, large-exactly, listing-work, missing-exactly}
+use Rattle.ebc_cli.proofs.InferLemmas.{infer-work}
 use Rattle.ebc_cli.proofs.StopLemmas.{bad-link-told, linking-work}
 use Rattle.ebc_cli.proofs.StopLemmas.{bad-rom-told, bad-taking-told, rom-listing-work, taking-work, wrapping-work}
 
@@ -395,6 +399,14 @@ record IsSilent (words : List (List ℕ)) (reply : Reply) : Type 0 where
   text : text_of reply.output ≡ []
   names : written_name reply.output ≢ None → output_of (command_of words) ≢ None
 
+-- where no points are needed, their text is empty
+no-points-told : (words : List (List ℕ)) (files : Files) (reply : Reply) (name : List ℕ) (image : Image) (notes : Notes)
+    → InfersPoints words files name image notes → IsInferred image notes (Points []) → IsAnswerOf words files reply
+    → reply ≡ prints outcomes.Done []
+no-points-told words files reply name image notes x none told =
+    let t : TellsInferred name image notes reply = rw (infer-work words files name image notes x) at told in
+    t.told ∙ ap (inferred_reply name notes) (sym (t.only (Points []) none))
+
 silent : (words : List (List ℕ)) (files : Files) (reply : Reply) → HasNoText words files → IsAnswerOf words files reply
     → IsSilent words reply
 silent words files reply (writes_object name object c) told = record {
@@ -416,6 +428,11 @@ silent words files reply (writes_taken name bytes c) told = record {
 silent words files reply (empty_listing image c empty) told = record {
   text = ap (λ (r : Reply). text_of r.output) (listing-told words files reply image c told) ∙ empty;
   names = λ named. absurd (named (ap (λ (r : Reply). written_name r.output) (listing-told words files reply image c told)));
+}
+silent words files reply (no_points name image notes x none) told = record {
+  text = ap (λ (r : Reply). text_of r.output) (no-points-told words files reply name image notes x none told);
+  names =
+      λ named. absurd (named (ap (λ (r : Reply). written_name r.output) (no-points-told words files reply name image notes x none told)));
 }
 
 pub unput : {S : Type 0} (contents : Option Files) (words : List (List ℕ)) (reply : Reply) (outcome : Outcome) (old now : S)

@@ -10,4 +10,6 @@ pub mod LinkLemmas
 pub mod StopLemmas
 pub mod WorkAnswers
 pub mod HeadlineLemmas
+pub mod InferLemmas
+pub mod InferAnswers
 pub mod RunAnswers

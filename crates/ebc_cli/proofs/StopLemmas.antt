@@ -17,6 +17,9 @@ use Rattle.ebc_outside.specs.Files.{Files}
 use Rattle.note_texts.specs.Numbers.{number_in}
 use Rattle.note_types.specs.declared.fault.TomlFault.{TomlFault}
 use Rattle.note_types.specs.declared.notes.Notes.{Notes}
+use Rattle.note_infer.specs.Inferred.{IsInferred}
+use Rattle.note_infer.specs.declared.inferred.Inferred.{Inferred}
+use Rattle.note_infer.specs.declared.inferred.Inferred.TheVariants.{Many, Points, Stuck}
 use Rattle.option_rom.specs.declared.fault.RomFault.{RomFault}
 use Rattle.option_rom.specs.declared.fault.TakeFault.{TakeFault}
 use Rattle.option_rom.specs.declared.image.RomImage.{RomImage}
@@ -30,7 +33,7 @@ use Rattle.plain_check.specs.declared.verdict.Verdict.{Verdict}
 use Rattle.plain_check.specs.declared.verdict.Verdict.TheVariants.{Neutral, Refused}
 use Rattle.plain_check.specs.PlainChecks.{plain_verdict}
 use Rattle.ebc_cli.specs.declared.command.Command.{Command}
-use Rattle.ebc_cli.specs.declared.command.Command.TheVariants.{Assemble, CheckCode, CheckImage, Link, ListImage, ListRom, Run, TakeRom}
+use Rattle.ebc_cli.specs.declared.command.Command.TheVariants.{Assemble, CheckCode, CheckImage, InferPoints, Link, ListImage, ListRom, Run, TakeRom}
 use Rattle.ebc_cli.specs.declared.command.Command.TheVariants.{Twin, WrapRom}
 use Rattle.cli_base.specs.declared.outcome.Outcome.{Outcome}
 use Rattle.cli_base.specs.declared.outcome.Outcome.TheVariants as outcomes
@@ -51,11 +54,12 @@ use Rattle.ebc_cli.specs.Inputs.{number_meaning, rom_number_limit, step_limit}
 use Rattle.ebc_cli.specs.Inputs.{bad_link_reply, bad_object_reply, bad_plan_reply, link_meaning, object_limit, object_meaning, plan_limit}
 use Rattle.ebc_cli.specs.Inputs.{plan_meaning}
 use Rattle.ebc_cli.specs.Linkings.{each_object, linked_by, linked_image}
+use Rattle.ebc_cli.specs.Inferrings.{TellsInferred, inferred_reply}
 use Rattle.ebc_cli.specs.Runnings.{twin_outcome}
-use Rattle.ebc_cli.specs.Works.{work_of, work_for, code_check, image_check, image_listing, assembly, verdict_reply, usage_reply, IsReplyOf}
+use Rattle.ebc_cli.specs.Works.{work_of, work_for, code_check, image_check, image_with_notes, inference, image_listing, assembly, verdict_reply, usage_reply, IsReplyOf}
 use Rattle.ebc_cli.specs.Works.{plain_code_limit}
 use Rattle.ebc_cli.specs.Works.{linking, rom_wrapping, rom_images, rom_taking, rom_taking_of, running, twinning}
-use Rattle.ebc_cli.specs.Answers.{IsAnswerOf, HasFile, HasObjects, Assembles, ChecksImage, ListsImage, NamesImage, to_check, to_list}
+use Rattle.ebc_cli.specs.Answers.{IsAnswerOf, HasFile, HasObjects, Assembles, ChecksImage, ListsImage, NamesImage, to_check, to_infer, to_list}
 use Rattle.ebc_cli.specs.Answers.{to_wrap}
 use Rattle.ebc_cli.specs.Answers.{ComesToNotes, HasTurn, code_turn, image_turn, notes_turn, source_turn, rom_turn, HasMissingFile}
 use Rattle.ebc_cli.specs.Answers.{HasLargeFile, HasBadImage, HasBadLine, HasBadNotes, HasBadInput, bad_image, bad_notes, bad_source}
@@ -67,11 +71,12 @@ use Rattle.ebc_cli.proofs.InputLemmas.{input-ok, input-err, IsReadWith, input-wi
 use Rattle.ebc_cli.proofs.InputLemmas.{read-means, unread-means}
 use Rattle.ebc_cli.proofs.CauseLemmas.{Stops, no_command, missing_file, too_large, bad_file, outcome-of, turn-stops, image-stops}
 use Rattle.ebc_cli.proofs.CauseLemmas.{notes-stops, number-stops}
+use Rattle.ebc_cli.proofs.InferLemmas.{both-are-read, both-notes-stopped, both-stop, infer-work, infers-by-work}
 use Rattle.ebc_cli.proofs.NumberLemmas.{number-ok, number-past, number-read, rom-number}
 use Rattle.ebc_cli.proofs.RomLemmas.{taken-err, taken-none}
 use Rattle.ebc_cli.proofs.RunLemmas.{run-image-stopped, run-notes-stopped, run-script-stopped, run-stopped, running-stops, twinning-stops}
 use Rattle.ebc_cli.specs.Answers.{Wraps, ListsRom, TakesFrom, Takes, NamesRom, to_list_rom, to_take, HasBadRom, HasBadTaking}
-use Rattle.ebc_cli.specs.Answers.{HasLargeNumber, IsTooLarge, large_number, large_file, to_run_on, to_check_under, to_run_under}
+use Rattle.ebc_cli.specs.Answers.{HasLargeNumber, IsTooLarge, large_number, large_file, to_run_on, to_check_under, to_infer_under, to_run_under, many_leaders}
 use Rattle.ebc_cli.specs.Answers.{script_turn}
 use Rattle.ebc_cli.specs.Answers.{NamesNotes, HasBadScript, bad_script, NamesNumber, image_number, run_steps, twin_steps}
 
@@ -122,28 +127,6 @@ rom-stops words files name reply turn (inr read) =
     rom-fault words files name read.bytes failed.fault reply turn read.file failed.is failed.told_is
 
 -- ---- the readings of the commands
-
-image-read : (words : List (List ℕ)) (files : Files) (a b : List ℕ) (image : Image) → command_of words ≡ Some (CheckImage a b)
-    → IsRead image_limit (image_meaning 1 a) a files (Ok image) → ComesToNotes words files 2 b
-image-read words files a b image command read = record {
-  image_name = a;
-  bytes = read.bytes;
-  image = image;
-  command = to_check_under refl command;
-  image_file = read.file;
-  image_is = or-ok (bad_image_reply 1 a) (image_of read.bytes) image read.is;
-}
-
-check-stops : (words : List (List ℕ)) (files : Files) (reply : Reply) (a b : List ℕ) → command_of words ≡ Some (CheckImage a b)
-    → OneStops (input image_limit image_meaning 1 a files).value
-    (λ image. input notes_limit notes_meaning 2 b files >>= (λ notes. done (works.CheckImage image notes))) reply
-    → Stops words files reply.outcome
-check-stops words files reply a b command (first_stops stops) =
-    image-stops words files 1 a reply (to_check b refl command) (input-err image_limit image_meaning 1 a files reply stops)
-check-stops words files reply a b command (second_stops image goes stops) =
-    notes-stops words files 2 b reply (image-read words files a b image command (input-ok image_limit image_meaning 1 a files image goes))
-    (input-err notes_limit notes_meaning 2 b files reply
-    (one-stop (input notes_limit notes_meaning 2 b files) (λ notes. works.CheckImage image notes) reply stops))
 
 -- where taking an image out of an option ROM that was read stops, it has none to take
 taking-stops : (words : List (List ℕ)) (files : Files) (reply : Reply) (a b : List ℕ) (number : ℕ) (read : List RomImage × List ℕ)
@@ -284,16 +267,14 @@ linking-stops words files reply a b command e =
 
 by-command : (words : List (List ℕ)) (files : Files) (reply : Reply) (c : Option Command) → command_of words ≡ c
     → (work_for c files).value ≡ Err reply → Stops words files reply.outcome
-unfolding code_check image_check image_listing assembly rom_wrapping rom_images file
+unfolding code_check image_check inference image_listing assembly rom_wrapping rom_images file
 by-command words files reply None command e = no_command (let same : usage_reply ≡ reply = cc in outcome-of reply _ (sym same))
 by-command words files reply (Some (CheckCode a)) command e =
     turn-stops words files 1 a plain_code_limit reply (code_turn refl refl command)
     (measured-err 1 a plain_code_limit files (get files a) reply refl (one-stop (file 1 a plain_code_limit files) works.CheckCode reply e))
 by-command words files reply (Some (CheckImage a b)) command e =
-    let image_in = input image_limit image_meaning 1 a files in
-    check-stops words files reply a b command
-    (go-on-err image_in.asked image_in.value
-    (λ image. input notes_limit notes_meaning 2 b files >>= (λ notes. done (works.CheckImage image notes))) reply e)
+    both-stop words files reply a b (to_check b refl command) (to_check_under refl command)
+    (one-stop (image_with_notes a b files) (λ (read : Image × Notes). works.CheckImage read.0 read.1) reply e)
 by-command words files reply (Some (ListImage a)) command e =
     image-stops words files 1 a reply (to_list refl command)
     (input-err image_limit image_meaning 1 a files reply (one-stop (input image_limit image_meaning 1 a files) works.ListImage reply e))
@@ -313,22 +294,18 @@ by-command words files reply (Some (ListRom a)) command e =
     rom-stops words files a reply (to_list_rom command)
     (input-err rom_limit rom_meaning 2 a files reply (one-stop (input rom_limit rom_meaning 2 a files) works.ListRom reply e))
 by-command words files reply (Some (TakeRom a digits b)) command e = rom-taking-stops words files reply a digits b command e
+by-command words files reply (Some (InferPoints a b)) command e =
+    both-stop words files reply a b (to_infer b refl command) (to_infer_under refl command)
+    (one-stop (image_with_notes a b files) (λ (read : Image × Notes). works.InferPoints a read.0 read.1) reply e)
 
 -- ---- and back
 
 pub image-work : (words : List (List ℕ)) (files : Files) (image : Image) (notes : Notes) → ChecksImage words files image notes
     → (work_of words files).value ≡ Ok (works.CheckImage image notes)
-unfolding work_of image_check input file
+unfolding work_of image_check
 image-work words files image notes c =
-    rw (
-      c.command,
-      c.image_file.there,
-      c.notes_file.there,
-      le-ltb image_limit (length c.bytes) c.image_file.fits,
-      le-ltb notes_limit (length c.text) c.notes_file.fits,
-      c.image_is,
-      c.notes_are,
-    ) refl
+    let read = both-are-read files c.image_name c.notes_name c.bytes c.text image notes c.image_file c.notes_file c.image_is c.notes_are in
+    rw (c.command, read) refl
 
 pub listing-work : (words : List (List ℕ)) (files : Files) (image : Image) → ListsImage words files image
     → (work_of words files).value ≡ Ok (works.ListImage image)
@@ -429,8 +406,11 @@ taking-work words files name bytes c =
 -- a file that isn't read in its turn stops the reading
 image-unread : (words : List (List ℕ)) (files : Files) (word : ℕ) (name : List ℕ) (reply : Reply) → NamesImage words word name
     → measured word name image_limit (get files name) ≡ Err reply → (work_of words files).value ≡ Err reply
-unfolding work_of image_check image_listing rom_wrapping input input_with_bytes file
+unfolding work_of image_check inference image_with_notes image_listing rom_wrapping input input_with_bytes file
 image-unread words files word name reply (to_check notes_name number command) stops =
+    let here : measured 1 name image_limit (get files name) ≡ Err reply = rw number at stops in
+    rw (command, here) refl
+image-unread words files word name reply (to_infer notes_name number command) stops =
     let here : measured 1 name image_limit (get files name) ≡ Err reply = rw number at stops in
     rw (command, here) refl
 image-unread words files word name reply (to_list number command) stops =
@@ -454,10 +434,13 @@ rom-unread words files name reply (to_take number image_name within command) sto
 notes-stopped-by : (words : List (List ℕ)) (files : Files) (word : ℕ) (a name : List ℕ) (image : Image) (reply : Reply)
     → NamesNotes words word a name → ((w : ℕ) → (input image_limit image_meaning w a files).value ≡ Ok image)
     → (input notes_limit notes_meaning word name files).value ≡ Err reply → (work_of words files).value ≡ Err reply
-unfolding work_of image_check
+unfolding work_of image_check inference
 notes-stopped-by words files word a name image reply (to_check_under number command) one stops =
     let two : (input notes_limit notes_meaning 2 name files).value ≡ Err reply = rw number at stops in
-    rw (command, one 1, two) refl
+    rw (command, both-notes-stopped files a name image reply (one 1) two) refl
+notes-stopped-by words files word a name image reply (to_infer_under number command) one stops =
+    let two : (input notes_limit notes_meaning 2 name files).value ≡ Err reply = rw number at stops in
+    rw (command, both-notes-stopped files a name image reply (one 1) two) refl
 notes-stopped-by words files word a name image reply (to_run_under image_word c number command) one stops =
     let two : (input notes_limit notes_meaning (image_word + 1) name files).value ≡ Err reply = rw number at stops in
     run-stopped words files image_word a name c reply command
@@ -505,8 +488,10 @@ large-work words files word x = unread words files word x.name x.limit _ x.turn 
 bad-image-by : (words : List (List ℕ)) (files : Files) (word : ℕ) (name bytes : List ℕ) (kind : ImageFault) (offset : ℕ)
     → NamesImage words word name → HasFile files name image_limit bytes → image_of bytes ≡ Err (kind, offset)
     → (work_of words files).value ≡ Err (bad_image_reply word name (kind, offset))
-unfolding work_of image_check image_listing rom_wrapping input input_with_bytes file
+unfolding work_of image_check inference image_with_notes image_listing rom_wrapping input input_with_bytes file
 bad-image-by words files word name bytes kind offset (to_check notes_name number command) found none =
+    rw (number, command, found.there, le-ltb image_limit (length bytes) found.fits, none) refl
+bad-image-by words files word name bytes kind offset (to_infer notes_name number command) found none =
     rw (number, command, found.there, le-ltb image_limit (length bytes) found.fits, none) refl
 bad-image-by words files word name bytes kind offset (to_list number command) found none =
     rw (number, command, found.there, le-ltb image_limit (length bytes) found.fits, none) refl
@@ -647,6 +632,11 @@ twin-works : (differ : Option ℕ) → IsWorkAnswer (twin_outcome differ)
 twin-works None = tt
 twin-works (Some step) = tt
 
+inferred-works : (name : List ℕ) (notes : Notes) (answer : Inferred) → IsWorkAnswer (inferred_reply name notes answer).outcome
+inferred-works name notes (Points points) = tt
+inferred-works name notes (Stuck place rule state) = tt
+inferred-works name notes (Many leaders) = tt
+
 works-by : (reply told : Reply) → reply ≡ told → IsWorkAnswer told.outcome → IsWorkAnswer reply.outcome
 works-by reply told same works = rw same works
 
@@ -663,7 +653,51 @@ stopped (Ok (works.WriteImage name image)) reply told none = absurd (none (works
 stopped (Ok (works.WriteRom name vendor device subsystem image)) reply told none = absurd (none (works-by reply _ told tt))
 stopped (Ok (works.ListRom images)) reply told none = absurd (none (works-by reply _ told tt))
 stopped (Ok (works.WriteTaken name bytes)) reply told none = absurd (none (works-by reply _ told tt))
+stopped (Ok (works.InferPoints name image notes)) reply told none =
+    absurd (none (works-by reply _ told.told (inferred-works name notes told.answer)))
 stopped (Err end) reply told none = ap Err (sym told)
+
+-- an answer of work is too large only where points are asked for, and there are too many leaders
+data IsLarge (v : Result Work Reply) (reply : Reply) (word : ℕ) : Type 0 where
+  stops_large : v ≡ Err reply → IsLarge v reply word
+  finds_many : (name : List ℕ) (image : Image) (notes : Notes) (leaders : ℕ) → v ≡ Ok (works.InferPoints name image notes)
+      → IsInferred image notes (Many leaders) → word ≡ 1 → IsLarge v reply word
+
+verdict-large : (verdict : Verdict) (word : ℕ) → (verdict_reply verdict).outcome ≡ outcomes.TooLarge word → ⊥
+verdict-large Neutral word e = cc
+verdict-large (Refused place rule) word e = cc
+
+twin-large : (differ : Option ℕ) (word : ℕ) → twin_outcome differ ≡ outcomes.TooLarge word → ⊥
+twin-large None word e = cc
+twin-large (Some step) word e = cc
+
+inferred-large : (name : List ℕ) (image : Image) (notes : Notes) (answer : Inferred) (reply : Reply) (word : ℕ)
+    → IsInferred image notes answer → (inferred_reply name notes answer).outcome ≡ outcomes.TooLarge word
+    → IsLarge (Ok (works.InferPoints name image notes)) reply word
+inferred-large name image notes (Points points) reply word inferred e = absurd cc
+inferred-large name image notes (Stuck place rule state) reply word inferred e = absurd cc
+inferred-large name image notes (Many leaders) reply word inferred e = finds_many name image notes leaders refl inferred cc
+
+large-answer : (v : Result Work Reply) (reply : Reply) (word : ℕ) → IsReplyOf v reply → reply.outcome ≡ outcomes.TooLarge word
+    → IsLarge v reply word
+large-answer (Ok (works.CheckCode code)) reply word told e =
+    absurd (verdict-large (plain_verdict code) word (sym (outcome-of reply _ told) ∙ e))
+large-answer (Ok (works.CheckImage image notes)) reply word told e =
+    absurd (verdict-large told.verdict word (sym (outcome-of reply _ told.told) ∙ e))
+large-answer (Ok (works.ListImage image)) reply word told e = absurd (let no = sym (outcome-of reply _ told) ∙ e in cc)
+large-answer (Ok (works.Run width image notes script steps)) reply word told e =
+    absurd (let no = sym (outcome-of reply _ told.told) ∙ e in cc)
+large-answer (Ok (works.Twin image notes script steps)) reply word told e =
+    absurd (twin-large told.report.differ word (sym (outcome-of reply _ told.told) ∙ e))
+large-answer (Ok (works.WriteObject name object)) reply word told e = absurd (let no = sym (outcome-of reply _ told) ∙ e in cc)
+large-answer (Ok (works.WriteImage name image)) reply word told e = absurd (let no = sym (outcome-of reply _ told) ∙ e in cc)
+large-answer (Ok (works.WriteRom name vendor device subsystem image)) reply word told e =
+    absurd (let no = sym (outcome-of reply _ told) ∙ e in cc)
+large-answer (Ok (works.ListRom images)) reply word told e = absurd (let no = sym (outcome-of reply _ told) ∙ e in cc)
+large-answer (Ok (works.WriteTaken name bytes)) reply word told e = absurd (let no = sym (outcome-of reply _ told) ∙ e in cc)
+large-answer (Ok (works.InferPoints name image notes)) reply word told e =
+    inferred-large name image notes told.answer reply word told.inferred (sym (outcome-of reply _ told.told) ∙ e)
+large-answer (Err end) reply word told e = stops_large (ap Err (sym told))
 
 stops : (words : List (List ℕ)) (files : Files) (reply : Reply) → IsAnswerOf words files reply → (IsWorkAnswer reply.outcome → ⊥)
     → Stops words files reply.outcome
@@ -713,11 +747,22 @@ large-back : (words : List (List ℕ)) (files : Files) (reply : Reply) (w : ℕ)
 large-back words files reply w told (large_number x) =
     outcome-of reply _ (replied _ _ reply (large-number-work words files w x) told)
 large-back words files reply w told (large_file x) = outcome-of reply _ (replied _ _ reply (large-work words files w x) told)
+large-back words files reply w told (many_leaders name image notes leaders word x inferred) =
+    let t : TellsInferred name image notes reply = rw (infer-work words files name image notes x) at told in
+    outcome-of reply _ (t.told ∙ ap (inferred_reply name notes) (sym (t.only (Many leaders) inferred))) ∙ rw word refl
+
+large-forth : (words : List (List ℕ)) (files : Files) (reply : Reply) (w : ℕ) → IsLarge (work_of words files).value reply w
+    → reply.outcome ≡ outcomes.TooLarge w → IsTooLarge words files w
+unfolding work_of
+large-forth words files reply w (stops_large e) past =
+    large-by words files reply.outcome w past (by-command words files reply (command_of words) refl e)
+large-forth words files reply w (finds_many name image notes leaders e inferred word) past =
+    many_leaders name image notes leaders word (infers-by-work words files name image notes e) inferred
 
 -- an answer is that a word is too large exactly where its number, or its file in its turn, is past its limit
 pub large-exactly : (words : List (List ℕ)) (files : Files) (reply : Reply) (w : ℕ) → IsAnswerOf words files reply
     → reply.outcome ≡ outcomes.TooLarge w ↔ IsTooLarge words files w
 large-exactly words files reply w told = (
-  λ past. large-by words files reply.outcome w past (stops words files reply told (λ works. rw past at works)),
+  λ past. large-forth words files reply w (large-answer (work_of words files).value reply w told past) past,
   λ x. large-back words files reply w told x,
 )

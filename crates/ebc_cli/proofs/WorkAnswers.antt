@@ -19,7 +19,7 @@ work-answer (outcomes.BadInput word fault) works = absurd works
 work-answer outcomes.ReadFault works = absurd works
 work-answer outcomes.WriteFault works = absurd works
 work-answer outcomes.NoMemory works = absurd works
-work-answer (outcomes.TooLarge word) works = absurd works
+work-answer (outcomes.TooLarge word) works = tt
 work-answer (outcomes.Missing word) works = absurd works
 
 work-cause : (files : Option Files) (before now : ℕ) (o : Outcome) → IsWorkAnswer o → MissingHasCause files before now o

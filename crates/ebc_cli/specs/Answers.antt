@@ -16,6 +16,9 @@ use Rattle.ebc_object.specs.declared.object.Object.{Object}
 use Rattle.note_types.specs.declared.fault.TomlFault.{TomlFault}
 use Rattle.note_types.specs.declared.notes.Notes.{Notes}
 use Rattle.note_types.specs.declared.script.Script.{Script}
+use Rattle.note_infer.specs.Inferred.{IsInferred}
+use Rattle.note_infer.specs.declared.inferred.Inferred.{Inferred}
+use Rattle.note_infer.specs.declared.inferred.Inferred.TheVariants.{Many, Points}
 use Rattle.option_rom.specs.declared.fault.RomFault.{RomFault}
 use Rattle.option_rom.specs.declared.fault.TakeFault.{TakeFault}
 use Rattle.option_rom.specs.declared.image.RomImage.{RomImage}
@@ -35,7 +38,7 @@ use Rattle.pe_image.specs.Images.{image_of}
 use Rattle.type_notes.specs.Notes.{notes_of}
 use Rattle.cli_base.specs.declared.outcome.Outcome.{Outcome}
 use Rattle.cli_base.specs.declared.outcome.Outcome.TheVariants as outcomes
-use Rattle.ebc_cli.specs.declared.command.Command.TheVariants.{Assemble, CheckCode, CheckImage, Link, ListImage, ListRom, Run, TakeRom}
+use Rattle.ebc_cli.specs.declared.command.Command.TheVariants.{Assemble, CheckCode, CheckImage, InferPoints, Link, ListImage, ListRom, Run, TakeRom}
 use Rattle.ebc_cli.specs.declared.command.Command.TheVariants.{Twin, WrapRom}
 use Rattle.ebc_cli.specs.declared.width.Width.{Width}
 use Rattle.cli_base.specs.declared.reply.End.{End}
@@ -53,6 +56,7 @@ use Rattle.cli_base.specs.Outcomes.{IsAnswer}
 use Rattle.cli_base.specs.Outputs.{SameBut, files_left, printed, text_of, written_name}
 use Rattle.cli_base.specs.Readings.{FileReading, AsksPart, MissingHasCause}
 use Rattle.ebc_cli.specs.Runnings.{IsTwinReport, report_text, twin_outcome, twin_report_text}
+use Rattle.ebc_cli.specs.Inferrings.{inferred_reply}
 use Rattle.ebc_cli.specs.Works.{work_of, IsReplyOf, plain_code_limit}
 
 -- a reply is an answer to the words
@@ -103,6 +107,17 @@ pub record ChecksImage (words : List (List ℕ)) (files : Files) (image : Image)
   pub text : List ℕ
   pub command : command_of words ≡ Some (CheckImage image_name notes_name)
   pub image_file : HasFile files image_name image_limit bytes
+  pub notes_file : HasFile files notes_name notes_limit text
+  pub image_is : image_of bytes ≡ Ok image
+  pub notes_are : notes_of text ≡ Ok notes
+
+-- the words are `infer IMAGE NOTES`, where the image has this name, and so here
+pub record InfersPoints (words : List (List ℕ)) (files : Files) (name : List ℕ) (image : Image) (notes : Notes) : Type 0 where
+  pub notes_name : List ℕ
+  pub bytes : List ℕ
+  pub text : List ℕ
+  pub command : command_of words ≡ Some (InferPoints name notes_name)
+  pub image_file : HasFile files name image_limit bytes
   pub notes_file : HasFile files notes_name notes_limit text
   pub image_is : image_of bytes ≡ Ok image
   pub notes_are : notes_of text ≡ Ok notes
@@ -229,13 +244,14 @@ pub data NamesRun (words : List (List ℕ)) (word : ℕ) (image_name notes_name 
       → command_of words ≡ Some (Twin image_name notes_name script_name (decimal steps))
       → NamesRun words word image_name notes_name script_name
 
--- the words are `check IMAGE NOTES`, `list IMAGE`, `rom wrap VENDOR DEVICE IMAGE ROM`, or `run` or `twin` as above, and the image has this
--- name, which is that word
+-- the words are `check IMAGE NOTES`, `infer IMAGE NOTES`, `list IMAGE`, `rom wrap VENDOR DEVICE IMAGE ROM`, or `run` or `twin` as above, and
+-- the image has this name, which is that word
 pub data NamesImage (words : List (List ℕ)) (word : ℕ) (name : List ℕ) : Type 0 where
   to_check : (notes_name : List ℕ) → word ≡ 1 → command_of words ≡ Some (CheckImage name notes_name) → NamesImage words word name
   to_list : word ≡ 1 → command_of words ≡ Some (ListImage name) → NamesImage words word name
   to_wrap : (vendor device : ℕ) (rom_name : List ℕ) → word ≡ 4 → command_of words ≡ Some (WrapRom vendor device name rom_name)
       → NamesImage words word name
+  to_infer : (notes_name : List ℕ) → word ≡ 1 → command_of words ≡ Some (InferPoints name notes_name) → NamesImage words word name
   to_run_on : (notes_name script_name : List ℕ) → NamesRun words word name notes_name script_name → NamesImage words word name
 
 -- the image's file is no image: its first fault has this number
@@ -249,10 +265,11 @@ pub record HasBadImage (words : List (List ℕ)) (files : Files) (word fault : �
   pub no_image : image_of bytes ≡ Err (kind, offset)
   pub number : fault ≡ image_fault_number kind
 
--- the words are `check IMAGE NOTES`, or `run` or `twin` as above; the image has the first of these names and the notes the second, which
--- is that word
+-- the words are `check IMAGE NOTES` or `infer IMAGE NOTES`, or `run` or `twin` as above; the image has the first of these names and the
+-- notes the second, which is that word
 pub data NamesNotes (words : List (List ℕ)) (word : ℕ) (image_name name : List ℕ) : Type 0 where
   to_check_under : word ≡ 2 → command_of words ≡ Some (CheckImage image_name name) → NamesNotes words word image_name name
+  to_infer_under : word ≡ 2 → command_of words ≡ Some (InferPoints image_name name) → NamesNotes words word image_name name
   to_run_under : (image_word : ℕ) (script_name : List ℕ) → word ≡ image_word + 1 → NamesRun words image_word image_name name script_name
       → NamesNotes words word image_name name
 
@@ -442,12 +459,16 @@ pub record HasLargeNumber (words : List (List ℕ)) (word : ℕ) : Type 0 where
   pub command : NamesNumber words word digits limit
   pub past : (n : ℕ) → n ≤ limit → digits ≢ decimal n
 
--- a number among the words is past its limit, or the file of this word, in its turn, is
+-- a number among the words is past its limit, or the file of this word, in its turn, is; or the words are `infer IMAGE NOTES`, and the
+-- image, which is the first, has more leaders than notes may have points
 pub data IsTooLarge (words : List (List ℕ)) (files : Files) (word : ℕ) : Type 0 where
   large_number : HasLargeNumber words word → IsTooLarge words files word
   large_file : HasLargeFile words files word → IsTooLarge words files word
+  many_leaders : (name : List ℕ) (image : Image) (notes : Notes) (leaders : ℕ) → word ≡ 1 → InfersPoints words files name image notes
+      → IsInferred image notes (Many leaders) → IsTooLarge words files word
 
--- the answer to the words has no text: a file is written, or they are `list IMAGE` and the listing of the image is empty
+-- the answer to the words has no text: a file is written, or they are `list IMAGE` and the listing of the image is empty, or they are
+-- `infer IMAGE NOTES` and it needs no points
 pub data HasNoText (words : List (List ℕ)) (files : Files) : Type 0 where
   writes_object : (name : List ℕ) (object : Object) → Assembles words files name object → HasNoText words files
   writes_image : (name : List ℕ) (image : Image) → Links words files name image → HasNoText words files
@@ -455,6 +476,8 @@ pub data HasNoText (words : List (List ℕ)) (files : Files) : Type 0 where
       → HasNoText words files
   writes_taken : (name bytes : List ℕ) → Takes words files name bytes → HasNoText words files
   empty_listing : (image : Image) → ListsImage words files image → listing_of image ≡ [] → HasNoText words files
+  no_points : (name : List ℕ) (image : Image) (notes : Notes) → InfersPoints words files name image notes
+      → IsInferred image notes (Points []) → HasNoText words files
 
 -- ---- what `neutral` means
 
@@ -483,6 +506,15 @@ pub record ShowsTwin (image : Image) (notes : Notes) (script : Script) (steps : 
   pub least : report.differ ≡ differ
   pub same : outcome ≡ twin_outcome differ
   pub text : now ≡ printed (twin_report_text notes report) before
+
+-- ---- what inferred points show
+
+-- the outcome and what was printed are those of what is found for the image of this name under notes
+pub record ShowsInferred (name : List ℕ) (image : Image) (notes : Notes) (outcome : Outcome) (before now : Option (List ℕ)) : Type 0 where
+  pub answer : Inferred
+  pub inferred : IsInferred image notes answer
+  pub same : outcome ≡ (inferred_reply name notes answer).outcome
+  pub text : now ≡ printed (text_of (inferred_reply name notes answer).output) before
 
 -- ---- causes
 

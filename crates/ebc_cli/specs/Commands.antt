@@ -1,7 +1,7 @@
 -- Meaning: the commands that words spell: docs/COMMANDS.md, "Commands". Words are seen as their bytes.
 use Rattle.std.specs.Prelude.{ℕ, List, [], ◌∷◌, codes, bytes_eq, if◌then◌else◌, ◌&&◌, Option, Some, None}
 use Rattle.ebc_cli.specs.declared.command.Command.{Command}
-use Rattle.ebc_cli.specs.declared.command.Command.TheVariants.{Assemble, CheckCode, CheckImage, Link, ListImage, ListRom, Run, TakeRom}
+use Rattle.ebc_cli.specs.declared.command.Command.TheVariants.{Assemble, CheckCode, CheckImage, InferPoints, Link, ListImage, ListRom, Run, TakeRom}
 use Rattle.ebc_cli.specs.declared.command.Command.TheVariants.{Twin, WrapRom}
 use Rattle.ebc_cli.specs.declared.width.Width.{Width}
 use Rattle.ebc_cli.specs.Numbers.{identifier_of, is_number, width_of}
@@ -69,6 +69,7 @@ command_of (word ∷ one ∷ two ∷ []) =
     if bytes_eq word (codes "check") then of_two_files CheckImage one two
     else if bytes_eq word (codes "asm") then of_two_files Assemble one two
     else if bytes_eq word (codes "link") then of_two_files Link one two
+    else if bytes_eq word (codes "infer") then of_two_files InferPoints one two
     else if bytes_eq word (codes "rom") && bytes_eq one (codes "list") then of_file ListRom two
     else None
 command_of (word ∷ one ∷ two ∷ three ∷ four ∷ []) = of_five_words word one two three four

@@ -6,5 +6,6 @@ pub mod Commands
 pub mod Inputs
 pub mod Linkings
 pub mod Runnings
+pub mod Inferrings
 pub mod Works
 pub mod Answers

@@ -40,4 +40,4 @@ abbrev pub usage_line : List ℕ
 usage_line =
     codes "usage: asm SRC OBJ | link PLAN IMAGE | check CODE | check IMAGE NOTES | list IMAGE"
     ++ (codes " | run WIDTH IMAGE NOTES SCRIPT STEPS | twin IMAGE NOTES SCRIPT STEPS"
-    ++ codes " | rom wrap VENDOR DEVICE IMAGE ROM | rom list ROM | rom take ROM NUMBER IMAGE\n")
+    ++ codes " | rom wrap VENDOR DEVICE IMAGE ROM | rom list ROM | rom take ROM NUMBER IMAGE | infer IMAGE NOTES\n")

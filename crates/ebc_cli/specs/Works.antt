@@ -31,6 +31,7 @@ use Rattle.ebc_cli.specs.Inputs.{input, input_with_bytes, notes_limit, notes_mea
 use Rattle.cli_base.specs.Inputs.{IsReadImage, image_limit, image_meaning}
 use Rattle.ebc_cli.specs.Inputs.{source_meaning}
 use Rattle.ebc_cli.specs.Inputs.{number_meaning, rom_limit, rom_meaning, rom_number_limit, step_limit, taking_meaning}
+use Rattle.ebc_cli.specs.Inferrings.{TellsInferred}
 use Rattle.ebc_cli.specs.Linkings.{linked_image}
 use Rattle.cli_base.specs.Outputs.{prints, writes}
 use Rattle.cli_base.specs.Readings.{FileReading, done, ◌>>=◌, file, told}
@@ -54,12 +55,18 @@ code_check name files = do
   code ← file 1 name plain_code_limit files
   done (works.CheckCode code)
 
--- `check IMAGE NOTES`: the image is read whole before the notes
-unfoldable pub image_check : List ℕ → List ℕ → Files → FileReading Work
-image_check image_name notes_name files = do
+-- an image and its notes: the image is read whole before the notes
+unfoldable pub image_with_notes : List ℕ → List ℕ → Files → FileReading (Image × Notes)
+image_with_notes image_name notes_name files = do
   image ← input image_limit image_meaning 1 image_name files
   notes ← input notes_limit notes_meaning 2 notes_name files
-  done (works.CheckImage image notes)
+  done (image, notes)
+
+-- `check IMAGE NOTES`
+unfoldable pub image_check : List ℕ → List ℕ → Files → FileReading Work
+image_check image_name notes_name files = do
+  read ← image_with_notes image_name notes_name files
+  done (works.CheckImage read.0 read.1)
 
 -- `list IMAGE`
 unfoldable pub image_listing : List ℕ → Files → FileReading Work
@@ -118,6 +125,12 @@ rom_taking rom_name digits image_name files = do
   number ← told (number_meaning rom_number_limit 3 digits)
   rom_taking_of rom_name number image_name files
 
+-- `infer IMAGE NOTES`
+unfoldable pub inference : List ℕ → List ℕ → Files → FileReading Work
+inference image_name notes_name files = do
+  read ← image_with_notes image_name notes_name files
+  done (works.InferPoints image_name read.0 read.1)
+
 abbrev pub work_for : Option Command → Files → FileReading Work
 work_for None files = told (Err usage_reply)
 work_for (Some (commands.CheckCode code)) files = code_check code files
@@ -130,6 +143,7 @@ work_for (Some (commands.Twin image notes script steps)) files = twinning image 
 work_for (Some (commands.WrapRom vendor device image rom)) files = rom_wrapping vendor device image rom files
 work_for (Some (commands.ListRom rom)) files = rom_images rom files
 work_for (Some (commands.TakeRom rom number image)) files = rom_taking rom number image files
+work_for (Some (commands.InferPoints image notes)) files = inference image notes files
 
 -- the files that the words ask for, and the work, or the reply at which the reading stops
 unfoldable pub work_of : List (List ℕ) → Files → FileReading Work
@@ -151,6 +165,7 @@ CanBeDone (works.Twin image notes script steps) = IsReadImage image × IsNotes n
 CanBeDone (works.WriteRom name vendor device subsystem image) = length image ≤ image_limit
 CanBeDone (works.ListRom images) = Unit {0}
 CanBeDone (works.WriteTaken name bytes) = Unit {0}
+CanBeDone (works.InferPoints name image notes) = IsReadImage image × IsNotes notes
 
 -- the name under which a file is to be written, if one is
 abbrev pub output_name : Work → Option (List ℕ)
@@ -192,6 +207,7 @@ IsReplyTo (works.Twin image notes script steps) reply = TellsTwin image notes sc
 IsReplyTo (works.WriteRom name vendor device subsystem image) reply = reply ≡ file_reply name (rom_bytes vendor device subsystem image)
 IsReplyTo (works.ListRom images) reply = reply ≡ listing_reply (rom_listing images)
 IsReplyTo (works.WriteTaken name bytes) reply = reply ≡ file_reply name bytes
+IsReplyTo (works.InferPoints name image notes) reply = TellsInferred name image notes reply
 
 -- a reading that went through is replied to as its work, and else by the reply at which it stopped
 abbrev pub IsReplyOf : Result Work Reply → Reply → Type 0

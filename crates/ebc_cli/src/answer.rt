@@ -9,6 +9,12 @@ ghost use Rattle.ebc_link.specs.declared.plan.LinkPlan.{LinkPlan};
 ghost use Rattle.ebc_object.specs.Files.{object_bytes};
 ghost use Rattle.ebc_object.specs.declared.object.Object.{Object};
 ghost use Rattle.note_types.specs.declared.notes.Notes.{Notes};
+ghost use Rattle.note_infer.specs.Inferred.{IsInferred};
+ghost use Rattle.note_infer.specs.Rounds.{with_points};
+ghost use Rattle.note_infer.specs.declared.inferred.Inferred.TheVariants.{Points, Stuck};
+ghost use Rattle.note_types.specs.declared.notes.Point.{Point};
+ghost use Rattle.note_types.specs.declared.state.State.{State};
+ghost use Rattle.point_texts.specs.PrintedStates.{points_text};
 ghost use Rattle.note_types.specs.declared.rule.RuleName.{RuleName};
 ghost use Rattle.note_types.specs.declared.script.Script.{Script};
 ghost use Rattle.host_model.specs.Runs.{world_of};
@@ -25,7 +31,7 @@ ghost use Rattle.twin_run.specs.Differs.{DifferAt};
 ghost use Rattle.width_checker.specs.Typed.{Typed};
 ghost use Rattle.width_checker.specs.Verdicts.{IsRefused};
 ghost use Rattle.ebc_cli.specs.Answers.{Answers, AnswersWords, Assembles, Decides, LeavesPart, ChecksCode, ChecksImage, ListsImage, HasBadInput, HasBadLine, HasMissingFile, HasNoText, SameForScripts};
-ghost use Rattle.ebc_cli.specs.Answers.{RunsImage, ShowsRun, ShowsTwin, TwinsImage};
+ghost use Rattle.ebc_cli.specs.Answers.{InfersPoints, RunsImage, ShowsInferred, ShowsRun, ShowsTwin, TwinsImage};
 ghost use Rattle.ebc_cli.specs.Numbers.{address_bytes};
 ghost use Rattle.ebc_cli.specs.declared.width.Width.{Width};
 ghost use Rattle.ebc_cli.specs.Answers.{Links, Wraps, ListsRom, Takes, HasBadLink, HasBadRom, HasBadTaking, IsTooLarge};
@@ -170,8 +176,25 @@ pub fn ebc<F: Folder, O: Sink>(
         HasBadTaking (word_bytes words.now) files name kind offset →
         IsAnswer result → O.written out.new ≡ printed (bad_line name (take_fault_text kind) (decimal offset)) (O.written out.old)) }
 
+    // `infer IMAGE NOTES` prints exactly what is found for each image within the limit, from notes within theirs, whose own points are
+    // ignored: points, which are the answer Done, and then the image is typed under the notes with these; or where it is stuck.
+    ensures infers_exactly { IfSome (F.contents folder.old) (λ files. (name : List ℕ) (image : Image) (notes : Notes) →
+        InfersPoints (word_bytes words.now) files name image notes → IsAnswer result →
+        ShowsInferred name image notes result (O.written out.old) (O.written out.new)) }
+    ensures points_exactly { IfSome (F.contents folder.old) (λ files. (name : List ℕ) (image : Image) (notes : Notes) →
+        InfersPoints (word_bytes words.now) files name image notes → IsAnswer result →
+        result ≡ Outcome.Done ↔ ((points : List Point) × IsInferred image notes (Points points))) }
+    ensures points_typed { IfSome (F.contents folder.old) (λ files. (name : List ℕ) (image : Image) (notes : Notes) →
+        InfersPoints (word_bytes words.now) files name image notes → IsAnswer result → result ≡ Outcome.Done →
+        (points : List Point) × (O.written out.new ≡ printed (points_text notes points) (O.written out.old))
+        × Typed image (with_points notes points)) }
+    ensures stuck_exactly { IfSome (F.contents folder.old) (λ files.
+        (name : List ℕ) (image : Image) (notes : Notes) (place : ℕ) (rule : RuleName) →
+        InfersPoints (word_bytes words.now) files name image notes → IsAnswer result →
+        result ≡ Outcome.Refused place rule ↔ ((state : Option State) × IsInferred image notes (Stuck place rule state))) }
+
     // A file is missing exactly where it is the first, in its turn, that isn't there. A number is too large exactly where it is past
-    // its limit, and a file where it is the first past its own. A file is bad input exactly where it is the first that stands for no
+    // its limit, a file where it is the first past its own, and an image where it has more leaders than notes may have points. A file is bad input exactly where it is the first that stands for no
     // image, no notes, no script, no object, no link plan or no option ROM, or has no image to take, by its first fault; or a plan by which objects
     // aren't linked.
     ensures missing_exactly { IfSome (F.contents folder.old) (λ files. (word : ℕ) →

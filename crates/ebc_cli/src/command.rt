@@ -69,6 +69,11 @@ pub enum Command {
         number: Name,
         image: Name,
     },
+    /// `infer IMAGE NOTES`: the points that are found for an image from notes whose own points are ignored.
+    InferPoints {
+        image: Name,
+        notes: Name,
+    },
 }
 
 /// The command that the words spell, if they spell one.
@@ -128,6 +133,11 @@ fn with_two_words(
         let plan = Name::new(String::from_str(alloc, one.as_str())?);
         let image = Name::new(String::from_str(alloc, two.as_str())?);
         return Ok(Some(Command::Link { plan, image }));
+    }
+    if word.as_str() == "infer" {
+        let image = Name::new(String::from_str(alloc, one.as_str())?);
+        let notes = Name::new(String::from_str(alloc, two.as_str())?);
+        return Ok(Some(Command::InferPoints { image, notes }));
     }
     if word.as_str() == "rom" && one.as_str() == "list" {
         let rom = Name::new(String::from_str(alloc, two.as_str())?);

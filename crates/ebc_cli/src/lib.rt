@@ -9,6 +9,7 @@
 mod answer;
 mod command;
 mod fault;
+mod inferring;
 mod input;
 mod linking;
 mod number;

@@ -1,7 +1,7 @@
 //! The lines that are printed.
 ghost use Rattle.std.specs.Prelude.{◌≡◌, Some, IfOk, string_bytes};
 ghost use Rattle.option_rom.specs.Images.{end_of};
-ghost use Rattle.ebc_cli.specs.Texts.{rule_text};
+ghost use Rattle.ebc_cli.specs.Texts.{refused_line, rule_text};
 ghost use Rattle.ebc_cli.specs.Inputs.{bad_notes_reply, bad_source_reply, bad_rom_reply, bad_taking_reply, taking_offset};
 ghost use Rattle.ebc_cli.specs.Inputs.{bad_object_reply, bad_plan_reply};
 ghost use Rattle.ebc_cli.specs.Works.{verdict_reply, listing_reply, file_reply, usage_reply};
@@ -62,12 +62,19 @@ pub fn verdict(alloc: Global, verdict: Verdict) -> Result<Reply, AllocError>
     }
 }
 
-fn refused(alloc: Global, place: u32, rule: RuleName) -> Result<Reply, AllocError>
-    ensures { IfOk result (λ r. r ≡ verdict_reply (Verdict.Refused place rule)) }
+/// The line of a rule that fails at a place.
+pub fn refused_line(alloc: Global, place: u32, rule: RuleName) -> Result<Vec<u8>, AllocError>
+    ensures { IfOk result (λ text. text.items ≡ refused_line place rule) }
 {
     let shown = Place(place);
     let name = rule_text(rule);
-    let text = format!(in alloc; "refused {shown} {name}\n")?.into_bytes();
+    Ok(format!(in alloc; "refused {shown} {name}\n")?.into_bytes())
+}
+
+fn refused(alloc: Global, place: u32, rule: RuleName) -> Result<Reply, AllocError>
+    ensures { IfOk result (λ r. r ≡ verdict_reply (Verdict.Refused place rule)) }
+{
+    let text = refused_line(alloc, place, rule)?;
     Ok(printed(Outcome::Refused { place, rule }, text))
 }
 
@@ -96,7 +103,7 @@ pub fn usage(alloc: Global) -> Result<Reply, AllocError>
     ensures { IfOk result (λ r. r ≡ usage_reply) }
 {
     let text =
-        b"usage: asm SRC OBJ | link PLAN IMAGE | check CODE | check IMAGE NOTES | list IMAGE | run WIDTH IMAGE NOTES SCRIPT STEPS | twin IMAGE NOTES SCRIPT STEPS | rom wrap VENDOR DEVICE IMAGE ROM | rom list ROM | rom take ROM NUMBER IMAGE\n";
+        b"usage: asm SRC OBJ | link PLAN IMAGE | check CODE | check IMAGE NOTES | list IMAGE | run WIDTH IMAGE NOTES SCRIPT STEPS | twin IMAGE NOTES SCRIPT STEPS | rom wrap VENDOR DEVICE IMAGE ROM | rom list ROM | rom take ROM NUMBER IMAGE | infer IMAGE NOTES\n";
     Ok(printed(Outcome::BadWords, text.to_vec(alloc)?))
 }
 

@@ -11,10 +11,11 @@ ghost use Rattle.cli_base.specs.Outcomes.{IsWorkAnswer};
 ghost use Rattle.cli_base.specs.Readings.{Follows, IfStop, CommandAnswer};
 ghost use Rattle.cli_base.specs.Outputs.{written_name};
 ghost use Rattle.ebc_cli.specs.Inputs.{number_meaning, rom_number_limit, step_limit, taking_meaning};
-ghost use Rattle.cli_base.specs.Inputs.{Means};
-ghost use Rattle.ebc_cli.specs.Works.{CanBeDone, IsReplyTo, image_check, output_name, rom_taking, rom_taking_of, rom_wrapping, running, twinning, work_of};
+ghost use Rattle.cli_base.specs.Inputs.{IsReadImage, Means};
+ghost use Rattle.ebc_cli.specs.Works.{CanBeDone, IsReplyTo, image_with_notes, output_name, rom_taking, rom_taking_of, rom_wrapping, running, twinning, work_of};
 
 use crate::command::{Command, command_of};
+use crate::inferring::infer_reply;
 use crate::input::{read_as, read_with_bytes};
 use crate::linking::read_linked;
 use crate::rom_text::rom_listing;
@@ -102,10 +103,16 @@ pub enum Work {
         name: Name,
         bytes: Sequence<u8>,
     },
+    /// The search for points of the image of a name, under notes.
+    InferPoints {
+        name: Name,
+        image: Image,
+        notes: Notes,
+    },
 }
 
 /// Reads the files that the words name, and says what the words ask for.
-#[tactic(auto, unfolding(crate::specs::Works::work_of, crate::specs::Works::code_check, crate::specs::Works::image_listing, crate::specs::Works::assembly, crate::specs::Works::linking, crate::specs::Works::rom_images))]
+#[tactic(auto, unfolding(crate::specs::Works::work_of, crate::specs::Works::code_check, crate::specs::Works::image_check, crate::specs::Works::inference, crate::specs::Works::image_listing, crate::specs::Works::assembly, crate::specs::Works::linking, crate::specs::Works::rom_images))]
 pub fn read_work<F: Folder>(alloc: Global, words: &Vec<String>, folder: &mut F) -> Result<Work, End>
     ensures follows { IfSome (F.contents folder.old) (λ files.
         Follows (F.asked folder.old) (F.asked folder.new) result (work_of (word_bytes words.now) files)) }
@@ -128,7 +135,13 @@ pub fn read_work<F: Folder>(alloc: Global, words: &Vec<String>, folder: &mut F) 
             Ok(Work::CheckCode { code })
         }
         Some(Command::CheckImage { image, notes }) => {
-            read_image_check(alloc, image.as_str(), notes.as_str(), folder)
+            let (image, notes) = read_image_with_notes(
+                alloc,
+                image.as_str(),
+                notes.as_str(),
+                folder,
+            )?;
+            Ok(Work::CheckImage { image, notes })
         }
         Some(Command::ListImage { image }) => {
             let image = read_as(alloc, folder, 1, image.as_str())?;
@@ -194,21 +207,30 @@ pub fn read_work<F: Folder>(alloc: Global, words: &Vec<String>, folder: &mut F) 
         Some(Command::TakeRom { rom, number, image }) => {
             read_taking(alloc, rom.as_str(), number.as_str(), image, folder)
         }
+        Some(Command::InferPoints { image: name, notes }) => {
+            let (image, notes) = read_image_with_notes(
+                alloc,
+                name.as_str(),
+                notes.as_str(),
+                folder,
+            )?;
+            Ok(Work::InferPoints { name, image, notes })
+        }
     }
 }
 
-// `check IMAGE NOTES`
-#[tactic(auto, unfolding(crate::specs::Works::image_check))]
-fn read_image_check<F: Folder>(
+// An image and its notes.
+#[tactic(auto, unfolding(crate::specs::Works::image_with_notes))]
+fn read_image_with_notes<F: Folder>(
     alloc: Global,
     image: &str,
     notes: &str,
     folder: &mut F,
-) -> Result<Work, End>
+) -> Result<(Image, Notes), End>
     ensures follows { IfSome (F.contents folder.old) (λ files.
-        Follows (F.asked folder.old) (F.asked folder.new) result (image_check image.now notes.now files)) }
-    ensures work { IfOk result CanBeDone }
-    ensures output { IfOk result (λ work. output_name work ≡ None) }
+        Follows (F.asked folder.old) (F.asked folder.new) result (image_with_notes image.now notes.now files)) }
+    ensures image { IfOk result (λ read. IsReadImage read.0) }
+    ensures notes { IfOk result (λ read. IsNotes read.1) }
     ensures stop { IfStop result (CommandAnswer (F.contents folder.old)
         (F.read_faults folder.old) (F.read_faults folder.new)) }
     ensures fault { IsErrOf result End.ReadFault →
@@ -220,7 +242,7 @@ fn read_image_check<F: Folder>(
 {
     let image = read_as(alloc, folder, 1, image)?;
     match read_as(alloc, folder, 2, notes) {
-        Ok(notes) => Ok(Work::CheckImage { image, notes }),
+        Ok(notes) => Ok((image, notes)),
         Err(end) => Err(end),
     }
 }
@@ -468,6 +490,9 @@ impl Work {
             Work::WriteTaken { name, bytes } => {
                 let file = Vec::from_slice(alloc, bytes.as_slice())?;
                 Ok(text::file(name, file))
+            }
+            Work::InferPoints { name, image, notes } => {
+                infer_reply(alloc, name.as_str(), &image, &notes)
             }
         }
     }

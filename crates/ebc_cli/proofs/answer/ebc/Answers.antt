@@ -5,6 +5,7 @@ use Rattle.ebc_cli.proofs.HeadlineLemmas.{links-always, links-exactly, bad-link-
 use Rattle.ebc_cli.proofs.HeadlineLemmas.{lists-rom-always, lists-rom-exactly, takes-always, takes-exactly, bad-rom-line, bad-taking-line}
 use Rattle.ebc_cli.proofs.HeadlineLemmas.{bad-input, missing, too-large, neutral-printed, refused-printed, plain-alike, plain-exactly}
 use Rattle.ebc_cli.proofs.HeadlineLemmas.{plain-refused, plain-neutral-printed, plain-refused-printed, unput, untold}
+use Rattle.ebc_cli.proofs.InferAnswers.{infers-exactly, points-exactly, points-typed, stuck-exactly}
 use Rattle.ebc_cli.proofs.RunAnswers.{runs-always, runs-exactly, twins-exactly, same-exactly, differ-exactly, twin-same}
 use Rattle.cli_base.proofs.OutputLemmas.{but-output, writes-none}
 use Rattle.ebc_cli.specs.Commands.{command_of, output_of}
@@ -116,6 +117,18 @@ returns-clause-takes_exactly g c = takes-exactly _ _ _ _ _ (tells g c) (rw c.dec
 
 pub returns-clause-bad_taking_line : goal.returns-clause-bad_taking_line
 returns-clause-bad_taking_line g c = bad-taking-line _ _ _ _ _ _ (tells g c) c.finish.ensures.text
+
+pub returns-clause-infers_exactly : goal.returns-clause-infers_exactly
+returns-clause-infers_exactly g c = infers-exactly _ _ _ _ _ _ (tells g c) c.finish.ensures.text
+
+pub returns-clause-points_exactly : goal.returns-clause-points_exactly
+returns-clause-points_exactly g c = points-exactly _ _ _ _ (tells g c)
+
+pub returns-clause-points_typed : goal.returns-clause-points_typed
+returns-clause-points_typed g c = points-typed _ _ _ _ _ _ (tells g c) c.finish.ensures.text
+
+pub returns-clause-stuck_exactly : goal.returns-clause-stuck_exactly
+returns-clause-stuck_exactly g c = stuck-exactly _ _ _ _ (tells g c)
 
 pub returns-clause-bad_input_exactly : goal.returns-clause-bad_input_exactly
 returns-clause-bad_input_exactly g c = bad-input _ _ _ _ (tells g c)
