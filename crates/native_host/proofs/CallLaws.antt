@@ -90,13 +90,13 @@ slots-asked-count w world P r place target e c args script there is =
 
 -- ---- the top frame
 
-with_call-arguments : (fs : List Frame) (xs : List ℕ) (call : NativeCall ℕ)
+pub with_call-arguments : (fs : List Frame) (xs : List ℕ) (call : NativeCall ℕ)
     → with_call call (map saved_of (with_arguments xs fs)) ≡ with_call call (map saved_of fs)
 unfolding with_arguments saved_of
 with_call-arguments [] xs call = refl
 with_call-arguments (f ∷ fs) xs call = refl
 
-with_call-twice : (hs : List SavedFrame) (a b : NativeCall ℕ) → with_call a (with_call b hs) ≡ with_call a hs
+pub with_call-twice : (hs : List SavedFrame) (a b : NativeCall ℕ) → with_call a (with_call b hs) ≡ with_call a hs
 with_call-twice [] a b = refl
 with_call-twice (h ∷ hs) a b = refl
 

@@ -1,5 +1,6 @@
 pub mod AcceptLaws
 pub mod AskingLaws
+pub mod BoundLaws
 pub mod CallLaws
 pub mod ComingLaws
 pub mod EnterLaws

@@ -1,4 +1,5 @@
 pub mod Askings
+pub mod Bound
 pub mod Entering
 pub mod Hosts
 pub mod Kept

@@ -121,9 +121,43 @@ fn entry_refused(script: &Script, entry: u32, signature: u32, args: &[Seen]) -> 
     }
 }
 
-/// How a run ends at a call that is asked for at a place, where so many calls of the script were accepted.
-pub(crate) fn refused(script: &Script, entry: u32, place: u32, asking: &Asking) -> Option<Ending>
-    ensures refused { result ≡ option_or (asking_refused place (asking_of asking.now)) (entry_refused (slice_get script.now.call entry) (asked_signature (asking_of asking.now)) (asked_args (asking_of asking.now))) }
+impl Asking {
+    /// The signature of a call that is asked for, 0 where its place has no site.
+    pub(crate) fn signature(&self) -> u32
+        ensures { result ≡ asked_signature (asking_of self.now) }
+    {
+        match self {
+            Asking::NoSite => 0,
+            Asking::Unmapped(signature) => *signature,
+            Asking::Asks { signature, .. } => *signature,
+        }
+    }
+
+    // Its arguments.
+    fn args(&self) -> &[Seen]
+        ensures args { result.now ≡ asked_args (asking_of self.now) }
+        ensures few { length result.now ≤ 16 }
+    {
+        match self {
+            Asking::Asks { args, .. } => args.as_slice(),
+            _ => &[],
+        }
+    }
+
+    /// Its arguments, handed over.
+    pub(crate) fn into_args(self) -> Args
+        ensures { result ≡ asked_args (asking_of self) }
+    {
+        match self {
+            Asking::Asks { args, .. } => args,
+            _ => Args::new(),
+        }
+    }
+}
+
+/// How a run ends at a call that is asked for at a place, without a site, with a slot that isn't mapped, or to another target.
+pub(crate) fn asking_refused(place: u32, asking: &Asking) -> Option<Ending>
+    ensures refused { result ≡ asking_refused place (asking_of asking.now) }
     ensures ends { IfSome result (λ e. IsSome (end_step e)) }
 {
     match asking {
@@ -133,10 +167,17 @@ pub(crate) fn refused(script: &Script, entry: u32, place: u32, asking: &Asking) 
             elsewhere: Some(address),
             ..
         } => Some(Ending::Mismatch(Reason::Target { address: *address })),
-        Asking::Asks {
-            signature,
-            args,
-            ..
-        } => entry_refused(script, entry, *signature, args.as_slice()),
+        Asking::Asks { .. } => None,
+    }
+}
+
+/// How a run ends at a call that is asked for at a place, where so many calls of the script were accepted.
+pub(crate) fn refused(script: &Script, entry: u32, place: u32, asking: &Asking) -> Option<Ending>
+    ensures refused { result ≡ option_or (asking_refused place (asking_of asking.now)) (entry_refused (slice_get script.now.call entry) (asked_signature (asking_of asking.now)) (asked_args (asking_of asking.now))) }
+    ensures ends { IfSome result (λ e. IsSome (end_step e)) }
+{
+    match asking_refused(place, asking) {
+        Some(ending) => Some(ending),
+        None => entry_refused(script, entry, asking.signature(), asking.args()),
     }
 }

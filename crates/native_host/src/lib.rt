@@ -4,6 +4,7 @@
 
 mod arguments;
 mod asking;
+mod bound;
 mod call;
 mod cells;
 mod entering;
@@ -21,6 +22,7 @@ mod step;
 mod thunks;
 mod values;
 
+pub use bound::{BoundCall, BoundStep, bound_at};
 pub use call::Request;
 pub use host::Host;
 pub use note_types::{Args, Event, Reason};
