@@ -2,7 +2,8 @@
 -- `double` of such numbers.
 use Rattle.std.specs.Prelude.{ℕ, true, false, List, [], ◌∷◌, ◌++◌, Some, None, Ok, Err, codes}
 use Rattle.std.proofs.Common.{◌≡◌, refl}
-use Rattle.bind_texts.specs.BindTexts.{BindDraft, binds_in}
+use Rattle.bind_texts.specs.BindTexts.{binds_in}
+use Rattle.bind_texts.specs.declared.draft.BindDraft.{BindDraft}
 use Rattle.note_texts.specs.Keys.{item_path, row_prefix}
 use Rattle.note_types.specs.BelowTests.{is_below, same_type}
 use Rattle.note_types.specs.declared.cell.SlotKind.TheVariants.{N}
@@ -55,18 +56,19 @@ main = record {
   enter = false;
 }
 
--- with a function that takes a number up to this
-abbrev b : ℕ → Notes
-b most = record nothing {
-  function = main ∷ record main {
-    name = codes "double";
-    place = 0x1006;
-    «end» = 0x100E;
-    params = record { kind = N; ty = ty.Int 0 most 1 } ∷ [];
-    result = ty.Int 0 2000 1;
-    enter = true;
-  } ∷ [];
+-- which takes a number up to this
+abbrev double : ℕ → FnNote
+double most = record main {
+  name = codes "double";
+  place = 0x1006;
+  «end» = 0x100E;
+  params = record { kind = N; ty = ty.Int 0 most 1 } ∷ [];
+  result = ty.Int 0 2000 1;
+  enter = true;
 }
+
+abbrev b : ℕ → Notes
+b most = record nothing { function = main ∷ double most ∷ [] }
 
 -- ---- drafts
 
@@ -79,6 +81,12 @@ doubled = bind (codes "Double") (codes "double")
 given : binds_in a (b 1000) (doubled ∷ []) ≡ Ok (record { method = 0; function = 1 } ∷ [])
 unfolding binds_in all_pass each_of bind_agrees is_below same_type method_number function_number
 given = refl
+
+-- two methods, of which the other has no signature, are bound to one function
+both : binds_in (record a { methods = codes "Double" ∷ codes "Add" ∷ [] }) (b 1000) (doubled ∷ bind (codes "Add") (codes "double") ∷ [])
+    ≡ Ok (record { method = 0; function = 1 } ∷ record { method = 1; function = 1 } ∷ [])
+unfolding binds_in all_pass each_of bind_agrees is_below same_type method_number function_number
+both = refl
 
 none : binds_in a (b 1000) [] ≡ Ok []
 unfolding binds_in all_pass each_of
@@ -102,6 +110,12 @@ no_method : binds_in a (b 10) (bind (codes "Halve") (codes "dubel") ∷ []) ≡ 
 unfolding binds_in all_pass each_of method_number function_number
 no_method = refl
 
-entry_function : binds_in a (b 1000) (bind (codes "Double") (codes "main") ∷ []) ≡ Err (Range (item_path (codes "bind") 0))
-unfolding binds_in all_pass each_of bind_agrees method_number function_number
+-- the entry function, and one that the firmware may not enter, though it takes and gives what the method does
+entry_function : binds_in a (record (b 1000) { entry = 1 }) (doubled ∷ []) ≡ Err (Range (item_path (codes "bind") 0))
+unfolding binds_in all_pass each_of bind_agrees is_below same_type method_number function_number
 entry_function = refl
+
+unmarked : binds_in a (record nothing { function = main ∷ record (double 1000) { enter = false } ∷ [] }) (doubled ∷ [])
+    ≡ Err (Range (item_path (codes "bind") 0))
+unfolding binds_in all_pass each_of bind_agrees is_below same_type method_number function_number
+unmarked = refl

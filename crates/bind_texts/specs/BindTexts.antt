@@ -1,28 +1,25 @@
 -- For proofs: the binds that a text stands for under the notes of two images, or the first fault in it. docs/PAIRS.md, "Binds".
-use Rattle.std.specs.Prelude.{ℕ, List, [], ◌∷◌, ◌++◌, Bool, not, Result, Ok, bytes_eq, codes, take}
-use Rattle.std.specs.List.{list_any}
+use Rattle.std.specs.Prelude.{ℕ, List, [], ◌∷◌, ◌++◌, not, Result, Ok, codes, map, take}
+use Rattle.bind_texts.specs.declared.draft.BindDraft.{BindDraft}
 use Rattle.ebc_base.specs.Names.{name_of}
 use Rattle.ebc_base.specs.Steps.{◌>>=◌, or_else, passes}
+use Rattle.ebc_base.specs.Tables.{is_named}
 use Rattle.note_texts.specs.Keys.{document, item_path, number_at, only_keys, row_prefix, text_at}
-use Rattle.note_texts.specs.Lists.{array_at, rows_of}
+use Rattle.note_texts.specs.Lists.{tables_at}
 use Rattle.note_types.specs.declared.fault.TomlFault.{TomlFault}
 use Rattle.note_types.specs.declared.fault.TomlFault.TheVariants.{Name, Range, Twice}
 use Rattle.note_types.specs.declared.notes.Notes.{Notes}
 use Rattle.pair_model.specs.Binds.{bind_agrees}
 use Rattle.pair_model.specs.declared.bind.Bind.{Bind}
 use Rattle.protocol_script.specs.Numbers.{function_number, method_number}
+use Rattle.script_draft.specs.Drafts.{most_items}
 use Rattle.script_draft.specs.Lists.{all_pass, each_of}
 use Rattle.toml.specs.Data.{Members}
-
--- A bind as its text has it: the names of a method of A and of a function of B.
-pub record BindDraft : Type 0 where
-  pub method : List ℕ
-  pub function : List ℕ
 
 -- ---- 1. tables and keys
 
 -- what a table of the list of binds has
-abbrev pub bind_row : List ℕ → Members → Result BindDraft TomlFault
+unfoldable pub bind_row : List ℕ → Members → Result BindDraft TomlFault
 bind_row prefix table = do
   method ← text_at name_of prefix (codes "method") table
   function ← text_at name_of prefix (codes "function") table
@@ -33,23 +30,24 @@ bind_row prefix table = do
 unfoldable pub draft_of : Members → Result (List BindDraft) TomlFault
 draft_of table = do
   version ← number_at [] (codes "version") 1 1 table
-  items ← array_at [] (codes "bind") table
-  rows ← rows_of bind_row (codes "bind") items
+  rows ← tables_at bind_row [] (codes "bind") most_items table
   _ ← only_keys [] (codes "version" ∷ codes "bind" ∷ []) table
   Ok rows
 
 -- ---- 2. a method again
 
--- one of the binds before that of a number is of the same method
-abbrev pub is_again : List BindDraft → ℕ → BindDraft → Bool
-is_again rows i x = list_any (λ (y : BindDraft). bytes_eq y.method x.method) (take i rows)
+-- the methods of the binds before that of a number
+abbrev pub methods_before : List BindDraft → ℕ → List (List ℕ)
+methods_before rows i = map (λ (y : BindDraft). y.method) (take i rows)
 
+-- a bind is of another method than each before it
 abbrev pub bound_once : List BindDraft → ℕ → BindDraft → Result (Unit {0}) TomlFault
-bound_once rows i x = passes (not (is_again rows i x)) (Twice (row_prefix (codes "bind") i ++ codes "method"))
+bound_once rows i x =
+    passes (not (is_named x.method (methods_before rows i))) (Twice (row_prefix (codes "bind") i ++ codes "method"))
 
 -- ---- 3. names
 
--- a method of A and a function of B
+-- a method of A and a function of B, by their numbers
 abbrev pub bind_of : (a b : Notes) → ℕ → BindDraft → Result Bind TomlFault
 bind_of a b i x = do
   method ← or_else (Name (row_prefix (codes "bind") i ++ codes "method")) (method_number a x.method)
@@ -58,6 +56,7 @@ bind_of a b i x = do
 
 -- ---- 4. the condition
 
+-- a bind agrees with the notes of both images
 abbrev pub bind_passes : (a b : Notes) → ℕ → Bind → Result (Unit {0}) TomlFault
 bind_passes a b i x = passes (bind_agrees a b x) (Range (item_path (codes "bind") i))
 

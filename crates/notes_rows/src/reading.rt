@@ -1,6 +1,7 @@
 //! What is told of a text that is read: its fault, or what it stands for.
 use crate::keys::read_sample;
 use crate::text::{Shown, Text};
+use bind_texts::read_binds;
 use note_types::{Notes, NotesEnd, TomlFault};
 use protocol_script::read_script;
 use std::alloc::{AllocError, Global};
@@ -20,6 +21,8 @@ pub enum Reader {
     Signatures,
     /// A script under notes, of which the whole record is told.
     Script,
+    /// Binds under the notes of two images, of which all are told.
+    Binds,
 }
 
 impl Reader {
@@ -33,6 +36,7 @@ impl Reader {
             "points" => Some(Reader::Points),
             "signatures" => Some(Reader::Signatures),
             "script" => Some(Reader::Script),
+            "binds" => Some(Reader::Binds),
             _ => None,
         }
     }
@@ -108,12 +112,30 @@ fn script(
     }
 }
 
-/// What is told of a text, of a script under the notes that a text stands for. Where the text is read and `Ok` is wanted, it is
-/// `Ok`.
+// Binds under the notes of both images, which are read each time.
+fn binds(
+    text: &mut Text,
+    alloc: Global,
+    under: &str,
+    beside: &str,
+    read: &[u8],
+    wanted: &str,
+) -> Result<(), AllocError> {
+    let a = read_notes(alloc, under.as_bytes());
+    let b = read_notes(alloc, beside.as_bytes());
+    match (a, b) {
+        (Ok(a), Ok(b)) => record(text, read_binds(alloc, read, &a, &b), wanted),
+        _ => text.word("the notes are refused"),
+    }
+}
+
+/// What is told of a text, of a script under the notes that a text stands for, of binds under these and those beside them. Where the
+/// text is read and `Ok` is wanted, it is `Ok`.
 pub fn told(
     alloc: Global,
     reader: Reader,
     under: &str,
+    beside: &str,
     read: &[u8],
     wanted: &str,
 ) -> Result<String, AllocError> {
@@ -121,6 +143,7 @@ pub fn told(
     match reader {
         Reader::Keys => record(&mut text, read_sample(alloc, read), wanted)?,
         Reader::Script => script(&mut text, alloc, under, read, wanted)?,
+        Reader::Binds => binds(&mut text, alloc, under, beside, read, wanted)?,
         _ => notes(&mut text, alloc, reader, read, wanted)?,
     }
     Ok(text.written())

@@ -7,8 +7,10 @@ use std::alloc::{AllocError, Global};
 enum Lines {
     /// For what is done next.
     Commands,
-    /// For notes, under which scripts are read.
+    /// For notes, under which scripts are read, and binds as those of image A.
     Notes,
+    /// For notes, under which binds are read as those of image B.
+    Beside,
     /// For rows `PART|ANSWER`.
     Parts,
     /// For rows `PART|COUNT|ITEM|ANSWER`, of a part with so many items in place of its `@`.
@@ -28,8 +30,10 @@ pub struct Rows {
     told: String,
     // What is told where the answer of a row is `no`.
     no: String,
-    // The notes under which scripts are read.
+    // The notes under which scripts are read, and those of image A for binds.
     under: String,
+    // The notes of image B for binds.
+    beside: String,
     name: String,
     held: u64,
 }
@@ -44,6 +48,7 @@ impl Rows {
             told: String::new(alloc),
             no: String::new(alloc),
             under: String::new(alloc),
+            beside: String::new(alloc),
             name: String::new(alloc),
             held: 0,
         }
@@ -53,13 +58,16 @@ impl Rows {
     pub fn tell(&mut self, alloc: Global, line: &str) -> Result<String, AllocError> {
         match (self.lines, line) {
             (Lines::Commands, _) => self.command(alloc, line),
-            (Lines::Notes, "end") => {
+            (Lines::Notes | Lines::Beside, "end") => {
                 self.lines = Lines::Commands;
                 Ok(String::new(alloc))
             }
             (Lines::Notes, _) => {
-                self.under.push_str(line)?;
-                self.under.push_str("\n")?;
+                add_line(&mut self.under, line)?;
+                Ok(String::new(alloc))
+            }
+            (Lines::Beside, _) => {
+                add_line(&mut self.beside, line)?;
                 Ok(String::new(alloc))
             }
             (_, "end") => self.end_table(alloc),
@@ -77,6 +85,10 @@ impl Rows {
             "under" => {
                 self.lines = Lines::Notes;
                 self.under = String::new(alloc);
+            }
+            "beside" => {
+                self.lines = Lines::Beside;
+                self.beside = String::new(alloc);
             }
             "rows" => self.begin(alloc, Lines::Parts, rest)?,
             "lists" => self.begin(alloc, Lines::Lists, rest)?,
@@ -130,6 +142,7 @@ impl Rows {
             alloc,
             self.reader,
             self.under.as_str(),
+            self.beside.as_str(),
             text.as_str().as_bytes(),
             wanted.as_str(),
         )?;
@@ -153,6 +166,11 @@ impl Rows {
     }
 }
 
+fn add_line(text: &mut String, line: &str) -> Result<(), AllocError> {
+    text.push_str(line)?;
+    text.push_str("\n")
+}
+
 // A frame with a part of a text in place of its `@`.
 fn framed(alloc: Global, frame: &str, part: &str) -> Result<String, AllocError> {
     let (before, after) = frame.split_once('@').unwrap_or((frame, " no place "));
@@ -163,8 +181,7 @@ fn framed(alloc: Global, frame: &str, part: &str) -> Result<String, AllocError> 
 fn lines_of(alloc: Global, text: &str) -> Result<String, AllocError> {
     let mut lines = String::new(alloc);
     for line in text.split('#') {
-        lines.push_str(line)?;
-        lines.push_str("\n")?;
+        add_line(&mut lines, line)?;
     }
     Ok(lines)
 }
