@@ -1,4 +1,4 @@
--- For proofs: the points that are found for an image under notes, or where it got stuck. docs/crates/note_infer.md has the
+-- Meaning: the points that are found for an image under notes, or where it got stuck. docs/crates/note_infer.md has the
 -- words.
 use Rattle.std.specs.Prelude.{◌≡◌, ℕ, ◌<◌, List, [], ◌∷◌, Option, Some, None, length}
 use Rattle.note_types.specs.Limits.{point_limit}

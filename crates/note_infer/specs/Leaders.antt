@@ -1,4 +1,4 @@
--- For proofs: the leaders of a function's code: the places that its jumps name. docs/crates/note_infer.md has the words.
+-- Meaning: the leaders of a function's code: the places that its jumps name. docs/crates/note_infer.md has the words.
 use Rattle.std.specs.Prelude.{◌≡◌, ◌↔◌, ℕ, ◌<◌, ◌≤◌, Bool, true, false, not, ◌&&◌, nat_eq, if◌then◌else◌, List, Option, Some, None}
 use Rattle.std.specs.Prelude.{slice_get, ℤ, pos, ◌+ℤ◌, ◌*ℤ◌}
 use Rattle.std.specs.List.{Contains}

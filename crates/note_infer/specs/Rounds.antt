@@ -1,4 +1,4 @@
--- For proofs: the rounds in which the states at the leaders are found. In a round each leader has the state of the round
+-- Meaning: the rounds in which the states at the leaders are found. In a round each leader has the state of the round
 -- before, or none yet. docs/crates/note_infer.md has the words.
 use Rattle.std.specs.Prelude.{◌≡◌, ℕ, ◌<◌, ◌≤◌, zero, suc, nat_eq, if◌then◌else◌, List, [], ◌∷◌, ◌++◌, map, Option, Some, None}
 use Rattle.std.specs.Prelude.{option_and_then, Ok, Err, slice_get}

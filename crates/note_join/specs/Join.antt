@@ -1,4 +1,4 @@
--- For proofs: what is known of a register or a stack slot where two ways meet: the join of two types, by a table whose first
+-- Meaning: what is known of a register or a stack slot where two ways meet: the join of two types, by a table whose first
 -- row that applies holds. docs/crates/note_join.md has the table.
 use Rattle.std.specs.Prelude.{ℕ, ◌-◌, ◌^◌, Bool, ◌&&◌, ◌||◌, nat_eq, nat_le, nat_lt, if◌then◌else◌, Option, Some, None, true, false}
 use Rattle.std.specs.Prelude.{unwrap_or}

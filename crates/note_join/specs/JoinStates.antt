@@ -1,4 +1,4 @@
--- For proofs: what is known before an instruction where two ways meet: the join of two states, or a clash.
+-- Meaning: what is known before an instruction where two ways meet: the join of two states, or a clash.
 -- docs/crates/note_join.md has the words.
 use Rattle.std.specs.Prelude.{Bool, true, false, ◌&&◌, nat_eq, bit_and, List, [], ◌∷◌, Option, Some, None}
 use Rattle.ebc_base.specs.Steps.{only_if}

@@ -1,4 +1,4 @@
--- For proofs: the grammar of small texts: what each text is made of, by its value. docs/NOTES.md has it in words.
+-- Meaning: the grammar of small texts: what each text is made of, by its value. docs/NOTES.md has it in words.
 use Rattle.std.specs.Prelude.{◌≡◌, ◌↔◌, ◌⊎◌, ℕ, ◌^◌, ◌<◌, ◌≤◌, List, ◌++◌, Option, Some, Bool, true, false, IsTrue, codes}
 use Rattle.std.specs.Fmt.{decimal}
 use Rattle.ebc_base.specs.Names.{is_name}

@@ -1,4 +1,4 @@
--- For proofs: the grammar of the texts of parameters, registers and items of the stack. docs/NOTES.md has it in words.
+-- Meaning: the grammar of the texts of parameters, registers and items of the stack. docs/NOTES.md has it in words.
 use Rattle.std.specs.Prelude.{◌≡◌, ℕ, ◌≤◌, List, ◌++◌, codes}
 use Rattle.std.specs.Fmt.{decimal}
 use Rattle.note_types.specs.declared.cell.SlotKind.{SlotKind}

@@ -1,4 +1,4 @@
--- For proofs: the grammar of the texts of types: what each is made of, by its value. docs/NOTES.md has it in words.
+-- Meaning: the grammar of the texts of types: what each is made of, by its value. docs/NOTES.md has it in words.
 use Rattle.std.specs.Prelude.{◌≡◌, ◌⊎◌, ℕ, ◌+◌, ◌-◌, ◌*◌, ◌^◌, ◌<◌, ◌≤◌, ℤ, pos, List, [], ◌∷◌, ◌++◌, ⊤, codes}
 use Rattle.std.specs.Fmt.{decimal, signed_decimal}
 use Rattle.std.specs.List.{flat_map}

@@ -1,4 +1,4 @@
--- For proofs: states and points as they are printed: docs/COMMANDS.md, "Printed lines"; docs/NOTES.md has the texts of registers and
+-- Meaning: states and points as they are printed: docs/COMMANDS.md, "Printed lines"; docs/NOTES.md has the texts of registers and
 -- items and the keys of a point.
 use Rattle.std.specs.Prelude.{ℕ, Bool, false, not, ◌&&◌, nat_eq, nat_le, nat_lt, List, [], ◌∷◌, ◌++◌, codes, filter, map}
 use Rattle.std.specs.Fmt.{decimal}

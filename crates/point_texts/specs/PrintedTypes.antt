@@ -1,4 +1,4 @@
--- For proofs: the texts of cells and types as they are printed, things of the notes and fields of locals by their names:
+-- Meaning: the texts of cells and types as they are printed, things of the notes and fields of locals by their names:
 -- docs/NOTES.md, "Shapes" and "Types". What may be left out is left out.
 use Rattle.std.specs.Prelude.{ℕ, ◌-◌, ◌^◌, ◌==◌, ◌&&◌, ℤ, Bool, List, [], ◌++◌, codes, if◌then◌else◌, filter, map, slice_get}
 use Rattle.std.specs.Fmt.{decimal}
