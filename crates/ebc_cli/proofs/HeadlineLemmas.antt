@@ -48,7 +48,8 @@ use Rattle.ebc_cli.specs.Texts.{neutral_line, refused_line}
 use Rattle.cli_base.specs.Texts.{bad_line}
 use Rattle.ebc_cli.specs.Works.{work_of, code_check, verdict_reply, listing_reply, file_reply, TellsVerdict, IsReplyOf, plain_code_limit}
 use Rattle.ebc_cli.specs.Answers.{IsAnswerOf, Decides, Answers, Assembles, LeavesPart, ChecksCode, ChecksImage, ListsImage, HasBadInput}
-use Rattle.ebc_cli.specs.Answers.{HasBadLine, HasMissingFile, HasNoText, writes_object, writes_rom, writes_taken, empty_listing, no_points, InfersPoints}
+use Rattle.ebc_cli.specs.Answers.{HasBadLine, HasMissingFile, HasNoText, writes_object, writes_rom, writes_taken, empty_listing, no_points}
+use Rattle.ebc_cli.specs.Answers.{InfersPoints}
 use Rattle.ebc_cli.specs.Answers.{SameForScripts}
 use Rattle.ebc_cli.specs.Inferrings.{TellsInferred, inferred_reply}
 use Rattle.note_infer.specs.Inferred.{IsInferred}

@@ -16,7 +16,8 @@ use Rattle.ebc_cli.specs.declared.work.Work.{Work}
 use Rattle.ebc_cli.specs.declared.work.Work.TheVariants as works
 use Rattle.ebc_cli.specs.Answers.{ComesToNotes, HasFile, InfersPoints, NamesImage, NamesNotes}
 use Rattle.ebc_cli.specs.Commands.{command_of}
-use Rattle.ebc_cli.specs.Inputs.{bad_notes_reply, input, input_with_bytes, notes_limit, notes_meaning, number_meaning, rom_limit, rom_meaning}
+use Rattle.ebc_cli.specs.Inputs.{bad_notes_reply, input, input_with_bytes, notes_limit, notes_meaning, number_meaning, rom_limit}
+use Rattle.ebc_cli.specs.Inputs.{rom_meaning}
 use Rattle.ebc_cli.specs.Inputs.{rom_number_limit, source_limit, source_meaning, step_limit, taking_meaning}
 use Rattle.ebc_cli.specs.Linkings.{linked_image}
 use Rattle.ebc_cli.specs.Runnings.{run_files}

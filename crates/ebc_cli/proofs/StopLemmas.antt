@@ -33,7 +33,8 @@ use Rattle.plain_check.specs.declared.verdict.Verdict.{Verdict}
 use Rattle.plain_check.specs.declared.verdict.Verdict.TheVariants.{Neutral, Refused}
 use Rattle.plain_check.specs.PlainChecks.{plain_verdict}
 use Rattle.ebc_cli.specs.declared.command.Command.{Command}
-use Rattle.ebc_cli.specs.declared.command.Command.TheVariants.{Assemble, CheckCode, CheckImage, InferPoints, Link, ListImage, ListRom, Run, TakeRom}
+use Rattle.ebc_cli.specs.declared.command.Command.TheVariants.{Assemble, CheckCode, CheckImage, InferPoints, Link, ListImage, ListRom, Run}
+use Rattle.ebc_cli.specs.declared.command.Command.TheVariants.{TakeRom}
 use Rattle.ebc_cli.specs.declared.command.Command.TheVariants.{Twin, WrapRom}
 use Rattle.cli_base.specs.declared.outcome.Outcome.{Outcome}
 use Rattle.cli_base.specs.declared.outcome.Outcome.TheVariants as outcomes
@@ -56,10 +57,12 @@ use Rattle.ebc_cli.specs.Inputs.{plan_meaning}
 use Rattle.ebc_cli.specs.Linkings.{each_object, linked_by, linked_image}
 use Rattle.ebc_cli.specs.Inferrings.{TellsInferred, inferred_reply}
 use Rattle.ebc_cli.specs.Runnings.{twin_outcome}
-use Rattle.ebc_cli.specs.Works.{work_of, work_for, code_check, image_check, image_with_notes, inference, image_listing, assembly, verdict_reply, usage_reply, IsReplyOf}
+use Rattle.ebc_cli.specs.Works.{work_of, work_for, code_check, image_check, image_with_notes, inference, image_listing, assembly}
+use Rattle.ebc_cli.specs.Works.{verdict_reply, usage_reply, IsReplyOf}
 use Rattle.ebc_cli.specs.Works.{plain_code_limit}
 use Rattle.ebc_cli.specs.Works.{linking, rom_wrapping, rom_images, rom_taking, rom_taking_of, running, twinning}
-use Rattle.ebc_cli.specs.Answers.{IsAnswerOf, HasFile, HasObjects, Assembles, ChecksImage, ListsImage, NamesImage, to_check, to_infer, to_list}
+use Rattle.ebc_cli.specs.Answers.{IsAnswerOf, HasFile, HasObjects, Assembles, ChecksImage, ListsImage, NamesImage, to_check, to_infer}
+use Rattle.ebc_cli.specs.Answers.{to_list}
 use Rattle.ebc_cli.specs.Answers.{to_wrap}
 use Rattle.ebc_cli.specs.Answers.{ComesToNotes, HasTurn, code_turn, image_turn, notes_turn, source_turn, rom_turn, HasMissingFile}
 use Rattle.ebc_cli.specs.Answers.{HasLargeFile, HasBadImage, HasBadLine, HasBadNotes, HasBadInput, bad_image, bad_notes, bad_source}
@@ -76,7 +79,8 @@ use Rattle.ebc_cli.proofs.NumberLemmas.{number-ok, number-past, number-read, rom
 use Rattle.ebc_cli.proofs.RomLemmas.{taken-err, taken-none}
 use Rattle.ebc_cli.proofs.RunLemmas.{run-image-stopped, run-notes-stopped, run-script-stopped, run-stopped, running-stops, twinning-stops}
 use Rattle.ebc_cli.specs.Answers.{Wraps, ListsRom, TakesFrom, Takes, NamesRom, to_list_rom, to_take, HasBadRom, HasBadTaking}
-use Rattle.ebc_cli.specs.Answers.{HasLargeNumber, IsTooLarge, large_number, large_file, to_run_on, to_check_under, to_infer_under, to_run_under, many_leaders}
+use Rattle.ebc_cli.specs.Answers.{HasLargeNumber, IsTooLarge, large_number, large_file, to_run_on, to_check_under, to_infer_under}
+use Rattle.ebc_cli.specs.Answers.{to_run_under, many_leaders}
 use Rattle.ebc_cli.specs.Answers.{script_turn}
 use Rattle.ebc_cli.specs.Answers.{NamesNotes, HasBadScript, bad_script, NamesNumber, image_number, run_steps, twin_steps}
 

@@ -38,7 +38,8 @@ use Rattle.pe_image.specs.Images.{image_of}
 use Rattle.type_notes.specs.Notes.{notes_of}
 use Rattle.cli_base.specs.declared.outcome.Outcome.{Outcome}
 use Rattle.cli_base.specs.declared.outcome.Outcome.TheVariants as outcomes
-use Rattle.ebc_cli.specs.declared.command.Command.TheVariants.{Assemble, CheckCode, CheckImage, InferPoints, Link, ListImage, ListRom, Run, TakeRom}
+use Rattle.ebc_cli.specs.declared.command.Command.TheVariants.{Assemble, CheckCode, CheckImage, InferPoints, Link, ListImage, ListRom, Run}
+use Rattle.ebc_cli.specs.declared.command.Command.TheVariants.{TakeRom}
 use Rattle.ebc_cli.specs.declared.command.Command.TheVariants.{Twin, WrapRom}
 use Rattle.ebc_cli.specs.declared.width.Width.{Width}
 use Rattle.cli_base.specs.declared.reply.End.{End}
@@ -244,8 +245,8 @@ pub data NamesRun (words : List (List ℕ)) (word : ℕ) (image_name notes_name 
       → command_of words ≡ Some (Twin image_name notes_name script_name (decimal steps))
       → NamesRun words word image_name notes_name script_name
 
--- the words are `check IMAGE NOTES`, `infer IMAGE NOTES`, `list IMAGE`, `rom wrap VENDOR DEVICE IMAGE ROM`, or `run` or `twin` as above, and
--- the image has this name, which is that word
+-- the words are `check IMAGE NOTES`, `infer IMAGE NOTES`, `list IMAGE`, `rom wrap VENDOR DEVICE IMAGE ROM`, or `run` or `twin` as above,
+-- and the image has this name, which is that word
 pub data NamesImage (words : List (List ℕ)) (word : ℕ) (name : List ℕ) : Type 0 where
   to_check : (notes_name : List ℕ) → word ≡ 1 → command_of words ≡ Some (CheckImage name notes_name) → NamesImage words word name
   to_list : word ≡ 1 → command_of words ≡ Some (ListImage name) → NamesImage words word name

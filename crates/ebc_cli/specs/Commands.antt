@@ -1,7 +1,8 @@
 -- Meaning: the commands that words spell: docs/COMMANDS.md, "Commands". Words are seen as their bytes.
 use Rattle.std.specs.Prelude.{ℕ, List, [], ◌∷◌, codes, bytes_eq, if◌then◌else◌, ◌&&◌, Option, Some, None}
 use Rattle.ebc_cli.specs.declared.command.Command.{Command}
-use Rattle.ebc_cli.specs.declared.command.Command.TheVariants.{Assemble, CheckCode, CheckImage, InferPoints, Link, ListImage, ListRom, Run, TakeRom}
+use Rattle.ebc_cli.specs.declared.command.Command.TheVariants.{Assemble, CheckCode, CheckImage, InferPoints, Link, ListImage, ListRom, Run}
+use Rattle.ebc_cli.specs.declared.command.Command.TheVariants.{TakeRom}
 use Rattle.ebc_cli.specs.declared.command.Command.TheVariants.{Twin, WrapRom}
 use Rattle.ebc_cli.specs.declared.width.Width.{Width}
 use Rattle.ebc_cli.specs.Numbers.{identifier_of, is_number, width_of}

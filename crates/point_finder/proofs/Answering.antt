@@ -45,7 +45,13 @@ pub settled_notes : (image : Image) (notes : Notes) (leaders : List ℕ) (states
     → IsSettled image notes leaders states → IsNotes (with_points notes (points_of states leaders))
 settled_notes image notes leaders states read h =
     found_are_notes image notes leaders h.found.rounds states
-    (record { read = read; all = h.found.all; few = ⊎_elim (λ many. absurd (h.found.few many)) (λ f. f) (cases_lt (point_limit notes.version) (length leaders)); after = h.found.after })
+    (record {
+      read = read;
+      all = h.found.all;
+      few =
+          ⊎_elim (λ many. absurd (h.found.few many)) (λ f. f) (cases_lt (point_limit notes.version) (length leaders));
+      after = h.found.after;
+    })
 
 -- where rounds get stuck that is the answer
 pub stuck_answer : (image : Image) (notes : Notes) (leaders : List ℕ) (failure : NotFound) (stop : Stop) → failure ≡ failures.Stuck stop

@@ -197,7 +197,13 @@ module _ (image : Image) (notes other : Notes) (leaders : List ℕ) (g : IsSetti
           subst (λ os. IsSettled image notes leaders (state_at leaders os))
           (sym (same_lists leaders g.all.ascend before next old new same))
           (record {
-            found = record { tables = tables; all = g.all; few = λ many. let few = g.few in omega arith; rounds = turn.rounds; after = turn.after };
+            found = record {
+              tables = tables;
+              all = g.all;
+              few = λ many. let few = g.few in omega arith;
+              rounds = turn.rounds;
+              after = turn.after;
+            };
             next = state_at leaders next;
             round = round;
             same = same;

@@ -39,7 +39,8 @@ changes-requires-clause-known c =
     let notes : Notes = c.args.self.now.notes.now in
     let leaders : List ℕ = c.args.self.now.leaders.now in
     let before : List (Option State) = c.walk_all.new.coming.before.items in
-    let turn : IsTurn image notes leaders c.loop-stop.starts.items before c.loop-stop.coming.states.items =
+    let turn : IsTurn image notes leaders c.loop-stop.starts.items before
+    c.loop-stop.coming.states.items =
     subst (λ xs. IsTurn image notes leaders c.loop-stop.starts.items xs c.loop-stop.coming.states.items)
     (sym c.in_default.ensures.before) c.loop-stop.invariant.turn in
     stays_known image notes c.args.self.now.marked.now leaders c.requires.setting c.loop-stop.starts.items before
@@ -53,7 +54,8 @@ returns-then-is_empty-clause-settled c =
     let leaders : List ℕ = c.args.self.now.leaders.now in
     let before : List (Option State) = c.walk_all.new.coming.before.items in
     let next : List (Option State) = c.walk_all.new.coming.states.items in
-    let turn : IsTurn image notes leaders c.loop-stop.starts.items before c.loop-stop.coming.states.items =
+    let turn : IsTurn image notes leaders c.loop-stop.starts.items before
+    c.loop-stop.coming.states.items =
     subst (λ xs. IsTurn image notes leaders c.loop-stop.starts.items xs c.loop-stop.coming.states.items)
     (sym c.in_default.ensures.before) c.loop-stop.invariant.turn in
     let changes : AreChanges (state_at leaders before) (state_at leaders next) c.in_ok-starts-2.starts.items =
@@ -61,7 +63,8 @@ returns-then-is_empty-clause-settled c =
     c.in_ok-starts-2.ensures.before c.in_ok-starts-2.ensures.changes in
     let none : length c.in_ok-starts-2.starts.items ≡ 0 = search rules in
     subst (λ xs. IsSettled image notes leaders (state_at leaders xs)) (sym c.in_ok-starts-2.ensures.states)
-    (now_settled image notes c.args.self.now.marked.now leaders c.requires.setting c.loop-stop.starts.items before c.loop-stop.coming.states.items
+    (now_settled image notes c.args.self.now.marked.now leaders c.requires.setting c.loop-stop.starts.items before
+    c.loop-stop.coming.states.items
     turn next c.in_default.ensures.reached c.in_default.ensures.coming.before c.in_default.ensures.coming.states
     c.in_ok-starts-2.starts.items changes c.requires.tables none)
 
@@ -72,7 +75,8 @@ loop-stop-smaller c =
     let leaders : List ℕ = c.args.self.now.leaders.now in
     let before : List (Option State) = c.walk_all.new.coming.before.items in
     let next : List (Option State) = c.walk_all.new.coming.states.items in
-    let turn : IsTurn image notes leaders c.loop-stop.starts.items before c.loop-stop.coming.states.items =
+    let turn : IsTurn image notes leaders c.loop-stop.starts.items before
+    c.loop-stop.coming.states.items =
     subst (λ xs. IsTurn image notes leaders c.loop-stop.starts.items xs c.loop-stop.coming.states.items)
     (sym c.in_default.ensures.before) c.loop-stop.invariant.turn in
     let changes : AreChanges (state_at leaders before) (state_at leaders next) c.in_ok-starts-2.starts.items =
@@ -80,7 +84,8 @@ loop-stop-smaller c =
     c.in_ok-starts-2.ensures.before c.in_ok-starts-2.ensures.changes in
     let some : length c.in_ok-starts-2.starts.items ≡ 0 → ⊥ = search rules in
     let less : leaders_rank (state_at leaders next) leaders < leaders_rank (state_at leaders before) leaders =
-    next_falls image notes c.args.self.now.marked.now leaders c.requires.setting c.loop-stop.starts.items before c.loop-stop.coming.states.items
+    next_falls image notes c.args.self.now.marked.now leaders c.requires.setting c.loop-stop.starts.items before
+    c.loop-stop.coming.states.items
     turn next c.in_default.ensures.reached c.in_default.ensures.coming.before c.in_default.ensures.coming.states
     c.in_ok-starts-2.starts.items changes some in
     subst (λ xs. leaders_rank (state_at leaders c.changes.new.coming.before.items) leaders < leaders_rank (state_at leaders xs) leaders)
@@ -95,7 +100,8 @@ loop-stop-preserved c =
     let leaders : List ℕ = c.args.self.now.leaders.now in
     let before : List (Option State) = c.walk_all.new.coming.before.items in
     let next : List (Option State) = c.walk_all.new.coming.states.items in
-    let turn : IsTurn image notes leaders c.loop-stop.starts.items before c.loop-stop.coming.states.items =
+    let turn : IsTurn image notes leaders c.loop-stop.starts.items before
+    c.loop-stop.coming.states.items =
     subst (λ xs. IsTurn image notes leaders c.loop-stop.starts.items xs c.loop-stop.coming.states.items)
     (sym c.in_default.ensures.before) c.loop-stop.invariant.turn in
     let changes : AreChanges (state_at leaders before) (state_at leaders next) c.in_ok-starts-2.starts.items =
@@ -105,7 +111,8 @@ loop-stop-preserved c =
     subst (λ xs. AreStarts notes leaders (state_at leaders xs) c.in_ok-starts-2.starts.items) c.in_ok-starts-2.ensures.before
     c.in_ok-starts-2.ensures.starts in
     let last : IsTurn image notes leaders c.in_ok-starts-2.starts.items next next =
-    next_turn image notes c.args.self.now.marked.now leaders c.requires.setting c.loop-stop.starts.items before c.loop-stop.coming.states.items
+    next_turn image notes c.args.self.now.marked.now leaders c.requires.setting c.loop-stop.starts.items before
+    c.loop-stop.coming.states.items
     turn next c.in_default.ensures.reached c.in_default.ensures.coming.before c.in_default.ensures.coming.states
     c.in_ok-starts-2.starts.items changes are in
     record {
