@@ -31,7 +31,7 @@ use Rattle.host_model.specs.declared.object.TypedObject.{TypedObject}
 use Rattle.native_host.specs.Hosts.{HasRoom, IsHost, IsMemoryOf, IsServing, all_events}
 use Rattle.native_host.proofs.StartLaws.{all_rest_events}
 use Rattle.native_host.specs.declared.host.Host.{Host}
-use Rattle.twin_run.specs.Runner.{IsAt, IsRunner, hosts_of}
+use Rattle.twin_run.specs.Runner.{IsAt, IsQuiet, IsRunner, hosts_of}
 use Rattle.twin_run.specs.declared.runner.Runner.{Runner}
 use Rattle.twin_run.proofs.EnteringLaws.{few_params, params_there}
 use Rattle.twin_run.proofs.RoomLaws.{first_events}
@@ -146,11 +146,11 @@ pub begun : (w : ℕ) (image : Image) (notes : Notes) (script : Script) (x : Run
     (outset w (world_of image notes script) (own_placement w (world_of image notes script)) (mapped image (own_placement w (world_of image
     notes script)).image)) notes.entry numbers)
     → numbers ≡ map (written_number w notes (own_placement w (world_of image notes script)) (made_objects notes script 0)) script.args
-    → all_events script ≤ vec_capacity x.host.trace
+    → IsQuiet script x → all_events script ≤ vec_capacity x.host.trace
     → IsRunner w (world_of image notes script) x (run_of w (world_of image notes script) (own_placement w (world_of image notes script))
     image 0)
 unfolding run_after run_start
-begun w image notes script x numbers at are room =
+begun w image notes script x numbers at are quiet room =
     let world = world_of image notes script in
     let P = own_placement w world in
     let start = outset w world P (mapped image P.image) in
@@ -158,6 +158,7 @@ begun w image notes script x numbers at are room =
     subst (λ (xs : List ℕ). IsRunner w world x (entered false w world P start notes.entry xs)) are
     (record {
       at = at;
+      quiet = quiet;
       events = first_events script (vec_capacity x.host.trace) (start_machine w world P (mapped image P.image))
           (frame_for false (start_machine w world P (mapped image P.image)) notes.entry)
           (inside w (start_machine w world P (mapped image P.image)) (code_at notes P notes.entry) (function_params notes notes.entry)

@@ -191,12 +191,11 @@ raised_at w world x r c m d e at done same =
 
 -- ---- thunks
 
--- the run where a thunk is to be served, and the memory that it has
+-- the run where a thunk is to be served: its machine is the one that is left, but for ip
 pub before_thunk : (w : ℕ) (world : World) (x : Runner w) (r : RunState) (c : Machine w) (m : Memory) (d a : ℕ) → IsAt w world x r
-    → Steps w x c m d (ends.MakeThunk a) → r.machine ≡ concrete_of x.machine m
+    → Steps w x c m d (ends.MakeThunk a) → r.machine ≡ concrete_of (record c { ip = x.machine.ip }) m
 before_thunk w world x r c m d a at done =
-    let same = stays w (concrete_of x.machine x.mem) (concrete_of c m) (ends.MakeThunk a) done.0 in
-    sym at.machine ∙ (λ i. record (concrete_of x.machine x.mem) { objects = sym same.0 i; byte = sym same.1 i })
+    sym at.machine ∙ sym (stays w (concrete_of x.machine x.mem) (concrete_of c m) (ends.MakeThunk a) done.0)
 
 pub at_thunk : (w : ℕ) (world : World) (x : Runner w) (r : RunState) (c : Machine w) (m : Memory) (d a : ℕ) → IsAt w world x r
     → Steps w x c m d (ends.MakeThunk a)

@@ -1,4 +1,4 @@
--- Laws of the ends of an instruction: one that asks for a thunk leaves the memory as it was, and at the gate nothing is done.
+-- Laws of the ends of an instruction: one that asks for a thunk leaves all but ip as it was, and at the gate nothing is done.
 use Rattle.std.proofs.Common.{◌≡◌, ℕ, ◌+◌, ◌*◌, ◌/◌, ◌%◌, ◌^◌, Bool, true, false, Result, Ok, Err, refl, sym, subst, nat_eq, if◌then◌else◌}
 use Rattle.std.proofs.Common.{ℤ, pos}
 use Rattle.std.specs.Prelude.{⊤, ◌*ℤ◌}
@@ -31,7 +31,7 @@ use Rattle.ebc_machine.specs.declared.operand.Side.{Side}
 
 -- what is as it was where a step ends so
 abbrev pub Stays : Concrete → StepEnd → Concrete → Type 0
-Stays s (ends.MakeThunk a) t = (t.objects ≡ s.objects) × (t.byte ≡ s.byte)
+Stays s (ends.MakeThunk a) t = record t { ip = s.ip } ≡ s
 Stays s ends.Gate t = t ≡ s
 Stays s e t = ⊤
 
@@ -62,7 +62,7 @@ native_stays s t target = tt
 
 thunk_stays : (s : Concrete) (a next : ℕ) → StaysRow s (Ok (ends.MakeThunk a, at_ip s next))
 unfolding StaysRow at_ip
-thunk_stays s a next = (refl, refl)
+thunk_stays s a next = refl
 
 next_stays : (s : Concrete) (after : Written) (next : ℕ) → StaysRow s (after >>= (λ t. goes t next))
 next_stays s after next = then_stays s after (λ t. goes t next) (λ t. goes_stays s t next)

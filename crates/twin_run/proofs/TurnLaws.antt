@@ -16,15 +16,16 @@ use Rattle.callex_thunk.specs.HostFrames.{saved_of}
 use Rattle.host_model.specs.HostPlans.{host_turn, is_due}
 use Rattle.host_model.specs.HostSteps.{call_under_way, host_step}
 use Rattle.host_model.specs.Placements.{Placement, own_placement}
-use Rattle.host_model.specs.Progress.{NativeCall, Asked, ScriptPlace}
+use Rattle.host_model.specs.Progress.{NativeCall, NoCall, Asked, ScriptPlace}
 use Rattle.host_model.specs.RunState.{RunState, SavedFrame}
 use Rattle.host_model.specs.Runs.{instruction_step, run_step, running_step, step_if}
 use Rattle.host_model.specs.Scripts.{IsScript}
 use Rattle.host_model.specs.World.{World}
 use Rattle.native_host.specs.Hosts.{IsMemoryOf, IsServing, host_world}
 use Rattle.native_host.specs.Kept.{placement_of}
+use Rattle.native_host.specs.declared.host.Host.{Host}
 use Rattle.twin_run.specs.Room.{HasEvents}
-use Rattle.twin_run.specs.Runner.{IsAt, IsReady, IsRunner, Runs, hosts_of}
+use Rattle.twin_run.specs.Runner.{IsAt, IsQuiet, IsReady, IsRunner, Runs, hosts_of}
 use Rattle.twin_run.specs.declared.runner.AskedCall.{AskedCall}
 use Rattle.twin_run.specs.declared.runner.Runner.{Runner}
 use Rattle.twin_run.proofs.RoomLaws.{has_room, inside_some, step_events}
@@ -72,6 +73,19 @@ within_min a i m few = by (nat_le i m) refl where
       let there : nat_le a i ≡ true = grind (arith, nat_tests) in
       ap (nat_le a) same ∙ (here ∙ sym there)
 
+-- where none is due at a count of instructions none is before it
+pub not_due_before : (script : Script) (k n : ℕ)
+    → ((at : ScriptPlace) → at.notifications ≡ k → at.instructions ≡ n → false ≡ is_due script at)
+    → (at : ScriptPlace) → at.notifications ≡ k → at.instructions < n → is_due script at ≡ false
+unfolding is_due
+not_due_before script k n none at same few =
+    let later : ScriptPlace = record at { instructions = n } in
+    by (slice_get script.notify at.notifications) (none later same refl) where
+      by : (o : Option Notify) → false ≡ option_map_or (λ (m : Notify). nat_le m.at n) o false
+          → option_map_or (λ (m : Notify). nat_le m.at at.instructions) o false ≡ false
+      by None is = refl
+      by (Some m) is = grind (arith, nat_tests)
+
 -- an instruction count that stops at its most tells the same
 pub due_same : (notes : Notes) (script : Script) (at to : ScriptPlace) → IsScript notes script → to.notifications ≡ at.notifications
     → to.instructions ≡ min at.instructions (2 ^ 64 - 1) → is_due script to ≡ is_due script at
@@ -101,6 +115,47 @@ due_there w world x r script b at same is =
     sym (is to refl refl
     ∙ (ap (λ s. is_due s to) (sym same)
     ∙ due_same world.notes world.script r.script to at.serving.scripted (sym at.tells.notifications) at.done))
+
+-- ---- what is quiet
+
+-- where nothing is held as quiet
+pub quiet_none : {w : ℕ} (script : Script) (x : Runner w) → x.quiet ≡ 0 → IsQuiet script x
+quiet_none script x none = (λ some. absurd (omega (arith, none, some)), λ at same few. absurd (omega (arith, none, few)))
+
+-- a host that has entered as many notifications leaves it so
+pub quiet_host : (w : ℕ) (script : Script) (x : Runner w) (h : Host w) → h ≡ record x.host { thunks = h.thunks } → IsQuiet script x
+    → IsQuiet script (record x { host = h })
+quiet_host w script x h same quiet = (quiet.0, λ at n few. quiet.1 at (n ∙ ap (λ (g : Host w). g.notifications) same) few)
+
+-- where no native call is asked for or under way it is so until the next notification
+pub quiet_next : {w : ℕ} (script : Script) (x : Runner w) (n : ℕ) → x.asked ≡ None → call_under_way (map saved_of x.frames) ≡ NoCall
+    → ((at : ScriptPlace) → at.notifications ≡ x.host.notifications → at.instructions < n → is_due script at ≡ false)
+    → IsQuiet script (record x { quiet = n })
+quiet_next script x n unasked none due = (λ some. ap (λ o. call_under_way (hosts_of o x.frames)) unasked ∙ none, due)
+
+-- it is no part of the state
+pub quiet_at : (w : ℕ) (world : World) (x : Runner w) (r : RunState) (n : ℕ) → IsAt w world x r → IsAt w world (record x { quiet = n }) r
+quiet_at w world x r n at = record {
+  serving = at.serving;
+  size = at.size;
+  image_size = at.image_size;
+  memory = at.memory;
+  machine = at.machine;
+  hosts = at.hosts;
+  tells = record { entries = at.tells.entries; notifications = at.tells.notifications; thunks = at.tells.thunks; trace = at.tells.trace };
+  done = at.done;
+  ending = at.ending;
+}
+
+-- while it is no native call is under way in the run, and no notification is due
+pub quiet_call : (w : ℕ) (world : World) (x : Runner w) (r : RunState) (script : Script) → IsAt w world x r → IsQuiet script x
+    → x.done < x.quiet → call_under_way r.hosts ≡ NoCall
+quiet_call w world x r script at quiet few = sym (ap call_under_way at.hosts) ∙ quiet.0 (omega (arith, few))
+
+pub quiet_due : (w : ℕ) (world : World) (x : Runner w) (r : RunState) (script : Script) → IsAt w world x r → world.script ≡ script
+    → IsQuiet script x → x.done < x.quiet → is_due world.script r.script ≡ false
+quiet_due w world x r script at same quiet few =
+    due_there w world x r script false at same (λ to n d. sym (quiet.1 to n (omega (arith, few, d))))
 
 -- ---- what a step needs
 
@@ -140,14 +195,16 @@ more_events script most least r has less = record {
 }
 
 pub went_on : (w : ℕ) (world : World) (x y : Runner w) (r : RunState) → IsRunner w world x r → x.ending ≡ Running
-    → IsAt w world y (running_step w world (own_placement w world) r) → vec_capacity x.host.trace ≤ vec_capacity y.host.trace
+    → IsAt w world y (running_step w world (own_placement w world) r) → IsQuiet world.script y
+    → vec_capacity x.host.trace ≤ vec_capacity y.host.trace
     → IsRunner w world y (run_step w world (own_placement w world) r)
 unfolding run_step
-went_on w world x y r is on at capacity =
+went_on w world x y r is on at quiet capacity =
     let go = sym is.at.ending ∙ on in
     subst (λ (e : Ending). IsRunner w world y (step_if w world (own_placement w world) r e)) (sym go)
     (record {
       at = at;
+      quiet = quiet;
       events = more_events world.script (vec_capacity y.host.trace) (vec_capacity x.host.trace) (running_step w world (own_placement w
           world) r) (step_events w world (own_placement w world) (vec_capacity x.host.trace) r go is.events) capacity;
     })

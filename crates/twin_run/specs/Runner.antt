@@ -1,13 +1,14 @@
 -- For proofs: when a runner is at a state of a run. docs/HOST.md, "The state" and "Runs".
-use Rattle.std.specs.Prelude.{◌≡◌, ℕ, ◌-◌, ◌^◌, ◌<◌, List, length, map, min, Option, Some, None, vec_capacity}
+use Rattle.std.specs.Prelude.{◌≡◌, ℕ, ◌-◌, ◌^◌, ◌<◌, false, List, length, map, min, Option, Some, None, vec_capacity}
 use Rattle.note_types.specs.declared.notes.Notes.{Notes}
 use Rattle.note_types.specs.declared.script.Script.{Script}
 use Rattle.ebc_machine.specs.States.{concrete_of}
 use Rattle.frame_stack.specs.declared.Frame.{Frame}
 use Rattle.callex_thunk.specs.HostFrames.{saved_of}
-use Rattle.host_model.specs.HostSteps.{with_call}
+use Rattle.host_model.specs.HostPlans.{is_due}
+use Rattle.host_model.specs.HostSteps.{call_under_way, with_call}
 use Rattle.host_model.specs.Placements.{own_placement}
-use Rattle.host_model.specs.Progress.{Asked}
+use Rattle.host_model.specs.Progress.{Asked, NoCall, ScriptPlace}
 use Rattle.host_model.specs.RunState.{RunState, SavedFrame}
 use Rattle.host_model.specs.World.{World}
 use Rattle.native_host.specs.Hosts.{HasRoom, IsMemoryOf, IsServing, Tells, host_world}
@@ -33,9 +34,16 @@ pub record IsAt (w : ℕ) (world : World) (x : Runner w) (r : RunState) : Type 0
   pub done : x.done ≡ min r.script.instructions (2 ^ 64 - 1)
   pub ending : x.ending ≡ r.ending
 
--- A runner is the runner of a run in this state: there is room for all events that may still come.
+-- While fewer instructions are done than a runner holds as quiet, no native call is under way and no notification is due.
+abbrev pub IsQuiet : {w : ℕ} → Script → Runner w → Type 0
+IsQuiet script x =
+    (0 < x.quiet → call_under_way (hosts_of x.asked x.frames) ≡ NoCall)
+    × ((at : ScriptPlace) → at.notifications ≡ x.host.notifications → at.instructions < x.quiet → is_due script at ≡ false)
+
+-- A runner is the runner of a run in this state: what it holds as quiet is, and there is room for all events that may still come.
 pub record IsRunner (w : ℕ) (world : World) (x : Runner w) (r : RunState) : Type 0 where
   pub at : IsAt w world x r
+  pub quiet : IsQuiet world.script x
   pub events : HasEvents world.script (vec_capacity x.host.trace) r
 
 -- A runner is the runner of some run, under notes and with a script.

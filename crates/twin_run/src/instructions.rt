@@ -2,6 +2,7 @@
 ghost use Rattle.std.specs.Prelude.{◌≡◌, ◌-◌, Some, None, if◌then◌else◌};
 ghost use Rattle.ebc_width.specs.Ranges.{covers};
 ghost use Rattle.ebc_width.specs.Width.{IsWidth};
+ghost use Rattle.note_types.specs.declared.script.Script.{Script};
 ghost use Rattle.ebc_machine.specs.States.{concrete_of};
 ghost use Rattle.host_model.specs.HostSteps.{call_place, thunk_made, thunk_view};
 ghost use Rattle.host_model.specs.Placements.{Placement, image_range, own_placement};
@@ -9,10 +10,10 @@ ghost use Rattle.host_model.specs.RunState.{RunState};
 ghost use Rattle.host_model.specs.Runs.{instruction_step};
 ghost use Rattle.host_model.specs.World.{World};
 ghost use Rattle.native_host.specs.Kept.{IsOf, placement_of};
-ghost use Rattle.twin_run.specs.Runner.{IsAt};
+ghost use Rattle.twin_run.specs.Runner.{IsAt, IsQuiet};
 
 use crate::runner::{AskedCall, Runner};
-use ebc_machine::{Machine, StepEnd};
+use ebc_machine::StepEnd;
 use native_host::HostStep;
 use note_types::{Ending, Notes};
 
@@ -46,33 +47,36 @@ impl<const W: usize> Runner<W> {
         requires notes { IsOf W notes.now self.old.host.places }
         ensures at { (world : World) (r : RunState) → world.notes ≡ notes.now → IsAt W world self.old r → IsAt W world self.new (instruction_step W world (own_placement W world) r) }
         ensures trace { self.new.host.trace ≡ self.old.host.trace }
+        ensures quiet { (script : Script) → IsQuiet script self.old → IsQuiet script self.new }
     {
-        let before = self.machine;
+        let ip = self.machine.ip;
         self.done = self.done.saturating_add(1);
         match self.machine.step(&mut self.mem) {
             StepEnd::Next => {}
             StepEnd::Native(target) => {
-                let place = self.call_place(before.ip);
+                let place = self.call_place(ip);
                 self.asked = Some(AskedCall { place, target });
+                self.quiet = 0;
             }
             StepEnd::Gate => {}
-            StepEnd::MakeThunk(addr) => self.serve_thunk(notes, &before, addr),
+            StepEnd::MakeThunk(addr) => self.serve_thunk(notes, ip, addr),
             StepEnd::Raised(exception) => self.ending = Ending::Raised(exception),
         }
     }
 
-    // Serves the thunk cell at an address for an instruction that is done; the machine is as it was before where the cell isn't
-    // mapped.
-    fn serve_thunk(&mut self, notes: &Notes, before: &Machine<W>, addr: u64)
+    // Serves the thunk cell at an address for an instruction that is done, which stood at `ip`; the machine is as it was before
+    // where the cell isn't mapped.
+    fn serve_thunk(&mut self, notes: &Notes, ip: u64, addr: u64)
         requires width { IsWidth W }
         requires notes { IsOf W notes.now self.old.host.places }
-        ensures at { (world : World) (r : RunState) → world.notes ≡ notes.now → r.machine ≡ concrete_of before.now self.old.mem → IsAt W world self.old (record r { machine = concrete_of self.old.machine self.old.mem }) → IsAt W world self.new (thunk_made W world (own_placement W world) r (concrete_of self.old.machine self.old.mem) addr (thunk_view world (own_placement W world) (concrete_of self.old.machine self.old.mem) addr)) }
+        ensures at { (world : World) (r : RunState) → world.notes ≡ notes.now → r.machine ≡ concrete_of (record self.old.machine { ip = ip }) self.old.mem → IsAt W world self.old (record r { machine = concrete_of self.old.machine self.old.mem }) → IsAt W world self.new (thunk_made W world (own_placement W world) r (concrete_of self.old.machine self.old.mem) addr (thunk_view world (own_placement W world) (concrete_of self.old.machine self.old.mem) addr)) }
         ensures trace { self.new.host.trace ≡ self.old.host.trace }
+        ensures quiet { (script : Script) → IsQuiet script self.old → IsQuiet script self.new }
     {
         match self.host.make_thunk(notes, &mut self.mem, addr) {
             HostStep::Mismatch(reason) => self.ending = Ending::Mismatch(reason),
             HostStep::Raised(exception) => {
-                self.machine = *before;
+                self.machine.ip = ip;
                 self.ending = Ending::Raised(exception);
             }
             _ => {}

@@ -14,11 +14,10 @@ ghost use Rattle.twin_run.specs.OnItsWay.{IsOnItsWay};
 ghost use Rattle.twin_run.specs.Reported.{IsReport};
 ghost use Rattle.twin_run.specs.Runner.{IsRunner, Runs};
 
-use crate::comparing::same_ending;
 use crate::reports::RunReport;
 use crate::runner::{Runner, start};
 use ebc_base::NoMemory;
-use note_types::{Ending, Notes, Script};
+use note_types::{Notes, Script};
 use pe_image::Image;
 use std::alloc::Global;
 
@@ -26,7 +25,7 @@ use std::alloc::Global;
 pub fn goes_on<const W: usize>(runner: &Runner<W>) -> bool
     ensures { (world : World) (r : RunState) → IsRunner W world runner.now r → IsTrue result ↔ (r.ending ≡ Running) }
 {
-    same_ending(runner.ending(), Ending::Running)
+    runner.is_running()
 }
 
 /// The report of a runner that has taken so many steps: it goes on until its run ends or up to a limit.

@@ -1,5 +1,5 @@
 //! The runner of a run at one width (docs/HOST.md, "Runs").
-ghost use Rattle.std.specs.Prelude.{◌≡◌, ◌<◌, ◌≤◌, IfOk, length, map, vec_capacity};
+ghost use Rattle.std.specs.Prelude.{◌≡◌, ◌↔◌, ◌<◌, ◌≤◌, false, nat_eq, IfOk, IsTrue, length, map, vec_capacity};
 ghost use Rattle.std.specs.Bool.{OnFalse, OnTrue};
 ghost use Rattle.ebc_width.specs.Width.{IsWidth};
 ghost use Rattle.note_types.specs.Records.{IsNotes};
@@ -7,15 +7,16 @@ ghost use Rattle.note_types.specs.declared.ending.Ending.TheVariants.{Running};
 ghost use Rattle.pe_image.specs.Images.{IsImage};
 ghost use Rattle.pe_image.specs.Mapped.{AreBytes};
 ghost use Rattle.callex_thunk.specs.HostFrames.{saved_of};
+ghost use Rattle.host_model.specs.HostPlans.{is_due};
 ghost use Rattle.host_model.specs.HostSteps.{call_under_way, spot_of};
 ghost use Rattle.host_model.specs.Placements.{own_placement};
-ghost use Rattle.host_model.specs.Progress.{NoCall};
+ghost use Rattle.host_model.specs.Progress.{NoCall, ScriptPlace};
 ghost use Rattle.host_model.specs.RunState.{RunState};
 ghost use Rattle.host_model.specs.Runs.{run_of, run_step, running_step, world_of};
 ghost use Rattle.host_model.specs.Scripts.{IsScript};
 ghost use Rattle.host_model.specs.World.{World};
 ghost use Rattle.native_host.specs.Hosts.{IsCalled};
-ghost use Rattle.twin_run.specs.Runner.{IsAt, IsReady, IsRunner, Runs};
+ghost use Rattle.twin_run.specs.Runner.{IsAt, IsQuiet, IsReady, IsRunner, Runs};
 
 use crate::entering::numbers_of;
 use callex_thunk::NO_ENTRY;
@@ -27,6 +28,9 @@ use note_types::{Ending, Event, Notes, Script, Spot};
 use object_memory::ObjMem;
 use pe_image::Image;
 use std::alloc::Global;
+
+// How many instructions ahead a runner looks for a notification.
+const AHEAD: u64 = 1_000;
 
 /// A native call that a call instruction asks for.
 #[derive(Clone, Copy)]
@@ -49,6 +53,8 @@ pub struct Runner<const W: usize> {
     pub(crate) asked: Option<AskedCall>,
     // How many instructions are done, up to 2^64 - 1.
     pub(crate) done: u64,
+    // While fewer instructions are done no native call is under way and no notification is due.
+    pub(crate) quiet: u64,
     // The bytes that the image takes.
     pub(crate) image_size: u32,
     pub(crate) ending: Ending,
@@ -88,6 +94,7 @@ pub fn start<const W: usize>(
         frames,
         asked: None,
         done: 0,
+        quiet: 0,
         image_size: image.size,
         ending: Ending::Running,
     };
@@ -111,19 +118,53 @@ impl<const W: usize> Runner<W> {
     fn go_on(&mut self, notes: &Notes, script: &Script)
         requires width { IsWidth W }
         requires ready { IsReady W notes.now script.now self.old }
+        requires quiet { IsQuiet script.now self.old }
         ensures at { (world : World) (r : RunState) → world.notes ≡ notes.now → world.script ≡ script.now → IsAt W world self.old r → IsAt W world self.new (running_step W world (own_placement W world) r) }
+        ensures quiet { IsQuiet script.now self.new }
         ensures capacity { vec_capacity self.old.host.trace ≤ vec_capacity self.new.host.trace }
     {
         if self.machine.ip == self.machine.gate {
             self.leave_function(notes);
-        } else if let Some(asked) = self.asked {
+            self.quiet = 0;
+        } else if self.done < self.quiet {
+            self.instruction(notes);
+        } else {
+            self.look(notes, script);
+        }
+    }
+
+    // One step of a run that goes on inside a function: whose it is has to be looked at.
+    fn look(&mut self, notes: &Notes, script: &Script)
+        requires width { IsWidth W }
+        requires ready { IsReady W notes.now script.now self.old }
+        ensures at { (world : World) (r : RunState) → world.notes ≡ notes.now → world.script ≡ script.now → nat_eq r.machine.ip r.machine.gate ≡ false → IsAt W world self.old r → IsAt W world self.new (running_step W world (own_placement W world) r) }
+        ensures quiet { IsQuiet script.now self.new }
+        ensures capacity { vec_capacity self.old.host.trace ≤ vec_capacity self.new.host.trace }
+    {
+        if let Some(asked) = self.asked {
             self.call(notes, script, asked);
+            self.quiet = 0;
         } else if self.is_called() {
             self.next(notes, script);
+            self.quiet = 0;
         } else if self.host.due(script, self.done) {
             self.notify(notes, script);
+            self.quiet = 0;
         } else {
+            self.quiet = self.quiet_ahead(script);
             self.instruction(notes);
+        }
+    }
+
+    // Some instructions ahead, if no notification is due while fewer are done, and else none.
+    fn quiet_ahead(&self, script: &Script) -> u64
+        ensures { (at : ScriptPlace) → at.notifications ≡ self.now.host.notifications → at.instructions < result → is_due script.now at ≡ false }
+    {
+        let ahead = self.done.saturating_add(AHEAD);
+        if self.host.due(script, ahead) {
+            0
+        } else {
+            ahead
         }
     }
 
@@ -135,6 +176,13 @@ impl<const W: usize> Runner<W> {
     {
         let (entry, _, _) = self.frames.mark();
         entry != NO_ENTRY
+    }
+
+    // Whether the run goes on.
+    pub(crate) fn is_running(&self) -> bool
+        ensures { IsTrue result ↔ (self.now.ending ≡ Running) }
+    {
+        matches!(self.ending, Ending::Running)
     }
 
     /// How the run ended, or that it goes on.

@@ -5,6 +5,7 @@ use Rattle.host_model.specs.Objects.{made_objects}
 use Rattle.host_model.specs.Placements.{Placement, own_placement, stack_end}
 use Rattle.host_model.specs.Runs.{world_of}
 use Rattle.twin_run.proofs.BeginningLaws.{begins, begun, begun_at, entry_within, few_args, numbers_count, outset, room_begins}
+use Rattle.twin_run.proofs.TurnLaws.{quiet_none}
 use Rattle.twin_run.proofs.runner.start.Goals as goal
 
 pub numbers_of-numbers-requires : goal.numbers_of-numbers-requires
@@ -60,5 +61,5 @@ returns g c =
     ∙ (λ i. map (written_number w notes (placement i) (made i)) script.args)) in
     record {
       start = begun w image notes script c.enter.new.self c.as_slice.result.now (c.enter.ensures.at world (outset w world P (mapped image
-          P.image)) refl begins_at) are (room_begins w script c.enter.new.self.host c.in_ok-host.host c.enter.ensures.host host.room);
+          P.image)) refl begins_at) are (quiet_none script c.enter.new.self c.enter.ensures.quiet) (room_begins w script c.enter.new.self.host c.in_ok-host.host c.enter.ensures.host host.room);
     }

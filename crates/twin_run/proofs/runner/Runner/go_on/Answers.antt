@@ -2,62 +2,39 @@ use Rattle.std.proofs.Common.{false, true, refl, subst}
 use Rattle.host_model.specs.HostPlans.{is_due}
 use Rattle.host_model.specs.HostSteps.{call_under_way}
 use Rattle.host_model.specs.Placements.{own_placement}
-use Rattle.host_model.specs.Progress.{Asked, NoCall}
-use Rattle.native_host.proofs.TopLaws.{under-way}
+use Rattle.host_model.specs.Progress.{NoCall}
 use Rattle.twin_run.specs.Runner.{IsAt}
 use Rattle.twin_run.proofs.RunnerLaws.{away_there, gate_there}
-use Rattle.twin_run.proofs.TurnLaws.{asked_call, due_there, none_when, other_call, turn_is}
+use Rattle.twin_run.proofs.TurnLaws.{quiet_at, quiet_call, quiet_due, quiet_none, turn_is}
 use Rattle.twin_run.proofs.runner.Runner.go_on.Goals as goal
 
 pub returns-then-self-clause-at : goal.returns-then-self-clause-at
 returns-then-self-clause-at g c = λ world r notes script at.
     let w = g.row.W in
     let gate = gate_there w world c.args.self.now r at c.if-self.true in
-    subst (IsAt w world c.leave_function.new.self)
+    quiet_at w world c.leave_function.new.self _ 0
+    (subst (IsAt w world c.leave_function.new.self)
     (turn_is w world (own_placement w world) r true (call_under_way r.hosts) (is_due world.script r.script) gate refl refl)
-    (c.leave_function.ensures.at world r notes gate at)
+    (c.leave_function.ensures.at world r notes gate at))
 
-pub returns-then-is_called-clause-at : goal.returns-then-is_called-clause-at
-returns-then-is_called-clause-at g c = λ world r notes script at.
+pub returns-then-self-clause-quiet : goal.returns-then-self-clause-quiet
+returns-then-self-clause-quiet g c = quiet_none c.args.script.now (record c.leave_function.new.self { quiet = 0 }) refl
+
+pub returns-then-self-2-clause-at : goal.returns-then-self-2-clause-at
+returns-then-self-2-clause-at g c = λ world r notes script at.
     let w = g.row.W in
     let x = c.args.self.now in
+    let quiet = c.requires.quiet in
+    let few = c.if-self-2.true in
     let away = away_there w world x r at c.if-self.false in
-    let called = c.if-is_called.ensures.called in
-    subst (IsAt w world c.next.new.self)
-    (turn_is w world (own_placement w world) r false _ (is_due world.script r.script) away (other_call w world x r _ at (none_when x.asked
-    c.in_default.not-Some)
-    (under-way x.frames called)) refl)
-    (c.next.ensures.at world r notes script away at)
-
-pub returns-then-due-clause-at : goal.returns-then-due-clause-at
-returns-then-due-clause-at g c = λ world r notes script at.
-    let w = g.row.W in
-    let x = c.args.self.now in
-    let away = away_there w world x r at c.if-self.false in
-    let none = other_call w world x r NoCall at (none_when x.asked c.in_default.not-Some) c.if-is_called.ensures.none in
-    let due = due_there w world x r c.args.script.now true at script c.if-due.ensures in
-    subst (IsAt w world c.notify.new.self)
-    (turn_is w world (own_placement w world) r false NoCall true away none due)
-    (c.notify.ensures.at world r notes script away none due at)
-
-pub returns-else-due-clause-at : goal.returns-else-due-clause-at
-returns-else-due-clause-at g c = λ world r notes script at.
-    let w = g.row.W in
-    let x = c.args.self.now in
-    let away = away_there w world x r at c.if-self.false in
-    let none = other_call w world x r NoCall at (none_when x.asked c.in_default.not-Some) c.if-is_called.ensures.none in
-    let due = due_there w world x r c.args.script.now false at script c.if-due.ensures in
     subst (IsAt w world c.instruction.new.self)
-    (turn_is w world (own_placement w world) r false NoCall false away none due)
+    (turn_is w world (own_placement w world) r false NoCall false away (quiet_call w world x r c.args.script.now at quiet few)
+    (quiet_due w world x r c.args.script.now at script quiet few))
     (c.instruction.ensures.at world r notes at)
 
-pub returns-in-Some-clause-at : goal.returns-in-Some-clause-at
-returns-in-Some-clause-at g c = λ world r notes script at.
-    let w = g.row.W in
-    let x = c.args.self.now in
-    let a = c.in-Some.asked in
-    let away = away_there w world x r at c.if-self.false in
-    subst (IsAt w world c.call.new.self)
-    (turn_is w world (own_placement w world) r false (Asked a.place a.target) (is_due world.script r.script) away (asked_call w world x r a
-    at c.in-Some.is c.requires.ready.inside) refl)
-    (c.call.ensures.at world r notes script away at)
+pub returns-then-self-2-clause-quiet : goal.returns-then-self-2-clause-quiet
+returns-then-self-2-clause-quiet g c = c.instruction.ensures.quiet c.args.script.now c.requires.quiet
+
+pub returns-else-self-2-clause-at : goal.returns-else-self-2-clause-at
+returns-else-self-2-clause-at g c = λ world r notes script at.
+    c.look.ensures.at world r notes script (away_there g.row.W world c.args.self.now r at c.if-self.false) at

@@ -1,5 +1,7 @@
+use Rattle.std.proofs.Common.{Some}
 use Rattle.host_model.specs.Progress.{one_instruction}
 use Rattle.twin_run.proofs.InstructionLaws.{at_thunk, before_thunk, gate_at, native_at, next_at, raised_at, thunk_at_step}
+use Rattle.twin_run.proofs.TurnLaws.{quiet_at}
 use Rattle.twin_run.proofs.runner.Runner.instruction.Goals as goal
 
 pub returns-in-Next-clause-at : goal.returns-in-Next-clause-at
@@ -12,9 +14,15 @@ returns-in-Next-clause-at g c = λ world r notes at.
 
 pub returns-in-Native-clause-at : goal.returns-in-Native-clause-at
 returns-in-Native-clause-at g c = λ world r notes at.
-    native_at g.row.W world c.args.self.now r c.step.new.self c.step.new.mem c.saturating_add-self.result c.call_place-place.result
+    quiet_at g.row.W world (record c.args.self.now {
+      machine = c.step.new.self;
+      mem = c.step.new.mem;
+      done = c.saturating_add-self.result;
+      asked = Some (record { place = c.call_place-place.result; target = c.in-Native.target });
+    }) _ 0
+    (native_at g.row.W world c.args.self.now r c.step.new.self c.step.new.mem c.saturating_add-self.result c.call_place-place.result
     c.in-Native.target at
-    (c.in-Native.ensures.step, c.in-Native.ensures.objects, c.saturating_add-self.ensures) c.call_place-place.ensures
+    (c.in-Native.ensures.step, c.in-Native.ensures.objects, c.saturating_add-self.ensures) c.call_place-place.ensures)
 
 pub returns-in-Gate-clause-at : goal.returns-in-Gate-clause-at
 returns-in-Gate-clause-at g c = λ world r notes at.

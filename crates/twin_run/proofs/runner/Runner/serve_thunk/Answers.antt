@@ -3,6 +3,7 @@ use Rattle.note_types.specs.declared.notes.Notes.{Notes}
 use Rattle.native_host.specs.Hosts.{IsServing}
 use Rattle.native_host.specs.declared.host.Host.{Host}
 use Rattle.twin_run.proofs.InstructionLaws.{served_by, unmapped_at, unnamed_at}
+use Rattle.twin_run.proofs.TurnLaws.{quiet_host}
 use Rattle.twin_run.proofs.runner.Runner.serve_thunk.Goals as goal
 
 pub returns-in-Mismatch-clause-at : goal.returns-in-Mismatch-clause-at
@@ -12,7 +13,8 @@ returns-in-Mismatch-clause-at g c = λ world r notes was at.
 
 pub returns-in-Raised-clause-at : goal.returns-in-Raised-clause-at
 returns-in-Raised-clause-at g c = λ world r notes was at.
-    unmapped_at g.row.W world c.args.self.now r c.make_thunk.new.self c.make_thunk.new.mem c.args.before.now c.args.addr
+    unmapped_at g.row.W world c.args.self.now r c.make_thunk.new.self c.make_thunk.new.mem
+    (record c.args.self.now.machine { ip = c.args.ip }) c.args.addr
     c.in-Raised.exception at was c.in-Raised.ensures.same c.in-Raised.ensures.memory (c.in-Raised.ensures.step world notes)
 
 pub returns-in_default : goal.returns-in_default
@@ -25,4 +27,13 @@ returns-in_default g c = record {
       (c.make_thunk.ensures.serving world.script (subst (λ (n : Notes). IsServing g.row.W n world.script c.args.self.now.host) notes
       at.serving)) notes c.make_thunk.ensures.served c.make_thunk.ensures.count;
   trace = ap (λ (h : Host g.row.W). h.trace) c.make_thunk.ensures.served;
+  quiet = λ script quiet. quiet_host g.row.W script c.args.self.now c.make_thunk.new.self c.make_thunk.ensures.served quiet;
 }
+
+pub returns-in-Mismatch-clause-quiet : goal.returns-in-Mismatch-clause-quiet
+returns-in-Mismatch-clause-quiet g c = λ script quiet.
+    quiet_host g.row.W script c.args.self.now c.make_thunk.new.self c.make_thunk.ensures.served quiet
+
+pub returns-in-Raised-clause-quiet : goal.returns-in-Raised-clause-quiet
+returns-in-Raised-clause-quiet g c = λ script quiet.
+    quiet_host g.row.W script c.args.self.now c.make_thunk.new.self c.make_thunk.ensures.served quiet
