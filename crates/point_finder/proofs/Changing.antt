@@ -7,9 +7,9 @@ use Rattle.std.specs.List.{Contains}
 use Rattle.std.specs.List.Sorted.{IsStrictlyIncreasing}
 use Rattle.std.proofs.lemmas.Bool.{cases_lt}
 use Rattle.std.proofs.lemmas.Bool.Decides.{nat_tests}
-use Rattle.std.proofs.lemmas.List.{ext_get_or}
+use Rattle.std.proofs.lemmas.List.{ext_get_or, get_or_past}
 use Rattle.std.proofs.lemmas.List.Kept.{AllPairs-from_increasing}
-use Rattle.std.proofs.lemmas.Option.{slice_get_within}
+use Rattle.std.proofs.lemmas.Option.{none-some, slice_get_within}
 use Rattle.note_types.specs.declared.notes.FnNote.{FnNote}
 use Rattle.note_types.specs.declared.notes.Notes.{Notes}
 use Rattle.note_types.specs.declared.state.State.{State}
@@ -55,11 +55,6 @@ apart_none (l ∷ ls) (o ∷ os) x none =
     by_test true e rest = absurd (none (zero, omega arith, grind (arith, nat_tests)))
     by_test false e rest = rest
 
-past_none : (s : State) (os : List (Option State)) (k : ℕ) → length os ≤ k → slice_index_or os k None ≡ Some s → ⊥
-past_none s [] k over e = cc
-past_none s (o ∷ os) zero over e = absurd (omega arith)
-past_none s (o ∷ os) (suc k) over e = past_none s os k (omega arith) e
-
 -- ---- whose code a leader is in
 
 -- the function whose code a leader is in
@@ -84,21 +79,6 @@ owner_small image notes other leaders g owner place h =
     let few = g.read.few.functions in omega arith
 
 -- ---- a leader more
-
--- before the first
-pub changed_none : (notes : Notes) (leaders : List ℕ) (first : Coming) (starts : List Start) → IsComing leaders first → starts ≡ []
-    → Changed notes leaders first first starts 0
-changed_none notes leaders first starts coming empty =
-    subst (λ (xs : List Start). Changed notes leaders first first xs 0) (sym empty)
-    (record {
-      coming = coming;
-      states = refl;
-      over = λ k less. absurd (omega arith);
-      ahead = λ k from. refl;
-      ascend = λ i j x y less at there. absurd cc;
-      each = λ j x at. absurd cc;
-      all = λ k less. absurd (omega arith);
-    })
 
 module _ (notes : Notes) (leaders : List ℕ) (up : IsStrictlyIncreasing leaders) (first now next : Coming) (starts more : List Start) (n : ℕ)
     (short : n < length leaders) (h : Changed notes leaders first now starts n)
@@ -224,6 +204,35 @@ module _ (notes : Notes) (leaders : List ℕ) (up : IsStrictlyIncreasing leaders
       by_turn (turned_none same is) = no_change is same
       by_turn (turned x c is) = one_change x c is
 
+-- what is read of a list is there whatever stands for what isn't
+pub quiet_at : (xs : List Bool) (k : ℕ) (b : Bool) → k < length xs → b ≡ get_or xs k b → b ≡ false → get_or xs k true ≡ false
+quiet_at [] k b short at e = absurd (omega arith)
+quiet_at (x ∷ xs) zero b short at e = sym at ∙ e
+quiet_at (x ∷ xs) (suc k) b short at e = quiet_at xs k b (omega arith) at e
+
+-- where nothing was given to the leader of this number it is as before
+pub changed_quiet : (notes : Notes) (leaders : List ℕ) (first now : Coming) (starts : List Start) (n : ℕ) → n < length leaders
+    → Changed notes leaders first now starts n → slice_index_or now.given.items n true ≡ false
+    → Changed notes leaders first now starts (n + 1)
+changed_quiet notes leaders first now starts n short h quiet = record {
+  coming = h.coming;
+  states = h.states;
+  over = λ k less. ⊎_elim (λ before. h.over k before)
+      (λ from. let same : n ≡ k = omega arith in
+      subst (λ m. slice_index_or now.before.items m None ≡ slice_index_or first.states.items m None) same here) (cases_lt k n);
+  ahead = λ k from. h.ahead k (omega arith);
+  ascend = h.ascend;
+  each = λ j x at. let b = h.each j x at in let below = b.below in
+      record { number = b.number; below = omega arith; change = b.change };
+  all = λ k less. ⊎_elim (λ before. h.all k before)
+      (λ from. let same : n ≡ k = omega arith in
+      inr (subst (λ m. slice_index_or first.states.items m None ≡ slice_index_or first.before.items m None) same
+      (sym here ∙ h.ahead n (omega arith)))) (cases_lt k n);
+}
+  where
+    here : slice_index_or now.before.items n None ≡ slice_index_or first.states.items n None
+    here = sym (h.coming.quiet n short quiet) ∙ ap (λ (os : List (Option State)). slice_index_or os n None) h.states
+
 -- ---- all leaders
 
 module _ (notes : Notes) (leaders : List ℕ) (up : IsStrictlyIncreasing leaders) (first now : Coming) (starts : List Start) (n : ℕ)
@@ -240,7 +249,8 @@ module _ (notes : Notes) (leaders : List ℕ) (up : IsStrictlyIncreasing leaders
   number_short : (x : Start) (b : IsChangeBelow notes leaders first.before.items first.states.items n x) → b.number < length leaders
   number_short x b =
       ⊎_elim (λ less. less)
-      (λ from. absurd (past_none x.state first.states.items b.number (let l = coming.states in omega arith) b.change.state_is))
+      (λ from. absurd (none-some x.state
+      (sym (get_or_past first.states.items b.number None (let l = coming.states in omega arith)) ∙ b.change.state_is)))
       (cases_lt b.number (length leaders))
 
   pub changed_starts : AreStarts notes leaders (state_at leaders now.before.items) starts

@@ -5,7 +5,6 @@ use Rattle.std.specs.Prelude.{None, Option, Some, slice_get}
 use Rattle.std.specs.Bool.{OnFalse, OnTrue}
 use Rattle.std.specs.List.{Contains}
 use Rattle.std.proofs.lemmas.Bool.{OnFalse_at, OnTrue_at, cases_lt}
-use Rattle.std.proofs.lemmas.Bool.Decides.{nat_tests}
 use Rattle.std.proofs.lemmas.List.{map-append}
 use Rattle.std.proofs.lemmas.List.Elements.{Contains-append_left, Contains-push}
 use Rattle.std.proofs.lemmas.Option.{same_Some, slice_get_within}
@@ -23,6 +22,7 @@ use Rattle.point_finder.specs.Entering.{Entered, IsEntry}
 use Rattle.point_finder.specs.Passing.{IsSetting}
 use Rattle.point_finder.specs.Starting.{AreStarts, StartsAscend}
 use Rattle.point_finder.specs.declared.rounds.Start.{Start}
+use Rattle.point_finder.proofs.StatesAt.{all_none, given_apart}
 
 -- ---- lists of starts
 
@@ -88,17 +88,6 @@ entered_none notes leaders states starts none empty =
     })
 
 -- ---- a function more
-
-all_none : (come : Option State) → all_in come [] ≡ Some come
-unfolding all_in
-all_none come = refl
-
-if_apart : (s : State) (a b : ℕ) → (a ≡ b → ⊥) → (if nat_eq a b then s ∷ [] else []) ≡ []
-if_apart s a b apart = by_test (nat_eq a b) refl
-  where
-    by_test : (t : Bool) → nat_eq a b ≡ t → (if t then s ∷ [] else []) ≡ []
-    by_test true e = absurd (apart (grind (arith, nat_tests)))
-    by_test false e = refl
 
 -- a state that comes first doesn't clash
 first_comes : (s : State) (b : Bool) → all_in None (if b then s ∷ [] else []) ≡ None → ⊥
@@ -196,7 +185,7 @@ module _ (image : Image) (notes other : Notes) (leaders : List ℕ) (g : IsSetti
             let v : IsWithin f leader = subst (λ (q : FnNote). IsWithin q leader) one w in
             let differ : h.place ≡ leader → ⊥ = λ q.
             none (subst (Contains leaders) (sym q ∙ ap (λ (u : FnNote). u.place) one) c) in
-            ap (all_in None) (if_apart (entry_state notes k) h.place leader differ) ∙ all_none None
+            ap (all_in None) (given_apart h.place leader (entry_state notes k) differ) ∙ all_none None
             ∙ ap (λ o. Some o) (sym (e.rest n f there (omega arith) leader c v)))
             (cases_lt k n);
         rest = λ k h here past leader c w. e.rest k h here (omega arith) leader c w;

@@ -65,7 +65,7 @@ all_clash : (come : Option State) (s : State) → taken_in come s ≡ None → a
 unfolding all_in
 all_clash come s e = ap (option_and_then (λ (t : State). all_in (Some t) [])) e
 
-all_none : (come : Option State) → all_in come [] ≡ Some come
+pub all_none : (come : Option State) → all_in come [] ≡ Some come
 unfolding all_in
 all_none come = refl
 
@@ -77,7 +77,7 @@ takes_none leaders f given old none = record {
   others = λ leader c w. refl;
 }
 
-given_apart : (place leader : ℕ) (s : State) → (place ≡ leader → ⊥) → given_to place s leader ≡ []
+pub given_apart : (place leader : ℕ) (s : State) → (place ≡ leader → ⊥) → given_to place s leader ≡ []
 given_apart place leader s apart = if_false (nat_eq place leader) (s ∷ []) [] (eq_false place leader apart)
 
 pub takes_outside : (leaders : List ℕ) (f : FnNote) (place : ℕ) (s : State) (old : States) → (IsWithin f place → ⊥)

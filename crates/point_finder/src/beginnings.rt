@@ -124,7 +124,9 @@ impl<'a> Rounds<'a> {
     {
         let mut starts = Vec::new(alloc);
         for number in 0..self.leaders.len() {
-            self.turn(number, coming, &mut starts)?;
+            if coming.given[number] {
+                self.turn(number, coming, &mut starts)?;
+            }
         }
         Ok(starts)
     }

@@ -1,12 +1,23 @@
-use Rattle.point_finder.proofs.Changing.{changed_all, changed_more, changed_starts, taken_over}
+use Rattle.std.proofs.Common.{rules}
+use Rattle.point_finder.proofs.Changing.{changed_all, changed_more, changed_quiet, changed_starts, quiet_at, taken_over}
+use Rattle.point_finder.proofs.rounds.Rounds.changes.Goals.{else-index, then-index+in_ok-turn}
 use Rattle.point_finder.proofs.rounds.Rounds.changes.Goals as goal
 
 pub loop-number-preserved : goal.loop-number-preserved
 loop-number-preserved c =
-    changed_more c.args.self.now.notes.now c.args.self.now.leaders.now c.requires.setting.all.ascend c.args.coming.now c.loop-number.coming
-    c.turn.new.coming c.loop-number.starts.items c.turn.new.starts.items c.loop-number.number c.loop-number-test.true
-    c.loop-number.invariant c.in_ok-turn.ensures.before c.in_ok-turn.ensures.states c.in_ok-turn.ensures.given
-    c.in_ok-turn.ensures.turned
+    elim c.if-index.branch [
+      | then-index+in_ok-turn w ↦
+          rw w.coming-is (rw w.starts-is
+          (changed_more c.args.self.now.notes.now c.args.self.now.leaders.now c.requires.setting.all.ascend c.args.coming.now
+          c.loop-number.coming w.turn.new.coming c.loop-number.starts.items w.turn.new.starts.items c.loop-number.number
+          c.loop-number-test.true c.loop-number.invariant w.in_ok-turn.ensures.before w.in_ok-turn.ensures.states
+          w.in_ok-turn.ensures.given w.in_ok-turn.ensures.turned))
+      | else-index w ↦
+          rw w.coming-is (rw w.starts-is
+          (changed_quiet c.args.self.now.notes.now c.args.self.now.leaders.now c.args.coming.now c.loop-number.coming
+          c.loop-number.starts.items c.loop-number.number c.loop-number-test.true c.loop-number.invariant
+          (quiet_at c.loop-number.coming.given.items c.loop-number.number c.index.result.now (search rules) (search rules) (search rules))))
+    ]
 
 pub returns-clause-starts : goal.returns-clause-starts
 returns-clause-starts c =
