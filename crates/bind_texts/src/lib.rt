@@ -12,7 +12,6 @@ ghost use Rattle.std.specs.Prelude.{IfOk};
 
 mod agreeing;
 mod draft;
-mod numbers;
 mod once;
 mod resolve;
 

@@ -8,10 +8,10 @@ ghost use Rattle.script_draft.specs.Lists.{each_of};
 ghost use Rattle.std.specs.Prelude.{◌++◌, codes};
 
 use crate::draft::BindDraft;
-use crate::numbers::{function_number, method_number};
 use note_texts::row_prefix;
 use note_types::{Name, Notes, NotesEnd, TomlFault};
 use pair_model::{Bind, Binds};
+use protocol_script::{function_number, method_number};
 use std::alloc::Global;
 
 // The number of what the bind of an index names at a key, or the fault that it isn't there.

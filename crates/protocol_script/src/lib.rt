@@ -24,6 +24,7 @@ use crate::resolve::resolve_script;
 pub use laws::{printed_texts_are_read, read_names_are_given, read_notes_print_and_read};
 use note_texts::document;
 use note_types::{Notes, NotesEnd, Script};
+pub use numbers::{function_number, method_number};
 use script_draft::{ScriptDraft, cells_once, read_draft};
 use std::alloc::Global;
 
