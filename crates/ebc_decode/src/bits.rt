@@ -1,9 +1,9 @@
 //! Fields of the first two bytes of an instruction, each moved to bit 0.
 
 ghost use Rattle.std.specs.Prelude.{◌≡◌};
-ghost use Rattle.ebc_decode.specs.Reading.{bits_at, cond_at, flag, operand_at, size_at};
+ghost use Rattle.ebc_decode.specs.Reading.{arith_at, bits_at, cmp_at, cond_at, flag, operand_at, size_at};
 
-use ebc_insn::{Cond, Operand, Size};
+use ebc_insn::{ArithOp, CmpOp, Cond, Operand, Size};
 
 // Bit 0.
 #[inline(always)]
@@ -58,5 +58,47 @@ pub fn size_at(n: u8) -> Size
         1 => Size::Word,
         2 => Size::Dword,
         _ => Size::Qword,
+    }
+}
+
+// The comparison of an opcode, from the first of its kind.
+#[inline(always)]
+pub fn cmp_op_at(n: u8) -> CmpOp
+    ensures { result ≡ cmp_at n }
+{
+    match n {
+        0 => CmpOp::Eq,
+        1 => CmpOp::Lte,
+        2 => CmpOp::Gte,
+        3 => CmpOp::Ulte,
+        _ => CmpOp::Ugte,
+    }
+}
+
+// The operation of an opcode, from the first of its kind.
+#[inline(always)]
+pub fn arith_op_at(n: u8) -> ArithOp
+    ensures { result ≡ arith_at n }
+{
+    match n {
+        0 => ArithOp::Not,
+        1 => ArithOp::Neg,
+        2 => ArithOp::Add,
+        3 => ArithOp::Sub,
+        4 => ArithOp::Mul,
+        5 => ArithOp::Mulu,
+        6 => ArithOp::Div,
+        7 => ArithOp::Divu,
+        8 => ArithOp::Mod,
+        9 => ArithOp::Modu,
+        10 => ArithOp::And,
+        11 => ArithOp::Or,
+        12 => ArithOp::Xor,
+        13 => ArithOp::Shl,
+        14 => ArithOp::Shr,
+        15 => ArithOp::Ashr,
+        16 => ArithOp::Extb,
+        17 => ArithOp::Extw,
+        _ => ArithOp::Extd,
     }
 }

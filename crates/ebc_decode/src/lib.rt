@@ -14,6 +14,7 @@ ghost use Rattle.ebc_insn.specs.declared.Insn.{Insn};
 ghost use Rattle.ebc_insn.specs.Spelling.{Spells, WellFormed, bytes_of, field_bytes, field_size, spelling};
 ghost use Rattle.ebc_decode.specs.Reading.{OneSpelling, ReservedIsExact, form_at, read, read_form};
 
+use crate::bits::{arith_op_at, cmp_op_at, size_at};
 use crate::reader::{
     read_arith, read_break, read_call, read_compare, read_compare_imm, read_jump, read_jump8,
     read_load_special, read_move, read_move_imm, read_move_imm_natural, read_move_relative,
@@ -21,7 +22,7 @@ use crate::reader::{
     read_store_special,
 };
 use arrayvec::ArrayVec;
-use ebc_insn::{ArithOp, CmpOp, Code, Field, Insn, Size, parts};
+use ebc_insn::{Code, Field, Insn, Size, parts};
 
 /// Why bytes begin with no spelling of an instruction. The first that holds is told, in the order that `decode` has.
 #[derive(Clone, Copy, PartialEq, Eq)]
@@ -62,24 +63,38 @@ pub fn decode(code: &[u8], at: usize) -> Result<(Insn, usize), DecodeFault>
     // Each fault in its order.
     ensures reading { result ≡ read (drop at code.now) }
 {
-    read(&code[at..])
+    read::<0>(&code[at..])
+}
+
+/// The instruction that bytes begin with, and its length in bytes, as `decode` answers them at place 0. `COPY` has no part in the
+/// answer: code of its own is made for each, so that the compiler puts it into a caller that alone uses it.
+#[inline(always)]
+pub fn decode_first<const COPY: usize>(bytes: &[u8]) -> Result<(Insn, usize), DecodeFault>
+    ensures well_formed { IfOk result (λ (i, n). WellFormed i) }
+    ensures reading { result ≡ read bytes.now }
+{
+    read::<COPY>(bytes)
 }
 
 #[inline(always)]
 #[tactic(auto, unfolding(crate::specs::Reading::read))]
-fn read(bytes: &[u8]) -> Result<(Insn, usize), DecodeFault>
+fn read<const COPY: usize>(bytes: &[u8]) -> Result<(Insn, usize), DecodeFault>
     ensures { result ≡ read bytes.now }
 {
     match bytes {
-        [b0, b1, rest @ ..] => read_opcode(*b0 % 64, *b0, *b1, rest),
+        [b0, b1, rest @ ..] => read_opcode::<COPY>(*b0 % 64, *b0, *b1, rest),
         _ => Err(DecodeFault::Short),
     }
 }
 
 // Reads by the opcode, with one branch on it: a row for each ("EBC Instruction Set").
-#[inline(always)]
 #[tactic(auto, unfolding(crate::specs::Reading::form_at))]
-fn read_opcode(opcode: u8, b0: u8, b1: u8, rest: &[u8]) -> Result<(Insn, usize), DecodeFault>
+fn read_opcode<const COPY: usize>(
+    opcode: u8,
+    b0: u8,
+    b1: u8,
+    rest: &[u8],
+) -> Result<(Insn, usize), DecodeFault>
     ensures { result ≡ read_form (form_at opcode) b0 b1 rest.now }
 {
     match opcode {
@@ -88,38 +103,10 @@ fn read_opcode(opcode: u8, b0: u8, b1: u8, rest: &[u8]) -> Result<(Insn, usize),
         0x02 => read_jump8(b0, b1, rest),
         0x03 => read_call(b0, b1, rest),
         0x04 => read_ret(b0, b1, rest),
-        0x05 => read_compare(CmpOp::Eq, b0, b1, rest),
-        0x06 => read_compare(CmpOp::Lte, b0, b1, rest),
-        0x07 => read_compare(CmpOp::Gte, b0, b1, rest),
-        0x08 => read_compare(CmpOp::Ulte, b0, b1, rest),
-        0x09 => read_compare(CmpOp::Ugte, b0, b1, rest),
-        0x0A => read_arith(ArithOp::Not, b0, b1, rest),
-        0x0B => read_arith(ArithOp::Neg, b0, b1, rest),
-        0x0C => read_arith(ArithOp::Add, b0, b1, rest),
-        0x0D => read_arith(ArithOp::Sub, b0, b1, rest),
-        0x0E => read_arith(ArithOp::Mul, b0, b1, rest),
-        0x0F => read_arith(ArithOp::Mulu, b0, b1, rest),
-        0x10 => read_arith(ArithOp::Div, b0, b1, rest),
-        0x11 => read_arith(ArithOp::Divu, b0, b1, rest),
-        0x12 => read_arith(ArithOp::Mod, b0, b1, rest),
-        0x13 => read_arith(ArithOp::Modu, b0, b1, rest),
-        0x14 => read_arith(ArithOp::And, b0, b1, rest),
-        0x15 => read_arith(ArithOp::Or, b0, b1, rest),
-        0x16 => read_arith(ArithOp::Xor, b0, b1, rest),
-        0x17 => read_arith(ArithOp::Shl, b0, b1, rest),
-        0x18 => read_arith(ArithOp::Shr, b0, b1, rest),
-        0x19 => read_arith(ArithOp::Ashr, b0, b1, rest),
-        0x1A => read_arith(ArithOp::Extb, b0, b1, rest),
-        0x1B => read_arith(ArithOp::Extw, b0, b1, rest),
-        0x1C => read_arith(ArithOp::Extd, b0, b1, rest),
-        0x1D => read_move(Size::Byte, 16, b0, b1, rest),
-        0x1E => read_move(Size::Word, 16, b0, b1, rest),
-        0x1F => read_move(Size::Dword, 16, b0, b1, rest),
-        0x20 => read_move(Size::Qword, 16, b0, b1, rest),
-        0x21 => read_move(Size::Byte, 32, b0, b1, rest),
-        0x22 => read_move(Size::Word, 32, b0, b1, rest),
-        0x23 => read_move(Size::Dword, 32, b0, b1, rest),
-        0x24 => read_move(Size::Qword, 32, b0, b1, rest),
+        0x05..=0x09 => read_compare(cmp_op_at(opcode - 0x05), b0, b1, rest),
+        0x0A..=0x1C => read_arith(arith_op_at(opcode - 0x0A), b0, b1, rest),
+        0x1D..=0x20 => read_move(size_at(opcode - 0x1D), 16, b0, b1, rest),
+        0x21..=0x24 => read_move(size_at(opcode - 0x21), 32, b0, b1, rest),
         0x25 => read_move_signed(16, b0, b1, rest),
         0x26 => read_move_signed(32, b0, b1, rest),
         0x28 => read_move(Size::Qword, 64, b0, b1, rest),
@@ -127,11 +114,7 @@ fn read_opcode(opcode: u8, b0: u8, b1: u8, rest: &[u8]) -> Result<(Insn, usize),
         0x2A => read_store_special(b0, b1, rest),
         0x2B => read_push(b0, b1, rest),
         0x2C => read_pop(b0, b1, rest),
-        0x2D => read_compare_imm(CmpOp::Eq, b0, b1, rest),
-        0x2E => read_compare_imm(CmpOp::Lte, b0, b1, rest),
-        0x2F => read_compare_imm(CmpOp::Gte, b0, b1, rest),
-        0x30 => read_compare_imm(CmpOp::Ulte, b0, b1, rest),
-        0x31 => read_compare_imm(CmpOp::Ugte, b0, b1, rest),
+        0x2D..=0x31 => read_compare_imm(cmp_op_at(opcode - 0x2D), b0, b1, rest),
         0x32 => read_move(Size::Natural, 16, b0, b1, rest),
         0x33 => read_move(Size::Natural, 32, b0, b1, rest),
         0x35 => read_push_natural(b0, b1, rest),

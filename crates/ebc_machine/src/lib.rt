@@ -18,7 +18,7 @@ ghost use Rattle.ebc_machine.specs.Fetch.{exception_of};
 pub use crate::laws::{machine_is_concrete, step_keeps_concrete};
 pub use crate::operand::Side;
 use crate::operand::form_bytes;
-use ebc_decode::{DecodeFault, decode};
+use ebc_decode::{DecodeFault, decode_first};
 use ebc_insn::Insn;
 use note_types::Exception;
 use object_memory::ObjMem;
@@ -75,7 +75,7 @@ impl<const W: usize> Machine<W> {
             return StepEnd::Raised(Exception::MemoryFault);
         };
         // The instruction is used where it was read, and not copied.
-        let found = decode(bytes, 0);
+        let found = decode_first::<W>(bytes);
         let (insn, len) = match &found {
             Ok((insn, len)) => (insn, *len),
             Err(fault) => return StepEnd::Raised(exception_of(*fault)),
