@@ -18,11 +18,12 @@ use Rattle.ebc_cli.specs.Answers.{ComesToNotes, HasFile, InfersPoints, NamesImag
 use Rattle.ebc_cli.specs.Commands.{command_of}
 use Rattle.ebc_cli.specs.Inputs.{bad_notes_reply, input, input_with_bytes, notes_limit, notes_meaning, number_meaning, rom_limit}
 use Rattle.ebc_cli.specs.Inputs.{rom_meaning}
-use Rattle.ebc_cli.specs.Inputs.{rom_number_limit, source_limit, source_meaning, step_limit, taking_meaning}
+use Rattle.ebc_cli.specs.Inputs.{rom_number_limit, sample_limit, source_limit, source_meaning, step_limit, taking_meaning}
 use Rattle.ebc_cli.specs.Linkings.{linked_image}
 use Rattle.ebc_cli.specs.Runnings.{run_files}
+use Rattle.ebc_cli.specs.Samplings.{sample_of}
 use Rattle.ebc_cli.specs.Works.{assembly, code_check, image_check, image_listing, image_with_notes, inference, linking, plain_code_limit}
-use Rattle.ebc_cli.specs.Works.{rom_images, rom_taking, rom_taking_of, rom_wrapping, running, twinning, work_for, work_of}
+use Rattle.ebc_cli.specs.Works.{rom_images, rom_taking, rom_taking_of, rom_wrapping, running, sampling, twinning, work_for, work_of}
 use Rattle.ebc_cli.proofs.CauseLemmas.{Stops, image-stops, notes-stops}
 use Rattle.ebc_cli.proofs.InputLemmas.{IsRead, first_stops, go-on-err, go-on-ok, input-err, input-ok, one-stop, or-ok, read-means}
 use Rattle.ebc_cli.proofs.InputLemmas.{second_stops}
@@ -146,7 +147,8 @@ infers-as words files a b name i image n notes command e made_is =
 
 infers-by : (words : List (List ℕ)) (files : Files) (c : Option Command) (name : List ℕ) (image : Image) (notes : Notes)
     → command_of words ≡ c → (work_for c files).value ≡ Ok (works.InferPoints name image notes) → InfersPoints words files name image notes
-unfolding code_check image_check image_listing assembly linking running twinning rom_wrapping rom_images rom_taking rom_taking_of inference
+unfolding code_check image_check image_listing assembly linking running twinning sampling rom_wrapping rom_images rom_taking
+    rom_taking_of inference
 infers-by words files None name image notes command e = absurd cc
 infers-by words files (Some (commands.CheckCode a)) name image notes command e =
     absurd (let m = made (file 1 a plain_code_limit files) works.CheckCode _ e in let no = m.is in cc)
@@ -168,6 +170,10 @@ infers-by words files (Some (commands.Twin a b c digits)) name image notes comma
     >>= (λ (read : Image × Notes × Script). done (works.Twin read.0 read.1 read.2 steps))) _ e in
     absurd (let m = made (run_files 1 a b c files) (λ (read : Image × Notes × Script). works.Twin read.0 read.1 read.2 steps.one) _
     steps.second in let no = m.is in cc)
+infers-by words files (Some (commands.Sample digits)) name image notes command e =
+    let n = go-on-ok [] (number_meaning sample_limit 1 digits) (λ n. told (sample_of digits n)
+    >>= (λ sample. done (works.Sample sample))) _ e in
+    absurd (let m = made (told (sample_of digits n.one)) works.Sample _ n.second in let no = m.is in cc)
 infers-by words files (Some (commands.WrapRom vendor device a b)) name image notes command e =
     absurd (let m = made (input_with_bytes image_limit image_meaning 4 a files)
     (λ (read : Image × List ℕ). works.WriteRom b vendor device read.0.subsystem read.1) _ e in let no = m.is in cc)

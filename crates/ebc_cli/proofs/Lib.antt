@@ -7,9 +7,11 @@ pub mod NumberLemmas
 pub mod CauseLemmas
 pub mod RunLemmas
 pub mod LinkLemmas
+pub mod SampleLemmas
 pub mod StopLemmas
 pub mod WorkAnswers
 pub mod HeadlineLemmas
 pub mod InferLemmas
 pub mod InferAnswers
 pub mod RunAnswers
+pub mod SampleAnswers

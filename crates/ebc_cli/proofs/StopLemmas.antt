@@ -34,8 +34,7 @@ use Rattle.plain_check.specs.declared.verdict.Verdict.TheVariants.{Neutral, Refu
 use Rattle.plain_check.specs.PlainChecks.{plain_verdict}
 use Rattle.ebc_cli.specs.declared.command.Command.{Command}
 use Rattle.ebc_cli.specs.declared.command.Command.TheVariants.{Assemble, CheckCode, CheckImage, InferPoints, Link, ListImage, ListRom, Run}
-use Rattle.ebc_cli.specs.declared.command.Command.TheVariants.{TakeRom}
-use Rattle.ebc_cli.specs.declared.command.Command.TheVariants.{Twin, WrapRom}
+use Rattle.ebc_cli.specs.declared.command.Command.TheVariants.{Sample, TakeRom, Twin, WrapRom}
 use Rattle.cli_base.specs.declared.outcome.Outcome.{Outcome}
 use Rattle.cli_base.specs.declared.outcome.Outcome.TheVariants as outcomes
 use Rattle.cli_base.specs.declared.reply.Reply.{Reply}
@@ -51,7 +50,7 @@ use Rattle.cli_base.specs.Inputs.{image_limit, image_meaning}
 use Rattle.ebc_cli.specs.Inputs.{bad_notes_reply, bad_source_reply, script_limit, script_meaning}
 use Rattle.cli_base.specs.Inputs.{bad_image_reply}
 use Rattle.ebc_cli.specs.Inputs.{input_with_bytes, rom_limit, rom_meaning, bad_rom_reply, bad_taking_reply, taking_offset, taking_meaning}
-use Rattle.ebc_cli.specs.Inputs.{number_meaning, rom_number_limit, step_limit}
+use Rattle.ebc_cli.specs.Inputs.{number_meaning, rom_number_limit, sample_limit, step_limit}
 use Rattle.ebc_cli.specs.Inputs.{bad_link_reply, bad_object_reply, bad_plan_reply, link_meaning, object_limit, object_meaning, plan_limit}
 use Rattle.ebc_cli.specs.Inputs.{plan_meaning}
 use Rattle.ebc_cli.specs.Linkings.{each_object, linked_by, linked_image}
@@ -60,8 +59,8 @@ use Rattle.ebc_cli.specs.Runnings.{twin_outcome}
 use Rattle.ebc_cli.specs.Works.{work_of, work_for, code_check, image_check, image_with_notes, inference, image_listing, assembly}
 use Rattle.ebc_cli.specs.Works.{verdict_reply, usage_reply, IsReplyOf}
 use Rattle.ebc_cli.specs.Works.{plain_code_limit}
-use Rattle.ebc_cli.specs.Works.{linking, rom_wrapping, rom_images, rom_taking, rom_taking_of, running, twinning}
-use Rattle.ebc_cli.specs.Answers.{IsAnswerOf, HasFile, HasObjects, Assembles, ChecksImage, ListsImage, NamesImage, to_check, to_infer}
+use Rattle.ebc_cli.specs.Works.{linking, rom_images, rom_taking, rom_taking_of, rom_wrapping, running, sampling, twinning}
+use Rattle.ebc_cli.specs.Answers.{Assembles, ChecksImage, HasFile, HasObjects, IsAnswerOf, ListsImage, NamesImage, to_check, to_infer}
 use Rattle.ebc_cli.specs.Answers.{to_list}
 use Rattle.ebc_cli.specs.Answers.{to_wrap}
 use Rattle.ebc_cli.specs.Answers.{ComesToNotes, HasTurn, code_turn, image_turn, notes_turn, source_turn, rom_turn, HasMissingFile}
@@ -83,6 +82,8 @@ use Rattle.ebc_cli.specs.Answers.{HasLargeNumber, IsTooLarge, large_number, larg
 use Rattle.ebc_cli.specs.Answers.{to_run_under, many_leaders}
 use Rattle.ebc_cli.specs.Answers.{script_turn}
 use Rattle.ebc_cli.specs.Answers.{NamesNotes, HasBadScript, bad_script, NamesNumber, image_number, run_steps, twin_steps}
+use Rattle.ebc_cli.specs.Answers.{bad_sample, sample_functions}
+use Rattle.ebc_cli.proofs.SampleLemmas.{bad-sample-work, sampling-stops}
 
 source-fault : (words : List (List ℕ)) (files : Files) (name object_name text : List ℕ) (p : AsmFault × ℕ) (reply : Reply)
     → command_of words ≡ Some (Assemble name object_name) → HasFile files name source_limit text → object_of text ≡ Err p
@@ -289,6 +290,7 @@ by-command words files reply (Some (Assemble a b)) command e =
 by-command words files reply (Some (Link a b)) command e = linking-stops words files reply a b command e
 by-command words files reply (Some (Run width a b c digits)) command e = running-stops words files reply width a b c digits command e
 by-command words files reply (Some (Twin a b c digits)) command e = twinning-stops words files reply a b c digits command e
+by-command words files reply (Some (Sample digits)) command e = sampling-stops words files reply digits command e
 by-command words files reply (Some (WrapRom vendor device a b)) command e =
     image-stops words files 4 a reply (to_wrap vendor device b refl command)
     (input-with-err image_limit image_meaning 4 a files reply
@@ -566,7 +568,7 @@ bad-taking-work words files name kind offset x =
 
 large-number-by : (words : List (List ℕ)) (files : Files) (word : ℕ) (digits : List ℕ) (limit : ℕ) → NamesNumber words word digits limit
     → number_in 0 limit digits ≡ None → (work_of words files).value ≡ Err (large_reply word digits)
-unfolding work_of rom_taking running twinning
+unfolding work_of rom_taking running twinning sampling
 large-number-by words files word digits limit (image_number a b number size command) none =
     let here : number_in 0 rom_number_limit digits ≡ None = rw size at none in
     rw (number, command, here) refl
@@ -575,6 +577,9 @@ large-number-by words files word digits limit (run_steps width a b c number size
     rw (number, command, here) refl
 large-number-by words files word digits limit (twin_steps a b c number size command) none =
     let here : number_in 0 step_limit digits ≡ None = rw size at none in
+    rw (number, command, here) refl
+large-number-by words files word digits limit (sample_functions number size command) none =
+    let here : number_in 0 sample_limit digits ≡ None = rw size at none in
     rw (number, command, here) refl
 
 large-number-work : (words : List (List ℕ)) (files : Files) (word : ℕ) (x : HasLargeNumber words word)
@@ -619,6 +624,9 @@ bad-back words files reply w f told (bad_object name kind offset word number x) 
     outcome-of reply _ (replied _ _ reply (bad-object-work words files name kind offset x) told) ∙ rw (word, number) refl
 bad-back words files reply w f told (bad_link name plan found word number x) =
     outcome-of reply _ (replied _ _ reply (bad-link-work words files name plan found x) told) ∙ rw (word, number) refl
+bad-back words files reply w f told (bad_sample word x) =
+    let stops = bad-sample-work words files f x in
+    outcome-of reply _ (replied _ _ reply stops.1 told) ∙ stops.2 ∙ rw word refl
 bad-back words files reply w f told (bad_notes x) =
     outcome-of reply _ (replied _ _ reply (bad-notes-work words files w f x) told) ∙ rw x.number refl
 bad-back words files reply w f told (bad_script x) =
@@ -652,6 +660,7 @@ stopped (Ok (works.ListImage image)) reply told none = absurd (none (works-by re
 stopped (Ok (works.Run width image notes script steps)) reply told none = absurd (none (works-by reply _ told.told tt))
 stopped (Ok (works.Twin image notes script steps)) reply told none =
     absurd (none (works-by reply _ told.told (twin-works told.report.differ)))
+stopped (Ok (works.Sample sample)) reply told none = absurd (none (works-by reply _ told.told tt))
 stopped (Ok (works.WriteObject name object)) reply told none = absurd (none (works-by reply _ told tt))
 stopped (Ok (works.WriteImage name image)) reply told none = absurd (none (works-by reply _ told tt))
 stopped (Ok (works.WriteRom name vendor device subsystem image)) reply told none = absurd (none (works-by reply _ told tt))
@@ -693,6 +702,7 @@ large-answer (Ok (works.Run width image notes script steps)) reply word told e =
     absurd (let no = sym (outcome-of reply _ told.told) ∙ e in cc)
 large-answer (Ok (works.Twin image notes script steps)) reply word told e =
     absurd (twin-large told.report.differ word (sym (outcome-of reply _ told.told) ∙ e))
+large-answer (Ok (works.Sample sample)) reply word told e = absurd (let no = sym (outcome-of reply _ told.told) ∙ e in cc)
 large-answer (Ok (works.WriteObject name object)) reply word told e = absurd (let no = sym (outcome-of reply _ told) ∙ e in cc)
 large-answer (Ok (works.WriteImage name image)) reply word told e = absurd (let no = sym (outcome-of reply _ told) ∙ e in cc)
 large-answer (Ok (works.WriteRom name vendor device subsystem image)) reply word told e =

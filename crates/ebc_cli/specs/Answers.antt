@@ -35,12 +35,15 @@ use Rattle.host_model.specs.Runs.{world_of}
 use Rattle.pe_image.specs.declared.fault.ImageFault.{ImageFault}
 use Rattle.pe_image.specs.declared.image.Image.{Image}
 use Rattle.pe_image.specs.Images.{image_of}
+use Rattle.plain_check.specs.declared.verdict.Verdict.{Verdict}
+use Rattle.sample_texts.specs.Samples.{notes_text, sample_plan, script_text, source_text}
 use Rattle.type_notes.specs.Notes.{notes_of}
+use Rattle.width_checker.specs.Verdicts.{IsVerdict}
 use Rattle.cli_base.specs.declared.outcome.Outcome.{Outcome}
 use Rattle.cli_base.specs.declared.outcome.Outcome.TheVariants as outcomes
 use Rattle.ebc_cli.specs.declared.command.Command.TheVariants.{Assemble, CheckCode, CheckImage, InferPoints, Link, ListImage, ListRom, Run}
-use Rattle.ebc_cli.specs.declared.command.Command.TheVariants.{TakeRom}
-use Rattle.ebc_cli.specs.declared.command.Command.TheVariants.{Twin, WrapRom}
+use Rattle.ebc_cli.specs.declared.command.Command.TheVariants.{Sample, TakeRom, Twin, WrapRom}
+use Rattle.ebc_cli.specs.declared.sampling.BuiltSample.{BuiltSample}
 use Rattle.ebc_cli.specs.declared.width.Width.{Width}
 use Rattle.cli_base.specs.declared.reply.End.{End}
 use Rattle.cli_base.specs.declared.reply.End.TheVariants as ends
@@ -51,13 +54,14 @@ use Rattle.ebc_cli.specs.Faults.{link_fault_number, object_fault_number, rom_fau
 use Rattle.cli_base.specs.Faults.{image_fault_number}
 use Rattle.ebc_cli.specs.Faults.{take_fault_number, toml_fault_number}
 use Rattle.ebc_cli.specs.Inputs.{notes_limit, object_limit, plan_limit, rom_limit, rom_number_limit, script_limit, source_limit, step_limit}
-use Rattle.ebc_cli.specs.Inputs.{taking_offset}
+use Rattle.ebc_cli.specs.Inputs.{sample_limit, taking_offset}
 use Rattle.cli_base.specs.Inputs.{image_limit}
 use Rattle.cli_base.specs.Outcomes.{IsAnswer}
 use Rattle.cli_base.specs.Outputs.{SameBut, files_left, printed, text_of, written_name}
 use Rattle.cli_base.specs.Readings.{FileReading, AsksPart, MissingHasCause}
 use Rattle.ebc_cli.specs.Runnings.{IsTwinReport, report_text, twin_outcome, twin_report_text}
 use Rattle.ebc_cli.specs.Inferrings.{inferred_reply}
+use Rattle.ebc_cli.specs.Samplings.{built_line}
 use Rattle.ebc_cli.specs.Works.{work_of, IsReplyOf, plain_code_limit}
 
 -- a reply is an answer to the words
@@ -155,6 +159,25 @@ pub record TwinsImage (words : List (List ℕ)) (files : Files) (image : Image) 
   pub command : command_of words ≡ Some (Twin image_name notes_name script_name (decimal steps))
   pub within : steps ≤ step_limit
   pub has_files : HasRunFiles files image_name notes_name script_name image notes script
+
+-- the words are `sample N` with this number, which is at most 4,096, and so from 1 on
+pub record NamesSample (words : List (List ℕ)) (n : ℕ) : Type 0 where
+  pub command : command_of words ≡ Some (Sample (decimal n))
+  pub within : n ≤ sample_limit
+
+-- the source of a sample of n functions stands for this object, which is linked to this image
+pub record IsSampleImage (n : ℕ) (object : Object) (image : Image) : Type 0 where
+  pub object_is : object_of (source_text n) ≡ Ok object
+  pub image_is : links (object ∷ []) sample_plan ≡ Ok image
+
+-- the words are `sample N`, and this is built of the sample's texts: so many bytes of code, an image, notes and a script under them
+pub record BuildsSample (words : List (List ℕ)) (x : BuiltSample) : Type 0 where
+  pub object : Object
+  pub names : NamesSample words x.functions
+  pub built : IsSampleImage x.functions object x.image
+  pub code_is : x.code ≡ length object.code
+  pub notes_are : notes_of (notes_text x.functions) ≡ Ok x.notes
+  pub script_is : script_of x.notes script_text ≡ Ok x.script
 
 -- the words are `list IMAGE`, and the folder has a file within its limit that stands for this image
 pub record ListsImage (words : List (List ℕ)) (files : Files) (image : Image) : Type 0 where
@@ -397,6 +420,19 @@ pub record HasBadTaking (words : List (List ℕ)) (files : Files) (name : List �
   pub fails : taken images number ≡ Err kind
   pub place : offset ≡ taking_offset images number
 
+-- the words are `sample N`, and the first of the sample's texts with a fault has it by this number: its source, the object of it as it is
+-- linked, its notes, or its script under them
+pub data HasBadSample (words : List (List ℕ)) (fault : ℕ) : Type 0 where
+  bad_sample_source : (n : ℕ) (kind : AsmFault) (line : ℕ) → NamesSample words n → object_of (source_text n) ≡ Err (kind, line)
+      → fault ≡ asm_fault_number kind → HasBadSample words fault
+  bad_sample_link : (n : ℕ) (object : Object) (found : Fault) → NamesSample words n → object_of (source_text n) ≡ Ok object
+      → links (object ∷ []) sample_plan ≡ Err found → fault ≡ link_fault_number found → HasBadSample words fault
+  bad_sample_notes : (n : ℕ) (object : Object) (image : Image) (found : TomlFault) → NamesSample words n → IsSampleImage n object image
+      → notes_of (notes_text n) ≡ Err found → fault ≡ toml_fault_number found → HasBadSample words fault
+  bad_sample_script : (n : ℕ) (object : Object) (image : Image) (notes : Notes) (found : TomlFault) → NamesSample words n
+      → IsSampleImage n object image → notes_of (notes_text n) ≡ Ok notes → script_of notes script_text ≡ Err found
+      → fault ≡ toml_fault_number found → HasBadSample words fault
+
 -- the first file with a fault is that of this word, and its first fault has this number
 pub data HasBadInput (words : List (List ℕ)) (files : Files) (word fault : ℕ) : Type 0 where
   bad_image : HasBadImage words files word fault → HasBadInput words files word fault
@@ -409,6 +445,7 @@ pub data HasBadInput (words : List (List ℕ)) (files : Files) (word fault : ℕ
       → HasBadObject words files name kind offset → HasBadInput words files word fault
   bad_link : (name : List ℕ) (plan : LinkPlan) (found : Fault) → word ≡ 1 → fault ≡ link_fault_number found
       → HasBadLink words files name plan found → HasBadInput words files word fault
+  bad_sample : word ≡ 1 → HasBadSample words fault → HasBadInput words files word fault
   bad_rom : (name : List ℕ) (kind : RomFault) (offset : ℕ) → word ≡ 2 → fault ≡ rom_fault_number kind
       → HasBadRom words files name kind offset → HasBadInput words files word fault
   bad_taking : (name : List ℕ) (kind : TakeFault) (offset : ℕ) → word ≡ 2 → fault ≡ take_fault_number kind
@@ -443,8 +480,8 @@ pub record HasLargeFile (words : List (List ℕ)) (files : Files) (word : ℕ) :
   pub there : get files name ≡ Some bytes
   pub past : limit < length bytes
 
--- the words have a number, which is this word, has these digits and may be so large: NUMBER of `rom take ROM NUMBER IMAGE`, or STEPS of
--- `run WIDTH IMAGE NOTES SCRIPT STEPS` or `twin IMAGE NOTES SCRIPT STEPS`
+-- the words have a number, which is this word, has these digits and may be so large: NUMBER of `rom take ROM NUMBER IMAGE`, STEPS of
+-- `run WIDTH IMAGE NOTES SCRIPT STEPS` or `twin IMAGE NOTES SCRIPT STEPS`, or N of `sample N`
 pub data NamesNumber (words : List (List ℕ)) (word : ℕ) (digits : List ℕ) (limit : ℕ) : Type 0 where
   image_number : (rom_name image_name : List ℕ) → word ≡ 3 → limit ≡ rom_number_limit
       → command_of words ≡ Some (TakeRom rom_name digits image_name) → NamesNumber words word digits limit
@@ -452,6 +489,7 @@ pub data NamesNumber (words : List (List ℕ)) (word : ℕ) (digits : List ℕ) 
       → command_of words ≡ Some (Run width image_name notes_name script_name digits) → NamesNumber words word digits limit
   twin_steps : (image_name notes_name script_name : List ℕ) → word ≡ 4 → limit ≡ step_limit
       → command_of words ≡ Some (Twin image_name notes_name script_name digits) → NamesNumber words word digits limit
+  sample_functions : word ≡ 1 → limit ≡ sample_limit → command_of words ≡ Some (Sample digits) → NamesNumber words word digits limit
 
 -- the words have a number, which is this word and is past its limit
 pub record HasLargeNumber (words : List (List ℕ)) (word : ℕ) : Type 0 where
@@ -507,6 +545,15 @@ pub record ShowsTwin (image : Image) (notes : Notes) (script : Script) (steps : 
   pub least : report.differ ≡ differ
   pub same : outcome ≡ twin_outcome differ
   pub text : now ≡ printed (twin_report_text notes report) before
+
+-- what was printed is the line of a sample, of the verdict on its image under its notes and of a report of its runs at both widths, each up
+-- to 10,000,000 steps
+pub record ShowsSample (x : BuiltSample) (before now : Option (List ℕ)) : Type 0 where
+  pub verdict : Verdict
+  pub report : TwinReport
+  pub checked : IsVerdict x.image x.notes verdict
+  pub shown : IsTwinReport x.image x.notes x.script step_limit report
+  pub text : now ≡ printed (built_line x verdict report) before
 
 -- ---- what inferred points show
 

@@ -2,10 +2,9 @@
 use Rattle.std.specs.Prelude.{ℕ, List, [], ◌∷◌, codes, bytes_eq, if◌then◌else◌, ◌&&◌, Option, Some, None}
 use Rattle.ebc_cli.specs.declared.command.Command.{Command}
 use Rattle.ebc_cli.specs.declared.command.Command.TheVariants.{Assemble, CheckCode, CheckImage, InferPoints, Link, ListImage, ListRom, Run}
-use Rattle.ebc_cli.specs.declared.command.Command.TheVariants.{TakeRom}
-use Rattle.ebc_cli.specs.declared.command.Command.TheVariants.{Twin, WrapRom}
+use Rattle.ebc_cli.specs.declared.command.Command.TheVariants.{Sample, TakeRom, Twin, WrapRom}
 use Rattle.ebc_cli.specs.declared.width.Width.{Width}
-use Rattle.ebc_cli.specs.Numbers.{identifier_of, is_number, width_of}
+use Rattle.ebc_cli.specs.Numbers.{identifier_of, is_count, is_number, width_of}
 
 -- a word that isn't empty names a file
 abbrev pub of_file : (List ℕ → Command) → List ℕ → Option Command
@@ -36,6 +35,10 @@ abbrev pub twinning_of : List ℕ → List ℕ → List ℕ → List ℕ → Opt
 twinning_of image notes script steps =
     if is_number steps then of_three_files (λ image notes script. Twin image notes script steps) image notes script else None
 
+-- `sample N`: the number, which isn't 0, is kept as its digits, whatever its size
+abbrev pub sampling_of : List ℕ → Option Command
+sampling_of functions = if is_count functions then Some (Sample functions) else None
+
 -- `rom take ROM NUMBER IMAGE`: the number is kept as its digits, whatever its size
 abbrev pub taking_of : List ℕ → List ℕ → List ℕ → Option Command
 taking_of rom number image = if is_number number then of_two_files (λ rom image. TakeRom rom number image) rom image else None
@@ -65,6 +68,7 @@ abbrev pub command_of : List (List ℕ) → Option Command
 command_of (word ∷ file ∷ []) =
     if bytes_eq word (codes "check") then of_file CheckCode file
     else if bytes_eq word (codes "list") then of_file ListImage file
+    else if bytes_eq word (codes "sample") then sampling_of file
     else None
 command_of (word ∷ one ∷ two ∷ []) =
     if bytes_eq word (codes "check") then of_two_files CheckImage one two

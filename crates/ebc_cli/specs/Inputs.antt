@@ -68,6 +68,10 @@ rom_number_limit = 65535
 abbrev pub step_limit : ℕ
 step_limit = 10000000
 
+-- how many functions a sample may have
+abbrev pub sample_limit : ℕ
+sample_limit = 4096
+
 -- ---- faults
 
 -- a text that stands for no notes, or for no script under them; the fault is told by the path of its key

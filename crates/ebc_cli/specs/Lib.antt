@@ -7,5 +7,6 @@ pub mod Inputs
 pub mod Linkings
 pub mod Runnings
 pub mod Inferrings
+pub mod Samplings
 pub mod Works
 pub mod Answers

@@ -25,13 +25,17 @@ unfoldable pub identifier_of : List ℕ → Option ℕ
 identifier_of (a ∷ b ∷ c ∷ d ∷ []) = of_digits (hex_digit a) (hex_digit b) (hex_digit c) (hex_digit d)
 identifier_of word = None
 
--- ---- numbers of images in option ROMs, and of steps
+-- ---- numbers of images in option ROMs, of steps, and of functions
 
 -- decimal digits, the first of several no `0`
 unfoldable pub is_number : List ℕ → Bool
 is_number [] = false
 is_number (b ∷ []) = list_all is_digit (b ∷ [])
 is_number (b ∷ c ∷ bs) = not (b == 48) && list_all is_digit (b ∷ c ∷ bs)
+
+-- a number that isn't 0: how many functions a sample has
+abbrev pub is_count : List ℕ → Bool
+is_count word = is_number word && not (bytes_eq word (codes "0"))
 
 -- ---- widths
 

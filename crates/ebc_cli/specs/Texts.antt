@@ -2,6 +2,8 @@
 use Rattle.std.specs.Prelude.{ℕ, List, ◌++◌, codes}
 use Rattle.note_types.specs.declared.rule.RuleName.{RuleName}
 use Rattle.note_types.specs.declared.rule.RuleName.TheVariants as rules
+use Rattle.plain_check.specs.declared.verdict.Verdict.{Verdict}
+use Rattle.plain_check.specs.declared.verdict.Verdict.TheVariants.{Neutral, Refused}
 use Rattle.run_texts.specs.RunTexts.{place_text}
 
 -- a rule by its name
@@ -36,8 +38,13 @@ neutral_line = codes "neutral\n"
 abbrev pub refused_line : ℕ → RuleName → List ℕ
 refused_line place rule = codes "refused " ++ (place_text place ++ (codes " " ++ (rule_text rule ++ codes "\n")))
 
+-- the line of a verdict without the line feed
+abbrev pub verdict_text : Verdict → List ℕ
+verdict_text Neutral = codes "neutral"
+verdict_text (Refused place rule) = codes "refused " ++ (place_text place ++ (codes " " ++ rule_text rule))
+
 abbrev pub usage_line : List ℕ
 usage_line =
     codes "usage: asm SRC OBJ | link PLAN IMAGE | check CODE | check IMAGE NOTES | list IMAGE"
-    ++ (codes " | run WIDTH IMAGE NOTES SCRIPT STEPS | twin IMAGE NOTES SCRIPT STEPS"
+    ++ (codes " | run WIDTH IMAGE NOTES SCRIPT STEPS | twin IMAGE NOTES SCRIPT STEPS | sample N"
     ++ codes " | rom wrap VENDOR DEVICE IMAGE ROM | rom list ROM | rom take ROM NUMBER IMAGE | infer IMAGE NOTES\n")

@@ -30,7 +30,7 @@ use Rattle.ebc_cli.specs.Commands.{command_of}
 use Rattle.ebc_cli.specs.Inputs.{input, input_with_bytes, notes_limit, notes_meaning, source_limit}
 use Rattle.cli_base.specs.Inputs.{IsReadImage, image_limit, image_meaning}
 use Rattle.ebc_cli.specs.Inputs.{source_meaning}
-use Rattle.ebc_cli.specs.Inputs.{number_meaning, rom_limit, rom_meaning, rom_number_limit, step_limit, taking_meaning}
+use Rattle.ebc_cli.specs.Inputs.{number_meaning, rom_limit, rom_meaning, rom_number_limit, sample_limit, step_limit, taking_meaning}
 use Rattle.ebc_cli.specs.Inferrings.{TellsInferred}
 use Rattle.ebc_cli.specs.Linkings.{linked_image}
 use Rattle.cli_base.specs.Outputs.{prints, writes}
@@ -38,6 +38,7 @@ use Rattle.cli_base.specs.Readings.{FileReading, done, ◌>>=◌, file, told}
 use Rattle.ebc_cli.specs.Numbers.{address_bytes}
 use Rattle.ebc_cli.specs.RomTexts.{rom_listing}
 use Rattle.ebc_cli.specs.Runnings.{run_files, TellsRun, TellsTwin}
+use Rattle.ebc_cli.specs.Samplings.{IsBuilt, TellsSample, sample_of}
 use Rattle.ebc_cli.specs.Texts.{neutral_line, refused_line, usage_line}
 
 -- how many bytes plain code may have: 256 KiB
@@ -100,6 +101,13 @@ twinning image_name notes_name script_name digits files = do
   read ← run_files 1 image_name notes_name script_name files
   done (works.Twin read.0 read.1 read.2 steps)
 
+-- `sample N`: the texts of the sample are no files
+unfoldable pub sampling : List ℕ → FileReading Work
+sampling digits = do
+  functions ← told (number_meaning sample_limit 1 digits)
+  sample ← told (sample_of digits functions)
+  done (works.Sample sample)
+
 -- `rom wrap VENDOR DEVICE IMAGE ROM`: the subsystem is that of the image
 unfoldable pub rom_wrapping : ℕ → ℕ → List ℕ → List ℕ → Files → FileReading Work
 rom_wrapping vendor device image_name rom_name files = do
@@ -140,6 +148,7 @@ work_for (Some (commands.Assemble source object)) files = assembly source object
 work_for (Some (commands.Link plan image)) files = linking plan image files
 work_for (Some (commands.Run width image notes script steps)) files = running width image notes script steps files
 work_for (Some (commands.Twin image notes script steps)) files = twinning image notes script steps files
+work_for (Some (commands.Sample functions)) files = sampling functions
 work_for (Some (commands.WrapRom vendor device image rom)) files = rom_wrapping vendor device image rom files
 work_for (Some (commands.ListRom rom)) files = rom_images rom files
 work_for (Some (commands.TakeRom rom number image)) files = rom_taking rom number image files
@@ -152,8 +161,8 @@ work_of words files = work_for (command_of words) files
 -- ---- what is replied
 
 -- code that was read is within its limit, what was read as an image is one, what was read as notes are notes, what was read as a script
--- is one under them, what a source stands for is an object, what objects are linked to is in the linker's layout, and the file that goes
--- into an option ROM is within the limit of images
+-- is one under them, and so are those of a sample, what a source stands for is an object, what objects are linked to is in the linker's
+-- layout, and the file that goes into an option ROM is within the limit of images
 abbrev pub CanBeDone : Work → Type 0
 CanBeDone (works.CheckCode code) = length code ≤ plain_code_limit
 CanBeDone (works.CheckImage image notes) = IsReadImage image × IsNotes notes
@@ -162,6 +171,7 @@ CanBeDone (works.WriteObject name object) = IsObject object
 CanBeDone (works.WriteImage name image) = IsLinked image
 CanBeDone (works.Run width image notes script steps) = IsReadImage image × IsNotes notes × IsScript notes script
 CanBeDone (works.Twin image notes script steps) = IsReadImage image × IsNotes notes × IsScript notes script
+CanBeDone (works.Sample sample) = IsBuilt sample
 CanBeDone (works.WriteRom name vendor device subsystem image) = length image ≤ image_limit
 CanBeDone (works.ListRom images) = Unit {0}
 CanBeDone (works.WriteTaken name bytes) = Unit {0}
@@ -204,6 +214,7 @@ IsReplyTo (works.WriteObject name object) reply = reply ≡ file_reply name (obj
 IsReplyTo (works.WriteImage name image) reply = reply ≡ file_reply name (file_of image)
 IsReplyTo (works.Run width image notes script steps) reply = TellsRun (address_bytes width) image notes script steps reply
 IsReplyTo (works.Twin image notes script steps) reply = TellsTwin image notes script steps reply
+IsReplyTo (works.Sample sample) reply = TellsSample sample reply
 IsReplyTo (works.WriteRom name vendor device subsystem image) reply = reply ≡ file_reply name (rom_bytes vendor device subsystem image)
 IsReplyTo (works.ListRom images) reply = reply ≡ listing_reply (rom_listing images)
 IsReplyTo (works.WriteTaken name bytes) reply = reply ≡ file_reply name bytes

@@ -31,8 +31,9 @@ ghost use Rattle.twin_run.specs.Differs.{DifferAt};
 ghost use Rattle.width_checker.specs.Typed.{Typed};
 ghost use Rattle.width_checker.specs.Verdicts.{IsRefused};
 ghost use Rattle.ebc_cli.specs.Answers.{Answers, AnswersWords, Assembles, Decides, LeavesPart, ChecksCode, ChecksImage, ListsImage, HasBadInput, HasBadLine, HasMissingFile, HasNoText, SameForScripts};
-ghost use Rattle.ebc_cli.specs.Answers.{InfersPoints, RunsImage, ShowsInferred, ShowsRun, ShowsTwin, TwinsImage};
+ghost use Rattle.ebc_cli.specs.Answers.{BuildsSample, InfersPoints, RunsImage, ShowsInferred, ShowsRun, ShowsSample, ShowsTwin, TwinsImage};
 ghost use Rattle.ebc_cli.specs.Numbers.{address_bytes};
+ghost use Rattle.ebc_cli.specs.declared.sampling.BuiltSample.{BuiltSample};
 ghost use Rattle.ebc_cli.specs.declared.width.Width.{Width};
 ghost use Rattle.ebc_cli.specs.Answers.{Links, Wraps, ListsRom, Takes, HasBadLink, HasBadRom, HasBadTaking, IsTooLarge};
 ghost use Rattle.ebc_cli.specs.Commands.{command_of, output_of};
@@ -120,6 +121,14 @@ pub fn ebc<F: Folder, O: Sink>(
         TwinsImage (word_bytes words.now) files image notes script steps → Typed image notes → IsAnswer result →
         (result ≡ Outcome.Done) × ShowsTwin image notes script steps None result (O.written out.old) (O.written out.new)) }
 
+    // `sample N` builds the sample of N functions, 1 to 4,096, by its texts, where these have no fault, and what is printed is exactly its
+    // line: the verdict on its image, and what its runs at both widths show.
+    ensures samples_always { IfSome (F.contents folder.old) (λ files. (sample : BuiltSample) →
+        BuildsSample (word_bytes words.now) sample → IsAnswer result → result ≡ Outcome.Done) }
+    ensures samples_exactly { IfSome (F.contents folder.old) (λ files. (sample : BuiltSample) →
+        BuildsSample (word_bytes words.now) sample →
+        IsAnswer result → ShowsSample sample (O.written out.old) (O.written out.new)) }
+
     // `list IMAGE` lists each image within the limit, and what is printed is exactly its listing.
     ensures lists_always { IfSome (F.contents folder.old) (λ files. (image : Image) →
         ListsImage (word_bytes words.now) files image → IsAnswer result → result ≡ Outcome.Done) }
@@ -196,7 +205,7 @@ pub fn ebc<F: Folder, O: Sink>(
     // A file is missing exactly where it is the first, in its turn, that isn't there. A number is too large exactly where it is past
     // its limit, a file where it is the first past its own, and an image where it has more leaders than notes may have points. A file is bad input exactly where it is the first that stands for no
     // image, no notes, no script, no object, no link plan or no option ROM, or has no image to take, by its first fault; or a plan by which objects
-    // aren't linked.
+    // aren't linked; or where a text of a sample is so.
     ensures missing_exactly { IfSome (F.contents folder.old) (λ files. (word : ℕ) →
         IsAnswer result → result ≡ Outcome.Missing word ↔ HasMissingFile (word_bytes words.now) files word) }
     ensures too_large_exactly { IfSome (F.contents folder.old) (λ files. (word : ℕ) →

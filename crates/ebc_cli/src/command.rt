@@ -1,10 +1,10 @@
 //! The commands that words spell.
 ghost use Rattle.std.specs.Prelude.{◌≡◌, [], ◌∷◌, string_bytes, IfOk};
-ghost use Rattle.ebc_cli.specs.Commands.{command_of, of_five_words, of_six_words, running_of, taking_of, twinning_of, wrapping_of};
+ghost use Rattle.ebc_cli.specs.Commands.{command_of, of_five_words, of_six_words, running_of, sampling_of, taking_of, twinning_of, wrapping_of};
 ghost use Rattle.ebc_cli.specs.Numbers.{identifier_of, width_of};
 ghost use Rattle.cli_base.specs.Words.{word_bytes};
 
-use crate::number::{identifier_of, is_number};
+use crate::number::{identifier_of, is_count, is_number};
 use crate::width::{Width, width_of};
 use ebc_base::Name;
 use std::alloc::{AllocError, Global};
@@ -51,6 +51,11 @@ pub enum Command {
         script: Name,
         steps: Name,
     },
+    /// `sample N`: a sample of so many functions, which is assembled, linked, checked and run. The number is in decimal digits, whatever
+    /// its size.
+    Sample {
+        functions: Name,
+    },
     /// `rom wrap VENDOR DEVICE IMAGE ROM`: an image in an option ROM, which is written under a name, for the device of a vendor.
     WrapRom {
         vendor: u16,
@@ -91,6 +96,7 @@ pub fn command_of(alloc: Global, words: &Vec<String>) -> Result<Option<Command>,
     }
 }
 
+#[tactic(auto, unfolding(crate::specs::Numbers::is_number))]
 fn with_one_file(alloc: Global, word: &String, file: &String) -> Result<Option<Command>, AllocError>
     ensures { IfOk result (λ command. command ≡ command_of (string_bytes word.now ∷ string_bytes file.now ∷ [])) }
 {
@@ -104,6 +110,9 @@ fn with_one_file(alloc: Global, word: &String, file: &String) -> Result<Option<C
     if word.as_str() == "list" {
         let image = Name::new(String::from_str(alloc, file.as_str())?);
         return Ok(Some(Command::ListImage { image }));
+    }
+    if word.as_str() == "sample" {
+        return sampling(alloc, file);
     }
     Ok(None)
 }
@@ -239,6 +248,17 @@ fn twinning(
         notes: Name::new(String::from_str(alloc, notes.as_str())?),
         script: Name::new(String::from_str(alloc, script.as_str())?),
         steps: Name::new(String::from_str(alloc, steps.as_str())?),
+    }))
+}
+
+fn sampling(alloc: Global, functions: &String) -> Result<Option<Command>, AllocError>
+    ensures { IfOk result (λ command. command ≡ sampling_of (string_bytes functions.now)) }
+{
+    if !is_count(functions.as_str()) {
+        return Ok(None);
+    }
+    Ok(Some(Command::Sample {
+        functions: Name::new(String::from_str(alloc, functions.as_str())?),
     }))
 }
 

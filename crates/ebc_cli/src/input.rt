@@ -119,6 +119,20 @@ impl Input for Image {
     }
 }
 
+/// The notes that a text stands for, or the answer to its first fault. The bytes are those of a word, by its number and its name.
+pub fn notes_in(alloc: Global, word: u8, name: &str, bytes: &[u8]) -> Result<Notes, End>
+    ensures meaning { Means result (notes_meaning word name.now bytes.now) }
+    ensures valid { IfOk result IsNotes }
+    ensures stop { IfStop result (λ reply. IsBadInput reply.outcome) }
+    ensures output { IfStop result (λ reply. written_name reply.output ≡ None) }
+{
+    match read_notes(alloc, bytes) {
+        Ok(notes) => Ok(notes),
+        Err(NotesEnd::Fault(fault)) => Err(End::Stop(text::bad_notes(alloc, word, name, &fault)?)),
+        Err(NotesEnd::NoMemory) => Err(End::NoMemory),
+    }
+}
+
 impl Input for Notes {
     ghost meaning = { notes_meaning };
 
@@ -129,13 +143,7 @@ impl Input for Notes {
     const LIMIT: u64 = 1048576;
 
     fn of(alloc: Global, word: u8, name: &str, bytes: &[u8]) -> Result<Notes, End> {
-        match read_notes(alloc, bytes) {
-            Ok(notes) => Ok(notes),
-            Err(NotesEnd::Fault(fault)) => {
-                Err(End::Stop(text::bad_notes(alloc, word, name, &fault)?))
-            }
-            Err(NotesEnd::NoMemory) => Err(End::NoMemory),
-        }
+        notes_in(alloc, word, name, bytes)
     }
 }
 

@@ -15,6 +15,7 @@ mod linking;
 mod number;
 mod rom_text;
 mod running;
+mod sampling;
 mod text;
 mod width;
 mod work;

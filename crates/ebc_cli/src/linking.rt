@@ -5,7 +5,7 @@ ghost use Rattle.ebc_object.specs.Objects.{IsObject};
 ghost use Rattle.ebc_outside.specs.Counts.{Rose};
 ghost use Rattle.pe_image.specs.Linked.{IsLinked};
 ghost use Rattle.ebc_cli.specs.Inputs.{input, link_meaning, object_limit, object_meaning};
-ghost use Rattle.cli_base.specs.Inputs.{Means, bad_reply};
+ghost use Rattle.cli_base.specs.Inputs.{IsReadImage, Means, bad_reply};
 ghost use Rattle.ebc_cli.specs.Linkings.{each_object, linked_by, linked_image};
 ghost use Rattle.cli_base.specs.Outcomes.{IsBadInput};
 ghost use Rattle.cli_base.specs.Outputs.{written_name};
@@ -88,13 +88,14 @@ fn unlinked(alloc: Global, name: &str, number: u8, fault: &str, detail: &str) ->
     Err(End::Stop(bad(alloc, 1, name, number, fault, detail)?))
 }
 
-// What the objects are linked to, or the answer to the first fault.
-fn linked(alloc: Global, name: &str, objects: &[Object], plan: &LinkPlan) -> Result<Image, End>
+/// What the objects are linked to by the plan of this name, or the answer to the first fault.
+pub fn linked(alloc: Global, name: &str, objects: &[Object], plan: &LinkPlan) -> Result<Image, End>
     requires objects { All IsObject objects.now }
     requires plan { IsPlan plan.now }
     requires count { length objects.now ≡ length plan.now.objects }
     ensures image { Means result (link_meaning 1 name.now objects.now plan.now) }
     ensures layout { IfOk result IsLinked }
+    ensures valid { IfOk result IsReadImage }
     ensures stop { IfStop result (λ reply. IsBadInput reply.outcome) }
     ensures output { IfStop result (λ reply. written_name reply.output ≡ None) }
 {

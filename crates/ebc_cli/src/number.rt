@@ -2,7 +2,7 @@
 ghost use Rattle.std.specs.Prelude.{◌≡◌, ◌<◌, IfSome};
 ghost use Rattle.std.specs.List.{list_all};
 ghost use Rattle.ebc_base.specs.Names.{is_digit};
-ghost use Rattle.ebc_cli.specs.Numbers.{hex_digit, identifier_of, is_number};
+ghost use Rattle.ebc_cli.specs.Numbers.{hex_digit, identifier_of, is_count, is_number};
 
 // What a hexadecimal digit counts, of which the letters are lower-case.
 fn hex_digit(byte: u8) -> Option<u8>
@@ -57,4 +57,11 @@ pub fn is_number(word: &str) -> bool
             *first != b'0' && is_digit(*first) && is_digit(*second) && all_digits(rest)
         }
     }
+}
+
+/// Whether it is one that isn't 0.
+pub fn is_count(word: &str) -> bool
+    ensures { result ≡ is_count word.now }
+{
+    is_number(word) && word != "0"
 }

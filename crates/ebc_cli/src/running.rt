@@ -8,8 +8,8 @@ ghost use Rattle.twin_run.specs.Reported.{IsReport};
 ghost use Rattle.ebc_cli.specs.Inputs.{input, script_limit, script_meaning};
 ghost use Rattle.ebc_cli.specs.Numbers.{address_bytes};
 ghost use Rattle.ebc_cli.specs.Runnings.{TellsRun, TellsTwin, report_text, run_files, twin_outcome, twin_report_text};
-ghost use Rattle.cli_base.specs.Inputs.{IsReadImage};
-ghost use Rattle.cli_base.specs.Outcomes.{IsWorkAnswer};
+ghost use Rattle.cli_base.specs.Inputs.{IsReadImage, Means};
+ghost use Rattle.cli_base.specs.Outcomes.{IsBadInput, IsWorkAnswer};
 ghost use Rattle.cli_base.specs.Outputs.{written_name};
 ghost use Rattle.cli_base.specs.Readings.{Follows, IfStop, CommandAnswer};
 
@@ -27,8 +27,32 @@ use run_texts::{ShownRun, run_text, twin_text};
 use std::alloc::Global;
 use twin_run::{RunReport, TwinReport, run, twin};
 
+/// How many steps a run may be asked for.
+pub const STEP_LIMIT: u64 = 10000000;
+
 /// How many bytes a script may have.
 const SCRIPT_LIMIT: u64 = 1048576;
+
+/// The script that a text stands for under notes, or the answer to its first fault. The bytes are those of a word, by its number and its
+/// name.
+pub fn script_in(
+    alloc: Global,
+    word: u8,
+    name: &str,
+    bytes: &[u8],
+    notes: &Notes,
+) -> Result<Script, End>
+    ensures meaning { Means result (script_meaning notes.now word name.now bytes.now) }
+    ensures valid { IfOk result (IsScript notes.now) }
+    ensures stop { IfStop result (λ reply. IsBadInput reply.outcome) }
+    ensures output { IfStop result (λ reply. written_name reply.output ≡ None) }
+{
+    match read_script(alloc, bytes, notes) {
+        Ok(script) => Ok(script),
+        Err(NotesEnd::Fault(fault)) => Err(End::Stop(text::bad_notes(alloc, word, name, &fault)?)),
+        Err(NotesEnd::NoMemory) => Err(End::NoMemory),
+    }
+}
 
 // The script that the file of a word stands for under notes.
 #[tactic(auto, unfolding(crate::specs::Inputs::input))]
@@ -53,10 +77,9 @@ fn read_script_file<F: Folder>(
     ensures script { IfOk result (IsScript notes.now) }
 {
     let bytes = file(alloc, folder, word, name, SCRIPT_LIMIT)?;
-    match read_script(alloc, bytes.as_slice(), notes) {
+    match script_in(alloc, word, name, bytes.as_slice(), notes) {
         Ok(script) => Ok(script),
-        Err(NotesEnd::Fault(fault)) => Err(End::Stop(text::bad_notes(alloc, word, name, &fault)?)),
-        Err(NotesEnd::NoMemory) => Err(End::NoMemory),
+        Err(end) => Err(end),
     }
 }
 

@@ -1,7 +1,7 @@
 //! The lines that are printed.
 ghost use Rattle.std.specs.Prelude.{◌≡◌, Some, IfOk, string_bytes};
 ghost use Rattle.option_rom.specs.Images.{end_of};
-ghost use Rattle.ebc_cli.specs.Texts.{refused_line, rule_text};
+ghost use Rattle.ebc_cli.specs.Texts.{refused_line, rule_text, verdict_text};
 ghost use Rattle.ebc_cli.specs.Inputs.{bad_notes_reply, bad_source_reply, bad_rom_reply, bad_taking_reply, taking_offset};
 ghost use Rattle.ebc_cli.specs.Inputs.{bad_object_reply, bad_plan_reply};
 ghost use Rattle.ebc_cli.specs.Works.{verdict_reply, listing_reply, file_reply, usage_reply};
@@ -78,6 +78,20 @@ fn refused(alloc: Global, place: u32, rule: RuleName) -> Result<Reply, AllocErro
     Ok(printed(Outcome::Refused { place, rule }, text))
 }
 
+/// The line of a check without the line feed.
+pub fn verdict_text(alloc: Global, verdict: Verdict) -> Result<String, AllocError>
+    ensures { IfOk result (λ text. string_bytes text ≡ verdict_text verdict) }
+{
+    match verdict {
+        Verdict::Neutral => String::from_str(alloc, "neutral"),
+        Verdict::Refused { place, rule } => {
+            let shown = Place(place);
+            let name = rule_text(rule);
+            format!(in alloc; "refused {shown} {name}")
+        }
+    }
+}
+
 /// The answer of a listing: the text itself.
 pub fn listing(text: Vec<u8>) -> Reply
     ensures { result ≡ listing_reply text.items }
@@ -103,7 +117,7 @@ pub fn usage(alloc: Global) -> Result<Reply, AllocError>
     ensures { IfOk result (λ r. r ≡ usage_reply) }
 {
     let text =
-        b"usage: asm SRC OBJ | link PLAN IMAGE | check CODE | check IMAGE NOTES | list IMAGE | run WIDTH IMAGE NOTES SCRIPT STEPS | twin IMAGE NOTES SCRIPT STEPS | rom wrap VENDOR DEVICE IMAGE ROM | rom list ROM | rom take ROM NUMBER IMAGE | infer IMAGE NOTES\n";
+        b"usage: asm SRC OBJ | link PLAN IMAGE | check CODE | check IMAGE NOTES | list IMAGE | run WIDTH IMAGE NOTES SCRIPT STEPS | twin IMAGE NOTES SCRIPT STEPS | sample N | rom wrap VENDOR DEVICE IMAGE ROM | rom list ROM | rom take ROM NUMBER IMAGE | infer IMAGE NOTES\n";
     Ok(printed(Outcome::BadWords, text.to_vec(alloc)?))
 }
 

@@ -12,14 +12,15 @@ ghost use Rattle.cli_base.specs.Readings.{Follows, IfStop, CommandAnswer};
 ghost use Rattle.cli_base.specs.Outputs.{written_name};
 ghost use Rattle.ebc_cli.specs.Inputs.{number_meaning, rom_number_limit, step_limit, taking_meaning};
 ghost use Rattle.cli_base.specs.Inputs.{IsReadImage, Means};
-ghost use Rattle.ebc_cli.specs.Works.{CanBeDone, IsReplyTo, image_with_notes, output_name, rom_taking, rom_taking_of, rom_wrapping, running, twinning, work_of};
+ghost use Rattle.ebc_cli.specs.Works.{CanBeDone, image_with_notes, IsReplyTo, output_name, rom_taking, rom_taking_of, rom_wrapping, running, sampling, twinning, work_of};
 
 use crate::command::{Command, command_of};
 use crate::inferring::infer_reply;
 use crate::input::{read_as, read_with_bytes};
 use crate::linking::read_linked;
 use crate::rom_text::rom_listing;
-use crate::running::{read_run, run_reply, twin_reply};
+use crate::running::{STEP_LIMIT, read_run, run_reply, twin_reply};
+use crate::sampling::{BuiltSample, SAMPLE_LIMIT, built_sample, sample_reply};
 use crate::text;
 use crate::width::Width;
 use cli_base::text::large;
@@ -41,9 +42,6 @@ const PLAIN_CODE_LIMIT: u64 = 262144;
 
 /// The greatest number by which an image of an option ROM may be asked for.
 const ROM_NUMBER_LIMIT: u64 = 65535;
-
-/// How many steps a run may be asked for.
-const STEP_LIMIT: u64 = 10000000;
 
 /// What a command has to do once its files are read.
 #[derive(Drop)]
@@ -85,6 +83,10 @@ pub enum Work {
         notes: Notes,
         script: Script,
         steps: u64,
+    },
+    /// The check and the runs of a sample.
+    Sample {
+        sample: BuiltSample,
     },
     /// The writing of an option ROM under a name, for the device of a vendor, with the file of an image of a subsystem in it.
     WriteRom {
@@ -192,6 +194,7 @@ pub fn read_work<F: Folder>(alloc: Global, words: &Vec<String>, folder: &mut F) 
             steps.as_str(),
             folder,
         ),
+        Some(Command::Sample { functions }) => read_sampling(alloc, functions.as_str(), folder),
         Some(
             Command::WrapRom {
                 vendor,
@@ -348,6 +351,27 @@ fn read_wrapping<F: Folder>(
     })
 }
 
+// `sample N`: no file is read.
+#[tactic(auto, unfolding(crate::specs::Works::sampling))]
+fn read_sampling<F: Folder>(alloc: Global, digits: &str, folder: &mut F) -> Result<Work, End>
+    ensures follows { IfSome (F.contents folder.old) (λ files.
+        Follows (F.asked folder.old) (F.asked folder.new) result (sampling digits.now)) }
+    ensures work { IfOk result CanBeDone }
+    ensures output { IfOk result (λ work. output_name work ≡ None) }
+    ensures stop { IfStop result (CommandAnswer (F.contents folder.old)
+        (F.read_faults folder.old) (F.read_faults folder.new)) }
+    ensures fault { IsErrOf result End.ReadFault →
+        Rose (F.read_faults folder.old) (F.read_faults folder.new) }
+    ensures uncounted { IfSome (F.contents folder.old) (λ _. ¬ IsErrOf result End.ReadFault →
+        F.read_faults folder.new ≡ F.read_faults folder.old) }
+    ensures contents { F.contents folder.new ≡ F.contents folder.old }
+    ensures write_faults { F.write_faults folder.new ≡ F.write_faults folder.old }
+{
+    let functions = number_of(alloc, SAMPLE_LIMIT, 1, digits)?;
+    let sample = built_sample(alloc, functions as u32, digits)?;
+    Ok(Work::Sample { sample })
+}
+
 // The number that a word spells, where it is within a limit, or the answer to a larger one.
 fn number_of(alloc: Global, limit: u64, word: u8, digits: &str) -> Result<u64, End>
     ensures meaning { Means result (number_meaning limit word digits.now) }
@@ -473,6 +497,7 @@ impl Work {
                 script,
                 steps,
             } => twin_reply(alloc, &image, &notes, &script, steps),
+            Work::Sample { sample } => sample_reply(alloc, &sample),
             Work::WriteRom {
                 name,
                 vendor,

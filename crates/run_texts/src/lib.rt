@@ -12,4 +12,4 @@ mod value;
 
 pub use event::append_event;
 pub use number::Place;
-pub use run::{ShownRun, append_end, run_text, twin_text};
+pub use run::{ShownRun, append_end, differ_line, run_text, twin_text};

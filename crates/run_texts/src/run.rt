@@ -95,8 +95,12 @@ fn append_width(
     append_run(alloc, notes, run, out)
 }
 
-// The last line of a run at both widths.
-fn differ_line(alloc: Global, differ: Option<u64>) -> Result<String, AllocError>
+/// The last line of a run at both widths: whether the two are the same, or the least number of steps after which they aren't.
+///
+/// # Errors
+///
+/// Want of memory alone.
+pub fn differ_line(alloc: Global, differ: Option<u64>) -> Result<String, AllocError>
     ensures { IfOk result (λ line. string_bytes line ≡ differ_line differ) }
 {
     match differ {

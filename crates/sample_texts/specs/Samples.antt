@@ -1,4 +1,4 @@
--- For proofs: the texts of samples, programs of so many functions that the program makes itself, the plan by which one is linked, and
+-- Meaning: the texts of samples, programs of so many functions that the program makes itself, the plan by which one is linked, and
 -- the line that is printed of it. docs/COMMANDS.md, "Samples".
 use Rattle.std.specs.Prelude.{ℕ, ◌+◌, ◌-◌, ◌*◌, List, [], ◌∷◌, ◌++◌, Option, Some, None, codes, nat_eq, sum, if◌then◌else◌}
 use Rattle.std.specs.Fmt.{decimal}

@@ -7,6 +7,7 @@ use Rattle.ebc_cli.proofs.HeadlineLemmas.{bad-input, missing, too-large, neutral
 use Rattle.ebc_cli.proofs.HeadlineLemmas.{plain-refused, plain-neutral-printed, plain-refused-printed, unput, untold}
 use Rattle.ebc_cli.proofs.InferAnswers.{infers-exactly, points-exactly, points-typed, stuck-exactly}
 use Rattle.ebc_cli.proofs.RunAnswers.{runs-always, runs-exactly, twins-exactly, same-exactly, differ-exactly, twin-same}
+use Rattle.ebc_cli.proofs.SampleAnswers.{samples-always, samples-exactly}
 use Rattle.cli_base.proofs.OutputLemmas.{but-output, writes-none}
 use Rattle.ebc_cli.specs.Commands.{command_of, output_of}
 use Rattle.cli_base.specs.Words.{word_bytes}
@@ -69,6 +70,12 @@ returns-clause-differ_exactly g c = differ-exactly _ _ _ _ (tells g c)
 
 pub returns-clause-twin_same : goal.returns-clause-twin_same
 returns-clause-twin_same g c = twin-same _ _ _ _ _ _ (tells g c) c.finish.ensures.text
+
+pub returns-clause-samples_always : goal.returns-clause-samples_always
+returns-clause-samples_always g c = samples-always _ _ _ _ (tells g c)
+
+pub returns-clause-samples_exactly : goal.returns-clause-samples_exactly
+returns-clause-samples_exactly g c = samples-exactly _ _ _ _ _ _ (tells g c) c.finish.ensures.text
 
 pub returns-clause-lists_always : goal.returns-clause-lists_always
 returns-clause-lists_always g c = lists-always _ _ _ _ (tells g c)
