@@ -61,5 +61,6 @@ returns g c =
     ∙ (λ i. map (written_number w notes (placement i) (made i)) script.args)) in
     record {
       start = begun w image notes script c.enter.new.self c.as_slice.result.now (c.enter.ensures.at world (outset w world P (mapped image
-          P.image)) refl begins_at) are (quiet_none script c.enter.new.self c.enter.ensures.quiet) (room_begins w script c.enter.new.self.host c.in_ok-host.host c.enter.ensures.host host.room);
+          P.image)) refl begins_at) are (quiet_none script c.enter.new.self c.enter.ensures.quiet)
+          (room_begins w script c.enter.new.self.host c.in_ok-host.host c.enter.ensures.host host.room);
     }
