@@ -1,5 +1,5 @@
 -- What is printed of an image.
-use Rattle.std.proofs.Common.{◌≡◌, ℕ, ◌<◌, ◌≤◌, List, [], ◌∷◌, length, map, Option, Some, None, Result, Ok, Err, Bool, true, false, refl}
+use Rattle.std.proofs.Common.{◌≡◌, ℕ, ◌≤◌, List, [], ◌∷◌, length, map, Option, Some, None, Ok, Err, Bool, true, false, refl}
 use Rattle.std.proofs.Common.{ap, ◌∙◌, arith}
 use Rattle.std.specs.Prelude.{IfSome, nat_lt, if◌then◌else◌}
 use Rattle.std.specs.List.{filter, flat_map}
@@ -7,8 +7,6 @@ use Rattle.std.proofs.lemmas.Bool.Decides.{nat_tests}
 use Rattle.std.specs.FinMap.{get}
 use Rattle.ebc_outside.specs.Files.{Files}
 use Rattle.pe_image.specs.declared.image.Image.{Image}
-use Rattle.pe_image.specs.declared.fault.ImageFault.{ImageFault}
-use Rattle.pe_image.specs.Images.{image_of}
 use Rattle.ebc_disasm.specs.CodeItems.{items_of, line_of, says_bytes}
 use Rattle.ebc_disasm.specs.Listings.{has_code, section_lines}
 use Rattle.ebc_disasm.proofs.CodeLines.{code_lines}
@@ -18,8 +16,8 @@ use Rattle.cli_base.specs.declared.reply.Reply.{Reply}
 use Rattle.cli_base.specs.Inputs.{bad_image_reply, image_limit, image_meaning, or_reply}
 use Rattle.cli_base.specs.Outcomes.{IsAnswer}
 use Rattle.cli_base.specs.Outputs.{printed, text_of}
-use Rattle.cli_base.specs.Readings.{FileReading, done, file, go_on, large_reply, measured, told}
-use Rattle.code_places.specs.Answers.{Decides, ShowsImage, answer_of, answer_to, file_named, places_reply, reply_of, run_of}
+use Rattle.cli_base.specs.Readings.{FileReading, done, file, go_on, large_reply, measured}
+use Rattle.code_places.specs.Answers.{Decides, ShowsImage, answer_of, answer_to, places_reply, reply_of, run_of}
 use Rattle.code_places.specs.Places.{places_text}
 
 -- the lines of an image's places are those of its listing

@@ -10,7 +10,7 @@ use Rattle.cli_base.specs.declared.reply.Reply.{Reply}
 use Rattle.cli_base.specs.Inputs.{image_limit, image_meaning}
 use Rattle.cli_base.specs.Outcomes.{IsCommandAnswer}
 use Rattle.cli_base.specs.Outputs.{printed, prints, text_of, written_name}
-use Rattle.cli_base.specs.Readings.{FileReading, ◌>>=◌, done, file, told}
+use Rattle.cli_base.specs.Readings.{FileReading, AsksPart, ◌>>=◌, done, file, told}
 use Rattle.code_places.specs.Places.{places_text}
 
 -- the answer to words that aren't the name of a file
@@ -46,10 +46,15 @@ abbrev pub reply_of : Result Reply Reply → Reply
 reply_of (Ok reply) = reply
 reply_of (Err reply) = reply
 
--- a reply that was decided is that of the run, and all its names were asked for
+-- the text of the answer to the words, over these files
+abbrev pub answer_text : List (List ℕ) → Files → List ℕ
+answer_text words files = text_of (reply_of (run_of words files).value).output
+
+-- a reply that was decided is that of the run, and all its names were asked for; where a read failed or memory ran out, a first part
+-- of them
 abbrev pub Decides : List (List ℕ) → List (List ℕ) → Result Reply Outcome → FileReading Reply → Type 0
 Decides before now (Ok reply) run = (reply ≡ reply_of run.value) × (now ≡ before ++ run.asked)
-Decides before now (Err outcome) run = Unit {0}
+Decides before now (Err outcome) run = AsksPart before run.asked now
 
 -- the outcome is that of the run, and its text was printed
 pub record Answers (run : FileReading Reply) (outcome : Outcome) (before now : Option (List ℕ)) : Type 0 where

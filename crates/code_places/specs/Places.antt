@@ -1,5 +1,5 @@
 -- For proofs: the line of each place of the code of an image: docs/COMMANDS.md, "The places of an image".
-use Rattle.std.specs.Prelude.{[], false, ℕ, zero, suc, ◌+◌, ℤ, pos, negsuc, ◌+ℤ◌, ◌*ℤ◌, List, ◌∷◌, ◌++◌, codes, Bool, true, not, ◌&&◌, ◌||◌}
+use Rattle.std.specs.Prelude.{[], false, ℕ, zero, suc, ◌+◌, ℤ, pos, negsuc, ◌+ℤ◌, ◌*ℤ◌, List, ◌++◌, codes, Bool, true, not, ◌&&◌, ◌||◌}
 use Rattle.std.specs.Prelude.{Option, Some, None, nat_eq, nat_lt, if◌then◌else◌}
 use Rattle.std.specs.Fmt.{digits}
 use Rattle.std.specs.List.{flat_map}

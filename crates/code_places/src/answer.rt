@@ -1,5 +1,5 @@
 //! The top call: the words, the image, and what is printed.
-ghost use Rattle.std.specs.Prelude.{◌≡◌, ◌≢◌, ◌++◌, ◌↔◌, ◌⊎◌, ℕ, None, IfSome, IfNone, IfOk, IfErr, IsErrOf, map, option_map};
+ghost use Rattle.std.specs.Prelude.{◌≡◌, ◌≢◌, ◌++◌, ◌↔◌, ◌⊎◌, ℕ, [], None, IfSome, IfNone, IfOk, IfErr, IsErrOf, map, option_map};
 ghost use Rattle.std.specs.List.{filter, flat_map};
 ghost use Rattle.ebc_outside.specs.Counts.{Rose};
 ghost use Rattle.ebc_outside.specs.Files.{AppendsPart};
@@ -8,10 +8,10 @@ ghost use Rattle.ebc_disasm.specs.Listings.{has_code, section_lines};
 ghost use Rattle.pe_image.specs.declared.image.Image.{Image};
 ghost use Rattle.cli_base.specs.declared.reply.Reply.{Reply};
 ghost use Rattle.cli_base.specs.Outcomes.{IsAnswer};
-ghost use Rattle.cli_base.specs.Outputs.{printed, text_of, written_name};
-ghost use Rattle.cli_base.specs.Readings.{CommandAnswer, Follows, IfStop, MissingHasCause};
+ghost use Rattle.cli_base.specs.Outputs.{printed, written_name};
+ghost use Rattle.cli_base.specs.Readings.{AsksPart, CommandAnswer, Follows, IfStop, MissingHasCause};
 ghost use Rattle.cli_base.specs.Words.{word_bytes};
-ghost use Rattle.code_places.specs.Answers.{Answers, Decides, IsPrinted, ShowsImage, answer_of, file_named, reply_of, run_of, usage_reply};
+ghost use Rattle.code_places.specs.Answers.{Answers, Decides, IsPrinted, ShowsImage, answer_of, answer_text, file_named, run_of, usage_reply};
 ghost use Rattle.code_places.specs.Places.{places_text};
 
 use crate::line::places_text;
@@ -29,11 +29,15 @@ pub fn places<F: Folder, O: Sink>(
     out: &mut O,
 ) -> Outcome
     // Where the folder tells its files, the outcome and the printed text are those of the answer to the words, and the file asked for
-    // is the one that they name.
+    // is the one that they name, and at most that where a read failed or memory ran out.
     ensures answer { IfSome (F.contents folder.old) (λ files. IsAnswer result →
         Answers (run_of (word_bytes words.now) files) result (O.written out.old) (O.written out.new)) }
     ensures asked { IfSome (F.contents folder.old) (λ files.
         IsAnswer result → F.asked folder.new ≡ F.asked folder.old ++ (run_of (word_bytes words.now) files).asked) }
+    ensures asked_part { IfSome (F.contents folder.old) (λ files.
+        AsksPart (F.asked folder.old) (run_of (word_bytes words.now) files).asked (F.asked folder.new)) }
+    ensures write_fault_asked { IfSome (F.contents folder.old) (λ files.
+        result ≡ Outcome.WriteFault → F.asked folder.new ≡ F.asked folder.old ++ (run_of (word_bytes words.now) files).asked) }
 
     // The lines of an image within the limit are printed, each with the listing's line, and they are those that say bytes of its
     // sections with code.
@@ -42,11 +46,17 @@ pub fn places<F: Folder, O: Sink>(
     ensures listed { (image : Image) → map line_of (items_of image)
         ≡ filter says_bytes (flat_map (section_lines image) (filter has_code image.sections)) }
 
+    // An answer with no text puts nothing, and then no fault of the output is told.
+    ensures unput { IfSome (F.contents folder.old) (λ files.
+        answer_text (word_bytes words.now) files ≡ [] → out.new ≡ out.old) }
+    ensures untold { IfSome (F.contents folder.old) (λ files.
+        answer_text (word_bytes words.now) files ≡ [] → result ≢ Outcome.WriteFault) }
+
     // No file changes, and a text of which a part was printed is that of the answer.
     ensures contents { F.contents folder.new ≡ F.contents folder.old }
     ensures write_faults { F.write_faults folder.new ≡ F.write_faults folder.old }
     ensures write_fault_leaves { IfSome (F.contents folder.old) (λ files. result ≡ Outcome.WriteFault →
-        AppendsPart (text_of (reply_of (run_of (word_bytes words.now) files).value).output) (O.written out.old) (O.written out.new)) }
+        AppendsPart (answer_text (word_bytes words.now) files) (O.written out.old) (O.written out.new)) }
 
     // Why an answer comes, also where the folder doesn't tell its files.
     ensures bad_words { IsAnswer result → (result ≡ Outcome.BadWords ↔ file_named (word_bytes words.now) ≡ None) }
@@ -56,6 +66,7 @@ pub fn places<F: Folder, O: Sink>(
     ensures uncounted { IfSome (F.contents folder.old) (λ _. result ≢ Outcome.ReadFault →
         F.read_faults folder.new ≡ F.read_faults folder.old) }
     ensures write_fault { result ≡ Outcome.WriteFault → Rose (O.faults out.old) (O.faults out.new) }
+    ensures read_fault_leaves { result ≡ Outcome.ReadFault → out.new ≡ out.old }
     ensures no_memory_leaves { result ≡ Outcome.NoMemory → O.written out.new ≡ O.written out.old }
 {
     match decide(alloc, words, folder) {

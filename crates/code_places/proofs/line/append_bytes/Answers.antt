@@ -1,6 +1,5 @@
-use Rattle.std.proofs.Common.{◌≡◌, ◌+◌, ◌-◌, ◌<◌, ◌≤◌, ap, arith, ◌∙◌, [], ◌∷◌, ◌++◌}
+use Rattle.std.proofs.Common.{◌+◌, ◌-◌, ◌<◌, ◌≤◌, ap, arith, ◌∙◌, [], ◌∷◌, ◌++◌}
 use Rattle.pe_image.specs.Mapped.{image_byte}
-use Rattle.code_places.specs.Places.{bytes_text}
 use Rattle.code_places.proofs.ByteLines.{more_bytes, no_bytes}
 use Rattle.code_places.proofs.line.append_bytes.Goals as goal
 

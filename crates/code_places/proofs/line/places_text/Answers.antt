@@ -1,8 +1,6 @@
-use Rattle.std.proofs.Common.{◌≡◌, ◌<◌, ◌≤◌, length, take, get_or, ap, ◌∙◌, arith, List}
+use Rattle.std.proofs.Common.{◌≤◌, length, ap, ◌∙◌}
 use Rattle.std.specs.List.{flat_map}
 use Rattle.std.proofs.lemmas.List.{get_or_default, take_all}
-use Rattle.ebc_disasm.specs.declared.code.Item.{Item}
-use Rattle.ebc_disasm.specs.CodeItems.{items_of}
 use Rattle.code_places.specs.Places.{item_text, places_text}
 use Rattle.code_places.proofs.ByteLines.{more_texts}
 use Rattle.code_places.proofs.line.places_text.Goals as goal
