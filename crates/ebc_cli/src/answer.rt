@@ -257,6 +257,8 @@ pub fn ebc<F: Folder, O: Sink>(
     // What stands after the answers that the words and files don't decide.
     ensures read_fault_leaves { result ≡ Outcome.ReadFault → out.new ≡ out.old }
     ensures read_fault_files { result ≡ Outcome.ReadFault → F.contents folder.new ≡ F.contents folder.old }
+    ensures write_fault_asked { IfSome (F.contents folder.old) (λ files. result ≡ Outcome.WriteFault →
+        F.asked folder.new ≡ F.asked folder.old ++ (work_of (word_bytes words.now) files).asked) }
     ensures write_fault_leaves { IfSome (F.contents folder.old) (λ files. result ≡ Outcome.WriteFault →
         LeavesPart (word_bytes words.now) files (O.written out.old) (O.written out.new) (F.contents folder.new)) }
     ensures no_memory_leaves { result ≡ Outcome.NoMemory → O.written out.new ≡ O.written out.old }
