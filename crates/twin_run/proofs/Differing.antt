@@ -1,5 +1,5 @@
 -- There is one least number of steps after which two runs aren't the same, or none.
-use Rattle.std.proofs.Common.{◌≡◌, ℕ, ◌<◌, Option, Some, None, inl, inr, refl, ap, arith}
+use Rattle.std.proofs.Common.{◌≡◌, ℕ, ◌<◌, Option, Some, inl, inr, refl, ap, arith}
 use Rattle.std.proofs.lemmas.Bool.{cases_lt}
 use Rattle.pe_image.specs.declared.image.Image.{Image}
 use Rattle.host_model.specs.World.{World}

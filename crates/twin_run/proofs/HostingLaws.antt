@@ -90,11 +90,11 @@ front [] x is = absurd cc
 front (y ∷ ys) x is = let same : y ≡ x = cc in ap (λ z. z ∷ ys) same
 
 -- the call that is under way above the top frame
-abbrev call_above : Option AskedCall → Frame → NativeCall ℕ
+abbrev pub call_above : Option AskedCall → Frame → NativeCall ℕ
 call_above None f = (saved_of f).call
 call_above (Some a) f = Asked a.place a.target
 
-abbrev top_of : Option AskedCall → Frame → SavedFrame
+abbrev pub top_of : Option AskedCall → Frame → SavedFrame
 top_of a f = record (saved_of f) { call = call_above a f }
 
 hosts_top : (a : Option AskedCall) (f : Frame) (fs : List Frame) → hosts_of a (f ∷ fs) ≡ top_of a f ∷ map saved_of fs
@@ -128,13 +128,13 @@ is_left x c fs func r7 n some rest machine func_is r7_is notified_is =
     )
 
 -- the frames of the run
-left_hosts : (w : ℕ) (world : World) (x : Runner w) (r : RunState) (f : Frame) (c : Machine w) (fs : List Frame) (func r7 : ℕ) (n : Bool)
-    → IsAt w world x r → IsLeft x f c fs func r7 n → r.hosts ≡ top_of x.asked f ∷ map saved_of fs
+pub left_hosts : (w : ℕ) (world : World) (x : Runner w) (r : RunState) (f : Frame) (c : Machine w) (fs : List Frame) (func r7 : ℕ)
+    (n : Bool) → IsAt w world x r → IsLeft x f c fs func r7 n → r.hosts ≡ top_of x.asked f ∷ map saved_of fs
 left_hosts w world x r f c fs func r7 n at left =
     sym at.hosts ∙ (ap (hosts_of x.asked) left.there ∙ hosts_top x.asked f fs)
 
 -- the runner is at what is left
-left_at : (w : ℕ) (world : World) (x : Runner w) (r : RunState) (c : Machine w) (fs : List Frame) (h : Host w) (s : Concrete)
+pub left_at : (w : ℕ) (world : World) (x : Runner w) (r : RunState) (c : Machine w) (fs : List Frame) (h : Host w) (s : Concrete)
     (t : List Event) (e end : Ending) → IsAt w world x r → concrete_of c x.mem ≡ s → IsServing w world.notes world.script h
     → h ≡ record x.host { trace = h.trace } → h.trace.items ≡ t → e ≡ end
     → IsAt w world (record x { host = h; machine = c; frames = fs; asked = None; ending = e })
@@ -157,12 +157,12 @@ left_at w world x r c fs h s t e end at machine serving same told ends = record 
 }
 
 -- what the host reads of the result, in the words of the code
-abbrev Reads : (w : ℕ) → World → Runner w → (func r7 : ℕ) → Value → Type 0
+abbrev pub Reads : (w : ℕ) → World → Runner w → (func r7 : ℕ) → Value → Type 0
 Reads w world x func r7 v =
     (r : RunState) → IsHost w world x.host → Tells x.host r → register r.machine 7 ≡ r7
     → v ≡ result_of w world (placement_of x.host.places) r func
 
-result_there : (w : ℕ) (world : World) (x : Runner w) (r : RunState) (f : Frame) (c : Machine w) (fs : List Frame) (func r7 : ℕ)
+pub result_there : (w : ℕ) (world : World) (x : Runner w) (r : RunState) (f : Frame) (c : Machine w) (fs : List Frame) (func r7 : ℕ)
     (n : Bool) (v : Value) → IsAt w world x r → IsLeft x f c fs func r7 n → Reads w world x func r7 v
     → result_of w world (own_placement w world) r (saved_of f).func ≡ v
 result_there w world x r f c fs func r7 n v at left reads =
@@ -206,8 +206,8 @@ resumed_at w world x r f c fs func r7 n v h at left reads gate is serving same t
     serving same (told ∙ ap (λ t. t ++ event.Resumed func v ∷ []) (sym at.tells.trace)) at.ending)
 
 -- the machine once a frame is left that isn't one of a notification
-left_outside : (w : ℕ) (world : World) (x : Runner w) (r : RunState) (f : Frame) (c : Machine w) (fs : List Frame) (func r7 : ℕ) (n : Bool)
-    → IsAt w world x r → IsLeft x f c fs func r7 n → n ≡ false → concrete_of c x.mem ≡ outside r.machine (top_of x.asked f)
+pub left_outside : (w : ℕ) (world : World) (x : Runner w) (r : RunState) (f : Frame) (c : Machine w) (fs : List Frame) (func r7 : ℕ)
+    (n : Bool) → IsAt w world x r → IsLeft x f c fs func r7 n → n ≡ false → concrete_of c x.mem ≡ outside r.machine (top_of x.asked f)
 left_outside w world x r f c fs func r7 n at left is =
     let marked : (saved_of f).notified ≡ false = sym left.notified_is ∙ is in
     left.machine

@@ -1,4 +1,5 @@
 pub mod BeginningLaws
+pub mod BoundLaws
 pub mod DriverImage
 pub mod DriverNotes
 pub mod DriverScript

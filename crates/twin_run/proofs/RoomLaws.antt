@@ -57,12 +57,12 @@ rest_left script at = rest_events (drop at.entries script.call) + 2 * (length sc
 abbrev AreFew : Script → ℕ → List SavedFrame → ScriptPlace → List Event → Type 0
 AreFew script most hs at t = length t + (frames_events script hs + rest_left script at) ≤ most
 
-more : (script : Script) (f : SavedFrame) (fs : List SavedFrame)
+pub more : (script : Script) (f : SavedFrame) (fs : List SavedFrame)
     → frames_events script (f ∷ fs) ≡ 1 + call_events script f.call + frames_events script fs
 more script f fs = sum_by-cons (frame_events script) f fs
 
 -- a call that gives nothing
-quiet : (script : Script) (c : NativeCall ℕ) (hs : List SavedFrame) → call_events script c ≡ 0
+pub quiet : (script : Script) (c : NativeCall ℕ) (hs : List SavedFrame) → call_events script c ≡ 0
     → frames_events script (with_call c hs) ≤ frames_events script hs
 quiet script c [] none = omega arith
 quiet script c (f ∷ fs) none =
@@ -70,7 +70,7 @@ quiet script c (f ∷ fs) none =
     let b = more script f fs in
     omega (arith, a, b, none)
 
-inside-call : (c : NativeCall ℕ) (hs : List SavedFrame) → AreInside hs → AreInside (with_call c hs)
+pub inside-call : (c : NativeCall ℕ) (hs : List SavedFrame) → AreInside hs → AreInside (with_call c hs)
 inside-call c [] h = h
 inside-call c (f ∷ []) h = h
 inside-call c (f ∷ (g ∷ fs)) h = h

@@ -159,7 +159,7 @@ quiet_due w world x r script at same quiet few =
 
 -- ---- what a step needs
 
-hosts_length : (o : Option AskedCall) (fs : List Frame) → 0 < length (hosts_of o fs) → 0 < length fs
+pub hosts_length : (o : Option AskedCall) (fs : List Frame) → 0 < length (hosts_of o fs) → 0 < length fs
 hosts_length None [] some = some
 hosts_length None (f ∷ fs) some = omega arith
 hosts_length (Some a) [] some = some

@@ -8,3 +8,4 @@ pub mod Room
 pub mod Runner
 pub mod OnItsWay
 pub mod Reported
+pub mod Bound

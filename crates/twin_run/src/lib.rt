@@ -2,6 +2,7 @@
 //! rests on. docs/SIMULATION.md has it in words.
 #![tactic(auto)]
 
+mod bound;
 mod comparing;
 mod entering;
 mod hosting;
@@ -23,12 +24,13 @@ ghost use Rattle.twin_run.specs.TypedRuns.{MachinesFollow, OwnTypedRunsAreSame, 
 ghost use Rattle.width_checker.specs.Typed.{Typed};
 ghost use Rattle.width_checker.specs.Verdicts.{IsRefused, IsVerdict};
 
+pub use bound::FirstReturn;
 use ebc_base::NoMemory;
 use note_types::Notes;
 pub use one_run::run;
 use pe_image::Image;
 pub use reports::{RunReport, TwinReport};
-pub use runner::{Runner, start};
+pub use runner::{AskedCall, Runner, start};
 use std::alloc::Global;
 pub use two_runs::twin;
 use width_checker::Verdict;

@@ -34,7 +34,7 @@ const AHEAD: u64 = 1_000;
 
 /// A native call that a call instruction asks for.
 #[derive(Clone, Copy)]
-pub(crate) struct AskedCall {
+pub struct AskedCall {
     /// The place of the instruction, 0xFFFFFFFF outside the image.
     pub place: u32,
     /// The address that is called.
