@@ -26,6 +26,7 @@ use Rattle.host_model.specs.Progress.{NativeCall, NoCall, Asked, Accepted, Scrip
 use Rattle.host_model.specs.RunState.{RunState, SavedFrame}
 use Rattle.host_model.specs.World.{World}
 use Rattle.native_host.specs.Kept.{placement_of}
+use Rattle.native_host.specs.declared.host.Host.{Host}
 use Rattle.pair_model.specs.PairRuns.{bound_number, bound_reply}
 use Rattle.twin_run.specs.Bound.{IsNoFirstReturn, Rests, place_called}
 use Rattle.twin_run.specs.Room.{AreInside, HasEvents, call_events, events_left}
@@ -260,6 +261,15 @@ slots_quiet w script x a fs is some quiet =
     (λ more. absurd (asked_not_none a.place a.target (sym asked ∙ quiet.0 more)), quiet.1) where
       asked_not_none : (place target : ℕ) → Asked place target ≡ NoCall → ⊥
       asked_not_none place target same = cc
+
+-- and where no function is entered any more
+pub rests_quiet : (w : ℕ) (script : Script) (x z : Runner w) → z.frames ≡ [] → z.asked ≡ None → z.host ≡ x.host → z.quiet ≡ x.quiet
+    → IsQuiet script x → IsQuiet script z
+rests_quiet w script x z empty settled host same was = (
+  λ more. (λ i. call_under_way (hosts_of (settled i) (empty i))),
+  λ at told few.
+      was.1 at (told ∙ ap (λ (h : Host w). h.notifications) host) (subst (λ (n : ℕ). at.instructions < n) same few),
+)
 
 -- ---- what the host reads
 

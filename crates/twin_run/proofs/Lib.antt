@@ -19,5 +19,6 @@ pub mod ThunkSteps
 pub mod TurnLaws
 pub mod SameEvents
 pub mod Stepping
+pub mod SteppingOn
 pub mod TypedTest
 pub mod Differing

@@ -1,13 +1,11 @@
 -- Runners on their way along runs: one at its start, after a step more, and at the end; and two, which show where the runs part.
 use Rattle.std.specs.Prelude.{◌≢◌, IsTrue}
-use Rattle.std.proofs.Common.{◌≡◌, ◌↔◌, ◌⊎◌, ℕ, ◌+◌, ◌-◌, ◌<◌, ◌≤◌, Bool, true, false, if◌then◌else◌, List, ◌++◌, length, drop}
-use Rattle.std.proofs.Common.{Some, None, refl, sym, ap, ◌∙◌, subst, inl, inr, arith, add-one}
+use Rattle.std.proofs.Common.{◌≡◌, ◌↔◌, ◌⊎◌, ℕ, zero, suc, ◌+◌, ◌-◌, ◌<◌, ◌≤◌, Bool, true, false, if◌then◌else◌, List, ◌++◌, length, drop}
+use Rattle.std.proofs.Common.{Some, None, refl, sym, ap, ◌∙◌, subst, inl, inr, arith, add-one, add-suc, add-zero}
 use Rattle.std.proofs.Math.Seq.{drop-append_seam}
 use Rattle.std.proofs.lemmas.Bool.{cases_lt, false≢true}
 use Rattle.note_types.specs.declared.ending.Ending.TheVariants.{Running}
 use Rattle.note_types.specs.declared.event.Event.{Event}
-use Rattle.note_types.specs.declared.notes.Notes.{Notes}
-use Rattle.note_types.specs.declared.script.Script.{Script}
 use Rattle.pe_image.specs.Mapped.{mapped}
 use Rattle.pe_image.specs.declared.image.Image.{Image}
 use Rattle.host_model.specs.HostSteps.{spot_of}
@@ -18,7 +16,7 @@ use Rattle.host_model.specs.World.{World}
 use Rattle.twin_run.specs.Differs.{DifferAt, OwnRunsSame, first, nowhere}
 use Rattle.twin_run.specs.OnItsWay.{AreInStep, IsOnItsWay, IsSameButFirst}
 use Rattle.twin_run.specs.Reported.{IsReport, own_run}
-use Rattle.twin_run.specs.Runner.{IsRunner, Runs}
+use Rattle.twin_run.specs.Runner.{GoesOnFor, IsRunner, steps_on}
 use Rattle.twin_run.specs.declared.reports.RunReport.{RunReport}
 use Rattle.twin_run.specs.declared.runner.Runner.{Runner}
 use Rattle.twin_run.proofs.Stepping.{ended-is-last, step-tells}
@@ -54,6 +52,29 @@ module _ (w : ℕ) (image : Image) (world : World) where
     there = subst (IsRunner w world y) (sym (run-next k)) (step (own_run w image world k) on.there);
   }
 
+  -- so many steps on
+  run-on : (k n : ℕ) → own_run w image world (k + n) ≡ steps_on w world n (own_run w image world k)
+  unfolding steps_on run_after
+  run-on k zero = ap (own_run w image world) (add-zero k)
+  run-on k (suc n) = ap (own_run w image world) (add-suc k n)
+      ∙ ap (run_step w world (own_placement w world)) (run-on k n)
+
+  pub goes-on_for : (limit k n : ℕ) (x y : Runner w) → IsOnItsWay w image world limit k x → k + n ≤ limit
+      → GoesOnFor w world n (own_run w image world k) → IsRunner w world y (steps_on w world n (own_run w image world k))
+      → IsOnItsWay w image world limit (k + n) y
+  goes-on_for limit k n x y on less goes is = record {
+    most = less;
+    goes_on = λ j l. elim (cases_lt j k) as (λ _. (own_run w image world j).ending ≡ Running) [
+      | inl m ↦ on.goes_on j m
+      | inr m ↦
+          let few : j - k < n = omega (arith, l, m) in
+          let same : j ≡ k + (j - k) = omega (arith, m) in
+          ap (λ i. (own_run w image world i).ending) same
+          ∙ (ap (λ (r : RunState). r.ending) (run-on k (j - k)) ∙ goes (j - k) few)
+    ];
+    there = subst (IsRunner w world y) (sym (run-on k n)) is;
+  }
+
   -- at the end, which is the run's or the limit
   pub reports : (limit k : ℕ) (x : Runner w) (report : RunReport) → IsOnItsWay w image world limit k x
       → ((own_run w image world k).ending ≢ Running) ⊎ (k ≡ limit) → report.steps ≡ k
@@ -80,18 +101,6 @@ module _ (w : ℕ) (image : Image) (world : World) where
       let e : j ≡ k + (j - k) = omega (arith, l) in
       ap (own_run w image world) e
       ∙ ended-is-last w world (own_placement w world) (mapped image (own_placement w world).image) k (j - k) over
-
--- a runner of some run is still one after a step
-pub still-runs : (w : ℕ) (notes : Notes) (script : Script) (x y : Runner w) → Runs w notes script x
-    → ((world : World) (r : RunState) → world.notes ≡ notes → world.script ≡ script → IsRunner w world x r
-    → IsRunner w world y (run_step w world (own_placement w world) r)) → Runs w notes script y
-still-runs w notes script x y runs step = record {
-  world = runs.world;
-  its_notes = runs.its_notes;
-  its_script = runs.its_script;
-  state = run_step w runs.world (own_placement w runs.world) runs.state;
-  is = step runs.world runs.state runs.its_notes runs.its_script runs.is;
-}
 
 -- ---- two runs
 

@@ -28,7 +28,7 @@ use Rattle.twin_run.specs.Room.{HasEvents}
 use Rattle.twin_run.specs.Runner.{IsAt, IsQuiet, IsReady, IsRunner, Runs, hosts_of}
 use Rattle.twin_run.specs.declared.runner.AskedCall.{AskedCall}
 use Rattle.twin_run.specs.declared.runner.Runner.{Runner}
-use Rattle.twin_run.proofs.RoomLaws.{has_room, inside_some, step_events}
+use Rattle.twin_run.proofs.RoomLaws.{has_room, inside_some}
 use Rattle.twin_run.proofs.RunnerLaws.{is_placed, is_world}
 
 -- ---- whose step it is
@@ -147,16 +147,6 @@ quiet_at w world x r n at = record {
   ending = at.ending;
 }
 
--- while it is no native call is under way in the run, and no notification is due
-pub quiet_call : (w : ℕ) (world : World) (x : Runner w) (r : RunState) (script : Script) → IsAt w world x r → IsQuiet script x
-    → x.done < x.quiet → call_under_way r.hosts ≡ NoCall
-quiet_call w world x r script at quiet few = sym (ap call_under_way at.hosts) ∙ quiet.0 (omega (arith, few))
-
-pub quiet_due : (w : ℕ) (world : World) (x : Runner w) (r : RunState) (script : Script) → IsAt w world x r → world.script ≡ script
-    → IsQuiet script x → x.done < x.quiet → is_due world.script r.script ≡ false
-quiet_due w world x r script at same quiet few =
-    due_there w world x r script false at same (λ to n d. sym (quiet.1 to n (omega (arith, few, d))))
-
 -- ---- what a step needs
 
 pub hosts_length : (o : Option AskedCall) (fs : List Frame) → 0 < length (hosts_of o fs) → 0 < length fs
@@ -188,26 +178,11 @@ is_ready w notes script x runs on =
 
 -- ---- what a step leaves
 
-more_events : (script : Script) (most least : ℕ) (r : RunState) → HasEvents script least r → least ≤ most → HasEvents script most r
+pub more_events : (script : Script) (most least : ℕ) (r : RunState) → HasEvents script least r → least ≤ most → HasEvents script most r
 more_events script most least r has less = record {
   inside = has.inside;
   room = λ on. let room = has.room on in omega (arith, room, less);
 }
-
-pub went_on : (w : ℕ) (world : World) (x y : Runner w) (r : RunState) → IsRunner w world x r → x.ending ≡ Running
-    → IsAt w world y (running_step w world (own_placement w world) r) → IsQuiet world.script y
-    → vec_capacity x.host.trace ≤ vec_capacity y.host.trace
-    → IsRunner w world y (run_step w world (own_placement w world) r)
-unfolding run_step
-went_on w world x y r is on at quiet capacity =
-    let go = sym is.at.ending ∙ on in
-    subst (λ (e : Ending). IsRunner w world y (step_if w world (own_placement w world) r e)) (sym go)
-    (record {
-      at = at;
-      quiet = quiet;
-      events = more_events world.script (vec_capacity y.host.trace) (vec_capacity x.host.trace) (running_step w world (own_placement w
-          world) r) (step_events w world (own_placement w world) (vec_capacity x.host.trace) r go is.events) capacity;
-    })
 
 stays_ended : (w : ℕ) (world : World) (P : Placement) (r : RunState) (e : Ending) → (e ≡ Running → ⊥) → r ≡ step_if w world P r e
 stays_ended w world P r Running over = absurd (over refl)

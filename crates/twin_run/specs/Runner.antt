@@ -1,5 +1,6 @@
 -- For proofs: when a runner is at a state of a run. docs/HOST.md, "The state" and "Runs".
-use Rattle.std.specs.Prelude.{◌≡◌, ℕ, ◌-◌, ◌^◌, ◌<◌, false, List, length, map, min, Option, Some, None, vec_capacity}
+use Rattle.std.specs.Prelude.{◌≡◌, ◌≢◌, ℕ, zero, suc, ◌+◌, ◌-◌, ◌^◌, ◌<◌, false, List, length, map, min, Option, Some, None, vec_capacity}
+use Rattle.note_types.specs.declared.ending.Ending.TheVariants.{Running}
 use Rattle.note_types.specs.declared.notes.Notes.{Notes}
 use Rattle.note_types.specs.declared.script.Script.{Script}
 use Rattle.ebc_machine.specs.States.{concrete_of}
@@ -10,6 +11,7 @@ use Rattle.host_model.specs.HostSteps.{call_under_way, with_call}
 use Rattle.host_model.specs.Placements.{own_placement}
 use Rattle.host_model.specs.Progress.{Asked, NoCall, ScriptPlace}
 use Rattle.host_model.specs.RunState.{RunState, SavedFrame}
+use Rattle.host_model.specs.Runs.{run_step}
 use Rattle.host_model.specs.World.{World}
 use Rattle.native_host.specs.Hosts.{HasRoom, IsMemoryOf, IsServing, Tells, host_world}
 use Rattle.native_host.specs.Kept.{placement_of}
@@ -39,6 +41,28 @@ abbrev pub IsQuiet : {w : ℕ} → Script → Runner w → Type 0
 IsQuiet script x =
     (0 < x.quiet → call_under_way (hosts_of x.asked x.frames) ≡ NoCall)
     × ((at : ScriptPlace) → at.notifications ≡ x.host.notifications → at.instructions < x.quiet → is_due script at ≡ false)
+
+-- No native call is under way, and no notification is due before so many more instructions are done.
+abbrev pub IsFree : {w : ℕ} → Script → Runner w → ℕ → Type 0
+IsFree script x n =
+    (call_under_way (hosts_of x.asked x.frames) ≡ NoCall)
+    × ((at : ScriptPlace) → at.notifications ≡ x.host.notifications → at.instructions < x.done + n → is_due script at ≡ false)
+
+-- Inside a function so many steps, at least one, are the machine's, and the runner is as it was but for what it holds as quiet.
+pub record IsMachines (w : ℕ) (script : Script) (old new : Runner w) (n : ℕ) : Type 0 where
+  pub some : 0 < n
+  pub inside : old.machine.ip ≢ old.machine.gate
+  pub free : IsFree script new n
+  pub same : new ≡ record old { quiet = new.quiet }
+
+-- the run so many steps on
+unfoldable pub steps_on : ℕ → World → ℕ → RunState → RunState
+steps_on w world zero r = r
+steps_on w world (suc n) r = run_step w world (own_placement w world) (steps_on w world n r)
+
+-- The run goes on before each of so many steps.
+abbrev pub GoesOnFor : ℕ → World → ℕ → RunState → Type 0
+GoesOnFor w world n r = (j : ℕ) → j < n → (steps_on w world j r).ending ≡ Running
 
 -- A runner is the runner of a run in this state: what it holds as quiet is, and there is room for all events that may still come.
 pub record IsRunner (w : ℕ) (world : World) (x : Runner w) (r : RunState) : Type 0 where

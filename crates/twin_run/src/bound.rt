@@ -108,6 +108,7 @@ impl<const W: usize> Runner<W> {
         ensures other { IfNone result ((world : World) (r : RunState) → IsRunner W world self.old r → r.ending ≡ Running → IsNoFirstReturn (host_view W world (own_placement W world) r)) }
         ensures same { IfNone result (self.new ≡ self.old) }
         ensures host { self.new.host ≡ self.old.host }
+        ensures quiet { self.new.quiet ≡ self.old.quiet }
     {
         if self.machine.ip != self.machine.gate {
             return None;

@@ -1,7 +1,8 @@
 //! The instructions of a run (docs/HOST.md, "Runs").
-ghost use Rattle.std.specs.Prelude.{◌≡◌, ◌-◌, Some, None, if◌then◌else◌};
+ghost use Rattle.std.specs.Prelude.{◌≡◌, ◌≢◌, ◌+◌, ◌-◌, ◌^◌, ◌<◌, ◌≤◌, ℕ, min, IsTrue, Some, None, if◌then◌else◌};
 ghost use Rattle.ebc_width.specs.Ranges.{covers};
 ghost use Rattle.ebc_width.specs.Width.{IsWidth};
+ghost use Rattle.note_types.specs.declared.ending.Ending.TheVariants.{Running};
 ghost use Rattle.note_types.specs.declared.script.Script.{Script};
 ghost use Rattle.ebc_machine.specs.States.{concrete_of};
 ghost use Rattle.host_model.specs.HostSteps.{call_place, thunk_made, thunk_view};
@@ -10,7 +11,7 @@ ghost use Rattle.host_model.specs.RunState.{RunState};
 ghost use Rattle.host_model.specs.Runs.{instruction_step};
 ghost use Rattle.host_model.specs.World.{World};
 ghost use Rattle.native_host.specs.Kept.{IsOf, placement_of};
-ghost use Rattle.twin_run.specs.Runner.{IsAt, IsQuiet};
+ghost use Rattle.twin_run.specs.Runner.{GoesOnFor, IsAt, IsFree, IsQuiet, steps_on};
 
 use crate::runner::{AskedCall, Runner};
 use ebc_machine::StepEnd;
@@ -41,18 +42,44 @@ impl<const W: usize> Runner<W> {
         }
     }
 
-    // One instruction, which counts.
-    pub(crate) fn instruction(&mut self, notes: &Notes)
+    // Instructions, at least one and at most so many, until one asks for something or the function is left; how many they were.
+    // They are counted together, since the loop is what a run takes its time in.
+    pub(crate) fn instructions(&mut self, notes: &Notes, most: u64) -> u64
         requires width { IsWidth W }
         requires notes { IsOf W notes.now self.old.host.places }
-        ensures at { (world : World) (r : RunState) → world.notes ≡ notes.now → IsAt W world self.old r → IsAt W world self.new (instruction_step W world (own_placement W world) r) }
+        requires some { 0 < most }
+        requires inside { self.old.machine.ip ≢ self.old.machine.gate }
+        ensures at { (world : World) (r : RunState) → world.notes ≡ notes.now → IsFree world.script self.old most → r.ending ≡ Running → IsAt W world self.old r → IsAt W world self.new (steps_on W world result r) }
+        ensures goes_on { (world : World) (r : RunState) → world.notes ≡ notes.now → IsFree world.script self.old most → r.ending ≡ Running → IsAt W world self.old r → GoesOnFor W world result r }
+        ensures some { 0 < result }
+        ensures most { result ≤ most }
+        ensures trace { self.new.host.trace ≡ self.old.host.trace }
+        ensures quiet { (script : Script) → IsQuiet script self.old → IsQuiet script self.new }
+    {
+        let mut left = most;
+        let mut next = true;
+        while next && left > 0 && self.machine.ip != self.machine.gate {
+            next = self.instruction(notes);
+            left -= 1;
+        }
+        let taken = most - left;
+        self.done = self.done.saturating_add(taken);
+        taken
+    }
+
+    // One instruction, which is still to be counted; whether it asks for nothing.
+    fn instruction(&mut self, notes: &Notes) -> bool
+        requires width { IsWidth W }
+        requires notes { IsOf W notes.now self.old.host.places }
+        ensures at { (world : World) (r : RunState) (d : ℕ) → world.notes ≡ notes.now → IsAt W world (record self.old { done = d }) r → IsAt W world (record self.new { done = min (d + 1) (2 ^ 64 - 1) }) (instruction_step W world (own_placement W world) r) }
+        ensures next { IsTrue result → self.new ≡ record self.old { machine = self.new.machine; mem = self.new.mem } }
+        ensures done { self.new.done ≡ self.old.done }
         ensures trace { self.new.host.trace ≡ self.old.host.trace }
         ensures quiet { (script : Script) → IsQuiet script self.old → IsQuiet script self.new }
     {
         let ip = self.machine.ip;
-        self.done = self.done.saturating_add(1);
         match self.machine.step(&mut self.mem) {
-            StepEnd::Next => {}
+            StepEnd::Next => return true,
             StepEnd::Native(target) => {
                 let place = self.call_place(ip);
                 self.asked = Some(AskedCall { place, target });
@@ -62,6 +89,7 @@ impl<const W: usize> Runner<W> {
             StepEnd::MakeThunk(addr) => self.serve_thunk(notes, ip, addr),
             StepEnd::Raised(exception) => self.ending = Ending::Raised(exception),
         }
+        false
     }
 
     // Serves the thunk cell at an address for an instruction that is done, which stood at `ip`; the machine is as it was before
@@ -69,7 +97,8 @@ impl<const W: usize> Runner<W> {
     fn serve_thunk(&mut self, notes: &Notes, ip: u64, addr: u64)
         requires width { IsWidth W }
         requires notes { IsOf W notes.now self.old.host.places }
-        ensures at { (world : World) (r : RunState) → world.notes ≡ notes.now → r.machine ≡ concrete_of (record self.old.machine { ip = ip }) self.old.mem → IsAt W world self.old (record r { machine = concrete_of self.old.machine self.old.mem }) → IsAt W world self.new (thunk_made W world (own_placement W world) r (concrete_of self.old.machine self.old.mem) addr (thunk_view world (own_placement W world) (concrete_of self.old.machine self.old.mem) addr)) }
+        ensures at { (world : World) (r : RunState) (d : ℕ) → world.notes ≡ notes.now → r.machine ≡ concrete_of (record self.old.machine { ip = ip }) self.old.mem → IsAt W world (record self.old { done = d }) (record r { machine = concrete_of self.old.machine self.old.mem }) → IsAt W world (record self.new { done = d }) (thunk_made W world (own_placement W world) r (concrete_of self.old.machine self.old.mem) addr (thunk_view world (own_placement W world) (concrete_of self.old.machine self.old.mem) addr)) }
+        ensures done { self.new.done ≡ self.old.done }
         ensures trace { self.new.host.trace ≡ self.old.host.trace }
         ensures quiet { (script : Script) → IsQuiet script self.old → IsQuiet script self.new }
     {

@@ -43,8 +43,7 @@ pub fn finish<const W: usize>(
 {
     let mut steps = taken;
     while steps < limit && goes_on(&runner) {
-        runner.step(notes, script);
-        steps += 1;
+        steps += runner.steps(notes, script, limit - steps);
     }
     RunReport {
         steps,

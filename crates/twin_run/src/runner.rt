@@ -1,5 +1,5 @@
 //! The runner of a run at one width (docs/HOST.md, "Runs").
-ghost use Rattle.std.specs.Prelude.{◌≡◌, ◌↔◌, ◌<◌, ◌≤◌, false, nat_eq, IfOk, IsTrue, length, map, vec_capacity};
+ghost use Rattle.std.specs.Prelude.{◌≡◌, ◌≢◌, ◌↔◌, ◌<◌, ◌≤◌, false, IfOk, IfSome, IsTrue, None, length, map, vec_capacity};
 ghost use Rattle.std.specs.Bool.{OnFalse, OnTrue};
 ghost use Rattle.ebc_width.specs.Width.{IsWidth};
 ghost use Rattle.note_types.specs.Records.{IsNotes};
@@ -16,7 +16,7 @@ ghost use Rattle.host_model.specs.Runs.{run_of, run_step, running_step, world_of
 ghost use Rattle.host_model.specs.Scripts.{IsScript};
 ghost use Rattle.host_model.specs.World.{World};
 ghost use Rattle.native_host.specs.Hosts.{IsCalled};
-ghost use Rattle.twin_run.specs.Runner.{IsAt, IsQuiet, IsReady, IsRunner, Runs};
+ghost use Rattle.twin_run.specs.Runner.{GoesOnFor, IsAt, IsMachines, IsQuiet, IsReady, IsRunner, Runs, steps_on};
 
 use crate::entering::numbers_of;
 use callex_thunk::NO_ENTRY;
@@ -110,49 +110,74 @@ impl<const W: usize> Runner<W> {
         ensures step { (world : World) (r : RunState) → world.notes ≡ notes.now → world.script ≡ script.now → IsRunner W world self.old r → IsRunner W world self.new (run_step W world (own_placement W world) r) }
     {
         if let Ending::Running = self.ending {
-            self.go_on(notes, script);
+            self.steps(notes, script, 1);
         }
     }
 
-    // One step of a run that goes on.
-    fn go_on(&mut self, notes: &Notes, script: &Script)
+    // Steps of a run that goes on, at least one and at most so many; how many they were.
+    pub(crate) fn steps(&mut self, notes: &Notes, script: &Script, most: u64) -> u64
+        requires width { IsWidth W }
+        requires runs { Runs W notes.now script.now self.old }
+        requires running { self.old.ending ≡ Running }
+        requires some { 0 < most }
+        ensures steps { (world : World) (r : RunState) → world.notes ≡ notes.now → world.script ≡ script.now → IsRunner W world self.old r → IsRunner W world self.new (steps_on W world result r) }
+        ensures goes_on { (world : World) (r : RunState) → world.notes ≡ notes.now → world.script ≡ script.now → IsRunner W world self.old r → GoesOnFor W world result r }
+        ensures some { 0 < result }
+        ensures most { result ≤ most }
+    {
+        match self.turn(notes, script) {
+            None => 1,
+            Some(free) => self.instructions(notes, if free < most { free } else { most }),
+        }
+    }
+
+    // A step of the host, where it is the host's turn; else how many steps, at least one, are the machine's if they stay inside a
+    // function and ask for nothing.
+    fn turn(&mut self, notes: &Notes, script: &Script) -> Option<u64>
         requires width { IsWidth W }
         requires ready { IsReady W notes.now script.now self.old }
         requires quiet { IsQuiet script.now self.old }
-        ensures at { (world : World) (r : RunState) → world.notes ≡ notes.now → world.script ≡ script.now → IsAt W world self.old r → IsAt W world self.new (running_step W world (own_placement W world) r) }
+        ensures host { (world : World) (r : RunState) → result ≡ None → world.notes ≡ notes.now → world.script ≡ script.now → IsAt W world self.old r → IsAt W world self.new (running_step W world (own_placement W world) r) }
+        ensures machine { IfSome result (IsMachines W script.now self.old self.new) }
         ensures quiet { IsQuiet script.now self.new }
         ensures capacity { vec_capacity self.old.host.trace ≤ vec_capacity self.new.host.trace }
     {
         if self.machine.ip == self.machine.gate {
             self.leave_function(notes);
             self.quiet = 0;
+            None
         } else if self.done < self.quiet {
-            self.instruction(notes);
+            Some(self.quiet - self.done)
         } else {
-            self.look(notes, script);
+            self.look(notes, script)
         }
     }
 
-    // One step of a run that goes on inside a function: whose it is has to be looked at.
-    fn look(&mut self, notes: &Notes, script: &Script)
+    // The same inside a function, where it has to be looked at whose turn it is.
+    fn look(&mut self, notes: &Notes, script: &Script) -> Option<u64>
         requires width { IsWidth W }
         requires ready { IsReady W notes.now script.now self.old }
-        ensures at { (world : World) (r : RunState) → world.notes ≡ notes.now → world.script ≡ script.now → nat_eq r.machine.ip r.machine.gate ≡ false → IsAt W world self.old r → IsAt W world self.new (running_step W world (own_placement W world) r) }
+        requires inside { self.old.machine.ip ≢ self.old.machine.gate }
+        ensures host { (world : World) (r : RunState) → result ≡ None → world.notes ≡ notes.now → world.script ≡ script.now → IsAt W world self.old r → IsAt W world self.new (running_step W world (own_placement W world) r) }
+        ensures machine { IfSome result (IsMachines W script.now self.old self.new) }
         ensures quiet { IsQuiet script.now self.new }
         ensures capacity { vec_capacity self.old.host.trace ≤ vec_capacity self.new.host.trace }
     {
         if let Some(asked) = self.asked {
             self.call(notes, script, asked);
             self.quiet = 0;
+            None
         } else if self.is_called() {
             self.next(notes, script);
             self.quiet = 0;
+            None
         } else if self.host.due(script, self.done) {
             self.notify(notes, script);
             self.quiet = 0;
+            None
         } else {
             self.quiet = self.quiet_ahead(script);
-            self.instruction(notes);
+            Some(1)
         }
     }
 

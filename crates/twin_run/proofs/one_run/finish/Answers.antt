@@ -3,7 +3,8 @@ use Rattle.std.proofs.Common.{◌≡◌, ◌⊎◌, refl, sym, ◌∙◌, inl, i
 use Rattle.std.proofs.lemmas.Bool.{false≢true}
 use Rattle.note_types.specs.declared.ending.Ending.TheVariants.{Running}
 use Rattle.twin_run.specs.Reported.{own_run}
-use Rattle.twin_run.proofs.OnItsWay.{goes-on, reports, still-runs}
+use Rattle.twin_run.proofs.OnItsWay.{goes-on_for, reports}
+use Rattle.twin_run.proofs.SteppingOn.{runs_still}
 use Rattle.twin_run.proofs.one_run.finish.Goals as goal
 use Rattle.twin_run.proofs.one_run.finish.Goals.{then-loop-steps-test+else-goes_on, else-loop-steps-test}
 
@@ -12,12 +13,15 @@ loop-steps-init g c = record { runs = c.requires.runs; on = λ image world n s h
 
 pub loop-steps-preserved : goal.loop-steps-preserved
 loop-steps-preserved g c = record {
-  runs = still-runs g.row.W c.args.notes.now c.args.script.now c.loop-steps.runner c.step.new.self c.loop-steps.invariant.runs
-      c.step.ensures.step;
+  runs = runs_still g.row.W c.args.notes.now c.args.script.now c.loop-steps.runner c.steps-steps.new.self c.steps-steps.result
+      c.loop-steps.invariant.runs
+      c.steps-steps.ensures.steps;
   on = λ image world n s h.
       let on = c.loop-steps.invariant.on image world n s h in
-      goes-on g.row.W image world c.args.limit c.loop-steps.steps c.loop-steps.runner c.step.new.self on c.loop-steps-test.true
-      ((c.goes_on.ensures world _ on.there).0 c.if-goes_on.true) (λ r is. c.step.ensures.step world r n s is);
+      let less = c.loop-steps-test.true in
+      let most = c.steps-steps.ensures.most in
+      goes-on_for g.row.W image world c.args.limit c.loop-steps.steps c.steps-steps.result c.loop-steps.runner c.steps-steps.new.self on
+      (omega (arith, less, most)) (c.steps-steps.ensures.goes_on world _ n s on.there) (c.steps-steps.ensures.steps world _ n s on.there);
 }
 
 pub returns : goal.returns

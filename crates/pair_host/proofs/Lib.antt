@@ -1,0 +1,12 @@
+pub mod Past
+pub mod Brief
+pub mod Sides
+pub mod Steps
+pub mod Calls
+pub mod Entering
+pub mod SameShown
+pub mod Turns
+pub mod PairDiffering
+pub mod PairOnItsWay
+pub mod GoingOn
+pub mod PairRows

@@ -1,0 +1,7 @@
+use Rattle.std.proofs.Common.{◌≡◌, length, map, take}
+use Rattle.note_types.specs.declared.seen.Seen.{Seen}
+use Rattle.host_model.specs.ScriptValues.{given}
+use Rattle.pair_host.proofs.pair_runner.given_values.Given as goal
+
+abbrev pub invariant-loop-arg : goal.invariant-loop-arg
+invariant-loop-arg l = (length l.given ≡ l.arg-index) × (l.given ≡ map (λ (s : Seen). given s.value) (take l.arg-index l.args))

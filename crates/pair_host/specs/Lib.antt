@@ -1,0 +1,4 @@
+pub mod PairRunner
+pub mod PairReported
+pub mod PairDiffers
+pub mod PairOnItsWay

@@ -1,0 +1,109 @@
+//! The runs of two images on one host, at both widths.
+ghost use Rattle.std.specs.Prelude.{◌≡◌, ◌↔◌, IfOk, IsTrue, None};
+ghost use Rattle.ebc_width.specs.Width.{IsWidth};
+ghost use Rattle.host_model.specs.RunState.{RunState};
+ghost use Rattle.note_types.specs.declared.ending.Ending.TheVariants.{Running};
+ghost use Rattle.pair_model.specs.Pairs.{PairState, PairWorld};
+ghost use Rattle.typed_runs.specs.Endings.{RaisesOnlyDivideError};
+ghost use Rattle.width_checker.specs.Typed.{Typed};
+ghost use Rattle.pair_host.specs.PairDiffers.{PairsDifferAt};
+ghost use Rattle.pair_host.specs.PairOnItsWay.{ArePairsSameButFirst, IsPairOnItsWay};
+ghost use Rattle.pair_host.specs.PairReported.{IsPairReport};
+ghost use Rattle.pair_host.specs.PairRunner.{ArePaired, IsPair, images_for, pair_world};
+
+use crate::comparing::{same_ending, same_from, same_side, same_spot};
+use crate::driver::Driver;
+use crate::pair_runner::{PairRunner, start};
+use crate::reports::{PairReport, PairRun};
+use ebc_base::NoMemory;
+use note_types::Ending;
+use pair_model::Binds;
+use std::alloc::Global;
+
+// Whether a run goes on.
+fn goes_on<const W: usize>(runner: &PairRunner<W>) -> bool
+    ensures { (world : PairWorld) (p : PairState RunState) → IsPair W world runner.now p → IsTrue result ↔ (p.ending ≡ Running) }
+{
+    same_ending(runner.ending(), Ending::Running)
+}
+
+// Whether two runners show the same but for the first so many events: the same image runs, it stands at the same spot, and the
+// events and endings are the same.
+fn same_but_first(at4: &PairRunner<4>, at8: &PairRunner<8>, told: usize) -> bool
+    ensures { (world : PairWorld) (p q : PairState RunState) → IsPair 4 world at4.now p → IsPair 8 world at8.now q
+        → IsTrue result ↔ ArePairsSameButFirst world told p q }
+{
+    same_side(at4.side(), at8.side())
+        && same_spot(at4.spot(), at8.spot())
+        && same_ending(at4.ending(), at8.ending())
+        && same_from(at4.trace(), at8.trace(), told)
+}
+
+// The report of a runner that has taken so many steps: it goes on until its run ends or up to a limit.
+fn finish<const W: usize>(
+    mut runner: PairRunner<W>,
+    a: &Driver,
+    b: &Driver,
+    binds: &Binds,
+    taken: u64,
+    limit: u64,
+) -> PairRun
+    requires width { IsWidth W }
+    requires paired { ArePaired a.now b.now binds.now }
+    requires on { IsPairOnItsWay W (images_for a.now b.now) (pair_world a.now b.now binds.now) limit taken runner }
+    ensures report { IsPairReport W (images_for a.now b.now) (pair_world a.now b.now binds.now) limit result }
+{
+    let mut steps = taken;
+    while steps < limit && goes_on(&runner) {
+        runner.step(a, b, binds);
+        steps += 1;
+    }
+    PairRun {
+        steps,
+        spot: runner.spot(),
+        ending: runner.ending(),
+        events: runner.into_trace(),
+    }
+}
+
+/// Runs image B, the provider, and then image A, whose calls of bound methods enter functions of image B, at 4 and at 8 bytes an
+/// address, each until its run ends or for so many steps, and finds the least number of steps, up to the same, after which the two
+/// aren't the same. The binds agree with the notes of both. The images need to keep no rule of docs/RULES.md; where both keep them
+/// all there is none, and no exception is raised but a division by zero.
+///
+/// # Errors
+///
+/// There is no memory for the runs.
+pub fn pair(
+    alloc: Global,
+    a: &Driver,
+    b: &Driver,
+    binds: &Binds,
+    steps: u64,
+) -> Result<PairReport, NoMemory>
+    requires paired { ArePaired a.now b.now binds.now }
+    ensures at4 { IfOk result (λ r. IsPairReport 4 (images_for a.now b.now) (pair_world a.now b.now binds.now) steps r.at4) }
+    ensures at8 { IfOk result (λ r. IsPairReport 8 (images_for a.now b.now) (pair_world a.now b.now binds.now) steps r.at8) }
+    ensures differ { IfOk result (λ r. PairsDifferAt (images_for a.now b.now) (pair_world a.now b.now binds.now) steps r.differ) }
+    ensures same_where_typed { Typed a.now.image.now a.now.notes.now → Typed b.now.image.now b.now.notes.now → IfOk result (λ r. r.differ ≡ None) }
+    ensures raised_where_typed { Typed a.now.image.now a.now.notes.now → Typed b.now.image.now b.now.notes.now
+        → IfOk result (λ r. RaisesOnlyDivideError r.at4.ending × RaisesOnlyDivideError r.at8.ending) }
+{
+    let events = steps as usize;
+    let mut at4 = start::<4>(alloc, a, b, events)?;
+    let mut at8 = start::<8>(alloc, a, b, events)?;
+    let mut taken = 0;
+    let mut same = same_but_first(&at4, &at8, 0);
+    while same && taken < steps && goes_on(&at4) {
+        let told = at4.trace().len();
+        at4.step(a, b, binds);
+        at8.step(a, b, binds);
+        taken += 1;
+        same = same_but_first(&at4, &at8, told);
+    }
+    Ok(PairReport {
+        at4: finish(at4, a, b, binds, taken, steps),
+        at8: finish(at8, a, b, binds, taken, steps),
+        differ: if same { None } else { Some(taken) },
+    })
+}

@@ -1,0 +1,182 @@
+-- Runs so many steps on: what a runner is at after several instructions, and after several steps.
+use Rattle.std.specs.Prelude.{◌≢◌, vec_capacity}
+use Rattle.std.proofs.Common.{◌≡◌, ℕ, zero, suc, ◌+◌, ◌-◌, ◌^◌, ◌<◌, ◌≤◌, false, map, min, None}
+use Rattle.std.proofs.Common.{refl, sym, ap, ◌∙◌, subst, arith, add-one, inl, inr}
+use Rattle.std.proofs.lemmas.Bool.{cases_lt}
+use Rattle.note_types.specs.declared.ending.Ending.TheVariants.{Running}
+use Rattle.note_types.specs.declared.script.Script.{Script}
+use Rattle.note_types.specs.declared.notes.Notes.{Notes}
+use Rattle.callex_thunk.specs.HostFrames.{saved_of}
+use Rattle.host_model.specs.HostPlans.{is_due}
+use Rattle.host_model.specs.HostSteps.{call_under_way}
+use Rattle.host_model.specs.Placements.{own_placement}
+use Rattle.host_model.specs.Progress.{NoCall, ScriptPlace}
+use Rattle.host_model.specs.RunState.{RunState}
+use Rattle.host_model.specs.Runs.{instruction_step, run_step, running_step, step_if}
+use Rattle.host_model.specs.World.{World}
+use Rattle.twin_run.specs.Room.{HasEvents}
+use Rattle.twin_run.specs.Runner.{GoesOnFor, IsAt, IsFree, IsMachines, IsQuiet, IsRunner, Runs, hosts_of, steps_on}
+use Rattle.twin_run.specs.declared.runner.Runner.{Runner}
+use Rattle.twin_run.proofs.RoomLaws.{step_events}
+use Rattle.twin_run.proofs.RunnerLaws.{away_there}
+use Rattle.twin_run.proofs.TurnLaws.{due_there, more_events, not_due_before, quiet_at, turn_is}
+
+-- ---- one step more
+
+pub on_none : (w : ℕ) (world : World) (r : RunState) → steps_on w world 0 r ≡ r
+unfolding steps_on
+on_none w world r = refl
+
+pub on_next : (w : ℕ) (world : World) (n : ℕ) (r : RunState)
+    → steps_on w world (n + 1) r ≡ run_step w world (own_placement w world) (steps_on w world n r)
+unfolding steps_on
+on_next w world n r = ap (λ k. steps_on w world k r) (add-one n)
+
+pub on_one : (w : ℕ) (world : World) (r : RunState) → steps_on w world 1 r ≡ run_step w world (own_placement w world) r
+on_one w world r = on_next w world 0 r ∙ ap (run_step w world (own_placement w world)) (on_none w world r)
+
+pub goes_next : (w : ℕ) (world : World) (n : ℕ) (r : RunState) → GoesOnFor w world n r → (steps_on w world n r).ending ≡ Running
+    → GoesOnFor w world (n + 1) r
+goes_next w world n r goes on j l = elim (cases_lt j n) as (λ _. (steps_on w world j r).ending ≡ Running) [
+  | inl m ↦ goes j m
+  | inr m ↦ let same : j ≡ n = omega (arith, l, m) in ap (λ k. (steps_on w world k r).ending) same ∙ on
+]
+
+pub goes_none : (w : ℕ) (world : World) (r : RunState) → GoesOnFor w world 0 r
+goes_none w world r j l = absurd (omega (arith, l))
+
+-- a run that goes on takes its step
+pub runs_on : (w : ℕ) (world : World) (s : RunState) → s.ending ≡ Running
+    → running_step w world (own_placement w world) s ≡ run_step w world (own_placement w world) s
+unfolding run_step
+runs_on w world s on = ap (step_if w world (own_placement w world) s) (sym on)
+
+-- ---- several instructions
+
+-- A runner is so many steps on of a run, all of them instructions that are still to be counted.
+pub record IsOn (w : ℕ) (world : World) (old new : Runner w) (n : ℕ) (r : RunState) : Type 0 where
+  pub at : IsAt w world (record new { done = min (old.done + n) (2 ^ 64 - 1) }) (steps_on w world n r)
+  pub goes : GoesOnFor w world n r
+
+capped : (w : ℕ) (world : World) (x : Runner w) (r : RunState) (d : ℕ) → IsAt w world x r → d ≡ min x.done (2 ^ 64 - 1)
+    → IsAt w world (record x { done = d }) r
+capped w world x r d at is = record {
+  serving = at.serving;
+  size = at.size;
+  image_size = at.image_size;
+  memory = at.memory;
+  machine = at.machine;
+  hosts = at.hosts;
+  tells = record { entries = at.tells.entries; notifications = at.tells.notifications; thunks = at.tells.thunks; trace = at.tells.trace };
+  done = let was = at.done in omega (arith, is, was);
+  ending = at.ending;
+}
+
+pub is_on : (w : ℕ) (world : World) (x : Runner w) (r : RunState) → IsAt w world x r → IsOn w world x x 0 r
+is_on w world x r at = record {
+  at = subst (IsAt w world (record x { done = min (x.done + 0) (2 ^ 64 - 1) })) (sym (on_none w world r))
+      (capped w world x r (min (x.done + 0) (2 ^ 64 - 1)) at (omega arith));
+  goes = goes_none w world r;
+}
+
+-- an instruction more
+pub is_on_next : (w : ℕ) (world : World) (x y z : Runner w) (n most : ℕ) (r : RunState) → IsOn w world x y n r → n < most
+    → y ≡ record x { machine = y.machine; mem = y.mem } → y.machine.ip ≢ y.machine.gate → IsFree world.script x most
+    → r.ending ≡ Running → IsAt w world x r
+    → ((s : RunState) (d : ℕ) → IsAt w world (record y { done = d }) s
+    → IsAt w world (record z { done = min (d + 1) (2 ^ 64 - 1) }) (instruction_step w world (own_placement w world) s))
+    → IsOn w world x z (n + 1) r
+is_on_next w world x y z n most r is less same away free on at step =
+    let s = steps_on w world n r in
+    let d = min (x.done + n) (2 ^ 64 - 1) in
+    let v : Runner w = record y { done = d } in
+    let running : s.ending ≡ Running = sym is.at.ending ∙ (ap (λ (u : Runner w). u.ending) same ∙ (at.ending ∙ on)) in
+    let gone = away_there w world v s is.at away in
+    let call : call_under_way s.hosts ≡ NoCall =
+    sym (ap call_under_way is.at.hosts) ∙ (ap (λ (u : Runner w). call_under_way (hosts_of u.asked u.frames)) same ∙ free.0) in
+    let entered = ap (λ (u : Runner w). u.host.notifications) same in
+    let due : is_due world.script s.script ≡ false =
+    due_there w world v s world.script false is.at refl (λ to m k. sym (free.1 to (m ∙ entered) (omega (arith, k, less)))) in
+    let turn = turn_is w world (own_placement w world) s false NoCall false gone call due in
+    let next = subst (IsAt w world (record z { done = min (d + 1) (2 ^ 64 - 1) })) (turn ∙ (runs_on w world s running ∙ sym (on_next w world
+    n r)))
+    (step s d is.at) in
+    record {
+      at = subst (λ k. IsAt w world (record z { done = k }) (steps_on w world (n + 1) r)) (again x.done n) next;
+      goes = goes_next w world n r is.goes running;
+    }
+  where
+    again : (a b : ℕ) → min (min (a + b) (2 ^ 64 - 1) + 1) (2 ^ 64 - 1) ≡ min (a + (b + 1)) (2 ^ 64 - 1)
+    again a b = omega arith
+
+-- ---- for how many steps it is the machine's turn
+
+-- for one where nothing else is due
+pub free_one : {w : ℕ} (script : Script) (x : Runner w) (n : ℕ) → x.asked ≡ None → call_under_way (map saved_of x.frames) ≡ NoCall
+    → ((at : ScriptPlace) → at.notifications ≡ x.host.notifications → at.instructions ≡ x.done → false ≡ is_due script at)
+    → IsFree script (record x { quiet = n }) 1
+free_one script x n unasked none due = (
+  ap (λ o. call_under_way (hosts_of o x.frames)) unasked ∙ none,
+  λ at k few. elim (cases_lt at.instructions x.done) as (λ _. is_due script at ≡ false) [
+    | inl m ↦ not_due_before script x.host.notifications x.done due at k m
+    | inr m ↦ sym (due at k (omega (arith, few, m)))
+  ],
+)
+
+-- for as many as it is quiet
+pub free_quiet : {w : ℕ} (script : Script) (x : Runner w) → IsQuiet script x → x.done < x.quiet → IsFree script x (x.quiet - x.done)
+free_quiet script x quiet few =
+    (quiet.0 (omega (arith, few)), λ at k less. quiet.1 at k (omega (arith, few, less)))
+
+-- for fewer
+pub free_fewer : {w : ℕ} (script : Script) (x : Runner w) (n m : ℕ) → IsFree script x n → m ≤ n → IsFree script x m
+free_fewer script x n m free fewer = (free.0, λ at k less. free.1 at k (omega (arith, less, fewer)))
+
+-- it is the state of the run
+pub machines_at : (w : ℕ) (world : World) (script : Script) (x y : Runner w) (n : ℕ) (r : RunState) → IsMachines w script x y n
+    → IsAt w world x r → IsAt w world y r
+machines_at w world script x y n r is at = subst (λ (u : Runner w). IsAt w world u r) (sym is.same) (quiet_at w world x r y.quiet at)
+
+-- ---- several steps
+
+events_on : (w : ℕ) (world : World) (most n : ℕ) (r : RunState) → GoesOnFor w world n r → HasEvents world.script most r
+    → HasEvents world.script most (steps_on w world n r)
+unfolding steps_on
+events_on w world most zero r goes has = has
+events_on w world most (suc n) r goes has =
+    let on = goes n (omega arith) in
+    subst (HasEvents world.script most) (runs_on w world (steps_on w world n r) on)
+    (step_events w world (own_placement w world) most (steps_on w world n r) on
+    (events_on w world most n r (λ j l. goes j (omega (arith, l))) has))
+
+pub went_on_for : (w : ℕ) (world : World) (x y : Runner w) (n : ℕ) (r : RunState) → IsRunner w world x r
+    → IsAt w world y (steps_on w world n r) → GoesOnFor w world n r → IsQuiet world.script y
+    → vec_capacity x.host.trace ≤ vec_capacity y.host.trace → IsRunner w world y (steps_on w world n r)
+went_on_for w world x y n r is at goes quiet capacity = record {
+  at = at;
+  quiet = quiet;
+  events = more_events world.script (vec_capacity y.host.trace) (vec_capacity x.host.trace) (steps_on w world n r)
+      (events_on w world (vec_capacity x.host.trace) n r goes is.events) capacity;
+}
+
+-- a step of the host
+pub one_on : (w : ℕ) (world : World) (y : Runner w) (r : RunState) → r.ending ≡ Running
+    → IsAt w world y (running_step w world (own_placement w world) r) → IsAt w world y (steps_on w world 1 r)
+one_on w world y r on at = subst (IsAt w world y) (runs_on w world r on ∙ sym (on_one w world r)) at
+
+pub goes_one : (w : ℕ) (world : World) (r : RunState) → r.ending ≡ Running → GoesOnFor w world 1 r
+goes_one w world r on j l =
+    let none : j ≡ 0 = omega (arith, l) in ap (λ k. (steps_on w world k r).ending) none ∙ (ap (λ (s : RunState). s.ending) (on_none w world
+    r) ∙ on)
+
+-- a runner of some run is still one
+pub runs_still : (w : ℕ) (notes : Notes) (script : Script) (x y : Runner w) (n : ℕ) → Runs w notes script x
+    → ((world : World) (r : RunState) → world.notes ≡ notes → world.script ≡ script → IsRunner w world x r
+    → IsRunner w world y (steps_on w world n r)) → Runs w notes script y
+runs_still w notes script x y n runs steps = record {
+  world = runs.world;
+  its_notes = runs.its_notes;
+  its_script = runs.its_script;
+  state = steps_on w runs.world n runs.state;
+  is = steps runs.world runs.state runs.its_notes runs.its_script runs.is;
+}

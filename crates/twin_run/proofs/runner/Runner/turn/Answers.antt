@@ -1,0 +1,31 @@
+use Rattle.std.proofs.Common.{true, refl, subst, arith}
+use Rattle.host_model.specs.HostPlans.{is_due}
+use Rattle.host_model.specs.HostSteps.{call_under_way}
+use Rattle.host_model.specs.Placements.{own_placement}
+use Rattle.twin_run.specs.Runner.{IsAt}
+use Rattle.twin_run.proofs.RunnerLaws.{gate_there}
+use Rattle.twin_run.proofs.SteppingOn.{free_quiet}
+use Rattle.twin_run.proofs.TurnLaws.{quiet_at, quiet_none, turn_is}
+use Rattle.twin_run.proofs.runner.Runner.turn.Goals as goal
+
+pub returns-then-self-clause-host : goal.returns-then-self-clause-host
+returns-then-self-clause-host g c = λ world r none notes script at.
+    let w = g.row.W in
+    let gate = gate_there w world c.args.self.now r at c.if-self.true in
+    quiet_at w world c.leave_function.new.self _ 0
+    (subst (IsAt w world c.leave_function.new.self)
+    (turn_is w world (own_placement w world) r true (call_under_way r.hosts) (is_due world.script r.script) gate refl refl)
+    (c.leave_function.ensures.at world r notes gate at))
+
+pub returns-then-self-clause-quiet : goal.returns-then-self-clause-quiet
+returns-then-self-clause-quiet g c = quiet_none c.args.script.now (record c.leave_function.new.self { quiet = 0 }) refl
+
+pub returns-then-self-2-clause-machine : goal.returns-then-self-2-clause-machine
+returns-then-self-2-clause-machine g c =
+    let few = c.if-self-2.true in
+    record {
+      some = omega (arith, few);
+      inside = c.if-self.false;
+      free = free_quiet c.args.script.now c.args.self.now c.requires.quiet few;
+      same = λ i. c.args.self.now;
+    }
