@@ -94,9 +94,13 @@ runs() { for ((run = 0; run < $1; run++)); do "${@:2}"; done; }
 # A number of hundredths as a decimal.
 decimal() { printf '%d.%02d' $(($1 / 100)) $(($1 % 100)); }
 
-# Writes the notes with the points that are found to whole.notes, which have to be neutral.
+# Writes the points that are found to points. There have to be some.
 find_points() {
-  "$program" infer code.efi code.notes >points
+  "$program" infer code.efi code.notes >points || { echo "infer.sh: no points of $code" >&2; exit 1; }
+}
+
+# Writes the notes with these points to whole.notes, which have to be neutral.
+take_points() {
   cat code.notes points >whole.notes
   [ "$("$program" check code.efi whole.notes)" = neutral ] || { echo "infer.sh: $code is not neutral" >&2; exit 1; }
 }
@@ -107,11 +111,13 @@ checked=$(least runs 10 "$program" check code.efi code.notes)
 for code in 'loops 260' 'loops 520' 'loops 1040'; do
   instructions=$(make $code)
   find_points
+  take_points
   finding=$((($(least runs 10 "$program" infer code.efi code.notes) - searched) * 100))
   checking=$((($(least runs 10 "$program" check code.efi whole.notes) - checked) * 100))
   echo "$code: $instructions instructions, infer $finding us, check $checking us:" \
     "$(decimal $((100 * finding / (checking > 0 ? checking : 1)))) times as long"
 done
+# (the notes with 16,384 points are past the limit of notes)
 for code in 'chain 1024' 'chain 4096' 'chain 16384' 'fan 1024' 'fan 4096' 'fan 16384'; do
   instructions=$(make $code)
   find_points
