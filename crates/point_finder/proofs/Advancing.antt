@@ -13,6 +13,7 @@ use Rattle.note_infer.specs.PointStates.{AreFound, IsFound}
 use Rattle.note_infer.specs.Rounds.{GivenAt, HasCome, IsWithin, States, all_in, given, gives, gives_none, marked}
 use Rattle.note_infer.proofs.RoundStates.{AllFound, SomeFound, entry_found, given_at-found, has_come-found}
 use Rattle.point_finder.specs.Reaching.{Passed, Reached, Settles, Stood, stood, stood_none}
+use Rattle.point_finder.proofs.Chains.{passed_with}
 use Rattle.point_finder.proofs.Settling.{all_kept, all_settled}
 
 -- what is given at a place to a leader is joined in: there what has come takes it, and past the function's end nothing changes
@@ -61,20 +62,9 @@ module _ (image : Image) (notes : Notes) (leaders : List ℕ) (states : States) 
       → AllJoin image notes leaders states come after place → (k : ℕ) (f : FnNote) → slice_get notes.function k ≡ Some f → (p : ℕ)
       → Stood image notes leaders states come k f p → Stood image notes leaders states after k f p
   stood_after come after place r joins k f there p (stood_none none) = stood_none none
-  stood_after come after place r joins k f there p (stood x) = stood (record {
-    state = x.state;
-    has_state = x.has_state;
-    insn = x.insn;
-    next = x.next;
-    decode = x.decode;
-    point = x.point;
-    relocation = x.relocation;
-    x = x.x;
-    row = x.row;
-    ends = x.ends;
-    settles = λ leader c w j t e. kept_after come after place r joins k f there leader c w t
-        (passed_given come k f p there x leader j t e) (x.settles leader c w j t e);
-  })
+  stood_after come after place r joins k f there p (stood x) = stood (passed_with image notes leaders states states come after k f p x
+      x.has_state (λ leader c w j t e. kept_after come after place r joins k f there leader c w t
+      (passed_given come k f p there x leader j t e) (x.settles leader c w j t e)))
 
   -- the round goes on past a place
   pub advance : (range : (k : ℕ) (f : FnNote) → slice_get notes.function k ≡ Some f → f.place < f.end) → (come after : States) (place : ℕ)

@@ -15,8 +15,8 @@ use Rattle.rules_image.proofs.Decoding.{decoded_once}
 use Rattle.rules_image.proofs.Relocs.{there_at}
 use Rattle.width_checker.specs.Rows.{here_at, row_of}
 use Rattle.width_checker.proofs.Leading.{decode_later}
-use Rattle.note_infer.specs.Rounds.{Begins, Comes, FallsTo, HasState, States, at_entry, at_leader, mark, marked}
-use Rattle.point_finder.specs.Reaching.{origin}
+use Rattle.note_infer.specs.Rounds.{Begins, Comes, FallsTo, HasState, IsWithin, States, at_entry, at_leader, given, mark, marked}
+use Rattle.point_finder.specs.Reaching.{Passed, SettlesAll, origin}
 
 -- ---- leaders as points
 
@@ -94,6 +94,14 @@ module _ (image : Image) (notes : Notes) (leaders : List ℕ) (states : States) 
       (cases_lt b.last p))
       (cases_lt p b.last)
 
+  -- where a state begins none falls from an instruction
+  begun : (m p q : ℕ) (s t : State) → p ≡ q → Begins notes leaders states func f p s
+      → FallsTo image notes leaders func f (Comes image notes leaders states func f m) q t → ⊥
+  begun m p q s t same (at_leader c w e) b = b.between (subst (Contains leaders) same c)
+  begun m p q s t same (at_entry c w e) b =
+      let low = (chain_within m b.last b.state b.has_state).0 in
+      let later = decode_later image f b.last q b.insn b.decode in omega arith
+
   -- two chains to a place are one
   pub one_chain : (end : ℕ) → PointsBefore end → (n m p q : ℕ) (s t : State) → p ≡ q → p ≤ end
       → (a : Comes image notes leaders states func f n p s) → (b : Comes image notes leaders states func f m q t)
@@ -105,21 +113,7 @@ module _ (image : Image) (notes : Notes) (leaders : List ℕ) (states : States) 
   one_chain end points zero zero p q s t same short (at_entry c w e) (at_leader d v g) = absurd (c (subst (Contains leaders) (sym same) d))
   one_chain end points zero zero p q s t same short (at_entry c w e) (at_entry d v g) = (e ∙ sym g, same)
   one_chain end points zero (suc m) p q s t same short a b = absurd (begun m p q s t same a b)
-    where
-      begun : (m p q : ℕ) (s t : State) → p ≡ q → Begins notes leaders states func f p s
-          → FallsTo image notes leaders func f (Comes image notes leaders states func f m) q t → ⊥
-      begun m p q s t same (at_leader c w e) b = b.between (subst (Contains leaders) same c)
-      begun m p q s t same (at_entry c w e) b =
-          let low = (chain_within m b.last b.state b.has_state).0 in
-          let later = decode_later image f b.last q b.insn b.decode in omega arith
   one_chain end points (suc n) zero p q s t same short a b = absurd (begun n q p t s (sym same) b a)
-    where
-      begun : (m p q : ℕ) (s t : State) → p ≡ q → Begins notes leaders states func f p s
-          → FallsTo image notes leaders func f (Comes image notes leaders states func f m) q t → ⊥
-      begun m p q s t same (at_leader c w e) b = b.between (subst (Contains leaders) same c)
-      begun m p q s t same (at_entry c w e) b =
-          let low = (chain_within m b.last b.state b.has_state).0 in
-          let later = decode_later image f b.last q b.insn b.decode in omega arith
   one_chain end points (suc n) (suc m) p q s t same short a b =
       let la = decode_later image f a.last p a.insn a.decode in
       let lb = decode_later image f b.last q b.insn b.decode in
@@ -149,13 +143,14 @@ module _ (image : Image) (notes : Notes) (leaders : List ℕ) (states : States) 
 -- ---- other states at the leaders
 
 module _ (image : Image) (notes : Notes) (leaders : List ℕ) (states other : States) (func : ℕ) (f : FnNote) where
-  -- a chain stands with other states too, from the same beginning, where the state there is the same
+  -- a chain stands with other states too, from the same beginning, where the state there is the same if a leader is there
   pub carried : (n p : ℕ) (s : State) (c : Comes image notes leaders states func f n p s)
-      → other (origin image notes leaders states func f n p s c) ≡ states (origin image notes leaders states func f n p s c)
+      → (Contains leaders (origin image notes leaders states func f n p s c)
+      → other (origin image notes leaders states func f n p s c) ≡ states (origin image notes leaders states func f n p s c))
       → (d : Comes image notes leaders other func f n p s)
       × (origin image notes leaders other func f n p s d ≡ origin image notes leaders states func f n p s c)
   unfolding Comes origin
-  carried zero p s (at_leader c w e) same = (at_leader c w (same ∙ e), refl)
+  carried zero p s (at_leader c w e) same = (at_leader c w (same c ∙ e), refl)
   carried zero p s (at_entry c w e) same = (at_entry c w e, refl)
   carried (suc n) p s c same =
       let rest = carried n c.last c.state c.has_state same in (
@@ -173,3 +168,22 @@ module _ (image : Image) (notes : Notes) (leaders : List ℕ) (states other : St
         },
         rest.1,
       )
+
+-- an instruction was passed with other states too, where it has the same state and what has come takes what it gives
+pub passed_with : (image : Image) (notes : Notes) (leaders : List ℕ) (states other come after : States) (k : ℕ) (f : FnNote) (p : ℕ)
+    (x : Passed image notes leaders states come k f p) → HasState image notes leaders other k f p x.state
+    → ((leader : ℕ) → Contains leaders leader → IsWithin f leader → SettlesAll (after leader) (given leader x.next x.x))
+    → Passed image notes leaders other after k f p
+passed_with image notes leaders states other come after k f p x has settles = record {
+  state = x.state;
+  has_state = has;
+  insn = x.insn;
+  next = x.next;
+  decode = x.decode;
+  point = x.point;
+  relocation = x.relocation;
+  x = x.x;
+  row = x.row;
+  ends = x.ends;
+  settles = settles;
+}

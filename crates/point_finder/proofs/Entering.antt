@@ -61,7 +61,7 @@ starts_here xs x =
 
 -- ---- before the first function
 
-pub state_none : (leaders : List ℕ) (n x : ℕ) → state_at leaders (replicate n None) x ≡ None
+state_none : (leaders : List ℕ) (n x : ℕ) → state_at leaders (replicate n None) x ≡ None
 unfolding state_at
 state_none [] n x = refl
 state_none (l ∷ ls) zero x = refl

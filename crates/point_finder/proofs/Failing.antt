@@ -1,5 +1,5 @@
 -- Which rule is the first that fails at an instruction in a round, by what was found there.
-use Rattle.std.proofs.Common.{◌≡◌, ℕ, ◌≤◌, List, refl, sym, subst, arith}
+use Rattle.std.proofs.Common.{◌≡◌, ◌⊎◌, ℕ, ◌≤◌, List, refl, sym, subst, ◌∙◌, ⊎_elim, arith, inl, inr}
 use Rattle.std.specs.Prelude.{Err, Ok}
 use Rattle.ebc_insn.specs.declared.Insn.{Insn}
 use Rattle.note_types.specs.declared.notes.FnNote.{FnNote}
@@ -47,14 +47,14 @@ last_rule rule.End = omega arith
 by_name : (r q named : RuleName) → q ≡ named → number_of_rule r ≤ number_of_rule named → number_of_rule r ≤ number_of_rule q
 by_name r q named e h = subst (λ x. number_of_rule r ≤ number_of_rule x) (sym e) h
 
-same_row : (a b : OrRule Successors) (r q : RuleName) → a ≡ b → a ≡ Err r → b ≡ Err q → r ≡ q
-same_row a b r q e f g = cc
+same_rule : (a : OrRule Successors) (r q : RuleName) → a ≡ Err r → a ≡ Err q → r ≡ q
+same_rule a r q e g = cc
 
-row_apart : (a b : OrRule Successors) (x : Successors) (r : RuleName) → a ≡ b → a ≡ Ok x → b ≡ Err r → ⊥
-row_apart a b x r e f g = cc
+row_apart : (a : OrRule Successors) (x : Successors) (r : RuleName) → a ≡ Ok x → a ≡ Err r → ⊥
+row_apart a x r e g = cc
 
-row_same : (a b : OrRule Successors) (x y : Successors) → a ≡ b → a ≡ Ok x → b ≡ Ok y → x ≡ y
-row_same a b x y e f g = cc
+row_same : (a : OrRule Successors) (x y : Successors) → a ≡ Ok x → a ≡ Ok y → x ≡ y
+row_same a x y e g = cc
 
 module _ (image : Image) (notes : Notes) (leaders : List ℕ) (states : States) (func : ℕ) (f : FnNote) (place : ℕ) (s : State) where
   -- no instruction is there
@@ -110,53 +110,58 @@ module _ (image : Image) (notes : Notes) (leaders : List ℕ) (states : States) 
           first q (fails_end j m b miss e) = by_name rule.Relocation q rule.End e (omega arith)
 
       module _ (reloc : RelocationHolds image notes place i next (reloc_at image next)) where
+        abbrev Row : OrRule Successors
+        Row = row_of (marked notes leaders) (here_at image func place next) s i
+
+        -- the rule that fails is then that of the row, or one of the two after it
+        from_row : (q : RuleName) → FailsIn image notes leaders states func f place s q
+            → (Row ≡ Err q)
+            ⊎ (((y : Successors) × (Row ≡ Ok y) × Clashes image notes leaders states func f place next y × (q ≡ rule.Below))
+            ⊎ (q ≡ rule.End))
+        from_row q (fails_decode miss e) = absurd (miss (record { insn = i; next = next; decode = d }))
+        from_row q (fails_point j m b miss e) = absurd (miss (of_insn (λ x k. PointHolds (marked notes leaders) place k) j m b point))
+        from_row q (fails_relocation j m b miss e) = absurd (miss
+            (of_insn (λ x k. RelocationHolds image notes place x k (reloc_at image k)) j m b reloc))
+        from_row q (fails_row j m b p l row) = inl (same_rows j m b ∙ row)
+        from_row q (fails_below j m y b row clash e) =
+            let ends = decoded_once image f place j i m next b d in
+            inr (inl (y, same_rows j m b ∙ row, subst (λ n. Clashes image notes leaders states func f place n y) ends.1 clash, e))
+        from_row q (fails_end j m b miss e) = inr (inr e)
+
         -- the row fails
         pub row_fails : (r : RuleName) → row_of (marked notes leaders) (here_at image func place next) s i ≡ Err r
             → IsFirst (FailsIn image notes leaders states func f place s) r
-        row_fails r row = record { among = fails_row i next d point reloc row; first = first }
-          where
-            first : (q : RuleName) → FailsIn image notes leaders states func f place s q → number_of_rule r ≤ number_of_rule q
-            first q (fails_decode miss e) = absurd (miss (record { insn = i; next = next; decode = d }))
-            first q (fails_point j m b miss e) = absurd (miss (of_insn (λ x k. PointHolds (marked notes leaders) place k) j m b point))
-            first q (fails_relocation j m b miss e) = absurd (miss
-                (of_insn (λ x k. RelocationHolds image notes place x k (reloc_at image k)) j m b reloc))
-            first q (fails_row j m b p l again) =
-                let same : r ≡ q = same_row _ _ r q (same_rows j m b) row again in
-                subst (λ x. number_of_rule r ≤ number_of_rule x) same (omega arith)
-            first q (fails_below j m x b again miss e) = absurd (row_apart _ _ x r (sym (same_rows j m b)) again row)
-            first q (fails_end j m b miss e) = by_name r q rule.End e (last_rule r)
+        row_fails r row = record {
+          among = fails_row i next d point reloc row;
+          first = λ q h.
+              ⊎_elim (λ again. let same : r ≡ q = same_rule _ r q row again in
+              subst (λ x. number_of_rule r ≤ number_of_rule x) same (omega arith))
+              (λ rest. ⊎_elim (λ b. absurd (row_apart _ b.0 r b.1 row)) (λ e. by_name r q rule.End e (last_rule r)) rest)
+              (from_row q h);
+        }
 
         module _ (x : Successors) (row : row_of (marked notes leaders) (here_at image func place next) s i ≡ Ok x) where
           -- what is given clashes
           pub clashes : Clashes image notes leaders states func f place next x
               → IsFirst (FailsIn image notes leaders states func f place s) rule.Below
-          clashes clash = record { among = fails_below i next x d row clash refl; first = first }
-            where
-              first : (q : RuleName) → FailsIn image notes leaders states func f place s q → 22 ≤ number_of_rule q
-              first q (fails_decode miss e) = absurd (miss (record { insn = i; next = next; decode = d }))
-              first q (fails_point j m b miss e) = absurd (miss (of_insn (λ z k. PointHolds (marked notes leaders) place k) j m b point))
-              first q (fails_relocation j m b miss e) = absurd (miss
-                  (of_insn (λ z k. RelocationHolds image notes place z k (reloc_at image k)) j m b reloc))
-              first q (fails_row j m b p l again) = absurd (row_apart _ _ x q (same_rows j m b) row again)
-              first q (fails_below j m y b again miss e) = by_name rule.Below q rule.Below e (omega arith)
-              first q (fails_end j m b miss e) = by_name rule.Below q rule.End e (omega arith)
+          clashes clash = record {
+            among = fails_below i next x d row clash refl;
+            first = λ q h.
+                ⊎_elim (λ again. absurd (row_apart _ x q row again))
+                (λ rest. ⊎_elim (λ b. by_name rule.Below q rule.Below b.3 (omega arith))
+                (λ e. by_name rule.Below q rule.End e (omega arith)) rest)
+                (from_row q h);
+          }
 
           -- control leaves the function
           pub falls_out : (Clashes image notes leaders states func f place next x → ⊥) → ¬ EndHolds f i next
               → IsFirst (FailsIn image notes leaders states func f place s) rule.End
-          falls_out fine none = record { among = fails_end i next d none refl; first = first }
-            where
-              first : (q : RuleName) → FailsIn image notes leaders states func f place s q → 23 ≤ number_of_rule q
-              first q (fails_decode miss e) = absurd (miss (record { insn = i; next = next; decode = d }))
-              first q (fails_point j m b miss e) = absurd (miss (of_insn (λ z k. PointHolds (marked notes leaders) place k) j m b point))
-              first q (fails_relocation j m b miss e) = absurd (miss
-                  (of_insn (λ z k. RelocationHolds image notes place z k (reloc_at image k)) j m b reloc))
-              first q (fails_row j m b p l again) = absurd (row_apart _ _ x q (same_rows j m b) row again)
-              first q (fails_below j m y b again miss e) =
-                  let rows : x ≡ y = row_same _ _ x y (same_rows j m b) row again in
-                  let ends = decoded_once image f place j i m next b d in
-                  let here : Clashes image notes leaders states func f place next x =
-                  subst (λ z. Clashes image notes leaders states func f place next z) (sym rows)
-                  (subst (λ n. Clashes image notes leaders states func f place n y) ends.1 miss) in
-                  absurd (fine here)
-              first q (fails_end j m b miss e) = by_name rule.End q rule.End e (omega arith)
+          falls_out fine none = record {
+            among = fails_end i next d none refl;
+            first = λ q h.
+                ⊎_elim (λ again. absurd (row_apart _ x q row again))
+                (λ rest. ⊎_elim (λ b. absurd (fine (subst (λ z. Clashes image notes leaders states func f place next z)
+                (sym (row_same _ x b.0 row b.1)) b.2)))
+                (λ e. by_name rule.End q rule.End e (omega arith)) rest)
+                (from_row q h);
+          }

@@ -17,7 +17,7 @@ use Rattle.rules_image.proofs.Decoding.{decoded_once}
 use Rattle.width_checker.proofs.Deciding.{function_before}
 use Rattle.width_checker.proofs.Leading.{decode_later}
 use Rattle.note_infer.specs.PointStates.{AreFound}
-use Rattle.note_infer.specs.Rounds.{Begins, Comes, FailsIn, FallsTo, HasState, IsStuck, IsWithin, States, all_in, given, gives}
+use Rattle.note_infer.specs.Rounds.{Begins, Comes, FailsIn, FallsTo, HasState, IsStuck, IsWithin, States, given, gives}
 use Rattle.note_infer.specs.Rounds.{gives_none, marked}
 use Rattle.note_infer.proofs.RoundStates.{given_at-found}
 use Rattle.point_finder.specs.Passing.{IsSetting, Passes}
@@ -27,10 +27,7 @@ use Rattle.point_finder.proofs.Chains.{apart, chain_within, leader_outside, none
 use Rattle.point_finder.proofs.Lone.{none_fails, points_before}
 use Rattle.point_finder.proofs.Passing.{marks_read, range_of}
 use Rattle.point_finder.proofs.Settling.{all_new}
-
-none_given : (o : Option State) → all_in o [] ≡ Some o
-unfolding all_in
-none_given o = refl
+use Rattle.point_finder.proofs.StatesAt.{all_none}
 
 module _ (image : Image) (notes other : Notes) (leaders : List ℕ) (g : IsSetting image notes other leaders) (states : States)
     (found : AreFound notes leaders states) (k : ℕ) (f : FnNote) (there : slice_get notes.function k ≡ Some f) where
@@ -86,7 +83,7 @@ module _ (image : Image) (notes other : Notes) (leaders : List ℕ) (g : IsSetti
           λ below. record {
             ts = [];
             given_is = gives_none (none_there h j here apart at within) refl;
-            all = none_given (come leader) ∙ ap (λ o. Some o) (sym stays);
+            all = all_none (come leader) ∙ ap (λ o. Some o) (sym stays);
           },
           λ past. stays,
         ))

@@ -15,10 +15,11 @@ use Rattle.rules_base.proofs.FirstRule.{one_first}
 use Rattle.rules_image.specs.Images.{FunctionHolds}
 use Rattle.width_checker.proofs.Deciding.{function_before}
 use Rattle.note_infer.specs.Leaders.{AreLeaders}
-use Rattle.note_infer.specs.Rounds.{AreSame, Comes, FailsIn, GivenAt, HasCome, HasState, IsRound, IsStuck, IsWithin}
-use Rattle.note_infer.specs.Rounds.{NoneFailsBefore, States, all_in, at_entry, at_leader, by_entry, fails_below, fails_decode, fails_end}
+use Rattle.note_infer.specs.Rounds.{AreSame, FailsIn, GivenAt, HasCome, HasState, IsRound, IsStuck, IsWithin}
+use Rattle.note_infer.specs.Rounds.{NoneFailsBefore, States, all_in, by_entry, fails_below, fails_decode, fails_end}
 use Rattle.note_infer.specs.Rounds.{fails_point, fails_relocation, fails_row, gives, gives_none}
-use Rattle.point_finder.proofs.Chains.{PointsBefore, chain_within, one_chain}
+use Rattle.point_finder.specs.Reaching.{origin}
+use Rattle.point_finder.proofs.Chains.{PointsBefore, carried, chain_within, one_chain}
 use Rattle.point_finder.proofs.Lone.{come_one}
 
 -- ---- other states at the leaders
@@ -31,27 +32,10 @@ pub same_on : (leaders : List ℕ) (states other more : States) → AreSame lead
 same_on leaders states other more a b x c = b x c ∙ a x c
 
 module _ (image : Image) (notes : Notes) (leaders : List ℕ) where
-  comes_with : (states other : States) → AreSame leaders states other → (k : ℕ) (f : FnNote) (n p : ℕ) (s : State)
-      → Comes image notes leaders states k f n p s → Comes image notes leaders other k f n p s
-  unfolding Comes
-  comes_with states other same k f zero p s (at_leader c w e) = at_leader c w (same p c ∙ e)
-  comes_with states other same k f zero p s (at_entry c w e) = at_entry c w e
-  comes_with states other same k f (suc n) p s c = record {
-    last = c.last;
-    state = c.state;
-    has_state = comes_with states other same k f n c.last c.state c.has_state;
-    insn = c.insn;
-    decode = c.decode;
-    within = c.within;
-    between = c.between;
-    successors = c.successors;
-    row = c.row;
-    falls = c.falls;
-  }
-
   has_with : (states other : States) → AreSame leaders states other → (k : ℕ) (f : FnNote) (p : ℕ) (s : State)
       → HasState image notes leaders states k f p s → HasState image notes leaders other k f p s
-  has_with states other same k f p s h = (h.0, comes_with states other same k f h.0 p s h.1)
+  has_with states other same k f p s h =
+      (h.0, (carried image notes leaders states other k f h.0 p s h.1 (same (origin image notes leaders states k f h.0 p s h.1))).0)
 
   given_with : (states other : States) → AreSame leaders states other → (k : ℕ) (f : FnNote) (leader p : ℕ) (ts : List State)
       → GivenAt image notes leaders states k f leader p ts → GivenAt image notes leaders other k f leader p ts

@@ -15,7 +15,7 @@ use Rattle.note_infer.specs.Rounds.{Comes, HasCome, IsRound, States, by_entry}
 use Rattle.note_infer.proofs.RoundStates.{round_found}
 use Rattle.point_finder.specs.Passing.{IsSetting}
 use Rattle.point_finder.specs.Reaching.{AllRest, Reached, Rests, Settles, SettlesAll, Stood, origin, rests, rests_none, stood, stood_none}
-use Rattle.point_finder.proofs.Chains.{carried, chain_within, one_chain}
+use Rattle.point_finder.proofs.Chains.{carried, chain_within, one_chain, passed_with}
 use Rattle.point_finder.proofs.Lone.{none_fails, points_before}
 use Rattle.point_finder.proofs.Passing.{marks_read, range_of}
 use Rattle.point_finder.proofs.Settling.{all_settled}
@@ -45,23 +45,12 @@ module _ (image : Image) (notes other : Notes) (leaders : List ℕ) (g : IsSetti
         → Stood image notes leaders states next k f p → p < f.end → Rests image notes leaders next work k f p
     rest_next-at k f there p (stood_none none) inside =
         rests_none (λ n s c. ⊎_elim (λ m. m)
-        (λ e. absurd (none s (n, (carried image notes leaders next states k f n p s c (sym e)).0)))
+        (λ e. absurd (none s (n, (carried image notes leaders next states k f n p s c (λ d. sym e)).0)))
         (changed (origin image notes leaders next k f n p s c)))
     rest_next-at k f there p (stood x) inside =
         ⊎_elim (λ m. rests_none (λ n s c. again m n s c (changed (origin image notes leaders next k f n p s c))))
-        (λ e. rests (record {
-          state = x.state;
-          has_state = (x.has_state.0, (carried image notes leaders states next k f x.has_state.0 p x.state x.has_state.1 e).0);
-          insn = x.insn;
-          next = x.next;
-          decode = x.decode;
-          point = x.point;
-          relocation = x.relocation;
-          x = x.x;
-          row = x.row;
-          ends = x.ends;
-          settles = x.settles;
-        }))
+        (λ e. rests (passed_with image notes leaders states next next next k f p x
+        (x.has_state.0, (carried image notes leaders states next k f x.has_state.0 p x.state x.has_state.1 (λ c. e)).0) x.settles))
         (changed (origin image notes leaders states k f x.has_state.0 p x.state x.has_state.1))
       where
         again : Contains work (origin image notes leaders states k f x.has_state.0 p x.state x.has_state.1) → (n : ℕ) (s : State)
@@ -72,7 +61,7 @@ module _ (image : Image) (notes other : Notes) (leaders : List ℕ) (g : IsSetti
         again m n s c h =
             ⊎_elim (λ y. y)
             (λ e.
-            let d = carried image notes leaders next states k f n p s c (sym e) in
+            let d = carried image notes leaders next states k f n p s c (λ l. sym e) in
             let end = short k f there in
             let one = one_chain image notes leaders states k f (range_of image notes other leaders g k f there) (2 ^ 22)
             (points_before image notes leaders states next (2 ^ 22) reached k f there (range_of image notes other leaders g k f there))

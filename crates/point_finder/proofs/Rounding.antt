@@ -17,7 +17,7 @@ use Rattle.point_finder.specs.Reaching.{AllRest, IsClosed, Reached, Rests, Stood
 use Rattle.point_finder.specs.Starting.{AreStarts, IsStart}
 use Rattle.point_finder.specs.declared.rounds.Start.{Start}
 use Rattle.point_finder.proofs.Advancing.{passed_given, rest_to}
-use Rattle.point_finder.proofs.Chains.{origin_low}
+use Rattle.point_finder.proofs.Chains.{origin_low, passed_with}
 use Rattle.point_finder.proofs.Going.{same_or_other}
 use Rattle.point_finder.proofs.Passing.{marks_read, range_of}
 
@@ -49,21 +49,10 @@ module _ (image : Image) (notes other : Notes) (leaders : List ℕ) (g : IsSetti
           let start = closed_origin image notes leaders states k f there at closed has.0 p s has.1 low in
           let short = origin_low image notes leaders states k f (range_of image notes other leaders g k f there) has.0 p s has.1 in
           none (origin image notes leaders states k f has.0 p s has.1) (from has.0 s has.1) start (omega arith))
-      by_rest (rests x) = stood (record {
-        state = x.state;
-        has_state = x.has_state;
-        insn = x.insn;
-        next = x.next;
-        decode = x.decode;
-        point = x.point;
-        relocation = x.relocation;
-        x = x.x;
-        row = x.row;
-        ends = x.ends;
-        settles = λ leader c w j t e. r.keeps k f there leader c w t
-            (passed_given image notes leaders states (marks_read image notes other leaders g) found states k f p there x leader j t e)
-            (x.settles leader c w j t e);
-      })
+      by_rest (rests x) = stood (passed_with image notes leaders states states states come k f p x x.has_state
+          (λ leader c w j t e. r.keeps k f there leader c w t
+          (passed_given image notes leaders states (marks_read image notes other leaders g) found states k f p there x leader j t e)
+          (x.settles leader c w j t e)))
 
   pub rest_up : (come : States) (at end : ℕ) → at ≤ end → Reached image notes leaders states come at
       → IsClosed image notes leaders states at → NoStart work at end → Reached image notes leaders states come end

@@ -11,6 +11,7 @@ use Rattle.note_infer.specs.PointStates.{IsFound}
 use Rattle.note_infer.specs.Rounds.{all_in}
 use Rattle.note_infer.proofs.RoundStates.{AllFound, SomeFound, all_in-found}
 use Rattle.point_finder.specs.Reaching.{Settles, SettlesAll}
+use Rattle.point_finder.proofs.StatesAt.{all_one}
 
 -- the first of several states that are joined in, and the others
 record Taken (come after : Option State) (t : State) (ts : List State) : Type 0 where
@@ -26,10 +27,6 @@ taken_first come after t ts e = by_case (taken_in come t) refl e
         → Taken come after t ts
     by_case None q g = absurd cc
     by_case (Some u) q g = record { u = u; first = q; rest = g }
-
-one_in : (come : Option State) (t u : State) → taken_in come t ≡ Some u → all_in come (t ∷ []) ≡ Some (Some u)
-unfolding all_in
-one_in come t u e = ap (option_and_then (λ (s : State). all_in (Some s) [])) e
 
 -- ---- one state
 
@@ -52,7 +49,7 @@ module _ (notes : Notes) (f : FnNote) where
   taken_found : (come : Option State) (t u : State) → SomeFound notes f come → IsFound notes f t → taken_in come t ≡ Some u
       → SomeFound notes f (Some u)
   taken_found come t u h g e =
-      all_in-found notes f (t ∷ []) come (Some u) h (one g) (one_in come t u e)
+      all_in-found notes f (t ∷ []) come (Some u) h (one g) (all_one come t u e)
     where
       one : IsFound notes f t → AllFound notes f (t ∷ [])
       one g zero x q = subst (IsFound notes f) (same_Some t x q) g

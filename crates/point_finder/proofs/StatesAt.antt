@@ -4,6 +4,7 @@ use Rattle.std.proofs.Common.{get_or, refl, sym, ap, subst, ◌∙◌, arith, ge
 use Rattle.std.specs.Prelude.{Option, None, Some, option_and_then, slice_index, slice_index_or}
 use Rattle.std.specs.List.{Contains}
 use Rattle.std.specs.List.Sorted.{IsStrictlyIncreasing}
+use Rattle.std.proofs.lemmas.Bool.{cond-false, cond-true, eq-eqb, ne_eqb}
 use Rattle.std.proofs.lemmas.Bool.Decides.{nat_tests}
 use Rattle.std.proofs.lemmas.List.Kept.{AllPairs-from_increasing}
 use Rattle.note_types.specs.declared.notes.FnNote.{FnNote}
@@ -19,27 +20,15 @@ Rise xs = (i j : ℕ) → i < j → j < length xs → get_or xs i 0 < get_or xs 
 pub rise_of : (xs : List ℕ) → IsStrictlyIncreasing xs → Rise xs
 rise_of xs up i j less short = AllPairs-from_increasing xs up i j 0 less short
 
-eq_true : (x y : ℕ) → x ≡ y → nat_eq x y ≡ true
-eq_true x y e = grind (arith, nat_tests)
-
-eq_false : (x y : ℕ) → (x ≡ y → ⊥) → nat_eq x y ≡ false
-eq_false x y h = grind (arith, nat_tests)
-
-if_true : {A : Type 0} (b : Bool) (x y : A) → b ≡ true → (if b then x else y) ≡ x
-if_true b x y e = rw e refl
-
-if_false : {A : Type 0} (b : Bool) (x y : A) → b ≡ false → (if b then x else y) ≡ y
-if_false b x y e = rw e refl
-
 number_in : (xs : List ℕ) (os : List (Option State)) (k : ℕ) → Rise xs → k < length xs → length os ≡ length xs
     → state_at xs os (get_or xs k 0) ≡ get_or os k None
 unfolding state_at
 number_in [] os k up short long = absurd (omega arith)
 number_in (x ∷ xs) [] k up short long = absurd (omega arith)
-number_in (x ∷ xs) (o ∷ os) zero up short long = if_true (nat_eq x x) o (state_at xs os x) (eq_true x x refl)
+number_in (x ∷ xs) (o ∷ os) zero up short long = cond-true (nat_eq x x) o (state_at xs os x) (eq-eqb x x refl)
 number_in (x ∷ xs) (o ∷ os) (suc k) up short long =
-    if_false (nat_eq x (get_or xs k 0)) o (state_at xs os (get_or xs k 0))
-    (eq_false x (get_or xs k 0) (λ e. let h = up 0 (suc k) (omega arith) short in omega arith))
+    cond-false (nat_eq x (get_or xs k 0)) o (state_at xs os (get_or xs k 0))
+    (ne_eqb x (get_or xs k 0) (λ e. let h = up 0 (suc k) (omega arith) short in omega arith))
     ∙ number_in xs os k (λ i j less below. up (suc i) (suc j) (omega arith) (omega arith)) (omega arith) (omega arith)
 
 -- the state at the leader of a number
@@ -57,7 +46,7 @@ number_of leaders leader c = default_free leaders c.0 c.1 leader ∙ c.2
     default_free (x ∷ xs) zero h d = refl
     default_free (x ∷ xs) (suc k) h d = default_free xs k (omega arith) d
 
-all_one : (come : Option State) (s u : State) → taken_in come s ≡ Some u → all_in come (s ∷ []) ≡ Some (Some u)
+pub all_one : (come : Option State) (s u : State) → taken_in come s ≡ Some u → all_in come (s ∷ []) ≡ Some (Some u)
 unfolding all_in
 all_one come s u e = ap (option_and_then (λ (t : State). all_in (Some t) [])) e
 
@@ -78,7 +67,7 @@ takes_none leaders f given old none = record {
 }
 
 pub given_apart : (place leader : ℕ) (s : State) → (place ≡ leader → ⊥) → given_to place s leader ≡ []
-given_apart place leader s apart = if_false (nat_eq place leader) (s ∷ []) [] (eq_false place leader apart)
+given_apart place leader s apart = cond-false (nat_eq place leader) (s ∷ []) [] (ne_eqb place leader apart)
 
 pub takes_outside : (leaders : List ℕ) (f : FnNote) (place : ℕ) (s : State) (old : States) → (IsWithin f place → ⊥)
     → Takes leaders f (given_to place s) old old
@@ -126,7 +115,7 @@ module _ (leaders : List ℕ) (f : FnNote) (up : IsStrictlyIncreasing leaders) (
               (ap (λ o. taken_in o s) (at_number leaders old k place up short long at) ∙ t.taken)
               ∙ ap (λ o. Some o) (sym here))
           by_test false e =
-              let apart : place ≡ leader → ⊥ = λ q. absurd (let h = eq_true place leader q in cc) in
+              let apart : place ≡ leader → ⊥ = λ q. absurd (let h = eq-eqb place leader q in cc) in
               all_none (state_at leaders old leader) ∙ ap (λ o. Some o) (sym (other leader c apart))
 
       others : (leader : ℕ) → Contains leaders leader → (IsWithin f leader → ⊥) → state_at leaders new leader ≡ state_at leaders old leader
@@ -137,7 +126,7 @@ module _ (leaders : List ℕ) (f : FnNote) (up : IsStrictlyIncreasing leaders) (
     leader = place;
     there = (k, short, there);
     within = w;
-    clash = ap (all_in (state_at leaders old place)) (if_true (nat_eq place place) (s ∷ []) [] (eq_true place place refl))
+    clash = ap (all_in (state_at leaders old place)) (cond-true (nat_eq place place) (s ∷ []) [] (eq-eqb place place refl))
         ∙ all_clash (state_at leaders old place) s (ap (λ o. taken_in o s) (at_number leaders old k place up short long at) ∙ e);
   }
     where

@@ -1,5 +1,5 @@
 -- Rounds, one after another: what holds where the walks of a round begin, and what follows where it went through.
-use Rattle.std.proofs.Common.{◌≡◌, ℕ, zero, suc, ◌^◌, ◌<◌, Bool, true, false, nat_eq, if◌then◌else◌, List, [], ◌∷◌, length, map}
+use Rattle.std.proofs.Common.{◌≡◌, ℕ, zero, suc, ◌^◌, ◌<◌, Bool, true, nat_eq, if◌then◌else◌, List, [], ◌∷◌, length, map}
 use Rattle.std.proofs.Common.{get_or, replicate, refl, sym, ap, subst, ◌∙◌, ⊎_elim, arith}
 use Rattle.std.specs.Prelude.{None, Option, Some, option_and_then}
 use Rattle.std.specs.List.{Contains}
@@ -14,7 +14,7 @@ use Rattle.note_types.specs.declared.state.State.{State}
 use Rattle.note_join.specs.JoinStates.{taken_in}
 use Rattle.pe_image.specs.declared.image.Image.{Image}
 use Rattle.width_checker.specs.Typed.{TablesHold}
-use Rattle.note_infer.specs.Inferred.{HasRounds, IsSettled}
+use Rattle.note_infer.specs.Inferred.{IsSettled}
 use Rattle.note_infer.specs.PointStates.{AreFound, IsFound}
 use Rattle.note_infer.specs.RoundEnds.{leaders_rank}
 use Rattle.note_infer.specs.Rounds.{AreAfter, AreSame, Comes, HasCome, IsRound, IsWithin, States, all_in, at_entry, at_leader, by_entry}
@@ -26,6 +26,7 @@ use Rattle.point_finder.specs.Passing.{IsSetting}
 use Rattle.point_finder.specs.Reaching.{AllRest, Reached, origin, rests_none}
 use Rattle.point_finder.specs.Starting.{AreStarts}
 use Rattle.point_finder.specs.declared.rounds.Start.{Start}
+use Rattle.point_finder.proofs.Entering.{nothing_before}
 use Rattle.point_finder.proofs.Passing.{marks_read, range_of}
 use Rattle.point_finder.proofs.Resting.{begin_next, rest_next, whole_round}
 use Rattle.point_finder.proofs.Searching.{there_at}
@@ -41,17 +42,14 @@ pub record IsTurn (image : Image) (notes : Notes) (leaders : List ℕ) (starts :
     pub rounds : ℕ
     pub after : AreAfter image notes leaders rounds (state_at leaders before)
 
--- ---- lists of states
+-- a round went through from the states before it: the walks of the next one begin, or rounds have settled
+pub record HasGone (image : Image) (notes : Notes) (leaders : List ℕ) (before next come : List (Option State)) (starts : List Start)
+    : Type 0 where
+  pub turn : IsTurn image notes leaders starts next come
+  pub falls : (length starts ≡ 0 → ⊥) → leaders_rank (state_at leaders next) leaders < leaders_rank (state_at leaders before) leaders
+  pub settled : TablesHold image notes → length starts ≡ 0 → IsSettled image notes leaders (state_at leaders come)
 
-state_none : (leaders : List ℕ) (n x : ℕ) → state_at leaders (replicate n None) x ≡ None
-unfolding state_at
-state_none [] n x = refl
-state_none (l ∷ ls) zero x = refl
-state_none (l ∷ ls) (suc n) x = by_test (nat_eq l x) (state_none ls n x)
-  where
-    by_test : (b : Bool) → state_at ls (replicate n None) x ≡ None → (if b then None else state_at ls (replicate n None) x) ≡ None
-    by_test true e = refl
-    by_test false e = e
+-- ---- lists of states
 
 -- where the leaders have the same states the lists are the same
 same_lists : (leaders : List ℕ) → IsStrictlyIncreasing leaders → (os ns : List (Option State)) → length os ≡ length leaders
@@ -149,13 +147,17 @@ module _ (image : Image) (notes other : Notes) (leaders : List ℕ) (g : IsSetti
   }
     where
       none : (x : ℕ) → state_at leaders before x ≡ None
-      none x = ap (λ os. state_at leaders os x) e ∙ state_none leaders (length leaders) x
+      none = nothing_before leaders before e
 
   -- ---- a round that went through
 
-  module _ (starts : List Start) (before come : List (Option State)) (turn : IsTurn image notes leaders starts before come)
-      (next : List (Option State)) (reached : Reached image notes leaders (state_at leaders before) (state_at leaders next) (2 ^ 22))
+  module _ (starts : List Start) (first come : List (Option State)) (begun : IsTurn image notes leaders starts first come)
+      (before next : List (Option State)) (kept : before ≡ first)
+      (reached : Reached image notes leaders (state_at leaders before) (state_at leaders next) (2 ^ 22))
       (old : length before ≡ length leaders) (new : length next ≡ length leaders) where
+    turn : IsTurn image notes leaders starts before come
+    turn = subst (λ xs. IsTurn image notes leaders starts xs come) (sym kept) begun
+
     round : IsRound image notes leaders (state_at leaders before) (state_at leaders next)
     round = whole_round image notes other leaders g (state_at leaders before) (state_at leaders next) reached
 
@@ -171,7 +173,7 @@ module _ (image : Image) (notes other : Notes) (leaders : List ℕ) (g : IsSetti
 
     module _ (more : List Start) (h : AreChanges (state_at leaders before) (state_at leaders next) more) where
       -- the next one begins
-      pub next_turn : AreStarts notes leaders (state_at leaders next) more → IsTurn image notes leaders more next next
+      next_turn : AreStarts notes leaders (state_at leaders next) more → IsTurn image notes leaders more next next
       unfolding AreAfter
       next_turn are = record {
         begin = are;
@@ -183,7 +185,7 @@ module _ (image : Image) (notes other : Notes) (leaders : List ℕ) (g : IsSetti
       }
 
       -- less is known then
-      pub next_falls : (length more ≡ 0 → ⊥) → leaders_rank (state_at leaders next) leaders < leaders_rank (state_at leaders before) leaders
+      next_falls : (length more ≡ 0 → ⊥) → leaders_rank (state_at leaders next) leaders < leaders_rank (state_at leaders before) leaders
       next_falls some =
           ⊎_elim (λ same. absurd (let x = some_start more some in
           h.differ x.0 x.1 (ap (λ os. state_at leaders os x.0) (same_lists leaders g.all.ascend before next old new same))))
@@ -192,7 +194,7 @@ module _ (image : Image) (notes other : Notes) (leaders : List ℕ) (g : IsSetti
           (record { read = g.read; all = g.all; few = g.few; after = turn.after }) round)
 
       -- or rounds have settled
-      pub now_settled : TablesHold image notes → length more ≡ 0 → IsSettled image notes leaders (state_at leaders next)
+      now_settled : TablesHold image notes → length more ≡ 0 → IsSettled image notes leaders (state_at leaders next)
       now_settled tables none =
           subst (λ os. IsSettled image notes leaders (state_at leaders os))
           (sym (same_lists leaders g.all.ascend before next old new same))
@@ -212,14 +214,25 @@ module _ (image : Image) (notes other : Notes) (leaders : List ℕ) (g : IsSetti
           same : AreSame leaders (state_at leaders before) (state_at leaders next)
           same x c = ⊎_elim (λ s. absurd (no_start more x none s)) (λ q. q) (h.all x)
 
+    -- what came is the states before the next one
+    pub gone_by : (more : List Start) (begin last : List (Option State)) → begin ≡ next → last ≡ next
+        → AreStarts notes leaders (state_at leaders begin) more
+        → AreChanges (state_at leaders before) (state_at leaders begin) more → HasGone image notes leaders first begin last more
+    gone_by more begin last b l are h =
+        subst (λ xs. HasGone image notes leaders xs begin last more) kept
+        (subst (λ xs. HasGone image notes leaders before xs last more) (sym b)
+        (subst (λ xs. HasGone image notes leaders before next xs more) (sym l)
+        (record {
+          turn = next_turn more changes (subst (λ xs. AreStarts notes leaders (state_at leaders xs) more) b are);
+          falls = next_falls more changes;
+          settled = now_settled more changes;
+        })))
+      where
+        changes : AreChanges (state_at leaders before) (state_at leaders next) more
+        changes = subst (λ xs. AreChanges (state_at leaders before) (state_at leaders xs) more) b h
+
   -- the states before a round are found
   pub turn_found : (starts : List Start) (before come : List (Option State)) → IsTurn image notes leaders starts before come
       → AreFound notes leaders (state_at leaders before)
   turn_found starts before come t =
       after_found image notes leaders (marks_read image notes other leaders g) t.rounds (state_at leaders before) t.after
-
-  -- where it gets stuck some rounds went before
-  pub turn_rounds : TablesHold image notes → (starts : List Start) (before come : List (Option State))
-      → IsTurn image notes leaders starts before come → HasRounds image notes leaders (state_at leaders before)
-  turn_rounds tables starts before come t =
-      record { tables = tables; all = g.all; few = λ many. let few = g.few in omega arith; rounds = t.rounds; after = t.after }

@@ -6,6 +6,7 @@ ghost use Rattle.note_infer.specs.Rounds.{with_points};
 use ebc_base::{Name, NoMemory, Sequence};
 use note_types::{
     Field, Fields, FnNote, Functions, Names, Notes, Points, Shape, Shapes, Signature, Signatures,
+    Sites, Statics, Thunks,
 };
 use std::alloc::Global;
 
@@ -124,6 +125,30 @@ fn copy_signatures(alloc: Global, signatures: &[Signature]) -> Result<Signatures
     Ok(Sequence::new(copy))
 }
 
+// The tables of notes whose rows have names or parameters, once more: shapes, functions, signatures and methods.
+fn copy_named(
+    alloc: Global,
+    notes: &Notes,
+) -> Result<(Shapes, Functions, Signatures, Names), NoMemory>
+    ensures { IfOk result (λ (shape, function, signature, methods). (shape ≡ notes.now.shape) × (function ≡ notes.now.function) × (signature ≡ notes.now.signature) × (methods ≡ notes.now.methods)) }
+{
+    let shape = copy_shapes(alloc, notes.shape.as_slice())?;
+    let function = copy_functions(alloc, notes.function.as_slice())?;
+    let signature = copy_signatures(alloc, notes.signature.as_slice())?;
+    let methods = copy_names(alloc, notes.methods.as_slice())?;
+    Ok((shape, function, signature, methods))
+}
+
+// The other tables of notes but their points, once more: static objects, thunk cells and sites.
+fn copy_plain(alloc: Global, notes: &Notes) -> Result<(Statics, Thunks, Sites), NoMemory>
+    ensures { IfOk result (λ (statics, thunk, site). (statics ≡ notes.now.statics) × (thunk ≡ notes.now.thunk) × (site ≡ notes.now.site)) }
+{
+    let statics = copy_all(alloc, notes.statics.as_slice())?;
+    let thunk = copy_all(alloc, notes.thunk.as_slice())?;
+    let site = copy_all(alloc, notes.site.as_slice())?;
+    Ok((statics, thunk, site))
+}
+
 /// The same notes with these points in place of their own.
 ///
 /// # Errors
@@ -132,16 +157,18 @@ fn copy_signatures(alloc: Global, signatures: &[Signature]) -> Result<Signatures
 pub(crate) fn with_points(alloc: Global, notes: &Notes, points: Points) -> Result<Notes, NoMemory>
     ensures { IfOk result (λ copy. copy ≡ with_points notes.now points) }
 {
+    let (shape, function, signature, methods) = copy_named(alloc, notes)?;
+    let (statics, thunk, site) = copy_plain(alloc, notes)?;
     Ok(Notes {
         version: notes.version,
         entry: notes.entry,
-        shape: copy_shapes(alloc, notes.shape.as_slice())?,
-        statics: copy_all(alloc, notes.statics.as_slice())?,
-        thunk: copy_all(alloc, notes.thunk.as_slice())?,
-        function: copy_functions(alloc, notes.function.as_slice())?,
+        shape,
+        statics,
+        thunk,
+        function,
         point: points,
-        signature: copy_signatures(alloc, notes.signature.as_slice())?,
-        site: copy_all(alloc, notes.site.as_slice())?,
-        methods: copy_names(alloc, notes.methods.as_slice())?,
+        signature,
+        site,
+        methods,
     })
 }

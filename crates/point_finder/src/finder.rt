@@ -1,6 +1,6 @@
 //! The points that are found for an image under notes, or where it got stuck.
 
-ghost use Rattle.std.specs.Prelude.{◌≡◌, ◌<◌, ◌≤◌, ℕ, IfOk, List, Some, length};
+ghost use Rattle.std.specs.Prelude.{◌≡◌, ◌<◌, ◌≤◌, ℕ, IfErr, IfOk, List, Some, length};
 ghost use Rattle.note_types.specs.Limits.{point_limit};
 ghost use Rattle.note_types.specs.Records.{IsNotes};
 ghost use Rattle.note_types.specs.declared.notes.Point.{Point};
@@ -11,6 +11,7 @@ ghost use Rattle.note_infer.specs.Inferred.{IsInferred, IsSettled, points_of};
 ghost use Rattle.note_infer.specs.Leaders.{AreLeaders};
 ghost use Rattle.note_infer.specs.Rounds.{with_points};
 ghost use Rattle.point_finder.specs.Coming.{state_at};
+ghost use Rattle.point_finder.specs.Stopping.{IsNotFound};
 
 use crate::copies::with_points;
 use crate::leaders::find_leaders;
@@ -19,7 +20,7 @@ use crate::rounds::{NotFound, Rounds};
 use crate::tables::{points_of, tables_hold};
 use ebc_base::NoMemory;
 use note_infer::Inferred;
-use note_types::{Notes, State, point_limit};
+use note_types::{Notes, Points, State, point_limit};
 use pe_image::Image;
 use std::alloc::Global;
 use width_checker::{Verdict, check};
@@ -41,6 +42,13 @@ fn refused_tables(alloc: Global, image: &Image, notes: &Notes) -> Result<Inferre
     })
 }
 
+// The points of notes.
+fn points_in(notes: Notes) -> Points
+    ensures { result ≡ notes.point }
+{
+    notes.point
+}
+
 // The answer where rounds have settled on these states at the leaders.
 fn checked_points(
     alloc: Global,
@@ -58,13 +66,39 @@ fn checked_points(
 {
     let found = with_points(alloc, notes, points_of(alloc, leaders, states)?)?;
     match check(alloc, image, &found)? {
-        Verdict::Neutral => Ok(Inferred::Points(found.point)),
+        Verdict::Neutral => Ok(Inferred::Points(points_in(found))),
         Verdict::Refused { place, rule } => Ok(Inferred::Stuck {
             place,
             rule,
             state: None,
         }),
     }
+}
+
+// The states at the leaders on which rounds settle.
+fn settled_states(
+    alloc: Global,
+    image: &Image,
+    notes: &Notes,
+    leaders: &[u32],
+) -> Result<Vec<Option<State>>, NotFound>
+    requires image { IsImage image.now }
+    requires notes { IsNotes notes.now }
+    requires tables { TablesHold image.now notes.now }
+    requires leaders { AreLeaders image.now notes.now leaders.now }
+    requires few { length leaders.now ≤ point_limit notes.now.version }
+    ensures settled { IfOk result (λ states. IsSettled image.now notes.now leaders.now (state_at leaders.now states.items)) }
+    ensures long { IfOk result (λ states. length states.items ≡ length leaders.now) }
+    ensures stuck { IfErr result (IsNotFound image.now notes.now leaders.now) }
+{
+    let marked = marked(alloc, notes, leaders)?;
+    let rounds = Rounds {
+        image,
+        notes,
+        marked: &marked,
+        leaders,
+    };
+    rounds.settle(alloc)
 }
 
 // The answer where the rules of shapes, functions, static objects and thunk cells hold and the leaders are within the limit.
@@ -81,14 +115,7 @@ fn find_points(
     requires few { length leaders.now ≤ point_limit notes.now.version }
     ensures { IfOk result (IsInferred image.now notes.now) }
 {
-    let marked = marked(alloc, notes, leaders)?;
-    let rounds = Rounds {
-        image,
-        notes,
-        marked: &marked,
-        leaders,
-    };
-    match rounds.settle(alloc) {
+    match settled_states(alloc, image, notes, leaders) {
         Ok(states) => checked_points(alloc, image, notes, leaders, states.as_slice()),
         Err(NotFound::NoMemory) => Err(NoMemory),
         Err(NotFound::Stuck(stop)) => Ok(Inferred::Stuck {

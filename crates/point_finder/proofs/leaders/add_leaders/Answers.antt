@@ -10,6 +10,7 @@ use Rattle.point_finder.specs.Finding.{Adds, IsNamedBefore}
 use Rattle.point_finder.proofs.Gathering.{adds_none, adds_push, adds_same, before_cases, before_here, before_more, leader_from}
 use Rattle.point_finder.proofs.Gathering.{named_at-end, named_at-stop, named_once, next_place, none_before, start_place}
 use Rattle.point_finder.proofs.leaders.add_leaders.Goals as goal
+use Rattle.point_finder.proofs.leaders.add_leaders.Goals.{After-named_in}
 
 pub loop-at-init : goal.loop-at-init
 loop-at-init c = record {
@@ -36,15 +37,18 @@ returns c =
     c.loop-at.invariant.adds (leader_from c.args.image.now c.args.f.now c.loop-at.at)
     (λ p. named_at-end c.args.image.now c.args.f.now c.loop-at.at p c.requires.code.range c.loop-at-test.false)
 
+decoded : (c : After-named_in) → IsDecoded c.args.image.now c.args.f.now c.loop-at.at c.in-Ok.insn (c.loop-at.at + c.in-Ok.len)
+decoded c =
+    is_decoded c.args.image.now c.args.f.now c.code_of-code.result.now c.loop-at.at c.in-Ok.insn c.in-Ok.len c.code_of-code.ensures
+    c.loop-at.invariant.from (omega arith) c.in-Ok.ensures.found c.in-Ok.ensures.length.1
+
 pub loop-at-preserved-in_ok-push : goal.loop-at-preserved-in_ok-push
 loop-at-preserved-in_ok-push c =
     let image : Image = c.args.image.now in
     let f : FnNote = c.args.f.now in
     let at : ℕ = c.loop-at.at in
     let next : ℕ = at + c.in-Ok.len in
-    let d : IsDecoded image f at c.in-Ok.insn next =
-    is_decoded image f c.code_of-code.result.now at c.in-Ok.insn c.in-Ok.len c.code_of-code.ensures c.loop-at.invariant.from (omega arith)
-    c.in-Ok.ensures.found c.in-Ok.ensures.length.1 in
+    let d = decoded (goal.at.loop-at-preserved-in_ok-push c).After-named_in in
     let reached : IsPlaceOf image f at = c.loop-at.invariant.reached c.loop-at-test.true in
     let more = adds_push (IsNamedBefore image f at) (IsNamedBefore image f next) c.args.places.now.items c.loop-at.places.items
     c.in-Some.place
@@ -64,9 +68,7 @@ loop-at-preserved c =
     let f : FnNote = c.args.f.now in
     let at : ℕ = c.loop-at.at in
     let next : ℕ = at + c.in-Ok.len in
-    let d : IsDecoded image f at c.in-Ok.insn next =
-    is_decoded image f c.code_of-code.result.now at c.in-Ok.insn c.in-Ok.len c.code_of-code.ensures c.loop-at.invariant.from (omega arith)
-    c.in-Ok.ensures.found c.in-Ok.ensures.length.1 in
+    let d = decoded (goal.at.loop-at-preserved c).After-named_in in
     let reached : IsPlaceOf image f at = c.loop-at.invariant.reached c.loop-at-test.true in
     record {
       adds = adds_same (IsNamedBefore image f at) (IsNamedBefore image f next) c.args.places.now.items c.loop-at.places.items

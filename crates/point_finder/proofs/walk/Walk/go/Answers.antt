@@ -13,6 +13,7 @@ use Rattle.point_finder.proofs.Going.{alone_more, alone_next, closed_next, has_f
 use Rattle.point_finder.proofs.Passing.{range_of}
 use Rattle.width_checker.proofs.Leading.{decode_later}
 use Rattle.point_finder.proofs.walk.Walk.go.Goals as goal
+use Rattle.point_finder.proofs.walk.Walk.go.Goals.{In-Ok}
 use Rattle.point_finder.proofs.walk.Walk.go.Goals.{in_default-via-in-Some+then-next-self+else-not-is_leader}
 use Rattle.point_finder.proofs.walk.Walk.go.Goals.{in_default-via-in-Some+else-next-self, in_default-via-in_default}
 
@@ -67,68 +68,74 @@ loop-next-smaller c =
     let inside : c.in-Ok.next < c.args.self.now.f.now.end = c.if-next-self.true in
     omega arith
 
+-- the states before were found, and the round has come to the next instruction
+found_here : (c : In-Ok) → AreFound c.args.self.now.notes.now c.args.self.now.leaders.now
+    (state_at c.args.self.now.leaders.now c.loop-next.coming.before.items)
+found_here c =
+    subst (λ xs. AreFound c.args.self.now.notes.now c.args.self.now.leaders.now (state_at c.args.self.now.leaders.now xs))
+    (sym c.loop-next.invariant.before) c.requires.found
+
+reached_here : (c : In-Ok) → Reached c.args.self.now.image.now c.args.self.now.notes.now c.args.self.now.leaders.now
+    (state_at c.args.self.now.leaders.now c.loop-next.coming.before.items)
+    (state_at c.args.self.now.leaders.now c.step.new.coming.states.items) c.in-Ok.next
+reached_here c =
+    let leaders : List ℕ = c.args.self.now.leaders.now in
+    reached_next c.args.self.now.image.now c.args.self.now.notes.now c.args.self.now.marked.now leaders c.requires.setting
+    (state_at leaders c.loop-next.coming.before.items) (found_here c) c.args.self.now.func c.args.self.now.f.now c.requires.there
+    (state_at leaders c.loop-next.coming.states.items) (state_at leaders c.step.new.coming.states.items) c.loop-next.at c.in-Ok.next
+    c.in-Ok.ensures.steps.0 c.loop-next.state c.in-Ok.fall c.loop-next.invariant.reached c.loop-next.invariant.has
+    c.in-Ok.ensures.steps.1
+
 pub loop-next-preserved : goal.loop-next-preserved
 loop-next-preserved c =
+    let h = (goal.at.loop-next-preserved c).In-Ok in
     let image : Image = c.args.self.now.image.now in
     let notes : Notes = c.args.self.now.notes.now in
-    let other : Notes = c.args.self.now.marked.now in
     let leaders : List ℕ = c.args.self.now.leaders.now in
     let f : FnNote = c.args.self.now.f.now in
     let k : ℕ = c.args.self.now.func in
-    let g = c.requires.setting in
-    let states : States = state_at leaders c.loop-next.coming.before.items in
-    let come : States = state_at leaders c.loop-next.coming.states.items in
     let after : States = state_at leaders c.step.new.coming.states.items in
-    let found : AreFound notes leaders states =
-    subst (λ xs. AreFound notes leaders (state_at leaders xs)) (sym c.loop-next.invariant.before) c.requires.found in
     let p = c.in-Ok.ensures.steps.1 in
-    let at : ℕ = c.loop-next.at in
     let next : ℕ = c.in-Ok.next in
-    let later = decode_later image f at next c.in-Ok.ensures.steps.0 p.decode in
+    let later = decode_later image f c.loop-next.at next c.in-Ok.ensures.steps.0 p.decode in
     let low = c.loop-next.invariant.from in
     record {
       coming = c.in-Ok.ensures.coming;
       before = c.in-Ok.ensures.before ∙ c.loop-next.invariant.before;
-      reached = subst (λ xs. Reached image notes leaders (state_at leaders xs) after next) (sym c.in-Ok.ensures.before)
-          (reached_next image notes other leaders g states found k f c.requires.there come after at next c.in-Ok.ensures.steps.0
-          c.loop-next.state c.in-Ok.fall c.loop-next.invariant.reached c.loop-next.invariant.has p);
+      reached = subst (λ xs. Reached image notes leaders (state_at leaders xs) after next) (sym c.in-Ok.ensures.before) (reached_here h);
       has = subst (λ xs. HasState image notes leaders (state_at leaders xs) k f next c.in-Some.s) (sym c.in-Ok.ensures.before)
-          (has_next image notes other leaders g states found k f c.requires.there come after at next c.in-Ok.ensures.steps.0
+          (has_next image notes c.args.self.now.marked.now leaders c.requires.setting
+          (state_at leaders c.loop-next.coming.before.items) (found_here h) k f c.requires.there
+          (state_at leaders c.loop-next.coming.states.items) after c.loop-next.at next c.in-Ok.ensures.steps.0
           c.loop-next.state c.in-Ok.fall c.loop-next.invariant.reached c.loop-next.invariant.has p c.in-Some.s c.in-Some.is
           c.if-next-self.true (λ l. let yes = c.is_leader.ensures.1 l in let no = c.if-not-is_leader.true in cc));
       from = omega arith;
-      alone = alone_next notes leaders c.args.from at next p.point c.loop-next.invariant.alone
+      alone = alone_next notes leaders c.args.from c.loop-next.at next p.point c.loop-next.invariant.alone
           (λ l. let yes = c.is_leader.ensures.1 l in let no = c.if-not-is_leader.true in cc);
     }
 
 pub returns-in_default-clause-passed : goal.returns-in_default-clause-passed
 returns-in_default-clause-passed c =
+    let h = (goal.at.returns-in_default-clause-passed c).In-Ok in
     let image : Image = c.args.self.now.image.now in
     let notes : Notes = c.args.self.now.notes.now in
-    let other : Notes = c.args.self.now.marked.now in
     let leaders : List ℕ = c.args.self.now.leaders.now in
     let f : FnNote = c.args.self.now.f.now in
-    let k : ℕ = c.args.self.now.func in
-    let g = c.requires.setting in
-    let states : States = state_at leaders c.loop-next.coming.before.items in
-    let come : States = state_at leaders c.loop-next.coming.states.items in
     let after : States = state_at leaders c.step.new.coming.states.items in
-    let found : AreFound notes leaders states =
-    subst (λ xs. AreFound notes leaders (state_at leaders xs)) (sym c.loop-next.invariant.before) c.requires.found in
     let p = c.in-Ok.ensures.steps.1 in
-    let at : ℕ = c.loop-next.at in
     let next : ℕ = c.in-Ok.next in
-    let later = decode_later image f at next c.in-Ok.ensures.steps.0 p.decode in
+    let later = decode_later image f c.loop-next.at next c.in-Ok.ensures.steps.0 p.decode in
     let low = c.loop-next.invariant.from in
     subst (λ xs. HasPassed image notes leaders f (state_at leaders xs) after c.args.from) (sym c.in-Ok.ensures.before)
     (record {
       end = next;
       later = omega arith;
       inside = p.decode.within;
-      alone = alone_more notes leaders c.args.from at next p.point c.loop-next.invariant.alone;
-      reached = reached_next image notes other leaders g states found k f c.requires.there come after at next c.in-Ok.ensures.steps.0
-          c.loop-next.state c.in-Ok.fall c.loop-next.invariant.reached c.loop-next.invariant.has p;
-      closed = closed_next image notes other leaders g states found k f c.requires.there come after at next c.in-Ok.ensures.steps.0
+      alone = alone_more notes leaders c.args.from c.loop-next.at next p.point c.loop-next.invariant.alone;
+      reached = reached_here h;
+      closed = closed_next image notes c.args.self.now.marked.now leaders c.requires.setting
+          (state_at leaders c.loop-next.coming.before.items) (found_here h) c.args.self.now.func f c.requires.there
+          (state_at leaders c.loop-next.coming.states.items) after c.loop-next.at next c.in-Ok.ensures.steps.0
           c.loop-next.state c.in-Ok.fall c.loop-next.invariant.reached c.loop-next.invariant.has p
           (λ t e inside none. elim c.in_default.branch [
             | in_default-via-in-Some+then-next-self+else-not-is_leader w ↦ none (w.is_leader.ensures.0 w.if-not-is_leader.false)

@@ -13,6 +13,7 @@ use Rattle.point_finder.specs.Coming.{state_at}
 use Rattle.point_finder.proofs.Failing.{clashes, falls_out, not_relocated, point_inside, row_fails}
 use Rattle.point_finder.proofs.Passing.{clash_in, no_clash_in, other_read, range_of, row_here}
 use Rattle.point_finder.proofs.walk.Walk.pass.Goals as goal
+use Rattle.point_finder.proofs.walk.Walk.pass.Goals.{In_ok-after}
 
 pub has_no_point-requires-clause-ascend : goal.has_no_point-requires-clause-ascend
 has_no_point-requires-clause-ascend c =
@@ -89,83 +90,61 @@ returns-in_err-after-clause-fails c =
     (row_here image notes c.args.self.now.marked.now leaders k c.args.at c.args.next c.in-Ok.reloc s i _ g.marks c.in-Ok.ensures.holds.0
     c.in_err-after.ensures))
 
+-- the row was gone through: no leader is inside the instruction, and its relocation is allowed
+point_holds : (c : In_ok-after) → PointHolds (marked c.args.self.now.notes.now c.args.self.now.leaders.now) c.args.at c.args.next
+point_holds c =
+    subst (λ m. PointHolds m c.args.at c.args.next) c.requires.setting.marks (c.has_no_point.ensures.0 c.if-not-has_no_point.false)
+
+reloc_holds : (c : In_ok-after) → RelocationHolds c.args.self.now.image.now c.args.self.now.notes.now c.args.at c.args.insn.now
+    c.args.next (reloc_at c.args.self.now.image.now c.args.next)
+reloc_holds c =
+    subst (RelocationHolds c.args.self.now.image.now c.args.self.now.notes.now c.args.at c.args.insn.now c.args.next)
+    c.in-Ok.ensures.holds.0 c.in-Ok.ensures.holds.1
+
+row_is : (c : In_ok-after) → row_of (marked c.args.self.now.notes.now c.args.self.now.leaders.now)
+    (here_at c.args.self.now.image.now c.args.self.now.func c.args.at c.args.next) c.args.state.now c.args.insn.now ≡ Ok c.in_ok-after.after
+row_is c =
+    row_here c.args.self.now.image.now c.args.self.now.notes.now c.args.self.now.marked.now c.args.self.now.leaders.now
+    c.args.self.now.func c.args.at c.args.next c.in-Ok.reloc c.args.state.now c.args.insn.now (Ok c.in_ok-after.after)
+    c.requires.setting.marks c.in-Ok.ensures.holds.0 c.in_ok-after.ensures
+
 pub returns-then-not-take_after-clause-fails : goal.returns-then-not-take_after-clause-fails
 returns-then-not-take_after-clause-fails c =
+    let h = (goal.at.returns-then-not-take_after-clause-fails c).In_ok-after in
     let image : Image = c.args.self.now.image.now in
     let notes : Notes = c.args.self.now.notes.now in
     let leaders : List ℕ = c.args.self.now.leaders.now in
-    let f : FnNote = c.args.self.now.f.now in
-    let k : ℕ = c.args.self.now.func in
-    let i : Insn = c.args.insn.now in
-    let s : State = c.args.state.now in
-    let g = c.requires.setting in
-    let d = c.requires.decode in
-    let states : States = state_at leaders c.args.coming.now.before.items in
-    let come : States = state_at leaders c.args.coming.now.states.items in
-    let point : PointHolds (marked notes leaders) c.args.at c.args.next =
-    subst (λ m. PointHolds m c.args.at c.args.next) g.marks (c.has_no_point.ensures.0 c.if-not-has_no_point.false) in
-    let reloc : RelocationHolds image notes c.args.at i c.args.next (reloc_at image c.args.next) =
-    subst (RelocationHolds image notes c.args.at i c.args.next) c.in-Ok.ensures.holds.0 c.in-Ok.ensures.holds.1 in
-    let row : row_of (marked notes leaders) (here_at image k c.args.at c.args.next) s i ≡ Ok c.in_ok-after.after =
-    row_here image notes c.args.self.now.marked.now leaders k c.args.at c.args.next c.in-Ok.reloc s i (Ok c.in_ok-after.after) g.marks
-    c.in-Ok.ensures.holds.0 c.in_ok-after.ensures in
-    clashes image notes leaders states k f c.args.at s i c.args.next d point reloc c.in_ok-after.after row
-    (clash_in image notes leaders states come k f c.args.at c.args.next c.in_ok-after.after c.requires.there
-    (omega (arith, c.requires.within))
-    c.requires.reached c.if-not-take_after.ensures.clash)
+    clashes image notes leaders (state_at leaders c.args.coming.now.before.items) c.args.self.now.func c.args.self.now.f.now c.args.at
+    c.args.state.now c.args.insn.now c.args.next c.requires.decode (point_holds h) (reloc_holds h) c.in_ok-after.after (row_is h)
+    (clash_in image notes leaders (state_at leaders c.args.coming.now.before.items) (state_at leaders c.args.coming.now.states.items)
+    c.args.self.now.func c.args.self.now.f.now c.args.at c.args.next c.in_ok-after.after c.requires.there
+    (omega (arith, c.requires.within)) c.requires.reached c.if-not-take_after.ensures.clash)
 
 pub returns-then-not-ends_within-clause-fails : goal.returns-then-not-ends_within-clause-fails
 returns-then-not-ends_within-clause-fails c =
+    let h = (goal.at.returns-then-not-ends_within-clause-fails c).In_ok-after in
     let image : Image = c.args.self.now.image.now in
     let notes : Notes = c.args.self.now.notes.now in
     let leaders : List ℕ = c.args.self.now.leaders.now in
     let f : FnNote = c.args.self.now.f.now in
-    let k : ℕ = c.args.self.now.func in
-    let i : Insn = c.args.insn.now in
-    let s : State = c.args.state.now in
-    let g = c.requires.setting in
-    let d = c.requires.decode in
-    let states : States = state_at leaders c.args.coming.now.before.items in
-    let come : States = state_at leaders c.args.coming.now.states.items in
-    let point : PointHolds (marked notes leaders) c.args.at c.args.next =
-    subst (λ m. PointHolds m c.args.at c.args.next) g.marks (c.has_no_point.ensures.0 c.if-not-has_no_point.false) in
-    let reloc : RelocationHolds image notes c.args.at i c.args.next (reloc_at image c.args.next) =
-    subst (RelocationHolds image notes c.args.at i c.args.next) c.in-Ok.ensures.holds.0 c.in-Ok.ensures.holds.1 in
-    let row : row_of (marked notes leaders) (here_at image k c.args.at c.args.next) s i ≡ Ok c.in_ok-after.after =
-    row_here image notes c.args.self.now.marked.now leaders k c.args.at c.args.next c.in-Ok.reloc s i (Ok c.in_ok-after.after) g.marks
-    c.in-Ok.ensures.holds.0 c.in_ok-after.ensures in
-    falls_out image notes leaders states k f c.args.at s i c.args.next d point reloc c.in_ok-after.after row
-    (no_clash_in image notes leaders states come (state_at leaders c.take_after.new.self.states.items) k f c.args.at c.args.next
-    c.in_ok-after.after c.requires.there (range_of image notes c.args.self.now.marked.now leaders g k f c.requires.there)
+    falls_out image notes leaders (state_at leaders c.args.coming.now.before.items) c.args.self.now.func f c.args.at
+    c.args.state.now c.args.insn.now c.args.next c.requires.decode (point_holds h) (reloc_holds h) c.in_ok-after.after (row_is h)
+    (no_clash_in image notes leaders (state_at leaders c.args.coming.now.before.items) (state_at leaders c.args.coming.now.states.items)
+    (state_at leaders c.take_after.new.self.states.items) c.args.self.now.func f c.args.at c.args.next c.in_ok-after.after
+    c.requires.there
+    (range_of image notes c.args.self.now.marked.now leaders c.requires.setting c.args.self.now.func f c.requires.there)
     (omega (arith, c.requires.within)) c.requires.reached c.if-not-take_after.ensures.taken)
-    (λ h. let yes = c.ends_within.ensures.1 h in let is = c.if-not-ends_within.true in cc)
+    (λ x. let yes = c.ends_within.ensures.1 x in let is = c.if-not-ends_within.true in cc)
 
 pub returns-clause-passes : goal.returns-clause-passes
 returns-clause-passes c =
-    let image : Image = c.args.self.now.image.now in
-    let notes : Notes = c.args.self.now.notes.now in
-    let leaders : List ℕ = c.args.self.now.leaders.now in
-    let f : FnNote = c.args.self.now.f.now in
-    let k : ℕ = c.args.self.now.func in
-    let i : Insn = c.args.insn.now in
-    let s : State = c.args.state.now in
-    let g = c.requires.setting in
-    let d = c.requires.decode in
-    let states : States = state_at leaders c.args.coming.now.before.items in
-    let come : States = state_at leaders c.args.coming.now.states.items in
-    let point : PointHolds (marked notes leaders) c.args.at c.args.next =
-    subst (λ m. PointHolds m c.args.at c.args.next) g.marks (c.has_no_point.ensures.0 c.if-not-has_no_point.false) in
-    let reloc : RelocationHolds image notes c.args.at i c.args.next (reloc_at image c.args.next) =
-    subst (RelocationHolds image notes c.args.at i c.args.next) c.in-Ok.ensures.holds.0 c.in-Ok.ensures.holds.1 in
-    let row : row_of (marked notes leaders) (here_at image k c.args.at c.args.next) s i ≡ Ok c.in_ok-after.after =
-    row_here image notes c.args.self.now.marked.now leaders k c.args.at c.args.next c.in-Ok.reloc s i (Ok c.in_ok-after.after) g.marks
-    c.in-Ok.ensures.holds.0 c.in_ok-after.ensures in
+    let h = (goal.at.returns-clause-passes c).In_ok-after in
     record {
-      decode = d;
-      point = point;
-      relocation = reloc;
+      decode = c.requires.decode;
+      point = point_holds h;
+      relocation = reloc_holds h;
       x = c.in_ok-after.after;
-      row = row;
+      row = row_is h;
       takes = c.if-not-take_after.ensures.taken;
       ends = c.ends_within.ensures.0 c.if-not-ends_within.false;
       fall_is = refl;
