@@ -1,4 +1,4 @@
--- For proofs: the binds that a text stands for under the notes of two images, or the first fault in it. docs/PAIRS.md, "Binds".
+-- Meaning: the binds that a text stands for under the notes of two images, or the first fault in it. docs/PAIRS.md, "Binds".
 use Rattle.std.specs.Prelude.{ℕ, List, [], ◌∷◌, ◌++◌, not, Result, Ok, codes, map, take}
 use Rattle.bind_texts.specs.declared.draft.BindDraft.{BindDraft}
 use Rattle.ebc_base.specs.Names.{name_of}

@@ -44,7 +44,7 @@ turn-stops words files word name limit reply turn (is_past bytes there past e) =
     }) (outcome-of reply _ e)
 
 image-fault : (words : List (List ℕ)) (files : Files) (word : ℕ) (name bytes : List ℕ) (p : ImageFault × ℕ) (reply : Reply)
-    → NamesImage words word name → HasFile files name image_limit bytes → image_of bytes ≡ Err p → bad_image_reply word name p ≡ reply
+    → NamesImage words files word name → HasFile files name image_limit bytes → image_of bytes ≡ Err p → bad_image_reply word name p ≡ reply
     → Stops words files reply.outcome
 image-fault words files word name bytes (kind, offset) reply command there no_image is_told =
     bad_file word (image_fault_number kind) (bad_image record {
@@ -58,7 +58,7 @@ image-fault words files word name bytes (kind, offset) reply command there no_im
       number = refl;
     }) (outcome-of reply _ (sym is_told))
 
-pub image-stops : (words : List (List ℕ)) (files : Files) (word : ℕ) (name : List ℕ) (reply : Reply) → NamesImage words word name
+pub image-stops : (words : List (List ℕ)) (files : Files) (word : ℕ) (name : List ℕ) (reply : Reply) → NamesImage words files word name
     → NotRead word name image_limit files reply ⊎ IsRead image_limit (image_meaning word name) name files (Err reply)
     → Stops words files reply.outcome
 image-stops words files word name reply command (inl none) = turn-stops words files word name image_limit reply

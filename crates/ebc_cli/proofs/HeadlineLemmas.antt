@@ -21,7 +21,6 @@ use Rattle.pe_image.specs.Files.{file_of}
 use Rattle.pe_image.specs.declared.image.Image.{Image}
 use Rattle.ebc_disasm.specs.Listings.{listing_of}
 use Rattle.protocol_script.proofs.RecordLaws.{read-is-script}
-use Rattle.twin_run.specs.Headline.{SameAtBothWidths}
 use Rattle.plain_check.specs.declared.verdict.Verdict.{Verdict}
 use Rattle.plain_check.specs.declared.verdict.Verdict.TheVariants.{Neutral, Refused}
 use Rattle.plain_check.specs.PlainChecks.{plain_verdict}
@@ -56,10 +55,11 @@ use Rattle.note_infer.specs.Inferred.{IsInferred}
 use Rattle.note_infer.specs.declared.inferred.Inferred.TheVariants.{Points}
 use Rattle.ebc_cli.specs.Answers.{HasBadLink, Links, writes_image}
 use Rattle.ebc_cli.specs.Answers.{Wraps, ListsRom, Takes, HasBadRom, HasBadTaking, IsTooLarge}
-use Rattle.ebc_cli.proofs.StopLemmas.{assembly-work, bad-exactly, bad-line-told, image-work, large-exactly, listing-work, missing-exactly}
+use Rattle.ebc_cli.proofs.BackLemmas.{assembly-work, bad-line-told, image-work, listing-work}
+use Rattle.ebc_cli.proofs.ExactLemmas.{bad-exactly, large-exactly, missing-exactly}
 use Rattle.ebc_cli.proofs.InferLemmas.{infer-work}
-use Rattle.ebc_cli.proofs.StopLemmas.{bad-link-told, linking-work}
-use Rattle.ebc_cli.proofs.StopLemmas.{bad-rom-told, bad-taking-told, rom-listing-work, taking-work, wrapping-work}
+use Rattle.ebc_cli.proofs.BackLemmas.{bad-link-told, linking-work}
+use Rattle.ebc_cli.proofs.BackLemmas.{bad-rom-told, bad-taking-told, rom-listing-work, taking-work, wrapping-work}
 
 -- a reply that was decided is an answer, whether the reading went through or stopped
 pub answer-ok : (contents : Option Files) (words before now : List (List ℕ)) (reply : Reply)
@@ -104,19 +104,6 @@ leaves-part (Some files) words reply outcome before now left tells part others =
     λ fault. record { reply = reply; answer = tells.told; part = part fault; others = others }
 
 -- ---- verdicts
-
--- the reply of an exact verdict tells it
-pub tells-verdict : (image : Image) (notes : Notes) (verdict : Verdict) → verdict ≡ Neutral ↔ Typed image notes
-    → (verdict ≡ Neutral → SameAtBothWidths image notes)
-    → ((place : ℕ) (rule : RuleName) → verdict ≡ Refused place rule ↔ IsRefused image notes place rule)
-    → TellsVerdict image notes (verdict_reply verdict)
-tells-verdict image notes verdict neutral alike refused = record {
-  verdict = verdict;
-  neutral = neutral;
-  alike = alike;
-  refused = refused;
-  told = refl;
-}
 
 verdict-done : (verdict : Verdict) → (verdict_reply verdict).outcome ≡ outcomes.Done ↔ verdict ≡ Neutral
 verdict-done Neutral = (λ e. refl, λ e. refl)

@@ -1,5 +1,5 @@
 -- From a reply to the words to the clauses of `ebc` on `infer`.
-use Rattle.std.proofs.Common.{◌≡◌, ◌↔◌, ℕ, List, [], Option, Some, None, IfSome, refl, sym, ap, ◌∙◌}
+use Rattle.std.proofs.Common.{◌≡◌, ◌↔◌, ℕ, List, Option, Some, None, IfSome, refl, sym, ap, ◌∙◌}
 use Rattle.ebc_outside.specs.Files.{Files}
 use Rattle.note_infer.specs.Inferred.{IsInferred}
 use Rattle.note_infer.specs.Rounds.{with_points}

@@ -1,29 +1,33 @@
 -- The readings of `check IMAGE NOTES` and of `infer IMAGE NOTES`: why one stops, and what their files come to.
-use Rattle.std.proofs.Common.{◌≡◌, ℕ, ◌+◌, List, [], ◌∷◌, Option, Some, None, Result, Ok, Err, refl, ap, ◌∙◌}
+use Rattle.std.proofs.Common.{◌≡◌, ℕ, List, [], Option, Some, None, Result, Ok, Err, refl, ap, ◌∙◌}
 use Rattle.ebc_outside.specs.Files.{Files}
 use Rattle.note_types.specs.declared.notes.Notes.{Notes}
 use Rattle.note_types.specs.declared.script.Script.{Script}
 use Rattle.option_rom.specs.declared.image.RomImage.{RomImage}
+use Rattle.pair_model.specs.declared.bind.Bind.{Bind}
 use Rattle.pe_image.specs.declared.image.Image.{Image}
 use Rattle.pe_image.specs.Images.{image_of}
 use Rattle.type_notes.specs.Notes.{notes_of}
 use Rattle.cli_base.specs.declared.reply.Reply.{Reply}
 use Rattle.cli_base.specs.Inputs.{bad_image_reply, image_limit, image_meaning}
-use Rattle.cli_base.specs.Readings.{FileReading, ◌>>=◌, done, file, go_on, told}
+use Rattle.cli_base.specs.Readings.{FileReading, ◌>>=◌, done, file, told}
 use Rattle.ebc_cli.specs.declared.command.Command.{Command}
 use Rattle.ebc_cli.specs.declared.command.Command.TheVariants as commands
+use Rattle.ebc_cli.specs.declared.pairing.ReadDriver.{ReadDriver}
 use Rattle.ebc_cli.specs.declared.work.Work.{Work}
 use Rattle.ebc_cli.specs.declared.work.Work.TheVariants as works
 use Rattle.ebc_cli.specs.Answers.{ComesToNotes, HasFile, InfersPoints, NamesImage, NamesNotes}
 use Rattle.ebc_cli.specs.Commands.{command_of}
 use Rattle.ebc_cli.specs.Inputs.{bad_notes_reply, input, input_with_bytes, notes_limit, notes_meaning, number_meaning, rom_limit}
 use Rattle.ebc_cli.specs.Inputs.{rom_meaning}
-use Rattle.ebc_cli.specs.Inputs.{rom_number_limit, sample_limit, source_limit, source_meaning, step_limit, taking_meaning}
+use Rattle.ebc_cli.specs.Inputs.{pair_step_limit, rom_number_limit, sample_limit, source_limit, source_meaning, step_limit, taking_meaning}
+use Rattle.ebc_cli.specs.Pairings.{pair_files}
 use Rattle.ebc_cli.specs.Linkings.{linked_image}
 use Rattle.ebc_cli.specs.Runnings.{run_files}
 use Rattle.ebc_cli.specs.Samplings.{sample_of}
 use Rattle.ebc_cli.specs.Works.{assembly, code_check, image_check, image_listing, image_with_notes, inference, linking, plain_code_limit}
-use Rattle.ebc_cli.specs.Works.{rom_images, rom_taking, rom_taking_of, rom_wrapping, running, sampling, twinning, work_for, work_of}
+use Rattle.ebc_cli.specs.Works.{pairing, rom_images, rom_taking, rom_taking_of, rom_wrapping, running, sampling, twinning}
+use Rattle.ebc_cli.specs.Works.{work_for, work_of}
 use Rattle.ebc_cli.proofs.CauseLemmas.{Stops, image-stops, notes-stops}
 use Rattle.ebc_cli.proofs.InputLemmas.{IsRead, first_stops, go-on-err, go-on-ok, input-err, input-ok, one-stop, or-ok, read-means}
 use Rattle.ebc_cli.proofs.InputLemmas.{second_stops}
@@ -31,7 +35,7 @@ use Rattle.ebc_cli.proofs.InputLemmas.{second_stops}
 -- ---- why a reading stops
 
 -- where the image is read, the notes' turn comes
-notes-turn : (words : List (List ℕ)) (files : Files) (a b : List ℕ) (image : Image) → NamesNotes words 2 a b
+notes-turn : (words : List (List ℕ)) (files : Files) (a b : List ℕ) (image : Image) → NamesNotes words files 2 a b
     → IsRead image_limit (image_meaning 1 a) a files (Ok image) → ComesToNotes words files 2 b
 notes-turn words files a b image names read = record {
   image_name = a;
@@ -42,8 +46,8 @@ notes-turn words files a b image names read = record {
   image_is = or-ok (bad_image_reply 1 a) (image_of read.bytes) image read.is;
 }
 
-pub both-stop : (words : List (List ℕ)) (files : Files) (reply : Reply) (a b : List ℕ) → NamesImage words 1 a → NamesNotes words 2 a b
-    → (image_with_notes a b files).value ≡ Err reply → Stops words files reply.outcome
+pub both-stop : (words : List (List ℕ)) (files : Files) (reply : Reply) (a b : List ℕ) → NamesImage words files 1 a
+    → NamesNotes words files 2 a b → (image_with_notes a b files).value ≡ Err reply → Stops words files reply.outcome
 unfolding image_with_notes
 both-stop words files reply a b image_is notes_are e =
     let image_in = input image_limit image_meaning 1 a files in
@@ -147,7 +151,7 @@ infers-as words files a b name i image n notes command e made_is =
 
 infers-by : (words : List (List ℕ)) (files : Files) (c : Option Command) (name : List ℕ) (image : Image) (notes : Notes)
     → command_of words ≡ c → (work_for c files).value ≡ Ok (works.InferPoints name image notes) → InfersPoints words files name image notes
-unfolding code_check image_check image_listing assembly linking running twinning sampling rom_wrapping rom_images rom_taking
+unfolding code_check image_check image_listing assembly linking running twinning pairing sampling rom_wrapping rom_images rom_taking
     rom_taking_of inference
 infers-by words files None name image notes command e = absurd cc
 infers-by words files (Some (commands.CheckCode a)) name image notes command e =
@@ -170,6 +174,11 @@ infers-by words files (Some (commands.Twin a b c digits)) name image notes comma
     >>= (λ (read : Image × Notes × Script). done (works.Twin read.0 read.1 read.2 steps))) _ e in
     absurd (let m = made (run_files 1 a b c files) (λ (read : Image × Notes × Script). works.Twin read.0 read.1 read.2 steps.one) _
     steps.second in let no = m.is in cc)
+infers-by words files (Some (commands.Pair a b c digits)) name image notes command e =
+    let steps = go-on-ok [] (number_meaning pair_step_limit 8 digits) (λ steps. pair_files a b c files
+    >>= (λ (read : ReadDriver × ReadDriver × List Bind). done (works.Pair read.0 read.1 read.2 steps))) _ e in
+    absurd (let m = made (pair_files a b c files)
+    (λ (read : ReadDriver × ReadDriver × List Bind). works.Pair read.0 read.1 read.2 steps.one) _ steps.second in let no = m.is in cc)
 infers-by words files (Some (commands.Sample digits)) name image notes command e =
     let n = go-on-ok [] (number_meaning sample_limit 1 digits) (λ n. told (sample_of digits n)
     >>= (λ sample. done (works.Sample sample))) _ e in

@@ -8,16 +8,14 @@ use Rattle.ebc_object.specs.Readings.{object_of_file}
 use Rattle.ebc_object.specs.declared.object.Object.{Object}
 use Rattle.ebc_outside.specs.Files.{Files}
 use Rattle.cli_base.specs.declared.reply.Reply.{Reply}
-use Rattle.ebc_cli.specs.Inputs.{bad_object_reply, input, object_limit, object_meaning, plan_limit, plan_meaning}
-use Rattle.ebc_cli.specs.Linkings.{each_object, linked_by, linked_image}
-use Rattle.ebc_link.specs.declared.plan.LinkPlan.{LinkPlan}
+use Rattle.ebc_cli.specs.Inputs.{bad_object_reply, input, object_limit, object_meaning}
+use Rattle.ebc_cli.specs.Linkings.{each_object}
 use Rattle.ebc_object.specs.Objects.{IsObject}
-use Rattle.pe_image.specs.declared.image.Image.{Image}
 use Rattle.std.proofs.lemmas.List.Elements.{All-push, All-same}
 use Rattle.cli_base.specs.Readings.{FileReading, ◌>>=◌, Follows, done, file, go_on, measured}
 use Rattle.cli_base.specs.declared.reply.End.{End}
 use Rattle.cli_base.specs.declared.reply.End.TheVariants as ends
-use Rattle.ebc_cli.proofs.ReadingsLemmas.{ends-after, ends-before, later-part}
+use Rattle.ebc_cli.proofs.ReadingsLemmas.{ends-before, later-part}
 use Rattle.ebc_cli.specs.Answers.{HasObject, HasObjects}
 use Rattle.ebc_cli.proofs.InputLemmas.{NotRead, IsRead, first_stops, second_stops, go-on-err, go-on-ok, input-err, input-ok}
 use Rattle.ebc_cli.proofs.InputLemmas.{one-stop, or-ok}
@@ -275,21 +273,3 @@ one-more old new object index all is many put = (
   All-same IsObject new (old ++ object ∷ []) put (All-push IsObject old object all is),
   let long = ap length put in let more = length-append old (object ∷ []) in omega (arith, long, more, many),
 )
-
--- where the plan is read, what comes of its objects comes of it
-follows-after : {A B : Type 0} (before mid now : List (List ℕ)) (run : FileReading A) (f : A → FileReading B) (x : A)
-    (result : Result B End)
-    → Follows before mid (Ok x) run → Follows mid now result (f x) → Follows before now result (run >>= f)
-follows-after before mid now run f x (Ok y) one two =
-    rw one.0 (two.0, two.1 ∙ ap (λ names. names ++ (f x).asked) one.1 ∙ append_assoc before run.asked (f x).asked)
-follows-after before mid now run f x (Err end) one two = ends-after before mid now run f x end one two
-
-pub plan-then : (old mid : Option Files) (before between now : List (List ℕ)) (name : List ℕ) (plan : LinkPlan) (result : Result Image End)
-    → mid ≡ old → IfSome old (λ files. Follows before between (Ok plan) (input plan_limit plan_meaning 1 name files))
-    → IfSome mid (λ files. Follows between now result (linked_by name plan files))
-    → IfSome old (λ files. Follows before now result (linked_image name files))
-unfolding linked_image
-plan-then None mid before between now name plan result same one two = tt
-plan-then (Some files) mid before between now name plan result same one two =
-    follows-after before between now (input plan_limit plan_meaning 1 name files) (λ plan. linked_by name plan files) plan result one
-    (rw same at two)

@@ -6,7 +6,7 @@ use Rattle.note_texts.proofs.NumberRanges.{number_in-complete, number_in-sound}
 use Rattle.note_texts.specs.Numbers.{number_in}
 use Rattle.cli_base.specs.declared.reply.Reply.{Reply}
 use Rattle.cli_base.specs.Readings.{large_reply}
-use Rattle.ebc_cli.specs.Inputs.{number_meaning, rom_number_limit, sample_limit, step_limit}
+use Rattle.ebc_cli.specs.Inputs.{number_meaning, pair_step_limit, rom_number_limit, sample_limit, step_limit}
 
 -- a number that is read is spelled by its digits
 pub number-read : (limit : ℕ) (digits : List ℕ) (n : ℕ) → number_in 0 limit digits ≡ Some n → (digits ≡ decimal n) × (n ≤ limit)
@@ -20,6 +20,9 @@ rom-number n within = number-spelled rom_number_limit n (omega arith) within
 
 pub step-number : (n : ℕ) → n ≤ step_limit → number_in 0 step_limit (decimal n) ≡ Some n
 step-number n within = number-spelled step_limit n (omega arith) within
+
+pub pair-step-number : (n : ℕ) → n ≤ pair_step_limit → number_in 0 pair_step_limit (decimal n) ≡ Some n
+pair-step-number n within = number-spelled pair_step_limit n (omega arith) within
 
 pub sample-number : (n : ℕ) → n ≤ sample_limit → number_in 0 sample_limit (decimal n) ≡ Some n
 sample-number n within = number-spelled sample_limit n (omega arith) within

@@ -1,13 +1,8 @@
--- Readings one after the other, for commands of several files.
+-- Readings one after the other.
 use Rattle.std.proofs.Common.{◌≡◌, ℕ, List, ◌++◌, Option, Some, None, IfSome, Result, Ok, Err, refl, sym, ap, ◌∙◌, append_assoc, append-nil}
 use Rattle.ebc_outside.specs.Files.{Files}
 use Rattle.cli_base.specs.declared.reply.End.{End}
 use Rattle.cli_base.specs.declared.reply.Reply.{Reply}
-use Rattle.note_types.specs.declared.notes.Notes.{Notes}
-use Rattle.pe_image.specs.declared.image.Image.{Image}
-use Rattle.ebc_cli.specs.Inputs.{input, notes_limit, notes_meaning}
-use Rattle.cli_base.specs.Inputs.{image_limit, image_meaning}
-use Rattle.ebc_cli.specs.Works.{image_with_notes}
 use Rattle.cli_base.specs.declared.reply.End.TheVariants as ends
 use Rattle.cli_base.specs.Readings.{FileReading, ◌>>=◌, go_on, done, AsksPart, Follows}
 
@@ -55,16 +50,6 @@ pub first-ends : {A B : Type 0} (old : Option Files) (before now : List (List �
 first-ends None before now run f end one = tt
 first-ends (Some files) before now run f end one = ends-before before now (run files) (f files) end one
 
--- where what comes after a reading that went through ends, it ends the whole
-pub next-ends : {A B : Type 0} (old mid : Option Files) (before between now : List (List ℕ)) (run : Files → FileReading A)
-    (f : Files → A → FileReading B) (x : A) (end : End) → mid ≡ old
-    → IfSome old (λ files. Follows before between (Ok x) (run files))
-    → IfSome mid (λ files. Follows {A = B} between now (Err end) (f files x))
-    → IfSome old (λ files. Follows {A = B} before now (Err end) (run files >>= f files))
-next-ends None mid before between now run f x end same one two = tt
-next-ends (Some files) mid before between now run f x end same one two =
-    ends-after before between now (run files) (f files) x end one (rw same at two)
-
 -- what comes of a reading that went through and of what follows it comes of the whole
 pub next-follows : {A B : Type 0} (old mid : Option Files) (before between now : List (List ℕ)) (run : Files → FileReading A)
     (f : Files → A → FileReading B) (x : A) (result : Result B End) → mid ≡ old
@@ -86,45 +71,3 @@ pub made-follows : {A B : Type 0} (old : Option Files) (before now : List (List 
 made-follows None before now run make x one = tt
 made-follows (Some files) before now run make x one =
     rw one.0 (refl, one.1 ∙ ap (λ names. before ++ names) (sym (append-nil (run files).asked)))
-
--- ---- an image and its notes
-
-abbrev image_run : List ℕ → Files → FileReading Image
-image_run a files = input image_limit image_meaning 1 a files
-
-abbrev notes_run : List ℕ → Files → FileReading Notes
-notes_run b files = input notes_limit notes_meaning 2 b files
-
-abbrev both : Image → Files → Notes → FileReading (Image × Notes)
-both image files notes = done (image, notes)
-
-abbrev noted : List ℕ → Files → Image → FileReading (Image × Notes)
-noted b files image = notes_run b files >>= both image files
-
--- where the image's file ends the reading, it ends the whole
-pub image-ends : (old : Option Files) (before now : List (List ℕ)) (a b : List ℕ) (end : End)
-    → IfSome old (λ files. Follows {A = Image} before now (Err end) (input image_limit image_meaning 1 a files))
-    → IfSome old (λ files. Follows {A = Image × Notes} before now (Err end) (image_with_notes a b files))
-unfolding image_with_notes
-image-ends old before now a b end one = first-ends old before now (image_run a) (noted b) end one
-
--- where the notes' file ends the reading, after the image was read, it ends the whole
-pub notes-end : (old mid : Option Files) (before between now : List (List ℕ)) (a b : List ℕ) (image : Image) (end : End) → mid ≡ old
-    → IfSome old (λ files. Follows before between (Ok image) (input image_limit image_meaning 1 a files))
-    → IfSome mid (λ files. Follows {A = Notes} between now (Err end) (input notes_limit notes_meaning 2 b files))
-    → IfSome old (λ files. Follows {A = Image × Notes} before now (Err end) (image_with_notes a b files))
-unfolding image_with_notes
-notes-end old mid before between now a b image end same one two =
-    next-ends old mid before between now (image_run a) (noted b) image end same one
-    (first-ends mid between now (notes_run b) (both image) end two)
-
--- where both files are read, both are given
-pub both-follow : (old mid : Option Files) (before between now : List (List ℕ)) (a b : List ℕ) (image : Image) (notes : Notes)
-    → mid ≡ old
-    → IfSome old (λ files. Follows before between (Ok image) (input image_limit image_meaning 1 a files))
-    → IfSome mid (λ files. Follows between now (Ok notes) (input notes_limit notes_meaning 2 b files))
-    → IfSome old (λ files. Follows before now (Ok (image, notes)) (image_with_notes a b files))
-unfolding image_with_notes
-both-follow old mid before between now a b image notes same one two =
-    next-follows old mid before between now (image_run a) (noted b) image (Ok (image, notes)) same one
-    (made-follows mid between now (notes_run b) (λ notes. (image, notes)) notes two)

@@ -81,7 +81,7 @@ twins-exactly (Some files) words reply outcome before now tells text = λ image 
     )
 
 -- an outcome tells of one number of steps
-outcome-one : (a b : Option ℕ) → twin_outcome a ≡ twin_outcome b → a ≡ b
+pub outcome-one : (a b : Option ℕ) → twin_outcome a ≡ twin_outcome b → a ≡ b
 outcome-one None None e = refl
 outcome-one None (Some k) e = absurd cc
 outcome-one (Some k) None e = absurd cc

@@ -11,6 +11,7 @@ use Rattle.cli_base.specs.declared.reply.Reply.{Reply}
 use Rattle.cli_base.specs.Inputs.{bad_image_reply, image_limit, image_meaning}
 use Rattle.cli_base.specs.Readings.{◌>>=◌, done}
 use Rattle.ebc_cli.specs.declared.command.Command.TheVariants.{Run, Twin}
+use Rattle.ebc_cli.specs.declared.command.DriverFiles.{DriverFiles}
 use Rattle.ebc_cli.specs.declared.width.Width.{Width}
 use Rattle.ebc_cli.specs.declared.work.Work.TheVariants as works
 use Rattle.ebc_cli.specs.Commands.{command_of}
@@ -19,13 +20,13 @@ use Rattle.ebc_cli.specs.Inputs.{bad_notes_reply, input, notes_limit, notes_mean
 use Rattle.ebc_cli.specs.Inputs.{step_limit}
 use Rattle.ebc_cli.specs.Runnings.{run_files}
 use Rattle.ebc_cli.specs.Works.{running, twinning, work_of}
-use Rattle.ebc_cli.specs.Answers.{HasRunFiles, RunsImage, TwinsImage, NamesRun, to_run, to_twin, to_run_on, to_run_under}
+use Rattle.ebc_cli.specs.Answers.{RunsImage, TwinsImage, NamesRun, to_pair, to_run, to_twin, to_run_on, to_run_under}
 use Rattle.ebc_cli.specs.Answers.{ComesToScript, script_turn, bad_script, run_steps, twin_steps}
 use Rattle.ebc_cli.proofs.CauseLemmas.{Stops, bad_file, image-stops, notes-stops, number-stops, outcome-of, turn-stops}
+use Rattle.ebc_cli.proofs.DriverLemmas.{driver-run-stopped, driver-stopped, run-files-read, whole}
 use Rattle.ebc_cli.proofs.InputLemmas.{NotRead, IsRead, first_stops, second_stops, go-on-err, input-err, input-ok, one-stop, or-err, or-ok}
 use Rattle.ebc_cli.proofs.InputLemmas.{read-means}
 use Rattle.ebc_cli.proofs.NumberLemmas.{number-ok, number-read, step-number}
-use Rattle.ebc_cli.proofs.RunReadings.{whole}
 
 -- ---- why a reading stops
 
@@ -50,7 +51,7 @@ script-stops words files word name notes reply turn (inr read) =
 
 -- where the image and the notes were read, the script stops it
 run-script-stops : (words : List (List ℕ)) (files : Files) (word : ℕ) (a b c : List ℕ) (image : Image) (notes : Notes) (reply : Reply)
-    → NamesRun words word a b c → IsRead image_limit (image_meaning word a) a files (Ok image)
+    → NamesRun words files word a b c → IsRead image_limit (image_meaning word a) a files (Ok image)
     → IsRead notes_limit (notes_meaning (word + 1) b) b files (Ok notes)
     → (input script_limit (script_meaning notes) (word + 2) c files).value ≡ Err reply → Stops words files reply.outcome
 run-script-stops words files word a b c image notes reply command one two stops =
@@ -71,7 +72,7 @@ run-script-stops words files word a b c image notes reply command one two stops 
 
 -- where the image was read, the notes stop it or the script does
 run-notes-stop : (words : List (List ℕ)) (files : Files) (word : ℕ) (a b c : List ℕ) (image : Image) (reply : Reply)
-    → NamesRun words word a b c → IsRead image_limit (image_meaning word a) a files (Ok image)
+    → NamesRun words files word a b c → IsRead image_limit (image_meaning word a) a files (Ok image)
     → (input notes_limit notes_meaning (word + 1) b files >>= (λ notes. input script_limit (script_meaning notes) (word + 2) c files
     >>= (λ script. done (whole image notes script)))).value ≡ Err reply
     → Stops words files reply.outcome
@@ -94,7 +95,7 @@ run-notes-stop words files word a b c image reply command one e =
           (one-stop (input script_limit (script_meaning notes) (word + 2) c files) (λ script. whole image notes script) reply stops)
     ]
 
-run-files-stop : (words : List (List ℕ)) (files : Files) (word : ℕ) (a b c : List ℕ) (reply : Reply) → NamesRun words word a b c
+pub run-files-stop : (words : List (List ℕ)) (files : Files) (word : ℕ) (a b c : List ℕ) (reply : Reply) → NamesRun words files word a b c
     → (run_files word a b c files).value ≡ Err reply → Stops words files reply.outcome
 unfolding run_files
 run-files-stop words files word a b c reply command e =
@@ -140,7 +141,7 @@ twinning-stops words files reply a b c digits command e =
 -- ---- and back
 
 -- what stops the files of a run stops the words
-pub run-stopped : (words : List (List ℕ)) (files : Files) (word : ℕ) (a b c : List ℕ) (reply : Reply) → NamesRun words word a b c
+pub run-stopped : (words : List (List ℕ)) (files : Files) (word : ℕ) (a b c : List ℕ) (reply : Reply) → NamesRun words files word a b c
     → (run_files word a b c files).value ≡ Err reply → (work_of words files).value ≡ Err reply
 unfolding work_of running twinning
 run-stopped words files word a b c reply (to_run width steps number within command) stops =
@@ -149,21 +150,11 @@ run-stopped words files word a b c reply (to_run width steps number within comma
 run-stopped words files word a b c reply (to_twin steps number within command) stops =
     let here : (run_files 1 a b c files).value ≡ Err reply = rw number at stops in
     rw (command, step-number steps within, here) refl
+run-stopped words files word a b c reply (to_pair turn) stops =
+    let names : DriverFiles = record { image = a; notes = b; script = c } in
+    driver-stopped words files word names reply turn (driver-run-stopped files word names reply stops)
 
--- the image does
-pub run-image-stopped : (files : Files) (word : ℕ) (a b c : List ℕ) (reply : Reply)
-    → (input image_limit image_meaning word a files).value ≡ Err reply → (run_files word a b c files).value ≡ Err reply
-unfolding run_files
-run-image-stopped files word a b c reply stops = rw stops refl
-
--- or the notes, where the image is read
-pub run-notes-stopped : (files : Files) (word : ℕ) (a b c : List ℕ) (image : Image) (reply : Reply)
-    → (input image_limit image_meaning word a files).value ≡ Ok image
-    → (input notes_limit notes_meaning (word + 1) b files).value ≡ Err reply → (run_files word a b c files).value ≡ Err reply
-unfolding run_files
-run-notes-stopped files word a b c image reply one stops = rw (one, stops) refl
-
--- or the script, where both are
+-- a script that stops the reading, where the image and the notes are read, stops the words
 pub run-script-stopped : (words : List (List ℕ)) (files : Files) (word : ℕ) (name : List ℕ) (notes : Notes) (reply : Reply)
     → ComesToScript words files word name notes → (input script_limit (script_meaning notes) word name files).value ≡ Err reply
     → (work_of words files).value ≡ Err reply
@@ -175,17 +166,6 @@ run-script-stopped words files word name notes reply turn stops =
     (rw turn.notes_are refl) in
     let three : (input script_limit (script_meaning notes) (turn.image_word + 2) name files).value ≡ Err reply = rw turn.word_is at stops in
     run-stopped words files turn.image_word turn.image_name turn.notes_name name reply turn.command (rw (one, two, three) refl)
-
--- files that are there come to what they stand for
-run-files-read : (files : Files) (word : ℕ) (a b c : List ℕ) (image : Image) (notes : Notes) (script : Script)
-    → HasRunFiles files a b c image notes script → (run_files word a b c files).value ≡ Ok (image, notes, script)
-unfolding run_files
-run-files-read files word a b c image notes script has =
-    let one = read-means image_limit image_meaning word a files has.bytes (Ok image) has.image_file (rw has.image_is refl) in
-    let two = read-means notes_limit notes_meaning (word + 1) b files has.text (Ok notes) has.notes_file (rw has.notes_are refl) in
-    let three = read-means script_limit (script_meaning notes) (word + 2) c files has.script_text (Ok script) has.script_file
-    (rw has.script_is refl) in
-    rw (one, two, three) refl
 
 pub running-work : (words : List (List ℕ)) (files : Files) (width : Width) (image : Image) (notes : Notes) (script : Script) (steps : ℕ)
     → RunsImage words files width image notes script steps → (work_of words files).value ≡ Ok (works.Run width image notes script steps)

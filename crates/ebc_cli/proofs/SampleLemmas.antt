@@ -5,10 +5,9 @@ use Rattle.asm_text.specs.Faults.{asm_fault_number}
 use Rattle.asm_text.specs.declared.fault.AsmFault.{AsmFault}
 use Rattle.ebc_asm.specs.Sources.{object_of}
 use Rattle.ebc_base.specs.Steps.{◌>>=◌}
-use Rattle.ebc_link.specs.Links.{Fault, links}
+use Rattle.ebc_link.specs.Links.{links}
 use Rattle.ebc_object.specs.declared.object.Object.{Object}
 use Rattle.ebc_outside.specs.Files.{Files}
-use Rattle.note_types.specs.declared.fault.TomlFault.{TomlFault}
 use Rattle.note_types.specs.declared.notes.Notes.{Notes}
 use Rattle.note_types.specs.declared.script.Script.{Script}
 use Rattle.pe_image.specs.declared.image.Image.{Image}

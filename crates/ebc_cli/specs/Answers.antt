@@ -5,6 +5,7 @@ use Rattle.std.specs.FinMap.{get}
 use Rattle.ebc_outside.specs.Files.{Files, AppendsPart}
 use Rattle.asm_text.specs.Faults.{asm_fault_number}
 use Rattle.asm_text.specs.declared.fault.AsmFault.{AsmFault}
+use Rattle.bind_texts.specs.BindTexts.{binds_of}
 use Rattle.ebc_asm.specs.Sources.{object_of}
 use Rattle.ebc_disasm.specs.Listings.{listing_of}
 use Rattle.ebc_link.specs.Links.{Fault, links}
@@ -32,6 +33,10 @@ use Rattle.twin_run.specs.Reported.{IsReport}
 use Rattle.twin_run.specs.declared.reports.RunReport.{RunReport}
 use Rattle.twin_run.specs.declared.reports.TwinReport.{TwinReport}
 use Rattle.host_model.specs.Runs.{world_of}
+use Rattle.pair_host.specs.declared.reports.PairReport.{PairReport}
+use Rattle.pair_laws.specs.SamePairs.{ArePlaced, SamePairAfter}
+use Rattle.pair_model.specs.Pairs.{Both}
+use Rattle.pair_model.specs.declared.bind.Bind.{Bind}
 use Rattle.pe_image.specs.declared.fault.ImageFault.{ImageFault}
 use Rattle.pe_image.specs.declared.image.Image.{Image}
 use Rattle.pe_image.specs.Images.{image_of}
@@ -42,7 +47,9 @@ use Rattle.width_checker.specs.Verdicts.{IsVerdict}
 use Rattle.cli_base.specs.declared.outcome.Outcome.{Outcome}
 use Rattle.cli_base.specs.declared.outcome.Outcome.TheVariants as outcomes
 use Rattle.ebc_cli.specs.declared.command.Command.TheVariants.{Assemble, CheckCode, CheckImage, InferPoints, Link, ListImage, ListRom, Run}
-use Rattle.ebc_cli.specs.declared.command.Command.TheVariants.{Sample, TakeRom, Twin, WrapRom}
+use Rattle.ebc_cli.specs.declared.command.Command.TheVariants.{Pair, Sample, TakeRom, Twin, WrapRom}
+use Rattle.ebc_cli.specs.declared.command.DriverFiles.{DriverFiles}
+use Rattle.ebc_cli.specs.declared.pairing.ReadDriver.{ReadDriver}
 use Rattle.ebc_cli.specs.declared.sampling.BuiltSample.{BuiltSample}
 use Rattle.ebc_cli.specs.declared.width.Width.{Width}
 use Rattle.cli_base.specs.declared.reply.End.{End}
@@ -54,12 +61,13 @@ use Rattle.ebc_cli.specs.Faults.{link_fault_number, object_fault_number, rom_fau
 use Rattle.cli_base.specs.Faults.{image_fault_number}
 use Rattle.ebc_cli.specs.Faults.{take_fault_number, toml_fault_number}
 use Rattle.ebc_cli.specs.Inputs.{notes_limit, object_limit, plan_limit, rom_limit, rom_number_limit, script_limit, source_limit, step_limit}
-use Rattle.ebc_cli.specs.Inputs.{sample_limit, taking_offset}
+use Rattle.ebc_cli.specs.Inputs.{binds_limit, pair_step_limit, sample_limit, taking_offset}
 use Rattle.cli_base.specs.Inputs.{image_limit}
 use Rattle.cli_base.specs.Outcomes.{IsAnswer}
 use Rattle.cli_base.specs.Outputs.{SameBut, files_left, printed, text_of, written_name}
 use Rattle.cli_base.specs.Readings.{FileReading, AsksPart, MissingHasCause}
 use Rattle.ebc_cli.specs.Runnings.{IsTwinReport, report_text, twin_outcome, twin_report_text}
+use Rattle.ebc_cli.specs.Pairings.{images_of, IsPairTwinReport, notify_fault, pair_twin_text, pair_world_of, with_script}
 use Rattle.ebc_cli.specs.Inferrings.{inferred_reply}
 use Rattle.ebc_cli.specs.Samplings.{built_line}
 use Rattle.ebc_cli.specs.Works.{work_of, IsReplyOf, plain_code_limit}
@@ -160,6 +168,30 @@ pub record TwinsImage (words : List (List ℕ)) (files : Files) (image : Image) 
   pub within : steps ≤ step_limit
   pub has_files : HasRunFiles files image_name notes_name script_name image notes script
 
+-- the folder has files of these names, within their limits, that stand for a driver of a pair: its script has no notifications
+pub record HasDriver (files : Files) (names : DriverFiles) (driver : ReadDriver) : Type 0 where
+  pub has_files : HasRunFiles files names.image names.notes names.script driver.image driver.notes driver.script
+  pub unnotified : driver.script.notify ≡ []
+
+-- the words are `pair IMAGE NOTES SCRIPT IMAGE2 NOTES2 SCRIPT2 BINDS STEPS` with these names and this number of steps, which is at most
+-- 100,000
+pub record NamesPair (words : List (List ℕ)) (a b : DriverFiles) (binds_name : List ℕ) (steps : ℕ) : Type 0 where
+  pub command : command_of words ≡ Some (Pair a b binds_name (decimal steps))
+  pub within : steps ≤ pair_step_limit
+
+-- so they are, and the folder has files that stand for both drivers, and a text of binds within its limit that stands for these binds
+-- under the notes of both
+pub record PairsImages (words : List (List ℕ)) (files : Files) (a b : ReadDriver) (binds : List Bind) (steps : ℕ) : Type 0 where
+  pub a_names : DriverFiles
+  pub b_names : DriverFiles
+  pub binds_name : List ℕ
+  pub text : List ℕ
+  pub names : NamesPair words a_names b_names binds_name steps
+  pub has_a : HasDriver files a_names a
+  pub has_b : HasDriver files b_names b
+  pub binds_file : HasFile files binds_name binds_limit text
+  pub binds_are : binds_of a.notes b.notes text ≡ Ok binds
+
 -- the words are `sample N` with this number, which is at most 4,096, and so from 1 on
 pub record NamesSample (words : List (List ℕ)) (n : ℕ) : Type 0 where
   pub command : command_of words ≡ Some (Sample (decimal n))
@@ -258,51 +290,63 @@ pub record Takes (words : List (List ℕ)) (files : Files) (name bytes : List �
   pub source : TakesFrom words files rom_name name number rom images
   pub taken_are : bytes_taken rom images number ≡ Ok bytes
 
--- the words are `run WIDTH IMAGE NOTES SCRIPT STEPS` or `twin IMAGE NOTES SCRIPT STEPS` with at most 10,000,000 steps, so that the turn
--- of files comes, which have these names; the image is that word, and the others those behind it
-pub data NamesRun (words : List (List ℕ)) (word : ℕ) (image_name notes_name script_name : List ℕ) : Type 0 where
+-- the words are `pair IMAGE NOTES SCRIPT IMAGE2 NOTES2 SCRIPT2 BINDS STEPS` with at most 100,000 steps, and the turn of the files of a
+-- driver comes, which have these names: of image A, or, where the folder has those of image A, of image B; the image is that word, and
+-- the others those behind it
+pub data NamesDriver (words : List (List ℕ)) (files : Files) (word : ℕ) (names : DriverFiles) : Type 0 where
+  to_a : (b : DriverFiles) (binds_name : List ℕ) (steps : ℕ) → word ≡ 1 → NamesPair words names b binds_name steps
+      → NamesDriver words files word names
+  to_b : (a : DriverFiles) (driver : ReadDriver) (binds_name : List ℕ) (steps : ℕ) → word ≡ 4 → NamesPair words a names binds_name steps
+      → HasDriver files a driver → NamesDriver words files word names
+
+-- the words are `run WIDTH IMAGE NOTES SCRIPT STEPS` or `twin IMAGE NOTES SCRIPT STEPS` with at most 10,000,000 steps, or `pair` as above,
+-- so that the turn of files comes, which have these names; the image is that word, and the others those behind it
+pub data NamesRun (words : List (List ℕ)) (files : Files) (word : ℕ) (image_name notes_name script_name : List ℕ) : Type 0 where
   to_run : (width : Width) (steps : ℕ) → word ≡ 2 → steps ≤ step_limit
       → command_of words ≡ Some (Run width image_name notes_name script_name (decimal steps))
-      → NamesRun words word image_name notes_name script_name
+      → NamesRun words files word image_name notes_name script_name
   to_twin : (steps : ℕ) → word ≡ 1 → steps ≤ step_limit
       → command_of words ≡ Some (Twin image_name notes_name script_name (decimal steps))
-      → NamesRun words word image_name notes_name script_name
+      → NamesRun words files word image_name notes_name script_name
+  to_pair : NamesDriver words files word (record { image = image_name; notes = notes_name; script = script_name })
+      → NamesRun words files word image_name notes_name script_name
 
--- the words are `check IMAGE NOTES`, `infer IMAGE NOTES`, `list IMAGE`, `rom wrap VENDOR DEVICE IMAGE ROM`, or `run` or `twin` as above,
--- and the image has this name, which is that word
-pub data NamesImage (words : List (List ℕ)) (word : ℕ) (name : List ℕ) : Type 0 where
-  to_check : (notes_name : List ℕ) → word ≡ 1 → command_of words ≡ Some (CheckImage name notes_name) → NamesImage words word name
-  to_list : word ≡ 1 → command_of words ≡ Some (ListImage name) → NamesImage words word name
+-- the words are `check IMAGE NOTES`, `infer IMAGE NOTES`, `list IMAGE`, `rom wrap VENDOR DEVICE IMAGE ROM`, or `run`, `twin` or `pair` as
+-- above, and the image has this name, which is that word
+pub data NamesImage (words : List (List ℕ)) (files : Files) (word : ℕ) (name : List ℕ) : Type 0 where
+  to_check : (notes_name : List ℕ) → word ≡ 1 → command_of words ≡ Some (CheckImage name notes_name) → NamesImage words files word name
+  to_list : word ≡ 1 → command_of words ≡ Some (ListImage name) → NamesImage words files word name
   to_wrap : (vendor device : ℕ) (rom_name : List ℕ) → word ≡ 4 → command_of words ≡ Some (WrapRom vendor device name rom_name)
-      → NamesImage words word name
-  to_infer : (notes_name : List ℕ) → word ≡ 1 → command_of words ≡ Some (InferPoints name notes_name) → NamesImage words word name
-  to_run_on : (notes_name script_name : List ℕ) → NamesRun words word name notes_name script_name → NamesImage words word name
+      → NamesImage words files word name
+  to_infer : (notes_name : List ℕ) → word ≡ 1 → command_of words ≡ Some (InferPoints name notes_name) → NamesImage words files word name
+  to_run_on : (notes_name script_name : List ℕ) → NamesRun words files word name notes_name script_name
+      → NamesImage words files word name
 
 -- the image's file is no image: its first fault has this number
 pub record HasBadImage (words : List (List ℕ)) (files : Files) (word fault : ℕ) : Type 0 where
   pub name : List ℕ
   pub bytes : List ℕ
-  pub command : NamesImage words word name
+  pub command : NamesImage words files word name
   pub image_file : HasFile files name image_limit bytes
   pub kind : ImageFault
   pub offset : ℕ
   pub no_image : image_of bytes ≡ Err (kind, offset)
   pub number : fault ≡ image_fault_number kind
 
--- the words are `check IMAGE NOTES` or `infer IMAGE NOTES`, or `run` or `twin` as above; the image has the first of these names and the
--- notes the second, which is that word
-pub data NamesNotes (words : List (List ℕ)) (word : ℕ) (image_name name : List ℕ) : Type 0 where
-  to_check_under : word ≡ 2 → command_of words ≡ Some (CheckImage image_name name) → NamesNotes words word image_name name
-  to_infer_under : word ≡ 2 → command_of words ≡ Some (InferPoints image_name name) → NamesNotes words word image_name name
-  to_run_under : (image_word : ℕ) (script_name : List ℕ) → word ≡ image_word + 1 → NamesRun words image_word image_name name script_name
-      → NamesNotes words word image_name name
+-- the words are `check IMAGE NOTES` or `infer IMAGE NOTES`, or `run`, `twin` or `pair` as above; the image has the first of these names
+-- and the notes the second, which is that word
+pub data NamesNotes (words : List (List ℕ)) (files : Files) (word : ℕ) (image_name name : List ℕ) : Type 0 where
+  to_check_under : word ≡ 2 → command_of words ≡ Some (CheckImage image_name name) → NamesNotes words files word image_name name
+  to_infer_under : word ≡ 2 → command_of words ≡ Some (InferPoints image_name name) → NamesNotes words files word image_name name
+  to_run_under : (image_word : ℕ) (script_name : List ℕ) → word ≡ image_word + 1
+      → NamesRun words files image_word image_name name script_name → NamesNotes words files word image_name name
 
 -- the notes have this name, which is that word, and the image's file, within its limit, is an image: so their turn comes
 pub record ComesToNotes (words : List (List ℕ)) (files : Files) (word : ℕ) (name : List ℕ) : Type 0 where
   pub image_name : List ℕ
   pub bytes : List ℕ
   pub image : Image
-  pub command : NamesNotes words word image_name name
+  pub command : NamesNotes words files word image_name name
   pub image_file : HasFile files image_name image_limit bytes
   pub image_is : image_of bytes ≡ Ok image
 
@@ -326,7 +370,7 @@ pub record ComesToScript (words : List (List ℕ)) (files : Files) (word : ℕ) 
   pub text : List ℕ
   pub image : Image
   pub word_is : word ≡ image_word + 2
-  pub command : NamesRun words image_word image_name notes_name name
+  pub command : NamesRun words files image_word image_name notes_name name
   pub image_file : HasFile files image_name image_limit bytes
   pub notes_file : HasFile files notes_name notes_limit text
   pub image_is : image_of bytes ≡ Ok image
@@ -341,6 +385,38 @@ pub record HasBadScript (words : List (List ℕ)) (files : Files) (word fault : 
   pub script_file : HasFile files name script_limit text
   pub found : TomlFault
   pub no_script : script_of notes text ≡ Err found
+  pub number : fault ≡ toml_fault_number found
+
+-- the files of a driver of a pair, in their turn, are within their limits and stand for an image, notes and a script under them that has
+-- notifications; the script is this word
+pub record HasNotifications (words : List (List ℕ)) (files : Files) (word : ℕ) : Type 0 where
+  pub names : DriverFiles
+  pub driver : ReadDriver
+  pub image_word : ℕ
+  pub word_is : word ≡ image_word + 2
+  pub turn : NamesDriver words files image_word names
+  pub has_files : HasRunFiles files names.image names.notes names.script driver.image driver.notes driver.script
+  pub notified : driver.script.notify ≢ []
+
+-- the words are `pair` as above, the folder has the files of both drivers, and the binds have this name: so their turn comes
+pub record ComesToBinds (words : List (List ℕ)) (files : Files) (name : List ℕ) (a b : ReadDriver) : Type 0 where
+  pub a_names : DriverFiles
+  pub b_names : DriverFiles
+  pub steps : ℕ
+  pub names : NamesPair words a_names b_names name steps
+  pub has_a : HasDriver files a_names a
+  pub has_b : HasDriver files b_names b
+
+-- the text under the name of the binds, in its turn, stands for none under the notes of both: its first fault has this number
+pub record HasBadBinds (words : List (List ℕ)) (files : Files) (fault : ℕ) : Type 0 where
+  pub name : List ℕ
+  pub text : List ℕ
+  pub a : ReadDriver
+  pub b : ReadDriver
+  pub turn : ComesToBinds words files name a b
+  pub binds_file : HasFile files name binds_limit text
+  pub found : TomlFault
+  pub no_binds : binds_of a.notes b.notes text ≡ Err found
   pub number : fault ≡ toml_fault_number found
 
 -- the words are `asm SRC OBJ`, and the file of this name, within its limit, is no source of an object: its first line with a
@@ -438,6 +514,8 @@ pub data HasBadInput (words : List (List ℕ)) (files : Files) (word fault : ℕ
   bad_image : HasBadImage words files word fault → HasBadInput words files word fault
   bad_notes : HasBadNotes words files word fault → HasBadInput words files word fault
   bad_script : HasBadScript words files word fault → HasBadInput words files word fault
+  bad_notifications : fault ≡ toml_fault_number notify_fault → HasNotifications words files word → HasBadInput words files word fault
+  bad_binds : word ≡ 7 → HasBadBinds words files fault → HasBadInput words files word fault
   bad_source : word ≡ 1 → HasBadSource words files fault → HasBadInput words files word fault
   bad_plan : (name : List ℕ) (found : TomlFault) → word ≡ 1 → fault ≡ toml_fault_number found → HasBadPlan words files name found
       → HasBadInput words files word fault
@@ -454,9 +532,11 @@ pub data HasBadInput (words : List (List ℕ)) (files : Files) (word fault : ℕ
 -- the turn of the file of this word comes, by its name and its limit
 pub data HasTurn (words : List (List ℕ)) (files : Files) (word : ℕ) (name : List ℕ) (limit : ℕ) : Type 0 where
   code_turn : word ≡ 1 → limit ≡ plain_code_limit → command_of words ≡ Some (CheckCode name) → HasTurn words files word name limit
-  image_turn : limit ≡ image_limit → NamesImage words word name → HasTurn words files word name limit
+  image_turn : limit ≡ image_limit → NamesImage words files word name → HasTurn words files word name limit
   notes_turn : limit ≡ notes_limit → ComesToNotes words files word name → HasTurn words files word name limit
   script_turn : (notes : Notes) → limit ≡ script_limit → ComesToScript words files word name notes → HasTurn words files word name limit
+  binds_turn : (a b : ReadDriver) → word ≡ 7 → limit ≡ binds_limit → ComesToBinds words files name a b
+      → HasTurn words files word name limit
   source_turn : (object_name : List ℕ) → word ≡ 1 → limit ≡ source_limit → command_of words ≡ Some (Assemble name object_name)
       → HasTurn words files word name limit
   plan_turn : (image_name : List ℕ) → word ≡ 1 → limit ≡ plan_limit → command_of words ≡ Some (Link name image_name)
@@ -481,7 +561,8 @@ pub record HasLargeFile (words : List (List ℕ)) (files : Files) (word : ℕ) :
   pub past : limit < length bytes
 
 -- the words have a number, which is this word, has these digits and may be so large: NUMBER of `rom take ROM NUMBER IMAGE`, STEPS of
--- `run WIDTH IMAGE NOTES SCRIPT STEPS` or `twin IMAGE NOTES SCRIPT STEPS`, or N of `sample N`
+-- `run WIDTH IMAGE NOTES SCRIPT STEPS`, `twin IMAGE NOTES SCRIPT STEPS` or
+-- `pair IMAGE NOTES SCRIPT IMAGE2 NOTES2 SCRIPT2 BINDS STEPS`, or N of `sample N`
 pub data NamesNumber (words : List (List ℕ)) (word : ℕ) (digits : List ℕ) (limit : ℕ) : Type 0 where
   image_number : (rom_name image_name : List ℕ) → word ≡ 3 → limit ≡ rom_number_limit
       → command_of words ≡ Some (TakeRom rom_name digits image_name) → NamesNumber words word digits limit
@@ -489,6 +570,8 @@ pub data NamesNumber (words : List (List ℕ)) (word : ℕ) (digits : List ℕ) 
       → command_of words ≡ Some (Run width image_name notes_name script_name digits) → NamesNumber words word digits limit
   twin_steps : (image_name notes_name script_name : List ℕ) → word ≡ 4 → limit ≡ step_limit
       → command_of words ≡ Some (Twin image_name notes_name script_name digits) → NamesNumber words word digits limit
+  pair_steps : (a b : DriverFiles) (binds_name : List ℕ) → word ≡ 8 → limit ≡ pair_step_limit
+      → command_of words ≡ Some (Pair a b binds_name digits) → NamesNumber words word digits limit
   sample_functions : word ≡ 1 → limit ≡ sample_limit → command_of words ≡ Some (Sample digits) → NamesNumber words word digits limit
 
 -- the words have a number, which is this word and is past its limit
@@ -528,6 +611,16 @@ SameForScripts image notes =
     → IsPlacement 4 (world_of image notes script) P → IsPlacement 8 (world_of image notes script) Q
     → AreSameAfter (world_of image notes script) image P Q k
 
+-- A pair is the same at both widths: for all texts that stand for scripts under the notes of the two, all valid placements and every number
+-- of steps, the runs at 4 and at 8 bytes an address are the same, and have raised nothing but a division by zero.
+abbrev pub SamePairForScripts : (a b : ReadDriver) → List Bind → Type 0
+SamePairForScripts a b binds =
+    (a_text b_text : List ℕ) (x y : Script) (P Q : Both Placement) (k : ℕ) → script_of a.notes a_text ≡ Ok x
+    → script_of b.notes b_text ≡ Ok y
+    → ArePlaced 4 (pair_world_of (with_script a x) (with_script b y) binds) P
+    → ArePlaced 8 (pair_world_of (with_script a x) (with_script b y) binds) Q
+    → SamePairAfter (images_of a b) (pair_world_of (with_script a x) (with_script b y) binds) P Q k
+
 -- ---- what runs show
 
 -- what was printed is the text of a report of the run at a width, up to a number of steps
@@ -545,6 +638,15 @@ pub record ShowsTwin (image : Image) (notes : Notes) (script : Script) (steps : 
   pub least : report.differ ≡ differ
   pub same : outcome ≡ twin_outcome differ
   pub text : now ≡ printed (twin_report_text notes report) before
+
+-- So they are of the runs of a pair at both widths.
+pub record ShowsPair (a b : ReadDriver) (binds : List Bind) (steps : ℕ) (differ : Option ℕ) (outcome : Outcome)
+    (before now : Option (List ℕ)) : Type 0 where
+  pub report : PairReport
+  pub shown : IsPairTwinReport a b binds steps report
+  pub least : report.differ ≡ differ
+  pub same : outcome ≡ twin_outcome differ
+  pub text : now ≡ printed (pair_twin_text a.notes b.notes report) before
 
 -- what was printed is the line of a sample, of the verdict on its image under its notes and of a report of its runs at both widths, each up
 -- to 10,000,000 steps

@@ -2,7 +2,8 @@
 use Rattle.std.specs.Prelude.{ℕ, List, [], ◌∷◌, codes, bytes_eq, if◌then◌else◌, ◌&&◌, Option, Some, None}
 use Rattle.ebc_cli.specs.declared.command.Command.{Command}
 use Rattle.ebc_cli.specs.declared.command.Command.TheVariants.{Assemble, CheckCode, CheckImage, InferPoints, Link, ListImage, ListRom, Run}
-use Rattle.ebc_cli.specs.declared.command.Command.TheVariants.{Sample, TakeRom, Twin, WrapRom}
+use Rattle.ebc_cli.specs.declared.command.Command.TheVariants.{Pair, Sample, TakeRom, Twin, WrapRom}
+use Rattle.ebc_cli.specs.declared.command.DriverFiles.{DriverFiles}
 use Rattle.ebc_cli.specs.declared.width.Width.{Width}
 use Rattle.ebc_cli.specs.Numbers.{identifier_of, is_count, is_number, width_of}
 
@@ -18,7 +19,7 @@ of_two_files make (b ∷ bytes) [] = None
 of_two_files make (b ∷ bytes) (c ∷ others) = Some (make (b ∷ bytes) (c ∷ others))
 
 -- three words, of which none is empty, name three files
-abbrev pub of_three_files : (List ℕ → List ℕ → List ℕ → Command) → List ℕ → List ℕ → List ℕ → Option Command
+abbrev pub of_three_files : {A : Type 0} → (List ℕ → List ℕ → List ℕ → A) → List ℕ → List ℕ → List ℕ → Option A
 of_three_files make [] two three = None
 of_three_files make (b ∷ bytes) [] three = None
 of_three_files make (b ∷ bytes) (c ∷ others) [] = None
@@ -48,6 +49,16 @@ abbrev pub wrapping_of : Option ℕ → Option ℕ → List ℕ → List ℕ →
 wrapping_of (Some vendor) (Some device) image rom = of_two_files (WrapRom vendor device) image rom
 wrapping_of vendor device image rom = None
 
+-- the image, the notes and the script of a driver
+unfoldable pub driver_of : List ℕ → List ℕ → List ℕ → Option DriverFiles
+driver_of image notes script =
+    of_three_files (λ image notes script. record { image = image; notes = notes; script = script }) image notes script
+
+-- `pair IMAGE NOTES SCRIPT IMAGE2 NOTES2 SCRIPT2 BINDS STEPS`, and so is the number of steps here
+abbrev pub pairing_of : Option DriverFiles → Option DriverFiles → List ℕ → List ℕ → Option Command
+pairing_of (Some a) (Some b) binds steps = if is_number steps then of_file (λ binds. Pair a b binds steps) binds else None
+pairing_of a b binds steps = None
+
 -- the command of five words
 unfoldable pub of_five_words : List ℕ → List ℕ → List ℕ → List ℕ → List ℕ → Option Command
 of_five_words word one two three four =
@@ -62,6 +73,11 @@ of_six_words word one two three four five =
     else if bytes_eq word (codes "rom") && bytes_eq one (codes "wrap")
     then wrapping_of (identifier_of two) (identifier_of three) four five
     else None
+
+-- the command of nine words: its name, two drivers, of three words each, and two words more
+abbrev pub of_nine_words : List ℕ → (a b : Option DriverFiles) → List (List ℕ) → Option Command
+of_nine_words word a b (binds ∷ steps ∷ []) = if bytes_eq word (codes "pair") then pairing_of a b binds steps else None
+of_nine_words word a b others = None
 
 -- the command of the words, where they are one: its name, and then a word for each number and each file
 abbrev pub command_of : List (List ℕ) → Option Command
@@ -79,6 +95,8 @@ command_of (word ∷ one ∷ two ∷ []) =
     else None
 command_of (word ∷ one ∷ two ∷ three ∷ four ∷ []) = of_five_words word one two three four
 command_of (word ∷ one ∷ two ∷ three ∷ four ∷ five ∷ []) = of_six_words word one two three four five
+command_of (word ∷ one ∷ two ∷ three ∷ four ∷ five ∷ six ∷ others) =
+    of_nine_words word (driver_of one two three) (driver_of four five six) others
 command_of words = None
 
 -- the name under which a command writes a file, if it writes one

@@ -1,10 +1,11 @@
--- Meaning: the notes, scripts, sources, link plans, objects and option ROMs that files hold, or the reply to the first fault:
+-- Meaning: the notes, scripts, binds, sources, link plans, objects and option ROMs that files hold, or the reply to the first fault:
 -- docs/COMMANDS.md, "The answer".
 use Rattle.std.specs.Prelude.{ℕ, ◌-◌, List, length, Result, slice_get}
 use Rattle.std.specs.Option.{option_map_or}
 use Rattle.std.specs.Fmt.{decimal}
 use Rattle.asm_text.specs.Faults.{asm_fault_number}
 use Rattle.asm_text.specs.declared.fault.AsmFault.{AsmFault}
+use Rattle.bind_texts.specs.BindTexts.{binds_of}
 use Rattle.ebc_asm.specs.Sources.{object_of}
 use Rattle.ebc_base.specs.Steps.{or_else}
 use Rattle.ebc_link.specs.Links.{Fault, links}
@@ -24,6 +25,7 @@ use Rattle.option_rom.specs.declared.image.RomImage.{RomImage}
 use Rattle.option_rom.specs.Images.{end_of}
 use Rattle.option_rom.specs.Roms.{rom_of}
 use Rattle.option_rom.specs.Takes.{bytes_taken}
+use Rattle.pair_model.specs.declared.bind.Bind.{Bind}
 use Rattle.pe_image.specs.declared.image.Image.{Image}
 use Rattle.protocol_script.specs.Scripts.{script_of}
 use Rattle.type_notes.specs.Notes.{notes_of}
@@ -43,6 +45,10 @@ notes_limit = 1048576
 -- how many bytes a script may have: 1 MiB
 abbrev pub script_limit : ℕ
 script_limit = 1048576
+
+-- how many bytes a text of binds may have: 1 MiB
+abbrev pub binds_limit : ℕ
+binds_limit = 1048576
 
 -- how many bytes a source may have: 1 MiB
 abbrev pub source_limit : ℕ
@@ -68,13 +74,18 @@ rom_number_limit = 65535
 abbrev pub step_limit : ℕ
 step_limit = 10000000
 
+-- how many steps the run of a pair may be asked for
+abbrev pub pair_step_limit : ℕ
+pair_step_limit = 100000
+
 -- how many functions a sample may have
 abbrev pub sample_limit : ℕ
 sample_limit = 4096
 
 -- ---- faults
 
--- a text that stands for no notes, or for no script under them; the fault is told by the path of its key
+-- a text that stands for no notes, for no script under them or for no binds under the notes of two images; the fault is told by the path of
+-- its key
 abbrev pub bad_notes_reply : ℕ → List ℕ → TomlFault → Reply
 bad_notes_reply word name fault = bad_reply word name (toml_fault_number fault) (toml_fault_text fault) (key_path fault)
 
@@ -116,6 +127,9 @@ notes_meaning word name text = or_reply (bad_notes_reply word name) (notes_of te
 
 abbrev pub script_meaning : Notes → ℕ → List ℕ → List ℕ → Result Script Reply
 script_meaning notes word name text = or_reply (bad_notes_reply word name) (script_of notes text)
+
+abbrev pub binds_meaning : (a b : Notes) → ℕ → List ℕ → List ℕ → Result (List Bind) Reply
+binds_meaning a b word name text = or_reply (bad_notes_reply word name) (binds_of a b text)
 
 abbrev pub source_meaning : ℕ → List ℕ → List ℕ → Result Object Reply
 source_meaning word name text = or_reply (bad_source_reply word name) (object_of text)

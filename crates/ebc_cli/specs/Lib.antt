@@ -6,7 +6,9 @@ pub mod Commands
 pub mod Inputs
 pub mod Linkings
 pub mod Runnings
+pub mod Pairings
 pub mod Inferrings
 pub mod Samplings
 pub mod Works
+pub mod Reads
 pub mod Answers

@@ -47,4 +47,5 @@ abbrev pub usage_line : List ℕ
 usage_line =
     codes "usage: asm SRC OBJ | link PLAN IMAGE | check CODE | check IMAGE NOTES | list IMAGE"
     ++ (codes " | run WIDTH IMAGE NOTES SCRIPT STEPS | twin IMAGE NOTES SCRIPT STEPS | sample N"
-    ++ codes " | rom wrap VENDOR DEVICE IMAGE ROM | rom list ROM | rom take ROM NUMBER IMAGE | infer IMAGE NOTES\n")
+    ++ (codes " | rom wrap VENDOR DEVICE IMAGE ROM | rom list ROM | rom take ROM NUMBER IMAGE | infer IMAGE NOTES"
+    ++ codes " | pair IMAGE NOTES SCRIPT IMAGE2 NOTES2 SCRIPT2 BINDS STEPS\n"))

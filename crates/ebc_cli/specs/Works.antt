@@ -9,6 +9,8 @@ use Rattle.note_types.specs.declared.rule.RuleName.{RuleName}
 use Rattle.note_types.specs.Records.{IsNotes}
 use Rattle.host_model.specs.Scripts.{IsScript}
 use Rattle.option_rom.specs.Files.{rom_bytes}
+use Rattle.pair_model.specs.Binds.{AllAgree}
+use Rattle.pair_model.specs.declared.bind.Bind.{Bind}
 use Rattle.pe_image.specs.Files.{file_of}
 use Rattle.pe_image.specs.Linked.{IsLinked}
 use Rattle.pe_image.specs.declared.image.Image.{Image}
@@ -22,6 +24,8 @@ use Rattle.width_checker.specs.Verdicts.{IsRefused}
 use Rattle.cli_base.specs.declared.outcome.Outcome.TheVariants as outcomes
 use Rattle.ebc_cli.specs.declared.command.Command.{Command}
 use Rattle.ebc_cli.specs.declared.command.Command.TheVariants as commands
+use Rattle.ebc_cli.specs.declared.command.DriverFiles.{DriverFiles}
+use Rattle.ebc_cli.specs.declared.pairing.ReadDriver.{ReadDriver}
 use Rattle.cli_base.specs.declared.reply.Reply.{Reply}
 use Rattle.ebc_cli.specs.declared.work.Work.{Work}
 use Rattle.ebc_cli.specs.declared.work.Work.TheVariants as works
@@ -30,12 +34,14 @@ use Rattle.ebc_cli.specs.Commands.{command_of}
 use Rattle.ebc_cli.specs.Inputs.{input, input_with_bytes, notes_limit, notes_meaning, source_limit}
 use Rattle.cli_base.specs.Inputs.{IsReadImage, image_limit, image_meaning}
 use Rattle.ebc_cli.specs.Inputs.{source_meaning}
-use Rattle.ebc_cli.specs.Inputs.{number_meaning, rom_limit, rom_meaning, rom_number_limit, sample_limit, step_limit, taking_meaning}
+use Rattle.ebc_cli.specs.Inputs.{number_meaning, pair_step_limit, rom_limit, rom_meaning, rom_number_limit, sample_limit, step_limit}
+use Rattle.ebc_cli.specs.Inputs.{taking_meaning}
 use Rattle.ebc_cli.specs.Inferrings.{TellsInferred}
 use Rattle.ebc_cli.specs.Linkings.{linked_image}
 use Rattle.cli_base.specs.Outputs.{prints, writes}
 use Rattle.cli_base.specs.Readings.{FileReading, done, ◌>>=◌, file, told}
 use Rattle.ebc_cli.specs.Numbers.{address_bytes}
+use Rattle.ebc_cli.specs.Pairings.{pair_files, TellsPair}
 use Rattle.ebc_cli.specs.RomTexts.{rom_listing}
 use Rattle.ebc_cli.specs.Runnings.{run_files, TellsRun, TellsTwin}
 use Rattle.ebc_cli.specs.Samplings.{IsBuilt, TellsSample, sample_of}
@@ -101,6 +107,13 @@ twinning image_name notes_name script_name digits files = do
   read ← run_files 1 image_name notes_name script_name files
   done (works.Twin read.0 read.1 read.2 steps)
 
+-- `pair IMAGE NOTES SCRIPT IMAGE2 NOTES2 SCRIPT2 BINDS STEPS`, and so here
+unfoldable pub pairing : (a b : DriverFiles) → List ℕ → List ℕ → Files → FileReading Work
+pairing a b binds_name digits files = do
+  steps ← told (number_meaning pair_step_limit 8 digits)
+  read ← pair_files a b binds_name files
+  done (works.Pair read.0 read.1 read.2 steps)
+
 -- `sample N`: the texts of the sample are no files
 unfoldable pub sampling : List ℕ → FileReading Work
 sampling digits = do
@@ -148,6 +161,7 @@ work_for (Some (commands.Assemble source object)) files = assembly source object
 work_for (Some (commands.Link plan image)) files = linking plan image files
 work_for (Some (commands.Run width image notes script steps)) files = running width image notes script steps files
 work_for (Some (commands.Twin image notes script steps)) files = twinning image notes script steps files
+work_for (Some (commands.Pair a b binds steps)) files = pairing a b binds steps files
 work_for (Some (commands.Sample functions)) files = sampling functions
 work_for (Some (commands.WrapRom vendor device image rom)) files = rom_wrapping vendor device image rom files
 work_for (Some (commands.ListRom rom)) files = rom_images rom files
@@ -160,9 +174,21 @@ work_of words files = work_for (command_of words) files
 
 -- ---- what is replied
 
+-- a driver of a pair: its image, its notes and its script under them
+pub record IsRead (d : ReadDriver) : Type 0 where
+  pub image : IsReadImage d.image
+  pub notes : IsNotes d.notes
+  pub script : IsScript d.notes d.script
+
+-- what was read for a pair: both drivers, and binds that agree with the notes of both
+pub record IsReadPair (a b : ReadDriver) (binds : List Bind) : Type 0 where
+  pub a_read : IsRead a
+  pub b_read : IsRead b
+  pub agree : AllAgree a.notes b.notes binds
+
 -- code that was read is within its limit, what was read as an image is one, what was read as notes are notes, what was read as a script
--- is one under them, and so are those of a sample, what a source stands for is an object, what objects are linked to is in the linker's
--- layout, and the file that goes into an option ROM is within the limit of images
+-- is one under them, and so are those of a sample and of a pair, what a source stands for is an object, what objects are linked to is in
+-- the linker's layout, and the file that goes into an option ROM is within the limit of images
 abbrev pub CanBeDone : Work → Type 0
 CanBeDone (works.CheckCode code) = length code ≤ plain_code_limit
 CanBeDone (works.CheckImage image notes) = IsReadImage image × IsNotes notes
@@ -171,6 +197,7 @@ CanBeDone (works.WriteObject name object) = IsObject object
 CanBeDone (works.WriteImage name image) = IsLinked image
 CanBeDone (works.Run width image notes script steps) = IsReadImage image × IsNotes notes × IsScript notes script
 CanBeDone (works.Twin image notes script steps) = IsReadImage image × IsNotes notes × IsScript notes script
+CanBeDone (works.Pair a b binds steps) = IsReadPair a b binds
 CanBeDone (works.Sample sample) = IsBuilt sample
 CanBeDone (works.WriteRom name vendor device subsystem image) = length image ≤ image_limit
 CanBeDone (works.ListRom images) = Unit {0}
@@ -214,6 +241,7 @@ IsReplyTo (works.WriteObject name object) reply = reply ≡ file_reply name (obj
 IsReplyTo (works.WriteImage name image) reply = reply ≡ file_reply name (file_of image)
 IsReplyTo (works.Run width image notes script steps) reply = TellsRun (address_bytes width) image notes script steps reply
 IsReplyTo (works.Twin image notes script steps) reply = TellsTwin image notes script steps reply
+IsReplyTo (works.Pair a b binds steps) reply = TellsPair a b binds steps reply
 IsReplyTo (works.Sample sample) reply = TellsSample sample reply
 IsReplyTo (works.WriteRom name vendor device subsystem image) reply = reply ≡ file_reply name (rom_bytes vendor device subsystem image)
 IsReplyTo (works.ListRom images) reply = reply ≡ listing_reply (rom_listing images)

@@ -22,6 +22,8 @@ ghost use Rattle.option_rom.specs.declared.fault.RomFault.{RomFault};
 ghost use Rattle.option_rom.specs.declared.fault.TakeFault.{TakeFault};
 ghost use Rattle.option_rom.specs.declared.image.RomImage.{RomImage};
 ghost use Rattle.option_rom.specs.Files.{rom_bytes};
+ghost use Rattle.pair_host.specs.PairDiffers.{PairsDifferAt};
+ghost use Rattle.pair_model.specs.declared.bind.Bind.{Bind};
 ghost use Rattle.pe_image.specs.Files.{file_of};
 ghost use Rattle.pe_image.specs.declared.image.Image.{Image};
 ghost use Rattle.ebc_disasm.specs.Listings.{listing_of};
@@ -32,7 +34,10 @@ ghost use Rattle.width_checker.specs.Typed.{Typed};
 ghost use Rattle.width_checker.specs.Verdicts.{IsRefused};
 ghost use Rattle.ebc_cli.specs.Answers.{Answers, AnswersWords, Assembles, Decides, LeavesPart, ChecksCode, ChecksImage, ListsImage, HasBadInput, HasBadLine, HasMissingFile, HasNoText, SameForScripts};
 ghost use Rattle.ebc_cli.specs.Answers.{BuildsSample, InfersPoints, RunsImage, ShowsInferred, ShowsRun, ShowsSample, ShowsTwin, TwinsImage};
+ghost use Rattle.ebc_cli.specs.Answers.{PairsImages, SamePairForScripts, ShowsPair};
 ghost use Rattle.ebc_cli.specs.Numbers.{address_bytes};
+ghost use Rattle.ebc_cli.specs.Pairings.{images_of, pair_world_of};
+ghost use Rattle.ebc_cli.specs.declared.pairing.ReadDriver.{ReadDriver};
 ghost use Rattle.ebc_cli.specs.declared.sampling.BuiltSample.{BuiltSample};
 ghost use Rattle.ebc_cli.specs.declared.width.Width.{Width};
 ghost use Rattle.ebc_cli.specs.Answers.{Links, Wraps, ListsRom, Takes, HasBadLink, HasBadRom, HasBadTaking, IsTooLarge};
@@ -121,6 +126,26 @@ pub fn ebc<F: Folder, O: Sink>(
         TwinsImage (word_bytes words.now) files image notes script steps → Typed image notes → IsAnswer result →
         (result ≡ Outcome.Done) × ShowsTwin image notes script steps None result (O.written out.old) (O.written out.new)) }
 
+    // `pair IMAGE NOTES SCRIPT IMAGE2 NOTES2 SCRIPT2 BINDS STEPS` runs image B, the second, and then image A, whose calls of bound methods
+    // enter functions of B, at both widths, and what is printed is exactly what both runs show, as with `twin`. Where both images are typed
+    // under their notes the two runs are the same; and so are those with all other scripts, for all valid placements and every number of
+    // steps, and no exception is raised but a division by zero.
+    ensures pairs_exactly { IfSome (F.contents folder.old) (λ files. (a b : ReadDriver) (binds : List Bind) (steps : ℕ) →
+        PairsImages (word_bytes words.now) files a b binds steps → IsAnswer result →
+        (differ : Option ℕ) × ShowsPair a b binds steps differ result (O.written out.old) (O.written out.new)) }
+    ensures pair_same_exactly { IfSome (F.contents folder.old) (λ files. (a b : ReadDriver) (binds : List Bind) (steps : ℕ) →
+        PairsImages (word_bytes words.now) files a b binds steps →
+        IsAnswer result → result ≡ Outcome.Done ↔ PairsDifferAt (images_of a b) (pair_world_of a b binds) steps None) }
+    ensures pair_differ_exactly { IfSome (F.contents folder.old) (λ files. (a b : ReadDriver) (binds : List Bind) (steps step : ℕ) →
+        PairsImages (word_bytes words.now) files a b binds steps →
+        IsAnswer result → result ≡ Outcome.Differ step ↔ PairsDifferAt (images_of a b) (pair_world_of a b binds) steps (Some step)) }
+    ensures pair_same { IfSome (F.contents folder.old) (λ files. (a b : ReadDriver) (binds : List Bind) (steps : ℕ) →
+        PairsImages (word_bytes words.now) files a b binds steps → Typed a.image a.notes → Typed b.image b.notes → IsAnswer result →
+        (result ≡ Outcome.Done) × ShowsPair a b binds steps None result (O.written out.old) (O.written out.new)) }
+    ensures pair_alike { IfSome (F.contents folder.old) (λ files. (a b : ReadDriver) (binds : List Bind) (steps : ℕ) →
+        PairsImages (word_bytes words.now) files a b binds steps → Typed a.image a.notes → Typed b.image b.notes →
+        IsAnswer result → SamePairForScripts a b binds) }
+
     // `sample N` builds the sample of N functions, 1 to 4,096, by its texts, where these have no fault, and what is printed is exactly its
     // line: the verdict on its image, and what its runs at both widths show.
     ensures samples_always { IfSome (F.contents folder.old) (λ files. (sample : BuiltSample) →
@@ -203,9 +228,10 @@ pub fn ebc<F: Folder, O: Sink>(
         result ≡ Outcome.Refused place rule ↔ ((state : Option State) × IsInferred image notes (Stuck place rule state))) }
 
     // A file is missing exactly where it is the first, in its turn, that isn't there. A number is too large exactly where it is past
-    // its limit, a file where it is the first past its own, and an image where it has more leaders than notes may have points. A file is bad input exactly where it is the first that stands for no
-    // image, no notes, no script, no object, no link plan or no option ROM, or has no image to take, by its first fault; or a plan by which objects
-    // aren't linked; or where a text of a sample is so.
+    // its limit, a file where it is the first past its own, and an image where it has more leaders than notes may have points. A file is
+    // bad input exactly where it is the first that stands for no image, no notes, no script, no binds, no object, no link plan or no option
+    // ROM, or has no image to take, by its first fault; or a script of a pair with notifications; or a plan by which objects aren't
+    // linked; or where a text of a sample is so.
     ensures missing_exactly { IfSome (F.contents folder.old) (λ files. (word : ℕ) →
         IsAnswer result → result ≡ Outcome.Missing word ↔ HasMissingFile (word_bytes words.now) files word) }
     ensures too_large_exactly { IfSome (F.contents folder.old) (λ files. (word : ℕ) →

@@ -1,6 +1,6 @@
 //! The commands that words spell.
-ghost use Rattle.std.specs.Prelude.{◌≡◌, [], ◌∷◌, string_bytes, IfOk};
-ghost use Rattle.ebc_cli.specs.Commands.{command_of, of_five_words, of_six_words, running_of, sampling_of, taking_of, twinning_of, wrapping_of};
+ghost use Rattle.std.specs.Prelude.{◌≡◌, [], ◌∷◌, map, string_bytes, IfOk};
+ghost use Rattle.ebc_cli.specs.Commands.{command_of, driver_of, of_five_words, of_nine_words, of_six_words, pairing_of, running_of, sampling_of, taking_of, twinning_of, wrapping_of};
 ghost use Rattle.ebc_cli.specs.Numbers.{identifier_of, width_of};
 ghost use Rattle.cli_base.specs.Words.{word_bytes};
 
@@ -8,6 +8,14 @@ use crate::number::{identifier_of, is_count, is_number};
 use crate::width::{Width, width_of};
 use ebc_base::Name;
 use std::alloc::{AllocError, Global};
+
+/// The files of a driver.
+#[derive(Drop)]
+pub struct DriverFiles {
+    pub image: Name,
+    pub notes: Name,
+    pub script: Name,
+}
 
 /// What the words ask for.
 #[derive(Drop)]
@@ -51,6 +59,14 @@ pub enum Command {
         script: Name,
         steps: Name,
     },
+    /// `pair IMAGE NOTES SCRIPT IMAGE2 NOTES2 SCRIPT2 BINDS STEPS`: the runs, at both widths, of image A and image B on one host, where the
+    /// calls of bound methods of A enter functions of B. The number of steps is in decimal digits, whatever its size.
+    Pair {
+        a: DriverFiles,
+        b: DriverFiles,
+        binds: Name,
+        steps: Name,
+    },
     /// `sample N`: a sample of so many functions, which is assembled, linked, checked and run. The number is in decimal digits, whatever
     /// its size.
     Sample {
@@ -91,6 +107,11 @@ pub fn command_of(alloc: Global, words: &Vec<String>) -> Result<Option<Command>,
         [word, one, two, three, four] => of_five_words(alloc, word, one, two, three, four),
         [word, one, two, three, four, five] => {
             of_six_words(alloc, word, one, two, three, four, five)
+        }
+        [word, one, two, three, four, five, six, others @ ..] => {
+            let a = driver_of(alloc, one, two, three)?;
+            let b = driver_of(alloc, four, five, six)?;
+            of_nine_words(alloc, word, a, b, others)
         }
         _ => Ok(None),
     }
@@ -198,6 +219,29 @@ fn of_six_words(
     Ok(None)
 }
 
+fn of_nine_words(
+    alloc: Global,
+    word: &String,
+    a: Option<DriverFiles>,
+    b: Option<DriverFiles>,
+    others: &[String],
+) -> Result<Option<Command>, AllocError>
+    ensures { IfOk result (λ command. command ≡ of_nine_words (string_bytes word.now) a b (map string_bytes others.now)) }
+{
+    // Each number of words has an arm, since what they are is then computed.
+    match others {
+        [binds, steps] => {
+            if word.as_str() == "pair" {
+                return pairing(alloc, a, b, binds, steps);
+            }
+            Ok(None)
+        }
+        [] => Ok(None),
+        [_one] => Ok(None),
+        [_one, _two, _three, _more @ ..] => Ok(None),
+    }
+}
+
 fn running(
     alloc: Global,
     width: &String,
@@ -247,6 +291,49 @@ fn twinning(
         image: Name::new(String::from_str(alloc, image.as_str())?),
         notes: Name::new(String::from_str(alloc, notes.as_str())?),
         script: Name::new(String::from_str(alloc, script.as_str())?),
+        steps: Name::new(String::from_str(alloc, steps.as_str())?),
+    }))
+}
+
+// The files of a driver, where none of the words is empty.
+#[tactic(auto, unfolding(crate::specs::Commands::driver_of))]
+fn driver_of(
+    alloc: Global,
+    image: &String,
+    notes: &String,
+    script: &String,
+) -> Result<Option<DriverFiles>, AllocError>
+    ensures { IfOk result (λ files. files ≡ driver_of (string_bytes image.now) (string_bytes notes.now) (string_bytes script.now)) }
+{
+    if image.len() == 0 || notes.len() == 0 || script.len() == 0 {
+        return Ok(None);
+    }
+    Ok(Some(DriverFiles {
+        image: Name::new(String::from_str(alloc, image.as_str())?),
+        notes: Name::new(String::from_str(alloc, notes.as_str())?),
+        script: Name::new(String::from_str(alloc, script.as_str())?),
+    }))
+}
+
+fn pairing(
+    alloc: Global,
+    a: Option<DriverFiles>,
+    b: Option<DriverFiles>,
+    binds: &String,
+    steps: &String,
+) -> Result<Option<Command>, AllocError>
+    ensures { IfOk result (λ command. command ≡ pairing_of a b (string_bytes binds.now) (string_bytes steps.now)) }
+{
+    let (Some(a), Some(b)) = (a, b) else {
+        return Ok(None);
+    };
+    if !is_number(steps.as_str()) || binds.len() == 0 {
+        return Ok(None);
+    }
+    Ok(Some(Command::Pair {
+        a,
+        b,
+        binds: Name::new(String::from_str(alloc, binds.as_str())?),
         steps: Name::new(String::from_str(alloc, steps.as_str())?),
     }))
 }

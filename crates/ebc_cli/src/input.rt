@@ -2,14 +2,14 @@
 ghost use Rattle.std.specs.Prelude.{◌≡◌, ◌≤◌, ℕ, List, None, Result, All, IfSome, IfOk, IsErrOf, Ok, length};
 ghost use Rattle.ebc_link.specs.Plans.{IsPlan};
 ghost use Rattle.ebc_object.specs.Objects.{IsObject};
-ghost use Rattle.ebc_outside.specs.Counts.{Rose};
 ghost use Rattle.note_types.specs.Records.{IsNotes};
 ghost use Rattle.option_rom.specs.Takes.{IsTakeable};
 ghost use Rattle.ebc_cli.specs.Inputs.{input, input_with_bytes, notes_limit, notes_meaning, plan_limit, plan_meaning, rom_limit, rom_meaning, source_limit, source_meaning};
+ghost use Rattle.ebc_cli.specs.Reads.{Reads};
 ghost use Rattle.cli_base.specs.Inputs.{IsReadImage, Means, image_limit, image_meaning};
 ghost use Rattle.cli_base.specs.Outcomes.{IsBadInput};
 ghost use Rattle.cli_base.specs.Outputs.{written_name};
-ghost use Rattle.cli_base.specs.Readings.{Follows, IfStop, CommandAnswer};
+ghost use Rattle.cli_base.specs.Readings.{IfStop};
 ghost use Rattle.cli_base.specs.declared.reply.Reply.{Reply};
 
 use crate::text;
@@ -56,17 +56,8 @@ pub fn read_as<T: Input, F: Folder>(
     word: u8,
     name: &str,
 ) -> Result<T, End>
-    ensures follows { IfSome (F.contents folder.old) (λ files.
-        Follows (F.asked folder.old) (F.asked folder.new) result (input T.LIMIT T.meaning word name.now files)) }
-    ensures stop { IfStop result (CommandAnswer (F.contents folder.old)
-        (F.read_faults folder.old) (F.read_faults folder.new)) }
-    ensures fault { IsErrOf result End.ReadFault →
-        Rose (F.read_faults folder.old) (F.read_faults folder.new) }
-    ensures uncounted { IfSome (F.contents folder.old) (λ _. ¬ IsErrOf result End.ReadFault →
-        F.read_faults folder.new ≡ F.read_faults folder.old) }
-    ensures count { F.read_faults folder.old ≤ F.read_faults folder.new }
-    ensures contents { F.contents folder.new ≡ F.contents folder.old }
-    ensures write_faults { F.write_faults folder.new ≡ F.write_faults folder.old }
+    ensures reads { Reads F.contents F.asked F.read_faults F.write_faults folder.old folder.new result
+        (input T.LIMIT T.meaning word name.now) }
     ensures valid { IfOk result T.IsValid }
 {
     let bytes = file(alloc, folder, word, name, T::LIMIT)?;
@@ -84,16 +75,8 @@ pub fn read_with_bytes<T: Input, F: Folder>(
     word: u8,
     name: &str,
 ) -> Result<(T, Sequence<u8>), End>
-    ensures follows { IfSome (F.contents folder.old) (λ files.
-        Follows (F.asked folder.old) (F.asked folder.new) result (input_with_bytes T.LIMIT T.meaning word name.now files)) }
-    ensures stop { IfStop result (CommandAnswer (F.contents folder.old)
-        (F.read_faults folder.old) (F.read_faults folder.new)) }
-    ensures fault { IsErrOf result End.ReadFault →
-        Rose (F.read_faults folder.old) (F.read_faults folder.new) }
-    ensures uncounted { IfSome (F.contents folder.old) (λ _. ¬ IsErrOf result End.ReadFault →
-        F.read_faults folder.new ≡ F.read_faults folder.old) }
-    ensures contents { F.contents folder.new ≡ F.contents folder.old }
-    ensures write_faults { F.write_faults folder.new ≡ F.write_faults folder.old }
+    ensures reads { Reads F.contents F.asked F.read_faults F.write_faults folder.old folder.new result
+        (input_with_bytes T.LIMIT T.meaning word name.now) }
     ensures meaning { IfOk result (λ read. T.meaning word name.now read.1 ≡ Ok read.0) }
     ensures valid { IfOk result (λ read. T.IsValid read.0) }
     ensures within { IfOk result (λ read. length read.1 ≤ T.LIMIT) }

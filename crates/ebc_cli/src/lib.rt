@@ -13,6 +13,8 @@ mod inferring;
 mod input;
 mod linking;
 mod number;
+mod pairing;
+mod reading;
 mod rom_text;
 mod running;
 mod sampling;

@@ -7,9 +7,10 @@ ghost use Rattle.pe_image.specs.Linked.{IsLinked};
 ghost use Rattle.ebc_cli.specs.Inputs.{input, link_meaning, object_limit, object_meaning};
 ghost use Rattle.cli_base.specs.Inputs.{IsReadImage, Means, bad_reply};
 ghost use Rattle.ebc_cli.specs.Linkings.{each_object, linked_by, linked_image};
+ghost use Rattle.ebc_cli.specs.Reads.{Reads};
 ghost use Rattle.cli_base.specs.Outcomes.{IsBadInput};
 ghost use Rattle.cli_base.specs.Outputs.{written_name};
-ghost use Rattle.cli_base.specs.Readings.{Follows, IfStop, CommandAnswer};
+ghost use Rattle.cli_base.specs.Readings.{CommandAnswer, Follows, IfStop};
 
 use crate::input::read_as;
 use crate::text;
@@ -28,17 +29,8 @@ const OBJECT_LIMIT: u64 = 1048576;
 // The object that a file of this name stands for.
 #[tactic(auto, unfolding(crate::specs::Inputs::input))]
 fn read_object_file<F: Folder>(alloc: Global, name: &str, folder: &mut F) -> Result<Object, End>
-    ensures follows { IfSome (F.contents folder.old) (λ files.
-        Follows (F.asked folder.old) (F.asked folder.new) result (input object_limit object_meaning 1 name.now files)) }
-    ensures stop { IfStop result (CommandAnswer (F.contents folder.old)
-        (F.read_faults folder.old) (F.read_faults folder.new)) }
-    ensures fault { IsErrOf result End.ReadFault →
-        Rose (F.read_faults folder.old) (F.read_faults folder.new) }
-    ensures uncounted { IfSome (F.contents folder.old) (λ _. ¬ IsErrOf result End.ReadFault →
-        F.read_faults folder.new ≡ F.read_faults folder.old) }
-    ensures count { F.read_faults folder.old ≤ F.read_faults folder.new }
-    ensures contents { F.contents folder.new ≡ F.contents folder.old }
-    ensures write_faults { F.write_faults folder.new ≡ F.write_faults folder.old }
+    ensures reads { Reads F.contents F.asked F.read_faults F.write_faults folder.old folder.new result
+        (input object_limit object_meaning 1 name.now) }
     ensures object { IfOk result IsObject }
 {
     let bytes = file(alloc, folder, 1, name, OBJECT_LIMIT)?;
@@ -122,17 +114,8 @@ fn read_objects_of<F: Folder>(
     folder: &mut F,
 ) -> Result<Image, End>
     requires plan { IsPlan plan.now }
-    ensures follows { IfSome (F.contents folder.old) (λ files.
-        Follows (F.asked folder.old) (F.asked folder.new) result (linked_by name.now plan.now files)) }
-    ensures stop { IfStop result (CommandAnswer (F.contents folder.old)
-        (F.read_faults folder.old) (F.read_faults folder.new)) }
-    ensures fault { IsErrOf result End.ReadFault →
-        Rose (F.read_faults folder.old) (F.read_faults folder.new) }
-    ensures uncounted { IfSome (F.contents folder.old) (λ _. ¬ IsErrOf result End.ReadFault →
-        F.read_faults folder.new ≡ F.read_faults folder.old) }
-    ensures count { F.read_faults folder.old ≤ F.read_faults folder.new }
-    ensures contents { F.contents folder.new ≡ F.contents folder.old }
-    ensures write_faults { F.write_faults folder.new ≡ F.write_faults folder.old }
+    ensures reads { Reads F.contents F.asked F.read_faults F.write_faults folder.old folder.new result
+        (linked_by name.now plan.now) }
     ensures layout { IfOk result IsLinked }
 {
     let objects = read_objects(alloc, plan.objects.as_slice(), folder)?;
@@ -142,16 +125,8 @@ fn read_objects_of<F: Folder>(
 /// What the objects of the plan of this name are linked to, read one after the other behind the plan.
 #[tactic(auto, unfolding(crate::specs::Linkings::linked_image))]
 pub fn read_linked<F: Folder>(alloc: Global, name: &str, folder: &mut F) -> Result<Image, End>
-    ensures follows { IfSome (F.contents folder.old) (λ files.
-        Follows (F.asked folder.old) (F.asked folder.new) result (linked_image name.now files)) }
-    ensures stop { IfStop result (CommandAnswer (F.contents folder.old)
-        (F.read_faults folder.old) (F.read_faults folder.new)) }
-    ensures fault { IsErrOf result End.ReadFault →
-        Rose (F.read_faults folder.old) (F.read_faults folder.new) }
-    ensures uncounted { IfSome (F.contents folder.old) (λ _. ¬ IsErrOf result End.ReadFault →
-        F.read_faults folder.new ≡ F.read_faults folder.old) }
-    ensures contents { F.contents folder.new ≡ F.contents folder.old }
-    ensures write_faults { F.write_faults folder.new ≡ F.write_faults folder.old }
+    ensures reads { Reads F.contents F.asked F.read_faults F.write_faults folder.old folder.new result
+        (linked_image name.now) }
     ensures layout { IfOk result IsLinked }
 {
     let plan = read_as::<LinkPlan, F>(alloc, folder, 1, name)?;

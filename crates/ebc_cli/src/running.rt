@@ -1,17 +1,17 @@
 //! What `run` and `twin` read, and what is printed of the runs.
 ghost use Rattle.std.specs.Prelude.{◌≡◌, ◌≤◌, ◌<◌, None, Some, IfSome, IfOk, IsErrOf};
-ghost use Rattle.ebc_outside.specs.Counts.{Rose};
 ghost use Rattle.host_model.specs.Runs.{world_of};
 ghost use Rattle.host_model.specs.Scripts.{IsScript};
 ghost use Rattle.note_types.specs.Records.{IsNotes};
 ghost use Rattle.twin_run.specs.Reported.{IsReport};
 ghost use Rattle.ebc_cli.specs.Inputs.{input, script_limit, script_meaning};
 ghost use Rattle.ebc_cli.specs.Numbers.{address_bytes};
+ghost use Rattle.ebc_cli.specs.Reads.{Reads};
 ghost use Rattle.ebc_cli.specs.Runnings.{TellsRun, TellsTwin, report_text, run_files, twin_outcome, twin_report_text};
 ghost use Rattle.cli_base.specs.Inputs.{IsReadImage, Means};
 ghost use Rattle.cli_base.specs.Outcomes.{IsBadInput, IsWorkAnswer};
 ghost use Rattle.cli_base.specs.Outputs.{written_name};
-ghost use Rattle.cli_base.specs.Readings.{Follows, IfStop, CommandAnswer};
+ghost use Rattle.cli_base.specs.Readings.{IfStop};
 
 use crate::input::read_as;
 use crate::text;
@@ -63,17 +63,8 @@ fn read_script_file<F: Folder>(
     name: &str,
     notes: &Notes,
 ) -> Result<Script, End>
-    ensures follows { IfSome (F.contents folder.old) (λ files.
-        Follows (F.asked folder.old) (F.asked folder.new) result (input script_limit (script_meaning notes.now) word name.now files)) }
-    ensures stop { IfStop result (CommandAnswer (F.contents folder.old)
-        (F.read_faults folder.old) (F.read_faults folder.new)) }
-    ensures fault { IsErrOf result End.ReadFault →
-        Rose (F.read_faults folder.old) (F.read_faults folder.new) }
-    ensures uncounted { IfSome (F.contents folder.old) (λ _. ¬ IsErrOf result End.ReadFault →
-        F.read_faults folder.new ≡ F.read_faults folder.old) }
-    ensures count { F.read_faults folder.old ≤ F.read_faults folder.new }
-    ensures contents { F.contents folder.new ≡ F.contents folder.old }
-    ensures write_faults { F.write_faults folder.new ≡ F.write_faults folder.old }
+    ensures reads { Reads F.contents F.asked F.read_faults F.write_faults folder.old folder.new result
+        (input script_limit (script_meaning notes.now) word name.now) }
     ensures script { IfOk result (IsScript notes.now) }
 {
     let bytes = file(alloc, folder, word, name, SCRIPT_LIMIT)?;
@@ -93,17 +84,9 @@ pub fn read_run<F: Folder>(
     notes: &str,
     script: &str,
 ) -> Result<(Image, Notes, Script), End>
-    requires { word < 3 }
-    ensures follows { IfSome (F.contents folder.old) (λ files.
-        Follows (F.asked folder.old) (F.asked folder.new) result (run_files word image.now notes.now script.now files)) }
-    ensures stop { IfStop result (CommandAnswer (F.contents folder.old)
-        (F.read_faults folder.old) (F.read_faults folder.new)) }
-    ensures fault { IsErrOf result End.ReadFault →
-        Rose (F.read_faults folder.old) (F.read_faults folder.new) }
-    ensures uncounted { IfSome (F.contents folder.old) (λ _. ¬ IsErrOf result End.ReadFault →
-        F.read_faults folder.new ≡ F.read_faults folder.old) }
-    ensures contents { F.contents folder.new ≡ F.contents folder.old }
-    ensures write_faults { F.write_faults folder.new ≡ F.write_faults folder.old }
+    requires { word < 5 }
+    ensures reads { Reads F.contents F.asked F.read_faults F.write_faults folder.old folder.new result
+        (run_files word image.now notes.now script.now) }
     ensures image { IfOk result (λ read. IsReadImage read.0) }
     ensures notes { IfOk result (λ read. IsNotes read.1) }
     ensures script { IfOk result (λ read. IsScript read.1 read.2) }
@@ -189,8 +172,8 @@ fn twin_report_text(alloc: Global, notes: &Notes, report: &TwinReport) -> Result
     twin_text(alloc, notes, &at4, &at8, report.differ)
 }
 
-// How the runs at both widths end.
-fn twin_outcome(differ: Option<u64>) -> Outcome
+/// How the runs at both widths end.
+pub fn twin_outcome(differ: Option<u64>) -> Outcome
     ensures { result ≡ twin_outcome differ }
 {
     match differ {

@@ -1,47 +1,46 @@
 //! The work that words ask for, and the reply to it.
-ghost use Rattle.std.specs.Prelude.{◌≡◌, ◌≢◌, ◌≤◌, All, None, Ok, Some, IfSome, IfOk, IsErrOf};
+ghost use Rattle.std.specs.Prelude.{◌≡◌, ◌≢◌, ◌≤◌, None, Some, IfSome, IfOk, IsErrOf, length};
 ghost use Rattle.ebc_outside.specs.Counts.{Rose};
 ghost use Rattle.note_types.specs.Records.{IsNotes};
-ghost use Rattle.option_rom.specs.Roms.{rom_of};
-ghost use Rattle.option_rom.specs.Takes.{IsTakeable};
+ghost use Rattle.ebc_object.specs.Files.{object_bytes};
+ghost use Rattle.ebc_object.specs.Objects.{IsObject};
+ghost use Rattle.option_rom.specs.Files.{rom_bytes};
+ghost use Rattle.pe_image.specs.Files.{file_of};
+ghost use Rattle.pe_image.specs.Linked.{IsLinked};
+ghost use Rattle.ebc_disasm.specs.Listings.{listing_of};
+ghost use Rattle.plain_check.specs.PlainChecks.{plain_verdict};
 ghost use Rattle.ebc_cli.specs.Answers.{AnswersWords};
 ghost use Rattle.ebc_cli.specs.Commands.{command_of, output_of};
+ghost use Rattle.ebc_cli.specs.Reads.{RepliesTo};
+ghost use Rattle.ebc_cli.specs.RomTexts.{rom_listing};
 ghost use Rattle.cli_base.specs.Words.{word_bytes};
+ghost use Rattle.cli_base.specs.Inputs.{IsReadImage, image_limit};
 ghost use Rattle.cli_base.specs.Outcomes.{IsWorkAnswer};
-ghost use Rattle.cli_base.specs.Readings.{Follows, IfStop, CommandAnswer};
+ghost use Rattle.cli_base.specs.Readings.{Follows, IfStop};
 ghost use Rattle.cli_base.specs.Outputs.{written_name};
-ghost use Rattle.ebc_cli.specs.Inputs.{number_meaning, rom_number_limit, step_limit, taking_meaning};
-ghost use Rattle.cli_base.specs.Inputs.{IsReadImage, Means};
-ghost use Rattle.ebc_cli.specs.Works.{CanBeDone, image_with_notes, IsReplyTo, output_name, rom_taking, rom_taking_of, rom_wrapping, running, sampling, twinning, work_of};
+ghost use Rattle.ebc_cli.specs.Works.{CanBeDone, TellsVerdict, file_reply, listing_reply, output_name, plain_code_limit, verdict_reply, work_of};
 
-use crate::command::{Command, command_of};
+use crate::command::command_of;
 use crate::inferring::infer_reply;
-use crate::input::{read_as, read_with_bytes};
-use crate::linking::read_linked;
+use crate::pairing::{ReadDriver, pair_reply};
+use crate::reading::read_command;
 use crate::rom_text::rom_listing;
-use crate::running::{STEP_LIMIT, read_run, run_reply, twin_reply};
-use crate::sampling::{BuiltSample, SAMPLE_LIMIT, built_sample, sample_reply};
+use crate::running::{run_reply, twin_reply};
+use crate::sampling::{BuiltSample, sample_reply};
 use crate::text;
 use crate::width::Width;
-use cli_base::text::large;
-use cli_base::{End, Reply, file};
+use cli_base::{End, Reply};
 use ebc_base::{Name, NoMemory, Sequence};
 use ebc_disasm::list;
 use ebc_object::{Object, write_object};
 use ebc_outside::Folder;
-use note_texts::number_in;
 use note_types::{Notes, Script};
-use option_rom::{RomImage, RomImages, take, wrap};
+use option_rom::{RomImages, wrap};
+use pair_host::Binds;
 use pe_image::{Image, write_image};
 use std::alloc::Global;
 use twin_run::check;
 use width_checker::check_plain;
-
-/// How many bytes a file of plain code may have.
-const PLAIN_CODE_LIMIT: u64 = 262144;
-
-/// The greatest number by which an image of an option ROM may be asked for.
-const ROM_NUMBER_LIMIT: u64 = 65535;
 
 /// What a command has to do once its files are read.
 #[derive(Drop)]
@@ -84,6 +83,13 @@ pub enum Work {
         script: Script,
         steps: u64,
     },
+    /// The runs of image A and image B on one host, at both widths, for at most so many steps. The binds agree with the notes of both.
+    Pair {
+        a: ReadDriver,
+        b: ReadDriver,
+        binds: Binds,
+        steps: u64,
+    },
     /// The check and the runs of a sample.
     Sample {
         sample: BuiltSample,
@@ -114,7 +120,7 @@ pub enum Work {
 }
 
 /// Reads the files that the words name, and says what the words ask for.
-#[tactic(auto, unfolding(crate::specs::Works::work_of, crate::specs::Works::code_check, crate::specs::Works::image_check, crate::specs::Works::inference, crate::specs::Works::image_listing, crate::specs::Works::assembly, crate::specs::Works::linking, crate::specs::Works::rom_images))]
+#[tactic(auto, unfolding(crate::specs::Works::work_of))]
 pub fn read_work<F: Folder>(alloc: Global, words: &Vec<String>, folder: &mut F) -> Result<Work, End>
     ensures follows { IfSome (F.contents folder.old) (λ files.
         Follows (F.asked folder.old) (F.asked folder.new) result (work_of (word_bytes words.now) files)) }
@@ -132,392 +138,153 @@ pub fn read_work<F: Folder>(alloc: Global, words: &Vec<String>, folder: &mut F) 
 {
     match command_of(alloc, words)? {
         None => Err(End::Stop(text::usage(alloc)?)),
-        Some(Command::CheckCode { code }) => {
-            let code = file(alloc, folder, 1, code.as_str(), PLAIN_CODE_LIMIT)?;
-            Ok(Work::CheckCode { code })
-        }
-        Some(Command::CheckImage { image, notes }) => {
-            let (image, notes) = read_image_with_notes(
-                alloc,
-                image.as_str(),
-                notes.as_str(),
-                folder,
-            )?;
-            Ok(Work::CheckImage { image, notes })
-        }
-        Some(Command::ListImage { image }) => {
-            let image = read_as(alloc, folder, 1, image.as_str())?;
-            Ok(Work::ListImage { image })
-        }
-        Some(
-            Command::Assemble {
-                source,
-                object: name,
-            },
-        ) => {
-            let object = read_as(alloc, folder, 1, source.as_str())?;
-            Ok(Work::WriteObject { name, object })
-        }
-        Some(Command::Link { plan, image: name }) => {
-            let image = read_linked(alloc, plan.as_str(), folder)?;
-            Ok(Work::WriteImage { name, image })
-        }
-        Some(
-            Command::Run {
-                width,
-                image,
-                notes,
-                script,
-                steps,
-            },
-        ) => read_running(
-            alloc,
-            width,
-            image.as_str(),
-            notes.as_str(),
-            script.as_str(),
-            steps.as_str(),
-            folder,
-        ),
-        Some(
-            Command::Twin {
-                image,
-                notes,
-                script,
-                steps,
-            },
-        ) => read_twinning(
-            alloc,
-            image.as_str(),
-            notes.as_str(),
-            script.as_str(),
-            steps.as_str(),
-            folder,
-        ),
-        Some(Command::Sample { functions }) => read_sampling(alloc, functions.as_str(), folder),
-        Some(
-            Command::WrapRom {
-                vendor,
-                device,
-                image,
-                rom,
-            },
-        ) => read_wrapping(alloc, vendor, device, image.as_str(), rom, folder),
-        Some(Command::ListRom { rom }) => {
-            let images = read_as(alloc, folder, 2, rom.as_str())?;
-            Ok(Work::ListRom { images })
-        }
-        Some(Command::TakeRom { rom, number, image }) => {
-            read_taking(alloc, rom.as_str(), number.as_str(), image, folder)
-        }
-        Some(Command::InferPoints { image: name, notes }) => {
-            let (image, notes) = read_image_with_notes(
-                alloc,
-                name.as_str(),
-                notes.as_str(),
-                folder,
-            )?;
-            Ok(Work::InferPoints { name, image, notes })
-        }
+        Some(command) => read_command(alloc, command, folder),
     }
 }
 
-// An image and its notes.
-#[tactic(auto, unfolding(crate::specs::Works::image_with_notes))]
-fn read_image_with_notes<F: Folder>(
-    alloc: Global,
-    image: &str,
-    notes: &str,
-    folder: &mut F,
-) -> Result<(Image, Notes), End>
-    ensures follows { IfSome (F.contents folder.old) (λ files.
-        Follows (F.asked folder.old) (F.asked folder.new) result (image_with_notes image.now notes.now files)) }
-    ensures image { IfOk result (λ read. IsReadImage read.0) }
-    ensures notes { IfOk result (λ read. IsNotes read.1) }
-    ensures stop { IfStop result (CommandAnswer (F.contents folder.old)
-        (F.read_faults folder.old) (F.read_faults folder.new)) }
-    ensures fault { IsErrOf result End.ReadFault →
-        Rose (F.read_faults folder.old) (F.read_faults folder.new) }
-    ensures uncounted { IfSome (F.contents folder.old) (λ _. ¬ IsErrOf result End.ReadFault →
-        F.read_faults folder.new ≡ F.read_faults folder.old) }
-    ensures contents { F.contents folder.new ≡ F.contents folder.old }
-    ensures write_faults { F.write_faults folder.new ≡ F.write_faults folder.old }
+// The answer of the plain check of raw code.
+fn code_reply(alloc: Global, code: Sequence<u8>) -> Result<Reply, NoMemory>
+    requires { length code ≤ plain_code_limit }
+    ensures reply { IfOk result (λ r. r ≡ verdict_reply (plain_verdict code)) }
+    ensures answer { IfOk result (λ r. IsWorkAnswer r.outcome) }
+    ensures output { IfOk result (λ r. written_name r.output ≡ None) }
 {
-    let image = read_as(alloc, folder, 1, image)?;
-    match read_as(alloc, folder, 2, notes) {
-        Ok(notes) => Ok((image, notes)),
-        Err(end) => Err(end),
-    }
+    let verdict = check_plain(alloc, code.as_slice())?;
+    Ok(text::verdict(alloc, verdict)?)
 }
 
-// `run WIDTH IMAGE NOTES SCRIPT STEPS`
-#[tactic(auto, unfolding(crate::specs::Works::running))]
-fn read_running<F: Folder>(
-    alloc: Global,
-    width: Width,
-    image: &str,
-    notes: &str,
-    script: &str,
-    digits: &str,
-    folder: &mut F,
-) -> Result<Work, End>
-    ensures follows { IfSome (F.contents folder.old) (λ files.
-        Follows (F.asked folder.old) (F.asked folder.new) result (running width image.now notes.now script.now digits.now files)) }
-    ensures work { IfOk result CanBeDone }
-    ensures output { IfOk result (λ work. output_name work ≡ None) }
-    ensures stop { IfStop result (CommandAnswer (F.contents folder.old)
-        (F.read_faults folder.old) (F.read_faults folder.new)) }
-    ensures fault { IsErrOf result End.ReadFault →
-        Rose (F.read_faults folder.old) (F.read_faults folder.new) }
-    ensures uncounted { IfSome (F.contents folder.old) (λ _. ¬ IsErrOf result End.ReadFault →
-        F.read_faults folder.new ≡ F.read_faults folder.old) }
-    ensures contents { F.contents folder.new ≡ F.contents folder.old }
-    ensures write_faults { F.write_faults folder.new ≡ F.write_faults folder.old }
+// The answer of the check of an image under notes.
+fn image_reply(alloc: Global, image: &Image, notes: &Notes) -> Result<Reply, NoMemory>
+    requires image { IsReadImage image.now }
+    requires notes { IsNotes notes.now }
+    ensures reply { IfOk result (TellsVerdict image.now notes.now) }
+    ensures answer { IfOk result (λ r. IsWorkAnswer r.outcome) }
+    ensures output { IfOk result (λ r. written_name r.output ≡ None) }
 {
-    let steps = number_of(alloc, STEP_LIMIT, 5, digits)?;
-    let (image, notes, script) = read_run(alloc, folder, 2, image, notes, script)?;
-    Ok(Work::Run {
-        width,
-        image,
-        notes,
-        script,
-        steps,
-    })
+    let verdict = check(alloc, image, notes)?;
+    Ok(text::verdict(alloc, verdict)?)
 }
 
-// `twin IMAGE NOTES SCRIPT STEPS`
-#[tactic(auto, unfolding(crate::specs::Works::twinning))]
-fn read_twinning<F: Folder>(
-    alloc: Global,
-    image: &str,
-    notes: &str,
-    script: &str,
-    digits: &str,
-    folder: &mut F,
-) -> Result<Work, End>
-    ensures follows { IfSome (F.contents folder.old) (λ files.
-        Follows (F.asked folder.old) (F.asked folder.new) result (twinning image.now notes.now script.now digits.now files)) }
-    ensures work { IfOk result CanBeDone }
-    ensures output { IfOk result (λ work. output_name work ≡ None) }
-    ensures stop { IfStop result (CommandAnswer (F.contents folder.old)
-        (F.read_faults folder.old) (F.read_faults folder.new)) }
-    ensures fault { IsErrOf result End.ReadFault →
-        Rose (F.read_faults folder.old) (F.read_faults folder.new) }
-    ensures uncounted { IfSome (F.contents folder.old) (λ _. ¬ IsErrOf result End.ReadFault →
-        F.read_faults folder.new ≡ F.read_faults folder.old) }
-    ensures contents { F.contents folder.new ≡ F.contents folder.old }
-    ensures write_faults { F.write_faults folder.new ≡ F.write_faults folder.old }
+// The listing of an image.
+fn image_listing(alloc: Global, image: Image) -> Result<Reply, NoMemory>
+    requires { IsReadImage image }
+    ensures { IfOk result (λ r. r ≡ listing_reply (listing_of image)) }
 {
-    let steps = number_of(alloc, STEP_LIMIT, 4, digits)?;
-    let (image, notes, script) = read_run(alloc, folder, 1, image, notes, script)?;
-    Ok(Work::Twin {
-        image,
-        notes,
-        script,
-        steps,
-    })
+    let listing = list(alloc, &image)?;
+    Ok(text::listing(listing))
 }
 
-// `rom wrap VENDOR DEVICE IMAGE ROM`
-#[tactic(auto, unfolding(crate::specs::Works::rom_wrapping))]
-fn read_wrapping<F: Folder>(
+// The file of an object, under a name.
+fn object_file(alloc: Global, name: Name, object: Object) -> Result<Reply, NoMemory>
+    requires { IsObject object }
+    ensures { IfOk result (λ r. r ≡ file_reply name (object_bytes object)) }
+{
+    let file = write_object(alloc, &object)?;
+    Ok(text::file(name, file))
+}
+
+// The file of an image, under a name.
+fn image_file(alloc: Global, name: Name, image: Image) -> Result<Reply, NoMemory>
+    requires { IsLinked image }
+    ensures { IfOk result (λ r. r ≡ file_reply name (file_of image)) }
+{
+    let file = write_image(alloc, &image)?;
+    Ok(text::file(name, file))
+}
+
+// The file of an option ROM, under a name, with the file of an image of a subsystem in it.
+fn rom_file(
     alloc: Global,
+    name: Name,
     vendor: u16,
     device: u16,
-    image: &str,
-    rom: Name,
-    folder: &mut F,
-) -> Result<Work, End>
-    ensures follows { IfSome (F.contents folder.old) (λ files.
-        Follows (F.asked folder.old) (F.asked folder.new) result (rom_wrapping vendor device image.now rom files)) }
-    ensures work { IfOk result CanBeDone }
-    ensures output { IfOk result (λ work. output_name work ≡ Some rom) }
-    ensures stop { IfStop result (CommandAnswer (F.contents folder.old)
-        (F.read_faults folder.old) (F.read_faults folder.new)) }
-    ensures fault { IsErrOf result End.ReadFault →
-        Rose (F.read_faults folder.old) (F.read_faults folder.new) }
-    ensures uncounted { IfSome (F.contents folder.old) (λ _. ¬ IsErrOf result End.ReadFault →
-        F.read_faults folder.new ≡ F.read_faults folder.old) }
-    ensures contents { F.contents folder.new ≡ F.contents folder.old }
-    ensures write_faults { F.write_faults folder.new ≡ F.write_faults folder.old }
+    subsystem: u16,
+    image: Sequence<u8>,
+) -> Result<Reply, NoMemory>
+    requires { length image ≤ image_limit }
+    ensures { IfOk result (λ r. r ≡ file_reply name (rom_bytes vendor device subsystem image)) }
 {
-    let (image, bytes) = read_with_bytes::<Image, F>(alloc, folder, 4, image)?;
-    Ok(Work::WriteRom {
-        name: rom,
-        vendor,
-        device,
-        subsystem: image.subsystem,
-        image: bytes,
-    })
+    let file = wrap(alloc, vendor, device, subsystem, image.as_slice())?;
+    Ok(text::file(name, file))
 }
 
-// `sample N`: no file is read.
-#[tactic(auto, unfolding(crate::specs::Works::sampling))]
-fn read_sampling<F: Folder>(alloc: Global, digits: &str, folder: &mut F) -> Result<Work, End>
-    ensures follows { IfSome (F.contents folder.old) (λ files.
-        Follows (F.asked folder.old) (F.asked folder.new) result (sampling digits.now)) }
-    ensures work { IfOk result CanBeDone }
-    ensures output { IfOk result (λ work. output_name work ≡ None) }
-    ensures stop { IfStop result (CommandAnswer (F.contents folder.old)
-        (F.read_faults folder.old) (F.read_faults folder.new)) }
-    ensures fault { IsErrOf result End.ReadFault →
-        Rose (F.read_faults folder.old) (F.read_faults folder.new) }
-    ensures uncounted { IfSome (F.contents folder.old) (λ _. ¬ IsErrOf result End.ReadFault →
-        F.read_faults folder.new ≡ F.read_faults folder.old) }
-    ensures contents { F.contents folder.new ≡ F.contents folder.old }
-    ensures write_faults { F.write_faults folder.new ≡ F.write_faults folder.old }
+// The listing of an option ROM.
+fn images_listing(alloc: Global, images: RomImages) -> Result<Reply, NoMemory>
+    ensures { IfOk result (λ r. r ≡ listing_reply (rom_listing images)) }
 {
-    let functions = number_of(alloc, SAMPLE_LIMIT, 1, digits)?;
-    let sample = built_sample(alloc, functions as u32, digits)?;
-    Ok(Work::Sample { sample })
-}
-
-// The number that a word spells, where it is within a limit, or the answer to a larger one.
-fn number_of(alloc: Global, limit: u64, word: u8, digits: &str) -> Result<u64, End>
-    ensures meaning { Means result (number_meaning limit word digits.now) }
-    ensures within { IfOk result (λ n. n ≤ limit) }
-{
-    match number_in(0, limit, digits.as_bytes()) {
-        Some(number) => Ok(number),
-        None => Err(End::Stop(large(alloc, word, digits)?)),
-    }
-}
-
-// What the image with a number carries, or the answer to the first fault.
-#[tactic(auto, using(crate::proofs::RomLemmas::ends_inside), unfolding(option_rom::specs::Takes::bytes_taken))]
-fn taken(
-    alloc: Global,
-    name: &str,
-    rom: &[u8],
-    images: &[RomImage],
-    number: u32,
-) -> Result<Sequence<u8>, End>
-    requires images { rom_of rom.now ≡ Ok images.now }
-    requires takeable { All IsTakeable images.now }
-    ensures { Means result (taking_meaning 2 name.now rom.now images.now number) }
-{
-    match take(images, number) {
-        Ok((begin, end)) => Ok(Sequence::new(Vec::from_slice(alloc, &rom[begin..end])?)),
-        Err(kind) => Err(End::Stop(text::bad_taking(alloc, 2, name, images, number, kind)?)),
-    }
-}
-
-// `rom take ROM NUMBER IMAGE`, once the number is known.
-#[tactic(auto, unfolding(crate::specs::Works::rom_taking_of))]
-fn read_taking_of<F: Folder>(
-    alloc: Global,
-    rom: &str,
-    number: u32,
-    image: Name,
-    folder: &mut F,
-) -> Result<Work, End>
-    ensures follows { IfSome (F.contents folder.old) (λ files.
-        Follows (F.asked folder.old) (F.asked folder.new) result (rom_taking_of rom.now number image files)) }
-    ensures work { IfOk result CanBeDone }
-    ensures output { IfOk result (λ work. output_name work ≡ Some image) }
-    ensures stop { IfStop result (CommandAnswer (F.contents folder.old)
-        (F.read_faults folder.old) (F.read_faults folder.new)) }
-    ensures fault { IsErrOf result End.ReadFault →
-        Rose (F.read_faults folder.old) (F.read_faults folder.new) }
-    ensures uncounted { IfSome (F.contents folder.old) (λ _. ¬ IsErrOf result End.ReadFault →
-        F.read_faults folder.new ≡ F.read_faults folder.old) }
-    ensures contents { F.contents folder.new ≡ F.contents folder.old }
-    ensures write_faults { F.write_faults folder.new ≡ F.write_faults folder.old }
-{
-    let (images, bytes) = read_with_bytes::<RomImages, F>(alloc, folder, 2, rom)?;
-    let bytes = taken(alloc, rom, bytes.as_slice(), images.as_slice(), number)?;
-    Ok(Work::WriteTaken { name: image, bytes })
-}
-
-// `rom take ROM NUMBER IMAGE`
-#[tactic(auto, unfolding(crate::specs::Works::rom_taking))]
-fn read_taking<F: Folder>(
-    alloc: Global,
-    rom: &str,
-    digits: &str,
-    image: Name,
-    folder: &mut F,
-) -> Result<Work, End>
-    ensures follows { IfSome (F.contents folder.old) (λ files.
-        Follows (F.asked folder.old) (F.asked folder.new) result (rom_taking rom.now digits.now image files)) }
-    ensures work { IfOk result CanBeDone }
-    ensures output { IfOk result (λ work. output_name work ≡ Some image) }
-    ensures stop { IfStop result (CommandAnswer (F.contents folder.old)
-        (F.read_faults folder.old) (F.read_faults folder.new)) }
-    ensures fault { IsErrOf result End.ReadFault →
-        Rose (F.read_faults folder.old) (F.read_faults folder.new) }
-    ensures uncounted { IfSome (F.contents folder.old) (λ _. ¬ IsErrOf result End.ReadFault →
-        F.read_faults folder.new ≡ F.read_faults folder.old) }
-    ensures contents { F.contents folder.new ≡ F.contents folder.old }
-    ensures write_faults { F.write_faults folder.new ≡ F.write_faults folder.old }
-{
-    let number = number_of(alloc, ROM_NUMBER_LIMIT, 3, digits)?;
-    read_taking_of(alloc, rom, number as u32, image, folder)
+    let listing = rom_listing(alloc, images.as_slice())?;
+    Ok(text::listing(listing))
 }
 
 impl Work {
     /// Does the work, with what was read for it.
     pub fn reply(self, alloc: Global) -> Result<Reply, NoMemory>
         requires { CanBeDone self }
-        ensures reply { IfOk result (IsReplyTo self) }
-        ensures answer { IfOk result (λ r. IsWorkAnswer r.outcome) }
-        ensures output { IfOk result (λ r. written_name r.output ≡ output_name self) }
+        ensures { RepliesTo self result }
     {
+        // A value of many parts is dropped by a call: its drop at the end of an arm would be proved part by part.
         match self {
-            Work::CheckCode { code } => {
-                let verdict = check_plain(alloc, code.as_slice())?;
-                Ok(text::verdict(alloc, verdict)?)
-            }
+            Work::CheckCode { code } => code_reply(alloc, code),
             Work::CheckImage { image, notes } => {
-                let verdict = check(alloc, &image, &notes)?;
-                Ok(text::verdict(alloc, verdict)?)
+                let reply = image_reply(alloc, &image, &notes);
+                drop(image);
+                drop(notes);
+                reply
             }
-            Work::ListImage { image } => {
-                let listing = list(alloc, &image)?;
-                Ok(text::listing(listing))
-            }
-            Work::WriteObject { name, object } => {
-                let file = write_object(alloc, &object)?;
-                Ok(text::file(name, file))
-            }
-            Work::WriteImage { name, image } => {
-                let file = write_image(alloc, &image)?;
-                Ok(text::file(name, file))
-            }
+            Work::ListImage { image } => image_listing(alloc, image),
+            Work::WriteObject { name, object } => object_file(alloc, name, object),
+            Work::WriteImage { name, image } => image_file(alloc, name, image),
             Work::Run {
                 width,
                 image,
                 notes,
                 script,
                 steps,
-            } => run_reply(alloc, width, &image, &notes, &script, steps),
+            } => {
+                let reply = run_reply(alloc, width, &image, &notes, &script, steps);
+                drop(image);
+                drop(notes);
+                drop(script);
+                reply
+            }
             Work::Twin {
                 image,
                 notes,
                 script,
                 steps,
-            } => twin_reply(alloc, &image, &notes, &script, steps),
-            Work::Sample { sample } => sample_reply(alloc, &sample),
+            } => {
+                let reply = twin_reply(alloc, &image, &notes, &script, steps);
+                drop(image);
+                drop(notes);
+                drop(script);
+                reply
+            }
+            Work::Pair { a, b, binds, steps } => {
+                let reply = pair_reply(alloc, &a, &b, &binds, steps);
+                drop(a);
+                drop(b);
+                drop(binds);
+                reply
+            }
+            Work::Sample { sample } => {
+                let reply = sample_reply(alloc, &sample);
+                drop(sample);
+                reply
+            }
             Work::WriteRom {
                 name,
                 vendor,
                 device,
                 subsystem,
                 image,
-            } => {
-                let file = wrap(alloc, vendor, device, subsystem, image.as_slice())?;
-                Ok(text::file(name, file))
-            }
-            Work::ListRom { images } => {
-                let listing = rom_listing(alloc, images.as_slice())?;
-                Ok(text::listing(listing))
-            }
-            Work::WriteTaken { name, bytes } => {
-                let file = Vec::from_slice(alloc, bytes.as_slice())?;
-                Ok(text::file(name, file))
-            }
+            } => rom_file(alloc, name, vendor, device, subsystem, image),
+            Work::ListRom { images } => images_listing(alloc, images),
+            Work::WriteTaken { name, bytes } => Ok(text::file(name, bytes.into_vec())),
             Work::InferPoints { name, image, notes } => {
-                infer_reply(alloc, name.as_str(), &image, &notes)
+                let reply = infer_reply(alloc, name.as_str(), &image, &notes);
+                drop(image);
+                drop(notes);
+                reply
             }
         }
     }

@@ -1,4 +1,4 @@
--- For proofs: where two runs of a pair part: the least number of steps after which they aren't the same. docs/PAIRS.md, "Runs".
+-- Meaning: where two runs of a pair part: the least number of steps after which they aren't the same. docs/PAIRS.md, "Runs".
 use Rattle.std.specs.Prelude.{ℕ, ◌<◌, ◌≤◌, Option, Some, None}
 use Rattle.pair_model.specs.PairReports.{own_placements}
 use Rattle.pair_model.specs.PairRuns.{SamePair}

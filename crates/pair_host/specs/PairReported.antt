@@ -1,4 +1,4 @@
--- For proofs: what a run of two images shows: so many steps, until it ends or up to a limit, and where the side that runs then stands,
+-- Meaning: what a run of two images shows: so many steps, until it ends or up to a limit, and where the side that runs then stands,
 -- the events of both and how the run ended. docs/PAIRS.md, "Runs".
 use Rattle.std.specs.Prelude.{◌≡◌, ◌≢◌, ◌⊎◌, ℕ, ◌<◌, ◌≤◌}
 use Rattle.host_model.specs.RunState.{RunState}

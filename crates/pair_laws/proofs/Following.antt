@@ -18,7 +18,8 @@ use Rattle.note_types.specs.declared.ending.Ending.{Ending}
 use Rattle.note_types.specs.declared.ending.Ending.TheVariants as ending
 use Rattle.note_types.specs.declared.event.Event.TheVariants as event
 use Rattle.pair_laws.specs.Laws.{IsPairAt, PairStands, SideGoesWell, StageGoesWell}
-use Rattle.pair_laws.specs.PairLaw.{ArePlaced, PairFollows, PairsAreSame, PairsFollow, SamePairAfter, TypedPair, TypedSide}
+use Rattle.pair_laws.specs.PairLaw.{PairFollows, PairsAreSame, PairsFollow, TypedPair, TypedSide}
+use Rattle.pair_laws.specs.SamePairs.{ArePlaced, SamePairAfter}
 use Rattle.pair_model.specs.PairRuns.{pair_run, pair_spot, side_spot}
 use Rattle.pair_model.specs.Pairs.{Both, PairWorld, Side, OfA, OfB, Stage, ProviderRuns, CallerRuns, CallTaken, CallRuns, CallReturned}
 use Rattle.pair_model.specs.Pairs.{PairState, SideOf, running_side}

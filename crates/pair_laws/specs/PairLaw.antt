@@ -2,15 +2,16 @@
 -- same. docs/PAIRS.md, "Laws".
 use Rattle.std.specs.Prelude.{◌≡◌, ℕ, Option, Some}
 use Rattle.ebc_width.specs.Width.{IsWidth}
-use Rattle.host_model.specs.Placements.{IsPlacement, Placement}
+use Rattle.host_model.specs.Placements.{Placement}
 use Rattle.host_model.specs.World.{World}
 use Rattle.invariant_laws.specs.Laws.{states_by}
 use Rattle.neutral_machine.specs.Config.{Config}
 use Rattle.neutral_pair.specs.NeutralPair.{neutral_pair_run}
 use Rattle.note_types.specs.declared.state.State.{State}
 use Rattle.pair_laws.specs.Laws.{PairStands}
+use Rattle.pair_laws.specs.SamePairs.{ArePlaced, SamePairAfter}
 use Rattle.pair_model.specs.Binds.{AllAgree}
-use Rattle.pair_model.specs.PairRuns.{pair_run, SamePair}
+use Rattle.pair_model.specs.PairRuns.{pair_run}
 use Rattle.pair_model.specs.Pairs.{Both, PairWorld, PairState}
 use Rattle.pe_image.specs.declared.image.Image.{Image}
 use Rattle.step_sound.specs.PlaceStates.{StatesHold}
@@ -29,11 +30,6 @@ pub record TypedPair (images : Both Image) (world : PairWorld) (sa sb : States) 
   pub b : TypedSide images.b world.b sb
   pub binds : AllAgree world.a.notes world.b.notes world.binds
 
--- valid placements of both images at a width
-pub record ArePlaced (w : ℕ) (world : PairWorld) (P : Both Placement) : Type 0 where
-  pub a : IsPlacement w world.a P.a
-  pub b : IsPlacement w world.b P.b
-
 -- After so many steps the neutral pair isn't stuck, the run of the pair at a width stands for it, and it raised nothing but a division
 -- by zero.
 pub record PairFollows (w : ℕ) (images : Both Image) (world : PairWorld) (P : Both Placement) (k : ℕ) : Type 0 where
@@ -48,13 +44,7 @@ PairsFollow =
     (w : ℕ) (images : Both Image) (world : PairWorld) (a b : (func place : ℕ) → Option State) (P : Both Placement) (k : ℕ)
     → IsWidth w → TypedPair images world (states_by a) (states_by b) → ArePlaced w world P → PairFollows w images world P k
 
--- The runs after so many steps, at 4 bytes an address under placements and at 8 under others: they are the same, and raised nothing but
--- a division by zero. As they are the same, both raised it.
-pub record SamePairAfter (images : Both Image) (world : PairWorld) (P Q : Both Placement) (k : ℕ) : Type 0 where
-  pub same : SamePair world P (pair_run 4 world P images k) Q (pair_run 8 world Q images k)
-  pub raised : RaisesOnlyDivideError (pair_run 4 world P images k).ending
-
--- So they are for all valid placements and every number of steps.
+-- So the runs of the pair are the same for all valid placements and every number of steps.
 abbrev pub PairsAreSame : Type 0
 PairsAreSame =
     (images : Both Image) (world : PairWorld) (a b : (func place : ℕ) → Option State) (P Q : Both Placement) (k : ℕ)

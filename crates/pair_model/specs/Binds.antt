@@ -1,4 +1,4 @@
--- For proofs: which function of image B answers which method of image A, and when a bind agrees with the notes of both.
+-- Meaning: which function of image B answers which method of image A, and when a bind agrees with the notes of both.
 -- docs/PAIRS.md, "Binds".
 use Rattle.std.specs.Prelude.{◌≡◌, ℕ, Bool, true, false, ◌&&◌, List, length, Option, Some, None, nat_eq, nat_le, if◌then◌else◌, slice_get}
 use Rattle.std.specs.List.{list_all, find, zip}

@@ -1,4 +1,4 @@
--- For proofs: what a run of two images shows: which side runs, where it stands, the events, and how the run ended.
+-- Meaning: what a run of two images shows: which side runs, where it stands, the events, and how the run ended.
 -- docs/PAIRS.md, "Runs".
 use Rattle.std.specs.Prelude.{ℕ, List}
 use Rattle.host_model.specs.Placements.{Placement, own_placement}

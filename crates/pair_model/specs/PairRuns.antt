@@ -1,4 +1,4 @@
--- For proofs: the run of two images on one host at a width of w bytes, where each image has a memory, a native area, a stack and
+-- Meaning: the run of two images on one host at a width of w bytes, where each image has a memory, a native area, a stack and
 -- frames for itself; and when two such runs are the same. docs/PAIRS.md, "Runs".
 use Rattle.std.specs.Prelude.{◌≡◌, ℕ, zero, suc, Option, Some, None}
 use Rattle.std.specs.Option.{option_map_or}

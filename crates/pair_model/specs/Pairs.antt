@@ -1,4 +1,4 @@
--- For proofs: the state of two images on one host, whatever the state of one image's run is: that of a run at a width, or a
+-- Meaning: the state of two images on one host, whatever the state of one image's run is: that of a run at a width, or a
 -- configuration of the neutral machine. And what the rules of a pair use of a side. docs/PAIRS.md, "The state".
 use Rattle.std.specs.Prelude.{ℕ, List, Option}
 use Rattle.host_model.specs.HostPlans.{View, Plan}

@@ -1,4 +1,4 @@
--- For proofs: the six rules by which two images on one host take a step, said once for whatever the state of a side is.
+-- Meaning: the six rules by which two images on one host take a step, said once for whatever the state of a side is.
 -- docs/PAIRS.md, "The rules".
 use Rattle.std.specs.Prelude.{ℕ, suc, true, List, [], ◌∷◌, ◌++◌, map, length, drop, Option, Some, None, nat_lt}
 use Rattle.std.specs.Prelude.{if◌then◌else◌}

@@ -1,2 +1,3 @@
 mod HexLaws
 mod Rows
+mod PairRows

@@ -19,7 +19,7 @@ use Rattle.script_draft.specs.Printed.{named_value, value_text}
 use Rattle.run_texts.specs.RunTexts.{arguments_text, end_line, ending_text, event_line, place_text, run_text, twin_text, wild_text}
 
 -- functions and signatures of these names
-abbrev function : List ℕ → FnNote
+abbrev pub function : List ℕ → FnNote
 function name = record {
   name = name;
   place = 0;
@@ -32,10 +32,10 @@ function name = record {
   enter = false;
 }
 
-abbrev signature : List ℕ → Signature
+abbrev pub signature : List ℕ → Signature
 signature name = record { name = name; method = 0; params = []; result = None }
 
-abbrev notes : Notes
+abbrev pub notes : Notes
 notes = record {
   version = 1;
   entry = 0;
@@ -55,7 +55,7 @@ given v = record { lent = false; value = v }
 abbrev lent : Value → Seen
 lent v = record { lent = true; value = v }
 
-abbrev one : Value → List Seen
+abbrev pub one : Value → List Seen
 one v = given v ∷ []
 
 -- ---- the driver's run

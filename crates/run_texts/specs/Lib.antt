@@ -1,1 +1,2 @@
+pub mod PairTexts
 pub mod RunTexts

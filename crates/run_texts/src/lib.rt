@@ -1,5 +1,5 @@
-//! What is printed of a run: a line for each event, and one for its end; and of a run at both widths. docs/COMMANDS.md lists
-//! the lines.
+//! What is printed of a run, of one image or of two on one host: a line for each event, and one for its end; and of a run at both
+//! widths. docs/COMMANDS.md lists the lines.
 //!
 //! The definitions that the contracts cite stand in specs/.
 #![tactic(auto)]
@@ -7,9 +7,11 @@
 mod ending;
 mod event;
 mod number;
+mod pair;
 mod run;
 mod value;
 
 pub use event::append_event;
 pub use number::Place;
+pub use pair::{ShownPair, pair_text};
 pub use run::{ShownRun, append_end, differ_line, run_text, twin_text};

@@ -3,7 +3,8 @@ use Rattle.std.proofs.Common.{ℕ, refl, inl, inr}
 use Rattle.ebc_width.specs.Width.{IsWidth}
 use Rattle.host_model.specs.World.{World}
 use Rattle.pair_laws.proofs.Following.{pair_is_same}
-use Rattle.pair_laws.specs.PairLaw.{ArePlaced, TypedPair, TypedSide}
+use Rattle.pair_laws.specs.PairLaw.{TypedPair, TypedSide}
+use Rattle.pair_laws.specs.SamePairs.{ArePlaced}
 use Rattle.pair_model.specs.PairReports.{own_placements}
 use Rattle.pair_model.specs.Pairs.{Both, PairWorld}
 use Rattle.pe_image.specs.declared.image.Image.{Image}

@@ -2,7 +2,7 @@
 -- widths. docs/PAIRS.md, "Laws".
 use Rattle.std.specs.Prelude.{ℕ}
 use Rattle.host_model.specs.Placements.{Placement}
-use Rattle.pair_laws.specs.PairLaw.{ArePlaced, SamePairAfter}
+use Rattle.pair_laws.specs.SamePairs.{ArePlaced, SamePairAfter}
 use Rattle.pair_model.specs.Binds.{AllAgree}
 use Rattle.pair_model.specs.PairReports.{own_placements}
 use Rattle.pair_model.specs.Pairs.{Both, PairWorld}

@@ -6,6 +6,7 @@ use Rattle.ebc_cli.proofs.HeadlineLemmas.{lists-rom-always, lists-rom-exactly, t
 use Rattle.ebc_cli.proofs.HeadlineLemmas.{bad-input, missing, too-large, neutral-printed, refused-printed, plain-alike, plain-exactly}
 use Rattle.ebc_cli.proofs.HeadlineLemmas.{plain-refused, plain-neutral-printed, plain-refused-printed, unput, untold}
 use Rattle.ebc_cli.proofs.InferAnswers.{infers-exactly, points-exactly, points-typed, stuck-exactly}
+use Rattle.ebc_cli.proofs.PairAnswers.{pair-alike, pair-differ-exactly, pair-same, pair-same-exactly, pairs-exactly}
 use Rattle.ebc_cli.proofs.RunAnswers.{runs-always, runs-exactly, twins-exactly, same-exactly, differ-exactly, twin-same}
 use Rattle.ebc_cli.proofs.SampleAnswers.{samples-always, samples-exactly}
 use Rattle.cli_base.proofs.OutputLemmas.{but-output, writes-none}
@@ -175,3 +176,18 @@ returns-clause-unput g c = unput _ _ _ _ _ _ (tells g c) c.finish.ensures.unput
 
 pub returns-clause-untold : goal.returns-clause-untold
 returns-clause-untold g c = untold _ _ _ _ (tells g c) (rw c.decide.ensures.write_faults at c.finish.ensures.untold)
+
+pub returns-clause-pairs_exactly : goal.returns-clause-pairs_exactly
+returns-clause-pairs_exactly g c = pairs-exactly _ _ _ _ _ _ (tells g c) c.finish.ensures.text
+
+pub returns-clause-pair_same_exactly : goal.returns-clause-pair_same_exactly
+returns-clause-pair_same_exactly g c = pair-same-exactly _ _ _ _ (tells g c)
+
+pub returns-clause-pair_differ_exactly : goal.returns-clause-pair_differ_exactly
+returns-clause-pair_differ_exactly g c = pair-differ-exactly _ _ _ _ (tells g c)
+
+pub returns-clause-pair_same : goal.returns-clause-pair_same
+returns-clause-pair_same g c = pair-same _ _ _ _ _ _ (tells g c) c.finish.ensures.text
+
+pub returns-clause-pair_alike : goal.returns-clause-pair_alike
+returns-clause-pair_alike g c = pair-alike _ _ _ _ (tells g c)

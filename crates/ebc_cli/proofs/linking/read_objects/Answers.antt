@@ -8,24 +8,24 @@ returns-in_err-object-clause-follows g c =
     let p = err_from_is_err_and c.from_residual.result c.from_residual.ensures.1 in
     rw (p.1, p.2) (one-ends _ _ c.args.names.now c.loop-name.name-index c.name-item.result c.as_str.result.now _ _ _
     c.loop-name.objects.items c.in_err-object.field-0.0 (omega arith) c.name-item.is c.as_str.ensures c.loop-name.invariant.contents
-    c.loop-name.invariant.read c.in_err-object.ensures.follows)
+    c.loop-name.invariant.read c.in_err-object.ensures.reads.follows)
 
 pub returns-in_err-push-clause-follows : goal.returns-in_err-push-clause-follows
 returns-in_err-push-clause-follows g c =
     let p = err_from_is_err_and c.from_residual-in_err-push.result c.from_residual-in_err-push.ensures.1 in
     rw (p.1, p.2) (none-kept _ _ c.args.names.now c.loop-name.name-index c.name-item.result c.as_str.result.now c.in_ok-object.object
     _ _ _ c.loop-name.objects.items (omega arith) c.name-item.is c.as_str.ensures c.loop-name.invariant.contents
-    c.loop-name.invariant.read c.in_ok-object.ensures.follows)
+    c.loop-name.invariant.read c.in_ok-object.ensures.reads.follows)
 
 pub loop-name-preserved : goal.loop-name-preserved
 loop-name-preserved g c =
-    let read = c.in_ok-object.ensures in
+    let read = c.in_ok-object.ensures.reads in
     let before = c.loop-name.invariant in
     let more = one-more c.loop-name.objects.items c.push.new.self.items c.in_ok-object.object c.loop-name.name-index before.objects
-    read.object before.many c.in_ok-push.ensures.items in
+    c.in_ok-object.ensures.object before.many c.in_ok-push.ensures.items in
     record {
-      contents = read.contents ∙ before.contents;
-      write_faults = read.write_faults ∙ before.write_faults;
+      contents = read.same_files ∙ before.contents;
+      write_faults = read.same_writes ∙ before.write_faults;
       risen = let one = before.risen in let two = read.count in omega (arith, one, two);
       uncounted = still-uncounted _ _ _ _ _ before.contents before.uncounted read.uncounted (λ e. cc);
       read = more-read _ _ c.args.names.now c.loop-name.name-index c.name-item.result c.as_str.result.now c.in_ok-object.object _ _ _

@@ -1,14 +1,34 @@
+use Rattle.std.proofs.Common.{◌+◌}
 use Rattle.std.proofs.lemmas.Result.{err_from_is_err_and}
-use Rattle.ebc_cli.proofs.RunReadings.{run-notes-end, run-script-ends}
+use Rattle.cli_base.specs.Readings.{◌>>=◌, done}
+use Rattle.ebc_cli.specs.Inputs.{input, notes_limit, notes_meaning, script_limit, script_meaning}
+use Rattle.ebc_cli.specs.Runnings.{run_files}
+use Rattle.ebc_cli.proofs.ReadsLaws.{reads-ended, reads-made, reads-then}
 use Rattle.ebc_cli.proofs.running.read_run.Goals as goal
 
-pub returns-in_err-notes-clause-follows : goal.returns-in_err-notes-clause-follows
-returns-in_err-notes-clause-follows g c =
+pub returns-in_err-notes-clause-reads : goal.returns-in_err-notes-clause-reads
+unfolding run_files
+returns-in_err-notes-clause-reads g c =
     let p = err_from_is_err_and c.from_residual-in_err-notes.result c.from_residual-in_err-notes.ensures.1 in
-    rw (p.1, p.2) (run-notes-end _ _ _ _ _ c.args.word _ _ _ c.in_ok-image.image _ c.read_as.ensures.contents c.in_ok-image.ensures.follows
-    c.in_err-notes.ensures.follows)
+    rw (p.1, p.2) (reads-then _ _ _ _ _ _ _ c.in_ok-image.image _ _ _ c.in_ok-image.ensures.reads
+    (reads-ended _ _ _ _ _ _ _ (λ files. input notes_limit notes_meaning (c.args.word + 1) c.args.notes.now files)
+    (λ files notes. input script_limit (script_meaning notes) (c.args.word + 2) c.args.script.now files
+    >>= (λ script. done (c.in_ok-image.image, notes, script))) c.in_err-notes.ensures.reads))
 
-pub returns-in-Err-clause-follows : goal.returns-in-Err-clause-follows
-returns-in-Err-clause-follows g c =
-    run-script-ends _ _ _ _ _ _ _ c.args.word _ _ _ c.in_ok-image.image c.in_ok-notes.notes c.in-Err.end c.read_as.ensures.contents
-    c.read_as-2.ensures.contents c.in_ok-image.ensures.follows c.in_ok-notes.ensures.follows c.in-Err.ensures.follows
+pub returns-in-Err-clause-reads : goal.returns-in-Err-clause-reads
+unfolding run_files
+returns-in-Err-clause-reads g c =
+    reads-then _ _ _ _ _ _ _ c.in_ok-image.image _ _ _ c.in_ok-image.ensures.reads
+    (reads-then _ _ _ _ _ _ _ c.in_ok-notes.notes _ _ _ c.in_ok-notes.ensures.reads
+    (reads-ended _ _ _ _ _ _ c.in-Err.end
+    (λ files. input script_limit (script_meaning c.in_ok-notes.notes) (c.args.word + 2) c.args.script.now files)
+    (λ files script. done (c.in_ok-image.image, c.in_ok-notes.notes, script)) c.in-Err.ensures.reads))
+
+pub returns-in-Ok-clause-reads : goal.returns-in-Ok-clause-reads
+unfolding run_files
+returns-in-Ok-clause-reads g c =
+    reads-then _ _ _ _ _ _ _ c.in_ok-image.image _ _ _ c.in_ok-image.ensures.reads
+    (reads-then _ _ _ _ _ _ _ c.in_ok-notes.notes _ _ _ c.in_ok-notes.ensures.reads
+    (reads-made _ _ _ _ _ _ c.in-Ok.script
+    (λ files. input script_limit (script_meaning c.in_ok-notes.notes) (c.args.word + 2) c.args.script.now files)
+    (λ script. (c.in_ok-image.image, c.in_ok-notes.notes, script)) c.in-Ok.ensures.reads))

@@ -1,0 +1,19 @@
+use Rattle.cli_base.specs.Readings.{done}
+use Rattle.ebc_cli.specs.Inputs.{input, notes_limit, notes_meaning}
+use Rattle.ebc_cli.specs.Works.{image_with_notes}
+use Rattle.ebc_cli.proofs.ReadsLaws.{reads-ended, reads-made, reads-then}
+use Rattle.ebc_cli.proofs.reading.read_image_with_notes.Goals as goal
+
+pub returns-in-Err-clause-reads : goal.returns-in-Err-clause-reads
+unfolding image_with_notes
+returns-in-Err-clause-reads g c =
+    reads-then _ _ _ _ _ _ _ c.in_ok-image.image _ _ _ c.in_ok-image.ensures.reads
+    (reads-ended _ _ _ _ _ _ c.in-Err.end (λ files. input notes_limit notes_meaning 2 c.args.notes.now files)
+    (λ files notes. done (c.in_ok-image.image, notes)) c.in-Err.ensures.reads)
+
+pub returns-in-Ok-clause-reads : goal.returns-in-Ok-clause-reads
+unfolding image_with_notes
+returns-in-Ok-clause-reads g c =
+    reads-then _ _ _ _ _ _ _ c.in_ok-image.image _ _ _ c.in_ok-image.ensures.reads
+    (reads-made _ _ _ _ _ _ c.in-Ok.notes (λ files. input notes_limit notes_meaning 2 c.args.notes.now files)
+    (λ notes. (c.in_ok-image.image, notes)) c.in-Ok.ensures.reads)
