@@ -59,23 +59,104 @@ went-on : {A : Type 0} (old : Option Files) (before now : ℕ) (x : A)
 went-on None before now x one = tt
 went-on (Some files) before now x one = one (λ e. cc)
 
+uncounted-made : (R : Type 0) (old : Option Files) (before now : ℕ) → IfSome old (λ _. now ≡ before) → IfSome old (λ _. R → now ≡ before)
+uncounted-made R None before now one = tt
+uncounted-made R (Some files) before now one = λ r. one
+
+-- What readings that went through left: no file has changed, nor the count of failed writes, and no failed read was counted where the
+-- files are told.
+pub record Went {S : Type 0} (contents : S → Option Files) (reads writes : S → ℕ) (before now : S) : Type 0 where
+  pub same_files : contents now ≡ contents before
+  pub uncounted : IfSome (contents before) (λ _. reads now ≡ reads before)
+  pub count : reads before ≤ reads now
+  pub same_writes : writes now ≡ writes before
+
+-- before any
+pub went-nowhere : {S : Type 0} (contents : S → Option Files) (reads writes : S → ℕ) (now : S) → Went contents reads writes now now
+went-nowhere contents reads writes now = record {
+  same_files = refl;
+  uncounted = same-count (contents now) (reads now);
+  count = omega arith;
+  same_writes = refl;
+} where
+  same-count : (old : Option Files) (now : ℕ) → IfSome old (λ _. now ≡ now)
+  same-count None now = tt
+  same-count (Some files) now = refl
+
+-- and then one that went through
+pub went-more : {S A : Type 0} (contents : S → Option Files) (asked : S → List (List ℕ)) (reads writes : S → ℕ) (before mid now : S)
+    (x : A) (first : Files → FileReading A) → Went contents reads writes before mid
+    → Reads contents asked reads writes mid now (Ok x) first → Went contents reads writes before now
+went-more contents asked reads writes before mid now x first went one = record {
+  same_files = one.same_files ∙ went.same_files;
+  uncounted = both (contents before) (contents mid) (reads before) (reads mid) (reads now) went.same_files went.uncounted
+      (went-on (contents mid) (reads mid) (reads now) x one.uncounted);
+  count = let a = went.count in let b = one.count in omega (arith, a, b);
+  same_writes = one.same_writes ∙ went.same_writes;
+} where
+  both : (old mid : Option Files) (before between now : ℕ) → mid ≡ old → IfSome old (λ _. between ≡ before)
+      → IfSome mid (λ _. now ≡ between) → IfSome old (λ _. now ≡ before)
+  both None mid before between now same one two = tt
+  both (Some files) mid before between now same one two = (rw same at two) ∙ one
+
+-- readings that went through, whatever is made of what they gave
+pub reads-went : {S A : Type 0} (contents : S → Option Files) (asked : S → List (List ℕ)) (reads writes : S → ℕ) (before now : S) (x : A)
+    (whole : Files → FileReading A) → Went contents reads writes before now
+    → IfSome (contents before) (λ files. Follows (asked before) (asked now) (Ok x) (whole files))
+    → Reads contents asked reads writes before now (Ok x) whole
+reads-went contents asked reads writes before now x whole went follows = record {
+  follows = follows;
+  stop = tt;
+  fault = λ e. absurd cc;
+  uncounted = uncounted-made _ (contents before) (reads before) (reads now) went.uncounted;
+  count = went.count;
+  same_files = went.same_files;
+  same_writes = went.same_writes;
+}
+
+-- and where what they gave can't be kept for want of memory
+pub reads-lost : {S A : Type 0} (contents : S → Option Files) (asked : S → List (List ℕ)) (reads writes : S → ℕ) (before now : S)
+    (whole : Files → FileReading A) → Went contents reads writes before now
+    → IfSome (contents before) (λ files. Follows {A = A} (asked before) (asked now) (Err ends.NoMemory) (whole files))
+    → Reads {A = A} contents asked reads writes before now (Err ends.NoMemory) whole
+reads-lost contents asked reads writes before now whole went follows = record {
+  follows = follows;
+  stop = tt;
+  fault = λ e. absurd cc;
+  uncounted = uncounted-made _ (contents before) (reads before) (reads now) went.uncounted;
+  count = went.count;
+  same_files = went.same_files;
+  same_writes = went.same_writes;
+}
+
+-- readings that went through, and then one more, whatever comes of all of them
+pub reads-after : {S A : Type 0} (contents : S → Option Files) (asked : S → List (List ℕ)) (reads writes : S → ℕ) (before mid now : S)
+    (result : Result A End) (rest whole : Files → FileReading A) → Went contents reads writes before mid
+    → Reads contents asked reads writes mid now result rest
+    → IfSome (contents before) (λ files. Follows (asked before) (asked now) result (whole files))
+    → Reads contents asked reads writes before now result whole
+reads-after contents asked reads writes before mid now result rest whole went two follows = record {
+  follows = follows;
+  stop = stop-before (contents before) (contents mid) (reads before) (reads mid) (reads now) result went.same_files went.count two.stop;
+  fault = λ e. rose-before (reads before) (reads mid) (reads now) went.count (two.fault e);
+  uncounted = uncounted-both _ (contents before) (contents mid) (reads before) (reads mid) (reads now) went.same_files went.uncounted
+      two.uncounted;
+  count = let a = went.count in let b = two.count in omega (arith, a, b);
+  same_files = two.same_files ∙ went.same_files;
+  same_writes = two.same_writes ∙ went.same_writes;
+}
+
 -- a reading that went through, and then one more
 pub reads-then : {S A B : Type 0} (contents : S → Option Files) (asked : S → List (List ℕ)) (reads writes : S → ℕ)
     (before mid now : S) (x : A) (result : Result B End) (first : Files → FileReading A) (f : Files → A → FileReading B)
     → Reads contents asked reads writes before mid (Ok x) first
     → Reads contents asked reads writes mid now result (λ files. f files x)
     → Reads contents asked reads writes before now result (λ files. first files >>= f files)
-reads-then contents asked reads writes before mid now x result first f one two = record {
-  follows = next-follows (contents before) (contents mid) (asked before) (asked mid) (asked now) first f x result one.same_files
-      one.follows two.follows;
-  stop = stop-before (contents before) (contents mid) (reads before) (reads mid) (reads now) result one.same_files one.count two.stop;
-  fault = λ e. rose-before (reads before) (reads mid) (reads now) one.count (two.fault e);
-  uncounted = uncounted-both _ (contents before) (contents mid) (reads before) (reads mid) (reads now) one.same_files
-      (went-on (contents before) (reads before) (reads mid) x one.uncounted) two.uncounted;
-  count = let a = one.count in let b = two.count in omega (arith, a, b);
-  same_files = two.same_files ∙ one.same_files;
-  same_writes = two.same_writes ∙ one.same_writes;
-}
+reads-then contents asked reads writes before mid now x result first f one two =
+    reads-after contents asked reads writes before mid now result (λ files. f files x) (λ files. first files >>= f files)
+    (went-more contents asked reads writes before before mid x first (went-nowhere contents reads writes before) one) two
+    (next-follows (contents before) (contents mid) (asked before) (asked mid) (asked now) first f x result one.same_files one.follows
+    two.follows)
 
 -- a reading that ends, before all that comes after it
 pub reads-ended : {S A B : Type 0} (contents : S → Option Files) (asked : S → List (List ℕ)) (reads writes : S → ℕ)
@@ -110,19 +191,10 @@ pub reads-made : {S A B : Type 0} (contents : S → Option Files) (asked : S →
     (before now : S) (x : A) (first : Files → FileReading A) (make : A → B)
     → Reads contents asked reads writes before now (Ok x) first
     → Reads contents asked reads writes before now (Ok (make x)) (λ files. first files >>= (λ y. done (make y)))
-reads-made contents asked reads writes before now x first make one = record {
-  follows = made-follows (contents before) (asked before) (asked now) first make x one.follows;
-  stop = tt;
-  fault = λ e. absurd cc;
-  uncounted = uncounted-made _ (contents before) (reads before) (reads now)
-      (went-on (contents before) (reads before) (reads now) x one.uncounted);
-  count = one.count;
-  same_files = one.same_files;
-  same_writes = one.same_writes;
-} where
-  uncounted-made : (R : Type 0) (old : Option Files) (before now : ℕ) → IfSome old (λ _. now ≡ before) → IfSome old (λ _. R → now ≡ before)
-  uncounted-made R None before now one = tt
-  uncounted-made R (Some files) before now one = λ r. one
+reads-made contents asked reads writes before now x first make one =
+    reads-went contents asked reads writes before now (make x) (λ files. first files >>= (λ y. done (make y)))
+    (went-more contents asked reads writes before before now x first (went-nowhere contents reads writes before) one)
+    (made-follows (contents before) (asked before) (asked now) first make x one.follows)
 
 -- what asks for nothing and goes on, and then a reading
 pub reads-told : {S A B : Type 0} (contents : S → Option Files) (asked : S → List (List ℕ)) (reads writes : S → ℕ)

@@ -1,6 +1,6 @@
 //! The commands that words spell.
 ghost use Rattle.std.specs.Prelude.{◌≡◌, [], ◌∷◌, map, string_bytes, IfOk};
-ghost use Rattle.ebc_cli.specs.Commands.{command_of, driver_of, of_five_words, of_nine_words, of_six_words, pairing_of, running_of, sampling_of, taking_of, twinning_of, wrapping_of};
+ghost use Rattle.ebc_cli.specs.Commands.{command_of, driver_of, of_file, of_five_words, of_nine_words, of_six_words, of_two_files, pairing_of, running_of, sampling_of, taking_of, twinning_of, wrapping_of};
 ghost use Rattle.ebc_cli.specs.Numbers.{identifier_of, width_of};
 ghost use Rattle.cli_base.specs.Words.{word_bytes};
 
@@ -15,6 +15,14 @@ pub struct DriverFiles {
     pub image: Name,
     pub notes: Name,
     pub script: Name,
+}
+
+// The words that name the files of a driver.
+#[derive(Clone, Copy)]
+struct DriverWords<'a> {
+    image: &'a String,
+    notes: &'a String,
+    script: &'a String,
 }
 
 /// What the words ask for.
@@ -109,12 +117,27 @@ pub fn command_of(alloc: Global, words: &Vec<String>) -> Result<Option<Command>,
             of_six_words(alloc, word, one, two, three, four, five)
         }
         [word, one, two, three, four, five, six, others @ ..] => {
-            let a = driver_of(alloc, one, two, three)?;
-            let b = driver_of(alloc, four, five, six)?;
-            of_nine_words(alloc, word, a, b, others)
+            let a = DriverWords {
+                image: one,
+                notes: two,
+                script: three,
+            };
+            let b = DriverWords {
+                image: four,
+                notes: five,
+                script: six,
+            };
+            of_nine_words(alloc, word, &a, &b, others)
         }
         _ => Ok(None),
     }
+}
+
+// The name that a word spells.
+fn name_of(alloc: Global, word: &String) -> Result<Name, AllocError>
+    ensures { IfOk result (λ name. name ≡ string_bytes word.now) }
+{
+    Ok(Name::new(String::from_str(alloc, word.as_str())?))
 }
 
 #[tactic(auto, unfolding(crate::specs::Numbers::is_number))]
@@ -125,11 +148,11 @@ fn with_one_file(alloc: Global, word: &String, file: &String) -> Result<Option<C
         return Ok(None);
     }
     if word.as_str() == "check" {
-        let code = Name::new(String::from_str(alloc, file.as_str())?);
+        let code = name_of(alloc, file)?;
         return Ok(Some(Command::CheckCode { code }));
     }
     if word.as_str() == "list" {
-        let image = Name::new(String::from_str(alloc, file.as_str())?);
+        let image = name_of(alloc, file)?;
         return Ok(Some(Command::ListImage { image }));
     }
     if word.as_str() == "sample" {
@@ -146,34 +169,88 @@ fn with_two_words(
 ) -> Result<Option<Command>, AllocError>
     ensures { IfOk result (λ command. command ≡ command_of (string_bytes word.now ∷ string_bytes one.now ∷ string_bytes two.now ∷ [])) }
 {
-    if one.len() == 0 || two.len() == 0 {
-        return Ok(None);
-    }
     if word.as_str() == "check" {
-        let image = Name::new(String::from_str(alloc, one.as_str())?);
-        let notes = Name::new(String::from_str(alloc, two.as_str())?);
-        return Ok(Some(Command::CheckImage { image, notes }));
+        return image_checking(alloc, one, two);
     }
     if word.as_str() == "asm" {
-        let source = Name::new(String::from_str(alloc, one.as_str())?);
-        let object = Name::new(String::from_str(alloc, two.as_str())?);
-        return Ok(Some(Command::Assemble { source, object }));
+        return assembling(alloc, one, two);
     }
     if word.as_str() == "link" {
-        let plan = Name::new(String::from_str(alloc, one.as_str())?);
-        let image = Name::new(String::from_str(alloc, two.as_str())?);
-        return Ok(Some(Command::Link { plan, image }));
+        return linking(alloc, one, two);
     }
     if word.as_str() == "infer" {
-        let image = Name::new(String::from_str(alloc, one.as_str())?);
-        let notes = Name::new(String::from_str(alloc, two.as_str())?);
-        return Ok(Some(Command::InferPoints { image, notes }));
+        return inferring(alloc, one, two);
     }
     if word.as_str() == "rom" && one.as_str() == "list" {
-        let rom = Name::new(String::from_str(alloc, two.as_str())?);
-        return Ok(Some(Command::ListRom { rom }));
+        return rom_listing(alloc, two);
     }
     Ok(None)
+}
+
+fn image_checking(
+    alloc: Global,
+    image: &String,
+    notes: &String,
+) -> Result<Option<Command>, AllocError>
+    ensures { IfOk result (λ command. command ≡ of_two_files Command.CheckImage (string_bytes image.now) (string_bytes notes.now)) }
+{
+    if image.len() == 0 || notes.len() == 0 {
+        return Ok(None);
+    }
+    Ok(Some(Command::CheckImage {
+        image: name_of(alloc, image)?,
+        notes: name_of(alloc, notes)?,
+    }))
+}
+
+fn assembling(
+    alloc: Global,
+    source: &String,
+    object: &String,
+) -> Result<Option<Command>, AllocError>
+    ensures { IfOk result (λ command. command ≡ of_two_files Command.Assemble (string_bytes source.now) (string_bytes object.now)) }
+{
+    if source.len() == 0 || object.len() == 0 {
+        return Ok(None);
+    }
+    Ok(Some(Command::Assemble {
+        source: name_of(alloc, source)?,
+        object: name_of(alloc, object)?,
+    }))
+}
+
+fn linking(alloc: Global, plan: &String, image: &String) -> Result<Option<Command>, AllocError>
+    ensures { IfOk result (λ command. command ≡ of_two_files Command.Link (string_bytes plan.now) (string_bytes image.now)) }
+{
+    if plan.len() == 0 || image.len() == 0 {
+        return Ok(None);
+    }
+    Ok(Some(Command::Link {
+        plan: name_of(alloc, plan)?,
+        image: name_of(alloc, image)?,
+    }))
+}
+
+fn inferring(alloc: Global, image: &String, notes: &String) -> Result<Option<Command>, AllocError>
+    ensures { IfOk result (λ command. command ≡ of_two_files Command.InferPoints (string_bytes image.now) (string_bytes notes.now)) }
+{
+    if image.len() == 0 || notes.len() == 0 {
+        return Ok(None);
+    }
+    Ok(Some(Command::InferPoints {
+        image: name_of(alloc, image)?,
+        notes: name_of(alloc, notes)?,
+    }))
+}
+
+fn rom_listing(alloc: Global, rom: &String) -> Result<Option<Command>, AllocError>
+    ensures { IfOk result (λ command. command ≡ of_file Command.ListRom (string_bytes rom.now)) }
+{
+    if rom.len() == 0 {
+        return Ok(None);
+    }
+    let rom = name_of(alloc, rom)?;
+    Ok(Some(Command::ListRom { rom }))
 }
 
 #[tactic(auto, unfolding(crate::specs::Commands::of_five_words))]
@@ -222,11 +299,14 @@ fn of_six_words(
 fn of_nine_words(
     alloc: Global,
     word: &String,
-    a: Option<DriverFiles>,
-    b: Option<DriverFiles>,
+    a: &DriverWords,
+    b: &DriverWords,
     others: &[String],
 ) -> Result<Option<Command>, AllocError>
-    ensures { IfOk result (λ command. command ≡ of_nine_words (string_bytes word.now) a b (map string_bytes others.now)) }
+    ensures { IfOk result (λ command. command ≡ of_nine_words (string_bytes word.now)
+        (driver_of (string_bytes a.now.image.now) (string_bytes a.now.notes.now) (string_bytes a.now.script.now))
+        (driver_of (string_bytes b.now.image.now) (string_bytes b.now.notes.now) (string_bytes b.now.script.now))
+        (map string_bytes others.now)) }
 {
     // Each number of words has an arm, since what they are is then computed.
     match others {
@@ -264,10 +344,10 @@ fn running(
     }
     Ok(Some(Command::Run {
         width,
-        image: Name::new(String::from_str(alloc, image.as_str())?),
-        notes: Name::new(String::from_str(alloc, notes.as_str())?),
-        script: Name::new(String::from_str(alloc, script.as_str())?),
-        steps: Name::new(String::from_str(alloc, steps.as_str())?),
+        image: name_of(alloc, image)?,
+        notes: name_of(alloc, notes)?,
+        script: name_of(alloc, script)?,
+        steps: name_of(alloc, steps)?,
     }))
 }
 
@@ -288,54 +368,53 @@ fn twinning(
         return Ok(None);
     }
     Ok(Some(Command::Twin {
-        image: Name::new(String::from_str(alloc, image.as_str())?),
-        notes: Name::new(String::from_str(alloc, notes.as_str())?),
-        script: Name::new(String::from_str(alloc, script.as_str())?),
-        steps: Name::new(String::from_str(alloc, steps.as_str())?),
+        image: name_of(alloc, image)?,
+        notes: name_of(alloc, notes)?,
+        script: name_of(alloc, script)?,
+        steps: name_of(alloc, steps)?,
     }))
 }
 
 // The files of a driver, where none of the words is empty.
 #[tactic(auto, unfolding(crate::specs::Commands::driver_of))]
-fn driver_of(
-    alloc: Global,
-    image: &String,
-    notes: &String,
-    script: &String,
-) -> Result<Option<DriverFiles>, AllocError>
-    ensures { IfOk result (λ files. files ≡ driver_of (string_bytes image.now) (string_bytes notes.now) (string_bytes script.now)) }
+fn driver_of(alloc: Global, words: &DriverWords) -> Result<Option<DriverFiles>, AllocError>
+    ensures { IfOk result (λ files. files ≡ driver_of (string_bytes words.now.image.now) (string_bytes words.now.notes.now)
+        (string_bytes words.now.script.now)) }
 {
-    if image.len() == 0 || notes.len() == 0 || script.len() == 0 {
+    if words.image.len() == 0 || words.notes.len() == 0 || words.script.len() == 0 {
         return Ok(None);
     }
     Ok(Some(DriverFiles {
-        image: Name::new(String::from_str(alloc, image.as_str())?),
-        notes: Name::new(String::from_str(alloc, notes.as_str())?),
-        script: Name::new(String::from_str(alloc, script.as_str())?),
+        image: name_of(alloc, words.image)?,
+        notes: name_of(alloc, words.notes)?,
+        script: name_of(alloc, words.script)?,
     }))
 }
 
 fn pairing(
     alloc: Global,
-    a: Option<DriverFiles>,
-    b: Option<DriverFiles>,
+    a: &DriverWords,
+    b: &DriverWords,
     binds: &String,
     steps: &String,
 ) -> Result<Option<Command>, AllocError>
-    ensures { IfOk result (λ command. command ≡ pairing_of a b (string_bytes binds.now) (string_bytes steps.now)) }
+    ensures { IfOk result (λ command. command ≡ pairing_of
+        (driver_of (string_bytes a.now.image.now) (string_bytes a.now.notes.now) (string_bytes a.now.script.now))
+        (driver_of (string_bytes b.now.image.now) (string_bytes b.now.notes.now) (string_bytes b.now.script.now))
+        (string_bytes binds.now) (string_bytes steps.now)) }
 {
-    let (Some(a), Some(b)) = (a, b) else {
-        return Ok(None);
-    };
     if !is_number(steps.as_str()) || binds.len() == 0 {
         return Ok(None);
     }
-    Ok(Some(Command::Pair {
-        a,
-        b,
-        binds: Name::new(String::from_str(alloc, binds.as_str())?),
-        steps: Name::new(String::from_str(alloc, steps.as_str())?),
-    }))
+    let binds = name_of(alloc, binds)?;
+    let steps = name_of(alloc, steps)?;
+    let Some(a) = driver_of(alloc, a)? else {
+        return Ok(None);
+    };
+    let Some(b) = driver_of(alloc, b)? else {
+        return Ok(None);
+    };
+    Ok(Some(Command::Pair { a, b, binds, steps }))
 }
 
 fn sampling(alloc: Global, functions: &String) -> Result<Option<Command>, AllocError>
@@ -345,7 +424,7 @@ fn sampling(alloc: Global, functions: &String) -> Result<Option<Command>, AllocE
         return Ok(None);
     }
     Ok(Some(Command::Sample {
-        functions: Name::new(String::from_str(alloc, functions.as_str())?),
+        functions: name_of(alloc, functions)?,
     }))
 }
 
@@ -364,9 +443,9 @@ fn rom_taking(
         return Ok(None);
     }
     Ok(Some(Command::TakeRom {
-        rom: Name::new(String::from_str(alloc, rom.as_str())?),
-        number: Name::new(String::from_str(alloc, number.as_str())?),
-        image: Name::new(String::from_str(alloc, image.as_str())?),
+        rom: name_of(alloc, rom)?,
+        number: name_of(alloc, number)?,
+        image: name_of(alloc, image)?,
     }))
 }
 
@@ -392,7 +471,7 @@ fn rom_wrapping(
     Ok(Some(Command::WrapRom {
         vendor,
         device,
-        image: Name::new(String::from_str(alloc, image.as_str())?),
-        rom: Name::new(String::from_str(alloc, rom.as_str())?),
+        image: name_of(alloc, image)?,
+        rom: name_of(alloc, rom)?,
     }))
 }

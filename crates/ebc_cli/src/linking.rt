@@ -49,17 +49,8 @@ fn read_objects<F: Folder>(
     names: &[Name],
     folder: &mut F,
 ) -> Result<Sequence<Object>, End>
-    ensures follows { IfSome (F.contents folder.old) (λ files.
-        Follows (F.asked folder.old) (F.asked folder.new) result (each_object names.now files)) }
-    ensures stop { IfStop result (CommandAnswer (F.contents folder.old)
-        (F.read_faults folder.old) (F.read_faults folder.new)) }
-    ensures fault { IsErrOf result End.ReadFault →
-        Rose (F.read_faults folder.old) (F.read_faults folder.new) }
-    ensures uncounted { IfSome (F.contents folder.old) (λ _. ¬ IsErrOf result End.ReadFault →
-        F.read_faults folder.new ≡ F.read_faults folder.old) }
-    ensures count { F.read_faults folder.old ≤ F.read_faults folder.new }
-    ensures contents { F.contents folder.new ≡ F.contents folder.old }
-    ensures write_faults { F.write_faults folder.new ≡ F.write_faults folder.old }
+    ensures reads { Reads F.contents F.asked F.read_faults F.write_faults folder.old folder.new result
+        (each_object names.now) }
     ensures objects { IfOk result (λ objects. All IsObject objects) }
     ensures many { IfOk result (λ objects. length objects ≡ length names.now) }
 {

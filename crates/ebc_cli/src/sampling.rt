@@ -2,8 +2,9 @@
 ghost use Rattle.std.specs.Prelude.{◌≡◌, ◌≤◌, None, IfSome, IfOk};
 ghost use Rattle.note_types.specs.Records.{IsNotes};
 ghost use Rattle.host_model.specs.Scripts.{IsScript};
-ghost use Rattle.sample_texts.specs.Samples.{notes_text, script_text};
-ghost use Rattle.ebc_cli.specs.Inputs.{notes_meaning, sample_limit, script_meaning};
+ghost use Rattle.ebc_object.specs.Objects.{IsObject};
+ghost use Rattle.sample_texts.specs.Samples.{notes_text, script_text, source_text};
+ghost use Rattle.ebc_cli.specs.Inputs.{notes_meaning, sample_limit, script_meaning, source_meaning};
 ghost use Rattle.ebc_cli.specs.Samplings.{IsBuilt, TellsSample, built_line, sample_image, sample_of};
 ghost use Rattle.cli_base.specs.Inputs.{IsReadImage, Means};
 ghost use Rattle.cli_base.specs.Outcomes.{IsBadInput, IsWorkAnswer};
@@ -44,6 +45,18 @@ pub struct BuiltSample {
     pub script: Script,
 }
 
+// The object that the source of a sample stands for.
+fn sample_object(alloc: Global, functions: u32, digits: &str) -> Result<Object, End>
+    requires { functions ≤ sample_limit }
+    ensures meaning { Means result (source_meaning 1 digits.now (source_text functions)) }
+    ensures valid { IfOk result IsObject }
+    ensures stop { IfStop result (λ reply. IsBadInput reply.outcome) }
+    ensures output { IfStop result (λ reply. written_name reply.output ≡ None) }
+{
+    let text = source(alloc, functions)?;
+    Object::of(alloc, 1, digits, text.as_slice())
+}
+
 // How many bytes of code a sample has, and its image.
 #[tactic(auto, unfolding(crate::specs::Samplings::sample_image))]
 fn sample_image(alloc: Global, functions: u32, digits: &str) -> Result<(usize, Image), End>
@@ -53,8 +66,7 @@ fn sample_image(alloc: Global, functions: u32, digits: &str) -> Result<(usize, I
     ensures stop { IfStop result (λ reply. IsBadInput reply.outcome) }
     ensures output { IfStop result (λ reply. written_name reply.output ≡ None) }
 {
-    let text = source(alloc, functions)?;
-    let object = Object::of(alloc, 1, digits, text.as_slice())?;
+    let object = sample_object(alloc, functions, digits)?;
     let code = object.code.len();
     let plan = plan(alloc)?;
     match linked(alloc, digits, &[object], &plan) {

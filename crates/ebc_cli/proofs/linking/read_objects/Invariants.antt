@@ -1,15 +1,12 @@
-use Rattle.std.proofs.Common.{◌≡◌, ◌≤◌, length, IfSome, All}
+use Rattle.std.proofs.Common.{◌≡◌, length, IfSome, All}
 use Rattle.ebc_object.specs.Objects.{IsObject}
 use Rattle.ebc_cli.proofs.LinkLemmas.{IsReadTo}
+use Rattle.ebc_cli.proofs.ReadsLaws.{Went}
 use Rattle.ebc_cli.proofs.linking.read_objects.Given as goal
 
 abbrev pub invariant-loop-name : goal.invariant-loop-name
 invariant-loop-name g l = record {
-  contents : g.F.Folder.contents l.folder ≡ g.F.Folder.contents l.initial.folder;
-  write_faults : g.F.Folder.write_faults l.folder ≡ g.F.Folder.write_faults l.initial.folder;
-  risen : g.F.Folder.read_faults l.initial.folder ≤ g.F.Folder.read_faults l.folder;
-  uncounted : IfSome (g.F.Folder.contents l.initial.folder)
-      (λ _. g.F.Folder.read_faults l.folder ≡ g.F.Folder.read_faults l.initial.folder);
+  went : Went g.F.Folder.contents g.F.Folder.read_faults g.F.Folder.write_faults l.initial.folder l.folder;
   read : IfSome (g.F.Folder.contents l.initial.folder) (λ files. IsReadTo files l.names l.name-index
       (g.F.Folder.asked l.initial.folder) (g.F.Folder.asked l.folder) l.objects.items);
   objects : All IsObject l.objects.items;

@@ -1,8 +1,19 @@
-use Rattle.cli_base.specs.Readings.{done}
+use Rattle.std.proofs.lemmas.Result.{err_from_is_err_and}
+use Rattle.cli_base.specs.Inputs.{image_limit, image_meaning}
+use Rattle.cli_base.specs.Readings.{◌>>=◌, done}
+use Rattle.pe_image.specs.declared.image.Image.{Image}
 use Rattle.ebc_cli.specs.Inputs.{input, notes_limit, notes_meaning}
 use Rattle.ebc_cli.specs.Works.{image_with_notes}
 use Rattle.ebc_cli.proofs.ReadsLaws.{reads-ended, reads-made, reads-then}
 use Rattle.ebc_cli.proofs.reading.read_image_with_notes.Goals as goal
+
+pub returns-in_err-image-clause-reads : goal.returns-in_err-image-clause-reads
+unfolding image_with_notes
+returns-in_err-image-clause-reads g c =
+    let p = err_from_is_err_and c.from_residual.result c.from_residual.ensures.1 in
+    rw (p.1, p.2) (reads-ended _ _ _ _ _ _ _ (λ files. input image_limit image_meaning 1 c.args.image.now files)
+    (λ files (image : Image). input notes_limit notes_meaning 2 c.args.notes.now files >>= (λ notes. done (image, notes)))
+    c.in_err-image.ensures.reads)
 
 pub returns-in-Err-clause-reads : goal.returns-in-Err-clause-reads
 unfolding image_with_notes

@@ -1,10 +1,22 @@
 use Rattle.std.proofs.Common.{◌+◌}
 use Rattle.std.proofs.lemmas.Result.{err_from_is_err_and}
+use Rattle.cli_base.specs.Inputs.{image_limit, image_meaning}
+use Rattle.note_types.specs.declared.notes.Notes.{Notes}
+use Rattle.pe_image.specs.declared.image.Image.{Image}
 use Rattle.cli_base.specs.Readings.{◌>>=◌, done}
 use Rattle.ebc_cli.specs.Inputs.{input, notes_limit, notes_meaning, script_limit, script_meaning}
 use Rattle.ebc_cli.specs.Runnings.{run_files}
 use Rattle.ebc_cli.proofs.ReadsLaws.{reads-ended, reads-made, reads-then}
 use Rattle.ebc_cli.proofs.running.read_run.Goals as goal
+
+pub returns-in_err-image-clause-reads : goal.returns-in_err-image-clause-reads
+unfolding run_files
+returns-in_err-image-clause-reads g c =
+    let p = err_from_is_err_and c.from_residual.result c.from_residual.ensures.1 in
+    rw (p.1, p.2) (reads-ended _ _ _ _ _ _ _ (λ files. input image_limit image_meaning c.args.word c.args.image.now files)
+    (λ files (image : Image). input notes_limit notes_meaning (c.args.word + 1) c.args.notes.now files
+    >>= (λ (notes : Notes). input script_limit (script_meaning notes) (c.args.word + 2) c.args.script.now files
+    >>= (λ script. done (image, notes, script)))) c.in_err-image.ensures.reads)
 
 pub returns-in_err-notes-clause-reads : goal.returns-in_err-notes-clause-reads
 unfolding run_files
