@@ -76,12 +76,20 @@ fn read_driver<F: Folder>(
         names.notes.as_str(),
         names.script.as_str(),
     )?;
-    unnotified(alloc, word + 2, names.script.as_str(), &script)?;
-    Ok(ReadDriver {
-        image,
-        notes,
-        script,
-    })
+    // Values of many parts are dropped by calls: their drop at the end of an arm would be proved part by part.
+    match unnotified(alloc, word + 2, names.script.as_str(), &script) {
+        Ok(()) => Ok(ReadDriver {
+            image,
+            notes,
+            script,
+        }),
+        Err(end) => {
+            drop(image);
+            drop(notes);
+            drop(script);
+            Err(end)
+        }
+    }
 }
 
 // The binds that a text stands for under the notes of both images, or the answer to its first fault. The bytes are those of the word 7, by
@@ -134,10 +142,20 @@ pub fn read_pair<F: Folder>(
     ensures read { IfOk result (λ read. IsReadPair read.0 read.1 read.2) }
 {
     let a = read_driver(alloc, folder, 1, a)?;
-    let b = read_driver(alloc, folder, 4, b)?;
-    match read_binds_file(alloc, folder, binds, &a.notes, &b.notes) {
-        Ok(binds) => Ok((a, b, binds)),
-        Err(end) => Err(end),
+    // The drivers are dropped by calls, as above.
+    match read_driver(alloc, folder, 4, b) {
+        Ok(b) => match read_binds_file(alloc, folder, binds, &a.notes, &b.notes) {
+            Ok(binds) => Ok((a, b, binds)),
+            Err(end) => {
+                drop(a);
+                drop(b);
+                Err(end)
+            }
+        },
+        Err(end) => {
+            drop(a);
+            Err(end)
+        }
     }
 }
 

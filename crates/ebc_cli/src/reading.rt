@@ -282,9 +282,28 @@ fn read_pairing<F: Folder>(
     ensures { ReadsWork F.contents F.asked F.read_faults F.write_faults folder.old folder.new result
         (pairing a b binds digits) None }
 {
-    let steps = number_of(alloc, PAIR_STEP_LIMIT, 8, digits.as_str())?;
-    let (a, b, binds) = read_pair(alloc, folder, &a, &b, binds.as_str())?;
-    Ok(Work::Pair { a, b, binds, steps })
+    // The names are dropped by calls, and before the drivers are taken out of what was read: their drop at the end of an arm would be proved
+    // part by part.
+    let steps = number_of(alloc, PAIR_STEP_LIMIT, 8, digits.as_str());
+    drop(digits);
+    match steps {
+        Ok(steps) => {
+            let read = read_pair(alloc, folder, &a, &b, binds.as_str());
+            drop(a);
+            drop(b);
+            drop(binds);
+            match read {
+                Ok((a, b, binds)) => Ok(Work::Pair { a, b, binds, steps }),
+                Err(end) => Err(end),
+            }
+        }
+        Err(end) => {
+            drop(a);
+            drop(b);
+            drop(binds);
+            Err(end)
+        }
+    }
 }
 
 // `sample N`: no file is read.

@@ -1,20 +1,18 @@
 use Rattle.std.proofs.Common.{◌+◌}
-use Rattle.std.proofs.lemmas.Result.{err_from_is_err_and}
 use Rattle.cli_base.specs.Readings.{done, told}
 use Rattle.ebc_cli.specs.Pairings.{driver_files, unnotified}
 use Rattle.ebc_cli.proofs.DriverLemmas.{driver_made}
 use Rattle.ebc_cli.proofs.ReadsLaws.{reads-ended, reads-refused, reads-then}
 use Rattle.ebc_cli.proofs.pairing.read_driver.Goals as goal
 
-pub returns-in_err-unnotified-clause-reads : goal.returns-in_err-unnotified-clause-reads
+pub returns-in-Err-clause-reads : goal.returns-in-Err-clause-reads
 unfolding driver_files
-returns-in_err-unnotified-clause-reads g c =
-    let p = err_from_is_err_and c.from_residual-in_err-unnotified.result c.from_residual-in_err-unnotified.ensures.1 in
+returns-in-Err-clause-reads g c =
     let read = c.in_ok-image in
-    let end = c.in_err-unnotified.field-0.0 in
+    let end = c.in-Err.end in
     let value = unnotified (c.args.word + 2) c.args.names.now.script read.script in
-    rw (p.1, p.2) (reads-then _ _ _ _ _ _ _ (read.image, read.notes, read.script) _ _ _
+    reads-then _ _ _ _ _ _ _ (read.image, read.notes, read.script) _ _ _
     (rw (c.as_str.ensures, c.as_str-2.ensures, c.as_str-3.ensures) at read.ensures.reads)
     (reads-ended _ _ _ _ _ _ end (λ files. told value) (λ files u. done (driver_made (read.image, read.notes, read.script)))
-    (reads-refused _ _ _ _ _ end value (rw c.as_str-4.ensures at c.in_err-unnotified.ensures.meaning)
-    c.in_err-unnotified.ensures.stop c.in_err-unnotified.ensures.output)))
+    (reads-refused _ _ _ _ _ end value (rw c.as_str-4.ensures at c.in-Err.ensures.meaning)
+    c.in-Err.ensures.stop c.in-Err.ensures.output))
