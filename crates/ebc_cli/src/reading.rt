@@ -59,10 +59,21 @@ pub fn read_command<F: Folder>(alloc: Global, command: Command, folder: &mut F) 
     }
 }
 
-// The commands that run images.
+// The commands that run images, whose work keeps none of their names.
 fn read_run_command<F: Folder>(alloc: Global, command: Command, folder: &mut F) -> Result<Work, End>
     requires { IsRunCommand command }
     ensures { ReadsWork F.contents F.asked F.read_faults F.write_faults folder.old folder.new result (work_for (Some command)) (output_of (Some command)) }
+{
+    let work = read_for_run(alloc, &command, folder);
+    drop(command);
+    work
+}
+
+// What such a command reads.
+fn read_for_run<F: Folder>(alloc: Global, command: &Command, folder: &mut F) -> Result<Work, End>
+    requires { IsRunCommand command.now }
+    ensures { ReadsWork F.contents F.asked F.read_faults F.write_faults folder.old folder.new result
+        (work_for (Some command.now)) (output_of (Some command.now)) }
 {
     match command {
         Command::Run {
@@ -71,7 +82,7 @@ fn read_run_command<F: Folder>(alloc: Global, command: Command, folder: &mut F) 
             notes,
             script,
             steps,
-        } => read_running(alloc, width, image, notes, script, steps, folder),
+        } => read_running(alloc, *width, image, notes, script, steps, folder),
         Command::Twin {
             image,
             notes,
@@ -212,14 +223,14 @@ fn number_of(alloc: Global, limit: u64, word: u8, digits: &str) -> Result<u64, E
 fn read_running<F: Folder>(
     alloc: Global,
     width: Width,
-    image: Name,
-    notes: Name,
-    script: Name,
-    digits: Name,
+    image: &Name,
+    notes: &Name,
+    script: &Name,
+    digits: &Name,
     folder: &mut F,
 ) -> Result<Work, End>
     ensures { ReadsWork F.contents F.asked F.read_faults F.write_faults folder.old folder.new result
-        (running width image notes script digits) None }
+        (running width image.now notes.now script.now digits.now) None }
 {
     let steps = number_of(alloc, STEP_LIMIT, 5, digits.as_str())?;
     let (image, notes, script) = read_run(
@@ -243,14 +254,14 @@ fn read_running<F: Folder>(
 #[tactic(auto, unfolding(crate::specs::Works::twinning))]
 fn read_twinning<F: Folder>(
     alloc: Global,
-    image: Name,
-    notes: Name,
-    script: Name,
-    digits: Name,
+    image: &Name,
+    notes: &Name,
+    script: &Name,
+    digits: &Name,
     folder: &mut F,
 ) -> Result<Work, End>
     ensures { ReadsWork F.contents F.asked F.read_faults F.write_faults folder.old folder.new result
-        (twinning image notes script digits) None }
+        (twinning image.now notes.now script.now digits.now) None }
 {
     let steps = number_of(alloc, STEP_LIMIT, 4, digits.as_str())?;
     let (image, notes, script) = read_run(
@@ -273,43 +284,24 @@ fn read_twinning<F: Folder>(
 #[tactic(auto, unfolding(crate::specs::Works::pairing))]
 fn read_pairing<F: Folder>(
     alloc: Global,
-    a: DriverFiles,
-    b: DriverFiles,
-    binds: Name,
-    digits: Name,
+    a: &DriverFiles,
+    b: &DriverFiles,
+    binds: &Name,
+    digits: &Name,
     folder: &mut F,
 ) -> Result<Work, End>
     ensures { ReadsWork F.contents F.asked F.read_faults F.write_faults folder.old folder.new result
-        (pairing a b binds digits) None }
+        (pairing a.now b.now binds.now digits.now) None }
 {
-    // The names are dropped by calls, and before the drivers are taken out of what was read: their drop at the end of an arm would be proved
-    // part by part.
-    let steps = number_of(alloc, PAIR_STEP_LIMIT, 8, digits.as_str());
-    drop(digits);
-    match steps {
-        Ok(steps) => {
-            let read = read_pair(alloc, folder, &a, &b, binds.as_str());
-            drop(a);
-            drop(b);
-            drop(binds);
-            match read {
-                Ok((a, b, binds)) => Ok(Work::Pair { a, b, binds, steps }),
-                Err(end) => Err(end),
-            }
-        }
-        Err(end) => {
-            drop(a);
-            drop(b);
-            drop(binds);
-            Err(end)
-        }
-    }
+    let steps = number_of(alloc, PAIR_STEP_LIMIT, 8, digits.as_str())?;
+    let (a, b, binds) = read_pair(alloc, folder, a, b, binds.as_str())?;
+    Ok(Work::Pair { a, b, binds, steps })
 }
 
 // `sample N`: no file is read.
 #[tactic(auto, unfolding(crate::specs::Works::sampling))]
-fn read_sampling<F: Folder>(alloc: Global, digits: Name, folder: &mut F) -> Result<Work, End>
-    ensures { ReadsWork F.contents F.asked F.read_faults F.write_faults folder.old folder.new result (λ _. sampling digits) None }
+fn read_sampling<F: Folder>(alloc: Global, digits: &Name, folder: &mut F) -> Result<Work, End>
+    ensures { ReadsWork F.contents F.asked F.read_faults F.write_faults folder.old folder.new result (λ _. sampling digits.now) None }
 {
     let functions = number_of(alloc, SAMPLE_LIMIT, 1, digits.as_str())?;
     let sample = built_sample(alloc, functions as u32, digits.as_str())?;

@@ -92,10 +92,20 @@ pub fn read_run<F: Folder>(
     ensures script { IfOk result (λ read. IsScript read.1 read.2) }
 {
     let image = read_as::<Image, F>(alloc, folder, word, image)?;
-    let notes = read_as::<Notes, F>(alloc, folder, word + 1, notes)?;
-    match read_script_file(alloc, folder, word + 2, script, &notes) {
-        Ok(script) => Ok((image, notes, script)),
-        Err(end) => Err(end),
+    // Values of many parts are dropped by calls: their drop at the end of an arm would be proved part by part.
+    match read_as::<Notes, F>(alloc, folder, word + 1, notes) {
+        Ok(notes) => match read_script_file(alloc, folder, word + 2, script, &notes) {
+            Ok(script) => Ok((image, notes, script)),
+            Err(end) => {
+                drop(image);
+                drop(notes);
+                Err(end)
+            }
+        },
+        Err(end) => {
+            drop(image);
+            Err(end)
+        }
     }
 }
 

@@ -11,9 +11,9 @@ unfolding running
 returns g c =
     let read = c.in_ok-image in
     record {
-      reads = reads-told _ _ _ _ _ _ (number_meaning step_limit 5 c.args.digits) c.in_ok-steps.steps _ _
+      reads = reads-told _ _ _ _ _ _ (number_meaning step_limit 5 c.args.digits.now) c.in_ok-steps.steps _ _
           (rw c.as_str.ensures at c.in_ok-steps.ensures.meaning)
-          (reads-made _ _ _ _ _ _ (read.image, read.notes, read.script) (run_files 2 c.args.image c.args.notes c.args.script)
+          (reads-made _ _ _ _ _ _ (read.image, read.notes, read.script) (run_files 2 c.args.image.now c.args.notes.now c.args.script.now)
           (λ read. works.Run c.args.width read.0 read.1 read.2 c.in_ok-steps.steps)
           (rw (c.as_str-2.ensures, c.as_str-3.ensures, c.as_str-4.ensures) at read.ensures.reads));
       work = (read.ensures.image, read.ensures.notes, read.ensures.script);
