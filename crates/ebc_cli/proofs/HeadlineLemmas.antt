@@ -1,7 +1,7 @@
 -- From a reply to the words to the clauses of `ebc`: what it says of code, of an image under notes, of a listing, of an assembly,
 -- of files that are missing, too large or bad input, and of answers with no text.
-use Rattle.std.proofs.Common.{◌≡◌, ◌≢◌, ◌↔◌, ℕ, ◌<◌, ◌≤◌, List, [], ◌∷◌, length, Option, Some, None, option_map, IfSome, Result, Ok, Err}
-use Rattle.std.proofs.Common.{Bool, true, false, nat_lt, if◌then◌else◌, refl, sym, ap, ◌∙◌, arith}
+use Rattle.std.proofs.Common.{◌≡◌, ◌≢◌, ◌↔◌, ℕ, ◌<◌, ◌≤◌, List, [], ◌∷◌, ◌++◌, length, Option, Some, None, option_map, IfSome, IfNone}
+use Rattle.std.proofs.Common.{Result, Ok, Err, Bool, true, false, nat_lt, if◌then◌else◌, append-nil, refl, sym, ap, ◌∙◌, arith}
 use Rattle.std.proofs.lemmas.Bool.Decides.{nat_tests}
 use Rattle.std.specs.FinMap.{insert}
 use Rattle.std.specs.Fmt.{decimal}
@@ -10,6 +10,7 @@ use Rattle.ebc_link.specs.Links.{Fault}
 use Rattle.ebc_link.specs.declared.plan.LinkPlan.{LinkPlan}
 use Rattle.ebc_object.specs.declared.object.Object.{Object}
 use Rattle.ebc_object.specs.Files.{object_bytes}
+use Rattle.ebc_outside.specs.Counts.{Rose}
 use Rattle.ebc_outside.specs.Files.{Files, AppendsPart}
 use Rattle.note_types.specs.declared.notes.Notes.{Notes}
 use Rattle.option_rom.specs.declared.fault.RomFault.{RomFault}
@@ -33,7 +34,6 @@ use Rattle.plain_check.proofs.Rules.{neutral-exactly}
 use Rattle.plain_check.proofs.Refusals.{refused-exactly}
 use Rattle.cli_base.specs.declared.outcome.Outcome.{Outcome}
 use Rattle.cli_base.specs.declared.outcome.Outcome.TheVariants as outcomes
-use Rattle.cli_base.specs.declared.reply.End.TheVariants.{Stop}
 use Rattle.cli_base.specs.declared.reply.Reply.{Reply}
 use Rattle.ebc_cli.specs.declared.work.Work.{Work}
 use Rattle.ebc_cli.specs.declared.work.Work.TheVariants as works
@@ -41,12 +41,12 @@ use Rattle.ebc_cli.specs.Commands.{command_of, output_of}
 use Rattle.ebc_cli.specs.Faults.{asm_fault_text, link_detail, link_fault_text, rom_fault_text, take_fault_text}
 use Rattle.cli_base.specs.Outcomes.{IsAnswer}
 use Rattle.cli_base.specs.Outputs.{SameBut, files_left, printed, prints, text_of, written_name}
-use Rattle.cli_base.specs.Readings.{file, done, go_on, large_reply}
+use Rattle.cli_base.specs.Readings.{AsksPart, MissingHasCause, file, done, go_on, large_reply}
 use Rattle.ebc_cli.specs.RomTexts.{rom_listing}
 use Rattle.ebc_cli.specs.Texts.{neutral_line, refused_line}
 use Rattle.cli_base.specs.Texts.{bad_line}
 use Rattle.ebc_cli.specs.Works.{work_of, code_check, verdict_reply, listing_reply, file_reply, TellsVerdict, IsReplyOf, plain_code_limit}
-use Rattle.ebc_cli.specs.Answers.{IsAnswerOf, Decides, Answers, Assembles, LeavesPart, ChecksCode, ChecksImage, ListsImage, HasBadInput}
+use Rattle.ebc_cli.specs.Answers.{IsAnswerOf, Answers, Assembles, LeavesPart, ChecksCode, ChecksImage, ListsImage, HasBadInput}
 use Rattle.ebc_cli.specs.Answers.{HasBadLine, HasMissingFile, HasNoText, writes_object, writes_rom, writes_taken, empty_listing, no_points}
 use Rattle.ebc_cli.specs.Answers.{InfersPoints}
 use Rattle.ebc_cli.specs.Answers.{SameForScripts}
@@ -61,18 +61,40 @@ use Rattle.ebc_cli.proofs.InferLemmas.{infer-work}
 use Rattle.ebc_cli.proofs.BackLemmas.{bad-link-told, linking-work}
 use Rattle.ebc_cli.proofs.BackLemmas.{bad-rom-told, bad-taking-told, rom-listing-work, taking-work, wrapping-work}
 
--- a reply that was decided is an answer, whether the reading went through or stopped
-pub answer-ok : (contents : Option Files) (words before now : List (List ℕ)) (reply : Reply)
-    → IfSome contents (λ files. Decides before now (Ok reply) (work_of words files))
+-- a reply that was decided is an answer
+pub decided-answer : (contents : Option Files) (words before now : List (List ℕ)) (reply : Reply)
+    → IfSome contents (λ files. IsAnswerOf words files reply × (now ≡ before ++ (work_of words files).asked))
     → IfSome contents (λ files. IsAnswerOf words files reply)
-answer-ok None words before now reply decided = tt
-answer-ok (Some files) words before now reply decided = decided.0
+decided-answer None words before now reply decided = tt
+decided-answer (Some files) words before now reply decided = decided.0
 
-pub answer-stop : (contents : Option Files) (words before now : List (List ℕ)) (reply : Reply)
-    → IfSome contents (λ files. Decides before now (Err (Stop reply)) (work_of words files))
-    → IfSome contents (λ files. IsAnswerOf words files reply)
-answer-stop None words before now reply decided = tt
-answer-stop (Some files) words before now reply decided = decided.0
+-- all names were asked for once a reply was decided, and are the last where no other is asked for
+pub decided-asked : (A : Type 0) (contents : Option Files) (words before mid now : List (List ℕ)) (reply : Reply)
+    → IfSome contents (λ files. IsAnswerOf words files reply × (mid ≡ before ++ (work_of words files).asked))
+    → IfSome contents (λ files. now ≡ mid) → IfSome contents (λ files. A → now ≡ before ++ (work_of words files).asked)
+decided-asked A None words before mid now reply decided kept = tt
+decided-asked A (Some files) words before mid now reply decided kept = λ a. kept ∙ decided.1
+
+-- then they are a first part of themselves
+pub decided-part : (contents : Option Files) (words before mid now : List (List ℕ)) (reply : Reply)
+    → IfSome contents (λ files. IsAnswerOf words files reply × (mid ≡ before ++ (work_of words files).asked))
+    → IfSome contents (λ files. now ≡ mid) → IfSome contents (λ files. AsksPart before (work_of words files).asked now)
+decided-part None words before mid now reply decided kept = tt
+decided-part (Some files) words before mid now reply decided kept = record {
+  first = (work_of words files).asked;
+  others = [];
+  whole = sym (append-nil (work_of words files).asked);
+  asked = kept ∙ decided.1;
+}
+
+-- why the outcome is Missing where the files aren't told
+pub missing-cause : (contents : Option Files) (outcome told : Outcome) (before mid now : ℕ) → MissingHasCause contents before mid told
+    → (IsAnswer outcome → outcome ≡ told) → now ≡ mid
+    → IfNone contents ((word : ℕ) → outcome ≡ outcomes.Missing word → Rose before now)
+missing-cause (Some files) outcome told before mid now cause same count = tt
+missing-cause None outcome told before mid now cause same count = λ word e.
+    let is : told ≡ outcomes.Missing word = sym (same (rw e tt)) ∙ e in
+    let rose : Rose before mid = rw is at cause in rw count rose
 
 -- the reply is an answer to the words, and the outcome is its
 pub record Tells (contents : Option Files) (words : List (List ℕ)) (reply : Reply) (outcome : Outcome) : Type 0 where
@@ -191,7 +213,7 @@ refused-printed (Some files) words reply outcome before now tells text = λ imag
 -- ---- files that are missing, too large or bad
 
 -- what is exact of the reply is exact of the outcome
-of-reply : {B : Type 0} (outcome told wanted : Outcome) → outcome ≡ told → told ≡ wanted ↔ B → outcome ≡ wanted ↔ B
+pub of-reply : {B : Type 0} (outcome told wanted : Outcome) → outcome ≡ told → told ≡ wanted ↔ B → outcome ≡ wanted ↔ B
 of-reply outcome told wanted same exact = (λ e. exact.0 (sym same ∙ e), λ b. same ∙ exact.1 b)
 
 pub missing : (contents : Option Files) (words : List (List ℕ)) (reply : Reply) (outcome : Outcome) → Tells contents words reply outcome

@@ -15,6 +15,7 @@ pub mod BackLemmas
 pub mod ExactLemmas
 pub mod WorkAnswers
 pub mod HeadlineLemmas
+pub mod ToldLaws
 pub mod InferLemmas
 pub mod InferAnswers
 pub mod RunAnswers

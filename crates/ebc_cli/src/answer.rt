@@ -290,6 +290,50 @@ pub fn ebc<F: Folder, O: Sink>(
     ensures no_memory_leaves { result ≡ Outcome.NoMemory → O.written out.new ≡ O.written out.old }
     ensures no_memory_files { result ≡ Outcome.NoMemory → F.contents folder.new ≡ F.contents folder.old }
 {
+    carry_out(alloc, words, folder, out)
+}
+
+// Decides what to answer and carries it out. That the outcome is an answer, if it is one, is what the clauses of `ebc` on each command
+// follow from; the others are those of `ebc` that speak of all commands alike.
+fn carry_out<F: Folder, O: Sink>(
+    alloc: Global,
+    words: &Vec<String>,
+    folder: &mut F,
+    out: &mut O,
+) -> Outcome
+    ensures answer { IfSome (F.contents folder.old) (λ files. IsAnswer result →
+        Answers (word_bytes words.now) files result (O.written out.old) (O.written out.new) (F.contents folder.new)) }
+    ensures asked { IfSome (F.contents folder.old) (λ files.
+        IsAnswer result → F.asked folder.new ≡ F.asked folder.old ++ (work_of (word_bytes words.now) files).asked) }
+    ensures asked_part { IfSome (F.contents folder.old) (λ files.
+        AsksPart (F.asked folder.old) (work_of (word_bytes words.now) files).asked (F.asked folder.new)) }
+    ensures files { SameBut (output_of (command_of (word_bytes words.now))) (F.contents folder.old) (F.contents folder.new) }
+    ensures unput { IfSome (F.contents folder.old) (λ files. HasNoText (word_bytes words.now) files → out.new ≡ out.old) }
+    ensures untold { IfSome (F.contents folder.old) (λ files. HasNoText (word_bytes words.now) files → result ≡ Outcome.WriteFault →
+        (output_of (command_of (word_bytes words.now)) ≢ None) × Rose (F.write_faults folder.old) (F.write_faults folder.new)) }
+    ensures bad_words { IsAnswer result →
+        (result ≡ Outcome.BadWords ↔ command_of (word_bytes words.now) ≡ None) }
+    ensures missing { IfNone (F.contents folder.old) ((word : ℕ) → result ≡ Outcome.Missing word →
+        Rose (F.read_faults folder.old) (F.read_faults folder.new)) }
+    ensures read_fault { result ≡ Outcome.ReadFault →
+        Rose (F.read_faults folder.old) (F.read_faults folder.new) }
+    ensures uncounted { IfSome (F.contents folder.old) (λ _. result ≢ Outcome.ReadFault →
+        F.read_faults folder.new ≡ F.read_faults folder.old) }
+    ensures write_fault { result ≡ Outcome.WriteFault →
+        Rose (O.faults out.old) (O.faults out.new) ⊎ Rose (F.write_faults folder.old) (F.write_faults folder.new) }
+    ensures unwritten { output_of (command_of (word_bytes words.now)) ≡ None →
+        F.write_faults folder.new ≡ F.write_faults folder.old }
+    ensures write_uncounted { IfSome (F.contents folder.old) (λ _. result ≢ Outcome.WriteFault →
+        F.write_faults folder.new ≡ F.write_faults folder.old) }
+    ensures read_fault_leaves { result ≡ Outcome.ReadFault → out.new ≡ out.old }
+    ensures read_fault_files { result ≡ Outcome.ReadFault → F.contents folder.new ≡ F.contents folder.old }
+    ensures write_fault_asked { IfSome (F.contents folder.old) (λ files. result ≡ Outcome.WriteFault →
+        F.asked folder.new ≡ F.asked folder.old ++ (work_of (word_bytes words.now) files).asked) }
+    ensures write_fault_leaves { IfSome (F.contents folder.old) (λ files. result ≡ Outcome.WriteFault →
+        LeavesPart (word_bytes words.now) files (O.written out.old) (O.written out.new) (F.contents folder.new)) }
+    ensures no_memory_leaves { result ≡ Outcome.NoMemory → O.written out.new ≡ O.written out.old }
+    ensures no_memory_files { result ≡ Outcome.NoMemory → F.contents folder.new ≡ F.contents folder.old }
+{
     let reply = match decide(alloc, words, folder) {
         Ok(reply) => reply,
         Err(End::Stop(reply)) => reply,
