@@ -66,6 +66,46 @@ fn finish<const W: usize>(
     }
 }
 
+// How two runners went on together.
+#[derive(Clone, Copy)]
+struct Together {
+    // The steps that both took.
+    taken: u64,
+    // The least number of steps, up to the limit, after which the two aren't the same.
+    differ: Option<u64>,
+}
+
+// Steps two runners together, from the start of their runs while they show the same and go on, up to a limit.
+fn step_together(
+    at4: &mut PairRunner<4>,
+    at8: &mut PairRunner<8>,
+    a: &Driver,
+    b: &Driver,
+    binds: &Binds,
+    limit: u64,
+) -> Together
+    requires paired { ArePaired a.now b.now binds.now }
+    requires at4 { IsPairOnItsWay 4 (images_for a.now b.now) (pair_world a.now b.now binds.now) limit 0 at4.old }
+    requires at8 { IsPairOnItsWay 8 (images_for a.now b.now) (pair_world a.now b.now binds.now) limit 0 at8.old }
+    ensures at4 { IsPairOnItsWay 4 (images_for a.now b.now) (pair_world a.now b.now binds.now) limit result.taken at4.new }
+    ensures at8 { IsPairOnItsWay 8 (images_for a.now b.now) (pair_world a.now b.now binds.now) limit result.taken at8.new }
+    ensures differ { PairsDifferAt (images_for a.now b.now) (pair_world a.now b.now binds.now) limit result.differ }
+{
+    let mut taken = 0;
+    let mut same = same_but_first(at4, at8, 0);
+    while same && taken < limit && goes_on(at4) {
+        let told = at4.trace().len();
+        at4.step(a, b, binds);
+        at8.step(a, b, binds);
+        taken += 1;
+        same = same_but_first(at4, at8, told);
+    }
+    Together {
+        taken,
+        differ: if same { None } else { Some(taken) },
+    }
+}
+
 /// Runs image B, the provider, and then image A, whose calls of bound methods enter functions of image B, at 4 and at 8 bytes an
 /// address, each until its run ends or for so many steps, and finds the least number of steps, up to the same, after which the two
 /// aren't the same. The binds agree with the notes of both. The images need to keep no rule of docs/RULES.md; where both keep them
@@ -91,19 +131,19 @@ pub fn pair(
 {
     let events = steps as usize;
     let mut at4 = start::<4>(alloc, a, b, events)?;
-    let mut at8 = start::<8>(alloc, a, b, events)?;
-    let mut taken = 0;
-    let mut same = same_but_first(&at4, &at8, 0);
-    while same && taken < steps && goes_on(&at4) {
-        let told = at4.trace().len();
-        at4.step(a, b, binds);
-        at8.step(a, b, binds);
-        taken += 1;
-        same = same_but_first(&at4, &at8, told);
+    match start::<8>(alloc, a, b, events) {
+        Ok(mut at8) => {
+            let Together { taken, differ } = step_together(&mut at4, &mut at8, a, b, binds, steps);
+            Ok(PairReport {
+                at4: finish(at4, a, b, binds, taken, steps),
+                at8: finish(at8, a, b, binds, taken, steps),
+                differ,
+            })
+        }
+        Err(error) => {
+            // A value of many parts is dropped by a call: its drop at the end of an arm would be proved part by part.
+            drop(at4);
+            Err(error)
+        }
     }
-    Ok(PairReport {
-        at4: finish(at4, a, b, binds, taken, steps),
-        at8: finish(at8, a, b, binds, taken, steps),
-        differ: if same { None } else { Some(taken) },
-    })
 }
