@@ -52,16 +52,29 @@ pub fn link(alloc: Global, objects: &[Object], plan: &LinkPlan) -> Result<Image,
 {
     let bounds = bounds_of(objects);
     let resolved = Resolved::of(alloc, objects, bounds.contents_start)?;
+    // Values of many parts are dropped by calls: their drop at the end of an arm would be proved part by part.
     if let Some(place) = resolved.first_far() {
+        drop(resolved);
         return Err(LinkEnd::Far(place));
     }
     let Some(entry) = resolved.entry(&plan.entry) else {
+        drop(resolved);
         return Err(LinkEnd::Entry);
     };
-    let relocs = resolved.relocs(alloc)?;
+    let relocs = match resolved.relocs(alloc) {
+        Ok(relocs) => relocs,
+        Err(error) => {
+            drop(resolved);
+            return Err(LinkEnd::from(error));
+        }
+    };
     let size = size(bounds, &relocs);
     if size > MOST {
+        drop(relocs);
+        drop(resolved);
         return Err(LinkEnd::Size);
     }
-    Ok(resolved.image(alloc, plan, bounds, entry, size as u32, relocs)?)
+    let image = resolved.image(alloc, plan, bounds, entry, size as u32, relocs);
+    drop(resolved);
+    Ok(image?)
 }

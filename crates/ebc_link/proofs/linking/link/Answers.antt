@@ -49,7 +49,7 @@ size-size-requires-clause-apart c =
     let r = c.in_ok-resolved.resolved in
     let it = c.in_ok-resolved.ensures in
     let of : IsOf r os = is_of r os it.resolved it.objects it.definitions it.resolution in
-    relocs_apart_there os r c.deref.result.now c.requires.objects of (c.deref.ensures.value ∙ c.in_ok-relocs.ensures)
+    relocs_apart_there os r c.deref.result.now c.requires.objects of (c.deref.ensures.value ∙ c.in-Ok.ensures)
 
 pub returns-then-size-gt-MOST-clause-answer : goal.returns-then-size-gt-MOST-clause-answer
 returns-then-size-gt-MOST-clause-answer c =
@@ -59,16 +59,16 @@ returns-then-size-gt-MOST-clause-answer c =
     let of : IsOf r os = is_of r os it.resolved it.objects it.definitions it.resolution in
     told_size c.args.plan.now os r c.bounds_of-bounds.result c.in-Some-entry.entry c.size-size.result c.deref.result.now
     c.requires.objects of c.bounds_of-bounds.ensures (sym c.in_default.is ∙ c.first_far.ensures)
-    (sym c.in-Some-entry.is ∙ c.entry.ensures) (c.deref.ensures.value ∙ c.in_ok-relocs.ensures) c.size-size.ensures (omega arith)
+    (sym c.in-Some-entry.is ∙ c.entry.ensures) (c.deref.ensures.value ∙ c.in-Ok.ensures) c.size-size.ensures (omega arith)
 
-pub image-requires-clause-size : goal.image-requires-clause-size
-image-requires-clause-size c =
+pub image-image-requires-clause-size : goal.image-image-requires-clause-size
+image-image-requires-clause-size c =
     let os = c.args.objects.now in
     let r = c.in_ok-resolved.resolved in
     let it = c.in_ok-resolved.ensures in
     let of : IsOf r os = is_of r os it.resolved it.objects it.definitions it.resolution in
     size_there c.args.plan.now os r c.bounds_of-bounds.result c.in-Some-entry.entry c.size-size.result c.deref.result.now
-    c.requires.objects of c.bounds_of-bounds.ensures (c.deref.ensures.value ∙ c.in_ok-relocs.ensures) c.size-size.ensures
+    c.requires.objects of c.bounds_of-bounds.ensures (c.deref.ensures.value ∙ c.in-Ok.ensures) c.size-size.ensures
 
 pub returns-clause-answer : goal.returns-clause-answer
 returns-clause-answer c =
@@ -78,7 +78,7 @@ returns-clause-answer c =
     let of : IsOf r os = is_of r os it.resolved it.objects it.definitions it.resolution in
     told_linked c.args.plan.now os r c.bounds_of-bounds.result c.in-Some-entry.entry c.size-size.result c.deref.result.now
     c.in_ok-image.field-0 c.requires.objects of c.bounds_of-bounds.ensures (sym c.in_default.is ∙ c.first_far.ensures)
-    (sym c.in-Some-entry.is ∙ c.entry.ensures) (c.deref.ensures.value ∙ c.in_ok-relocs.ensures) c.size-size.ensures (omega arith)
+    (sym c.in-Some-entry.is ∙ c.entry.ensures) (c.deref.ensures.value ∙ c.in-Ok.ensures) c.size-size.ensures (omega arith)
     c.in_ok-image.ensures.image
 
 pub returns-clause-linked : goal.returns-clause-linked
