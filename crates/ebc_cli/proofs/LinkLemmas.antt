@@ -260,12 +260,6 @@ none-kept (Some files) mid names i name text object before between now objects i
     so_far (rw (sym spelled) (rw same at one)) refl in
     record { first = more.asked; others = (each_object (drop (i + 1) names) files).asked; whole = more.all_asked; asked = more.now_is }
 
--- a reading that went through counts nothing
-pub still-uncounted : {R : Type 0} (old mid : Option Files) (before between now : ℕ) → mid ≡ old → IfSome old (λ _. between ≡ before)
-    → IfSome mid (λ _. R → now ≡ between) → R → IfSome old (λ _. now ≡ before)
-still-uncounted None mid before between now same one two went = tt
-still-uncounted (Some files) mid before between now same one two went = (rw same at two) went ∙ one
-
 -- one object more
 pub one-more : (old new : List Object) (object : Object) (index : ℕ) → All IsObject old → IsObject object → length old ≡ index
     → new ≡ old ++ object ∷ [] → All IsObject new × (length new ≡ index + 1)

@@ -99,35 +99,37 @@ went-more contents asked reads writes before mid now x first went one = record {
   both None mid before between now same one two = tt
   both (Some files) mid before between now same one two = (rw same at two) ∙ one
 
--- readings that went through, whatever is made of what they gave
-pub reads-went : {S A : Type 0} (contents : S → Option Files) (asked : S → List (List ℕ)) (reads writes : S → ℕ) (before now : S) (x : A)
-    (whole : Files → FileReading A) → Went contents reads writes before now
-    → IfSome (contents before) (λ files. Follows (asked before) (asked now) (Ok x) (whole files))
-    → Reads contents asked reads writes before now (Ok x) whole
-reads-went contents asked reads writes before now x whole went follows = record {
+-- readings that went through, whatever comes of all of them, where that is no stop and no failed read
+reads-kept : {S A : Type 0} (contents : S → Option Files) (asked : S → List (List ℕ)) (reads writes : S → ℕ) (before now : S)
+    (result : Result A End) (whole : Files → FileReading A) → IfStop result (CommandAnswer (contents before) (reads before) (reads now))
+    → (IsErrOf result ends.ReadFault → ⊥) → Went contents reads writes before now
+    → IfSome (contents before) (λ files. Follows (asked before) (asked now) result (whole files))
+    → Reads contents asked reads writes before now result whole
+reads-kept contents asked reads writes before now result whole stop no-fault went follows = record {
   follows = follows;
-  stop = tt;
-  fault = λ e. absurd cc;
+  stop = stop;
+  fault = λ e. absurd (no-fault e);
   uncounted = uncounted-made _ (contents before) (reads before) (reads now) went.uncounted;
   count = went.count;
   same_files = went.same_files;
   same_writes = went.same_writes;
 }
 
--- and where what they gave can't be kept for want of memory
+-- so what is made of what they gave
+pub reads-went : {S A : Type 0} (contents : S → Option Files) (asked : S → List (List ℕ)) (reads writes : S → ℕ) (before now : S) (x : A)
+    (whole : Files → FileReading A) → Went contents reads writes before now
+    → IfSome (contents before) (λ files. Follows (asked before) (asked now) (Ok x) (whole files))
+    → Reads contents asked reads writes before now (Ok x) whole
+reads-went contents asked reads writes before now x whole =
+    reads-kept contents asked reads writes before now (Ok x) whole tt (λ e. cc)
+
+-- and so where what they gave can't be kept for want of memory
 pub reads-lost : {S A : Type 0} (contents : S → Option Files) (asked : S → List (List ℕ)) (reads writes : S → ℕ) (before now : S)
     (whole : Files → FileReading A) → Went contents reads writes before now
     → IfSome (contents before) (λ files. Follows {A = A} (asked before) (asked now) (Err ends.NoMemory) (whole files))
     → Reads {A = A} contents asked reads writes before now (Err ends.NoMemory) whole
-reads-lost contents asked reads writes before now whole went follows = record {
-  follows = follows;
-  stop = tt;
-  fault = λ e. absurd cc;
-  uncounted = uncounted-made _ (contents before) (reads before) (reads now) went.uncounted;
-  count = went.count;
-  same_files = went.same_files;
-  same_writes = went.same_writes;
-}
+reads-lost contents asked reads writes before now whole =
+    reads-kept contents asked reads writes before now (Err ends.NoMemory) whole tt (λ e. cc)
 
 -- readings that went through, and then one more, whatever comes of all of them
 pub reads-after : {S A : Type 0} (contents : S → Option Files) (asked : S → List (List ℕ)) (reads writes : S → ℕ) (before mid now : S)
