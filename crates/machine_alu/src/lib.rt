@@ -26,17 +26,16 @@ pub fn compute(op: ArithOp, wide: bool, a: u64, b: u64) -> Result<u64, DivideErr
     ensures divide_error { IsErr result ↔ IsTrue (divides_by_zero op wide b) }
 {
     let (x, y) = (low(wide, a), low(wide, b));
-    let (m, n) = (signed(wide, x), signed(wide, y));
     Ok(match op {
         ArithOp::Not => low(wide, !y),
         ArithOp::Neg => low(wide, y.wrapping_neg()),
         ArithOp::Add => low(wide, x.wrapping_add(y)),
         ArithOp::Sub => low(wide, x.wrapping_sub(y)),
-        ArithOp::Mul => product(wide, m, n),
+        ArithOp::Mul => product(wide, signed(wide, x), signed(wide, y)),
         ArithOp::Mulu => low(wide, x.wrapping_mul(y)),
-        ArithOp::Div if n != 0 => wrap(wide, m.wrapping_div(n)),
+        ArithOp::Div if y != 0 => wrap(wide, signed(wide, x).wrapping_div(signed(wide, y))),
         ArithOp::Divu if y != 0 => x / y,
-        ArithOp::Mod if n != 0 => wrap(wide, m.wrapping_rem(n)),
+        ArithOp::Mod if y != 0 => wrap(wide, signed(wide, x).wrapping_rem(signed(wide, y))),
         ArithOp::Modu if y != 0 => x % y,
         ArithOp::Div | ArithOp::Divu | ArithOp::Mod | ArithOp::Modu => return Err(DivideError),
         ArithOp::And => x & y,
@@ -44,7 +43,7 @@ pub fn compute(op: ArithOp, wide: bool, a: u64, b: u64) -> Result<u64, DivideErr
         ArithOp::Xor => x ^ y,
         ArithOp::Shl => shift_left(wide, x, y),
         ArithOp::Shr => shift_right(wide, x, y),
-        ArithOp::Ashr => wrap(wide, shift_signed(m, y)),
+        ArithOp::Ashr => wrap(wide, shift_signed(signed(wide, x), y)),
         ArithOp::Extb => wrap(wide, ((y % 0x100) as u8).cast_signed() as i64),
         ArithOp::Extw => wrap(wide, ((y % 0x1_0000) as u16).cast_signed() as i64),
         ArithOp::Extd => wrap(wide, ((y % 0x1_0000_0000) as u32).cast_signed() as i64),
