@@ -1,6 +1,6 @@
 -- Laws of memories, for the crates above.
-use Rattle.std.proofs.Common.{◌≡◌, ℕ, zero, suc, ◌+◌, ◌-◌, ◌*◌, ◌%◌, ◌^◌, ◌<◌, ◌≤◌, ◌⊎◌, inl, inr, ⊎_elim, Bool, true, false, cond}
-use Rattle.std.proofs.Common.{if◌then◌else◌, ◌||◌, List, [], ◌∷◌, length, map, drop, replicate, get_or, refl, sym, ap, ap₂, subst, subst₂}
+use Rattle.std.proofs.Common.{◌≡◌, ℕ, zero, suc, ◌+◌, ◌-◌, ◌*◌, ◌^◌, ◌<◌, ◌≤◌, ◌⊎◌, inl, inr, ⊎_elim, Bool, true, false, cond}
+use Rattle.std.proofs.Common.{if◌then◌else◌, List, [], ◌∷◌, length, map, drop, replicate, get_or, refl, sym, ap, ap₂, subst, subst₂}
 use Rattle.std.proofs.Common.{◌∙◌, arith, Option, Some, None}
 use Rattle.std.specs.Prelude.{slice_get, slice_index, All, AllPairs}
 use Rattle.std.proofs.lemmas.Option.{none-some, same_Some, slice_get_within, slice_get-get_or, get_or_from_slice_get}
@@ -216,6 +216,10 @@ byte_at-placed w m n x =
 
 pub limit-no_wrap : (w limit : ℕ) → IsWidth w → limit ≤ top_limit w → first_base w + limit ≤ 2 ^ (8 * w)
 limit-no_wrap w limit width bounded = by_width (λ v. limit ≤ top_limit v → first_base v + limit ≤ 2 ^ (8 * v)) w width
+    (λ below. omega arith) (λ below. omega arith) bounded
+
+pub limit-below : (w limit : ℕ) → IsWidth w → limit ≤ top_limit w → first_base w + limit < 2 ^ 64
+limit-below w limit width bounded = by_width (λ v. limit ≤ top_limit v → first_base v + limit < 2 ^ 64) w width
     (λ below. omega arith) (λ below. omega arith) bounded
 
 -- a memory with no object

@@ -25,7 +25,7 @@ use Rattle.object_memory.proofs.Search.{AreHomes-next}
 use Rattle.ebc_width.proofs.ByteLaws.{little_endian-moved, put-moved, overlaid-moved, length-window, get_or-window}
 use Rattle.ebc_width.proofs.RangeLaws.{covers-bounds, holds-at, holds-within}
 use Rattle.object_memory.proofs.Laws.{object_at-found, byte_at-none, held_number-held, memory_after-held, memory_filled-held}
-use Rattle.object_memory.proofs.Laws.{rest_from-found, limit-no_wrap}
+use Rattle.object_memory.proofs.Laws.{rest_from-found, limit-below, limit-no_wrap}
 
 -- ---- a new memory
 
@@ -52,6 +52,7 @@ IsKept-empty w limit most room index_room spans cells homes width bounded no_spa
         spans_reserved = rooms;
       };
       are = record {
+        ends = λ i d within. absurd (omega arith);
         above = λ i d within. absurd (omega arith);
         numbers = λ i d within. absurd (omega arith);
         found = λ i a s at from to. absurd (omega (arith, slice_get_within [] i s at));
@@ -136,7 +137,8 @@ IsKept-next_span w spans cells homes most room index_room more_room more_index n
     record {
       layout = subst (λ k. IsLayout w (spans ++ next_span w (16 * length homes) n ∷ []) cells k most more_room) count
           (IsLayout-next_span w spans cells (16 * length homes) most room more_room n was.layout some fits more rooms);
-      are = AreHomes-next (first_base w) (16 * length homes) n spans homes was.are refl;
+      are = AreHomes-next (first_base w) (16 * length homes) n spans homes was.are refl
+          (omega (arith, fits, limit-below w (length cells) was.layout.width was.layout.bounded));
       homes_reserved = omega (arith, was.homes_reserved, indexes);
     }
 

@@ -44,8 +44,10 @@ pub record IsLayout (w : ℕ) (spans : List Span) (cells : List ℕ) (count most
   pub small : most < 2 ^ 32
   pub spans_reserved : most ≤ room
 
--- Of each 16 cells the number of the span for which they were taken, with its padding and gap; the first cell lies at `first`.
+-- Of each 16 cells the number of the span for which they were taken, with its padding and gap; the first cell lies at `first`,
+-- and no span wraps.
 pub record AreHomes (first : ℕ) (spans : List Span) (homes : List ℕ) : Type 0 where
+  pub ends : All (λ s. s.base + s.size < 2 ^ 64) spans
   pub above : All (λ s. first ≤ s.base) spans
   pub numbers : All (λ n. n < length spans) homes
   pub found : (i a : ℕ) (s : Span) → slice_get spans i ≡ Some s → s.base ≤ a → a < s.base + padded s.size
