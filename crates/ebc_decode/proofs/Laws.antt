@@ -3,7 +3,6 @@ use Rattle.std.proofs.Common.{◌≡◌, ℕ, ◌≤◌, List, ◌∷◌, ◌++�
 use Rattle.ebc_insn.specs.declared.Insn.{Insn}
 use Rattle.ebc_insn.specs.Spelling.{Spells, WellFormed, bytes_of, spelling}
 use Rattle.ebc_decode.specs.declared.DecodeFault.{DecodeFault}
-use Rattle.ebc_decode.specs.declared.DecodeFault.TheVariants as faults
 use Rattle.ebc_decode.specs.declared.form.Form.{Form}
 use Rattle.ebc_decode.specs.Reading.{parts_at, read}
 use Rattle.ebc_decode.proofs.Again.{read_again}

@@ -1,6 +1,6 @@
 -- Meaning: the instruction that a list of bytes begins with, or the first fault: UEFI specification, chapter "EFI Byte Code
 -- Virtual Machine", sections "Instruction Encoding" and "EBC Instruction Set"; in words in docs/ENCODING.md.
-use Rattle.std.specs.Prelude.{◌≡◌, ℕ, ◌+◌, ◌-◌, ◌/◌, ◌%◌, ◌^◌, ◌<◌, ◌↔◌, Bool, false, ◌&&◌, ◌||◌, not, List, [], ◌∷◌, ◌++◌, length, take}
+use Rattle.std.specs.Prelude.{◌≡◌, ℕ, ◌+◌, ◌-◌, ◌/◌, ◌%◌, ◌<◌, ◌↔◌, Bool, false, ◌&&◌, ◌||◌, not, List, [], ◌∷◌, ◌++◌, length, take}
 use Rattle.std.specs.Prelude.{drop, Option, Some, None, Result, Ok, Err, nat_eq, nat_le, nat_lt, if◌then◌else◌, ℤ, pos}
 use Rattle.std.specs.Option.{option_map, option_and_then}
 use Rattle.std.specs.Int.{w16, w32, w64, from_le_bytes}
@@ -25,6 +25,8 @@ use Rattle.ebc_insn.specs.declared.code.Field.{Field}
 use Rattle.ebc_insn.specs.declared.code.Field.TheVariants as fields
 use Rattle.ebc_decode.specs.declared.DecodeFault.{DecodeFault}
 use Rattle.ebc_decode.specs.declared.DecodeFault.TheVariants as faults
+use Rattle.ebc_decode.specs.declared.Decoded.{Decoded}
+use Rattle.ebc_decode.specs.declared.Decoded.TheVariants.{Found, Fault}
 use Rattle.ebc_decode.specs.declared.form.Form.{Form}
 use Rattle.ebc_width.specs.Width.{signed_at}
 use Rattle.ebc_decode.specs.declared.form.Form.TheVariants as forms
@@ -297,6 +299,11 @@ unfoldable pub read : List ℕ → Result (Insn × ℕ) DecodeFault
 read [] = Err faults.Short
 read (b0 ∷ []) = Err faults.Short
 read (b0 ∷ b1 ∷ rest) = read_form (form_at (b0 % 64)) b0 b1 rest
+
+-- what bytes are read as, as a result
+abbrev pub result_of : Decoded → Result (Insn × ℕ) DecodeFault
+result_of (Found i n) = Ok (i, n)
+result_of (Fault e) = Err e
 
 -- Two instructions whose spellings begin one list are the same ("Instruction Encoding").
 abbrev pub OneSpelling : Type 0

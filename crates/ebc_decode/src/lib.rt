@@ -12,7 +12,7 @@ ghost use Rattle.std.specs.Prelude.{◌≡◌, ℕ, ◌+◌, ◌≤◌, List, �
 ghost use Rattle.arrayvec.specs.ArrayVec.{array_vec_len};
 ghost use Rattle.ebc_insn.specs.declared.Insn.{Insn};
 ghost use Rattle.ebc_insn.specs.Spelling.{Spells, WellFormed, bytes_of, field_bytes, field_size, spelling};
-ghost use Rattle.ebc_decode.specs.Reading.{OneSpelling, ReservedIsExact, form_at, read, read_form};
+ghost use Rattle.ebc_decode.specs.Reading.{OneSpelling, ReservedIsExact, form_at, read, read_form, result_of};
 
 use crate::bits::{arith_op_at, cmp_op_at, size_at};
 use crate::reader::{
@@ -39,6 +39,31 @@ pub enum DecodeFault {
     DirectIndex,
 }
 
+/// What bytes are read as. A step takes it as it is, and not as a `Result` of a pair: the compiler copies a pair in whole
+/// words, so that the parts of each instruction would be packed into words and taken out of them again.
+#[derive(Clone, Copy)]
+pub enum Decoded {
+    /// The instruction that they begin with, and its length in bytes, 2 to 18 ("Instruction Encoding").
+    Found(Insn, usize),
+    /// Why they begin with none.
+    Fault(DecodeFault),
+}
+
+impl Decoded {
+    ghost use Rattle.std.specs.Prelude.{◌≡◌};
+    ghost use Rattle.ebc_decode.specs.Reading.{result_of};
+
+    // The same as a result.
+    fn result(self) -> Result<(Insn, usize), DecodeFault>
+        ensures { result ≡ result_of self }
+    {
+        match self {
+            Decoded::Found(insn, length) => Ok((insn, length)),
+            Decoded::Fault(fault) => Err(fault),
+        }
+    }
+}
+
 /// The instruction that the bytes of `code` from place `at` on begin with, and its length in bytes, 2 to 18 (UEFI
 /// specification, "Instruction Encoding"). The faults are tried in this order:
 ///
@@ -63,39 +88,34 @@ pub fn decode(code: &[u8], at: usize) -> Result<(Insn, usize), DecodeFault>
     // Each fault in its order.
     ensures reading { result ≡ read (drop at code.now) }
 {
-    read::<0>(&code[at..])
+    read::<0>(&code[at..]).result()
 }
 
 /// The instruction that bytes begin with, and its length in bytes, as `decode` answers them at place 0. `COPY` has no part in the
 /// answer: code of its own is made for each, so that the compiler puts it into a caller that alone uses it.
 #[inline(always)]
-pub fn decode_first<const COPY: usize>(bytes: &[u8]) -> Result<(Insn, usize), DecodeFault>
-    ensures well_formed { IfOk result (λ (i, n). WellFormed i) }
-    ensures reading { result ≡ read bytes.now }
+pub fn decode_first<const COPY: usize>(bytes: &[u8]) -> Decoded
+    ensures well_formed { IfOk (result_of result) (λ (i, n). WellFormed i) }
+    ensures reading { result_of result ≡ read bytes.now }
 {
     read::<COPY>(bytes)
 }
 
 #[inline(always)]
 #[tactic(auto, unfolding(crate::specs::Reading::read))]
-fn read<const COPY: usize>(bytes: &[u8]) -> Result<(Insn, usize), DecodeFault>
-    ensures { result ≡ read bytes.now }
+fn read<const COPY: usize>(bytes: &[u8]) -> Decoded
+    ensures { result_of result ≡ read bytes.now }
 {
     match bytes {
         [b0, b1, rest @ ..] => read_opcode::<COPY>(*b0 % 64, *b0, *b1, rest),
-        _ => Err(DecodeFault::Short),
+        _ => Decoded::Fault(DecodeFault::Short),
     }
 }
 
 // Reads by the opcode, with one branch on it: a row for each ("EBC Instruction Set").
 #[tactic(auto, unfolding(crate::specs::Reading::form_at))]
-fn read_opcode<const COPY: usize>(
-    opcode: u8,
-    b0: u8,
-    b1: u8,
-    rest: &[u8],
-) -> Result<(Insn, usize), DecodeFault>
-    ensures { result ≡ read_form (form_at opcode) b0 b1 rest.now }
+fn read_opcode<const COPY: usize>(opcode: u8, b0: u8, b1: u8, rest: &[u8]) -> Decoded
+    ensures { result_of result ≡ read_form (form_at opcode) b0 b1 rest.now }
 {
     match opcode {
         0x00 => read_break(b0, b1, rest),
@@ -122,7 +142,7 @@ fn read_opcode<const COPY: usize>(
         0x37 => read_move_imm(b0, b1, rest),
         0x38 => read_move_imm_natural(b0, b1, rest),
         0x39 => read_move_relative(b0, b1, rest),
-        _ => Err(DecodeFault::Opcode),
+        _ => Decoded::Fault(DecodeFault::Opcode),
     }
 }
 

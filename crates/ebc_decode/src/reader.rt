@@ -1,10 +1,9 @@
 //! The reader of each form: what two bytes with its opcode, and what follows them, read as.
 
 ghost use Rattle.std.specs.Prelude.{◌≡◌, ◌≤◌, length, Some, Err, IfOk, IfErr};
-ghost use Rattle.ebc_decode.specs.Reading.{insn_at, parts_at, read_form, size1_at, size2_at, tail_at, with_length};
+ghost use Rattle.ebc_decode.specs.Reading.{insn_at, parts_at, read_form, result_of, size1_at, size2_at, tail_at, with_length};
 ghost use Rattle.ebc_decode.specs.declared.form.Form.TheVariants as forms;
 
-use crate::DecodeFault;
 use crate::field::field_at;
 use crate::form::Form;
 use crate::insn::{
@@ -12,6 +11,7 @@ use crate::insn::{
     move_at, move_imm_at, move_imm_natural_at, move_relative_at, move_signed_at, pop_at,
     pop_natural_at, push_at, push_natural_at, ret_at, store_special_at,
 };
+use crate::{DecodeFault, Decoded};
 use ebc_insn::{ArithOp, CmpOp, Code, Insn, Size};
 
 // The parts of two bytes and of the fields that follow them, whose sizes are `one` and `two`.
@@ -54,174 +54,201 @@ fn parts(form: Form, b0: u8, b1: u8, rest: &[u8]) -> Result<(Code, usize), Decod
 
 // An instruction with its length, if its indexes have tags with room.
 #[inline(always)]
-fn with_length(length: usize, insn: Option<Insn>) -> Result<(Insn, usize), DecodeFault>
-    ensures { result ≡ with_length length insn }
+fn with_length(length: usize, insn: Option<Insn>) -> Decoded
+    ensures { result_of result ≡ with_length length insn }
 {
     match insn {
-        Some(insn) => Ok((insn, length)),
-        None => Err(DecodeFault::IndexTag),
+        Some(insn) => Decoded::Found(insn, length),
+        None => Decoded::Fault(DecodeFault::IndexTag),
     }
 }
 
 #[inline(always)]
-pub fn read_break(b0: u8, b1: u8, rest: &[u8]) -> Result<(Insn, usize), DecodeFault>
-    ensures { result ≡ read_form (Some forms.Break) b0 b1 rest.now }
+pub fn read_break(b0: u8, b1: u8, rest: &[u8]) -> Decoded
+    ensures { result_of result ≡ read_form (Some forms.Break) b0 b1 rest.now }
 {
-    let (code, length) = parts(Form::Break, b0, b1, rest)?;
-    with_length(length, break_at(code))
+    match parts(Form::Break, b0, b1, rest) {
+        Ok((code, length)) => with_length(length, break_at(code)),
+        Err(fault) => Decoded::Fault(fault),
+    }
 }
 
 #[inline(always)]
-pub fn read_jump(b0: u8, b1: u8, rest: &[u8]) -> Result<(Insn, usize), DecodeFault>
-    ensures { result ≡ read_form (Some forms.Jump) b0 b1 rest.now }
+pub fn read_jump(b0: u8, b1: u8, rest: &[u8]) -> Decoded
+    ensures { result_of result ≡ read_form (Some forms.Jump) b0 b1 rest.now }
 {
-    let (code, length) = parts(Form::Jump, b0, b1, rest)?;
-    with_length(length, jump_at(code))
+    match parts(Form::Jump, b0, b1, rest) {
+        Ok((code, length)) => with_length(length, jump_at(code)),
+        Err(fault) => Decoded::Fault(fault),
+    }
 }
 
 #[inline(always)]
-pub fn read_jump8(b0: u8, b1: u8, rest: &[u8]) -> Result<(Insn, usize), DecodeFault>
-    ensures { result ≡ read_form (Some forms.Jump8) b0 b1 rest.now }
+pub fn read_jump8(b0: u8, b1: u8, rest: &[u8]) -> Decoded
+    ensures { result_of result ≡ read_form (Some forms.Jump8) b0 b1 rest.now }
 {
-    let (code, length) = parts(Form::Jump8, b0, b1, rest)?;
-    with_length(length, jump8_at(code))
+    match parts(Form::Jump8, b0, b1, rest) {
+        Ok((code, length)) => with_length(length, jump8_at(code)),
+        Err(fault) => Decoded::Fault(fault),
+    }
 }
 
 #[inline(always)]
-pub fn read_call(b0: u8, b1: u8, rest: &[u8]) -> Result<(Insn, usize), DecodeFault>
-    ensures { result ≡ read_form (Some forms.Call) b0 b1 rest.now }
+pub fn read_call(b0: u8, b1: u8, rest: &[u8]) -> Decoded
+    ensures { result_of result ≡ read_form (Some forms.Call) b0 b1 rest.now }
 {
-    let (code, length) = parts(Form::Call, b0, b1, rest)?;
-    with_length(length, call_at(code))
+    match parts(Form::Call, b0, b1, rest) {
+        Ok((code, length)) => with_length(length, call_at(code)),
+        Err(fault) => Decoded::Fault(fault),
+    }
 }
 
 #[inline(always)]
-pub fn read_ret(b0: u8, b1: u8, rest: &[u8]) -> Result<(Insn, usize), DecodeFault>
-    ensures { result ≡ read_form (Some forms.Ret) b0 b1 rest.now }
+pub fn read_ret(b0: u8, b1: u8, rest: &[u8]) -> Decoded
+    ensures { result_of result ≡ read_form (Some forms.Ret) b0 b1 rest.now }
 {
-    let (code, length) = parts(Form::Ret, b0, b1, rest)?;
-    with_length(length, ret_at(code))
+    match parts(Form::Ret, b0, b1, rest) {
+        Ok((code, length)) => with_length(length, ret_at(code)),
+        Err(fault) => Decoded::Fault(fault),
+    }
 }
 
 #[inline(always)]
-pub fn read_compare(op: CmpOp, b0: u8, b1: u8, rest: &[u8]) -> Result<(Insn, usize), DecodeFault>
-    ensures { result ≡ read_form (Some (forms.Compare op)) b0 b1 rest.now }
+pub fn read_compare(op: CmpOp, b0: u8, b1: u8, rest: &[u8]) -> Decoded
+    ensures { result_of result ≡ read_form (Some (forms.Compare op)) b0 b1 rest.now }
 {
-    let (code, length) = parts(Form::Compare(op), b0, b1, rest)?;
-    with_length(length, compare_at(op, code))
+    match parts(Form::Compare(op), b0, b1, rest) {
+        Ok((code, length)) => with_length(length, compare_at(op, code)),
+        Err(fault) => Decoded::Fault(fault),
+    }
 }
 
 #[inline(always)]
-pub fn read_compare_imm(
-    op: CmpOp,
-    b0: u8,
-    b1: u8,
-    rest: &[u8],
-) -> Result<(Insn, usize), DecodeFault>
-    ensures { result ≡ read_form (Some (forms.CompareImm op)) b0 b1 rest.now }
+pub fn read_compare_imm(op: CmpOp, b0: u8, b1: u8, rest: &[u8]) -> Decoded
+    ensures { result_of result ≡ read_form (Some (forms.CompareImm op)) b0 b1 rest.now }
 {
-    let (code, length) = parts(Form::CompareImm(op), b0, b1, rest)?;
-    with_length(length, compare_imm_at(op, code))
+    match parts(Form::CompareImm(op), b0, b1, rest) {
+        Ok((code, length)) => with_length(length, compare_imm_at(op, code)),
+        Err(fault) => Decoded::Fault(fault),
+    }
 }
 
 #[inline(always)]
-pub fn read_arith(op: ArithOp, b0: u8, b1: u8, rest: &[u8]) -> Result<(Insn, usize), DecodeFault>
-    ensures { result ≡ read_form (Some (forms.Arith op)) b0 b1 rest.now }
+pub fn read_arith(op: ArithOp, b0: u8, b1: u8, rest: &[u8]) -> Decoded
+    ensures { result_of result ≡ read_form (Some (forms.Arith op)) b0 b1 rest.now }
 {
-    let (code, length) = parts(Form::Arith(op), b0, b1, rest)?;
-    with_length(length, arith_at(op, code))
+    match parts(Form::Arith(op), b0, b1, rest) {
+        Ok((code, length)) => with_length(length, arith_at(op, code)),
+        Err(fault) => Decoded::Fault(fault),
+    }
 }
 
 #[inline(always)]
-pub fn read_move(
-    size: Size,
-    bits: u8,
-    b0: u8,
-    b1: u8,
-    rest: &[u8],
-) -> Result<(Insn, usize), DecodeFault>
-    ensures { result ≡ read_form (Some (forms.Move size bits)) b0 b1 rest.now }
+pub fn read_move(size: Size, bits: u8, b0: u8, b1: u8, rest: &[u8]) -> Decoded
+    ensures { result_of result ≡ read_form (Some (forms.Move size bits)) b0 b1 rest.now }
 {
-    let (code, length) = parts(Form::Move(size, bits), b0, b1, rest)?;
-    with_length(length, move_at(size, bits, code))
+    match parts(Form::Move(size, bits), b0, b1, rest) {
+        Ok((code, length)) => with_length(length, move_at(size, bits, code)),
+        Err(fault) => Decoded::Fault(fault),
+    }
 }
 
 #[inline(always)]
-pub fn read_move_signed(bits: u8, b0: u8, b1: u8, rest: &[u8]) -> Result<(Insn, usize), DecodeFault>
-    ensures { result ≡ read_form (Some (forms.MoveSigned bits)) b0 b1 rest.now }
+pub fn read_move_signed(bits: u8, b0: u8, b1: u8, rest: &[u8]) -> Decoded
+    ensures { result_of result ≡ read_form (Some (forms.MoveSigned bits)) b0 b1 rest.now }
 {
-    let (code, length) = parts(Form::MoveSigned(bits), b0, b1, rest)?;
-    with_length(length, move_signed_at(bits, code))
+    match parts(Form::MoveSigned(bits), b0, b1, rest) {
+        Ok((code, length)) => with_length(length, move_signed_at(bits, code)),
+        Err(fault) => Decoded::Fault(fault),
+    }
 }
 
 #[inline(always)]
-pub fn read_move_imm(b0: u8, b1: u8, rest: &[u8]) -> Result<(Insn, usize), DecodeFault>
-    ensures { result ≡ read_form (Some forms.MoveImm) b0 b1 rest.now }
+pub fn read_move_imm(b0: u8, b1: u8, rest: &[u8]) -> Decoded
+    ensures { result_of result ≡ read_form (Some forms.MoveImm) b0 b1 rest.now }
 {
-    let (code, length) = parts(Form::MoveImm, b0, b1, rest)?;
-    with_length(length, move_imm_at(code))
+    match parts(Form::MoveImm, b0, b1, rest) {
+        Ok((code, length)) => with_length(length, move_imm_at(code)),
+        Err(fault) => Decoded::Fault(fault),
+    }
 }
 
 #[inline(always)]
-pub fn read_move_imm_natural(b0: u8, b1: u8, rest: &[u8]) -> Result<(Insn, usize), DecodeFault>
-    ensures { result ≡ read_form (Some forms.MoveImmNatural) b0 b1 rest.now }
+pub fn read_move_imm_natural(b0: u8, b1: u8, rest: &[u8]) -> Decoded
+    ensures { result_of result ≡ read_form (Some forms.MoveImmNatural) b0 b1 rest.now }
 {
-    let (code, length) = parts(Form::MoveImmNatural, b0, b1, rest)?;
-    with_length(length, move_imm_natural_at(code))
+    match parts(Form::MoveImmNatural, b0, b1, rest) {
+        Ok((code, length)) => with_length(length, move_imm_natural_at(code)),
+        Err(fault) => Decoded::Fault(fault),
+    }
 }
 
 #[inline(always)]
-pub fn read_move_relative(b0: u8, b1: u8, rest: &[u8]) -> Result<(Insn, usize), DecodeFault>
-    ensures { result ≡ read_form (Some forms.MoveRelative) b0 b1 rest.now }
+pub fn read_move_relative(b0: u8, b1: u8, rest: &[u8]) -> Decoded
+    ensures { result_of result ≡ read_form (Some forms.MoveRelative) b0 b1 rest.now }
 {
-    let (code, length) = parts(Form::MoveRelative, b0, b1, rest)?;
-    with_length(length, move_relative_at(code))
+    match parts(Form::MoveRelative, b0, b1, rest) {
+        Ok((code, length)) => with_length(length, move_relative_at(code)),
+        Err(fault) => Decoded::Fault(fault),
+    }
 }
 
 #[inline(always)]
-pub fn read_load_special(b0: u8, b1: u8, rest: &[u8]) -> Result<(Insn, usize), DecodeFault>
-    ensures { result ≡ read_form (Some forms.LoadSpecial) b0 b1 rest.now }
+pub fn read_load_special(b0: u8, b1: u8, rest: &[u8]) -> Decoded
+    ensures { result_of result ≡ read_form (Some forms.LoadSpecial) b0 b1 rest.now }
 {
-    let (code, length) = parts(Form::LoadSpecial, b0, b1, rest)?;
-    with_length(length, load_special_at(code))
+    match parts(Form::LoadSpecial, b0, b1, rest) {
+        Ok((code, length)) => with_length(length, load_special_at(code)),
+        Err(fault) => Decoded::Fault(fault),
+    }
 }
 
 #[inline(always)]
-pub fn read_store_special(b0: u8, b1: u8, rest: &[u8]) -> Result<(Insn, usize), DecodeFault>
-    ensures { result ≡ read_form (Some forms.StoreSpecial) b0 b1 rest.now }
+pub fn read_store_special(b0: u8, b1: u8, rest: &[u8]) -> Decoded
+    ensures { result_of result ≡ read_form (Some forms.StoreSpecial) b0 b1 rest.now }
 {
-    let (code, length) = parts(Form::StoreSpecial, b0, b1, rest)?;
-    with_length(length, store_special_at(code))
+    match parts(Form::StoreSpecial, b0, b1, rest) {
+        Ok((code, length)) => with_length(length, store_special_at(code)),
+        Err(fault) => Decoded::Fault(fault),
+    }
 }
 
 #[inline(always)]
-pub fn read_push(b0: u8, b1: u8, rest: &[u8]) -> Result<(Insn, usize), DecodeFault>
-    ensures { result ≡ read_form (Some forms.Push) b0 b1 rest.now }
+pub fn read_push(b0: u8, b1: u8, rest: &[u8]) -> Decoded
+    ensures { result_of result ≡ read_form (Some forms.Push) b0 b1 rest.now }
 {
-    let (code, length) = parts(Form::Push, b0, b1, rest)?;
-    with_length(length, push_at(code))
+    match parts(Form::Push, b0, b1, rest) {
+        Ok((code, length)) => with_length(length, push_at(code)),
+        Err(fault) => Decoded::Fault(fault),
+    }
 }
 
 #[inline(always)]
-pub fn read_pop(b0: u8, b1: u8, rest: &[u8]) -> Result<(Insn, usize), DecodeFault>
-    ensures { result ≡ read_form (Some forms.Pop) b0 b1 rest.now }
+pub fn read_pop(b0: u8, b1: u8, rest: &[u8]) -> Decoded
+    ensures { result_of result ≡ read_form (Some forms.Pop) b0 b1 rest.now }
 {
-    let (code, length) = parts(Form::Pop, b0, b1, rest)?;
-    with_length(length, pop_at(code))
+    match parts(Form::Pop, b0, b1, rest) {
+        Ok((code, length)) => with_length(length, pop_at(code)),
+        Err(fault) => Decoded::Fault(fault),
+    }
 }
 
 #[inline(always)]
-pub fn read_push_natural(b0: u8, b1: u8, rest: &[u8]) -> Result<(Insn, usize), DecodeFault>
-    ensures { result ≡ read_form (Some forms.PushNatural) b0 b1 rest.now }
+pub fn read_push_natural(b0: u8, b1: u8, rest: &[u8]) -> Decoded
+    ensures { result_of result ≡ read_form (Some forms.PushNatural) b0 b1 rest.now }
 {
-    let (code, length) = parts(Form::PushNatural, b0, b1, rest)?;
-    with_length(length, push_natural_at(code))
+    match parts(Form::PushNatural, b0, b1, rest) {
+        Ok((code, length)) => with_length(length, push_natural_at(code)),
+        Err(fault) => Decoded::Fault(fault),
+    }
 }
 
 #[inline(always)]
-pub fn read_pop_natural(b0: u8, b1: u8, rest: &[u8]) -> Result<(Insn, usize), DecodeFault>
-    ensures { result ≡ read_form (Some forms.PopNatural) b0 b1 rest.now }
+pub fn read_pop_natural(b0: u8, b1: u8, rest: &[u8]) -> Decoded
+    ensures { result_of result ≡ read_form (Some forms.PopNatural) b0 b1 rest.now }
 {
-    let (code, length) = parts(Form::PopNatural, b0, b1, rest)?;
-    with_length(length, pop_natural_at(code))
+    match parts(Form::PopNatural, b0, b1, rest) {
+        Ok((code, length)) => with_length(length, pop_natural_at(code)),
+        Err(fault) => Decoded::Fault(fault),
+    }
 }

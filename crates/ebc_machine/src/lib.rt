@@ -18,7 +18,7 @@ ghost use Rattle.ebc_machine.specs.Fetch.{exception_of};
 pub use crate::laws::{machine_is_concrete, step_keeps_concrete};
 pub use crate::operand::Side;
 use crate::operand::form_bytes;
-use ebc_decode::{DecodeFault, decode_first};
+use ebc_decode::{DecodeFault, Decoded, decode_first};
 use ebc_insn::Insn;
 use note_types::Exception;
 use object_memory::ObjMem;
@@ -77,8 +77,8 @@ impl<const W: usize> Machine<W> {
         // The instruction is used where it was read, and not copied.
         let found = decode_first::<W>(bytes);
         let (insn, len) = match &found {
-            Ok((insn, len)) => (insn, *len),
-            Err(fault) => return StepEnd::Raised(exception_of(*fault)),
+            Decoded::Found(insn, len) => (insn, *len),
+            Decoded::Fault(fault) => return StepEnd::Raised(exception_of(*fault)),
         };
         match self.execute(mem, self.ip.wrapping_add(len as u64), insn) {
             Ok(end) => end,
@@ -192,8 +192,9 @@ impl<const W: usize> Machine<W> {
                 lidx,
                 ridx,
             } => {
-                let left = Self::with_index(*bits, left, lidx);
+                // The index that was read last is looked at first, while it is known whether there is one.
                 let right = Self::with_index(*bits, right, ridx);
+                let left = Self::with_index(*bits, left, lidx);
                 self.move_value(mem, next, *size, left, right)
             }
             Insn::MoveSigned {
@@ -203,8 +204,8 @@ impl<const W: usize> Machine<W> {
                 lidx,
                 extra,
             } => {
-                let left = Self::with_index(*bits, left, lidx);
                 let right = Self::with_extra(*bits, right, extra);
+                let left = Self::with_index(*bits, left, lidx);
                 self.move_signed(mem, next, left, right)
             }
             Insn::MoveImm {

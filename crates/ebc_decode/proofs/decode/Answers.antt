@@ -34,17 +34,17 @@ none bytes (Ok x) e = tt
 none bytes (Err f) e = λ i rest well same. read_none bytes f i rest (sym e) well same
 
 pub returns-clause-found : goal.returns-clause-found
-returns-clause-found c = found (drop c.args.at c.args.code.now) c.read.result
+returns-clause-found c = found (drop c.args.at c.args.code.now) c.result.result
     (IsBytes-drop c.args.at c.args.code.now (λ i. omega (arith, c.type_inv.code i)))
-    (c.read.ensures ∙ ap read (rest_whole c.args.at c.args.code.now))
+    (c.result.ensures ∙ c.read.ensures ∙ ap read (rest_whole c.args.at c.args.code.now))
 
 pub returns-clause-length : goal.returns-clause-length
-returns-clause-length c = within c.args.at c.args.code.now c.read.result c.requires
-    (c.read.ensures ∙ ap read (rest_whole c.args.at c.args.code.now))
+returns-clause-length c = within c.args.at c.args.code.now c.result.result c.requires
+    (c.result.ensures ∙ c.read.ensures ∙ ap read (rest_whole c.args.at c.args.code.now))
 
 pub returns-clause-only : goal.returns-clause-only
-returns-clause-only c = λ i rest well e. c.read.ensures ∙ (ap read (rest_whole c.args.at c.args.code.now ∙ e) ∙ read_again i rest well)
+returns-clause-only c = λ i rest well e. c.result.ensures ∙ c.read.ensures ∙ (ap read (rest_whole c.args.at c.args.code.now ∙ e) ∙ read_again i rest well)
 
 pub returns-clause-none : goal.returns-clause-none
-returns-clause-none c = none (drop c.args.at c.args.code.now) c.read.result
-    (c.read.ensures ∙ ap read (rest_whole c.args.at c.args.code.now))
+returns-clause-none c = none (drop c.args.at c.args.code.now) c.result.result
+    (c.result.ensures ∙ c.read.ensures ∙ ap read (rest_whole c.args.at c.args.code.now))
