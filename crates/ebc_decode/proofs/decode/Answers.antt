@@ -43,7 +43,8 @@ returns-clause-length c = within c.args.at c.args.code.now c.result.result c.req
     (c.result.ensures ∙ c.read.ensures ∙ ap read (rest_whole c.args.at c.args.code.now))
 
 pub returns-clause-only : goal.returns-clause-only
-returns-clause-only c = λ i rest well e. c.result.ensures ∙ c.read.ensures ∙ (ap read (rest_whole c.args.at c.args.code.now ∙ e) ∙ read_again i rest well)
+returns-clause-only c = λ i rest well e. c.result.ensures ∙ c.read.ensures
+    ∙ (ap read (rest_whole c.args.at c.args.code.now ∙ e) ∙ read_again i rest well)
 
 pub returns-clause-none : goal.returns-clause-none
 returns-clause-none c = none (drop c.args.at c.args.code.now) c.result.result

@@ -13,4 +13,5 @@ well_formed bytes (Ok (i, n)) each e = (read_spells bytes i n each (sym e)).well
 well_formed bytes (Err f) each e = tt
 
 pub returns-clause-well_formed : goal.returns-clause-well_formed
-returns-clause-well_formed g c = well_formed c.args.bytes.now (result_of c.read.result) (λ i. omega (arith, c.type_inv.bytes i)) c.read.ensures
+returns-clause-well_formed g c = well_formed c.args.bytes.now (result_of c.read.result)
+    (λ i. omega (arith, c.type_inv.bytes i)) c.read.ensures
