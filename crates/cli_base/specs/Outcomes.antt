@@ -25,6 +25,12 @@ IsAnswer WriteFault = ⊥
 IsAnswer NoMemory = ⊥
 IsAnswer outcome = Unit {0}
 
+-- an outcome before which all was read: no read failed, and memory didn't run out
+abbrev pub ReadsAll : Outcome → Type 0
+ReadsAll ReadFault = ⊥
+ReadsAll NoMemory = ⊥
+ReadsAll outcome = Unit {0}
+
 -- an answer to words that are a command
 abbrev pub IsCommandAnswer : Outcome → Type 0
 IsCommandAnswer BadWords = ⊥

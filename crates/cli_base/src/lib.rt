@@ -14,6 +14,6 @@ pub mod text;
 pub use finishing::finish;
 pub use image::{IMAGE_LIMIT, image_in};
 pub use outcome::Outcome;
-pub use program::{complaint, status, words_of};
+pub use program::{ended, words_of};
 pub use reading::file;
 pub use reply::{End, Output, Reply};

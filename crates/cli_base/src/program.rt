@@ -1,7 +1,9 @@
 //! What a program takes of the system, and what it says to it: its words, its exit status, and its line on standard error.
-ghost use Rattle.std.specs.Prelude.{◌≡◌, IfOk, drop};
+ghost use Rattle.std.specs.Prelude.{◌≡◌, ◌≢◌, [], IfErr, IfOk, IsErr, IsOkAnd, drop};
 ghost use Rattle.std.specs.Process as process;
 ghost use Rattle.std.specs.Vec.Iter.{into_iter_items};
+ghost use Rattle.std_io.specs.IoError.{error_kind};
+ghost use Rattle.std_io.specs.declared.io.kind.ErrorKind.TheVariants.{OutOfMemory};
 ghost use Rattle.cli_base.specs.Outcomes.{exit_status};
 ghost use Rattle.cli_base.specs.Words.{complaint_of};
 
@@ -18,17 +20,26 @@ fn words_after_name(alloc: Global, args: env::Args) -> Result<Vec<String>, Alloc
     args.skip(1).collect(alloc)
 }
 
-/// The words after the program's name, and none where one of them isn't UTF-8.
-pub fn words_of<R: Env + AllocGlobal>(rt: &R) -> Result<Vec<String>, AllocError> {
-    match env::args(rt) {
-        Ok(args) => words_after_name(rt.alloc(), args),
+// The words after the program's name, of what the system tells of its arguments: none where one of them isn't UTF-8.
+fn words_in(alloc: Global, args: io::Result<env::Args>) -> Result<Vec<String>, AllocError>
+    ensures words { IfOk args (λ all. IfOk result (λ words. words.items ≡ drop 1 (into_iter_items all))) }
+    ensures none { IfErr args (λ e. error_kind e ≢ OutOfMemory → IsOkAnd result (λ words. words.items ≡ [])) }
+    ensures memory { IfErr args (λ e. error_kind e ≡ OutOfMemory → IsErr result) }
+{
+    match args {
+        Ok(args) => words_after_name(alloc, args),
         Err(e) if e.kind() == io::ErrorKind::OutOfMemory => Err(AllocError),
-        Err(_) => Ok(Vec::new(rt.alloc())),
+        Err(_) => Ok(Vec::new(alloc)),
     }
 }
 
-/// What is said behind the program's name on standard error of an outcome that prints no answer, or only a part of it.
-pub fn complaint(outcome: Outcome) -> &'static str
+/// The words after the program's name, and none where one of them isn't UTF-8.
+pub fn words_of<R: Env + AllocGlobal>(rt: &R) -> Result<Vec<String>, AllocError> {
+    words_in(rt.alloc(), env::args(rt))
+}
+
+// What is said after the program's name on standard error of an outcome that prints no answer, or only a part of it.
+fn complaint(outcome: Outcome) -> &'static str
     ensures { result.now ≡ complaint_of outcome }
 {
     match outcome {
@@ -44,4 +55,16 @@ pub fn status(outcome: Outcome) -> ExitCode
     ensures { process.exit_status result ≡ exit_status outcome }
 {
     ExitCode::from(outcome.code())
+}
+
+/// Says on standard error, after the program's name, what there is to say of an outcome, and gives the status with which the program ends.
+pub fn ended<R: io::Eprint>(rt: &R, name: &str, outcome: Outcome) -> ExitCode
+    ensures { process.exit_status result ≡ exit_status outcome }
+{
+    let complaint = complaint(outcome);
+    if !complaint.is_empty() {
+        // The exit status tells the outcome also where this line can't be printed.
+        let _ = eprint!(rt; "{name}: {complaint}\n");
+    }
+    status(outcome)
 }

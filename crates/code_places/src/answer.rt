@@ -7,7 +7,7 @@ ghost use Rattle.ebc_disasm.specs.CodeItems.{items_of, line_of, says_bytes};
 ghost use Rattle.ebc_disasm.specs.Listings.{has_code, section_lines};
 ghost use Rattle.pe_image.specs.declared.image.Image.{Image};
 ghost use Rattle.cli_base.specs.declared.reply.Reply.{Reply};
-ghost use Rattle.cli_base.specs.Outcomes.{IsAnswer};
+ghost use Rattle.cli_base.specs.Outcomes.{IsAnswer, ReadsAll};
 ghost use Rattle.cli_base.specs.Outputs.{printed, written_name};
 ghost use Rattle.cli_base.specs.Readings.{AsksPart, CommandAnswer, Follows, IfStop, MissingHasCause};
 ghost use Rattle.cli_base.specs.Words.{word_bytes};
@@ -28,16 +28,14 @@ pub fn places<F: Folder, O: Sink>(
     folder: &mut F,
     out: &mut O,
 ) -> Outcome
-    // Where the folder tells its files, the outcome and the printed text are those of the answer to the words, and the file asked for
-    // is the one that they name, and at most that where a read failed or memory ran out.
+    // Where the folder tells its files, the outcome and the printed text are those of the answer to the words. The file asked for is the
+    // one that they name, also where the output then fails, and at most that where a read failed or memory ran out.
     ensures answer { IfSome (F.contents folder.old) (λ files. IsAnswer result →
         Answers (run_of (word_bytes words.now) files) result (O.written out.old) (O.written out.new)) }
     ensures asked { IfSome (F.contents folder.old) (λ files.
-        IsAnswer result → F.asked folder.new ≡ F.asked folder.old ++ (run_of (word_bytes words.now) files).asked) }
+        ReadsAll result → F.asked folder.new ≡ F.asked folder.old ++ (run_of (word_bytes words.now) files).asked) }
     ensures asked_part { IfSome (F.contents folder.old) (λ files.
         AsksPart (F.asked folder.old) (run_of (word_bytes words.now) files).asked (F.asked folder.new)) }
-    ensures write_fault_asked { IfSome (F.contents folder.old) (λ files.
-        result ≡ Outcome.WriteFault → F.asked folder.new ≡ F.asked folder.old ++ (run_of (word_bytes words.now) files).asked) }
 
     // The lines of an image within the limit are printed, each with the listing's line, and they are those that say bytes of its
     // sections with code.

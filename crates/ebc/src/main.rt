@@ -1,15 +1,20 @@
 //! The program `ebc`. docs/COMMANDS.md lists its commands, what they print and its exit status.
 #![tactic(auto)]
 
-use cli_base::{complaint, status, words_of};
+ghost use Rattle.std.specs.Prelude.{◌≡◌, IsErr};
+
+use cli_base::{ended, words_of};
 use ebc_cli::{Outcome, ebc};
 use ebc_outside::{HostFolder, HostSink};
+use std::alloc::AllocError;
 use std::io;
 use std::process::ExitCode;
 
-// The outcome of the words, over the system's files and output.
-fn outcome(rt: &HostRuntime) -> Outcome {
-    let Ok(words) = words_of(rt) else {
+// The outcome of the words, where there was memory for them, over the system's files and output.
+fn outcome(rt: &HostRuntime, words: Result<Vec<String>, AllocError>) -> Outcome
+    ensures memory { IsErr words → result ≡ Outcome.NoMemory }
+{
+    let Ok(words) = words else {
         return Outcome::NoMemory;
     };
     let mut folder = HostFolder::new(rt);
@@ -18,11 +23,6 @@ fn outcome(rt: &HostRuntime) -> Outcome {
 }
 
 fn main(rt: HostRuntime) -> ExitCode {
-    let outcome = outcome(&rt);
-    let complaint = complaint(outcome);
-    if !complaint.is_empty() {
-        // The exit status tells the outcome also where this line can't be printed.
-        let _ = eprint!(rt; "ebc: {complaint}\n");
-    }
-    status(outcome)
+    let outcome = outcome(&rt, words_of(&rt));
+    ended(&rt, "ebc", outcome)
 }

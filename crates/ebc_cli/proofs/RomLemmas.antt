@@ -1,34 +1,16 @@
 -- What is taken out of option ROMs, and the lines of a listing.
 use Rattle.std.proofs.Common.{◌≡◌, ℕ, suc, ◌+◌, ◌-◌, ◌<◌, ◌≤◌, List, [], ◌++◌, drop, length, get_or, length-drop, drop-cons}
-use Rattle.std.proofs.Common.{append-nil, append_assoc, Result, Ok, Err, nat_eq, refl, sym, ap, ◌∙◌, arith}
+use Rattle.std.proofs.Common.{append-nil, append_assoc, Ok, nat_eq, refl, sym, ap, ◌∙◌, arith}
 use Rattle.std.proofs.lemmas.Bool.Decides.{nat_tests}
 use Rattle.std.proofs.lemmas.List.{drop_all}
-use Rattle.ebc_base.specs.Steps.{◌>>=◌}
-use Rattle.option_rom.specs.declared.fault.TakeFault.{TakeFault}
 use Rattle.option_rom.specs.declared.image.RomImage.{RomImage}
 use Rattle.option_rom.specs.Roms.{rom_of}
-use Rattle.option_rom.specs.Takes.{bytes_taken, taken}
+use Rattle.option_rom.specs.Takes.{taken}
 use Rattle.option_rom.proofs.Takings.{taken_inside}
 use Rattle.option_rom.proofs.Walks.{read-rom}
 use Rattle.ebc_cli.specs.RomTexts.{last_mark, rom_line, rom_lines, rom_listing}
 
 -- ---- what is taken
-
--- a step that can't fail fails by the one before
-step-err : {A B E : Type 0} (r : Result A E) (f : A → B) (e : E) → (r >>= (λ x. Ok (f x))) ≡ Err e → r ≡ Err e
-step-err (Ok x) f e h = absurd cc
-step-err (Err first) f e h = let same : first ≡ e = cc in ap Err same
-
--- bytes are taken where a range is
-pub taken-err : (rom : List ℕ) (images : List RomImage) (number : ℕ) (kind : TakeFault)
-    → bytes_taken rom images number ≡ Err kind → taken images number ≡ Err kind
-unfolding bytes_taken
-taken-err rom images number kind e = step-err (taken images number) _ kind e
-
-pub taken-none : (rom : List ℕ) (images : List RomImage) (number : ℕ) (kind : TakeFault)
-    → taken images number ≡ Err kind → bytes_taken rom images number ≡ Err kind
-unfolding bytes_taken
-taken-none rom images number kind e = rw e refl
 
 -- what is taken out of an option ROM that was read ends inside it
 pub ends_inside : (rom : List ℕ) (images : List RomImage) (number begin end : ℕ) → rom_of rom ≡ Ok images

@@ -7,7 +7,7 @@ use Rattle.cli_base.specs.declared.reply.Reply.{Reply}
 use Rattle.cli_base.specs.Outcomes.{IsAnswer, IsWorkAnswer}
 use Rattle.cli_base.specs.Outputs.{written_name}
 use Rattle.cli_base.specs.Readings.{MissingHasCause}
-use Rattle.ebc_cli.specs.Answers.{AnswersWords}
+use Rattle.ebc_cli.specs.Reads.{AnswersWords}
 use Rattle.ebc_cli.specs.Commands.{command_of, output_of}
 
 work-answer : (o : Outcome) → IsWorkAnswer o → IsAnswer o

@@ -1,10 +1,8 @@
-pub mod Faults
 pub mod Texts
 pub mod RomTexts
 pub mod Numbers
 pub mod Commands
 pub mod Inputs
-pub mod Linkings
 pub mod Runnings
 pub mod Pairings
 pub mod Inferrings

@@ -1,10 +1,8 @@
 -- Meaning: what `pair` reads, file by file, and what it replies: docs/COMMANDS.md, "The answer".
-use Rattle.std.specs.Prelude.{◌≡◌, ℕ, ◌+◌, List, length, nat_eq, codes, None, Result}
+use Rattle.std.specs.Prelude.{◌≡◌, ℕ, ◌+◌, List, length, nat_eq, codes, Result}
 use Rattle.ebc_base.specs.Steps.{passes}
 use Rattle.ebc_outside.specs.Files.{Files}
-use Rattle.host_model.specs.Placements.{Placement}
 use Rattle.host_model.specs.Runs.{world_of}
-use Rattle.host_model.specs.Scripts.{IsScript}
 use Rattle.note_types.specs.declared.fault.TomlFault.{TomlFault}
 use Rattle.note_types.specs.declared.fault.TomlFault.TheVariants.{Range}
 use Rattle.note_types.specs.declared.notes.Notes.{Notes}
@@ -13,19 +11,18 @@ use Rattle.pair_host.specs.PairDiffers.{PairsDifferAt}
 use Rattle.pair_host.specs.PairReported.{IsPairReport}
 use Rattle.pair_host.specs.declared.reports.PairReport.{PairReport}
 use Rattle.pair_host.specs.declared.reports.PairRun.{PairRun}
-use Rattle.pair_laws.specs.SamePairs.{ArePlaced, SamePairAfter}
 use Rattle.pair_model.specs.Pairs.{Both, PairWorld}
 use Rattle.pair_model.specs.declared.bind.Bind.{Bind}
 use Rattle.pe_image.specs.declared.image.Image.{Image}
 use Rattle.run_texts.specs.PairTexts.{pair_run_text}
 use Rattle.run_texts.specs.RunTexts.{twin_text}
-use Rattle.width_checker.specs.Typed.{Typed}
 use Rattle.cli_base.specs.declared.reply.Reply.{Reply}
 use Rattle.cli_base.specs.Outputs.{prints}
 use Rattle.cli_base.specs.Readings.{FileReading, done, ◌>>=◌, told}
 use Rattle.ebc_cli.specs.declared.command.DriverFiles.{DriverFiles}
 use Rattle.ebc_cli.specs.declared.pairing.ReadDriver.{ReadDriver}
-use Rattle.ebc_cli.specs.Inputs.{bad_notes_reply, binds_limit, binds_meaning, input}
+use Rattle.ebc_cli.specs.Inputs.{binds_limit, binds_meaning}
+use Rattle.file_inputs.specs.Inputs.{bad_notes_reply, input}
 use Rattle.ebc_cli.specs.Runnings.{run_files, twin_outcome}
 
 -- ---- what is read
@@ -70,15 +67,6 @@ pair_world_of a b binds = record {
 abbrev pub with_script : ReadDriver → Script → ReadDriver
 with_script d script = record d { script = script }
 
--- A pair is the same at both widths: for all scripts under the notes, all valid placements and every number of steps, the runs at 4 and
--- at 8 bytes an address are the same, and have raised nothing but a division by zero.
-abbrev pub SamePairAtBothWidths : (a b : ReadDriver) → List Bind → Type 0
-SamePairAtBothWidths a b binds =
-    (x y : Script) (P Q : Both Placement) (k : ℕ) → IsScript a.notes x → IsScript b.notes y
-    → ArePlaced 4 (pair_world_of (with_script a x) (with_script b y) binds) P
-    → ArePlaced 8 (pair_world_of (with_script a x) (with_script b y) binds) Q
-    → SamePairAfter (images_of a b) (pair_world_of (with_script a x) (with_script b y) binds) P Q k
-
 -- what the runs of a pair at both widths show, each up to a number of steps, and the least after which they aren't the same, if there is
 -- one
 pub record IsPairTwinReport (a b : ReadDriver) (binds : List Bind) (steps : ℕ) (x : PairReport) : Type 0 where
@@ -96,6 +84,4 @@ pair_twin_text a b x = twin_text (pair_report_text a b x.at4) (pair_report_text 
 pub record TellsPair (a b : ReadDriver) (binds : List Bind) (steps : ℕ) (reply : Reply) : Type 0 where
   pub report : PairReport
   pub shown : IsPairTwinReport a b binds steps report
-  pub same : Typed a.image a.notes → Typed b.image b.notes → report.differ ≡ None
-  pub alike : Typed a.image a.notes → Typed b.image b.notes → SamePairAtBothWidths a b binds
   pub told : reply ≡ prints (twin_outcome report.differ) (pair_twin_text a.notes b.notes report)

@@ -10,14 +10,14 @@ use Rattle.twin_run.specs.Differs.{DifferAt}
 use Rattle.twin_run.specs.Reported.{IsReport}
 use Rattle.twin_run.specs.declared.reports.RunReport.{RunReport}
 use Rattle.twin_run.specs.declared.reports.TwinReport.{TwinReport}
-use Rattle.width_checker.specs.Typed.{Typed}
 use Rattle.cli_base.specs.declared.outcome.Outcome.{Outcome}
 use Rattle.cli_base.specs.declared.outcome.Outcome.TheVariants.{Done, Differ}
 use Rattle.cli_base.specs.declared.reply.Reply.{Reply}
 use Rattle.cli_base.specs.Inputs.{image_limit, image_meaning}
 use Rattle.cli_base.specs.Outputs.{prints}
 use Rattle.cli_base.specs.Readings.{FileReading, done, ◌>>=◌}
-use Rattle.ebc_cli.specs.Inputs.{input, notes_limit, notes_meaning, script_limit, script_meaning}
+use Rattle.ebc_cli.specs.Inputs.{script_limit, script_meaning}
+use Rattle.file_inputs.specs.Inputs.{input, notes_limit, notes_meaning}
 
 -- the image, the notes and the script under them that the words from this one on name, each read whole before the next
 unfoldable pub run_files : ℕ → List ℕ → List ℕ → List ℕ → Files → FileReading (Image × Notes × Script)
@@ -56,5 +56,4 @@ twin_outcome (Some step) = Differ step
 pub record TellsTwin (image : Image) (notes : Notes) (script : Script) (steps : ℕ) (reply : Reply) : Type 0 where
   pub report : TwinReport
   pub shown : IsTwinReport image notes script steps report
-  pub same : Typed image notes → report.differ ≡ None
   pub told : reply ≡ prints (twin_outcome report.differ) (twin_report_text notes report)

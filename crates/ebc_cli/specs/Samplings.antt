@@ -1,8 +1,6 @@
 -- Meaning: what a sample comes to, whose texts the program makes itself, and what is replied: docs/COMMANDS.md, "Samples".
 use Rattle.std.specs.Prelude.{◌≡◌, ℕ, List, [], ◌∷◌, length, Result, Ok}
 use Rattle.ebc_base.specs.Steps.{◌>>=◌}
-use Rattle.note_types.specs.Records.{IsNotes}
-use Rattle.host_model.specs.Scripts.{IsScript}
 use Rattle.pe_image.specs.declared.image.Image.{Image}
 use Rattle.plain_check.specs.declared.verdict.Verdict.{Verdict}
 use Rattle.run_texts.specs.RunTexts.{differ_line}
@@ -11,10 +9,10 @@ use Rattle.twin_run.specs.declared.reports.TwinReport.{TwinReport}
 use Rattle.width_checker.specs.Verdicts.{IsVerdict}
 use Rattle.cli_base.specs.declared.outcome.Outcome.TheVariants.{Done}
 use Rattle.cli_base.specs.declared.reply.Reply.{Reply}
-use Rattle.cli_base.specs.Inputs.{IsReadImage}
 use Rattle.cli_base.specs.Outputs.{prints}
 use Rattle.ebc_cli.specs.declared.sampling.BuiltSample.{BuiltSample}
-use Rattle.ebc_cli.specs.Inputs.{link_meaning, notes_meaning, script_meaning, source_meaning, step_limit}
+use Rattle.ebc_cli.specs.Inputs.{script_meaning, step_limit}
+use Rattle.file_inputs.specs.Inputs.{link_meaning, notes_meaning, source_meaning}
 use Rattle.ebc_cli.specs.Runnings.{IsTwinReport}
 use Rattle.ebc_cli.specs.Texts.{verdict_text}
 
@@ -35,10 +33,6 @@ sample_of digits n = do
   notes ← notes_meaning 1 digits (notes_text n)
   script ← script_meaning notes 1 digits script_text
   Ok (record { functions = n; code = built.0; image = built.1; notes = notes; script = script })
-
--- what was built can be checked and run
-abbrev pub IsBuilt : BuiltSample → Type 0
-IsBuilt x = IsReadImage x.image × IsNotes x.notes × IsScript x.notes x.script
 
 -- ---- what is replied
 

@@ -1,51 +1,45 @@
 -- Meaning: the work that words ask for once their files are read, and the replies to it, of which one writes a file:
 -- docs/COMMANDS.md, "The answer".
-use Rattle.std.specs.Prelude.{◌≡◌, ◌↔◌, ℕ, ◌≤◌, List, length, Option, Some, None, Result, Ok, Err}
+use Rattle.std.specs.Prelude.{◌≡◌, ◌↔◌, ℕ, List, Option, Some, None, Result, Ok, Err}
 use Rattle.ebc_object.specs.Files.{object_bytes}
-use Rattle.ebc_object.specs.Objects.{IsObject}
 use Rattle.ebc_outside.specs.Files.{Files}
 use Rattle.note_types.specs.declared.notes.Notes.{Notes}
 use Rattle.note_types.specs.declared.rule.RuleName.{RuleName}
-use Rattle.note_types.specs.Records.{IsNotes}
-use Rattle.host_model.specs.Scripts.{IsScript}
 use Rattle.option_rom.specs.Files.{rom_bytes}
-use Rattle.pair_model.specs.Binds.{AllAgree}
-use Rattle.pair_model.specs.declared.bind.Bind.{Bind}
 use Rattle.pe_image.specs.Files.{file_of}
-use Rattle.pe_image.specs.Linked.{IsLinked}
 use Rattle.pe_image.specs.declared.image.Image.{Image}
 use Rattle.ebc_disasm.specs.Listings.{listing_of}
-use Rattle.twin_run.specs.Headline.{SameAtBothWidths}
 use Rattle.plain_check.specs.declared.verdict.Verdict.{Verdict}
 use Rattle.plain_check.specs.declared.verdict.Verdict.TheVariants as verdicts
-use Rattle.plain_check.specs.PlainChecks.{plain_verdict}
+use Rattle.plain_check.specs.PlainRules as plain
 use Rattle.width_checker.specs.Typed.{Typed}
 use Rattle.width_checker.specs.Verdicts.{IsRefused}
 use Rattle.cli_base.specs.declared.outcome.Outcome.TheVariants as outcomes
 use Rattle.ebc_cli.specs.declared.command.Command.{Command}
 use Rattle.ebc_cli.specs.declared.command.Command.TheVariants as commands
 use Rattle.ebc_cli.specs.declared.command.DriverFiles.{DriverFiles}
-use Rattle.ebc_cli.specs.declared.pairing.ReadDriver.{ReadDriver}
 use Rattle.cli_base.specs.declared.reply.Reply.{Reply}
 use Rattle.ebc_cli.specs.declared.work.Work.{Work}
 use Rattle.ebc_cli.specs.declared.work.Work.TheVariants as works
 use Rattle.ebc_cli.specs.declared.width.Width.{Width}
 use Rattle.ebc_cli.specs.Commands.{command_of}
-use Rattle.ebc_cli.specs.Inputs.{input, input_with_bytes, notes_limit, notes_meaning, source_limit}
-use Rattle.cli_base.specs.Inputs.{IsReadImage, image_limit, image_meaning}
-use Rattle.ebc_cli.specs.Inputs.{source_meaning}
-use Rattle.ebc_cli.specs.Inputs.{number_meaning, pair_step_limit, rom_limit, rom_meaning, rom_number_limit, sample_limit, step_limit}
-use Rattle.ebc_cli.specs.Inputs.{taking_meaning}
+use Rattle.file_inputs.specs.Inputs.{input, input_with_bytes, notes_limit, notes_meaning, source_limit}
+use Rattle.cli_base.specs.Inputs.{image_limit, image_meaning}
+use Rattle.file_inputs.specs.Inputs.{source_meaning}
+use Rattle.ebc_cli.specs.Inputs.{number_meaning, pair_step_limit, rom_number_limit, sample_limit, step_limit}
+use Rattle.file_inputs.specs.Inputs.{rom_limit, rom_meaning}
+use Rattle.file_inputs.specs.Inputs.{taking_meaning}
 use Rattle.ebc_cli.specs.Inferrings.{TellsInferred}
-use Rattle.ebc_cli.specs.Linkings.{linked_image}
+use Rattle.file_inputs.specs.Linkings.{linked_image}
 use Rattle.cli_base.specs.Outputs.{prints, writes}
 use Rattle.cli_base.specs.Readings.{FileReading, done, ◌>>=◌, file, told}
 use Rattle.ebc_cli.specs.Numbers.{address_bytes}
 use Rattle.ebc_cli.specs.Pairings.{pair_files, TellsPair}
 use Rattle.ebc_cli.specs.RomTexts.{rom_listing}
 use Rattle.ebc_cli.specs.Runnings.{run_files, TellsRun, TellsTwin}
-use Rattle.ebc_cli.specs.Samplings.{IsBuilt, TellsSample, sample_of}
-use Rattle.ebc_cli.specs.Texts.{neutral_line, refused_line, usage_line}
+use Rattle.ebc_cli.specs.Samplings.{TellsSample, sample_of}
+use Rattle.ebc_cli.specs.Texts.{neutral_line, usage_line}
+use Rattle.run_texts.specs.Refusals.{refused_line}
 
 -- how many bytes plain code may have: 256 KiB
 abbrev pub plain_code_limit : ℕ
@@ -90,7 +84,7 @@ assembly source_name object_name files = do
 -- `link PLAN IMAGE`
 unfoldable pub linking : List ℕ → List ℕ → Files → FileReading Work
 linking plan_name image_name files = do
-  image ← linked_image plan_name files
+  image ← linked_image 1 plan_name files
   done (works.WriteImage image_name image)
 
 -- `run WIDTH IMAGE NOTES SCRIPT STEPS`: the number comes before the files
@@ -174,44 +168,6 @@ work_of words files = work_for (command_of words) files
 
 -- ---- what is replied
 
--- a driver of a pair: its image, its notes and its script under them
-pub record IsRead (d : ReadDriver) : Type 0 where
-  pub image : IsReadImage d.image
-  pub notes : IsNotes d.notes
-  pub script : IsScript d.notes d.script
-
--- what was read for a pair: both drivers, and binds that agree with the notes of both
-pub record IsReadPair (a b : ReadDriver) (binds : List Bind) : Type 0 where
-  pub a_read : IsRead a
-  pub b_read : IsRead b
-  pub agree : AllAgree a.notes b.notes binds
-
--- code that was read is within its limit, what was read as an image is one, what was read as notes are notes, what was read as a script
--- is one under them, and so are those of a sample and of a pair, what a source stands for is an object, what objects are linked to is in
--- the linker's layout, and the file that goes into an option ROM is within the limit of images
-abbrev pub CanBeDone : Work → Type 0
-CanBeDone (works.CheckCode code) = length code ≤ plain_code_limit
-CanBeDone (works.CheckImage image notes) = IsReadImage image × IsNotes notes
-CanBeDone (works.ListImage image) = IsReadImage image
-CanBeDone (works.WriteObject name object) = IsObject object
-CanBeDone (works.WriteImage name image) = IsLinked image
-CanBeDone (works.Run width image notes script steps) = IsReadImage image × IsNotes notes × IsScript notes script
-CanBeDone (works.Twin image notes script steps) = IsReadImage image × IsNotes notes × IsScript notes script
-CanBeDone (works.Pair a b binds steps) = IsReadPair a b binds
-CanBeDone (works.Sample sample) = IsBuilt sample
-CanBeDone (works.WriteRom name vendor device subsystem image) = length image ≤ image_limit
-CanBeDone (works.ListRom images) = Unit {0}
-CanBeDone (works.WriteTaken name bytes) = Unit {0}
-CanBeDone (works.InferPoints name image notes) = IsReadImage image × IsNotes notes
-
--- the name under which a file is to be written, if one is
-abbrev pub output_name : Work → Option (List ℕ)
-output_name (works.WriteObject name object) = Some name
-output_name (works.WriteImage name image) = Some name
-output_name (works.WriteRom name vendor device subsystem image) = Some name
-output_name (works.WriteTaken name bytes) = Some name
-output_name work = None
-
 abbrev pub verdict_reply : Verdict → Reply
 verdict_reply verdicts.Neutral = prints outcomes.Done neutral_line
 verdict_reply (verdicts.Refused place rule) = prints (outcomes.Refused place rule) (refused_line place rule)
@@ -224,18 +180,17 @@ listing_reply text = prints outcomes.Done text
 abbrev pub file_reply : List ℕ → List ℕ → Reply
 file_reply name bytes = writes outcomes.Done name bytes
 
--- the reply tells the verdict on an image under notes: neutral exactly where the image is typed, and then its runs are the same at both
--- widths; and refused at a place by a rule exactly where that is the first place at which a rule fails, and the first rule that fails there
-pub record TellsVerdict (image : Image) (notes : Notes) (reply : Reply) : Type 0 where
+-- the reply tells a verdict: neutral exactly where the one holds, and refused at a place by a rule exactly where the other holds of them
+pub record TellsVerdict (Holds : Type 0) (Fails : ℕ → RuleName → Type 0) (reply : Reply) : Type 0 where
   pub verdict : Verdict
-  pub neutral : verdict ≡ verdicts.Neutral ↔ Typed image notes
-  pub alike : verdict ≡ verdicts.Neutral → SameAtBothWidths image notes
-  pub refused : (place : ℕ) (rule : RuleName) → verdict ≡ verdicts.Refused place rule ↔ IsRefused image notes place rule
+  pub neutral : verdict ≡ verdicts.Neutral ↔ Holds
+  pub refused : (place : ℕ) (rule : RuleName) → verdict ≡ verdicts.Refused place rule ↔ Fails place rule
   pub told : reply ≡ verdict_reply verdict
 
+-- the replies to work, one row a command
 abbrev pub IsReplyTo : Work → Reply → Type 0
-IsReplyTo (works.CheckCode code) reply = reply ≡ verdict_reply (plain_verdict code)
-IsReplyTo (works.CheckImage image notes) reply = TellsVerdict image notes reply
+IsReplyTo (works.CheckCode code) reply = TellsVerdict (plain.IsNeutral code) (plain.IsRefused code) reply
+IsReplyTo (works.CheckImage image notes) reply = TellsVerdict (Typed image notes) (IsRefused image notes) reply
 IsReplyTo (works.ListImage image) reply = reply ≡ listing_reply (listing_of image)
 IsReplyTo (works.WriteObject name object) reply = reply ≡ file_reply name (object_bytes object)
 IsReplyTo (works.WriteImage name image) reply = reply ≡ file_reply name (file_of image)

@@ -5,9 +5,8 @@ ghost use Rattle.ebc_cli.specs.Inferrings.{TellsInferred, inferred_reply, stuck_
 ghost use Rattle.cli_base.specs.Inputs.{IsReadImage};
 ghost use Rattle.cli_base.specs.Outcomes.{IsWorkAnswer};
 ghost use Rattle.cli_base.specs.Outputs.{prints, written_name};
-ghost use Rattle.ebc_cli.specs.Texts.{refused_line};
+ghost use Rattle.run_texts.specs.Refusals.{refused_line};
 
-use crate::text::refused_line;
 use cli_base::text::{large, printed};
 use cli_base::{Outcome, Reply};
 use ebc_base::NoMemory;
@@ -15,6 +14,7 @@ use note_types::{Notes, State};
 use pe_image::Image;
 use point_finder::{Inferred, infer};
 use point_texts::{points_text, state_text};
+use run_texts::refused_line;
 use std::alloc::Global;
 use width_checker::RuleName;
 

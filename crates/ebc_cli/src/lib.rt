@@ -8,10 +8,7 @@
 
 mod answer;
 mod command;
-mod fault;
 mod inferring;
-mod input;
-mod linking;
 mod number;
 mod pairing;
 mod reading;

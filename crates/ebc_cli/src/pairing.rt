@@ -2,10 +2,11 @@
 ghost use Rattle.std.specs.Prelude.{◌≡◌, ◌<◌, None, IfOk};
 ghost use Rattle.note_types.specs.Records.{IsNotes};
 ghost use Rattle.pair_model.specs.Binds.{AllAgree};
-ghost use Rattle.ebc_cli.specs.Inputs.{binds_limit, binds_meaning, input};
+ghost use Rattle.ebc_cli.specs.Inputs.{binds_limit, binds_meaning};
+ghost use Rattle.file_inputs.specs.Inputs.{input};
 ghost use Rattle.ebc_cli.specs.Pairings.{TellsPair, driver_files, pair_files, pair_twin_text, unnotified};
-ghost use Rattle.ebc_cli.specs.Reads.{Reads};
-ghost use Rattle.ebc_cli.specs.Works.{IsRead, IsReadPair};
+ghost use Rattle.ebc_cli.specs.Reads.{IsRead, IsReadPair};
+ghost use Rattle.file_inputs.specs.Reads.{Reads};
 ghost use Rattle.cli_base.specs.Inputs.{Means};
 ghost use Rattle.cli_base.specs.Outcomes.{IsBadInput, IsWorkAnswer};
 ghost use Rattle.cli_base.specs.Outputs.{written_name};
@@ -13,14 +14,14 @@ ghost use Rattle.cli_base.specs.Readings.{IfStop};
 
 use crate::command::DriverFiles;
 use crate::running::{read_run, twin_outcome};
-use crate::text;
 use bind_texts::read_binds;
 use cli_base::text::printed;
 use cli_base::{End, Reply, file};
 use ebc_base::{Name, NoMemory};
 use ebc_outside::Folder;
+use file_inputs::text::bad_notes;
 use note_types::{Notes, NotesEnd, Script, TomlFault};
-use pair_host::{Binds, Driver, PairReport, pair};
+use pair_host::{Binds, PairReport, pair};
 use pe_image::Image;
 use run_texts::{ShownPair, pair_text};
 use std::alloc::Global;
@@ -52,7 +53,7 @@ fn unnotified(alloc: Global, word: u8, name: &str, script: &Script) -> Result<()
     }
     let path = Name::new(String::from_str(alloc, "notify")?);
     let fault = TomlFault::Range(path);
-    Err(End::Stop(text::bad_notes(alloc, word, name, &fault)?))
+    Err(End::Stop(bad_notes(alloc, word, name, &fault)?))
 }
 
 // What is read of a driver, whose files the words from this one on name.
@@ -102,13 +103,13 @@ fn binds_in(alloc: Global, name: &str, bytes: &[u8], a: &Notes, b: &Notes) -> Re
 {
     match read_binds(alloc, bytes, a, b) {
         Ok(binds) => Ok(binds),
-        Err(NotesEnd::Fault(fault)) => Err(End::Stop(text::bad_notes(alloc, 7, name, &fault)?)),
+        Err(NotesEnd::Fault(fault)) => Err(End::Stop(bad_notes(alloc, 7, name, &fault)?)),
         Err(NotesEnd::NoMemory) => Err(End::NoMemory),
     }
 }
 
 // The binds that the file of the word 7 stands for under the notes of both images.
-#[tactic(auto, unfolding(crate::specs::Inputs::input))]
+#[tactic(auto, unfolding(file_inputs::specs::Inputs::input))]
 fn read_binds_file<F: Folder>(
     alloc: Global,
     folder: &mut F,
@@ -196,17 +197,9 @@ pub fn pair_reply(
     ensures answer { IfOk result (λ r. IsWorkAnswer r.outcome) }
     ensures output { IfOk result (λ r. written_name r.output ≡ None) }
 {
-    let caller = Driver {
-        image: &a.image,
-        notes: &a.notes,
-        script: &a.script,
-    };
-    let provider = Driver {
-        image: &b.image,
-        notes: &b.notes,
-        script: &b.script,
-    };
-    let report = pair(alloc, &caller, &provider, binds, steps)?;
+    let report = pair(
+        alloc, &a.image, &a.notes, &a.script, &b.image, &b.notes, &b.script, binds, steps,
+    )?;
     let text = pair_twin_text(alloc, &a.notes, &b.notes, &report)?;
     Ok(printed(twin_outcome(report.differ), text))
 }

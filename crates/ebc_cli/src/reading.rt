@@ -8,24 +8,25 @@ ghost use Rattle.cli_base.specs.Outcomes.{IsBadInput};
 ghost use Rattle.cli_base.specs.Outputs.{written_name};
 ghost use Rattle.cli_base.specs.Readings.{IfStop};
 ghost use Rattle.ebc_cli.specs.Commands.{output_of};
-ghost use Rattle.ebc_cli.specs.Inputs.{number_meaning, rom_number_limit, sample_limit, step_limit, taking_meaning};
-ghost use Rattle.ebc_cli.specs.Reads.{IsRomCommand, IsRunCommand, Reads, ReadsWork};
+ghost use Rattle.ebc_cli.specs.Inputs.{number_meaning, rom_number_limit, sample_limit, step_limit};
+ghost use Rattle.file_inputs.specs.Inputs.{taking_meaning};
+ghost use Rattle.ebc_cli.specs.Reads.{IsRomCommand, IsRunCommand, ReadsWork};
+ghost use Rattle.file_inputs.specs.Reads.{Reads};
 ghost use Rattle.ebc_cli.specs.Works.{assembly, code_check, image_check, image_listing, image_with_notes, inference, linking, rom_images};
 ghost use Rattle.ebc_cli.specs.Works.{pairing, rom_taking, rom_taking_of, rom_wrapping, running, sampling, twinning, work_for};
 
 use crate::command::{Command, DriverFiles};
-use crate::input::{read_as, read_with_bytes};
-use crate::linking::read_linked;
 use crate::pairing::{PAIR_STEP_LIMIT, read_pair};
 use crate::running::{STEP_LIMIT, read_run};
 use crate::sampling::{SAMPLE_LIMIT, built_sample};
-use crate::text;
 use crate::width::Width;
 use crate::work::Work;
 use cli_base::text::large;
 use cli_base::{End, file};
 use ebc_base::{Name, Sequence};
 use ebc_outside::Folder;
+use file_inputs::text::bad_taking;
+use file_inputs::{read_as, read_linked, read_with_bytes};
 use note_texts::number_in;
 use note_types::Notes;
 use option_rom::{RomImage, RomImages, take};
@@ -203,7 +204,7 @@ fn read_linking<F: Folder>(
 ) -> Result<Work, End>
     ensures { ReadsWork F.contents F.asked F.read_faults F.write_faults folder.old folder.new result (linking plan name) (Some name) }
 {
-    let image = read_linked(alloc, plan.as_str(), folder)?;
+    let image = read_linked(alloc, 1, plan.as_str(), folder)?;
     Ok(Work::WriteImage { name, image })
 }
 
@@ -357,7 +358,7 @@ fn taken(
 {
     match take(images, number) {
         Ok((begin, end)) => Ok(Sequence::new(Vec::from_slice(alloc, &rom[begin..end])?)),
-        Err(kind) => Err(End::Stop(text::bad_taking(alloc, 2, name, images, number, kind)?)),
+        Err(kind) => Err(End::Stop(bad_taking(alloc, 2, name, images, number, kind)?)),
     }
 }
 

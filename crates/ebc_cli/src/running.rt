@@ -4,22 +4,23 @@ ghost use Rattle.host_model.specs.Runs.{world_of};
 ghost use Rattle.host_model.specs.Scripts.{IsScript};
 ghost use Rattle.note_types.specs.Records.{IsNotes};
 ghost use Rattle.twin_run.specs.Reported.{IsReport};
-ghost use Rattle.ebc_cli.specs.Inputs.{input, script_limit, script_meaning};
+ghost use Rattle.ebc_cli.specs.Inputs.{script_limit, script_meaning};
+ghost use Rattle.file_inputs.specs.Inputs.{input};
 ghost use Rattle.ebc_cli.specs.Numbers.{address_bytes};
-ghost use Rattle.ebc_cli.specs.Reads.{Reads};
+ghost use Rattle.file_inputs.specs.Reads.{Reads};
 ghost use Rattle.ebc_cli.specs.Runnings.{TellsRun, TellsTwin, report_text, run_files, twin_outcome, twin_report_text};
 ghost use Rattle.cli_base.specs.Inputs.{IsReadImage, Means};
 ghost use Rattle.cli_base.specs.Outcomes.{IsBadInput, IsWorkAnswer};
 ghost use Rattle.cli_base.specs.Outputs.{written_name};
 ghost use Rattle.cli_base.specs.Readings.{IfStop};
 
-use crate::input::read_as;
-use crate::text;
 use crate::width::Width;
 use cli_base::text::printed;
 use cli_base::{End, Outcome, Reply, file};
 use ebc_base::NoMemory;
 use ebc_outside::Folder;
+use file_inputs::read_as;
+use file_inputs::text::bad_notes;
 use note_types::{Notes, NotesEnd, Script};
 use pe_image::Image;
 use protocol_script::read_script;
@@ -49,13 +50,13 @@ pub fn script_in(
 {
     match read_script(alloc, bytes, notes) {
         Ok(script) => Ok(script),
-        Err(NotesEnd::Fault(fault)) => Err(End::Stop(text::bad_notes(alloc, word, name, &fault)?)),
+        Err(NotesEnd::Fault(fault)) => Err(End::Stop(bad_notes(alloc, word, name, &fault)?)),
         Err(NotesEnd::NoMemory) => Err(End::NoMemory),
     }
 }
 
 // The script that the file of a word stands for under notes.
-#[tactic(auto, unfolding(crate::specs::Inputs::input))]
+#[tactic(auto, unfolding(file_inputs::specs::Inputs::input))]
 fn read_script_file<F: Folder>(
     alloc: Global,
     folder: &mut F,

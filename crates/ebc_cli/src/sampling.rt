@@ -4,21 +4,22 @@ ghost use Rattle.note_types.specs.Records.{IsNotes};
 ghost use Rattle.host_model.specs.Scripts.{IsScript};
 ghost use Rattle.ebc_object.specs.Objects.{IsObject};
 ghost use Rattle.sample_texts.specs.Samples.{notes_text, script_text, source_text};
-ghost use Rattle.ebc_cli.specs.Inputs.{notes_meaning, sample_limit, script_meaning, source_meaning};
-ghost use Rattle.ebc_cli.specs.Samplings.{IsBuilt, TellsSample, built_line, sample_image, sample_of};
+ghost use Rattle.ebc_cli.specs.Inputs.{sample_limit, script_meaning};
+ghost use Rattle.file_inputs.specs.Inputs.{notes_meaning, source_meaning};
+ghost use Rattle.ebc_cli.specs.Reads.{IsBuilt};
+ghost use Rattle.ebc_cli.specs.Samplings.{TellsSample, built_line, sample_image, sample_of};
 ghost use Rattle.cli_base.specs.Inputs.{IsReadImage, Means};
 ghost use Rattle.cli_base.specs.Outcomes.{IsBadInput, IsWorkAnswer};
 ghost use Rattle.cli_base.specs.Outputs.{written_name};
 ghost use Rattle.cli_base.specs.Readings.{IfStop};
 
-use crate::input::{Input, notes_in};
-use crate::linking::linked;
 use crate::running::{STEP_LIMIT, script_in};
 use crate::text::verdict_text;
 use cli_base::text::printed;
 use cli_base::{End, Outcome, Reply};
 use ebc_base::NoMemory;
 use ebc_object::Object;
+use file_inputs::{Input, linked, notes_in};
 use note_types::{Notes, Script};
 use pe_image::Image;
 use run_texts::differ_line;
@@ -69,7 +70,7 @@ fn sample_image(alloc: Global, functions: u32, digits: &str) -> Result<(usize, I
     let object = sample_object(alloc, functions, digits)?;
     let code = object.code.len();
     let plan = plan(alloc)?;
-    match linked(alloc, digits, &[object], &plan) {
+    match linked(alloc, 1, digits, &[object], &plan) {
         Ok(image) => Ok((code, image)),
         Err(end) => Err(end),
     }

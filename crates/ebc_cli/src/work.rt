@@ -8,17 +8,18 @@ ghost use Rattle.option_rom.specs.Files.{rom_bytes};
 ghost use Rattle.pe_image.specs.Files.{file_of};
 ghost use Rattle.pe_image.specs.Linked.{IsLinked};
 ghost use Rattle.ebc_disasm.specs.Listings.{listing_of};
-ghost use Rattle.plain_check.specs.PlainChecks.{plain_verdict};
-ghost use Rattle.ebc_cli.specs.Answers.{AnswersWords};
+ghost use Rattle.plain_check.specs.PlainRules as plain;
+ghost use Rattle.width_checker.specs.Typed.{Typed};
+ghost use Rattle.width_checker.specs.Verdicts.{IsRefused};
 ghost use Rattle.ebc_cli.specs.Commands.{command_of, output_of};
-ghost use Rattle.ebc_cli.specs.Reads.{RepliesTo};
+ghost use Rattle.ebc_cli.specs.Reads.{AnswersWords, CanBeDone, RepliesTo, output_name};
 ghost use Rattle.ebc_cli.specs.RomTexts.{rom_listing};
 ghost use Rattle.cli_base.specs.Words.{word_bytes};
 ghost use Rattle.cli_base.specs.Inputs.{IsReadImage, image_limit};
 ghost use Rattle.cli_base.specs.Outcomes.{IsWorkAnswer};
 ghost use Rattle.cli_base.specs.Readings.{Follows, IfStop};
 ghost use Rattle.cli_base.specs.Outputs.{written_name};
-ghost use Rattle.ebc_cli.specs.Works.{CanBeDone, TellsVerdict, file_reply, listing_reply, output_name, plain_code_limit, verdict_reply, work_of};
+ghost use Rattle.ebc_cli.specs.Works.{TellsVerdict, file_reply, listing_reply, plain_code_limit, work_of};
 
 use crate::command::command_of;
 use crate::inferring::infer_reply;
@@ -145,7 +146,7 @@ pub fn read_work<F: Folder>(alloc: Global, words: &Vec<String>, folder: &mut F) 
 // The answer of the plain check of raw code.
 fn code_reply(alloc: Global, code: Sequence<u8>) -> Result<Reply, NoMemory>
     requires { length code ≤ plain_code_limit }
-    ensures reply { IfOk result (λ r. r ≡ verdict_reply (plain_verdict code)) }
+    ensures reply { IfOk result (TellsVerdict (plain.IsNeutral code) (plain.IsRefused code)) }
     ensures answer { IfOk result (λ r. IsWorkAnswer r.outcome) }
     ensures output { IfOk result (λ r. written_name r.output ≡ None) }
 {
@@ -157,7 +158,7 @@ fn code_reply(alloc: Global, code: Sequence<u8>) -> Result<Reply, NoMemory>
 fn image_reply(alloc: Global, image: &Image, notes: &Notes) -> Result<Reply, NoMemory>
     requires image { IsReadImage image.now }
     requires notes { IsNotes notes.now }
-    ensures reply { IfOk result (TellsVerdict image.now notes.now) }
+    ensures reply { IfOk result (TellsVerdict (Typed image.now notes.now) (IsRefused image.now notes.now)) }
     ensures answer { IfOk result (λ r. IsWorkAnswer r.outcome) }
     ensures output { IfOk result (λ r. written_name r.output ≡ None) }
 {

@@ -14,7 +14,7 @@ pub(crate) const CODE_START: u32 = 0x1000;
 
 /// Where the code and the data of an object stand, as offsets from the image's base.
 #[derive(Clone, Copy)]
-pub(crate) struct Home {
+pub struct Home {
     pub code: u32,
     pub contents: u32,
 }
@@ -120,4 +120,18 @@ pub(crate) fn homes(alloc: Global, objects: &[Object], start: u32) -> Result<Vec
         homes.push(home)?;
     }
     Ok(homes)
+}
+
+/// Where each of so many objects stands in an image that they are linked to. docs/LINKING.md, "Layout".
+///
+/// # Errors
+///
+/// There was no memory.
+pub fn homes_of(alloc: Global, objects: &[Object]) -> Result<Vec<Home>, AllocError>
+    requires objects { All IsObject objects.now }
+    requires few { length objects.now ≤ 256 }
+    ensures homes { IfOk result (λ homes. homes.items ≡ homes_of objects.now) }
+    ensures low { IfOk result (λ homes. All IsLow homes.items) }
+{
+    homes(alloc, objects, bounds_of(objects).contents_start)
 }

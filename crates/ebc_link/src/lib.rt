@@ -16,6 +16,7 @@ mod resolved;
 mod sections;
 
 pub use end::LinkEnd;
+pub use layout::{Home, homes_of};
 pub use linking::link;
 pub use plan::LinkPlan;
 pub use plan_text::read_plan;

@@ -1,4 +1,4 @@
--- For proofs: what a read, a write or a put may answer, and what the answer leaves. This project defines it:
+-- Meaning: what a read, a write or a put may answer, and what the answer leaves. This project defines it:
 -- docs/OUTSIDE.md.
 use Rattle.std.specs.Prelude.{◌≡◌, ℕ, ◌+◌, zero, List, [], ◌∷◌, ◌++◌, take, Option, Some, None, Result, Ok, Err, Vec}
 use Rattle.std.specs.declared.alloc.Global.{Global}

@@ -30,7 +30,8 @@ use Rattle.host_model.specs.Placements.{Placement, IsPlacement}
 use Rattle.host_model.specs.RunState.{RunState}
 use Rattle.host_model.specs.Values.{word}
 use Rattle.host_model.specs.World.{World}
-use Rattle.rules_image.specs.Images.{ShapeHolds, FunctionHolds, StaticHolds, ThunkHolds, IsDecoded, RelocationHolds}
+use Rattle.rules_image.specs.Images.{ShapeHolds, FunctionHolds, StaticHolds, ThunkHolds, RelocationHolds}
+use Rattle.rules_image.specs.Spelled.{IsSpelledAt}
 use Rattle.neutral_machine.specs.Alike.{EndsAlike, StepAlike}
 use Rattle.neutral_machine.specs.Instructions.{IsAt}
 use Rattle.neutral_machine.specs.Room.{HasRoom}
@@ -84,7 +85,7 @@ pub record IsInsnOf (image : Image) (world : World) (here : Site) (i : Insn) : T
   pub f : FnNote
   pub function : slice_get world.notes.function k ≡ Some f
   pub from : f.place ≤ here.place
-  pub decoded : IsDecoded image f here.place i here.next
+  pub decoded : IsSpelledAt image f here.place i here.next
   pub relocation : RelocationHolds image world.notes here.place i here.next here.reloc
 
 -- The decoder reads it there, of as many bytes of the image as one likes.

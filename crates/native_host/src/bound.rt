@@ -22,7 +22,6 @@ ghost use Rattle.native_host.specs.Hosts.{HasStack};
 ghost use Rattle.native_host.specs.Kept.{IsOf, placement_of};
 
 use crate::asking::{Asking, asking_refused, call_event, site_of};
-use crate::call::Request;
 use crate::host::Host;
 use crate::items::item_at;
 use callex_thunk::NO_ENTRY;
@@ -143,36 +142,32 @@ fn signature_result(notes: &Notes, signature: u32) -> &Option<Ty>
 }
 
 impl<const W: usize> Host<W> {
-    /// The call step of a bound call, on the caller's host: its event, and the call by the site at the place, or how the run
-    /// ends where the place has no site, an argument slot isn't mapped, or the target isn't the method of the site. No call
-    /// of the script is accepted, and nothing changes but the slots of the top frame.
+    /// The call step of a bound call, on the caller's host, at a place of the image, to a target and with the argument slots at R0, as
+    /// `Host::call` has them: its event, and the call by the site at the place, or how the run ends where the place has no site, an
+    /// argument slot isn't mapped, or the target isn't the method of the site. No call of the script is accepted, and nothing changes
+    /// but the slots of the top frame.
     pub fn bound_call(
         &self,
         notes: &Notes,
         mem: &ObjMem<W>,
         frames: &mut FrameStack,
-        request: &Request,
+        r0: u64,
+        place: u32,
+        target: u64,
     ) -> BoundStep
         requires width { IsWidth W }
         requires read { IsNotes notes.now }
         requires notes { IsOf W notes.now self.now.places }
         requires stack { HasStack W notes.now (placement_of self.now.places) mem.now }
         requires frame { 0 < length frames.old }
-        ensures step { (world : World) (r : RunState) → world.notes ≡ notes.now → register r.machine 0 ≡ request.now.slots → r.machine.objects ≡ ranges mem.now → r.machine.byte ≡ byte_at mem.now → objects_at world r ≡ self.now.made.items → result ≡ bound_step request.now.place (asking_at W world (placement_of self.now.places) r request.now.place request.now.target) }
-        ensures called { (world : World) (r : RunState) → world.notes ≡ notes.now → register r.machine 0 ≡ request.now.slots → r.machine.objects ≡ ranges mem.now → r.machine.byte ≡ byte_at mem.now → objects_at world r ≡ self.now.made.items → OnCalled result (λ signature args. length args ≡ length (signature_params notes.now signature)) }
-        ensures slots { (world : World) (r : RunState) → world.notes ≡ notes.now → register r.machine 0 ≡ request.now.slots → r.machine.objects ≡ ranges mem.now → r.machine.byte ≡ byte_at mem.now → frames.new ≡ with_arguments (slots_asked W world r (Asked request.now.place request.now.target)) frames.old }
+        ensures step { (world : World) (r : RunState) → world.notes ≡ notes.now → register r.machine 0 ≡ r0 → r.machine.objects ≡ ranges mem.now → r.machine.byte ≡ byte_at mem.now → objects_at world r ≡ self.now.made.items → result ≡ bound_step place (asking_at W world (placement_of self.now.places) r place target) }
+        ensures called { (world : World) (r : RunState) → world.notes ≡ notes.now → register r.machine 0 ≡ r0 → r.machine.objects ≡ ranges mem.now → r.machine.byte ≡ byte_at mem.now → objects_at world r ≡ self.now.made.items → OnCalled result (λ signature args. length args ≡ length (signature_params notes.now signature)) }
+        ensures slots { (world : World) (r : RunState) → world.notes ≡ notes.now → register r.machine 0 ≡ r0 → r.machine.objects ≡ ranges mem.now → r.machine.byte ≡ byte_at mem.now → frames.new ≡ with_arguments (slots_asked W world r (Asked place target)) frames.old }
         ensures hosts { (call : NativeCall ℕ) → with_call call (map saved_of frames.new) ≡ with_call call (map saved_of frames.old) }
         ensures len { length frames.new ≡ length frames.old }
     {
-        let asking = self.asking(
-            notes,
-            mem,
-            frames,
-            request.slots,
-            request.place,
-            request.target,
-        );
-        bound_step(request.place, asking)
+        let asking = self.asking(notes, mem, frames, r0, place, target);
+        bound_step(place, asking)
     }
 
     /// How a pair ends where the provider, whose host this is, can't take a call of a function with these arguments: as

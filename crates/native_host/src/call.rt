@@ -1,12 +1,16 @@
 //! The call step of the modelled host (docs/HOST.md, "Steps", on the call step).
 ghost use Rattle.std.specs.Prelude.{◌≡◌, ℕ, ◌+◌, ◌<◌, ◌≤◌, false, [], length, map, slice_get, IsSome, Some, vec_capacity};
 ghost use Rattle.ebc_width.specs.Width.{IsWidth};
+ghost use Rattle.object_memory.specs.Memory.{byte_at, ranges};
 ghost use Rattle.frame_stack.specs.Frames.{with_mark};
 ghost use Rattle.note_types.specs.Concrete.{Concrete, register};
 ghost use Rattle.host_model.specs.HostPlans.{objects_made_by};
-ghost use Rattle.host_model.specs.HostSteps.{performed, written_number};
+ghost use Rattle.host_model.specs.HostSteps.{performed, slots_asked, written_number};
 ghost use Rattle.host_model.specs.Objects.{made_objects};
+ghost use Rattle.host_model.specs.Progress.{Asked};
 ghost use Rattle.host_model.specs.RunState.{RunState};
+ghost use Rattle.host_model.specs.World.{World};
+ghost use Rattle.callex_thunk.specs.Slots.{with_arguments};
 ghost use Rattle.entry_thunk.specs.Cells.{with_memory};
 ghost use Rattle.native_host.specs.Hosts.{HasRoom, IsMemoryOf, IsServing, host_world};
 ghost use Rattle.native_host.specs.Kept.{placement_of};
@@ -22,55 +26,42 @@ use frame_stack::FrameStack;
 use note_types::{Notes, Script};
 use object_memory::ObjMem;
 
-/// What a call instruction asks the host for: a native call, from the call instruction at a place of the image.
-#[derive(Clone, Copy)]
-pub struct Request {
-    /// The place of the instruction, 0xFFFFFFFF outside the image.
-    pub place: u32,
-    /// The address that is called.
-    pub target: u64,
-    /// The address of the argument slots, the first one lowest: R0.
-    pub slots: u64,
-}
-
 impl<const W: usize> Host<W> {
-    /// What the host does where a call instruction asks for a native call: the call is accepted, or the run ends. Its event is
-    /// added, for which there is room, before any check. Where the call is accepted its objects are placed and filled, it is
-    /// the one that is under way above the top frame, and it goes on with `Host::next`; else nothing of the memory changes.
+    /// What the host does where the call instruction at a place of the image, 0xFFFFFFFF outside it, asks for a native call of the
+    /// target, an address; R0 is the address of the argument slots, the first one lowest. The call is accepted, or the run ends. Its
+    /// event is added, for which there is room, before any check. Where the call is accepted its objects are placed and filled, it is
+    /// the one that is under way above the top frame, and it goes on with `Host::next`; else nothing changes but the slots of the top
+    /// frame.
     pub fn call(
         &mut self,
         notes: &Notes,
         script: &Script,
         mem: &mut ObjMem<W>,
         frames: &mut FrameStack,
-        request: &Request,
+        r0: u64,
+        place: u32,
+        target: u64,
     ) -> HostStep
         requires width { IsWidth W }
         requires serving { IsServing W notes.now script.now self.old }
         requires memory { IsMemoryOf W (host_world notes.now script.now self.old) (placement_of self.old.places) self.old.entries mem.old }
         requires room { HasRoom self.old 1 }
         requires frame { 0 < length frames.old }
-        ensures step { (r : RunState) → register r.machine 0 ≡ request.now.slots → Some result ≡ step_of (written_number W notes.now (placement_of self.old.places) self.old.made.items) (asked_plan W (host_world notes.now script.now self.old) (placement_of self.old.places) (asked self.old mem.old frames.old request.now.place request.now.target r) request.now.place request.now.target) }
-        ensures after { (r : RunState) → register r.machine 0 ≡ request.now.slots → performed W (host_world notes.now script.now self.old) (placement_of self.old.places) (asked self.old mem.old frames.old request.now.place request.now.target r) (asked_plan W (host_world notes.now script.now self.old) (placement_of self.old.places) (asked self.old mem.old frames.old request.now.place request.now.target r) request.now.place request.now.target) ≡ taken false W (host_world notes.now script.now self.old) (placement_of self.old.places) (settled self.new mem.new frames.new request.now.place request.now.target result r) result }
+        ensures step { (r : RunState) → register r.machine 0 ≡ r0 → Some result ≡ step_of (written_number W notes.now (placement_of self.old.places) self.old.made.items) (asked_plan W (host_world notes.now script.now self.old) (placement_of self.old.places) (asked self.old mem.old frames.old place target r) place target) }
+        ensures after { (r : RunState) → register r.machine 0 ≡ r0 → performed W (host_world notes.now script.now self.old) (placement_of self.old.places) (asked self.old mem.old frames.old place target r) (asked_plan W (host_world notes.now script.now self.old) (placement_of self.old.places) (asked self.old mem.old frames.old place target r) place target) ≡ taken false W (host_world notes.now script.now self.old) (placement_of self.old.places) (settled self.new mem.new frames.new place target result r) result }
         ensures settled { IsSettled result }
         ensures serving { IsServing W notes.now script.now self.new }
         ensures memory { IsMemoryOf W (host_world notes.now script.now self.new) (placement_of self.new.places) self.new.entries mem.new }
         ensures same { OnEnd result (mem.new ≡ mem.old) }
+        ensures frames { (world : World) (r : RunState) → world.notes ≡ notes.now → register r.machine 0 ≡ r0 → r.machine.objects ≡ ranges mem.old → r.machine.byte ≡ byte_at mem.old → OnEnd result (frames.new ≡ with_arguments (slots_asked W world r (Asked place target)) frames.old) }
         ensures kept { self.new ≡ record self.old { made = self.new.made; entries = self.new.entries; trace = self.new.trace } }
         ensures len { length frames.new ≡ length frames.old }
         ensures room { (n : ℕ) → HasRoom self.old (n + 1) → HasRoom self.new n }
         ensures capacity { vec_capacity self.old.trace ≤ vec_capacity self.new.trace }
     {
-        let asking = self.asking(
-            notes,
-            mem,
-            frames,
-            request.slots,
-            request.place,
-            request.target,
-        );
-        tell(&mut self.trace, call_event(request.place, &asking));
-        match refused(script, self.entries, request.place, &asking) {
+        let asking = self.asking(notes, mem, frames, r0, place, target);
+        tell(&mut self.trace, call_event(place, &asking));
+        match refused(script, self.entries, place, &asking) {
             Some(ending) => end_step(&ending),
             None => {
                 self.accept(notes, script, mem, frames);

@@ -23,7 +23,6 @@ mod thunks;
 mod values;
 
 pub use bound::{BoundCall, BoundStep, bound_at};
-pub use call::Request;
 pub use host::Host;
 pub use note_types::{Args, Event, Reason};
 pub use starting::start;

@@ -38,6 +38,7 @@ use Rattle.note_infer.specs.Rounds.{AreAfter, Comes, GivenAt, HasCome, IsRound, 
 use Rattle.note_infer.specs.Rounds.{by_fall, by_jump, given, gives, gives_none, marked, with_points}
 use Rattle.note_infer.proofs.OtherPoints.{state_is}
 use Rattle.note_join.proofs.StateJoins.{states_below}
+use Rattle.rules_image.proofs.Decoding.{spelled_at}
 
 -- ---- rows
 
@@ -227,14 +228,14 @@ module _ (image : Image) (notes : Notes) (leaders : List ℕ) (states : States) 
   comes_found k f e zero place s (at_entry c p q) = subst (IsFound notes f) (sym q) (entry_found notes k f)
   comes_found k f e (suc count) place s h =
       let r = row_found k f e h.last place h.state h.insn h.successors (comes_found k f e count h.last h.state h.has_state)
-      h.decode.well_formed h.row in
+      (spelled_at image f h.last place h.insn h.decode).well_formed h.row in
       some_at (IsFound notes f) h.successors.fall s r.0 h.falls
 
   pub given_at-found : (k : ℕ) (f : FnNote) → slice_get notes.function k ≡ Some f → (leader place : ℕ) (ts : List State)
       → GivenAt image notes leaders states k f leader place ts → AllFound notes f ts
   given_at-found k f e leader place ts (gives_none h q) = subst (AllFound notes f) (sym q) (λ k t e. absurd cc)
   given_at-found k f e leader place ts (gives s i next x h d q g) =
-      let r = row_found k f e place next s i x (comes_found k f e h.0 place s h.1) d.well_formed q in
+      let r = row_found k f e place next s i x (comes_found k f e h.0 place s h.1) (spelled_at image f place next i d).well_formed q in
       subst (AllFound notes f) (sym g) (given_found notes f leader next x r.0 r.1)
 
   pub has_come-found : (k : ℕ) (f : FnNote) → slice_get notes.function k ≡ Some f → (leader : ℕ) → Contains leaders leader

@@ -1,13 +1,23 @@
 -- Meaning: what a run of two images shows: so many steps, until it ends or up to a limit, and where the side that runs then stands,
 -- the events of both and how the run ended. docs/PAIRS.md, "Runs".
-use Rattle.std.specs.Prelude.{◌≡◌, ◌≢◌, ◌⊎◌, ℕ, ◌<◌, ◌≤◌}
+use Rattle.std.specs.Prelude.{◌≡◌, ◌≢◌, ◌⊎◌, ℕ, ◌<◌, ◌≤◌, List}
 use Rattle.host_model.specs.RunState.{RunState}
+use Rattle.host_model.specs.World.{World}
 use Rattle.note_types.specs.declared.ending.Ending.TheVariants.{Running}
 use Rattle.pair_model.specs.PairReports.{own_placements, pair_report_after}
 use Rattle.pair_model.specs.PairRuns.{pair_run}
 use Rattle.pair_model.specs.Pairs.{Both, PairState, PairWorld}
+use Rattle.pair_model.specs.declared.bind.Bind.{Bind}
 use Rattle.pe_image.specs.declared.image.Image.{Image}
 use Rattle.pair_host.specs.declared.reports.PairRun.{PairRun}
+
+-- the images of both
+abbrev pub both_images : (a b : Image) → Both Image
+both_images a b = record { a = a; b = b }
+
+-- what a run of a pair is about, where a run of each image is about this
+abbrev pub pair_about : (a b : World) → List Bind → PairWorld
+pair_about a b binds = record { a = a; b = b; binds = binds }
 
 -- the run of a pair at a width after so many steps, under the placements that this project takes
 abbrev pub own_pair_run : ℕ → Both Image → PairWorld → ℕ → PairState RunState

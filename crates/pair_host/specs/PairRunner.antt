@@ -22,6 +22,7 @@ use Rattle.pe_image.specs.declared.image.Image.{Image}
 use Rattle.twin_run.specs.Bound.{Rests}
 use Rattle.twin_run.specs.Runner.{IsRunner}
 use Rattle.twin_run.specs.declared.runner.Runner.{Runner}
+use Rattle.pair_host.specs.PairReported.{both_images, pair_about}
 use Rattle.pair_host.specs.declared.driver.Driver.{Driver}
 use Rattle.pair_host.specs.declared.stage.Side.{Side as CodeSide}
 use Rattle.pair_host.specs.declared.stage.Side.TheVariants as side
@@ -44,11 +45,11 @@ world_for d = world_of d.image.now d.notes.now d.script.now
 
 -- what a run of a pair is about
 abbrev pub pair_world : (a b : Driver) → List Bind → PairWorld
-pair_world a b binds = record { a = world_for a; b = world_for b; binds = binds }
+pair_world a b binds = pair_about (world_for a) (world_for b) binds
 
 -- the images of both
 abbrev pub images_for : (a b : Driver) → Both Image
-images_for a b = record { a = a.image.now; b = b.image.now }
+images_for a b = both_images a.image.now b.image.now
 
 -- ---- the state
 

@@ -10,6 +10,7 @@ mod reports;
 mod stage;
 mod telling;
 
+pub use bind_texts::read_binds;
 pub use driver::Driver;
 pub use pair_model::{Bind, Binds, PairEvent};
 pub use pair_runner::{PairRunner, start};

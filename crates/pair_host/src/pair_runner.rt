@@ -152,7 +152,7 @@ impl<const W: usize> PairRunner<W> {
         ensures room { (n : ℕ) → HasPairRoom self.old (n + 1) → HasPairRoom self.new n }
     {
         let told = self.a.trace().len();
-        self.a.step(a.notes, a.script);
+        self.a.step(a.image, a.notes, a.script);
         tell_a(&mut self.trace, self.a.trace(), told);
         self.ending = self.a.ending();
     }
@@ -166,7 +166,7 @@ impl<const W: usize> PairRunner<W> {
         ensures room { (n : ℕ) → HasPairRoom self.old (n + 1) → HasPairRoom self.new n }
     {
         let told = self.b.trace().len();
-        self.b.step(b.notes, b.script);
+        self.b.step(b.image, b.notes, b.script);
         tell_b(&mut self.trace, self.b.trace(), told);
         self.ending = self.b.ending();
     }

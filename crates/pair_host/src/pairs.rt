@@ -2,13 +2,19 @@
 ghost use Rattle.std.specs.Prelude.{◌≡◌, ◌↔◌, IfOk, IsTrue, None};
 ghost use Rattle.ebc_width.specs.Width.{IsWidth};
 ghost use Rattle.host_model.specs.RunState.{RunState};
+ghost use Rattle.host_model.specs.Runs.{world_of};
+ghost use Rattle.host_model.specs.Scripts.{IsScript};
+ghost use Rattle.note_types.specs.Records.{IsNotes};
 ghost use Rattle.note_types.specs.declared.ending.Ending.TheVariants.{Running};
+ghost use Rattle.pair_model.specs.Binds.{AllAgree};
 ghost use Rattle.pair_model.specs.Pairs.{PairState, PairWorld};
+ghost use Rattle.pe_image.specs.Images.{IsImage};
+ghost use Rattle.pe_image.specs.Mapped.{AreBytes};
 ghost use Rattle.typed_runs.specs.Endings.{RaisesOnlyDivideError};
 ghost use Rattle.width_checker.specs.Typed.{Typed};
 ghost use Rattle.pair_host.specs.PairDiffers.{PairsDifferAt};
 ghost use Rattle.pair_host.specs.PairOnItsWay.{ArePairsSameButFirst, IsPairOnItsWay};
-ghost use Rattle.pair_host.specs.PairReported.{IsPairReport};
+ghost use Rattle.pair_host.specs.PairReported.{IsPairReport, both_images, pair_about};
 ghost use Rattle.pair_host.specs.PairRunner.{ArePaired, IsPair, images_for, pair_world};
 
 use crate::comparing::{same_ending, same_from, same_side, same_spot};
@@ -16,8 +22,9 @@ use crate::driver::Driver;
 use crate::pair_runner::{PairRunner, start};
 use crate::reports::{PairReport, PairRun};
 use ebc_base::NoMemory;
-use note_types::Ending;
+use note_types::{Ending, Notes, Script};
 use pair_model::Binds;
+use pe_image::Image;
 use std::alloc::Global;
 
 // Whether a run goes on.
@@ -106,15 +113,8 @@ fn step_together(
     }
 }
 
-/// Runs image B, the provider, and then image A, whose calls of bound methods enter functions of image B, at 4 and at 8 bytes an
-/// address, each until its run ends or for so many steps, and finds the least number of steps, up to the same, after which the two
-/// aren't the same. The binds agree with the notes of both. The images need to keep no rule of docs/RULES.md; where both keep them
-/// all there is none, and no exception is raised but a division by zero.
-///
-/// # Errors
-///
-/// There is no memory for the runs.
-pub fn pair(
+// The runs of the two at both widths, as `pair` has them.
+fn run_pair(
     alloc: Global,
     a: &Driver,
     b: &Driver,
@@ -146,4 +146,52 @@ pub fn pair(
             Err(error)
         }
     }
+}
+
+/// Runs image B, the provider, and then image A, whose calls of bound methods enter functions of image B, at 4 and at 8 bytes an
+/// address, each until its run ends or for so many steps, and finds the least number of steps, up to the same, after which the two
+/// aren't the same. Each image has its notes and its script, and the binds agree with the notes of both. The images need to keep no
+/// rule of docs/RULES.md; where both keep them all there is none, and no exception is raised but a division by zero.
+///
+/// # Errors
+///
+/// There is no memory for the runs.
+pub fn pair(
+    alloc: Global,
+    image_a: &Image,
+    notes_a: &Notes,
+    script_a: &Script,
+    image_b: &Image,
+    notes_b: &Notes,
+    script_b: &Script,
+    binds: &Binds,
+    steps: u64,
+) -> Result<PairReport, NoMemory>
+    requires image_a { IsImage image_a.now }
+    requires bytes_a { AreBytes image_a.now }
+    requires notes_a { IsNotes notes_a.now }
+    requires script_a { IsScript notes_a.now script_a.now }
+    requires image_b { IsImage image_b.now }
+    requires bytes_b { AreBytes image_b.now }
+    requires notes_b { IsNotes notes_b.now }
+    requires script_b { IsScript notes_b.now script_b.now }
+    requires agree { AllAgree notes_a.now notes_b.now binds.now }
+    ensures at4 { IfOk result (λ r. IsPairReport 4 (both_images image_a.now image_b.now) (pair_about (world_of image_a.now notes_a.now script_a.now) (world_of image_b.now notes_b.now script_b.now) binds.now) steps r.at4) }
+    ensures at8 { IfOk result (λ r. IsPairReport 8 (both_images image_a.now image_b.now) (pair_about (world_of image_a.now notes_a.now script_a.now) (world_of image_b.now notes_b.now script_b.now) binds.now) steps r.at8) }
+    ensures differ { IfOk result (λ r. PairsDifferAt (both_images image_a.now image_b.now) (pair_about (world_of image_a.now notes_a.now script_a.now) (world_of image_b.now notes_b.now script_b.now) binds.now) steps r.differ) }
+    ensures same_where_typed { Typed image_a.now notes_a.now → Typed image_b.now notes_b.now → IfOk result (λ r. r.differ ≡ None) }
+    ensures raised_where_typed { Typed image_a.now notes_a.now → Typed image_b.now notes_b.now
+        → IfOk result (λ r. RaisesOnlyDivideError r.at4.ending × RaisesOnlyDivideError r.at8.ending) }
+{
+    let a = Driver {
+        image: image_a,
+        notes: notes_a,
+        script: script_a,
+    };
+    let b = Driver {
+        image: image_b,
+        notes: notes_b,
+        script: script_b,
+    };
+    run_pair(alloc, &a, &b, binds, steps)
 }

@@ -1,6 +1,6 @@
 -- How the leaders are gathered, instruction by instruction and function by function.
-use Rattle.std.proofs.Common.{◌≡◌, ◌⊎◌, ℕ, zero, suc, ◌+◌, ◌^◌, ◌<◌, ◌≤◌, List, [], ◌∷◌, ◌++◌, length, refl, sym, subst, ◌∙◌, inl, inr}
-use Rattle.std.proofs.Common.{⊎_elim}
+use Rattle.std.proofs.Common.{◌≡◌, ◌⊎◌, ℕ, zero, suc, ◌+◌, ◌^◌, ◌<◌, ◌≤◌, List, [], ◌∷◌, ◌++◌, get_or, length}
+use Rattle.std.proofs.Common.{⊎_elim, refl, sym, subst, ◌∙◌, inl, inr}
 use Rattle.std.proofs.Common.{arith}
 use Rattle.std.specs.Prelude.{Some, pos, slice_get}
 use Rattle.std.specs.List.{Contains}
@@ -10,10 +10,12 @@ use Rattle.std.proofs.lemmas.Option.{same_Some, slice_get_within}
 use Rattle.ebc_insn.specs.declared.Insn.{Insn}
 use Rattle.note_types.specs.declared.notes.FnNote.{FnNote}
 use Rattle.note_types.specs.declared.notes.Notes.{Notes}
+use Rattle.note_types.specs.Records.{IsNotes}
 use Rattle.pe_image.specs.declared.image.Image.{Image}
-use Rattle.rules_image.specs.Images.{IsDecoded, IsFunction}
+use Rattle.rules_image.specs.Images.{FunctionHolds, IsDecoded}
 use Rattle.rules_image.specs.Places.{IsPlaceOf, Leads}
 use Rattle.rules_image.proofs.Decoding.{decoded_once}
+use Rattle.rules_image.proofs.Firsts.{item_there}
 use Rattle.width_checker.proofs.Leading.{decode_later, leads_further, leads_one, places_before, start_first}
 use Rattle.note_infer.specs.Leaders.{IsLeader, IsLeaderOf}
 use Rattle.point_finder.specs.Finding.{Adds, HasCode, IsLeaderBelow, IsNamedBefore, IsNamedIn}
@@ -217,5 +219,14 @@ leader_below image notes n p past l = record {
   of = l.of;
 }
 
-pub has_code : (image : Image) (notes : Notes) (k : ℕ) (f : FnNote) → IsFunction image notes k f → f.end ≤ 2 ^ 22 → HasCode image f
-has_code image notes k f h small = record { range = h.range; home = h.inside; small = small }
+-- a function that is read from the list of the notes is there
+pub function_there : (notes : Notes) (fs : List FnNote) (k : ℕ) (f : FnNote) → fs ≡ notes.function → k < length fs → f ≡ get_or fs k f
+    → slice_get notes.function k ≡ Some f
+function_there notes fs k f same within at =
+    subst (λ (gs : List FnNote). slice_get gs k ≡ Some f) same (item_there (λ j (g : FnNote). Unit {0}) fs k f within at)
+
+-- and has code, where the rule of functions holds
+pub has_code : (image : Image) (notes : Notes) (k : ℕ) (f : FnNote) → ((j : ℕ) → FunctionHolds image notes j) → IsNotes notes
+    → slice_get notes.function k ≡ Some f → HasCode image f
+has_code image notes k f holds are there =
+    let h = holds k f there in record { range = h.range; home = h.inside; small = (are.functions k f there).end }

@@ -25,8 +25,9 @@ fn relocated_place(reloc: Option<u64>) -> Option<i128>
     }
 }
 
-// The place that a JMP names, by an immediate of 64 bits, relative or relocated, or a relative one beside R0.
-fn jump_names(
+/// The place that a JMP of these parts names, or a CALL of byte code: by an immediate of 64 bits, relative or relocated, or a
+/// relative one beside R0. `next` is the place of the next instruction, and `reloc` the one that its relocated immediate names.
+pub fn jump_names(
     next: u32,
     reloc: Option<u64>,
     far: bool,
@@ -50,7 +51,7 @@ fn jump_names(
 
 /// The place that an instruction before `next` names as the target of a jump, where it does. `reloc` is the place that its
 /// relocated immediate names, where it has one.
-pub(crate) fn names_place(next: u32, reloc: Option<u64>, i: &Insn) -> Option<i128>
+pub fn names_place(next: u32, reloc: Option<u64>, i: &Insn) -> Option<i128>
     ensures { result ≡ names_place next reloc i.now }
 {
     match i {
@@ -68,7 +69,7 @@ pub(crate) fn names_place(next: u32, reloc: Option<u64>, i: &Insn) -> Option<i12
 
 /// The place that the relocated immediate of an instruction that ends before `next` names, where it has one.
 #[tactic(auto, unfolding(rules_image::specs::Images::reloc_at))]
-pub(crate) fn reloc_at(image: &Image, next: u32) -> Option<u64>
+pub fn reloc_at(image: &Image, next: u32) -> Option<u64>
     requires { IsImage image.now }
     ensures { result ≡ reloc_at image.now next }
 {

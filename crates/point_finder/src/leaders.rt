@@ -71,11 +71,7 @@ fn all_named(alloc: Global, image: &Image, notes: &Notes) -> Result<Vec<u32>, No
 /// # Errors
 ///
 /// There is no memory for them.
-pub(crate) fn find_leaders(
-    alloc: Global,
-    image: &Image,
-    notes: &Notes,
-) -> Result<Vec<u32>, NoMemory>
+pub fn find_leaders(alloc: Global, image: &Image, notes: &Notes) -> Result<Vec<u32>, NoMemory>
     requires image { IsImage image.now }
     requires notes { IsNotes notes.now }
     requires functions { (k : ℕ) → FunctionHolds image.now notes.now k }

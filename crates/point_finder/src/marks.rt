@@ -16,7 +16,7 @@ use std::alloc::Global;
 /// # Errors
 ///
 /// There is no memory for them.
-pub(crate) fn marked(alloc: Global, notes: &Notes, leaders: &[u32]) -> Result<Notes, NoMemory>
+pub fn marked(alloc: Global, notes: &Notes, leaders: &[u32]) -> Result<Notes, NoMemory>
     requires { IsNotes notes.now }
     ensures { IfOk result (λ copy. copy ≡ marked notes.now leaders.now) }
 {

@@ -12,7 +12,7 @@ ghost use Rattle.point_finder.specs.Reaching.{Reached};
 
 use crate::coming::{Coming, is_leader};
 use crate::marks::has_no_point;
-use crate::row::row;
+use crate::rows::row;
 use ebc_decode::decode;
 use ebc_insn::Insn;
 use note_types::{FnNote, Notes, RuleName, State};

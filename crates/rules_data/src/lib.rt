@@ -8,3 +8,4 @@ mod data;
 mod rows;
 
 pub use data::{after_data, data_change};
+pub use rules_base::Here;

@@ -15,5 +15,6 @@ mod successors;
 pub use flow::{after_flow, flow_step};
 pub use narrowing::narrow;
 pub use placed::{Placed, number_at, places_ascend};
+pub use rules_base::Here;
 pub use step::{Step, Update};
 pub use successors::Successors;

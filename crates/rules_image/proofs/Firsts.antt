@@ -3,7 +3,7 @@ use Rattle.std.proofs.Common.{◌≡◌, ℕ, ◌+◌, ◌<◌, ◌≤◌, List,
 use Rattle.std.specs.Prelude.{Some, slice_get}
 use Rattle.std.proofs.lemmas.Bool.{cases_lt}
 use Rattle.std.proofs.lemmas.Option.{same_Some, slice_get_read, slice_get_within}
-use Rattle.rules_image.specs.Checks.{IsFirstFailing}
+use Rattle.rules_image.specs.Images.{IsFirstFailing}
 
 -- what holds of each thing of a list
 abbrev pub HoldsOf : {A : Type 0} → (ℕ → A → Type 0) → List A → ℕ → Type 0

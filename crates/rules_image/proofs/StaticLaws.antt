@@ -4,8 +4,8 @@ use Rattle.note_types.specs.declared.notes.Notes.{Notes}
 use Rattle.note_types.specs.declared.notes.Static.{Static}
 use Rattle.note_types.specs.declared.shape.Shape.{Shape}
 use Rattle.pe_image.specs.declared.image.Image.{Image}
-use Rattle.rules_image.specs.Images.{HasContent, IsStatic, StaticHolds, extent}
-use Rattle.rules_image.specs.Checks.{IsStaticApart, StaticFits, IsFirstFailing}
+use Rattle.rules_image.specs.Images.{HasContent, IsStatic, StaticHolds, extent, IsFirstFailing}
+use Rattle.rules_image.specs.Checks.{IsStaticApart, StaticFits}
 use Rattle.rules_image.proofs.Firsts.{HoldsOf}
 
 module _ (image : Image) (notes : Notes) (k : ℕ) (x : Static) (s : Shape) where

@@ -1,4 +1,4 @@
--- Meaning: the rule of static objects and thunk cells, a thing at a time, and the ranges of all things of the notes that are
+-- For proofs: the rule of static objects and thunk cells, a thing at a time, and the ranges of all things of the notes that are
 -- in the image.
 use Rattle.std.specs.Prelude.{◌≡◌, ℕ, ◌+◌, ◌-◌, ◌%◌, ◌^◌, ◌<◌, ◌≤◌, true, List, Some, length, min, slice_get, slice_index}
 use Rattle.ebc_width.specs.Bytes.{little_endian}
@@ -91,8 +91,3 @@ abbrev pub AreInTurn : Notes → List ℕ → Type 0
 AreInTurn notes order =
     (j k p q n m : ℕ) → j < k → k < length order → IsThing notes (slice_index order j) p n → IsThing notes (slice_index order k) q m
     → p + n ≤ q
-
--- thing k is the first of which a rule doesn't hold
-pub record IsFirstFailing (Holds : ℕ → Type 0) (k : ℕ) : Type 0 where
-  pub fails : ¬ Holds k
-  pub before : (j : ℕ) → j < k → Holds j

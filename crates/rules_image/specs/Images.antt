@@ -2,13 +2,13 @@
 -- its bytes, the points and relocations in it, and whether control can leave the function past it. docs/RULES.md, "The
 -- image", has the words. A place is an offset from the image's base.
 use Rattle.std.specs.Prelude.{◌≡◌, ◌⊎◌, ℕ, ◌+◌, ◌-◌, ◌*◌, ◌%◌, ◌^◌, ◌<◌, ◌≤◌, Bool, true, false, not, ◌&&◌, ◌||◌, nat_eq, if◌then◌else◌}
-use Rattle.std.specs.Prelude.{Option, Some, None, length, slice_get, is_some, pos, ⊤}
+use Rattle.std.specs.Prelude.{List, All, Option, Some, None, Ok, length, slice_get, is_some, pos, ⊤}
 use Rattle.std.specs.List.{list_any, Contains}
 use Rattle.ebc_width.specs.Bytes.{little_endian, window}
 use Rattle.ebc_insn.specs.declared.Cond.TheVariants.{Always}
 use Rattle.ebc_insn.specs.declared.Insn.{Insn}
 use Rattle.ebc_insn.specs.declared.Insn.TheVariants.{Jump, Jump8, Call, Ret, MoveImm}
-use Rattle.ebc_insn.specs.Spelling.{WellFormed as IsSpelled, spelling}
+use Rattle.ebc_decode.specs.Reading.{read}
 use Rattle.note_types.specs.Shapes.{IsShape, size_at, start_at}
 use Rattle.note_types.specs.declared.cell.Cell.{Cell}
 use Rattle.note_types.specs.declared.cell.Cell.TheVariants as cell
@@ -193,11 +193,17 @@ ThunkHolds image notes k = (x : Thunk) → slice_get notes.thunk k ≡ Some x �
 
 -- ---- instructions
 
--- the rule `decode` holds at a place of a function: this instruction is spelled there, up to `next`, within the function
+-- the bytes of a function from a place on
+abbrev pub rest_of : Image → FnNote → ℕ → List ℕ
+rest_of image f place = window (image_byte image) place (f.end - place)
+
+-- the rule `decode` holds at a place of a function: its bytes from there on are read as this instruction, which ends before
+-- `next`, within the function
 pub record IsDecoded (image : Image) (f : FnNote) (place : ℕ) (i : Insn) (next : ℕ) : Type 0 where
-  pub well_formed : IsSpelled i
-  pub spelled : spelling i ≡ window (image_byte image) place (length (spelling i))
-  pub next_is : next ≡ place + length (spelling i)
+  pub size : ℕ
+  pub bytes : All (λ b. b < 256) (rest_of image f place)
+  pub reading : read (rest_of image f place) ≡ Ok (i, size)
+  pub next_is : next ≡ place + size
   pub within : next ≤ f.end
 
 -- the rule `point` holds of the bytes from a place up to `next`: no point lies inside
@@ -261,3 +267,8 @@ pub record NamesAt (image : Image) (notes : Notes) (i : Insn) (place named : ℕ
   pub named_is : named ≡ named_place image place
   pub inside : named < image.size
   pub thing : is_address_move i ≡ true → is_some (thing_at notes (pos named)) ≡ true
+
+-- thing k is the first of which a rule doesn't hold
+pub record IsFirstFailing (Holds : ℕ → Type 0) (k : ℕ) : Type 0 where
+  pub fails : ¬ Holds k
+  pub before : (j : ℕ) → j < k → Holds j

@@ -3,8 +3,8 @@
 ghost use Rattle.std.specs.Prelude.{◌≡◌, ◌+◌, ◌<◌, ◌≤◌, ◌↔◌, ◌^◌, ℕ, IfErr, IfNone, IfSome, IsTrue, OnOk, Some, length, slice_get};
 ghost use Rattle.note_types.specs.Records.{IsNotes};
 ghost use Rattle.pe_image.specs.Images.{IsImage};
-ghost use Rattle.rules_image.specs.Images.{IsStatic, ShapeHolds, StaticHolds};
-ghost use Rattle.rules_image.specs.Checks.{AreAllApart, IsStaticApart, StaticFits, IsFirstFailing};
+ghost use Rattle.rules_image.specs.Images.{IsStatic, ShapeHolds, StaticHolds, IsFirstFailing};
+ghost use Rattle.rules_image.specs.Checks.{AreAllApart, IsStaticApart, StaticFits};
 
 use crate::apart::{
     extent_inside, is_apart_from_functions, is_apart_from_statics, is_apart_from_thunks,

@@ -2,11 +2,10 @@
 
 ghost use Rattle.std.specs.Prelude.{◌≡◌, ◌+◌, ◌<◌, ◌≤◌, ◌↔◌, ℕ, IfErr, IfNone, IfSome, IsTrue, OnOk, Some, length, slice_get};
 ghost use Rattle.note_types.specs.Records.{IsNotes};
-ghost use Rattle.rules_image.specs.Images.{FunctionHolds, IsFunction, IsInside, ShapeHolds};
+ghost use Rattle.rules_image.specs.Images.{FunctionHolds, IsFunction, IsInside, ShapeHolds, IsFirstFailing};
 ghost use Rattle.pe_image.specs.Images.{IsImage};
 ghost use Rattle.pe_image.specs.declared.image.Section.{Section};
 ghost use Rattle.rules_image.specs.Tables.{FitsAt, HasHome, IsHome, IsPast, IsCodeOf, HaveFewFields};
-ghost use Rattle.rules_image.specs.Checks.{IsFirstFailing};
 
 use note_types::{FnNote, Notes, Shape, shape_ok};
 use pe_image::{Image, Section};

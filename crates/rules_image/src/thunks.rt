@@ -4,8 +4,8 @@ ghost use Rattle.std.specs.Prelude.{◌≡◌, ◌+◌, ◌%◌, ◌<◌, ◌≤
 ghost use Rattle.ebc_width.specs.Bytes.{little_endian};
 ghost use Rattle.note_types.specs.Records.{IsNotes};
 ghost use Rattle.pe_image.specs.Images.{IsImage};
-ghost use Rattle.rules_image.specs.Images.{IsThunk, ThunkHolds};
-ghost use Rattle.rules_image.specs.Checks.{AreAllApart, EntersFunction, EntersItsFunction, IsThunkApart, IsFirstFailing};
+ghost use Rattle.rules_image.specs.Images.{IsThunk, ThunkHolds, IsFirstFailing};
+ghost use Rattle.rules_image.specs.Checks.{AreAllApart, EntersFunction, EntersItsFunction, IsThunkApart};
 ghost use Rattle.pe_image.specs.Mapped.{image_byte};
 
 use crate::apart::{is_apart_from_functions, is_apart_from_thunks};

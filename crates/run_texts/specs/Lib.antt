@@ -1,2 +1,3 @@
 pub mod PairTexts
 pub mod RunTexts
+pub mod Refusals

@@ -1,5 +1,6 @@
 -- What the neutral machine reads at a place is decoded there.
 use Rattle.std.proofs.Common.{◌≡◌, ℕ, zero, suc, ◌+◌, ◌-◌, ◌<◌, ◌≤◌, length, Some, Result, Ok, Err, sym, ap, ◌∙◌, subst, arith}
+use Rattle.std.proofs.lemmas.List.Elements.{All-from_get_or}
 use Rattle.std.proofs.lemmas.Option.{same_Some, none-some}
 use Rattle.ebc_decode.specs.Reading.{read}
 use Rattle.ebc_decode.specs.declared.DecodeFault.{DecodeFault}
@@ -12,6 +13,7 @@ use Rattle.ebc_width.proofs.ByteLaws.{length-window, take-window}
 use Rattle.neutral_machine.specs.NeutralImage.{instruction_at, or_none}
 use Rattle.step_sound.specs.Loaded.{ReadIsDecoded}
 use Rattle.pe_image.specs.Mapped.{image_byte}
+use Rattle.rules_image.proofs.Decoding.{decoded_at}
 
 -- ---- windows
 
@@ -38,9 +40,12 @@ read_is_decoded image f place i n small e fits =
     let short : n ≤ k = subst (λ z. n ≤ z) (length-window b place k) l.1 in
     let spelled : spelling i ≡ window b place n = sym s.same_bytes ∙ take-window b place n k short in
     let long : length (spelling i) ≡ n = ap length spelled ∙ length-window b place n in
-    record {
+    let rest : ℕ = f.end - place in
+    decoded_at image f place (place + n) i
+    (All-from_get_or (λ b. b < 256) (window b place rest) 0 (λ k l. window_bytes b small place rest k))
+    (record {
       well_formed = s.well_formed;
       spelled = spelled ∙ ap (window b place) (sym long);
       next_is = ap (λ z. place + z) (sym long);
       within = fits;
-    }
+    })

@@ -18,6 +18,7 @@ use Rattle.rules_image.specs.Images.{FunctionHolds}
 use Rattle.rules_image.specs.Places.{Leads, IsPlaceOf}
 use Rattle.width_checker.proofs.Leading.{decode_later}
 use Rattle.step_sound.specs.PlaceStates.{PlacesHold}
+use Rattle.rules_image.proofs.Decoding.{spelled_at}
 
 -- ---- places are even
 
@@ -89,7 +90,7 @@ module _ (image : Image) (notes : Notes) (ok : IsNotes notes) (functions : (k : 
       (omega (arith, e, even), omega (arith, e), omega (arith, e, range))
   place_even func f (suc n) place there x =
       let r = place_even func f n x.last there x.reached in
-      let d = x.decode.next_is in
+      let d = (spelled_at image f x.last place x.insn x.decode).next_is in
       let s = spelling_even x.insn in
       let w = x.within in
       let a = r.0 in

@@ -36,6 +36,8 @@ use Rattle.step_sound.proofs.Read.{read_is_run}
 use Rattle.step_sound.proofs.RowLeads.{falls_where_it_may}
 use Rattle.step_sound.proofs.Worlds.{world_typed}
 use Rattle.rules_base.specs.Outcomes.{OrRule as Given}
+use Rattle.rules_image.proofs.Decoding.{spelled_at}
+use Rattle.rules_image.specs.Spelled.{IsSpelledAt}
 
 module _ (w : ℕ) (h : IsWidth w) (image : Image) (world : World) (P : Placement) (a : Config) (f : FunctionFrame) (fs : List Frame)
     (note : FnNote) (here : Here) (s : State) (i : Insn) (c : Concrete) (st : StepStands w image world P a f fs note here s i c)
@@ -45,8 +47,11 @@ module _ (w : ℕ) (h : IsWidth w) (image : Image) (world : World) (P : Placemen
   stands_at =
       place_even image world.notes st.read.notes st.read.functions st.places here.func note st.place.0 here.place st.there st.place.1
 
+  spelled : IsSpelledAt image note here.place i here.next
+  spelled = spelled_at image note here.place here.next i st.decoded
+
   insn_of : IsInsnOf image world (site_of here) i
-  insn_of = record { k = here.func; f = note; function = st.there; from = stands_at.1; decoded = st.decoded; relocation = st.relocation }
+  insn_of = record { k = here.func; f = note; function = st.there; from = stands_at.1; decoded = spelled; relocation = st.relocation }
 
   inside : (o : Option State) → x.fall ≡ o → (o ≡ None) ⊎ (here.next < world.image_size)
   inside None e = inl refl
@@ -60,8 +65,8 @@ module _ (w : ℕ) (h : IsWidth w) (image : Image) (world : World) (P : Placemen
     frames = st.frames;
     spot = st.spot;
     there = subst (λ n. slice_get world.notes.function n ≡ Some note) (sym st.func) st.there;
-    well_formed = st.decoded.well_formed;
-    even = (let n = st.decoded.next_is in let e = spelling_even i in let q = stands_at.0 in omega (arith, n, e, q));
+    well_formed = spelled.well_formed;
+    even = (let n = spelled.next_is in let e = spelling_even i in let q = stands_at.0 in omega (arith, n, e, q));
     inside = inside x.fall refl;
     sound = st.sound;
     state = st.state;

@@ -50,6 +50,8 @@ use Rattle.step_sound.proofs.RunSteps.{found_there, site_there}
 use Rattle.step_sound.proofs.Worlds.{run_world, world_typed, thunks_enter}
 use Rattle.step_sound.proofs.Instructing.{Before, HoldsAfter, instruction_holds}
 use Rattle.rules_image.specs.Images.{reloc_at}
+use Rattle.rules_image.proofs.Decoding.{spelled_at}
+use Rattle.rules_image.specs.Spelled.{IsSpelledAt}
 
 -- what fits a state fits each state above it
 pub state_below : StatesFitBelow
@@ -78,8 +80,11 @@ module _ (image : Image) (world : World) (states : States) (r : IsReadWorld imag
     reached : (p % 2 ≡ 0) × (m.f.place ≤ p) × (p < m.f.end)
     reached = place_even image world.notes r.notes r.functions hold.places f.func m.f m.place_of.0 p m.there m.place_of.1
 
+    spelled : IsSpelledAt image m.f p m.insn m.next
+    spelled = spelled_at image m.f p m.next m.insn m.decoded
+
     insn_of : IsInsnOf image world here m.insn
-    insn_of = record { k = f.func; f = m.f; function = m.there; from = reached.1; decoded = m.decoded; relocation = m.relocation }
+    insn_of = record { k = f.func; f = m.f; function = m.there; from = reached.1; decoded = spelled; relocation = m.relocation }
 
     accepted : RuleAccepts world.notes (here_of here f.func) s m.insn m.successors
     unfolding row_of
@@ -105,8 +110,8 @@ module _ (image : Image) (world : World) (states : States) (r : IsReadWorld imag
       frames = fr;
       spot = sp;
       there = m.there;
-      well_formed = m.decoded.well_formed;
-      even = (let n = m.decoded.next_is in let e = spelling_even m.insn in let q = reached.0 in omega (arith, n, e, q));
+      well_formed = spelled.well_formed;
+      even = (let n = spelled.next_is in let e = spelling_even m.insn in let q = reached.0 in omega (arith, n, e, q));
       inside = inside m.successors.fall refl;
       sound = sound;
       state = m.state;

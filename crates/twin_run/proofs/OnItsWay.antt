@@ -1,6 +1,7 @@
 -- Runners on their way along runs: one at its start, after a step more, and at the end; and two, which show where the runs part.
 use Rattle.std.specs.Prelude.{◌≢◌, IsTrue}
-use Rattle.std.proofs.Common.{◌≡◌, ◌↔◌, ◌⊎◌, ℕ, zero, suc, ◌+◌, ◌-◌, ◌<◌, ◌≤◌, Bool, true, false, if◌then◌else◌, List, ◌++◌, length, drop}
+use Rattle.std.proofs.Common.{◌≡◌, ◌↔◌, ◌⊎◌, ℕ, zero, suc, ◌+◌, ◌-◌, ◌<◌, ◌≤◌, ◌^◌, min, Bool, true, false, if◌then◌else◌}
+use Rattle.std.proofs.Common.{List, ◌++◌, length, drop}
 use Rattle.std.proofs.Common.{Some, None, refl, sym, ap, ◌∙◌, subst, inl, inr, arith, add-one, add-suc, add-zero}
 use Rattle.std.proofs.Math.Seq.{drop-append_seam}
 use Rattle.std.proofs.lemmas.Bool.{cases_lt, false≢true}
@@ -31,25 +32,34 @@ below-next j k l = elim (cases_lt j k) as (λ _. (j < k) ⊎ (j ≡ k)) [ inl m 
 abbrev pub Steps : (w : ℕ) (world : World) (x y : Runner w) → Type 0
 Steps w world x y = (r : RunState) → IsRunner w world x r → IsRunner w world y (run_step w world (own_placement w world) r)
 
+-- and counts
+abbrev pub Counts : {w : ℕ} (x y : Runner w) → Type 0
+Counts x y = x.ending ≡ Running → y.taken ≡ min (x.taken + 1) (2 ^ 64 - 1)
+
+counted : (old k n new limit : ℕ) → old ≡ k → k + n ≤ limit → limit < 2 ^ 64 → new ≡ min (old + n) (2 ^ 64 - 1) → new ≡ k + n
+counted old k n new limit was less small is = omega arith
+
 module _ (w : ℕ) (image : Image) (world : World) where
   run-next : (k : ℕ) → own_run w image world (k + 1) ≡ run_step w world (own_placement w world) (own_run w image world k)
   unfolding run_after
   run-next k = ap (own_run w image world) (add-one k)
 
   -- at the start
-  pub starts : (limit : ℕ) (x : Runner w) → IsRunner w world x (own_run w image world 0) → IsOnItsWay w image world limit 0 x
-  starts limit x is = record { most = omega arith; goes_on = λ j l. absurd (omega (arith, l)); there = is }
+  pub starts : (limit : ℕ) (x : Runner w) → IsRunner w world x (own_run w image world 0) → x.taken ≡ 0
+      → IsOnItsWay w image world limit 0 x
+  starts limit x is none = record { most = omega arith; goes_on = λ j l. absurd (omega (arith, l)); there = is; taken = none }
 
   -- after a step more
-  pub goes-on : (limit k : ℕ) (x y : Runner w) → IsOnItsWay w image world limit k x → k < limit
-      → (own_run w image world k).ending ≡ Running → Steps w world x y → IsOnItsWay w image world limit (k + 1) y
-  goes-on limit k x y on less running step = record {
+  pub goes-on : (limit k : ℕ) (x y : Runner w) → IsOnItsWay w image world limit k x → k < limit → limit < 2 ^ 64
+      → (own_run w image world k).ending ≡ Running → Steps w world x y → Counts x y → IsOnItsWay w image world limit (k + 1) y
+  goes-on limit k x y on less small running step counts = record {
     most = omega (arith, less);
     goes_on = λ j l. elim (below-next j k l) as (λ _. (own_run w image world j).ending ≡ Running) [
       | inl m ↦ on.goes_on j m
       | inr e ↦ ap (λ i. (own_run w image world i).ending) e ∙ running
     ];
     there = subst (IsRunner w world y) (sym (run-next k)) (step (own_run w image world k) on.there);
+    taken = counted x.taken k 1 y.taken limit on.taken (omega (arith, less)) small (counts (on.there.at.ending ∙ running));
   }
 
   -- so many steps on
@@ -59,10 +69,11 @@ module _ (w : ℕ) (image : Image) (world : World) where
   run-on k (suc n) = ap (own_run w image world) (add-suc k n)
       ∙ ap (run_step w world (own_placement w world)) (run-on k n)
 
-  pub goes-on_for : (limit k n : ℕ) (x y : Runner w) → IsOnItsWay w image world limit k x → k + n ≤ limit
-      → GoesOnFor w world n (own_run w image world k) → IsRunner w world y (steps_on w world n (own_run w image world k))
+  pub goes-on_for : (limit k n : ℕ) (x y : Runner w) → IsOnItsWay w image world limit k x → k + n ≤ limit → limit < 2 ^ 64
+      → y.taken ≡ min (x.taken + n) (2 ^ 64 - 1) → GoesOnFor w world n (own_run w image world k)
+      → IsRunner w world y (steps_on w world n (own_run w image world k))
       → IsOnItsWay w image world limit (k + n) y
-  goes-on_for limit k n x y on less goes is = record {
+  goes-on_for limit k n x y on less small taken goes is = record {
     most = less;
     goes_on = λ j l. elim (cases_lt j k) as (λ _. (own_run w image world j).ending ≡ Running) [
       | inl m ↦ on.goes_on j m
@@ -73,6 +84,7 @@ module _ (w : ℕ) (image : Image) (world : World) where
           ∙ (ap (λ (r : RunState). r.ending) (run-on k (j - k)) ∙ goes (j - k) few)
     ];
     there = subst (IsRunner w world y) (sym (run-on k n)) is;
+    taken = counted x.taken k n y.taken limit on.taken less small taken;
   }
 
   -- at the end, which is the run's or the limit
@@ -137,14 +149,14 @@ module _ (image : Image) (world : World) where
       )
 
   pub starts-in_step : (limit : ℕ) (x : Runner 4) (y : Runner 8) (same : Bool) → IsRunner 4 world x (own_run 4 image world 0)
-      → IsRunner 8 world y (own_run 8 image world 0)
+      → IsRunner 8 world y (own_run 8 image world 0) → x.taken ≡ 0 → y.taken ≡ 0
       → (IsTrue same ↔ IsSameButFirst world 0 (own_run 4 image world 0) (own_run 8 image world 0))
       → AreInStep image world limit 0 x y same
-  starts-in_step limit x y same at4 at8 compared =
+  starts-in_step limit x y same at4 at8 none4 none8 compared =
       let whole = same-from_none (own_run 4 image world 0) (own_run 8 image world 0) in
       record {
-        at4 = starts 4 image world limit x at4;
-        at8 = starts 8 image world limit y at8;
+        at4 = starts 4 image world limit x at4 none4;
+        at8 = starts 8 image world limit y at8 none8;
         before = λ j l. absurd (omega (arith, l));
         now = (λ t. whole.0 (compared.0 t), λ s. compared.1 (whole.1 s));
       }
@@ -155,15 +167,16 @@ module _ (image : Image) (world : World) where
   told limit k x n events on is tells = is ∙ ap length (tells (own_run 4 image world k) on.there)
 
   pub goes-on_in_step : (limit k n : ℕ) (x u : Runner 4) (y v : Runner 8) (same : Bool) → AreInStep image world limit k x y true → k < limit
-      → (own_run 4 image world k).ending ≡ Running → n ≡ length (own_run 4 image world k).trace → Steps 4 world x u → Steps 8 world y v
+      → limit < 2 ^ 64 → (own_run 4 image world k).ending ≡ Running → n ≡ length (own_run 4 image world k).trace → Steps 4 world x u
+      → Steps 8 world y v → Counts x u → Counts y v
       → ((r s : RunState) → IsRunner 4 world u r → IsRunner 8 world v s → IsTrue same ↔ IsSameButFirst world n r s)
       → AreInStep image world limit (k + 1) u v same
-  goes-on_in_step limit k n x u y v same were less running is one other compared =
+  goes-on_in_step limit k n x u y v same were less small running is one other counts4 counts8 compared =
       let r : RunState = own_run 4 image world k in
       let s : RunState = own_run 8 image world k in
       let now : OwnRunsSame image world k = were.now.0 refl in
-      let at4 = goes-on 4 image world limit k x u were.at4 less running one in
-      let at8 = goes-on 8 image world limit k y v were.at8 less (sym now.ending ∙ running) other in
+      let at4 = goes-on 4 image world limit k x u were.at4 less small running one counts4 in
+      let at8 = goes-on 8 image world limit k y v were.at8 less small (sym now.ending ∙ running) other counts8 in
       let P : ℕ → RunState → RunState → Type 0 = λ m a b. IsTrue same ↔ IsSameButFirst world m a b in
       let new = subst (λ m. P m (run_step 4 world (own_placement 4 world) r) (run_step 8 world (own_placement 8 world) s)) is
       (compared _ _ (one r were.at4.there) (other s were.at8.there)) in

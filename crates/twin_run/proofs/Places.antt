@@ -39,6 +39,7 @@ use Rattle.ebc_base.proofs.Lists.{within_some}
 use Rattle.std.proofs.lemmas.Option.{slice_get_within}
 use Rattle.twin_run.specs.StatesOf.{StandsIn, states_of}
 use Rattle.step_sound.proofs.RowLeads.{RowLeads, row_leads}
+use Rattle.rules_image.proofs.Decoding.{spelled_at}
 
 -- ---- a point at a place
 
@@ -226,7 +227,8 @@ module _ (image : Image) (notes : Notes) (ok : IsNotes notes) (typed : Typed ima
       (leads_of image notes func f n h.last h.came h.reached) in
       let known = before_known func f h.last h.came h.state there last.1 last.2
       (comes_known func f n h.last h.came there h.reached) h.has_state in
-      let states = row_known (here_at image func h.last place) h.state h.insn h.successors f there h.decode.well_formed known h.row in
+      let states = row_known (here_at image func h.last place) h.state h.insn h.successors f there
+      (spelled_at image f h.last place h.insn h.decode).well_formed known h.row in
       subst (λ o. IfSome o (IsState notes f)) (sym h.falls) states.0
 
   -- the state at a place is one of the function

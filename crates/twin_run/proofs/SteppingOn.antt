@@ -72,6 +72,25 @@ capped w world x r d at is = record {
   ending = at.ending;
 }
 
+-- A count of steps changes nothing of where a runner is.
+pub recounted : (w : ℕ) (world : World) (x : Runner w) (r : RunState) (n : ℕ) → IsRunner w world x r
+    → IsRunner w world (record x { taken = n }) r
+recounted w world x r n is = record {
+  at = record {
+    serving = is.at.serving;
+    size = is.at.size;
+    image_size = is.at.image_size;
+    memory = is.at.memory;
+    machine = is.at.machine;
+    hosts = is.at.hosts;
+    tells = is.at.tells;
+    done = is.at.done;
+    ending = is.at.ending;
+  };
+  quiet = is.quiet;
+  events = is.events;
+}
+
 pub is_on : (w : ℕ) (world : World) (x : Runner w) (r : RunState) → IsAt w world x r → IsOn w world x x 0 r
 is_on w world x r at = record {
   at = subst (IsAt w world (record x { done = min (x.done + 0) (2 ^ 64 - 1) })) (sym (on_none w world r))

@@ -11,11 +11,13 @@ use Rattle.twin_run.specs.Reported.{own_run}
 use Rattle.twin_run.specs.Runner.{IsRunner}
 use Rattle.twin_run.specs.declared.runner.Runner.{Runner}
 
--- A runner is where the run is after so many steps, which are no more than a limit, and the run goes on before each of them.
+-- A runner is where the run is after so many steps, which it counted and which are no more than a limit, and the run goes on before
+-- each of them.
 pub record IsOnItsWay (w : ℕ) (image : Image) (world : World) (limit steps : ℕ) (x : Runner w) : Type 0 where
   pub most : steps ≤ limit
   pub goes_on : (j : ℕ) → j < steps → (own_run w image world j).ending ≡ Running
   pub there : IsRunner w world x (own_run w image world steps)
+  pub taken : x.taken ≡ steps
 
 -- Two runs, at 4 and at 8 bytes, are the same but for their first so many events, of which nothing is said.
 pub record IsSameButFirst (world : World) (told : ℕ) (r s : RunState) : Type 0 where

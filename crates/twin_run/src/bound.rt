@@ -6,10 +6,12 @@ ghost use Rattle.note_types.specs.Records.{IsNotes};
 ghost use Rattle.note_types.specs.declared.ending.Ending.TheVariants.{Running};
 ghost use Rattle.note_types.specs.declared.seen.Seen.{Seen};
 ghost use Rattle.host_model.specs.HostPlans.{Calls, Returns, function_params, signature_params, signature_result};
-ghost use Rattle.host_model.specs.HostSteps.{asking_at, entered, host_view, left, objects_at, written_number};
+ghost use Rattle.host_model.specs.HostSteps.{asking_at, entered, host_view, left, objects_at, slots_asked, written_number};
 ghost use Rattle.host_model.specs.Placements.{own_placement};
+ghost use Rattle.host_model.specs.Progress.{Asked};
 ghost use Rattle.host_model.specs.RunState.{RunState};
 ghost use Rattle.host_model.specs.World.{World};
+ghost use Rattle.callex_thunk.specs.Slots.{with_arguments};
 ghost use Rattle.native_host.specs.Bound.{OnCalled, bound_step};
 ghost use Rattle.native_host.specs.Hosts.{HasStack};
 ghost use Rattle.native_host.specs.Kept.{IsOf, placement_of};
@@ -21,7 +23,7 @@ ghost use Rattle.twin_run.specs.Runner.{IsAt, IsRunner};
 use crate::entering::argument_numbers;
 use crate::runner::{AskedCall, Runner};
 use entry_thunk::leave;
-use native_host::{Args, BoundStep, Request};
+use native_host::{Args, BoundStep};
 use note_types::{Ending, Notes, Value};
 
 /// What the first function gave that the host entered.
@@ -59,16 +61,19 @@ impl<const W: usize> Runner<W> {
         ensures step { (world : World) (r : RunState) → world.notes ≡ notes.now → IsAt W world self.old r → result ≡ bound_step asked.now.place (asking_at W world (own_placement W world) r asked.now.place asked.now.target) }
         ensures called { (world : World) (r : RunState) → world.notes ≡ notes.now → IsAt W world self.old r → OnCalled result (λ signature args. length args ≡ length (signature_params notes.now signature)) }
         ensures at { (world : World) (r : RunState) → IsAt W world self.old r → IsAt W world self.new r }
+        ensures slots { (world : World) (r : RunState) → world.notes ≡ notes.now → IsAt W world self.old r → self.new.frames ≡ with_arguments (slots_asked W world r (Asked asked.now.place asked.now.target)) self.old.frames }
         ensures kept { self.new ≡ record self.old { frames = self.new.frames } }
         ensures len { length self.new.frames ≡ length self.old.frames }
     {
-        let request = Request {
-            place: asked.place,
-            target: asked.target,
-            slots: self.machine.regs[0],
-        };
-        self.host
-            .bound_call(notes, &self.mem, &mut self.frames, &request)
+        let r0 = self.machine.regs[0];
+        self.host.bound_call(
+            notes,
+            &self.mem,
+            &mut self.frames,
+            r0,
+            asked.place,
+            asked.target,
+        )
     }
 
     /// How a pair ends where the run is the provider's, and it can't take a call of a function with these arguments: while

@@ -83,6 +83,7 @@ impl<const W: usize> Runner<W> {
         ensures at { (world : World) (r : RunState) → world.notes ≡ notes.now → IsAt W world self.old r → IsAt W world self.new (entered notified W world (own_placement W world) r func numbers.now) }
         ensures host { self.new.host ≡ self.old.host }
         ensures quiet { self.new.quiet ≡ self.old.quiet }
+        ensures taken { self.new.taken ≡ self.old.taken }
     {
         let function = function_at(notes, func);
         let kinds = kinds_of(function.params.as_slice());

@@ -16,7 +16,7 @@ ghost use Rattle.twin_run.specs.Runner.{IsAt, IsReady};
 use crate::entering::argument_numbers;
 use crate::runner::{AskedCall, Runner};
 use entry_thunk::leave;
-use native_host::{HostStep, Request};
+use native_host::HostStep;
 use note_types::{Ending, Notes, Script};
 
 impl<const W: usize> Runner<W> {
@@ -50,15 +50,16 @@ impl<const W: usize> Runner<W> {
         ensures at { (world : World) (r : RunState) → world.notes ≡ notes.now → world.script ≡ script.now → nat_eq r.machine.ip r.machine.gate ≡ false → IsAt W world self.old r → IsAt W world self.new (host_step W world (own_placement W world) r) }
         ensures capacity { vec_capacity self.old.host.trace ≤ vec_capacity self.new.host.trace }
     {
-        let request = Request {
-            place: asked.place,
-            target: asked.target,
-            slots: self.machine.regs[0],
-        };
-        match self
-            .host
-            .call(notes, script, &mut self.mem, &mut self.frames, &request)
-        {
+        let r0 = self.machine.regs[0];
+        match self.host.call(
+            notes,
+            script,
+            &mut self.mem,
+            &mut self.frames,
+            r0,
+            asked.place,
+            asked.target,
+        ) {
             HostStep::Accepted => self.asked = None,
             ended => self.take(notes, ended, false),
         }

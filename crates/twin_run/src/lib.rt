@@ -27,6 +27,7 @@ ghost use Rattle.width_checker.specs.Verdicts.{IsRefused, IsVerdict};
 pub use bound::FirstReturn;
 use ebc_base::NoMemory;
 use note_types::Notes;
+pub use note_types::{Ending, Event, Spot};
 pub use one_run::run;
 use pe_image::Image;
 pub use reports::{RunReport, TwinReport};

@@ -1,5 +1,5 @@
 //! One run of an image.
-ghost use Rattle.std.specs.Prelude.{◌≡◌, ◌↔◌, IfOk, IsTrue};
+ghost use Rattle.std.specs.Prelude.{◌≡◌, ◌↔◌, ℕ, IfOk, IsTrue};
 ghost use Rattle.ebc_width.specs.Width.{IsWidth};
 ghost use Rattle.host_model.specs.RunState.{RunState};
 ghost use Rattle.host_model.specs.Runs.{world_of};
@@ -28,29 +28,23 @@ pub fn goes_on<const W: usize>(runner: &Runner<W>) -> bool
     runner.is_running()
 }
 
-/// The report of a runner that has taken so many steps: it goes on until its run ends or up to a limit.
+/// The report of a runner that goes on until its run ends or it has taken so many steps.
 pub fn finish<const W: usize>(
     mut runner: Runner<W>,
     notes: &Notes,
     script: &Script,
-    taken: u64,
     limit: u64,
 ) -> RunReport
     requires width { IsWidth W }
     requires runs { Runs W notes.now script.now runner }
-    ensures report { (image : Image) (world : World) → world.notes ≡ notes.now → world.script ≡ script.now
+    ensures report { (image : Image) (world : World) (taken : ℕ) → world.notes ≡ notes.now → world.script ≡ script.now
         → IsOnItsWay W image world limit taken runner.entry → IsReport W image world limit result }
 {
-    let mut steps = taken;
-    while steps < limit && goes_on(&runner) {
-        steps += runner.steps(notes, script, limit - steps);
+    while runner.taken < limit && goes_on(&runner) {
+        let left = limit - runner.taken;
+        runner.steps(notes, script, left);
     }
-    RunReport {
-        steps,
-        spot: runner.spot(),
-        ending: runner.ending(),
-        events: runner.into_trace(),
-    }
+    runner.report()
 }
 
 /// Runs an image at `W` bytes an address, 4 or 8, under notes and with a script, until the run ends or for so many steps. The image
@@ -74,5 +68,5 @@ pub fn run<const W: usize>(
     ensures report { IfOk result (IsReport W image.now (world_of image.now notes.now script.now) steps) }
 {
     let runner = start::<W>(alloc, image, notes, script)?;
-    Ok(finish(runner, notes, script, 0, steps))
+    Ok(finish(runner, notes, script, steps))
 }

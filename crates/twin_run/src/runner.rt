@@ -1,5 +1,5 @@
 //! The runner of a run at one width (docs/HOST.md, "Runs").
-ghost use Rattle.std.specs.Prelude.{◌≡◌, ◌≢◌, ◌↔◌, ◌<◌, ◌≤◌, false, IfOk, IfSome, IsTrue, None, length, map, vec_capacity};
+ghost use Rattle.std.specs.Prelude.{◌≡◌, ◌≢◌, ◌↔◌, ◌+◌, ◌-◌, ◌^◌, ◌<◌, ◌≤◌, false, min, IfOk, IfSome, IsTrue, None, length, map, vec_capacity};
 ghost use Rattle.std.specs.Bool.{OnFalse, OnTrue};
 ghost use Rattle.ebc_width.specs.Width.{IsWidth};
 ghost use Rattle.note_types.specs.Records.{IsNotes};
@@ -19,6 +19,7 @@ ghost use Rattle.native_host.specs.Hosts.{IsCalled};
 ghost use Rattle.twin_run.specs.Runner.{GoesOnFor, IsAt, IsMachines, IsQuiet, IsReady, IsRunner, Runs, steps_on};
 
 use crate::entering::numbers_of;
+use crate::reports::RunReport;
 use callex_thunk::NO_ENTRY;
 use ebc_base::NoMemory;
 use ebc_machine::Machine;
@@ -55,6 +56,8 @@ pub struct Runner<const W: usize> {
     pub(crate) done: u64,
     // While fewer instructions are done no native call is under way and no notification is due.
     pub(crate) quiet: u64,
+    // How many steps it took, up to 2^64 - 1.
+    pub(crate) taken: u64,
     // The bytes that the image takes.
     pub(crate) image_size: u32,
     pub(crate) ending: Ending,
@@ -77,6 +80,7 @@ pub fn start<const W: usize>(
     requires notes { IsNotes notes.now }
     requires script { IsScript notes.now script.now }
     ensures start { IfOk result (λ x. IsRunner W (world_of image.now notes.now script.now) x (run_of W (world_of image.now notes.now script.now) (own_placement W (world_of image.now notes.now script.now)) image.now 0)) }
+    ensures taken { IfOk result (λ x. x.taken ≡ 0) }
 {
     let (host, mem) = native_host::start::<W>(alloc, image, notes, script)?;
     let frames = FrameStack::new(alloc)?;
@@ -95,6 +99,7 @@ pub fn start<const W: usize>(
         asked: None,
         done: 0,
         quiet: 0,
+        taken: 0,
         image_size: image.size,
         ending: Ending::Running,
     };
@@ -103,19 +108,40 @@ pub fn start<const W: usize>(
 }
 
 impl<const W: usize> Runner<W> {
-    /// One step of the run under its notes and with its script, the host's or the machine's. A run that ended stays as it is.
-    pub fn step(&mut self, notes: &Notes, script: &Script)
+    /// One step of the run of an image under its notes and with its script, the host's or the machine's; it is counted. A run that
+    /// ended stays as it is. The image is in the runner's memory since the start, so no step looks at this one.
+    pub fn step(&mut self, image: &Image, notes: &Notes, script: &Script)
         requires width { IsWidth W }
         requires runs { Runs W notes.now script.now self.old }
         ensures step { (world : World) (r : RunState) → world.notes ≡ notes.now → world.script ≡ script.now → IsRunner W world self.old r → IsRunner W world self.new (run_step W world (own_placement W world) r) }
+        ensures counted { self.old.ending ≡ Running → self.new.taken ≡ min (self.old.taken + 1) (2 ^ 64 - 1) }
+        ensures over { self.old.ending ≢ Running → self.new ≡ self.old }
     {
         if let Ending::Running = self.ending {
             self.steps(notes, script, 1);
         }
     }
 
-    // Steps of a run that goes on, at least one and at most so many; how many they were.
+    // Steps of a run that goes on, at least one and at most so many, which are counted; how many they were.
     pub(crate) fn steps(&mut self, notes: &Notes, script: &Script, most: u64) -> u64
+        requires width { IsWidth W }
+        requires runs { Runs W notes.now script.now self.old }
+        requires running { self.old.ending ≡ Running }
+        requires some { 0 < most }
+        ensures steps { (world : World) (r : RunState) → world.notes ≡ notes.now → world.script ≡ script.now → IsRunner W world self.old r → IsRunner W world self.new (steps_on W world result r) }
+        ensures goes_on { (world : World) (r : RunState) → world.notes ≡ notes.now → world.script ≡ script.now → IsRunner W world self.old r → GoesOnFor W world result r }
+        ensures some { 0 < result }
+        ensures most { result ≤ most }
+        ensures counted { self.new.taken ≡ min (self.old.taken + result) (2 ^ 64 - 1) }
+    {
+        let taken = self.taken;
+        let steps = self.go_on(notes, script, most);
+        self.taken = taken.saturating_add(steps);
+        steps
+    }
+
+    // The same without the count.
+    fn go_on(&mut self, notes: &Notes, script: &Script, most: u64) -> u64
         requires width { IsWidth W }
         requires runs { Runs W notes.now script.now self.old }
         requires running { self.old.ending ≡ Running }
@@ -237,10 +263,18 @@ impl<const W: usize> Runner<W> {
         self.host.trace()
     }
 
-    /// The events, handed over.
-    pub fn into_trace(self) -> Vec<Event>
-        ensures { (world : World) (r : RunState) → IsRunner W world self.entry r → result.items ≡ r.trace }
+    /// What the run shows: how many steps it took, where it stands, how it ended, or that it goes on, and its events, handed over.
+    pub fn report(self) -> RunReport
+        ensures steps { result.steps ≡ self.entry.taken }
+        ensures spot { (world : World) (r : RunState) → IsRunner W world self.entry r → result.spot ≡ spot_of world (own_placement W world) r.machine }
+        ensures ending { (world : World) (r : RunState) → IsRunner W world self.entry r → result.ending ≡ r.ending }
+        ensures events { (world : World) (r : RunState) → IsRunner W world self.entry r → result.events.items ≡ r.trace }
     {
-        self.host.into_trace()
+        RunReport {
+            steps: self.taken,
+            spot: self.spot(),
+            ending: self.ending,
+            events: self.host.into_trace(),
+        }
     }
 }

@@ -61,14 +61,14 @@ pub fn twin(
     let mut same = same_but_first(&at4, &at8, 0);
     while same && taken < steps && goes_on(&at4) {
         let told = at4.trace().len();
-        at4.step(notes, script);
-        at8.step(notes, script);
+        at4.step(image, notes, script);
+        at8.step(image, notes, script);
         taken += 1;
         same = same_but_first(&at4, &at8, told);
     }
     Ok(TwinReport {
-        at4: finish(at4, notes, script, taken, steps),
-        at8: finish(at8, notes, script, taken, steps),
+        at4: finish(at4, notes, script, steps),
+        at8: finish(at8, notes, script, steps),
         differ: if same { None } else { Some(taken) },
     })
 }

@@ -20,7 +20,8 @@ mod type_kinds;
 use crate::notes::notes_in;
 use note_draft::read_draft;
 use note_texts::document;
-use note_types::{Notes, NotesEnd};
+use note_types::Notes;
+pub use note_types::NotesEnd;
 use std::alloc::Global;
 
 /// The notes that a text stands for.

@@ -12,7 +12,7 @@ use Rattle.note_types.specs.declared.rule.RuleName.{RuleName}
 use Rattle.note_types.specs.declared.rule.RuleName.TheVariants as rule
 use Rattle.pe_image.specs.declared.image.Image.{Image}
 use Rattle.rules_base.specs.FirstRule.{IsFirst}
-use Rattle.rules_image.specs.Images.{FunctionHolds}
+use Rattle.rules_image.specs.Images.{FunctionHolds, IsFirstFailing}
 use Rattle.plain_check.specs.declared.verdict.Verdict.{Verdict}
 use Rattle.plain_check.specs.declared.verdict.Verdict.TheVariants.{Neutral, Refused}
 use Rattle.rules_image.specs.Places.{IsPlaceOf, Leads}
@@ -20,7 +20,6 @@ use Rattle.width_checker.specs.Typed.{Typed}
 use Rattle.width_checker.specs.Verdicts.{FailsAt, IsRefused, IsVerdict, RefusesInsn, by_function, by_insn, by_shape, by_static, by_thunk}
 use Rattle.width_checker.proofs.Failing.{meets_all}
 use Rattle.width_checker.proofs.Leading.{OnePoint, start_first}
-use Rattle.rules_image.specs.Checks.{IsFirstFailing}
 use Rattle.rules_base.proofs.FirstRule.{one_first}
 
 -- ---- the first thing of which a rule doesn't hold is one

@@ -1,16 +1,16 @@
 -- The places of a function rise, and the state before each is one.
-use Rattle.std.proofs.Common.{◌≡◌, ℕ, zero, suc, ◌<◌, ◌≤◌, ◌⊎◌, length, refl, sym, ap, subst, ◌∙◌, inl, inr, ⊎_elim, arith}
+use Rattle.std.proofs.Common.{◌≡◌, ℕ, zero, suc, ◌<◌, ◌≤◌, ◌⊎◌, refl, sym, ap, subst, ◌∙◌, inl, inr, ⊎_elim, arith}
 use Rattle.std.specs.Prelude.{Option, Ok}
 use Rattle.std.proofs.lemmas.Bool.{cases_lt}
 use Rattle.std.proofs.lemmas.Option.{same_Some}
 use Rattle.ebc_insn.specs.declared.Insn.{Insn}
-use Rattle.ebc_insn.specs.Spelling.{bytes_of, spelling}
+use Rattle.ebc_decode.proofs.Laws.{read_length}
 use Rattle.note_types.specs.declared.notes.FnNote.{FnNote}
 use Rattle.note_types.specs.declared.notes.Notes.{Notes}
 use Rattle.note_types.specs.declared.notes.Point.{Point}
 use Rattle.note_types.specs.declared.state.State.{State}
 use Rattle.pe_image.specs.declared.image.Image.{Image}
-use Rattle.rules_image.specs.Images.{IsDecoded}
+use Rattle.rules_image.specs.Images.{IsDecoded, rest_of}
 use Rattle.rules_flow.specs.declared.successors.Successors.{Successors}
 use Rattle.rules_image.specs.Places.{Leads}
 use Rattle.width_checker.specs.StatesAt.{Comes, IsBefore, IsPointAt, StateAt, of_fall, of_point}
@@ -19,12 +19,8 @@ use Rattle.rules_image.proofs.Decoding.{decoded_once}
 
 -- ---- places
 
-spelling_some : (i : Insn) → 2 ≤ length (spelling i)
-unfolding bytes_of
-spelling_some i = omega arith
-
 pub decode_later : (image : Image) (f : FnNote) (p q : ℕ) (i : Insn) → IsDecoded image f p i q → p < q
-decode_later image f p q i d = omega (arith, d.next_is, spelling_some i)
+decode_later image f p q i d = let l = read_length (rest_of image f p) i d.size d.reading in omega (arith, d.next_is, l.0)
 
 -- so many lengths lead to one place
 pub leads_one : (image : Image) (f : FnNote) (n p q : ℕ) → Leads image f n p → Leads image f n q → p ≡ q

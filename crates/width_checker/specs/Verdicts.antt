@@ -12,7 +12,7 @@ use Rattle.note_types.specs.declared.state.State.{State}
 use Rattle.pe_image.specs.declared.image.Image.{Image}
 use Rattle.rules_base.specs.FirstRule.{IsFirst}
 use Rattle.rules_image.specs.Images.{EndHolds, FunctionHolds, IsDecoded, PointHolds, RelocationHolds, ShapeHolds, StaticHolds, ThunkHolds}
-use Rattle.rules_image.specs.Images.{reloc_at}
+use Rattle.rules_image.specs.Images.{reloc_at, IsFirstFailing}
 use Rattle.rules_flow.specs.declared.successors.Successors.{Successors}
 use Rattle.plain_check.specs.declared.verdict.Verdict.{Verdict}
 use Rattle.plain_check.specs.declared.verdict.Verdict.TheVariants.{Neutral, Refused}
@@ -20,7 +20,6 @@ use Rattle.rules_image.specs.Places.{IsPlaceOf}
 use Rattle.width_checker.specs.StatesAt.{StateAt}
 use Rattle.width_checker.specs.Rows.{here_at, row_of}
 use Rattle.width_checker.specs.Typed.{BelowHolds, MeetsRules, TablesHold, Typed}
-use Rattle.rules_image.specs.Checks.{IsFirstFailing}
 
 -- ---- shapes, functions, static objects and thunk cells
 

@@ -4,7 +4,5 @@ pub returns-clause-tells : goal.returns-clause-tells
 returns-clause-tells c = record {
   answer = c.in_ok-answer.answer;
   inferred = c.in_ok-answer.ensures.inferred;
-  only = c.in_ok-answer.ensures.once;
-  typed = c.in_ok-answer.ensures.typed;
   told = c.in_ok-inferred_reply.ensures;
 }

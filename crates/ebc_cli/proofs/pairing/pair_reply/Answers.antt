@@ -1,5 +1,4 @@
 use Rattle.std.proofs.Common.{refl}
-use Rattle.ebc_cli.proofs.PairSame.{pair-is-same}
 use Rattle.ebc_cli.proofs.pairing.pair_reply.Goals as goal
 
 pub returns-clause-tells : goal.returns-clause-tells
@@ -8,7 +7,5 @@ returns-clause-tells c =
     record {
       report = c.in_ok-report.report;
       shown = record { at4 = found.at4; at8 = found.at8; differ = found.differ };
-      same = found.same_where_typed;
-      alike = pair-is-same _ _ _ c.requires;
       told = rw (c.printed.ensures, c.twin_outcome.ensures, c.in_ok-text.ensures) refl;
     }

@@ -1,9 +1,16 @@
 use Rattle.std.proofs.Common.{◌+◌}
 use Rattle.cli_base.specs.Readings.{done, told}
+use Rattle.note_types.specs.declared.notes.Notes.{Notes}
+use Rattle.note_types.specs.declared.script.Script.{Script}
+use Rattle.pe_image.specs.declared.image.Image.{Image}
+use Rattle.ebc_cli.specs.declared.pairing.ReadDriver.{ReadDriver}
 use Rattle.ebc_cli.specs.Pairings.{driver_files, unnotified}
-use Rattle.ebc_cli.proofs.DriverLemmas.{driver_made}
-use Rattle.ebc_cli.proofs.ReadsLaws.{reads-ended, reads-refused, reads-then}
+use Rattle.file_inputs.proofs.ReadsLaws.{reads-ended, reads-refused, reads-then}
 use Rattle.ebc_cli.proofs.pairing.read_driver.Goals as goal
+
+-- what is made of what was read
+abbrev driver_made : Image × Notes × Script → ReadDriver
+driver_made read = record { image = read.0; notes = read.1; script = read.2 }
 
 pub returns-in-Err-clause-reads : goal.returns-in-Err-clause-reads
 unfolding driver_files

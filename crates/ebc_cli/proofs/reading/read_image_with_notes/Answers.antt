@@ -2,9 +2,9 @@ use Rattle.std.proofs.lemmas.Result.{err_from_is_err_and}
 use Rattle.cli_base.specs.Inputs.{image_limit, image_meaning}
 use Rattle.cli_base.specs.Readings.{◌>>=◌, done}
 use Rattle.pe_image.specs.declared.image.Image.{Image}
-use Rattle.ebc_cli.specs.Inputs.{input, notes_limit, notes_meaning}
+use Rattle.file_inputs.specs.Inputs.{input, notes_limit, notes_meaning}
 use Rattle.ebc_cli.specs.Works.{image_with_notes}
-use Rattle.ebc_cli.proofs.ReadsLaws.{reads-ended, reads-made, reads-then}
+use Rattle.file_inputs.proofs.ReadsLaws.{reads-ended, reads-made, reads-then}
 use Rattle.ebc_cli.proofs.reading.read_image_with_notes.Goals as goal
 
 pub returns-in_err-image-clause-reads : goal.returns-in_err-image-clause-reads

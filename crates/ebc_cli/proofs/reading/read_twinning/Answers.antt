@@ -3,7 +3,7 @@ use Rattle.ebc_cli.specs.declared.work.Work.TheVariants as works
 use Rattle.ebc_cli.specs.Inputs.{number_meaning, step_limit}
 use Rattle.ebc_cli.specs.Runnings.{run_files}
 use Rattle.ebc_cli.specs.Works.{twinning}
-use Rattle.ebc_cli.proofs.ReadsLaws.{reads-made, reads-told}
+use Rattle.file_inputs.proofs.ReadsLaws.{reads-made, reads-told}
 use Rattle.ebc_cli.proofs.reading.read_twinning.Goals as goal
 
 pub returns : goal.returns

@@ -7,6 +7,5 @@ returns-clause-tells c =
     record {
       report = c.in_ok-report.report;
       shown = record { at4 = found.at4; at8 = found.at8; differ = found.differ };
-      same = found.same_where_typed;
       told = rw (c.printed.ensures, c.twin_outcome.ensures, c.in_ok-text.ensures) refl;
     }

@@ -1,4 +1,5 @@
 use Rattle.std.proofs.Common.{ℕ, ◌+◌, ⊎_elim, sym, subst, arith}
+use Rattle.ebc_decode.proofs.Numbers.{IsBytes}
 use Rattle.note_types.specs.declared.notes.FnNote.{FnNote}
 use Rattle.pe_image.specs.declared.image.Image.{Image}
 use Rattle.rules_image.specs.Images.{IsDecoded}
@@ -37,10 +38,11 @@ returns c =
     c.loop-at.invariant.adds (leader_from c.args.image.now c.args.f.now c.loop-at.at)
     (λ p. named_at-end c.args.image.now c.args.f.now c.loop-at.at p c.requires.code.range c.loop-at-test.false)
 
-decoded : (c : After-named_in) → IsDecoded c.args.image.now c.args.f.now c.loop-at.at c.in-Ok.insn (c.loop-at.at + c.in-Ok.len)
-decoded c =
+decoded : (c : After-named_in) → IsBytes c.code_of-code.result.now
+    → IsDecoded c.args.image.now c.args.f.now c.loop-at.at c.in-Ok.insn (c.loop-at.at + c.in-Ok.len)
+decoded c small =
     is_decoded c.args.image.now c.args.f.now c.code_of-code.result.now c.loop-at.at c.in-Ok.insn c.in-Ok.len c.code_of-code.ensures
-    c.loop-at.invariant.from (omega arith) c.in-Ok.ensures.found c.in-Ok.ensures.length.1
+    small c.loop-at.invariant.from (omega arith) c.in-Ok.ensures.reading c.in-Ok.ensures.length.1
 
 pub loop-at-preserved-in_ok-push : goal.loop-at-preserved-in_ok-push
 loop-at-preserved-in_ok-push c =
@@ -48,7 +50,7 @@ loop-at-preserved-in_ok-push c =
     let f : FnNote = c.args.f.now in
     let at : ℕ = c.loop-at.at in
     let next : ℕ = at + c.in-Ok.len in
-    let d = decoded (goal.at.loop-at-preserved-in_ok-push c).After-named_in in
+    let d = decoded (goal.at.loop-at-preserved-in_ok-push c).After-named_in (λ i. omega (arith, c.type_inv.code i)) in
     let reached : IsPlaceOf image f at = c.loop-at.invariant.reached c.loop-at-test.true in
     let more = adds_push (IsNamedBefore image f at) (IsNamedBefore image f next) c.args.places.now.items c.loop-at.places.items
     c.in-Some.place
@@ -68,7 +70,7 @@ loop-at-preserved c =
     let f : FnNote = c.args.f.now in
     let at : ℕ = c.loop-at.at in
     let next : ℕ = at + c.in-Ok.len in
-    let d = decoded (goal.at.loop-at-preserved c).After-named_in in
+    let d = decoded (goal.at.loop-at-preserved c).After-named_in (λ i. omega (arith, c.type_inv.code i)) in
     let reached : IsPlaceOf image f at = c.loop-at.invariant.reached c.loop-at-test.true in
     record {
       adds = adds_same (IsNamedBefore image f at) (IsNamedBefore image f next) c.args.places.now.items c.loop-at.places.items

@@ -1,7 +1,8 @@
 use Rattle.std.proofs.Common.{◌<◌, ℕ, List, length, get_or, arith, subst}
 use Rattle.std.proofs.lemmas.List.{get_or_default}
 use Rattle.note_types.specs.declared.notes.Static.{Static}
-use Rattle.rules_image.specs.Checks.{StaticFits, IsFirstFailing}
+use Rattle.rules_image.specs.Checks.{StaticFits}
+use Rattle.rules_image.specs.Images.{IsFirstFailing}
 use Rattle.rules_image.proofs.Firsts.{HoldsOf, first_failing, holds_all, holds_more}
 use Rattle.rules_image.proofs.StaticLaws.{all_statics, first_of_statics}
 use Rattle.rules_image.proofs.statics.first_static.Goals as goal

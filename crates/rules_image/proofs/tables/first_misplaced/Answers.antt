@@ -1,8 +1,7 @@
 use Rattle.std.proofs.Common.{ℕ, List, arith, subst}
 use Rattle.note_types.specs.declared.notes.FnNote.{FnNote}
-use Rattle.rules_image.specs.Images.{IsFunction}
+use Rattle.rules_image.specs.Images.{IsFunction, IsFirstFailing}
 use Rattle.rules_image.proofs.Firsts.{HoldsOf, first_failing, holds_all, holds_more}
-use Rattle.rules_image.specs.Checks.{IsFirstFailing}
 use Rattle.rules_image.proofs.tables.first_misplaced.Goals as goal
 
 pub returns-then-not-function_holds-clause-some : goal.returns-then-not-function_holds-clause-some

@@ -1,9 +1,8 @@
 use Rattle.std.proofs.Common.{◌<◌, ℕ, List, length, get_or, arith, subst}
 use Rattle.std.proofs.lemmas.List.{get_or_default}
 use Rattle.note_types.specs.declared.notes.Thunk.{Thunk}
-use Rattle.rules_image.specs.Images.{IsThunk}
+use Rattle.rules_image.specs.Images.{IsThunk, IsFirstFailing}
 use Rattle.rules_image.proofs.Firsts.{HoldsOf, first_failing, holds_all, holds_more}
-use Rattle.rules_image.specs.Checks.{IsFirstFailing}
 use Rattle.rules_image.proofs.thunks.first_thunk.Goals as goal
 
 -- how an element is read

@@ -39,8 +39,8 @@ enter-requires g c =
       ),
     )
 
-pub returns : goal.returns
-returns g c =
+pub returns-clause-start : goal.returns-clause-start
+returns-clause-start g c =
     let w = g.row.W in
     let image = c.args.image.now in
     let notes = c.args.notes.now in
@@ -59,8 +59,7 @@ returns g c =
     let are = c.as_slice.ensures.value
     ∙ (c.numbers_of-numbers.ensures notes host.serving.host.notes
     ∙ (λ i. map (written_number w notes (placement i) (made i)) script.args)) in
-    record {
-      start = begun w image notes script c.enter.new.self c.as_slice.result.now (c.enter.ensures.at world (outset w world P (mapped image
-          P.image)) refl begins_at) are (quiet_none script c.enter.new.self c.enter.ensures.quiet)
-          (room_begins w script c.enter.new.self.host c.in_ok-host.host c.enter.ensures.host host.room);
-    }
+    begun w image notes script c.enter.new.self c.as_slice.result.now
+    (c.enter.ensures.at world (outset w world P (mapped image P.image)) refl begins_at) are
+    (quiet_none script c.enter.new.self c.enter.ensures.quiet)
+    (room_begins w script c.enter.new.self.host c.in_ok-host.host c.enter.ensures.host host.room)

@@ -20,7 +20,7 @@ loop-same-init c =
     let at4 = c.in_ok-at4.ensures.start in
     let at8 = c.in_ok-at8.ensures.start in
     starts-in_step c.args.image.now world c.args.steps c.in_ok-at4.at4 c.in_ok-at8.at8 c.same_but_first-same.result at4 at8
-    (c.same_but_first-same.ensures world _ _ at4 at8)
+    c.in_ok-at4.ensures.taken c.in_ok-at8.ensures.taken (c.same_but_first-same.ensures world _ _ at4 at8)
 
 pub loop-same-preserved : goal.loop-same-preserved
 loop-same-preserved c =
@@ -30,11 +30,12 @@ loop-same-preserved c =
     let were = subst (AreInStep image world c.args.steps c.loop-same.taken c.loop-same.at4 c.loop-same.at8) c.loop-same-test.true are in
     goes-on_in_step image world c.args.steps c.loop-same.taken c.len-told.result c.loop-same.at4 c.step.new.self c.loop-same.at8
     c.step-in-loop-same.new.self c.same_but_first-same-in-loop-same.result were c.if-taken-steps.true
-    ((c.goes_on.ensures world _ are.at4.there).0 c.if-goes_on.true)
+    (omega arith) ((c.goes_on.ensures world _ are.at4.there).0 c.if-goes_on.true)
     (told image world c.args.steps c.loop-same.taken c.loop-same.at4 c.len-told.result c.trace.result.now.items are.at4
     (c.len-told.ensures ∙ c.trace.result.now.ok.0)
     (c.trace.ensures world))
     (λ r is. c.step.ensures.step world r refl refl is) (λ r is. c.step-in-loop-same.ensures.step world r refl refl is)
+    c.step.ensures.counted c.step-in-loop-same.ensures.counted
     (c.same_but_first-same-in-loop-same.ensures world)
 
 pub returns-clause-differ : goal.returns-clause-differ

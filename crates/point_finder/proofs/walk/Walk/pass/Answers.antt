@@ -6,6 +6,7 @@ use Rattle.note_types.specs.declared.notes.Notes.{Notes}
 use Rattle.note_types.specs.declared.state.State.{State}
 use Rattle.pe_image.specs.declared.image.Image.{Image}
 use Rattle.rules_image.specs.Images.{PointHolds, RelocationHolds, reloc_at}
+use Rattle.rules_image.proofs.Decoding.{spelled_at}
 use Rattle.width_checker.specs.Rows.{here_at, row_of}
 use Rattle.width_checker.proofs.Leading.{decode_later}
 use Rattle.note_infer.specs.Rounds.{States, marked}
@@ -66,6 +67,10 @@ pub row-requires-clause-ascend : goal.row-requires-clause-ascend
 row-requires-clause-ascend c =
     (other_read c.args.self.now.image.now c.args.self.now.notes.now c.args.self.now.marked.now c.args.self.now.leaders.now
     c.requires.setting).ascends
+
+pub row-requires-clause-well_formed : goal.row-requires-clause-well_formed
+row-requires-clause-well_formed c =
+    (spelled_at c.args.self.now.image.now c.args.self.now.f.now c.args.at c.args.next c.args.insn.now c.requires.decode).well_formed
 
 pub returns-in_err-after-clause-fails : goal.returns-in_err-after-clause-fails
 returns-in_err-after-clause-fails c =

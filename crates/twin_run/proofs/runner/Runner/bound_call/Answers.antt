@@ -23,6 +23,13 @@ returns-clause-called g c = λ world r notes at.
     c.bound_call.ensures.called world r notes (slots_there w world x r _ at refl) (ranges_there w world x r at) (bytes_there w world x r
     at) (made_there w world x r at)
 
+pub returns-clause-slots : goal.returns-clause-slots
+returns-clause-slots g c = λ world r notes at.
+    let w = g.row.W in
+    let x = c.args.self.now in
+    c.bound_call.ensures.slots world r notes (slots_there w world x r _ at refl) (ranges_there w world x r at) (bytes_there w world x r
+    at)
+
 pub returns-clause-at : goal.returns-clause-at
 returns-clause-at g c = λ world r at.
     slots_at g.row.W world c.args.self.now r c.args.asked.now c.bound_call.new.frames c.requires.asked c.bound_call.ensures.hosts at

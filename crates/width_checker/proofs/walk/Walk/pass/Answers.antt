@@ -16,6 +16,7 @@ use Rattle.width_checker.specs.Walks.{ComesTo}
 use Rattle.width_checker.proofs.Failing.{falls_out, no_state, not_below, not_relocated, point_inside, row_fails}
 use Rattle.width_checker.proofs.Leading.{decode_later}
 use Rattle.width_checker.proofs.Points.{one_point, points_next}
+use Rattle.rules_image.proofs.Decoding.{spelled_at}
 use Rattle.rules_image.proofs.Relocs.{ends_with}
 use Rattle.width_checker.proofs.Walking.{come_false, come_true, comes_next, entry_below, entry_not_below, here_is, none_there, row_err}
 use Rattle.width_checker.proofs.Walking.{row_ok, state_there}
@@ -75,6 +76,10 @@ returns-in_default-clause-fails c =
     (come_true _ s c.if-not-marks.false) in
     let point : PointHolds n c.args.at c.args.next = c.has_no_point.ensures.0 c.if-not-has_no_point.false in
     not_relocated image n c.args.self.now.func f c.args.at i c.args.next c.requires.decode s there one point c.in_default.ensures.fails
+
+pub advance-requires-clause-well_formed : goal.advance-requires-clause-well_formed
+advance-requires-clause-well_formed c =
+    (spelled_at c.args.self.now.image.now c.args.self.now.f.now c.args.at c.args.next c.args.insn.now c.requires.decode).well_formed
 
 pub returns-in_err-path-clause-fails : goal.returns-in_err-path-clause-fails
 returns-in_err-path-clause-fails c =

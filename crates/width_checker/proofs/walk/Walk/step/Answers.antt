@@ -12,4 +12,4 @@ returns-in_default-clause-fails c =
 pub pass-requires-clause-decode : goal.pass-requires-clause-decode
 pass-requires-clause-decode c =
     is_decoded c.args.self.now.image.now c.args.self.now.f.now c.args.code.now c.args.at c.in-Ok.insn c.in-Ok.len c.requires.code
-    c.requires.from (omega arith) c.in-Ok.ensures.found c.in-Ok.ensures.length.1
+    (λ i. omega (arith, c.type_inv.code i)) c.requires.from (omega arith) c.in-Ok.ensures.reading c.in-Ok.ensures.length.1

@@ -1,7 +1,0 @@
-use Rattle.ebc_cli.specs.Linkings.{linked_image}
-use Rattle.ebc_cli.proofs.ReadsLaws.{reads-then}
-use Rattle.ebc_cli.proofs.linking.read_linked.Goals as goal
-
-pub returns-clause-reads : goal.returns-clause-reads
-unfolding linked_image
-returns-clause-reads g c = reads-then _ _ _ _ _ _ _ c.in_ok-plan.plan _ _ _ c.in_ok-plan.ensures.reads c.read_objects_of.ensures.reads

@@ -1,0 +1,3 @@
+pub mod ReadingsLemmas
+pub mod ReadsLaws
+pub mod LinkLemmas
