@@ -1,0 +1,2 @@
+mod SharedLaws
+mod AnswerLaws

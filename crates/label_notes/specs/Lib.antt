@@ -1,0 +1,4 @@
+pub mod Requests
+pub mod Maps
+pub mod Answers
+pub mod Steps

@@ -1,0 +1,6 @@
+use Rattle.std.proofs.Common.{◌≡◌, ◌++◌, take}
+use Rattle.label_places.specs.Labels.{labels_in}
+use Rattle.label_places.proofs.collecting.append_labels.Given as goal
+
+abbrev pub invariant-loop-symbol : goal.invariant-loop-symbol
+invariant-loop-symbol l = l.labels.items ≡ l.fn.labels.items ++ labels_in l.number l.home (take l.symbol-index l.symbols)

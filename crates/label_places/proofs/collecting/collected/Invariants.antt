@@ -1,0 +1,8 @@
+use Rattle.std.proofs.Common.{◌≡◌, ◌++◌, drop}
+use Rattle.ebc_link.specs.Layout.{laid_with}
+use Rattle.label_places.specs.Labels.{labels_from}
+use Rattle.label_places.proofs.collecting.collected.Given as goal
+
+abbrev pub invariant-loop-number : goal.invariant-loop-number
+invariant-loop-number l =
+    l.labels.items ++ labels_from l.number (drop l.number (laid_with l.objects l.homes)) ≡ labels_from 0 (laid_with l.objects l.homes)

@@ -1,0 +1,103 @@
+-- What steps tell of the first fault of a label, what they leave of a text, and what comes of it where they end the work.
+use Rattle.std.proofs.Common.{◌≡◌, ap, sym, subst, inl, inr, String, Global, string_bytes}
+use Rattle.std.specs.Prelude.{ℕ, List, Option, Result, Ok, Err, IfOk}
+use Rattle.ebc_base.specs.Steps.{◌>>=◌}
+use Rattle.label_places.specs.declared.label.Label.{Label}
+use Rattle.note_filling.specs.Kept.{IsTextKept}
+use Rattle.note_filling.specs.Rows.{text_labels}
+use Rattle.note_filling.specs.Views.{Refuses, labels_in, names_in, place_in as filled_place}
+use Rattle.note_filling.specs.declared.context.Context.{Context}
+use Rattle.note_filling.specs.declared.end.FillEnd.{FillEnd}
+use Rattle.note_filling.specs.declared.end.FillEnd.TheVariants as fills
+use Rattle.note_filling.specs.declared.end.Flaw.{Flaw}
+use Rattle.note_texts.specs.Keys.{document}
+use Rattle.note_texts.specs.Outcome.{Fails}
+use Rattle.note_types.specs.declared.fault.NotesEnd.{NotesEnd}
+use Rattle.note_types.specs.declared.fault.NotesEnd.TheVariants as notes
+use Rattle.pe_image.specs.declared.image.Image.{Image}
+use Rattle.toml.specs.Data.{Data, Members}
+use Rattle.note_completion.specs.Completions.{Completes, IsComplete, TellsFirst, label_faults, unlabelled}
+use Rattle.note_completion.specs.Halts.{Ends, IsChecked, IsFilled, Tells, first_fault, of_fill, of_notes, place_in, told}
+use Rattle.note_completion.specs.declared.halt.Halt.{Halt}
+use Rattle.note_completion.specs.declared.halt.Halt.TheVariants as halts
+use Rattle.note_completion.specs.declared.task.Task.{Task}
+
+-- a text that isn't TOML is told as that
+pub ends_unread : (end : NotesEnd) (names : List (List ℕ)) (labels : List Label) (text : List ℕ) → Fails end (document text)
+    → Ends (of_notes end) (label_faults names labels text)
+unfolding label_faults
+ends_unread notes.NoMemory names labels text fails = tt
+ends_unread (notes.Fault f) names labels text fails = inl (ap (λ d. unlabelled d >>= text_labels names labels) fails)
+
+-- the first fault of a label of a document is that of its text
+pub faults_in : (names : List (List ℕ)) (labels : List Label) (text : List ℕ) (ms : Members) → document text ≡ Ok ms
+    → label_faults names labels text ≡ text_labels names labels ms
+unfolding label_faults
+faults_in names labels text ms read = ap (λ d. unlabelled d >>= text_labels names labels) read
+
+pub ends_unfilled : (end : FillEnd) (read : Result (Unit {0}) Flaw) → Refuses end read → Ends (of_fill end) read
+ends_unfilled fills.NoMemory read refuses = tt
+ends_unfilled (fills.Flaw f) read (inl fault) = inl fault
+ends_unfilled (fills.Flaw f) read (inr none) = inr none.0
+
+-- the first fault of a label of a task's text, over the labels of the task
+pub faults_over : (t : Task) (context : Context) (ms : Members) → context.labels ≡ t.linked.labels
+    → context.names.now ≡ t.linked.plan.now.objects → document t.text.now ≡ Ok ms
+    → first_fault t ≡ text_labels (names_in context) (labels_in context) ms
+faults_over t context ms labels names read = rw (labels, names) (faults_in _ _ _ ms read)
+
+pub ends_over : (t : Task) (context : Context) (ms : Members) (end : FillEnd)
+    → first_fault t ≡ text_labels (names_in context) (labels_in context) ms
+    → Refuses end (text_labels (names_in context) (labels_in context) ms) → Ends (of_fill end) (first_fault t)
+ends_over t context ms end same refuses = ends_unfilled end (first_fault t) (subst (λ read. Refuses end read) (sym same) refuses)
+
+-- where no label has a fault, any end will do
+pub ends_any : (halt : Halt) (read : Result (Unit {0}) Flaw) → read ≡ Ok tt → Ends halt read
+ends_any halts.NoMemory read none = tt
+ends_any (halts.Fault f) read none = inr none
+ends_any (halts.Refused place rule state) read none = none
+ends_any halts.Large read none = none
+
+pub tells_any : {X : Type 0} (result : Result X Halt) (read : Result (Unit {0}) Flaw) → read ≡ Ok tt → Tells result read
+tells_any (Ok x) read none = none
+tells_any (Err halt) read none = ends_any halt read none
+
+-- a text that is filled over the labels of a task
+pub filled_over : (t : Task) (context : Context) (points sites : List Data) (old new : Members) → context.labels ≡ t.linked.labels
+    → context.names.now ≡ t.linked.plan.now.objects → document t.text.now ≡ Ok old
+    → IsTextKept (filled_place context) points sites old new → IsFilled (place_in t) t.text.now points sites new
+filled_over t context points sites old new labels names read kept = record { old = old; read = read; kept = rw (← labels, ← names) kept }
+
+-- a text that is filled, printed and checked is complete notes
+pub completed : (image : Image) (place : List ℕ → Option ℕ) (text : List ℕ) (points sites : List Data) (new : Members)
+    (result : Result (String Global) Halt) → IsFilled place text points sites new
+    → IfOk result (λ printed. document (string_bytes printed) ≡ Ok new) → IfOk result (λ printed. IsChecked image (string_bytes printed))
+    → IfOk result (λ printed. IsComplete image place text (string_bytes printed))
+completed image place text points sites new (Ok printed) filled shown checked = record {
+  notes = checked.notes;
+  stands = checked.stands;
+  typed = checked.typed;
+  fits = checked.fits;
+  old = filled.old;
+  new = new;
+  read = filled.read;
+  shown = shown;
+  points = points;
+  sites = sites;
+  kept = filled.kept;
+}
+completed image place text points sites new (Err halt) filled shown checked = tt
+
+-- what is told of an end are no notes, and a fault of a label where the text has one
+pub told_completes : (halt : Halt) (image : Image) (place : List ℕ → Option ℕ) (text : List ℕ)
+    → IfOk (told halt) (Completes image place text)
+told_completes halts.NoMemory image place text = tt
+told_completes (halts.Fault f) image place text = tt
+told_completes (halts.Refused p rule state) image place text = tt
+told_completes halts.Large image place text = tt
+
+pub told_tells : (halt : Halt) (read : Result (Unit {0}) Flaw) → Ends halt read → IfOk (told halt) (TellsFirst read)
+told_tells halts.NoMemory read ends = tt
+told_tells (halts.Fault f) read ends = ends
+told_tells (halts.Refused p rule state) read ends = ends
+told_tells halts.Large read ends = ends

@@ -1,0 +1,115 @@
+//! Notes with labels made complete.
+
+ghost use Rattle.std.specs.Prelude.{◌≡◌, ◌≤◌, IfOk, Ok, OnOk, string_bytes};
+ghost use Rattle.label_places.specs.Sought.{place_by};
+ghost use Rattle.pe_image.specs.Images.{IsImage};
+ghost use Rattle.note_texts.specs.Keys.{document};
+ghost use Rattle.note_types.specs.Records.{IsNotes};
+ghost use Rattle.toml.specs.Data.{members_depth};
+ghost use Rattle.toml.specs.View.{table_view};
+ghost use Rattle.width_checker.specs.Typed.{Typed};
+ghost use Rattle.note_completion.specs.Completions.{Completes, IsComplete, TellsFirst, label_faults};
+ghost use Rattle.note_completion.specs.Halts.{IsChecked, Tells, first_fault, place_in};
+
+use crate::completion::{Completion, Linked};
+use crate::depths::Depths;
+use crate::filling::{printed, read_printed};
+use crate::halt::{Halt, refused};
+use crate::task::Task;
+use ebc_base::NoMemory;
+use note_filling::{Filled, More};
+use note_types::Notes;
+use pe_image::Image;
+use std::alloc::Global;
+use width_checker::{Verdict, check};
+
+// How many bytes the notes may have that are printed.
+const MOST_BYTES: usize = 1_048_576;
+
+// Whether the image keeps all rules under notes.
+fn check_rules(alloc: Global, image: &Image, notes: &Notes) -> Result<(), Halt>
+    requires image { IsImage image.now }
+    requires notes { IsNotes notes.now }
+    ensures { OnOk result (Typed image.now notes.now) }
+{
+    match check(alloc, image, notes)? {
+        Verdict::Neutral => Ok(()),
+        Verdict::Refused { place, rule } => Err(refused(alloc, place, rule)),
+    }
+}
+
+// Whether a printed text is notes within the limit, under which the image keeps all rules.
+fn check_text(alloc: Global, image: &Image, filled: &Filled, text: &str) -> Result<(), Halt>
+    requires image { IsImage image.now }
+    ensures { OnOk result (IsChecked image.now text.now) }
+{
+    if text.len() > MOST_BYTES {
+        return Err(Halt::Large);
+    }
+    let notes = read_printed(alloc, filled, text)?;
+    check_rules(alloc, image, &notes)
+}
+
+// The text of a filled table, where it is notes under which the image keeps all rules.
+fn checked_text(alloc: Global, image: &Image, filled: &Filled) -> Result<String, Halt>
+    requires image { IsImage image.now }
+    requires shallow { members_depth (table_view filled.now.table) ≤ 80 }
+    ensures shown { IfOk result (λ text. document (string_bytes text) ≡ Ok (table_view filled.now.table)) }
+    ensures checked { IfOk result (λ text. IsChecked image.now (string_bytes text)) }
+{
+    let text = printed(alloc, &filled.table)?;
+    match check_text(alloc, image, filled, text.as_str()) {
+        Ok(()) => Ok(text),
+        Err(halt) => Err(halt),
+    }
+}
+
+impl<'a> Task<'a> {
+    // The notes with all that was found, where the check of the image calls it neutral.
+    fn checked(self, alloc: Global, depths: &Depths, more: More) -> Result<String, Halt>
+        requires image { IsImage self.linked.image.now }
+        ensures { IfOk result (λ notes. IsComplete self.entry.linked.image.now (place_in self.entry) self.entry.text.now (string_bytes notes)) }
+    {
+        let filled = self.fill(alloc, depths.found(), more)?;
+        checked_text(alloc, self.linked.image, &filled)
+    }
+
+    // The complete notes of a text whose forms and names are those of notes.
+    fn notes(self, alloc: Global) -> Result<String, Halt>
+        requires image { IsImage self.linked.image.now }
+        ensures { IfOk result (λ notes. IsComplete self.entry.linked.image.now (place_in self.entry) self.entry.text.now (string_bytes notes)) }
+    {
+        let depths = self.depths(alloc)?;
+        let more = self.missing(alloc, &depths)?;
+        self.checked(alloc, &depths, more)
+    }
+
+    // The complete notes.
+    #[tactic(auto, using(crate::proofs::HaltLaws::tells_any))]
+    fn complete(self, alloc: Global) -> Result<String, Halt>
+        requires image { IsImage self.linked.image.now }
+        ensures whole { IfOk result (λ notes. IsComplete self.entry.linked.image.now (place_in self.entry) self.entry.text.now (string_bytes notes)) }
+        ensures faults { Tells result (first_fault self.entry) }
+    {
+        self.check_forms(alloc)?;
+        self.notes(alloc)
+    }
+}
+
+/// The complete notes that a text of notes with labels stands for, or why there are none. docs/LABELS.md, "What may be left out".
+///
+/// # Errors
+///
+/// There is no memory.
+#[tactic(auto, using(crate::proofs::HaltLaws::told_completes, crate::proofs::HaltLaws::told_tells))]
+pub fn complete(alloc: Global, linked: Linked, text: &[u8]) -> Result<Completion, NoMemory>
+    requires image { IsImage linked.image.now }
+    ensures whole { IfOk result (Completes linked.entry.image.now
+        (place_by linked.entry.plan.now.objects linked.entry.labels.now.labels) text.now) }
+    ensures faults { IfOk result (TellsFirst (label_faults linked.entry.plan.now.objects linked.entry.labels.now.labels text.now)) }
+{
+    match (Task { linked, text }).complete(alloc) {
+        Ok(notes) => Ok(Completion::Whole(notes)),
+        Err(halt) => halt.told(),
+    }
+}

@@ -1,0 +1,7 @@
+pub mod MemberLaws
+pub mod CheckLaws
+pub mod PlaceLaws
+pub mod RowLaws
+pub mod ListLaws
+pub mod TextLaws
+pub mod DepthLaws

@@ -1,0 +1,109 @@
+-- What stands at the keys of a table after something is put at one.
+use Rattle.std.proofs.Common.{◌≡◌, ℕ, true, false, cond, List, [], ◌∷◌, Option, Some, None, String, Global, Ordering, Less, Equal, Greater}
+use Rattle.std.proofs.Common.{string_bytes, nat_cmp, is_eq, refl, sym, ap, ◌∙◌, subst, inl, inr}
+use Rattle.std.specs.Prelude.{bytes_eq}
+use Rattle.std.proofs.lemmas.Cmp.{nat_list_cmp_total}
+use Rattle.std.proofs.lemmas.Map.Text.{is_eq-slice_cmp}
+use Rattle.std.proofs.lemmas.Slice.Eq.{bytes_eq-Decides}
+use Rattle.std.proofs.lemmas.Bool.{cases_Bool}
+use Rattle.std.specs.Cmp.{tied_itself}
+use Rattle.std.specs.Cmp.Lexicographic.{slice_cmp}
+use Rattle.std.specs.Ordering.{match_ordering}
+use Rattle.std.specs.BTreeMap.{insert_entry}
+use Rattle.std.specs.String.{string_cmp}
+use Rattle.toml.specs.Data.{Data, Members, no_members, member, get_member}
+use Rattle.toml.specs.View.{view, members_view}
+use Rattle.toml.specs.declared.value.Value.{Value}
+use Rattle.toml.proofs.Views.{Entry}
+use Rattle.note_filling.specs.Members.{IsExtended, put_member, put_missing_member, put_where}
+
+-- ---- the map of a table
+
+view_matched : (o : Ordering) (a b c : List Entry)
+    → members_view (match_ordering o a b c) ≡ match_ordering o (members_view a) (members_view b) (members_view c)
+view_matched Less a b c = refl
+view_matched Equal a b c = refl
+view_matched Greater a b c = refl
+
+pub view-insert : (es : List Entry) (k : String Global) (v : Value)
+    → members_view (insert_entry string_cmp es k v) ≡ put_member (string_bytes k) (view v) (members_view es)
+unfolding put_member
+view-insert [] k v = refl
+view-insert (e ∷ es) k v = view_matched (string_cmp k e.0) _ _ _ ∙ rw (view-insert es k v)
+
+-- ---- a look-up
+
+-- a look-up at the first of the members
+get_first : (q l : List ℕ) (d : Data) (ms : Members) → get_member q (member l d ms) ≡ cond (bytes_eq q l) (Some d) (get_member q ms)
+get_first q l d ms = by_order (slice_cmp nat_cmp q l) ∙ ap (λ b. cond b (Some d) (get_member q ms)) (is_eq-slice_cmp q l)
+  where
+    by_order : (o : Ordering) → match_ordering o (get_member q ms) (Some d) (get_member q ms) ≡ cond (is_eq o) (Some d) (get_member q ms)
+    by_order Less = refl
+    by_order Equal = refl
+    by_order Greater = refl
+
+same_key : (k l : List ℕ) → slice_cmp nat_cmp k l ≡ Equal → k ≡ l
+same_key k l e =
+    let d = bytes_eq-Decides k l in d.0 (sym (is_eq-slice_cmp k l) ∙ ap is_eq e)
+
+pub bytes_eq-self : (k : List ℕ) → bytes_eq k k ≡ true
+bytes_eq-self k = sym (is_eq-slice_cmp k k) ∙ ap is_eq (tied_itself nat_list_cmp_total k)
+
+-- the look-up at a key where something was put
+get_put_at : (o : Ordering) (k : List ℕ) (d : Data) (l : List ℕ) (e : Data) (ms : Members) → slice_cmp nat_cmp k l ≡ o
+    → get_member k (put_member k d ms) ≡ Some d
+    → get_member k (match_ordering o (member k d (member l e ms)) (member l d ms) (member l e (put_member k d ms))) ≡ Some d
+get_put_at Less k d l e ms is later = get_first k k d (member l e ms) ∙ rw (bytes_eq-self k)
+get_put_at Equal k d l e ms is later = get_first k l d ms ∙ rw (← same_key k l is, bytes_eq-self k)
+get_put_at Greater k d l e ms is later =
+    get_first k l e (put_member k d ms)
+    ∙ (ap (λ b. cond b (Some e) (get_member k (put_member k d ms))) (sym (is_eq-slice_cmp k l) ∙ ap is_eq is) ∙ later)
+
+pub get-put : (k : List ℕ) (d : Data) (ms : Members) → get_member k (put_member k d ms) ≡ Some d
+unfolding put_member
+get-put k d no_members = get_first k k d no_members ∙ rw (bytes_eq-self k)
+get-put k d (member l e ms) = get_put_at (slice_cmp nat_cmp k l) k d l e ms refl (get-put k d ms)
+
+-- the look-up at another key
+get_other_at : (o : Ordering) (q k : List ℕ) (d : Data) (l : List ℕ) (e : Data) (ms : Members) → slice_cmp nat_cmp k l ≡ o
+    → bytes_eq q k ≡ false → get_member q (put_member k d ms) ≡ get_member q ms
+    → get_member q (match_ordering o (member k d (member l e ms)) (member l d ms) (member l e (put_member k d ms)))
+    ≡ get_member q (member l e ms)
+get_other_at Less q k d l e ms is other later = get_first q k d (member l e ms) ∙ rw other
+get_other_at Equal q k d l e ms is other later =
+    let apart : bytes_eq q l ≡ false = subst (λ key. bytes_eq q key ≡ false) (same_key k l is) other in
+    get_first q l d ms ∙ (ap (λ b. cond b (Some d) (get_member q ms)) apart
+    ∙ sym (get_first q l e ms ∙ ap (λ b. cond b (Some e) (get_member q ms)) apart))
+get_other_at Greater q k d l e ms is other later =
+    get_first q l e (put_member k d ms)
+    ∙ (ap (λ found. cond (bytes_eq q l) (Some e) found) later ∙ sym (get_first q l e ms))
+
+pub get-put_other : (q k : List ℕ) (d : Data) (ms : Members) → bytes_eq q k ≡ false → get_member q (put_member k d ms) ≡ get_member q ms
+unfolding put_member
+get-put_other q k d no_members other = get_first q k d no_members ∙ rw other
+get-put_other q k d (member l e ms) other =
+    get_other_at (slice_cmp nat_cmp k l) q k d l e ms refl other (get-put_other q k d ms other)
+
+-- ---- where nothing stood
+
+get_where_other : (o : Option Data) (q k : List ℕ) (d : Data) (ms : Members) → bytes_eq q k ≡ false
+    → get_member q (put_where o k d ms) ≡ get_member q ms
+get_where_other None q k d ms other = get-put_other q k d ms other
+get_where_other (Some e) q k d ms other = refl
+
+pub get-put_missing_other : (q k : List ℕ) (d : Data) (ms : Members) → bytes_eq q k ≡ false
+    → get_member q (put_missing_member k d ms) ≡ get_member q ms
+get-put_missing_other q k d ms other = get_where_other (get_member k ms) q k d ms other
+
+extended_by : (o : Option Data) (k : List ℕ) (d : Data) (ms : Members) → get_member k ms ≡ o → IsExtended ms (put_where o k d ms)
+extended_by (Some e) k d ms is q f there = there
+extended_by None k d ms is q f there = elim (cases_Bool (bytes_eq q k)) [
+  | inl same ↦ let key = (bytes_eq-Decides q k).0 same in cc (is, there, ap (λ name. get_member name ms) key)
+  | inr other ↦ get-put_other q k d ms other ∙ there
+]
+
+pub extended-put : (k : List ℕ) (d : Data) (ms : Members) → get_member k ms ≡ None → IsExtended ms (put_member k d ms)
+extended-put k d ms none = extended_by None k d ms none
+
+pub extended-put_missing : (k : List ℕ) (d : Data) (ms : Members) → IsExtended ms (put_missing_member k d ms)
+extended-put_missing k d ms = extended_by (get_member k ms) k d ms refl

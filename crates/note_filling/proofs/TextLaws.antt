@@ -1,0 +1,120 @@
+-- What stands in a text that is made of filled lists.
+use Rattle.std.proofs.Common.{◌≡◌, ℕ, false, List, [], Option, Some, None, Vec, Global, refl, ap, ◌∙◌}
+use Rattle.std.specs.Prelude.{bytes_eq, codes}
+use Rattle.note_draft.specs.declared.finding.TableList.TheVariants as lists
+use Rattle.toml.specs.Data.{Data, Members, get_member}
+use Rattle.toml.specs.declared.value.Value.{Value}
+use Rattle.note_filling.specs.Kept.{IsTextKept}
+use Rattle.note_filling.specs.Members.{put_missing_member}
+use Rattle.note_filling.specs.Views.{AreArranged, AreFilledLists, IsAssembled, list_at, put_items}
+use Rattle.note_filling.specs.declared.table.Lists.{Lists}
+use Rattle.note_filling.proofs.ListLaws.{list-kept, list-mixed}
+use Rattle.note_filling.proofs.RowLaws.{neither}
+use Rattle.note_filling.proofs.MemberLaws.{extended-put_missing, get-put, get-put_missing_other, get-put_other}
+
+here : (k : List ℕ) (values : Option (Vec Value Global)) (old new : Members) → new ≡ put_items k values old
+    → get_member k new ≡ list_at values (get_member k old)
+here k None old new is = ap (get_member k) is
+here k (Some values) old new is = ap (get_member k) is ∙ get-put k _ old
+
+other : (q k : List ℕ) (values : Option (Vec Value Global)) (old new : Members) → new ≡ put_items k values old → bytes_eq q k ≡ false
+    → get_member q new ≡ get_member q old
+other q k None old new is apart = ap (get_member q) is
+other q k (Some values) old new is apart = ap (get_member q) is ∙ get-put_other q k _ old apart
+
+beside : (q k : List ℕ) (d : Data) (old new : Members) → new ≡ put_missing_member k d old → bytes_eq q k ≡ false
+    → get_member q new ≡ get_member q old
+beside q k d old new is apart = ap (get_member q) is ∙ get-put_missing_other q k d old apart
+
+stays : (k : List ℕ) (d e : Data) (old new : Members) → new ≡ put_missing_member k d old → get_member k old ≡ Some e
+    → get_member k new ≡ Some e
+stays k d e old new is there = ap (get_member k) is ∙ extended-put_missing k d old k e there
+
+-- A text step by step: its version and its entry, and its lists.
+pub record Steps (made : Lists) (m0 m1 m2 m3 m4 m5 m6 m7 : Members) : Type 0 where
+  pub v : Data
+  pub e : Data
+  pub version : m1 ≡ put_missing_member (codes "version") v m0
+  pub entry : m2 ≡ put_missing_member (codes "entry") e m1
+  pub statics : m3 ≡ put_items (codes "static") made.statics m2
+  pub thunks : m4 ≡ put_items (codes "thunk") made.thunks m3
+  pub functions : m5 ≡ put_items (codes "function") made.functions m4
+  pub points : m6 ≡ put_items (codes "point") made.points m5
+  pub sites : m7 ≡ put_items (codes "site") made.sites m6
+
+-- what the lists leave as it is
+pub behind : (q : List ℕ) (made : Lists) (m0 m1 m2 m3 m4 m5 m6 m7 : Members) → Steps made m0 m1 m2 m3 m4 m5 m6 m7
+    → bytes_eq q (codes "static") ≡ false → bytes_eq q (codes "thunk") ≡ false → bytes_eq q (codes "function") ≡ false
+    → bytes_eq q (codes "point") ≡ false → bytes_eq q (codes "site") ≡ false → get_member q m7 ≡ get_member q m2
+behind q made m0 m1 m2 m3 m4 m5 m6 m7 s static thunk function point site =
+    other q (codes "site") made.sites m6 m7 s.sites site
+    ∙ (other q (codes "point") made.points m5 m6 s.points point
+    ∙ (other q (codes "function") made.functions m4 m5 s.functions function
+    ∙ (other q (codes "thunk") made.thunks m3 m4 s.thunks thunk ∙ other q (codes "static") made.statics m2 m3 s.statics static)))
+
+pub assembled_by : (made : Lists) (m0 m1 m2 m3 m4 m5 m6 m7 : Members) → Steps made m0 m1 m2 m3 m4 m5 m6 m7 → IsAssembled made m0 m7
+assembled_by made m0 m1 m2 m3 m4 m5 m6 m7 s = record {
+  version = λ d there. behind (codes "version") made m0 m1 m2 m3 m4 m5 m6 m7 s refl refl refl refl refl
+      ∙ (beside (codes "version") (codes "entry") s.e m1 m2 s.entry refl ∙ stays (codes "version") s.v d m0 m1 s.version there);
+  entry = λ d there. behind (codes "entry") made m0 m1 m2 m3 m4 m5 m6 m7 s refl refl refl refl refl
+      ∙ stays (codes "entry") s.e d m1 m2 s.entry (beside (codes "entry") (codes "version") s.v m0 m1 s.version refl ∙ there);
+  statics = other (codes "static") (codes "site") made.sites m6 m7 s.sites refl
+      ∙ (other (codes "static") (codes "point") made.points m5 m6 s.points refl
+      ∙ (other (codes "static") (codes "function") made.functions m4 m5 s.functions refl
+      ∙ (other (codes "static") (codes "thunk") made.thunks m3 m4 s.thunks refl
+      ∙ (here (codes "static") made.statics m2 m3 s.statics ∙ ap (list_at made.statics) (head (codes "static") refl refl)))));
+  thunks = other (codes "thunk") (codes "site") made.sites m6 m7 s.sites refl
+      ∙ (other (codes "thunk") (codes "point") made.points m5 m6 s.points refl
+      ∙ (other (codes "thunk") (codes "function") made.functions m4 m5 s.functions refl
+      ∙ (here (codes "thunk") made.thunks m3 m4 s.thunks
+      ∙ ap (list_at made.thunks) (other (codes "thunk") (codes "static") made.statics m2 m3 s.statics refl ∙ head (codes "thunk") refl
+      refl))));
+  functions = other (codes "function") (codes "site") made.sites m6 m7 s.sites refl
+      ∙ (other (codes "function") (codes "point") made.points m5 m6 s.points refl
+      ∙ (here (codes "function") made.functions m4 m5 s.functions
+      ∙ ap (list_at made.functions) (other (codes "function") (codes "thunk") made.thunks m3 m4 s.thunks refl
+      ∙ (other (codes "function") (codes "static") made.statics m2 m3 s.statics refl ∙ head (codes "function") refl refl))));
+  points = other (codes "point") (codes "site") made.sites m6 m7 s.sites refl
+      ∙ (here (codes "point") made.points m5 m6 s.points
+      ∙ ap (list_at made.points) (other (codes "point") (codes "function") made.functions m4 m5 s.functions refl
+      ∙ (other (codes "point") (codes "thunk") made.thunks m3 m4 s.thunks refl
+      ∙ (other (codes "point") (codes "static") made.statics m2 m3 s.statics refl ∙ head (codes "point") refl refl))));
+  sites = here (codes "site") made.sites m6 m7 s.sites
+      ∙ ap (list_at made.sites) (other (codes "site") (codes "point") made.points m5 m6 s.points refl
+      ∙ (other (codes "site") (codes "function") made.functions m4 m5 s.functions refl
+      ∙ (other (codes "site") (codes "thunk") made.thunks m3 m4 s.thunks refl
+      ∙ (other (codes "site") (codes "static") made.statics m2 m3 s.statics refl ∙ head (codes "site") refl refl))));
+  rest = λ q apart.
+      let (version, a) = neither _ _ apart in
+      let (entry, b) = neither _ _ a in
+      let (static, c) = neither _ _ b in
+      let (thunk, d) = neither _ _ c in
+      let (function, e) = neither _ _ d in
+      let (point, f) = neither _ _ e in
+      let (site, g) = neither _ _ f in
+      behind q made m0 m1 m2 m3 m4 m5 m6 m7 s static thunk function point site ∙ head q version entry;
+}
+  where
+    head : (q : List ℕ) → bytes_eq q (codes "version") ≡ false → bytes_eq q (codes "entry") ≡ false → get_member q m2 ≡ get_member q m0
+    head q version entry =
+        beside q (codes "entry") s.e m1 m2 s.entry entry ∙ beside q (codes "version") s.v m0 m1 s.version version
+
+pub text_kept : (place : List ℕ → Option ℕ) (points sites : List Data) (old new : Members) (filled made : Lists)
+    → AreFilledLists place old filled → AreArranged filled points sites made → IsAssembled made old new
+    → IsTextKept place points sites old new
+text_kept place points sites old new filled made are_filled arranged is = record {
+  version = is.version;
+  entry = is.entry;
+  statics = list-kept place lists.Static (get_member (codes "static") old) filled.statics (get_member (codes "static") new)
+      are_filled.statics
+      (is.statics ∙ ap (λ values. list_at values (get_member (codes "static") old)) arranged.statics);
+  thunk = list-kept place lists.Thunk (get_member (codes "thunk") old) filled.thunks (get_member (codes "thunk") new) are_filled.thunks
+      (is.thunks ∙ ap (λ values. list_at values (get_member (codes "thunk") old)) arranged.thunks);
+  function = list-mixed place lists.Function [] (get_member (codes "function") old) filled.functions made.functions
+      (get_member (codes "function") new) are_filled.functions arranged.functions is.functions;
+  point = list-mixed place lists.Point points (get_member (codes "point") old) filled.points made.points
+      (get_member (codes "point") new) are_filled.points arranged.points is.points;
+  site = list-mixed place lists.Site sites (get_member (codes "site") old) filled.sites made.sites
+      (get_member (codes "site") new) are_filled.sites arranged.sites is.sites;
+  rest = is.rest;
+}

@@ -1,0 +1,14 @@
+use Rattle.std.proofs.Common.{◌≡◌, drop, map, take}
+use Rattle.toml.specs.View.{items_view, view}
+use Rattle.note_filling.specs.Kept.{AreKept}
+use Rattle.note_filling.specs.Rows.{items_labels}
+use Rattle.note_filling.specs.Views.{labels_in, names_in, place_in}
+use Rattle.note_filling.proofs.filling.filled_items.Given as goal
+
+abbrev pub invariant-loop-k : goal.invariant-loop-k
+invariant-loop-k l =
+    record {
+      labels : items_labels (names_in l.rows.context) (labels_in l.rows.context) l.list l.k (items_view (drop l.k l.items))
+          ≡ items_labels (names_in l.rows.context) (labels_in l.rows.context) l.list 0 (items_view l.items);
+      kept : AreKept (place_in l.rows.context) l.list (map view (take l.k l.items)) (map view l.values.items);
+    }

@@ -1,0 +1,36 @@
+use Rattle.std.proofs.Common.{ap, codes, refl}
+use Rattle.std.proofs.lemmas.Result.{err_from_is_err_and}
+use Rattle.std.specs.Option.{option_and_then}
+use Rattle.toml.specs.Data.{as_str}
+use Rattle.toml.specs.View.{table_view}
+use Rattle.note_filling.specs.Rows.{row_labels}
+use Rattle.note_filling.specs.Views.{place_in}
+use Rattle.note_filling.proofs.CheckLaws.{fails_first, fails_then, goes_then}
+use Rattle.note_filling.proofs.RowLaws.{kept_more, kept_two}
+use Rattle.note_filling.proofs.functions.fill_function.Goals as goal
+
+pub returns-in_err-place-clause-labels : goal.returns-in_err-place-clause-labels
+unfolding row_labels
+returns-in_err-place-clause-labels c =
+    let p = err_from_is_err_and c.from_residual.result c.from_residual.ensures.1 in
+    rw (p.1, p.2) (fails_first _ _ _ c.in_err-place.ensures.labels)
+
+pub returns-in_err-put_end-clause-labels : goal.returns-in_err-put_end-clause-labels
+unfolding row_labels
+returns-in_err-put_end-clause-labels c =
+    let p = err_from_is_err_and c.from_residual-in_err-put_end.result c.from_residual-in_err-put_end.ensures.1 in
+    let same = ap (option_and_then as_str) (c.in_ok-place.ensures.replaced.elsewhere (codes "end") refl) in
+    rw (p.1, p.2) (fails_then _ _ tt _ c.in_ok-place.ensures.labels (rw same at c.in_err-put_end.ensures.labels))
+
+pub returns-clause-labels : goal.returns-clause-labels
+unfolding row_labels
+returns-clause-labels c =
+    let same = ap (option_and_then as_str) (c.in_ok-place.ensures.replaced.elsewhere (codes "end") refl) in
+    goes_then _ tt tt _ c.in_ok-place.ensures.labels (rw same at c.in_ok-put_end.ensures.labels)
+
+pub returns-clause-kept : goal.returns-clause-kept
+returns-clause-kept c =
+    kept_more (place_in c.args.rows.context) _ (table_view c.args.row.now) (table_view c.put_end.new.row) (table_view c.fill_left.new.row)
+    (kept_two (place_in c.args.rows.context) (codes "place") (codes "end") (table_view c.args.row.now) (table_view c.put_place.new.row)
+    (table_view c.put_end.new.row) refl refl c.in_ok-place.ensures.replaced c.in_ok-put_end.ensures.replaced)
+    c.in_ok-fill_left.ensures

@@ -1,0 +1,7 @@
+use Rattle.std.proofs.Common.{◌≡◌, map}
+use Rattle.toml.specs.View.{view}
+use Rattle.note_filling.specs.declared.order.Ranked.{Ranked}
+use Rattle.note_filling.proofs.order.without_places.Given as goal
+
+abbrev pub invariant-loop-item : goal.invariant-loop-item
+invariant-loop-item l = map view l.values.items ≡ map (λ (r : Ranked). view r.value) l.yielded

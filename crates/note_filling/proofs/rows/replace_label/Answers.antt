@@ -1,0 +1,21 @@
+use Rattle.std.proofs.Common.{ap, sym, ◌∙◌}
+use Rattle.std.specs.Option.{option_and_then}
+use Rattle.note_draft.specs.Findings.{path_of}
+use Rattle.toml.specs.Data.{as_str}
+use Rattle.toml.specs.View.{table_view}
+use Rattle.note_filling.specs.Members.{text_in}
+use Rattle.note_filling.specs.Places.{label_of}
+use Rattle.note_filling.specs.Views.{labels_in, names_in}
+use Rattle.note_filling.proofs.PlaceLaws.{replaced_by}
+use Rattle.note_filling.proofs.rows.replace_label.Goals as goal
+
+pub returns-clause-replaced : goal.returns-clause-replaced
+returns-clause-replaced c =
+    let row = table_view c.args.row.now in
+    let key = c.args.key.now in
+    let names = names_in c.args.context in
+    let labels = labels_in c.args.context in
+    let path = path_of c.args.finding in
+    replaced_by c.args.code names labels path key (text_in key row) c.in_ok-placed.placed row (table_view c.put_placed.new.table)
+    (ap (label_of c.args.code names labels path) (sym c.text_at.ensures) ∙ c.in_ok-placed.ensures.gives)
+    (λ d there. sym (ap (option_and_then as_str) there)) c.in_ok-put_placed.ensures

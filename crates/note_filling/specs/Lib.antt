@@ -1,0 +1,6 @@
+pub mod Ends
+pub mod Members
+pub mod Places
+pub mod Rows
+pub mod Kept
+pub mod Views

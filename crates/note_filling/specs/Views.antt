@@ -1,0 +1,103 @@
+-- For proofs: what the steps of a filling leave of a table, of its lists and of the text.
+use Rattle.std.specs.Prelude.{◌≡◌, ◌⊎◌, ℕ, List, [], ◌∷◌, ◌++◌, Option, Some, None, Result, Ok, Err, Vec, false, bytes_eq, codes, map}
+use Rattle.std.specs.Prelude.{IsPermutation, pos}
+use Rattle.std.specs.declared.alloc.Global.{Global}
+use Rattle.ebc_base.specs.Tables.{is_named}
+use Rattle.label_places.specs.Sought.{place_by}
+use Rattle.label_places.specs.declared.label.Label.{Label}
+use Rattle.note_draft.specs.declared.finding.TableList.{TableList}
+use Rattle.note_draft.specs.declared.finding.TableList.TheVariants as lists
+use Rattle.toml.specs.Data.{Data, Members, array, get_member, integer}
+use Rattle.toml.specs.View.{items_of, view}
+use Rattle.toml.specs.declared.value.Value.{Value}
+use Rattle.note_filling.specs.Kept.{AreKept, IsPlacedAs, filled_keys, list_of}
+use Rattle.note_filling.specs.Members.{put_member}
+use Rattle.note_filling.specs.declared.context.Context.{Context}
+use Rattle.note_filling.specs.declared.end.FillEnd.{FillEnd}
+use Rattle.note_filling.specs.declared.end.FillEnd.TheVariants as ends
+use Rattle.note_filling.specs.declared.end.Flaw.{Flaw as Fault}
+use Rattle.note_filling.specs.declared.label.Placed.{Placed}
+use Rattle.note_filling.specs.declared.table.Lists.{Lists}
+
+-- the names of the objects, their labels, and the place that a text names by them
+abbrev pub names_in : Context → List (List ℕ)
+names_in c = c.names.now
+
+abbrev pub labels_in : Context → List Label
+labels_in c = c.labels.now.labels
+
+abbrev pub place_in : Context → List ℕ → Option ℕ
+place_in c text = place_by (names_in c) (labels_in c) text
+
+-- A table with the place of the label at one key.
+pub record IsReplaced (place : List ℕ → Option ℕ) (key : List ℕ) (old new : Members) : Type 0 where
+  pub here : (d : Data) → get_member key old ≡ Some d → (e : Data) × ((get_member key new ≡ Some e) × IsPlacedAs place d e)
+  pub elsewhere : (other : List ℕ) → bytes_eq other key ≡ false → get_member other new ≡ get_member other old
+
+-- a table with a place at a key, if there is one
+abbrev pub put_place : List ℕ → Option Placed → Members → Members
+put_place key None ms = ms
+put_place key (Some p) ms = put_member key (integer (pos p.place)) ms
+
+-- ---- lists
+
+-- a list that stands somewhere, filled
+abbrev pub IsFilledList : (List ℕ → Option ℕ) → TableList → Option Data → Option (Vec Value Global) → Type 0
+IsFilledList place list (Some (array old)) (Some values) = AreKept place list (list_of old) (map view values.items)
+IsFilledList place list (Some (array old)) None = ⊥
+IsFilledList place list old values = values ≡ None
+
+-- The lists of a text, filled.
+pub record AreFilledLists (place : List ℕ → Option ℕ) (ms : Members) (filled : Lists) : Type 0 where
+  pub statics : IsFilledList place lists.Static (get_member (codes "static") ms) filled.statics
+  pub thunks : IsFilledList place lists.Thunk (get_member (codes "thunk") ms) filled.thunks
+  pub functions : IsFilledList place lists.Function (get_member (codes "function") ms) filled.functions
+  pub points : IsFilledList place lists.Point (get_member (codes "point") ms) filled.points
+  pub sites : IsFilledList place lists.Site (get_member (codes "site") ms) filled.sites
+
+-- a list put in order, with more items
+abbrev pub IsArranged : Option (Vec Value Global) → List Data → Option (Vec Value Global) → Type 0
+IsArranged (Some old) more (Some new) = IsPermutation (map view old.items ++ more) (map view new.items)
+IsArranged (Some old) more None = ⊥
+IsArranged None [] new = new ≡ None
+IsArranged None (d ∷ ds) (Some new) = IsPermutation (d ∷ ds) (map view new.items)
+IsArranged None (d ∷ ds) None = ⊥
+
+-- Lists put in order, with more points and sites.
+pub record AreArranged (old : Lists) (more_points more_sites : List Data) (new : Lists) : Type 0 where
+  pub statics : new.statics ≡ old.statics
+  pub thunks : new.thunks ≡ old.thunks
+  pub functions : IsArranged old.functions [] new.functions
+  pub points : IsArranged old.points more_points new.points
+  pub sites : IsArranged old.sites more_sites new.sites
+
+-- ---- the text
+
+-- what stands at a key behind a list was put there, if there is one
+abbrev pub list_at : Option (Vec Value Global) → Option Data → Option Data
+list_at None old = old
+list_at (Some values) old = Some (array (items_of (map view values.items)))
+
+abbrev pub put_items : List ℕ → Option (Vec Value Global) → Members → Members
+put_items key None ms = ms
+put_items key (Some values) ms = put_member key (array (items_of (map view values.items))) ms
+
+-- A text with these lists; its version and its entry stay where it has them.
+pub record IsAssembled (made : Lists) (old new : Members) : Type 0 where
+  pub version : (d : Data) → get_member (codes "version") old ≡ Some d → get_member (codes "version") new ≡ Some d
+  pub entry : (d : Data) → get_member (codes "entry") old ≡ Some d → get_member (codes "entry") new ≡ Some d
+  pub statics : get_member (codes "static") new ≡ list_at made.statics (get_member (codes "static") old)
+  pub thunks : get_member (codes "thunk") new ≡ list_at made.thunks (get_member (codes "thunk") old)
+  pub functions : get_member (codes "function") new ≡ list_at made.functions (get_member (codes "function") old)
+  pub points : get_member (codes "point") new ≡ list_at made.points (get_member (codes "point") old)
+  pub sites : get_member (codes "site") new ≡ list_at made.sites (get_member (codes "site") old)
+  pub rest : (key : List ℕ) → is_named key filled_keys ≡ false → get_member key new ≡ get_member key old
+
+-- a function tells the first fault of a label, or one that is no label's, unless memory ran out
+abbrev pub Refuses : FillEnd → Result (Unit {0}) Fault → Type 0
+Refuses ends.NoMemory read = Unit {0}
+Refuses (ends.Flaw f) read = (read ≡ Err f) ⊎ ((read ≡ Ok tt) × (f.label ≡ None))
+
+abbrev pub Tells : {X : Type 0} → Result X FillEnd → Result (Unit {0}) Fault → Type 0
+Tells (Ok x) read = read ≡ Ok tt
+Tells (Err e) read = Refuses e read

@@ -1,0 +1,46 @@
+//! The forms, the repeats and the names of a filled text.
+ghost use Rattle.toml.specs.View.{table_view};
+ghost use Rattle.note_filling.specs.Ends.{Checks};
+ghost use Rattle.note_filling.specs.Rows.{text_labels};
+ghost use Rattle.note_filling.specs.Views.{Tells, labels_in, names_in};
+
+use crate::assembling::assembled;
+use crate::context::{Context, Found};
+use crate::end::FillEnd;
+use crate::filling::filled_lists;
+use ebc_base::Name;
+use note_draft::{all_known, number_names, read_draft};
+use note_types::NotesEnd;
+use std::alloc::Global;
+use toml::Table;
+
+// Whether the forms, the repeats and the names of a text are those of notes.
+fn check_draft(alloc: Global, table: &Table) -> Result<(), NotesEnd> {
+    let draft = read_draft(alloc, table)?;
+    let known = number_names(alloc, &draft)?;
+    all_known(alloc, &known, &draft)
+}
+
+/// Whether a text, filled and in its own order, has the forms and the names of notes.
+///
+/// # Errors
+///
+/// The first fault of a label: list by list (static, thunk, function, point, site), table by table; else of the forms, then of the repeats
+/// and then of the names of notes; no memory.
+pub fn check_forms(
+    alloc: Global,
+    context: Context,
+    entry: &Name,
+    table: Table,
+) -> Result<(), FillEnd>
+    ensures { Tells result (text_labels (names_in context.entry) (labels_in context.entry) (table_view table)) }
+{
+    let found = Found {
+        levels: &[],
+        needs: &[],
+    };
+    let lists = filled_lists(alloc, context, found, &table)?;
+    let table = assembled(alloc, entry, lists, table)?;
+    check_draft(alloc, &table)?;
+    Ok(())
+}

@@ -1,0 +1,123 @@
+//! Lists in the order of their places, and where each item stood.
+ghost use Rattle.std.specs.Prelude.{◌≡◌, ◌++◌, map, IfOk, IsPermutation};
+ghost use Rattle.toml.specs.View.{view};
+
+use crate::members::number_at;
+use ebc_base::{Name, NoMemory};
+use note_texts::{number_in, parts_at};
+use std::alloc::{AllocError, Global};
+use toml::Value;
+
+// An item, where it stood, and its place.
+#[derive(Drop)]
+struct Ranked {
+    place: u64,
+    index: usize,
+    value: Value,
+}
+
+// The place of an item, where it has one.
+fn place_of(item: &Value) -> Option<u64> {
+    match item.as_table() {
+        Some(row) => number_at(row, "place"),
+        None => None,
+    }
+}
+
+// The items with their places, those that have none behind all others.
+fn with_places(alloc: Global, items: Vec<Value>) -> Result<Vec<Ranked>, NoMemory>
+    ensures { IfOk result (λ all. map (λ r. view r.value) all.items ≡ map view items.items) }
+{
+    let mut all = Vec::new(alloc);
+    let mut index = 0usize;
+    for value in items {
+        let place = place_of(&value).unwrap_or(u64::MAX);
+        all.push(Ranked {
+            place,
+            index,
+            value,
+        })?;
+        index = index.wrapping_add(1);
+    }
+    Ok(all)
+}
+
+// The items, and where each stood.
+fn without_places(alloc: Global, all: Vec<Ranked>) -> Result<(Vec<Value>, Vec<usize>), NoMemory>
+    ensures { IfOk result (λ parts. map view parts.0.items ≡ map (λ r. view r.value) all.items) }
+{
+    let mut values = Vec::new(alloc);
+    let mut order = Vec::new(alloc);
+    for item in all {
+        let Ranked {
+            place: _,
+            index,
+            value,
+        } = item;
+        order.push(index)?;
+        values.push(value)?;
+    }
+    Ok((values, order))
+}
+
+/// The items in the order of their places, and for each the number that it had.
+pub(crate) fn by_place(
+    alloc: Global,
+    items: Vec<Value>,
+) -> Result<(Vec<Value>, Vec<usize>), NoMemory>
+    ensures { IfOk result (λ parts. IsPermutation (map view items.items) (map view parts.0.items)) }
+{
+    let mut all = with_places(alloc, items)?;
+    all.sort_by_key(|item: &Ranked| item.place)?;
+    let parts = without_places(alloc, all)?;
+    Ok(parts)
+}
+
+// The path of an item of a list by the number that it had.
+fn renumbered(
+    alloc: Global,
+    list: &str,
+    order: &[usize],
+    path: &str,
+) -> Result<Option<Name>, AllocError> {
+    let (head, rest) = parts_at(b'[', path);
+    if head != list {
+        return Ok(None);
+    }
+    let Some(rest) = rest else {
+        return Ok(None);
+    };
+    let (digits, rest) = parts_at(b']', rest);
+    let Some(number) = number_in(0, 0xffff_ffff, digits.as_bytes()) else {
+        return Ok(None);
+    };
+    let Some(index) = order.get(number as usize) else {
+        return Ok(None);
+    };
+    let rest = rest.unwrap_or("");
+    Ok(Some(Name::new(format!(in alloc; "{head}[{index}]{rest}")?)))
+}
+
+/// The path that a key had before the lists were put in order.
+///
+/// # Errors
+///
+/// There was no memory.
+pub fn original_path(
+    alloc: Global,
+    functions: &[usize],
+    points: &[usize],
+    sites: &[usize],
+    path: Name,
+) -> Result<Name, AllocError> {
+    if let Some(other) = renumbered(alloc, "function", functions, path.as_str())? {
+        return Ok(other);
+    }
+    if let Some(other) = renumbered(alloc, "point", points, path.as_str())? {
+        return Ok(other);
+    }
+    if let Some(other) = renumbered(alloc, "site", sites, path.as_str())? {
+        return Ok(other);
+    }
+    Ok(path)
+}

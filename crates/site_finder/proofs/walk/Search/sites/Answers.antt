@@ -1,0 +1,13 @@
+use Rattle.point_finder.proofs.Passing.{other_read}
+use Rattle.site_finder.proofs.walk.Search.sites.Goals as goal
+
+pub new-requires : goal.new-requires
+new-requires c =
+    other_read c.args.self.now.image.now c.args.self.now.notes.now c.in_ok-marked.marked c.args.self.now.leaders.now (record {
+      sound = c.requires.image;
+      read = c.requires.notes;
+      functions = c.requires.functions;
+      all = c.requires.leaders;
+      few = c.requires.few;
+      marks = c.in_ok-marked.ensures;
+    })
