@@ -1,8 +1,45 @@
-# Builds a program of the repository where that is due. Read by `ebc` and by the scripts of bench/, which set `top` to the
-# folder of the repository first.
+# Builds a program of the repository where that is due, and runs it. Read by the scripts at the top, which are named as their
+# programs and set `usage` to its line, and by those of bench/; all set `top` to the folder of the repository first.
 #
 # A program is current where none of the crates that it is made of, and no line of crates.txt that names one of them, is
 # newer than the start of the build that made it. Crates that it isn't made of don't count.
+
+# Whether a word can stand for a part of the usage line. A name of a file isn't empty. That a word isn't UTF-8 the program alone sees.
+fits() {
+  local LC_ALL=C part=$1 word=$2
+  case $part in
+    VENDOR | DEVICE) [[ $word =~ ^[0-9a-f]{4}$ ]] ;;
+    WIDTH) [[ $word =~ ^(32|64)$ ]] ;;
+    NUMBER | STEPS) [[ $word =~ ^(0|[1-9][0-9]*)$ ]] ;;
+    N) [[ $word =~ ^[1-9][0-9]*$ ]] ;;
+    [a-z]*) [ "$word" = "$part" ] ;;
+    *) [ -n "$word" ] ;;
+  esac
+}
+
+# Whether words are a command of the usage line: as many as it has there, each of which can stand for its part.
+is_command() {
+  local commands command parts index
+  IFS='|' read -ra commands <<<"${usage#usage: }"
+  for command in "${commands[@]}"; do
+    read -ra parts <<<"$command"
+    [ $# = ${#parts[@]} ] || continue
+    for index in "${!parts[@]}"; do
+      fits "${parts[index]}" "${@:index+1:1}" || continue 2
+    done
+    return 0
+  done
+  return 1
+}
+
+# Runs a program, by its name, on words. It is built first where that is due, and then runs once on no words, which print its usage.
+run() {
+  local name=$1
+  shift
+  is_command "$@" || { echo "$usage" && exit 2; exit 5; }
+  build "$name" || exit 10
+  exec "$top/crates/$name/out/$name" "$@"
+}
 
 # The crates that a crate is made of, itself the last of them, one a line: each stands behind those that it uses, in the order in
 # which rt proves them.
@@ -93,7 +130,7 @@ prove() {
   while kill -0 "$proving" 2>/dev/null; do
     sleep 1
     if ((SECONDS >= next)); then
-      echo "$name: $(progress)" >&2
+      echo "$name: $(progress), $((SECONDS / 60)) min $((SECONDS % 60)) s" >&2
       next=$((SECONDS + 15))
     fi
   done
@@ -115,6 +152,6 @@ progress() {
     FNR == NR { before[$1] = all++; next }
     /^rt: chose --jobs [0-9]+ for / && ($6 in before) { begun = 1; proved = before[$6] }
     /^logic=proved / { begun = 1; proved++ }
-    END { print (begun ? proved " of " all " crates are proved" : "the sources of its " all " crates are read") }
+    END { print (begun ? proved " of " all " crates are proved" : "reads the sources of its " all " crates") }
   ' <(crates_of "$name") "$out/build.log"
 }
