@@ -15,7 +15,7 @@ TIMEFORMAT='%3U'
 
 command -v wasm-validate wat2wasm python3 >/dev/null || { echo "check.sh: needs wasm-validate, wat2wasm and python3" >&2; exit 1; }
 . "$top/scripts/program.sh"
-build ebc check /dev/null
+build ebc
 
 work=$(mktemp -d)
 trap 'rm -rf "$work"' EXIT

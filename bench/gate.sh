@@ -1,6 +1,6 @@
 #!/usr/bin/env bash
 # Runs the gate from nothing in a clone of the last commit, and prints the processor seconds that each crate took of it:
-# its proofs, its tests and its must-fail edits apart, with its lines of src/, specs/ and proofs/. What the gate prints goes
+# its proofs, its tests and its must-fail edits apart, with its lines and functions. What the gate prints goes
 # to the file that the one word names, if any. docs/GATE.md has the table of the last run and the rule. The seconds of a
 # process are read every second, so each may be one too few.
 set -u
@@ -54,15 +54,20 @@ awk -v ticks="$ticks" '
     for (what in total) print what, total[what] / ticks
   }' "$room/samples" >"$room/totals"
 
-printf '| Crate | Lines | Proofs | Tests | Edits | Seconds for 1,000 lines |\n|---|---|---|---|---|---|\n'
+# How many functions each crate has, as its proof says.
+awk '/^logic=proved functions=/ { split($2, part, "="); count = part[2] } /^rt: [a-z0-9_]+ proved/ { print $2, count }' "$room/log" >"$room/functions"
+
+printf '| Crate | Lines | Functions | Proofs | Tests | Edits |\n|---|---|---|---|---|---|\n'
 cd "$room/clone" || exit 1
 for crate in $(grep -oE '^[a-z0-9_]+' crates.txt); do
   lines=$(git ls-files "crates/$crate/*.rt" "crates/$crate/*.antt" | xargs cat | wc -l)
   awk -v crate="$crate" -v lines="$lines" '
-    $1 == crate { took[$2] = $3; sum += $3 }
-    END { printf "| `%s` | %d | %.0f | %.0f | %.0f | %.0f |\n", crate, lines, took["proofs"], took["tests"], took["edits"], sum * 1000 / lines }' "$room/totals"
+    $1 != crate { next }
+    FNR == NR { functions = $2; next }
+    { took[$2] = $3 }
+    END { printf "| `%s` | %d | %s | %.0f | %.0f | %.0f |\n", crate, lines, functions, took["proofs"], took["tests"], took["edits"] }' "$room/functions" "$room/totals"
 done
-awk '{ took[$2] += $3; sum += $3 } END { printf "| all | | %.0f | %.0f | %.0f | %.0f minutes |\n", took["proofs"], took["tests"], took["edits"], sum / 60 }' "$room/totals"
+awk '{ took[$2] += $3 } END { printf "| all | | | %.0f | %.0f | %.0f |\n", took["proofs"], took["tests"], took["edits"] }' "$room/totals"
 grep -E '^rt: .*(FAILED|NOT PROVED|NOT REFUSED|BAD EDIT)' "$room/log"
 tail -n 1 "$room/log"
 cat "$room/log" >"$log"

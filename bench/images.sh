@@ -11,7 +11,7 @@ TIMEFORMAT='%3U %3S'
 
 command -v python3 >/dev/null || { echo "images.sh: needs python3" >&2; exit 1; }
 . "$top/scripts/program.sh"
-build ebc check /dev/null
+build ebc
 
 work=$(mktemp -d)
 trap 'rm -rf "$work"' EXIT

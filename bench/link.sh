@@ -15,7 +15,7 @@ TIMEFORMAT='%3U %3S'
 command -v as ld python3 >/dev/null || { echo "link.sh: needs as, ld and python3" >&2; exit 1; }
 if [ $# = 0 ]; then
   . "$top/scripts/program.sh"
-  build ebc check /dev/null
+  build ebc
 fi
 
 work=$(mktemp -d)

@@ -9,7 +9,7 @@ TIMEFORMAT='%3U'
 
 command -v python3 >/dev/null || { echo "list.sh: needs python3" >&2; exit 1; }
 . "$top/scripts/program.sh"
-build ebc check /dev/null
+build ebc
 
 image=$(mktemp)
 trap 'rm -f "$image"' EXIT

@@ -7,7 +7,7 @@ steps=${1:-60000000}
 program=$top/crates/machine_bench/out/machine_bench
 
 . "$top/scripts/program.sh"
-build machine_bench 32 6
+build machine_bench
 
 for width in 32 64; do
   begun=$(date +%s%N)

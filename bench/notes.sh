@@ -12,7 +12,7 @@ TIMEFORMAT='%3U'
 
 command -v python3 >/dev/null || { echo "notes.sh: needs python3" >&2; exit 1; }
 . "$top/scripts/program.sh"
-build ebc check /dev/null
+build ebc
 
 work=$(mktemp -d)
 trap 'rm -rf "$work"' EXIT

@@ -12,8 +12,8 @@ TIMEFORMAT='%3U'
 
 command -v python3 >/dev/null || { echo "run.sh: needs python3" >&2; exit 1; }
 . "$top/scripts/program.sh"
-build ebc check /dev/null
-build machine_bench 32 6
+build ebc
+build machine_bench
 
 work=$(mktemp -d)
 trap 'rm -rf "$work"' EXIT

@@ -17,7 +17,7 @@ TIMEFORMAT='%3U'
 
 command -v as objdump python3 >/dev/null || { echo "text.sh: needs as, objdump and python3" >&2; exit 1; }
 . "$top/scripts/program.sh"
-build ebc check /dev/null
+build ebc
 
 work=$(mktemp -d)
 trap 'rm -rf "$work"' EXIT

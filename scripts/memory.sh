@@ -65,7 +65,7 @@ C
 mkdir before
 cp "$top"/examples/{driver,pair,plain}/*.* before
 echo old >before/out
-echo 'ebc: memory ran out' >refusal
+echo 'ebc: error: memory ran out' >refusal
 
 # Puts back all files as they were before.
 restore() { rm -rf files && cp -r before files; }
@@ -78,7 +78,10 @@ run() {
 
 # Whether the last run was refused memory, as it has to tell that; and whether it gave the whole answer of its job.
 is_refusal() { [ "$status" = 6 ] && [ ! -s printed ] && cmp -s said refusal && diff -r before files >/dev/null; }
-is_whole() { [ "$status" = "$wanted" ] && cmp -s printed whole && cmp -s said complaint && diff -r after files >/dev/null; }
+is_whole() { [ "$status" = "$wanted" ] && cmp -s printed whole && says_no_other && diff -r after files >/dev/null; }
+
+# Whether the last run said on standard error what is said of its job, or less for want of memory: general lines, or nothing.
+says_no_other() { ! grep -vxF -f complaint said | grep -qv '^ebc: error: '; }
 
 # Does words with each allocation refused in turn, up to the first amiss. The first word is the status of the whole answer.
 job() {

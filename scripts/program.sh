@@ -32,17 +32,17 @@ is_command() {
   return 1
 }
 
-# Runs a program, by its name, on words. It is built first where that is due, and then runs once on no words, which print its usage.
+# Runs a program, by its name, on words. It is built first where that is due. If it isn't built, words that are no command are answered
+# without it.
 run() {
   local name=$1
   shift
-  is_command "$@" || { echo "$usage" && exit 2; exit 5; }
+  is_command "$@" || is_current "$name" || { echo "$usage" && exit 2; exit 5; }
   build "$name" || exit 10
   exec "$top/crates/$name/out/$name" "$@"
 }
 
-# The crates that a crate is made of, itself the last of them, one a line: each stands behind those that it uses, in the order in
-# which rt proves them.
+# The crates that a crate is made of, itself the last of them, one a line.
 crates_of() {
   awk -v wanted="$1" '
     function visit(name,  words, word, w) {
@@ -74,12 +74,11 @@ is_current() {
   [ -z "$(find "${folders[@]}" \( -name out -o -name must-fail \) -prune -o -type f -newer "$built" -print -quit)" ]
 }
 
-# Builds a program that isn't current, and says every 15 seconds how far that is. The words after its name are those that `rt run`
-# runs it on at last.
+# Builds a program that isn't current, and says every 15 seconds how far that is.
 build() {
-  local signal status=0 proving=''
+  local signal status=0 proving='' tree=''
   for signal in HUP INT PIPE TERM; do trap "stop_build $signal" "$signal"; done
-  make_current "$@" || status=1
+  make_current "$1" || status=1
   trap - HUP INT PIPE TERM
   return "$status"
 }
@@ -90,6 +89,7 @@ stop_build() {
   # (rt leads a group of processes once it has begun, and what it started in other groups ends as it does)
   [ -z "$proving" ] || kill -- "-$proving" "$proving" 2>/dev/null
   wait
+  [ -z "$tree" ] || rm -rf "$tree"
   kill -s "$1" "$$"
 }
 
@@ -97,7 +97,6 @@ stop_build() {
 
 make_current() {
   local name=$1 out=$top/crates/$1/out next=0
-  shift
   is_current "$name" && return
   if ! command -v rt >/dev/null; then
     echo "$name: its proofs need the command rt of the Rattle kit, rattle-kit-13 or later, on the PATH: install that first" >&2
@@ -113,19 +112,20 @@ make_current() {
     fi
     sleep 1
   done
-  is_current "$name" || prove "$@"
+  is_current "$name" || prove
   exec 9<&-
   is_current "$name" || { echo "$name: the program could not be built, as its log says: $out/build.log" >&2; return 1; }
 }
 
+# Its crates are proved side by side, on all processors, in a copy of them without what the gate alone tries.
 prove() {
   local next=0
   echo "$name: the program is built first: its crates are proved, which takes long from nothing, as README.md says of ebc" >&2
   echo "$name: it may be stopped, since what is proved is kept; its log is $out/build.log" >&2
   # (the time of the file `built` is that of the build's start)
   rm -f "$out/$name"
-  lines_of "$name" >"$out/built" || return 1
-  (cd "$top/crates/$name" && exec setsid rt run -- "$@") </dev/null >"$out/build.log" 2>&1 &
+  lines_of "$name" >"$out/built" && tree=$(mktemp -d) && copy_crates || return 1
+  (cd "$tree" && exec setsid rt ci) </dev/null >"$out/build.log" 2>&1 &
   proving=$!
   while kill -0 "$proving" 2>/dev/null; do
     sleep 1
@@ -134,24 +134,30 @@ prove() {
       next=$((SECONDS + 15))
     fi
   done
-  if [ -x "$out/$name" ]; then
+  if wait "$proving" && mv "$tree/crates/$name/out/$name" "$out"; then
     touch -r "$out/built" "$out/$name"
   else
     tail -n 20 "$out/build.log" >&2
   fi
+  rm -rf "$tree"
 }
 
-# What a build is at, by what rt has written so far: it names a crate where it begins to prove it, and says where that is done. Before
-# the first it may wait for another rt, and then it goes over all sources.
+copy_crates() {
+  local crate part
+  cp "$top/HANDLES" "$out/built" "$tree" && mv "$tree/built" "$tree/crates.txt" || return 1
+  while read -r crate; do
+    mkdir -p "$tree/crates/$crate" || return 1
+    for part in "$top/crates/$crate"/*; do
+      case ${part##*/} in out | must-fail) ;; *) cp -r "$part" "$tree/crates/$crate" || return 1 ;; esac
+    done
+  done < <(crates_of "$name")
+}
+
+# What a build is at, by what rt has written so far: it says of each crate where it is proved, or was on this machine.
 progress() {
-  if [[ $(tail -n 1 "$out/build.log") == 'rt: waiting for another rt'* ]] && ! pgrep -P "$proving" -x rattle >/dev/null 2>&1; then
-    echo "waits for another rt that is at work in this repository"
-    return
-  fi
   awk '
-    FNR == NR { before[$1] = all++; next }
-    /^rt: chose --jobs [0-9]+ for / && ($6 in before) { begun = 1; proved = before[$6] }
-    /^logic=proved / { begun = 1; proved++ }
-    END { print (begun ? proved " of " all " crates are proved" : "reads the sources of its " all " crates") }
+    FNR == NR { all++; own[$1]; next }
+    /^rt: [a-z0-9_]+ (proved|is kept)/ && ($2 in own) { proved++; delete own[$2] }
+    END { print (proved ? proved " of " all " crates are proved" : "reads the sources of its " all " crates") }
   ' <(crates_of "$name") "$out/build.log"
 }

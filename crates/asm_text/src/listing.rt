@@ -1,11 +1,14 @@
 //! The lines of a listing.
 
-ghost use Rattle.std.specs.Prelude.{◌≡◌, ◌++◌, ◌∷◌, [], IfOk, OnOk, string_bytes};
+ghost use Rattle.std.specs.Prelude.{◌≡◌, ◌++◌, ◌∷◌, [], OnOk, string_bytes};
 ghost use Rattle.asm_text.specs.Writing.{ListedFits, listed_text};
 
 use crate::writing::insn_text;
 use ebc_insn::Insn;
 use std::alloc::{AllocError, Global};
+
+// The room that a line is given at first, in bytes.
+const LINE_ROOM: usize = 64;
 
 /// A line of a listing (docs/ASSEMBLY.md, "Listings"). Places are offsets from the image base in bytes.
 #[derive(Clone, Copy)]
@@ -29,23 +32,23 @@ pub enum Listed {
 }
 
 impl Listed {
-    // The line without its line feed.
+    // Writes the line without its line feed.
     #[tactic(auto, unfolding(crate::specs::Writing::listed_text), using(crate::proofs::HexLaws::raw8, crate::proofs::HexLaws::raw16, crate::proofs::HexLaws::raw32))]
-    fn line(&self, alloc: Global) -> Result<String, AllocError>
+    fn write_to(&self, text: &mut String) -> Result<(), AllocError>
         requires { ListedFits self.now }
-        ensures { IfOk result (λ line. string_bytes line ≡ listed_text self.now) }
+        ensures { OnOk result (string_bytes text.new ≡ string_bytes text.old ++ listed_text self.now) }
     {
         match *self {
-            Listed::Code => format!(in alloc; ".code"),
-            Listed::Data => format!(in alloc; ".data"),
-            Listed::Label(place) => format!(in alloc; "L{place:08x}:"),
-            Listed::Global(place) => format!(in alloc; ".global L{place:08x}"),
-            Listed::Place(place) => format!(in alloc; ".dq L{place:08x}"),
-            Listed::Word(n) => format!(in alloc; ".dw 0x{n:04x}"),
-            Listed::Byte(n) => format!(in alloc; ".db 0x{n:02x}"),
+            Listed::Code => write!(text, ".code"),
+            Listed::Data => write!(text, ".data"),
+            Listed::Label(place) => write!(text, "L{place:08x}:"),
+            Listed::Global(place) => write!(text, ".global L{place:08x}"),
+            Listed::Place(place) => write!(text, ".dq L{place:08x}"),
+            Listed::Word(n) => write!(text, ".dw 0x{n:04x}"),
+            Listed::Byte(n) => write!(text, ".db 0x{n:02x}"),
             Listed::Instruction { insn, place } => {
-                let text = insn_text(&insn, place);
-                format!(in alloc; "{text}")
+                let written = insn_text(&insn, place);
+                write!(text, "{written}")
             }
         }
     }
@@ -55,7 +58,8 @@ impl Listed {
         requires { ListedFits self.now }
         ensures { OnOk result (out.new.items ≡ out.old.items ++ listed_text self.now) }
     {
-        let line = self.line(alloc)?;
+        let mut line = String::with_capacity(alloc, LINE_ROOM)?;
+        self.write_to(&mut line)?;
         out.extend_from_slice(line.as_bytes())?;
         Ok(())
     }

@@ -1,8 +1,16 @@
-//! Reads binds, a TOML text that says which function of image B answers the calls of which method of image A, as the binds that
-//! the text stands for under the notes of both, or tells its first fault with the key where it stands. docs/PAIRS.md, "Binds", says
-//! how they are written.
+//! Reads binds, a TOML text that says which function of image B answers the calls of which method of image A, as the
+//! binds that the text stands for under the notes of both, or tells its first fault with the key where it stands.
+//! docs/PAIRS.md, "Binds", says how they are written.
 //!
-//! The definitions that the contracts cite stand in specs/.
+//! Promises:
+//!
+//! - `read_binds`: `binds` says that it returns what `binds_of` says of the text under the notes of both images, the
+//!   binds or the first fault with its path. `agree` says of binds that were read that each agrees with the notes
+//!   (`AllAgree` of `pair_model`). It asks nothing of the notes.
+//! - Where memory runs out it says so, and its clauses say nothing more.
+//!
+//! It looks methods up by a hash where it seeks one that is bound again, and names in the lists of the notes: those of
+//! notes that were read have at most 1,024 methods and 4,096 functions. Each bind is tried with all signatures of A.
 #![tactic(auto)]
 
 ghost use Rattle.bind_texts.specs.BindTexts.{binds_in, binds_of};

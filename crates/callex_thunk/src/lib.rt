@@ -1,5 +1,15 @@
-//! The arguments of a native call, out of the stack of a machine and into the top frame of the host. Nothing is allocated.
-//! docs/HOST.md, "Steps", has the call step.
+//! The arguments of a native call: out of the stack of a machine, into the top frame of the host. It also says what a
+//! frame of the region is as a frame of the host in a run's state. No call takes memory. The crate stands on
+//! `host_model`, whose words its contracts cite, on `object_memory` and on `frame_stack`.
+//!
+//! Promises:
+//!
+//! - `gather`: the numbers of the argument slots, which lie from R0 on, stand in the first slots of the top frame, and
+//!   nothing else of the frames changes (`copied`). `Stack` comes exactly where a slot isn't mapped (`stack`), and then
+//!   the frames are as they were (`same`). It reads each slot twice, once before the first is written. It needs a frame
+//!   and a signature of at most 16 parameters.
+//! - `slot_bytes`: how many bytes a slot of a kind takes at a width (`bytes`): 4 or 8 (`access`, `most`).
+//! - `NO_ENTRY`: the entry in a frame above which no call is under way that the script answers.
 #![tactic(auto)]
 
 mod slots;

@@ -1,11 +1,10 @@
-//! What a program takes of the system, and what it says to it: its words, its exit status, and its line on standard error.
+//! What a program takes of the system, and what it says to it: its words and its exit status.
 ghost use Rattle.std.specs.Prelude.{◌≡◌, ◌≢◌, [], IfErr, IfOk, IsErr, IsOkAnd, drop};
 ghost use Rattle.std.specs.Process as process;
 ghost use Rattle.std.specs.Vec.Iter.{into_iter_items};
 ghost use Rattle.std_io.specs.IoError.{error_kind};
 ghost use Rattle.std_io.specs.declared.io.kind.ErrorKind.TheVariants.{OutOfMemory};
 ghost use Rattle.cli_base.specs.Outcomes.{exit_status};
-ghost use Rattle.cli_base.specs.Words.{complaint_of};
 
 use crate::outcome::Outcome;
 use std::alloc::{AllocError, Global};
@@ -38,33 +37,9 @@ pub fn words_of<R: Env + AllocGlobal>(rt: &R) -> Result<Vec<String>, AllocError>
     words_in(rt.alloc(), env::args(rt))
 }
 
-// What is said after the program's name on standard error of an outcome that prints no answer, or only a part of it.
-fn complaint(outcome: Outcome) -> &'static str
-    ensures { result.now ≡ complaint_of outcome }
-{
-    match outcome {
-        Outcome::ReadFault => "a file could not be read",
-        Outcome::WriteFault => "the output could not be written",
-        Outcome::NoMemory => "memory ran out",
-        _ => "",
-    }
-}
-
 /// The status with which a program ends after an outcome.
 pub fn status(outcome: Outcome) -> ExitCode
     ensures { process.exit_status result ≡ exit_status outcome }
 {
     ExitCode::from(outcome.code())
-}
-
-/// Says on standard error, after the program's name, what there is to say of an outcome, and gives the status with which the program ends.
-pub fn ended<R: io::Eprint>(rt: &R, name: &str, outcome: Outcome) -> ExitCode
-    ensures { process.exit_status result ≡ exit_status outcome }
-{
-    let complaint = complaint(outcome);
-    if !complaint.is_empty() {
-        // The exit status tells the outcome also where this line can't be printed.
-        let _ = eprint!(rt; "{name}: {complaint}\n");
-    }
-    status(outcome)
 }

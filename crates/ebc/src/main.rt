@@ -1,28 +1,40 @@
-//! The program `ebc`. docs/COMMANDS.md lists its commands, what they print and its exit status.
+//! The program: it gathers its words, calls `ebc` of ebc_cli over the system's files and standard output, says on
+//! standard error where the outside failed, and ends with the exit status of the outcome.
+//!
+//! Promises:
+//!
+//! - `main` ends with `status` of cli_base. No clause can say so, and `.ci/checks` tries the statuses from a shell.
+//! - `outcome`: want of memory for the words is told as such (`memory`).
+//! - What is answered, printed and read is what `ebc` of ebc_cli promises. What the system's files hold and what its
+//!   output takes is told by no clause.
 #![tactic(auto)]
 
 ghost use Rattle.std.specs.Prelude.{◌≡◌, IsErr};
 
-use cli_base::{ended, words_of};
+use cli_base::{status, words_of};
 use ebc_cli::{Outcome, ebc};
 use ebc_outside::{HostFolder, HostSink};
+use explain::{Program, Watched, say_no_memory, tell};
+use kept_files::Kept;
 use std::alloc::AllocError;
 use std::io;
 use std::process::ExitCode;
 
-// The outcome of the words, where there was memory for them, over the system's files and output.
+// The outcome of the words, where there was memory for them, over the system's files and output. What there is to say of it is said.
 fn outcome(rt: &HostRuntime, words: Result<Vec<String>, AllocError>) -> Outcome
     ensures memory { IsErr words → result ≡ Outcome.NoMemory }
 {
     let Ok(words) = words else {
+        say_no_memory(rt, Program::Ebc);
         return Outcome::NoMemory;
     };
-    let mut folder = HostFolder::new(rt);
-    let mut out = HostSink::new(io::writer(rt));
-    ebc(rt.alloc(), &words, &mut folder, &mut out)
+    let mut folder = Kept::new(rt.alloc(), HostFolder::new(rt));
+    let mut out = Watched::new(HostSink::new(io::writer(rt)));
+    let outcome = ebc(rt.alloc(), &words, &mut folder, &mut out);
+    tell(rt, Program::Ebc, &words, outcome, folder, &out);
+    outcome
 }
 
 fn main(rt: HostRuntime) -> ExitCode {
-    let outcome = outcome(&rt, words_of(&rt));
-    ended(&rt, "ebc", outcome)
+    status(outcome(&rt, words_of(&rt)))
 }

@@ -11,7 +11,7 @@ use Rattle.note_types.specs.declared.notes.Point.{Point}
 use Rattle.note_types.specs.declared.rule.RuleName.{RuleName}
 use Rattle.note_types.specs.declared.state.State.{State}
 use Rattle.pe_image.specs.declared.image.Image.{Image}
-use Rattle.point_finder.proofs.OneAnswer.{inferred_once}
+use Rattle.note_infer.proofs.OneAnswer.{inferred_once}
 use Rattle.point_texts.specs.PrintedStates.{points_text}
 use Rattle.width_checker.specs.Typed.{Typed}
 use Rattle.cli_base.specs.declared.outcome.Outcome.{Outcome}

@@ -15,8 +15,8 @@ use Rattle.run_texts.specs.RunTexts.{differ_line, twin_text}
 use Rattle.twin_run.specs.Differs.{DifferAt}
 use Rattle.twin_run.proofs.Differing.{one_differs}
 use Rattle.twin_run.proofs.Runs.{typed_never_differ}
-use Rattle.typed_pairs.proofs.Typed.{typed_pairs_are_same}
-use Rattle.typed_pairs.specs.TypedPairs.{IsTypedPair}
+use Rattle.pair_laws.proofs.Typed.{typed_pairs_are_same}
+use Rattle.pair_laws.specs.TypedPairs.{IsTypedPair}
 use Rattle.width_checker.specs.Typed.{Typed}
 use Rattle.cli_base.specs.declared.outcome.Outcome.{Outcome}
 use Rattle.cli_base.specs.declared.outcome.Outcome.TheVariants as outcomes

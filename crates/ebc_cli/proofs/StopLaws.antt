@@ -14,7 +14,7 @@ use Rattle.option_rom.specs.declared.image.RomImage.{RomImage}
 use Rattle.option_rom.proofs.Walks.{fault-read, read-fault, read-rom, rom-read}
 use Rattle.plain_check.specs.declared.verdict.Verdict.{Verdict}
 use Rattle.plain_check.specs.declared.verdict.Verdict.TheVariants.{Neutral, Refused}
-use Rattle.point_finder.proofs.OneAnswer.{inferred_once}
+use Rattle.note_infer.proofs.OneAnswer.{inferred_once}
 use Rattle.cli_base.specs.declared.outcome.Outcome.{Outcome}
 use Rattle.cli_base.specs.declared.outcome.Outcome.TheVariants as outcomes
 use Rattle.cli_base.specs.declared.reply.Reply.{Reply}

@@ -1,9 +1,9 @@
 //! The commands of the program `ebc`: what the words ask for, over a folder of files and an output.
 //!
-//! The one public call is [`ebc`]. docs/COMMANDS.md lists the commands, the lines that they print and the exit
-//! status; docs/RULES.md has the rules of the check of images, docs/PLAIN.md those of the plain check,
-//! docs/ASSEMBLY.md the language of sources and what is listed of an image, docs/HOST.md what a run is, docs/OBJECTS.md the file of an object, and docs/ROMS.md
-//! option ROMs.
+//! The one public call is [`ebc`]. docs/COMMANDS.md lists the commands, the lines that they print and the exit status;
+//! docs/RULES.md has the rules of the check of images, docs/PLAIN.md those of the plain check, docs/ASSEMBLY.md the
+//! language of sources and what is listed of an image, docs/HOST.md what a run is, docs/OBJECTS.md the file of an
+//! object, and docs/ROMS.md option ROMs.
 #![tactic(auto)]
 
 mod answer;

@@ -1,5 +1,20 @@
 //! Reading and writing the instructions of EFI Byte Code (UEFI specification, chapter "EFI Byte Code Virtual Machine",
 //! section "Instruction Encoding").
+//!
+//! Promises:
+//!
+//! - `decode`: `found` says that what is answered is well formed and spelled by the bytes of its length; `length`, that
+//!   these are at least 2 and lie within the code; `only`, that what is spelled there is answered, whatever follows;
+//!   `none`, that under a fault no instruction is spelled there; `reading`, that the answer is the definition's, with
+//!   each fault in its order.
+//! - `decode_first`: what `decode` answers at place 0, as a `Decoded`: well formed (`well_formed`), and as a result the
+//!   definition's answer (`reading`). Its number has no part in the answer: code of its own is made for each, so that
+//!   the compiler puts it into a caller that alone uses it.
+//! - `encode`: of a well-formed instruction, `spelled` gives its spelling, and `read_again` says that this reads as the
+//!   instruction with its length, whatever follows.
+//! - `one_spelling`: no spelling is a proper prefix of another.
+//! - `reserved_is_exact`: two bytes with an opcode of a spelling are refused as reserved, or for the index of a direct
+//!   operand, exactly where they begin no spelling.
 #![tactic(auto)]
 
 mod bits;

@@ -1,5 +1,12 @@
 //! The instructions of EFI Byte Code (UEFI specification, chapter "EFI Byte Code Virtual Machine"): which of them have
 //! a spelling, by which parts they are spelled, and how long the spelling is.
+//!
+//! Promises:
+//!
+//! - `well_formed`: true exactly where the instruction has a spelling.
+//! - `len`: of an instruction with a spelling, `spelled` gives the length of that, and `range` says that it is 2 to 18.
+//! - `parts`: the two bytes and the two fields that spell an instruction.
+//! - `Field::size`: how many bytes a field has.
 #![tactic(auto)]
 
 mod code;

@@ -1,5 +1,16 @@
-//! The machine of EFI Byte Code at a pointer width of 4 or 8 bytes, one step at a time (UEFI specification, chapter "EFI
-//! Byte Code Virtual Machine"). docs/MACHINE.md has the step in words.
+//! The machine of EFI Byte Code at a pointer width of 4 or 8 bytes, one step at a time (UEFI specification, chapter
+//! "EFI Byte Code Virtual Machine"). docs/MACHINE.md has the step in words.
+//!
+//! Promises:
+//!
+//! - `Machine::step`: `step` says that how the step ends, and the machine and its memory after it, are those of the
+//!   definition's step on them; `objects`, that the objects of the memory and its limits are as they were; `raised`,
+//!   that a step that raises leaves machine and memory as they were.
+//! - `machine_is_concrete`: a memory of the width and a machine whose registers, ip and gate are numbers of 64 bits,
+//!   with no flag set but C and the single step, are in numbers a state that a machine of that width can be in
+//!   (`IsConcrete` of `note_types`). `step_keeps_concrete`: from each such state a step leads to such a state, wherever
+//!   its objects lie.
+//! - `Side`: an operand with what stands beside it as a number, of which the definitions of the rows speak.
 #![tactic(auto)]
 
 mod access;

@@ -1,28 +1,40 @@
-//! The program `ebc_notes`: complete notes from notes with labels. docs/LABELS.md has its words, its lines and its exit status.
+//! The program of `label_notes`: it gathers its words, calls `notes` over the system's files and standard output, says
+//! on standard error where the outside failed, and ends with the exit status of the outcome. docs/LABELS.md has its
+//! words and its lines.
+//!
+//! Promises:
+//!
+//! - `outcome`: want of memory for the words is told as such (`memory`).
+//! - What is answered, printed and read is what `notes` of label_notes promises. What the system's files hold and what
+//!   its output takes is told by no clause.
 #![tactic(auto)]
 
 ghost use Rattle.std.specs.Prelude.{◌≡◌, IsErr};
 
-use cli_base::{ended, words_of};
+use cli_base::{status, words_of};
 use ebc_outside::{HostFolder, HostSink};
+use explain::{Program, Watched, say_no_memory, tell};
+use kept_files::Kept;
 use label_notes::{Outcome, notes};
 use std::alloc::AllocError;
 use std::io;
 use std::process::ExitCode;
 
-// The outcome of the words, where there was memory for them, over the system's files and output.
+// The outcome of the words, where there was memory for them, over the system's files and output. What there is to say of it is said.
 fn outcome(rt: &HostRuntime, words: Result<Vec<String>, AllocError>) -> Outcome
     ensures memory { IsErr words → result ≡ Outcome.NoMemory }
 {
     let Ok(words) = words else {
+        say_no_memory(rt, Program::EbcNotes);
         return Outcome::NoMemory;
     };
-    let mut folder = HostFolder::new(rt);
-    let mut out = HostSink::new(io::writer(rt));
-    notes(rt.alloc(), &words, &mut folder, &mut out)
+    let mut folder = Kept::new(rt.alloc(), HostFolder::new(rt));
+    let mut out = Watched::new(HostSink::new(io::writer(rt)));
+    let outcome = notes(rt.alloc(), &words, &mut folder, &mut out);
+    tell(rt, Program::EbcNotes, &words, outcome, folder, &out);
+    outcome
 }
 
 fn main(rt: HostRuntime) -> ExitCode {
-    let outcome = outcome(&rt, words_of(&rt));
-    ended(&rt, "ebc_notes", outcome)
+    status(outcome(&rt, words_of(&rt)))
 }

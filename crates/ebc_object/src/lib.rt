@@ -1,6 +1,15 @@
-//! Object files: code, data, symbols and fixups, read, written and tried. docs/OBJECTS.md describes the file.
+//! Objects, which an assembler makes and a linker joins: read, written and tried. docs/OBJECTS.md describes the file,
+//! and each fault.
 //!
-//! The definitions that the contracts cite stand in specs/, one subject a file.
+//! Promises:
+//!
+//! - `read_object`: `reading` says that the answer is what the file stands for: the object, or the kind and the offset
+//!   of the first field that fails, or want of memory. `format` says that the file is the file of the object that is
+//!   read, byte for byte, and `sound` that this object meets the conditions.
+//! - `write_object`: of an object that meets the conditions `format` says which file it gives, byte for byte, and
+//!   `read_again` that this file stands for that object. It fails only by want of memory.
+//! - `object_ok`: whether an object meets the conditions. It takes no memory.
+//! - `Object`, `Symbol` and `Fixup` are seen as records of plain numbers and lists.
 #![tactic(auto)]
 
 mod conditions;

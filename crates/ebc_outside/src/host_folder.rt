@@ -23,11 +23,14 @@ use std::rt::Files;
 /// takes the name once it is whole: where that fails, what has the name stays as it is. A device, a
 /// pipe or the target of a link is written in place, and is emptied first where it can be. Once a
 /// file is made or emptied, each error is a fault, want of memory among them.
+///
+/// The last error that ended a call is kept, for what is said to a reader.
 #[derive(Drop)]
 pub struct HostFolder<'a, R: Files> {
     rt: &'a R,
     read_faults: u64,
     write_faults: u64,
+    cause: Option<Error>,
 }
 
 impl<'a, R: Files> Model for HostFolder<'a, R> {
@@ -48,7 +51,13 @@ impl<'a, R: Files> HostFolder<'a, R> {
             rt,
             read_faults: 0,
             write_faults: 0,
+            cause: None,
         }
+    }
+
+    /// The error with which the system last ended a read or a write, if there was one.
+    pub fn cause(&self) -> Option<&Error> {
+        self.cause.as_ref()
     }
 }
 
@@ -71,7 +80,7 @@ impl<'a, R: Files> Folder for HostFolder<'a, R> {
         ensures write_faults { self.new.write_faults ≡ self.old.write_faults }
     {
         let faults = self.read_faults;
-        let answer = read_file(self.rt, alloc, name, limit);
+        let answer = read_file(self.rt, alloc, name, limit, &mut self.cause);
         if matches!(answer, Err(ReadEnd::Missing | ReadEnd::Fault)) {
             self.read_faults = faults.saturating_add(1);
         }
@@ -86,7 +95,7 @@ impl<'a, R: Files> Folder for HostFolder<'a, R> {
         ensures read_faults { self.new.read_faults ≡ self.old.read_faults }
     {
         let faults = self.write_faults;
-        let answer = write_file(self.rt, alloc, name, bytes);
+        let answer = write_file(self.rt, alloc, name, bytes, &mut self.cause);
         if answer == Err(WriteEnd::Fault) {
             self.write_faults = faults.saturating_add(1);
         }
@@ -94,10 +103,21 @@ impl<'a, R: Files> Folder for HostFolder<'a, R> {
     }
 }
 
-fn read_file<R: Files>(rt: &R, alloc: Global, name: &str, limit: u64) -> Result<Vec<u8>, ReadEnd> {
+// The first bytes of a file, up to one more than the limit. An error that ends the read is kept.
+fn read_file<R: Files>(
+    rt: &R,
+    alloc: Global,
+    name: &str,
+    limit: u64,
+    cause: &mut Option<Error>,
+) -> Result<Vec<u8>, ReadEnd> {
     match fs::open(rt, name) {
-        Ok(mut file) => read_head(&mut file, alloc, limit),
-        Err(error) => Err(open_end(&error)),
+        Ok(mut file) => read_head(&mut file, alloc, limit, cause),
+        Err(error) => {
+            let end = open_end(&error);
+            *cause = Some(error);
+            Err(end)
+        }
     }
 }
 
@@ -124,8 +144,13 @@ fn end_of(error: &Error) -> ReadEnd
 // The most bytes that one call of `read` is asked for.
 const PIECE: u64 = 4096;
 
-// The first bytes that the reader gives, up to one more than the limit.
-fn read_head<R: Read>(reader: &mut R, alloc: Global, limit: u64) -> Result<Vec<u8>, ReadEnd>
+// The first bytes that the reader gives, up to one more than the limit. An error that ends the read is kept.
+fn read_head<R: Read>(
+    reader: &mut R,
+    alloc: Global,
+    limit: u64,
+    cause: &mut Option<Error>,
+) -> Result<Vec<u8>, ReadEnd>
     ensures { IfOk result (λ bytes.
         IfSome (R.remaining reader.old) (λ rest. bytes.items ≡ take (limit + 1) rest)) }
 {
@@ -136,7 +161,11 @@ fn read_head<R: Read>(reader: &mut R, alloc: Global, limit: u64) -> Result<Vec<u
         let count = match reader.read(&mut piece[..most]) {
             Ok(0) => return Ok(bytes),
             Ok(count) => count,
-            Err(error) => return Err(end_of(&error)),
+            Err(error) => {
+                let end = end_of(&error);
+                *cause = Some(error);
+                return Err(end);
+            }
         };
         bytes.extend_from_slice(&piece[..count])?;
     }
@@ -172,9 +201,12 @@ mod tests {
     #[test]
     fn a_reader_that_breaks_off_is_a_fault(rt: HostRuntime) -> Result<(), Fail> {
         let alloc = rt.alloc();
-        let head = read_head(&mut Broken { left: 3 }, alloc, 2)?;
+        let head = read_head(&mut Broken { left: 3 }, alloc, 2, &mut None)?;
         assert!(rt; head.as_slice() == b"xxx".as_slice());
-        assert!(rt; read_head(&mut Broken { left: 3 }, alloc, 3).err() == Some(ReadEnd::Fault));
+        let mut cause = None;
+        let broken = read_head(&mut Broken { left: 3 }, alloc, 3, &mut cause);
+        assert!(rt; broken.err() == Some(ReadEnd::Fault));
+        assert!(rt; matches!(&cause, Some(error) if error.kind() == ErrorKind::Interrupted));
         Ok(())
     }
 }

@@ -8,7 +8,7 @@ use crate::ends::SinkEnd;
 use crate::sink::Sink;
 use crate::whole::write_whole;
 use std::alloc::Global;
-use std::io::Write;
+use std::io::{Error, Write};
 use std::marker::Model;
 
 /// A sink over the standard output, or any writer. It tells no text.
@@ -16,10 +16,13 @@ use std::marker::Model;
 /// A put is a fault, and is counted, where the writer answers with an error, an interruption among
 /// them, or takes nothing of a non-empty piece. Only where it is refused memory before it took any
 /// byte, the put answers `NoMemory` and is not counted.
+///
+/// The last error that ended a put is kept, for what is said to a reader.
 #[derive(Drop)]
 pub struct HostSink<W: Write> {
     writer: W,
     faults: u64,
+    cause: Option<Error>,
 }
 
 impl<W: Write> Model for HostSink<W> {
@@ -38,7 +41,16 @@ impl<W: Write> HostSink<W> {
         ensures writer { result.writer ≡ writer }
         ensures faults { result.faults ≡ 0 }
     {
-        HostSink { writer, faults: 0 }
+        HostSink {
+            writer,
+            faults: 0,
+            cause: None,
+        }
+    }
+
+    /// The error with which the system last ended a put, if there was one.
+    pub fn cause(&self) -> Option<&Error> {
+        self.cause.as_ref()
     }
 }
 
@@ -62,7 +74,7 @@ impl<W: Write> Sink for HostSink<W> {
             Keeps (W.contents self.old.writer) (W.contents self.new.writer) }
     {
         let faults = self.faults;
-        let answer = write_whole(&mut self.writer, bytes);
+        let answer = write_whole(&mut self.writer, bytes, &mut self.cause);
         if answer == Err(SinkEnd::Fault) {
             self.faults = faults.saturating_add(1);
         }

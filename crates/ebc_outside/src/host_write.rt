@@ -8,12 +8,12 @@ ghost use Rattle.ebc_outside.specs.Answers.{create_end_of};
 use crate::ends::WriteEnd;
 use crate::whole::write_whole;
 use std::alloc::{AllocError, Global};
-use std::fs;
 use std::fs::{OpenFile, OpenOptions, Permissions};
 use std::io::{Error, ErrorKind, Write};
 use std::os::unix::fs::{OpenOptionsExt, PermissionsExt};
 use std::path::{Path, PathBuf};
 use std::rt::Files;
+use std::{fs, io};
 
 // How many names are tried for a new file: other runs may have some at the moment, and runs that were killed leave theirs.
 const NAMES: u32 = 100;
@@ -28,32 +28,40 @@ const NEW: u32 = 0o666;
 /// regular file is written in place.
 ///
 /// A `Fault` leaves a regular file as it was, and none where there was none. `NoMemory` leaves
-/// everything.
+/// everything. An error that ends the write is kept.
 pub fn write_file<R: Files>(
     rt: &R,
     alloc: Global,
     name: &str,
     bytes: &[u8],
+    cause: &mut Option<Error>,
 ) -> Result<(), WriteEnd> {
     match fs::symlink_metadata(rt, name) {
         Ok(found) if found.is_file() => {
             // A file that may not be written is not replaced either.
             if let Err(error) = OpenOptions::new().write(true).open(rt, name) {
-                return Err(create_end(&error));
+                return Err(refused(error, cause));
             }
             let mode = found.permissions().mode() & KEPT;
-            replace(rt, alloc, name, bytes, Some(mode))
+            replace(rt, alloc, name, bytes, Some(mode), cause)
         }
-        Ok(_) => write_in_place(rt, name, bytes),
-        Err(error) if error.kind() == ErrorKind::NotFound => replace(rt, alloc, name, bytes, None),
-        Err(error) => Err(create_end(&error)),
+        Ok(_) => write_in_place(rt, name, bytes, cause),
+        Err(error) if error.kind() == ErrorKind::NotFound => {
+            replace(rt, alloc, name, bytes, None, cause)
+        }
+        Err(error) => Err(refused(error, cause)),
     }
 }
 
-fn write_in_place<R: Files>(rt: &R, name: &str, bytes: &[u8]) -> Result<(), WriteEnd> {
+fn write_in_place<R: Files>(
+    rt: &R,
+    name: &str,
+    bytes: &[u8],
+    cause: &mut Option<Error>,
+) -> Result<(), WriteEnd> {
     match fs::create(rt, name) {
-        Ok(mut file) => write_whole(&mut file, bytes).map_err(|_| WriteEnd::Fault),
-        Err(error) => Err(create_end(&error)),
+        Ok(mut file) => write_whole(&mut file, bytes, cause).map_err(|_| WriteEnd::Fault),
+        Err(error) => Err(refused(error, cause)),
     }
 }
 
@@ -64,10 +72,11 @@ fn replace<R: Files>(
     name: &str,
     bytes: &[u8],
     mode: Option<u32>,
+    cause: &mut Option<Error>,
 ) -> Result<(), WriteEnd> {
-    let (beside, file) = create_beside(rt, alloc, name, mode.unwrap_or(NEW))?;
-    if fill(file, bytes, mode).is_ok()
-        && fs::rename(rt, beside.as_path(), Path::new(name)).is_ok()
+    let (beside, file) = create_beside(rt, alloc, name, mode.unwrap_or(NEW), cause)?;
+    if fill(file, bytes, mode, cause).is_ok()
+        && done(fs::rename(rt, beside.as_path(), Path::new(name)), cause).is_ok()
     {
         return Ok(());
     }
@@ -82,6 +91,7 @@ fn create_beside<R: Files>(
     alloc: Global,
     name: &str,
     mode: u32,
+    cause: &mut Option<Error>,
 ) -> Result<(PathBuf, R::File), WriteEnd> {
     for number in 0..NAMES {
         let beside = name_beside(alloc, name, number)?;
@@ -93,7 +103,7 @@ fn create_beside<R: Files>(
         {
             Ok(file) => return Ok((beside, file)),
             Err(error) if error.kind() == ErrorKind::AlreadyExists => {}
-            Err(error) => return Err(create_end(&error)),
+            Err(error) => return Err(refused(error, cause)),
         }
     }
     Err(WriteEnd::Fault)
@@ -112,14 +122,34 @@ fn fill<F: Write + OpenFile + Drop>(
     mut file: F,
     bytes: &[u8],
     mode: Option<u32>,
+    cause: &mut Option<Error>,
 ) -> Result<(), WriteEnd> {
-    write_whole(&mut file, bytes).map_err(|_| WriteEnd::Fault)?;
+    write_whole(&mut file, bytes, cause).map_err(|_| WriteEnd::Fault)?;
     if let Some(mode) = mode {
         let permissions = Permissions::from_mode(mode);
-        file.set_permissions(permissions)
-            .map_err(|_| WriteEnd::Fault)?;
+        done(file.set_permissions(permissions), cause)?;
     }
-    file.sync_all().map_err(|_| WriteEnd::Fault)
+    done(file.sync_all(), cause)
+}
+
+// What came of a call once a file was made or emptied: each error is a fault then, and is kept.
+fn done(answer: io::Result<()>, cause: &mut Option<Error>) -> Result<(), WriteEnd> {
+    match answer {
+        Ok(()) => Ok(()),
+        Err(error) => {
+            *cause = Some(error);
+            Err(WriteEnd::Fault)
+        }
+    }
+}
+
+// How a write ends that met this error before a file was made or emptied. The error is kept.
+fn refused(error: Error, cause: &mut Option<Error>) -> WriteEnd
+    ensures { result ≡ create_end_of (error_kind error) }
+{
+    let end = create_end(&error);
+    *cause = Some(error);
+    end
 }
 
 // How a write ends that met this error before a file was made or emptied.

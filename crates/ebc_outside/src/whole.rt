@@ -7,8 +7,12 @@ ghost use Rattle.ebc_outside.specs.Answers.{put_end_of};
 use crate::ends::SinkEnd;
 use std::io::{Error, ErrorKind, Write};
 
-/// Gives the writer all the bytes, and has it hand them on.
-pub fn write_whole<W: Write>(writer: &mut W, bytes: &[u8]) -> Result<(), SinkEnd>
+/// Gives the writer all the bytes, and has it hand them on. An error that ends it is kept.
+pub fn write_whole<W: Write>(
+    writer: &mut W,
+    bytes: &[u8],
+    cause: &mut Option<Error>,
+) -> Result<(), SinkEnd>
     ensures whole { OnOk result
         (Appends (W.contents writer.old) (W.contents writer.new) bytes.now) }
     ensures part { IsErrOf result SinkEnd.Fault → (count : ℕ) ×
@@ -21,12 +25,19 @@ pub fn write_whole<W: Write>(writer: &mut W, bytes: &[u8]) -> Result<(), SinkEnd
         match writer.write(&bytes[done..]) {
             Ok(0) => return Err(SinkEnd::Fault),
             Ok(count) => done += count,
-            Err(error) => return Err(end_of(&error, done)),
+            Err(error) => {
+                let end = end_of(&error, done);
+                *cause = Some(error);
+                return Err(end);
+            }
         }
     }
     match writer.flush() {
         Ok(()) => Ok(()),
-        Err(_) => Err(SinkEnd::Fault),
+        Err(error) => {
+            *cause = Some(error);
+            Err(SinkEnd::Fault)
+        }
     }
 }
 

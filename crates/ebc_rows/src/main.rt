@@ -1,5 +1,5 @@
-//! Calls `ebc` over files in memory, row by row, as the lines of the standard input say, and prints what each call answers,
-//! prints and writes. docs/crates/ebc_rows.md has the lines.
+//! Calls `ebc` over files in memory, row by row, as the lines of the standard input say, and prints what each call
+//! answers, prints and writes. docs/crates/ebc_rows.md has the lines.
 #![tactic(auto)]
 
 mod file;

@@ -1,5 +1,13 @@
-//! What a number means where pointers have 4 or 8 bytes. `W` is the width of a pointer in bytes.
-//! UEFI specification, chapter "EFI Byte Code Virtual Machine".
+//! What a number means where a pointer has 4 or 8 bytes, and how numbers lie in bytes by their addresses. The width is
+//! a parameter, and each law is proved once for both. It stands on no other crate.
+//!
+//! Promises:
+//!
+//! Each call needs a width of 4 or 8 (`IsWidth`).
+//!
+//! - `cut`: the low bytes of a number, as `cut_at` has them.
+//! - `extend`: these bytes with their sign in 64 bits, as `extended_at` has them.
+//! - `linear`: the number of so many natural units and bytes, modulo 2^64, as `linear_at` has it.
 #![tactic(auto)]
 
 ghost use Rattle.std.specs.Prelude.{◌≡◌};

@@ -1,5 +1,23 @@
-//! Entering a function for the host, and leaving it: the steps between a machine and the frames of the host. No call takes
-//! memory. docs/HOST.md, "The start", has both in words.
+//! Entering a function for the host, and leaving it: what goes between a machine, the cells below its R0 and the frames
+//! of the host. No call takes memory. docs/HOST.md, "The start", has both in words. The crate stands on `ebc_machine`,
+//! `frame_stack` and `host_model`, whose words its contracts cite, and on `callex_thunk`, which says what a frame
+//! stands for.
+//!
+//! Promises:
+//!
+//! - `enter`: the machine is inside the function, with the arguments and a return cell below R0 (`inside`), and on top
+//!   of the frames is one that keeps what the machine held (`frame`), which stands for the frame of the host that the
+//!   definitions have (`saved`). `TooDeep` comes exactly where there are nine frames (`deep`); `StackFault` exactly
+//!   where there are fewer and the cells below R0 aren't mapped (`fault`). After either, machine, memory and frames are
+//!   as they were (`machine`, `memory`, `frames`). The memory has the same objects and limits (`objects`). It needs a
+//!   kind of slot for each argument, at most 16 of them, and a number of a function below 2^31. The parameters in the
+//!   definitions have types too, which don't count here.
+//! - `notify`: the same, under the same conditions, but that the frame is one of a notification: its number for the
+//!   function is greater by 2^31 (`frame`, `saved`).
+//! - `leave`: the machine is outside the function of the top frame, or, where that was entered as a notification, as it
+//!   was before, R7 too (`machine`); the frame is taken away (`frames`). The function's number, R7 as it was where the
+//!   function returned, and whether it was a notification are told (`func`, `r7`, `notified`). None exactly where there
+//!   is no frame (`none`), and then the machine is as it was (`same`).
 #![tactic(auto)]
 
 mod cells;

@@ -1,4 +1,20 @@
 //! The frames of a host in one region, the last one first. Nothing is allocated once a stack is made.
+//!
+//! Promises:
+//!
+//! - `FrameStack::new`: no frame (no name). It fails only with `NoMemory`, and no other call takes memory.
+//! - `push`: false exactly where there are nine frames (`full`), and then nothing changes (`same`); else the frame is
+//!   on top of the others (`pushed`).
+//! - `pop`: the top frame, with the others left (`popped`); none exactly where there is none (`none`), and then nothing
+//!   changes (`same`).
+//! - `slot`: a slot of the frame that has so many frames below it (no name).
+//! - `set_slot`, `set_mark`: the top frame has another number in a slot, or another entry, callback and count, and
+//!   nothing else changes (`after`); there are as many frames as before (`len`).
+//! - `mark`: the entry, the callback and the count of the top frame (`entry`, `callback`, `count`).
+//! - `depth`: how many frames there are (`count`), at most nine (`few`).
+//! - `region`: the region, of 2,016 bytes (`len`), where the bytes of each frame are that frame's fields (`frames`).
+//!
+//! `slot`, `set_slot`, `set_mark` and `mark` need a frame (`frame`), and a slot from 0 to 15 (`slot`).
 #![tactic(auto)]
 
 ghost use Rattle.std.specs.Prelude.{◌≡◌, ℕ, ◌+◌, ◌*◌, ◌<◌, ◌≤◌, ◌↔◌, [], ◌∷◌, length, slice_get, slice_index, false, IfOk, IfSome, IfNone, Some};

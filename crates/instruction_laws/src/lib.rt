@@ -1,5 +1,27 @@
-//! The laws of an instruction: what the machine does at a width is what the neutral machine does at both, wherever that isn't
-//! stuck and the stack has room. docs/SIMULATION.md says them in words.
+//! The laws of an instruction: what the machine does at a width is what the neutral machine does at both, wherever that
+//! isn't stuck and the stack has room. docs/SIMULATION.md says them in words.
+//!
+//! Promises:
+//!
+//! - `one_instruction`: one instruction, every form, at either width.
+//! - `one_step`: one step of the machine, from the bytes at ip.
+//! - `room_after`: the stack has room for an instruction where it has room for the frames that the neutral machine
+//!   gives.
+//! - `hosts_kept`: the frames that the host saved show after an instruction as before.
+//! - `run_kept`: an instruction leaves the script place, the events and the ending alone.
+//! - `world_meets`: the world of a run is as the laws ask, where the image keeps the rules on shapes, functions, static
+//!   objects and thunk cells.
+//! - `instruction_read`: the decoder reads an instruction that keeps the rule on decoding, at its place in the image.
+//! - `instruction_there`: the machine is at the image's instruction, a relocated immediate moved, where that
+//!   instruction keeps the rules on decoding and relocations.
+//! - `same_executed`: the neutral machine does the same for the image's instruction and for the machine's.
+//! - `image_step`: one step of the machine at an instruction of such an image does what the neutral machine does with
+//!   it.
+//! - `image_run_step`: the same in a run, whose whole state then stands for the configuration that the neutral machine
+//!   gives.
+//!
+//! Nothing is said of an instruction at which the neutral machine is stuck. docs/LAWS.md, "What the laws ask", says
+//! where each premise is met.
 #![tactic(auto)]
 
 ghost use Rattle.instruction_laws.specs.Laws.{HostsKept, OneInstruction, OneStep, RoomAfter, RunKept};

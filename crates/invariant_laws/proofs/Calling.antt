@@ -40,13 +40,13 @@ use Rattle.host_model.specs.Scripts.{IsScript, all_made}
 use Rattle.host_model.specs.Values.{Neutral}
 use Rattle.host_model.specs.World.{World}
 use Rattle.ebc_base.proofs.Lists.{slice_get-append_left, slice_get-append_right, within_some}
-use Rattle.typed_runs.specs.Asked.{ArgumentFits, ArgumentsFit}
-use Rattle.typed_runs.specs.Later.{Later}
-use Rattle.typed_runs.specs.Live.{live_memory}
-use Rattle.typed_runs.specs.Sound.{CellsFit, SoundBelow}
-use Rattle.typed_runs.specs.Waiting.{States, AsksWell, WaitsNative}
-use Rattle.typed_runs.specs.Endings.{RaisesOnlyDivideError}
-use Rattle.typed_runs.specs.Holds.{TopHolds, Holds}
+use Rattle.invariant_laws.specs.Asked.{ArgumentFits, ArgumentsFit}
+use Rattle.invariant_laws.specs.Later.{Later}
+use Rattle.invariant_laws.specs.Live.{live_memory}
+use Rattle.invariant_laws.specs.Sound.{CellsFit, SoundBelow}
+use Rattle.invariant_laws.specs.Waiting.{States, AsksWell, WaitsNative}
+use Rattle.invariant_laws.specs.Endings.{RaisesOnlyDivideError}
+use Rattle.invariant_laws.specs.Holds.{TopHolds, Holds}
 use Rattle.invariant_laws.specs.Hosted.{RunWorld, HostGoesOn}
 use Rattle.invariant_laws.proofs.Later.{live, live_some, live_later}
 use Rattle.invariant_laws.proofs.Chains.{arguments_later, waits_later, chain_later}
@@ -56,7 +56,7 @@ use Rattle.invariant_laws.proofs.Readings.{arguments_read}
 use Rattle.invariant_laws.proofs.Filling.{AreFirst, AreMade, filled_fit, filled_later}
 use Rattle.invariant_laws.proofs.Leaving.{host_goes_on, ended_holds}
 use Rattle.neutral_machine.proofs.PlacedObjects.{placed_in_all}
-use Rattle.typed_runs.proofs.LaterFits.{later_trans}
+use Rattle.invariant_laws.proofs.LaterFits.{later_trans}
 
 -- ---- how runs end with a script
 

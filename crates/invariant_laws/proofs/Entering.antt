@@ -34,12 +34,12 @@ use Rattle.host_model.specs.Values.{Neutral}
 use Rattle.host_model.specs.World.{World}
 use Rattle.neutral_machine.specs.Written.{value_as}
 use Rattle.neutral_machine.proofs.WrittenFits.{written_fits}
-use Rattle.typed_runs.specs.Live.{live_memory}
-use Rattle.typed_runs.specs.Sound.{ParamFits, ParamKind, ThunksFor, IsEntered, FramesKeep, SoundBelow}
-use Rattle.typed_runs.specs.Waiting.{States, BelowHost, Chain}
-use Rattle.typed_runs.specs.Endings.{RaisesOnlyDivideError}
-use Rattle.typed_runs.specs.Holds.{RunsAt, Holds}
-use Rattle.typed_runs.specs.Laws.{StatesFitBelow}
+use Rattle.invariant_laws.specs.Live.{live_memory}
+use Rattle.invariant_laws.specs.Sound.{ParamFits, ParamKind, ThunksFor, IsEntered, FramesKeep, SoundBelow}
+use Rattle.invariant_laws.specs.Waiting.{States, BelowHost, Chain}
+use Rattle.invariant_laws.specs.Endings.{RaisesOnlyDivideError}
+use Rattle.invariant_laws.specs.Holds.{RunsAt, Holds}
+use Rattle.invariant_laws.specs.LaterLaws.{StatesFitBelow}
 use Rattle.invariant_laws.specs.Hosted.{EntersAs, as_entry, as_point, HasStarts}
 use Rattle.invariant_laws.proofs.Chains.{chain_later, below_later}
 use Rattle.invariant_laws.proofs.Same.{SameMemory, same_later, live_same, frames_later, cells_same}

@@ -29,13 +29,13 @@ use Rattle.host_model.specs.Progress.{NativeCall, NoCall, Asked, Accepted, is_em
 use Rattle.host_model.specs.Readings.{sort_of_type}
 use Rattle.host_model.specs.Values.{Neutral, word}
 use Rattle.host_model.specs.World.{World}
-use Rattle.typed_runs.specs.Asked.{GivenByCall, GivenByNative}
-use Rattle.typed_runs.specs.Later.{Later, Preserves}
-use Rattle.typed_runs.specs.Live.{live_memory}
-use Rattle.typed_runs.specs.Sound.{SoundBelow, HostKeeps, IsEntered}
-use Rattle.typed_runs.specs.Waiting.{States, WaitsNative, WaitsBelow, InterruptedBelow, BelowMarked, BelowHost, Chain}
-use Rattle.typed_runs.specs.Endings.{RaisesOnlyDivideError}
-use Rattle.typed_runs.specs.Holds.{TopHolds, SpotHolds, GoesOnWell, Holds}
+use Rattle.invariant_laws.specs.Asked.{GivenByCall, GivenByNative}
+use Rattle.invariant_laws.specs.Later.{Later, Preserves}
+use Rattle.invariant_laws.specs.Live.{live_memory}
+use Rattle.invariant_laws.specs.Sound.{SoundBelow, HostKeeps, IsEntered}
+use Rattle.invariant_laws.specs.Waiting.{States, WaitsNative, WaitsBelow, InterruptedBelow, BelowMarked, BelowHost, Chain}
+use Rattle.invariant_laws.specs.Endings.{RaisesOnlyDivideError}
+use Rattle.invariant_laws.specs.Holds.{TopHolds, SpotHolds, GoesOnWell, Holds}
 use Rattle.invariant_laws.specs.Hosted.{HostGoesOn}
 use Rattle.invariant_laws.proofs.Later.{will_kept}
 use Rattle.invariant_laws.proofs.Chains.{native_later, chain_later}

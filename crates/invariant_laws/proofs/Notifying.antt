@@ -22,11 +22,11 @@ use Rattle.host_model.specs.Values.{Neutral}
 use Rattle.host_model.specs.World.{World}
 use Rattle.neutral_machine.specs.Config.{FunctionFrame, HostFrame, Frame, Function, Config, depth, hosts, call_under_way}
 use Rattle.neutral_machine.specs.NeutralHost as neutral
-use Rattle.typed_runs.specs.Holds.{RunsAt, Holds}
-use Rattle.typed_runs.specs.Laws.{StatesFitBelow}
-use Rattle.typed_runs.specs.Live.{live_memory}
-use Rattle.typed_runs.specs.Waiting.{States, Interrupted, InterruptedBelow, BelowMarked, BelowHost}
-use Rattle.typed_runs.proofs.StatesLater.{state_later}
+use Rattle.invariant_laws.specs.Holds.{RunsAt, Holds}
+use Rattle.invariant_laws.specs.LaterLaws.{StatesFitBelow}
+use Rattle.invariant_laws.specs.Live.{live_memory}
+use Rattle.invariant_laws.specs.Waiting.{States, Interrupted, InterruptedBelow, BelowMarked, BelowHost}
+use Rattle.invariant_laws.proofs.StatesLater.{state_later}
 use Rattle.invariant_laws.specs.Hosted.{RunWorld, HostGoesOn}
 use Rattle.invariant_laws.proofs.Calling.{IsQuiet, quiet_ends, at_place}
 use Rattle.invariant_laws.proofs.Entering.{CanEnter, may_be_entered, entered_holds}

@@ -1,5 +1,11 @@
-//! The arithmetic of the machine: what the operations and comparisons of EFI Byte Code give on two numbers, at 32 and at
-//! 64 bits (UEFI specification, chapter "EFI Byte Code Virtual Machine", section "EBC Instruction Set").
+//! The arithmetic of the machine: what the operations and comparisons of EFI Byte Code give on two numbers, at 32 and
+//! at 64 bits (UEFI specification, chapter "EFI Byte Code Virtual Machine", section "EBC Instruction Set").
+//!
+//! Promises:
+//!
+//! - `compute`: `value` gives the table's result of an operation on two numbers; `divide_error` says that the error
+//!   comes exactly where an operation divides by a number whose low bits are 0.
+//! - `compare`: whether the two numbers compare as the operation asks.
 #![tactic(auto)]
 
 ghost use Rattle.std.specs.Prelude.{◌≡◌, ◌<◌, ◌^◌, ◌*ℤ◌, ◌↔◌, IsTrue, IsErr};

@@ -1,5 +1,5 @@
-//! Runs a loop on the machine: arithmetic, a load, a store, a comparison and a branch. The words are the width, 32 or 64,
-//! and how many steps are run; one line says what the loop has counted after them. `bench/machine.sh` times it.
+//! Runs a loop on the machine: arithmetic, a load, a store, a comparison and a branch. The words are the width, 32 or
+//! 64, and how many steps are run; one line says what the loop has counted after them. `bench/machine.sh` times it.
 #![tactic(auto)]
 
 ghost use Rattle.ebc_width.specs.Width.{IsWidth};

@@ -1,5 +1,19 @@
-//! Natural indexes of EFI Byte Code: a sign, natural units and bytes in 16, 32 or 64 bits.
-//! UEFI specification, chapter "EFI Byte Code Virtual Machine", section "Natural Indexing".
+//! Natural indexes of EFI Byte Code: a sign, natural units and bytes in 16, 32 or 64 bits. UEFI specification, chapter
+//! "EFI Byte Code Virtual Machine", section "Natural Indexing".
+//!
+//! Promises:
+//!
+//! - `read16`: `found` says that the number spells the index, `none` that there is none exactly where the tag is 7, and
+//!   `reading` that the answer is the definition's.
+//! - `read32`, `read64`: `spelled` says that the number spells the index, and `reading` that it is the definition's.
+//! - `write16`, `write32`, `write64`: of an index that fits, `raw` gives the number that spells it, and `read_again`
+//!   says that this number reads as the index.
+//! - `spelling_laws`: `one_index`, no two indexes are spelled by one number; `reads_spelled`, an index is read from the
+//!   number that spells it; `spells_read`, a number spells the index that is read from it.
+//! - `smallest`: `fits` and `numbers`, an index with both numbers and the sign that fits; `least`, no lower tag has
+//!   room for them; `none`, there is none where no tag has.
+//! - `Index::fits`: true exactly where the index has a spelling of that size.
+//! - `Index::pair`: natural units and bytes, both negated under a sign.
 #![tactic(auto)]
 
 ghost use Rattle.std.specs.Prelude.{◌≡◌, ℕ, ◌+◌, ◌-◌, ◌^◌, ◌<◌, ◌≤◌, Some, IfSome, IfNone, IsNone, IsTrue, ◌↔◌};

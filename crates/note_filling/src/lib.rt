@@ -1,6 +1,23 @@
-//! Notes in which places are labels and much is left out, filled up to notes. docs/LABELS.md has the words.
+//! The tables of notes with labels, filled up to those of notes (docs/LABELS.md): places in the place of labels, and
+//! what the text and the labels say of what is left out. Levels and needs, and points and sites that the text doesn't
+//! have, are handed in. What is read of the filled text is `note_draft`'s.
 //!
-//! The definitions that the contracts cite stand in specs/, one subject a file.
+//! Promises:
+//!
+//! - `fill`: the text that it gives says all that the maker's text says (`kept`, `IsTextKept`):
+//!   - version and entry, if the text has them;
+//!   - static objects and thunk cells, one by one in their order;
+//!   - functions, points and sites as a permutation, with just the points and sites that were handed in among them;
+//!   - at every other key the same, so each shape and each signature.
+//! - In a table of that text each key stands as it is. But at `place`, and at `end` of a function, a text is replaced
+//!   by the place of the one label that it names (`place_by`).
+//! - `fill`, `check_forms`: a fault of a label is the first one (`text_labels`), list by list in the order static,
+//!   thunk, function, point and site, table by table, `place` before `end`; and where they go on, no label has a fault
+//!   (`labels`).
+//! - `fill`: tables and arrays nest no deeper in its values than a reader of TOML goes (`shallow`), so that what is
+//!   printed of it reads back. Deeper ones are the fault NotToml.
+//!
+//! That counts, ends, levels and needs are those of docs/LABELS.md is no clause: what is printed is checked before.
 #![tactic(auto)]
 
 mod assembling;

@@ -30,8 +30,8 @@ use Rattle.rules_laws.proofs.RowsKeep.{after_data-keeps}
 use Rattle.rules_base.specs.Outcomes.{gives_map}
 use Rattle.width_checker.specs.Rows.{here_at, is_flow, row_of}
 use Rattle.note_join.specs.JoinStates.{agree, joined, without_fact}
-use Rattle.field_laws.specs.Fields.{HasFields, HaveFields}
-use Rattle.field_laws.proofs.FieldsKept.{data_kept, flow_kept}
+use Rattle.rules_laws.specs.Fields.{HasFields, HaveFields}
+use Rattle.rules_laws.proofs.FieldsKept.{data_kept, flow_kept}
 use Rattle.note_infer.specs.PointStates.{AreFound, IsFound}
 use Rattle.note_infer.specs.RoundEnds.{GivesRoom, HasRoom}
 use Rattle.note_infer.specs.Rounds.{AreAfter, Comes, GivenAt, HasCome, IsRound, IsWithin, States, all_in, at_entry, at_leader, by_entry}

@@ -1,6 +1,15 @@
+pub mod Beginning
+pub mod Changing
+pub mod Coming
+pub mod Entering
+pub mod Finding
 pub mod Inferred
 pub mod Leaders
+pub mod Passing
 pub mod PointStates
 pub mod Promises
+pub mod Reaching
 pub mod RoundEnds
 pub mod Rounds
+pub mod Starting
+pub mod Stopping

@@ -5,7 +5,7 @@ use Rattle.note_types.specs.Known.{IsState}
 use Rattle.note_types.specs.declared.notes.FnNote.{FnNote}
 use Rattle.note_types.specs.declared.notes.Notes.{Notes}
 use Rattle.note_types.specs.declared.state.State.{State}
-use Rattle.field_laws.specs.Fields.{HasFields}
+use Rattle.rules_laws.specs.Fields.{HasFields}
 use Rattle.note_infer.specs.Rounds.{IsWithin, States}
 
 -- a state that may stand at a point of the function, but for its fact

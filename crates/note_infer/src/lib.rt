@@ -1,9 +1,67 @@
-//! Points that the program finds: the states at the places of jumps, found from notes without points. docs/crates/note_infer.md
-//! has the words.
+//! Points that the program finds: the states at the places of jumps, found from notes without points.
+//! docs/crates/note_infer.md has the words.
+//!
+//! Promises:
+//!
+//! `promises`, for notes that meet their conditions and leaders within the limit:
+//!
+//! - `ends`: a round changes no leader's state, or less is known after it at all leaders together, by a number
+//!   (`leaders_rank`).
+//! - `begins`: before the first round that number is 796 for each leader.
+//! - `notes`: the conditions on notes hold of the notes with the points that are found after any number of rounds, so
+//!   that these may be checked.
+//! - `typed`: where points are the answer, the image is typed under the notes with them.
+//!
+//! `Inferred` is plain data: the answer.
+//! - `infer`: the answer (`IsInferred`), which is the only one; where it is points, the image is typed under the notes
+//!   with them (`Typed`). Only want of memory stands in its way.
+//! - `Rounds::settle`: the states on which rounds settle (`IsSettled`), or where they get stuck (`IsNotFound`).
+//! - `find_leaders`: the leaders, in ascending order (`AreLeaders`).
+//! - `marked`: the notes with a point at each leader (`marked` of `note_infer`).
+//! - `names_place`, `jump_names`: the place that a jump names (`names_place` of `note_infer`), and by the same rule
+//!   that of a call. `reloc_at`: the place that a relocated immediate names.
+//! - `row`: the states after an instruction, or the first rule of its row that fails (`row_of`).
+//! - `insn_at`: an instruction of a function's code, and a later place, within the code or at its end, where the next
+//!   one is.
+//! - `Coming::take_after`: each leader of the function takes what the instruction gives (`Takes`), or one of them
+//!   clashes.
+//! - `Walk::pass`, `Walk::step`: the instruction meets its rules and what it gives was joined in (`Passes`), or the
+//!   first rule that fails.
+//! - `Walk::go`: the round has come past where the walk ended (`HasPassed`), or it is stuck there (`IsStuck`).
+//! - `Rounds::walk_all`: the round has passed all places (`Reached`), or it is stuck.
+//! - `same_state`: whether two states are one.
+//! - `Coming::take_over`: what has come to a leader becomes the state of the round before; it is given back where it is
+//!   another one.
+//! - `Rounds::owner`: the number of the function whose code has a place.
+//! - `Rounds::entries`: the starts of the first round (`AreStarts`, `AreEntries`).
+//! - `Rounds::changes`: the starts of the next round (`AreStarts`, `AreChanges`), and what has come is the states
+//!   before it.
+//! - `tables_hold`: whether the rules of shapes, functions, static objects and thunk cells hold (`TablesHold`).
+//! - `points_of`: the points at the leaders that have a state.
 #![tactic(auto)]
 
+mod beginnings;
+mod coming;
+mod copies;
+mod finder;
 mod inferred;
+mod insns;
+mod jumps;
+mod leaders;
+mod marks;
 mod promised;
+mod rounds;
+mod rows;
+mod states;
+mod tables;
+mod walk;
 
+pub use ebc_base::NoMemory;
+pub use finder::infer;
 pub use inferred::Inferred;
+pub use insns::insn_at;
+pub use jumps::{jump_names, names_place, reloc_at};
+pub use leaders::find_leaders;
+pub use marks::marked;
 pub use promised::promises;
+pub use rows::row;

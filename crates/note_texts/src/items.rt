@@ -1,5 +1,5 @@
 //! The items of the lists of a TOML text, one after the other.
-ghost use Rattle.std.specs.Prelude.{◌≡◌, IfOk, length, string_bytes};
+ghost use Rattle.std.specs.Prelude.{◌≡◌, ◌++◌, IfOk, length, string_bytes};
 ghost use Rattle.std.specs.List.{list_any};
 ghost use Rattle.toml.specs.View.{view, table_view, items_view};
 ghost use Rattle.note_texts.specs.Outcome.{Gives, GivesBy};
@@ -66,7 +66,7 @@ fn row_of<T: FromTable>(
     )
 }
 
-/// What each item stands for, a text of the form of `T`.
+/// What each item of the list at a key stands for, a text of the form of `T`.
 ///
 /// # Errors
 ///
@@ -74,15 +74,16 @@ fn row_of<T: FromTable>(
 /// `TomlFault::Range` where it is a text of another form; no memory.
 pub fn texts_of<T: FromText>(
     alloc: Global,
-    path: &str,
+    row: Row,
+    key: &str,
     values: &[Value],
 ) -> Result<Vec<T>, NotesEnd>
-    ensures texts { GivesBy (λ v. v.items) result (texts_of T.reads_as path.now (items_view values.now)) }
+    ensures texts { GivesBy (λ v. v.items) result (texts_of T.reads_as (row.entry.prefix.now ++ key.now) (items_view values.now)) }
     ensures all { IfOk result (λ v. length v.items ≡ length values.now) }
 {
     let mut texts = Vec::new(alloc);
     for i in 0..values.len() {
-        texts.push(text_of::<T>(alloc, path, &values[i])?)?;
+        texts.push(text_of::<T>(alloc, row, key, &values[i])?)?;
     }
     Ok(texts)
 }

@@ -66,8 +66,7 @@ impl<'a> Row<'a> {
         ensures within { IfOk result (λ n. (low ≤ n) × (n ≤ high)) }
     {
         let value = self.field(alloc, key)?;
-        let path = self.path(alloc, key)?;
-        whole_number(alloc, path.as_str(), low, high, value)
+        whole_number(alloc, self, key, low, high, value)
     }
 
     /// What the text at a key stands for.
@@ -81,8 +80,7 @@ impl<'a> Row<'a> {
         ensures { Gives result (text_at T.reads_as self.entry.prefix.now key.now (table_view self.entry.table.now)) }
     {
         let value = self.field(alloc, key)?;
-        let path = self.path(alloc, key)?;
-        text_of::<T>(alloc, path.as_str(), value)
+        text_of::<T>(alloc, self, key, value)
     }
 
     /// What the text at a key stands for; `None` where the key isn't there.
@@ -97,8 +95,7 @@ impl<'a> Row<'a> {
         let Some(value) = value_at(self.table, key) else {
             return Ok(None);
         };
-        let path = self.path(alloc, key)?;
-        Ok(Some(text_of::<T>(alloc, path.as_str(), value)?))
+        Ok(Some(text_of::<T>(alloc, self, key, value)?))
     }
 
     /// The flag at a key; `false` where the key isn't there.
@@ -131,15 +128,14 @@ impl<'a> Row<'a> {
         ensures within { IfOk result (λ p. (p.n ≤ high) × (p.c ≤ high)) }
     {
         let array = self.field(alloc, key)?;
-        let path = self.path(alloc, key)?;
         let Some(values) = array.as_array() else {
-            return Err(NotesEnd::Fault(TomlFault::Kind(path)));
+            return Err(NotesEnd::Fault(TomlFault::Kind(self.path(alloc, key)?)));
         };
         let [n, c] = values.as_slice() else {
-            return Err(NotesEnd::Fault(TomlFault::Range(path)));
+            return Err(NotesEnd::Fault(TomlFault::Range(self.path(alloc, key)?)));
         };
-        let n = whole_number(alloc, path.as_str(), 0, high, n)?;
-        let c = whole_number(alloc, path.as_str(), 0, high, c)?;
+        let n = whole_number(alloc, self, key, 0, high, n)?;
+        let c = whole_number(alloc, self, key, 0, high, c)?;
         Ok(Pair { n, c })
     }
 
@@ -195,8 +191,7 @@ impl<'a> Row<'a> {
         ensures within { IfOk result (λ v. length v.items ≤ limit) }
     {
         let values = self.list(alloc, key, limit)?;
-        let path = self.path(alloc, key)?;
-        texts_of::<T>(alloc, path.as_str(), values)
+        texts_of::<T>(alloc, self, key, values)
     }
 
     /// What the texts of the list at a key stand for, at most `limit` of them beside one that is the very text `beside`.
@@ -217,11 +212,10 @@ impl<'a> Row<'a> {
         ensures within { IfOk result (λ v. length v.items ≤ limit + 1) }
     {
         let values = self.array(alloc, key)?;
-        let path = self.path(alloc, key)?;
         if count_beside(values, beside) > limit {
-            return Err(NotesEnd::Fault(TomlFault::Range(path)));
+            return Err(NotesEnd::Fault(TomlFault::Range(self.path(alloc, key)?)));
         }
-        texts_of::<T>(alloc, path.as_str(), values)
+        texts_of::<T>(alloc, self, key, values)
     }
 
     /// What the tables of the list at a key stand for, at most `limit` of them. The list may be left out.

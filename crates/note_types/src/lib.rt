@@ -1,7 +1,32 @@
-//! What a program's notes say of its data, as types: cells, shapes, types of registers and stack slots, the states
-//! between instructions, and the records of a notes file. docs/NOTES.md says what a notes file holds.
+//! What a program's notes say of its data, as types: cells, shapes, the types of registers and stack slots, the states
+//! between instructions, the records of a notes file, and the conditions on notes. It also has the state of a machine
+//! in numbers, which the definitions of its steps and runs share. docs/NOTES.md has the notes in words, docs/MACHINE.md
+//! the state.
 //!
-//! The definitions that the contracts cite stand in specs/, one subject a file.
+//! Promises:
+//!
+//! - `ty_below`, `fits_below`: `meaning` says that they tell exactly whether one type is below another (`Below`) and
+//!   one state below another (`StateBelow`); `value`, that they give what the tests of `specs/BelowTests.antt` do.
+//! - `divides`: `meaning` says that it tells whether one number divides another.
+//! - `shape_ok`: `well_formed` says that it answers Ok exactly where a shape is well formed at both widths (`IsShape`),
+//!   and `fault` that its error is the first fault (`IsShapeFault`).
+//! - `cell_size`, `content_type`: each gives what the tables of `specs/Cells.antt` say.
+//! - `enter`: makes a state, whatever it holds, the one at a function's entry, exactly `entry_state`, and writes the
+//!   room of the stack's items only where there are some.
+//! - `entry_state`: `value` says that it gives the state at a function's entry, and `state` that it is a state of
+//!   whatever function of these notes (`IsState`). What it needs, and what `shape_ok` needs, follows from the
+//!   conditions on notes (`IsNotes`).
+//! - `code_limit`, `point_limit`: the limits of notes of a version, and 0 for a version that isn't there.
+//! - `Items`: a list of at most 65 items, the top first. `push`, `push_below`, `pop`, `copy`, `len`, `is_empty` and
+//!   `as_slice` say which list it is after each, and what they give.
+//! - `State::copy` gives an equal state.
+//! - `Args`: a list of at most 16 `Seen`, the values of a native call. `new`, `push`, `copy`, `len`, `is_empty` and
+//!   `as_slice` say which list it is after each, and what they give.
+//! - `NotesEnd` is made from `AllocError`, `AllocFailed` and `NoMemory` by `?`; `from_gives` says that each gives its
+//!   variant NoMemory.
+//! - `Notes` and the records in it, `Ty`, `Cell`, `SlotKind`, `Fact`, `Exception`, `RuleName`, `TomlFault`, `Value`,
+//!   `Event`, `Reason`, `Spot`, `Ending` and the records of a `Script` are plain data. `Name`, `Sequence` and
+//!   `NoMemory` are those of `ebc_base`.
 #![tactic(auto)]
 
 mod args;

@@ -1,5 +1,5 @@
-//! Reads notes, scripts, binds and keys of tables, row by row, as the lines of the standard input say, and prints how many rows of each
-//! table hold, and what is told of each that doesn't. docs/crates/notes_rows.md has the lines.
+//! Reads notes, scripts, binds and keys of tables, row by row, as the lines of the standard input say, and prints how
+//! many rows of each table hold, and what is told of each that doesn't. docs/crates/notes_rows.md has the lines.
 #![tactic(auto)]
 
 mod binds;

@@ -1,5 +1,33 @@
-//! The memory of a machine: objects that never overlap and never move, at addresses of a pointer's
-//! width. Nothing is allocated once a memory is made.
+//! The memory of a machine: objects that never overlap and never move, at addresses of a pointer's width. Contracts see
+//! it as the list of its objects with their bytes, and its two limits (`Memory`). All that it uses is reserved when it
+//! is made: one region of as many bytes as the limit, where an object begins at its base less the first base, and 4
+//! bytes for each 16 of these, by which a byte's object is found at once. It stands on `raw_region`, `ebc_base` and
+//! `ebc_width`.
+//!
+//! Promises:
+//!
+//! Of each call that takes a memory, `memory` says that what holds of every memory holds of the one that it leaves
+//! (`IsMemory`): no two objects overlap, no address of an object wraps, the limits are kept.
+//!
+//! - `ObjMem::new`: no object, and the limits that were asked for (`empty`). It fails only with `NoMemory`.
+//! - `place`: the memory with one object more, at the next base (`placed`, `id`). `Full` comes exactly where the bytes
+//!   with their padding and gap pass what is left of the limit, or as many objects are placed as there may be (`full`),
+//!   and then nothing changes (`same`). No byte at any address changes (`bytes`), and each byte of the new object is
+//!   zero (`zeros`).
+//! - `holds`: whether one object holds a range (`answer`).
+//! - `load`: the number in 1, 2, 4 or 8 bytes, its lowest byte first, and none exactly where no one object holds them
+//!   (`number`).
+//! - `store`: true exactly where one object holds the range (`done`); the memory is then the one after that store
+//!   (`after`), whose bytes are these at the range's addresses and the old ones at all others (`bytes`); else nothing
+//!   changes (`same`).
+//! - `fill`: the same for a slice of any length (`done`, `after`, `bytes`, `same`).
+//! - `owner`: the object that holds a byte, by number and base, and the byte's offset (`found`); none exactly where no
+//!   object does (`none`).
+//! - `bytes_from`: the bytes from an address to the end of the object that holds it (`found`); none exactly where no
+//!   object does (`none`).
+//! - `region`: the region, which has as many bytes as the limit (`limit`), and at a byte's offset that byte (`bytes`).
+//! - `offset`: a byte's address less the first base, and none exactly where no object holds the byte (`offset`). It
+//!   lies in the region (`within`), and no other address has it (`alone`).
 #![tactic(auto)]
 
 ghost use Rattle.std.specs.Prelude.{◌≡◌, ℕ, ◌+◌, ◌*◌, ◌^◌, ◌<◌, ◌≤◌, ◌↔◌, [], length, slice_index, true, false, Err, IfOk, OnOk, OnErr, IfSome, IfNone, Some, None};

@@ -4,9 +4,9 @@ use Rattle.std.proofs.lemmas.Bool.{cases_lt}
 use Rattle.pair_model.specs.Pairs.{Both, PairWorld}
 use Rattle.pair_model.specs.declared.bind.Bind.{Bind}
 use Rattle.pe_image.specs.declared.image.Image.{Image}
-use Rattle.typed_pairs.specs.TypedPairs.{IsTypedPair}
-use Rattle.typed_pairs.proofs.Typed.{own_typed_pairs_are_same}
-use Rattle.typed_runs.specs.Endings.{RaisesOnlyDivideError}
+use Rattle.pair_laws.specs.TypedPairs.{IsTypedPair}
+use Rattle.pair_laws.proofs.Typed.{own_typed_pairs_are_same}
+use Rattle.invariant_laws.specs.Endings.{RaisesOnlyDivideError}
 use Rattle.pair_host.specs.PairDiffers.{OwnPairsSame, PairsDifferAt, first, nowhere}
 use Rattle.pair_host.specs.PairReported.{IsPairReport}
 use Rattle.pair_host.specs.PairRunner.{ArePaired, images_for, pair_world}

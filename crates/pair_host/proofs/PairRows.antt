@@ -7,8 +7,8 @@ use Rattle.note_types.specs.declared.ending.Ending.TheVariants as ending
 use Rattle.note_types.specs.declared.event.Event.TheVariants as event
 use Rattle.note_types.specs.declared.spot.Spot.TheVariants as spot
 use Rattle.note_types.specs.declared.value.Value.TheVariants as value
-use Rattle.neutral_pair.proofs.Computing.{pairs_compute}
-use Rattle.neutral_pair.proofs.Programs.{images_with, pair_with}
+use Rattle.pair_laws.proofs.Computing.{pairs_compute}
+use Rattle.pair_laws.proofs.Programs.{images_with, pair_with}
 use Rattle.pair_model.specs.PairReports.{PairReport, pair_report_after}
 use Rattle.pair_model.specs.Pairs.{Both, PairWorld, OfA}
 use Rattle.pair_model.specs.declared.event.PairEvent.{PairEvent}

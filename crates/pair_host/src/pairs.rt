@@ -10,7 +10,7 @@ ghost use Rattle.pair_model.specs.Binds.{AllAgree};
 ghost use Rattle.pair_model.specs.Pairs.{PairState, PairWorld};
 ghost use Rattle.pe_image.specs.Images.{IsImage};
 ghost use Rattle.pe_image.specs.Mapped.{AreBytes};
-ghost use Rattle.typed_runs.specs.Endings.{RaisesOnlyDivideError};
+ghost use Rattle.invariant_laws.specs.Endings.{RaisesOnlyDivideError};
 ghost use Rattle.width_checker.specs.Typed.{Typed};
 ghost use Rattle.pair_host.specs.PairDiffers.{PairsDifferAt};
 ghost use Rattle.pair_host.specs.PairOnItsWay.{ArePairsSameButFirst, IsPairOnItsWay};

@@ -20,7 +20,7 @@ use Rattle.note_types.specs.declared.seen.Seen.{Seen}
 use Rattle.pe_image.specs.Mapped.{mapped}
 use Rattle.pe_image.specs.declared.image.Image.{Image}
 use Rattle.step_sound.proofs.Steps.{state_below}
-use Rattle.typed_runs.specs.Waiting.{States}
+use Rattle.invariant_laws.specs.Waiting.{States}
 use Rattle.typing_laws.proofs.Rooms.{sound_room}
 use Rattle.neutral_machine.specs.Config.{Config, call_under_way}
 use Rattle.host_model.specs.HostPlans.{Asking, View, Returns, Calls, GoesOn, NotifiedReturns, IsDue, Ends, asked_args, asking_refused}
@@ -31,7 +31,7 @@ use Rattle.host_model.specs.Objects.{made_objects}
 use Rattle.host_model.specs.Placements.{Placement}
 use Rattle.host_model.specs.RunState.{RunState}
 use Rattle.pair_model.specs.Binds.{AllAgree, BoundCall, bound_at, param_agrees, signature_agrees}
-use Rattle.neutral_pair.specs.NeutralPair.{neutral_sides}
+use Rattle.pair_laws.specs.NeutralPair.{neutral_sides}
 use Rattle.pair_model.specs.Pairs.{PairWorld, Both, CallerRuns, PairState, SideOf}
 use Rattle.pair_model.specs.Rules.{with_a, caller_step_seen, caller_step, provider_refused, call_refused, call_told, call_step}
 use Rattle.pair_model.specs.Rules.{parameter_refused, plain_step}

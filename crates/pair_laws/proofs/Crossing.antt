@@ -36,12 +36,12 @@ use Rattle.host_model.specs.Values.{Neutral}
 use Rattle.host_model.specs.World.{World}
 use Rattle.neutral_machine.specs.WrittenLaw.{IsValue}
 use Rattle.neutral_machine.specs.Written.{result_value}
-use Rattle.typed_runs.specs.Asked.{GivenByNative}
-use Rattle.typed_runs.specs.Holds.{Holds}
-use Rattle.typed_runs.specs.Laws.{StatesFitBelow}
-use Rattle.typed_runs.specs.Live.{live_memory}
-use Rattle.typed_runs.specs.Waiting.{States, AsksWell}
-use Rattle.neutral_pair.specs.NeutralPair.{neutral_bound_reply}
+use Rattle.invariant_laws.specs.Asked.{GivenByNative}
+use Rattle.invariant_laws.specs.Holds.{Holds}
+use Rattle.invariant_laws.specs.LaterLaws.{StatesFitBelow}
+use Rattle.invariant_laws.specs.Live.{live_memory}
+use Rattle.invariant_laws.specs.Waiting.{States, AsksWell}
+use Rattle.pair_laws.specs.NeutralPair.{neutral_bound_reply}
 use Rattle.pair_laws.proofs.Holding.{Rests, LendsNone, rest_enters, bound_reply_holds, reply_given, told_holds}
 use Rattle.pair_laws.proofs.Resting.{AsksAt}
 use Rattle.pair_laws.specs.Laws.{value_given}

@@ -38,8 +38,8 @@ use Rattle.host_model.specs.Objects.{made_objects}
 use Rattle.host_model.specs.ScriptValues.{same_seen, given}
 use Rattle.host_model.specs.World.{World}
 use Rattle.host_model.specs.declared.object.TypedObject.{TypedObject}
-use Rattle.typed_runs.specs.Live.{live_memory}
-use Rattle.typed_runs.specs.Sound.{FramesKeep, SoundBelow}
+use Rattle.invariant_laws.specs.Live.{live_memory}
+use Rattle.invariant_laws.specs.Sound.{FramesKeep, SoundBelow}
 use Rattle.invariant_laws.proofs.After.{instruction_leaves}
 use Rattle.neutral_machine.specs.NeutralRun.{instruction_left}
 use Rattle.pair_laws.proofs.Sides.{no_return, returns_top}

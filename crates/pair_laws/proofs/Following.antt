@@ -13,7 +13,7 @@ use Rattle.instruction_laws.proofs.Worlds.{world_meets}
 use Rattle.neutral_machine.specs.Config.{Config}
 use Rattle.neutral_machine.specs.NeutralImage.{static_cells}
 use Rattle.neutral_machine.specs.NeutralRuns.{neutral_start}
-use Rattle.neutral_pair.specs.NeutralPair.{neutral_pair_run, neutral_pair_spot, neutral_pair_step, neutral_side_spot, neutral_sides}
+use Rattle.pair_laws.specs.NeutralPair.{neutral_pair_run, neutral_pair_spot, neutral_pair_step, neutral_side_spot, neutral_sides}
 use Rattle.note_types.specs.declared.ending.Ending.{Ending}
 use Rattle.note_types.specs.declared.ending.Ending.TheVariants as ending
 use Rattle.note_types.specs.declared.event.Event.TheVariants as event
@@ -31,8 +31,8 @@ use Rattle.step_sound.proofs.Read.{read_is_run, read_is_run_at}
 use Rattle.step_sound.proofs.Steps.{state_below}
 use Rattle.step_sound.specs.Invariant.{RunHolds}
 use Rattle.step_sound.specs.StepLaw.{StepGoesWell}
-use Rattle.typed_runs.specs.Endings.{RaisesOnlyDivideError}
-use Rattle.typed_runs.specs.Waiting.{States}
+use Rattle.invariant_laws.specs.Endings.{RaisesOnlyDivideError}
+use Rattle.invariant_laws.specs.Waiting.{States}
 use Rattle.typing_laws.proofs.Rooms.{sound_room}
 use Rattle.invariant_laws.specs.Laws.{states_by}
 use Rattle.pair_laws.proofs.Calling.{a_goes}

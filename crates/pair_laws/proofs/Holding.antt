@@ -22,12 +22,12 @@ use Rattle.host_model.specs.ScriptValues.{fits_result}
 use Rattle.host_model.specs.Values.{Neutral}
 use Rattle.host_model.specs.World.{World}
 use Rattle.neutral_machine.specs.Written.{result_value}
-use Rattle.typed_runs.specs.Asked.{ArgumentsFit, GivenByNative, OutsWritten}
-use Rattle.typed_runs.specs.Holds.{RunsAt, TopHolds, Holds}
-use Rattle.typed_runs.specs.Later.{Later}
-use Rattle.typed_runs.specs.Live.{live_memory}
-use Rattle.typed_runs.specs.Sound.{SoundBelow}
-use Rattle.typed_runs.specs.Waiting.{States, AsksWell}
+use Rattle.invariant_laws.specs.Asked.{ArgumentsFit, GivenByNative, OutsWritten}
+use Rattle.invariant_laws.specs.Holds.{RunsAt, TopHolds, Holds}
+use Rattle.invariant_laws.specs.Later.{Later}
+use Rattle.invariant_laws.specs.Live.{live_memory}
+use Rattle.invariant_laws.specs.Sound.{SoundBelow}
+use Rattle.invariant_laws.specs.Waiting.{States, AsksWell}
 use Rattle.invariant_laws.specs.Hosted.{RunWorld}
 use Rattle.invariant_laws.proofs.Calling.{at_place}
 use Rattle.invariant_laws.proofs.Chains.{chain_later}
@@ -36,7 +36,7 @@ use Rattle.invariant_laws.proofs.Leaving.{seven_other}
 use Rattle.invariant_laws.proofs.Marks.{depth_call, locals_call, hosts_call, call_is, frames_call, chain_call}
 use Rattle.invariant_laws.proofs.Replying.{result_given}
 use Rattle.invariant_laws.proofs.Same.{SameMemory, same_later, live_same, frames_later, cells_same}
-use Rattle.neutral_pair.specs.NeutralPair.{neutral_bound_reply}
+use Rattle.pair_laws.specs.NeutralPair.{neutral_bound_reply}
 
 -- ---- rest
 

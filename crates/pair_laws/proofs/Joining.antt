@@ -16,9 +16,9 @@ use Rattle.neutral_machine.specs.NeutralReadings.{neutral_result}
 use Rattle.host_model.specs.Objects.{made_objects}
 use Rattle.host_model.specs.Progress.{ScriptPlace, is_empty}
 use Rattle.host_model.specs.Readings.{sort_of_type}
-use Rattle.typed_runs.specs.Live.{live_memory}
-use Rattle.typed_runs.specs.Sound.{FramesKeep}
-use Rattle.neutral_pair.specs.NeutralPair.{neutral_bound_reply}
+use Rattle.invariant_laws.specs.Live.{live_memory}
+use Rattle.invariant_laws.specs.Sound.{FramesKeep}
+use Rattle.pair_laws.specs.NeutralPair.{neutral_bound_reply}
 use Rattle.pair_laws.specs.Laws.{value_given}
 use Rattle.pair_laws.specs.PairLaw.{TypedSide}
 use Rattle.pair_laws.proofs.Agreeing.{bound_call, agreed_lends}
@@ -38,10 +38,10 @@ use Rattle.host_model.specs.HostPlans.{signature_result}
 use Rattle.neutral_machine.specs.NeutralHost as neutral
 use Rattle.host_model.specs.ScriptValues.{fits, fits_result, given}
 use Rattle.host_model.specs.World.{World}
-use Rattle.typed_runs.specs.Endings.{RaisesOnlyDivideError}
-use Rattle.typed_runs.specs.Holds.{Holds}
+use Rattle.invariant_laws.specs.Endings.{RaisesOnlyDivideError}
+use Rattle.invariant_laws.specs.Holds.{Holds}
 use Rattle.pair_model.specs.Binds.{AllAgree, bound_at}
-use Rattle.neutral_pair.specs.NeutralPair.{neutral_sides}
+use Rattle.pair_laws.specs.NeutralPair.{neutral_sides}
 use Rattle.pair_model.specs.Pairs.{PairWorld, Both, Stage, ProviderRuns, CallerRuns, CallTaken, CallRuns, CallReturned, PairState, SideOf}
 use Rattle.pair_model.specs.Rules.{with_b, provider_ended, provider_step, function_entered, enter_step, function_step_seen, function_step}
 use Rattle.pair_model.specs.Rules.{call_answered, reply_refused, reply_step}
@@ -51,7 +51,7 @@ use Rattle.note_types.specs.Records.{IsResultNote}
 use Rattle.std.specs.Prelude.{IfSome}
 use Rattle.pair_laws.proofs.Finishing.{left_ending}
 use Rattle.pair_laws.proofs.Holding.{Rests, LendsNone}
-use Rattle.typed_runs.specs.Waiting.{States}
+use Rattle.invariant_laws.specs.Waiting.{States}
 use Rattle.invariant_laws.specs.Hosted.{RunWorld}
 use Rattle.pair_laws.proofs.Resting.{AsksAt, own_rests, leave_rests}
 use Rattle.pair_laws.proofs.SideSteps.{SideSteps, side_steps}

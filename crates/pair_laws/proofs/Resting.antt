@@ -18,10 +18,10 @@ use Rattle.note_types.specs.declared.spot.Spot.{Spot}
 use Rattle.note_types.specs.declared.spot.Spot.TheVariants as spot
 use Rattle.note_types.specs.declared.value.Value.{Value}
 use Rattle.pe_image.specs.declared.image.Image.{Image}
-use Rattle.typed_runs.specs.Holds.{TopHolds, SpotHolds, Holds}
-use Rattle.typed_runs.specs.Laws.{StatesFitBelow}
-use Rattle.typed_runs.specs.Live.{live_memory}
-use Rattle.typed_runs.specs.Waiting.{States, AsksWell}
+use Rattle.invariant_laws.specs.Holds.{TopHolds, SpotHolds, Holds}
+use Rattle.invariant_laws.specs.LaterLaws.{StatesFitBelow}
+use Rattle.invariant_laws.specs.Live.{live_memory}
+use Rattle.invariant_laws.specs.Waiting.{States, AsksWell}
 use Rattle.pair_laws.proofs.Finishing.{left_ending, left_none}
 use Rattle.pair_laws.proofs.Holding.{Rests}
 use Rattle.pair_laws.proofs.SideSteps.{SideSteps}

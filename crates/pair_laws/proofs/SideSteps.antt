@@ -27,8 +27,8 @@ use Rattle.step_sound.proofs.Worlds.{run_world}
 use Rattle.step_sound.specs.PlaceStates.{StatesHold}
 use Rattle.step_sound.specs.ReadWorld.{IsReadWorld}
 use Rattle.step_sound.specs.StepLaw.{StepGoesWell}
-use Rattle.typed_runs.specs.Holds.{Holds}
-use Rattle.typed_runs.specs.Waiting.{States}
+use Rattle.invariant_laws.specs.Holds.{Holds}
+use Rattle.invariant_laws.specs.Waiting.{States}
 use Rattle.pair_laws.proofs.Finishing.{Unfinished, goes_unfinished, plan_goes, left_none, insn_unfinished}
 
 -- what a step of a side leaves

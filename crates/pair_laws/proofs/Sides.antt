@@ -24,7 +24,7 @@ use Rattle.neutral_machine.specs.NeutralRun.{neutral_instruction}
 use Rattle.neutral_machine.specs.NeutralRuns.{is_gate, step_if, neutral_step}
 use Rattle.neutral_machine.specs.Stands.{CallShows, Stands}
 use Rattle.neutral_machine.specs.WrittenLaw.{IsValue}
-use Rattle.neutral_pair.specs.NeutralPair.{neutral_bound_reply}
+use Rattle.pair_laws.specs.NeutralPair.{neutral_bound_reply}
 use Rattle.note_types.specs.declared.ending.Ending.TheVariants as ending
 use Rattle.note_types.specs.declared.event.Event.TheVariants as event
 use Rattle.note_types.specs.declared.spot.Spot.{Spot}

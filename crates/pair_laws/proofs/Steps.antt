@@ -32,7 +32,7 @@ use Rattle.host_model.specs.Runs.{run_step}
 use Rattle.pair_model.specs.declared.event.PairEvent.{PairEvent}
 use Rattle.pair_model.specs.declared.event.PairEvent.TheVariants as pair_event
 use Rattle.pair_model.specs.Binds.{BoundCall, bound_at}
-use Rattle.neutral_pair.specs.NeutralPair.{neutral_sides}
+use Rattle.pair_laws.specs.NeutralPair.{neutral_sides}
 use Rattle.pair_model.specs.Pairs.{PairWorld, Both, Stage, ProviderRuns, CallerRuns, CallTaken, CallRuns, CallReturned, PairState, SideOf}
 use Rattle.pair_model.specs.Rules.{with_a, with_b, provider_ended, provider_step, call_refused, call_told, call_step, plain_step}
 use Rattle.pair_model.specs.Rules.{caller_step_seen, caller_step, function_entered, enter_step, function_step_seen, function_step}

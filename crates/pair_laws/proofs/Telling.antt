@@ -28,7 +28,7 @@ use Rattle.host_model.specs.ScriptValues.{fits, given}
 use Rattle.host_model.specs.Values.{Neutral}
 use Rattle.host_model.specs.World.{World}
 use Rattle.host_model.specs.declared.object.TypedObject.{TypedObject}
-use Rattle.typed_runs.specs.Endings.{RaisesOnlyDivideError}
+use Rattle.invariant_laws.specs.Endings.{RaisesOnlyDivideError}
 use Rattle.pair_model.specs.Pairs.{PairWorld}
 use Rattle.pair_model.specs.Rules.{parameter_refused, provider_refused, call_refused}
 

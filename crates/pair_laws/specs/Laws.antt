@@ -19,7 +19,7 @@ use Rattle.host_model.specs.RunState.{RunState}
 use Rattle.host_model.specs.World.{World}
 use Rattle.neutral_machine.specs.WrittenLaw.{IsValue}
 use Rattle.neutral_machine.specs.NeutralRun.{neutral_instruction}
-use Rattle.neutral_pair.specs.NeutralPair.{neutral_pair_step}
+use Rattle.pair_laws.specs.NeutralPair.{neutral_pair_step}
 use Rattle.pair_model.specs.Pairs.{PairWorld, Both, Stage, ProviderRuns, CallerRuns, CallTaken, CallRuns, CallReturned, PairState}
 use Rattle.pair_model.specs.Rules.{reply_refused}
 use Rattle.pair_model.specs.PairRuns.{pair_step_at}

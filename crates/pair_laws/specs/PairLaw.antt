@@ -6,7 +6,7 @@ use Rattle.host_model.specs.Placements.{Placement}
 use Rattle.host_model.specs.World.{World}
 use Rattle.invariant_laws.specs.Laws.{states_by}
 use Rattle.neutral_machine.specs.Config.{Config}
-use Rattle.neutral_pair.specs.NeutralPair.{neutral_pair_run}
+use Rattle.pair_laws.specs.NeutralPair.{neutral_pair_run}
 use Rattle.note_types.specs.declared.state.State.{State}
 use Rattle.pair_laws.specs.Laws.{PairStands}
 use Rattle.pair_laws.specs.SamePairs.{ArePlaced, SamePairAfter}
@@ -16,8 +16,8 @@ use Rattle.pair_model.specs.Pairs.{Both, PairWorld, PairState}
 use Rattle.pe_image.specs.declared.image.Image.{Image}
 use Rattle.step_sound.specs.PlaceStates.{StatesHold}
 use Rattle.step_sound.specs.ReadWorld.{IsReadWorld}
-use Rattle.typed_runs.specs.Endings.{RaisesOnlyDivideError}
-use Rattle.typed_runs.specs.Waiting.{States}
+use Rattle.invariant_laws.specs.Endings.{RaisesOnlyDivideError}
+use Rattle.invariant_laws.specs.Waiting.{States}
 
 -- A side: its image, notes and script were read, and the states at places meet the typing rules.
 pub record TypedSide (image : Image) (world : World) (states : States) : Type 0 where

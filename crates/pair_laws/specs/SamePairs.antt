@@ -6,7 +6,7 @@ use Rattle.host_model.specs.Placements.{IsPlacement, Placement}
 use Rattle.pair_model.specs.PairRuns.{pair_run, SamePair}
 use Rattle.pair_model.specs.Pairs.{Both, PairWorld}
 use Rattle.pe_image.specs.declared.image.Image.{Image}
-use Rattle.typed_runs.specs.Endings.{RaisesOnlyDivideError}
+use Rattle.invariant_laws.specs.Endings.{RaisesOnlyDivideError}
 
 -- valid placements of both images at a width
 pub record ArePlaced (w : ℕ) (world : PairWorld) (P : Both Placement) : Type 0 where

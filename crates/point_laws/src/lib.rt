@@ -1,6 +1,26 @@
-//! The laws of printed points: what is printed of points of notes is a document of TOML, and is read as the points.
+//! That what is printed of points is read as the points: from the text of `point_texts` through TOML, the keys of a
+//! point and the small texts at them, to names and their numbers. The crate has no code of its own.
 //!
-//! The definitions that the contracts cite stand in specs/.
+//! Promises:
+//!
+//! `printed_points_are_read` has four clauses, under notes that a text stands for (`IsReading`: the draft and the names
+//! that the reader finds in the text, and the conditions are met), and for any points of these notes (`IsPointNote`),
+//! in any order:
+//!
+//! - `tables`: `points_text` of the points is a document of TOML, whose list `point` has a table for each point;
+//!   nothing where there are no points.
+//! - `points`: that list, read as the reader of notes reads it, stands for the points, where they are within the limit
+//!   of the notes' version (`points_in`: `document`, `tables_at` with `point_of`, and `resolved_point`).
+//! - `accepted`: where the points ascend by place, the draft of the notes with the printed points in place of its own
+//!   (`with_printed`) stands for the notes with these points (`notes_in`): no name is missing, nothing stands there
+//!   twice, and each condition is met.
+//! - `stand`: so a text whose document has the printed list at the key `point`, at each other key what the document of
+//!   the notes has, and no key that notes don't have (`HasPrinted`) stands for the notes with these points
+//!   (`notes_of`).
+//!
+//! That TOML reads the text of notes without points and the printed text behind it as such a document is not proved for
+//! every text; for the driver's notes it is computed (`proofs/Rows.antt`). A fact about the flag C is never part of a
+//! point, so it is not printed.
 #![tactic(auto)]
 
 ghost use Rattle.point_laws.specs.PrintedPoints.{PrintedPointsAreAccepted, PrintedPointsAreRead, PrintedPointsAreTables, PrintedPointsStand};

@@ -1,7 +1,23 @@
-//! Reads scripts, a TOML text that says what the firmware holds and does in a run, as the record that the text stands for under
-//! a program's notes, or tells its first fault with the key where it stands. docs/SCRIPTS.md says how scripts are written.
+//! Reads scripts, a TOML text that says what the firmware holds and does in a run, as the record that the text stands
+//! for under a program's notes, or tells its first fault with the key where it stands. docs/SCRIPTS.md says how scripts
+//! are written.
 //!
-//! The definitions that the contracts cite stand in specs/, one subject a file.
+//! Promises:
+//!
+//! - `read_script`: `script` says that it returns what `script_of` says of the text under the notes, the record or the
+//!   first fault with its path. `meets` says of a script that was read that it is an `IsScript` of `host_model`: its
+//!   values are such as texts may have, all that it names is there, each argument, cell, object, call and notification
+//!   meets the conditions by itself, and the limits hold. It asks nothing of the notes.
+//! - `function_number`, `method_number`: the number of the function and of the method of a name, as the definitions of
+//!   the same names say.
+//! - `printed_texts_are_read`: what reports print of a value (`value_text` of `script_draft`) that scripts can write
+//!   (`IsWritten`) is read as that value (`values`), and so it is with arguments (`arguments`), under notes as
+//!   `IsNotes` says whose functions and methods have names of their own (`HasNames`).
+//! - `read_names_are_given`: the functions and the methods of notes that a text stands for (`notes_of` of `type_notes`)
+//!   have names that texts can have, each a name of its own (`HasNames`). `read_notes_print_and_read`: so under notes
+//!   that were read, of whatever text, printed values and arguments are read again (`values`, `arguments`); nothing
+//!   else is asked of the notes.
+//! - Where memory runs out it says so, and its clause says nothing more.
 #![tactic(auto)]
 
 ghost use Rattle.note_texts.specs.Outcome.{Gives};

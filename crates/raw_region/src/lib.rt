@@ -1,4 +1,24 @@
-//! A region: one block of memory that contracts see as the list of its bytes.
+//! One block of memory, which contracts see as the list of its bytes. It stands on `ebc_base` and `ebc_width`; the
+//! kit's `core` and `std_alloc` are listed for the proofs alone.
+//!
+//! Five functions have a raw pointer, each with a proof by hand that follows its statements: `allocate` and
+//! `deallocate` of a block (src/block.rt), and `write`, `as_slice` and `as_mut_slice` of its bytes (src/parts.rt). All
+//! others are safe code over these.
+//!
+//! Promises:
+//!
+//! - `Region::new`: as many zeros as asked for (no name). It fails only with `NoMemory`.
+//! - `len`: how many bytes there are (no name).
+//! - `load`: the number in 1, 2, 4 or 8 bytes, the lowest byte first (`number`), which is one of so many bytes
+//!   (`below`).
+//! - `store`: the low 1, 2, 4 or 8 bytes of a number are at these offsets, and each other byte is as it was (`bytes`);
+//!   there are as many as before (`len`).
+//! - `fill`: the same for a slice of any length (`bytes`, `len`).
+//! - `bytes`: the bytes as a slice (no name).
+//!
+//! `load`, `store` and `fill` need bytes that lie in the region (`within`). A region gives its block back at its end.
+//!
+//! That a block is freed when its region ends has no clause: a body that leaks it would be proved too.
 #![tactic(auto)]
 
 ghost use Rattle.std.specs.Prelude.{◌≡◌, ℕ, ◌+◌, ◌^◌, ◌<◌, ◌≤◌, length, map, replicate, Option, Some, None, slice_index, IfOk};

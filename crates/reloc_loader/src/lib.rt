@@ -1,4 +1,14 @@
-//! Loads an image into an object of memory: its sections at their places, and its relocations.
+//! Loads an image into an object of memory, at any even base of either width. docs/IMAGES.md, "What is loaded", has it
+//! in words.
+//!
+//! Promises:
+//!
+//! - `load`: `mapped` says which byte lies at each place of the object: that of the image, relocated to the base.
+//!   `others` says that no byte outside the object changes, and `loaded` the whole memory as one equation: the same
+//!   objects at the same addresses, with these bytes. `memory` says that what holds of each memory holds on. `odd` says
+//!   that Base comes exactly where the base is odd, and `same` that nothing changes then. The image has to be one as
+//!   `read_image` gives it. Where the base is even the object has to lie there, to have the image's size (`object`) and
+//!   to have zeros alone (`zeros`), as `ObjMem::place` leaves it; so nothing is cleared a second time.
 #![tactic(auto)]
 
 ghost use Rattle.std.specs.Prelude.{◌≡◌, ℕ, ◌+◌, ◌*◌, ◌%◌, ◌^◌, ◌<◌, ◌≤◌, ◌⊎◌, ◌↔◌, length, map, slice_index, Err, OnOk, OnErr};

@@ -1,6 +1,7 @@
 pub mod CallsKeep
 pub mod DataKeep
 pub mod DataRule
+pub mod FieldsKept
 pub mod FirstRule
 pub mod FlowKeeps
 pub mod FlowRule

@@ -1,6 +1,6 @@
-//! Tries the typing rules row by row, as the lines of the standard input say: each row is an instruction, the state before it, and
-//! what the rules answer. It prints how many rows of each table hold, and each row that doesn't. docs/crates/rules_rows.md has the
-//! lines.
+//! Tries the typing rules row by row, as the lines of the standard input say: each row is an instruction, the state
+//! before it, and what the rules answer. It prints how many rows of each table hold, and each row that doesn't.
+//! docs/crates/rules_rows.md has the lines.
 #![tactic(auto)]
 
 mod answers;

@@ -11,9 +11,9 @@ use crate::comings::{Comings, Reached};
 use crate::trial::Trial;
 use crate::walk::{Course, Search};
 use ebc_base::NoMemory;
+use note_infer::{find_leaders, marked};
 use note_types::{FnNote, Notes, Site, entry_state, point_limit};
 use pe_image::Image;
-use point_finder::{find_leaders, marked};
 use rules_image::check_functions;
 use std::alloc::Global;
 

@@ -10,8 +10,8 @@ ghost use Rattle.note_types.specs.declared.notes.Site.{Site};
 
 use ebc_base::{NoMemory, Sequence};
 use ebc_insn::Insn;
+use note_infer::row;
 use note_types::{Notes, Site, State};
-use point_finder::row;
 use rules_base::Here;
 use rules_flow::Successors;
 use std::alloc::Global;

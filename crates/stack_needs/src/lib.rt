@@ -1,5 +1,12 @@
 //! How deep the calls of functions go, and how much stack they take: levels and needs for notes that leave them out.
 //! docs/crates/stack_needs.md has the way.
+//!
+//! Promises:
+//!
+//! - `find_needs`: a level and a need for each function, in their order, or why there are none (`NotFound`). It goes
+//!   over notes as they are read (`IsNotes`), whose functions keep their rule (`FunctionHolds`), and always returns.
+//!
+//! No clause says which level and which need.
 #![tactic(auto)]
 
 mod depth;

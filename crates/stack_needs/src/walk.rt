@@ -3,14 +3,14 @@
 ghost use Rattle.std.specs.Prelude.{◌+◌, ◌≤◌, ◌^◌, length};
 ghost use Rattle.note_types.specs.Records.{Ascends};
 ghost use Rattle.pe_image.specs.Images.{IsImage};
-ghost use Rattle.point_finder.specs.Finding.{HasCode};
+ghost use Rattle.note_infer.specs.Finding.{HasCode};
 
 use crate::depth::{Depth, after};
 use crate::outcome::NotFound;
 use ebc_insn::{Cond, Insn};
+use note_infer::{insn_at, jump_names, names_place, reloc_at};
 use note_types::{FnNote, Notes};
 use pe_image::Image;
-use point_finder::{insn_at, jump_names, names_place, reloc_at};
 use rules_flow::number_at;
 use rules_image::code_of;
 use std::alloc::Global;

@@ -8,8 +8,8 @@ use Rattle.neutral_machine.specs.Layout.{height}
 use Rattle.neutral_machine.specs.Memory.{Memory}
 use Rattle.host_model.specs.Placements.{frame_bytes, pair_at, params_bytes, return_cell}
 use Rattle.host_model.specs.World.{World}
-use Rattle.typed_runs.specs.Live.{live_memory}
-use Rattle.typed_runs.specs.Sound.{FrameBelow, FramesKeep}
+use Rattle.invariant_laws.specs.Live.{live_memory}
+use Rattle.invariant_laws.specs.Sound.{FrameBelow, FramesKeep}
 use Rattle.typing_laws.proofs.Rooms.{params_height, within_at}
 use Rattle.step_sound.specs.HostStack.{HostFramesFit, TopHostFits, top_bytes, top_host}
 

@@ -28,15 +28,15 @@ use Rattle.host_model.specs.Progress.{ScriptPlace, NativeCall, NoCall, Asked, on
 use Rattle.host_model.specs.Values.{Neutral}
 use Rattle.host_model.specs.World.{World}
 use Rattle.neutral_machine.specs.Rows.{Site, NeutralEnd, Next, Native, MakeThunk, executed, frame_without, call_without}
-use Rattle.typed_runs.specs.Accepts.{Accepts}
-use Rattle.typed_runs.specs.Asked.{GivenByCall}
-use Rattle.typed_runs.specs.Later.{Later, IsFresh, WillFit}
-use Rattle.typed_runs.specs.Live.{live_memory}
+use Rattle.invariant_laws.specs.Accepts.{Accepts}
+use Rattle.invariant_laws.specs.Asked.{GivenByCall}
+use Rattle.invariant_laws.specs.Later.{Later, IsFresh, WillFit}
+use Rattle.invariant_laws.specs.Live.{live_memory}
 use Rattle.typing_laws.specs.OneRule.{GoesOn, Enters, Returns, GoesBack, Asks, Makes, EndsSound}
-use Rattle.typed_runs.specs.Sound.{FramesKeep, SoundBelow, TopFits}
-use Rattle.typed_runs.specs.Waiting.{States, Waits, AsksWell, BelowFunction, Chain}
-use Rattle.typed_runs.specs.Endings.{RaisesOnlyDivideError}
-use Rattle.typed_runs.specs.Holds.{RunsAt, TopHolds, GateHolds, SpotHolds, GoesOnWell, Holds}
+use Rattle.invariant_laws.specs.Sound.{FramesKeep, SoundBelow, TopFits}
+use Rattle.invariant_laws.specs.Waiting.{States, Waits, AsksWell, BelowFunction, Chain}
+use Rattle.invariant_laws.specs.Endings.{RaisesOnlyDivideError}
+use Rattle.invariant_laws.specs.Holds.{RunsAt, TopHolds, GateHolds, SpotHolds, GoesOnWell, Holds}
 use Rattle.neutral_machine.proofs.Keeping.{moves_between}
 use Rattle.invariant_laws.proofs.After.{FramesAfter, stays, drops, enters, leaves, Left, instruction_leaves}
 use Rattle.invariant_laws.proofs.Later.{live_later, will_later}
@@ -44,7 +44,7 @@ use Rattle.invariant_laws.proofs.Chains.{arguments_later, below_later, chain_lat
 use Rattle.invariant_laws.proofs.Chains.{chain_all}
 use Rattle.invariant_laws.proofs.Marks.{depth_call, locals_call, hosts_call, frames_call, chain_call}
 use Rattle.invariant_laws.proofs.Same.{SameMemory, same_later, live_same, frames_later, cells_same}
-use Rattle.typed_runs.specs.Laws.{StatesFitBelow}
+use Rattle.invariant_laws.specs.LaterLaws.{StatesFitBelow}
 use Rattle.invariant_laws.specs.Hosted.{EntersAs, as_entry, as_point, RunWorld}
 use Rattle.step_sound.specs.PlaceStates.{Reached, LeadsTo}
 

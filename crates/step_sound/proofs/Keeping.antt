@@ -21,8 +21,8 @@ use Rattle.host_model.specs.Progress.{NativeCall, NoCall, Asked, Accepted}
 use Rattle.host_model.specs.RunState.{RunState}
 use Rattle.host_model.specs.Values.{Neutral}
 use Rattle.host_model.specs.World.{World}
-use Rattle.typed_runs.specs.Holds.{RunsAt, TopHolds, GateHolds, SpotHolds, Holds}
-use Rattle.typed_runs.specs.Waiting.{States}
+use Rattle.invariant_laws.specs.Holds.{RunsAt, TopHolds, GateHolds, SpotHolds, Holds}
+use Rattle.invariant_laws.specs.Waiting.{States}
 use Rattle.neutral_machine.specs.NeutralImage.{static_cells}
 use Rattle.neutral_machine.specs.NeutralRun.{neutral_instruction}
 use Rattle.host_model.specs.Runs.{run_after, run_of, run_step}

@@ -25,7 +25,7 @@ use Rattle.neutral_machine.specs.Config.{FunctionFrame, Frame, Config}
 use Rattle.neutral_machine.specs.Outcomes.{Gives, Raises, Stuck}
 use Rattle.host_model.specs.Placements.{Placement}
 use Rattle.host_model.specs.World.{World}
-use Rattle.typed_runs.specs.Accepts.{Accepts}
+use Rattle.invariant_laws.specs.Accepts.{Accepts}
 use Rattle.typing_laws.specs.OneRule.{Accepted, WorldTyped, here_of, StandsTyped, EndsSound}
 use Rattle.typing_laws.proofs.FlowTable.{one_rule}
 use Rattle.typing_laws.proofs.Rooms.{room_fits}

@@ -31,12 +31,12 @@ use Rattle.neutral_machine.specs.NeutralRun.{instruction_left, instruction_from,
 use Rattle.step_sound.specs.ReadWorld.{IsReadWorld}
 use Rattle.step_sound.specs.StepLaw.{InsnStands, StepGoesWell}
 use Rattle.width_checker.specs.Rows.{row_of, is_flow}
-use Rattle.typed_runs.specs.Live.{live_memory}
+use Rattle.invariant_laws.specs.Live.{live_memory}
 use Rattle.typing_laws.specs.OneRule.{Accepted as RuleAccepts, here_of, StandsTyped}
-use Rattle.typed_runs.specs.Sound.{TopFits, Sound}
-use Rattle.typed_runs.specs.Waiting.{States, Chain}
-use Rattle.typed_runs.specs.Holds.{RunsAt, TopHolds, SpotHolds, Holds}
-use Rattle.typed_runs.specs.Laws.{StatesFitBelow}
+use Rattle.invariant_laws.specs.Sound.{TopFits, Sound}
+use Rattle.invariant_laws.specs.Waiting.{States, Chain}
+use Rattle.invariant_laws.specs.Holds.{RunsAt, TopHolds, SpotHolds, Holds}
+use Rattle.invariant_laws.specs.LaterLaws.{StatesFitBelow}
 use Rattle.typing_laws.proofs.FlowTable.{one_rule}
 use Rattle.typing_laws.proofs.Rooms.{sound_room, room_fits}
 use Rattle.typing_laws.proofs.StatesBelow.{state_fits_below}

@@ -20,7 +20,7 @@ use Rattle.ebc_base.proofs.Lists.{slice_get-append_left, slice_get-append_right,
 use Rattle.neutral_machine.specs.WorldFits.{WorldFits}
 use Rattle.neutral_machine.proofs.Cells.{shape_fits}
 use Rattle.instruction_laws.proofs.Worlds.{world_meets}
-use Rattle.typed_runs.specs.Waiting.{States}
+use Rattle.invariant_laws.specs.Waiting.{States}
 use Rattle.step_sound.specs.PlaceStates.{PlacesHold, StatesHold}
 use Rattle.step_sound.specs.ReadWorld.{IsReadWorld}
 use Rattle.step_sound.proofs.Read.{read_is_run, objects_have_room}

@@ -7,7 +7,7 @@ use Rattle.neutral_machine.specs.Config.{Frame, Function, Host, HostFrame, Confi
 use Rattle.neutral_machine.specs.Layout.{height}
 use Rattle.host_model.specs.Placements.{frame_bytes, return_cell}
 use Rattle.host_model.specs.World.{World}
-use Rattle.typed_runs.specs.Sound.{SoundBelow}
+use Rattle.invariant_laws.specs.Sound.{SoundBelow}
 
 -- the host's frame on top
 abbrev pub top_host : List Frame → Option HostFrame

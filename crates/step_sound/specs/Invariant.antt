@@ -11,11 +11,11 @@ use Rattle.neutral_machine.specs.Config.{Config, call_under_way}
 use Rattle.host_model.specs.Placements.{Placement, IsPlacement}
 use Rattle.host_model.specs.RunState.{RunState}
 use Rattle.host_model.specs.World.{World}
-use Rattle.typed_runs.specs.Endings.{RaisesOnlyDivideError}
-use Rattle.typed_runs.specs.Holds.{TopHolds, GateHolds}
-use Rattle.typed_runs.specs.Live.{live_memory}
-use Rattle.typed_runs.specs.Sound.{SoundBelow}
-use Rattle.typed_runs.specs.Waiting.{States, Chain}
+use Rattle.invariant_laws.specs.Endings.{RaisesOnlyDivideError}
+use Rattle.invariant_laws.specs.Holds.{TopHolds, GateHolds}
+use Rattle.invariant_laws.specs.Live.{live_memory}
+use Rattle.invariant_laws.specs.Sound.{SoundBelow}
+use Rattle.invariant_laws.specs.Waiting.{States, Chain}
 use Rattle.step_sound.specs.PlaceStates.{StatesHold}
 use Rattle.step_sound.specs.ReadWorld.{IsReadWorld}
 

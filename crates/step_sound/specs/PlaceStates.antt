@@ -12,7 +12,7 @@ use Rattle.rules_flow.specs.declared.successors.Successors.{Successors}
 use Rattle.host_model.specs.World.{World}
 use Rattle.rules_image.specs.Places.{IsPlaceOf}
 use Rattle.width_checker.specs.Rows.{here_at, row_of}
-use Rattle.typed_runs.specs.Waiting.{States}
+use Rattle.invariant_laws.specs.Waiting.{States}
 use Rattle.invariant_laws.specs.Hosted.{EntersAs, HasStarts}
 
 -- ---- places

@@ -27,7 +27,7 @@ use Rattle.neutral_machine.specs.Outcomes.{Gives, Raises, Stuck}
 use Rattle.host_model.specs.Placements.{Placement, IsPlacement}
 use Rattle.host_model.specs.Progress.{NoCall}
 use Rattle.host_model.specs.World.{World}
-use Rattle.typed_runs.specs.Sound.{Sound}
+use Rattle.invariant_laws.specs.Sound.{Sound}
 use Rattle.typing_laws.specs.OneRule.{EndsSound}
 use Rattle.rules_image.specs.Places.{IsPlaceOf}
 use Rattle.step_sound.specs.PlaceStates.{PlacesHold}

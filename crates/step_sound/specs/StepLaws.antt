@@ -10,7 +10,7 @@ use Rattle.neutral_machine.specs.NeutralRuns.{neutral_start, neutral_step}
 use Rattle.host_model.specs.Placements.{Placement}
 use Rattle.host_model.specs.RunState.{RunState}
 use Rattle.host_model.specs.World.{World}
-use Rattle.typed_runs.specs.Waiting.{States}
+use Rattle.invariant_laws.specs.Waiting.{States}
 use Rattle.neutral_machine.specs.NeutralImage.{static_cells}
 use Rattle.neutral_machine.specs.NeutralRun.{neutral_instruction}
 use Rattle.host_model.specs.Runs.{run_of, run_step}

@@ -1,5 +1,31 @@
-//! One step of a typed program's run: the simulation of an instruction at one width, as clauses of the two calls that do a step of the
-//! machine, and one law for each kind of step of a run, the host's and the machine's. docs/SIMULATION.md has it in words.
+//! One step of a typed program's run: the simulation of an instruction at one width, as clauses of the two calls that
+//! do a step of the machine, and one law for each kind of step of a run, the host's and the machine's.
+//! docs/SIMULATION.md has it in words.
+//!
+//! Promises:
+//!
+//! - `sound_data`, `sound_flow`: `Machine::step`, exactly (`step`, `objects`, `raised`). `simulated`: where
+//!   `after_data`, or `after_flow`, accepts the instruction in the state, for every image, script, valid placement and
+//!   configuration as `StepStands` asks, the neutral machine isn't stuck and raises nothing but a division by zero, the
+//!   machine ends as it does and stands for the configuration that it gives, and that is sound as the instruction asks
+//!   (`StepSimulated`).
+//! - `start_meets`: a run's start meets the invariant (`Invariant`). `next_step_is_there`: where it holds of a
+//!   configuration that goes on, the next step is of one of ten kinds (`NextStep`).
+//! - `plain_steps_keep`, `native_calls_keep`, `thunks_keep`, `calls_keep`, `enters_keep`, `replies_keep`,
+//!   `notifies_keep`, `leaving_keeps`, `resuming_keeps`, `last_keeps`: each step of that kind is there and keeps the
+//!   invariant.
+//! - `host_frames_fit`: each frame of the host in a sound configuration, with the functions upon it, takes at most its
+//!   function's parameters, a return cell and what its function needs (`HostFramesFit`).
+//! - `run_step_keeps_standing`: after a step, the host's or an instruction's, a run that stands for a configuration
+//!   stands for what the neutral machine's step leaves, unless that is stuck, where the step goes well (`StepGoesWell`)
+//!   and the script is as its reader gives it. Nothing is asked of the step of a run that has ended.
+//! - `thunks_are_loaded`: wherever the image is loaded, each thunk cell names its function. `statics_are_shown`: at
+//!   either width and under every valid placement the loaded bytes show what the cells of static objects hold at a
+//!   run's start: numbers, null, and the addresses in relocated pointers of 64 bits. `read_is_decoded`: an instruction
+//!   that the neutral machine reads, and that ends in a function, keeps the rule on decoding, where the image's places
+//!   have bytes.
+//!
+//! The laws of the steps are about states that a map of places gives; their lemmas take any states (`States`).
 #![tactic(auto)]
 
 mod data;

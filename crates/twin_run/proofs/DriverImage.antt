@@ -16,7 +16,7 @@ use Rattle.pe_image.specs.Images.{EndsBefore, IsImage, IsSection}
 use Rattle.pe_image.specs.Mapped.{AreBytes, laid, image_byte}
 use Rattle.pe_image.specs.declared.image.Section.{Section}
 use Rattle.rules_image.specs.Images.{AreApart, FunctionHolds, ShapeHolds, IsEven, IsFunction, IsThunk, ThunkHolds}
-use Rattle.whole_runs.proofs.Programs.{driver_image}
+use Rattle.neutral_machine.proofs.Programs.{driver_image}
 use Rattle.twin_run.proofs.DriverNotes.{driver_named, main, tick}
 use Rattle.pe_image.proofs.Held.{IsBytes, laid_byte}
 use Rattle.step_sound.proofs.Items.{all_items, all_pairs, each_item, passing}

@@ -8,8 +8,8 @@ use Rattle.host_model.specs.Placements.{own_placement}
 use Rattle.neutral_machine.specs.NeutralImage.{static_cells}
 use Rattle.neutral_machine.specs.NeutralRun.{config_after}
 use Rattle.host_model.specs.Runs.{run_of}
-use Rattle.whole_runs.proofs.Computing.{runs_compute}
-use Rattle.whole_runs.proofs.Programs.{driver_image}
+use Rattle.neutral_machine.proofs.Computing.{runs_compute}
+use Rattle.neutral_machine.proofs.Programs.{driver_image}
 use Rattle.step_sound.specs.StepKinds.{IsPlain, IsNativeCall, IsThunk, IsNotify, IsCall, IsEnter, IsReply, IsLeaving, IsResuming, IsLast}
 use Rattle.twin_run.specs.Met.{ComesTo, TypedPremisesAreMet}
 use Rattle.twin_run.proofs.DriverNotes.{driver_named}

@@ -38,7 +38,7 @@ use Rattle.width_checker.specs.Rows.{row_of}
 use Rattle.neutral_machine.specs.NeutralImage.{instruction_at}
 use Rattle.note_types.specs.declared.notes.Notes.{Notes}
 use Rattle.width_checker.specs.Typed.{Typed}
-use Rattle.whole_runs.proofs.Programs.{driver_image}
+use Rattle.neutral_machine.proofs.Programs.{driver_image}
 use Rattle.twin_run.specs.TypedRuns.{IsTypedWorld}
 use Rattle.twin_run.proofs.DriverImage.{driver_bytes, driver_functions, driver_image_meets, driver_shapes, driver_thunks}
 use Rattle.twin_run.proofs.DriverNotes.{driver_named, driver_notes_meet}

@@ -25,7 +25,7 @@ use Rattle.step_sound.specs.StepLaws.{StepKeeps}
 use Rattle.step_sound.proofs.Keeping.{plain_keeps, native_call_keeps, thunk_keeps, call_keeps, enter_keeps, reply_keeps, notify_keeps}
 use Rattle.step_sound.proofs.Keeping.{leaving_keeps, resuming_keeps, last_keeps, ended_keeps, next_step, start_meets}
 use Rattle.step_sound.proofs.Read.{read_is_run}
-use Rattle.typed_runs.specs.Endings.{RaisesOnlyDivideError}
+use Rattle.invariant_laws.specs.Endings.{RaisesOnlyDivideError}
 use Rattle.neutral_machine.specs.NeutralImage.{static_cells}
 use Rattle.neutral_machine.specs.NeutralRun.{config_after, neutral_instruction}
 use Rattle.host_model.specs.Runs.{run_after, run_of, world_of}

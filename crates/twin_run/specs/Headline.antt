@@ -8,7 +8,7 @@ use Rattle.pe_image.specs.declared.image.Image.{Image}
 use Rattle.host_model.specs.Placements.{Placement, IsPlacement}
 use Rattle.host_model.specs.Scripts.{IsScript}
 use Rattle.host_model.specs.World.{World}
-use Rattle.typed_runs.specs.Endings.{RaisesOnlyDivideError}
+use Rattle.invariant_laws.specs.Endings.{RaisesOnlyDivideError}
 use Rattle.host_model.specs.Runs.{SameRun, run_of, world_of}
 
 -- The runs after so many steps, at 4 bytes an address under a placement and at 8 under another: they are the same, and raised nothing

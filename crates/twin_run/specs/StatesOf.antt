@@ -5,7 +5,7 @@ use Rattle.note_types.specs.declared.notes.Notes.{Notes}
 use Rattle.note_types.specs.declared.state.State.{State}
 use Rattle.pe_image.specs.declared.image.Image.{Image}
 use Rattle.width_checker.specs.StatesAt.{StateAt}
-use Rattle.typed_runs.specs.Waiting.{States}
+use Rattle.invariant_laws.specs.Waiting.{States}
 
 -- at a place of the function of that number stands this state
 pub record StandsIn (image : Image) (notes : Notes) (func place : ℕ) (s : State) : Type 0 where

@@ -1,5 +1,44 @@
-//! The two runs of a program, at 4 and at 8 bytes an address: the check whose yes proves that they are the same, and the laws that it
-//! rests on. docs/SIMULATION.md has it in words.
+//! The two runs of a program, at 4 and at 8 bytes an address: the check whose yes proves that they are the same, and
+//! the laws that it rests on. docs/SIMULATION.md has it in words.
+//!
+//! Promises:
+//!
+//! - `check`: the verdict on an image under notes, as `width_checker` gives it (`verdict`, `neutral`, `refused`).
+//!   `alike`: where it is neutral, the runs of the image are the same at both widths, for every script under the notes,
+//!   all valid placements and every number of steps, and have raised nothing but a division by zero
+//!   (`SameAtBothWidths`). The image is one that was read: it is asked to be well formed (`IsImage`) and to have a byte
+//!   at each place (`AreBytes`).
+//! - `start`: the runner of a run of an image under notes and with a script, all of which were read, at the state
+//!   before the first step (`IsRunner`, `run_of`). It fails only where there is no memory; no other call takes any. The
+//!   image needn't be one that is checked. It has taken no step (`taken`).
+//! - `Runner::step`: from the runner of a run in a state to that in the state after one step (`run_step`), under the
+//!   placement that this project takes. The runner counts it, up to 2^64 - 1 (`counted`); a run that ended stays as it
+//!   is, with its count (`over`). `Runner::ending`, `Runner::spot` and `Runner::trace`: exactly what that state shows.
+//!   `Runner::report`: the same, and how many steps the runner counted.
+//! - What a run of two images on one host asks of a runner beside its steps (docs/PAIRS.md, "The rules"):
+//!   `Runner::asked_call`, the call that the host sees asked for, or that it sees none (`place_called`);
+//!   `Runner::bound_call`, the call step of a bound call, which leaves the run as it is (`bound_step`), and the frames
+//!   but for the slots of the top one (`slots`); `Runner::provider_refused`; `Runner::enter_first`, which enters a
+//!   function where none is entered, and `Runner::leave_first`, which leaves the first function where it has returned,
+//!   with its result, or tells that the host sees something else (`IsNoFirstReturn`); between the two a runner rests
+//!   (`Rests`). `Runner::answer`: the reply of a bound call (`bound_reply`), or how it is refused (`reply_refused`).
+//!   `Runner::end`: the run ends so. None of them tells an event or takes memory.
+//! - `run`: runs an image at a width until its run ends or for so many steps, and reports how many it took, where the
+//!   run then stands, its events and its ending (`IsReport`). The image needs to keep no rule. Of errors it gives want
+//!   of memory alone, which `start` may give.
+//! - `twin`: runs an image at both widths so, each run to its own report (`at4`, `at8`), and finds the least number of
+//!   steps, up to the same limit, after which the two aren't the same (`differ`, as `DifferAt` has it). Where the image
+//!   is typed there is none (`same_where_typed`). Both runs go in step while they are the same; then only the events
+//!   that a step adds are compared. Once they part each goes on by itself.
+//! - `machines_follow`: in a typed image the neutral machine is never stuck, and at either width, under every valid
+//!   placement, after every number of steps, the run meets the invariant beside it (`MachinesFollow`).
+//! - `typed_runs_are_same`: the runs of a typed image at 4 and at 8 bytes are the same after every number of steps,
+//!   under all valid placements (`placed`) and so under those that this project takes (`own`); the least number of
+//!   steps after which they differ, up to any limit, is none (`never`).
+//! - `own_placement_is_valid`: the placement that this project takes is valid at either width, where all objects of the
+//!   script take at most 8 MiB with their padding and gaps.
+//! - `typed_premises_are_met`: there are an image, notes and a script such as readers give, of which the image is
+//!   typed, and whose run comes to each kind of step and finishes.
 #![tactic(auto)]
 
 mod bound;

@@ -1,7 +1,15 @@
-//! Reads notes, a TOML text that says what a program's places hold, as the record that the text stands for, or tells its
-//! first fault with the key where it stands. docs/NOTES.md says how notes are written.
+//! Reads notes, a TOML text that says what a program's places hold, as the record that the text stands for, or tells
+//! its first fault with the key where it stands. docs/NOTES.md says how notes are written.
 //!
-//! The definitions that the contracts cite stand in specs/, one subject a file.
+//! Promises:
+//!
+//! - `read_notes`: `notes` says that it returns what `notes_of` says of the text, the record or the first fault with
+//!   its path; `conditions`, that a record that it gives meets the conditions on notes (`IsNotes` of `note_types`):
+//!   numbers in range, lists within their limits, every name of a thing there, known cells and types, states of
+//!   functions at points, and the rest of docs/NOTES.md.
+//! - `field_set`, within the crate: `value` says that it is the fold of the definition, and `fields` which bits it has
+//!   (`IsFieldSet`): bit f exactly where f is below 64 and some name of the list is that of field f.
+//! - Where memory runs out it says so, and its clauses say nothing more.
 #![tactic(auto)]
 
 ghost use Rattle.std.specs.Prelude.{IfOk};

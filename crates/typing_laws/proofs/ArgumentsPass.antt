@@ -31,7 +31,7 @@ use Rattle.neutral_machine.specs.Fits.{IsCellBelow, IsLent, Fits}
 use Rattle.neutral_machine.specs.FitsState.{ItemFits}
 use Rattle.neutral_machine.specs.Memory.{Memory, cell_field, AreWritten}
 use Rattle.host_model.specs.Values.{Neutral, FieldOfLocals}
-use Rattle.typed_runs.specs.Sound.{ParamFits}
+use Rattle.invariant_laws.specs.Sound.{ParamFits}
 use Rattle.typing_laws.proofs.FitsBelow.{fits_below}
 use Rattle.typing_laws.proofs.LiveCells.{LaterBelow, below_down, passed_up}
 use Rattle.typing_laws.proofs.Loads.{has_field_is}

@@ -40,7 +40,7 @@ use Rattle.rules_data.specs.Data.{left_value}
 use Rattle.host_model.specs.Values.{number}
 use Rattle.neutral_machine.specs.Config.{FunctionFrame, Frame, Config, depth}
 use Rattle.host_model.specs.World.{World}
-use Rattle.typed_runs.specs.Live.{live_memory}
+use Rattle.invariant_laws.specs.Live.{live_memory}
 use Rattle.neutral_machine.specs.Outcomes.{Outcome, Gives, Raises, Stuck, ◌>>=◌}
 use Rattle.neutral_machine.specs.Operations.{combined}
 use Rattle.neutral_machine.specs.Operands.{plainly, beside_extra, local_at_location, offset_of, extra_pair, moved_by, direct_value}
@@ -60,7 +60,7 @@ use Rattle.rules_laws.proofs.Options.{ok_choice, ok_map}
 use Rattle.note_types.specs.declared.spot.Spot.TheVariants as host
 use Rattle.typing_laws.proofs.Rows.{then_some, same_fits, err_ok, ok_same}
 use Rattle.typing_laws.proofs.ComputedFit.{computed_below}
-use Rattle.typed_runs.specs.Accepts.{Accepts}
+use Rattle.invariant_laws.specs.Accepts.{Accepts}
 use Rattle.typing_laws.proofs.Accesses.{access_of}
 use Rattle.typing_laws.proofs.SumsFit.{sum_fits}
 use Rattle.typing_laws.proofs.WideFit.{computed_fits}

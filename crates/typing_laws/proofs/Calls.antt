@@ -51,12 +51,12 @@ use Rattle.neutral_machine.specs.Outcomes.{Outcome, Gives, Stuck, ◌>>=◌, or_
 use Rattle.host_model.specs.Placements.{pair_at, return_cell}
 use Rattle.host_model.specs.Values.{Neutral}
 use Rattle.host_model.specs.World.{World}
-use Rattle.typed_runs.specs.Accepts.{Accepts}
-use Rattle.typed_runs.specs.Asked.{GivenByCall, result_type_of}
-use Rattle.typed_runs.specs.Later.{IsFresh, Later, Preserves, WillFit}
-use Rattle.typed_runs.specs.Live.{live_memory}
+use Rattle.invariant_laws.specs.Accepts.{Accepts}
+use Rattle.invariant_laws.specs.Asked.{GivenByCall, result_type_of}
+use Rattle.invariant_laws.specs.Later.{IsFresh, Later, Preserves, WillFit}
+use Rattle.invariant_laws.specs.Live.{live_memory}
 use Rattle.typing_laws.specs.OneRule.{Enters, GoesBack, Returns, here_of}
-use Rattle.typed_runs.specs.Sound.{FrameBelow, GoesWell, KeepsWithin, Sound, SoundBelow}
+use Rattle.invariant_laws.specs.Sound.{FrameBelow, GoesWell, KeepsWithin, Sound, SoundBelow}
 use Rattle.typing_laws.proofs.FitsBelow.{fits_below}
 use Rattle.typing_laws.proofs.Rows.{then_some, err_ok}
 use Rattle.typing_laws.proofs.ArgumentsPass.{arguments_fit, both_none, needs_true}
@@ -64,7 +64,7 @@ use Rattle.typing_laws.proofs.ArithRow.{also_ok}
 use Rattle.typing_laws.proofs.Context.{TopSound, passed_params, same_locals}
 use Rattle.typing_laws.proofs.ItemsChanged.{few_hosts, top_keeps}
 use Rattle.typing_laws.proofs.Jumps.{aligned_is, number_found, target_found}
-use Rattle.typed_runs.proofs.LaterFits.{fields_later, fits_later, items_later, later_trans}
+use Rattle.invariant_laws.proofs.LaterFits.{fields_later, fits_later, items_later, later_trans}
 use Rattle.typing_laws.proofs.LiveCells.{LaterBelow, below_later, frames_kept}
 use Rattle.typing_laws.proofs.Operands.{some_ok, then_ok}
 use Rattle.typing_laws.proofs.PushFits.{top_height}

@@ -35,7 +35,7 @@ use Rattle.rules_data.specs.Data as rules_data
 use Rattle.rules_flow.specs.Narrowing.{narrowed, granted, narrowed_if, narrow}
 use Rattle.neutral_machine.specs.Config.{Registers, FunctionFrame, Frame, Config, depth}
 use Rattle.host_model.specs.World.{World}
-use Rattle.typed_runs.specs.Live.{live_memory}
+use Rattle.invariant_laws.specs.Live.{live_memory}
 use Rattle.neutral_machine.specs.Memory.{Memory}
 use Rattle.neutral_machine.specs.Fits.{Fits}
 use Rattle.neutral_machine.specs.FitsState.{FitsState}
@@ -43,7 +43,7 @@ use Rattle.neutral_machine.specs.Outcomes.{◌>>=◌, or_stuck}
 use Rattle.neutral_machine.specs.Operands.{beside_extra, direct_value, value, local_at_location, offset_of}
 use Rattle.neutral_machine.specs.Locations.{Form, located_on_stack}
 use Rattle.neutral_machine.specs.Rows.{with_c, compare_row, goes}
-use Rattle.typed_runs.specs.Accepts.{Accepts}
+use Rattle.invariant_laws.specs.Accepts.{Accepts}
 use Rattle.typing_laws.proofs.Rows.{err_ok, ok_same}
 use Rattle.typing_laws.proofs.Accesses.{access_of}
 use Rattle.typing_laws.proofs.ComparesFit.{compares_fit}

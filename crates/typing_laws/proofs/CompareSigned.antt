@@ -47,8 +47,8 @@ use Rattle.neutral_machine.specs.Operands.{direct_value, index_pair, indexed, lo
 use Rattle.neutral_machine.specs.Rows.{compare_imm_row, goes}
 use Rattle.neutral_machine.specs.Rows.{with_c}
 use Rattle.neutral_machine.specs.Rows as rows
-use Rattle.typed_runs.specs.Accepts.{Accepts}
-use Rattle.typed_runs.specs.Live.{live_memory}
+use Rattle.invariant_laws.specs.Accepts.{Accepts}
+use Rattle.invariant_laws.specs.Live.{live_memory}
 use Rattle.typing_laws.proofs.Accesses.{access_of}
 use Rattle.typing_laws.proofs.Changes.{flag_written}
 use Rattle.typing_laws.proofs.ComparesFit.{compares_fit}

@@ -22,7 +22,7 @@ use Rattle.neutral_machine.specs.Outcomes.{Raises}
 use Rattle.neutral_machine.specs.Operations.{of_table, on_plain, on_one, on_divisor, by_table}
 use Rattle.neutral_machine.specs.Operations as neutral
 use Rattle.neutral_machine.proofs.Alu.{table_below}
-use Rattle.typed_runs.specs.Accepts.{Accepts}
+use Rattle.invariant_laws.specs.Accepts.{Accepts}
 use Rattle.typing_laws.proofs.Rows.{then_some, one_divides, constant_word, constant_fits, number_fits}
 
 -- ---- the table's numbers

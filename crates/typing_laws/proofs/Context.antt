@@ -34,9 +34,9 @@ use Rattle.host_model.specs.Objects.{made_objects, no_shape, shape_of}
 use Rattle.host_model.specs.declared.object.TypedObject.{TypedObject}
 use Rattle.host_model.specs.Values.{FieldOf, FieldOfLocals}
 use Rattle.host_model.specs.World.{World, frame_locals}
-use Rattle.typed_runs.specs.Live.{live_memory}
+use Rattle.invariant_laws.specs.Live.{live_memory}
 use Rattle.typing_laws.specs.OneRule.{WorldTyped}
-use Rattle.typed_runs.specs.Sound.{CellsFit, ParamFits, FrameBelow, FramesKeep, SoundBelow}
+use Rattle.invariant_laws.specs.Sound.{CellsFit, ParamFits, FrameBelow, FramesKeep, SoundBelow}
 use Rattle.typing_laws.proofs.Objects.{ObjectsFit}
 use Rattle.typing_laws.proofs.LiveCells.{ParamsPassed}
 use Rattle.typing_laws.proofs.OnStack.{any_locals}

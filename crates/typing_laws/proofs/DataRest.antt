@@ -57,8 +57,8 @@ use Rattle.neutral_machine.specs.Operands.{index_pair, indexed, stored_by, with_
 use Rattle.neutral_machine.specs.Rows.{Site, address_of_place, flags_of, goes, move_imm_natural_row, move_imm_row}
 use Rattle.neutral_machine.specs.Rows.{move_relative_row, store_special_row}
 use Rattle.neutral_machine.specs.Rows as rows
-use Rattle.typed_runs.specs.Accepts.{Accepts}
-use Rattle.typed_runs.specs.Live.{live_memory}
+use Rattle.invariant_laws.specs.Accepts.{Accepts}
+use Rattle.invariant_laws.specs.Live.{live_memory}
 use Rattle.typing_laws.proofs.Accesses.{access_of}
 use Rattle.typing_laws.proofs.Changes.{register_written}
 use Rattle.typing_laws.proofs.Rows.{lin_is, number_fits, one_divides, same_fits, then_some, wrap_add, err_ok, ok_same}

@@ -34,9 +34,9 @@ use Rattle.neutral_machine.specs.Rows.{NeutralEnd, Site, executed, is_stack_poin
 use Rattle.neutral_machine.specs.Rows as rows
 use Rattle.neutral_machine.specs.Config.{FunctionFrame, Frame, Config}
 use Rattle.host_model.specs.World.{World}
-use Rattle.typed_runs.specs.Accepts.{Accepts}
+use Rattle.invariant_laws.specs.Accepts.{Accepts}
 use Rattle.typing_laws.specs.OneRule.{StandsTyped, WorldTyped, here_of}
-use Rattle.typed_runs.specs.Sound.{TopFits}
+use Rattle.invariant_laws.specs.Sound.{TopFits}
 use Rattle.typing_laws.specs.DataTyped.{FallsSound, OneDataRule}
 use Rattle.rules_flow.specs.Successors.{falls}
 use Rattle.rules_flow.specs.declared.successors.Successors.{Successors}

@@ -44,16 +44,16 @@ use Rattle.neutral_machine.specs.Outcomes.{Outcome, Gives, ◌>>=◌, unless_stu
 use Rattle.host_model.specs.Placements.{frame_limit}
 use Rattle.host_model.specs.Values.{Neutral, CellPlace, FieldOf, FieldOfLocals, number}
 use Rattle.host_model.specs.World.{World, frame_locals}
-use Rattle.typed_runs.specs.Accepts.{Accepts}
-use Rattle.typed_runs.specs.Live.{live_memory}
-use Rattle.typed_runs.specs.Sound.{CellsFit, KeepsWithin, SlotsKept}
+use Rattle.invariant_laws.specs.Accepts.{Accepts}
+use Rattle.invariant_laws.specs.Live.{live_memory}
+use Rattle.invariant_laws.specs.Sound.{CellsFit, KeepsWithin, SlotsKept}
 use Rattle.typing_laws.proofs.Rows.{err_ok, ok_same}
 use Rattle.typing_laws.proofs.ArithRow.{GoesOn, goes_on}
 use Rattle.typing_laws.proofs.Context.{TopSound, passed_params, sizes_same}
 use Rattle.typing_laws.proofs.ItemsChanged.{below_after, few_hosts, items_after, top_after, top_keeps}
 use Rattle.typing_laws.proofs.ItemsDropped.{DropFound, drop_found, once_counted}
 use Rattle.typing_laws.proofs.LiveCells.{LaterBelow, live_held, live_some, live_there}
-use Rattle.typed_runs.proofs.StatesLater.{compared_stays}
+use Rattle.invariant_laws.proofs.StatesLater.{compared_stays}
 use Rattle.typing_laws.proofs.LocalsGone.{below_without, forgotten_fits, frames_without, hosts_without, keeps_without, plain_without}
 use Rattle.typing_laws.proofs.LocalsMade.{make_goes, no_locals}
 use Rattle.typing_laws.proofs.Pushes.{FallsOn}

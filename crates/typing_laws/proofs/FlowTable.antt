@@ -47,10 +47,10 @@ use Rattle.neutral_machine.specs.Config.{FunctionFrame, Frame, Config}
 use Rattle.neutral_machine.specs.Outcomes.{Outcome, Gives, Raises, Stuck}
 use Rattle.host_model.specs.Values.{Neutral}
 use Rattle.host_model.specs.World.{World}
-use Rattle.typed_runs.specs.Accepts.{Accepts}
+use Rattle.invariant_laws.specs.Accepts.{Accepts}
 use Rattle.typing_laws.specs.OneRule.{Asks, Makes, EndsSound, GoesOnSound, IsTaken, OneRule, here_of}
 use Rattle.typing_laws.specs.OneRule as ends
-use Rattle.typed_runs.specs.Sound.{TopFits}
+use Rattle.invariant_laws.specs.Sound.{TopFits}
 use Rattle.typing_laws.proofs.Rows.{err_ok, ok_same}
 use Rattle.typing_laws.proofs.ArithRow.{BesideFits, GoesOn}
 use Rattle.typing_laws.proofs.Calls.{call_fits, return_fits}

@@ -18,11 +18,11 @@ use Rattle.neutral_machine.specs.Memory.{Memory}
 use Rattle.host_model.specs.Placements.{frame_limit}
 use Rattle.host_model.specs.Values.{Neutral}
 use Rattle.host_model.specs.World.{World}
-use Rattle.typed_runs.specs.Later.{Later}
-use Rattle.typed_runs.specs.Live.{live_memory}
-use Rattle.typed_runs.specs.Sound.{FrameKeeps, FrameBelow, FramesKeep, KeepsWithin, SlotsKept, SoundBelow}
+use Rattle.invariant_laws.specs.Later.{Later}
+use Rattle.invariant_laws.specs.Live.{live_memory}
+use Rattle.invariant_laws.specs.Sound.{FrameKeeps, FrameBelow, FramesKeep, KeepsWithin, SlotsKept, SoundBelow}
 use Rattle.typing_laws.proofs.Context.{TopSound, passed_params}
-use Rattle.typed_runs.proofs.LaterFits.{FieldsLater, fields_later, fits_later, items_later}
+use Rattle.invariant_laws.proofs.LaterFits.{FieldsLater, fields_later, fits_later, items_later}
 use Rattle.typing_laws.proofs.LiveCells.{LaterBelow, below_later, below_kept, frames_kept}
 use Rattle.typing_laws.proofs.Relaid.{cells_at, later_at}
 

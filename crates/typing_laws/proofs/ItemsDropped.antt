@@ -22,7 +22,7 @@ use Rattle.neutral_machine.specs.Locations.{item_bytes, item_units}
 use Rattle.neutral_machine.specs.Memory.{Memory}
 use Rattle.host_model.specs.declared.object.TypedObject.{TypedObject}
 use Rattle.host_model.specs.World.{frame_locals}
-use Rattle.typed_runs.specs.Sound.{SlotsKept}
+use Rattle.invariant_laws.specs.Sound.{SlotsKept}
 use Rattle.typing_laws.proofs.OnStack.{units_are}
 
 -- the locals are among items at most once

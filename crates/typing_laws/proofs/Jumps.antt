@@ -33,8 +33,8 @@ use Rattle.neutral_machine.specs.Outcomes.{Outcome, Gives, Raises, Stuck, ◌>>=
 use Rattle.host_model.specs.Values.{plain, word}
 use Rattle.note_types.specs.declared.exception.Exception.TheVariants as raises
 use Rattle.host_model.specs.World.{World}
-use Rattle.typed_runs.specs.Accepts.{Accepts}
-use Rattle.typed_runs.specs.Live.{live_memory}
+use Rattle.invariant_laws.specs.Accepts.{Accepts}
+use Rattle.invariant_laws.specs.Live.{live_memory}
 use Rattle.typing_laws.specs.OneRule.{IsTaken, here_of}
 use Rattle.typing_laws.proofs.Rows.{if_some, then_some, wrap_add, err_ok}
 use Rattle.typing_laws.proofs.ArithRow.{GoesOn, goes_on}

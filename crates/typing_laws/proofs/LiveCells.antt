@@ -18,10 +18,10 @@ use Rattle.neutral_machine.specs.Memory.{Memory, cell_field, AreWritten, IsField
 use Rattle.host_model.specs.declared.object.TypedObject.{TypedObject}
 use Rattle.host_model.specs.Values.{Neutral, CellPlace}
 use Rattle.host_model.specs.World.{World}
-use Rattle.typed_runs.specs.Later.{Later}
-use Rattle.typed_runs.proofs.LaterFits.{or_null_later, pointer_later}
-use Rattle.typed_runs.specs.Live.{live_cells}
-use Rattle.typed_runs.specs.Sound.{ParamFits, FrameKeeps, FrameBelow, FramesKeep}
+use Rattle.invariant_laws.specs.Later.{Later}
+use Rattle.invariant_laws.proofs.LaterFits.{or_null_later, pointer_later}
+use Rattle.invariant_laws.specs.Live.{live_cells}
+use Rattle.invariant_laws.specs.Sound.{ParamFits, FrameKeeps, FrameBelow, FramesKeep}
 
 -- ---- what live cells hold
 

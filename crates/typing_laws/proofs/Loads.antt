@@ -23,11 +23,11 @@ use Rattle.host_model.specs.Values.{Neutral, CellPlace, FieldOfLocals}
 use Rattle.host_model.specs.Values as values
 use Rattle.neutral_machine.specs.Config.{Registers, Config}
 use Rattle.host_model.specs.World.{World}
-use Rattle.typed_runs.specs.Live.{live_memory}
+use Rattle.invariant_laws.specs.Live.{live_memory}
 use Rattle.neutral_machine.specs.Memory.{Memory, AreWritten}
 use Rattle.neutral_machine.specs.Memory as memory
 use Rattle.neutral_machine.specs.Fits.{FitsPlain, Fits}
-use Rattle.typed_runs.specs.Sound.{CellsFit}
+use Rattle.invariant_laws.specs.Sound.{CellsFit}
 use Rattle.neutral_machine.specs.Operations.{kept_natural, sign_extended}
 use Rattle.neutral_machine.specs.Locations.{Access, Move, Form, Signed, Location, CellAt, ParamAt, kept, cell_value, value_at}
 use Rattle.neutral_machine.specs.Locations.{entry_if}

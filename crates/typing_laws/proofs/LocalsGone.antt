@@ -24,7 +24,7 @@ use Rattle.host_model.specs.Values.{Neutral, At, Num, Handle, Method, Entry, Err
 use Rattle.host_model.specs.Values.{null, mask, pair}
 use Rattle.host_model.specs.World.{World}
 use Rattle.host_model.specs.declared.object.TypedObject.{TypedObject}
-use Rattle.typed_runs.specs.Sound.{FrameBelow, FrameKeeps, FramesKeep, KeepsWithin, ParamFits, ParamKind, ParamsFit, SlotsKept}
+use Rattle.invariant_laws.specs.Sound.{FrameBelow, FrameKeeps, FramesKeep, KeepsWithin, ParamFits, ParamKind, ParamsFit, SlotsKept}
 use Rattle.typing_laws.proofs.LiveCells.{LaterBelow, ParamsPassed, below_down, passed_up}
 use Rattle.neutral_machine.proofs.Drops.{depth_map, stays}
 

@@ -31,11 +31,11 @@ use Rattle.neutral_machine.specs.Outcomes.{Gives, Stuck, ◌>>=◌}
 use Rattle.host_model.specs.Placements.{pair_at}
 use Rattle.host_model.specs.Values.{Neutral, CellPlace, FieldOf, FieldOfLocals}
 use Rattle.host_model.specs.World.{World, frame_locals}
-use Rattle.typed_runs.specs.Accepts.{Accepts}
-use Rattle.typed_runs.specs.Live.{live_memory}
-use Rattle.typed_runs.specs.Sound.{CellsFit}
+use Rattle.invariant_laws.specs.Accepts.{Accepts}
+use Rattle.invariant_laws.specs.Live.{live_memory}
+use Rattle.invariant_laws.specs.Sound.{CellsFit}
 use Rattle.typing_laws.proofs.Rows.{err_ok, ok_same}
-use Rattle.typed_runs.proofs.LaterFits.{FieldsLater, fits_later, items_later, written_later}
+use Rattle.invariant_laws.proofs.LaterFits.{FieldsLater, fits_later, items_later, written_later}
 use Rattle.typing_laws.proofs.ArithRow.{GoesOn, goes_on}
 use Rattle.typing_laws.proofs.Context.{TopSound, own_locals, passed_params, sizes_same, locals_are}
 use Rattle.typing_laws.proofs.ItemsChanged.{few_hosts, items_moved, top_keeps}

@@ -43,13 +43,13 @@ use Rattle.rules_data.specs.Data as rules_data
 use Rattle.host_model.specs.Values.{Neutral, At, LocalOf, FieldOfLocals}
 use Rattle.neutral_machine.specs.Config.{FunctionFrame, Frame, Config, depth}
 use Rattle.host_model.specs.World.{World}
-use Rattle.typed_runs.specs.Live.{live_memory}
+use Rattle.invariant_laws.specs.Live.{live_memory}
 use Rattle.neutral_machine.specs.Outcomes.{Gives, ◌>>=◌}
 use Rattle.neutral_machine.specs.Operands.{NeutralSide, indexed, index_pair, local_at_location, offset_of, moved_by, direct_value}
 use Rattle.neutral_machine.specs.Operands.{loaded_by, value, written}
 use Rattle.neutral_machine.specs.Locations.{Move, Offset, kept, located_on_stack}
 use Rattle.neutral_machine.specs.Rows.{goes, move_row}
-use Rattle.typed_runs.specs.Accepts.{Accepts}
+use Rattle.invariant_laws.specs.Accepts.{Accepts}
 use Rattle.typing_laws.proofs.Rows.{err_ok, ok_same}
 use Rattle.typing_laws.proofs.Accesses.{access_of}
 use Rattle.typing_laws.proofs.Pointed.{IsBeside}

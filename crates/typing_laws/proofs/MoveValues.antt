@@ -23,7 +23,7 @@ use Rattle.host_model.specs.Values.{Neutral, Num, At, Handle, Method, Entry, Err
 use Rattle.neutral_machine.specs.Config.{FunctionFrame, Frame, Config, depth}
 use Rattle.host_model.specs.declared.object.TypedObject.{TypedObject}
 use Rattle.host_model.specs.World.{World}
-use Rattle.typed_runs.specs.Live.{live_memory}
+use Rattle.invariant_laws.specs.Live.{live_memory}
 use Rattle.neutral_machine.specs.Operations.{is_kept_at, kept_natural, narrowed, on_number}
 use Rattle.neutral_machine.specs.Operands.{index_pair, moved_by}
 use Rattle.neutral_machine.specs.Locations.{Move, Offset, kept}

@@ -40,8 +40,8 @@ use Rattle.neutral_machine.specs.NeutralReadings.{neutral_slots, slot_given}
 use Rattle.host_model.specs.Readings.{before_all}
 use Rattle.host_model.specs.Values.{Neutral, Num, null, number, pair}
 use Rattle.host_model.specs.declared.object.TypedObject.{TypedObject}
-use Rattle.typed_runs.specs.Asked.{ArgumentFits, ArgumentsFit, IsAnyPointer, OutWritten, OutsWritten}
-use Rattle.typed_runs.specs.Sound.{SlotsKept}
+use Rattle.invariant_laws.specs.Asked.{ArgumentFits, ArgumentsFit, IsAnyPointer, OutWritten, OutsWritten}
+use Rattle.invariant_laws.specs.Sound.{SlotsKept}
 use Rattle.typing_laws.proofs.FitsBelow.{fits_below}
 use Rattle.typing_laws.proofs.ArgumentsPass.{both_none, lent_below, needs_true, some_never}
 use Rattle.typing_laws.proofs.CompareRow.{either_field}

@@ -55,12 +55,12 @@ use Rattle.neutral_machine.specs.Operations.{kept_natural}
 use Rattle.neutral_machine.specs.Outcomes.{Outcome, Gives, Stuck, ◌>>=◌, or_stuck}
 use Rattle.host_model.specs.Values.{Neutral, At, Method, ThunkOf, null}
 use Rattle.host_model.specs.World.{World}
-use Rattle.typed_runs.specs.Accepts.{Accepts}
-use Rattle.typed_runs.specs.Asked.{GivenByNative, GivenByType, OutsWritten}
-use Rattle.typed_runs.specs.Later.{Later, Preserves, WillFit}
-use Rattle.typed_runs.specs.Live.{live_memory}
+use Rattle.invariant_laws.specs.Accepts.{Accepts}
+use Rattle.invariant_laws.specs.Asked.{GivenByNative, GivenByType, OutsWritten}
+use Rattle.invariant_laws.specs.Later.{Later, Preserves, WillFit}
+use Rattle.invariant_laws.specs.Live.{live_memory}
 use Rattle.typing_laws.specs.OneRule.{Asks, Makes, here_of}
-use Rattle.typed_runs.specs.Sound.{FramesKeep, Sound, ThunksFor, TopFits}
+use Rattle.invariant_laws.specs.Sound.{FramesKeep, Sound, ThunksFor, TopFits}
 use Rattle.typing_laws.proofs.Rows.{then_some, err_ok, ok_same}
 use Rattle.typing_laws.proofs.ArgumentsPass.{both_none, needs_true}
 use Rattle.typing_laws.proofs.ArithRow.{BesideFits, also_ok}
@@ -68,7 +68,7 @@ use Rattle.typing_laws.proofs.Calls.{after_call, called_fresh}
 use Rattle.typing_laws.proofs.CompareRow.{either_field}
 use Rattle.typing_laws.proofs.Context.{TopSound, same_locals}
 use Rattle.typing_laws.proofs.ItemsChanged.{top_keeps}
-use Rattle.typed_runs.proofs.LaterFits.{fields_later, fits_later, items_later}
+use Rattle.invariant_laws.proofs.LaterFits.{fields_later, fits_later, items_later}
 use Rattle.typing_laws.proofs.NativeArguments.{Handed, arguments_handed}
 use Rattle.typing_laws.proofs.Operands.{load_fits, register_fits, some_ok, then_ok}
 

@@ -28,7 +28,7 @@ use Rattle.host_model.specs.World.{frame_locals}
 use Rattle.neutral_machine.specs.Memory.{Memory}
 use Rattle.neutral_machine.specs.Fits.{Fits}
 use Rattle.neutral_machine.specs.FitsState.{ItemFits}
-use Rattle.typed_runs.specs.Sound.{ParamFits}
+use Rattle.invariant_laws.specs.Sound.{ParamFits}
 use Rattle.neutral_machine.specs.Locations.{Location, CellAt, ParamAt, Offset, find_field, item_units, item_bytes, parameter_at}
 use Rattle.neutral_machine.specs.Locations.{located_among}
 use Rattle.typing_laws.proofs.Rows.{then_some, if_some}

@@ -26,7 +26,7 @@ use Rattle.rules_base.specs.Places.{from_stack, locals_size, place_at, pointed, 
 use Rattle.host_model.specs.Values.{Neutral, FieldOfLocals}
 use Rattle.neutral_machine.specs.Config.{StackItem, Pushed, FunctionFrame, Frame, Config, depth}
 use Rattle.host_model.specs.World.{World}
-use Rattle.typed_runs.specs.Live.{live_memory}
+use Rattle.invariant_laws.specs.Live.{live_memory}
 use Rattle.neutral_machine.specs.Fits.{Fits}
 use Rattle.neutral_machine.specs.Outcomes.{Gives, or_stuck}
 use Rattle.neutral_machine.specs.Operations.{kept_natural, sign_extended}

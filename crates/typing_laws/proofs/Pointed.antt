@@ -32,7 +32,7 @@ use Rattle.neutral_machine.specs.Memory.{Memory}
 use Rattle.neutral_machine.specs.Memory as memory
 use Rattle.host_model.specs.HostPlans.{field_in}
 use Rattle.neutral_machine.specs.Fits.{IsPointer, Fits}
-use Rattle.typed_runs.specs.Sound.{CellsFit}
+use Rattle.invariant_laws.specs.Sound.{CellsFit}
 use Rattle.neutral_machine.specs.Operations.{sum_of}
 use Rattle.neutral_machine.specs.Operands.{moved_by}
 use Rattle.neutral_machine.specs.Locations.{Location, CellAt, Offset, located_past}

@@ -37,8 +37,8 @@ use Rattle.host_model.specs.World.{World}
 use Rattle.neutral_machine.specs.Operands.{moved_by, with_register, written}
 use Rattle.neutral_machine.specs.Rows.{goes}
 use Rattle.neutral_machine.specs.Rows as rows
-use Rattle.typed_runs.specs.Accepts.{Accepts}
-use Rattle.typed_runs.specs.Live.{live_memory}
+use Rattle.invariant_laws.specs.Accepts.{Accepts}
+use Rattle.invariant_laws.specs.Live.{live_memory}
 use Rattle.typing_laws.proofs.Accesses.{access_of}
 use Rattle.typing_laws.proofs.Rows.{same_fits, err_ok, ok_same}
 use Rattle.typing_laws.proofs.Stores.{Within}
@@ -75,7 +75,7 @@ use Rattle.neutral_machine.specs.Operations.{extended, kept_natural}
 use Rattle.neutral_machine.specs.Rows.{pop_natural_row, pop_row, popped, taken, taken_from, with_items}
 use Rattle.std.specs.List.{AllZip}
 use Rattle.std.proofs.lemmas.Bool.{lt-ltb, ltb-true}
-use Rattle.typed_runs.specs.Sound.{KeepsWithin, SlotsKept}
+use Rattle.invariant_laws.specs.Sound.{KeepsWithin, SlotsKept}
 use Rattle.typing_laws.proofs.SumsFit.{sum_fits}
 use Rattle.typing_laws.proofs.DataRest.{register_goes}
 use Rattle.typing_laws.proofs.ItemsChanged.{below_after, fits_after, items_after, top_after, top_keeps}

@@ -22,10 +22,10 @@ use Rattle.neutral_machine.specs.Config.{StackItem, Pushed, LocalsOf, FunctionFr
 use Rattle.host_model.specs.World.{World, frame_locals}
 use Rattle.host_model.specs.Placements.{pair_at, slot_bytes}
 use Rattle.neutral_machine.specs.Layout.{height}
-use Rattle.typed_runs.specs.Live.{live_memory}
+use Rattle.invariant_laws.specs.Live.{live_memory}
 use Rattle.neutral_machine.specs.Memory.{Memory}
 use Rattle.neutral_machine.specs.FitsState.{ItemFits}
-use Rattle.typed_runs.specs.Sound.{SlotsKept}
+use Rattle.invariant_laws.specs.Sound.{SlotsKept}
 use Rattle.neutral_machine.specs.Outcomes.{Gives}
 use Rattle.neutral_machine.specs.Rows.{pushed, with_items}
 use Rattle.neutral_machine.specs.Operations.{kept_natural}

@@ -24,8 +24,8 @@ use Rattle.host_model.specs.World.{World}
 use Rattle.neutral_machine.specs.Operands.{direct_value, loaded_by, local_at_location, moved_by, offset_of, value}
 use Rattle.neutral_machine.specs.Rows.{goes}
 use Rattle.neutral_machine.specs.Rows as rows
-use Rattle.typed_runs.specs.Accepts.{Accepts}
-use Rattle.typed_runs.specs.Live.{live_memory}
+use Rattle.invariant_laws.specs.Accepts.{Accepts}
+use Rattle.invariant_laws.specs.Live.{live_memory}
 use Rattle.typing_laws.proofs.Rows.{err_ok, ok_same}
 use Rattle.typing_laws.proofs.ArithRow.{GoesOn, accepts_is, accepts_then, goes_on}
 use Rattle.typing_laws.proofs.Context.{TopSound, known_params, objects}

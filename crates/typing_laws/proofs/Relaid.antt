@@ -13,8 +13,8 @@ use Rattle.host_model.specs.declared.object.TypedObject.{TypedObject}
 use Rattle.host_model.specs.Progress.{ScriptPlace}
 use Rattle.host_model.specs.Values.{CellPlace, FieldOf, FieldOfLocals}
 use Rattle.host_model.specs.World.{World}
-use Rattle.typed_runs.specs.Live.{live_memory}
-use Rattle.typed_runs.specs.Sound.{CellsFit}
+use Rattle.invariant_laws.specs.Live.{live_memory}
+use Rattle.invariant_laws.specs.Sound.{CellsFit}
 use Rattle.typing_laws.proofs.LiveCells.{live_held, live_there, LaterBelow}
 
 module _ (world : World) (a b : Config) (script : b.script ≡ a.script) (cells : b.cells ≡ a.cells) where

@@ -45,9 +45,9 @@ use Rattle.neutral_machine.specs.Memory.{Memory}
 use Rattle.host_model.specs.Placements.{frame_bytes, most_bytes, pair_at, params_bytes, return_cell, slot_bytes, stack_bytes}
 use Rattle.host_model.specs.Values.{null}
 use Rattle.host_model.specs.World.{World, frame_locals}
-use Rattle.typed_runs.specs.Live.{live_memory}
+use Rattle.invariant_laws.specs.Live.{live_memory}
 use Rattle.typing_laws.specs.OneRule.{WorldTyped, StandsTyped, here_of}
-use Rattle.typed_runs.specs.Sound.{KeepsWithin, IsEntered, FrameBelow, ParamKind, FramesKeep, SoundBelow}
+use Rattle.invariant_laws.specs.Sound.{KeepsWithin, IsEntered, FrameBelow, ParamKind, FramesKeep, SoundBelow}
 use Rattle.typing_laws.proofs.Rows.{err_ok}
 use Rattle.typing_laws.proofs.Calls.{call_allowed}
 use Rattle.typing_laws.proofs.Context.{TopSound, sizes_same}

@@ -17,10 +17,10 @@ use Rattle.neutral_machine.specs.Config.{Registers, FunctionFrame}
 use Rattle.neutral_machine.specs.Memory.{Memory, cell_field, with_cell, IsFieldWritten}
 use Rattle.neutral_machine.specs.Fits.{FitsPlain}
 use Rattle.neutral_machine.specs.FitsState.{FitsState}
-use Rattle.typed_runs.specs.Sound.{CellsFit}
-use Rattle.typed_runs.proofs.LaterFits.{FieldsLater, fields_later, fits_later, items_later}
-use Rattle.typed_runs.specs.Later.{Later}
-use Rattle.typed_runs.specs.Live.{live_cells}
+use Rattle.invariant_laws.specs.Sound.{CellsFit}
+use Rattle.invariant_laws.proofs.LaterFits.{FieldsLater, fields_later, fits_later, items_later}
+use Rattle.invariant_laws.specs.Later.{Later}
+use Rattle.invariant_laws.specs.Live.{live_cells}
 use Rattle.neutral_machine.proofs.CellPairs.{one_place}
 
 own_place : (d x : ℕ) → same_cell_place (FieldOfLocals d x) (FieldOfLocals d x) ≡ true

@@ -27,7 +27,7 @@ use Rattle.neutral_machine.specs.Memory.{Memory}
 use Rattle.neutral_machine.specs.Fits.{Fits}
 use Rattle.neutral_machine.specs.Outcomes.{Outcome, Gives}
 use Rattle.neutral_machine.specs.Operations.{shifts_to_mask, coded, by_table, or_of, product_of, combined}
-use Rattle.typed_runs.specs.Accepts.{Accepts}
+use Rattle.invariant_laws.specs.Accepts.{Accepts}
 use Rattle.typing_laws.proofs.Rows.{then_some, if_some, one_divides, span_word, constant_word, span_fits, constant_fits, number_fits}
 use Rattle.typing_laws.proofs.SumsFit.{sum_fits}
 use Rattle.typing_laws.proofs.ProductsFit.{difference_fits, product_fits, numbers_times}

@@ -31,11 +31,11 @@ use Rattle.rules_base.specs.Places.{from_stack, locals_size, place_at, pointed}
 use Rattle.host_model.specs.Values.{Neutral, CellPlace, FieldOfLocals}
 use Rattle.neutral_machine.specs.Config.{FunctionFrame, Frame, Function, Config, depth, with_value}
 use Rattle.host_model.specs.World.{World}
-use Rattle.typed_runs.specs.Live.{live_memory}
+use Rattle.invariant_laws.specs.Live.{live_memory}
 use Rattle.neutral_machine.specs.Memory.{with_cell}
 use Rattle.neutral_machine.specs.Fits.{FitsPlain}
 use Rattle.neutral_machine.specs.FitsState.{FitsState}
-use Rattle.typed_runs.specs.Sound.{SoundBelow}
+use Rattle.invariant_laws.specs.Sound.{SoundBelow}
 use Rattle.neutral_machine.specs.Outcomes.{Gives, Stuck, or_stuck}
 use Rattle.neutral_machine.specs.Operands.{NeutralSide, located_by, stored_by, with_register, written}
 use Rattle.neutral_machine.specs.Locations.{Access, Location, CellAt, ParamAt, Offset, writes, fits_cell, stored_in, stored_at}

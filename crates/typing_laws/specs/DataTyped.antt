@@ -9,9 +9,9 @@ use Rattle.rules_data.specs.Data.{after_data}
 use Rattle.rules_flow.specs.Successors.{falls}
 use Rattle.neutral_machine.specs.Config.{FunctionFrame, Frame, Config}
 use Rattle.host_model.specs.World.{World}
-use Rattle.typed_runs.specs.Accepts.{Accepts}
+use Rattle.invariant_laws.specs.Accepts.{Accepts}
 use Rattle.typing_laws.specs.OneRule.{WorldTyped, StandsTyped, here_of}
-use Rattle.typed_runs.specs.Sound.{Sound}
+use Rattle.invariant_laws.specs.Sound.{Sound}
 
 -- the run goes on at the next place, and is sound there with a state
 abbrev pub FallsSound : World → Site → State → NeutralEnd × Config → Type 0

@@ -12,7 +12,7 @@ use Rattle.neutral_machine.specs.Layout.{total}
 use Rattle.host_model.specs.Placements.{stack_bytes}
 use Rattle.host_model.specs.World.{World}
 use Rattle.typing_laws.specs.OneRule.{WorldTyped, StandsTyped}
-use Rattle.typed_runs.specs.Sound.{SoundBelow}
+use Rattle.invariant_laws.specs.Sound.{SoundBelow}
 
 -- The frames of a sound configuration lie on the stack, at either width.
 abbrev pub SoundFitsStack : Type 0

@@ -28,11 +28,11 @@ use Rattle.host_model.specs.declared.object.TypedObject.{TypedObject}
 use Rattle.host_model.specs.Placements.{object_bytes}
 use Rattle.host_model.specs.Values.{Neutral, At, Method, ThunkOf}
 use Rattle.host_model.specs.World.{World}
-use Rattle.typed_runs.specs.Accepts.{Accepts}
-use Rattle.typed_runs.specs.Asked.{ArgumentsFit, GivenByCall, GivenByNative}
-use Rattle.typed_runs.specs.Later.{IsFresh, Preserves, WillFit}
-use Rattle.typed_runs.specs.Live.{live_memory}
-use Rattle.typed_runs.specs.Sound.{Sound, SoundBelow}
+use Rattle.invariant_laws.specs.Accepts.{Accepts}
+use Rattle.invariant_laws.specs.Asked.{ArgumentsFit, GivenByCall, GivenByNative}
+use Rattle.invariant_laws.specs.Later.{IsFresh, Preserves, WillFit}
+use Rattle.invariant_laws.specs.Live.{live_memory}
+use Rattle.invariant_laws.specs.Sound.{Sound, SoundBelow}
 
 -- ---- the rules
 

@@ -1,4 +1,4 @@
-use Rattle.point_finder.proofs.Gathering.{function_there, has_code}
+use Rattle.note_infer.proofs.Gathering.{function_there, has_code}
 use Rattle.stack_needs.proofs.needs.walk_all.Goals as goal
 
 pub walk-requires-clause-code : goal.walk-requires-clause-code

@@ -1,4 +1,4 @@
-use Rattle.point_finder.proofs.Passing.{other_read}
+use Rattle.note_infer.proofs.Passing.{other_read}
 use Rattle.site_finder.proofs.walk.Search.sites.Goals as goal
 
 pub new-requires : goal.new-requires

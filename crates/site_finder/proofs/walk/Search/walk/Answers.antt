@@ -1,6 +1,6 @@
 use Rattle.std.proofs.Common.{arith}
-use Rattle.point_finder.specs.Finding.{HasCode}
-use Rattle.point_finder.proofs.Gathering.{function_there, has_code}
+use Rattle.note_infer.specs.Finding.{HasCode}
+use Rattle.note_infer.proofs.Gathering.{function_there, has_code}
 use Rattle.site_finder.proofs.walk.Search.walk.Goals as goal
 use Rattle.site_finder.proofs.walk.Search.walk.Goals.{In-Some}
 

@@ -1,0 +1,35 @@
+-- A text that goes on begins as before.
+use Rattle.std.proofs.Common.{◌≡◌, ℕ, Bool, true, false, if◌then◌else◌, List, [], ◌++◌, Result, Ok, Err, IfOk, refl, ap, sym}
+use Rattle.std.proofs.Common.{◌∙◌, append_assoc}
+use Rattle.std.specs.Str.{chars}
+use Rattle.std.proofs.lemmas.List.{append-nil}
+use Rattle.explain.specs.Heads.{BeginsWith}
+use Rattle.explain.specs.Shown.{shown}
+
+pub begins-same : (a : List ℕ) → BeginsWith a a
+begins-same a = record { rest = []; joined = sym (append-nil a) }
+
+pub begins-more : (a b x : List ℕ) → b ≡ a ++ x → BeginsWith a b
+begins-more a b x e = record { rest = x; joined = e }
+
+pub begins-then : (a b c : List ℕ) → BeginsWith a b → BeginsWith b c → BeginsWith a c
+begins-then a b c p q = record {
+  rest = p.rest ++ q.rest;
+  joined = q.joined ∙ (ap (λ t. t ++ q.rest) p.joined ∙ append_assoc a p.rest q.rest);
+}
+
+-- where objects are named nothing is said of the name
+pub begins-unnamed : (named : Bool) (word t : List ℕ) → named ≡ true → BeginsWith (shown (if named then [] else word)) t
+unfolding chars
+begins-unnamed true word t e = record { rest = t; joined = refl }
+begins-unnamed false word t e = cc
+
+-- any text begins with nothing
+pub begins-nothing : (t : List ℕ) → BeginsWith (shown []) t
+unfolding chars
+begins-nothing t = record { rest = t; joined = refl }
+
+-- what holds of each value holds of a result's
+pub ok-always : {T E : Type 0} (r : Result T E) (P : T → Type 0) → ((x : T) → P x) → IfOk r P
+ok-always (Ok x) P p = p x
+ok-always (Err e) P p = tt

@@ -1,0 +1,111 @@
+//! An answer that is explained.
+ghost use Rattle.std.specs.Prelude.{◌≡◌};
+ghost use Rattle.cli_base.specs.Words.{word_bytes};
+ghost use Rattle.explain.specs.Heads.{names_objects, word_at};
+
+use crate::program::{Program, Slot, Use, command_slots, notes_slots};
+use cli_base::Outcome;
+use ebc_outside::{Folder, MemFolder};
+use std::alloc::Global;
+
+/// An answer of a program, and what is known of how it came.
+#[derive(Clone, Copy)]
+pub struct Answer<'a> {
+    pub alloc: Global,
+    pub program: Program,
+    /// The words after the program's name.
+    pub words: &'a Vec<String>,
+    pub outcome: Outcome,
+    /// Whether a line of a run that is done says another ending than finished.
+    pub amiss: bool,
+    /// The name of the file that was asked for last; empty if none was, or if there was no memory to keep it.
+    pub asked: &'a str,
+    /// The system's words for the error that ended a read, a write or a put; empty if there was none.
+    pub cause: &'a str,
+}
+
+/// A word and what it stands for.
+#[derive(Clone, Copy)]
+pub(crate) struct Place<'a> {
+    pub slot: Slot,
+    pub word: &'a str,
+}
+
+impl<'a> Answer<'a> {
+    /// What the words stand for, from the first that isn't the command.
+    pub(crate) fn slots(&self) -> Option<&'static [Slot]> {
+        match self.program {
+            Program::Ebc => {
+                let (first, rest) = self.words.as_slice().split_first()?;
+                command_slots(first.as_str(), rest)
+            }
+            Program::EbcPlaces => Some(&[Slot::Image]),
+            Program::EbcNotes => Some(notes_slots(self.words.len())),
+        }
+    }
+
+    /// How many words stand before the first slot.
+    pub(crate) fn skipped(&self) -> usize {
+        match self.program {
+            Program::Ebc => 1,
+            Program::EbcPlaces | Program::EbcNotes => 0,
+        }
+    }
+
+    /// A word by its number, counted from 0; empty if there is none.
+    pub(crate) fn word(&self, number: usize) -> &'a str
+        ensures { result.now ≡ word_at (word_bytes self.now.words.now) number }
+    {
+        match self.words.as_slice().get(number) {
+            Some(word) => word.as_str(),
+            None => "",
+        }
+    }
+
+    /// Whether one of the words is a plan, which names objects.
+    pub(crate) fn names_objects(&self) -> bool
+        ensures { result ≡ names_objects self.now.program (word_bytes self.now.words.now) }
+    {
+        match self.program {
+            Program::Ebc => self.word(0) == "link",
+            Program::EbcPlaces => false,
+            Program::EbcNotes => true,
+        }
+    }
+
+    /// What a word stands for, by its number.
+    pub(crate) fn slot(&self, number: usize) -> Option<Slot> {
+        let skipped = self.skipped();
+        if number < skipped {
+            return None;
+        }
+        self.slots()?.get(number - skipped).copied()
+    }
+
+    /// The first word that is put to this use, of which the name has to be `name` if that isn't empty.
+    pub(crate) fn first_of(&self, purpose: Use, name: &str) -> Option<Place<'a>> {
+        let skipped = self.skipped();
+        for (number, slot) in self.slots()?.iter().enumerate() {
+            let word = self.word(number.saturating_add(skipped));
+            let is_so = match (purpose, slot.purpose()) {
+                (Use::Read, Use::Read) | (Use::Written, Use::Written) => true,
+                _ => false,
+            };
+            if is_so && (name.is_empty() || word == name) {
+                return Some(Place { slot: *slot, word });
+            }
+        }
+        None
+    }
+
+    /// The bytes of the file that a word names, if they were kept and are within the limit.
+    pub(crate) fn bytes_of(&self, number: usize, folder: &mut MemFolder) -> Option<Vec<u8>> {
+        let limit = self.slot(number)?.limit();
+        let bytes = folder.read(self.alloc, self.word(number), limit).ok()?;
+        if bytes.len() as u64 <= limit {
+            Some(bytes)
+        } else {
+            None
+        }
+    }
+}

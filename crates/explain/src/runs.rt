@@ -1,0 +1,329 @@
+//! What is said of runs that end otherwise than finished, and of two runs that differ.
+ghost use Rattle.std.specs.Prelude.{IfSome};
+ghost use Rattle.ebc_width.specs.Width.{IsWidth};
+ghost use Rattle.pair_model.specs.Binds.{AllAgree};
+ghost use Rattle.explain.specs.Drivers.{IsDriver};
+
+use crate::answer::Answer;
+use crate::driver::Driver;
+use bind_texts::read_binds;
+use ebc_base::NoMemory;
+use ebc_decode::decode;
+use ebc_outside::MemFolder;
+use explain_base::{Said, listing_text, place_text};
+use explain_texts::{Scripted, ScriptedPair, Width, pair_said, run_said, twin_said};
+use file_inputs::read_as;
+use note_types::{Notes, Spot};
+use pair_host::{Binds, PairRun, pair};
+use pe_image::Image;
+use protocol_script::read_script;
+use run_texts::{ShownPair, ShownRun, append_end};
+use std::alloc::Global;
+use twin_run::{RunReport, run};
+
+// The driver of three words from this one on, if its files were kept.
+fn driver_of(answer: &Answer, first: usize, folder: &mut MemFolder) -> Option<Driver>
+    ensures { IfSome result IsDriver }
+{
+    let alloc = answer.alloc;
+    let Ok(image) = read_as::<Image, MemFolder>(alloc, folder, 1, answer.word(first)) else {
+        return None;
+    };
+    let number = first.saturating_add(1);
+    let Ok(notes) = read_as::<Notes, MemFolder>(alloc, folder, 1, answer.word(number)) else {
+        return None;
+    };
+    let text = answer.bytes_of(first.saturating_add(2), folder)?;
+    let Ok(script) = read_script(alloc, text.as_slice(), &notes) else {
+        return None;
+    };
+    Some(Driver {
+        image,
+        notes,
+        script,
+        text,
+    })
+}
+
+// A driver as it ran, with the name of its script.
+fn scripted<'a>(driver: &'a Driver, file: &'a str) -> Scripted<'a> {
+    Scripted {
+        notes: &driver.notes,
+        script: &driver.script,
+        file,
+        text: driver.text.as_slice(),
+    }
+}
+
+fn shown_run(report: &RunReport) -> ShownRun<'_> {
+    ShownRun {
+        steps: report.steps,
+        spot: report.spot,
+        ending: report.ending,
+        events: report.events.as_slice(),
+    }
+}
+
+fn shown_pair(report: &PairRun) -> ShownPair<'_> {
+    ShownPair {
+        steps: report.steps,
+        spot: report.spot,
+        ending: report.ending,
+        events: report.events.as_slice(),
+    }
+}
+
+// The report of a driver's run at a width.
+fn report<const W: usize>(alloc: Global, driver: &Driver, steps: u64) -> Result<RunReport, NoMemory>
+    requires width { IsWidth W }
+    requires driver { IsDriver driver.now }
+{
+    run::<W>(alloc, &driver.image, &driver.notes, &driver.script, steps)
+}
+
+// One thing that is said, or nothing.
+fn at_most_one(alloc: Global, said: Option<Said>) -> Result<Vec<Said>, NoMemory> {
+    let mut told = Vec::new(alloc);
+    if let Some(said) = said {
+        told.push(said)?;
+    }
+    Ok(told)
+}
+
+// What is said of a driver's run at a width.
+fn of_width<const W: usize>(
+    answer: &Answer,
+    steps: u64,
+    driver: &Driver,
+    width: Width,
+) -> Result<Vec<Said>, NoMemory>
+    requires width { IsWidth W }
+    requires driver { IsDriver driver.now }
+{
+    let alloc = answer.alloc;
+    let report = report::<W>(alloc, driver, steps)?;
+    let ran = scripted(driver, answer.word(4));
+    let said = run_said(alloc, &ran, width, &shown_run(&report))?;
+    at_most_one(alloc, said)
+}
+
+// What is said of a driver's run at the width that the word after `run` names.
+fn of_named_width(answer: &Answer, steps: u64, driver: &Driver) -> Result<Vec<Said>, NoMemory>
+    requires { IsDriver driver.now }
+{
+    if answer.word(1) == "32" {
+        return of_width::<4>(answer, steps, driver, Width::At32);
+    }
+    of_width::<8>(answer, steps, driver, Width::At64)
+}
+
+// What is said of the run of `run`.
+fn of_run(answer: &Answer, steps: u64, folder: &mut MemFolder) -> Result<Vec<Said>, NoMemory> {
+    match driver_of(answer, 2, folder) {
+        Some(driver) => of_named_width(answer, steps, &driver),
+        None => Ok(Vec::new(answer.alloc)),
+    }
+}
+
+// What is said of a driver's runs at both widths.
+fn of_both_widths(answer: &Answer, steps: u64, driver: &Driver) -> Result<Vec<Said>, NoMemory>
+    requires { IsDriver driver.now }
+{
+    let alloc = answer.alloc;
+    let at4 = report::<4>(alloc, driver, steps)?;
+    let at8 = report::<8>(alloc, driver, steps)?;
+    let ran = scripted(driver, answer.word(3));
+    twin_said(alloc, &ran, &shown_run(&at4), &shown_run(&at8))
+}
+
+// What is said of the runs of `twin`.
+fn of_twin(answer: &Answer, steps: u64, folder: &mut MemFolder) -> Result<Vec<Said>, NoMemory> {
+    match driver_of(answer, 1, folder) {
+        Some(driver) => of_both_widths(answer, steps, &driver),
+        None => Ok(Vec::new(answer.alloc)),
+    }
+}
+
+// What is said of the runs of two drivers under binds.
+fn told_of_pair(
+    answer: &Answer,
+    steps: u64,
+    a: &Driver,
+    b: &Driver,
+    binds: &Binds,
+) -> Result<Vec<Said>, NoMemory>
+    requires a { IsDriver a.now }
+    requires b { IsDriver b.now }
+    requires agree { AllAgree a.now.notes b.now.notes binds.now }
+{
+    let alloc = answer.alloc;
+    let report = pair(
+        alloc, &a.image, &a.notes, &a.script, &b.image, &b.notes, &b.script, binds, steps,
+    )?;
+    let ran = ScriptedPair {
+        consumer: scripted(a, answer.word(3)),
+        provider: scripted(b, answer.word(6)),
+        binds: binds.as_slice(),
+    };
+    pair_said(
+        alloc,
+        &ran,
+        &shown_pair(&report.at4),
+        &shown_pair(&report.at8),
+    )
+}
+
+// What is said of the runs of two drivers, whose binds are read.
+fn of_drivers(
+    answer: &Answer,
+    steps: u64,
+    a: &Driver,
+    b: &Driver,
+    folder: &mut MemFolder,
+) -> Result<Vec<Said>, NoMemory>
+    requires a { IsDriver a.now }
+    requires b { IsDriver b.now }
+{
+    let alloc = answer.alloc;
+    let Some(bytes) = answer.bytes_of(7, folder) else {
+        return Ok(Vec::new(alloc));
+    };
+    match read_binds(alloc, bytes.as_slice(), &a.notes, &b.notes) {
+        Ok(binds) => told_of_pair(answer, steps, a, b, &binds),
+        Err(_) => Ok(Vec::new(alloc)),
+    }
+}
+
+// What is said of the runs of `pair`.
+fn of_pair(answer: &Answer, steps: u64, folder: &mut MemFolder) -> Result<Vec<Said>, NoMemory> {
+    let Some(a) = driver_of(answer, 1, folder) else {
+        return Ok(Vec::new(answer.alloc));
+    };
+    match driver_of(answer, 4, folder) {
+        Some(b) => of_drivers(answer, steps, &a, &b, folder),
+        None => Ok(Vec::new(answer.alloc)),
+    }
+}
+
+// The number of steps, which is the last word.
+fn steps_of(answer: &Answer) -> Option<u64> {
+    answer
+        .word(answer.words.len().saturating_sub(1))
+        .parse::<u64>()
+        .ok()
+}
+
+/// What is said of runs that are done, of which one ended otherwise than finished; nothing if the files weren't kept.
+pub(crate) fn runs_said(answer: &Answer, folder: &mut MemFolder) -> Result<Vec<Said>, NoMemory> {
+    let Some(steps) = steps_of(answer) else {
+        return Ok(Vec::new(answer.alloc));
+    };
+    match answer.word(0) {
+        "run" => of_run(answer, steps, folder),
+        "twin" => of_twin(answer, steps, folder),
+        "pair" => of_pair(answer, steps, folder),
+        _ => Ok(Vec::new(answer.alloc)),
+    }
+}
+
+// The line that says where a run stands.
+fn end_text(alloc: Global, notes: &Notes, report: &RunReport) -> Result<String, NoMemory> {
+    let mut line = Vec::new(alloc);
+    append_end(
+        alloc,
+        notes,
+        report.steps,
+        report.spot,
+        report.ending,
+        &mut line,
+    )?;
+    match String::from_utf8(line) {
+        Ok(text) => Ok(String::from_str(alloc, text.as_str().trim_end())?),
+        Err(_) => Ok(String::new(alloc)),
+    }
+}
+
+// The line of the listing of the instruction at a place of an image; empty if none decodes there.
+fn listing_at(alloc: Global, image: &Image, place: u32) -> Result<String, NoMemory> {
+    for section in image.sections.as_slice() {
+        let bytes = section.bytes.as_slice();
+        if section.place <= place && ((place - section.place) as usize) < bytes.len() {
+            return match decode(bytes, (place - section.place) as usize) {
+                Ok((insn, _)) => listing_text(alloc, &insn, None),
+                Err(_) => Ok(String::new(alloc)),
+            };
+        }
+    }
+    Ok(String::new(alloc))
+}
+
+// Adds where the runs part: the place, and the instruction there.
+fn add_spot(alloc: Global, driver: &Driver, spot: Spot, said: &mut Said) -> Result<(), NoMemory> {
+    let Spot::Place(place) = spot else {
+        return Ok(());
+    };
+    let at = place_text(alloc, &driver.notes, place)?;
+    said.at = format!(in alloc; ": {at}")?;
+    let line = listing_at(alloc, &driver.image, place)?;
+    if !line.is_empty() {
+        said.add(format!(in alloc; "0x{place:x} {line}")?)?;
+    }
+    Ok(())
+}
+
+// Where a driver's run stands after so many steps.
+fn end_after<const W: usize>(alloc: Global, driver: &Driver, steps: u64) -> Result<String, NoMemory>
+    requires width { IsWidth W }
+    requires driver { IsDriver driver.now }
+{
+    let report = report::<W>(alloc, driver, steps)?;
+    end_text(alloc, &driver.notes, &report)
+}
+
+// The spot of a driver's run after so many steps.
+fn spot_after(alloc: Global, driver: &Driver, steps: u64) -> Result<Spot, NoMemory>
+    requires { IsDriver driver.now }
+{
+    let report = report::<4>(alloc, driver, steps)?;
+    Ok(report.spot)
+}
+
+// Adds where the two runs stand after the step after which they first differ.
+fn add_ends(alloc: Global, driver: &Driver, step: u64, said: &mut Said) -> Result<(), NoMemory>
+    requires { IsDriver driver.now }
+{
+    let at4 = end_after::<4>(alloc, driver, step)?;
+    said.add(format!(in alloc; "at width 32 then {at4}")?)?;
+    let at8 = end_after::<8>(alloc, driver, step)?;
+    said.add(format!(in alloc; "at width 64 then {at8}")?)
+}
+
+// What is said of the two runs of a driver that first differ after so many steps.
+fn of_parting(answer: &Answer, step: u64, driver: &Driver) -> Result<Said, NoMemory>
+    requires { IsDriver driver.now }
+{
+    let alloc = answer.alloc;
+    let what = format!(in alloc; "the two runs differ after step {step}, and not before")?;
+    let page = "docs/HOST.md, \"A run that parts\"";
+    let mut said = Said::at_place(alloc, String::new(alloc), what, page)?;
+    said.file.push_str(answer.word(1))?;
+    let spot = spot_after(alloc, driver, step.saturating_sub(1))?;
+    add_spot(alloc, driver, spot, &mut said)?;
+    add_ends(alloc, driver, step, &mut said)?;
+    Ok(said)
+}
+
+/// What is said of the two runs of `twin` that first differ after so many steps; none if the files weren't kept.
+pub(crate) fn differ_said(
+    answer: &Answer,
+    step: u64,
+    folder: &mut MemFolder,
+) -> Result<Option<Said>, NoMemory> {
+    if answer.word(0) != "twin" {
+        return Ok(None);
+    }
+    match driver_of(answer, 1, folder) {
+        Some(driver) => Ok(Some(of_parting(answer, step, &driver)?)),
+        None => Ok(None),
+    }
+}

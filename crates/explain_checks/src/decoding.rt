@@ -1,0 +1,153 @@
+//! What is said of the bytes of an instruction: the rules `decode` and `relocation`.
+
+use crate::ranges::reloc_in;
+use crate::refused::Stopped;
+use ebc_decode::{DecodeFault, decode};
+use ebc_insn::Insn;
+use explain_base::Said;
+use note_types::NoMemory;
+use pe_image::{Image, byte_at, named_place};
+use rules_base::takes_address;
+use std::alloc::Global;
+
+// An instruction has at most so many bytes.
+const LONGEST: u32 = 18;
+
+// The bytes of an image from a place on, as many as an instruction may have, up to an end.
+fn code_from(alloc: Global, image: &Image, place: u32, end: u32) -> Result<Vec<u8>, NoMemory> {
+    let mut code = Vec::new(alloc);
+    for at in place..end.min(place.saturating_add(LONGEST)) {
+        code.push(byte_at(image, u64::from(at)))?;
+    }
+    Ok(code)
+}
+
+/// The instruction at a place before an end, and its length.
+pub(crate) fn insn_at(
+    alloc: Global,
+    image: &Image,
+    place: u32,
+    end: u32,
+) -> Result<Option<(Insn, u32)>, NoMemory> {
+    let code = code_from(alloc, image, place, end)?;
+    let Ok((insn, length)) = decode(code.as_slice(), 0) else {
+        return Ok(None);
+    };
+    match u32::try_from(length) {
+        Ok(length) => Ok(Some((insn, length))),
+        Err(_) => Ok(None),
+    }
+}
+
+// The first bytes of an instruction, four at most, each with a space in front.
+fn bytes_text(alloc: Global, code: &[u8]) -> Result<String, NoMemory> {
+    let mut text = String::new(alloc);
+    for byte in code.iter().take(4) {
+        let b = *byte;
+        text.push_str(format!(in alloc; " {b:02x}")?.as_str())?;
+    }
+    Ok(text)
+}
+
+/// What is said where no instruction decodes within the function.
+pub(crate) fn said_of_decode(stopped: &Stopped) -> Result<Said, NoMemory> {
+    let (alloc, f, func) = (stopped.refused.alloc, stopped.f, stopped.at.func);
+    let code = code_from(alloc, stopped.refused.image, stopped.at.place, f.end)?;
+    let bytes = bytes_text(alloc, code.as_slice())?;
+    let (name, end) = (f.name.as_str(), f.end);
+    let what = match decode(code.as_slice(), 0) {
+        Err(DecodeFault::Short) => format!(in alloc;
+            "the bytes{bytes} begin an instruction that ends past {name}, which ends at 0x{end:x}"
+        )?,
+        Err(DecodeFault::Opcode) => format!(in alloc; "the bytes{bytes} begin with no opcode")?,
+        Err(DecodeFault::Reserved) => format!(in alloc;
+            "the bytes{bytes} have a reserved bit that isn't as it has to be"
+        )?,
+        Err(DecodeFault::IndexTag) => format!(in alloc;
+            "the bytes{bytes} have a 16-bit index with tag 7"
+        )?,
+        Err(DecodeFault::DirectIndex) => format!(in alloc;
+            "the bytes{bytes} have an index beside a direct operand 1"
+        )?,
+        Ok(_) => format!(in alloc; "the bytes{bytes} are no instruction")?,
+    };
+    let key = format!(in alloc; "function[{func}].end")?;
+    Said::with_key(alloc, what, key, "the function's end")
+}
+
+// ---- relocations
+
+// Whether an instruction is an absolute jump, or call of byte code, by an immediate of 64 bits.
+fn is_absolute(i: &Insn) -> bool {
+    match i {
+        Insn::Jump { far, relative, .. } => *far && !*relative,
+        Insn::Call {
+            far,
+            native,
+            relative,
+            ..
+        } => *far && !*native && !*relative,
+        _ => false,
+    }
+}
+
+// Whether an instruction moves an address to a register.
+fn is_address_move(i: &Insn) -> bool {
+    match i {
+        Insn::MoveImm {
+            size,
+            bits,
+            left,
+            ..
+        } => takes_address(*size, *bits, left.indirect),
+        _ => false,
+    }
+}
+
+// What is wrong with the relocated eight bytes at a place, at the end of an instruction.
+fn fault_of_address(
+    alloc: Global,
+    image: &Image,
+    insn: &Insn,
+    at: u32,
+) -> Result<String, NoMemory> {
+    let named = named_place(image, at);
+    let size = image.size;
+    if u64::from(size) <= named {
+        return Ok(format!(in alloc;
+            "the relocated address at 0x{at:x} names 0x{named:x}, no place of the image, which ends at 0x{size:x}"
+        )?);
+    }
+    if is_address_move(insn) {
+        return Ok(format!(in alloc;
+            "the relocated address at 0x{at:x} names no static object's start and no thunk cell of the notes"
+        )?);
+    }
+    Ok(format!(in alloc; "the relocated address at 0x{at:x} is refused")?)
+}
+
+/// What is said where the relocation of an instruction isn't as it has to be.
+pub(crate) fn said_of_relocation(stopped: &Stopped) -> Result<Option<Said>, NoMemory> {
+    let (alloc, image) = (stopped.refused.alloc, stopped.refused.image);
+    let Some((insn, next)) = stopped.at.insn else {
+        return Ok(None);
+    };
+    let found = reloc_in(image, u64::from(stopped.at.place), u64::from(next));
+    let what = match found {
+        None => String::from_str(
+            alloc,
+            "an absolute JMP64 or CALL64 goes to a name, by a relocated immediate; this one has no relocation",
+        )?,
+        Some(at) => {
+            let ends_with_it = u64::from(at) + 8 == u64::from(next);
+            if ends_with_it && (is_absolute(&insn) || is_address_move(&insn)) {
+                fault_of_address(alloc, image, &insn, at)?
+            } else {
+                format!(in alloc;
+                    "a relocation stands at 0x{at:x}; only the immediate of MOVIqq to a register, of JMP64a and of CALL64a has one"
+                )?
+            }
+        }
+    };
+    Ok(Some(Said::only(alloc, what)))
+}

@@ -1,0 +1,137 @@
+//! What is said of `compare` and `divide`.
+
+ghost use Rattle.ebc_insn.specs.Spelling.{WellFormed};
+
+use crate::operands::left_memory;
+use crate::values::{loaded_type, right_type};
+use ebc_insn::{Insn, Operand};
+use explain_base::{Said, Scene, type_text_of};
+use note_types::{NoMemory, Ty};
+use rules_base::{constant, wrap64};
+
+// Operand 1 of CMPI.
+fn left_type(scene: &Scene, left: &Operand) -> Option<Ty>
+    requires { WellFormed scene.now.insn.now }
+{
+    if left.indirect {
+        return loaded_type(scene, left_memory(scene.insn)?);
+    }
+    scene.state.regs.get(left.reg as usize).copied()
+}
+
+// Two values that are compared, and whether all 64 bits of them are.
+#[derive(Clone, Copy)]
+struct Compared {
+    a: Ty,
+    b: Ty,
+    wide: bool,
+}
+
+fn compared_values(scene: &Scene) -> Option<Compared>
+    requires { WellFormed scene.now.insn.now }
+{
+    match scene.insn {
+        Insn::Compare {
+            wide,
+            left,
+            right,
+            extra,
+            ..
+        } => {
+            let b = right_type(scene, *wide, right, extra)?;
+            Some(Compared {
+                a: scene.state.regs[*left as usize],
+                b,
+                wide: *wide,
+            })
+        }
+        Insn::CompareImm {
+            wide,
+            left,
+            imm,
+            ..
+        } => {
+            let a = left_type(scene, left)?;
+            Some(Compared {
+                a,
+                b: constant(wrap64(i64::from(*imm))),
+                wide: *wide,
+            })
+        }
+        _ => None,
+    }
+}
+
+// With what a value compares.
+fn comparable(t: Ty, wide: bool) -> &'static str {
+    match t {
+        Ty::Int { .. } => "a number compares with a number",
+        _ if !wide => "in 32 bits a number compares with a number, and nothing else",
+        Ty::Ptr { .. } => "a pointer at a start compares by eq, with such a pointer or 0",
+        Ty::Handle => "a handle compares by eq, with a handle or 0",
+        Ty::Entry => "an entry compares by eq, with an entry or 0",
+        Ty::Status(_) =>
+            "a status compares by eq, with a status or a number below 2147483648; MOVsn makes one that compares by order",
+        Ty::SignedStatus(_) =>
+            "a sign-extended status compares by lte and gte with a number below 2147483648, and by lte with -1",
+        Ty::Lin { .. } | Ty::Scaled { .. } =>
+            "a size that differs with the width compares with nothing",
+        _ => "it compares with nothing",
+    }
+}
+
+// A value that is compared: a number by itself, and else its type.
+fn compared_text(scene: &Scene, t: Ty) -> Result<String, NoMemory> {
+    let alloc = scene.alloc;
+    match t {
+        Ty::Int { lo, hi, .. } if lo == hi => {
+            let number = lo.cast_signed();
+            Ok(format!(in alloc; "the number {number}")?)
+        }
+        _ => type_text_of(alloc, scene.notes, scene.f, t),
+    }
+}
+
+/// What is said of `compare`.
+pub(crate) fn said_of_compare(scene: &Scene) -> Result<Option<Said>, NoMemory>
+    requires { WellFormed scene.now.insn.now }
+{
+    let alloc = scene.alloc;
+    let Some(Compared { a, b, wide }) = compared_values(scene) else {
+        return Ok(None);
+    };
+    let x = compared_text(scene, a)?;
+    let y = compared_text(scene, b)?;
+    let wanted = match a {
+        Ty::Int { .. } => comparable(b, wide),
+        _ => comparable(a, wide),
+    };
+    Ok(Some(Said::only(
+        alloc,
+        format!(in alloc; "{x} is compared with {y}; {wanted}")?,
+    )))
+}
+
+/// What is said of `divide`.
+pub(crate) fn said_of_divide(scene: &Scene) -> Result<Option<Said>, NoMemory>
+    requires { WellFormed scene.now.insn.now }
+{
+    let alloc = scene.alloc;
+    let Insn::Arith {
+        wide,
+        right,
+        extra,
+        ..
+    } = scene.insn
+    else {
+        return Ok(None);
+    };
+    let Some(t) = right_type(scene, *wide, right, extra) else {
+        return Ok(None);
+    };
+    let found = type_text_of(alloc, scene.notes, scene.f, t)?;
+    Ok(Some(Said::only(
+        alloc,
+        format!(in alloc; "the divisor is {found}, and a number is wanted")?,
+    )))
+}

@@ -1,0 +1,175 @@
+//! What is said of `store`.
+
+ghost use Rattle.ebc_insn.specs.Spelling.{ExtraFits, IsOperand, RightFits, WellFormed};
+ghost use Rattle.natural_index.specs.Index.{IsIndexSize};
+
+use crate::operands::{Memory, left_memory, right_memory};
+use crate::values::{loaded_type, right_type};
+use ebc_insn::{Extra, Insn, Operand, Size};
+use explain_base::{Said, Scene, cell_text, type_text_of};
+use natural_index::Index;
+use note_types::{Cell, Item, NoMemory, Ty};
+use rules_base::{
+    Access, Place, constant, counted, index_distance, kept, lin, place_at, target_at, with_index,
+    wrap64,
+};
+
+// The values that a cell takes.
+fn taken_by(cell: Cell) -> &'static str {
+    match cell {
+        Cell::I8 | Cell::I16 | Cell::I32 | Cell::I64 => "a number",
+        Cell::N => "a number below 4294967296",
+        Cell::Stat => "a status or a number below 2147483648",
+        Cell::Handle | Cell::Entry => "a value of this type or 0",
+        Cell::Ptr { null: true, .. } | Cell::P64 { null: true, .. } =>
+            "a pointer to at least as much, at its start, or 0",
+        Cell::Ptr { null: false, .. } | Cell::P64 { null: false, .. } =>
+            "a pointer to at least as much, at its start, that isn't null",
+        Cell::Method(_) => "nothing",
+    }
+}
+
+// ---- the value that is stored
+
+// What an immediate moves, cut to the move's size.
+fn immediate(size: Size, imm: i64) -> Ty {
+    let k = wrap64(imm);
+    match size {
+        Size::Byte => constant(k % 0x100),
+        Size::Word => constant(k % 0x1_0000),
+        Size::Dword => constant(k % 0x1_0000_0000),
+        Size::Qword | Size::Natural => constant(k),
+    }
+}
+
+// What MOVIn moves.
+fn index_type(n: i64, c: i64) -> Ty {
+    if n == 0 && 0 <= c {
+        constant(c.unsigned_abs())
+    } else if 1 <= n {
+        lin(n, c)
+    } else {
+        Ty::Any
+    }
+}
+
+// What a move reads of R0: the address of a local field, or nothing known.
+fn frame_address(scene: &Scene, bits: u8, ridx: &Option<Index>) -> Ty
+    requires size { IsIndexSize bits }
+    requires index { RightFits bits ridx.now }
+{
+    let d = index_distance(bits, ridx);
+    match place_at(scene.notes, scene.f, scene.state, 0, d) {
+        Some(Place::Local { field, .. }) => Ty::Local(field),
+        _ => Ty::Any,
+    }
+}
+
+// What a move moves from a register.
+fn moved(scene: &Scene, size: Size, bits: u8, right: &Operand, ridx: &Option<Index>) -> Ty
+    requires size { IsIndexSize bits }
+    requires right { IsOperand right.now }
+    requires index { RightFits bits ridx.now }
+{
+    if right.reg == 0 {
+        return frame_address(scene, bits, ridx);
+    }
+    let t = scene.state.regs[right.reg as usize];
+    kept(
+        size,
+        with_index(scene.notes.shape.as_slice(), t, bits, ridx),
+    )
+}
+
+// What is in the slot on top.
+fn top_type(scene: &Scene) -> Option<Ty> {
+    match scene.state.items.as_slice() {
+        [Item::Slot { ty, .. }, ..] => Some(*ty),
+        _ => None,
+    }
+}
+
+// The value that an instruction stores, where it computes none.
+fn stored(scene: &Scene) -> Option<Ty>
+    requires { WellFormed scene.now.insn.now }
+{
+    if let Some(m) = right_memory(scene.insn) {
+        return loaded_type(scene, m);
+    }
+    match scene.insn {
+        Insn::Move {
+            size,
+            bits,
+            right,
+            ridx,
+            ..
+        } => Some(moved(scene, *size, *bits, right, ridx)),
+        Insn::MoveImm { size, imm, .. } => Some(immediate(*size, *imm)),
+        Insn::MoveImmNatural { bits, idx, .. } => {
+            let d = counted(*bits, idx);
+            Some(index_type(d.n, d.c))
+        }
+        Insn::Pop { .. } | Insn::PopNatural { .. } => top_type(scene),
+        _ => None,
+    }
+}
+
+// ---- the operands of an instruction that computes
+
+fn operands_text(
+    scene: &Scene,
+    m: Memory,
+    right: &Operand,
+    extra: &Extra,
+) -> Result<String, NoMemory>
+    requires right { IsOperand right.now }
+    requires extra { ExtraFits 16 right.now extra.now }
+{
+    let (alloc, notes, f) = (scene.alloc, scene.notes, scene.f);
+    let wide = m.access == Access::Form64;
+    let a = loaded_type(scene, m).unwrap_or(Ty::Any);
+    let b = right_type(scene, wide, right, extra).unwrap_or(Ty::Any);
+    let x = type_text_of(alloc, notes, f, a)?;
+    let y = type_text_of(alloc, notes, f, b)?;
+    Ok(format!(in alloc; "the operands are {x} and {y}")?)
+}
+
+// What is stored.
+fn value_text(scene: &Scene, m: Memory) -> Result<String, NoMemory>
+    requires { WellFormed scene.now.insn.now }
+{
+    let alloc = scene.alloc;
+    if let Insn::Arith { right, extra, .. } = scene.insn {
+        return operands_text(scene, m, right, extra);
+    }
+    let t = stored(scene).unwrap_or(Ty::Any);
+    let found = type_text_of(alloc, scene.notes, scene.f, t)?;
+    Ok(format!(in alloc; "the value is {found}")?)
+}
+
+/// What is said of `store`.
+pub(crate) fn said_of_store(scene: &Scene) -> Result<Option<Said>, NoMemory>
+    requires { WellFormed scene.now.insn.now }
+{
+    let alloc = scene.alloc;
+    let Some(m) = left_memory(scene.insn) else {
+        return Ok(None);
+    };
+    let Ok(target) = target_at(
+        scene.notes,
+        scene.f,
+        scene.state,
+        m.access,
+        m.reg,
+        m.distance,
+    ) else {
+        return Ok(None);
+    };
+    let value = value_text(scene, m)?;
+    let cell = cell_text(alloc, scene.notes, scene.f, target.cell)?;
+    let takes = taken_by(target.cell);
+    Ok(Some(Said::only(
+        alloc,
+        format!(in alloc; "{value}, and the cell {cell} takes {takes}")?,
+    )))
+}

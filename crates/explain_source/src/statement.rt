@@ -1,0 +1,67 @@
+//! The parts of a line that a fault may be in.
+
+use crate::part::{Found, Part};
+use ebc_base::NoMemory;
+use std::alloc::Global;
+
+/// The statement of a line, by its parts.
+#[derive(Clone, Copy)]
+pub(crate) struct Statement<'a> {
+    /// What stands before the first colon, if there is one.
+    pub label: Option<Part<'a>>,
+    /// The mnemonic or the directive.
+    pub word: Part<'a>,
+    /// What stands after the space that follows the word.
+    pub operands: Part<'a>,
+}
+
+// A line without its comment.
+fn without_comment(line: &[u8]) -> Part<'_> {
+    let line = Part::of_line(line);
+    match line.until(b';') {
+        Some((text, _)) => text,
+        None => line,
+    }
+}
+
+/// The parts of a line.
+pub(crate) fn statement_in(line: &[u8]) -> Statement<'_> {
+    let text = without_comment(line);
+    let (label, rest) = match text.until(b':') {
+        Some((label, rest)) => (Some(label.past_spaces()), rest),
+        None => (None, text),
+    };
+    let statement = rest.trimmed();
+    let (word, operands) = match statement.until(b' ') {
+        Some(parts) => parts,
+        None => (statement, statement.split(statement.text.len()).1),
+    };
+    Statement {
+        label,
+        word,
+        operands,
+    }
+}
+
+/// The first byte that no line may have: past ASCII; or before the comment a tab or a carriage return.
+pub(crate) fn odd_byte(alloc: Global, line: &[u8]) -> Result<Option<Found>, NoMemory> {
+    if let Some(at) = line.iter().position(|b| *b >= 128) {
+        let byte = line[at];
+        let what = format!(in alloc;
+            "a byte past ASCII, 0x{byte:02x}; a source is ASCII, in comments too"
+        )?;
+        return Ok(Some(Found { at, what }));
+    }
+    let text = without_comment(line).text;
+    let Some(at) = text.iter().position(|b| *b == b'\t' || *b == b'\r') else {
+        return Ok(None);
+    };
+    let what = if text[at] == b'\t' {
+        "a tab; only spaces may stand here"
+    } else if at + 1 == text.len() {
+        "a carriage return at the end of the line; a line ends with a line feed alone"
+    } else {
+        "a carriage return; a line ends with a line feed alone"
+    };
+    Ok(Some(Found::new(alloc, at, what)?))
+}

@@ -1,0 +1,164 @@
+//! What is said of runs of two images that end otherwise than finished.
+
+use crate::runs::{Ended, Scripted, Width, ended_said};
+use ebc_base::NoMemory;
+use explain_base::Said;
+use note_types::{Ending, Event, Notes, Reason};
+use pair_model::{Bind, PairEvent};
+use run_texts::ShownPair;
+use std::alloc::Global;
+
+/// Two programs that ran on one host, with their binds.
+#[derive(Clone, Copy)]
+pub struct ScriptedPair<'a> {
+    /// Image A, whose calls of bound methods enter functions of B.
+    pub consumer: Scripted<'a>,
+    /// Image B.
+    pub provider: Scripted<'a>,
+    pub binds: &'a [Bind],
+}
+
+// What the events of a run of two images show of its last calls.
+#[derive(Clone, Copy)]
+struct Tally<'a> {
+    // Of the consumer: its calls but those that a function answered, the last one, and whether nothing came after it.
+    calls: usize,
+    last: Option<&'a Event>,
+    waits: bool,
+    // Of the provider: its calls, the last one, and how many have their reply.
+    provider_calls: usize,
+    provider_last: Option<&'a Event>,
+    replies: usize,
+}
+
+impl<'a> Tally<'a> {
+    fn add(&mut self, event: &'a PairEvent) {
+        match event {
+            PairEvent::A(event) => {
+                self.waits = matches!(event, Event::Called { .. });
+                if self.waits {
+                    self.calls = self.calls.saturating_add(1);
+                    self.last = Some(event);
+                }
+            }
+            PairEvent::Bound(_) => {
+                self.waits = false;
+                self.calls = self.calls.saturating_sub(1);
+            }
+            PairEvent::B(event) => match event {
+                Event::Called { .. } => {
+                    self.provider_calls = self.provider_calls.saturating_add(1);
+                    self.provider_last = Some(event);
+                }
+                Event::Replied { .. } => self.replies = self.replies.saturating_add(1),
+                _ => {}
+            },
+        }
+    }
+}
+
+fn counted(events: &[PairEvent]) -> Tally<'_> {
+    let mut tally = Tally {
+        calls: 0,
+        last: None,
+        waits: false,
+        provider_calls: 0,
+        provider_last: None,
+        replies: 0,
+    };
+    for event in events {
+        tally.add(event);
+    }
+    tally
+}
+
+// Whether a call is one of a bound method.
+fn is_bound(notes: &Notes, binds: &[Bind], call: Option<&Event>) -> bool {
+    let Some(
+        Event::Called {
+            signature: Some(number),
+            ..
+        },
+    ) = call
+    else {
+        return false;
+    };
+    match notes.signature.as_slice().get(*number as usize) {
+        Some(signature) => binds.iter().any(|bind| bind.method == signature.method),
+        None => false,
+    }
+}
+
+// Whether the run ended with the consumer, by its last event; `waits` says that it waits for a bound function.
+fn is_consumer(events: &[PairEvent], ending: Ending, waits: bool, replied: bool) -> bool {
+    match events.last() {
+        Some(PairEvent::A(_) | PairEvent::Bound(_)) => true,
+        Some(PairEvent::B(Event::Returned { .. })) => {
+            waits && replied && matches!(ending, Ending::Mismatch(Reason::Reply { .. }))
+        }
+        _ => false,
+    }
+}
+
+fn pair_run_said(
+    alloc: Global,
+    pair: &ScriptedPair,
+    width: Width,
+    run: &ShownPair,
+) -> Result<Option<Said>, NoMemory> {
+    let seen = counted(run.events);
+    let (steps, ending, most) = (run.steps, run.ending, 100_000);
+    let bound = seen.waits && is_bound(pair.consumer.notes, pair.binds, seen.last);
+    let replied = seen.replies == seen.provider_calls;
+    if is_consumer(run.events, ending, bound, replied) {
+        let calls = seen.calls.saturating_sub(usize::from(bound));
+        let ended = Ended {
+            width,
+            steps,
+            most,
+            ending,
+            last: seen.last,
+            calls,
+            bound,
+        };
+        return ended_said(alloc, &pair.consumer, &ended);
+    }
+    let (last, calls) = (seen.provider_last, seen.provider_calls);
+    let ended = Ended {
+        width,
+        steps,
+        most,
+        ending,
+        last,
+        calls,
+        bound: false,
+    };
+    ended_said(alloc, &pair.provider, &ended)
+}
+
+/// What is said of the two runs of `pair`, once where they end alike.
+///
+/// # Errors
+///
+/// Want of memory alone.
+pub fn pair_said(
+    alloc: Global,
+    pair: &ScriptedPair,
+    at4: &ShownPair,
+    at8: &ShownPair,
+) -> Result<Vec<Said>, NoMemory> {
+    let mut told = Vec::new(alloc);
+    if at4.ending == at8.ending && at4.steps == at8.steps {
+        if let Some(said) = pair_run_said(alloc, pair, Width::Both, at4)? {
+            told.push(said)?;
+        }
+        return Ok(told);
+    }
+    if let Some(said) = pair_run_said(alloc, pair, Width::At32, at4)? {
+        told.push(said)?;
+    }
+    if let Some(said) = pair_run_said(alloc, pair, Width::At64, at8)? {
+        told.push(said)?;
+    }
+    Ok(told)
+}

@@ -1,0 +1,377 @@
+-- The pair of the rows of `pair_laws` with names: its notes meet the conditions on notes, its scripts are as the reader of scripts
+-- gives them, and its bind agrees.
+use Rattle.std.proofs.Common.{◌≡◌, ℕ, zero, suc, ◌+◌, ◌*◌, ◌^◌, ◌<◌, ◌≤◌, true, false, List, [], ◌∷◌, length, get_or, take, slice_get}
+use Rattle.std.proofs.Common.{Some, None, refl, sym, ap, subst, arith, inl, codes, map, pos, nat_le, nat_lt, ◌∙◌}
+use Rattle.std.specs.List.{sum_by}
+use Rattle.std.specs.List.Sorted.{IsStrictlyIncreasing}
+use Rattle.std.proofs.lemmas.Bool.{leb-true, ltb-true, true≢false}
+use Rattle.std.proofs.lemmas.Option.{none-some, same_Some}
+use Rattle.host_model.specs.Objects.{made_objects, placed_objects, shape_of}
+use Rattle.host_model.specs.ScriptValues.{fits, fits_each}
+use Rattle.host_model.specs.Scripts.{HasNotifications, IsCellOf, IsObjectOf, IsScript, IsWritten, all_made, have_room, is_given, is_needed}
+use Rattle.pair_laws.proofs.Programs.{images_with, pair_with}
+use Rattle.note_types.proofs.TypeLaws.{no_fields}
+use Rattle.note_types.specs.BelowTests.{is_below, same_type}
+use Rattle.note_types.specs.Known.{IsKnown, local_fields}
+use Rattle.note_types.specs.Limits.{code_limit, point_limit, stack_limit}
+use Rattle.note_types.specs.Records.{CanBeEntered, HasNameLength, IsFieldNote, IsFunctionNote, IsNotes, IsParamNote, IsShapeNote}
+use Rattle.note_types.specs.Records.{IsSignatureNote, IsSiteNote, IsWantNote, code_size, frame_size}
+use Rattle.note_types.specs.Passing.{IsHandedIn}
+use Rattle.note_types.specs.Shapes.{IsShape}
+use Rattle.note_types.specs.declared.cell.Cell.TheVariants as cell
+use Rattle.note_types.specs.declared.notes.FnNote.{FnNote}
+use Rattle.note_types.specs.declared.notes.Notes.{Notes}
+use Rattle.note_types.specs.declared.notes.Param.{Param}
+use Rattle.note_types.specs.declared.notes.Signature.{Signature}
+use Rattle.note_types.specs.declared.script.CellValue.{CellValue}
+use Rattle.note_types.specs.declared.script.Notify.{Notify}
+use Rattle.note_types.specs.declared.script.Script.{Script}
+use Rattle.note_types.specs.declared.script.ScriptObject.{ScriptObject}
+use Rattle.note_types.specs.declared.shape.Field.{Field}
+use Rattle.note_types.specs.declared.shape.Shape.{Shape}
+use Rattle.note_types.specs.declared.types.Ty.TheVariants as ty
+use Rattle.note_types.specs.declared.value.Value.TheVariants as value
+use Rattle.pair_model.specs.Binds.{AllAgree, bind_agrees}
+use Rattle.pair_model.specs.Pairs.{Both, PairWorld}
+use Rattle.pair_model.specs.declared.bind.Bind.{Bind}
+use Rattle.pe_image.specs.declared.image.Image.{Image}
+use Rattle.step_sound.proofs.Items.{each_item}
+use Rattle.twin_run.proofs.DriverNotes.{name_length, two_ascend}
+
+-- ---- the pair with names
+
+abbrev no_function : FnNote
+no_function = record {
+  name = [];
+  place = 0;
+  «end» = 0;
+  level = 0;
+  need = record { n = 0; c = 0 };
+  locals = None;
+  params = [];
+  result = ty.Any;
+  enter = false;
+}
+
+abbrev no_signature : Signature
+no_signature = record { name = []; method = 0; params = []; result = None }
+
+abbrev bare : PairWorld
+bare = pair_with []
+
+abbrev pub a_main : FnNote
+a_main = record (get_or bare.a.notes.function 0 no_function) { name = codes "main" }
+
+abbrev pub b_main : FnNote
+b_main = record (get_or bare.b.notes.function 0 no_function) { name = codes "main" }
+
+abbrev pub double : FnNote
+double = record (get_or bare.b.notes.function 1 no_function) { name = codes "double" }
+
+abbrev pub double_field : Field
+double_field = record { name = codes "double"; n = 0; c = 0; cell = cell.Method 0 }
+
+abbrev pub system : Shape
+system = record { name = codes "Sys"; n = 1; c = 0; fields = double_field ∷ [] }
+
+abbrev by_double : Signature
+by_double = record (get_or bare.a.notes.signature 0 no_signature) { name = codes "double" }
+
+abbrev pub a_notes : Notes
+a_notes = record bare.a.notes {
+  shape = system ∷ [];
+  function = a_main ∷ [];
+  signature = by_double ∷ [];
+  methods = codes "Double" ∷ [];
+}
+
+abbrev pub b_notes : Notes
+b_notes = record bare.b.notes { function = b_main ∷ double ∷ [] }
+
+abbrev pub doubling : PairWorld
+doubling = record bare { a = record bare.a { notes = a_notes }; b = record bare.b { notes = b_notes } }
+
+abbrev pub doubling_images : Both Image
+doubling_images = images_with []
+
+-- ---- numbers and types
+
+at_most : (a b : ℕ) → nat_le a b ≡ true → a ≤ b
+at_most a b e = leb-true a b e
+
+below : (a b : ℕ) → nat_lt a b ≡ true → a < b
+below a b e = ltb-true a b e
+
+number : (notes : Notes) (f : FnNote) (most : ℕ) → nat_lt most (2 ^ 64) ≡ true → IsKnown notes f (ty.Int 0 most 1)
+number notes f most l = record {
+  bounded = (omega arith, below most (2 ^ 64) l, at_most 1 1 refl, below 1 (2 ^ 64) refl);
+  names = tt;
+}
+
+status : (notes : Notes) (f : FnNote) → IsKnown notes f (ty.Status 0)
+status notes f = record { bounded = below 0 (2 ^ 64) refl; names = no_fields notes f }
+
+table : (f : FnNote) → IsKnown a_notes f (ty.Ptr 0 1 (pos 0) (pos 0) false)
+table f = record {
+  bounded = (
+    at_most 1 1 refl,
+    (at_most 0 0 refl, at_most 0 (2 ^ 20) refl),
+    at_most 0 (2 ^ 20) refl,
+    below 1 (2 ^ 64) refl,
+    below 0 (2 ^ 32) refl,
+  );
+  names = below 0 1 refl;
+}
+
+-- ---- notes of A
+
+a_main_enterable : CanBeEntered a_main
+a_main_enterable = record {
+  takes = each_item (λ (p : Param). IsHandedIn p.ty) a_main.params ((refl, refl), tt);
+  gives = below 2000 (2 ^ 32) refl;
+  stack = at_most (9 * frame_size a_main) stack_limit refl;
+}
+
+a_main_note : IsFunctionNote a_notes a_main
+unfolding local_fields
+a_main_note = record {
+  name = name_length a_main.name refl refl;
+  place = below a_main.place (2 ^ 22) refl;
+  «end» = at_most a_main.end (2 ^ 22) refl;
+  level = below a_main.level (2 ^ 64) refl;
+  need = (below a_main.need.n (2 ^ 64) refl, below a_main.need.c (2 ^ 64) refl);
+  locals = tt;
+  fields = at_most 0 64 refl;
+  few = at_most 1 16 refl;
+  params = each_item (IsParamNote a_notes a_main) a_main.params (
+    record { kind = tt; known = table a_main; kept = λ e. (refl, refl); passed = tt },
+    tt,
+  );
+  result = number a_notes a_main 2000 refl;
+  returned = tt;
+  entered = λ e. absurd (true≢false (sym e));
+}
+
+double_field_note : IsFieldNote a_notes double_field
+double_field_note = record {
+  name = name_length double_field.name refl refl;
+  units = below 0 (2 ^ 32) refl;
+  bytes = below 0 (2 ^ 32) refl;
+  cell = record { bounded = below 0 (2 ^ 32) refl; names = below 0 1 refl };
+}
+
+system_note : IsShapeNote a_notes system
+system_note = record {
+  name = name_length system.name refl refl;
+  units = below 1 (2 ^ 32) refl;
+  bytes = below 0 (2 ^ 32) refl;
+  few = at_most 1 256 refl;
+  fields = each_item (IsFieldNote a_notes) system.fields (double_field_note, tt);
+}
+
+by_double_note : IsSignatureNote a_notes by_double
+by_double_note = record {
+  name = name_length by_double.name refl refl;
+  method = below 0 1 refl;
+  few = at_most 1 16 refl;
+  params = each_item (IsWantNote a_notes) by_double.params (
+    record { kind = tt; known = (at_most 0 1000 refl, below 1000 (2 ^ 64) refl); kept = λ e. below 1000 (2 ^ 32) refl },
+    tt,
+  );
+  result = record { given = below 2000 (2 ^ 32) refl; known = λ f. number a_notes f 2000 refl };
+}
+
+pub a_notes_meet : IsNotes a_notes
+a_notes_meet = record {
+  version = inl refl;
+  few = record {
+    shapes = at_most 1 1024 refl;
+    statics = below 0 (2 ^ 32) refl;
+    thunks = below 0 (2 ^ 32) refl;
+    functions = at_most 1 4096 refl;
+    points = at_most 0 (point_limit 1) refl;
+    signatures = below 1 (2 ^ 32) refl;
+    sites = below 1 (2 ^ 32) refl;
+    methods = at_most 1 1024 refl;
+  };
+  entry = (a_main, refl, a_main_enterable);
+  shapes = each_item (IsShapeNote a_notes) a_notes.shape (system_note, tt);
+  statics = λ k x g. absurd (none-some x g);
+  thunks = λ k x g. absurd (none-some x g);
+  functions = each_item (IsFunctionNote a_notes) a_notes.function (a_main_note, tt);
+  points = λ k x g. absurd (none-some x g);
+  signatures = each_item (IsSignatureNote a_notes) a_notes.signature (by_double_note, tt);
+  sites = each_item (IsSiteNote a_notes) a_notes.site (record { place = below 0x100A (2 ^ 22) refl; signature = below 0 1 refl }, tt);
+  methods = each_item HasNameLength a_notes.methods (name_length (codes "Double") refl refl, tt);
+  ascends = record {
+    functions = λ k l. absurd (omega (arith, l));
+    points = λ k l. absurd (omega (arith, l));
+    sites = λ k l. absurd (omega (arith, l));
+  };
+  code = at_most (sum_by code_size a_notes.function) (code_limit 1) refl;
+}
+
+-- ---- notes of B
+
+b_main_enterable : CanBeEntered b_main
+b_main_enterable = record {
+  takes = λ k p g. absurd (none-some p g);
+  gives = tt;
+  stack = at_most (9 * frame_size b_main) stack_limit refl;
+}
+
+double_enterable : CanBeEntered double
+double_enterable = record {
+  takes = each_item (λ (p : Param). IsHandedIn p.ty) double.params (below 1000 (2 ^ 32) refl, tt);
+  gives = below 2000 (2 ^ 32) refl;
+  stack = at_most (9 * frame_size double) stack_limit refl;
+}
+
+b_main_note : IsFunctionNote b_notes b_main
+unfolding local_fields
+b_main_note = record {
+  name = name_length b_main.name refl refl;
+  place = below b_main.place (2 ^ 22) refl;
+  «end» = at_most b_main.end (2 ^ 22) refl;
+  level = below b_main.level (2 ^ 64) refl;
+  need = (below b_main.need.n (2 ^ 64) refl, below b_main.need.c (2 ^ 64) refl);
+  locals = tt;
+  fields = at_most 0 64 refl;
+  few = at_most 0 16 refl;
+  params = λ k p g. absurd (none-some p g);
+  result = status b_notes b_main;
+  returned = refl;
+  entered = λ e. absurd (true≢false (sym e));
+}
+
+double_note : IsFunctionNote b_notes double
+unfolding local_fields
+double_note = record {
+  name = name_length double.name refl refl;
+  place = below double.place (2 ^ 22) refl;
+  «end» = at_most double.end (2 ^ 22) refl;
+  level = below double.level (2 ^ 64) refl;
+  need = (below double.need.n (2 ^ 64) refl, below double.need.c (2 ^ 64) refl);
+  locals = tt;
+  fields = at_most 0 64 refl;
+  few = at_most 1 16 refl;
+  params = each_item (IsParamNote b_notes double) double.params (
+    record { kind = tt; known = number b_notes double 1000 refl; kept = λ e. below 1000 (2 ^ 32) refl; passed = tt },
+    tt,
+  );
+  result = number b_notes double 2000 refl;
+  returned = tt;
+  entered = λ e. double_enterable;
+}
+
+pub b_notes_meet : IsNotes b_notes
+b_notes_meet = record {
+  version = inl refl;
+  few = record {
+    shapes = at_most 0 1024 refl;
+    statics = below 0 (2 ^ 32) refl;
+    thunks = below 0 (2 ^ 32) refl;
+    functions = at_most 2 4096 refl;
+    points = at_most 0 (point_limit 1) refl;
+    signatures = below 0 (2 ^ 32) refl;
+    sites = below 0 (2 ^ 32) refl;
+    methods = at_most 0 1024 refl;
+  };
+  entry = (b_main, refl, b_main_enterable);
+  shapes = λ k x g. absurd (none-some x g);
+  statics = λ k x g. absurd (none-some x g);
+  thunks = λ k x g. absurd (none-some x g);
+  functions = each_item (IsFunctionNote b_notes) b_notes.function (b_main_note, (double_note, tt));
+  points = λ k x g. absurd (none-some x g);
+  signatures = λ k x g. absurd (none-some x g);
+  sites = λ k x g. absurd (none-some x g);
+  methods = λ k x g. absurd (none-some x g);
+  ascends = record {
+    functions = two_ascend 0x1000 0x1006 (below 0x1000 0x1006 refl);
+    points = λ k l. absurd (omega (arith, l));
+    sites = λ k l. absurd (omega (arith, l));
+  };
+  code = at_most (sum_by code_size b_notes.function) (code_limit 1) refl;
+}
+
+-- ---- scripts
+
+no_notifications : (notes : Notes) (script : Script) → script.notify ≡ [] → HasNotifications notes script
+no_notifications notes script e = record {
+  each = λ k n g. absurd (none-some n (sym (ap (λ xs. slice_get xs k) e) ∙ g));
+  none = λ v. e;
+  few = subst (λ xs. length xs ≤ 16384) (sym e) (leb-true 0 16384 refl);
+  ascend = subst (λ xs. IsStrictlyIncreasing (map (λ (n : Notify). n.at) xs)) (sym e) (λ k l. absurd (omega (arith, l)));
+}
+
+abbrev a_script : Script
+a_script = doubling.a.script
+
+abbrev b_script : Script
+b_script = doubling.b.script
+
+abbrev method_cell : CellValue
+method_cell = record { instance = 0; field = 0; value = value.Method 0 }
+
+abbrev table_object : ScriptObject
+table_object = record { shape = 0; count = 1; cells = method_cell ∷ [] }
+
+table_given : (i f : ℕ) (x : Field) → i < 1 → slice_get (shape_of a_notes 0).fields f ≡ Some x → is_needed x.cell ≡ true
+    → is_given table_object.cells i f ≡ true
+table_given zero zero x l g n = refl
+table_given zero (suc f) x l g n = absurd (none-some x g)
+table_given (suc i) f x l g n = absurd (omega (arith, l))
+
+table_is : IsShape system → IsObjectOf a_notes (all_made a_notes a_script) 0 table_object
+unfolding fits
+table_is formed = record {
+  known = ltb-true 0 1 refl;
+  shape = formed;
+  count = (leb-true 1 1 refl, ltb-true 1 (2 ^ 64) refl);
+  cells = each_item (IsCellOf a_notes (all_made a_notes a_script) table_object) table_object.cells (
+    record { instance = ltb-true 0 1 refl; field = double_field; there = refl; written = ltb-true 0 1 refl; value = refl },
+    tt,
+  );
+  given = table_given;
+  earlier = λ k c p i g e. each_item (λ (x : CellValue). x.value ≡ value.Ptr p i → p ≤ 0) table_object.cells
+      (λ s. absurd (cc s), tt) k c g e;
+}
+
+pub a_script_meets : IsShape system → IsScript a_notes a_script
+unfolding made_objects placed_objects fits fits_each
+a_script_meets formed = record {
+  version = inl refl;
+  written = each_item (IsWritten a_notes) a_script.args ((ltb-true 0 (2 ^ 64) refl, ltb-true 0 (2 ^ 64) refl), tt);
+  args = refl;
+  objects = objects;
+  calls = λ i c g. absurd (none-some c g);
+  room = room;
+  notify = no_notifications a_notes a_script refl;
+}
+  where
+    objects : (k : ℕ) (o : ScriptObject) → slice_get a_script.object k ≡ Some o
+        → IsObjectOf a_notes (all_made a_notes a_script) (length a_notes.statics + k) o
+    objects zero o g = subst (IsObjectOf a_notes (all_made a_notes a_script) 0) (same_Some table_object o g) (table_is formed)
+    objects (suc k) o g = absurd (none-some o g)
+
+    room : (k : ℕ) (o : ScriptObject) → slice_get a_script.object k ≡ Some o → have_room a_notes (take (k + 1) a_script.object) ≡ true
+    room zero o g = refl
+    room (suc k) o g = absurd (none-some o g)
+
+pub b_script_meets : IsScript b_notes b_script
+unfolding made_objects placed_objects fits fits_each
+b_script_meets = record {
+  version = inl refl;
+  written = λ k v g. absurd (none-some v g);
+  args = refl;
+  objects = λ k o g. absurd (none-some o g);
+  calls = λ i c g. absurd (none-some c g);
+  room = λ k o g. absurd (none-some o g);
+  notify = no_notifications b_notes b_script refl;
+}
+
+-- ---- the bind
+
+pub doubling_agrees : AllAgree a_notes b_notes doubling.binds
+unfolding bind_agrees is_below same_type
+doubling_agrees = each_item (λ (x : Bind). bind_agrees a_notes b_notes x ≡ true) doubling.binds (refl, tt)

@@ -1,6 +1,0 @@
-use Rattle.std.proofs.Common.{◌≡◌}
-use Rattle.std.specs.Prelude.{None, replicate}
-use Rattle.point_finder.proofs.coming.no_states.Given as goal
-
-abbrev pub invariant-loop : goal.invariant-loop
-invariant-loop l = l.states.items ≡ replicate l.counter None

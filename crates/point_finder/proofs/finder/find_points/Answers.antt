@@ -1,8 +1,0 @@
-use Rattle.point_finder.proofs.Answering.{stuck_answer}
-use Rattle.point_finder.proofs.finder.find_points.Goals as goal
-
-pub returns-in-Err-Stuck : goal.returns-in-Err-Stuck
-returns-in-Err-Stuck c =
-    rw c.in-Err-Stuck.stop-is
-    (stuck_answer c.args.image.now c.args.notes.now c.args.leaders.now c.in-Err-Stuck.field-0 c.in-Err-Stuck.stop c.in-Err-Stuck.field-0-is
-    c.in-Err-Stuck.ensures.stuck)

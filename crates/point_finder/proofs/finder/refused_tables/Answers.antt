@@ -1,9 +1,0 @@
-use Rattle.std.proofs.Common.{refl, subst}
-use Rattle.width_checker.specs.Verdicts.{IsVerdict}
-use Rattle.note_infer.specs.Inferred.{by_tables}
-use Rattle.point_finder.proofs.finder.refused_tables.Goals as goal
-
-pub returns : goal.returns
-returns c =
-    by_tables c.in-Refused.place c.in-Refused.rule c.requires.tables
-    (subst (IsVerdict c.args.image.now c.args.notes.now) c.in-Refused.is c.in_ok-place.ensures.verdict) refl

@@ -1,9 +1,0 @@
-pub mod Beginning
-pub mod Changing
-pub mod Coming
-pub mod Entering
-pub mod Finding
-pub mod Passing
-pub mod Reaching
-pub mod Starting
-pub mod Stopping

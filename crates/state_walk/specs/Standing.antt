@@ -1,0 +1,68 @@
+-- For proofs: what stands before an instruction: its function, the instruction and the state there. docs/RULES.md, "Places and states".
+use Rattle.std.specs.Prelude.{◌≡◌, ℕ, ◌<◌, ◌≤◌, ◌^◌, Option, Ok, Some, slice_get}
+use Rattle.ebc_insn.specs.declared.Insn.{Insn}
+use Rattle.note_types.specs.Records.{IsNotes}
+use Rattle.note_types.specs.declared.notes.FnNote.{FnNote}
+use Rattle.note_types.specs.declared.notes.Notes.{Notes}
+use Rattle.note_types.specs.declared.state.State.{State}
+use Rattle.pe_image.specs.Images.{IsImage}
+use Rattle.pe_image.specs.declared.image.Image.{Image}
+use Rattle.rules_base.specs.declared.here.Here.{Here}
+use Rattle.rules_flow.specs.declared.successors.Successors.{Successors}
+use Rattle.rules_image.specs.Images.{IsDecoded, IsFunction}
+use Rattle.state_walk.specs.declared.preceding.Before.{Before}
+use Rattle.width_checker.specs.Rows.{here_at, row_of}
+use Rattle.width_checker.specs.StatesAt.{StateAt}
+use Rattle.width_checker.specs.Walks.{Arrives, ComesTo}
+
+-- an instruction decodes at a place of a function, where it is there
+abbrev pub Decodes : Image → FnNote → ℕ → Option (Insn × ℕ) → Type 0
+Decodes image f place insn = (i : Insn) (next : ℕ) → insn ≡ Some (i, next) → IsDecoded image f place i next
+
+-- an instruction of function `func` stands here, where the rule `relocation` holds of it
+abbrev pub StandsHere : Image → ℕ → ℕ → Option (Insn × ℕ) → Option Here → Type 0
+StandsHere image func place insn here =
+    (h : Here) (i : Insn) (next : ℕ) → here ≡ Some h → insn ≡ Some (i, next) → h ≡ here_at image func place next
+
+-- it stands before the instruction at a place of function `func`
+pub record IsInsnOf (image : Image) (func : ℕ) (f : FnNote) (place : ℕ) (b : Before) : Type 0 where
+  pub func_is : b.func ≡ func
+  pub place_is : b.place ≡ place
+  pub from : f.place ≤ place
+  pub within : place < f.end
+  pub insn : Decodes image f place b.insn
+  pub here : StandsHere image func place b.insn b.here
+
+-- it stands before the instruction at a place of a function of the notes
+abbrev pub HasInsnOf : Image → Notes → ℕ → Before → Type 0
+HasInsnOf image notes place b = (f : FnNote) × (slice_get notes.function b.func ≡ Some f) × IsInsnOf image b.func f place b
+
+-- its state is the state before the instruction at a place of a function of the notes
+abbrev pub HasStateOf : Image → Notes → ℕ → Before → Type 0
+HasStateOf image notes place b = (f : FnNote) (s : State) → slice_get notes.function b.func ≡ Some f → b.state ≡ Some s
+    → StateAt image notes b.func f place s
+
+-- the instruction leads to these states
+pub record LeadsTo (notes : Notes) (b : Before) (x : Successors) : Type 0 where
+  pub here : Here
+  pub insn : Insn
+  pub next : ℕ
+  pub state : State
+  pub here_is : b.here ≡ Some here
+  pub insn_is : b.insn ≡ Some (insn, next)
+  pub state_is : b.state ≡ Some state
+  pub row : row_of notes here state insn ≡ Ok x
+
+-- a function of an image under notes, of which the rule `function` holds
+pub record IsWalk (image : Image) (notes : Notes) (func : ℕ) (f : FnNote) : Type 0 where
+  pub sound : IsImage image
+  pub read : IsNotes notes
+  pub there : slice_get notes.function func ≡ Some f
+  pub holds : IsFunction image notes func f
+  pub end : f.end ≤ 2 ^ 22
+
+-- the walk through a function has come to a place, with what arrives there
+pub record StandsBefore (image : Image) (notes : Notes) (func : ℕ) (f : FnNote) (b : Before) : Type 0 where
+  pub insn : IsInsnOf image func f b.place b
+  pub comes : ComesTo image notes func f b.place b.arrived
+  pub state : Arrives notes b.place b.arrived b.state

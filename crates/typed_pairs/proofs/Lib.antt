@@ -1,4 +1,0 @@
-pub mod Doubling
-pub mod DoublingImages
-pub mod DoublingTyped
-pub mod Typed

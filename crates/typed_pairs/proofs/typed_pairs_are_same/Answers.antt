@@ -1,8 +1,0 @@
-use Rattle.typed_pairs.proofs.Typed.{own_typed_pairs_are_same, typed_pairs_are_same}
-use Rattle.typed_pairs.proofs.typed_pairs_are_same.Goals as goal
-
-pub returns-clause-always : goal.returns-clause-always
-returns-clause-always c = typed_pairs_are_same
-
-pub returns-clause-own : goal.returns-clause-own
-returns-clause-own c = own_typed_pairs_are_same

@@ -1,9 +1,0 @@
-pub mod Accepts
-pub mod Asked
-pub mod Endings
-pub mod Holds
-pub mod Later
-pub mod Laws
-pub mod Live
-pub mod Sound
-pub mod Waiting
