@@ -1,67 +1,72 @@
 //! What is said of a bind that doesn't agree with the notes of both images: docs/PAIRS.md, "Binds".
 
-use crate::faulty::{Faulty, Found, Wrong};
-use crate::values::params_text;
-use ebc_base::NoMemory;
-use explain_base::Said;
+use crate::faulty::{Found, Subject};
+use crate::line::Line;
+use crate::values::{write_params, write_result, write_type};
 use note_types::{FnNote, Notes, Signature};
-use point_texts::type_text;
-use std::alloc::Global;
 
-// What a function and a signature take and give.
-fn interfaces_text(
-    alloc: Global,
+// Writes what a signature and a function take and give.
+fn write_interfaces(
     consumer: &Notes,
     provider: &Notes,
     signature: &Signature,
     function: &FnNote,
-) -> Result<String, NoMemory> {
-    let (name, bound) = (signature.name.as_str(), function.name.as_str());
-    let takes = params_text(alloc, consumer, signature.params.as_slice())?;
-    let gives = match signature.result {
-        Some(ty) => type_text(alloc, consumer, &[], ty)?,
-        None => String::from_str(alloc, "none")?,
-    };
-    let needs = params_text(alloc, provider, function.params.as_slice())?;
-    let returns = type_text(alloc, provider, &[], function.result)?;
-    Ok(format!(in alloc;
-        " doesn't agree: signature {name} has {takes}, result {gives}; function {bound} has {needs}, result {returns}"
-    )?)
+    line: &mut Line,
+) {
+    line.text(" doesn't agree: signature ")
+        .text(signature.name.as_str())
+        .text(" has ");
+    write_params(consumer, signature.params.as_slice(), line);
+    line.text(", result ");
+    write_result(consumer, signature, "none", line);
+    line.text("; function ")
+        .text(function.name.as_str())
+        .text(" has ");
+    write_params(provider, function.params.as_slice(), line);
+    line.text(", result ");
+    write_type(provider, function.result, line);
 }
 
-// What is wrong with a bind of a method to a function.
-fn bind_wrong(
-    alloc: Global,
+// The signature of a method.
+fn signature_of<'n>(notes: &'n Notes, method: &str) -> Option<&'n Signature> {
+    for signature in notes.signature.as_slice() {
+        if let Some(name) = notes.methods.as_slice().get(signature.method as usize) {
+            if name.as_str() == method {
+                return Some(signature);
+            }
+        }
+    }
+    None
+}
+
+// Writes what is wrong with a bind of a method to the function of that number.
+fn function_wrong(
     consumer: &Notes,
     provider: &Notes,
     method: &str,
-    function: &str,
-) -> Result<Option<String>, NoMemory> {
-    let functions = provider.function.as_slice();
-    let Some(number) = functions.iter().position(|f| f.name.as_str() == function) else {
-        return Ok(None);
-    };
+    number: usize,
+    line: &mut Line,
+) -> Option<Subject> {
+    let function = provider.function.as_slice().get(number)?;
+    let name = function.name.as_str();
     if number == provider.entry as usize {
-        return Ok(Some(format!(in alloc;
-            " doesn't agree: {function} is the entry function, which no bind enters"
-        )?));
+        line.text(" doesn't agree: ")
+            .text(name)
+            .text(" is the entry function, which no bind enters");
+    } else if !function.enter {
+        line.text(" doesn't agree: ")
+            .text(name)
+            .text(" isn't marked enter = true");
+    } else {
+        write_interfaces(
+            consumer,
+            provider,
+            signature_of(consumer, method)?,
+            function,
+            line,
+        );
     }
-    if !functions[number].enter {
-        return Ok(Some(format!(in alloc; " doesn't agree: {function} isn't marked enter = true")?));
-    }
-    for signature in consumer.signature.as_slice() {
-        let named = consumer.methods.as_slice().get(signature.method as usize);
-        if named.is_some_and(|name| name.as_str() == method) {
-            return Ok(Some(interfaces_text(
-                alloc,
-                consumer,
-                provider,
-                signature,
-                &functions[number],
-            )?));
-        }
-    }
-    Ok(None)
+    Some(Subject::Whole)
 }
 
 fn text_at<'a>(at: &Found<'a>, key: &str) -> &'a str {
@@ -71,20 +76,18 @@ fn text_at<'a>(at: &Found<'a>, key: &str) -> &'a str {
     }
 }
 
-/// What is said of a bind that doesn't agree with the notes of both images.
-///
-/// # Errors
-///
-/// Want of memory alone.
+/// What of a bind doesn't agree with the notes of both images; it writes what is wrong with it.
 pub(crate) fn bind_condition(
-    f: &Faulty,
     consumer: &Notes,
     provider: &Notes,
     at: &Found,
-) -> Result<Option<Said>, NoMemory> {
-    let (method, function) = (text_at(at, "method"), text_at(at, "function"));
-    match bind_wrong(f.alloc, consumer, provider, method, function)? {
-        Some(text) => Ok(Some(at.wrong_said(f, &Wrong { item: None, text })?)),
-        None => Ok(None),
+    line: &mut Line,
+) -> Option<Subject> {
+    let (method, name) = (text_at(at, "method"), text_at(at, "function"));
+    for (number, function) in provider.function.as_slice().iter().enumerate() {
+        if function.name.as_str() == name {
+            return function_wrong(consumer, provider, method, number, line);
+        }
     }
+    None
 }

@@ -1,7 +1,8 @@
 //! What is said of the first fault of a text in TOML.
 
-use crate::faulty::{Faulty, TomlText, position_text, table_and_key, value_at};
+use crate::faulty::{Faulty, TomlText, said_at, table_and_key, value_at};
 use crate::forms::{Form, KeyForm, bare_path};
+use crate::line::Line;
 use crate::names::name_said;
 use crate::ranges::range_said;
 use crate::repeats::twice_said;
@@ -10,7 +11,6 @@ use explain_base::Said;
 use note_types::TomlFault;
 use std::alloc::Global;
 use toml::{Table, Value};
-use toml_spans::key_span;
 
 /// What is said of a text in TOML, by the name of its file and what it is, at its first fault.
 ///
@@ -52,31 +52,37 @@ fn not_toml_said(
     offset: usize,
     message: &str,
 ) -> Result<Said, NoMemory> {
-    let what = format!(in alloc; "this is no TOML: {message}")?;
-    let at = position_text(alloc, bytes, offset)?;
-    Said::at_place(alloc, at, what, kind.page())
+    let mut what = Line::new(alloc);
+    what.text("this is no TOML: ").text(message);
+    said_at(alloc, bytes, offset, what, kind.page())
 }
 
 fn fault_said(f: &Faulty, fault: &TomlFault) -> Result<Said, NoMemory> {
-    let (said, word, path) = match fault {
-        TomlFault::NotToml => (None, "nottoml", ""),
-        TomlFault::Missing(path) => return missing_said(f, path.as_str()),
-        TomlFault::Kind(path) => (kind_said(f, path.as_str())?, "kind", path.as_str()),
-        TomlFault::Name(path) => (name_said(f, path.as_str())?, "name", path.as_str()),
-        TomlFault::Range(path) => (range_said(f, path.as_str())?, "range", path.as_str()),
-        TomlFault::Twice(path) => (twice_said(f, path.as_str())?, "twice", path.as_str()),
-    };
-    match said {
-        Some(said) => Ok(said),
-        None => plain_said(f, word, path),
+    match fault {
+        TomlFault::NotToml => f.plain_said("nottoml", ""),
+        TomlFault::Missing(path) => missing_said(f, path.as_str()),
+        TomlFault::Kind(path) => kind_said(f, path.as_str()),
+        TomlFault::Name(path) => found_said(f, path.as_str(), "name", fault),
+        TomlFault::Range(path) => found_said(f, path.as_str(), "range", fault),
+        TomlFault::Twice(path) => found_said(f, path.as_str(), "twice", fault),
     }
 }
 
-// What is said where nothing is found at the path.
-fn plain_said(f: &Faulty, word: &str, path: &str) -> Result<Said, NoMemory> {
-    let alloc = f.alloc;
-    let what = format!(in alloc; "{word} at {path}")?;
-    Said::at_place(alloc, String::new(alloc), what, f.kind.page())
+// What is said of what stands at a path.
+fn found_said<'a>(
+    f: &Faulty<'a>,
+    path: &'a str,
+    word: &str,
+    fault: &TomlFault,
+) -> Result<Said, NoMemory> {
+    let Some(at) = f.find(path)? else {
+        return f.plain_said(word, path);
+    };
+    match fault {
+        TomlFault::Name(_) => name_said(f, &at),
+        TomlFault::Twice(_) => twice_said(f, &at),
+        _ => range_said(f, &at),
+    }
 }
 
 // The keys of the table at a path.
@@ -87,58 +93,52 @@ fn table_at<'a>(f: &Faulty<'a>, path: &str) -> Option<&'a Table> {
     value_at(f.table, path)?.as_table()
 }
 
-// The keys of the table at a path that are none, with commas.
-fn unknown_keys(f: &Faulty, path: &str) -> Result<String, NoMemory> {
-    let alloc = f.alloc;
-    let mut unknown = String::new(alloc);
-    let bare = bare_path(alloc, path)?;
-    let Some(table) = table_at(f, path) else {
-        return Ok(unknown);
-    };
-    for (key, _) in table.iter() {
-        add_unknown(f, bare.as_str(), key.as_str(), &mut unknown)?;
-    }
-    Ok(unknown)
+// Whether a key stands in a table that is known by its path without numbers.
+fn is_known(f: &Faulty, table: &str, key: &str) -> Result<bool, NoMemory> {
+    let mut path = Line::new(f.alloc);
+    path.text(table)
+        .text(if table.is_empty() { "" } else { "." })
+        .text(key);
+    let path = path.done()?;
+    Ok(f.kind.form_at(path.as_str()).is_some())
 }
 
-// Adds a key of a table where it is none.
-fn add_unknown(f: &Faulty, table: &str, key: &str, unknown: &mut String) -> Result<(), NoMemory> {
-    let alloc = f.alloc;
-    let path = if table.is_empty() {
-        String::from_str(alloc, key)?
-    } else {
-        format!(in alloc; "{table}.{key}")?
-    };
-    if f.kind.form_at(path.as_str()).is_some() {
+// Writes the keys of the table at a path that are none, with commas.
+fn write_unknown(f: &Faulty, path: &str, line: &mut Line) -> Result<(), NoMemory> {
+    let bare = bare_path(f.alloc, path)?;
+    let Some(table) = table_at(f, path) else {
         return Ok(());
+    };
+    for (key, _) in table.iter() {
+        if !is_known(f, bare.as_str(), key.as_str())? {
+            let begun = !line.as_str().is_empty();
+            line.text(if begun {
+                ", "
+            } else {
+                "keys there that are none: "
+            })
+            .text(key.as_str());
+        }
     }
-    if !unknown.is_empty() {
-        unknown.push_str(", ")?;
-    }
-    unknown.push_str(key)?;
     Ok(())
 }
 
 fn missing_said(f: &Faulty, path: &str) -> Result<Said, NoMemory> {
-    let alloc = f.alloc;
     let (table, key) = table_and_key(path);
-    let bare = bare_path(alloc, path)?;
-    let wanted = match f.kind.form_at(bare.as_str()) {
+    let wanted = match f.kind.form_of(f.alloc, path)? {
         Some(form) => form.wanted,
         None => "",
     };
-    let owner = if table.is_empty() { "the text" } else { table };
-    let what = format!(in alloc; "{owner} has no key {key}; wanted: {wanted}")?;
-    let offset = match key_span(alloc, f.text, table)? {
-        Some(span) => span.key,
-        None => 0,
-    };
-    let mut said = f.said_at(offset, what, f.kind.page())?;
-    let unknown = unknown_keys(f, table)?;
-    if !unknown.is_empty() {
-        said.add(format!(in alloc; "keys there that are none: {unknown}")?)?;
-    }
-    Ok(said)
+    let offset = f.key_offset(table)?.unwrap_or(0);
+    let mut more = Line::new(f.alloc);
+    write_unknown(f, table, &mut more)?;
+    let mut what = Line::new(f.alloc);
+    what.text(if table.is_empty() { "the text" } else { table });
+    what.text(" has no key ")
+        .text(key)
+        .text("; wanted: ")
+        .text(wanted);
+    f.said_more(offset, what, more)
 }
 
 fn kind_word(value: &Value) -> &'static str {
@@ -162,12 +162,17 @@ fn is_item(form: Form, value: &Value) -> bool {
     }
 }
 
-// The item of a list that is of another kind than its items are to be.
-fn odd_item(form: Form, value: &Value) -> Option<usize> {
-    match value {
-        Value::Array(items) => items.iter().position(|item| !is_item(form, item)),
-        _ => None,
+// The first item of a list of no tables that is of another kind than its items are to be.
+fn odd_item(form: Form, value: &Value) -> Option<(usize, &Value)> {
+    if let Form::Tables = form {
+        return None;
     }
+    for (number, item) in value.as_array()?.iter().enumerate() {
+        if !is_item(form, item) {
+            return Some((number, item));
+        }
+    }
+    None
 }
 
 // Whether a script of version 1 has a key of version 2.
@@ -179,38 +184,49 @@ fn is_of_version_2(f: &Faulty, path: &str) -> bool {
     path == "notify" && version == Some(1)
 }
 
-// Of what kind the value at a path is, and what is wanted there.
-fn kind_text(f: &Faulty, path: &str, form: &KeyForm) -> Result<String, NoMemory> {
-    let alloc = f.alloc;
-    let wanted = form.wanted;
-    let Some(value) = value_at(f.table, path) else {
-        return Ok(format!(in alloc; "{path} is of another kind; wanted: {wanted}")?);
+// Writes of what kind the value at a path is, and what is wanted there.
+fn write_kind(f: &Faulty, path: &str, form: KeyForm, line: &mut Line) {
+    let value = value_at(f.table, path);
+    let (is_table, found) = match value {
+        Some(value) => (path.ends_with(']'), kind_word(value)),
+        None => (false, "of another kind"),
     };
-    let found = kind_word(value);
-    if path.ends_with(']') {
-        return Ok(format!(in alloc; "{path} is {found}; wanted: a table")?);
-    }
-    match (odd_item(form.form, value), value.as_array()) {
-        (Some(number), Some(items)) if form.form != Form::Tables && number < items.len() => {
-            let found = kind_word(&items[number]);
-            Ok(format!(in alloc; "item {number} of {path} is {found}; wanted: {wanted}")?)
+    let odd = match value {
+        Some(value) if !is_table => odd_item(form.form, value),
+        _ => None,
+    };
+    match odd {
+        Some((number, item)) => {
+            line.text("item ")
+                .count(number)
+                .text(" of ")
+                .text(path)
+                .text(" is ")
+                .text(kind_word(item));
         }
-        _ => Ok(format!(in alloc; "{path} is {found}; wanted: {wanted}")?),
+        None => {
+            line.text(path).text(" is ").text(found);
+        }
     }
+    line.text("; wanted: ")
+        .text(if is_table { "a table" } else { form.wanted });
 }
 
-fn kind_said(f: &Faulty, path: &str) -> Result<Option<Said>, NoMemory> {
-    let alloc = f.alloc;
-    let Some(span) = key_span(alloc, f.text, path)? else {
-        return Ok(None);
+fn kind_said(f: &Faulty, path: &str) -> Result<Said, NoMemory> {
+    let Some(offset) = f.key_offset(path)? else {
+        return f.plain_said("kind", path);
     };
-    let bare = bare_path(alloc, path)?;
-    let what = match f.kind.form_at(bare.as_str()) {
-        None => format!(in alloc; "{path} is no key of this table")?,
-        Some(_) if is_of_version_2(f, path) => format!(in alloc;
-            "{path} is no key with version 1; wanted: version 2"
-        )?,
-        Some(form) => kind_text(f, path, form)?,
-    };
-    Ok(Some(f.said_at(span.key, what, f.kind.page())?))
+    let form = f.kind.form_of(f.alloc, path)?;
+    let mut what = Line::new(f.alloc);
+    match form {
+        None => {
+            what.text(path).text(" is no key of this table");
+        }
+        Some(_) if is_of_version_2(f, path) => {
+            what.text(path)
+                .text(" is no key with version 1; wanted: version 2");
+        }
+        Some(form) => write_kind(f, path, form, &mut what),
+    }
+    f.said_at(offset, what, f.kind.page())
 }

@@ -1,6 +1,7 @@
 //! A text in TOML with a fault, and what stands at a path of a key in it.
 
-use crate::forms::{KeyForm, Thing, bare_path};
+use crate::forms::{KeyForm, Thing};
+use crate::line::Line;
 use ebc_base::NoMemory;
 use explain_base::Said;
 use note_types::Notes;
@@ -48,15 +49,28 @@ impl TomlText<'_> {
     }
 }
 
-/// `:LINE:COLUMN` of an offset of a text.
+/// Writes `:LINE:COLUMN` of an offset of a text.
+pub(crate) fn write_position(text: &[u8], offset: usize, line: &mut Line) {
+    let at = position_of(text, offset);
+    line.text(":").number(at.line).text(":").number(at.column);
+}
+
+/// What is said at an offset of a text, and the page that mends it.
 ///
 /// # Errors
 ///
 /// Want of memory alone.
-pub(crate) fn position_text(alloc: Global, text: &[u8], offset: usize) -> Result<String, NoMemory> {
-    let at = position_of(text, offset);
-    let (line, column) = (at.line, at.column);
-    Ok(format!(in alloc; ":{line}:{column}")?)
+pub(crate) fn said_at(
+    alloc: Global,
+    text: &[u8],
+    offset: usize,
+    what: Line,
+    page: &str,
+) -> Result<Said, NoMemory> {
+    let what = what.done()?;
+    let mut at = Line::new(alloc);
+    write_position(text, offset, &mut at);
+    Said::at_place(alloc, at.done()?, what, page)
 }
 
 // The key of a part of a path, and the number of the item that it names, if it names one.
@@ -123,27 +137,68 @@ pub(crate) struct Faulty<'a> {
 #[derive(Drop)]
 pub(crate) struct Found<'a> {
     pub path: &'a str,
-    pub form: &'static KeyForm,
+    pub form: KeyForm,
     pub span: KeySpan,
     pub value: &'a Value,
 }
 
-/// What is wrong at a path: with the item of that number, or with the value as a whole.
-#[derive(Drop)]
-pub(crate) struct Wrong {
-    pub item: Option<usize>,
-    pub text: String,
+/// What a sentence speaks of: a value as a whole, or the item of that number of a list; of a value that is no list it is 0.
+#[derive(Clone, Copy)]
+pub(crate) enum Subject {
+    Whole,
+    Item(usize),
 }
 
 impl<'a> Faulty<'a> {
-    /// What is said at an offset.
+    /// What is said at an offset, and the page that mends it.
     ///
     /// # Errors
     ///
     /// Want of memory alone.
-    pub fn said_at(&self, offset: usize, what: String, see: &str) -> Result<Said, NoMemory> {
-        let at = position_text(self.alloc, self.text.as_bytes(), offset)?;
-        Said::at_place(self.alloc, at, what, see)
+    pub fn said_at(&self, offset: usize, what: Line, page: &str) -> Result<Said, NoMemory> {
+        said_at(self.alloc, self.text.as_bytes(), offset, what, page)
+    }
+
+    /// What is said at an offset, with one more line unless it is empty. The page is that of the keys.
+    ///
+    /// # Errors
+    ///
+    /// Want of memory alone.
+    pub fn said_more(&self, offset: usize, what: Line, more: Line) -> Result<Said, NoMemory> {
+        let more = more.done()?;
+        let mut said = self.said_at(offset, what, self.kind.page())?;
+        if !more.is_empty() {
+            said.add(more)?;
+        }
+        Ok(said)
+    }
+
+    /// What is said where nothing is found at a path: the fault's word and the path.
+    ///
+    /// # Errors
+    ///
+    /// Want of memory alone.
+    pub fn plain_said(&self, word: &str, path: &str) -> Result<Said, NoMemory> {
+        let mut what = Line::new(self.alloc);
+        what.text(word).text(" at ").text(path);
+        Said::at_place(
+            self.alloc,
+            String::new(self.alloc),
+            what.done()?,
+            self.kind.page(),
+        )
+    }
+
+    /// Where the key at a path stands, if it is there.
+    ///
+    /// # Errors
+    ///
+    /// Want of memory alone.
+    pub fn key_offset(&self, path: &str) -> Result<Option<usize>, NoMemory> {
+        match key_span(self.alloc, self.text, path)? {
+            Some(span) => Ok(Some(span.key)),
+            None => Ok(None),
+        }
     }
 
     /// The text between two offsets.
@@ -160,8 +215,7 @@ impl<'a> Faulty<'a> {
     ///
     /// Want of memory alone.
     pub fn find(&self, path: &'a str) -> Result<Option<Found<'a>>, NoMemory> {
-        let bare = bare_path(self.alloc, path)?;
-        let Some(form) = self.kind.form_at(bare.as_str()) else {
+        let Some(form) = self.kind.form_of(self.alloc, path)? else {
             return Ok(None);
         };
         let Some(value) = value_at(self.table, path) else {
@@ -229,62 +283,47 @@ impl<'a> Found<'a> {
         }
     }
 
-    /// Where the item of that number stands, or a value that is no list.
-    pub fn item_span(&self, number: usize) -> (usize, usize) {
+    // Where the item of that number stands, or a value that is no list.
+    fn item_span(&self, number: usize) -> (usize, usize) {
         match self.span.items.get(number) {
             Some(span) => *span,
             None => (self.span.from, self.span.to),
         }
     }
 
+    /// Where the item of that number begins, or a value that is no list.
+    pub fn item_offset(&self, number: usize) -> usize {
+        self.item_span(number).0
+    }
+
     /// The item of that number as it stands in the text, or the value: `item 1 of args is "null"`, or `version is 3`.
-    ///
-    /// # Errors
-    ///
-    /// Want of memory alone.
-    pub fn item_text(&self, f: &Faulty, number: usize) -> Result<String, NoMemory> {
-        let alloc = f.alloc;
-        let path = self.path;
-        let (from, to) = self.item_span(number);
-        let part = f.part(from, to);
-        match self.value {
-            Value::Array(_) => Ok(format!(in alloc; "item {number} of {path} is {part}")?),
-            _ => Ok(format!(in alloc; "{path} is {part}")?),
+    pub fn item_line(&self, f: &Faulty, number: usize) -> Line {
+        let mut line = Line::new(f.alloc);
+        if self.value.is_array() {
+            line.text("item ").count(number).text(" of ");
         }
+        let (from, to) = self.item_span(number);
+        line.text(self.path).text(" is ").text(f.part(from, to));
+        line
     }
 
-    /// What is said of that item: it as it stands in the text, and then what is wrong with it.
+    /// What is said of what is wrong by a condition over several keys.
     ///
     /// # Errors
     ///
     /// Want of memory alone.
-    pub fn item_said(
-        &self,
-        f: &Faulty,
-        number: usize,
-        wrong: &str,
-        see: &str,
-    ) -> Result<Said, NoMemory> {
-        let alloc = f.alloc;
-        let item = self.item_text(f, number)?;
-        let what = format!(in alloc; "{item}{wrong}")?;
-        let (from, _) = self.item_span(number);
-        f.said_at(from, what, see)
-    }
-
-    /// What is said of what is wrong by a condition.
-    ///
-    /// # Errors
-    ///
-    /// Want of memory alone.
-    pub fn wrong_said(&self, f: &Faulty, wrong: &Wrong) -> Result<Said, NoMemory> {
-        let alloc = f.alloc;
-        let (path, text) = (self.path, wrong.text.as_str());
-        match wrong.item {
-            Some(number) => self.item_said(f, number, text, f.kind.conditions_page()),
-            None => {
-                let what = format!(in alloc; "{path}{text}")?;
-                f.said_at(self.span.from, what, f.kind.conditions_page())
+    pub fn wrong_said(&self, f: &Faulty, subject: Subject, wrong: &Line) -> Result<Said, NoMemory> {
+        let page = f.kind.conditions_page();
+        match subject {
+            Subject::Item(number) => {
+                let mut what = self.item_line(f, number);
+                what.line(wrong);
+                f.said_at(self.item_offset(number), what, page)
+            }
+            Subject::Whole => {
+                let mut what = Line::new(f.alloc);
+                what.text(self.path).line(wrong);
+                f.said_at(self.span.from, what, page)
             }
         }
     }

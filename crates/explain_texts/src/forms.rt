@@ -1,7 +1,7 @@
 //! What is wanted at the keys of the TOML texts: the tables of docs/NOTES.md, SCRIPTS.md, LINKING.md and PAIRS.md.
 
 use crate::faulty::TomlText;
-use ebc_base::is_name;
+use ebc_base::{NoMemory, is_name};
 use note_texts::{
     FieldText, FromText, ItemText, ParamText, RegisterText, ResultText, TypeText, WantParamText,
 };
@@ -9,7 +9,7 @@ use script_draft::{ArgumentText, CallbackText, CellValueText, OutText, ValueText
 use std::alloc::{AllocError, Global};
 
 /// The things that have names.
-#[derive(Clone, Copy, PartialEq, Eq)]
+#[derive(Clone, Copy)]
 pub(crate) enum Thing {
     Function,
     Shape,
@@ -30,7 +30,7 @@ impl Thing {
 }
 
 /// The form of what stands at a key, or of the items of the list there.
-#[derive(Clone, Copy, PartialEq, Eq)]
+#[derive(Clone, Copy)]
 pub(crate) enum Form {
     /// A number from `low` to `high`.
     Number { low: i64, high: i64 },
@@ -123,460 +123,273 @@ impl Form {
     }
 }
 
-/// What is wanted at a key: in words, by its form, and how many items a list has at most.
+/// What is wanted at a key: in words, and by its form.
 #[derive(Clone, Copy)]
 pub(crate) struct KeyForm {
     pub key: &'static str,
     pub wanted: &'static str,
     pub form: Form,
-    pub most: usize,
 }
 
-const NOTES_KEYS: [KeyForm; 37] = [
-    KeyForm {
-        key: "version",
-        wanted: "1 or 2",
-        form: Form::Number { low: 1, high: 2 },
-        most: usize::MAX,
-    },
-    KeyForm {
-        key: "entry",
-        wanted: "the name of the entry function, a text",
-        form: Form::NameOf(Thing::Function),
-        most: usize::MAX,
-    },
-    KeyForm {
-        key: "shape",
-        wanted: "a list of tables, at most 1024",
-        form: Form::Tables,
-        most: 1024,
-    },
-    KeyForm {
-        key: "static",
-        wanted: "a list of tables",
-        form: Form::Tables,
-        most: usize::MAX,
-    },
-    KeyForm {
-        key: "thunk",
-        wanted: "a list of tables",
-        form: Form::Tables,
-        most: usize::MAX,
-    },
-    KeyForm {
-        key: "function",
-        wanted: "a list of tables, at most 4096",
-        form: Form::Tables,
-        most: 4096,
-    },
-    KeyForm {
-        key: "point",
-        wanted: "a list of tables, at most 16384, or with version 2 at most 32768",
-        form: Form::Tables,
-        most: 16384,
-    },
-    KeyForm {
-        key: "signature",
-        wanted: "a list of tables",
-        form: Form::Tables,
-        most: usize::MAX,
-    },
-    KeyForm {
-        key: "site",
-        wanted: "a list of tables",
-        form: Form::Tables,
-        most: usize::MAX,
-    },
-    KeyForm {
-        key: "shape.name",
-        wanted: "a NAME, a text",
-        form: Form::Name,
-        most: usize::MAX,
-    },
-    KeyForm {
-        key: "shape.size",
-        wanted: "a pair [N, C] of numbers from 0 to 4294967295",
-        form: Form::Pair { high: 4294967295 },
-        most: usize::MAX,
-    },
-    KeyForm {
-        key: "shape.fields",
-        wanted: "at most 256 texts NAME N C CELL",
-        form: Form::Field,
-        most: 256,
-    },
-    KeyForm {
-        key: "static.place",
-        wanted: "a number from 0 to 0x3fffff",
-        form: Form::Number {
-            low: 0,
-            high: 0x3f_ffff,
-        },
-        most: usize::MAX,
-    },
-    KeyForm {
-        key: "static.shape",
-        wanted: "the name of a shape, a text",
-        form: Form::NameOf(Thing::Shape),
-        most: usize::MAX,
-    },
-    KeyForm {
-        key: "static.count",
-        wanted: "a number from 1 on",
-        form: Form::Number {
-            low: 1,
-            high: i64::MAX,
-        },
-        most: usize::MAX,
-    },
-    KeyForm {
-        key: "thunk.place",
-        wanted: "a number from 0 to 0x3fffff",
-        form: Form::Number {
-            low: 0,
-            high: 0x3f_ffff,
-        },
-        most: usize::MAX,
-    },
-    KeyForm {
-        key: "thunk.function",
-        wanted: "the name of a function, a text",
-        form: Form::NameOf(Thing::Function),
-        most: usize::MAX,
-    },
-    KeyForm {
-        key: "function.name",
-        wanted: "a NAME, a text",
-        form: Form::Name,
-        most: usize::MAX,
-    },
-    KeyForm {
-        key: "function.place",
-        wanted: "a number from 0 to 0x3fffff",
-        form: Form::Number {
-            low: 0,
-            high: 0x3f_ffff,
-        },
-        most: usize::MAX,
-    },
-    KeyForm {
-        key: "function.end",
-        wanted: "a number from 0 to 0x400000",
-        form: Form::Number {
+impl KeyForm {
+    /// How many items a list at the key has at most, where that is limited.
+    pub fn most(&self) -> usize {
+        match self.key {
+            "function.params" | "signature.params" => 16,
+            "point.stack" => 64,
+            "shape.fields" | "objects" => 256,
+            "shape" => 1024,
+            "function" => 4096,
+            "point" => 16384,
+            _ => usize::MAX,
+        }
+    }
+}
+
+// A key, what is wanted there in words, and its form.
+type Row = (&'static str, &'static str, Form);
+
+const PLACE: Form = Form::Number {
+    low: 0,
+    high: 0x3f_ffff,
+};
+
+const FROM_ONE: Form = Form::Number {
+    low: 1,
+    high: i64::MAX,
+};
+
+const NOTES_KEYS: [Row; 37] = [
+    ("version", "1 or 2", Form::Number { low: 1, high: 2 }),
+    (
+        "entry",
+        "the name of the entry function, a text",
+        Form::NameOf(Thing::Function),
+    ),
+    ("shape", "a list of tables, at most 1024", Form::Tables),
+    ("static", "a list of tables", Form::Tables),
+    ("thunk", "a list of tables", Form::Tables),
+    ("function", "a list of tables, at most 4096", Form::Tables),
+    (
+        "point",
+        "a list of tables, at most 16384, or with version 2 at most 32768",
+        Form::Tables,
+    ),
+    ("signature", "a list of tables", Form::Tables),
+    ("site", "a list of tables", Form::Tables),
+    ("shape.name", "a NAME, a text", Form::Name),
+    (
+        "shape.size",
+        "a pair [N, C] of numbers from 0 to 4294967295",
+        Form::Pair { high: 4294967295 },
+    ),
+    (
+        "shape.fields",
+        "at most 256 texts NAME N C CELL",
+        Form::Field,
+    ),
+    ("static.place", "a number from 0 to 0x3fffff", PLACE),
+    (
+        "static.shape",
+        "the name of a shape, a text",
+        Form::NameOf(Thing::Shape),
+    ),
+    ("static.count", "a number from 1 on", FROM_ONE),
+    ("thunk.place", "a number from 0 to 0x3fffff", PLACE),
+    (
+        "thunk.function",
+        "the name of a function, a text",
+        Form::NameOf(Thing::Function),
+    ),
+    ("function.name", "a NAME, a text", Form::Name),
+    ("function.place", "a number from 0 to 0x3fffff", PLACE),
+    (
+        "function.end",
+        "a number from 0 to 0x400000",
+        Form::Number {
             low: 0,
             high: 0x40_0000,
         },
-        most: usize::MAX,
-    },
-    KeyForm {
-        key: "function.level",
-        wanted: "a number from 0 on",
-        form: Form::Number {
+    ),
+    (
+        "function.level",
+        "a number from 0 on",
+        Form::Number {
             low: 0,
             high: i64::MAX,
         },
-        most: usize::MAX,
-    },
-    KeyForm {
-        key: "function.need",
-        wanted: "a pair [N, C] of numbers from 0 on",
-        form: Form::Pair { high: i64::MAX },
-        most: usize::MAX,
-    },
-    KeyForm {
-        key: "function.locals",
-        wanted: "the name of a shape, a text",
-        form: Form::NameOf(Thing::Shape),
-        most: usize::MAX,
-    },
-    KeyForm {
-        key: "function.params",
-        wanted: "at most 16 texts n TYPE or q TYPE",
-        form: Form::Param,
-        most: 16,
-    },
-    KeyForm {
-        key: "function.result",
-        wanted: "a text TYPE",
-        form: Form::Type,
-        most: usize::MAX,
-    },
-    KeyForm {
-        key: "function.enter",
-        wanted: "true or false",
-        form: Form::Flag,
-        most: usize::MAX,
-    },
-    KeyForm {
-        key: "point.place",
-        wanted: "a number from 0 to 0x3fffff",
-        form: Form::Number {
-            low: 0,
-            high: 0x3f_ffff,
-        },
-        most: usize::MAX,
-    },
-    KeyForm {
-        key: "point.regs",
-        wanted: "texts R1 TYPE to R7 TYPE",
-        form: Form::Register,
-        most: usize::MAX,
-    },
-    KeyForm {
-        key: "point.stack",
-        wanted: "texts n TYPE, q TYPE, d TYPE or locals, at most 64 beside locals",
-        form: Form::Item,
-        most: 64,
-    },
-    KeyForm {
-        key: "point.written",
-        wanted: "texts, the names of local fields",
-        form: Form::Name,
-        most: usize::MAX,
-    },
-    KeyForm {
-        key: "point.made",
-        wanted: "a number from 0 to 4294967295",
-        form: Form::Number {
+    ),
+    (
+        "function.need",
+        "a pair [N, C] of numbers from 0 on",
+        Form::Pair { high: i64::MAX },
+    ),
+    (
+        "function.locals",
+        "the name of a shape, a text",
+        Form::NameOf(Thing::Shape),
+    ),
+    (
+        "function.params",
+        "at most 16 texts n TYPE or q TYPE",
+        Form::Param,
+    ),
+    ("function.result", "a text TYPE", Form::Type),
+    ("function.enter", "true or false", Form::Flag),
+    ("point.place", "a number from 0 to 0x3fffff", PLACE),
+    ("point.regs", "texts R1 TYPE to R7 TYPE", Form::Register),
+    (
+        "point.stack",
+        "texts n TYPE, q TYPE, d TYPE or locals, at most 64 beside locals",
+        Form::Item,
+    ),
+    (
+        "point.written",
+        "texts, the names of local fields",
+        Form::Name,
+    ),
+    (
+        "point.made",
+        "a number from 0 to 4294967295",
+        Form::Number {
             low: 0,
             high: 0xffff_ffff,
         },
-        most: usize::MAX,
-    },
-    KeyForm {
-        key: "signature.name",
-        wanted: "a NAME, a text",
-        form: Form::Name,
-        most: usize::MAX,
-    },
-    KeyForm {
-        key: "signature.method",
-        wanted: "the name of a native method, a text, of at most 1024",
-        form: Form::Name,
-        most: usize::MAX,
-    },
-    KeyForm {
-        key: "signature.params",
-        wanted: "at most 16 texts n WANT or q WANT",
-        form: Form::WantParam,
-        most: 16,
-    },
-    KeyForm {
-        key: "signature.result",
-        wanted: "a text: none, status, handle, int:LO..HI with HI below 4294967296, or ptr:S*K",
-        form: Form::ResultType,
-        most: usize::MAX,
-    },
-    KeyForm {
-        key: "site.place",
-        wanted: "a number from 0 to 0x3fffff",
-        form: Form::Number {
-            low: 0,
-            high: 0x3f_ffff,
-        },
-        most: usize::MAX,
-    },
-    KeyForm {
-        key: "site.signature",
-        wanted: "the name of a signature, a text",
-        form: Form::NameOf(Thing::Signature),
-        most: usize::MAX,
-    },
+    ),
+    ("signature.name", "a NAME, a text", Form::Name),
+    (
+        "signature.method",
+        "the name of a native method, a text, of at most 1024",
+        Form::Name,
+    ),
+    (
+        "signature.params",
+        "at most 16 texts n WANT or q WANT",
+        Form::WantParam,
+    ),
+    (
+        "signature.result",
+        "a text: none, status, handle, int:LO..HI with HI below 4294967296, or ptr:S*K",
+        Form::ResultType,
+    ),
+    ("site.place", "a number from 0 to 0x3fffff", PLACE),
+    (
+        "site.signature",
+        "the name of a signature, a text",
+        Form::NameOf(Thing::Signature),
+    ),
 ];
 
-const SCRIPT_KEYS: [KeyForm; 21] = [
-    KeyForm {
-        key: "version",
-        wanted: "1 or 2",
-        form: Form::Number { low: 1, high: 2 },
-        most: usize::MAX,
-    },
-    KeyForm {
-        key: "args",
-        wanted: "texts VALUE, one for each parameter of the entry function",
-        form: Form::Value,
-        most: usize::MAX,
-    },
-    KeyForm {
-        key: "object",
-        wanted: "a list of tables",
-        form: Form::Tables,
-        most: usize::MAX,
-    },
-    KeyForm {
-        key: "call",
-        wanted: "a list of tables",
-        form: Form::Tables,
-        most: usize::MAX,
-    },
-    KeyForm {
-        key: "notify",
-        wanted: "a list of tables, with version 2 alone",
-        form: Form::Tables,
-        most: usize::MAX,
-    },
-    KeyForm {
-        key: "object.shape",
-        wanted: "the name of a shape of the notes, a text",
-        form: Form::NameOf(Thing::Shape),
-        most: usize::MAX,
-    },
-    KeyForm {
-        key: "object.count",
-        wanted: "a number from 1 on",
-        form: Form::Number {
-            low: 1,
-            high: i64::MAX,
-        },
-        most: usize::MAX,
-    },
-    KeyForm {
-        key: "object.cells",
-        wanted: "texts INSTANCE FIELD VALUE",
-        form: Form::CellValue,
-        most: usize::MAX,
-    },
-    KeyForm {
-        key: "call.signature",
-        wanted: "the name of a signature of the notes, a text",
-        form: Form::NameOf(Thing::Signature),
-        most: usize::MAX,
-    },
-    KeyForm {
-        key: "call.args",
-        wanted: "texts VALUE, out or lent VALUE, one for each parameter of the signature",
-        form: Form::Argument,
-        most: usize::MAX,
-    },
-    KeyForm {
-        key: "call.enter",
-        wanted: "texts FUNCTION VALUE, VALUE",
-        form: Form::Callback,
-        most: usize::MAX,
-    },
-    KeyForm {
-        key: "call.make",
-        wanted: "a list of tables",
-        form: Form::Tables,
-        most: usize::MAX,
-    },
-    KeyForm {
-        key: "call.make.shape",
-        wanted: "the name of a shape of the notes, a text",
-        form: Form::NameOf(Thing::Shape),
-        most: usize::MAX,
-    },
-    KeyForm {
-        key: "call.make.count",
-        wanted: "a number from 1 on",
-        form: Form::Number {
-            low: 1,
-            high: i64::MAX,
-        },
-        most: usize::MAX,
-    },
-    KeyForm {
-        key: "call.make.cells",
-        wanted: "texts INSTANCE FIELD VALUE",
-        form: Form::CellValue,
-        most: usize::MAX,
-    },
-    KeyForm {
-        key: "call.out",
-        wanted: "texts ARGUMENT VALUE",
-        form: Form::Out,
-        most: usize::MAX,
-    },
-    KeyForm {
-        key: "call.write",
-        wanted: "texts OBJECT INSTANCE FIELD VALUE",
-        form: Form::Write,
-        most: usize::MAX,
-    },
-    KeyForm {
-        key: "call.result",
-        wanted: "a text VALUE",
-        form: Form::Value,
-        most: usize::MAX,
-    },
-    KeyForm {
-        key: "notify.at",
-        wanted: "a number from 0 to 10000000",
-        form: Form::Number {
+const SCRIPT_KEYS: [Row; 21] = [
+    ("version", "1 or 2", Form::Number { low: 1, high: 2 }),
+    (
+        "args",
+        "texts VALUE, one for each parameter of the entry function",
+        Form::Value,
+    ),
+    ("object", "a list of tables", Form::Tables),
+    ("call", "a list of tables", Form::Tables),
+    (
+        "notify",
+        "a list of tables, with version 2 alone",
+        Form::Tables,
+    ),
+    (
+        "object.shape",
+        "the name of a shape of the notes, a text",
+        Form::NameOf(Thing::Shape),
+    ),
+    ("object.count", "a number from 1 on", FROM_ONE),
+    (
+        "object.cells",
+        "texts INSTANCE FIELD VALUE",
+        Form::CellValue,
+    ),
+    (
+        "call.signature",
+        "the name of a signature of the notes, a text",
+        Form::NameOf(Thing::Signature),
+    ),
+    (
+        "call.args",
+        "texts VALUE, out or lent VALUE, one for each parameter of the signature",
+        Form::Argument,
+    ),
+    ("call.enter", "texts FUNCTION VALUE, VALUE", Form::Callback),
+    ("call.make", "a list of tables", Form::Tables),
+    (
+        "call.make.shape",
+        "the name of a shape of the notes, a text",
+        Form::NameOf(Thing::Shape),
+    ),
+    ("call.make.count", "a number from 1 on", FROM_ONE),
+    (
+        "call.make.cells",
+        "texts INSTANCE FIELD VALUE",
+        Form::CellValue,
+    ),
+    ("call.out", "texts ARGUMENT VALUE", Form::Out),
+    (
+        "call.write",
+        "texts OBJECT INSTANCE FIELD VALUE",
+        Form::Write,
+    ),
+    ("call.result", "a text VALUE", Form::Value),
+    (
+        "notify.at",
+        "a number from 0 to 10000000",
+        Form::Number {
             low: 0,
             high: 10_000_000,
         },
-        most: usize::MAX,
-    },
-    KeyForm {
-        key: "notify.function",
-        wanted: "the name of a function of the notes, a text",
-        form: Form::NameOf(Thing::Function),
-        most: usize::MAX,
-    },
-    KeyForm {
-        key: "notify.args",
-        wanted: "texts VALUE, one for each parameter of the function",
-        form: Form::Value,
-        most: usize::MAX,
-    },
+    ),
+    (
+        "notify.function",
+        "the name of a function of the notes, a text",
+        Form::NameOf(Thing::Function),
+    ),
+    (
+        "notify.args",
+        "texts VALUE, one for each parameter of the function",
+        Form::Value,
+    ),
 ];
 
-const PLAN_KEYS: [KeyForm; 4] = [
-    KeyForm {
-        key: "objects",
-        wanted: "a list of 1 to 256 texts, the names of files of objects",
-        form: Form::File,
-        most: 256,
-    },
-    KeyForm {
-        key: "entry",
-        wanted: "a NAME, a text",
-        form: Form::Name,
-        most: usize::MAX,
-    },
-    KeyForm {
-        key: "subsystem",
-        wanted: "10, 11 or 12",
-        form: Form::Number { low: 10, high: 12 },
-        most: usize::MAX,
-    },
-    KeyForm {
-        key: "base",
-        wanted: "a number from 0 to 4294901760, a multiple of 65536",
-        form: Form::Number {
+const PLAN_KEYS: [Row; 4] = [
+    (
+        "objects",
+        "a list of 1 to 256 texts, the names of files of objects",
+        Form::File,
+    ),
+    ("entry", "a NAME, a text", Form::Name),
+    (
+        "subsystem",
+        "10, 11 or 12",
+        Form::Number { low: 10, high: 12 },
+    ),
+    (
+        "base",
+        "a number from 0 to 4294901760, a multiple of 65536",
+        Form::Number {
             low: 0,
             high: 4_294_901_760,
         },
-        most: usize::MAX,
-    },
+    ),
 ];
 
-const BIND_KEYS: [KeyForm; 4] = [
-    KeyForm {
-        key: "version",
-        wanted: "1",
-        form: Form::Number { low: 1, high: 1 },
-        most: usize::MAX,
-    },
-    KeyForm {
-        key: "bind",
-        wanted: "a list of tables",
-        form: Form::Tables,
-        most: usize::MAX,
-    },
-    KeyForm {
-        key: "bind.method",
-        wanted: "the name of a method of the first image's notes, a text",
-        form: Form::NameOf(Thing::Method),
-        most: usize::MAX,
-    },
-    KeyForm {
-        key: "bind.function",
-        wanted: "the name of a function of the second image's notes, a text",
-        form: Form::NameOf(Thing::Function),
-        most: usize::MAX,
-    },
+const BIND_KEYS: [Row; 4] = [
+    ("version", "1", Form::Number { low: 1, high: 1 }),
+    ("bind", "a list of tables", Form::Tables),
+    (
+        "bind.method",
+        "the name of a method of the first image's notes, a text",
+        Form::NameOf(Thing::Method),
+    ),
+    (
+        "bind.function",
+        "the name of a function of the second image's notes, a text",
+        Form::NameOf(Thing::Function),
+    ),
 ];
 
 /// A path without the numbers of tables, as `function.need` of `function[2].need`.
@@ -591,18 +404,34 @@ pub(crate) fn bare_path(alloc: Global, path: &str) -> Result<String, AllocError>
     Ok(bare)
 }
 
-fn form_in(keys: &'static [KeyForm], key: &str) -> Option<&'static KeyForm> {
-    keys.iter().find(|form| form.key == key)
+fn form_in(rows: &'static [Row], sought: &str) -> Option<KeyForm> {
+    for row in rows {
+        let (key, wanted, form) = *row;
+        if key == sought {
+            return Some(KeyForm { key, wanted, form });
+        }
+    }
+    None
 }
 
 impl TomlText<'_> {
-    /// What is wanted at a key; `None` where it is no key.
-    pub(crate) fn form_at(&self, key: &str) -> Option<&'static KeyForm> {
+    /// What is wanted at a key, by its path without numbers; `None` where it is no key.
+    pub(crate) fn form_at(&self, key: &str) -> Option<KeyForm> {
         match self {
             TomlText::Notes => form_in(&NOTES_KEYS, key),
             TomlText::Script(_) => form_in(&SCRIPT_KEYS, key),
             TomlText::Plan => form_in(&PLAN_KEYS, key),
             TomlText::Binds(..) => form_in(&BIND_KEYS, key),
         }
+    }
+
+    /// What is wanted at a path; `None` where it is that of no key.
+    ///
+    /// # Errors
+    ///
+    /// Want of memory alone.
+    pub(crate) fn form_of(&self, alloc: Global, path: &str) -> Result<Option<KeyForm>, NoMemory> {
+        let bare = bare_path(alloc, path)?;
+        Ok(self.form_at(bare.as_str()))
     }
 }

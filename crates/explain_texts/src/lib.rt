@@ -39,6 +39,7 @@ mod bind_conditions;
 mod faults;
 mod faulty;
 mod forms;
+mod line;
 mod names;
 mod note_conditions;
 mod pairs;

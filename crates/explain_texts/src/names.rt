@@ -2,39 +2,35 @@
 
 use crate::faulty::{Faulty, Found, TomlText, table_and_key, value_at};
 use crate::forms::{Form, Thing};
-use ebc_base::NoMemory;
+use crate::line::Line;
+use ebc_base::{Name, NoMemory};
 use explain_base::Said;
 use note_texts::FromText;
+use note_types::{Field, Shape};
 use script_draft::CellValueText;
 
 /// Names that are listed.
 const MOST_NAMES: usize = 64;
 
-fn has_name(f: &Faulty, thing: Thing, name: &str) -> bool {
+// The number of the thing of that name, if it is there.
+fn thing_number(f: &Faulty, thing: Thing, name: &str) -> Option<usize> {
     for number in 0..usize::MAX {
-        match f.name(thing, number) {
-            Some(other) if other == name => return true,
-            Some(_) => {}
-            None => return false,
+        if f.name(thing, number)? == name {
+            return Some(number);
         }
     }
-    false
+    None
 }
 
-// The names of the things of a kind, with commas.
-fn names_text(f: &Faulty, thing: Thing) -> Result<String, NoMemory> {
-    let mut names = String::new(f.alloc);
+// Writes the names of the things of a kind, with commas.
+fn write_names(f: &Faulty, thing: Thing, line: &mut Line) {
     for number in 0..MOST_NAMES {
         let Some(name) = f.name(thing, number) else {
-            return Ok(names);
+            return;
         };
-        if number > 0 {
-            names.push_str(", ")?;
-        }
-        names.push_str(name)?;
+        line.text(if number == 0 { "" } else { ", " }).text(name);
     }
-    names.push_str(", ..")?;
-    Ok(names)
+    line.text(", ..");
 }
 
 // What the word behind one names, in a text of a list of notes, or else of a script.
@@ -59,7 +55,7 @@ fn unknown_name<'t>(f: &Faulty, form: Form, text: &'t str) -> Option<(Thing, &'t
     };
     for word in text.split(is_break) {
         if let Some(thing) = named {
-            if !has_name(f, thing, word) {
+            if thing_number(f, thing, word).is_none() {
                 return Some((thing, word));
             }
         }
@@ -76,117 +72,137 @@ fn item_said(
     thing: Thing,
     name: &str,
 ) -> Result<Said, NoMemory> {
-    let alloc = f.alloc;
-    let word = thing.word();
-    let wrong = format!(in alloc; ", which names the {word} {name} that the notes don't have")?;
-    let mut said = at.item_said(f, number, wrong.as_str(), f.kind.page())?;
-    let names = names_text(f, thing)?;
-    said.add(format!(in alloc; "they have: {names}")?)?;
-    Ok(said)
+    let mut what = at.item_line(f, number);
+    what.text(", which names the ")
+        .text(thing.word())
+        .text(" ")
+        .text(name);
+    what.text(" that the notes don't have");
+    let mut more = Line::new(f.alloc);
+    more.text("they have: ");
+    write_names(f, thing, &mut more);
+    f.said_more(at.item_offset(number), what, more)
 }
 
 /// The number of the shape of the table in which a key of a script stands.
 pub(crate) fn shape_at(f: &Faulty, path: &str) -> Option<usize> {
     let (table, _) = table_and_key(path);
     let shape = value_at(f.table, table)?.get("shape")?.as_str()?;
-    for number in 0..usize::MAX {
-        if f.name(Thing::Shape, number)? == shape {
-            return Some(number);
+    thing_number(f, Thing::Shape, shape)
+}
+
+/// The field of that name of a shape, if it is there.
+pub(crate) fn field_named<'n>(shape: &'n Shape, name: &Name) -> Option<&'n Field> {
+    for field in shape.fields.as_slice() {
+        if field.name == *name {
+            return Some(field);
         }
     }
     None
 }
 
-// What is said of the first item of a list whose field the shape of its table doesn't have.
-fn field_said(f: &Faulty, at: &Found) -> Result<Option<Said>, NoMemory> {
-    let alloc = f.alloc;
+// Whether a text gives a cell of a field that a shape doesn't have, and what is wrong then.
+fn lacks_field(shape: &Shape, text: &str, wrong: &mut Line) -> Result<bool, NoMemory> {
+    let Some(cell) = CellValueText::from_text(wrong.alloc, text)? else {
+        return Ok(false);
+    };
+    if field_named(shape, &cell.field).is_some() {
+        return Ok(false);
+    }
+    wrong.text(", and the shape ").text(shape.name.as_str());
+    wrong.text(" has no field ").text(cell.field.as_str());
+    Ok(true)
+}
+
+// The first item of a list whose field the shape of its table doesn't have, and what is wrong with it.
+fn unknown_field(f: &Faulty, at: &Found, wrong: &mut Line) -> Result<Option<usize>, NoMemory> {
     let (TomlText::Script(notes), Some(number)) = (f.kind, shape_at(f, at.path)) else {
         return Ok(None);
     };
     let Some(shape) = notes.shape.as_slice().get(number) else {
         return Ok(None);
     };
-    for number in 0..at.count() {
-        let text = at.item(number).unwrap_or("");
-        let Some(cell) = CellValueText::from_text(alloc, text)? else {
-            continue;
-        };
-        if !shape
-            .fields
-            .as_slice()
-            .iter()
-            .any(|field| field.name == cell.field)
-        {
-            let (field, name) = (cell.field.as_str(), shape.name.as_str());
-            let wrong = format!(in alloc; ", and the shape {name} has no field {field}")?;
-            return Ok(Some(at.item_said(f, number, wrong.as_str(), f.kind.page())?));
+    for item in 0..at.count() {
+        if lacks_field(shape, at.item(item).unwrap_or(""), wrong)? {
+            return Ok(Some(item));
         }
     }
     Ok(None)
 }
 
+// What is said of the first item of a list whose field the shape of its table doesn't have.
+fn field_said(f: &Faulty, at: &Found) -> Result<Said, NoMemory> {
+    let mut wrong = Line::new(f.alloc);
+    let Some(number) = unknown_field(f, at, &mut wrong)? else {
+        return f.plain_said("name", at.path);
+    };
+    let mut what = at.item_line(f, number);
+    what.line(&wrong);
+    f.said_at(at.item_offset(number), what, f.kind.page())
+}
+
 // What is said of a name that the notes don't have; of binds the notes are told by their file.
 fn thing_said(f: &Faulty, at: &Found, thing: Thing) -> Result<Said, NoMemory> {
-    let alloc = f.alloc;
-    let word = thing.word();
     let (owner, verb, whose) = match (f.kind, thing) {
         (TomlText::Binds(consumer, _), Thing::Method) => (consumer.file, "doesn't", "it has"),
         (TomlText::Binds(_, provider), _) => (provider.file, "doesn't", "it has"),
         _ => ("the notes", "don't", "they have"),
     };
-    let wrong = format!(in alloc; ", which names a {word} that {owner} {verb} have")?;
-    let mut said = at.item_said(f, 0, wrong.as_str(), f.kind.page())?;
-    let names = names_text(f, thing)?;
-    if names.is_empty() {
-        let other = other_names(f, thing)?;
-        said.add(format!(in alloc; "{whose} none{other}")?)?;
+    let mut what = at.item_line(f, 0);
+    what.text(", which names a ")
+        .text(thing.word())
+        .text(" that ")
+        .text(owner);
+    what.text(" ").text(verb).text(" have");
+    let mut more = Line::new(f.alloc);
+    more.text(whose);
+    if f.name(thing, 0).is_some() {
+        more.text(": ");
+        write_names(f, thing, &mut more);
     } else {
-        said.add(format!(in alloc; "{whose}: {names}")?)?;
+        more.text(" none");
+        write_other_names(f, thing, &mut more);
     }
-    Ok(said)
+    f.said_more(at.item_offset(0), what, more)
 }
 
-// The things of that kind that the other notes of binds have.
-fn other_names(f: &Faulty, thing: Thing) -> Result<String, NoMemory> {
-    let alloc = f.alloc;
+// Writes the things of that kind that the other notes of binds have.
+fn write_other_names(f: &Faulty, thing: Thing, line: &mut Line) {
     let TomlText::Binds(consumer, provider) = f.kind else {
-        return Ok(String::new(alloc));
+        return;
     };
     let turned = Faulty {
         kind: TomlText::Binds(provider, consumer),
         ..*f
     };
-    let names = names_text(&turned, thing)?;
-    if names.is_empty() {
-        return Ok(String::new(alloc));
+    if turned.name(thing, 0).is_none() {
+        return;
     }
     let file = match thing {
         Thing::Method => provider.file,
         _ => consumer.file,
     };
-    Ok(format!(in alloc; "; {file} has: {names}")?)
+    line.text("; ").text(file).text(" has: ");
+    write_names(&turned, thing, line);
 }
 
-/// What is said of a name at a path that isn't there.
+/// What is said of a name that isn't there.
 ///
 /// # Errors
 ///
 /// Want of memory alone.
-pub(crate) fn name_said(f: &Faulty, path: &str) -> Result<Option<Said>, NoMemory> {
-    let Some(at) = f.find(path)? else {
-        return Ok(None);
-    };
+pub(crate) fn name_said(f: &Faulty, at: &Found) -> Result<Said, NoMemory> {
     if let Form::NameOf(thing) = at.form.form {
-        return Ok(Some(thing_said(f, &at, thing)?));
+        return thing_said(f, at, thing);
     }
     for number in 0..at.count() {
         let text = at.item(number).unwrap_or("");
         if let Some((thing, name)) = unknown_name(f, at.form.form, text) {
-            return Ok(Some(item_said(f, &at, number, thing, name)?));
+            return item_said(f, at, number, thing, name);
         }
     }
-    if at.form.form == Form::CellValue {
-        return field_said(f, &at);
+    match at.form.form {
+        Form::CellValue => field_said(f, at),
+        _ => f.plain_said("name", at.path),
     }
-    Ok(None)
 }

@@ -1,12 +1,11 @@
 //! What is said of notes by the conditions over several keys: docs/NOTES.md, "The conditions".
 
-use crate::faulty::{Faulty, Found, Wrong, table_number, value_at};
-use ebc_base::NoMemory;
-use explain_base::Said;
+use crate::faulty::{Faulty, Found, Subject, table_number};
+use crate::line::Line;
+use ebc_base::Name;
 use note_draft::{FunctionDraft, NotesDraft, PointDraft, read_draft};
-use note_texts::{FieldText, ItemText, TypeText, WantText};
-use note_types::{Names, SlotKind, code_limit};
-use std::alloc::Global;
+use note_texts::{FieldText, ItemText, ParamText, TypeText, WantText};
+use note_types::{SlotKind, code_limit};
 
 /// Functions that are listed.
 const MOST_FUNCTIONS: usize = 8;
@@ -77,103 +76,91 @@ fn is_entered(draft: &NotesDraft, function: &FunctionDraft) -> bool {
     function.enter || function.name == draft.entry
 }
 
-fn thunk_wrong(
-    alloc: Global,
-    draft: &NotesDraft,
-    ty: &TypeText,
-) -> Result<Option<String>, NoMemory> {
+fn thunk_wrong(draft: &NotesDraft, ty: &TypeText, line: &mut Line) -> bool {
     let count = draft.thunk.len();
     match ty {
-        TypeText::ThunkAt(number) if count <= *number as usize => Ok(Some(format!(in alloc;
-            "; wanted: thunk:I with I below {count}, as there are {count} thunk cells"
-        )?)),
-        _ => Ok(None),
+        TypeText::ThunkAt(number) if count <= *number as usize => {
+            line.text("; wanted: thunk:I with I below ").count(count);
+            line.text(", as there are ")
+                .count(count)
+                .text(" thunk cells");
+            true
+        }
+        _ => false,
     }
 }
 
-fn kept_wrong(alloc: Global, kind: SlotKind, ty: &TypeText) -> Result<Option<String>, NoMemory> {
-    let instead = kept_instead(ty);
-    if kind != SlotKind::N || instead.is_empty() {
-        return Ok(None);
+fn kept_wrong(param: &ParamText, line: &mut Line) -> bool {
+    let instead = kept_instead(&param.ty);
+    if param.kind != SlotKind::N || instead.is_empty() {
+        return false;
     }
-    Ok(Some(format!(in alloc; "; wanted in a natural parameter: {instead}")?))
+    line.text("; wanted in a natural parameter: ").text(instead);
+    true
 }
 
-fn handed_wrong(
-    alloc: Global,
-    function: &FunctionDraft,
-    types: &str,
-) -> Result<Option<String>, NoMemory> {
-    let name = function.name.as_str();
-    Ok(Some(format!(in alloc; "; wanted, as the firmware enters {name}: {types}")?))
+fn write_handed(function: &FunctionDraft, types: &str, line: &mut Line) {
+    line.text("; wanted, as the firmware enters ")
+        .text(function.name.as_str());
+    line.text(": ").text(types);
 }
 
-// What is wrong with a parameter of a function by a condition.
+// Whether a parameter of a function fails a condition, and what is wrong then.
 fn param_wrong(
-    alloc: Global,
     draft: &NotesDraft,
     function: &FunctionDraft,
-    number: usize,
+    param: &ParamText,
     condition: Condition,
-) -> Result<Option<String>, NoMemory> {
-    let Some(param) = function.params.as_slice().get(number) else {
-        return Ok(None);
-    };
+    line: &mut Line,
+) -> bool {
     match condition {
-        Condition::Kept => kept_wrong(alloc, param.kind, &param.ty),
-        Condition::Handed if is_entered(draft, function) && !is_handed_in(&param.ty) =>
-            handed_wrong(
-                alloc,
+        Condition::Kept => kept_wrong(param, line),
+        Condition::Handed if is_entered(draft, function) && !is_handed_in(&param.ty) => {
+            write_handed(
                 function,
                 "any, int:LO..HI with HI below 4294967296, ptr:S*K, handle, or status",
-            ),
-        Condition::Passed if speaks_of_frame(&param.ty) => Ok(Some(String::from_str(
-            alloc,
-            "; wanted: no local, saved or status with grants, which speak of the caller's frame",
-        )?)),
-        Condition::HasThunk => thunk_wrong(alloc, draft, &param.ty),
-        _ => Ok(None),
+                line,
+            );
+            true
+        }
+        Condition::Passed if speaks_of_frame(&param.ty) => {
+            line.text(
+                "; wanted: no local, saved or status with grants, which speak of the caller's frame",
+            );
+            true
+        }
+        Condition::HasThunk => thunk_wrong(draft, &param.ty, line),
+        _ => false,
     }
 }
 
-fn params_wrong(
-    alloc: Global,
-    draft: &NotesDraft,
-    function: &FunctionDraft,
-) -> Result<Option<Wrong>, NoMemory> {
+// The first parameter of a function that fails the first condition that one fails, and what is wrong with it.
+fn params_wrong(draft: &NotesDraft, function: &FunctionDraft, line: &mut Line) -> Option<Subject> {
     for condition in CONDITIONS {
-        for item in 0..function.params.len() {
-            if let Some(text) = param_wrong(alloc, draft, function, item, condition)? {
-                return Ok(Some(Wrong {
-                    item: Some(item),
-                    text,
-                }));
+        for (item, param) in function.params.as_slice().iter().enumerate() {
+            if param_wrong(draft, function, param, condition, line) {
+                return Some(Subject::Item(item));
             }
         }
     }
-    Ok(None)
+    None
 }
 
-// What is wrong with the result of a function.
-fn result_wrong(
-    alloc: Global,
-    draft: &NotesDraft,
-    function: &FunctionDraft,
-) -> Result<Option<String>, NoMemory> {
+fn write_result(draft: &NotesDraft, function: &FunctionDraft, line: &mut Line) {
     if is_entered(draft, function) && !is_handed_back(&function.result) {
-        return handed_wrong(
-            alloc,
+        write_handed(
             function,
             "any, int:LO..HI with HI below 4294967296, or status",
+            line,
         );
+        return;
     }
-    Ok(Some(String::from_str(
-        alloc,
+    line.text(
         "; wanted: no local, lent, saved, thunk or status with grants, which speak of a frame or a thunk cell",
-    )?))
+    );
 }
 
-fn need_wrong(alloc: Global, function: &FunctionDraft) -> Result<Option<String>, NoMemory> {
+fn write_need(function: &FunctionDraft, line: &mut Line) {
     let params = function.params.len() as u64;
     let need = function
         .need
@@ -183,13 +170,12 @@ fn need_wrong(alloc: Global, function: &FunctionDraft) -> Result<Option<String>,
     let frame = need
         .saturating_add(params.saturating_mul(8))
         .saturating_add(16);
-    let frames = frame.saturating_mul(9);
-    Ok(Some(format!(in alloc;
-        "; nine frames take {frames} bytes where a pointer has 8; wanted: at most 1048576"
-    )?))
+    line.text("; nine frames take ")
+        .number(frame.saturating_mul(9));
+    line.text(" bytes where a pointer has 8; wanted: at most 1048576");
 }
 
-fn end_wrong(alloc: Global, draft: &NotesDraft, number: usize) -> Result<Option<String>, NoMemory> {
+fn write_end(draft: &NotesDraft, number: usize, line: &mut Line) {
     let mut code = 0u64;
     for function in draft
         .function
@@ -199,280 +185,242 @@ fn end_wrong(alloc: Global, draft: &NotesDraft, number: usize) -> Result<Option<
     {
         code = code.saturating_add(u64::from(function.end.saturating_sub(function.place)));
     }
-    let limit = code_limit(draft.version);
-    Ok(Some(format!(in alloc;
-        "; the code up to there takes {code} bytes; wanted: at most {limit}"
-    )?))
+    line.text("; the code up to there takes ").number(code);
+    line.text(" bytes; wanted: at most ")
+        .number(code_limit(draft.version));
 }
 
 // What is wrong with a key of a function.
 fn function_wrong(
-    f: &Faulty,
     draft: &NotesDraft,
     key: &str,
     number: usize,
-) -> Result<Option<Wrong>, NoMemory> {
-    let alloc = f.alloc;
-    let Some(function) = draft.function.as_slice().get(number) else {
-        return Ok(None);
-    };
-    let text = match key {
-        "function.params" => return params_wrong(alloc, draft, function),
-        "function.result" => result_wrong(alloc, draft, function)?,
-        "function.locals" => Some(String::from_str(
-            alloc,
-            "; wanted: a shape of at most 64 fields",
-        )?),
-        "function.need" => need_wrong(alloc, function)?,
-        "function.end" => end_wrong(alloc, draft, number)?,
-        _ => None,
-    };
-    match text {
-        Some(text) => Ok(Some(Wrong {
-            item: Some(0),
-            text,
-        })),
-        None => Ok(None),
+    line: &mut Line,
+) -> Option<Subject> {
+    let function = draft.function.as_slice().get(number)?;
+    match key {
+        "function.params" => return params_wrong(draft, function, line),
+        "function.result" => write_result(draft, function, line),
+        "function.locals" => {
+            line.text("; wanted: a shape of at most 64 fields");
+        }
+        "function.need" => write_need(function, line),
+        "function.end" => write_end(draft, number, line),
+        _ => return None,
     }
+    Some(Subject::Item(0))
 }
 
 // The argument of a signature that a natural move doesn't keep.
-fn wants_wrong(
-    alloc: Global,
-    draft: &NotesDraft,
-    number: usize,
-) -> Result<Option<Wrong>, NoMemory> {
-    let Some(signature) = draft.signature.as_slice().get(number) else {
-        return Ok(None);
-    };
+fn wants_wrong(draft: &NotesDraft, number: usize, line: &mut Line) -> Option<Subject> {
+    let signature = draft.signature.as_slice().get(number)?;
     for (item, param) in signature.params.as_slice().iter().enumerate() {
         match param.want {
             WantText::Int { hi, .. } if param.kind == SlotKind::N && !is_narrow(hi) => {
-                let text = String::from_str(
-                    alloc,
+                line.text(
                     "; wanted in a natural argument: numbers below 4294967296, as n int:0..4294967295",
-                )?;
-                return Ok(Some(Wrong {
-                    item: Some(item),
-                    text,
-                }));
+                );
+                return Some(Subject::Item(item));
             }
             _ => {}
         }
     }
-    Ok(None)
+    None
 }
 
 // The place of the table before, where that isn't below the one at a path.
-fn place_before(f: &Faulty, at: &Found, list: &str) -> Result<Option<i64>, NoMemory> {
-    let alloc = f.alloc;
-    let Some(number) = table_number(at.path).checked_sub(1) else {
-        return Ok(None);
-    };
-    let path = format!(in alloc; "{list}[{number}].place")?;
-    let before = match value_at(f.table, path.as_str()) {
-        Some(value) => value.as_integer(),
-        None => None,
-    };
-    match (before, at.value.as_integer()) {
-        (Some(before), Some(own)) if own <= before => Ok(Some(before)),
-        _ => Ok(None),
+fn place_before(f: &Faulty, at: &Found, list: &str) -> Option<i64> {
+    let number = table_number(at.path).checked_sub(1)?;
+    let table = f.table.get(list)?.as_array()?.get(number)?;
+    let before = table.get("place")?.as_integer()?;
+    if at.value.as_integer()? <= before {
+        return Some(before);
     }
+    None
 }
 
-// The functions with their places.
-fn functions_text(alloc: Global, draft: &NotesDraft) -> Result<String, NoMemory> {
-    let mut text = String::from_str(alloc, "; wanted: a place of ")?;
-    for (number, function) in draft
-        .function
-        .as_slice()
-        .iter()
-        .enumerate()
-        .take(MOST_FUNCTIONS)
-    {
-        if number > 0 {
-            text.push_str(", or of ")?;
-        }
-        let (name, place, end) = (function.name.as_str(), function.place, function.end);
-        text.push_str(format!(in alloc; "{name}, 0x{place:x} up to 0x{end:x}")?.as_str())?;
-    }
-    if MOST_FUNCTIONS < draft.function.len() {
-        text.push_str(", ..")?;
-    }
-    Ok(text)
-}
-
-fn place_wrong(
-    f: &Faulty,
-    draft: &NotesDraft,
-    at: &Found,
-    list: &str,
-) -> Result<Option<Wrong>, NoMemory> {
-    let alloc = f.alloc;
-    let text = match place_before(f, at, list)? {
-        Some(before) => format!(in alloc;
-            "; wanted: more than that of the {list} before, 0x{before:x}"
-        )?,
-        None => {
-            let functions = functions_text(alloc, draft)?;
-            format!(in alloc; ", which lies in no function{functions}")?
-        }
-    };
-    Ok(Some(Wrong {
-        item: Some(0),
-        text,
-    }))
-}
-
-// The function in which a point lies, and the fields of its locals.
-fn locals_of<'d>(
-    draft: &'d NotesDraft,
-    point: &PointDraft,
-) -> Option<(&'d FunctionDraft, &'d [FieldText])> {
+// Writes the functions with their places.
+fn write_functions(draft: &NotesDraft, line: &mut Line) {
     let functions = draft.function.as_slice();
-    let function = functions
-        .iter()
-        .find(|f| f.place <= point.place && point.place < f.end)?;
-    let Some(locals) = &function.locals else {
-        return Some((function, &[]));
-    };
-    let shape = draft
-        .shape
-        .as_slice()
-        .iter()
-        .find(|shape| shape.name == *locals)?;
-    Some((function, shape.fields.as_slice()))
+    for (number, function) in functions.iter().enumerate().take(MOST_FUNCTIONS) {
+        line.text(if number == 0 { "" } else { ", or of " })
+            .text(function.name.as_str());
+        line.text(", ").hexadecimal(u64::from(function.place));
+        line.text(" up to ").hexadecimal(u64::from(function.end));
+    }
+    if MOST_FUNCTIONS < functions.len() {
+        line.text(", ..");
+    }
 }
 
-fn unknown_in<'d>(names: &'d Names, fields: &[FieldText]) -> Option<&'d str> {
-    let name = names
-        .as_slice()
-        .iter()
-        .find(|name| !fields.iter().any(|field| field.name == **name))?;
-    Some(name.as_str())
+// What is wrong with a place: that of the table before isn't below it, or it lies in no function.
+fn place_wrong(f: &Faulty, draft: &NotesDraft, at: &Found, list: &str, line: &mut Line) -> Subject {
+    match place_before(f, at, list) {
+        Some(before) => {
+            line.text("; wanted: more than that of the ").text(list);
+            line.text(" before, ").hexadecimal(before.cast_unsigned());
+        }
+        None => {
+            line.text(", which lies in no function; wanted: a place of ");
+            write_functions(draft, line);
+        }
+    }
+    Subject::Item(0)
+}
+
+// The function in which a place lies.
+fn function_of(draft: &NotesDraft, place: u32) -> Option<&FunctionDraft> {
+    for function in draft.function.as_slice() {
+        if function.place <= place && place < function.end {
+            return Some(function);
+        }
+    }
+    None
+}
+
+// The fields of the locals of a function; none where it has no locals.
+fn locals_of<'d>(draft: &'d NotesDraft, function: &FunctionDraft) -> Option<&'d [FieldText]> {
+    let Some(locals) = &function.locals else {
+        return Some(&[]);
+    };
+    for shape in draft.shape.as_slice() {
+        if shape.name == *locals {
+            return Some(shape.fields.as_slice());
+        }
+    }
+    None
+}
+
+fn is_field(fields: &[FieldText], name: &Name) -> bool {
+    for field in fields {
+        if field.name == *name {
+            return true;
+        }
+    }
+    false
+}
+
+fn first_unknown<'d>(names: &'d [Name], fields: &[FieldText]) -> Option<&'d Name> {
+    for name in names {
+        if !is_field(fields, name) {
+            return Some(name);
+        }
+    }
+    None
 }
 
 // The first name of a local field in a type that isn't one of these fields.
-fn unknown_field<'d>(ty: &'d TypeText, fields: &[FieldText]) -> Option<&'d str> {
+fn unknown_field<'d>(ty: &'d TypeText, fields: &[FieldText]) -> Option<&'d Name> {
     match ty {
-        TypeText::Local(name) if !fields.iter().any(|field| field.name == *name) => Some(
-            name.as_str(),
-        ),
-        TypeText::Status(names) | TypeText::SignedStatus(names) => unknown_in(names, fields),
+        TypeText::Local(name) if !is_field(fields, name) => Some(name),
+        TypeText::Status(names) | TypeText::SignedStatus(names) => {
+            first_unknown(names.as_slice(), fields)
+        }
         _ => None,
     }
 }
 
-fn field_wrong(alloc: Global, function: &FunctionDraft, field: &str) -> Result<String, NoMemory> {
+fn write_field(function: &FunctionDraft, field: &Name, line: &mut Line) {
     let name = function.name.as_str();
     match &function.locals {
         Some(shape) => {
-            let shape = shape.as_str();
-            Ok(format!(in alloc;
-                "; wanted: fields of {shape}, the locals of {name}, which has no {field}"
-            )?)
+            line.text("; wanted: fields of ")
+                .text(shape.as_str())
+                .text(", the locals of ")
+                .text(name);
+            line.text(", which has no ").text(field.as_str());
         }
-        None => Ok(format!(in alloc; "; wanted: no local fields, since {name} has no locals")?),
-    }
-}
-
-fn item_type(item: &ItemText) -> Option<&TypeText> {
-    match item {
-        ItemText::Slot { ty, .. } => Some(ty),
-        ItemText::Locals => None,
+        None => {
+            line.text("; wanted: no local fields, since ")
+                .text(name)
+                .text(" has no locals");
+        }
     }
 }
 
 // The type of an item of a point's list, by the list's key.
 fn point_type<'d>(point: &'d PointDraft, key: &str, item: usize) -> Option<&'d TypeText> {
-    match key {
-        "point.regs" => Some(&point.regs.as_slice().get(item)?.ty),
-        "point.stack" => item_type(point.stack.as_slice().get(item)?),
-        _ => None,
+    if key == "point.regs" {
+        return Some(&point.regs.as_slice().get(item)?.ty);
+    }
+    match point.stack.as_slice().get(item)? {
+        ItemText::Slot { ty, .. } => Some(ty),
+        ItemText::Locals => None,
     }
 }
 
-// What is wrong with an item of a point by the local fields that it names.
+// The first local field that an item of a point names and that isn't one of these.
 fn point_field<'d>(
     point: &'d PointDraft,
     fields: &[FieldText],
     key: &str,
     item: usize,
-) -> Option<&'d str> {
+) -> Option<&'d Name> {
     if key != "point.written" {
         return unknown_field(point_type(point, key, item)?, fields);
     }
     let name = point.written.as_slice().get(item)?;
-    if fields.iter().any(|field| field.name == *name) {
+    if is_field(fields, name) {
         return None;
     }
-    Some(name.as_str())
+    Some(name)
 }
 
-// What is wrong with a list of a point: a local field or a thunk cell that isn't there, or where the locals stand.
-fn point_wrong(
-    f: &Faulty,
+// The first item of a point's list with a thunk cell that isn't there, and what is wrong with it.
+fn point_thunk(
     draft: &NotesDraft,
+    point: &PointDraft,
     at: &Found,
-    key: &str,
-) -> Result<Option<Wrong>, NoMemory> {
-    let alloc = f.alloc;
-    let Some(point) = draft.point.as_slice().get(table_number(at.path)) else {
-        return Ok(None);
-    };
-    let Some((function, fields)) = locals_of(draft, point) else {
-        return Ok(None);
-    };
-    for item in 0..at.count() {
-        if let Some(field) = point_field(point, fields, key, item) {
-            let text = field_wrong(alloc, function, field)?;
-            return Ok(Some(Wrong {
-                item: Some(item),
-                text,
-            }));
-        }
+    line: &mut Line,
+) -> Option<Subject> {
+    if at.form.key == "point.written" {
+        return None;
     }
     for item in 0..at.count() {
-        if let Some(ty) = point_type(point, key, item) {
-            if let Some(text) = thunk_wrong(alloc, draft, ty)? {
-                return Ok(Some(Wrong {
-                    item: Some(item),
-                    text,
-                }));
+        if let Some(ty) = point_type(point, at.form.key, item) {
+            if thunk_wrong(draft, ty, line) {
+                return Some(Subject::Item(item));
             }
         }
     }
-    let text = String::from_str(
-        alloc,
-        ": wanted are locals once at most, and only where the function has locals",
-    )?;
-    Ok(Some(Wrong { item: None, text }))
+    None
+}
+
+// What is wrong with a list of a point: a local field or a thunk cell that isn't there, or where the locals stand.
+fn point_wrong(draft: &NotesDraft, at: &Found, line: &mut Line) -> Option<Subject> {
+    let point = draft.point.as_slice().get(table_number(at.path))?;
+    let function = function_of(draft, point.place)?;
+    let fields = locals_of(draft, function)?;
+    for item in 0..at.count() {
+        if let Some(field) = point_field(point, fields, at.form.key, item) {
+            write_field(function, field, line);
+            return Some(Subject::Item(item));
+        }
+    }
+    if let Some(subject) = point_thunk(draft, point, at, line) {
+        return Some(subject);
+    }
+    line.text(": wanted are locals once at most, and only where the function has locals");
+    Some(Subject::Whole)
 }
 
 // What is wrong at a path by the first condition that fails.
-fn first_wrong(f: &Faulty, draft: &NotesDraft, at: &Found) -> Result<Option<Wrong>, NoMemory> {
+fn first_wrong(f: &Faulty, draft: &NotesDraft, at: &Found, line: &mut Line) -> Option<Subject> {
     let number = table_number(at.path);
     match at.form.key {
-        "function.place" => place_wrong(f, draft, at, "function"),
-        "point.place" => place_wrong(f, draft, at, "point"),
-        "site.place" => place_wrong(f, draft, at, "site"),
-        "signature.params" => wants_wrong(f.alloc, draft, number),
-        "point.regs" | "point.stack" | "point.written" => point_wrong(f, draft, at, at.form.key),
-        key => function_wrong(f, draft, key, number),
+        "function.place" => Some(place_wrong(f, draft, at, "function", line)),
+        "point.place" => Some(place_wrong(f, draft, at, "point", line)),
+        "site.place" => Some(place_wrong(f, draft, at, "site", line)),
+        "signature.params" => wants_wrong(draft, number, line),
+        "point.regs" | "point.stack" | "point.written" => point_wrong(draft, at, line),
+        key => function_wrong(draft, key, number, line),
     }
 }
 
-/// What is said of notes at a path by the conditions over several keys.
-///
-/// # Errors
-///
-/// Want of memory alone.
-pub(crate) fn note_condition(f: &Faulty, at: &Found) -> Result<Option<Said>, NoMemory> {
-    let Ok(draft) = read_draft(f.alloc, f.table) else {
-        return Ok(None);
-    };
-    match first_wrong(f, &draft, at)? {
-        Some(wrong) => Ok(Some(at.wrong_said(f, &wrong)?)),
-        None => Ok(None),
+/// What of notes isn't at a path as the conditions over several keys want it; it writes what is wrong with it.
+pub(crate) fn note_condition(f: &Faulty, at: &Found, line: &mut Line) -> Option<Subject> {
+    match read_draft(f.alloc, f.table) {
+        Ok(draft) => first_wrong(f, &draft, at, line),
+        Err(_) => None,
     }
 }

@@ -1,6 +1,6 @@
 //! What is said of runs of two images that end otherwise than finished.
 
-use crate::runs::{Ended, Scripted, Width, ended_said};
+use crate::runs::{Ended, Scripted, Width, add_said, ended_said};
 use ebc_base::NoMemory;
 use explain_base::Said;
 use note_types::{Ending, Event, Notes, Reason};
@@ -83,10 +83,15 @@ fn is_bound(notes: &Notes, binds: &[Bind], call: Option<&Event>) -> bool {
     else {
         return false;
     };
-    match notes.signature.as_slice().get(*number as usize) {
-        Some(signature) => binds.iter().any(|bind| bind.method == signature.method),
-        None => false,
+    let Some(signature) = notes.signature.as_slice().get(*number as usize) else {
+        return false;
+    };
+    for bind in binds {
+        if bind.method == signature.method {
+            return true;
+        }
     }
+    false
 }
 
 // Whether the run ended with the consumer, by its last event; `waits` says that it waits for a bound function.
@@ -149,16 +154,10 @@ pub fn pair_said(
 ) -> Result<Vec<Said>, NoMemory> {
     let mut told = Vec::new(alloc);
     if at4.ending == at8.ending && at4.steps == at8.steps {
-        if let Some(said) = pair_run_said(alloc, pair, Width::Both, at4)? {
-            told.push(said)?;
-        }
+        add_said(&mut told, pair_run_said(alloc, pair, Width::Both, at4))?;
         return Ok(told);
     }
-    if let Some(said) = pair_run_said(alloc, pair, Width::At32, at4)? {
-        told.push(said)?;
-    }
-    if let Some(said) = pair_run_said(alloc, pair, Width::At64, at8)? {
-        told.push(said)?;
-    }
+    add_said(&mut told, pair_run_said(alloc, pair, Width::At32, at4))?;
+    add_said(&mut told, pair_run_said(alloc, pair, Width::At64, at8))?;
     Ok(told)
 }

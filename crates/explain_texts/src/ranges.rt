@@ -1,8 +1,9 @@
 //! What is said of values that are past a limit, not of their form, or not as a condition over several keys wants it.
 
 use crate::bind_conditions::bind_condition;
-use crate::faulty::{Faulty, Found, TomlText};
+use crate::faulty::{Faulty, Found, Subject, TomlText};
 use crate::forms::Form;
+use crate::line::Line;
 use crate::note_conditions::note_condition;
 use crate::script_conditions::script_condition;
 use ebc_base::NoMemory;
@@ -14,20 +15,12 @@ fn is_outside(low: i64, high: i64, number: i64) -> bool {
     number < low || high < number
 }
 
-// Whether a number is out of the range of a form.
-fn is_odd_number(form: Form, number: i64) -> bool {
-    match form {
-        Form::Number { low, high } => is_outside(low, high, number),
-        Form::Pair { high } => is_outside(0, high, number),
-        _ => false,
-    }
-}
-
 // Whether a number or a text isn't of a form.
 fn is_odd(alloc: Global, form: Form, value: &Value) -> Result<bool, AllocError> {
-    match value {
-        Value::Integer(number) => Ok(is_odd_number(form, *number)),
-        Value::String(text) => {
+    match (value, form) {
+        (Value::Integer(number), Form::Number { low, high }) => Ok(is_outside(low, high, *number)),
+        (Value::Integer(number), Form::Pair { high }) => Ok(is_outside(0, high, *number)),
+        (Value::String(text), _) => {
             let fits = form.takes(alloc, text.as_str())?;
             Ok(!fits)
         }
@@ -45,98 +38,104 @@ fn first_odd(alloc: Global, form: Form, items: &[Value]) -> Result<Option<usize>
     Ok(None)
 }
 
+// What of a value isn't of its form.
+#[derive(Clone, Copy)]
+enum Odd {
+    Nothing,
+    Whole,
+    Count,
+    Item(usize),
+}
+
+// What of a list isn't of its form.
+fn odd_list(f: &Faulty, at: &Found, items: &[Value]) -> Result<Odd, NoMemory> {
+    let (form, count) = (at.form.form, items.len());
+    let first = first_odd(f.alloc, form, items)?;
+    match (form, first) {
+        (Form::Pair { .. }, None) if count == 2 => Ok(Odd::Nothing),
+        (Form::Pair { .. }, _) => Ok(Odd::Whole),
+        (Form::File, _) if count == 0 => Ok(Odd::Count),
+        _ if at.form.most() < count => Ok(Odd::Count),
+        (_, Some(number)) => Ok(Odd::Item(number)),
+        _ => Ok(Odd::Nothing),
+    }
+}
+
+// What of a value isn't of its form.
+fn odd_part(f: &Faulty, at: &Found) -> Result<Odd, NoMemory> {
+    if let Value::Array(items) = at.value {
+        return odd_list(f, at, items.as_slice());
+    }
+    if is_odd(f.alloc, at.form.form, at.value)? {
+        return Ok(Odd::Item(0));
+    }
+    Ok(Odd::Nothing)
+}
+
 // What is said of an item or a value that isn't of its form.
 fn odd_said(f: &Faulty, at: &Found, number: usize) -> Result<Said, NoMemory> {
-    let alloc = f.alloc;
-    let wanted = at.form.wanted;
-    let wrong = format!(in alloc; "; wanted: {wanted}")?;
-    let mut said = at.item_said(f, number, wrong.as_str(), f.kind.page())?;
-    let parts = at.form.form.parts();
-    if !parts.is_empty() {
-        said.add(String::from_str(alloc, parts)?)?;
-    }
-    Ok(said)
+    let mut what = at.item_line(f, number);
+    what.text("; wanted: ").text(at.form.wanted);
+    let mut more = Line::new(f.alloc);
+    more.text(at.form.form.parts());
+    f.said_more(at.item_offset(number), what, more)
 }
 
 // What is said of a value as a whole.
 fn whole_said(f: &Faulty, at: &Found) -> Result<Said, NoMemory> {
-    let alloc = f.alloc;
-    let (path, wanted) = (at.path, at.form.wanted);
     let found = f.part(at.span.from, at.span.to);
-    let what = format!(in alloc; "{path} is {found}; wanted: {wanted}")?;
+    let mut what = Line::new(f.alloc);
+    what.text(at.path)
+        .text(" is ")
+        .text(found)
+        .text("; wanted: ")
+        .text(at.form.wanted);
     f.said_at(at.span.from, what, f.kind.page())
 }
 
 // What is said of a list by how many items it has.
 fn count_said(f: &Faulty, at: &Found) -> Result<Said, NoMemory> {
-    let alloc = f.alloc;
-    let (path, wanted, count) = (at.path, at.form.wanted, at.count());
-    let what = format!(in alloc; "{path} has {count} items; wanted: {wanted}")?;
+    let mut what = Line::new(f.alloc);
+    what.text(at.path)
+        .text(" has ")
+        .count(at.count())
+        .text(" items; wanted: ")
+        .text(at.form.wanted);
     f.said_at(at.span.key, what, f.kind.page())
 }
 
-// What is said of a list by its form; `None` where it is of its form.
-fn list_said(f: &Faulty, at: &Found, items: &[Value]) -> Result<Option<Said>, NoMemory> {
-    let odd = first_odd(f.alloc, at.form.form, items)?;
-    if let Form::Pair { .. } = at.form.form {
-        return match odd {
-            None if items.len() == 2 => Ok(None),
-            _ => Ok(Some(whole_said(f, at)?)),
-        };
-    }
-    let is_empty_plan = at.form.form == Form::File && items.is_empty();
-    if at.form.most < items.len() || is_empty_plan {
-        return Ok(Some(count_said(f, at)?));
-    }
-    match odd {
-        Some(number) => Ok(Some(odd_said(f, at, number)?)),
-        None => Ok(None),
-    }
-}
-
-// What is said of a value by its form; `None` where it is of its form.
-fn form_said(f: &Faulty, at: &Found) -> Result<Option<Said>, NoMemory> {
-    if let Value::Array(items) = at.value {
-        return list_said(f, at, items.as_slice());
-    }
-    if is_odd(f.alloc, at.form.form, at.value)? {
-        return Ok(Some(odd_said(f, at, 0)?));
-    }
-    Ok(None)
-}
-
-// What is said of a value by a condition over several keys.
-fn condition_said(f: &Faulty, at: &Found) -> Result<Option<Said>, NoMemory> {
+// What of a value isn't as a condition over several keys wants it, and what is wrong with it.
+fn condition(f: &Faulty, at: &Found, wrong: &mut Line) -> Result<Option<Subject>, NoMemory> {
     match f.kind {
-        TomlText::Notes => note_condition(f, at),
-        TomlText::Script(notes) => script_condition(f, notes, at),
-        TomlText::Binds(consumer, provider) => bind_condition(
-            f,
-            consumer.notes,
-            provider.notes,
-            at,
-        ),
+        TomlText::Notes => Ok(note_condition(f, at, wrong)),
+        TomlText::Script(notes) => script_condition(f, notes, at, wrong),
+        TomlText::Binds(consumer, provider) => {
+            Ok(bind_condition(consumer.notes, provider.notes, at, wrong))
+        }
         TomlText::Plan => Ok(None),
     }
 }
 
-/// What is said of a value at a path that is past a limit, not of its form, or not as a condition wants it.
+// What is said of a value by a condition over several keys.
+fn condition_said(f: &Faulty, at: &Found) -> Result<Said, NoMemory> {
+    let mut wrong = Line::new(f.alloc);
+    match (condition(f, at, &mut wrong)?, at.value) {
+        (Some(subject), _) => at.wrong_said(f, subject, &wrong),
+        (None, Value::Array(_) | Value::Table(_)) => count_said(f, at),
+        _ => whole_said(f, at),
+    }
+}
+
+/// What is said of a value that is past a limit, not of its form, or not as a condition wants it.
 ///
 /// # Errors
 ///
 /// Want of memory alone.
-pub(crate) fn range_said(f: &Faulty, path: &str) -> Result<Option<Said>, NoMemory> {
-    let Some(at) = f.find(path)? else {
-        return Ok(None);
-    };
-    if let Some(said) = form_said(f, &at)? {
-        return Ok(Some(said));
-    }
-    if let Some(said) = condition_said(f, &at)? {
-        return Ok(Some(said));
-    }
-    match at.value {
-        Value::Array(_) | Value::Table(_) => Ok(Some(count_said(f, &at)?)),
-        _ => Ok(Some(whole_said(f, &at)?)),
+pub(crate) fn range_said(f: &Faulty, at: &Found) -> Result<Said, NoMemory> {
+    match odd_part(f, at)? {
+        Odd::Nothing => condition_said(f, at),
+        Odd::Whole => whole_said(f, at),
+        Odd::Count => count_said(f, at),
+        Odd::Item(number) => odd_said(f, at, number),
     }
 }

@@ -1,11 +1,11 @@
 //! What is said of what stands there again.
 
-use crate::faulty::{Faulty, Found, position_text, table_and_key, value_at};
+use crate::faulty::{Faulty, Found, table_and_key, value_at, write_position};
 use crate::forms::Form;
+use crate::line::Line;
 use ebc_base::NoMemory;
 use explain_base::Said;
 use toml::Value;
-use toml_spans::key_span;
 
 // A text up to its space of that number, from 1.
 fn words(text: &str, count: usize) -> &str {
@@ -54,59 +54,70 @@ fn is_same(a: &Value, b: &Value) -> bool {
 // The number of the first table of a list that has a value at a key.
 fn first_with(f: &Faulty, list: &str, key: &str, value: &Value) -> Option<usize> {
     let tables = value_at(f.table, list)?.as_array()?;
-    tables.iter().position(|table| match table.get(key) {
-        Some(other) => is_same(other, value),
-        None => false,
-    })
+    for (number, table) in tables.iter().enumerate() {
+        if let Some(other) = table.get(key) {
+            if is_same(other, value) {
+                return Some(number);
+            }
+        }
+    }
+    None
 }
 
-// The line of the table that has the value of a key first.
-fn earlier(f: &Faulty, at: &Found) -> Result<Option<String>, NoMemory> {
-    let alloc = f.alloc;
+// Writes the line of the table that has the value of a key first, if there is one.
+fn write_earlier(f: &Faulty, at: &Found, note: &mut Line) -> Result<(), NoMemory> {
     let (table, key) = table_and_key(at.path);
     let Some((list, _)) = table.rsplit_once('[') else {
-        return Ok(None);
+        return Ok(());
     };
     let Some(number) = first_with(f, list, key, at.value) else {
-        return Ok(None);
+        return Ok(());
     };
-    let path = format!(in alloc; "{list}[{number}].{key}")?;
-    let Some(span) = key_span(alloc, f.text, path.as_str())? else {
-        return Ok(None);
-    };
-    let file = f.file;
-    let position = position_text(alloc, f.text.as_bytes(), span.key)?;
-    Ok(Some(format!(in alloc; "{file}{position}: note: {path}")?))
+    let mut path = Line::new(f.alloc);
+    path.text(list).text("[").count(number).text("].").text(key);
+    let path = path.done()?;
+    if let Some(offset) = f.key_offset(path.as_str())? {
+        note.text(f.file);
+        write_position(f.text.as_bytes(), offset, note);
+        note.text(": note: ").text(path.as_str());
+    }
+    Ok(())
 }
 
 // What is said of an item that repeats another.
 fn item_said(f: &Faulty, at: &Found, number: usize, other: usize) -> Result<Said, NoMemory> {
-    let alloc = f.alloc;
-    let path = at.path;
-    let again = only_once(at.form.form, at.item(number).unwrap_or(""));
-    let what = format!(in alloc; "{again} again, in item {number} of {path}; item {other} has it")?;
-    let (from, _) = at.item_span(number);
-    f.said_at(from, what, f.kind.page())
+    let mut what = Line::new(f.alloc);
+    what.text(only_once(at.form.form, at.item(number).unwrap_or("")));
+    what.text(" again, in item ")
+        .count(number)
+        .text(" of ")
+        .text(at.path);
+    what.text("; item ").count(other).text(" has it");
+    f.said_at(at.item_offset(number), what, f.kind.page())
 }
 
-/// What is said of what stands again at a path.
+// What is said of a value that an earlier table has.
+fn value_said(f: &Faulty, at: &Found) -> Result<Said, NoMemory> {
+    let mut note = Line::new(f.alloc);
+    write_earlier(f, at, &mut note)?;
+    let note = note.done()?;
+    let mut what = at.item_line(f, 0);
+    what.text(", which an earlier table has");
+    let mut said = f.said_at(at.span.key, what, f.kind.page())?;
+    if !note.is_empty() {
+        said.add_note(note)?;
+    }
+    Ok(said)
+}
+
+/// What is said of what stands there again.
 ///
 /// # Errors
 ///
 /// Want of memory alone.
-pub(crate) fn twice_said(f: &Faulty, path: &str) -> Result<Option<Said>, NoMemory> {
-    let Some(at) = f.find(path)? else {
-        return Ok(None);
-    };
-    if let Some((number, other)) = repeat(&at) {
-        return Ok(Some(item_said(f, &at, number, other)?));
+pub(crate) fn twice_said(f: &Faulty, at: &Found) -> Result<Said, NoMemory> {
+    match repeat(at) {
+        Some((number, other)) => item_said(f, at, number, other),
+        None => value_said(f, at),
     }
-    let alloc = f.alloc;
-    let found = at.item_text(f, 0)?;
-    let what = format!(in alloc; "{found}, which an earlier table has")?;
-    let mut said = f.said_at(at.span.key, what, f.kind.page())?;
-    if let Some(line) = earlier(f, &at)? {
-        said.add_note(line)?;
-    }
-    Ok(Some(said))
 }

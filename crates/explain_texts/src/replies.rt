@@ -1,28 +1,26 @@
 //! Why the reply of a script's call doesn't fit: docs/HOST.md, "Steps", on the reply.
 
-use crate::values::{field_text, made_objects, misfit_text, object_text, seen_text, want_text};
+use crate::line::Line;
+use crate::values::{
+    Parameter, made_objects, write_misfit, write_object, write_result, write_seen, write_target,
+};
 use ebc_base::NoMemory;
 use host_model::{TypedObject, fits};
 use note_types::{
-    Field, Notes, OutValue, Script, ScriptCall, Seen, Shape, Signature, Ty, Value, Want, WantParam,
+    Field, Notes, OutValue, Script, ScriptCall, Seen, Shape, Signature, Value, Want, WantParam,
     WriteValue, content_type,
 };
-use point_texts::type_text;
-use std::alloc::Global;
 
-/// Why a reply doesn't fit: what is wrong with an item of a list of the call, or with the call.
-#[derive(Drop)]
+/// What of a reply doesn't fit: the call as a whole, or the item of that number of the list at a key; of `result` it is 0.
+#[derive(Clone, Copy)]
 pub(crate) enum Unfit {
-    Call(String),
-    Result(String),
-    Out(usize, String),
-    Write(usize, String),
+    Call,
+    Item(&'static str, usize),
 }
 
 /// A reply: the call of the script, its signature, and the objects that are made by then.
 #[derive(Clone, Copy)]
 struct Reply<'a> {
-    alloc: Global,
     notes: &'a Notes,
     made: &'a [TypedObject],
     call: &'a ScriptCall,
@@ -30,78 +28,84 @@ struct Reply<'a> {
 }
 
 impl Reply<'_> {
-    // The result, as scripts spell it.
-    fn result_text(&self) -> Result<String, NoMemory> {
-        seen_text(
-            self.alloc,
-            self.notes,
-            Seen {
-                lent: false,
-                value: self.call.result,
-            },
-        )
-    }
-
-    // What is wrong with an argument that `out` names so often; `None` where that is right.
-    fn named_wrong(
-        &self,
-        number: usize,
-        param: &WantParam,
-        times: usize,
-    ) -> Result<Option<String>, NoMemory> {
-        let alloc = self.alloc;
-        let is_error = matches!(self.call.result, Value::StatusError(_));
-        let (most, least) = match param.want {
-            Want::Out(_) => (usize::from(!is_error), usize::from(!is_error)),
-            Want::Inout(_) => (1, 0),
-            _ => (0, 0),
+    fn write_result(&self, line: &mut Line) {
+        let result = Seen {
+            lent: false,
+            value: self.call.result,
         };
-        if least <= times && times <= most {
-            return Ok(None);
-        }
-        let wanted = want_text(alloc, self.notes, param)?;
-        let result = self.result_text()?;
-        if times < least {
-            return Ok(Some(format!(in alloc;
-                "it has no out for argument {number}, {wanted}, and its result {result} is no error"
-            )?));
-        }
-        Ok(Some(format!(in alloc;
-            "it has {times} out for argument {number}, {wanted}, with the result {result}; wanted: {most}"
-        )?))
+        write_seen(self.notes, result, line);
     }
 
-    // What is wrong with the arguments that `out` names.
-    fn naming_wrong(&self) -> Result<Option<Unfit>, NoMemory> {
-        let outs = self.call.out.as_slice();
-        for (number, param) in self.signature.params.as_slice().iter().enumerate() {
-            let times = outs
-                .iter()
-                .filter(|out| out.argument == number as u64)
-                .count();
-            if let Some(text) = self.named_wrong(number, param, times)? {
-                return Ok(Some(Unfit::Call(text)));
+    // How often `out` has to name an argument, and how often it may.
+    fn times(&self, want: Want) -> (usize, usize) {
+        let is_error = matches!(self.call.result, Value::StatusError(_));
+        match want {
+            Want::Out(_) if is_error => (0, 0),
+            Want::Out(_) => (1, 1),
+            Want::Inout(_) => (0, 1),
+            _ => (0, 0),
+        }
+    }
+
+    // How often `out` names an argument.
+    fn named(&self, number: usize) -> usize {
+        let mut times = 0usize;
+        for out in self.call.out.as_slice() {
+            if out.argument == number as u64 {
+                times = times.saturating_add(1);
             }
         }
-        Ok(None)
+        times
     }
 
-    // What is wrong with a value of `out`.
-    fn out_wrong(&self, out: &OutValue) -> Result<Option<String>, NoMemory> {
-        let alloc = self.alloc;
+    // Whether `out` names an argument too often or not often enough, and what is wrong then.
+    fn misnames(&self, number: usize, param: &WantParam, line: &mut Line) -> bool {
+        let (least, most) = self.times(param.want);
+        let times = self.named(number);
+        if least <= times && times <= most {
+            return false;
+        }
+        line.text("it has ");
+        if times < least {
+            line.text("no");
+        } else {
+            line.count(times);
+        }
+        line.text(" out for argument ").count(number).text(", ");
+        param.write(self.notes, line);
+        line.text(if times < least {
+            ", and its result "
+        } else {
+            ", with the result "
+        });
+        self.write_result(line);
+        if times < least {
+            line.text(" is no error");
+        } else {
+            line.text("; wanted: ").count(most);
+        }
+        true
+    }
+
+    // What is wrong with a value of `out`, if it is wrong.
+    fn is_wrong_out(&self, out: &OutValue, line: &mut Line) -> bool {
         let number = out.argument;
         let Some(param) = self.signature.params.as_slice().get(number as usize) else {
-            return Ok(Some(format!(in alloc; ", and there is no argument {number}")?));
+            line.text(", and there is no argument ").number(number);
+            return true;
         };
-        match param.want {
-            Want::Out(cell) | Want::Inout(cell)
-                if !fits(self.made, &content_type(&cell), &out.value) => {
-                let wanted = want_text(alloc, self.notes, param)?;
-                let taker = format!(in alloc; "argument {number} is {wanted}")?;
-                Ok(Some(misfit_text(alloc, self.notes, self.made, &out.value, taker.as_str())?))
-            }
-            _ => Ok(None),
+        let cell = match param.want {
+            Want::Out(cell) | Want::Inout(cell) => cell,
+            _ => return false,
+        };
+        if fits(self.made, &content_type(&cell), &out.value) {
+            return false;
         }
+        if write_target(self.notes, self.made, &out.value, line) {
+            line.text("; argument ").number(number).text(" is ");
+            param.write(self.notes, line);
+        }
+        true
     }
 
     // The shape and the field of a cell that a `write` names, if it is there.
@@ -112,86 +116,75 @@ impl Reply<'_> {
         Some((shape, field))
     }
 
-    // What is wrong with a value of `write`.
-    fn write_wrong(&self, write: &WriteValue) -> Result<Option<String>, NoMemory> {
-        let alloc = self.alloc;
+    // What is wrong with a value of `write`, if it is wrong.
+    fn is_wrong_write(&self, write: &WriteValue, line: &mut Line) -> bool {
         let Some((shape, field)) = self.field_at(write) else {
-            return Ok(Some(object_text(alloc, self.notes, self.made, write.object)?));
+            write_object(self.notes, self.made, write.object, line);
+            return true;
         };
         if fits(self.made, &content_type(&field.cell), &write.value) {
-            return Ok(None);
+            return false;
         }
-        let taker = field_text(alloc, self.notes, shape, field)?;
-        Ok(Some(misfit_text(alloc, self.notes, self.made, &write.value, taker.as_str())?))
+        write_misfit(self.notes, self.made, &write.value, shape, field, line);
+        true
     }
 
-    // What is wrong with the values of `out` and `write`.
-    fn values_wrong(&self) -> Result<Option<Unfit>, NoMemory> {
+    // The first value of `out` or `write` that is wrong, and what is wrong with it.
+    fn wrong_value(&self, line: &mut Line) -> Option<Unfit> {
         for (item, out) in self.call.out.as_slice().iter().enumerate() {
-            if let Some(text) = self.out_wrong(out)? {
-                return Ok(Some(Unfit::Out(item, text)));
+            if self.is_wrong_out(out, line) {
+                return Some(Unfit::Item("out", item));
             }
         }
         for (item, write) in self.call.write.as_slice().iter().enumerate() {
-            if let Some(text) = self.write_wrong(write)? {
-                return Ok(Some(Unfit::Write(item, text)));
+            if self.is_wrong_write(write, line) {
+                return Some(Unfit::Item("write", item));
             }
         }
-        Ok(None)
+        None
     }
 
-    // What is wrong with the result.
-    fn result_wrong(&self) -> Result<Unfit, NoMemory> {
-        let (alloc, name) = (self.alloc, self.signature.name.as_str());
-        let wanted = match self.signature.result {
-            Some(ty) => type_text(alloc, self.notes, &[], ty)?,
-            None => String::from_str(alloc, "none, written any")?,
-        };
-        let taker = format!(in alloc; "{name} gives {wanted}")?;
-        let text = misfit_text(
-            alloc,
-            self.notes,
-            self.made,
-            &self.call.result,
-            taker.as_str(),
-        )?;
-        Ok(Unfit::Result(text))
-    }
-
-    fn is_result(&self, ty: &Option<Ty>) -> bool {
-        match ty {
+    fn is_result(&self) -> bool {
+        match &self.signature.result {
             Some(ty) => fits(self.made, ty, &self.call.result),
             None => matches!(self.call.result, Value::Any),
         }
     }
 
-    fn unfit(&self) -> Result<Unfit, NoMemory> {
-        if !self.is_result(&self.signature.result) {
-            return self.result_wrong();
+    // What doesn't fit, and why.
+    fn unfit(&self, line: &mut Line) -> Unfit {
+        if !self.is_result() {
+            if write_target(self.notes, self.made, &self.call.result, line) {
+                line.text("; ")
+                    .text(self.signature.name.as_str())
+                    .text(" gives ");
+                write_result(self.notes, self.signature, "none, written any", line);
+            }
+            return Unfit::Item("result", 0);
         }
-        if let Some(unfit) = self.values_wrong()? {
-            return Ok(unfit);
+        if let Some(unfit) = self.wrong_value(line) {
+            return unfit;
         }
-        match self.naming_wrong()? {
-            Some(unfit) => Ok(unfit),
-            None => Ok(Unfit::Call(String::from_str(
-                self.alloc,
-                "a cell that it writes isn't mapped",
-            )?)),
+        for (number, param) in self.signature.params.as_slice().iter().enumerate() {
+            if self.misnames(number, param, line) {
+                return Unfit::Call;
+            }
         }
+        line.text("a cell that it writes isn't mapped");
+        Unfit::Call
     }
 }
 
-/// Why the reply of a script's call doesn't fit; `None` where there is no such call.
+/// What of the reply of a script's call doesn't fit; it writes why. `None` where there is no such call.
 ///
 /// # Errors
 ///
 /// Want of memory alone.
 pub(crate) fn unfit_reply(
-    alloc: Global,
     notes: &Notes,
     script: &Script,
     entry: usize,
+    line: &mut Line,
 ) -> Result<Option<Unfit>, NoMemory> {
     let Some(call) = script.call.as_slice().get(entry) else {
         return Ok(None);
@@ -199,13 +192,12 @@ pub(crate) fn unfit_reply(
     let Some(signature) = notes.signature.as_slice().get(call.signature as usize) else {
         return Ok(None);
     };
-    let made = made_objects(alloc, notes, script, entry.saturating_add(1))?;
+    let made = made_objects(line.alloc, notes, script, entry.saturating_add(1))?;
     let reply = Reply {
-        alloc,
         notes,
         made: made.as_slice(),
         call,
         signature,
     };
-    Ok(Some(reply.unfit()?))
+    Ok(Some(reply.unfit(line)))
 }

@@ -1,8 +1,9 @@
 //! What is said of runs that end otherwise than finished.
 
-use crate::faulty::{Faulty, TomlText, position_text};
+use crate::faulty::{Faulty, TomlText, write_position};
+use crate::line::Line;
 use crate::replies::{Unfit, unfit_reply};
-use crate::values::{ending_text, entering_wrong, made_objects, seen_text};
+use crate::values::{made_objects, write_ending, write_entering, write_seen};
 use ebc_base::NoMemory;
 use explain_base::{Said, place_text};
 use note_types::{Ending, Event, Notes, Reason, Script, Seen};
@@ -71,45 +72,59 @@ fn signature_name(notes: &Notes, number: u32) -> &str {
     }
 }
 
-// The arguments of a call as a script has them, each in quotes.
-fn quoted_args(alloc: Global, notes: &Notes, args: &[Seen]) -> Result<String, NoMemory> {
-    let mut text = String::new(alloc);
+// Writes the arguments of a call as a script has them, each in quotes.
+fn write_args(notes: &Notes, args: &[Seen], line: &mut Line) {
     for (number, seen) in args.iter().enumerate() {
-        let separator = if number == 0 { "" } else { ", " };
-        let value = seen_text(alloc, notes, *seen)?;
-        text.push_str(format!(in alloc; "{separator}\"{value}\"")?.as_str())?;
+        line.text(if number == 0 { "\"" } else { ", \"" });
+        write_seen(notes, *seen, line);
+        line.text("\"");
     }
-    Ok(text)
+}
+
+// Of what something is said: of the run, of the script, or of what stands at an offset of the script.
+#[derive(Clone, Copy)]
+enum Subject {
+    Run,
+    Script,
+    Offset(usize),
 }
 
 impl Amiss<'_> {
-    // What is said of a file, or of a place in it.
-    fn said(&self, file: &str, at: String, what: String) -> Result<Said, NoMemory> {
-        let alloc = self.f.alloc;
-        let file = String::from_str(alloc, file)?;
-        let mut said = Said::at_place(alloc, at, what, PAGE)?;
-        said.file = file;
+    // What is said of a subject.
+    fn said(&self, subject: Subject, what: Line) -> Result<Said, NoMemory> {
+        let mut at = Line::new(self.f.alloc);
+        if let Subject::Offset(offset) = subject {
+            write_position(self.f.text.as_bytes(), offset, &mut at);
+        }
+        let file = match subject {
+            Subject::Run => "ebc",
+            _ => self.f.file,
+        };
+        let at = at.done()?;
+        let mut said = Said::at_place(self.f.alloc, at, what.done()?, PAGE)?;
+        said.file = String::from_str(self.f.alloc, file)?;
         Ok(said)
     }
 
-    // What is said of the run as a whole.
-    fn said_of_run(&self, what: String) -> Result<Said, NoMemory> {
-        self.said("ebc", String::new(self.f.alloc), what)
-    }
-
-    // What is said at an offset of the script.
-    fn said_at(&self, offset: usize, what: String) -> Result<Said, NoMemory> {
-        let at = position_text(self.f.alloc, self.f.text.as_bytes(), offset)?;
-        self.said(self.f.file, at, what)
-    }
-
-    // What is said at a key of the script, or of the script as a whole where it doesn't have the key.
-    fn said_at_key(&self, key: &str, what: String) -> Result<Said, NoMemory> {
-        let alloc = self.f.alloc;
-        match key_span(alloc, self.f.text, key)? {
-            Some(span) => self.said_at(span.key, what),
-            None => self.said(self.f.file, String::new(alloc), what),
+    // A key of the script, or the script as a whole where it doesn't have the key.
+    fn at_key(&self, key: &str) -> Result<Subject, NoMemory> {
+        match self.f.key_offset(key)? {
+            Some(offset) => Ok(Subject::Offset(offset)),
+            None => Ok(Subject::Script),
         }
+    }
+
+    // A key of a table of a list of the script.
+    fn at_item(&self, list: &str, number: usize, key: &str) -> Result<Subject, NoMemory> {
+        let path = self.path(list, number, key)?;
+        self.at_key(path.as_str())
+    }
+
+    // The path of a key of a table of a list.
+    fn path(&self, list: &str, number: usize, key: &str) -> Result<String, NoMemory> {
+        let mut path = Line::new(self.f.alloc);
+        path.text(list).text("[").count(number).text("]").text(key);
+        path.done()
     }
 
     // The number of the script's call that the last call is for.
@@ -117,28 +132,23 @@ impl Amiss<'_> {
         self.ended.calls.saturating_sub(1)
     }
 
-    // What is said at a key of the script's call that the last call is for.
-    fn said_of_call(&self, key: &str, what: String) -> Result<Said, NoMemory> {
-        let alloc = self.f.alloc;
-        let call = self.call();
-        let path = format!(in alloc; "call[{call}]{key}")?;
-        self.said_at_key(path.as_str(), what)
+    // The last call of the script.
+    fn last_call(&self) -> Result<Subject, NoMemory> {
+        self.at_item("call", self.script.call.len().saturating_sub(1), "")
     }
 
-    // What is said at the last call of the script.
-    fn said_of_calls(&self, what: String) -> Result<Said, NoMemory> {
-        let alloc = self.f.alloc;
-        let last = self.script.call.len().saturating_sub(1);
-        let path = format!(in alloc; "call[{last}]")?;
-        self.said_at_key(path.as_str(), what)
-    }
-
-    // Where an item of a list of the script stands, and its text.
-    fn item_at(&self, path: &str, number: usize) -> Result<Option<(usize, &str)>, NoMemory> {
-        let Some(span) = key_span(self.f.alloc, self.f.text, path)? else {
+    // The item of a list of a call of the script, and its text.
+    fn item_at(
+        &self,
+        call: usize,
+        key: &str,
+        item: usize,
+    ) -> Result<Option<(usize, &str)>, NoMemory> {
+        let path = self.path("call", call, key)?;
+        let Some(span) = key_span(self.f.alloc, self.f.text, path.as_str())? else {
             return Ok(None);
         };
-        let (from, to) = match span.items.get(number) {
+        let (from, to) = match span.items.get(item) {
             Some(item) => *item,
             None => (span.from, span.to),
         };
@@ -146,223 +156,246 @@ impl Amiss<'_> {
     }
 
     // The program makes a call more than the script has.
-    fn script_end(&self) -> Result<Said, NoMemory> {
-        let (alloc, width, count) = (self.f.alloc, self.width, self.script.call.len());
-        let Some(
-            Event::Called {
-                signature,
-                args,
-                ..
-            },
-        ) = self.ended.last
-        else {
-            return self.said_of_calls(format!(in alloc; "{width} the script has no call left")?);
-        };
-        let name = signature_name(self.notes, signature.unwrap_or(u32::MAX));
-        let args = quoted_args(alloc, self.notes, args.as_slice())?;
-        let what = format!(in alloc;
-            "{width} the driver makes one call more than the {count} of the script; wanted: one more table [[call]], \
-             with signature = \"{name}\" and args = [{args}]"
-        )?;
-        self.said_of_calls(what)
-    }
-
-    fn other_signature(&self, found: u32, wanted: u32) -> Result<Said, NoMemory> {
-        let (alloc, width, call) = (self.f.alloc, self.width, self.call());
-        let (found, wanted) = (
-            signature_name(self.notes, found),
-            signature_name(self.notes, wanted),
-        );
-        let what = format!(in alloc;
-            "{width} the driver calls by {found}, and call[{call}] is one by {wanted}"
-        )?;
-        self.said_of_call(".signature", what)
-    }
-
-    fn other_argument(&self, number: u32, found: Seen, wanted: Seen) -> Result<Said, NoMemory> {
-        let (alloc, width, call) = (self.f.alloc, self.width, self.call());
-        let found = seen_text(alloc, self.notes, found)?;
-        if self.ended.bound {
-            return self.said_of_run(format!(in alloc;
-                "{width} argument {number} of the call of a bound method is {found}, which doesn't fit its function"
-            )?);
+    fn script_end(&self, line: &mut Line) -> Result<Subject, NoMemory> {
+        match self.ended.last {
+            Some(
+                Event::Called {
+                    signature,
+                    args,
+                    ..
+                },
+            ) => {
+                line.text("the driver makes one call more than the ")
+                    .count(self.script.call.len());
+                line.text(" of the script; wanted: one more table [[call]], with signature = \"");
+                line.text(signature_name(self.notes, signature.unwrap_or(u32::MAX)));
+                line.text("\" and args = [");
+                write_args(self.notes, args.as_slice(), line);
+                line.text("]");
+            }
+            _ => {
+                line.text("the script has no call left");
+            }
         }
-        let wanted = seen_text(alloc, self.notes, wanted)?;
-        let what = format!(in alloc;
-            "{width} argument {number} of the driver's call is {found}, and call[{call}] has {wanted}"
-        )?;
-        self.said_of_call(".args", what)
+        self.last_call()
     }
 
-    // What is said of an item of the reply of a call, or of its result.
+    fn other_signature(
+        &self,
+        found: u32,
+        wanted: u32,
+        line: &mut Line,
+    ) -> Result<Subject, NoMemory> {
+        line.text("the driver calls by ")
+            .text(signature_name(self.notes, found));
+        line.text(", and call[")
+            .count(self.call())
+            .text("] is one by ");
+        line.text(signature_name(self.notes, wanted));
+        self.at_item("call", self.call(), ".signature")
+    }
+
+    fn other_argument(
+        &self,
+        number: u32,
+        found: Seen,
+        wanted: Seen,
+        line: &mut Line,
+    ) -> Result<Subject, NoMemory> {
+        line.text("argument ").number(u64::from(number));
+        line.text(if self.ended.bound {
+            " of the call of a bound method is "
+        } else {
+            " of the driver's call is "
+        });
+        write_seen(self.notes, found, line);
+        if self.ended.bound {
+            line.text(", which doesn't fit its function");
+            return Ok(Subject::Run);
+        }
+        line.text(", and call[").count(self.call()).text("] has ");
+        write_seen(self.notes, wanted, line);
+        self.at_item("call", self.call(), ".args")
+    }
+
+    // An item of the reply of a call, or its result.
     fn unfit_item(
         &self,
-        head: &str,
-        entry: u32,
+        call: usize,
         list: &str,
         item: usize,
-        wrong: &str,
-    ) -> Result<Said, NoMemory> {
-        let alloc = self.f.alloc;
-        let path = format!(in alloc; "call[{entry}].{list}")?;
-        let Some((offset, part)) = self.item_at(path.as_str(), item)? else {
-            return self.said_of_calls(format!(in alloc; "{head}{list}{wrong}")?);
+        line: &mut Line,
+    ) -> Result<Subject, NoMemory> {
+        let mut key = Line::new(self.f.alloc);
+        key.text(".").text(list);
+        let Some((offset, part)) = self.item_at(call, key.as_str(), item)? else {
+            line.text(list);
+            return self.last_call();
         };
         if list == "result" {
-            return self.said_at(
-                offset,
-                format!(in alloc; "{head}its result is {part}{wrong}")?,
-            );
-        }
-        self.said_at(
-            offset,
-            format!(in alloc; "{head}item {item} of {list} is {part}{wrong}")?,
-        )
-    }
-
-    fn reply(&self, entry: u32) -> Result<Said, NoMemory> {
-        let (alloc, width) = (self.f.alloc, self.width);
-        if self.ended.bound {
-            return self.said_of_run(format!(in alloc;
-                "{width} what the function of a bound method returned doesn't fit the result of the method"
-            )?);
-        }
-        let head = format!(in alloc; "{width} the reply of call[{entry}] doesn't fit: ")?;
-        let head = head.as_str();
-        match unfit_reply(alloc, self.notes, self.script, entry as usize)? {
-            Some(Unfit::Out(item, wrong)) => self.unfit_item(
-                head,
-                entry,
-                "out",
-                item,
-                wrong.as_str(),
-            ),
-            Some(Unfit::Write(item, wrong)) => self.unfit_item(
-                head,
-                entry,
-                "write",
-                item,
-                wrong.as_str(),
-            ),
-            Some(Unfit::Result(wrong)) => self.unfit_item(head, entry, "result", 0, wrong.as_str()),
-            Some(Unfit::Call(wrong)) => {
-                let path = format!(in alloc; "call[{entry}]")?;
-                self.said_at_key(path.as_str(), format!(in alloc; "{head}{wrong}")?)
-            }
-            None => self.said_of_calls(format!(in alloc; "{head}there is no such call")?),
-        }
-    }
-
-    fn callback(&self, entry: u32, number: u32) -> Result<Said, NoMemory> {
-        let (alloc, width) = (self.f.alloc, self.width);
-        let call = self.script.call.as_slice().get(entry as usize);
-        let made = made_objects(
-            alloc,
-            self.notes,
-            self.script,
-            (entry as usize).saturating_add(1),
-        )?;
-        let why = match call {
-            Some(call) => match call.enter.as_slice().get(number as usize) {
-                Some(callback) => entering_wrong(
-                    alloc,
-                    self.notes,
-                    made.as_slice(),
-                    callback.function,
-                    callback.values.as_slice(),
-                )?,
-                None => String::new(alloc),
-            },
-            None => String::new(alloc),
-        };
-        let path = format!(in alloc; "call[{entry}].enter")?;
-        match self.item_at(path.as_str(), number as usize)? {
-            Some((offset, part)) => self.said_at(
-                offset,
-                format!(in alloc;
-                    "{width} callback {number} of call[{entry}], {part}, can't be entered: {why}"
-                )?,
-            ),
-            None => self.said_of_calls(format!(in alloc;
-                "{width} callback {number} can't be entered: {why}"
-            )?),
-        }
-    }
-
-    fn notification(&self, number: u32) -> Result<Said, NoMemory> {
-        let (alloc, width) = (self.f.alloc, self.width);
-        let made = made_objects(alloc, self.notes, self.script, self.ended.calls)?;
-        let why = match self.script.notify.as_slice().get(number as usize) {
-            Some(notify) => entering_wrong(
-                alloc,
-                self.notes,
-                made.as_slice(),
-                notify.function,
-                notify.args.as_slice(),
-            )?,
-            None => String::new(alloc),
-        };
-        let why = if why.is_empty() {
-            "not all thunk cells are made by then"
+            line.text("its result");
         } else {
-            why.as_str()
-        };
-        let path = format!(in alloc; "notify[{number}]")?;
-        self.said_at_key(
-            path.as_str(),
-            format!(in alloc; "{width} notify[{number}] can't be entered: {why}")?,
-        )
+            line.text("item ").count(item).text(" of ").text(list);
+        }
+        line.text(" is ").text(part);
+        Ok(Subject::Offset(offset))
     }
 
-    fn mismatch(&self, reason: Reason) -> Result<Said, NoMemory> {
-        let (alloc, width) = (self.f.alloc, self.width);
+    fn reply(&self, entry: u32, line: &mut Line) -> Result<Subject, NoMemory> {
+        if self.ended.bound {
+            line.text(
+                "what the function of a bound method returned doesn't fit the result of the method",
+            );
+            return Ok(Subject::Run);
+        }
+        let call = entry as usize;
+        line.text("the reply of call[")
+            .count(call)
+            .text("] doesn't fit: ");
+        let mut wrong = Line::new(self.f.alloc);
+        let subject = match unfit_reply(self.notes, self.script, call, &mut wrong)? {
+            Some(Unfit::Item(list, item)) => self.unfit_item(call, list, item, line)?,
+            Some(Unfit::Call) => self.at_item("call", call, "")?,
+            None => {
+                wrong.text("there is no such call");
+                self.last_call()?
+            }
+        };
+        line.line(&wrong);
+        Ok(subject)
+    }
+
+    // Writes why a callback of a call can't be entered.
+    fn write_callback(&self, call: usize, number: usize, line: &mut Line) -> Result<(), NoMemory> {
+        let calls = call.saturating_add(1);
+        let made = made_objects(line.alloc, self.notes, self.script, calls)?;
+        if let Some(call) = self.script.call.as_slice().get(call) {
+            if let Some(callback) = call.enter.as_slice().get(number) {
+                let values = callback.values.as_slice();
+                write_entering(self.notes, made.as_slice(), callback.function, values, line);
+            }
+        }
+        Ok(())
+    }
+
+    fn callback(&self, call: usize, number: usize, line: &mut Line) -> Result<Subject, NoMemory> {
+        line.text("callback ").count(number);
+        let subject = match self.item_at(call, ".enter", number)? {
+            Some((offset, part)) => {
+                line.text(" of call[")
+                    .count(call)
+                    .text("], ")
+                    .text(part)
+                    .text(",");
+                Subject::Offset(offset)
+            }
+            None => self.last_call()?,
+        };
+        line.text(" can't be entered: ");
+        self.write_callback(call, number, line)?;
+        Ok(subject)
+    }
+
+    // Writes why a notification can't be entered, if that isn't for want of thunk cells.
+    fn write_notification(&self, number: usize, line: &mut Line) -> Result<(), NoMemory> {
+        let made = made_objects(line.alloc, self.notes, self.script, self.ended.calls)?;
+        if let Some(notify) = self.script.notify.as_slice().get(number) {
+            let values = notify.args.as_slice();
+            write_entering(self.notes, made.as_slice(), notify.function, values, line);
+        }
+        Ok(())
+    }
+
+    fn notification(&self, number: usize, line: &mut Line) -> Result<Subject, NoMemory> {
+        let mut why = Line::new(self.f.alloc);
+        self.write_notification(number, &mut why)?;
+        if why.as_str().is_empty() {
+            why.text("not all thunk cells are made by then");
+        }
+        line.text("notify[")
+            .count(number)
+            .text("] can't be entered: ")
+            .line(&why);
+        self.at_item("notify", number, "")
+    }
+
+    // Writes what doesn't match where that is no matter of the script.
+    fn write_mismatch(&self, reason: Reason, line: &mut Line) {
         match reason {
             Reason::Site { place } => {
-                let place = place_text(alloc, self.notes, place)?;
-                self.said_of_run(format!(in alloc;
-                    "{width} the call at {place} has no site in the notes"
-                )?)
+                let place = place_text(line.alloc, self.notes, place);
+                line.text("the call at ").made(place, "");
+                line.text(" has no site in the notes");
             }
-            Reason::Target { address } => self.said_of_run(format!(in alloc;
-                "{width} a call goes to the address 0x{address:x}, which isn't the method of its site"
-            )?),
-            Reason::Signature { found, wanted } => self.other_signature(found, wanted),
+            Reason::Target { address } => {
+                line.text("a call goes to the address ")
+                    .hexadecimal(address);
+                line.text(", which isn't the method of its site");
+            }
+            Reason::Thunk { address } => {
+                line.text("BREAK 5 at a cell at the address ")
+                    .hexadecimal(address);
+                line.text(" leads to no function with enter = true");
+            }
+            Reason::Depth => {
+                line.text("a tenth function would be entered while nine haven't returned");
+            }
+            _ => {
+                line.text(
+                    "a bound method is called before all thunk cells of its function's image are made",
+                );
+            }
+        }
+    }
+
+    fn mismatch(&self, reason: Reason, line: &mut Line) -> Result<Subject, NoMemory> {
+        match reason {
+            Reason::Signature { found, wanted } => self.other_signature(found, wanted, line),
             Reason::Argument {
                 number,
                 found,
                 wanted,
-            } => self.other_argument(number, found, wanted),
-            Reason::Reply { entry } => self.reply(entry),
-            Reason::Enter { entry, callback } => self.callback(entry, callback),
-            Reason::Depth => self.said_of_run(format!(in alloc;
-                "{width} a tenth function would be entered while nine haven't returned"
-            )?),
-            Reason::Thunk { address } => self.said_of_run(format!(in alloc;
-                "{width} BREAK 5 at a cell at the address 0x{address:x} leads to no function with enter = true"
-            )?),
-            Reason::Notify { number } => self.notification(number),
-            Reason::Bind { .. } => self.said_of_run(format!(in alloc;
-                "{width} a bound method is called before all thunk cells of its function's image are made"
-            )?),
+            } => self.other_argument(number, found, wanted, line),
+            Reason::Reply { entry } => self.reply(entry, line),
+            Reason::Enter { entry, callback } => {
+                self.callback(entry as usize, callback as usize, line)
+            }
+            Reason::Notify { number } => self.notification(number as usize, line),
+            _ => {
+                self.write_mismatch(reason, line);
+                Ok(Subject::Run)
+            }
+        }
+    }
+
+    // Writes how the run ended, and tells of what that is said.
+    fn write(&self, line: &mut Line) -> Result<Subject, NoMemory> {
+        match self.ended.ending {
+            Ending::ScriptEnd => self.script_end(line),
+            Ending::Mismatch(reason) => self.mismatch(reason, line),
+            Ending::Running => {
+                line.text("the run goes on after ").number(self.ended.steps);
+                line.text(" steps; wanted: more STEPS, ")
+                    .number(self.ended.most)
+                    .text(" at most");
+                Ok(Subject::Run)
+            }
+            ending => {
+                line.text("the run ");
+                write_ending(self.notes, ending, "end 0 gate ", line);
+                Ok(Subject::Run)
+            }
         }
     }
 
     fn ending(&self) -> Result<Option<Said>, NoMemory> {
-        let (alloc, width) = (self.f.alloc, self.width);
-        let (steps, most) = (self.ended.steps, self.ended.most);
-        let said = match self.ended.ending {
-            Ending::Finished(_) => return Ok(None),
-            Ending::Running => self.said_of_run(format!(in alloc;
-                "{width} the run goes on after {steps} steps; wanted: more STEPS, {most} at most"
-            )?)?,
-            Ending::Raised(_) => {
-                let words = ending_text(alloc, self.notes, self.ended.ending)?;
-                self.said_of_run(format!(in alloc; "{width} the run {words}")?)?
-            }
-            Ending::ScriptEnd => self.script_end()?,
-            Ending::Mismatch(reason) => self.mismatch(reason)?,
-        };
-        Ok(Some(said))
+        if let Ending::Finished(_) = self.ended.ending {
+            return Ok(None);
+        }
+        let mut line = Line::new(self.f.alloc);
+        line.text(self.width).text(" ");
+        let subject = self.write(&mut line)?;
+        Ok(Some(self.said(subject, line)?))
     }
 }
 
@@ -435,6 +468,22 @@ pub fn run_said(
     ended_said(alloc, ran, &ended)
 }
 
+/// Adds what is said of a run, if something is.
+///
+/// # Errors
+///
+/// Want of memory alone.
+pub(crate) fn add_said(
+    told: &mut Vec<Said>,
+    said: Result<Option<Said>, NoMemory>,
+) -> Result<(), NoMemory> {
+    match said {
+        Ok(Some(said)) => Ok(told.push(said)?),
+        Ok(None) => Ok(()),
+        Err(error) => Err(error),
+    }
+}
+
 /// What is said of the two runs of `twin`, once where they end alike.
 ///
 /// # Errors
@@ -448,16 +497,10 @@ pub fn twin_said(
 ) -> Result<Vec<Said>, NoMemory> {
     let mut told = Vec::new(alloc);
     if at4.ending == at8.ending && at4.steps == at8.steps {
-        if let Some(said) = run_said(alloc, ran, Width::Both, at4)? {
-            told.push(said)?;
-        }
+        add_said(&mut told, run_said(alloc, ran, Width::Both, at4))?;
         return Ok(told);
     }
-    if let Some(said) = run_said(alloc, ran, Width::At32, at4)? {
-        told.push(said)?;
-    }
-    if let Some(said) = run_said(alloc, ran, Width::At64, at8)? {
-        told.push(said)?;
-    }
+    add_said(&mut told, run_said(alloc, ran, Width::At32, at4))?;
+    add_said(&mut told, run_said(alloc, ran, Width::At64, at8))?;
     Ok(told)
 }

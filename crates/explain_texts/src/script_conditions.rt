@@ -1,123 +1,124 @@
 //! What is said of scripts by the conditions over several keys: docs/SCRIPTS.md, "What the reader refuses".
 
-use crate::faulty::{Faulty, Found, Wrong, table_and_key, table_number, value_at};
-use crate::names::shape_at;
+use crate::faulty::{Faulty, Found, Subject, table_and_key, table_number, value_at};
+use crate::line::Line;
+use crate::names::{field_named, shape_at};
 use crate::values::{
-    cell_text, drafted_objects, field_text, misfit_text, object_text, param_text, params_text,
-    value_of,
+    Parameter, drafted_objects, value_of, write_cell, write_misfit, write_object, write_params,
+    write_target,
 };
 use ebc_base::NoMemory;
-use explain_base::Said;
 use host_model::{TypedObject, fits};
 use note_texts::FromText;
-use note_types::{Cell, FnNote, Notes, Shape, content_type};
+use note_types::{Cell, Field, FnNote, Notes, Shape, Value, content_type};
 use script_draft::{CellValueText, ScriptDraft, ValueText, WriteText, read_draft};
 use std::alloc::Global;
 
-fn count_wrong(
-    alloc: Global,
-    at: &Found,
-    owner: &str,
-    wanted: &str,
-) -> Result<Option<Wrong>, NoMemory> {
+// Writes how many values a list has, and what the owner of the parameters has; each value has one parameter.
+fn write_count(at: &Found, owner: &str, name: &str, line: &mut Line) {
     let count = at.count();
-    let word = if count == 1 { "value" } else { "values" };
-    let text = format!(in alloc; " has {count} {word}, and {owner} has {wanted}")?;
-    Ok(Some(Wrong { item: None, text }))
+    line.text(" has ").count(count).text(if count == 1 {
+        " value, and "
+    } else {
+        " values, and "
+    });
+    line.text(owner).text(name).text(" has ");
+}
+
+// The value that an item of a list stands for.
+fn value_in(notes: &Notes, text: &str, alloc: Global) -> Result<Option<Value>, NoMemory> {
+    match ValueText::from_text(alloc, text)? {
+        Some(value) => Ok(Some(value_of(notes, &value))),
+        None => Ok(None),
+    }
 }
 
 // The first argument of the entry function that doesn't fit its parameter.
 fn arg_wrong(
-    alloc: Global,
     notes: &Notes,
     made: &[TypedObject],
     entry: &FnNote,
     at: &Found,
-) -> Result<Option<Wrong>, NoMemory> {
-    let name = entry.name.as_str();
+    line: &mut Line,
+) -> Result<Option<Subject>, NoMemory> {
     for (item, param) in entry.params.as_slice().iter().enumerate() {
-        let Some(value) = ValueText::from_text(alloc, at.item(item).unwrap_or(""))? else {
+        let Some(value) = value_in(notes, at.item(item).unwrap_or(""), line.alloc)? else {
             continue;
         };
-        let value = value_of(notes, &value);
         if !fits(made, &param.ty, &value) {
-            let wanted = param_text(alloc, notes, param)?;
-            let taker = format!(in alloc; "parameter {item} of {name} is {wanted}")?;
-            let text = misfit_text(alloc, notes, made, &value, taker.as_str())?;
-            return Ok(Some(Wrong {
-                item: Some(item),
-                text,
-            }));
+            if write_target(notes, made, &value, line) {
+                line.text("; parameter ")
+                    .count(item)
+                    .text(" of ")
+                    .text(entry.name.as_str());
+                line.text(" is ");
+                param.write(notes, line);
+            }
+            return Ok(Some(Subject::Item(item)));
         }
     }
     Ok(None)
 }
 
 fn args_wrong(
-    alloc: Global,
     notes: &Notes,
     draft: &ScriptDraft,
     at: &Found,
-) -> Result<Option<Wrong>, NoMemory> {
+    line: &mut Line,
+) -> Result<Option<Subject>, NoMemory> {
     let Some(entry) = notes.function.as_slice().get(notes.entry as usize) else {
         return Ok(None);
     };
     if entry.params.len() != at.count() {
-        let wanted = params_text(alloc, notes, entry.params.as_slice())?;
-        return count_wrong(alloc, at, entry.name.as_str(), wanted.as_str());
+        write_count(at, "", entry.name.as_str(), line);
+        write_params(notes, entry.params.as_slice(), line);
+        return Ok(Some(Subject::Whole));
     }
-    let made = drafted_objects(alloc, notes, draft, false)?;
-    arg_wrong(alloc, notes, made.as_slice(), entry, at)
+    let made = drafted_objects(line.alloc, notes, draft, false)?;
+    arg_wrong(notes, made.as_slice(), entry, at, line)
 }
 
 fn call_args_wrong(
-    alloc: Global,
     notes: &Notes,
     draft: &ScriptDraft,
     at: &Found,
-) -> Result<Option<Wrong>, NoMemory> {
-    let Some(call) = draft.call.as_slice().get(table_number(at.path)) else {
-        return Ok(None);
-    };
-    let signatures = notes.signature.as_slice();
-    let Some(signature) = signatures
-        .iter()
-        .find(|signature| signature.name == call.signature)
-    else {
-        return Ok(None);
-    };
-    let name = signature.name.as_str();
-    let owner = format!(in alloc; "signature {name}")?;
-    let wanted = params_text(alloc, notes, signature.params.as_slice())?;
-    count_wrong(alloc, at, owner.as_str(), wanted.as_str())
+    line: &mut Line,
+) -> Option<Subject> {
+    let call = draft.call.as_slice().get(table_number(at.path))?;
+    for signature in notes.signature.as_slice() {
+        if signature.name == call.signature {
+            write_count(at, "signature ", signature.name.as_str(), line);
+            write_params(notes, signature.params.as_slice(), line);
+            return Some(Subject::Whole);
+        }
+    }
+    None
 }
 
-// What is wrong with a cell of an object of so many instances of a shape.
+// Whether a cell of an object of so many instances of a shape is wrong, and how.
 fn cell_wrong(
-    alloc: Global,
     notes: &Notes,
     made: &[TypedObject],
     shape: &Shape,
     count: u64,
     cell: &CellValueText,
-) -> Result<Option<String>, NoMemory> {
+    line: &mut Line,
+) -> bool {
     if count <= cell.instance {
-        return Ok(Some(format!(in alloc; ", and the table has {count} instances, from 0 on")?));
+        line.text(", and the table has ")
+            .number(count)
+            .text(" instances, from 0 on");
+        return true;
     }
-    let Some(field) = shape
-        .fields
-        .as_slice()
-        .iter()
-        .find(|field| field.name == cell.field)
-    else {
-        return Ok(None);
+    let Some(field) = field_named(shape, &cell.field) else {
+        return false;
     };
     let value = value_of(notes, &cell.value);
     if fits(made, &content_type(&field.cell), &value) {
-        return Ok(None);
+        return false;
     }
-    let taker = field_text(alloc, notes, shape, field)?;
-    Ok(Some(misfit_text(alloc, notes, made, &value, taker.as_str())?))
+    write_misfit(notes, made, &value, shape, field, line);
+    true
 }
 
 fn is_needed(cell: &Cell) -> bool {
@@ -128,55 +129,67 @@ fn is_needed(cell: &Cell) -> bool {
     }
 }
 
-fn is_given(alloc: Global, at: &Found, instance: u64, field: &str) -> Result<bool, NoMemory> {
-    let head = format!(in alloc; "{instance} {field} ")?;
+fn is_given(at: &Found, head: &str) -> bool {
     for item in 0..at.count() {
-        if at.item(item).unwrap_or("").starts_with(head.as_str()) {
+        if at.item(item).unwrap_or("").starts_with(head) {
+            return true;
+        }
+    }
+    false
+}
+
+// Whether a cell of an instance has to be given, and isn't.
+fn lacks(at: &Found, instance: u64, field: &Field, alloc: Global) -> Result<bool, NoMemory> {
+    if !is_needed(&field.cell) {
+        return Ok(false);
+    }
+    let mut head = Line::new(alloc);
+    head.number(instance)
+        .text(" ")
+        .text(field.name.as_str())
+        .text(" ");
+    let head = head.done()?;
+    Ok(!is_given(at, head.as_str()))
+}
+
+// Whether an instance lacks a cell that has to be given, and which.
+fn instance_wrong(
+    notes: &Notes,
+    shape: &Shape,
+    at: &Found,
+    instance: u64,
+    line: &mut Line,
+) -> Result<bool, NoMemory> {
+    for field in shape.fields.as_slice() {
+        if lacks(at, instance, field, line.alloc)? {
+            line.text(" has no value for field ")
+                .text(field.name.as_str());
+            line.text(" of instance ")
+                .number(instance)
+                .text(", which is ");
+            write_cell(notes, field.cell, line);
             return Ok(true);
         }
     }
     Ok(false)
 }
 
-// A cell of an instance that has to be given, and isn't.
-fn lacking(
-    alloc: Global,
-    notes: &Notes,
-    shape: &Shape,
-    at: &Found,
-    instance: u64,
-) -> Result<Option<String>, NoMemory> {
-    for field in shape.fields.as_slice() {
-        let name = field.name.as_str();
-        if is_needed(&field.cell) && !is_given(alloc, at, instance, name)? {
-            let wanted = cell_text(alloc, notes, field.cell)?;
-            return Ok(Some(format!(in alloc;
-                " has no value for field {name} of instance {instance}, which is {wanted}"
-            )?));
-        }
-    }
-    Ok(None)
-}
-
 // The cell of some instance that has to be given, and isn't; or else a pointer names a later object.
 fn whole_wrong(
-    alloc: Global,
     notes: &Notes,
     shape: &Shape,
     count: u64,
     at: &Found,
-) -> Result<Option<Wrong>, NoMemory> {
+    line: &mut Line,
+) -> Result<Option<Subject>, NoMemory> {
     let instances = count.min((at.count() as u64).saturating_add(1));
     for instance in 0..instances {
-        if let Some(text) = lacking(alloc, notes, shape, at, instance)? {
-            return Ok(Some(Wrong { item: None, text }));
+        if instance_wrong(notes, shape, at, instance, line)? {
+            return Ok(Some(Subject::Whole));
         }
     }
-    let text = String::from_str(
-        alloc,
-        " has a pointer to a later object; wanted: objects up to this one",
-    )?;
-    Ok(Some(Wrong { item: None, text }))
+    line.text(" has a pointer to a later object; wanted: objects up to this one");
+    Ok(Some(Subject::Whole))
 }
 
 // How many instances the table has in which a key stands.
@@ -192,58 +205,72 @@ fn instances_at(f: &Faulty, path: &str) -> u64 {
     }
 }
 
+// The first text of a list of cells that is wrong.
+fn first_cell(
+    notes: &Notes,
+    made: &[TypedObject],
+    shape: &Shape,
+    count: u64,
+    at: &Found,
+    line: &mut Line,
+) -> Result<Option<Subject>, NoMemory> {
+    for item in 0..at.count() {
+        let Some(cell) = CellValueText::from_text(line.alloc, at.item(item).unwrap_or(""))? else {
+            continue;
+        };
+        if cell_wrong(notes, made, shape, count, &cell, line) {
+            return Ok(Some(Subject::Item(item)));
+        }
+    }
+    whole_wrong(notes, shape, count, at, line)
+}
+
 fn cells_wrong(
     f: &Faulty,
     notes: &Notes,
     draft: &ScriptDraft,
     at: &Found,
-) -> Result<Option<Wrong>, NoMemory> {
-    let alloc = f.alloc;
-    let Some(shape) = notes
-        .shape
-        .as_slice()
-        .get(shape_at(f, at.path).unwrap_or(usize::MAX))
-    else {
+    line: &mut Line,
+) -> Result<Option<Subject>, NoMemory> {
+    let number = shape_at(f, at.path).unwrap_or(usize::MAX);
+    let Some(shape) = notes.shape.as_slice().get(number) else {
         return Ok(None);
     };
-    let count = instances_at(f, at.path);
-    let made = drafted_objects(alloc, notes, draft, true)?;
-    for item in 0..at.count() {
-        let Some(cell) = CellValueText::from_text(alloc, at.item(item).unwrap_or(""))? else {
-            continue;
-        };
-        if let Some(text) = cell_wrong(alloc, notes, made.as_slice(), shape, count, &cell)? {
-            return Ok(Some(Wrong {
-                item: Some(item),
-                text,
-            }));
-        }
+    let made = drafted_objects(f.alloc, notes, draft, true)?;
+    first_cell(
+        notes,
+        made.as_slice(),
+        shape,
+        instances_at(f, at.path),
+        at,
+        line,
+    )
+}
+
+// The object that a text of `write` names, if it or its instance isn't there.
+fn absent_object(made: &[TypedObject], text: &str, alloc: Global) -> Result<Option<u64>, NoMemory> {
+    let Some(write) = WriteText::from_text(alloc, text)? else {
+        return Ok(None);
+    };
+    match made.get(write.object as usize) {
+        Some(object) if write.instance < object.count => Ok(None),
+        _ => Ok(Some(write.object)),
     }
-    whole_wrong(alloc, notes, shape, count, at)
 }
 
 // The first text of `write` whose object or instance isn't there.
 fn write_wrong(
-    alloc: Global,
     notes: &Notes,
     draft: &ScriptDraft,
     at: &Found,
-) -> Result<Option<Wrong>, NoMemory> {
-    let made = drafted_objects(alloc, notes, draft, true)?;
+    line: &mut Line,
+) -> Result<Option<Subject>, NoMemory> {
+    let made = drafted_objects(line.alloc, notes, draft, true)?;
     for item in 0..at.count() {
-        let Some(write) = WriteText::from_text(alloc, at.item(item).unwrap_or(""))? else {
-            continue;
-        };
-        let count = match made.get(write.object as usize) {
-            Some(object) => object.count,
-            None => 0,
-        };
-        if count <= write.instance {
-            let text = object_text(alloc, notes, made.as_slice(), write.object)?;
-            return Ok(Some(Wrong {
-                item: Some(item),
-                text,
-            }));
+        let text = at.item(item).unwrap_or("");
+        if let Some(object) = absent_object(made.as_slice(), text, line.alloc)? {
+            write_object(notes, made.as_slice(), object, line);
+            return Ok(Some(Subject::Item(item)));
         }
     }
     Ok(None)
@@ -266,32 +293,36 @@ fn single_condition(key: &str) -> &'static str {
     }
 }
 
-fn limit_wrong(alloc: Global, at: &Found) -> Result<Option<Wrong>, NoMemory> {
+fn limit_wrong(at: &Found, line: &mut Line) -> Option<Subject> {
     let condition = single_condition(at.form.key);
     if condition.is_empty() {
-        return Ok(None);
+        return None;
     }
-    let item = if at.value.is_array() { None } else { Some(0) };
-    let text = String::from_str(alloc, condition)?;
-    Ok(Some(Wrong { item, text }))
+    line.text(condition);
+    if at.value.is_array() {
+        return Some(Subject::Whole);
+    }
+    Some(Subject::Item(0))
 }
 
+// What is wrong at a path by the first condition that fails.
 fn first_wrong(
     f: &Faulty,
     notes: &Notes,
     draft: &ScriptDraft,
     at: &Found,
-) -> Result<Option<Wrong>, NoMemory> {
+    line: &mut Line,
+) -> Result<Option<Subject>, NoMemory> {
     match at.form.key {
-        "args" => args_wrong(f.alloc, notes, draft, at),
-        "call.args" => call_args_wrong(f.alloc, notes, draft, at),
-        "object.cells" | "call.make.cells" => cells_wrong(f, notes, draft, at),
-        "call.write" => write_wrong(f.alloc, notes, draft, at),
-        _ => limit_wrong(f.alloc, at),
+        "args" => args_wrong(notes, draft, at, line),
+        "call.args" => Ok(call_args_wrong(notes, draft, at, line)),
+        "object.cells" | "call.make.cells" => cells_wrong(f, notes, draft, at, line),
+        "call.write" => write_wrong(notes, draft, at, line),
+        _ => Ok(limit_wrong(at, line)),
     }
 }
 
-/// What is said of a script at a path by the conditions over several keys.
+/// What of a script isn't at a path as the conditions over several keys want it; it writes what is wrong with it.
 ///
 /// # Errors
 ///
@@ -300,12 +331,10 @@ pub(crate) fn script_condition(
     f: &Faulty,
     notes: &Notes,
     at: &Found,
-) -> Result<Option<Said>, NoMemory> {
-    let Ok(draft) = read_draft(f.alloc, f.table) else {
-        return Ok(None);
-    };
-    match first_wrong(f, notes, &draft, at)? {
-        Some(wrong) => Ok(Some(at.wrong_said(f, &wrong)?)),
-        None => Ok(None),
+    line: &mut Line,
+) -> Result<Option<Subject>, NoMemory> {
+    match read_draft(f.alloc, f.table) {
+        Ok(draft) => first_wrong(f, notes, &draft, at, line),
+        Err(_) => Ok(None),
     }
 }

@@ -1,11 +1,12 @@
 //! Values of scripts, the objects that they point to, and the texts of what takes them.
 
-use ebc_base::NoMemory;
+use crate::line::Line;
+use ebc_base::{Name, NoMemory};
 use explain_base::kind_text;
 use host_model::{TypedObject, fits};
 use note_types::{
-    Cell, Ending, Field, FnNote, Notes, Param, Script, ScriptObject, Seen, Shape, Spot, Ty, Value,
-    Want, WantParam,
+    Cell, Ending, Field, FnNote, Notes, Param, Script, ScriptObject, Seen, Shape, Signature, Spot,
+    Ty, Value, Want, WantParam,
 };
 use point_texts::type_text;
 use protocol_script::{function_number, method_number};
@@ -13,124 +14,96 @@ use run_texts::append_end;
 use script_draft::{ObjectDraft, ScriptDraft, ValueText};
 use std::alloc::Global;
 
-/// The text of a cell, as notes spell it.
-///
-/// # Errors
-///
-/// Want of memory alone.
-pub(crate) fn cell_text(alloc: Global, notes: &Notes, cell: Cell) -> Result<String, NoMemory> {
-    let lent = type_text(alloc, notes, &[], Ty::Lent(cell))?;
-    let text = lent.as_str();
-    Ok(String::from_str(alloc, text.strip_prefix("lent:").unwrap_or(text))?)
+/// Writes a type that names no local fields, as notes spell it.
+pub(crate) fn write_type(notes: &Notes, ty: Ty, line: &mut Line) {
+    line.made(type_text(line.alloc, notes, &[], ty), "");
 }
 
-/// What a field of a shape is: `field next of Blk is ptr?:Blk`.
-///
-/// # Errors
-///
-/// Want of memory alone.
-pub(crate) fn field_text(
-    alloc: Global,
-    notes: &Notes,
-    shape: &Shape,
-    field: &Field,
-) -> Result<String, NoMemory> {
-    let (name, shape) = (field.name.as_str(), shape.name.as_str());
-    let cell = cell_text(alloc, notes, field.cell)?;
-    Ok(format!(in alloc; "field {name} of {shape} is {cell}")?)
+/// Writes a cell, as notes spell it.
+pub(crate) fn write_cell(notes: &Notes, cell: Cell, line: &mut Line) {
+    line.made(type_text(line.alloc, notes, &[], Ty::Lent(cell)), "lent:");
 }
 
-/// The text of a parameter of a function, as notes spell it. It names no local fields.
-///
-/// # Errors
-///
-/// Want of memory alone.
-pub(crate) fn param_text(alloc: Global, notes: &Notes, param: &Param) -> Result<String, NoMemory> {
-    let kind = kind_text(param.kind);
-    let ty = type_text(alloc, notes, &[], param.ty)?;
-    Ok(format!(in alloc; "{kind} {ty}")?)
-}
-
-fn cell_want(
-    alloc: Global,
-    notes: &Notes,
-    kind: &str,
-    word: &str,
-    cell: Cell,
-) -> Result<String, NoMemory> {
-    let cell = cell_text(alloc, notes, cell)?;
-    Ok(format!(in alloc; "{kind} {word}:{cell}")?)
-}
-
-/// The text of a parameter of a native method, as notes spell it.
-///
-/// # Errors
-///
-/// Want of memory alone.
-pub(crate) fn want_text(
-    alloc: Global,
-    notes: &Notes,
-    param: &WantParam,
-) -> Result<String, NoMemory> {
-    let kind = kind_text(param.kind);
-    match param.want {
-        Want::Any => Ok(format!(in alloc; "{kind} any")?),
-        Want::Int { lo, hi } => Ok(format!(in alloc; "{kind} int:{lo}..{hi}")?),
-        Want::Size { n, c } => Ok(format!(in alloc; "{kind} size:{n},{c}")?),
-        Want::Ptr => Ok(format!(in alloc; "{kind} ptr")?),
-        Want::Handle => Ok(format!(in alloc; "{kind} handle")?),
-        Want::Status => Ok(format!(in alloc; "{kind} status")?),
-        Want::Entry => Ok(format!(in alloc; "{kind} entry")?),
-        Want::Out(cell) => cell_want(alloc, notes, kind, "out", cell),
-        Want::Inout(cell) => cell_want(alloc, notes, kind, "inout", cell),
+/// Writes the result of a signature, as notes spell it, or a word where it has none.
+pub(crate) fn write_result(notes: &Notes, signature: &Signature, none: &str, line: &mut Line) {
+    match signature.result {
+        Some(ty) => write_type(notes, ty, line),
+        None => {
+            line.text(none);
+        }
     }
 }
 
 /// A parameter of a function or of a native method.
 pub(crate) trait Parameter {
-    /// Its text, as notes spell it.
-    ///
-    /// # Errors
-    ///
-    /// Want of memory alone.
-    fn text(&self, alloc: Global, notes: &Notes) -> Result<String, NoMemory>;
+    /// Writes it, as notes spell it.
+    fn write(&self, notes: &Notes, line: &mut Line);
 }
 
 impl Parameter for Param {
-    fn text(&self, alloc: Global, notes: &Notes) -> Result<String, NoMemory> {
-        param_text(alloc, notes, self)
+    // It names no local fields.
+    fn write(&self, notes: &Notes, line: &mut Line) {
+        line.text(kind_text(self.kind)).text(" ");
+        write_type(notes, self.ty, line);
     }
 }
 
 impl Parameter for WantParam {
-    fn text(&self, alloc: Global, notes: &Notes) -> Result<String, NoMemory> {
-        want_text(alloc, notes, self)
+    fn write(&self, notes: &Notes, line: &mut Line) {
+        line.text(kind_text(self.kind)).text(" ");
+        write_want(notes, self.want, line);
     }
 }
 
-/// How many parameters there are, and which: `1 parameter: n entry`.
-///
-/// # Errors
-///
-/// Want of memory alone.
-pub(crate) fn params_text<P: Parameter>(
-    alloc: Global,
-    notes: &Notes,
-    params: &[P],
-) -> Result<String, NoMemory> {
-    let count = params.len();
-    let word = if count == 1 {
-        "parameter"
-    } else {
-        "parameters"
-    };
-    let mut text = format!(in alloc; "{count} {word}")?;
-    for (number, param) in params.iter().enumerate() {
-        text.push_str(if number == 0 { ": " } else { ", " })?;
-        let param = param.text(alloc, notes)?;
-        text.push_str(param.as_str())?;
+// Writes what a native method wants.
+fn write_want(notes: &Notes, want: Want, line: &mut Line) {
+    match want {
+        Want::Int { lo, hi } => {
+            line.text("int:").number(lo).text("..").number(hi);
+        }
+        Want::Size { n, c } => {
+            line.text("size:")
+                .number(u64::from(n))
+                .text(",")
+                .number(u64::from(c));
+        }
+        Want::Out(cell) => {
+            line.text("out:");
+            write_cell(notes, cell, line);
+        }
+        Want::Inout(cell) => {
+            line.text("inout:");
+            write_cell(notes, cell, line);
+        }
+        other => {
+            line.text(plain_want(other));
+        }
     }
-    Ok(text)
+}
+
+// The word for what a native method wants that has no parts.
+fn plain_want(want: Want) -> &'static str {
+    match want {
+        Want::Ptr => "ptr",
+        Want::Handle => "handle",
+        Want::Status => "status",
+        Want::Entry => "entry",
+        _ => "any",
+    }
+}
+
+/// Writes how many parameters there are, and which: `1 parameter: n entry`.
+pub(crate) fn write_params<P: Parameter>(notes: &Notes, params: &[P], line: &mut Line) {
+    let count = params.len();
+    line.count(count).text(if count == 1 {
+        " parameter"
+    } else {
+        " parameters"
+    });
+    for (number, param) in params.iter().enumerate() {
+        line.text(if number == 0 { ": " } else { ", " });
+        param.write(notes, line);
+    }
 }
 
 /// The value that a text stands for.
@@ -152,34 +125,24 @@ pub(crate) fn value_of(notes: &Notes, text: &ValueText) -> Value {
     }
 }
 
-/// The text of a value, as scripts spell it.
-///
-/// # Errors
-///
-/// Want of memory alone.
-pub(crate) fn seen_text(alloc: Global, notes: &Notes, seen: Seen) -> Result<String, NoMemory> {
-    let lent = if seen.lent { "lent " } else { "" };
-    let value = ending_text(alloc, notes, Ending::Finished(seen.value))?;
-    let text = value.as_str();
-    let told = text.strip_prefix("finished ").unwrap_or(text);
-    Ok(format!(in alloc; "{lent}{told}")?)
+/// Writes a value, as scripts spell it.
+pub(crate) fn write_seen(notes: &Notes, seen: Seen, line: &mut Line) {
+    line.text(if seen.lent { "lent " } else { "" });
+    write_ending(
+        notes,
+        Ending::Finished(seen.value),
+        "end 0 gate finished ",
+        line,
+    );
 }
 
-/// The words of an ending, as the last line of a run has them.
-///
-/// # Errors
-///
-/// Want of memory alone.
-pub(crate) fn ending_text(
-    alloc: Global,
-    notes: &Notes,
-    ending: Ending,
-) -> Result<String, NoMemory> {
-    let mut line = Vec::new(alloc);
-    append_end(alloc, notes, 0, Spot::Gate, ending, &mut line)?;
-    let text = std::str::from_utf8(line.as_slice()).unwrap_or("");
-    let told = text.strip_prefix("end 0 gate ").unwrap_or(text);
-    Ok(String::from_str(alloc, told.trim_end())?)
+/// Writes the last line of a run that ended at the gate after no step, without what it begins with.
+pub(crate) fn write_ending(notes: &Notes, ending: Ending, begins: &str, line: &mut Line) {
+    let mut end = Vec::new(line.alloc);
+    let appended = append_end(line.alloc, notes, 0, Spot::Gate, ending, &mut end);
+    let text = std::str::from_utf8(end.as_slice()).unwrap_or("");
+    let told = text.strip_prefix(begins).unwrap_or(text);
+    line.text(told.trim_end()).kept(appended.is_ok());
 }
 
 // ---- objects
@@ -200,17 +163,24 @@ fn static_objects(alloc: Global, notes: &Notes) -> Result<Vec<TypedObject>, NoMe
     Ok(made)
 }
 
+// The number of the shape of that name, or one that no shape has.
+fn shape_number(notes: &Notes, name: &Name) -> u32 {
+    for (number, shape) in notes.shape.as_slice().iter().enumerate() {
+        if shape.name == *name {
+            return u32::try_from(number).unwrap_or(u32::MAX);
+        }
+    }
+    u32::MAX
+}
+
 fn add_drafts(
     made: &mut Vec<TypedObject>,
     notes: &Notes,
     objects: &[ObjectDraft],
 ) -> Result<(), NoMemory> {
     for object in objects {
-        let shapes = notes.shape.as_slice();
-        let shape = shapes.iter().position(|shape| shape.name == object.shape);
-        let shape = u32::try_from(shape.unwrap_or(usize::MAX)).unwrap_or(u32::MAX);
         made.push(TypedObject {
-            shape,
+            shape: shape_number(notes, &object.shape),
             count: object.count,
         })?;
     }
@@ -267,120 +237,118 @@ pub(crate) fn made_objects(
     Ok(made)
 }
 
-/// What an object is, after a comma: `, and object 1 is a Blk`.
-///
-/// # Errors
-///
-/// Want of memory alone.
-pub(crate) fn object_text(
-    alloc: Global,
+/// Writes what an object is, after a comma: `, and object 1 is a Blk`. It tells whether there is one.
+pub(crate) fn write_object(
     notes: &Notes,
     made: &[TypedObject],
     number: u64,
-) -> Result<String, NoMemory> {
-    let count = made.len();
+    line: &mut Line,
+) -> bool {
     let Some(object) = made.get(number as usize) else {
-        return Ok(format!(in alloc;
-            ", and there is no object {number}; there are {count}, from 0 on"
-        )?);
+        line.text(", and there is no object ")
+            .number(number)
+            .text("; there are ");
+        line.count(made.len()).text(", from 0 on");
+        return false;
     };
     let name = match notes.shape.as_slice().get(object.shape as usize) {
         Some(shape) => shape.name.as_str(),
         None => "",
     };
-    let instances = object.count;
-    if instances == 1 {
-        return Ok(format!(in alloc; ", and object {number} is a {name}")?);
+    line.text(", and object ").number(number);
+    if object.count == 1 {
+        line.text(" is a ").text(name);
+    } else {
+        line.text(" has ")
+            .number(object.count)
+            .text(" of ")
+            .text(name);
     }
-    Ok(format!(in alloc; ", and object {number} has {instances} of {name}")?)
+    true
 }
 
-/// What a value points to, after a comma; empty where it is no pointer.
-///
-/// # Errors
-///
-/// Want of memory alone.
-fn target_text(
-    alloc: Global,
+/// Writes what a value points to, after a comma. It tells whether that is there, also where the value is no pointer.
+pub(crate) fn write_target(
     notes: &Notes,
     made: &[TypedObject],
     value: &Value,
-) -> Result<String, NoMemory> {
+    line: &mut Line,
+) -> bool {
     match value {
-        Value::Ptr { object, .. } => object_text(alloc, notes, made, *object),
-        _ => Ok(String::new(alloc)),
+        Value::Ptr { object, .. } => write_object(notes, made, *object, line),
+        _ => true,
     }
 }
 
-/// Why a value doesn't fit: what it points to, and then what takes it, unless it points to no object.
-///
-/// # Errors
-///
-/// Want of memory alone.
-pub(crate) fn misfit_text(
-    alloc: Global,
+/// Writes why a value doesn't fit a field of a shape: what it points to, and if that is there, what the field is.
+pub(crate) fn write_misfit(
     notes: &Notes,
     made: &[TypedObject],
     value: &Value,
-    taker: &str,
-) -> Result<String, NoMemory> {
-    let target = target_text(alloc, notes, made, value)?;
-    match value {
-        Value::Ptr { object, .. } if made.len() as u64 <= *object => Ok(target),
-        _ => Ok(format!(in alloc; "{target}; {taker}")?),
+    shape: &Shape,
+    field: &Field,
+    line: &mut Line,
+) {
+    if write_target(notes, made, value, line) {
+        line.text("; field ")
+            .text(field.name.as_str())
+            .text(" of ")
+            .text(shape.name.as_str());
+        line.text(" is ");
+        write_cell(notes, field.cell, line);
     }
 }
 
-// Why values can't be those of a function's parameters; empty where they can.
-///
-/// # Errors
-///
-/// Want of memory alone.
-fn values_wrong(
-    alloc: Global,
+// Writes why values can't be those of a function's parameters, if they can't.
+fn write_unfit(
     notes: &Notes,
     made: &[TypedObject],
     function: &FnNote,
     values: &[Value],
-) -> Result<String, NoMemory> {
-    let name = function.name.as_str();
-    let params = function.params.as_slice();
+    line: &mut Line,
+) {
+    let (name, params) = (function.name.as_str(), function.params.as_slice());
     if params.len() != values.len() {
-        let count = values.len();
-        let wanted = params_text(alloc, notes, params)?;
-        return Ok(format!(in alloc; "it has {count} values, and {name} has {wanted}")?);
+        line.text("it has ")
+            .count(values.len())
+            .text(" values, and ")
+            .text(name)
+            .text(" has ");
+        write_params(notes, params, line);
+        return;
     }
     for (number, (param, value)) in params.iter().zip(values).enumerate() {
         if !fits(made, &param.ty, value) {
-            let wanted = param_text(alloc, notes, param)?;
-            let target = target_text(alloc, notes, made, value)?;
-            return Ok(format!(in alloc; "parameter {number} of {name} is {wanted}{target}")?);
+            line.text("parameter ")
+                .count(number)
+                .text(" of ")
+                .text(name)
+                .text(" is ");
+            param.write(notes, line);
+            write_target(notes, made, value, line);
+            return;
         }
     }
-    Ok(String::new(alloc))
 }
 
-/// Why the firmware can't enter the function of that number with values; empty where it can.
-///
-/// # Errors
-///
-/// Want of memory alone.
-pub(crate) fn entering_wrong(
-    alloc: Global,
+/// Writes why the firmware can't enter the function of that number with values, if it can't.
+pub(crate) fn write_entering(
     notes: &Notes,
     made: &[TypedObject],
     number: u32,
     values: &[Value],
-) -> Result<String, NoMemory> {
+    line: &mut Line,
+) {
     let Some(function) = notes.function.as_slice().get(number as usize) else {
-        return Ok(String::new(alloc));
+        return;
     };
-    let name = function.name.as_str();
     if number == notes.entry {
-        return Ok(format!(in alloc; "{name} is the entry function")?);
+        line.text(function.name.as_str())
+            .text(" is the entry function");
+    } else if !function.enter {
+        line.text(function.name.as_str())
+            .text(" isn't marked enter = true");
+    } else {
+        write_unfit(notes, made, function, values, line);
     }
-    if !function.enter {
-        return Ok(format!(in alloc; "{name} isn't marked enter = true")?);
-    }
-    values_wrong(alloc, notes, made, function, values)
 }
