@@ -103,17 +103,17 @@ fn want_text(scene: &Scene, want: Want) -> Result<String, NoMemory> {
         Want::Any => Ok(String::from_str(alloc, "any")?),
         Want::Int { lo, hi } => Ok(format!(in alloc; "int:{lo}..{hi}")?),
         Want::Size { n, c } => Ok(format!(in alloc; "size:{n},{c}")?),
-        Want::Ptr => Ok(String::from_str(alloc, "ptr, the start of an object or 0")?),
+        Want::Ptr => Ok(String::from_str(alloc, "ptr, the start of an object or 0,")?),
         Want::Handle => Ok(String::from_str(alloc, "handle")?),
         Want::Status => Ok(String::from_str(alloc, "status")?),
         Want::Entry => Ok(String::from_str(alloc, "entry")?),
         Want::Out(cell) => {
             let told = cell_text(alloc, scene.notes, scene.f, cell)?;
-            Ok(format!(in alloc; "out:{told}, the address of such a local field")?)
+            Ok(format!(in alloc; "out:{told}, the address of such a local field,")?)
         }
         Want::Inout(cell) => {
             let told = cell_text(alloc, scene.notes, scene.f, cell)?;
-            Ok(format!(in alloc; "inout:{told}, the address of such a local field")?)
+            Ok(format!(in alloc; "inout:{told}, the address of such a local field,")?)
         }
     }
 }

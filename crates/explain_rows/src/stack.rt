@@ -50,7 +50,7 @@ fn no_room(scene: &Scene, size: Pair, doing: &str) -> Result<Said, NoMemory> {
 fn said_of_push(scene: &Scene, slot: Slot) -> Result<Said, NoMemory> {
     let alloc = scene.alloc;
     if slot.op.reg == 0 && !slot.op.indirect {
-        let what = "R0 is pushed, and nothing else than R0 takes its value";
+        let what = "R0 is pushed; its value is taken by MOVq alone";
         return Ok(Said::only(alloc, String::from_str(alloc, what)?));
     }
     if is_full(scene) {
