@@ -59,14 +59,14 @@ awk '/^logic=proved functions=/ { split($2, part, "="); count = part[2] } /^rt: 
 
 printf '| Crate | Lines | Functions | Proofs | Tests | Edits |\n|---|---|---|---|---|---|\n'
 cd "$room/clone" || exit 1
-for crate in $(grep -oE '^[a-z0-9_]+' crates.txt); do
+while read -r crate; do
   lines=$(git ls-files "crates/$crate/*.rt" "crates/$crate/*.antt" | xargs cat | wc -l)
   awk -v crate="$crate" -v lines="$lines" '
     $1 != crate { next }
     FNR == NR { functions = $2; next }
     { took[$2] = $3 }
     END { printf "| `%s` | %d | %s | %.0f | %.0f | %.0f |\n", crate, lines, functions, took["proofs"], took["tests"], took["edits"] }' "$room/functions" "$room/totals"
-done
+done < <(grep -oE '^[a-z0-9_]+' crates.txt)
 awk '{ took[$2] += $3 } END { printf "| all | | | %.0f | %.0f | %.0f |\n", took["proofs"], took["tests"], took["edits"] }' "$room/totals"
 grep -E '^rt: .*(FAILED|NOT PROVED|NOT REFUSED|BAD EDIT)' "$room/log"
 tail -n 1 "$room/log"

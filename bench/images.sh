@@ -1,75 +1,52 @@
 #!/usr/bin/env bash
-# Times the reader of images on a file of nearly 4 MiB with 100,013 relocations against cat on the same file, and prints microseconds
-# of the processor of both, and their ratio in hundredths. The image is read for `ebc check IMAGE NOTES` under notes that are empty, at
-# which the command stops. One of both takes a 20th of what 20 runs take longer than 20 runs on the small image of examples/driver, so
-# what they take to start doesn't count, but the reading of the file does. Each time is the least of five. The program is proved and
-# built first where it isn't current.
-set -eu
-top=$(CDPATH='' cd -- "$(dirname -- "${BASH_SOURCE[0]}")/.." >/dev/null && pwd -P)
-program=$top/crates/ebc/out/ebc
-TIMEFORMAT='%3U %3S'
+# Times the reader of images on files of up to nearly 4 MiB with 100,000 relocations beside a program that reads the file in pieces of
+# 4 KiB and copies it once. The image is read for `ebc check IMAGE NOTES` without its notes, where the command stops.
+# shellcheck source=bench/lib.sh
+. "$(dirname -- "${BASH_SOURCE[0]}")/lib.sh"
+need python3 cc
+ebc=$(program ebc)
 
-command -v python3 >/dev/null || { echo "images.sh: needs python3" >&2; exit 1; }
-. "$top/scripts/program.sh"
-build ebc
+cat >copy.c <<'C'
+#include <stdio.h>
+#include <stdlib.h>
+#include <string.h>
 
-work=$(mktemp -d)
-trap 'rm -rf "$work"' EXIT
-cd "$work"
+int main(int count, char **words) {
+    FILE *file = count == 2 ? fopen(words[1], "rb") : NULL;
+    char *bytes = NULL, piece[4096];
+    size_t room = 0, length = 0, more;
+    if (!file) return 1;
+    setvbuf(file, NULL, _IONBF, 0);
+    while ((more = fread(piece, 1, sizeof piece, file))) {
+        if (room < length + more) bytes = realloc(bytes, room = 2 * room + sizeof piece);
+        if (!bytes) return 1;
+        memcpy(bytes + length, piece, more);
+        length += more;
+    }
+    char *copied = malloc(length + 1);
+    if (!copied) return 1;
+    memcpy(copied, bytes, length);
+    return length && copied[length - 1] == 'x';
+}
+C
+cc -O2 -fno-builtin copy.c -o copy
 cp "$top/examples/driver/driver.efi" small.efi
-: >empty.notes
 
-# Pages of code of zeros, each with a relocation at every 32 bytes of its first 3,296.
-python3 - <<'PYTHON'
-import struct
+# Pages of code of zeros, each with a relocation at every 32 bytes of its first 3,328.
+inputs() {
+  python "$1" <<'PYTHON'
+import sys
+from inputs import *
 
-def u32(n): return struct.pack('<I', n)
-
-pages, on_page = 971, 103
-code = 4096 * pages
-blocks = b''.join(u32(4096 * (page + 1)) + u32(8 + 2 * (on_page + 1))
-                  + b''.join(struct.pack('<H', 0xA000 + 32 * k) for k in range(on_page)) + bytes(2) for page in range(pages))
-head = bytearray(512)
-
-def put(at, data): head[at:at + len(data)] = data
-
-def section(at, name, place, size, offset):
-    put(at, name.ljust(8, b'\0') + u32(size) + u32(place) + u32(size) + u32(offset))
-
-put(0, b'MZ')
-put(60, u32(64))
-put(64, b'PE\0\0\xBC\x0E\x02\0')
-put(84, b'\xF0\0\x22\0\x0B\x02')
-for at, number in (104, 0x1000), (112, 0x10000), (120, 0x1000), (144, 0x400000), (196, 16), (240, 0x1000 + code), (244, len(blocks)):
-    put(at, u32(number))
-section(328, b'.text', 0x1000, code, 512)
-section(368, b'.reloc', 0x1000 + code, len(blocks), 512 + code)
-open('large.efi', 'wb').write(bytes(head) + bytes(code) + blocks)
+pages = int(sys.argv[1])
+relocs = blocks([0x1000 * (page + 1) + 32 * k for page in range(pages) for k in range(104)])
+place = 0x1000 * (pages + 1)
+write('large.efi', image([(b'.text', 0x1000, bytes(0x1000 * pages), CODE), (b'.reloc', place, relocs, DATA)], (place, len(relocs))))
 PYTHON
-
-# Twenty runs of the command on an image, each of which stops at the notes; and of cat.
-read_image() {
-  for ((run = 0; run < 20; run++)); do
-    [[ $("$program" check "$1" empty.notes) == 'bad empty.notes '* ]] || { echo "images.sh: $1 isn't read as an image" >&2; exit 1; }
-  done
+  units=$(wc -c <large.efi)
 }
-copy() { for ((run = 0; run < 20; run++)); do cat "$1" >/dev/null; done; }
+right() { [ "$("$ebc" check large.efi none 2>/dev/null)" = 'missing none' ] && ./copy large.efi; }
 
-# Milliseconds of the processor that the shortest of five takes.
-least() {
-  local least=-1 user system took
-  for _ in 1 2 3 4 5; do
-    read -r user system < <({ time "$@" >/dev/null; } 2>&1)
-    took=$((10#${user/./} + 10#${system/./}))
-    if [ "$least" -lt 0 ] || [ "$took" -lt "$least" ]; then least=$took; fi
-  done
-  echo "$least"
-}
-
-# Microseconds that one run takes.
-each() { echo $((($(least "$1" large.efi) - $(least "$1" small.efi)) * 50)); }
-
-read_image large.efi
-reading=$(each read_image)
-copying=$(each copy)
-echo "reading $reading us, cat $copying us, ratio $((100 * reading / copying))/100"
+ours=("$ebc" check large.efi none) ours_start=("$ebc" check small.efi none)
+peer=(./copy large.efi) peer_start=(./copy small.efi)
+series 'reading an image' bytes 60 'reading and copying'
