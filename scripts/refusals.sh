@@ -198,6 +198,7 @@ edit driver.notes 'place = 0x1014' 'place = 0x1012'
 slip 'a site off by two' 1 'refused 00001014 site' $check <<'.'
 driver.efi: main+0x14: error: site: Locate is called here, at 0x1014, where the notes have no site; main has sites at: 0x1012 0x1032
   0x1014 CALL32EXa @R4
+  an edit of the source moves all places behind it; ebc_notes finds them by labels: docs/LABELS.md
 driver.notes:68:1: note: the nearest site, site[0].place = 0x1012
   see docs/RULES.md, "The verdict", site
 .

@@ -130,8 +130,8 @@ twin='twin driver.efi driver.notes driver.script 1000'
 consumer='consumer.efi consumer.notes consumer.script'
 provider='provider.efi provider.notes provider.script'
 
-# The row of this name: the words, which have to end with this status, print this line and say what stands on standard input. `usage`
-# is the usage; of a run, the first of its ends and the last line. What is printed goes to the file `output`, if it is set.
+# The row of this name: the words, which have to end with this status, print this line first and say what stands on standard input. `usage`
+# is the usage; of a run, it is the first of its ends and the last line. What is printed goes to the file `output`, if it is set.
 slip() {
   local status
   cat >"$room/wanted"
@@ -145,7 +145,7 @@ slip() {
 }
 shown() {
   awk 'NR == 1 { first = $0 } /^end / && end == "" { end = $0 } { last = $0 }
-    END { if (first ~ /^usage: /) print "usage"; else if (NR > 2) print end " .. " last; else print first }' "$room/printed"
+    END { if (first ~ /^usage: /) print "usage"; else if (end != "") print end " .. " last; else print first }' "$room/printed"
 }
 
 # ---- words
@@ -164,6 +164,11 @@ ebc: error: `chek` is no command; wanted: asm, link, check, list, run, twin, sam
 .
 slip 'twin without STEPS' 2 usage twin driver.efi driver.notes driver.script <<'.'
 ebc: error: 3 words after `twin`; wanted: 4
+  usage: twin IMAGE NOTES SCRIPT STEPS
+  see docs/COMMANDS.md, "Commands"
+.
+slip 'twin of the image alone' 2 usage twin driver.efi <<'.'
+ebc: error: 1 word after `twin`; wanted: 4
   usage: twin IMAGE NOTES SCRIPT STEPS
   see docs/COMMANDS.md, "Commands"
 .
@@ -189,6 +194,18 @@ ebc: error: `rom show` is no command; wanted: rom wrap, rom list or rom take
 slip 'image and notes swapped' 3 'bad driver.notes mz 0' check driver.notes driver.efi <<'.'
 driver.notes:0x0: error: the first bytes are 23 20; wanted: 4d 5a, MZ, with which an image begins; it is a text
   see docs/IMAGES.md, "Faults, and what to do about them"
+.
+slip 'the image in place of the notes' 3 'bad driver.efi nottoml -' check driver.efi driver.efi <<'.'
+driver.efi:1:69: error: this is no TOML: invalid UTF-8; the file begins as an image
+  see docs/NOTES.md, "The file" and "Texts"
+.
+slip 'a ROM in place of the script' 3 'bad driver.rom nottoml -' twin driver.efi driver.notes driver.rom 1000 <<'.'
+driver.rom:1:2: error: this is no TOML: invalid UTF-8; the file begins as an option ROM
+  see docs/SCRIPTS.md, "The file" and "Texts"
+.
+slip 'the object in place of the plan' 3 'bad driver.obj nottoml -' link driver.obj out.efi <<'.'
+driver.obj:1:25: error: this is no TOML: invalid UTF-8; the file begins as an object
+  see docs/LINKING.md, "Plans"
 .
 slip 'rom wrap with 0x8086' 2 usage rom wrap 0x8086 0x1234 driver.efi x.rom <<'.'
 ebc: error: VENDOR is `0x8086`; wanted: four hexadecimal digits, the letters in lower case
@@ -489,6 +506,12 @@ slip 'image number 1 of one' 3 'bad driver.rom number 2048' rom take driver.rom 
 driver.rom: error: image 1 is asked for, and the ROM has 1, counted from 0
   see docs/ROMS.md, "What is taken"
 .
+cat driver.rom driver.rom >two.rom
+slip 'two ROMs put together' 3 'bad two.rom number 2048' rom take two.rom 1 x.efi <<'.'
+two.rom: error: image 1 is asked for, and the ROM has 1, counted from 0
+  image 0 is marked as the last, and the 2048 bytes behind it are passed over
+  see docs/ROMS.md, "What is taken"
+.
 slip 'check of a ROM' 3 'bad driver.rom mz 0' check driver.rom driver.notes <<'.'
 driver.rom:0x0: error: the first bytes are 55 aa; wanted: 4d 5a, MZ, with which an image begins; it begins as an option ROM, and rom take takes an image out of one
   see docs/IMAGES.md, "Faults, and what to do about them"
@@ -519,6 +542,17 @@ printf '\x77\x31\x05\x00' >end.bin
 slip 'no RET' 1 'refused 00000000 end' check end.bin <<'.'
 end.bin:0x0: error: end: the code ends here; wanted: RET or an unconditional JMP8 as the last instruction
   0x0 MOVIqw R1, 5
+  see docs/PLAIN.md, "The check"
+.
+printf '\x04\x00\x77\x31' >half.bin
+slip 'half an instruction' 1 'refused 00000002 decode' check half.bin <<'.'
+half.bin:0x2: error: decode: the bytes are no instruction
+  see docs/PLAIN.md, "The check"
+.
+printf '\x02\x01\x77\x31\x05\x00\x04\x00' >inner.bin
+slip 'a jump of plain code into an instruction' 1 'refused 00000000 target' check inner.bin <<'.'
+inner.bin:0x0: error: target: the jump goes to no start of an instruction
+  0x0 JMP8 1
   see docs/PLAIN.md, "The check"
 .
 : >empty.bin
@@ -573,10 +607,111 @@ slip 'a file that the system does not give' 4 '' check /proc/self/mem driver.not
 /proc/self/mem: error: IMAGE can't be read: Input/output error (os error 5)
   see docs/COMMANDS.md, "The answer"
 .
+edit driver.asm 'BREAK 5' 'BREAK 256'
+mkfifo pipe && { cat driver.asm >pipe & }
+slip 'a source out of a pipe' 3 'bad pipe number 5' asm pipe driver.obj <<'.'
+pipe:5:9: error: `256` is no number of BREAK; wanted: -128 to 255, in decimal digits without a 0 in front, or 0x and hexadecimal digits
+  see docs/ASSEMBLY.md, "Faults"
+.
+edit driver.script 'args = ["entry tick"]' 'args = ["null"]'
+mkfifo pipe && { cat driver.script >pipe & }
+slip 'a script out of a pipe' 0 'end 20 00001038 mismatch argument 0 .. same' twin driver.efi driver.notes pipe 1000 <<'.'
+pipe:27:1: note: at both widths argument 0 of the driver's call is entry tick, and call[1] has null
+  see docs/SCRIPTS.md, "A run that goes wrong"
+.
+mkfifo pipe && { cat driver.efi >pipe & }
+slip 'an image out of a pipe' 0 neutral check pipe driver.notes </dev/null
+{ yes RET | head -n 262142; echo '  RETT'; } >long.asm
+slip 'a fault in the last line of a source of 1 MiB' 3 'bad long.asm word 262143' asm long.asm driver.obj <<'.'
+long.asm:262143:3: error: `RETT` is no mnemonic; they are written in upper case with the bits of what follows, as MOVqw; a label has a colon after it
+  see docs/ASSEMBLY.md, "Faults"
+.
+for file in script:SCRIPTS:43030 plan:LINKING:43005; do
+  IFS=: read -r kind page line <<<"$file"
+  { yes '# a line of twenty-four' | head -n 43000; echo 'level = = 1'; } >>"driver.$kind"
+  words=$link section='"Plans"'
+  [ "$kind" = script ] && words=$twin section='"The file" and "Texts"'
+  slip "a fault in the last line of a long $kind" 3 "bad driver.$kind nottoml -" $words <<.
+driver.$kind:$line:9: error: this is no TOML: invalid value, expected a string, number, boolean, date-time, array or inline table
+  see docs/$page.md, $section
+.
+done
+for ((number = 0; number < 12000; number++)); do printf '[[static]]\nplace = %d\nshape = "Blk"\ncount = 1\n' $((0x3000 + number)); done >>driver.notes
+echo 'level = 1' >>driver.notes
+slip 'an unknown key in the last of 12,000 tables' 3 'bad driver.notes kind static[11999].level' $check <<'.'
+driver.notes:48074:1: error: static[11999].level is no key of this table
+  see docs/NOTES.md, "The file" and "Texts"
+.
+slip 'a command with controls' 2 usage $'\xc2\x9b31mchk\x7f' <<'.'
+ebc: error: `\u009b31mchk\u007f` is no command; wanted: asm, link, check, list, run, twin, sample, rom, infer or pair
+  see docs/COMMANDS.md, "Commands"
+.
+edit driver.plan '"driver.obj"' '"a\u001b[31m.obj"'
+slip 'an object whose name has controls' 9 $'missing a\e[31m.obj' $link <<'.'
+a\u001b[31m.obj: error: an object of driver.plan can't be read: No such file or directory (os error 2)
+  see docs/COMMANDS.md, "The answer"
+.
+edit driver.asm 'BREAK 5' $'BR\x7fEAK 5'
+slip 'a mnemonic with a control' 3 'bad driver.asm word 5' $asm <<'.'
+driver.asm:5:3: error: `BR\u007fEAK` is no mnemonic; they are written in upper case with the bits of what follows, as MOVqw and CMPI64weq
+  see docs/ASSEMBLY.md, "Faults"
+.
+edit driver.notes '"count 0 0 i32"' $'"count 0 0 i\xc2\x9b32"'
+slip 'a text of notes with a control' 3 'bad driver.notes range shape[1].fields' $check <<'.'
+driver.notes:15:11: error: item 0 of shape[1].fields is "count 0 0 i\u009b32"; wanted: at most 256 texts NAME N C CELL
+  CELL is i8, i16, i32, i64, n, stat, handle, entry, ptr:S*K, ptr?:S*K, p64:S*K, p64?:S*K or method:M
+  see docs/NOTES.md, "The file" and "Texts"
+.
+edit driver.notes 'version = 1' $'version = 1\n"x\\nneutral" = 1'
+slip 'a key of two lines' 3 'bad driver.notes kind "x\u000aneutral"' $check <<'.'
+driver.notes:3:1: error: "x\u000aneutral" is no key of this table
+  see docs/NOTES.md, "The file" and "Texts"
+.
+# Programs that run the program: with its output closed, into a pipe that nobody reads, and without the rights of root.
+run_as() {
+  printf '#!/usr/bin/env bash\n%s exec %s "%s" "$@" %s\n' "${@:2:1}" "${@:3:1}" "$EBC" "${@:4}" >"$room/$1" && chmod +x "$room/$1"
+}
+run_as closed '' '' '>&-'
+run_as unread 'trap "" PIPE; mkfifo "$0.fifo"; exec 3<>"$0.fifo" 4>"$0.fifo" 3>&-; rm "$0.fifo";' '' '>&4'
+drop=
+[ "$(id -u)" = 0 ] && drop='setpriv --bounding-set=-all --inh-caps=-all'
+run_as barred '' "$drop" ''
+EBC=$room/closed slip 'a closed output' 5 '' list driver.efi <<'.'
+ebc: error: the output can't be written: Bad file descriptor (os error 9)
+  see docs/COMMANDS.md, "Exit status"
+.
+EBC=$room/unread slip 'an output that nobody reads' 5 '' list driver.efi <<'.'
+ebc: error: the output can't be written: Broken pipe (os error 32)
+  see docs/COMMANDS.md, "Exit status"
+.
+output=/dev/full slip 'a full disk of a run that ends amiss' 5 '' run 32 driver.efi driver.notes driver.script 10 <<'.'
+ebc: error: the output can't be written: No space left on device (os error 28)
+  see docs/COMMANDS.md, "Exit status"
+.
+chmod 0 driver.notes
+EBC=$room/barred slip 'no right to read' 4 '' $check <<'.'
+driver.notes: error: NOTES can't be read: Permission denied (os error 13)
+  see docs/COMMANDS.md, "The answer"
+.
+chmod 444 driver.obj
+EBC=$room/barred slip 'no right to write' 5 '' $asm <<'.'
+driver.obj: error: OBJ can't be written: Permission denied (os error 13)
+  see docs/COMMANDS.md, "Exit status"
+.
+slip 'a folder in place of a source' 4 '' asm . driver.obj <<'.'
+.: error: SRC can't be read: Is a directory (os error 21)
+  see docs/COMMANDS.md, "The answer"
+.
+edit driver.plan '"driver.obj"' '"."'
+slip 'a folder in place of an object of a plan' 4 '' $link <<'.'
+.: error: an object of driver.plan can't be read: Is a directory (os error 21)
+  see docs/COMMANDS.md, "The answer"
+.
 # What is done says nothing.
 slip 'the driver' 0 neutral $check </dev/null
 slip 'its run' 0 'end 32 gate finished status ok 0 .. same' $twin </dev/null
 
 . "$here/refusals.sh"
 . "$here/causes.sh"
+. "$here/endings.sh"
 exit "$failed"

@@ -1,16 +1,23 @@
 -- For proofs: how the lines begin that are said of an answer. docs/COMMANDS.md, "Standard error".
-use Rattle.std.specs.Prelude.{◌≡◌, ◌≢◌, ℕ, Bool, true, false, List, [], ◌++◌, Option, Some, None, codes, slice_get, if◌then◌else◌}
+use Rattle.std.specs.Prelude.{◌≡◌, ℕ, Bool, true, false, ◌&&◌, ◌==◌, List, [], ◌++◌}
+use Rattle.std.specs.Prelude.{Option, Some, None, codes, length, slice_get, if◌then◌else◌}
 use Rattle.std.specs.Str.{bytes_eq}
 use Rattle.cli_base.specs.declared.outcome.Outcome.{Outcome}
-use Rattle.cli_base.specs.declared.outcome.Outcome.TheVariants.{BadWords, BadInput, Missing, Refused, NoMemory}
+use Rattle.cli_base.specs.declared.outcome.Outcome.TheVariants.{BadWords, BadInput, Missing, ReadFault, Refused, NoMemory}
+use Rattle.ebc_outside.specs.Files.{Files}
+use Rattle.note_types.specs.declared.rule.RuleName.{RuleName}
+use Rattle.note_types.specs.declared.rule.RuleName.TheVariants as rules
+use Rattle.run_texts.specs.Refusals.{rule_text}
+use Rattle.explain.specs.Places.{notes_named, number_text, place_by}
 use Rattle.explain.specs.declared.program.Program.{Program}
 use Rattle.explain.specs.declared.program.Program.TheVariants as programs
-use Rattle.explain.specs.Shown.{shown}
 
 -- a text that begins with another
 pub record BeginsWith (head text : List ℕ) : Type 0 where
   pub rest : List ℕ
   pub joined : text ≡ head ++ rest
+
+-- ---- the words
 
 -- a word by its number, counted from 0; empty if there is none
 abbrev pub or_empty : Option (List ℕ) → List ℕ
@@ -25,31 +32,77 @@ abbrev pub name_of : Program → List ℕ
 name_of programs.Ebc = codes "ebc"
 name_of programs.EbcPlaces = codes "ebc_places"
 name_of programs.EbcNotes = codes "ebc_notes"
+name_of programs.EbcLint = codes "ebc_lint"
 
 -- whether one of the words is a plan, whose objects may be what is at fault
 abbrev pub names_objects : Program → List (List ℕ) → Bool
 names_objects programs.Ebc words = bytes_eq (word_at words 0) (codes "link")
 names_objects programs.EbcPlaces words = false
 names_objects programs.EbcNotes words = true
+names_objects programs.EbcLint words = false
 
--- the file that a word names, unless objects are named too
-abbrev pub named_file : Program → List (List ℕ) → ℕ → List ℕ
-named_file program words number = if names_objects program words then [] else word_at words number
+-- whether raw code is checked: `check CODE`
+abbrev pub checks_code : Program → List (List ℕ) → Bool
+checks_code programs.Ebc words = bytes_eq (word_at words 0) (codes "check") && (length words == 2)
+checks_code programs.EbcPlaces words = false
+checks_code programs.EbcNotes words = false
+checks_code programs.EbcLint words = false
 
--- the image or the code that `ebc` refuses
-abbrev pub refused_file : Program → List (List ℕ) → List ℕ
-refused_file programs.Ebc words = word_at words 1
-refused_file program words = []
+-- ---- files
 
--- with what the first line begins: the file of the outcome, or the program
-abbrev pub head_of : Program → List (List ℕ) → Outcome → List ℕ
-head_of program words BadWords = name_of program
-head_of program words NoMemory = name_of program
-head_of program words (BadInput word fault) = named_file program words word
-head_of program words (Missing word) = named_file program words word
-head_of program words (Refused place rule) = refused_file program words
-head_of program words outcome = []
+-- the file that was asked for last, and else another name
+abbrev pub asked_or : List ℕ → List ℕ → List ℕ
+asked_or asked other = if length asked == 0 then other else asked
 
--- what is said of an outcome: nothing, or lines of which the first begins so
-abbrev pub SaysOf : Program → List (List ℕ) → Outcome → List ℕ → Type 0
-SaysOf program words outcome text = text ≢ [] → BeginsWith (shown (head_of program words outcome)) text
+-- the file that isn't there: the one that a word names, or of words with a plan the one that was asked for last
+abbrev pub missing_file : Program → List (List ℕ) → List ℕ → ℕ → List ℕ
+missing_file program words asked number =
+    if names_objects program words then asked_or asked (word_at words number) else word_at words number
+
+-- the file that isn't of its form: the one that a word names, and nothing is said of words with a plan
+abbrev pub bad_file : Program → List (List ℕ) → ℕ → List ℕ
+bad_file program words number = if names_objects program words then [] else word_at words number
+
+-- a file or a program of which an error is told, with no place
+abbrev pub error_head : List ℕ → List ℕ
+error_head name = name ++ codes ": error"
+
+-- ---- refusals
+
+-- an image, a place as it is told, and a rule: `driver.efi: main+0x12: error: stack`; of `shape`, whose place is the number of a shape, no
+-- place is told
+abbrev pub place_told : RuleName → List ℕ → List ℕ
+place_told rules.Shape place = []
+place_told rule place = codes ": " ++ place
+
+abbrev pub rule_head : List ℕ → List ℕ → RuleName → List ℕ
+rule_head file at rule = file ++ (at ++ (codes ": error: " ++ rule_text rule))
+
+abbrev pub image_head : List ℕ → List ℕ → RuleName → List ℕ
+image_head file place rule = rule_head file (place_told rule place) rule
+
+-- raw code, its offset and a rule: `form.bin:0x0: error: form`
+abbrev pub code_head : List ℕ → ℕ → RuleName → List ℕ
+code_head file place rule = rule_head file (codes ":" ++ number_text place) rule
+
+-- Of `ebc` the file is CODE or IMAGE, and the notes are those that the file of NOTES stands for, if it was kept. The other programs give a
+-- place by its number; `ebc_notes` refuses a text of notes.
+abbrev pub refused_head : Program → List (List ℕ) → Files → ℕ → RuleName → List ℕ
+refused_head programs.Ebc words files place rule =
+    if checks_code programs.Ebc words then code_head (word_at words 1) place rule
+    else image_head (word_at words 1) (place_by (notes_named files (word_at words 2)) place) rule
+refused_head programs.EbcPlaces words files place rule = image_head (word_at words 0) (number_text place) rule
+refused_head programs.EbcNotes words files place rule = image_head (word_at words 1) (number_text place) rule
+refused_head programs.EbcLint words files place rule = image_head (word_at words 0) (number_text place) rule
+
+-- ---- answers
+
+-- with what the first line begins: the file of the outcome or the program, and of a refusal the place and the rule
+abbrev pub head_of : Program → List (List ℕ) → List ℕ → Files → Outcome → List ℕ
+head_of program words asked files BadWords = error_head (name_of program)
+head_of program words asked files NoMemory = error_head (name_of program)
+head_of program words asked files ReadFault = error_head (asked_or asked (name_of program))
+head_of program words asked files (Missing word) = error_head (missing_file program words asked word)
+head_of program words asked files (BadInput word fault) = bad_file program words word
+head_of program words asked files (Refused place rule) = refused_head program words files place rule
+head_of program words asked files outcome = []

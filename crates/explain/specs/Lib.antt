@@ -1,3 +1,4 @@
 pub mod Shown
 pub mod Drivers
+pub mod Places
 pub mod Heads

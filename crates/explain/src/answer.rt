@@ -1,11 +1,12 @@
 //! An answer that is explained.
 ghost use Rattle.std.specs.Prelude.{◌≡◌};
 ghost use Rattle.cli_base.specs.Words.{word_bytes};
-ghost use Rattle.explain.specs.Heads.{names_objects, word_at};
+ghost use Rattle.explain.specs.Heads.{checks_code, names_objects, word_at};
 
 use crate::program::{Program, Slot, Use, command_slots, notes_slots};
 use cli_base::Outcome;
-use ebc_outside::{Folder, MemFolder};
+use ebc_base::NoMemory;
+use ebc_outside::{Folder, MemFolder, ReadEnd};
 use std::alloc::Global;
 
 /// An answer of a program, and what is known of how it came.
@@ -41,6 +42,7 @@ impl<'a> Answer<'a> {
             }
             Program::EbcPlaces => Some(&[Slot::Image]),
             Program::EbcNotes => Some(notes_slots(self.words.len())),
+            Program::EbcLint => Some(&[Slot::Image, Slot::Notes]),
         }
     }
 
@@ -48,7 +50,7 @@ impl<'a> Answer<'a> {
     pub(crate) fn skipped(&self) -> usize {
         match self.program {
             Program::Ebc => 1,
-            Program::EbcPlaces | Program::EbcNotes => 0,
+            Program::EbcPlaces | Program::EbcNotes | Program::EbcLint => 0,
         }
     }
 
@@ -68,8 +70,18 @@ impl<'a> Answer<'a> {
     {
         match self.program {
             Program::Ebc => self.word(0) == "link",
-            Program::EbcPlaces => false,
+            Program::EbcPlaces | Program::EbcLint => false,
             Program::EbcNotes => true,
+        }
+    }
+
+    /// Whether raw code is checked.
+    pub(crate) fn checks_code(&self) -> bool
+        ensures { result ≡ checks_code self.now.program (word_bytes self.now.words.now) }
+    {
+        match self.program {
+            Program::Ebc => self.word(0) == "check" && self.words.len() == 2,
+            _ => false,
         }
     }
 
@@ -99,13 +111,25 @@ impl<'a> Answer<'a> {
     }
 
     /// The bytes of the file that a word names, if they were kept and are within the limit.
-    pub(crate) fn bytes_of(&self, number: usize, folder: &mut MemFolder) -> Option<Vec<u8>> {
-        let limit = self.slot(number)?.limit();
-        let bytes = folder.read(self.alloc, self.word(number), limit).ok()?;
-        if bytes.len() as u64 <= limit {
-            Some(bytes)
-        } else {
-            None
+    pub(crate) fn bytes_of(
+        &self,
+        number: usize,
+        folder: &mut MemFolder,
+    ) -> Result<Option<Vec<u8>>, NoMemory> {
+        let Some(slot) = self.slot(number) else {
+            return Ok(None);
+        };
+        let limit = slot.limit();
+        match folder.read(self.alloc, self.word(number), limit) {
+            Ok(bytes) => {
+                if bytes.len() as u64 <= limit {
+                    Ok(Some(bytes))
+                } else {
+                    Ok(None)
+                }
+            }
+            Err(ReadEnd::NoMemory) => Err(NoMemory),
+            Err(_) => Ok(None),
         }
     }
 }

@@ -48,9 +48,7 @@ pub(crate) fn unread_said(answer: &Answer) -> Result<Said, NoMemory> {
         let asked = asked_text(answer)?;
         format!(in alloc; "{asked} can't be read{cause}")?
     };
-    let mut said = said_of(alloc, what, "docs/COMMANDS.md, \"The answer\"")?;
-    said.file.push_str(answer.asked)?;
-    Ok(said)
+    said_of(alloc, what, "docs/COMMANDS.md, \"The answer\"")
 }
 
 // What is said of a file of more bytes than it may have.

@@ -13,11 +13,33 @@ use explain_files::{image_said, rom_said, taking_said};
 use explain_source::source_said;
 use explain_texts::{NotesFile, TomlText, toml_said};
 use note_types::{Notes, NotesEnd, TomlFault};
-use option_rom::{RomEnd, read_rom, take};
+use option_rom::{RomEnd, RomImage, read_rom, take};
 use pe_image::{ImageEnd, read_image};
 use protocol_script::read_script;
 use std::alloc::Global;
 use type_notes::read_notes;
+
+// What a file that is to be a text begins as, after a semicolon; empty if it begins as no other file that there is.
+fn beginning(bytes: &[u8]) -> &'static str {
+    if bytes.starts_with(b"MZ") {
+        "; the file begins as an image"
+    } else if bytes.starts_with(b"EBCO") {
+        "; the file begins as an object"
+    } else if bytes.starts_with(b"\x55\xaa") {
+        "; the file begins as an option ROM"
+    } else if bytes.starts_with(b"\x7fELF") {
+        "; the file begins as an ELF program"
+    } else {
+        ""
+    }
+}
+
+// Adds what a file that is to be a text begins as.
+fn with_beginning(bytes: &[u8], said: Said) -> Result<Said, NoMemory> {
+    let mut said = said;
+    said.what.push_str(beginning(bytes))?;
+    Ok(said)
+}
 
 fn bad_image(alloc: Global, bytes: &[u8]) -> Result<Option<Said>, NoMemory> {
     match read_image(alloc, bytes) {
@@ -36,9 +58,33 @@ fn bad_source(alloc: Global, bytes: &[u8]) -> Result<Option<Said>, NoMemory> {
             drop(object);
             Ok(None)
         }
-        Err(AsmEnd::Fault { kind, line }) => source_said(alloc, bytes, kind, line),
+        Err(AsmEnd::Fault { kind, line }) => match source_said(alloc, bytes, kind, line)? {
+            Some(said) => Ok(Some(with_beginning(bytes, said)?)),
+            None => Ok(None),
+        },
         Err(AsmEnd::NoMemory) => Err(NoMemory),
     }
+}
+
+// Adds how many bytes of a file stand behind the last image of its option ROM, if any do.
+fn add_behind(
+    alloc: Global,
+    images: &[RomImage],
+    size: u64,
+    said: &mut Said,
+) -> Result<(), NoMemory> {
+    let Some(last) = images.last() else {
+        return Ok(());
+    };
+    let number = images.len().saturating_sub(1);
+    let end = u64::from(last.offset) + 512 * u64::from(last.blocks);
+    let behind = size.saturating_sub(end);
+    if behind == 0 {
+        return Ok(());
+    }
+    said.add(format!(in alloc;
+        "image {number} is marked as the last, and the {behind} bytes behind it are passed over"
+    )?)
 }
 
 // Of an option ROM, and of the image that is to be taken out of it, whose number is a word.
@@ -58,7 +104,11 @@ fn bad_rom(alloc: Global, bytes: &[u8], number: &str) -> Result<Option<Said>, No
     };
     match take(images.as_slice(), wanted) {
         Ok(_) => Ok(None),
-        Err(kind) => Ok(Some(taking_said(alloc, images.as_slice().len(), wanted, kind)?)),
+        Err(kind) => {
+            let mut said = taking_said(alloc, images.as_slice().len(), wanted, kind)?;
+            add_behind(alloc, images.as_slice(), bytes.len() as u64, &mut said)?;
+            Ok(Some(said))
+        }
     }
 }
 
@@ -74,6 +124,18 @@ pub(crate) fn fault_of<T: Drop>(read: Result<T, NotesEnd>) -> Result<Option<Toml
     }
 }
 
+/// What is said of the fault of a text in TOML.
+pub(crate) fn text_said(
+    alloc: Global,
+    file: &str,
+    kind: TomlText,
+    bytes: &[u8],
+    fault: &TomlFault,
+) -> Result<Said, NoMemory> {
+    let said = toml_said(alloc, file, kind, bytes, fault)?;
+    with_beginning(bytes, said)
+}
+
 // What is said of the fault of a text, if it has one.
 fn fault_said(
     alloc: Global,
@@ -84,14 +146,24 @@ fn fault_said(
 ) -> Result<Option<Said>, NoMemory> {
     match fault {
         None => Ok(None),
-        Some(fault) => Ok(Some(toml_said(alloc, file, kind, bytes, &fault)?)),
+        Some(fault) => Ok(Some(text_said(alloc, file, kind, bytes, &fault)?)),
     }
 }
 
 // The notes of a word.
-fn notes_of(answer: &Answer, number: usize, folder: &mut MemFolder) -> Option<Notes> {
-    let bytes = answer.bytes_of(number, folder)?;
-    read_notes(answer.alloc, bytes.as_slice()).ok()
+fn notes_of(
+    answer: &Answer,
+    number: usize,
+    folder: &mut MemFolder,
+) -> Result<Option<Notes>, NoMemory> {
+    let Some(bytes) = answer.bytes_of(number, folder)? else {
+        return Ok(None);
+    };
+    match read_notes(answer.alloc, bytes.as_slice()) {
+        Ok(notes) => Ok(Some(notes)),
+        Err(NotesEnd::Fault(_)) => Ok(None),
+        Err(NotesEnd::NoMemory) => Err(NoMemory),
+    }
 }
 
 // Of a script, whose notes are the word before.
@@ -102,7 +174,7 @@ fn bad_script(
     folder: &mut MemFolder,
 ) -> Result<Option<Said>, NoMemory> {
     let alloc = answer.alloc;
-    let Some(notes) = notes_of(answer, number.saturating_sub(1), folder) else {
+    let Some(notes) = notes_of(answer, number.saturating_sub(1), folder)? else {
         return Ok(None);
     };
     let fault = fault_of(read_script(alloc, bytes, &notes))?;
@@ -144,10 +216,10 @@ fn bad_pair(
     bytes: &[u8],
     folder: &mut MemFolder,
 ) -> Result<Option<Said>, NoMemory> {
-    let Some(a) = notes_of(answer, 2, folder) else {
+    let Some(a) = notes_of(answer, 2, folder)? else {
         return Ok(None);
     };
-    match notes_of(answer, 5, folder) {
+    match notes_of(answer, 5, folder)? {
         Some(b) => bad_binds(answer, number, bytes, &a, &b),
         None => Ok(None),
     }
@@ -165,6 +237,51 @@ fn bad_notes(answer: &Answer, number: usize, bytes: &[u8]) -> Result<Option<Said
     }
 }
 
+// The name of a fault of a text of notes with labels, by its number. docs/LABELS.md, "What is answered".
+fn fault_name(fault: u8) -> &'static str {
+    match fault {
+        1 => "nottoml",
+        2 => "missing",
+        3 => "kind",
+        4 => "name",
+        5 => "range",
+        _ => "twice",
+    }
+}
+
+/// What is said of the fault of a file of which nothing more is known. The answer itself tells where notes with labels have theirs.
+pub(crate) fn number_said(answer: &Answer, number: usize, fault: u8) -> Result<Said, NoMemory> {
+    let alloc = answer.alloc;
+    let Some(slot) = answer.slot(number) else {
+        return Ok(Said::only(
+            alloc,
+            String::from_str(alloc, "the file isn't of its form")?,
+        ));
+    };
+    let name = slot.name();
+    if answer.program.completes() && number == 1 {
+        let fault = fault_name(fault);
+        let what = format!(in alloc;
+            "{name} has the fault {fault}; the answer names the key, and where it stands"
+        )?;
+        return Said::at_place(
+            alloc,
+            String::new(alloc),
+            what,
+            "docs/LABELS.md, \"What is answered\"",
+        );
+    }
+    let what = format!(in alloc;
+        "{name} isn't of its form; the answer names its first fault, and where it stands"
+    )?;
+    Said::at_place(
+        alloc,
+        String::new(alloc),
+        what,
+        "docs/COMMANDS.md, \"Faults\"",
+    )
+}
+
 /// What is said of the file of a word that isn't of its form; none if nothing more is known of it.
 pub(crate) fn bad_said(
     answer: &Answer,
@@ -175,7 +292,7 @@ pub(crate) fn bad_said(
     let Some(slot) = answer.slot(number) else {
         return Ok(None);
     };
-    let Some(bytes) = answer.bytes_of(number, folder) else {
+    let Some(bytes) = answer.bytes_of(number, folder)? else {
         return Ok(None);
     };
     let bytes = bytes.as_slice();

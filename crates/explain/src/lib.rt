@@ -9,9 +9,14 @@
 //!   - `shown`: no control character stands in the text but the line feeds at the ends of lines. U+0080 to U+009F are
 //!     controls, too.
 //!   - `done`: nothing is said of an answer that is done, unless a run ended otherwise than finished.
-//!   - `begins`: if anything is said, the first line begins with the name of the program or of the file of the outcome
-//!     (`head_of`). Of the words of `link` and `ebc_notes` it may be the name of an object that the plan names.
-//! - `Told`: its `invariant` is `IsShown`. `part` and `line` add what `shown` says of a text.
+//!   - `says`: of each other answer than one that is done something is said.
+//!   - `agrees`: the first line begins with the file of the outcome, or with the program (`head_of`). Of a refusal the
+//!     place and the rule follow. Of `check IMAGE NOTES` and `infer` the place is told by the function that has it in the
+//!     notes that were kept. Of `check CODE` it is the offset, and of `ebc_notes` the place as a number. Of a file that
+//!     isn't of its form, with the words of `link` or `ebc_notes`, the clause says nothing. Nor does it of a file that
+//!     can't be written, of one that is too large, and of runs that differ.
+//! - `Told`: its `invariant` is `IsShown`. `part` and `line` add what `shown` says of a text. `add_said` adds lines
+//!   that begin with what it is given.
 //! - `tell` hands the answer, with what the folder kept and the system said, to `explanation`, and prints the text. It
 //!   has no clause.
 //! - `Watched` is a `Sink` with each clause of that trait. No clause says which runs it calls amiss.
@@ -21,12 +26,15 @@
 mod answer;
 mod driver;
 mod files;
+mod heads;
 mod inputs;
 mod lines;
 mod outcomes;
 mod plans;
 mod program;
 mod refusals;
+mod refused;
+mod rules;
 mod runs;
 mod since;
 mod telling;
@@ -35,7 +43,9 @@ mod watched;
 mod words;
 
 pub use answer::Answer;
+pub use lines::add_said;
 pub use outcomes::explanation;
 pub use program::Program;
 pub use telling::{say_no_memory, tell};
+pub use told::Told;
 pub use watched::Watched;

@@ -1,5 +1,5 @@
 //! The lines that are said of an answer.
-ghost use Rattle.std.specs.Prelude.{◌++◌, IfOk, OnOk};
+ghost use Rattle.std.specs.Prelude.{◌≡◌, ◌≢◌, [], ◌++◌, IfOk, OnOk};
 ghost use Rattle.explain.specs.Heads.{BeginsWith};
 ghost use Rattle.explain.specs.Shown.{shown};
 
@@ -19,6 +19,15 @@ fn add_part(alloc: Global, before: &str, part: &str, told: &mut Told) -> Result<
     told.part(alloc, part)
 }
 
+// Adds what was found, and ends the first line.
+fn add_found(alloc: Global, what: &str, told: &mut Told) -> Result<(), AllocError>
+    ensures begins { OnOk result (BeginsWith told.old told.new) }
+    ensures says { OnOk result (told.new ≢ []) }
+{
+    add_part(alloc, ": ", what, told)?;
+    told.end()
+}
+
 // Adds lines, with what stands before each.
 fn add_lines(alloc: Global, before: &str, lines: &[Name], told: &mut Told) -> Result<(), AllocError>
     ensures { OnOk result (BeginsWith told.old told.new) }
@@ -29,13 +38,10 @@ fn add_lines(alloc: Global, before: &str, lines: &[Name], told: &mut Told) -> Re
     Ok(())
 }
 
-// Adds all after the head of the first line: the rule, what was found, the other lines, and the page.
-fn add_rest(alloc: Global, rule: &str, said: &Said, told: &mut Told) -> Result<(), AllocError>
+// Adds all below the first line: the other lines, those of notes, and the page.
+fn add_below(alloc: Global, said: &Said, told: &mut Told) -> Result<(), AllocError>
     ensures { OnOk result (BeginsWith told.old told.new) }
 {
-    add_part(alloc, ": ", rule, told)?;
-    add_part(alloc, ": ", said.what.as_str(), told)?;
-    told.end()?;
     add_lines(alloc, "  ", said.more.as_slice(), told)?;
     add_lines(alloc, "", said.notes.as_slice(), told)?;
     if said.see.is_empty() {
@@ -44,34 +50,34 @@ fn add_rest(alloc: Global, rule: &str, said: &Said, told: &mut Told) -> Result<(
     told.line(alloc, "  see ", said.see.as_str())
 }
 
-/// Adds lines: `FILE AT: LABEL: RULE: WHAT`, more lines, lines of notes, and the page. The rule may be empty.
-pub(crate) fn add_said(
+/// Adds lines: `HEAD TAIL: WHAT`, more lines, lines of notes, and the page.
+pub fn add_said(
     alloc: Global,
-    file: &str,
-    label: &str,
-    rule: &str,
+    head: &str,
+    tail: &str,
     said: &Said,
     told: &mut Told,
 ) -> Result<(), AllocError>
-    ensures { OnOk result (BeginsWith (told.old ++ shown file.now) told.new) }
+    ensures begins { OnOk result (BeginsWith (told.old ++ shown head.now) told.new) }
+    ensures says { OnOk result (told.new ≢ []) }
 {
-    told.part(alloc, file)?;
-    told.part(alloc, said.at.as_str())?;
-    told.part(alloc, label)?;
-    add_rest(alloc, rule, said, told)
+    told.part(alloc, head)?;
+    told.part(alloc, tail)?;
+    add_found(alloc, said.what.as_str(), told)?;
+    add_below(alloc, said, told)
 }
 
-/// The lines that are said of a file or of a program.
+/// The lines that are said, of which the first begins with a head.
 pub(crate) fn said_lines(
     alloc: Global,
-    file: &str,
-    label: &str,
-    rule: &str,
+    head: &str,
+    tail: &str,
     said: &Said,
 ) -> Result<Told, AllocError>
-    ensures { IfOk result (λ told. BeginsWith (shown file.now) told) }
+    ensures begins { IfOk result (λ told. BeginsWith (shown head.now) told) }
+    ensures says { IfOk result (λ told. told ≢ []) }
 {
     let mut told = Told::new(alloc);
-    add_said(alloc, file, label, rule, said, &mut told)?;
+    add_said(alloc, head, tail, said, &mut told)?;
     Ok(told)
 }

@@ -1,15 +1,14 @@
 //! What is said of an answer.
 ghost use Rattle.std.specs.Prelude.{◌≡◌, ◌≢◌, [], false, IfOk, string_bytes};
 ghost use Rattle.cli_base.specs.Words.{word_bytes};
-ghost use Rattle.explain.specs.Heads.{BeginsWith, SaysOf, name_of, named_file, word_at};
+ghost use Rattle.explain.specs.Heads.{BeginsWith, asked_or, bad_file, error_head, head_of, missing_file, name_of};
 ghost use Rattle.explain.specs.Shown.{IsShown, shown};
 
 use crate::answer::Answer;
 use crate::files::{large_said, unread_said, unwritten_said};
-use crate::inputs::bad_said;
+use crate::inputs::{bad_said, number_said};
 use crate::lines::{add_said, said_lines};
-use crate::program::Program;
-use crate::refusals::{code_said, refused_said};
+use crate::refused::refused_lines;
 use crate::runs::{differ_said, runs_said};
 use crate::told::Told;
 use crate::words::words_said;
@@ -17,8 +16,6 @@ use cli_base::Outcome;
 use ebc_base::NoMemory;
 use ebc_outside::MemFolder;
 use explain_base::Said;
-use note_types::RuleName;
-use run_texts::rule_text;
 
 // The file of which something is said: the one that is given, and else the program.
 fn file_or_program<'a>(answer: &Answer, said: &'a Said) -> &'a str {
@@ -29,22 +26,80 @@ fn file_or_program<'a>(answer: &Answer, said: &'a Said) -> &'a str {
     }
 }
 
-fn error_lines(answer: &Answer, file: &str, said: &Said) -> Result<Told, NoMemory>
-    ensures { IfOk result (λ told. BeginsWith (shown file.now) told) }
+// What stands behind the name of a file: where in it, and a label.
+fn tail_of(answer: &Answer, said: &Said, label: &str) -> Result<String, NoMemory> {
+    let at = said.at.as_str();
+    Ok(format!(in answer.alloc; "{at}{label}")?)
+}
+
+// What is said of a place of a file, or of a program.
+fn place_lines(answer: &Answer, file: &str, said: &Said) -> Result<Told, NoMemory>
+    ensures begins { IfOk result (λ told. BeginsWith (shown file.now) told) }
+    ensures says { IfOk result (λ told. told ≢ []) }
 {
-    Ok(said_lines(answer.alloc, file, ": error", "", said)?)
+    let tail = tail_of(answer, said, ": error")?;
+    Ok(said_lines(answer.alloc, file, tail.as_str(), said)?)
+}
+
+// What is said of a file or a program as a whole.
+fn error_lines(answer: &Answer, name: &str, said: &Said) -> Result<Told, NoMemory>
+    ensures begins { IfOk result (λ told. BeginsWith (shown (error_head name.now)) told) }
+    ensures says { IfOk result (λ told. told ≢ []) }
+{
+    let alloc = answer.alloc;
+    let head = format!(in alloc; "{name}: error")?;
+    Ok(said_lines(alloc, head.as_str(), "", said)?)
 }
 
 // What is said of the program.
 fn program_lines(answer: &Answer, said: &Said) -> Result<Told, NoMemory>
-    ensures { IfOk result (λ told. BeginsWith (shown (name_of answer.now.program)) told) }
+    ensures begins { IfOk result (λ told. BeginsWith (shown (error_head (name_of answer.now.program))) told) }
+    ensures says { IfOk result (λ told. told ≢ []) }
 {
     error_lines(answer, answer.program.name(), said)
 }
 
+// The file that was asked for last, and else another name.
+fn asked_or<'a>(asked: &'a str, other: &'a str) -> &'a str
+    ensures { result.now ≡ asked_or asked.now other.now }
+{
+    if asked.is_empty() { other } else { asked }
+}
+
+// The name of the file that isn't there.
+fn missing_file<'a>(answer: &Answer<'a>, number: u8) -> &'a str
+    ensures { result.now ≡ missing_file answer.now.program (word_bytes answer.now.words.now) answer.now.asked.now number }
+{
+    let word = answer.word(number as usize);
+    if answer.names_objects() {
+        asked_or(answer.asked, word)
+    } else {
+        word
+    }
+}
+
+// What is said of a file that isn't there.
+fn missing_lines(answer: &Answer, number: u8) -> Result<Told, NoMemory>
+    ensures begins { IfOk result (λ told. BeginsWith (shown (error_head
+        (missing_file answer.now.program (word_bytes answer.now.words.now) answer.now.asked.now number))) told) }
+    ensures says { IfOk result (λ told. told ≢ []) }
+{
+    error_lines(answer, missing_file(answer, number), &unread_said(answer)?)
+}
+
+// What is said of a file that can't be read.
+fn unread_lines(answer: &Answer) -> Result<Told, NoMemory>
+    ensures begins { IfOk result (λ told. BeginsWith (shown (error_head (asked_or answer.now.asked.now (name_of answer.now.program)))) told) }
+    ensures says { IfOk result (λ told. told ≢ []) }
+{
+    let name = asked_or(answer.asked, answer.program.name());
+    error_lines(answer, name, &unread_said(answer)?)
+}
+
 // What is said of the file that a word names, or of an object.
-fn file_lines(answer: &Answer, number: u8, said: &Said) -> Result<Told, NoMemory>
-    ensures { IfOk result (λ told. BeginsWith (shown (named_file answer.now.program (word_bytes answer.now.words.now) number)) told) }
+fn bad_file_lines(answer: &Answer, number: u8, said: &Said) -> Result<Told, NoMemory>
+    ensures begins { IfOk result (λ told. BeginsWith (shown (bad_file answer.now.program (word_bytes answer.now.words.now) number)) told) }
+    ensures says { IfOk result (λ told. told ≢ []) }
 {
     let word = answer.word(number as usize);
     if answer.names_objects() {
@@ -53,47 +108,26 @@ fn file_lines(answer: &Answer, number: u8, said: &Said) -> Result<Told, NoMemory
         } else {
             said.file.as_str()
         };
-        return error_lines(answer, file, said);
+        return place_lines(answer, file, said);
     }
-    error_lines(answer, word, said)
+    place_lines(answer, word, said)
 }
 
 // What is said of a file that isn't of its form.
-fn bad_lines(answer: &Answer, number: u8, folder: &mut MemFolder) -> Result<Told, NoMemory>
-    ensures { IfOk result (λ told. told ≢ [] → BeginsWith (shown (named_file answer.now.program (word_bytes answer.now.words.now) number)) told) }
-{
-    match bad_said(answer, number as usize, folder)? {
-        Some(said) => file_lines(answer, number, &said),
-        None => Ok(Told::new(answer.alloc)),
-    }
-}
-
-// What is said of a refusal of `ebc`.
-fn refused_lines(
+fn bad_lines(
     answer: &Answer,
-    place: u32,
-    rule: RuleName,
+    number: u8,
+    fault: u8,
     folder: &mut MemFolder,
 ) -> Result<Told, NoMemory>
-    ensures { IfOk result (λ told. told ≢ [] → BeginsWith (shown (word_at (word_bytes answer.now.words.now) 1)) told) }
+    ensures begins { IfOk result (λ told. BeginsWith (shown (bad_file answer.now.program (word_bytes answer.now.words.now) number)) told) }
+    ensures says { IfOk result (λ told. told ≢ []) }
 {
-    let said = if answer.words.len() == 2 {
-        code_said(answer, place, rule, folder)?
-    } else {
-        refused_said(answer, place, rule, folder)?
+    let said = match bad_said(answer, number as usize, folder)? {
+        Some(said) => said,
+        None => number_said(answer, number as usize, fault)?,
     };
-    match said {
-        Some(said) => {
-            Ok(said_lines(
-                answer.alloc,
-                answer.word(1),
-                ": error",
-                rule_text(rule),
-                &said,
-            )?)
-        }
-        None => Ok(Told::new(answer.alloc)),
-    }
+    bad_file_lines(answer, number, &said)
 }
 
 // What is said of the runs of an answer that is done.
@@ -106,37 +140,35 @@ fn done_lines(answer: &Answer, folder: &mut MemFolder) -> Result<Told, NoMemory>
         return Ok(told);
     }
     for said in runs_said(answer, folder)?.iter() {
-        let file = file_or_program(answer, said);
-        add_said(alloc, file, ": note", "", said, &mut told)?;
+        let tail = tail_of(answer, said, ": note")?;
+        add_said(
+            alloc,
+            file_or_program(answer, said),
+            tail.as_str(),
+            said,
+            &mut told,
+        )?;
     }
     Ok(told)
 }
 
 // What is said of two runs that differ.
-fn differ_lines(answer: &Answer, step: u64, folder: &mut MemFolder) -> Result<Told, NoMemory> {
-    let alloc = answer.alloc;
-    let said = match differ_said(answer, step, folder)? {
-        Some(said) => said,
-        None => {
-            let what = format!(in alloc; "the two runs differ after step {step}, and not before")?;
-            Said::at_place(
-                alloc,
-                String::new(alloc),
-                what,
-                "docs/HOST.md, \"A run that parts\"",
-            )?
-        }
-    };
-    error_lines(answer, file_or_program(answer, &said), &said)
+fn differ_lines(answer: &Answer, step: u64, folder: &mut MemFolder) -> Result<Told, NoMemory>
+    ensures { IfOk result (λ told. told ≢ []) }
+{
+    other_lines(answer, &differ_said(answer, step, folder)?)
 }
 
-// What is said of files that were too large, and of a system that failed.
-fn other_lines(answer: &Answer, said: &Said) -> Result<Told, NoMemory> {
-    error_lines(answer, file_or_program(answer, said), said)
+// What is said of files that were too large, and of files and output that can't be written.
+fn other_lines(answer: &Answer, said: &Said) -> Result<Told, NoMemory>
+    ensures { IfOk result (λ told. told ≢ []) }
+{
+    place_lines(answer, file_or_program(answer, said), said)
 }
 
 fn no_memory_lines(answer: &Answer) -> Result<Told, NoMemory>
-    ensures { IfOk result (λ told. BeginsWith (shown (name_of answer.now.program)) told) }
+    ensures begins { IfOk result (λ told. BeginsWith (shown (error_head (name_of answer.now.program))) told) }
+    ensures says { IfOk result (λ told. told ≢ []) }
 {
     let alloc = answer.alloc;
     let said = Said::only(alloc, String::from_str(alloc, "memory ran out")?);
@@ -146,22 +178,21 @@ fn no_memory_lines(answer: &Answer) -> Result<Told, NoMemory>
 // What is said of an answer.
 fn lines_of(answer: &Answer, folder: &mut MemFolder) -> Result<Told, NoMemory>
     ensures done { answer.now.outcome ≡ Outcome.Done → answer.now.amiss ≡ false → IfOk result (λ told. told ≡ []) }
-    ensures begins { IfOk result (SaysOf answer.now.program (word_bytes answer.now.words.now) answer.now.outcome) }
+    ensures says { answer.now.outcome ≢ Outcome.Done → IfOk result (λ told. told ≢ []) }
+    ensures agrees { IfOk result (λ told. BeginsWith
+        (shown (head_of answer.now.program (word_bytes answer.now.words.now) answer.now.asked.now folder.old.files answer.now.outcome)) told) }
 {
     match answer.outcome {
         Outcome::Done => done_lines(answer, folder),
         Outcome::BadWords => program_lines(answer, &words_said(answer)?),
         Outcome::NoMemory => no_memory_lines(answer),
-        Outcome::Missing { word } => file_lines(answer, word, &unread_said(answer)?),
-        Outcome::BadInput { word, .. } => bad_lines(answer, word, folder),
-        Outcome::ReadFault => other_lines(answer, &unread_said(answer)?),
+        Outcome::Missing { word } => missing_lines(answer, word),
+        Outcome::BadInput { word, fault } => bad_lines(answer, word, fault, folder),
+        Outcome::ReadFault => unread_lines(answer),
         Outcome::WriteFault => other_lines(answer, &unwritten_said(answer)?),
         Outcome::TooLarge { word } => other_lines(answer, &large_said(answer, word as usize)?),
         Outcome::Differ { step } => differ_lines(answer, step, folder),
-        Outcome::Refused { place, rule } => match answer.program {
-            Program::Ebc => refused_lines(answer, place, rule, folder),
-            _ => Ok(Told::new(answer.alloc)),
-        },
+        Outcome::Refused { place, rule } => refused_lines(answer, place, rule, folder),
     }
 }
 
@@ -170,15 +201,20 @@ fn lines_of(answer: &Answer, folder: &mut MemFolder) -> Result<Told, NoMemory>
 ///
 /// # Errors
 ///
-/// Want of memory alone.
+/// Want of memory alone, unless reads of the folder were set to fail.
 pub fn explanation(answer: &Answer, folder: MemFolder) -> Result<String, NoMemory>
     ensures shown { IfOk result (λ text. IsShown (string_bytes text)) }
 
     // Nothing is said of an answer that is done, unless a run ended otherwise than finished.
     ensures done { answer.now.outcome ≡ Outcome.Done → answer.now.amiss ≡ false → IfOk result (λ text. string_bytes text ≡ []) }
 
-    // The first line begins with the file of the outcome, or with the program.
-    ensures begins { IfOk result (λ text. SaysOf answer.now.program (word_bytes answer.now.words.now) answer.now.outcome (string_bytes text)) }
+    // Of each other answer something is said.
+    ensures says { answer.now.outcome ≢ Outcome.Done → IfOk result (λ text. string_bytes text ≢ []) }
+
+    // The first line begins with the file of the outcome or with the program, and of a refusal with its place and its rule, too.
+    ensures agrees { IfOk result (λ text. BeginsWith
+        (shown (head_of answer.now.program (word_bytes answer.now.words.now) answer.now.asked.now folder.files answer.now.outcome))
+        (string_bytes text)) }
 {
     let mut folder = folder;
     Ok(lines_of(answer, &mut folder)?.into_text())

@@ -5,7 +5,7 @@ ghost use Rattle.ebc_link.specs.Plans.{IsPlan};
 ghost use Rattle.ebc_object.specs.Objects.{IsObject};
 
 use crate::answer::Answer;
-use crate::inputs::fault_of;
+use crate::inputs::{fault_of, text_said};
 use cli_base::End;
 use ebc_base::{Name, NoMemory};
 use ebc_link::{LinkPlan, link, read_plan};
@@ -13,7 +13,7 @@ use ebc_object::{Object, ObjectEnd, read_object};
 use ebc_outside::{Folder, MemFolder};
 use explain_base::Said;
 use explain_files::{link_said, object_said};
-use explain_texts::{TomlText, toml_said};
+use explain_texts::TomlText;
 use file_inputs::read_objects;
 use note_types::NotesEnd;
 use std::alloc::Global;
@@ -69,7 +69,7 @@ pub(crate) fn plan_said(
         Err(end) => {
             let fault = fault_of::<LinkPlan>(Err(end))?;
             return match fault {
-                Some(fault) => Ok(Some(toml_said(alloc, file, TomlText::Plan, bytes, &fault)?)),
+                Some(fault) => Ok(Some(text_said(alloc, file, TomlText::Plan, bytes, &fault)?)),
                 None => Ok(None),
             };
         }

@@ -8,6 +8,7 @@ pub enum Program {
     Ebc,
     EbcPlaces,
     EbcNotes,
+    EbcLint,
 }
 
 impl Program {
@@ -19,6 +20,7 @@ impl Program {
             Program::Ebc => "ebc",
             Program::EbcPlaces => "ebc_places",
             Program::EbcNotes => "ebc_notes",
+            Program::EbcLint => "ebc_lint",
         }
     }
 
@@ -26,7 +28,7 @@ impl Program {
     pub(crate) fn completes(&self) -> bool {
         match self {
             Program::EbcNotes => true,
-            Program::Ebc | Program::EbcPlaces => false,
+            Program::Ebc | Program::EbcPlaces | Program::EbcLint => false,
         }
     }
 }

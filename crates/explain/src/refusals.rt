@@ -4,20 +4,21 @@ ghost use Rattle.note_types.specs.Records.{IsNotes};
 ghost use Rattle.pe_image.specs.Images.{IsImage};
 
 use crate::answer::Answer;
+use crate::rules::{rule_page, rule_said};
 use crate::since::add_since;
+use cli_base::End;
 use ebc_base::NoMemory;
 use ebc_decode::decode;
 use ebc_insn::well_formed;
 use ebc_outside::MemFolder;
-use explain_base::{Said, Scene, listing_text, place_text};
+use explain_base::{Said, Scene, listing_text};
 use explain_checks::{Refused, check_said};
 use explain_rows::row_said;
-use file_inputs::{read_as, read_with_bytes};
+use file_inputs::read_as;
 use note_infer::{Inferred, infer};
 use note_types::{Notes, RuleName, State};
 use pe_image::Image;
 use point_texts::state_text;
-use run_texts::rule_text;
 use state_walk::{Before, before, given};
 use std::alloc::Global;
 use toml_spans::{key_span, position_of};
@@ -158,6 +159,28 @@ fn add_key(answer: &Answer, text: &[u8], said: &mut Said) -> Result<(), NoMemory
     said.add_note(told)
 }
 
+// Adds what may be the cause if a native call has no site: all places behind an edit move.
+fn add_moved(
+    alloc: Global,
+    notes: &Notes,
+    place: u32,
+    rule: RuleName,
+    said: &mut Said,
+) -> Result<(), NoMemory> {
+    let RuleName::Site = rule else {
+        return Ok(());
+    };
+    for site in notes.site.as_slice() {
+        if site.place == place {
+            return Ok(());
+        }
+    }
+    said.add(String::from_str(
+        alloc,
+        "an edit of the source moves all places behind it; ebc_notes finds them by labels: docs/LABELS.md",
+    )?)
+}
+
 // What is said of an image that is refused at a place by a rule, and of what stands before the instruction there.
 fn told_of(
     answer: &Answer,
@@ -181,11 +204,12 @@ fn told_of(
     };
     let mut said = match said_of(&refused)? {
         Some(said) => said,
-        None => Said::only(alloc, String::new(alloc)),
+        None => rule_said(answer, rule)?,
     };
     if let Some(at) = at {
         add_before(alloc, read.image, read.notes, at, rule, &mut said)?;
     }
+    add_moved(alloc, read.notes, place, rule, &mut said)?;
     if !said.key.is_empty() {
         add_key(answer, read.text, &mut said)?;
     }
@@ -224,29 +248,6 @@ fn before_place(
     Ok(before(image, notes, place))
 }
 
-// Where a refusal stands in the first line: of `shape`, whose place is a number of a shape, nowhere.
-fn place_at(alloc: Global, place: u32, rule: RuleName, notes: &Notes) -> Result<String, NoMemory> {
-    if let RuleName::Shape = rule {
-        return Ok(String::new(alloc));
-    }
-    let at = place_text(alloc, notes, place)?;
-    Ok(format!(in alloc; ": {at}")?)
-}
-
-// Adds where the refusal stands, and its page.
-fn add_place(
-    alloc: Global,
-    notes: &Notes,
-    place: u32,
-    rule: RuleName,
-    said: &mut Said,
-) -> Result<(), NoMemory> {
-    said.at = place_at(alloc, place, rule, notes)?;
-    let name = rule_text(rule);
-    said.see = format!(in alloc; "docs/RULES.md, \"The verdict\", {name}")?;
-    Ok(())
-}
-
 // What is said of a refused image that was read.
 fn told_read(answer: &Answer, read: &Read, place: u32, rule: RuleName) -> Result<Said, NoMemory>
     requires image { IsImage read.now.image.now }
@@ -254,43 +255,32 @@ fn told_read(answer: &Answer, read: &Read, place: u32, rule: RuleName) -> Result
 {
     let at = before_place(answer, read.image, read.notes, place)?;
     let mut said = told_of(answer, read, place, rule, at.as_ref())?;
-    add_place(answer.alloc, read.notes, place, rule, &mut said)?;
+    said.see = rule_page(answer, rule)?;
     Ok(said)
 }
 
-// What is said of a refused image, whose notes are read.
-fn refused_image(
+/// What is said of a refusal of `check IMAGE NOTES`, or of `infer`, by the notes and their text; the rule alone if the image wasn't kept.
+pub(crate) fn image_said(
     answer: &Answer,
+    notes: &Notes,
+    text: &[u8],
     place: u32,
     rule: RuleName,
-    image: &Image,
     folder: &mut MemFolder,
-) -> Result<Option<Said>, NoMemory>
-    requires { IsImage image.now }
+) -> Result<Said, NoMemory>
+    requires { IsNotes notes.now }
 {
-    match read_with_bytes::<Notes, MemFolder>(answer.alloc, folder, 2, answer.word(2)) {
-        Ok((notes, text)) => {
-            let read = Read {
-                image,
-                notes: &notes,
-                text: text.as_slice(),
-            };
-            Ok(Some(told_read(answer, &read, place, rule)?))
-        }
-        Err(_) => Ok(None),
-    }
-}
-
-/// What is said of a refusal of `check IMAGE NOTES`, or of `infer`; none if the files weren't kept.
-pub(crate) fn refused_said(
-    answer: &Answer,
-    place: u32,
-    rule: RuleName,
-    folder: &mut MemFolder,
-) -> Result<Option<Said>, NoMemory> {
     match read_as::<Image, MemFolder>(answer.alloc, folder, 1, answer.word(1)) {
-        Ok(image) => refused_image(answer, place, rule, &image, folder),
-        Err(_) => Ok(None),
+        Ok(image) => {
+            let read = Read {
+                image: &image,
+                notes,
+                text,
+            };
+            told_read(answer, &read, place, rule)
+        }
+        Err(End::NoMemory) => Err(NoMemory),
+        Err(_) => rule_said(answer, rule),
     }
 }
 
@@ -312,21 +302,8 @@ fn code_text(code: &[u8], rule: RuleName) -> &'static str {
     }
 }
 
-/// What is said of a refusal of `check CODE`; none if the file wasn't kept.
-pub(crate) fn code_said(
-    answer: &Answer,
-    place: u32,
-    rule: RuleName,
-    folder: &mut MemFolder,
-) -> Result<Option<Said>, NoMemory> {
-    let alloc = answer.alloc;
-    let Some(bytes) = answer.bytes_of(1, folder) else {
-        return Ok(None);
-    };
-    let code = bytes.as_slice();
-    let what = String::from_str(alloc, code_text(code, rule))?;
-    let at = format!(in alloc; ":0x{place:x}")?;
-    let mut said = Said::at_place(alloc, at, what, "docs/PLAIN.md, \"The check\"")?;
+// Adds the line of the instruction at a place of raw code, if one decodes there.
+fn add_code(alloc: Global, code: &[u8], place: u32, said: &mut Said) -> Result<(), NoMemory> {
     let offset = place as usize;
     if offset <= code.len() && !code.starts_with(b"MZ") {
         if let Ok((insn, _)) = decode(code, offset) {
@@ -334,5 +311,23 @@ pub(crate) fn code_said(
             said.add(format!(in alloc; "0x{place:x} {line}")?)?;
         }
     }
-    Ok(Some(said))
+    Ok(())
+}
+
+/// What is said of a refusal of `check CODE`; the rule alone if the file wasn't kept.
+pub(crate) fn code_said(
+    answer: &Answer,
+    place: u32,
+    rule: RuleName,
+    folder: &mut MemFolder,
+) -> Result<Said, NoMemory> {
+    let alloc = answer.alloc;
+    let Some(bytes) = answer.bytes_of(1, folder)? else {
+        return rule_said(answer, rule);
+    };
+    let code = bytes.as_slice();
+    let mut said = Said::only(alloc, String::from_str(alloc, code_text(code, rule))?);
+    said.see = rule_page(answer, rule)?;
+    add_code(alloc, code, place, &mut said)?;
+    Ok(said)
 }

@@ -6,11 +6,12 @@ ghost use Rattle.explain.specs.Drivers.{IsDriver};
 
 use crate::answer::Answer;
 use crate::driver::Driver;
+use crate::heads::place_text;
 use bind_texts::read_binds;
 use ebc_base::NoMemory;
 use ebc_decode::decode;
 use ebc_outside::MemFolder;
-use explain_base::{Said, listing_text, place_text};
+use explain_base::{Said, listing_text};
 use explain_texts::{Scripted, ScriptedPair, Width, pair_said, run_said, twin_said};
 use file_inputs::read_as;
 use note_types::{Notes, Spot};
@@ -33,7 +34,9 @@ fn driver_of(answer: &Answer, first: usize, folder: &mut MemFolder) -> Option<Dr
     let Ok(notes) = read_as::<Notes, MemFolder>(alloc, folder, 1, answer.word(number)) else {
         return None;
     };
-    let text = answer.bytes_of(first.saturating_add(2), folder)?;
+    let Ok(Some(text)) = answer.bytes_of(first.saturating_add(2), folder) else {
+        return None;
+    };
     let Ok(script) = read_script(alloc, text.as_slice(), &notes) else {
         return None;
     };
@@ -185,7 +188,7 @@ fn of_drivers(
     requires b { IsDriver b.now }
 {
     let alloc = answer.alloc;
-    let Some(bytes) = answer.bytes_of(7, folder) else {
+    let Some(bytes) = answer.bytes_of(7, folder)? else {
         return Ok(Vec::new(alloc));
     };
     match read_binds(alloc, bytes.as_slice(), &a.notes, &b.notes) {
@@ -298,14 +301,19 @@ fn add_ends(alloc: Global, driver: &Driver, step: u64, said: &mut Said) -> Resul
     said.add(format!(in alloc; "at width 64 then {at8}")?)
 }
 
+// What is said of two runs that first differ after so many steps.
+fn parting_said(alloc: Global, step: u64) -> Result<Said, NoMemory> {
+    let what = format!(in alloc; "the two runs differ after step {step}, and not before")?;
+    let page = "docs/HOST.md, \"A run that parts\"";
+    Said::at_place(alloc, String::new(alloc), what, page)
+}
+
 // What is said of the two runs of a driver that first differ after so many steps.
 fn of_parting(answer: &Answer, step: u64, driver: &Driver) -> Result<Said, NoMemory>
     requires { IsDriver driver.now }
 {
     let alloc = answer.alloc;
-    let what = format!(in alloc; "the two runs differ after step {step}, and not before")?;
-    let page = "docs/HOST.md, \"A run that parts\"";
-    let mut said = Said::at_place(alloc, String::new(alloc), what, page)?;
+    let mut said = parting_said(alloc, step)?;
     said.file.push_str(answer.word(1))?;
     let spot = spot_after(alloc, driver, step.saturating_sub(1))?;
     add_spot(alloc, driver, spot, &mut said)?;
@@ -313,17 +321,17 @@ fn of_parting(answer: &Answer, step: u64, driver: &Driver) -> Result<Said, NoMem
     Ok(said)
 }
 
-/// What is said of the two runs of `twin` that first differ after so many steps; none if the files weren't kept.
+/// What is said of two runs that first differ after so many steps: of those of `twin` where they stand, if the files were kept.
 pub(crate) fn differ_said(
     answer: &Answer,
     step: u64,
     folder: &mut MemFolder,
-) -> Result<Option<Said>, NoMemory> {
+) -> Result<Said, NoMemory> {
     if answer.word(0) != "twin" {
-        return Ok(None);
+        return parting_said(answer.alloc, step);
     }
     match driver_of(answer, 1, folder) {
-        Some(driver) => Ok(Some(of_parting(answer, step, &driver)?)),
-        None => Ok(None),
+        Some(driver) => of_parting(answer, step, &driver),
+        None => parting_said(answer.alloc, step),
     }
 }

@@ -67,6 +67,7 @@ fn usage(answer: &Answer, slots: &[Slot]) -> Result<String, NoMemory> {
         }
         Program::EbcPlaces => text.push_str(" IMAGE")?,
         Program::EbcNotes => text.push_str(" PLAN, or PLAN NOTES")?,
+        Program::EbcLint => text.push_str(" IMAGE NOTES")?,
     }
     Ok(text)
 }
@@ -90,14 +91,16 @@ fn unknown(answer: &Answer) -> Result<Said, NoMemory> {
 fn miscounted(answer: &Answer, slots: &[Slot]) -> Result<Said, NoMemory> {
     let alloc = answer.alloc;
     let given = answer.words.len().saturating_sub(answer.skipped());
+    let words = if given == 1 { "word" } else { "words" };
     let wanted = slots.len();
     let what = match answer.program {
         Program::Ebc => {
             let command = answer.word(0);
-            format!(in alloc; "{given} words after `{command}`; wanted: {wanted}")?
+            format!(in alloc; "{given} {words} after `{command}`; wanted: {wanted}")?
         }
-        Program::EbcPlaces => format!(in alloc; "{given} words; wanted: 1")?,
-        Program::EbcNotes => format!(in alloc; "{given} words; wanted: 1 or 2")?,
+        Program::EbcPlaces => format!(in alloc; "{given} {words}; wanted: 1")?,
+        Program::EbcNotes => format!(in alloc; "{given} {words}; wanted: 1 or 2")?,
+        Program::EbcLint => format!(in alloc; "{given} {words}; wanted: 2")?,
     };
     let mut said = Said::only(alloc, what);
     said.add(usage(answer, slots)?)?;
@@ -142,6 +145,7 @@ pub(crate) fn words_said(answer: &Answer) -> Result<Said, NoMemory> {
         Program::Ebc => "docs/COMMANDS.md, \"Commands\"",
         Program::EbcPlaces => "docs/COMMANDS.md, \"The places of an image\"",
         Program::EbcNotes => "docs/LABELS.md, \"What is answered\"",
+        Program::EbcLint => "docs/FIRMWARE.md, \"Warnings\"",
     };
     said.see.push_str(page)?;
     Ok(said)
