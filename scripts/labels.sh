@@ -23,6 +23,12 @@ row() {
   compare "$1"
 }
 answer() { "$EBC_NOTES" "$@" 2>/dev/null; echo "status $?"; }
+# The row of this name: what the words make `ebc_notes` say on standard error.
+said() {
+  cat >wanted
+  "$EBC_NOTES" "${@:2}" 2>found >/dev/null
+  compare "$1"
+}
 compare() { cmp -s wanted found || fail "$1"$'\n'"$(diff wanted found | head -n 12)"; }
 # The same of lines in one word.
 line() { row "$1" "$2" "${@:4}" <<<"$3"; }
@@ -423,11 +429,16 @@ files() {
 
 # The faults of linking, which are told before those of notes.
 links() {
+  local copy
   not_linked 'a name that no object defines' 'undefined other' main a.obj
   not_linked 'an entry that is not global' 'entry part' part a.obj b.obj
   not_linked 'two of one name' 'twice main' main a.obj b.obj driver.obj
   source_of far '.global main | main: | JMP8 far | RET | .data | far: .dq 0'
   not_linked 'a distance too far' 'far 4097' main far.obj
+  source_of small '.global main | main: | RET'
+  source_of big '.data | .zero 1000000'
+  for copy in 1 2 3 4 5; do cp big.obj "big$copy.obj"; done
+  not_linked 'an image of 5 MB' 'size -' main small.obj big{1..5}.obj
 }
 not_linked() { plan_of "${@:3}" >p; line "$1" 3 "bad p $2" p n; }
 
@@ -435,8 +446,21 @@ not_linked() { plan_of "${@:3}" >p; line "$1" 3 "bad p $2" p n; }
 refusals() {
   sed 's/"next 1 0 /"next 0 2 /' driver.labels >n
   line 'a shape whose fields overlap' 1 'refused 00000001 shape' driver.plan n
+  said 'what is said of a shape' driver.plan n <<'.'
+n: error: shape: where a pointer has 4 bytes or 8, fields overlap or pass the size, or there is none
+  see docs/LABELS.md, "A refusal", and docs/RULES.md, "The verdict", shape
+.
   sed 's/^name = "tick"/&\nend = 4169/' driver.labels >n
   line 'an odd end' 1 $'refused 00001044 function\nat tick' driver.plan n
+  said 'what is said of an end' driver.plan n <<'.'
+n: 0x1044: error: function: a place or end doesn't fit the image, or the image is entered elsewhere
+  see docs/LABELS.md, "A refusal", and docs/RULES.md, "The verdict", function
+.
+  sed '1s/^/bogus = 1\n/' driver.labels >n
+  said 'what is said of a fault' driver.plan n <<'.'
+n: error: NOTES has the fault kind; the answer names the key, and where it stands
+  see docs/LABELS.md, "What is answered"
+.
   awk '/^\[\[/ { out = /static/ } !out' least.labels >n
   line 'no static object where MOVREL leads' 1 $'refused 0000100e address\nat main+14\nregs R7 thunk:0\nstack\nwritten\nmade 1' own.plan n
   sed 's/^name = "main"/&\nlevel = 0/' least.labels >n
@@ -467,12 +491,9 @@ flat() {
   line '4,097 functions' 3 'bad n range function' flat.plan n
 }
 
-# As many points as complete notes of 1 MiB have, one more, and more than notes of version 1 may have.
+# As many points as complete notes of 1 MiB have, in 1,048,516 bytes, one more, and more than notes of version 1 may have.
 points() {
-  local most=8192 step=8192
-  while step=$((step / 2)); [ $step -gt 0 ]; do
-    [ "$(pointed $((most + step)) | wc -c)" -le 1048576 ] && most=$((most + step))
-  done
+  local most=15461
   lines '[[function]] | name = "main"' >n
   plan_of main jumps.obj >jumps.plan
   jumps $most

@@ -1,6 +1,8 @@
 -- For proofs: the answer to the words of `ebc_notes`. docs/LABELS.md, "What is answered".
-use Rattle.std.specs.Prelude.{◌≡◌, ◌↔◌, ◌≤◌, ℕ, List, ◌++◌, length, Option, None, Result, Ok, Err, All, string_bytes}
+use Rattle.std.specs.Prelude.{◌≡◌, ◌↔◌, ◌≤◌, ℕ, List, [], ◌++◌, length, Option, None, Result, Ok, Err, All, string_bytes}
+use Rattle.ebc_link.specs.declared.plan.LinkPlan.{LinkPlan}
 use Rattle.ebc_object.specs.Objects.{IsObject}
+use Rattle.ebc_object.specs.declared.object.Object.{Object}
 use Rattle.ebc_outside.specs.Files.{AppendsPart, Files}
 use Rattle.label_places.specs.Labels.{labels_of}
 use Rattle.label_places.specs.Sought.{place_by}
@@ -20,7 +22,7 @@ use Rattle.cli_base.specs.Outputs.{printed, prints, text_of, written_name}
 use Rattle.cli_base.specs.Readings.{AsksPart, FileReading, MissingHasCause, large_reply}
 use Rattle.file_inputs.specs.Faults.{key_path, toml_fault_number, toml_fault_text}
 use Rattle.label_notes.specs.Maps.{IsMap}
-use Rattle.label_notes.specs.Requests.{files_named}
+use Rattle.label_notes.specs.Requests.{files_named, request_of}
 use Rattle.label_notes.specs.declared.request.Request.{Request}
 use Rattle.label_notes.specs.declared.request.Request.TheVariants as requests
 
@@ -72,6 +74,13 @@ pub record LeavesPart (run : FileReading Request) (before now : Option (List ℕ
   pub reply : Reply
   pub answer : IsReplyOf run.value reply
   pub part : AppendsPart (text_of reply.output) before now
+
+-- The words ask for a map, and the plan's objects have no label.
+pub record AsksNoLabels (words : List (List ℕ)) (files : Files) : Type 0 where
+  pub plan : LinkPlan
+  pub objects : List Object
+  pub asked : (request_of words files).value ≡ Ok (requests.Map plan objects)
+  pub none : labels_of objects ≡ []
 
 -- ---- what the steps promise
 

@@ -4,7 +4,7 @@ ghost use Rattle.ebc_outside.specs.Counts.{Rose};
 ghost use Rattle.cli_base.specs.Outcomes.{IsAnswer, ReadsAll};
 ghost use Rattle.cli_base.specs.Readings.{AsksPart, Follows, IfStop};
 ghost use Rattle.cli_base.specs.Words.{word_bytes};
-ghost use Rattle.label_notes.specs.Answers.{Answers, AnswersWords, CanBeReplied, Decides, LeavesPart};
+ghost use Rattle.label_notes.specs.Answers.{Answers, AnswersWords, AsksNoLabels, CanBeReplied, Decides, LeavesPart};
 ghost use Rattle.label_notes.specs.Requests.{files_named, request_of, usage_reply};
 
 use crate::reading::{files_named, read_map, read_notes};
@@ -31,6 +31,10 @@ pub fn notes<F: Folder, O: Sink>(
         ReadsAll result → F.asked folder.new ≡ F.asked folder.old ++ (request_of (word_bytes words.now) files).asked) }
     ensures asked_part { IfSome (F.contents folder.old) (λ files.
         AsksPart (F.asked folder.old) (request_of (word_bytes words.now) files).asked (F.asked folder.new)) }
+
+    // Where a plan's objects have no label, nothing is put for the map, and then no fault of the output is told.
+    ensures unput { IfSome (F.contents folder.old) (λ files. AsksNoLabels (word_bytes words.now) files → out.new ≡ out.old) }
+    ensures untold { IfSome (F.contents folder.old) (λ files. AsksNoLabels (word_bytes words.now) files → result ≢ Outcome.WriteFault) }
 
     // No file changes, and a text of which a part was printed is that of an answer.
     ensures contents { F.contents folder.new ≡ F.contents folder.old }

@@ -15,6 +15,8 @@
 //! - `asked`: the files asked for are the plan, its objects and the text, in this order, also where a put failed.
 //!   `asked_part`: with every outcome a first part of them is asked for, and no other.
 //! - `uncounted`: the count of failed reads stays as it was, unless the outcome is ReadFault.
+//! - `unput`: where a plan's objects have no label, the map puts nothing. `untold`: and then the outcome is never
+//!   WriteFault.
 //! - `write_fault_leaves`: where the put fails, a first part of a reply's text may have been printed.
 //!
 //! And whatever the folder tells:
@@ -27,8 +29,7 @@
 //! - `read_fault_leaves`: where a read failed, the output is as it was. `no_memory_leaves`: where memory ran out,
 //!   nothing was printed.
 //!
-//! No clause says when a refusal, `large`, or a fault that is no label's comes, nor that nothing is put for a plan
-//! without labels.
+//! No clause says when a refusal, `large`, or a fault that is no label's comes.
 //!
 //! No clause says what stands behind the path of a fault, nor below the line of a refusal: the label, the line and
 //! column in the text, the label before the place, and the lines of the state.

@@ -2,6 +2,7 @@
 
 ghost use Rattle.std.specs.Prelude.{◌≡◌};
 ghost use Rattle.ebc_insn.specs.Spelling.{WellFormed};
+ghost use Rattle.stack_needs.specs.Depths.{after, is_r0, no_depth, with_bytes, without};
 
 use ebc_insn::{Insn, Operand, Size};
 use note_types::Pair;
@@ -26,12 +27,16 @@ fn unsigned(bytes: i64) -> u64 {
 
 impl Depth {
     /// Nothing on the stack.
-    pub fn none() -> Depth {
+    pub fn none() -> Depth
+        ensures { result ≡ no_depth }
+    {
         Depth { at4: 0, at8: 0 }
     }
 
     /// So many bytes more, at each width.
-    pub fn with(self, at4: i64, at8: i64) -> Depth {
+    pub fn with(self, at4: i64, at8: i64) -> Depth
+        ensures { result ≡ with_bytes self at4 at8 }
+    {
         Depth {
             at4: self.at4.saturating_add(at4),
             at8: self.at8.saturating_add(at8),
@@ -63,7 +68,9 @@ impl Depth {
     }
 
     // What is left where R0 moves up by a distance.
-    fn without(self, d: Distance) -> Depth {
+    fn without(self, d: Distance) -> Depth
+        ensures { result ≡ without self d }
+    {
         let at4 = d.n.saturating_mul(4).saturating_add(d.c);
         let at8 = d.n.saturating_mul(8).saturating_add(d.c);
         Depth {
@@ -74,13 +81,17 @@ impl Depth {
 }
 
 // An operand that is R0 itself.
-fn is_r0(op: &Operand) -> bool {
+fn is_r0(op: &Operand) -> bool
+    ensures { result ≡ is_r0 op.now }
+{
     op.reg == 0 && !op.indirect
 }
 
 /// How much lies on the stack after an instruction.
+#[tactic(auto, unfolding(crate::specs::Depths::after))]
 pub(crate) fn after(depth: Depth, i: &Insn) -> Depth
     requires { WellFormed i.now }
+    ensures { result ≡ after depth i.now }
 {
     match i {
         Insn::PushNatural { .. } => depth.with(4, 8),

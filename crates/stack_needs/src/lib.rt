@@ -3,8 +3,11 @@
 //!
 //! Promises:
 //!
-//! - `find_needs`: a level and a need for each function, in their order, or why there are none (`NotFound`). It goes
-//!   over notes as they are read (`IsNotes`), whose functions keep their rule (`FunctionHolds`), and always returns.
+//! - `find_needs`: a level and a need for each function, in their order (`count`), or why there are none (`cause`). It
+//!   goes over notes as they are read (`IsNotes`), whose functions keep their rule (`FunctionHolds`), and always
+//!   returns. These are the causes (`HasCause`):
+//!   - Uneven: two ways through a function's code come to the place with different amounts on the stack (`IsUnevenIn`).
+//!   - Recursion: the function's calls lead back to it (`IsRecursive`).
 //!
 //! No clause says which level and which need.
 #![tactic(auto)]

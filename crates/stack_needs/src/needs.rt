@@ -1,10 +1,12 @@
 //! Levels and needs: a function has the least level above those that it calls, and needs what lies on its stack at most,
 //! its calls included.
 
-ghost use Rattle.std.specs.Prelude.{◌≡◌, ℕ, IfOk, length};
+ghost use Rattle.std.specs.Prelude.{◌≡◌, ℕ, IfErr, IfOk, length};
 ghost use Rattle.note_types.specs.Records.{IsNotes};
 ghost use Rattle.pe_image.specs.Images.{IsImage};
 ghost use Rattle.rules_image.specs.Images.{FunctionHolds};
+ghost use Rattle.stack_needs.specs.Calls.{Calls, HasCause};
+ghost use Rattle.stack_needs.specs.Walks.{Sees};
 
 use crate::order::callees_first;
 use crate::outcome::{Found, Known, NotFound};
@@ -21,6 +23,8 @@ fn walk_all(alloc: Global, image: &Image, notes: &Notes) -> Result<Vec<Walked>, 
     requires image { IsImage image.now }
     requires notes { IsNotes notes.now }
     requires functions { (k : ℕ) → FunctionHolds image.now notes.now k }
+    ensures calls { IfOk result (λ walks. (k j : ℕ) → Sees walks.items k j → Calls image.now notes.now k j) }
+    ensures cause { IfErr result (HasCause image.now notes.now) }
 {
     let mut walks = Vec::new(alloc);
     for f in notes.function.as_slice() {
@@ -31,7 +35,8 @@ fn walk_all(alloc: Global, image: &Image, notes: &Notes) -> Result<Vec<Walked>, 
 
 // What the notes of functions say.
 fn written(alloc: Global, functions: &[FnNote]) -> Result<Vec<Found>, NotFound>
-    ensures { IfOk result (λ found. length found.items ≡ length functions.now) }
+    ensures count { IfOk result (λ found. length found.items ≡ length functions.now) }
+    ensures ends { IfErr result (λ end. end ≡ NotFound.NoMemory) }
 {
     let mut found = Vec::new(alloc);
     for f in functions {
@@ -108,7 +113,8 @@ pub fn find_needs(
     requires image { IsImage image.now }
     requires notes { IsNotes notes.now }
     requires functions { (k : ℕ) → FunctionHolds image.now notes.now k }
-    ensures { IfOk result (λ found. length found.items ≡ length notes.now.function) }
+    ensures count { IfOk result (λ found. length found.items ≡ length notes.now.function) }
+    ensures cause { IfErr result (HasCause image.now notes.now) }
 {
     let walks = walk_all(alloc, image, notes)?;
     let mut found = written(alloc, notes.function.as_slice())?;

@@ -1,5 +1,8 @@
 //! An order of functions in which those that a function calls come before it.
 
+ghost use Rattle.std.specs.Prelude.{◌≡◌, ◌≢◌, ◌<◌, ◌++◌, ◌∷◌, [], ℕ, IfErr, IfOk, IfSome, OnOk, Some, length, slice_get};
+ghost use Rattle.stack_needs.specs.Walks.{EndsSearch, IsStack, LastCalls, Sees, functions_of};
+
 use crate::outcome::NotFound;
 use crate::walk::Walked;
 use std::alloc::Global;
@@ -23,29 +26,44 @@ struct Visit {
 #[derive(Drop)]
 struct Search {
     marks: Vec<Mark>,
-    open: Vec<Visit>,
+    visits: Vec<Visit>,
     order: Vec<usize>,
 }
 
 impl Search {
+    // Begins to look at the calls of a new function.
+    fn begin(&mut self, walks: &[Walked], function: usize) -> Result<(), NotFound>
+        requires stack { IsStack (Sees walks.now) self.now.marks.items (functions_of self.now.visits.items) }
+        requires called { LastCalls (Sees walks.now) (functions_of self.now.visits.items) function }
+        requires within { function < length self.now.marks.items }
+        ensures stack { OnOk result (IsStack (Sees walks.now) self.new.marks.items (functions_of self.new.visits.items)) }
+        ensures ends { IfErr result (EndsSearch (Sees walks.now)) }
+    {
+        self.marks[function] = Mark::Open;
+        self.visits.push(Visit { function, calls: 0 })?;
+        Ok(())
+    }
+
     // Begins to look at the calls of a function, where it is new.
-    fn enter(&mut self, function: usize) -> Result<(), NotFound> {
-        if self.marks.len() <= function {
-            return Ok(());
-        }
-        match self.marks[function] {
-            Mark::New => {
-                self.marks[function] = Mark::Open;
-                self.open.push(Visit { function, calls: 0 })?;
-                Ok(())
-            }
-            Mark::Open => Err(NotFound::Recursion { function }),
-            Mark::Done => Ok(()),
+    fn enter(&mut self, walks: &[Walked], function: usize) -> Result<(), NotFound>
+        requires stack { IsStack (Sees walks.now) self.now.marks.items (functions_of self.now.visits.items) }
+        requires called { LastCalls (Sees walks.now) (functions_of self.now.visits.items) function }
+        ensures stack { OnOk result (IsStack (Sees walks.now) self.new.marks.items (functions_of self.new.visits.items)) }
+        ensures ends { IfErr result (EndsSearch (Sees walks.now)) }
+    {
+        match self.marks.get(function) {
+            Some(Mark::New) => self.begin(walks, function),
+            Some(Mark::Open) => Err(NotFound::Recursion { function }),
+            Some(Mark::Done) | None => Ok(()),
         }
     }
 
     // Takes a function into the order.
-    fn leave(&mut self, function: usize) -> Result<(), NotFound> {
+    fn leave(&mut self, walks: &[Walked], function: usize) -> Result<(), NotFound>
+        requires stack { IsStack (Sees walks.now) self.now.marks.items (functions_of self.now.visits.items ++ function ∷ []) }
+        ensures stack { OnOk result (IsStack (Sees walks.now) self.new.marks.items (functions_of self.new.visits.items)) }
+        ensures ends { IfErr result (EndsSearch (Sees walks.now)) }
+    {
         if function < self.marks.len() {
             self.marks[function] = Mark::Done;
         }
@@ -54,21 +72,29 @@ impl Search {
     }
 
     // Looks at the next call of a function, or leaves it where there is none.
-    fn go_on(&mut self, walks: &[Walked], visit: Visit) -> Result<(), NotFound> {
+    fn go_on(&mut self, walks: &[Walked], visit: Visit) -> Result<(), NotFound>
+        requires stack { IsStack (Sees walks.now) self.now.marks.items (functions_of self.now.visits.items ++ visit.function ∷ []) }
+        ensures stack { OnOk result (IsStack (Sees walks.now) self.new.marks.items (functions_of self.new.visits.items)) }
+        ensures ends { IfErr result (EndsSearch (Sees walks.now)) }
+    {
         let Some(callee) = callee(walks, visit) else {
-            return self.leave(visit.function);
+            return self.leave(walks, visit.function);
         };
-        self.open.push(Visit {
+        self.visits.push(Visit {
             function: visit.function,
             calls: visit.calls.saturating_add(1),
         })?;
-        self.enter(callee)
+        self.enter(walks, callee)
     }
 
     // Looks at calls, so many steps at most, until no function is open.
-    fn finish(&mut self, walks: &[Walked], steps: usize) -> Result<(), NotFound> {
+    fn finish(&mut self, walks: &[Walked], steps: usize) -> Result<(), NotFound>
+        requires stack { IsStack (Sees walks.now) self.now.marks.items (functions_of self.now.visits.items) }
+        ensures stack { OnOk result (IsStack (Sees walks.now) self.new.marks.items (functions_of self.new.visits.items)) }
+        ensures ends { IfErr result (EndsSearch (Sees walks.now)) }
+    {
         for _ in 0..steps {
-            let Some(visit) = self.open.pop() else {
+            let Some(visit) = self.visits.pop() else {
                 break;
             };
             self.go_on(walks, visit)?;
@@ -78,7 +104,9 @@ impl Search {
 }
 
 // The function that the next call of a function calls.
-fn callee(walks: &[Walked], visit: Visit) -> Option<usize> {
+fn callee(walks: &[Walked], visit: Visit) -> Option<usize>
+    ensures { IfSome result (Sees walks.now visit.function) }
+{
     let walked = walks.get(visit.function)?;
     let call = walked.calls.get(visit.calls)?;
     Some(call.function)
@@ -93,14 +121,24 @@ fn step_count(walks: &[Walked]) -> usize {
     count
 }
 
-// The first marks of so many functions: those that are known aren't looked at.
-fn marks(alloc: Global, count: usize, known: &[bool]) -> Result<Vec<Mark>, NotFound> {
+// The first mark of a function: one that is known isn't looked at.
+fn first_mark(known: Option<&bool>) -> Mark
+    ensures { result ≢ Mark.Open }
+{
+    match known {
+        Some(true) => Mark::Done,
+        _ => Mark::New,
+    }
+}
+
+// The first marks of so many functions.
+fn marks(alloc: Global, count: usize, known: &[bool]) -> Result<Vec<Mark>, NotFound>
+    ensures none { IfOk result (λ marks. (k : ℕ) → slice_get marks.items k ≢ Some Mark.Open) }
+    ensures ends { IfErr result (λ end. end ≡ NotFound.NoMemory) }
+{
     let mut marks = Vec::new(alloc);
     for function in 0..count {
-        marks.push(match known.get(function) {
-            Some(true) => Mark::Done,
-            _ => Mark::New,
-        })?;
+        marks.push(first_mark(known.get(function)))?;
     }
     Ok(marks)
 }
@@ -114,15 +152,19 @@ pub(crate) fn callees_first(
     alloc: Global,
     walks: &[Walked],
     known: &[bool],
-) -> Result<Vec<usize>, NotFound> {
+) -> Result<Vec<usize>, NotFound>
+    ensures { IfErr result (EndsSearch (Sees walks.now)) }
+{
     let steps = step_count(walks);
     let mut search = Search {
         marks: marks(alloc, walks.len(), known)?,
-        open: Vec::new(alloc),
+        visits: Vec::new(alloc),
         order: Vec::new(alloc),
     };
     for function in 0..walks.len() {
-        search.enter(function)?;
+        if search.visits.is_empty() {
+            search.enter(walks, function)?;
+        }
         search.finish(walks, steps)?;
     }
     Ok(search.order)

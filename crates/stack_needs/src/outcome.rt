@@ -1,5 +1,8 @@
 //! What notes say already, what is found, and why nothing is.
 
+ghost use Rattle.std.specs.Prelude.{◌≡◌};
+ghost use Rattle.stack_needs.specs.declared.outcome.NotFound.TheVariants as ends;
+
 use ebc_base::NoMemory;
 use note_types::Pair;
 use std::alloc::{AllocError, AllocFailed};
@@ -30,18 +33,24 @@ pub enum NotFound {
 }
 
 impl From<AllocError> for NotFound {
+    ghost from_gives = { λ _ e. e ≡ ends.NoMemory };
+
     fn from(_: AllocError) -> Self {
         NotFound::NoMemory
     }
 }
 
 impl<T: Drop> From<AllocFailed<T>> for NotFound {
+    ghost from_gives = { λ _ e. e ≡ ends.NoMemory };
+
     fn from(_: AllocFailed<T>) -> Self {
         NotFound::NoMemory
     }
 }
 
 impl From<NoMemory> for NotFound {
+    ghost from_gives = { λ _ e. e ≡ ends.NoMemory };
+
     fn from(_: NoMemory) -> Self {
         NotFound::NoMemory
     }

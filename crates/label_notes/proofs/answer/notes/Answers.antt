@@ -1,6 +1,6 @@
 use Rattle.cli_base.specs.Words.{word_bytes}
 use Rattle.label_notes.specs.Requests.{request_of}
-use Rattle.label_notes.proofs.AnswerLaws.{all-asked, answers, leaves-part, part-asked}
+use Rattle.label_notes.proofs.AnswerLaws.{all-asked, answers, leaves-part, part-asked, unput-then, untold-then}
 use Rattle.label_notes.proofs.answer.notes.Goals as goal
 
 pub returns-in-Ok-clause-answer : goal.returns-in-Ok-clause-answer
@@ -27,3 +27,10 @@ returns-in-Ok-clause-read_fault g c = λ fault. absurd (c.finish.ensures.read fa
 
 pub returns-in-Ok-clause-write_fault : goal.returns-in-Ok-clause-write_fault
 returns-in-Ok-clause-write_fault g c = c.finish.ensures.put_fault c.in-Ok.ensures.reply.output
+
+pub returns-in-Ok-clause-unput : goal.returns-in-Ok-clause-unput
+returns-in-Ok-clause-unput g c = unput-then _ (word_bytes c.args.words.now) _ _ _ _ _ c.in-Ok.ensures.decided c.finish.ensures.unput
+
+pub returns-in-Ok-clause-untold : goal.returns-in-Ok-clause-untold
+returns-in-Ok-clause-untold g c = untold-then _ (word_bytes c.args.words.now) _ _ _ _ c.in-Ok.ensures.decided
+    (λ empty fault. (c.finish.ensures.untold empty fault).0 c.in-Ok.ensures.reply.output)

@@ -1,0 +1,4 @@
+pub mod Depths
+pub mod Ways
+pub mod Calls
+pub mod Walks
