@@ -1,7 +1,7 @@
 -- The walk through a function: what holds where it has come, and before the next instruction.
 use Rattle.std.proofs.Common.{◌≡◌, ℕ, suc, ◌<◌, List, get_or, refl, sym, ap, subst, ◌∙◌}
-use Rattle.std.specs.Prelude.{Option, Ok, Some, slice_get}
-use Rattle.std.proofs.lemmas.Option.{get_or_from_slice_get, same_Some}
+use Rattle.std.specs.Prelude.{Option, None, Ok, Some, slice_get}
+use Rattle.std.proofs.lemmas.Option.{get_or_from_slice_get, none-some, same_Some}
 use Rattle.ebc_insn.specs.declared.Insn.{Insn}
 use Rattle.note_types.specs.declared.notes.FnNote.{FnNote}
 use Rattle.note_types.specs.declared.notes.Notes.{Notes}
@@ -10,11 +10,14 @@ use Rattle.pe_image.specs.declared.image.Image.{Image}
 use Rattle.rules_base.specs.declared.here.Here.{Here}
 use Rattle.rules_flow.specs.declared.successors.Successors.{Successors}
 use Rattle.rules_image.specs.Images.{IsDecoded}
+use Rattle.rules_image.proofs.Decoding.{decoded_once, spelled_at}
 use Rattle.state_walk.specs.declared.preceding.Before.{Before}
-use Rattle.state_walk.specs.Standing.{Decodes, HasInsnOf, HasStateOf, IsInsnOf, LeadsTo, StandsBefore}
+use Rattle.state_walk.specs.Standing.{Decodes, HasDecoded, HasInsnOf, HasStateOf, HasSuccessors, IsInsnOf, IsWholeOf, LeadsTo, StandsBefore}
 use Rattle.width_checker.specs.Rows.{here_at, row_of}
 use Rattle.width_checker.specs.StatesAt.{Comes, StateAt}
+use Rattle.width_checker.specs.Typed.{MeetsRules}
 use Rattle.width_checker.specs.Walks.{Arrives, ComesTo}
+use Rattle.width_checker.proofs.Leading.{OnePoint, state_of}
 use Rattle.width_checker.proofs.Walking.{state_there}
 
 -- ---- the instruction
@@ -24,6 +27,12 @@ pub decodes_some : (image : Image) (f : FnNote) (place : ℕ) (i : Insn) (next :
 decodes_some image f place i next d j m e =
     let same : (i, next) ≡ (j, m) = same_Some (i, next) (j, m) e in
     subst (λ (p : Insn × ℕ). IsDecoded image f place p.0 p.1) same d
+
+pub has_decoded_some : (image : Image) (f : FnNote) (place : ℕ) (i : Insn) (next : ℕ) → IsDecoded image f place i next
+    → HasDecoded image f place (Some (i, next))
+has_decoded_some image f place i next d j m e =
+    let same = decoded_once image f place i j next m d e in
+    ap (λ (x : Insn). Some (x, next)) same.0 ∙ ap (λ (n : ℕ). Some (j, n)) same.1
 
 -- ---- the walk
 
@@ -57,13 +66,14 @@ falls_on image notes func f b x i next s l e within =
 
 -- what stands at a place at which a state arrives
 pub stands_at : (image : Image) (notes : Notes) (func : ℕ) (f : FnNote) (place : ℕ) (arrived : Option State) (b : Before)
-    → IsInsnOf image func f place b → b.arrived ≡ arrived → Arrives notes place arrived b.state
+    → IsInsnOf image func f place b → IsWholeOf image notes func f place b → b.arrived ≡ arrived → Arrives notes place arrived b.state
     → ComesTo image notes func f place arrived → StandsBefore image notes func f b
-stands_at image notes func f place arrived b insn is arrives comes =
+stands_at image notes func f place arrived b insn whole is arrives comes =
     let at : place ≡ b.place = sym insn.place_is in
     let came : arrived ≡ b.arrived = sym is in
     record {
       insn = subst (λ p. IsInsnOf image func f p b) at insn;
+      whole = subst (λ p. IsWholeOf image notes func f p b) at whole;
       comes = subst (ComesTo image notes func f b.place) came (subst (λ p. ComesTo image notes func f p arrived) at comes);
       state = subst (λ o. Arrives notes b.place o b.state) came (subst (λ p. Arrives notes p arrived b.state) at arrives);
     }
@@ -88,6 +98,34 @@ has_insn image notes func f place b there insn =
       subst (λ k. slice_get notes.function k ≡ Some f) number there,
       subst (λ k. IsInsnOf image k f place b) number insn,
     )
+
+-- ---- an instruction that meets its rules
+
+module _ (image : Image) (notes : Notes) (func : ℕ) (f : FnNote) (b : Before) (m : MeetsRules image notes func f b.place) where
+  -- it is the one that stands there
+  pub insn_there : IsWholeOf image notes func f b.place b → b.insn ≡ Some (m.insn, m.next)
+  insn_there w = w.insn m.insn m.next m.decode
+
+  pub next_there : IsWholeOf image notes func f b.place b → (i : Insn) (next : ℕ) → b.insn ≡ Some (i, next) → next ≡ m.next
+  next_there w i next e =
+      let same : (i, next) ≡ (m.insn, m.next) = same_Some (i, next) (m.insn, m.next) (sym e ∙ insn_there w) in
+      ap (λ (p : Insn × ℕ). p.1) same
+
+  pub none_missing : IsWholeOf image notes func f b.place b → b.insn ≡ None → ⊥
+  none_missing w e = none-some (m.insn, m.next) (sym e ∙ insn_there w)
+
+  -- its state is the one that stands there
+  pub meets_state : OnePoint notes → StandsBefore image notes func f b → b.state ≡ Some m.state
+  meets_state one s = (s.state m.state).1
+      (state_of image notes func f one s.comes.0 b.place b.arrived s.comes.1 m.state m.has_state)
+
+  -- so what it leads to is told
+  pub leads_told : OnePoint notes → StandsBefore image notes func f b → (leads : Option Successors) → HasSuccessors notes b leads
+      → leads ≡ Some m.successors
+  leads_told one s leads has =
+      has (here_at image func b.place m.next) m.insn m.next m.state m.successors
+      (s.whole.here m.insn m.next (insn_there s.whole) m.relocation) (insn_there s.whole) (meets_state one s)
+      (spelled_at image f b.place m.next m.insn m.decode).well_formed m.row
 
 -- whatever its state is
 pub with_state : (image : Image) (func : ℕ) (f : FnNote) (place : ℕ) (b : Before) (s : Option State) → IsInsnOf image func f place b

@@ -16,7 +16,12 @@
 //! `given` is the same with a state that its caller knows, as `infer` does where it is stuck. Its clauses are `insn`
 //! and that the state is the given one.
 //!
-//! `Before::leads` gives the states to which the instruction leads, by `row_of` of `width_checker`.
+//! `Before::leads` gives the states to which the instruction leads, by `row_of` of `width_checker` (`leads`), wherever
+//! there are such (`whole`).
+//!
+//! `Walk::start` and `Walk::next` go through a function of which the rule `function` holds (`IsWalk`). `stands`: what
+//! they give stands before an instruction of it (`StandsBefore`). `goes_on`: from an instruction that meets its rules
+//! the walk goes to the next one, and ends only at the function's end.
 //!
 //! Since when nothing is known of a register has no clause. It is advice for a sentence.
 #![tactic(auto)]
@@ -25,4 +30,4 @@ mod preceding;
 mod walk;
 
 pub use preceding::{Before, Since};
-pub use walk::{before, given};
+pub use walk::{Walk, before, given};

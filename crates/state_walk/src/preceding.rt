@@ -2,7 +2,7 @@
 
 ghost use Rattle.std.specs.Prelude.{◌<◌, IfSome};
 ghost use Rattle.note_types.specs.Records.{IsNotes};
-ghost use Rattle.state_walk.specs.Standing.{LeadsTo};
+ghost use Rattle.state_walk.specs.Standing.{HasSuccessors, LeadsTo};
 
 use ebc_insn::{Insn, well_formed};
 use note_infer::row;
@@ -46,7 +46,8 @@ impl Before {
     /// its row fails.
     pub fn leads(&self, notes: &Notes) -> Option<Successors>
         requires { IsNotes notes.now }
-        ensures { IfSome result (LeadsTo notes.now self.now) }
+        ensures leads { IfSome result (LeadsTo notes.now self.now) }
+        ensures whole { HasSuccessors notes.now self.now result }
     {
         let here = self.here?;
         let (insn, _) = self.insn?;

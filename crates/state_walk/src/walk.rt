@@ -6,7 +6,7 @@ ghost use Rattle.note_types.specs.declared.notes.FnNote.{FnNote};
 ghost use Rattle.pe_image.specs.Images.{IsImage};
 ghost use Rattle.rules_image.specs.Tables.{IsCodeOf};
 ghost use Rattle.width_checker.specs.Walks.{Arrives};
-ghost use Rattle.state_walk.specs.Standing.{Decodes, HasInsnOf, HasStateOf, IsInsnOf, IsWalk, StandsBefore, StandsHere};
+ghost use Rattle.state_walk.specs.Standing.{Decodes, GoesOn, HasDecoded, HasHere, HasInsnOf, HasStateOf, IsInsnOf, IsWalk, IsWholeOf, StandsBefore, StandsHere};
 
 use crate::preceding::{Before, Since, since_then};
 use ebc_decode::decode;
@@ -40,13 +40,13 @@ fn copied(state: &Option<State>) -> Option<State>
     }
 }
 
-// A function of an image under notes, and its number.
+/// A walk through a function of an image under notes, by its number.
 #[derive(Clone, Copy)]
-struct Walk<'a> {
-    image: &'a Image,
-    notes: &'a Notes,
-    func: u32,
-    f: &'a FnNote,
+pub struct Walk<'a> {
+    pub image: &'a Image,
+    pub notes: &'a Notes,
+    pub func: u32,
+    pub f: &'a FnNote,
 }
 
 impl<'a> Walk<'a> {
@@ -56,7 +56,8 @@ impl<'a> Walk<'a> {
         requires from { self.now.f.now.place ≤ place }
         requires within { place < self.now.f.now.end }
         requires code { IsCodeOf self.now.image.now self.now.f.now code.now }
-        ensures { Decodes self.now.image.now self.now.f.now place result }
+        ensures decodes { Decodes self.now.image.now self.now.f.now place result }
+        ensures whole { HasDecoded self.now.image.now self.now.f.now place result }
     {
         match decode(code, (place - self.f.place) as usize) {
             Ok((insn, len)) => Some((insn, place + len as u32)),
@@ -68,7 +69,8 @@ impl<'a> Walk<'a> {
     fn here_at(&self, place: u32, insn: &Option<(Insn, u32)>) -> Option<Here>
         requires walk { IsWalk self.now.image.now self.now.notes.now self.now.func self.now.f.now }
         requires insn { Decodes self.now.image.now self.now.f.now place insn.now }
-        ensures { StandsHere self.now.image.now self.now.func place insn.now result }
+        ensures stands { StandsHere self.now.image.now self.now.func place insn.now result }
+        ensures whole { HasHere self.now.image.now self.now.notes.now self.now.func place insn.now result }
     {
         let Some((insn, next)) = insn else {
             return None;
@@ -91,6 +93,7 @@ impl<'a> Walk<'a> {
         requires from { self.now.f.now.place ≤ place }
         requires within { place < self.now.f.now.end }
         ensures insn { IsInsnOf self.now.image.now self.now.func self.now.f.now place result }
+        ensures whole { IsWholeOf self.now.image.now self.now.notes.now self.now.func self.now.f.now place result }
         ensures arrived { result.arrived ≡ arrived }
         ensures state { Arrives self.now.notes.now place arrived result.state }
     {
@@ -109,12 +112,24 @@ impl<'a> Walk<'a> {
         }
     }
 
-    // What stands before the next instruction of the function, where control falls through to it.
-    fn next(&self, b: &Before) -> Option<Before>
+    /// What stands before the function's first instruction.
+    pub fn start(&self) -> Before
+        requires walk { IsWalk self.now.image.now self.now.notes.now self.now.func self.now.f.now }
+        ensures stands { StandsBefore self.now.image.now self.now.notes.now self.now.func self.now.f.now result }
+        ensures place { result.place ≡ self.now.f.now.place }
+    {
+        let entry = entry_state(self.notes, self.func);
+        self.at(self.f.place, Some(entry), [Since::Entry; 8])
+    }
+
+    /// What stands before the next instruction of the function. `None` at its last one, and where the instruction breaks
+    /// a rule of its row.
+    pub fn next(&self, b: &Before) -> Option<Before>
         requires walk { IsWalk self.now.image.now self.now.notes.now self.now.func self.now.f.now }
         requires stands { StandsBefore self.now.image.now self.now.notes.now self.now.func self.now.f.now b.now }
         ensures stands { IfSome result (StandsBefore self.now.image.now self.now.notes.now self.now.func self.now.f.now) }
         ensures later { IfSome result (λ c. b.now.place < c.place) }
+        ensures goes_on { GoesOn self.now.image.now self.now.notes.now self.now.func self.now.f.now b.now.place result }
     {
         let (_, next) = b.insn?;
         if self.f.end <= next {
@@ -131,8 +146,7 @@ impl<'a> Walk<'a> {
         ensures insn { IfSome result (HasInsnOf self.now.image.now self.now.notes.now place) }
         ensures state { IfSome result (HasStateOf self.now.image.now self.now.notes.now place) }
     {
-        let entry = entry_state(self.notes, self.func);
-        let mut b = self.at(self.f.place, Some(entry), [Since::Entry; 8]);
+        let mut b = self.start();
         while b.place < place {
             b = self.next(&b)?;
         }

@@ -1,18 +1,7 @@
-use Rattle.std.proofs.Common.{sym, subst}
-use Rattle.std.specs.Prelude.{Some}
-use Rattle.width_checker.specs.Walks.{ComesTo}
-use Rattle.width_checker.proofs.Walking.{comes_start}
+use Rattle.std.proofs.Common.{subst}
 use Rattle.state_walk.specs.Standing.{IsInsnOf}
-use Rattle.state_walk.proofs.Standing.{has_insn, has_state, stands_at}
+use Rattle.state_walk.proofs.Standing.{has_insn, has_state}
 use Rattle.state_walk.proofs.walk.Walk.to.Goals as goal
-
-pub loop-b-init : goal.loop-b-init
-loop-b-init c =
-    let w = c.args.self.now in
-    stands_at w.image.now w.notes.now w.func w.f.now w.f.now.place (Some c.entry_state-entry.result) c.at-b.result
-    c.at-b.ensures.insn c.at-b.ensures.arrived c.at-b.ensures.state
-    (subst (λ s. ComesTo w.image.now w.notes.now w.func w.f.now w.f.now.place (Some s)) (sym c.entry_state-entry.ensures.value)
-    (comes_start w.image.now w.notes.now w.func w.f.now))
 
 pub returns-then-b-place-clause-insn : goal.returns-then-b-place-clause-insn
 returns-then-b-place-clause-insn c =
