@@ -1,0 +1,24 @@
+-- For proofs: the lines of the warnings of an image. docs/FIRMWARE.md, "Warnings".
+use Rattle.std.specs.Prelude.{ℕ, List, ◌++◌, codes}
+use Rattle.std.specs.List.{flat_map}
+use Rattle.image_warnings.specs.declared.warning.Kind.{Kind}
+use Rattle.image_warnings.specs.declared.warning.Kind.TheVariants as kinds
+use Rattle.image_warnings.specs.declared.warning.Warning.{Warning}
+use Rattle.run_texts.specs.RunTexts.{place_text}
+
+-- a kind by its name
+abbrev pub kind_text : Kind → List ℕ
+kind_text kinds.Status = codes "status"
+kind_text kinds.Popn = codes "popn"
+kind_text kinds.Divide = codes "divide"
+kind_text kinds.Shift = codes "shift"
+kind_text kinds.Compare = codes "compare"
+kind_text kinds.Break = codes "break"
+
+-- the line of a warning
+unfoldable pub warning_line : Warning → List ℕ
+warning_line w = codes "warning " ++ (place_text w.place ++ (codes " " ++ (kind_text w.kind ++ codes "\n")))
+
+-- the lines of warnings
+abbrev pub warning_lines : List Warning → List ℕ
+warning_lines warnings = flat_map warning_line warnings

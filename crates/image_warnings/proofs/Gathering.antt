@@ -1,0 +1,157 @@
+-- The warnings of an image, gathered place by place.
+use Rattle.std.proofs.Common.{◌≡◌, ℕ, ◌+◌, ◌*◌, ◌<◌, ◌≤◌, List, [], ◌++◌, length, sym, subst, ◌∙◌, ⊎_elim, arith}
+use Rattle.std.specs.Prelude.{Bool, true, Some, slice_get}
+use Rattle.std.specs.List.{AllPairs, Contains}
+use Rattle.std.proofs.lemmas.Bool.{cases_lt}
+use Rattle.std.proofs.lemmas.List.Elements.{Contains-append_cases, Contains-append_left, Contains-append_right}
+use Rattle.std.proofs.lemmas.Option.{same_Some, slice_get_within}
+use Rattle.ebc_insn.specs.declared.Insn.{Insn}
+use Rattle.note_types.specs.declared.notes.FnNote.{FnNote}
+use Rattle.note_types.specs.declared.notes.Notes.{Notes}
+use Rattle.note_types.specs.declared.state.State.{State}
+use Rattle.pe_image.specs.declared.image.Image.{Image}
+use Rattle.rules_image.specs.Images.{FunctionHolds, IsDecoded}
+use Rattle.rules_image.specs.Places.{IsPlaceOf, Leads}
+use Rattle.rules_image.proofs.Decoding.{decoded_once}
+use Rattle.width_checker.specs.StatesAt.{StateAt}
+use Rattle.width_checker.proofs.Deciding.{function_before, place_within}
+use Rattle.width_checker.proofs.Leading.{OnePoint, decode_later, leads_of, places_before, start_first, state_one}
+use Rattle.image_warnings.specs.Departures.{departs}
+use Rattle.image_warnings.specs.Uncut.{UncutAt}
+use Rattle.image_warnings.specs.Warned.{AreWarnings, IsWarned, IsWarnedIn, Precedes, all_due, turn, warnings_at}
+use Rattle.image_warnings.specs.Walks.{WarnedBefore, WarnedTo}
+use Rattle.image_warnings.specs.declared.warning.Kind.{Kind}
+use Rattle.image_warnings.specs.declared.warning.Warning.{Warning}
+use Rattle.image_warnings.proofs.Ordering.{Ordered, due_sound, due_whole, no_element, turn_small, with_all}
+use Rattle.image_warnings.proofs.UncutLaws.{uncut_at_one}
+
+-- ---- one place
+
+-- a place at which something departs is one of the function's
+place_of : (image : Image) (notes : Notes) (func : ℕ) (f : FnNote) (w : Warning) → IsWarnedIn image notes func f w
+    → IsPlaceOf image f w.place
+place_of image notes func f w i =
+    let s = i.has_state in (s.count, leads_of image notes func f s.count w.place s.come s.comes)
+
+-- warnings in order are so before a place
+ordered_to : (place : ℕ) (ws : List Warning) → AllPairs Precedes ws → ((w : Warning) → Contains ws w → w.place < place)
+    → Ordered (8 * place) ws
+ordered_to place ws pairs below = record {
+  pairs = pairs;
+  below = λ w c. let h : w.place < place = below w c in let t : turn w.kind < 8 = turn_small w.kind in omega arith;
+}
+
+-- the warnings of one more place are gathered
+module _ (image : Image) (notes : Notes) (one : OnePoint notes) (func : ℕ) (f : FnNote) (there : slice_get notes.function func ≡ Some f)
+    (place next n : ℕ) (leads : Leads image f n place) (i : Insn) (decode : IsDecoded image f place i next) (s : State)
+    (has_state : StateAt image notes func f place s) (uncut : Bool) (is_uncut : UncutAt image f place uncut) where
+  -- whether something departs there
+  abbrev departs_so : Kind → Bool
+  departs_so kind = departs kind notes func f s uncut i
+
+  due_warned : (w : Warning) → Contains (all_due place departs_so) w → IsWarned image notes w
+  due_warned w c =
+      let h = due_sound place departs_so w c in
+      let at : place ≡ w.place = sym h.0 in
+      record {
+        func = func;
+        f = f;
+        there = there;
+        warned = record {
+          insn = i;
+          next = next;
+          decode = subst (λ p. IsDecoded image f p i next) at decode;
+          state = s;
+          has_state = subst (λ p. StateAt image notes func f p s) at has_state;
+          uncut = uncut;
+          is_uncut = subst (λ p. UncutAt image f p uncut) at is_uncut;
+          holds = h.1;
+        };
+      }
+
+  -- it departs by what was found there
+  found_departs : (w : Warning) → IsWarnedIn image notes func f w → w.place ≡ place → departs_so w.kind ≡ true
+  found_departs w h at =
+      let decode_here : IsDecoded image f place h.insn h.next = subst (λ p. IsDecoded image f p h.insn h.next) at h.decode in
+      let state_here : StateAt image notes func f place h.state = subst (λ p. StateAt image notes func f p h.state) at h.has_state in
+      let uncut_here : UncutAt image f place h.uncut = subst (λ p. UncutAt image f p h.uncut) at h.is_uncut in
+      let insn : h.insn ≡ i = (decoded_once image f place h.insn i h.next next decode_here decode).0 in
+      let state : h.state ≡ s = state_one image notes func f one place h.state s state_here has_state in
+      let is : h.uncut ≡ uncut = uncut_at_one image f place h.uncut uncut uncut_here is_uncut in
+      subst (λ x. departs w.kind notes func f s uncut x ≡ true) insn
+      (subst (λ u. departs w.kind notes func f s u h.insn ≡ true) is
+      (subst (λ t. departs w.kind notes func f t h.uncut h.insn ≡ true) state h.holds))
+
+  warned_due : (w : Warning) → IsWarnedIn image notes func f w → w.place ≡ place → Contains (all_due place departs_so) w
+  warned_due w h at =
+      let c : Contains (all_due place departs_so) (record { place = place; kind = w.kind }) =
+      due_whole place departs_so w.kind (found_departs w h at) in
+      subst (λ p. Contains (all_due place departs_so) (record { place = p; kind = w.kind })) (sym at) c
+
+  pub gathered : (ws : List Warning) → WarnedTo image notes func f place ws
+      → WarnedTo image notes func f next (ws ++ warnings_at place notes func f s uncut i)
+  gathered ws to =
+      let later : place < next = decode_later image f place next i decode in
+      let more : List Warning = all_due place departs_so in
+      let ordered : Ordered (8 * place + 8) (ws ++ more) = with_all place departs_so ws (ordered_to place ws to.ordered to.below) in
+      record {
+        sound = λ w c. ⊎_elim (to.sound w) (due_warned w) (Contains-append_cases ws more w c);
+        whole = λ k g less found w h. Contains-append_left ws more w (to.whole k g less found w h);
+        here = λ w h less. let p = place_of image notes func f w h in
+            ⊎_elim (λ before. Contains-append_left ws more w (to.here w h before))
+            (λ same. Contains-append_right ws more w (warned_due w h same))
+            (places_before image f n p.0 place w.place next i leads decode p.1 less);
+        ordered = ordered.pairs;
+        below = λ w c. ⊎_elim (λ old. let h : w.place < place = to.below w old in omega arith)
+            (λ new. let h : w.place ≡ place = (due_sound place departs_so w new).0 in omega arith) (Contains-append_cases ws more w c);
+      }
+
+-- ---- all functions
+
+pub gathered_none : (image : Image) (notes : Notes) → WarnedBefore image notes 0 []
+gathered_none image notes = record {
+  sound = λ w c. absurd (no_element w c);
+  whole = λ k f less. absurd (omega arith);
+  ordered = λ i j d less within. absurd (let h : j < 0 = within in omega arith);
+  below = λ w c. absurd (no_element w c);
+}
+
+module _ (image : Image) (notes : Notes) (all : (k : ℕ) → FunctionHolds image notes k) (func : ℕ) (f : FnNote)
+    (there : slice_get notes.function func ≡ Some f) (ws : List Warning) where
+  pub gathered_start : WarnedBefore image notes func ws → WarnedTo image notes func f f.place ws
+  gathered_start b = record {
+    sound = b.sound;
+    whole = b.whole;
+    here = λ w h less. absurd (let p = place_of image notes func f w h in let first = start_first image f p.0 w.place p.1 in omega arith);
+    ordered = b.ordered;
+    below = λ w c. b.below w c func f (omega arith) there;
+  }
+
+  pub gathered_end : (next : ℕ) → f.end ≤ next → next ≤ f.end → WarnedTo image notes func f next ws → WarnedBefore image notes (func + 1) ws
+  gathered_end next past within to = record {
+    sound = to.sound;
+    whole = λ k g less found w h.
+        ⊎_elim (λ before. to.whole k g before found w h)
+        (λ above.
+        let same : k ≡ func = omega arith in
+        let at : slice_get notes.function func ≡ Some g = subst (λ j. slice_get notes.function j ≡ Some g) same found in
+        let one : g ≡ f = same_Some g f (sym at ∙ there) in
+        let mine : IsWarnedIn image notes func f w =
+        subst (λ x. IsWarnedIn image notes func x w) one (subst (λ j. IsWarnedIn image notes j g w) same h) in
+        let p = place_of image notes func f w mine in
+        let inside : w.place < f.end = place_within image notes all func f there p.0 w.place p.1 in
+        to.here w mine (omega arith))
+        (cases_lt k func);
+    ordered = to.ordered;
+    below = λ w c k g above found.
+        let low : w.place < next = to.below w c in
+        let ends : f.end ≤ g.place = function_before image notes all func k f g (omega arith) there found in
+        omega arith;
+  }
+
+pub gathered_all : (image : Image) (notes : Notes) (ws : List Warning) → WarnedBefore image notes (length notes.function) ws
+    → AreWarnings image notes ws
+gathered_all image notes ws b = record {
+  warned = λ w. (b.sound w, λ h. b.whole h.func h.f (slice_get_within notes.function h.func h.f h.there) h.there w h.warned);
+  ordered = b.ordered;
+}

@@ -1,0 +1,4 @@
+pub mod Gathering
+pub mod Ordering
+pub mod Passing
+pub mod UncutLaws

@@ -1,0 +1,4 @@
+pub mod Departures
+pub mod Uncut
+pub mod Warned
+pub mod Walks

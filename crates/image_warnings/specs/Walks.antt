@@ -1,0 +1,38 @@
+-- For proofs: how far the warnings of an image are gathered.
+use Rattle.std.specs.Prelude.{◌≡◌, ℕ, ◌<◌, ◌≤◌, Bool, List, [], Option, None, Some, slice_get}
+use Rattle.std.specs.List.{AllPairs, Contains}
+use Rattle.ebc_insn.specs.declared.Insn.{Insn}
+use Rattle.note_types.specs.declared.notes.FnNote.{FnNote}
+use Rattle.note_types.specs.declared.notes.Notes.{Notes}
+use Rattle.note_types.specs.declared.state.State.{State}
+use Rattle.pe_image.specs.declared.image.Image.{Image}
+use Rattle.image_warnings.specs.Warned.{IsWarned, IsWarnedIn, Precedes, warnings_at}
+use Rattle.image_warnings.specs.Uncut.{uncut_after}
+use Rattle.image_warnings.specs.declared.warning.Warning.{Warning}
+
+-- the warnings of what stands at a place
+abbrev pub warnings_of : ℕ → Notes → ℕ → FnNote → Bool → Option State → Option (Insn × ℕ) → List Warning
+warnings_of place notes func f uncut (Some s) (Some (i, next)) = warnings_at place notes func f s uncut i
+warnings_of place notes func f uncut s insn = []
+
+-- whether R7 is as a native call left it behind what stands at a place
+abbrev pub uncut_behind : Bool → Option (Insn × ℕ) → Bool
+uncut_behind uncut (Some (i, next)) = uncut_after uncut i
+uncut_behind uncut None = uncut
+
+-- Warnings are those of the functions before one.
+pub record WarnedBefore (image : Image) (notes : Notes) (func : ℕ) (ws : List Warning) : Type 0 where
+  pub sound : (w : Warning) → Contains ws w → IsWarned image notes w
+  pub whole : (k : ℕ) (f : FnNote) → k < func → slice_get notes.function k ≡ Some f → (w : Warning) → IsWarnedIn image notes k f w
+      → Contains ws w
+  pub ordered : AllPairs Precedes ws
+  pub below : (w : Warning) → Contains ws w → (k : ℕ) (f : FnNote) → func ≤ k → slice_get notes.function k ≡ Some f → w.place < f.place
+
+-- They are those, and the function's before a place.
+pub record WarnedTo (image : Image) (notes : Notes) (func : ℕ) (f : FnNote) (place : ℕ) (ws : List Warning) : Type 0 where
+  pub sound : (w : Warning) → Contains ws w → IsWarned image notes w
+  pub whole : (k : ℕ) (g : FnNote) → k < func → slice_get notes.function k ≡ Some g → (w : Warning) → IsWarnedIn image notes k g w
+      → Contains ws w
+  pub here : (w : Warning) → IsWarnedIn image notes func f w → w.place < place → Contains ws w
+  pub ordered : AllPairs Precedes ws
+  pub below : (w : Warning) → Contains ws w → w.place < place

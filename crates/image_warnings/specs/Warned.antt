@@ -1,0 +1,73 @@
+-- For proofs: the warnings of an image under notes, and their order: docs/FIRMWARE.md, "Warnings".
+use Rattle.std.specs.Prelude.{◌≡◌, ◌↔◌, ℕ, ◌+◌, ◌*◌, ◌<◌, Bool, true, List, [], ◌∷◌, ◌++◌, Some, slice_get, if◌then◌else◌}
+use Rattle.std.specs.List.{AllPairs, Contains}
+use Rattle.ebc_insn.specs.declared.Insn.{Insn}
+use Rattle.note_types.specs.declared.notes.FnNote.{FnNote}
+use Rattle.note_types.specs.declared.notes.Notes.{Notes}
+use Rattle.note_types.specs.declared.state.State.{State}
+use Rattle.pe_image.specs.declared.image.Image.{Image}
+use Rattle.rules_image.specs.Images.{IsDecoded}
+use Rattle.width_checker.specs.StatesAt.{StateAt}
+use Rattle.image_warnings.specs.Departures.{departs}
+use Rattle.image_warnings.specs.Uncut.{UncutAt}
+use Rattle.image_warnings.specs.declared.warning.Kind.{Kind}
+use Rattle.image_warnings.specs.declared.warning.Kind.TheVariants as kinds
+use Rattle.image_warnings.specs.declared.warning.Warning.{Warning}
+
+-- at a place of function `func` the interpreter departs so, by the state before the instruction there
+pub record IsWarnedIn (image : Image) (notes : Notes) (func : ℕ) (f : FnNote) (w : Warning) : Type 0 where
+  pub insn : Insn
+  pub next : ℕ
+  pub decode : IsDecoded image f w.place insn next
+  pub state : State
+  pub has_state : StateAt image notes func f w.place state
+  pub uncut : Bool
+  pub is_uncut : UncutAt image f w.place uncut
+  pub holds : departs w.kind notes func f state uncut insn ≡ true
+
+-- at a place of a function of the notes
+pub record IsWarned (image : Image) (notes : Notes) (w : Warning) : Type 0 where
+  pub func : ℕ
+  pub f : FnNote
+  pub there : slice_get notes.function func ≡ Some f
+  pub warned : IsWarnedIn image notes func f w
+
+-- the turn of a kind at one place
+abbrev pub turn : Kind → ℕ
+turn kinds.Status = 0
+turn kinds.Popn = 2
+turn kinds.Divide = 3
+turn kinds.Shift = 4
+turn kinds.Compare = 5
+turn kinds.Break = 6
+
+-- a warning comes before another one: its place does, or at one place its kind
+abbrev pub rank : Warning → ℕ
+rank w = 8 * w.place + turn w.kind
+
+abbrev pub Precedes : Warning → Warning → Type 0
+Precedes v w = rank v < rank w
+
+-- they are the warnings of an image under notes, in their order
+pub record AreWarnings (image : Image) (notes : Notes) (warnings : List Warning) : Type 0 where
+  pub warned : (w : Warning) → Contains warnings w ↔ IsWarned image notes w
+  pub ordered : AllPairs Precedes warnings
+
+-- ---- the warnings of an instruction
+
+-- the warning of a kind, if it is due
+abbrev pub due : ℕ → Kind → Bool → List Warning
+due place kind holds = if holds then record { place = place; kind = kind } ∷ [] else []
+
+-- all that are due at a place
+unfoldable pub all_due : ℕ → (Kind → Bool) → List Warning
+all_due place holds =
+    due place kinds.Status (holds kinds.Status)
+    ++ (due place kinds.Popn (holds kinds.Popn)
+    ++ (due place kinds.Divide (holds kinds.Divide)
+    ++ (due place kinds.Shift (holds kinds.Shift)
+    ++ (due place kinds.Compare (holds kinds.Compare)
+    ++ due place kinds.Break (holds kinds.Break)))))
+
+abbrev pub warnings_at : ℕ → Notes → ℕ → FnNote → State → Bool → Insn → List Warning
+warnings_at place notes func f s uncut i = all_due place (λ kind. departs kind notes func f s uncut i)

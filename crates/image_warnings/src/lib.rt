@@ -1,0 +1,20 @@
+//! Where EDK2's interpreter departs from the machine, in a typed image (docs/FIRMWARE.md, "Warnings").
+//!
+//! Promises:
+//!
+//! - `warnings`, of an image that is typed under notes that meet their reader's conditions (`AreWarnings`): the list has
+//!   a place and a kind exactly where the interpreter departs so from the machine at the instruction there, by its
+//!   function, the state before it and what is in R7 (`IsWarned`). They stand in order, each once.
+//!
+//! Inside the crate, `Scene::departs` tells whether the interpreter departs so at one instruction, exactly `departs`.
+//! `uncut_behind` tells whether R7 is as a native call left it. The walk goes over each function once, by `Walk` of
+//! `state_walk`.
+#![tactic(auto)]
+
+mod departure;
+mod uncut;
+mod walk;
+mod warning;
+
+pub use walk::warnings;
+pub use warning::{Kind, Warning};

@@ -1,0 +1,26 @@
+//! Warnings.
+
+/// How EDK2's interpreter departs from the machine (docs/FIRMWARE.md, "Warnings").
+#[derive(Clone, Copy, PartialEq, Eq)]
+pub enum Kind {
+    /// All 64 bits of R7 are read as a native call left them.
+    Status,
+    /// POPn has an immediate.
+    Popn,
+    /// A signed division may be one of the smallest number by -1.
+    Divide,
+    /// A shift may be by as many bits as the form has, or by more.
+    Shift,
+    /// CMPI64 compares unsigned with a negative immediate.
+    Compare,
+    /// BREAK has another code than 5.
+    Break,
+}
+
+/// A place at which the interpreter departs from the machine.
+#[derive(Clone, Copy, PartialEq, Eq)]
+pub struct Warning {
+    /// The place of the instruction, an offset from the image's base.
+    pub place: u32,
+    pub kind: Kind,
+}
