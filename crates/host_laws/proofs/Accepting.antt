@@ -1,51 +1,24 @@
 -- The call step that accepts: a run that stands for a configuration stands for it with the objects that the call makes.
-use Rattle.std.proofs.Common.{◌≡◌, ℕ, zero, suc, ◌+◌, ◌-◌, ◌*◌, ◌%◌, ◌^◌, ◌<◌, ◌≤◌, ◌⊎◌, if◌then◌else◌, nat_lt, List, [], ◌∷◌, ◌++◌, map}
-use Rattle.std.proofs.Common.{length, Option, Some, None, refl, sym, ap, ap₂, ◌∙◌, subst, subst₂, arith, inl, inr, ⊎_elim, slice_get}
-use Rattle.std.specs.List.{AllZip, AllByRecursion}
-use Rattle.std.specs.Option.{option_map, option_and_then}
-use Rattle.std.proofs.Math.Nat.{zero-mod}
-use Rattle.std.proofs.lemmas.Bool.{lt-ltb, le-ltb, cases_lt}
-use Rattle.std.proofs.lemmas.Option.{same_Some, none-some, slice_get_within}
-use Rattle.ebc_width.proofs.ByteLaws.{little_endian-agree}
-use Rattle.ebc_width.specs.Width.{IsWidth}
-use Rattle.ebc_width.specs.Bytes.{little_endian}
-use Rattle.note_types.specs.Cells.{cell_size}
-use Rattle.ebc_width.specs.Ranges.{Range}
-use Rattle.note_types.specs.Concrete.{Concrete}
-use Rattle.host_model.specs.HostPlans.{Store, Accepts, field_at}
-use Rattle.host_model.specs.HostSteps.{with_objects, after_stores, performed, call_under_way as marks_under_way}
-use Rattle.host_model.specs.HostSteps.{slots_asked as numbers_asked}
-use Rattle.host_model.specs.declared.object.TypedObject.{TypedObject}
-use Rattle.host_model.specs.Objects.{script_object, made_objects, placed_objects, shape_of}
-use Rattle.host_model.specs.Placements.{Placement, stack_bytes, object_at, object_bytes, IsPlacement, stack_end, object_address}
-use Rattle.host_model.specs.Progress.{Accepted, ScriptPlace, one_entry}
-use Rattle.host_model.specs.RunState.{RunState}
-use Rattle.note_types.specs.declared.event.Event.{Event}
-use Rattle.note_types.specs.declared.notes.FnNote.{FnNote}
-use Rattle.note_types.specs.declared.notes.Thunk.{Thunk}
-use Rattle.note_types.specs.declared.script.ScriptCall.{ScriptCall}
-use Rattle.note_types.specs.declared.shape.Field.{Field}
-use Rattle.neutral_machine.specs.Config.{Config, call_under_way, with_call}
-use Rattle.neutral_machine.specs.NeutralHost.{with_objects as neutral_objects, performed as neutral_performed, slots_asked}
-use Rattle.neutral_machine.specs.Layout.{addresses, total}
-use Rattle.neutral_machine.specs.Memory.{memory_of, cell_field}
-use Rattle.neutral_machine.specs.Stands.{CellShows, ThunkShows, MachineStands, Stands, cell_address, in_object}
-use Rattle.host_model.specs.Values.{Neutral, CellPlace, FieldOf, FieldOfLocals, Shows, ShowsIn, null}
-use Rattle.host_model.specs.World.{World}
-use Rattle.neutral_machine.specs.WorldFits.{WorldFits}
-use Rattle.neutral_machine.proofs.Agree.{frames_agree}
-use Rattle.neutral_machine.proofs.Cells.{InObject, in_object_at, ObjectCell, object_cell, object_place, in_locals_at, local_cell, end_small}
-use Rattle.ebc_base.proofs.Lists.{slice_get-append_left, slice_get-append_right}
-use Rattle.neutral_machine.proofs.Placed.{lies, objects_off}
-use Rattle.neutral_machine.proofs.PlacedObjects.{Lies}
-use Rattle.neutral_machine.proofs.Placed.{off_stack, off_thunk, off_code}
-use Rattle.neutral_machine.proofs.Stored.{width_le}
+use Rattle.host_laws.proofs.Common.{◌≡◌, ℕ, zero, suc, ◌+◌, ◌-◌, ◌*◌, ◌%◌, ◌^◌, ◌<◌, ◌≤◌, ◌⊎◌, if◌then◌else◌, nat_lt, List, [], ◌∷◌, ◌++◌}
+use Rattle.host_laws.proofs.Common.{map, length, Option, Some, None, refl, sym, ap, ap₂, ◌∙◌, subst, subst₂, arith, inl, inr, ⊎_elim}
+use Rattle.host_laws.proofs.Common.{slice_get, AllZip, AllByRecursion, option_map, option_and_then, zero-mod, lt-ltb, le-ltb, cases_lt}
+use Rattle.host_laws.proofs.Common.{same_Some, none-some, slice_get_within, little_endian-agree, IsWidth, little_endian, cell_size, Range}
+use Rattle.host_laws.proofs.Common.{Concrete, Store, Accepts, field_at, with_objects, after_stores, performed, TypedObject, script_object}
+use Rattle.host_laws.proofs.Common.{made_objects, placed_objects, Placement, stack_bytes, object_at, object_bytes, IsPlacement, stack_end}
+use Rattle.host_laws.proofs.Common.{object_address, Accepted, ScriptPlace, RunState, Event, FnNote, Thunk, ScriptCall, Field, Config}
+use Rattle.host_laws.proofs.Common.{call_under_way, with_call, slots_asked, addresses, total, memory_of, cell_field, CellShows, ThunkShows}
+use Rattle.host_laws.proofs.Common.{MachineStands, Stands, Neutral, CellPlace, FieldOf, FieldOfLocals, Shows, ShowsIn, null, World}
+use Rattle.host_laws.proofs.Common.{WorldFits, frames_agree, in_object_at, ObjectCell, object_cell, object_place, end_small}
+use Rattle.host_laws.proofs.Common.{slice_get-append_left, slice_get-append_right, lies, objects_off, Lies, off_thunk, off_code, width_le}
+use Rattle.host_laws.proofs.Common.{StoreNames, with_new}
+use Rattle.host_model.specs.HostSteps.{call_under_way as marks_under_way, slots_asked as numbers_asked}
+use Rattle.host_model.specs.{Objects.shape_of, Progress.one_entry}
+use Rattle.neutral_machine.specs.NeutralHost.{with_objects as neutral_objects, performed as neutral_performed}
+use Rattle.neutral_machine.specs.Stands.{cell_address, in_object}
+use Rattle.neutral_machine.proofs.{Cells.InObject, Cells.in_locals_at, Cells.local_cell, Placed.off_stack}
 use Rattle.host_laws.proofs.Growing.{made_more, ranges_of, ranges_more, all_zeroed, others_stay, inside_zero, zeroed_small, objects_placed}
-use Rattle.host_laws.proofs.Marks.{extends_marked, machine_marked, machine_told}
-use Rattle.host_laws.proofs.Things.{base_is}
-use Rattle.host_laws.proofs.Replies.{call_more, hosts_more, hosts_marked}
-use Rattle.host_laws.proofs.Stores.{stores_stand}
-use Rattle.host_laws.specs.PlanFits.{StoreNames, with_new}
+use Rattle.host_laws.proofs.{Marks.extends_marked, Marks.machine_marked, Marks.machine_told, Things.base_is, Replies.call_more}
+use Rattle.host_laws.proofs.{Replies.hosts_more, Replies.hosts_marked, Stores.stores_stand}
 
 -- a range among those of objects is that of an object
 pub record OfObject (w : ℕ) (world : World) (P : Placement) (k : ℕ) (os : List TypedObject) (i : ℕ) (r : Range) : Type 0 where

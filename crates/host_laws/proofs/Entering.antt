@@ -1,57 +1,28 @@
 -- Entering a function: a run that stands for a configuration stands for it inside the function.
-use Rattle.std.proofs.Common.{◌≡◌, ℕ, suc, ◌+◌, ◌-◌, ◌*◌, ◌%◌, ◌^◌, ◌<◌, ◌≤◌, Bool, true, false, if◌then◌else◌, nat_eq, List, []}
-use Rattle.std.proofs.Common.{◌∷◌, ◌++◌, map, length, Option, Some, None, refl, sym, ap, ap₂, ◌∙◌, subst, subst₂, arith, inl, inr, ⊎_elim}
-use Rattle.std.proofs.Common.{slice_get, slice_set, mod-eq_of_lt}
-use Rattle.std.specs.List.{AllByRecursion}
-use Rattle.std.specs.Option.{option_map_or, option_and_then}
-use Rattle.std.proofs.lemmas.Bool.{eqb-true}
-use Rattle.note_types.specs.declared.exception.Exception.TheVariants as raises
-use Rattle.note_types.specs.declared.spot.Spot.TheVariants as spot
-use Rattle.ebc_width.specs.Width.{IsWidth, cut_at}
-use Rattle.ebc_width.specs.Bytes.{little_endian, put}
-use Rattle.ebc_width.proofs.ByteLaws.{put-apart, put-below, little_endian-agree, little_endian-apart}
-use Rattle.note_types.specs.Concrete.{Concrete, stored, register}
-use Rattle.ebc_width.specs.Ranges.{holds}
-use Rattle.host_model.specs.HostPlans.{Enters, Notifies, function_params}
-use Rattle.host_model.specs.HostSteps.{objects_at, written_number, with_slots, inside, frame_for, entered, performed}
-use Rattle.host_model.specs.HostSteps.{call_under_way as marks_under_way, with_call as with_marks}
-use Rattle.host_model.specs.Progress.{one_callback, one_notification, NativeCall, NoCall, Asked, Accepted, ScriptPlace}
-use Rattle.host_model.specs.Progress.{one_callback as neutral_callback}
-use Rattle.host_model.specs.declared.object.TypedObject.{TypedObject}
-use Rattle.host_model.specs.Objects.{made_objects}
-use Rattle.host_model.specs.Placements.{Placement, stack_bytes, slot_bytes, params_bytes, return_cell, IsPlacement}
-use Rattle.host_model.specs.Placements.{stack_end, placed_ranges}
-use Rattle.host_model.specs.RunState.{RunState}
+use Rattle.host_laws.proofs.Common.{◌≡◌, ℕ, suc, ◌+◌, ◌-◌, ◌*◌, ◌%◌, ◌^◌, ◌<◌, ◌≤◌, Bool, true, false, if◌then◌else◌, nat_eq, List, [], ◌∷◌}
+use Rattle.host_laws.proofs.Common.{◌++◌, map, length, Option, Some, None, refl, sym, ap, ap₂, ◌∙◌, subst, subst₂, arith, inl, inr, ⊎_elim}
+use Rattle.host_laws.proofs.Common.{slice_get, slice_set, mod-eq_of_lt, AllByRecursion, option_map_or, option_and_then, eqb-true, IsWidth}
+use Rattle.host_laws.proofs.Common.{cut_at, little_endian, put, put-apart, put-below, little_endian-agree, little_endian-apart, Concrete}
+use Rattle.host_laws.proofs.Common.{stored, register, holds, Enters, Notifies, function_params, written_number, performed, one_callback}
+use Rattle.host_laws.proofs.Common.{NativeCall, NoCall, Asked, Accepted, ScriptPlace, TypedObject, made_objects, Placement, stack_bytes}
+use Rattle.host_laws.proofs.Common.{slot_bytes, params_bytes, return_cell, IsPlacement, stack_end, placed_ranges, RunState, Event, FnNote}
+use Rattle.host_laws.proofs.Common.{Notes, Param, Value, StackItem, FunctionFrame, HostFrame, Frame, Function, Host, Config, depth}
+use Rattle.host_laws.proofs.Common.{locals_at, call_under_way, with_call, param_slots, addresses, height, local_address, total, minus}
+use Rattle.host_laws.proofs.Common.{Neutral, Addresses, ShowsIn, Named, ItemsShow, ReturnShows, FramesShow, CallShows, MachineStands}
+use Rattle.host_laws.proofs.Common.{Stands, World, WorldFits, value_as, IsValue, value_shows, shows_more, frames_agree, frames_more}
+use Rattle.host_laws.proofs.Common.{read_put, shown_in, slot_positive, end_small, minus-is, stack_within, stack_holds, CanEnter, width_word}
+use Rattle.host_model.specs.HostSteps.{objects_at, with_slots, inside, frame_for, entered, call_under_way as marks_under_way}
+use Rattle.host_model.specs.HostSteps.{with_call as with_marks}
+use Rattle.host_model.specs.Progress.{one_notification, one_callback as neutral_callback}
 use Rattle.note_types.specs.declared.ending.Ending.TheVariants.{Raised}
-use Rattle.note_types.specs.declared.event.Event.{Event}
-use Rattle.note_types.specs.declared.notes.FnNote.{FnNote}
-use Rattle.note_types.specs.declared.notes.Notes.{Notes}
-use Rattle.note_types.specs.declared.notes.Param.{Param}
-use Rattle.note_types.specs.declared.value.Value.{Value}
-use Rattle.neutral_machine.specs.Config.{StackItem, FunctionFrame, HostFrame, Frame, Function, Host, Config, depth, locals_at}
-use Rattle.neutral_machine.specs.Config.{call_under_way, with_call}
-use Rattle.neutral_machine.specs.NeutralHost.{param_slots, objects_at as neutral_objects_at, entered as neutral_entered}
-use Rattle.neutral_machine.specs.NeutralHost.{performed as neutral_performed}
-use Rattle.neutral_machine.specs.Layout.{addresses, height, local_address, total}
-use Rattle.host_model.specs.Values.{minus, Neutral, Addresses, ShowsIn}
-use Rattle.neutral_machine.specs.Named.{Named}
-use Rattle.neutral_machine.specs.Stands.{ItemsShow, ReturnShows, FramesShow, CallShows, MachineStands, Stands}
-use Rattle.host_model.specs.World.{World}
-use Rattle.neutral_machine.specs.WorldFits.{WorldFits}
-use Rattle.neutral_machine.specs.Written.{value_as}
-use Rattle.neutral_machine.specs.WrittenLaw.{IsValue}
-use Rattle.neutral_machine.proofs.WrittenShows.{value_shows}
-use Rattle.neutral_machine.proofs.Agree.{shows_more, frames_agree, frames_more, read_put, shown_in, slot_positive}
-use Rattle.neutral_machine.proofs.Cells.{end_small}
+use Rattle.neutral_machine.specs.NeutralHost.{objects_at as neutral_objects_at, entered as neutral_entered, performed as neutral_performed}
 use Rattle.neutral_machine.proofs.Frames.{SameLocals, no_locals, no_address, same_extends, BelowTop, stack_stands}
-use Rattle.neutral_machine.proofs.Numbers.{minus-is}
-use Rattle.neutral_machine.proofs.Placed.{stack_within, stack_holds}
 use Rattle.neutral_machine.proofs.Spots.{place_spot, turned_stands}
-use Rattle.host_laws.proofs.Things.{named as named_things}
 use Rattle.host_laws.proofs.Marks.{total_marked, extends_marked, machine_counted, machine_marked, machine_told}
 use Rattle.host_laws.proofs.Replies.{call_more, hosts_more, hosts_marked, marks_show}
-use Rattle.host_laws.specs.PlanFits.{CanEnter}
-use Rattle.neutral_machine.proofs.Words.{width_word}
+use Rattle.host_laws.proofs.Things.{named as named_things}
+use Rattle.note_types.specs.declared.exception.Exception.TheVariants as raises
+use Rattle.note_types.specs.declared.spot.Spot.TheVariants as spot
 
 -- the bytes once numbers are put in the slots of parameters from an address on
 put_slots : ℕ → (ℕ → ℕ) → ℕ → List Param → List ℕ → ℕ → ℕ
@@ -298,14 +269,9 @@ module _ (w : ℕ) (world : World) (P : Placement) (mapped : ℕ → ℕ) (h : I
   callback_shows : (A : Addresses) (c : NativeCall Neutral) (d : NativeCall ℕ) → CallShows w A c d
       → CallShows w A (neutral_callback c) (one_callback d)
   callback_shows A NoCall NoCall s = tt
-  callback_shows A NoCall (Asked q x) s = s
-  callback_shows A NoCall (Accepted f m xs) s = s
   callback_shows A (Asked p v) NoCall s = s
-  callback_shows A (Asked p v) (Asked q x) s = s
-  callback_shows A (Asked p v) (Accepted f m xs) s = s
-  callback_shows A (Accepted k n vs) NoCall s = s
-  callback_shows A (Accepted k n vs) (Asked q x) s = s
   callback_shows A (Accepted k n vs) (Accepted f m xs) s = (s.0, ap suc s.1, s.2)
+  callback_shows A c t s = s
 
   -- a run inside a function whose note is this, with its frame of the host
   entered_by_note : (notified : Bool) (a : Config) (r : RunState) (f : ℕ) (values : List Value) (e : CanEnter w world a f values)

@@ -1,26 +1,15 @@
 -- Objects that a native call makes: the list of objects and their places grow at the end, and the new bytes are zero.
-use Rattle.std.proofs.Common.{◌≡◌, ℕ, zero, suc, ◌+◌, ◌-◌, ◌<◌, ◌≤◌, ◌⊎◌, Bool, true, false, if◌then◌else◌, nat_lt, List, [], ◌∷◌, ◌++◌}
-use Rattle.std.proofs.Common.{map, take, flat_map, length, Some, None, refl, sym, ap, ap₂, ◌∙◌, arith, ⊎_elim, slice_get, slice_index}
-use Rattle.std.proofs.lemmas.Bool.{ltb-true, le-ltb}
-use Rattle.std.specs.Option.{option_map}
-use Rattle.std.proofs.lemmas.List.{append-nil, append_assoc, map-append, length-append}
-use Rattle.std.proofs.lemmas.Option.{slice_get-get_or, same_Some, none-some, slice_get-map}
-use Rattle.ebc_width.specs.Width.{IsWidth}
-use Rattle.ebc_width.specs.Ranges.{Range, covers}
-use Rattle.ebc_width.proofs.RangeLaws.{covers-inside, covers-bounds}
-use Rattle.note_types.specs.Concrete.{Concrete}
-use Rattle.host_model.specs.HostSteps.{with_object, with_objects}
-use Rattle.host_model.specs.declared.object.TypedObject.{TypedObject}
-use Rattle.host_model.specs.Objects.{script_object, static_object, made_objects, placed_objects}
-use Rattle.host_model.specs.Placements.{there, static_place, Placement, object_at, object_bytes, IsPlacement, area_bytes, stack_bytes}
-use Rattle.host_model.specs.Placements.{placed_ranges, script_ranges}
-use Rattle.note_types.specs.declared.notes.Notes.{Notes}
-use Rattle.note_types.specs.declared.script.ScriptCall.{ScriptCall}
-use Rattle.note_types.specs.declared.script.ScriptObject.{ScriptObject}
-use Rattle.host_model.specs.World.{World}
-use Rattle.neutral_machine.specs.WorldFits.{WorldFits}
-use Rattle.ebc_base.proofs.Lists.{slice_get-append_right, within_some, length-map}
-use Rattle.neutral_machine.proofs.Placed.{lies}
+use Rattle.host_laws.proofs.Common.{◌≡◌, ℕ, zero, suc, ◌+◌, ◌-◌, ◌<◌, ◌≤◌, ◌⊎◌, Bool, true, false, if◌then◌else◌, nat_lt, List, [], ◌∷◌}
+use Rattle.host_laws.proofs.Common.{◌++◌, map, take, length, Some, None, refl, sym, ap, ap₂, ◌∙◌, arith, ⊎_elim, slice_get, slice_index}
+use Rattle.host_laws.proofs.Common.{le-ltb, option_map, append-nil, slice_get-get_or, same_Some, none-some, slice_get-map, IsWidth, Range}
+use Rattle.host_laws.proofs.Common.{covers, covers-inside, Concrete, with_objects, TypedObject, script_object, static_object, made_objects}
+use Rattle.host_laws.proofs.Common.{placed_objects, Placement, object_at, object_bytes, IsPlacement, area_bytes, stack_bytes, placed_ranges}
+use Rattle.host_laws.proofs.Common.{Notes, ScriptCall, ScriptObject, World, WorldFits, slice_get-append_right, length-map, lies}
+use Rattle.std.proofs.Common.{flat_map}
+use Rattle.std.proofs.lemmas.{Bool.ltb-true, List.append_assoc, List.map-append, List.length-append}
+use Rattle.ebc_width.proofs.RangeLaws.{covers-bounds}
+use Rattle.host_model.specs.{HostSteps.with_object, Placements.there, Placements.static_place, Placements.script_ranges}
+use Rattle.ebc_base.proofs.Lists.{within_some}
 
 -- ---- lists
 

@@ -1,34 +1,17 @@
 -- The law of the host's steps at a width, whole: where the neutral machine's host step isn't stuck, a run that stands for the
 -- configuration stands for what the step leaves. Typing enters by one fact alone: the stack has room before and after the step.
-use Rattle.std.proofs.Common.{◌≡◌, ℕ, ◌≤◌, Bool, true, false, List, [], ◌∷◌, length, Some, None, refl, sym, ap, ◌∙◌, subst}
-use Rattle.std.specs.List.{AllZip}
-use Rattle.std.specs.Option.{option_map}
-use Rattle.std.proofs.lemmas.Option.{same_Some, none-some}
-use Rattle.note_types.specs.declared.spot.Spot.TheVariants as spot
-use Rattle.ebc_width.specs.Width.{IsWidth}
-use Rattle.host_model.specs.HostPlans.{View, Calls, GoesOn, IsDue, Asks, is_due, return_view, host_plan}
-use Rattle.host_model.specs.HostSteps.{host_step, slots_asked as numbers_asked, call_under_way as marks_under_way}
-use Rattle.host_model.specs.Placements.{Placement, stack_bytes, IsPlacement}
-use Rattle.host_model.specs.Progress.{NativeCall, NoCall, Asked, Accepted, copied, is_empty}
-use Rattle.host_model.specs.RunState.{RunState}
-use Rattle.note_types.specs.declared.seen.Seen.{Seen}
-use Rattle.note_types.specs.declared.spot.Spot.{Spot}
-use Rattle.neutral_machine.specs.Config.{Frame, Function, Host, Config, hosts, call_under_way}
-use Rattle.neutral_machine.specs.NeutralHost.{host_view, return_seen, call_seen, asking_at, lent_there, result_of, writes_there}
-use Rattle.neutral_machine.specs.NeutralHost.{slots_asked, performed, neutral_host_step}
-use Rattle.neutral_machine.specs.Layout.{addresses, total}
-use Rattle.note_types.specs.declared.value.Value.{Value}
-use Rattle.host_laws.specs.ScriptGiven.{ScriptGiven}
-use Rattle.neutral_machine.specs.Stands.{CallShows, Stands}
-use Rattle.host_model.specs.Values.{Neutral, Shows}
-use Rattle.host_model.specs.World.{World}
-use Rattle.neutral_machine.specs.WorldFits.{WorldFits}
-use Rattle.neutral_machine.proofs.Words.{if_some}
-use Rattle.host_laws.proofs.Plans.{call_fits, due_fits, next_fits, slots_shown}
-use Rattle.host_laws.proofs.Replies.{marks_show}
+use Rattle.host_laws.proofs.Common.{◌≡◌, ℕ, ◌≤◌, Bool, true, false, List, [], ◌∷◌, length, Some, None, refl, sym, ap, ◌∙◌, subst, AllZip}
+use Rattle.host_laws.proofs.Common.{option_map, same_Some, none-some, IsWidth, View, Calls, GoesOn, IsDue, Asks, return_view, host_plan}
+use Rattle.host_laws.proofs.Common.{host_step, Placement, stack_bytes, IsPlacement, NativeCall, NoCall, Asked, Accepted, copied, is_empty}
+use Rattle.host_laws.proofs.Common.{RunState, Seen, Spot, Frame, Function, Host, Config, hosts, call_under_way, lent_there, writes_there}
+use Rattle.host_laws.proofs.Common.{slots_asked, neutral_host_step, addresses, total, Value, ScriptGiven, CallShows, Stands, Neutral, Shows}
+use Rattle.host_laws.proofs.Common.{World, WorldFits, if_some, PlanFits, some_of_map}
+use Rattle.host_model.specs.HostSteps.{slots_asked as numbers_asked, call_under_way as marks_under_way}
+use Rattle.host_model.specs.HostPlans.{is_due}
+use Rattle.neutral_machine.specs.NeutralHost.{host_view, return_seen, call_seen, asking_at, result_of, performed}
+use Rattle.host_laws.proofs.{Plans.call_fits, Plans.due_fits, Plans.next_fits, Plans.slots_shown, Replies.marks_show}
 use Rattle.host_laws.proofs.Steps.{host_step_stands}
-use Rattle.host_laws.specs.PlanFits.{PlanFits}
-use Rattle.ebc_base.proofs.Given.{some_of_map}
+use Rattle.note_types.specs.declared.spot.Spot.TheVariants as spot
 
 module _ (w : ℕ) (world : World) (P : Placement) (mapped : ℕ → ℕ) (h : IsWidth w) (ok : WorldFits world) (pl : IsPlacement w world P) where
   returns_fit : (a : Config) (r : RunState) (fs : List Frame) (v : View) → a.frames ≡ fs → return_seen world a fs ≡ Some v

@@ -1,31 +1,16 @@
 -- Leaving a frame, and ends: a run that stands for a configuration stands for it after them.
-use Rattle.std.proofs.Common.{◌≡◌, ℕ, ◌^◌, ◌<◌, if◌then◌else◌, List, [], ◌∷◌, ◌++◌, Option, Some, None, refl, sym, ap, ap₂, ◌∙◌, subst}
-use Rattle.std.proofs.Common.{subst₂, arith, slice_index, slice_set}
-use Rattle.std.proofs.lemmas.List.{length-set, get_or-set_same, get_or-set_other}
-use Rattle.ebc_width.specs.Width.{IsWidth}
-use Rattle.note_types.specs.Cells.{cell_size}
-use Rattle.note_types.specs.Concrete.{Concrete, register}
-use Rattle.host_model.specs.HostPlans.{Finishes, Leaves, Ends, Resumes}
-use Rattle.host_model.specs.HostSteps.{performed, left, outside, resumed, as_before}
-use Rattle.host_model.specs.Placements.{Placement, IsPlacement, stack_end}
-use Rattle.host_model.specs.RunState.{SavedFrame, RunState}
-use Rattle.note_types.specs.declared.ending.Ending.{Ending}
+use Rattle.host_laws.proofs.Common.{◌≡◌, ℕ, ◌^◌, ◌<◌, if◌then◌else◌, List, [], ◌∷◌, ◌++◌, Option, Some, None, refl, sym, ap, ap₂, ◌∙◌}
+use Rattle.host_laws.proofs.Common.{subst, subst₂, arith, slice_index, slice_set, length-set, get_or-set_same, get_or-set_other, IsWidth}
+use Rattle.host_laws.proofs.Common.{cell_size, Concrete, register, Finishes, Leaves, Ends, Resumes, performed, Placement, IsPlacement}
+use Rattle.host_laws.proofs.Common.{stack_end, SavedFrame, RunState, Ending, Event, Field, Value, HostFrame, Frame, Function, Host, Config}
+use Rattle.host_laws.proofs.Common.{with_value, addresses, memory_of, cell_field, HostShows, HostsShow, CellShows, MachineStands, Stands}
+use Rattle.host_laws.proofs.Common.{Neutral, Anchor, ObjectOf, ThunkOf, LocalOf, CellPlace, FieldOf, FieldOfLocals, Shows, World, WorldFits}
+use Rattle.host_laws.proofs.Common.{Extends, shows_more, shows_in_more, frames_more, end_small}
+use Rattle.host_model.specs.HostSteps.{left, outside, resumed, as_before}
 use Rattle.note_types.specs.declared.ending.Ending.TheVariants.{Finished}
-use Rattle.note_types.specs.declared.event.Event.{Event}
-use Rattle.note_types.specs.declared.shape.Field.{Field}
-use Rattle.note_types.specs.declared.value.Value.{Value}
-use Rattle.neutral_machine.specs.Config.{HostFrame, Frame, Function, Host, Config, with_value}
 use Rattle.neutral_machine.specs.NeutralHost.{performed as neutral_performed, left as neutral_left, resumed as neutral_resumed}
-use Rattle.neutral_machine.specs.Layout.{addresses, top_of}
-use Rattle.neutral_machine.specs.Memory.{memory_of, cell_field}
-use Rattle.neutral_machine.specs.Stands.{HostShows, HostsShow, CellShows, cell_address, MachineStands, Stands}
-use Rattle.host_model.specs.Values.{Neutral, Anchor, ObjectOf, ThunkOf, LocalOf, CellPlace, FieldOf, FieldOfLocals, Shows}
-use Rattle.host_model.specs.World.{World}
-use Rattle.neutral_machine.specs.WorldFits.{WorldFits}
-use Rattle.neutral_machine.proofs.Agree.{Extends, shows_more, shows_in_more, frames_more}
-use Rattle.neutral_machine.proofs.Cells.{end_small}
-use Rattle.host_laws.proofs.Marks.{machine_told}
-use Rattle.host_laws.proofs.Replies.{by_eq, hosts_more}
+use Rattle.neutral_machine.specs.{Layout.top_of, Stands.cell_address}
+use Rattle.host_laws.proofs.{Marks.machine_told, Replies.by_eq, Replies.hosts_more}
 
 module _ (w : ℕ) (world : World) (P : Placement) (mapped : ℕ → ℕ) (h : IsWidth w) (ok : WorldFits world) (pl : IsPlacement w world P) where
   -- everything is where it was below a host frame

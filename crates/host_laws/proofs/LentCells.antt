@@ -1,22 +1,11 @@
 -- The cells that a native call was lent: the neutral machine isn't stuck where the call goes on, so each of its arguments that
 -- wants a cell names one.
-use Rattle.std.proofs.Common.{◌≡◌, ℕ, zero, suc, ◌+◌, true, List, [], ◌∷◌, Option, Some, None, is_some, refl, sym, ap, ◌∙◌, subst, arith}
-use Rattle.std.proofs.Common.{slice_get}
-use Rattle.std.specs.Option.{option_map_or, option_and_then}
-use Rattle.std.proofs.lemmas.Bool.{and_parts}
-use Rattle.std.proofs.lemmas.Option.{none-some}
-use Rattle.note_types.specs.declared.cell.Cell.{Cell}
-use Rattle.note_types.specs.declared.notes.WantParam.{WantParam}
-use Rattle.note_types.specs.declared.script.ScriptCall.{ScriptCall}
-use Rattle.note_types.specs.declared.shape.Field.{Field}
-use Rattle.note_types.specs.declared.shape.Shape.{Shape}
-use Rattle.neutral_machine.specs.Config.{Config}
-use Rattle.host_model.specs.HostPlans.{InArgument, cell_lent, lent_at, signature_params}
-use Rattle.neutral_machine.specs.Memory.{memory_of, cell_field}
-use Rattle.neutral_machine.specs.NeutralHost.{all_lent, lent_there, local_of, slot_lends, target_place}
-use Rattle.neutral_machine.specs.NeutralReadings.{local_named}
-use Rattle.host_model.specs.Values.{Neutral, CellPlace, FieldOfLocals}
-use Rattle.host_model.specs.World.{World}
+use Rattle.host_laws.proofs.Common.{◌≡◌, ℕ, zero, suc, ◌+◌, true, List, [], ◌∷◌, Option, Some, None, is_some, refl, sym, ap, ◌∙◌, subst}
+use Rattle.host_laws.proofs.Common.{arith, slice_get, option_map_or, option_and_then, and_parts, none-some, Cell, WantParam, ScriptCall}
+use Rattle.host_laws.proofs.Common.{Field, Shape, Config, InArgument, lent_at, signature_params, memory_of, cell_field, lent_there}
+use Rattle.host_laws.proofs.Common.{local_of, target_place, local_named, Neutral, CellPlace, FieldOfLocals, World}
+use Rattle.host_model.specs.HostPlans.{cell_lent}
+use Rattle.neutral_machine.specs.NeutralHost.{all_lent, slot_lends}
 use Rattle.host_laws.proofs.ViewAlike.{and_then_some, names_local}
 
 -- An argument names a cell of a kind.

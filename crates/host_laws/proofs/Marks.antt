@@ -1,25 +1,11 @@
 -- The marks of a native call say nothing of the machine: a machine that stands for a configuration stands for it with other marks.
-use Rattle.std.proofs.Common.{◌≡◌, ℕ, suc, ◌+◌, ◌^◌, ◌≤◌, if◌then◌else◌, nat_eq, List, [], ◌∷◌, Option, Some, refl, sym, ap, ap₂, ◌∙◌}
-use Rattle.std.proofs.Common.{subst, slice_get}
-use Rattle.std.specs.Option.{option_and_then}
-use Rattle.ebc_width.specs.Width.{IsWidth}
-use Rattle.note_types.specs.Concrete.{Concrete}
-use Rattle.host_model.specs.Placements.{Placement, return_cell, stack_end}
-use Rattle.host_model.specs.Progress.{NativeCall}
-use Rattle.note_types.specs.declared.ending.Ending.{Ending}
-use Rattle.note_types.specs.Cells.{cell_size}
-use Rattle.note_types.specs.declared.event.Event.{Event}
-use Rattle.note_types.specs.declared.notes.Notes.{Notes}
-use Rattle.note_types.specs.declared.shape.Field.{Field}
-use Rattle.note_types.specs.declared.shape.Shape.{Shape}
-use Rattle.neutral_machine.specs.Config.{Frame, Function, Host, Config, depth, locals_at, locals_among, with_call}
-use Rattle.neutral_machine.specs.Layout.{addresses, local_address, local_among, total, height}
-use Rattle.host_model.specs.Values.{minus, Neutral, Addresses, Anchor, ObjectOf, ThunkOf, LocalOf, CellPlace, FieldOf, FieldOfLocals}
-use Rattle.neutral_machine.specs.Memory.{memory_of, cell_field}
-use Rattle.neutral_machine.specs.Stands.{ItemsShow, ReturnShows, return_address, FramesShow, CellShows, cell_address, MachineStands}
-use Rattle.neutral_machine.specs.Stands.{OwnLocalsAll}
-use Rattle.host_model.specs.World.{World}
-use Rattle.neutral_machine.proofs.Agree.{Extends, shows_more, shows_in_more, frames_more}
+use Rattle.host_laws.proofs.Common.{◌≡◌, ℕ, suc, ◌+◌, ◌^◌, ◌≤◌, if◌then◌else◌, nat_eq, List, [], ◌∷◌, Option, Some, refl, sym, ap, ap₂, ◌∙◌}
+use Rattle.host_laws.proofs.Common.{subst, slice_get, option_and_then, IsWidth, Concrete, Placement, return_cell, stack_end, NativeCall}
+use Rattle.host_laws.proofs.Common.{Ending, cell_size, Event, Notes, Field, Shape, Frame, Function, Host, Config, depth, locals_at}
+use Rattle.host_laws.proofs.Common.{with_call, addresses, local_address, total, height, minus, Neutral, Addresses, Anchor, ObjectOf}
+use Rattle.host_laws.proofs.Common.{ThunkOf, LocalOf, CellPlace, FieldOf, FieldOfLocals, memory_of, cell_field, ItemsShow, ReturnShows}
+use Rattle.host_laws.proofs.Common.{FramesShow, CellShows, MachineStands, World, Extends, shows_more, shows_in_more, frames_more}
+use Rattle.neutral_machine.specs.{Config.locals_among, Layout.local_among, Stands.return_address, Stands.cell_address, Stands.OwnLocalsAll}
 
 module _ (call : NativeCall Neutral) where
   depth_marked : (fs : List Frame) → depth (with_call call fs) ≡ depth fs

@@ -1,65 +1,34 @@
 -- What the host plans can be carried out alike: the conditions of each plan follow from what the host saw, from the conditions on
 -- the script, and from the room for what it leaves.
-use Rattle.std.proofs.Common.{◌≡◌, ℕ, ◌+◌, ◌≤◌, Bool, true, false, not, ◌&&◌, if◌then◌else◌, nat_eq, nat_le, List, [], ◌∷◌, map}
-use Rattle.std.proofs.Common.{length, Option, Some, None, refl, sym, ap, ◌∙◌, subst, arith, slice_get}
-use Rattle.std.specs.List.{AllZip, AllByRecursion, list_all, flat_map}
-use Rattle.std.specs.Option.{option_map, option_map_or, option_or, option_and_then}
-use Rattle.std.proofs.lemmas.Bool.{and_parts, eqb-true}
-use Rattle.std.proofs.lemmas.Option.{none-some}
-use Rattle.note_types.specs.declared.event.Event.{Event}
+use Rattle.host_laws.proofs.Common.{◌≡◌, ℕ, ◌+◌, ◌≤◌, Bool, true, false, ◌&&◌, if◌then◌else◌, nat_eq, nat_le, List, [], ◌∷◌, map, length}
+use Rattle.host_laws.proofs.Common.{Option, Some, None, refl, sym, ap, ◌∙◌, subst, arith, slice_get, AllZip, AllByRecursion, list_all}
+use Rattle.host_laws.proofs.Common.{flat_map, option_map, option_map_or, option_and_then, and_parts, eqb-true, none-some, Event, IsWidth}
+use Rattle.host_laws.proofs.Common.{content_type, GoesOn, Asking, NoSite, Asks, Target, Store, InObject, InArgument, Plan, Enters, Replies}
+use Rattle.host_laws.proofs.Common.{Ends, host_plan, filling, function_params, signature_params, signature_method, site_of, field_at}
+use Rattle.host_laws.proofs.Common.{lent_at, IsDue, Notifies, TypedObject, script_object, made_objects, placed_objects, Placement}
+use Rattle.host_laws.proofs.Common.{params_bytes, return_cell, stack_bytes, IsPlacement, World, Asked, copied, one_callback, RunState}
+use Rattle.host_laws.proofs.Common.{fits_each, Cell, Ending, FnNote, Notes, WantParam, OutValue, ScriptCall, WriteValue, Seen, Field, Value}
+use Rattle.host_laws.proofs.Common.{Config, hosts, call_under_way, with_call, target_place, objects_at, param_slots, lent_there}
+use Rattle.host_laws.proofs.Common.{slots_asked, is_method, neutral_arguments, addresses, height, total, memory_of, cell_field, StoreGiven}
+use Rattle.host_laws.proofs.Common.{CallGiven, ScriptGiven, Stands, Neutral, Addresses, FieldOf, Shows, WorldFits, IsValue, StoreNames}
+use Rattle.host_laws.proofs.Common.{PlanFits, with_new, some_of_map, Param}
+use Rattle.std.proofs.Common.{not}
+use Rattle.std.specs.Option.{option_or}
+use Rattle.host_model.specs.HostPlans.{call_plan, call_settled, call_event, asking_refused, entry_refused, asked_signature, asked_args}
+use Rattle.host_model.specs.HostPlans.{objects_made_by, enter_plan, may_enter, callback_fits, reply_plan, reply_fits, reply_stores}
+use Rattle.host_model.specs.HostPlans.{next_plan, signature_result, write_store, out_store, write_fits, notify_plan, notification_fits}
+use Rattle.host_model.specs.HostSteps.{slots_of as numbers_of, slots_asked as numbers_asked, call_under_way as marks_under_way}
+use Rattle.host_model.specs.ScriptValues.{fits, fits_result, given as given_value}
+use Rattle.host_model.specs.Placements.{frame_limit}
+use Rattle.note_types.specs.declared.{ending.Ending.TheVariants.Mismatch, ending.Ending.TheVariants.ScriptEnd, script.Callback.Callback}
+use Rattle.note_types.specs.declared.script.Notify.{Notify}
+use Rattle.neutral_machine.specs.NeutralHost.{performed, slots_of, asking_at as neutral_asking_at, asking_by as neutral_asking_by}
+use Rattle.host_laws.specs.ScriptGiven.{TargetGiven}
+use Rattle.host_laws.proofs.{ViewAlike.and_then_some, SeenStands.seen_alike, Entering.heights, LentCells.LentCells, LentCells.lent_cells}
+use Rattle.host_laws.proofs.Marks.{total_marked}
+use Rattle.ebc_base.proofs.Lists.{all_append}
 use Rattle.note_types.specs.declared.event.Event.TheVariants as event
 use Rattle.note_types.specs.declared.reason.Reason.TheVariants as reason
-use Rattle.ebc_width.specs.Width.{IsWidth}
-use Rattle.note_types.specs.Cells.{content_type}
-use Rattle.host_model.specs.HostPlans.{GoesOn, Asking, NoSite, Unmapped, Asks, Target, Store, InObject, InArgument, Plan, Enters, Replies}
-use Rattle.host_model.specs.HostPlans.{Ends, host_plan, call_plan, call_settled, call_event, asking_refused, entry_refused, asked_signature}
-use Rattle.host_model.specs.HostPlans.{asked_args, objects_made_by, filling, enter_plan, may_enter, callback_fits, function_params}
-use Rattle.host_model.specs.HostPlans.{reply_plan, reply_fits, reply_stores, next_plan, signature_params, signature_method}
-use Rattle.host_model.specs.HostPlans.{signature_result, site_of, field_at, lent_at, write_store, out_store, write_fits}
-use Rattle.host_model.specs.HostPlans.{IsDue, Notifies, notify_plan, notification_fits}
-use Rattle.host_model.specs.HostSteps.{slots_of as numbers_of, slots_asked as numbers_asked, call_under_way as marks_under_way}
-use Rattle.host_model.specs.declared.object.TypedObject.{TypedObject}
-use Rattle.host_model.specs.Objects.{script_object, made_objects, placed_objects}
-use Rattle.host_model.specs.Placements.{Placement, frame_limit, params_bytes, return_cell, stack_bytes, IsPlacement}
-use Rattle.host_model.specs.World.{World}
-use Rattle.host_model.specs.Progress.{Asked, copied, one_callback}
-use Rattle.host_model.specs.RunState.{RunState}
-use Rattle.host_model.specs.ScriptValues.{fits, fits_each, fits_result, given as given_value}
-use Rattle.note_types.specs.declared.cell.Cell.{Cell}
-use Rattle.note_types.specs.declared.ending.Ending.{Ending}
-use Rattle.note_types.specs.declared.ending.Ending.TheVariants.{Mismatch, ScriptEnd}
-use Rattle.note_types.specs.declared.notes.FnNote.{FnNote}
-use Rattle.note_types.specs.declared.notes.Notes.{Notes}
-use Rattle.note_types.specs.declared.notes.WantParam.{WantParam}
-use Rattle.note_types.specs.declared.script.Callback.{Callback}
-use Rattle.note_types.specs.declared.script.Notify.{Notify}
-use Rattle.note_types.specs.declared.script.OutValue.{OutValue}
-use Rattle.note_types.specs.declared.script.ScriptCall.{ScriptCall}
-use Rattle.note_types.specs.declared.script.WriteValue.{WriteValue}
-use Rattle.note_types.specs.declared.seen.Seen.{Seen}
-use Rattle.note_types.specs.declared.shape.Field.{Field}
-use Rattle.note_types.specs.declared.value.Value.{Value}
-use Rattle.neutral_machine.specs.Config.{Config, hosts, call_under_way, with_call}
-use Rattle.neutral_machine.specs.NeutralHost.{target_place, objects_at, param_slots, performed, lent_there, slots_of, slots_asked}
-use Rattle.neutral_machine.specs.NeutralHost.{asking_at as neutral_asking_at, asking_by as neutral_asking_by}
-use Rattle.neutral_machine.specs.Locations.{is_method}
-use Rattle.neutral_machine.specs.NeutralReadings.{neutral_arguments}
-use Rattle.neutral_machine.specs.Layout.{addresses, height, total}
-use Rattle.neutral_machine.specs.Memory.{memory_of, cell_field}
-use Rattle.host_laws.specs.ScriptGiven.{TargetGiven, StoreGiven, CallGiven, ScriptGiven}
-use Rattle.neutral_machine.specs.Stands.{Stands}
-use Rattle.host_laws.proofs.ViewAlike.{and_then_some}
-use Rattle.host_model.specs.Values.{Neutral, Addresses, FieldOf, Shows}
-use Rattle.neutral_machine.specs.WorldFits.{WorldFits}
-use Rattle.neutral_machine.specs.WrittenLaw.{IsValue}
-use Rattle.host_laws.proofs.SeenStands.{seen_alike}
-use Rattle.host_laws.specs.PlanFits.{StoreNames, PlanFits, with_new}
-use Rattle.host_laws.proofs.Entering.{heights}
-use Rattle.host_laws.proofs.LentCells.{LentCells, lent_cells}
-use Rattle.host_laws.proofs.Marks.{total_marked}
-use Rattle.ebc_base.proofs.Given.{some_of_map}
-use Rattle.ebc_base.proofs.Lists.{all_append}
-use Rattle.note_types.specs.declared.notes.Param.{Param}
 
 -- ---- lists
 
@@ -170,10 +139,8 @@ pub record Settled (asking : Asking) : Type 0 where
   pub is : asking ≡ Asks signature None args
 
 settled : (place : ℕ) (asking : Asking) → asking_refused place asking ≡ None → Settled asking
-settled place NoSite e = absurd (cc)
-settled place (Unmapped g) e = absurd (cc)
-settled place (Asks g (Some x) args) e = absurd (cc)
 settled place (Asks g None args) e = record { signature = g; args = args; is = refl }
+settled place c e = absurd (cc)
 
 left_over : (q : Option ScriptCall) (g : ℕ) (args : List Seen) → entry_refused q g args ≡ None → (c : ScriptCall) × (q ≡ Some c)
 left_over None g args e = absurd (cc)

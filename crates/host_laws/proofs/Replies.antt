@@ -1,41 +1,21 @@
 -- The reply step: a run that stands for a configuration stands for it after the reply.
-use Rattle.std.proofs.Common.{◌≡◌, ◌≢◌, ℕ, zero, suc, ◌+◌, ◌-◌, ◌*◌, ◌^◌, ◌<◌, ◌≤◌, Bool, true, false, if◌then◌else◌, nat_eq, List, [], ◌∷◌}
-use Rattle.std.proofs.Common.{◌++◌, length, Option, Some, None, refl, sym, ap, ◌∙◌, subst, arith, ⊎_elim, slice_index, slice_set}
-use Rattle.std.specs.List.{AllZip, AllByRecursion}
-use Rattle.std.proofs.lemmas.Bool.{eq-eqb, ne_eqb, cases_eq}
-use Rattle.std.proofs.lemmas.List.{length-set, get_or-set_same, get_or-set_other}
-use Rattle.note_types.specs.declared.value.Value.TheVariants as value
-use Rattle.ebc_width.specs.Width.{IsWidth}
-use Rattle.note_types.specs.Concrete.{Concrete, register, with_register}
-use Rattle.host_model.specs.HostPlans.{Store, Replies}
-use Rattle.host_model.specs.HostSteps.{written_number, after_stores, performed, with_call as with_marks, call_under_way as marks_under_way}
-use Rattle.host_model.specs.Progress.{copied, NativeCall, NoCall, Asked, Accepted, ScriptPlace}
-use Rattle.host_model.specs.declared.object.TypedObject.{TypedObject}
-use Rattle.host_model.specs.Objects.{made_objects, placed_objects}
-use Rattle.host_model.specs.Placements.{Placement, stack_bytes, IsPlacement}
-use Rattle.host_model.specs.RunState.{SavedFrame, RunState}
-use Rattle.note_types.specs.declared.event.Event.{Event}
+use Rattle.host_laws.proofs.Common.{◌≡◌, ◌≢◌, ℕ, zero, suc, ◌+◌, ◌-◌, ◌*◌, ◌^◌, ◌<◌, ◌≤◌, Bool, true, false, if◌then◌else◌, nat_eq, List}
+use Rattle.host_laws.proofs.Common.{[], ◌∷◌, ◌++◌, length, Option, Some, None, refl, sym, ap, ◌∙◌, subst, arith, ⊎_elim, slice_index}
+use Rattle.host_laws.proofs.Common.{slice_set, AllZip, AllByRecursion, eq-eqb, cases_eq, length-set, get_or-set_same, get_or-set_other}
+use Rattle.host_laws.proofs.Common.{IsWidth, Concrete, register, Store, Replies, written_number, after_stores, performed, copied}
+use Rattle.host_laws.proofs.Common.{NativeCall, NoCall, Asked, Accepted, ScriptPlace, TypedObject, made_objects, placed_objects, Placement}
+use Rattle.host_laws.proofs.Common.{stack_bytes, IsPlacement, SavedFrame, RunState, Event, Value, HostFrame, Frame, Function, Host, Config}
+use Rattle.host_laws.proofs.Common.{call_under_way, with_call, with_value, addresses, total, Named, CallShows, HostShows, HostsShow}
+use Rattle.host_laws.proofs.Common.{MachineStands, Stands, Neutral, Addresses, Shows, World, WorldFits, IsValue, value_shows, Extends}
+use Rattle.host_laws.proofs.Common.{shows_more, end_small, StoreNames, width_word}
+use Rattle.std.proofs.lemmas.Bool.{ne_eqb}
+use Rattle.note_types.specs.Concrete.{with_register}
+use Rattle.host_model.specs.HostSteps.{with_call as with_marks, call_under_way as marks_under_way}
 use Rattle.note_types.specs.declared.types.Ty.{Ty}
-use Rattle.note_types.specs.declared.value.Value.{Value}
-use Rattle.neutral_machine.specs.Config.{HostFrame, Frame, Function, Host, Config, call_under_way, with_call, with_value}
-use Rattle.neutral_machine.specs.NeutralHost.{performed as neutral_performed}
-use Rattle.neutral_machine.specs.Layout.{addresses, total}
-use Rattle.neutral_machine.specs.Named.{Named}
-use Rattle.neutral_machine.specs.Stands.{CallShows, HostShows, HostsShow, MachineStands, Stands}
-use Rattle.host_model.specs.Values.{Neutral, Addresses, Shows}
-use Rattle.host_model.specs.World.{World}
-use Rattle.neutral_machine.specs.WorldFits.{WorldFits}
-use Rattle.neutral_machine.specs.Written.{result_value}
-use Rattle.neutral_machine.specs.WrittenLaw.{IsValue}
-use Rattle.neutral_machine.proofs.WrittenShows.{value_shows}
-use Rattle.neutral_machine.proofs.Agree.{Extends, shows_more}
-use Rattle.neutral_machine.proofs.Cells.{end_small}
-use Rattle.host_laws.proofs.Marks.{extends_marked, machine_marked, machine_told}
-use Rattle.host_laws.proofs.Things.{named}
-use Rattle.host_laws.proofs.Stores.{stores_stand}
-use Rattle.host_laws.specs.PlanFits.{StoreNames}
+use Rattle.neutral_machine.specs.{NeutralHost.performed as neutral_performed, Written.result_value}
+use Rattle.host_laws.proofs.{Marks.extends_marked, Marks.machine_marked, Marks.machine_told, Things.named, Stores.stores_stand}
 use Rattle.ebc_width.proofs.Laws.{by_width}
-use Rattle.neutral_machine.proofs.Words.{width_word}
+use Rattle.note_types.specs.declared.value.Value.TheVariants as value
 
 -- ---- registers
 
@@ -91,17 +71,13 @@ module _ (w : ℕ) (world : World) (P : Placement) (mapped : ℕ → ℕ) (h : I
       → written_number w world.notes P made v < 2 ^ 64
   unfolding written_number
   number_small made A ok (value.Int n) l = l
-  number_small made A ok (value.Size n c) l = omega arith
-  number_small made A ok (value.Ptr o i) l = omega arith
-  number_small made A ok value.Null l = omega arith
   number_small made A ok (value.StatusOk k) l = omega (arith, l)
   number_small made A ok (value.StatusError k) l = by_width (λ u. 2 ^ (8 * u - 1) + k < 2 ^ 64) w h (omega (arith, l)) (omega (arith, l))
   number_small made A ok (value.Handle k) l = let a = ok.area in let s = width_word w h in omega (arith, l, a, s)
   number_small made A ok (value.Entry f) l = let a = ok.area in let s = width_word w h in omega (arith, l, a, s)
   number_small made A ok (value.Method m) l = let a = ok.area in let s = width_word w h in omega (arith, l, a, s)
-  number_small made A ok value.Any l = omega arith
-  number_small made A ok value.Out l = omega arith
   number_small made A ok (value.Wild x) l = l
+  number_small made A ok t l = omega arith
 
   result_shows : (made : List TypedObject) (A : Addresses) → Named w world.notes P made A → (kind : Option Ty) (v : Value)
       → IsValue world.notes v → Shows w A (result_value world.notes made kind v) (written_number w world.notes P made v)
@@ -112,13 +88,7 @@ module _ (w : ℕ) (world : World) (P : Placement) (mapped : ℕ → ℕ) (h : I
 
   pub call_more : (A B : Addresses) (c : NativeCall Neutral) (d : NativeCall ℕ) → Extends A B → CallShows w A c d → CallShows w B c d
   call_more A B NoCall NoCall e s = tt
-  call_more A B NoCall (Asked q x) e s = s
-  call_more A B NoCall (Accepted f m xs) e s = s
-  call_more A B (Asked p v) NoCall e s = s
   call_more A B (Asked p v) (Asked q x) e s = (s.0, shows_more w A B v x e s.1)
-  call_more A B (Asked p v) (Accepted f m xs) e s = s
-  call_more A B (Accepted k n vs) NoCall e s = s
-  call_more A B (Accepted k n vs) (Asked q x) e s = s
   call_more A B (Accepted k n vs) (Accepted f m xs) e s = (s.0, s.1, all vs xs s.2)
     where
       all : (us : List Neutral) (ys : List ℕ) → AllZip (Shows w A) us ys → AllZip (Shows w B) us ys
@@ -126,6 +96,7 @@ module _ (w : ℕ) (world : World) (P : Placement) (mapped : ℕ → ℕ) (h : I
       all [] (y ∷ ys) z = z
       all (u ∷ us) [] z = z
       all (u ∷ us) (y ∷ ys) z = (shows_more w A B u y e z.0, all us ys z.1)
+  call_more A B c t e s = s
 
   host_more : (A B : Addresses) (top : ℕ) (k : HostFrame) (s : SavedFrame) → Extends A B → HostShows w world P A top k s
       → HostShows w world P B top k s
@@ -183,14 +154,9 @@ module _ (w : ℕ) (world : World) (P : Placement) (mapped : ℕ → ℕ) (h : I
   pub copied_show : (A : Addresses) (c : NativeCall Neutral) (d : NativeCall ℕ) → CallShows w A c d
       → AllZip (Shows w A) (copied c) (copied d)
   copied_show A NoCall NoCall s = tt
-  copied_show A NoCall (Asked q x) s = absurd s
-  copied_show A NoCall (Accepted f m xs) s = absurd s
-  copied_show A (Asked p v) NoCall s = absurd s
   copied_show A (Asked p v) (Asked q x) s = tt
-  copied_show A (Asked p v) (Accepted f m xs) s = absurd s
-  copied_show A (Accepted k n vs) NoCall s = absurd s
-  copied_show A (Accepted k n vs) (Asked q x) s = absurd s
   copied_show A (Accepted k n vs) (Accepted f m xs) s = s.2
+  copied_show A c t s = absurd s
 
   -- ---- the reply
 

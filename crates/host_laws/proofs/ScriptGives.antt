@@ -1,42 +1,20 @@
 -- A script that was read gives what the laws of the host's steps and of a run's start ask of it.
-use Rattle.std.proofs.Common.{◌≡◌, ℕ, suc, ◌+◌, ◌-◌, ◌<◌, ◌≤◌, true, List, [], ◌∷◌, ◌++◌, map, take, length, Some, refl, ap, ◌∙◌}
-use Rattle.std.proofs.Common.{subst, arith, slice_get}
-use Rattle.std.proofs.lemmas.Bool.{lt-ltb}
-use Rattle.std.proofs.lemmas.Option.{slice_get-map, slice_get_within}
-use Rattle.std.specs.List.{AllByRecursion, flat_map}
-use Rattle.std.specs.Option.{option_map, option_map_or}
+use Rattle.host_laws.proofs.Common.{◌≡◌, ℕ, suc, ◌+◌, ◌-◌, ◌<◌, ◌≤◌, true, List, [], ◌∷◌, ◌++◌, map, take, length, Some, refl, ap, ◌∙◌}
+use Rattle.host_laws.proofs.Common.{subst, arith, slice_get, lt-ltb, slice_get-map, slice_get_within, AllByRecursion, flat_map, option_map}
+use Rattle.host_laws.proofs.Common.{option_map_or, FnNote, Notes, OutValue, ScriptCall, ScriptObject, WriteValue, Field, Value, Config}
+use Rattle.host_laws.proofs.Common.{InObject, Store, field_at, function_params, total, TypedObject, made_objects, placed_objects}
+use Rattle.host_laws.proofs.Common.{script_object, static_object, fits_each, Cells, FieldOf, World, IsValue, length-map}
+use Rattle.host_laws.proofs.Common.{slice_get-append_left, slice_get-append_right, CanEnter, StoreNames, CallGiven, StoreGiven}
+use Rattle.host_laws.proofs.Common.{start_config}
 use Rattle.note_types.specs.Records.{Each}
-use Rattle.note_types.specs.declared.notes.FnNote.{FnNote}
-use Rattle.note_types.specs.declared.notes.Notes.{Notes}
-use Rattle.note_types.specs.declared.script.CellValue.{CellValue}
-use Rattle.note_types.specs.declared.script.OutValue.{OutValue}
-use Rattle.note_types.specs.declared.script.Script.{Script}
-use Rattle.note_types.specs.declared.script.ScriptCall.{ScriptCall}
-use Rattle.note_types.specs.declared.script.ScriptObject.{ScriptObject}
-use Rattle.note_types.specs.declared.script.WriteValue.{WriteValue}
-use Rattle.note_types.specs.declared.shape.Field.{Field}
-use Rattle.note_types.specs.declared.value.Value.{Value}
-use Rattle.note_types.specs.declared.value.Value.TheVariants as value
-use Rattle.neutral_machine.specs.Config.{Config}
-use Rattle.host_model.specs.HostPlans.{InObject, Store, cell_store, field_at, field_of, function_params}
-use Rattle.neutral_machine.specs.Layout.{total}
-use Rattle.host_model.specs.declared.object.TypedObject.{TypedObject}
-use Rattle.host_model.specs.Objects.{made_objects, objects_of, placed_objects, script_object, static_object}
-use Rattle.host_model.specs.ScriptValues.{fits_each}
-use Rattle.host_model.specs.Scripts.{IsCallOf, IsScript, IsWritten}
-use Rattle.host_model.specs.Values.{Cells, FieldOf}
-use Rattle.host_model.specs.World.{World}
-use Rattle.neutral_machine.specs.WrittenLaw.{IsValue}
-use Rattle.ebc_base.proofs.Lists.{length-map, slice_get-append_left, slice_get-append_right}
-use Rattle.neutral_machine.proofs.Ranges.{most_above}
+use Rattle.note_types.specs.declared.{script.CellValue.CellValue, script.Script.Script}
+use Rattle.host_model.specs.{HostPlans.cell_store, HostPlans.field_of, Objects.objects_of, Scripts.IsCallOf, Scripts.IsScript}
+use Rattle.host_model.specs.Scripts.{IsWritten}
 use Rattle.neutral_machine.proofs.ScriptObjects.{each_append, each_flat, each_take}
-use Rattle.host_laws.specs.PlanFits.{CanEnter, StoreNames}
-use Rattle.host_laws.specs.ScriptGiven.{CallGiven, StoreGiven}
+use Rattle.neutral_machine.proofs.{Ranges.most_above, Filling.all_filling, Filling.all_flat}
 use Rattle.host_laws.specs.ScriptLaw.{CallsAreGiven, ObjectsAreGiven, StartIsGiven}
-use Rattle.host_laws.specs.StartGiven.{start_config}
-use Rattle.host_laws.proofs.Growing.{made_more}
-use Rattle.neutral_machine.proofs.Filling.{all_filling, all_flat}
-use Rattle.host_laws.proofs.Plans.{as_many}
+use Rattle.host_laws.proofs.{Growing.made_more, Plans.as_many}
+use Rattle.note_types.specs.declared.value.Value.TheVariants as value
 
 -- ---- lists
 
@@ -61,18 +39,13 @@ unfolding field_at
 field_there notes made n i f o x at within there = rw (at, lt-ltb i o.count within) there
 
 is_value : (notes : Notes) (v : Value) → IsWritten notes v → IsValue notes v
-is_value notes (value.Int n) h = h
 is_value notes (value.Size n c) h = tt
 is_value notes (value.Ptr o i) h = tt
 is_value notes value.Null h = tt
-is_value notes (value.StatusOk k) h = h
-is_value notes (value.StatusError k) h = h
-is_value notes (value.Handle k) h = h
-is_value notes (value.Entry f) h = h
-is_value notes (value.Method m) h = h
 is_value notes value.Any h = tt
 is_value notes value.Out h = absurd h
 is_value notes (value.Wild x) h = absurd h
+is_value notes t h = h
 
 -- ---- calls
 

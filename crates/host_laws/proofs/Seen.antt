@@ -1,27 +1,11 @@
 -- The law of views: what the host sees of a configuration it sees of each run that stands for it, at either width. Here are
 -- the parts of standing for a configuration that the law needs.
-use Rattle.std.specs.Prelude.{◌≡◌, ℕ, ◌^◌, ◌<◌, true, List, [], ◌∷◌, Some, slice_get, ⊤}
-use Rattle.std.specs.List.{AllZip}
-use Rattle.ebc_width.specs.Bytes.{little_endian}
-use Rattle.note_types.specs.Cells.{cell_size}
-use Rattle.ebc_width.specs.Ranges.{holds}
-use Rattle.note_types.specs.Concrete.{register}
-use Rattle.host_model.specs.HostPlans.{View, field_at}
-use Rattle.host_model.specs.HostSteps.{spot_of, cell_address, host_view, slots_of}
-use Rattle.host_model.specs.World.{World}
-use Rattle.host_model.specs.Placements.{Placement}
-use Rattle.host_model.specs.Readings.{in_stack}
-use Rattle.host_model.specs.RunState.{SavedFrame, RunState}
-use Rattle.note_types.specs.declared.notes.Notes.{Notes}
-use Rattle.note_types.specs.declared.shape.Field.{Field}
-use Rattle.note_types.specs.declared.shape.Shape.{Shape}
-use Rattle.neutral_machine.specs.Config.{HostFrame, Frame, Config, hosts, locals_at}
-use Rattle.neutral_machine.specs.NeutralHost.{objects_at, host_view as neutral_view, slots_of as neutral_slots_of}
-use Rattle.host_model.specs.declared.object.TypedObject.{TypedObject}
-use Rattle.neutral_machine.specs.NeutralReadings.{content_value}
-use Rattle.neutral_machine.specs.Named.{Named}
-use Rattle.neutral_machine.specs.Stands.{CallShows}
-use Rattle.host_model.specs.Values.{Neutral, Addresses, LocalOf, FieldOfLocals, Cells, Shows}
+use Rattle.host_laws.proofs.Common.{◌≡◌, ℕ, ◌^◌, ◌<◌, true, List, [], ◌∷◌, Some, slice_get, AllZip, little_endian, cell_size, holds}
+use Rattle.host_laws.proofs.Common.{register, View, field_at, spot_of, cell_address, host_view, slots_of, World, Placement, in_stack}
+use Rattle.host_laws.proofs.Common.{SavedFrame, RunState, Notes, Field, Shape, HostFrame, Frame, Config, hosts, locals_at, objects_at}
+use Rattle.host_laws.proofs.Common.{TypedObject, content_value, Named, CallShows, Neutral, Addresses, LocalOf, FieldOfLocals, Cells, Shows}
+use Rattle.std.specs.Prelude.{⊤}
+use Rattle.neutral_machine.specs.NeutralHost.{host_view as neutral_view, slots_of as neutral_slots_of}
 
 -- The locals of frames lie in the stack, and the written ones show there.
 pub record LocalsStand (w : ℕ) (notes : Notes) (P : Placement) (made : List TypedObject) (A : Addresses) (frames : List Frame)

@@ -1,69 +1,32 @@
 -- What the host sees of a configuration it sees of each run that stands for it.
-use Rattle.std.proofs.Common.{◌≡◌, ℕ, ◌+◌, ◌-◌, ◌*◌, ◌<◌, ◌≤◌, Bool, true, false, if◌then◌else◌, nat_le, nat_eq, List, [], ◌∷◌, Some, None}
-use Rattle.std.proofs.Common.{refl, sym, ap, ap₂, ◌∙◌, subst, arith, slice_get}
-use Rattle.std.specs.List.{AllZip}
-use Rattle.std.specs.Option.{option_map_or, option_and_then}
-use Rattle.std.proofs.lemmas.Option.{same_Some, none-some}
+use Rattle.host_laws.proofs.Common.{◌≡◌, ℕ, ◌+◌, ◌-◌, ◌*◌, ◌<◌, ◌≤◌, Bool, true, false, if◌then◌else◌, nat_le, nat_eq, List, [], ◌∷◌, Some}
+use Rattle.host_laws.proofs.Common.{None, refl, sym, ap, ap₂, ◌∙◌, subst, arith, slice_get, AllZip, option_map_or, option_and_then}
+use Rattle.host_laws.proofs.Common.{same_Some, none-some, IsWidth, cut_at, little_endian, cell_size, Concrete, register, covers, holds}
+use Rattle.host_laws.proofs.Common.{field_at, signature_params, spot_of, cell_address, TypedObject, made_objects, placed_objects, World}
+use Rattle.host_laws.proofs.Common.{image_range, Placement, slot_bytes, stack_bytes, object_at, return_cell, IsPlacement, placed_ranges}
+use Rattle.host_laws.proofs.Common.{stack_end, before_all, SavedFrame, RunState, Cell, Notes, WantParam, Field, Shape, StackItem}
+use Rattle.host_laws.proofs.Common.{FunctionFrame, Frame, Function, Host, Config, hosts, addresses, height, total, minus, Neutral}
+use Rattle.host_laws.proofs.Common.{Addresses, FieldOf, FieldOfLocals, Shows, ShowsIn, word, memory_of, cell_field, ItemsShow, FramesShow}
+use Rattle.host_laws.proofs.Common.{HostsShow, Stands, WorldFits, slot_positive, bounded, in_object_at, object_cell, cell_lies, end_small}
+use Rattle.host_laws.proofs.Common.{minus-is, stack_within, stack_holds, width_word}
 use Rattle.std.proofs.lemmas.Bool.{and_from, le-leb}
+use Rattle.note_types.proofs.SameLaws.{same_kind-equal}
+use Rattle.note_types.specs.{BelowTests.same_kind, Concrete.loaded, Shapes.start_at}
+use Rattle.host_model.specs.{Placements.shape_bytes, Readings.slots_from}
+use Rattle.note_types.specs.declared.cell.SlotKind.TheVariants.{N, Q, D}
+use Rattle.note_types.specs.declared.cell.SlotKind.{SlotKind}
+use Rattle.neutral_machine.specs.NeutralReadings.{access_to, slot_given, neutral_slots}
+use Rattle.neutral_machine.specs.{Config.Pushed, Config.LocalsOf, Config.top_function, Locations.access_bytes}
+use Rattle.host_laws.proofs.{Seen.LocalsStand, Seen.HostsAlike, Seen.SeenAlike, ViewAlike.before_some, Things.named, Things.base_is}
+use Rattle.neutral_machine.proofs.Values.{Bounded, ObjectsBelow, kept_natural_shows, kept_shows, whole_shows}
+use Rattle.neutral_machine.proofs.{Agree.local_within, Bounds.objects_below, Locals.fits_at, Locals.locals_fit, Numbers.cut_same}
 use Rattle.note_types.specs.declared.cell.Cell.TheVariants as cell
 use Rattle.note_types.specs.declared.spot.Spot.TheVariants as spot
-use Rattle.ebc_width.specs.Width.{IsWidth, cut_at}
-use Rattle.ebc_width.specs.Bytes.{little_endian}
-use Rattle.note_types.proofs.SameLaws.{same_kind-equal}
-use Rattle.note_types.specs.BelowTests.{same_kind}
-use Rattle.note_types.specs.Cells.{cell_size}
-use Rattle.note_types.specs.Concrete.{Concrete, loaded, register}
-use Rattle.ebc_width.specs.Ranges.{covers, holds}
-use Rattle.host_model.specs.HostPlans.{field_at, signature_params}
-use Rattle.host_model.specs.HostSteps.{spot_of, cell_address}
-use Rattle.host_model.specs.declared.object.TypedObject.{TypedObject}
-use Rattle.host_model.specs.Objects.{made_objects, placed_objects}
-use Rattle.host_model.specs.World.{World}
-use Rattle.host_model.specs.Placements.{image_range, Placement, slot_bytes, shape_bytes, stack_bytes, object_at, return_cell, IsPlacement}
-use Rattle.host_model.specs.Placements.{placed_ranges, stack_end}
-use Rattle.host_model.specs.Readings.{before_all, slots_from}
-use Rattle.host_model.specs.RunState.{SavedFrame, RunState}
-use Rattle.note_types.specs.Shapes.{start_at}
-use Rattle.note_types.specs.declared.cell.Cell.{Cell}
-use Rattle.note_types.specs.declared.cell.SlotKind.{SlotKind}
-use Rattle.note_types.specs.declared.cell.SlotKind.TheVariants.{N, Q, D}
-use Rattle.note_types.specs.declared.notes.Notes.{Notes}
-use Rattle.note_types.specs.declared.notes.WantParam.{WantParam}
-use Rattle.note_types.specs.declared.shape.Field.{Field}
-use Rattle.note_types.specs.declared.shape.Shape.{Shape}
-use Rattle.neutral_machine.specs.Config.{StackItem, Pushed, LocalsOf, FunctionFrame, Frame, Function, Host, Config, hosts, top_function}
-use Rattle.neutral_machine.specs.NeutralReadings.{access_to, slot_given, neutral_slots}
-use Rattle.neutral_machine.specs.Layout.{addresses, height, total}
-use Rattle.host_model.specs.Values.{minus, Neutral, Addresses, FieldOf, FieldOfLocals, Shows, ShowsIn, word}
-use Rattle.neutral_machine.specs.Locations.{access_bytes}
-use Rattle.neutral_machine.specs.Memory.{memory_of, cell_field}
-use Rattle.neutral_machine.specs.Stands.{ItemsShow, FramesShow, HostsShow, Stands}
-use Rattle.host_laws.proofs.Seen.{LocalsStand, HostsAlike, SeenAlike}
-use Rattle.neutral_machine.specs.WorldFits.{WorldFits}
-use Rattle.neutral_machine.proofs.Agree.{slot_positive, local_within}
-use Rattle.neutral_machine.proofs.Bounds.{bounded, objects_below}
-use Rattle.neutral_machine.proofs.Cells.{in_object_at, object_cell, cell_lies, end_small}
-use Rattle.neutral_machine.proofs.Locals.{fits_at, locals_fit}
-use Rattle.neutral_machine.proofs.Numbers.{minus-is, cut_same}
-use Rattle.neutral_machine.proofs.Placed.{stack_within, stack_holds}
-use Rattle.neutral_machine.proofs.Values.{Bounded, ObjectsBelow, kept_natural_shows, kept_shows, whole_shows}
-use Rattle.host_laws.proofs.ViewAlike.{before_some}
-use Rattle.host_laws.proofs.Things.{named, base_is}
-use Rattle.neutral_machine.proofs.Words.{width_word}
 
 -- a cell is loaded by its bytes
 access_is : (w : ℕ) (c : Cell) → access_bytes w (access_to c) ≡ cell_size w c
 access_is w cell.I8 = refl
-access_is w cell.I16 = refl
-access_is w cell.I32 = refl
-access_is w cell.I64 = refl
-access_is w cell.N = refl
-access_is w cell.Stat = refl
-access_is w cell.Handle = refl
-access_is w cell.Entry = refl
-access_is w (cell.Ptr s k b) = refl
-access_is w (cell.P64 s k b) = refl
-access_is w (cell.Method m) = refl
+access_is w c = refl
 
 -- what a slot gives back shows whole
 slot_shows : (w : ℕ) (notes : Notes) (made : List TypedObject) (A : Addresses) (kind : SlotKind) (v : Neutral) (x : ℕ) → IsWidth w

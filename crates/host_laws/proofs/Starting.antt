@@ -1,53 +1,26 @@
 -- Where a run starts: the machine with the script's objects, before the entry function is entered, stands for the configuration
 -- with them.
-use Rattle.std.proofs.Common.{◌≡◌, ℕ, zero, suc, ◌+◌, ◌-◌, ◌*◌, ◌%◌, ◌^◌, ◌<◌, ◌≤◌, ◌⊎◌, Bool, true, false, if◌then◌else◌, List, [], ◌∷◌}
-use Rattle.std.proofs.Common.{◌++◌, map, length, Some, None, refl, sym, ap, ◌∙◌, subst, subst₂, arith, inl, inr, ⊎_elim, slice_get}
-use Rattle.std.proofs.Common.{slice_index}
-use Rattle.std.specs.Option.{option_map}
-use Rattle.std.proofs.Math.Nat.{zero-mod}
-use Rattle.std.proofs.lemmas.Bool.{lt-ltb, le-ltb, cases_lt, eq-eqb}
-use Rattle.std.proofs.lemmas.List.{append-nil}
-use Rattle.std.proofs.lemmas.Option.{same_Some, none-some}
-use Rattle.note_types.specs.declared.spot.Spot.TheVariants as spot
-use Rattle.ebc_width.specs.Width.{IsWidth}
-use Rattle.ebc_width.specs.Bytes.{little_endian}
-use Rattle.note_types.specs.Cells.{cell_size}
-use Rattle.ebc_width.specs.Ranges.{covers}
-use Rattle.ebc_width.proofs.RangeLaws.{covers-inside}
-use Rattle.ebc_width.proofs.ByteLaws.{little_endian-agree}
-use Rattle.note_types.specs.Concrete.{Concrete}
-use Rattle.host_model.specs.HostPlans.{field_at, filling}
-use Rattle.host_model.specs.HostSteps.{with_objects, after_stores}
-use Rattle.host_model.specs.declared.object.TypedObject.{TypedObject}
-use Rattle.host_model.specs.Objects.{script_object, made_objects, placed_objects, static_object}
-use Rattle.host_model.specs.Placements.{image_range, Placement, object_at, object_bytes, IsPlacement, area_bytes, stack_bytes, stack_end}
-use Rattle.host_model.specs.Placements.{placed_ranges}
-use Rattle.host_model.specs.Progress.{script_start}
-use Rattle.host_model.specs.RunState.{RunState}
+use Rattle.host_laws.proofs.Common.{◌≡◌, ℕ, zero, suc, ◌+◌, ◌-◌, ◌*◌, ◌%◌, ◌^◌, ◌<◌, ◌≤◌, ◌⊎◌, Bool, true, false, if◌then◌else◌, List, []}
+use Rattle.host_laws.proofs.Common.{◌∷◌, ◌++◌, map, length, Some, None, refl, sym, ap, ◌∙◌, subst, subst₂, arith, inl, inr, ⊎_elim}
+use Rattle.host_laws.proofs.Common.{slice_get, slice_index, option_map, zero-mod, lt-ltb, le-ltb, cases_lt, eq-eqb, append-nil, same_Some}
+use Rattle.host_laws.proofs.Common.{none-some, IsWidth, little_endian, cell_size, covers, covers-inside, little_endian-agree, Concrete}
+use Rattle.host_laws.proofs.Common.{field_at, filling, with_objects, after_stores, TypedObject, script_object, made_objects, placed_objects}
+use Rattle.host_laws.proofs.Common.{static_object, image_range, Placement, object_at, object_bytes, IsPlacement, area_bytes, stack_bytes}
+use Rattle.host_laws.proofs.Common.{stack_end, placed_ranges, RunState, Field, Config, addresses, memory_of, cell_field, CellShows}
+use Rattle.host_laws.proofs.Common.{MachineStands, Stands, Neutral, CellPlace, FieldOf, FieldOfLocals, Cells, ShowsIn, null, World}
+use Rattle.host_laws.proofs.Common.{WorldFits, in_object_at, ObjectCell, object_cell, object_place, slice_get-append_right, lies}
+use Rattle.host_laws.proofs.Common.{objects_off, Lies, off_thunk, off_code, length-map, start_config}
 use Rattle.host_model.specs.Start.{bare_machine, image_byte, start_machine, run_start}
+use Rattle.host_model.specs.Progress.{script_start}
 use Rattle.note_types.specs.declared.ending.Ending.TheVariants.{Running}
-use Rattle.note_types.specs.declared.shape.Field.{Field}
-use Rattle.neutral_machine.specs.Config.{Config}
-use Rattle.neutral_machine.specs.NeutralHost.{with_objects as neutral_objects}
 use Rattle.neutral_machine.specs.NeutralRuns.{start_cells, bare_config, neutral_start}
-use Rattle.neutral_machine.specs.Layout.{addresses}
-use Rattle.neutral_machine.specs.Memory.{memory_of, cell_field}
-use Rattle.neutral_machine.specs.Stands.{CellShows, MachineStands, Stands, cell_address}
-use Rattle.host_model.specs.Values.{Neutral, CellPlace, FieldOf, FieldOfLocals, Cells, ShowsIn, null}
-use Rattle.host_model.specs.World.{World}
-use Rattle.neutral_machine.specs.WorldFits.{WorldFits}
-use Rattle.neutral_machine.proofs.Cells.{InObject, in_object_at, ObjectCell, object_cell, object_place}
-use Rattle.ebc_base.proofs.Lists.{slice_get-append_right}
-use Rattle.neutral_machine.proofs.Placed.{lies, objects_off}
-use Rattle.neutral_machine.proofs.PlacedObjects.{Lies}
-use Rattle.neutral_machine.proofs.Placed.{off_thunk, off_code}
-use Rattle.host_laws.proofs.Accepting.{of_object, its_range, read_zero}
-use Rattle.ebc_base.proofs.Lists.{length-map}
+use Rattle.neutral_machine.specs.{NeutralHost.with_objects as neutral_objects, Stands.cell_address}
+use Rattle.neutral_machine.proofs.Cells.{InObject}
 use Rattle.host_laws.proofs.Growing.{ranges_of, all_zeroed, others_stay, inside_zero, zeroed_small, objects_placed, placed_are}
-use Rattle.host_laws.proofs.Entering.{entered_stands}
-use Rattle.host_laws.proofs.Things.{base_is}
+use Rattle.host_laws.proofs.{Accepting.of_object, Accepting.its_range, Accepting.read_zero, Entering.entered_stands, Things.base_is}
 use Rattle.host_laws.proofs.Stores.{stores_stand}
-use Rattle.host_laws.specs.StartGiven.{start_config, StaticsShow, StartGiven}
+use Rattle.host_laws.specs.StartGiven.{StaticsShow, StartGiven}
+use Rattle.note_types.specs.declared.spot.Spot.TheVariants as spot
 
 brought_none : (world : World) → placed_objects world.script 0 ≡ world.script.object
 unfolding placed_objects

@@ -1,25 +1,12 @@
 -- The host's step as a whole: a run that stands for a configuration stands for it after each step of the host.
-use Rattle.std.proofs.Common.{◌≡◌, ℕ, ◌≤◌, Some, sym, ap, ◌∙◌, subst}
-use Rattle.std.specs.Option.{option_map_or}
-use Rattle.ebc_width.specs.Width.{IsWidth}
-use Rattle.host_model.specs.HostPlans.{View, Plan, Finishes, Leaves, Accepts, Enters, Replies, Resumes, Notifies, Ends, host_plan}
-use Rattle.host_model.specs.HostSteps.{host_step, host_view, performed}
-use Rattle.host_model.specs.Placements.{Placement, stack_bytes, IsPlacement}
-use Rattle.host_model.specs.Progress.{ScriptPlace}
-use Rattle.host_model.specs.RunState.{RunState}
-use Rattle.neutral_machine.specs.Config.{Config}
-use Rattle.neutral_machine.specs.NeutralHost.{performed as neutral_performed, host_view as neutral_view, neutral_host_step}
-use Rattle.neutral_machine.specs.Layout.{total}
-use Rattle.neutral_machine.specs.Stands.{Stands}
-use Rattle.host_model.specs.World.{World}
-use Rattle.neutral_machine.specs.WorldFits.{WorldFits}
-use Rattle.host_laws.proofs.Accepting.{accept_stands}
-use Rattle.host_laws.proofs.Entering.{enter_stands, notify_stands}
+use Rattle.host_laws.proofs.Common.{◌≡◌, ℕ, ◌≤◌, Some, sym, ap, ◌∙◌, subst, option_map_or, IsWidth, View, Plan, Finishes, Leaves, Accepts}
+use Rattle.host_laws.proofs.Common.{Enters, Replies, Resumes, Notifies, Ends, host_plan, host_step, host_view, performed, Placement}
+use Rattle.host_laws.proofs.Common.{stack_bytes, IsPlacement, ScriptPlace, RunState, Config, neutral_host_step, total, Stands, World}
+use Rattle.host_laws.proofs.Common.{WorldFits, PlanFits, some_of_map}
+use Rattle.neutral_machine.specs.NeutralHost.{performed as neutral_performed, host_view as neutral_view}
 use Rattle.host_laws.proofs.Leaving.{end_stands, leave_stands, resume_stands, finish_stands}
-use Rattle.host_laws.proofs.Replies.{reply_stands}
+use Rattle.host_laws.proofs.{Accepting.accept_stands, Entering.enter_stands, Entering.notify_stands, Replies.reply_stands}
 use Rattle.host_laws.proofs.Views.{views_stand}
-use Rattle.host_laws.specs.PlanFits.{PlanFits}
-use Rattle.ebc_base.proofs.Given.{some_of_map}
 
 module _ (w : ℕ) (world : World) (P : Placement) (mapped : ℕ → ℕ) (h : IsWidth w) (ok : WorldFits world) (pl : IsPlacement w world P) where
   -- each plan keeps that the run stands for the configuration

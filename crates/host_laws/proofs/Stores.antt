@@ -1,42 +1,18 @@
 -- The host's stores: a machine that stands for a configuration stands for it after each store of a written value.
-use Rattle.std.proofs.Common.{◌≡◌, ℕ, zero, suc, ◌+◌, ◌*◌, ◌%◌, ◌^◌, ◌≤◌, Bool, true, false, ◌&&◌, if◌then◌else◌, nat_eq, List, [], ◌∷◌}
-use Rattle.std.proofs.Common.{Option, Some, None, refl, sym, ap, ap₂, ◌∙◌, subst, arith, slice_get, slice_index, mod-eq_of_lt}
-use Rattle.std.specs.List.{AllZip, AllByRecursion}
-use Rattle.std.specs.Option.{option_map_or}
-use Rattle.std.proofs.lemmas.Option.{same_Some, none-some}
-use Rattle.std.proofs.lemmas.Bool.{and_parts, eqb-true}
-use Rattle.ebc_width.specs.Width.{IsWidth}
-use Rattle.ebc_width.specs.Bytes.{put}
-use Rattle.note_types.specs.Cells.{cell_size, content_type}
-use Rattle.note_types.specs.Concrete.{Concrete, stored}
-use Rattle.ebc_width.specs.Ranges.{holds}
-use Rattle.host_model.specs.HostPlans.{Target, InObject, InArgument, Store, field_at}
-use Rattle.host_model.specs.HostSteps.{cell_address, target_address, after_store, after_stores, written_number}
-use Rattle.host_model.specs.declared.object.TypedObject.{TypedObject}
-use Rattle.host_model.specs.Placements.{Placement, stack_bytes, IsPlacement, placed_ranges}
-use Rattle.note_types.specs.declared.cell.Cell.{Cell}
-use Rattle.note_types.specs.declared.shape.Field.{Field}
-use Rattle.neutral_machine.specs.Config.{Config}
-use Rattle.neutral_machine.specs.NeutralHost.{target_place, local_of, after_store as neutral_store, after_stores as neutral_stores}
-use Rattle.neutral_machine.specs.Layout.{addresses, total}
-use Rattle.neutral_machine.specs.Named.{Named}
-use Rattle.neutral_machine.specs.Memory.{memory_of, cell_field, with_cell}
-use Rattle.neutral_machine.specs.Stands.{MachineStands, cell_address as world_cell_address}
-use Rattle.host_model.specs.Values.{Neutral, Num, At, Handle, Method, Entry, Error, SignedError, Junk, ObjectOf, ThunkOf, LocalOf}
-use Rattle.host_model.specs.Values.{Addresses, CellPlace, FieldOf, FieldOfLocals, Cells, Shows, ShowsIn, IsPast, word}
-use Rattle.host_model.specs.World.{World}
-use Rattle.host_model.specs.Objects.{made_objects}
-use Rattle.neutral_machine.specs.WorldFits.{WorldFits}
-use Rattle.neutral_machine.specs.Written.{value_as}
-use Rattle.neutral_machine.proofs.WrittenShows.{value_shows}
-use Rattle.neutral_machine.proofs.Agree.{shown_in}
-use Rattle.neutral_machine.proofs.Bounds.{bounded}
-use Rattle.neutral_machine.proofs.Cells.{in_object_at, object_cell, cell_lies}
+use Rattle.host_laws.proofs.Common.{◌≡◌, ℕ, zero, suc, ◌+◌, ◌*◌, ◌%◌, ◌^◌, ◌≤◌, Bool, true, false, ◌&&◌, if◌then◌else◌, nat_eq, List, []}
+use Rattle.host_laws.proofs.Common.{◌∷◌, Option, Some, None, refl, sym, ap, ap₂, ◌∙◌, subst, arith, slice_get, slice_index, mod-eq_of_lt}
+use Rattle.host_laws.proofs.Common.{AllZip, AllByRecursion, option_map_or, same_Some, none-some, and_parts, eqb-true, IsWidth, put}
+use Rattle.host_laws.proofs.Common.{cell_size, content_type, Concrete, stored, holds, Target, InObject, InArgument, Store, field_at}
+use Rattle.host_laws.proofs.Common.{cell_address, after_stores, written_number, TypedObject, Placement, stack_bytes, IsPlacement}
+use Rattle.host_laws.proofs.Common.{placed_ranges, Cell, Field, Config, target_place, local_of, addresses, total, Named, memory_of}
+use Rattle.host_laws.proofs.Common.{cell_field, MachineStands, Neutral, At, LocalOf, Addresses, CellPlace, FieldOf, FieldOfLocals, Cells}
+use Rattle.host_laws.proofs.Common.{Shows, ShowsIn, IsPast, word, World, made_objects, WorldFits, value_as, value_shows, shown_in, bounded}
+use Rattle.host_laws.proofs.Common.{in_object_at, object_cell, cell_lies, StoreNames, width_word}
+use Rattle.host_model.specs.HostSteps.{target_address, after_store}
+use Rattle.neutral_machine.specs.NeutralHost.{after_store as neutral_store, after_stores as neutral_stores}
+use Rattle.neutral_machine.specs.{Memory.with_cell, Stands.cell_address as world_cell_address}
 use Rattle.neutral_machine.proofs.Stored.{stored_stands}
-use Rattle.host_laws.proofs.Things.{named, base_is}
-use Rattle.host_laws.proofs.SeenStands.{cell_address_is}
-use Rattle.host_laws.specs.PlanFits.{StoreNames}
-use Rattle.neutral_machine.proofs.Words.{width_word}
+use Rattle.host_laws.proofs.{Things.named, Things.base_is, SeenStands.cell_address_is}
 
 -- what is shown at a number of a list
 shown_at : (w : ℕ) (A : Addresses) (vs : List Neutral) (xs : List ℕ) (j : ℕ) (v : Neutral) → AllZip (Shows w A) vs xs
@@ -54,7 +30,6 @@ pub record IsLocal (q : Option Neutral) (p : CellPlace) : Type 0 where
   pub place : FieldOfLocals d f ≡ p
 
 local_is : (q : Option Neutral) (p : CellPlace) → local_of q ≡ Some p → IsLocal q p
-local_is None p e = absurd (none-some p e)
 local_is (Some (At (LocalOf d f) n c)) p e = go (nat_eq n 0 && nat_eq c 0) refl e
   where
     go : (t : Bool) → (nat_eq n 0 && nat_eq c 0) ≡ t → (if t then Some (FieldOfLocals d f) else None) ≡ Some p
@@ -67,15 +42,7 @@ local_is (Some (At (LocalOf d f) n c)) p e = go (nat_eq n 0 && nat_eq c 0) refl 
           place = same_Some _ p e;
         }
     go false t e = absurd (none-some p e)
-local_is (Some (At (ObjectOf k) n c)) p e = absurd (none-some p e)
-local_is (Some (At (ThunkOf k) n c)) p e = absurd (none-some p e)
-local_is (Some (Num n c)) p e = absurd (none-some p e)
-local_is (Some (Handle k)) p e = absurd (none-some p e)
-local_is (Some (Method k)) p e = absurd (none-some p e)
-local_is (Some (Entry k)) p e = absurd (none-some p e)
-local_is (Some (Error k)) p e = absurd (none-some p e)
-local_is (Some (SignedError k)) p e = absurd (none-some p e)
-local_is (Some Junk) p e = absurd (none-some p e)
+local_is o p e = absurd (none-some p e)
 
 module _ (w : ℕ) (world : World) (P : Placement) (mapped : ℕ → ℕ) (h : IsWidth w) (ok : WorldFits world) (pl : IsPlacement w world P) where
   -- where a store goes

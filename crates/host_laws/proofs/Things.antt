@@ -1,15 +1,10 @@
 -- What the laws of the host take of a valid placement, where the world is as the rules on an image and the reader of scripts
 -- have it.
-use Rattle.std.proofs.Common.{◌≡◌, ℕ, ◌+◌, Bool, true, false, if◌then◌else◌, nat_lt, List, Some, None, length}
-use Rattle.std.proofs.lemmas.Option.{same_Some, none-some, slice_get-get_or}
-use Rattle.ebc_width.specs.Width.{IsWidth}
-use Rattle.neutral_machine.specs.WorldFits.{WorldFits}
-use Rattle.neutral_machine.specs.Config.{Frame}
-use Rattle.neutral_machine.specs.Layout.{addresses}
-use Rattle.neutral_machine.specs.Named.{Named, HasObjects}
-use Rattle.host_model.specs.Objects.{no_shape, made_objects}
-use Rattle.host_model.specs.Placements.{Placement, IsPlacement, object_address, object_at}
-use Rattle.host_model.specs.World.{World}
+use Rattle.host_laws.proofs.Common.{◌≡◌, ℕ, ◌+◌, Bool, true, false, if◌then◌else◌, nat_lt, List, Some, None, length, same_Some, none-some}
+use Rattle.host_laws.proofs.Common.{slice_get-get_or, IsWidth, WorldFits, Frame, addresses, Named, made_objects, Placement, IsPlacement}
+use Rattle.host_laws.proofs.Common.{object_address, object_at, World}
+use Rattle.neutral_machine.specs.Named.{HasObjects}
+use Rattle.host_model.specs.Objects.{no_shape}
 use Rattle.neutral_machine.proofs.NamedThings.{things_named}
 
 pub has_objects : (world : World) → WorldFits world → HasObjects world

@@ -1,33 +1,17 @@
 -- BREAK 5: a thunk cell that is served holds its thunk's address, and the machine stands for the configuration with one thunk
 -- more made.
-use Rattle.std.proofs.Common.{◌≡◌, ℕ, zero, suc, ◌+◌, ◌*◌, ◌%◌, ◌^◌, ◌<◌, ◌≤◌, ◌⊎◌, true, if◌then◌else◌, length, Some, None, refl, sym, ap}
-use Rattle.std.proofs.Common.{ap₂, ◌∙◌, subst, arith, inl, inr, ⊎_elim, slice_get, mod-eq_of_lt}
-use Rattle.std.specs.Option.{option_map_or}
-use Rattle.std.proofs.lemmas.Bool.{cases_eq, cases_lt}
-use Rattle.std.proofs.lemmas.Option.{same_Some}
-use Rattle.ebc_width.specs.Width.{IsWidth, extended_at}
-use Rattle.ebc_width.specs.Bytes.{little_endian, put}
-use Rattle.ebc_width.proofs.ByteLaws.{little_endian-apart, put-apart, put-below}
-use Rattle.note_types.specs.Cells.{cell_size}
-use Rattle.note_types.specs.Concrete.{Concrete, stored}
-use Rattle.ebc_width.specs.Ranges.{holds}
-use Rattle.host_model.specs.HostPlans.{NotMapped, NamesNone, Names}
-use Rattle.host_model.specs.HostSteps.{thunk_place, entered_at, thunk_view}
-use Rattle.host_model.specs.Placements.{Placement, stack_bytes, thunk_at, IsPlacement, stack_end}
-use Rattle.note_types.specs.declared.notes.Thunk.{Thunk}
-use Rattle.neutral_machine.specs.Config.{Config}
-use Rattle.neutral_machine.specs.Layout.{addresses, total}
-use Rattle.neutral_machine.specs.Stands.{ThunkShows, MachineStands}
-use Rattle.host_model.specs.Values.{minus, ShowsIn}
-use Rattle.host_model.specs.World.{World}
-use Rattle.neutral_machine.specs.WorldFits.{WorldFits}
-use Rattle.neutral_machine.proofs.Agree.{frames_agree, read_put}
-use Rattle.neutral_machine.proofs.Cells.{cell_lies, end_small}
+use Rattle.host_laws.proofs.Common.{◌≡◌, ℕ, zero, suc, ◌+◌, ◌*◌, ◌%◌, ◌^◌, ◌<◌, ◌≤◌, ◌⊎◌, true, if◌then◌else◌, length, Some, None, refl}
+use Rattle.host_laws.proofs.Common.{sym, ap, ap₂, ◌∙◌, subst, arith, inl, inr, ⊎_elim, slice_get, mod-eq_of_lt, option_map_or, cases_eq}
+use Rattle.host_laws.proofs.Common.{cases_lt, same_Some, IsWidth, little_endian, put, little_endian-apart, put-apart, put-below, cell_size}
+use Rattle.host_laws.proofs.Common.{Concrete, stored, holds, Placement, stack_bytes, IsPlacement, stack_end, Thunk, Config, addresses}
+use Rattle.host_laws.proofs.Common.{total, ThunkShows, MachineStands, minus, ShowsIn, World, WorldFits, frames_agree, read_put, cell_lies}
+use Rattle.host_laws.proofs.Common.{end_small, width_le, width_word}
+use Rattle.ebc_width.specs.Width.{extended_at}
+use Rattle.host_model.specs.{HostPlans.NotMapped, HostPlans.NamesNone, HostPlans.Names, HostSteps.thunk_place, HostSteps.entered_at}
+use Rattle.host_model.specs.{HostSteps.thunk_view, Placements.thunk_at}
 use Rattle.neutral_machine.proofs.Placed.{image_holds, image_within, image_off_stack}
-use Rattle.neutral_machine.proofs.Stored.{width_le}
 use Rattle.host_laws.proofs.Things.{named}
 use Rattle.host_laws.specs.ThunkLoaded.{ThunkLoaded}
-use Rattle.neutral_machine.proofs.Words.{width_word}
 
 module _ (w : ℕ) (world : World) (P : Placement) (mapped : ℕ → ℕ) (h : IsWidth w) (ok : WorldFits world) (pl : IsPlacement w world P) where
   -- the bytes of a cell that isn't made are those loaded

@@ -1,10 +1,7 @@
 -- The laws as their contracts have them.
-use Rattle.std.proofs.lemmas.Option.{slice_get_within}
+use Rattle.host_laws.proofs.Common.{slice_get_within}
 use Rattle.host_laws.specs.Laws.{HostStepKeepsStanding, PlansKeepStanding, StartStands, ThunkIsSeen, ThunkKeepsStanding, ViewsAlike}
-use Rattle.host_laws.proofs.HostLaw.{host_law}
-use Rattle.host_laws.proofs.Starting.{run_starts}
-use Rattle.host_laws.proofs.Steps.{performed_stands}
-use Rattle.host_laws.proofs.Thunks.{names_stand, thunk_stands}
+use Rattle.host_laws.proofs.{HostLaw.host_law, Starting.run_starts, Steps.performed_stands, Thunks.names_stand, Thunks.thunk_stands}
 use Rattle.host_laws.proofs.Views.{views_stand}
 
 pub views_are_alike : ViewsAlike

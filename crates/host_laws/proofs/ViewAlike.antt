@@ -1,58 +1,30 @@
 -- What the host sees of a configuration it sees of each run that stands for it.
-use Rattle.std.proofs.Common.{◌≡◌, ◌≢◌, ℕ, suc, ◌+◌, ◌-◌, ◌*◌, Bool, true, false, ◌&&◌, if◌then◌else◌, nat_eq, List, [], ◌∷◌, length}
-use Rattle.std.proofs.Common.{Option, Some, None, is_some, refl, sym, ap, ap₂, ◌∙◌, subst, arith, slice_get, mod-eq_of_lt}
-use Rattle.std.specs.List.{AllZip, list_all}
-use Rattle.std.specs.Option.{option_map, option_map_or, option_and_then}
-use Rattle.std.proofs.lemmas.Option.{same_Some}
-use Rattle.std.proofs.lemmas.Bool.{and_parts, eqb-true, eq-eqb}
+use Rattle.host_laws.proofs.Common.{◌≡◌, ◌≢◌, ℕ, suc, ◌+◌, ◌-◌, ◌*◌, Bool, true, false, ◌&&◌, if◌then◌else◌, nat_eq, List, [], ◌∷◌, length}
+use Rattle.host_laws.proofs.Common.{Option, Some, None, is_some, refl, sym, ap, ap₂, ◌∙◌, subst, arith, slice_get, mod-eq_of_lt, AllZip}
+use Rattle.host_laws.proofs.Common.{list_all, option_map, option_map_or, option_and_then, same_Some, and_parts, eqb-true, eq-eqb, cut_at}
+use Rattle.host_laws.proofs.Common.{little_endian, cell_size, register, covers, holds, Asking, NoSite, Asks, View, Calls, GoesOn, field_at}
+use Rattle.host_laws.proofs.Common.{signature_params, signature_method, site_of, return_view, spot_of, cell_address, host_view, slots_of}
+use Rattle.host_laws.proofs.Common.{is_empty, ScriptPlace, NativeCall, NoCall, Asked, Accepted, TypedObject, made_objects, World}
+use Rattle.host_laws.proofs.Common.{image_range, Placement, in_stack, before_all, SavedFrame, RunState, Cell, FnNote, WantParam, ScriptCall}
+use Rattle.host_laws.proofs.Common.{WriteValue, Seen, Field, Shape, Spot, Value, HostFrame, Frame, Function, Host, Config, hosts, locals_at}
+use Rattle.host_laws.proofs.Common.{objects_at, writes_there, lent_there, is_method, neutral_arguments, content_value, local_named, Neutral}
+use Rattle.host_laws.proofs.Common.{At, LocalOf, CellPlace, FieldOfLocals, Addresses, Shows, IsPast, word, CallShows, if_some, some_of_map}
+use Rattle.note_types.proofs.SameLaws.{same_cell-equal}
+use Rattle.note_types.specs.BelowTests.{same_cell}
+use Rattle.host_model.specs.HostSteps.{asking_at, asking_by, writes_mapped, write_mapped, result_of, return_seen, call_seen, call_under_way}
+use Rattle.host_model.specs.Readings.{Role, GivenAs, OutCell, InoutCell, role_of, sort_of_cell, sort_of_type, reading_of, argument_read}
+use Rattle.host_model.specs.Readings.{arguments_read}
+use Rattle.host_model.specs.{HostPlans.due_view, Placements.method_at, ScriptValues.given, ScriptValues.lent, Values.Method}
+use Rattle.neutral_machine.specs.NeutralHost.{host_view as neutral_view, slots_of as neutral_slots_of, asking_at as neutral_asking_at}
+use Rattle.neutral_machine.specs.NeutralHost.{asking_by as neutral_asking_by, result_of as neutral_result_of}
+use Rattle.neutral_machine.specs.NeutralHost.{return_seen as neutral_return_seen, call_seen as neutral_call_seen}
+use Rattle.neutral_machine.specs.{Config.call_under_way as neutral_call, NeutralReadings.neutral_reading, NeutralReadings.neutral_argument}
+use Rattle.host_laws.proofs.Seen.{HostsAlike, SeenAlike, ViewsAlike}
+use Rattle.neutral_machine.proofs.ReadingAlike.{reads_alike, results_alike}
+use Rattle.ebc_base.specs.Steps.{only_if}
 use Rattle.note_types.specs.declared.spot.Spot.TheVariants as spot
 use Rattle.note_types.specs.declared.types.Ty.TheVariants as ty
 use Rattle.note_types.specs.declared.value.Value.TheVariants as value
-use Rattle.ebc_width.specs.Width.{cut_at}
-use Rattle.ebc_width.specs.Bytes.{little_endian}
-use Rattle.note_types.proofs.SameLaws.{same_cell-equal}
-use Rattle.note_types.specs.BelowTests.{same_cell}
-use Rattle.note_types.specs.Cells.{cell_size}
-use Rattle.note_types.specs.Concrete.{register}
-use Rattle.ebc_width.specs.Ranges.{covers, holds}
-use Rattle.host_model.specs.HostPlans.{Asking, NoSite, Asks, View, Calls, GoesOn, field_at, signature_params, signature_method}
-use Rattle.host_model.specs.HostPlans.{site_of, return_view, due_view}
-use Rattle.host_model.specs.HostSteps.{spot_of, cell_address, host_view, slots_of, asking_at, asking_by, writes_mapped, write_mapped}
-use Rattle.host_model.specs.HostSteps.{result_of, return_seen, call_seen, call_under_way}
-use Rattle.host_model.specs.Progress.{is_empty, ScriptPlace, NativeCall, NoCall, Asked, Accepted}
-use Rattle.host_model.specs.declared.object.TypedObject.{TypedObject}
-use Rattle.host_model.specs.Objects.{made_objects}
-use Rattle.host_model.specs.World.{World}
-use Rattle.host_model.specs.Placements.{image_range, Placement, method_at}
-use Rattle.host_model.specs.Readings.{Role, GivenAs, OutCell, InoutCell, role_of, sort_of_cell, sort_of_type, in_stack, reading_of}
-use Rattle.host_model.specs.Readings.{argument_read, arguments_read, before_all}
-use Rattle.host_model.specs.RunState.{SavedFrame, RunState}
-use Rattle.host_model.specs.ScriptValues.{given, lent}
-use Rattle.note_types.specs.declared.cell.Cell.{Cell}
-use Rattle.note_types.specs.declared.notes.FnNote.{FnNote}
-use Rattle.note_types.specs.declared.notes.WantParam.{WantParam}
-use Rattle.note_types.specs.declared.script.ScriptCall.{ScriptCall}
-use Rattle.note_types.specs.declared.script.WriteValue.{WriteValue}
-use Rattle.note_types.specs.declared.seen.Seen.{Seen}
-use Rattle.note_types.specs.declared.shape.Field.{Field}
-use Rattle.note_types.specs.declared.shape.Shape.{Shape}
-use Rattle.note_types.specs.declared.spot.Spot.{Spot}
-use Rattle.note_types.specs.declared.value.Value.{Value}
-use Rattle.neutral_machine.specs.Config.{HostFrame, Frame, Function, Host, Config, hosts, locals_at, call_under_way as neutral_call}
-use Rattle.neutral_machine.specs.NeutralHost.{objects_at, host_view as neutral_view, slots_of as neutral_slots_of}
-use Rattle.neutral_machine.specs.NeutralHost.{asking_at as neutral_asking_at, asking_by as neutral_asking_by, writes_there, lent_there}
-use Rattle.neutral_machine.specs.NeutralHost.{result_of as neutral_result_of, return_seen as neutral_return_seen}
-use Rattle.neutral_machine.specs.NeutralHost.{call_seen as neutral_call_seen}
-use Rattle.neutral_machine.specs.Locations.{is_method}
-use Rattle.neutral_machine.specs.NeutralReadings.{neutral_reading, neutral_argument, neutral_arguments, content_value, local_named}
-use Rattle.host_model.specs.Values.{Neutral, Num, At, Handle, Method, Entry, Error, SignedError, Junk, ObjectOf, ThunkOf, LocalOf}
-use Rattle.host_model.specs.Values.{CellPlace, FieldOfLocals, Addresses, Shows, IsPast, word}
-use Rattle.neutral_machine.specs.Stands.{CallShows}
-use Rattle.host_laws.proofs.Seen.{HostsAlike, SeenAlike, ViewsAlike}
-use Rattle.neutral_machine.proofs.Words.{if_some}
-use Rattle.neutral_machine.proofs.ReadingAlike.{reads_alike, results_alike}
-use Rattle.ebc_base.proofs.Given.{some_of_map}
-use Rattle.ebc_base.specs.Steps.{only_if}
 
 -- ---- options and tests
 
@@ -101,15 +73,7 @@ names_local frames c (At (LocalOf d f) n m) p e =
       cell = same_cell-equal q.0.cell c g.1;
       place = t.1;
     }
-names_local frames c (At (ObjectOf k) n m) p e = absurd (cc)
-names_local frames c (At (ThunkOf k) n m) p e = absurd (cc)
-names_local frames c (Num n m) p e = absurd (cc)
-names_local frames c (Handle k) p e = absurd (cc)
-names_local frames c (Method k) p e = absurd (cc)
-names_local frames c (Entry k) p e = absurd (cc)
-names_local frames c (Error k) p e = absurd (cc)
-names_local frames c (SignedError k) p e = absurd (cc)
-names_local frames c Junk p e = absurd (cc)
+names_local frames c v p e = absurd (cc)
 
 module _ (w : ℕ) (world : World) (P : Placement) (A : Addresses) (a : Config) (r : RunState) (ok : SeenAlike w world P A a r) where
   made : List TypedObject
@@ -175,13 +139,7 @@ module _ (w : ℕ) (world : World) (P : Placement) (A : Addresses) (a : Config) 
 
   method_is : (m : ℕ) (v : Neutral) → is_method m v ≡ true → v ≡ Method m
   method_is m (Method k) e = ap Method (eqb-true k m e)
-  method_is m (Num n c) e = absurd (cc)
-  method_is m (At k n c) e = absurd (cc)
-  method_is m (Handle k) e = absurd (cc)
-  method_is m (Entry k) e = absurd (cc)
-  method_is m (Error k) e = absurd (cc)
-  method_is m (SignedError k) e = absurd (cc)
-  method_is m Junk e = absurd (cc)
+  method_is m v e = absurd (cc)
 
   -- the same objects are made
   made_is : made_objects world.notes world.script r.script.entries ≡ made
@@ -304,20 +262,15 @@ module _ (w : ℕ) (world : World) (P : Placement) (A : Addresses) (a : Config) 
       → call_seen w world P r d ≡ Some v
   call_alike NoCall NoCall v h e =
       ap₂ (λ p n. due_view world p n) ok.script (count_alike (hosts a.frames) r.hosts ok.hosts) ∙ e
-  call_alike NoCall (Asked q x) v h e = absurd h
-  call_alike NoCall (Accepted f m xs) v h e = absurd h
-  call_alike (Asked p t) NoCall v h e = absurd h
   call_alike (Asked p t) (Asked q x) v h e =
       let y = some_of_map (Calls p) (neutral_asking_at world a p t) v e in
       ap (λ n. Some (Calls n (asking_at w world P r n x))) (sym h.0) ∙ ap (λ b. Some (Calls p b)) (asking_alike p t x y.0 y.1 h.1)
       ∙ ap Some y.2
-  call_alike (Asked p t) (Accepted f m xs) v h e = absurd h
-  call_alike (Accepted n k vs) NoCall v h e = absurd h
-  call_alike (Accepted n k vs) (Asked q x) v h e = absurd h
   call_alike (Accepted n k vs) (Accepted f m xs) v h e =
       ap₂ (λ x y. Some (GoesOn x y (length r.hosts) (writes_mapped w world P r x))) (sym h.0) (sym h.1)
       ∙ ap₂ (λ x y. Some (GoesOn n k x y)) (count_alike (hosts a.frames) r.hosts ok.hosts) (mapped_alike n)
       ∙ ap Some (if_some (lent_there world a.frames n vs) (GoesOn n k (length (hosts a.frames)) (writes_there world a n)) v e).1
+  call_alike c z v h e = absurd h
 
   -- ---- the view
 

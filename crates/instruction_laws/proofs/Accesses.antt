@@ -1,61 +1,35 @@
 -- Loads and stores by a register and a pair: the machine does what the neutral machine does, unless that is stuck.
-use Rattle.std.proofs.Common.{◌≡◌, ℕ, zero, suc, ◌+◌, ◌-◌, ◌*◌, ◌%◌, ◌^◌, ◌<◌, ◌≤◌, Bool, true, false, ◌&&◌, if◌then◌else◌, nat_eq, nat_lt}
-use Rattle.std.proofs.Common.{List, [], ◌∷◌, Option, Some, None, Result, Ok, Err, refl, sym, ap, ap₂, ◌∙◌, subst, subst₂, arith, ⊎_elim}
-use Rattle.std.proofs.Common.{slice_get, option_map, option_and_then, mod-eq_of_lt, le_refl}
-use Rattle.std.proofs.lemmas.Bool.{ltb-true, eqb-true, eqb-false, eq-eqb, and_parts, or_cases, false≢true}
-use Rattle.std.proofs.lemmas.Option.{same_Some, none-some}
+use Rattle.instruction_laws.proofs.Common.{◌≡◌, ℕ, zero, suc, ◌+◌, ◌-◌, ◌*◌, ◌%◌, ◌^◌, ◌<◌, ◌≤◌, Bool, true, false, ◌&&◌, if◌then◌else◌}
+use Rattle.instruction_laws.proofs.Common.{nat_eq, nat_lt, List, [], ◌∷◌, Option, Some, None, Result, Ok, Err, refl, sym, ap, ap₂, ◌∙◌}
+use Rattle.instruction_laws.proofs.Common.{subst, subst₂, arith, ⊎_elim, slice_get, option_map, option_and_then, mod-eq_of_lt, ltb-true}
+use Rattle.instruction_laws.proofs.Common.{eqb-true, eqb-false, eq-eqb, and_parts, or_cases, false≢true, same_Some, none-some}
+use Rattle.instruction_laws.proofs.Common.{little_endian, put, by_width, IsWidth, cut_at, address, sum_at, loaded_at, stored_at, or_else}
+use Rattle.instruction_laws.proofs.Common.{Concrete, register, loaded, holds, size_at, start_at, SlotKind, N, Exception, Thunk, Field}
+use Rattle.instruction_laws.proofs.Common.{Shape, ObjectOf, ThunkOf, Neutral, Num, At, Addresses, Shows, ShowsIn, FieldOfLocals, word}
+use Rattle.instruction_laws.proofs.Common.{minus, option_or, StackItem, Pushed, LocalsOf, FunctionFrame, Frame, Function, Host, Config}
+use Rattle.instruction_laws.proofs.Common.{depth, locals_among, World, TypedObject, Placement, IsPlacement, slot_bytes, stack_bytes}
+use Rattle.instruction_laws.proofs.Common.{stack_end, thunk_cell_address, return_cell, addresses, total, height, top_of, local_address}
+use Rattle.instruction_laws.proofs.Common.{memory_of, cell_field, with_cell, Outcome, Gives, Raises, Stuck, or_stuck, Does, Access, Move}
+use Rattle.instruction_laws.proofs.Common.{Form, Signed, access_bytes, kept, Offset, Location, CellAt, ParamAt, ThunkAt, parameters_of}
+use Rattle.instruction_laws.proofs.Common.{located_on_stack, offset_of, moved_by, located_by, loaded_by, stored_by, OwnLocalsAll}
+use Rattle.instruction_laws.proofs.Common.{MachineStands, WorldFits, minus-is, stack_holds, stack_within, cell_positive, fits_at, end_small}
+use Rattle.instruction_laws.proofs.Common.{kept_shows, bounded, objects_below, field_there, some_of_map, width_word}
+use Rattle.std.proofs.Common.{le_refl}
+use Rattle.ebc_width.proofs.ByteLaws.{little_endian-below}
+use Rattle.note_types.specs.{Cells.cell_size, Concrete.stored}
+use Rattle.note_types.specs.declared.{cell.Cell.Cell, cell.SlotKind.TheVariants.Q, notes.Notes.Notes}
+use Rattle.host_model.specs.Values.{LocalOf, Method, Entry, CellPlace}
+use Rattle.neutral_machine.specs.Locations.{item_units, item_bytes, find_field, local_field, is_byte, is_word, is_dword, is_qword}
+use Rattle.neutral_machine.specs.Locations.{is_natural, is_signed, reads, writes, reads_slot, cell_in, items_below, parameter_count}
+use Rattle.neutral_machine.specs.Locations.{located_past, located_among, parameter_at, value_at, cell_value, slot_value, entry_if}
+use Rattle.neutral_machine.specs.Locations.{fits_cell, stored_in}
+use Rattle.neutral_machine.specs.Stands.{ItemsShow, FramesShow, cell_address}
+use Rattle.neutral_machine.proofs.{Placed.image_holds, Agree.slot_positive, Agree.powers, Locals.locals_fit, Cells.CellLies}
+use Rattle.neutral_machine.proofs.{Cells.cell_lies, Values.sum_shows, Locate.names, Locate.address_of_named, Stack.item_pair}
+use Rattle.neutral_machine.proofs.{Stack.slot_there, Stored.stored_stands, Stored.width_le}
 use Rattle.ebc_insn.specs.declared.Size.TheVariants as sizes
 use Rattle.note_types.specs.declared.cell.Cell.TheVariants as cell
 use Rattle.neutral_machine.specs.Locations as locations
-use Rattle.ebc_width.specs.Bytes.{little_endian, put}
-use Rattle.ebc_width.proofs.ByteLaws.{little_endian-below}
-use Rattle.ebc_width.proofs.Laws.{by_width}
-use Rattle.ebc_width.specs.Width.{IsWidth, cut_at}
-use Rattle.ebc_machine.specs.Operands.{address, sum_at, loaded_at, stored_at}
-use Rattle.ebc_base.specs.Steps.{or_else}
-use Rattle.note_types.specs.Cells.{cell_size}
-use Rattle.note_types.specs.Concrete.{Concrete, register, loaded, stored}
-use Rattle.ebc_width.specs.Ranges.{holds}
-use Rattle.note_types.specs.Shapes.{size_at, start_at}
-use Rattle.note_types.specs.declared.cell.Cell.{Cell}
-use Rattle.note_types.specs.declared.cell.SlotKind.{SlotKind}
-use Rattle.note_types.specs.declared.cell.SlotKind.TheVariants.{N, Q}
-use Rattle.note_types.specs.declared.exception.Exception.{Exception}
-use Rattle.note_types.specs.declared.notes.Notes.{Notes}
-use Rattle.note_types.specs.declared.notes.Thunk.{Thunk}
-use Rattle.note_types.specs.declared.shape.Field.{Field}
-use Rattle.note_types.specs.declared.shape.Shape.{Shape}
-use Rattle.host_model.specs.Values.{ObjectOf, ThunkOf, LocalOf, Neutral, Num, At, Handle, Method, Entry, Error, SignedError, Junk}
-use Rattle.host_model.specs.Values.{Addresses, Shows, ShowsIn, CellPlace, FieldOfLocals, word, minus}
-use Rattle.std.specs.Option.{option_or}
-use Rattle.neutral_machine.specs.Config.{StackItem, Pushed, LocalsOf, FunctionFrame, Frame, Function, Host, Config, depth, locals_among}
-use Rattle.host_model.specs.World.{World}
-use Rattle.host_model.specs.declared.object.TypedObject.{TypedObject}
-use Rattle.host_model.specs.Placements.{Placement, IsPlacement, slot_bytes, stack_bytes, stack_end, thunk_cell_address, return_cell}
-use Rattle.neutral_machine.specs.Layout.{addresses, total, height, top_of, local_address}
-use Rattle.neutral_machine.specs.Memory.{memory_of, cell_field, with_cell}
-use Rattle.neutral_machine.specs.Outcomes.{Outcome, Gives, Raises, Stuck, or_stuck}
-use Rattle.neutral_machine.specs.Alike.{Does}
-use Rattle.neutral_machine.specs.Locations.{Access, Move, Form, Signed, access_bytes, item_units, item_bytes, find_field, local_field}
-use Rattle.neutral_machine.specs.Locations.{is_byte, is_word, is_dword, is_qword, is_natural, is_signed, reads, writes, reads_slot, kept}
-use Rattle.neutral_machine.specs.Locations.{Offset, Location, CellAt, ParamAt, ThunkAt, cell_in, parameters_of, items_below}
-use Rattle.neutral_machine.specs.Locations.{parameter_count, located_past, located_on_stack, located_among, parameter_at, value_at}
-use Rattle.neutral_machine.specs.Locations.{cell_value, slot_value, entry_if, fits_cell, stored_in}
-use Rattle.neutral_machine.specs.Operands.{offset_of, moved_by, located_by, loaded_by, stored_by}
-use Rattle.neutral_machine.specs.Stands.{ItemsShow, FramesShow, OwnLocalsAll, cell_address, MachineStands}
-use Rattle.neutral_machine.specs.WorldFits.{WorldFits}
-use Rattle.neutral_machine.proofs.Numbers.{minus-is}
-use Rattle.neutral_machine.proofs.Placed.{image_holds, stack_holds, stack_within}
-use Rattle.neutral_machine.proofs.Agree.{slot_positive, cell_positive, powers}
-use Rattle.neutral_machine.proofs.Locals.{fits_at, locals_fit}
-use Rattle.neutral_machine.proofs.Cells.{end_small, CellLies, cell_lies}
-use Rattle.neutral_machine.proofs.Values.{sum_shows, kept_shows}
-use Rattle.neutral_machine.proofs.Bounds.{bounded, objects_below}
-use Rattle.neutral_machine.proofs.Locate.{names, address_of_named}
-use Rattle.neutral_machine.proofs.Stack.{item_pair, field_there, slot_there}
-use Rattle.neutral_machine.proofs.Stored.{stored_stands, width_le}
-use Rattle.ebc_base.proofs.Given.{some_of_map}
-use Rattle.neutral_machine.proofs.Words.{width_word}
 
 -- ---- the sizes of accesses
 
@@ -91,13 +65,9 @@ reads_size w a cell.I8 e = sym (byte_size w a e)
 reads_size w a cell.I16 e = sym (word_size w a e)
 reads_size w a cell.I32 e = sym (dword_size w a e)
 reads_size w a cell.I64 e = sym (qword_size w a e)
-reads_size w a cell.N e = sym (natural_size w a e)
 reads_size w a cell.Stat e = ⊎_elim (λ x. sym (natural_size w a x)) (λ x. sym (signed_size w a x)) (or_cases (is_natural a) (is_signed a) e)
-reads_size w a cell.Handle e = sym (natural_size w a e)
-reads_size w a cell.Entry e = sym (natural_size w a e)
-reads_size w a (cell.Ptr s k may) e = sym (natural_size w a e)
 reads_size w a (cell.P64 s k may) e = sym (qword_size w a e)
-reads_size w a (cell.Method m) e = sym (natural_size w a e)
+reads_size w a c e = sym (natural_size w a e)
 
 pub writes_size : (w : ℕ) (a : Access) (c : Cell) → writes a c ≡ true → cell_size w c ≡ access_bytes w a
 writes_size w a cell.Stat e = sym (natural_size w a e)
@@ -231,14 +201,10 @@ module _ (w : ℕ) (world : World) (P : Placement) (mapped : ℕ → ℕ) (h : I
   -- ---- what is read
 
   bytes_word : (access : Access) → 2 ^ (8 * access_bytes w access) ≤ 2 ^ 64
-  bytes_word (Move sizes.Byte) = omega arith
-  bytes_word (Move sizes.Word) = omega arith
-  bytes_word (Move sizes.Dword) = omega arith
-  bytes_word (Move sizes.Qword) = omega arith
   bytes_word (Move sizes.Natural) = width_word w h
   bytes_word (Form true) = omega arith
-  bytes_word (Form false) = omega arith
   bytes_word Signed = width_word w h
+  bytes_word c = omega arith
 
   -- the machine reads a number that a value shows as
   pub record Reads (a : Config) (s : Concrete) (r y : ℕ) (access : Access) (v : Neutral) : Type 0 where
@@ -308,13 +274,7 @@ module _ (w : ℕ) (world : World) (P : Placement) (mapped : ℕ → ℕ) (h : I
       go : (t : Bool) → (if t then Some (CellAt (FieldOfLocals d f)) else None) ≡ Some (ParamAt j) → ⊥
       go true g = cell_param (FieldOfLocals d f) j (same_Some _ _ g)
       go false g = none-some _ g
-  no_param_past notes objects (Num n c) j g = none-some _ g
-  no_param_past notes objects (Handle k) j g = none-some _ g
-  no_param_past notes objects (Method k) j g = none-some _ g
-  no_param_past notes objects (Entry k) j g = none-some _ g
-  no_param_past notes objects (Error k) j g = none-some _ g
-  no_param_past notes objects (SignedError k) j g = none-some _ g
-  no_param_past notes objects Junk j g = none-some _ g
+  no_param_past notes objects v j g = none-some _ g
 
   -- a pair that names a parameter is found past the items
   param_past : (at : Offset) (d n c j : ℕ) (params is : List StackItem) → located_among at d n c params is ≡ Some (ParamAt j) → (m b : ℕ)
@@ -475,13 +435,7 @@ module _ (w : ℕ) (world : World) (P : Placement) (mapped : ℕ → ℕ) (h : I
           → NamesThunk notes objects (At (LocalOf d f) n c) j
       go true g = absurd (cell_thunk (FieldOfLocals d f) j (same_Some _ _ g))
       go false g = absurd (none-some _ g)
-  thunk_past notes objects (Num n c) j g = absurd (none-some _ g)
-  thunk_past notes objects (Handle k) j g = absurd (none-some _ g)
-  thunk_past notes objects (Method k) j g = absurd (none-some _ g)
-  thunk_past notes objects (Entry k) j g = absurd (none-some _ g)
-  thunk_past notes objects (Error k) j g = absurd (none-some _ g)
-  thunk_past notes objects (SignedError k) j g = absurd (none-some _ g)
-  thunk_past notes objects Junk j g = absurd (none-some _ g)
+  thunk_past notes objects v j g = absurd (none-some _ g)
 
   no_thunk_param : (at : Offset) (j n c i : ℕ) (is : List StackItem) → parameter_at at j n c is ≡ Some (ThunkAt i) → ⊥
   no_thunk_param at j n c i [] g = none-some _ g
@@ -682,7 +636,5 @@ module _ (w : ℕ) (world : World) (P : Placement) (mapped : ℕ → ℕ) (h : I
           → Does (MachineStands w world P mapped None) (or_stuck (option_and_then (λ l. locations.stored_at world a access l v) l))
           (or_else raised (if holds s.objects (address w s r y) (access_bytes w access) then
           Some (record s { byte = put s.byte (address w s r y) (access_bytes w access) x }) else None))
-      by_location None g = tt
       by_location (Some (CellAt p)) g = by_field p g (cell_field world.notes (memory_of world a) p) refl
-      by_location (Some (ParamAt j)) g = tt
-      by_location (Some (ThunkAt i)) g = tt
+      by_location o g = tt

@@ -1,8 +1,26 @@
 -- Arithmetic, comparisons and moves: the machine does what the neutral machine does.
-use Rattle.std.proofs.Common.{◌≡◌, ℕ, zero, suc, ◌+◌, ◌*◌, ◌/◌, ◌%◌, ◌^◌, ◌<◌, ◌≤◌, Bool, true, false, if◌then◌else◌, nat_eq, nat_lt, List}
-use Rattle.std.proofs.Common.{[], ◌∷◌, Option, Some, None, Ok, ℤ, refl, sym, ap, ◌∙◌, subst, arith, slice_get, option_map, get_or}
-use Rattle.std.proofs.lemmas.Bool.{eqb-true, ltb-true}
-use Rattle.std.proofs.lemmas.Option.{none-some}
+use Rattle.instruction_laws.proofs.Common.{◌≡◌, ℕ, zero, ◌+◌, ◌*◌, ◌/◌, ◌%◌, ◌^◌, ◌<◌, ◌≤◌, Bool, true, false, if◌then◌else◌, nat_eq}
+use Rattle.instruction_laws.proofs.Common.{nat_lt, List, [], ◌∷◌, Option, Some, None, Ok, ℤ, refl, sym, ap, ◌∙◌, subst, arith, slice_get}
+use Rattle.instruction_laws.proofs.Common.{option_map, get_or, eqb-true, ltb-true, none-some, IsWidth, wrap64, extended_at, by_width}
+use Rattle.instruction_laws.proofs.Common.{wrap64-below, extended_at-below, linear_at-wrap64, pair_of, Index, ArithOp, CmpOp, Size}
+use Rattle.instruction_laws.proofs.Common.{form_bytes, index_offset, sum_at, Concrete, register, with_register, Static, Thunk, ObjectOf}
+use Rattle.instruction_laws.proofs.Common.{ThunkOf, Neutral, Num, At, Addresses, Shows, number, word, option_or, option_map_or}
+use Rattle.instruction_laws.proofs.Common.{slice_get-get_or, Config, World, Placement, IsPlacement, stack_bytes, addresses, total}
+use Rattle.instruction_laws.proofs.Common.{memory_of, or_stuck, Does, RowsAlike, compared_as, Access, Move, Form, Signed, access_bytes}
+use Rattle.instruction_laws.proofs.Common.{kept, NeutralSide, direct_value, Site, flags_of, immediate, MachineStands, Names, WorldFits}
+use Rattle.instruction_laws.proofs.Common.{shown_in, number_shows, kept_shows, bounded, objects_below, turned_stands}
+use Rattle.ebc_width.proofs.Laws.{extended_at-at_small, linear_at-below}
+use Rattle.ebc_machine.specs.Operands.{size_bytes, low_bytes}
+use Rattle.machine_alu.specs.Alu.{compared}
+use Rattle.note_types.specs.Concrete.{with_flags}
+use Rattle.host_model.specs.Values.{Anchor, Error, Junk, pair, error_at, signed_error_at, IsCode}
+use Rattle.std.specs.{List.position, Option.option_map}
+use Rattle.std.proofs.lemmas.List.Quantifiers.{position-Some}
+use Rattle.neutral_machine.specs.{Operations.sign_extended, Rows.with_c, Rows.address_of_place}
+use Rattle.neutral_machine.proofs.{Placed.static_address, Combined.combined_does, Compared.compared_same}
+use Rattle.instruction_laws.proofs.Operands.{bind_does, nothing_beside, direct_shows, values, writes_does, registers_written, address_of}
+use Rattle.instruction_laws.proofs.Operands.{goes_does}
+use Rattle.instruction_laws.proofs.Accesses.{Beside, ShowsWord}
 use Rattle.ebc_insn.specs.declared.Size.TheVariants as sizes
 use Rattle.ebc_machine.specs.Data as machine_data
 use Rattle.ebc_machine.specs.Moves as machine_moves
@@ -10,49 +28,6 @@ use Rattle.ebc_machine.specs.Results as machine_results
 use Rattle.note_types.specs.declared.exception.Exception.TheVariants as raises
 use Rattle.neutral_machine.specs.Outcomes as outcomes
 use Rattle.neutral_machine.specs.Rows as rows
-use Rattle.ebc_width.specs.Width.{IsWidth, wrap64, extended_at}
-use Rattle.ebc_width.proofs.Laws.{by_width, wrap64-below, extended_at-below, extended_at-at_small, linear_at-wrap64, linear_at-below}
-use Rattle.natural_index.specs.Index.{pair_of}
-use Rattle.natural_index.specs.declared.Index.{Index}
-use Rattle.ebc_insn.specs.declared.ArithOp.{ArithOp}
-use Rattle.ebc_insn.specs.declared.CmpOp.{CmpOp}
-use Rattle.ebc_insn.specs.declared.Size.{Size}
-use Rattle.ebc_machine.specs.Operands.{form_bytes, size_bytes, low_bytes, index_offset, sum_at}
-use Rattle.ebc_machine.specs.Results.{or_divide_error}
-use Rattle.machine_alu.specs.Alu.{compared}
-use Rattle.note_types.specs.Concrete.{Concrete, register, with_flags, with_register}
-use Rattle.note_types.specs.declared.notes.Static.{Static}
-use Rattle.note_types.specs.declared.notes.Thunk.{Thunk}
-use Rattle.host_model.specs.Values.{Anchor, ObjectOf, ThunkOf, Neutral, Num, At, Handle, Method, Entry, Error, SignedError, Junk, Addresses}
-use Rattle.host_model.specs.Values.{Shows, number, pair, word, error_at, signed_error_at, IsCode}
-use Rattle.std.specs.List.{position}
-use Rattle.std.specs.Option.{option_or, option_map, option_map_or}
-use Rattle.std.proofs.lemmas.List.Quantifiers.{position-Some}
-use Rattle.std.proofs.lemmas.Option.{slice_get-get_or}
-use Rattle.neutral_machine.specs.Config.{Config}
-use Rattle.host_model.specs.World.{World}
-use Rattle.host_model.specs.Placements.{Placement, IsPlacement, stack_bytes}
-use Rattle.neutral_machine.specs.Layout.{addresses, total}
-use Rattle.neutral_machine.specs.Memory.{memory_of}
-use Rattle.neutral_machine.specs.Outcomes.{Outcome, Gives, Raises, Stuck, or_stuck}
-use Rattle.neutral_machine.specs.Alike.{Does, RowsAlike}
-use Rattle.neutral_machine.specs.Operations.{compared_as, sign_extended}
-use Rattle.neutral_machine.specs.Locations.{Access, Move, Form, Signed, access_bytes, kept}
-use Rattle.neutral_machine.specs.Operands.{NeutralSide, direct_value}
-use Rattle.neutral_machine.specs.Rows.{Site, flags_of, with_c, address_of_place, immediate}
-use Rattle.neutral_machine.specs.Stands.{MachineStands}
-use Rattle.neutral_machine.specs.Instructions.{Names}
-use Rattle.neutral_machine.specs.WorldFits.{WorldFits}
-use Rattle.neutral_machine.proofs.Placed.{static_address}
-use Rattle.neutral_machine.proofs.Agree.{shown_in}
-use Rattle.neutral_machine.proofs.Values.{number_shows, kept_shows}
-use Rattle.neutral_machine.proofs.Bounds.{bounded, objects_below}
-use Rattle.neutral_machine.proofs.Combined.{combined_does}
-use Rattle.neutral_machine.proofs.Compared.{compared_same}
-use Rattle.neutral_machine.proofs.Spots.{turned_stands}
-use Rattle.instruction_laws.proofs.Accesses.{Beside, ShowsWord}
-use Rattle.instruction_laws.proofs.Operands.{bind_does, nothing_beside, direct_shows, values, writes_does, registers_written}
-use Rattle.instruction_laws.proofs.Operands.{address_of, goes_does}
 
 pub form_size : (w : ℕ) (wide : Bool) → form_bytes wide ≡ access_bytes w (Form wide)
 form_size w true = refl
@@ -60,10 +35,7 @@ form_size w false = refl
 
 pub move_size : (w : ℕ) (size : Size) → size_bytes w size ≡ access_bytes w (Move size)
 move_size w sizes.Byte = refl
-move_size w sizes.Word = refl
-move_size w sizes.Dword = refl
-move_size w sizes.Qword = refl
-move_size w sizes.Natural = refl
+move_size w size = refl
 
 -- the thing that is found first passes the test
 position_at : {X : Type 0} (t : X → Bool) (xs : List X) (k : ℕ) → position t xs ≡ Some k → (x : X) × (slice_get xs k ≡ Some x)
@@ -214,17 +186,11 @@ module _ (w : ℕ) (world : World) (P : Placement) (mapped : ℕ → ℕ) (h : I
           subst (Shows w A (number (word c))) (sym (ap (extended_at w) e ∙ extended_at-at_small w (word c) small))
           (number_shows w A (word c) (omega arith))
       go false t = tt
-  signed_shows A (Num (suc n) c) x s = tt
   signed_shows A (Error k) x s = (s.0, ap (extended_at w) s.1 ∙ error_extended k s.0)
     where
       error_extended : (k : ℕ) → IsCode k → extended_at w (error_at w k) ≡ signed_error_at w k
       error_extended k l = by_width (λ v. extended_at v (error_at v k) ≡ signed_error_at v k) w h (grind (arith, l)) (grind (arith, l))
-  signed_shows A (At a n c) x s = tt
-  signed_shows A (Handle k) x s = tt
-  signed_shows A (Method k) x s = tt
-  signed_shows A (Entry k) x s = tt
-  signed_shows A (SignedError k) x s = tt
-  signed_shows A Junk x s = tt
+  signed_shows A u x s = tt
 
   pub move_signed_does : (a : Config) (s : Concrete) (next : ℕ) (left right : NeutralSide) (x y : ℕ) → left.reg < 8 → right.reg < 8 → Room a
       → Stand a s → Beside w world P mapped h ok pl left.beside x → Beside w world P mapped h ok pl right.beside y

@@ -1,8 +1,27 @@
 -- Jumps, calls, returns and BREAK: the machine does what the neutral machine does.
-use Rattle.std.proofs.Common.{◌≡◌, ℕ, zero, suc, ◌+◌, ◌-◌, ◌*◌, ◌%◌, ◌^◌, ◌<◌, ◌≤◌, Bool, true, false, ◌&&◌, if◌then◌else◌, nat_eq, nat_lt}
-use Rattle.std.proofs.Common.{List, [], ◌∷◌, length, Option, Some, None, Result, Ok, Err, is_some, ℤ, pos, ◌*ℤ◌, refl, sym, ap, ap₂, ◌∙◌}
-use Rattle.std.proofs.Common.{subst, subst₂, arith, slice_get, slice_set, mod-eq_of_lt, get_or-set_same}
-use Rattle.std.proofs.lemmas.Bool.{eqb-true, eqb-false, eq-eqb, ltb-true, and_parts, false≢true}
+use Rattle.instruction_laws.proofs.Common.{◌≡◌, ℕ, zero, suc, ◌+◌, ◌-◌, ◌*◌, ◌%◌, ◌^◌, ◌<◌, ◌≤◌, Bool, true, false, ◌&&◌, if◌then◌else◌}
+use Rattle.instruction_laws.proofs.Common.{nat_eq, nat_lt, List, [], ◌∷◌, length, Option, Some, None, Result, Ok, Err, ℤ, pos, ◌*ℤ◌, refl}
+use Rattle.instruction_laws.proofs.Common.{sym, ap, ap₂, ◌∙◌, subst, subst₂, arith, slice_get, slice_set, mod-eq_of_lt, get_or-set_same}
+use Rattle.instruction_laws.proofs.Common.{eqb-true, eqb-false, eq-eqb, ltb-true, and_parts, false≢true, put, IsWidth, wrap64, cut_at}
+use Rattle.instruction_laws.proofs.Common.{by_width, Cond, Extra, Nothing, Imm, Idx, Operand, extra_offset, address, sum_at, loaded_at}
+use Rattle.instruction_laws.proofs.Common.{stored_at, raised_by, or_else, Concrete, register, loaded, with_register, at_ip, holds}
+use Rattle.instruction_laws.proofs.Common.{Exception, Place, Gate, ThunkOf, Neutral, At, Addresses, Shows, number, plain, word, minus}
+use Rattle.instruction_laws.proofs.Common.{StackItem, FunctionFrame, Frame, Function, Host, Config, World, Placement, IsPlacement}
+use Rattle.instruction_laws.proofs.Common.{stack_bytes, stack_end, thunk_cell_address, return_cell, addresses, total, memory_of, Outcome}
+use Rattle.instruction_laws.proofs.Common.{Gives, Raises, Stuck, or_stuck, Does, RowsAlike, kept_natural, Move, beside_extra, extra_pair}
+use Rattle.instruction_laws.proofs.Common.{moved_by, loaded_by, function_at, Next, Site, flags_of, aligned, target_at, params_match, inside}
+use Rattle.instruction_laws.proofs.Common.{called_from, called, at_place, next_thunk, MachineStands, Names, WorldFits, minus-is}
+use Rattle.instruction_laws.proofs.Common.{image_within, stack_within, stack_holds, shown_in, end_small, kept_natural_shows, number_shows}
+use Rattle.instruction_laws.proofs.Common.{plain_shows, bounded, objects_below, framed, top_below, in_frames, turned_stands, width_word}
+use Rattle.std.proofs.Common.{is_some}
+use Rattle.ebc_machine.specs.Stack.{lowered_by}
+use Rattle.host_model.specs.Values.{IsPast, null}
+use Rattle.neutral_machine.specs.Rows.{Native, MakeThunk, is_taken, base_at, past, named_place, native_target, returned_to, returned_from}
+use Rattle.neutral_machine.specs.Rows.{return_row}
+use Rattle.neutral_machine.specs.{Config.HostFrame, Stands.return_address, Instructions.extra_immediate}
+use Rattle.neutral_machine.proofs.Frames.{call_stands, return_stands, stored_on_top, later_store}
+use Rattle.instruction_laws.proofs.Accesses.{ShowsWord, ShowsBytes, moved_shows, loads_bytes}
+use Rattle.instruction_laws.proofs.Operands.{bind_does, extra_beside, registers_written, address_of, address_is, at_stands, goes_does}
 use Rattle.ebc_insn.specs.declared.Cond.TheVariants as conds
 use Rattle.ebc_insn.specs.declared.Size.TheVariants as sizes
 use Rattle.ebc_machine.specs.declared.StepEnd.TheVariants as ends
@@ -13,51 +32,6 @@ use Rattle.note_types.specs.declared.exception.Exception.TheVariants as raises
 use Rattle.neutral_machine.specs.Outcomes as outcomes
 use Rattle.neutral_machine.specs.Operands as neutral
 use Rattle.neutral_machine.specs.Rows as rows
-use Rattle.ebc_width.specs.Bytes.{put}
-use Rattle.ebc_width.specs.Width.{IsWidth, wrap64, cut_at}
-use Rattle.ebc_width.proofs.Laws.{by_width}
-use Rattle.ebc_insn.specs.declared.Cond.{Cond}
-use Rattle.ebc_insn.specs.declared.Extra.{Extra}
-use Rattle.ebc_insn.specs.declared.Extra.TheVariants.{Nothing, Imm, Idx}
-use Rattle.ebc_insn.specs.declared.Operand.{Operand}
-use Rattle.ebc_machine.specs.Operands.{extra_offset, address, sum_at, loaded_at, stored_at}
-use Rattle.ebc_machine.specs.Stack.{raised_by, lowered_by}
-use Rattle.ebc_base.specs.Steps.{or_else}
-use Rattle.note_types.specs.Concrete.{Concrete, register, loaded, with_register, at_ip}
-use Rattle.ebc_width.specs.Ranges.{holds}
-use Rattle.note_types.specs.declared.exception.Exception.{Exception}
-use Rattle.note_types.specs.declared.spot.Spot.TheVariants.{Place, Gate}
-use Rattle.host_model.specs.Values.{ObjectOf, ThunkOf, LocalOf, Neutral, Num, At, Handle, Method, Entry, Error, SignedError, Junk}
-use Rattle.host_model.specs.Values.{Addresses, IsPast, Shows, number, null, plain, word, minus}
-use Rattle.neutral_machine.specs.Config.{StackItem, FunctionFrame, HostFrame, Frame, Function, Host, Config}
-use Rattle.host_model.specs.World.{World}
-use Rattle.host_model.specs.Placements.{Placement, IsPlacement, stack_bytes, stack_end, thunk_cell_address, return_cell}
-use Rattle.neutral_machine.specs.Layout.{addresses, total}
-use Rattle.neutral_machine.specs.Memory.{memory_of}
-use Rattle.neutral_machine.specs.Outcomes.{Outcome, Gives, Raises, Stuck, or_stuck}
-use Rattle.neutral_machine.specs.Alike.{Does, RowsAlike}
-use Rattle.neutral_machine.specs.Operations.{kept_natural}
-use Rattle.neutral_machine.specs.Locations.{Move}
-use Rattle.neutral_machine.specs.Operands.{beside_extra, extra_pair, moved_by, loaded_by}
-use Rattle.neutral_machine.specs.Rows.{function_at, Next, Native, MakeThunk, Site, flags_of, is_taken, aligned, base_at, past}
-use Rattle.neutral_machine.specs.Rows.{named_place, target_at, params_match, inside, called_from, called, native_target}
-use Rattle.neutral_machine.specs.Rows.{returned_to, returned_from, return_row, at_place}
-use Rattle.neutral_machine.specs.NeutralHost.{next_thunk}
-use Rattle.neutral_machine.specs.Stands.{return_address, MachineStands}
-use Rattle.neutral_machine.specs.Instructions.{extra_immediate, Names}
-use Rattle.neutral_machine.specs.WorldFits.{WorldFits}
-use Rattle.neutral_machine.proofs.Numbers.{minus-is}
-use Rattle.neutral_machine.proofs.Placed.{image_within, stack_within, stack_holds}
-use Rattle.neutral_machine.proofs.Agree.{shown_in}
-use Rattle.neutral_machine.proofs.Cells.{end_small}
-use Rattle.neutral_machine.proofs.Values.{kept_natural_shows, number_shows, plain_shows}
-use Rattle.neutral_machine.proofs.Bounds.{bounded, objects_below}
-use Rattle.neutral_machine.proofs.Frames.{framed, call_stands, return_stands, top_below, stored_on_top, later_store, in_frames}
-use Rattle.neutral_machine.proofs.Spots.{turned_stands}
-use Rattle.instruction_laws.proofs.Accesses.{ShowsWord, ShowsBytes, moved_shows, loads_bytes}
-use Rattle.instruction_laws.proofs.Operands.{bind_does, extra_beside, registers_written, address_of, address_is, at_stands}
-use Rattle.instruction_laws.proofs.Operands.{goes_does}
-use Rattle.neutral_machine.proofs.Words.{width_word}
 
 module _ (w : ℕ) (world : World) (P : Placement) (mapped : ℕ → ℕ) (h : IsWidth w) (ok : WorldFits world) (pl : IsPlacement w world P) where
   abbrev W : Config → Neutral → ℕ → Type 0
@@ -524,15 +498,7 @@ module _ (w : ℕ) (world : World) (P : Placement) (mapped : ℕ → ℕ) (h : I
           (λ i. outcomes.◌>>=◌ (at_place world a next) (λ b. Gives (MakeThunk i, b))))
           (Ok (ends.MakeThunk (register s 7), at_ip s (At_ next)))
       by_value (At (ThunkOf i) n c) sh = by_thunk i n c sh (nat_eq i a.made && (nat_eq n 0 && nat_eq c 0)) refl
-      by_value (At (ObjectOf k) n c) sh = tt
-      by_value (At (LocalOf d f) n c) sh = tt
-      by_value (Num n c) sh = tt
-      by_value (Handle k) sh = tt
-      by_value (Method k) sh = tt
-      by_value (Entry k) sh = tt
-      by_value (Error k) sh = tt
-      by_value (SignedError k) sh = tt
-      by_value Junk sh = tt
+      by_value v sh = tt
 
   pub break_does : (a : Config) (s : Concrete) (next code : ℕ) → Rm a → St a s
       → Does (RowsAlike w world P mapped) (rows.break_row world a next code) (machine_flow.break_row s (At_ next) code)

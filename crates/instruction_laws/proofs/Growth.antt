@@ -1,34 +1,19 @@
 -- What an instruction puts on the stack is what the neutral machine's frames grow by.
-use Rattle.std.proofs.Common.{◌≡◌, ℕ, ◌+◌, ◌≤◌, Bool, true, false, not, ◌&&◌, if◌then◌else◌, nat_eq, nat_lt, List, [], ◌∷◌, Option, Some}
-use Rattle.std.proofs.Common.{None, is_none, refl, sym, ap, ◌∙◌, subst, subst₂, arith, slice_get}
-use Rattle.std.proofs.lemmas.Bool.{and_parts, false≢true}
+use Rattle.instruction_laws.proofs.Common.{◌≡◌, ℕ, ◌+◌, ◌≤◌, Bool, true, false, not, ◌&&◌, if◌then◌else◌, nat_eq, nat_lt, List, [], ◌∷◌}
+use Rattle.instruction_laws.proofs.Common.{Option, Some, None, is_none, refl, sym, ap, ◌∙◌, subst, subst₂, arith, slice_get, and_parts}
+use Rattle.instruction_laws.proofs.Common.{false≢true, Index, Operand, Size, size_at, SlotKind, N, Shape, Neutral, Place, Pushed}
+use Rattle.instruction_laws.proofs.Common.{FunctionFrame, Frame, Function, Host, Config, locals_among, World, frame_locals, slot_bytes}
+use Rattle.instruction_laws.proofs.Common.{stack_bytes, return_cell, total, height, memory_of, Outcome, Gives, Raises, Stuck, or_stuck}
+use Rattle.instruction_laws.proofs.Common.{unless_stuck, kept_natural, Move, Form, kept, NeutralSide, plainly, indexed, beside_extra, value}
+use Rattle.instruction_laws.proofs.Common.{function_at, NeutralEnd, Next, Site, is_stack_pointer, goes, pushed, form_kind, inside, called}
+use Rattle.instruction_laws.proofs.Common.{called_from, params_match, has_size, after_make, made_locals, after_drop, dropped, adjusted}
+use Rattle.instruction_laws.proofs.Common.{adjusted_by, is_qword_size, stack_row, move_row, call_row, target_at, aligned, executed, size_if}
+use Rattle.instruction_laws.proofs.Common.{locals_growth, index_growth}
+use Rattle.neutral_machine.specs.Rows.{push_row, push_natural_row}
+use Rattle.instruction_laws.specs.Laws.{RoomAfter}
 use Rattle.ebc_insn.specs.declared.Insn.TheVariants as insns
 use Rattle.ebc_insn.specs.declared.Size.TheVariants as sizes
 use Rattle.neutral_machine.specs.Outcomes as outcomes
-use Rattle.natural_index.specs.declared.Index.{Index}
-use Rattle.ebc_insn.specs.declared.Operand.{Operand}
-use Rattle.ebc_insn.specs.declared.Size.{Size}
-use Rattle.note_types.specs.Shapes.{size_at}
-use Rattle.note_types.specs.declared.cell.SlotKind.{SlotKind}
-use Rattle.note_types.specs.declared.cell.SlotKind.TheVariants.{N}
-use Rattle.note_types.specs.declared.shape.Shape.{Shape}
-use Rattle.host_model.specs.Values.{Neutral}
-use Rattle.note_types.specs.declared.spot.Spot.TheVariants.{Place}
-use Rattle.neutral_machine.specs.Config.{Pushed, FunctionFrame, Frame, Function, Host, Config, locals_among}
-use Rattle.host_model.specs.World.{World, frame_locals}
-use Rattle.host_model.specs.Placements.{slot_bytes, stack_bytes, return_cell}
-use Rattle.neutral_machine.specs.Layout.{total, height}
-use Rattle.neutral_machine.specs.Memory.{memory_of}
-use Rattle.neutral_machine.specs.Outcomes.{Outcome, Gives, Raises, Stuck, or_stuck, unless_stuck}
-use Rattle.neutral_machine.specs.Operations.{kept_natural}
-use Rattle.neutral_machine.specs.Locations.{Move, Form, kept}
-use Rattle.neutral_machine.specs.Operands.{NeutralSide, plainly, indexed, beside_extra, value}
-use Rattle.neutral_machine.specs.Rows.{function_at, NeutralEnd, Next, Site, is_stack_pointer, goes, pushed, form_kind, inside, called}
-use Rattle.neutral_machine.specs.Rows.{called_from, params_match, has_size, after_make, made_locals, after_drop, dropped, adjusted}
-use Rattle.neutral_machine.specs.Rows.{adjusted_by, is_qword_size, stack_row, move_row, push_row, push_natural_row, call_row, target_at}
-use Rattle.neutral_machine.specs.Rows.{aligned, executed}
-use Rattle.neutral_machine.specs.Room.{size_if, locals_growth, index_growth}
-use Rattle.instruction_laws.specs.Laws.{RoomAfter}
 
 -- what a bind that gives something has given first
 pub bind_gives : {A B : Type 0} (m : Outcome A) (f : A → Outcome B) (y : B) → outcomes.◌>>=◌ m f ≡ Gives y → (x : A) × (m ≡ Gives x)

@@ -1,53 +1,29 @@
 -- The host frames show after each instruction as before it.
-use Rattle.std.proofs.Common.{◌≡◌, ℕ, ◌+◌, Bool, true, false, not, ◌&&◌, if◌then◌else◌, nat_eq, nat_lt, List, [], ◌∷◌, map, Option, Some}
-use Rattle.std.proofs.Common.{None, is_none, ℤ, pos, ◌*ℤ◌, option_and_then, refl, sym, ap, ◌∙◌, subst, slice_get}
+use Rattle.instruction_laws.proofs.Common.{◌≡◌, ℕ, ◌+◌, Bool, true, false, not, ◌&&◌, if◌then◌else◌, nat_eq, nat_lt, List, [], ◌∷◌, map}
+use Rattle.instruction_laws.proofs.Common.{Option, Some, None, is_none, ℤ, pos, ◌*ℤ◌, option_and_then, refl, sym, ap, ◌∙◌, subst, slice_get}
+use Rattle.instruction_laws.proofs.Common.{and_parts, false≢true, same_Some, none-some, Index, IsWidth, wrap64, ArithOp, CmpOp, Cond, Insn}
+use Rattle.instruction_laws.proofs.Common.{Operand, Size, SlotKind, N, Exception, Field, Shape, Place, Gate, Neutral, Addresses, Shows}
+use Rattle.instruction_laws.proofs.Common.{number, word, minus, same_kind, next_thunk, StackItem, Pushed, LocalsOf, FunctionFrame, Frame}
+use Rattle.instruction_laws.proofs.Common.{Function, Host, Config, depth, locals_among, with_value, World, frame_locals, Placement}
+use Rattle.instruction_laws.proofs.Common.{IsPlacement, stack_end, addresses, memory_of, cell_field, with_cell, Outcome, Gives, Raises}
+use Rattle.instruction_laws.proofs.Common.{Stuck, or_stuck, unless_stuck, compared_as, kept_natural, Location, CellAt, ParamAt, ThunkAt}
+use Rattle.instruction_laws.proofs.Common.{Offset, Access, Move, Form, Signed, NeutralSide, plainly, indexed, beside_extra, moved_by}
+use Rattle.instruction_laws.proofs.Common.{located_by, direct_value, value, stored_by, written, NeutralEnd, Next, Site, goes, at_place}
+use Rattle.instruction_laws.proofs.Common.{OwnLocalsAll, WorldFits, Extends, same_extends}
 use Rattle.std.specs.List.{AllZip}
-use Rattle.std.proofs.lemmas.Bool.{and_parts, false≢true}
-use Rattle.std.proofs.lemmas.Option.{same_Some, none-some}
+use Rattle.host_model.specs.{Progress.NativeCall, Progress.NoCall, Progress.Asked, Progress.Accepted, RunState.SavedFrame}
+use Rattle.neutral_machine.specs.{Operations.combined, Operands.with_register, Rows.without_local, Rows.frame_without, Stands.CallShows}
+use Rattle.neutral_machine.specs.Stands.{HostsShow}
+use Rattle.instruction_laws.specs.Laws.{HostsKept}
+use Rattle.neutral_machine.proofs.Drops.{Loses, shows_without, total_map, make_extends, drop_loses, drop_same}
+use Rattle.neutral_machine.proofs.{Agree.shows_more, Frames.SameLocals, Frames.call_same}
+use Rattle.instruction_laws.proofs.Growth.{bind_gives, stuck-gives, same_gives, goes_frames}
 use Rattle.ebc_insn.specs.declared.Insn.TheVariants as insns
 use Rattle.ebc_insn.specs.declared.Size.TheVariants as sizes
 use Rattle.note_types.specs.declared.exception.Exception.TheVariants as raises
 use Rattle.neutral_machine.specs.Outcomes as outcomes
 use Rattle.neutral_machine.specs.Locations as locations
 use Rattle.neutral_machine.specs.Rows as rows
-use Rattle.natural_index.specs.declared.Index.{Index}
-use Rattle.ebc_width.specs.Width.{IsWidth, wrap64}
-use Rattle.ebc_insn.specs.declared.ArithOp.{ArithOp}
-use Rattle.ebc_insn.specs.declared.CmpOp.{CmpOp}
-use Rattle.ebc_insn.specs.declared.Cond.{Cond}
-use Rattle.ebc_insn.specs.declared.Insn.{Insn}
-use Rattle.ebc_insn.specs.declared.Operand.{Operand}
-use Rattle.ebc_insn.specs.declared.Size.{Size}
-use Rattle.note_types.specs.declared.cell.SlotKind.{SlotKind}
-use Rattle.note_types.specs.declared.cell.SlotKind.TheVariants.{N}
-use Rattle.note_types.specs.declared.exception.Exception.{Exception}
-use Rattle.note_types.specs.declared.shape.Field.{Field}
-use Rattle.note_types.specs.declared.shape.Shape.{Shape}
-use Rattle.note_types.specs.declared.spot.Spot.TheVariants.{Place, Gate}
-use Rattle.host_model.specs.Values.{Neutral, Addresses, Shows, number, word, minus}
-use Rattle.note_types.specs.BelowTests.{same_kind}
-use Rattle.neutral_machine.specs.NeutralHost.{next_thunk}
-use Rattle.neutral_machine.specs.Config.{StackItem, Pushed, LocalsOf, FunctionFrame, Frame, Function, Host, Config, depth, locals_among}
-use Rattle.neutral_machine.specs.Config.{with_value}
-use Rattle.host_model.specs.Progress.{NativeCall, NoCall, Asked, Accepted}
-use Rattle.host_model.specs.RunState.{SavedFrame}
-use Rattle.host_model.specs.World.{World, frame_locals}
-use Rattle.host_model.specs.Placements.{Placement, IsPlacement, stack_end}
-use Rattle.neutral_machine.specs.Layout.{addresses}
-use Rattle.neutral_machine.specs.Memory.{memory_of, cell_field, with_cell}
-use Rattle.neutral_machine.specs.Outcomes.{Outcome, Gives, Raises, Stuck, or_stuck, unless_stuck}
-use Rattle.neutral_machine.specs.Operations.{combined, compared_as, kept_natural}
-use Rattle.neutral_machine.specs.Locations.{Location, CellAt, ParamAt, ThunkAt, Offset, Access, Move, Form, Signed}
-use Rattle.neutral_machine.specs.Operands.{NeutralSide, plainly, indexed, beside_extra, moved_by, located_by, direct_value, value}
-use Rattle.neutral_machine.specs.Operands.{stored_by, with_register, written}
-use Rattle.neutral_machine.specs.Rows.{NeutralEnd, Next, Site, goes, at_place, without_local, frame_without}
-use Rattle.neutral_machine.specs.Stands.{OwnLocalsAll, CallShows, HostsShow}
-use Rattle.instruction_laws.specs.Laws.{HostsKept}
-use Rattle.neutral_machine.specs.WorldFits.{WorldFits}
-use Rattle.neutral_machine.proofs.Agree.{Extends, shows_more}
-use Rattle.neutral_machine.proofs.Frames.{SameLocals, same_extends, call_same}
-use Rattle.neutral_machine.proofs.Drops.{Loses, shows_without, total_map, make_extends, drop_loses, drop_same}
-use Rattle.instruction_laws.proofs.Growth.{bind_gives, stuck-gives, same_gives, goes_frames}
 
 -- ---- more addresses
 
@@ -59,14 +35,9 @@ all_more w A B (v ∷ vs) (x ∷ xs) e s = (shows_more w A B v x e s.0, all_more
 
 call_more : (w : ℕ) (A B : Addresses) (c : NativeCall Neutral) (d : NativeCall ℕ) → Extends A B → CallShows w A c d → CallShows w B c d
 call_more w A B NoCall NoCall e s = tt
-call_more w A B NoCall (Asked q x) e s = absurd s
-call_more w A B NoCall (Accepted f m xs) e s = absurd s
-call_more w A B (Asked p v) NoCall e s = absurd s
 call_more w A B (Asked p v) (Asked q x) e s = (s.0, shows_more w A B v x e s.1)
-call_more w A B (Asked p v) (Accepted f m xs) e s = absurd s
-call_more w A B (Accepted n k vs) NoCall e s = absurd s
-call_more w A B (Accepted n k vs) (Asked q x) e s = absurd s
 call_more w A B (Accepted n k vs) (Accepted f m xs) e s = (s.0, s.1, all_more w A B vs xs e s.2)
+call_more w A B c t e s = absurd s
 
 pub hosts_more : (w : ℕ) (world : World) (P : Placement) (A B : Addresses) (fs : List Frame) (ss : List SavedFrame) → Extends A B
     → HostsShow w world P A fs ss → HostsShow w world P B fs ss
@@ -101,14 +72,9 @@ all_without w d A B (v ∷ vs) (x ∷ xs) e s = (shows_without w d A B v x e s.0
 call_shows_without : (w d : ℕ) (A B : Addresses) (c : NativeCall Neutral) (x : NativeCall ℕ) → Loses d A B → CallShows w A c x
     → CallShows w B (rows.call_without d c) x
 call_shows_without w d A B NoCall NoCall e s = tt
-call_shows_without w d A B NoCall (Asked q x) e s = absurd s
-call_shows_without w d A B NoCall (Accepted f m xs) e s = absurd s
-call_shows_without w d A B (Asked p v) NoCall e s = absurd s
 call_shows_without w d A B (Asked p v) (Asked q x) e s = (s.0, shows_without w d A B v x e s.1)
-call_shows_without w d A B (Asked p v) (Accepted f m xs) e s = absurd s
-call_shows_without w d A B (Accepted n k vs) NoCall e s = absurd s
-call_shows_without w d A B (Accepted n k vs) (Asked q x) e s = absurd s
 call_shows_without w d A B (Accepted n k vs) (Accepted f m xs) e s = (s.0, s.1, all_without w d A B vs xs e s.2)
+call_shows_without w d A B c t e s = absurd s
 
 hosts_without : (w d : ℕ) (world : World) (P : Placement) (A B : Addresses) (fs : List Frame) (ss : List SavedFrame) → Loses d A B
     → HostsShow w world P A fs ss → HostsShow w world P B (map (frame_without d) fs) ss

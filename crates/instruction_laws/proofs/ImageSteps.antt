@@ -1,43 +1,19 @@
 -- One step of the machine at an instruction of the image does what the neutral machine does with the image's instruction.
-use Rattle.std.proofs.Common.{◌≡◌, ℕ, ◌+◌, ◌-◌, ◌≤◌, Bool, true, false, ◌||◌, ◌++◌, length, Option, Some, None, refl, sym, ap, ◌∙◌, subst}
-use Rattle.std.proofs.Common.{arith, ℤ}
-use Rattle.std.proofs.lemmas.Bool.{false≢true}
-use Rattle.std.proofs.lemmas.Option.{none-some}
-use Rattle.ebc_width.specs.Bytes.{window}
-use Rattle.ebc_decode.proofs.Again.{read_again}
-use Rattle.ebc_decode.specs.Reading as reading
-use Rattle.ebc_insn.specs.Spelling.{WellFormed, spelling}
-use Rattle.ebc_insn.specs.declared.Extra.TheVariants as extras
-use Rattle.ebc_insn.specs.declared.Insn.{Insn}
-use Rattle.ebc_insn.specs.declared.Insn.TheVariants as insns
-use Rattle.ebc_machine.specs.Step.{machine_step}
-use Rattle.pe_image.specs.Mapped.{mapped, image_byte}
-use Rattle.pe_image.specs.declared.image.Image.{Image}
-use Rattle.rules_image.specs.Images.{is_absolute, is_address_move, is_relocated, named_at}
-use Rattle.neutral_machine.specs.Config.{Config}
-use Rattle.neutral_machine.specs.Layout.{total}
-use Rattle.neutral_machine.specs.Locations.{Move, kept}
-use Rattle.neutral_machine.specs.Memory.{memory_of}
-use Rattle.neutral_machine.specs.Outcomes as outcomes
-use Rattle.host_model.specs.Placements.{Placement, stack_bytes}
-use Rattle.host_model.specs.Values.{word}
-use Rattle.host_model.specs.World.{World}
-use Rattle.neutral_machine.specs.Alike.{StepAlike}
-use Rattle.neutral_machine.specs.Operands.{indexed, written}
-use Rattle.neutral_machine.specs.Room.{growth, HasRoom}
-use Rattle.neutral_machine.specs.Rows.{Site, NeutralRow, executed, goes, immediate, jump_row, call_row, target_at, move_imm_row}
-use Rattle.instruction_laws.specs.Premises.{IsInsnOf, InstructionRead, SameExecuted, ImageStep, ImageRunStep, RunAlike, with_immediate}
-use Rattle.instruction_laws.specs.Premises.{loaded_insn}
-use Rattle.instruction_laws.proofs.Loaded.{of_any, two_bytes, instruction_there}
-use Rattle.instruction_laws.proofs.Hosts.{hosts_kept}
-use Rattle.instruction_laws.proofs.Kept.{run_kept}
-use Rattle.instruction_laws.proofs.Steps.{one_step}
+use Rattle.instruction_laws.proofs.Common.{◌≡◌, ℕ, ◌+◌, ◌-◌, ◌≤◌, Bool, true, false, ◌||◌, ◌++◌, length, Option, Some, None, refl, sym, ap}
+use Rattle.instruction_laws.proofs.Common.{◌∙◌, subst, arith, ℤ, false≢true, none-some, window, read_again, WellFormed, spelling, Insn}
+use Rattle.instruction_laws.proofs.Common.{machine_step, mapped, image_byte, Image, is_absolute, is_address_move, is_relocated, named_at}
+use Rattle.instruction_laws.proofs.Common.{Config, total, Move, kept, memory_of, Placement, stack_bytes, word, World, StepAlike, indexed}
+use Rattle.instruction_laws.proofs.Common.{written, HasRoom, Site, executed, goes, immediate, call_row, target_at, IsInsnOf, with_immediate}
+use Rattle.instruction_laws.proofs.Common.{loaded_insn, Concrete, Gives, Raises, Stuck, window-append, signed_at}
+use Rattle.neutral_machine.specs.{Room.growth, Rows.NeutralRow, Rows.jump_row, Rows.move_imm_row}
+use Rattle.instruction_laws.specs.Premises.{InstructionRead, SameExecuted, ImageStep, ImageRunStep, RunAlike}
+use Rattle.instruction_laws.proofs.{Loaded.of_any, Loaded.two_bytes, Loaded.instruction_there, Hosts.hosts_kept, Kept.run_kept}
+use Rattle.instruction_laws.proofs.{Steps.one_step, Worlds.world_meets}
 use Rattle.ebc_machine.specs.declared.StepEnd.{StepEnd}
-use Rattle.note_types.specs.Concrete.{Concrete}
-use Rattle.neutral_machine.specs.Outcomes.{Gives, Raises, Stuck}
-use Rattle.instruction_laws.proofs.Worlds.{world_meets}
-use Rattle.ebc_width.proofs.ByteLaws.{window-append}
-use Rattle.ebc_width.specs.Width.{signed_at}
+use Rattle.ebc_decode.specs.Reading as reading
+use Rattle.ebc_insn.specs.declared.Extra.TheVariants as extras
+use Rattle.ebc_insn.specs.declared.Insn.TheVariants as insns
+use Rattle.neutral_machine.specs.Outcomes as outcomes
 
 -- the bytes of the image at an instruction are read as that one
 pub instruction_read : InstructionRead

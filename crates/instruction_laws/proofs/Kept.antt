@@ -1,5 +1,5 @@
 -- An instruction leaves the script place, the trace and the ending alone.
-use Rattle.std.proofs.Common.{refl}
+use Rattle.instruction_laws.proofs.Common.{refl}
 use Rattle.neutral_machine.proofs.Keeping.{instruction_keeps}
 use Rattle.instruction_laws.specs.Laws.{KeepsRun, RunKept}
 

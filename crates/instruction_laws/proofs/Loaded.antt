@@ -1,43 +1,28 @@
 -- The bytes at an instruction of a loaded image spell the image's instruction, with a relocated immediate moved.
-use Rattle.std.proofs.Common.{◌≡◌, ℕ, suc, ◌+◌, ◌-◌, ◌/◌, ◌%◌, ◌^◌, ◌<◌, ◌≤◌, ◌⊎◌, Bool, true, false, not, ◌||◌, if◌then◌else◌, nat_eq}
-use Rattle.std.proofs.Common.{nat_le, nat_lt, List, [], ◌∷◌, ◌++◌, length, Option, Some, None, refl, sym, ap, ap₂, ◌∙◌, subst, subst₂}
-use Rattle.std.proofs.Common.{arith, inl, inr, ⊎_elim, get_or, ℤ, pos, negsuc, add_comm, length-append}
-use Rattle.std.proofs.lemmas.Bool.{eqb-true, and_parts, and_from, or_cases, ltb-true, leb-true, lt-ltb, le-leb, cases_lt, false≢true}
-use Rattle.std.proofs.lemmas.Bool.{true≢false}
-use Rattle.std.proofs.lemmas.Grind.{same_number_lists}
-use Rattle.std.proofs.lemmas.List.{get_or_append_left, get_or-append_right}
-use Rattle.std.specs.Int.{w64, to_le_bytes}
-use Rattle.std.specs.List.{find, list_any, Contains}
-use Rattle.std.specs.Option.{option_map_or}
-use Rattle.ebc_width.specs.Bytes.{little_endian, window}
-use Rattle.ebc_width.specs.Width.{wrap64, distance_of, signed_at}
-use Rattle.ebc_width.proofs.ByteLaws.{length-window, get_or-window}
+use Rattle.instruction_laws.proofs.Common.{◌≡◌, ℕ, suc, ◌+◌, ◌-◌, ◌/◌, ◌%◌, ◌^◌, ◌<◌, ◌≤◌, ◌⊎◌, Bool, true, false, not, ◌||◌, if◌then◌else◌}
+use Rattle.instruction_laws.proofs.Common.{nat_eq, nat_le, nat_lt, List, [], ◌∷◌, ◌++◌, length, Option, Some, None, refl, sym, ap, ap₂, ◌∙◌}
+use Rattle.instruction_laws.proofs.Common.{subst, subst₂, arith, inl, inr, ⊎_elim, get_or, ℤ, pos, eqb-true, and_parts, and_from, or_cases}
+use Rattle.instruction_laws.proofs.Common.{ltb-true, le-leb, cases_lt, false≢true, find, option_map_or, little_endian, window, wrap64}
+use Rattle.instruction_laws.proofs.Common.{signed_at, WellFormed, spelling, Index, Cond, Operand, Insn, Concrete, mapped, image_byte, Image}
+use Rattle.instruction_laws.proofs.Common.{is_absolute, is_address_move, is_relocated, named_at, Config, Placement, word, World, IsAt}
+use Rattle.instruction_laws.proofs.Common.{Names, Site, IsRunOf, IsInsnOf, with_immediate, loaded_insn, Place, MachineStands}
+use Rattle.std.proofs.Common.{negsuc, add_comm, length-append}
+use Rattle.std.proofs.lemmas.{Bool.leb-true, Bool.lt-ltb, Bool.true≢false, Grind.same_number_lists, List.get_or_append_left}
+use Rattle.std.proofs.lemmas.List.{get_or-append_right}
+use Rattle.std.specs.{Int.w64, Int.to_le_bytes, List.list_any, List.Contains}
+use Rattle.ebc_width.specs.Width.{distance_of}
+use Rattle.ebc_width.proofs.{ByteLaws.length-window, ByteLaws.get_or-window, Numbers.get_or-to_le_bytes}
 use Rattle.ebc_decode.proofs.Numbers.{signed_whole, signed_fits}
-use Rattle.ebc_insn.specs.Spelling.{WellFormed, FitsInt, int_raw, spelling, field_bytes, bytes_of, code_of, optional_field}
-use Rattle.natural_index.specs.declared.Index.{Index}
-use Rattle.ebc_insn.specs.declared.Cond.{Cond}
-use Rattle.ebc_insn.specs.declared.Operand.{Operand}
+use Rattle.ebc_insn.specs.Spelling.{FitsInt, int_raw, field_bytes, bytes_of, code_of, optional_field}
+use Rattle.pe_image.specs.Mapped.{is_of, laid, moved, moved_byte, named_place}
+use Rattle.rules_image.specs.Images.{touches}
+use Rattle.neutral_machine.specs.Instructions.{immediate_of}
+use Rattle.instruction_laws.specs.Premises.{InstructionThere}
+use Rattle.instruction_laws.proofs.{Steps.IsThere, Steps.is_there, Worlds.world_meets}
+use Rattle.ebc_base.proofs.Lists.{contains-any}
 use Rattle.ebc_insn.specs.declared.Extra.TheVariants as extras
-use Rattle.ebc_insn.specs.declared.Insn.{Insn}
 use Rattle.ebc_insn.specs.declared.Insn.TheVariants as insns
 use Rattle.ebc_insn.specs.declared.Size.TheVariants as sizes
-use Rattle.note_types.specs.Concrete.{Concrete}
-use Rattle.pe_image.specs.Mapped.{is_of, laid, moved, moved_byte, mapped, image_byte, named_place}
-use Rattle.pe_image.specs.declared.image.Image.{Image}
-use Rattle.rules_image.specs.Images.{touches, is_absolute, is_address_move, is_relocated, named_at}
-use Rattle.neutral_machine.specs.Config.{Config}
-use Rattle.host_model.specs.Placements.{Placement}
-use Rattle.host_model.specs.Values.{word}
-use Rattle.host_model.specs.World.{World}
-use Rattle.neutral_machine.specs.Instructions.{IsAt, Names, immediate_of}
-use Rattle.neutral_machine.specs.Rows.{Site}
-use Rattle.instruction_laws.specs.Premises.{IsRunOf, IsInsnOf, InstructionThere, with_immediate, loaded_insn}
-use Rattle.instruction_laws.proofs.Steps.{IsThere, is_there}
-use Rattle.instruction_laws.proofs.Worlds.{world_meets}
-use Rattle.note_types.specs.declared.spot.Spot.TheVariants.{Place}
-use Rattle.neutral_machine.specs.Stands.{MachineStands}
-use Rattle.ebc_base.proofs.Lists.{contains-any}
-use Rattle.ebc_width.proofs.Numbers.{get_or-to_le_bytes}
 
 -- ---- relocated bytes
 

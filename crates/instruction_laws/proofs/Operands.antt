@@ -1,8 +1,22 @@
 -- Operands: their values, what is written to them, and where control goes, on both sides.
-use Rattle.std.proofs.Common.{◌≡◌, ℕ, zero, suc, ◌+◌, ◌-◌, ◌*◌, ◌%◌, ◌^◌, ◌<◌, ◌≤◌, Bool, true, false, if◌then◌else◌, nat_eq, nat_lt, List}
-use Rattle.std.proofs.Common.{[], ◌∷◌, length, Option, Some, None, Result, Ok, Err, refl, sym, ap, ◌∙◌, subst, subst₂, arith, ⊎_elim}
-use Rattle.std.proofs.Common.{slice_index, slice_set, option_map, mod-eq_of_lt, length-set, get_or-set_same, get_or-set_other}
-use Rattle.std.proofs.lemmas.Bool.{eqb-true, eqb-false, ne_eqb, eq-eqb, ltb-true, cases_eq}
+use Rattle.instruction_laws.proofs.Common.{◌≡◌, ℕ, zero, suc, ◌+◌, ◌-◌, ◌*◌, ◌%◌, ◌^◌, ◌<◌, ◌≤◌, Bool, true, false, if◌then◌else◌, nat_eq}
+use Rattle.instruction_laws.proofs.Common.{nat_lt, List, [], ◌∷◌, length, Option, Some, None, Result, Ok, Err, refl, sym, ap, ◌∙◌, subst}
+use Rattle.instruction_laws.proofs.Common.{subst₂, arith, ⊎_elim, slice_set, option_map, mod-eq_of_lt, get_or-set_same, eqb-true, eqb-false}
+use Rattle.instruction_laws.proofs.Common.{eq-eqb, ltb-true, IsWidth, wrap64, linear_at-wrap64, wrap64-below, pair_of, Index, Extra}
+use Rattle.instruction_laws.proofs.Common.{Nothing, Imm, Idx, index_offset, optional_offset, extra_offset, sum_at, address, loaded_at}
+use Rattle.instruction_laws.proofs.Common.{stored_at, Concrete, register, with_register, at_ip, start_at, Exception, Place, Neutral, Shows}
+use Rattle.instruction_laws.proofs.Common.{FieldOfLocals, word, minus, FunctionFrame, Frame, Function, Host, Config, depth, with_value}
+use Rattle.instruction_laws.proofs.Common.{World, Placement, IsPlacement, stack_bytes, stack_end, return_cell, addresses, total, height}
+use Rattle.instruction_laws.proofs.Common.{top_of, local_address, Outcome, Gives, Raises, Stuck, Does, RowsAlike, Access, access_bytes}
+use Rattle.instruction_laws.proofs.Common.{Offset, Location, CellAt, located_on_stack, parameters_of, NeutralSide, extra_pair, offset_of}
+use Rattle.instruction_laws.proofs.Common.{moved_by, direct_value, loaded_by, stored_by, Next, OwnLocalsAll, MachineStands, WorldFits}
+use Rattle.instruction_laws.proofs.Common.{minus-is, image_within, cell_positive, shown_in, end_small, turned_stands, field_there}
+use Rattle.instruction_laws.proofs.Common.{width_word}
+use Rattle.std.proofs.Common.{slice_index, length-set, get_or-set_other}
+use Rattle.std.proofs.lemmas.Bool.{ne_eqb, cases_eq}
+use Rattle.neutral_machine.specs.Operands.{index_pair, local_at_location}
+use Rattle.instruction_laws.proofs.Accesses.{Beside, ShowsWord, moved_shows, loads, stores, top_is, top_address, locals_fit_at}
+use Rattle.neutral_machine.proofs.Spots.{place_spot}
 use Rattle.ebc_machine.specs.declared.StepEnd.TheVariants as ends
 use Rattle.ebc_machine.specs.Operands as machine
 use Rattle.ebc_base.specs.Steps as steps
@@ -11,40 +25,6 @@ use Rattle.note_types.specs.declared.exception.Exception.TheVariants as raises
 use Rattle.neutral_machine.specs.Outcomes as outcomes
 use Rattle.neutral_machine.specs.Operands as neutral
 use Rattle.neutral_machine.specs.Rows as rows
-use Rattle.ebc_width.specs.Width.{IsWidth, wrap64}
-use Rattle.ebc_width.proofs.Laws.{linear_at-wrap64, wrap64-below}
-use Rattle.natural_index.specs.Index.{pair_of}
-use Rattle.natural_index.specs.declared.Index.{Index}
-use Rattle.ebc_insn.specs.declared.Extra.{Extra}
-use Rattle.ebc_insn.specs.declared.Extra.TheVariants.{Nothing, Imm, Idx}
-use Rattle.ebc_machine.specs.Operands.{index_offset, optional_offset, extra_offset, form_bytes, size_bytes, sum_at, address, loaded_at}
-use Rattle.ebc_machine.specs.Operands.{stored_at}
-use Rattle.note_types.specs.Concrete.{Concrete, register, with_register, at_ip}
-use Rattle.note_types.specs.Shapes.{start_at}
-use Rattle.note_types.specs.declared.exception.Exception.{Exception}
-use Rattle.note_types.specs.declared.spot.Spot.TheVariants.{Place}
-use Rattle.host_model.specs.Values.{Neutral, Shows, FieldOf, FieldOfLocals, word, minus}
-use Rattle.neutral_machine.specs.Config.{FunctionFrame, Frame, Function, Host, Config, depth, with_value}
-use Rattle.host_model.specs.World.{World}
-use Rattle.host_model.specs.Placements.{Placement, IsPlacement, stack_bytes, stack_end, return_cell}
-use Rattle.neutral_machine.specs.Layout.{addresses, total, height, top_of, local_address}
-use Rattle.neutral_machine.specs.Outcomes.{Outcome, Gives, Raises, Stuck}
-use Rattle.neutral_machine.specs.Alike.{Does, RowsAlike}
-use Rattle.neutral_machine.specs.Locations.{Access, access_bytes, Offset, Location, CellAt, ParamAt, ThunkAt, located_on_stack}
-use Rattle.neutral_machine.specs.Locations.{parameters_of}
-use Rattle.neutral_machine.specs.Operands.{NeutralSide, plainly, indexed, beside_extra, index_pair, extra_pair, offset_of, moved_by}
-use Rattle.neutral_machine.specs.Operands.{local_at_location, direct_value, loaded_by, stored_by}
-use Rattle.neutral_machine.specs.Rows.{NeutralEnd, Next, Native, MakeThunk, at_place}
-use Rattle.neutral_machine.specs.Stands.{OwnLocalsAll, MachineStands}
-use Rattle.neutral_machine.specs.WorldFits.{WorldFits}
-use Rattle.neutral_machine.proofs.Numbers.{minus-is}
-use Rattle.neutral_machine.proofs.Placed.{image_within}
-use Rattle.neutral_machine.proofs.Agree.{cell_positive, shown_in}
-use Rattle.neutral_machine.proofs.Cells.{end_small}
-use Rattle.instruction_laws.proofs.Accesses.{Beside, ShowsWord, moved_shows, loads, stores, top_is, top_address, locals_fit_at}
-use Rattle.neutral_machine.proofs.Spots.{place_spot, turned_stands}
-use Rattle.neutral_machine.proofs.Stack.{field_there}
-use Rattle.neutral_machine.proofs.Words.{width_word}
 
 -- first one thing and then another, on both sides
 pub bind_does : {A B C D : Type 0} (R : A → B → Type 0) (S : C → D → Type 0) (m : Outcome A) (o : Result B Exception) (f : A → Outcome C)
@@ -94,10 +74,6 @@ module _ (w : ℕ) (world : World) (P : Placement) (mapped : ℕ → ℕ) (h : I
           → OwnLocalsAll world.notes (Function f ∷ fs) → total w (Function f ∷ fs) ≤ stack_bytes w world.notes → (l : Option Location)
           → located_on_stack world.notes (Function f ∷ fs) (offset_of o) ≡ l
           → Shows w (addresses w world.notes P a.frames) (local_at_location l) (word (register s 0 + y))
-      by_location f fs fr top own rm None g = tt
-      by_location f fs fr top own rm (Some (ParamAt j)) g = tt
-      by_location f fs fr top own rm (Some (ThunkAt i)) g = tt
-      by_location f fs fr top own rm (Some (CellAt (FieldOf k i j))) g = tt
       by_location f fs fr top own rm (Some (CellAt (FieldOfLocals d j))) g =
           let U = return_cell + total w fs in
           let T = total w (Function f ∷ fs) in
@@ -124,6 +100,7 @@ module _ (w : ℕ) (world : World) (P : Placement) (mapped : ℕ → ℕ) (h : I
         where
           local_same : (d j e g : ℕ) → FieldOfLocals d j ≡ FieldOfLocals e g → (Q : ℕ → ℕ → Type 0) → Q e g → Q d j
           local_same d j e g q Q z = let a : d ≡ e = cc in let b : j ≡ g = cc in subst₂ Q (sym a) (sym b) z
+      by_location f fs fr top own rm c g = tt
 
       by_frames : (fs : List Frame) → a.frames ≡ fs → register s 0 ≡ top_of w End fs → OwnLocalsAll world.notes fs
           → total w fs ≤ stack_bytes w world.notes → Shows w (addresses w world.notes P a.frames)

@@ -1,35 +1,19 @@
 -- One instruction at one width.
-use Rattle.std.proofs.Common.{◌≡◌, ℕ, ◌+◌, ◌<◌, ◌≤◌, Bool, true, false, not, ◌&&◌, if◌then◌else◌, nat_eq, Option, None, refl, arith}
-use Rattle.std.proofs.lemmas.Bool.{eqb-true, and_parts, false≢true}
-use Rattle.ebc_insn.specs.declared.Insn.TheVariants as insns
-use Rattle.ebc_machine.specs.Moves as machine_moves
-use Rattle.ebc_machine.specs.Step as machine
-use Rattle.ebc_width.specs.Width.{IsWidth}
-use Rattle.natural_index.specs.declared.Index.{Index}
-use Rattle.ebc_insn.specs.Spelling.{WellFormed}
-use Rattle.ebc_insn.specs.declared.Insn.{Insn}
-use Rattle.ebc_insn.specs.declared.Operand.{Operand}
-use Rattle.ebc_insn.specs.declared.Size.{Size}
-use Rattle.ebc_machine.specs.Operands.{optional_offset, extra_offset}
-use Rattle.note_types.specs.Concrete.{Concrete}
-use Rattle.neutral_machine.specs.Config.{Config}
-use Rattle.host_model.specs.World.{World}
-use Rattle.host_model.specs.Placements.{Placement, IsPlacement, stack_bytes}
-use Rattle.neutral_machine.specs.Layout.{total}
-use Rattle.neutral_machine.specs.Alike.{Does, RowsAlike}
-use Rattle.neutral_machine.specs.Operands.{plainly, indexed, beside_extra}
-use Rattle.neutral_machine.specs.Rows.{Site, is_stack_pointer, stack_row, move_row, executed}
-use Rattle.neutral_machine.specs.Stands.{MachineStands}
-use Rattle.neutral_machine.specs.Room.{HasRoom, index_growth}
+use Rattle.instruction_laws.proofs.Common.{◌≡◌, ℕ, ◌+◌, ◌<◌, ◌≤◌, Bool, true, false, not, ◌&&◌, if◌then◌else◌, nat_eq, Option, None, refl}
+use Rattle.instruction_laws.proofs.Common.{arith, eqb-true, and_parts, false≢true, IsWidth, Index, WellFormed, Insn, Operand, Size}
+use Rattle.instruction_laws.proofs.Common.{optional_offset, extra_offset, Concrete, Config, World, Placement, IsPlacement, stack_bytes}
+use Rattle.instruction_laws.proofs.Common.{total, Does, RowsAlike, plainly, indexed, beside_extra, Site, is_stack_pointer, stack_row}
+use Rattle.instruction_laws.proofs.Common.{move_row, executed, MachineStands, HasRoom, index_growth, IsAt, WorldFits}
 use Rattle.instruction_laws.specs.Laws.{OneInstruction}
-use Rattle.neutral_machine.specs.Instructions.{IsAt}
-use Rattle.neutral_machine.specs.WorldFits.{WorldFits}
 use Rattle.instruction_laws.proofs.Operands.{address_of, nothing_beside, optional_beside, extra_beside}
 use Rattle.instruction_laws.proofs.DataRows.{arith_does, compare_does, compare_imm_does, move_does, move_signed_does, move_imm_does}
 use Rattle.instruction_laws.proofs.DataRows.{move_imm_natural_does, move_relative_does, store_special_does}
 use Rattle.instruction_laws.proofs.StackRows.{push_does, push_natural_does, pop_does, pop_natural_does, stack_does}
 use Rattle.instruction_laws.proofs.FlowRows.{jump_does, jump8_does, call_does, call_native_does, return_does, break_does}
 use Rattle.ebc_machine.proofs.Fits.{target_register}
+use Rattle.ebc_insn.specs.declared.Insn.TheVariants as insns
+use Rattle.ebc_machine.specs.Moves as machine_moves
+use Rattle.ebc_machine.specs.Step as machine
 
 module _ (w : ℕ) (world : World) (P : Placement) (mapped : ℕ → ℕ) (h : IsWidth w) (ok : WorldFits world) (pl : IsPlacement w world P) where
   move_any : (a : Config) (s : Concrete) (next : ℕ) (size : Size) (left right : Operand) (lidx ridx : Option Index) (n : ℕ) → left.reg < 8

@@ -1,8 +1,31 @@
 -- Pushes, pops and moves of R0: the machine does what the neutral machine does.
-use Rattle.std.proofs.Common.{◌≡◌, ℕ, ◌+◌, ◌-◌, ◌*◌, ◌%◌, ◌^◌, ◌<◌, ◌≤◌, Bool, true, false, not, ◌&&◌, if◌then◌else◌, nat_eq, List, [], ◌∷◌}
-use Rattle.std.proofs.Common.{Option, Some, None, Ok, is_none, pos, refl, sym, ap, ap₂, ◌∙◌, subst, subst₂, arith, inl, slice_set}
+use Rattle.instruction_laws.proofs.Common.{◌≡◌, ℕ, ◌+◌, ◌-◌, ◌*◌, ◌%◌, ◌^◌, ◌<◌, ◌≤◌, Bool, true, false, not, ◌&&◌, if◌then◌else◌, nat_eq}
+use Rattle.instruction_laws.proofs.Common.{List, [], ◌∷◌, Option, Some, None, Ok, is_none, pos, refl, sym, ap, ap₂, ◌∙◌, subst, subst₂}
+use Rattle.instruction_laws.proofs.Common.{arith, inl, slice_set, eqb-true, and_parts, false≢true, IsWidth, cut_at, extended_at}
+use Rattle.instruction_laws.proofs.Common.{extended_at-below, Index, Operand, Size, form_bytes, index_offset, optional_offset, sum_at}
+use Rattle.instruction_laws.proofs.Common.{loaded_at, stored_at, raised_by, Concrete, register, with_register, size_at, SlotKind, N}
+use Rattle.instruction_laws.proofs.Common.{Exception, Shape, Neutral, Addresses, Shows, ShowsIn, number, plain, StackItem, Pushed, LocalsOf}
+use Rattle.instruction_laws.proofs.Common.{FunctionFrame, Frame, Function, Host, Config, depth, locals_among, World, frame_locals}
+use Rattle.instruction_laws.proofs.Common.{Placement, IsPlacement, slot_bytes, stack_bytes, stack_end, addresses, total, memory_of, Gives}
+use Rattle.instruction_laws.proofs.Common.{Stuck, unless_stuck, Does, RowsAlike, kept_natural, Access, Move, Form, access_bytes, kept}
+use Rattle.instruction_laws.proofs.Common.{NeutralSide, moved_by, stored_by, pushed, form_kind, has_size, dropped, after_drop, after_make}
+use Rattle.instruction_laws.proofs.Common.{made_locals, adjusted, adjusted_by, is_qword_size, stack_row, same_kind, MachineStands, size_if}
+use Rattle.instruction_laws.proofs.Common.{locals_growth, index_growth, WorldFits, shown_in, Extends, fits_at, end_small}
+use Rattle.instruction_laws.proofs.Common.{kept_natural_shows, number_shows, plain_shows, bounded, objects_below, framed, same_extends}
+use Rattle.instruction_laws.proofs.Common.{top_below, in_frames, width_word}
 use Rattle.std.proofs.Math.Nat.{mod-mod}
-use Rattle.std.proofs.lemmas.Bool.{eqb-true, and_parts, false≢true}
+use Rattle.ebc_width.specs.Width.{linear_at}
+use Rattle.ebc_width.proofs.Laws.{extended_at-cut_at, linear_at-neg, linear_at-pos}
+use Rattle.natural_index.specs.Index.{signed}
+use Rattle.ebc_machine.specs.Stack.{stack_fault}
+use Rattle.neutral_machine.specs.Rows.{with_items, taken, taken_from, popped, of_slot, Dropped}
+use Rattle.neutral_machine.specs.Operations.{on_number}
+use Rattle.neutral_machine.proofs.{Agree.shows_in_more, Locals.locals_shape, Values.whole_shows, Frames.pushes, Frames.pop_stands}
+use Rattle.neutral_machine.proofs.{Frames.pop_reads, Drops.make_stands, Drops.drop_slots, Drops.drop_locals}
+use Rattle.instruction_laws.proofs.Accesses.{Beside, ShowsWord, moved_shows, stores}
+use Rattle.instruction_laws.proofs.Operands.{bind_does, values, registers_written, address_of, goes_does}
+use Rattle.instruction_laws.proofs.DataRows.{form_size, kept_word}
+use Rattle.note_types.proofs.SameLaws.{same_kind-equal}
 use Rattle.ebc_insn.specs.declared.Size.TheVariants as sizes
 use Rattle.ebc_machine.specs.Operands as machine
 use Rattle.ebc_machine.specs.Stack as machine_stack
@@ -12,49 +35,6 @@ use Rattle.note_types.specs.declared.exception.Exception.TheVariants as raises
 use Rattle.neutral_machine.specs.Outcomes as outcomes
 use Rattle.neutral_machine.specs.Operands as neutral
 use Rattle.neutral_machine.specs.Rows as rows
-use Rattle.ebc_width.specs.Width.{IsWidth, cut_at, extended_at, linear_at}
-use Rattle.ebc_width.proofs.Laws.{extended_at-below, extended_at-cut_at, linear_at-neg, linear_at-pos}
-use Rattle.natural_index.specs.Index.{signed}
-use Rattle.natural_index.specs.declared.Index.{Index}
-use Rattle.ebc_insn.specs.declared.Operand.{Operand}
-use Rattle.ebc_insn.specs.declared.Size.{Size}
-use Rattle.ebc_machine.specs.Operands.{form_bytes, index_offset, optional_offset, sum_at, loaded_at, stored_at}
-use Rattle.ebc_machine.specs.Stack.{stack_fault, raised_by}
-use Rattle.note_types.specs.Concrete.{Concrete, register, with_register}
-use Rattle.note_types.specs.Shapes.{size_at}
-use Rattle.note_types.specs.declared.cell.SlotKind.{SlotKind}
-use Rattle.note_types.specs.declared.cell.SlotKind.TheVariants.{N}
-use Rattle.note_types.specs.declared.exception.Exception.{Exception}
-use Rattle.note_types.specs.declared.shape.Shape.{Shape}
-use Rattle.host_model.specs.Values.{Neutral, Addresses, Shows, ShowsIn, number, plain}
-use Rattle.neutral_machine.specs.Config.{StackItem, Pushed, LocalsOf, FunctionFrame, Frame, Function, Host, Config, depth, locals_among}
-use Rattle.host_model.specs.World.{World, frame_locals}
-use Rattle.host_model.specs.Placements.{Placement, IsPlacement, slot_bytes, stack_bytes, stack_end}
-use Rattle.neutral_machine.specs.Layout.{addresses, total}
-use Rattle.neutral_machine.specs.Memory.{memory_of}
-use Rattle.neutral_machine.specs.Outcomes.{Gives, Stuck, unless_stuck}
-use Rattle.neutral_machine.specs.Alike.{Does, RowsAlike}
-use Rattle.neutral_machine.specs.Operations.{kept_natural, on_number}
-use Rattle.neutral_machine.specs.Locations.{Access, Move, Form, access_bytes, kept}
-use Rattle.neutral_machine.specs.Operands.{NeutralSide, moved_by, stored_by}
-use Rattle.neutral_machine.specs.Rows.{with_items, pushed, form_kind, taken, taken_from, popped, of_slot, has_size, Dropped, dropped}
-use Rattle.neutral_machine.specs.Rows.{after_drop, after_make, made_locals, adjusted, adjusted_by, is_qword_size, stack_row}
-use Rattle.note_types.specs.BelowTests.{same_kind}
-use Rattle.neutral_machine.specs.Stands.{MachineStands}
-use Rattle.neutral_machine.specs.Room.{size_if, locals_growth, index_growth}
-use Rattle.neutral_machine.specs.WorldFits.{WorldFits}
-use Rattle.neutral_machine.proofs.Agree.{shown_in, shows_in_more, Extends}
-use Rattle.neutral_machine.proofs.Locals.{locals_shape, fits_at}
-use Rattle.neutral_machine.proofs.Cells.{end_small}
-use Rattle.neutral_machine.proofs.Values.{kept_natural_shows, whole_shows, number_shows, plain_shows}
-use Rattle.neutral_machine.proofs.Bounds.{bounded, objects_below}
-use Rattle.neutral_machine.proofs.Frames.{framed, pushes, pop_stands, pop_reads, same_extends, top_below, in_frames}
-use Rattle.neutral_machine.proofs.Drops.{make_stands, drop_slots, drop_locals}
-use Rattle.instruction_laws.proofs.Accesses.{Beside, ShowsWord, moved_shows, stores}
-use Rattle.instruction_laws.proofs.Operands.{bind_does, values, registers_written, address_of, goes_does}
-use Rattle.instruction_laws.proofs.DataRows.{form_size, kept_word}
-use Rattle.neutral_machine.proofs.Words.{width_word}
-use Rattle.note_types.proofs.SameLaws.{same_kind-equal}
 
 form_slot : (w : ℕ) (wide : Bool) → slot_bytes w (form_kind wide) ≡ form_bytes wide
 form_slot w true = refl
@@ -390,10 +370,7 @@ module _ (w : ℕ) (world : World) (P : Placement) (mapped : ℕ → ℕ) (h : I
     where
       qword : (size : Size) → is_qword_size size ≡ true → size ≡ sizes.Qword
       qword sizes.Qword e = refl
-      qword sizes.Byte e = absurd (false≢true e)
-      qword sizes.Word e = absurd (false≢true e)
-      qword sizes.Dword e = absurd (false≢true e)
-      qword sizes.Natural e = absurd (false≢true e)
+      qword size e = absurd (false≢true e)
 
       direct : (b : Bool) → not b ≡ true → b ≡ false
       direct false e = refl

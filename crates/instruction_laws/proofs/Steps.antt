@@ -1,38 +1,23 @@
 -- One step of the machine: the instruction at ip is the one that its bytes spell.
-use Rattle.std.proofs.Common.{◌≡◌, ℕ, ◌+◌, ◌-◌, ◌%◌, ◌^◌, ◌<◌, ◌≤◌, ◌⊎◌, Bool, true, false, if◌then◌else◌, nat_eq, nat_le, ◌∷◌, ◌++◌}
-use Rattle.std.proofs.Common.{length, Some, None, Ok, Err, refl, sym, ap, ap₂, ◌∙◌, subst, arith, inl, inr, ⊎_elim}
-use Rattle.std.specs.List.{find}
-use Rattle.std.proofs.lemmas.Bool.{and_from, and_left, and_right, le-leb, lt-leb}
+use Rattle.instruction_laws.proofs.Common.{◌≡◌, ℕ, ◌+◌, ◌-◌, ◌%◌, ◌^◌, ◌<◌, ◌≤◌, ◌⊎◌, Bool, true, false, if◌then◌else◌, nat_eq, nat_le, ◌∷◌}
+use Rattle.instruction_laws.proofs.Common.{◌++◌, length, Some, None, Ok, Err, refl, sym, ap, ap₂, ◌∙◌, subst, arith, inl, inr, ⊎_elim, find}
+use Rattle.instruction_laws.proofs.Common.{and_from, le-leb, window, IsWidth, spelling, Insn, read_again, machine_step, Concrete, Place}
+use Rattle.instruction_laws.proofs.Common.{Gate, word, Config, World, Placement, IsPlacement, stack_bytes, Outcome, Gives, Raises, Stuck}
+use Rattle.instruction_laws.proofs.Common.{Does, RowsAlike, StepAlike, Site, NeutralEnd, MachineStands, IsAt, WorldFits, window-append}
+use Rattle.std.proofs.lemmas.Bool.{and_left, and_right, lt-leb}
+use Rattle.ebc_machine.specs.{Fetch.fetched, Fetch.or_exception, Results.Row, Step.executed, Step.ended, Step.instruction_done}
+use Rattle.note_types.specs.Concrete.{rest_from}
+use Rattle.ebc_width.specs.Ranges.{covers}
+use Rattle.note_types.specs.declared.spot.Spot.TheVariants.{Wild}
+use Rattle.ebc_width.proofs.RangeLaws.{covers-bounds}
+use Rattle.host_model.specs.Placements.{image_range, area_bytes, placed_ranges}
+use Rattle.neutral_machine.specs.Stands.{spot_at}
+use Rattle.instruction_laws.specs.Laws.{OneStep}
+use Rattle.neutral_machine.proofs.Placed.{image_off_stack, native_off_image}
+use Rattle.instruction_laws.proofs.Simulation.{one_instruction}
 use Rattle.ebc_decode.specs.Reading as reading
 use Rattle.ebc_machine.specs.declared.StepEnd.TheVariants as ends
 use Rattle.ebc_base.specs.Steps as steps
-use Rattle.ebc_width.specs.Bytes.{window}
-use Rattle.ebc_width.specs.Width.{IsWidth}
-use Rattle.ebc_insn.specs.Spelling.{spelling}
-use Rattle.ebc_insn.specs.declared.Insn.{Insn}
-use Rattle.ebc_decode.proofs.Again.{read_again}
-use Rattle.ebc_machine.specs.Fetch.{fetched, or_exception}
-use Rattle.ebc_machine.specs.Results.{Row}
-use Rattle.ebc_machine.specs.Step.{executed, ended, instruction_done, machine_step}
-use Rattle.note_types.specs.Concrete.{Concrete, rest_from}
-use Rattle.ebc_width.specs.Ranges.{covers}
-use Rattle.note_types.specs.declared.spot.Spot.TheVariants.{Place, Gate, Wild}
-use Rattle.host_model.specs.Values.{word}
-use Rattle.ebc_width.proofs.RangeLaws.{covers-bounds}
-use Rattle.host_model.specs.Placements.{image_range}
-use Rattle.neutral_machine.specs.Config.{Config}
-use Rattle.host_model.specs.World.{World}
-use Rattle.host_model.specs.Placements.{Placement, IsPlacement, area_bytes, stack_bytes, placed_ranges}
-use Rattle.neutral_machine.specs.Outcomes.{Outcome, Gives, Raises, Stuck}
-use Rattle.neutral_machine.specs.Alike.{Does, RowsAlike, StepAlike}
-use Rattle.neutral_machine.specs.Rows.{Site, NeutralEnd}
-use Rattle.neutral_machine.specs.Stands.{MachineStands, spot_at}
-use Rattle.instruction_laws.specs.Laws.{OneStep}
-use Rattle.neutral_machine.specs.Instructions.{IsAt}
-use Rattle.neutral_machine.specs.WorldFits.{WorldFits}
-use Rattle.neutral_machine.proofs.Placed.{image_off_stack, native_off_image}
-use Rattle.instruction_laws.proofs.Simulation.{one_instruction}
-use Rattle.ebc_width.proofs.ByteLaws.{window-append}
 
 -- where a run stands at a place
 pub record IsThere (world : World) (P : Placement) (ip p : ℕ) : Type 0 where

@@ -1,22 +1,16 @@
 -- The world of a run whose image keeps the rules on shapes, functions, static objects and thunk cells.
-use Rattle.std.proofs.Common.{◌≡◌, ◌≢◌, ℕ, ◌+◌, ◌-◌, ◌*◌, ◌<◌, ◌≤◌, ◌⊎◌, map, length, Some, sym, ◌∙◌, subst, arith, inl, inr, ⊎_elim}
-use Rattle.std.proofs.Common.{slice_get}
-use Rattle.std.proofs.lemmas.Bool.{cases_lt, cases_order}
-use Rattle.std.proofs.lemmas.Option.{slice_get-map, slice_get-get_or}
-use Rattle.note_types.specs.Shapes.{size_at}
+use Rattle.instruction_laws.proofs.Common.{◌≡◌, ℕ, ◌+◌, ◌-◌, ◌*◌, ◌<◌, ◌≤◌, ◌⊎◌, map, length, Some, sym, ◌∙◌, subst, arith, inl, inr}
+use Rattle.instruction_laws.proofs.Common.{⊎_elim, slice_get, cases_lt, slice_get-get_or, size_at, Static, Thunk, Image, World, TypedObject}
+use Rattle.instruction_laws.proofs.Common.{IsRunOf, some_of_map}
+use Rattle.std.proofs.Common.{◌≢◌}
+use Rattle.std.proofs.lemmas.{Bool.cases_order, Option.slice_get-map}
 use Rattle.note_types.specs.declared.notes.FnNote.{FnNote}
-use Rattle.note_types.specs.declared.notes.Static.{Static}
-use Rattle.note_types.specs.declared.notes.Thunk.{Thunk}
 use Rattle.pe_image.specs.Images.{IsSection}
-use Rattle.pe_image.specs.declared.image.Image.{Image}
 use Rattle.rules_image.specs.Images.{IsFunction, IsStatic, IsThunk, AreApart}
 use Rattle.host_model.specs.Objects.{no_shape, shape_of, made_objects, placed_objects, static_object, script_object}
-use Rattle.host_model.specs.World.{World}
-use Rattle.host_model.specs.declared.object.TypedObject.{TypedObject}
 use Rattle.neutral_machine.proofs.PlacedObjects.{placed_in_all}
-use Rattle.instruction_laws.specs.Premises.{IsRunOf, WorldMeets}
+use Rattle.instruction_laws.specs.Premises.{WorldMeets}
 use Rattle.ebc_base.proofs.Lists.{slice_get-append_left, slice_get-append_right}
-use Rattle.ebc_base.proofs.Given.{some_of_map}
 
 module _ (image : Image) (world : World) (run : IsRunOf image world) where
   -- ---- typed objects

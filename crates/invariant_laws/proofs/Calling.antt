@@ -1,62 +1,35 @@
 -- The host's call step: what a typed program asks for is seen, and the call is accepted, or the run ends with a script that doesn't
 -- go on so.
-use Rattle.std.specs.Bool.{⊤}
-use Rattle.std.specs.List.{flat_map}
-use Rattle.std.specs.Option.{option_map, option_map_or}
-use Rattle.std.proofs.Common.{◌≡◌, ◌⊎◌, ℕ, zero, suc, ◌+◌, ◌-◌, ◌<◌, ◌≤◌, Bool, true, false, if◌then◌else◌, nat_eq, List, [], ◌∷◌, ◌++◌}
-use Rattle.std.proofs.Common.{map, take, length, Option, Some, None, option_and_then, refl, sym, ap, ap₂, ◌∙◌, subst, arith, inl, inr}
-use Rattle.std.proofs.Common.{slice_get, append_assoc}
-use Rattle.std.proofs.lemmas.Bool.{eqb-true, eq-eqb, cases_lt}
-use Rattle.std.proofs.lemmas.List.{map-append}
-use Rattle.std.proofs.lemmas.Option.{none-some, same_Some, slice_get-map}
-use Rattle.note_types.specs.Records.{IsKnownWant, Each}
-use Rattle.note_types.specs.declared.ending.Ending.{Ending}
-use Rattle.note_types.specs.declared.ending.Ending.TheVariants as ending
-use Rattle.note_types.specs.declared.event.Event.{Event}
-use Rattle.note_types.specs.declared.event.Event.TheVariants as event
-use Rattle.note_types.specs.declared.notes.Notes.{Notes}
-use Rattle.note_types.specs.declared.notes.Signature.{Signature}
-use Rattle.note_types.specs.declared.notes.Want.{Want}
-use Rattle.note_types.specs.declared.notes.Want.TheVariants as want
-use Rattle.note_types.specs.declared.notes.WantParam.{WantParam}
-use Rattle.note_types.specs.declared.reason.Reason.TheVariants as reason
+use Rattle.invariant_laws.proofs.Common.{⊤, flat_map, option_map, option_map_or, ◌≡◌, ◌⊎◌, ℕ, zero, suc, ◌+◌, ◌-◌, ◌<◌, ◌≤◌, Bool, true}
+use Rattle.invariant_laws.proofs.Common.{false, if◌then◌else◌, nat_eq, List, [], ◌∷◌, ◌++◌, map, take, length, Option, Some, None}
+use Rattle.invariant_laws.proofs.Common.{option_and_then, refl, sym, ap, ap₂, ◌∙◌, subst, arith, inl, inr, slice_get, eqb-true, eq-eqb}
+use Rattle.invariant_laws.proofs.Common.{none-some, same_Some, slice_get-map, IsKnownWant, Each, Ending, Event, Notes, Signature, Want}
+use Rattle.invariant_laws.proofs.Common.{WantParam, ScriptCall, ScriptObject, Seen, TypedObject, FunctionFrame, Frame, Function, Config}
+use Rattle.invariant_laws.proofs.Common.{depth, call_under_way, with_call, locals_at, host_plan, filling, signature_params, Memory}
+use Rattle.invariant_laws.proofs.Common.{memory_of, neutral_arguments, made_objects, placed_objects, static_object, script_object, Asked}
+use Rattle.invariant_laws.proofs.Common.{Accepted, all_made, Neutral, World, slice_get-append_left, slice_get-append_right, within_some}
+use Rattle.invariant_laws.proofs.Common.{ArgumentFits, ArgumentsFit, Later, live_memory, CellsFit, SoundBelow, States, AsksWell}
+use Rattle.invariant_laws.proofs.Common.{WaitsNative, RaisesOnlyDivideError, TopHolds, Holds, RunWorld, HostGoesOn}
+use Rattle.std.proofs.Common.{append_assoc}
+use Rattle.std.proofs.lemmas.{Bool.cases_lt, List.map-append}
 use Rattle.note_types.specs.declared.script.Script.{Script}
-use Rattle.note_types.specs.declared.script.ScriptCall.{ScriptCall}
-use Rattle.note_types.specs.declared.script.ScriptObject.{ScriptObject}
-use Rattle.note_types.specs.declared.seen.Seen.{Seen}
-use Rattle.note_types.specs.declared.spot.Spot.TheVariants as spot
-use Rattle.host_model.specs.declared.object.TypedObject.{TypedObject}
-use Rattle.neutral_machine.specs.Config.{FunctionFrame, Frame, Function, Config, depth, call_under_way, with_call, locals_at}
-use Rattle.host_model.specs.HostPlans.{NoSite, Asks, Calls, Accepts, host_plan, call_plan, call_settled, entry_refused, argument_refused}
-use Rattle.host_model.specs.HostPlans.{objects_made_by, filling, signature_params, signature_method}
-use Rattle.neutral_machine.specs.Locations.{is_method}
-use Rattle.neutral_machine.specs.Memory.{Memory, memory_of}
-use Rattle.neutral_machine.specs.NeutralHost as neutral
-use Rattle.neutral_machine.specs.NeutralReadings.{neutral_arguments, neutral_slots}
-use Rattle.host_model.specs.Objects.{made_objects, placed_objects, objects_of, static_object, script_object}
-use Rattle.host_model.specs.Progress.{Asked, Accepted, one_entry}
-use Rattle.host_model.specs.ScriptValues.{same_seen}
-use Rattle.host_model.specs.Scripts.{IsScript, all_made}
-use Rattle.host_model.specs.Values.{Neutral}
-use Rattle.host_model.specs.World.{World}
-use Rattle.ebc_base.proofs.Lists.{slice_get-append_left, slice_get-append_right, within_some}
-use Rattle.invariant_laws.specs.Asked.{ArgumentFits, ArgumentsFit}
-use Rattle.invariant_laws.specs.Later.{Later}
-use Rattle.invariant_laws.specs.Live.{live_memory}
-use Rattle.invariant_laws.specs.Sound.{CellsFit, SoundBelow}
-use Rattle.invariant_laws.specs.Waiting.{States, AsksWell, WaitsNative}
-use Rattle.invariant_laws.specs.Endings.{RaisesOnlyDivideError}
-use Rattle.invariant_laws.specs.Holds.{TopHolds, Holds}
-use Rattle.invariant_laws.specs.Hosted.{RunWorld, HostGoesOn}
-use Rattle.invariant_laws.proofs.Later.{live, live_some, live_later}
-use Rattle.invariant_laws.proofs.Chains.{arguments_later, waits_later, chain_later}
+use Rattle.host_model.specs.HostPlans.{NoSite, Asks, Calls, Accepts, call_plan, call_settled, entry_refused, argument_refused}
+use Rattle.host_model.specs.HostPlans.{objects_made_by, signature_method}
+use Rattle.host_model.specs.{Objects.objects_of, Progress.one_entry, ScriptValues.same_seen, Scripts.IsScript}
+use Rattle.neutral_machine.specs.{Locations.is_method, NeutralReadings.neutral_slots}
 use Rattle.invariant_laws.proofs.Marks.{depth_call, locals_call, hosts_call, call_is, frames_call, chain_call}
 use Rattle.invariant_laws.proofs.Same.{SameMemory, same_later, frames_later, cells_same, cells_live, cells_of_live}
-use Rattle.invariant_laws.proofs.Readings.{arguments_read}
 use Rattle.invariant_laws.proofs.Filling.{AreFirst, AreMade, filled_fit, filled_later}
-use Rattle.invariant_laws.proofs.Leaving.{host_goes_on, ended_holds}
-use Rattle.neutral_machine.proofs.PlacedObjects.{placed_in_all}
+use Rattle.invariant_laws.proofs.{Later.live, Later.live_some, Later.live_later, Chains.arguments_later, Chains.waits_later}
+use Rattle.invariant_laws.proofs.{Chains.chain_later, Readings.arguments_read, Leaving.host_goes_on, Leaving.ended_holds}
 use Rattle.invariant_laws.proofs.LaterFits.{later_trans}
+use Rattle.neutral_machine.proofs.PlacedObjects.{placed_in_all}
+use Rattle.note_types.specs.declared.ending.Ending.TheVariants as ending
+use Rattle.note_types.specs.declared.event.Event.TheVariants as event
+use Rattle.note_types.specs.declared.notes.Want.TheVariants as want
+use Rattle.note_types.specs.declared.reason.Reason.TheVariants as reason
+use Rattle.note_types.specs.declared.spot.Spot.TheVariants as spot
+use Rattle.neutral_machine.specs.NeutralHost as neutral
 
 -- ---- how runs end with a script
 
@@ -64,16 +37,12 @@ use Rattle.invariant_laws.proofs.LaterFits.{later_trans}
 abbrev pub IsQuiet : Ending → Type 0
 IsQuiet ending.Running = ⊥
 IsQuiet (ending.Raised e) = ⊥
-IsQuiet (ending.Finished v) = ⊤
-IsQuiet (ending.Mismatch r) = ⊤
-IsQuiet ending.ScriptEnd = ⊤
+IsQuiet c = ⊤
 
 pub quiet_ends : (e : Ending) → IsQuiet e → (e ≡ ending.Running → ⊥) × RaisesOnlyDivideError e
 quiet_ends ending.Running q = absurd q
 quiet_ends (ending.Raised x) q = absurd q
-quiet_ends (ending.Finished v) q = (λ e. absurd (cc), tt)
-quiet_ends (ending.Mismatch r) q = (λ e. absurd (cc), tt)
-quiet_ends ending.ScriptEnd q = (λ e. absurd (cc), tt)
+quiet_ends c q = (λ e. absurd (cc), tt)
 
 argument_quiet : (k : ℕ) (xs ys : List Seen) (e : Ending) → argument_refused k xs ys ≡ Some e → IsQuiet e
 unfolding argument_refused
@@ -175,12 +144,6 @@ call_made notes script n c h e = record {
 argument_raw : (notes : Notes) (m : Memory) (d : ℕ) (w : Want) (v : Neutral) → ArgumentFits notes (live notes m) d w v
     → ArgumentFits notes m d w v
 argument_raw notes m d want.Any v x = tt
-argument_raw notes m d (want.Int lo hi) v x = x
-argument_raw notes m d (want.Size n c) v x = x
-argument_raw notes m d want.Ptr v x = x
-argument_raw notes m d want.Handle v x = x
-argument_raw notes m d want.Status v x = x
-argument_raw notes m d want.Entry v x = x
 argument_raw notes m d (want.Out c) v b = record {
   e = b.e;
   f = b.f;
@@ -196,6 +159,7 @@ argument_raw notes m d (want.Inout c) v x =
       cell_below = record { e = b.e; f = b.f; is = b.is; lower = b.lower; field = b.field; there = b.there; cell_is = b.cell_is };
       written = record { value = x.written.value; is = (live_some notes m _ x.written.value x.written.is).2 };
     }
+argument_raw notes m d w v x = x
 
 pub arguments_raw : (notes : Notes) (m : Memory) (d : ℕ) (ps : List WantParam) (vs : List Neutral)
     → ArgumentsFit notes (live notes m) d ps vs → ArgumentsFit notes m d ps vs

@@ -1,50 +1,23 @@
 -- The host enters a function: the configuration inside it is sound with the state at its start.
-use Rattle.std.specs.List.{AllZip, list_all, zip}
-use Rattle.std.specs.Option.{option_map_or}
-use Rattle.std.proofs.Math.Nat.{zero-div}
-use Rattle.std.proofs.Common.{◌≡◌, ◌⊎◌, ℕ, zero, suc, ◌%◌, ◌<◌, ◌≤◌, ◌^◌, Bool, true, false, not, if◌then◌else◌, nat_eq, List, [], ◌∷◌}
-use Rattle.std.proofs.Common.{take, length, Option, Some, None, refl, sym, ap, ◌∙◌, subst, subst₂, arith, inl, inr, ⊎_elim, slice_get}
-use Rattle.std.proofs.lemmas.Bool.{and_parts, eqb-true, false≢true}
-use Rattle.std.proofs.lemmas.Option.{none-some, same_Some}
-use Rattle.note_types.specs.Notes.{entry_state}
-use Rattle.note_types.specs.Passing.{IsHandedIn, IsPassed}
-use Rattle.note_types.specs.Records.{IsNotes, Each}
-use Rattle.note_types.specs.States.{type_of}
-use Rattle.note_types.specs.FieldSets.{HasField}
-use Rattle.note_types.specs.declared.ending.Ending.TheVariants as ending
-use Rattle.note_types.specs.declared.notes.FnNote.{FnNote}
-use Rattle.note_types.specs.declared.notes.Notes.{Notes}
-use Rattle.note_types.specs.declared.notes.Param.{Param}
-use Rattle.note_types.specs.declared.state.State.{State}
-use Rattle.note_types.specs.declared.types.Ty.{Ty}
-use Rattle.note_types.specs.declared.types.Ty.TheVariants as ty
-use Rattle.note_types.specs.declared.value.Value.{Value}
-use Rattle.host_model.specs.declared.object.TypedObject.{TypedObject}
-use Rattle.neutral_machine.specs.Config.{Registers, StackItem, FunctionFrame, HostFrame, Function, Host, Config, depth, hosts, locals_at}
-use Rattle.neutral_machine.specs.Fits.{Fits, FitsPlain}
-use Rattle.neutral_machine.specs.FitsState.{FitsState}
-use Rattle.neutral_machine.specs.Memory.{Memory, memory_of}
+use Rattle.invariant_laws.proofs.Common.{AllZip, list_all, option_map_or, ◌≡◌, ◌⊎◌, ℕ, zero, suc, ◌%◌, ◌<◌, ◌≤◌, ◌^◌, Bool, true, false}
+use Rattle.invariant_laws.proofs.Common.{not, if◌then◌else◌, nat_eq, List, [], ◌∷◌, take, length, Option, Some, None, refl, sym, ap, ◌∙◌}
+use Rattle.invariant_laws.proofs.Common.{subst, arith, inl, inr, ⊎_elim, slice_get, and_parts, eqb-true, false≢true, none-some, same_Some}
+use Rattle.invariant_laws.proofs.Common.{IsNotes, Each, type_of, FnNote, Notes, Param, State, Ty, Value, TypedObject, Registers, StackItem}
+use Rattle.invariant_laws.proofs.Common.{FunctionFrame, HostFrame, Function, Host, Config, depth, hosts, locals_at, Fits, FitsPlain}
+use Rattle.invariant_laws.proofs.Common.{FitsState, Memory, memory_of, within_some, function_params, may_enter, frame_limit, NoCall, fits}
+use Rattle.invariant_laws.proofs.Common.{fits_each, Neutral, World, value_as, written_fits, live_memory, ParamFits, IsEntered, FramesKeep}
+use Rattle.invariant_laws.proofs.Common.{SoundBelow, States, BelowHost, Chain, RaisesOnlyDivideError, RunsAt, Holds, StatesFitBelow}
+use Rattle.std.specs.List.{zip}
+use Rattle.std.proofs.{Math.Nat.zero-div, Common.subst₂}
+use Rattle.note_types.specs.{Notes.entry_state, Passing.IsHandedIn, Passing.IsPassed, FieldSets.HasField}
 use Rattle.neutral_machine.specs.NeutralHost.{entered, param_slots}
-use Rattle.ebc_base.proofs.Lists.{within_some}
-use Rattle.host_model.specs.HostPlans.{function_params, may_enter}
-use Rattle.host_model.specs.Placements.{place_of, frame_limit}
-use Rattle.host_model.specs.Progress.{NoCall}
-use Rattle.host_model.specs.ScriptValues.{fits, fits_each}
-use Rattle.host_model.specs.Values.{Neutral}
-use Rattle.host_model.specs.World.{World}
-use Rattle.neutral_machine.specs.Written.{value_as}
-use Rattle.neutral_machine.proofs.WrittenFits.{written_fits}
-use Rattle.invariant_laws.specs.Live.{live_memory}
-use Rattle.invariant_laws.specs.Sound.{ParamFits, ParamKind, ThunksFor, IsEntered, FramesKeep, SoundBelow}
-use Rattle.invariant_laws.specs.Waiting.{States, BelowHost, Chain}
-use Rattle.invariant_laws.specs.Endings.{RaisesOnlyDivideError}
-use Rattle.invariant_laws.specs.Holds.{RunsAt, Holds}
-use Rattle.invariant_laws.specs.LaterLaws.{StatesFitBelow}
-use Rattle.invariant_laws.specs.Hosted.{EntersAs, as_entry, as_point, HasStarts}
-use Rattle.invariant_laws.proofs.Chains.{chain_later, below_later}
+use Rattle.host_model.specs.Placements.{place_of}
+use Rattle.invariant_laws.specs.{Sound.ParamKind, Sound.ThunksFor, Hosted.EntersAs, Hosted.as_entry, Hosted.as_point, Hosted.HasStarts}
 use Rattle.invariant_laws.proofs.Same.{SameMemory, same_later, live_same, frames_later, cells_same}
-use Rattle.invariant_laws.proofs.Leaving.{can_be_entered}
+use Rattle.invariant_laws.proofs.{Chains.chain_later, Chains.below_later, Leaving.can_be_entered}
 use Rattle.neutral_machine.proofs.Frames.{no_locals}
+use Rattle.note_types.specs.declared.ending.Ending.TheVariants as ending
+use Rattle.note_types.specs.declared.types.Ty.TheVariants as ty
 
 -- ---- parameters
 
@@ -60,16 +33,7 @@ handed_fits notes m d saved (ty.Status g) v h p x = ⊎_elim (λ e. inl e)
   where
     no_field : (f : ℕ) → HasField 0 f → ⊥
     no_field f h = let z = ap (λ x. x % 2) (zero-div (2 ^ f)) in absurd (omega (arith, h, z))
-handed_fits notes m d saved (ty.Lin n c) v h p x = absurd h
-handed_fits notes m d saved (ty.Scaled n c hi) v h p x = absurd h
-handed_fits notes m d saved (ty.Local f) v h p x = absurd h
-handed_fits notes m d saved (ty.Lent c) v h p x = absurd h
-handed_fits notes m d saved (ty.SignedStatus g) v h p x = absurd h
-handed_fits notes m d saved ty.Mask v h p x = absurd h
-handed_fits notes m d saved ty.Entry v h p x = absurd h
-handed_fits notes m d saved (ty.Method k) v h p x = absurd h
-handed_fits notes m d saved (ty.ThunkAt i) v h p x = absurd h
-handed_fits notes m d saved (ty.Saved i) v h p x = absurd h
+handed_fits notes m d saved t v h p x = absurd h
 
 -- values that are written for parameters
 pub record ValuesFit (made : List TypedObject) (ps : List Param) (vs : List Value) : Type 0 where
@@ -171,11 +135,8 @@ entry_fits notes m d func ret regs c made e = record {
     by_register (suc zero) l h = refl
     by_register (suc (suc zero)) l h = refl
     by_register (suc (suc (suc zero))) l h = refl
-    by_register (suc (suc (suc (suc zero)))) l h = tt
-    by_register (suc (suc (suc (suc (suc zero))))) l h = tt
-    by_register (suc (suc (suc (suc (suc (suc zero)))))) l h = tt
-    by_register (suc (suc (suc (suc (suc (suc (suc zero))))))) l h = tt
     by_register (suc (suc (suc (suc (suc (suc (suc (suc r)))))))) l h = absurd (omega arith)
+    by_register n l h = tt
 
 -- ---- entering
 

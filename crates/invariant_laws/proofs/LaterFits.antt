@@ -1,28 +1,13 @@
 -- What fits goes on to fit in a later memory: where objects stay, the locals up to a depth keep their shapes, and what was
 -- written stays written.
-use Rattle.std.proofs.Common.{◌≡◌, ℕ, ◌≤◌, Bool, true, false, List, [], ◌∷◌, Some, slice_get, refl, ap, ◌∙◌, arith, inl, inr, ⊎_elim}
-use Rattle.std.proofs.Common.{option_and_then, le_refl, ℤ}
-use Rattle.std.specs.List.{AllZip}
-use Rattle.note_types.specs.declared.items.Item.{Item}
+use Rattle.invariant_laws.proofs.Common.{◌≡◌, ℕ, ◌≤◌, Bool, true, false, List, [], ◌∷◌, Some, slice_get, ap, ◌∙◌, arith, inl, inr, ⊎_elim}
+use Rattle.invariant_laws.proofs.Common.{option_and_then, AllZip, Item, Notes, Param, Field, Shape, Ty, Neutral, FieldOfLocals, TypedObject}
+use Rattle.invariant_laws.proofs.Common.{Registers, StackItem, Pushed, LocalsOf, FunctionFrame, Memory, cell_field, IsFieldWritten}
+use Rattle.invariant_laws.proofs.Common.{IsPointer, OrNull, FitsPlain, Fits, ItemFits, ParamFits, Later}
+use Rattle.std.proofs.Common.{le_refl, ℤ}
+use Rattle.note_types.specs.declared.types.Ty.TheVariants.{Any, Ptr, Local, Lent, Status, SignedStatus, Saved}
+use Rattle.neutral_machine.specs.Memory.{AreWritten}
 use Rattle.note_types.specs.declared.items.Item.TheVariants as item
-use Rattle.note_types.specs.declared.notes.Notes.{Notes}
-use Rattle.note_types.specs.declared.notes.Param.{Param}
-use Rattle.note_types.specs.declared.shape.Field.{Field}
-use Rattle.note_types.specs.declared.shape.Shape.{Shape}
-use Rattle.note_types.specs.declared.types.Ty.{Ty}
-use Rattle.note_types.specs.declared.types.Ty.TheVariants.{Any, Int, Lin, Scaled, Ptr, Local, Lent, Status, SignedStatus, Mask, Handle}
-use Rattle.note_types.specs.declared.types.Ty.TheVariants.{Entry, Method, ThunkAt, Saved}
-use Rattle.host_model.specs.Values.{Neutral, FieldOfLocals}
-use Rattle.host_model.specs.declared.object.TypedObject.{TypedObject}
-use Rattle.neutral_machine.specs.Config.{Registers, StackItem, Pushed, LocalsOf, FunctionFrame}
-use Rattle.neutral_machine.specs.Memory.{Memory, cell_field, AreWritten, IsFieldWritten}
-use Rattle.neutral_machine.specs.Fits.{IsPointer, OrNull, FitsPlain, Fits}
-use Rattle.neutral_machine.specs.FitsState.{ItemFits}
-use Rattle.invariant_laws.specs.Sound.{ParamFits}
-use Rattle.invariant_laws.specs.Later.{Later}
-
-pub later_refl : (d : ℕ) (U : Memory) → Later d U U
-later_refl d U = record { objects = λ k o h. h; locals = λ e l. refl; written = λ e f l h. h }
 
 pub later_trans : (d : ℕ) (U V W : Memory) → Later d U V → Later d V W → Later d U W
 later_trans d U V W p q = record {
@@ -53,19 +38,10 @@ pub plain_later : (notes : Notes) (os ps : List TypedObject) → ((k : ℕ) (o :
     → slice_get ps k ≡ Some o) → (t : Ty) (v : Neutral) → FitsPlain notes os t v → FitsPlain notes ps t v
 plain_later notes os ps stay Any v h = tt
 plain_later notes os ps stay (Ptr s k n c may) v h = or_null_later may v _ _ (λ p. pointer_later notes os ps stay s k n c v p) h
-plain_later notes os ps stay (Int lo hi div) v h = h
-plain_later notes os ps stay (Lin n c) v h = h
-plain_later notes os ps stay (Scaled n c hi) v h = h
 plain_later notes os ps stay (Local x) v h = absurd h
 plain_later notes os ps stay (Lent cell) v h = absurd h
-plain_later notes os ps stay (Status g) v h = h
-plain_later notes os ps stay (SignedStatus g) v h = h
-plain_later notes os ps stay Mask v h = h
-plain_later notes os ps stay Handle v h = h
-plain_later notes os ps stay Entry v h = h
-plain_later notes os ps stay (Method k) v h = h
-plain_later notes os ps stay (ThunkAt i) v h = h
 plain_later notes os ps stay (Saved i) v h = absurd h
+plain_later notes os ps stay t v h = h
 
 -- V comes later than U, as far as objects and those fields of locals up to depth d go that are there.
 pub record FieldsLater (notes : Notes) (d : ℕ) (U V : Memory) : Type 0 where
@@ -88,9 +64,6 @@ module _ (notes : Notes) (d : ℕ) (U V : Memory) (l : FieldsLater notes d U V) 
   -- What fits a type goes on to fit it.
   pub fits_later : (saved : Registers) (t : Ty) (v : Neutral) → Fits notes U d saved t v → Fits notes V d saved t v
   fits_later saved Any v h = tt
-  fits_later saved (Int lo hi div) v h = h
-  fits_later saved (Lin n c) v h = h
-  fits_later saved (Scaled n c hi) v h = h
   fits_later saved (Ptr s k n c may) v h = or_null_later may v _ _ (λ p. pointer_later notes U.objects V.objects l.objects s k n c v p) h
   fits_later saved (Local x) v h = record { is = h.is; field = h.field; there = l.fields d x h.field (le_refl d) h.there }
   fits_later saved (Lent cell) v h =
@@ -109,12 +82,7 @@ module _ (notes : Notes) (d : ℕ) (U V : Memory) (l : FieldsLater notes d U V) 
       }
   fits_later saved (Status g) v h = ⊎_elim (λ e. inl e) (λ s. inr (s.0, written_later g s.1)) h
   fits_later saved (SignedStatus g) v h = ⊎_elim (λ e. inl e) (λ s. inr (s.0, written_later g s.1)) h
-  fits_later saved Mask v h = h
-  fits_later saved Handle v h = h
-  fits_later saved Entry v h = h
-  fits_later saved (Method k) v h = h
-  fits_later saved (ThunkAt i) v h = h
-  fits_later saved (Saved i) v h = h
+  fits_later saved t v h = h
 
   item_later : (f : FunctionFrame) (i : StackItem) (x : Item) → ItemFits notes U d f i x → ItemFits notes V d f i x
   item_later f (Pushed kind v) (item.Slot k t) h = (h.0, fits_later f.saved t v h.1)

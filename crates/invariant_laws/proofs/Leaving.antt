@@ -1,45 +1,24 @@
 -- The host leaves a function that has returned to the gate: the entry function, one of a callback, or one of a notification.
-use Rattle.std.specs.Option.{option_map, option_map_or}
-use Rattle.std.proofs.Common.{◌≡◌, ℕ, ◌^◌, Bool, true, false, if◌then◌else◌, nat_lt, List, [], ◌∷◌, ◌++◌, Option, Some, None, refl, sym, ap}
-use Rattle.std.proofs.Common.{◌∙◌, subst, arith, ⊎_elim, slice_get}
-use Rattle.std.proofs.lemmas.Bool.{lt-ltb, ne_eqb, true≢false}
-use Rattle.std.proofs.lemmas.Option.{same_Some}
-use Rattle.note_types.specs.Passing.{IsHandedBack}
-use Rattle.note_types.specs.Records.{IsNotes, CanBeEntered}
-use Rattle.note_types.specs.declared.ending.Ending.{Ending}
-use Rattle.note_types.specs.declared.ending.Ending.TheVariants as ending
-use Rattle.note_types.specs.declared.event.Event.{Event}
-use Rattle.note_types.specs.declared.event.Event.TheVariants as event
-use Rattle.note_types.specs.declared.notes.FnNote.{FnNote}
-use Rattle.note_types.specs.declared.notes.Notes.{Notes}
-use Rattle.note_types.specs.declared.spot.Spot.{Spot}
-use Rattle.note_types.specs.declared.spot.Spot.TheVariants as spot
-use Rattle.note_types.specs.declared.types.Ty.{Ty}
-use Rattle.note_types.specs.declared.types.Ty.TheVariants as ty
-use Rattle.note_types.specs.declared.value.Value.{Value}
-use Rattle.note_types.specs.declared.value.Value.TheVariants as value
-use Rattle.host_model.specs.declared.object.TypedObject.{TypedObject}
-use Rattle.neutral_machine.specs.Config.{Registers, HostFrame, Frame, Function, Host, Config, depth, hosts, call_under_way, with_value}
-use Rattle.neutral_machine.specs.Fits.{IsError, IsSuccess, FitsPlain}
-use Rattle.host_model.specs.HostPlans.{View, host_plan, return_view}
-use Rattle.neutral_machine.specs.Memory.{Memory, memory_of}
-use Rattle.neutral_machine.specs.NeutralHost as neutral
-use Rattle.neutral_machine.specs.NeutralReadings.{neutral_result, neutral_reading}
-use Rattle.host_model.specs.Progress.{NativeCall, NoCall, Asked, Accepted, is_empty}
-use Rattle.host_model.specs.Readings.{sort_of_type}
-use Rattle.host_model.specs.Values.{Neutral, word}
-use Rattle.host_model.specs.World.{World}
-use Rattle.invariant_laws.specs.Asked.{GivenByCall, GivenByNative}
-use Rattle.invariant_laws.specs.Later.{Later, Preserves}
-use Rattle.invariant_laws.specs.Live.{live_memory}
-use Rattle.invariant_laws.specs.Sound.{SoundBelow, HostKeeps, IsEntered}
-use Rattle.invariant_laws.specs.Waiting.{States, WaitsNative, WaitsBelow, InterruptedBelow, BelowMarked, BelowHost, Chain}
-use Rattle.invariant_laws.specs.Endings.{RaisesOnlyDivideError}
-use Rattle.invariant_laws.specs.Holds.{TopHolds, SpotHolds, GoesOnWell, Holds}
-use Rattle.invariant_laws.specs.Hosted.{HostGoesOn}
-use Rattle.invariant_laws.proofs.Later.{will_kept}
-use Rattle.invariant_laws.proofs.Chains.{native_later, chain_later}
+use Rattle.invariant_laws.proofs.Common.{option_map, option_map_or, ◌≡◌, ℕ, ◌^◌, Bool, true, false, if◌then◌else◌, nat_lt, List, [], ◌∷◌}
+use Rattle.invariant_laws.proofs.Common.{◌++◌, Option, Some, None, refl, sym, ap, ◌∙◌, subst, arith, ⊎_elim, slice_get, lt-ltb, ne_eqb}
+use Rattle.invariant_laws.proofs.Common.{true≢false, same_Some, IsNotes, Ending, Event, FnNote, Notes, Spot, Ty, Value, TypedObject}
+use Rattle.invariant_laws.proofs.Common.{Registers, HostFrame, Frame, Function, Host, Config, depth, hosts, call_under_way, with_value}
+use Rattle.invariant_laws.proofs.Common.{IsError, IsSuccess, FitsPlain, host_plan, Memory, memory_of, neutral_reading, NativeCall, NoCall}
+use Rattle.invariant_laws.proofs.Common.{Accepted, Neutral, word, World, GivenByCall, GivenByNative, Later, Preserves, live_memory}
+use Rattle.invariant_laws.proofs.Common.{SoundBelow, IsEntered, States, WaitsNative, WaitsBelow, InterruptedBelow, BelowMarked, BelowHost}
+use Rattle.invariant_laws.proofs.Common.{Chain, RaisesOnlyDivideError, TopHolds, SpotHolds, Holds, HostGoesOn}
+use Rattle.note_types.specs.{Passing.IsHandedBack, Records.CanBeEntered}
+use Rattle.host_model.specs.{HostPlans.View, HostPlans.return_view, Progress.is_empty, Readings.sort_of_type}
+use Rattle.neutral_machine.specs.NeutralReadings.{neutral_result}
+use Rattle.invariant_laws.specs.{Sound.HostKeeps, Holds.GoesOnWell}
 use Rattle.invariant_laws.proofs.Same.{SameMemory, same_later, live_same, frames_later, cells_same}
+use Rattle.invariant_laws.proofs.{Later.will_kept, Chains.native_later, Chains.chain_later}
+use Rattle.note_types.specs.declared.ending.Ending.TheVariants as ending
+use Rattle.note_types.specs.declared.event.Event.TheVariants as event
+use Rattle.note_types.specs.declared.spot.Spot.TheVariants as spot
+use Rattle.note_types.specs.declared.types.Ty.TheVariants as ty
+use Rattle.note_types.specs.declared.value.Value.TheVariants as value
+use Rattle.neutral_machine.specs.NeutralHost as neutral
 
 -- it is there where the host sees something, and its plan leaves what holds
 pub host_goes_on : (world : World) (states : States) (a : Config) (v : View) → neutral.host_view world a a.spot ≡ Some v
@@ -82,18 +61,7 @@ result_there notes made (ty.Status g) v b f = ⊎_elim
       ap (neutral_result notes made (sort_of_type (ty.Status g))) s.is
           ∙ ap (λ b. if b then Some (value.StatusOk (word s.code)) else None) small,
     )) f
-result_there notes made (ty.Lin n c) v b f = absurd b
-result_there notes made (ty.Scaled n c hi) v b f = absurd b
-result_there notes made (ty.Ptr s k n c may) v b f = absurd b
-result_there notes made (ty.Local x) v b f = absurd b
-result_there notes made (ty.Lent cell) v b f = absurd b
-result_there notes made (ty.SignedStatus g) v b f = absurd b
-result_there notes made ty.Mask v b f = absurd b
-result_there notes made ty.Handle v b f = absurd b
-result_there notes made ty.Entry v b f = absurd b
-result_there notes made (ty.Method m) v b f = absurd b
-result_there notes made (ty.ThunkAt i) v b f = absurd b
-result_there notes made (ty.Saved i) v b f = absurd b
+result_there notes made t v b f = absurd b
 
 -- a function that the host entered may be entered
 pub can_be_entered : (notes : Notes) (func : ℕ) (note : FnNote) → IsNotes notes → slice_get notes.function func ≡ Some note
@@ -209,10 +177,7 @@ module _ (world : World) (states : States) (notes : IsNotes world.notes) where
       go (Accepted entry callbacks args) is (spot.Place next) w =
           subst (λ c. TopHolds world states (record (after_leaving a h (given_back a h) (Function f ∷ fs) t) { spot = spot.Place next }) c
           next (Function f ∷ fs)) (sym is) (native entry next args w)
-      go (Accepted entry callbacks args) is spot.Gate w = absurd w
-      go (Accepted entry callbacks args) is (spot.Wild y) w = absurd w
-      go NoCall is s w = absurd w
-      go (Asked p v) is s w = absurd w
+      go k is s w = absurd w
 
   -- below a notification the function that was interrupted goes on
   resumed_well : (a : Config) (h : HostFrame) (fs : List Frame) (t : List Event) → h.notified ≡ true
@@ -245,10 +210,7 @@ module _ (world : World) (states : States) (notes : IsNotes world.notes) where
             here = w.here;
             fits = w.fits (live_memory world (after_leaving a h h.saved (Function f ∷ fs) t)) (later (depth fs));
           })
-      go NoCall is spot.Gate w = absurd w
-      go NoCall is (spot.Wild y) w = absurd w
-      go (Asked p v) is s w = absurd w
-      go (Accepted entry callbacks args) is s w = absurd w
+      go k is s w = absurd w
 
   -- the step at the gate
   pub gate_step : (a : Config) (h : HostFrame) (fs : List Frame) → Holds world states (at_gate a h fs)

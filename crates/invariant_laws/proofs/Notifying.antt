@@ -1,36 +1,22 @@
 -- The host's notify step: the function of a notification is entered, and the function on top is interrupted; or the run ends with a
 -- script that asks what can't be done.
-use Rattle.std.specs.Option.{option_map_or}
-use Rattle.std.proofs.Common.{◌≡◌, ℕ, ◌<◌, Bool, true, false, not, if◌then◌else◌, nat_le, List, [], ◌∷◌, ◌++◌, map, length, Option}
-use Rattle.std.proofs.Common.{Some, None, refl, sym, ap, ◌∙◌, subst, arith, slice_get}
-use Rattle.std.proofs.lemmas.Bool.{and_parts, leb-true, leb-false}
-use Rattle.note_types.specs.declared.ending.Ending.{Ending}
-use Rattle.note_types.specs.declared.ending.Ending.TheVariants as ending
-use Rattle.note_types.specs.declared.event.Event.{Event}
-use Rattle.note_types.specs.declared.event.Event.TheVariants as event
-use Rattle.note_types.specs.declared.notes.FnNote.{FnNote}
-use Rattle.note_types.specs.declared.reason.Reason.TheVariants as reason
+use Rattle.invariant_laws.proofs.Common.{option_map_or, ◌≡◌, ℕ, ◌<◌, Bool, true, false, not, if◌then◌else◌, nat_le, List, [], ◌∷◌, ◌++◌}
+use Rattle.invariant_laws.proofs.Common.{map, length, Option, Some, None, refl, sym, ap, ◌∙◌, subst, arith, slice_get, and_parts, leb-false}
+use Rattle.invariant_laws.proofs.Common.{Ending, Event, FnNote, TypedObject, Ends, host_plan, may_enter, function_params, is_due}
+use Rattle.invariant_laws.proofs.Common.{made_objects, frame_limit, NativeCall, NoCall, given, fits_each, Neutral, World, FunctionFrame}
+use Rattle.invariant_laws.proofs.Common.{HostFrame, Frame, Function, Config, depth, hosts, call_under_way, RunsAt, Holds, StatesFitBelow}
+use Rattle.invariant_laws.proofs.Common.{live_memory, States, Interrupted, InterruptedBelow, BelowMarked, BelowHost, RunWorld, HostGoesOn}
+use Rattle.std.proofs.lemmas.Bool.{leb-true}
 use Rattle.note_types.specs.declared.script.Notify.{Notify}
+use Rattle.host_model.specs.HostPlans.{IsDue, Notifies, notify_plan, notification_fits}
+use Rattle.host_model.specs.Progress.{one_notification}
+use Rattle.invariant_laws.proofs.{StatesLater.state_later, Calling.IsQuiet, Calling.quiet_ends, Calling.at_place, Entering.CanEnter}
+use Rattle.invariant_laws.proofs.{Entering.may_be_entered, Entering.entered_holds, Leaving.host_goes_on, Leaving.ended_holds}
+use Rattle.note_types.specs.declared.ending.Ending.TheVariants as ending
+use Rattle.note_types.specs.declared.event.Event.TheVariants as event
+use Rattle.note_types.specs.declared.reason.Reason.TheVariants as reason
 use Rattle.note_types.specs.declared.spot.Spot.TheVariants as spot
-use Rattle.host_model.specs.declared.object.TypedObject.{TypedObject}
-use Rattle.host_model.specs.HostPlans.{IsDue, Ends, Notifies, host_plan, notify_plan, notification_fits, may_enter, function_params, is_due}
-use Rattle.host_model.specs.Objects.{made_objects}
-use Rattle.host_model.specs.Placements.{frame_limit}
-use Rattle.host_model.specs.Progress.{NativeCall, NoCall, one_notification}
-use Rattle.host_model.specs.ScriptValues.{given, fits_each}
-use Rattle.host_model.specs.Values.{Neutral}
-use Rattle.host_model.specs.World.{World}
-use Rattle.neutral_machine.specs.Config.{FunctionFrame, HostFrame, Frame, Function, Config, depth, hosts, call_under_way}
 use Rattle.neutral_machine.specs.NeutralHost as neutral
-use Rattle.invariant_laws.specs.Holds.{RunsAt, Holds}
-use Rattle.invariant_laws.specs.LaterLaws.{StatesFitBelow}
-use Rattle.invariant_laws.specs.Live.{live_memory}
-use Rattle.invariant_laws.specs.Waiting.{States, Interrupted, InterruptedBelow, BelowMarked, BelowHost}
-use Rattle.invariant_laws.proofs.StatesLater.{state_later}
-use Rattle.invariant_laws.specs.Hosted.{RunWorld, HostGoesOn}
-use Rattle.invariant_laws.proofs.Calling.{IsQuiet, quiet_ends, at_place}
-use Rattle.invariant_laws.proofs.Entering.{CanEnter, may_be_entered, entered_holds}
-use Rattle.invariant_laws.proofs.Leaving.{host_goes_on, ended_holds}
 
 module _ (world : World) (states : States) (ok : RunWorld world states) (fits_below : StatesFitBelow) where
   -- once the notification is taken, before its function is entered

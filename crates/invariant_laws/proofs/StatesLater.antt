@@ -1,22 +1,13 @@
 -- A frame that fits a state goes on to fit it in a later memory, with the same registers and the same C.
+use Rattle.invariant_laws.proofs.Common.{◌≡◌, ℕ, Bool, true, List, Option, Some, None, slice_get, refl, ap, ◌∙◌, none-some, type_of, Notes}
+use Rattle.invariant_laws.proofs.Common.{State, Neutral, At, ObjectOf, LocalOf, number, TypedObject, Registers, FunctionFrame, FitsState}
+use Rattle.invariant_laws.proofs.Common.{Memory, compared_as, instance_of, without_local, Later}
 use Rattle.std.specs.Option.{option_or}
-use Rattle.std.proofs.Common.{◌≡◌, ℕ, Bool, true, List, Option, Some, None, slice_get, refl, ap, ◌∙◌}
-use Rattle.std.proofs.lemmas.Option.{none-some}
 use Rattle.ebc_insn.specs.declared.CmpOp.{CmpOp}
-use Rattle.ebc_insn.specs.declared.CmpOp.TheVariants as cmps
-use Rattle.note_types.specs.States.{type_of}
-use Rattle.note_types.specs.declared.notes.Notes.{Notes}
-use Rattle.note_types.specs.declared.state.State.{State}
-use Rattle.host_model.specs.Values.{Neutral, At, Num, Handle, Method, Entry, Error, SignedError, Junk, ObjectOf, ThunkOf, LocalOf, number}
 use Rattle.host_model.specs.Values.{plain}
-use Rattle.host_model.specs.declared.object.TypedObject.{TypedObject}
-use Rattle.neutral_machine.specs.Config.{Registers, FunctionFrame}
-use Rattle.neutral_machine.specs.FitsState.{FitsState}
-use Rattle.neutral_machine.specs.Memory.{Memory}
-use Rattle.neutral_machine.specs.Operations.{compared_as, compared_by, compared_wide, equal_instances, instance_of, starts_if}
-use Rattle.neutral_machine.specs.Rows.{without_local}
-use Rattle.invariant_laws.specs.Later.{Later}
+use Rattle.neutral_machine.specs.Operations.{compared_by, compared_wide, equal_instances, starts_if}
 use Rattle.invariant_laws.proofs.LaterFits.{fields_later, fits_later, items_later, written_later}
+use Rattle.ebc_insn.specs.declared.CmpOp.TheVariants as cmps
 
 -- ---- comparisons with a number
 
@@ -30,14 +21,7 @@ compared_stays notes os cmps.Gte e k c (At (LocalOf d f) n m) h = absurd (none-s
 compared_stays notes os cmps.Ulte e k c (At (LocalOf d f) n m) h = absurd (none-some c h)
 compared_stays notes os cmps.Ugte e k c (At (LocalOf d f) n m) h = absurd (none-some c h)
 compared_stays notes os op e k c (At (ObjectOf i) n m) h = refl
-compared_stays notes os op e k c (At (ThunkOf i) n m) h = refl
-compared_stays notes os op e k c (Num n m) h = refl
-compared_stays notes os op e k c (Handle i) h = refl
-compared_stays notes os op e k c (Method i) h = refl
-compared_stays notes os op e k c (Entry i) h = refl
-compared_stays notes os op e k c (Error i) h = refl
-compared_stays notes os op e k c (SignedError i) h = refl
-compared_stays notes os op e k c Junk h = refl
+compared_stays notes os op e k c v h = refl
 
 module _ (notes : Notes) (os ps : List TypedObject)
     (stay : (k : ℕ) (o : TypedObject) → slice_get os k ≡ Some o → slice_get ps k ≡ Some o) where
@@ -51,19 +35,7 @@ module _ (notes : Notes) (os ps : List TypedObject)
           → option_or (equal_instances (starts_if notes i n m (slice_get ps i)) None (number k)) None ≡ Some c
       go None e h = absurd (none-some c h)
       go (Some o) e h = ap (λ z. option_or (equal_instances (starts_if notes i n m z) None (number k)) None) (stay i o e) ∙ h
-  wide_later cmps.Eq k c (At (ThunkOf i) n m) h = h
-  wide_later cmps.Eq k c (At (LocalOf d f) n m) h = h
-  wide_later cmps.Eq k c (Num n m) h = h
-  wide_later cmps.Eq k c (Handle i) h = h
-  wide_later cmps.Eq k c (Method i) h = h
-  wide_later cmps.Eq k c (Entry i) h = h
-  wide_later cmps.Eq k c (Error i) h = h
-  wide_later cmps.Eq k c (SignedError i) h = h
-  wide_later cmps.Eq k c Junk h = h
-  wide_later cmps.Lte k c v h = h
-  wide_later cmps.Gte k c v h = h
-  wide_later cmps.Ulte k c v h = h
-  wide_later cmps.Ugte k c v h = h
+  wide_later t k c v h = h
 
   -- a comparison with a number goes on to give the same
   compared_later : (op : CmpOp) (k : ℕ) (c : Bool) (v : Neutral) → compared_as notes os op true v (number k) ≡ Some c

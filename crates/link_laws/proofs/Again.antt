@@ -1,55 +1,30 @@
 -- The listing of an image is assembled to an object, which is linked to the image.
-use Rattle.std.proofs.Common.{◌≡◌, inl, inr, ⊎_elim, ℕ, ◌+◌, ◌-◌, ◌*◌, ◌^◌, ◌<◌, ◌≤◌, List, [], ◌∷◌, ◌++◌, length, map, Some}
-use Rattle.std.proofs.Common.{Ok}
-use Rattle.std.proofs.Common.{Bool, true, false, cond, refl, sym, ap, subst, ◌∙◌, arith, append-nil}
-use Rattle.std.specs.Prelude.{All, IfSome, nat_eq, slice_index}
-use Rattle.std.specs.List.{AllByRecursion, filter, list_any}
-use Rattle.std.proofs.lemmas.Bool.Decides.{nat_tests}
+use Rattle.link_laws.proofs.Common.{◌≡◌, inl, inr, ⊎_elim, ℕ, ◌+◌, ◌-◌, ◌*◌, ◌^◌, ◌<◌, ◌≤◌, List, [], ◌∷◌, ◌++◌, length, map, Some, Ok}
+use Rattle.link_laws.proofs.Common.{Bool, true, false, cond, refl, sym, ap, subst, ◌∙◌, arith, append-nil, All, IfSome, nat_eq, slice_index}
+use Rattle.link_laws.proofs.Common.{AllByRecursion, filter, list_any, nat_tests, all_append, IsObject, Fixup, Object, Symbol, Line}
+use Rattle.link_laws.proofs.Common.{label_text, object_in, object_of, fixups_in, names_with, start, symbol_of, same_bytes, rounded}
+use Rattle.link_laws.proofs.Common.{IsLinked, linked_sections, AreBytes, is_of, laid, named_place, Image, Section, in_section, is_cut}
+use Rattle.link_laws.proofs.Common.{listing_of, named, LinkPlan, Laid, contents_start, place_in, places_of, Definition, definitions}
+use Rattle.link_laws.proofs.Common.{first_in, bytes_for, contents_of, place_of, relocs_of, with_fixups, entry_in, links, links_laid}
 use Rattle.std.proofs.lemmas.List.Elements.{filter-append}
-use Rattle.ebc_base.proofs.Lists.{all_append}
-use Rattle.ebc_object.specs.Objects.{IsObject}
-use Rattle.ebc_object.specs.declared.object.Fixup.{Fixup}
-use Rattle.ebc_object.specs.declared.object.Object.{Object}
-use Rattle.ebc_object.specs.declared.object.Symbol.{Symbol}
-use Rattle.asm_text.specs.Lines.{Line}
-use Rattle.asm_text.specs.Names.{label_text}
-use Rattle.ebc_asm.specs.Sources.{object_in, object_of}
-use Rattle.ebc_asm.specs.Symbols.{fixups_in, flag, names_with, start, symbol_of}
+use Rattle.ebc_asm.specs.Symbols.{flag}
 use Rattle.ebc_asm.proofs.LineSteps.{apart_in}
-use Rattle.ebc_asm.proofs.NumberLaws.{same_bytes}
-use Rattle.pe_image.specs.Files.{rounded}
-use Rattle.pe_image.specs.Linked.{IsLinked, linked_sections}
-use Rattle.pe_image.specs.Mapped.{AreBytes, is_of, laid, named_place}
-use Rattle.pe_image.specs.declared.image.Image.{Image}
-use Rattle.pe_image.specs.declared.image.Section.{Section}
-use Rattle.ebc_disasm.specs.Listings.{in_section, is_cut, listing_of, named}
-use Rattle.ebc_link.specs.declared.plan.LinkPlan.{LinkPlan}
-use Rattle.ebc_link.specs.Layout.{Laid, contents_start, place_in}
-use Rattle.ebc_link.specs.Symbols.{places_of}
-use Rattle.ebc_link.specs.Symbols.{Definition, definitions, first_in}
-use Rattle.ebc_link.specs.Fixups.{bytes_for, code_of, contents_of, is_address, place_of, relocs_in, relocs_of, with_fixups}
-use Rattle.ebc_link.specs.Fixups as fixups
-use Rattle.ebc_link.specs.Links.{entry_in, links, links_laid}
+use Rattle.ebc_link.specs.Fixups.{code_of, is_address, relocs_in}
 use Rattle.link_laws.specs.Laws.{ListsAgain}
-use Rattle.link_laws.proofs.Bodies.{IsLabelled, named_inside, target_labelled}
-use Rattle.link_laws.proofs.Counts.{names_few_in}
-use Rattle.link_laws.proofs.Entries.{entry_global}
 use Rattle.link_laws.proofs.Faultless.{IsEntrySymbol, linked, sole_entry, sole_far, sole_twice, sole_undefined}
 use Rattle.link_laws.proofs.Filling.{IsReloc, IsSection, StandsAt, section_again, stands_at}
 use Rattle.link_laws.proofs.FixupWalk.{AreNamed, in_range, named_some, with_target}
-use Rattle.link_laws.proofs.Lines.{place_in_line}
-use Rattle.link_laws.proofs.Listings.{IsShown, all_lines, all_of_lines, data_place, data_placed, entry_labelled}
-use Rattle.link_laws.proofs.Listings.{listing_object, text_placed}
+use Rattle.link_laws.proofs.Listings.{IsShown, all_lines, all_of_lines, data_place, data_placed, entry_labelled, listing_object}
+use Rattle.link_laws.proofs.Listings.{text_placed}
 use Rattle.link_laws.proofs.Lists.{all_map, all_members, all_of, drop_map, each_of, each_of_both, keep_map, map_twice}
-use Rattle.link_laws.proofs.Names.{IsLabel, names_are}
 use Rattle.link_laws.proofs.Objects.{code_agrees, code_fixups, code_is, contents_agree, contents_fixups, contents_is, object_is}
 use Rattle.link_laws.proofs.Objects.{reloc_fixup}
-use Rattle.link_laws.proofs.OneImage.{image_again, sole, sole_laid}
 use Rattle.link_laws.proofs.Relocs.{IsHome, Within, are_low, are_named, are_uncut, code_bytes, contents_bytes, count_relocs, homes}
 use Rattle.link_laws.proofs.Relocs.{label_inside, laid_code, laid_data, relocs_parted, section_inside, whole_code, whole_data}
-use Rattle.link_laws.proofs.SectionLaws.{Agree}
-use Rattle.link_laws.proofs.Sources.{fixup_at, source}
-use Rattle.link_laws.proofs.Standing.{IsPlaced}
+use Rattle.link_laws.proofs.{Bodies.IsLabelled, Bodies.named_inside, Bodies.target_labelled, Counts.names_few_in, Entries.entry_global}
+use Rattle.link_laws.proofs.{Lines.place_in_line, Names.IsLabel, Names.names_are, OneImage.image_again, OneImage.sole, OneImage.sole_laid}
+use Rattle.link_laws.proofs.{SectionLaws.Agree, Sources.fixup_at, Sources.source, Standing.IsPlaced}
+use Rattle.ebc_link.specs.Fixups as fixups
 
 -- ---- an image whose listing is linked again
 

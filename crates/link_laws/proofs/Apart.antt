@@ -1,15 +1,10 @@
 -- Objects stand apart: the code of one ends before that of a later one, and so do its data, which stand behind all code.
-use Rattle.std.proofs.Common.{◌≡◌, ◌⊎◌, inl, inr, ⊎_elim, ℕ, ◌+◌, ◌≤◌, List, [], ◌∷◌, length, get_or, sym, ap, subst}
-use Rattle.std.proofs.Common.{subst₂, ◌∙◌, arith}
-use Rattle.std.specs.Prelude.{AllPairs}
-use Rattle.std.specs.List.{AllByRecursion, Contains}
-use Rattle.std.proofs.lemmas.Bool.{cases_order}
-use Rattle.std.proofs.lemmas.List.{get_or_default}
-use Rattle.std.proofs.lemmas.List.Elements.{All-from_recursion}
-use Rattle.std.proofs.lemmas.List.Kept.{AllPairs-cons}
-use Rattle.ebc_object.specs.declared.object.Object.{Object}
-use Rattle.pe_image.specs.Files.{rounded}
-use Rattle.ebc_link.specs.Layout.{Laid, code_end, code_start, contents_start, homes_from, homes_of, laid_objects, laid_with}
+use Rattle.link_laws.proofs.Common.{◌≡◌, ◌⊎◌, inl, inr, ⊎_elim, ℕ, ◌+◌, ◌≤◌, List, [], ◌∷◌, length, get_or, sym, ap, subst, ◌∙◌, arith}
+use Rattle.link_laws.proofs.Common.{AllPairs, AllByRecursion, Contains, All-from_recursion, Object, rounded, Laid, code_end, code_start}
+use Rattle.link_laws.proofs.Common.{contents_start, homes_from, homes_of, laid_objects, laid_with}
+use Rattle.std.proofs.Common.{subst₂}
+use Rattle.std.proofs.lemmas.{Bool.cases_order, List.get_or_default, List.Kept.AllPairs-cons}
+use Rattle.ebc_link.proofs.StandLaws.{code_grows}
 use Rattle.link_laws.proofs.Lists.{each_of}
 
 -- One object stands before another.
@@ -23,11 +18,6 @@ pub record IsBetween (code code_last contents : ℕ) (l : Laid) : Type 0 where
   pub code_to : l.home.code + length l.object.code ≤ code_last
   pub contents_from : contents ≤ l.home.contents
 
-end_above : (code : ℕ) (os : List Object) → code ≤ code_end code os
-unfolding code_end
-end_above code [] = omega arith
-end_above code (o ∷ os) = let rest = end_above (rounded 2 code + length o.code) os in omega (arith, rest)
-
 all_between : (code contents : ℕ) (os : List Object)
     → AllByRecursion (IsBetween code (code_end code os) contents) (laid_with os (homes_from code contents os))
 unfolding homes_from code_end
@@ -35,7 +25,7 @@ all_between code contents [] = tt
 all_between code contents (o ∷ os) =
     let c : ℕ = rounded 2 code + length o.code in
     let d : ℕ = rounded 8 contents + length o.contents in
-    let last = end_above c os in (
+    let last = code_grows c os in (
       record { code_from = omega arith; code_to = omega (arith, last); contents_from = omega arith },
       each_of (IsBetween c (code_end c os) d) (IsBetween code (code_end c os) contents) (laid_with os (homes_from c d os))
           (λ l b. let x = b.code_from in let y = b.contents_from in record {

@@ -1,36 +1,17 @@
 -- The bytes of a line of the code in the image that its object is linked to, and the fixups and relocations beside them.
-use Rattle.std.proofs.Common.{Bool, List, None, Option, Some, [], ap, arith, false, get_or, inl, inr, length, length-append, refl}
-use Rattle.std.proofs.Common.{replicate, subst, sym, true, ℕ, ⊎_elim, ◌++◌, ◌+◌, ◌<◌, ◌∙◌, ◌∷◌, ◌≡◌, ◌≤◌, ◌⊎◌}
-use Rattle.std.specs.List.{AllByRecursion, Contains, list_any}
-use Rattle.std.specs.Prelude.{All, slice_index}
-use Rattle.std.proofs.lemmas.Bool.{or_from}
-use Rattle.std.proofs.lemmas.Bool.Decides.{nat_tests}
-use Rattle.std.proofs.lemmas.List.{get_or-append-add, get_or_append_left, length-replicate}
-use Rattle.std.proofs.lemmas.List.Elements.{All-contains, All-from_recursion, recursion_from_All}
-use Rattle.ebc_base.proofs.Lists.{all_append}
-use Rattle.ebc_insn.specs.Spelling.{spelling}
-use Rattle.ebc_insn.specs.declared.Insn.{Insn}
-use Rattle.ebc_object.specs.Objects.{IsFixup, IsObject, section_bytes, width}
-use Rattle.ebc_object.specs.declared.object.Fixup.{Fixup}
-use Rattle.ebc_object.specs.declared.object.Object.{Object}
-use Rattle.asm_text.specs.Lines.{Line}
-use Rattle.pe_image.specs.Files.{rounded}
-use Rattle.pe_image.specs.Mapped.{is_of, laid}
-use Rattle.pe_image.specs.declared.image.Image.{Image}
-use Rattle.ebc_asm.proofs.FixupLaws.{AreFit, AreFixups, are_fixups}
-use Rattle.ebc_asm.proofs.LineLaws.{code_ends, ends_in, ends_of}
-use Rattle.ebc_asm.proofs.LineSteps.{known_in}
-use Rattle.ebc_asm.proofs.StateLaws.{Knows}
-use Rattle.ebc_asm.specs.Pieces.{data_after, ends_in_data, insn_use, section_of, use_of, bytes_of}
-use Rattle.ebc_asm.specs.Sources.{object_in}
-use Rattle.ebc_asm.specs.Symbols.{fixup_of, fixups_in, fixups_of, names_with, section_kind, start}
-use Rattle.ebc_link.specs.Fixups.{place_of}
-use Rattle.ebc_link.specs.Layout.{Laid, code_start, contents_start, homes_from, homes_of, laid_objects, laid_with, place_in}
-use Rattle.ebc_link.specs.Linked.{IsAddress, Linked, fills}
-use Rattle.ebc_link.specs.declared.plan.LinkPlan.{LinkPlan}
+use Rattle.link_laws.proofs.Common.{Bool, List, None, Option, Some, [], ap, arith, false, get_or, inl, inr, length, length-append, refl}
+use Rattle.link_laws.proofs.Common.{replicate, subst, sym, true, ℕ, ⊎_elim, ◌++◌, ◌+◌, ◌<◌, ◌∙◌, ◌∷◌, ◌≡◌, ◌≤◌, ◌⊎◌, AllByRecursion}
+use Rattle.link_laws.proofs.Common.{Contains, list_any, All, slice_index, or_from, nat_tests, get_or-append-add, get_or_append_left}
+use Rattle.link_laws.proofs.Common.{length-replicate, All-contains, All-from_recursion, recursion_from_All, all_append, spelling, Insn}
+use Rattle.link_laws.proofs.Common.{IsObject, width, Fixup, Object, Line, rounded, is_of, laid, Image, AreFit, code_ends, ends_in, ends_of}
+use Rattle.link_laws.proofs.Common.{known_in, data_after, ends_in_data, insn_use, section_of, use_of, bytes_of, object_in, fixup_of}
+use Rattle.link_laws.proofs.Common.{fixups_in, fixups_of, names_with, section_kind, start, place_of, Laid, code_start, contents_start}
+use Rattle.link_laws.proofs.Common.{homes_from, homes_of, laid_objects, laid_with, place_in, Linked, fills, LinkPlan}
+use Rattle.ebc_object.specs.Objects.{IsFixup, section_bytes}
+use Rattle.ebc_asm.proofs.{FixupLaws.AreFixups, FixupLaws.are_fixups, StateLaws.Knows}
+use Rattle.ebc_link.specs.Linked.{IsAddress}
 use Rattle.link_laws.proofs.Apart.{IsBefore, IsInside, behind_code, laid_apart, laid_inside}
-use Rattle.link_laws.proofs.Lists.{each_of}
-use Rattle.link_laws.proofs.Sources.{ends_at, fixups_append}
+use Rattle.link_laws.proofs.{Lists.each_of, Sources.ends_at, Sources.fixups_append}
 use Rattle.asm_text.specs.Statements as statements
 
 -- ---- fixups beside a line of the code

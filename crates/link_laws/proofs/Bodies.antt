@@ -1,30 +1,17 @@
 -- What is listed at a place may stand in a listing; it is no heading and no label, and is an instruction in code alone.
-use Rattle.std.proofs.Common.{◌≡◌, ℕ, ◌+◌, ◌*◌, ◌^◌, ◌<◌, ◌≤◌, List, [], ◌∷◌, length, Option, Some, None, Result, Ok, Err, Bool, true}
-use Rattle.std.proofs.Common.{false, not}
-use Rattle.std.proofs.Common.{cond, ◌&&◌, ◌||◌, refl, sym, ap, subst, ◌∙◌, arith, option_map, nat_le}
-use Rattle.std.specs.Prelude.{IfSome, nat_eq}
-use Rattle.std.specs.List.{cons_option, filter_map, find, list_all, list_any}
-use Rattle.std.specs.Option.{option_and_then, option_or, unwrap_or}
-use Rattle.std.proofs.lemmas.Bool.{or_right}
-use Rattle.std.proofs.lemmas.Bool.Decides.{nat_tests}
-use Rattle.std.proofs.lemmas.Option.{cond_some, same_Some}
-use Rattle.ebc_insn.specs.declared.Insn.{Insn}
-use Rattle.ebc_insn.specs.declared.Insn.TheVariants as insns
-use Rattle.ebc_insn.specs.declared.Size.TheVariants as sizes
-use Rattle.ebc_insn.specs.Spelling.{WellFormed}
-use Rattle.ebc_decode.specs.declared.DecodeFault.{DecodeFault}
-use Rattle.ebc_decode.specs.Reading.{read}
-use Rattle.ebc_decode.proofs.Laws.{read_length, read_well_formed}
-use Rattle.ebc_decode.proofs.Numbers.{IsBytes}
-use Rattle.asm_text.specs.declared.listing.Listed.{Listed}
-use Rattle.asm_text.specs.declared.listing.Listed.TheVariants as listed
-use Rattle.asm_text.specs.Writing.{ListedFits}
-use Rattle.pe_image.specs.Mapped.{named_place}
-use Rattle.pe_image.specs.declared.image.Image.{Image}
-use Rattle.ebc_disasm.specs.Listings.{byte_at, if_whole, in_section, insn_at, is_cut, is_of_immediate, is_whole, item_at}
-use Rattle.ebc_disasm.specs.Listings.{label_before, labels, lies_on, named, place_at, takes_label, with_label, without_immediate, word_at}
+use Rattle.link_laws.proofs.Common.{◌≡◌, ℕ, ◌+◌, ◌*◌, ◌^◌, ◌<◌, ◌≤◌, List, [], ◌∷◌, length, Option, Some, None, Result, Ok, Err, Bool, true}
+use Rattle.link_laws.proofs.Common.{false, not, cond, ◌&&◌, ◌||◌, refl, sym, ap, subst, ◌∙◌, arith, option_map, nat_le, IfSome, nat_eq}
+use Rattle.link_laws.proofs.Common.{cons_option, filter_map, find, list_all, list_any, option_and_then, option_or, unwrap_or, or_right}
+use Rattle.link_laws.proofs.Common.{nat_tests, same_Some, Insn, WellFormed, DecodeFault, read, read_length, IsBytes, Listed, ListedFits}
+use Rattle.link_laws.proofs.Common.{named_place, Image, byte_at, if_whole, in_section, insn_at, is_cut, is_of_immediate, is_whole, item_at}
+use Rattle.link_laws.proofs.Common.{label_before, labels, lies_on, named, place_at, takes_label, with_label, without_immediate, word_at}
+use Rattle.std.proofs.lemmas.Option.{cond_some}
+use Rattle.ebc_decode.proofs.Laws.{read_well_formed}
 use Rattle.ebc_disasm.proofs.Fits.{label_fits}
 use Rattle.link_laws.proofs.ItemLaws.{chosen, label_taken}
+use Rattle.ebc_insn.specs.declared.Insn.TheVariants as insns
+use Rattle.ebc_insn.specs.declared.Size.TheVariants as sizes
+use Rattle.asm_text.specs.declared.listing.Listed.TheVariants as listed
 
 -- ---- what lines are
 
@@ -119,15 +106,13 @@ found_there p (q ∷ rs) r e = first (p q) e (λ h. found_there p rs r h)
 
 place_body : (image : Image) (x : ℕ) (a b : Bool) (o : Option ℕ) → AreLow image → list_any (nat_eq x) image.relocs ≡ b → named image x ≡ o
     → IfSome (cond (a && b) (option_map (λ target. (listed.Place target, 8)) o) None) (IsBody image)
-place_body image x true true None low here is = tt
 place_body image x true true (Some t) low here is = record {
   fits = low t (named_inside image x t is);
   body = refl;
   takes = refl;
   target = target_labelled image x t here is;
 }
-place_body image x true false o low here is = tt
-place_body image x false b o low here is = tt
+place_body image x c b o low here is = tt
 
 label_kept : (i : Insn) → takes_label i ≡ true → takes_label (without_immediate i) ≡ true
 label_kept (insns.MoveImm sizes.Qword bits left lidx imm) h = h
@@ -207,10 +192,8 @@ item_body image code x b bytes low each =
 
 not_insn : (a b : Bool) (o : Option ℕ)
     → IfSome (cond (a && b) (option_map (λ target. (listed.Place target, 8)) o) None) (λ (it : Listed × ℕ). is_insn it.0 ≡ false)
-not_insn true true None = tt
 not_insn true true (Some t) = refl
-not_insn true false o = tt
-not_insn false b o = tt
+not_insn c b o = tt
 
 first_or_last : {A : Type 0} (P : A → Type 0) (o : Option A) (a : A) → IfSome o P → P a
     → P (unwrap_or (option_or o (option_or None None)) a)

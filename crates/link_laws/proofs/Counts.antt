@@ -1,24 +1,14 @@
 -- The lines of a listing have few names.
-use Rattle.std.proofs.Common.{◌≡◌, ℕ, ◌+◌, ◌*◌, ◌≤◌, List, [], ◌∷◌, ◌++◌, length, drop, Option, Some, None, Bool, true}
-use Rattle.std.proofs.Common.{false, cond}
-use Rattle.std.proofs.Common.{◌||◌, refl, ap, arith, length-append, length-drop}
-use Rattle.std.specs.Prelude.{nat_eq}
-use Rattle.std.specs.List.{cons_option, filter, filter_map, list_any}
-use Rattle.std.proofs.lemmas.Bool.Decides.{nat_tests}
-use Rattle.std.proofs.lemmas.List.{length-map}
-use Rattle.ebc_decode.proofs.Numbers.{IsBytes}
-use Rattle.asm_text.specs.declared.listing.Listed.{Listed}
-use Rattle.asm_text.specs.declared.listing.Listed.TheVariants as listed
-use Rattle.asm_text.specs.Writing.{listed_line}
-use Rattle.ebc_asm.proofs.CountLaws.{names_in_line, names_in_lines}
-use Rattle.pe_image.specs.declared.image.Image.{Image}
-use Rattle.ebc_disasm.specs.Listings.{item_at, label_lines, labels, lines_from, named}
-use Rattle.link_laws.proofs.ItemLaws.{line_bytes}
+use Rattle.link_laws.proofs.Common.{◌≡◌, ℕ, ◌+◌, ◌*◌, ◌≤◌, List, [], ◌∷◌, ◌++◌, length, drop, Option, Some, None, Bool, true, false, cond}
+use Rattle.link_laws.proofs.Common.{◌||◌, refl, ap, arith, length-append, length-drop, nat_eq, cons_option, filter, filter_map, list_any}
+use Rattle.link_laws.proofs.Common.{nat_tests, length-map, IsBytes, Listed, listed_line, names_in_lines, Image, item_at, label_lines}
+use Rattle.link_laws.proofs.Common.{labels, lines_from, named}
+use Rattle.ebc_asm.proofs.CountLaws.{names_in_line}
 use Rattle.link_laws.proofs.FixupWalk.{AreNamed, AreWhole, in_range, section_uses, target_use, use_at, uses_from, with_target}
-use Rattle.link_laws.proofs.Bodies.{AreLow, IsBody, is_body, item_body}
-use Rattle.link_laws.proofs.Walks.{IsStep, walk}
-use Rattle.link_laws.proofs.Sources.{source}
 use Rattle.link_laws.proofs.Listings.{IsShown, all_lines, code_lines, data_lines, data_place}
+use Rattle.link_laws.proofs.{ItemLaws.line_bytes, Bodies.AreLow, Bodies.IsBody, Bodies.is_body, Bodies.item_body, Walks.IsStep, Walks.walk}
+use Rattle.link_laws.proofs.Sources.{source}
+use Rattle.asm_text.specs.declared.listing.Listed.TheVariants as listed
 
 -- ---- names of labels, and names that are used
 
@@ -37,14 +27,8 @@ label_count-append (x ∷ xs) ys = let rest = label_count-append xs ys in omega 
 
 line_count : (x : ℕ) (l : Listed) → names_in_line (listed_line l) ≡ labels_in l + length (use_at x (target_use l))
 line_count x listed.Code = refl
-line_count x listed.Data = refl
-line_count x (listed.Label y) = refl
-line_count x (listed.Global y) = refl
-line_count x (listed.Place t) = refl
-line_count x (listed.Word n) = refl
-line_count x (listed.Byte n) = refl
 line_count x (listed.Instruction i None) = refl
-line_count x (listed.Instruction i (Some t)) = refl
+line_count x c = refl
 
 count_lines : (x : ℕ) (ls : List Listed) → names_in_lines (source ls) ≡ label_count ls + length (uses_from x ls)
 count_lines x [] = refl
@@ -77,13 +61,10 @@ count_parts x n m (p ∷ ps) =
         → length (cond a (p ∷ filter (in_range x (n + m)) ps) (filter (in_range x (n + m)) ps))
         ≡ length (cond b (p ∷ filter (in_range x n) ps) (filter (in_range x n) ps))
         + length (cond c (p ∷ filter (in_range (x + n) m) ps) (filter (in_range (x + n) m) ps))
-    by true true true e h = absurd (omega (arith, e))
     by true true false e h = omega (arith, h)
     by true false true e h = omega (arith, h)
-    by true false false e h = absurd (omega (arith, e))
-    by false true c e h = absurd (omega (arith, e))
-    by false false true e h = absurd (omega (arith, e))
     by false false false e h = omega (arith, h)
+    by b t c e h = absurd (omega (arith, e))
 
 -- two ranges have no more than there are
 count_both : (x n y m : ℕ) (ps : List ℕ) → x + n ≤ y → count_in x n ps + count_in y m ps ≤ length ps

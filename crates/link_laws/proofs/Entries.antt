@@ -1,25 +1,13 @@
 -- The label of the entry is made global where it stands.
-use Rattle.std.proofs.Common.{◌≡◌, ⊎_elim, ℕ, ◌+◌, ◌<◌, ◌≤◌, List, [], ◌∷◌, ◌++◌, length, Bool, true, false, cond}
-use Rattle.std.proofs.Common.{sym, ap, ◌∙◌, arith}
-use Rattle.std.proofs.Common.{length-drop, subst}
-use Rattle.std.specs.Prelude.{nat_eq}
-use Rattle.std.specs.List.{list_any}
-use Rattle.std.proofs.lemmas.Bool.{cases_lt, or_left, or_right}
-use Rattle.std.proofs.lemmas.Bool.Decides.{nat_tests}
-use Rattle.std.proofs.lemmas.List.{map-append}
-use Rattle.std.proofs.lemmas.List.Folds.{list_any-append}
-use Rattle.asm_text.specs.declared.listing.Listed.{Listed}
-use Rattle.asm_text.specs.declared.listing.Listed.TheVariants as listed
-use Rattle.asm_text.specs.Names.{label_text}
-use Rattle.asm_text.specs.Writing.{listed_line}
+use Rattle.link_laws.proofs.Common.{◌≡◌, ⊎_elim, ℕ, ◌+◌, ◌<◌, ◌≤◌, List, [], ◌∷◌, ◌++◌, length, Bool, true, false, cond, sym, ap, ◌∙◌}
+use Rattle.link_laws.proofs.Common.{arith, length-drop, subst, nat_eq, list_any, cases_lt, or_left, or_right, nat_tests, map-append}
+use Rattle.link_laws.proofs.Common.{list_any-append, Listed, label_text, listed_line, same_bytes, Image, is_inside, item_at, label_lines}
+use Rattle.link_laws.proofs.Common.{labels}
 use Rattle.ebc_asm.specs.Symbols.{makes_global}
-use Rattle.ebc_asm.proofs.NumberLaws.{same_bytes}
-use Rattle.pe_image.specs.declared.image.Image.{Image}
-use Rattle.ebc_disasm.specs.Listings.{is_inside, item_at, label_lines, labels}
 use Rattle.link_laws.proofs.PlaceLaws.{AreUncut, behind_item, cut_is, uncut_item}
-use Rattle.link_laws.proofs.Walks.{IsStep, walk}
-use Rattle.link_laws.proofs.Sources.{source}
 use Rattle.link_laws.proofs.Listings.{IsShown, all_lines, code_lines, data_lines, data_place, entry_labelled}
+use Rattle.link_laws.proofs.{Walks.IsStep, Walks.walk, Sources.source}
+use Rattle.asm_text.specs.declared.listing.Listed.TheVariants as listed
 
 -- one of these lines makes the entry global
 abbrev pub IsGlobal : Image → List Listed → Type 0

@@ -1,30 +1,15 @@
 -- No fault of the linker comes of the object of a listing.
-use Rattle.std.proofs.Common.{◌≡◌, ℕ, ◌%◌, ◌<◌, ◌≤◌, List, [], ◌∷◌, ◌++◌, length, map, Some, None, Ok, Bool, true}
-use Rattle.std.proofs.Common.{false, not, cond}
-use Rattle.std.proofs.Common.{◌&&◌, ◌||◌, refl, sym, ap, subst, ◌∙◌, arith, append-nil}
-use Rattle.std.specs.Prelude.{bytes_eq, nat_eq, nat_le, nat_lt, if◌then◌else◌}
-use Rattle.std.specs.List.{AllByRecursion, filter, find}
-use Rattle.std.specs.Option.{option_map, option_or}
-use Rattle.std.proofs.lemmas.Bool.{and_from, and_parts, or_from, or_parts}
-use Rattle.std.proofs.lemmas.Bool.Decides.{nat_tests}
-use Rattle.std.proofs.lemmas.List.Folds.{list_any-append}
-use Rattle.ebc_base.specs.Tables.{is_named}
-use Rattle.ebc_base.proofs.TableLaws.{same_name}
-use Rattle.ebc_asm.proofs.PlaceLaws.{other_way}
-use Rattle.ebc_asm.proofs.StateLaws.{Apart}
-use Rattle.ebc_object.specs.declared.object.Fixup.{Fixup}
-use Rattle.ebc_object.specs.declared.object.Object.{Object}
-use Rattle.ebc_object.specs.declared.object.Symbol.{Symbol}
+use Rattle.link_laws.proofs.Common.{◌≡◌, ℕ, ◌%◌, ◌<◌, ◌≤◌, List, [], ◌∷◌, ◌++◌, length, map, Some, None, Ok, Bool, true, false, not, cond}
+use Rattle.link_laws.proofs.Common.{◌&&◌, ◌||◌, refl, sym, ap, subst, ◌∙◌, arith, append-nil, bytes_eq, nat_eq, nat_le, nat_lt}
+use Rattle.link_laws.proofs.Common.{if◌then◌else◌, AllByRecursion, filter, find, option_or, and_from, and_parts, or_from, or_parts}
+use Rattle.link_laws.proofs.Common.{nat_tests, list_any-append, is_named, same_name, Fixup, Object, Symbol, Image, LinkPlan, Laid, place_in}
+use Rattle.link_laws.proofs.Common.{places_of, Definition, definition_in, definitions, first_again, first_in, is_definition, names_of}
+use Rattle.link_laws.proofs.Common.{place_of, entry_in, linked_image, links_laid}
+use Rattle.std.specs.Option.{option_map}
+use Rattle.ebc_asm.proofs.{PlaceLaws.other_way, StateLaws.Apart}
 use Rattle.pe_image.specs.Conditions.{most}
-use Rattle.pe_image.specs.declared.image.Image.{Image}
 use Rattle.link_laws.proofs.Lists.{all_map, all_of, each_of, find_none}
-use Rattle.ebc_link.specs.declared.plan.LinkPlan.{LinkPlan}
-use Rattle.ebc_link.specs.Layout.{Laid, place_in}
-use Rattle.ebc_link.specs.Symbols.{places_of}
-use Rattle.ebc_link.specs.Symbols.{Definition, definition_in, definitions, first_again, first_in, is_definition, is_undefined, names_of}
-use Rattle.ebc_link.specs.Symbols.{undefined_in}
-use Rattle.ebc_link.specs.Fixups.{far_in, is_near, place_of}
-use Rattle.ebc_link.specs.Links.{entry_in, is_entry, linked_image, links_laid}
+use Rattle.ebc_link.specs.{Symbols.is_undefined, Symbols.undefined_in, Fixups.far_in, Fixups.is_near, Links.is_entry}
 
 -- ---- searches
 

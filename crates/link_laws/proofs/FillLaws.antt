@@ -1,17 +1,11 @@
 -- The bytes of an instruction that a label may stand in.
-use Rattle.std.proofs.Common.{◌≡◌, ℕ, List, [], ◌∷◌, ◌++◌, Bool, true, false, not, ◌&&◌, refl, sym, subst}
-use Rattle.std.proofs.Common.{arith, append-nil, replicate}
-use Rattle.std.proofs.lemmas.Bool.Decides.{nat_tests}
-use Rattle.std.specs.Int.{w64, to_le_bytes}
-use Rattle.ebc_insn.specs.declared.Cond.{Cond}
-use Rattle.ebc_insn.specs.declared.Insn.{Insn}
+use Rattle.link_laws.proofs.Common.{◌≡◌, ℕ, List, [], ◌∷◌, ◌++◌, Bool, true, false, not, ◌&&◌, refl, sym, subst, arith, append-nil}
+use Rattle.link_laws.proofs.Common.{replicate, nat_tests, w64, to_le_bytes, Cond, Insn, Operand, Extra, Imm, TargetFits, WellFormed}
+use Rattle.link_laws.proofs.Common.{code_of, field_bytes, int_raw, optional_field, spelling, takes_label, without_immediate}
+use Rattle.ebc_insn.specs.declared.Extra.TheVariants.{Idx, Nothing}
+use Rattle.ebc_insn.specs.Spelling.{bytes_of}
 use Rattle.ebc_insn.specs.declared.Insn.TheVariants as insns
-use Rattle.ebc_insn.specs.declared.Operand.{Operand}
-use Rattle.ebc_insn.specs.declared.Extra.{Extra}
-use Rattle.ebc_insn.specs.declared.Extra.TheVariants.{Idx, Imm, Nothing}
 use Rattle.ebc_insn.specs.declared.Size.TheVariants as sizes
-use Rattle.ebc_insn.specs.Spelling.{TargetFits, WellFormed, bytes_of, code_of, field_bytes, int_raw, optional_field, spelling}
-use Rattle.ebc_disasm.specs.Listings.{takes_label, without_immediate}
 
 -- The bytes of an instruction that a label may stand in end with its immediate, and with zeros where a label stands for it.
 pub record EndsWith (i : Insn) : Type 0 where

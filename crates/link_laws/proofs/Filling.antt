@@ -1,34 +1,16 @@
 -- The fixups of a section are filled in with the numbers that the image has there.
-use Rattle.std.proofs.Common.{◌≡◌, ◌⊎◌, ⊎_elim, ℕ, ◌+◌, ◌-◌, ◌%◌, ◌^◌, ◌<◌, ◌≤◌, List, [], ◌∷◌, length, map, take, drop}
-use Rattle.std.proofs.Common.{Bool, true, false, not, cond, ◌&&◌, refl, sym, ap, subst, ◌∙◌, arith}
-use Rattle.std.specs.Prelude.{nat_eq, nat_le, nat_lt, slice_index, if◌then◌else◌}
-use Rattle.std.specs.Int.{w64, to_le_bytes}
-use Rattle.std.specs.List.{AllByRecursion, filter, list_all}
-use Rattle.std.proofs.lemmas.Bool.{and_from, and_parts}
-use Rattle.std.proofs.lemmas.Bool.Decides.{nat_tests}
-use Rattle.ebc_base.specs.Tables.{is_named, name_number}
-use Rattle.ebc_width.specs.Bytes.{little_endian}
-use Rattle.ebc_width.specs.Width.{distance_of}
-use Rattle.ebc_width.proofs.ByteLaws.{little_endian-below, little_endian-moved}
-use Rattle.ebc_decode.proofs.Numbers.{IsBytes}
-use Rattle.ebc_object.specs.declared.object.Fixup.{Fixup}
-use Rattle.ebc_object.specs.declared.object.Symbol.{Symbol}
-use Rattle.asm_text.specs.Lines.{Line}
-use Rattle.asm_text.specs.Names.{label_text}
-use Rattle.ebc_asm.specs.Symbols.{names_with, place_of, section_kind, start, symbol_of}
-use Rattle.pe_image.specs.Mapped.{is_of, laid, named_place}
-use Rattle.pe_image.specs.declared.image.Image.{Image}
-use Rattle.ebc_link.specs.Layout.{Laid, place_in}
-use Rattle.ebc_link.specs.Symbols.{Definition, defined_place, places_of, symbol_place}
-use Rattle.ebc_asm.proofs.PlaceLaws.{get_name}
-use Rattle.ebc_link.specs.Fixups.{bytes_for, target_of, value_of, with_fixups}
-use Rattle.link_laws.proofs.SectionLaws.{Agree}
-use Rattle.link_laws.proofs.FixupWalk.{in_range}
+use Rattle.link_laws.proofs.Common.{◌≡◌, ◌⊎◌, ⊎_elim, ℕ, ◌+◌, ◌-◌, ◌%◌, ◌^◌, ◌<◌, ◌≤◌, List, [], ◌∷◌, length, map, take, drop, Bool, true}
+use Rattle.link_laws.proofs.Common.{false, not, cond, ◌&&◌, refl, sym, ap, subst, ◌∙◌, arith, nat_eq, nat_le, nat_lt, slice_index}
+use Rattle.link_laws.proofs.Common.{if◌then◌else◌, w64, to_le_bytes, AllByRecursion, filter, list_all, and_from, and_parts, nat_tests}
+use Rattle.link_laws.proofs.Common.{is_named, name_number, little_endian, distance_of, little_endian-below, IsBytes, Fixup, Symbol, Line}
+use Rattle.link_laws.proofs.Common.{label_text, names_with, section_kind, start, symbol_of, is_of, laid, named_place, Image, Laid, place_in}
+use Rattle.link_laws.proofs.Common.{Definition, places_of, get_name, bytes_for, with_fixups}
+use Rattle.ebc_width.proofs.ByteLaws.{little_endian-moved}
+use Rattle.ebc_asm.specs.Symbols.{place_of}
+use Rattle.ebc_link.specs.{Symbols.defined_place, Symbols.symbol_place, Fixups.target_of, Fixups.value_of}
 use Rattle.link_laws.proofs.OneObject.{Restore, if_free, is_free, is_in, restored}
-use Rattle.link_laws.proofs.Lists.{all_kept, map_twice}
-use Rattle.link_laws.proofs.Objects.{reloc_fixup}
-use Rattle.link_laws.proofs.Relocs.{number_bytes}
-use Rattle.link_laws.proofs.Standing.{IsPlaced}
+use Rattle.link_laws.proofs.{SectionLaws.Agree, FixupWalk.in_range, Lists.all_kept, Lists.map_twice, Objects.reloc_fixup}
+use Rattle.link_laws.proofs.{Relocs.number_bytes, Standing.IsPlaced}
 
 -- ---- where a symbol stands once its object does
 

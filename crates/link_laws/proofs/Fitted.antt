@@ -1,29 +1,22 @@
 -- An instruction of a line that is read has a spelling, and its name, if any, stands where one may.
-use Rattle.std.proofs.Common.{◌≡◌, inl, inr, ℕ, List, [], ◌∷◌, Option, Some, None, Result, Ok, Err, Bool, true, false, refl, subst, cond}
-use Rattle.std.specs.Prelude.{⊤, IfOk, option_map, option_and_then, if◌then◌else◌, ◌==◌, ◌&&◌, codes, bytes_eq}
-use Rattle.ebc_base.specs.Steps.{◌>>=◌, or_else}
-use Rattle.ebc_base.specs.Names.{is_name}
-use Rattle.ebc_insn.specs.declared.Insn.{Insn}
-use Rattle.ebc_insn.specs.declared.Size.{Size}
-use Rattle.ebc_insn.specs.declared.Size.TheVariants as sizes
-use Rattle.asm_text.specs.declared.fault.AsmFault.{AsmFault}
-use Rattle.asm_text.specs.declared.form.Form.{Form}
-use Rattle.asm_text.specs.declared.form.Form.TheVariants as forms
-use Rattle.asm_text.specs.declared.directive.Directive.{Directive}
-use Rattle.asm_text.specs.declared.directive.Directive.TheVariants as directives
-use Rattle.asm_text.specs.Faults.{both}
-use Rattle.asm_text.specs.Instructions.{InsnFits, insn_in, insn_of}
-use Rattle.asm_text.specs.Lines as lines
-use Rattle.asm_text.specs.Lines.{Line, line_in, parted, statement_in}
-use Rattle.asm_text.specs.Mnemonics.{FormFits, arith_of, bits_at, call_end, call_form, cmp_of, compare_form}
-use Rattle.asm_text.specs.Mnemonics.{compare_imm_form, cond_of, form_of, jump_end, jump_form, long_at, move_form, move_imm_form}
-use Rattle.asm_text.specs.Mnemonics.{move_imm_letters}
-use Rattle.asm_text.specs.Mnemonics.{move_letters, other_form, relative_letter, signed_form, size_at, stem_form, stem_of}
-use Rattle.asm_text.specs.Mnemonics.{wide_of}
+use Rattle.link_laws.proofs.Common.{◌≡◌, inl, inr, ℕ, List, [], ◌∷◌, Option, Some, None, Result, Ok, Err, Bool, true, false, refl, subst}
+use Rattle.link_laws.proofs.Common.{cond, option_map, if◌then◌else◌, ◌==◌, ◌&&◌, codes, bytes_eq, ◌>>=◌, Insn, Size, AsmFault, InsnFits}
+use Rattle.link_laws.proofs.Common.{Line}
+use Rattle.std.specs.Prelude.{⊤, IfOk, option_and_then}
+use Rattle.ebc_base.specs.{Steps.or_else, Names.is_name}
+use Rattle.asm_text.specs.declared.{form.Form.Form, directive.Directive.Directive}
+use Rattle.asm_text.specs.Mnemonics.{FormFits, arith_of, bits_at, call_end, call_form, cmp_of, compare_form, compare_imm_form, cond_of}
+use Rattle.asm_text.specs.Mnemonics.{form_of, jump_end, jump_form, long_at, move_form, move_imm_form, move_imm_letters, move_letters}
+use Rattle.asm_text.specs.Mnemonics.{other_form, relative_letter, signed_form, size_at, stem_form, stem_of, wide_of}
 use Rattle.asm_text.specs.Splits.{trim, trim_front, until, without_comment, is_empty, word_part}
-use Rattle.asm_text.specs.Statements as statements
 use Rattle.asm_text.specs.Statements.{Statement, directed, directive_of, instruction, name, starts_point, statement_of}
+use Rattle.asm_text.specs.{Faults.both, Instructions.insn_in, Instructions.insn_of, Lines.line_in, Lines.parted, Lines.statement_in}
 use Rattle.asm_text.proofs.Fitting.{any_ok, insn_fits, kept_both, kept_made}
+use Rattle.ebc_insn.specs.declared.Size.TheVariants as sizes
+use Rattle.asm_text.specs.declared.form.Form.TheVariants as forms
+use Rattle.asm_text.specs.declared.directive.Directive.TheVariants as directives
+use Rattle.asm_text.specs.Lines as lines
+use Rattle.asm_text.specs.Statements as statements
 
 -- ---- the forms of mnemonics
 
@@ -54,34 +47,24 @@ bits_fits : (b : ℕ) (f : ℕ → Option Form) → FitsForm (f 16) → FitsForm
 bits_fits b f h g i = bits_index (b == 119) (b == 100) (b == 113) f h g i
 
 move_fits : (size : Size) (b : ℕ) → FitsForm (option_and_then (λ bits. move_form size bits) (bits_at b))
-move_fits sizes.Byte b = bits_fits b (λ bits. move_form sizes.Byte bits) (inl refl) (inr refl) tt
-move_fits sizes.Word b = bits_fits b (λ bits. move_form sizes.Word bits) (inl refl) (inr refl) tt
-move_fits sizes.Dword b = bits_fits b (λ bits. move_form sizes.Dword bits) (inl refl) (inr refl) tt
 move_fits sizes.Qword b = bits_fits b (λ bits. move_form sizes.Qword bits) (inl refl) (inr (inl refl)) (inr (inr refl))
-move_fits sizes.Natural b = bits_fits b (λ bits. move_form sizes.Natural bits) (inl refl) (inr refl) tt
+move_fits size b = bits_fits b (λ bits. move_form size bits) (inl refl) (inr refl) tt
 
 move_imm_fits : (size : Size) (b : ℕ) → FitsForm (option_and_then (λ bits. move_imm_form size bits) (bits_at b))
-move_imm_fits sizes.Byte b = bits_fits b (λ bits. move_imm_form sizes.Byte bits) (inl refl, tt) (inr (inl refl), tt) (inr (inr refl), tt)
-move_imm_fits sizes.Word b = bits_fits b (λ bits. move_imm_form sizes.Word bits) (inl refl, tt) (inr (inl refl), tt) (inr (inr refl), tt)
-move_imm_fits sizes.Dword b = bits_fits b (λ bits. move_imm_form sizes.Dword bits) (inl refl, tt) (inr (inl refl), tt) (inr (inr refl), tt)
-move_imm_fits sizes.Qword b = bits_fits b (λ bits. move_imm_form sizes.Qword bits) (inl refl, tt) (inr (inl refl), tt) (inr (inr refl), tt)
 move_imm_fits sizes.Natural b = bits_fits b (λ bits. move_imm_form sizes.Natural bits) (inl refl) (inr (inl refl)) (inr (inr refl))
+move_imm_fits size b = bits_fits b (λ bits. move_imm_form size bits) (inl refl, tt) (inr (inl refl), tt) (inr (inr refl), tt)
 
 letters_fit : (s : List ℕ) → FitsForm (move_letters s)
-letters_fit [] = tt
-letters_fit (s ∷ []) = tt
 letters_fit (s ∷ w ∷ []) = then_fits (λ size. option_and_then (λ bits. move_form size bits) (bits_at w)) (size_at s)
     (λ size. move_fits size w)
 letters_fit (s ∷ n ∷ w ∷ []) = if_fits (s == 115 && n == 110) (option_and_then signed_form (bits_at w)) None
     (bits_fits w signed_form (inl refl) (inr refl) tt) tt
-letters_fit (s ∷ n ∷ w ∷ x ∷ rest) = tt
+letters_fit xs = tt
 
 imm_letters_fit : (s : List ℕ) → FitsForm (move_imm_letters s)
-imm_letters_fit [] = tt
-imm_letters_fit (s ∷ []) = tt
 imm_letters_fit (s ∷ w ∷ []) =
     then_fits (λ size. option_and_then (λ bits. move_imm_form size bits) (bits_at w)) (size_at s) (λ size. move_imm_fits size w)
-imm_letters_fit (s ∷ w ∷ x ∷ rest) = tt
+imm_letters_fit xs = tt
 
 mapped_bits : (one two three : Bool) →
     FitsForm (option_map (λ bits. forms.MoveRelative bits)
@@ -123,14 +106,12 @@ compare_fits (b ∷ c ∷ rest) = then_fits (λ wide. option_map (λ op. forms.C
     (λ wide. map_fits (λ op. forms.Compare op wide) (cmp_of rest) (λ op. tt))
 
 compare_imm_fits : (s : List ℕ) → FitsForm (compare_imm_form s)
-compare_imm_fits [] = tt
-compare_imm_fits (b ∷ []) = tt
-compare_imm_fits (b ∷ c ∷ []) = tt
 compare_imm_fits (b ∷ c ∷ d ∷ rest) =
     then_fits (λ wide. option_and_then (λ long. option_map (λ op. forms.CompareImm op wide long) (cmp_of rest)) (long_at d))
     (wide_of (b ∷ c ∷ []))
     (λ wide. then_fits (λ long. option_map (λ op. forms.CompareImm op wide long) (cmp_of rest)) (long_at d)
     (λ long. map_fits (λ op. forms.CompareImm op wide long) (cmp_of rest) (λ op. tt)))
+compare_imm_fits xs = tt
 
 other_fits : (stem suffix : List ℕ) → FitsForm (other_form stem suffix)
 unfolding other_form

@@ -1,32 +1,15 @@
 -- The names that the lines of a section use are the targets of its relocations, each where the relocation is.
-use Rattle.std.proofs.Common.{◌≡◌, ℕ, zero, suc, ◌+◌, ◌-◌, ◌*◌, ◌<◌, ◌≤◌, List, [], ◌∷◌, ◌++◌, length, map, take, drop, replicate, Option}
-use Rattle.std.proofs.Common.{Some, None, Result, Ok, Err, Bool, true, false, not, cond, ◌&&◌, ◌||◌, refl, sym, ap, ◌∙◌, arith}
-use Rattle.std.proofs.Common.{⊎_elim, length-append, length-drop, length-take-le, append_assoc, option_map, nat_lt, nat_le}
-use Rattle.std.specs.Prelude.{nat_eq}
-use Rattle.std.specs.List.{filter, find, list_all, list_any}
-use Rattle.std.specs.Option.{option_and_then, option_or, unwrap_or}
-use Rattle.std.specs.Int.{w64, to_le_bytes}
-use Rattle.std.proofs.lemmas.Bool.{and_parts, cases_lt}
-use Rattle.std.proofs.lemmas.List.{map-append}
-use Rattle.ebc_disasm.specs.Listings.{label_lines, labels, lines_from}
-use Rattle.ebc_disasm.proofs.Lines.{next_lines}
-use Rattle.link_laws.proofs.ItemLaws.{ItemOf, item_of, line_bytes}
-use Rattle.std.proofs.lemmas.Bool.Decides.{nat_tests}
-use Rattle.ebc_insn.specs.declared.Insn.{Insn}
-use Rattle.ebc_insn.specs.Spelling.{Spells, spelling}
-use Rattle.ebc_decode.specs.declared.DecodeFault.{DecodeFault}
-use Rattle.ebc_decode.specs.Reading.{read}
-use Rattle.ebc_decode.proofs.Laws.{read_length, read_spells}
-use Rattle.ebc_decode.proofs.Numbers.{IsBytes, IsBytes-drop}
-use Rattle.asm_text.specs.declared.listing.Listed.{Listed}
-use Rattle.asm_text.specs.declared.listing.Listed.TheVariants as listed
-use Rattle.pe_image.specs.Mapped.{named_place}
-use Rattle.pe_image.specs.declared.image.Image.{Image}
-use Rattle.ebc_disasm.specs.Listings.{byte_at, if_whole, in_section, insn_at, is_cut, is_of_immediate, is_whole, item_at, label_before}
-use Rattle.ebc_disasm.specs.Listings.{lies_on, named, place_at, takes_label, with_label, without_immediate, word_at}
+use Rattle.link_laws.proofs.Common.{◌≡◌, ℕ, zero, suc, ◌+◌, ◌-◌, ◌*◌, ◌<◌, ◌≤◌, List, [], ◌∷◌, ◌++◌, length, map, take, drop, replicate}
+use Rattle.link_laws.proofs.Common.{Option, Some, None, Result, Ok, Err, Bool, true, false, not, cond, ◌&&◌, ◌||◌, refl, sym, ap, ◌∙◌}
+use Rattle.link_laws.proofs.Common.{arith, ⊎_elim, length-append, length-drop, length-take-le, append_assoc, option_map, nat_lt, nat_le}
+use Rattle.link_laws.proofs.Common.{nat_eq, filter, find, list_all, list_any, option_and_then, option_or, unwrap_or, w64, to_le_bytes}
+use Rattle.link_laws.proofs.Common.{and_parts, cases_lt, map-append, label_lines, labels, lines_from, next_lines, nat_tests, Insn, Spells}
+use Rattle.link_laws.proofs.Common.{spelling, DecodeFault, read, read_length, read_spells, IsBytes, IsBytes-drop, Listed, named_place}
+use Rattle.link_laws.proofs.Common.{Image, byte_at, if_whole, in_section, insn_at, is_cut, is_of_immediate, is_whole, item_at, label_before}
+use Rattle.link_laws.proofs.Common.{lies_on, named, place_at, takes_label, with_label, without_immediate, word_at, IfSome}
+use Rattle.link_laws.proofs.ItemLaws.{ItemOf, item_of, line_bytes, label_taken}
 use Rattle.link_laws.proofs.FillLaws.{EndsWith, labels_fill}
-use Rattle.link_laws.proofs.ItemLaws.{label_taken}
-use Rattle.std.specs.Prelude.{IfSome}
+use Rattle.asm_text.specs.declared.listing.Listed.TheVariants as listed
 
 -- ---- what lines name
 
@@ -273,14 +256,12 @@ found_is (q ∷ rs) next r e = first (nat_eq (q + 8) next) refl e (λ h. found_i
 uses_place : (image : Image) (x : ℕ) (a b : Bool) (o : Option ℕ) → AreNamed image → list_any (nat_eq x) image.relocs ≡ b
     → named image x ≡ o →
     IfSome (cond (a && b) (option_map (λ target. (listed.Place target, 8)) o) None) (Uses image x)
-uses_place image x true true None are e f = tt
 uses_place image x true true (Some t) are e f =
     let target : Some t ≡ Some (named_place image x) = sym f ∙ named_some image image.relocs x are.named e in
     let same : t ≡ named_place image x = cc target in
     let zero_ : x + 0 ≡ x = omega arith in
     ap (λ k. (k, t) ∷ []) zero_ ∙ (ap (λ u. (x, u) ∷ []) same ∙ ap (map (with_target image)) (sym (at_place x image.relocs are.ascend e)))
-uses_place image x true false o are e f = tt
-uses_place image x false b o are e f = tt
+uses_place image x c b o are e f = tt
 
 none_fine : (image : Image) (i : Insn) (x n : ℕ) (rs : List ℕ) → list_all (fine image i x n) rs ≡ true
     → find (λ r. nat_eq (r + 8) (x + n)) rs ≡ None → filter (in_range x n) rs ≡ []

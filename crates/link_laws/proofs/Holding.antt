@@ -1,14 +1,6 @@
 -- What a fixup holds, by its kind: an address, or a distance.
-use Rattle.std.proofs.Common.{◌≡◌, ℕ, ◌+◌, ◌*◌, ◌≤◌, Bool, true, false, refl, arith, pos}
-use Rattle.std.specs.Prelude.{nat_eq, ◌+ℤ◌, ◌*ℤ◌, if◌then◌else◌}
-use Rattle.std.proofs.lemmas.Bool.Decides.{nat_tests}
-use Rattle.ebc_width.specs.Width.{signed_at}
-use Rattle.ebc_object.specs.Objects.{width}
-use Rattle.ebc_object.specs.declared.object.Fixup.{Fixup}
-use Rattle.pe_image.specs.declared.image.Image.{Image}
-use Rattle.ebc_link.specs.Layout.{Laid, place_in}
-use Rattle.ebc_link.specs.Fixups.{place_of}
-use Rattle.ebc_link.specs.Linked.{Holds, number_at}
+use Rattle.link_laws.proofs.Common.{◌≡◌, ℕ, ◌+◌, ◌*◌, ◌≤◌, Bool, true, false, refl, arith, pos, nat_eq, ◌+ℤ◌, ◌*ℤ◌, if◌then◌else◌}
+use Rattle.link_laws.proofs.Common.{nat_tests, signed_at, width, Fixup, Image, Laid, place_in, place_of, Holds, number_at}
 use Rattle.ebc_link.specs.Linked.Holds.{address, bytes, words}
 
 -- ---- what a fixup holds

@@ -1,24 +1,13 @@
 -- The bytes of an instruction in which a name may stand, with a number in its place.
-use Rattle.std.proofs.Common.{◌≡◌, ⊎_elim, ℕ, ◌*◌, ◌^◌, ◌<◌, ◌%◌, List, [], ◌∷◌, ◌++◌, Bool, true, false, refl, sym}
-use Rattle.std.proofs.Common.{ap, subst, ◌∙◌}
-use Rattle.std.proofs.Common.{arith, Option, replicate, take, ℤ, pos}
-use Rattle.std.specs.Int.{w16, w32, w64, to_le_bytes}
+use Rattle.link_laws.proofs.Common.{◌≡◌, ⊎_elim, ℕ, ◌*◌, ◌^◌, ◌<◌, ◌%◌, List, [], ◌∷◌, ◌++◌, Bool, true, false, refl, sym, ap, subst, ◌∙◌}
+use Rattle.link_laws.proofs.Common.{arith, Option, replicate, take, ℤ, pos, w64, to_le_bytes, Cond, Insn, Operand, Extra, Imm, Size}
+use Rattle.link_laws.proofs.Common.{TargetFits, WellFormed, code_of, field_bytes, int_raw, optional_field, spelling, signed_at}
+use Rattle.link_laws.proofs.Common.{signed_whole, TakesName, immediate_size, with_immediate}
 use Rattle.natural_index.specs.declared.Index.{Index}
-use Rattle.ebc_insn.specs.declared.Cond.{Cond}
-use Rattle.ebc_insn.specs.declared.Insn.{Insn}
+use Rattle.ebc_insn.specs.Spelling.{FitsInt, IsOperand, bytes_of}
+use Rattle.ebc_decode.proofs.Numbers.{signed_fits}
 use Rattle.ebc_insn.specs.declared.Insn.TheVariants as insns
-use Rattle.ebc_insn.specs.declared.Operand.{Operand}
-use Rattle.ebc_insn.specs.declared.Extra.{Extra}
-use Rattle.ebc_insn.specs.declared.Extra.TheVariants.{Imm}
-use Rattle.ebc_insn.specs.declared.Size.{Size}
 use Rattle.ebc_insn.specs.declared.Size.TheVariants as sizes
-use Rattle.ebc_insn.specs.Spelling.{IsOperand, TargetFits, WellFormed, bytes_of, code_of, field_bytes, int_raw, optional_field}
-use Rattle.ebc_insn.specs.Spelling.{spelling}
-use Rattle.ebc_width.specs.Width.{signed_at}
-use Rattle.ebc_decode.proofs.Numbers.{signed_fits, signed_whole}
-use Rattle.asm_text.specs.Instructions.{TakesName}
-use Rattle.ebc_asm.specs.Pieces.{immediate_size}
-use Rattle.link_laws.specs.Loads.{with_immediate}
 
 -- The bytes of an instruction end with its immediate: zeros where a name stands for it, and else the number that it has there.
 pub record TakesNumber (i : Insn) : Type 0 where
@@ -40,104 +29,77 @@ jump8_takes c = record {
   fits = λ n low. signed_fits 8 n (omega arith) low;
 }
 
+-- two bytes of an instruction, and what comes after them
+abbrev two_and : Insn → List ℕ → List ℕ
+two_and i rest = (code_of i).first ∷ (code_of i).second ∷ rest
+
+-- an instruction takes a number, if its spelling ends with that number
+takes_last : (i : Insn) (front : List ℕ) → 0 < 8 * immediate_size i → spelling i ≡ front ++ replicate (immediate_size i) 0
+    → ((v : ℤ) → spelling (with_immediate i v) ≡ front ++ take (immediate_size i) (to_le_bytes w64 (int_raw (8 * immediate_size i) v)))
+    → ((v : ℤ) → FitsInt (8 * immediate_size i) v → WellFormed (with_immediate i v)) → TakesNumber i
+takes_last i front some zeros spells fits = record {
+  front = front;
+  zeros = zeros;
+  spells = λ n low. spells (signed_at (8 * immediate_size i) n) ∙ ap (λ m. front ++ take (immediate_size i) (to_le_bytes w64 m))
+      (signed_whole (8 * immediate_size i) n some low);
+  fits = λ n low. fits (signed_at (8 * immediate_size i) n) (signed_fits (8 * immediate_size i) n some low);
+}
+
 far_jump : (c : Cond) (relative : Bool) (o : Operand) → o.reg ≡ 0 → o.indirect ≡ false
     → TakesNumber (insns.Jump c true relative o (Imm (pos 0)))
 unfolding bytes_of field_bytes
-far_jump c relative o zero_ direct = record {
-  front = (code_of (insns.Jump c true relative o (Imm (pos 0)))).first ∷ (code_of (insns.Jump c true relative o (Imm (pos 0)))).second ∷ [];
-  zeros = refl;
-  spells = λ n low. ap (λ m. (code_of (insns.Jump c true relative o (Imm (pos 0)))).first
-      ∷ (code_of (insns.Jump c true relative o (Imm (pos 0)))).second ∷ to_le_bytes w64 m) (signed_whole 64 n (omega arith) low);
-  fits = λ n low. (zero_, direct, signed_fits 64 n (omega arith) low);
-}
+far_jump c relative o zero_ direct =
+    let i : Insn = insns.Jump c true relative o (Imm (pos 0)) in
+    takes_last i (two_and i []) (omega arith) refl (λ v. refl) (λ v f. (zero_, direct, f))
 
 near_jump : (c : Cond) (relative : Bool) (o : Operand) → IsOperand o → o.indirect ≡ false
     → TakesNumber (insns.Jump c false relative o (Imm (pos 0)))
 unfolding bytes_of field_bytes
-near_jump c relative o small direct = record {
-  front = (code_of (insns.Jump c false relative o (Imm (pos 0)))).first ∷ (code_of (insns.Jump c false relative o (Imm
-      (pos 0)))).second ∷ [];
-  zeros = refl;
-  spells = λ n low. ap (λ m. (code_of (insns.Jump c false relative o (Imm (pos 0)))).first
-      ∷ (code_of (insns.Jump c false relative o (Imm (pos 0)))).second ∷ to_le_bytes w32 m) (signed_whole 32 n (omega arith) low);
-  fits = λ n low. (small, (direct, signed_fits 32 n (omega arith) low));
-}
+near_jump c relative o small direct =
+    let i : Insn = insns.Jump c false relative o (Imm (pos 0)) in
+    takes_last i (two_and i []) (omega arith) refl (λ v. refl) (λ v f. (small, (direct, f)))
 
 far_call : (native relative : Bool) (o : Operand) → o.reg ≡ 0 → o.indirect ≡ false
     → TakesNumber (insns.Call true native relative o (Imm (pos 0)))
 unfolding bytes_of field_bytes
-far_call native relative o zero_ direct = record {
-  front = (code_of (insns.Call true native relative o (Imm (pos 0)))).first ∷ (code_of (insns.Call true native relative o (Imm
-      (pos 0)))).second ∷ [];
-  zeros = refl;
-  spells = λ n low. ap (λ m. (code_of (insns.Call true native relative o (Imm (pos 0)))).first
-      ∷ (code_of (insns.Call true native relative o (Imm (pos 0)))).second ∷ to_le_bytes w64 m) (signed_whole 64 n (omega arith) low);
-  fits = λ n low. (zero_, direct, signed_fits 64 n (omega arith) low);
-}
+far_call native relative o zero_ direct =
+    let i : Insn = insns.Call true native relative o (Imm (pos 0)) in
+    takes_last i (two_and i []) (omega arith) refl (λ v. refl) (λ v f. (zero_, direct, f))
 
 near_call : (native relative : Bool) (o : Operand) → IsOperand o → o.indirect ≡ false
     → TakesNumber (insns.Call false native relative o (Imm (pos 0)))
 unfolding bytes_of field_bytes
-near_call native relative o small direct = record {
-  front = (code_of (insns.Call false native relative o (Imm (pos 0)))).first ∷ (code_of (insns.Call false native relative o (Imm
-      (pos 0)))).second ∷ [];
-  zeros = refl;
-  spells = λ n low. ap (λ m. (code_of (insns.Call false native relative o (Imm (pos 0)))).first
-      ∷ (code_of (insns.Call false native relative o (Imm (pos 0)))).second ∷ to_le_bytes w32 m) (signed_whole 32 n (omega arith) low);
-  fits = λ n low. (small, (direct, signed_fits 32 n (omega arith) low));
-}
+near_call native relative o small direct =
+    let i : Insn = insns.Call false native relative o (Imm (pos 0)) in
+    takes_last i (two_and i []) (omega arith) refl (λ v. refl) (λ v f. (small, (direct, f)))
 
 move_takes : (o : Operand) (x : Option Index) → WellFormed (insns.MoveImm sizes.Qword 64 o x (pos 0))
     → TakesNumber (insns.MoveImm sizes.Qword 64 o x (pos 0))
 unfolding bytes_of field_bytes
 move_takes o x well =
     let i : Insn = insns.MoveImm sizes.Qword 64 o x (pos 0) in
-    record {
-      front = (code_of i).first ∷ (code_of i).second ∷ field_bytes (optional_field 16 x);
-      zeros = refl;
-      spells = λ n low. ap (λ m. ((code_of i).first ∷ (code_of i).second ∷ field_bytes (optional_field 16 x)) ++ to_le_bytes w64 m)
-          (signed_whole 64 n (omega arith) low);
-      fits = λ n low. (well.0, well.1, well.2, well.3, signed_fits 64 n (omega arith) low);
-    }
+    takes_last i (two_and i (field_bytes (optional_field 16 x))) (omega arith) refl (λ v. refl) (λ v f. (well.0, well.1, well.2, well.3, f))
 
 relative_16 : (o : Operand) (x : Option Index) → WellFormed (insns.MoveRelative 16 o x (pos 0))
     → TakesNumber (insns.MoveRelative 16 o x (pos 0))
 unfolding bytes_of field_bytes
 relative_16 o x well =
     let i : Insn = insns.MoveRelative 16 o x (pos 0) in
-    record {
-      front = (code_of i).first ∷ (code_of i).second ∷ field_bytes (optional_field 16 x);
-      zeros = refl;
-      spells = λ n low. ap (λ m. ((code_of i).first ∷ (code_of i).second ∷ field_bytes (optional_field 16 x)) ++ to_le_bytes w16 m)
-          (signed_whole 16 n (omega arith) low);
-      fits = λ n low. (well.0, well.1, well.2, signed_fits 16 n (omega arith) low);
-    }
+    takes_last i (two_and i (field_bytes (optional_field 16 x))) (omega arith) refl (λ v. refl) (λ v f. (well.0, well.1, well.2, f))
 
 relative_32 : (o : Operand) (x : Option Index) → WellFormed (insns.MoveRelative 32 o x (pos 0))
     → TakesNumber (insns.MoveRelative 32 o x (pos 0))
 unfolding bytes_of field_bytes
 relative_32 o x well =
     let i : Insn = insns.MoveRelative 32 o x (pos 0) in
-    record {
-      front = (code_of i).first ∷ (code_of i).second ∷ field_bytes (optional_field 16 x);
-      zeros = refl;
-      spells = λ n low. ap (λ m. ((code_of i).first ∷ (code_of i).second ∷ field_bytes (optional_field 16 x)) ++ to_le_bytes w32 m)
-          (signed_whole 32 n (omega arith) low);
-      fits = λ n low. (well.0, well.1, well.2, signed_fits 32 n (omega arith) low);
-    }
+    takes_last i (two_and i (field_bytes (optional_field 16 x))) (omega arith) refl (λ v. refl) (λ v f. (well.0, well.1, well.2, f))
 
 relative_64 : (o : Operand) (x : Option Index) → WellFormed (insns.MoveRelative 64 o x (pos 0))
     → TakesNumber (insns.MoveRelative 64 o x (pos 0))
 unfolding bytes_of field_bytes
 relative_64 o x well =
     let i : Insn = insns.MoveRelative 64 o x (pos 0) in
-    record {
-      front = (code_of i).first ∷ (code_of i).second ∷ field_bytes (optional_field 16 x);
-      zeros = refl;
-      spells = λ n low. ap (λ m. ((code_of i).first ∷ (code_of i).second ∷ field_bytes (optional_field 16 x)) ++ to_le_bytes w64 m)
-          (signed_whole 64 n (omega arith) low);
-      fits = λ n low. (well.0, well.1, well.2, signed_fits 64 n (omega arith) low);
-    }
+    takes_last i (two_and i (field_bytes (optional_field 16 x))) (omega arith) refl (λ v. refl) (λ v f. (well.0, well.1, well.2, f))
 
 jump_takes : (c : Cond) (far relative : Bool) (o : Operand) (e : Extra) → TargetFits far o e → e ≡ Imm (pos 0)
     → TakesNumber (insns.Jump c far relative o e)

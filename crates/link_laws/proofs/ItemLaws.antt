@@ -1,31 +1,15 @@
 -- What is listed at a place has the bytes of the place, but for those that a label stands for.
-use Rattle.std.proofs.Common.{◌≡◌, ℕ, zero, suc, ◌+◌, ◌*◌, ◌/◌, ◌%◌, ◌<◌, ◌≤◌, List, [], ◌∷◌, ◌++◌, length, get_or, take}
-use Rattle.std.proofs.Common.{replicate, Option, Some, None, Result, Ok, Err, Bool, true, false, not, cond, ◌&&◌, ◌||◌, refl, sym, ap}
-use Rattle.std.proofs.Common.{◌∙◌, arith, ⊎_elim, length-append, length-take-le, nat_le, option_map}
-use Rattle.std.specs.Prelude.{nat_eq}
-use Rattle.std.specs.List.{find, list_all, list_any}
-use Rattle.std.specs.Option.{option_and_then, option_or, unwrap_or}
-use Rattle.std.specs.Int.{w16, w64, to_le_bytes}
-use Rattle.std.proofs.lemmas.Bool.{and_parts, cases_lt}
-use Rattle.std.specs.Prelude.{IfSome}
-use Rattle.std.proofs.lemmas.Bool.Decides.{nat_tests}
-use Rattle.std.proofs.lemmas.List.{get_or_append_left, get_or-take}
-use Rattle.ebc_insn.specs.declared.Insn.{Insn}
-use Rattle.ebc_insn.specs.Spelling.{Spells, field_bytes, int_raw, spelling}
-use Rattle.ebc_decode.specs.declared.DecodeFault.{DecodeFault}
-use Rattle.ebc_decode.specs.Reading.{read}
-use Rattle.ebc_decode.proofs.Laws.{read_length, read_spells}
-use Rattle.ebc_decode.proofs.Numbers.{IsBytes, signed_whole}
-use Rattle.asm_text.specs.declared.listing.Listed.{Listed}
-use Rattle.asm_text.specs.declared.listing.Listed.TheVariants as listed
-use Rattle.asm_text.specs.Writing.{listed_line}
-use Rattle.ebc_width.specs.Width.{signed_at}
-use Rattle.ebc_asm.specs.Pieces.{bytes_of}
-use Rattle.pe_image.specs.Mapped.{is_of}
-use Rattle.pe_image.specs.declared.image.Image.{Image}
-use Rattle.ebc_disasm.specs.Listings.{byte_at, if_whole, insn_at, is_cut, is_of_immediate, is_whole, item_at, label_before}
-use Rattle.ebc_disasm.specs.Listings.{lies_on, named, place_at, takes_label, with_label, without_immediate, word_at}
+use Rattle.link_laws.proofs.Common.{◌≡◌, ℕ, zero, suc, ◌+◌, ◌*◌, ◌/◌, ◌%◌, ◌<◌, ◌≤◌, List, [], ◌∷◌, ◌++◌, length, get_or, take, replicate}
+use Rattle.link_laws.proofs.Common.{Option, Some, None, Result, Ok, Err, Bool, true, false, not, cond, ◌&&◌, ◌||◌, refl, sym, ap, ◌∙◌}
+use Rattle.link_laws.proofs.Common.{arith, ⊎_elim, length-append, length-take-le, nat_le, option_map, nat_eq, find, list_all, list_any}
+use Rattle.link_laws.proofs.Common.{option_and_then, option_or, unwrap_or, w64, to_le_bytes, and_parts, cases_lt, IfSome, nat_tests}
+use Rattle.link_laws.proofs.Common.{get_or_append_left, get_or-take, Insn, Spells, field_bytes, int_raw, spelling, DecodeFault, read}
+use Rattle.link_laws.proofs.Common.{read_length, read_spells, IsBytes, signed_whole, Listed, listed_line, signed_at, bytes_of, is_of, Image}
+use Rattle.link_laws.proofs.Common.{byte_at, if_whole, insn_at, is_cut, is_of_immediate, is_whole, item_at, label_before, lies_on, named}
+use Rattle.link_laws.proofs.Common.{place_at, takes_label, with_label, without_immediate, word_at}
+use Rattle.std.specs.Int.{w16}
 use Rattle.link_laws.proofs.FillLaws.{EndsWith, labels_fill}
+use Rattle.asm_text.specs.declared.listing.Listed.TheVariants as listed
 
 -- the bytes of a line of a listing
 abbrev pub line_bytes : Listed → List ℕ
@@ -193,10 +177,8 @@ byte_of image x b bytes low =
 place_case : (image : Image) (x : ℕ) (bytes : List ℕ) (a b : Bool) (o : Option ℕ) → nat_le 8 (length bytes) ≡ a
     → list_any (nat_eq x) image.relocs ≡ b →
     IfSome (cond (a && b) (option_map (λ target. (listed.Place target, 8)) o) None) (ItemOf image x bytes)
-place_case image x bytes true true None e f = tt
 place_case image x bytes true true (Some target) e f = place_of image x bytes target (grind (arith, nat_tests)) f
-place_case image x bytes true false o e f = tt
-place_case image x bytes false b o e f = tt
+place_case image x bytes c b o e f = tt
 
 label_case : (image : Image) (x : ℕ) (bytes : List ℕ) (i : Insn) (n : ℕ) (f o : Option ℕ) → IsBytes bytes → read bytes ≡ Ok (i, n) →
     (f ≡ None → o ≡ None) → ((r : ℕ) → f ≡ Some r → takes_label i ≡ true) → find (λ r. nat_eq (r + 8) (x + n)) image.relocs ≡ f

@@ -1,7 +1,6 @@
 -- Two places have two labels.
-use Rattle.std.proofs.Common.{◌≡◌, ℕ, ◌^◌, ◌<◌, Some, sym, ap, ◌∙◌, arith, drop}
-use Rattle.asm_text.specs.Names.{label_text}
-use Rattle.asm_text.specs.Numbers.{digits_from, hex_text}
+use Rattle.link_laws.proofs.Common.{◌≡◌, ℕ, ◌^◌, ◌<◌, Some, sym, ap, ◌∙◌, arith, drop, label_text, hex_text}
+use Rattle.asm_text.specs.Numbers.{digits_from}
 use Rattle.asm_text.proofs.Digits.{hex_read}
 
 same_some : (p q : ℕ) → Some p ≡ Some q → p ≡ q

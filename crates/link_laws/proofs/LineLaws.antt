@@ -1,20 +1,12 @@
 -- The text of a listing is the texts of its lines.
-use Rattle.std.proofs.Common.{◌≡◌, ℕ, List, [], ◌∷◌, ◌++◌, map, Some, true, not, ◌==◌}
-use Rattle.std.proofs.Common.{refl, ap, ◌∙◌, append_assoc, codes, All, unwrap_or}
-use Rattle.std.proofs.lemmas.List.Elements.{All-head, All-tail}
-use Rattle.std.proofs.lemmas.Bool.{and_from}
+use Rattle.link_laws.proofs.Common.{◌≡◌, ℕ, List, [], ◌∷◌, ◌++◌, map, Some, true, not, ◌==◌, refl, ap, ◌∙◌, append_assoc, codes, All}
+use Rattle.link_laws.proofs.Common.{All-head, All-tail, and_from, Listed, label_text, hex_text, ListedFits, listed_text, text_of}
+use Rattle.std.proofs.Common.{unwrap_or}
 use Rattle.std.proofs.lemmas.List.Folds.{list_all-append}
-use Rattle.asm_text.specs.declared.listing.Listed.{Listed}
-use Rattle.asm_text.specs.declared.listing.Listed.TheVariants as listed
-use Rattle.asm_text.specs.Names.{label_text}
-use Rattle.asm_text.specs.Numbers.{hex_text}
 use Rattle.asm_text.specs.Splits.{lacks, line_cut, lines_of}
-use Rattle.asm_text.specs.Writing.{ListedFits, listed_text}
-use Rattle.asm_text.proofs.Clean.{clean, clean_append, clean_hex, clean_lacks}
-use Rattle.asm_text.proofs.CleanLaws.{text_good}
-use Rattle.asm_text.proofs.Pieces.{until_first}
+use Rattle.asm_text.proofs.{Clean.clean, Clean.clean_append, Clean.clean_hex, Clean.clean_lacks, CleanLaws.text_good, Pieces.until_first}
 use Rattle.ebc_asm.proofs.SourceLaws.{next_lines}
-use Rattle.ebc_disasm.specs.Listings.{text_of}
+use Rattle.asm_text.specs.declared.listing.Listed.TheVariants as listed
 
 -- no line feed in what a clean text has
 no_feed : (t : List ℕ) → clean t ≡ true → lacks 10 t ≡ true

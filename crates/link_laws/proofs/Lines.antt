@@ -1,17 +1,10 @@
 -- What each line of the bytes of a section is: no heading, a label of the image where it names a place, and in data no instruction.
-use Rattle.std.proofs.Common.{◌≡◌, ℕ, ◌+◌, ◌^◌, ◌<◌, ◌≤◌, List, [], ◌∷◌, ◌++◌, length, Option, Some, Bool, true, false, cond}
-use Rattle.std.proofs.Common.{refl, arith, length-drop}
-use Rattle.std.specs.Prelude.{IfSome, nat_eq}
-use Rattle.std.specs.List.{AllByRecursion, list_any}
-use Rattle.ebc_base.proofs.Lists.{all_append}
-use Rattle.ebc_decode.proofs.Numbers.{IsBytes}
-use Rattle.asm_text.specs.declared.listing.Listed.{Listed}
-use Rattle.asm_text.specs.declared.listing.Listed.TheVariants as listed
-use Rattle.asm_text.specs.Writing.{ListedFits}
-use Rattle.pe_image.specs.declared.image.Image.{Image}
-use Rattle.ebc_disasm.specs.Listings.{item_at, label_lines, labels, lines_from}
+use Rattle.link_laws.proofs.Common.{◌≡◌, ℕ, ◌+◌, ◌^◌, ◌<◌, ◌≤◌, List, [], ◌∷◌, ◌++◌, length, Option, Some, Bool, true, false, cond, refl}
+use Rattle.link_laws.proofs.Common.{arith, length-drop, IfSome, nat_eq, AllByRecursion, list_any, all_append, IsBytes, Listed, ListedFits}
+use Rattle.link_laws.proofs.Common.{Image, item_at, label_lines, labels, lines_from}
 use Rattle.link_laws.proofs.Bodies.{AreLow, IsBody, IsLabelled, is_body, is_insn, item_body, item_in_data, takes_address, target_in}
 use Rattle.link_laws.proofs.Walks.{IsStep, walk}
+use Rattle.asm_text.specs.declared.listing.Listed.TheVariants as listed
 
 abbrev pub is_head : Listed → Bool
 is_head listed.Code = true

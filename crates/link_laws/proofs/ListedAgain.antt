@@ -1,14 +1,7 @@
 -- What the calls make of an image: the law of listings, at the object that was assembled.
-use Rattle.std.proofs.Common.{◌≡◌, ℕ, List, [], ◌∷◌, All, Ok, subst, sym, ◌∙◌, ap, arith}
-use Rattle.asm_text.specs.Names.{label_text}
-use Rattle.ebc_asm.specs.Sources.{object_of}
-use Rattle.ebc_disasm.specs.Listings.{listing_of}
-use Rattle.ebc_link.specs.Links.{links}
-use Rattle.ebc_link.specs.declared.plan.LinkPlan.{LinkPlan}
-use Rattle.ebc_object.specs.Objects.{IsObject}
-use Rattle.ebc_object.specs.declared.object.Object.{Object}
+use Rattle.link_laws.proofs.Common.{◌≡◌, ℕ, List, [], ◌∷◌, All, Ok, subst, sym, ◌∙◌, ap, arith, label_text, object_of, listing_of, links}
+use Rattle.link_laws.proofs.Common.{LinkPlan, IsObject, Object, Image}
 use Rattle.pe_image.specs.Files.{file_of}
-use Rattle.pe_image.specs.declared.image.Image.{Image}
 use Rattle.link_laws.proofs.Again.{lists_again}
 use Rattle.link_laws.specs.Laws.{IsListable}
 

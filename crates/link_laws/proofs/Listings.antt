@@ -1,42 +1,20 @@
 -- The listing of an image in the linker's layout: its lines, their texts, and the source that they are.
-use Rattle.std.proofs.Common.{◌≡◌, ℕ, ◌+◌, ◌-◌, ◌/◌, ◌%◌, ◌<◌, ◌≤◌, List, [], ◌∷◌, ◌++◌, length, map}
-use Rattle.std.proofs.Common.{Bool}
-use Rattle.std.proofs.Common.{codes, true, false, Ok, refl, sym, ap, subst, ◌∙◌, arith, append_assoc, append-nil, length-drop}
-use Rattle.std.specs.Prelude.{nat_eq}
-use Rattle.std.specs.List.{AllByRecursion, flat_map, list_any}
-use Rattle.std.proofs.lemmas.Bool.{or_from}
-use Rattle.std.proofs.lemmas.Bool.Decides.{nat_tests}
-use Rattle.std.proofs.lemmas.Grind.{flat_map-append}
-use Rattle.std.proofs.lemmas.List.{map-append}
-use Rattle.std.proofs.lemmas.List.Elements.{All-from_recursion}
-use Rattle.ebc_base.proofs.Lists.{all_append}
-use Rattle.ebc_base.specs.Steps.{◌>>=◌}
-use Rattle.ebc_decode.proofs.Numbers.{IsBytes}
-use Rattle.ebc_object.specs.Objects.{most}
-use Rattle.asm_text.specs.declared.listing.Listed.{Listed}
-use Rattle.asm_text.specs.declared.listing.Listed.TheVariants as listed
-use Rattle.asm_text.specs.Names.{label_text}
-use Rattle.asm_text.specs.Splits as splits
-use Rattle.asm_text.specs.Writing.{ListedFits, listed_line, listed_text}
-use Rattle.ebc_asm.specs.Pieces.{ends_in_data, section_of}
-use Rattle.ebc_asm.proofs.TakeLaws.{behind_ok}
-use Rattle.ebc_asm.specs.Sources.{behind, is_defined, lines_behind, object_in, object_of}
-use Rattle.ebc_asm.specs.Symbols.{is_labelled}
-use Rattle.pe_image.specs.declared.image.Image.{Image}
-use Rattle.pe_image.specs.Files.{next_place, rounded, zeros}
-use Rattle.pe_image.specs.Linked.{linked_sections, section_if, text_sections}
-use Rattle.ebc_disasm.specs.Listings.{heading, item_at, label_lines, labels, lines_from, lines_of, listing_of}
-use Rattle.ebc_disasm.specs.Listings.{section_lines, text_of}
-use Rattle.link_laws.proofs.LineLaws.{lines_again}
+use Rattle.link_laws.proofs.Common.{◌≡◌, ℕ, ◌+◌, ◌-◌, ◌/◌, ◌%◌, ◌<◌, ◌≤◌, List, [], ◌∷◌, ◌++◌, length, map, Bool, codes, true, false, Ok}
+use Rattle.link_laws.proofs.Common.{refl, sym, ap, subst, ◌∙◌, arith, append_assoc, append-nil, length-drop, nat_eq, AllByRecursion}
+use Rattle.link_laws.proofs.Common.{flat_map, list_any, or_from, nat_tests, flat_map-append, map-append, All-from_recursion, all_append}
+use Rattle.link_laws.proofs.Common.{◌>>=◌, IsBytes, most, Listed, label_text, ListedFits, listed_line, listed_text, ends_in_data}
+use Rattle.link_laws.proofs.Common.{section_of, behind_ok, behind, is_defined, lines_behind, object_in, object_of, is_labelled, Image}
+use Rattle.link_laws.proofs.Common.{next_place, rounded, zeros, linked_sections, section_if, text_sections, item_at, label_lines, labels}
+use Rattle.link_laws.proofs.Common.{lines_from, listing_of, text_of}
+use Rattle.ebc_disasm.specs.Listings.{heading, lines_of, section_lines}
 use Rattle.link_laws.proofs.PlaceLaws.{AreUncut, Splits, is_label_of, label_at, no_label, not_item}
-use Rattle.link_laws.proofs.Lists.{all_front, each_of, none_append}
-use Rattle.link_laws.proofs.SectionLaws.{bytes_of_lines, section_agrees}
-use Rattle.link_laws.proofs.Walks.{IsStep, walk}
-use Rattle.link_laws.proofs.Bodies.{AreLow, IsLabelled, takes_address}
-use Rattle.link_laws.proofs.Lines.{IsLine, is_head, lines_are}
-use Rattle.link_laws.proofs.Sources.{IsLowLabel, none_labelled, source}
 use Rattle.link_laws.proofs.Standing.{IsPlaced, code_stands, data_stands, placed_at}
 use Rattle.link_laws.proofs.Taken.{AreTaken, IsFresh, Stand, data_behind, defined_in, lines_taken, section_taken, stand_more, taken_append}
+use Rattle.link_laws.proofs.{LineLaws.lines_again, Lists.all_front, Lists.each_of, Lists.none_append, SectionLaws.bytes_of_lines}
+use Rattle.link_laws.proofs.{SectionLaws.section_agrees, Walks.IsStep, Walks.walk, Bodies.AreLow, Bodies.IsLabelled, Bodies.takes_address}
+use Rattle.link_laws.proofs.{Lines.IsLine, Lines.is_head, Lines.lines_are, Sources.IsLowLabel, Sources.none_labelled, Sources.source}
+use Rattle.asm_text.specs.declared.listing.Listed.TheVariants as listed
+use Rattle.asm_text.specs.Splits as splits
 
 -- ---- the lines of an image
 

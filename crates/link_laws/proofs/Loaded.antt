@@ -1,73 +1,37 @@
 -- An instruction of a source in the image that its object is linked to, loaded at a base.
-use Rattle.std.proofs.Common.{Bool, List, None, Ok, Option, Some, [], ap, append_assoc, arith, false, get_or, if◌then◌else◌, length}
-use Rattle.std.proofs.Common.{length-append, length-take-le, map, refl, replicate, subst, sym, take, true, ℕ, ℤ, ⊎_elim, ◌%◌}
-use Rattle.std.proofs.Common.{◌*◌, ◌++◌, ◌+◌, ◌-◌, ◌/◌, ◌<◌, ◌^◌, ◌∙◌, ◌∷◌, ◌≡◌, ◌≤◌}
-use Rattle.std.specs.Int.{to_le_bytes, w64}
-use Rattle.std.specs.List.{AllByRecursion, Contains}
-use Rattle.std.specs.Prelude.{All, AllPairs, codes, nat_eq, slice_get, bytes_eq}
-use Rattle.std.proofs.lemmas.Bool.{cases_lt}
-use Rattle.std.proofs.lemmas.Bool.Decides.{nat_tests}
-use Rattle.std.proofs.lemmas.List.{get_or-append-add, get_or-take, get_or_append_left, length-replicate, length-map}
-use Rattle.std.proofs.lemmas.List.Elements.{All-contains_itself, Contains-append_left, Contains-append_right, recursion_from_All}
-use Rattle.std.proofs.lemmas.Option.{get_or_from_slice_get, same_Some, slice_get_within, slice_get-get_or}
+use Rattle.link_laws.proofs.Common.{Bool, List, None, Ok, Option, Some, [], ap, append_assoc, arith, false, get_or, if◌then◌else◌, length}
+use Rattle.link_laws.proofs.Common.{length-append, length-take-le, map, refl, replicate, subst, sym, take, true, ℕ, ℤ, ⊎_elim, ◌%◌, ◌*◌}
+use Rattle.link_laws.proofs.Common.{◌++◌, ◌+◌, ◌-◌, ◌/◌, ◌<◌, ◌^◌, ◌∙◌, ◌∷◌, ◌≡◌, ◌≤◌, to_le_bytes, w64, AllByRecursion, Contains, All}
+use Rattle.link_laws.proofs.Common.{AllPairs, codes, nat_eq, bytes_eq, cases_lt, nat_tests, get_or-append-add, get_or-take}
+use Rattle.link_laws.proofs.Common.{get_or_append_left, length-replicate, length-map, recursion_from_All, same_Some, get_name, is_named}
+use Rattle.link_laws.proofs.Common.{name_number, WellFormed, spelling, Insn, little_endian-below, get_or-to_le_bytes, little_endian}
+use Rattle.link_laws.proofs.Common.{distance_of, signed_at, IsObject, width, Fixup, Object, Symbol, InsnFits, TakesName, Line}
+use Rattle.link_laws.proofs.Common.{file_sections, next_place, reloc_sections, rounded, IsBelow, IsLinked, linked_sections, section_if}
+use Rattle.link_laws.proofs.Common.{text_sections, AreBytes, is_of, laid, mapped, Image, Section, line_fits, AreFit, ends_of, known_in}
+use Rattle.link_laws.proofs.Common.{data_after, distance_kind, ends_in_data, immediate_size, insn_use, is_distance, section_of, use_of}
+use Rattle.link_laws.proofs.Common.{bytes_of, object_in, fixup_of, fixups_in, from_of, names_with, start, symbol_of, place_of, Laid}
+use Rattle.link_laws.proofs.Common.{laid_objects, place_in, Holds, Linked, number_at, LinkPlan, with_immediate}
+use Rattle.std.specs.Prelude.{slice_get}
+use Rattle.std.proofs.lemmas.List.Elements.{All-contains_itself, Contains-append_left, Contains-append_right}
+use Rattle.std.proofs.lemmas.Option.{get_or_from_slice_get, slice_get_within, slice_get-get_or}
 use Rattle.ebc_base.proofs.Lists.{found_within}
-use Rattle.ebc_asm.proofs.PlaceLaws.{get_name}
-use Rattle.ebc_base.specs.Tables.{is_named, name_number}
-use Rattle.ebc_insn.specs.Spelling.{WellFormed, spelling}
-use Rattle.ebc_insn.specs.declared.Insn.{Insn}
-use Rattle.ebc_width.proofs.ByteLaws.{little_endian-below}
-use Rattle.ebc_width.proofs.Numbers.{get_or-to_le_bytes}
-use Rattle.ebc_width.specs.Bytes.{little_endian, window}
-use Rattle.ebc_width.specs.Width.{distance_of, signed_at}
-use Rattle.ebc_decode.specs.Reading.{read}
-use Rattle.ebc_object.specs.Objects.{IsObject, width}
-use Rattle.ebc_object.specs.declared.object.Fixup.{Fixup}
-use Rattle.ebc_object.specs.declared.object.Object.{Object}
-use Rattle.ebc_object.specs.declared.object.Symbol.{Symbol}
-use Rattle.asm_text.specs.Instructions.{InsnFits, TakesName}
-use Rattle.asm_text.specs.Lines.{Line}
 use Rattle.pe_image.proofs.Laid.{IsLaid, laid-file}
-use Rattle.pe_image.specs.Files.{file_sections, next_place, reloc_sections, rounded}
-use Rattle.pe_image.specs.Images.{IsBelow}
-use Rattle.pe_image.specs.Linked.{IsLinked, linked_sections, section_if, text_sections}
-use Rattle.pe_image.specs.Mapped.{AreBytes, is_of, laid, mapped}
-use Rattle.pe_image.specs.declared.image.Image.{Image}
-use Rattle.pe_image.specs.declared.image.Section.{Section}
-use Rattle.ebc_asm.proofs.FitLaws.{line_fits}
-use Rattle.ebc_asm.proofs.FixupLaws.{AreFit}
-use Rattle.ebc_asm.proofs.LineLaws.{ends_of}
-use Rattle.ebc_asm.proofs.LineSteps.{known_in}
 use Rattle.ebc_asm.proofs.StateLaws.{KnowsUse}
-use Rattle.ebc_asm.specs.Pieces.{data_after, distance_kind, ends_in_data, immediate_size, insn_use, is_distance, section_of, use_of}
-use Rattle.ebc_asm.specs.Pieces.{bytes_of}
-use Rattle.ebc_asm.specs.Sources.{object_in}
-use Rattle.ebc_asm.specs.Symbols.{fixup_of, fixups_in, from_of, names_with, start, symbol_of}
-use Rattle.ebc_link.specs.Fixups.{place_of}
-use Rattle.ebc_link.specs.Layout.{Laid, laid_objects, place_in}
-use Rattle.ebc_link.specs.Linked.{Holds, Linked, number_at}
-use Rattle.ebc_link.specs.declared.plan.LinkPlan.{LinkPlan}
-use Rattle.link_laws.proofs.Apart.{laid_inside}
 use Rattle.link_laws.proofs.Beside.{IsAside, IsBeside, address_aside, all_beside, aside_free, before_number, ends_here, knows_back}
 use Rattle.link_laws.proofs.Beside.{line_byte, line_fixups, own_fixup}
-use Rattle.link_laws.proofs.Fitted.{insn_is_read}
-use Rattle.link_laws.proofs.Holding.{IsFar, holds_address, holds_distance}
-use Rattle.link_laws.proofs.Immediates.{TakesNumber, takes_number}
-use Rattle.link_laws.proofs.Lists.{each_of}
 use Rattle.link_laws.proofs.LoadedBytes.{decoded, mapped_free, mapped_moved, moved_address}
-use Rattle.link_laws.proofs.Relocs.{byte_of}
-use Rattle.link_laws.proofs.Sources.{ends_at, fixups_append, section_append}
-use Rattle.link_laws.specs.Loads.{IsDecoded, IsNumberBy, IsRead, IsResolved, LinkedLoads, NameStands, line_place, with_immediate}
+use Rattle.link_laws.proofs.{Apart.laid_inside, Fitted.insn_is_read, Holding.IsFar, Holding.holds_address, Holding.holds_distance}
+use Rattle.link_laws.proofs.{Immediates.TakesNumber, Immediates.takes_number, Lists.each_of, Relocs.byte_of, Sources.ends_at}
+use Rattle.link_laws.proofs.{Sources.fixups_append, Sources.section_append}
+use Rattle.link_laws.specs.Loads.{IsDecoded, IsNumberBy, IsRead, IsResolved, LinkedLoads, NameStands, line_place}
 use Rattle.ebc_insn.specs.declared.Insn.TheVariants as insns
 use Rattle.asm_text.specs.Statements as statements
 
 -- ---- an instruction with a number in place of a name
 
 size_small : (i : Insn) → immediate_size i ≤ 8
-size_small (insns.Jump8 c words) = omega arith
 size_small (insns.Jump c true relative o e) = omega arith
-size_small (insns.Jump c false relative o e) = omega arith
 size_small (insns.Call true native relative o e) = omega arith
-size_small (insns.Call false native relative o e) = omega arith
 size_small (insns.MoveRelative bits o x v) = by (nat_eq bits 16) (nat_eq bits 32)
   where
     by : (a b : Bool) → (if a then 2 else (if b then 4 else 8)) ≤ 8
@@ -77,11 +41,8 @@ size_small (insns.MoveRelative bits o x v) = by (nat_eq bits 16) (nat_eq bits 32
 size_small i = omega arith
 
 size_power : (i : Insn) → 256 ^ immediate_size i ≡ 2 ^ (8 * immediate_size i)
-size_power (insns.Jump8 c words) = refl
 size_power (insns.Jump c true relative o e) = refl
-size_power (insns.Jump c false relative o e) = refl
 size_power (insns.Call true native relative o e) = refl
-size_power (insns.Call false native relative o e) = refl
 size_power (insns.MoveRelative bits o x v) = by (nat_eq bits 16) (nat_eq bits 32)
   where
     by : (a b : Bool) → 256 ^ (if a then 2 else (if b then 4 else 8)) ≡ 2 ^ (8 * (if a then 2 else (if b then 4 else 8)))
@@ -204,60 +165,11 @@ address_size (insns.MoveImm size bits o x v) t h = refl
 address_size (insns.MoveRelative bits o x v) t h = cc h
 address_size i t h = absurd t
 
--- ---- an instruction without a name
-
--- What is known of a line with an instruction in the code of a linked object.
-record IsLine (objects : List Object) (plan : LinkPlan) (image : Image) (l : Laid) (front back : List Line) (line : Line) (i : Insn)
-    (name : Option (List ℕ)) : Type 0 where
-  linked : Linked objects plan image
-  all : All IsObject objects
-  bytes : AreBytes image
-  there : Contains (laid_objects objects) l
-  is : l.object ≡ object_in (front ++ line ∷ back)
-  fit : AreFit (front ++ line ∷ back)
-  statement : line.statement ≡ Some (statements.Instruction i name)
-  code : ends_in_data false front ≡ false
-
 abbrev before_line : List Line → List ℕ
 before_line front = section_of false false front
 
 abbrev behind_line : List Line → Line → List ℕ
 behind_line back line = section_of false (data_after false line.statement) back
-
-line_code : (objects : List Object) (plan : LinkPlan) (image : Image) (l : Laid) (front back : List Line) (line : Line) (i : Insn)
-    (name : Option (List ℕ)) → IsLine objects plan image l front back line i name
-    → l.object.code ≡ before_line front ++ (spelling i ++ behind_line back line)
-unfolding object_in section_of
-line_code objects plan image l front back line i name s =
-    let first : section_of false (ends_in_data false front) (line ∷ back) ≡ spelling i ++ behind_line back line =
-    ap (λ d. section_of false d (line ∷ back)) s.code ∙ ap (λ o. bytes_of o ++ behind_line back line) s.statement in
-    ap (λ (o : Object). o.code) s.is
-    ∙ (section_append false false front (line ∷ back) ∙ ap (λ bs. before_line front ++ bs) first)
-
-line_beside : (objects : List Object) (plan : LinkPlan) (image : Image) (l : Laid) (front back : List Line) (line : Line) (i : Insn)
-    (name : Option (List ℕ)) → IsLine objects plan image l front back line i name
-    → AllByRecursion (IsBeside (length (before_line front)) (length (spelling i))
-    (own_fixup (length (before_line front)) (names_with [] (front ++ line ∷ back)) i name)) l.object.fixups
-line_beside objects plan image l front back line i name s =
-    subst (λ (o : Object). AllByRecursion (IsBeside (length (before_line front)) (length (spelling i))
-    (own_fixup (length (before_line front)) (names_with [] (front ++ line ∷ back)) i name)) o.fixups) (sym s.is)
-    (all_beside front back line i name s.fit s.statement s.code)
-
-line_asides : (objects : List Object) (plan : LinkPlan) (image : Image) (l : Laid) (front back : List Line) (line : Line) (i : Insn)
-    (name : Option (List ℕ)) → IsLine objects plan image l front back line i name
-    → AllByRecursion (IsAside l (line_place l front) (length (spelling i))
-    (own_fixup (length (before_line front)) (names_with [] (front ++ line ∷ back)) i name)) image.relocs
-line_asides objects plan image l front back line i name s =
-    let off : ℕ = length (before_line front) in
-    let n : ℕ = length (spelling i) in
-    let this : Option Fixup = own_fixup off (names_with [] (front ++ line ∷ back)) i name in
-    let long = ap length (line_code objects plan image l front back line i name s) in
-    let a = length-append (before_line front) (spelling i ++ behind_line back line) in
-    let b = length-append (spelling i) (behind_line back line) in
-    each_of (λ x. Contains image.relocs x) (IsAside l (line_place l front) n this) image.relocs
-    (λ x there. address_aside objects l off n x this s.all s.there (omega (arith, long, a, b))
-    (line_beside objects plan image l front back line i name s) ((s.linked.relocs x).0 there))
-    (recursion_from_All (λ x. Contains image.relocs x) image.relocs (All-contains_itself image.relocs))
 
 -- sections that follow each other end behind the place where they begin
 next_from : (place : ℕ) (ss : List Section) → IsLaid place ss → place ≤ next_place ss place
@@ -284,111 +196,6 @@ image_above image text contents linked is =
     ap (λ ss. ss ++ relocs) is ∙ append_assoc (text_sections text) data_ relocs in
     subst (λ ss. 0x1000 + length text ≤ next_place ss 0x1000) (sym parts)
     (above_by image text (data_ ++ relocs) (subst (IsLaid 0x1000) parts (laid-file image linked)))
-
--- the image has the whole line
-line_inside : (objects : List Object) (plan : LinkPlan) (image : Image) (l : Laid) (front back : List Line) (line : Line) (i : Insn)
-    (name : Option (List ℕ)) → IsLine objects plan image l front back line i name
-    → line_place l front + length (spelling i) ≤ image.size
-line_inside objects plan image l front back line i name s =
-    let long = ap length (line_code objects plan image l front back line i name s) in
-    let a = length-append (before_line front) (spelling i ++ behind_line back line) in
-    let b = length-append (spelling i) (behind_line back line) in
-    let inside = laid_inside objects l s.there in
-    let to = inside.code_to in
-    let layout = s.linked.layout in
-    let text : List ℕ = layout.sections.0 in
-    let contents : List ℕ = layout.sections.1 in
-    let ends = (s.linked.ends text contents layout.sections.2).0 in
-    let size = layout.size in
-    let above = image_above image text contents layout layout.sections.2 in
-    omega (arith, long, a, b, to, ends, size, above)
-
-plain_loads : (objects : List Object) (plan : LinkPlan) (image : Image) (base : ℕ) (l : Laid) (front back : List Line) (line : Line)
-    (i : Insn)
-    → IsLine objects plan image l front back line i None → WellFormed i
-    → read (window (mapped image base) (line_place l front) (image.size - line_place l front)) ≡ Ok (i, length (spelling i))
-plain_loads objects plan image base l front back line i s well =
-    let p : ℕ = line_place l front in
-    let n : ℕ = length (spelling i) in
-    decoded (mapped image base) p image.size i well (line_inside objects plan image l front back line i None s)
-    (λ k low.
-    mapped_free image base (p + k)
-    (each_of (IsAside l p n None) (λ r. is_of (p + k) r ≡ false) image.relocs (λ r h. aside_free l p n k r low h)
-    (line_asides objects plan image l front back line i None s))
-    ∙ line_byte objects plan image l (before_line front) (spelling i) (behind_line back line) n k None s.linked s.there
-    (line_code objects plan image l front back line i None s) (line_beside objects plan image l front back line i None s) low (omega arith)
-    (λ f e. cc e))
-
--- ---- an instruction with a name
-
--- What the fixup of a line says: the symbol of the name, its place, and what the fixup holds.
-record IsNamedLine (objects : List Object) (plan : LinkPlan) (image : Image) (l : Laid) (front back : List Line) (line : Line) (i : Insn)
-    (name : List ℕ) : Type 0 where
-  line_ : IsLine objects plan image l front back line i (Some name)
-  place : ℕ
-  stands : NameStands (laid_objects objects) l name place
-  holds : Holds plan.base image l
-      (fixup_of false (length (before_line front)) (names_with [] (front ++ line ∷ back)) (insn_use i name)) place
-
-named_line : (objects : List Object) (plan : LinkPlan) (image : Image) (l : Laid) (front back : List Line) (line : Line) (i : Insn)
-    (name : List ℕ)
-    → IsLine objects plan image l front back line i (Some name) → IsNamedLine objects plan image l front back line i name
-named_line objects plan image l front back line i name s =
-    let off : ℕ = length (before_line front) in
-    let names : List (List ℕ) = names_with [] (front ++ line ∷ back) in
-    let f : Fixup = fixup_of false off names (insn_use i name) in
-    let o : Object = object_in (front ++ line ∷ back) in
-    let its : Contains l.object.fixups f = subst (λ (x : Object). Contains x.fixups f) (sym s.is)
-    (own_there front back line i name s.statement s.code) in
-    let filled = s.linked.fixups l f s.there its in
-    let found : slice_get o.symbols f.symbol ≡ Some filled.0 = subst (λ
-    (x : Object). slice_get x.symbols f.symbol ≡ Some filled.0) s.is filled.2 in
-    let symbol = own_symbol front back line i name filled.0 s.statement found in
-    let member : Contains l.object.symbols filled.0 = subst (λ (x : Object). Contains x.symbols filled.0) (sym s.is) symbol.1 in
-    record { line_ = s; place = filled.1; stands = (filled.0, member, symbol.0, filled.3); holds = filled.4 }
-
--- the front of its bytes
-front_bytes : (objects : List Object) (plan : LinkPlan) (image : Image) (base : ℕ) (l : Laid) (front back : List Line) (line : Line)
-    (i : Insn)
-    (name : List ℕ) (t : TakesNumber i) → IsLine objects plan image l front back line i (Some name)
-    → (k : ℕ) → k < length t.front → mapped image base (line_place l front + k) ≡ get_or (spelling i) k 0
-front_bytes objects plan image base l front back line i name t s k low =
-    let off : ℕ = length (before_line front) in
-    let p : ℕ = line_place l front in
-    let n : ℕ = length (spelling i) in
-    let size : ℕ = immediate_size i in
-    let names : List (List ℕ) = names_with [] (front ++ line ∷ back) in
-    let this : Option Fixup = own_fixup off names i (Some name) in
-    let zeros_ : length {A = ℕ} (replicate size 0) ≡ size = length-replicate size 0 in
-    let both = length-append t.front (replicate size 0) in
-    let whole = ap length t.zeros in
-    let at : (f : Fixup) → this ≡ Some f → off + length t.front ≤ f.offset = λ f e.
-    let same : fixup_of false off names (insn_use i name) ≡ f = same_Some (fixup_of false off names (insn_use i name)) f e in
-    let offset : off + (n - size) ≡ f.offset = ap (λ (x : Fixup). x.offset) same in
-    omega (arith, offset, zeros_, both, whole) in
-    mapped_free image base (p + k)
-    (each_of (IsAside l p n this) (λ r. is_of (p + k) r ≡ false) image.relocs
-    (λ r h. before_number l p off n (length t.front) k r this h refl low (omega (arith, zeros_, both, whole)) at)
-    (line_asides objects plan image l front back line i (Some name) s))
-    ∙ line_byte objects plan image l (before_line front) (spelling i) (behind_line back line) (length t.front) k this s.linked s.there
-    (line_code objects plan image l front back line i (Some name) s) (line_beside objects plan image l front back line i (Some name) s) low
-    (omega (arith, zeros_, both, whole)) at
-
--- what was decoded is the instruction with this number
-number_loads : (objects : List Object) (plan : LinkPlan) (image : Image) (base : ℕ) (l : Laid) (front back : List Line) (line : Line)
-    (i : Insn)
-    (name : List ℕ) (t : TakesNumber i) (m : ℕ) → IsLine objects plan image l front back line i (Some name) → m < 2 ^ (8 * immediate_size i)
-    → ((k : ℕ) → k < immediate_size i → mapped image base (line_place l front + length t.front + k) ≡ m / 256 ^ k % 256)
-    → read (window (mapped image base) (line_place l front) (image.size - line_place l front))
-    ≡ Ok (with_immediate i (signed_at (8 * immediate_size i) m), length (spelling i))
-number_loads objects plan image base l front back line i name t m s small number =
-    let p : ℕ = line_place l front in
-    let j : Insn = with_immediate i (signed_at (8 * immediate_size i) m) in
-    let long : length (spelling j) ≡ length (spelling i) = with_length i t m small in
-    let inside = line_inside objects plan image l front back line i (Some name) s in
-    decoded (mapped image base) p image.size j (t.fits m small) (omega (arith, long, inside))
-    (with_number i t (mapped image base) p m small (front_bytes objects plan image base l front back line i name t s) number)
-    ∙ ap (λ n. Ok (j, n)) long
 
 -- the number of a fixup that fills in a distance
 distance_bytes : (image : Image) (base r size k : ℕ) → AreBytes image → k < size
@@ -422,46 +229,6 @@ number_place l front names i name t =
     let whole = ap length t.zeros in
     omega (arith, zeros_, both, whole)
 
--- ---- a name in an instruction
-
-address_loads : (objects : List Object) (plan : LinkPlan) (image : Image) (base : ℕ) (l : Laid) (front back : List Line) (line : Line)
-    (i : Insn)
-    (name : List ℕ) → IsNamedLine objects plan image l front back line i name → TakesNumber i → TakesName i → is_distance i ≡ false
-    → (j : Insn) × IsResolved (laid_objects objects) l base (line_place l front + length (spelling i)) i (Some name) j
-    × (read (window (mapped image base) (line_place l front) (image.size - line_place l front)) ≡ Ok (j, length (spelling i)))
-address_loads objects plan image base l front back line i name nl t takes near =
-    let s = nl.line_ in
-    let names : List (List ℕ) = names_with [] (front ++ line ∷ back) in
-    let f : Fixup = fixup_of false (length (before_line front)) names (insn_use i name) in
-    let eight : immediate_size i ≡ 8 = address_size i takes near in
-    let five : f.kind ≡ 5 = ap (λ b. if b then distance_kind (immediate_size i) else 5) near in
-    let r : ℕ = line_place l front + length t.front in
-    let at : place_of l.home f ≡ r = number_place l front names i name t in
-    let its : Contains l.object.fixups f = subst (λ (x : Object). Contains x.fixups f) (sym s.is)
-    (own_there front back line i name s.statement s.code) in
-    let there : Contains image.relocs r = (s.linked.relocs r).1 (l, f, s.there, its, five, sym at) in
-    let base_is = s.linked.base in
-    let number : number_at image r 8 ≡ image.base + nl.place =
-    ap (λ x. number_at image x 8) (sym at) ∙ (holds_address plan.base image l f nl.place five nl.holds
-    ∙ ap (λ x. x + nl.place) (sym base_is)) in
-    let m : ℕ = (base + nl.place) % 2 ^ 64 in
-    let small : m < 2 ^ (8 * immediate_size i) = rw eight (omega arith) in
-    let v : ℤ = signed_at (8 * immediate_size i) m in
-    let v_is : v ≡ signed_at 64 m = ap (λ n. signed_at (8 * n) m) eight in (
-      with_immediate i v,
-      (
-        nl.place,
-        v,
-        nl.stands,
-        subst (λ b. IsNumberBy b i base (line_place l front + length (spelling i)) nl.place v)
-            (sym near) v_is,
-        refl,
-      ),
-      number_loads objects plan image base l front back line i name t m s small
-          (λ k low. address_bytes image base nl.place r k s.bytes s.linked.layout.base s.linked.layout.apart there number (omega
-          (arith, low, eight))),
-    )
-
 aside_distance : (l : Laid) (p n r size k x : ℕ) (f : Fixup) → IsAside l p n (Some f) x → f.kind ≤ 4 → p ≤ r → r + size ≤ p + n → k < size
     → is_of (r + k) x ≡ false
 aside_distance l p n r size k x f aside four from to low = ⊎_elim
@@ -480,71 +247,233 @@ few_kinds i = by (nat_eq (immediate_size i) 1) (nat_eq (immediate_size i) 2) (na
     by false false true = omega arith
     by false false false = omega arith
 
-distance_loads : (objects : List Object) (plan : LinkPlan) (image : Image) (base : ℕ) (l : Laid) (front back : List Line) (line : Line)
-    (i : Insn)
-    (name : List ℕ) → IsNamedLine objects plan image l front back line i name → TakesNumber i → is_distance i ≡ true
-    → (j : Insn) × IsResolved (laid_objects objects) l base (line_place l front + length (spelling i)) i (Some name) j
-    × (read (window (mapped image base) (line_place l front) (image.size - line_place l front)) ≡ Ok (j, length (spelling i)))
-distance_loads objects plan image base l front back line i name nl t far =
-    let s = nl.line_ in
-    let off : ℕ = length (before_line front) in
-    let p : ℕ = line_place l front in
-    let n : ℕ = length (spelling i) in
-    let size : ℕ = immediate_size i in
-    let names : List (List ℕ) = names_with [] (front ++ line ∷ back) in
-    let f : Fixup = fixup_of false off names (insn_use i name) in
-    let kind : f.kind ≡ distance_kind size = ap (λ b. if b then distance_kind size else 5) far in
-    let from : f.from ≡ off + n = ap (λ b. from_of off (if b then Some n else None)) far in
-    let four : f.kind ≤ 4 = let few = few_kinds i in omega (arith, kind, few) in
-    let wide : width f.kind ≡ size = ap width kind ∙ kind_width i far in
-    let r : ℕ = p + length t.front in
-    let at : place_of l.home f ≡ r = number_place l front names i name t in
-    let next : place_in l.home f.section f.from ≡ p + n = ap (λ x. l.home.code + x) from ∙ omega arith in
-    let m : ℕ = number_at image r size in
-    let v : ℤ = signed_at (8 * size) m in
-    let distance : IsFar image nl.place (p + n) r size =
-    subst (λ k. IsFar image nl.place (p + n) r k) wide
-    (subst (λ x. IsFar image nl.place (p + n) x (width f.kind)) at
-    (subst (λ x. IsFar image nl.place x (place_of l.home f) (width f.kind)) next
-    (holds_distance plan.base image l f nl.place four nl.holds))) in
-    let below : m < 256 ^ size = little_endian-below (laid image.sections) r size s.bytes in
-    let power : 256 ^ size ≡ 2 ^ (8 * size) = size_power i in
-    let small : m < 2 ^ (8 * size) = subst (λ k. m < k) power below in
-    let zeros_ : length {A = ℕ} (replicate size 0) ≡ size = length-replicate size 0 in
-    let both = length-append t.front (replicate size 0) in
-    let whole = ap length t.zeros in (
-      with_immediate i v,
-      (nl.place, v, nl.stands, subst (λ b. IsNumberBy b i base (p + n) nl.place v) (sym far) distance, refl),
-      number_loads objects plan image base l front back line i name t m s small
-          (λ k low. distance_bytes image base r size k s.bytes low
-          (each_of (IsAside l p n (Some f)) (λ x. is_of (r + k) x ≡ false) image.relocs
-          (λ x h. aside_distance l p n r size k x f h four (omega arith) (omega (arith, zeros_, both, whole)) low)
-          (line_asides objects plan image l front back line i (Some name) s))),
-    )
+module _ (objects : List Object) (plan : LinkPlan) (image : Image) (l : Laid) (front back : List Line) (line : Line) (i : Insn) where
+  -- ---- an instruction without a name
 
--- ---- together
+  -- What is known of a line with an instruction in the code of a linked object.
+  record IsLine (name : Option (List ℕ)) : Type 0 where
+    linked : Linked objects plan image
+    all : All IsObject objects
+    bytes : AreBytes image
+    there : Contains (laid_objects objects) l
+    is : l.object ≡ object_in (front ++ line ∷ back)
+    fit : AreFit (front ++ line ∷ back)
+    statement : line.statement ≡ Some (statements.Instruction i name)
+    code : ends_in_data false front ≡ false
 
-named_loads : (objects : List Object) (plan : LinkPlan) (image : Image) (base : ℕ) (l : Laid) (front back : List Line) (line : Line)
-    (i : Insn)
-    (name : List ℕ) → IsNamedLine objects plan image l front back line i name → TakesNumber i → TakesName i → (far : Bool)
-    → is_distance i ≡ far
-    → (j : Insn) × IsResolved (laid_objects objects) l base (line_place l front + length (spelling i)) i (Some name) j
-    × IsDecoded image base (line_place l front) j (length (spelling i))
-named_loads objects plan image base l front back line i name nl t takes true far = distance_loads objects plan image base l front back line
-    i name nl t far
-named_loads objects plan image base l front back line i name nl t takes false near =
-    address_loads objects plan image base l front back line i name nl t takes near
+  -- its fixup, if a name stands in it
+  abbrev its_fixup : Option (List ℕ) → Option Fixup
+  its_fixup name = own_fixup (length (before_line front)) (names_with [] (front ++ line ∷ back)) i name
 
-line_loads : (objects : List Object) (plan : LinkPlan) (image : Image) (base : ℕ) (l : Laid) (front back : List Line) (line : Line)
-    (i : Insn)
-    (name : Option (List ℕ)) → IsLine objects plan image l front back line i name → InsnFits (i, name)
-    → (j : Insn) × IsResolved (laid_objects objects) l base (line_place l front + length (spelling i)) i name j
-    × IsDecoded image base (line_place l front) j (length (spelling i))
-line_loads objects plan image base l front back line i None s fits =
-    (i, refl, plain_loads objects plan image base l front back line i s fits.0)
-line_loads objects plan image base l front back line i (Some name) s fits =
-    named_loads objects plan image base l front back line i name (named_line objects plan image l front back line i name s)
-    (takes_number i fits.0 fits.1.0) fits.1.0 (is_distance i) refl
+  -- it is decoded, with its name resolved
+  abbrev IsLoaded : ℕ → Option (List ℕ) → Type 0
+  IsLoaded base name = (j : Insn) × IsResolved (laid_objects objects) l base (line_place l front + length (spelling i)) i name j
+      × IsDecoded image base (line_place l front) j (length (spelling i))
+
+  line_code : (name : Option (List ℕ)) → IsLine name → l.object.code ≡ before_line front ++ (spelling i ++ behind_line back line)
+  unfolding object_in section_of
+  line_code name s =
+      let first : section_of false (ends_in_data false front) (line ∷ back) ≡ spelling i ++ behind_line back line =
+      ap (λ d. section_of false d (line ∷ back)) s.code ∙ ap (λ o. bytes_of o ++ behind_line back line) s.statement in
+      ap (λ (o : Object). o.code) s.is
+      ∙ (section_append false false front (line ∷ back) ∙ ap (λ bs. before_line front ++ bs) first)
+
+  line_beside : (name : Option (List ℕ)) → IsLine name
+      → AllByRecursion (IsBeside (length (before_line front)) (length (spelling i)) (its_fixup name)) l.object.fixups
+  line_beside name s =
+      subst (λ (o : Object). AllByRecursion (IsBeside (length (before_line front)) (length (spelling i))
+      (its_fixup name)) o.fixups) (sym s.is)
+      (all_beside front back line i name s.fit s.statement s.code)
+
+  line_asides : (name : Option (List ℕ)) → IsLine name
+      → AllByRecursion (IsAside l (line_place l front) (length (spelling i)) (its_fixup name)) image.relocs
+  line_asides name s =
+      let off : ℕ = length (before_line front) in
+      let n : ℕ = length (spelling i) in
+      let this : Option Fixup = its_fixup name in
+      let long = ap length (line_code name s) in
+      let a = length-append (before_line front) (spelling i ++ behind_line back line) in
+      let b = length-append (spelling i) (behind_line back line) in
+      each_of (λ x. Contains image.relocs x) (IsAside l (line_place l front) n this) image.relocs
+      (λ x there. address_aside objects l off n x this s.all s.there (omega (arith, long, a, b)) (line_beside name s)
+      ((s.linked.relocs x).0 there))
+      (recursion_from_All (λ x. Contains image.relocs x) image.relocs (All-contains_itself image.relocs))
+
+  -- the image has the whole line
+  line_inside : (name : Option (List ℕ)) → IsLine name → line_place l front + length (spelling i) ≤ image.size
+  line_inside name s =
+      let long = ap length (line_code name s) in
+      let a = length-append (before_line front) (spelling i ++ behind_line back line) in
+      let b = length-append (spelling i) (behind_line back line) in
+      let inside = laid_inside objects l s.there in
+      let to = inside.code_to in
+      let layout = s.linked.layout in
+      let text : List ℕ = layout.sections.0 in
+      let contents : List ℕ = layout.sections.1 in
+      let ends = (s.linked.ends text contents layout.sections.2).0 in
+      let size = layout.size in
+      let above = image_above image text contents layout layout.sections.2 in
+      omega (arith, long, a, b, to, ends, size, above)
+
+  plain_loads : (base : ℕ) → IsLine None → WellFormed i → IsDecoded image base (line_place l front) i (length (spelling i))
+  plain_loads base s well =
+      let p : ℕ = line_place l front in
+      let n : ℕ = length (spelling i) in
+      decoded (mapped image base) p image.size i well (line_inside None s)
+      (λ k low.
+      mapped_free image base (p + k)
+      (each_of (IsAside l p n None) (λ r. is_of (p + k) r ≡ false) image.relocs (λ r h. aside_free l p n k r low h)
+      (line_asides None s))
+      ∙ line_byte objects plan image l (before_line front) (spelling i) (behind_line back line) n k None s.linked s.there
+      (line_code None s) (line_beside None s) low (omega arith) (λ f e. cc e))
+
+  -- ---- an instruction with a name
+
+  -- What the fixup of a line says: the symbol of the name, its place, and what the fixup holds.
+  record IsNamedLine (name : List ℕ) : Type 0 where
+    line_ : IsLine (Some name)
+    place : ℕ
+    stands : NameStands (laid_objects objects) l name place
+    holds : Holds plan.base image l
+        (fixup_of false (length (before_line front)) (names_with [] (front ++ line ∷ back)) (insn_use i name)) place
+
+  named_line : (name : List ℕ) → IsLine (Some name) → IsNamedLine name
+  named_line name s =
+      let off : ℕ = length (before_line front) in
+      let names : List (List ℕ) = names_with [] (front ++ line ∷ back) in
+      let f : Fixup = fixup_of false off names (insn_use i name) in
+      let o : Object = object_in (front ++ line ∷ back) in
+      let its : Contains l.object.fixups f = subst (λ (x : Object). Contains x.fixups f) (sym s.is)
+      (own_there front back line i name s.statement s.code) in
+      let filled = s.linked.fixups l f s.there its in
+      let found : slice_get o.symbols f.symbol ≡ Some filled.0 = subst (λ
+      (x : Object). slice_get x.symbols f.symbol ≡ Some filled.0) s.is filled.2 in
+      let symbol = own_symbol front back line i name filled.0 s.statement found in
+      let member : Contains l.object.symbols filled.0 = subst (λ (x : Object). Contains x.symbols filled.0) (sym s.is) symbol.1 in
+      record { line_ = s; place = filled.1; stands = (filled.0, member, symbol.0, filled.3); holds = filled.4 }
+
+  -- the front of its bytes
+  front_bytes : (base : ℕ) (name : List ℕ) (t : TakesNumber i) → IsLine (Some name) → (k : ℕ) → k < length t.front
+      → mapped image base (line_place l front + k) ≡ get_or (spelling i) k 0
+  front_bytes base name t s k low =
+      let off : ℕ = length (before_line front) in
+      let p : ℕ = line_place l front in
+      let n : ℕ = length (spelling i) in
+      let size : ℕ = immediate_size i in
+      let names : List (List ℕ) = names_with [] (front ++ line ∷ back) in
+      let this : Option Fixup = its_fixup (Some name) in
+      let zeros_ : length {A = ℕ} (replicate size 0) ≡ size = length-replicate size 0 in
+      let both = length-append t.front (replicate size 0) in
+      let whole = ap length t.zeros in
+      let at : (f : Fixup) → this ≡ Some f → off + length t.front ≤ f.offset = λ f e.
+      let same : fixup_of false off names (insn_use i name) ≡ f = same_Some (fixup_of false off names (insn_use i name)) f e in
+      let offset : off + (n - size) ≡ f.offset = ap (λ (x : Fixup). x.offset) same in
+      omega (arith, offset, zeros_, both, whole) in
+      mapped_free image base (p + k)
+      (each_of (IsAside l p n this) (λ r. is_of (p + k) r ≡ false) image.relocs
+      (λ r h. before_number l p off n (length t.front) k r this h refl low (omega (arith, zeros_, both, whole)) at)
+      (line_asides (Some name) s))
+      ∙ line_byte objects plan image l (before_line front) (spelling i) (behind_line back line) (length t.front) k this s.linked s.there
+      (line_code (Some name) s) (line_beside (Some name) s) low (omega (arith, zeros_, both, whole)) at
+
+  -- what was decoded is the instruction with this number
+  number_loads : (base : ℕ) (name : List ℕ) (t : TakesNumber i) (m : ℕ) → IsLine (Some name) → m < 2 ^ (8 * immediate_size i)
+      → ((k : ℕ) → k < immediate_size i → mapped image base (line_place l front + length t.front + k) ≡ m / 256 ^ k % 256)
+      → IsDecoded image base (line_place l front) (with_immediate i (signed_at (8 * immediate_size i) m)) (length (spelling i))
+  number_loads base name t m s small number =
+      let p : ℕ = line_place l front in
+      let j : Insn = with_immediate i (signed_at (8 * immediate_size i) m) in
+      let long : length (spelling j) ≡ length (spelling i) = with_length i t m small in
+      let inside = line_inside (Some name) s in
+      decoded (mapped image base) p image.size j (t.fits m small) (omega (arith, long, inside))
+      (with_number i t (mapped image base) p m small (front_bytes base name t s) number)
+      ∙ ap (λ n. Ok (j, n)) long
+
+  -- ---- a name in an instruction
+
+  address_loads : (base : ℕ) (name : List ℕ) → IsNamedLine name → TakesNumber i → TakesName i → is_distance i ≡ false
+      → IsLoaded base (Some name)
+  address_loads base name nl t takes near =
+      let s = nl.line_ in
+      let names : List (List ℕ) = names_with [] (front ++ line ∷ back) in
+      let f : Fixup = fixup_of false (length (before_line front)) names (insn_use i name) in
+      let eight : immediate_size i ≡ 8 = address_size i takes near in
+      let five : f.kind ≡ 5 = ap (λ b. if b then distance_kind (immediate_size i) else 5) near in
+      let r : ℕ = line_place l front + length t.front in
+      let at : place_of l.home f ≡ r = number_place l front names i name t in
+      let its : Contains l.object.fixups f = subst (λ (x : Object). Contains x.fixups f) (sym s.is)
+      (own_there front back line i name s.statement s.code) in
+      let there : Contains image.relocs r = (s.linked.relocs r).1 (l, f, s.there, its, five, sym at) in
+      let base_is = s.linked.base in
+      let number : number_at image r 8 ≡ image.base + nl.place =
+      ap (λ x. number_at image x 8) (sym at) ∙ (holds_address plan.base image l f nl.place five nl.holds
+      ∙ ap (λ x. x + nl.place) (sym base_is)) in
+      let m : ℕ = (base + nl.place) % 2 ^ 64 in
+      let small : m < 2 ^ (8 * immediate_size i) = rw eight (omega arith) in
+      let v : ℤ = signed_at (8 * immediate_size i) m in
+      let v_is : v ≡ signed_at 64 m = ap (λ n. signed_at (8 * n) m) eight in (
+        with_immediate i v,
+        (
+          nl.place,
+          v,
+          nl.stands,
+          subst (λ b. IsNumberBy b i base (line_place l front + length (spelling i)) nl.place v) (sym near) v_is,
+          refl,
+        ),
+        number_loads base name t m s small
+            (λ k low. address_bytes image base nl.place r k s.bytes s.linked.layout.base s.linked.layout.apart there number (omega
+            (arith, low, eight))),
+      )
+
+  distance_loads : (base : ℕ) (name : List ℕ) → IsNamedLine name → TakesNumber i → is_distance i ≡ true → IsLoaded base (Some name)
+  distance_loads base name nl t far =
+      let s = nl.line_ in
+      let off : ℕ = length (before_line front) in
+      let p : ℕ = line_place l front in
+      let n : ℕ = length (spelling i) in
+      let size : ℕ = immediate_size i in
+      let names : List (List ℕ) = names_with [] (front ++ line ∷ back) in
+      let f : Fixup = fixup_of false off names (insn_use i name) in
+      let kind : f.kind ≡ distance_kind size = ap (λ b. if b then distance_kind size else 5) far in
+      let from : f.from ≡ off + n = ap (λ b. from_of off (if b then Some n else None)) far in
+      let four : f.kind ≤ 4 = let few = few_kinds i in omega (arith, kind, few) in
+      let wide : width f.kind ≡ size = ap width kind ∙ kind_width i far in
+      let r : ℕ = p + length t.front in
+      let at : place_of l.home f ≡ r = number_place l front names i name t in
+      let next : place_in l.home f.section f.from ≡ p + n = ap (λ x. l.home.code + x) from ∙ omega arith in
+      let m : ℕ = number_at image r size in
+      let v : ℤ = signed_at (8 * size) m in
+      let distance : IsFar image nl.place (p + n) r size =
+      subst (λ k. IsFar image nl.place (p + n) r k) wide
+      (subst (λ x. IsFar image nl.place (p + n) x (width f.kind)) at
+      (subst (λ x. IsFar image nl.place x (place_of l.home f) (width f.kind)) next
+      (holds_distance plan.base image l f nl.place four nl.holds))) in
+      let below : m < 256 ^ size = little_endian-below (laid image.sections) r size s.bytes in
+      let power : 256 ^ size ≡ 2 ^ (8 * size) = size_power i in
+      let small : m < 2 ^ (8 * size) = subst (λ k. m < k) power below in
+      let zeros_ : length {A = ℕ} (replicate size 0) ≡ size = length-replicate size 0 in
+      let both = length-append t.front (replicate size 0) in
+      let whole = ap length t.zeros in (
+        with_immediate i v,
+        (nl.place, v, nl.stands, subst (λ b. IsNumberBy b i base (p + n) nl.place v) (sym far) distance, refl),
+        number_loads base name t m s small
+            (λ k low. distance_bytes image base r size k s.bytes low
+            (each_of (IsAside l p n (Some f)) (λ x. is_of (r + k) x ≡ false) image.relocs
+            (λ x h. aside_distance l p n r size k x f h four (omega arith) (omega (arith, zeros_, both, whole)) low)
+            (line_asides (Some name) s))),
+      )
+
+  -- ---- together
+
+  named_loads : (base : ℕ) (name : List ℕ) → IsNamedLine name → TakesNumber i → TakesName i → (far : Bool) → is_distance i ≡ far
+      → IsLoaded base (Some name)
+  named_loads base name nl t takes true far = distance_loads base name nl t far
+  named_loads base name nl t takes false near = address_loads base name nl t takes near
+
+  line_loads : (base : ℕ) (name : Option (List ℕ)) → IsLine name → InsnFits (i, name) → IsLoaded base name
+  line_loads base None s fits = (i, refl, plain_loads base s fits.0)
+  line_loads base (Some name) s fits = named_loads base name (named_line name s) (takes_number i fits.0 fits.1.0) fits.1.0 (is_distance i)
+      refl
 
 are_fit : (ls : List Line) → AllByRecursion IsRead ls → AreFit ls
 are_fit [] all = tt
@@ -558,7 +487,7 @@ pub linked_loads : LinkedLoads
 linked_loads objects plan image base l front back line i name linked bytes all there is read_ statement code =
     let each : AllByRecursion IsRead (front ++ line ∷ back) = recursion_from_All IsRead (front ++ line ∷ back) read_ in
     let here : IsRead line = read_here front back line each in
-    line_loads objects plan image base l front back line i name (record {
+    line_loads objects plan image l front back line i base name (record {
       linked = linked;
       all = all;
       bytes = bytes;

@@ -1,22 +1,12 @@
 -- The bytes of an image that is loaded at a base, and what is decoded there.
-use Rattle.std.proofs.Common.{List, Ok, Some, [], ap, arith, cond, false, get_or, length, subst, suc, sym, true, zero, ℕ, ◌%◌, ◌++◌, ◌+◌}
-use Rattle.std.proofs.Common.{◌-◌, ◌/◌, ◌<◌, ◌^◌, ◌∙◌, ◌∷◌, ◌≡◌, ◌≤◌}
-use Rattle.std.specs.List.{AllByRecursion, Contains, find}
+use Rattle.link_laws.proofs.Common.{List, Ok, Some, [], ap, arith, cond, false, get_or, length, subst, suc, sym, true, zero, ℕ, ◌%◌, ◌++◌}
+use Rattle.link_laws.proofs.Common.{◌+◌, ◌-◌, ◌/◌, ◌<◌, ◌^◌, ◌∙◌, ◌∷◌, ◌≡◌, ◌≤◌, AllByRecursion, Contains, find, AllPairs, nat_tests}
+use Rattle.link_laws.proofs.Common.{ext_get_or, WellFormed, spelling, Insn, little_endian, window, distance_of, read, pairs_tail, IsBelow}
+use Rattle.link_laws.proofs.Common.{is_of, laid, mapped, Image}
 use Rattle.std.specs.Option.{option_map_or}
-use Rattle.std.specs.Prelude.{AllPairs}
-use Rattle.std.proofs.lemmas.Bool.Decides.{nat_tests}
-use Rattle.std.proofs.lemmas.List.{ext_get_or}
-use Rattle.ebc_insn.specs.Spelling.{WellFormed, spelling}
-use Rattle.ebc_insn.specs.declared.Insn.{Insn}
 use Rattle.ebc_width.proofs.ByteLaws.{get_or-window, length-window, window-append}
-use Rattle.ebc_width.specs.Bytes.{little_endian, window}
-use Rattle.ebc_width.specs.Width.{distance_of}
 use Rattle.ebc_decode.proofs.Again.{read_again}
-use Rattle.ebc_decode.specs.Reading.{read}
-use Rattle.pe_image.proofs.Pages.{pairs_tail}
-use Rattle.pe_image.specs.Images.{IsBelow}
-use Rattle.pe_image.specs.Mapped.{is_of, laid, mapped, moved, moved_byte}
-use Rattle.pe_image.specs.declared.image.Image.{Image}
+use Rattle.pe_image.specs.Mapped.{moved, moved_byte}
 use Rattle.link_laws.proofs.Lists.{find_none}
 
 -- ---- bytes of a loaded image

@@ -1,22 +1,12 @@
 -- The names of the lines of a listing are labels of the image, and each label is among them.
-use Rattle.std.proofs.Common.{◌≡◌, ℕ, List, [], ◌∷◌, ◌++◌, Option, Some, None, Bool, true, false, cond, refl, ap, ◌∙◌}
-use Rattle.std.specs.Prelude.{IfSome}
-use Rattle.std.specs.List.{AllByRecursion}
-use Rattle.ebc_base.specs.Tables.{is_named, with_name}
-use Rattle.ebc_base.proofs.Lists.{all_append}
-use Rattle.asm_text.specs.declared.listing.Listed.{Listed}
+use Rattle.link_laws.proofs.Common.{◌≡◌, ℕ, List, [], ◌∷◌, ◌++◌, Option, Some, None, Bool, true, false, cond, refl, ap, ◌∙◌, IfSome}
+use Rattle.link_laws.proofs.Common.{AllByRecursion, is_named, all_append, Listed, Line, label_text, listed_line, use_of, global_of}
+use Rattle.link_laws.proofs.Common.{names_with, Image}
+use Rattle.ebc_base.specs.Tables.{with_name}
+use Rattle.ebc_asm.specs.Symbols.{and_name, and_names, used_name}
+use Rattle.ebc_asm.proofs.{LineSteps.kept_in, NumberLaws.is_there}
+use Rattle.link_laws.proofs.{Bodies.IsLabelled, Lines.place_in_line, Sources.source}
 use Rattle.asm_text.specs.declared.listing.Listed.TheVariants as listed
-use Rattle.asm_text.specs.Lines.{Line}
-use Rattle.asm_text.specs.Names.{label_text}
-use Rattle.asm_text.specs.Writing.{listed_line}
-use Rattle.ebc_asm.specs.Pieces.{use_of}
-use Rattle.ebc_asm.specs.Symbols.{and_name, and_names, global_of, names_with, used_name}
-use Rattle.ebc_asm.proofs.LineSteps.{kept_in}
-use Rattle.ebc_asm.proofs.NumberLaws.{is_there}
-use Rattle.pe_image.specs.declared.image.Image.{Image}
-use Rattle.link_laws.proofs.Bodies.{IsLabelled}
-use Rattle.link_laws.proofs.Lines.{place_in_line}
-use Rattle.link_laws.proofs.Sources.{source}
 
 -- ---- what holds of all names
 
@@ -57,15 +47,11 @@ label_of_place : (image : Image) (place : ℕ) → IsLabelled image place → Is
 label_of_place image place h = record { place = place; is = refl; labelled = h }
 
 line_names : (image : Image) (l : Listed) → IfSome (place_in_line l) (IsLabelled image) → NamesAre (IsLabel image) (listed_line l)
-line_names image listed.Code h = record { label = tt; global = tt; used = tt }
-line_names image listed.Data h = record { label = tt; global = tt; used = tt }
 line_names image (listed.Label p) h = record { label = label_of_place image p h; global = tt; used = tt }
 line_names image (listed.Global p) h = record { label = tt; global = label_of_place image p h; used = tt }
 line_names image (listed.Place t) h = record { label = tt; global = tt; used = label_of_place image t h }
-line_names image (listed.Word n) h = record { label = tt; global = tt; used = tt }
-line_names image (listed.Byte n) h = record { label = tt; global = tt; used = tt }
-line_names image (listed.Instruction i None) h = record { label = tt; global = tt; used = tt }
 line_names image (listed.Instruction i (Some t)) h = record { label = tt; global = tt; used = label_of_place image t h }
+line_names image c h = record { label = tt; global = tt; used = tt }
 
 each_line : (image : Image) (ls : List Listed) → AllByRecursion (λ l. IfSome (place_in_line l) (IsLabelled image)) ls
     → AllByRecursion (NamesAre (IsLabel image)) (source ls)

@@ -1,19 +1,10 @@
 -- Fixups of two images hold the same numbers, where their symbols stand at the same places.
-use Rattle.std.proofs.Common.{◌≡◌, suc, ℕ, ◌+◌, ◌*◌, ◌/◌, ◌%◌, ◌^◌, ◌<◌, Bool, true, false, refl, ap, sym, subst, ◌∙◌, arith, ℤ}
-use Rattle.std.proofs.Common.{if◌then◌else◌}
-use Rattle.std.specs.Prelude.{pos, negsuc, ◌+ℤ◌, ◌*ℤ◌, nat_eq}
+use Rattle.link_laws.proofs.Common.{◌≡◌, suc, ℕ, ◌+◌, ◌*◌, ◌/◌, ◌%◌, ◌^◌, ◌<◌, Bool, true, false, refl, ap, sym, subst, ◌∙◌, arith, ℤ}
+use Rattle.link_laws.proofs.Common.{if◌then◌else◌, pos, ◌+ℤ◌, ◌*ℤ◌, nat_eq, little_endian-below, signed_at, signed_whole, int_raw, width}
+use Rattle.link_laws.proofs.Common.{Fixup, AreBytes, laid, Image, place_of, Laid, place_in, Holds, number_at}
+use Rattle.std.specs.Prelude.{negsuc}
 use Rattle.std.proofs.Math.IntN.{+ℤ_assoc, +ℤ_idl, +ℤ_invl, neg_ℤ, negsuc-*ℤ-pos, pos-*ℤ-pos}
-use Rattle.ebc_width.proofs.ByteLaws.{little_endian-below}
-use Rattle.ebc_width.specs.Width.{signed_at}
-use Rattle.ebc_decode.proofs.Numbers.{signed_whole}
-use Rattle.ebc_insn.specs.Spelling.{int_raw}
-use Rattle.ebc_object.specs.Objects.{width}
-use Rattle.ebc_object.specs.declared.object.Fixup.{Fixup}
-use Rattle.pe_image.specs.Mapped.{AreBytes, laid}
-use Rattle.pe_image.specs.declared.image.Image.{Image}
-use Rattle.ebc_link.specs.Fixups.{place_of}
-use Rattle.ebc_link.specs.Layout.{Laid, place_in}
-use Rattle.ebc_link.specs.Linked.{Holds, address, bytes, number_at, words}
+use Rattle.ebc_link.specs.Linked.{address, bytes, words}
 use Rattle.link_laws.proofs.Relocs.{byte_of}
 
 -- a signed number has one spelling

@@ -1,34 +1,17 @@
 -- The object of a listing: its code, its data and its fixups, and that it meets its conditions.
-use Rattle.std.proofs.Common.{◌≡◌, ℕ, ◌+◌, ◌≤◌, List, [], ◌∷◌, ◌++◌, length, map}
-use Rattle.std.proofs.Common.{Bool}
-use Rattle.std.proofs.Common.{true, false, refl, ap, ◌∙◌, arith, append-nil}
-use Rattle.std.specs.List.{AllByRecursion, list_any}
-use Rattle.std.proofs.lemmas.List.{map-append}
-use Rattle.ebc_decode.proofs.Numbers.{IsBytes}
-use Rattle.ebc_object.specs.Objects.{IsObject, most}
-use Rattle.ebc_object.specs.declared.object.Fixup.{Fixup}
-use Rattle.asm_text.specs.declared.listing.Listed.{Listed}
-use Rattle.asm_text.specs.declared.listing.Listed.TheVariants as listed
-use Rattle.asm_text.specs.Writing.{ListedFits, listed_line, listed_text}
-use Rattle.asm_text.proofs.ListLaws.{reads_listed}
-use Rattle.ebc_asm.specs.Pieces.{ends_in_data, section_of}
-use Rattle.ebc_asm.specs.Sources.{object_in}
-use Rattle.ebc_asm.specs.Symbols.{fixups_in, start}
-use Rattle.ebc_asm.proofs.CountLaws.{names_in_lines}
-use Rattle.ebc_asm.proofs.FitLaws.{line_fits}
-use Rattle.ebc_asm.proofs.FixupLaws.{AreFit}
-use Rattle.ebc_asm.proofs.LineLaws.{ends_of}
+use Rattle.link_laws.proofs.Common.{◌≡◌, ℕ, ◌+◌, ◌≤◌, List, [], ◌∷◌, ◌++◌, length, map, Bool, true, false, refl, ap, ◌∙◌, arith, append-nil}
+use Rattle.link_laws.proofs.Common.{AllByRecursion, list_any, map-append, IsBytes, IsObject, most, Fixup, Listed, ListedFits, listed_line}
+use Rattle.link_laws.proofs.Common.{listed_text, reads_listed, ends_in_data, section_of, object_in, fixups_in, start, names_in_lines}
+use Rattle.link_laws.proofs.Common.{line_fits, AreFit, ends_of, Image, lines_from}
 use Rattle.ebc_asm.proofs.SoundLaws.{is_object, object_fixups_few, symbols_few}
-use Rattle.pe_image.specs.declared.image.Image.{Image}
-use Rattle.ebc_disasm.specs.Listings.{lines_from}
-use Rattle.link_laws.proofs.SectionLaws.{Agree, bytes_of_lines, section_agrees}
 use Rattle.link_laws.proofs.FixupWalk.{AreNamed, AreWhole, section_uses, uses_from, wanted, with_target}
-use Rattle.link_laws.proofs.Lines.{IsLine, is_head}
+use Rattle.link_laws.proofs.Sources.{ends_at, ends_code, ends_same, fixup_at, fixups_append, fixups_here, fixups_other, section_append}
+use Rattle.link_laws.proofs.Sources.{section_here, section_other, source}
+use Rattle.link_laws.proofs.Listings.{IsShown, all_lines, code_lines, code_lines_are, contents_lines_are, data_lines, data_place, lines_fit}
+use Rattle.link_laws.proofs.Listings.{no_head, takes_of}
+use Rattle.link_laws.proofs.{SectionLaws.Agree, SectionLaws.bytes_of_lines, SectionLaws.section_agrees, Lines.IsLine, Lines.is_head}
 use Rattle.link_laws.proofs.Bodies.{takes_address}
-use Rattle.link_laws.proofs.Sources.{ends_at, ends_code, ends_same, fixup_at, fixups_append, fixups_here, fixups_other}
-use Rattle.link_laws.proofs.Sources.{section_append, section_here, section_other, source}
-use Rattle.link_laws.proofs.Listings.{IsShown, all_lines, code_lines, code_lines_are, contents_lines_are, data_lines, data_place}
-use Rattle.link_laws.proofs.Listings.{lines_fit, no_head, takes_of}
+use Rattle.asm_text.specs.declared.listing.Listed.TheVariants as listed
 
 -- ---- its sections
 

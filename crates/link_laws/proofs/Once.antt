@@ -1,14 +1,11 @@
 -- Where no name is defined twice, a symbol stands at one place, and an image is entered at one.
-use Rattle.std.proofs.Common.{◌≡◌, ℕ, List, [], ◌∷◌, ◌++◌, Option, Some, None, Bool, true, false, cond, refl, ap, sym, subst, ◌∙◌, bytes_eq}
-use Rattle.std.specs.List.{Contains}
-use Rattle.std.specs.Prelude.{filter, ◌||◌}
+use Rattle.link_laws.proofs.Common.{◌≡◌, ℕ, List, [], ◌∷◌, ◌++◌, Option, Some, None, Bool, true, false, cond, refl, ap, sym, subst, ◌∙◌}
+use Rattle.link_laws.proofs.Common.{bytes_eq, Contains, ◌||◌, is_named, Symbol, head_or_later, nowhere, Laid, place_in, StandsAt}
+use Rattle.link_laws.proofs.Common.{Definition, definition_in, definitions, first_again, is_definition, names_of}
+use Rattle.std.specs.Prelude.{filter}
 use Rattle.std.proofs.lemmas.Slice.Eq.{bytes_eq-Decides}
-use Rattle.ebc_base.specs.Tables.{is_named}
-use Rattle.ebc_object.specs.declared.object.Symbol.{Symbol}
-use Rattle.ebc_link.proofs.ThereLaws.{head_or_later, joined, kept, mapped, nowhere}
-use Rattle.ebc_link.specs.Layout.{Laid, place_in}
-use Rattle.ebc_link.specs.Linked.{IsEntry, StandsAt, own, other}
-use Rattle.ebc_link.specs.Symbols.{Definition, definition_in, definitions, definitions_of, first_again, is_definition, names_of}
+use Rattle.ebc_link.proofs.ThereLaws.{joined, kept, mapped}
+use Rattle.ebc_link.specs.{Linked.IsEntry, Linked.own, Linked.other, Symbols.definitions_of}
 use Rattle.link_laws.proofs.Lists.{none_front}
 
 -- ---- definitions

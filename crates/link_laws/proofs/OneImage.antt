@@ -1,19 +1,10 @@
 -- One object in the linker's layout: its code and its data stand where the image has them, and the image is the one that it was listed
 -- from.
-use Rattle.std.proofs.Common.{◌≡◌, ℕ, ◌+◌, ◌-◌, List, [], ◌∷◌, ◌++◌, length, refl, sym, ap, ◌∙◌, arith}
-use Rattle.std.proofs.Common.{append-nil}
-use Rattle.ebc_object.specs.declared.object.Object.{Object}
-use Rattle.pe_image.specs.Files.{file_sections, next_place, reloc_section, reloc_sections, rounded, zeros}
-use Rattle.pe_image.specs.Linked.{linked_sections}
-use Rattle.pe_image.specs.declared.image.Image.{Image}
-use Rattle.pe_image.specs.declared.image.Section.{Section}
-use Rattle.ebc_link.specs.declared.plan.LinkPlan.{LinkPlan}
-use Rattle.ebc_link.specs.Layout.{Laid, code_end, code_start, contents_from, contents_start, homes_from, homes_of, laid_objects}
-use Rattle.ebc_link.specs.Layout.{section_from}
-use Rattle.ebc_link.specs.Layout.{text_from}
-use Rattle.ebc_link.specs.Symbols.{definitions}
-use Rattle.ebc_link.specs.Fixups.{code_of, contents_of, relocs_of}
-use Rattle.ebc_link.specs.Links.{linked_image, sized}
+use Rattle.link_laws.proofs.Common.{◌≡◌, ℕ, ◌+◌, ◌-◌, List, [], ◌∷◌, ◌++◌, length, refl, sym, ap, ◌∙◌, arith, append-nil, Object}
+use Rattle.link_laws.proofs.Common.{file_sections, next_place, reloc_section, reloc_sections, rounded, zeros, linked_sections, Image}
+use Rattle.link_laws.proofs.Common.{Section, LinkPlan, Laid, code_end, code_start, contents_start, homes_from, homes_of, laid_objects}
+use Rattle.link_laws.proofs.Common.{definitions, contents_of, relocs_of, linked_image}
+use Rattle.ebc_link.specs.{Layout.contents_from, Layout.section_from, Layout.text_from, Fixups.code_of, Links.sized}
 
 -- one object, and where it stands
 abbrev pub sole : Object → Laid

@@ -1,25 +1,11 @@
 -- Linked images of the same objects are one.
-use Rattle.std.proofs.Common.{◌≡◌, ◌⊎◌, inl, inr, ℕ, ◌+◌, ◌-◌, ◌<◌, ◌≤◌, List, [], ◌∷◌, Some, None, Bool, true, false, length}
-use Rattle.std.proofs.Common.{refl, ap, sym, subst, ◌∙◌, arith, ⊎_elim}
-use Rattle.std.specs.Prelude.{◌↔◌, ◌||◌}
-use Rattle.std.specs.List.{Contains, list_any}
-use Rattle.std.proofs.lemmas.Bool.{cases_lt}
-use Rattle.std.proofs.lemmas.Bool.Decides.{nat_tests}
-use Rattle.ebc_object.specs.Objects.{width}
-use Rattle.ebc_object.specs.declared.object.Fixup.{Fixup}
-use Rattle.ebc_object.specs.declared.object.Object.{Object}
-use Rattle.pe_image.specs.Mapped.{AreBytes, laid}
-use Rattle.pe_image.specs.declared.image.Image.{Image}
-use Rattle.ebc_link.proofs.FoundLaws.{first_of_all, further}
-use Rattle.ebc_link.proofs.ThereLaws.{head_or_later, nowhere}
-use Rattle.ebc_link.specs.declared.plan.LinkPlan.{LinkPlan}
-use Rattle.ebc_link.specs.Fixups.{place_of}
-use Rattle.ebc_link.specs.Layout.{Laid, laid_objects, place_in}
-use Rattle.ebc_link.specs.Linked.{Holds, IsFilled, IsOutside, Linked, StandsAt, fills, number_at, own_bytes}
-use Rattle.ebc_link.specs.Symbols.{definitions, first_again, names_of}
-use Rattle.link_laws.proofs.Once.{one_entry, one_stand}
-use Rattle.link_laws.proofs.Numbers.{same_byte, same_number}
+use Rattle.link_laws.proofs.Common.{◌≡◌, ◌⊎◌, inl, inr, ℕ, ◌+◌, ◌-◌, ◌<◌, ◌≤◌, List, [], ◌∷◌, Some, None, Bool, true, false, length, refl}
+use Rattle.link_laws.proofs.Common.{ap, sym, subst, ◌∙◌, arith, ⊎_elim, ◌↔◌, ◌||◌, Contains, list_any, cases_lt, nat_tests, width, Fixup}
+use Rattle.link_laws.proofs.Common.{Object, AreBytes, laid, Image, first_of_all, further, head_or_later, nowhere, LinkPlan, place_of, Laid}
+use Rattle.link_laws.proofs.Common.{laid_objects, place_in, Holds, Linked, StandsAt, fills, number_at, definitions, first_again, names_of}
+use Rattle.ebc_link.specs.Linked.{IsFilled, IsOutside, own_bytes}
 use Rattle.link_laws.proofs.OneRecord.{one_ascending, one_image, one_sections, size_is}
+use Rattle.link_laws.proofs.{Once.one_entry, Once.one_stand, Numbers.same_byte, Numbers.same_number}
 use Rattle.link_laws.specs.Fixes.{LinkedIsOne}
 
 -- ---- where a place lies

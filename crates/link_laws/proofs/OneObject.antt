@@ -1,51 +1,9 @@
 -- One object gets the places that its listing had: its bytes with zeros at some numbers are filled in with these numbers again.
-use Rattle.std.proofs.Common.{◌≡◌, ◌⊎◌, ⊎_elim, inl, inr, ℕ, ◌+◌, ◌-◌, ◌<◌, ◌≤◌, Bool, true, false, ◌&&◌, List}
-use Rattle.std.proofs.Common.{[], ◌∷◌, ◌++◌, length, get_or, take, drop, refl, sym, ap, ◌∙◌, arith, length-append, length-drop}
-use Rattle.std.proofs.Common.{length-take-le}
-use Rattle.std.specs.Prelude.{nat_le, nat_lt}
-use Rattle.std.proofs.lemmas.Bool.Decides.{nat_tests}
-use Rattle.std.proofs.lemmas.Bool.{cases_lt}
-use Rattle.std.proofs.lemmas.List.{ext_get_or, get_or_append_left, get_or-append_right, get_or-drop, get_or-take}
-use Rattle.ebc_object.specs.declared.object.Fixup.{Fixup}
-use Rattle.ebc_link.specs.Fixups.{put_at, with_fixups}
-
--- ---- bytes put over others
-
-put_length : (bytes : List ℕ) (at : ℕ) (over : List ℕ) → at + length over ≤ length bytes → length (put_at bytes at over) ≡ length bytes
-unfolding put_at
-put_length bytes at over within =
-    let front : length (take at bytes) ≡ at = length-take-le at bytes (omega (arith, within)) in
-    let back = length-drop (at + length over) bytes in
-    let one = length-append (take at bytes) (over ++ drop (at + length over) bytes) in
-    let two = length-append over (drop (at + length over) bytes) in
-    omega (arith, within, front, back, one, two)
-
-put_before : (bytes : List ℕ) (at : ℕ) (over : List ℕ) (i : ℕ) → at + length over ≤ length bytes → i < at
-    → get_or (put_at bytes at over) i 0 ≡ get_or bytes i 0
-unfolding put_at
-put_before bytes at over i within low =
-    let front : length (take at bytes) ≡ at = length-take-le at bytes (omega (arith, within)) in
-    get_or_append_left (take at bytes) (over ++ drop (at + length over) bytes) 0 i (omega (arith, front, low))
-    ∙ get_or-take at bytes i 0 low
-
-put_inside : (bytes : List ℕ) (at : ℕ) (over : List ℕ) (i : ℕ) → at + length over ≤ length bytes → i < length over
-    → get_or (put_at bytes at over) (at + i) 0 ≡ get_or over i 0
-unfolding put_at
-put_inside bytes at over i within low =
-    let front : length (take at bytes) ≡ at = length-take-le at bytes (omega (arith, within)) in
-    let same : at + i - at ≡ i = omega arith in
-    get_or-append_right (take at bytes) (over ++ drop (at + length over) bytes) at (at + i) 0 front (omega arith)
-    ∙ (ap (λ n. get_or (over ++ drop (at + length over) bytes) n 0) same ∙ get_or_append_left over (drop (at + length over) bytes) 0 i low)
-
-put_behind : (bytes : List ℕ) (at : ℕ) (over : List ℕ) (i : ℕ) → at + length over ≤ length bytes → at + length over ≤ i
-    → get_or (put_at bytes at over) i 0 ≡ get_or bytes i 0
-unfolding put_at
-put_behind bytes at over i within high =
-    let front : length (take at bytes) ≡ at = length-take-le at bytes (omega (arith, within)) in
-    let same : at + length over + (i - at - length over) ≡ i = omega (arith, high) in
-    get_or-append_right (take at bytes) (over ++ drop (at + length over) bytes) at i 0 front (omega (arith, high))
-    ∙ (get_or-append_right over (drop (at + length over) bytes) (length over) (i - at) 0 refl (omega (arith, high))
-    ∙ (get_or-drop (at + length over) bytes (i - at - length over) 0 ∙ ap (λ n. get_or bytes n 0) same))
+use Rattle.link_laws.proofs.Common.{◌≡◌, ◌⊎◌, ⊎_elim, inl, inr, ℕ, ◌+◌, ◌-◌, ◌<◌, ◌≤◌, Bool, true, false, ◌&&◌, List, [], ◌∷◌, length}
+use Rattle.link_laws.proofs.Common.{get_or, take, drop, refl, sym, ap, ◌∙◌, arith, length-drop, length-take-le, nat_le, nat_lt, nat_tests}
+use Rattle.link_laws.proofs.Common.{cases_lt, ext_get_or, get_or-drop, get_or-take, Fixup, with_fixups}
+use Rattle.ebc_link.specs.Fixups.{put_at}
+use Rattle.ebc_link.proofs.FillLaws.{put_before, put_behind, put_inside, put_length}
 
 -- ---- bytes filled in
 

@@ -1,25 +1,13 @@
 -- What `Linked` says of an image fixes it: images of which the same bytes, relocations and numbers are known are one.
-use Rattle.std.proofs.Common.{◌≡◌, ℕ, ◌+◌, ◌-◌, ◌<◌, ◌≤◌, inr, List, [], ◌∷◌, length, get_or, refl, ap, sym, subst, ◌∙◌, arith}
-use Rattle.std.specs.Prelude.{◌↔◌, AllPairs}
-use Rattle.std.specs.List.{Contains}
-use Rattle.std.proofs.lemmas.List.{ext_get_or}
-use Rattle.std.proofs.lemmas.List.Elements.{All-contains}
+use Rattle.link_laws.proofs.Common.{◌≡◌, ℕ, ◌+◌, ◌-◌, ◌<◌, ◌≤◌, inr, List, [], ◌∷◌, length, get_or, refl, ap, sym, subst, ◌∙◌, arith, ◌↔◌}
+use Rattle.link_laws.proofs.Common.{AllPairs, Contains, ext_get_or, All-contains, file_sections, next_place, reloc_section, reloc_sections}
+use Rattle.link_laws.proofs.Common.{rounded, IsBelow, linked_sections, laid, Image, Section, Object, first_of_all, further, head_or_later}
+use Rattle.link_laws.proofs.Common.{nowhere, LinkPlan, Linked}
 use Rattle.std.proofs.lemmas.Map.Made.{Contains-tail}
 use Rattle.ebc_width.specs.Bytes.{overlaid}
 use Rattle.ebc_width.proofs.ByteLaws.{overlaid-apart, overlaid-within}
 use Rattle.ebc_disasm.proofs.Firsts.{pairs_head, pairs_tail}
-use Rattle.pe_image.specs.Files.{file_sections, next_place, reloc_section, reloc_sections, rounded}
-use Rattle.pe_image.specs.Images.{IsBelow}
-use Rattle.pe_image.specs.Linked.{linked_sections}
-use Rattle.pe_image.specs.Mapped.{laid}
-use Rattle.pe_image.specs.declared.image.Image.{Image}
-use Rattle.pe_image.specs.declared.image.Section.{Section}
-use Rattle.ebc_object.specs.declared.object.Object.{Object}
 use Rattle.ebc_link.proofs.BytesLaws.{laid_linked}
-use Rattle.ebc_link.proofs.FoundLaws.{first_of_all, further}
-use Rattle.ebc_link.proofs.ThereLaws.{head_or_later, nowhere}
-use Rattle.ebc_link.specs.declared.plan.LinkPlan.{LinkPlan}
-use Rattle.ebc_link.specs.Linked.{Linked}
 
 -- ---- ascending places
 

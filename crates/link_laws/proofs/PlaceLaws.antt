@@ -1,26 +1,13 @@
 -- Each label that may be printed is printed once, where the bytes before it end.
-use Rattle.std.proofs.Common.{◌≡◌, ℕ, zero, suc, ◌+◌, ◌*◌, ◌<◌, ◌≤◌, List, [], ◌∷◌, ◌++◌, length, drop, Option, Some, None, Result, Ok}
-use Rattle.std.proofs.Common.{Err, Bool, true, false, not, cond, ◌&&◌, ◌||◌, refl, sym, ap, subst, ◌∙◌, arith, ⊎_elim, length-append}
-use Rattle.std.proofs.Common.{length-drop, append_assoc, option_map, nat_le}
-use Rattle.std.specs.Prelude.{nat_eq}
-use Rattle.std.specs.List.{list_all, list_any}
-use Rattle.std.proofs.lemmas.Grind.{flat_map-append}
-use Rattle.std.proofs.lemmas.Bool.{cases_lt}
-use Rattle.link_laws.proofs.Lists.{none_append}
-use Rattle.std.proofs.lemmas.Bool.Decides.{nat_tests}
-use Rattle.ebc_insn.specs.declared.Insn.{Insn}
-use Rattle.ebc_decode.specs.declared.DecodeFault.{DecodeFault}
-use Rattle.ebc_decode.specs.Reading.{read}
-use Rattle.ebc_decode.proofs.Numbers.{IsBytes, IsBytes-drop}
-use Rattle.asm_text.specs.declared.listing.Listed.{Listed}
+use Rattle.link_laws.proofs.Common.{◌≡◌, ℕ, zero, suc, ◌+◌, ◌*◌, ◌<◌, ◌≤◌, List, [], ◌∷◌, ◌++◌, length, drop, Option, Some, None, Result}
+use Rattle.link_laws.proofs.Common.{Ok, Err, Bool, true, false, not, cond, ◌&&◌, ◌||◌, refl, sym, ap, subst, ◌∙◌, arith, ⊎_elim}
+use Rattle.link_laws.proofs.Common.{length-append, length-drop, append_assoc, option_map, nat_le, nat_eq, list_all, list_any}
+use Rattle.link_laws.proofs.Common.{flat_map-append, cases_lt, nat_tests, Insn, DecodeFault, read, IsBytes, IsBytes-drop, Listed, Image}
+use Rattle.link_laws.proofs.Common.{byte_at, if_whole, insn_at, is_cut, is_inside, is_of_immediate, is_whole, item_at, label_before}
+use Rattle.link_laws.proofs.Common.{label_lines, labels, lies_on, lines_from, named, place_at, with_label, word_at, next_lines, IfSome}
+use Rattle.link_laws.proofs.{Lists.none_append, ItemLaws.ItemOf, ItemLaws.chosen, ItemLaws.item_of, ItemLaws.line_bytes}
+use Rattle.link_laws.proofs.{SectionLaws.bytes_of_lines, SectionLaws.one_item}
 use Rattle.asm_text.specs.declared.listing.Listed.TheVariants as listed
-use Rattle.pe_image.specs.declared.image.Image.{Image}
-use Rattle.ebc_disasm.specs.Listings.{byte_at, if_whole, insn_at, is_cut, is_inside, is_of_immediate, is_whole, item_at, label_before}
-use Rattle.ebc_disasm.specs.Listings.{label_lines, labels, lies_on, lines_from, named, place_at, with_label, word_at}
-use Rattle.ebc_disasm.proofs.Lines.{next_lines}
-use Rattle.link_laws.proofs.ItemLaws.{ItemOf, chosen, item_of, line_bytes}
-use Rattle.std.specs.Prelude.{IfSome}
-use Rattle.link_laws.proofs.SectionLaws.{bytes_of_lines, one_item}
 
 -- No label is among the last seven of the eight bytes of a relocation.
 abbrev pub AreUncut : Image → Type 0
@@ -43,10 +30,8 @@ uncut_reloc cut (r ∷ rs) x here all = first (nat_eq x r) (cut r) refl refl her
 
 uncut_place : (image : Image) (x : ℕ) (a b : Bool) (o : Option ℕ) → AreUncut image → list_any (nat_eq x) image.relocs ≡ b →
     IfSome (cond (a && b) (option_map (λ target. (listed.Place target, 8)) o) None) (Uncut image x)
-uncut_place image x true true None all e = tt
 uncut_place image x true true (Some target) all e = uncut_reloc (λ r. is_cut image r 8) image.relocs x e all
-uncut_place image x true false o all e = tt
-uncut_place image x false b o all e = tt
+uncut_place image x c b o all e = tt
 
 uncut_insn : (image : Image) (x : ℕ) (r : Result (Insn × ℕ) DecodeFault) → IfSome (if_whole image x r) (Uncut image x)
 unfolding is_whole
@@ -150,10 +135,8 @@ label_insn y i n (Some t) = refl
 
 not_place : (image : Image) (x y : ℕ) (a b : Bool) (o : Option ℕ)
     → IfSome (cond (a && b) (option_map (λ target. (listed.Place target, 8)) o) None) (NotLabel y)
-not_place image x y true true None = tt
 not_place image x y true true (Some target) = refl
-not_place image x y true false o = tt
-not_place image x y false b o = tt
+not_place image x y c b o = tt
 
 not_insn : (image : Image) (x y : ℕ) (r : Result (Insn × ℕ) DecodeFault) → IfSome (if_whole image x r) (NotLabel y)
 unfolding is_whole

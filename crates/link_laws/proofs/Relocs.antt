@@ -1,34 +1,21 @@
 -- The sections, the relocated numbers and the relocations of an image in the linker's layout.
-use Rattle.std.proofs.Common.{◌≡◌, ◌⊎◌, inl, inr, ⊎_elim, ℕ, zero, suc, ◌+◌, ◌-◌, ◌*◌, ◌/◌, ◌%◌, ◌^◌, ◌<◌, ◌≤◌, List, [], ◌∷◌, ◌++◌, length}
-use Rattle.std.proofs.Common.{get_or, take, drop, Option, Some, None, Bool, true, false, cond, ◌&&◌, ◌||◌, refl, sym, ap, subst, ◌∙◌, arith}
-use Rattle.std.proofs.Common.{length-drop, length-take-le}
-use Rattle.std.specs.Prelude.{All, AllPairs, codes, not, nat_eq, nat_le, nat_lt, slice_index}
-use Rattle.std.specs.Int.{w64, to_le_bytes}
-use Rattle.std.specs.List.{AllByRecursion, Any, cons_option, filter, filter_map, list_all, list_any}
+use Rattle.link_laws.proofs.Common.{◌≡◌, ◌⊎◌, inl, inr, ⊎_elim, ℕ, zero, suc, ◌+◌, ◌-◌, ◌*◌, ◌/◌, ◌%◌, ◌^◌, ◌<◌, ◌≤◌, List, [], ◌∷◌, ◌++◌}
+use Rattle.link_laws.proofs.Common.{length, get_or, take, drop, Option, Some, None, Bool, true, false, cond, ◌&&◌, ◌||◌, refl, sym, ap}
+use Rattle.link_laws.proofs.Common.{subst, ◌∙◌, arith, length-drop, length-take-le, All, AllPairs, codes, not, nat_eq, nat_le, nat_lt}
+use Rattle.link_laws.proofs.Common.{slice_index, w64, to_le_bytes, AllByRecursion, cons_option, filter, filter_map, list_all, list_any}
+use Rattle.link_laws.proofs.Common.{and_from, and_parts, cases_lt, nat_tests, ext_get_or, get_or-drop, get_or-take, All-from_recursion}
+use Rattle.link_laws.proofs.Common.{All-head, All-tail, recursion_from_All, all_append, little_endian, distance_of, get_or-to_le_bytes}
+use Rattle.link_laws.proofs.Common.{IsBytes, Image, Section, file_sections, next_place, reloc_section, reloc_sections, IsBelow}
+use Rattle.link_laws.proofs.Common.{linked_sections, section_if, laid, named_place, pairs_tail, in_section, is_cut, labels, named}
+use Rattle.std.specs.List.{Any}
 use Rattle.std.proofs.Math.Nat.{div-div-eq-div-mul, pow-suc}
-use Rattle.std.proofs.lemmas.Bool.{and_from, and_parts, cases_lt, eqb-true, not_from_false, or_cases}
-use Rattle.std.proofs.lemmas.Bool.Decides.{nat_tests}
-use Rattle.std.proofs.lemmas.List.{ext_get_or, get_or-drop, get_or-take, get_or_past}
-use Rattle.std.proofs.lemmas.List.Elements.{All-from_recursion, All-head, All-tail, recursion_from_All}
-use Rattle.ebc_base.proofs.Lists.{all_append}
-use Rattle.ebc_width.specs.Bytes.{little_endian}
-use Rattle.ebc_width.specs.Width.{distance_of}
+use Rattle.std.proofs.lemmas.{Bool.eqb-true, Bool.not_from_false, Bool.or_cases, List.get_or_past}
 use Rattle.ebc_width.proofs.ByteLaws.{little_endian-zeros}
-use Rattle.ebc_width.proofs.Numbers.{get_or-to_le_bytes}
-use Rattle.ebc_decode.proofs.Numbers.{IsBytes}
-use Rattle.pe_image.specs.declared.image.Image.{Image}
-use Rattle.pe_image.specs.declared.image.Section.{Section}
-use Rattle.pe_image.specs.Files.{file_sections, next_place, one_unless, reloc_section, reloc_sections}
-use Rattle.pe_image.specs.Images.{IsBelow}
-use Rattle.pe_image.specs.Linked.{Has, linked_sections, section_if}
-use Rattle.pe_image.specs.Mapped.{has_place, laid, named_place}
-use Rattle.pe_image.proofs.Pages.{pairs_head, pairs_tail}
-use Rattle.ebc_disasm.specs.Listings.{in_section, is_cut, labels, named}
+use Rattle.pe_image.specs.{Files.one_unless, Linked.Has, Mapped.has_place}
+use Rattle.pe_image.proofs.Pages.{pairs_head}
 use Rattle.link_laws.proofs.FixupWalk.{AreNamed, AreWhole, ascend, in_range, past, range_split}
-use Rattle.link_laws.proofs.PlaceLaws.{AreUncut}
-use Rattle.link_laws.proofs.Bodies.{AreLow, IsLabelled, named_inside}
-use Rattle.link_laws.proofs.Listings.{data_place}
-use Rattle.link_laws.proofs.Lists.{all_at, each_of, each_of_both}
+use Rattle.link_laws.proofs.{PlaceLaws.AreUncut, Bodies.AreLow, Bodies.IsLabelled, Bodies.named_inside, Listings.data_place, Lists.all_at}
+use Rattle.link_laws.proofs.{Lists.each_of, Lists.each_of_both}
 
 -- ---- relocations ascend
 

@@ -1,19 +1,11 @@
 -- The lines of a section have its bytes, but for those that relocations have.
-use Rattle.std.proofs.Common.{◌≡◌, ℕ, zero, suc, ◌+◌, ◌-◌, ◌<◌, ◌≤◌, List, [], ◌∷◌, ◌++◌, length, get_or, drop, Bool, true, false, refl}
-use Rattle.std.proofs.Common.{sym, ap, subst, ◌∙◌, arith, ⊎_elim, length-append, length-drop, append-nil}
-use Rattle.std.specs.List.{flat_map}
-use Rattle.std.proofs.lemmas.Grind.{flat_map-append}
-use Rattle.std.proofs.lemmas.Bool.{cases_lt}
-use Rattle.std.proofs.lemmas.List.{get_or_append_left, get_or-append_right, get_or-drop}
-use Rattle.ebc_decode.proofs.Numbers.{IsBytes, IsBytes-drop}
-use Rattle.asm_text.specs.declared.listing.Listed.{Listed}
-use Rattle.asm_text.specs.declared.listing.Listed.TheVariants as listed
-use Rattle.pe_image.specs.declared.image.Image.{Image}
-use Rattle.ebc_disasm.specs.Listings.{item_at, label_lines, labels, lines_from}
-use Rattle.ebc_disasm.proofs.Lines.{next_lines}
-use Rattle.std.specs.Prelude.{cond, nat_eq}
-use Rattle.std.specs.List.{list_any}
+use Rattle.link_laws.proofs.Common.{◌≡◌, ℕ, zero, suc, ◌+◌, ◌-◌, ◌<◌, ◌≤◌, List, [], ◌∷◌, ◌++◌, length, get_or, drop, Bool, true, false}
+use Rattle.link_laws.proofs.Common.{refl, sym, ap, subst, ◌∙◌, arith, ⊎_elim, length-append, length-drop, append-nil, flat_map}
+use Rattle.link_laws.proofs.Common.{flat_map-append, cases_lt, get_or_append_left, get_or-drop, IsBytes, IsBytes-drop, Listed, Image}
+use Rattle.link_laws.proofs.Common.{item_at, label_lines, labels, lines_from, next_lines, cond, nat_eq, list_any}
+use Rattle.std.proofs.lemmas.List.{get_or-append_right}
 use Rattle.link_laws.proofs.ItemLaws.{ItemOf, is_free, item_of, line_bytes}
+use Rattle.asm_text.specs.declared.listing.Listed.TheVariants as listed
 
 -- the bytes of lines
 abbrev pub bytes_of_lines : List Listed → List ℕ

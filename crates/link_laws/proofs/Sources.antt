@@ -1,38 +1,16 @@
 -- The sections, the places of labels, the fixups and the names of the lines of a listing, as those of a source.
-use Rattle.std.proofs.Common.{◌≡◌, ℕ, ◌+◌, ◌-◌, ◌^◌, ◌<◌, List, [], ◌∷◌, ◌++◌, length, map, Some, None, Bool, true, false}
-use Rattle.std.proofs.Common.{cond}
-use Rattle.std.proofs.Common.{not, ◌&&◌, refl, sym, ap, ◌∙◌, arith, append_assoc, length-append}
-use Rattle.std.specs.Prelude.{bytes_eq, nat_eq, if◌then◌else◌}
-use Rattle.std.specs.List.{AllByRecursion, list_any}
-use Rattle.std.proofs.lemmas.Bool.{or_from, or_parts}
-use Rattle.std.proofs.lemmas.Bool.Decides.{nat_tests}
-use Rattle.std.proofs.lemmas.List.{map-append}
-use Rattle.ebc_insn.specs.declared.Insn.{Insn}
+use Rattle.link_laws.proofs.Common.{◌≡◌, ℕ, ◌+◌, ◌-◌, ◌^◌, ◌<◌, List, [], ◌∷◌, ◌++◌, length, map, Some, None, Bool, true, false, cond, not}
+use Rattle.link_laws.proofs.Common.{◌&&◌, refl, sym, ap, ◌∙◌, arith, append_assoc, length-append, bytes_eq, nat_eq, if◌then◌else◌}
+use Rattle.link_laws.proofs.Common.{AllByRecursion, list_any, or_from, or_parts, nat_tests, map-append, Insn, spelling, name_number}
+use Rattle.link_laws.proofs.Common.{same_name, Fixup, Listed, Line, label_text, listed_line, bytes_of, data_after, distance_kind}
+use Rattle.link_laws.proofs.Common.{ends_in_data, immediate_size, is_distance, section_of, use_of, Ends, Place, fixups_in, fixups_of}
+use Rattle.link_laws.proofs.Common.{from_of, here, is_labelled, section_kind, ends_of, same_bytes, takes_label}
+use Rattle.ebc_asm.specs.{Pieces.if_there, Symbols.ends_after, Symbols.place_of}
+use Rattle.link_laws.proofs.{ItemLaws.line_bytes, SectionLaws.bytes_of_lines, PlaceLaws.is_label_of, FixupWalk.target_use, FixupWalk.use_at}
+use Rattle.link_laws.proofs.{FixupWalk.uses_from, LabelLaws.labels_apart, Bodies.takes_address, Lines.is_head}
 use Rattle.ebc_insn.specs.declared.Insn.TheVariants as insns
 use Rattle.ebc_insn.specs.declared.Size.TheVariants as sizes
-use Rattle.ebc_insn.specs.Spelling.{spelling}
-use Rattle.ebc_base.specs.Tables.{name_number}
-use Rattle.ebc_base.proofs.TableLaws.{same_name}
-use Rattle.ebc_object.specs.declared.object.Fixup.{Fixup}
-use Rattle.asm_text.specs.declared.listing.Listed.{Listed}
 use Rattle.asm_text.specs.declared.listing.Listed.TheVariants as listed
-use Rattle.asm_text.specs.Lines.{Line}
-use Rattle.asm_text.specs.Names.{label_text}
-use Rattle.asm_text.specs.Writing.{listed_line}
-use Rattle.ebc_asm.specs.Pieces.{bytes_of, data_after, distance_kind, ends_in_data, if_there, immediate_size, is_distance, section_of}
-use Rattle.ebc_asm.specs.Pieces.{use_of}
-use Rattle.ebc_asm.specs.Symbols.{Ends, Place, ends_after, fixups_in, fixups_of, from_of, here, is_labelled, place_of}
-use Rattle.ebc_asm.specs.Symbols.{section_kind}
-use Rattle.ebc_asm.proofs.LineLaws.{ends_of}
-use Rattle.ebc_asm.proofs.NumberLaws.{same_bytes}
-use Rattle.ebc_disasm.specs.Listings.{takes_label}
-use Rattle.link_laws.proofs.ItemLaws.{line_bytes}
-use Rattle.link_laws.proofs.SectionLaws.{bytes_of_lines}
-use Rattle.link_laws.proofs.PlaceLaws.{is_label_of}
-use Rattle.link_laws.proofs.FixupWalk.{target_use, use_at, uses_from}
-use Rattle.link_laws.proofs.LabelLaws.{labels_apart}
-use Rattle.link_laws.proofs.Bodies.{takes_address}
-use Rattle.link_laws.proofs.Lines.{is_head}
 
 -- lines of a listing as lines of a source
 abbrev pub source : List Listed → List Line
@@ -43,12 +21,7 @@ source ls = map listed_line ls
 after_line : (d : Bool) (l : Listed) → is_head l ≡ false → data_after d (listed_line l).statement ≡ d
 after_line d listed.Code h = cc h
 after_line d listed.Data h = cc h
-after_line d (listed.Label place) h = refl
-after_line d (listed.Global place) h = refl
-after_line d (listed.Place target) h = refl
-after_line d (listed.Word n) h = refl
-after_line d (listed.Byte n) h = refl
-after_line d (listed.Instruction i label) h = refl
+after_line d c h = refl
 
 pub ends_same : (d : Bool) (ls : List Listed) → list_any is_head ls ≡ false → ends_in_data d (source ls) ≡ d
 unfolding ends_in_data
@@ -141,13 +114,7 @@ not_labelled : (y : ℕ) (l : Listed) → y < 2 ^ 32 → IsLowLabel l → is_lab
     → is_labelled (label_text y) (listed_line l) ≡ false
 not_labelled y (listed.Label p) small low other =
     other_label y p (bytes_eq (label_text y) (label_text p)) refl small low other
-not_labelled y listed.Code small low other = refl
-not_labelled y listed.Data small low other = refl
-not_labelled y (listed.Global p) small low other = refl
-not_labelled y (listed.Place p) small low other = refl
-not_labelled y (listed.Word n) small low other = refl
-not_labelled y (listed.Byte n) small low other = refl
-not_labelled y (listed.Instruction i p) small low other = refl
+not_labelled y c small low other = refl
 
 pub none_labelled : (y : ℕ) (ls : List Listed) → y < 2 ^ 32 → AllByRecursion IsLowLabel ls → list_any (is_label_of y) ls ≡ false
     → list_any (is_labelled (label_text y)) (source ls) ≡ false
@@ -191,13 +158,6 @@ address_insn i h = cc h
 
 line_fixups : (d : Bool) (s n : ℕ) (names : List (List ℕ)) (l : Listed) → takes_address l ≡ true
     → fixups_of d n names (use_of (listed_line l).statement) ≡ map (fixup_at d s names) (use_at (s + n) (target_use l))
-line_fixups d s n names listed.Code h = refl
-line_fixups d s n names listed.Data h = refl
-line_fixups d s n names (listed.Label place) h = refl
-line_fixups d s n names (listed.Global place) h = refl
-line_fixups d s n names (listed.Word m) h = refl
-line_fixups d s n names (listed.Byte m) h = refl
-line_fixups d s n names (listed.Instruction i None) h = refl
 line_fixups d s n names (listed.Place t) h =
     let make : ℕ → List Fixup = λ k. record {
       section = section_kind d;
@@ -227,6 +187,7 @@ line_fixups d s n names (listed.Instruction i (Some t)) h =
     } ∷ [] in
     let same : n + (long - 8) ≡ s + n + (long - 8) - s = omega arith in
     ap (λ b. make b (immediate_size i)) a.0 ∙ (ap (λ k. make false k) a.1 ∙ ap at_offset same)
+line_fixups d s n names c h = refl
 
 -- where sections end behind some lines, by numbers
 abbrev pub ends_at : Bool → ℕ → ℕ → Ends

@@ -1,23 +1,13 @@
 -- Where the labels of a listing stand, as those of a source.
-use Rattle.std.proofs.Common.{◌≡◌, ℕ, ◌+◌, ◌^◌, ◌<◌, List, [], ◌∷◌, ◌++◌, length, Bool, true, false, refl, ap}
-use Rattle.std.proofs.Common.{◌∙◌, arith}
-use Rattle.std.specs.Prelude.{if◌then◌else◌}
-use Rattle.std.specs.List.{AllByRecursion, list_any}
-use Rattle.std.proofs.lemmas.List.{map-append}
-use Rattle.ebc_base.specs.Tables.{is_named}
-use Rattle.asm_text.specs.declared.listing.Listed.{Listed}
-use Rattle.asm_text.specs.declared.listing.Listed.TheVariants as listed
-use Rattle.asm_text.specs.Lines.{Line}
-use Rattle.asm_text.specs.Names.{label_text}
-use Rattle.asm_text.specs.Writing.{listed_line}
-use Rattle.ebc_asm.specs.Pieces.{ends_in_data, section_of}
-use Rattle.ebc_asm.specs.Symbols.{Ends, Place, here, names_with, place_of, section_kind, start}
-use Rattle.ebc_asm.proofs.LineLaws.{code_ends, data_ends, ends_in, ends_of}
-use Rattle.link_laws.proofs.PlaceLaws.{is_label_of}
-use Rattle.link_laws.proofs.Lines.{is_head}
-use Rattle.link_laws.proofs.Names.{label_named}
+use Rattle.link_laws.proofs.Common.{◌≡◌, ℕ, ◌+◌, ◌^◌, ◌<◌, List, [], ◌∷◌, ◌++◌, length, Bool, true, false, refl, ap, ◌∙◌, arith}
+use Rattle.link_laws.proofs.Common.{if◌then◌else◌, AllByRecursion, list_any, map-append, is_named, Listed, Line, label_text, listed_line}
+use Rattle.link_laws.proofs.Common.{ends_in_data, section_of, Ends, Place, here, names_with, section_kind, start, code_ends, ends_in}
+use Rattle.link_laws.proofs.Common.{ends_of}
+use Rattle.ebc_asm.specs.Symbols.{place_of}
+use Rattle.ebc_asm.proofs.LineLaws.{data_ends}
 use Rattle.link_laws.proofs.Sources.{IsLowLabel, ends_append, none_labelled, place_label, place_past, section_append, section_other, source}
-use Rattle.link_laws.proofs.Taken.{Stand}
+use Rattle.link_laws.proofs.{PlaceLaws.is_label_of, Lines.is_head, Names.label_named, Taken.Stand}
+use Rattle.asm_text.specs.declared.listing.Listed.TheVariants as listed
 
 -- The label of a place is a name of lines, and stands in code or in data that begin at a place, as far behind it as the place is.
 pub record IsPlaced (ls : List Line) (d : Bool) (s y : ℕ) : Type 0 where

@@ -1,41 +1,21 @@
 -- The lines of a listing are taken one after the other, as those of a source: none has a fault.
-use Rattle.std.proofs.Common.{◌≡◌, ℕ, ◌+◌, ◌^◌, ◌<◌, ◌≤◌, List, [], ◌∷◌, ◌++◌, length, map, Some, None, Result, Ok, Bool}
-use Rattle.std.proofs.Common.{true, false, not, cond, ◌&&◌, refl, sym, ap, subst, ◌∙◌, arith, append_assoc, append-nil, length-append}
-use Rattle.std.proofs.Common.{length-drop}
-use Rattle.std.specs.Prelude.{nat_eq, nat_le}
-use Rattle.std.specs.List.{AllByRecursion, list_any}
-use Rattle.std.proofs.lemmas.Bool.{or_from, or_left, or_right}
-use Rattle.std.proofs.lemmas.Bool.Decides.{nat_tests}
-use Rattle.std.proofs.lemmas.List.{map-append}
-use Rattle.std.proofs.lemmas.List.Folds.{list_any-append}
-use Rattle.ebc_base.proofs.Lists.{all_append}
-use Rattle.ebc_base.specs.Steps.{◌>>=◌}
-use Rattle.ebc_object.specs.Objects.{most}
-use Rattle.ebc_decode.proofs.Numbers.{IsBytes}
+use Rattle.link_laws.proofs.Common.{◌≡◌, ℕ, ◌+◌, ◌^◌, ◌<◌, ◌≤◌, List, [], ◌∷◌, ◌++◌, length, map, Some, None, Result, Ok, Bool, true, false}
+use Rattle.link_laws.proofs.Common.{not, cond, ◌&&◌, refl, sym, ap, subst, ◌∙◌, arith, append_assoc, append-nil, length-append, length-drop}
+use Rattle.link_laws.proofs.Common.{nat_eq, nat_le, AllByRecursion, list_any, or_from, or_left, or_right, nat_tests, map-append}
+use Rattle.link_laws.proofs.Common.{list_any-append, all_append, ◌>>=◌, most, IsBytes, AsmFault, Listed, Line, label_text, ListedFits}
+use Rattle.link_laws.proofs.Common.{listed_line, listed_text, reads_listed, bytes_of, ends_in_data, section_of, behind, is_defined}
+use Rattle.link_laws.proofs.Common.{lines_behind, global_of, is_labelled, same_bytes, behind_ok, Image, item_at, label_lines, labels}
+use Rattle.link_laws.proofs.Common.{lines_from}
 use Rattle.asm_text.proofs.LabelLaws.{label_read}
-use Rattle.asm_text.specs.declared.fault.AsmFault.{AsmFault}
-use Rattle.asm_text.specs.declared.listing.Listed.{Listed}
-use Rattle.asm_text.specs.declared.listing.Listed.TheVariants as listed
-use Rattle.asm_text.specs.Lines.{Line, label_of}
-use Rattle.asm_text.specs.Names.{label_text}
-use Rattle.asm_text.specs.Writing.{ListedFits, listed_line, listed_text}
-use Rattle.asm_text.proofs.ListLaws.{reads_listed}
-use Rattle.ebc_asm.specs.Pieces.{bytes_of, ends_in_data, section_of}
-use Rattle.ebc_asm.specs.Sources.{behind, global_is_defined, has_room, is_defined, is_instruction, is_placed, label_is_new, line_behind}
-use Rattle.ebc_asm.specs.Sources.{lines_behind, numbered}
-use Rattle.ebc_asm.specs.Symbols.{global_of, is_labelled, is_some_name}
-use Rattle.ebc_asm.proofs.NumberLaws.{same_bytes}
-use Rattle.ebc_asm.proofs.TakeLaws.{behind_ok}
-use Rattle.pe_image.specs.declared.image.Image.{Image}
-use Rattle.ebc_disasm.specs.Listings.{item_at, label_lines, labels, lines_from}
-use Rattle.link_laws.proofs.ItemLaws.{line_bytes}
-use Rattle.link_laws.proofs.SectionLaws.{bytes_of_lines, no_bytes, one_item}
-use Rattle.link_laws.proofs.PlaceLaws.{is_label_of, no_label, not_item}
-use Rattle.link_laws.proofs.Lists.{none_append}
-use Rattle.link_laws.proofs.Walks.{IsStep, walk}
+use Rattle.asm_text.specs.Lines.{label_of}
+use Rattle.ebc_asm.specs.Sources.{global_is_defined, has_room, is_instruction, is_placed, label_is_new, line_behind, numbered}
+use Rattle.ebc_asm.specs.Symbols.{is_some_name}
 use Rattle.link_laws.proofs.Bodies.{AreLow, IsBody, is_body, is_insn, item_body}
-use Rattle.link_laws.proofs.Lines.{head_of, in_data, is_head, no_heads}
 use Rattle.link_laws.proofs.Sources.{ends_append, ends_same, IsLowLabel, none_labelled, section_append, section_here, source}
+use Rattle.link_laws.proofs.{ItemLaws.line_bytes, SectionLaws.bytes_of_lines, SectionLaws.no_bytes, SectionLaws.one_item}
+use Rattle.link_laws.proofs.{PlaceLaws.is_label_of, PlaceLaws.no_label, PlaceLaws.not_item, Lists.none_append, Walks.IsStep, Walks.walk}
+use Rattle.link_laws.proofs.{Lines.head_of, Lines.in_data, Lines.is_head, Lines.no_heads}
+use Rattle.asm_text.specs.declared.listing.Listed.TheVariants as listed
 
 -- ---- the label of a line
 
@@ -148,24 +128,15 @@ data_behind texts d s x before st short =
 
 -- what is no label
 plain : (l : Listed) → is_body l ≡ true → (global_of (listed_line l).statement ≡ None) × ((listed_line l).label ≡ None)
-plain listed.Code h = cc h
-plain listed.Data h = cc h
-plain (listed.Label y) h = cc h
-plain (listed.Global y) h = cc h
 plain (listed.Place t) h = (refl, refl)
 plain (listed.Word n) h = (refl, refl)
 plain (listed.Byte n) h = (refl, refl)
 plain (listed.Instruction i t) h = (refl, refl)
+plain c h = cc h
 
 no_instruction : (l : Listed) → is_insn l ≡ false → is_instruction (listed_line l).statement ≡ false
-no_instruction listed.Code h = refl
-no_instruction listed.Data h = refl
-no_instruction (listed.Label y) h = refl
-no_instruction (listed.Global y) h = refl
-no_instruction (listed.Place t) h = refl
-no_instruction (listed.Word n) h = refl
-no_instruction (listed.Byte n) h = refl
 no_instruction (listed.Instruction i t) h = cc h
+no_instruction c h = refl
 
 pub body_behind : (texts : List (List ℕ)) (code : Bool) (s x n : ℕ) (before : List Line) (l : Listed) → Stand (not code) s x before
     → x + n ≤ s + most → length (line_bytes l) ≡ n → is_body l ≡ true → (code ≡ false → is_insn l ≡ false)

@@ -1,11 +1,6 @@
 -- The lines of some bytes, one thing that is listed after the other.
-use Rattle.std.proofs.Common.{refl, ℕ, zero, suc, ◌+◌, ◌≤◌, List, [], ◌∷◌, ◌++◌, length, drop, Bool, sym, subst, arith}
-use Rattle.std.proofs.Common.{length-drop}
-use Rattle.ebc_decode.proofs.Numbers.{IsBytes, IsBytes-drop}
-use Rattle.asm_text.specs.declared.listing.Listed.{Listed}
-use Rattle.pe_image.specs.declared.image.Image.{Image}
-use Rattle.ebc_disasm.specs.Listings.{item_at, label_lines, lines_from}
-use Rattle.ebc_disasm.proofs.Lines.{next_lines}
+use Rattle.link_laws.proofs.Common.{refl, ℕ, zero, suc, ◌+◌, ◌≤◌, List, [], ◌∷◌, ◌++◌, length, drop, Bool, sym, subst, arith, length-drop}
+use Rattle.link_laws.proofs.Common.{IsBytes, IsBytes-drop, Listed, Image, item_at, label_lines, lines_from, next_lines}
 use Rattle.link_laws.proofs.ItemLaws.{ItemOf, item_of}
 
 -- What holds of no lines, and of the labels of a place, what is listed there and the lines behind it where it holds of these, holds

@@ -1,26 +1,16 @@
 -- What shows still shows where the bytes agree and where no address is lost.
-use Rattle.std.proofs.Common.{◌≡◌, ℕ, zero, suc, ◌+◌, ◌-◌, ◌*◌, ◌%◌, ◌^◌, ◌<◌, ◌≤◌, ◌⊎◌, Bool, true, false, if◌then◌else◌, nat_eq, List, []}
-use Rattle.std.proofs.Common.{◌∷◌, Some, refl, sym, ap, ◌∙◌, subst, arith, inl, inr, ⊎_elim, slice_get, mod-eq_of_lt, option_map, pow-suc}
-use Rattle.std.proofs.lemmas.Option.{same_Some, none-some}
-use Rattle.note_types.specs.declared.cell.Cell.TheVariants as cell
-use Rattle.ebc_width.specs.Bytes.{little_endian, put}
-use Rattle.ebc_width.proofs.ByteLaws.{little_endian-agree, little_endian-same, put-apart}
-use Rattle.ebc_width.specs.Width.{IsWidth}
-use Rattle.ebc_width.proofs.Laws.{by_width}
-use Rattle.note_types.specs.Cells.{cell_size}
-use Rattle.note_types.specs.Shapes.{FitsAt, size_at, start_at}
-use Rattle.note_types.specs.declared.cell.Cell.{Cell}
-use Rattle.note_types.specs.declared.cell.SlotKind.{SlotKind}
-use Rattle.note_types.specs.declared.cell.SlotKind.TheVariants.{N, Q, D}
-use Rattle.note_types.specs.declared.shape.Field.{Field}
-use Rattle.note_types.specs.declared.shape.Shape.{Shape}
-use Rattle.host_model.specs.Values.{Anchor, Neutral, Num, At, Handle, Method, Entry, Error, SignedError, Junk, Addresses, Shows, ShowsIn}
-use Rattle.host_model.specs.Values.{word, minus}
-use Rattle.neutral_machine.specs.Config.{StackItem, Pushed, LocalsOf, Frame, Function, Host, depth, locals_among, locals_at}
-use Rattle.host_model.specs.Placements.{Placement, slot_bytes, return_cell}
-use Rattle.neutral_machine.specs.Layout.{item_size, height, total, local_among, local_address}
-use Rattle.neutral_machine.specs.Stands.{ItemShows, ItemsShow, ReturnShows, FramesShow}
+use Rattle.neutral_machine.proofs.Common.{◌≡◌, ℕ, zero, suc, ◌+◌, ◌-◌, ◌*◌, ◌%◌, ◌^◌, ◌<◌, ◌≤◌, ◌⊎◌, Bool, true, false, if◌then◌else◌}
+use Rattle.neutral_machine.proofs.Common.{nat_eq, List, [], ◌∷◌, Some, refl, sym, ap, ◌∙◌, subst, arith, inl, inr, ⊎_elim, slice_get}
+use Rattle.neutral_machine.proofs.Common.{mod-eq_of_lt, option_map, same_Some, none-some, little_endian, put, little_endian-agree}
+use Rattle.neutral_machine.proofs.Common.{put-apart, IsWidth, by_width, cell_size, FitsAt, size_at, start_at, Cell, SlotKind, N, Q, D}
+use Rattle.neutral_machine.proofs.Common.{Field, Shape, Anchor, Neutral, At, Handle, Method, Entry, Junk, Addresses, Shows, ShowsIn, word}
+use Rattle.neutral_machine.proofs.Common.{minus, StackItem, Pushed, LocalsOf, Frame, Function, Host, depth, locals_among, locals_at}
+use Rattle.neutral_machine.proofs.Common.{Placement, slot_bytes, return_cell, item_size, height, total, local_among, local_address}
+use Rattle.neutral_machine.proofs.Common.{ItemShows, ItemsShow, ReturnShows, FramesShow}
+use Rattle.std.proofs.Common.{pow-suc}
+use Rattle.ebc_width.proofs.ByteLaws.{little_endian-same}
 use Rattle.neutral_machine.proofs.Numbers.{minus-is}
+use Rattle.note_types.specs.declared.cell.Cell.TheVariants as cell
 
 -- ---- more addresses
 
@@ -31,14 +21,12 @@ pub record Extends (A B : Addresses) : Type 0 where
   pub entry : (k p : ℕ) → A.entry k ≡ Some p → B.entry k ≡ Some p
 
 pub shows_more : (w : ℕ) (A B : Addresses) (v : Neutral) (x : ℕ) → Extends A B → Shows w A v x → Shows w B v x
-shows_more w A B (Num n c) x e h = h
 shows_more w A B (At a n c) x e h = record { from = h.from; there = e.anchor a h.from h.there; is = h.is }
 shows_more w A B (Handle k) x e h = e.handle k x h
 shows_more w A B (Method k) x e h = e.method k x h
 shows_more w A B (Entry k) x e h = e.entry k x h
-shows_more w A B (Error k) x e h = h
-shows_more w A B (SignedError k) x e h = h
 shows_more w A B Junk x e h = tt
+shows_more w A B v x e h = h
 
 pub shows_in_more : (w : ℕ) (A B : Addresses) (k : ℕ) (v : Neutral) (x : ℕ) → Extends A B → ShowsIn w A k v x → ShowsIn w B k v x
 shows_in_more w A B k v x e h = record { whole = h.whole; shows = shows_more w A B v h.whole e h.shows; cut = h.cut }

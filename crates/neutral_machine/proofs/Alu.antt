@@ -1,22 +1,17 @@
 -- Operations on values show as the machine's on numbers, wherever things are.
-use Rattle.std.proofs.Common.{◌≡◌, ℕ, suc, ◌+◌, ◌-◌, ◌*◌, ◌/◌, ◌%◌, ◌^◌, ◌<◌, Bool, true, false, ◌&&◌, if◌then◌else◌, nat_eq}
-use Rattle.std.proofs.Common.{nat_lt, Option, Some, None, Ok, Err, ℤ, pos, negsuc, ◌*ℤ◌, refl, sym, ap, ap₂, ◌∙◌, subst, subst₂, arith}
-use Rattle.std.proofs.Common.{mul_comm}
-use Rattle.std.proofs.lemmas.Bool.{cond_both, false≢true}
-use Rattle.std.proofs.lemmas.Nat.{mul-mod_first}
+use Rattle.neutral_machine.proofs.Common.{◌≡◌, ℕ, suc, ◌+◌, ◌-◌, ◌*◌, ◌/◌, ◌%◌, ◌^◌, ◌<◌, Bool, true, false, ◌&&◌, if◌then◌else◌, nat_eq}
+use Rattle.neutral_machine.proofs.Common.{nat_lt, Option, Some, None, Ok, Err, ℤ, pos, negsuc, ◌*ℤ◌, refl, sym, ap, ap₂, ◌∙◌, subst, subst₂}
+use Rattle.neutral_machine.proofs.Common.{arith, mul_comm, false≢true, mul-mod_first, wrap64, ArithOp, or_divide_error, bits_of, low}
+use Rattle.neutral_machine.proofs.Common.{signed, outcome, divides, computed, Neutral, Junk, Addresses, Shows, number, plain, Gives, Raises}
+use Rattle.neutral_machine.proofs.Common.{Does, by_table}
+use Rattle.std.proofs.lemmas.Bool.{cond_both}
+use Rattle.ebc_width.proofs.Laws.{wrap64-neg}
+use Rattle.ebc_machine.proofs.ResultLaws.{outcome-below, computed-below}
+use Rattle.machine_alu.specs.Alu.{divides_by_zero, divide_error}
+use Rattle.neutral_machine.specs.Operations.{is_unary, of_table, on_plain, on_one, on_divisor}
+use Rattle.neutral_machine.proofs.Values.{plain_shows, number_shows}
 use Rattle.ebc_insn.specs.declared.ArithOp.TheVariants as ops
 use Rattle.note_types.specs.declared.exception.Exception.TheVariants as raises
-use Rattle.ebc_width.specs.Width.{wrap64}
-use Rattle.ebc_width.proofs.Laws.{wrap64-neg}
-use Rattle.ebc_insn.specs.declared.ArithOp.{ArithOp}
-use Rattle.ebc_machine.specs.Results.{or_divide_error}
-use Rattle.ebc_machine.proofs.ResultLaws.{outcome-below, computed-below}
-use Rattle.machine_alu.specs.Alu.{bits_of, low, signed, outcome, divides, divides_by_zero, divide_error, computed}
-use Rattle.host_model.specs.Values.{Neutral, Junk, Addresses, Shows, number, plain}
-use Rattle.neutral_machine.specs.Outcomes.{Gives, Raises}
-use Rattle.neutral_machine.specs.Alike.{Does}
-use Rattle.neutral_machine.specs.Operations.{is_unary, of_table, on_plain, on_one, on_divisor, by_table}
-use Rattle.neutral_machine.proofs.Values.{plain_shows, number_shows}
 
 -- ---- results are numbers of as many bits
 

@@ -1,28 +1,14 @@
 -- Every address of a thing lies below the greatest address of a width.
-use Rattle.std.proofs.Common.{◌≡◌, ℕ, ◌+◌, ◌*◌, ◌^◌, ◌<◌, ◌≤◌, ◌⊎◌, Bool, true, false, if◌then◌else◌, nat_eq, nat_lt, List, [], ◌∷◌, length}
-use Rattle.std.proofs.Common.{Option, Some, None, refl, sym, ◌∙◌, subst, arith, inl, inr, slice_get}
-use Rattle.std.proofs.lemmas.Bool.{ltb-true}
-use Rattle.std.proofs.lemmas.Option.{same_Some, none-some}
-use Rattle.ebc_width.specs.Width.{IsWidth}
-use Rattle.note_types.specs.declared.shape.Field.{Field}
-use Rattle.note_types.specs.declared.shape.Shape.{Shape}
-use Rattle.neutral_machine.specs.Config.{StackItem, Pushed, LocalsOf, Frame, Function, Host, depth, locals_among, locals_at}
-use Rattle.host_model.specs.World.{World}
-use Rattle.host_model.specs.declared.object.TypedObject.{TypedObject}
-use Rattle.host_model.specs.Objects.{made_objects}
-use Rattle.host_model.specs.Placements.{object_bytes, there, method_at, thunk_at, handle_at, handle_count, Placement, IsPlacement, IsWithin}
-use Rattle.host_model.specs.Placements.{area_bytes, stack_bytes, stack_end, placed_ranges, return_cell}
-use Rattle.neutral_machine.specs.Layout.{addresses, total, local_among, local_address}
-use Rattle.neutral_machine.specs.Operations.{extent_if}
-use Rattle.neutral_machine.specs.Stands.{OwnLocalsAll}
-use Rattle.neutral_machine.specs.WorldFits.{WorldFits}
+use Rattle.neutral_machine.proofs.Common.{◌≡◌, ℕ, ◌+◌, ◌*◌, ◌^◌, ◌<◌, ◌≤◌, ◌⊎◌, Bool, true, false, if◌then◌else◌, nat_eq, nat_lt, List, []}
+use Rattle.neutral_machine.proofs.Common.{◌∷◌, length, Option, Some, None, refl, sym, ◌∙◌, subst, arith, inl, inr, slice_get, ltb-true}
+use Rattle.neutral_machine.proofs.Common.{same_Some, none-some, IsWidth, Field, Shape, StackItem, Pushed, LocalsOf, Frame, Function, Host}
+use Rattle.neutral_machine.proofs.Common.{depth, locals_among, locals_at, World, TypedObject, made_objects, object_bytes, there, method_at}
+use Rattle.neutral_machine.proofs.Common.{thunk_at, handle_at, handle_count, Placement, IsPlacement, IsWithin, area_bytes, stack_bytes}
+use Rattle.neutral_machine.proofs.Common.{stack_end, placed_ranges, return_cell, addresses, total, local_among, local_address, extent_if}
+use Rattle.neutral_machine.proofs.Common.{OwnLocalsAll, WorldFits, All_at, some_of_map}
 use Rattle.neutral_machine.proofs.Placed.{lies, object_within, image_within, stack_within}
-use Rattle.neutral_machine.proofs.Agree.{local_within, cell_positive}
-use Rattle.neutral_machine.proofs.Locals.{fits_at, locals_fit}
-use Rattle.neutral_machine.proofs.Cells.{end_small}
-use Rattle.neutral_machine.proofs.Values.{Bounded, ObjectsBelow}
-use Rattle.ebc_base.proofs.Lists.{All_at}
-use Rattle.ebc_base.proofs.Given.{some_of_map}
+use Rattle.neutral_machine.proofs.{Agree.local_within, Agree.cell_positive, Locals.fits_at, Locals.locals_fit, Cells.end_small}
+use Rattle.neutral_machine.proofs.{Values.Bounded, Values.ObjectsBelow}
 
 -- an address of a local is that of a field of locals that are there
 pub record LocalFrom (fs : List Frame) (d f : ℕ) : Type 0 where

@@ -1,8 +1,6 @@
 -- Two cells share no byte, said of their places.
-use Rattle.std.proofs.Common.{◌≡◌, ◌+◌, ◌≤◌, ◌⊎◌, ℕ, Bool, true, false, nat_eq, refl, ap₂}
-use Rattle.std.proofs.lemmas.Bool.{eqb-true, and_parts, false≢true}
-use Rattle.note_types.specs.Cells.{cell_size}
-use Rattle.host_model.specs.Values.{CellPlace, FieldOf, FieldOfLocals, same_cell_place}
+use Rattle.neutral_machine.proofs.Common.{◌≡◌, ◌+◌, ◌≤◌, ◌⊎◌, ℕ, Bool, true, false, nat_eq, refl, ap₂, eqb-true, and_parts, false≢true}
+use Rattle.neutral_machine.proofs.Common.{cell_size, CellPlace, FieldOf, FieldOfLocals, same_cell_place}
 use Rattle.neutral_machine.specs.Laws.{CellsApart}
 use Rattle.neutral_machine.proofs.Cells.{cells_off}
 

@@ -1,28 +1,19 @@
 -- A cell takes exactly the values that fit its content type.
-use Rattle.std.proofs.Common.{◌≡◌, ℕ, zero, suc, pos, ◌+◌, ◌-◌, ◌*◌, ◌/◌, ◌^◌, ◌<◌, ◌≤◌, Bool, true, false, ◌&&◌, ◌||◌, if◌then◌else◌}
-use Rattle.std.proofs.Common.{nat_lt, nat_le, nat_eq, Decides, List, Option, Some, None, slice_get, refl, sym, ap, ap₂, ◌∙◌, subst, arith}
-use Rattle.std.proofs.Common.{inl, inr, ⊎_elim, le_refl}
-use Rattle.std.proofs.Math.Nat.{dvd_of_mod-eq-zero}
-use Rattle.std.proofs.lemmas.Bool.{lt-ltb, ltb-true, le-leb, leb-true, eq-eqb, eqb-true, and_from, and_parts, or_left, or_right, or_cases}
-use Rattle.std.proofs.lemmas.Bool.{false≢true}
-use Rattle.std.proofs.lemmas.Nat.{row_fits, div-mul-add, pow_pos}
-use Rattle.ebc_width.specs.Width.{wrap64}
+use Rattle.neutral_machine.proofs.Common.{◌≡◌, ℕ, zero, pos, ◌+◌, ◌-◌, ◌*◌, ◌/◌, ◌^◌, ◌<◌, ◌≤◌, Bool, true, false, ◌&&◌, ◌||◌}
+use Rattle.neutral_machine.proofs.Common.{if◌then◌else◌, nat_lt, nat_le, nat_eq, List, Option, Some, None, slice_get, refl, sym, ap, ap₂}
+use Rattle.neutral_machine.proofs.Common.{◌∙◌, subst, arith, inl, inr, ⊎_elim, le_refl, lt-ltb, ltb-true, le-leb, leb-true, eq-eqb}
+use Rattle.neutral_machine.proofs.Common.{eqb-true, and_from, and_parts, or_cases, false≢true, row_fits, div-mul-add, wrap64, size_at, Cell}
+use Rattle.neutral_machine.proofs.Common.{Notes, Shape, FitsPlain, IsNumber, IsPointer, IsSuccess, IsError, IsHandle, IsEntry, OrNull}
+use Rattle.neutral_machine.proofs.Common.{fits_cell, TypedObject, shape_of, Instance, instance_at, starts_at, starts_if, instance_of}
+use Rattle.neutral_machine.proofs.Common.{is_null, has_instances, Neutral, Num, At, Handle, Method, Entry, Error, ObjectOf, number, null}
+use Rattle.neutral_machine.proofs.Common.{plain, word}
+use Rattle.std.proofs.{Common.Decides, Math.Nat.dvd_of_mod-eq-zero}
+use Rattle.std.proofs.lemmas.{Bool.or_left, Bool.or_right, Nat.pow_pos}
 use Rattle.note_types.specs.Cells.{IsBoundedCell, content_type}
-use Rattle.note_types.specs.Shapes.{size_at}
-use Rattle.note_types.specs.declared.cell.Cell.{Cell}
-use Rattle.note_types.specs.declared.cell.Cell.TheVariants as cell
-use Rattle.note_types.specs.declared.notes.Notes.{Notes}
-use Rattle.note_types.specs.declared.shape.Shape.{Shape}
+use Rattle.neutral_machine.specs.Locations.{fits_bits, is_error, is_instance, room_if}
 use Rattle.neutral_machine.specs.CellLaw.{IsReduced, AreSmall, CellsTakeWhatFits}
-use Rattle.neutral_machine.specs.Fits.{FitsPlain, IsNumber, IsPointer, IsSuccess, IsError, IsHandle, IsEntry, OrNull}
-use Rattle.neutral_machine.specs.Locations.{fits_bits, fits_cell, is_error, is_instance, room_if}
+use Rattle.note_types.specs.declared.cell.Cell.TheVariants as cell
 use Rattle.neutral_machine.specs.Locations as locations
-use Rattle.host_model.specs.declared.object.TypedObject.{TypedObject}
-use Rattle.host_model.specs.Objects.{shape_of}
-use Rattle.neutral_machine.specs.Operations.{Instance, instance_at, starts_at, starts_if, instance_of, is_null}
-use Rattle.host_model.specs.ScriptValues.{has_instances}
-use Rattle.host_model.specs.Values.{Neutral, Num, At, Handle, Method, Entry, Error, SignedError, Junk, ObjectOf, ThunkOf, LocalOf, number}
-use Rattle.host_model.specs.Values.{null, plain, word}
 
 -- ---- numbers
 
@@ -35,14 +26,7 @@ record IsPlain (bits : ℕ) (v : Neutral) : Type 0 where
 plain_bits : (bits : ℕ) (v : Neutral) → IsReduced v → fits_bits bits (plain v) ≡ true → IsPlain bits v
 plain_bits bits (Num zero c) r h = let l = ltb-true (word c) (2 ^ bits) h in let k = r.1 in let e : word c ≡ c = omega (arith, k) in
     record { x = c; is = refl; small = omega (arith, l, e) }
-plain_bits bits (Num (suc n) c) r h = absurd (false≢true h)
-plain_bits bits (At a n c) r h = absurd (false≢true h)
-plain_bits bits (Handle k) r h = absurd (false≢true h)
-plain_bits bits (Method k) r h = absurd (false≢true h)
-plain_bits bits (Entry k) r h = absurd (false≢true h)
-plain_bits bits (Error k) r h = absurd (false≢true h)
-plain_bits bits (SignedError k) r h = absurd (false≢true h)
-plain_bits bits Junk r h = absurd (false≢true h)
+plain_bits bits v r h = absurd (false≢true h)
 
 pub bits_fit : (bits x : ℕ) (v : Neutral) → v ≡ number x → x < 2 ^ bits → 2 ^ bits ≤ 2 ^ 64 → fits_bits bits (plain v) ≡ true
 bits_fit bits x v e l h = ap (λ z. fits_bits bits (plain z)) e ∙ lt-ltb (word x) (2 ^ bits)
@@ -69,53 +53,23 @@ number_taken bits v r h = (
 
 error_taken : (v : Neutral) → is_error v ≡ true → IsError v
 error_taken (Error k) h = record { code = k; is = refl; small = ltb-true k (2 ^ 31) h }
-error_taken (Num n c) h = absurd (false≢true h)
-error_taken (At a n c) h = absurd (false≢true h)
-error_taken (Handle k) h = absurd (false≢true h)
-error_taken (Method k) h = absurd (false≢true h)
-error_taken (Entry k) h = absurd (false≢true h)
-error_taken (SignedError k) h = absurd (false≢true h)
-error_taken Junk h = absurd (false≢true h)
+error_taken v h = absurd (false≢true h)
 
 null_taken : (v : Neutral) → is_null v ≡ true → v ≡ null
 null_taken (Num n c) h = let p = and_parts (nat_eq n 0) (nat_eq c 0) h in ap₂ Num (eqb-true n 0 p.0) (eqb-true c 0 p.1)
-null_taken (At a n c) h = absurd (false≢true h)
-null_taken (Handle k) h = absurd (false≢true h)
-null_taken (Method k) h = absurd (false≢true h)
-null_taken (Entry k) h = absurd (false≢true h)
-null_taken (Error k) h = absurd (false≢true h)
-null_taken (SignedError k) h = absurd (false≢true h)
-null_taken Junk h = absurd (false≢true h)
+null_taken v h = absurd (false≢true h)
 
 handle_taken : (v : Neutral) → locations.is_handle v ≡ true → IsHandle v
 handle_taken (Handle k) h = record { k = k; is = refl }
-handle_taken (Num n c) h = absurd (false≢true h)
-handle_taken (At a n c) h = absurd (false≢true h)
-handle_taken (Method k) h = absurd (false≢true h)
-handle_taken (Entry k) h = absurd (false≢true h)
-handle_taken (Error k) h = absurd (false≢true h)
-handle_taken (SignedError k) h = absurd (false≢true h)
-handle_taken Junk h = absurd (false≢true h)
+handle_taken v h = absurd (false≢true h)
 
 entry_taken : (v : Neutral) → locations.is_entry v ≡ true → IsEntry v
 entry_taken (Entry k) h = record { func = k; is = refl }
-entry_taken (Num n c) h = absurd (false≢true h)
-entry_taken (At a n c) h = absurd (false≢true h)
-entry_taken (Handle k) h = absurd (false≢true h)
-entry_taken (Method k) h = absurd (false≢true h)
-entry_taken (Error k) h = absurd (false≢true h)
-entry_taken (SignedError k) h = absurd (false≢true h)
-entry_taken Junk h = absurd (false≢true h)
+entry_taken v h = absurd (false≢true h)
 
 method_taken : (m : ℕ) (v : Neutral) → locations.is_method m v ≡ true → v ≡ Method m
 method_taken m (Method k) h = ap Method (eqb-true k m h)
-method_taken m (Num n c) h = absurd (false≢true h)
-method_taken m (At a n c) h = absurd (false≢true h)
-method_taken m (Handle k) h = absurd (false≢true h)
-method_taken m (Entry k) h = absurd (false≢true h)
-method_taken m (Error k) h = absurd (false≢true h)
-method_taken m (SignedError k) h = absurd (false≢true h)
-method_taken m Junk h = absurd (false≢true h)
+method_taken m v h = absurd (false≢true h)
 
 -- ---- pointers
 
@@ -166,15 +120,7 @@ module _ (notes : Notes) (objects : List TypedObject) (small : AreSmall notes ob
           → IsPointer notes objects s count (pos 0) (pos 0) (At (ObjectOf k) n c)
       by_object None there g = absurd (false≢true g)
       by_object (Some o) there g = starts_fit s count k n c o there g
-  instance_taken s count (At (ThunkOf k) n c) h = absurd (false≢true h)
-  instance_taken s count (At (LocalOf d f) n c) h = absurd (false≢true h)
-  instance_taken s count (Num n c) h = absurd (false≢true h)
-  instance_taken s count (Handle k) h = absurd (false≢true h)
-  instance_taken s count (Method k) h = absurd (false≢true h)
-  instance_taken s count (Entry k) h = absurd (false≢true h)
-  instance_taken s count (Error k) h = absurd (false≢true h)
-  instance_taken s count (SignedError k) h = absurd (false≢true h)
-  instance_taken s count Junk h = absurd (false≢true h)
+  instance_taken s count v h = absurd (false≢true h)
 
   quotient : (j n c : ℕ) → 0 < n * 4 + c → j * n * 4 + j * c < 2 ^ 64 → word (word (j * n) * 4 + word (j * c)) / (n * 4 + c) ≡ j
   quotient j n c p l =

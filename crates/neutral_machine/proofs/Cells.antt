@@ -1,34 +1,18 @@
 -- Cells: each has an address in one placed object, cells of different places share no byte, and none is on the rest.
-use Rattle.std.proofs.Common.{◌≡◌, ◌≢◌, ℕ, ◌+◌, ◌-◌, ◌*◌, ◌^◌, ◌<◌, ◌≤◌, Bool, true, false, if◌then◌else◌, nat_lt, Option, Some, None, refl}
-use Rattle.std.proofs.Common.{sym, ap, ap₂, ◌∙◌, subst, subst₂, arith, inl, inr, ⊎_elim, slice_get, le_refl, option_and_then}
-use Rattle.std.proofs.lemmas.Bool.{ltb-true, eq-eqb, and_from, cases_eq, cases_order, true≢false}
-use Rattle.std.proofs.lemmas.Nat.{row_fits}
-use Rattle.std.proofs.lemmas.Option.{same_Some, none-some, slice_get-get_or}
-use Rattle.ebc_width.specs.Width.{IsWidth}
-use Rattle.note_types.specs.Cells.{cell_size}
-use Rattle.ebc_width.specs.Ranges.{holds}
-use Rattle.note_types.specs.Shapes.{IsShape, size_at, start_at}
-use Rattle.note_types.specs.declared.notes.FnNote.{FnNote}
-use Rattle.note_types.specs.declared.notes.Thunk.{Thunk}
-use Rattle.note_types.specs.declared.shape.Field.{Field}
-use Rattle.note_types.specs.declared.shape.Shape.{Shape}
-use Rattle.host_model.specs.Values.{CellPlace, FieldOf, FieldOfLocals, same_cell_place}
-use Rattle.neutral_machine.specs.Config.{Config, locals_at}
-use Rattle.host_model.specs.World.{World}
-use Rattle.host_model.specs.declared.object.TypedObject.{TypedObject}
-use Rattle.host_model.specs.Objects.{shape_of, no_shape, made_objects}
-use Rattle.host_model.specs.Placements.{object_bytes, Placement, IsPlacement, stack_bytes, stack_end, object_address, placed_ranges}
-use Rattle.neutral_machine.specs.Layout.{total, local_address}
-use Rattle.neutral_machine.specs.Memory.{memory_of, cell_field}
+use Rattle.neutral_machine.proofs.Common.{◌≡◌, ◌≢◌, ℕ, ◌+◌, ◌-◌, ◌*◌, ◌^◌, ◌<◌, ◌≤◌, Bool, true, false, if◌then◌else◌, nat_lt, Option, Some}
+use Rattle.neutral_machine.proofs.Common.{None, refl, sym, ap, ap₂, ◌∙◌, subst, subst₂, arith, inl, inr, ⊎_elim, slice_get, le_refl}
+use Rattle.neutral_machine.proofs.Common.{option_and_then, ltb-true, eq-eqb, and_from, cases_eq, cases_order, true≢false, row_fits}
+use Rattle.neutral_machine.proofs.Common.{same_Some, none-some, slice_get-get_or, IsWidth, cell_size, holds, IsShape, size_at, start_at}
+use Rattle.neutral_machine.proofs.Common.{FnNote, Thunk, Field, Shape, CellPlace, FieldOf, FieldOfLocals, same_cell_place, Config}
+use Rattle.neutral_machine.proofs.Common.{locals_at, World, TypedObject, shape_of, no_shape, made_objects, object_bytes, Placement}
+use Rattle.neutral_machine.proofs.Common.{IsPlacement, stack_bytes, stack_end, object_address, placed_ranges, total, local_address}
+use Rattle.neutral_machine.proofs.Common.{memory_of, cell_field, OwnLocalsAll, cell_address, WorldFits}
 use Rattle.host_model.specs.HostPlans.{field_in}
-use Rattle.neutral_machine.specs.Stands.{OwnLocalsAll, cell_address, in_object}
-use Rattle.neutral_machine.specs.WorldFits.{WorldFits}
+use Rattle.neutral_machine.specs.Stands.{in_object}
 use Rattle.neutral_machine.proofs.Placed.{lies, Off, off_stack, off_thunk, off_code, image_off_stack, object_within, objects_off}
 use Rattle.neutral_machine.proofs.Placed.{object_holds, stack_holds, stack_within}
-use Rattle.neutral_machine.proofs.PlacedObjects.{Lies}
-use Rattle.neutral_machine.proofs.Agree.{Within, local_within}
-use Rattle.neutral_machine.proofs.Locals.{fits_at, locals_fit, local_there, locals_off}
-use Rattle.neutral_machine.proofs.Words.{width_word}
+use Rattle.neutral_machine.proofs.{PlacedObjects.Lies, Agree.Within, Agree.local_within, Locals.fits_at, Locals.locals_fit}
+use Rattle.neutral_machine.proofs.{Locals.local_there, Locals.locals_off, Words.width_word}
 
 -- a well-formed shape at a number
 pub shape_fits : (world : World) (n k : ℕ) (o : TypedObject) → WorldFits world

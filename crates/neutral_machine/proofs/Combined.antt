@@ -1,23 +1,15 @@
 -- All operations of arithmetic on values show as the machine's: one law.
-use Rattle.std.proofs.Common.{◌≡◌, ℕ, zero, suc, ◌+◌, ◌-◌, ◌*◌, ◌%◌, ◌^◌, ◌<◌, Bool, true, false, ◌&&◌, if◌then◌else◌, nat_eq, nat_lt}
-use Rattle.std.proofs.Common.{Option, Some, None, Ok, bit_or, refl, sym, ap, ap₂, ◌∙◌, subst, arith, mod-eq_of_lt, mul_comm}
-use Rattle.std.proofs.lemmas.Bool.{ltb-true, and_parts, eqb-true, false≢true}
-use Rattle.std.proofs.lemmas.Nat.{mul-mod_first, or_shifted, or_comm}
-use Rattle.std.proofs.lemmas.Option.{same_Some, none-some}
+use Rattle.neutral_machine.proofs.Common.{◌≡◌, ℕ, zero, ◌+◌, ◌-◌, ◌*◌, ◌%◌, ◌^◌, ◌<◌, Bool, true, false, ◌&&◌, if◌then◌else◌, nat_eq}
+use Rattle.neutral_machine.proofs.Common.{nat_lt, Option, Some, None, Ok, refl, sym, ap, ap₂, ◌∙◌, subst, arith, mod-eq_of_lt, mul_comm}
+use Rattle.neutral_machine.proofs.Common.{ltb-true, and_parts, eqb-true, false≢true, mul-mod_first, same_Some, none-some, IsWidth, by_width}
+use Rattle.neutral_machine.proofs.Common.{ArithOp, or_divide_error, bits_of, low, outcome, divides, computed, Neutral, Num, At, Error}
+use Rattle.neutral_machine.proofs.Common.{Addresses, Shows, plain, word, minus, Gives, Does, sum_of, by_table, combined}
+use Rattle.std.proofs.Common.{bit_or}
+use Rattle.std.proofs.lemmas.Nat.{or_shifted, or_comm}
+use Rattle.neutral_machine.specs.Operations.{difference_of, multiple_of, product_of, shifts_to_mask, coded, or_of, combined_wide}
+use Rattle.neutral_machine.proofs.{Numbers.lin_mod, Numbers.sum_num, Numbers.sum_at, Values.plain_shows, Values.sum_shows, Alu.Word}
+use Rattle.neutral_machine.proofs.{Alu.gives, Alu.table_does, Alu.signed_product}
 use Rattle.ebc_insn.specs.declared.ArithOp.TheVariants as ops
-use Rattle.ebc_width.specs.Width.{IsWidth}
-use Rattle.ebc_width.proofs.Laws.{by_width}
-use Rattle.ebc_insn.specs.declared.ArithOp.{ArithOp}
-use Rattle.ebc_machine.specs.Results.{or_divide_error}
-use Rattle.machine_alu.specs.Alu.{bits_of, low, outcome, divides, computed}
-use Rattle.host_model.specs.Values.{Neutral, Num, At, Handle, Method, Entry, Error, SignedError, Junk, Addresses, Shows, plain, word, minus}
-use Rattle.neutral_machine.specs.Outcomes.{Gives}
-use Rattle.neutral_machine.specs.Alike.{Does}
-use Rattle.neutral_machine.specs.Operations.{sum_of, difference_of, multiple_of, product_of, shifts_to_mask, coded, by_table, or_of}
-use Rattle.neutral_machine.specs.Operations.{combined_wide, combined}
-use Rattle.neutral_machine.proofs.Numbers.{lin_mod, sum_num, sum_at}
-use Rattle.neutral_machine.proofs.Values.{plain_shows, sum_shows}
-use Rattle.neutral_machine.proofs.Alu.{Word, gives, table_does, signed_product}
 
 -- ---- differences
 
@@ -70,14 +62,7 @@ pub product_shows : (w : ℕ) (A : Addresses) (v u : Neutral) (x y : ℕ) → Sh
     → Shows w A (product_of v u) (word (x * y))
 product_shows w A (Num zero c) u x y p q = subst (λ z. Shows w A (multiple_of (plain (Num zero c)) u) (word z)) (mul_comm y x)
     (multiple_shows w A u y x (Some (word c)) (λ d e. plain_shows w A (Num zero c) x d p e) q)
-product_shows w A (Num (suc n) c) u x y p q = multiple_shows w A (Num (suc n) c) x y (plain u) (λ d e. plain_shows w A u y d q e) p
-product_shows w A (At a n c) u x y p q = multiple_shows w A (At a n c) x y (plain u) (λ d e. plain_shows w A u y d q e) p
-product_shows w A (Handle k) u x y p q = multiple_shows w A (Handle k) x y (plain u) (λ d e. plain_shows w A u y d q e) p
-product_shows w A (Method k) u x y p q = multiple_shows w A (Method k) x y (plain u) (λ d e. plain_shows w A u y d q e) p
-product_shows w A (Entry k) u x y p q = multiple_shows w A (Entry k) x y (plain u) (λ d e. plain_shows w A u y d q e) p
-product_shows w A (Error k) u x y p q = multiple_shows w A (Error k) x y (plain u) (λ d e. plain_shows w A u y d q e) p
-product_shows w A (SignedError k) u x y p q = multiple_shows w A (SignedError k) x y (plain u) (λ d e. plain_shows w A u y d q e) p
-product_shows w A Junk u x y p q = multiple_shows w A Junk x y (plain u) (λ d e. plain_shows w A u y d q e) p
+product_shows w A v u x y p q = multiple_shows w A v x y (plain u) (λ d e. plain_shows w A u y d q e) p
 
 -- ---- statuses
 
@@ -176,19 +161,7 @@ module _ (w : ℕ) (h : IsWidth w) (A : Addresses) where
       (product_shows w A v u x y p.1 q.1)
   wide_does ops.Shl v u x y p q = shl_does v u x y p q
   wide_does ops.Or v u x y p q = or_does v u x y p q
-  wide_does ops.Not v u x y p q = table_does w A ops.Not true v u x y p q
-  wide_does ops.Neg v u x y p q = table_does w A ops.Neg true v u x y p q
-  wide_does ops.Div v u x y p q = table_does w A ops.Div true v u x y p q
-  wide_does ops.Divu v u x y p q = table_does w A ops.Divu true v u x y p q
-  wide_does ops.Mod v u x y p q = table_does w A ops.Mod true v u x y p q
-  wide_does ops.Modu v u x y p q = table_does w A ops.Modu true v u x y p q
-  wide_does ops.And v u x y p q = table_does w A ops.And true v u x y p q
-  wide_does ops.Xor v u x y p q = table_does w A ops.Xor true v u x y p q
-  wide_does ops.Shr v u x y p q = table_does w A ops.Shr true v u x y p q
-  wide_does ops.Ashr v u x y p q = table_does w A ops.Ashr true v u x y p q
-  wide_does ops.Extb v u x y p q = table_does w A ops.Extb true v u x y p q
-  wide_does ops.Extw v u x y p q = table_does w A ops.Extw true v u x y p q
-  wide_does ops.Extd v u x y p q = table_does w A ops.Extd true v u x y p q
+  wide_does op v u x y p q = table_does w A op true v u x y p q
 
   -- Each operation at each size: the machine's number is that of the neutral machine's value, or both divide by 0.
   pub combined_does : (op : ArithOp) (wide : Bool) (v u : Neutral) (x y : ℕ) → Word w A v x → Word w A u y

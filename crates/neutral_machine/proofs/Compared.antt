@@ -1,40 +1,20 @@
 -- Comparisons of values that are defined are the machine's comparisons of their numbers.
-use Rattle.std.proofs.Common.{◌≡◌, ◌≢◌, ℕ, ◌+◌, ◌-◌, ◌*◌, ◌^◌, ◌<◌, ◌≤◌, Bool, true, false, ◌&&◌, ◌||◌, if◌then◌else◌, nat_eq, nat_lt, List}
-use Rattle.std.proofs.Common.{length, Option, Some, None, pos, int_le, refl, sym, ap, ap₂, ◌∙◌, subst, subst₂, arith, inl, inr, ⊎_elim}
-use Rattle.std.proofs.Common.{slice_get, mod-eq_of_lt, le_refl}
-use Rattle.std.proofs.Math.Nat.{add-mod-mod}
-use Rattle.std.proofs.lemmas.Bool.{ltb-true, eqb-true, eqb-false, eq-eqb, ne_eqb, and_parts, or_cases, lt-ltb, le-ltb, le-leb, cases_eq}
-use Rattle.std.proofs.lemmas.Bool.{cases_order, false≢true, true≢false}
-use Rattle.std.proofs.lemmas.Nat.{row_fits}
-use Rattle.std.proofs.lemmas.Option.{same_Some, none-some}
-use Rattle.ebc_insn.specs.declared.CmpOp.TheVariants as cmps
-use Rattle.ebc_width.specs.Width.{IsWidth}
-use Rattle.ebc_width.proofs.Laws.{by_width}
-use Rattle.ebc_insn.specs.declared.CmpOp.{CmpOp}
-use Rattle.machine_alu.specs.Alu.{low, signed, compared}
-use Rattle.note_types.specs.Shapes.{size_at}
-use Rattle.host_model.specs.Values.{ObjectOf, ThunkOf, LocalOf, Neutral, Num, At, Handle, Method, Entry, Error, SignedError, Junk}
-use Rattle.host_model.specs.Values.{Addresses, Shows, plain, word, error_at, signed_error_at}
-use Rattle.std.specs.Option.{option_or}
-use Rattle.neutral_machine.specs.Config.{Frame}
-use Rattle.host_model.specs.World.{World}
-use Rattle.host_model.specs.declared.object.TypedObject.{TypedObject}
-use Rattle.host_model.specs.Objects.{shape_of, made_objects}
-use Rattle.host_model.specs.Placements.{there, handle_count, handle_at, thunk_at, object_bytes, Placement, IsPlacement, object_address}
-use Rattle.neutral_machine.specs.Layout.{addresses}
-use Rattle.neutral_machine.specs.Operations.{Instance, instance_at, starts_if, instance_of, same_instance, is_null, equal_instances}
-use Rattle.neutral_machine.specs.Operations.{equal_handle, equal_entry, unequal_code, equal_error, equal_first, error_at_most}
-use Rattle.neutral_machine.specs.Operations.{error_at_least, compared_wide, compared_by, compared_as}
-use Rattle.neutral_machine.specs.WorldFits.{WorldFits}
-use Rattle.neutral_machine.proofs.Numbers.{lin_mod}
+use Rattle.neutral_machine.proofs.Common.{◌≡◌, ◌≢◌, ℕ, ◌+◌, ◌-◌, ◌*◌, ◌^◌, ◌<◌, ◌≤◌, Bool, true, false, ◌&&◌, ◌||◌, if◌then◌else◌, nat_eq}
+use Rattle.neutral_machine.proofs.Common.{nat_lt, List, length, Option, Some, None, pos, refl, sym, ap, ap₂, ◌∙◌, subst, subst₂, arith, inl}
+use Rattle.neutral_machine.proofs.Common.{inr, ⊎_elim, slice_get, mod-eq_of_lt, le_refl, add-mod-mod, ltb-true, eqb-true, eqb-false, eq-eqb}
+use Rattle.neutral_machine.proofs.Common.{ne_eqb, and_parts, or_cases, lt-ltb, le-ltb, le-leb, cases_eq, cases_order, false≢true}
+use Rattle.neutral_machine.proofs.Common.{true≢false, row_fits, same_Some, none-some, IsWidth, by_width, CmpOp, low, signed, compared}
+use Rattle.neutral_machine.proofs.Common.{size_at, ObjectOf, Neutral, Num, At, Handle, Entry, Error, SignedError, Addresses, Shows, plain}
+use Rattle.neutral_machine.proofs.Common.{word, error_at, signed_error_at, option_or, Frame, World, TypedObject, shape_of, made_objects}
+use Rattle.neutral_machine.proofs.Common.{there, handle_count, handle_at, thunk_at, object_bytes, Placement, IsPlacement, object_address}
+use Rattle.neutral_machine.proofs.Common.{addresses, Instance, instance_at, starts_if, instance_of, is_null, compared_as, WorldFits}
+use Rattle.std.proofs.Common.{int_le}
+use Rattle.neutral_machine.specs.Operations.{same_instance, equal_instances, equal_handle, equal_entry, unequal_code, equal_error}
+use Rattle.neutral_machine.specs.Operations.{equal_first, error_at_most, error_at_least, compared_wide, compared_by}
 use Rattle.neutral_machine.proofs.Placed.{lies, object_within, objects_off, object_positive}
-use Rattle.neutral_machine.proofs.PlacedObjects.{Lies}
-use Rattle.neutral_machine.proofs.Locals.{fits_at}
-use Rattle.neutral_machine.proofs.Cells.{shape_fits}
-use Rattle.neutral_machine.proofs.Values.{plain_shows}
-use Rattle.neutral_machine.proofs.Alu.{Word}
-use Rattle.neutral_machine.proofs.Bounds.{in_native}
-use Rattle.neutral_machine.proofs.Words.{width_word}
+use Rattle.neutral_machine.proofs.{Numbers.lin_mod, PlacedObjects.Lies, Locals.fits_at, Cells.shape_fits, Values.plain_shows, Alu.Word}
+use Rattle.neutral_machine.proofs.{Bounds.in_native, Words.width_word}
+use Rattle.ebc_insn.specs.declared.CmpOp.TheVariants as cmps
 
 -- a test of equality that agrees with one on what the numbers are of
 agrees : (x y : ℕ) (b : Bool) → (b ≡ true → x ≡ y) → (b ≡ false → x ≡ y → ⊥) → nat_eq x y ≡ b
@@ -103,15 +83,7 @@ module _ (w : ℕ) (world : World) (P : Placement) (h : IsWidth w) (ok : WorldFi
       → instance_of world.notes (made_objects world.notes world.script n) v ≡ Some q → Starts w world P n q x
   unfolding instance_of
   starts_of n fs (At (ObjectOf k) a b) x q s e = starts n fs k a b x q s e
-  starts_of n fs (At (ThunkOf i) a b) x q s e = absurd (none-some q e)
-  starts_of n fs (At (LocalOf d f) a b) x q s e = absurd (none-some q e)
-  starts_of n fs (Num a b) x q s e = absurd (none-some q e)
-  starts_of n fs (Handle k) x q s e = absurd (none-some q e)
-  starts_of n fs (Method k) x q s e = absurd (none-some q e)
-  starts_of n fs (Entry k) x q s e = absurd (none-some q e)
-  starts_of n fs (Error k) x q s e = absurd (none-some q e)
-  starts_of n fs (SignedError k) x q s e = absurd (none-some q e)
-  starts_of n fs Junk x q s e = absurd (none-some q e)
+  starts_of n fs v x q s e = absurd (none-some q e)
 
   -- two starts are one address just where they are one instance
   same_start : (n : ℕ) (p q : Instance) (x y : ℕ) → Starts w world P n p x → Starts w world P n q y → nat_eq x y ≡ same_instance p q
@@ -238,10 +210,7 @@ module _ (w : ℕ) (world : World) (P : Placement) (h : IsWidth w) (ok : WorldFi
           agrees x y (nat_eq k j) (λ f. p ∙ ap (error_at w) (eqb-true k j f) ∙ sym q) (λ f g. eqb-false k j f (omega (arith, p, q, g)))
           ∙ same_Some _ _ e
       error_equal k u x y b s t e = code x y u (plain u) b (let p = s.1 in let q = error_above k in omega (arith, p, q)) t refl e
-  first_equal n fs (Num i c) u x y b s t e = absurd (none-some b e)
-  first_equal n fs (Method k) u x y b s t e = absurd (none-some b e)
-  first_equal n fs (SignedError k) u x y b s t e = absurd (none-some b e)
-  first_equal n fs Junk u x y b s t e = absurd (none-some b e)
+  first_equal n fs v u x y b s t e = absurd (none-some b e)
 
   -- ---- orders
 
@@ -295,14 +264,7 @@ module _ (w : ℕ) (world : World) (P : Placement) (h : IsWidth w) (ok : WorldFi
           (λ m. ap₂ (λ i j. int_le (signed 64 i) (signed 64 j)) s.1 (f c refl ∙ eqb-true _ _ m) ∙ signed_negative k s.0)
           (or_cases (nat_lt c (2 ^ 31)) (nat_eq c (2 ^ 64 - 1)) t) ∙ same_Some _ _ e
       go false t e = absurd (none-some b e)
-  most A (SignedError k) x y None b s l f e = absurd (none-some b e)
-  most A (Num n c) x y o b s l f e = absurd (none-some b e)
-  most A (At a n c) x y o b s l f e = absurd (none-some b e)
-  most A (Handle k) x y o b s l f e = absurd (none-some b e)
-  most A (Method k) x y o b s l f e = absurd (none-some b e)
-  most A (Entry k) x y o b s l f e = absurd (none-some b e)
-  most A (Error k) x y o b s l f e = absurd (none-some b e)
-  most A Junk x y o b s l f e = absurd (none-some b e)
+  most A v x y o b s l f e = absurd (none-some b e)
 
   least : (A : Addresses) (v : Neutral) (x y : ℕ) (o : Option ℕ) (b : Bool) → Shows w A v x → y < 2 ^ 64 → ((c : ℕ) → o ≡ Some c → y ≡ c)
       → error_at_least v o ≡ Some b → int_le (signed 64 y) (signed 64 x) ≡ b
@@ -311,14 +273,7 @@ module _ (w : ℕ) (world : World) (P : Placement) (h : IsWidth w) (ok : WorldFi
       go : (t : Bool) → nat_lt c (2 ^ 31) ≡ t → (if t then Some false else None) ≡ Some b → int_le (signed 64 y) (signed 64 x) ≡ b
       go true t e = ap₂ (λ i j. int_le (signed 64 i) (signed 64 j)) (f c refl) s.1 ∙ signed_above k c s.0 (ltb-true _ _ t) ∙ same_Some _ _ e
       go false t e = absurd (none-some b e)
-  least A (SignedError k) x y None b s l f e = absurd (none-some b e)
-  least A (Num n c) x y o b s l f e = absurd (none-some b e)
-  least A (At a n c) x y o b s l f e = absurd (none-some b e)
-  least A (Handle k) x y o b s l f e = absurd (none-some b e)
-  least A (Method k) x y o b s l f e = absurd (none-some b e)
-  least A (Entry k) x y o b s l f e = absurd (none-some b e)
-  least A (Error k) x y o b s l f e = absurd (none-some b e)
-  least A Junk x y o b s l f e = absurd (none-some b e)
+  least A v x y o b s l f e = absurd (none-some b e)
 
   wide_same : (n : ℕ) (fs : List Frame) (op : CmpOp) (v u : Neutral) (x y : ℕ) (b : Bool) → Word w (addresses w world.notes P fs) v x
       → Word w (addresses w world.notes P fs) u y → compared_wide world.notes (made_objects world.notes world.script n) op v u ≡ Some b

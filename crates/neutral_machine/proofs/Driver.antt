@@ -1,16 +1,11 @@
 -- A small driver, the one of docs/NOTES.md with its script of docs/SCRIPTS.md, as closed terms that rows compute with. Names
 -- don't matter here.
-use Rattle.std.specs.Prelude.{ℕ, ◌-◌, ◌^◌, true, false, List, [], ◌∷◌, Some, None, pos}
+use Rattle.neutral_machine.proofs.Common.{ℕ, ◌-◌, ◌^◌, true, false, List, [], ◌∷◌, Some, None, pos, N, Notes, Notify, ScriptCall, given}
+use Rattle.neutral_machine.proofs.Common.{World}
 use Rattle.note_types.specs.declared.cell.Cell.TheVariants as cell
-use Rattle.note_types.specs.declared.cell.SlotKind.TheVariants.{N}
-use Rattle.note_types.specs.declared.notes.Notes.{Notes}
 use Rattle.note_types.specs.declared.notes.Want.TheVariants as want
-use Rattle.note_types.specs.declared.script.Notify.{Notify}
-use Rattle.note_types.specs.declared.script.ScriptCall.{ScriptCall}
 use Rattle.note_types.specs.declared.types.Ty.TheVariants as ty
 use Rattle.note_types.specs.declared.value.Value.TheVariants as value
-use Rattle.host_model.specs.ScriptValues.{given}
-use Rattle.host_model.specs.World.{World}
 
 abbrev pub driver_notes : Notes
 driver_notes = record {

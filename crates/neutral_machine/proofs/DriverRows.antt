@@ -1,26 +1,20 @@
 -- Rows of a small driver, the one of docs/NOTES.md with its script of docs/SCRIPTS.md: the definitions of the host compute
 -- them. A slip in one of the definitions shows here at once.
-use Rattle.std.proofs.Common.{◌≡◌, ℕ, ◌+◌, ◌^◌, ◌<◌, true, false, List, [], ◌∷◌, Some, None, refl, arith}
-use Rattle.note_types.specs.declared.cell.Cell.TheVariants as cell
+use Rattle.neutral_machine.proofs.Common.{◌≡◌, ℕ, ◌+◌, ◌^◌, ◌<◌, true, false, List, [], ◌∷◌, Some, None, refl, arith, Notes, Notify, Value}
+use Rattle.neutral_machine.proofs.Common.{GoesOn, IsDue, is_due, call_plan, argument_refused, host_plan, enter_plan, reply_plan, reply_fits}
+use Rattle.neutral_machine.proofs.Common.{reply_stores, notify_plan, all_named_right, field_at, filling, written_number, TypedObject}
+use Rattle.neutral_machine.proofs.Common.{made_objects, placed_objects, Placement, script_start, one_entry, fits, fits_each, given}
+use Rattle.neutral_machine.proofs.Common.{same_value, World}
 use Rattle.note_types.specs.declared.ending.Ending.TheVariants.{Mismatch, ScriptEnd}
-use Rattle.note_types.specs.declared.event.Event.TheVariants as event
-use Rattle.note_types.specs.declared.notes.Notes.{Notes}
-use Rattle.note_types.specs.declared.reason.Reason.TheVariants as reason
-use Rattle.note_types.specs.declared.script.Notify.{Notify}
-use Rattle.note_types.specs.declared.types.Ty.TheVariants as ty
-use Rattle.note_types.specs.declared.value.Value.{Value}
-use Rattle.note_types.specs.declared.value.Value.TheVariants as value
-use Rattle.host_model.specs.HostPlans.{Asks, NoSite, GoesOn, Returns, NotifiedReturns, IsDue, InArgument, Accepts, Ends, Enters}
-use Rattle.host_model.specs.HostPlans.{Finishes, Leaves, Replies, Resumes, Notifies, is_due, call_plan, argument_refused, host_plan}
-use Rattle.host_model.specs.HostPlans.{enter_plan, reply_plan, reply_fits, reply_stores, notify_plan, all_named_right, field_at, filling}
-use Rattle.host_model.specs.HostSteps.{entered_at, thunk_place, written_number}
-use Rattle.host_model.specs.declared.object.TypedObject.{TypedObject}
-use Rattle.host_model.specs.Objects.{made_objects, placed_objects}
-use Rattle.host_model.specs.Placements.{Placement}
-use Rattle.host_model.specs.Progress.{ScriptPlace, script_start, one_entry}
-use Rattle.host_model.specs.ScriptValues.{fits, fits_each, given, same_value}
-use Rattle.host_model.specs.World.{World}
+use Rattle.host_model.specs.HostPlans.{Asks, NoSite, Returns, NotifiedReturns, InArgument, Accepts, Ends, Enters, Finishes, Leaves, Replies}
+use Rattle.host_model.specs.HostPlans.{Resumes, Notifies}
+use Rattle.host_model.specs.{HostSteps.entered_at, HostSteps.thunk_place, Progress.ScriptPlace}
 use Rattle.neutral_machine.proofs.Driver.{driver, driver_notes, driver_notified, driver_with, locate_call, register_call}
+use Rattle.note_types.specs.declared.cell.Cell.TheVariants as cell
+use Rattle.note_types.specs.declared.event.Event.TheVariants as event
+use Rattle.note_types.specs.declared.reason.Reason.TheVariants as reason
+use Rattle.note_types.specs.declared.types.Ty.TheVariants as ty
+use Rattle.note_types.specs.declared.value.Value.TheVariants as value
 
 -- how far a run is once one call was accepted
 abbrev one_call : ScriptPlace

@@ -1,17 +1,12 @@
 -- The run of the driver of docs/NOTES.md with its script, step by step, and of three variants of the script.
-use Rattle.std.proofs.Common.{List, [], ◌∷◌, ◌++◌, Some, refl}
+use Rattle.neutral_machine.proofs.Common.{List, [], ◌∷◌, ◌++◌, Some, refl, Event, given, World}
+use Rattle.neutral_machine.proofs.Driver.{driver, driver_with, locate_call, register_call}
+use Rattle.neutral_machine.proofs.{Computing.runs_compute, Programs.driver_image, Rows.Everywhere}
 use Rattle.note_types.specs.declared.ending.Ending.TheVariants as ending
-use Rattle.note_types.specs.declared.event.Event.{Event}
 use Rattle.note_types.specs.declared.event.Event.TheVariants as event
 use Rattle.note_types.specs.declared.reason.Reason.TheVariants as reason
 use Rattle.note_types.specs.declared.spot.Spot.TheVariants as spot
 use Rattle.note_types.specs.declared.value.Value.TheVariants as value
-use Rattle.host_model.specs.ScriptValues.{given}
-use Rattle.host_model.specs.World.{World}
-use Rattle.neutral_machine.proofs.Driver.{driver, driver_with, locate_call, register_call}
-use Rattle.neutral_machine.proofs.Computing.{runs_compute}
-use Rattle.neutral_machine.proofs.Programs.{driver_image}
-use Rattle.neutral_machine.proofs.Rows.{Everywhere}
 
 -- ---- the script as it is
 

@@ -1,37 +1,21 @@
 -- Locals are made and dropped.
-use Rattle.std.proofs.Common.{◌≡◌, ◌≢◌, ℕ, suc, ◌+◌, ◌-◌, ◌*◌, ◌%◌, ◌^◌, ◌<◌, ◌≤◌, Bool, true, false, ◌&&◌, ◌||◌, if◌then◌else◌, nat_eq}
-use Rattle.std.proofs.Common.{nat_le, List, [], ◌∷◌, map, Option, Some, None, refl, sym, ap, ap₂, ◌∙◌, subst, subst₂, arith, slice_get}
-use Rattle.std.proofs.Common.{slice_set, option_map, option_and_then, length-set, get_or-set_same, get_or-set_other}
-use Rattle.std.proofs.lemmas.Bool.{eqb-true, eqb-false, ne_eqb, and_parts, leb-true, false≢true}
-use Rattle.std.proofs.lemmas.Option.{same_Some, none-some}
-use Rattle.ebc_width.specs.Bytes.{little_endian}
-use Rattle.ebc_width.specs.Width.{IsWidth}
-use Rattle.note_types.specs.Cells.{cell_size}
-use Rattle.note_types.specs.Concrete.{Concrete, register}
-use Rattle.note_types.specs.Shapes.{size_at, start_at}
-use Rattle.note_types.specs.declared.notes.Notes.{Notes}
-use Rattle.note_types.specs.declared.shape.Field.{Field}
-use Rattle.note_types.specs.declared.shape.Shape.{Shape}
-use Rattle.host_model.specs.Values.{Anchor, ObjectOf, ThunkOf, LocalOf, Neutral, Num, At, Handle, Method, Entry, Error, SignedError, Junk}
-use Rattle.host_model.specs.Values.{Addresses, Shows, ShowsIn, CellPlace, FieldOf, FieldOfLocals, word, minus}
-use Rattle.neutral_machine.specs.Config.{StackItem, Pushed, LocalsOf, FunctionFrame, Frame, Function, Host, Config, depth, locals_among}
-use Rattle.neutral_machine.specs.Config.{locals_at}
-use Rattle.host_model.specs.World.{World, frame_locals}
-use Rattle.host_model.specs.Placements.{Placement, IsPlacement, slot_bytes, stack_bytes, stack_end, return_cell}
-use Rattle.neutral_machine.specs.Layout.{addresses, anchor_address, item_size, height, total, top_of, local_among, local_address}
-use Rattle.neutral_machine.specs.Locations.{item_units, item_bytes}
-use Rattle.neutral_machine.specs.Memory.{memory_of, cell_field}
-use Rattle.neutral_machine.specs.Rows.{with_items, without_local, item_without, frame_without, config_without, Dropped, is_locals, with_one}
-use Rattle.neutral_machine.specs.Rows.{dropped, cells_before, made_locals}
-use Rattle.neutral_machine.specs.Stands.{ItemShows, ItemsShow, ReturnShows, return_address, FramesShow, OwnLocals, OwnLocalsAll, CellShows}
-use Rattle.neutral_machine.specs.Stands.{CellsShow, MachineStands}
-use Rattle.neutral_machine.specs.WorldFits.{WorldFits}
-use Rattle.neutral_machine.proofs.Numbers.{minus-is}
-use Rattle.neutral_machine.proofs.Agree.{Extends, shows_in_more, frames_more}
-use Rattle.neutral_machine.proofs.Stack.{item_pair}
-use Rattle.neutral_machine.proofs.Cells.{end_small}
+use Rattle.neutral_machine.proofs.Common.{◌≡◌, ◌≢◌, ℕ, suc, ◌+◌, ◌-◌, ◌*◌, ◌%◌, ◌^◌, ◌<◌, ◌≤◌, Bool, true, false, ◌&&◌, ◌||◌, if◌then◌else◌}
+use Rattle.neutral_machine.proofs.Common.{nat_eq, nat_le, List, [], ◌∷◌, map, Option, Some, None, refl, sym, ap, ap₂, ◌∙◌, subst, subst₂}
+use Rattle.neutral_machine.proofs.Common.{arith, slice_get, slice_set, option_map, option_and_then, length-set, get_or-set_same}
+use Rattle.neutral_machine.proofs.Common.{get_or-set_other, eqb-true, eqb-false, ne_eqb, and_parts, leb-true, false≢true, same_Some}
+use Rattle.neutral_machine.proofs.Common.{none-some, little_endian, IsWidth, cell_size, Concrete, register, size_at, start_at, Notes, Field}
+use Rattle.neutral_machine.proofs.Common.{Shape, Anchor, ObjectOf, ThunkOf, LocalOf, Neutral, At, Handle, Method, Entry, Junk, Addresses}
+use Rattle.neutral_machine.proofs.Common.{Shows, ShowsIn, CellPlace, FieldOf, FieldOfLocals, word, minus, StackItem, Pushed, LocalsOf}
+use Rattle.neutral_machine.proofs.Common.{FunctionFrame, Frame, Function, Host, Config, depth, locals_among, locals_at, World, frame_locals}
+use Rattle.neutral_machine.proofs.Common.{Placement, IsPlacement, slot_bytes, stack_bytes, stack_end, return_cell, addresses}
+use Rattle.neutral_machine.proofs.Common.{anchor_address, item_size, height, total, top_of, local_among, local_address, item_units}
+use Rattle.neutral_machine.proofs.Common.{item_bytes, memory_of, cell_field, with_items, ItemShows, ItemsShow, ReturnShows, return_address}
+use Rattle.neutral_machine.proofs.Common.{FramesShow, OwnLocals, OwnLocalsAll, CellShows, CellsShow, MachineStands, WorldFits, some_of_map}
+use Rattle.neutral_machine.specs.Rows.{without_local, item_without, frame_without, config_without, Dropped, is_locals, with_one, dropped}
+use Rattle.neutral_machine.specs.Rows.{cells_before, made_locals}
 use Rattle.neutral_machine.proofs.Frames.{framed, SameLocals, stack_changes, stack_stands, same_extends, word_at}
-use Rattle.ebc_base.proofs.Given.{some_of_map}
+use Rattle.neutral_machine.proofs.{Numbers.minus-is, Agree.Extends, Agree.shows_in_more, Agree.frames_more, Stack.item_pair}
+use Rattle.neutral_machine.proofs.Cells.{end_small}
 
 -- ---- what is cleaned keeps its place
 
@@ -108,13 +92,11 @@ shows_without w d A B (At (LocalOf e f) n c) x l s = go (nat_eq e d) refl
     go false q = record { from = s.from; there = l.local e f s.from (eqb-false e d q) s.there; is = s.is }
 shows_without w d A B (At (ObjectOf k) n c) x l s = record { from = s.from; there = l.object k s.from s.there; is = s.is }
 shows_without w d A B (At (ThunkOf i) n c) x l s = record { from = s.from; there = l.thunk i s.from s.there; is = s.is }
-shows_without w d A B (Num n c) x l s = s
 shows_without w d A B (Handle k) x l s = l.handle k x s
 shows_without w d A B (Method k) x l s = l.method k x s
 shows_without w d A B (Entry k) x l s = l.entry k x s
-shows_without w d A B (Error k) x l s = s
-shows_without w d A B (SignedError k) x l s = s
 shows_without w d A B Junk x l s = tt
+shows_without w d A B v x l s = s
 
 shows_in_without : (w d : ℕ) (A B : Addresses) (k : ℕ) (v : Neutral) (x : ℕ) → Loses d A B → ShowsIn w A k v x
     → ShowsIn w B k (without_local d v) x

@@ -1,10 +1,8 @@
 -- The stores of what objects hold at first.
-use Rattle.std.proofs.Common.{◌≡◌, ℕ, suc, ◌+◌, List, [], ◌∷◌, Some, refl, subst, arith, slice_get}
-use Rattle.std.specs.List.{AllByRecursion, enumerate_from, flat_map}
-use Rattle.note_types.specs.Records.{Each}
-use Rattle.note_types.specs.declared.notes.Notes.{Notes}
-use Rattle.note_types.specs.declared.script.ScriptObject.{ScriptObject}
-use Rattle.host_model.specs.HostPlans.{Store, filling, object_stores}
+use Rattle.neutral_machine.proofs.Common.{◌≡◌, ℕ, suc, ◌+◌, List, [], ◌∷◌, Some, refl, subst, arith, slice_get, flat_map, Each, Notes}
+use Rattle.neutral_machine.proofs.Common.{ScriptObject, filling}
+use Rattle.std.specs.List.{AllByRecursion, enumerate_from}
+use Rattle.host_model.specs.HostPlans.{Store, object_stores}
 use Rattle.ebc_base.proofs.Lists.{all_append}
 
 pub all_flat : {A B : Type 0} (P : B → Type 0) (f : A → List B) (xs : List A) → Each (λ x. AllByRecursion P (f x)) xs

@@ -1,42 +1,28 @@
 -- The stack moves: pushes, pops, calls and returns leave the machine standing for the configuration.
-use Rattle.std.proofs.Common.{◌≡◌, ℕ, ◌+◌, ◌-◌, ◌*◌, ◌%◌, ◌^◌, ◌<◌, ◌≤◌, ◌⊎◌, Bool, true, false, if◌then◌else◌, nat_eq, List, [], ◌∷◌}
-use Rattle.std.proofs.Common.{length, Option, Some, None, Ok, refl, sym, ap, ◌∙◌, subst, subst₂, arith, inl, inr, ⊎_elim, slice_get}
-use Rattle.std.proofs.Common.{slice_index, slice_set, option_and_then, mod-eq_of_lt, length-set, get_or-set_same, get_or-set_other}
-use Rattle.std.proofs.lemmas.Bool.{eqb-true, ne_eqb, cases_eq}
-use Rattle.std.proofs.lemmas.Option.{same_Some}
-use Rattle.ebc_machine.specs.Stack as machine
-use Rattle.note_types.specs.declared.exception.Exception.TheVariants as raises
-use Rattle.ebc_width.specs.Bytes.{little_endian, put}
-use Rattle.ebc_width.proofs.ByteLaws.{little_endian-agree, little_endian-apart, little_endian-below, put-apart, put-below}
-use Rattle.ebc_width.specs.Width.{IsWidth, cut_at}
-use Rattle.ebc_machine.specs.Operands.{address, sum_at, stored_at, loaded_at}
-use Rattle.ebc_machine.specs.Stack.{lowered_by, raised_by}
-use Rattle.note_types.specs.Cells.{cell_size}
-use Rattle.note_types.specs.Concrete.{Concrete, register, stored, loaded, with_register}
-use Rattle.ebc_width.specs.Ranges.{holds}
-use Rattle.note_types.specs.declared.cell.SlotKind.{SlotKind}
-use Rattle.note_types.specs.declared.exception.Exception.{Exception}
-use Rattle.note_types.specs.declared.shape.Field.{Field}
-use Rattle.note_types.specs.declared.shape.Shape.{Shape}
-use Rattle.host_model.specs.Values.{Anchor, ObjectOf, ThunkOf, LocalOf, Neutral, Addresses, Shows, ShowsIn, CellPlace, FieldOf}
-use Rattle.host_model.specs.Values.{FieldOfLocals, Cells, minus}
-use Rattle.neutral_machine.specs.Config.{StackItem, Pushed, FunctionFrame, Frame, Function, Host, Config, depth, locals_at}
-use Rattle.host_model.specs.World.{World}
-use Rattle.host_model.specs.Placements.{Placement, IsPlacement, slot_bytes, stack_bytes, stack_end, return_cell}
-use Rattle.neutral_machine.specs.Layout.{addresses, anchor_address, height, total, top_of, local_address}
-use Rattle.neutral_machine.specs.Memory.{memory_of, cell_field}
-use Rattle.neutral_machine.specs.Alike.{Does}
-use Rattle.neutral_machine.specs.Rows.{with_items, pushed}
-use Rattle.neutral_machine.specs.Stands.{ReturnShows, FramesShow, OwnLocalsAll, cell_address, CellShows, CellsShow, ThunksShow, CodeStands}
-use Rattle.neutral_machine.specs.Stands.{MachineStands}
-use Rattle.neutral_machine.specs.WorldFits.{WorldFits}
-use Rattle.neutral_machine.proofs.Numbers.{minus-is}
+use Rattle.neutral_machine.proofs.Common.{◌≡◌, ℕ, ◌+◌, ◌-◌, ◌*◌, ◌%◌, ◌^◌, ◌<◌, ◌≤◌, ◌⊎◌, Bool, true, false, if◌then◌else◌, nat_eq, List}
+use Rattle.neutral_machine.proofs.Common.{[], ◌∷◌, length, Option, Some, None, Ok, refl, sym, ap, ◌∙◌, subst, subst₂, arith, inl, inr}
+use Rattle.neutral_machine.proofs.Common.{⊎_elim, slice_get, slice_set, option_and_then, mod-eq_of_lt, length-set, get_or-set_same}
+use Rattle.neutral_machine.proofs.Common.{get_or-set_other, eqb-true, ne_eqb, cases_eq, same_Some, little_endian, put, little_endian-agree}
+use Rattle.neutral_machine.proofs.Common.{little_endian-apart, put-apart, put-below, IsWidth, cut_at, address, sum_at, loaded_at}
+use Rattle.neutral_machine.proofs.Common.{lowered_by, raised_by, cell_size, Concrete, register, stored, loaded, with_register, holds}
+use Rattle.neutral_machine.proofs.Common.{SlotKind, Exception, Field, Shape, Anchor, ObjectOf, ThunkOf, LocalOf, Neutral, Addresses, Shows}
+use Rattle.neutral_machine.proofs.Common.{ShowsIn, CellPlace, FieldOf, FieldOfLocals, minus, StackItem, Pushed, FunctionFrame, Frame}
+use Rattle.neutral_machine.proofs.Common.{Function, Host, Config, depth, locals_at, World, Placement, IsPlacement, slot_bytes, stack_bytes}
+use Rattle.neutral_machine.proofs.Common.{stack_end, return_cell, addresses, anchor_address, height, total, top_of, local_address}
+use Rattle.neutral_machine.proofs.Common.{memory_of, cell_field, Does, with_items, ReturnShows, FramesShow, OwnLocalsAll, cell_address}
+use Rattle.neutral_machine.proofs.Common.{CellShows, CellsShow, MachineStands, WorldFits}
+use Rattle.std.proofs.Common.{slice_index}
+use Rattle.ebc_width.proofs.ByteLaws.{little_endian-below}
+use Rattle.ebc_machine.specs.Operands.{stored_at}
+use Rattle.host_model.specs.Values.{Cells}
+use Rattle.neutral_machine.specs.{Rows.pushed, Stands.ThunksShow, Stands.CodeStands}
 use Rattle.neutral_machine.proofs.Placed.{off_stack, image_off_stack, image_within, stack_holds, stack_within}
 use Rattle.neutral_machine.proofs.Agree.{Extends, shows_more, shows_in_more, put_agree, frames_agree, frames_more, read_put, powers}
 use Rattle.neutral_machine.proofs.Agree.{slot_positive}
-use Rattle.neutral_machine.proofs.Stored.{width_le}
 use Rattle.neutral_machine.proofs.Cells.{end_small, in_object_at, object_cell, object_place, in_locals_at, local_cell}
-use Rattle.neutral_machine.proofs.Words.{width_word}
+use Rattle.neutral_machine.proofs.{Numbers.minus-is, Stored.width_le, Words.width_word}
+use Rattle.ebc_machine.specs.Stack as machine
+use Rattle.note_types.specs.declared.exception.Exception.TheVariants as raises
 
 -- the configuration with other frames
 abbrev pub framed : Config → List Frame → Config

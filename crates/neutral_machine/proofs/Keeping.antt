@@ -1,42 +1,28 @@
 -- What an instruction keeps: where a property of configurations outlasts each part of what an instruction does, it outlasts the
 -- instruction.
-use Rattle.std.proofs.Common.{◌≡◌, ℕ, ◌+◌, Bool, true, false, not, ◌&&◌, if◌then◌else◌, nat_eq, nat_lt, List, [], ◌∷◌, Option, Some, None}
-use Rattle.std.proofs.Common.{is_none, ℤ, pos, ◌*ℤ◌, option_and_then, refl, subst, slice_get}
+use Rattle.neutral_machine.proofs.Common.{◌≡◌, ℕ, ◌+◌, Bool, true, false, ◌&&◌, if◌then◌else◌, nat_eq, nat_lt, List, [], ◌∷◌, Option, Some}
+use Rattle.neutral_machine.proofs.Common.{None, ℤ, pos, ◌*ℤ◌, option_and_then, refl, subst, slice_get, Index, wrap64, ArithOp, CmpOp, Insn}
+use Rattle.neutral_machine.proofs.Common.{Operand, SlotKind, N, Field, Shape, Place, Gate, Spot, Neutral, CellPlace, number, word}
+use Rattle.neutral_machine.proofs.Common.{StackItem, Pushed, LocalsOf, FunctionFrame, Frame, Function, Host, Config, depth, locals_among}
+use Rattle.neutral_machine.proofs.Common.{Registers, with_value, World, frame_locals, memory_of, cell_field, with_cell, Gives, Raises}
+use Rattle.neutral_machine.proofs.Common.{Stuck, combined, compared_as, sign_extended, Access, Move, Form, Signed, Offset, Location, CellAt}
+use Rattle.neutral_machine.proofs.Common.{ParamAt, ThunkAt, kept, stored_by, NeutralEnd}
+use Rattle.std.proofs.Common.{not, is_none}
 use Rattle.std.specs.Bool.{⊤}
+use Rattle.natural_index.specs.Index.{pair_of}
+use Rattle.ebc_insn.specs.declared.{Cond.Cond, Size.Size}
+use Rattle.host_model.specs.Values.{pair}
+use Rattle.note_types.specs.BelowTests.{same_kind}
+use Rattle.neutral_machine.specs.Operands.{NeutralSide, plainly, indexed, beside_extra, moved_by, located_by, direct_value, value}
+use Rattle.neutral_machine.specs.Operands.{with_register, written}
+use Rattle.neutral_machine.specs.{NeutralHost.next_thunk, Outcomes.Outcome, Outcomes.or_stuck, Rows.Next, Rows.Site, Rows.goes}
+use Rattle.neutral_machine.specs.Rows.{at_place}
 use Rattle.ebc_insn.specs.declared.Insn.TheVariants as insns
 use Rattle.ebc_insn.specs.declared.Size.TheVariants as sizes
 use Rattle.note_types.specs.declared.exception.Exception.TheVariants as raises
 use Rattle.neutral_machine.specs.Outcomes as outcomes
 use Rattle.neutral_machine.specs.Locations as locations
 use Rattle.neutral_machine.specs.Rows as rows
-use Rattle.natural_index.specs.Index.{pair_of}
-use Rattle.natural_index.specs.declared.Index.{Index}
-use Rattle.ebc_width.specs.Width.{wrap64}
-use Rattle.ebc_insn.specs.declared.ArithOp.{ArithOp}
-use Rattle.ebc_insn.specs.declared.CmpOp.{CmpOp}
-use Rattle.ebc_insn.specs.declared.Cond.{Cond}
-use Rattle.ebc_insn.specs.declared.Insn.{Insn}
-use Rattle.ebc_insn.specs.declared.Operand.{Operand}
-use Rattle.ebc_insn.specs.declared.Size.{Size}
-use Rattle.note_types.specs.declared.cell.SlotKind.{SlotKind}
-use Rattle.note_types.specs.declared.cell.SlotKind.TheVariants.{N}
-use Rattle.note_types.specs.declared.shape.Field.{Field}
-use Rattle.note_types.specs.declared.shape.Shape.{Shape}
-use Rattle.note_types.specs.declared.spot.Spot.TheVariants.{Place, Gate}
-use Rattle.note_types.specs.declared.spot.Spot.{Spot}
-use Rattle.host_model.specs.Values.{Neutral, CellPlace, number, pair, word}
-use Rattle.note_types.specs.BelowTests.{same_kind}
-use Rattle.neutral_machine.specs.NeutralHost.{next_thunk}
-use Rattle.neutral_machine.specs.Config.{StackItem, Pushed, LocalsOf, FunctionFrame, Frame, Function, Host, Config, depth, locals_among}
-use Rattle.neutral_machine.specs.Config.{Registers, with_value}
-use Rattle.host_model.specs.World.{World, frame_locals}
-use Rattle.neutral_machine.specs.Memory.{memory_of, cell_field, with_cell}
-use Rattle.neutral_machine.specs.Outcomes.{Outcome, Gives, Raises, Stuck, or_stuck}
-use Rattle.neutral_machine.specs.Operations.{combined, compared_as, sign_extended}
-use Rattle.neutral_machine.specs.Locations.{Access, Move, Form, Signed, Offset, Location, CellAt, ParamAt, ThunkAt, kept}
-use Rattle.neutral_machine.specs.Operands.{NeutralSide, plainly, indexed, beside_extra, moved_by, located_by, direct_value, value}
-use Rattle.neutral_machine.specs.Operands.{stored_by, with_register, written}
-use Rattle.neutral_machine.specs.Rows.{NeutralEnd, Next, Site, goes, at_place}
 
 -- ---- what holds of all that is given
 

@@ -1,18 +1,14 @@
 -- Rows of what the neutral machine sees of a native call that was lent a cell, computed by the definitions: it is stuck unless
 -- the copied slot is the address of a local field that is such a cell.
-use Rattle.std.proofs.Common.{◌≡◌, false, true, List, [], ◌∷◌, Option, Some, None, refl}
-use Rattle.note_types.specs.declared.cell.Cell.{Cell}
+use Rattle.neutral_machine.proofs.Common.{◌≡◌, false, true, List, [], ◌∷◌, Option, Some, None, refl, Cell, StackItem, LocalsOf, Function}
+use Rattle.neutral_machine.proofs.Common.{Host, Config, GoesOn, field_at, all_lent, lent_there, writes_there, neutral_host_step}
+use Rattle.neutral_machine.proofs.Common.{made_objects, placed_objects, Accepted, script_start, one_entry, Neutral, At, ObjectOf, LocalOf}
+use Rattle.neutral_machine.proofs.Common.{null, number, World}
+use Rattle.host_model.specs.HostPlans.{View}
+use Rattle.neutral_machine.specs.{NeutralHost.host_view, NeutralRuns.bare_config}
+use Rattle.neutral_machine.proofs.Driver.{driver, driver_with}
 use Rattle.note_types.specs.declared.cell.Cell.TheVariants as cell
 use Rattle.note_types.specs.declared.spot.Spot.TheVariants as spot
-use Rattle.neutral_machine.specs.Config.{StackItem, LocalsOf, Function, Host, Config}
-use Rattle.host_model.specs.HostPlans.{View, GoesOn, field_at}
-use Rattle.neutral_machine.specs.NeutralHost.{all_lent, lent_there, writes_there, host_view, neutral_host_step}
-use Rattle.neutral_machine.specs.NeutralRuns.{bare_config}
-use Rattle.host_model.specs.Objects.{made_objects, placed_objects}
-use Rattle.host_model.specs.Progress.{Accepted, script_start, one_entry}
-use Rattle.host_model.specs.Values.{Neutral, At, ObjectOf, LocalOf, null, number}
-use Rattle.host_model.specs.World.{World}
-use Rattle.neutral_machine.proofs.Driver.{driver, driver_with}
 
 -- ---- the first call of the driver, which wants the cell of a pointer
 

@@ -1,3 +1,4 @@
+pub mod Common
 pub mod Agree
 pub mod Alu
 pub mod Bounds

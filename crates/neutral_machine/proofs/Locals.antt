@@ -1,29 +1,16 @@
 -- Locals on the stack: where they are, that they share no byte with what else is there, and what a store to one leaves.
-use Rattle.std.proofs.Common.{◌≡◌, ◌≢◌, ℕ, ◌+◌, ◌-◌, ◌^◌, ◌≤◌, ◌⊎◌, Bool, true, false, if◌then◌else◌, nat_eq, List, [], ◌∷◌, Option}
-use Rattle.std.proofs.Common.{Some, None, refl, sym, ap, ◌∙◌, subst, arith, inl, inr, ⊎_elim, slice_get, mod-eq_of_lt, option_map}
-use Rattle.std.proofs.lemmas.Bool.{eqb-true}
-use Rattle.std.proofs.lemmas.Option.{same_Some, none-some}
-use Rattle.ebc_width.specs.Bytes.{put}
-use Rattle.ebc_width.proofs.ByteLaws.{little_endian-apart}
-use Rattle.ebc_width.specs.Width.{IsWidth}
-use Rattle.ebc_width.proofs.Laws.{by_width}
-use Rattle.note_types.specs.Cells.{cell_size}
-use Rattle.note_types.specs.Shapes.{IsShape, FitsAt, size_at, start_at}
-use Rattle.note_types.specs.declared.notes.FnNote.{FnNote}
-use Rattle.note_types.specs.declared.shape.Field.{Field}
-use Rattle.note_types.specs.declared.shape.Shape.{Shape}
-use Rattle.host_model.specs.Values.{Addresses, ShowsIn, word, minus}
-use Rattle.neutral_machine.specs.Config.{StackItem, Pushed, LocalsOf, Frame, Function, Host, depth, locals_among, locals_at}
+use Rattle.neutral_machine.proofs.Common.{◌≡◌, ◌≢◌, ℕ, ◌+◌, ◌-◌, ◌^◌, ◌≤◌, ◌⊎◌, Bool, true, false, if◌then◌else◌, nat_eq, List, [], ◌∷◌}
+use Rattle.neutral_machine.proofs.Common.{Option, Some, None, refl, sym, ap, ◌∙◌, subst, arith, inl, inr, ⊎_elim, slice_get, mod-eq_of_lt}
+use Rattle.neutral_machine.proofs.Common.{option_map, eqb-true, same_Some, none-some, put, little_endian-apart, IsWidth, by_width}
+use Rattle.neutral_machine.proofs.Common.{cell_size, IsShape, FitsAt, size_at, start_at, FnNote, Field, Shape, Addresses, ShowsIn, word}
+use Rattle.neutral_machine.proofs.Common.{minus, StackItem, Pushed, LocalsOf, Frame, Function, Host, depth, locals_among, locals_at, World}
+use Rattle.neutral_machine.proofs.Common.{frame_locals, Placement, slot_bytes, return_cell, height, total, local_among, local_address}
+use Rattle.neutral_machine.proofs.Common.{ItemsShow, ReturnShows, return_address, FramesShow, OwnLocals, OwnLocalsAll, WorldFits}
 use Rattle.std.specs.Option.{option_and_then}
 use Rattle.note_types.specs.Known.{locals_of}
-use Rattle.host_model.specs.World.{World, frame_locals}
-use Rattle.host_model.specs.Placements.{Placement, slot_bytes, return_cell}
-use Rattle.neutral_machine.specs.Layout.{height, total, local_among, local_address}
-use Rattle.neutral_machine.specs.Stands.{ItemsShow, ReturnShows, return_address, FramesShow, OwnLocals, OwnLocalsAll}
-use Rattle.neutral_machine.specs.WorldFits.{WorldFits}
-use Rattle.neutral_machine.proofs.Numbers.{minus-is}
 use Rattle.neutral_machine.proofs.Agree.{Agree, put_agree, return_agree, cell_positive, slot_positive, items_agree, frames_agree}
 use Rattle.neutral_machine.proofs.Agree.{local_within, local_among_within}
+use Rattle.neutral_machine.proofs.Numbers.{minus-is}
 
 -- ---- their shapes
 

@@ -1,34 +1,14 @@
 -- A value that names a cell exactly has, at each width, the cell's address.
-use Rattle.std.proofs.Common.{◌≡◌, ℕ, suc, ◌+◌, ◌*◌, ◌%◌, ◌^◌, ◌≤◌, Bool, true, false, ◌&&◌, if◌then◌else◌, nat_eq, nat_lt, List, [], ◌∷◌}
-use Rattle.std.proofs.Common.{Option, Some, None, refl, sym, ap, ap₂, ◌∙◌, subst, arith, slice_get, option_map, option_and_then}
-use Rattle.std.proofs.Common.{mod-eq_of_lt}
-use Rattle.std.proofs.Math.Nat.{add-mod-mod}
-use Rattle.std.proofs.lemmas.Bool.{ltb-true, eqb-true, and_parts}
-use Rattle.std.proofs.lemmas.Option.{same_Some, none-some}
-use Rattle.ebc_width.specs.Width.{IsWidth, cut_at}
-use Rattle.note_types.specs.Cells.{cell_size}
-use Rattle.note_types.specs.Shapes.{size_at, start_at}
-use Rattle.note_types.specs.declared.shape.Field.{Field}
-use Rattle.note_types.specs.declared.shape.Shape.{Shape}
-use Rattle.host_model.specs.Values.{ObjectOf, ThunkOf, LocalOf, Neutral, Num, At, Handle, Method, Entry, Error, SignedError, Junk, Shows}
-use Rattle.host_model.specs.Values.{CellPlace, FieldOf, FieldOfLocals, word}
-use Rattle.neutral_machine.specs.Config.{Config}
-use Rattle.host_model.specs.World.{World}
-use Rattle.host_model.specs.declared.object.TypedObject.{TypedObject}
-use Rattle.host_model.specs.Objects.{made_objects, shape_of}
-use Rattle.host_model.specs.Placements.{Placement, IsPlacement, stack_end}
-use Rattle.neutral_machine.specs.Layout.{addresses, local_address}
-use Rattle.neutral_machine.specs.Memory.{memory_of, cell_field}
-use Rattle.neutral_machine.specs.Operations.{instance_at}
-use Rattle.neutral_machine.specs.Locations.{CellAt, ThunkAt, is_field, find_field, cell_in, located_past}
-use Rattle.neutral_machine.specs.Stands.{cell_address}
-use Rattle.neutral_machine.specs.WorldFits.{WorldFits}
-use Rattle.neutral_machine.proofs.Numbers.{lin_mod, cut_same}
-use Rattle.neutral_machine.proofs.Placed.{object_within}
-use Rattle.neutral_machine.proofs.Agree.{cell_positive}
+use Rattle.neutral_machine.proofs.Common.{◌≡◌, ℕ, suc, ◌+◌, ◌*◌, ◌%◌, ◌^◌, ◌≤◌, Bool, true, false, ◌&&◌, if◌then◌else◌, nat_eq, nat_lt}
+use Rattle.neutral_machine.proofs.Common.{List, [], ◌∷◌, Option, Some, None, refl, sym, ap, ap₂, ◌∙◌, subst, arith, slice_get, option_map}
+use Rattle.neutral_machine.proofs.Common.{option_and_then, mod-eq_of_lt, add-mod-mod, ltb-true, eqb-true, and_parts, same_Some, none-some}
+use Rattle.neutral_machine.proofs.Common.{IsWidth, cut_at, cell_size, size_at, start_at, Field, Shape, ObjectOf, ThunkOf, LocalOf, Neutral}
+use Rattle.neutral_machine.proofs.Common.{At, Shows, CellPlace, FieldOf, FieldOfLocals, word, Config, World, TypedObject, made_objects}
+use Rattle.neutral_machine.proofs.Common.{shape_of, Placement, IsPlacement, stack_end, addresses, local_address, memory_of, cell_field}
+use Rattle.neutral_machine.proofs.Common.{instance_at, CellAt, ThunkAt, find_field, located_past, cell_address, WorldFits, some_of_map}
+use Rattle.neutral_machine.specs.Locations.{is_field, cell_in}
 use Rattle.neutral_machine.proofs.Cells.{InObject, in_object_at, ObjectCell, object_cell, object_place, CellLies}
-use Rattle.ebc_base.proofs.Given.{some_of_map}
-use Rattle.neutral_machine.proofs.Words.{width_word}
+use Rattle.neutral_machine.proofs.{Numbers.lin_mod, Numbers.cut_same, Placed.object_within, Agree.cell_positive, Words.width_word}
 
 -- ---- fields by their pairs
 
@@ -136,13 +116,7 @@ module _ (w : ℕ) (world : World) (P : Placement) (h : IsWidth w) (ok : WorldFi
           let e = and_parts (nat_eq n 0) (nat_eq c 0) t in
           in_locals d f (ap₂ (At (LocalOf d f)) (eqb-true _ _ e.0) (eqb-true _ _ e.1)) (sym (same_cell _ _ (same_Some _ _ q)))
       go false t q = absurd (none-some _ q)
-  names a (Num n c) p g = absurd (none-some _ g)
-  names a (Handle k) p g = absurd (none-some _ g)
-  names a (Method k) p g = absurd (none-some _ g)
-  names a (Entry k) p g = absurd (none-some _ g)
-  names a (Error k) p g = absurd (none-some _ g)
-  names a (SignedError k) p g = absurd (none-some _ g)
-  names a Junk p g = absurd (none-some _ g)
+  names a v p g = absurd (none-some _ g)
 
   -- The number of a value that names a cell, cut to the width, is the cell's address.
   pub address_of_named : (a : Config) (v : Neutral) (x : ℕ) (p : CellPlace) (z : Field) (c : CellLies w world P h ok pl a p z)

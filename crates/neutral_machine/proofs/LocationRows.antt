@@ -1,19 +1,11 @@
 -- Rows of what accesses read of a function's parameters, of a status in a slot of either kind among them, computed by the
 -- definitions. A slip in the table of accesses shows here at once.
-use Rattle.std.proofs.Common.{◌≡◌, false, [], ◌∷◌, Option, Some, None, refl}
+use Rattle.neutral_machine.proofs.Common.{◌≡◌, false, [], ◌∷◌, Option, Some, None, refl, SlotKind, N, Q, Config, Access, Move, Signed}
+use Rattle.neutral_machine.proofs.Common.{ParamAt, kept, located_on_stack, value_at, param_slots, neutral_start, kept_natural}
+use Rattle.neutral_machine.proofs.Common.{sign_extended, Neutral, Error, SignedError, World, written_value}
 use Rattle.ebc_insn.specs.declared.Size.TheVariants as sizes
-use Rattle.note_types.specs.declared.cell.SlotKind.{SlotKind}
-use Rattle.note_types.specs.declared.cell.SlotKind.TheVariants.{N, Q}
 use Rattle.note_types.specs.declared.types.Ty.TheVariants as ty
 use Rattle.note_types.specs.declared.value.Value.TheVariants as value
-use Rattle.neutral_machine.specs.Config.{Config}
-use Rattle.neutral_machine.specs.Locations.{Access, Move, Signed, ParamAt, kept, located_on_stack, value_at}
-use Rattle.neutral_machine.specs.NeutralHost.{param_slots}
-use Rattle.neutral_machine.specs.NeutralRuns.{neutral_start}
-use Rattle.neutral_machine.specs.Operations.{kept_natural, sign_extended}
-use Rattle.host_model.specs.Values.{Neutral, Error, SignedError}
-use Rattle.host_model.specs.World.{World}
-use Rattle.neutral_machine.specs.Written.{written_value}
 
 -- ---- a program that is entered with a status
 

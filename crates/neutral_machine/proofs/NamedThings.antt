@@ -1,21 +1,12 @@
 -- A valid placement gives the things that values name their addresses, and typed objects lie apart.
-use Rattle.std.proofs.Common.{◌≡◌, ℕ, ◌+◌, ◌<◌, Bool, true, false, if◌then◌else◌, nat_lt, List, length, Some, None, refl, sym, ap, arith}
-use Rattle.std.proofs.Common.{inl, inr, ⊎_elim, slice_get}
-use Rattle.std.proofs.lemmas.Bool.{ltb-true, lt-ltb}
-use Rattle.std.proofs.Math.Nat.{mul-pos}
-use Rattle.std.proofs.lemmas.Option.{same_Some, none-some}
-use Rattle.ebc_width.specs.Width.{IsWidth}
-use Rattle.neutral_machine.specs.Config.{Frame}
-use Rattle.neutral_machine.specs.Layout.{addresses}
-use Rattle.neutral_machine.specs.Named.{Named, HasInstances, HasObjects, ThingsAreNamed}
-use Rattle.host_model.specs.declared.object.TypedObject.{TypedObject}
-use Rattle.host_model.specs.Objects.{made_objects}
-use Rattle.host_model.specs.Placements.{Placement, IsPlacement, IsWithin, all_ranges, placed_ranges, native_range, handle_count, handle_at}
-use Rattle.host_model.specs.Placements.{method_at, thunk_at, there, object_at, object_bytes}
-use Rattle.host_model.specs.World.{World}
-use Rattle.ebc_base.proofs.Lists.{All_at}
-use Rattle.neutral_machine.proofs.Locals.{fits_at}
+use Rattle.neutral_machine.proofs.Common.{◌≡◌, ℕ, ◌+◌, ◌<◌, Bool, true, false, if◌then◌else◌, nat_lt, List, length, Some, None, refl, sym}
+use Rattle.neutral_machine.proofs.Common.{ap, arith, inl, inr, ⊎_elim, slice_get, ltb-true, lt-ltb, mul-pos, same_Some, none-some, IsWidth}
+use Rattle.neutral_machine.proofs.Common.{Frame, addresses, Named, TypedObject, made_objects, Placement, IsPlacement, IsWithin, all_ranges}
+use Rattle.neutral_machine.proofs.Common.{placed_ranges, native_range, handle_count, handle_at, method_at, thunk_at, there, object_at}
+use Rattle.neutral_machine.proofs.Common.{object_bytes, World, All_at}
+use Rattle.neutral_machine.specs.Named.{HasInstances, HasObjects, ThingsAreNamed}
 use Rattle.neutral_machine.proofs.PlacedObjects.{Lies, StaticsFit, lies, object_above, object_below, objects_off}
+use Rattle.neutral_machine.proofs.Locals.{fits_at}
 
 -- one of so many things
 there_some : (count i at x : ℕ) → there count i at ≡ Some x → (i < count) × (x ≡ at)

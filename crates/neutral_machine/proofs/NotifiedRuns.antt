@@ -1,20 +1,13 @@
 -- The run of the driver of docs/NOTES.md with its script and one notification, which enters its callback with 7, by the number
 -- of instructions that it waits for.
-use Rattle.std.proofs.Common.{ℕ, List, [], ◌∷◌, ◌++◌, Some, refl}
+use Rattle.neutral_machine.proofs.Common.{ℕ, List, [], ◌∷◌, ◌++◌, Some, refl, Event, ScriptCall, given, World}
+use Rattle.neutral_machine.proofs.{Driver.driver_notified, Driver.locate_call, Driver.register_call, Computing.runs_compute}
+use Rattle.neutral_machine.proofs.{DriverRuns.asked, DriverRuns.whole, Programs.driver_image, Rows.Everywhere}
 use Rattle.note_types.specs.declared.ending.Ending.TheVariants as ending
-use Rattle.note_types.specs.declared.event.Event.{Event}
 use Rattle.note_types.specs.declared.event.Event.TheVariants as event
 use Rattle.note_types.specs.declared.reason.Reason.TheVariants as reason
-use Rattle.note_types.specs.declared.script.ScriptCall.{ScriptCall}
 use Rattle.note_types.specs.declared.spot.Spot.TheVariants as spot
 use Rattle.note_types.specs.declared.value.Value.TheVariants as value
-use Rattle.host_model.specs.ScriptValues.{given}
-use Rattle.host_model.specs.World.{World}
-use Rattle.neutral_machine.proofs.Driver.{driver_notified, locate_call, register_call}
-use Rattle.neutral_machine.proofs.Computing.{runs_compute}
-use Rattle.neutral_machine.proofs.DriverRuns.{asked, whole}
-use Rattle.neutral_machine.proofs.Programs.{driver_image}
-use Rattle.neutral_machine.proofs.Rows.{Everywhere}
 
 -- a script with these calls and a notification after so many instructions
 abbrev notified_with : ℕ → List ScriptCall → World

@@ -1,10 +1,7 @@
 -- Sums of pairs and addresses modulo 2 ^ 64.
-use Rattle.std.proofs.Common.{◌≡◌, ℕ, ◌+◌, ◌-◌, ◌*◌, ◌%◌, ◌^◌, ◌<◌, ◌≤◌, sym, ap, ◌∙◌, arith}
-use Rattle.std.proofs.Math.Nat.{add-mod, add-mod-mod}
-use Rattle.std.proofs.lemmas.Nat.{mul-mod_first}
-use Rattle.ebc_width.specs.Width.{IsWidth}
-use Rattle.ebc_width.proofs.Laws.{by_width}
-use Rattle.host_model.specs.Values.{minus}
+use Rattle.neutral_machine.proofs.Common.{◌≡◌, ℕ, ◌+◌, ◌-◌, ◌*◌, ◌%◌, ◌^◌, ◌<◌, ◌≤◌, sym, ap, ◌∙◌, arith, add-mod-mod, mul-mod_first}
+use Rattle.neutral_machine.proofs.Common.{IsWidth, by_width, minus}
+use Rattle.std.proofs.Math.Nat.{add-mod}
 
 pub lin_mod : (x y w M : ℕ) → (x % M * w + y % M) % M ≡ (x * w + y) % M
 lin_mod x y w M = add-mod-mod (x % M * w) y M ∙ add-mod (x % M * w) y M ∙ ap (λ z. (z + y % M) % M) (mul-mod_first x w M)

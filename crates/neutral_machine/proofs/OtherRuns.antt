@@ -1,28 +1,19 @@
 -- Whole runs that each show one thing, computed at both widths and in the neutral machine.
-use Rattle.std.proofs.Common.{◌≡◌, ◌+◌, ℕ, List, [], ◌∷◌, ◌++◌, Option, Some, None, refl, option_map, replicate}
-use Rattle.std.specs.List.{flat_map}
-use Rattle.note_types.specs.Concrete.{loaded}
+use Rattle.neutral_machine.proofs.Common.{◌≡◌, ◌+◌, ℕ, List, [], ◌∷◌, ◌++◌, Option, Some, None, refl, option_map, flat_map, loaded, Event}
+use Rattle.neutral_machine.proofs.Common.{Config, written_number, object_at, own_placement, thunk_at, StatusOf, reading_of, given, lent}
+use Rattle.neutral_machine.proofs.Common.{Neutral, At, ObjectOf, FieldOf, FieldOfLocals, number, signed_error_at, report_after}
+use Rattle.std.proofs.Common.{replicate}
+use Rattle.neutral_machine.proofs.Programs.{driver_image, dividing_image, lending_image, lending_world, nest_image, nest_world, plain_world}
+use Rattle.neutral_machine.proofs.Programs.{pointer_image, pointer_world, static_image, static_world, width_image}
+use Rattle.neutral_machine.proofs.{Driver.driver, Driver.driver_notes, Computing.runs_compute, Rows.AtWidths, Rows.Everywhere}
+use Rattle.neutral_machine.specs.NeutralRun.{config_after}
+use Rattle.host_model.specs.Runs.{run_of}
 use Rattle.note_types.specs.declared.ending.Ending.TheVariants as ending
-use Rattle.note_types.specs.declared.event.Event.{Event}
 use Rattle.note_types.specs.declared.event.Event.TheVariants as event
 use Rattle.note_types.specs.declared.exception.Exception.TheVariants as raises
 use Rattle.note_types.specs.declared.reason.Reason.TheVariants as reason
 use Rattle.note_types.specs.declared.spot.Spot.TheVariants as spot
 use Rattle.note_types.specs.declared.value.Value.TheVariants as value
-use Rattle.neutral_machine.specs.Config.{Config}
-use Rattle.host_model.specs.HostSteps.{written_number}
-use Rattle.host_model.specs.Placements.{object_at, own_placement, thunk_at}
-use Rattle.host_model.specs.Readings.{StatusOf, reading_of}
-use Rattle.host_model.specs.ScriptValues.{given, lent}
-use Rattle.host_model.specs.Values.{Neutral, At, ObjectOf, FieldOf, FieldOfLocals, number, signed_error_at}
-use Rattle.neutral_machine.proofs.Driver.{driver, driver_notes}
-use Rattle.neutral_machine.specs.NeutralRun.{config_after}
-use Rattle.host_model.specs.Reports.{report_after}
-use Rattle.host_model.specs.Runs.{run_of}
-use Rattle.neutral_machine.proofs.Computing.{runs_compute}
-use Rattle.neutral_machine.proofs.Programs.{driver_image, dividing_image, lending_image, lending_world, nest_image, nest_world, plain_world}
-use Rattle.neutral_machine.proofs.Programs.{pointer_image, pointer_world, static_image, static_world, width_image}
-use Rattle.neutral_machine.proofs.Rows.{AtWidths, Everywhere}
 
 -- ---- an exception
 

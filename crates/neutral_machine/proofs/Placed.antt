@@ -1,26 +1,12 @@
 -- Where typed objects lie: each made one inside a placed object, apart from the stack, from thunk cells and from code.
-use Rattle.std.proofs.Common.{◌≡◌, ◌≢◌, ℕ, suc, ◌+◌, ◌-◌, ◌*◌, ◌^◌, ◌<◌, ◌≤◌, ◌⊎◌, true, List, length, Some}
-use Rattle.std.proofs.Common.{refl, subst, arith, inl, inr, ⊎_elim, slice_get, mul-le-mul}
-use Rattle.std.proofs.lemmas.Option.{slice_get-get_or}
-use Rattle.ebc_width.proofs.RangeLaws.{holds-at, covers-inside}
-use Rattle.note_types.specs.Shapes.{FitsAt, size_at}
-use Rattle.ebc_width.specs.Width.{IsWidth}
-use Rattle.ebc_width.proofs.Laws.{by_width}
-use Rattle.ebc_width.specs.Ranges.{Range, holds}
-use Rattle.note_types.specs.declared.notes.FnNote.{FnNote}
-use Rattle.note_types.specs.declared.notes.Thunk.{Thunk}
-use Rattle.note_types.specs.declared.notes.Static.{Static}
-use Rattle.host_model.specs.World.{World}
-use Rattle.host_model.specs.declared.object.TypedObject.{TypedObject}
-use Rattle.host_model.specs.Objects.{no_shape, static_object, made_objects, shape_of}
-use Rattle.host_model.specs.Placements.{object_bytes, Placement, IsWithin, IsPlacement, area_bytes, stack_bytes, placed_ranges}
-use Rattle.host_model.specs.Placements.{object_address}
-use Rattle.note_types.specs.Concrete.{AreDisjoint}
-use Rattle.neutral_machine.specs.WorldFits.{WorldFits}
-use Rattle.ebc_base.proofs.Lists.{All_at, AllPairs_at}
-use Rattle.rules_image.specs.Images.{AreApart}
-use Rattle.neutral_machine.proofs.PlacedObjects as objects
+use Rattle.neutral_machine.proofs.Common.{◌≡◌, ◌≢◌, ℕ, suc, ◌+◌, ◌-◌, ◌*◌, ◌^◌, ◌<◌, ◌≤◌, ◌⊎◌, true, List, length, Some, refl, subst, arith}
+use Rattle.neutral_machine.proofs.Common.{inl, inr, ⊎_elim, slice_get, mul-le-mul, slice_get-get_or, covers-inside, FitsAt, size_at}
+use Rattle.neutral_machine.proofs.Common.{IsWidth, by_width, Range, holds, FnNote, Thunk, Static, World, TypedObject, no_shape}
+use Rattle.neutral_machine.proofs.Common.{static_object, made_objects, shape_of, object_bytes, Placement, IsWithin, IsPlacement, area_bytes}
+use Rattle.neutral_machine.proofs.Common.{stack_bytes, placed_ranges, object_address, AreDisjoint, WorldFits, All_at, AllPairs_at, AreApart}
+use Rattle.ebc_width.proofs.RangeLaws.{holds-at}
 use Rattle.neutral_machine.proofs.PlacedObjects.{Lies, StaticsFit, bytes_le, static_in}
+use Rattle.neutral_machine.proofs.PlacedObjects as objects
 
 mul-positive : (a b : ℕ) → 1 ≤ a → 1 ≤ b → 0 < a * b
 mul-positive a b l m = let e : 1 * 1 ≤ a * b = mul-le-mul l m in omega (arith, e)

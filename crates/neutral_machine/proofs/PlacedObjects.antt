@@ -1,28 +1,15 @@
 -- Where typed objects lie under a valid placement: a static one in the image, one of the script's by itself, and each apart
 -- from all others.
-use Rattle.std.proofs.Common.{◌≡◌, ◌≢◌, ℕ, zero, suc, ◌+◌, ◌-◌, ◌*◌, ◌^◌, ◌<◌, ◌≤◌, ◌⊎◌, List}
-use Rattle.std.proofs.Common.{[], ◌∷◌, length, map, flat_map, Some, refl, sym, ap, ap₂, ◌∙◌, subst, subst₂, arith, inl, inr, ⊎_elim}
-use Rattle.std.proofs.Common.{slice_get, le_refl, mul-le-mul}
-use Rattle.std.specs.Option.{option_map_or}
-use Rattle.std.proofs.lemmas.Bool.{lt-ltb, le-ltb, cases_lt, cases_order}
-use Rattle.std.proofs.lemmas.Option.{same_Some, slice_get-map, slice_get_within, get_or_from_slice_get, none-some}
-use Rattle.ebc_width.specs.Width.{IsWidth}
-use Rattle.ebc_width.proofs.Laws.{by_width}
-use Rattle.note_types.specs.Concrete.{AreDisjoint}
-use Rattle.note_types.specs.declared.notes.Notes.{Notes}
-use Rattle.note_types.specs.declared.notes.Static.{Static}
-use Rattle.note_types.specs.declared.script.Script.{Script}
-use Rattle.note_types.specs.declared.script.ScriptObject.{ScriptObject}
-use Rattle.note_types.specs.declared.script.ScriptCall.{ScriptCall}
-use Rattle.host_model.specs.World.{World}
-use Rattle.host_model.specs.declared.object.TypedObject.{TypedObject}
-use Rattle.host_model.specs.Objects.{static_object, script_object, placed_objects, made_objects, shape_of}
-use Rattle.host_model.specs.Placements.{Placement, IsPlacement, IsWithin, all_ranges, placed_ranges, script_ranges, image_range, object_at}
-use Rattle.host_model.specs.Placements.{object_address, object_bytes}
-use Rattle.ebc_base.proofs.Lists.{slice_get-append_left, slice_get-append_right, All_at, AllPairs_at, flat_map-taken, within_some, take-all}
-use Rattle.ebc_base.proofs.Lists.{length-map}
-use Rattle.ebc_base.proofs.Given.{some_of_map}
-use Rattle.rules_image.specs.Images.{AreApart}
+use Rattle.neutral_machine.proofs.Common.{◌≡◌, ◌≢◌, ℕ, zero, suc, ◌+◌, ◌-◌, ◌*◌, ◌^◌, ◌<◌, ◌≤◌, ◌⊎◌, List, [], ◌∷◌, length, map, Some, refl}
+use Rattle.neutral_machine.proofs.Common.{sym, ap, ap₂, ◌∙◌, subst, subst₂, arith, inl, inr, ⊎_elim, slice_get, le_refl, mul-le-mul}
+use Rattle.neutral_machine.proofs.Common.{option_map_or, lt-ltb, le-ltb, cases_lt, cases_order, same_Some, none-some, IsWidth, by_width}
+use Rattle.neutral_machine.proofs.Common.{AreDisjoint, Notes, Static, Script, ScriptObject, ScriptCall, World, TypedObject, static_object}
+use Rattle.neutral_machine.proofs.Common.{script_object, placed_objects, made_objects, shape_of, Placement, IsPlacement, IsWithin}
+use Rattle.neutral_machine.proofs.Common.{all_ranges, placed_ranges, script_ranges, image_range, object_at, object_address, object_bytes}
+use Rattle.neutral_machine.proofs.Common.{slice_get-append_left, slice_get-append_right, All_at, AllPairs_at, some_of_map, AreApart}
+use Rattle.std.proofs.Common.{flat_map}
+use Rattle.std.proofs.lemmas.Option.{slice_get-map, slice_get_within, get_or_from_slice_get}
+use Rattle.ebc_base.proofs.Lists.{flat_map-taken, within_some, take-all, length-map}
 
 -- ---- the objects that a script brings
 

@@ -1,23 +1,12 @@
 -- Programs whose runs are computed, as closed terms: the driver of docs/NOTES.md and others that each show one thing. Names don't
 -- matter here.
-use Rattle.std.specs.Prelude.{ℕ, ◌-◌, ◌^◌, Bool, true, false, List, [], ◌∷◌, length, Some, None, pos}
-use Rattle.note_types.specs.declared.cell.Cell.{Cell}
+use Rattle.neutral_machine.proofs.Common.{ℕ, ◌-◌, ◌^◌, Bool, true, false, List, [], ◌∷◌, length, Some, None, pos, Cell, N, FnNote, Notes}
+use Rattle.neutral_machine.proofs.Common.{Param, Script, ScriptCall, Shape, Ty, Image, lent, World}
+use Rattle.neutral_machine.proofs.Driver.{driver, driver_notes}
 use Rattle.note_types.specs.declared.cell.Cell.TheVariants as cell
-use Rattle.note_types.specs.declared.cell.SlotKind.TheVariants.{N}
-use Rattle.note_types.specs.declared.notes.FnNote.{FnNote}
-use Rattle.note_types.specs.declared.notes.Notes.{Notes}
-use Rattle.note_types.specs.declared.notes.Param.{Param}
 use Rattle.note_types.specs.declared.notes.Want.TheVariants as want
-use Rattle.note_types.specs.declared.script.Script.{Script}
-use Rattle.note_types.specs.declared.script.ScriptCall.{ScriptCall}
-use Rattle.note_types.specs.declared.shape.Shape.{Shape}
-use Rattle.note_types.specs.declared.types.Ty.{Ty}
 use Rattle.note_types.specs.declared.types.Ty.TheVariants as ty
 use Rattle.note_types.specs.declared.value.Value.TheVariants as value
-use Rattle.pe_image.specs.declared.image.Image.{Image}
-use Rattle.neutral_machine.proofs.Driver.{driver, driver_notes}
-use Rattle.host_model.specs.ScriptValues.{lent}
-use Rattle.host_model.specs.World.{World}
 
 -- ---- parts
 

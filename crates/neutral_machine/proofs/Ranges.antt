@@ -1,30 +1,15 @@
 -- What the host places lies as the objects of a machine's memory do, and the stack is within the limit of notes.
-use Rattle.std.proofs.Common.{◌≡◌, ℕ, zero, suc, ◌+◌, ◌*◌, ◌^◌, ◌<◌, ◌≤◌, ◌⊎◌, max, Bool, true, false, ◌||◌, if◌then◌else◌, nat_eq}
-use Rattle.std.proofs.Common.{List, [], ◌∷◌, length, Some, refl, sym, ap, ◌∙◌, subst, arith, inl, inr, ⊎_elim, slice_get}
-use Rattle.std.proofs.Math.Nat.{le-max_left, le-max_right, max-le}
-use Rattle.std.proofs.lemmas.Bool.{eq-eqb, eqb-true, or_cases}
-use Rattle.std.proofs.lemmas.Option.{same_Some, none-some}
-use Rattle.ebc_width.specs.Ranges.{Range}
-use Rattle.ebc_width.specs.Width.{IsWidth}
-use Rattle.note_types.specs.Concrete.{AreDisjoint}
+use Rattle.neutral_machine.proofs.Common.{◌≡◌, ℕ, zero, suc, ◌+◌, ◌*◌, ◌^◌, ◌<◌, ◌≤◌, ◌⊎◌, Bool, true, false, ◌||◌, if◌then◌else◌, nat_eq}
+use Rattle.neutral_machine.proofs.Common.{List, [], ◌∷◌, length, Some, refl, sym, ap, ◌∙◌, subst, arith, inl, inr, ⊎_elim, slice_get}
+use Rattle.neutral_machine.proofs.Common.{eq-eqb, eqb-true, or_cases, same_Some, none-some, Range, IsWidth, AreDisjoint, SlotKind, N, Q, D}
+use Rattle.neutral_machine.proofs.Common.{FnNote, Notes, Param, ScriptObject, script_object, placed_objects, Placement, IsPlacement}
+use Rattle.neutral_machine.proofs.Common.{IsWithin, all_ranges, placed_ranges, script_ranges, native_range, image_range, object_bytes}
+use Rattle.neutral_machine.proofs.Common.{slot_bytes, most_bytes, stack_bytes, IsScript, World, All_at, AllPairs_at, by_width}
+use Rattle.std.proofs.{Common.max, Math.Nat.le-max_left, Math.Nat.le-max_right, Math.Nat.max-le}
 use Rattle.note_types.specs.Records.{CanBeEntered, frame_size}
-use Rattle.note_types.specs.declared.cell.SlotKind.{SlotKind}
-use Rattle.note_types.specs.declared.cell.SlotKind.TheVariants.{N, Q, D}
-use Rattle.note_types.specs.declared.notes.FnNote.{FnNote}
-use Rattle.note_types.specs.declared.notes.Notes.{Notes}
-use Rattle.note_types.specs.declared.notes.Param.{Param}
-use Rattle.note_types.specs.declared.script.ScriptObject.{ScriptObject}
-use Rattle.host_model.specs.Objects.{script_object, placed_objects}
-use Rattle.host_model.specs.Placements.{Placement, IsPlacement, IsWithin, all_ranges, placed_ranges, script_ranges, native_range}
-use Rattle.host_model.specs.Placements.{stack_range, image_range, object_bytes, frame_bytes, params_bytes, slot_bytes, pair_at, most_bytes}
-use Rattle.host_model.specs.Placements.{stack_bytes}
+use Rattle.host_model.specs.Placements.{stack_range, frame_bytes, params_bytes, pair_at}
 use Rattle.neutral_machine.specs.RangeLaw.{LiesAsMemory, RangesLieAsMemory, StackIsWithinLimit}
-use Rattle.host_model.specs.Scripts.{IsScript}
-use Rattle.host_model.specs.World.{World}
-use Rattle.ebc_base.proofs.Lists.{All_at, AllPairs_at}
-use Rattle.neutral_machine.proofs.ScriptObjects.{object_takes_bytes}
-use Rattle.ebc_width.proofs.Laws.{by_width}
-use Rattle.neutral_machine.proofs.PlacedObjects.{placed_in_all, script_ranges_at}
+use Rattle.neutral_machine.proofs.{ScriptObjects.object_takes_bytes, PlacedObjects.placed_in_all, PlacedObjects.script_ranges_at}
 
 -- ---- the stack
 

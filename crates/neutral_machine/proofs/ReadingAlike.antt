@@ -1,28 +1,21 @@
 -- A number that shows a neutral value is read as the value is.
-use Rattle.std.proofs.Common.{◌≡◌, ◌≢◌, ℕ, zero, suc, ◌+◌, ◌-◌, ◌*◌, ◌/◌, ◌%◌, ◌^◌, ◌<◌, ◌≤◌, ◌⊎◌, Bool, true, false, ◌&&◌, if◌then◌else◌}
-use Rattle.std.proofs.Common.{nat_lt, nat_le, nat_eq, List, [], ◌∷◌, length, Option, Some, None, refl, sym, ap, ap₂, ◌∙◌, subst, arith, inl}
-use Rattle.std.proofs.Common.{inr, ⊎_elim, slice_get, mod-eq_of_lt, le_refl}
-use Rattle.std.specs.Option.{option_map, option_or}
-use Rattle.std.proofs.lemmas.Option.{same_Some}
-use Rattle.std.proofs.lemmas.Bool.{and_parts, and_from, ltb-true, eqb-true, le-leb, lt-ltb, eq-eqb, ne_eqb}
-use Rattle.std.proofs.lemmas.Nat.{row_fits, div-mul-add, mod-mul-add}
-use Rattle.ebc_width.specs.Width.{cut_at}
-use Rattle.host_model.specs.declared.object.TypedObject.{TypedObject}
-use Rattle.host_model.specs.Objects.{shape_of}
-use Rattle.host_model.specs.Placements.{Placement, area_step, handle_count, handle_at, thunk_at, method_at, object_at, shape_bytes}
-use Rattle.host_model.specs.Readings.{Anything, Number, SizeOf, Pointer, HandleOf, EntryOf, StatusOf, MethodOf, reading_of, thing_at}
-use Rattle.host_model.specs.Readings.{instance_named, pointer_from, or_wild, or_null, status_read, handle_named, entry_named}
-use Rattle.note_types.specs.declared.notes.Notes.{Notes}
-use Rattle.note_types.specs.declared.value.Value.{Value}
-use Rattle.note_types.specs.declared.value.Value.TheVariants as value
-use Rattle.neutral_machine.specs.NeutralReadings.{neutral_reading, neutral_result, as_number, as_null, as_pointer}
-use Rattle.neutral_machine.specs.Operations.{Instance, instance_at, instance_of, starts_at, starts_if}
-use Rattle.neutral_machine.specs.Named.{Named}
+use Rattle.neutral_machine.proofs.Common.{◌≡◌, ◌≢◌, ℕ, zero, suc, ◌+◌, ◌-◌, ◌*◌, ◌/◌, ◌%◌, ◌^◌, ◌<◌, ◌≤◌, ◌⊎◌, Bool, true, false, ◌&&◌}
+use Rattle.neutral_machine.proofs.Common.{if◌then◌else◌, nat_lt, nat_le, nat_eq, List, [], ◌∷◌, length, Option, Some, None, refl, sym, ap}
+use Rattle.neutral_machine.proofs.Common.{ap₂, ◌∙◌, subst, arith, inl, inr, ⊎_elim, slice_get, mod-eq_of_lt, le_refl, option_or, same_Some}
+use Rattle.neutral_machine.proofs.Common.{and_parts, and_from, ltb-true, eqb-true, le-leb, lt-ltb, eq-eqb, ne_eqb, row_fits, div-mul-add}
+use Rattle.neutral_machine.proofs.Common.{cut_at, TypedObject, shape_of, Placement, handle_count, handle_at, thunk_at, method_at, object_at}
+use Rattle.neutral_machine.proofs.Common.{shape_bytes, StatusOf, reading_of, pointer_from, Notes, Value, neutral_reading, neutral_result}
+use Rattle.neutral_machine.proofs.Common.{Instance, instance_at, instance_of, starts_at, starts_if, Named, Neutral, Num, At, Handle, Method}
+use Rattle.neutral_machine.proofs.Common.{Entry, Error, ObjectOf, Addresses, Shows, word, by_width}
+use Rattle.std.specs.Option.{option_map}
+use Rattle.std.proofs.lemmas.Nat.{mod-mul-add}
+use Rattle.host_model.specs.Readings.{Anything, Number, SizeOf, Pointer, HandleOf, EntryOf, MethodOf, thing_at, instance_named, or_wild}
+use Rattle.host_model.specs.Readings.{or_null, status_read, handle_named, entry_named}
+use Rattle.host_model.specs.{Placements.area_step, Values.IsPast}
+use Rattle.neutral_machine.specs.NeutralReadings.{as_number, as_null, as_pointer}
 use Rattle.neutral_machine.specs.ReadingLaw.{ReadsAlike, ResultsAlike}
-use Rattle.host_model.specs.Values.{Neutral, Num, At, Handle, Method, Entry, Error, SignedError, Junk, ObjectOf, ThunkOf, LocalOf}
-use Rattle.host_model.specs.Values.{Addresses, Shows, IsPast, word}
 use Rattle.neutral_machine.proofs.Words.{width_word, word_pair, not_lt, if_some, if_mapped}
-use Rattle.ebc_width.proofs.Laws.{by_width}
+use Rattle.note_types.specs.declared.value.Value.TheVariants as value
 
 -- ---- things of the native area, and instances
 
@@ -227,14 +220,7 @@ module _ (w : ℕ) (notes : Notes) (P : Placement) (made : List TypedObject) (A 
   pointer_alike (Num n c) x t e s = let h = null_is n c x t e s in ap (λ y. or_wild y (or_null y (pointer_from w notes P 0 made y))) h.0
       ∙ h.1
   pointer_alike (At (ObjectOf k) n c) x t e s = instance_read k x t (instance_by_object k n c x t (slice_get made k) refl e s)
-  pointer_alike (At (ThunkOf k) n c) x t e s = absurd (cc)
-  pointer_alike (At (LocalOf d f) n c) x t e s = absurd (cc)
-  pointer_alike (Handle k) x t e s = absurd (cc)
-  pointer_alike (Method k) x t e s = absurd (cc)
-  pointer_alike (Entry k) x t e s = absurd (cc)
-  pointer_alike (Error k) x t e s = absurd (cc)
-  pointer_alike (SignedError k) x t e s = absurd (cc)
-  pointer_alike Junk x t e s = absurd (cc)
+  pointer_alike v x t e s = absurd (cc)
 
   -- a thing of the native area that a number is the address of
   thing_is : (first count k x : ℕ) (F : ℕ → Value) → k < count → x ≡ first + area_step * k → 0 < first
@@ -352,14 +338,7 @@ module _ (w : ℕ) (notes : Notes) (P : Placement) (made : List TypedObject) (A 
   unfolding neutral_reading instance_of
   pointer_small (Num n c) x t e s = null_small n c x t e s
   pointer_small (At (ObjectOf k) n c) x t e s = (within k x t (instance_by_object k n c x t (slice_get made k) refl e s)).1
-  pointer_small (At (ThunkOf k) n c) x t e s = absurd (cc)
-  pointer_small (At (LocalOf d f) n c) x t e s = absurd (cc)
-  pointer_small (Handle k) x t e s = absurd (cc)
-  pointer_small (Method k) x t e s = absurd (cc)
-  pointer_small (Entry k) x t e s = absurd (cc)
-  pointer_small (Error k) x t e s = absurd (cc)
-  pointer_small (SignedError k) x t e s = absurd (cc)
-  pointer_small Junk x t e s = absurd (cc)
+  pointer_small v x t e s = absurd (cc)
 
   status_small : (v : Neutral) (x : ℕ) (t : Value) → neutral_reading notes made StatusOf v ≡ Some t → Shows w A v x → x < 2 ^ (8 * w)
   unfolding neutral_reading

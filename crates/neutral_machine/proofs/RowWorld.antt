@@ -1,21 +1,12 @@
 -- A small program, a configuration of it, and the machine's states at both widths that stand for it: what the rows of
 -- proofs/InsnRows are computed on.
-use Rattle.std.proofs.Common.{ℕ, ◌+◌, false, true, List, [], ◌∷◌, Some, None}
-use Rattle.ebc_width.specs.Bytes.{put}
-use Rattle.note_types.specs.Concrete.{Concrete}
-use Rattle.note_types.specs.declared.cell.Cell.TheVariants as cell
-use Rattle.note_types.specs.declared.cell.SlotKind.TheVariants.{Q}
+use Rattle.neutral_machine.proofs.Common.{ℕ, ◌+◌, false, true, List, [], ◌∷◌, Some, None, put, Concrete, Q, Notes, Place, Gate, Config}
+use Rattle.neutral_machine.proofs.Common.{Registers, StackItem, Frame, Function, Host, Pushed, with_value, with_cell, Placement}
+use Rattle.neutral_machine.proofs.Common.{placed_ranges, NoCall, script_start, At, Num, Entry, Error, ObjectOf, ThunkOf, FieldOf}
+use Rattle.neutral_machine.proofs.Common.{FieldOfLocals, number, null, error_at, World, Shape}
 use Rattle.note_types.specs.declared.ending.Ending.TheVariants.{Running}
-use Rattle.note_types.specs.declared.notes.Notes.{Notes}
-use Rattle.note_types.specs.declared.spot.Spot.TheVariants.{Place, Gate}
+use Rattle.note_types.specs.declared.cell.Cell.TheVariants as cell
 use Rattle.note_types.specs.declared.types.Ty.TheVariants as ty
-use Rattle.neutral_machine.specs.Config.{Config, Registers, StackItem, Frame, Function, Host, Pushed, with_value}
-use Rattle.neutral_machine.specs.Memory.{with_cell}
-use Rattle.host_model.specs.Placements.{Placement, placed_ranges}
-use Rattle.host_model.specs.Progress.{NoCall, script_start}
-use Rattle.host_model.specs.Values.{At, Num, Entry, Error, ObjectOf, ThunkOf, FieldOf, FieldOfLocals, number, null, error_at}
-use Rattle.host_model.specs.World.{World}
-use Rattle.note_types.specs.declared.shape.Shape.{Shape}
 
 -- ---- the program
 

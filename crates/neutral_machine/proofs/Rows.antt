@@ -1,8 +1,6 @@
 -- What a run shows at both widths and in the neutral machine.
-use Rattle.std.specs.Prelude.{◌≡◌, ℕ, Some}
-use Rattle.pe_image.specs.declared.image.Image.{Image}
-use Rattle.host_model.specs.World.{World}
-use Rattle.host_model.specs.Reports.{Report, report_after}
+use Rattle.neutral_machine.proofs.Common.{◌≡◌, ℕ, Some, Image, World, report_after}
+use Rattle.host_model.specs.Reports.{Report}
 use Rattle.neutral_machine.specs.NeutralReports.{neutral_report_after}
 
 -- a run shows this after so many steps, at either width

@@ -1,20 +1,9 @@
 -- The objects of a script that was read take bytes.
-use Rattle.std.proofs.Common.{◌≡◌, ℕ, zero, suc, ◌-◌, ◌<◌, ◌≤◌, List, [], ◌∷◌, ◌++◌, take, length, Some, refl, sym, ◌∙◌, slice_get}
-use Rattle.std.proofs.Common.{⊎_elim}
-use Rattle.std.proofs.lemmas.Bool.{cases_lt}
-use Rattle.std.proofs.lemmas.Option.{none-some}
-use Rattle.std.proofs.Math.Nat.{mul-pos}
-use Rattle.std.specs.List.{flat_map}
-use Rattle.ebc_base.proofs.Lists.{slice_get-append_left, slice_get-append_right}
-use Rattle.ebc_width.specs.Width.{IsWidth}
-use Rattle.note_types.specs.Records.{Each}
-use Rattle.note_types.specs.Shapes.{IsShape}
-use Rattle.note_types.specs.declared.notes.Notes.{Notes}
-use Rattle.note_types.specs.declared.script.Script.{Script}
-use Rattle.note_types.specs.declared.script.ScriptObject.{ScriptObject}
-use Rattle.host_model.specs.Objects.{objects_of, placed_objects, script_object, shape_of}
-use Rattle.host_model.specs.Placements.{object_bytes}
-use Rattle.host_model.specs.Scripts.{IsScript}
+use Rattle.neutral_machine.proofs.Common.{◌≡◌, ℕ, zero, suc, ◌-◌, ◌<◌, ◌≤◌, List, [], ◌∷◌, ◌++◌, take, length, Some, refl, sym, ◌∙◌}
+use Rattle.neutral_machine.proofs.Common.{slice_get, ⊎_elim, cases_lt, none-some, mul-pos, flat_map, slice_get-append_left}
+use Rattle.neutral_machine.proofs.Common.{slice_get-append_right, IsWidth, Each, IsShape, Notes, Script, ScriptObject, placed_objects}
+use Rattle.neutral_machine.proofs.Common.{script_object, shape_of, object_bytes, IsScript}
+use Rattle.host_model.specs.Objects.{objects_of}
 use Rattle.neutral_machine.proofs.Locals.{fits_at}
 
 -- what holds of each item of two lists holds of each of both

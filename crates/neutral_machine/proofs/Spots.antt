@@ -1,18 +1,9 @@
 -- Where control is: the places of the image under a valid placement, and the machine with control elsewhere.
-use Rattle.std.proofs.Common.{◌≡◌, ℕ, ◌+◌, ◌-◌, ◌<◌, Bool, true, false, nat_eq, Option, ap, arith, ⊎_elim}
-use Rattle.std.proofs.lemmas.Bool.{ne_eqb}
+use Rattle.neutral_machine.proofs.Common.{◌≡◌, ℕ, ◌+◌, ◌-◌, ◌<◌, Bool, true, false, nat_eq, Option, ap, arith, ⊎_elim, ne_eqb, IsWidth}
+use Rattle.neutral_machine.proofs.Common.{covers-inside, Concrete, Spot, Place, Placement, IsPlacement, image_range, World, Config}
+use Rattle.neutral_machine.proofs.Common.{MachineStands, WorldFits}
 use Rattle.ebc_width.specs.Ranges.{covers}
-use Rattle.ebc_width.specs.Width.{IsWidth}
-use Rattle.ebc_width.proofs.RangeLaws.{covers-inside}
-use Rattle.note_types.specs.Concrete.{Concrete}
-use Rattle.note_types.specs.declared.spot.Spot.{Spot}
-use Rattle.note_types.specs.declared.spot.Spot.TheVariants.{Place}
-use Rattle.host_model.specs.Placements.{Placement, IsPlacement, image_range}
-use Rattle.host_model.specs.World.{World}
-use Rattle.neutral_machine.specs.Config.{Config}
-use Rattle.neutral_machine.specs.Rows.{flags_of}
-use Rattle.neutral_machine.specs.Stands.{MachineStands, spot_at}
-use Rattle.neutral_machine.specs.WorldFits.{WorldFits}
+use Rattle.neutral_machine.specs.{Rows.flags_of, Stands.spot_at}
 use Rattle.neutral_machine.proofs.Placed.{native_off_image}
 
 -- a place of the image is that spot

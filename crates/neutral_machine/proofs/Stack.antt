@@ -1,26 +1,13 @@
 -- What R0 and a pair name: a field of the function's own locals, or a parameter, at its address.
-use Rattle.std.proofs.Common.{◌≡◌, ℕ, zero, suc, ◌+◌, ◌*◌, ◌^◌, ◌<◌, ◌≤◌, Bool, true, false, ◌&&◌, if◌then◌else◌, nat_eq, List, [], ◌∷◌}
-use Rattle.std.proofs.Common.{take, Option, Some, None, refl, sym, ap, ap₂, ◌∙◌, subst, arith, slice_get, option_map}
-use Rattle.std.proofs.lemmas.Bool.{eqb-true, and_parts}
-use Rattle.std.proofs.lemmas.Option.{same_Some, none-some}
-use Rattle.ebc_width.specs.Bytes.{little_endian}
-use Rattle.ebc_width.specs.Width.{IsWidth}
-use Rattle.note_types.specs.Shapes.{size_at, start_at}
-use Rattle.note_types.specs.declared.cell.SlotKind.{SlotKind}
-use Rattle.note_types.specs.declared.cell.SlotKind.TheVariants.{N, Q, D}
-use Rattle.note_types.specs.declared.notes.Notes.{Notes}
-use Rattle.note_types.specs.declared.shape.Field.{Field}
-use Rattle.note_types.specs.declared.shape.Shape.{Shape}
-use Rattle.host_model.specs.Values.{Addresses, Neutral, ShowsIn, CellPlace, FieldOfLocals, word, minus}
-use Rattle.std.specs.Option.{option_or}
-use Rattle.neutral_machine.specs.Config.{StackItem, Pushed, LocalsOf, locals_among}
-use Rattle.host_model.specs.Placements.{slot_bytes}
-use Rattle.neutral_machine.specs.Layout.{item_size, height, local_among}
-use Rattle.neutral_machine.specs.Locations.{Offset, Location, CellAt, ParamAt, find_field, item_units, item_bytes, parameter_at}
-use Rattle.neutral_machine.specs.Locations.{local_field, located_among}
-use Rattle.neutral_machine.specs.Stands.{ItemShows, ItemsShow, OwnLocals}
+use Rattle.neutral_machine.proofs.Common.{◌≡◌, ℕ, zero, suc, ◌+◌, ◌*◌, ◌^◌, ◌<◌, ◌≤◌, Bool, true, false, ◌&&◌, if◌then◌else◌, nat_eq, List}
+use Rattle.neutral_machine.proofs.Common.{[], ◌∷◌, take, Option, Some, None, refl, sym, ap, ap₂, ◌∙◌, subst, arith, slice_get, option_map}
+use Rattle.neutral_machine.proofs.Common.{eqb-true, and_parts, same_Some, none-some, little_endian, IsWidth, size_at, start_at, SlotKind, N}
+use Rattle.neutral_machine.proofs.Common.{Q, D, Notes, Field, Shape, Addresses, Neutral, ShowsIn, CellPlace, FieldOfLocals, word, minus}
+use Rattle.neutral_machine.proofs.Common.{option_or, StackItem, Pushed, LocalsOf, locals_among, slot_bytes, item_size, height, local_among}
+use Rattle.neutral_machine.proofs.Common.{Offset, Location, CellAt, ParamAt, find_field, item_units, item_bytes, ItemShows, ItemsShow}
+use Rattle.neutral_machine.proofs.Common.{OwnLocals, some_of_map}
+use Rattle.neutral_machine.specs.Locations.{parameter_at, local_field, located_among}
 use Rattle.neutral_machine.proofs.Locate.{find_sound}
-use Rattle.ebc_base.proofs.Given.{some_of_map}
 
 -- the bytes of an item by its pair
 pub item_pair : (w : ℕ) (i : StackItem) → item_size w i ≡ item_units i * w + item_bytes i

@@ -1,29 +1,14 @@
 -- A store to a cell: the machine stands for the configuration again.
-use Rattle.std.proofs.Common.{◌≡◌, ℕ, ◌+◌, ◌-◌, ◌*◌, ◌%◌, ◌^◌, ◌<◌, ◌≤◌, Bool, true, false, if◌then◌else◌, Option, Some, refl, sym}
-use Rattle.std.proofs.Common.{ap, ap₂, ◌∙◌, subst, subst₂, arith, inl, inr, ⊎_elim, slice_get}
-use Rattle.std.proofs.lemmas.Option.{same_Some}
-use Rattle.ebc_width.specs.Bytes.{little_endian, put}
-use Rattle.ebc_width.proofs.ByteLaws.{little_endian-apart, put-apart, put-below}
-use Rattle.ebc_width.specs.Width.{IsWidth}
-use Rattle.ebc_width.proofs.Laws.{by_width}
-use Rattle.note_types.specs.Cells.{cell_size}
-use Rattle.note_types.specs.Concrete.{Concrete}
-use Rattle.note_types.specs.declared.notes.FnNote.{FnNote}
-use Rattle.note_types.specs.declared.notes.Thunk.{Thunk}
-use Rattle.note_types.specs.declared.shape.Field.{Field}
-use Rattle.host_model.specs.Values.{Neutral, Addresses, ShowsIn, CellPlace, FieldOf, FieldOfLocals, same_cell_place}
-use Rattle.neutral_machine.specs.Config.{Config}
-use Rattle.host_model.specs.World.{World}
-use Rattle.host_model.specs.Placements.{Placement, IsPlacement, stack_bytes, stack_end}
-use Rattle.neutral_machine.specs.Layout.{addresses, total}
-use Rattle.neutral_machine.specs.Memory.{memory_of, cell_field, with_cell}
-use Rattle.neutral_machine.specs.Stands.{FramesShow, OwnLocalsAll, cell_address, CellShows, ThunkShows, MachineStands}
-use Rattle.neutral_machine.specs.WorldFits.{WorldFits}
-use Rattle.neutral_machine.proofs.Placed.{Off, off_stack}
-use Rattle.neutral_machine.proofs.Agree.{put_agree, frames_agree, read_put}
-use Rattle.neutral_machine.proofs.Locals.{fits_at, locals_fit, frames_stored}
+use Rattle.neutral_machine.proofs.Common.{◌≡◌, ℕ, ◌+◌, ◌-◌, ◌*◌, ◌%◌, ◌^◌, ◌<◌, ◌≤◌, Bool, true, false, if◌then◌else◌, Option, Some, refl}
+use Rattle.neutral_machine.proofs.Common.{sym, ap, ap₂, ◌∙◌, subst, subst₂, arith, inl, inr, ⊎_elim, slice_get, same_Some, little_endian}
+use Rattle.neutral_machine.proofs.Common.{put, little_endian-apart, put-apart, put-below, IsWidth, by_width, cell_size, Concrete, FnNote}
+use Rattle.neutral_machine.proofs.Common.{Thunk, Field, Neutral, Addresses, ShowsIn, CellPlace, FieldOf, FieldOfLocals, same_cell_place}
+use Rattle.neutral_machine.proofs.Common.{Config, World, Placement, IsPlacement, stack_bytes, stack_end, addresses, total, memory_of}
+use Rattle.neutral_machine.proofs.Common.{cell_field, with_cell, FramesShow, OwnLocalsAll, cell_address, CellShows, ThunkShows}
+use Rattle.neutral_machine.proofs.Common.{MachineStands, WorldFits}
 use Rattle.neutral_machine.proofs.Cells.{end_small, in_object_at, object_cell, object_place, in_locals_at, CellLies, cell_lies, cells_off}
-use Rattle.neutral_machine.proofs.CellPairs.{one_place}
+use Rattle.neutral_machine.proofs.{Placed.Off, Placed.off_stack, Agree.put_agree, Agree.frames_agree, Agree.read_put, Locals.fits_at}
+use Rattle.neutral_machine.proofs.{Locals.locals_fit, Locals.frames_stored, CellPairs.one_place}
 
 pub width_le : (w : ℕ) → IsWidth w → w ≤ 8
 width_le w h = by_width (λ v. v ≤ 8) w h (omega arith) (omega arith)

@@ -1,28 +1,14 @@
 -- The host makes a thunk: the machine stands with one more.
-use Rattle.std.proofs.Common.{◌≡◌, ℕ, suc, ◌+◌, ◌-◌, ◌*◌, ◌%◌, ◌^◌, ◌<◌, ◌≤◌, ◌⊎◌, Bool, true, false, nat_eq, Some, refl, sym, ap, ◌∙◌}
-use Rattle.std.proofs.Common.{subst, arith, inl, inr, ⊎_elim, slice_get}
-use Rattle.std.proofs.lemmas.Bool.{eqb-true, eqb-false}
-use Rattle.std.proofs.lemmas.Option.{same_Some}
-use Rattle.ebc_width.specs.Bytes.{little_endian, put}
-use Rattle.ebc_width.proofs.ByteLaws.{little_endian-apart, put-below}
-use Rattle.ebc_width.specs.Width.{IsWidth}
-use Rattle.note_types.specs.Cells.{cell_size}
-use Rattle.note_types.specs.declared.notes.FnNote.{FnNote}
-use Rattle.note_types.specs.declared.notes.Thunk.{Thunk}
-use Rattle.note_types.specs.declared.shape.Field.{Field}
-use Rattle.host_model.specs.Values.{Neutral, Addresses, ShowsIn, CellPlace}
-use Rattle.host_model.specs.World.{World}
-use Rattle.host_model.specs.Placements.{Placement, stack_end, entry_address}
-use Rattle.neutral_machine.specs.Layout.{addresses, total}
-use Rattle.neutral_machine.specs.Memory.{memory_of, cell_field}
+use Rattle.neutral_machine.proofs.Common.{◌≡◌, ℕ, suc, ◌+◌, ◌-◌, ◌*◌, ◌%◌, ◌^◌, ◌<◌, ◌≤◌, ◌⊎◌, Bool, true, false, nat_eq, Some, refl, sym}
+use Rattle.neutral_machine.proofs.Common.{ap, ◌∙◌, subst, arith, inl, inr, ⊎_elim, slice_get, eqb-true, eqb-false, same_Some, little_endian}
+use Rattle.neutral_machine.proofs.Common.{put, little_endian-apart, put-below, IsWidth, cell_size, FnNote, Thunk, Field, Neutral, Addresses}
+use Rattle.neutral_machine.proofs.Common.{ShowsIn, CellPlace, World, Placement, stack_end, addresses, total, memory_of, cell_field}
+use Rattle.neutral_machine.proofs.Common.{cell_address, CellShows, ThunkShows}
+use Rattle.host_model.specs.Placements.{entry_address}
 use Rattle.neutral_machine.specs.Laws.{ThunkMade}
-use Rattle.neutral_machine.specs.Stands.{cell_address, CellShows, ThunkShows}
-use Rattle.neutral_machine.proofs.Numbers.{cut_same}
-use Rattle.neutral_machine.proofs.Placed.{Off, image_off_stack}
-use Rattle.neutral_machine.proofs.Agree.{put_agree, frames_agree, read_put}
-use Rattle.neutral_machine.proofs.Bounds.{bounded}
-use Rattle.neutral_machine.proofs.Cells.{end_small, cell_lies}
-use Rattle.neutral_machine.proofs.Stored.{width_le, thunk_after, code_after}
+use Rattle.neutral_machine.proofs.{Numbers.cut_same, Placed.Off, Placed.image_off_stack, Agree.put_agree, Agree.frames_agree}
+use Rattle.neutral_machine.proofs.{Agree.read_put, Bounds.bounded, Cells.end_small, Cells.cell_lies, Stored.width_le, Stored.thunk_after}
+use Rattle.neutral_machine.proofs.Stored.{code_after}
 
 same_below : (w x : ℕ) → IsWidth w → x < 2 ^ (8 * w) → x ≡ x % 2 ^ (8 * w)
 same_below w x h l = sym (cut_same w x x h refl l)

@@ -1,18 +1,13 @@
 -- The host sees something where the step is its own.
-use Rattle.std.proofs.Common.{◌≡◌, ℕ, Bool, true, false, List, [], ◌∷◌, nat_eq, length, Some, None, is_some, refl, if◌then◌else◌}
-use Rattle.std.proofs.lemmas.Option.{none-some}
-use Rattle.note_types.specs.declared.spot.Spot.{Spot}
+use Rattle.neutral_machine.proofs.Common.{◌≡◌, ℕ, Bool, true, false, List, [], ◌∷◌, nat_eq, length, Some, None, refl, if◌then◌else◌}
+use Rattle.neutral_machine.proofs.Common.{none-some, Spot, IsDue, is_due, host_view, NoCall, Accepted, Neutral}
+use Rattle.std.proofs.Common.{is_some}
+use Rattle.host_model.specs.{HostPlans.host_turn, HostSteps.call_under_way, HostSteps.call_seen, HostSteps.return_seen, Progress.NativeCall}
+use Rattle.host_model.specs.{Progress.Asked, Progress.is_empty, RunState.SavedFrame}
+use Rattle.neutral_machine.specs.{NeutralRuns.is_gate, TurnLaw.TurnIsSeen, TurnLaw.SeenIsTurn}
 use Rattle.note_types.specs.declared.spot.Spot.TheVariants as spot
-use Rattle.neutral_machine.specs.Config.{Config}
 use Rattle.neutral_machine.specs.Config as config
-use Rattle.host_model.specs.HostPlans.{host_turn, IsDue, is_due}
-use Rattle.host_model.specs.HostSteps.{call_under_way, host_view, call_seen, return_seen}
 use Rattle.neutral_machine.specs.NeutralHost as neutral
-use Rattle.neutral_machine.specs.NeutralRuns.{is_gate}
-use Rattle.host_model.specs.Progress.{NativeCall, NoCall, Asked, Accepted, is_empty}
-use Rattle.host_model.specs.RunState.{SavedFrame}
-use Rattle.neutral_machine.specs.TurnLaw.{TurnIsSeen, SeenIsTurn}
-use Rattle.host_model.specs.Values.{Neutral}
 
 pub turn_is_seen : TurnIsSeen
 unfolding host_view

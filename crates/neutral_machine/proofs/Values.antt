@@ -1,32 +1,20 @@
 -- Operations on values show as operations on numbers: sums, and what moves keep.
-use Rattle.std.proofs.Common.{◌≡◌, ℕ, zero, suc, ◌+◌, ◌*◌, ◌%◌, ◌^◌, ◌<◌, ◌≤◌, Bool, true, false, ◌&&◌, if◌then◌else◌, nat_eq, nat_lt, List}
-use Rattle.std.proofs.Common.{Option, Some, None, refl, sym, ap, ap₂, ◌∙◌, subst, arith, slice_get, mod-eq_of_lt, add_comm}
-use Rattle.std.proofs.Math.Nat.{mod-le}
-use Rattle.std.proofs.lemmas.Bool.{ltb-true, eqb-true, and_parts}
-use Rattle.std.proofs.lemmas.Option.{same_Some, none-some}
+use Rattle.neutral_machine.proofs.Common.{◌≡◌, ℕ, zero, ◌+◌, ◌*◌, ◌%◌, ◌^◌, ◌<◌, ◌≤◌, Bool, true, false, ◌&&◌, if◌then◌else◌, nat_eq}
+use Rattle.neutral_machine.proofs.Common.{nat_lt, List, Option, Some, None, refl, sym, ap, ap₂, ◌∙◌, subst, arith, slice_get, mod-eq_of_lt}
+use Rattle.neutral_machine.proofs.Common.{ltb-true, eqb-true, and_parts, same_Some, none-some, IsWidth, by_width, Notes, ObjectOf, ThunkOf}
+use Rattle.neutral_machine.proofs.Common.{LocalOf, Neutral, Num, At, Handle, Method, Entry, Error, SignedError, Junk, Addresses, Shows}
+use Rattle.neutral_machine.proofs.Common.{ShowsIn, number, plain, word, error_at, signed_error_at, TypedObject, sum_of, kept_natural}
+use Rattle.neutral_machine.proofs.Common.{extent_if, Access, Move, Form, Signed, kept}
+use Rattle.std.proofs.{Common.add_comm, Math.Nat.mod-le}
+use Rattle.host_model.specs.Values.{IsCode}
+use Rattle.neutral_machine.specs.{Operations.narrowed, Operations.on_number, Locations.access_bytes}
+use Rattle.neutral_machine.proofs.{Numbers.sum_num, Numbers.sum_at, Words.width_word}
 use Rattle.ebc_insn.specs.declared.Size.TheVariants as sizes
-use Rattle.ebc_width.specs.Width.{IsWidth}
-use Rattle.ebc_width.proofs.Laws.{by_width}
-use Rattle.note_types.specs.declared.notes.Notes.{Notes}
-use Rattle.host_model.specs.Values.{ObjectOf, ThunkOf, LocalOf, Neutral, Num, At, Handle, Method, Entry, Error, SignedError, Junk}
-use Rattle.host_model.specs.Values.{Addresses, Shows, ShowsIn, number, plain, word, IsCode, error_at, signed_error_at}
-use Rattle.host_model.specs.declared.object.TypedObject.{TypedObject}
-use Rattle.neutral_machine.specs.Operations.{sum_of, kept_natural, extent_if, narrowed, on_number}
-use Rattle.neutral_machine.specs.Locations.{Access, Move, Form, Signed, access_bytes, kept}
-use Rattle.neutral_machine.proofs.Numbers.{sum_num, sum_at}
-use Rattle.neutral_machine.proofs.Words.{width_word}
 
 -- a plain number is the number that shows
 pub plain_shows : (w : ℕ) (A : Addresses) (v : Neutral) (x c : ℕ) → Shows w A v x → plain v ≡ Some c → x ≡ c
 plain_shows w A (Num zero c) x d h p = let e = same_Some (word c) d p in omega (arith, h, e)
-plain_shows w A (Num (suc n) c) x d h p = absurd (none-some d p)
-plain_shows w A (At a n c) x d h p = absurd (none-some d p)
-plain_shows w A (Handle k) x d h p = absurd (none-some d p)
-plain_shows w A (Method k) x d h p = absurd (none-some d p)
-plain_shows w A (Entry k) x d h p = absurd (none-some d p)
-plain_shows w A (Error k) x d h p = absurd (none-some d p)
-plain_shows w A (SignedError k) x d h p = absurd (none-some d p)
-plain_shows w A Junk x d h p = absurd (none-some d p)
+plain_shows w A v x d h p = absurd (none-some d p)
 
 pub number_shows : (w : ℕ) (A : Addresses) (x : ℕ) → x < 2 ^ 64 → Shows w A (number x) x
 number_shows w A x l = omega (arith, l)
@@ -160,14 +148,7 @@ narrowed_shows w bits A k v x e l s = go (plain v) refl
       where
         plain_small : (v : Neutral) (c : ℕ) → plain v ≡ Some c → c < 2 ^ 64
         plain_small (Num zero d) c q = let r = same_Some (word d) c q in omega (arith, r)
-        plain_small (Num (suc n) d) c q = absurd (none-some c q)
-        plain_small (At a n d) c q = absurd (none-some c q)
-        plain_small (Handle k) c q = absurd (none-some c q)
-        plain_small (Method k) c q = absurd (none-some c q)
-        plain_small (Entry k) c q = absurd (none-some c q)
-        plain_small (Error k) c q = absurd (none-some c q)
-        plain_small (SignedError k) c q = absurd (none-some c q)
-        plain_small Junk c q = absurd (none-some c q)
+        plain_small v c q = absurd (none-some c q)
 
 -- numbers that show are below 2 ^ 64, but for junk; eight bytes keep all of them
 pub whole_shows : (w : ℕ) (A : Addresses) (v : Neutral) (x : ℕ) → IsWidth w → Bounded w A → ShowsIn w A 8 v x → Shows w A v x

@@ -1,11 +1,7 @@
 -- Numbers at a width.
-use Rattle.std.proofs.Common.{◌≡◌, ℕ, ◌+◌, ◌*◌, ◌^◌, ◌≤◌, Bool, true, false, if◌then◌else◌, nat_lt, Some, None, refl, arith}
+use Rattle.neutral_machine.proofs.Common.{◌≡◌, ℕ, ◌+◌, ◌*◌, ◌^◌, ◌≤◌, Bool, true, false, if◌then◌else◌, nat_lt, Some, None, refl, arith}
+use Rattle.neutral_machine.proofs.Common.{same_Some, ltb-true, IsWidth, word, by_width}
 use Rattle.std.specs.Option.{option_map}
-use Rattle.std.proofs.lemmas.Option.{same_Some}
-use Rattle.std.proofs.lemmas.Bool.{ltb-true}
-use Rattle.ebc_width.specs.Width.{IsWidth}
-use Rattle.host_model.specs.Values.{word}
-use Rattle.ebc_width.proofs.Laws.{by_width}
 
 -- no address takes more than 64 bits
 pub width_word : (w : ℕ) → IsWidth w → 2 ^ (8 * w) ≤ 2 ^ 64

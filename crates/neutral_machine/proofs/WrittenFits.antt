@@ -1,24 +1,17 @@
 -- What a written value that fits a type is fits the type.
-use Rattle.std.proofs.Common.{◌≡◌, ℕ, ℤ, pos, ◌+◌, ◌*◌, ◌^◌, ◌⊎◌, Bool, true, false, ◌&&◌, nat_le, nat_eq, List, Option, Some, None, refl}
-use Rattle.std.proofs.Common.{sym, ap, ap₂, ◌∙◌, subst, arith, inl, inr, slice_get}
-use Rattle.std.specs.Option.{option_map_or}
-use Rattle.std.proofs.lemmas.Bool.{and_parts, leb-true, ltb-true, eqb-true}
+use Rattle.neutral_machine.proofs.Common.{◌≡◌, ℕ, ℤ, pos, ◌+◌, ◌*◌, ◌^◌, ◌⊎◌, Bool, true, false, ◌&&◌, nat_le, nat_eq, List, Option, Some}
+use Rattle.neutral_machine.proofs.Common.{None, refl, sym, ap, ap₂, ◌∙◌, subst, arith, inl, inr, slice_get, option_map_or, and_parts}
+use Rattle.neutral_machine.proofs.Common.{leb-true, ltb-true, eqb-true, Notes, Ty, Value, FitsPlain, IsNumber, IsPointer, IsSuccess}
+use Rattle.neutral_machine.proofs.Common.{IsError, IsHandle, IsEntry, OrNull, TypedObject, shape_of, fits, has_instances, Neutral, At}
+use Rattle.neutral_machine.proofs.Common.{ObjectOf, Method, Junk, null, word, written_value, instance_value}
 use Rattle.std.proofs.lemmas.Bool.Decides.{Decides-int_eq}
 use Rattle.note_types.proofs.BelowLaws.{Decides-divides}
 use Rattle.std.specs.Ordering.{int_eq}
-use Rattle.note_types.specs.BelowTests.{divides}
-use Rattle.note_types.specs.declared.notes.Notes.{Notes}
-use Rattle.note_types.specs.declared.types.Ty.{Ty}
+use Rattle.note_types.specs.{BelowTests.divides, Types.is_start}
+use Rattle.host_model.specs.ScriptValues.{fits_pointer, is_status, is_handle, is_entry, is_method, fits_range}
+use Rattle.neutral_machine.specs.Written.{value_as}
 use Rattle.note_types.specs.declared.types.Ty.TheVariants as ty
-use Rattle.note_types.specs.declared.value.Value.{Value}
 use Rattle.note_types.specs.declared.value.Value.TheVariants as value
-use Rattle.neutral_machine.specs.Fits.{FitsPlain, IsNumber, IsPointer, IsSuccess, IsError, IsHandle, IsEntry, OrNull}
-use Rattle.host_model.specs.declared.object.TypedObject.{TypedObject}
-use Rattle.host_model.specs.Objects.{shape_of}
-use Rattle.host_model.specs.ScriptValues.{fits, has_instances, fits_pointer, is_status, is_handle, is_entry, is_method, fits_range}
-use Rattle.host_model.specs.Values.{Neutral, At, ObjectOf, Method, Junk, null, word}
-use Rattle.neutral_machine.specs.Written.{value_as, written_value, instance_value}
-use Rattle.note_types.specs.Types.{is_start}
 
 module _ (notes : Notes) (made : List TypedObject) where
   number_fits : (lo hi div : ℕ) (v : Value) → fits_range lo hi div v ≡ true → IsNumber lo hi div (written_value notes made v)
@@ -100,16 +93,9 @@ module _ (notes : Notes) (made : List TypedObject) where
   unfolding fits
   written_fits ty.Any v h = tt
   written_fits (ty.Int lo hi div) v h = number_fits lo hi div v h
-  written_fits (ty.Lin n c) v h = absurd (cc)
-  written_fits (ty.Scaled n c hi) v h = absurd (cc)
   written_fits (ty.Ptr s k n c may) v h = pointer_fits s k n c may v h
-  written_fits (ty.Local f) v h = absurd (cc)
-  written_fits (ty.Lent c) v h = absurd (cc)
   written_fits (ty.Status g) v h = status_fits v h
-  written_fits (ty.SignedStatus g) v h = absurd (cc)
-  written_fits ty.Mask v h = absurd (cc)
   written_fits ty.Handle v h = handle_fits v h
   written_fits ty.Entry v h = entry_fits v h
   written_fits (ty.Method m) v h = method_fits m v h
-  written_fits (ty.ThunkAt i) v h = absurd (cc)
-  written_fits (ty.Saved i) v h = absurd (cc)
+  written_fits t v h = absurd (cc)

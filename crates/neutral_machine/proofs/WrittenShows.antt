@@ -1,20 +1,12 @@
 -- A written value has at each width the number of its neutral value.
-use Rattle.std.proofs.Common.{◌≡◌, ℕ, ◌+◌, ◌*◌, ◌%◌, ◌^◌, ◌<◌, List, Option, Some, None, refl, sym, ap, ◌∙◌, arith, slice_get, mod-eq_of_lt}
-use Rattle.std.specs.Option.{option_map_or}
-use Rattle.host_model.specs.HostSteps.{written_number}
-use Rattle.host_model.specs.declared.object.TypedObject.{TypedObject}
-use Rattle.host_model.specs.Objects.{shape_of}
-use Rattle.host_model.specs.Placements.{Placement, object_at, shape_bytes}
-use Rattle.note_types.specs.Shapes.{size_at}
-use Rattle.note_types.specs.declared.notes.Notes.{Notes}
-use Rattle.note_types.specs.declared.types.Ty.TheVariants as ty
-use Rattle.note_types.specs.declared.value.Value.{Value}
-use Rattle.note_types.specs.declared.value.Value.TheVariants as value
-use Rattle.neutral_machine.specs.Named.{Named}
-use Rattle.host_model.specs.Values.{Junk, Addresses, Shows, number, word}
-use Rattle.neutral_machine.specs.Written.{written_value, instance_value}
+use Rattle.neutral_machine.proofs.Common.{◌≡◌, ℕ, ◌+◌, ◌*◌, ◌%◌, ◌^◌, ◌<◌, List, Option, Some, None, refl, sym, ap, ◌∙◌, arith, slice_get}
+use Rattle.neutral_machine.proofs.Common.{mod-eq_of_lt, option_map_or, written_number, TypedObject, shape_of, Placement, object_at}
+use Rattle.neutral_machine.proofs.Common.{shape_bytes, size_at, Notes, Value, Named, Junk, Addresses, Shows, number, word, written_value}
+use Rattle.neutral_machine.proofs.Common.{instance_value}
 use Rattle.neutral_machine.specs.WrittenLaw.{IsValue, WrittenShows}
 use Rattle.neutral_machine.proofs.Words.{word_pair}
+use Rattle.note_types.specs.declared.types.Ty.TheVariants as ty
+use Rattle.note_types.specs.declared.value.Value.TheVariants as value
 
 module _ (w : ℕ) (notes : Notes) (P : Placement) (made : List TypedObject) (A : Addresses) (ok : Named w notes P made A) where
   -- a plain number shows as itself
@@ -51,24 +43,9 @@ module _ (w : ℕ) (notes : Notes) (P : Placement) (made : List TypedObject) (A 
   written_shows (value.Handle k) h = ok.handles k h
   written_shows (value.Entry f) h = ok.entries f h
   written_shows (value.Method m) h = ok.methods m h
-  written_shows value.Any h = tt
-  written_shows value.Out h = tt
-  written_shows (value.Wild x) h = tt
+  written_shows t h = tt
 
   -- and so it does as any type
   pub value_shows : WrittenShows w notes P made A
   value_shows ty.Any v h = tt
-  value_shows (ty.Int lo hi div) v h = written_shows v h
-  value_shows (ty.Lin n c) v h = written_shows v h
-  value_shows (ty.Scaled n c hi) v h = written_shows v h
-  value_shows (ty.Ptr s k n c may) v h = written_shows v h
-  value_shows (ty.Local f) v h = written_shows v h
-  value_shows (ty.Lent c) v h = written_shows v h
-  value_shows (ty.Status g) v h = written_shows v h
-  value_shows (ty.SignedStatus g) v h = written_shows v h
-  value_shows ty.Mask v h = written_shows v h
-  value_shows ty.Handle v h = written_shows v h
-  value_shows ty.Entry v h = written_shows v h
-  value_shows (ty.Method m) v h = written_shows v h
-  value_shows (ty.ThunkAt i) v h = written_shows v h
-  value_shows (ty.Saved i) v h = written_shows v h
+  value_shows t v h = written_shows v h

@@ -1,28 +1,17 @@
 -- What a bind that agrees gives: its function may be entered and is there, and a signature of its method lends no cell.
-use Rattle.std.proofs.Common.{◌≡◌, ℕ, zero, suc, Bool, true, false, ◌&&◌, if◌then◌else◌, nat_eq, List, [], ◌∷◌, length, Option}
-use Rattle.std.proofs.Common.{Some, None, option_map, refl, sym, ap, ◌∙◌, subst, subst₂, arith, slice_get}
-use Rattle.std.specs.List.{list_all, find, zip}
-use Rattle.std.specs.Option.{option_map_or}
-use Rattle.std.proofs.lemmas.Bool.{and_parts, eqb-true, eq-eqb, false≢true}
-use Rattle.std.proofs.lemmas.Option.{none-some, same_Some}
-use Rattle.host_laws.proofs.ViewAlike.{and_then_some}
-use Rattle.ebc_base.proofs.Given.{some_of_map}
-use Rattle.note_types.specs.BelowTests.{same_kind}
-use Rattle.note_types.specs.declared.notes.FnNote.{FnNote}
-use Rattle.note_types.specs.declared.notes.Notes.{Notes}
-use Rattle.note_types.specs.declared.notes.Param.{Param}
-use Rattle.note_types.specs.declared.notes.Signature.{Signature}
-use Rattle.note_types.specs.declared.notes.Want.{Want}
-use Rattle.note_types.specs.declared.notes.Want.TheVariants as want
-use Rattle.note_types.specs.declared.notes.WantParam.{WantParam}
-use Rattle.note_types.specs.declared.types.Ty.{Ty}
-use Rattle.host_model.specs.HostPlans.{may_enter, signature_method, site_of}
-use Rattle.pair_model.specs.declared.bind.Bind.{Bind}
+use Rattle.pair_laws.proofs.Common.{◌≡◌, ℕ, zero, suc, Bool, true, false, ◌&&◌, if◌then◌else◌, nat_eq, List, [], ◌∷◌, length, Option, Some}
+use Rattle.pair_laws.proofs.Common.{None, option_map, refl, sym, ap, ◌∙◌, subst, arith, slice_get, list_all, zip, option_map_or, and_parts}
+use Rattle.pair_laws.proofs.Common.{false≢true, none-some, same_Some, and_then_some, some_of_map, same_kind, FnNote, Notes, Param}
+use Rattle.pair_laws.proofs.Common.{Signature, Want, WantParam, Ty, signature_method, site_of, Bind, each_item, passing, AllAgree}
+use Rattle.pair_laws.proofs.Common.{BoundCall, bound_to, bound_at, takes_alike, param_agrees, signature_agrees, bind_agrees}
+use Rattle.std.proofs.Common.{subst₂}
+use Rattle.std.specs.List.{find}
+use Rattle.std.proofs.lemmas.Bool.{eqb-true, eq-eqb}
+use Rattle.host_model.specs.HostPlans.{may_enter}
 use Rattle.step_sound.proofs.EvenPlaces.{find_some}
-use Rattle.step_sound.proofs.Items.{each_item, passing}
-use Rattle.pair_model.specs.Binds.{AllAgree, BoundCall, bound_to, bound_at, takes_alike, param_agrees, signature_agrees}
-use Rattle.pair_model.specs.Binds.{function_agrees, bind_agrees}
+use Rattle.pair_model.specs.Binds.{function_agrees}
 use Rattle.pair_laws.proofs.Holding.{LendsNone}
+use Rattle.note_types.specs.declared.notes.Want.TheVariants as want
 
 -- The bind that a function is bound to a method by.
 record BoundBy (binds : List Bind) (method f : ℕ) : Type 0 where
@@ -86,15 +75,8 @@ bound_call a b binds place c all e =
         }
 
 wish_none : (p : Want) (t : Ty) (c : _) → takes_alike p t ≡ true → p ≡ want.Out c → ⊥
-wish_none (want.Int lo hi) t c e is = cc
-wish_none want.Any t c e is = cc
-wish_none (want.Size n m) t c e is = cc
-wish_none want.Ptr t c e is = cc
-wish_none want.Handle t c e is = cc
-wish_none want.Status t c e is = cc
-wish_none want.Entry t c e is = cc
 wish_none (want.Out d) t c e is = absurd (false≢true e)
-wish_none (want.Inout d) t c e is = cc
+wish_none w t c e is = cc
 
 lends_none : (ps : List WantParam) (qs : List Param) → length ps ≡ length qs → list_all param_agrees (zip ps qs) ≡ true → LendsNone ps
 lends_none [] qs l e k p g c is = absurd (none-some p g)

@@ -1,50 +1,21 @@
 -- A pair's steps while A is ahead: A's own, and the telling of a bound call.
-use Rattle.std.proofs.Common.{◌≡◌, ℕ, ◌≤◌, Bool, true, false, not, nat_eq, nat_lt, List, [], ◌∷◌, ◌++◌, map, length}
-use Rattle.std.proofs.Common.{Option, Some, None, option_map, refl, sym, ap, ap₂, ◌∙◌, subst, arith, inl, inr, ◌⊎◌, ◌<◌}
-use Rattle.std.proofs.Common.{slice_get}
-use Rattle.std.specs.List.{AllByRecursion, list_all, zip}
-use Rattle.invariant_laws.proofs.Entering.{ValuesFit}
-use Rattle.neutral_machine.specs.WrittenLaw.{IsValue}
-use Rattle.std.specs.Option.{option_map_or, option_or}
-use Rattle.std.proofs.lemmas.Bool.{and_parts, false≢true, true≢false, lt-ltb}
-use Rattle.std.proofs.lemmas.Option.{none-some, same_Some}
-use Rattle.std.proofs.lemmas.Bool.{cases_lt}
-use Rattle.ebc_base.proofs.Given.{some_of_map}
-use Rattle.host_laws.proofs.Views.{views_stand}
-use Rattle.instruction_laws.proofs.Worlds.{world_meets}
-use Rattle.note_types.specs.declared.ending.Ending.{Ending}
-use Rattle.note_types.specs.declared.event.Event.{Event}
-use Rattle.note_types.specs.declared.notes.FnNote.{FnNote}
-use Rattle.note_types.specs.declared.notes.Signature.{Signature}
-use Rattle.note_types.specs.declared.seen.Seen.{Seen}
-use Rattle.pe_image.specs.Mapped.{mapped}
-use Rattle.pe_image.specs.declared.image.Image.{Image}
-use Rattle.step_sound.proofs.Steps.{state_below}
-use Rattle.invariant_laws.specs.Waiting.{States}
-use Rattle.typing_laws.proofs.Rooms.{sound_room}
-use Rattle.neutral_machine.specs.Config.{Config, call_under_way}
-use Rattle.host_model.specs.HostPlans.{Asking, View, Returns, Calls, GoesOn, NotifiedReturns, IsDue, Ends, asked_args, asking_refused}
-use Rattle.host_model.specs.HostPlans.{call_event, function_params, signature_params}
+use Rattle.pair_laws.proofs.Common.{◌≡◌, ℕ, ◌≤◌, Bool, true, false, not, nat_eq, nat_lt, List, [], ◌∷◌, ◌++◌, map, length, Option, Some}
+use Rattle.pair_laws.proofs.Common.{None, option_map, refl, sym, ap, ap₂, ◌∙◌, subst, arith, inl, inr, ◌<◌, slice_get, AllByRecursion}
+use Rattle.pair_laws.proofs.Common.{list_all, zip, ValuesFit, IsValue, option_map_or, option_or, and_parts, false≢true, true≢false}
+use Rattle.pair_laws.proofs.Common.{none-some, same_Some, some_of_map, views_stand, world_meets, Ending, Event, FnNote, Signature, Seen}
+use Rattle.pair_laws.proofs.Common.{mapped, Image, state_below, States, sound_room, Config, call_under_way, Asking, View, Calls, Ends}
+use Rattle.pair_laws.proofs.Common.{asked_args, asking_refused, call_event, function_params, signature_params, made_objects, Placement}
+use Rattle.pair_laws.proofs.Common.{RunState, AllAgree, BoundCall, bound_at, param_agrees, signature_agrees, neutral_sides, PairWorld, Both}
+use Rattle.pair_laws.proofs.Common.{CallerRuns, PairState, SideOf, with_a, caller_step_seen, caller_step, provider_refused, call_refused}
+use Rattle.pair_laws.proofs.Common.{call_told, call_step, parameter_refused, plain_step, IsPairAt, PairStands, TypedSide}
+use Rattle.std.proofs.Common.{◌⊎◌}
+use Rattle.std.proofs.lemmas.Bool.{lt-ltb, cases_lt}
+use Rattle.pair_laws.proofs.Joining.{Ready, StageHolds, PairHolds, Goes, world_a}
+use Rattle.pair_laws.proofs.Telling.{stops_ends, call_stops, bound_taken, read_at}
+use Rattle.pair_laws.proofs.{Agreeing.bound_call, Agreeing.agreed_lends, Crossing.CanTake, Crossing.call_holds, Holding.Rests}
+use Rattle.pair_laws.proofs.{Resting.AsksAt, Resting.asks_at, SideSteps.side_steps, Values.arguments_known, Values.slots_long}
 use Rattle.host_model.specs.HostSteps as width
 use Rattle.neutral_machine.specs.NeutralHost as neutral
-use Rattle.host_model.specs.Objects.{made_objects}
-use Rattle.host_model.specs.Placements.{Placement}
-use Rattle.host_model.specs.RunState.{RunState}
-use Rattle.pair_model.specs.Binds.{AllAgree, BoundCall, bound_at, param_agrees, signature_agrees}
-use Rattle.pair_laws.specs.NeutralPair.{neutral_sides}
-use Rattle.pair_model.specs.Pairs.{PairWorld, Both, CallerRuns, PairState, SideOf}
-use Rattle.pair_model.specs.Rules.{with_a, caller_step_seen, caller_step, provider_refused, call_refused, call_told, call_step}
-use Rattle.pair_model.specs.Rules.{parameter_refused, plain_step}
-use Rattle.pair_laws.specs.Laws.{IsPairAt, PairStands}
-use Rattle.pair_laws.specs.PairLaw.{TypedSide}
-use Rattle.pair_laws.proofs.Agreeing.{bound_call, agreed_lends}
-use Rattle.pair_laws.proofs.Crossing.{CanTake, call_holds}
-use Rattle.pair_laws.proofs.Holding.{Rests}
-use Rattle.pair_laws.proofs.Joining.{Ready, StageHolds, PairHolds, Goes, world_a}
-use Rattle.pair_laws.proofs.Resting.{AsksAt, asks_at}
-use Rattle.pair_laws.proofs.SideSteps.{side_steps}
-use Rattle.pair_laws.proofs.Telling.{stops_ends, call_stops, bound_taken, read_at}
-use Rattle.pair_laws.proofs.Values.{arguments_known, slots_long}
 
 agreed_params : (f : FnNote) (s : Signature) → signature_agrees f s ≡ true → list_all param_agrees (zip s.params f.params) ≡ true
 agreed_params f s e = (and_parts (list_all param_agrees (zip s.params f.params)) _
@@ -197,11 +168,6 @@ module _ (images : Both Image) (world : PairWorld) (sa sb : States) (ta : TypedS
           }
 
       go : (o : Option View) → neutral.host_view world.a p.a p.a.spot ≡ o → Goes images world sa sb ta tb (caller_step_seen world N p o)
-      go None e = plain
-      go (Some (Returns t f v)) e = plain
-      go (Some (GoesOn n k d m)) e = plain
-      go (Some (NotifiedReturns f v)) e = plain
-      go (Some (IsDue d)) e = plain
       go (Some (Calls place asking)) e = by (bound_at world.binds world.a.notes place) refl
         where
           by : (o : Option BoundCall) → bound_at world.binds world.a.notes place ≡ o
@@ -212,3 +178,4 @@ module _ (images : Both Image) (world : PairWorld) (sa sb : States) (ta : TypedS
             is = refl;
             holds = told place to.signature to.function asking e z (call_refused world p.b.script to.function place asking) refl;
           }
+      go c e = plain

@@ -1,50 +1,25 @@
 -- B is entered from its rest, and A gets its reply, as the plans of a pair's rules have it.
-use Rattle.std.proofs.Common.{◌≡◌, ℕ, ◌+◌, ◌<◌, ◌≤◌, ◌^◌, Bool, true, false, ◌&&◌, nat_eq, nat_le, List}
-use Rattle.std.proofs.Common.{[], ◌∷◌, ◌++◌, length, Option, Some, None, refl, sym, ap, ◌∙◌, subst}
-use Rattle.std.proofs.Common.{arith, slice_get}
-use Rattle.std.specs.List.{AllByRecursion}
-use Rattle.std.specs.Option.{option_map_or}
-use Rattle.std.proofs.lemmas.Bool.{and_parts, false≢true, ltb-true, leb-true}
-use Rattle.ebc_width.specs.Width.{IsWidth}
+use Rattle.pair_laws.proofs.Common.{◌≡◌, ℕ, ◌+◌, ◌<◌, ◌≤◌, ◌^◌, Bool, true, false, ◌&&◌, nat_eq, nat_le, List, [], ◌∷◌, ◌++◌, length}
+use Rattle.pair_laws.proofs.Common.{Option, Some, None, refl, sym, ap, ◌∙◌, subst, arith, slice_get, AllByRecursion, option_map_or}
+use Rattle.pair_laws.proofs.Common.{and_parts, false≢true, ltb-true, leb-true, IsWidth, at_place, ValuesFit, RunWorld, Event, FnNote, Ty}
+use Rattle.pair_laws.proofs.Common.{Value, sound_room, FunctionFrame, Frame, Function, Config, depth, call_under_way, with_call, Enters}
+use Rattle.pair_laws.proofs.Common.{function_params, total, stack_bytes, Asked, fits, fits_result, is_handle, TypedObject, divides, Notes}
+use Rattle.pair_laws.proofs.Common.{Neutral, World, IsValue, result_value, GivenByNative, Holds, StatesFitBelow, live_memory, States}
+use Rattle.pair_laws.proofs.Common.{AsksWell, neutral_bound_reply, value_given}
 use Rattle.host_laws.specs.PlanFits.{CanEnter as CanEnterAt}
 use Rattle.host_laws.proofs.Entering.{heights}
-use Rattle.invariant_laws.proofs.Calling.{at_place}
-use Rattle.invariant_laws.proofs.Entering.{ValuesFit, entered_holds}
-use Rattle.invariant_laws.specs.Hosted.{RunWorld}
-use Rattle.note_types.specs.Passing.{IsGiven}
-use Rattle.note_types.specs.Types.{is_start}
-use Rattle.note_types.specs.declared.ending.Ending.TheVariants as ending
-use Rattle.note_types.specs.declared.event.Event.{Event}
-use Rattle.note_types.specs.declared.notes.FnNote.{FnNote}
-use Rattle.note_types.specs.declared.spot.Spot.TheVariants as spot
-use Rattle.note_types.specs.declared.types.Ty.{Ty}
-use Rattle.note_types.specs.declared.types.Ty.TheVariants as ty
-use Rattle.note_types.specs.declared.value.Value.{Value}
-use Rattle.note_types.specs.declared.value.Value.TheVariants as value
-use Rattle.typing_laws.proofs.Rooms.{sound_room}
-use Rattle.neutral_machine.specs.Config.{FunctionFrame, Frame, Function, Config, depth, call_under_way, with_call}
-use Rattle.host_model.specs.HostPlans.{Enters, function_params}
-use Rattle.neutral_machine.specs.Layout.{height, total}
-use Rattle.neutral_machine.specs.NeutralHost as neutral
-use Rattle.host_model.specs.Placements.{return_cell, params_bytes, stack_bytes}
-use Rattle.host_model.specs.Progress.{Asked, one_callback}
-use Rattle.host_model.specs.ScriptValues.{fits, fits_result, fits_range, fits_pointer, is_handle, is_status}
-use Rattle.host_model.specs.declared.object.TypedObject.{TypedObject}
-use Rattle.note_types.specs.BelowTests.{divides}
-use Rattle.note_types.specs.declared.notes.Notes.{Notes}
-use Rattle.host_model.specs.Values.{Neutral}
-use Rattle.host_model.specs.World.{World}
-use Rattle.neutral_machine.specs.WrittenLaw.{IsValue}
-use Rattle.neutral_machine.specs.Written.{result_value}
-use Rattle.invariant_laws.specs.Asked.{GivenByNative}
-use Rattle.invariant_laws.specs.Holds.{Holds}
-use Rattle.invariant_laws.specs.LaterLaws.{StatesFitBelow}
-use Rattle.invariant_laws.specs.Live.{live_memory}
-use Rattle.invariant_laws.specs.Waiting.{States, AsksWell}
-use Rattle.pair_laws.specs.NeutralPair.{neutral_bound_reply}
+use Rattle.invariant_laws.proofs.Entering.{entered_holds}
+use Rattle.note_types.specs.{Passing.IsGiven, Types.is_start}
+use Rattle.neutral_machine.specs.Layout.{height}
+use Rattle.host_model.specs.ScriptValues.{fits_range, fits_pointer, is_status}
+use Rattle.host_model.specs.{Placements.return_cell, Placements.params_bytes, Progress.one_callback}
 use Rattle.pair_laws.proofs.Holding.{Rests, LendsNone, rest_enters, bound_reply_holds, reply_given, told_holds}
 use Rattle.pair_laws.proofs.Resting.{AsksAt}
-use Rattle.pair_laws.specs.Laws.{value_given}
+use Rattle.note_types.specs.declared.ending.Ending.TheVariants as ending
+use Rattle.note_types.specs.declared.spot.Spot.TheVariants as spot
+use Rattle.note_types.specs.declared.types.Ty.TheVariants as ty
+use Rattle.note_types.specs.declared.value.Value.TheVariants as value
+use Rattle.neutral_machine.specs.NeutralHost as neutral
 
 -- a configuration with its spot, frames and ending written out
 place_is : (a : Config) (p : ℕ) (gs : List Frame) → a.spot ≡ spot.Place p → a.frames ≡ gs → a.ending ≡ ending.Running
@@ -166,62 +141,44 @@ module _ (world : World) (states : States) (ok : RunWorld world states) (fits_be
 
 pub status_known : (notes : Notes) (v : Value) → is_status v ≡ true → ((k : ℕ) → v ≡ value.Handle k → ⊥) → IsValue notes v
 status_known notes (value.Int x) e n = absurd (false≢true e)
-status_known notes (value.Size x y) e n = tt
-status_known notes (value.Ptr x y) e n = tt
-status_known notes value.Null e n = tt
 status_known notes (value.StatusOk x) e n = ltb-true x (2 ^ 31) e
 status_known notes (value.StatusError x) e n = ltb-true x (2 ^ 31) e
 status_known notes (value.Handle x) e n = absurd (n x refl)
 status_known notes (value.Entry x) e n = absurd (false≢true e)
 status_known notes (value.Method x) e n = absurd (false≢true e)
-status_known notes value.Any e n = tt
-status_known notes value.Out e n = tt
 status_known notes (value.Wild x) e n = absurd (false≢true e)
+status_known notes c e n = tt
 
 int_known : (notes : Notes) (lo hi div : ℕ) → hi < 2 ^ 32 → (v : Value) → fits_range lo hi div v ≡ true
     → ((k : ℕ) → v ≡ value.Handle k → ⊥) → IsValue notes v
 int_known notes lo hi div l (value.Int x) e n = let q = leb-true x hi
     (and_parts (nat_le x hi) (divides div x) (and_parts (nat_le lo x) (nat_le x hi && divides div x) e).1).0 in omega (arith, q, l)
-int_known notes lo hi div l (value.Size x y) e n = tt
-int_known notes lo hi div l (value.Ptr x y) e n = tt
-int_known notes lo hi div l value.Null e n = tt
 int_known notes lo hi div l (value.StatusOk x) e n = absurd (false≢true e)
 int_known notes lo hi div l (value.StatusError x) e n = absurd (false≢true e)
 int_known notes lo hi div l (value.Handle x) e n = absurd (n x refl)
 int_known notes lo hi div l (value.Entry x) e n = absurd (false≢true e)
 int_known notes lo hi div l (value.Method x) e n = absurd (false≢true e)
-int_known notes lo hi div l value.Any e n = tt
-int_known notes lo hi div l value.Out e n = tt
 int_known notes lo hi div l (value.Wild x) e n = absurd (false≢true e)
+int_known notes lo hi div l c e n = tt
 
 handle_known : (notes : Notes) (v : Value) → is_handle v ≡ true → ((k : ℕ) → v ≡ value.Handle k → ⊥) → IsValue notes v
-handle_known notes (value.Int x) e n = absurd (false≢true e)
 handle_known notes (value.Size x y) e n = tt
 handle_known notes (value.Ptr x y) e n = tt
 handle_known notes value.Null e n = tt
-handle_known notes (value.StatusOk x) e n = absurd (false≢true e)
-handle_known notes (value.StatusError x) e n = absurd (false≢true e)
 handle_known notes (value.Handle x) e n = absurd (n x refl)
-handle_known notes (value.Entry x) e n = absurd (false≢true e)
-handle_known notes (value.Method x) e n = absurd (false≢true e)
 handle_known notes value.Any e n = tt
 handle_known notes value.Out e n = tt
-handle_known notes (value.Wild x) e n = absurd (false≢true e)
+handle_known notes c e n = absurd (false≢true e)
 
 pointer_known : (notes : Notes) (made : List TypedObject) (s k : ℕ) (may : Bool) (v : Value) → fits_pointer made s k may v ≡ true
     → ((k : ℕ) → v ≡ value.Handle k → ⊥) → IsValue notes v
-pointer_known notes made s k may (value.Int x) e n = absurd (false≢true e)
 pointer_known notes made s k may (value.Size x y) e n = tt
 pointer_known notes made s k may (value.Ptr x y) e n = tt
 pointer_known notes made s k may value.Null e n = tt
-pointer_known notes made s k may (value.StatusOk x) e n = absurd (false≢true e)
-pointer_known notes made s k may (value.StatusError x) e n = absurd (false≢true e)
 pointer_known notes made s k may (value.Handle x) e n = absurd (n x refl)
-pointer_known notes made s k may (value.Entry x) e n = absurd (false≢true e)
-pointer_known notes made s k may (value.Method x) e n = absurd (false≢true e)
 pointer_known notes made s k may value.Any e n = tt
 pointer_known notes made s k may value.Out e n = tt
-pointer_known notes made s k may (value.Wild x) e n = absurd (false≢true e)
+pointer_known notes made s k may c e n = absurd (false≢true e)
 
 -- a value that isn't a handle, and fits what a method may give, is one that a text may have
 pub given_known : (notes : Notes) (made : List TypedObject) (t : Ty) (v : Value) → IsGiven t → fits made t v ≡ true
@@ -231,14 +188,4 @@ given_known notes made (ty.Status g) v i e n = status_known notes v e n
 given_known notes made (ty.Int lo hi div) v i e n = int_known notes lo hi div i v e n
 given_known notes made ty.Handle v i e n = handle_known notes v e n
 given_known notes made (ty.Ptr s k a c may) v i e n = pointer_known notes made s k may v (and_parts (is_start a c) _ e).1 n
-given_known notes made ty.Any v i e n = absurd i
-given_known notes made (ty.Lin a c) v i e n = absurd i
-given_known notes made (ty.Scaled a c hi) v i e n = absurd i
-given_known notes made (ty.Local f) v i e n = absurd i
-given_known notes made (ty.Lent c) v i e n = absurd i
-given_known notes made (ty.SignedStatus g) v i e n = absurd i
-given_known notes made ty.Mask v i e n = absurd i
-given_known notes made ty.Entry v i e n = absurd i
-given_known notes made (ty.Method m) v i e n = absurd i
-given_known notes made (ty.ThunkAt j) v i e n = absurd i
-given_known notes made (ty.Saved j) v i e n = absurd i
+given_known notes made t v i e n = absurd i

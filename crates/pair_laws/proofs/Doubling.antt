@@ -1,42 +1,24 @@
 -- The pair of the rows of `pair_laws` with names: its notes meet the conditions on notes, its scripts are as the reader of scripts
 -- gives them, and its bind agrees.
-use Rattle.std.proofs.Common.{◌≡◌, ℕ, zero, suc, ◌+◌, ◌*◌, ◌^◌, ◌<◌, ◌≤◌, true, false, List, [], ◌∷◌, length, get_or, take, slice_get}
-use Rattle.std.proofs.Common.{Some, None, refl, sym, ap, subst, arith, inl, codes, map, pos, nat_le, nat_lt, ◌∙◌}
-use Rattle.std.specs.List.{sum_by}
-use Rattle.std.specs.List.Sorted.{IsStrictlyIncreasing}
-use Rattle.std.proofs.lemmas.Bool.{leb-true, ltb-true, true≢false}
-use Rattle.std.proofs.lemmas.Option.{none-some, same_Some}
-use Rattle.host_model.specs.Objects.{made_objects, placed_objects, shape_of}
-use Rattle.host_model.specs.ScriptValues.{fits, fits_each}
+use Rattle.pair_laws.proofs.Common.{◌≡◌, ℕ, zero, suc, ◌+◌, ◌*◌, ◌^◌, ◌<◌, ◌≤◌, true, false, [], ◌∷◌, length, get_or, slice_get, Some, None}
+use Rattle.pair_laws.proofs.Common.{refl, sym, ap, subst, arith, inl, map, pos, nat_le, nat_lt, ◌∙◌, leb-true, ltb-true, true≢false}
+use Rattle.pair_laws.proofs.Common.{none-some, same_Some, made_objects, fits, is_below, IsHandedIn, IsShape, FnNote, Notes, Param}
+use Rattle.pair_laws.proofs.Common.{Signature, Notify, Script, Field, AllAgree, bind_agrees, Both, PairWorld, Bind, Image, each_item}
+use Rattle.std.proofs.Common.{take, codes}
+use Rattle.std.specs.{List.sum_by, List.Sorted.IsStrictlyIncreasing}
 use Rattle.host_model.specs.Scripts.{HasNotifications, IsCellOf, IsObjectOf, IsScript, IsWritten, all_made, have_room, is_given, is_needed}
+use Rattle.host_model.specs.{Objects.placed_objects, Objects.shape_of, ScriptValues.fits_each}
 use Rattle.pair_laws.proofs.Programs.{images_with, pair_with}
 use Rattle.note_types.proofs.TypeLaws.{no_fields}
-use Rattle.note_types.specs.BelowTests.{is_below, same_type}
-use Rattle.note_types.specs.Known.{IsKnown, local_fields}
-use Rattle.note_types.specs.Limits.{code_limit, point_limit, stack_limit}
 use Rattle.note_types.specs.Records.{CanBeEntered, HasNameLength, IsFieldNote, IsFunctionNote, IsNotes, IsParamNote, IsShapeNote}
 use Rattle.note_types.specs.Records.{IsSignatureNote, IsSiteNote, IsWantNote, code_size, frame_size}
-use Rattle.note_types.specs.Passing.{IsHandedIn}
-use Rattle.note_types.specs.Shapes.{IsShape}
+use Rattle.note_types.specs.{BelowTests.same_type, Known.IsKnown, Known.local_fields, Limits.code_limit, Limits.point_limit}
+use Rattle.note_types.specs.Limits.{stack_limit}
+use Rattle.note_types.specs.declared.{script.CellValue.CellValue, script.ScriptObject.ScriptObject, shape.Shape.Shape}
+use Rattle.twin_run.proofs.DriverNotes.{name_length, two_ascend}
 use Rattle.note_types.specs.declared.cell.Cell.TheVariants as cell
-use Rattle.note_types.specs.declared.notes.FnNote.{FnNote}
-use Rattle.note_types.specs.declared.notes.Notes.{Notes}
-use Rattle.note_types.specs.declared.notes.Param.{Param}
-use Rattle.note_types.specs.declared.notes.Signature.{Signature}
-use Rattle.note_types.specs.declared.script.CellValue.{CellValue}
-use Rattle.note_types.specs.declared.script.Notify.{Notify}
-use Rattle.note_types.specs.declared.script.Script.{Script}
-use Rattle.note_types.specs.declared.script.ScriptObject.{ScriptObject}
-use Rattle.note_types.specs.declared.shape.Field.{Field}
-use Rattle.note_types.specs.declared.shape.Shape.{Shape}
 use Rattle.note_types.specs.declared.types.Ty.TheVariants as ty
 use Rattle.note_types.specs.declared.value.Value.TheVariants as value
-use Rattle.pair_model.specs.Binds.{AllAgree, bind_agrees}
-use Rattle.pair_model.specs.Pairs.{Both, PairWorld}
-use Rattle.pair_model.specs.declared.bind.Bind.{Bind}
-use Rattle.pe_image.specs.declared.image.Image.{Image}
-use Rattle.step_sound.proofs.Items.{each_item}
-use Rattle.twin_run.proofs.DriverNotes.{name_length, two_ascend}
 
 -- ---- the pair with names
 

@@ -1,21 +1,14 @@
 -- The images of the pair of the rows: they are as the reader of images gives them, hold bytes, and keep the rules on shapes and functions
 -- with the notes.
-use Rattle.std.proofs.Common.{◌≡◌, ℕ, zero, suc, ◌+◌, ◌≤◌, true, List, [], ◌∷◌, length, get_or, slice_get, Some, refl, sym}
-use Rattle.std.proofs.Common.{◌∙◌, subst, arith, inl, nat_le, nat_lt, ◌^◌}
-use Rattle.std.specs.List.{list_all}
-use Rattle.std.proofs.lemmas.Bool.{and_parts, leb-true, ltb-true}
-use Rattle.std.proofs.lemmas.Option.{none-some, same_Some}
-use Rattle.note_types.specs.Shapes.{FitsAt, IsShape, end_at, size_at}
-use Rattle.note_types.specs.declared.notes.FnNote.{FnNote}
-use Rattle.note_types.specs.declared.notes.Notes.{Notes}
-use Rattle.note_types.specs.declared.shape.Field.{Field}
+use Rattle.pair_laws.proofs.Common.{◌≡◌, ℕ, zero, suc, ◌+◌, ◌≤◌, true, [], ◌∷◌, length, get_or, slice_get, Some, refl, sym, ◌∙◌, subst}
+use Rattle.pair_laws.proofs.Common.{arith, inl, nat_le, nat_lt, ◌^◌, list_all, leb-true, ltb-true, none-some, same_Some, IsShape, FnNote}
+use Rattle.pair_laws.proofs.Common.{Notes, Field, Image, each_item, passing}
+use Rattle.note_types.specs.Shapes.{FitsAt, end_at, size_at}
 use Rattle.pe_image.proofs.Held.{IsBytes, laid_byte}
-use Rattle.pe_image.specs.Images.{EndsBefore, IsImage, IsSection}
-use Rattle.pe_image.specs.Mapped.{AreBytes}
-use Rattle.pe_image.specs.declared.image.Image.{Image}
+use Rattle.pe_image.specs.{Images.EndsBefore, Images.IsImage, Images.IsSection, Mapped.AreBytes}
 use Rattle.pe_image.specs.declared.image.Section.{Section}
 use Rattle.rules_image.specs.Images.{FunctionHolds, ShapeHolds, IsEven, IsFunction}
-use Rattle.step_sound.proofs.Items.{all_items, all_pairs, each_item, passing}
+use Rattle.step_sound.proofs.Items.{all_items, all_pairs}
 use Rattle.pair_laws.proofs.Doubling.{a_main, a_notes, b_main, b_notes, double, double_field, doubling_images, system}
 use Rattle.twin_run.proofs.DriverImage.{byte_at}
 

@@ -1,48 +1,27 @@
 -- How a step of a side may end a run with a result: only as its first function is left, so that no frame is there then. And a step
 -- makes a thunk only where the notes have one more.
-use Rattle.std.proofs.Common.{◌≡◌, ℕ, suc, ◌+◌, Bool, true, false, ◌&&◌, not, if◌then◌else◌, nat_eq, nat_le, List, [], ◌∷◌}
-use Rattle.std.proofs.Common.{map, Option, Some, None, option_and_then, refl, sym, ap, ◌∙◌, subst}
-use Rattle.std.proofs.Common.{slice_get}
+use Rattle.pair_laws.proofs.Common.{◌≡◌, ℕ, suc, ◌+◌, Bool, true, false, ◌&&◌, not, if◌then◌else◌, nat_eq, nat_le, List, [], ◌∷◌, map}
+use Rattle.pair_laws.proofs.Common.{Option, Some, None, option_and_then, refl, sym, ap, ◌∙◌, subst, slice_get, option_map_or, option_or}
+use Rattle.pair_laws.proofs.Common.{false≢true, none-some, same_Some, Insn, some_of_map, TopHost, executed, Ending, Event, Notify, Seen}
+use Rattle.pair_laws.proofs.Common.{Spot, Value, FunctionFrame, Frame, Function, Host, Config, hosts, call_under_way, Asking, Asks, View}
+use Rattle.pair_laws.proofs.Common.{Returns, Calls, GoesOn, NotifiedReturns, IsDue, return_view, Leaves, Enters, Ends, asking_refused}
+use Rattle.pair_laws.proofs.Common.{call_event, asked_args, signature_params, signature_result, host_plan, Memory, ScriptPlace, is_empty}
+use Rattle.pair_laws.proofs.Common.{made_objects, given, World, TypedObject, live_memory, FramesKeep, SoundBelow, instruction_left}
 use Rattle.std.specs.Bool.{⊤}
-use Rattle.std.specs.Option.{option_map_or, option_or}
-use Rattle.std.proofs.lemmas.Bool.{false≢true}
-use Rattle.std.proofs.lemmas.Option.{none-some, same_Some}
-use Rattle.ebc_insn.specs.declared.Insn.{Insn}
-use Rattle.ebc_base.proofs.Given.{some_of_map}
-use Rattle.host_laws.specs.PlanFits.{TopHost}
-use Rattle.neutral_machine.specs.Rows.{Site, NeutralRow, Next, Native, MakeThunk, executed}
-use Rattle.note_types.specs.declared.ending.Ending.{Ending}
+use Rattle.neutral_machine.specs.{Rows.Site, Rows.NeutralRow, Rows.Next, Rows.Native, Rows.MakeThunk, Outcomes.Gives, Outcomes.Raises}
+use Rattle.neutral_machine.specs.Outcomes.{Stuck}
+use Rattle.note_types.specs.declared.{script.Callback.Callback, script.ScriptCall.ScriptCall}
+use Rattle.host_model.specs.HostPlans.{Plan, Finishes, Replies, Resumes, Notifies, notification_fits, notify_plan, argument_refused}
+use Rattle.host_model.specs.HostPlans.{entry_refused, call_settled, call_plan, asked_signature, callback_fits, enter_plan, reply_fits}
+use Rattle.host_model.specs.HostPlans.{reply_plan, reply_stores, next_plan}
+use Rattle.host_model.specs.{Placements.frame_limit, Progress.one_thunk, ScriptValues.same_seen}
+use Rattle.invariant_laws.proofs.After.{instruction_leaves}
+use Rattle.pair_laws.proofs.Sides.{no_return, returns_top}
 use Rattle.note_types.specs.declared.ending.Ending.TheVariants as ending
-use Rattle.note_types.specs.declared.event.Event.{Event}
 use Rattle.note_types.specs.declared.event.Event.TheVariants as event
 use Rattle.note_types.specs.declared.reason.Reason.TheVariants as reason
-use Rattle.note_types.specs.declared.script.Callback.{Callback}
-use Rattle.note_types.specs.declared.script.Notify.{Notify}
-use Rattle.note_types.specs.declared.script.ScriptCall.{ScriptCall}
-use Rattle.note_types.specs.declared.seen.Seen.{Seen}
-use Rattle.note_types.specs.declared.spot.Spot.{Spot}
 use Rattle.note_types.specs.declared.spot.Spot.TheVariants as spot
-use Rattle.note_types.specs.declared.value.Value.{Value}
-use Rattle.neutral_machine.specs.Config.{FunctionFrame, Frame, Function, Host, Config, hosts, call_under_way}
-use Rattle.host_model.specs.HostPlans.{Asking, NoSite, Unmapped, Asks, View, Returns, Calls, GoesOn, NotifiedReturns, IsDue, return_view}
-use Rattle.host_model.specs.HostPlans.{Plan, Finishes, Leaves, Accepts, Enters, Replies, Resumes, Notifies, Ends, notification_fits}
-use Rattle.host_model.specs.HostPlans.{notify_plan, argument_refused, asking_refused, entry_refused, call_event, call_settled, call_plan}
-use Rattle.host_model.specs.HostPlans.{asked_signature, asked_args, callback_fits, enter_plan, reply_fits, reply_plan, reply_stores}
-use Rattle.host_model.specs.HostPlans.{signature_params, signature_result, next_plan, host_plan}
-use Rattle.neutral_machine.specs.Memory.{Memory}
 use Rattle.neutral_machine.specs.NeutralHost as neutral
-use Rattle.neutral_machine.specs.Outcomes.{Gives, Raises, Stuck}
-use Rattle.host_model.specs.Placements.{frame_limit}
-use Rattle.host_model.specs.Progress.{ScriptPlace, is_empty, one_thunk}
-use Rattle.host_model.specs.Objects.{made_objects}
-use Rattle.host_model.specs.ScriptValues.{same_seen, given}
-use Rattle.host_model.specs.World.{World}
-use Rattle.host_model.specs.declared.object.TypedObject.{TypedObject}
-use Rattle.invariant_laws.specs.Live.{live_memory}
-use Rattle.invariant_laws.specs.Sound.{FramesKeep, SoundBelow}
-use Rattle.invariant_laws.proofs.After.{instruction_leaves}
-use Rattle.neutral_machine.specs.NeutralRun.{instruction_left}
-use Rattle.pair_laws.proofs.Sides.{no_return, returns_top}
 
 -- no result
 abbrev pub Unfinished : Ending → Type 0
@@ -110,12 +89,9 @@ pub goes_unfinished : (world : World) (a : Config) (p : Plan) → a.ending ≡ e
 unfolding neutral.performed
 goes_unfinished world a (Finishes v) on g = absurd g
 goes_unfinished world a (Leaves e) on g = subst Unfinished (sym (left_ending a a.frames ∙ on)) tt
-goes_unfinished world a (Accepts e n os ss) on g = subst Unfinished (sym on) tt
-goes_unfinished world a (Enters e n f vs) on g = subst Unfinished (sym on) tt
-goes_unfinished world a (Replies e ss k v) on g = subst Unfinished (sym on) tt
 goes_unfinished world a (Resumes e) on g = subst Unfinished (sym (resumed_ending a a.frames ∙ on)) tt
-goes_unfinished world a (Notifies e f vs) on g = subst Unfinished (sym on) tt
 goes_unfinished world a (Ends es e) on g = g
+goes_unfinished world a c on g = subst Unfinished (sym on) tt
 
 argument_goes : (k : ℕ) (xs ys : List Seen) (e : Ending) → argument_refused k xs ys ≡ Some e → Unfinished e
 unfolding argument_refused
@@ -138,10 +114,8 @@ entry_goes (Some c) g args e h = go (nat_eq c.signature g) h
     go false h = subst Unfinished (same_Some _ e h) tt
 
 asking_goes : (place : ℕ) (asking : Asking) (e : Ending) → asking_refused place asking ≡ Some e → Unfinished e
-asking_goes place NoSite e h = subst Unfinished (same_Some _ e h) tt
-asking_goes place (Unmapped g) e h = subst Unfinished (same_Some _ e h) tt
-asking_goes place (Asks g (Some x) args) e h = subst Unfinished (same_Some _ e h) tt
 asking_goes place (Asks g None args) e h = absurd (none-some e h)
+asking_goes place c e h = subst Unfinished (same_Some _ e h) tt
 
 either_goes : (o q : Option Ending) (e : Ending) → option_or o q ≡ Some e → (o ≡ Some e → Unfinished e) → (q ≡ Some e → Unfinished e)
     → Unfinished e

@@ -1,45 +1,24 @@
 -- The induction: at either width the run of a pair of typed images whose binds agree follows the neutral pair. It cites the laws of
 -- the pair's steps and no row of the rules. So the runs at both widths are the same.
-use Rattle.std.proofs.Common.{◌≡◌, ℕ, zero, suc, map, Some, option_and_then, refl, sym, ap, ◌∙◌, subst, inl, inr}
-use Rattle.std.proofs.lemmas.Option.{same_Some}
-use Rattle.ebc_width.specs.Width.{IsWidth}
+use Rattle.pair_laws.proofs.Common.{◌≡◌, ℕ, zero, suc, map, Some, option_and_then, refl, sym, ap, ◌∙◌, subst, inl, inr, same_Some, IsWidth}
+use Rattle.pair_laws.proofs.Common.{Placement, RunState, given, World, world_meets, Config, neutral_pair_run, neutral_sides, Ending}
+use Rattle.pair_laws.proofs.Common.{IsPairAt, PairStands, SideGoesWell, StageGoesWell, TypedPair, TypedSide, ArePlaced, pair_run, Both}
+use Rattle.pair_laws.proofs.Common.{PairWorld, OfA, OfB, Stage, ProviderRuns, CallerRuns, CallTaken, CallRuns, CallReturned, PairState}
+use Rattle.pair_laws.proofs.Common.{SideOf, enter_step, pair_step, reply_step, stage_step, mapped, Image, state_below, StepGoesWell}
+use Rattle.pair_laws.proofs.Common.{RaisesOnlyDivideError, States, sound_room}
 use Rattle.host_laws.proofs.SeenStands.{spot_is}
-use Rattle.host_model.specs.Placements.{Placement}
-use Rattle.host_model.specs.RunState.{RunState}
 use Rattle.host_model.specs.Runs.{run_after}
-use Rattle.host_model.specs.ScriptValues.{given}
-use Rattle.host_model.specs.World.{World}
-use Rattle.instruction_laws.proofs.Worlds.{world_meets}
-use Rattle.neutral_machine.specs.Config.{Config}
-use Rattle.neutral_machine.specs.NeutralImage.{static_cells}
-use Rattle.neutral_machine.specs.NeutralRuns.{neutral_start}
-use Rattle.pair_laws.specs.NeutralPair.{neutral_pair_run, neutral_pair_spot, neutral_pair_step, neutral_side_spot, neutral_sides}
-use Rattle.note_types.specs.declared.ending.Ending.{Ending}
+use Rattle.neutral_machine.specs.{NeutralImage.static_cells, NeutralRuns.neutral_start}
+use Rattle.pair_laws.specs.NeutralPair.{neutral_pair_spot, neutral_pair_step, neutral_side_spot}
+use Rattle.pair_laws.specs.{PairLaw.PairFollows, PairLaw.PairsAreSame, PairLaw.PairsFollow, SamePairs.SamePairAfter}
+use Rattle.pair_model.specs.{PairRuns.pair_spot, PairRuns.side_spot, Pairs.Side, Pairs.running_side, Rules.pair_start, Rules.step_if}
+use Rattle.step_sound.proofs.{Keeping.holds_of, Keeping.start_meets, Read.read_is_run, Read.read_is_run_at}
+use Rattle.step_sound.specs.Invariant.{RunHolds}
+use Rattle.invariant_laws.specs.Laws.{states_by}
+use Rattle.pair_laws.proofs.Joining.{Ready, StageHolds, PairHolds, Goes, own_goes, enter_goes, b_goes, reply_goes, reply_known, world_b}
+use Rattle.pair_laws.proofs.{Calling.a_goes, Crossing.enter_well, SideSteps.side_steps, Steps.pair_step_keeps_standing}
 use Rattle.note_types.specs.declared.ending.Ending.TheVariants as ending
 use Rattle.note_types.specs.declared.event.Event.TheVariants as event
-use Rattle.pair_laws.specs.Laws.{IsPairAt, PairStands, SideGoesWell, StageGoesWell}
-use Rattle.pair_laws.specs.PairLaw.{PairFollows, PairsAreSame, PairsFollow, TypedPair, TypedSide}
-use Rattle.pair_laws.specs.SamePairs.{ArePlaced, SamePairAfter}
-use Rattle.pair_model.specs.PairRuns.{pair_run, pair_spot, side_spot}
-use Rattle.pair_model.specs.Pairs.{Both, PairWorld, Side, OfA, OfB, Stage, ProviderRuns, CallerRuns, CallTaken, CallRuns, CallReturned}
-use Rattle.pair_model.specs.Pairs.{PairState, SideOf, running_side}
-use Rattle.pair_model.specs.Rules.{enter_step, pair_start, pair_step, reply_step, stage_step, step_if}
-use Rattle.pe_image.specs.Mapped.{mapped}
-use Rattle.pe_image.specs.declared.image.Image.{Image}
-use Rattle.step_sound.proofs.Keeping.{holds_of, start_meets}
-use Rattle.step_sound.proofs.Read.{read_is_run, read_is_run_at}
-use Rattle.step_sound.proofs.Steps.{state_below}
-use Rattle.step_sound.specs.Invariant.{RunHolds}
-use Rattle.step_sound.specs.StepLaw.{StepGoesWell}
-use Rattle.invariant_laws.specs.Endings.{RaisesOnlyDivideError}
-use Rattle.invariant_laws.specs.Waiting.{States}
-use Rattle.typing_laws.proofs.Rooms.{sound_room}
-use Rattle.invariant_laws.specs.Laws.{states_by}
-use Rattle.pair_laws.proofs.Calling.{a_goes}
-use Rattle.pair_laws.proofs.Crossing.{enter_well}
-use Rattle.pair_laws.proofs.Joining.{Ready, StageHolds, PairHolds, Goes, own_goes, enter_goes, b_goes, reply_goes, reply_known, world_b}
-use Rattle.pair_laws.proofs.SideSteps.{side_steps}
-use Rattle.pair_laws.proofs.Steps.{pair_step_keeps_standing}
 
 -- ---- a side
 
@@ -105,10 +84,7 @@ module _ (images : Both Image) (world : PairWorld) (sa sb : States) (t : TypedPa
 
         by_ending : (e : Ending) → p.ending ≡ e → Goes images world sa sb t.a t.b (step_if world N p e)
         by_ending ending.Running on = stage_goes p q st on p.stage refl (x.on on)
-        by_ending (ending.Finished v) on = stays
-        by_ending (ending.Raised v) on = stays
-        by_ending (ending.Mismatch v) on = stays
-        by_ending ending.ScriptEnd on = stays
+        by_ending c on = stays
 
   -- ---- each number of steps
 

@@ -1,42 +1,19 @@
 -- What holds of a side goes on to hold over the steps that a pair alone has: a bound call is told, and gets its reply; B is entered
 -- from its rest, and left to rest.
-use Rattle.std.proofs.Common.{◌≡◌, ℕ, suc, ◌≤◌, true, false, if◌then◌else◌, nat_eq, List, [], ◌∷◌, length, Option}
-use Rattle.std.proofs.Common.{Some, refl, sym, ap, ◌∙◌, subst, arith, inr, slice_get}
-use Rattle.std.specs.Prelude.{IfSome}
-use Rattle.note_types.specs.Records.{IsResultNote}
-use Rattle.note_types.specs.declared.ending.Ending.TheVariants as ending
-use Rattle.note_types.specs.declared.event.Event.{Event}
-use Rattle.note_types.specs.declared.notes.FnNote.{FnNote}
-use Rattle.note_types.specs.declared.notes.Want.TheVariants as want
-use Rattle.note_types.specs.declared.notes.WantParam.{WantParam}
-use Rattle.note_types.specs.declared.spot.Spot.TheVariants as spot
-use Rattle.note_types.specs.declared.types.Ty.{Ty}
-use Rattle.note_types.specs.declared.value.Value.{Value}
-use Rattle.neutral_machine.specs.Config.{FunctionFrame, Frame, Function, Config, depth, call_under_way, with_call}
-use Rattle.neutral_machine.specs.Config.{with_value, locals_at}
-use Rattle.neutral_machine.specs.FitsState.{FitsState}
-use Rattle.neutral_machine.specs.Memory.{Memory, memory_of}
-use Rattle.neutral_machine.specs.NeutralHost as neutral
-use Rattle.host_model.specs.Progress.{NativeCall, NoCall, Asked}
-use Rattle.host_model.specs.ScriptValues.{fits_result}
-use Rattle.host_model.specs.Values.{Neutral}
-use Rattle.host_model.specs.World.{World}
-use Rattle.neutral_machine.specs.Written.{result_value}
-use Rattle.invariant_laws.specs.Asked.{ArgumentsFit, GivenByNative, OutsWritten}
-use Rattle.invariant_laws.specs.Holds.{RunsAt, TopHolds, Holds}
-use Rattle.invariant_laws.specs.Later.{Later}
-use Rattle.invariant_laws.specs.Live.{live_memory}
-use Rattle.invariant_laws.specs.Sound.{SoundBelow}
-use Rattle.invariant_laws.specs.Waiting.{States, AsksWell}
-use Rattle.invariant_laws.specs.Hosted.{RunWorld}
-use Rattle.invariant_laws.proofs.Calling.{at_place}
-use Rattle.invariant_laws.proofs.Chains.{chain_later}
-use Rattle.invariant_laws.proofs.Entering.{CanEnter, ValuesFit}
-use Rattle.invariant_laws.proofs.Leaving.{seven_other}
+use Rattle.pair_laws.proofs.Common.{◌≡◌, ℕ, suc, ◌≤◌, true, false, if◌then◌else◌, nat_eq, List, [], ◌∷◌, length, Option, Some, refl, sym}
+use Rattle.pair_laws.proofs.Common.{ap, ◌∙◌, subst, arith, inr, slice_get, IfSome, IsResultNote, Event, FnNote, WantParam, Ty, Value}
+use Rattle.pair_laws.proofs.Common.{FunctionFrame, Frame, Function, Config, depth, call_under_way, with_call, Memory, NativeCall, NoCall}
+use Rattle.pair_laws.proofs.Common.{Asked, fits_result, Neutral, World, result_value, GivenByNative, TopHolds, Holds, live_memory}
+use Rattle.pair_laws.proofs.Common.{SoundBelow, States, AsksWell, RunWorld, at_place, ValuesFit, neutral_bound_reply}
+use Rattle.neutral_machine.specs.{Config.with_value, Config.locals_at, FitsState.FitsState, Memory.memory_of}
+use Rattle.invariant_laws.specs.{Asked.ArgumentsFit, Asked.OutsWritten, Holds.RunsAt, Later.Later}
 use Rattle.invariant_laws.proofs.Marks.{depth_call, locals_call, hosts_call, call_is, frames_call, chain_call}
-use Rattle.invariant_laws.proofs.Replying.{result_given}
 use Rattle.invariant_laws.proofs.Same.{SameMemory, same_later, live_same, frames_later, cells_same}
-use Rattle.pair_laws.specs.NeutralPair.{neutral_bound_reply}
+use Rattle.invariant_laws.proofs.{Chains.chain_later, Entering.CanEnter, Leaving.seven_other, Replying.result_given}
+use Rattle.note_types.specs.declared.ending.Ending.TheVariants as ending
+use Rattle.note_types.specs.declared.notes.Want.TheVariants as want
+use Rattle.note_types.specs.declared.spot.Spot.TheVariants as spot
+use Rattle.neutral_machine.specs.NeutralHost as neutral
 
 -- ---- rest
 

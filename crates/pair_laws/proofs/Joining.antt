@@ -1,61 +1,26 @@
 -- The invariant of a pair, and the steps that keep it: B's own run, the entering, and a function of B.
-use Rattle.std.proofs.Common.{◌≡◌, ℕ, Bool, true, false, if◌then◌else◌, List, [], map, Option, Some, None}
-use Rattle.std.proofs.Common.{option_map, refl, sym, ap, ◌∙◌, subst, slice_get, option_and_then}
-use Rattle.std.specs.Option.{option_map_or}
-use Rattle.std.proofs.lemmas.Option.{none-some, same_Some}
-use Rattle.ebc_base.proofs.Given.{some_of_map}
-use Rattle.host_laws.specs.PlanFits.{TopHost}
-use Rattle.note_types.specs.declared.notes.Signature.{Signature}
+use Rattle.pair_laws.proofs.Common.{◌≡◌, ℕ, Bool, true, false, if◌then◌else◌, List, [], map, Option, Some, None, option_map, refl, sym, ap}
+use Rattle.pair_laws.proofs.Common.{◌∙◌, subst, slice_get, option_and_then, option_map_or, none-some, same_Some, some_of_map, TopHost}
+use Rattle.pair_laws.proofs.Common.{Signature, Spot, Ty, neutral_result, made_objects, ScriptPlace, is_empty, sort_of_type, live_memory}
+use Rattle.pair_laws.proofs.Common.{FramesKeep, neutral_bound_reply, value_given, TypedSide, Ending, FnNote, Value, Image, state_below}
+use Rattle.pair_laws.proofs.Common.{run_world, Config, call_under_way, hosts, View, Returns, return_view, Leaves, Enters, Ends, is_error}
+use Rattle.pair_laws.proofs.Common.{signature_result, fits, fits_result, given, World, RaisesOnlyDivideError, Holds, AllAgree, bound_at}
+use Rattle.pair_laws.proofs.Common.{neutral_sides, PairWorld, Both, Stage, ProviderRuns, CallerRuns, CallTaken, CallRuns, CallReturned}
+use Rattle.pair_laws.proofs.Common.{PairState, SideOf, with_b, provider_ended, provider_step, function_entered, enter_step}
+use Rattle.pair_laws.proofs.Common.{function_step_seen, function_step, call_answered, reply_refused, reply_step, IsValue, IsResultNote}
+use Rattle.pair_laws.proofs.Common.{IfSome, States, RunWorld}
+use Rattle.pair_laws.proofs.Crossing.{CanTake, enter_holds, given_known, reply_holds}
+use Rattle.pair_laws.proofs.{Agreeing.bound_call, Agreeing.agreed_lends, Sides.no_return, Sides.returns_top, Finishing.left_ending}
+use Rattle.pair_laws.proofs.{Holding.Rests, Holding.LendsNone, Resting.AsksAt, Resting.own_rests, Resting.leave_rests, SideSteps.SideSteps}
+use Rattle.pair_laws.proofs.{SideSteps.side_steps, Values.NoHandle, Values.result_plain}
+use Rattle.invariant_laws.proofs.Leaving.{can_be_entered}
 use Rattle.note_types.specs.declared.reason.Reason.TheVariants as reason
-use Rattle.note_types.specs.declared.spot.Spot.{Spot}
 use Rattle.note_types.specs.declared.spot.Spot.TheVariants as spot
-use Rattle.note_types.specs.declared.types.Ty.{Ty}
 use Rattle.note_types.specs.declared.types.Ty.TheVariants as ty
 use Rattle.note_types.specs.declared.value.Value.TheVariants as value
-use Rattle.neutral_machine.specs.NeutralReadings.{neutral_result}
-use Rattle.host_model.specs.Objects.{made_objects}
-use Rattle.host_model.specs.Progress.{ScriptPlace, is_empty}
-use Rattle.host_model.specs.Readings.{sort_of_type}
-use Rattle.invariant_laws.specs.Live.{live_memory}
-use Rattle.invariant_laws.specs.Sound.{FramesKeep}
-use Rattle.pair_laws.specs.NeutralPair.{neutral_bound_reply}
-use Rattle.pair_laws.specs.Laws.{value_given}
-use Rattle.pair_laws.specs.PairLaw.{TypedSide}
-use Rattle.pair_laws.proofs.Agreeing.{bound_call, agreed_lends}
-use Rattle.pair_laws.proofs.Sides.{no_return, returns_top}
-use Rattle.invariant_laws.proofs.Leaving.{can_be_entered}
-use Rattle.note_types.specs.declared.ending.Ending.{Ending}
 use Rattle.note_types.specs.declared.ending.Ending.TheVariants as ending
 use Rattle.note_types.specs.declared.event.Event.TheVariants as event
-use Rattle.note_types.specs.declared.notes.FnNote.{FnNote}
-use Rattle.note_types.specs.declared.value.Value.{Value}
-use Rattle.pe_image.specs.declared.image.Image.{Image}
-use Rattle.step_sound.proofs.Steps.{state_below}
-use Rattle.step_sound.proofs.Worlds.{run_world}
-use Rattle.neutral_machine.specs.Config.{Config, call_under_way, hosts}
-use Rattle.host_model.specs.HostPlans.{View, Returns, Calls, GoesOn, NotifiedReturns, IsDue, return_view, Leaves, Enters, Ends, is_error}
-use Rattle.host_model.specs.HostPlans.{signature_result}
 use Rattle.neutral_machine.specs.NeutralHost as neutral
-use Rattle.host_model.specs.ScriptValues.{fits, fits_result, given}
-use Rattle.host_model.specs.World.{World}
-use Rattle.invariant_laws.specs.Endings.{RaisesOnlyDivideError}
-use Rattle.invariant_laws.specs.Holds.{Holds}
-use Rattle.pair_model.specs.Binds.{AllAgree, bound_at}
-use Rattle.pair_laws.specs.NeutralPair.{neutral_sides}
-use Rattle.pair_model.specs.Pairs.{PairWorld, Both, Stage, ProviderRuns, CallerRuns, CallTaken, CallRuns, CallReturned, PairState, SideOf}
-use Rattle.pair_model.specs.Rules.{with_b, provider_ended, provider_step, function_entered, enter_step, function_step_seen, function_step}
-use Rattle.pair_model.specs.Rules.{call_answered, reply_refused, reply_step}
-use Rattle.pair_laws.proofs.Crossing.{CanTake, enter_holds, given_known, reply_holds}
-use Rattle.neutral_machine.specs.WrittenLaw.{IsValue}
-use Rattle.note_types.specs.Records.{IsResultNote}
-use Rattle.std.specs.Prelude.{IfSome}
-use Rattle.pair_laws.proofs.Finishing.{left_ending}
-use Rattle.pair_laws.proofs.Holding.{Rests, LendsNone}
-use Rattle.invariant_laws.specs.Waiting.{States}
-use Rattle.invariant_laws.specs.Hosted.{RunWorld}
-use Rattle.pair_laws.proofs.Resting.{AsksAt, own_rests, leave_rests}
-use Rattle.pair_laws.proofs.SideSteps.{SideSteps, side_steps}
-use Rattle.pair_laws.proofs.Values.{NoHandle, result_plain}
 
 -- a side that runs well
 pub record Ready (world : World) (states : States) (a : Config) : Type 0 where
@@ -115,10 +80,6 @@ module _ (images : Both Image) (world : PairWorld) (sa sb : States) (ta : TypedS
       same s = b_holds p s (λ on. subst (StageHolds (with_b N.b p s.after)) (sym st) (a, record { holds = s.holds; running = on }))
 
       go : (s : SideSteps images.b world.b sb p.b) (e : Ending) → s.after.ending ≡ e → PairHolds (provider_ended N (with_b N.b p s.after) e)
-      go s ending.Running e = same s
-      go s (ending.Raised x) e = same s
-      go s (ending.Mismatch x) e = same s
-      go s ending.ScriptEnd e = same s
       go s (ending.Finished v) e = by (is_error v)
         where
           by : (t : Bool) → PairHolds (if t then with_b N.b p s.after else record
@@ -129,6 +90,7 @@ module _ (images : Both Image) (world : PairWorld) (sa sb : States) (ta : TypedS
             raised = subst RaisesOnlyDivideError
                 (sym a.running) tt;
           }
+      go s c e = same s
 
   enter_ending : (w : World) (b : Config) (e : _) (n f : ℕ) (vs : List Value) → (neutral.performed w b (Enters e n f vs)).ending ≡ b.ending
   unfolding neutral.performed
@@ -199,12 +161,6 @@ module _ (images : Both Image) (world : PairWorld) (sa sb : States) (ta : TypedS
           }
 
       go : (o : Option View) → neutral.host_view world.b p.b p.b.spot ≡ o → Goes (function_step_seen N p g o)
-      go None e = plain
-      go (Some (Returns false f v)) e = plain
-      go (Some (GoesOn n k d m)) e = plain
-      go (Some (NotifiedReturns f v)) e = plain
-      go (Some (IsDue d)) e = plain
-      go (Some (Calls q k)) e = plain
       go (Some (Returns true f v)) e =
           let t = event.Returned f v in
           let s = neutral.performed world.b p.b (Leaves t) in
@@ -221,6 +177,7 @@ module _ (images : Both Image) (world : PairWorld) (sa sb : States) (ta : TypedS
               raised = subst RaisesOnlyDivideError (sym (leaves_ending world.b p.b t ∙ b.running)) tt;
             };
           }
+      go o e = plain
 
   -- ---- 6. the reply
 

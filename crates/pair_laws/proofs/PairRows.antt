@@ -1,23 +1,17 @@
 -- Runs of a pair, computed at both widths and in the neutral machine: a bound call of a function that doubles a number, and the
 -- same where B has a thunk cell that it never makes.
-use Rattle.std.proofs.Common.{◌≡◌, ℕ, true, false, List, [], ◌∷◌, ◌++◌, Some, refl}
-use Rattle.host_model.specs.ScriptValues.{given}
+use Rattle.pair_laws.proofs.Common.{◌≡◌, ℕ, true, false, List, [], ◌∷◌, ◌++◌, Some, refl, given, FnNote, Thunk, bind_agrees, Both}
+use Rattle.pair_laws.proofs.Common.{PairWorld, OfA, OfB, PairEvent, Image}
+use Rattle.pair_laws.specs.NeutralPair.{neutral_pair_report_after}
+use Rattle.pair_model.specs.PairReports.{PairReport, pair_report_after}
+use Rattle.pair_laws.proofs.Programs.{a_notes, b_notes, pair_with, images_with}
+use Rattle.pair_laws.proofs.Computing.{pairs_compute}
 use Rattle.note_types.specs.declared.ending.Ending.TheVariants as ending
 use Rattle.note_types.specs.declared.event.Event.TheVariants as event
-use Rattle.note_types.specs.declared.notes.FnNote.{FnNote}
-use Rattle.note_types.specs.declared.notes.Thunk.{Thunk}
 use Rattle.note_types.specs.declared.reason.Reason.TheVariants as reason
 use Rattle.note_types.specs.declared.spot.Spot.TheVariants as spot
 use Rattle.note_types.specs.declared.value.Value.TheVariants as value
-use Rattle.pair_laws.specs.NeutralPair.{neutral_pair_report_after}
-use Rattle.pair_model.specs.Binds.{bind_agrees}
-use Rattle.pair_model.specs.PairReports.{PairReport, pair_report_after}
-use Rattle.pair_model.specs.Pairs.{Both, PairWorld, OfA, OfB}
-use Rattle.pair_model.specs.declared.event.PairEvent.{PairEvent}
 use Rattle.pair_model.specs.declared.event.PairEvent.TheVariants as pair_event
-use Rattle.pe_image.specs.declared.image.Image.{Image}
-use Rattle.pair_laws.proofs.Computing.{pairs_compute}
-use Rattle.pair_laws.proofs.Programs.{a_notes, b_notes, pair_with, images_with}
 
 -- a run of a pair shows this after so many steps, at either width and in the neutral machine
 record Everywhere (world : PairWorld) (images : Both Image) (k : ℕ) (shown : PairReport) : Type 0 where

@@ -1,19 +1,11 @@
 -- Two images whose runs as a pair are computed, as closed terms. Names don't matter here.
-use Rattle.std.specs.Prelude.{ℕ, true, false, List, [], ◌∷◌, length, Some, None, pos}
-use Rattle.host_model.specs.World.{World}
-use Rattle.note_types.specs.declared.cell.Cell.TheVariants as cell
+use Rattle.pair_laws.proofs.Common.{ℕ, true, false, List, [], ◌∷◌, length, Some, None, pos, World, Notes, Param, Thunk, Script, Ty, Both}
+use Rattle.pair_laws.proofs.Common.{PairWorld, Image}
 use Rattle.note_types.specs.declared.cell.SlotKind.TheVariants.{N}
-use Rattle.note_types.specs.declared.notes.Notes.{Notes}
-use Rattle.note_types.specs.declared.notes.Param.{Param}
-use Rattle.note_types.specs.declared.notes.Thunk.{Thunk}
+use Rattle.note_types.specs.declared.cell.Cell.TheVariants as cell
 use Rattle.note_types.specs.declared.notes.Want.TheVariants as want
-use Rattle.note_types.specs.declared.script.Script.{Script}
-use Rattle.note_types.specs.declared.types.Ty.{Ty}
 use Rattle.note_types.specs.declared.types.Ty.TheVariants as ty
-use Rattle.note_types.specs.declared.value.Value.{Value}
 use Rattle.note_types.specs.declared.value.Value.TheVariants as value
-use Rattle.pair_model.specs.Pairs.{Both, PairWorld}
-use Rattle.pe_image.specs.declared.image.Image.{Image}
 
 -- ---- parts
 

@@ -1,30 +1,16 @@
 -- B comes to rest: as its own run finishes, and as a function of it returns that a bound call entered. And what A asks for where
 -- its host sees a call.
-use Rattle.std.proofs.Common.{◌≡◌, ℕ, Bool, true, false, if◌then◌else◌, List, [], ◌∷◌, length, Some, None, option_map, refl}
-use Rattle.std.proofs.Common.{sym, ap, ◌∙◌, subst}
-use Rattle.std.proofs.lemmas.Option.{none-some, same_Some}
-use Rattle.ebc_base.proofs.Given.{some_of_map}
-use Rattle.host_model.specs.HostPlans.{Asking, View, Returns, Calls, GoesOn, IsDue, Leaves, host_plan, is_due, return_view}
-use Rattle.host_model.specs.Progress.{NativeCall, NoCall, Asked, Accepted, is_empty}
-use Rattle.host_model.specs.Values.{Neutral}
-use Rattle.host_model.specs.World.{World}
-use Rattle.invariant_laws.proofs.Turns.{turn_holds}
-use Rattle.invariant_laws.specs.Hosted.{RunWorld, Turn, of_host, of_code}
-use Rattle.neutral_machine.specs.Config.{FunctionFrame, Frame, Function, Host, Config, depth, hosts, call_under_way}
+use Rattle.pair_laws.proofs.Common.{◌≡◌, ℕ, Bool, true, false, if◌then◌else◌, List, [], ◌∷◌, length, Some, None, option_map, refl, sym, ap}
+use Rattle.pair_laws.proofs.Common.{◌∙◌, subst, none-some, same_Some, some_of_map, Asking, View, Returns, Calls, GoesOn, IsDue, Leaves}
+use Rattle.pair_laws.proofs.Common.{host_plan, is_due, return_view, NativeCall, NoCall, Asked, Accepted, is_empty, Neutral, World}
+use Rattle.pair_laws.proofs.Common.{turn_holds, RunWorld, Turn, of_host, of_code, FunctionFrame, Frame, Function, Host, Config, depth}
+use Rattle.pair_laws.proofs.Common.{hosts, call_under_way, Event, Spot, Value, Image, TopHolds, Holds, StatesFitBelow, live_memory, States}
+use Rattle.pair_laws.proofs.Common.{AsksWell}
+use Rattle.invariant_laws.specs.Holds.{SpotHolds}
+use Rattle.pair_laws.proofs.{Finishing.left_ending, Finishing.left_none, Holding.Rests, SideSteps.SideSteps}
 use Rattle.neutral_machine.specs.NeutralHost as neutral
 use Rattle.note_types.specs.declared.ending.Ending.TheVariants as ending
-use Rattle.note_types.specs.declared.event.Event.{Event}
-use Rattle.note_types.specs.declared.spot.Spot.{Spot}
 use Rattle.note_types.specs.declared.spot.Spot.TheVariants as spot
-use Rattle.note_types.specs.declared.value.Value.{Value}
-use Rattle.pe_image.specs.declared.image.Image.{Image}
-use Rattle.invariant_laws.specs.Holds.{TopHolds, SpotHolds, Holds}
-use Rattle.invariant_laws.specs.LaterLaws.{StatesFitBelow}
-use Rattle.invariant_laws.specs.Live.{live_memory}
-use Rattle.invariant_laws.specs.Waiting.{States, AsksWell}
-use Rattle.pair_laws.proofs.Finishing.{left_ending, left_none}
-use Rattle.pair_laws.proofs.Holding.{Rests}
-use Rattle.pair_laws.proofs.SideSteps.{SideSteps}
 
 -- B's own run is over
 pub own_rests : (image : Image) (world : World) (states : States) (b : Config) (s : SideSteps image world states b) (v : Value)

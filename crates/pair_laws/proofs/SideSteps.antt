@@ -1,35 +1,17 @@
 -- A step of a side's own, as a pair takes it: it is there, what holds goes on to hold, it goes well at either width, and it ends with
 -- a result only where no frame is left.
-use Rattle.std.proofs.Common.{◌≡◌, ℕ, Bool, true, false, if◌then◌else◌, List, [], ◌∷◌, Option, Some, refl, sym, ap}
-use Rattle.std.proofs.Common.{ap₂, ◌∙◌, subst}
-use Rattle.ebc_base.proofs.Given.{some_of_map}
-use Rattle.ebc_insn.specs.declared.Insn.{Insn}
-use Rattle.ebc_width.specs.Width.{IsWidth}
-use Rattle.host_laws.proofs.ViewAlike.{and_then_some}
-use Rattle.host_model.specs.HostPlans.{View, Returns, Calls, GoesOn, NotifiedReturns, IsDue, host_plan, host_turn, is_due}
-use Rattle.host_model.specs.Progress.{NativeCall, one_instruction}
-use Rattle.host_model.specs.Values.{Neutral}
-use Rattle.host_model.specs.World.{World}
-use Rattle.invariant_laws.proofs.Turns.{turn_holds}
-use Rattle.invariant_laws.specs.Hosted.{Turn, of_host, of_code}
-use Rattle.neutral_machine.specs.Config.{FunctionFrame, Frame, Function, Config, call_under_way}
+use Rattle.pair_laws.proofs.Common.{◌≡◌, ℕ, Bool, true, false, if◌then◌else◌, List, [], ◌∷◌, Option, Some, refl, sym, ap, ap₂, ◌∙◌, subst}
+use Rattle.pair_laws.proofs.Common.{some_of_map, Insn, IsWidth, and_then_some, View, Returns, host_plan, host_turn, is_due, NativeCall}
+use Rattle.pair_laws.proofs.Common.{one_instruction, Neutral, World, turn_holds, Turn, of_host, of_code, FunctionFrame, Frame, Function}
+use Rattle.pair_laws.proofs.Common.{Config, call_under_way, instruction_left, neutral_instruction, is_gate, step_if, neutral_step, executed}
+use Rattle.pair_laws.proofs.Common.{Value, Image, state_below, run_world, StepGoesWell, Holds, States}
+use Rattle.neutral_machine.specs.{NeutralImage.instruction_at, NeutralImage.site_at, NeutralRun.instruction_from, NeutralRuns.running_step}
+use Rattle.step_sound.proofs.Steps.{StepHolds, host_keeps, code_keeps}
+use Rattle.step_sound.specs.{PlaceStates.StatesHold, ReadWorld.IsReadWorld}
+use Rattle.pair_laws.proofs.Finishing.{Unfinished, goes_unfinished, plan_goes, left_none, insn_unfinished}
 use Rattle.neutral_machine.specs.NeutralHost as neutral
-use Rattle.neutral_machine.specs.NeutralImage.{instruction_at, site_at}
-use Rattle.neutral_machine.specs.NeutralRun.{instruction_left, instruction_from, neutral_instruction}
-use Rattle.neutral_machine.specs.NeutralRuns.{is_gate, running_step, step_if, neutral_step}
-use Rattle.neutral_machine.specs.Rows.{executed}
 use Rattle.note_types.specs.declared.ending.Ending.TheVariants as ending
 use Rattle.note_types.specs.declared.spot.Spot.TheVariants as spot
-use Rattle.note_types.specs.declared.value.Value.{Value}
-use Rattle.pe_image.specs.declared.image.Image.{Image}
-use Rattle.step_sound.proofs.Steps.{StepHolds, state_below, host_keeps, code_keeps}
-use Rattle.step_sound.proofs.Worlds.{run_world}
-use Rattle.step_sound.specs.PlaceStates.{StatesHold}
-use Rattle.step_sound.specs.ReadWorld.{IsReadWorld}
-use Rattle.step_sound.specs.StepLaw.{StepGoesWell}
-use Rattle.invariant_laws.specs.Holds.{Holds}
-use Rattle.invariant_laws.specs.Waiting.{States}
-use Rattle.pair_laws.proofs.Finishing.{Unfinished, goes_unfinished, plan_goes, left_none, insn_unfinished}
 
 -- what a step of a side leaves
 pub record SideSteps (image : Image) (world : World) (states : States) (a : Config) : Type 0 where
@@ -64,11 +46,7 @@ module _ (image : Image) (world : World) (states : States) (r : IsReadWorld imag
 
       go : (v : View) → neutral.host_view world a a.spot ≡ Some v → EndsBare (neutral.performed world a (host_plan world a.script v))
       go (Returns true f x) e = λ u is. first f x e
-      go (Returns false f x) e = other (Returns false f x) (λ g y z. cc)
-      go (Calls p k) e = other (Calls p k) (λ g y z. cc)
-      go (GoesOn n k d m) e = other (GoesOn n k d m) (λ g y z. cc)
-      go (NotifiedReturns f x) e = other (NotifiedReturns f x) (λ g y z. cc)
-      go (IsDue d) e = other (IsDue d) (λ g y z. cc)
+      go c e = other c (λ g y z. cc)
 
   host_ends : (a b : Config) → Holds world states a → a.ending ≡ ending.Running → neutral.neutral_host_step world a ≡ Some b → EndsBare b
   unfolding neutral.neutral_host_step

@@ -1,42 +1,22 @@
 -- What a side of a pair goes on standing for: by the reply to a bound call and by resting; and that nothing is seen at a width
 -- where nothing is seen in the neutral machine.
-use Rattle.std.proofs.Common.{◌≡◌, ℕ, ◌-◌, ◌≤◌, Bool, true, false, if◌then◌else◌, nat_eq, List, [], ◌∷◌, length, Option, Some, None}
-use Rattle.std.proofs.Common.{option_map, refl, sym, ap, ◌∙◌}
-use Rattle.std.proofs.lemmas.Bool.{true≢false}
-use Rattle.std.proofs.lemmas.Option.{none-some}
+use Rattle.pair_laws.proofs.Common.{◌≡◌, ℕ, ◌-◌, ◌≤◌, Bool, true, false, if◌then◌else◌, nat_eq, List, [], ◌∷◌, length, Option, Some, None}
+use Rattle.pair_laws.proofs.Common.{option_map, refl, sym, ap, ◌∙◌, true≢false, none-some, some_of_map, TopHost, Returns, Calls, GoesOn}
+use Rattle.pair_laws.proofs.Common.{IsDue, host_plan, host_turn, is_due, Placement, stack_bytes, NativeCall, NoCall, Asked, Accepted}
+use Rattle.pair_laws.proofs.Common.{one_instruction, RunState, Neutral, World, world_meets, Config, Frame, Function, Host, hosts}
+use Rattle.pair_laws.proofs.Common.{call_under_way, total, neutral_instruction, is_gate, step_if, neutral_step, Stands, IsValue}
+use Rattle.pair_laws.proofs.Common.{neutral_bound_reply, Spot, Ty, Value, value_given, bound_reply, mapped, Image}
 use Rattle.ebc_width.specs.Ranges.{covers}
-use Rattle.host_laws.proofs.Marks.{machine_told}
-use Rattle.host_laws.proofs.Replies.{marks_show, reply_stands}
-use Rattle.ebc_base.proofs.Given.{some_of_map}
-use Rattle.host_laws.specs.PlanFits.{TopHost}
-use Rattle.host_model.specs.HostPlans.{Returns, Calls, GoesOn, IsDue, host_plan, host_turn, is_due}
+use Rattle.host_laws.proofs.{Marks.machine_told, Replies.marks_show, Replies.reply_stands}
+use Rattle.host_model.specs.{Placements.image_range, Values.Addresses}
+use Rattle.neutral_machine.specs.{Layout.addresses, Stands.CallShows}
+use Rattle.step_sound.specs.StepLaw.{IsRunAt}
 use Rattle.host_model.specs.HostSteps as width
-use Rattle.host_model.specs.Placements.{Placement, image_range, stack_bytes}
-use Rattle.host_model.specs.Progress.{NativeCall, NoCall, Asked, Accepted, one_instruction}
-use Rattle.host_model.specs.RunState.{RunState}
-use Rattle.host_model.specs.Values.{Addresses, Neutral}
-use Rattle.host_model.specs.World.{World}
-use Rattle.instruction_laws.proofs.Worlds.{world_meets}
-use Rattle.neutral_machine.specs.Config.{Config, Frame, Function, Host, hosts, call_under_way}
-use Rattle.neutral_machine.specs.Layout.{addresses, total}
 use Rattle.neutral_machine.specs.NeutralHost as neutral
-use Rattle.neutral_machine.specs.NeutralRun.{neutral_instruction}
-use Rattle.neutral_machine.specs.NeutralRuns.{is_gate, step_if, neutral_step}
-use Rattle.neutral_machine.specs.Stands.{CallShows, Stands}
-use Rattle.neutral_machine.specs.WrittenLaw.{IsValue}
-use Rattle.pair_laws.specs.NeutralPair.{neutral_bound_reply}
 use Rattle.note_types.specs.declared.ending.Ending.TheVariants as ending
 use Rattle.note_types.specs.declared.event.Event.TheVariants as event
-use Rattle.note_types.specs.declared.spot.Spot.{Spot}
 use Rattle.note_types.specs.declared.spot.Spot.TheVariants as spot
-use Rattle.note_types.specs.declared.types.Ty.{Ty}
-use Rattle.note_types.specs.declared.value.Value.{Value}
 use Rattle.note_types.specs.declared.value.Value.TheVariants as value
-use Rattle.pair_laws.specs.Laws.{value_given}
-use Rattle.pair_model.specs.PairRuns.{bound_reply}
-use Rattle.pe_image.specs.Mapped.{mapped}
-use Rattle.pe_image.specs.declared.image.Image.{Image}
-use Rattle.step_sound.specs.StepLaw.{IsRunAt}
 
 -- ---- what is seen where a function has returned
 

@@ -1,45 +1,27 @@
 -- The law of a pair's step, rule by rule.
-use Rattle.std.proofs.Common.{◌≡◌, ℕ, Bool, true, false, if◌then◌else◌, List, [], ◌∷◌, ◌++◌, map, length, drop, Option, Some}
-use Rattle.std.proofs.Common.{None, option_map, refl, sym, ap, ap₂, subst}
-use Rattle.std.specs.Option.{option_map_or}
-use Rattle.std.proofs.lemmas.Option.{same_Some}
-use Rattle.host_laws.proofs.Entering.{enter_stands}
-use Rattle.host_laws.proofs.Leaving.{end_stands, leave_stands}
-use Rattle.ebc_base.proofs.Given.{some_of_map}
-use Rattle.host_laws.proofs.Views.{views_stand}
+use Rattle.pair_laws.proofs.Common.{◌≡◌, ℕ, Bool, true, false, if◌then◌else◌, List, [], ◌∷◌, ◌++◌, map, length, Option, Some, None}
+use Rattle.pair_laws.proofs.Common.{option_map, refl, sym, ap, ap₂, subst, option_map_or, same_Some, some_of_map, views_stand, world_meets}
+use Rattle.pair_laws.proofs.Common.{Stands, Ending, Event, Seen, Value, mapped, Image, Config, Asking, View, Returns, Calls, GoesOn}
+use Rattle.pair_laws.proofs.Common.{NotifiedReturns, IsDue, Leaves, Ends, asked_args, call_event, is_error, signature_result, Placement}
+use Rattle.pair_laws.proofs.Common.{RunState, given, PairEvent, BoundCall, bound_at, neutral_sides, PairWorld, Both, Stage, ProviderRuns}
+use Rattle.pair_laws.proofs.Common.{CallerRuns, CallTaken, CallRuns, CallReturned, PairState, SideOf, with_a, with_b, provider_ended}
+use Rattle.pair_laws.proofs.Common.{provider_step, call_refused, call_told, call_step, plain_step, caller_step_seen, caller_step}
+use Rattle.pair_laws.proofs.Common.{function_entered, enter_step, function_step_seen, function_step, call_answered, reply_refused}
+use Rattle.pair_laws.proofs.Common.{reply_step, stage_step, pair_step, pair_step_at, IsPairAt, PairStands, SideGoesWell, StageGoesWell}
+use Rattle.std.proofs.Common.{drop}
+use Rattle.host_laws.proofs.{Entering.enter_stands, Leaving.end_stands, Leaving.leave_stands}
 use Rattle.host_laws.specs.PlanFits.{CanEnter}
-use Rattle.instruction_laws.proofs.Worlds.{world_meets}
-use Rattle.neutral_machine.specs.Stands.{Stands}
 use Rattle.neutral_machine.specs.WorldFits.{WorldFits}
-use Rattle.note_types.specs.declared.ending.Ending.{Ending}
-use Rattle.note_types.specs.declared.ending.Ending.TheVariants as ending
-use Rattle.note_types.specs.declared.event.Event.{Event}
-use Rattle.note_types.specs.declared.event.Event.TheVariants as event
-use Rattle.note_types.specs.declared.seen.Seen.{Seen}
-use Rattle.note_types.specs.declared.value.Value.{Value}
-use Rattle.pe_image.specs.Mapped.{mapped}
-use Rattle.pe_image.specs.declared.image.Image.{Image}
 use Rattle.step_sound.proofs.RunSteps.{run_step_keeps_standing}
-use Rattle.neutral_machine.specs.Config.{Config}
-use Rattle.host_model.specs.HostPlans.{Asking, View, Returns, Calls, GoesOn, NotifiedReturns, IsDue, Leaves, Ends, asked_args}
-use Rattle.host_model.specs.HostPlans.{call_event, is_error, signature_result}
+use Rattle.host_model.specs.Runs.{run_step}
+use Rattle.pair_model.specs.{Rules.step_if, PairRuns.sides_at}
+use Rattle.pair_laws.specs.Laws.{ReplyGoesWell, PairStepKeepsStanding}
+use Rattle.pair_laws.proofs.Sides.{returns_top, unseen, rests_stands, bound_reply_stands}
+use Rattle.note_types.specs.declared.ending.Ending.TheVariants as ending
+use Rattle.note_types.specs.declared.event.Event.TheVariants as event
 use Rattle.host_model.specs.HostSteps as width
 use Rattle.neutral_machine.specs.NeutralHost as neutral
-use Rattle.host_model.specs.Placements.{Placement}
-use Rattle.host_model.specs.RunState.{RunState}
-use Rattle.host_model.specs.ScriptValues.{given}
-use Rattle.host_model.specs.Runs.{run_step}
-use Rattle.pair_model.specs.declared.event.PairEvent.{PairEvent}
 use Rattle.pair_model.specs.declared.event.PairEvent.TheVariants as pair_event
-use Rattle.pair_model.specs.Binds.{BoundCall, bound_at}
-use Rattle.pair_laws.specs.NeutralPair.{neutral_sides}
-use Rattle.pair_model.specs.Pairs.{PairWorld, Both, Stage, ProviderRuns, CallerRuns, CallTaken, CallRuns, CallReturned, PairState, SideOf}
-use Rattle.pair_model.specs.Rules.{with_a, with_b, provider_ended, provider_step, call_refused, call_told, call_step, plain_step}
-use Rattle.pair_model.specs.Rules.{caller_step_seen, caller_step, function_entered, enter_step, function_step_seen, function_step}
-use Rattle.pair_model.specs.Rules.{call_answered, reply_refused, reply_step, stage_step, step_if, pair_step}
-use Rattle.pair_model.specs.PairRuns.{sides_at, pair_step_at}
-use Rattle.pair_laws.specs.Laws.{IsPairAt, PairStands, SideGoesWell, ReplyGoesWell, StageGoesWell, PairStepKeepsStanding}
-use Rattle.pair_laws.proofs.Sides.{returns_top, unseen, rests_stands, bound_reply_stands}
 
 -- the events that a side adds are the same where its lists are
 events_alike : (of : Event → PairEvent) (t u : List PairEvent) (xs ys before after : List Event) → t ≡ u → xs ≡ before → ys ≡ after
@@ -118,10 +100,7 @@ module _ (w : ℕ) (images : Both Image) (world : PairWorld) (P : Both Placement
             trace = st.trace;
             ending = st.a.ending;
           }
-      go ending.Running = st
-      go (ending.Raised v) = st
-      go (ending.Mismatch v) = st
-      go ending.ScriptEnd = st
+      go c = st
 
   own_goes : (p c : PairState Config) (q : PairState RunState) → SideGoesWell w images.b world.b p.b → Pairs p q
       → provider_step N p ≡ Some c → Alike c (provider_step W q)
@@ -212,10 +191,7 @@ module _ (w : ℕ) (images : Both Image) (world : PairWorld) (P : Both Placement
     where
       go : (x : Ending) → Pairs (function_entered g p x) (function_entered g q x)
       go ending.Running = staged p q (CallRuns g) st
-      go (ending.Finished v) = st
-      go (ending.Raised v) = st
-      go (ending.Mismatch v) = st
-      go ending.ScriptEnd = st
+      go c = st
 
   enter_goes : (p : PairState Config) (q : PairState RunState) (g f : ℕ) (values : List Value) → CanEnter w world.b p.b f values
       → Pairs p q → Pairs (enter_step N p g f values) (enter_step W q g f values)
@@ -329,10 +305,7 @@ module _ (w : ℕ) (images : Both Image) (world : PairWorld) (P : Both Placement
 
       go : (x : Ending) → p.ending ≡ x → step_if world N p x ≡ Some c → Alike c (step_if world W q x)
       go ending.Running on e = subst (λ s. Alike c (stage_step world W q s)) (sym st.stage) (stage_goes p c q p.stage (well on) st e)
-      go (ending.Finished v) on e = same e
-      go (ending.Raised v) on e = same e
-      go (ending.Mismatch v) on e = same e
-      go ending.ScriptEnd on e = same e
+      go t on e = same e
 
 pub pair_step_keeps_standing : PairStepKeepsStanding
 unfolding pair_step_at

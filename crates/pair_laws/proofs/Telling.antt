@@ -1,36 +1,19 @@
 -- A bound call of a typed image: how it may be refused, and what the host sees of it at a width.
-use Rattle.std.proofs.Common.{◌≡◌, ℕ, suc, Bool, true, false, if◌then◌else◌, nat_eq, nat_lt, List, [], ◌∷◌, length, Option, Some, None}
-use Rattle.std.proofs.Common.{option_map, option_and_then, refl, sym, ap, ◌∙◌, subst}
-use Rattle.std.specs.Option.{option_map_or, option_or}
-use Rattle.std.proofs.lemmas.Option.{none-some, same_Some}
-use Rattle.ebc_base.proofs.Given.{some_of_map}
+use Rattle.pair_laws.proofs.Common.{◌≡◌, ℕ, suc, Bool, true, false, if◌then◌else◌, nat_eq, nat_lt, List, [], ◌∷◌, length, Option, Some}
+use Rattle.pair_laws.proofs.Common.{None, option_map, option_and_then, refl, sym, ap, ◌∙◌, subst, option_map_or, option_or, none-some}
+use Rattle.pair_laws.proofs.Common.{same_Some, some_of_map, Ending, Param, Seen, Value, Config, Asking, Asks, View, Calls, IsDue, is_due}
+use Rattle.pair_laws.proofs.Common.{return_view, asked_args, asking_refused, function_params, signature_params, signature_method, site_of}
+use Rattle.pair_laws.proofs.Common.{made_objects, Placement, NativeCall, NoCall, Asked, Accepted, ScriptPlace, is_empty, arguments_read}
+use Rattle.pair_laws.proofs.Common.{slots_from, RunState, fits, given, Neutral, World, TypedObject, RaisesOnlyDivideError, PairWorld}
+use Rattle.pair_laws.proofs.Common.{parameter_refused, provider_refused, call_refused}
 use Rattle.note_types.specs.Concrete.{register}
-use Rattle.note_types.specs.declared.ending.Ending.{Ending}
+use Rattle.host_model.specs.{HostPlans.NoSite, RunState.SavedFrame}
+use Rattle.neutral_machine.specs.{Locations.is_method, NeutralReadings.neutral_arguments}
 use Rattle.note_types.specs.declared.ending.Ending.TheVariants as ending
-use Rattle.note_types.specs.declared.notes.Param.{Param}
 use Rattle.note_types.specs.declared.reason.Reason.TheVariants as reason
-use Rattle.note_types.specs.declared.seen.Seen.{Seen}
-use Rattle.note_types.specs.declared.value.Value.{Value}
 use Rattle.note_types.specs.declared.value.Value.TheVariants as value
-use Rattle.neutral_machine.specs.Config.{Config}
-use Rattle.host_model.specs.HostPlans.{Asking, NoSite, Asks, View, Calls, IsDue, is_due, return_view, asked_args}
-use Rattle.host_model.specs.HostPlans.{asking_refused, function_params, signature_params, signature_method, site_of}
 use Rattle.host_model.specs.HostSteps as width
-use Rattle.neutral_machine.specs.Locations.{is_method}
 use Rattle.neutral_machine.specs.NeutralHost as neutral
-use Rattle.neutral_machine.specs.NeutralReadings.{neutral_arguments}
-use Rattle.host_model.specs.Objects.{made_objects}
-use Rattle.host_model.specs.Placements.{Placement}
-use Rattle.host_model.specs.Progress.{NativeCall, NoCall, Asked, Accepted, ScriptPlace, is_empty}
-use Rattle.host_model.specs.Readings.{arguments_read, slots_from}
-use Rattle.host_model.specs.RunState.{SavedFrame, RunState}
-use Rattle.host_model.specs.ScriptValues.{fits, given}
-use Rattle.host_model.specs.Values.{Neutral}
-use Rattle.host_model.specs.World.{World}
-use Rattle.host_model.specs.declared.object.TypedObject.{TypedObject}
-use Rattle.invariant_laws.specs.Endings.{RaisesOnlyDivideError}
-use Rattle.pair_model.specs.Pairs.{PairWorld}
-use Rattle.pair_model.specs.Rules.{parameter_refused, provider_refused, call_refused}
 
 -- an ending that stops a run, and raises nothing but a division by zero
 abbrev pub Stops : Ending → Type 0
@@ -39,10 +22,7 @@ Stops e = RaisesOnlyDivideError e
 
 pub stops_ends : (e : Ending) → Stops e → (e ≡ ending.Running → ⊥) × RaisesOnlyDivideError e
 stops_ends ending.Running s = absurd s
-stops_ends (ending.Finished v) s = (λ x. cc, s)
-stops_ends (ending.Raised v) s = (λ x. cc, s)
-stops_ends (ending.Mismatch v) s = (λ x. cc, s)
-stops_ends ending.ScriptEnd s = (λ x. cc, s)
+stops_ends c s = (λ x. cc, s)
 
 parameter_stops : (made : List TypedObject) (k : ℕ) (ps : List Param) (xs : List Seen) (n : Ending)
     → parameter_refused made k ps xs ≡ Some n → Stops n

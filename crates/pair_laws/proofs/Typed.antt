@@ -1,18 +1,10 @@
 -- A typed image has the states that the laws of a pair ask for, and the placements that this project takes are valid.
-use Rattle.std.proofs.Common.{ℕ, refl, inl, inr}
-use Rattle.ebc_width.specs.Width.{IsWidth}
-use Rattle.host_model.specs.World.{World}
+use Rattle.pair_laws.proofs.Common.{ℕ, refl, inl, inr, IsWidth, World, TypedPair, TypedSide, ArePlaced, Both, PairWorld, Image, IsTypedPair}
 use Rattle.pair_laws.proofs.Following.{pair_is_same}
-use Rattle.pair_laws.specs.PairLaw.{TypedPair, TypedSide}
-use Rattle.pair_laws.specs.SamePairs.{ArePlaced}
 use Rattle.pair_model.specs.PairReports.{own_placements}
-use Rattle.pair_model.specs.Pairs.{Both, PairWorld}
-use Rattle.pe_image.specs.declared.image.Image.{Image}
-use Rattle.twin_run.proofs.Places.{typed_states}
-use Rattle.twin_run.proofs.Read.{read_is_placed, typed_is_read}
-use Rattle.twin_run.specs.StatesOf.{states_of}
-use Rattle.twin_run.specs.TypedRuns.{IsTypedWorld}
-use Rattle.pair_laws.specs.TypedPairs.{IsTypedPair, OwnTypedPairsAreSame, TypedPairsAreSame}
+use Rattle.twin_run.proofs.{Places.typed_states, Read.read_is_placed, Read.typed_is_read}
+use Rattle.twin_run.specs.{StatesOf.states_of, TypedRuns.IsTypedWorld}
+use Rattle.pair_laws.specs.TypedPairs.{OwnTypedPairsAreSame, TypedPairsAreSame}
 
 side_is_typed : (image : Image) (world : World) → IsTypedWorld image world → TypedSide image world (states_of image world.notes)
 side_is_typed image world t = record { read = typed_is_read image world t; rules = typed_states image world t.notes t.typed }

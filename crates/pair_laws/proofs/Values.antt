@@ -1,41 +1,26 @@
 -- Values that cross from a side to the other: arguments of bound calls, as a width reads them, and results.
-use Rattle.std.proofs.Common.{◌≡◌, ℕ, zero, suc, ◌+◌, ◌-◌, ◌*◌, ◌/◌, ◌%◌, ◌<◌, ◌^◌, Bool, true, false, ◌&&◌, if◌then◌else◌, nat_eq}
-use Rattle.std.proofs.Common.{nat_le, nat_lt, List, [], ◌∷◌, map, length, Option, Some, None, option_map, refl, sym, ap, ◌∙◌, subst, arith}
-use Rattle.std.proofs.Common.{slice_get}
+use Rattle.pair_laws.proofs.Common.{◌≡◌, ℕ, zero, suc, ◌+◌, ◌-◌, ◌*◌, ◌<◌, ◌^◌, Bool, true, false, ◌&&◌, if◌then◌else◌, nat_eq, nat_le}
+use Rattle.pair_laws.proofs.Common.{nat_lt, List, [], ◌∷◌, map, length, Option, Some, None, option_map, refl, sym, ap, ◌∙◌, subst, arith}
+use Rattle.pair_laws.proofs.Common.{slice_get, AllByRecursion, list_all, zip, and_parts, false≢true, ltb-true, leb-true, none-some}
+use Rattle.pair_laws.proofs.Common.{same_Some, ValuesFit, divides, same_kind, IsHandedIn, Notes, Param, Want, WantParam, Seen, Ty, Value}
+use Rattle.pair_laws.proofs.Common.{neutral_result, Placement, arguments_read, slots_from, sort_of_type, fits, given, is_handle, Neutral}
+use Rattle.pair_laws.proofs.Common.{IsValue, TypedObject, takes_alike, param_agrees, parameter_refused}
+use Rattle.std.proofs.Common.{◌/◌, ◌%◌}
 use Rattle.std.specs.Bool.{⊤}
-use Rattle.std.specs.List.{AllByRecursion, list_all, zip}
-use Rattle.std.proofs.lemmas.Bool.{and_parts, false≢true, ltb-true, leb-true}
-use Rattle.std.proofs.lemmas.Option.{none-some, same_Some}
 use Rattle.host_laws.proofs.ViewAlike.{before_some}
-use Rattle.invariant_laws.proofs.Entering.{ValuesFit}
-use Rattle.note_types.specs.BelowTests.{divides, same_kind}
-use Rattle.note_types.specs.Concrete.{Concrete, loaded}
+use Rattle.note_types.specs.{Concrete.Concrete, Concrete.loaded, Passing.IsHandedBack, Records.Each}
 use Rattle.ebc_width.specs.Width.{cut_at}
-use Rattle.note_types.specs.Passing.{IsHandedIn, IsHandedBack}
-use Rattle.note_types.specs.Records.{Each}
-use Rattle.note_types.specs.declared.ending.Ending.TheVariants as ending
-use Rattle.note_types.specs.declared.notes.Notes.{Notes}
-use Rattle.note_types.specs.declared.notes.Param.{Param}
-use Rattle.note_types.specs.declared.notes.Want.{Want}
-use Rattle.note_types.specs.declared.notes.Want.TheVariants as want
-use Rattle.note_types.specs.declared.notes.WantParam.{WantParam}
-use Rattle.note_types.specs.declared.reason.Reason.TheVariants as reason
-use Rattle.note_types.specs.declared.seen.Seen.{Seen}
-use Rattle.note_types.specs.declared.types.Ty.{Ty}
-use Rattle.note_types.specs.declared.types.Ty.TheVariants as ty
-use Rattle.note_types.specs.declared.value.Value.{Value}
-use Rattle.note_types.specs.declared.value.Value.TheVariants as value
-use Rattle.neutral_machine.specs.NeutralReadings.{neutral_reading, neutral_result}
-use Rattle.host_model.specs.Placements.{Placement, slot_bytes, area_step, handle_count, handle_at}
-use Rattle.host_model.specs.Readings.{thing_at, handle_named, or_wild, or_null, status_read, reading_of, role_of, argument_read}
-use Rattle.host_model.specs.Readings.{arguments_read, slots_from, Number, StatusOf, sort_of_type}
-use Rattle.host_model.specs.ScriptValues.{fits, given, is_handle}
-use Rattle.host_model.specs.Values.{Neutral, Num, At, Handle, Method, Entry, Error, SignedError, Junk, word, error_bit}
-use Rattle.neutral_machine.specs.WrittenLaw.{IsValue}
-use Rattle.host_model.specs.declared.object.TypedObject.{TypedObject}
-use Rattle.pair_model.specs.Binds.{takes_alike, param_agrees}
-use Rattle.pair_model.specs.Rules.{parameter_refused}
+use Rattle.neutral_machine.specs.NeutralReadings.{neutral_reading}
+use Rattle.host_model.specs.Placements.{slot_bytes, area_step, handle_count, handle_at}
+use Rattle.host_model.specs.Readings.{thing_at, handle_named, or_wild, or_null, status_read, reading_of, role_of, argument_read, Number}
+use Rattle.host_model.specs.Readings.{StatusOf}
+use Rattle.host_model.specs.Values.{Num, Error, word, error_bit}
 use Rattle.pair_laws.proofs.Crossing.{status_known}
+use Rattle.note_types.specs.declared.ending.Ending.TheVariants as ending
+use Rattle.note_types.specs.declared.notes.Want.TheVariants as want
+use Rattle.note_types.specs.declared.reason.Reason.TheVariants as reason
+use Rattle.note_types.specs.declared.types.Ty.TheVariants as ty
+use Rattle.note_types.specs.declared.value.Value.TheVariants as value
 
 -- ---- results
 
@@ -53,13 +38,7 @@ number_plain notes made (Num n c) v e = go (nat_lt (word c) (2 ^ 32)) (nat_eq n 
     go true true e = subst NoHandle (same_Some _ v e) tt
     go true false e = absurd (none-some v e)
     go false t e = absurd (none-some v e)
-number_plain notes made (At a n c) v e = absurd (none-some v e)
-number_plain notes made (Handle k) v e = absurd (none-some v e)
-number_plain notes made (Method k) v e = absurd (none-some v e)
-number_plain notes made (Entry k) v e = absurd (none-some v e)
-number_plain notes made (Error k) v e = absurd (none-some v e)
-number_plain notes made (SignedError k) v e = absurd (none-some v e)
-number_plain notes made Junk v e = absurd (none-some v e)
+number_plain notes made u v e = absurd (none-some v e)
 
 status_plain : (notes : Notes) (made : List TypedObject) (u : Neutral) (v : Value) → neutral_result notes made StatusOf u ≡ Some v
     → NoHandle v
@@ -70,12 +49,7 @@ status_plain notes made (Num n c) v e = go (nat_eq n 0 && nat_lt (word c) (2 ^ 3
     go true e = subst NoHandle (same_Some _ v e) tt
     go false e = absurd (none-some v e)
 status_plain notes made (Error k) v e = subst NoHandle (same_Some _ v e) tt
-status_plain notes made (At a n c) v e = absurd (none-some v e)
-status_plain notes made (Handle k) v e = absurd (none-some v e)
-status_plain notes made (Method k) v e = absurd (none-some v e)
-status_plain notes made (Entry k) v e = absurd (none-some v e)
-status_plain notes made (SignedError k) v e = absurd (none-some v e)
-status_plain notes made Junk v e = absurd (none-some v e)
+status_plain notes made u v e = absurd (none-some v e)
 
 -- the result of a function that the firmware may enter is no handle
 pub result_plain : (notes : Notes) (made : List TypedObject) (t : Ty) (u : Neutral) (v : Value) → IsHandedBack t
@@ -84,18 +58,7 @@ unfolding neutral_result neutral_reading
 result_plain notes made ty.Any u v b e = subst NoHandle (same_Some _ v e) tt
 result_plain notes made (ty.Int lo hi div) u v b e = number_plain notes made u v e
 result_plain notes made (ty.Status g) u v b e = status_plain notes made u v e
-result_plain notes made (ty.Lin a c) u v b e = absurd b
-result_plain notes made (ty.Scaled a c m) u v b e = absurd b
-result_plain notes made (ty.Ptr s k a c may) u v b e = absurd b
-result_plain notes made (ty.Local f) u v b e = absurd b
-result_plain notes made (ty.Lent c) u v b e = absurd b
-result_plain notes made (ty.SignedStatus g) u v b e = absurd b
-result_plain notes made ty.Mask u v b e = absurd b
-result_plain notes made ty.Handle u v b e = absurd b
-result_plain notes made ty.Entry u v b e = absurd b
-result_plain notes made (ty.Method m) u v b e = absurd b
-result_plain notes made (ty.ThunkAt j) u v b e = absurd b
-result_plain notes made (ty.Saved j) u v b e = absurd b
+result_plain notes made t u v b e = absurd b
 
 -- ---- arguments
 
@@ -140,60 +103,13 @@ pub argument_known : (w : ℕ) (notes nb : Notes) (P : Placement) (made mb : Lis
     → fits mb t (argument_read w notes P made byte (role_of p) x).value ≡ true
     → IsValue nb (argument_read w notes P made byte (role_of p) x).value
 unfolding fits argument_read reading_of
-argument_known w notes nb P made mb byte (want.Int lo hi) ty.Any x e i h = absurd (false≢true e)
 argument_known w notes nb P made mb byte (want.Int lo hi) (ty.Int from to div) x e i h = let l = leb-true x to
     (and_parts (nat_le x to) (divides div x) (and_parts (nat_le from x) (nat_le x to && divides div x) h).1).0 in omega (arith, l, i)
-argument_known w notes nb P made mb byte (want.Int lo hi) (ty.Lin a c) x e i h = absurd (false≢true e)
-argument_known w notes nb P made mb byte (want.Int lo hi) (ty.Scaled a c m) x e i h = absurd (false≢true e)
-argument_known w notes nb P made mb byte (want.Int lo hi) (ty.Ptr s k a c may) x e i h = absurd (false≢true e)
-argument_known w notes nb P made mb byte (want.Int lo hi) (ty.Local f) x e i h = absurd (false≢true e)
-argument_known w notes nb P made mb byte (want.Int lo hi) (ty.Lent c) x e i h = absurd (false≢true e)
-argument_known w notes nb P made mb byte (want.Int lo hi) (ty.Status g) x e i h = absurd (false≢true e)
-argument_known w notes nb P made mb byte (want.Int lo hi) (ty.SignedStatus g) x e i h = absurd (false≢true e)
-argument_known w notes nb P made mb byte (want.Int lo hi) ty.Mask x e i h = absurd (false≢true e)
-argument_known w notes nb P made mb byte (want.Int lo hi) ty.Handle x e i h = absurd (false≢true e)
-argument_known w notes nb P made mb byte (want.Int lo hi) ty.Entry x e i h = absurd (false≢true e)
-argument_known w notes nb P made mb byte (want.Int lo hi) (ty.Method m) x e i h = absurd (false≢true e)
-argument_known w notes nb P made mb byte (want.Int lo hi) (ty.ThunkAt j) x e i h = absurd (false≢true e)
-argument_known w notes nb P made mb byte (want.Int lo hi) (ty.Saved j) x e i h = absurd (false≢true e)
-argument_known w notes nb P made mb byte want.Handle ty.Any x e i h = absurd (false≢true e)
-argument_known w notes nb P made mb byte want.Handle (ty.Int from to div) x e i h = absurd (false≢true e)
-argument_known w notes nb P made mb byte want.Handle (ty.Lin a c) x e i h = absurd (false≢true e)
-argument_known w notes nb P made mb byte want.Handle (ty.Scaled a c m) x e i h = absurd (false≢true e)
-argument_known w notes nb P made mb byte want.Handle (ty.Ptr s k a c may) x e i h = absurd (false≢true e)
-argument_known w notes nb P made mb byte want.Handle (ty.Local f) x e i h = absurd (false≢true e)
-argument_known w notes nb P made mb byte want.Handle (ty.Lent c) x e i h = absurd (false≢true e)
-argument_known w notes nb P made mb byte want.Handle (ty.Status g) x e i h = absurd (false≢true e)
-argument_known w notes nb P made mb byte want.Handle (ty.SignedStatus g) x e i h = absurd (false≢true e)
-argument_known w notes nb P made mb byte want.Handle ty.Mask x e i h = absurd (false≢true e)
 argument_known w notes nb P made mb byte want.Handle ty.Handle x e i h = handle_read nb x (handle_named notes P x)
     (λ k. thing_within (handle_at notes P 0) handle_count x k) h
-argument_known w notes nb P made mb byte want.Handle ty.Entry x e i h = absurd (false≢true e)
-argument_known w notes nb P made mb byte want.Handle (ty.Method m) x e i h = absurd (false≢true e)
-argument_known w notes nb P made mb byte want.Handle (ty.ThunkAt j) x e i h = absurd (false≢true e)
-argument_known w notes nb P made mb byte want.Handle (ty.Saved j) x e i h = absurd (false≢true e)
-argument_known w notes nb P made mb byte want.Status ty.Any x e i h = absurd (false≢true e)
-argument_known w notes nb P made mb byte want.Status (ty.Int from to div) x e i h = absurd (false≢true e)
-argument_known w notes nb P made mb byte want.Status (ty.Lin a c) x e i h = absurd (false≢true e)
-argument_known w notes nb P made mb byte want.Status (ty.Scaled a c m) x e i h = absurd (false≢true e)
-argument_known w notes nb P made mb byte want.Status (ty.Ptr s k a c may) x e i h = absurd (false≢true e)
-argument_known w notes nb P made mb byte want.Status (ty.Local f) x e i h = absurd (false≢true e)
-argument_known w notes nb P made mb byte want.Status (ty.Lent c) x e i h = absurd (false≢true e)
 argument_known w notes nb P made mb byte want.Status (ty.Status g) x e i h = status_known nb (or_wild x (status_read w x)) h
     (not_handle (or_wild x (status_read w x)) (status_read_plain w x))
-argument_known w notes nb P made mb byte want.Status (ty.SignedStatus g) x e i h = absurd (false≢true e)
-argument_known w notes nb P made mb byte want.Status ty.Mask x e i h = absurd (false≢true e)
-argument_known w notes nb P made mb byte want.Status ty.Handle x e i h = absurd (false≢true e)
-argument_known w notes nb P made mb byte want.Status ty.Entry x e i h = absurd (false≢true e)
-argument_known w notes nb P made mb byte want.Status (ty.Method m) x e i h = absurd (false≢true e)
-argument_known w notes nb P made mb byte want.Status (ty.ThunkAt j) x e i h = absurd (false≢true e)
-argument_known w notes nb P made mb byte want.Status (ty.Saved j) x e i h = absurd (false≢true e)
-argument_known w notes nb P made mb byte want.Any t x e i h = absurd (false≢true e)
-argument_known w notes nb P made mb byte (want.Size a b) t x e i h = absurd (false≢true e)
-argument_known w notes nb P made mb byte want.Ptr t x e i h = absurd (false≢true e)
-argument_known w notes nb P made mb byte want.Entry t x e i h = absurd (false≢true e)
-argument_known w notes nb P made mb byte (want.Out c) t x e i h = absurd (false≢true e)
-argument_known w notes nb P made mb byte (want.Inout c) t x e i h = absurd (false≢true e)
+argument_known w notes nb P made mb byte wanted t x e i h = absurd (false≢true e)
 
 -- what B takes, where no argument is refused
 pub arguments_known : (w : ℕ) (notes nb : Notes) (P : Placement) (made mb : List TypedObject) (byte : ℕ → ℕ) (k : ℕ) (ps : List WantParam)

@@ -1,17 +1,11 @@
 -- What is printed of points is ASCII.
-use Rattle.std.proofs.Common.{◌≡◌, ℕ, true, not, ◌&&◌, ◌==◌, List, [], ◌∷◌, ◌++◌, map, refl, arith, codes}
-use Rattle.std.proofs.Common.{nat_le, nat_lt}
-use Rattle.std.proofs.lemmas.Bool.{and_parts, leb-true, ltb-true}
-use Rattle.std.proofs.lemmas.Str.{IsAscii-append}
-use Rattle.std.proofs.lemmas.Str.Ascii.{IsAscii-cons, IsAscii-nil}
-use Rattle.std.proofs.lemmas.Fmt.{IsAscii-decimal}
-use Rattle.std.specs.Fmt.{decimal}
-use Rattle.std.specs.List.{flat_map, list_all}
-use Rattle.std.specs.Str.{IsAscii}
-use Rattle.point_texts.specs.PrintedStates.{array_line, in_quotes, listed}
-use Rattle.point_laws.proofs.PlainTexts.{are_plain, is_plain}
-use Rattle.point_laws.proofs.PointsDocument.{IsToldPlain, Told, told_text}
-use Rattle.point_laws.proofs.TomlTexts.{AllPlain}
+use Rattle.point_laws.proofs.Common.{◌≡◌, ℕ, true, not, ◌&&◌, ◌==◌, List, [], ◌∷◌, ◌++◌, map, refl, arith, codes, nat_le, and_parts}
+use Rattle.point_laws.proofs.Common.{ltb-true, IsAscii-append, IsAscii-nil, decimal, flat_map, list_all, IsAscii, array_line, in_quotes}
+use Rattle.point_laws.proofs.Common.{listed}
+use Rattle.std.proofs.Common.{nat_lt}
+use Rattle.std.proofs.lemmas.{Bool.leb-true, Str.Ascii.IsAscii-cons, Fmt.IsAscii-decimal}
+use Rattle.point_laws.proofs.{PlainTexts.are_plain, PlainTexts.is_plain, PointsDocument.IsToldPlain, PointsDocument.Told}
+use Rattle.point_laws.proofs.{PointsDocument.told_text, TomlTexts.AllPlain}
 
 -- a text that passes the test, as a literal does by computing
 tested : (bs : List ℕ) → list_all (λ b. nat_lt b 128) bs ≡ true → IsAscii bs

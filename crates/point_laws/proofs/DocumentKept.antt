@@ -1,29 +1,14 @@
 -- A document of notes with what is printed of points at the key `point` stands for the notes with these points.
-use Rattle.std.proofs.Common.{◌≡◌, ℕ, ◌≤◌, false, List, [], length, map, Result, Ok, refl, ◌∙◌, codes}
-use Rattle.std.specs.Prelude.{IfOk, bytes_eq}
-use Rattle.toml.specs.Data.{Members, get_member}
-use Rattle.ebc_base.specs.Names.{name_of}
-use Rattle.ebc_base.proofs.Given.{ok_then}
-use Rattle.note_types.specs.Limits.{point_limit}
-use Rattle.note_types.specs.declared.fault.TomlFault.{TomlFault}
-use Rattle.note_types.specs.declared.notes.Notes.{Notes}
-use Rattle.note_texts.specs.Keys.{document, number_at, only_keys, text_at}
-use Rattle.note_texts.specs.Lists.{array_at, list_at, tables_at}
-use Rattle.note_draft.specs.Drafts.{call_lists, code_lists, data_lists, draft_keys, draft_lists, draft_of, function_of, greatest_32}
-use Rattle.note_draft.specs.Drafts.{point_of}
-use Rattle.note_draft.specs.Drafts.{shape_of, signatures_at, site_of, static_of, thunk_of}
-use Rattle.note_draft.specs.declared.draft.NotesDraft.{NotesDraft}
-use Rattle.note_draft.specs.declared.draft.PointDraft.{PointDraft}
-use Rattle.note_draft.specs.declared.reading.CallLists.{CallLists}
-use Rattle.note_draft.specs.declared.reading.CodeLists.{CodeLists}
-use Rattle.note_draft.specs.declared.reading.DraftLists.{DraftLists}
-use Rattle.type_notes.specs.Notes.{notes_in, notes_of}
-use Rattle.type_notes.specs.Resolved.{resolved}
-use Rattle.type_notes.proofs.Outcomes.{ok_given}
-use Rattle.point_laws.specs.PointTables.{point_draft, points_members}
-use Rattle.point_laws.specs.PrintedPoints.{PrintedPointsStand, with_printed}
-use Rattle.point_laws.proofs.PointsRead.{all_printed, is_read, tables_again}
-use Rattle.point_laws.proofs.PointsStand.{ok_with, printed_accepted}
+use Rattle.point_laws.proofs.Common.{◌≡◌, ℕ, ◌≤◌, false, List, [], length, map, Result, Ok, refl, ◌∙◌, codes, IfOk, bytes_eq, Members}
+use Rattle.point_laws.proofs.Common.{get_member, name_of, ok_then, point_limit, TomlFault, Notes, document, number_at, only_keys, text_at}
+use Rattle.point_laws.proofs.Common.{array_at, list_at, tables_at, call_lists, code_lists, data_lists, draft_lists, draft_of, greatest_32}
+use Rattle.point_laws.proofs.Common.{point_of, shape_of, static_of, thunk_of, NotesDraft, PointDraft, DraftLists, notes_in, notes_of}
+use Rattle.point_laws.proofs.Common.{resolved, ok_given, point_draft, points_members, with_printed}
+use Rattle.note_draft.specs.Drafts.{draft_keys, function_of, signatures_at, site_of}
+use Rattle.note_draft.specs.declared.{reading.CallLists.CallLists, reading.CodeLists.CodeLists}
+use Rattle.point_laws.specs.PrintedPoints.{PrintedPointsStand}
+use Rattle.point_laws.proofs.{PointsRead.all_printed, PointsRead.is_read, PointsRead.tables_again, PointsStand.ok_with}
+use Rattle.point_laws.proofs.PointsStand.{printed_accepted}
 
 module _ (old new : Members) (others : (key : List ℕ) → bytes_eq key (codes "point") ≡ false → get_member key new ≡ get_member key old)
     (keys : only_keys [] draft_keys new ≡ Ok tt) (few : ℕ → Type 0) (drafts : List PointDraft)

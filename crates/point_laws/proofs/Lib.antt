@@ -1,3 +1,4 @@
+pub mod Common
 mod AsciiTexts
 mod DocumentKept
 mod NamesGiven

@@ -1,47 +1,27 @@
 -- The shapes of a draft of notes that was read, and their fields, have names that texts can have, each a name of its own.
-use Rattle.std.proofs.Common.{◌≡◌, ℕ, ◌<◌, List, [], ◌∷◌, ◌++◌, length, map, take, get_or, Bool, true, false, Option, Some, None}
-use Rattle.std.proofs.Common.{refl, sym, ap}
-use Rattle.std.proofs.Common.{◌∙◌, ⊎_elim, arith, codes, slice_get}
-use Rattle.std.specs.Prelude.{IfOk, IfSome, bytes_eq, is_some}
-use Rattle.std.specs.List.{list_any, position}
-use Rattle.std.proofs.lemmas.Bool.{cases_lt}
-use Rattle.std.proofs.lemmas.List.{get_or-take, length-take-le}
-use Rattle.std.proofs.lemmas.List.Folds.{list_any_at}
-use Rattle.std.proofs.lemmas.Option.{get_or_from_slice_get, slice_get_within}
-use Rattle.std.proofs.lemmas.Slice.Eq.{bytes_eq-Decides}
-use Rattle.toml.specs.Data.{Data, Members, as_str}
-use Rattle.ebc_base.specs.Names.{is_name, name_of}
+use Rattle.point_laws.proofs.Common.{◌≡◌, ℕ, ◌<◌, List, [], ◌∷◌, ◌++◌, length, map, take, get_or, Bool, true, false, Option, Some, None}
+use Rattle.point_laws.proofs.Common.{refl, sym, ap, ◌∙◌, ⊎_elim, arith, codes, slice_get, IfOk, bytes_eq, is_some, list_any, position}
+use Rattle.point_laws.proofs.Common.{cases_lt, get_or-take, length-take-le, list_any_at, get_or_from_slice_get, slice_get_within}
+use Rattle.point_laws.proofs.Common.{bytes_eq-Decides, Members, is_name, name_of, ok_then, ok_next, ok_weaken, Each, IsName, number_at}
+use Rattle.point_laws.proofs.Common.{only_keys, text_at, text_of, count, each, list_at, row_of, rows_of, tables_at, texts_at, texts_of}
+use Rattle.point_laws.proofs.Common.{row_prefix, FieldText, NotesDraft, ShapeDraft, DraftLists, NameTables, call_lists, code_lists}
+use Rattle.point_laws.proofs.Common.{data_lists, draft_lists, draft_of, greatest_32, shape_of, static_of, thunk_of, refused, names_of_calls}
+use Rattle.point_laws.proofs.Common.{names_of_code, names_of_data, once, first_repeat, has_repeat, repeats, repeats-at, nothing_refused}
+use Rattle.std.specs.Prelude.{IfSome}
+use Rattle.toml.specs.Data.{Data, as_str}
 use Rattle.ebc_base.specs.Steps.{or_else}
-use Rattle.ebc_base.proofs.Given.{ok_then, ok_next, ok_some, ok_weaken}
+use Rattle.ebc_base.proofs.Given.{ok_some}
 use Rattle.note_types.specs.declared.fault.TomlFault.TheVariants.{Kind, Range}
-use Rattle.note_types.specs.Records.{Each}
-use Rattle.note_texts.specs.CellTexts.{field_of}
-use Rattle.note_texts.specs.Grammar.{IsName}
-use Rattle.note_texts.specs.Keys.{field, number_at, only_keys, pair_at, text_at, text_of}
-use Rattle.note_texts.specs.Lists.{count, each, list_at, row_of, rows_of, table_of, tables_at, texts_at, texts_of}
-use Rattle.note_texts.specs.Keys.{row_prefix}
-use Rattle.note_texts.specs.declared.cell.FieldText.{FieldText}
+use Rattle.note_texts.specs.{CellTexts.field_of, Keys.field, Keys.pair_at, Lists.table_of}
 use Rattle.note_texts.proofs.SlotLaws.{field_read}
-use Rattle.note_draft.specs.declared.draft.NotesDraft.{NotesDraft}
-use Rattle.note_draft.specs.declared.draft.ShapeDraft.{ShapeDraft}
+use Rattle.note_draft.specs.declared.reading.DataLists.{DataLists}
+use Rattle.note_draft.specs.Once.{repeated_in_shapes, repeated_place_in, repeats_field, same_name, shape_names}
+use Rattle.type_notes.proofs.{ListBounds.each_fails, ListBounds.each_read, NamesFound.none_sooner, OrderLemmas.nothing-at, Outcomes.some_if}
+use Rattle.type_notes.proofs.OwnerLaws.{fails-from_none}
+use Rattle.point_laws.proofs.NamesNumbered.{Once}
 use Rattle.note_draft.specs.declared.finding.Key.TheVariants as key
 use Rattle.note_draft.specs.declared.finding.Refusal.TheVariants as refusals
 use Rattle.note_draft.specs.declared.finding.TableList.TheVariants as list
-use Rattle.note_draft.specs.declared.reading.DataLists.{DataLists}
-use Rattle.note_draft.specs.declared.reading.DraftLists.{DraftLists}
-use Rattle.note_draft.specs.declared.tables.NameTables.{NameTables}
-use Rattle.note_draft.specs.Drafts.{call_lists, code_lists, data_lists, draft_lists, draft_of, greatest_32, shape_of, static_of, thunk_of}
-use Rattle.note_draft.specs.Findings.{refused}
-use Rattle.note_draft.specs.Once.{names_of_calls, names_of_code, names_of_data, once, repeated_in_shapes, repeated_place_in, repeats_field}
-use Rattle.note_draft.specs.Once.{same_name, shape_names}
-use Rattle.note_draft.specs.Repeats.{first_repeat, has_repeat, repeats}
-use Rattle.note_draft.proofs.RepeatLaws.{repeats-at}
-use Rattle.type_notes.proofs.ListBounds.{each_fails, each_read}
-use Rattle.type_notes.proofs.NamesFound.{none_sooner, nothing_refused}
-use Rattle.type_notes.proofs.OrderLemmas.{nothing-at}
-use Rattle.type_notes.proofs.Outcomes.{some_if}
-use Rattle.type_notes.proofs.OwnerLaws.{fails-from_none}
-use Rattle.point_laws.proofs.NamesNumbered.{Once}
 
 -- ---- names that texts can have
 

@@ -1,29 +1,17 @@
 -- Names that stand once: each is the name of the thing with its number, and fields are their sets again.
-use Rattle.std.proofs.Common.{◌≡◌, ℕ, zero, suc, ◌+◌, ◌^◌, ◌/◌, ◌%◌, ◌<◌, ◌≤◌, Bool, true, false, List, [], ◌∷◌}
-use Rattle.std.proofs.Common.{length, filter, map}
-use Rattle.std.proofs.Common.{cond, get_or, Option, Some, refl, sym, ap, subst, ◌∙◌, inl, inr, ⊎_elim, arith, slice_get}
+use Rattle.point_laws.proofs.Common.{◌≡◌, ℕ, zero, suc, ◌+◌, ◌^◌, ◌%◌, ◌<◌, ◌≤◌, Bool, true, false, List, [], ◌∷◌, length, filter, map}
+use Rattle.point_laws.proofs.Common.{cond, get_or, Option, Some, refl, sym, ap, subst, ◌∙◌, inl, inr, ⊎_elim, arith, slice_get, position}
+use Rattle.point_laws.proofs.Common.{position_or_len, range_with_len, option_map_or, bytes_eq, option_map, cases_Bool, cases_lt, eq-eqb}
+use Rattle.point_laws.proofs.Common.{lt-ltb, get_or_from_slice_get, slice_get-map, slice_get_within, bytes_eq-Decides, name_number}
+use Rattle.point_laws.proofs.Common.{within_some, Field, FieldText, NameTables, has_field, field_number, field_set, resolved_field}
+use Rattle.point_laws.proofs.Common.{field_name, field_names, names_below, has}
+use Rattle.std.proofs.Common.{◌/◌}
 use Rattle.std.specs.Int.{bit_at}
-use Rattle.std.specs.List.{position, position_or_len, range_with_len}
-use Rattle.std.specs.Option.{option_map_or}
-use Rattle.std.specs.Prelude.{bytes_eq, option_map}
-use Rattle.std.proofs.lemmas.Bool.{cases_Bool, cases_lt, eq-eqb, lt-ltb}
-use Rattle.std.proofs.lemmas.List.Sums.{position_or_len_is}
-use Rattle.std.proofs.lemmas.Nat.Bits.{bit_at-lt, same_from_bits_below}
-use Rattle.std.proofs.lemmas.Option.{get_or_from_slice_get, same_Some, slice_get-get_or, slice_get-map, slice_get_within}
-use Rattle.std.proofs.lemmas.Slice.Eq.{bytes_eq-Decides}
-use Rattle.ebc_base.specs.Tables.{name_number}
-use Rattle.ebc_base.proofs.Lists.{within_some}
+use Rattle.std.proofs.lemmas.{List.Sums.position_or_len_is, Nat.Bits.bit_at-lt, Nat.Bits.same_from_bits_below, Option.same_Some}
+use Rattle.std.proofs.lemmas.Option.{slice_get-get_or}
 use Rattle.note_types.specs.FieldSets.{HasField}
-use Rattle.note_types.specs.declared.shape.Field.{Field}
-use Rattle.note_texts.specs.declared.cell.FieldText.{FieldText}
-use Rattle.note_draft.specs.declared.tables.NameTables.{NameTables}
-use Rattle.rules_base.specs.Places.{has_field}
-use Rattle.type_notes.specs.Locals.{SomeNames, field_number, field_set}
-use Rattle.type_notes.specs.Resolved.{resolved_field}
-use Rattle.type_notes.proofs.FieldSetLaws.{field_set-fields}
-use Rattle.type_notes.proofs.ResolvedTypes.{field_set-below}
-use Rattle.point_texts.specs.PrintedTypes.{field_name, field_names, names_below}
-use Rattle.point_texts.proofs.PrintedTypeLaws.{has}
+use Rattle.type_notes.specs.Locals.{SomeNames}
+use Rattle.type_notes.proofs.{FieldSetLaws.field_set-fields, ResolvedTypes.field_set-below}
 
 -- things of one name are one
 abbrev pub Once : {A : Type 0} → (A → List ℕ) → List A → Type 0

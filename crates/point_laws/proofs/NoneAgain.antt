@@ -1,18 +1,12 @@
 -- Lists in which a search finds nothing: no item fails a test, none stands there again, none descends.
-use Rattle.std.proofs.Common.{◌≡◌, ℕ, ◌+◌, ◌-◌, ◌<◌, Bool, true, false, not, List, [], ◌∷◌, length, take, get_or, map}
-use Rattle.std.proofs.Common.{Some, None, refl, sym, ap, ◌∙◌, ⊎_elim, arith, slice_get}
-use Rattle.std.specs.List.{All, AllPairs, list_all, position, position_or_len, range_with_len}
-use Rattle.std.specs.List.Sorted.{IsStrictlyIncreasing}
-use Rattle.std.proofs.lemmas.Bool.{cases_Bool, le-ltb}
-use Rattle.std.proofs.lemmas.Bool.Decides.{nat_tests}
-use Rattle.std.proofs.lemmas.List.{get_or-map, get_or-take, length-map, length-take-le}
-use Rattle.std.proofs.lemmas.List.Folds.{list_any_none}
-use Rattle.std.proofs.lemmas.List.FromFn.{get_or-range_with_len, length-range_with_len}
-use Rattle.std.proofs.lemmas.List.Kept.{AllPairs-from_increasing}
-use Rattle.std.proofs.lemmas.Option.{get_or_from_slice_get}
-use Rattle.ebc_base.proofs.Lists.{within_some}
-use Rattle.note_draft.specs.Repeats.{first_descent, first_repeat, repeats}
-use Rattle.note_draft.proofs.RepeatLaws.{first_descent-none, first_repeat-none, repeats-at}
+use Rattle.point_laws.proofs.Common.{◌≡◌, ℕ, ◌+◌, ◌-◌, ◌<◌, Bool, true, false, not, List, [], ◌∷◌, length, take, get_or, map, Some, None}
+use Rattle.point_laws.proofs.Common.{refl, sym, ap, ◌∙◌, ⊎_elim, arith, slice_get, list_all, position, position_or_len, range_with_len}
+use Rattle.point_laws.proofs.Common.{IsStrictlyIncreasing, cases_Bool, nat_tests, get_or-take, length-map, length-take-le}
+use Rattle.point_laws.proofs.Common.{get_or_from_slice_get, within_some, first_descent, first_repeat, repeats, repeats-at}
+use Rattle.std.specs.List.{All, AllPairs}
+use Rattle.std.proofs.lemmas.{Bool.le-ltb, List.get_or-map, List.Folds.list_any_none, List.FromFn.get_or-range_with_len}
+use Rattle.std.proofs.lemmas.{List.FromFn.length-range_with_len, List.Kept.AllPairs-from_increasing}
+use Rattle.note_draft.proofs.RepeatLaws.{first_descent-none, first_repeat-none}
 
 -- ---- tests
 

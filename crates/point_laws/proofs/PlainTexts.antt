@@ -1,20 +1,16 @@
 -- Texts of printable bytes with no quote and no backslash: so is what is spelled as a type.
-use Rattle.std.proofs.Common.{◌≡◌, ℕ, ◌+◌, ◌%◌, ◌^◌, ◌<◌, ◌≤◌, ℤ, pos, negsuc, suc, Bool, true, false, not, ◌&&◌, ◌==◌, List, []}
-use Rattle.std.proofs.Common.{◌∷◌, ◌++◌, length}
-use Rattle.std.proofs.Common.{refl, ap, ◌∙◌, inl, inr, ⊎_elim, arith, codes, nat_le}
-use Rattle.std.proofs.lemmas.Bool.{and_parts}
-use Rattle.std.proofs.lemmas.Bool.Decides.{nat_tests}
-use Rattle.std.proofs.lemmas.Fmt.{decimal_by_steps}
-use Rattle.std.proofs.lemmas.List.Folds.{list_all-append}
-use Rattle.std.specs.Fmt.{decimal, signed_decimal}
-use Rattle.std.specs.List.{list_all}
-use Rattle.ebc_base.specs.Names.{begins_name, continues_name, is_name}
+use Rattle.point_laws.proofs.Common.{◌≡◌, ℕ, ◌+◌, ◌%◌, ◌^◌, ◌<◌, ◌≤◌, pos, suc, Bool, true, false, not, ◌&&◌, ◌==◌, List, [], ◌∷◌, ◌++◌}
+use Rattle.point_laws.proofs.Common.{length, refl, ap, ◌∙◌, inl, inr, ⊎_elim, arith, codes, nat_le, and_parts, nat_tests, decimal, list_all}
+use Rattle.point_laws.proofs.Common.{is_name, IsName, AreNames}
+use Rattle.std.proofs.Common.{ℤ, negsuc}
+use Rattle.std.proofs.lemmas.{Fmt.decimal_by_steps, List.Folds.list_all-append}
+use Rattle.std.specs.Fmt.{signed_decimal}
+use Rattle.ebc_base.specs.Names.{begins_name, continues_name}
 use Rattle.note_types.specs.Types.{IsNear, IsUnits}
-use Rattle.note_texts.specs.Grammar.{IsCellText, IsCounted, IsName, mark_of}
-use Rattle.note_texts.specs.TypeGrammar.{AreNames, IsIntText, IsOffsetText, IsTypeText, grants_text, pair_text, range_text}
-use Rattle.note_texts.specs.declared.cell.CellText.{CellText}
+use Rattle.note_texts.specs.TypeGrammar.{IsIntText, IsOffsetText, IsTypeText, grants_text, pair_text, range_text}
+use Rattle.note_texts.specs.Grammar.{IsCellText, IsCounted, mark_of}
+use Rattle.note_texts.specs.declared.{cell.CellText.CellText, ty.TypeText.TypeText}
 use Rattle.note_texts.specs.declared.cell.CellText.TheVariants as cells
-use Rattle.note_texts.specs.declared.ty.TypeText.{TypeText}
 use Rattle.note_texts.specs.declared.ty.TypeText.TheVariants as types
 
 -- printable, and neither a quote nor a backslash

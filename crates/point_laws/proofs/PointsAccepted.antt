@@ -1,46 +1,21 @@
 -- What is printed of points that ascend is accepted in place of a draft's own points.
-use Rattle.std.proofs.Common.{◌≡◌, ℕ, suc, ◌≤◌, Bool, true, false, List, [], ◌∷◌, length, map, filter, Option, Some, None}
-use Rattle.std.proofs.Common.{refl, sym, ap, subst, ◌∙◌, arith, slice_get, nat_le}
-use Rattle.std.specs.List.{list_all, range_with_len}
-use Rattle.std.specs.List.Sorted.{IsStrictlyIncreasing}
-use Rattle.std.specs.Prelude.{count_by, is_none, is_some, if◌then◌else◌}
-use Rattle.std.proofs.lemmas.Bool.{eqb-true, le-leb}
-use Rattle.std.proofs.lemmas.List.Kept.{IsStrictlyIncreasing-filter}
-use Rattle.std.proofs.lemmas.List.Sums.{length-filter}
-use Rattle.note_types.specs.Known.{is_locals, local_fields}
-use Rattle.note_types.specs.Records.{IsPointNote}
-use Rattle.note_types.specs.States.{type_of}
-use Rattle.note_types.specs.declared.items.Item.{Item}
-use Rattle.note_types.specs.declared.items.Item.TheVariants as items
-use Rattle.note_types.specs.declared.notes.Notes.{Notes}
-use Rattle.note_types.specs.declared.notes.Point.{Point}
-use Rattle.note_types.specs.declared.shape.Field.{Field}
-use Rattle.note_types.specs.declared.state.State.{State}
-use Rattle.note_texts.specs.declared.cell.FieldText.{FieldText}
-use Rattle.note_texts.specs.declared.slot.ItemText.{ItemText}
-use Rattle.note_texts.specs.declared.slot.RegisterText.{RegisterText}
-use Rattle.note_draft.specs.Findings.{at}
-use Rattle.note_draft.specs.Known.{knows_item, knows_regs, knows_stack, knows_type}
-use Rattle.note_draft.specs.Once.{repeats_register, same_register}
-use Rattle.note_draft.specs.Repeats.{has_repeat}
-use Rattle.note_draft.specs.declared.draft.NotesDraft.{NotesDraft}
-use Rattle.note_draft.specs.declared.draft.PointDraft.{PointDraft}
-use Rattle.note_draft.specs.declared.tables.NameTables.{NameTables}
-use Rattle.type_notes.specs.Conditions as conditions
-use Rattle.type_notes.specs.Conditions.{has_item_fields, has_item_thunk, holds_locals, regs_are_local, regs_have_thunks, stack_has_thunks}
-use Rattle.type_notes.specs.Conditions.{stack_is_local, written_is_local}
-use Rattle.type_notes.specs.Locals.{is_field}
-use Rattle.type_notes.specs.Owners.{owner_of}
-use Rattle.type_notes.specs.PointLocals.{PointLocals, point_locals}
-use Rattle.type_notes.specs.Resolved.{resolved, resolved_locals}
-use Rattle.type_notes.specs.TypeKinds.{has_fields, has_thunk}
-use Rattle.point_texts.specs.PrintedStates.{told_up_to}
-use Rattle.point_texts.specs.PrintedTypes.{field_names}
-use Rattle.point_laws.specs.PointTables.{draft_in, item_draft, register_draft}
+use Rattle.point_laws.proofs.Common.{◌≡◌, ℕ, suc, ◌≤◌, Bool, true, false, List, [], ◌∷◌, length, map, filter, Option, Some, None, refl, sym}
+use Rattle.point_laws.proofs.Common.{ap, subst, ◌∙◌, arith, slice_get, nat_le, list_all, range_with_len, IsStrictlyIncreasing, count_by}
+use Rattle.point_laws.proofs.Common.{is_none, is_some, eqb-true, le-leb, is_locals, local_fields, IsPointNote, type_of, Item, Notes, Point}
+use Rattle.point_laws.proofs.Common.{Field, State, FieldText, ItemText, RegisterText, at, knows_regs, knows_stack, knows_type}
+use Rattle.point_laws.proofs.Common.{repeats_register, has_repeat, NotesDraft, PointDraft, NameTables, holds_locals, regs_are_local}
+use Rattle.point_laws.proofs.Common.{regs_have_thunks, stack_has_thunks, stack_is_local, written_is_local, is_field, owner_of, PointLocals}
+use Rattle.point_laws.proofs.Common.{point_locals, resolved, resolved_locals, has_fields, has_thunk, told_up_to, field_names, draft_in}
+use Rattle.point_laws.proofs.Common.{item_draft, register_draft}
+use Rattle.std.specs.Prelude.{if◌then◌else◌}
+use Rattle.std.proofs.lemmas.{List.Kept.IsStrictlyIncreasing-filter, List.Sums.length-filter}
+use Rattle.note_draft.specs.{Known.knows_item, Once.same_register}
+use Rattle.type_notes.specs.Conditions.{has_item_fields, has_item_thunk}
 use Rattle.point_laws.proofs.NoneAgain.{all_pass, by_each, none_again, range_up}
-use Rattle.point_laws.proofs.PointsResolved.{AreNamesOf}
-use Rattle.point_laws.proofs.TextsRead.{AllKnown, KnownItem}
 use Rattle.point_laws.proofs.TypesAccepted.{fields_there, set_there, thunk_there, type_there}
+use Rattle.point_laws.proofs.{PointsResolved.AreNamesOf, TextsRead.AllKnown, TextsRead.KnownItem}
+use Rattle.note_types.specs.declared.items.Item.TheVariants as items
+use Rattle.type_notes.specs.Conditions as conditions
 
 -- ---- registers
 

@@ -1,22 +1,12 @@
 -- The text of points is the document of their tables.
-use Rattle.std.proofs.Common.{◌≡◌, ℕ, suc, ◌^◌, ◌<◌, pos, true, false, List, [], ◌∷◌, ◌++◌, length}
-use Rattle.std.proofs.Common.{Some}
-use Rattle.std.proofs.Common.{refl, sym, ap, ◌∙◌, arith, append_assoc, codes}
-use Rattle.std.specs.Fmt.{decimal}
-use Rattle.std.specs.List.{flat_map}
-use Rattle.toml_parser.proofs.LexicalLemmas.{skip_from-nil}
-use Rattle.toml_writer.specs.Text.{key_text}
-use Rattle.toml.specs.Data.{integer, array, table, Items, no_items, item, Members, no_members, member, push_item}
-use Rattle.toml.specs.Tables.{Nodes, no_nodes, node, value, open_array, close, Document, Expression, define, along_dots, along_header}
-use Rattle.toml.specs.Tables.{at_key}
-use Rattle.toml.specs.Tables.{array_table, key_value}
-use Rattle.toml.specs.Parse.{lines, parse_document, skip_bom}
-use Rattle.toml.specs.Text.{IsLineText}
-use Rattle.toml.proofs.Turns.{document_some, lines_end}
-use Rattle.toml.proofs.ReadLines.{AllPrinted, run}
+use Rattle.point_laws.proofs.Common.{◌≡◌, ℕ, suc, ◌^◌, ◌<◌, pos, true, false, List, [], ◌∷◌, ◌++◌, length, Some, refl, sym, ap, ◌∙◌, arith}
+use Rattle.point_laws.proofs.Common.{append_assoc, codes, decimal, flat_map, skip_from-nil, key_text, integer, array, table, Items}
+use Rattle.point_laws.proofs.Common.{no_items, item, Members, no_members, member, Document, Expression, define, key_value, lines}
+use Rattle.point_laws.proofs.Common.{parse_document, IsLineText, lines_end, AllPrinted, run, array_line, members_of, strings, tables_of}
+use Rattle.toml.specs.Tables.{Nodes, no_nodes, node, value, open_array, close, along_dots, along_header, at_key, array_table}
+use Rattle.toml.specs.{Data.push_item, Parse.skip_bom}
 use Rattle.toml.proofs.ReadValues.{item_join, item_join-none, item_join-push}
-use Rattle.point_texts.specs.PrintedStates.{array_line}
-use Rattle.point_laws.specs.PointTables.{members_of, strings, tables_of}
+use Rattle.toml.proofs.Turns.{document_some}
 use Rattle.point_laws.proofs.TomlTexts.{AllPlain, AreLines, array_line_spelled, lines_read, number_line_spelled, strings_flat}
 use Rattle.point_laws.proofs.TomlTexts.{strings_valid}
 

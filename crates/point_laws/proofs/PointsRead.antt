@@ -1,82 +1,45 @@
 -- Under notes that a text stands for, what is printed of points is a document of TOML, and is read as the points.
-use Rattle.std.proofs.Common.{◌≡◌, ℕ, zero, suc, ◌+◌, ◌-◌, ◌^◌, ◌<◌, ◌≤◌, Bool, true, false, ◌||◌, List, [], ◌∷◌, ◌++◌, length}
-use Rattle.std.proofs.Common.{filter, map, cond}
-use Rattle.std.proofs.Common.{Option, Some, None, refl, sym, ap, subst, ◌∙◌, ⊎_elim, arith, codes, slice_get, nat_le}
-use Rattle.std.specs.List.{flat_map, position_or_len, range_with_len}
-use Rattle.std.specs.Option.{option_map_or}
-use Rattle.std.specs.Prelude.{IfOk, Ok, bytes_eq, count_by, is_none, option_and_then, option_map}
-use Rattle.std.proofs.lemmas.Bool.{cases_Bool, le-leb, lt-ltb}
-use Rattle.std.proofs.lemmas.List.{length-map}
-use Rattle.std.proofs.lemmas.List.Folds.{find_at, flat_map-map}
-use Rattle.std.proofs.lemmas.List.Sums.{sum_by-cons}
-use Rattle.std.proofs.lemmas.Option.{none-some, slice_get-map, slice_get_within}
-use Rattle.std.proofs.lemmas.Str.{IsAscii-append, IsUtf8-from_ascii, is_utf8-from_IsUtf8}
-use Rattle.std.proofs.lemmas.Str.Ascii.{IsAscii-nil}
-use Rattle.std.specs.Str.{IsAscii, is_utf8}
-use Rattle.toml.specs.Data.{array, member, no_members, table, item}
-use Rattle.ebc_base.specs.Tables.{name_number}
-use Rattle.ebc_base.proofs.Given.{ok_next, ok_then, some_of_map}
+use Rattle.point_laws.proofs.Common.{◌≡◌, ℕ, zero, suc, ◌+◌, ◌-◌, ◌^◌, ◌<◌, ◌≤◌, Bool, true, false, List, [], ◌∷◌, ◌++◌, length, filter}
+use Rattle.point_laws.proofs.Common.{map, cond, Option, Some, None, refl, sym, ap, subst, ◌∙◌, ⊎_elim, arith, codes, slice_get, nat_le}
+use Rattle.point_laws.proofs.Common.{flat_map, position_or_len, range_with_len, option_map_or, IfOk, Ok, bytes_eq, count_by, is_none}
+use Rattle.point_laws.proofs.Common.{option_and_then, option_map, cases_Bool, le-leb, lt-ltb, length-map, slice_get-map, slice_get_within}
+use Rattle.point_laws.proofs.Common.{IsAscii-append, IsAscii-nil, IsAscii, array, member, no_members, table, item, name_number, ok_next}
+use Rattle.point_laws.proofs.Common.{ok_then, IsKnown, is_locals, local_fields, point_limit, Each, IsPointNote, SlotKind, Item, FnNote}
+use Rattle.point_laws.proofs.Common.{Notes, Point, Field, Shape, State, Ty, IsName, document, array_at, count, count_beside, each, list_at}
+use Rattle.point_laws.proofs.Common.{rows_of, tables_at, item_of, register_of, AreNames, FieldText, draft_of, point_of, known, once}
+use Rattle.point_laws.proofs.Common.{FunctionDraft, NotesDraft, ShapeDraft, NameTables, known_names, notes_in, notes_of, owner_of}
+use Rattle.point_laws.proofs.Common.{locals_fields, point_locals, resolved, resolved_field, resolved_function, resolved_locals}
+use Rattle.point_laws.proofs.Common.{resolved_point, each_first, each_rest, ok_given, HaveNames, fields_at, item_text, item_texts}
+use Rattle.point_laws.proofs.Common.{register_text, register_texts, told_up_to, field_name, field_names, names_below, has_field, draft_in}
+use Rattle.point_laws.proofs.Common.{item_draft, point_draft, points_members, register_draft, strings, tables_of}
+use Rattle.std.proofs.Common.{◌||◌}
+use Rattle.std.proofs.lemmas.{List.Folds.find_at, List.Folds.flat_map-map, List.Sums.sum_by-cons, Option.none-some, Str.IsUtf8-from_ascii}
+use Rattle.std.proofs.lemmas.Str.{is_utf8-from_IsUtf8}
+use Rattle.std.specs.Str.{is_utf8}
+use Rattle.ebc_base.proofs.{Given.some_of_map, TableLaws.position_or_len-map}
 use Rattle.note_types.proofs.RecordLaws.{each_none, slots_and_locals}
-use Rattle.ebc_base.proofs.TableLaws.{position_or_len-map}
-use Rattle.note_types.specs.Known.{IsKnown, fields_of, is_locals, is_slot, local_fields}
-use Rattle.note_types.specs.Limits.{point_limit}
-use Rattle.note_types.specs.Records.{Each, IsNotes, IsPointNote, function_at}
-use Rattle.note_types.specs.Records as records
-use Rattle.note_types.specs.declared.cell.SlotKind.{SlotKind}
-use Rattle.note_types.specs.declared.cell.SlotKind.TheVariants as kinds
-use Rattle.note_types.specs.declared.items.Item.{Item}
-use Rattle.note_types.specs.declared.items.Item.TheVariants as items
-use Rattle.note_types.specs.declared.notes.FnNote.{FnNote}
-use Rattle.note_types.specs.declared.notes.Notes.{Notes}
-use Rattle.note_types.specs.declared.notes.Point.{Point}
-use Rattle.note_types.specs.declared.shape.Field.{Field}
-use Rattle.note_types.specs.declared.shape.Shape.{Shape}
+use Rattle.note_types.specs.{Known.fields_of, Known.is_slot, Records.IsNotes, Records.function_at}
 use Rattle.note_types.specs.declared.state.Fact.{Fact}
-use Rattle.note_types.specs.declared.state.State.{State}
-use Rattle.note_types.specs.declared.types.Ty.{Ty}
-use Rattle.note_texts.specs.Grammar.{IsName}
-use Rattle.note_texts.specs.Keys.{document}
-use Rattle.note_texts.specs.Lists.{array_at, count, count_beside, each, has_text, list_at, rows_of, tables_at}
-use Rattle.note_texts.specs.SlotTexts.{item_of, register_of}
-use Rattle.note_texts.specs.TypeGrammar.{AreNames}
-use Rattle.note_texts.specs.declared.cell.FieldText.{FieldText}
-use Rattle.note_draft.specs.Drafts.{draft_of, point_of}
-use Rattle.note_draft.specs.Known.{known}
-use Rattle.note_draft.specs.Once.{once}
-use Rattle.note_draft.specs.declared.draft.FunctionDraft.{FunctionDraft}
-use Rattle.note_draft.specs.declared.draft.NotesDraft.{NotesDraft}
-use Rattle.note_draft.specs.declared.draft.ShapeDraft.{ShapeDraft}
-use Rattle.note_draft.specs.declared.tables.NameTables.{NameTables}
-use Rattle.type_notes.specs.Notes.{known_names, notes_in, notes_of}
-use Rattle.type_notes.specs.Owners.{has_place, owner_of}
-use Rattle.type_notes.specs.PointLocals.{locals_fields, locals_in, point_locals, shape_fields}
-use Rattle.type_notes.specs.Resolved.{resolved, resolved_field, resolved_function, resolved_locals, resolved_point}
-use Rattle.type_notes.specs.Resolved.{resolved_shape, state_of}
-use Rattle.type_notes.proofs.ListBounds.{each_first, each_map, each_rest}
-use Rattle.type_notes.proofs.NamesFound as found
-use Rattle.type_notes.proofs.NotesLaws.{known_names-are, notes_of-notes}
-use Rattle.type_notes.proofs.Outcomes.{ok_given}
-use Rattle.point_texts.specs.NamedTypes.{HaveNames}
-use Rattle.point_texts.specs.PrintedStates.{fields_at, item_text, item_texts, point_text, points_text, register_text, register_texts}
-use Rattle.point_texts.specs.PrintedStates.{told_up_to}
-use Rattle.point_texts.specs.PrintedTypes.{field_name, field_names, names_below}
-use Rattle.rules_base.specs.Places.{has_field}
+use Rattle.note_texts.specs.Lists.{has_text}
+use Rattle.type_notes.specs.{Owners.has_place, PointLocals.locals_in, PointLocals.shape_fields, Resolved.resolved_shape, Resolved.state_of}
+use Rattle.type_notes.proofs.{ListBounds.each_map, NotesLaws.known_names-are, NotesLaws.notes_of-notes}
+use Rattle.point_texts.specs.PrintedStates.{point_text, points_text}
 use Rattle.point_texts.proofs.PrintedTypeLaws.{below_are}
-use Rattle.point_laws.specs.PointTables.{draft_in, item_draft, members_in, point_draft, point_members, points_members, register_draft}
-use Rattle.point_laws.specs.PointTables.{strings, tables_of}
 use Rattle.point_laws.specs.PrintedPoints.{IsReading, PrintedPointsAreRead, PrintedPointsAreTables}
+use Rattle.point_laws.specs.PointTables.{members_in, point_members}
 use Rattle.point_laws.proofs.NamesGiven.{HasNamesOnce, IsNamedShape, draft_named, names_once}
-use Rattle.point_laws.proofs.NamesNumbered.{Once}
 use Rattle.point_laws.proofs.PointsDocument.{AllToldPlain, Told, told_document, told_members, told_parsed, told_text}
-use Rattle.point_laws.proofs.TomlTexts.{AllPlain}
-use Rattle.point_laws.proofs.PointsResolved as resolving
-use Rattle.point_laws.proofs.PointsResolved.{AreNamesOf}
 use Rattle.point_laws.proofs.TablesRead.{AllTables, count_strings, names_again, point_read, tables_read, texts_again}
-use Rattle.point_laws.proofs.TextsRead as reading
-use Rattle.point_laws.proofs.TextsRead.{AllKnown, KnownItem, names_are_plain}
+use Rattle.point_laws.proofs.{NamesNumbered.Once, TomlTexts.AllPlain, PointsResolved.AreNamesOf, TextsRead.AllKnown, TextsRead.KnownItem}
+use Rattle.point_laws.proofs.{TextsRead.names_are_plain, AsciiTexts.told_ascii}
 use Rattle.protocol_script.specs.PrintedLaw.{HasNames}
 use Rattle.protocol_script.proofs.ReadLaws.{read_names}
-use Rattle.point_laws.proofs.AsciiTexts.{told_ascii}
+use Rattle.note_types.specs.Records as records
+use Rattle.note_types.specs.declared.cell.SlotKind.TheVariants as kinds
+use Rattle.note_types.specs.declared.items.Item.TheVariants as items
+use Rattle.type_notes.proofs.NamesFound as found
+use Rattle.point_laws.proofs.PointsResolved as resolving
+use Rattle.point_laws.proofs.TextsRead as reading
 
 -- ---- the function of a point, and its locals
 

@@ -1,42 +1,19 @@
 -- The draft of a point stands for the point.
-use Rattle.std.proofs.Common.{◌≡◌, ℕ, zero, suc, ◌+◌, ◌^◌, ◌<◌, ◌≤◌, Bool, true, false, not, List, [], ◌∷◌, length}
-use Rattle.std.proofs.Common.{filter, map}
-use Rattle.std.proofs.Common.{cond, Option, Some, None, refl, sym, ap, subst, ◌∙◌, ⊎_elim, arith, slice_get, nat_eq}
-use Rattle.std.proofs.Common.{nat_le}
-use Rattle.std.specs.List.{find, range_with_len}
-use Rattle.std.specs.Option.{option_map_or}
-use Rattle.std.specs.Prelude.{option_map}
-use Rattle.std.proofs.lemmas.Bool.{and_parts, cases_lt, eq-eqb, eqb-true, le-leb, ltb-true}
-use Rattle.std.proofs.lemmas.Bool.Decides.{nat_tests}
-use Rattle.std.proofs.lemmas.List.{length-map}
+use Rattle.point_laws.proofs.Common.{◌≡◌, ℕ, zero, suc, ◌+◌, ◌^◌, ◌<◌, ◌≤◌, Bool, true, false, not, List, [], ◌∷◌, length, filter, map}
+use Rattle.point_laws.proofs.Common.{cond, Option, Some, None, refl, sym, ap, subst, ◌∙◌, ⊎_elim, arith, slice_get, nat_eq, nat_le}
+use Rattle.point_laws.proofs.Common.{range_with_len, option_map_or, option_map, and_parts, cases_lt, eq-eqb, eqb-true, le-leb, ltb-true}
+use Rattle.point_laws.proofs.Common.{nat_tests, length-map, slice_get-map, name_number, within_some, AreFields, CellNames, IsKnown, IsState}
+use Rattle.point_laws.proofs.Common.{local_fields, type_of, Cell, Item, FnNote, Notes, Shape, State, Ty, FieldText, RegisterText}
+use Rattle.point_laws.proofs.Common.{NameTables, field_number, field_set, resolved_field, named_cell, named_type, is_left_out, told_up_to}
+use Rattle.point_laws.proofs.Common.{field_name, field_names, method_name, shape_name, item_draft, register_draft}
+use Rattle.std.specs.List.{find}
 use Rattle.std.proofs.lemmas.List.FromFn.{fill_by_all}
-use Rattle.std.proofs.lemmas.Option.{slice_get-map}
-use Rattle.ebc_base.specs.Tables.{name_number}
-use Rattle.ebc_base.proofs.Lists.{within_some}
-use Rattle.note_types.specs.Known.{AreFields, CellNames, IsKnown, IsState, local_fields}
-use Rattle.note_types.specs.States.{type_of}
-use Rattle.note_types.specs.declared.cell.Cell.{Cell}
-use Rattle.note_types.specs.declared.cell.Cell.TheVariants as cell
-use Rattle.note_types.specs.declared.items.Item.{Item}
-use Rattle.note_types.specs.declared.items.Item.TheVariants as item
-use Rattle.note_types.specs.declared.notes.FnNote.{FnNote}
-use Rattle.note_types.specs.declared.notes.Notes.{Notes}
-use Rattle.note_types.specs.declared.shape.Shape.{Shape}
-use Rattle.note_types.specs.declared.state.State.{State}
-use Rattle.note_types.specs.declared.types.Ty.{Ty}
-use Rattle.note_types.specs.declared.types.Ty.TheVariants as ty
-use Rattle.note_texts.specs.declared.cell.FieldText.{FieldText}
-use Rattle.note_texts.specs.declared.slot.RegisterText.{RegisterText}
-use Rattle.note_draft.specs.declared.tables.NameTables.{NameTables}
-use Rattle.type_notes.specs.Locals.{field_number, field_set}
-use Rattle.type_notes.specs.Resolved.{given_or_left_out, left_out, register_type, resolved_cell, resolved_field, resolved_item}
-use Rattle.type_notes.specs.Resolved.{resolved_type}
-use Rattle.point_texts.specs.NamedTypes.{named_cell, named_type}
-use Rattle.point_texts.specs.PrintedStates.{is_left_out, told_up_to}
-use Rattle.point_texts.specs.PrintedTypes.{field_name, field_names, method_name, shape_name}
-use Rattle.point_laws.specs.PointTables.{item_draft, register_draft}
-use Rattle.point_laws.proofs.TextsRead.{AllKnown, KnownItem}
+use Rattle.type_notes.specs.Resolved.{given_or_left_out, left_out, register_type, resolved_cell, resolved_item, resolved_type}
 use Rattle.point_laws.proofs.NamesNumbered.{Once, field_again, number_of_name, set_again}
+use Rattle.point_laws.proofs.TextsRead.{AllKnown, KnownItem}
+use Rattle.note_types.specs.declared.cell.Cell.TheVariants as cell
+use Rattle.note_types.specs.declared.items.Item.TheVariants as item
+use Rattle.note_types.specs.declared.types.Ty.TheVariants as ty
 
 -- names and tables of names agree with notes, and these fields with their texts
 pub record AreNamesOf (t : NameTables) (notes : Notes) (f : FnNote) (fs : List FieldText) : Type 0 where
@@ -69,17 +46,10 @@ module _ (t : NameTables) (notes : Notes) (f : FnNote) (fs : List FieldText) (a 
 
   cell_again : (c : Cell) → CellNames notes c → resolved_cell t (named_cell notes c) ≡ c
   unfolding resolved_cell named_cell
-  cell_again cell.I8 n = refl
-  cell_again cell.I16 n = refl
-  cell_again cell.I32 n = refl
-  cell_again cell.I64 n = refl
-  cell_again cell.N n = refl
-  cell_again cell.Stat n = refl
-  cell_again cell.Handle n = refl
-  cell_again cell.Entry n = refl
   cell_again (cell.Ptr s k null) n = ap (λ x. cell.Ptr x k null) (shape_again s n)
   cell_again (cell.P64 s k null) n = ap (λ x. cell.P64 x k null) (shape_again s n)
   cell_again (cell.Method m) n = ap (λ x. cell.Method x) (method_again m n)
+  cell_again c n = refl
 
   long : length (local_fields notes f) ≡ length fs
   long = ap length a.fields ∙ length-map fs (resolved_field t)
@@ -97,21 +67,13 @@ module _ (t : NameTables) (notes : Notes) (f : FnNote) (fs : List FieldText) (a 
 
   type_again : (x : Ty) → IsKnown notes f x → resolved_type t fs (named_type notes (local_fields notes f) x) ≡ x
   unfolding resolved_type named_type
-  type_again ty.Any k = refl
-  type_again (ty.Int lo hi div) k = refl
-  type_again (ty.Lin n c) k = refl
-  type_again (ty.Scaled n c hi) k = refl
   type_again (ty.Ptr s count n c null) k = ap (λ y. ty.Ptr y count n c null) (shape_again s k.names)
   type_again (ty.Local x) k = ap (λ y. ty.Local y) (field_read x k.names)
   type_again (ty.Lent c) k = ap (λ y. ty.Lent y) (cell_again c k.names)
   type_again (ty.Status set) k = ap (λ y. ty.Status y) (set_read set k.names k.bounded)
   type_again (ty.SignedStatus set) k = ap (λ y. ty.SignedStatus y) (set_read set k.names k.bounded)
-  type_again ty.Mask k = refl
-  type_again ty.Handle k = refl
-  type_again ty.Entry k = refl
   type_again (ty.Method m) k = ap (λ y. ty.Method y) (method_again m k.names)
-  type_again (ty.ThunkAt i) k = refl
-  type_again (ty.Saved r) k = refl
+  type_again t k = refl
 
   -- ---- items
 
@@ -168,22 +130,10 @@ module _ (t : NameTables) (notes : Notes) (f : FnNote) (fs : List FieldText) (a 
   left r ty.Any low e =
       let above : nat_le r 3 ≡ false = (let h = ltb-true 3 r e in grind (arith, nat_tests)) in
       rw (le-leb 1 r low, above) refl
-  left r (ty.Int lo hi div) low e = absurd cc
-  left r (ty.Lin n c) low e = absurd cc
-  left r (ty.Scaled n c hi) low e = absurd cc
-  left r (ty.Ptr s count n c null) low e = absurd cc
-  left r (ty.Local x) low e = absurd cc
-  left r (ty.Lent c) low e = absurd cc
-  left r (ty.Status set) low e = absurd cc
-  left r (ty.SignedStatus set) low e = absurd cc
-  left r ty.Mask low e = absurd cc
-  left r ty.Handle low e = absurd cc
-  left r ty.Entry low e = absurd cc
-  left r (ty.Method m) low e = absurd cc
-  left r (ty.ThunkAt i) low e = absurd cc
   left r (ty.Saved y) low e =
       let both = and_parts (nat_eq y r) (nat_le r 3) e in
       rw (le-leb 1 r low, both.1) (ap (λ k. ty.Saved k) (sym (eqb-true y r both.0)))
+  left r t low e = absurd cc
 
   told_or_left : (s : State) (r : ℕ) (b : Bool) → 1 ≤ r → IsKnown notes f (type_of s r) → is_left_out r (type_of s r) ≡ b
       → given_or_left_out t fs r (cond (not b) (Some (register_draft notes (local_fields notes f) s r)) None) ≡ type_of s r

@@ -1,53 +1,30 @@
 -- The draft of notes with what is printed of points in place of its own points stands for the notes with these points.
-use Rattle.std.proofs.Common.{◌≡◌, ℕ, ◌≤◌, Bool, true, false, not, List, [], ◌∷◌, length, map, Option, Some, None, Result, Ok, Err}
-use Rattle.std.proofs.Common.{refl, sym, ap, subst, ◌∙◌, nat_eq}
-use Rattle.std.specs.List.{position}
-use Rattle.std.specs.List.Sorted.{IsStrictlyIncreasing}
-use Rattle.std.specs.Option.{option_map_or}
-use Rattle.std.specs.Prelude.{IfOk, is_none, is_some}
-use Rattle.std.proofs.lemmas.Bool.{eqb-true}
-use Rattle.std.proofs.lemmas.List.{length-map}
+use Rattle.point_laws.proofs.Common.{◌≡◌, ℕ, ◌≤◌, Bool, true, false, not, List, [], ◌∷◌, length, map, Option, Some, None, Result, Ok, refl}
+use Rattle.point_laws.proofs.Common.{sym, ap, subst, ◌∙◌, nat_eq, position, IsStrictlyIncreasing, option_map_or, IfOk, is_none, is_some}
+use Rattle.point_laws.proofs.Common.{eqb-true, length-map, is_named, ok_then, ok_weaken, local_fields, Each, IsPointNote, TomlFault, FnNote}
+use Rattle.point_laws.proofs.Common.{Notes, Point, at, refused, known, knows_regs, knows_stack, names_of_calls, names_of_code}
+use Rattle.point_laws.proofs.Common.{names_of_data, once, repeats_register, first_descent, first_repeat, FunctionDraft, NotesDraft}
+use Rattle.point_laws.proofs.Common.{PointDraft, NameTables, holds_locals, regs_are_local, regs_have_thunks, stack_has_thunks}
+use Rattle.point_laws.proofs.Common.{stack_is_local, written_is_local, known_names, notes_in, owner_of, PointLocals, locals_fields}
+use Rattle.point_laws.proofs.Common.{point_locals, resolved, resolved_field, resolved_function, resolved_point, each_first, each_rest}
+use Rattle.point_laws.proofs.Common.{nothing_refused, ok_given, fields_at, draft_in, point_draft, with_printed}
+use Rattle.std.proofs.Common.{Err}
 use Rattle.ebc_base.specs.Steps.{◌>>=◌, passes}
-use Rattle.ebc_base.specs.Tables.{is_named}
-use Rattle.ebc_base.proofs.Given.{ok_then, ok_weaken}
-use Rattle.note_types.specs.Known.{local_fields}
-use Rattle.note_types.specs.Records.{Each, IsPointNote}
-use Rattle.note_types.specs.declared.fault.TomlFault.{TomlFault}
-use Rattle.note_types.specs.declared.notes.FnNote.{FnNote}
-use Rattle.note_types.specs.declared.notes.Notes.{Notes}
-use Rattle.note_types.specs.declared.notes.Point.{Point}
-use Rattle.note_draft.specs.Findings.{at, refused, sooner, ◌otherwise◌}
-use Rattle.note_draft.specs.Known.{known, knows_regs, knows_stack, unknown, unknown_in_functions, unknown_in_points, unknown_in_shapes}
-use Rattle.note_draft.specs.Known.{unknown_in_signatures, unknown_in_sites, unknown_in_statics, unknown_in_thunks}
-use Rattle.note_draft.specs.Once.{function_names, names_of_calls, names_of_code, names_of_data, once, repeated_in_points, repeats_register}
-use Rattle.note_draft.specs.Repeats.{first_descent, first_repeat}
-use Rattle.note_draft.specs.declared.draft.FunctionDraft.{FunctionDraft}
-use Rattle.note_draft.specs.declared.draft.NotesDraft.{NotesDraft}
-use Rattle.note_draft.specs.declared.draft.PointDraft.{PointDraft}
-use Rattle.note_draft.specs.declared.finding.Finding.{Finding}
-use Rattle.note_draft.specs.declared.draft.SiteDraft.{SiteDraft}
-use Rattle.note_draft.specs.declared.finding.Key.TheVariants as key
-use Rattle.note_draft.specs.declared.finding.Refusal.TheVariants as refusals
-use Rattle.note_draft.specs.declared.finding.TableList.TheVariants as list
-use Rattle.note_draft.specs.declared.tables.NameTables.{NameTables}
-use Rattle.type_notes.specs.Conditions as conditions
-use Rattle.type_notes.specs.Conditions.{disordered, first_point, holds_locals, regs_are_local, regs_have_thunks, stack_has_thunks}
-use Rattle.type_notes.specs.Conditions.{stack_is_local}
-use Rattle.type_notes.specs.Conditions.{stray, thunkless_points, unmet, written_is_local}
-use Rattle.type_notes.specs.Notes.{known_names, notes_in}
-use Rattle.type_notes.specs.Owners.{first_stray, owner_of}
-use Rattle.type_notes.specs.PointLocals.{PointLocals, locals_fields, point_locals}
-use Rattle.type_notes.specs.Resolved.{resolved, resolved_field, resolved_function, resolved_point, resolved_thunk}
-use Rattle.type_notes.proofs.ListBounds.{each_first, each_rest}
-use Rattle.type_notes.proofs.NamesFound.{nothing_refused}
-use Rattle.type_notes.proofs.OrderLemmas.{neither}
-use Rattle.type_notes.proofs.Outcomes.{ok_given, ok_passes}
-use Rattle.point_texts.specs.PrintedStates.{fields_at}
-use Rattle.point_laws.specs.PointTables.{draft_in, point_draft}
-use Rattle.point_laws.specs.PrintedPoints.{PrintedPointsAreAccepted, with_printed}
+use Rattle.note_draft.specs.Known.{unknown, unknown_in_functions, unknown_in_points, unknown_in_shapes, unknown_in_signatures}
+use Rattle.note_draft.specs.Known.{unknown_in_sites, unknown_in_statics, unknown_in_thunks}
+use Rattle.note_draft.specs.{Findings.sooner, Findings.◌otherwise◌, Once.function_names, Once.repeated_in_points}
+use Rattle.note_draft.specs.declared.{finding.Finding.Finding, draft.SiteDraft.SiteDraft}
+use Rattle.type_notes.specs.Conditions.{disordered, first_point, stray, thunkless_points, unmet}
+use Rattle.type_notes.specs.{Owners.first_stray, Resolved.resolved_thunk}
+use Rattle.type_notes.proofs.{OrderLemmas.neither, Outcomes.ok_passes}
+use Rattle.point_laws.specs.PrintedPoints.{PrintedPointsAreAccepted}
 use Rattle.point_laws.proofs.NoneAgain.{AllBy, NoneBy, none_again, none_descends, none_fails, none_passes}
 use Rattle.point_laws.proofs.PointsAccepted.{IsAccepted, accepted, has_as_many}
 use Rattle.point_laws.proofs.PointsRead.{AllPrinted, IsRead, all_known, all_printed, are_names, is_read, its_fields, locals_once, owned}
+use Rattle.note_draft.specs.declared.finding.Key.TheVariants as key
+use Rattle.note_draft.specs.declared.finding.Refusal.TheVariants as refusals
+use Rattle.note_draft.specs.declared.finding.TableList.TheVariants as list
+use Rattle.type_notes.specs.Conditions as conditions
 
 -- ---- one point
 

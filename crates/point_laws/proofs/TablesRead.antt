@@ -1,21 +1,12 @@
 -- The tables of points are read as the drafts of the points.
-use Rattle.std.proofs.Common.{◌≡◌, ℕ, ◌+◌, ◌≤◌, pos, true, List, [], ◌∷◌, ◌++◌, length, map}
-use Rattle.std.proofs.Common.{Option, Some, refl, ap, ◌∙◌, arith, codes, nat_le}
-use Rattle.std.specs.Prelude.{Ok, Result}
-use Rattle.std.proofs.lemmas.Bool.{le-leb}
-use Rattle.toml.specs.Data.{integer, array, Members, get_member}
-use Rattle.ebc_base.specs.Names.{name_of}
-use Rattle.note_types.specs.declared.fault.TomlFault.{TomlFault}
-use Rattle.note_texts.specs.Keys.{number_at, only_keys, row_prefix, text_of}
-use Rattle.note_texts.specs.Lists.{array_at, count, count_beside, each, list_at, row_of, rows_of, tables_at, texts_at}
-use Rattle.note_texts.specs.Lists.{texts_beside_at, texts_of}
-use Rattle.note_texts.specs.SlotTexts.{item_of, register_of}
-use Rattle.note_texts.specs.TypeGrammar.{AreNames}
+use Rattle.point_laws.proofs.Common.{◌≡◌, ℕ, ◌+◌, ◌≤◌, pos, true, List, [], ◌∷◌, ◌++◌, length, map, Option, Some, refl, ap, ◌∙◌, arith}
+use Rattle.point_laws.proofs.Common.{codes, nat_le, Ok, Result, le-leb, integer, array, Members, get_member, name_of, TomlFault, number_at}
+use Rattle.point_laws.proofs.Common.{only_keys, row_prefix, text_of, array_at, count, count_beside, each, list_at, row_of, rows_of}
+use Rattle.point_laws.proofs.Common.{tables_at, texts_at, texts_of, item_of, register_of, AreNames, ItemText, RegisterText, greatest_32}
+use Rattle.point_laws.proofs.Common.{point_of, members_of, strings, tables_of}
+use Rattle.note_texts.specs.Lists.{texts_beside_at}
 use Rattle.note_texts.proofs.NumberRanges.{name_of-complete}
-use Rattle.note_texts.specs.declared.slot.ItemText.{ItemText}
-use Rattle.note_texts.specs.declared.slot.RegisterText.{RegisterText}
-use Rattle.note_draft.specs.Drafts.{greatest_32, greatest_64, last_place, point_keys, point_made, point_of}
-use Rattle.point_laws.specs.PointTables.{members_of, strings, tables_of}
+use Rattle.note_draft.specs.Drafts.{greatest_64, last_place, point_keys, point_made}
 use Rattle.point_laws.proofs.TextsRead.{AllRead}
 
 -- texts are read one after the other

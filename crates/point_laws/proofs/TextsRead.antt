@@ -1,30 +1,18 @@
 -- What is printed of registers, items and names is read as these, and is plain.
-use Rattle.std.proofs.Common.{◌≡◌, ℕ, zero, suc, ◌+◌, ◌≤◌, Bool, true, false, not, cond, List, [], ◌∷◌, ◌++◌}
-use Rattle.std.proofs.Common.{filter, map}
-use Rattle.std.proofs.Common.{Option, Some, refl, arith, codes}
-use Rattle.std.specs.Fmt.{decimal}
-use Rattle.std.specs.List.{range_with_len}
-use Rattle.note_types.specs.Known.{IsKnown, IsState, local_fields}
-use Rattle.note_types.specs.States.{type_of}
-use Rattle.note_types.specs.declared.cell.SlotKind.{SlotKind}
-use Rattle.note_types.specs.declared.cell.SlotKind.TheVariants as kinds
-use Rattle.note_types.specs.declared.items.Item.{Item}
-use Rattle.note_types.specs.declared.items.Item.TheVariants as item_of
-use Rattle.note_types.specs.declared.notes.FnNote.{FnNote}
-use Rattle.note_types.specs.declared.notes.Notes.{Notes}
-use Rattle.note_types.specs.declared.state.State.{State}
+use Rattle.point_laws.proofs.Common.{◌≡◌, ℕ, zero, suc, ◌+◌, ◌≤◌, Bool, true, false, not, cond, List, [], ◌∷◌, ◌++◌, filter, map, Option}
+use Rattle.point_laws.proofs.Common.{Some, refl, arith, codes, decimal, range_with_len, IsKnown, IsState, local_fields, type_of, SlotKind}
+use Rattle.point_laws.proofs.Common.{Item, FnNote, Notes, State, AreNames, HaveNames, named_type, is_left_out, item_text, item_texts}
+use Rattle.point_laws.proofs.Common.{register_text, register_texts, told_up_to, item_draft, register_draft}
 use Rattle.note_texts.specs.SlotGrammar.{kind_text}
-use Rattle.note_texts.specs.SlotTexts as slots
-use Rattle.note_texts.specs.TypeGrammar.{AreNames}
 use Rattle.note_texts.specs.declared.slot.ItemText.TheVariants.{Slot, Locals}
 use Rattle.note_texts.proofs.SlotLaws.{item_read, register_read}
-use Rattle.point_texts.specs.NamedTypes.{HaveNames, named_type}
-use Rattle.point_texts.specs.PrintedStates.{is_left_out, item_text, item_texts, register_text, register_texts, told_up_to}
 use Rattle.point_texts.specs.PrintedTypes.{type_text}
 use Rattle.point_texts.proofs.PrintedTypeLaws.{type_spelled}
-use Rattle.point_laws.specs.PointTables.{item_draft, register_draft}
 use Rattle.point_laws.proofs.PlainTexts.{are_plain, decimal_plain, name_plain, plain-append, type_plain}
 use Rattle.point_laws.proofs.TomlTexts.{AllPlain}
+use Rattle.note_types.specs.declared.cell.SlotKind.TheVariants as kinds
+use Rattle.note_types.specs.declared.items.Item.TheVariants as item_of
+use Rattle.note_texts.specs.SlotTexts as slots
 
 -- each text is read as a value of its own
 abbrev pub AllRead : {A B : Type 0} → (List ℕ → Option A) → (B → List ℕ) → (B → A) → List B → Type 0

@@ -1,24 +1,13 @@
 -- What is printed of points is a document of TOML: its lines are read one after the other.
-use Rattle.std.proofs.Common.{◌≡◌, ℕ, ◌-◌, ◌^◌, ◌<◌, pos, Bool, true, false, ◌==◌, List}
-use Rattle.std.proofs.Common.{[], ◌∷◌, ◌++◌, length}
-use Rattle.std.proofs.Common.{Option, Some, None, refl, sym, ap, ◌∙◌, arith, append_assoc, codes, map, nat_le}
-use Rattle.std.proofs.Common.{option_and_then}
-use Rattle.std.proofs.lemmas.Bool.{and_parts}
-use Rattle.std.proofs.lemmas.Bool.Decides.{nat_tests}
-use Rattle.std.specs.Fmt.{decimal}
-use Rattle.std.specs.List.{flat_map, list_any}
+use Rattle.point_laws.proofs.Common.{◌≡◌, ℕ, ◌-◌, ◌^◌, ◌<◌, pos, Bool, true, false, ◌==◌, List, [], ◌∷◌, ◌++◌, length, Option, Some, None}
+use Rattle.point_laws.proofs.Common.{refl, sym, ap, ◌∙◌, arith, append_assoc, codes, map, nat_le, option_and_then, and_parts, nat_tests}
+use Rattle.point_laws.proofs.Common.{decimal, flat_map, list_any, skip_from-nil, key_text, integer, array, Items, no_items, item, Document}
+use Rattle.point_laws.proofs.Common.{Expression, define, key_value, lines, IsLineText, lines_end, AllPrinted, run, array_line, in_quotes}
+use Rattle.point_laws.proofs.Common.{listed, strings}
 use Rattle.toml_parser.specs.Lexical.{skip_blank}
-use Rattle.toml_parser.proofs.LexicalLemmas.{skip_from-nil}
-use Rattle.toml_writer.specs.Text.{encoding_of, escaped, is_control, key_text, needs_escape, quotes_after, string_text}
-use Rattle.toml.specs.Data.{integer, array, Items, no_items, item, items_depth, items_have_valid_dates}
-use Rattle.toml.specs.Tables.{Document, Expression, define, key_value}
-use Rattle.toml.specs.Parse.{line, lines}
-use Rattle.toml.specs.Text.{IsItemsText, IsLineText, IsValueText, breaks_lines}
-use Rattle.toml.proofs.Turns.{lines_end, lines_more, lines_refused}
-use Rattle.toml.proofs.Blanks.{skip_newline, skip_within}
-use Rattle.toml.proofs.ReadLines.{AllPrinted, line_turn, run}
-use Rattle.point_texts.specs.PrintedStates.{array_line, in_quotes, listed}
-use Rattle.point_laws.specs.PointTables.{strings}
+use Rattle.toml_writer.specs.Text.{encoding_of, escaped, is_control, needs_escape, quotes_after, string_text}
+use Rattle.toml.specs.{Data.items_depth, Data.items_have_valid_dates, Parse.line, Text.IsItemsText, Text.IsValueText, Text.breaks_lines}
+use Rattle.toml.proofs.{Turns.lines_more, Turns.lines_refused, Blanks.skip_newline, Blanks.skip_within, ReadLines.line_turn}
 use Rattle.point_laws.proofs.PlainTexts.{are_plain, is_plain}
 
 -- ---- strings

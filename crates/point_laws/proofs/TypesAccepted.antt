@@ -1,36 +1,14 @@
 -- What a printed type names is there.
-use Rattle.std.proofs.Common.{◌≡◌, ℕ, ◌<◌, Bool, true, false, List, [], ◌∷◌, length, map, filter, cond, Option, Some}
-use Rattle.std.proofs.Common.{refl, sym, ap, ◌∙◌, arith, slice_get}
-use Rattle.std.specs.List.{list_all, range_with_len}
-use Rattle.std.specs.Option.{option_map_or}
-use Rattle.std.specs.Prelude.{bytes_eq}
-use Rattle.std.proofs.lemmas.Bool.{lt-ltb}
-use Rattle.std.proofs.lemmas.List.{length-map}
-use Rattle.std.proofs.lemmas.List.Folds.{list_any_at}
-use Rattle.std.proofs.lemmas.Option.{get_or_from_slice_get, slice_get_within}
-use Rattle.std.proofs.lemmas.Slice.Eq.{bytes_eq-Decides}
-use Rattle.ebc_base.specs.Tables.{is_named}
-use Rattle.ebc_base.proofs.Lists.{within_some}
-use Rattle.note_types.specs.Known.{AreFields, CellNames, IsKnown, local_fields}
-use Rattle.note_types.specs.declared.cell.Cell.{Cell}
+use Rattle.point_laws.proofs.Common.{◌≡◌, ℕ, ◌<◌, Bool, true, false, List, [], ◌∷◌, length, map, filter, cond, Option, Some, refl, sym, ap}
+use Rattle.point_laws.proofs.Common.{◌∙◌, arith, slice_get, list_all, range_with_len, option_map_or, bytes_eq, lt-ltb, length-map}
+use Rattle.point_laws.proofs.Common.{list_any_at, get_or_from_slice_get, slice_get_within, bytes_eq-Decides, is_named, within_some}
+use Rattle.point_laws.proofs.Common.{AreFields, CellNames, IsKnown, local_fields, Cell, FnNote, Notes, Shape, Ty, FieldText, knows_type}
+use Rattle.point_laws.proofs.Common.{NameTables, has_field, is_field, resolved_field, has_fields, has_thunk, named_cell, named_type}
+use Rattle.point_laws.proofs.Common.{field_name, field_names, method_name, names_below, shape_name, has}
+use Rattle.note_draft.specs.Known.{knows_cell}
+use Rattle.point_laws.proofs.{NamesNumbered.name_kept, PointsResolved.AreNamesOf, PointsResolved.name_there}
 use Rattle.note_types.specs.declared.cell.Cell.TheVariants as cell
-use Rattle.note_types.specs.declared.notes.FnNote.{FnNote}
-use Rattle.note_types.specs.declared.notes.Notes.{Notes}
-use Rattle.note_types.specs.declared.shape.Shape.{Shape}
-use Rattle.note_types.specs.declared.types.Ty.{Ty}
 use Rattle.note_types.specs.declared.types.Ty.TheVariants as ty
-use Rattle.note_texts.specs.declared.cell.FieldText.{FieldText}
-use Rattle.note_draft.specs.Known.{knows_cell, knows_type}
-use Rattle.note_draft.specs.declared.tables.NameTables.{NameTables}
-use Rattle.rules_base.specs.Places.{has_field}
-use Rattle.type_notes.specs.Locals.{is_field}
-use Rattle.type_notes.specs.Resolved.{resolved_field}
-use Rattle.type_notes.specs.TypeKinds.{has_fields, has_thunk}
-use Rattle.point_texts.specs.NamedTypes.{named_cell, named_type}
-use Rattle.point_texts.specs.PrintedTypes.{field_name, field_names, method_name, names_below, shape_name}
-use Rattle.point_texts.proofs.PrintedTypeLaws.{has}
-use Rattle.point_laws.proofs.NamesNumbered.{name_kept}
-use Rattle.point_laws.proofs.PointsResolved.{AreNamesOf, name_there}
 
 same : (a : List ℕ) → bytes_eq a a ≡ true
 same a = (bytes_eq-Decides a a).1 refl
@@ -53,35 +31,17 @@ module _ (t : NameTables) (notes : Notes) (f : FnNote) (fs : List FieldText) (a 
 
   cell_there : (c : Cell) → CellNames notes c → knows_cell t (named_cell notes c) ≡ true
   unfolding named_cell
-  cell_there cell.I8 n = refl
-  cell_there cell.I16 n = refl
-  cell_there cell.I32 n = refl
-  cell_there cell.I64 n = refl
-  cell_there cell.N n = refl
-  cell_there cell.Stat n = refl
-  cell_there cell.Handle n = refl
-  cell_there cell.Entry n = refl
   cell_there (cell.Ptr s k null) n = shape_there s n
   cell_there (cell.P64 s k null) n = shape_there s n
   cell_there (cell.Method m) n = method_there m n
+  cell_there c n = refl
 
   pub type_there : (x : Ty) → IsKnown notes f x → knows_type t (named_type notes (local_fields notes f) x) ≡ true
   unfolding named_type
-  type_there ty.Any k = refl
-  type_there (ty.Int lo hi div) k = refl
-  type_there (ty.Lin n c) k = refl
-  type_there (ty.Scaled n c hi) k = refl
   type_there (ty.Ptr s count n c null) k = shape_there s k.names
-  type_there (ty.Local x) k = refl
   type_there (ty.Lent c) k = cell_there c k.names
-  type_there (ty.Status set) k = refl
-  type_there (ty.SignedStatus set) k = refl
-  type_there ty.Mask k = refl
-  type_there ty.Handle k = refl
-  type_there ty.Entry k = refl
   type_there (ty.Method m) k = method_there m k.names
-  type_there (ty.ThunkAt i) k = refl
-  type_there (ty.Saved r) k = refl
+  type_there t k = refl
 
   -- ---- fields
 
@@ -119,39 +79,15 @@ module _ (t : NameTables) (notes : Notes) (f : FnNote) (fs : List FieldText) (a 
 
   pub fields_there : (x : Ty) → IsKnown notes f x → has_fields fs (named_type notes (local_fields notes f) x) ≡ true
   unfolding named_type
-  fields_there ty.Any k = refl
-  fields_there (ty.Int lo hi div) k = refl
-  fields_there (ty.Lin n c) k = refl
-  fields_there (ty.Scaled n c hi) k = refl
-  fields_there (ty.Ptr s count n c null) k = refl
   fields_there (ty.Local x) k = field_there x k.names
-  fields_there (ty.Lent c) k = refl
   fields_there (ty.Status set) k = set_there set k.names
   fields_there (ty.SignedStatus set) k = set_there set k.names
-  fields_there ty.Mask k = refl
-  fields_there ty.Handle k = refl
-  fields_there ty.Entry k = refl
-  fields_there (ty.Method m) k = refl
-  fields_there (ty.ThunkAt i) k = refl
-  fields_there (ty.Saved r) k = refl
+  fields_there t k = refl
 
   -- ---- thunk cells
 
   pub thunk_there : (thunks : ℕ) → length notes.thunk ≡ thunks → (x : Ty) → IsKnown notes f x
       → has_thunk thunks (named_type notes (local_fields notes f) x) ≡ true
   unfolding named_type
-  thunk_there thunks n ty.Any k = refl
-  thunk_there thunks n (ty.Int lo hi div) k = refl
-  thunk_there thunks n (ty.Lin l c) k = refl
-  thunk_there thunks n (ty.Scaled l c hi) k = refl
-  thunk_there thunks n (ty.Ptr s count l c null) k = refl
-  thunk_there thunks n (ty.Local x) k = refl
-  thunk_there thunks n (ty.Lent c) k = refl
-  thunk_there thunks n (ty.Status set) k = refl
-  thunk_there thunks n (ty.SignedStatus set) k = refl
-  thunk_there thunks n ty.Mask k = refl
-  thunk_there thunks n ty.Handle k = refl
-  thunk_there thunks n ty.Entry k = refl
-  thunk_there thunks n (ty.Method m) k = refl
   thunk_there thunks n (ty.ThunkAt i) k = let within = k.names in lt-ltb i thunks (omega arith)
-  thunk_there thunks n (ty.Saved r) k = refl
+  thunk_there thunks n t k = refl

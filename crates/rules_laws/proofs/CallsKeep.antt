@@ -1,49 +1,17 @@
 -- Calls, thunks and jumps keep the conditions on a state.
-use Rattle.std.proofs.Common.{◌≡◌, ℕ, suc, ◌^◌, ◌<◌, ◌⊎◌, Bool, true, false, nat_lt, nat_eq, List, [], ◌∷◌, length, Option, None, Some}
-use Rattle.std.proofs.Common.{slice_get, if◌then◌else◌, refl, ⊎_elim, inl, inr, arith, ℤ}
-use Rattle.std.specs.Prelude.{IfSome, IfOk, Ok, Err, bit_or}
-use Rattle.std.specs.Int.{bit_at}
-use Rattle.std.proofs.lemmas.Bool.{cases_eq}
-use Rattle.std.proofs.lemmas.Nat.{or_lt}
-use Rattle.std.proofs.lemmas.Nat.Bits.{bit_at-lt, bit_at-pow_other, bit_at-zero, bit_at_or}
-use Rattle.std.proofs.Math.Pow.{pow-lt}
-use Rattle.ebc_insn.specs.declared.Cond.{Cond}
-use Rattle.ebc_insn.specs.declared.Cond.TheVariants.{Always, Set, Clear}
-use Rattle.ebc_insn.specs.declared.Extra.{Extra}
-use Rattle.ebc_insn.specs.declared.Operand.{Operand}
-use Rattle.note_types.specs.States.{type_of}
-use Rattle.note_types.specs.declared.cell.SlotKind.{SlotKind}
-use Rattle.note_types.specs.declared.items.Item.{Item}
-use Rattle.note_types.specs.declared.items.Item.TheVariants.{Slot}
-use Rattle.note_types.specs.declared.notes.FnNote.{FnNote}
-use Rattle.note_types.specs.declared.notes.Notes.{Notes}
-use Rattle.note_types.specs.declared.notes.Signature.{Signature}
-use Rattle.note_types.specs.declared.notes.Want.{Want}
-use Rattle.note_types.specs.declared.notes.Want.TheVariants as want
-use Rattle.note_types.specs.declared.notes.WantParam.{WantParam}
-use Rattle.note_types.specs.declared.rule.RuleName.TheVariants as rule
-use Rattle.note_types.specs.declared.state.State.{State}
-use Rattle.note_types.specs.declared.types.Ty.{Ty}
-use Rattle.note_types.specs.declared.types.Ty.TheVariants as ty
-use Rattle.rules_base.specs.declared.here.Here.{Here}
-use Rattle.rules_base.specs.Parts.{and_then}
-use Rattle.rules_flow.specs.Arguments.{all_lent_out, lent_out}
-use Rattle.rules_flow.specs.Calls.{break_row, call_fails, call_native_row, call_row, call_to, callee_at, callee_method, called}
-use Rattle.rules_flow.specs.Calls.{is_next_thunk, may_return, native_call, native_called, of_method, result_type, return_row, signature_at}
-use Rattle.rules_flow.specs.Calls.{site_at, with_thunk}
-use Rattle.rules_flow.specs.Jumps.{jump8_row, jump_row, jump_to, jumps, point_at, relative, target_of}
-use Rattle.rules_flow.specs.Successors.{ends, falls}
+use Rattle.rules_laws.proofs.Common.{◌≡◌, ℕ, Bool, true, false, nat_eq, Option, None, Some, slice_get, if◌then◌else◌, refl, ℤ, IfSome, IfOk}
+use Rattle.rules_laws.proofs.Common.{Ok, Err, Cond, Always, Set, Clear, Extra, Operand, type_of, FnNote, Notes, Signature, State, Ty, Here}
+use Rattle.rules_laws.proofs.Common.{and_then, all_lent_out, break_row, call_fails, call_native_row, call_row, call_to, callee_at}
+use Rattle.rules_laws.proofs.Common.{callee_method, called, is_next_thunk, may_return, native_call, native_called, return_row, signature_at}
+use Rattle.rules_laws.proofs.Common.{with_thunk, jump8_row, jump_row, jump_to, jumps, point_at, relative, target_of, ends, falls, IsKnown}
+use Rattle.rules_laws.proofs.Common.{IsState, IsNotes, AreStates, or_else, some_choice, some_any}
+use Rattle.rules_flow.specs.{Calls.of_method, Calls.result_type, Calls.site_at, Found.number_from}
 use Rattle.rules_laws.proofs.Options.{ok_also, ok_anything, ok_choice, ok_some, ok_then, some_then}
-use Rattle.rules_laws.proofs.SumsKeep.{any_known}
-use Rattle.rules_laws.proofs.FramesKeep.{each_register, fall_state}
-use Rattle.rules_laws.proofs.NarrowKeeps.{narrow_keeps}
-use Rattle.note_types.specs.Known.{AreFields, IsKnown, IsState, local_fields}
-use Rattle.note_types.specs.Records.{IsNotes}
-use Rattle.rules_laws.specs.Keeping.{AreStates}
-use Rattle.ebc_base.specs.Steps.{or_else}
-use Rattle.rules_flow.specs.Found.{number_from}
+use Rattle.rules_laws.proofs.{LocalFields.AreLocal, LocalFields.all_lent_out-local, SumsKeep.any_known, FramesKeep.each_register}
+use Rattle.rules_laws.proofs.{FramesKeep.fall_state, NarrowKeeps.narrow_keeps}
 use Rattle.note_types.proofs.RecordLaws.{results_known, replies_known}
-use Rattle.ebc_base.proofs.Given.{some_choice, some_any}
+use Rattle.note_types.specs.declared.rule.RuleName.TheVariants as rule
+use Rattle.note_types.specs.declared.types.Ty.TheVariants as ty
 
 -- ---- calls
 
@@ -93,53 +61,8 @@ call_row-keeps notes f here s far rel op extra n h =
 
 -- ---- native calls
 
--- a set of local fields
-record AreLent (notes : Notes) (f : FnNote) (set : ℕ) : Type 0 where
-  below : set < 2 ^ 64
-  fields : AreFields notes f set
-
-no_lent : (notes : Notes) (f : FnNote) → AreLent notes f 0
-no_lent notes f = record { below = omega arith; fields = λ x h. let z = bit_at-zero x in absurd (omega arith) }
-
--- the one bit of a power
-power_bit : (x y : ℕ) → bit_at (2 ^ x) y ≡ 1 → y ≡ x
-power_bit x y h = ⊎_elim (λ e. e) (λ n. let z = bit_at-pow_other x y n in absurd (omega arith)) (cases_eq y x)
-
--- a bit of an `|` is one of either number
-either_bit : (a b x : ℕ) → bit_at (bit_or a b) x ≡ 1 → (bit_at a x ≡ 1) ⊎ (bit_at b x ≡ 1)
-either_bit a b x h =
-    let m = bit_at_or a b x in let k = bit_at-lt a x in let l = bit_at-lt b x in
-    ⊎_elim (λ e. inl e) (λ n. inr (let p : ¬ (bit_at a x ≡ 1) = n in omega arith)) (cases_eq (bit_at a x) 1)
-
-one_lent : (notes : Notes) (f : FnNote) (x : ℕ) → x < 64 → x < length (local_fields notes f) → (b : Bool)
-    → AreLent notes f (if b then 2 ^ x else 0)
-one_lent notes f x w l true = record { below = pow-lt w; fields = λ y h. let e : y ≡ x = power_bit x y h in omega arith }
-one_lent notes f x w l false = no_lent notes f
-
-lent_out-fields : (notes : Notes) (f : FnNote) (w : Want) (x : Item) → ((kind : SlotKind) (t : Ty) → x ≡ Slot kind t → IsKnown notes f t)
-    → AreLent notes f (lent_out w x)
-lent_out-fields notes f (want.Out cell) (Slot kind (ty.Local x)) h = let k = h kind (ty.Local x) refl in
-    one_lent notes f x k.bounded k.names (nat_lt x 64)
-lent_out-fields notes f _ _ h = no_lent notes f
-
-or_lent : (notes : Notes) (f : FnNote) (a b : ℕ) → AreLent notes f a → AreLent notes f b → AreLent notes f (bit_or a b)
-or_lent notes f a b h g = record {
-  below = or_lt 64 a b h.below g.below;
-  fields = λ x e. ⊎_elim (h.fields x) (g.fields x) (either_bit a b x e);
-}
-
-all_lent_out-fields : (notes : Notes) (f : FnNote) (params : List WantParam) (items : List Item)
-    → ((k : ℕ) (kind : SlotKind) (t : Ty) → slice_get items k ≡ Some (Slot kind t) → IsKnown notes f t)
-    → AreLent notes f (all_lent_out params items)
-unfolding all_lent_out
-all_lent_out-fields notes f [] items h = no_lent notes f
-all_lent_out-fields notes f (p ∷ ps) [] h = no_lent notes f
-all_lent_out-fields notes f (p ∷ ps) (x ∷ xs) h =
-    or_lent notes f (lent_out p.want x) (all_lent_out ps xs) (lent_out-fields notes f p.want x (λ kind t e. h 0 kind t cc))
-    (all_lent_out-fields notes f ps xs (λ k kind t e. h (suc k) kind t e))
-
 result_type-known : (notes : Notes) (f : FnNote) (o : Option Ty) (lent : ℕ) → ((t : Ty) → o ≡ Some t → IsKnown notes f t)
-    → AreLent notes f lent → IsKnown notes f (result_type o lent)
+    → AreLocal notes f lent → IsKnown notes f (result_type o lent)
 result_type-known notes f None lent h l = any_known notes f
 result_type-known notes f (Some (ty.Status g)) lent h l = record { bounded = l.below; names = l.fields }
 result_type-known notes f (Some t) lent h l = h t refl
@@ -150,7 +73,7 @@ unfolding native_call
 native_call-keeps notes f s g k h =
     ok_also (AreStates notes f) (Ok (falls (native_called s g.result (all_lent_out g.params s.items)))) _
     (fall_state notes f (native_called s g.result (all_lent_out g.params s.items)) (called_keeps notes f s _ _ h
-    (result_type-known notes f g.result (all_lent_out g.params s.items) k (all_lent_out-fields notes f g.params s.items h.slots))))
+    (result_type-known notes f g.result (all_lent_out g.params s.items) k (all_lent_out-local notes f g.params s.items h.slots))))
 
 -- what a signature says of its result is known
 abbrev ReplyKnown : Notes → FnNote → Signature → Type 0

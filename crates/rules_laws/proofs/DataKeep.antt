@@ -1,31 +1,19 @@
 -- The instructions on data keep the conditions on a state.
-use Rattle.std.proofs.Common.{ℕ, ◌-◌, ◌/◌, ◌^◌, ◌<◌, ◌≤◌, Bool, true, false, ◌&&◌, nat_lt, nat_eq, min, List, Option, None, Some}
-use Rattle.std.proofs.Common.{if◌then◌else◌, arith}
-use Rattle.std.specs.Prelude.{IfSome, IfOk, Result, Ok, Err}
-use Rattle.std.proofs.lemmas.Bool.{ltb-true}
-use Rattle.std.proofs.Math.Nat.{div-le_self, div-mul-le_self}
-use Rattle.std.proofs.Math.Pow.{pow-lt, shr_mono}
+use Rattle.rules_laws.proofs.Common.{ℕ, ◌-◌, ◌/◌, ◌^◌, ◌<◌, ◌≤◌, Bool, true, false, ◌&&◌, nat_lt, nat_eq, min, List, Option, None, Some}
+use Rattle.rules_laws.proofs.Common.{if◌then◌else◌, arith, IfSome, IfOk, Result, Ok, Err, ltb-true, div-le_self, pow-lt, ArithOp, Add, Sub}
+use Rattle.rules_laws.proofs.Common.{Mulu, Divu, Modu, And, Or, Shl, Shr, computed, DivideError, FnNote, Notes, Shape, Ty, Span}
+use Rattle.rules_laws.proofs.Common.{constant_of, full, span_of, computed_type, IsKnown, some_choice, some_any}
+use Rattle.std.proofs.{Math.Nat.div-mul-le_self, Math.Pow.shr_mono}
 use Rattle.std.proofs.lemmas.Nat.{le-div}
-use Rattle.ebc_insn.specs.declared.ArithOp.{ArithOp}
-use Rattle.ebc_insn.specs.declared.ArithOp.TheVariants.{Add, Sub, Mul, Mulu, Divu, Modu, And, Or, Shl, Shr}
-use Rattle.machine_alu.specs.Alu.{bits_of, computed}
-use Rattle.machine_alu.specs.declared.DivideError.{DivideError}
-use Rattle.note_types.specs.declared.notes.FnNote.{FnNote}
-use Rattle.note_types.specs.declared.notes.Notes.{Notes}
-use Rattle.note_types.specs.declared.shape.Shape.{Shape}
-use Rattle.note_types.specs.declared.types.Ty.{Ty}
-use Rattle.note_types.specs.declared.types.Ty.TheVariants as ty
-use Rattle.rules_base.specs.declared.parts.Span.{Span}
-use Rattle.rules_base.specs.Parts.{constant_of, full, is_int, is_int_below, span_of}
-use Rattle.rules_data.specs.Arithmetic.{by_constant, common_bits, computed_type, divided, error_bit, error_status, fold_row, folded}
-use Rattle.rules_data.specs.Arithmetic.{is_last_bit, is_unary, or_ints, or_other, remainder, shifted_left, shifted_right, wide_row}
-use Rattle.rules_laws.proofs.Options.{some_else, some_if, some_then}
+use Rattle.ebc_insn.specs.declared.ArithOp.TheVariants.{Mul}
+use Rattle.machine_alu.specs.Alu.{bits_of}
+use Rattle.rules_base.specs.Parts.{is_int, is_int_below}
+use Rattle.rules_data.specs.Arithmetic.{by_constant, common_bits, divided, error_bit, error_status, fold_row, folded, is_last_bit, is_unary}
+use Rattle.rules_data.specs.Arithmetic.{or_ints, or_other, remainder, shifted_left, shifted_right, wide_row}
 use Rattle.rules_laws.proofs.SumsKeep.{IsSpan, any_known, constant_known, constant_of_below, difference-known, if_known, int_known}
 use Rattle.rules_laws.proofs.SumsKeep.{product-known, span_of_known, sum-known}
-use Rattle.rules_laws.proofs.LoadsKeep.{status_known}
-use Rattle.rules_laws.proofs.OutcomesBelow.{computed_below}
-use Rattle.note_types.specs.Known.{IsKnown}
-use Rattle.ebc_base.proofs.Given.{some_choice, some_any}
+use Rattle.rules_laws.proofs.{Options.some_else, Options.some_if, Options.some_then, LoadsKeep.status_known, OutcomesBelow.computed_below}
+use Rattle.note_types.specs.declared.types.Ty.TheVariants as ty
 
 -- ---- rows on 64 bits
 

@@ -1,31 +1,14 @@
 -- The instructions on data tell what their rows give, and the first rule by which these fail.
-use Rattle.std.proofs.Common.{◌≡◌, ℕ, Bool, Option, refl, sym, ap, ◌∙◌}
-use Rattle.std.specs.Prelude.{Ok, Err, ℤ, is_none}
-use Rattle.natural_index.specs.declared.Index.{Index}
-use Rattle.ebc_insn.specs.declared.ArithOp.{ArithOp}
-use Rattle.ebc_insn.specs.declared.CmpOp.{CmpOp}
-use Rattle.ebc_insn.specs.declared.Extra.{Extra}
-use Rattle.ebc_insn.specs.declared.Insn.{Insn}
-use Rattle.ebc_insn.specs.declared.Insn.TheVariants.{Compare, Arith, Move, MoveSigned, MoveImm}
-use Rattle.ebc_insn.specs.declared.Operand.{Operand}
-use Rattle.ebc_insn.specs.declared.Size.{Size}
-use Rattle.note_types.specs.declared.notes.FnNote.{FnNote}
-use Rattle.note_types.specs.declared.notes.Notes.{Notes}
-use Rattle.note_types.specs.declared.rule.RuleName.{RuleName}
-use Rattle.note_types.specs.declared.rule.RuleName.TheVariants as rule
-use Rattle.note_types.specs.declared.state.State.{State}
-use Rattle.rules_base.specs.declared.here.Here.{Here}
-use Rattle.rules_base.specs.Change.{changed}
-use Rattle.rules_base.specs.FirstRule.{Tells}
-use Rattle.rules_base.specs.Outcomes.{gives_map, OrRule}
-use Rattle.rules_base.specs.Values.{form_access}
-use Rattle.rules_data.specs.Arithmetic.{divisor_known}
-use Rattle.rules_data.specs.Data.{after_data, arith_row, compare_row, data_change, data_row, held, left_operand, move_imm_row, move_row}
-use Rattle.rules_data.specs.Data.{move_signed_row, plain_row}
+use Rattle.rules_laws.proofs.Common.{◌≡◌, ℕ, Bool, Option, refl, sym, ap, ◌∙◌, Ok, Err, ℤ, is_none, Index, ArithOp, CmpOp, Extra, Insn}
+use Rattle.rules_laws.proofs.Common.{Compare, Arith, Move, MoveSigned, MoveImm, Operand, Size, FnNote, Notes, RuleName, State, Here}
+use Rattle.rules_laws.proofs.Common.{changed, Tells, gives_map, OrRule, form_access, divisor_known, after_data, arith_row, compare_row}
+use Rattle.rules_laws.proofs.Common.{data_change, data_row, held, left_operand, move_imm_row, move_row, move_signed_row, DataFirst}
+use Rattle.rules_laws.proofs.Common.{DataRelated}
 use Rattle.rules_data.specs.Rule.{arith_part, change_part, compare_part, data_part, left_part, move_imm_part, move_part, move_signed_part}
 use Rattle.rules_data.specs.Rule.{plain_part}
-use Rattle.rules_laws.specs.Exact.{DataFirst, DataRelated}
+use Rattle.rules_data.specs.Data.{plain_row}
 use Rattle.rules_laws.proofs.FirstRule.{tells_alone, tells_also, tells_beside, tells_needs, tells_seen, tells_then, tells_where}
+use Rattle.note_types.specs.declared.rule.RuleName.TheVariants as rule
 
 -- ---- rows
 

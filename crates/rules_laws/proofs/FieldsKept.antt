@@ -1,150 +1,57 @@
 -- The rows keep what is said of written fields and made thunks.
-use Rattle.std.proofs.Common.{◌≡◌, ℕ, suc, ◌+◌, ◌^◌, ◌<◌, ◌≤◌, ◌⊎◌, Bool, true, false, not, ◌&&◌, nat_lt, nat_eq, List, [], ◌∷◌, length}
-use Rattle.std.proofs.Common.{Option, None, Some, slice_get, if◌then◌else◌, refl, ⊎_elim, inl, inr, arith, ℤ, pos}
-use Rattle.std.specs.Prelude.{IfOk, Ok, Err, bit_or, is_none, int_le, unsigned_abs}
-use Rattle.std.specs.Int.{bit_at}
-use Rattle.std.proofs.lemmas.Bool.{and_parts, cases_eq, eqb-true, false≢true, ltb-true}
-use Rattle.std.proofs.lemmas.Nat.{or_lt}
-use Rattle.std.proofs.lemmas.Nat.Bits.{bit_at-lt, bit_at-pow_other, bit_at-zero, bit_at_or}
-use Rattle.std.proofs.Math.Pow.{pow-lt}
-use Rattle.natural_index.specs.declared.Index.{Index}
-use Rattle.ebc_base.specs.Steps.{or_else}
-use Rattle.ebc_insn.specs.declared.CmpOp.{CmpOp}
-use Rattle.ebc_insn.specs.declared.Cond.{Cond}
-use Rattle.ebc_insn.specs.declared.Cond.TheVariants.{Always, Set, Clear}
-use Rattle.ebc_insn.specs.declared.Extra.{Extra}
-use Rattle.ebc_insn.specs.declared.Insn.{Insn}
-use Rattle.ebc_insn.specs.declared.Insn.TheVariants as insn
-use Rattle.ebc_insn.specs.declared.Operand.{Operand}
-use Rattle.ebc_insn.specs.declared.Size.{Size}
-use Rattle.ebc_insn.specs.declared.Size.TheVariants.{Qword}
-use Rattle.note_types.specs.Known.{AreFields, IsKnown, IsState, local_fields}
-use Rattle.note_types.specs.Records.{IsNotes}
-use Rattle.note_types.specs.States.{type_of}
-use Rattle.note_types.specs.declared.cell.SlotKind.{SlotKind}
-use Rattle.note_types.specs.declared.cell.SlotKind.TheVariants.{N}
-use Rattle.note_types.specs.declared.items.Item.{Item}
-use Rattle.note_types.specs.declared.items.Item.TheVariants.{Slot, Locals}
-use Rattle.note_types.specs.declared.notes.FnNote.{FnNote}
-use Rattle.note_types.specs.declared.notes.Notes.{Notes}
-use Rattle.note_types.specs.declared.notes.Signature.{Signature}
-use Rattle.note_types.specs.declared.notes.Want.{Want}
-use Rattle.note_types.specs.declared.notes.Want.TheVariants as want
-use Rattle.note_types.specs.declared.notes.WantParam.{WantParam}
-use Rattle.note_types.specs.declared.rule.RuleName.TheVariants as rule
-use Rattle.note_types.specs.declared.state.Fact.{Fact}
-use Rattle.note_types.specs.declared.state.State.{State}
-use Rattle.note_types.specs.declared.types.Ty.{Ty}
-use Rattle.note_types.specs.declared.types.Ty.TheVariants as ty
-use Rattle.note_types.proofs.RecordLaws.{params_known}
-use Rattle.rules_base.specs.Access.{stores, takes, target_at, target_place}
-use Rattle.rules_base.specs.Change.{changed, with_fact, with_store, with_type}
-use Rattle.rules_base.specs.Destinations.{destination, put}
-use Rattle.rules_base.specs.Operands.{extra_distance, index_distance, nowhere}
-use Rattle.rules_base.specs.Outcomes.{also, beside, needs}
-use Rattle.ebc_width.specs.Width.{wrap64}
-use Rattle.rules_base.specs.Parts.{constant}
-use Rattle.rules_base.specs.Places.{locals_size, place_at}
-use Rattle.rules_base.specs.Values.{form_access, operand_value, register_type}
-use Rattle.rules_base.specs.declared.access.Access.{Access}
-use Rattle.rules_base.specs.declared.access.Access.TheVariants as access
-use Rattle.rules_base.specs.declared.access.Loaded.{Loaded}
-use Rattle.rules_data.specs.Compares.{compares}
-use Rattle.rules_data.specs.Moves.{immediate}
+use Rattle.rules_laws.proofs.Common.{◌≡◌, ℕ, ◌+◌, ◌<◌, ◌≤◌, Bool, true, false, not, ◌&&◌, nat_lt, nat_eq, List, length, Option, None, Some}
+use Rattle.rules_laws.proofs.Common.{if◌then◌else◌, refl, arith, ℤ, pos, IfOk, Ok, Err, is_none, int_le, unsigned_abs, and_parts, eqb-true}
+use Rattle.rules_laws.proofs.Common.{false≢true, ltb-true, Index, or_else, CmpOp, Cond, Always, Set, Clear, Extra, Insn, Operand, Size}
+use Rattle.rules_laws.proofs.Common.{Qword, IsKnown, IsState, local_fields, IsNotes, type_of, SlotKind, N, Item, Slot, Locals, FnNote}
+use Rattle.rules_laws.proofs.Common.{Notes, Signature, Fact, State, Ty, params_known, takes, target_at, changed, with_fact, with_store}
+use Rattle.rules_laws.proofs.Common.{with_type, destination, put, extra_distance, index_distance, nowhere, also, beside, needs, wrap64}
+use Rattle.rules_laws.proofs.Common.{constant, locals_size, place_at, form_access, operand_value, register_type, Access, Loaded, immediate}
+use Rattle.rules_laws.proofs.Common.{Change, Destination, Register, Memory, Here, Distance, Place, after_data, arith_row, compare_imm_row}
+use Rattle.rules_laws.proofs.Common.{compare_row, data_change, data_row, fact_of, flag, held, left_operand, left_value, move_access}
+use Rattle.rules_laws.proofs.Common.{move_imm_row, move_index_row, move_relative_row, move_row, move_signed_row, store_special_row}
+use Rattle.rules_laws.proofs.Common.{all_lent_out, break_row, call_fails, call_native_row, call_row, call_to, called, callee_at}
+use Rattle.rules_laws.proofs.Common.{callee_method, is_next_thunk, may_return, native_call, native_called, return_row, signature_at}
+use Rattle.rules_laws.proofs.Common.{with_thunk, after_flow, flow_row, frame_move, plain_row, slot_kind, unrelocated, drop_to, frame_row}
+use Rattle.rules_laws.proofs.Common.{has_room, left_after, loses, pop_destination, pop_row, popped_type, push_row, slot_access, slot_type}
+use Rattle.rules_laws.proofs.Common.{top_type, with_item, with_left, without_top, jump8_row, jump_row, jump_to, jumps, point_at, relative}
+use Rattle.rules_laws.proofs.Common.{target_of, narrow, narrowed_if, ends, falls, Successors}
+use Rattle.rules_base.specs.Access.{stores, target_place}
+use Rattle.rules_data.specs.{Compares.compares, Data.plain_row as plain_data}
 use Rattle.rules_data.specs.declared.rows.Held.{Held}
-use Rattle.rules_base.specs.declared.change.Change.{Change}
-use Rattle.rules_base.specs.declared.change.Change.TheVariants as change
-use Rattle.rules_base.specs.declared.destination.Destination.{Destination}
-use Rattle.rules_base.specs.declared.destination.Destination.TheVariants.{Register, Memory}
-use Rattle.rules_base.specs.declared.here.Here.{Here}
-use Rattle.rules_base.specs.declared.operand.Distance.{Distance}
-use Rattle.rules_base.specs.declared.place.Place.{Place}
-use Rattle.rules_base.specs.declared.place.Place.TheVariants as place
-use Rattle.rules_data.specs.Data.{after_data, arith_row, compare_imm_row, compare_row, data_change, data_row, fact_of, flag, held}
-use Rattle.rules_data.specs.Data.{left_operand, left_value, move_access, move_imm_row, move_index_row, move_relative_row, move_row}
-use Rattle.rules_data.specs.Data.{move_signed_row, plain_row as plain_data, store_special_row}
-use Rattle.rules_flow.specs.Arguments.{all_lent_out, lent_out}
-use Rattle.rules_flow.specs.Calls.{break_row, call_fails, call_native_row, call_row, call_to, called, callee_at, callee_method}
-use Rattle.rules_flow.specs.Calls.{is_next_thunk, may_return, native_call, native_called, return_row, signature_at, with_thunk}
-use Rattle.rules_flow.specs.Calls.{written_after}
-use Rattle.rules_flow.specs.Flow.{after_flow, flow_row, frame_move, plain_row, slot_kind, unrelocated}
-use Rattle.rules_flow.specs.Frames.{drop_to, frame_row, has_room, left_after, loses, pop_destination, pop_row, popped_type, push_row}
-use Rattle.rules_flow.specs.Frames.{slot_access, slot_type, top_type, with_item, with_left, without_top}
-use Rattle.rules_flow.specs.Jumps.{jump8_row, jump_row, jump_to, jumps, point_at, relative, target_of}
-use Rattle.rules_flow.specs.Narrowing.{granted, is_signed_success, is_success, narrow, narrowed_if}
-use Rattle.rules_flow.specs.Successors.{ends, falls}
-use Rattle.rules_flow.specs.declared.successors.Successors.{Successors}
+use Rattle.rules_flow.specs.{Calls.written_after, Narrowing.granted, Narrowing.is_signed_success, Narrowing.is_success}
+use Rattle.rules_laws.proofs.LocalFields.{AreLocal, all_lent_out-local, no_local, one_local, union}
 use Rattle.rules_laws.proofs.Options.{ok_also, ok_anything, ok_beside, ok_choice, ok_map, ok_some, ok_then}
 use Rattle.rules_laws.proofs.PlacesKeep.{ParamsKnown, PlaceKnown, place_at-known}
 use Rattle.rules_laws.specs.Fields.{DataKeepsFields, FlowKeepsFields, HasFields, HaveFields}
-
--- ---- sets of local fields
+use Rattle.ebc_insn.specs.declared.Insn.TheVariants as insn
+use Rattle.note_types.specs.declared.rule.RuleName.TheVariants as rule
+use Rattle.note_types.specs.declared.types.Ty.TheVariants as ty
+use Rattle.rules_base.specs.declared.access.Access.TheVariants as access
+use Rattle.rules_base.specs.declared.change.Change.TheVariants as change
+use Rattle.rules_base.specs.declared.place.Place.TheVariants as place
 
 module _ (notes : Notes) (f : FnNote) where
-  record AreLocal (set : ℕ) : Type 0 where
-    below : set < 2 ^ 64
-    fields : AreFields notes f set
-
-  no_local : AreLocal 0
-  no_local = record { below = omega arith; fields = λ x h. let z = bit_at-zero x in absurd (omega arith) }
-
-  power_bit : (x y : ℕ) → bit_at (2 ^ x) y ≡ 1 → y ≡ x
-  power_bit x y h = ⊎_elim (λ e. e) (λ n. let z = bit_at-pow_other x y n in absurd (omega arith)) (cases_eq y x)
-
-  either_bit : (a b x : ℕ) → bit_at (bit_or a b) x ≡ 1 → (bit_at a x ≡ 1) ⊎ (bit_at b x ≡ 1)
-  either_bit a b x h =
-      let m = bit_at_or a b x in let k = bit_at-lt a x in let l = bit_at-lt b x in
-      ⊎_elim (λ e. inl e) (λ n. inr (let p : ¬ (bit_at a x ≡ 1) = n in omega arith)) (cases_eq (bit_at a x) 1)
-
-  one_local : (x : ℕ) → x < 64 → x < length (local_fields notes f) → (b : Bool) → AreLocal (if b then 2 ^ x else 0)
-  one_local x w l true = record { below = pow-lt w; fields = λ y h. let e : y ≡ x = power_bit x y h in omega arith }
-  one_local x w l false = no_local
-
-  union : (a b : ℕ) → AreLocal a → AreLocal b → AreLocal (bit_or a b)
-  union a b h g = record {
-    below = or_lt 64 a b h.below g.below;
-    fields = λ x e. ⊎_elim (h.fields x) (g.fields x) (either_bit a b x e);
-  }
-
-  choice : (b : Bool) (g : ℕ) → AreLocal g → AreLocal (if b then g else 0)
+  choice : (b : Bool) (g : ℕ) → AreLocal notes f g → AreLocal notes f (if b then g else 0)
   choice true g h = h
-  choice false g h = no_local
-
-  lent_out-fields : (w : Want) (x : Item) → ((kind : SlotKind) (t : Ty) → x ≡ Slot kind t → IsKnown notes f t) → AreLocal (lent_out w x)
-  lent_out-fields (want.Out cell) (Slot kind (ty.Local x)) h = let k = h kind (ty.Local x) refl in one_local x k.bounded k.names
-      (nat_lt x 64)
-  lent_out-fields _ _ h = no_local
-
-  all_lent_out-fields : (params : List WantParam) (items : List Item)
-      → ((k : ℕ) (kind : SlotKind) (t : Ty) → slice_get items k ≡ Some (Slot kind t) → IsKnown notes f t)
-      → AreLocal (all_lent_out params items)
-  unfolding all_lent_out
-  all_lent_out-fields [] items h = no_local
-  all_lent_out-fields (p ∷ ps) [] h = no_local
-  all_lent_out-fields (p ∷ ps) (x ∷ xs) h =
-      union (lent_out p.want x) (all_lent_out ps xs) (lent_out-fields p.want x (λ kind t e. h 0 kind t cc))
-      (all_lent_out-fields ps xs (λ k kind t e. h (suc k) kind t e))
+  choice false g h = no_local notes f
 
   -- ---- states
 
   abbrev Has : State → Type 0
   Has s = HasFields notes f s
 
-  has_set : (s : State) → Has s → AreLocal s.written
+  has_set : (s : State) → Has s → AreLocal notes f s.written
   has_set s h = record { below = h.set; fields = h.written }
 
   abbrev AreKept : Successors → Type 0
   AreKept x = HaveFields notes f x
 
-  with_set : (s t : State) → AreLocal t.written → t.made ≤ length notes.thunk → Has t
-  with_set s t h g = record { written = h.fields; set = h.below; made = g }
-
   -- ---- narrowing
 
-  granted_local : (op : CmpOp) (taken : Bool) (t : Ty) (k : ℕ) → IsKnown notes f t → AreLocal (granted op taken t k)
+  granted_local : (op : CmpOp) (taken : Bool) (t : Ty) (k : ℕ) → IsKnown notes f t → AreLocal notes f (granted op taken t k)
   granted_local op taken (ty.Status g) k h = choice (is_success op taken k) g (record { below = h.bounded; fields = h.names })
   granted_local op taken (ty.SignedStatus g) k h = choice (is_signed_success op taken k) g (record { below = h.bounded; fields = h.names })
-  granted_local op taken _ k h = no_local
+  granted_local op taken _ k h = no_local notes f
 
   narrow_has : (s : State) (taken : Bool) → IsState notes f s → Has s → Has (narrow s taken)
   unfolding narrow
@@ -153,7 +60,7 @@ module _ (notes : Notes) (f : FnNote) where
       by_fact : (o : Option Fact) → Has (narrowed_if s o taken)
       by_fact None = g
       by_fact (Some x) =
-          let q = union s.written _ (has_set s g) (granted_local x.op taken (type_of s x.reg) x.k (h.registers x.reg)) in
+          let q = union notes f s.written _ (has_set s g) (granted_local x.op taken (type_of s x.reg) x.k (h.registers x.reg)) in
           record { written = q.fields; set = q.below; made = g.made }
 
   -- ---- stores
@@ -204,7 +111,7 @@ module _ (notes : Notes) (f : FnNote) where
     changed_has s (change.Written r t) h g = record { written = h.written; set = h.set; made = h.made }
     changed_has s (change.Stored None) h g = h
     changed_has s (change.Stored (Some x)) h g =
-        let q = union s.written _ (has_set s h) (one_local x g.0 g.1 (nat_lt x 64)) in
+        let q = union notes f s.written _ (has_set s h) (one_local notes f x g.0 g.1 (nat_lt x 64)) in
         record { written = q.fields; set = q.below; made = h.made }
     changed_has s (change.Compared fact) h g = record { written = h.written; set = h.set; made = h.made }
 
@@ -292,7 +199,7 @@ module _ (notes : Notes) (f : FnNote) where
         ok_then (λ _. Unit {0}) AreKept (relative here _) (jump_to notes f s cond) (ok_anything (relative here _))
         (λ p k. jump_to-kept s cond p h g)
 
-    called_kept : (s : State) (t : Ty) (set : ℕ) → AreLocal set → Has s → AreKept (falls (called s t set))
+    called_kept : (s : State) (t : Ty) (set : ℕ) → AreLocal notes f set → Has s → AreKept (falls (called s t set))
     called_kept s t set h g = fall_kept (called s t set) (record { written = h.fields; set = h.below; made = g.made })
 
     call_row-kept : (here : Here) (s : State) (far rel : Bool) (op : Operand) (extra : Extra) → Has s
@@ -306,16 +213,17 @@ module _ (notes : Notes) (f : FnNote) where
         (λ c j. ok_also AreKept (Ok (falls (called s c.result s.written))) (call_fails notes f s c)
         (called_kept s c.result s.written (has_set s g) g)))
 
-    written_after-local : (o : Option Ty) (written lent : ℕ) → AreLocal written → AreLocal lent → AreLocal (written_after o written lent)
+    written_after-local : (o : Option Ty) (written lent : ℕ) → AreLocal notes f written → AreLocal notes f lent
+        → AreLocal notes f (written_after o written lent)
     written_after-local (Some (ty.Status g)) written lent h l = h
-    written_after-local _ written lent h l = union written lent h l
+    written_after-local _ written lent h l = union notes f written lent h l
 
     native_call-kept : (s : State) (c : Signature) → IsState notes f s → Has s → IfOk (native_call notes f s c) AreKept
     unfolding native_call
     native_call-kept s c h g =
         ok_also AreKept (Ok (falls (native_called s c.result (all_lent_out c.params s.items)))) _
         (called_kept s _ _ (written_after-local c.result s.written (all_lent_out c.params s.items) (has_set s g)
-        (all_lent_out-fields c.params s.items h.slots)) g)
+        (all_lent_out-local notes f c.params s.items h.slots)) g)
 
     call_native_row-kept : (here : Here) (s : State) (far rel : Bool) (op : Operand) (extra : Extra) → IsState notes f s → Has s
         → IfOk (call_native_row notes f here s far rel op extra) AreKept
@@ -381,7 +289,7 @@ module _ (notes : Notes) (f : FnNote) where
     drop_kept s (Some left) g = fall_kept (with_left s (loses s.items left) left) (lost (loses s.items left))
       where
         lost : (b : Bool) → Has (with_left s b left)
-        lost true = record { written = no_local.fields; set = no_local.below; made = g.made }
+        lost true = record { written = (no_local notes f).fields; set = (no_local notes f).below; made = g.made }
         lost false = record { written = g.written; set = g.set; made = g.made }
 
     frame_row-kept : (s : State) (d : Distance) → Has s → IfOk (frame_row notes f s d) AreKept
@@ -410,11 +318,7 @@ module _ (notes : Notes) (f : FnNote) where
     plain_row-kept here s (insn.PushNatural op extra) h g = push_row-kept s N op extra g
     plain_row-kept here s (insn.PopNatural op extra) h g = pop_row-kept s N op extra h g
     plain_row-kept here s (insn.Move size bits left right lidx ridx) h g = frame_move-kept s size left right ridx g
-    plain_row-kept here s (insn.MoveSigned bits left right lidx extra) h g = tt
-    plain_row-kept here s (insn.MoveImm size bits left lidx imm) h g = tt
-    plain_row-kept here s (insn.MoveImmNatural bits left lidx idx) h g = tt
-    plain_row-kept here s (insn.MoveRelative bits left lidx imm) h g = tt
-    plain_row-kept here s _ h g = tt
+    plain_row-kept here s i h g = tt
 
     unrelocated_kept : (here : Here) (s : State) (i : Insn) → IsState notes f s → Has s → IfOk (unrelocated notes f here s i) AreKept
     unrelocated_kept here s i h g = ok_choice AreKept (is_none here.reloc) (plain_row notes f here s i) (Err rule.Relocation)

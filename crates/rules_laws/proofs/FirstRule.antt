@@ -1,13 +1,10 @@
 -- Parts that are put together tell the first rule by which one of them fails.
-use Rattle.std.proofs.Common.{◌≡◌, ◌⊎◌, ◌≤◌, Bool, true, false, Option, None, Some, nat_le, if◌then◌else◌, refl, sym, subst, ap}
-use Rattle.std.proofs.Common.{inl, inr, ⊎_elim, arith, ◌∙◌}
-use Rattle.std.specs.Prelude.{Ok, Err}
-use Rattle.std.proofs.lemmas.Bool.{leb-true, leb-false}
-use Rattle.note_types.specs.declared.rule.RuleName.{RuleName}
-use Rattle.note_types.specs.declared.rule.RuleName.TheVariants as rule
-use Rattle.ebc_base.specs.Steps.{◌>>=◌}
-use Rattle.rules_base.specs.FirstRule.{IsFirst, Part, Tells, TellsRule, afterwards, alone, broken, only_where, seen, together, under}
-use Rattle.rules_base.specs.Outcomes.{also, beside, both, gives_map, needs, number_of_rule, sooner, OrRule}
+use Rattle.rules_laws.proofs.Common.{◌≡◌, ◌⊎◌, ◌≤◌, Bool, true, false, Option, None, Some, nat_le, if◌then◌else◌, refl, sym, subst, ap, inl}
+use Rattle.rules_laws.proofs.Common.{inr, ⊎_elim, arith, ◌∙◌, Ok, Err, leb-true, RuleName, ◌>>=◌, Tells, TellsRule, also, beside, gives_map}
+use Rattle.rules_laws.proofs.Common.{needs, OrRule}
+use Rattle.std.proofs.lemmas.Bool.{leb-false}
+use Rattle.rules_base.specs.FirstRule.{IsFirst, Part, afterwards, alone, broken, only_where, seen, together, under}
+use Rattle.rules_base.specs.Outcomes.{both, number_of_rule, sooner}
 use Rattle.rules_base.proofs.FirstRule.{one_first}
 
 -- ---- the first of two

@@ -1,30 +1,13 @@
 -- The instructions of control and of the stack keep the conditions on a state.
-use Rattle.std.proofs.Common.{◌≡◌, false, not, ◌&&◌, nat_eq, Option, Some, slice_get}
-use Rattle.std.specs.Prelude.{IfOk, Err, is_none}
-use Rattle.natural_index.specs.declared.Index.{Index}
-use Rattle.ebc_insn.specs.declared.Insn.{Insn}
-use Rattle.ebc_insn.specs.declared.Insn.TheVariants as insn
-use Rattle.ebc_insn.specs.declared.Operand.{Operand}
-use Rattle.ebc_insn.specs.declared.Size.{Size}
-use Rattle.ebc_insn.specs.declared.Size.TheVariants.{Qword}
-use Rattle.note_types.specs.declared.cell.SlotKind.TheVariants.{N}
-use Rattle.note_types.specs.declared.notes.FnNote.{FnNote}
-use Rattle.note_types.specs.declared.notes.Notes.{Notes}
-use Rattle.note_types.specs.declared.rule.RuleName.TheVariants as rule
-use Rattle.note_types.specs.declared.state.State.{State}
-use Rattle.rules_base.specs.declared.here.Here.{Here}
-use Rattle.rules_base.specs.Operands.{index_distance}
-use Rattle.rules_flow.specs.Flow.{after_flow, flow_row, frame_move, plain_row, slot_kind, unrelocated}
-use Rattle.rules_flow.specs.Frames.{frame_row}
-use Rattle.rules_laws.proofs.Options.{ok_choice}
-use Rattle.rules_laws.proofs.PlacesKeep.{ParamsKnown}
+use Rattle.rules_laws.proofs.Common.{◌≡◌, false, not, ◌&&◌, nat_eq, Option, Some, slice_get, IfOk, Err, is_none, Index, Insn, Operand, Size}
+use Rattle.rules_laws.proofs.Common.{Qword, N, FnNote, Notes, State, Here, index_distance, after_flow, flow_row, frame_move, plain_row}
+use Rattle.rules_laws.proofs.Common.{slot_kind, unrelocated, frame_row, IsNotes, IsState, AreStates, params_known}
 use Rattle.rules_laws.proofs.CallsKeep.{break_row-keeps, call_native_row-keeps, call_row-keeps, jump8_row-keeps, jump_row-keeps}
 use Rattle.rules_laws.proofs.CallsKeep.{return_row-keeps}
 use Rattle.rules_laws.proofs.FramesKeep.{frame_row-keeps, pop_row-keeps, push_row-keeps}
-use Rattle.note_types.specs.Records.{IsNotes}
-use Rattle.note_types.specs.Known.{IsState}
-use Rattle.rules_laws.specs.Keeping.{AreStates}
-use Rattle.note_types.proofs.RecordLaws.{params_known}
+use Rattle.rules_laws.proofs.{Options.ok_choice, PlacesKeep.ParamsKnown}
+use Rattle.ebc_insn.specs.declared.Insn.TheVariants as insn
+use Rattle.note_types.specs.declared.rule.RuleName.TheVariants as rule
 
 frame_move-keeps : (notes : Notes) (f : FnNote) (s : State) (z : Size) (left right : Operand) (ridx : Option Index) → IsState notes f s
     → IfOk (frame_move notes f s z left right ridx) (AreStates notes f)
@@ -45,11 +28,7 @@ plain_row-keeps notes f here s (insn.Pop wide op extra) n p h = pop_row-keeps no
 plain_row-keeps notes f here s (insn.PushNatural op extra) n p h = push_row-keeps notes f s N op extra n p h
 plain_row-keeps notes f here s (insn.PopNatural op extra) n p h = pop_row-keeps notes f s N op extra h
 plain_row-keeps notes f here s (insn.Move z bits left right lidx ridx) n p h = frame_move-keeps notes f s z left right ridx h
-plain_row-keeps notes f here s (insn.MoveSigned bits left right lidx extra) n p h = tt
-plain_row-keeps notes f here s (insn.MoveImm z bits left lidx imm) n p h = tt
-plain_row-keeps notes f here s (insn.MoveImmNatural bits left lidx idx) n p h = tt
-plain_row-keeps notes f here s (insn.MoveRelative bits left lidx imm) n p h = tt
-plain_row-keeps notes f here s _ n p h = tt
+plain_row-keeps notes f here s i n p h = tt
 
 unrelocated_keeps : (notes : Notes) (f : FnNote) (here : Here) (s : State) (i : Insn) → IsNotes notes → ParamsKnown notes f f.params
     → IsState notes f s → IfOk (unrelocated notes f here s i) (AreStates notes f)

@@ -1,40 +1,18 @@
 -- The instructions of control and of the stack tell what their rows give, and the first rule by which these fail.
-use Rattle.std.proofs.Common.{◌≡◌, ℕ, Bool, false, List, [], ◌∷◌, Some, refl, sym, subst, ◌∙◌}
-use Rattle.std.specs.Prelude.{Ok, Err, is_none}
-use Rattle.ebc_base.specs.Steps.{◌>>=◌, or_else}
-use Rattle.ebc_insn.specs.declared.Extra.{Extra}
-use Rattle.ebc_insn.specs.declared.Insn.{Insn}
-use Rattle.ebc_insn.specs.declared.Insn.TheVariants as insn
-use Rattle.ebc_insn.specs.declared.Operand.{Operand}
-use Rattle.note_types.specs.BelowTests.{same_kind}
-use Rattle.note_types.specs.Known.{local_fields}
-use Rattle.note_types.specs.declared.cell.SlotKind.{SlotKind}
-use Rattle.note_types.specs.declared.cell.SlotKind.TheVariants.{N}
-use Rattle.note_types.specs.declared.items.Item.{Item}
-use Rattle.note_types.specs.declared.items.Item.TheVariants.{Slot, Locals}
-use Rattle.note_types.specs.declared.notes.FnNote.{FnNote}
-use Rattle.note_types.specs.declared.notes.Notes.{Notes}
-use Rattle.note_types.specs.declared.notes.Param.{Param}
-use Rattle.note_types.specs.declared.notes.WantParam.{WantParam}
-use Rattle.note_types.specs.declared.rule.RuleName.TheVariants as rule
-use Rattle.note_types.specs.declared.shape.Field.{Field}
-use Rattle.note_types.specs.declared.state.State.{State}
-use Rattle.note_types.specs.declared.types.Ty.TheVariants as ty
-use Rattle.rules_base.specs.declared.here.Here.{Here}
-use Rattle.rules_base.specs.FirstRule.{Tells, TellsRule}
-use Rattle.rules_flow.specs.declared.successors.Successors.{Successors}
+use Rattle.rules_laws.proofs.Common.{◌≡◌, ℕ, Bool, false, List, [], ◌∷◌, Some, refl, sym, subst, ◌∙◌, Ok, Err, is_none, ◌>>=◌, or_else}
+use Rattle.rules_laws.proofs.Common.{Extra, Insn, Operand, same_kind, local_fields, SlotKind, N, Item, Slot, Locals, FnNote, Notes, Param}
+use Rattle.rules_laws.proofs.Common.{WantParam, Field, State, Here, Tells, TellsRule, Successors, call_native_row, call_row, call_to}
+use Rattle.rules_laws.proofs.Common.{callee_at, callee_method, native_call, signature_at, after_flow, flow_row, plain_row, slot_kind}
+use Rattle.rules_laws.proofs.Common.{unrelocated, has_room, pop_row, push_row, target_of, FlowFirst, FlowGiven, FlowRelated, OrRule}
 use Rattle.rules_flow.specs.Arguments.{argument, arguments, native_argument, native_arguments, passed, wanted}
-use Rattle.rules_flow.specs.Calls.{all_made, call_native_row, call_row, call_to, callee_at, callee_method, is_lower, native_call}
-use Rattle.rules_flow.specs.Calls.{signature_at}
-use Rattle.rules_flow.specs.Flow.{after_flow, flow_row, plain_row, slot_kind, unrelocated}
-use Rattle.rules_flow.specs.Frames.{has_room, pop_row, push_row}
-use Rattle.rules_flow.specs.Jumps.{target_of}
 use Rattle.rules_flow.specs.Rule.{ArgumentFails, ArgumentsFail, IsSuccessor, NativeArgumentFails, NativeArgumentsFail, call_native_part}
 use Rattle.rules_flow.specs.Rule.{call_part, flow_part, plain_part, pop_part, push_part, successors_part, unrelocated_part}
-use Rattle.rules_laws.specs.Exact.{FlowFirst, FlowGiven, FlowRelated}
+use Rattle.rules_flow.specs.Calls.{all_made, is_lower}
 use Rattle.rules_laws.proofs.FirstRule.{tells_alone, tells_also, tells_beside, tells_both, tells_needs, tells_none, tells_option}
 use Rattle.rules_laws.proofs.FirstRule.{tells_then, tells_where}
-use Rattle.rules_base.specs.Outcomes.{OrRule}
+use Rattle.ebc_insn.specs.declared.Insn.TheVariants as insn
+use Rattle.note_types.specs.declared.rule.RuleName.TheVariants as rule
+use Rattle.note_types.specs.declared.types.Ty.TheVariants as ty
 
 -- ---- arguments
 

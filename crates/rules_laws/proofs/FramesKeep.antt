@@ -1,48 +1,25 @@
 -- Pushes and pops, and making and dropping locals, keep the conditions on a state.
-use Rattle.std.proofs.Common.{◌≡◌, ℕ, zero, suc, ◌+◌, ◌-◌, ◌≤◌, Bool, true, false, not, ◌&&◌, nat_lt, nat_le, nat_eq, List, [], ◌∷◌, length}
-use Rattle.std.proofs.Common.{map, Option, None, Some, slice_get, slice_index_or, if◌then◌else◌, refl, sym, subst, ap, ◌∙◌, arith, pos}
-use Rattle.std.specs.Prelude.{IfSome, IfOk, Result, Ok, Err, count_by, is_some, int_le, unsigned_abs}
-use Rattle.std.specs.List.{list_any}
-use Rattle.std.proofs.lemmas.Bool.{and_parts, leb-true, not-true}
-use Rattle.std.proofs.lemmas.List.Sums.{sum_by-cons}
-use Rattle.ebc_insn.specs.declared.Extra.{Extra}
-use Rattle.ebc_insn.specs.declared.Operand.{Operand}
-use Rattle.note_types.specs.BelowTests.{same_kind}
-use Rattle.note_types.specs.declared.cell.SlotKind.{SlotKind}
-use Rattle.note_types.specs.declared.cell.SlotKind.TheVariants.{N, Q, D}
-use Rattle.note_types.specs.declared.items.Item.{Item}
-use Rattle.note_types.specs.declared.items.Item.TheVariants.{Slot, Locals}
-use Rattle.note_types.specs.declared.notes.FnNote.{FnNote}
-use Rattle.note_types.specs.declared.notes.Notes.{Notes}
-use Rattle.note_types.specs.declared.notes.Pair.{Pair}
-use Rattle.note_types.specs.declared.rule.RuleName.{RuleName}
-use Rattle.note_types.specs.declared.rule.RuleName.TheVariants as rule
-use Rattle.note_types.specs.declared.state.State.{State}
-use Rattle.note_types.specs.declared.types.Ty.{Ty}
-use Rattle.note_types.specs.declared.types.Ty.TheVariants as ty
-use Rattle.rules_base.specs.declared.destination.Destination.{Destination}
-use Rattle.rules_base.specs.declared.destination.Destination.TheVariants.{Register, Memory}
-use Rattle.rules_base.specs.declared.operand.Distance.{Distance}
-use Rattle.rules_base.specs.Access.{target_at}
-use Rattle.rules_base.specs.Change.{changed}
-use Rattle.rules_base.specs.Destinations.{put}
-use Rattle.rules_base.specs.Operands.{extra_distance}
-use Rattle.rules_base.specs.Outcomes.{also, beside, needs}
-use Rattle.rules_base.specs.Places.{locals_size}
-use Rattle.rules_base.specs.Values.{operand_value}
-use Rattle.rules_flow.specs.Frames.{below_top, drop_row, drop_to, forgotten, frame_row, has_room, is_popped, is_size, item_size, left_after}
-use Rattle.rules_flow.specs.Frames.{left_item, left_type, loses, make_row, pop_destination, pop_row, popped_type, push_row, slot_access}
-use Rattle.rules_flow.specs.Frames.{slot_type, top_type, with_item, with_left, without_top}
-use Rattle.rules_flow.specs.Successors.{falls}
+use Rattle.rules_laws.proofs.Common.{◌≡◌, ℕ, zero, suc, ◌+◌, ◌-◌, ◌≤◌, Bool, true, false, not, ◌&&◌, nat_lt, nat_le, nat_eq, List, [], ◌∷◌}
+use Rattle.rules_laws.proofs.Common.{length, Option, None, Some, slice_get, slice_index_or, if◌then◌else◌, refl, sym, subst, ap, ◌∙◌, arith}
+use Rattle.rules_laws.proofs.Common.{pos, IfSome, IfOk, Result, Ok, Err, int_le, unsigned_abs, and_parts, leb-true, Extra, Operand}
+use Rattle.rules_laws.proofs.Common.{same_kind, SlotKind, N, Q, Item, Slot, Locals, FnNote, Notes, Pair, RuleName, State, Ty, Destination}
+use Rattle.rules_laws.proofs.Common.{Register, Memory, Distance, target_at, changed, put, extra_distance, also, beside, needs, locals_size}
+use Rattle.rules_laws.proofs.Common.{operand_value, drop_to, frame_row, has_room, left_after, loses, pop_destination, pop_row, popped_type}
+use Rattle.rules_laws.proofs.Common.{push_row, slot_access, slot_type, top_type, with_item, with_left, without_top, falls, IsNotes, IsKnown}
+use Rattle.rules_laws.proofs.Common.{IsState, AreStates}
+use Rattle.std.proofs.Common.{map}
+use Rattle.std.specs.{Prelude.count_by, Prelude.is_some, List.list_any}
+use Rattle.std.proofs.lemmas.{Bool.not-true, List.Sums.sum_by-cons}
+use Rattle.note_types.specs.declared.cell.SlotKind.TheVariants.{D}
+use Rattle.rules_flow.specs.Frames.{below_top, drop_row, forgotten, is_popped, is_size, item_size, left_item, left_type, make_row}
+use Rattle.rules_laws.proofs.Options.{ok_also, ok_anything, ok_beside, ok_choice, ok_map, ok_needs, ok_then}
 use Rattle.rules_laws.proofs.LoadsKeep.{LoadKnown, operand_value-known, status_known, signed_status-known}
 use Rattle.rules_laws.proofs.MovesKeep.{kept_dword-known, kept_natural-known, with_immediate-known}
-use Rattle.rules_laws.proofs.Options.{ok_also, ok_anything, ok_beside, ok_choice, ok_map, ok_needs, ok_then}
-use Rattle.rules_laws.proofs.PlacesKeep.{ParamsKnown}
-use Rattle.rules_laws.proofs.SumsKeep.{any_known, if_known}
-use Rattle.note_types.specs.Records.{IsNotes}
-use Rattle.note_types.specs.Known.{IsKnown, IsState, is_locals, is_slot}
-use Rattle.rules_laws.specs.Keeping.{AreStates}
 use Rattle.rules_laws.proofs.StatesKeep.{ChangeKnown, changed_keeps, DestinationKnown, put_known}
+use Rattle.rules_laws.proofs.{PlacesKeep.ParamsKnown, SumsKeep.any_known, SumsKeep.if_known}
+use Rattle.note_types.specs.Known.{is_locals, is_slot}
+use Rattle.note_types.specs.declared.rule.RuleName.TheVariants as rule
+use Rattle.note_types.specs.declared.types.Ty.TheVariants as ty
 
 -- ---- items
 

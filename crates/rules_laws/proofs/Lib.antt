@@ -1,3 +1,4 @@
+pub mod Common
 pub mod CallsKeep
 pub mod DataKeep
 pub mod DataRule
@@ -7,6 +8,7 @@ pub mod FlowKeeps
 pub mod FlowRule
 pub mod FramesKeep
 pub mod LoadsKeep
+pub mod LocalFields
 pub mod MovesKeep
 pub mod NarrowKeeps
 pub mod Options

@@ -1,36 +1,18 @@
 -- What loads give and what operands are worth is known.
-use Rattle.std.proofs.Common.{ℕ, Bool, nat_lt, nat_eq, arith}
-use Rattle.std.specs.Prelude.{IfOk}
-use Rattle.ebc_insn.specs.declared.Extra.{Extra}
-use Rattle.ebc_insn.specs.declared.Operand.{Operand}
-use Rattle.note_types.specs.States.{type_of}
+use Rattle.rules_laws.proofs.Common.{ℕ, Bool, nat_lt, nat_eq, arith, IfOk, Extra, Operand, type_of, SlotKind, N, Q, FnNote, Notes, State}
+use Rattle.rules_laws.proofs.Common.{Ty, Access, Loaded, Distance, Place, load_at, extra_distance, place_at, operand_value, register_type}
+use Rattle.rules_laws.proofs.Common.{IsKnown, IsKnownCell, IsNotes, or_else}
 use Rattle.note_types.specs.declared.cell.Cell.{Cell}
-use Rattle.note_types.specs.declared.cell.Cell.TheVariants as cell
-use Rattle.note_types.specs.declared.cell.SlotKind.{SlotKind}
-use Rattle.note_types.specs.declared.cell.SlotKind.TheVariants.{N, Q}
-use Rattle.note_types.specs.declared.notes.FnNote.{FnNote}
-use Rattle.note_types.specs.declared.notes.Notes.{Notes}
-use Rattle.note_types.specs.declared.state.State.{State}
-use Rattle.note_types.specs.declared.types.Ty.{Ty}
-use Rattle.note_types.specs.declared.types.Ty.TheVariants as ty
 use Rattle.note_types.proofs.TypeLaws.{content_type-known, no_fields}
-use Rattle.rules_base.specs.declared.access.Access.{Access}
 use Rattle.rules_base.specs.declared.access.Access.TheVariants.{Qword, Natural, Signed}
-use Rattle.rules_base.specs.declared.access.Loaded.{Loaded}
-use Rattle.rules_base.specs.declared.operand.Distance.{Distance}
-use Rattle.rules_base.specs.declared.place.Place.{Place}
+use Rattle.rules_base.specs.Access.{load_place, loaded_type, loads, local_load, object_load, parameter_load, thunk_load}
+use Rattle.rules_base.specs.Places.{has_field}
+use Rattle.rules_laws.proofs.{MovesKeep.with_immediate-known, Options.ok_choice, Options.ok_some, Options.ok_then, PlacesKeep.ParamsKnown}
+use Rattle.rules_laws.proofs.{PlacesKeep.PlaceKnown, PlacesKeep.place_at-known}
+use Rattle.note_types.specs.declared.cell.Cell.TheVariants as cell
+use Rattle.note_types.specs.declared.types.Ty.TheVariants as ty
 use Rattle.rules_base.specs.declared.place.Place.TheVariants as place
 use Rattle.note_types.specs.declared.rule.RuleName.TheVariants as rule
-use Rattle.rules_base.specs.Access.{load_at, load_place, loaded_type, loads, local_load, object_load, parameter_load, thunk_load}
-use Rattle.rules_base.specs.Operands.{extra_distance}
-use Rattle.rules_base.specs.Places.{has_field, place_at}
-use Rattle.rules_base.specs.Values.{operand_value, register_type}
-use Rattle.rules_laws.proofs.MovesKeep.{with_immediate-known}
-use Rattle.rules_laws.proofs.Options.{ok_choice, ok_some, ok_then}
-use Rattle.rules_laws.proofs.PlacesKeep.{ParamsKnown, PlaceKnown, place_at-known}
-use Rattle.note_types.specs.Known.{IsKnown, IsKnownCell}
-use Rattle.note_types.specs.Records.{IsNotes}
-use Rattle.ebc_base.specs.Steps.{or_else}
 
 -- a load's type is known
 abbrev pub LoadKnown : Notes → FnNote → Loaded → Type 0

@@ -1,26 +1,13 @@
 -- What moves keep of a known type is known, and so is what stands beside an operand.
-use Rattle.std.proofs.Common.{◌≡◌, ℕ, ◌-◌, ◌^◌, ◌<◌, ◌≤◌, true, ◌&&◌, nat_lt, List, Option, None, Some, arith, mod-lt, ℤ, pos}
-use Rattle.std.specs.Prelude.{negsuc, int_le, ◌≤ℤ◌}
-use Rattle.std.specs.Ordering.{int_eq}
-use Rattle.std.proofs.lemmas.Bool.{leb-true, false≢true}
-use Rattle.std.proofs.lemmas.Int.{ints}
-use Rattle.natural_index.specs.declared.Index.{Index}
-use Rattle.ebc_insn.specs.declared.Extra.{Extra}
+use Rattle.rules_laws.proofs.Common.{◌≡◌, ℕ, ◌-◌, ◌^◌, ◌<◌, ◌≤◌, true, ◌&&◌, nat_lt, List, Option, None, Some, arith, mod-lt, ℤ, pos}
+use Rattle.rules_laws.proofs.Common.{negsuc, int_le, ◌≤ℤ◌, int_eq, leb-true, false≢true, ints, Index, Extra, Size, Qword, FnNote, Notes}
+use Rattle.rules_laws.proofs.Common.{Shape, Ty, Int, Lin, Ptr, Distance, counted, IsKnown, wrap64}
+use Rattle.ebc_insn.specs.declared.Size.TheVariants.{Byte, Word, Dword, Natural}
 use Rattle.ebc_insn.specs.declared.Extra.TheVariants.{Nothing, Imm, Idx}
-use Rattle.ebc_insn.specs.declared.Size.{Size}
-use Rattle.ebc_insn.specs.declared.Size.TheVariants.{Byte, Word, Dword, Qword, Natural}
-use Rattle.note_types.specs.declared.notes.FnNote.{FnNote}
-use Rattle.note_types.specs.declared.notes.Notes.{Notes}
-use Rattle.note_types.specs.declared.shape.Shape.{Shape}
-use Rattle.note_types.specs.declared.types.Ty.{Ty}
-use Rattle.note_types.specs.declared.types.Ty.TheVariants.{Any, Int, Lin, Scaled, Ptr, Local, Lent, Status, SignedStatus, Mask, Handle}
-use Rattle.note_types.specs.declared.types.Ty.TheVariants.{Entry, Method, ThunkAt, Saved}
-use Rattle.rules_base.specs.declared.operand.Distance.{Distance}
-use Rattle.rules_base.specs.Kept.{kept, kept_low, kept_natural, kept_signed}
-use Rattle.rules_base.specs.Operands.{counted, distance_type, with_immediate, with_index}
+use Rattle.note_types.specs.declared.types.Ty.TheVariants.{Status, SignedStatus, Saved}
+use Rattle.rules_base.specs.{Kept.kept, Kept.kept_low, Kept.kept_natural, Kept.kept_signed, Operands.distance_type, Operands.with_immediate}
+use Rattle.rules_base.specs.Operands.{with_index}
 use Rattle.rules_laws.proofs.SumsKeep.{any_known, constant_known, if_known, int_known, lin_known, sum-known}
-use Rattle.note_types.specs.Known.{IsKnown}
-use Rattle.ebc_width.specs.Width.{wrap64}
 
 -- ---- moves
 
@@ -37,16 +24,7 @@ kept_natural-known notes f (Lin n c) h = if_known notes f (int_le (pos 0) c) _ _
 kept_natural-known notes f (Ptr s k n c null) h = if_known notes f (int_eq n (pos 0) && int_eq c (pos 0)) _ _ (λ e. h) (any_known notes f)
 kept_natural-known notes f (SignedStatus g) h = any_known notes f
 kept_natural-known notes f (Saved r) h = any_known notes f
-kept_natural-known notes f Any h = h
-kept_natural-known notes f (Scaled n c hi) h = h
-kept_natural-known notes f (Local x) h = h
-kept_natural-known notes f (Lent cell) h = h
-kept_natural-known notes f (Status g) h = h
-kept_natural-known notes f Mask h = h
-kept_natural-known notes f Handle h = h
-kept_natural-known notes f Entry h = h
-kept_natural-known notes f (Method m) h = h
-kept_natural-known notes f (ThunkAt i) h = h
+kept_natural-known notes f t h = h
 
 pub kept_signed-known : (notes : Notes) (f : FnNote) (t : Ty) → IsKnown notes f t → IsKnown notes f (kept_signed t)
 kept_signed-known notes f (Status g) h = record { bounded = h.bounded; names = h.names }

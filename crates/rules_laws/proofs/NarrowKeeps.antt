@@ -1,23 +1,15 @@
 -- Narrowing keeps the conditions on a state.
-use Rattle.std.proofs.Common.{◌≡◌, ℕ, ◌+◌, ◌-◌, ◌^◌, ◌<◌, ◌≤◌, Bool, ◌&&◌, min, max, nat_lt, nat_le, nat_eq, Option, None, Some}
-use Rattle.std.proofs.Common.{if◌then◌else◌, arith, refl, ◌∙◌}
-use Rattle.std.proofs.lemmas.Bool.{and_parts, eqb-true, leb-true}
-use Rattle.ebc_insn.specs.declared.CmpOp.{CmpOp}
+use Rattle.rules_laws.proofs.Common.{◌≡◌, ℕ, ◌+◌, ◌-◌, ◌^◌, ◌<◌, ◌≤◌, Bool, ◌&&◌, min, nat_lt, nat_le, nat_eq, Option, None, Some}
+use Rattle.rules_laws.proofs.Common.{if◌then◌else◌, arith, refl, ◌∙◌, and_parts, eqb-true, leb-true, CmpOp, type_of, FnNote, Notes, Fact}
+use Rattle.rules_laws.proofs.Common.{State, Ty, Span, narrow, narrowed_if, IsKnown, IsState}
+use Rattle.std.proofs.Common.{max}
 use Rattle.ebc_insn.specs.declared.CmpOp.TheVariants.{Eq, Lte, Gte, Ulte, Ugte}
 use Rattle.note_types.specs.BelowTests.{divides}
-use Rattle.note_types.specs.States.{type_of}
-use Rattle.note_types.specs.declared.notes.FnNote.{FnNote}
-use Rattle.note_types.specs.declared.notes.Notes.{Notes}
-use Rattle.note_types.specs.declared.state.Fact.{Fact}
-use Rattle.note_types.specs.declared.state.State.{State}
-use Rattle.note_types.specs.declared.types.Ty.{Ty}
+use Rattle.rules_flow.specs.Narrowing.{at_least, at_most, cut_to, exactly, int_of, is_plain, narrowed, narrowed_by, narrowed_span}
+use Rattle.rules_flow.specs.Narrowing.{other_than, past, short_of}
+use Rattle.rules_laws.proofs.{StatesKeep.set_long, StatesKeep.set_within, StatesKeep.unused_kept, SumsKeep.IsSpan, SumsKeep.if_known}
+use Rattle.rules_laws.proofs.SumsKeep.{int_known}
 use Rattle.note_types.specs.declared.types.Ty.TheVariants as ty
-use Rattle.rules_base.specs.declared.parts.Span.{Span}
-use Rattle.rules_flow.specs.Narrowing.{at_least, at_most, cut_to, exactly, int_of, is_plain, narrow, narrowed, narrowed_by, narrowed_if}
-use Rattle.rules_flow.specs.Narrowing.{narrowed_span, other_than, past, short_of}
-use Rattle.rules_laws.proofs.StatesKeep.{set_long, set_within, unused_kept}
-use Rattle.rules_laws.proofs.SumsKeep.{IsSpan, if_known, int_known}
-use Rattle.note_types.specs.Known.{IsKnown, IsState}
 
 -- ---- numbers
 

@@ -1,11 +1,8 @@
 -- Rows that may not apply: what holds of each value that one gives.
-use Rattle.std.proofs.Common.{◌≡◌, Bool, true, false, Option, None, Some, if◌then◌else◌, refl}
-use Rattle.std.specs.Prelude.{IfSome, IfOk, Result, Ok, Err}
-use Rattle.note_types.specs.declared.rule.RuleName.{RuleName}
-use Rattle.rules_base.specs.Outcomes.{also, beside, gives_map, needs}
-use Rattle.rules_base.specs.Parts.{and_then}
+use Rattle.rules_laws.proofs.Common.{◌≡◌, Bool, true, false, Option, None, Some, if◌then◌else◌, refl, IfSome, IfOk, Result, Ok, Err}
+use Rattle.rules_laws.proofs.Common.{RuleName, also, beside, gives_map, needs, and_then, or_else, ◌>>=◌}
 use Rattle.std.specs.Option.{option_or}
-use Rattle.ebc_base.specs.Steps.{or_else, ◌>>=◌, only_if}
+use Rattle.ebc_base.specs.Steps.{only_if}
 
 pub some_then : {A B : Type 0} (P : A → Type 0) (Q : B → Type 0) (o : Option A) (f : A → Option B) → IfSome o P
     → ((x : A) → P x → IfSome (f x) Q) → IfSome (and_then o f) Q

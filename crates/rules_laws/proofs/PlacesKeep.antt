@@ -1,33 +1,17 @@
 -- What lies at the places that operands name is known.
-use Rattle.std.proofs.Common.{◌≡◌, ℕ, suc, ◌-◌, ◌<◌, Bool, false, ◌&&◌, nat_lt, nat_le, nat_eq, List, [], ◌∷◌, length, Option, None, Some}
-use Rattle.std.proofs.Common.{slice_get, refl, pos}
-use Rattle.std.specs.Prelude.{IfSome, int_le, unsigned_abs}
-use Rattle.std.proofs.lemmas.Bool.{ltb-true}
+use Rattle.rules_laws.proofs.Common.{◌≡◌, ℕ, suc, ◌-◌, ◌<◌, Bool, false, ◌&&◌, nat_lt, nat_le, nat_eq, List, [], ◌∷◌, length, Option, None}
+use Rattle.rules_laws.proofs.Common.{Some, slice_get, refl, pos, IfSome, int_le, unsigned_abs, ltb-true, type_of, Item, Slot, Locals}
+use Rattle.rules_laws.proofs.Common.{FnNote, Notes, Pair, Param, Field, Shape, State, Ty, Ptr, Distance, Place, and_then, locals_size}
+use Rattle.rules_laws.proofs.Common.{place_at, IsNotes, IsKnown, IsKnownCell, local_fields, some_choice, some_any}
 use Rattle.std.proofs.lemmas.Option.{slice_get_within}
-use Rattle.note_types.specs.States.{type_of}
-use Rattle.note_types.specs.declared.items.Item.{Item}
-use Rattle.note_types.specs.declared.items.Item.TheVariants.{Slot, Locals}
-use Rattle.note_types.specs.declared.notes.FnNote.{FnNote}
-use Rattle.note_types.specs.declared.notes.Notes.{Notes}
-use Rattle.note_types.specs.declared.notes.Pair.{Pair}
-use Rattle.note_types.specs.declared.notes.Param.{Param}
-use Rattle.note_types.specs.declared.shape.Field.{Field}
-use Rattle.note_types.specs.declared.shape.Shape.{Shape}
-use Rattle.note_types.specs.declared.state.State.{State}
-use Rattle.note_types.specs.declared.types.Ty.{Ty}
-use Rattle.note_types.specs.declared.types.Ty.TheVariants.{Ptr, Local, Lent, ThunkAt}
-use Rattle.rules_base.specs.declared.operand.Distance.{Distance}
-use Rattle.rules_base.specs.declared.place.Place.{Place}
-use Rattle.rules_base.specs.declared.place.Place.TheVariants as place
+use Rattle.note_types.specs.declared.types.Ty.TheVariants.{Local, Lent, ThunkAt}
 use Rattle.rules_base.specs.declared.place.Reach.{Reach}
-use Rattle.rules_base.specs.Parts.{and_then}
 use Rattle.rules_base.specs.Places.{cell_of, field_place, from_stack, instance_field, is_nowhere, local_at, local_field, field_number_at}
-use Rattle.rules_base.specs.Places.{locals_size, object_cell, parameter_at, past, place_at, pointed, slot_size, stack_at}
+use Rattle.rules_base.specs.Places.{object_cell, parameter_at, past, pointed, slot_size, stack_at}
 use Rattle.rules_laws.proofs.Options.{some_then, some_else, some_if, some_is}
-use Rattle.note_types.specs.Records.{IsNotes}
-use Rattle.note_types.specs.Known.{IsKnown, IsKnownCell, fields_of, locals_of, local_fields}
+use Rattle.note_types.specs.Known.{fields_of, locals_of}
 use Rattle.note_types.proofs.RecordLaws.{cells_known}
-use Rattle.ebc_base.proofs.Given.{some_choice, some_any}
+use Rattle.rules_base.specs.declared.place.Place.TheVariants as place
 
 -- what is known of a place
 abbrev pub PlaceKnown : Notes → FnNote → Place → Type 0

@@ -1,65 +1,33 @@
 -- What the rows of the instructions on data change is known, so the conditions on a state are kept.
-use Rattle.std.proofs.Common.{◌≡◌, ℕ, zero, suc, ◌^◌, ◌<◌, ◌≤◌, Bool, true, false, ◌&&◌, nat_eq, List, [], ◌∷◌, Option, None, Some}
-use Rattle.std.proofs.Common.{slice_get, if◌then◌else◌, refl, sym, ap, arith, ℤ, pos}
-use Rattle.std.specs.Prelude.{IfSome, IfOk, ◌+ℤ◌, Result, Ok, Err, is_none, int_le}
-use Rattle.std.specs.Ordering.{int_eq}
+use Rattle.rules_laws.proofs.Common.{◌≡◌, ℕ, zero, suc, ◌^◌, ◌<◌, ◌≤◌, Bool, true, false, ◌&&◌, nat_eq, List, [], ◌∷◌, Option, None, Some}
+use Rattle.rules_laws.proofs.Common.{slice_get, if◌then◌else◌, refl, sym, ap, arith, ℤ, pos, IfSome, IfOk, ◌+ℤ◌, Result, Ok, Err, is_none}
+use Rattle.rules_laws.proofs.Common.{int_le, int_eq, mod-le, Index, ArithOp, CmpOp, Extra, Insn, Compare, Arith, Move, MoveSigned, MoveImm}
+use Rattle.rules_laws.proofs.Common.{Operand, Size, type_of, FnNote, Notes, RuleName, Fact, State, Ty, Access, Here, Distance, Place}
+use Rattle.rules_laws.proofs.Common.{load_at, changed, destination, put, counted, index_distance, nowhere, beside, gives_map, needs}
+use Rattle.rules_laws.proofs.Common.{and_then, place_at, or_any, form_access, operand_value, register_type, computed_type, divisor_known}
+use Rattle.rules_laws.proofs.Common.{after_data, arith_row, compare_imm_row, compare_row, data_change, data_row, fact_of, flag, held}
+use Rattle.rules_laws.proofs.Common.{left_operand, left_value, move_access, move_imm_row, move_index_row, move_relative_row, move_row}
+use Rattle.rules_laws.proofs.Common.{move_signed_row, store_special_row, immediate, IsNotes, IsKnown, IsState, IsFact, params_known, wrap64}
 use Rattle.std.specs.List.{find, position}
-use Rattle.std.proofs.Math.Nat.{mod-le}
 use Rattle.std.proofs.lemmas.List.Quantifiers.{position-Some}
-use Rattle.natural_index.specs.declared.Index.{Index}
-use Rattle.ebc_insn.specs.declared.ArithOp.{ArithOp}
-use Rattle.ebc_insn.specs.declared.CmpOp.{CmpOp}
-use Rattle.ebc_insn.specs.declared.Extra.{Extra}
-use Rattle.ebc_insn.specs.declared.Insn.{Insn}
-use Rattle.ebc_insn.specs.declared.Insn.TheVariants.{Compare, CompareImm, Arith, Move, MoveSigned, MoveImm, MoveImmNatural, MoveRelative}
-use Rattle.ebc_insn.specs.declared.Insn.TheVariants.{StoreSpecial}
-use Rattle.ebc_insn.specs.declared.Operand.{Operand}
-use Rattle.ebc_insn.specs.declared.Size.{Size}
-use Rattle.ebc_insn.specs.declared.Size.TheVariants as size
+use Rattle.ebc_insn.specs.declared.Insn.TheVariants.{CompareImm, MoveImmNatural, MoveRelative, StoreSpecial}
 use Rattle.ebc_insn.specs.Spelling.{WellFormed}
-use Rattle.note_types.specs.States.{type_of}
-use Rattle.note_types.specs.declared.notes.FnNote.{FnNote}
-use Rattle.note_types.specs.declared.notes.Notes.{Notes}
 use Rattle.note_types.specs.declared.notes.Static.{Static}
-use Rattle.note_types.specs.declared.rule.RuleName.{RuleName}
-use Rattle.note_types.specs.declared.rule.RuleName.TheVariants as rule
-use Rattle.note_types.specs.declared.state.Fact.{Fact}
-use Rattle.note_types.specs.declared.state.State.{State}
-use Rattle.note_types.specs.declared.types.Ty.{Ty}
-use Rattle.rules_base.specs.declared.access.Access.{Access}
-use Rattle.rules_base.specs.declared.access.Access.TheVariants as access
-use Rattle.rules_base.specs.declared.change.Change.TheVariants as change
-use Rattle.rules_base.specs.declared.here.Here.{Here}
-use Rattle.rules_base.specs.declared.operand.Distance.{Distance}
-use Rattle.rules_base.specs.declared.place.Place.{Place}
-use Rattle.rules_base.specs.declared.place.Place.TheVariants as place
-use Rattle.rules_base.specs.Access.{load_at}
-use Rattle.rules_base.specs.Change.{changed}
-use Rattle.rules_base.specs.Destinations.{destination, put}
-use Rattle.rules_base.specs.Operands.{counted, index_distance, nowhere}
-use Rattle.rules_base.specs.Outcomes.{beside, gives_map, needs}
-use Rattle.rules_base.specs.Parts.{and_then}
-use Rattle.rules_base.specs.Places.{place_at}
-use Rattle.rules_base.specs.Sums.{or_any}
 use Rattle.rules_base.specs.Things.{is_static_at, is_thunk_at, static_at, static_type, takes_address, thing_at, thunk_at, thunk_type}
-use Rattle.rules_base.specs.Values.{form_access, operand_value, register_type}
-use Rattle.rules_data.specs.Arithmetic.{computed_type, divisor_known}
-use Rattle.rules_data.specs.Data.{address_type, after_data, arith_row, compare_imm_row, compare_row, data_change, data_row, fact_of, flag}
-use Rattle.rules_data.specs.Data.{frame_value, held, left_operand, left_value, move_access, move_imm_row, move_index_row, move_relative_row}
-use Rattle.rules_data.specs.Data.{move_row, move_signed_row, move_value, plain_row, signed_value, special_type, store_special_row}
-use Rattle.rules_data.specs.Moves.{immediate, immediate_index, low_of, relative}
+use Rattle.rules_data.specs.Data.{address_type, frame_value, move_value, plain_row, signed_value, special_type}
+use Rattle.rules_data.specs.Moves.{immediate_index, low_of, relative}
 use Rattle.rules_laws.proofs.LoadsKeep.{LoadKnown, RegistersKnown, load_at-known, operand_value-known, register_type-known}
 use Rattle.rules_laws.proofs.MovesKeep.{at_least_one_from, kept-known, kept_signed-known, with_immediate-known, with_index-known}
 use Rattle.rules_laws.proofs.MovesKeep.{wrap_below}
 use Rattle.rules_laws.proofs.Options.{ok_also, ok_anything, ok_beside, ok_choice, ok_map, ok_some, ok_then, some_else, some_is, some_then}
-use Rattle.rules_laws.proofs.PlacesKeep.{ParamsKnown, PlaceKnown, place_at-known}
 use Rattle.rules_laws.proofs.StatesKeep.{ChangeKnown, changed_keeps, DestinationKnown, destination_known, put_known}
 use Rattle.rules_laws.proofs.SumsKeep.{any_known, constant_known, if_known, int_known, lin_known}
-use Rattle.rules_laws.proofs.DataKeep.{computed_type-known}
-use Rattle.note_types.specs.Records.{IsNotes}
-use Rattle.note_types.specs.Known.{IsKnown, IsState, IsFact}
-use Rattle.note_types.proofs.RecordLaws.{params_known}
-use Rattle.ebc_width.specs.Width.{wrap64}
+use Rattle.rules_laws.proofs.{PlacesKeep.ParamsKnown, PlacesKeep.PlaceKnown, PlacesKeep.place_at-known, DataKeep.computed_type-known}
+use Rattle.ebc_insn.specs.declared.Size.TheVariants as size
+use Rattle.note_types.specs.declared.rule.RuleName.TheVariants as rule
+use Rattle.rules_base.specs.declared.access.Access.TheVariants as access
+use Rattle.rules_base.specs.declared.change.Change.TheVariants as change
+use Rattle.rules_base.specs.declared.place.Place.TheVariants as place
 
 -- ---- results
 
@@ -150,11 +118,8 @@ compare_imm_row-known notes f s op wide left idx imm w =
 -- ---- moves
 
 address_known : (notes : Notes) (f : FnNote) (o : Option Place) → IfSome o (PlaceKnown notes f) → IsKnown notes f (address_type o)
-address_known notes f None h = any_known notes f
 address_known notes f (Some (place.Local x cell)) h = record { bounded = h.0; names = h.1 }
-address_known notes f (Some (place.Object cell null)) h = any_known notes f
-address_known notes f (Some (place.Parameter kind t)) h = any_known notes f
-address_known notes f (Some (place.ThunkCell i)) h = any_known notes f
+address_known notes f o h = any_known notes f
 
 frame_value-known : (notes : Notes) (f : FnNote) (s : State) (z : Size) (d : Distance) → IsNotes notes → ParamsKnown notes f f.params
     → RegistersKnown notes f s → IfOk (frame_value notes f s z d) (LoadKnown notes f)

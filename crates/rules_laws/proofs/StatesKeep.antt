@@ -1,27 +1,15 @@
 -- Changes keep the conditions on a state.
-use Rattle.std.proofs.Common.{◌≡◌, ℕ, zero, suc, ◌≤◌, Bool, true, false, nat_lt, nat_eq, List, [], ◌∷◌, Option, None, Some, slice_index_or}
-use Rattle.std.proofs.Common.{slice_set, if◌then◌else◌, length, refl, ◌∙◌, arith}
-use Rattle.note_types.specs.declared.notes.FnNote.{FnNote}
-use Rattle.note_types.specs.declared.notes.Notes.{Notes}
-use Rattle.note_types.specs.declared.state.Fact.{Fact}
-use Rattle.note_types.specs.declared.state.State.{State}
-use Rattle.note_types.specs.declared.types.Ty.{Ty}
-use Rattle.note_types.specs.declared.types.Ty.TheVariants as ty
-use Rattle.std.specs.Prelude.{IfOk, Ok, Err}
-use Rattle.ebc_insn.specs.declared.Operand.{Operand}
-use Rattle.note_types.specs.declared.rule.RuleName.TheVariants as rule
-use Rattle.rules_base.specs.declared.access.Access.{Access}
-use Rattle.rules_base.specs.declared.destination.Destination.{Destination}
-use Rattle.rules_base.specs.declared.destination.Destination.TheVariants.{Register, Memory}
-use Rattle.rules_base.specs.declared.operand.Distance.{Distance}
-use Rattle.rules_base.specs.declared.change.Change.{Change}
-use Rattle.rules_base.specs.Access.{takes, target_at}
-use Rattle.rules_base.specs.Destinations.{destination, put}
+use Rattle.rules_laws.proofs.Common.{◌≡◌, ℕ, zero, suc, ◌≤◌, Bool, true, false, nat_lt, nat_eq, List, [], ◌∷◌, Option, None, Some}
+use Rattle.rules_laws.proofs.Common.{slice_index_or, if◌then◌else◌, length, refl, ◌∙◌, arith, FnNote, Notes, Fact, State, Ty, IfOk, Ok, Err}
+use Rattle.rules_laws.proofs.Common.{Operand, Access, Destination, Register, Memory, Distance, Change, takes, target_at, destination, put}
+use Rattle.rules_laws.proofs.Common.{changed, with_fact, with_store, with_type, IsKnown, IsState, IsFact}
+use Rattle.std.proofs.Common.{slice_set}
 use Rattle.rules_laws.proofs.Options.{ok_anything, ok_choice, ok_map}
 use Rattle.rules_base.specs.declared.change.Change.TheVariants.{Written, Stored, Compared}
-use Rattle.rules_base.specs.Change.{changed, lose, with_fact, with_store, with_type}
-use Rattle.note_types.specs.Known.{IsKnown, IsState, IsFact}
+use Rattle.rules_base.specs.Change.{lose}
 use Rattle.std.proofs.lemmas.List.{length-set}
+use Rattle.note_types.specs.declared.types.Ty.TheVariants as ty
+use Rattle.note_types.specs.declared.rule.RuleName.TheVariants as rule
 
 -- what is known of a change
 abbrev pub ChangeKnown : Notes → FnNote → Change → Type 0
@@ -33,11 +21,9 @@ ChangeKnown notes f (Compared fact) = (x : Fact) → fact ≡ Some x → IsFact 
 
 set_or : (xs : List Ty) (r q : ℕ) (t : Ty) (P : Ty → Type 0) → P t → P (slice_index_or xs q ty.Any)
     → P (slice_index_or (slice_set xs r t) q ty.Any)
-set_or [] r q t P h g = g
 set_or (x ∷ xs) zero zero t P h g = h
-set_or (x ∷ xs) zero (suc q) t P h g = g
-set_or (x ∷ xs) (suc r) zero t P h g = g
 set_or (x ∷ xs) (suc r) (suc q) t P h g = set_or xs r q t P h g
+set_or l r q t P h g = g
 
 -- the same where the register may be past the last one
 pub set_within : (b : Bool) (xs : List Ty) (r q : ℕ) (t : Ty) (P : Ty → Type 0) → P t → P (slice_index_or xs q ty.Any)

@@ -1,28 +1,18 @@
 -- Sums, differences and products of known types are known.
-use Rattle.std.proofs.Common.{◌≡◌, ℕ, zero, suc, ◌+◌, ◌-◌, ◌*◌, ◌/◌, ◌%◌, ◌^◌, ◌<◌, ◌≤◌, Bool, true, false, ◌&&◌, nat_lt, nat_le, nat_eq}
-use Rattle.std.proofs.Common.{List, length, Option, None, Some, slice_get, if◌then◌else◌, refl, arith, mod-lt, zero-lt-suc, ℤ, pos, ◌+ℤ◌}
-use Rattle.std.specs.Prelude.{IfSome, negsuc, unsigned_abs, ◌≤ℤ◌}
-use Rattle.std.proofs.lemmas.Bool.{and_parts, leb-true, ltb-true}
-use Rattle.std.proofs.lemmas.Int.{ints}
-use Rattle.std.proofs.Math.Nat.{mul-le-mul_right}
+use Rattle.rules_laws.proofs.Common.{◌≡◌, ℕ, zero, suc, ◌+◌, ◌-◌, ◌/◌, ◌^◌, ◌<◌, ◌≤◌, Bool, true, false, ◌&&◌, nat_lt, nat_le, nat_eq, List}
+use Rattle.rules_laws.proofs.Common.{length, Option, None, Some, slice_get, if◌then◌else◌, refl, arith, mod-lt, ℤ, pos, ◌+ℤ◌, IfSome}
+use Rattle.rules_laws.proofs.Common.{negsuc, unsigned_abs, ◌≤ℤ◌, and_parts, leb-true, ltb-true, ints, FnNote, Notes, Shape, Ty, Int, Lin}
+use Rattle.rules_laws.proofs.Common.{Ptr, Span, and_then, constant, constant_of, full, span_of, or_any, IsKnown, some_any}
+use Rattle.std.proofs.{Common.◌*◌, Common.◌%◌, Common.zero-lt-suc, Math.Nat.mul-le-mul_right}
 use Rattle.note_types.specs.Types.{IsNear, IsUnits}
-use Rattle.note_types.specs.declared.notes.FnNote.{FnNote}
-use Rattle.note_types.specs.declared.notes.Notes.{Notes}
-use Rattle.note_types.specs.declared.shape.Shape.{Shape}
-use Rattle.note_types.specs.declared.types.Ty.{Ty}
-use Rattle.note_types.specs.declared.types.Ty.TheVariants.{Any, Int, Lin, Scaled, Ptr}
-use Rattle.rules_base.specs.declared.parts.Offset.{Offset}
-use Rattle.rules_base.specs.declared.parts.Pointer.{Pointer}
-use Rattle.rules_base.specs.declared.parts.Span.{Span}
-use Rattle.rules_base.specs.Parts.{and_then, constant, constant_of, single, divisor_of, fall_of, full, is_near, lin_of, near_offset}
-use Rattle.rules_base.specs.Parts.{offset_of, pointer_of, signed, span_of}
+use Rattle.note_types.specs.declared.types.Ty.TheVariants.{Any, Scaled}
+use Rattle.rules_base.specs.declared.{parts.Offset.Offset, parts.Pointer.Pointer}
+use Rattle.rules_base.specs.Parts.{single, divisor_of, fall_of, is_near, lin_of, near_offset, offset_of, pointer_of, signed}
 use Rattle.rules_base.specs.Sums.{at_least_one, shared, euclid, gcd, lin, pointer_at, onward, constant_sum, fallen, fall_sum, added}
 use Rattle.rules_base.specs.Sums.{int_sum, lin_sum, by_scaled, scaled_sum, strides, by_bytes, bytes_sum, offset_sum, pointer_sum, sum_row}
-use Rattle.rules_base.specs.Sums.{sum, or_any, constant_difference, taken, int_difference, is_moved, small_negative, difference}
-use Rattle.rules_base.specs.Sums.{constant_product, divisor_within, times, multiple, scaled, lin_product, int_product, product}
+use Rattle.rules_base.specs.Sums.{sum, constant_difference, taken, int_difference, is_moved, small_negative, difference, constant_product}
+use Rattle.rules_base.specs.Sums.{divisor_within, times, multiple, scaled, lin_product, int_product, product}
 use Rattle.rules_laws.proofs.Options.{some_then, some_else, some_if}
-use Rattle.note_types.specs.Known.{IsKnown}
-use Rattle.ebc_base.proofs.Given.{some_any}
 
 -- ---- parts
 

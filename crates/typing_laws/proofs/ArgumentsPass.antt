@@ -1,40 +1,18 @@
 -- The arguments of a call: the slots that the rules let be passed fit the parameters of the called function, and those handed to
 -- a native method are what its signature wants.
-use Rattle.std.proofs.Common.{◌≡◌, ℕ, suc, Bool, true, false, if◌then◌else◌, List, [], ◌∷◌, length, take, Option, Some, None, slice_get}
-use Rattle.std.proofs.Common.{refl, sym, ap, ◌∙◌, subst, arith, option_and_then}
-use Rattle.std.specs.List.{AllZip}
-use Rattle.std.proofs.lemmas.Bool.{and_from, false≢true}
-use Rattle.std.proofs.lemmas.Option.{none-some}
-use Rattle.note_types.specs.BelowTests.{is_below, same_kind}
-use Rattle.note_types.specs.Known.{local_fields}
-use Rattle.note_types.specs.Passing.{IsPassed}
-use Rattle.note_types.specs.declared.cell.Cell.{Cell}
-use Rattle.note_types.specs.declared.items.Item.{Item}
+use Rattle.typing_laws.proofs.Common.{◌≡◌, ℕ, suc, Bool, true, false, if◌then◌else◌, List, [], ◌∷◌, length, take, Option, Some, None}
+use Rattle.typing_laws.proofs.Common.{slice_get, refl, sym, ap, ◌∙◌, subst, arith, option_and_then, AllZip, and_from, false≢true, none-some}
+use Rattle.typing_laws.proofs.Common.{is_below, same_kind, local_fields, IsPassed, Cell, Item, FnNote, Notes, Param, RuleName, Field, Shape}
+use Rattle.typing_laws.proofs.Common.{Ty, is_below_exact, same_kind-equal, same_kind-refl, both, needs, cell_of, has_field, arguments}
+use Rattle.typing_laws.proofs.Common.{Registers, StackItem, Pushed, LocalsOf, FunctionFrame, Fits, ItemFits, Memory, cell_field, AreWritten}
+use Rattle.typing_laws.proofs.Common.{Neutral, FieldOfLocals, ParamFits}
+use Rattle.note_types.proofs.SameLaws.{same_cell-equal}
+use Rattle.rules_flow.specs.Arguments.{argument, is_cell, lends, passed}
+use Rattle.neutral_machine.specs.{Rows.have_kinds, Fits.IsCellBelow, Fits.IsLent}
+use Rattle.typing_laws.proofs.{FitsBelow.fits_below, LiveCells.LaterBelow, LiveCells.below_down, LiveCells.passed_up, Loads.has_field_is}
 use Rattle.note_types.specs.declared.items.Item.TheVariants as item
-use Rattle.note_types.specs.declared.notes.FnNote.{FnNote}
-use Rattle.note_types.specs.declared.notes.Notes.{Notes}
-use Rattle.note_types.specs.declared.notes.Param.{Param}
-use Rattle.note_types.specs.declared.rule.RuleName.{RuleName}
 use Rattle.note_types.specs.declared.rule.RuleName.TheVariants as rule
-use Rattle.note_types.specs.declared.shape.Field.{Field}
-use Rattle.note_types.specs.declared.shape.Shape.{Shape}
-use Rattle.note_types.specs.declared.types.Ty.{Ty}
 use Rattle.note_types.specs.declared.types.Ty.TheVariants as ty
-use Rattle.note_types.proofs.BelowLaws.{is_below_exact}
-use Rattle.note_types.proofs.SameLaws.{same_cell-equal, same_kind-equal, same_kind-refl}
-use Rattle.rules_base.specs.Outcomes.{both, needs}
-use Rattle.rules_base.specs.Places.{cell_of, has_field}
-use Rattle.rules_flow.specs.Arguments.{argument, arguments, is_cell, lends, passed}
-use Rattle.neutral_machine.specs.Rows.{have_kinds}
-use Rattle.neutral_machine.specs.Config.{Registers, StackItem, Pushed, LocalsOf, FunctionFrame}
-use Rattle.neutral_machine.specs.Fits.{IsCellBelow, IsLent, Fits}
-use Rattle.neutral_machine.specs.FitsState.{ItemFits}
-use Rattle.neutral_machine.specs.Memory.{Memory, cell_field, AreWritten}
-use Rattle.host_model.specs.Values.{Neutral, FieldOfLocals}
-use Rattle.invariant_laws.specs.Sound.{ParamFits}
-use Rattle.typing_laws.proofs.FitsBelow.{fits_below}
-use Rattle.typing_laws.proofs.LiveCells.{LaterBelow, below_down, passed_up}
-use Rattle.typing_laws.proofs.Loads.{has_field_is}
 
 -- ---- conditions
 
@@ -105,19 +83,7 @@ module _ (notes : Notes) (note : FnNote) (d : ℕ) (U V : Memory) (written : ℕ
           → IsCellBelow notes V (suc d) cell v × (read ≡ true → IsLent notes V (suc d) cell v)
       go true q e = (below q, full q read e)
       go false q e = absurd (some_never rule.Arguments e)
-  lent_below saved cell read ty.Any v e h = absurd (some_never rule.Arguments e)
-  lent_below saved cell read (ty.Int lo hi div) v e h = absurd (some_never rule.Arguments e)
-  lent_below saved cell read (ty.Lin n c) v e h = absurd (some_never rule.Arguments e)
-  lent_below saved cell read (ty.Scaled n c hi) v e h = absurd (some_never rule.Arguments e)
-  lent_below saved cell read (ty.Ptr q k n c may) v e h = absurd (some_never rule.Arguments e)
-  lent_below saved cell read (ty.Status g) v e h = absurd (some_never rule.Arguments e)
-  lent_below saved cell read (ty.SignedStatus g) v e h = absurd (some_never rule.Arguments e)
-  lent_below saved cell read ty.Mask v e h = absurd (some_never rule.Arguments e)
-  lent_below saved cell read ty.Handle v e h = absurd (some_never rule.Arguments e)
-  lent_below saved cell read ty.Entry v e h = absurd (some_never rule.Arguments e)
-  lent_below saved cell read (ty.Method q) v e h = absurd (some_never rule.Arguments e)
-  lent_below saved cell read (ty.ThunkAt q) v e h = absurd (some_never rule.Arguments e)
-  lent_below saved cell read (ty.Saved q) v e h = absurd (some_never rule.Arguments e)
+  lent_below saved cell read t v e h = absurd (some_never rule.Arguments e)
 
   -- ---- arguments of a function
 
@@ -132,19 +98,9 @@ module _ (notes : Notes) (note : FnNote) (d : ℕ) (U V : Memory) (written : ℕ
       → Fits notes U d saved t v → Fits notes V (suc d) other p v
   passed_fits saved other (ty.Lent cell) t v k e h = (lent_below saved cell true t v e h).1 refl
   passed_fits saved other ty.Any t v k e h = tt
-  passed_fits saved other (ty.Int lo hi div) t v k e h = below_passed saved other (ty.Int lo hi div) t v k e h
-  passed_fits saved other (ty.Lin n c) t v k e h = below_passed saved other (ty.Lin n c) t v k e h
-  passed_fits saved other (ty.Scaled n c hi) t v k e h = below_passed saved other (ty.Scaled n c hi) t v k e h
-  passed_fits saved other (ty.Ptr q i n c may) t v k e h = below_passed saved other (ty.Ptr q i n c may) t v k e h
   passed_fits saved other (ty.Local x) t v k e h = absurd k
-  passed_fits saved other (ty.Status g) t v k e h = below_passed saved other (ty.Status g) t v k e h
-  passed_fits saved other (ty.SignedStatus g) t v k e h = below_passed saved other (ty.SignedStatus g) t v k e h
-  passed_fits saved other ty.Mask t v k e h = below_passed saved other ty.Mask t v k e h
-  passed_fits saved other ty.Handle t v k e h = below_passed saved other ty.Handle t v k e h
-  passed_fits saved other ty.Entry t v k e h = below_passed saved other ty.Entry t v k e h
-  passed_fits saved other (ty.Method q) t v k e h = below_passed saved other (ty.Method q) t v k e h
-  passed_fits saved other (ty.ThunkAt q) t v k e h = below_passed saved other (ty.ThunkAt q) t v k e h
   passed_fits saved other (ty.Saved q) t v k e h = absurd k
+  passed_fits saved other u t v k e h = below_passed saved other u t v k e h
 
   -- The items passed for parameters fit them, said of a frame above, and have their kinds.
   pub arguments_fit : (f g : FunctionFrame) (ps : List Param) (is : List StackItem) (xs : List Item)

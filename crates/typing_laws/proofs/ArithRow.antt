@@ -1,74 +1,32 @@
 -- The row of arithmetic: what its rule accepts, the neutral machine does, and stays sound.
-use Rattle.std.proofs.Common.{◌≡◌, ◌≢◌, ℕ, ◌^◌, ◌<◌, Bool, true, false, ◌&&◌, if◌then◌else◌, nat_eq, List, Option, Some, None, Result, Ok}
-use Rattle.std.proofs.Common.{Err, IfOk, refl, sym, ap, ◌∙◌, subst, arith, ℤ, pos, negsuc, slice_get}
-use Rattle.std.proofs.lemmas.Bool.{lt-ltb, eqb-false}
-use Rattle.ebc_insn.specs.declared.ArithOp.{ArithOp}
-use Rattle.ebc_insn.specs.declared.Extra.{Extra}
-use Rattle.ebc_insn.specs.declared.Extra.TheVariants.{Nothing, Imm, Idx}
-use Rattle.ebc_insn.specs.declared.Operand.{Operand}
-use Rattle.ebc_width.specs.Width.{wrap64}
-use Rattle.machine_alu.specs.Alu.{computed}
-use Rattle.natural_index.specs.declared.Index.{Index}
-use Rattle.note_types.specs.States.{type_of}
-use Rattle.note_types.specs.Types.{IsBounded}
-use Rattle.note_types.specs.declared.notes.FnNote.{FnNote}
-use Rattle.note_types.specs.declared.rule.RuleName.{RuleName}
-use Rattle.note_types.specs.declared.rule.RuleName.TheVariants as rule
-use Rattle.note_types.specs.declared.state.State.{State}
-use Rattle.note_types.specs.declared.types.Ty.{Ty}
-use Rattle.rules_base.specs.declared.access.Access.TheVariants as access
-use Rattle.rules_base.specs.declared.access.Loaded.{Loaded}
-use Rattle.rules_base.specs.declared.change.Change.{Change}
-use Rattle.rules_base.specs.declared.destination.Destination.{Destination}
-use Rattle.rules_base.specs.declared.operand.Distance.{Distance}
-use Rattle.rules_base.specs.declared.place.Place.{Place}
-use Rattle.rules_base.specs.declared.place.Place.TheVariants as place
-use Rattle.rules_base.specs.Access.{known, loads, loaded_type, load_place, load_at}
-use Rattle.rules_base.specs.Change.{changed}
-use Rattle.rules_base.specs.Destinations.{destination, put}
-use Rattle.rules_base.specs.Operands.{nowhere, extra_distance, with_immediate}
-use Rattle.ebc_base.specs.Steps.{or_else}
-use Rattle.rules_base.specs.Outcomes.{also, beside, gives_map, needs}
-use Rattle.rules_base.specs.Parts.{constant, constant_of, full, is_int}
-use Rattle.rules_base.specs.Places.{has_field, place_at}
-use Rattle.rules_base.specs.Values.{form_access, operand_value, register_type}
-use Rattle.rules_base.specs.Values as rules_values
-use Rattle.note_types.specs.Records.{IsNotes}
-use Rattle.note_types.specs.Known.{IsKnown}
-use Rattle.rules_data.specs.Arithmetic.{computed_type, divisor_known, is_unary, folded, fold_row, or_ints}
-use Rattle.rules_data.specs.Data.{left_value}
-use Rattle.host_model.specs.Values.{number}
-use Rattle.neutral_machine.specs.Config.{FunctionFrame, Frame, Config, depth}
-use Rattle.host_model.specs.World.{World}
-use Rattle.invariant_laws.specs.Live.{live_memory}
-use Rattle.neutral_machine.specs.Outcomes.{Outcome, Gives, Raises, Stuck, ◌>>=◌}
-use Rattle.neutral_machine.specs.Operations.{combined}
-use Rattle.neutral_machine.specs.Operands.{plainly, beside_extra, local_at_location, offset_of, extra_pair, moved_by, direct_value}
-use Rattle.neutral_machine.specs.Operands.{loaded_by, value, written}
-use Rattle.neutral_machine.specs.Locations.{Form, Offset, located_on_stack}
-use Rattle.neutral_machine.specs.Rows.{NeutralEnd, Next, goes, arith_row}
-use Rattle.std.proofs.lemmas.Option.{same_Some}
-use Rattle.machine_alu.specs.declared.DivideError.{DivideError}
-use Rattle.note_types.specs.declared.notes.Param.{Param}
-use Rattle.note_types.specs.declared.types.Ty.TheVariants as ty
+use Rattle.typing_laws.proofs.Common.{◌≡◌, ◌≢◌, ℕ, ◌^◌, ◌<◌, Bool, true, false, ◌&&◌, if◌then◌else◌, nat_eq, List, Option, Some, None}
+use Rattle.typing_laws.proofs.Common.{Result, Ok, Err, IfOk, refl, sym, ap, ◌∙◌, subst, arith, ℤ, pos, negsuc, slice_get, lt-ltb, eqb-false}
+use Rattle.typing_laws.proofs.Common.{ArithOp, Extra, Nothing, Imm, Idx, Operand, wrap64, computed, Index, type_of, IsBounded, FnNote}
+use Rattle.typing_laws.proofs.Common.{RuleName, State, Ty, Loaded, Change, Destination, Distance, Place, known, loads, loaded_type}
+use Rattle.typing_laws.proofs.Common.{load_place, load_at, changed, destination, put, extra_distance, with_immediate, or_else, also, beside}
+use Rattle.typing_laws.proofs.Common.{gives_map, needs, constant, constant_of, full, is_int, has_field, place_at, form_access}
+use Rattle.typing_laws.proofs.Common.{operand_value, register_type, IsNotes, IsKnown, computed_type, divisor_known, is_unary, folded}
+use Rattle.typing_laws.proofs.Common.{fold_row, or_ints, left_value, number, FunctionFrame, Frame, Config, depth, World, live_memory}
+use Rattle.typing_laws.proofs.Common.{Outcome, Gives, Raises, Stuck, ◌>>=◌, combined, plainly, beside_extra, local_at_location, offset_of}
+use Rattle.typing_laws.proofs.Common.{extra_pair, moved_by, direct_value, loaded_by, value, written, Form, Offset, located_on_stack}
+use Rattle.typing_laws.proofs.Common.{NeutralEnd, Next, goes, same_Some, DivideError, Param, load_at-known, register_type-known}
+use Rattle.typing_laws.proofs.Common.{operand_value-known, Accepts}
+use Rattle.rules_base.specs.Operands.{nowhere}
+use Rattle.neutral_machine.specs.Rows.{arith_row}
 use Rattle.rules_base.specs.declared.access.Access.{Access as RuleAccess}
 use Rattle.rules_data.specs.declared.rows.Held.{Held}
-use Rattle.rules_data.specs.Data as rules_data
-use Rattle.rules_laws.proofs.DataKeep.{computed_type-known}
-use Rattle.rules_laws.proofs.LoadsKeep.{load_at-known, register_type-known, operand_value-known}
-use Rattle.rules_laws.proofs.Options.{ok_choice, ok_map}
-use Rattle.note_types.specs.declared.spot.Spot.TheVariants as host
-use Rattle.typing_laws.proofs.Rows.{then_some, same_fits, err_ok, ok_same}
-use Rattle.typing_laws.proofs.ComputedFit.{computed_below}
-use Rattle.invariant_laws.specs.Accepts.{Accepts}
-use Rattle.typing_laws.proofs.Accesses.{access_of}
-use Rattle.typing_laws.proofs.SumsFit.{sum_fits}
-use Rattle.typing_laws.proofs.WideFit.{computed_fits}
-use Rattle.typing_laws.proofs.Pointed.{IsBeside}
-use Rattle.typing_laws.proofs.Stores.{Within}
-use Rattle.typing_laws.proofs.Context.{TopSound, known_params}
+use Rattle.rules_laws.proofs.{DataKeep.computed_type-known, Options.ok_choice, Options.ok_map}
 use Rattle.typing_laws.proofs.Operands.{IsSmall, FitsHere, register_fits, load_fits, then_ok}
-use Rattle.typing_laws.proofs.Written.{After, result_left}
+use Rattle.typing_laws.proofs.{Rows.then_some, Rows.same_fits, Rows.err_ok, Rows.ok_same, ComputedFit.computed_below, Accesses.access_of}
+use Rattle.typing_laws.proofs.{SumsFit.sum_fits, WideFit.computed_fits, Pointed.IsBeside, Stores.Within, Context.TopSound}
+use Rattle.typing_laws.proofs.{Context.known_params, Written.After, Written.result_left}
+use Rattle.note_types.specs.declared.rule.RuleName.TheVariants as rule
+use Rattle.rules_base.specs.declared.access.Access.TheVariants as access
+use Rattle.rules_base.specs.declared.place.Place.TheVariants as place
+use Rattle.rules_base.specs.Values as rules_values
+use Rattle.note_types.specs.declared.types.Ty.TheVariants as ty
+use Rattle.rules_data.specs.Data as rules_data
+use Rattle.note_types.specs.declared.spot.Spot.TheVariants as host
 
 -- ---- outcomes
 

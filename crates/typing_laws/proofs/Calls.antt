@@ -1,114 +1,58 @@
 -- The rows of CALL of byte code and of RET.
-use Rattle.std.proofs.Common.{◌≡◌, ◌≢◌, ℕ, zero, suc, ◌+◌, ◌%◌, ◌^◌, ◌<◌, ◌⊎◌, Bool, true, false, not, ◌&&◌, if◌then◌else◌, nat_eq}
-use Rattle.std.proofs.Common.{nat_lt, List, [], ◌∷◌, length, Some, None, Result, Ok, Err, slice_get, slice_index_or, refl, sym, ap, ◌∙◌}
-use Rattle.std.proofs.Common.{subst, arith, inl, inr, ⊎_elim, ℤ, pos}
-use Rattle.std.specs.List.{AllZip}
-use Rattle.std.specs.Option.{option_map_or}
-use Rattle.std.proofs.lemmas.Bool.{and_from, and_parts, eqb-true, eqb-false, ne_eqb, lt-ltb, ltb-true, ltb-false, le-leb, false≢true}
-use Rattle.std.proofs.lemmas.Option.{same_Some, none-some}
-use Rattle.ebc_base.specs.Steps.{or_else}
-use Rattle.ebc_insn.specs.Spelling.{TargetFits}
-use Rattle.ebc_insn.specs.declared.Extra.{Extra}
-use Rattle.ebc_insn.specs.declared.Operand.{Operand}
-use Rattle.note_types.specs.BelowTests.{is_below}
-use Rattle.note_types.specs.Known.{local_fields}
-use Rattle.note_types.specs.Notes.{entry_state}
-use Rattle.note_types.specs.Passing.{IsReturned}
-use Rattle.note_types.specs.States.{type_of}
-use Rattle.note_types.specs.declared.notes.FnNote.{FnNote}
-use Rattle.note_types.specs.declared.notes.Notes.{Notes}
-use Rattle.note_types.specs.declared.rule.RuleName.{RuleName}
-use Rattle.note_types.specs.declared.rule.RuleName.TheVariants as rule
-use Rattle.note_types.specs.declared.shape.Shape.{Shape}
-use Rattle.note_types.specs.declared.spot.Spot.{Spot}
-use Rattle.note_types.specs.declared.spot.Spot.TheVariants.{Place, Gate}
-use Rattle.note_types.specs.declared.items.Item.{Item}
-use Rattle.note_types.specs.declared.state.State.{State}
-use Rattle.note_types.specs.declared.types.Ty.{Ty}
-use Rattle.note_types.specs.declared.types.Ty.TheVariants as ty
-use Rattle.note_types.proofs.BelowLaws.{is_below_exact}
-use Rattle.rules_base.specs.Outcomes.{both, needs}
-use Rattle.rules_base.specs.Places.{locals_size}
-use Rattle.rules_flow.specs.Arguments.{arguments}
-use Rattle.rules_flow.specs.Calls.{all_made, call_fails, call_size, call_to, callee_at, called, fits_need, is_entry_value, is_lower}
-use Rattle.rules_flow.specs.Calls.{is_saved, may_return}
-use Rattle.rules_flow.specs.Calls as rules_calls
-use Rattle.rules_flow.specs.Frames.{at, items_size}
-use Rattle.rules_flow.specs.Found.{number_at, number_from}
-use Rattle.rules_flow.specs.Jumps.{target_of}
-use Rattle.rules_flow.specs.Successors.{ends, falls}
-use Rattle.rules_flow.specs.declared.successors.Successors.{Successors}
-use Rattle.neutral_machine.specs.Operands.{beside_extra}
-use Rattle.neutral_machine.specs.Rows.{NeutralEnd, Next, Site, aligned, call_row, called_from, function_at, goes, inside, params_match}
-use Rattle.neutral_machine.specs.Rows.{return_row, returned_from, returned_to, target_at}
-use Rattle.neutral_machine.specs.Rows as rows
-use Rattle.neutral_machine.specs.Config.{Registers, StackItem, FunctionFrame, Frame, Function, Host, Config, depth, locals_among, locals_at}
-use Rattle.neutral_machine.specs.Fits.{FitsPlain, Fits}
-use Rattle.neutral_machine.specs.FitsState.{FitsState, ItemFits}
-use Rattle.neutral_machine.specs.Layout.{height}
-use Rattle.neutral_machine.specs.Memory.{Memory}
-use Rattle.neutral_machine.specs.Outcomes.{Outcome, Gives, Stuck, ◌>>=◌, or_stuck}
-use Rattle.host_model.specs.Placements.{pair_at, return_cell}
-use Rattle.host_model.specs.Values.{Neutral}
-use Rattle.host_model.specs.World.{World}
-use Rattle.invariant_laws.specs.Accepts.{Accepts}
-use Rattle.invariant_laws.specs.Asked.{GivenByCall, result_type_of}
-use Rattle.invariant_laws.specs.Later.{IsFresh, Later, Preserves, WillFit}
-use Rattle.invariant_laws.specs.Live.{live_memory}
-use Rattle.typing_laws.specs.OneRule.{Enters, GoesBack, Returns, here_of}
-use Rattle.invariant_laws.specs.Sound.{FrameBelow, GoesWell, KeepsWithin, Sound, SoundBelow}
-use Rattle.typing_laws.proofs.FitsBelow.{fits_below}
-use Rattle.typing_laws.proofs.Rows.{then_some, err_ok}
+use Rattle.typing_laws.proofs.Common.{◌≡◌, ◌≢◌, ℕ, zero, suc, ◌+◌, ◌%◌, ◌^◌, ◌<◌, ◌⊎◌, Bool, true, false, not, ◌&&◌, if◌then◌else◌, nat_eq}
+use Rattle.typing_laws.proofs.Common.{nat_lt, List, [], ◌∷◌, length, Some, None, Result, Ok, Err, slice_get, slice_index_or, refl, sym, ap}
+use Rattle.typing_laws.proofs.Common.{◌∙◌, subst, arith, inl, inr, ⊎_elim, ℤ, pos, AllZip, option_map_or, and_from, and_parts, eqb-true}
+use Rattle.typing_laws.proofs.Common.{eqb-false, ne_eqb, lt-ltb, ltb-true, ltb-false, le-leb, false≢true, same_Some, none-some, or_else}
+use Rattle.typing_laws.proofs.Common.{TargetFits, Extra, Operand, is_below, local_fields, type_of, FnNote, Notes, RuleName, Shape, Item}
+use Rattle.typing_laws.proofs.Common.{State, Ty, is_below_exact, both, needs, locals_size, arguments, all_made, call_size, call_to}
+use Rattle.typing_laws.proofs.Common.{fits_need, is_lower, at, items_size, number_at, number_from, target_of, falls, Successors}
+use Rattle.typing_laws.proofs.Common.{beside_extra, NeutralEnd, Next, Site, aligned, goes, Registers, StackItem, FunctionFrame, Frame}
+use Rattle.typing_laws.proofs.Common.{Function, Host, Config, depth, locals_among, locals_at, FitsPlain, Fits, FitsState, ItemFits, height}
+use Rattle.typing_laws.proofs.Common.{Memory, Outcome, Gives, Stuck, ◌>>=◌, or_stuck, pair_at, return_cell, Neutral, World, Accepts, Later}
+use Rattle.typing_laws.proofs.Common.{Preserves, WillFit, live_memory, here_of, FrameBelow, KeepsWithin, Sound, SoundBelow, fields_later}
+use Rattle.typing_laws.proofs.Common.{fits_later, items_later}
+use Rattle.note_types.specs.{Notes.entry_state, Passing.IsReturned}
+use Rattle.note_types.specs.declared.{spot.Spot.Spot, spot.Spot.TheVariants.Place, spot.Spot.TheVariants.Gate}
+use Rattle.rules_flow.specs.Calls.{call_fails, callee_at, called, is_entry_value, is_saved, may_return}
+use Rattle.rules_flow.specs.Successors.{ends}
+use Rattle.neutral_machine.specs.Rows.{call_row, called_from, function_at, inside, params_match, return_row, returned_from, returned_to}
+use Rattle.neutral_machine.specs.Rows.{target_at}
+use Rattle.invariant_laws.specs.{Asked.GivenByCall, Asked.result_type_of, Later.IsFresh, Sound.GoesWell}
+use Rattle.typing_laws.specs.OneRule.{Enters, GoesBack, Returns}
 use Rattle.typing_laws.proofs.ArgumentsPass.{arguments_fit, both_none, needs_true}
-use Rattle.typing_laws.proofs.ArithRow.{also_ok}
-use Rattle.typing_laws.proofs.Context.{TopSound, passed_params, same_locals}
-use Rattle.typing_laws.proofs.ItemsChanged.{few_hosts, top_keeps}
-use Rattle.typing_laws.proofs.Jumps.{aligned_is, number_found, target_found}
-use Rattle.invariant_laws.proofs.LaterFits.{fields_later, fits_later, items_later, later_trans}
-use Rattle.typing_laws.proofs.LiveCells.{LaterBelow, below_later, frames_kept}
-use Rattle.typing_laws.proofs.Operands.{some_ok, then_ok}
-use Rattle.typing_laws.proofs.PushFits.{top_height}
-use Rattle.typing_laws.proofs.Relaid.{cells_at, later_at}
+use Rattle.typing_laws.proofs.{FitsBelow.fits_below, Rows.then_some, Rows.err_ok, ArithRow.also_ok, Context.TopSound, Context.passed_params}
+use Rattle.typing_laws.proofs.{Context.same_locals, ItemsChanged.few_hosts, ItemsChanged.top_keeps, Jumps.aligned_is, Jumps.number_found}
+use Rattle.typing_laws.proofs.{Jumps.target_found, LiveCells.LaterBelow, LiveCells.below_later, LiveCells.frames_kept, Operands.some_ok}
+use Rattle.typing_laws.proofs.{Operands.then_ok, PushFits.top_height, Relaid.cells_at, Relaid.later_at}
+use Rattle.invariant_laws.proofs.LaterFits.{later_trans}
 use Rattle.neutral_machine.proofs.Frames.{no_locals}
+use Rattle.note_types.specs.declared.rule.RuleName.TheVariants as rule
+use Rattle.note_types.specs.declared.types.Ty.TheVariants as ty
+use Rattle.rules_flow.specs.Calls as rules_calls
+use Rattle.neutral_machine.specs.Rows as rows
 
 -- ---- types that a call gives back
 
 -- what fits a result's type in a frame fits it in every frame, and the other way round
 pub returned_plain : (notes : Notes) (m : Memory) (d : ℕ) (saved : Registers) (t : Ty) (v : Neutral) → IsReturned t
     → Fits notes m d saved t v → FitsPlain notes m.objects t v
-returned_plain notes m d saved ty.Any v k h = h
-returned_plain notes m d saved (ty.Int lo hi div) v k h = h
-returned_plain notes m d saved (ty.Lin n c) v k h = h
-returned_plain notes m d saved (ty.Scaled n c hi) v k h = h
-returned_plain notes m d saved (ty.Ptr s i n c may) v k h = h
 returned_plain notes m d saved (ty.Local x) v k h = absurd k
 returned_plain notes m d saved (ty.Lent cell) v k h = absurd k
 returned_plain notes m d saved (ty.Status g) v k h = ⊎_elim (λ e. inl e) (λ s. inr s.0) h
 returned_plain notes m d saved (ty.SignedStatus g) v k h = ⊎_elim (λ e. inl e) (λ s. inr s.0) h
-returned_plain notes m d saved ty.Mask v k h = h
-returned_plain notes m d saved ty.Handle v k h = h
-returned_plain notes m d saved ty.Entry v k h = h
-returned_plain notes m d saved (ty.Method q) v k h = h
 returned_plain notes m d saved (ty.ThunkAt q) v k h = absurd k
 returned_plain notes m d saved (ty.Saved q) v k h = absurd k
+returned_plain notes m d saved t v k h = h
 
 pub plain_returned : (notes : Notes) (m : Memory) (d : ℕ) (saved : Registers) (t : Ty) (v : Neutral) → IsReturned t
     → FitsPlain notes m.objects t v → Fits notes m d saved t v
-plain_returned notes m d saved ty.Any v k h = h
-plain_returned notes m d saved (ty.Int lo hi div) v k h = h
-plain_returned notes m d saved (ty.Lin n c) v k h = h
-plain_returned notes m d saved (ty.Scaled n c hi) v k h = h
-plain_returned notes m d saved (ty.Ptr s i n c may) v k h = h
 plain_returned notes m d saved (ty.Local x) v k h = absurd k
 plain_returned notes m d saved (ty.Lent cell) v k h = absurd k
 plain_returned notes m d saved (ty.Status g) v k h = ⊎_elim (λ e. inl e) (λ s. inr (s, λ x q. absurd (omega (arith, k, q)))) h
 plain_returned notes m d saved (ty.SignedStatus g) v k h = ⊎_elim (λ e. inl e) (λ s. inr (s, λ x q. absurd (omega (arith, k, q)))) h
-plain_returned notes m d saved ty.Mask v k h = h
-plain_returned notes m d saved ty.Handle v k h = h
-plain_returned notes m d saved ty.Entry v k h = h
-plain_returned notes m d saved (ty.Method q) v k h = h
 plain_returned notes m d saved (ty.ThunkAt q) v k h = absurd k
 plain_returned notes m d saved (ty.Saved q) v k h = absurd k
+plain_returned notes m d saved t v k h = h
 
 pub returned_unsaved : (t : Ty) (i : ℕ) → IsReturned t → t ≢ ty.Saved i
 returned_unsaved t i k e = absurd (subst IsReturned e k)
@@ -418,20 +362,7 @@ module _ (world : World) (a : Config) (f : FunctionFrame) (fs : List Frame) (not
   entry_value : (r i : ℕ) (t : Ty) → is_entry_value r t ≡ true → Fits world.notes (live_memory world a) (depth fs) f.saved t (a.registers r)
       → a.registers r ≡ f.saved r
   entry_value r i (ty.Saved j) e h = h ∙ ap f.saved (eqb-true j r e)
-  entry_value r i ty.Any e h = absurd (false≢true e)
-  entry_value r i (ty.Int lo hi div) e h = absurd (false≢true e)
-  entry_value r i (ty.Lin n c) e h = absurd (false≢true e)
-  entry_value r i (ty.Scaled n c hi) e h = absurd (false≢true e)
-  entry_value r i (ty.Ptr q k n c may) e h = absurd (false≢true e)
-  entry_value r i (ty.Local x) e h = absurd (false≢true e)
-  entry_value r i (ty.Lent cl) e h = absurd (false≢true e)
-  entry_value r i (ty.Status g) e h = absurd (false≢true e)
-  entry_value r i (ty.SignedStatus g) e h = absurd (false≢true e)
-  entry_value r i ty.Mask e h = absurd (false≢true e)
-  entry_value r i ty.Handle e h = absurd (false≢true e)
-  entry_value r i ty.Entry e h = absurd (false≢true e)
-  entry_value r i (ty.Method q) e h = absurd (false≢true e)
-  entry_value r i (ty.ThunkAt q) e h = absurd (false≢true e)
+  entry_value r i t e h = absurd (false≢true e)
 
   -- A return that its rule allows goes back, with the function's result.
   pub return_fits : (site : Site) (x : Successors) → rules_calls.return_row note s ≡ Ok x

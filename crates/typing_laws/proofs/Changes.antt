@@ -1,21 +1,11 @@
 -- What an instruction changes in a state, and the configuration beside it: a register written, a cell stored, the flag set.
-use Rattle.std.proofs.Common.{◌≡◌, ◌≢◌, ℕ, zero, suc, ◌<◌, Bool, true, false, if◌then◌else◌, nat_lt, nat_eq, List, [], ◌∷◌, Option, Some}
-use Rattle.std.proofs.Common.{None, slice_set, slice_index_or, refl, sym, ap, ◌∙◌, subst, arith, ⊎_elim}
-use Rattle.std.proofs.lemmas.Bool.{lt-ltb, eq-eqb, ne_eqb, eqb-true, eqb-false, cases_Bool}
-use Rattle.std.proofs.lemmas.Option.{same_Some, none-some}
-use Rattle.note_types.specs.States.{type_of}
-use Rattle.note_types.specs.declared.notes.Notes.{Notes}
-use Rattle.note_types.specs.declared.state.Fact.{Fact}
-use Rattle.note_types.specs.declared.state.State.{State}
-use Rattle.note_types.specs.declared.types.Ty.{Ty}
+use Rattle.typing_laws.proofs.Common.{◌≡◌, ◌≢◌, ℕ, zero, suc, ◌<◌, Bool, true, false, if◌then◌else◌, nat_lt, nat_eq, List, [], ◌∷◌, Option}
+use Rattle.typing_laws.proofs.Common.{Some, None, slice_set, slice_index_or, refl, sym, ap, ◌∙◌, subst, arith, ⊎_elim, lt-ltb, eq-eqb}
+use Rattle.typing_laws.proofs.Common.{ne_eqb, eqb-true, eqb-false, cases_Bool, same_Some, none-some, type_of, Notes, Fact, State, Ty}
+use Rattle.typing_laws.proofs.Common.{with_type, with_fact, Neutral, number, Registers, FunctionFrame, with_value, Memory, Fits, FactHolds}
+use Rattle.typing_laws.proofs.Common.{FitsState, compared_as}
+use Rattle.rules_base.specs.Change.{lose}
 use Rattle.note_types.specs.declared.types.Ty.TheVariants as ty
-use Rattle.rules_base.specs.Change.{lose, with_type, with_fact}
-use Rattle.host_model.specs.Values.{Neutral, number}
-use Rattle.neutral_machine.specs.Config.{Registers, FunctionFrame, with_value}
-use Rattle.neutral_machine.specs.Memory.{Memory}
-use Rattle.neutral_machine.specs.Fits.{Fits}
-use Rattle.neutral_machine.specs.FitsState.{FactHolds, FitsState}
-use Rattle.neutral_machine.specs.Operations.{compared_as}
 
 -- the type of a register after another type is set: that type, or any where there is no such register; else as before
 set_type : (P : ℕ → Ty → Type 0) (xs : List Ty) (r q : ℕ) (t : Ty) → P r t → P r ty.Any → (q ≢ r → P q (slice_index_or xs q ty.Any))

@@ -1,57 +1,22 @@
 -- The row of CMP, and what a jump knows of the flag.
-use Rattle.std.proofs.Common.{◌≡◌, ℕ, zero, suc, ◌^◌, ◌<◌, ◌⊎◌, Bool, true, false, if◌then◌else◌, nat_lt, nat_eq, List, [], ◌∷◌, Option}
-use Rattle.std.proofs.Common.{Some, None, Ok, Err, IfOk, slice_get, slice_set, slice_index_or, refl, sym, ap, ◌∙◌, subst, arith, inl, inr}
-use Rattle.std.proofs.Common.{⊎_elim, bit_or}
-use Rattle.std.specs.Int.{bit_at}
-use Rattle.std.proofs.lemmas.Bool.{lt-ltb, eqb-false, cases_eq}
-use Rattle.std.proofs.lemmas.Nat.Bits.{bit_at_or, bit_at-lt}
-use Rattle.std.proofs.lemmas.Option.{none-some}
-use Rattle.ebc_insn.specs.declared.CmpOp.{CmpOp}
-use Rattle.ebc_insn.specs.declared.Extra.{Extra}
-use Rattle.ebc_insn.specs.declared.Operand.{Operand}
-use Rattle.note_types.specs.FieldSets.{HasField}
-use Rattle.note_types.specs.States.{type_of}
-use Rattle.note_types.specs.Types.{IsBounded}
-use Rattle.note_types.specs.declared.notes.FnNote.{FnNote}
-use Rattle.note_types.specs.declared.notes.Notes.{Notes}
-use Rattle.note_types.specs.declared.notes.Param.{Param}
-use Rattle.note_types.specs.declared.rule.RuleName.TheVariants as rule
-use Rattle.note_types.specs.declared.state.Fact.{Fact}
-use Rattle.note_types.specs.declared.state.State.{State}
-use Rattle.note_types.specs.declared.types.Ty.{Ty}
-use Rattle.note_types.specs.declared.types.Ty.TheVariants as ty
-use Rattle.rules_base.specs.declared.access.Loaded.{Loaded}
-use Rattle.rules_base.specs.declared.change.Change.{Change}
-use Rattle.rules_base.specs.declared.change.Change.TheVariants as change
-use Rattle.rules_base.specs.Change.{changed, with_fact}
-use Rattle.rules_base.specs.Outcomes.{beside}
-use Rattle.rules_base.specs.Values.{form_access, operand_value, register_type}
-use Rattle.note_types.specs.Records.{IsNotes}
-use Rattle.note_types.specs.Known.{IsKnown}
-use Rattle.rules_laws.proofs.LoadsKeep.{register_type-known, operand_value-known}
-use Rattle.rules_data.specs.Compares.{compares}
-use Rattle.rules_data.specs.Data.{flag}
-use Rattle.rules_data.specs.Data as rules_data
-use Rattle.rules_flow.specs.Narrowing.{narrowed, granted, narrowed_if, narrow}
-use Rattle.neutral_machine.specs.Config.{Registers, FunctionFrame, Frame, Config, depth}
-use Rattle.host_model.specs.World.{World}
-use Rattle.invariant_laws.specs.Live.{live_memory}
-use Rattle.neutral_machine.specs.Memory.{Memory}
-use Rattle.neutral_machine.specs.Fits.{Fits}
-use Rattle.neutral_machine.specs.FitsState.{FitsState}
-use Rattle.neutral_machine.specs.Outcomes.{◌>>=◌, or_stuck}
-use Rattle.neutral_machine.specs.Operands.{beside_extra, direct_value, value, local_at_location, offset_of}
-use Rattle.neutral_machine.specs.Locations.{Form, located_on_stack}
-use Rattle.neutral_machine.specs.Rows.{with_c, compare_row, goes}
-use Rattle.invariant_laws.specs.Accepts.{Accepts}
-use Rattle.typing_laws.proofs.Rows.{err_ok, ok_same}
-use Rattle.typing_laws.proofs.Accesses.{access_of}
-use Rattle.typing_laws.proofs.ComparesFit.{compares_fit}
-use Rattle.typing_laws.proofs.NarrowFit.{narrowed_fits, granted_written}
-use Rattle.typing_laws.proofs.Changes.{flag_written}
-use Rattle.typing_laws.proofs.Context.{TopSound, objects, known_params}
-use Rattle.typing_laws.proofs.Operands.{FitsHere, register_fits, then_ok}
+use Rattle.typing_laws.proofs.Common.{◌≡◌, ℕ, zero, suc, ◌^◌, ◌<◌, ◌⊎◌, Bool, true, false, if◌then◌else◌, nat_lt, nat_eq, List, ◌∷◌}
+use Rattle.typing_laws.proofs.Common.{Option, Some, None, Ok, Err, IfOk, slice_get, slice_set, slice_index_or, refl, sym, ap, ◌∙◌, subst}
+use Rattle.typing_laws.proofs.Common.{arith, inl, inr, ⊎_elim, bit_or, bit_at, lt-ltb, eqb-false, cases_eq, bit_at_or, bit_at-lt, none-some}
+use Rattle.typing_laws.proofs.Common.{CmpOp, Extra, Operand, HasField, type_of, IsBounded, FnNote, Notes, Param, Fact, State, Ty, Loaded}
+use Rattle.typing_laws.proofs.Common.{Change, changed, with_fact, beside, form_access, operand_value, register_type, IsNotes, IsKnown}
+use Rattle.typing_laws.proofs.Common.{register_type-known, operand_value-known, compares, flag, granted, narrow, Registers, FunctionFrame}
+use Rattle.typing_laws.proofs.Common.{Frame, Config, depth, World, live_memory, Memory, Fits, FitsState, ◌>>=◌, or_stuck, beside_extra}
+use Rattle.typing_laws.proofs.Common.{direct_value, value, local_at_location, offset_of, Form, located_on_stack, with_c, goes, Accepts}
+use Rattle.rules_flow.specs.Narrowing.{narrowed, narrowed_if}
+use Rattle.neutral_machine.specs.Rows.{compare_row}
 use Rattle.typing_laws.proofs.ArithRow.{BesideFits, GoesOn, goes_on, right_fits, accepts_then, beside_ok, form_same}
+use Rattle.typing_laws.proofs.{Rows.err_ok, Rows.ok_same, Accesses.access_of, ComparesFit.compares_fit, NarrowFit.narrowed_fits}
+use Rattle.typing_laws.proofs.{NarrowFit.granted_written, Changes.flag_written, Context.TopSound, Context.objects, Context.known_params}
+use Rattle.typing_laws.proofs.{Operands.FitsHere, Operands.register_fits, Operands.then_ok}
+use Rattle.note_types.specs.declared.rule.RuleName.TheVariants as rule
+use Rattle.note_types.specs.declared.types.Ty.TheVariants as ty
+use Rattle.rules_base.specs.declared.change.Change.TheVariants as change
+use Rattle.rules_data.specs.Data as rules_data
 
 -- ---- the row
 
@@ -114,11 +79,9 @@ module _ (world : World) (a : Config) (f : FunctionFrame) (fs : List Frame) (not
 -- the type of a register where another type is set in one
 set_other : (P : Ty → Type 0) (xs : List Ty) (r q : ℕ) (t : Ty) → (q ≡ r → P t) → P (slice_index_or xs q ty.Any)
     → P (slice_index_or (slice_set xs r t) q ty.Any)
-set_other P [] r q t h g = g
 set_other P (x ∷ xs) zero zero t h g = h refl
-set_other P (x ∷ xs) zero (suc q) t h g = g
-set_other P (x ∷ xs) (suc r) zero t h g = g
 set_other P (x ∷ xs) (suc r) (suc q) t h g = set_other P xs r q t (λ e. h (ap suc e)) g
+set_other P l r q t h g = g
 
 -- a field of two sets
 pub either_field : (x y i : ℕ) → HasField (bit_or x y) i → HasField x i ⊎ HasField y i

@@ -1,81 +1,32 @@
 -- The rows of CMPI and of MOVsn.
-use Rattle.std.proofs.Common.{◌≡◌, ℕ, ◌<◌, Bool, true, false, if◌then◌else◌, nat_eq, List, Option, Some, None, Result, Ok, Err, IfOk, refl}
-use Rattle.std.proofs.Common.{sym, ap, ◌∙◌, subst, arith, option_map, ℤ}
-use Rattle.std.proofs.lemmas.Bool.{eqb-false}
-use Rattle.std.proofs.lemmas.Option.{same_Some, none-some}
-use Rattle.ebc_width.specs.Width.{wrap64}
-use Rattle.natural_index.specs.declared.Index.{Index}
-use Rattle.ebc_insn.specs.declared.CmpOp.{CmpOp}
-use Rattle.ebc_insn.specs.declared.Extra.{Extra}
-use Rattle.ebc_insn.specs.declared.Operand.{Operand}
-use Rattle.note_types.specs.Known.{IsKnown}
-use Rattle.note_types.specs.Records.{IsNotes}
-use Rattle.note_types.specs.States.{type_of}
-use Rattle.note_types.specs.Types.{IsBounded}
-use Rattle.note_types.specs.declared.notes.FnNote.{FnNote}
-use Rattle.note_types.specs.declared.rule.RuleName.{RuleName}
-use Rattle.note_types.specs.declared.rule.RuleName.TheVariants as rule
-use Rattle.note_types.specs.declared.state.Fact.{Fact}
-use Rattle.note_types.specs.declared.state.State.{State}
-use Rattle.note_types.specs.declared.types.Ty.{Ty}
-use Rattle.note_types.specs.declared.types.Ty.TheVariants as ty
-use Rattle.ebc_base.specs.Steps.{or_else}
-use Rattle.rules_base.specs.Access.{known, load_at}
-use Rattle.rules_base.specs.Change.{changed, with_fact}
-use Rattle.rules_base.specs.Destinations.{destination}
-use Rattle.rules_base.specs.Operands.{index_distance, with_immediate}
-use Rattle.rules_base.specs.Outcomes.{beside, gives_map}
-use Rattle.rules_base.specs.Parts.{constant}
-use Rattle.rules_base.specs.Values.{form_access, register_type}
-use Rattle.rules_base.specs.declared.access.Loaded.{Loaded}
-use Rattle.rules_base.specs.declared.change.Change.{Change}
-use Rattle.rules_base.specs.declared.change.Change.TheVariants as change
-use Rattle.rules_base.specs.declared.operand.Distance.{Distance}
-use Rattle.rules_data.specs.Compares.{compares}
-use Rattle.rules_data.specs.Data.{fact_of, flag, left_value}
-use Rattle.rules_data.specs.Data as rules_data
-use Rattle.rules_laws.proofs.MovesKeep.{wrap_below}
-use Rattle.rules_laws.proofs.RowsKeep.{left_value-known}
-use Rattle.neutral_machine.specs.Config.{FunctionFrame, Frame, Config, depth}
-use Rattle.neutral_machine.specs.FitsState.{FactHolds}
-use Rattle.neutral_machine.specs.Locations.{Form, located_on_stack}
-use Rattle.neutral_machine.specs.Operations.{compared_as}
-use Rattle.neutral_machine.specs.Outcomes.{Outcome, Gives, ◌>>=◌, or_stuck}
-use Rattle.host_model.specs.Values.{Neutral, number}
-use Rattle.host_model.specs.World.{World}
-use Rattle.neutral_machine.specs.Operands.{direct_value, index_pair, indexed, loaded_by, local_at_location, moved_by, offset_of, value}
-use Rattle.neutral_machine.specs.Rows.{compare_imm_row, goes}
-use Rattle.neutral_machine.specs.Rows.{with_c}
-use Rattle.neutral_machine.specs.Rows as rows
-use Rattle.invariant_laws.specs.Accepts.{Accepts}
-use Rattle.invariant_laws.specs.Live.{live_memory}
-use Rattle.typing_laws.proofs.Accesses.{access_of}
-use Rattle.typing_laws.proofs.Changes.{flag_written}
-use Rattle.typing_laws.proofs.ComparesFit.{compares_fit}
-use Rattle.typing_laws.proofs.Rows.{same_fits, err_ok, ok_same}
-use Rattle.typing_laws.proofs.ArithRow.{GoesOn, accepts_is, accepts_then, beside_ok, form_same, goes_on, memory_value}
-use Rattle.typing_laws.proofs.Context.{TopSound, known_params, objects}
-use Rattle.typing_laws.proofs.Operands.{FitsHere, IsSmall, register_fits, then_ok}
-use Rattle.typing_laws.proofs.Pointed.{IsBeside}
-use Rattle.note_types.specs.declared.cell.SlotKind.TheVariants.{N, Q, D}
-use Rattle.rules_base.specs.Access.{loads, loaded_type, load_place}
-use Rattle.rules_base.specs.Operands.{extra_distance}
-use Rattle.rules_base.specs.Places.{has_field, place_at}
+use Rattle.typing_laws.proofs.Common.{◌≡◌, ℕ, ◌<◌, Bool, true, false, if◌then◌else◌, nat_eq, List, Option, Some, None, Result, Ok, Err}
+use Rattle.typing_laws.proofs.Common.{IfOk, refl, sym, ap, ◌∙◌, subst, arith, option_map, ℤ, eqb-false, same_Some, none-some, wrap64, Index}
+use Rattle.typing_laws.proofs.Common.{CmpOp, Extra, Operand, IsKnown, IsNotes, type_of, IsBounded, FnNote, RuleName, Fact, State, Ty}
+use Rattle.typing_laws.proofs.Common.{or_else, known, load_at, changed, with_fact, destination, index_distance, with_immediate, beside}
+use Rattle.typing_laws.proofs.Common.{gives_map, constant, form_access, register_type, Loaded, Change, Distance, compares, flag, left_value}
+use Rattle.typing_laws.proofs.Common.{wrap_below, FunctionFrame, Frame, Config, depth, FactHolds, Form, located_on_stack, compared_as}
+use Rattle.typing_laws.proofs.Common.{Outcome, Gives, ◌>>=◌, or_stuck, Neutral, number, World, direct_value, index_pair, indexed, loaded_by}
+use Rattle.typing_laws.proofs.Common.{local_at_location, moved_by, offset_of, value, goes, with_c, Accepts, live_memory, N, Q, loads}
+use Rattle.typing_laws.proofs.Common.{loaded_type, load_place, extra_distance, has_field, place_at, operand_value, Place, Signed}
+use Rattle.typing_laws.proofs.Common.{sign_extended, beside_extra, extra_pair}
+use Rattle.rules_data.specs.Data.{fact_of}
+use Rattle.rules_laws.proofs.RowsKeep.{left_value-known, signed_value-known}
+use Rattle.neutral_machine.specs.Rows.{compare_imm_row, move_signed_row}
+use Rattle.typing_laws.proofs.ArithRow.{GoesOn, accepts_is, accepts_then, beside_ok, form_same, goes_on, memory_value, BesideFits}
+use Rattle.typing_laws.proofs.ArithRow.{immediate_fits}
+use Rattle.typing_laws.proofs.Operands.{FitsHere, IsSmall, register_fits, then_ok, load_fits}
+use Rattle.typing_laws.proofs.{Accesses.access_of, Changes.flag_written, ComparesFit.compares_fit, Rows.same_fits, Rows.err_ok}
+use Rattle.typing_laws.proofs.{Rows.ok_same, Context.TopSound, Context.known_params, Context.objects, Pointed.IsBeside, DataRest.left_goes}
+use Rattle.typing_laws.proofs.{DataRest.wraps, KeptFit.signed_fits}
 use Rattle.rules_base.specs.Kept.{kept_signed}
-use Rattle.rules_base.specs.Values.{operand_value}
+use Rattle.note_types.specs.declared.rule.RuleName.TheVariants as rule
+use Rattle.note_types.specs.declared.types.Ty.TheVariants as ty
+use Rattle.rules_base.specs.declared.change.Change.TheVariants as change
+use Rattle.rules_data.specs.Data as rules_data
+use Rattle.neutral_machine.specs.Rows as rows
 use Rattle.rules_base.specs.Values as rules_values
 use Rattle.rules_base.specs.declared.access.Access.TheVariants as access
-use Rattle.rules_base.specs.declared.place.Place.{Place}
 use Rattle.rules_base.specs.declared.place.Place.TheVariants as place
-use Rattle.rules_laws.proofs.RowsKeep.{signed_value-known}
-use Rattle.neutral_machine.specs.Locations.{Signed}
-use Rattle.neutral_machine.specs.Operations.{sign_extended}
-use Rattle.neutral_machine.specs.Operands.{beside_extra, extra_pair}
-use Rattle.neutral_machine.specs.Rows.{move_signed_row}
-use Rattle.typing_laws.proofs.ArithRow.{BesideFits, immediate_fits}
-use Rattle.typing_laws.proofs.DataRest.{left_goes, wraps}
-use Rattle.typing_laws.proofs.Operands.{load_fits}
-use Rattle.typing_laws.proofs.KeptFit.{signed_fits}
 
 module _ (world : World) (a : Config) (f : FunctionFrame) (fs : List Frame) (note : FnNote) (s : State)
     (st : TopSound world a f fs note s) where
@@ -223,12 +174,9 @@ module _ (world : World) (a : Config) (f : FunctionFrame) (fs : List Frame) (not
       go false n e = absurd (err_ok rule.Address t e)
   made_signed (place.Parameter N (ty.Status g)) t e = sym (ap (λ (z : Loaded). z.made)
       (ok_same (record { ty = ty.SignedStatus 0; made = true }) t e))
-  made_signed (place.Parameter N _) t e = absurd (err_ok rule.Address t e)
   made_signed (place.Parameter Q (ty.Status g)) t e = sym (ap (λ (z : Loaded). z.made)
       (ok_same (record { ty = ty.SignedStatus 0; made = true }) t e))
-  made_signed (place.Parameter Q _) t e = absurd (err_ok rule.Address t e)
-  made_signed (place.Parameter D i) t e = absurd (err_ok rule.Address t e)
-  made_signed (place.ThunkCell i) t e = absurd (err_ok rule.Address t e)
+  made_signed p t e = absurd (err_ok rule.Address t e)
 
   made_there : (r : ℕ) (d : Distance) (t : Loaded) → load_at world.notes note s access.Signed r d ≡ Ok t → t.made ≡ true
   unfolding load_at

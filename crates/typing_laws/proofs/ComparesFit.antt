@@ -1,30 +1,16 @@
 -- Comparisons that the rules allow are defined.
-use Rattle.std.proofs.Common.{◌≡◌, ℕ, ◌-◌, ◌*◌, ◌^◌, ◌<◌, ◌≤◌, ◌⊎◌, Bool, true, false, ◌&&◌, ◌||◌, if◌then◌else◌, nat_lt, nat_eq, Option}
-use Rattle.std.proofs.Common.{Some, None, refl, sym, ap, ap₂, ◌∙◌, subst, subst₂, arith, inl, inr, ⊎_elim, ℤ, pos}
-use Rattle.std.specs.Ordering.{int_eq}
-use Rattle.std.proofs.lemmas.Bool.{ltb-true, and_parts, or_cases, eqb-true, false≢true, lt-ltb}
-use Rattle.std.proofs.lemmas.Bool.Decides.{Decides-int_eq}
-use Rattle.ebc_insn.specs.declared.CmpOp.{CmpOp}
-use Rattle.ebc_insn.specs.declared.CmpOp.TheVariants as cmps
-use Rattle.machine_alu.specs.Alu.{compared}
-use Rattle.note_types.specs.Types.{IsBounded}
-use Rattle.note_types.specs.declared.notes.Notes.{Notes}
-use Rattle.note_types.specs.declared.types.Ty.{Ty}
-use Rattle.note_types.specs.declared.types.Ty.TheVariants.{Any, Int, Lin, Scaled, Ptr, Local, Lent, Status, SignedStatus, Mask, Handle}
-use Rattle.note_types.specs.declared.types.Ty.TheVariants.{Entry, Method, ThunkAt, Saved}
-use Rattle.rules_base.specs.Parts.{is_int, is_int_below}
-use Rattle.rules_data.specs.Compares.{is_number, is_start, is_status, equates, orders, compares_wide, compares}
-use Rattle.rules_data.specs.Compares as rules
-use Rattle.host_model.specs.Values.{Neutral, Num, At, Error, SignedError, Junk, ObjectOf, number, null, plain, word}
-use Rattle.host_model.specs.Values as values
-use Rattle.neutral_machine.specs.Config.{Registers}
-use Rattle.neutral_machine.specs.Memory.{Memory}
-use Rattle.neutral_machine.specs.Fits.{IsPointer, OrNull, Fits}
-use Rattle.host_model.specs.Objects.{shape_of}
-use Rattle.std.specs.Option.{option_or}
-use Rattle.neutral_machine.specs.Operations.{Instance, instance_of, equal_instances, equal_first, error_at_most, error_at_least}
-use Rattle.neutral_machine.specs.Operations.{compared_wide, compared_by, compared_as, same_instance}
+use Rattle.typing_laws.proofs.Common.{◌≡◌, ℕ, ◌-◌, ◌*◌, ◌^◌, ◌<◌, ◌≤◌, ◌⊎◌, Bool, true, false, ◌&&◌, ◌||◌, if◌then◌else◌, nat_lt, nat_eq}
+use Rattle.typing_laws.proofs.Common.{Option, Some, None, refl, sym, ap, ap₂, ◌∙◌, subst, subst₂, arith, inl, inr, ⊎_elim, ℤ, pos, int_eq}
+use Rattle.typing_laws.proofs.Common.{ltb-true, and_parts, or_cases, eqb-true, false≢true, lt-ltb, Decides-int_eq, CmpOp, compared}
+use Rattle.typing_laws.proofs.Common.{IsBounded, Notes, Ty, Int, Ptr, Status, SignedStatus, Handle, Entry, is_int, is_int_below, compares}
+use Rattle.typing_laws.proofs.Common.{Neutral, At, Error, SignedError, ObjectOf, number, null, plain, word, Registers, Memory, IsPointer}
+use Rattle.typing_laws.proofs.Common.{OrNull, Fits, shape_of, option_or, Instance, instance_of, compared_by, compared_as}
+use Rattle.rules_data.specs.Compares.{is_number, is_start, is_status, equates, orders, compares_wide}
+use Rattle.neutral_machine.specs.Operations.{equal_instances, equal_first, error_at_most, error_at_least, compared_wide, same_instance}
 use Rattle.typing_laws.proofs.Objects.{ObjectsFit, start_is, instance_is}
+use Rattle.ebc_insn.specs.declared.CmpOp.TheVariants as cmps
+use Rattle.rules_data.specs.Compares as rules
+use Rattle.host_model.specs.Values as values
 
 -- there is an answer
 abbrev pub IsDefined : Option Bool → Type 0
@@ -194,21 +180,8 @@ module _ (notes : Notes) (m : Memory) (ok : ObjectsFit notes m.objects) (d : ℕ
       (λ e. let p = and_parts or_error (is_number (2 ^ 64 - 1) (Int lo hi div)) e in
       (2 ^ 64 - 1, number_is (2 ^ 64 - 1) (Int lo hi div) u p.1 f, inr (p.0, refl)))
       (or_cases (nat_lt hi (2 ^ 31)) (or_error && is_number (2 ^ 64 - 1) (Int lo hi div)) h)
-  bound_value true Any u h f = absurd (false≢true h)
-  bound_value true (Lin n c) u h f = absurd (false≢true h)
-  bound_value true (Scaled n c i) u h f = absurd (false≢true h)
-  bound_value true (Ptr s k n c may) u h f = absurd (false≢true h)
-  bound_value true (Local x) u h f = absurd (false≢true h)
-  bound_value true (Lent cell) u h f = absurd (false≢true h)
-  bound_value true (Status g) u h f = absurd (false≢true h)
-  bound_value true (SignedStatus g) u h f = absurd (false≢true h)
-  bound_value true Mask u h f = absurd (false≢true h)
-  bound_value true Handle u h f = absurd (false≢true h)
-  bound_value true Entry u h f = absurd (false≢true h)
-  bound_value true (Method k) u h f = absurd (false≢true h)
-  bound_value true (ThunkAt i) u h f = absurd (false≢true h)
-  bound_value true (Saved i) u h f = absurd (false≢true h)
   bound_value false _ u h f = absurd (false≢true h)
+  bound_value or_error t u h f = absurd (false≢true h)
 
   at_most_known : (k y : ℕ) → Bound true y → IsDefined (error_at_most (SignedError k) (plain (number y)))
   at_most_known k y h = ⊎_elim

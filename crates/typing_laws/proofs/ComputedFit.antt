@@ -1,29 +1,16 @@
 -- What each operation gives on values fits what its row gives on types.
-use Rattle.std.proofs.Common.{◌≡◌, ℕ, ◌^◌, ◌<◌, Bool, true, false, not, ◌&&◌, ◌||◌, if◌then◌else◌, Option, Some, None}
-use Rattle.std.proofs.Common.{Result, Ok, Err, refl, sym, ap, ap₂, ◌∙◌, subst, arith, le_refl}
-use Rattle.std.proofs.lemmas.Bool.{and_parts, false≢true}
-use Rattle.std.proofs.lemmas.Option.{same_Some, none-some}
-use Rattle.ebc_insn.specs.declared.ArithOp.{ArithOp}
-use Rattle.ebc_insn.specs.declared.ArithOp.TheVariants as ops
-use Rattle.machine_alu.specs.Alu.{bits_of, low, outcome, divides, divides_by_zero, divide_error, computed}
-use Rattle.machine_alu.specs.declared.DivideError.{DivideError}
-use Rattle.note_types.specs.declared.exception.Exception.TheVariants as raises
-use Rattle.note_types.specs.Types.{IsBounded}
-use Rattle.note_types.specs.declared.notes.Notes.{Notes}
-use Rattle.note_types.specs.declared.types.Ty.{Ty}
-use Rattle.note_types.specs.declared.types.Ty.TheVariants.{Any, Int}
-use Rattle.rules_base.specs.Parts.{constant, constant_of, full, is_int}
-use Rattle.rules_data.specs.Arithmetic.{is_unary, folded, fold_row, or_ints, other_row, divisor_known}
-use Rattle.host_model.specs.Values.{Neutral, Junk, number, plain, word}
-use Rattle.neutral_machine.specs.Config.{Registers}
-use Rattle.neutral_machine.specs.Memory.{Memory}
-use Rattle.neutral_machine.specs.Fits.{Fits}
-use Rattle.neutral_machine.specs.Outcomes.{Raises}
-use Rattle.neutral_machine.specs.Operations.{of_table, on_plain, on_one, on_divisor, by_table}
-use Rattle.neutral_machine.specs.Operations as neutral
+use Rattle.typing_laws.proofs.Common.{◌≡◌, ℕ, ◌^◌, ◌<◌, Bool, true, false, not, ◌&&◌, ◌||◌, if◌then◌else◌, Option, Some, None, Result, Ok}
+use Rattle.typing_laws.proofs.Common.{Err, refl, sym, ap, ap₂, ◌∙◌, subst, arith, le_refl, and_parts, false≢true, same_Some, none-some}
+use Rattle.typing_laws.proofs.Common.{ArithOp, low, outcome, computed, DivideError, IsBounded, Notes, Ty, Any, Int, constant, constant_of}
+use Rattle.typing_laws.proofs.Common.{full, is_int, is_unary, folded, fold_row, or_ints, other_row, divisor_known, Neutral, Junk, number}
+use Rattle.typing_laws.proofs.Common.{plain, word, Registers, Memory, Fits, Raises, by_table, Accepts}
+use Rattle.machine_alu.specs.Alu.{bits_of, divides, divides_by_zero, divide_error}
+use Rattle.neutral_machine.specs.Operations.{of_table, on_plain, on_one, on_divisor}
 use Rattle.neutral_machine.proofs.Alu.{table_below}
-use Rattle.invariant_laws.specs.Accepts.{Accepts}
 use Rattle.typing_laws.proofs.Rows.{then_some, one_divides, constant_word, constant_fits, number_fits}
+use Rattle.ebc_insn.specs.declared.ArithOp.TheVariants as ops
+use Rattle.note_types.specs.declared.exception.Exception.TheVariants as raises
+use Rattle.neutral_machine.specs.Operations as neutral
 
 -- ---- the table's numbers
 
@@ -53,24 +40,7 @@ unary_same _ wide x z y e = absurd (false≢true e)
 
 same_unary : (op : ArithOp) → neutral.is_unary op ≡ is_unary op
 same_unary ops.Not = refl
-same_unary ops.Neg = refl
-same_unary ops.Extb = refl
-same_unary ops.Extw = refl
-same_unary ops.Extd = refl
-same_unary ops.Add = refl
-same_unary ops.Sub = refl
-same_unary ops.Mul = refl
-same_unary ops.Mulu = refl
-same_unary ops.Div = refl
-same_unary ops.Divu = refl
-same_unary ops.Mod = refl
-same_unary ops.Modu = refl
-same_unary ops.And = refl
-same_unary ops.Or = refl
-same_unary ops.Xor = refl
-same_unary ops.Shl = refl
-same_unary ops.Shr = refl
-same_unary ops.Ashr = refl
+same_unary op = refl
 
 -- ---- the table on values
 

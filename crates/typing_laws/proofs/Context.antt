@@ -1,46 +1,19 @@
 -- What is known where an instruction stands: a configuration that is sound with a state of the function on top.
-use Rattle.std.proofs.Common.{◌≡◌, ℕ, ◌^◌, Bool, true, false, if◌then◌else◌, nat_lt, List, [], ◌∷◌, length, take, Option, Some, None}
-use Rattle.std.proofs.Common.{slice_get, refl, sym, ap, ◌∙◌, subst, arith, option_and_then, pos, negsuc}
-use Rattle.std.specs.List.{AllZip}
-use Rattle.std.proofs.lemmas.Bool.{and_from, eq-eqb, false≢true, le-leb, lt-ltb}
-use Rattle.std.proofs.lemmas.Bool.Decides.{Decides-int_eq}
-use Rattle.std.proofs.lemmas.Option.{same_Some, none-some, get_or_from_slice_get}
-use Rattle.note_types.specs.Cells.{IsBoundedCell}
-use Rattle.note_types.specs.Known.{IsKnown, IsState, fields_of, local_fields, locals_of}
-use Rattle.note_types.specs.Passing.{IsKept}
-use Rattle.note_types.specs.Shapes.{IsShape}
-use Rattle.note_types.specs.Types.{IsBounded}
-use Rattle.note_types.specs.declared.cell.SlotKind.TheVariants.{N}
-use Rattle.note_types.specs.declared.items.Item.{Item}
+use Rattle.typing_laws.proofs.Common.{◌≡◌, ℕ, ◌^◌, Bool, true, false, if◌then◌else◌, nat_lt, List, [], ◌∷◌, length, take, Option, Some}
+use Rattle.typing_laws.proofs.Common.{None, slice_get, refl, sym, ap, ◌∙◌, subst, arith, option_and_then, pos, negsuc, AllZip, and_from}
+use Rattle.typing_laws.proofs.Common.{eq-eqb, false≢true, le-leb, lt-ltb, Decides-int_eq, same_Some, none-some, get_or_from_slice_get}
+use Rattle.typing_laws.proofs.Common.{IsBoundedCell, IsKnown, local_fields, IsShape, IsBounded, N, Item, FnNote, Notes, Pair, Param, Field}
+use Rattle.typing_laws.proofs.Common.{Shape, State, Ty, locals_size, StackItem, Pushed, LocalsOf, FunctionFrame, Frame, Function, Host}
+use Rattle.typing_laws.proofs.Common.{Config, depth, locals_among, locals_at, ItemFits, FitsState, field_in, parameters_of, Memory}
+use Rattle.typing_laws.proofs.Common.{cell_field, made_objects, no_shape, shape_of, TypedObject, FieldOf, FieldOfLocals, World}
+use Rattle.typing_laws.proofs.Common.{frame_locals, live_memory, WorldTyped, CellsFit, ParamFits, FrameBelow, FramesKeep, SoundBelow}
+use Rattle.typing_laws.proofs.Common.{within_some}
+use Rattle.note_types.specs.{Known.IsState, Known.fields_of, Known.locals_of, Passing.IsKept}
+use Rattle.rules_base.specs.{Kept.kept_natural, Places.size_of}
+use Rattle.neutral_machine.specs.Locations.{items_below, parameter_count}
+use Rattle.typing_laws.proofs.{Objects.ObjectsFit, LiveCells.ParamsPassed, OnStack.any_locals}
 use Rattle.note_types.specs.declared.items.Item.TheVariants as item
-use Rattle.note_types.specs.declared.notes.FnNote.{FnNote}
-use Rattle.note_types.specs.declared.notes.Notes.{Notes}
-use Rattle.note_types.specs.declared.notes.Pair.{Pair}
-use Rattle.note_types.specs.declared.notes.Param.{Param}
-use Rattle.note_types.specs.declared.shape.Field.{Field}
-use Rattle.note_types.specs.declared.shape.Shape.{Shape}
-use Rattle.note_types.specs.declared.state.State.{State}
-use Rattle.note_types.specs.declared.types.Ty.{Ty}
 use Rattle.note_types.specs.declared.types.Ty.TheVariants as ty
-use Rattle.rules_base.specs.Kept.{kept_natural}
-use Rattle.rules_base.specs.Places.{locals_size, size_of}
-use Rattle.neutral_machine.specs.Config.{StackItem, Pushed, LocalsOf, FunctionFrame, Frame, Function, Host, Config, depth, locals_among}
-use Rattle.neutral_machine.specs.Config.{locals_at}
-use Rattle.neutral_machine.specs.FitsState.{ItemFits, FitsState}
-use Rattle.host_model.specs.HostPlans.{field_in}
-use Rattle.neutral_machine.specs.Locations.{items_below, parameters_of, parameter_count}
-use Rattle.neutral_machine.specs.Memory.{Memory, cell_field}
-use Rattle.host_model.specs.Objects.{made_objects, no_shape, shape_of}
-use Rattle.host_model.specs.declared.object.TypedObject.{TypedObject}
-use Rattle.host_model.specs.Values.{FieldOf, FieldOfLocals}
-use Rattle.host_model.specs.World.{World, frame_locals}
-use Rattle.invariant_laws.specs.Live.{live_memory}
-use Rattle.typing_laws.specs.OneRule.{WorldTyped}
-use Rattle.invariant_laws.specs.Sound.{CellsFit, ParamFits, FrameBelow, FramesKeep, SoundBelow}
-use Rattle.typing_laws.proofs.Objects.{ObjectsFit}
-use Rattle.typing_laws.proofs.LiveCells.{ParamsPassed}
-use Rattle.typing_laws.proofs.OnStack.{any_locals}
-use Rattle.ebc_base.proofs.Lists.{within_some}
 
 -- a parameter's type is within its bounds, and in a natural slot what MOVn keeps
 abbrev pub GoodParam : Param → Type 0
@@ -59,23 +32,14 @@ pub record TopSound (world : World) (a : Config) (f : FunctionFrame) (fs : List 
 
 -- a type that MOVn keeps stays
 pub kept_stays : (t : Ty) → IsKept t → kept_natural t ≡ t
-kept_stays ty.Any h = refl
 kept_stays (ty.Int lo hi div) h = ap (λ b. if b then ty.Int lo hi div else ty.Any) (lt-ltb hi (2 ^ 32) h)
 kept_stays (ty.Lin n (pos c)) h = ap (λ b. if b then ty.Lin n (pos c) else ty.Any) (le-leb 0 c (omega arith))
 kept_stays (ty.Lin n (negsuc c)) h = absurd h
-kept_stays (ty.Scaled n c hi) h = refl
 kept_stays (ty.Ptr s k n c null) h =
     ap (λ b. if b then ty.Ptr s k n c null else ty.Any) (and_from _ _ ((Decides-int_eq n (pos 0)).1 h.0) ((Decides-int_eq c (pos 0)).1 h.1))
-kept_stays (ty.Local f) h = refl
-kept_stays (ty.Lent cell) h = refl
-kept_stays (ty.Status g) h = refl
 kept_stays (ty.SignedStatus g) h = absurd h
-kept_stays ty.Mask h = refl
-kept_stays ty.Handle h = refl
-kept_stays ty.Entry h = refl
-kept_stays (ty.Method m) h = refl
-kept_stays (ty.ThunkAt i) h = refl
 kept_stays (ty.Saved i) h = absurd h
+kept_stays t h = refl
 
 -- objects have well-formed shapes and are small
 pub objects_fit : (world : World) (n : ℕ) → WorldTyped world → ObjectsFit world.notes (made_objects world.notes world.script n)

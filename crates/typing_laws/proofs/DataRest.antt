@@ -1,75 +1,33 @@
 -- The other rows of data: CMPI, MOVsn, MOVI, MOVIn, MOVREL and STORESP.
-use Rattle.std.proofs.Common.{◌≡◌, ◌≢◌, ℕ, zero, suc, ◌+◌, ◌%◌, ◌^◌, ◌<◌, ◌≤◌, Bool, true, false, ◌&&◌, if◌then◌else◌, nat_eq, List, []}
-use Rattle.std.proofs.Common.{◌∷◌, ◌++◌, map, length, get_or, position, Option, Some, None, Ok, Err, IfOk, slice_get, refl, sym, ap, ◌∙◌}
-use Rattle.std.proofs.Common.{subst, arith, option_map, mod-eq_of_lt, ℤ, pos, negsuc, ◌+ℤ◌, int_le}
-use Rattle.std.specs.List.{find}
-use Rattle.std.specs.Option.{option_or}
-use Rattle.std.specs.Ordering.{int_eq}
-use Rattle.std.proofs.lemmas.Bool.{eqb-false, ne_eqb, and_parts}
-use Rattle.std.proofs.lemmas.Bool.Decides.{Decides-int_eq}
-use Rattle.std.proofs.lemmas.List.Quantifiers.{position-Some}
-use Rattle.std.proofs.lemmas.Option.{same_Some, none-some}
-use Rattle.ebc_width.specs.Width.{wrap64}
+use Rattle.typing_laws.proofs.Common.{◌≡◌, ◌≢◌, ℕ, zero, suc, ◌+◌, ◌%◌, ◌^◌, ◌<◌, ◌≤◌, Bool, true, false, ◌&&◌, if◌then◌else◌, nat_eq, List}
+use Rattle.typing_laws.proofs.Common.{[], ◌∷◌, ◌++◌, map, length, get_or, position, Option, Some, None, Ok, Err, IfOk, slice_get, refl, sym}
+use Rattle.typing_laws.proofs.Common.{ap, ◌∙◌, subst, arith, option_map, mod-eq_of_lt, ℤ, pos, negsuc, ◌+ℤ◌, int_le, find, option_or}
+use Rattle.typing_laws.proofs.Common.{int_eq, eqb-false, ne_eqb, and_parts, Decides-int_eq, position-Some, same_Some, none-some, wrap64}
+use Rattle.typing_laws.proofs.Common.{Index, Operand, Size, IsKnown, IsNotes, IsBounded, FnNote, Notes, Static, Thunk, State, Ty, or_else}
+use Rattle.typing_laws.proofs.Common.{known, changed, destination, put, counted, index_distance, beside, and_then, constant, lin, or_any}
+use Rattle.typing_laws.proofs.Common.{is_static_at, is_thunk_at, static_at, static_type, takes_address, thing_at, thunk_at, thunk_type}
+use Rattle.typing_laws.proofs.Common.{Change, Destination, Here, Distance, move_access, wrap_below, FunctionFrame, Frame, Config, depth}
+use Rattle.typing_laws.proofs.Common.{with_value, Access, Move, kept, static_object, made_objects, Gives, Stuck, ◌>>=◌, Neutral, Num, Junk}
+use Rattle.typing_laws.proofs.Common.{number, pair, word, World, index_pair, indexed, stored_by, with_register, written, Site}
+use Rattle.typing_laws.proofs.Common.{address_of_place, goes, Accepts, live_memory}
 use Rattle.natural_index.specs.Index.{pair_of}
-use Rattle.natural_index.specs.declared.Index.{Index}
 use Rattle.ebc_insn.specs.Spelling.{NotNatural}
-use Rattle.ebc_insn.specs.declared.Operand.{Operand}
-use Rattle.ebc_insn.specs.declared.Size.{Size}
-use Rattle.ebc_insn.specs.declared.Size.TheVariants as sizes
-use Rattle.note_types.specs.Known.{IsKnown}
-use Rattle.note_types.specs.Records.{IsNotes}
-use Rattle.note_types.specs.Types.{IsBounded}
-use Rattle.note_types.specs.declared.notes.FnNote.{FnNote}
-use Rattle.note_types.specs.declared.notes.Notes.{Notes}
-use Rattle.note_types.specs.declared.notes.Static.{Static}
-use Rattle.note_types.specs.declared.notes.Thunk.{Thunk}
-use Rattle.note_types.specs.declared.rule.RuleName.TheVariants as rule
-use Rattle.note_types.specs.declared.state.State.{State}
-use Rattle.note_types.specs.declared.types.Ty.{Ty}
-use Rattle.note_types.specs.declared.types.Ty.TheVariants as ty
-use Rattle.ebc_base.specs.Steps.{or_else}
-use Rattle.rules_base.specs.Access.{known}
-use Rattle.rules_base.specs.Change.{changed}
-use Rattle.rules_base.specs.Destinations.{destination, put}
-use Rattle.rules_base.specs.Operands.{counted, index_distance}
-use Rattle.rules_base.specs.Outcomes.{beside}
-use Rattle.rules_base.specs.Parts.{and_then, constant}
-use Rattle.rules_base.specs.Sums.{lin, or_any}
-use Rattle.rules_base.specs.Things.{is_static_at, is_thunk_at, relocated, static_at, static_type, takes_address, thing_at, thunk_at}
-use Rattle.rules_base.specs.Things.{thunk_type}
-use Rattle.rules_base.specs.declared.change.Change.{Change}
-use Rattle.rules_base.specs.declared.change.Change.TheVariants as change
-use Rattle.rules_base.specs.declared.destination.Destination.{Destination}
-use Rattle.rules_base.specs.declared.here.Here.{Here}
-use Rattle.rules_base.specs.declared.operand.Distance.{Distance}
-use Rattle.rules_data.specs.Data.{move_access, special_type}
-use Rattle.rules_data.specs.Data as rules_data
-use Rattle.rules_data.specs.Moves.{immediate, immediate_index, low_of, relative}
-use Rattle.rules_laws.proofs.MovesKeep.{wrap_below}
+use Rattle.rules_base.specs.Things.{relocated}
+use Rattle.rules_data.specs.{Data.special_type, Moves.immediate, Moves.immediate_index, Moves.low_of, Moves.relative}
 use Rattle.rules_laws.proofs.RowsKeep.{immediate_known, immediate_index-known}
-use Rattle.neutral_machine.specs.Config.{FunctionFrame, Frame, Config, depth, with_value}
-use Rattle.neutral_machine.specs.Locations.{Access, Move, kept}
-use Rattle.host_model.specs.Objects.{static_object, made_objects, placed_objects, script_object}
-use Rattle.neutral_machine.specs.Outcomes.{Gives, Stuck, ◌>>=◌}
-use Rattle.host_model.specs.Values.{Neutral, Num, Junk, number, pair, word}
-use Rattle.host_model.specs.World.{World}
-use Rattle.neutral_machine.specs.Operands.{index_pair, indexed, stored_by, with_register, written}
-use Rattle.neutral_machine.specs.Rows.{Site, address_of_place, flags_of, goes, move_imm_natural_row, move_imm_row}
-use Rattle.neutral_machine.specs.Rows.{move_relative_row, store_special_row}
-use Rattle.neutral_machine.specs.Rows as rows
-use Rattle.invariant_laws.specs.Accepts.{Accepts}
-use Rattle.invariant_laws.specs.Live.{live_memory}
-use Rattle.typing_laws.proofs.Accesses.{access_of}
-use Rattle.typing_laws.proofs.Changes.{register_written}
+use Rattle.host_model.specs.Objects.{placed_objects, script_object}
+use Rattle.neutral_machine.specs.Rows.{flags_of, move_imm_natural_row, move_imm_row, move_relative_row, store_special_row}
 use Rattle.typing_laws.proofs.Rows.{lin_is, number_fits, one_divides, same_fits, then_some, wrap_add, err_ok, ok_same}
-use Rattle.typing_laws.proofs.Stores.{Within}
 use Rattle.typing_laws.proofs.ArithRow.{GoesOn, accepts_is, accepts_then, beside_ok, goes_on}
-use Rattle.typing_laws.proofs.Context.{TopSound}
-use Rattle.typing_laws.proofs.MoveRow.{access_same}
-use Rattle.typing_laws.proofs.Operands.{FitsHere, IsSmall, some_ok, then_ok}
-use Rattle.typing_laws.proofs.Pointed.{IsBeside}
-use Rattle.typing_laws.proofs.Things.{thing_fits}
+use Rattle.typing_laws.proofs.{Accesses.access_of, Changes.register_written, Stores.Within, Context.TopSound, MoveRow.access_same}
+use Rattle.typing_laws.proofs.{Operands.FitsHere, Operands.IsSmall, Operands.some_ok, Operands.then_ok, Pointed.IsBeside, Things.thing_fits}
 use Rattle.typing_laws.proofs.Written.{result_left}
+use Rattle.ebc_insn.specs.declared.Size.TheVariants as sizes
+use Rattle.note_types.specs.declared.rule.RuleName.TheVariants as rule
+use Rattle.note_types.specs.declared.types.Ty.TheVariants as ty
+use Rattle.rules_base.specs.declared.change.Change.TheVariants as change
+use Rattle.rules_data.specs.Data as rules_data
+use Rattle.neutral_machine.specs.Rows as rows
 
 -- a number modulo 2 ^ 64, as the rules and as the neutral machine have it
 pub wraps : (v : ℤ) → wrap64 v ≡ wrap64 v
@@ -203,11 +161,9 @@ module _ (world : World) (a : Config) (f : FunctionFrame) (fs : List Frame) (not
   number_kept sizes.Natural v n = absurd n
 
   number_within : (size : Size) (x : ℕ) → NotNatural size → Within (access_of (Move size)) (constant (low_of size x))
-  number_within sizes.Byte x n = omega arith
-  number_within sizes.Word x n = omega arith
-  number_within sizes.Dword x n = omega arith
   number_within sizes.Qword x n = tt
   number_within sizes.Natural x n = absurd n
+  number_within size x n = omega arith
 
   address_kept : (size : Size) (bits p : ℕ) (indirect : Bool) (t : Ty) → relocated world.notes (takes_address size bits indirect) p ≡ Ok t
       → FitsHere world a f fs note s st t (kept world.notes (live_memory world a).objects (Move size) (address_of_place world.notes p))
@@ -218,10 +174,7 @@ module _ (world : World) (a : Config) (f : FunctionFrame) (fs : List Frame) (not
           → FitsHere world a f fs note s st t (address_of_place world.notes p)
       go true e = some_ok rule.Relocation (thing_at world.notes (pos p)) t e (λ h. thing_here p t h)
       go false e = absurd (err_ok rule.Relocation t e)
-  address_kept sizes.Byte bits p indirect t e = absurd (err_ok rule.Relocation t e)
-  address_kept sizes.Word bits p indirect t e = absurd (err_ok rule.Relocation t e)
-  address_kept sizes.Dword bits p indirect t e = absurd (err_ok rule.Relocation t e)
-  address_kept sizes.Natural bits p indirect t e = absurd (err_ok rule.Relocation t e)
+  address_kept size bits p indirect t e = absurd (err_ok rule.Relocation t e)
 
   immediate_kept : (reloc : Option ℕ) (size : Size) (bits : ℕ) (indirect : Bool) (imm : ℤ) (t : Ty) → NotNatural size
       → immediate world.notes reloc size bits indirect imm ≡ Ok t

@@ -1,55 +1,24 @@
 -- The table of the rows on data.
-use Rattle.std.proofs.Common.{◌≡◌, ℕ, ◌<◌, Bool, true, false, not, ◌&&◌, if◌then◌else◌, is_none, nat_eq, List, Option, Some, None, Result}
-use Rattle.std.proofs.Common.{Ok, Err, slice_get, refl, sym, ap, ap₂, ◌∙◌, subst, arith, ⊎_elim}
-use Rattle.std.proofs.lemmas.Bool.{true≢false}
-use Rattle.std.proofs.lemmas.Option.{same_Some, none-some}
-use Rattle.ebc_base.specs.Steps as steps
-use Rattle.ebc_base.specs.Steps.{or_else}
-use Rattle.ebc_insn.specs.Spelling.{LeftFits, WellFormed}
-use Rattle.ebc_insn.specs.declared.Insn.{Insn}
-use Rattle.ebc_insn.specs.declared.Insn.TheVariants as insns
-use Rattle.ebc_insn.specs.declared.Operand.{Operand}
-use Rattle.ebc_insn.specs.declared.Size.{Size}
-use Rattle.natural_index.specs.declared.Index.{Index}
-use Rattle.note_types.specs.declared.notes.FnNote.{FnNote}
-use Rattle.note_types.specs.declared.notes.Notes.{Notes}
-use Rattle.note_types.specs.declared.rule.RuleName.{RuleName}
-use Rattle.note_types.specs.declared.rule.RuleName.TheVariants as rule
-use Rattle.note_types.specs.declared.state.State.{State}
-use Rattle.rules_base.specs.Change.{changed}
-use Rattle.rules_base.specs.Access.{target_at}
-use Rattle.rules_base.specs.Destinations.{destination}
-use Rattle.rules_base.specs.Operands.{index_distance}
-use Rattle.rules_base.specs.Outcomes.{beside, gives_map}
-use Rattle.rules_base.specs.declared.access.Access.{Access}
-use Rattle.rules_base.specs.declared.change.Change.{Change}
-use Rattle.rules_base.specs.declared.destination.Destination.{Destination}
-use Rattle.rules_base.specs.declared.destination.Destination.TheVariants.{Register, Memory}
-use Rattle.rules_base.specs.declared.here.Here.{Here}
-use Rattle.rules_base.specs.declared.operand.Distance.{Distance}
-use Rattle.rules_data.specs.Data.{after_data, data_change, data_row, move_access, move_value}
-use Rattle.rules_data.specs.Data as rules_data
-use Rattle.neutral_machine.specs.Operands.{indexed, plainly}
-use Rattle.neutral_machine.specs.Rows.{NeutralEnd, Site, executed, is_stack_pointer}
-use Rattle.neutral_machine.specs.Rows as rows
-use Rattle.neutral_machine.specs.Config.{FunctionFrame, Frame, Config}
-use Rattle.host_model.specs.World.{World}
-use Rattle.invariant_laws.specs.Accepts.{Accepts}
-use Rattle.typing_laws.specs.OneRule.{StandsTyped, WorldTyped, here_of}
-use Rattle.invariant_laws.specs.Sound.{TopFits}
+use Rattle.typing_laws.proofs.Common.{◌≡◌, ℕ, ◌<◌, Bool, true, false, not, ◌&&◌, if◌then◌else◌, is_none, nat_eq, List, Option, Some, None}
+use Rattle.typing_laws.proofs.Common.{Result, Ok, Err, slice_get, refl, sym, ap, ap₂, ◌∙◌, subst, arith, ⊎_elim, true≢false, same_Some}
+use Rattle.typing_laws.proofs.Common.{none-some, or_else, LeftFits, WellFormed, Insn, Operand, Size, Index, FnNote, Notes, RuleName, State}
+use Rattle.typing_laws.proofs.Common.{changed, target_at, destination, index_distance, beside, gives_map, Change, Destination, Register}
+use Rattle.typing_laws.proofs.Common.{Here, Distance, after_data, data_row, move_access, move_value, indexed, plainly, NeutralEnd, Site}
+use Rattle.typing_laws.proofs.Common.{executed, is_stack_pointer, FunctionFrame, Frame, Config, World, Accepts, StandsTyped, WorldTyped}
+use Rattle.typing_laws.proofs.Common.{here_of, TopFits, falls, Successors, Outcome, Gives, Raises, Stuck}
+use Rattle.rules_base.specs.declared.{access.Access.Access, destination.Destination.TheVariants.Memory}
+use Rattle.rules_data.specs.Data.{data_change}
 use Rattle.typing_laws.specs.DataTyped.{FallsSound, OneDataRule}
-use Rattle.rules_flow.specs.Successors.{falls}
-use Rattle.rules_flow.specs.declared.successors.Successors.{Successors}
-use Rattle.neutral_machine.specs.Outcomes.{Outcome, Gives, Raises, Stuck}
-use Rattle.typing_laws.proofs.Rows.{err_ok, ok_same}
-use Rattle.typing_laws.proofs.ArithRow.{GoesOn, arith_fits, beside_ok}
-use Rattle.typing_laws.proofs.CompareRow.{compare_fits}
-use Rattle.typing_laws.proofs.CompareSigned.{compare_imm_fits, move_signed_fits}
-use Rattle.typing_laws.proofs.Context.{TopSound}
 use Rattle.typing_laws.proofs.DataRest.{move_imm_fits, move_index_fits, move_relative_fits, store_special_fits}
 use Rattle.typing_laws.proofs.Formed.{beside_fits, left_beside, left_small, move_most, right_small, word_most}
-use Rattle.typing_laws.proofs.MoveRow.{move_fits}
+use Rattle.typing_laws.proofs.{Rows.err_ok, Rows.ok_same, ArithRow.GoesOn, ArithRow.arith_fits, ArithRow.beside_ok, CompareRow.compare_fits}
+use Rattle.typing_laws.proofs.{CompareSigned.compare_imm_fits, CompareSigned.move_signed_fits, Context.TopSound, MoveRow.move_fits}
 use Rattle.typing_laws.proofs.Operands.{then_ok}
+use Rattle.ebc_base.specs.Steps as steps
+use Rattle.ebc_insn.specs.declared.Insn.TheVariants as insns
+use Rattle.note_types.specs.declared.rule.RuleName.TheVariants as rule
+use Rattle.rules_data.specs.Data as rules_data
+use Rattle.neutral_machine.specs.Rows as rows
 
 -- a row behind a test that fails whatever it answers
 pub no_row : {A : Type 0} (b : Bool) (r q : RuleName) (k : A) → ◌≡◌ {A = Result A RuleName} (if b then Err r else Err q) (Ok k) → ⊥
@@ -154,16 +123,7 @@ module _ (world : World) (a : Config) (f : FunctionFrame) (fs : List Frame) (not
       (past_test (is_none site.reloc) _ rule.Relocation k e)
   data_fits site (insns.StoreSpecial to special) k w l e = store_special_fits world a f fs note s st to special site.next k w.0 l
       (past_test (is_none site.reloc) _ rule.Relocation k e)
-  data_fits site (insns.Break code) k w l e = absurd (no_row (is_none site.reloc) rule.Form rule.Relocation k e)
-  data_fits site (insns.Jump cond far relative op extra) k w l e = absurd (no_row (is_none site.reloc) rule.Form rule.Relocation k e)
-  data_fits site (insns.Jump8 cond words) k w l e = absurd (no_row (is_none site.reloc) rule.Form rule.Relocation k e)
-  data_fits site (insns.Call far native relative op extra) k w l e = absurd (no_row (is_none site.reloc) rule.Form rule.Relocation k e)
-  data_fits site insns.Ret k w l e = absurd (no_row (is_none site.reloc) rule.Form rule.Relocation k e)
-  data_fits site (insns.LoadSpecial from) k w l e = absurd (no_row (is_none site.reloc) rule.Form rule.Relocation k e)
-  data_fits site (insns.Push wide op extra) k w l e = absurd (no_row (is_none site.reloc) rule.Form rule.Relocation k e)
-  data_fits site (insns.Pop wide op extra) k w l e = absurd (no_row (is_none site.reloc) rule.Form rule.Relocation k e)
-  data_fits site (insns.PushNatural op extra) k w l e = absurd (no_row (is_none site.reloc) rule.Form rule.Relocation k e)
-  data_fits site (insns.PopNatural op extra) k w l e = absurd (no_row (is_none site.reloc) rule.Form rule.Relocation k e)
+  data_fits site c k w l e = absurd (no_row (is_none site.reloc) rule.Form rule.Relocation k e)
 
 -- what is known where an instruction stands
 pub top_sound : (world : World) (a : Config) (f : FunctionFrame) (fs : List Frame) (note : FnNote) (here : Site) (s : State) (i : Insn)

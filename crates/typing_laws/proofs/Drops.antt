@@ -1,64 +1,31 @@
 -- R0 moved: items are dropped from the top, with the locals or without, or the locals are made.
-use Rattle.std.proofs.Common.{◌≡◌, ◌≢◌, ℕ, zero, suc, ◌<◌, ◌≤◌, ◌⊎◌, Bool, true, false, not, ◌&&◌, ◌||◌, if◌then◌else◌, is_none, nat_eq}
-use Rattle.std.proofs.Common.{List, [], ◌∷◌, map, Option, Some, None, Ok, Err, slice_get, slice_index_or, refl, sym, ap, ap₂, ◌∙◌}
-use Rattle.std.proofs.Common.{subst, arith, inl, inr, option_and_then, pos, int_le}
-use Rattle.std.specs.List.{AllZip, list_any}
+use Rattle.typing_laws.proofs.Common.{◌≡◌, ◌≢◌, ℕ, zero, suc, ◌<◌, ◌≤◌, ◌⊎◌, Bool, true, false, not, ◌&&◌, ◌||◌, if◌then◌else◌, is_none}
+use Rattle.typing_laws.proofs.Common.{nat_eq, List, [], ◌∷◌, map, Option, Some, None, Ok, Err, slice_get, slice_index_or, refl, sym, ap}
+use Rattle.typing_laws.proofs.Common.{ap₂, ◌∙◌, subst, arith, inl, inr, option_and_then, pos, int_le, AllZip, list_any, and_parts, cases_eq}
+use Rattle.typing_laws.proofs.Common.{eq-eqb, ne_eqb, false≢true, le-leb, same_Some, none-some, signed, Index, LeftFits, Operand, Size}
+use Rattle.typing_laws.proofs.Common.{content_type, is_locals, type_of, Item, FnNote, Notes, Field, Shape, State, Ty, index_distance}
+use Rattle.typing_laws.proofs.Common.{locals_size, frame_move, drop_to, frame_row, left_after, make_row, with_item, falls, Successors}
+use Rattle.typing_laws.proofs.Common.{NeutralEnd, after_make, dropped, frame_without, goes, item_without, registers_without, with_items}
+use Rattle.typing_laws.proofs.Common.{without_local, StackItem, Pushed, LocalsOf, FunctionFrame, Frame, Function, Config, depth}
+use Rattle.typing_laws.proofs.Common.{locals_among, locals_at, FitsPlain, Fits, FitsState, ItemFits, height, Memory, memory_of, cell_field}
+use Rattle.typing_laws.proofs.Common.{compared_as, Outcome, Gives, ◌>>=◌, frame_limit, Neutral, CellPlace, FieldOf, FieldOfLocals, number}
+use Rattle.typing_laws.proofs.Common.{World, frame_locals, Accepts, live_memory, CellsFit, KeepsWithin, SlotsKept, depth_map}
 use Rattle.std.specs.Option.{option_map}
-use Rattle.std.proofs.lemmas.Bool.{and_parts, cases_eq, eq-eqb, ne_eqb, false≢true, le-leb}
-use Rattle.std.proofs.lemmas.Option.{same_Some, none-some}
-use Rattle.natural_index.specs.Index.{signed}
-use Rattle.natural_index.specs.declared.Index.{Index}
-use Rattle.ebc_insn.specs.Spelling.{LeftFits}
-use Rattle.ebc_insn.specs.declared.Operand.{Operand}
-use Rattle.ebc_insn.specs.declared.Size.{Size}
-use Rattle.ebc_insn.specs.declared.Size.TheVariants as sizes
-use Rattle.note_types.specs.Cells.{content_type}
-use Rattle.note_types.specs.Known.{is_locals}
-use Rattle.note_types.specs.States.{type_of}
-use Rattle.note_types.specs.declared.items.Item.{Item}
-use Rattle.note_types.specs.declared.items.Item.TheVariants as item
-use Rattle.note_types.specs.declared.notes.FnNote.{FnNote}
-use Rattle.note_types.specs.declared.notes.Notes.{Notes}
-use Rattle.note_types.specs.declared.rule.RuleName.TheVariants as rule
-use Rattle.note_types.specs.declared.shape.Field.{Field}
-use Rattle.note_types.specs.declared.shape.Shape.{Shape}
-use Rattle.note_types.specs.declared.state.State.{State}
-use Rattle.note_types.specs.declared.types.Ty.{Ty}
-use Rattle.note_types.specs.declared.types.Ty.TheVariants as ty
-use Rattle.rules_base.specs.Operands.{index_distance}
-use Rattle.rules_base.specs.Places.{locals_size}
-use Rattle.rules_flow.specs.Flow.{frame_move}
-use Rattle.rules_flow.specs.Frames.{drop_row, drop_to, frame_row, left_after, left_item, left_type, loses, make_row, with_item, with_left}
-use Rattle.rules_flow.specs.Successors.{falls}
-use Rattle.rules_flow.specs.declared.successors.Successors.{Successors}
-use Rattle.neutral_machine.specs.Rows.{NeutralEnd, adjusted, adjusted_by, after_drop, after_make, config_without, dropped, frame_without}
-use Rattle.neutral_machine.specs.Rows.{goes, is_qword_size, item_without, registers_without, stack_row, with_items, without_local}
-use Rattle.neutral_machine.specs.Config.{StackItem, Pushed, LocalsOf, FunctionFrame, Frame, Function, Config, depth, locals_among}
-use Rattle.neutral_machine.specs.Config.{locals_at}
-use Rattle.neutral_machine.specs.Fits.{FitsPlain, Fits}
-use Rattle.neutral_machine.specs.FitsState.{FitsState, ItemFits}
-use Rattle.neutral_machine.specs.Layout.{height}
-use Rattle.neutral_machine.specs.Memory.{Memory, memory_of, cell_field}
-use Rattle.neutral_machine.specs.Operations.{compared_as}
-use Rattle.neutral_machine.specs.Outcomes.{Outcome, Gives, ◌>>=◌, unless_stuck}
-use Rattle.host_model.specs.Placements.{frame_limit}
-use Rattle.host_model.specs.Values.{Neutral, CellPlace, FieldOf, FieldOfLocals, number}
-use Rattle.host_model.specs.World.{World, frame_locals}
-use Rattle.invariant_laws.specs.Accepts.{Accepts}
-use Rattle.invariant_laws.specs.Live.{live_memory}
-use Rattle.invariant_laws.specs.Sound.{CellsFit, KeepsWithin, SlotsKept}
-use Rattle.typing_laws.proofs.Rows.{err_ok, ok_same}
-use Rattle.typing_laws.proofs.ArithRow.{GoesOn, goes_on}
-use Rattle.typing_laws.proofs.Context.{TopSound, passed_params, sizes_same}
+use Rattle.rules_flow.specs.Frames.{drop_row, left_item, left_type, loses, with_left}
+use Rattle.neutral_machine.specs.Rows.{adjusted, adjusted_by, after_drop, config_without, is_qword_size, stack_row}
+use Rattle.neutral_machine.specs.Outcomes.{unless_stuck}
 use Rattle.typing_laws.proofs.ItemsChanged.{below_after, few_hosts, items_after, top_after, top_keeps}
 use Rattle.typing_laws.proofs.ItemsDropped.{DropFound, drop_found, once_counted}
 use Rattle.typing_laws.proofs.LiveCells.{LaterBelow, live_held, live_some, live_there}
-use Rattle.invariant_laws.proofs.StatesLater.{compared_stays}
 use Rattle.typing_laws.proofs.LocalsGone.{below_without, forgotten_fits, frames_without, hosts_without, keeps_without, plain_without}
-use Rattle.typing_laws.proofs.LocalsMade.{make_goes, no_locals}
-use Rattle.typing_laws.proofs.Pushes.{FallsOn}
-use Rattle.typing_laws.proofs.Written.{After}
-use Rattle.neutral_machine.proofs.Drops.{locals_at_map, depth_map}
+use Rattle.typing_laws.proofs.{Rows.err_ok, Rows.ok_same, ArithRow.GoesOn, ArithRow.goes_on, Context.TopSound, Context.passed_params}
+use Rattle.typing_laws.proofs.{Context.sizes_same, LocalsMade.make_goes, LocalsMade.no_locals, Pushes.FallsOn, Written.After}
+use Rattle.invariant_laws.proofs.StatesLater.{compared_stays}
+use Rattle.neutral_machine.proofs.Drops.{locals_at_map}
+use Rattle.ebc_insn.specs.declared.Size.TheVariants as sizes
+use Rattle.note_types.specs.declared.items.Item.TheVariants as item
+use Rattle.note_types.specs.declared.rule.RuleName.TheVariants as rule
+use Rattle.note_types.specs.declared.types.Ty.TheVariants as ty
 
 -- the types of the registers, listed
 listed : (P : ℕ → Ty → Type 0) (t : ℕ → Ty) → ((r : ℕ) → 0 < r → r < 8 → P r (t r)) → (r : ℕ) → 0 < r → r < 8
@@ -386,22 +353,7 @@ module _ (world : World) (a : Config) (f : FunctionFrame) (fs : List Frame) (not
           (adjusted_by world a ridx >>= (λ b. goes world b next)))
       go true h e = absurd (err_ok rule.Form x e)
       go false h e = test h (nat_eq left.reg 0 && (not right.indirect && nat_eq right.reg 0)) refl e
-  frame_goes sizes.Byte bits left right lidx ridx next x l i e = absurd (no_move left.indirect e)
-    where
-      no_move : (b : Bool) → (if b then Err rule.Form else Err rule.Stack) ≡ Ok x → ⊥
-      no_move true e = err_ok rule.Form x e
-      no_move false e = err_ok rule.Stack x e
-  frame_goes sizes.Word bits left right lidx ridx next x l i e = absurd (no_move left.indirect e)
-    where
-      no_move : (b : Bool) → (if b then Err rule.Form else Err rule.Stack) ≡ Ok x → ⊥
-      no_move true e = err_ok rule.Form x e
-      no_move false e = err_ok rule.Stack x e
-  frame_goes sizes.Dword bits left right lidx ridx next x l i e = absurd (no_move left.indirect e)
-    where
-      no_move : (b : Bool) → (if b then Err rule.Form else Err rule.Stack) ≡ Ok x → ⊥
-      no_move true e = err_ok rule.Form x e
-      no_move false e = err_ok rule.Stack x e
-  frame_goes sizes.Natural bits left right lidx ridx next x l i e = absurd (no_move left.indirect e)
+  frame_goes size bits left right lidx ridx next x l i e = absurd (no_move left.indirect e)
     where
       no_move : (b : Bool) → (if b then Err rule.Form else Err rule.Stack) ≡ Ok x → ⊥
       no_move true e = err_ok rule.Form x e

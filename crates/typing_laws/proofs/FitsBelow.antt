@@ -1,17 +1,9 @@
 -- What fits a type fits each type above it.
-use Rattle.std.proofs.Common.{◌≡◌, ℕ, ◌≤◌, true, false, sym, ap, ◌∙◌, subst, arith, inl, inr, ⊎_elim, ℤ}
-use Rattle.std.proofs.Math.Nat.{dvd_trans}
-use Rattle.std.proofs.lemmas.Bool.{false≢true, true≢false}
-use Prim.Native.Nat.{◌∣◌}
+use Rattle.typing_laws.proofs.Common.{◌≡◌, ℕ, ◌≤◌, true, false, sym, ap, ◌∙◌, subst, arith, inl, inr, ⊎_elim, ℤ, dvd_trans, false≢true}
+use Rattle.typing_laws.proofs.Common.{true≢false, ◌∣◌, Notes, Ty, Int, Ptr, Status, SignedStatus, Handle, Entry, Neutral, null, number}
+use Rattle.typing_laws.proofs.Common.{Registers, Memory, AreWritten, IsPointer, Fits}
 use Rattle.note_types.specs.Below.{RangeBelow, PointerBelow, TakesNull, NullBelow, StatusBelow, GrantsBelow, Below, below_any, below_equal}
 use Rattle.note_types.specs.Below.{below_range, below_pointer, below_null, below_status, below_grants}
-use Rattle.note_types.specs.declared.notes.Notes.{Notes}
-use Rattle.note_types.specs.declared.types.Ty.{Ty}
-use Rattle.note_types.specs.declared.types.Ty.TheVariants.{Int, Ptr, Status, SignedStatus, Handle, Entry}
-use Rattle.host_model.specs.Values.{Neutral, null, number}
-use Rattle.neutral_machine.specs.Config.{Registers}
-use Rattle.neutral_machine.specs.Memory.{Memory, AreWritten}
-use Rattle.neutral_machine.specs.Fits.{IsPointer, Fits}
 
 module _ (notes : Notes) (m : Memory) (d : ℕ) (saved : Registers) where
   range_fits : (a b : Ty) (v : Neutral) → RangeBelow a b → Fits notes m d saved a v → Fits notes m d saved b v

@@ -1,68 +1,28 @@
 -- The table of the rows of control and of the stack, and with it the rules of all instructions.
-use Rattle.std.proofs.Common.{◌≡◌, ◌≢◌, ℕ, ◌%◌, ◌<◌, ◌⊎◌, Bool, true, false, not, ◌&&◌, if◌then◌else◌, is_none, is_some, nat_eq, List}
-use Rattle.std.proofs.Common.{Option, Some, None, Result, Ok, Err, slice_get, refl, sym, ap, ap₂, ◌∙◌, subst, arith, inl, ⊎_elim, pos}
-use Rattle.std.proofs.Common.{int_le, unsigned_abs}
-use Rattle.std.specs.List.{list_any}
-use Rattle.std.proofs.lemmas.Bool.{and_parts, true≢false}
-use Rattle.std.proofs.lemmas.Option.{same_Some, none-some}
-use Rattle.ebc_base.specs.Steps as steps
-use Rattle.ebc_base.specs.Steps.{or_else}
-use Rattle.ebc_insn.specs.Spelling.{TargetFits, WellFormed}
-use Rattle.ebc_insn.specs.declared.Extra.{Extra}
-use Rattle.ebc_insn.specs.declared.Extra.TheVariants.{Nothing, Imm, Idx}
-use Rattle.ebc_insn.specs.declared.Insn.{Insn}
-use Rattle.ebc_insn.specs.declared.Insn.TheVariants as insns
-use Rattle.ebc_insn.specs.declared.Operand.{Operand}
-use Rattle.ebc_insn.specs.declared.Size.{Size}
-use Rattle.ebc_insn.specs.declared.Size.TheVariants as sizes
-use Rattle.natural_index.specs.declared.Index.{Index}
-use Rattle.note_types.specs.Known.{is_locals}
-use Rattle.note_types.specs.declared.cell.SlotKind.{SlotKind}
-use Rattle.note_types.specs.declared.cell.SlotKind.TheVariants.{N}
-use Rattle.note_types.specs.declared.items.Item.{Item}
-use Rattle.note_types.specs.declared.items.Item.TheVariants as item
-use Rattle.note_types.specs.declared.notes.FnNote.{FnNote}
-use Rattle.note_types.specs.declared.notes.Notes.{Notes}
-use Rattle.note_types.specs.declared.rule.RuleName.{RuleName}
-use Rattle.note_types.specs.declared.rule.RuleName.TheVariants as rule
-use Rattle.note_types.specs.declared.state.State.{State}
-use Rattle.rules_base.specs.Change.{changed}
-use Rattle.rules_base.specs.declared.change.Change.{Change}
-use Rattle.rules_base.specs.Destinations.{put}
-use Rattle.rules_base.specs.Operands.{index_distance}
-use Rattle.rules_base.specs.Outcomes.{beside}
-use Rattle.rules_base.specs.Places.{locals_size}
-use Rattle.rules_base.specs.Things.{takes_address}
-use Rattle.rules_base.specs.declared.here.Here.{Here}
-use Rattle.rules_base.specs.declared.operand.Distance.{Distance}
-use Rattle.rules_data.specs.Data.{after_data, data_row}
-use Rattle.rules_flow.specs.Flow.{address_rule, after_flow, flow_row, frame_move, slot_kind, to_stack}
-use Rattle.rules_flow.specs.Frames.{drop_to, frame_row, has_room, is_size, left_after, pop_row, top_type, pop_destination, popped_type}
-use Rattle.rules_flow.specs.Successors.{falls}
-use Rattle.rules_flow.specs.declared.successors.Successors.{Successors}
-use Rattle.neutral_machine.specs.Operands.{indexed, plainly}
-use Rattle.neutral_machine.specs.Rows.{NeutralEnd, Next, Native, MakeThunk, Site, executed, is_stack_pointer}
-use Rattle.neutral_machine.specs.Rows as rows
-use Rattle.neutral_machine.specs.Config.{FunctionFrame, Frame, Config}
-use Rattle.neutral_machine.specs.Outcomes.{Outcome, Gives, Raises, Stuck}
-use Rattle.host_model.specs.Values.{Neutral}
-use Rattle.host_model.specs.World.{World}
-use Rattle.invariant_laws.specs.Accepts.{Accepts}
-use Rattle.typing_laws.specs.OneRule.{Asks, Makes, EndsSound, GoesOnSound, IsTaken, OneRule, here_of}
-use Rattle.typing_laws.specs.OneRule as ends
-use Rattle.invariant_laws.specs.Sound.{TopFits}
-use Rattle.typing_laws.proofs.Rows.{err_ok, ok_same}
-use Rattle.typing_laws.proofs.ArithRow.{BesideFits, GoesOn}
-use Rattle.typing_laws.proofs.Calls.{call_fits, return_fits}
-use Rattle.typing_laws.proofs.Context.{TopSound}
+use Rattle.typing_laws.proofs.Common.{◌≡◌, ◌≢◌, ℕ, ◌%◌, ◌<◌, ◌⊎◌, Bool, true, false, not, ◌&&◌, if◌then◌else◌, is_none, is_some, nat_eq}
+use Rattle.typing_laws.proofs.Common.{List, Option, Some, None, Result, Ok, Err, slice_get, refl, sym, ap, ap₂, ◌∙◌, subst, arith, inl}
+use Rattle.typing_laws.proofs.Common.{⊎_elim, pos, int_le, unsigned_abs, list_any, and_parts, true≢false, same_Some, none-some, or_else}
+use Rattle.typing_laws.proofs.Common.{TargetFits, WellFormed, Extra, Nothing, Imm, Idx, Insn, Operand, Size, Index, is_locals, SlotKind, N}
+use Rattle.typing_laws.proofs.Common.{Item, FnNote, Notes, RuleName, State, changed, Change, put, index_distance, beside, locals_size}
+use Rattle.typing_laws.proofs.Common.{takes_address, Here, Distance, after_data, data_row, flow_row, frame_move, slot_kind, drop_to}
+use Rattle.typing_laws.proofs.Common.{frame_row, has_room, is_size, left_after, top_type, pop_destination, popped_type, falls, Successors}
+use Rattle.typing_laws.proofs.Common.{indexed, plainly, NeutralEnd, Next, Native, MakeThunk, Site, executed, is_stack_pointer}
+use Rattle.typing_laws.proofs.Common.{FunctionFrame, Frame, Config, Outcome, Gives, Raises, Stuck, Neutral, World, Accepts, Asks, Makes}
+use Rattle.typing_laws.proofs.Common.{IsTaken, here_of, TopFits}
+use Rattle.rules_flow.specs.{Flow.address_rule, Flow.after_flow, Flow.to_stack, Frames.pop_row}
+use Rattle.typing_laws.specs.OneRule.{EndsSound, GoesOnSound, OneRule}
 use Rattle.typing_laws.proofs.DataTable.{change_found, data_fits, no_row, past_test, top_sound}
-use Rattle.typing_laws.proofs.Drops.{frame_goes}
-use Rattle.typing_laws.proofs.Formed.{beside_fits}
-use Rattle.typing_laws.proofs.Jumps.{TakesOn, jump8_fits, jump_fits}
-use Rattle.typing_laws.proofs.Natives.{break_fits, native_fits}
-use Rattle.typing_laws.proofs.Operands.{then_ok}
-use Rattle.typing_laws.proofs.Pops.{pop_natural_fits, pop_wide_fits}
 use Rattle.typing_laws.proofs.Pushes.{FallsOn, push_natural_fits, push_rule, push_wide_fits}
+use Rattle.typing_laws.proofs.{Rows.err_ok, Rows.ok_same, ArithRow.BesideFits, ArithRow.GoesOn, Calls.call_fits, Calls.return_fits}
+use Rattle.typing_laws.proofs.{Context.TopSound, Drops.frame_goes, Formed.beside_fits, Jumps.TakesOn, Jumps.jump8_fits, Jumps.jump_fits}
+use Rattle.typing_laws.proofs.{Natives.break_fits, Natives.native_fits, Operands.then_ok, Pops.pop_natural_fits, Pops.pop_wide_fits}
+use Rattle.ebc_base.specs.Steps as steps
+use Rattle.ebc_insn.specs.declared.Insn.TheVariants as insns
+use Rattle.ebc_insn.specs.declared.Size.TheVariants as sizes
+use Rattle.note_types.specs.declared.items.Item.TheVariants as item
+use Rattle.note_types.specs.declared.rule.RuleName.TheVariants as rule
+use Rattle.neutral_machine.specs.Rows as rows
+use Rattle.typing_laws.specs.OneRule as ends
 
 -- ---- rows that always go on at the next place
 
@@ -101,10 +61,7 @@ pub move_falls : (notes : Notes) (note : FnNote) (s : State) (size : Size) (left
 move_falls notes note s sizes.Qword left right ridx =
     if_falls left.indirect _ _ (err_falls rule.Form) (if_falls (nat_eq left.reg 0 && (not right.indirect && nat_eq right.reg 0)) _ _
     (frame_falls notes note s (index_distance ridx)) (err_falls rule.Stack))
-move_falls notes note s sizes.Byte left right ridx = if_falls left.indirect _ _ (err_falls rule.Form) (err_falls rule.Stack)
-move_falls notes note s sizes.Word left right ridx = if_falls left.indirect _ _ (err_falls rule.Form) (err_falls rule.Stack)
-move_falls notes note s sizes.Dword left right ridx = if_falls left.indirect _ _ (err_falls rule.Form) (err_falls rule.Stack)
-move_falls notes note s sizes.Natural left right ridx = if_falls left.indirect _ _ (err_falls rule.Form) (err_falls rule.Stack)
+move_falls notes note s size left right ridx = if_falls left.indirect _ _ (err_falls rule.Form) (err_falls rule.Stack)
 
 -- and its operand 1 is R0 itself, moved by the index
 pub move_stack : (notes : Notes) (note : FnNote) (s : State) (size : Size) (left right : Operand) (ridx : Option Index) (x : Successors)
@@ -124,10 +81,7 @@ move_stack notes note s sizes.Qword left right ridx x e = go left.indirect refl 
         × (frame_row notes note s (index_distance ridx) ≡ Ok x)
     go true h e = absurd (err_ok rule.Form x e)
     go false h e = direct h (nat_eq left.reg 0 && (not right.indirect && nat_eq right.reg 0)) refl e
-move_stack notes note s sizes.Byte left right ridx x e = absurd (no_row left.indirect rule.Form rule.Stack x e)
-move_stack notes note s sizes.Word left right ridx x e = absurd (no_row left.indirect rule.Form rule.Stack x e)
-move_stack notes note s sizes.Dword left right ridx x e = absurd (no_row left.indirect rule.Form rule.Stack x e)
-move_stack notes note s sizes.Natural left right ridx x e = absurd (no_row left.indirect rule.Form rule.Stack x e)
+move_stack notes note s size left right ridx x e = absurd (no_row left.indirect rule.Form rule.Stack x e)
 
 pop_falls : (notes : Notes) (note : FnNote) (s : State) (kind : SlotKind) (op : Operand) (extra : Extra)
     → AllFall (pop_row notes note s kind op extra)
@@ -277,34 +231,14 @@ module _ (world : World) (a : Config) (f : FunctionFrame) (fs : List Frame) (not
       absurd (err_ok (address_rule world.notes site.reloc (takes_address size bits left.indirect) left) x e)
   flow_fits (insns.MoveImmNatural bits left lidx idx) w even l e = absurd (no_row (is_none site.reloc) (to_stack left) rule.Relocation x e)
   flow_fits (insns.MoveRelative bits left lidx imm) w even l e = absurd (no_row (is_none site.reloc) (to_stack left) rule.Relocation x e)
-  flow_fits (insns.Compare op wide left right extra) w even l e = absurd (no_row (is_none site.reloc) rule.Form rule.Relocation x e)
-  flow_fits (insns.CompareImm op wide left idx long imm) w even l e = absurd (no_row (is_none site.reloc) rule.Form rule.Relocation x e)
-  flow_fits (insns.Arith op wide left right extra) w even l e = absurd (no_row (is_none site.reloc) rule.Form rule.Relocation x e)
-  flow_fits (insns.LoadSpecial from) w even l e = absurd (no_row (is_none site.reloc) rule.Form rule.Relocation x e)
-  flow_fits (insns.StoreSpecial to special) w even l e = absurd (no_row (is_none site.reloc) rule.Form rule.Relocation x e)
+  flow_fits c w even l e = absurd (no_row (is_none site.reloc) rule.Form rule.Relocation x e)
 
   -- an instruction on data goes on in the function
   data_goes : (i : Insn) (k : Change) → data_row world.notes note (here_of site f.func) s i ≡ Ok k → (b : Config)
       → ends.GoesOn world site x b → GoesOnSound world site x i a f fs b
-  data_goes (insns.Compare op wide left right extra) k e b h = h
-  data_goes (insns.CompareImm op wide left idx long imm) k e b h = h
-  data_goes (insns.Arith op wide left right extra) k e b h = h
-  data_goes (insns.Move size bits left right lidx ridx) k e b h = h
-  data_goes (insns.MoveSigned bits left right lidx extra) k e b h = h
-  data_goes (insns.MoveImm size bits left lidx imm) k e b h = h
-  data_goes (insns.MoveImmNatural bits left lidx idx) k e b h = h
-  data_goes (insns.MoveRelative bits left lidx imm) k e b h = h
-  data_goes (insns.StoreSpecial to special) k e b h = h
-  data_goes (insns.Break code) k e b h = h
-  data_goes (insns.Jump cond far relative op extra) k e b h = h
-  data_goes (insns.Jump8 cond words) k e b h = h
   data_goes (insns.Call far native relative op extra) k e b h = absurd (no_row (is_none site.reloc) rule.Form rule.Relocation k e)
   data_goes insns.Ret k e b h = absurd (no_row (is_none site.reloc) rule.Form rule.Relocation k e)
-  data_goes (insns.LoadSpecial from) k e b h = h
-  data_goes (insns.Push wide op extra) k e b h = h
-  data_goes (insns.Pop wide op extra) k e b h = h
-  data_goes (insns.PushNatural op extra) k e b h = h
-  data_goes (insns.PopNatural op extra) k e b h = h
+  data_goes c k e b h = h
 
 -- Each instruction that its rule accepts goes on soundly.
 pub one_rule : OneRule

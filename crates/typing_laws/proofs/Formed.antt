@@ -1,21 +1,12 @@
 -- What stands beside the operands of a well-formed instruction.
-use Rattle.std.proofs.Common.{◌≡◌, ℕ, zero, suc, ◌-◌, ◌^◌, ◌<◌, ◌≤◌, Bool, true, false, Option, Some, None, refl, sym, ◌∙◌, arith, inl, inr}
-use Rattle.std.proofs.Common.{option_map, pos}
+use Rattle.typing_laws.proofs.Common.{◌≡◌, ℕ, zero, suc, ◌-◌, ◌^◌, ◌<◌, ◌≤◌, Bool, true, false, Option, Some, None, refl, sym, ◌∙◌, arith}
+use Rattle.typing_laws.proofs.Common.{inl, inr, option_map, pos, true≢false, signed, Index, LeftFits, Extra, Nothing, Imm, Idx, Operand}
+use Rattle.typing_laws.proofs.Common.{Size, counted, index_distance, index_pair}
 use Rattle.std.proofs.Math.Pow.{pow_mono}
-use Rattle.std.proofs.lemmas.Bool.{true≢false}
-use Rattle.natural_index.specs.Index.{HasRoom, IsIndex, IsIndexSize, natural_bits, signed}
-use Rattle.natural_index.specs.declared.Index.{Index}
-use Rattle.ebc_insn.specs.Spelling.{ExtraFits, LeftFits, RightFits, IsWordOrDword, MoveFits}
-use Rattle.ebc_insn.specs.declared.Extra.{Extra}
-use Rattle.ebc_insn.specs.declared.Extra.TheVariants.{Nothing, Imm, Idx}
-use Rattle.ebc_insn.specs.declared.Operand.{Operand}
-use Rattle.ebc_insn.specs.declared.Size.{Size}
+use Rattle.natural_index.specs.Index.{HasRoom, IsIndex, IsIndexSize, natural_bits}
+use Rattle.ebc_insn.specs.Spelling.{ExtraFits, RightFits, IsWordOrDword, MoveFits}
+use Rattle.typing_laws.proofs.{ArithRow.BesideFits, ArithRow.nowhere_small, Operands.IsSmall, Pointed.IsBeside}
 use Rattle.ebc_insn.specs.declared.Size.TheVariants as sizes
-use Rattle.rules_base.specs.Operands.{counted, index_distance}
-use Rattle.neutral_machine.specs.Operands.{index_pair}
-use Rattle.typing_laws.proofs.ArithRow.{BesideFits, nowhere_small}
-use Rattle.typing_laws.proofs.Operands.{IsSmall}
-use Rattle.typing_laws.proofs.Pointed.{IsBeside}
 
 -- a part of an index is a number of 64 bits
 part_small : (sign : Bool) (u n : ℕ) → u < 2 ^ 60 → signed sign u ≡ pos n → n < 2 ^ 64
@@ -70,8 +61,5 @@ word_most bits (inl e) = omega (arith, e)
 word_most bits (inr e) = omega (arith, e)
 
 pub move_most : (size : Size) (bits : ℕ) → MoveFits size bits → bits ≤ 64
-move_most sizes.Byte bits h = word_most bits h
-move_most sizes.Word bits h = word_most bits h
-move_most sizes.Dword bits h = word_most bits h
 move_most sizes.Qword bits h = size_most bits h
-move_most sizes.Natural bits h = word_most bits h
+move_most size bits h = word_most bits h

@@ -1,30 +1,12 @@
 -- Other items in the function on top, its locals being there as before, leave a configuration sound.
-use Rattle.std.proofs.Common.{◌≡◌, ℕ, suc, ◌≤◌, if◌then◌else◌, nat_eq, List, [], ◌∷◌, length, refl, sym, ap, ◌∙◌, subst, arith}
-use Rattle.std.specs.List.{AllZip}
-use Rattle.std.proofs.lemmas.Option.{same_Some}
-use Rattle.note_types.specs.declared.items.Item.{Item}
-use Rattle.note_types.specs.declared.items.Item.TheVariants as item
-use Rattle.note_types.specs.declared.notes.FnNote.{FnNote}
-use Rattle.note_types.specs.declared.notes.Notes.{Notes}
-use Rattle.note_types.specs.declared.state.State.{State}
-use Rattle.note_types.specs.declared.types.Ty.{Ty}
-use Rattle.neutral_machine.specs.Rows.{with_items}
-use Rattle.neutral_machine.specs.Config.{StackItem, Pushed, LocalsOf, FunctionFrame, Frame, Function, Config, depth, hosts, locals_among}
-use Rattle.neutral_machine.specs.Config.{locals_at}
-use Rattle.neutral_machine.specs.Fits.{Fits}
-use Rattle.neutral_machine.specs.FitsState.{ItemFits, FitsState}
-use Rattle.neutral_machine.specs.Layout.{height}
-use Rattle.neutral_machine.specs.Memory.{Memory}
-use Rattle.host_model.specs.Placements.{frame_limit}
-use Rattle.host_model.specs.Values.{Neutral}
-use Rattle.host_model.specs.World.{World}
-use Rattle.invariant_laws.specs.Later.{Later}
-use Rattle.invariant_laws.specs.Live.{live_memory}
-use Rattle.invariant_laws.specs.Sound.{FrameKeeps, FrameBelow, FramesKeep, KeepsWithin, SlotsKept, SoundBelow}
-use Rattle.typing_laws.proofs.Context.{TopSound, passed_params}
-use Rattle.invariant_laws.proofs.LaterFits.{FieldsLater, fields_later, fits_later, items_later}
+use Rattle.typing_laws.proofs.Common.{◌≡◌, ℕ, suc, ◌≤◌, if◌then◌else◌, nat_eq, List, [], ◌∷◌, length, refl, sym, ap, ◌∙◌, subst, arith}
+use Rattle.typing_laws.proofs.Common.{AllZip, same_Some, Item, FnNote, Notes, State, Ty, with_items, StackItem, Pushed, LocalsOf}
+use Rattle.typing_laws.proofs.Common.{FunctionFrame, Frame, Function, Config, depth, hosts, locals_among, locals_at, Fits, ItemFits}
+use Rattle.typing_laws.proofs.Common.{FitsState, height, Memory, frame_limit, Neutral, World, Later, live_memory, FrameKeeps, FrameBelow}
+use Rattle.typing_laws.proofs.Common.{FramesKeep, KeepsWithin, SlotsKept, SoundBelow, FieldsLater, fields_later, fits_later, items_later}
 use Rattle.typing_laws.proofs.LiveCells.{LaterBelow, below_later, below_kept, frames_kept}
-use Rattle.typing_laws.proofs.Relaid.{cells_at, later_at}
+use Rattle.typing_laws.proofs.{Context.TopSound, Context.passed_params, Relaid.cells_at, Relaid.later_at}
+use Rattle.note_types.specs.declared.items.Item.TheVariants as item
 
 -- what fits a frame fits it with other items
 pub items_moved : (notes : Notes) (m : Memory) (d : ℕ) (f : FunctionFrame) (js : List StackItem) (is : List StackItem) (xs : List Item)

@@ -1,29 +1,14 @@
 -- Items dropped from the top: what the rules leave of the items of a state, the neutral machine leaves of a frame's.
-use Rattle.std.proofs.Common.{◌≡◌, ℕ, ◌-◌, ◌≤◌, Bool, true, false, ◌&&◌, ◌||◌, if◌then◌else◌, nat_eq, nat_le, List, [], ◌∷◌, Option, Some}
-use Rattle.std.proofs.Common.{None, count_by, refl, sym, ap, ap₂, ◌∙◌, subst, arith}
-use Rattle.std.specs.List.{AllZip, list_any}
+use Rattle.typing_laws.proofs.Common.{◌≡◌, ℕ, ◌-◌, ◌≤◌, Bool, true, false, ◌&&◌, ◌||◌, if◌then◌else◌, nat_eq, nat_le, List, [], ◌∷◌, Option}
+use Rattle.typing_laws.proofs.Common.{Some, None, count_by, refl, sym, ap, ap₂, ◌∙◌, subst, arith, AllZip, list_any, false≢true, true≢false}
+use Rattle.typing_laws.proofs.Common.{none-some, is_locals, N, Item, Notes, Pair, Shape, item_size, left_after, dropped, StackItem, Pushed}
+use Rattle.typing_laws.proofs.Common.{LocalsOf, FunctionFrame, locals_among, ItemFits, height, item_bytes, item_units, Memory, TypedObject}
+use Rattle.typing_laws.proofs.Common.{frame_locals, SlotsKept}
 use Rattle.std.proofs.lemmas.List.Sums.{sum_by-cons}
-use Rattle.std.proofs.lemmas.Bool.{false≢true, true≢false}
-use Rattle.std.proofs.lemmas.Option.{none-some}
-use Rattle.note_types.specs.Known.{is_locals}
-use Rattle.note_types.specs.declared.cell.SlotKind.TheVariants.{N, Q, D}
-use Rattle.note_types.specs.declared.items.Item.{Item}
-use Rattle.note_types.specs.declared.items.Item.TheVariants as item
-use Rattle.note_types.specs.declared.notes.Notes.{Notes}
-use Rattle.note_types.specs.declared.notes.Pair.{Pair}
-use Rattle.note_types.specs.declared.shape.Shape.{Shape}
-use Rattle.rules_flow.specs.Frames.{item_size, left_after}
-use Rattle.neutral_machine.specs.Rows.{Dropped, dropped, with_one}
-use Rattle.neutral_machine.specs.Rows as rows
-use Rattle.neutral_machine.specs.Config.{StackItem, Pushed, LocalsOf, FunctionFrame, locals_among}
-use Rattle.neutral_machine.specs.FitsState.{ItemFits}
-use Rattle.neutral_machine.specs.Layout.{height}
-use Rattle.neutral_machine.specs.Locations.{item_bytes, item_units}
-use Rattle.neutral_machine.specs.Memory.{Memory}
-use Rattle.host_model.specs.declared.object.TypedObject.{TypedObject}
-use Rattle.host_model.specs.World.{frame_locals}
-use Rattle.invariant_laws.specs.Sound.{SlotsKept}
+use Rattle.neutral_machine.specs.Rows.{Dropped, with_one}
 use Rattle.typing_laws.proofs.OnStack.{units_are}
+use Rattle.note_types.specs.declared.items.Item.TheVariants as item
+use Rattle.neutral_machine.specs.Rows as rows
 
 -- the locals are among items at most once
 abbrev pub Once : List Item → Type 0
@@ -48,9 +33,7 @@ once_counted (item.Locals ∷ xs) l = none_counted xs (let c = sum_by-cons (λ x
 pub kept_rest : (notes : Notes) (os : List TypedObject) (i : StackItem) (is : List StackItem) → SlotsKept notes os (i ∷ is)
     → SlotsKept notes os is
 kept_rest notes os (Pushed N v) is h = h.1
-kept_rest notes os (Pushed Q v) is h = h
-kept_rest notes os (Pushed D v) is h = h
-kept_rest notes os (LocalsOf s) is h = h
+kept_rest notes os c is h = h
 
 module _ (notes : Notes) (m : Memory) (d : ℕ) (f : FunctionFrame) (size : Pair)
     (same : (s : Shape) → frame_locals notes f.func ≡ Some s → (size.n ≡ s.n) × (size.c ≡ s.c)) where

@@ -1,48 +1,24 @@
 -- The rows of the jumps: to a point of the function, with what a comparison said.
-use Rattle.std.proofs.Common.{◌≡◌, ℕ, ◌+◌, ◌%◌, ◌^◌, ◌<◌, ◌⊎◌, Bool, true, false, not, ◌&&◌, if◌then◌else◌, is_some, nat_eq, nat_le, nat_lt}
-use Rattle.std.proofs.Common.{List, [], ◌∷◌, get_or, position, Option, Some, None, Result, Ok, Err, slice_get, refl, sym, ap, ap₂, ◌∙◌}
-use Rattle.std.proofs.Common.{subst, arith, inl, inr, ⊎_elim, ℤ, pos, negsuc, ◌+ℤ◌, ◌*ℤ◌, int_le}
-use Rattle.std.proofs.lemmas.Bool.{and_parts, eqb-true, eq-eqb, ltb-true, false≢true}
-use Rattle.std.proofs.lemmas.List.Quantifiers.{position-Some}
-use Rattle.std.proofs.lemmas.Option.{same_Some, none-some, get_or_from_slice_get}
-use Rattle.ebc_base.specs.Steps.{or_else}
-use Rattle.ebc_insn.specs.Spelling.{TargetFits}
+use Rattle.typing_laws.proofs.Common.{◌≡◌, ℕ, ◌+◌, ◌%◌, ◌^◌, ◌<◌, ◌⊎◌, Bool, true, false, not, ◌&&◌, if◌then◌else◌, is_some, nat_eq, nat_le}
+use Rattle.typing_laws.proofs.Common.{nat_lt, List, [], ◌∷◌, get_or, position, Option, Some, None, Result, Ok, Err, slice_get, refl, sym}
+use Rattle.typing_laws.proofs.Common.{ap, ap₂, ◌∙◌, subst, arith, inl, inr, ⊎_elim, ℤ, pos, negsuc, ◌+ℤ◌, int_le, and_parts, eqb-true}
+use Rattle.typing_laws.proofs.Common.{eq-eqb, ltb-true, false≢true, position-Some, same_Some, none-some, get_or_from_slice_get, or_else}
+use Rattle.typing_laws.proofs.Common.{TargetFits, Extra, Nothing, Imm, Idx, Operand, wrap64, FnNote, RuleName, State, and_then, is_at}
+use Rattle.typing_laws.proofs.Common.{number_at, number_from, target_of, narrow, Successors, beside_extra, moved_by, NeutralEnd, Site}
+use Rattle.typing_laws.proofs.Common.{aligned, FunctionFrame, Frame, Config, depth, FitsState, Outcome, Gives, Raises, Stuck, ◌>>=◌, plain}
+use Rattle.typing_laws.proofs.Common.{word, World, Accepts, live_memory, IsTaken, here_of, within_some}
+use Rattle.std.proofs.Common.{◌*ℤ◌}
 use Rattle.ebc_insn.specs.declared.Cond.{Cond}
-use Rattle.ebc_insn.specs.declared.Cond.TheVariants as conds
-use Rattle.ebc_insn.specs.declared.Extra.{Extra}
-use Rattle.ebc_insn.specs.declared.Extra.TheVariants.{Nothing, Imm, Idx}
-use Rattle.ebc_insn.specs.declared.Operand.{Operand}
-use Rattle.ebc_width.specs.Width.{wrap64}
-use Rattle.note_types.specs.declared.notes.FnNote.{FnNote}
 use Rattle.note_types.specs.declared.notes.Point.{Point}
-use Rattle.note_types.specs.declared.rule.RuleName.{RuleName}
+use Rattle.rules_flow.specs.Jumps.{absolute, jump_to, jumps, no_target, place_within, point_at, relative}
+use Rattle.neutral_machine.specs.Rows.{is_taken, jump8_row, jump_row, target_at}
+use Rattle.typing_laws.proofs.{Rows.if_some, Rows.then_some, Rows.wrap_add, Rows.err_ok, ArithRow.GoesOn, ArithRow.goes_on}
+use Rattle.typing_laws.proofs.{CompareRow.narrow_fits, Context.TopSound, Operands.some_ok, Operands.then_ok, Written.After}
+use Rattle.ebc_insn.specs.declared.Cond.TheVariants as conds
 use Rattle.note_types.specs.declared.rule.RuleName.TheVariants as rule
-use Rattle.note_types.specs.declared.state.State.{State}
-use Rattle.rules_base.specs.Parts.{and_then}
-use Rattle.rules_flow.specs.Found.{is_at, number_at, number_from}
-use Rattle.rules_flow.specs.Jumps.{absolute, jump_to, jumps, no_target, place_within, point_at, relative, target_of}
 use Rattle.rules_flow.specs.Jumps as rules_jumps
-use Rattle.rules_flow.specs.Narrowing.{narrow}
-use Rattle.rules_flow.specs.declared.successors.Successors.{Successors}
-use Rattle.neutral_machine.specs.Operands.{beside_extra, moved_by}
-use Rattle.neutral_machine.specs.Rows.{NeutralEnd, Site, aligned, is_taken, jump8_row, jump_row, target_at}
 use Rattle.neutral_machine.specs.Rows as rows
-use Rattle.neutral_machine.specs.Config.{FunctionFrame, Frame, Config, depth}
-use Rattle.neutral_machine.specs.FitsState.{FitsState}
-use Rattle.neutral_machine.specs.Outcomes.{Outcome, Gives, Raises, Stuck, ◌>>=◌}
-use Rattle.host_model.specs.Values.{plain, word}
 use Rattle.note_types.specs.declared.exception.Exception.TheVariants as raises
-use Rattle.host_model.specs.World.{World}
-use Rattle.invariant_laws.specs.Accepts.{Accepts}
-use Rattle.invariant_laws.specs.Live.{live_memory}
-use Rattle.typing_laws.specs.OneRule.{IsTaken, here_of}
-use Rattle.typing_laws.proofs.Rows.{if_some, then_some, wrap_add, err_ok}
-use Rattle.typing_laws.proofs.ArithRow.{GoesOn, goes_on}
-use Rattle.typing_laws.proofs.CompareRow.{narrow_fits}
-use Rattle.typing_laws.proofs.Context.{TopSound}
-use Rattle.typing_laws.proofs.Operands.{some_ok, then_ok}
-use Rattle.typing_laws.proofs.Written.{After}
-use Rattle.ebc_base.proofs.Lists.{within_some}
 
 -- An instruction that goes on at a successor, with its state.
 pub record TakesOn (world : World) (a : Config) (f : FunctionFrame) (fs : List Frame) (note : FnNote) (s : State)
@@ -182,10 +158,7 @@ module _ (world : World) (a : Config) (f : FunctionFrame) (fs : List Frame) (not
   target_found site func false false op (Imm imm) z p w e ez l = absurd (no_targets site func z e)
   target_found site func true rel op Nothing z p w e ez l = absurd w
   target_found site func true rel op (Idx i) z p w e ez l = absurd w
-  target_found site func false true op Nothing z p w e ez l = absurd (no_targets site func z e)
-  target_found site func false false op Nothing z p w e ez l = absurd (no_targets site func z e)
-  target_found site func false true op (Idx i) z p w e ez l = absurd (no_targets site func z e)
-  target_found site func false false op (Idx i) z p w e ez l = absurd (no_targets site func z e)
+  target_found site func c rel op k z p w e ez l = absurd (no_targets site func z e)
 
   pub aligned_is : (p : ℕ) → p % 2 ≡ 0 → aligned p ≡ Gives p
   aligned_is p e = ap (λ b. if b then Gives p else Raises raises.AlignmentCheck) (eq-eqb (p % 2) 0 e)

@@ -1,29 +1,14 @@
 -- What moves keep of a value fits what the rules keep of its type.
-use Rattle.std.proofs.Common.{◌≡◌, ℕ, ◌+◌, ◌*◌, ◌%◌, ◌^◌, ◌<◌, ◌≤◌, Bool, true, false, ◌&&◌, if◌then◌else◌, nat_lt, refl, sym, ap, ◌∙◌}
-use Rattle.std.proofs.Common.{subst, arith, inl, inr, ⊎_elim, mod-eq_of_lt, ℤ, pos, negsuc, int_le}
-use Rattle.std.specs.Ordering.{int_eq}
-use Rattle.std.proofs.Math.Nat.{mul-le-mul_right}
-use Rattle.std.proofs.lemmas.Bool.{ltb-true, and_parts, false≢true, lt-ltb}
-use Rattle.std.proofs.lemmas.Bool.Decides.{Decides-int_eq}
-use Rattle.std.proofs.lemmas.Nat.{mod_below, pow_pos}
-use Rattle.ebc_insn.specs.declared.Size.{Size}
+use Rattle.typing_laws.proofs.Common.{◌≡◌, ℕ, ◌+◌, ◌*◌, ◌%◌, ◌^◌, ◌<◌, ◌≤◌, Bool, true, false, ◌&&◌, if◌then◌else◌, nat_lt, refl, sym, ap}
+use Rattle.typing_laws.proofs.Common.{◌∙◌, subst, arith, inl, inr, ⊎_elim, mod-eq_of_lt, ℤ, pos, negsuc, int_le, int_eq, mul-le-mul_right}
+use Rattle.typing_laws.proofs.Common.{ltb-true, and_parts, false≢true, lt-ltb, Decides-int_eq, mod_below, pow_pos, Size, wrap64, IsBounded}
+use Rattle.typing_laws.proofs.Common.{Notes, Ty, Any, Int, Lin, Scaled, Ptr, Local, Lent, Status, Mask, Handle, Entry, ThunkAt, full}
+use Rattle.typing_laws.proofs.Common.{Neutral, Num, At, Junk, ObjectOf, number, null, word, Registers, Memory, IsPointer, OrNull, Fits}
+use Rattle.typing_laws.proofs.Common.{is_kept_at, kept_natural, narrowed, sign_extended, Move, kept}
+use Rattle.note_types.specs.declared.types.Ty.TheVariants.{Method}
+use Rattle.typing_laws.proofs.{Rows.one_divides, Rows.number_fits, Objects.ObjectsFit, Objects.start_is, Objects.start_kept}
 use Rattle.ebc_insn.specs.declared.Size.TheVariants as sizes
-use Rattle.ebc_width.specs.Width.{wrap64}
-use Rattle.note_types.specs.Types.{IsBounded}
-use Rattle.note_types.specs.declared.notes.Notes.{Notes}
-use Rattle.note_types.specs.declared.types.Ty.{Ty}
-use Rattle.note_types.specs.declared.types.Ty.TheVariants.{Any, Int, Lin, Scaled, Ptr, Local, Lent, Status, SignedStatus, Mask, Handle}
-use Rattle.note_types.specs.declared.types.Ty.TheVariants.{Entry, Method, ThunkAt, Saved}
-use Rattle.rules_base.specs.Parts.{full}
 use Rattle.rules_base.specs.Kept as rules
-use Rattle.host_model.specs.Values.{Neutral, Num, At, Junk, ObjectOf, number, null, word}
-use Rattle.neutral_machine.specs.Config.{Registers}
-use Rattle.neutral_machine.specs.Memory.{Memory}
-use Rattle.neutral_machine.specs.Fits.{IsPointer, OrNull, Fits}
-use Rattle.neutral_machine.specs.Operations.{is_kept_at, kept_natural, narrowed, sign_extended}
-use Rattle.neutral_machine.specs.Locations.{Move, kept}
-use Rattle.typing_laws.proofs.Rows.{one_divides, number_fits}
-use Rattle.typing_laws.proofs.Objects.{ObjectsFit, start_is, start_kept}
 
 module _ (notes : Notes) (m : Memory) (ok : ObjectsFit notes m.objects) (d : ℕ) (saved : Registers) where
   -- ---- natural size
@@ -71,7 +56,6 @@ module _ (notes : Notes) (m : Memory) (ok : ObjectsFit notes m.objects) (d : ℕ
   pub natural_fits : (t : Ty) (v : Neutral) → IsBounded t → Fits notes m d saved t v
       → Fits notes m d saved (rules.kept_natural t) (kept_natural notes m.objects v)
   unfolding kept_natural
-  natural_fits Any v b f = tt
   natural_fits (Int lo hi div) v b f = go (nat_lt hi (2 ^ 32)) refl
     where
       go : (i : Bool) → nat_lt hi (2 ^ 32) ≡ i → Fits notes m d saved (if i then Int lo hi div else Any) (kept_natural notes m.objects v)
@@ -101,13 +85,12 @@ module _ (notes : Notes) (m : Memory) (ok : ObjectsFit notes m.objects) (d : ℕ
   natural_fits (Lent cell) v b f = stays (Lent cell) v (ap (kept_natural notes m.objects) f.cell_below.is ∙ sym f.cell_below.is) f
   natural_fits (Status g) v b f = stays (Status g) v (⊎_elim (λ e. ap (kept_natural notes m.objects) e.is ∙ sym e.is)
       (λ s. let l = s.0.small in ap (kept_natural notes m.objects) s.0.is ∙ number_stays s.0.code (omega (arith, l)) ∙ sym s.0.is) f) f
-  natural_fits (SignedStatus g) v b f = tt
   natural_fits Mask v b f = stays Mask v (ap (kept_natural notes m.objects) f ∙ sym f) f
   natural_fits Handle v b f = stays Handle v (⊎_elim (λ e. ap (kept_natural notes m.objects) e.is ∙ sym e.is) (λ e. null_stays v e) f) f
   natural_fits Entry v b f = stays Entry v (⊎_elim (λ e. ap (kept_natural notes m.objects) e.is ∙ sym e.is) (λ e. null_stays v e) f) f
   natural_fits (Method k) v b f = stays (Method k) v (ap (kept_natural notes m.objects) f ∙ sym f) f
   natural_fits (ThunkAt i) v b f = stays (ThunkAt i) v (ap (kept_natural notes m.objects) f ∙ sym f) f
-  natural_fits (Saved i) v b f = tt
+  natural_fits t v b f = tt
 
   -- ---- narrow moves
 
@@ -128,20 +111,7 @@ module _ (notes : Notes) (m : Memory) (ok : ObjectsFit notes m.objects) (d : ℕ
           let q = mod_below (word f.x) (2 ^ bits) (pow_pos bits) in
           number_fits notes m d saved (word f.x % 2 ^ bits) 0 _ 1 _ (narrowed_is bits f.x v f.is) (omega arith) (omega (arith, q))
           (one_divides _)
-  low_fits bits Any v p f = tt
-  low_fits bits (Lin n c) v p f = tt
-  low_fits bits (Scaled n c hi) v p f = tt
-  low_fits bits (Ptr s k n c may) v p f = tt
-  low_fits bits (Local x) v p f = tt
-  low_fits bits (Lent cell) v p f = tt
-  low_fits bits (Status g) v p f = tt
-  low_fits bits (SignedStatus g) v p f = tt
-  low_fits bits Mask v p f = tt
-  low_fits bits Handle v p f = tt
-  low_fits bits Entry v p f = tt
-  low_fits bits (Method k) v p f = tt
-  low_fits bits (ThunkAt i) v p f = tt
-  low_fits bits (Saved i) v p f = tt
+  low_fits bits t v p f = tt
 
   -- What a move keeps of a value fits what it keeps of its type.
   pub kept_fits : (size : Size) (t : Ty) (v : Neutral) → IsBounded t → Fits notes m d saved t v
@@ -151,9 +121,6 @@ module _ (notes : Notes) (m : Memory) (ok : ObjectsFit notes m.objects) (d : ℕ
   kept_fits sizes.Dword t v b f = low_fits 32 t v (omega arith) f
   kept_fits sizes.Qword t v b f = f
   kept_fits sizes.Natural t v b f = natural_fits t v b f
-
-  pub dword_fits : (t : Ty) (v : Neutral) → Fits notes m d saved t v → Fits notes m d saved (rules.kept_low 32 t) (narrowed 32 v)
-  dword_fits t v f = low_fits 32 t v (omega arith) f
 
   -- ---- sign extension
 
@@ -177,16 +144,4 @@ module _ (notes : Notes) (m : Memory) (ok : ObjectsFit notes m.objects) (d : ℕ
       go true h = let l = ltb-true hi (2 ^ 31) h in subst (λ z. Fits notes m d saved (Int lo hi div) z)
           (sym (ap sign_extended f.is ∙ extended_number f.x (omega (arith, f.to, l)) ∙ sym f.is)) f
       go false h = tt
-  signed_fits Any v f = tt
-  signed_fits (Lin n c) v f = tt
-  signed_fits (Scaled n c hi) v f = tt
-  signed_fits (Ptr s k n c may) v f = tt
-  signed_fits (Local x) v f = tt
-  signed_fits (Lent cell) v f = tt
-  signed_fits (SignedStatus g) v f = tt
-  signed_fits Mask v f = tt
-  signed_fits Handle v f = tt
-  signed_fits Entry v f = tt
-  signed_fits (Method k) v f = tt
-  signed_fits (ThunkAt i) v f = tt
-  signed_fits (Saved i) v f = tt
+  signed_fits t v f = tt

@@ -1,27 +1,12 @@
 -- The cells that are there, before and after a change: what they hold, and what frames and types see of them.
-use Rattle.std.proofs.Common.{◌≡◌, ℕ, suc, ◌%◌, ◌<◌, ◌≤◌, Bool, true, false, if◌then◌else◌, is_some, List, [], ◌∷◌, Option, Some, None}
-use Rattle.std.proofs.Common.{slice_get, refl, sym, ap, ◌∙◌, subst, arith, inl, inr, ⊎_elim, option_and_then}
-use Rattle.std.specs.List.{AllZip}
-use Rattle.std.proofs.lemmas.Option.{none-some}
-use Rattle.note_types.specs.Passing.{IsPassed}
-use Rattle.note_types.specs.declared.notes.FnNote.{FnNote}
-use Rattle.note_types.specs.declared.notes.Notes.{Notes}
-use Rattle.note_types.specs.declared.notes.Param.{Param}
-use Rattle.note_types.specs.declared.shape.Field.{Field}
-use Rattle.note_types.specs.declared.shape.Shape.{Shape}
-use Rattle.note_types.specs.declared.types.Ty.{Ty}
-use Rattle.note_types.specs.declared.types.Ty.TheVariants.{Any, Int, Lin, Scaled, Ptr, Local, Lent, Status, SignedStatus, Mask, Handle}
-use Rattle.note_types.specs.declared.types.Ty.TheVariants.{Entry, Method, ThunkAt, Saved}
-use Rattle.neutral_machine.specs.Config.{Registers, StackItem, Pushed, LocalsOf, FunctionFrame, Frame, Function, Host, depth}
-use Rattle.neutral_machine.specs.Fits.{Fits}
-use Rattle.neutral_machine.specs.Memory.{Memory, cell_field, AreWritten, IsFieldWritten}
-use Rattle.host_model.specs.declared.object.TypedObject.{TypedObject}
-use Rattle.host_model.specs.Values.{Neutral, CellPlace}
-use Rattle.host_model.specs.World.{World}
-use Rattle.invariant_laws.specs.Later.{Later}
+use Rattle.typing_laws.proofs.Common.{◌≡◌, ℕ, suc, ◌%◌, ◌<◌, ◌≤◌, Bool, true, false, if◌then◌else◌, is_some, List, [], ◌∷◌, Option, Some}
+use Rattle.typing_laws.proofs.Common.{None, slice_get, refl, sym, ap, ◌∙◌, subst, arith, inl, inr, ⊎_elim, option_and_then, AllZip}
+use Rattle.typing_laws.proofs.Common.{none-some, IsPassed, FnNote, Notes, Param, Field, Shape, Ty, Any, Ptr, Local, Lent, Status}
+use Rattle.typing_laws.proofs.Common.{SignedStatus, Registers, StackItem, Pushed, LocalsOf, FunctionFrame, Frame, Function, Host, depth}
+use Rattle.typing_laws.proofs.Common.{Fits, Memory, cell_field, AreWritten, IsFieldWritten, TypedObject, Neutral, CellPlace, World, Later}
+use Rattle.typing_laws.proofs.Common.{live_cells, ParamFits, FrameKeeps, FrameBelow, FramesKeep}
+use Rattle.note_types.specs.declared.types.Ty.TheVariants.{Saved}
 use Rattle.invariant_laws.proofs.LaterFits.{or_null_later, pointer_later}
-use Rattle.invariant_laws.specs.Live.{live_cells}
-use Rattle.invariant_laws.specs.Sound.{ParamFits, FrameKeeps, FrameBelow, FramesKeep}
 
 -- ---- what live cells hold
 
@@ -86,9 +71,6 @@ module _ (notes : Notes) (d : ℕ) (U V : Memory) (l : LaterBelow d U V) where
   pub passed_up : (e : ℕ) (saved other : Registers) (t : Ty) (v : Neutral) → d ≤ e → IsPassed t → Fits notes U d saved t v
       → Fits notes V e other t v
   passed_up e saved other Any v h p x = tt
-  passed_up e saved other (Int lo hi div) v h p x = x
-  passed_up e saved other (Lin n c) v h p x = x
-  passed_up e saved other (Scaled n c hi) v h p x = x
   passed_up e saved other (Ptr s k n c may) v h p x =
       or_null_later may v _ _ (λ q. pointer_later notes U.objects V.objects l.objects s k n c v q) x
   passed_up e saved other (Local f) v h p x = absurd p
@@ -108,12 +90,8 @@ module _ (notes : Notes) (d : ℕ) (U V : Memory) (l : LaterBelow d U V) where
       }
   passed_up e saved other (Status g) v h p x = ⊎_elim (λ q. inl q) (λ q. inr (q.0, none_granted V e g p)) x
   passed_up e saved other (SignedStatus g) v h p x = ⊎_elim (λ q. inl q) (λ q. inr (q.0, none_granted V e g p)) x
-  passed_up e saved other Mask v h p x = x
-  passed_up e saved other Handle v h p x = x
-  passed_up e saved other Entry v h p x = x
-  passed_up e saved other (Method k) v h p x = x
-  passed_up e saved other (ThunkAt i) v h p x = x
   passed_up e saved other (Saved i) v h p x = absurd p
+  passed_up e saved other t v h p x = x
 
   -- so the parameters of a frame at that depth, which may keep other registers now
   pub params_up : (f g : FunctionFrame) (is : List StackItem) (ps : List Param)

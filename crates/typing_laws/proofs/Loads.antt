@@ -1,46 +1,23 @@
 -- What loads give fits what the rules say.
-use Rattle.std.proofs.Common.{◌≡◌, ℕ, ◌%◌, ◌/◌, ◌^◌, ◌<◌, Bool, true, false, if◌then◌else◌, nat_lt, nat_eq, length, Some, None, Ok, Err}
-use Rattle.std.proofs.Common.{slice_get, refl, sym, ap, ◌∙◌, subst, arith, inl, inr, ⊎_elim}
-use Rattle.std.proofs.lemmas.Bool.{and_parts, eqb-true, false≢true}
-use Rattle.ebc_insn.specs.declared.Size.TheVariants as sizes
-use Rattle.note_types.specs.Cells.{IsBoundedCell, content_type}
-use Rattle.note_types.specs.FieldSets.{HasField}
-use Rattle.note_types.specs.declared.cell.Cell.{Cell}
-use Rattle.note_types.specs.declared.cell.Cell.TheVariants as cell
-use Rattle.note_types.specs.declared.notes.Notes.{Notes}
-use Rattle.note_types.specs.declared.rule.RuleName.TheVariants as rule
-use Rattle.note_types.specs.declared.shape.Field.{Field}
-use Rattle.note_types.specs.declared.state.State.{State}
-use Rattle.note_types.specs.declared.types.Ty.{Ty}
-use Rattle.note_types.specs.declared.types.Ty.TheVariants.{Status, Entry}
+use Rattle.typing_laws.proofs.Common.{◌≡◌, ℕ, ◌%◌, ◌/◌, ◌^◌, ◌<◌, Bool, true, false, if◌then◌else◌, nat_lt, nat_eq, length, Some, None, Ok}
+use Rattle.typing_laws.proofs.Common.{Err, slice_get, refl, sym, ap, ◌∙◌, subst, arith, inl, inr, ⊎_elim, and_parts, eqb-true, false≢true}
+use Rattle.typing_laws.proofs.Common.{IsBoundedCell, content_type, HasField, Cell, Notes, Field, State, Ty, Status, Entry, Loaded, Place}
+use Rattle.typing_laws.proofs.Common.{loads, loaded_type, known, load_place, has_field, Neutral, CellPlace, FieldOfLocals, Registers}
+use Rattle.typing_laws.proofs.Common.{Config, World, live_memory, Memory, AreWritten, FitsPlain, Fits, CellsFit, kept_natural}
+use Rattle.typing_laws.proofs.Common.{sign_extended, Access, Move, Form, Signed, Location, CellAt, ParamAt, kept, value_at, memory_of}
+use Rattle.typing_laws.proofs.Common.{within_some}
 use Rattle.note_types.proofs.TypeLaws.{content_type-bounded}
-use Rattle.rules_base.specs.declared.access.Loaded.{Loaded}
-use Rattle.rules_base.specs.declared.place.Place.{Place}
+use Rattle.rules_base.specs.{Access.thunk_load, Outcomes.OrRule}
+use Rattle.neutral_machine.specs.Locations.{cell_value, entry_if}
+use Rattle.typing_laws.proofs.{Rows.err_ok, Accesses.access_of, Accesses.reads_is, Objects.ObjectsFit, KeptFit.low_fits}
+use Rattle.typing_laws.proofs.{KeptFit.natural_fits, KeptFit.signed_fits, LiveCells.live_held, Pointed.CellThere, Pointed.PlaceNames}
+use Rattle.ebc_insn.specs.declared.Size.TheVariants as sizes
+use Rattle.note_types.specs.declared.cell.Cell.TheVariants as cell
+use Rattle.note_types.specs.declared.rule.RuleName.TheVariants as rule
 use Rattle.rules_base.specs.declared.place.Place.TheVariants as place
-use Rattle.rules_base.specs.Access.{loads, loaded_type, known, thunk_load, load_place}
-use Rattle.rules_base.specs.Places.{has_field}
-use Rattle.host_model.specs.Values.{Neutral, CellPlace, FieldOfLocals}
 use Rattle.host_model.specs.Values as values
-use Rattle.neutral_machine.specs.Config.{Registers, Config}
-use Rattle.host_model.specs.World.{World}
-use Rattle.invariant_laws.specs.Live.{live_memory}
-use Rattle.neutral_machine.specs.Memory.{Memory, AreWritten}
 use Rattle.neutral_machine.specs.Memory as memory
-use Rattle.neutral_machine.specs.Fits.{FitsPlain, Fits}
-use Rattle.invariant_laws.specs.Sound.{CellsFit}
-use Rattle.neutral_machine.specs.Operations.{kept_natural, sign_extended}
-use Rattle.neutral_machine.specs.Locations.{Access, Move, Form, Signed, Location, CellAt, ParamAt, kept, cell_value, value_at}
-use Rattle.neutral_machine.specs.Locations.{entry_if}
 use Rattle.neutral_machine.specs.Locations as locations
-use Rattle.typing_laws.proofs.Rows.{err_ok}
-use Rattle.typing_laws.proofs.Accesses.{access_of, reads_is}
-use Rattle.typing_laws.proofs.Objects.{ObjectsFit}
-use Rattle.typing_laws.proofs.KeptFit.{low_fits, natural_fits, signed_fits}
-use Rattle.neutral_machine.specs.Memory.{memory_of}
-use Rattle.typing_laws.proofs.LiveCells.{live_held}
-use Rattle.typing_laws.proofs.Pointed.{CellThere, PlaceNames}
-use Rattle.ebc_base.proofs.Lists.{within_some}
-use Rattle.rules_base.specs.Outcomes.{OrRule}
 
 -- what an instruction makes of a value that it loads: MOVsn extends it
 abbrev pub finish : Access → Neutral → Neutral
@@ -60,73 +37,21 @@ has_field_is set f h = eqb-true _ _ (and_parts (nat_lt f 64) (nat_eq (set / 2 ^ 
 module _ (notes : Notes) (m : Memory) (ok : ObjectsFit notes m.objects) (d : ℕ) (saved : Registers) where
   -- what fits a content type in every frame fits it in this one
   pub plain_content : (c : Cell) (v : Neutral) → FitsPlain notes m.objects (content_type c) v → Fits notes m d saved (content_type c) v
-  plain_content cell.I8 v f = f
-  plain_content cell.I16 v f = f
-  plain_content cell.I32 v f = f
-  plain_content cell.I64 v f = f
-  plain_content cell.N v f = f
   plain_content cell.Stat v f = ⊎_elim (λ e. inl e) (λ s. inr (s, none)) f
     where
       none : AreWritten m d 0
       none x q = absurd (omega (arith, q))
-  plain_content cell.Handle v f = f
-  plain_content cell.Entry v f = f
-  plain_content (cell.Ptr s k may) v f = f
-  plain_content (cell.P64 s k may) v f = f
-  plain_content (cell.Method n) v f = f
+  plain_content c v f = f
 
   -- what an access keeps of a cell's content fits what the rules say that it loads
   pub kept_content : (a : Access) (c : Cell) (v : Neutral) → loads (access_of a) c ≡ true → IsBoundedCell c
       → FitsPlain notes m.objects (content_type c) v → Fits notes m d saved (loaded_type (access_of a) c)
       (finish a (kept notes m.objects a v))
   kept_content (Move sizes.Byte) cell.I8 v e k0 f = low_fits notes m ok d saved 8 (content_type cell.I8) v (omega arith) f
-  kept_content (Move sizes.Byte) cell.I16 v e k0 f = absurd (false≢true e)
-  kept_content (Move sizes.Byte) cell.I32 v e k0 f = absurd (false≢true e)
-  kept_content (Move sizes.Byte) cell.I64 v e k0 f = absurd (false≢true e)
-  kept_content (Move sizes.Byte) cell.N v e k0 f = absurd (false≢true e)
-  kept_content (Move sizes.Byte) cell.Stat v e k0 f = absurd (false≢true e)
-  kept_content (Move sizes.Byte) cell.Handle v e k0 f = absurd (false≢true e)
-  kept_content (Move sizes.Byte) cell.Entry v e k0 f = absurd (false≢true e)
-  kept_content (Move sizes.Byte) (cell.Ptr s k may) v e k0 f = absurd (false≢true e)
-  kept_content (Move sizes.Byte) (cell.P64 s k may) v e k0 f = absurd (false≢true e)
-  kept_content (Move sizes.Byte) (cell.Method n) v e k0 f = absurd (false≢true e)
-  kept_content (Move sizes.Word) cell.I8 v e k0 f = absurd (false≢true e)
   kept_content (Move sizes.Word) cell.I16 v e k0 f = low_fits notes m ok d saved 16 (content_type cell.I16) v (omega arith) f
-  kept_content (Move sizes.Word) cell.I32 v e k0 f = absurd (false≢true e)
-  kept_content (Move sizes.Word) cell.I64 v e k0 f = absurd (false≢true e)
-  kept_content (Move sizes.Word) cell.N v e k0 f = absurd (false≢true e)
-  kept_content (Move sizes.Word) cell.Stat v e k0 f = absurd (false≢true e)
-  kept_content (Move sizes.Word) cell.Handle v e k0 f = absurd (false≢true e)
-  kept_content (Move sizes.Word) cell.Entry v e k0 f = absurd (false≢true e)
-  kept_content (Move sizes.Word) (cell.Ptr s k may) v e k0 f = absurd (false≢true e)
-  kept_content (Move sizes.Word) (cell.P64 s k may) v e k0 f = absurd (false≢true e)
-  kept_content (Move sizes.Word) (cell.Method n) v e k0 f = absurd (false≢true e)
-  kept_content (Move sizes.Dword) cell.I8 v e k0 f = absurd (false≢true e)
-  kept_content (Move sizes.Dword) cell.I16 v e k0 f = absurd (false≢true e)
   kept_content (Move sizes.Dword) cell.I32 v e k0 f = low_fits notes m ok d saved 32 (content_type cell.I32) v (omega arith) f
-  kept_content (Move sizes.Dword) cell.I64 v e k0 f = absurd (false≢true e)
-  kept_content (Move sizes.Dword) cell.N v e k0 f = absurd (false≢true e)
-  kept_content (Move sizes.Dword) cell.Stat v e k0 f = absurd (false≢true e)
-  kept_content (Move sizes.Dword) cell.Handle v e k0 f = absurd (false≢true e)
-  kept_content (Move sizes.Dword) cell.Entry v e k0 f = absurd (false≢true e)
-  kept_content (Move sizes.Dword) (cell.Ptr s k may) v e k0 f = absurd (false≢true e)
-  kept_content (Move sizes.Dword) (cell.P64 s k may) v e k0 f = absurd (false≢true e)
-  kept_content (Move sizes.Dword) (cell.Method n) v e k0 f = absurd (false≢true e)
-  kept_content (Move sizes.Qword) cell.I8 v e k0 f = absurd (false≢true e)
-  kept_content (Move sizes.Qword) cell.I16 v e k0 f = absurd (false≢true e)
-  kept_content (Move sizes.Qword) cell.I32 v e k0 f = absurd (false≢true e)
   kept_content (Move sizes.Qword) cell.I64 v e k0 f = plain_content cell.I64 v f
-  kept_content (Move sizes.Qword) cell.N v e k0 f = absurd (false≢true e)
-  kept_content (Move sizes.Qword) cell.Stat v e k0 f = absurd (false≢true e)
-  kept_content (Move sizes.Qword) cell.Handle v e k0 f = absurd (false≢true e)
-  kept_content (Move sizes.Qword) cell.Entry v e k0 f = absurd (false≢true e)
-  kept_content (Move sizes.Qword) (cell.Ptr s k may) v e k0 f = absurd (false≢true e)
   kept_content (Move sizes.Qword) (cell.P64 s k may) v e k0 f = plain_content (cell.P64 s k may) v f
-  kept_content (Move sizes.Qword) (cell.Method n) v e k0 f = absurd (false≢true e)
-  kept_content (Move sizes.Natural) cell.I8 v e k0 f = absurd (false≢true e)
-  kept_content (Move sizes.Natural) cell.I16 v e k0 f = absurd (false≢true e)
-  kept_content (Move sizes.Natural) cell.I32 v e k0 f = absurd (false≢true e)
-  kept_content (Move sizes.Natural) cell.I64 v e k0 f = absurd (false≢true e)
   kept_content (Move sizes.Natural) cell.N v e k0 f = natural_fits notes m ok d saved (content_type cell.N) v
       (content_type-bounded cell.N k0) (plain_content cell.N v f)
   kept_content (Move sizes.Natural) cell.Stat v e k0 f = natural_fits notes m ok d saved (content_type cell.Stat) v
@@ -138,43 +63,14 @@ module _ (notes : Notes) (m : Memory) (ok : ObjectsFit notes m.objects) (d : ℕ
   kept_content (Move sizes.Natural) (cell.Ptr s k may) v e k0 f =
       natural_fits notes m ok d saved (content_type (cell.Ptr s k may)) v (content_type-bounded (cell.Ptr s k may) k0)
       (plain_content (cell.Ptr s k may) v f)
-  kept_content (Move sizes.Natural) (cell.P64 s k may) v e k0 f = absurd (false≢true e)
   kept_content (Move sizes.Natural) (cell.Method n) v e k0 f = natural_fits notes m ok d saved (content_type (cell.Method n)) v
       (content_type-bounded (cell.Method n) k0) (plain_content (cell.Method n) v f)
-  kept_content (Form true) cell.I8 v e k0 f = absurd (false≢true e)
-  kept_content (Form true) cell.I16 v e k0 f = absurd (false≢true e)
-  kept_content (Form true) cell.I32 v e k0 f = absurd (false≢true e)
   kept_content (Form true) cell.I64 v e k0 f = plain_content cell.I64 v f
-  kept_content (Form true) cell.N v e k0 f = absurd (false≢true e)
-  kept_content (Form true) cell.Stat v e k0 f = absurd (false≢true e)
-  kept_content (Form true) cell.Handle v e k0 f = absurd (false≢true e)
-  kept_content (Form true) cell.Entry v e k0 f = absurd (false≢true e)
-  kept_content (Form true) (cell.Ptr s k may) v e k0 f = absurd (false≢true e)
   kept_content (Form true) (cell.P64 s k may) v e k0 f = plain_content (cell.P64 s k may) v f
-  kept_content (Form true) (cell.Method n) v e k0 f = absurd (false≢true e)
-  kept_content (Form false) cell.I8 v e k0 f = absurd (false≢true e)
-  kept_content (Form false) cell.I16 v e k0 f = absurd (false≢true e)
   kept_content (Form false) cell.I32 v e k0 f = low_fits notes m ok d saved 32 (content_type cell.I32) v (omega arith) f
-  kept_content (Form false) cell.I64 v e k0 f = absurd (false≢true e)
-  kept_content (Form false) cell.N v e k0 f = absurd (false≢true e)
-  kept_content (Form false) cell.Stat v e k0 f = absurd (false≢true e)
-  kept_content (Form false) cell.Handle v e k0 f = absurd (false≢true e)
-  kept_content (Form false) cell.Entry v e k0 f = absurd (false≢true e)
-  kept_content (Form false) (cell.Ptr s k may) v e k0 f = absurd (false≢true e)
-  kept_content (Form false) (cell.P64 s k may) v e k0 f = absurd (false≢true e)
-  kept_content (Form false) (cell.Method n) v e k0 f = absurd (false≢true e)
-  kept_content Signed cell.I8 v e k0 f = absurd (false≢true e)
-  kept_content Signed cell.I16 v e k0 f = absurd (false≢true e)
-  kept_content Signed cell.I32 v e k0 f = absurd (false≢true e)
-  kept_content Signed cell.I64 v e k0 f = absurd (false≢true e)
-  kept_content Signed cell.N v e k0 f = absurd (false≢true e)
   kept_content Signed cell.Stat v e k0 f = signed_fits notes m ok d saved (Status 0) (kept_natural notes m.objects v)
       (natural_fits notes m ok d saved (Status 0) v (content_type-bounded cell.Stat tt) (plain_content cell.Stat v f))
-  kept_content Signed cell.Handle v e k0 f = absurd (false≢true e)
-  kept_content Signed cell.Entry v e k0 f = absurd (false≢true e)
-  kept_content Signed (cell.Ptr s k may) v e k0 f = absurd (false≢true e)
-  kept_content Signed (cell.P64 s k may) v e k0 f = absurd (false≢true e)
-  kept_content Signed (cell.Method n) v e k0 f = absurd (false≢true e)
+  kept_content c cl v e k0 f = absurd (false≢true e)
 
 -- ---- loads of places
 
@@ -259,13 +155,7 @@ module _ (world : World) (a : Config) (ok : ObjectsFit world.notes (live_memory 
                 ∙ ap (λ z. entry_if (slice_get world.notes.thunk z)) (sym q) ∙ ap entry_if t.1;
             fits = inl (record { func = t.0.function; is = refl });
           })
-  place_load (Move sizes.Byte) (place.ThunkCell i) (locations.ThunkAt j) r n e h = absurd (err_ok rule.Address r e)
-  place_load (Move sizes.Word) (place.ThunkCell i) (locations.ThunkAt j) r n e h = absurd (err_ok rule.Address r e)
-  place_load (Move sizes.Dword) (place.ThunkCell i) (locations.ThunkAt j) r n e h = absurd (err_ok rule.Address r e)
-  place_load (Move sizes.Qword) (place.ThunkCell i) (locations.ThunkAt j) r n e h = absurd (err_ok rule.Address r e)
   place_load (Form true) (place.ThunkCell i) (locations.ThunkAt j) r n e h = absurd (err_ok rule.Address r e)
-  place_load (Form false) (place.ThunkCell i) (locations.ThunkAt j) r n e h = absurd (err_ok rule.Address r e)
-  place_load Signed (place.ThunkCell i) (locations.ThunkAt j) r n e h = absurd (err_ok rule.Address r e)
   place_load access (place.Object c null) (ParamAt j) r n e h = absurd n
   place_load access (place.Object c null) (locations.ThunkAt j) r n e h = absurd n
   place_load access (place.Local x c) (ParamAt j) r n e h = absurd n
@@ -273,3 +163,4 @@ module _ (world : World) (a : Config) (ok : ObjectsFit world.notes (live_memory 
   place_load access (place.Parameter k t) l r n e h = absurd n
   place_load access (place.ThunkCell i) (CellAt p) r n e h = absurd n
   place_load access (place.ThunkCell i) (ParamAt j) r n e h = absurd n
+  place_load access y l r n e h = absurd (err_ok rule.Address r e)

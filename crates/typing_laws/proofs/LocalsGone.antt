@@ -1,32 +1,22 @@
 -- The locals of a frame are dropped: no value is an address of them any more, and what fits goes on to fit, but for what says
 -- something of them.
-use Rattle.std.proofs.Common.{◌≡◌, ◌≢◌, ℕ, zero, suc, ◌+◌, ◌*◌, ◌%◌, ◌<◌, ◌≤◌, Bool, true, false, if◌then◌else◌, nat_eq, List, [], ◌∷◌, map}
-use Rattle.std.proofs.Common.{take, length, Some, slice_get, refl, sym, ap, ◌∙◌, subst, arith, inl, inr, ⊎_elim}
-use Rattle.std.specs.List.{AllZip}
-use Rattle.std.proofs.lemmas.Bool.{ne_eqb}
-use Rattle.note_types.specs.Passing.{IsPassed}
-use Rattle.note_types.specs.declared.cell.SlotKind.TheVariants as slots
-use Rattle.note_types.specs.declared.notes.FnNote.{FnNote}
-use Rattle.note_types.specs.declared.notes.Notes.{Notes}
-use Rattle.note_types.specs.declared.notes.Param.{Param}
-use Rattle.note_types.specs.declared.types.Ty.{Ty}
-use Rattle.note_types.specs.declared.types.Ty.TheVariants as ty
+use Rattle.typing_laws.proofs.Common.{◌≡◌, ◌≢◌, ℕ, zero, suc, ◌+◌, ◌*◌, ◌%◌, ◌<◌, ◌≤◌, Bool, true, false, if◌then◌else◌, nat_eq, List, []}
+use Rattle.typing_laws.proofs.Common.{◌∷◌, map, take, length, Some, slice_get, refl, sym, ap, ◌∙◌, subst, arith, inl, inr, ⊎_elim, AllZip}
+use Rattle.typing_laws.proofs.Common.{ne_eqb, IsPassed, FnNote, Notes, Param, Ty, frame_without, item_without, registers_without}
+use Rattle.typing_laws.proofs.Common.{without_local, Registers, StackItem, Pushed, LocalsOf, FunctionFrame, Frame, Function, Host, depth}
+use Rattle.typing_laws.proofs.Common.{hosts, IsNumber, IsPointer, OrNull, FitsPlain, Fits, height, Memory, AreWritten, kept_natural}
+use Rattle.typing_laws.proofs.Common.{pair_at, return_cell, Neutral, At, Num, Method, Error, SignedError, Junk, ThunkOf, LocalOf, number}
+use Rattle.typing_laws.proofs.Common.{null, pair, World, TypedObject, FrameBelow, FrameKeeps, FramesKeep, KeepsWithin, ParamFits, ParamKind}
+use Rattle.typing_laws.proofs.Common.{SlotsKept, depth_map}
 use Rattle.rules_flow.specs.Frames.{forgotten}
-use Rattle.neutral_machine.specs.Rows.{frame_without, item_without, registers_without, without_local}
-use Rattle.neutral_machine.specs.Config.{Registers, StackItem, Pushed, LocalsOf, FunctionFrame, Frame, Function, Host, depth, hosts}
-use Rattle.neutral_machine.specs.Fits.{IsNumber, IsMultiple, IsPointer, IsSuccess, IsError, IsSignedError, IsHandle, IsEntry, OrNull}
-use Rattle.neutral_machine.specs.Fits.{FitsPlain, Fits}
-use Rattle.neutral_machine.specs.Layout.{height, item_size}
-use Rattle.neutral_machine.specs.Memory.{Memory, AreWritten}
-use Rattle.neutral_machine.specs.Operations.{kept_natural}
-use Rattle.host_model.specs.Placements.{pair_at, return_cell}
-use Rattle.host_model.specs.Values.{Neutral, At, Num, Handle, Method, Entry, Error, SignedError, Junk, ObjectOf, ThunkOf, LocalOf, number}
-use Rattle.host_model.specs.Values.{null, mask, pair}
-use Rattle.host_model.specs.World.{World}
-use Rattle.host_model.specs.declared.object.TypedObject.{TypedObject}
-use Rattle.invariant_laws.specs.Sound.{FrameBelow, FrameKeeps, FramesKeep, KeepsWithin, ParamFits, ParamKind, ParamsFit, SlotsKept}
+use Rattle.neutral_machine.specs.Fits.{IsMultiple, IsSuccess, IsError, IsSignedError, IsHandle, IsEntry}
+use Rattle.neutral_machine.specs.Layout.{item_size}
+use Rattle.host_model.specs.Values.{Handle, Entry, mask}
+use Rattle.invariant_laws.specs.Sound.{ParamsFit}
 use Rattle.typing_laws.proofs.LiveCells.{LaterBelow, ParamsPassed, below_down, passed_up}
-use Rattle.neutral_machine.proofs.Drops.{depth_map, stays}
+use Rattle.neutral_machine.proofs.Drops.{stays}
+use Rattle.note_types.specs.declared.cell.SlotKind.TheVariants as slots
+use Rattle.note_types.specs.declared.types.Ty.TheVariants as ty
 
 -- ---- frames, their items and locals
 
@@ -57,15 +47,7 @@ kept_without notes os e (At (LocalOf d f) n c) h = go (nat_eq d e) h
         → kept_natural notes os (if b then Junk else At (LocalOf d f) n c) ≡ (if b then Junk else At (LocalOf d f) n c)
     go true h = refl
     go false h = h
-kept_without notes os e (At (ObjectOf k) n c) h = h
-kept_without notes os e (At (ThunkOf i) n c) h = h
-kept_without notes os e (Num n c) h = h
-kept_without notes os e (Handle k) h = h
-kept_without notes os e (Method k) h = h
-kept_without notes os e (Entry k) h = h
-kept_without notes os e (Error k) h = h
-kept_without notes os e (SignedError k) h = h
-kept_without notes os e Junk h = h
+kept_without notes os e v h = h
 
 pub slots_without : (notes : Notes) (os : List TypedObject) (e : ℕ) (is : List StackItem) → SlotsKept notes os is
     → SlotsKept notes os (map (item_without e) is)
@@ -92,8 +74,6 @@ plain_without notes os e (ty.Int lo hi div) v h = subst (IsNumber lo hi div) (sy
 plain_without notes os e (ty.Lin n c) v h = stays e v (pair n c) refl h ∙ h
 plain_without notes os e (ty.Scaled n c hi) v h = subst (IsMultiple n c hi) (sym (stays e v (Num (h.i * n) (h.i * c)) refl h.is)) h
 plain_without notes os e (ty.Ptr s k n c may) v h = or_null_without e may v (IsPointer notes os s k n c) (λ p. stays e v _ refl p.is) h
-plain_without notes os e (ty.Local f) v h = absurd h
-plain_without notes os e (ty.Lent cell) v h = absurd h
 plain_without notes os e (ty.Status g) v h = ⊎_elim (λ p. inl (subst IsError (sym (stays e v (Error p.code) refl p.is)) p))
     (λ q. inr (subst IsSuccess (sym (stays e v (number q.code) refl q.is)) q)) h
 plain_without notes os e (ty.SignedStatus g) v h = ⊎_elim (λ p. inl
@@ -106,7 +86,7 @@ plain_without notes os e ty.Entry v h = ⊎_elim (λ p. inl (subst IsEntry (sym 
     (λ q. inr (stays e v null refl q ∙ q)) h
 plain_without notes os e (ty.Method k) v h = stays e v (Method k) refl h ∙ h
 plain_without notes os e (ty.ThunkAt i) v h = stays e v (At (ThunkOf i) 0 0) refl h ∙ h
-plain_without notes os e (ty.Saved i) v h = absurd h
+plain_without notes os e t v h = absurd h
 
 none_granted : (m : Memory) (d : ℕ) → AreWritten m d 0
 none_granted m d x q = absurd (omega (arith, q))
@@ -119,9 +99,6 @@ module _ (notes : Notes) (d e : ℕ) (U V : Memory) (same : V.objects ≡ U.obje
   pub passed_without : (saved other : Registers) (t : Ty) (v : Neutral) → IsPassed t → Fits notes U d saved t v
       → Fits notes V d other t (without_local e v)
   passed_without saved other ty.Any v p x = tt
-  passed_without saved other (ty.Int lo hi div) v p x = plain_without notes V.objects e (ty.Int lo hi div) v x
-  passed_without saved other (ty.Lin n c) v p x = plain_without notes V.objects e (ty.Lin n c) v x
-  passed_without saved other (ty.Scaled n c hi) v p x = plain_without notes V.objects e (ty.Scaled n c hi) v x
   passed_without saved other (ty.Ptr s k n c may) v p x = plain_without notes V.objects e (ty.Ptr s k n c may) v
       (subst (λ o. FitsPlain notes o (ty.Ptr s k n c may) v) (sym same) x)
   passed_without saved other (ty.Local f) v p x = absurd p
@@ -138,12 +115,8 @@ module _ (notes : Notes) (d e : ℕ) (U V : Memory) (same : V.objects ≡ U.obje
       passed_up notes d U V l d saved other (ty.SignedStatus g) (without_local e v) (omega arith) p
       (⊎_elim (λ q. inl (subst IsSignedError (sym (stays e v (SignedError q.code) refl q.is)) q))
       (λ q. inr (subst IsSuccess (sym (stays e v (number q.0.code) refl q.0.is)) q.0, q.1)) x)
-  passed_without saved other ty.Mask v p x = plain_without notes V.objects e ty.Mask v x
-  passed_without saved other ty.Handle v p x = plain_without notes V.objects e ty.Handle v x
-  passed_without saved other ty.Entry v p x = plain_without notes V.objects e ty.Entry v x
-  passed_without saved other (ty.Method k) v p x = plain_without notes V.objects e (ty.Method k) v x
-  passed_without saved other (ty.ThunkAt i) v p x = plain_without notes V.objects e (ty.ThunkAt i) v x
   passed_without saved other (ty.Saved i) v p x = absurd p
+  passed_without saved other t v p x = plain_without notes V.objects e t v x
 
   params_without : (f g : FunctionFrame) (is : List StackItem) (ps : List Param)
       → ((k : ℕ) (q : Param) → slice_get ps k ≡ Some q → IsPassed q.ty) → AllZip (ParamFits notes U d f) is ps
@@ -174,23 +147,7 @@ module _ (notes : Notes) (d : ℕ) (U V : Memory) (same : V.objects ≡ U.object
       (λ q. inr (subst IsSuccess (sym (stays d v (number q.0.code) refl q.0.is)) q.0, none_granted V d)) x
   forgotten_fits saved (ty.Saved i) v x = ap (without_local d) x
   forgotten_fits saved ty.Any v x = tt
-  forgotten_fits saved (ty.Int lo hi div) v x = passed_without notes d d U V same l (omega arith) saved (registers_without d saved)
-      (ty.Int lo hi div) v tt x
-  forgotten_fits saved (ty.Lin n c) v x = passed_without notes d d U V same l (omega arith) saved (registers_without d saved)
-      (ty.Lin n c) v tt x
-  forgotten_fits saved (ty.Scaled n c hi) v x = passed_without notes d d U V same l (omega arith) saved (registers_without d saved)
-      (ty.Scaled n c hi) v tt x
-  forgotten_fits saved (ty.Ptr s k n c may) v x = passed_without notes d d U V same l (omega arith) saved (registers_without d saved)
-      (ty.Ptr s k n c may) v tt x
-  forgotten_fits saved (ty.Lent cell) v x = passed_without notes d d U V same l (omega arith) saved (registers_without d saved)
-      (ty.Lent cell) v tt x
-  forgotten_fits saved ty.Mask v x = passed_without notes d d U V same l (omega arith) saved (registers_without d saved) ty.Mask v tt x
-  forgotten_fits saved ty.Handle v x = passed_without notes d d U V same l (omega arith) saved (registers_without d saved) ty.Handle v tt x
-  forgotten_fits saved ty.Entry v x = passed_without notes d d U V same l (omega arith) saved (registers_without d saved) ty.Entry v tt x
-  forgotten_fits saved (ty.Method k) v x = passed_without notes d d U V same l (omega arith) saved (registers_without d saved)
-      (ty.Method k) v tt x
-  forgotten_fits saved (ty.ThunkAt i) v x = passed_without notes d d U V same l (omega arith) saved (registers_without d saved)
-      (ty.ThunkAt i) v tt x
+  forgotten_fits saved t v x = passed_without notes d d U V same l (omega arith) saved (registers_without d saved) t v tt x
 
 -- ---- frames
 

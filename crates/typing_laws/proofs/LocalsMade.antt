@@ -1,48 +1,23 @@
 -- The locals of a function are made: the configuration stays sound, since nothing was said of local fields before.
-use Rattle.std.proofs.Common.{◌≡◌, ◌≢◌, ℕ, ◌*◌, ◌<◌, ◌≤◌, ◌⊎◌, Bool, true, false, not, ◌&&◌, if◌then◌else◌, is_some, is_none, nat_eq, List}
-use Rattle.std.proofs.Common.{[], ◌∷◌, length, Option, Some, None, Ok, Err, IfSome, slice_get, refl, sym, ap, ◌∙◌, subst, arith}
-use Rattle.std.proofs.Common.{inl, inr, ⊎_elim, option_and_then}
-use Rattle.std.specs.List.{AllZip, list_any}
-use Rattle.std.proofs.lemmas.Bool.{cases_lt, and_parts, and_from, eqb-true, eq-eqb, ne_eqb, cases_eq, false≢true, true≢false}
-use Rattle.std.proofs.lemmas.Option.{none-some}
-use Rattle.note_types.specs.Cells.{content_type}
-use Rattle.note_types.specs.Known.{is_locals}
-use Rattle.note_types.specs.declared.items.Item.{Item}
-use Rattle.note_types.specs.declared.items.Item.TheVariants as item
-use Rattle.note_types.specs.declared.notes.FnNote.{FnNote}
-use Rattle.note_types.specs.declared.notes.Notes.{Notes}
-use Rattle.note_types.specs.declared.rule.RuleName.TheVariants as rule
-use Rattle.note_types.specs.declared.shape.Field.{Field}
-use Rattle.note_types.specs.declared.shape.Shape.{Shape}
-use Rattle.note_types.specs.declared.state.State.{State}
-use Rattle.rules_base.specs.Places.{locals_size}
-use Rattle.rules_flow.specs.Frames.{has_room, is_size, with_item}
-use Rattle.rules_flow.specs.Frames as rules_flow
-use Rattle.rules_flow.specs.Successors.{falls}
-use Rattle.rules_flow.specs.declared.successors.Successors.{Successors}
-use Rattle.neutral_machine.specs.Rows.{after_make, cells_before, goes, has_size, is_local_of, made_locals}
-use Rattle.neutral_machine.specs.Config.{StackItem, Pushed, LocalsOf, FunctionFrame, Frame, Config, depth, locals_among}
-use Rattle.neutral_machine.specs.Config.{locals_at}
-use Rattle.neutral_machine.specs.Fits.{FitsPlain}
-use Rattle.neutral_machine.specs.FitsState.{ItemFits}
-use Rattle.neutral_machine.specs.Layout.{height}
-use Rattle.neutral_machine.specs.Memory.{Memory, memory_of, cell_field, IsFieldWritten}
-use Rattle.neutral_machine.specs.Outcomes.{Gives, Stuck, ◌>>=◌}
-use Rattle.host_model.specs.Placements.{pair_at}
-use Rattle.host_model.specs.Values.{Neutral, CellPlace, FieldOf, FieldOfLocals}
-use Rattle.host_model.specs.World.{World, frame_locals}
-use Rattle.invariant_laws.specs.Accepts.{Accepts}
-use Rattle.invariant_laws.specs.Live.{live_memory}
-use Rattle.invariant_laws.specs.Sound.{CellsFit}
-use Rattle.typing_laws.proofs.Rows.{err_ok, ok_same}
-use Rattle.invariant_laws.proofs.LaterFits.{FieldsLater, fits_later, items_later, written_later}
-use Rattle.typing_laws.proofs.ArithRow.{GoesOn, goes_on}
+use Rattle.typing_laws.proofs.Common.{◌≡◌, ◌≢◌, ℕ, ◌*◌, ◌<◌, ◌≤◌, ◌⊎◌, Bool, true, false, not, ◌&&◌, if◌then◌else◌, is_some, is_none}
+use Rattle.typing_laws.proofs.Common.{nat_eq, List, [], ◌∷◌, length, Option, Some, None, Ok, Err, IfSome, slice_get, refl, sym, ap, ◌∙◌}
+use Rattle.typing_laws.proofs.Common.{subst, arith, inl, inr, ⊎_elim, option_and_then, AllZip, list_any, and_parts, and_from, eqb-true}
+use Rattle.typing_laws.proofs.Common.{eq-eqb, ne_eqb, cases_eq, false≢true, true≢false, none-some, content_type, is_locals, Item, FnNote}
+use Rattle.typing_laws.proofs.Common.{Notes, Field, Shape, State, locals_size, has_room, is_size, with_item, falls, Successors, after_make}
+use Rattle.typing_laws.proofs.Common.{goes, StackItem, Pushed, LocalsOf, FunctionFrame, Frame, Config, depth, locals_among, locals_at}
+use Rattle.typing_laws.proofs.Common.{FitsPlain, ItemFits, height, Memory, memory_of, cell_field, IsFieldWritten, Gives, Stuck, ◌>>=◌}
+use Rattle.typing_laws.proofs.Common.{pair_at, Neutral, CellPlace, FieldOf, FieldOfLocals, World, frame_locals, Accepts, live_memory}
+use Rattle.typing_laws.proofs.Common.{CellsFit, FieldsLater, fits_later, items_later, within_some}
+use Rattle.std.proofs.lemmas.Bool.{cases_lt}
+use Rattle.neutral_machine.specs.Rows.{cells_before, has_size, is_local_of, made_locals}
 use Rattle.typing_laws.proofs.Context.{TopSound, own_locals, passed_params, sizes_same, locals_are}
-use Rattle.typing_laws.proofs.ItemsChanged.{few_hosts, items_moved, top_keeps}
 use Rattle.typing_laws.proofs.LiveCells.{LaterBelow, below_kept, frames_kept, live_held, live_some}
-use Rattle.typing_laws.proofs.PushFits.{room_within}
-use Rattle.typing_laws.proofs.Written.{After}
-use Rattle.ebc_base.proofs.Lists.{within_some}
+use Rattle.typing_laws.proofs.{Rows.err_ok, Rows.ok_same, ArithRow.GoesOn, ArithRow.goes_on, ItemsChanged.few_hosts}
+use Rattle.typing_laws.proofs.{ItemsChanged.items_moved, ItemsChanged.top_keeps, PushFits.room_within, Written.After}
+use Rattle.invariant_laws.proofs.LaterFits.{written_later}
+use Rattle.note_types.specs.declared.items.Item.TheVariants as item
+use Rattle.note_types.specs.declared.rule.RuleName.TheVariants as rule
+use Rattle.rules_flow.specs.Frames as rules_flow
 
 -- ---- what says nothing of local fields
 

@@ -1,23 +1,13 @@
 -- A field of an instance is what its exact pair names.
-use Rattle.std.proofs.Common.{◌≡◌, ℕ, zero, suc, ◌+◌, ◌*◌, ◌/◌, ◌^◌, ◌<◌, ◌≤◌, Bool, true, false, if◌then◌else◌, nat_lt, nat_eq, List, []}
-use Rattle.std.proofs.Common.{◌∷◌, Option, Some, None, slice_get, refl, sym, ap, ap₂, ◌∙◌, arith, ⊎_elim, option_map, option_and_then}
-use Rattle.std.proofs.Math.Nat.{mul-le-mul_right}
-use Rattle.std.proofs.lemmas.Bool.{lt-ltb, eq-eqb, and_from, and_parts, eqb-true, cases_Bool}
-use Rattle.std.proofs.lemmas.Nat.{div-mul-add}
-use Rattle.std.proofs.lemmas.Option.{same_Some, none-some}
+use Rattle.typing_laws.proofs.Common.{◌≡◌, ℕ, zero, suc, ◌+◌, ◌*◌, ◌/◌, ◌^◌, ◌<◌, ◌≤◌, Bool, true, false, if◌then◌else◌, nat_lt, nat_eq}
+use Rattle.typing_laws.proofs.Common.{List, [], ◌∷◌, Option, Some, None, slice_get, refl, sym, ap, ap₂, ◌∙◌, arith, ⊎_elim, option_map}
+use Rattle.typing_laws.proofs.Common.{option_and_then, mul-le-mul_right, lt-ltb, eq-eqb, and_from, and_parts, eqb-true, cases_Bool}
+use Rattle.typing_laws.proofs.Common.{div-mul-add, same_Some, none-some, IsShape, size_at, Cell, Notes, Field, Shape, ObjectOf, At}
+use Rattle.typing_laws.proofs.Common.{CellPlace, FieldOf, word, shape_of, TypedObject, instance_at, CellAt, find_field, located_past}
 use Rattle.note_types.specs.Cells.{cell_size}
-use Rattle.note_types.specs.Shapes.{IsShape, size_at}
-use Rattle.note_types.specs.declared.cell.Cell.{Cell}
-use Rattle.note_types.specs.declared.cell.Cell.TheVariants as cell
-use Rattle.note_types.specs.declared.notes.Notes.{Notes}
-use Rattle.note_types.specs.declared.shape.Field.{Field}
-use Rattle.note_types.specs.declared.shape.Shape.{Shape}
-use Rattle.host_model.specs.Values.{ObjectOf, At, CellPlace, FieldOf, word}
-use Rattle.host_model.specs.Objects.{shape_of}
-use Rattle.host_model.specs.declared.object.TypedObject.{TypedObject}
-use Rattle.neutral_machine.specs.Operations.{instance_at}
-use Rattle.neutral_machine.specs.Locations.{CellAt, is_field, find_field, cell_in, located_past}
+use Rattle.neutral_machine.specs.Locations.{is_field, cell_in}
 use Rattle.typing_laws.proofs.Objects.{ObjectsFit}
+use Rattle.note_types.specs.declared.cell.Cell.TheVariants as cell
 
 -- the first field that meets a test
 pub find_first : (t : Field → Bool) (f : ℕ) (xs : List Field) (i : ℕ) (z : Field) → slice_get xs i ≡ Some z → t z ≡ true
@@ -32,16 +22,7 @@ find_first t f (x ∷ xs) (suc i) z e h u =
 
 pub cell_positive : (c : Cell) → 0 < cell_size 4 c
 cell_positive cell.I8 = omega arith
-cell_positive cell.I16 = omega arith
-cell_positive cell.I32 = omega arith
-cell_positive cell.I64 = omega arith
-cell_positive cell.N = omega arith
-cell_positive cell.Stat = omega arith
-cell_positive cell.Handle = omega arith
-cell_positive cell.Entry = omega arith
-cell_positive (cell.Ptr s k may) = omega arith
-cell_positive (cell.P64 s k may) = omega arith
-cell_positive (cell.Method m) = omega arith
+cell_positive c = omega arith
 
 -- a pair of instance j that is small
 pub record SmallPair (j n c p q : ℕ) : Type 0 where

@@ -1,163 +1,52 @@
 -- The row of the moves: what its rule accepts goes on soundly.
-use Rattle.std.proofs.Common.{◌≡◌, ℕ, ◌^◌, ◌<◌, Bool, true, false, if◌then◌else◌, nat_lt, nat_eq, List, Option, Some, None, Ok, Err, IfOk}
-use Rattle.std.proofs.Common.{slice_get, refl, sym, ap, ◌∙◌, subst, arith, ⊎_elim, option_map}
-use Rattle.std.proofs.lemmas.Bool.{ltb-true, eqb-false, false≢true, cond_both}
-use Rattle.ebc_insn.specs.declared.Operand.{Operand}
-use Rattle.ebc_insn.specs.declared.Size.{Size}
+use Rattle.typing_laws.proofs.Common.{◌≡◌, ℕ, ◌^◌, ◌<◌, Bool, true, false, if◌then◌else◌, nat_lt, nat_eq, List, Option, Some, None, Ok, Err}
+use Rattle.typing_laws.proofs.Common.{IfOk, slice_get, refl, sym, ap, ◌∙◌, subst, arith, ⊎_elim, option_map, ltb-true, eqb-false}
+use Rattle.typing_laws.proofs.Common.{false≢true, cond_both, Operand, Size, Index, type_of, IsBounded, Cell, SlotKind, FnNote, Param, State}
+use Rattle.typing_laws.proofs.Common.{Ty, Loaded, Change, Distance, Place, known, loads, loaded_type, load_place, load_at, changed}
+use Rattle.typing_laws.proofs.Common.{destination, put, index_distance, with_index, or_else, beside, needs, full, has_field, place_at}
+use Rattle.typing_laws.proofs.Common.{IsNotes, IsKnown, load_at-known, with_index-known, move_access, move_value, cell_field, Neutral, At}
+use Rattle.typing_laws.proofs.Common.{LocalOf, FieldOfLocals, FunctionFrame, Frame, Config, depth, World, live_memory, Gives, ◌>>=◌}
+use Rattle.typing_laws.proofs.Common.{NeutralSide, indexed, index_pair, local_at_location, offset_of, moved_by, direct_value, loaded_by}
+use Rattle.typing_laws.proofs.Common.{value, written, Move, Offset, kept, located_on_stack, goes, Accepts}
+use Rattle.rules_laws.proofs.{MovesKeep.kept-known, RowsKeep.move_value-known}
+use Rattle.rules_data.specs.Data.{address_type}
+use Rattle.neutral_machine.specs.Rows.{move_row}
+use Rattle.typing_laws.proofs.Operands.{IsSmall, FitsHere, load_fits, stack_found, then_ok}
+use Rattle.typing_laws.proofs.ArithRow.{GoesOn, goes_on, accepts_then, accepts_is, beside_ok, also_ok}
+use Rattle.typing_laws.proofs.{Rows.err_ok, Rows.ok_same, Accesses.access_of, Pointed.IsBeside, Stores.Within, Context.TopSound}
+use Rattle.typing_laws.proofs.{Context.known_params, Written.result_left, MoveValues.moved_fits, MoveValues.loaded_kept}
 use Rattle.ebc_insn.specs.declared.Size.TheVariants as sizes
-use Rattle.natural_index.specs.declared.Index.{Index}
-use Rattle.note_types.specs.States.{type_of}
-use Rattle.note_types.specs.Types.{IsBounded}
-use Rattle.note_types.specs.declared.cell.Cell.{Cell}
 use Rattle.note_types.specs.declared.cell.Cell.TheVariants as cell
-use Rattle.note_types.specs.declared.cell.SlotKind.{SlotKind}
-use Rattle.note_types.specs.declared.notes.FnNote.{FnNote}
-use Rattle.note_types.specs.declared.notes.Param.{Param}
 use Rattle.note_types.specs.declared.rule.RuleName.TheVariants as rule
-use Rattle.note_types.specs.declared.state.State.{State}
-use Rattle.note_types.specs.declared.types.Ty.{Ty}
 use Rattle.note_types.specs.declared.types.Ty.TheVariants as ty
 use Rattle.rules_base.specs.declared.access.Access.TheVariants as access
-use Rattle.rules_base.specs.declared.access.Loaded.{Loaded}
-use Rattle.rules_base.specs.declared.change.Change.{Change}
-use Rattle.rules_base.specs.declared.operand.Distance.{Distance}
-use Rattle.rules_base.specs.declared.place.Place.{Place}
 use Rattle.rules_base.specs.declared.place.Place.TheVariants as place
-use Rattle.rules_base.specs.Access.{known, loads, loaded_type, load_place, load_at}
-use Rattle.rules_base.specs.Change.{changed}
-use Rattle.rules_base.specs.Destinations.{destination, put}
 use Rattle.rules_base.specs.Kept as rules
-use Rattle.rules_base.specs.Operands.{index_distance, with_index}
-use Rattle.ebc_base.specs.Steps.{or_else}
-use Rattle.rules_base.specs.Outcomes.{beside, needs}
-use Rattle.rules_base.specs.Parts.{full}
-use Rattle.rules_base.specs.Places.{has_field, place_at}
-use Rattle.note_types.specs.Records.{IsNotes}
-use Rattle.note_types.specs.Known.{IsKnown}
-use Rattle.rules_laws.proofs.LoadsKeep.{load_at-known}
-use Rattle.rules_laws.proofs.MovesKeep.{kept-known, with_index-known}
-use Rattle.rules_data.specs.Data.{address_type, move_access, move_value}
-use Rattle.rules_laws.proofs.RowsKeep.{move_value-known}
-use Rattle.neutral_machine.specs.Memory.{cell_field}
 use Rattle.rules_data.specs.Data as rules_data
-use Rattle.host_model.specs.Values.{Neutral, At, LocalOf, FieldOfLocals}
-use Rattle.neutral_machine.specs.Config.{FunctionFrame, Frame, Config, depth}
-use Rattle.host_model.specs.World.{World}
-use Rattle.invariant_laws.specs.Live.{live_memory}
-use Rattle.neutral_machine.specs.Outcomes.{Gives, ◌>>=◌}
-use Rattle.neutral_machine.specs.Operands.{NeutralSide, indexed, index_pair, local_at_location, offset_of, moved_by, direct_value}
-use Rattle.neutral_machine.specs.Operands.{loaded_by, value, written}
-use Rattle.neutral_machine.specs.Locations.{Move, Offset, kept, located_on_stack}
-use Rattle.neutral_machine.specs.Rows.{goes, move_row}
-use Rattle.invariant_laws.specs.Accepts.{Accepts}
-use Rattle.typing_laws.proofs.Rows.{err_ok, ok_same}
-use Rattle.typing_laws.proofs.Accesses.{access_of}
-use Rattle.typing_laws.proofs.Pointed.{IsBeside}
-use Rattle.typing_laws.proofs.Stores.{Within}
-use Rattle.typing_laws.proofs.Context.{TopSound, known_params}
-use Rattle.typing_laws.proofs.Operands.{IsSmall, FitsHere, load_fits, stack_found, then_ok}
-use Rattle.typing_laws.proofs.Written.{result_left}
-use Rattle.typing_laws.proofs.ArithRow.{GoesOn, goes_on, accepts_then, accepts_is, beside_ok, also_ok}
-use Rattle.typing_laws.proofs.MoveValues.{moved_fits, loaded_kept}
 
 -- ---- types within the bits of a move
 
 cell_within : (size : Size) (c : Cell) → loads (access_of (Move size)) c ≡ true
     → Within (access_of (Move size)) (loaded_type (access_of (Move size)) c)
 cell_within sizes.Byte cell.I8 e = omega arith
-cell_within sizes.Byte cell.I16 e = absurd (false≢true e)
-cell_within sizes.Byte cell.I32 e = absurd (false≢true e)
-cell_within sizes.Byte cell.I64 e = absurd (false≢true e)
-cell_within sizes.Byte cell.N e = absurd (false≢true e)
-cell_within sizes.Byte cell.Stat e = absurd (false≢true e)
-cell_within sizes.Byte cell.Handle e = absurd (false≢true e)
-cell_within sizes.Byte cell.Entry e = absurd (false≢true e)
-cell_within sizes.Byte (cell.Ptr s k may) e = absurd (false≢true e)
-cell_within sizes.Byte (cell.P64 s k may) e = absurd (false≢true e)
-cell_within sizes.Byte (cell.Method n) e = absurd (false≢true e)
-cell_within sizes.Word cell.I8 e = absurd (false≢true e)
 cell_within sizes.Word cell.I16 e = omega arith
-cell_within sizes.Word cell.I32 e = absurd (false≢true e)
-cell_within sizes.Word cell.I64 e = absurd (false≢true e)
-cell_within sizes.Word cell.N e = absurd (false≢true e)
-cell_within sizes.Word cell.Stat e = absurd (false≢true e)
-cell_within sizes.Word cell.Handle e = absurd (false≢true e)
-cell_within sizes.Word cell.Entry e = absurd (false≢true e)
-cell_within sizes.Word (cell.Ptr s k may) e = absurd (false≢true e)
-cell_within sizes.Word (cell.P64 s k may) e = absurd (false≢true e)
-cell_within sizes.Word (cell.Method n) e = absurd (false≢true e)
-cell_within sizes.Dword cell.I8 e = absurd (false≢true e)
-cell_within sizes.Dword cell.I16 e = absurd (false≢true e)
 cell_within sizes.Dword cell.I32 e = omega arith
-cell_within sizes.Dword cell.I64 e = absurd (false≢true e)
-cell_within sizes.Dword cell.N e = absurd (false≢true e)
-cell_within sizes.Dword cell.Stat e = absurd (false≢true e)
-cell_within sizes.Dword cell.Handle e = absurd (false≢true e)
-cell_within sizes.Dword cell.Entry e = absurd (false≢true e)
-cell_within sizes.Dword (cell.Ptr s k may) e = absurd (false≢true e)
-cell_within sizes.Dword (cell.P64 s k may) e = absurd (false≢true e)
-cell_within sizes.Dword (cell.Method n) e = absurd (false≢true e)
 cell_within sizes.Qword c e = tt
 cell_within sizes.Natural c e = tt
+cell_within size c e = absurd (false≢true e)
 
 kept_within : (size : Size) (t : Ty) → Within (access_of (Move size)) (rules.kept size t)
 kept_within sizes.Byte (ty.Int lo hi div) = cond_both (nat_lt hi (2 ^ 8)) (ty.Int lo hi div) (full 8) (Within access.Byte)
     (λ e. ltb-true hi (2 ^ 8) e) (λ e. omega arith)
-kept_within sizes.Byte ty.Any = tt
-kept_within sizes.Byte (ty.Lin n c) = tt
-kept_within sizes.Byte (ty.Scaled n c hi) = tt
-kept_within sizes.Byte (ty.Ptr q k n c may) = tt
-kept_within sizes.Byte (ty.Local x) = tt
-kept_within sizes.Byte (ty.Lent cl) = tt
-kept_within sizes.Byte (ty.Status g) = tt
-kept_within sizes.Byte (ty.SignedStatus g) = tt
-kept_within sizes.Byte ty.Mask = tt
-kept_within sizes.Byte ty.Handle = tt
-kept_within sizes.Byte ty.Entry = tt
-kept_within sizes.Byte (ty.Method q) = tt
-kept_within sizes.Byte (ty.ThunkAt q) = tt
-kept_within sizes.Byte (ty.Saved q) = tt
 kept_within sizes.Word (ty.Int lo hi div) = cond_both (nat_lt hi (2 ^ 16)) (ty.Int lo hi div) (full 16) (Within access.Word)
     (λ e. ltb-true hi (2 ^ 16) e) (λ e. omega arith)
-kept_within sizes.Word ty.Any = tt
-kept_within sizes.Word (ty.Lin n c) = tt
-kept_within sizes.Word (ty.Scaled n c hi) = tt
-kept_within sizes.Word (ty.Ptr q k n c may) = tt
-kept_within sizes.Word (ty.Local x) = tt
-kept_within sizes.Word (ty.Lent cl) = tt
-kept_within sizes.Word (ty.Status g) = tt
-kept_within sizes.Word (ty.SignedStatus g) = tt
-kept_within sizes.Word ty.Mask = tt
-kept_within sizes.Word ty.Handle = tt
-kept_within sizes.Word ty.Entry = tt
-kept_within sizes.Word (ty.Method q) = tt
-kept_within sizes.Word (ty.ThunkAt q) = tt
-kept_within sizes.Word (ty.Saved q) = tt
 kept_within sizes.Dword (ty.Int lo hi div) = cond_both (nat_lt hi (2 ^ 32)) (ty.Int lo hi div) (full 32) (Within access.Dword)
     (λ e. ltb-true hi (2 ^ 32) e) (λ e. omega arith)
-kept_within sizes.Dword ty.Any = tt
-kept_within sizes.Dword (ty.Lin n c) = tt
-kept_within sizes.Dword (ty.Scaled n c hi) = tt
-kept_within sizes.Dword (ty.Ptr q k n c may) = tt
-kept_within sizes.Dword (ty.Local x) = tt
-kept_within sizes.Dword (ty.Lent cl) = tt
-kept_within sizes.Dword (ty.Status g) = tt
-kept_within sizes.Dword (ty.SignedStatus g) = tt
-kept_within sizes.Dword ty.Mask = tt
-kept_within sizes.Dword ty.Handle = tt
-kept_within sizes.Dword ty.Entry = tt
-kept_within sizes.Dword (ty.Method q) = tt
-kept_within sizes.Dword (ty.ThunkAt q) = tt
-kept_within sizes.Dword (ty.Saved q) = tt
-kept_within sizes.Qword t = tt
-kept_within sizes.Natural t = tt
+kept_within size t = tt
 
 pub access_same : (size : Size) → move_access size ≡ access_of (Move size)
 access_same sizes.Byte = refl
-access_same sizes.Word = refl
-access_same sizes.Dword = refl
-access_same sizes.Qword = refl
-access_same sizes.Natural = refl
+access_same size = refl
 
 module _ (world : World) (a : Config) (f : FunctionFrame) (fs : List Frame) (note : FnNote) (s : State)
     (st : TopSound world a f fs note s) where
@@ -181,16 +70,11 @@ module _ (world : World) (a : Config) (f : FunctionFrame) (fs : List Frame) (not
           (ok_same (record { ty = loaded_type (access_of (Move size)) c; made = true }) t e) (cell_within size c h)
       go true h false e = absurd (err_ok rule.Unwritten t e)
       go false h n e = absurd (err_ok rule.Address t e)
-  place_within sizes.Byte (place.Parameter k i) t e = absurd (err_ok rule.Address t e)
-  place_within sizes.Word (place.Parameter k i) t e = absurd (err_ok rule.Address t e)
-  place_within sizes.Dword (place.Parameter k i) t e = absurd (err_ok rule.Address t e)
   place_within sizes.Qword (place.Parameter k i) t e = tt
   place_within sizes.Natural (place.Parameter k i) t e = tt
-  place_within sizes.Byte (place.ThunkCell i) t e = absurd (err_ok rule.Address t e)
-  place_within sizes.Word (place.ThunkCell i) t e = absurd (err_ok rule.Address t e)
-  place_within sizes.Dword (place.ThunkCell i) t e = absurd (err_ok rule.Address t e)
   place_within sizes.Qword (place.ThunkCell i) t e = tt
   place_within sizes.Natural (place.ThunkCell i) t e = tt
+  place_within size p t e = absurd (err_ok rule.Address t e)
 
   load_within : (size : Size) (r : ℕ) (d : Distance) (t : Loaded) → load_at world.notes note s (access_of (Move size)) r d ≡ Ok t
       → Within (access_of (Move size)) t.ty
@@ -210,10 +94,6 @@ module _ (world : World) (a : Config) (f : FunctionFrame) (fs : List Frame) (not
   address_fits : (b : Option Offset) (d : Distance) (o : Option Place) → IsBeside b d → IsSmall d → place_at world.notes note s 0 d ≡ o
       → FitsHere world a f fs note s st (address_type o) (local_at_location (located_on_stack world.notes a.frames (offset_of b)))
   unfolding place_at
-  address_fits b d None h m e = tt
-  address_fits b d (Some (place.Object c null)) h m e = tt
-  address_fits b d (Some (place.Parameter k i)) h m e = tt
-  address_fits b d (Some (place.ThunkCell i)) h m e = tt
   address_fits b d (Some (place.Local x c)) h m e =
       let found = stack_found world a f fs note s st b d (place.Local x c) h m e in
       ⊎_elim
@@ -232,6 +112,7 @@ module _ (world : World) (a : Config) (f : FunctionFrame) (fs : List Frame) (not
 
       no_parameter : (x : ℕ) (c : Cell) (k : SlotKind) (t : Ty) → place.Local x c ≡ place.Parameter k t → ⊥
       no_parameter x c k t e = absurd cc
+  address_fits b d o h m e = tt
 
   frame_reads : (size : Size) (op : Operand) (i : Option Index) (t : Loaded) → nat_eq op.reg 0 ≡ true → op.indirect ≡ false
       → IsBeside (option_map index_pair i) (index_distance i) → IsSmall (index_distance i) → IsBounded t.ty
@@ -251,9 +132,7 @@ module _ (world : World) (a : Config) (f : FunctionFrame) (fs : List Frame) (not
     within = tt;
   }
   frame_reads sizes.Byte op i t y g h m bounded e = absurd (err_ok rule.Stack t e)
-  frame_reads sizes.Word op i t y g h m bounded e = absurd (err_ok rule.Stack t e)
-  frame_reads sizes.Dword op i t y g h m bounded e = absurd (err_ok rule.Stack t e)
-  frame_reads sizes.Natural op i t y g h m bounded e = absurd (err_ok rule.Stack t e)
+  frame_reads size op i t y g h m bounded e = absurd (err_ok rule.Stack t e)
 
   -- from memory, or from a register
   pub move_reads : (size : Size) (op : Operand) (i : Option Index) (t : Loaded) → IsNotes world.notes → op.reg < 8

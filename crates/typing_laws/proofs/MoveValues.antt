@@ -1,39 +1,18 @@
 -- The values that the moves give: what a move keeps it keeps again, and a register moved by an index.
-use Rattle.std.proofs.Common.{◌≡◌, ◌≢◌, ℕ, ◌+◌, ◌*◌, ◌%◌, ◌^◌, ◌<◌, ◌≤◌, Bool, true, false, if◌then◌else◌, nat_lt, List, Option, Some, None}
-use Rattle.std.proofs.Common.{refl, sym, ap, ◌∙◌, subst, arith, ⊎_elim, option_map, ℤ, pos, negsuc, int_le, mod-eq_of_lt}
-use Rattle.std.specs.Ordering.{int_eq}
-use Rattle.std.proofs.lemmas.Bool.{cases_Bool}
-use Rattle.std.proofs.lemmas.Bool.Decides.{Decides-int_eq}
-use Rattle.ebc_insn.specs.declared.Size.{Size}
+use Rattle.typing_laws.proofs.Common.{◌≡◌, ◌≢◌, ℕ, ◌+◌, ◌*◌, ◌%◌, ◌^◌, ◌<◌, ◌≤◌, Bool, true, false, if◌then◌else◌, nat_lt, List, Option}
+use Rattle.typing_laws.proofs.Common.{Some, None, refl, sym, ap, ◌∙◌, subst, arith, ⊎_elim, option_map, ℤ, pos, negsuc, int_le}
+use Rattle.typing_laws.proofs.Common.{mod-eq_of_lt, int_eq, cases_Bool, Decides-int_eq, Size, wrap64, Index, type_of, FnNote, State, Ty}
+use Rattle.typing_laws.proofs.Common.{Distance, counted, with_index, constant, lin, with_index-known, Neutral, Num, At, Junk, number, pair}
+use Rattle.typing_laws.proofs.Common.{plain, word, FunctionFrame, Frame, Config, depth, TypedObject, World, live_memory, is_kept_at}
+use Rattle.typing_laws.proofs.Common.{kept_natural, narrowed, index_pair, moved_by, Move, Offset, kept, mod_below, Notes}
+use Rattle.rules_base.specs.Operands.{distance_type}
+use Rattle.rules_laws.proofs.MovesKeep.{distance_type-known}
+use Rattle.neutral_machine.specs.Operations.{on_number}
+use Rattle.typing_laws.proofs.{Rows.same_fits, Rows.lin_is, SumsFit.sum_fits, KeptFit.kept_fits, Context.TopSound, Context.objects}
+use Rattle.typing_laws.proofs.{Operands.FitsHere, Operands.OperandFits, Operands.register_fits}
 use Rattle.ebc_insn.specs.declared.Size.TheVariants as sizes
-use Rattle.ebc_width.specs.Width.{wrap64}
-use Rattle.natural_index.specs.declared.Index.{Index}
-use Rattle.note_types.specs.States.{type_of}
-use Rattle.note_types.specs.declared.notes.FnNote.{FnNote}
-use Rattle.note_types.specs.declared.state.State.{State}
-use Rattle.note_types.specs.declared.types.Ty.{Ty}
 use Rattle.note_types.specs.declared.types.Ty.TheVariants as ty
-use Rattle.rules_base.specs.declared.operand.Distance.{Distance}
 use Rattle.rules_base.specs.Kept as rules
-use Rattle.rules_base.specs.Operands.{counted, distance_type, with_index}
-use Rattle.rules_base.specs.Parts.{constant}
-use Rattle.rules_base.specs.Sums.{lin}
-use Rattle.rules_laws.proofs.MovesKeep.{distance_type-known, with_index-known}
-use Rattle.host_model.specs.Values.{Neutral, Num, At, Handle, Method, Entry, Error, SignedError, Junk, number, pair, plain, word}
-use Rattle.neutral_machine.specs.Config.{FunctionFrame, Frame, Config, depth}
-use Rattle.host_model.specs.declared.object.TypedObject.{TypedObject}
-use Rattle.host_model.specs.World.{World}
-use Rattle.invariant_laws.specs.Live.{live_memory}
-use Rattle.neutral_machine.specs.Operations.{is_kept_at, kept_natural, narrowed, on_number}
-use Rattle.neutral_machine.specs.Operands.{index_pair, moved_by}
-use Rattle.neutral_machine.specs.Locations.{Move, Offset, kept}
-use Rattle.std.proofs.lemmas.Nat.{mod_below}
-use Rattle.note_types.specs.declared.notes.Notes.{Notes}
-use Rattle.typing_laws.proofs.Rows.{same_fits, lin_is}
-use Rattle.typing_laws.proofs.SumsFit.{sum_fits}
-use Rattle.typing_laws.proofs.KeptFit.{kept_fits}
-use Rattle.typing_laws.proofs.Context.{TopSound, objects}
-use Rattle.typing_laws.proofs.Operands.{FitsHere, OperandFits, register_fits}
 
 -- ---- a move keeps what it kept
 
@@ -62,12 +41,7 @@ natural_twice notes os (At a n c) = go (is_kept_at notes os a n c) refl
     go : (b : Bool) → is_kept_at notes os a n c ≡ b → kept_natural notes os (if b then At a n c else Junk) ≡ (if b then At a n c else Junk)
     go true e = ap (λ b. if b then At a n c else Junk) e
     go false e = refl
-natural_twice notes os (SignedError k) = refl
-natural_twice notes os (Handle k) = refl
-natural_twice notes os (Method k) = refl
-natural_twice notes os (Entry k) = refl
-natural_twice notes os (Error k) = refl
-natural_twice notes os Junk = refl
+natural_twice notes os v = refl
 
 -- What a move keeps it keeps again.
 pub kept_twice : (notes : Notes) (os : List TypedObject) (size : Size) (v : Neutral)

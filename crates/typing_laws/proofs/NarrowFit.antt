@@ -1,30 +1,17 @@
 -- What a comparison says narrows the types soundly, on the successor where it holds and on the other one.
-use Rattle.std.proofs.Common.{◌≡◌, ℕ, zero, suc, ◌+◌, ◌-◌, ◌^◌, ◌<◌, ◌≤◌, Bool, true, false, not, ◌&&◌, if◌then◌else◌, nat_lt, nat_le}
-use Rattle.std.proofs.Common.{nat_eq, min, max, Some, None, refl, sym, ap, ap₂, ◌∙◌, subst, arith, ⊎_elim, mod-eq_of_lt, ℤ, pos, negsuc}
-use Rattle.std.proofs.Common.{int_le}
-use Prim.Native.Nat.{◌∣◌}
-use Rattle.std.proofs.lemmas.Bool.{ltb-true, leb-true, leb-false, and_parts, eqb-true, eqb-false, false≢true, true≢false, lt-ltb}
-use Rattle.std.proofs.lemmas.Option.{same_Some}
-use Rattle.std.proofs.Math.Nat.{dvd_of_mod-eq-zero}
-use Rattle.ebc_insn.specs.declared.CmpOp.{CmpOp}
-use Rattle.ebc_insn.specs.declared.CmpOp.TheVariants as cmps
-use Rattle.machine_alu.specs.Alu.{low, signed, compared}
-use Rattle.note_types.specs.BelowTests.{divides}
-use Rattle.note_types.specs.Types.{IsBounded}
-use Rattle.note_types.specs.declared.notes.Notes.{Notes}
-use Rattle.note_types.specs.declared.types.Ty.{Ty}
-use Rattle.note_types.specs.declared.types.Ty.TheVariants.{Any, Int, Lin, Scaled, Ptr, Local, Lent, Status, SignedStatus, Mask, Handle}
-use Rattle.note_types.specs.declared.types.Ty.TheVariants.{Entry, Method, ThunkAt, Saved}
-use Rattle.rules_base.specs.declared.parts.Span.{Span}
+use Rattle.typing_laws.proofs.Common.{◌≡◌, ℕ, zero, suc, ◌+◌, ◌-◌, ◌^◌, ◌<◌, ◌≤◌, Bool, true, false, not, ◌&&◌, if◌then◌else◌, nat_lt}
+use Rattle.typing_laws.proofs.Common.{nat_le, nat_eq, min, Some, None, refl, sym, ap, ap₂, ◌∙◌, subst, arith, ⊎_elim, mod-eq_of_lt, ℤ, pos}
+use Rattle.typing_laws.proofs.Common.{negsuc, int_le, ◌∣◌, ltb-true, leb-true, and_parts, eqb-true, eqb-false, false≢true, true≢false}
+use Rattle.typing_laws.proofs.Common.{lt-ltb, same_Some, dvd_of_mod-eq-zero, CmpOp, low, compared, divides, IsBounded, Notes, Ty, Int, Ptr}
+use Rattle.typing_laws.proofs.Common.{Status, SignedStatus, Span, granted, Neutral, Error, SignedError, number, null, plain, word}
+use Rattle.typing_laws.proofs.Common.{Registers, Memory, AreWritten, IsNumber, IsPointer, OrNull, Fits, option_or, compared_by, compared_as}
+use Rattle.std.proofs.Common.{max}
+use Rattle.std.proofs.lemmas.Bool.{leb-false}
+use Rattle.machine_alu.specs.Alu.{signed}
 use Rattle.rules_flow.specs.Narrowing.{int_of, cut_to, at_most, past, at_least, short_of, exactly, other_than, is_plain, up_to, from}
-use Rattle.rules_flow.specs.Narrowing.{narrowed_span, is_not_null, narrowed, is_success, is_signed_success, granted}
-use Rattle.host_model.specs.Values.{Neutral, Error, SignedError, number, null, plain, word}
-use Rattle.neutral_machine.specs.Config.{Registers}
-use Rattle.neutral_machine.specs.Memory.{Memory, AreWritten}
-use Rattle.neutral_machine.specs.Fits.{IsNumber, IsPointer, OrNull, Fits}
-use Rattle.std.specs.Option.{option_or}
-use Rattle.neutral_machine.specs.Operations.{compared_by, compared_as}
+use Rattle.rules_flow.specs.Narrowing.{narrowed_span, is_not_null, narrowed, is_success, is_signed_success}
 use Rattle.typing_laws.proofs.Rows.{number_fits}
+use Rattle.ebc_insn.specs.declared.CmpOp.TheVariants as cmps
 
 -- ---- comparisons of numbers
 
@@ -166,11 +153,7 @@ module _ (notes : Notes) (m : Memory) (d : ℕ) (saved : Registers) where
   not_null_fits s n i j false op c k v h f true e = f
   not_null_fits s n i j true cmps.Eq false k v h f true e = ⊎_elim (λ p. p)
       (λ q. absurd (null_equal v q (subst (λ z. Gave cmps.Eq v z false) (eqb-true k 0 e) h))) f
-  not_null_fits s n i j true cmps.Eq true k v h f true e = absurd (false≢true e)
-  not_null_fits s n i j true cmps.Lte c k v h f true e = absurd (false≢true e)
-  not_null_fits s n i j true cmps.Gte c k v h f true e = absurd (false≢true e)
-  not_null_fits s n i j true cmps.Ulte c k v h f true e = absurd (false≢true e)
-  not_null_fits s n i j true cmps.Ugte c k v h f true e = absurd (false≢true e)
+  not_null_fits s n i j b op c k v h f t e = absurd (false≢true e)
 
   -- A value of which a comparison gave C fits the narrowed type.
   pub narrowed_fits : (op : CmpOp) (c : Bool) (t : Ty) (k : ℕ) (v : Neutral) → IsBounded t → k < 2 ^ 64 → Gave op v k c
@@ -179,19 +162,7 @@ module _ (notes : Notes) (m : Memory) (d : ℕ) (saved : Registers) where
       let w = b.1 in
       span_narrows (record { lo = lo; hi = hi; div = div }) v f w b.2 op c k r (number_gave op v f.x k c f.is (omega (arith, f.to, w)) r h)
   narrowed_fits op c (Ptr s n i j may) k v b r h f = not_null_fits s n i j may op c k v h f (is_not_null op c k) refl
-  narrowed_fits op c Any k v b r h f = f
-  narrowed_fits op c (Lin n i) k v b r h f = f
-  narrowed_fits op c (Scaled n i hi) k v b r h f = f
-  narrowed_fits op c (Local x) k v b r h f = f
-  narrowed_fits op c (Lent cell) k v b r h f = f
-  narrowed_fits op c (Status g) k v b r h f = f
-  narrowed_fits op c (SignedStatus g) k v b r h f = f
-  narrowed_fits op c Mask k v b r h f = f
-  narrowed_fits op c Handle k v b r h f = f
-  narrowed_fits op c Entry k v b r h f = f
-  narrowed_fits op c (Method i) k v b r h f = f
-  narrowed_fits op c (ThunkAt i) k v b r h f = f
-  narrowed_fits op c (Saved i) k v b r h f = f
+  narrowed_fits op c t k v b r h f = f
 
   -- ---- grants
 
@@ -220,10 +191,7 @@ module _ (notes : Notes) (m : Memory) (d : ℕ) (saved : Registers) where
   success_grants op c k g v h f false e = none_written
   success_grants cmps.Eq true k g v h f true e = ⊎_elim (λ i. absurd (error_unequal v i.code k i.is (ltb-true k (2 ^ 31) e) h)) (λ s. s.1) f
   success_grants cmps.Eq false k g v h f true e = absurd (false≢true e)
-  success_grants cmps.Lte c k g v h f true e = absurd (false≢true e)
-  success_grants cmps.Gte c k g v h f true e = absurd (false≢true e)
-  success_grants cmps.Ulte c k g v h f true e = absurd (false≢true e)
-  success_grants cmps.Ugte c k g v h f true e = absurd (false≢true e)
+  success_grants op c k g v h f b e = absurd (false≢true e)
 
   signed_grants : (op : CmpOp) (c : Bool) (k g : ℕ) (v : Neutral) → Gave op v k c → Fits notes m d saved (SignedStatus g) v → (t : Bool)
       → is_signed_success op c k ≡ t → AreWritten m d (if t then g else 0)
@@ -234,25 +202,11 @@ module _ (notes : Notes) (m : Memory) (d : ℕ) (saved : Registers) where
   signed_grants cmps.Lte false k g v h f true e = ⊎_elim (λ i. absurd
       (signed_at_most v i.code i.is (subst (λ z. Gave cmps.Lte v z false) (eqb-true k (2 ^ 64 - 1) e) h))) (λ s. s.1) f
   signed_grants cmps.Lte true k g v h f true e = absurd (false≢true e)
-  signed_grants cmps.Eq c k g v h f true e = absurd (false≢true e)
-  signed_grants cmps.Ulte c k g v h f true e = absurd (false≢true e)
-  signed_grants cmps.Ugte c k g v h f true e = absurd (false≢true e)
+  signed_grants op c k g v h f b e = absurd (false≢true e)
 
   -- What a comparison says is written is written.
   pub granted_written : (op : CmpOp) (c : Bool) (t : Ty) (k : ℕ) (v : Neutral) → Gave op v k c → Fits notes m d saved t v
       → AreWritten m d (granted op c t k)
   granted_written op c (Status g) k v h f = success_grants op c k g v h f (is_success op c k) refl
   granted_written op c (SignedStatus g) k v h f = signed_grants op c k g v h f (is_signed_success op c k) refl
-  granted_written op c (Int lo hi div) k v h f = none_written
-  granted_written op c (Ptr s n i j may) k v h f = none_written
-  granted_written op c Any k v h f = none_written
-  granted_written op c (Lin n i) k v h f = none_written
-  granted_written op c (Scaled n i hi) k v h f = none_written
-  granted_written op c (Local x) k v h f = none_written
-  granted_written op c (Lent cell) k v h f = none_written
-  granted_written op c Mask k v h f = none_written
-  granted_written op c Handle k v h f = none_written
-  granted_written op c Entry k v h f = none_written
-  granted_written op c (Method i) k v h f = none_written
-  granted_written op c (ThunkAt i) k v h f = none_written
-  granted_written op c (Saved i) k v h f = none_written
+  granted_written op c t k v h f = none_written

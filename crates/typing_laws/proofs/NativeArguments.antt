@@ -1,52 +1,26 @@
 -- The arguments of a call of a native method: what the rules let be handed over is what its signature wants, and the local fields
 -- that are lent to be written are written once the cells that were lent are.
-use Rattle.std.proofs.Common.{◌≡◌, ℕ, suc, ◌%◌, ◌^◌, ◌≤◌, ◌⊎◌, Bool, true, false, ◌&&◌, if◌then◌else◌, nat_eq, nat_lt, List, [], ◌∷◌, Some}
-use Rattle.std.proofs.Common.{None, slice_get, refl, sym, ap, ap₂, ◌∙◌, subst, arith, inl, inr, ⊎_elim, ℤ, pos}
-use Rattle.std.specs.List.{AllZip}
-use Rattle.std.specs.Ordering.{int_eq}
-use Rattle.std.proofs.lemmas.Bool.{and_parts, eqb-true, false≢true}
-use Rattle.std.proofs.lemmas.Bool.Decides.{Decides-int_eq}
-use Rattle.std.proofs.lemmas.Nat.Bits.{bit_at-zero}
-use Rattle.std.specs.Int.{bit_at}
-use Rattle.note_types.specs.BelowTests.{is_below, same_kind}
-use Rattle.note_types.specs.FieldSets.{HasField}
-use Rattle.note_types.specs.Known.{IsKnown, local_fields}
-use Rattle.note_types.specs.Passing.{IsParameterKind}
-use Rattle.note_types.specs.Records.{IsWantNote}
-use Rattle.note_types.specs.Types.{IsBounded}
-use Rattle.note_types.specs.declared.cell.SlotKind.{SlotKind}
-use Rattle.note_types.specs.declared.cell.SlotKind.TheVariants as kinds
-use Rattle.note_types.specs.declared.items.Item.{Item}
-use Rattle.note_types.specs.declared.items.Item.TheVariants as item
-use Rattle.note_types.specs.declared.notes.FnNote.{FnNote}
-use Rattle.note_types.specs.declared.notes.Notes.{Notes}
+use Rattle.typing_laws.proofs.Common.{◌≡◌, ℕ, suc, ◌%◌, ◌^◌, ◌≤◌, ◌⊎◌, Bool, true, false, ◌&&◌, if◌then◌else◌, nat_eq, nat_lt, List, []}
+use Rattle.typing_laws.proofs.Common.{◌∷◌, Some, None, slice_get, refl, sym, ap, ap₂, ◌∙◌, subst, arith, inl, inr, ⊎_elim, ℤ, pos, AllZip}
+use Rattle.typing_laws.proofs.Common.{int_eq, and_parts, eqb-true, false≢true, Decides-int_eq, bit_at-zero, bit_at, is_below, same_kind}
+use Rattle.typing_laws.proofs.Common.{HasField, IsKnown, local_fields, IsBounded, SlotKind, Item, FnNote, Notes, WantParam, Shape, Ty}
+use Rattle.typing_laws.proofs.Common.{is_below_exact, same_kind-equal, same_kind-refl, needs, all_lent_out, native_arguments, Registers}
+use Rattle.typing_laws.proofs.Common.{StackItem, Pushed, LocalsOf, FunctionFrame, IsPointer, Fits, ItemFits, Memory, AreWritten}
+use Rattle.typing_laws.proofs.Common.{IsFieldWritten, Neutral, Num, null, number, pair, TypedObject, OutsWritten, SlotsKept}
+use Rattle.note_types.specs.{Passing.IsParameterKind, Records.IsWantNote}
 use Rattle.note_types.specs.declared.notes.Want.{Want}
-use Rattle.note_types.specs.declared.notes.Want.TheVariants as want
-use Rattle.note_types.specs.declared.notes.WantParam.{WantParam}
-use Rattle.note_types.specs.declared.rule.RuleName.TheVariants as rule
-use Rattle.note_types.specs.declared.shape.Shape.{Shape}
-use Rattle.note_types.specs.declared.types.Ty.{Ty}
-use Rattle.note_types.specs.declared.types.Ty.TheVariants as ty
-use Rattle.note_types.proofs.BelowLaws.{is_below_exact}
-use Rattle.note_types.proofs.SameLaws.{same_kind-equal, same_kind-refl}
-use Rattle.rules_base.specs.Outcomes.{needs}
 use Rattle.rules_base.specs.Places.{only_field}
-use Rattle.rules_flow.specs.Arguments.{all_lent_out, is_any_start, is_exactly, lent_out, native_argument, native_arguments, wanted}
-use Rattle.neutral_machine.specs.Config.{Registers, StackItem, Pushed, LocalsOf, FunctionFrame}
-use Rattle.neutral_machine.specs.Fits.{IsPointer, Fits}
-use Rattle.neutral_machine.specs.FitsState.{ItemFits}
-use Rattle.neutral_machine.specs.Memory.{Memory, AreWritten, IsFieldWritten}
+use Rattle.rules_flow.specs.Arguments.{is_any_start, is_exactly, lent_out, native_argument, wanted}
 use Rattle.neutral_machine.specs.NeutralReadings.{neutral_slots, slot_given}
 use Rattle.host_model.specs.Readings.{before_all}
-use Rattle.host_model.specs.Values.{Neutral, Num, null, number, pair}
-use Rattle.host_model.specs.declared.object.TypedObject.{TypedObject}
-use Rattle.invariant_laws.specs.Asked.{ArgumentFits, ArgumentsFit, IsAnyPointer, OutWritten, OutsWritten}
-use Rattle.invariant_laws.specs.Sound.{SlotsKept}
-use Rattle.typing_laws.proofs.FitsBelow.{fits_below}
+use Rattle.invariant_laws.specs.Asked.{ArgumentFits, ArgumentsFit, IsAnyPointer, OutWritten}
 use Rattle.typing_laws.proofs.ArgumentsPass.{both_none, lent_below, needs_true, some_never}
-use Rattle.typing_laws.proofs.CompareRow.{either_field}
-use Rattle.typing_laws.proofs.LiveCells.{LaterBelow}
-use Rattle.typing_laws.proofs.StoredSound.{power_bit}
+use Rattle.typing_laws.proofs.{FitsBelow.fits_below, CompareRow.either_field, LiveCells.LaterBelow, StoredSound.power_bit}
+use Rattle.note_types.specs.declared.cell.SlotKind.TheVariants as kinds
+use Rattle.note_types.specs.declared.items.Item.TheVariants as item
+use Rattle.note_types.specs.declared.notes.Want.TheVariants as want
+use Rattle.note_types.specs.declared.rule.RuleName.TheVariants as rule
+use Rattle.note_types.specs.declared.types.Ty.TheVariants as ty
 
 -- a set of one field has that field alone
 pub only_one : (x f : ℕ) → HasField (only_field x) f → f ≡ x
@@ -79,19 +53,7 @@ module _ (notes : Notes) (note : FnNote) (d : ℕ) (U : Memory) (written : ℕ) 
       let w = b.1 in
       h.is ∙ ap₂ Num (let z : 0 ≡ n % 2 ^ 64 = omega (arith, en) in z)
       (let z : h.x ≡ c % 2 ^ 64 = omega (arith, h.from, h.to, el, eh, w) in z)
-  exactly_fits saved n c ty.Any v b e h = absurd (false≢true e)
-  exactly_fits saved n c (ty.Scaled m i hi) v b e h = absurd (false≢true e)
-  exactly_fits saved n c (ty.Ptr q k m i may) v b e h = absurd (false≢true e)
-  exactly_fits saved n c (ty.Local x) v b e h = absurd (false≢true e)
-  exactly_fits saved n c (ty.Lent cl) v b e h = absurd (false≢true e)
-  exactly_fits saved n c (ty.Status g) v b e h = absurd (false≢true e)
-  exactly_fits saved n c (ty.SignedStatus g) v b e h = absurd (false≢true e)
-  exactly_fits saved n c ty.Mask v b e h = absurd (false≢true e)
-  exactly_fits saved n c ty.Handle v b e h = absurd (false≢true e)
-  exactly_fits saved n c ty.Entry v b e h = absurd (false≢true e)
-  exactly_fits saved n c (ty.Method q) v b e h = absurd (false≢true e)
-  exactly_fits saved n c (ty.ThunkAt q) v b e h = absurd (false≢true e)
-  exactly_fits saved n c (ty.Saved q) v b e h = absurd (false≢true e)
+  exactly_fits saved n c t v b e h = absurd (false≢true e)
 
   start_pointer : (s k : ℕ) (n c : ℤ) (v : Neutral) → 1 ≤ k → n ≡ pos 0 → c ≡ pos 0 → IsPointer notes U.objects s k n c v
       → IsAnyPointer notes U.objects v
@@ -123,19 +85,7 @@ module _ (notes : Notes) (note : FnNote) (d : ℕ) (U : Memory) (written : ℕ) 
       let q = and_parts (nat_eq lo 0) (nat_eq hi 0) e in
       let eh = eqb-true hi 0 q.1 in
       inr (h.is ∙ ap number (let z : h.x ≡ 0 = omega (arith, h.to, eh) in z))
-  any_start saved (ty.Lin n c) v b e h = absurd (false≢true e)
-  any_start saved ty.Any v b e h = absurd (false≢true e)
-  any_start saved (ty.Scaled m i hi) v b e h = absurd (false≢true e)
-  any_start saved (ty.Local x) v b e h = absurd (false≢true e)
-  any_start saved (ty.Lent cl) v b e h = absurd (false≢true e)
-  any_start saved (ty.Status g) v b e h = absurd (false≢true e)
-  any_start saved (ty.SignedStatus g) v b e h = absurd (false≢true e)
-  any_start saved ty.Mask v b e h = absurd (false≢true e)
-  any_start saved ty.Handle v b e h = absurd (false≢true e)
-  any_start saved ty.Entry v b e h = absurd (false≢true e)
-  any_start saved (ty.Method q) v b e h = absurd (false≢true e)
-  any_start saved (ty.ThunkAt q) v b e h = absurd (false≢true e)
-  any_start saved (ty.Saved q) v b e h = absurd (false≢true e)
+  any_start saved t v b e h = absurd (false≢true e)
 
   -- a value that the rules let be handed over is what is wanted
   wanted_fits : (saved : Registers) (p : Want) (t : Ty) (v : Neutral) → IsBounded t → wanted (local_fields notes note) written p t ≡ None
@@ -161,28 +111,7 @@ module _ (notes : Notes) (note : FnNote) (d : ℕ) (U : Memory) (written : ℕ) 
 
       go : (w : Want) → p.want ≡ w → (t : Ty) → Fits notes U d saved t v → AreWritten V d (lent_out w (item.Slot kind t))
       go (want.Out cell) e (ty.Local x) z = λ y q. subst (IsFieldWritten V d) (sym (only_one x y q)) (h cell e d x z.is)
-      go (want.Out cell) e ty.Any z = none
-      go (want.Out cell) e (ty.Int lo hi div) z = none
-      go (want.Out cell) e (ty.Lin n c) z = none
-      go (want.Out cell) e (ty.Scaled n c hi) z = none
-      go (want.Out cell) e (ty.Ptr q k n c may) z = none
-      go (want.Out cell) e (ty.Lent cl) z = none
-      go (want.Out cell) e (ty.Status g) z = none
-      go (want.Out cell) e (ty.SignedStatus g) z = none
-      go (want.Out cell) e ty.Mask z = none
-      go (want.Out cell) e ty.Handle z = none
-      go (want.Out cell) e ty.Entry z = none
-      go (want.Out cell) e (ty.Method q) z = none
-      go (want.Out cell) e (ty.ThunkAt q) z = none
-      go (want.Out cell) e (ty.Saved q) z = none
-      go want.Any e t z = none
-      go (want.Int lo hi) e t z = none
-      go (want.Size n c) e t z = none
-      go want.Ptr e t z = none
-      go want.Handle e t z = none
-      go want.Status e t z = none
-      go want.Entry e t z = none
-      go (want.Inout cell) e t z = none
+      go w e t z = none
 
   -- the value that a slot gives back is the one in it
   given_is : (os : List TypedObject) (kind : SlotKind) (v : Neutral) (is : List StackItem) → IsParameterKind kind

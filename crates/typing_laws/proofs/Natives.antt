@@ -1,76 +1,35 @@
 -- The rows of CALLEX and of BREAK 5.
-use Rattle.std.proofs.Common.{◌≡◌, ◌≢◌, ℕ, suc, ◌+◌, ◌<◌, ◌⊎◌, Bool, true, false, ◌&&◌, if◌then◌else◌, nat_eq, nat_lt, position, List, []}
-use Rattle.std.proofs.Common.{◌∷◌, length, Option, Some, None, IfSome, Result, Ok, Err, slice_get, refl, sym, ap, ap₂, ◌∙◌, subst, arith}
-use Rattle.std.proofs.Common.{inl, inr, ⊎_elim}
-use Rattle.std.specs.List.{find, position_or_len}
+use Rattle.typing_laws.proofs.Common.{◌≡◌, ◌≢◌, ℕ, suc, ◌+◌, ◌<◌, ◌⊎◌, Bool, true, false, ◌&&◌, if◌then◌else◌, nat_eq, nat_lt, position}
+use Rattle.typing_laws.proofs.Common.{List, [], ◌∷◌, length, Option, Some, None, IfSome, Result, Ok, Err, slice_get, refl, sym, ap, ap₂}
+use Rattle.typing_laws.proofs.Common.{◌∙◌, subst, arith, inl, inr, ⊎_elim, find, position_or_len, and_from, and_parts, eqb-true, eqb-false}
+use Rattle.typing_laws.proofs.Common.{eq-eqb, lt-ltb, ltb-true, false≢true, find_at, same_Some, none-some, or_else, Extra, Nothing, Imm}
+use Rattle.typing_laws.proofs.Common.{Idx, Operand, local_fields, type_of, FnNote, Notes, WantParam, RuleName, State, Ty, load_at}
+use Rattle.typing_laws.proofs.Common.{extra_distance, both, needs, and_then, Loaded, all_lent_out, native_arguments, all_made, is_at}
+use Rattle.typing_laws.proofs.Common.{number_at, falls, Successors, beside_extra, extra_pair, loaded_by, moved_by, NeutralEnd, Native}
+use Rattle.typing_laws.proofs.Common.{MakeThunk, Site, Registers, FunctionFrame, Frame, Function, Host, Config, depth, Fits, FitsState}
+use Rattle.typing_laws.proofs.Common.{Move, Memory, AreWritten, kept_natural, Outcome, Gives, Stuck, ◌>>=◌, or_stuck, Neutral, At, Method}
+use Rattle.typing_laws.proofs.Common.{ThunkOf, null, World, Accepts, OutsWritten, Later, Preserves, WillFit, live_memory, Asks, Makes}
+use Rattle.typing_laws.proofs.Common.{here_of, FramesKeep, Sound, TopFits, fields_later, fits_later, items_later}
 use Rattle.std.specs.Option.{option_map}
-use Rattle.std.proofs.lemmas.Bool.{and_from, and_parts, eqb-true, eqb-false, eq-eqb, lt-ltb, ltb-true, false≢true}
-use Rattle.std.proofs.lemmas.List.Folds.{find_at}
-use Rattle.std.proofs.lemmas.Option.{same_Some, none-some}
-use Rattle.ebc_base.specs.Steps.{or_else}
-use Rattle.ebc_base.specs.Steps as steps
-use Rattle.ebc_insn.specs.declared.Extra.{Extra}
-use Rattle.ebc_insn.specs.declared.Extra.TheVariants.{Nothing, Imm, Idx}
-use Rattle.ebc_insn.specs.declared.Operand.{Operand}
-use Rattle.ebc_insn.specs.declared.Size.TheVariants as sizes
-use Rattle.note_types.specs.Known.{local_fields}
-use Rattle.note_types.specs.Passing.{IsGiven}
-use Rattle.note_types.specs.Records.{IsResultNote}
-use Rattle.note_types.specs.States.{type_of}
-use Rattle.note_types.specs.declared.notes.FnNote.{FnNote}
-use Rattle.note_types.specs.declared.notes.Notes.{Notes}
-use Rattle.note_types.specs.declared.notes.Signature.{Signature}
-use Rattle.note_types.specs.declared.notes.Site.{Site as SiteNote}
-use Rattle.note_types.specs.declared.notes.WantParam.{WantParam}
-use Rattle.note_types.specs.declared.rule.RuleName.{RuleName}
-use Rattle.note_types.specs.declared.rule.RuleName.TheVariants as rule
-use Rattle.note_types.specs.declared.spot.Spot.TheVariants.{Place}
-use Rattle.note_types.specs.declared.state.State.{State}
-use Rattle.note_types.specs.declared.types.Ty.{Ty}
-use Rattle.note_types.specs.declared.types.Ty.TheVariants as ty
-use Rattle.rules_base.specs.Access.{load_at}
-use Rattle.rules_base.specs.Operands.{extra_distance}
-use Rattle.rules_base.specs.Outcomes.{both, needs}
-use Rattle.rules_base.specs.Parts.{and_then}
-use Rattle.rules_base.specs.declared.access.Access.TheVariants as access
-use Rattle.rules_base.specs.declared.access.Loaded.{Loaded}
-use Rattle.rules_flow.specs.Arguments.{all_lent_out, native_arguments}
-use Rattle.rules_flow.specs.Calls.{all_made, break_row, callee_method, direct_method, is_next_thunk, loaded_method, method_of, native_call}
+use Rattle.note_types.specs.{Passing.IsGiven, Records.IsResultNote}
+use Rattle.note_types.specs.declared.{notes.Signature.Signature, notes.Site.Site as SiteNote, spot.Spot.TheVariants.Place}
+use Rattle.rules_flow.specs.Calls.{break_row, callee_method, direct_method, is_next_thunk, loaded_method, method_of, native_call}
 use Rattle.rules_flow.specs.Calls.{native_called, of_method, result_type, signature_at, site_at, with_thunk, written_after}
-use Rattle.rules_flow.specs.Calls as rules_calls
-use Rattle.rules_flow.specs.Found.{is_at, number_at}
-use Rattle.rules_flow.specs.Successors.{falls}
-use Rattle.rules_flow.specs.declared.successors.Successors.{Successors}
-use Rattle.neutral_machine.specs.Operands.{beside_extra, extra_pair, loaded_by, moved_by}
-use Rattle.neutral_machine.specs.Rows.{NeutralEnd, Native, MakeThunk, Site, at_place, base_at, call_native_row, native_target}
-use Rattle.neutral_machine.specs.Rows as rows
-use Rattle.neutral_machine.specs.Config.{Registers, FunctionFrame, Frame, Function, Host, Config, depth}
-use Rattle.neutral_machine.specs.Fits.{Fits}
-use Rattle.neutral_machine.specs.FitsState.{FitsState}
+use Rattle.neutral_machine.specs.{Rows.at_place, Rows.base_at, Rows.call_native_row, Rows.native_target, NeutralHost.next_thunk}
 use Rattle.host_model.specs.HostPlans.{site_of}
-use Rattle.neutral_machine.specs.Locations.{Move}
-use Rattle.neutral_machine.specs.Memory.{Memory, AreWritten}
-use Rattle.neutral_machine.specs.NeutralHost.{next_thunk}
-use Rattle.neutral_machine.specs.Operations.{kept_natural}
-use Rattle.neutral_machine.specs.Outcomes.{Outcome, Gives, Stuck, ◌>>=◌, or_stuck}
-use Rattle.host_model.specs.Values.{Neutral, At, Method, ThunkOf, null}
-use Rattle.host_model.specs.World.{World}
-use Rattle.invariant_laws.specs.Accepts.{Accepts}
-use Rattle.invariant_laws.specs.Asked.{GivenByNative, GivenByType, OutsWritten}
-use Rattle.invariant_laws.specs.Later.{Later, Preserves, WillFit}
-use Rattle.invariant_laws.specs.Live.{live_memory}
-use Rattle.typing_laws.specs.OneRule.{Asks, Makes, here_of}
-use Rattle.invariant_laws.specs.Sound.{FramesKeep, Sound, ThunksFor, TopFits}
-use Rattle.typing_laws.proofs.Rows.{then_some, err_ok, ok_same}
-use Rattle.typing_laws.proofs.ArgumentsPass.{both_none, needs_true}
-use Rattle.typing_laws.proofs.ArithRow.{BesideFits, also_ok}
-use Rattle.typing_laws.proofs.Calls.{after_call, called_fresh}
-use Rattle.typing_laws.proofs.CompareRow.{either_field}
-use Rattle.typing_laws.proofs.Context.{TopSound, same_locals}
-use Rattle.typing_laws.proofs.ItemsChanged.{top_keeps}
-use Rattle.invariant_laws.proofs.LaterFits.{fields_later, fits_later, items_later}
-use Rattle.typing_laws.proofs.NativeArguments.{Handed, arguments_handed}
+use Rattle.invariant_laws.specs.{Asked.GivenByNative, Asked.GivenByType, Sound.ThunksFor}
 use Rattle.typing_laws.proofs.Operands.{load_fits, register_fits, some_ok, then_ok}
+use Rattle.typing_laws.proofs.{Rows.then_some, Rows.err_ok, Rows.ok_same, ArgumentsPass.both_none, ArgumentsPass.needs_true}
+use Rattle.typing_laws.proofs.{ArithRow.BesideFits, ArithRow.also_ok, Calls.after_call, Calls.called_fresh, CompareRow.either_field}
+use Rattle.typing_laws.proofs.{Context.TopSound, Context.same_locals, ItemsChanged.top_keeps, NativeArguments.Handed}
+use Rattle.typing_laws.proofs.NativeArguments.{arguments_handed}
+use Rattle.ebc_base.specs.Steps as steps
+use Rattle.ebc_insn.specs.declared.Size.TheVariants as sizes
+use Rattle.note_types.specs.declared.rule.RuleName.TheVariants as rule
+use Rattle.note_types.specs.declared.types.Ty.TheVariants as ty
+use Rattle.rules_base.specs.declared.access.Access.TheVariants as access
+use Rattle.rules_flow.specs.Calls as rules_calls
+use Rattle.neutral_machine.specs.Rows as rows
 
 -- ---- sites and signatures
 
@@ -113,22 +72,9 @@ signature_found notes place m g e =
 -- ---- results of native methods
 
 result_unsaved : (o : Option Ty) (lent i : ℕ) → ((t : Ty) → o ≡ Some t → IsGiven t) → result_type o lent ≢ ty.Saved i
-result_unsaved None lent i h = λ e. absurd cc
-result_unsaved (Some (ty.Status g)) lent i h = λ e. absurd cc
 result_unsaved (Some ty.Any) lent i h = λ e. absurd (h ty.Any refl)
-result_unsaved (Some (ty.Int lo hi div)) lent i h = λ e. absurd cc
-result_unsaved (Some (ty.Lin n c)) lent i h = λ e. absurd cc
-result_unsaved (Some (ty.Scaled n c hi)) lent i h = λ e. absurd cc
-result_unsaved (Some (ty.Ptr s k n c may)) lent i h = λ e. absurd cc
-result_unsaved (Some (ty.Local x)) lent i h = λ e. absurd cc
-result_unsaved (Some (ty.Lent cell)) lent i h = λ e. absurd cc
-result_unsaved (Some (ty.SignedStatus g)) lent i h = λ e. absurd cc
-result_unsaved (Some ty.Mask) lent i h = λ e. absurd cc
-result_unsaved (Some ty.Handle) lent i h = λ e. absurd cc
-result_unsaved (Some ty.Entry) lent i h = λ e. absurd cc
-result_unsaved (Some (ty.Method q)) lent i h = λ e. absurd cc
-result_unsaved (Some (ty.ThunkAt q)) lent i h = λ e. absurd cc
 result_unsaved (Some (ty.Saved q)) lent i h = λ e. absurd (h (ty.Saved q) refl)
+result_unsaved o lent i h = λ e. absurd cc
 
 -- what a native call gives fits the result's type, and says which fields are written
 given_fits : (notes : Notes) (V : Memory) (d : ℕ) (saved : Registers) (ps : List WantParam) (vs : List Neutral) (o : Option Ty)
@@ -138,12 +84,6 @@ given_fits : (notes : Notes) (V : Memory) (d : ℕ) (saved : Registers) (ps : Li
 given_fits notes V d saved ps vs None written lent v g out w h =
     (tt, λ x q. ⊎_elim (λ y. w x y) (λ y. out h x y) (either_field written lent x q))
 given_fits notes V d saved ps vs (Some (ty.Status k)) written lent v g out w h = (⊎_elim (λ e. inl e) (λ s. inr (s.0, out s.1)) h, w)
-given_fits notes V d saved ps vs (Some (ty.Int lo hi div)) written lent v g out w h =
-    (h.0, λ x q. ⊎_elim (λ y. w x y) (λ y. out h.1 x y) (either_field written lent x q))
-given_fits notes V d saved ps vs (Some (ty.Ptr s k n c may)) written lent v g out w h =
-    (h.0, λ x q. ⊎_elim (λ y. w x y) (λ y. out h.1 x y) (either_field written lent x q))
-given_fits notes V d saved ps vs (Some ty.Handle) written lent v g out w h =
-    (h.0, λ x q. ⊎_elim (λ y. w x y) (λ y. out h.1 x y) (either_field written lent x q))
 given_fits notes V d saved ps vs (Some ty.Any) written lent v g out w h = absurd (g ty.Any refl)
 given_fits notes V d saved ps vs (Some (ty.Lin n c)) written lent v g out w h = absurd (g (ty.Lin n c) refl)
 given_fits notes V d saved ps vs (Some (ty.Scaled n c hi)) written lent v g out w h = absurd (g (ty.Scaled n c hi) refl)
@@ -155,6 +95,8 @@ given_fits notes V d saved ps vs (Some ty.Entry) written lent v g out w h = absu
 given_fits notes V d saved ps vs (Some (ty.Method q)) written lent v g out w h = absurd (g (ty.Method q) refl)
 given_fits notes V d saved ps vs (Some (ty.ThunkAt q)) written lent v g out w h = absurd (g (ty.ThunkAt q) refl)
 given_fits notes V d saved ps vs (Some (ty.Saved q)) written lent v g out w h = absurd (g (ty.Saved q) refl)
+given_fits notes V d saved ps vs o written lent v g out w h =
+    (h.0, λ x q. ⊎_elim (λ y. w x y) (λ y. out h.1 x y) (either_field written lent x q))
 
 module _ (world : World) (a : Config) (f : FunctionFrame) (fs : List Frame) (note : FnNote) (s : State)
     (st : TopSound world a f fs note s) where
@@ -195,20 +137,7 @@ module _ (world : World) (a : Config) (f : FunctionFrame) (fs : List Frame) (not
 
   method_is : (t : Ty) (m : ℕ) → method_of t ≡ Ok m → t ≡ ty.Method m
   method_is (ty.Method k) m e = ap ty.Method (ok_same k m e)
-  method_is ty.Any m e = absurd (err_ok rule.Form m e)
-  method_is (ty.Int lo hi div) m e = absurd (err_ok rule.Form m e)
-  method_is (ty.Lin n c) m e = absurd (err_ok rule.Form m e)
-  method_is (ty.Scaled n c hi) m e = absurd (err_ok rule.Form m e)
-  method_is (ty.Ptr s k n c may) m e = absurd (err_ok rule.Form m e)
-  method_is (ty.Local x) m e = absurd (err_ok rule.Form m e)
-  method_is (ty.Lent cell) m e = absurd (err_ok rule.Form m e)
-  method_is (ty.Status g) m e = absurd (err_ok rule.Form m e)
-  method_is (ty.SignedStatus g) m e = absurd (err_ok rule.Form m e)
-  method_is ty.Mask m e = absurd (err_ok rule.Form m e)
-  method_is ty.Handle m e = absurd (err_ok rule.Form m e)
-  method_is ty.Entry m e = absurd (err_ok rule.Form m e)
-  method_is (ty.ThunkAt q) m e = absurd (err_ok rule.Form m e)
-  method_is (ty.Saved q) m e = absurd (err_ok rule.Form m e)
+  method_is t m e = absurd (err_ok rule.Form m e)
 
   -- the target is the method that the rules find
   target_is : (far rel : Bool) (op : Operand) (extra : Extra) (m : ℕ) → BesideFits op extra
@@ -423,20 +352,7 @@ module _ (world : World) (a : Config) (f : FunctionFrame) (fs : List Frame) (not
           → (if b then Ok (falls (with_thunk s)) else Err rule.Thunk) ≡ Ok x → Goal (rows.break_row world a site.next 5)
       thunk t h false q e = absurd (err_ok rule.Thunk x e)
       thunk (ty.ThunkAt i) h true q e = made i h q (falls_is _ x e)
-      thunk ty.Any h true q e = absurd (false≢true q)
-      thunk (ty.Int lo hi div) h true q e = absurd (false≢true q)
-      thunk (ty.Lin n c) h true q e = absurd (false≢true q)
-      thunk (ty.Scaled n c hi) h true q e = absurd (false≢true q)
-      thunk (ty.Ptr s k n c may) h true q e = absurd (false≢true q)
-      thunk (ty.Local x) h true q e = absurd (false≢true q)
-      thunk (ty.Lent cell) h true q e = absurd (false≢true q)
-      thunk (ty.Status g) h true q e = absurd (false≢true q)
-      thunk (ty.SignedStatus g) h true q e = absurd (false≢true q)
-      thunk ty.Mask h true q e = absurd (false≢true q)
-      thunk ty.Handle h true q e = absurd (false≢true q)
-      thunk ty.Entry h true q e = absurd (false≢true q)
-      thunk (ty.Method k) h true q e = absurd (false≢true q)
-      thunk (ty.Saved k) h true q e = absurd (false≢true q)
+      thunk t h b q e = absurd (false≢true q)
 
       go : (b : Bool) → nat_eq code 5 ≡ b → (if b then (if is_next_thunk world.notes s (type_of s 7) then Ok (falls (with_thunk s))
           else Err rule.Thunk) else Err rule.Form) ≡ Ok x → Goal (rows.break_row world a site.next code)

@@ -1,20 +1,10 @@
 -- Typed objects: small ones of well-formed shapes, and where their instances start.
-use Rattle.std.proofs.Common.{◌≡◌, ℕ, suc, ◌+◌, ◌*◌, ◌/◌, ◌^◌, ◌<◌, ◌≤◌, true, ◌&&◌, if◌then◌else◌, nat_lt, nat_eq, List, ◌∷◌, Option, Some}
-use Rattle.std.proofs.Common.{None, slice_get, ap, ap₂, ◌∙◌, subst, arith, pos}
-use Rattle.std.proofs.Math.Nat.{mul-le-mul_right}
-use Rattle.std.proofs.lemmas.Bool.{lt-ltb, eq-eqb, and_from}
-use Rattle.std.proofs.lemmas.Nat.{div-mul-add}
-use Rattle.ebc_width.specs.Width.{wrap64}
-use Rattle.note_types.specs.Shapes.{IsShape, size_at}
-use Rattle.note_types.specs.declared.notes.Notes.{Notes}
-use Rattle.note_types.specs.declared.shape.Shape.{Shape}
-use Rattle.host_model.specs.Values.{ObjectOf, Neutral, At, word}
-use Rattle.host_model.specs.Objects.{shape_of}
-use Rattle.host_model.specs.declared.object.TypedObject.{TypedObject}
+use Rattle.typing_laws.proofs.Common.{◌≡◌, ℕ, suc, ◌+◌, ◌*◌, ◌/◌, ◌^◌, ◌<◌, ◌≤◌, true, ◌&&◌, if◌then◌else◌, nat_lt, nat_eq, List}
+use Rattle.typing_laws.proofs.Common.{Option, Some, None, slice_get, ap, ap₂, ◌∙◌, subst, arith, pos, mul-le-mul_right, lt-ltb, eq-eqb}
+use Rattle.typing_laws.proofs.Common.{and_from, div-mul-add, wrap64, IsShape, size_at, Notes, Shape, ObjectOf, Neutral, At, word, shape_of}
+use Rattle.typing_laws.proofs.Common.{TypedObject, IsPointer, Instance, instance_at, instance_of, is_kept_at}
 use Rattle.host_model.specs.Placements.{object_bytes}
-use Rattle.neutral_machine.specs.Fits.{IsPointer}
-use Rattle.neutral_machine.specs.Operations.{Instance, instance_at, starts_if, instance_of, extent_if, is_kept_at}
-use Rattle.ebc_base.proofs.Lists.{within_some}
+use Rattle.neutral_machine.specs.Operations.{starts_if, extent_if}
 
 -- objects have well-formed shapes and are small
 pub record ObjectsFit (notes : Notes) (objects : List TypedObject) : Type 0 where

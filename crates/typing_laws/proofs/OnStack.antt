@@ -1,39 +1,18 @@
 -- What the rules say that lies on the stack is what the neutral machine finds there: a local field or a parameter.
-use Rattle.std.proofs.Common.{◌≡◌, ℕ, suc, ◌+◌, ◌-◌, ◌<◌, ◌≤◌, ◌⊎◌, Bool, true, false, ◌&&◌, if◌then◌else◌, nat_lt, nat_le, nat_eq, List}
-use Rattle.std.proofs.Common.{[], ◌∷◌, Option, Some, None, slice_get, refl, sym, ap, ◌∙◌, arith, inl, inr, ⊎_elim, option_map}
-use Rattle.std.proofs.Common.{option_and_then, pos}
-use Rattle.std.specs.List.{AllZip}
-use Rattle.std.proofs.lemmas.Bool.{leb-true, eq-eqb, and_from, and_parts, eqb-true, true≢false, cases_Bool}
-use Rattle.std.proofs.lemmas.Option.{same_Some, none-some}
-use Rattle.note_types.specs.Shapes.{IsShape}
-use Rattle.note_types.specs.declared.cell.Cell.{Cell}
-use Rattle.note_types.specs.declared.cell.SlotKind.{SlotKind}
-use Rattle.note_types.specs.declared.cell.SlotKind.TheVariants.{N, Q, D}
-use Rattle.note_types.specs.declared.items.Item.{Item}
+use Rattle.typing_laws.proofs.Common.{◌≡◌, ℕ, suc, ◌+◌, ◌-◌, ◌<◌, ◌≤◌, ◌⊎◌, Bool, true, false, ◌&&◌, if◌then◌else◌, nat_lt, nat_le, nat_eq}
+use Rattle.typing_laws.proofs.Common.{List, [], ◌∷◌, Option, Some, None, slice_get, refl, sym, ap, ◌∙◌, arith, inl, inr, ⊎_elim, option_map}
+use Rattle.typing_laws.proofs.Common.{option_and_then, pos, AllZip, leb-true, eq-eqb, and_from, and_parts, eqb-true, true≢false, cases_Bool}
+use Rattle.typing_laws.proofs.Common.{same_Some, none-some, IsShape, Cell, SlotKind, N, Q, D, Item, Notes, Pair, Param, Field, Shape, Place}
+use Rattle.typing_laws.proofs.Common.{option_or, and_then, cell_of, stack_at, field_number_at, Neutral, FieldOfLocals, StackItem, Pushed}
+use Rattle.typing_laws.proofs.Common.{LocalsOf, FunctionFrame, frame_locals, Memory, Fits, ItemFits, ParamFits, Location, CellAt, ParamAt}
+use Rattle.typing_laws.proofs.Common.{Offset, find_field, item_units, item_bytes, located_among}
+use Rattle.rules_base.specs.Places.{local_at, past, slot_size}
+use Rattle.neutral_machine.specs.Locations.{parameter_at}
+use Rattle.typing_laws.proofs.{Rows.then_some, Rows.if_some, Located.find_first, Located.cell_positive, Pointed.FieldFound}
+use Rattle.typing_laws.proofs.{Pointed.field_found, Pointed.CellThere}
 use Rattle.note_types.specs.declared.items.Item.TheVariants as item
-use Rattle.note_types.specs.declared.notes.Notes.{Notes}
-use Rattle.note_types.specs.declared.notes.Pair.{Pair}
-use Rattle.note_types.specs.declared.notes.Param.{Param}
-use Rattle.note_types.specs.declared.shape.Field.{Field}
-use Rattle.note_types.specs.declared.shape.Shape.{Shape}
-use Rattle.rules_base.specs.declared.place.Place.{Place}
 use Rattle.rules_base.specs.declared.place.Place.TheVariants as place
-use Rattle.std.specs.Option.{option_or}
-use Rattle.rules_base.specs.Parts.{and_then}
-use Rattle.rules_base.specs.Places.{cell_of, local_at, past, slot_size, stack_at, field_number_at}
 use Rattle.rules_base.specs.Places as rules
-use Rattle.host_model.specs.Values.{Neutral, FieldOfLocals}
-use Rattle.neutral_machine.specs.Config.{StackItem, Pushed, LocalsOf, FunctionFrame}
-use Rattle.host_model.specs.World.{frame_locals}
-use Rattle.neutral_machine.specs.Memory.{Memory}
-use Rattle.neutral_machine.specs.Fits.{Fits}
-use Rattle.neutral_machine.specs.FitsState.{ItemFits}
-use Rattle.invariant_laws.specs.Sound.{ParamFits}
-use Rattle.neutral_machine.specs.Locations.{Location, CellAt, ParamAt, Offset, find_field, item_units, item_bytes, parameter_at}
-use Rattle.neutral_machine.specs.Locations.{located_among}
-use Rattle.typing_laws.proofs.Rows.{then_some, if_some}
-use Rattle.typing_laws.proofs.Located.{find_first, cell_positive}
-use Rattle.typing_laws.proofs.Pointed.{FieldFound, field_found, CellThere}
 
 -- no field meets a test
 find_none : (t : Field → Bool) (f : ℕ) (xs : List Field) → ((k : ℕ) (y : Field) → slice_get xs k ≡ Some y → t y ≡ false)
@@ -47,12 +26,7 @@ pub units_are : (k l : SlotKind) (v : Neutral) → k ≡ l → (item_units (Push
 units_are N N v e = (refl, refl)
 units_are Q Q v e = (refl, refl)
 units_are D D v e = (refl, refl)
-units_are N Q v e = absurd cc
-units_are N D v e = absurd cc
-units_are Q N v e = absurd cc
-units_are Q D v e = absurd cc
-units_are D N v e = absurd cc
-units_are D Q v e = absurd cc
+units_are c t v e = absurd cc
 
 same_pos : (a b : ℕ) → pos a ≡ pos b → a ≡ b
 same_pos a b e = cc

@@ -1,46 +1,26 @@
 -- The values of operands fit the types that the rules give.
-use Rattle.std.proofs.Common.{◌≡◌, ◌≢◌, ℕ, suc, ◌+◌, ◌%◌, ◌^◌, ◌<◌, ◌⊎◌, Bool, true, false, ◌&&◌, if◌then◌else◌, nat_eq, List, length}
-use Rattle.std.proofs.Common.{Option, Some, None, Result, Ok, Err, slice_get, refl, sym, ap, ap₂, ◌∙◌, subst, arith, inl, inr, ⊎_elim}
-use Rattle.std.proofs.Common.{option_map, option_and_then, ℤ, pos, negsuc, int_le, unsigned_abs}
-use Rattle.std.proofs.lemmas.Bool.{le-leb, ne_eqb, eqb-true, eqb-false, cases_Bool}
-use Rattle.std.proofs.lemmas.Option.{none-some}
-use Rattle.ebc_insn.specs.declared.Size.TheVariants as sizes
-use Rattle.ebc_width.specs.Width.{wrap64}
-use Rattle.note_types.specs.States.{type_of}
-use Rattle.note_types.specs.declared.cell.SlotKind.TheVariants.{N, Q, D}
-use Rattle.note_types.specs.declared.cell.SlotKind.{SlotKind}
-use Rattle.note_types.specs.declared.notes.FnNote.{FnNote}
-use Rattle.note_types.specs.declared.rule.RuleName.{RuleName}
-use Rattle.note_types.specs.declared.rule.RuleName.TheVariants as rule
-use Rattle.note_types.specs.declared.state.State.{State}
-use Rattle.note_types.specs.declared.types.Ty.{Ty}
-use Rattle.note_types.specs.declared.types.Ty.TheVariants as ty
-use Rattle.rules_base.specs.declared.access.Loaded.{Loaded}
-use Rattle.rules_base.specs.declared.operand.Distance.{Distance}
-use Rattle.rules_base.specs.declared.place.Place.{Place}
-use Rattle.rules_base.specs.declared.place.Place.TheVariants as place
-use Rattle.rules_base.specs.Access.{known, loads, parameter_load, load_place, load_at}
-use Rattle.ebc_base.specs.Steps.{◌>>=◌, or_else}
-use Rattle.note_types.specs.Known.{local_fields, Names}
-use Rattle.rules_base.specs.Places.{from_stack, locals_size, place_at, pointed, stack_at}
-use Rattle.host_model.specs.Values.{Neutral, FieldOfLocals}
-use Rattle.neutral_machine.specs.Config.{StackItem, Pushed, FunctionFrame, Frame, Config, depth}
-use Rattle.host_model.specs.World.{World}
-use Rattle.invariant_laws.specs.Live.{live_memory}
-use Rattle.neutral_machine.specs.Fits.{Fits}
-use Rattle.neutral_machine.specs.Outcomes.{Gives, or_stuck}
-use Rattle.neutral_machine.specs.Operations.{kept_natural, sign_extended}
-use Rattle.neutral_machine.specs.Operands.{offset_of, moved_by, located_by, loaded_by}
-use Rattle.neutral_machine.specs.Locations.{Access, Move, Form, Signed, Location, CellAt, Offset, kept, slot_value, value_at, parameters_of}
-use Rattle.neutral_machine.specs.Locations.{located_past, located_on_stack, located_among}
-use Rattle.typing_laws.proofs.Rows.{err_ok, ok_same}
-use Rattle.typing_laws.proofs.Accesses.{access_of}
-use Rattle.typing_laws.proofs.KeptFit.{natural_fits, signed_fits}
+use Rattle.typing_laws.proofs.Common.{◌≡◌, ◌≢◌, ℕ, suc, ◌+◌, ◌%◌, ◌^◌, ◌<◌, ◌⊎◌, Bool, true, false, ◌&&◌, if◌then◌else◌, nat_eq, List}
+use Rattle.typing_laws.proofs.Common.{length, Option, Some, None, Result, Ok, Err, slice_get, refl, sym, ap, ap₂, ◌∙◌, subst, arith, inl}
+use Rattle.typing_laws.proofs.Common.{inr, ⊎_elim, option_map, option_and_then, ℤ, pos, negsuc, int_le, unsigned_abs, le-leb, ne_eqb}
+use Rattle.typing_laws.proofs.Common.{eqb-true, eqb-false, cases_Bool, none-some, wrap64, IsBounded, type_of, N, Q, SlotKind, FnNote}
+use Rattle.typing_laws.proofs.Common.{RuleName, State, Ty, Loaded, Distance, Place, known, loads, load_place, load_at, or_else}
+use Rattle.typing_laws.proofs.Common.{local_fields, from_stack, locals_size, place_at, pointed, stack_at, Neutral, FieldOfLocals, StackItem}
+use Rattle.typing_laws.proofs.Common.{Pushed, FunctionFrame, Frame, Config, depth, World, live_memory, Fits, Gives, or_stuck, kept_natural}
+use Rattle.typing_laws.proofs.Common.{sign_extended, offset_of, moved_by, located_by, loaded_by, Access, Move, Form, Signed, Location}
+use Rattle.typing_laws.proofs.Common.{CellAt, Offset, kept, value_at, parameters_of, located_past, located_on_stack, located_among}
+use Rattle.rules_base.specs.Access.{parameter_load}
+use Rattle.ebc_base.specs.Steps.{◌>>=◌}
+use Rattle.note_types.specs.Known.{Names}
+use Rattle.neutral_machine.specs.Locations.{slot_value}
 use Rattle.typing_laws.proofs.Pointed.{IsBeside, Named, may_be_null, pointed_named}
-use Rattle.typing_laws.proofs.OnStack.{OnStack, stack_named}
-use Rattle.typing_laws.proofs.Loads.{finish, LoadFits, place_load}
 use Rattle.typing_laws.proofs.Context.{GoodParam, TopSound, objects, cells, has_locals, same_locals, sizes_same, counted_local}
 use Rattle.typing_laws.proofs.Context.{counted_object, params_fit, good_params}
+use Rattle.typing_laws.proofs.{Rows.err_ok, Rows.ok_same, Accesses.access_of, KeptFit.natural_fits, KeptFit.signed_fits, OnStack.OnStack}
+use Rattle.typing_laws.proofs.{OnStack.stack_named, Loads.finish, Loads.LoadFits, Loads.place_load}
+use Rattle.ebc_insn.specs.declared.Size.TheVariants as sizes
+use Rattle.note_types.specs.declared.rule.RuleName.TheVariants as rule
+use Rattle.note_types.specs.declared.types.Ty.TheVariants as ty
+use Rattle.rules_base.specs.declared.place.Place.TheVariants as place
 
 -- the parts of a distance are numbers of 64 bits
 pub record IsSmall (d : Distance) : Type 0 where
@@ -110,15 +90,12 @@ module _ (world : World) (a : Config) (f : FunctionFrame) (fs : List Frame) (not
   -- a load never is of a place that may be null
   no_null : (access : Access) (p : Place) (r : Loaded) → load_place s (access_of access) p ≡ Ok r
       → may_be_null world.notes (live_memory world a) (depth fs) p ≡ false
-  no_null access (place.Object c false) r e = refl
   no_null access (place.Object c true) r e = absurd (go (loads (access_of access) c) e)
     where
       go : (b : Bool) → (if b then (if true then Err rule.Null else known ty.Any) else Err rule.Address) ≡ Ok r → ⊥
       go true e = absurd cc
       go false e = absurd cc
-  no_null access (place.Local x c) r e = refl
-  no_null access (place.Parameter k t) r e = refl
-  no_null access (place.ThunkCell i) r e = refl
+  no_null access p r e = refl
 
   -- ---- through a register
 
@@ -148,52 +125,35 @@ module _ (world : World) (a : Config) (f : FunctionFrame) (fs : List Frame) (not
   weaker : (g : ℕ) (v : Neutral) → FitsHere (ty.SignedStatus g) v → FitsHere (ty.SignedStatus 0) v
   weaker g v h = ⊎_elim (λ e. inl e) (λ q. inr (q.0, λ x i. absurd (omega (arith, i)))) h
 
+  -- a status that is loaded with its sign
+  signed_status : (x : ℕ) (v : Neutral) (r : Loaded) → known (ty.SignedStatus 0) ≡ Ok r → IsBounded (ty.Status x)
+      → FitsHere (ty.Status x) v → FitsHere r.ty (sign_extended (kept_natural world.notes (live_memory world a).objects v))
+  signed_status x v r e b h =
+      let ok = objects world a f fs note s st in
+      subst (λ z. FitsHere z (sign_extended (kept_natural world.notes (live_memory world a).objects v)))
+      (loaded_ty (ty.SignedStatus 0) r e) (weaker x _ (signed_fits world.notes (live_memory world a) ok (depth fs) f.saved (ty.Status x) _
+      (natural_fits world.notes (live_memory world a) ok (depth fs) f.saved (ty.Status x) v b h)))
+
   parameter_value : (access : Access) (k : SlotKind) (t : Ty) (v : Neutral) (o : Option StackItem) (r : Loaded) → o ≡ Some (Pushed k v)
       → GoodParam (record { kind = k; ty = t }) → FitsHere t v → parameter_load (access_of access) k t ≡ Ok r
       → (slot_value access o ≡ Some v) × FitsHere r.ty (finish access (kept world.notes (live_memory world a).objects access v))
   parameter_value (Move sizes.Byte) N t v o r e g h q = absurd (err_ok rule.Address r q)
-  parameter_value (Move sizes.Byte) Q t v o r e g h q = absurd (err_ok rule.Address r q)
-  parameter_value (Move sizes.Byte) D t v o r e g h q = absurd (err_ok rule.Address r q)
   parameter_value (Move sizes.Word) N t v o r e g h q = absurd (err_ok rule.Address r q)
-  parameter_value (Move sizes.Word) Q t v o r e g h q = absurd (err_ok rule.Address r q)
-  parameter_value (Move sizes.Word) D t v o r e g h q = absurd (err_ok rule.Address r q)
   parameter_value (Move sizes.Dword) N t v o r e g h q = absurd (err_ok rule.Address r q)
-  parameter_value (Move sizes.Dword) Q t v o r e g h q = absurd (err_ok rule.Address r q)
-  parameter_value (Move sizes.Dword) D t v o r e g h q = absurd (err_ok rule.Address r q)
-  parameter_value (Move sizes.Qword) N t v o r e g h q = absurd (err_ok rule.Address r q)
   parameter_value (Move sizes.Qword) Q t v o r e g h q = (
     ap (slot_value (Move sizes.Qword)) e,
     subst (λ z. FitsHere z v) (loaded_ty t r q) h,
   )
-  parameter_value (Move sizes.Qword) D t v o r e g h q = absurd (err_ok rule.Address r q)
   parameter_value (Move sizes.Natural) N t v o r e g h q = (
     ap (slot_value (Move sizes.Natural)) e,
     subst (λ z. FitsHere z (kept_natural world.notes (live_memory world a).objects v)) (g.1 refl ∙ loaded_ty t r q)
         (natural_fits world.notes (live_memory world a) (objects world a f fs note s st) (depth fs) f.saved t v g.0 h),
   )
-  parameter_value (Move sizes.Natural) Q t v o r e g h q = absurd (err_ok rule.Address r q)
-  parameter_value (Move sizes.Natural) D t v o r e g h q = absurd (err_ok rule.Address r q)
   parameter_value (Form true) N t v o r e g h q = absurd (err_ok rule.Address r q)
-  parameter_value (Form true) Q t v o r e g h q = absurd (err_ok rule.Address r q)
-  parameter_value (Form true) D t v o r e g h q = absurd (err_ok rule.Address r q)
   parameter_value (Form false) N t v o r e g h q = absurd (err_ok rule.Address r q)
-  parameter_value (Form false) Q t v o r e g h q = absurd (err_ok rule.Address r q)
-  parameter_value (Form false) D t v o r e g h q = absurd (err_ok rule.Address r q)
-  parameter_value Signed N (ty.Status x) v o r e g h q = (
-    ap (slot_value Signed) e,
-    subst (λ z. FitsHere z (sign_extended (kept_natural world.notes (live_memory world a).objects v))) (loaded_ty (ty.SignedStatus 0) r q)
-        (weaker x _ (signed_fits world.notes (live_memory world a) (objects world a f fs note s st) (depth fs) f.saved (ty.Status x) _
-        (natural_fits world.notes (live_memory world a) (objects world a f fs note s st) (depth fs) f.saved (ty.Status x) v g.0 h))),
-  )
-  parameter_value Signed N _ v o r e g h q = absurd (err_ok rule.Address r q)
-  parameter_value Signed Q (ty.Status x) v o r e g h q = (
-    ap (slot_value Signed) e,
-    subst (λ z. FitsHere z (sign_extended (kept_natural world.notes (live_memory world a).objects v))) (loaded_ty (ty.SignedStatus 0) r q)
-        (weaker x _ (signed_fits world.notes (live_memory world a) (objects world a f fs note s st) (depth fs) f.saved (ty.Status x) _
-        (natural_fits world.notes (live_memory world a) (objects world a f fs note s st) (depth fs) f.saved (ty.Status x) v g.0 h))),
-  )
-  parameter_value Signed Q _ v o r e g h q = absurd (err_ok rule.Address r q)
-  parameter_value Signed D t v o r e g h q = absurd (err_ok rule.Address r q)
+  parameter_value Signed N (ty.Status x) v o r e g h q = (ap (slot_value Signed) e, signed_status x v r q g.0 h)
+  parameter_value Signed Q (ty.Status x) v o r e g h q = (ap (slot_value Signed) e, signed_status x v r q g.0 h)
+  parameter_value c k t v o r e g h q = absurd (err_ok rule.Address r q)
 
   on_stack : (access : Access) (p : Place) (l : Location) (r : Loaded)
       → OnStack world.notes (live_memory world a) (depth fs) f GoodParam (parameters_of world.notes a.frames) p l

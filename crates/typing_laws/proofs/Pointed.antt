@@ -1,47 +1,20 @@
 -- What the rules say that a pointer names is what the neutral machine finds there.
-use Rattle.std.proofs.Common.{◌≡◌, ℕ, ◌+◌, ◌*◌, ◌%◌, ◌^◌, ◌<◌, ◌≤◌, Bool, true, false, ◌&&◌, if◌then◌else◌, nat_lt, List, length, Option}
-use Rattle.std.proofs.Common.{Some, None, slice_get, refl, sym, ap, ap₂, ◌∙◌, subst, arith, option_and_then, ℤ, pos, ◌+ℤ◌}
-use Rattle.std.specs.Ordering.{int_eq}
-use Rattle.std.proofs.Math.Nat.{add-mod-mod}
-use Rattle.std.proofs.lemmas.Bool.{lt-ltb, and_parts, true≢false}
-use Rattle.std.proofs.lemmas.Bool.Decides.{Decides-int_eq}
-use Rattle.std.proofs.lemmas.List.Quantifiers.{position-Some}
-use Rattle.std.proofs.lemmas.Option.{same_Some, none-some, get_or_from_slice_get}
-use Rattle.ebc_width.specs.Width.{wrap64}
-use Rattle.note_types.specs.Cells.{IsBoundedCell}
-use Rattle.note_types.specs.Types.{IsBounded}
-use Rattle.note_types.specs.declared.cell.Cell.{Cell}
-use Rattle.note_types.specs.declared.notes.FnNote.{FnNote}
-use Rattle.note_types.specs.declared.notes.Notes.{Notes}
-use Rattle.note_types.specs.declared.shape.Field.{Field}
-use Rattle.note_types.specs.declared.shape.Shape.{Shape}
-use Rattle.note_types.specs.declared.types.Ty.{Ty}
-use Rattle.note_types.specs.declared.types.Ty.TheVariants.{Any, Int, Lin, Scaled, Ptr, Local, Lent, Status, SignedStatus, Mask, Handle}
-use Rattle.note_types.specs.declared.types.Ty.TheVariants.{Entry, Method, ThunkAt, Saved}
-use Rattle.rules_base.specs.declared.operand.Distance.{Distance}
-use Rattle.rules_base.specs.declared.place.Place.{Place}
-use Rattle.rules_base.specs.declared.place.Place.TheVariants as place
+use Rattle.typing_laws.proofs.Common.{◌≡◌, ℕ, ◌+◌, ◌*◌, ◌%◌, ◌^◌, ◌<◌, ◌≤◌, Bool, true, false, ◌&&◌, if◌then◌else◌, nat_lt, List, length}
+use Rattle.typing_laws.proofs.Common.{Option, Some, None, slice_get, refl, sym, ap, ap₂, ◌∙◌, subst, arith, option_and_then, ℤ, pos, ◌+ℤ◌}
+use Rattle.typing_laws.proofs.Common.{int_eq, add-mod-mod, lt-ltb, and_parts, true≢false, Decides-int_eq, position-Some, same_Some}
+use Rattle.typing_laws.proofs.Common.{none-some, get_or_from_slice_get, wrap64, IsBoundedCell, IsBounded, Cell, FnNote, Notes, Field, Shape}
+use Rattle.typing_laws.proofs.Common.{Ty, Ptr, Local, Lent, ThunkAt, Distance, Place, and_then, local_fields, cell_of, pointed}
+use Rattle.typing_laws.proofs.Common.{field_number_at, ObjectOf, ThunkOf, LocalOf, Neutral, Num, At, CellPlace, FieldOf, FieldOfLocals}
+use Rattle.typing_laws.proofs.Common.{word, Registers, shape_of, no_shape, Memory, field_in, IsPointer, Fits, CellsFit, sum_of, moved_by}
+use Rattle.typing_laws.proofs.Common.{Location, CellAt, Offset, located_past, only_if}
 use Rattle.rules_base.specs.declared.place.Reach.{Reach}
-use Rattle.rules_base.specs.Parts.{and_then}
-use Rattle.note_types.specs.Known.{local_fields}
-use Rattle.rules_base.specs.Places.{begins_at, cell_of, field_place, instance_field, is_nowhere, local_field, pointed, field_number_at}
-use Rattle.host_model.specs.Values.{Anchor, ObjectOf, ThunkOf, LocalOf, Neutral, Num, At, CellPlace, FieldOf, FieldOfLocals, word}
-use Rattle.neutral_machine.specs.Config.{Registers}
-use Rattle.host_model.specs.Objects.{shape_of, no_shape}
-use Rattle.neutral_machine.specs.Memory.{Memory}
+use Rattle.rules_base.specs.Places.{begins_at, field_place, instance_field, is_nowhere, local_field}
+use Rattle.host_model.specs.Values.{Anchor}
+use Rattle.typing_laws.proofs.{Rows.then_some, Rows.if_some, Rows.wrap_add, SumsFit.moved_pair, Objects.ObjectsFit, Located.IsFirstAt}
+use Rattle.typing_laws.proofs.Located.{field_located}
+use Rattle.rules_base.specs.declared.place.Place.TheVariants as place
 use Rattle.neutral_machine.specs.Memory as memory
-use Rattle.host_model.specs.HostPlans.{field_in}
-use Rattle.neutral_machine.specs.Fits.{IsPointer, Fits}
-use Rattle.invariant_laws.specs.Sound.{CellsFit}
-use Rattle.neutral_machine.specs.Operations.{sum_of}
-use Rattle.neutral_machine.specs.Operands.{moved_by}
-use Rattle.neutral_machine.specs.Locations.{Location, CellAt, Offset, located_past}
 use Rattle.neutral_machine.specs.Locations as locations
-use Rattle.typing_laws.proofs.Rows.{then_some, if_some, wrap_add}
-use Rattle.typing_laws.proofs.SumsFit.{moved_pair}
-use Rattle.typing_laws.proofs.Objects.{ObjectsFit}
-use Rattle.typing_laws.proofs.Located.{IsFirstAt, field_located}
-use Rattle.ebc_base.specs.Steps.{only_if}
 
 -- what stands beside an operand is this distance
 abbrev pub IsBeside : Option Offset → Distance → Type 0
@@ -250,14 +223,4 @@ module _ (notes : Notes) (m : Memory) (ok : ObjectsFit notes m.objects) (cells :
   pointed_named (Local x) v b e p l i h f g q = local_named x v b e p h f g
   pointed_named (Lent cell) v b e p l i h f g q = lent_named cell v b e p l h f g
   pointed_named (ThunkAt j) v b e p l i h f g q = thunk_named j v b e p (i j refl) h f g
-  pointed_named Any v b e p l i h f g q = absurd (none-some p g)
-  pointed_named (Int lo hi div) v b e p l i h f g q = absurd (none-some p g)
-  pointed_named (Lin n c) v b e p l i h f g q = absurd (none-some p g)
-  pointed_named (Scaled n c hi) v b e p l i h f g q = absurd (none-some p g)
-  pointed_named (Status j) v b e p l i h f g q = absurd (none-some p g)
-  pointed_named (SignedStatus j) v b e p l i h f g q = absurd (none-some p g)
-  pointed_named Mask v b e p l i h f g q = absurd (none-some p g)
-  pointed_named Handle v b e p l i h f g q = absurd (none-some p g)
-  pointed_named Entry v b e p l i h f g q = absurd (none-some p g)
-  pointed_named (Method j) v b e p l i h f g q = absurd (none-some p g)
-  pointed_named (Saved j) v b e p l i h f g q = absurd (none-some p g)
+  pointed_named t v b e p l i h f g q = absurd (none-some p g)

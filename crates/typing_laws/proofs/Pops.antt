@@ -1,88 +1,34 @@
 -- The rows of the pops.
-use Rattle.std.proofs.Common.{◌≡◌, ◌≢◌, ℕ, ◌+◌, ◌-◌, ◌*◌, ◌%◌, ◌^◌, ◌<◌, Bool, true, false, ◌&&◌, if◌then◌else◌, nat_eq, List, [], ◌∷◌}
-use Rattle.std.proofs.Common.{Result, Ok, Err, slice_get, refl, sym, ap, ap₂, ◌∙◌, subst, arith}
-use Rattle.std.proofs.lemmas.Bool.{eqb-false, and_parts, false≢true}
-use Rattle.ebc_width.specs.Width.{wrap64}
-use Rattle.natural_index.specs.declared.Index.{Index}
-use Rattle.ebc_insn.specs.declared.Extra.{Extra}
-use Rattle.ebc_insn.specs.declared.Operand.{Operand}
-use Rattle.ebc_insn.specs.declared.Size.TheVariants as sizes
-use Rattle.note_types.specs.Known.{IsKnown}
-use Rattle.note_types.specs.States.{type_of}
-use Rattle.note_types.specs.Types.{IsBounded}
-use Rattle.note_types.specs.declared.notes.FnNote.{FnNote}
-use Rattle.note_types.specs.declared.rule.RuleName.{RuleName}
-use Rattle.note_types.specs.declared.rule.RuleName.TheVariants as rule
-use Rattle.note_types.specs.declared.state.State.{State}
-use Rattle.note_types.specs.declared.types.Ty.{Ty}
-use Rattle.note_types.specs.declared.types.Ty.TheVariants as ty
-use Rattle.ebc_base.specs.Steps.{or_else}
-use Rattle.rules_base.specs.Access.{known}
-use Rattle.rules_base.specs.Change.{changed}
-use Rattle.rules_base.specs.Destinations.{destination, put}
-use Rattle.rules_base.specs.Operands.{with_immediate}
-use Rattle.rules_base.specs.Outcomes.{beside, gives_map}
-use Rattle.rules_base.specs.Parts.{constant}
-use Rattle.rules_base.specs.declared.change.Change.{Change}
-use Rattle.rules_base.specs.declared.change.Change.TheVariants as change
-use Rattle.rules_base.specs.declared.destination.Destination.{Destination}
-use Rattle.rules_base.specs.declared.destination.Destination.TheVariants as dests
-use Rattle.rules_laws.proofs.MovesKeep.{wrap_below}
-use Rattle.neutral_machine.specs.Config.{FunctionFrame, Frame, Config, depth}
-use Rattle.neutral_machine.specs.Fits.{Fits}
-use Rattle.neutral_machine.specs.Locations.{Access, Move, Form, kept}
-use Rattle.neutral_machine.specs.Outcomes.{Outcome, Gives, Raises, Stuck, ◌>>=◌}
-use Rattle.host_model.specs.Values.{Neutral, number, word}
-use Rattle.host_model.specs.World.{World}
-use Rattle.neutral_machine.specs.Operands.{moved_by, with_register, written}
-use Rattle.neutral_machine.specs.Rows.{goes}
-use Rattle.neutral_machine.specs.Rows as rows
-use Rattle.invariant_laws.specs.Accepts.{Accepts}
-use Rattle.invariant_laws.specs.Live.{live_memory}
-use Rattle.typing_laws.proofs.Accesses.{access_of}
-use Rattle.typing_laws.proofs.Rows.{same_fits, err_ok, ok_same}
-use Rattle.typing_laws.proofs.Stores.{Within}
-use Rattle.typing_laws.proofs.ArithRow.{GoesOn, accepts_is, accepts_then, beside_ok, goes_on}
-use Rattle.typing_laws.proofs.Context.{TopSound}
-use Rattle.typing_laws.proofs.Operands.{FitsHere, then_ok}
-use Rattle.typing_laws.proofs.Written.{result_left}
-use Rattle.ebc_insn.specs.declared.Extra.TheVariants.{Nothing, Imm, Idx}
-use Rattle.note_types.specs.declared.cell.SlotKind.{SlotKind}
-use Rattle.note_types.specs.declared.cell.SlotKind.TheVariants.{N, Q, D}
-use Rattle.rules_base.specs.Access.{target_at}
-use Rattle.rules_base.specs.Operands.{extra_distance}
-use Rattle.rules_base.specs.Places.{place_at}
-use Rattle.neutral_machine.specs.Operands.{beside_extra, extra_pair}
-use Rattle.typing_laws.proofs.ArithRow.{BesideFits}
-use Rattle.typing_laws.proofs.DataRest.{wraps}
-use Rattle.ebc_width.specs.Width.{extended_at}
-use Rattle.note_types.specs.BelowTests.{same_kind}
-use Rattle.note_types.specs.declared.items.Item.{Item}
-use Rattle.note_types.specs.declared.items.Item.TheVariants as item
-use Rattle.rules_base.specs.Access.{target_at, target_place}
-use Rattle.rules_base.specs.Places.{pointed, from_stack, locals_size}
-use Rattle.note_types.specs.Known.{local_fields}
-use Rattle.rules_base.specs.Parts.{is_int_below}
-use Rattle.rules_flow.specs.Frames.{below_top, is_popped, pop_destination, popped_type, slot_access, top_type, without_top}
-use Rattle.rules_flow.specs.Frames as rules_flow
-use Rattle.rules_flow.specs.Flow.{slot_kind}
-use Rattle.rules_flow.specs.declared.successors.Successors.{Successors}
-use Rattle.rules_laws.proofs.FramesKeep.{without_top-keeps}
-use Rattle.neutral_machine.specs.Config.{StackItem, Pushed, LocalsOf}
-use Rattle.neutral_machine.specs.FitsState.{ItemFits, FitsState}
-use Rattle.neutral_machine.specs.Layout.{height}
-use Rattle.neutral_machine.specs.Operations.{extended, kept_natural}
-use Rattle.neutral_machine.specs.Rows.{pop_natural_row, pop_row, popped, taken, taken_from, with_items}
-use Rattle.std.specs.List.{AllZip}
-use Rattle.std.proofs.lemmas.Bool.{lt-ltb, ltb-true}
-use Rattle.invariant_laws.specs.Sound.{KeepsWithin, SlotsKept}
-use Rattle.typing_laws.proofs.SumsFit.{sum_fits}
-use Rattle.typing_laws.proofs.DataRest.{register_goes}
+use Rattle.typing_laws.proofs.Common.{◌≡◌, ◌≢◌, ℕ, ◌+◌, ◌-◌, ◌*◌, ◌%◌, ◌^◌, ◌<◌, Bool, true, false, ◌&&◌, if◌then◌else◌, nat_eq, List, []}
+use Rattle.typing_laws.proofs.Common.{◌∷◌, Result, Ok, Err, slice_get, refl, sym, ap, ap₂, ◌∙◌, subst, arith, eqb-false, and_parts}
+use Rattle.typing_laws.proofs.Common.{false≢true, wrap64, Index, Extra, Operand, IsKnown, type_of, IsBounded, FnNote, RuleName, State, Ty}
+use Rattle.typing_laws.proofs.Common.{or_else, known, changed, destination, put, with_immediate, beside, gives_map, constant, Change}
+use Rattle.typing_laws.proofs.Common.{Destination, wrap_below, FunctionFrame, Frame, Config, depth, Fits, Access, Move, Form, kept, Outcome}
+use Rattle.typing_laws.proofs.Common.{Gives, Raises, Stuck, ◌>>=◌, Neutral, number, word, World, moved_by, with_register, written, goes}
+use Rattle.typing_laws.proofs.Common.{Accepts, live_memory, Nothing, Imm, Idx, SlotKind, N, Q, D, target_at, extra_distance, place_at}
+use Rattle.typing_laws.proofs.Common.{beside_extra, extra_pair, same_kind, Item, target_place, pointed, from_stack, locals_size}
+use Rattle.typing_laws.proofs.Common.{local_fields, is_int_below, pop_destination, popped_type, slot_access, top_type, slot_kind}
+use Rattle.typing_laws.proofs.Common.{Successors, StackItem, Pushed, LocalsOf, ItemFits, FitsState, height, kept_natural, with_items}
+use Rattle.typing_laws.proofs.Common.{AllZip, lt-ltb, ltb-true, KeepsWithin, SlotsKept, Registers, locals_among, same_kind-equal}
+use Rattle.typing_laws.proofs.ArithRow.{GoesOn, accepts_is, accepts_then, beside_ok, goes_on, BesideFits}
 use Rattle.typing_laws.proofs.ItemsChanged.{below_after, fits_after, items_after, top_after, top_keeps}
-use Rattle.typing_laws.proofs.Pushes.{FallsOn, kind_same}
+use Rattle.typing_laws.proofs.{Accesses.access_of, Rows.same_fits, Rows.err_ok, Rows.ok_same, Stores.Within, Context.TopSound}
+use Rattle.typing_laws.proofs.{Operands.FitsHere, Operands.then_ok, Written.result_left, DataRest.wraps, DataRest.register_goes}
+use Rattle.typing_laws.proofs.{SumsFit.sum_fits, Pushes.FallsOn, Pushes.kind_same}
+use Rattle.ebc_width.specs.Width.{extended_at}
+use Rattle.rules_flow.specs.Frames.{below_top, is_popped, without_top}
+use Rattle.rules_laws.proofs.FramesKeep.{without_top-keeps}
+use Rattle.neutral_machine.specs.Rows.{pop_natural_row, pop_row, popped, taken, taken_from}
+use Rattle.neutral_machine.specs.Operations.{extended}
+use Rattle.ebc_insn.specs.declared.Size.TheVariants as sizes
+use Rattle.note_types.specs.declared.rule.RuleName.TheVariants as rule
+use Rattle.note_types.specs.declared.types.Ty.TheVariants as ty
+use Rattle.rules_base.specs.declared.change.Change.TheVariants as change
+use Rattle.rules_base.specs.declared.destination.Destination.TheVariants as dests
+use Rattle.neutral_machine.specs.Rows as rows
+use Rattle.note_types.specs.declared.items.Item.TheVariants as item
+use Rattle.rules_flow.specs.Frames as rules_flow
 use Rattle.ebc_base.specs.Steps as steps
-use Rattle.neutral_machine.specs.Config.{Registers, locals_among}
-use Rattle.note_types.proofs.SameLaws.{same_kind-equal}
 
 -- a number below 2 ^ 31 is its own sign extension
 small_extended : (x : ℕ) → x < 2 ^ 31 → extended_at 4 (word x) ≡ x
@@ -95,20 +41,7 @@ extended_fits (ty.Int lo hi div) v world a d saved e h =
     let l : h.x < 2 ^ 31 = (let q = ltb-true hi (2 ^ 31) e in omega (arith, q, h.to)) in
     subst (Fits world.notes (live_memory world a) d saved (ty.Int lo hi div))
     (sym (ap extended h.is ∙ ap number (small_extended h.x l) ∙ sym h.is)) h
-extended_fits ty.Any v world a d saved e h = absurd (false≢true e)
-extended_fits (ty.Lin n c) v world a d saved e h = absurd (false≢true e)
-extended_fits (ty.Scaled n c hi) v world a d saved e h = absurd (false≢true e)
-extended_fits (ty.Ptr q k n c may) v world a d saved e h = absurd (false≢true e)
-extended_fits (ty.Local x) v world a d saved e h = absurd (false≢true e)
-extended_fits (ty.Lent cl) v world a d saved e h = absurd (false≢true e)
-extended_fits (ty.Status g) v world a d saved e h = absurd (false≢true e)
-extended_fits (ty.SignedStatus g) v world a d saved e h = absurd (false≢true e)
-extended_fits ty.Mask v world a d saved e h = absurd (false≢true e)
-extended_fits ty.Handle v world a d saved e h = absurd (false≢true e)
-extended_fits ty.Entry v world a d saved e h = absurd (false≢true e)
-extended_fits (ty.Method q) v world a d saved e h = absurd (false≢true e)
-extended_fits (ty.ThunkAt q) v world a d saved e h = absurd (false≢true e)
-extended_fits (ty.Saved q) v world a d saved e h = absurd (false≢true e)
+extended_fits t v world a d saved e h = absurd (false≢true e)
 
 -- a part, and what needs it
 abbrev steps_bind : {A B : Type 0} → Result A RuleName → (A → Result B RuleName) → Result B RuleName
@@ -132,23 +65,8 @@ given_back world a Q v = v
 given_back world a D v = extended v
 
 within_popped : (kind : SlotKind) (t : Ty) → is_popped kind t ≡ true → Within (access_of (pop_access kind)) t
-within_popped N t e = tt
-within_popped Q t e = tt
 within_popped D (ty.Int lo hi div) e = let l = ltb-true hi (2 ^ 31) e in omega (arith, l)
-within_popped D ty.Any e = tt
-within_popped D (ty.Lin n c) e = tt
-within_popped D (ty.Scaled n c hi) e = tt
-within_popped D (ty.Ptr q k n c may) e = tt
-within_popped D (ty.Local x) e = tt
-within_popped D (ty.Lent cl) e = tt
-within_popped D (ty.Status g) e = tt
-within_popped D (ty.SignedStatus g) e = tt
-within_popped D ty.Mask e = tt
-within_popped D ty.Handle e = tt
-within_popped D ty.Entry e = tt
-within_popped D (ty.Method q) e = tt
-within_popped D (ty.ThunkAt q) e = tt
-within_popped D (ty.Saved q) e = tt
+within_popped y t e = tt
 
 module _ (world : World) (a : Config) (f : FunctionFrame) (fs : List Frame) (note : FnNote) (s : State)
     (st : TopSound world a f fs note s) where

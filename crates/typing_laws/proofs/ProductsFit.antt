@@ -1,32 +1,20 @@
 -- The rows of differences and products are sound.
-use Rattle.std.proofs.Common.{◌≡◌, ℕ, zero, suc, ◌+◌, ◌-◌, ◌*◌, ◌%◌, ◌^◌, ◌<◌, ◌≤◌, Bool, true, false, ◌&&◌, if◌then◌else◌, nat_lt, nat_le}
-use Rattle.std.proofs.Common.{Some, None, refl, sym, ap, ap₂, ◌∙◌, subst, arith, mod-eq_of_lt, mul_comm, le_refl, ℤ, pos, negsuc, int_le}
-use Rattle.std.proofs.Common.{unsigned_abs}
-use Rattle.std.proofs.Math.Nat.{dvd-sub, dvd_trans, mul-dvd-mul_right, mul-le-mul_right}
-use Rattle.std.proofs.lemmas.Bool.{ltb-true, leb-true, and_parts, false≢true}
-use Rattle.std.proofs.lemmas.Option.{same_Some, none-some}
-use Prim.Native.Nat.{◌∣◌}
-use Rattle.note_types.specs.Types.{IsBounded}
-use Rattle.note_types.specs.declared.notes.Notes.{Notes}
-use Rattle.note_types.specs.declared.types.Ty.{Ty}
-use Rattle.note_types.specs.declared.types.Ty.TheVariants.{Int, Lin, Scaled, Handle, Entry, Method}
-use Rattle.rules_base.specs.declared.parts.Span.{Span}
+use Rattle.typing_laws.proofs.Common.{◌≡◌, ℕ, zero, suc, ◌+◌, ◌-◌, ◌*◌, ◌%◌, ◌^◌, ◌<◌, ◌≤◌, Bool, true, false, ◌&&◌, if◌then◌else◌, nat_lt}
+use Rattle.typing_laws.proofs.Common.{nat_le, Some, None, refl, sym, ap, ap₂, ◌∙◌, subst, arith, mod-eq_of_lt, le_refl, ℤ, pos, negsuc}
+use Rattle.typing_laws.proofs.Common.{int_le, unsigned_abs, dvd-sub, dvd_trans, mul-le-mul_right, ltb-true, leb-true, and_parts, false≢true}
+use Rattle.typing_laws.proofs.Common.{same_Some, none-some, ◌∣◌, IsBounded, Notes, Ty, Int, Lin, Scaled, Span, option_or, and_then}
+use Rattle.typing_laws.proofs.Common.{constant, constant_of, divisor_of, full, lin_of, near_offset, span_of, shared, sum, product, Neutral}
+use Rattle.typing_laws.proofs.Common.{Num, At, number, pair, word, Registers, Memory, IsNumber, Fits, sum_of, product_of, only_if}
+use Rattle.std.proofs.{Common.mul_comm, Math.Nat.mul-dvd-mul_right}
 use Rattle.rules_base.specs.declared.parts.Offset.{Offset}
-use Rattle.std.specs.Option.{option_or}
-use Rattle.rules_base.specs.Parts.{and_then, constant, constant_of, divisor_of, full, lin_of, near_offset, span_of}
-use Rattle.rules_base.specs.Sums.{shared, sum, constant_difference, taken, int_difference, is_moved, small_negative, offset_difference}
-use Rattle.rules_base.specs.Sums.{difference, constant_product, divisor_within, times, multiple, scaled, lin_product, int_product, product}
-use Rattle.host_model.specs.Values.{Neutral, Num, At, Handle, Method, Entry, Error, SignedError, Junk, number, pair, word}
-use Rattle.neutral_machine.specs.Config.{Registers}
-use Rattle.neutral_machine.specs.Memory.{Memory}
-use Rattle.neutral_machine.specs.Fits.{IsNumber, Fits}
-use Rattle.neutral_machine.specs.Operations.{sum_of, difference_of, product_of}
+use Rattle.rules_base.specs.Sums.{constant_difference, taken, int_difference, is_moved, small_negative, offset_difference, difference}
+use Rattle.rules_base.specs.Sums.{constant_product, divisor_within, times, multiple, scaled, lin_product, int_product}
+use Rattle.neutral_machine.specs.Operations.{difference_of}
 use Rattle.typing_laws.proofs.Rows.{then_some, if_some, one_divides, DividesBoth, shared_divides, divisor_divides, span_word, constant_word}
 use Rattle.typing_laws.proofs.Rows.{span_fits, constant_fits, lin_fits, number_fits, word_fits, RowFits, or_fits, any_fits, two_spans}
 use Rattle.typing_laws.proofs.Rows.{two_constants}
 use Rattle.typing_laws.proofs.SumsFit.{sum_fits}
 use Rattle.ebc_width.specs.Width.{distance_of}
-use Rattle.ebc_base.specs.Steps.{only_if}
 
 -- ---- values
 
@@ -34,12 +22,7 @@ use Rattle.ebc_base.specs.Steps.{only_if}
 less_is : (v : Neutral) (k : ℕ) → k < 2 ^ 64 → sum_of v (number (distance_of 0 k)) ≡ difference_of v (number k)
 less_is (Num n c) k l = ap₂ Num (omega arith) (omega (arith, l))
 less_is (At a n c) k l = ap₂ (At a) (omega arith) (omega (arith, l))
-less_is (Handle j) k l = refl
-less_is (Method j) k l = refl
-less_is (Entry j) k l = refl
-less_is (Error j) k l = refl
-less_is (SignedError j) k l = refl
-less_is Junk k l = refl
+less_is v k l = refl
 
 -- the product of plain numbers
 pub numbers_times : (x y : ℕ) → x < 2 ^ 64 → y < 2 ^ 64 → product_of (number x) (number y) ≡ number (word (x * y))

@@ -1,38 +1,16 @@
 -- A slot that is pushed leaves a configuration sound.
-use Rattle.std.proofs.Common.{◌≡◌, ℕ, ◌+◌, ◌*◌, ◌≤◌, true, nat_lt, nat_le, List, [], ◌∷◌, length, Some, count_by, refl, sym, ap, ap₂, ◌∙◌}
-use Rattle.std.proofs.Common.{subst, arith, inl, inr, ⊎_elim, ◌⊎◌}
-use Rattle.std.specs.List.{AllZip}
-use Rattle.std.proofs.lemmas.Bool.{and_parts, leb-true}
-use Rattle.note_types.specs.declared.cell.SlotKind.{SlotKind}
-use Rattle.note_types.specs.declared.cell.SlotKind.TheVariants.{N, Q, D}
-use Rattle.note_types.specs.declared.items.Item.{Item}
-use Rattle.note_types.specs.declared.items.Item.TheVariants as item
-use Rattle.note_types.specs.declared.notes.FnNote.{FnNote}
-use Rattle.note_types.specs.declared.notes.Notes.{Notes}
-use Rattle.note_types.specs.declared.notes.Pair.{Pair}
-use Rattle.note_types.specs.declared.shape.Shape.{Shape}
-use Rattle.note_types.specs.declared.state.State.{State}
-use Rattle.note_types.specs.declared.types.Ty.{Ty}
-use Rattle.note_types.specs.declared.types.Ty.TheVariants as ty
-use Rattle.rules_base.specs.Places.{locals_size}
+use Rattle.typing_laws.proofs.Common.{◌≡◌, ℕ, ◌+◌, ◌*◌, ◌≤◌, true, nat_lt, nat_le, List, [], ◌∷◌, length, Some, count_by, refl, sym, ap}
+use Rattle.typing_laws.proofs.Common.{ap₂, ◌∙◌, subst, arith, inl, inr, ⊎_elim, ◌⊎◌, AllZip, and_parts, leb-true, SlotKind, N, Q, D, Item}
+use Rattle.typing_laws.proofs.Common.{FnNote, Notes, Pair, Shape, State, Ty, locals_size, at, has_room, item_size, items_size, with_item}
+use Rattle.typing_laws.proofs.Common.{Neutral, StackItem, Pushed, LocalsOf, FunctionFrame, Frame, Config, depth, World, frame_locals}
+use Rattle.typing_laws.proofs.Common.{pair_at, slot_bytes, height, live_memory, Memory, ItemFits, SlotsKept, Gives, pushed, with_items}
+use Rattle.typing_laws.proofs.Common.{kept_natural}
 use Rattle.note_types.specs.Known.{is_slot}
-use Rattle.rules_flow.specs.Frames.{at, has_room, item_size, items_size, one_slot, plus, with_item}
-use Rattle.host_model.specs.Values.{Neutral}
-use Rattle.neutral_machine.specs.Config.{StackItem, Pushed, LocalsOf, FunctionFrame, Frame, Config, depth}
-use Rattle.host_model.specs.World.{World, frame_locals}
-use Rattle.host_model.specs.Placements.{pair_at, slot_bytes}
-use Rattle.neutral_machine.specs.Layout.{height}
-use Rattle.invariant_laws.specs.Live.{live_memory}
-use Rattle.neutral_machine.specs.Memory.{Memory}
-use Rattle.neutral_machine.specs.FitsState.{ItemFits}
-use Rattle.invariant_laws.specs.Sound.{SlotsKept}
-use Rattle.neutral_machine.specs.Outcomes.{Gives}
-use Rattle.neutral_machine.specs.Rows.{pushed, with_items}
-use Rattle.neutral_machine.specs.Operations.{kept_natural}
+use Rattle.rules_flow.specs.Frames.{one_slot, plus}
 use Rattle.typing_laws.proofs.ItemsChanged.{top_keeps, top_after, fits_after, items_after, below_after}
-use Rattle.typing_laws.proofs.Context.{TopSound, sizes_same}
-use Rattle.typing_laws.proofs.Operands.{FitsHere}
-use Rattle.typing_laws.proofs.Written.{After}
+use Rattle.typing_laws.proofs.{Context.TopSound, Context.sizes_same, Operands.FitsHere, Written.After}
+use Rattle.note_types.specs.declared.items.Item.TheVariants as item
+use Rattle.note_types.specs.declared.types.Ty.TheVariants as ty
 
 -- ---- heights
 
@@ -41,12 +19,7 @@ pub slot_same : (w : ℕ) (k : SlotKind) (l : SlotKind) (v : Neutral) → k ≡ 
 slot_same w N N v e = omega arith
 slot_same w Q Q v e = omega arith
 slot_same w D D v e = omega arith
-slot_same w N Q v e = absurd cc
-slot_same w N D v e = absurd cc
-slot_same w Q N v e = absurd cc
-slot_same w Q D v e = absurd cc
-slot_same w D N v e = absurd cc
-slot_same w D Q v e = absurd cc
+slot_same w c t v e = absurd cc
 
 at_plus : (w : ℕ) (a b : Pair) → at w (plus a b) ≡ at w a + at w b
 at_plus w a b = omega arith

@@ -1,61 +1,25 @@
 -- The rows of the pushes and the pops.
-use Rattle.std.proofs.Common.{◌≡◌, ℕ, ◌<◌, Bool, true, false, if◌then◌else◌, nat_eq, List, ◌∷◌, Some, Ok, Err, IfOk, refl, sym, ap}
-use Rattle.std.proofs.Common.{subst, arith}
-use Rattle.std.proofs.lemmas.Bool.{eqb-false}
-use Rattle.ebc_insn.specs.declared.Extra.{Extra}
-use Rattle.ebc_insn.specs.declared.Operand.{Operand}
+use Rattle.typing_laws.proofs.Common.{◌≡◌, ℕ, ◌<◌, Bool, true, false, if◌then◌else◌, nat_eq, List, ◌∷◌, Some, Ok, Err, IfOk, refl, sym, ap}
+use Rattle.typing_laws.proofs.Common.{subst, arith, eqb-false, Extra, Operand, IsKnown, IsNotes, type_of, FnNote, State, Ty, known, load_at}
+use Rattle.typing_laws.proofs.Common.{with_immediate, Loaded, FunctionFrame, Frame, Config, depth, Move, Form, located_on_stack, Outcome}
+use Rattle.typing_laws.proofs.Common.{Gives, ◌>>=◌, Neutral, World, direct_value, loaded_by, local_at_location, moved_by, offset_of, value}
+use Rattle.typing_laws.proofs.Common.{goes, Accepts, live_memory, SlotKind, N, Q, D, extra_distance, operand_value, operand_value-known}
+use Rattle.typing_laws.proofs.Common.{beside_extra, extra_pair, same_kind, also, needs, has_room, slot_access, with_item, slot_kind, falls}
+use Rattle.typing_laws.proofs.Common.{Successors, Pushed, kept_natural, narrowed, pushed, with_items}
+use Rattle.typing_laws.proofs.ArithRow.{GoesOn, accepts_is, accepts_then, goes_on, BesideFits, immediate_fits, also_ok, right_fits}
+use Rattle.typing_laws.proofs.{Rows.err_ok, Rows.ok_same, Context.TopSound, Context.known_params, Context.objects, Operands.FitsHere}
+use Rattle.typing_laws.proofs.{Operands.then_ok, Operands.load_fits, KeptFit.low_fits, KeptFit.natural_fits, MoveValues.natural_twice}
+use Rattle.typing_laws.proofs.{PushFits.push_fits, ArgumentsPass.needs_true}
+use Rattle.rules_flow.specs.Frames.{slot_type}
+use Rattle.neutral_machine.specs.Rows.{push_natural_row, push_row}
 use Rattle.ebc_insn.specs.declared.Size.TheVariants as sizes
-use Rattle.note_types.specs.Known.{IsKnown}
-use Rattle.note_types.specs.Records.{IsNotes}
-use Rattle.note_types.specs.States.{type_of}
-use Rattle.note_types.specs.declared.notes.FnNote.{FnNote}
 use Rattle.note_types.specs.declared.rule.RuleName.TheVariants as rule
-use Rattle.note_types.specs.declared.state.State.{State}
-use Rattle.note_types.specs.declared.types.Ty.{Ty}
 use Rattle.note_types.specs.declared.types.Ty.TheVariants as ty
-use Rattle.rules_base.specs.Access.{known, load_at}
-use Rattle.rules_base.specs.Operands.{with_immediate}
-use Rattle.rules_base.specs.declared.access.Loaded.{Loaded}
-use Rattle.neutral_machine.specs.Config.{FunctionFrame, Frame, Config, depth}
-use Rattle.neutral_machine.specs.Locations.{Move, Form, located_on_stack}
-use Rattle.neutral_machine.specs.Outcomes.{Outcome, Gives, ◌>>=◌}
-use Rattle.host_model.specs.Values.{Neutral}
-use Rattle.host_model.specs.World.{World}
-use Rattle.neutral_machine.specs.Operands.{direct_value, loaded_by, local_at_location, moved_by, offset_of, value}
-use Rattle.neutral_machine.specs.Rows.{goes}
 use Rattle.neutral_machine.specs.Rows as rows
-use Rattle.invariant_laws.specs.Accepts.{Accepts}
-use Rattle.invariant_laws.specs.Live.{live_memory}
-use Rattle.typing_laws.proofs.Rows.{err_ok, ok_same}
-use Rattle.typing_laws.proofs.ArithRow.{GoesOn, accepts_is, accepts_then, goes_on}
-use Rattle.typing_laws.proofs.Context.{TopSound, known_params, objects}
-use Rattle.typing_laws.proofs.Operands.{FitsHere, then_ok}
-use Rattle.note_types.specs.declared.cell.SlotKind.{SlotKind}
-use Rattle.note_types.specs.declared.cell.SlotKind.TheVariants.{N, Q, D}
-use Rattle.rules_base.specs.Operands.{extra_distance}
-use Rattle.rules_base.specs.Values.{operand_value}
 use Rattle.rules_base.specs.Values as rules_values
 use Rattle.rules_base.specs.declared.access.Access.TheVariants as access
-use Rattle.rules_laws.proofs.LoadsKeep.{operand_value-known}
-use Rattle.neutral_machine.specs.Operands.{beside_extra, extra_pair}
-use Rattle.typing_laws.proofs.ArithRow.{BesideFits, immediate_fits}
-use Rattle.typing_laws.proofs.Operands.{load_fits}
-use Rattle.note_types.specs.BelowTests.{same_kind}
 use Rattle.note_types.specs.declared.items.Item.TheVariants as item
-use Rattle.rules_base.specs.Outcomes.{also, needs}
-use Rattle.rules_flow.specs.Frames.{has_room, slot_access, slot_type, with_item}
 use Rattle.rules_flow.specs.Frames as rules_flow
-use Rattle.rules_flow.specs.Flow.{slot_kind}
-use Rattle.rules_flow.specs.Successors.{falls}
-use Rattle.rules_flow.specs.declared.successors.Successors.{Successors}
-use Rattle.neutral_machine.specs.Config.{Pushed}
-use Rattle.neutral_machine.specs.Operations.{kept_natural, narrowed}
-use Rattle.neutral_machine.specs.Rows.{push_natural_row, push_row, pushed, with_items}
-use Rattle.typing_laws.proofs.KeptFit.{low_fits, natural_fits}
-use Rattle.typing_laws.proofs.ArithRow.{also_ok, right_fits}
-use Rattle.typing_laws.proofs.MoveValues.{natural_twice}
-use Rattle.typing_laws.proofs.PushFits.{push_fits}
-use Rattle.typing_laws.proofs.ArgumentsPass.{needs_true}
 
 -- ---- successors
 

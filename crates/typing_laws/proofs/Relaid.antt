@@ -1,20 +1,9 @@
 -- What frames that change leave of the memory: the cells of objects, and the locals that are as they were.
-use Rattle.std.proofs.Common.{◌≡◌, ℕ, ◌<◌, is_some, if◌then◌else◌, List, Option, Some, None, slice_get, refl, sym, ap, ◌∙◌, subst}
-use Rattle.std.proofs.Common.{option_and_then}
-use Rattle.note_types.specs.Cells.{content_type}
-use Rattle.note_types.specs.declared.shape.Field.{Field}
-use Rattle.note_types.specs.declared.shape.Shape.{Shape}
-use Rattle.neutral_machine.specs.Config.{Config, locals_at}
-use Rattle.neutral_machine.specs.Fits.{FitsPlain}
-use Rattle.host_model.specs.HostPlans.{field_in}
-use Rattle.neutral_machine.specs.Memory.{memory_of, cell_field}
-use Rattle.host_model.specs.Objects.{made_objects}
-use Rattle.host_model.specs.declared.object.TypedObject.{TypedObject}
+use Rattle.typing_laws.proofs.Common.{◌≡◌, ℕ, ◌<◌, is_some, if◌then◌else◌, List, Option, Some, None, slice_get, refl, sym, ap, ◌∙◌, subst}
+use Rattle.typing_laws.proofs.Common.{option_and_then, content_type, Field, Shape, Config, locals_at, FitsPlain, field_in, memory_of}
+use Rattle.typing_laws.proofs.Common.{cell_field, made_objects, TypedObject, CellPlace, FieldOf, FieldOfLocals, World, live_memory}
+use Rattle.typing_laws.proofs.Common.{CellsFit}
 use Rattle.host_model.specs.Progress.{ScriptPlace}
-use Rattle.host_model.specs.Values.{CellPlace, FieldOf, FieldOfLocals}
-use Rattle.host_model.specs.World.{World}
-use Rattle.invariant_laws.specs.Live.{live_memory}
-use Rattle.invariant_laws.specs.Sound.{CellsFit}
 use Rattle.typing_laws.proofs.LiveCells.{live_held, live_there, LaterBelow}
 
 module _ (world : World) (a b : Config) (script : b.script ≡ a.script) (cells : b.cells ≡ a.cells) where

@@ -1,69 +1,39 @@
 -- The frames of a sound configuration lie on the stack: each host frame and what stands on it keeps within what its function
 -- takes, and the stack has nine times the most that such a function takes. So has what an instruction puts there that its rule
 -- accepts.
-use Rattle.std.proofs.Common.{◌≡◌, ℕ, zero, suc, ◌+◌, ◌*◌, ◌≤◌, ◌⊎◌, Bool, true, false, not, ◌&&◌, ◌||◌, if◌then◌else◌, is_none, is_some}
-use Rattle.std.proofs.Common.{nat_eq, nat_lt, List, [], ◌∷◌, length, Option, Some, None, Ok, Err, slice_get, refl, sym, ap, ap₂, ◌∙◌, subst}
-use Rattle.std.proofs.Common.{arith, inl, inr, ⊎_elim, le_refl, mul-le-mul, le_trans}
-use Rattle.std.specs.List.{AllZip, list_any}
-use Rattle.std.proofs.lemmas.Bool.{and_parts, eq-eqb, false≢true, ltb-false}
-use Rattle.std.proofs.lemmas.Option.{same_Some, none-some}
+use Rattle.typing_laws.proofs.Common.{◌≡◌, ℕ, zero, suc, ◌+◌, ◌*◌, ◌≤◌, ◌⊎◌, Bool, true, false, not, ◌&&◌, ◌||◌, if◌then◌else◌, is_none}
+use Rattle.typing_laws.proofs.Common.{is_some, nat_eq, nat_lt, List, [], ◌∷◌, length, Option, Some, None, Ok, Err, slice_get, refl, sym, ap}
+use Rattle.typing_laws.proofs.Common.{ap₂, ◌∙◌, subst, arith, inl, inr, ⊎_elim, le_refl, AllZip, list_any, and_parts, eq-eqb, false≢true}
+use Rattle.typing_laws.proofs.Common.{ltb-false, same_Some, none-some, Insn, Extra, Operand, signed, Index, is_locals, SlotKind, N, FnNote}
+use Rattle.typing_laws.proofs.Common.{Param, Shape, State, index_distance, locals_size, Change, data_row, call_size, call_to, fits_need}
+use Rattle.typing_laws.proofs.Common.{is_lower, flow_row, slot_kind, at, frame_row, has_room, is_size, items_size, make_row, target_of}
+use Rattle.typing_laws.proofs.Common.{falls, Successors, Site, StackItem, Pushed, LocalsOf, FunctionFrame, Frame, Function, Host, Config}
+use Rattle.typing_laws.proofs.Common.{hosts, locals_among, height, Memory, pair_at, return_cell, slot_bytes, null, World, frame_locals}
+use Rattle.typing_laws.proofs.Common.{live_memory, WorldTyped, StandsTyped, here_of, KeepsWithin, FrameBelow, ParamKind, FramesKeep}
+use Rattle.typing_laws.proofs.Common.{SoundBelow}
+use Rattle.std.proofs.Common.{mul-le-mul, le_trans}
 use Rattle.ebc_width.specs.Width.{IsWidth}
 use Rattle.ebc_width.proofs.Laws.{by_width}
-use Rattle.ebc_insn.specs.declared.Insn.{Insn}
-use Rattle.ebc_insn.specs.declared.Insn.TheVariants as insns
-use Rattle.ebc_insn.specs.declared.Extra.{Extra}
-use Rattle.ebc_insn.specs.declared.Operand.{Operand}
-use Rattle.natural_index.specs.Index.{signed}
-use Rattle.natural_index.specs.declared.Index.{Index}
-use Rattle.note_types.specs.Known.{is_locals}
-use Rattle.note_types.specs.declared.cell.SlotKind.{SlotKind}
-use Rattle.note_types.specs.declared.cell.SlotKind.TheVariants.{N}
-use Rattle.note_types.specs.declared.items.Item.TheVariants as item
-use Rattle.note_types.specs.declared.notes.FnNote.{FnNote}
-use Rattle.note_types.specs.declared.notes.Param.{Param}
-use Rattle.note_types.specs.declared.rule.RuleName.TheVariants as rule
-use Rattle.note_types.specs.declared.shape.Shape.{Shape}
-use Rattle.note_types.specs.declared.state.State.{State}
-use Rattle.note_types.specs.declared.types.Ty.TheVariants as ty
-use Rattle.rules_base.specs.Operands.{index_distance}
-use Rattle.rules_base.specs.Places.{locals_size}
-use Rattle.rules_base.specs.declared.change.Change.{Change}
-use Rattle.rules_data.specs.Data.{data_row}
-use Rattle.rules_flow.specs.Calls.{call_size, call_to, fits_need, is_lower}
-use Rattle.rules_flow.specs.Calls as rules_calls
-use Rattle.rules_flow.specs.Flow.{flow_row, slot_kind}
-use Rattle.rules_flow.specs.Frames.{at, frame_row, has_room, is_size, items_size, make_row, push_row}
-use Rattle.rules_flow.specs.Frames as rules_frames
-use Rattle.rules_flow.specs.Jumps.{target_of}
-use Rattle.rules_flow.specs.Successors.{falls}
-use Rattle.rules_flow.specs.declared.successors.Successors.{Successors}
-use Rattle.neutral_machine.specs.Room.{HasRoom, index_growth, locals_growth, size_if}
-use Rattle.neutral_machine.specs.Rows.{Site, form_kind}
-use Rattle.neutral_machine.specs.Config.{StackItem, Pushed, LocalsOf, FunctionFrame, Frame, Function, Host, Config, hosts, locals_among}
-use Rattle.neutral_machine.specs.Layout.{height, total}
-use Rattle.neutral_machine.specs.Memory.{Memory}
-use Rattle.host_model.specs.Placements.{frame_bytes, most_bytes, pair_at, params_bytes, return_cell, slot_bytes, stack_bytes}
-use Rattle.host_model.specs.Values.{null}
-use Rattle.host_model.specs.World.{World, frame_locals}
-use Rattle.invariant_laws.specs.Live.{live_memory}
-use Rattle.typing_laws.specs.OneRule.{WorldTyped, StandsTyped, here_of}
-use Rattle.invariant_laws.specs.Sound.{KeepsWithin, IsEntered, FrameBelow, ParamKind, FramesKeep, SoundBelow}
-use Rattle.typing_laws.proofs.Rows.{err_ok}
-use Rattle.typing_laws.proofs.Calls.{call_allowed}
-use Rattle.typing_laws.proofs.Context.{TopSound, sizes_same}
+use Rattle.rules_flow.specs.Frames.{push_row}
+use Rattle.neutral_machine.specs.{Room.HasRoom, Room.index_growth, Room.locals_growth, Room.size_if, Rows.form_kind, Layout.total}
+use Rattle.host_model.specs.Placements.{frame_bytes, most_bytes, params_bytes, stack_bytes}
+use Rattle.invariant_laws.specs.Sound.{IsEntered}
 use Rattle.typing_laws.proofs.DataTable.{change_found, no_row, not_stack_move, past_test, top_sound}
-use Rattle.typing_laws.proofs.FlowTable.{move_stack, row_found}
-use Rattle.typing_laws.proofs.Operands.{then_ok}
-use Rattle.typing_laws.proofs.PushFits.{room_within, slot_same, top_height}
+use Rattle.typing_laws.proofs.{Rows.err_ok, Calls.call_allowed, Context.TopSound, Context.sizes_same, FlowTable.move_stack}
+use Rattle.typing_laws.proofs.{FlowTable.row_found, Operands.then_ok, PushFits.room_within, PushFits.slot_same, PushFits.top_height}
 use Rattle.typing_laws.proofs.Pushes.{push_rule}
+use Rattle.ebc_insn.specs.declared.Insn.TheVariants as insns
+use Rattle.note_types.specs.declared.items.Item.TheVariants as item
+use Rattle.note_types.specs.declared.rule.RuleName.TheVariants as rule
+use Rattle.note_types.specs.declared.types.Ty.TheVariants as ty
+use Rattle.rules_flow.specs.Calls as rules_calls
+use Rattle.rules_flow.specs.Frames as rules_frames
 
 pub params_height : (w : ℕ) (is : List StackItem) (ps : List Param) → AllZip ParamKind is ps → height w is ≡ params_bytes w ps
 params_height w [] [] h = refl
-params_height w [] (p ∷ ps) h = absurd h
-params_height w (Pushed kind v ∷ is) [] h = absurd h
-params_height w (LocalsOf s ∷ is) [] h = absurd h
 params_height w (Pushed kind v ∷ is) (p ∷ ps) h = ap₂ (λ x y. x + y) (ap (slot_bytes w) h.0) (params_height w is ps h.1)
 params_height w (LocalsOf s ∷ is) (p ∷ ps) h = absurd h.0
+params_height w xs l h = absurd h
 
 pub within_at : (w : ℕ) (below : ℕ → ℕ) (note : FnNote) → IsWidth w → KeepsWithin below note → below w ≤ pair_at w note.need
 within_at w below note h k = by_width (λ v. below v ≤ pair_at v note.need) w h k.at4 k.at8
@@ -240,24 +210,10 @@ module _ (w : ℕ) (world : World) (a : Config) (f : FunctionFrame) (fs : List F
       subst (λ b. (if b then index_growth w world a ridx else 0) + total w a.frames ≤ stack_bytes w world.notes)
       (sym (not_stack_move world.notes note s size left right lidx ridx k
       (past_test (is_none site.reloc) _ rule.Relocation k e))) total_fits
-  data_room site (insns.Compare op wide left right extra) k e = total_fits
-  data_room site (insns.CompareImm op wide left idx long imm) k e = total_fits
-  data_room site (insns.Arith op wide left right extra) k e = total_fits
-  data_room site (insns.MoveSigned bits left right lidx extra) k e = total_fits
-  data_room site (insns.MoveImm size bits left lidx imm) k e = total_fits
-  data_room site (insns.MoveImmNatural bits left lidx idx) k e = total_fits
-  data_room site (insns.MoveRelative bits left lidx imm) k e = total_fits
-  data_room site (insns.StoreSpecial to special) k e = total_fits
-  data_room site (insns.Break code) k e = total_fits
-  data_room site (insns.Jump cond far relative op extra) k e = total_fits
-  data_room site (insns.Jump8 cond words) k e = total_fits
   data_room site (insns.Call far native relative op extra) k e = absurd (no_row (is_none site.reloc) rule.Form rule.Relocation k e)
-  data_room site insns.Ret k e = total_fits
-  data_room site (insns.LoadSpecial from) k e = total_fits
   data_room site (insns.Push wide op extra) k e = absurd (no_row (is_none site.reloc) rule.Form rule.Relocation k e)
-  data_room site (insns.Pop wide op extra) k e = total_fits
   data_room site (insns.PushNatural op extra) k e = absurd (no_row (is_none site.reloc) rule.Form rule.Relocation k e)
-  data_room site (insns.PopNatural op extra) k e = total_fits
+  data_room site c k e = total_fits
 
   push_room : (kind : SlotKind) (op : Operand) (extra : Extra) (x : Successors) → push_row world.notes note s kind op extra ≡ Ok x
       → slot_bytes w kind + total w a.frames ≤ stack_bytes w world.notes
@@ -281,26 +237,11 @@ module _ (w : ℕ) (world : World) (a : Config) (f : FunctionFrame) (fs : List F
       (push_room (slot_kind wide) op extra x (past_test (is_none site.reloc) _ rule.Relocation x e))
   flow_room site (insns.PushNatural op extra) x e = push_room N op extra x (past_test (is_none site.reloc) _ rule.Relocation x e)
   flow_room site (insns.Call far false relative op extra) x e = call_room site far relative op extra x e
-  flow_room site (insns.Call far true relative op extra) x e = total_fits
   flow_room site (insns.Move size bits left right lidx ridx) x e =
       let q = move_stack world.notes note s size left right ridx x (past_test (is_none site.reloc) _ rule.Relocation x e) in
       subst (λ b. (if b then index_growth w world a ridx else 0) + total w a.frames ≤ stack_bytes w world.notes) (sym q.0)
       (moved_room ridx x q.1)
-  flow_room site (insns.Compare op wide left right extra) x e = total_fits
-  flow_room site (insns.CompareImm op wide left idx long imm) x e = total_fits
-  flow_room site (insns.Arith op wide left right extra) x e = total_fits
-  flow_room site (insns.MoveSigned bits left right lidx extra) x e = total_fits
-  flow_room site (insns.MoveImm size bits left lidx imm) x e = total_fits
-  flow_room site (insns.MoveImmNatural bits left lidx idx) x e = total_fits
-  flow_room site (insns.MoveRelative bits left lidx imm) x e = total_fits
-  flow_room site (insns.StoreSpecial to special) x e = total_fits
-  flow_room site (insns.Break code) x e = total_fits
-  flow_room site (insns.Jump cond far relative op extra) x e = total_fits
-  flow_room site (insns.Jump8 cond words) x e = total_fits
-  flow_room site insns.Ret x e = total_fits
-  flow_room site (insns.LoadSpecial from) x e = total_fits
-  flow_room site (insns.Pop wide op extra) x e = total_fits
-  flow_room site (insns.PopNatural op extra) x e = total_fits
+  flow_room site c x e = total_fits
 
 -- The stack has room for what an instruction puts there that its rule accepts.
 pub room_fits : (w : ℕ) (world : World) (a : Config) (f : FunctionFrame) (fs : List Frame) (note : FnNote) (here : Site) (s : State)

@@ -1,28 +1,13 @@
 -- Parts of types that the rows look at, and the values that fit them.
-use Rattle.std.proofs.Common.{◌≡◌, ℕ, zero, suc, ◌+◌, ◌-◌, ◌%◌, ◌^◌, ◌<◌, ◌≤◌, Bool, true, false, ◌&&◌, if◌then◌else◌, nat_lt, nat_eq}
-use Rattle.std.proofs.Common.{Option, Some, None, Result, Ok, Err, refl, sym, ap, ap₂, ◌∙◌, subst, arith, add_comm, ℤ, pos, negsuc, ◌+ℤ◌}
-use Rattle.std.proofs.Math.Nat.{dvd_refl, dvd-zero, dvd_of_mod-eq-zero, dvd-mod_iff}
-use Rattle.std.proofs.lemmas.Bool.{ltb-true, ltb-false, eqb-true, cond_both}
-use Rattle.std.proofs.lemmas.Option.{same_Some, none-some}
-use Prim.Native.Nat.{◌∣◌}
-use Rattle.ebc_width.specs.Width.{wrap64}
-use Rattle.note_types.specs.Types.{IsBounded}
-use Rattle.note_types.specs.declared.notes.Notes.{Notes}
-use Rattle.note_types.specs.declared.rule.RuleName.{RuleName}
-use Rattle.note_types.specs.declared.types.Ty.{Ty}
-use Rattle.note_types.specs.declared.types.Ty.TheVariants.{Any, Int, Lin, Ptr}
-use Rattle.rules_base.specs.declared.parts.Span.{Span}
+use Rattle.typing_laws.proofs.Common.{◌≡◌, ℕ, zero, suc, ◌+◌, ◌-◌, ◌%◌, ◌^◌, ◌<◌, ◌≤◌, Bool, true, false, ◌&&◌, if◌then◌else◌, nat_lt}
+use Rattle.typing_laws.proofs.Common.{nat_eq, Option, Some, None, Result, Ok, Err, refl, sym, ap, ap₂, ◌∙◌, subst, arith, add_comm, ℤ, pos}
+use Rattle.typing_laws.proofs.Common.{negsuc, ◌+ℤ◌, dvd_of_mod-eq-zero, ltb-true, ltb-false, eqb-true, cond_both, same_Some, none-some, ◌∣◌}
+use Rattle.typing_laws.proofs.Common.{wrap64, IsBounded, Notes, RuleName, Ty, Any, Int, Lin, Ptr, Span, Pointer, option_or, and_then}
+use Rattle.typing_laws.proofs.Common.{constant, constant_of, divisor_of, full, is_near, lin_of, near_offset, pointer_of, span_of, shared}
+use Rattle.typing_laws.proofs.Common.{lin, or_any, Neutral, number, pair, word, Registers, Memory, IsNumber, IsPointer, Fits, only_if}
+use Rattle.std.proofs.Math.Nat.{dvd_refl, dvd-zero, dvd-mod_iff}
 use Rattle.rules_base.specs.declared.parts.Offset.{Offset}
-use Rattle.rules_base.specs.declared.parts.Pointer.{Pointer}
-use Rattle.std.specs.Option.{option_or}
-use Rattle.rules_base.specs.Parts.{and_then, constant, constant_of, single, divisor_of, full, is_near, lin_of, near_offset, offset_of}
-use Rattle.rules_base.specs.Parts.{pointer_of, signed, span_of}
-use Rattle.rules_base.specs.Sums.{at_least_one, euclid, gcd, shared, lin, or_any}
-use Rattle.host_model.specs.Values.{Neutral, number, pair, word}
-use Rattle.neutral_machine.specs.Config.{Registers}
-use Rattle.neutral_machine.specs.Memory.{Memory}
-use Rattle.neutral_machine.specs.Fits.{IsNumber, IsPointer, Fits}
-use Rattle.ebc_base.specs.Steps.{only_if}
+use Rattle.rules_base.specs.{Parts.single, Parts.offset_of, Parts.signed, Sums.at_least_one, Sums.euclid, Sums.gcd}
 
 -- ---- results and options
 

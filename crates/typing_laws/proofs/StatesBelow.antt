@@ -1,16 +1,9 @@
 -- A frame that fits a state fits each state above it.
-use Rattle.std.proofs.Common.{ℕ, Bool, List, [], ◌∷◌, sym, ◌∙◌}
-use Rattle.std.specs.List.{AllZip}
-use Rattle.std.proofs.lemmas.Option.{none-some}
+use Rattle.typing_laws.proofs.Common.{ℕ, Bool, List, [], ◌∷◌, sym, ◌∙◌, AllZip, none-some, Item, Notes, State, Registers, StackItem, Pushed}
+use Rattle.typing_laws.proofs.Common.{LocalsOf, FunctionFrame, Memory, ItemFits, FitsState}
 use Rattle.note_types.specs.States.{ItemBelow, StateBelow}
-use Rattle.note_types.specs.declared.items.Item.{Item}
-use Rattle.note_types.specs.declared.items.Item.TheVariants as item
-use Rattle.note_types.specs.declared.notes.Notes.{Notes}
-use Rattle.note_types.specs.declared.state.State.{State}
-use Rattle.neutral_machine.specs.Config.{Registers, StackItem, Pushed, LocalsOf, FunctionFrame}
-use Rattle.neutral_machine.specs.Memory.{Memory}
-use Rattle.neutral_machine.specs.FitsState.{ItemFits, FitsState}
 use Rattle.typing_laws.proofs.FitsBelow.{fits_below}
+use Rattle.note_types.specs.declared.items.Item.TheVariants as item
 
 module _ (notes : Notes) (m : Memory) (d : ℕ) (f : FunctionFrame) where
   item_below : (i : StackItem) (x y : Item) → ItemBelow x y → ItemFits notes m d f i x → ItemFits notes m d f i y

@@ -1,26 +1,13 @@
 -- A cell that is stored leaves a configuration sound.
-use Rattle.std.proofs.Common.{◌≡◌, ℕ, ◌^◌, ◌⊎◌, Bool, true, false, if◌then◌else◌, nat_lt, nat_eq, Option, Some, None, refl, sym, ap}
-use Rattle.std.proofs.Common.{◌∙◌, subst, arith, inl, inr, ⊎_elim, bit_or, is_some}
-use Rattle.std.specs.Int.{bit_at}
-use Rattle.std.proofs.lemmas.Bool.{cases_eq, eq-eqb, and_from}
-use Rattle.std.proofs.lemmas.Nat.Bits.{bit_at_or, bit_at-pow_other, bit_at-lt, bit_at-zero}
-use Rattle.std.proofs.lemmas.Option.{same_Some}
-use Rattle.note_types.specs.Cells.{content_type}
-use Rattle.note_types.specs.FieldSets.{HasField}
-use Rattle.note_types.specs.declared.notes.Notes.{Notes}
-use Rattle.note_types.specs.declared.shape.Field.{Field}
-use Rattle.note_types.specs.declared.state.State.{State}
-use Rattle.rules_base.specs.Change.{with_store}
+use Rattle.typing_laws.proofs.Common.{◌≡◌, ℕ, ◌^◌, ◌⊎◌, Bool, true, false, if◌then◌else◌, nat_lt, nat_eq, Option, Some, None, refl, sym, ap}
+use Rattle.typing_laws.proofs.Common.{◌∙◌, subst, arith, inl, inr, ⊎_elim, bit_or, is_some, bit_at, cases_eq, eq-eqb, and_from, bit_at_or}
+use Rattle.typing_laws.proofs.Common.{bit_at-lt, bit_at-zero, same_Some, content_type, HasField, Notes, Field, State, with_store, Neutral}
+use Rattle.typing_laws.proofs.Common.{CellPlace, FieldOf, FieldOfLocals, Registers, FunctionFrame, Memory, cell_field, with_cell}
+use Rattle.typing_laws.proofs.Common.{IsFieldWritten, FitsPlain, FitsState, CellsFit, FieldsLater, fields_later, fits_later, items_later}
+use Rattle.typing_laws.proofs.Common.{Later, live_cells}
+use Rattle.std.proofs.lemmas.Nat.Bits.{bit_at-pow_other}
 use Rattle.rules_base.specs.Places.{with_field}
-use Rattle.host_model.specs.Values.{Neutral, CellPlace, FieldOf, FieldOfLocals, same_cell_place}
-use Rattle.neutral_machine.specs.Config.{Registers, FunctionFrame}
-use Rattle.neutral_machine.specs.Memory.{Memory, cell_field, with_cell, IsFieldWritten}
-use Rattle.neutral_machine.specs.Fits.{FitsPlain}
-use Rattle.neutral_machine.specs.FitsState.{FitsState}
-use Rattle.invariant_laws.specs.Sound.{CellsFit}
-use Rattle.invariant_laws.proofs.LaterFits.{FieldsLater, fields_later, fits_later, items_later}
-use Rattle.invariant_laws.specs.Later.{Later}
-use Rattle.invariant_laws.specs.Live.{live_cells}
+use Rattle.host_model.specs.Values.{same_cell_place}
 use Rattle.neutral_machine.proofs.CellPairs.{one_place}
 
 own_place : (d x : ℕ) → same_cell_place (FieldOfLocals d x) (FieldOfLocals d x) ≡ true

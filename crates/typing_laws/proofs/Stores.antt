@@ -1,31 +1,18 @@
 -- What the rules let be stored fits the cell that it is stored to.
-use Rattle.std.proofs.Common.{◌≡◌, ℕ, ◌+◌, ◌-◌, ◌^◌, ◌<◌, ◌≤◌, Bool, true, false, ◌&&◌, ◌||◌, nat_le, nat_eq, refl, ap, ◌∙◌, subst, arith}
-use Rattle.std.proofs.Common.{inl, inr, ⊎_elim, pos}
-use Rattle.std.proofs.lemmas.Bool.{lt-ltb, le-leb, eq-eqb, and_from, false≢true, or_left, or_right}
-use Rattle.note_types.specs.BelowTests.{is_below}
-use Rattle.note_types.specs.Cells.{IsBoundedCell, content_type}
-use Rattle.note_types.specs.Types.{IsBounded}
-use Rattle.note_types.specs.declared.cell.Cell.{Cell}
-use Rattle.note_types.specs.declared.cell.Cell.TheVariants as cell
-use Rattle.note_types.specs.declared.notes.Notes.{Notes}
-use Rattle.note_types.specs.declared.types.Ty.{Ty}
-use Rattle.note_types.specs.declared.types.Ty.TheVariants as ty
-use Rattle.note_types.proofs.BelowLaws.{is_below_exact}
+use Rattle.typing_laws.proofs.Common.{◌≡◌, ℕ, ◌+◌, ◌-◌, ◌^◌, ◌<◌, ◌≤◌, Bool, true, false, ◌&&◌, ◌||◌, nat_le, nat_eq, refl, ap, ◌∙◌, subst}
+use Rattle.typing_laws.proofs.Common.{arith, inl, inr, ⊎_elim, pos, lt-ltb, le-leb, eq-eqb, and_from, false≢true, is_below, IsBoundedCell}
+use Rattle.typing_laws.proofs.Common.{content_type, IsBounded, Cell, Notes, Ty, is_below_exact, stores, takes, is_int, Neutral, plain}
+use Rattle.typing_laws.proofs.Common.{Registers, Memory, OrNull, IsPointer, FitsPlain, Fits, instance_of, fits_cell}
+use Rattle.std.proofs.lemmas.Bool.{or_left, or_right}
 use Rattle.rules_base.specs.declared.access.Access.{Access}
-use Rattle.rules_base.specs.declared.access.Access.TheVariants as access
-use Rattle.rules_base.specs.Access.{stores, takes}
-use Rattle.rules_base.specs.Parts.{is_int}
-use Rattle.host_model.specs.Values.{Neutral, plain}
-use Rattle.neutral_machine.specs.Config.{Registers}
-use Rattle.neutral_machine.specs.Memory.{Memory}
-use Rattle.neutral_machine.specs.Fits.{OrNull, IsPointer, FitsPlain, Fits}
-use Rattle.neutral_machine.specs.Operations.{instance_of, is_null}
-use Rattle.neutral_machine.specs.Locations.{fits_bits, is_error, is_instance, room_if, fits_cell}
-use Rattle.neutral_machine.specs.Locations as locations
+use Rattle.neutral_machine.specs.Locations.{fits_bits, is_error, is_instance, room_if}
+use Rattle.neutral_machine.specs.Operations.{is_null}
 use Rattle.neutral_machine.proofs.CellTakes.{bits_fit}
-use Rattle.typing_laws.proofs.Rows.{one_divides}
-use Rattle.typing_laws.proofs.Objects.{ObjectsFit, start_is, instance_is}
-use Rattle.typing_laws.proofs.FitsBelow.{fits_below}
+use Rattle.typing_laws.proofs.{Rows.one_divides, Objects.ObjectsFit, Objects.start_is, Objects.instance_is, FitsBelow.fits_below}
+use Rattle.note_types.specs.declared.cell.Cell.TheVariants as cell
+use Rattle.note_types.specs.declared.types.Ty.TheVariants as ty
+use Rattle.rules_base.specs.declared.access.Access.TheVariants as access
+use Rattle.neutral_machine.specs.Locations as locations
 
 -- a number's type is within the bits of an access
 abbrev pub Within : Access → Ty → Type 0
@@ -37,17 +24,8 @@ Within _ _ = Unit {0}
 module _ (notes : Notes) (m : Memory) (ok : ObjectsFit notes m.objects) (d : ℕ) (saved : Registers) where
   -- what fits a content type here fits it in every frame
   pub content_plain : (c : Cell) (v : Neutral) → Fits notes m d saved (content_type c) v → FitsPlain notes m.objects (content_type c) v
-  content_plain cell.I8 v f = f
-  content_plain cell.I16 v f = f
-  content_plain cell.I32 v f = f
-  content_plain cell.I64 v f = f
-  content_plain cell.N v f = f
   content_plain cell.Stat v f = ⊎_elim (λ e. inl e) (λ s. inr s.0) f
-  content_plain cell.Handle v f = f
-  content_plain cell.Entry v f = f
-  content_plain (cell.Ptr s k may) v f = f
-  content_plain (cell.P64 s k may) v f = f
-  content_plain (cell.Method n) v f = f
+  content_plain c v f = f
 
   instance_fits : (s k : ℕ) (v : Neutral) → 1 ≤ k → IsPointer notes m.objects s k (pos 0) (pos 0) v
       → is_instance m.objects s k (instance_of notes m.objects v) ≡ true
@@ -109,79 +87,16 @@ module _ (notes : Notes) (m : Memory) (ok : ObjectsFit notes m.objects) (d : ℕ
   pub taken_fits : (a : Access) (c : Cell) (t : Ty) (v : Neutral) → stores a c ≡ true → takes c t ≡ true → Within a t → IsBounded t
       → Fits notes m d saved t v → Fits notes m d saved (content_type c) v
   taken_fits access.Byte cell.I8 t v e h w b f = int_content cell.I8 t v (2 ^ 8 - 1) h (λ lo hi div q. within_Byte t lo hi div q w) f
-  taken_fits access.Byte cell.I16 t v e h w b f = absurd (false≢true e)
-  taken_fits access.Byte cell.I32 t v e h w b f = absurd (false≢true e)
-  taken_fits access.Byte cell.I64 t v e h w b f = absurd (false≢true e)
-  taken_fits access.Byte cell.N t v e h w b f = absurd (false≢true e)
-  taken_fits access.Byte cell.Stat t v e h w b f = absurd (false≢true e)
-  taken_fits access.Byte cell.Handle t v e h w b f = absurd (false≢true e)
-  taken_fits access.Byte cell.Entry t v e h w b f = absurd (false≢true e)
-  taken_fits access.Byte (cell.Ptr s k may) t v e h w b f = absurd (false≢true e)
-  taken_fits access.Byte (cell.P64 s k may) t v e h w b f = absurd (false≢true e)
-  taken_fits access.Byte (cell.Method n) t v e h w b f = absurd (false≢true e)
-  taken_fits access.Word cell.I8 t v e h w b f = absurd (false≢true e)
   taken_fits access.Word cell.I16 t v e h w b f = int_content cell.I16 t v (2 ^ 16 - 1) h (λ lo hi div q. within_Word t lo hi div q w) f
-  taken_fits access.Word cell.I32 t v e h w b f = absurd (false≢true e)
-  taken_fits access.Word cell.I64 t v e h w b f = absurd (false≢true e)
-  taken_fits access.Word cell.N t v e h w b f = absurd (false≢true e)
-  taken_fits access.Word cell.Stat t v e h w b f = absurd (false≢true e)
-  taken_fits access.Word cell.Handle t v e h w b f = absurd (false≢true e)
-  taken_fits access.Word cell.Entry t v e h w b f = absurd (false≢true e)
-  taken_fits access.Word (cell.Ptr s k may) t v e h w b f = absurd (false≢true e)
-  taken_fits access.Word (cell.P64 s k may) t v e h w b f = absurd (false≢true e)
-  taken_fits access.Word (cell.Method n) t v e h w b f = absurd (false≢true e)
-  taken_fits access.Dword cell.I8 t v e h w b f = absurd (false≢true e)
-  taken_fits access.Dword cell.I16 t v e h w b f = absurd (false≢true e)
   taken_fits access.Dword cell.I32 t v e h w b f = int_content cell.I32 t v (2 ^ 32 - 1) h (λ lo hi div q. within_Dword t lo hi div q w) f
-  taken_fits access.Dword cell.I64 t v e h w b f = absurd (false≢true e)
-  taken_fits access.Dword cell.N t v e h w b f = absurd (false≢true e)
-  taken_fits access.Dword cell.Stat t v e h w b f = absurd (false≢true e)
-  taken_fits access.Dword cell.Handle t v e h w b f = absurd (false≢true e)
-  taken_fits access.Dword cell.Entry t v e h w b f = absurd (false≢true e)
-  taken_fits access.Dword (cell.Ptr s k may) t v e h w b f = absurd (false≢true e)
-  taken_fits access.Dword (cell.P64 s k may) t v e h w b f = absurd (false≢true e)
-  taken_fits access.Dword (cell.Method n) t v e h w b f = absurd (false≢true e)
-  taken_fits access.Qword cell.I8 t v e h w b f = absurd (false≢true e)
-  taken_fits access.Qword cell.I16 t v e h w b f = absurd (false≢true e)
-  taken_fits access.Qword cell.I32 t v e h w b f = absurd (false≢true e)
   taken_fits access.Qword cell.I64 t v e h w b f = int_content cell.I64 t v (2 ^ 64 - 1) h (λ lo hi div q. bounded t lo hi div q b) f
-  taken_fits access.Qword cell.N t v e h w b f = absurd (false≢true e)
-  taken_fits access.Qword cell.Stat t v e h w b f = absurd (false≢true e)
-  taken_fits access.Qword cell.Handle t v e h w b f = absurd (false≢true e)
-  taken_fits access.Qword cell.Entry t v e h w b f = absurd (false≢true e)
-  taken_fits access.Qword (cell.Ptr s k may) t v e h w b f = absurd (false≢true e)
   taken_fits access.Qword (cell.P64 s k may) t v e h w b f = below_content (cell.P64 s k may) t v h f
-  taken_fits access.Qword (cell.Method n) t v e h w b f = absurd (false≢true e)
-  taken_fits access.Form64 cell.I8 t v e h w b f = absurd (false≢true e)
-  taken_fits access.Form64 cell.I16 t v e h w b f = absurd (false≢true e)
-  taken_fits access.Form64 cell.I32 t v e h w b f = absurd (false≢true e)
   taken_fits access.Form64 cell.I64 t v e h w b f = int_content cell.I64 t v (2 ^ 64 - 1) h (λ lo hi div q. bounded t lo hi div q b) f
-  taken_fits access.Form64 cell.N t v e h w b f = absurd (false≢true e)
-  taken_fits access.Form64 cell.Stat t v e h w b f = absurd (false≢true e)
-  taken_fits access.Form64 cell.Handle t v e h w b f = absurd (false≢true e)
-  taken_fits access.Form64 cell.Entry t v e h w b f = absurd (false≢true e)
-  taken_fits access.Form64 (cell.Ptr s k may) t v e h w b f = absurd (false≢true e)
   taken_fits access.Form64 (cell.P64 s k may) t v e h w b f = below_content (cell.P64 s k may) t v h f
-  taken_fits access.Form64 (cell.Method n) t v e h w b f = absurd (false≢true e)
-  taken_fits access.Natural cell.I8 t v e h w b f = absurd (false≢true e)
-  taken_fits access.Natural cell.I16 t v e h w b f = absurd (false≢true e)
-  taken_fits access.Natural cell.I32 t v e h w b f = absurd (false≢true e)
-  taken_fits access.Natural cell.I64 t v e h w b f = absurd (false≢true e)
   taken_fits access.Natural cell.N t v e h w b f = below_content cell.N t v h f
   taken_fits access.Natural cell.Stat t v e h w b f = below_content cell.Stat t v h f
   taken_fits access.Natural cell.Handle t v e h w b f = below_content cell.Handle t v h f
   taken_fits access.Natural cell.Entry t v e h w b f = below_content cell.Entry t v h f
   taken_fits access.Natural (cell.Ptr s k may) t v e h w b f = below_content (cell.Ptr s k may) t v h f
-  taken_fits access.Natural (cell.P64 s k may) t v e h w b f = absurd (false≢true e)
-  taken_fits access.Natural (cell.Method n) t v e h w b f = absurd (false≢true e)
   taken_fits access.Signed cell.I8 t v e h w b f = absurd (false≢true e)
-  taken_fits access.Signed cell.I16 t v e h w b f = absurd (false≢true e)
-  taken_fits access.Signed cell.I32 t v e h w b f = absurd (false≢true e)
-  taken_fits access.Signed cell.I64 t v e h w b f = absurd (false≢true e)
-  taken_fits access.Signed cell.N t v e h w b f = absurd (false≢true e)
-  taken_fits access.Signed cell.Stat t v e h w b f = absurd (false≢true e)
-  taken_fits access.Signed cell.Handle t v e h w b f = absurd (false≢true e)
-  taken_fits access.Signed cell.Entry t v e h w b f = absurd (false≢true e)
-  taken_fits access.Signed (cell.Ptr s k may) t v e h w b f = absurd (false≢true e)
-  taken_fits access.Signed (cell.P64 s k may) t v e h w b f = absurd (false≢true e)
-  taken_fits access.Signed (cell.Method n) t v e h w b f = absurd (false≢true e)
+  taken_fits a c t v e h w b f = absurd (false≢true e)

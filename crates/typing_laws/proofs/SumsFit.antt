@@ -1,33 +1,19 @@
 -- The rows of sums, differences and products are sound.
-use Rattle.std.proofs.Common.{◌≡◌, ℕ, zero, suc, ◌+◌, ◌-◌, ◌*◌, ◌/◌, ◌%◌, ◌^◌, ◌<◌, ◌≤◌, Bool, true, false, ◌&&◌, ◌||◌, if◌then◌else◌}
-use Rattle.std.proofs.Common.{nat_lt, nat_le, nat_eq, Option, Some, slice_get, refl, sym, ap, ap₂, ◌∙◌, subst, arith, ⊎_elim, add_comm}
-use Rattle.std.proofs.Common.{le_refl, ℤ, ◌+ℤ◌}
-use Rattle.std.proofs.Math.Nat.{add-mod-mod, mod-add-mod, dvd-add, dvd-sub, dvd_trans, mod-eq-zero_of_dvd}
-use Rattle.std.proofs.lemmas.Bool.{ltb-true, leb-true, and_parts, eqb-true, or_cases}
-use Rattle.std.proofs.lemmas.Nat.{le-div, div-add-mod'}
-use Rattle.std.proofs.lemmas.Option.{same_Some, none-some, get_or_from_slice_get}
-use Prim.Native.Nat.{◌∣◌}
-use Rattle.ebc_width.specs.Width.{wrap64}
-use Rattle.note_types.specs.BelowTests.{divides}
-use Rattle.note_types.specs.Types.{IsBounded}
-use Rattle.note_types.specs.declared.notes.Notes.{Notes}
-use Rattle.note_types.specs.declared.shape.Shape.{Shape}
-use Rattle.note_types.specs.declared.types.Ty.{Ty}
-use Rattle.note_types.specs.declared.types.Ty.TheVariants.{Any, Int, Scaled, Ptr, Handle, Entry, Method}
-use Rattle.rules_base.specs.declared.parts.Span.{Span}
+use Rattle.typing_laws.proofs.Common.{◌≡◌, ℕ, zero, suc, ◌+◌, ◌-◌, ◌*◌, ◌/◌, ◌%◌, ◌^◌, ◌<◌, ◌≤◌, Bool, true, false, ◌&&◌, ◌||◌}
+use Rattle.typing_laws.proofs.Common.{if◌then◌else◌, nat_lt, nat_le, nat_eq, Option, Some, slice_get, refl, sym, ap, ap₂, ◌∙◌, subst, arith}
+use Rattle.typing_laws.proofs.Common.{⊎_elim, add_comm, le_refl, ℤ, ◌+ℤ◌, add-mod-mod, dvd-sub, dvd_trans, ltb-true, leb-true, and_parts}
+use Rattle.typing_laws.proofs.Common.{eqb-true, or_cases, le-div, div-add-mod', same_Some, none-some, get_or_from_slice_get, ◌∣◌, wrap64}
+use Rattle.typing_laws.proofs.Common.{divides, IsBounded, Notes, Shape, Ty, Any, Int, Scaled, Ptr, Handle, Entry, Span, Pointer, option_or}
+use Rattle.typing_laws.proofs.Common.{and_then, constant, constant_of, divisor_of, full, is_near, lin_of, pointer_of, span_of, shared, sum}
+use Rattle.typing_laws.proofs.Common.{ObjectOf, Neutral, Num, At, Method, Error, SignedError, Junk, number, pair, word, Registers, shape_of}
+use Rattle.typing_laws.proofs.Common.{no_shape, Memory, IsNumber, IsPointer, Fits, sum_of}
+use Rattle.std.proofs.Math.Nat.{mod-add-mod, dvd-add, mod-eq-zero_of_dvd}
+use Rattle.note_types.specs.declared.types.Ty.TheVariants.{Method}
 use Rattle.rules_base.specs.declared.parts.Offset.{Offset}
-use Rattle.rules_base.specs.declared.parts.Pointer.{Pointer}
-use Rattle.std.specs.Option.{option_or}
-use Rattle.rules_base.specs.Parts.{and_then, constant, constant_of, divisor_of, fall_of, full, is_near, lin_of, offset_of, pointer_of}
-use Rattle.rules_base.specs.Parts.{span_of}
-use Rattle.rules_base.specs.Sums.{shared, pointer_at, onward, constant_sum, fall_sum, added, int_sum, lin_sum, by_scaled, scaled_sum}
-use Rattle.rules_base.specs.Sums.{strides, by_bytes, bytes_sum, offset_sum, pointer_sum, sum_row, sum}
-use Rattle.host_model.specs.Values.{ObjectOf, Neutral, Num, At, Handle, Method, Entry, Error, SignedError, Junk, number, pair, word}
-use Rattle.neutral_machine.specs.Config.{Registers}
-use Rattle.host_model.specs.Objects.{shape_of, no_shape}
-use Rattle.neutral_machine.specs.Memory.{Memory}
-use Rattle.neutral_machine.specs.Fits.{IsNumber, IsPointer, Fits}
-use Rattle.neutral_machine.specs.Operations.{sum_of}
+use Rattle.rules_base.specs.Sums.{pointer_at, onward, constant_sum, fall_sum, added, int_sum, lin_sum, by_scaled, scaled_sum, strides}
+use Rattle.rules_base.specs.Sums.{by_bytes, bytes_sum, offset_sum, pointer_sum, sum_row}
+use Rattle.rules_base.specs.Parts.{fall_of, offset_of}
+use Rattle.host_model.specs.Values.{Handle, Entry}
 use Rattle.typing_laws.proofs.Rows.{then_some, if_some, one_divides, DividesBoth, shared_divides, divisor_divides, wrap_add, span_word}
 use Rattle.typing_laws.proofs.Rows.{constant_word, span_fits, constant_fits, lin_fits, pointer_fits, offset_fits, number_fits, word_fits}
 use Rattle.typing_laws.proofs.Rows.{lin_is, RowFits, or_fits, any_fits, two_spans, two_constants}
@@ -39,32 +25,13 @@ pub sum_commutes : (v u : Neutral) → sum_of v u ≡ sum_of u v
 sum_commutes (Num n c) (Num m d) = ap₂ (λ x y. Num (word x) (word y)) (add_comm n m) (add_comm c d)
 sum_commutes (Num n c) (At a m d) = ap₂ (λ x y. At a (word x) (word y)) (add_comm n m) (add_comm c d)
 sum_commutes (At a n c) (Num m d) = ap₂ (λ x y. At a (word x) (word y)) (add_comm n m) (add_comm c d)
-sum_commutes (At a n c) (At b m d) = refl
-sum_commutes (Num n c) (Handle k) = refl
-sum_commutes (Num n c) (Method k) = refl
-sum_commutes (Num n c) (Entry k) = refl
-sum_commutes (Num n c) (Error k) = refl
-sum_commutes (Num n c) (SignedError k) = refl
-sum_commutes (Num n c) Junk = refl
-sum_commutes (At a n c) (Handle k) = refl
-sum_commutes (At a n c) (Method k) = refl
-sum_commutes (At a n c) (Entry k) = refl
-sum_commutes (At a n c) (Error k) = refl
-sum_commutes (At a n c) (SignedError k) = refl
-sum_commutes (At a n c) Junk = refl
 sum_commutes (Handle k) (Num m d) = refl
-sum_commutes (Handle k) (At b m d) = refl
 sum_commutes (Method k) (Num m d) = refl
-sum_commutes (Method k) (At b m d) = refl
 sum_commutes (Entry k) (Num m d) = refl
-sum_commutes (Entry k) (At b m d) = refl
 sum_commutes (Error k) (Num m d) = refl
-sum_commutes (Error k) (At b m d) = refl
 sum_commutes (SignedError k) (Num m d) = refl
-sum_commutes (SignedError k) (At b m d) = refl
 sum_commutes Junk (Num m d) = refl
-sum_commutes Junk (At b m d) = refl
-sum_commutes _ _ = refl
+sum_commutes v u = refl
 
 -- an instance's part moved by instances, and by a pair
 moved : (j i s n d : ℕ) → d ≡ i * s → word (word (j * s + n) + d) ≡ word ((j + i) * s + n)

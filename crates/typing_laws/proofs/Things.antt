@@ -1,30 +1,15 @@
 -- What starts at a place of the image: the rules' type fits the neutral machine's address.
-use Rattle.std.proofs.Common.{◌≡◌, ℕ, zero, suc, ◌+◌, ◌*◌, Bool, true, false, if◌then◌else◌, nat_eq, List, [], ◌∷◌, ◌++◌, map, length}
-use Rattle.std.proofs.Common.{Option, Some, None, slice_get, position, not, nat_lt, refl, sym, ap, ap₂, ◌∙◌, subst, arith, ⊎_elim, pos}
-use Rattle.std.specs.List.{find, position_or_len}
-use Rattle.std.specs.Option.{option_map, option_map_or, option_or}
-use Rattle.std.proofs.lemmas.List.Folds.{find_at}
-use Rattle.std.specs.Ordering.{int_eq}
-use Rattle.std.proofs.lemmas.Bool.{eqb-true, eqb-false, cases_Bool, lt-ltb}
-use Rattle.std.proofs.lemmas.Bool.Decides.{Decides-int_eq}
-use Rattle.std.proofs.lemmas.List.Quantifiers.{position-Some}
-use Rattle.std.proofs.lemmas.Option.{same_Some, none-some, slice_get_within}
-use Rattle.note_types.specs.declared.notes.Notes.{Notes}
-use Rattle.note_types.specs.declared.notes.Static.{Static}
-use Rattle.note_types.specs.declared.notes.Thunk.{Thunk}
-use Rattle.note_types.specs.declared.types.Ty.{Ty}
-use Rattle.note_types.specs.declared.types.Ty.TheVariants as ty
-use Rattle.rules_base.specs.Parts.{and_then}
-use Rattle.rules_base.specs.Things.{is_static_at, is_thunk_at, static_type, thunk_type, static_at, thunk_at, thing_at}
-use Rattle.host_model.specs.Values.{ObjectOf, ThunkOf, Neutral, At, Junk, word}
-use Rattle.neutral_machine.specs.Config.{Registers}
-use Rattle.host_model.specs.Objects.{static_object, shape_of}
-use Rattle.host_model.specs.declared.object.TypedObject.{TypedObject}
-use Rattle.neutral_machine.specs.Memory.{Memory}
-use Rattle.neutral_machine.specs.Fits.{Fits}
-use Rattle.neutral_machine.specs.Rows.{address_of_place}
+use Rattle.typing_laws.proofs.Common.{◌≡◌, ℕ, zero, suc, ◌+◌, ◌*◌, Bool, true, false, if◌then◌else◌, nat_eq, List, [], ◌∷◌, ◌++◌, map}
+use Rattle.typing_laws.proofs.Common.{length, Option, Some, None, slice_get, position, not, nat_lt, refl, sym, ap, ap₂, ◌∙◌, subst, arith}
+use Rattle.typing_laws.proofs.Common.{⊎_elim, pos, find, position_or_len, option_map_or, option_or, find_at, int_eq, eqb-true, eqb-false}
+use Rattle.typing_laws.proofs.Common.{cases_Bool, lt-ltb, Decides-int_eq, position-Some, same_Some, none-some, Notes, Static, Thunk, Ty}
+use Rattle.typing_laws.proofs.Common.{and_then, is_static_at, is_thunk_at, static_type, thunk_type, static_at, thunk_at, thing_at, ObjectOf}
+use Rattle.typing_laws.proofs.Common.{ThunkOf, Neutral, At, Junk, word, Registers, static_object, shape_of, TypedObject, Memory, Fits}
+use Rattle.typing_laws.proofs.Common.{address_of_place, within_some}
+use Rattle.std.specs.Option.{option_map}
+use Rattle.std.proofs.lemmas.Option.{slice_get_within}
 use Rattle.typing_laws.proofs.Rows.{then_some}
-use Rattle.ebc_base.proofs.Lists.{within_some}
+use Rattle.note_types.specs.declared.types.Ty.TheVariants as ty
 
 pos_same : (a b : ℕ) → pos a ≡ pos b → a ≡ b
 pos_same a b e = cc

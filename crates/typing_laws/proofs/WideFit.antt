@@ -1,37 +1,21 @@
 -- The operations on 64 bits that have rows of their own, and all operations together.
-use Rattle.std.proofs.Common.{◌≡◌, ℕ, zero, suc, ◌-◌, ◌*◌, ◌/◌, ◌%◌, ◌^◌, ◌<◌, ◌≤◌, Bool, true, false, ◌&&◌, if◌then◌else◌, nat_lt, nat_eq}
-use Rattle.std.proofs.Common.{min, Option, Some, None, refl, sym, ap, ap₂, ◌∙◌, subst, subst₂, arith, inl, mod-eq_of_lt, le_refl, pos}
-use Rattle.std.proofs.Common.{negsuc}
-use Rattle.std.specs.Ordering.{int_eq}
-use Rattle.std.proofs.lemmas.Bool.{ltb-true, and_parts, eqb-true, false≢true, lt-ltb}
-use Rattle.std.proofs.lemmas.Bool.Decides.{Decides-int_eq}
-use Rattle.std.proofs.lemmas.Nat.{mod_below, pow_pos, and_le_l, and_comm, le-div, div-add-mod'}
-use Rattle.std.proofs.lemmas.Option.{same_Some, none-some}
-use Rattle.ebc_insn.specs.declared.ArithOp.{ArithOp}
-use Rattle.ebc_insn.specs.declared.ArithOp.TheVariants as ops
-use Rattle.machine_alu.specs.Alu.{low, outcome}
-use Rattle.note_types.specs.Types.{IsBounded}
-use Rattle.note_types.specs.declared.notes.Notes.{Notes}
-use Rattle.note_types.specs.declared.types.Ty.{Ty}
-use Rattle.note_types.specs.declared.types.Ty.TheVariants.{Any, Int, Lin, Status, Mask, Handle, Entry, Method}
-use Rattle.rules_base.specs.declared.parts.Span.{Span}
-use Rattle.std.specs.Option.{option_or}
-use Rattle.rules_base.specs.Parts.{constant, constant_of, full, is_int, is_int_below, span_of}
-use Rattle.rules_base.specs.Sums.{product}
+use Rattle.typing_laws.proofs.Common.{◌≡◌, ℕ, zero, suc, ◌-◌, ◌*◌, ◌/◌, ◌%◌, ◌^◌, ◌<◌, ◌≤◌, Bool, true, false, ◌&&◌, if◌then◌else◌, nat_lt}
+use Rattle.typing_laws.proofs.Common.{nat_eq, min, Option, Some, None, refl, sym, ap, ap₂, ◌∙◌, subst, subst₂, arith, inl, mod-eq_of_lt}
+use Rattle.typing_laws.proofs.Common.{le_refl, pos, negsuc, int_eq, ltb-true, and_parts, eqb-true, false≢true, lt-ltb, Decides-int_eq}
+use Rattle.typing_laws.proofs.Common.{mod_below, pow_pos, le-div, div-add-mod', same_Some, none-some, ArithOp, low, outcome, IsBounded}
+use Rattle.typing_laws.proofs.Common.{Notes, Ty, Any, Int, Lin, Status, Mask, Span, option_or, constant, constant_of, full, is_int}
+use Rattle.typing_laws.proofs.Common.{is_int_below, span_of, product, is_unary, fold_row, or_ints, other_row, computed_type, divisor_known}
+use Rattle.typing_laws.proofs.Common.{Neutral, Num, Error, number, pair, plain, word, Registers, Memory, Fits, Outcome, Gives, by_table}
+use Rattle.typing_laws.proofs.Common.{product_of, combined, Accepts}
+use Rattle.std.proofs.lemmas.Nat.{and_le_l, and_comm}
 use Rattle.rules_data.specs.Arithmetic.{is_last_bit, error_bit, power_product, shifted_left, error_status, common_bits, divided, remainder}
-use Rattle.rules_data.specs.Arithmetic.{shifted_right, by_constant, shl_row, or_row, wide_row, is_unary, fold_row, or_ints, other_row}
-use Rattle.rules_data.specs.Arithmetic.{or_other, computed_type, divisor_known}
-use Rattle.host_model.specs.Values.{Neutral, Num, At, Handle, Method, Entry, Error, SignedError, Junk, number, pair, plain, word}
-use Rattle.neutral_machine.specs.Config.{Registers}
-use Rattle.neutral_machine.specs.Memory.{Memory}
-use Rattle.neutral_machine.specs.Fits.{Fits}
-use Rattle.neutral_machine.specs.Outcomes.{Outcome, Gives}
-use Rattle.neutral_machine.specs.Operations.{shifts_to_mask, coded, by_table, or_of, product_of, combined}
-use Rattle.invariant_laws.specs.Accepts.{Accepts}
+use Rattle.rules_data.specs.Arithmetic.{shifted_right, by_constant, shl_row, or_row, wide_row, or_other}
+use Rattle.neutral_machine.specs.Operations.{shifts_to_mask, coded, or_of}
 use Rattle.typing_laws.proofs.Rows.{then_some, if_some, one_divides, span_word, constant_word, span_fits, constant_fits, number_fits}
-use Rattle.typing_laws.proofs.SumsFit.{sum_fits}
 use Rattle.typing_laws.proofs.ProductsFit.{difference_fits, product_fits, numbers_times}
 use Rattle.typing_laws.proofs.ComputedFit.{table_accepts, computed_is, other_fits, int_plain, constant_plain}
+use Rattle.typing_laws.proofs.SumsFit.{sum_fits}
+use Rattle.ebc_insn.specs.declared.ArithOp.TheVariants as ops
 
 -- ---- numbers
 
@@ -53,23 +37,11 @@ no_mask (Num n c) k = go (nat_eq n 0) (nat_eq c 1)
     go true true = refl
     go true false = refl
     go false q = refl
-no_mask (At a n c) k = refl
-no_mask (Handle j) k = refl
-no_mask (Method j) k = refl
-no_mask (Entry j) k = refl
-no_mask (Error j) k = refl
-no_mask (SignedError j) k = refl
-no_mask Junk k = refl
+no_mask v k = refl
 
 coded_plain : (v z : Neutral) (o : Option ℕ) → coded v o ≡ Some z → plain v ≡ None
 coded_plain (Error k) z o e = refl
-coded_plain (Num n c) z o e = absurd (none-some z e)
-coded_plain (At a n c) z o e = absurd (none-some z e)
-coded_plain (Handle k) z o e = absurd (none-some z e)
-coded_plain (Method k) z o e = absurd (none-some z e)
-coded_plain (Entry k) z o e = absurd (none-some z e)
-coded_plain (SignedError k) z o e = absurd (none-some z e)
-coded_plain Junk z o e = absurd (none-some z e)
+coded_plain v z o e = absurd (none-some z e)
 
 pow64 : (k : ℕ) → k < 64 → 2 ^ k < 2 ^ 64
 pow64 k l = pow-lt k 64 l
@@ -344,12 +316,4 @@ module _ (notes : Notes) (m : Memory) (d : ℕ) (saved : Registers) where
       (λ t e. remainder_fits a b t v u l r e f g) (λ e. other_fits notes m d saved ops.Modu true a b v u l r k f g)
   computed_fits ops.Shr true a b v u l r k f g = row_or_other ops.Shr a b (by_constant shifted_right a b) _
       (λ t e. shifted_fits a b t v u l r e f g) (λ e. other_fits notes m d saved ops.Shr true a b v u l r k f g)
-  computed_fits ops.Not true a b v u l r k f g = other_fits notes m d saved ops.Not true a b v u l r k f g
-  computed_fits ops.Neg true a b v u l r k f g = other_fits notes m d saved ops.Neg true a b v u l r k f g
-  computed_fits ops.Div true a b v u l r k f g = other_fits notes m d saved ops.Div true a b v u l r k f g
-  computed_fits ops.Mod true a b v u l r k f g = other_fits notes m d saved ops.Mod true a b v u l r k f g
-  computed_fits ops.Xor true a b v u l r k f g = other_fits notes m d saved ops.Xor true a b v u l r k f g
-  computed_fits ops.Ashr true a b v u l r k f g = other_fits notes m d saved ops.Ashr true a b v u l r k f g
-  computed_fits ops.Extb true a b v u l r k f g = other_fits notes m d saved ops.Extb true a b v u l r k f g
-  computed_fits ops.Extw true a b v u l r k f g = other_fits notes m d saved ops.Extw true a b v u l r k f g
-  computed_fits ops.Extd true a b v u l r k f g = other_fits notes m d saved ops.Extd true a b v u l r k f g
+  computed_fits op c a b v u l r k f g = other_fits notes m d saved op c a b v u l r k f g

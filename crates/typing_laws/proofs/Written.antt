@@ -1,56 +1,27 @@
 -- A result is left where the rules allow it, and the configuration stays sound.
-use Rattle.std.proofs.Common.{◌≡◌, ◌≢◌, ℕ, suc, ◌<◌, Bool, true, false, ◌&&◌, if◌then◌else◌, nat_eq, List, ◌∷◌, Option, Some, None, Result}
-use Rattle.std.proofs.Common.{Ok, Err, refl, sym, ap, ◌∙◌, subst, arith, ⊎_elim, option_and_then}
-use Rattle.std.proofs.lemmas.Bool.{eqb-true, eqb-false, ne_eqb, and_from, cases_Bool}
-use Rattle.std.proofs.lemmas.Option.{same_Some, none-some}
-use Rattle.ebc_insn.specs.declared.Operand.{Operand}
-use Rattle.note_types.specs.Cells.{IsBoundedCell, content_type}
-use Rattle.note_types.specs.States.{type_of}
-use Rattle.note_types.specs.Types.{IsBounded}
-use Rattle.note_types.specs.declared.cell.Cell.{Cell}
-use Rattle.note_types.specs.declared.notes.FnNote.{FnNote}
-use Rattle.note_types.specs.declared.rule.RuleName.{RuleName}
-use Rattle.note_types.specs.declared.rule.RuleName.TheVariants as rule
-use Rattle.note_types.specs.declared.state.State.{State}
-use Rattle.note_types.specs.declared.types.Ty.{Ty}
-use Rattle.rules_base.specs.declared.access.Target.{Target}
-use Rattle.rules_base.specs.declared.change.Change.{Change}
-use Rattle.rules_base.specs.declared.change.Change.TheVariants as change
-use Rattle.rules_base.specs.declared.destination.Destination.{Destination}
-use Rattle.rules_base.specs.declared.destination.Destination.TheVariants.{Register, Memory}
-use Rattle.rules_base.specs.declared.operand.Distance.{Distance}
-use Rattle.rules_base.specs.declared.place.Place.{Place}
-use Rattle.rules_base.specs.declared.place.Place.TheVariants as place
-use Rattle.rules_base.specs.Access.{stores, takes, object_target, local_target, target_place, target_at}
-use Rattle.rules_base.specs.Change.{changed, with_type, with_store}
-use Rattle.rules_base.specs.Destinations.{destination, put}
-use Rattle.ebc_base.specs.Steps.{or_else}
-use Rattle.rules_base.specs.Outcomes.{gives_map}
-use Rattle.note_types.specs.Known.{local_fields}
-use Rattle.rules_base.specs.Places.{from_stack, locals_size, place_at, pointed}
-use Rattle.host_model.specs.Values.{Neutral, CellPlace, FieldOfLocals}
-use Rattle.neutral_machine.specs.Config.{FunctionFrame, Frame, Function, Config, depth, with_value}
-use Rattle.host_model.specs.World.{World}
-use Rattle.invariant_laws.specs.Live.{live_memory}
-use Rattle.neutral_machine.specs.Memory.{with_cell}
-use Rattle.neutral_machine.specs.Fits.{FitsPlain}
-use Rattle.neutral_machine.specs.FitsState.{FitsState}
-use Rattle.invariant_laws.specs.Sound.{SoundBelow}
-use Rattle.neutral_machine.specs.Outcomes.{Gives, Stuck, or_stuck}
-use Rattle.neutral_machine.specs.Operands.{NeutralSide, located_by, stored_by, with_register, written}
-use Rattle.neutral_machine.specs.Locations.{Access, Location, CellAt, ParamAt, Offset, writes, fits_cell, stored_in, stored_at}
-use Rattle.neutral_machine.specs.Locations.{parameters_of}
-use Rattle.neutral_machine.specs.Locations as locations
-use Rattle.typing_laws.proofs.Accesses.{access_of, writes_from}
+use Rattle.typing_laws.proofs.Common.{◌≡◌, ◌≢◌, ℕ, suc, ◌<◌, Bool, true, false, ◌&&◌, if◌then◌else◌, nat_eq, List, ◌∷◌, Option, Some, None}
+use Rattle.typing_laws.proofs.Common.{Result, Ok, Err, refl, sym, ap, ◌∙◌, subst, arith, ⊎_elim, option_and_then, eqb-true, eqb-false}
+use Rattle.typing_laws.proofs.Common.{ne_eqb, and_from, cases_Bool, same_Some, none-some, Operand, IsBoundedCell, content_type, type_of}
+use Rattle.typing_laws.proofs.Common.{IsBounded, Cell, FnNote, RuleName, State, Ty, Change, Destination, Register, Distance, Place, stores}
+use Rattle.typing_laws.proofs.Common.{takes, target_place, target_at, changed, with_type, with_store, destination, put, or_else, gives_map}
+use Rattle.typing_laws.proofs.Common.{local_fields, from_stack, locals_size, place_at, pointed, Neutral, CellPlace, FieldOfLocals}
+use Rattle.typing_laws.proofs.Common.{FunctionFrame, Frame, Function, Config, depth, with_value, World, live_memory, with_cell, FitsPlain}
+use Rattle.typing_laws.proofs.Common.{FitsState, SoundBelow, Gives, Stuck, or_stuck, NeutralSide, located_by, stored_by, with_register}
+use Rattle.typing_laws.proofs.Common.{written, Access, Location, CellAt, ParamAt, Offset, writes, fits_cell, parameters_of, memory_of}
+use Rattle.rules_base.specs.declared.{access.Target.Target, destination.Destination.TheVariants.Memory}
+use Rattle.rules_base.specs.Access.{object_target, local_target}
+use Rattle.neutral_machine.specs.Locations.{stored_in, stored_at}
 use Rattle.typing_laws.proofs.Pointed.{IsBeside, PlaceNames, CellThere, may_be_null}
-use Rattle.typing_laws.proofs.OnStack.{OnStack}
 use Rattle.typing_laws.proofs.Stores.{Within, content_plain, content_fits, taken_fits}
 use Rattle.typing_laws.proofs.StoredSound.{cells_stored, state_stored, store_later}
-use Rattle.neutral_machine.specs.Memory.{memory_of}
-use Rattle.typing_laws.proofs.LiveCells.{frames_kept, below_down, later_below}
-use Rattle.typing_laws.proofs.Changes.{register_written}
 use Rattle.typing_laws.proofs.Context.{GoodParam, TopSound, objects, counted_local, passed_params}
 use Rattle.typing_laws.proofs.Operands.{IsSmall, then_ok, some_ok, FitsHere, register_named, by_register, stack_found}
+use Rattle.typing_laws.proofs.{Accesses.access_of, Accesses.writes_from, OnStack.OnStack, LiveCells.frames_kept, LiveCells.below_down}
+use Rattle.typing_laws.proofs.{LiveCells.later_below, Changes.register_written}
+use Rattle.note_types.specs.declared.rule.RuleName.TheVariants as rule
+use Rattle.rules_base.specs.declared.change.Change.TheVariants as change
+use Rattle.rules_base.specs.declared.place.Place.TheVariants as place
+use Rattle.neutral_machine.specs.Locations as locations
 
 -- A configuration is sound with a state of the function on top.
 pub record After (world : World) (c : Config) (f : FunctionFrame) (fs : List Frame) (s : State) : Type 0 where
@@ -135,16 +106,13 @@ module _ (world : World) (a : Config) (f : FunctionFrame) (fs : List Frame) (not
   -- a store never is to a place that may be null
   no_null : (access : Access) (p : Place) (t : Target) → target_place (access_of access) p ≡ Ok t
       → may_be_null world.notes (live_memory world a) (depth fs) p ≡ false
-  no_null access (place.Object c false) t e = refl
   no_null access (place.Object c true) t e = absurd (go (stores (access_of access) c) e)
     where
       go : (b : Bool) → (if b then (if true then Err rule.Null else Ok (record { cell = c; field = None })) else Err rule.Address) ≡ Ok t
           → ⊥
       go true e = not_null t e
       go false e = not_address t e
-  no_null access (place.Local x c) t e = refl
-  no_null access (place.Parameter k i) t e = refl
-  no_null access (place.ThunkCell i) t e = refl
+  no_null access p t e = refl
 
   pub target_found : (access : Access) (r : ℕ) (b : Option Offset) (d : Distance) (t : Target) → r < 8 → IsBeside b d → IsSmall d
       → target_at world.notes note s (access_of access) r d ≡ Ok t → TargetFound access r b t

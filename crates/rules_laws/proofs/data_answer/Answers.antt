@@ -1,10 +1,6 @@
-use Rattle.std.proofs.Common.{subst, sym}
-use Rattle.note_types.specs.declared.state.State.{State}
-use Rattle.rules_laws.specs.Exact.{DataFirst, DataRelated}
+use Rattle.rules_laws.proofs.Common.{subst, sym, State, DataFirst, DataRelated, OrRule}
 use Rattle.rules_laws.specs.Keeping.{DataKeeps}
-use Rattle.rules_laws.proofs.RowsKeep.{after_data-keeps}
-use Rattle.rules_laws.proofs.DataRule.{data_first, data_related}
-use Rattle.rules_base.specs.Outcomes.{OrRule}
+use Rattle.rules_laws.proofs.{RowsKeep.after_data-keeps, DataRule.data_first, DataRule.data_related}
 use Rattle.rules_laws.proofs.data_answer.Goals as goal
 
 pub returns-clause-related : goal.returns-clause-related

@@ -1,10 +1,6 @@
-use Rattle.std.proofs.Common.{subst, sym}
-use Rattle.rules_flow.specs.declared.successors.Successors.{Successors}
-use Rattle.rules_laws.specs.Exact.{FlowFirst, FlowGiven, FlowRelated}
+use Rattle.rules_laws.proofs.Common.{subst, sym, Successors, FlowFirst, FlowGiven, FlowRelated, OrRule}
 use Rattle.rules_laws.specs.Keeping.{FlowKeeps}
-use Rattle.rules_laws.proofs.FlowKeeps.{after_flow-keeps}
-use Rattle.rules_laws.proofs.FlowRule.{flow_first, flow_given, flow_related}
-use Rattle.rules_base.specs.Outcomes.{OrRule}
+use Rattle.rules_laws.proofs.{FlowKeeps.after_flow-keeps, FlowRule.flow_first, FlowRule.flow_given, FlowRule.flow_related}
 use Rattle.rules_laws.proofs.flow_answer.Goals as goal
 
 pub returns-clause-related : goal.returns-clause-related

@@ -1,4 +1,4 @@
-use Rattle.std.proofs.Common.{◌∙◌}
+use Rattle.link_laws.proofs.Common.{◌∙◌}
 use Rattle.pe_image.proofs.RoundTrip.{IsImage-linked}
 use Rattle.link_laws.proofs.ListedAgain.{IsListed, IsPlanOf, all_one, listed, same_file}
 use Rattle.link_laws.proofs.relinking.relinked.Goals as goal

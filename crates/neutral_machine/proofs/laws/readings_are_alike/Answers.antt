@@ -1,5 +1,4 @@
-use Rattle.neutral_machine.proofs.NamedThings.{things_named}
-use Rattle.neutral_machine.proofs.ReadingAlike.{reads_alike, results_alike}
+use Rattle.neutral_machine.proofs.{NamedThings.things_named, ReadingAlike.reads_alike, ReadingAlike.results_alike}
 use Rattle.neutral_machine.proofs.laws.readings_are_alike.Goals as goal
 
 pub returns : goal.returns

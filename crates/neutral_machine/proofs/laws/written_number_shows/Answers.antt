@@ -1,5 +1,4 @@
-use Rattle.neutral_machine.proofs.NamedThings.{things_named}
-use Rattle.neutral_machine.proofs.WrittenShows.{value_shows}
+use Rattle.neutral_machine.proofs.{NamedThings.things_named, WrittenShows.value_shows}
 use Rattle.neutral_machine.proofs.laws.written_number_shows.Goals as goal
 
 pub returns : goal.returns
