@@ -1,9 +1,12 @@
-//! Calls `ebc` over files in memory, row by row, as the lines of the standard input say, and prints what each call
-//! answers, prints and writes. docs/crates/ebc_rows.md has the lines.
+//! Calls `ebc` over files in memory, row by row, as the lines of the standard input say, beside what each call is to
+//! answer, print and write. It prints each that does otherwise, with what was wanted and what was found, and how many
+//! answers of each kind held. docs/crates/ebc_rows.md has the lines.
 #![tactic(auto)]
 
+mod asked;
 mod file;
 mod rows;
+mod tally;
 
 use rows::Rows;
 use std::io::{self, BufRead, BufReader};
@@ -15,5 +18,6 @@ fn main(rt: HostRuntime) -> io::Result<()> {
         let told = rows.tell(alloc, line?.as_str())?;
         print!(rt; "{told}")?;
     }
-    Ok(())
+    let last = rows.last(alloc)?;
+    print!(rt; "{last}")
 }

@@ -1,5 +1,6 @@
 //! The rows: what each line does, and what is printed of it.
 use crate::file::{File, LIMIT, digits_of};
+use crate::tally::Tally;
 use ebc_cli::{Outcome, ebc};
 use ebc_outside::{Folder, MemFolder, MemSink, ReadEnd};
 use std::alloc::{AllocError, Global};
@@ -15,7 +16,7 @@ enum Part {
     Bytes,
 }
 
-/// The files and the output of a row, and the file that is written down.
+/// The files and the output of a row, the file that is written down, and what holds so far.
 #[derive(Drop)]
 pub struct Rows {
     folder: MemFolder,
@@ -25,6 +26,7 @@ pub struct Rows {
     part: Part,
     name: String,
     file: File,
+    tally: Tally,
 }
 
 // No method has a contract, so that the many clauses of `ebc` are known in `outcome` alone, and what calls it is proved without them.
@@ -38,16 +40,21 @@ impl Rows {
             part: Part::Row,
             name: String::new(alloc),
             file: File::new(alloc),
+            tally: Tally::new(alloc),
         }
     }
 
     /// Does what a line says. The answer is what is printed of it.
+    ///
+    /// # Errors
+    ///
+    /// Want of memory.
     pub fn tell(&mut self, alloc: Global, line: &str) -> Result<String, AllocError> {
         if line == "end" {
             return self.end(alloc);
         }
         match self.part {
-            Part::Row => self.row_line(alloc, line),
+            Part::Row => self.line(alloc, line),
             Part::Text => {
                 self.file.put_line(line)?;
                 Ok(String::new(alloc))
@@ -57,6 +64,17 @@ impl Rows {
                 told_of(alloc, known, line)
             }
         }
+    }
+
+    /// What is printed at the end of the rows.
+    ///
+    /// # Errors
+    ///
+    /// Want of memory.
+    pub fn last(&mut self, alloc: Global) -> Result<String, AllocError> {
+        let settled = self.tally.settle(alloc)?;
+        let count = self.tally.count(alloc)?;
+        format!(in alloc; "{settled}{count}")
     }
 
     // The file that was written down stands under its name.
@@ -69,16 +87,42 @@ impl Rows {
         Ok(String::new(alloc))
     }
 
+    // A wanted line, or any other, before which the line that asks is settled.
+    fn line(&mut self, alloc: Global, line: &str) -> Result<String, AllocError> {
+        let (word, rest) = line.split_once(' ').unwrap_or((line, ""));
+        if word == "=" {
+            let known = self.tally.want(rest)?;
+            return told_of(alloc, known, line);
+        }
+        let settled = self.tally.settle(alloc)?;
+        let told = self.row_line(alloc, line)?;
+        format!(in alloc; "{settled}{told}")
+    }
+
     fn row_line(&mut self, alloc: Global, line: &str) -> Result<String, AllocError> {
+        let (word, rest) = line.split_once(' ').unwrap_or((line, ""));
+        let found = match word {
+            "call" => self.call(alloc, rest)?,
+            "show" => self.show(alloc, rest)?,
+            "parts" => self.parts(alloc, rest)?,
+            _ => return self.other_line(alloc, line),
+        };
+        self.tally.ask(alloc, line, found)?;
+        Ok(String::new(alloc))
+    }
+
+    // A line that doesn't ask.
+    fn other_line(&mut self, alloc: Global, line: &str) -> Result<String, AllocError> {
         let (word, rest) = line.split_once(' ').unwrap_or((line, ""));
         match word {
             "row" => self.begin(alloc, rest),
             "text" => self.write_down(alloc, Part::Text, rest),
             "bytes" => self.write_down(alloc, Part::Bytes, rest),
             "fail" => self.fail(alloc, rest),
-            "call" => self.call(alloc, rest),
-            "show" => self.show(alloc, rest),
-            "parts" => self.parts(alloc, rest),
+            "usage:" => {
+                self.tally.put_usage(alloc, line)?;
+                Ok(String::new(alloc))
+            }
             "" | "--" => Ok(String::new(alloc)),
             _ => told_of(alloc, false, line),
         }
@@ -87,7 +131,7 @@ impl Rows {
     fn begin(&mut self, alloc: Global, name: &str) -> Result<String, AllocError> {
         self.folder = MemFolder::new(alloc);
         self.out = MemSink::new(alloc);
-        format!(in alloc; "row {name}\n")
+        self.tally.begin(alloc, name)
     }
 
     fn write_down(&mut self, alloc: Global, part: Part, name: &str) -> Result<String, AllocError> {
@@ -148,14 +192,14 @@ impl Rows {
         ebc(alloc, words, &mut self.folder, &mut self.out)
     }
 
-    // Does the words of a line, split at its spaces: these, the exit status and the outcome, and what is printed.
+    // Does the words of a line, split at its spaces: the exit status and the outcome, and what is printed.
     fn call(&mut self, alloc: Global, line: &str) -> Result<String, AllocError> {
         let words = words_of(alloc, line)?;
         let before = self.out.text().len();
         let outcome = self.outcome(alloc, &words);
         let printed = self.out.text().get(before..).unwrap_or(b"");
         let printed = str::from_utf8(printed).unwrap_or("no text\n");
-        format!(in alloc; "> {line}\n{} {outcome:?}\n{printed}", outcome.code())
+        format!(in alloc; "{} {outcome:?}\n{printed}", outcome.code())
     }
 
     // Does words once for each first part of a file, which stands under its name, and tells an answer where it changes, with the
@@ -185,10 +229,10 @@ impl Rows {
         match self.folder.read(alloc, name, 1048576) {
             Ok(bytes) => {
                 let digits = digits_of(alloc, bytes.as_slice())?;
-                format!(in alloc; "= {name} {digits}\n")
+                format!(in alloc; "{digits}\n")
             }
-            Err(ReadEnd::Missing) => format!(in alloc; "= {name} missing\n"),
-            Err(ReadEnd::Fault) => format!(in alloc; "= {name} not read\n"),
+            Err(ReadEnd::Missing) => String::from_str(alloc, "missing\n"),
+            Err(ReadEnd::Fault) => String::from_str(alloc, "not read\n"),
             Err(ReadEnd::NoMemory) => Err(AllocError),
         }
     }
