@@ -123,6 +123,14 @@ driver.efi: main+0x40: error: static: the thunk cell goes up to 0x1048, and func
 driver.notes:24:1: note: the thunk cell, thunk[0].place = 0x1040
   see docs/RULES.md, "The verdict", static
 .
+# The state there is no matter of the rule.
+edit driver.notes 'place = 0x2000' 'place = 0x1006'
+slip 'a thunk cell at an instruction' 1 'refused 00001006 static' $check <<'.'
+driver.efi: main+0x6: error: static: the thunk cell goes up to 0x100e, and function[0] from 0x1000 up to 0x1044; they share bytes
+  0x1006 BREAK 5
+driver.notes:24:1: note: the thunk cell, thunk[0].place = 0x1006
+  see docs/RULES.md, "The verdict", static
+.
 printf '[[thunk]]\nplace = 0x2004\nfunction = "tick"\n' >>driver.notes
 slip 'a thunk cell over another' 1 'refused 00002000 static' $check <<'.'
 driver.efi: 0x2000: error: static: the thunk cell goes up to 0x2008, and thunk[1] from 0x2004 up to 0x200c; they share bytes

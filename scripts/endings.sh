@@ -27,7 +27,7 @@ ebc: note: at both widths the run goes on after 10 steps; wanted: more STEPS, 10
 .
 # `tick` divides by R4, which is 0.
 in_tick 6 'MOVIqw R4, 0' 'DIV64 R5, R4'
-of_made 'a division by 0' 64 'end 23 00001048 raised divide_error' 'ebc: note: at width 64 the run raised divide_error'
+of_made 'a division by 0' 64 'end 23 00001048 raised divide_error' 'ebc: note: at width 64 the run raised divide_error at tick+0x4'
 
 # ---- the reply
 
@@ -98,12 +98,18 @@ of_pair() {
 }
 slip 'too few steps of a pair' 0 'end 5 00001006 running .. same' $pair 5 <<'.'
 ebc: note: at both widths the run goes on after 5 steps; wanted: more STEPS, 100000 at most
-  see docs/SCRIPTS.md, "A run that goes wrong"
+  see docs/PAIRS.md, "A run that goes wrong"
+.
+edit consumer.script 'version = 1' 'version = 2'
+printf '[[notify]]\nat = 1\nfunction = "main"\nargs = ["ptr 0 0"]\n' >>consumer.script
+slip 'a notification in a pair' 3 'bad consumer.script range notify' $pair 1000 <<'.'
+consumer.script:10:1: error: notify[0] is a notification, and the scripts of a pair have none; wanted: no table [[notify]]
+  see docs/PAIRS.md, "A run that goes wrong"
 .
 echo 'version = 1' >pair.binds
 slip 'a method that is not bound' 0 'end 8 0000100c script end .. same' $pair 1000 <<'.'
 consumer.script: note: at both widths the driver makes one call more than the 0 of the script; wanted: one more table [[call]], with signature = "double" and args = ["int 21"]
-  see docs/SCRIPTS.md, "A run that goes wrong"
+  see docs/PAIRS.md, "A run that goes wrong"
 .
 edit consumer.notes $'params = ["n int:0..1000"]\nresult = "int:0..2000"' $'params = ["n int:0..1000"]\nresult = "int:0..40"'
 slip 'a bind that does not agree' 3 'bad pair.binds range bind[0]' $pair 1000 <<'.'

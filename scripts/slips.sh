@@ -237,6 +237,11 @@ slip 'a source given to check' 3 'bad driver.asm mz 0' check driver.asm driver.n
 driver.asm:0x0: error: the first bytes are 3b 20; wanted: 4d 5a, MZ, with which an image begins; it is a text
   see docs/IMAGES.md, "Faults, and what to do about them"
 .
+: >empty.efi
+slip 'an empty image' 3 'bad empty.efi short 0' check empty.efi driver.notes <<'.'
+empty.efi:0x0: error: the file has 0 bytes; wanted: an image, which has at least 64
+  see docs/IMAGES.md, "Faults, and what to do about them"
+.
 slip 'STEPS 100000000' 7 'large 100000000' twin driver.efi driver.notes driver.script 100000000 <<'.'
 ebc: error: STEPS is 100000000; wanted: 10000000 at most
   see docs/COMMANDS.md, "Commands"

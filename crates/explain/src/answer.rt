@@ -3,6 +3,7 @@ ghost use Rattle.std.specs.Prelude.{◌≡◌};
 ghost use Rattle.cli_base.specs.Words.{word_bytes};
 ghost use Rattle.explain.specs.Heads.{checks_code, names_objects, word_at};
 
+use crate::printed::PrintedFault;
 use crate::program::{Program, Slot, Use, command_slots, notes_slots};
 use cli_base::Outcome;
 use ebc_base::NoMemory;
@@ -23,6 +24,8 @@ pub struct Answer<'a> {
     pub asked: &'a str,
     /// The system's words for the error that ended a read, a write or a put; empty if there was none.
     pub cause: &'a str,
+    /// The line that was printed of a file that isn't of its form; empty if there was another answer, or no memory to keep the line.
+    pub fault_line: &'a str,
 }
 
 /// A word and what it stands for.
@@ -108,6 +111,11 @@ impl<'a> Answer<'a> {
             }
         }
         None
+    }
+
+    /// The fault that was printed of the file that a word names; none if another answer was printed.
+    pub(crate) fn printed_fault(&self, number: usize) -> Option<PrintedFault<'a>> {
+        PrintedFault::in_line(self.fault_line, self.word(number))
     }
 
     /// The bytes of the file that a word names, if they were kept and are within the limit.

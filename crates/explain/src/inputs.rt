@@ -3,21 +3,28 @@ ghost use Rattle.std.specs.Prelude.{◌≤◌, length};
 
 use crate::answer::Answer;
 use crate::plans::plan_said;
+use crate::printed::PrintedFault;
 use crate::program::{Program, Slot};
-use bind_texts::read_binds;
-use ebc_asm::{AsmEnd, assemble};
 use ebc_base::NoMemory;
 use ebc_outside::MemFolder;
-use explain_base::Said;
+use explain_base::{Line, Said};
 use explain_files::{image_said, rom_said, taking_said};
 use explain_source::source_said;
 use explain_texts::{NotesFile, TomlText, toml_said};
-use note_types::{Notes, NotesEnd, TomlFault};
+use note_types::{Notes, NotesEnd, Script, TomlFault};
 use option_rom::{RomEnd, RomImage, read_rom, take};
-use pe_image::{ImageEnd, read_image};
 use protocol_script::read_script;
 use std::alloc::Global;
+use toml_spans::{key_span, position_of};
 use type_notes::read_notes;
+
+// A file that isn't of its form: the number of its word, its bytes, and its fault as it was printed.
+#[derive(Clone, Copy)]
+struct BadFile<'a> {
+    number: usize,
+    bytes: &'a [u8],
+    fault: PrintedFault<'a>,
+}
 
 // What a file that is to be a text begins as, after a semicolon; empty if it begins as no other file that there is.
 fn beginning(bytes: &[u8]) -> &'static str {
@@ -35,56 +42,46 @@ fn beginning(bytes: &[u8]) -> &'static str {
 }
 
 // Adds what a file that is to be a text begins as.
-fn with_beginning(bytes: &[u8], said: Said) -> Result<Said, NoMemory> {
+fn with_beginning(bytes: &[u8], said: Said) -> Said {
     let mut said = said;
-    said.what.push_str(beginning(bytes))?;
-    Ok(said)
+    said.what.text(beginning(bytes));
+    said
 }
 
-fn bad_image(alloc: Global, bytes: &[u8]) -> Result<Option<Said>, NoMemory> {
-    match read_image(alloc, bytes) {
-        Ok(image) => {
-            drop(image);
-            Ok(None)
-        }
-        Err(ImageEnd::Fault { kind, offset }) => Ok(Some(image_said(alloc, bytes, kind, offset)?)),
-        Err(ImageEnd::NoMemory) => Err(NoMemory),
+fn bad_image(alloc: Global, file: &BadFile) -> Result<Option<Said>, NoMemory> {
+    match file.fault.of_image() {
+        Some((kind, offset)) => Ok(Some(image_said(alloc, file.bytes, kind, offset))),
+        None => Ok(None),
     }
 }
 
-fn bad_source(alloc: Global, bytes: &[u8]) -> Result<Option<Said>, NoMemory> {
-    match assemble(alloc, bytes) {
-        Ok(object) => {
-            drop(object);
-            Ok(None)
-        }
-        Err(AsmEnd::Fault { kind, line }) => match source_said(alloc, bytes, kind, line)? {
-            Some(said) => Ok(Some(with_beginning(bytes, said)?)),
-            None => Ok(None),
-        },
-        Err(AsmEnd::NoMemory) => Err(NoMemory),
+fn bad_source(alloc: Global, file: &BadFile) -> Result<Option<Said>, NoMemory> {
+    let Some((kind, line)) = file.fault.of_source() else {
+        return Ok(None);
+    };
+    match source_said(alloc, file.bytes, kind, line)? {
+        Some(said) => Ok(Some(with_beginning(file.bytes, said))),
+        None => Ok(None),
     }
 }
 
 // Adds how many bytes of a file stand behind the last image of its option ROM, if any do.
-fn add_behind(
-    alloc: Global,
-    images: &[RomImage],
-    size: u64,
-    said: &mut Said,
-) -> Result<(), NoMemory> {
+fn add_behind(images: &[RomImage], size: u64, said: &mut Said) {
     let Some(last) = images.last() else {
-        return Ok(());
+        return;
     };
     let number = images.len().saturating_sub(1);
     let end = u64::from(last.offset) + 512 * u64::from(last.blocks);
     let behind = size.saturating_sub(end);
     if behind == 0 {
-        return Ok(());
+        return;
     }
-    said.add(format!(in alloc;
-        "image {number} is marked as the last, and the {behind} bytes behind it are passed over"
-    )?)
+    let mut line = Line::of(said.what.alloc, "image ");
+    line.count(number)
+        .text(" is marked as the last, and the ")
+        .number(behind)
+        .text(" bytes behind it are passed over");
+    said.add(line);
 }
 
 // Of an option ROM, and of the image that is to be taken out of it, whose number is a word.
@@ -95,7 +92,7 @@ fn bad_rom(alloc: Global, bytes: &[u8], number: &str) -> Result<Option<Said>, No
     let images = match read_rom(alloc, bytes) {
         Ok(images) => images,
         Err(RomEnd::Fault { kind, offset }) => {
-            return Ok(Some(rom_said(alloc, bytes, kind, offset)?));
+            return Ok(Some(rom_said(alloc, bytes, kind, offset)));
         }
         Err(RomEnd::NoMemory) => return Err(NoMemory),
     };
@@ -105,22 +102,10 @@ fn bad_rom(alloc: Global, bytes: &[u8], number: &str) -> Result<Option<Said>, No
     match take(images.as_slice(), wanted) {
         Ok(_) => Ok(None),
         Err(kind) => {
-            let mut said = taking_said(alloc, images.as_slice().len(), wanted, kind)?;
-            add_behind(alloc, images.as_slice(), bytes.len() as u64, &mut said)?;
+            let mut said = taking_said(alloc, images.as_slice().len(), wanted, kind);
+            add_behind(images.as_slice(), bytes.len() as u64, &mut said);
             Ok(Some(said))
         }
-    }
-}
-
-/// The fault of a text in TOML, if it has one.
-pub(crate) fn fault_of<T: Drop>(read: Result<T, NotesEnd>) -> Result<Option<TomlFault>, NoMemory> {
-    match read {
-        Ok(value) => {
-            drop(value);
-            Ok(None)
-        }
-        Err(NotesEnd::Fault(fault)) => Ok(Some(fault)),
-        Err(NotesEnd::NoMemory) => Err(NoMemory),
     }
 }
 
@@ -133,21 +118,21 @@ pub(crate) fn text_said(
     fault: &TomlFault,
 ) -> Result<Said, NoMemory> {
     let said = toml_said(alloc, file, kind, bytes, fault)?;
-    with_beginning(bytes, said)
+    Ok(with_beginning(bytes, said))
 }
 
-// What is said of the fault of a text, if it has one.
-fn fault_said(
-    alloc: Global,
-    file: &str,
+// What is said of a text in TOML by its fault.
+fn toml_text_said(
+    answer: &Answer,
+    file: &BadFile,
     kind: TomlText,
-    bytes: &[u8],
-    fault: Option<TomlFault>,
 ) -> Result<Option<Said>, NoMemory> {
-    match fault {
-        None => Ok(None),
-        Some(fault) => Ok(Some(text_said(alloc, file, kind, bytes, &fault)?)),
-    }
+    let alloc = answer.alloc;
+    let Some(fault) = file.fault.of_toml(alloc)? else {
+        return Ok(None);
+    };
+    let name = answer.word(file.number);
+    Ok(Some(text_said(alloc, name, kind, file.bytes, &fault)?))
 }
 
 // The notes of a word.
@@ -166,37 +151,62 @@ fn notes_of(
     }
 }
 
+// Of a script without a fault that has notifications, which those of a pair may not have.
+fn notified_said(alloc: Global, bytes: &[u8], script: &Script) -> Result<Option<Said>, NoMemory> {
+    if script.notify.is_empty() {
+        return Ok(None);
+    }
+    let text = std::str::from_utf8(bytes).unwrap_or("");
+    let mut at = Line::new(alloc);
+    if let Some(span) = key_span(alloc, text, "notify[0]")? {
+        let place = position_of(bytes, span.key);
+        at.text(":")
+            .number(place.line)
+            .text(":")
+            .number(place.column);
+    }
+    let what = Line::of(
+        alloc,
+        "notify[0] is a notification, and the scripts of a pair have none; wanted: no table [[notify]]",
+    );
+    let page = "docs/PAIRS.md, \"A run that goes wrong\"";
+    Ok(Some(Said::at_place(at, what, page)))
+}
+
+// The same of a text, which may have a fault of a script.
+fn notified(alloc: Global, bytes: &[u8], notes: &Notes) -> Result<Option<Said>, NoMemory> {
+    match read_script(alloc, bytes, notes) {
+        Ok(script) => notified_said(alloc, bytes, &script),
+        Err(NotesEnd::Fault(_)) => Ok(None),
+        Err(NotesEnd::NoMemory) => Err(NoMemory),
+    }
+}
+
 // Of a script, whose notes are the word before.
 fn bad_script(
     answer: &Answer,
-    number: usize,
-    bytes: &[u8],
+    file: &BadFile,
     folder: &mut MemFolder,
 ) -> Result<Option<Said>, NoMemory> {
-    let alloc = answer.alloc;
-    let Some(notes) = notes_of(answer, number.saturating_sub(1), folder)? else {
+    let Some(notes) = notes_of(answer, file.number.saturating_sub(1), folder)? else {
         return Ok(None);
     };
-    let fault = fault_of(read_script(alloc, bytes, &notes))?;
-    fault_said(
-        alloc,
-        answer.word(number),
-        TomlText::Script(&notes),
-        bytes,
-        fault,
-    )
+    if file.fault.is_range_of("notify") {
+        let said = notified(answer.alloc, file.bytes, &notes)?;
+        if said.is_some() {
+            return Ok(said);
+        }
+    }
+    toml_text_said(answer, file, TomlText::Script(&notes))
 }
 
 // Of binds under the notes of both images, which are the words 2 and 5 of `pair`.
 fn bad_binds(
     answer: &Answer,
-    number: usize,
-    bytes: &[u8],
+    file: &BadFile,
     a: &Notes,
     b: &Notes,
 ) -> Result<Option<Said>, NoMemory> {
-    let alloc = answer.alloc;
-    let fault = fault_of(read_binds(alloc, bytes, a, b))?;
     let consumer = NotesFile {
         file: answer.word(2),
         notes: a,
@@ -205,35 +215,29 @@ fn bad_binds(
         file: answer.word(5),
         notes: b,
     };
-    let kind = TomlText::Binds(consumer, provider);
-    fault_said(alloc, answer.word(number), kind, bytes, fault)
+    toml_text_said(answer, file, TomlText::Binds(consumer, provider))
 }
 
 // Of binds, whose notes are read.
 fn bad_pair(
     answer: &Answer,
-    number: usize,
-    bytes: &[u8],
+    file: &BadFile,
     folder: &mut MemFolder,
 ) -> Result<Option<Said>, NoMemory> {
     let Some(a) = notes_of(answer, 2, folder)? else {
         return Ok(None);
     };
     match notes_of(answer, 5, folder)? {
-        Some(b) => bad_binds(answer, number, bytes, &a, &b),
+        Some(b) => bad_binds(answer, file, &a, &b),
         None => Ok(None),
     }
 }
 
 // Of notes. Those with labels are told by the answer itself.
-fn bad_notes(answer: &Answer, number: usize, bytes: &[u8]) -> Result<Option<Said>, NoMemory> {
-    let alloc = answer.alloc;
+fn bad_notes(answer: &Answer, file: &BadFile) -> Result<Option<Said>, NoMemory> {
     match answer.program {
         Program::EbcNotes => Ok(None),
-        _ => {
-            let fault = fault_of(read_notes(alloc, bytes))?;
-            fault_said(alloc, answer.word(number), TomlText::Notes, bytes, fault)
-        }
+        _ => toml_text_said(answer, file, TomlText::Notes),
     }
 }
 
@@ -250,36 +254,36 @@ fn fault_name(fault: u8) -> &'static str {
 }
 
 /// What is said of the fault of a file of which nothing more is known. The answer itself tells where notes with labels have theirs.
-pub(crate) fn number_said(answer: &Answer, number: usize, fault: u8) -> Result<Said, NoMemory> {
-    let alloc = answer.alloc;
+pub(crate) fn number_said(answer: &Answer, number: usize, fault: u8) -> Said {
     let Some(slot) = answer.slot(number) else {
-        return Ok(Said::only(
-            alloc,
-            String::from_str(alloc, "the file isn't of its form")?,
-        ));
+        return Said::text(answer.alloc, "the file isn't of its form");
     };
-    let name = slot.name();
+    let mut what = Line::of(answer.alloc, slot.name());
     if answer.program.completes() && number == 1 {
-        let fault = fault_name(fault);
-        let what = format!(in alloc;
-            "{name} has the fault {fault}; the answer names the key, and where it stands"
-        )?;
-        return Said::at_place(
-            alloc,
-            String::new(alloc),
-            what,
-            "docs/LABELS.md, \"What is answered\"",
-        );
+        what.text(" has the fault ")
+            .text(fault_name(fault))
+            .text("; the answer names the key, and where it stands");
+        return Said::with_page(what, "docs/LABELS.md, \"What is answered\"");
     }
-    let what = format!(in alloc;
-        "{name} isn't of its form; the answer names its first fault, and where it stands"
-    )?;
-    Said::at_place(
-        alloc,
-        String::new(alloc),
-        what,
-        "docs/COMMANDS.md, \"Faults\"",
-    )
+    what.text(" isn't of its form; the answer names its first fault, and where it stands");
+    Said::with_page(what, "docs/COMMANDS.md, \"Faults\"")
+}
+
+// What is said of a file by its fault.
+fn bad_file_said(
+    answer: &Answer,
+    slot: Slot,
+    file: &BadFile,
+    folder: &mut MemFolder,
+) -> Result<Option<Said>, NoMemory> {
+    match slot {
+        Slot::Image | Slot::Image2 => bad_image(answer.alloc, file),
+        Slot::Source => bad_source(answer.alloc, file),
+        Slot::Notes | Slot::Notes2 => bad_notes(answer, file),
+        Slot::Script | Slot::Script2 => bad_script(answer, file, folder),
+        Slot::Binds => bad_pair(answer, file, folder),
+        _ => Ok(None),
+    }
 }
 
 /// What is said of the file of a word that isn't of its form; none if nothing more is known of it.
@@ -288,7 +292,6 @@ pub(crate) fn bad_said(
     number: usize,
     folder: &mut MemFolder,
 ) -> Result<Option<Said>, NoMemory> {
-    let alloc = answer.alloc;
     let Some(slot) = answer.slot(number) else {
         return Ok(None);
     };
@@ -296,14 +299,17 @@ pub(crate) fn bad_said(
         return Ok(None);
     };
     let bytes = bytes.as_slice();
-    match slot {
-        Slot::Image | Slot::Image2 => bad_image(alloc, bytes),
-        Slot::Source => bad_source(alloc, bytes),
-        Slot::Rom => bad_rom(alloc, bytes, answer.word(3)),
-        Slot::Plan => plan_said(answer, number, bytes, folder),
-        Slot::Notes | Slot::Notes2 => bad_notes(answer, number, bytes),
-        Slot::Script | Slot::Script2 => bad_script(answer, number, bytes, folder),
-        Slot::Binds => bad_pair(answer, number, bytes, folder),
+    match (slot, answer.printed_fault(number)) {
+        (Slot::Rom, _) => bad_rom(answer.alloc, bytes, answer.word(3)),
+        (Slot::Plan, _) => plan_said(answer, number, bytes, folder),
+        (_, Some(fault)) => {
+            let file = BadFile {
+                number,
+                bytes,
+                fault,
+            };
+            bad_file_said(answer, slot, &file, folder)
+        }
         _ => Ok(None),
     }
 }

@@ -1,6 +1,7 @@
 //! What the programs say on standard error of an answer: what was found, what is wanted and where, and the page that
 //! mends it (docs/COMMANDS.md, "Standard error"). The crates below give what is said as data (`Said` of
-//! `explain_base`). This one reads the kept files once more, goes the failed step again, and makes the lines.
+//! `explain_base`). This one takes the fault of a file from the answer's line, goes any other failed step again over the
+//! kept files, and makes the lines.
 //!
 //! Promises:
 //!
@@ -19,7 +20,8 @@
 //!   that begin with what it is given.
 //! - `tell` hands the answer, with what the folder kept and the system said, to `explanation`, and prints the text. It
 //!   has no clause.
-//! - `Watched` is a `Sink` with each clause of that trait. No clause says which runs it calls amiss.
+//! - `Watched` is a `Sink` with each clause of that trait. No clause says which runs it calls amiss, nor which line it
+//!   keeps.
 //! - The sentences have no clause.
 #![tactic(auto)]
 
@@ -31,6 +33,7 @@ mod inputs;
 mod lines;
 mod outcomes;
 mod plans;
+mod printed;
 mod program;
 mod refusals;
 mod refused;

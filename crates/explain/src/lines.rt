@@ -38,10 +38,13 @@ fn add_lines(alloc: Global, before: &str, lines: &[Name], told: &mut Told) -> Re
     Ok(())
 }
 
-// Adds all below the first line: the other lines, those of notes, and the page.
+// Adds all below the first line: the other lines, those of notes, and the page. It tells want of memory of any part of what is said.
 fn add_below(alloc: Global, said: &Said, told: &mut Told) -> Result<(), AllocError>
     ensures { OnOk result (BeginsWith told.old told.new) }
 {
+    if said.is_short() {
+        return Err(AllocError);
+    }
     add_lines(alloc, "  ", said.more.as_slice(), told)?;
     add_lines(alloc, "", said.notes.as_slice(), told)?;
     if said.see.is_empty() {

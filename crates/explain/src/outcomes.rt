@@ -15,7 +15,7 @@ use crate::words::words_said;
 use cli_base::Outcome;
 use ebc_base::NoMemory;
 use ebc_outside::MemFolder;
-use explain_base::Said;
+use explain_base::{Line, Said};
 
 // The file of which something is said: the one that is given, and else the program.
 fn file_or_program<'a>(answer: &Answer, said: &'a Said) -> &'a str {
@@ -28,8 +28,9 @@ fn file_or_program<'a>(answer: &Answer, said: &'a Said) -> &'a str {
 
 // What stands behind the name of a file: where in it, and a label.
 fn tail_of(answer: &Answer, said: &Said, label: &str) -> Result<String, NoMemory> {
-    let at = said.at.as_str();
-    Ok(format!(in answer.alloc; "{at}{label}")?)
+    let mut tail = Line::new(answer.alloc);
+    tail.line(&said.at).text(label);
+    tail.done()
 }
 
 // What is said of a place of a file, or of a program.
@@ -84,7 +85,7 @@ fn missing_lines(answer: &Answer, number: u8) -> Result<Told, NoMemory>
         (missing_file answer.now.program (word_bytes answer.now.words.now) answer.now.asked.now number))) told) }
     ensures says { IfOk result (λ told. told ≢ []) }
 {
-    error_lines(answer, missing_file(answer, number), &unread_said(answer)?)
+    error_lines(answer, missing_file(answer, number), &unread_said(answer))
 }
 
 // What is said of a file that can't be read.
@@ -93,7 +94,7 @@ fn unread_lines(answer: &Answer) -> Result<Told, NoMemory>
     ensures says { IfOk result (λ told. told ≢ []) }
 {
     let name = asked_or(answer.asked, answer.program.name());
-    error_lines(answer, name, &unread_said(answer)?)
+    error_lines(answer, name, &unread_said(answer))
 }
 
 // What is said of the file that a word names, or of an object.
@@ -125,7 +126,7 @@ fn bad_lines(
 {
     let said = match bad_said(answer, number as usize, folder)? {
         Some(said) => said,
-        None => number_said(answer, number as usize, fault)?,
+        None => number_said(answer, number as usize, fault),
     };
     bad_file_lines(answer, number, &said)
 }
@@ -170,9 +171,7 @@ fn no_memory_lines(answer: &Answer) -> Result<Told, NoMemory>
     ensures begins { IfOk result (λ told. BeginsWith (shown (error_head (name_of answer.now.program))) told) }
     ensures says { IfOk result (λ told. told ≢ []) }
 {
-    let alloc = answer.alloc;
-    let said = Said::only(alloc, String::from_str(alloc, "memory ran out")?);
-    program_lines(answer, &said)
+    program_lines(answer, &Said::text(answer.alloc, "memory ran out"))
 }
 
 // What is said of an answer.
@@ -184,13 +183,13 @@ fn lines_of(answer: &Answer, folder: &mut MemFolder) -> Result<Told, NoMemory>
 {
     match answer.outcome {
         Outcome::Done => done_lines(answer, folder),
-        Outcome::BadWords => program_lines(answer, &words_said(answer)?),
+        Outcome::BadWords => program_lines(answer, &words_said(answer)),
         Outcome::NoMemory => no_memory_lines(answer),
         Outcome::Missing { word } => missing_lines(answer, word),
         Outcome::BadInput { word, fault } => bad_lines(answer, word, fault, folder),
         Outcome::ReadFault => unread_lines(answer),
-        Outcome::WriteFault => other_lines(answer, &unwritten_said(answer)?),
-        Outcome::TooLarge { word } => other_lines(answer, &large_said(answer, word as usize)?),
+        Outcome::WriteFault => other_lines(answer, &unwritten_said(answer)),
+        Outcome::TooLarge { word } => other_lines(answer, &large_said(answer, word as usize)),
         Outcome::Differ { step } => differ_lines(answer, step, folder),
         Outcome::Refused { place, rule } => refused_lines(answer, place, rule, folder),
     }

@@ -5,7 +5,7 @@ ghost use Rattle.ebc_link.specs.Plans.{IsPlan};
 ghost use Rattle.ebc_object.specs.Objects.{IsObject};
 
 use crate::answer::Answer;
-use crate::inputs::{fault_of, text_said};
+use crate::inputs::text_said;
 use cli_base::End;
 use ebc_base::{Name, NoMemory};
 use ebc_link::{LinkPlan, link, read_plan};
@@ -15,7 +15,7 @@ use explain_base::Said;
 use explain_files::{link_said, object_said};
 use explain_texts::TomlText;
 use file_inputs::read_objects;
-use note_types::NotesEnd;
+use note_types::{NotesEnd, TomlFault};
 use std::alloc::Global;
 
 // What is said of the first of the objects that is none.
@@ -32,7 +32,7 @@ fn bad_object(
         match read_object(alloc, bytes.as_slice()) {
             Ok(object) => drop(object),
             Err(ObjectEnd::Fault { kind, offset }) => {
-                return Ok(Some(object_said(alloc, name, bytes.as_slice(), kind, offset)?));
+                return Ok(Some(object_said(alloc, name, bytes.as_slice(), kind, offset)));
             }
             Err(ObjectEnd::NoMemory) => return Err(NoMemory),
         }
@@ -55,6 +55,17 @@ fn unlinked(alloc: Global, plan: &LinkPlan, objects: &[Object]) -> Result<Option
     }
 }
 
+// The fault of a plan's text, if the answer tells it; none of `twice`, which is also what a symbol of its objects may be.
+fn printed_fault(answer: &Answer, number: usize) -> Result<Option<TomlFault>, NoMemory> {
+    let Some(fault) = answer.printed_fault(number) else {
+        return Ok(None);
+    };
+    match fault.of_toml(answer.alloc)? {
+        Some(TomlFault::Twice(_)) => Ok(None),
+        fault => Ok(fault),
+    }
+}
+
 /// What is said of a plan at its first fault, or at the first of its objects.
 pub(crate) fn plan_said(
     answer: &Answer,
@@ -64,15 +75,15 @@ pub(crate) fn plan_said(
 ) -> Result<Option<Said>, NoMemory> {
     let alloc = answer.alloc;
     let file = answer.word(number);
+    if let Some(fault) = printed_fault(answer, number)? {
+        return Ok(Some(text_said(alloc, file, TomlText::Plan, bytes, &fault)?));
+    }
     let plan = match read_plan(alloc, bytes) {
         Ok(plan) => plan,
-        Err(end) => {
-            let fault = fault_of::<LinkPlan>(Err(end))?;
-            return match fault {
-                Some(fault) => Ok(Some(text_said(alloc, file, TomlText::Plan, bytes, &fault)?)),
-                None => Ok(None),
-            };
+        Err(NotesEnd::Fault(fault)) => {
+            return Ok(Some(text_said(alloc, file, TomlText::Plan, bytes, &fault)?));
         }
+        Err(NotesEnd::NoMemory) => return Err(NoMemory),
     };
     let names = plan.objects.as_slice();
     match read_objects(alloc, 1, names, folder) {

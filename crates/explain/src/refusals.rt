@@ -9,9 +9,9 @@ use crate::since::add_since;
 use cli_base::End;
 use ebc_base::NoMemory;
 use ebc_decode::decode;
-use ebc_insn::well_formed;
+use ebc_insn::{Insn, well_formed};
 use ebc_outside::MemFolder;
-use explain_base::{Said, Scene, listing_text};
+use explain_base::{Line, Said, Scene};
 use explain_checks::{Refused, check_said};
 use explain_rows::row_said;
 use file_inputs::read_as;
@@ -21,12 +21,15 @@ use pe_image::Image;
 use point_texts::state_text;
 use state_walk::{Before, before, given};
 use std::alloc::Global;
-use toml_spans::{key_span, position_of};
+use toml_spans::{KeySpan, key_span, position_of};
 
 // Whether a rule looks at the state.
 fn looks_at_state(rule: RuleName) -> bool {
     match rule {
-        RuleName::Decode
+        RuleName::Shape
+        | RuleName::Function
+        | RuleName::Static
+        | RuleName::Decode
         | RuleName::State
         | RuleName::Point
         | RuleName::Relocation
@@ -53,33 +56,35 @@ pub(crate) fn scene_of<'a>(alloc: Global, notes: &'a Notes, at: &'a Before) -> O
 }
 
 // What is said of the row of an instruction.
-fn said_of_row(
-    alloc: Global,
-    notes: &Notes,
-    at: &Before,
-    rule: RuleName,
-) -> Result<Option<Said>, NoMemory> {
-    let Some(scene) = scene_of(alloc, notes, at) else {
-        return Ok(None);
-    };
+fn said_of_row(alloc: Global, notes: &Notes, at: &Before, rule: RuleName) -> Option<Said> {
+    let scene = scene_of(alloc, notes, at)?;
     if !well_formed(scene.insn) {
-        return Ok(None);
+        return None;
     }
     row_said(&scene, rule)
 }
 
-// Adds the line of the instruction.
-fn add_instruction(alloc: Global, at: &Before, said: &mut Said) -> Result<(), NoMemory> {
-    let place = at.place;
-    if let Some((insn, _)) = &at.insn {
-        let reloc = match &at.here {
-            Some(here) => here.reloc,
-            None => None,
-        };
-        let line = listing_text(alloc, insn, reloc)?;
-        said.add(format!(in alloc; "0x{place:x} {line}")?)?;
+/// The line of the instruction at a place or an offset.
+pub(crate) fn instruction_line(alloc: Global, place: u32, insn: &Insn) -> Line {
+    let mut line = Line::new(alloc);
+    line.at(place).text(" ").insn(insn);
+    line
+}
+
+// Adds the line of the instruction, with the place that its relocated immediate names.
+fn add_instruction(alloc: Global, at: &Before, said: &mut Said) {
+    let Some((insn, _)) = &at.insn else {
+        return;
+    };
+    let mut line = instruction_line(alloc, at.place, insn);
+    let reloc = match &at.here {
+        Some(here) => here.reloc,
+        None => None,
+    };
+    if let Some(place) = reloc {
+        line.text(", the address of place ").at(place);
     }
-    Ok(())
+    said.add(line);
 }
 
 // Adds the lines of the state before it.
@@ -87,7 +92,7 @@ fn add_state(alloc: Global, notes: &Notes, at: &Before, said: &mut Said) -> Resu
     if let Some(state) = &at.state {
         let text = state_text(alloc, notes, at.place, state)?;
         for line in text.as_str().lines() {
-            said.add(String::from_str(alloc, line)?)?;
+            said.add(Line::of(alloc, line));
         }
     }
     Ok(())
@@ -105,9 +110,9 @@ fn add_before(
     requires image { IsImage image.now }
     requires notes { IsNotes notes.now }
 {
-    add_instruction(alloc, at, said)?;
+    add_instruction(alloc, at, said);
     if looks_at_state(rule) {
-        add_since(alloc, image, notes, at, said)?;
+        add_since(image, notes, at, said);
         add_state(alloc, notes, at, said)?;
     }
     Ok(())
@@ -122,7 +127,7 @@ fn said_of(refused: &Refused) -> Result<Option<Said>, NoMemory>
         return Ok(Some(said));
     }
     match refused.at {
-        Some(at) => said_of_row(refused.alloc, refused.notes, at, refused.rule),
+        Some(at) => Ok(said_of_row(refused.alloc, refused.notes, at, refused.rule)),
         None => Ok(None),
     }
 }
@@ -135,50 +140,52 @@ struct Read<'a> {
     text: &'a [u8],
 }
 
-// Adds the line of the key of the notes that is concerned.
-fn add_key(answer: &Answer, text: &[u8], said: &mut Said) -> Result<(), NoMemory> {
-    let alloc = answer.alloc;
-    let (file, key, note) = (answer.word(2), said.key.as_str(), said.note.as_str());
-    let Ok(toml) = std::str::from_utf8(text) else {
-        return Ok(());
-    };
-    let Some(span) = key_span(alloc, toml, key)? else {
-        return Ok(());
-    };
+// The line of a key of the notes, which stands in their text: its place, what is said of it, and its value if that is short.
+fn key_line(answer: &Answer, text: &[u8], span: &KeySpan, said: &Said) -> Line {
     let at = position_of(text, span.key);
-    let (line, column) = (at.line, at.column);
+    let mut line = Line::of(answer.alloc, answer.word(2));
+    line.text(":")
+        .number(at.line)
+        .text(":")
+        .number(at.column)
+        .text(": note: ");
+    line.text(said.note).text(", ").line(&said.key);
     let says = match text.get(span.from..span.to) {
         Some(part) => std::str::from_utf8(part).unwrap_or("").trim_end(),
         None => "",
     };
-    let told = if !says.is_empty() && says.len() <= 120 && !says.starts_with("[[") {
-        format!(in alloc; "{file}:{line}:{column}: note: {note}, {key} = {says}")?
-    } else {
-        format!(in alloc; "{file}:{line}:{column}: note: {note}, {key}")?
+    if !says.is_empty() && says.len() <= 120 && !says.starts_with("[[") {
+        line.text(" = ").text(says);
+    }
+    line
+}
+
+// Adds the line of the key of the notes that is concerned.
+fn add_key(answer: &Answer, text: &[u8], said: &mut Said) -> Result<(), NoMemory> {
+    let Ok(toml) = std::str::from_utf8(text) else {
+        return Ok(());
     };
-    said.add_note(told)
+    if let Some(span) = key_span(answer.alloc, toml, said.key.as_str())? {
+        let line = key_line(answer, text, &span, said);
+        said.add_note(line);
+    }
+    Ok(())
 }
 
 // Adds what may be the cause if a native call has no site: all places behind an edit move.
-fn add_moved(
-    alloc: Global,
-    notes: &Notes,
-    place: u32,
-    rule: RuleName,
-    said: &mut Said,
-) -> Result<(), NoMemory> {
+fn add_moved(notes: &Notes, place: u32, rule: RuleName, said: &mut Said) {
     let RuleName::Site = rule else {
-        return Ok(());
+        return;
     };
     for site in notes.site.as_slice() {
         if site.place == place {
-            return Ok(());
+            return;
         }
     }
-    said.add(String::from_str(
-        alloc,
+    said.add(Line::of(
+        said.what.alloc,
         "an edit of the source moves all places behind it; ebc_notes finds them by labels: docs/LABELS.md",
-    )?)
+    ));
 }
 
 // What is said of an image that is refused at a place by a rule, and of what stands before the instruction there.
@@ -204,12 +211,12 @@ fn told_of(
     };
     let mut said = match said_of(&refused)? {
         Some(said) => said,
-        None => rule_said(answer, rule)?,
+        None => rule_said(answer, rule),
     };
     if let Some(at) = at {
         add_before(alloc, read.image, read.notes, at, rule, &mut said)?;
     }
-    add_moved(alloc, read.notes, place, rule, &mut said)?;
+    add_moved(read.notes, place, rule, &mut said);
     if !said.key.is_empty() {
         add_key(answer, read.text, &mut said)?;
     }
@@ -255,7 +262,7 @@ fn told_read(answer: &Answer, read: &Read, place: u32, rule: RuleName) -> Result
 {
     let at = before_place(answer, read.image, read.notes, place)?;
     let mut said = told_of(answer, read, place, rule, at.as_ref())?;
-    said.see = rule_page(answer, rule)?;
+    said.see = rule_page(answer, rule);
     Ok(said)
 }
 
@@ -280,7 +287,7 @@ pub(crate) fn image_said(
             told_read(answer, &read, place, rule)
         }
         Err(End::NoMemory) => Err(NoMemory),
-        Err(_) => rule_said(answer, rule),
+        Err(_) => Ok(rule_said(answer, rule)),
     }
 }
 
@@ -303,15 +310,13 @@ fn code_text(code: &[u8], rule: RuleName) -> &'static str {
 }
 
 // Adds the line of the instruction at a place of raw code, if one decodes there.
-fn add_code(alloc: Global, code: &[u8], place: u32, said: &mut Said) -> Result<(), NoMemory> {
+fn add_code(code: &[u8], place: u32, said: &mut Said) {
     let offset = place as usize;
     if offset <= code.len() && !code.starts_with(b"MZ") {
         if let Ok((insn, _)) = decode(code, offset) {
-            let line = listing_text(alloc, &insn, None)?;
-            said.add(format!(in alloc; "0x{place:x} {line}")?)?;
+            said.add(instruction_line(said.what.alloc, place, &insn));
         }
     }
-    Ok(())
 }
 
 /// What is said of a refusal of `check CODE`; the rule alone if the file wasn't kept.
@@ -321,13 +326,12 @@ pub(crate) fn code_said(
     rule: RuleName,
     folder: &mut MemFolder,
 ) -> Result<Said, NoMemory> {
-    let alloc = answer.alloc;
     let Some(bytes) = answer.bytes_of(1, folder)? else {
-        return rule_said(answer, rule);
+        return Ok(rule_said(answer, rule));
     };
     let code = bytes.as_slice();
-    let mut said = Said::only(alloc, String::from_str(alloc, code_text(code, rule))?);
-    said.see = rule_page(answer, rule)?;
-    add_code(alloc, code, place, &mut said)?;
+    let mut said = Said::text(answer.alloc, code_text(code, rule));
+    said.see = rule_page(answer, rule);
+    add_code(code, place, &mut said);
     Ok(said)
 }

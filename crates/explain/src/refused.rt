@@ -59,7 +59,7 @@ fn bare_lines(answer: &Answer, file: &str, place: u32, rule: RuleName) -> Result
     ensures begins { IfOk result (λ told. BeginsWith (shown (image_head file.now (number_text place) rule)) told) }
     ensures says { IfOk result (λ told. told ≢ []) }
 {
-    let said = rule_said(answer, rule)?;
+    let said = rule_said(answer, rule);
     let number = number_text(answer.alloc, place)?;
     image_lines(answer, file, number.as_str(), rule, &said)
 }

@@ -1,8 +1,7 @@
 //! What is said of a rule where the image or its notes aren't at hand.
 
 use crate::answer::Answer;
-use ebc_base::NoMemory;
-use explain_base::Said;
+use explain_base::{Line, Said};
 use note_types::RuleName;
 use run_texts::rule_text;
 
@@ -41,23 +40,22 @@ fn sentence(rule: RuleName) -> &'static str {
 }
 
 /// The page on a rule by which an answer refuses.
-pub(crate) fn rule_page(answer: &Answer, rule: RuleName) -> Result<String, NoMemory> {
-    let (alloc, name) = (answer.alloc, rule_text(rule));
+pub(crate) fn rule_page(answer: &Answer, rule: RuleName) -> Line {
     if answer.checks_code() {
-        return Ok(String::from_str(alloc, "docs/PLAIN.md, \"The check\"")?);
+        return Line::of(answer.alloc, "docs/PLAIN.md, \"The check\"");
     }
+    let mut page = Line::new(answer.alloc);
     if answer.program.completes() {
-        return Ok(format!(in alloc;
-            "docs/LABELS.md, \"A refusal\", and docs/RULES.md, \"The verdict\", {name}"
-        )?);
+        page.text("docs/LABELS.md, \"A refusal\", and ");
     }
-    Ok(format!(in alloc; "docs/RULES.md, \"The verdict\", {name}")?)
+    page.text("docs/RULES.md, \"The verdict\", ")
+        .text(rule_text(rule));
+    page
 }
 
 /// What is said of a rule by which an answer refuses, whatever is refused.
-pub(crate) fn rule_said(answer: &Answer, rule: RuleName) -> Result<Said, NoMemory> {
-    let alloc = answer.alloc;
-    let mut said = Said::only(alloc, String::from_str(alloc, sentence(rule))?);
-    said.see = rule_page(answer, rule)?;
-    Ok(said)
+pub(crate) fn rule_said(answer: &Answer, rule: RuleName) -> Said {
+    let mut said = Said::text(answer.alloc, sentence(rule));
+    said.see = rule_page(answer, rule);
+    said
 }

@@ -6,12 +6,13 @@ ghost use Rattle.explain.specs.Drivers.{IsDriver};
 
 use crate::answer::Answer;
 use crate::driver::Driver;
-use crate::heads::place_text;
+use crate::refusals::instruction_line;
 use bind_texts::read_binds;
 use ebc_base::NoMemory;
 use ebc_decode::decode;
+use ebc_insn::{Insn, well_formed};
 use ebc_outside::MemFolder;
-use explain_base::{Said, listing_text};
+use explain_base::{Line, Said};
 use explain_texts::{Scripted, ScriptedPair, Width, pair_said, run_said, twin_said};
 use file_inputs::read_as;
 use note_types::{Notes, Spot};
@@ -229,58 +230,63 @@ pub(crate) fn runs_said(answer: &Answer, folder: &mut MemFolder) -> Result<Vec<S
     }
 }
 
-// The line that says where a run stands.
-fn end_text(alloc: Global, notes: &Notes, report: &RunReport) -> Result<String, NoMemory> {
-    let mut line = Vec::new(alloc);
-    append_end(
-        alloc,
+// Writes where a run stands.
+fn write_end(notes: &Notes, report: &RunReport, line: &mut Line) {
+    let mut end = Vec::new(line.alloc);
+    let appended = append_end(
+        line.alloc,
         notes,
         report.steps,
         report.spot,
         report.ending,
-        &mut line,
-    )?;
-    match String::from_utf8(line) {
-        Ok(text) => Ok(String::from_str(alloc, text.as_str().trim_end())?),
-        Err(_) => Ok(String::new(alloc)),
-    }
+        &mut end,
+    );
+    let text = std::str::from_utf8(end.as_slice()).unwrap_or("");
+    line.text(text.trim_end()).kept(appended.is_ok());
 }
 
-// The line of the listing of the instruction at a place of an image; empty if none decodes there.
-fn listing_at(alloc: Global, image: &Image, place: u32) -> Result<String, NoMemory> {
+// The instruction at a place of an image, if one decodes there.
+fn insn_at(image: &Image, place: u32) -> Option<Insn> {
     for section in image.sections.as_slice() {
         let bytes = section.bytes.as_slice();
         if section.place <= place && ((place - section.place) as usize) < bytes.len() {
-            return match decode(bytes, (place - section.place) as usize) {
-                Ok((insn, _)) => listing_text(alloc, &insn, None),
-                Err(_) => Ok(String::new(alloc)),
-            };
+            let (insn, _) = decode(bytes, (place - section.place) as usize).ok()?;
+            return Some(insn);
         }
     }
-    Ok(String::new(alloc))
+    None
 }
 
 // Adds where the runs part: the place, and the instruction there.
-fn add_spot(alloc: Global, driver: &Driver, spot: Spot, said: &mut Said) -> Result<(), NoMemory> {
+fn add_spot(driver: &Driver, spot: Spot, said: &mut Said) {
     let Spot::Place(place) = spot else {
-        return Ok(());
+        return;
     };
-    let at = place_text(alloc, &driver.notes, place)?;
-    said.at = format!(in alloc; ": {at}")?;
-    let line = listing_at(alloc, &driver.image, place)?;
-    if !line.is_empty() {
-        said.add(format!(in alloc; "0x{place:x} {line}")?)?;
+    said.at.text(": ").place(&driver.notes, place);
+    if let Some(insn) = insn_at(&driver.image, place) {
+        if well_formed(&insn) {
+            said.add(instruction_line(said.what.alloc, place, &insn));
+        }
     }
-    Ok(())
 }
 
-// Where a driver's run stands after so many steps.
-fn end_after<const W: usize>(alloc: Global, driver: &Driver, steps: u64) -> Result<String, NoMemory>
+// Adds where a driver's run stands after so many steps.
+fn add_end<const W: usize>(
+    driver: &Driver,
+    steps: u64,
+    width: &str,
+    said: &mut Said,
+) -> Result<(), NoMemory>
     requires width { IsWidth W }
     requires driver { IsDriver driver.now }
 {
+    let alloc = said.what.alloc;
     let report = report::<W>(alloc, driver, steps)?;
-    end_text(alloc, &driver.notes, &report)
+    let mut line = Line::of(alloc, width);
+    line.text(" then ");
+    write_end(&driver.notes, &report, &mut line);
+    said.add(line);
+    Ok(())
 }
 
 // The spot of a driver's run after so many steps.
@@ -291,33 +297,23 @@ fn spot_after(alloc: Global, driver: &Driver, steps: u64) -> Result<Spot, NoMemo
     Ok(report.spot)
 }
 
-// Adds where the two runs stand after the step after which they first differ.
-fn add_ends(alloc: Global, driver: &Driver, step: u64, said: &mut Said) -> Result<(), NoMemory>
-    requires { IsDriver driver.now }
-{
-    let at4 = end_after::<4>(alloc, driver, step)?;
-    said.add(format!(in alloc; "at width 32 then {at4}")?)?;
-    let at8 = end_after::<8>(alloc, driver, step)?;
-    said.add(format!(in alloc; "at width 64 then {at8}")?)
-}
-
 // What is said of two runs that first differ after so many steps.
-fn parting_said(alloc: Global, step: u64) -> Result<Said, NoMemory> {
-    let what = format!(in alloc; "the two runs differ after step {step}, and not before")?;
-    let page = "docs/HOST.md, \"A run that parts\"";
-    Said::at_place(alloc, String::new(alloc), what, page)
+fn parting_said(alloc: Global, step: u64) -> Said {
+    let mut what = Line::of(alloc, "the two runs differ after step ");
+    what.number(step).text(", and not before");
+    Said::with_page(what, "docs/HOST.md, \"A run that parts\"")
 }
 
 // What is said of the two runs of a driver that first differ after so many steps.
 fn of_parting(answer: &Answer, step: u64, driver: &Driver) -> Result<Said, NoMemory>
     requires { IsDriver driver.now }
 {
-    let alloc = answer.alloc;
-    let mut said = parting_said(alloc, step)?;
-    said.file.push_str(answer.word(1))?;
-    let spot = spot_after(alloc, driver, step.saturating_sub(1))?;
-    add_spot(alloc, driver, spot, &mut said)?;
-    add_ends(alloc, driver, step, &mut said)?;
+    let spot = spot_after(answer.alloc, driver, step.saturating_sub(1))?;
+    let mut said = parting_said(answer.alloc, step);
+    said.file.text(answer.word(1));
+    add_spot(driver, spot, &mut said);
+    add_end::<4>(driver, step, "at width 32", &mut said)?;
+    add_end::<8>(driver, step, "at width 64", &mut said)?;
     Ok(said)
 }
 
@@ -328,10 +324,10 @@ pub(crate) fn differ_said(
     folder: &mut MemFolder,
 ) -> Result<Said, NoMemory> {
     if answer.word(0) != "twin" {
-        return parting_said(answer.alloc, step);
+        return Ok(parting_said(answer.alloc, step));
     }
     match driver_of(answer, 1, folder) {
         Some(driver) => of_parting(answer, step, &driver),
-        None => parting_said(answer.alloc, step),
+        None => Ok(parting_said(answer.alloc, step)),
     }
 }

@@ -69,6 +69,7 @@ pub fn tell<R: Files + io::Eprint + AllocGlobal, W: io::Write + Drop>(
         amiss: out.amiss(),
         asked: asked.as_str(),
         cause: cause.as_str(),
+        fault_line: out.fault_line(),
     };
     match explanation(&answer, folder.replay()) {
         // The exit status tells the outcome also where this text can't be printed.

@@ -2,8 +2,7 @@
 
 use crate::answer::Answer;
 use crate::program::{Program, Slot, Use};
-use ebc_base::NoMemory;
-use explain_base::Said;
+use explain_base::{Line, Said};
 
 const COMMANDS: &str = "asm, link, check, list, run, twin, sample, rom, infer or pair";
 
@@ -42,111 +41,108 @@ fn wanted(slot: Slot, word: &str) -> Option<&'static str> {
     }
 }
 
-// Adds the slots to a usage line.
-fn push_slots(text: &mut String, slots: &[Slot]) -> Result<(), NoMemory> {
-    for slot in slots {
-        text.push_str(" ")?;
-        text.push_str(slot.name())?;
-    }
-    Ok(())
-}
-
-// The usage line of a command of `ebc`, or of the words of another program.
-fn usage(answer: &Answer, slots: &[Slot]) -> Result<String, NoMemory> {
-    let alloc = answer.alloc;
-    let mut text = String::from_str(alloc, "usage:")?;
+// Adds the usage line of a command of `ebc`, or of the words of another program.
+fn add_usage(answer: &Answer, slots: &[Slot], said: &mut Said) {
+    let mut line = Line::of(answer.alloc, "usage:");
     match answer.program {
         Program::Ebc => {
             let command = answer.word(0);
-            text.push_str(" ")?;
-            text.push_str(command)?;
-            push_slots(&mut text, slots)?;
+            line.text(" ").text(command);
+            for slot in slots {
+                line.text(" ").text(slot.name());
+            }
             if command == "check" && slots.len() > 1 {
-                text.push_str(", or check CODE")?;
+                line.text(", or check CODE");
             }
         }
-        Program::EbcPlaces => text.push_str(" IMAGE")?,
-        Program::EbcNotes => text.push_str(" PLAN, or PLAN NOTES")?,
-        Program::EbcLint => text.push_str(" IMAGE NOTES")?,
+        Program::EbcPlaces => {
+            line.text(" IMAGE");
+        }
+        Program::EbcNotes => {
+            line.text(" PLAN, or PLAN NOTES");
+        }
+        Program::EbcLint => {
+            line.text(" IMAGE NOTES");
+        }
     }
-    Ok(text)
+    said.add(line);
 }
 
 // What is said of a first word, or of two, that are no command.
-fn unknown(answer: &Answer) -> Result<Said, NoMemory> {
-    let alloc = answer.alloc;
+fn unknown(answer: &Answer) -> Said {
     let command = answer.word(0);
-    let what = if answer.words.is_empty() {
-        format!(in alloc; "no words; a command is wanted: {COMMANDS}")?
+    let mut what = Line::new(answer.alloc);
+    if answer.words.is_empty() {
+        what.text("no words; a command is wanted: ").text(COMMANDS);
     } else if command == "rom" {
-        let second = answer.word(1);
-        format!(in alloc; "`rom {second}` is no command; wanted: rom wrap, rom list or rom take")?
+        what.text("`rom ")
+            .text(answer.word(1))
+            .text("` is no command; wanted: rom wrap, rom list or rom take");
     } else {
-        format!(in alloc; "`{command}` is no command; wanted: {COMMANDS}")?
-    };
-    Ok(Said::only(alloc, what))
+        what.text("`")
+            .text(command)
+            .text("` is no command; wanted: ")
+            .text(COMMANDS);
+    }
+    Said::only(what)
 }
 
 // What is said of too few or too many words.
-fn miscounted(answer: &Answer, slots: &[Slot]) -> Result<Said, NoMemory> {
-    let alloc = answer.alloc;
+fn miscounted(answer: &Answer, slots: &[Slot]) -> Said {
     let given = answer.words.len().saturating_sub(answer.skipped());
-    let words = if given == 1 { "word" } else { "words" };
-    let wanted = slots.len();
-    let what = match answer.program {
-        Program::Ebc => {
-            let command = answer.word(0);
-            format!(in alloc; "{given} {words} after `{command}`; wanted: {wanted}")?
-        }
-        Program::EbcPlaces => format!(in alloc; "{given} {words}; wanted: 1")?,
-        Program::EbcNotes => format!(in alloc; "{given} {words}; wanted: 1 or 2")?,
-        Program::EbcLint => format!(in alloc; "{given} {words}; wanted: 2")?,
+    let mut what = Line::new(answer.alloc);
+    what.count(given)
+        .text(if given == 1 { " word" } else { " words" });
+    match answer.program {
+        Program::Ebc => what
+            .text(" after `")
+            .text(answer.word(0))
+            .text("`; wanted: ")
+            .count(slots.len()),
+        Program::EbcPlaces => what.text("; wanted: 1"),
+        Program::EbcNotes => what.text("; wanted: 1 or 2"),
+        Program::EbcLint => what.text("; wanted: 2"),
     };
-    let mut said = Said::only(alloc, what);
-    said.add(usage(answer, slots)?)?;
-    Ok(said)
+    Said::only(what)
 }
 
 // What is said of the first word that isn't of its form.
-fn misshapen(answer: &Answer, slots: &[Slot]) -> Result<Said, NoMemory> {
-    let alloc = answer.alloc;
+fn misshapen(answer: &Answer, slots: &[Slot]) -> Said {
     let skipped = answer.skipped();
     for (number, slot) in slots.iter().enumerate() {
         let word = answer.word(number.saturating_add(skipped));
         if let Some(form) = wanted(*slot, word) {
-            let slot = slot.name();
-            let what = format!(in alloc; "{slot} is `{word}`; wanted: {form}")?;
-            let mut said = Said::only(alloc, what);
-            said.add(usage(answer, slots)?)?;
-            return Ok(said);
+            let mut what = Line::of(answer.alloc, slot.name());
+            what.text(" is `").text(word).text("`; wanted: ").text(form);
+            return Said::only(what);
         }
     }
-    let mut said = Said::only(
-        alloc,
-        String::from_str(alloc, "the words aren't of their form")?,
-    );
-    said.add(usage(answer, slots)?)?;
-    Ok(said)
+    Said::text(answer.alloc, "the words aren't of their form")
+}
+
+// What is said of the words of a command, with its usage line.
+fn misused(answer: &Answer, slots: &[Slot]) -> Said {
+    let given = answer.words.len().saturating_sub(answer.skipped());
+    let mut said = if given == slots.len() {
+        misshapen(answer, slots)
+    } else {
+        miscounted(answer, slots)
+    };
+    add_usage(answer, slots, &mut said);
+    said
 }
 
 /// What is said of words that are no command.
-pub(crate) fn words_said(answer: &Answer) -> Result<Said, NoMemory> {
+pub(crate) fn words_said(answer: &Answer) -> Said {
     let mut said = match answer.slots() {
-        None => unknown(answer)?,
-        Some(slots) => {
-            if answer.words.len().saturating_sub(answer.skipped()) == slots.len() {
-                misshapen(answer, slots)?
-            } else {
-                miscounted(answer, slots)?
-            }
-        }
+        None => unknown(answer),
+        Some(slots) => misused(answer, slots),
     };
-    let page = match answer.program {
+    said.see.text(match answer.program {
         Program::Ebc => "docs/COMMANDS.md, \"Commands\"",
         Program::EbcPlaces => "docs/COMMANDS.md, \"The places of an image\"",
         Program::EbcNotes => "docs/LABELS.md, \"What is answered\"",
         Program::EbcLint => "docs/FIRMWARE.md, \"Warnings\"",
-    };
-    said.see.push_str(page)?;
-    Ok(said)
+    });
+    said
 }

@@ -1,39 +1,25 @@
-//! Instructions as a listing has them.
+//! Instructions as listings have them.
 
 ghost use Rattle.asm_text.specs.Writing.{ListedFits};
 
+use crate::line::Line;
 use asm_text::Listed;
-use ebc_base::NoMemory;
 use ebc_insn::{Insn, well_formed};
-use std::alloc::Global;
+use std::str;
 
-// The text of an instruction; empty if no bytes spell it.
-fn insn_text(alloc: Global, insn: &Insn) -> Result<String, NoMemory> {
-    if !well_formed(insn) {
-        return Ok(String::new(alloc));
-    }
-    let mut line = Vec::new(alloc);
-    let listed = Listed::Instruction {
-        insn: *insn,
-        place: None,
-    };
-    listed.append_text(alloc, &mut line)?;
-    match String::from_utf8(line) {
-        Ok(text) => Ok(text),
-        Err(_) => Ok(String::new(alloc)),
-    }
-}
-
-/// The text of an instruction as a listing has it, its immediate as a number; empty if no bytes spell it. If a place is given, it
-/// adds that the immediate is the address of this place.
-///
-/// # Errors
-///
-/// Want of memory alone.
-pub fn listing_text(alloc: Global, insn: &Insn, place: Option<u32>) -> Result<String, NoMemory> {
-    let text = insn_text(alloc, insn)?;
-    match place {
-        Some(place) => Ok(format!(in alloc; "{text}, the address of place 0x{place:x}")?),
-        None => Ok(text),
+impl Line {
+    /// Adds an instruction as a listing has it, its immediate as a number; nothing if no bytes spell it.
+    pub fn insn(&mut self, insn: &Insn) -> &mut Line {
+        if !well_formed(insn) {
+            return self;
+        }
+        let mut listed = Vec::new(self.alloc);
+        let appended = Listed::Instruction {
+            insn: *insn,
+            place: None,
+        }
+        .append_text(self.alloc, &mut listed);
+        self.text(str::from_utf8(listed.as_slice()).unwrap_or(""))
+            .kept(appended.is_ok())
     }
 }

@@ -1,33 +1,26 @@
-//! The texts of pairs, each a count of natural units and a count of bytes.
+//! Pairs in sentences, each a count of natural units and a count of bytes.
 
-use ebc_base::NoMemory;
+use crate::line::Line;
 use note_types::Pair;
 use rules_base::Distance;
-use std::alloc::Global;
 
-/// `(N, C)`.
-///
-/// # Errors
-///
-/// Want of memory alone.
-pub fn pair_text(alloc: Global, n: i128, c: i128) -> Result<String, NoMemory> {
-    Ok(format!(in alloc; "({n}, {c})")?)
-}
+impl Line {
+    /// Adds the pair of a distance: `(N, C)`.
+    pub fn distance(&mut self, distance: Distance) -> &mut Line {
+        self.text("(")
+            .signed(i128::from(distance.n))
+            .text(", ")
+            .signed(i128::from(distance.c))
+            .text(")")
+    }
 
-/// The pair of a size.
-///
-/// # Errors
-///
-/// Want of memory alone.
-pub fn size_text(alloc: Global, size: Pair) -> Result<String, NoMemory> {
-    pair_text(alloc, i128::from(size.n), i128::from(size.c))
-}
+    /// Adds the pair of a size.
+    pub fn size(&mut self, size: Pair) -> &mut Line {
+        self.pair(u64::from(size.n), u64::from(size.c))
+    }
 
-/// The pair of a distance.
-///
-/// # Errors
-///
-/// Want of memory alone.
-pub fn distance_text(alloc: Global, distance: Distance) -> Result<String, NoMemory> {
-    pair_text(alloc, i128::from(distance.n), i128::from(distance.c))
+    /// Adds a pair of two counts.
+    pub fn pair(&mut self, n: u64, c: u64) -> &mut Line {
+        self.text("(").number(n).text(", ").number(c).text(")")
+    }
 }

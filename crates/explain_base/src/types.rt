@@ -1,39 +1,9 @@
-//! The texts of types, cells, items of the stack and accesses.
+//! Types, cells, items of the stack and accesses in sentences.
 
-use note_types::{Cell, FnNote, Item, NoMemory, Notes, SlotKind, Ty, content_type};
+use crate::line::Line;
+use note_types::{Cell, FnNote, Item, Notes, SlotKind, Ty, content_type};
 use point_texts::type_text;
 use rules_base::{Access, local_fields};
-use std::alloc::Global;
-
-/// The text of a type of a function, as notes spell it.
-///
-/// # Errors
-///
-/// Want of memory alone.
-pub fn type_text_of(alloc: Global, notes: &Notes, f: &FnNote, t: Ty) -> Result<String, NoMemory> {
-    type_text(alloc, notes, local_fields(notes, f), t)
-}
-
-/// The text of a cell: of a pointer in 64 bits `PTR in 64 bits`, and of others as notes spell it.
-///
-/// # Errors
-///
-/// Want of memory alone.
-pub fn cell_text(alloc: Global, notes: &Notes, f: &FnNote, cell: Cell) -> Result<String, NoMemory> {
-    match cell {
-        Cell::I8 => Ok(String::from_str(alloc, "i8")?),
-        Cell::I16 => Ok(String::from_str(alloc, "i16")?),
-        Cell::I32 => Ok(String::from_str(alloc, "i32")?),
-        Cell::I64 => Ok(String::from_str(alloc, "i64")?),
-        Cell::N => Ok(String::from_str(alloc, "n")?),
-        Cell::Stat => Ok(String::from_str(alloc, "stat")?),
-        Cell::P64 { .. } => {
-            let pointer = type_text_of(alloc, notes, f, content_type(&cell))?;
-            Ok(format!(in alloc; "{pointer} in 64 bits")?)
-        }
-        _ => type_text_of(alloc, notes, f, content_type(&cell)),
-    }
-}
 
 /// By which instructions a cell is loaded and stored.
 pub fn accesses_of(cell: Cell) -> &'static str {
@@ -70,23 +40,34 @@ pub fn kind_text(kind: SlotKind) -> &'static str {
     }
 }
 
-/// The text of an item of the stack: a slot's kind and type, or `locals`.
-///
-/// # Errors
-///
-/// Want of memory alone.
-pub fn item_text(
-    alloc: Global,
-    notes: &Notes,
-    f: &FnNote,
-    item: &Item,
-) -> Result<String, NoMemory> {
-    match item {
-        Item::Slot { kind, ty } => {
-            let letter = kind_text(*kind);
-            let text = type_text_of(alloc, notes, f, *ty)?;
-            Ok(format!(in alloc; "{letter} {text}")?)
+impl Line {
+    /// Adds a type of a function, as notes spell it.
+    pub fn type_of(&mut self, notes: &Notes, f: &FnNote, t: Ty) -> &mut Line {
+        let made = type_text(self.alloc, notes, local_fields(notes, f), t);
+        self.made(made, "")
+    }
+
+    /// Adds a cell: of a pointer in 64 bits `PTR in 64 bits`, and of others as notes spell it.
+    pub fn cell(&mut self, notes: &Notes, f: &FnNote, cell: Cell) -> &mut Line {
+        match cell {
+            Cell::I8 => self.text("i8"),
+            Cell::I16 => self.text("i16"),
+            Cell::I32 => self.text("i32"),
+            Cell::I64 => self.text("i64"),
+            Cell::N => self.text("n"),
+            Cell::Stat => self.text("stat"),
+            Cell::P64 { .. } => self
+                .type_of(notes, f, content_type(&cell))
+                .text(" in 64 bits"),
+            _ => self.type_of(notes, f, content_type(&cell)),
         }
-        Item::Locals => Ok(String::from_str(alloc, "locals")?),
+    }
+
+    /// Adds an item of the stack: a slot's kind and type, or `locals`.
+    pub fn item(&mut self, notes: &Notes, f: &FnNote, item: &Item) -> &mut Line {
+        match item {
+            Item::Slot { kind, ty } => self.text(kind_text(*kind)).text(" ").type_of(notes, f, *ty),
+            Item::Locals => self.text("locals"),
+        }
     }
 }

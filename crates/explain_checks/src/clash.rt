@@ -3,12 +3,12 @@
 
 ghost use Rattle.note_types.specs.Records.{IsNotes};
 
-use crate::below::items_text;
+use crate::below::write_items;
 use crate::refused::Stopped;
 use crate::targets::target_of;
 use ebc_insn::{Cond, Insn};
-use explain_base::Said;
-use note_types::{NoMemory, State};
+use explain_base::{Line, Said};
+use note_types::State;
 
 // The place to which an instruction jumps.
 fn jump_of(stopped: &Stopped) -> Option<i128> {
@@ -27,56 +27,45 @@ fn may_fall(insn: &Insn) -> bool {
 }
 
 // Where a state comes, by the ways of the instruction before it.
-fn said_of_ways(stopped: &Stopped, ways: &str, s: &State) -> Result<Option<Said>, NoMemory> {
-    let alloc = stopped.refused.alloc;
-    let items = items_text(stopped, s.items.as_slice())?;
-    let made = s.made;
-    Ok(Some(Said::only(
-        alloc,
-        format!(in alloc;
-            "{ways} with {items} on the stack and made {made}; another way comes there with other items or another made, and the two don't join"
-        )?,
-    )))
+fn said_of_ways(stopped: &Stopped, ways: Line, s: &State) -> Said {
+    let mut what = ways;
+    what.text(" with ");
+    write_items(stopped, s.items.as_slice(), &mut what);
+    what.text(" on the stack and made ")
+        .number(u64::from(s.made));
+    what.text("; another way comes there with other items or another made, and the two don't join");
+    Said::only(what)
 }
 
 // The same of a jump, which leaves the items and the thunks as they were.
-fn said_of_jump(
-    stopped: &Stopped,
-    insn: &Insn,
-    next: u32,
-    place: i128,
-) -> Result<Option<Said>, NoMemory> {
-    let alloc = stopped.refused.alloc;
-    let Some(state) = &stopped.at.state else {
-        return Ok(None);
-    };
-    let ways = if may_fall(insn) {
-        format!(in alloc; "this jumps to 0x{place:x} or falls to 0x{next:x}")?
-    } else {
-        format!(in alloc; "this jumps to 0x{place:x}")?
-    };
-    said_of_ways(stopped, ways.as_str(), state)
+fn said_of_jump(stopped: &Stopped, insn: &Insn, next: u32, place: i128) -> Option<Said> {
+    let state = stopped.at.state.as_ref()?;
+    let mut ways = Line::of(stopped.refused.alloc, "this jumps to ");
+    ways.target(place);
+    if may_fall(insn) {
+        ways.text(" or falls to ").at(next);
+    }
+    Some(said_of_ways(stopped, ways, state))
+}
+
+// The same of another instruction, before `next`.
+fn said_of_fall(stopped: &Stopped, next: u32) -> Option<Said>
+    requires { IsNotes stopped.now.refused.now.notes.now }
+{
+    let successors = stopped.at.leads(stopped.refused.notes)?;
+    let fall = successors.fall.as_ref()?;
+    let mut ways = Line::of(stopped.refused.alloc, "this falls to ");
+    ways.at(next);
+    Some(said_of_ways(stopped, ways, fall))
 }
 
 /// What is said where the state clashes.
-pub(crate) fn said_of_clash(stopped: &Stopped) -> Result<Option<Said>, NoMemory>
+pub(crate) fn said_of_clash(stopped: &Stopped) -> Option<Said>
     requires { IsNotes stopped.now.refused.now.notes.now }
 {
-    let alloc = stopped.refused.alloc;
-    let Some((insn, next)) = stopped.at.insn else {
-        return Ok(None);
-    };
-    if let Some(place) = jump_of(stopped) {
-        return said_of_jump(stopped, &insn, next, place);
-    }
-    let Some(successors) = stopped.at.leads(stopped.refused.notes) else {
-        return Ok(None);
-    };
-    match &successors.fall {
-        Some(fall) => {
-            let ways = format!(in alloc; "this falls to 0x{next:x}")?;
-            said_of_ways(stopped, ways.as_str(), fall)
-        }
-        None => Ok(None),
+    let (insn, next) = stopped.at.insn?;
+    match jump_of(stopped) {
+        Some(place) => said_of_jump(stopped, &insn, next, place),
+        None => said_of_fall(stopped, next),
     }
 }

@@ -4,7 +4,8 @@ ghost use Rattle.pe_image.specs.Images.{IsImage};
 
 use crate::ranges::{Range, nonzero_in, reloc_in, size_at_8};
 use crate::refused::Refused;
-use note_types::{Cell, Field, NoMemory, Notes, Shape, Static};
+use explain_base::Line;
+use note_types::{Cell, Field, Notes, Shape, Static};
 use pe_image::{Image, byte_at, named_place};
 use rules_image::first_reloc;
 use std::alloc::Global;
@@ -30,17 +31,37 @@ pub(crate) fn depends(s: &Shape) -> bool {
 }
 
 // Why a cell can't be held by an image in an object that depends on the width.
-fn unheld(alloc: Global, name: &str, x: &Field) -> Result<Option<String>, NoMemory> {
-    let field = x.name.as_str();
+fn unheld(alloc: Global, name: &str, x: &Field) -> Option<Line> {
+    let mut what = Line::of(alloc, name);
     match x.cell {
-        Cell::Method(_) => Ok(Some(format!(in alloc;
-            "{name} has the method cell {field}, which an image can't hold"
-        )?)),
-        Cell::Ptr { null: false, .. } | Cell::P64 { null: false, .. } => Ok(Some(format!(in alloc;
-            "{name} depends on the width, and its field {field} may not be null, which an image can't hold"
-        )?)),
-        _ => Ok(None),
+        Cell::Method(_) => what.text(" has the method cell ").text(x.name.as_str()),
+        Cell::Ptr { null: false, .. } | Cell::P64 { null: false, .. } => what
+            .text(" depends on the width, and its field ")
+            .text(x.name.as_str())
+            .text(" may not be null"),
+        _ => return None,
+    };
+    what.text(", which an image can't hold");
+    Some(what)
+}
+
+// What is wrong with the bytes and relocations of an object that depends on the width.
+fn unblank(alloc: Global, image: &Image, name: &str, range: &Range) -> Option<Line> {
+    let mut what = Line::of(alloc, name);
+    what.text(" depends on the width, and ");
+    if let Some(r) = reloc_in(image, range.from, range.to) {
+        what.text("a relocation stands at ")
+            .at(r)
+            .text(", where none is wanted");
+        return Some(what);
     }
+    let place = nonzero_in(image, range.from, range.to)?;
+    what.text("the byte at ")
+        .hexadecimal(place)
+        .text(" is ")
+        .byte(byte_at(image, place))
+        .text(", where 0 is wanted");
+    Some(what)
 }
 
 /// What is wrong with the content of an object that depends on the width.
@@ -49,25 +70,14 @@ pub(crate) fn content_of_blank(
     image: &Image,
     s: &Shape,
     range: &Range,
-) -> Result<Option<String>, NoMemory> {
+) -> Option<Line> {
     let name = s.name.as_str();
     for x in s.fields.as_slice() {
-        if let Some(what) = unheld(alloc, name, x)? {
-            return Ok(Some(what));
+        if let Some(what) = unheld(alloc, name, x) {
+            return Some(what);
         }
     }
-    if let Some(r) = reloc_in(image, range.from, range.to) {
-        return Ok(Some(format!(in alloc;
-            "{name} depends on the width, and a relocation stands at 0x{r:x}, where none is wanted"
-        )?));
-    }
-    if let Some(place) = nonzero_in(image, range.from, range.to) {
-        let byte = byte_at(image, place);
-        return Ok(Some(format!(in alloc;
-            "{name} depends on the width, and the byte at 0x{place:x} is {byte:02x}, where 0 is wanted"
-        )?));
-    }
-    Ok(None)
+    unblank(alloc, image, name, range)
 }
 
 // The cell of 64 bits of a field that is a pointer: its shape, its count and whether it may be null.
@@ -97,43 +107,51 @@ fn is_relocated(image: &Image, place: u32) -> bool
     }
 }
 
+// A pointer's cell of 64 bits at a place.
+fn pointer_line(alloc: Global, field: &str, place: u64) -> Line {
+    let mut line = Line::of(alloc, "the p64 cell ");
+    line.text(field).text(" at ").hexadecimal(place);
+    line
+}
+
+// What is wrong with a pointer's cell of 64 bits at a place that is relocated, where something is.
+fn fault_of_address(refused: &Refused, field: &str, wanted: (u32, u64), at: u32) -> Option<Line> {
+    let (shape, count) = wanted;
+    let (image, notes) = (refused.image, refused.notes);
+    let named = named_place(image, at);
+    if is_linked(notes, named, shape, count) {
+        return None;
+    }
+    let mut what = pointer_line(refused.alloc, field, u64::from(at));
+    what.text(" is the address of ")
+        .hexadecimal(named)
+        .text(", where no static object of ")
+        .number(count);
+    what.text(" ")
+        .text(shape_name(notes, shape))
+        .text(" starts");
+    Some(what)
+}
+
 // What is wrong with a pointer of 64 bits at a place, where something is.
-fn fault_of_pointer(
-    refused: &Refused,
-    field: &str,
-    cell: Cell,
-    place: u64,
-) -> Result<Option<String>, NoMemory>
+fn fault_of_pointer(refused: &Refused, field: &str, cell: Cell, place: u64) -> Option<Line>
     requires { IsImage refused.now.image.now }
 {
-    let (alloc, image, notes) = (refused.alloc, refused.image, refused.notes);
-    let Some((shape, count, null)) = wide_pointer(cell) else {
-        return Ok(None);
-    };
-    let Ok(at) = u32::try_from(place) else {
-        return Ok(None);
-    };
-    if is_relocated(image, at) {
-        let named = named_place(image, at);
-        if is_linked(notes, named, shape, count) {
-            return Ok(None);
-        }
-        let name = shape_name(notes, shape);
-        return Ok(Some(format!(in alloc;
-            "the p64 cell {field} at 0x{place:x} is the address of 0x{named:x}, where no static object of {count} {name} starts"
-        )?));
+    let (shape, count, null) = wide_pointer(cell)?;
+    let at = u32::try_from(place).ok()?;
+    if is_relocated(refused.image, at) {
+        return fault_of_address(refused, field, (shape, count), at);
     }
-    if nonzero_in(image, place, place.saturating_add(8)).is_some() {
-        return Ok(Some(format!(in alloc;
-            "the p64 cell {field} at 0x{place:x} isn't 0 and has no relocation; an address in data is made by .dq NAME"
-        )?));
+    let mut what = pointer_line(refused.alloc, field, place);
+    if nonzero_in(refused.image, place, place.saturating_add(8)).is_some() {
+        what.text(" isn't 0 and has no relocation; an address in data is made by .dq NAME");
+        return Some(what);
     }
     if null {
-        return Ok(None);
+        return None;
     }
-    Ok(Some(format!(in alloc;
-        "the p64 cell {field} at 0x{place:x} is 0, and may not be null; the relocated address of a static object is wanted"
-    )?))
+    what.text(" is 0, and may not be null; the relocated address of a static object is wanted");
+    Some(what)
 }
 
 fn shape_name(notes: &Notes, shape: u32) -> &str {
@@ -152,39 +170,32 @@ fn field_place(range: &Range, s: &Shape, instance: u64, x: &Field) -> u64 {
 }
 
 // The first pointer of an instance with which something is wrong.
-fn fault_of_instance(
-    refused: &Refused,
-    s: &Shape,
-    range: &Range,
-    instance: u64,
-) -> Result<Option<String>, NoMemory>
+fn fault_of_instance(refused: &Refused, s: &Shape, range: &Range, instance: u64) -> Option<Line>
     requires { IsImage refused.now.image.now }
 {
     for x in s.fields.as_slice() {
         let place = field_place(range, s, instance, x);
-        if let Some(what) = fault_of_pointer(refused, x.name.as_str(), x.cell, place)? {
-            return Ok(Some(what));
+        if let Some(what) = fault_of_pointer(refused, x.name.as_str(), x.cell, place) {
+            return Some(what);
         }
     }
-    Ok(None)
+    None
 }
 
 /// What is wrong with the content of an object whose layout is the same at both widths.
-pub(crate) fn content_of_filled(
-    refused: &Refused,
-    x: &Static,
-    s: &Shape,
-    range: &Range,
-) -> Result<Option<String>, NoMemory>
+pub(crate) fn content_of_filled(refused: &Refused, x: &Static, s: &Shape, range: &Range) -> Line
     requires { IsImage refused.now.image.now }
 {
-    let (alloc, name) = (refused.alloc, s.name.as_str());
     for instance in 0..x.count {
-        if let Some(what) = fault_of_instance(refused, s, range, instance)? {
-            return Ok(Some(what));
+        if let Some(what) = fault_of_instance(refused, s, range, instance) {
+            return what;
         }
     }
-    Ok(Some(format!(in alloc;
-        "a relocation stands in the static object of {name} that begins at no p64 cell of it"
-    )?))
+    let mut what = Line::of(
+        refused.alloc,
+        "a relocation stands in the static object of ",
+    );
+    what.text(s.name.as_str())
+        .text(" that begins at no p64 cell of it");
+    what
 }

@@ -4,7 +4,7 @@ use crate::ranges::reloc_in;
 use crate::refused::Stopped;
 use ebc_decode::{DecodeFault, decode};
 use ebc_insn::Insn;
-use explain_base::Said;
+use explain_base::{Line, Said};
 use note_types::NoMemory;
 use pe_image::{Image, byte_at, named_place};
 use rules_base::takes_address;
@@ -40,39 +40,38 @@ pub(crate) fn insn_at(
 }
 
 // The first bytes of an instruction, four at most, each with a space in front.
-fn bytes_text(alloc: Global, code: &[u8]) -> Result<String, NoMemory> {
-    let mut text = String::new(alloc);
+fn bytes_line(alloc: Global, code: &[u8]) -> Line {
+    let mut line = Line::of(alloc, "the bytes");
     for byte in code.iter().take(4) {
-        let b = *byte;
-        text.push_str(format!(in alloc; " {b:02x}")?.as_str())?;
+        line.text(" ").byte(*byte);
     }
-    Ok(text)
+    line
 }
 
 /// What is said where no instruction decodes within the function.
 pub(crate) fn said_of_decode(stopped: &Stopped) -> Result<Said, NoMemory> {
-    let (alloc, f, func) = (stopped.refused.alloc, stopped.f, stopped.at.func);
+    let (alloc, f) = (stopped.refused.alloc, stopped.f);
     let code = code_from(alloc, stopped.refused.image, stopped.at.place, f.end)?;
-    let bytes = bytes_text(alloc, code.as_slice())?;
-    let (name, end) = (f.name.as_str(), f.end);
-    let what = match decode(code.as_slice(), 0) {
-        Err(DecodeFault::Short) => format!(in alloc;
-            "the bytes{bytes} begin an instruction that ends past {name}, which ends at 0x{end:x}"
-        )?,
-        Err(DecodeFault::Opcode) => format!(in alloc; "the bytes{bytes} begin with no opcode")?,
-        Err(DecodeFault::Reserved) => format!(in alloc;
-            "the bytes{bytes} have a reserved bit that isn't as it has to be"
-        )?,
-        Err(DecodeFault::IndexTag) => format!(in alloc;
-            "the bytes{bytes} have a 16-bit index with tag 7"
-        )?,
-        Err(DecodeFault::DirectIndex) => format!(in alloc;
-            "the bytes{bytes} have an index beside a direct operand 1"
-        )?,
-        Ok(_) => format!(in alloc; "the bytes{bytes} are no instruction")?,
+    let mut what = bytes_line(alloc, code.as_slice());
+    match decode(code.as_slice(), 0) {
+        Err(DecodeFault::Short) => what
+            .text(" begin an instruction that ends past ")
+            .text(f.name.as_str())
+            .text(", which ends at ")
+            .at(f.end),
+        Err(DecodeFault::Opcode) => what.text(" begin with no opcode"),
+        Err(DecodeFault::Reserved) => what.text(" have a reserved bit that isn't as it has to be"),
+        Err(DecodeFault::IndexTag) => what.text(" have a 16-bit index with tag 7"),
+        Err(DecodeFault::DirectIndex) => what.text(" have an index beside a direct operand 1"),
+        Ok(_) => what.text(" are no instruction"),
     };
-    let key = format!(in alloc; "function[{func}].end")?;
-    Said::with_key(alloc, what, key, "the function's end")
+    Ok(Said::with_key(
+        what,
+        "function",
+        stopped.at.func as usize,
+        "end",
+        "the function's end",
+    ))
 }
 
 // ---- relocations
@@ -105,49 +104,40 @@ fn is_address_move(i: &Insn) -> bool {
 }
 
 // What is wrong with the relocated eight bytes at a place, at the end of an instruction.
-fn fault_of_address(
-    alloc: Global,
-    image: &Image,
-    insn: &Insn,
-    at: u32,
-) -> Result<String, NoMemory> {
+fn fault_of_address(alloc: Global, image: &Image, insn: &Insn, at: u32) -> Line {
     let named = named_place(image, at);
-    let size = image.size;
-    if u64::from(size) <= named {
-        return Ok(format!(in alloc;
-            "the relocated address at 0x{at:x} names 0x{named:x}, no place of the image, which ends at 0x{size:x}"
-        )?);
+    let mut what = Line::of(alloc, "the relocated address at ");
+    what.at(at);
+    if u64::from(image.size) <= named {
+        what.text(" names ")
+            .hexadecimal(named)
+            .text(", no place of the image, which ends at ")
+            .at(image.size);
+    } else if is_address_move(insn) {
+        what.text(" names no static object's start and no thunk cell of the notes");
+    } else {
+        what.text(" is refused");
     }
-    if is_address_move(insn) {
-        return Ok(format!(in alloc;
-            "the relocated address at 0x{at:x} names no static object's start and no thunk cell of the notes"
-        )?);
-    }
-    Ok(format!(in alloc; "the relocated address at 0x{at:x} is refused")?)
+    what
 }
 
 /// What is said where the relocation of an instruction isn't as it has to be.
-pub(crate) fn said_of_relocation(stopped: &Stopped) -> Result<Option<Said>, NoMemory> {
+pub(crate) fn said_of_relocation(stopped: &Stopped) -> Option<Said> {
     let (alloc, image) = (stopped.refused.alloc, stopped.refused.image);
-    let Some((insn, next)) = stopped.at.insn else {
-        return Ok(None);
-    };
-    let found = reloc_in(image, u64::from(stopped.at.place), u64::from(next));
-    let what = match found {
-        None => String::from_str(
+    let (insn, next) = stopped.at.insn?;
+    let Some(at) = reloc_in(image, u64::from(stopped.at.place), u64::from(next)) else {
+        return Some(Said::text(
             alloc,
             "an absolute JMP64 or CALL64 goes to a name, by a relocated immediate; this one has no relocation",
-        )?,
-        Some(at) => {
-            let ends_with_it = u64::from(at) + 8 == u64::from(next);
-            if ends_with_it && (is_absolute(&insn) || is_address_move(&insn)) {
-                fault_of_address(alloc, image, &insn, at)?
-            } else {
-                format!(in alloc;
-                    "a relocation stands at 0x{at:x}; only the immediate of MOVIqq to a register, of JMP64a and of CALL64a has one"
-                )?
-            }
-        }
+        ));
     };
-    Ok(Some(Said::only(alloc, what)))
+    let ends_with_it = u64::from(at) + 8 == u64::from(next);
+    if ends_with_it && (is_absolute(&insn) || is_address_move(&insn)) {
+        return Some(Said::only(fault_of_address(alloc, image, &insn, at)));
+    }
+    let mut what = Line::of(alloc, "a relocation stands at ");
+    what.at(at).text(
+        "; only the immediate of MOVIqq to a register, of JMP64a and of CALL64a has one",
+    );
+    Some(Said::only(what))
 }

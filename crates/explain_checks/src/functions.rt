@@ -1,15 +1,15 @@
 //! What is said of the rule `function`.
 
 use crate::refused::Refused;
-use explain_base::Said;
-use note_types::{FnNote, NoMemory};
+use explain_base::{Line, Said};
+use note_types::FnNote;
 use pe_image::Image;
 use std::alloc::Global;
 
 // What is wrong with a function, and the key of it.
 #[derive(Drop)]
 struct Fault {
-    what: String,
+    what: Line,
     key: &'static str,
 }
 
@@ -23,76 +23,63 @@ fn is_inside(image: &Image, from: u32, to: u32) -> bool {
     false
 }
 
-// The bytes of each section: ` 0x1000 up to 0x104a, 0x2000 up to 0x2008`.
-fn sections_text(alloc: Global, image: &Image) -> Result<String, NoMemory> {
-    let mut text = String::new(alloc);
-    for s in image.sections.as_slice() {
-        let from = s.place;
+// Writes the bytes of each section: ` 0x1000 up to 0x104a, 0x2000 up to 0x2008`.
+fn write_sections(image: &Image, line: &mut Line) {
+    for (number, s) in image.sections.as_slice().iter().enumerate() {
         let to = u64::from(s.place).saturating_add(s.bytes.len() as u64);
-        let comma = if text.is_empty() { "" } else { "," };
-        text.push_str(format!(in alloc; "{comma} 0x{from:x} up to 0x{to:x}")?.as_str())?;
+        line.text(if number == 0 { " " } else { ", " })
+            .at(s.place)
+            .text(" up to ")
+            .hexadecimal(to);
     }
-    Ok(text)
 }
 
 // What is wrong with the two ends of a function alone.
-fn fault_of_ends(alloc: Global, f: &FnNote) -> Result<Option<Fault>, NoMemory> {
-    let (name, from, to) = (f.name.as_str(), f.place, f.end);
-    if to <= from {
-        return Ok(Some(Fault {
-            what: format!(in alloc;
-                "{name} begins at 0x{from:x} and ends at 0x{to:x}, which isn't past it"
-            )?,
-            key: "end",
-        }));
+fn fault_of_ends(alloc: Global, f: &FnNote) -> Option<Fault> {
+    let mut what = Line::of(alloc, f.name.as_str());
+    if f.end <= f.place {
+        what.text(" begins at ")
+            .at(f.place)
+            .text(" and ends at ")
+            .at(f.end)
+            .text(", which isn't past it");
+        return Some(Fault { what, key: "end" });
     }
-    if from % 2 != 0 {
-        return Ok(Some(Fault {
-            what: format!(in alloc; "{name} begins at 0x{from:x}, which is odd")?,
-            key: "place",
-        }));
+    if f.place % 2 != 0 {
+        what.text(" begins at ").at(f.place).text(", which is odd");
+        return Some(Fault { what, key: "place" });
     }
-    if to % 2 != 0 {
-        return Ok(Some(Fault {
-            what: format!(in alloc; "{name} ends at 0x{to:x}, which is odd")?,
-            key: "end",
-        }));
+    if f.end % 2 != 0 {
+        what.text(" ends at ").at(f.end).text(", which is odd");
+        return Some(Fault { what, key: "end" });
     }
-    Ok(None)
+    None
 }
 
 // What is wrong with where a function lies, which comes after one that ends at `before`.
-fn fault_of_place(
-    alloc: Global,
-    image: &Image,
-    f: &FnNote,
-    before: u32,
-) -> Result<Fault, NoMemory> {
-    let (name, from, to) = (f.name.as_str(), f.place, f.end);
-    if !is_inside(image, from, to) {
-        let bytes = sections_text(alloc, image)?;
-        return Ok(Fault {
-            what: format!(in alloc;
-                "{name} goes from 0x{from:x} up to 0x{to:x}, outside the bytes of each section:{bytes}"
-            )?,
-            key: "end",
-        });
+fn fault_of_place(alloc: Global, image: &Image, f: &FnNote, before: u32) -> Fault {
+    let mut what = Line::of(alloc, f.name.as_str());
+    if !is_inside(image, f.place, f.end) {
+        what.text(" goes from ")
+            .at(f.place)
+            .text(" up to ")
+            .at(f.end)
+            .text(", outside the bytes of each section:");
+        write_sections(image, &mut what);
+        return Fault { what, key: "end" };
     }
-    if from < before {
-        return Ok(Fault {
-            what: format!(in alloc;
-                "{name} begins at 0x{from:x}, before the function before ends, at 0x{before:x}"
-            )?,
-            key: "place",
-        });
+    if f.place < before {
+        what.text(" begins at ")
+            .at(f.place)
+            .text(", before the function before ends, at ")
+            .at(before);
+    } else {
+        what.text(" is the entry function and begins at ")
+            .at(f.place)
+            .text(", and the image is entered at ")
+            .at(image.entry);
     }
-    let entry = image.entry;
-    Ok(Fault {
-        what: format!(in alloc;
-            "{name} is the entry function and begins at 0x{from:x}, and the image is entered at 0x{entry:x}"
-        )?,
-        key: "place",
-    })
+    Fault { what, key: "place" }
 }
 
 // The end of the function before the one of this number.
@@ -103,19 +90,24 @@ fn end_before(functions: &[FnNote], number: usize) -> u32 {
     }
 }
 
+// The function that begins at a place, and its number.
+fn function_at(functions: &[FnNote], place: u32) -> Option<(usize, &FnNote)> {
+    for (number, f) in functions.iter().enumerate() {
+        if f.place == place {
+            return Some((number, f));
+        }
+    }
+    None
+}
+
 /// What is said where a function isn't as the image has it.
-pub(crate) fn said_of_function(refused: &Refused) -> Result<Option<Said>, NoMemory> {
-    let (alloc, image, place) = (refused.alloc, refused.image, refused.place);
+pub(crate) fn said_of_function(refused: &Refused) -> Option<Said> {
+    let alloc = refused.alloc;
     let functions = refused.notes.function.as_slice();
-    let Some(number) = functions.iter().position(|f| f.place == place) else {
-        return Ok(None);
-    };
-    let f = &functions[number];
-    let fault = match fault_of_ends(alloc, f)? {
+    let (number, f) = function_at(functions, refused.place)?;
+    let Fault { what, key } = match fault_of_ends(alloc, f) {
         Some(fault) => fault,
-        None => fault_of_place(alloc, image, f, end_before(functions, number))?,
+        None => fault_of_place(alloc, refused.image, f, end_before(functions, number)),
     };
-    let part = fault.key;
-    let key = format!(in alloc; "function[{number}].{part}")?;
-    Ok(Some(Said::with_key(alloc, fault.what, key, "the function")?))
+    Some(Said::with_key(what, "function", number, key, "the function"))
 }

@@ -5,39 +5,50 @@ ghost use Rattle.pe_image.specs.Images.{IsImage};
 use crate::decoding::insn_at;
 use crate::refused::Stopped;
 use crate::targets::target_place;
-use explain_base::Said;
+use explain_base::{Line, Said};
 use note_infer::reloc_at;
 use note_types::NoMemory;
 
 /// What is said where no state is before the instruction.
-pub(crate) fn said_of_state(stopped: &Stopped) -> Result<Said, NoMemory> {
-    let alloc = stopped.refused.alloc;
+pub(crate) fn said_of_state(stopped: &Stopped) -> Said {
     let what = if stopped.refused.infers {
         "nothing falls to this instruction, which stands after a RET or a jump, and no jump goes here"
     } else {
         "nothing falls to this instruction, which stands after a RET or a jump, and the notes have no point here"
     };
-    Ok(Said::only(alloc, String::from_str(alloc, what)?))
+    Said::text(stopped.refused.alloc, what)
+}
+
+// Writes from where to where the instruction goes.
+fn write_extent(stopped: &Stopped, next: u32, line: &mut Line) {
+    line.text("inside this instruction, which goes from ")
+        .at(stopped.at.place)
+        .text(" up to ")
+        .at(next);
 }
 
 // What is said of a point of the notes inside an instruction before `next`.
-fn said_of_inner_point(stopped: &Stopped, next: u32) -> Result<Option<Said>, NoMemory> {
-    let (alloc, place) = (stopped.refused.alloc, stopped.at.place);
+fn said_of_inner_point(stopped: &Stopped, next: u32) -> Option<Said> {
     for (number, p) in stopped.refused.notes.point.as_slice().iter().enumerate() {
-        let at = p.place;
-        if place < at && at < next {
-            let what = format!(in alloc;
-                "the point at 0x{at:x} lies inside this instruction, which goes from 0x{place:x} up to 0x{next:x}"
-            )?;
-            let key = format!(in alloc; "point[{number}].place")?;
-            return Ok(Some(Said::with_key(alloc, what, key, "the point's place")?));
+        if stopped.at.place < p.place && p.place < next {
+            let mut what = Line::of(stopped.refused.alloc, "the point at ");
+            what.at(p.place).text(" lies ");
+            write_extent(stopped, next, &mut what);
+            return Some(Said::with_key(what, "point", number, "place", "the point's place"));
         }
     }
-    Ok(None)
+    None
 }
 
-// What is said of a jump of the function to a place inside an instruction before `next`.
-fn said_of_inner_target(stopped: &Stopped, next: u32) -> Result<Option<Said>, NoMemory>
+// A jump inside a function: its place, and the place to which it goes.
+#[derive(Clone, Copy)]
+struct Leap {
+    at: u32,
+    target: i128,
+}
+
+// The first jump of the function to a place inside an instruction before `next`.
+fn inner_leap(stopped: &Stopped, next: u32) -> Result<Option<Leap>, NoMemory>
     requires { IsImage stopped.now.refused.now.image.now }
 {
     let (alloc, image, f) = (stopped.refused.alloc, stopped.refused.image, stopped.f);
@@ -51,17 +62,28 @@ fn said_of_inner_target(stopped: &Stopped, next: u32) -> Result<Option<Said>, No
             after = at.saturating_add(length);
             if let Some(target) = target_place(&insn, after, reloc_at(image, after)) {
                 if i128::from(place) < target && target < i128::from(next) {
-                    return Ok(Some(Said::only(
-                        alloc,
-                        format!(in alloc;
-                            "the jump at 0x{at:x} goes to 0x{target:x}, inside this instruction, which goes from 0x{place:x} up to 0x{next:x}"
-                        )?,
-                    )));
+                    return Ok(Some(Leap { at, target }));
                 }
             }
         }
     }
     Ok(None)
+}
+
+// What is said of a jump of the function to a place inside an instruction before `next`.
+fn said_of_inner_target(stopped: &Stopped, next: u32) -> Result<Option<Said>, NoMemory>
+    requires { IsImage stopped.now.refused.now.image.now }
+{
+    let Some(leap) = inner_leap(stopped, next)? else {
+        return Ok(None);
+    };
+    let mut what = Line::of(stopped.refused.alloc, "the jump at ");
+    what.at(leap.at)
+        .text(" goes to ")
+        .target(leap.target)
+        .text(", ");
+    write_extent(stopped, next, &mut what);
+    Ok(Some(Said::only(what)))
 }
 
 /// What is said where a point lies inside the instruction.
@@ -74,20 +96,24 @@ pub(crate) fn said_of_point(stopped: &Stopped) -> Result<Option<Said>, NoMemory>
     if stopped.refused.infers {
         return said_of_inner_target(stopped, next);
     }
-    said_of_inner_point(stopped, next)
+    Ok(said_of_inner_point(stopped, next))
 }
 
 /// What is said where control falls out of the function.
-pub(crate) fn said_of_end(stopped: &Stopped) -> Result<Option<Said>, NoMemory> {
-    let alloc = stopped.refused.alloc;
-    let Some((_, next)) = stopped.at.insn else {
-        return Ok(None);
-    };
-    let (name, end) = (stopped.f.name.as_str(), stopped.f.end);
-    let what = format!(in alloc;
-        "this falls to 0x{next:x}, out of {name}, which ends at 0x{end:x}; RET or a jump is wanted there, or a later end"
-    )?;
-    let func = stopped.at.func;
-    let key = format!(in alloc; "function[{func}].end")?;
-    Ok(Some(Said::with_key(alloc, what, key, "the function's end")?))
+pub(crate) fn said_of_end(stopped: &Stopped) -> Option<Said> {
+    let (_, next) = stopped.at.insn?;
+    let mut what = Line::of(stopped.refused.alloc, "this falls to ");
+    what.at(next)
+        .text(", out of ")
+        .text(stopped.f.name.as_str())
+        .text(", which ends at ")
+        .at(stopped.f.end);
+    what.text("; RET or a jump is wanted there, or a later end");
+    Some(Said::with_key(
+        what,
+        "function",
+        stopped.at.func as usize,
+        "end",
+        "the function's end",
+    ))
 }

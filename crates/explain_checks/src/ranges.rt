@@ -1,5 +1,7 @@
 //! The things of notes that lie in an image, as ranges of its bytes.
 
+use crate::refused::Refused;
+use explain_base::Line;
 use note_types::{Notes, Shape};
 use pe_image::{Image, byte_at};
 
@@ -75,8 +77,8 @@ fn thing_range(notes: &Notes, number: usize) -> Option<Range> {
     thunk_range(notes, number - statics)
 }
 
-/// The first thing of the notes that shares a byte with a static object or a thunk cell, but for itself.
-pub(crate) fn sharing(notes: &Notes, it: &Range) -> Option<Range> {
+// The first thing of the notes that shares a byte with a static object or a thunk cell, but for itself.
+fn sharing(notes: &Notes, it: &Range) -> Option<Range> {
     let count = notes
         .function
         .len()
@@ -91,6 +93,27 @@ pub(crate) fn sharing(notes: &Notes, it: &Range) -> Option<Range> {
         }
     }
     None
+}
+
+/// What is wrong with where a static object or a thunk cell lies, behind its name.
+pub(crate) fn misplaced(refused: &Refused, name: Line, it: &Range) -> Option<Line> {
+    let size = refused.image.size;
+    let mut what = name;
+    what.text(" goes up to ").hexadecimal(it.to).text(", and ");
+    if it.to > u64::from(size) {
+        what.text("the image ends at ").at(size);
+        return Some(what);
+    }
+    let other = sharing(refused.notes, it)?;
+    what.text(other.list)
+        .text("[")
+        .count(other.number)
+        .text("] from ")
+        .hexadecimal(other.from);
+    what.text(" up to ")
+        .hexadecimal(other.to)
+        .text("; they share bytes");
+    Some(what)
 }
 
 /// The first relocation with a byte from `from` up to `to`.

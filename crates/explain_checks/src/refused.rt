@@ -51,12 +51,12 @@ pub fn check_said(refused: &Refused) -> Result<Option<Said>, NoMemory>
     requires notes { IsNotes refused.now.notes.now }
 {
     match refused.rule {
-        RuleName::Shape => said_of_shape(refused),
-        RuleName::Function => said_of_function(refused),
-        RuleName::Static => match said_of_static(refused)? {
-            Some(said) => Ok(Some(said)),
+        RuleName::Shape => Ok(said_of_shape(refused)),
+        RuleName::Function => Ok(said_of_function(refused)),
+        RuleName::Static => Ok(match said_of_static(refused) {
+            Some(said) => Some(said),
             None => said_of_thunk(refused),
-        },
+        }),
         _ => said_of_instruction(refused),
     }
 }
@@ -74,13 +74,13 @@ fn said_of_instruction(refused: &Refused) -> Result<Option<Said>, NoMemory>
     let stopped = Stopped { refused, at, f };
     match refused.rule {
         RuleName::Decode => Ok(Some(said_of_decode(&stopped)?)),
-        RuleName::State => Ok(Some(said_of_state(&stopped)?)),
+        RuleName::State => Ok(Some(said_of_state(&stopped))),
         RuleName::Point => said_of_point(&stopped),
-        RuleName::Relocation => said_of_relocation(&stopped),
-        RuleName::Target => said_of_target(&stopped),
-        RuleName::Below if refused.infers => said_of_clash(&stopped),
-        RuleName::Below => said_of_below(&stopped),
-        RuleName::End => said_of_end(&stopped),
+        RuleName::Relocation => Ok(said_of_relocation(&stopped)),
+        RuleName::Target => Ok(said_of_target(&stopped)),
+        RuleName::Below if refused.infers => Ok(said_of_clash(&stopped)),
+        RuleName::Below => Ok(said_of_below(&stopped)),
+        RuleName::End => Ok(said_of_end(&stopped)),
         _ => Ok(None),
     }
 }

@@ -1,43 +1,51 @@
 //! What is said of the rule `shape`.
 
 use crate::refused::Refused;
-use explain_base::Said;
-use note_types::{NoMemory, Shape, ShapeFault, shape_ok};
-use std::alloc::Global;
+use explain_base::{Line, Said};
+use note_types::{Shape, ShapeFault, shape_ok};
 
-// `NAME at (N, C)`.
-fn field_text(alloc: Global, s: &Shape, number: u32) -> Result<String, NoMemory> {
-    match s.fields.as_slice().get(number as usize) {
-        Some(x) => {
-            let (name, n, c) = (x.name.as_str(), x.n, x.c);
-            Ok(format!(in alloc; "{name} at ({n}, {c})")?)
-        }
-        None => Ok(String::new(alloc)),
+// Writes `NAME at (N, C)` of a field.
+fn write_field(s: &Shape, number: u32, line: &mut Line) {
+    if let Some(x) = s.fields.as_slice().get(number as usize) {
+        line.text(x.name.as_str())
+            .text(" at ")
+            .pair(u64::from(x.n), u64::from(x.c));
     }
 }
 
-fn fault_text(alloc: Global, s: &Shape, fault: ShapeFault) -> Result<String, NoMemory> {
-    let (name, n, c) = (s.name.as_str(), s.n, s.c);
+fn write_size(s: &Shape, line: &mut Line) {
+    line.text("size ").pair(u64::from(s.n), u64::from(s.c));
+}
+
+fn write_fault(s: &Shape, fault: ShapeFault, line: &mut Line) {
+    let name = s.name.as_str();
     match fault {
-        ShapeFault::Empty { width } => Ok(format!(in alloc;
-            "{name} has size ({n}, {c}), 0 bytes where a pointer has {width}"
-        )?),
+        ShapeFault::Empty { width } => {
+            line.text(name).text(" has ");
+            write_size(s, line);
+            line.text(", 0 bytes where a pointer has ")
+                .number(u64::from(width));
+        }
         ShapeFault::Outside { width, field } => {
-            let x = field_text(alloc, s, field)?;
-            Ok(format!(in alloc;
-                "where a pointer has {width} bytes, the field {x} of {name} ends past its size ({n}, {c})"
-            )?)
+            line.text("where a pointer has ")
+                .number(u64::from(width))
+                .text(" bytes, the field ");
+            write_field(s, field, line);
+            line.text(" of ").text(name).text(" ends past its ");
+            write_size(s, line);
         }
         ShapeFault::Overlap {
             width,
             first,
             second,
         } => {
-            let x = field_text(alloc, s, first)?;
-            let y = field_text(alloc, s, second)?;
-            Ok(format!(in alloc;
-                "where a pointer has {width} bytes, the fields {x} and {y} of {name} share a byte"
-            )?)
+            line.text("where a pointer has ")
+                .number(u64::from(width))
+                .text(" bytes, the fields ");
+            write_field(s, first, line);
+            line.text(" and ");
+            write_field(s, second, line);
+            line.text(" of ").text(name).text(" share a byte");
         }
     }
 }
@@ -51,20 +59,17 @@ fn key_of(fault: ShapeFault) -> &'static str {
 }
 
 /// What is said where a shape isn't well formed.
-pub(crate) fn said_of_shape(refused: &Refused) -> Result<Option<Said>, NoMemory> {
-    let (alloc, number) = (refused.alloc, refused.place);
-    let Some(s) = refused.notes.shape.as_slice().get(number as usize) else {
-        return Ok(None);
-    };
+pub(crate) fn said_of_shape(refused: &Refused) -> Option<Said> {
+    let number = refused.place as usize;
+    let s = refused.notes.shape.as_slice().get(number)?;
     // Shapes of notes have no more fields.
     if 256 < s.fields.len() {
-        return Ok(None);
+        return None;
     }
     let Err(fault) = shape_ok(s) else {
-        return Ok(None);
+        return None;
     };
-    let what = fault_text(alloc, s, fault)?;
-    let part = key_of(fault);
-    let key = format!(in alloc; "shape[{number}].{part}")?;
-    Ok(Some(Said::with_key(alloc, what, key, "the shape")?))
+    let mut what = Line::new(refused.alloc);
+    write_fault(s, fault, &mut what);
+    Some(Said::with_key(what, "shape", number, key_of(fault), "the shape"))
 }

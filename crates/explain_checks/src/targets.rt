@@ -2,9 +2,9 @@
 
 use crate::refused::Stopped;
 use ebc_insn::Insn;
-use explain_base::Said;
+use explain_base::{Line, Said};
 use note_infer::{jump_names, names_place};
-use note_types::{NoMemory, Notes};
+use note_types::Notes;
 
 // At most so many points are told.
 const POINTS: u32 = 8;
@@ -24,22 +24,18 @@ pub(crate) fn target_place(insn: &Insn, next: u32, reloc: Option<u64>) -> Option
     }
 }
 
-// The places of the points of the function.
-fn points_text(stopped: &Stopped) -> Result<String, NoMemory> {
-    let alloc = stopped.refused.alloc;
-    let mut text = String::new(alloc);
+// Writes the places of the points of the function.
+fn write_points(stopped: &Stopped, line: &mut Line) {
     let mut count = 0u32;
     for p in stopped.refused.notes.point.as_slice() {
         if stopped.f.place <= p.place && p.place < stopped.f.end && count < POINTS {
-            let place = p.place;
-            text.push_str(format!(in alloc; " 0x{place:x}")?.as_str())?;
+            line.text(" ").at(p.place);
             count += 1;
         }
     }
-    if text.is_empty() {
-        text.push_str(" none")?;
+    if count == 0 {
+        line.text(" none");
     }
-    Ok(text)
 }
 
 fn is_entry(notes: &Notes, place: i128) -> bool {
@@ -49,28 +45,31 @@ fn is_entry(notes: &Notes, place: i128) -> bool {
     }
 }
 
-fn call_text(stopped: &Stopped, place: i128) -> Result<String, NoMemory> {
-    let alloc = stopped.refused.alloc;
-    if is_entry(stopped.refused.notes, place) {
-        return Ok(format!(in alloc;
-            "the call goes to 0x{place:x}, the entry function, which isn't called"
-        )?);
-    }
-    Ok(format!(in alloc; "the call goes to 0x{place:x}, where no function of the notes begins")?)
+fn call_line(stopped: &Stopped, place: i128) -> Line {
+    let mut what = Line::of(stopped.refused.alloc, "the call goes to ");
+    what.target(place);
+    what.text(if is_entry(stopped.refused.notes, place) {
+        ", the entry function, which isn't called"
+    } else {
+        ", where no function of the notes begins"
+    });
+    what
 }
 
-fn jump_text(stopped: &Stopped, place: i128) -> Result<String, NoMemory> {
-    let (alloc, f) = (stopped.refused.alloc, stopped.f);
-    let (name, from, to) = (f.name.as_str(), f.place, f.end);
+fn jump_line(stopped: &Stopped, place: i128) -> Line {
+    let (name, from, to) = (stopped.f.name.as_str(), stopped.f.place, stopped.f.end);
+    let mut what = Line::of(stopped.refused.alloc, "the jump goes to ");
+    what.target(place);
     if i128::from(from) <= place && place < i128::from(to) {
-        let points = points_text(stopped)?;
-        return Ok(format!(in alloc;
-            "the jump goes to 0x{place:x}, where the notes have no point; {name} has points at:{points}"
-        )?);
+        what.text(", where the notes have no point; ")
+            .text(name)
+            .text(" has points at:");
+        write_points(stopped, &mut what);
+    } else {
+        what.text(", outside ").text(name).text(", which is ");
+        what.at(from).text(" up to ").at(to);
     }
-    Ok(format!(in alloc;
-        "the jump goes to 0x{place:x}, outside {name}, which is 0x{from:x} up to 0x{to:x}"
-    )?)
+    what
 }
 
 /// The place to which an instruction jumps or calls byte code.
@@ -85,13 +84,10 @@ pub(crate) fn target_of(stopped: &Stopped) -> Option<i128> {
 }
 
 /// What is said where a jump or a call goes to no such place.
-pub(crate) fn said_of_target(stopped: &Stopped) -> Result<Option<Said>, NoMemory> {
-    let Some(place) = target_of(stopped) else {
-        return Ok(None);
-    };
-    let what = match stopped.at.insn {
-        Some((Insn::Call { .. }, _)) => call_text(stopped, place)?,
-        _ => jump_text(stopped, place)?,
-    };
-    Ok(Some(Said::only(stopped.refused.alloc, what)))
+pub(crate) fn said_of_target(stopped: &Stopped) -> Option<Said> {
+    let place = target_of(stopped)?;
+    Some(Said::only(match stopped.at.insn {
+        Some((Insn::Call { .. }, _)) => call_line(stopped, place),
+        _ => jump_line(stopped, place),
+    }))
 }

@@ -1,9 +1,9 @@
 //! What is said of the rule `static`, of a thunk cell.
 
-use crate::ranges::{Range, reloc_in, sharing, thunk_range};
+use crate::ranges::{misplaced, reloc_in, thunk_range};
 use crate::refused::Refused;
-use explain_base::Said;
-use note_types::{FnNote, NoMemory};
+use explain_base::{Line, Said};
+use note_types::FnNote;
 use pe_image::{Image, byte_at};
 use std::alloc::Global;
 
@@ -17,75 +17,67 @@ fn half_at(image: &Image, place: u64) -> u32 {
     ])
 }
 
-// What is wrong with where a thunk cell lies.
-fn fault_of_range(refused: &Refused, range: &Range) -> Result<Option<String>, NoMemory> {
-    let (alloc, size, to) = (refused.alloc, refused.image.size, range.to);
-    if to > u64::from(size) {
-        return Ok(Some(format!(in alloc;
-            "the thunk cell goes up to 0x{to:x}, and the image ends at 0x{size:x}"
-        )?));
+// What is wrong with the bytes of a thunk cell at a place.
+fn fault_of_bytes(alloc: Global, image: &Image, f: &FnNote, place: u32) -> Line {
+    let from = u64::from(place);
+    let leads = half_at(image, from).wrapping_add(place).wrapping_add(4);
+    let mut what = Line::new(alloc);
+    if leads != f.place {
+        let name = f.name.as_str();
+        what.text("the thunk cell leads to ")
+            .at(leads)
+            .text(", and ")
+            .text(name)
+            .text(" begins at ")
+            .at(f.place);
+        what.text("; .thunk ")
+            .text(name)
+            .text(" in the data makes one that leads there");
+    } else if let Some(r) = reloc_in(image, from, from + 8) {
+        what.text("a relocation stands at ")
+            .at(r)
+            .text(", in the thunk cell, where none is wanted");
+    } else {
+        what.text("the last four bytes of the thunk cell aren't 0");
     }
-    if let Some(other) = sharing(refused.notes, range) {
-        let (list, k, a, b) = (other.list, other.number, other.from, other.to);
-        return Ok(Some(format!(in alloc;
-            "the thunk cell goes up to 0x{to:x}, and {list}[{k}] from 0x{a:x} up to 0x{b:x}; they share bytes"
-        )?));
-    }
-    Ok(None)
+    what
 }
 
-// What is wrong with the bytes of a thunk cell at a place.
-fn fault_of_bytes(
-    alloc: Global,
-    image: &Image,
-    f: &FnNote,
-    place: u32,
-) -> Result<String, NoMemory> {
-    let from = u64::from(place);
-    let (name, at) = (f.name.as_str(), f.place);
-    let leads = half_at(image, from).wrapping_add(place).wrapping_add(4);
-    if leads != at {
-        return Ok(format!(in alloc;
-            "the thunk cell leads to 0x{leads:x}, and {name} begins at 0x{at:x}; .thunk {name} in the data makes one that leads there"
-        )?);
-    }
-    if let Some(r) = reloc_in(image, from, from + 8) {
-        return Ok(format!(in alloc;
-            "a relocation stands at 0x{r:x}, in the thunk cell, where none is wanted"
-        )?);
-    }
-    Ok(String::from_str(alloc, "the last four bytes of the thunk cell aren't 0")?)
+// What is said of a thunk cell, by its number and what is wrong with it.
+fn said_of(what: Line, number: usize) -> Said {
+    Said::with_key(what, "thunk", number, "place", "the thunk cell")
 }
 
 // What is said of a thunk cell, by its number, which enters function `func`.
-fn said_of_cell(refused: &Refused, number: usize, func: u32) -> Result<Option<Said>, NoMemory> {
+fn said_of_cell(refused: &Refused, number: usize, func: u32) -> Option<Said> {
     let (alloc, notes) = (refused.alloc, refused.notes);
-    let (Some(f), Some(range)) = (
-        notes.function.as_slice().get(func as usize),
-        thunk_range(notes, number),
-    ) else {
-        return Ok(None);
-    };
-    let key = format!(in alloc; "thunk[{number}].place")?;
-    if let Some(what) = fault_of_range(refused, &range)? {
-        return Ok(Some(Said::with_key(alloc, what, key, "the thunk cell")?));
+    let f = notes.function.as_slice().get(func as usize)?;
+    let range = thunk_range(notes, number)?;
+    if let Some(what) = misplaced(refused, Line::of(alloc, "the thunk cell"), &range) {
+        return Some(said_of(what, number));
     }
-    if !f.enter {
-        let name = f.name.as_str();
-        let what = format!(in alloc; "the thunk cell enters {name}, which has no enter = true")?;
-        let key = format!(in alloc; "function[{func}].name")?;
-        return Ok(Some(Said::with_key(alloc, what, key, "the function that it enters")?));
+    if f.enter {
+        let what = fault_of_bytes(alloc, refused.image, f, refused.place);
+        return Some(said_of(what, number));
     }
-    let what = fault_of_bytes(alloc, refused.image, f, refused.place)?;
-    Ok(Some(Said::with_key(alloc, what, key, "the thunk cell")?))
+    let mut what = Line::of(alloc, "the thunk cell enters ");
+    what.text(f.name.as_str())
+        .text(", which has no enter = true");
+    Some(Said::with_key(
+        what,
+        "function",
+        func as usize,
+        "name",
+        "the function that it enters",
+    ))
 }
 
 /// What is said where a thunk cell isn't as the image has it.
-pub(crate) fn said_of_thunk(refused: &Refused) -> Result<Option<Said>, NoMemory> {
+pub(crate) fn said_of_thunk(refused: &Refused) -> Option<Said> {
     for (number, x) in refused.notes.thunk.as_slice().iter().enumerate() {
         if x.place == refused.place {
             return said_of_cell(refused, number, x.function);
         }
     }
-    Ok(None)
+    None
 }

@@ -1,4 +1,6 @@
-//! Numbers at an offset of a file that may be cut off, and what a file seems to be.
+//! Numbers at an offset of a file that may be cut off, how they are told, and what a file seems to be.
+
+use explain_base::Line;
 
 // The byte at an offset; 0 past the end.
 fn byte_at(file: &[u8], at: usize) -> u8 {
@@ -19,7 +21,23 @@ pub(crate) fn u32_at(file: &[u8], at: usize) -> u32 {
     u32::from(u16_at(file, at)) + 0x1_0000 * u32::from(u16_at(file, at.saturating_add(2)))
 }
 
-/// What a file seems to be by its first bytes, after a semicolon; empty if nothing is known of it.
+/// Writes a number of two bytes in four hexadecimal digits, after `0x`.
+pub(crate) fn write_u16(number: u16, line: &mut Line) {
+    let [low, high] = number.to_le_bytes();
+    line.text("0x").byte(high).byte(low);
+}
+
+/// Writes a number of four bytes in eight hexadecimal digits, after `0x`.
+pub(crate) fn write_u32(number: u32, line: &mut Line) {
+    let [first, second, third, last] = number.to_le_bytes();
+    line.text("0x")
+        .byte(last)
+        .byte(third)
+        .byte(second)
+        .byte(first);
+}
+
+/// What a file seems to be by its first bytes, after a semicolon; empty if nothing is known of it, or if it is empty.
 pub(crate) fn guess(file: &[u8]) -> &'static str {
     if file.starts_with(b"MZ") {
         return "; it begins as an image";
@@ -34,7 +52,7 @@ pub(crate) fn guess(file: &[u8]) -> &'static str {
         return "; it begins as an ELF program";
     }
     match std::str::from_utf8(file) {
+        Ok("") | Err(_) => "",
         Ok(_) => "; it is a text",
-        Err(_) => "",
     }
 }

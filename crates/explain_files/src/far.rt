@@ -8,7 +8,7 @@ use crate::symbols::{Laid, fixup_in, place_in, target_of};
 use ebc_base::NoMemory;
 use ebc_link::{Home, LinkPlan, homes_of};
 use ebc_object::{Fixup, Object};
-use explain_base::Said;
+use explain_base::{Line, Said};
 use std::alloc::Global;
 
 // What goes a distance by the kind of a fixup, and which distances it can go.
@@ -21,25 +21,25 @@ fn form_text(kind: u8) -> (&'static str, &'static str) {
     }
 }
 
-fn far_text(
-    alloc: Global,
-    objects: &[Object],
-    homes: &[Home],
-    laid: &Laid,
-    fixup: &Fixup,
-) -> Result<String, NoMemory> {
+fn far_line(alloc: Global, objects: &[Object], homes: &[Home], laid: &Laid, fixup: &Fixup) -> Line {
     let (form, wanted) = form_text(fixup.kind);
+    let mut what = Line::of(alloc, form);
     match target_of(objects, homes, laid, fixup) {
         Some((symbol, place)) => {
-            let name = symbol.name.as_str();
             let from = place_in(laid.home, fixup.section, fixup.from);
-            let distance = i128::from(place) - i128::from(from);
-            Ok(format!(in alloc;
-                "{form} goes {distance} bytes to {name}, at place 0x{place:x}; wanted: {wanted}"
-            )?)
+            what.text(" goes ")
+                .signed(i128::from(place) - i128::from(from))
+                .text(" bytes to ");
+            what.text(symbol.name.as_str())
+                .text(", at place ")
+                .hexadecimal(place);
         }
-        None => Ok(format!(in alloc; "{form} doesn't reach its symbol; wanted: {wanted}")?),
+        None => {
+            what.text(" doesn't reach its symbol");
+        }
     }
+    what.text("; wanted: ").text(wanted);
+    what
 }
 
 /// What is said of the fixup at a place, which doesn't reach its symbol; none if no fixup is there.
@@ -56,7 +56,6 @@ pub(crate) fn far_said(
     let Some((laid, fixup)) = fixup_in(plan, objects, homes.as_slice(), place) else {
         return Ok(None);
     };
-    let what = far_text(alloc, objects, homes.as_slice(), &laid, fixup)?;
-    let said = fixup_said(alloc, laid.file, laid.object, fixup, what, "")?;
-    Ok(Some(said))
+    let what = far_line(alloc, objects, homes.as_slice(), &laid, fixup);
+    Ok(Some(fixup_said(laid.file, laid.object, fixup, what, "")))
 }

@@ -1,52 +1,57 @@
 //! What is said of a file that is no image.
 
-use crate::bytes::{guess, u16_at, u32_at};
+use crate::bytes::{guess, u16_at, u32_at, write_u16, write_u32};
 use crate::headers::signature;
-use crate::relocations::relocation_text;
-use crate::sections::{align_text, fit_text, overlap_text};
-use ebc_base::NoMemory;
-use explain_base::Said;
+use crate::relocations::write_relocation;
+use crate::sections::{write_align, write_fit, write_overlap};
+use explain_base::{Line, Said};
 use pe_image::ImageFault;
 use std::alloc::Global;
 
-// A file that ends before a header does.
-fn short_text(alloc: Global, file: &[u8], offset: usize) -> Result<String, NoMemory> {
+// Writes of a file that ends before a header does.
+fn write_short(file: &[u8], offset: usize, line: &mut Line) {
     let size = file.len();
     if size < 64 {
-        let guess = guess(file);
-        return Ok(format!(in alloc;
-            "the file has {size} bytes; wanted: an image, which has at least 64{guess}"
-        )?);
+        line.text("the file has ")
+            .count(size)
+            .text(" bytes; wanted: an image, which has at least 64")
+            .text(guess(file));
+        return;
     }
     if offset == 60 {
-        let at = signature(file);
-        return Ok(format!(in alloc;
-            "the headers begin at 0x{at:x} and end past the file, which has {size} bytes: it is cut off, or is no image"
-        )?);
+        line.text("the headers begin at ")
+            .at(signature(file))
+            .text(" and end past the file, which has ")
+            .count(size)
+            .text(" bytes: it is cut off, or is no image");
+        return;
     }
     let optional_size = u16_at(file, offset);
     if optional_size < 112 {
-        return Ok(format!(in alloc;
-            "SizeOfOptionalHeader is {optional_size}; wanted: 112 at least, as of a PE32+ image"
-        )?);
+        line.text("SizeOfOptionalHeader is ")
+            .number(u64::from(optional_size))
+            .text("; wanted: 112 at least, as of a PE32+ image");
+        return;
     }
-    Ok(format!(in alloc;
-        "the section table ends past the file, which has {size} bytes: it is cut off"
-    )?)
+    line.text("the section table ends past the file, which has ")
+        .count(size)
+        .text(" bytes: it is cut off");
 }
 
-// A file that doesn't begin as an image.
-fn mark_text(alloc: Global, file: &[u8]) -> Result<String, NoMemory> {
+// Writes of a file that doesn't begin as an image.
+fn write_mark(file: &[u8], line: &mut Line) {
     let [first, second] = u16_at(file, 0).to_le_bytes();
-    let guess = guess(file);
-    Ok(format!(in alloc;
-        "the first bytes are {first:02x} {second:02x}; wanted: 4d 5a, MZ, with which an image begins{guess}"
-    )?)
+    line.text("the first bytes are ")
+        .byte(first)
+        .text(" ")
+        .byte(second);
+    line.text("; wanted: 4d 5a, MZ, with which an image begins")
+        .text(guess(file));
 }
 
-// An image for another machine.
-fn machine_text(alloc: Global, machine: u16) -> Result<String, NoMemory> {
-    let name = match machine {
+// The name of another machine, behind a comma; empty if it isn't known.
+fn machine_name(machine: u16) -> &'static str {
+    match machine {
         0x014c => ", x86",
         0x01c2 => ", ARM",
         0x0200 => ", Itanium",
@@ -54,67 +59,60 @@ fn machine_text(alloc: Global, machine: u16) -> Result<String, NoMemory> {
         0x8664 => ", x64",
         0xaa64 => ", AArch64",
         _ => "",
-    };
-    Ok(format!(in alloc; "Machine is 0x{machine:04x}{name}; wanted: 0x0ebc, EBC")?)
-}
-
-// A signature, a magic number or an entry that isn't as it should be.
-fn field_text(
-    alloc: Global,
-    file: &[u8],
-    kind: ImageFault,
-    offset: usize,
-) -> Result<String, NoMemory> {
-    let number = u32_at(file, offset);
-    let magic = u16_at(file, offset);
-    match kind {
-        ImageFault::Pe => Ok(format!(in alloc;
-            "the signature is 0x{number:08x}; wanted: 0x00004550, PE and two zeros"
-        )?),
-        ImageFault::Magic => Ok(format!(in alloc;
-            "Magic is 0x{magic:04x}; wanted: 0x020b, PE32+"
-        )?),
-        _ => Ok(format!(in alloc;
-            "the entry is 0x{number:x}; wanted: an even place inside a section"
-        )?),
     }
 }
 
-fn image_text(
-    alloc: Global,
-    file: &[u8],
-    kind: ImageFault,
-    offset: usize,
-) -> Result<String, NoMemory> {
+// Writes of an image for another machine.
+fn write_machine(machine: u16, line: &mut Line) {
+    line.text("Machine is ");
+    write_u16(machine, line);
+    line.text(machine_name(machine))
+        .text("; wanted: 0x0ebc, EBC");
+}
+
+// Writes of a signature that isn't as it should be.
+fn write_signature(number: u32, line: &mut Line) {
+    line.text("the signature is ");
+    write_u32(number, line);
+    line.text("; wanted: 0x00004550, PE and two zeros");
+}
+
+// Writes of a magic number that isn't as it should be.
+fn write_magic(magic: u16, line: &mut Line) {
+    line.text("Magic is ");
+    write_u16(magic, line);
+    line.text("; wanted: 0x020b, PE32+");
+}
+
+// Writes of an entry that isn't as it should be.
+fn write_entry(entry: u32, line: &mut Line) {
+    line.text("the entry is ")
+        .at(entry)
+        .text("; wanted: an even place inside a section");
+}
+
+fn write_fault(file: &[u8], kind: ImageFault, offset: usize, line: &mut Line) {
     match kind {
-        ImageFault::Short => short_text(alloc, file, offset),
-        ImageFault::Mz => mark_text(alloc, file),
-        ImageFault::Machine => machine_text(alloc, u16_at(file, offset)),
-        ImageFault::Pe | ImageFault::Magic | ImageFault::Entry => {
-            field_text(alloc, file, kind, offset)
-        }
-        ImageFault::Section => fit_text(alloc, file, offset),
-        ImageFault::Overlap => overlap_text(alloc, file, offset),
-        ImageFault::Align => align_text(alloc, file, offset),
-        ImageFault::Reloc => relocation_text(alloc, file, offset),
+        ImageFault::Short => write_short(file, offset, line),
+        ImageFault::Mz => write_mark(file, line),
+        ImageFault::Machine => write_machine(u16_at(file, offset), line),
+        ImageFault::Pe => write_signature(u32_at(file, offset), line),
+        ImageFault::Magic => write_magic(u16_at(file, offset), line),
+        ImageFault::Entry => write_entry(u32_at(file, offset), line),
+        ImageFault::Section => write_fit(file, offset, line),
+        ImageFault::Overlap => write_overlap(file, offset, line),
+        ImageFault::Align => write_align(file, offset, line),
+        ImageFault::Reloc => write_relocation(file, offset, line),
     }
 }
 
 /// What is said of a file that is no image, by the fault and the offset that `read_image` tells of it.
-///
-/// # Errors
-///
-/// Want of memory alone.
-pub fn image_said(
-    alloc: Global,
-    file: &[u8],
-    kind: ImageFault,
-    offset: u64,
-) -> Result<Said, NoMemory> {
-    let what = image_text(alloc, file, kind, offset as usize)?;
-    let at = format!(in alloc; ":0x{offset:x}")?;
+pub fn image_said(alloc: Global, file: &[u8], kind: ImageFault, offset: u64) -> Said {
+    let mut what = Line::new(alloc);
+    write_fault(file, kind, offset as usize, &mut what);
+    let mut at = Line::of(alloc, ":");
+    at.hexadecimal(offset);
     Said::at_place(
-        alloc,
         at,
         what,
         "docs/IMAGES.md, \"Faults, and what to do about them\"",

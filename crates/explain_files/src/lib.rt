@@ -4,7 +4,7 @@
 //!
 //! Promises:
 //!
-//! No sentence has a clause. The calls end, and fail by want of memory alone.
+//! No sentence has a clause. The calls end. What is said remembers want of memory, and `link_said` fails by it, too.
 //!
 //! - `image_said`: by the fault and the offset of `read_image`. The conditions of docs/IMAGES.md that share a fault are
 //!   told apart. If a file doesn't begin as an image, it says what the first bytes look like: an object, an option ROM,

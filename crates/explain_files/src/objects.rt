@@ -1,74 +1,65 @@
 //! What is said of a file that is no object.
 
 use crate::bytes::{guess, u32_at};
-use ebc_base::NoMemory;
 use ebc_object::ObjectFault;
-use explain_base::Said;
+use explain_base::{Line, Said};
 use std::alloc::Global;
 
-// A file that doesn't begin as an object of this version.
-fn mark_text(alloc: Global, file: &[u8], offset: usize) -> Result<String, NoMemory> {
+// Writes of a file that doesn't begin as an object of this version.
+fn write_mark(file: &[u8], offset: usize, line: &mut Line) {
     if offset == 0 {
-        let guess = guess(file);
-        return Ok(format!(in alloc;
-            "the first four bytes aren't EBCO, with which an object begins{guess}; asm makes an object of a source"
-        )?);
+        line.text("the first four bytes aren't EBCO, with which an object begins")
+            .text(guess(file))
+            .text("; asm makes an object of a source");
+        return;
     }
-    let version = u32_at(file, offset);
-    Ok(format!(in alloc; "the version is {version}; wanted: 1")?)
+    line.text("the version is ")
+        .number(u64::from(u32_at(file, offset)))
+        .text("; wanted: 1");
 }
 
-// A length or a count that is too large, or bytes that nothing counts.
-fn count_text(alloc: Global, file: &[u8], offset: usize) -> Result<String, NoMemory> {
+// Writes of a length or a count that is too large, or of bytes that nothing counts.
+fn write_count(file: &[u8], offset: usize, line: &mut Line) {
     if offset < 24 {
-        let count = u32_at(file, offset);
-        return Ok(format!(in alloc; "a length or count is {count}; wanted: 1048576 at most")?);
+        line.text("a length or count is ")
+            .number(u64::from(u32_at(file, offset)))
+            .text("; wanted: 1048576 at most");
+        return;
     }
-    let behind = file.len().saturating_sub(offset);
-    Ok(format!(in alloc;
-        "bytes after the last fixup, with which an object ends: {behind}; wanted: none"
-    )?)
+    line.text("bytes after the last fixup, with which an object ends: ")
+        .count(file.len().saturating_sub(offset))
+        .text("; wanted: none");
 }
 
-fn object_text(
-    alloc: Global,
-    file: &[u8],
-    kind: ObjectFault,
-    offset: usize,
-) -> Result<String, NoMemory> {
-    let size = file.len();
+fn write_fault(file: &[u8], kind: ObjectFault, offset: usize, line: &mut Line) {
     match kind {
-        ObjectFault::Short => Ok(format!(in alloc;
-            "a field ends past the file, which has {size} bytes: it is cut off"
-        )?),
-        ObjectFault::Mark => mark_text(alloc, file, offset),
-        ObjectFault::Count => count_text(alloc, file, offset),
-        ObjectFault::Range => Ok(String::from_str(
-            alloc,
-            "a field of a symbol or fixup is out of its range; wanted: an object as asm writes it",
-        )?),
-        ObjectFault::Order => Ok(String::from_str(
-            alloc,
-            "a name stands there again, or a fixup before the end of another; wanted: an object as asm writes it",
-        )?),
+        ObjectFault::Short => {
+            line.text("a field ends past the file, which has ")
+                .count(file.len())
+                .text(" bytes: it is cut off");
+        }
+        ObjectFault::Mark => write_mark(file, offset, line),
+        ObjectFault::Count => write_count(file, offset, line),
+        ObjectFault::Range => {
+            line.text(
+                "a field of a symbol or fixup is out of its range; wanted: an object as asm writes it",
+            );
+        }
+        ObjectFault::Order => {
+            line.text(
+                "a name stands there again, or a fixup before the end of another; wanted: an object as asm writes it",
+            );
+        }
     }
 }
 
 /// What is said of the file of an object's name, which is no object, by the fault and the offset that `read_object` tells of it.
-///
-/// # Errors
-///
-/// Want of memory alone.
-pub fn object_said(
-    alloc: Global,
-    name: &str,
-    file: &[u8],
-    kind: ObjectFault,
-    offset: u64,
-) -> Result<Said, NoMemory> {
-    let what = object_text(alloc, file, kind, offset as usize)?;
-    let at = format!(in alloc; ":0x{offset:x}")?;
-    let mut said = Said::at_place(alloc, at, what, "docs/OBJECTS.md, \"Reading\"")?;
-    said.file = String::from_str(alloc, name)?;
-    Ok(said)
+pub fn object_said(alloc: Global, name: &str, file: &[u8], kind: ObjectFault, offset: u64) -> Said {
+    let mut what = Line::new(alloc);
+    write_fault(file, kind, offset as usize, &mut what);
+    let mut at = Line::of(alloc, ":");
+    at.hexadecimal(offset);
+    let mut said = Said::at_place(at, what, "docs/OBJECTS.md, \"Reading\"");
+    said.file.text(name);
+    said
 }

@@ -1,9 +1,8 @@
 //! What is said of the base relocations of an image.
 
-use crate::bytes::{u16_at, u32_at};
+use crate::bytes::{u16_at, u32_at, write_u16};
 use crate::headers::{optional, section_count, section_header, signature};
-use ebc_base::NoMemory;
-use std::alloc::Global;
+use explain_base::Line;
 
 // Where the base relocations stand in the file: in the raw data of the first section that has them all.
 fn first_block(file: &[u8]) -> Option<usize> {
@@ -36,38 +35,36 @@ fn is_block(file: &[u8], offset: usize) -> bool {
     block == offset
 }
 
-// What is said of an entry.
-fn entry_text(alloc: Global, file: &[u8], offset: usize) -> Result<String, NoMemory> {
+// Writes of an entry.
+fn write_entry(file: &[u8], offset: usize, line: &mut Line) {
     let entry = u16_at(file, offset);
     let kind = entry / 4096;
+    line.text("an entry of the base relocations is ");
+    write_u16(entry, line);
     if kind != 0 && kind != 10 {
-        return Ok(format!(in alloc;
-            "an entry of the base relocations is 0x{entry:04x}, of type {kind}; wanted: type 0 or 10"
-        )?);
+        line.text(", of type ")
+            .number(u64::from(kind))
+            .text("; wanted: type 0 or 10");
+    } else {
+        line.text("; wanted: eight bytes inside one section, after those of the entry before");
     }
-    Ok(format!(in alloc;
-        "an entry of the base relocations is 0x{entry:04x}; wanted: eight bytes inside one section, after those of the entry before"
-    )?)
 }
 
-/// What is said of base relocations that have a fault at an offset.
-pub(crate) fn relocation_text(
-    alloc: Global,
-    file: &[u8],
-    offset: usize,
-) -> Result<String, NoMemory> {
+/// Writes of base relocations that have a fault at an offset.
+pub(crate) fn write_relocation(file: &[u8], offset: usize, line: &mut Line) {
     if offset == signature(file) as usize + 176 {
-        let place = optional(file, 152);
-        let size = optional(file, 156);
-        return Ok(format!(in alloc;
-            "the base relocations take 0x{size:x} bytes from place 0x{place:x} on; wanted: raw data of one section there"
-        )?);
+        line.text("the base relocations take ")
+            .at(optional(file, 156))
+            .text(" bytes from place ")
+            .at(optional(file, 152))
+            .text(" on; wanted: raw data of one section there");
+        return;
     }
     if !is_block(file, offset) {
-        return entry_text(alloc, file, offset);
+        write_entry(file, offset, line);
+        return;
     }
-    let size = u32_at(file, offset.saturating_add(4));
-    Ok(format!(in alloc;
-        "a block of base relocations of 0x{size:x} bytes; wanted: an even number from 8 on, up to the end of the directory at most"
-    )?)
+    line.text("a block of base relocations of ")
+        .at(u32_at(file, offset.saturating_add(4)))
+        .text(" bytes; wanted: an even number from 8 on, up to the end of the directory at most");
 }

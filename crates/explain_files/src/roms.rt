@@ -1,86 +1,82 @@
 //! What is said of a file that is no option ROM, and of an image that isn't taken out of one.
 
-use crate::bytes::{guess, u16_at, u32_at};
-use ebc_base::NoMemory;
-use explain_base::Said;
+use crate::bytes::{guess, u16_at, u32_at, write_u16, write_u32};
+use explain_base::{Line, Said};
 use option_rom::{RomFault, TakeFault};
 use std::alloc::Global;
 
-// An image of which the header or the PCI data structure isn't in the file.
-fn short_text(alloc: Global, file: &[u8], offset: usize) -> Result<String, NoMemory> {
+// Writes of an image of which the header or the PCI data structure isn't in the file.
+fn write_short(file: &[u8], offset: usize, line: &mut Line) {
     let size = file.len();
     if offset == 0 && size < 26 {
-        return Ok(format!(in alloc;
-            "the file has {size} bytes; wanted: an option ROM, whose header has 26"
-        )?);
+        line.text("the file has ")
+            .count(size)
+            .text(" bytes; wanted: an option ROM, whose header has 26");
+        return;
     }
-    Ok(format!(in alloc;
-        "a header or PCI data structure ends past the file, which has {size} bytes: it is cut off, or the image before is the last"
-    )?)
+    line.text("a header or PCI data structure ends past the file, which has ")
+        .count(size)
+        .text(" bytes: it is cut off, or the image before is the last");
 }
 
-// An image that doesn't begin as one.
-fn mark_text(alloc: Global, file: &[u8], offset: usize) -> Result<String, NoMemory> {
-    let mark = u16_at(file, offset);
-    let cause = if offset == 0 {
+// Writes of an image that doesn't begin as one.
+fn write_mark(file: &[u8], offset: usize, line: &mut Line) {
+    line.text("the first two bytes of an image are ");
+    write_u16(u16_at(file, offset), line);
+    line.text("; wanted: 0xaa55").text(if offset == 0 {
         guess(file)
     } else {
         "; the image before has another length, or is the last"
-    };
-    Ok(format!(in alloc;
-        "the first two bytes of an image are 0x{mark:04x}; wanted: 0xaa55{cause}"
-    )?)
+    });
 }
 
-// An image whose length is 0 or leads past the file.
-fn length_text(alloc: Global, file: &[u8], offset: usize) -> Result<String, NoMemory> {
-    let blocks = u16_at(file, offset);
-    let length = u32::from(blocks) * 512;
-    let size = file.len();
-    Ok(format!(in alloc;
-        "the image has {blocks} blocks of 512 bytes, {length} in all, and the file has {size} bytes: it is cut off, or the length is none"
-    )?)
+// Writes of an image whose length is 0 or leads past the file.
+fn write_length(file: &[u8], offset: usize, line: &mut Line) {
+    let blocks = u64::from(u16_at(file, offset));
+    line.text("the image has ")
+        .number(blocks)
+        .text(" blocks of 512 bytes, ")
+        .number(blocks * 512)
+        .text(" in all, and the file has ")
+        .count(file.len());
+    line.text(" bytes: it is cut off, or the length is none");
 }
 
-// An EFI image with another signature, or one that begins past its end.
-fn efi_text(alloc: Global, file: &[u8], offset: usize) -> Result<String, NoMemory> {
+// Writes of an EFI image with another signature, or one that begins past its end.
+fn write_efi(file: &[u8], offset: usize, line: &mut Line) {
     let signature = u32_at(file, offset);
     if signature != 0x0ef1 {
-        return Ok(format!(in alloc;
-            "EfiSignature is 0x{signature:08x}; wanted: 0x00000ef1, since the code type is EFI"
-        )?);
+        line.text("EfiSignature is ");
+        write_u32(signature, line);
+        line.text("; wanted: 0x00000ef1, since the code type is EFI");
+        return;
     }
     let start = u16_at(file, offset.saturating_add(18));
-    Ok(format!(in alloc;
-        "EfiImageHeaderOffset is 0x{start:x}, past the end of the image; wanted: a place in it"
-    )?)
+    line.text("EfiImageHeaderOffset is ")
+        .hexadecimal(u64::from(start))
+        .text(", past the end of the image; wanted: a place in it");
 }
 
-fn rom_text(alloc: Global, file: &[u8], kind: RomFault, offset: usize) -> Result<String, NoMemory> {
+fn write_fault(file: &[u8], kind: RomFault, offset: usize, line: &mut Line) {
     match kind {
-        RomFault::Short => short_text(alloc, file, offset),
-        RomFault::Mark => mark_text(alloc, file, offset),
+        RomFault::Short => write_short(file, offset, line),
+        RomFault::Mark => write_mark(file, offset, line),
         RomFault::Pcir => {
-            let found = u32_at(file, offset);
-            Ok(format!(in alloc;
-                "0x{found:08x} stands where PcirOffset leads; wanted: 0x52494350, PCIR"
-            )?)
+            write_u32(u32_at(file, offset), line);
+            line.text(" stands where PcirOffset leads; wanted: 0x52494350, PCIR");
         }
-        RomFault::Length => length_text(alloc, file, offset),
-        RomFault::Efi => efi_text(alloc, file, offset),
+        RomFault::Length => write_length(file, offset, line),
+        RomFault::Efi => write_efi(file, offset, line),
     }
 }
 
 /// What is said of a file that is no option ROM, by the fault and the offset that `read_rom` tells of it.
-///
-/// # Errors
-///
-/// Want of memory alone.
-pub fn rom_said(alloc: Global, file: &[u8], kind: RomFault, offset: u32) -> Result<Said, NoMemory> {
-    let what = rom_text(alloc, file, kind, offset as usize)?;
-    let at = format!(in alloc; ":0x{offset:x}")?;
+pub fn rom_said(alloc: Global, file: &[u8], kind: RomFault, offset: u32) -> Said {
+    let mut what = Line::new(alloc);
+    write_fault(file, kind, offset as usize, &mut what);
+    let mut at = Line::of(alloc, ":");
+    at.at(offset);
     Said::at_place(
-        alloc,
         at,
         what,
         "docs/ROMS.md, \"Faults, and what to do about them\"",
@@ -89,27 +85,20 @@ pub fn rom_said(alloc: Global, file: &[u8], kind: RomFault, offset: u32) -> Resu
 
 /// What is said of the image with a number, which isn't taken out of an option ROM with so many images, by the fault that `take`
 /// tells of it.
-///
-/// # Errors
-///
-/// Want of memory alone.
-pub fn taking_said(
-    alloc: Global,
-    count: usize,
-    number: u32,
-    kind: TakeFault,
-) -> Result<Said, NoMemory> {
-    let what = match kind {
-        TakeFault::Number => format!(in alloc;
-            "image {number} is asked for, and the ROM has {count}, counted from 0"
-        )?,
-        TakeFault::NotEbc => format!(in alloc;
-            "image {number} isn't one of EBC; rom list prints the code type and the machine of each"
-        )?,
-        TakeFault::Compressed => format!(in alloc;
-            "image {number} is compressed; wanted: one that another tool has decompressed"
-        )?,
+pub fn taking_said(alloc: Global, count: usize, number: u32, kind: TakeFault) -> Said {
+    let mut what = Line::of(alloc, "image ");
+    what.number(u64::from(number));
+    match kind {
+        TakeFault::Number => what
+            .text(" is asked for, and the ROM has ")
+            .count(count)
+            .text(", counted from 0"),
+        TakeFault::NotEbc => what.text(
+            " isn't one of EBC; rom list prints the code type and the machine of each",
+        ),
+        TakeFault::Compressed => what.text(
+            " is compressed; wanted: one that another tool has decompressed",
+        ),
     };
-    let at = String::new(alloc);
-    Said::at_place(alloc, at, what, "docs/ROMS.md, \"What is taken\"")
+    Said::with_page(what, "docs/ROMS.md, \"What is taken\"")
 }

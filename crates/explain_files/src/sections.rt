@@ -2,19 +2,17 @@
 
 use crate::bytes::u32_at;
 use crate::headers::{optional, section_count};
-use ebc_base::NoMemory;
-use std::alloc::Global;
+use explain_base::Line;
 
-// The name in the header of a section, up to its first byte that isn't printable.
-fn name_of(alloc: Global, file: &[u8], header: usize) -> Result<String, NoMemory> {
-    let mut name = String::new(alloc);
+// Writes the name in the header of a section, up to its first byte that isn't printable.
+fn write_name(file: &[u8], header: usize, line: &mut Line) {
+    line.text("section ");
     for byte in file.iter().skip(header).take(8) {
         if *byte <= b' ' || *byte >= 127 {
             break;
         }
-        name.push(char::from(*byte))?;
+        line.letter(char::from(*byte));
     }
-    Ok(name)
 }
 
 // Where a section begins, as a place.
@@ -39,51 +37,59 @@ fn raw_end_of(file: &[u8], header: usize) -> u64 {
         + u64::from(u32_at(file, header.saturating_add(20)))
 }
 
-/// What is said of a section that doesn't fit the file or the image, or of an image without one.
-pub(crate) fn fit_text(alloc: Global, file: &[u8], header: usize) -> Result<String, NoMemory> {
+/// Writes of a section that doesn't fit the file or the image, or of an image without one.
+pub(crate) fn write_fit(file: &[u8], header: usize, line: &mut Line) {
     if section_count(file) == 0 {
-        return Ok(String::from_str(alloc, "no section; wanted: at least one")?);
+        line.text("no section; wanted: at least one");
+        return;
     }
-    let name = name_of(alloc, file, header)?;
-    let size = file.len() as u64;
-    let raw_end = raw_end_of(file, header);
+    let (raw_end, size) = (raw_end_of(file, header), file.len() as u64);
+    let (end, whole) = (end_of(file, header), optional(file, 56));
     if raw_end > size {
-        return Ok(format!(in alloc;
-            "the raw bytes of section {name} end at 0x{raw_end:x}, and the file ends at 0x{size:x}: it is cut off"
-        )?);
+        line.text("the raw bytes of ");
+        write_name(file, header, line);
+        line.text(" end at ")
+            .hexadecimal(raw_end)
+            .text(", and the file ends at ")
+            .hexadecimal(size)
+            .text(": it is cut off");
+    } else if end > u64::from(whole) {
+        write_name(file, header, line);
+        line.text(" ends at place ")
+            .hexadecimal(end)
+            .text(", and SizeOfImage is ")
+            .at(whole)
+            .text("; wanted: at least that place");
+    } else {
+        line.text("SizeOfImage is ")
+            .at(whole)
+            .text("; wanted: 0x400000 at most");
     }
-    let end = end_of(file, header);
-    let whole = optional(file, 56);
-    if end > u64::from(whole) {
-        return Ok(format!(in alloc;
-            "section {name} ends at place 0x{end:x}, and SizeOfImage is 0x{whole:x}; wanted: at least that place"
-        )?);
-    }
-    Ok(format!(in alloc; "SizeOfImage is 0x{whole:x}; wanted: 0x400000 at most")?)
 }
 
-/// What is said of a section that begins before the one before it ends.
-pub(crate) fn overlap_text(alloc: Global, file: &[u8], header: usize) -> Result<String, NoMemory> {
-    let name = name_of(alloc, file, header)?;
-    let place = place_of(file, header);
-    let end = end_of(file, header.saturating_sub(40));
-    Ok(format!(in alloc;
-        "section {name} begins at place 0x{place:x}, and the section before it ends at 0x{end:x}; wanted: that place or a later one"
-    )?)
+/// Writes of a section that begins before the one before it ends.
+pub(crate) fn write_overlap(file: &[u8], header: usize, line: &mut Line) {
+    write_name(file, header, line);
+    line.text(" begins at place ")
+        .at(place_of(file, header))
+        .text(", and the section before it ends at ")
+        .hexadecimal(end_of(file, header.saturating_sub(40)))
+        .text("; wanted: that place or a later one");
 }
 
-/// What is said of a section that doesn't keep to the alignment.
-pub(crate) fn align_text(alloc: Global, file: &[u8], header: usize) -> Result<String, NoMemory> {
+/// Writes of a section that doesn't keep to the alignment.
+pub(crate) fn write_align(file: &[u8], header: usize, line: &mut Line) {
     let unit = optional(file, 32);
     if unit == 0 {
-        return Ok(String::from_str(
-            alloc,
+        line.text(
             "SectionAlignment is 0; wanted: a number of which the place of each section is a multiple",
-        )?);
+        );
+        return;
     }
-    let name = name_of(alloc, file, header)?;
-    let place = place_of(file, header);
-    Ok(format!(in alloc;
-        "section {name} begins at place 0x{place:x}, and SectionAlignment is 0x{unit:x}; wanted: a multiple of it"
-    )?)
+    write_name(file, header, line);
+    line.text(" begins at place ")
+        .at(place_of(file, header))
+        .text(", and SectionAlignment is ")
+        .at(unit)
+        .text("; wanted: a multiple of it");
 }

@@ -1,8 +1,8 @@
 //! What is said of `arguments`, and of `unwritten` where an argument lends a local field to be read.
 
 use crate::callee::{Callee, Parameter, Takes, callee_of, slot_at};
-use explain_base::{Said, Scene, cell_text, item_text, kind_text, type_text_of};
-use note_types::{Cell, NoMemory, Ty, Want, ty_below};
+use explain_base::{Line, Said, Scene, kind_text};
+use note_types::{Cell, Ty, Want, ty_below};
 use rules_base::{cell_of, has_field, local_fields};
 
 // ---- what is passed
@@ -97,95 +97,97 @@ fn lent_unwritten(scene: &Scene, callee: Callee) -> Option<(usize, u32)> {
 
 // ---- texts
 
-fn want_text(scene: &Scene, want: Want) -> Result<String, NoMemory> {
-    let alloc = scene.alloc;
+// Writes what a parameter of a signature wants.
+fn write_want(scene: &Scene, want: Want, line: &mut Line) {
     match want {
-        Want::Any => Ok(String::from_str(alloc, "any")?),
-        Want::Int { lo, hi } => Ok(format!(in alloc; "int:{lo}..{hi}")?),
-        Want::Size { n, c } => Ok(format!(in alloc; "size:{n},{c}")?),
-        Want::Ptr => Ok(String::from_str(alloc, "ptr, the start of an object or 0,")?),
-        Want::Handle => Ok(String::from_str(alloc, "handle")?),
-        Want::Status => Ok(String::from_str(alloc, "status")?),
-        Want::Entry => Ok(String::from_str(alloc, "entry")?),
-        Want::Out(cell) => {
-            let told = cell_text(alloc, scene.notes, scene.f, cell)?;
-            Ok(format!(in alloc; "out:{told}, the address of such a local field,")?)
-        }
-        Want::Inout(cell) => {
-            let told = cell_text(alloc, scene.notes, scene.f, cell)?;
-            Ok(format!(in alloc; "inout:{told}, the address of such a local field,")?)
-        }
-    }
+        Want::Any => line.text("any"),
+        Want::Int { lo, hi } => line.text("int:").number(lo).text("..").number(hi),
+        Want::Size { n, c } => line
+            .text("size:")
+            .number(u64::from(n))
+            .text(",")
+            .number(u64::from(c)),
+        Want::Ptr => line.text("ptr, the start of an object or 0,"),
+        Want::Handle => line.text("handle"),
+        Want::Status => line.text("status"),
+        Want::Entry => line.text("entry"),
+        Want::Out(cell) => write_lent(scene, "out:", cell, line),
+        Want::Inout(cell) => write_lent(scene, "inout:", cell, line),
+    };
 }
 
-fn takes_text(scene: &Scene, callee: Callee, takes: Takes) -> Result<String, NoMemory> {
+// Writes what a parameter wants that takes the address of a local field.
+fn write_lent<'l>(scene: &Scene, word: &str, cell: Cell, line: &'l mut Line) -> &'l mut Line {
+    line.text(word)
+        .cell(scene.notes, scene.f, cell)
+        .text(", the address of such a local field,")
+}
+
+// Writes what a parameter takes.
+fn write_takes(scene: &Scene, callee: Callee, takes: Takes, line: &mut Line) {
     match (takes, callee) {
-        (Takes::Type(t), Callee::Function(_, g)) => { type_text_of(scene.alloc, scene.notes, g, t) }
-        (Takes::Type(t), Callee::Method(..)) => {
-            type_text_of(scene.alloc, scene.notes, scene.f, t)
+        (Takes::Type(t), Callee::Function(_, g)) => {
+            line.type_of(scene.notes, g, t);
         }
-        (Takes::Want(want), _) => want_text(scene, want),
+        (Takes::Type(t), Callee::Method(..)) => {
+            line.type_of(scene.notes, scene.f, t);
+        }
+        (Takes::Want(want), _) => write_want(scene, want, line),
     }
 }
 
-fn found_text(scene: &Scene, number: usize) -> Result<String, NoMemory> {
+// Writes what is passed for a parameter.
+fn write_found(scene: &Scene, number: usize, line: &mut Line) {
     match scene.state.items.as_slice().get(number) {
-        Some(item) => item_text(scene.alloc, scene.notes, scene.f, item),
-        None => Ok(String::from_str(scene.alloc, "not there")?),
-    }
+        Some(item) => line.item(scene.notes, scene.f, item),
+        None => line.text("not there"),
+    };
 }
 
 // The sentence with the key of the parameters.
-fn with_parameters(scene: &Scene, callee: Callee, what: String) -> Result<Said, NoMemory> {
-    let alloc = scene.alloc;
+fn with_parameters(callee: Callee, what: Line) -> Said {
     match callee {
-        Callee::Function(number, _) => {
-            let key = format!(in alloc; "function[{number}].params")?;
-            Said::with_key(
-                alloc,
-                what,
-                key,
-                "the parameters of the function that is called",
-            )
-        }
-        Callee::Method(number, _) => {
-            let key = format!(in alloc; "signature[{number}].params")?;
-            Said::with_key(alloc, what, key, "the parameters of the signature")
-        }
+        Callee::Function(number, _) => Said::with_key(
+            what,
+            "function",
+            number,
+            "params",
+            "the parameters of the function that is called",
+        ),
+        Callee::Method(number, _) => Said::with_key(
+            what,
+            "signature",
+            number as usize,
+            "params",
+            "the parameters of the signature",
+        ),
     }
 }
 
 /// What is said of `arguments`.
-pub(crate) fn said_of_arguments(scene: &Scene) -> Result<Option<Said>, NoMemory> {
-    let alloc = scene.alloc;
-    let Some(callee) = callee_of(scene) else {
-        return Ok(None);
-    };
-    let Some((number, p)) = unmet(scene, callee) else {
-        return Ok(None);
-    };
-    let kind = kind_text(p.kind);
-    let wanted = takes_text(scene, callee, p.takes)?;
-    let found = found_text(scene, number)?;
-    let what = format!(in alloc; "argument {number} is {found}, and {kind} {wanted} is wanted")?;
-    Ok(Some(with_parameters(scene, callee, what)?))
+pub(crate) fn said_of_arguments(scene: &Scene) -> Option<Said> {
+    let callee = callee_of(scene)?;
+    let (number, p) = unmet(scene, callee)?;
+    let mut what = Line::of(scene.alloc, "argument ");
+    what.count(number).text(" is ");
+    write_found(scene, number, &mut what);
+    what.text(", and ").text(kind_text(p.kind)).text(" ");
+    write_takes(scene, callee, p.takes, &mut what);
+    what.text(" is wanted");
+    Some(with_parameters(callee, what))
 }
 
 /// What is said of `unwritten`, where an argument lends a local field to be read.
-pub(crate) fn said_of_lent(scene: &Scene) -> Result<Option<Said>, NoMemory> {
-    let alloc = scene.alloc;
-    let Some(callee) = callee_of(scene) else {
-        return Ok(None);
-    };
-    let Some((number, field)) = lent_unwritten(scene, callee) else {
-        return Ok(None);
-    };
-    let Some(x) = local_fields(scene.notes, scene.f).get(field as usize) else {
-        return Ok(None);
-    };
-    let name = x.name.as_str();
-    let what = format!(in alloc;
-        "argument {number} lends the local field {name} to be read, and it isn't written here; a store to it is wanted before, or a test of the status that grants it"
-    )?;
-    Ok(Some(with_parameters(scene, callee, what)?))
+pub(crate) fn said_of_lent(scene: &Scene) -> Option<Said> {
+    let callee = callee_of(scene)?;
+    let (number, field) = lent_unwritten(scene, callee)?;
+    let x = local_fields(scene.notes, scene.f).get(field as usize)?;
+    let mut what = Line::of(scene.alloc, "argument ");
+    what.count(number)
+        .text(" lends the local field ")
+        .text(x.name.as_str())
+        .text(
+            " to be read, and it isn't written here; a store to it is wanted before, or a test of the status that grants it",
+        );
+    Some(with_parameters(callee, what))
 }

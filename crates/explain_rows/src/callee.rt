@@ -92,10 +92,12 @@ fn target_place(scene: &Scene) -> Option<i128> {
 /// The function that is called, and its number.
 pub(crate) fn called_function<'a>(scene: &Scene<'a>) -> Option<(usize, &'a FnNote)> {
     let place = target_place(scene)?;
-    let functions = scene.notes.function.as_slice();
-    let number = functions.iter().position(|g| i128::from(g.place) == place)?;
-    let g = functions.get(number)?;
-    Some((number, g))
+    for (number, g) in scene.notes.function.as_slice().iter().enumerate() {
+        if i128::from(g.place) == place {
+            return Some((number, g));
+        }
+    }
+    None
 }
 
 // ---- native methods
@@ -128,12 +130,12 @@ pub(crate) fn method_name(notes: &Notes, method: u32) -> &str {
 
 /// The number of the site at the place.
 pub(crate) fn site_number(scene: &Scene) -> Option<usize> {
-    scene
-        .notes
-        .site
-        .as_slice()
-        .iter()
-        .position(|x| x.place == scene.here.place)
+    for (number, x) in scene.notes.site.as_slice().iter().enumerate() {
+        if x.place == scene.here.place {
+            return Some(number);
+        }
+    }
+    None
 }
 
 /// The signature of a site, and its number.

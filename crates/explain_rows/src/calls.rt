@@ -4,8 +4,8 @@ ghost use Rattle.ebc_insn.specs.Spelling.{WellFormed};
 
 use crate::callee::{called_function, called_type, method_name, signature_of, site_number};
 use crate::sizes::{items_size, together};
-use explain_base::{Said, Scene, size_text};
-use note_types::{FnNote, NoMemory, Pair, Ty};
+use explain_base::{Line, Said, Scene};
+use note_types::{FnNote, Pair, Ty};
 
 // How many sites are told at most.
 const SITES: u32 = 8;
@@ -15,22 +15,18 @@ const RETURN_CELL: Pair = Pair { n: 0, c: 16 };
 
 // ---- sites
 
-// The places of the function's sites.
-fn sites_text(scene: &Scene) -> Result<String, NoMemory> {
-    let alloc = scene.alloc;
-    let mut text = String::new(alloc);
+// Writes the places of the function's sites.
+fn write_sites(scene: &Scene, line: &mut Line) {
     let mut count = 0u32;
     for x in scene.notes.site.as_slice() {
         if scene.f.place <= x.place && x.place < scene.f.end && count < SITES {
-            let place = x.place;
-            text.push_str(format!(in alloc; " 0x{place:x}")?.as_str())?;
+            line.text(" ").at(x.place);
             count += 1;
         }
     }
-    if text.is_empty() {
-        text.push_str(" none")?;
+    if count == 0 {
+        line.text(" none");
     }
-    Ok(text)
 }
 
 // The number of the function's site that is nearest to the place.
@@ -49,86 +45,96 @@ fn nearest_site(scene: &Scene) -> Option<usize> {
     Some(number)
 }
 
-fn no_site(scene: &Scene, method: &str) -> Result<Said, NoMemory> {
-    let (alloc, place) = (scene.alloc, scene.here.place);
-    let name = scene.f.name.as_str();
-    let sites = sites_text(scene)?;
-    let what = format!(in alloc;
-        "{method} is called here, at 0x{place:x}, where the notes have no site; {name} has sites at:{sites}"
-    )?;
-    let key = match nearest_site(scene) {
-        Some(number) => format!(in alloc; "site[{number}].place")?,
-        None => String::new(alloc),
-    };
-    Said::with_key(alloc, what, key, "the nearest site")
+fn no_site(scene: &Scene, method: &str) -> Said {
+    let mut what = Line::of(scene.alloc, method);
+    what.text(" is called here, at ").at(scene.here.place);
+    what.text(", where the notes have no site; ")
+        .text(scene.f.name.as_str())
+        .text(" has sites at:");
+    write_sites(scene, &mut what);
+    match nearest_site(scene) {
+        Some(number) => Said::with_key(what, "site", number, "place", "the nearest site"),
+        None => Said::only(what),
+    }
 }
 
-fn other_site(scene: &Scene, method: &str, site: usize) -> Result<Said, NoMemory> {
-    let alloc = scene.alloc;
+fn other_site(scene: &Scene, method: &str, site: usize) -> Said {
     let (name, other) = match signature_of(scene, site) {
         Some((_, g)) => (g.name.as_str(), method_name(scene.notes, g.method)),
         None => ("", ""),
     };
-    let what = format!(in alloc;
-        "{method} is called, and the site here has signature {name}, of {other}"
-    )?;
-    let key = format!(in alloc; "site[{site}].signature")?;
-    Said::with_key(alloc, what, key, "the site here")
+    let mut what = Line::of(scene.alloc, method);
+    what.text(" is called, and the site here has signature ")
+        .text(name)
+        .text(", of ")
+        .text(other);
+    Said::with_key(what, "site", site, "signature", "the site here")
 }
 
 /// What is said of `site`.
-pub(crate) fn said_of_site(scene: &Scene) -> Result<Option<Said>, NoMemory>
+pub(crate) fn said_of_site(scene: &Scene) -> Option<Said>
     requires { WellFormed scene.now.insn.now }
 {
     let Some(Ty::Method(number)) = called_type(scene) else {
-        return Ok(None);
+        return None;
     };
     let method = method_name(scene.notes, number);
-    let said = match site_number(scene) {
+    Some(match site_number(scene) {
         Some(site) => other_site(scene, method, site),
         None => no_site(scene, method),
-    };
-    Ok(Some(said?))
+    })
 }
 
 // ---- levels
 
-fn no_lower(scene: &Scene, number: usize, g: &FnNote) -> Result<Said, NoMemory> {
-    let alloc = scene.alloc;
-    let (name, other) = (scene.f.name.as_str(), g.name.as_str());
-    let (level, lower) = (scene.f.level, g.level);
-    let what = format!(in alloc;
-        "{name} has level {level} and calls {other} of level {lower}, and a lower one is wanted"
-    )?;
-    let key = format!(in alloc; "function[{number}].level")?;
-    Said::with_key(alloc, what, key, "the level of the function that is called")
+fn no_lower(scene: &Scene, number: usize, g: &FnNote) -> Said {
+    let mut what = Line::of(scene.alloc, scene.f.name.as_str());
+    what.text(" has level ")
+        .number(u64::from(scene.f.level))
+        .text(" and calls ")
+        .text(g.name.as_str());
+    what.text(" of level ")
+        .number(u64::from(g.level))
+        .text(", and a lower one is wanted");
+    Said::with_key(
+        what,
+        "function",
+        number,
+        "level",
+        "the level of the function that is called",
+    )
 }
 
 // What is said where what the call takes has no room.
-fn no_room(scene: &Scene, g: &FnNote) -> Result<Said, NoMemory> {
-    let (alloc, func) = (scene.alloc, scene.func);
-    let (name, other) = (scene.f.name.as_str(), g.name.as_str());
+fn no_room(scene: &Scene, g: &FnNote) -> Said {
     let items = items_size(scene);
-    let sum = size_text(alloc, together(together(items, RETURN_CELL), g.need))?;
-    let items = size_text(alloc, items)?;
-    let theirs = size_text(alloc, g.need)?;
-    let need = size_text(alloc, scene.f.need)?;
-    let what = format!(in alloc;
-        "the items {items}, the return cell (0, 16) and the need {theirs} of {other} make {sum}, and {name} has need {need}"
-    )?;
-    let key = format!(in alloc; "function[{func}].need")?;
-    Said::with_key(alloc, what, key, "the function's need")
+    let mut what = Line::of(scene.alloc, "the items ");
+    what.size(items)
+        .text(", the return cell (0, 16) and the need ")
+        .size(g.need);
+    what.text(" of ")
+        .text(g.name.as_str())
+        .text(" make ")
+        .size(together(together(items, RETURN_CELL), g.need));
+    what.text(", and ")
+        .text(scene.f.name.as_str())
+        .text(" has need ")
+        .size(scene.f.need);
+    Said::with_key(
+        what,
+        "function",
+        scene.func as usize,
+        "need",
+        "the function's need",
+    )
 }
 
 /// What is said of `level`.
-pub(crate) fn said_of_level(scene: &Scene) -> Result<Option<Said>, NoMemory> {
-    let Some((number, g)) = called_function(scene) else {
-        return Ok(None);
-    };
-    let said = if scene.f.level <= g.level {
+pub(crate) fn said_of_level(scene: &Scene) -> Option<Said> {
+    let (number, g) = called_function(scene)?;
+    Some(if scene.f.level <= g.level {
         no_lower(scene, number, g)
     } else {
         no_room(scene, g)
-    };
-    Ok(Some(said?))
+    })
 }

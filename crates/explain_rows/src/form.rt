@@ -3,9 +3,9 @@
 ghost use Rattle.ebc_insn.specs.Spelling.{WellFormed};
 
 use crate::callee::called_type;
+use crate::values::{register_line, value_line};
 use ebc_insn::{Extra, Insn, Operand};
-use explain_base::{Said, Scene, type_text_of};
-use note_types::NoMemory;
+use explain_base::{Said, Scene};
 
 // What is said of an instruction other than CALLEX.
 fn form_text(i: &Insn) -> &'static str {
@@ -27,55 +27,39 @@ fn may_call(far: bool, relative: bool, op: &Operand, extra: &Extra) -> bool {
 }
 
 // What is said of CALLEX of something that is no method.
-fn called_text(scene: &Scene, op: &Operand) -> Result<Option<String>, NoMemory>
+fn said_of_called(scene: &Scene, op: &Operand) -> Option<Said>
     requires { WellFormed scene.now.insn.now }
 {
-    let (alloc, reg) = (scene.alloc, op.reg);
-    let Some(t) = called_type(scene) else {
-        return Ok(None);
+    let t = called_type(scene)?;
+    let mut what = if op.indirect {
+        value_line(scene, "what is called", t)
+    } else {
+        register_line(scene, op.reg, t)
     };
-    let found = type_text_of(alloc, scene.notes, scene.f, t)?;
-    if op.indirect {
-        return Ok(Some(format!(in alloc; "what is called is {found}, and a method is wanted")?));
-    }
-    Ok(Some(format!(in alloc; "R{reg} is {found}, and a method is wanted")?))
-}
-
-// What is said of CALLEX.
-fn native_text(
-    scene: &Scene,
-    far: bool,
-    relative: bool,
-    op: &Operand,
-    extra: &Extra,
-) -> Result<Option<String>, NoMemory>
-    requires { WellFormed scene.now.insn.now }
-{
-    if may_call(far, relative, op, extra) {
-        return called_text(scene, op);
-    }
-    let what =
-        "a native call is CALL32EXa on a register but R0, without an immediate, or on what it points to";
-    Ok(Some(String::from_str(scene.alloc, what)?))
+    what.text(", and a method is wanted");
+    Some(Said::only(what))
 }
 
 /// What is said of `form`.
-pub(crate) fn said_of_form(scene: &Scene) -> Result<Option<Said>, NoMemory>
+pub(crate) fn said_of_form(scene: &Scene) -> Option<Said>
     requires { WellFormed scene.now.insn.now }
 {
-    let alloc = scene.alloc;
-    let what = match scene.insn {
+    match scene.insn {
         Insn::Call {
             native: true,
             far,
             relative,
             op,
             extra,
-        } => native_text(scene, *far, *relative, op, extra)?,
-        _ => Some(String::from_str(alloc, form_text(scene.insn))?),
-    };
-    match what {
-        Some(what) => Ok(Some(Said::only(alloc, what))),
-        None => Ok(None),
+        } => {
+            if may_call(*far, *relative, op, extra) {
+                return said_of_called(scene, op);
+            }
+            Some(Said::text(
+                scene.alloc,
+                "a native call is CALL32EXa on a register but R0, without an immediate, or on what it points to",
+            ))
+        }
+        _ => Some(Said::text(scene.alloc, form_text(scene.insn))),
     }
 }

@@ -11,7 +11,6 @@ mod callee;
 mod calls;
 mod fields;
 mod form;
-mod lists;
 mod loss;
 mod memory;
 mod numbers;
@@ -25,5 +24,5 @@ mod sums;
 mod thunks;
 mod values;
 
-pub use loss::loss_text;
+pub use loss::loss_line;
 pub use row::row_said;

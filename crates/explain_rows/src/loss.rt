@@ -3,12 +3,12 @@
 ghost use Rattle.ebc_insn.specs.Spelling.{ExtraFits, IsOperand, RightFits, WellFormed};
 ghost use Rattle.natural_index.specs.Index.{IsIndexSize};
 
-use crate::sums::{difference_text, product_text, sum_text};
+use crate::sums::{difference_line, product_line, sum_line};
 use crate::values::right_type;
 use ebc_insn::{ArithOp, Extra, Insn, Operand, Size};
-use explain_base::{Scene, distance_text};
+use explain_base::{Line, Scene};
 use natural_index::Index;
-use note_types::{NoMemory, Ty};
+use note_types::Ty;
 use rules_base::{constant, index_distance, with_immediate, with_index, wrap64};
 
 const NEGATIVE_INDEX: &str = "an index of fewer than 0 natural units leaves nothing known";
@@ -17,51 +17,50 @@ fn is_any(t: Ty) -> bool {
     matches!(t, Ty::Any)
 }
 
-fn told(scene: &Scene, what: &str) -> Result<Option<String>, NoMemory> {
-    Ok(Some(String::from_str(scene.alloc, what)?))
+fn told(scene: &Scene, what: &str) -> Option<Line> {
+    Some(Line::of(scene.alloc, what))
 }
 
 // ---- a register and what stands beside it
 
 // Why nothing is known of a type and the immediate beside it, where that is so.
-fn beside_text(scene: &Scene, t: Ty, extra: &Extra) -> Result<Option<String>, NoMemory> {
+fn beside_line(scene: &Scene, t: Ty, extra: &Extra) -> Option<Line> {
     let shapes = scene.notes.shape.as_slice();
     match extra {
         Extra::Imm(imm) if is_any(with_immediate(shapes, t, extra)) => {
-            sum_text(scene.alloc, scene.notes, t, constant(wrap64(*imm)))
+            sum_line(scene.alloc, scene.notes, t, constant(wrap64(*imm)))
         }
-        _ => Ok(None),
+        _ => None,
     }
 }
 
 // ---- arithmetic
 
-fn computed_text(scene: &Scene, op: ArithOp, a: Ty, b: Ty) -> Result<Option<String>, NoMemory> {
+fn computed_line(scene: &Scene, op: ArithOp, a: Ty, b: Ty) -> Option<Line> {
     let (alloc, notes) = (scene.alloc, scene.notes);
     match op {
-        ArithOp::Add => sum_text(alloc, notes, a, b),
-        ArithOp::Sub => difference_text(alloc, notes, a, b),
-        ArithOp::Mul | ArithOp::Mulu => product_text(alloc, a, b),
-        _ => Ok(None),
+        ArithOp::Add => sum_line(alloc, notes, a, b),
+        ArithOp::Sub => difference_line(alloc, notes, a, b),
+        ArithOp::Mul | ArithOp::Mulu => product_line(alloc, a, b),
+        _ => None,
     }
 }
 
-fn arith_text(
+fn arith_line(
     scene: &Scene,
     op: ArithOp,
     left: &Operand,
     right: &Operand,
     extra: &Extra,
-) -> Result<Option<String>, NoMemory>
+) -> Option<Line>
     requires left { IsOperand left.now }
     requires right { IsOperand right.now }
     requires extra { ExtraFits 16 right.now extra.now }
 {
     let regs = scene.state.regs;
-    match right_type(scene, true, right, extra) {
-        Some(b) if is_any(b) => beside_text(scene, regs[right.reg as usize], extra),
-        Some(b) => computed_text(scene, op, regs[left.reg as usize], b),
-        None => Ok(None),
+    match right_type(scene, true, right, extra)? {
+        b if is_any(b) => beside_line(scene, regs[right.reg as usize], extra),
+        b => computed_line(scene, op, regs[left.reg as usize], b),
     }
 }
 
@@ -80,33 +79,33 @@ fn kept_text(size: Size) -> &'static str {
 }
 
 // A move from R0.
-fn frame_text(scene: &Scene, bits: u8, ridx: &Option<Index>) -> Result<Option<String>, NoMemory>
+fn frame_line(scene: &Scene, bits: u8, ridx: &Option<Index>) -> Line
     requires size { IsIndexSize bits }
     requires index { RightFits bits ridx.now }
 {
-    let alloc = scene.alloc;
-    let at = distance_text(alloc, index_distance(bits, ridx))?;
-    Ok(Some(format!(in alloc; "no local field begins at R0 and {at}")?))
+    let mut line = Line::of(scene.alloc, "no local field begins at R0 and ");
+    line.distance(index_distance(bits, ridx));
+    line
 }
 
-fn move_text(
+fn move_line(
     scene: &Scene,
     size: Size,
     bits: u8,
     right: &Operand,
     ridx: &Option<Index>,
-) -> Result<Option<String>, NoMemory>
+) -> Option<Line>
     requires size { IsIndexSize bits }
     requires right { IsOperand right.now }
     requires index { RightFits bits ridx.now }
 {
     if right.reg == 0 {
-        return frame_text(scene, bits, ridx);
+        return Some(frame_line(scene, bits, ridx));
     }
     let shapes = scene.notes.shape.as_slice();
     let t = scene.state.regs[right.reg as usize];
     if is_any(t) {
-        return Ok(None);
+        return None;
     }
     if !is_any(with_index(shapes, t, bits, ridx)) {
         return told(scene, kept_text(size));
@@ -115,18 +114,18 @@ fn move_text(
     if is_any(index) {
         return told(scene, NEGATIVE_INDEX);
     }
-    sum_text(scene.alloc, scene.notes, t, index)
+    sum_line(scene.alloc, scene.notes, t, index)
 }
 
-fn signed_text(scene: &Scene, right: &Operand, extra: &Extra) -> Result<Option<String>, NoMemory>
+fn signed_line(scene: &Scene, right: &Operand, extra: &Extra) -> Option<Line>
     requires { IsOperand right.now }
 {
     let t = scene.state.regs[right.reg as usize];
     if is_any(t) {
-        return Ok(None);
+        return None;
     }
-    match beside_text(scene, t, extra)? {
-        Some(what) => Ok(Some(what)),
+    match beside_line(scene, t, extra) {
+        Some(what) => Some(what),
         None => told(
             scene,
             "MOVsn keeps a status and numbers below 2147483648 alone",
@@ -134,21 +133,18 @@ fn signed_text(scene: &Scene, right: &Operand, extra: &Extra) -> Result<Option<S
     }
 }
 
-fn relative_text(scene: &Scene, imm: i64) -> Result<Option<String>, NoMemory> {
-    let alloc = scene.alloc;
-    let place = i128::from(scene.here.next) + i128::from(imm);
-    Ok(Some(format!(in alloc;
-        "no static object and no thunk cell of the notes begins at 0x{place:x}"
-    )?))
+fn relative_line(scene: &Scene, imm: i64) -> Line {
+    let mut line = Line::of(
+        scene.alloc,
+        "no static object and no thunk cell of the notes begins at ",
+    );
+    line.target(i128::from(scene.here.next) + i128::from(imm));
+    line
 }
 
 /// Why nothing is known of what an instruction that is accepted leaves in a register of which something was known, or that it reads.
 /// `None` where no more can be said than that nothing is known of what it reads.
-///
-/// # Errors
-///
-/// Want of memory alone.
-pub fn loss_text(scene: &Scene) -> Result<Option<String>, NoMemory>
+pub fn loss_line(scene: &Scene) -> Option<Line>
     requires { WellFormed scene.now.insn.now }
 {
     match scene.insn {
@@ -158,7 +154,7 @@ pub fn loss_text(scene: &Scene) -> Result<Option<String>, NoMemory>
             left,
             right,
             extra,
-        } => arith_text(scene, *op, left, right, extra),
+        } => arith_line(scene, *op, left, right, extra),
         Insn::Arith { .. } => told(scene, "the 32-bit forms compute numbers alone"),
         Insn::Move {
             size,
@@ -173,17 +169,17 @@ pub fn loss_text(scene: &Scene) -> Result<Option<String>, NoMemory>
                 "the locals are dropped, and the addresses of their fields with them",
             )
         } else if right.indirect {
-            Ok(None)
+            None
         } else {
-            move_text(scene, *size, *bits, right, ridx)
+            move_line(scene, *size, *bits, right, ridx)
         },
         Insn::MoveSigned { right, extra, .. } => if right.indirect {
-            Ok(None)
+            None
         } else {
-            signed_text(scene, right, extra)
+            signed_line(scene, right, extra)
         },
         Insn::MoveImmNatural { .. } => told(scene, NEGATIVE_INDEX),
-        Insn::MoveRelative { imm, .. } => relative_text(scene, *imm),
-        _ => Ok(None),
+        Insn::MoveRelative { imm, .. } => Some(relative_line(scene, *imm)),
+        _ => None,
     }
 }

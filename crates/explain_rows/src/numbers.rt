@@ -3,10 +3,10 @@
 ghost use Rattle.ebc_insn.specs.Spelling.{WellFormed};
 
 use crate::operands::left_memory;
-use crate::values::{loaded_type, right_type};
+use crate::values::{loaded_type, right_type, value_line};
 use ebc_insn::{Insn, Operand};
-use explain_base::{Said, Scene, type_text_of};
-use note_types::{NoMemory, Ty};
+use explain_base::{Line, Said, Scene};
+use note_types::Ty;
 use rules_base::{constant, wrap64};
 
 // Operand 1 of CMPI.
@@ -80,43 +80,36 @@ fn comparable(t: Ty, wide: bool) -> &'static str {
     }
 }
 
-// A value that is compared: a number by itself, and else its type.
-fn compared_text(scene: &Scene, t: Ty) -> Result<String, NoMemory> {
-    let alloc = scene.alloc;
+// Writes a value that is compared: a number by itself, and else its type.
+fn write_compared(scene: &Scene, t: Ty, line: &mut Line) {
     match t {
-        Ty::Int { lo, hi, .. } if lo == hi => {
-            let number = lo.cast_signed();
-            Ok(format!(in alloc; "the number {number}")?)
-        }
-        _ => type_text_of(alloc, scene.notes, scene.f, t),
-    }
+        Ty::Int { lo, hi, .. } if lo == hi => line
+            .text("the number ")
+            .signed(i128::from(lo.cast_signed())),
+        _ => line.type_of(scene.notes, scene.f, t),
+    };
 }
 
 /// What is said of `compare`.
-pub(crate) fn said_of_compare(scene: &Scene) -> Result<Option<Said>, NoMemory>
+pub(crate) fn said_of_compare(scene: &Scene) -> Option<Said>
     requires { WellFormed scene.now.insn.now }
 {
-    let alloc = scene.alloc;
-    let Some(Compared { a, b, wide }) = compared_values(scene) else {
-        return Ok(None);
-    };
-    let x = compared_text(scene, a)?;
-    let y = compared_text(scene, b)?;
-    let wanted = match a {
+    let Compared { a, b, wide } = compared_values(scene)?;
+    let mut what = Line::new(scene.alloc);
+    write_compared(scene, a, &mut what);
+    what.text(" is compared with ");
+    write_compared(scene, b, &mut what);
+    what.text("; ").text(match a {
         Ty::Int { .. } => comparable(b, wide),
         _ => comparable(a, wide),
-    };
-    Ok(Some(Said::only(
-        alloc,
-        format!(in alloc; "{x} is compared with {y}; {wanted}")?,
-    )))
+    });
+    Some(Said::only(what))
 }
 
 /// What is said of `divide`.
-pub(crate) fn said_of_divide(scene: &Scene) -> Result<Option<Said>, NoMemory>
+pub(crate) fn said_of_divide(scene: &Scene) -> Option<Said>
     requires { WellFormed scene.now.insn.now }
 {
-    let alloc = scene.alloc;
     let Insn::Arith {
         wide,
         right,
@@ -124,14 +117,10 @@ pub(crate) fn said_of_divide(scene: &Scene) -> Result<Option<Said>, NoMemory>
         ..
     } = scene.insn
     else {
-        return Ok(None);
+        return None;
     };
-    let Some(t) = right_type(scene, *wide, right, extra) else {
-        return Ok(None);
-    };
-    let found = type_text_of(alloc, scene.notes, scene.f, t)?;
-    Ok(Some(Said::only(
-        alloc,
-        format!(in alloc; "the divisor is {found}, and a number is wanted")?,
-    )))
+    let t = right_type(scene, *wide, right, extra)?;
+    let mut what = value_line(scene, "the divisor", t);
+    what.text(", and a number is wanted");
+    Some(Said::only(what))
 }

@@ -3,8 +3,8 @@
 ghost use Rattle.std.specs.Prelude.{◌<◌, IfSome};
 
 use crate::sizes::items_size;
-use explain_base::{Said, Scene, size_text, type_text_of};
-use note_types::{NoMemory, Ty};
+use explain_base::{Line, Said, Scene};
+use note_types::Ty;
 
 // The first of R1 to R3 that isn't what it was at the entry.
 fn changed(scene: &Scene) -> Option<u8>
@@ -19,45 +19,51 @@ fn changed(scene: &Scene) -> Option<u8>
     None
 }
 
-fn of_items(scene: &Scene) -> Result<Said, NoMemory> {
-    let alloc = scene.alloc;
-    let left = size_text(alloc, items_size(scene))?;
-    Ok(Said::only(
-        alloc,
-        format!(in alloc; "RET with items on the stack, {left} in all, and none is wanted")?,
-    ))
+fn of_items(scene: &Scene) -> Said {
+    let mut what = Line::of(scene.alloc, "RET with items on the stack, ");
+    what.size(items_size(scene))
+        .text(" in all, and none is wanted");
+    Said::only(what)
 }
 
-fn of_register(scene: &Scene, reg: u8) -> Result<Said, NoMemory>
+fn of_register(scene: &Scene, reg: u8) -> Said
     requires { reg < 8 }
 {
-    let alloc = scene.alloc;
-    let found = type_text_of(alloc, scene.notes, scene.f, scene.state.regs[reg as usize])?;
-    Ok(Said::only(
-        alloc,
-        format!(in alloc;
-            "RET with {found} in R{reg}, and saved:{reg}, what R{reg} held at the entry, is wanted"
-        )?,
-    ))
+    let (number, t) = (u64::from(reg), scene.state.regs[reg as usize]);
+    let mut what = Line::of(scene.alloc, "RET with ");
+    what.type_of(scene.notes, scene.f, t)
+        .text(" in R")
+        .number(number);
+    what.text(", and saved:")
+        .number(number)
+        .text(", what R")
+        .number(number);
+    what.text(" held at the entry, is wanted");
+    Said::only(what)
 }
 
-fn of_result(scene: &Scene) -> Result<Said, NoMemory> {
-    let (alloc, func) = (scene.alloc, scene.func);
-    let found = type_text_of(alloc, scene.notes, scene.f, scene.state.regs[7])?;
-    let wanted = type_text_of(alloc, scene.notes, scene.f, scene.f.result)?;
-    let what = format!(in alloc; "RET with {found} in R7, and {wanted} is wanted")?;
-    let key = format!(in alloc; "function[{func}].result")?;
-    Said::with_key(alloc, what, key, "the function's result")
+fn of_result(scene: &Scene) -> Said {
+    let mut what = Line::of(scene.alloc, "RET with ");
+    what.type_of(scene.notes, scene.f, scene.state.regs[7])
+        .text(" in R7, and ");
+    what.type_of(scene.notes, scene.f, scene.f.result)
+        .text(" is wanted");
+    Said::with_key(
+        what,
+        "function",
+        scene.func as usize,
+        "result",
+        "the function's result",
+    )
 }
 
 /// What is said of `return`.
-pub(crate) fn said_of_return(scene: &Scene) -> Result<Option<Said>, NoMemory> {
+pub(crate) fn said_of_return(scene: &Scene) -> Said {
     if !scene.state.items.is_empty() {
-        return Ok(Some(of_items(scene)?));
+        return of_items(scene);
     }
-    let said = match changed(scene) {
+    match changed(scene) {
         Some(reg) => of_register(scene, reg),
         None => of_result(scene),
-    };
-    Ok(Some(said?))
+    }
 }

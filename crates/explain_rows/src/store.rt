@@ -4,11 +4,11 @@ ghost use Rattle.ebc_insn.specs.Spelling.{ExtraFits, IsOperand, RightFits, WellF
 ghost use Rattle.natural_index.specs.Index.{IsIndexSize};
 
 use crate::operands::{Memory, left_memory, right_memory};
-use crate::values::{loaded_type, right_type};
+use crate::values::{loaded_type, right_type, value_line};
 use ebc_insn::{Extra, Insn, Operand, Size};
-use explain_base::{Said, Scene, cell_text, type_text_of};
+use explain_base::{Line, Said, Scene};
 use natural_index::Index;
-use note_types::{Cell, Item, NoMemory, Ty};
+use note_types::{Cell, Item, Ty};
 use rules_base::{
     Access, Place, constant, counted, index_distance, kept, lin, place_at, target_at, with_index,
     wrap64,
@@ -116,60 +116,46 @@ fn stored(scene: &Scene) -> Option<Ty>
 
 // ---- the operands of an instruction that computes
 
-fn operands_text(
-    scene: &Scene,
-    m: Memory,
-    right: &Operand,
-    extra: &Extra,
-) -> Result<String, NoMemory>
+fn operands_line(scene: &Scene, m: Memory, right: &Operand, extra: &Extra) -> Line
     requires right { IsOperand right.now }
     requires extra { ExtraFits 16 right.now extra.now }
 {
-    let (alloc, notes, f) = (scene.alloc, scene.notes, scene.f);
+    let (notes, f) = (scene.notes, scene.f);
     let wide = m.access == Access::Form64;
     let a = loaded_type(scene, m).unwrap_or(Ty::Any);
     let b = right_type(scene, wide, right, extra).unwrap_or(Ty::Any);
-    let x = type_text_of(alloc, notes, f, a)?;
-    let y = type_text_of(alloc, notes, f, b)?;
-    Ok(format!(in alloc; "the operands are {x} and {y}")?)
+    let mut line = Line::of(scene.alloc, "the operands are ");
+    line.type_of(notes, f, a).text(" and ").type_of(notes, f, b);
+    line
 }
 
 // What is stored.
-fn value_text(scene: &Scene, m: Memory) -> Result<String, NoMemory>
+fn stored_line(scene: &Scene, m: Memory) -> Line
     requires { WellFormed scene.now.insn.now }
 {
-    let alloc = scene.alloc;
     if let Insn::Arith { right, extra, .. } = scene.insn {
-        return operands_text(scene, m, right, extra);
+        return operands_line(scene, m, right, extra);
     }
-    let t = stored(scene).unwrap_or(Ty::Any);
-    let found = type_text_of(alloc, scene.notes, scene.f, t)?;
-    Ok(format!(in alloc; "the value is {found}")?)
+    value_line(scene, "the value", stored(scene).unwrap_or(Ty::Any))
 }
 
 /// What is said of `store`.
-pub(crate) fn said_of_store(scene: &Scene) -> Result<Option<Said>, NoMemory>
+pub(crate) fn said_of_store(scene: &Scene) -> Option<Said>
     requires { WellFormed scene.now.insn.now }
 {
-    let alloc = scene.alloc;
-    let Some(m) = left_memory(scene.insn) else {
-        return Ok(None);
-    };
-    let Ok(target) = target_at(
+    let m = left_memory(scene.insn)?;
+    let target = target_at(
         scene.notes,
         scene.f,
         scene.state,
         m.access,
         m.reg,
         m.distance,
-    ) else {
-        return Ok(None);
-    };
-    let value = value_text(scene, m)?;
-    let cell = cell_text(alloc, scene.notes, scene.f, target.cell)?;
-    let takes = taken_by(target.cell);
-    Ok(Some(Said::only(
-        alloc,
-        format!(in alloc; "{value}, and the cell {cell} takes {takes}")?,
-    )))
+    )
+    .ok()?;
+    let mut what = stored_line(scene, m);
+    what.text(", and the cell ")
+        .cell(scene.notes, scene.f, target.cell);
+    what.text(" takes ").text(taken_by(target.cell));
+    Some(Said::only(what))
 }

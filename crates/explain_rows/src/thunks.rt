@@ -4,23 +4,27 @@ ghost use Rattle.ebc_insn.specs.Spelling.{WellFormed};
 
 use crate::operands::right_memory;
 use ebc_insn::Insn;
-use explain_base::{Said, Scene, type_text_of};
-use note_types::NoMemory;
+use explain_base::{Line, Said, Scene};
 use rules_base::{Place, place_at};
 
 // What is said of BREAK 5.
-fn making_text(scene: &Scene) -> Result<String, NoMemory> {
-    let alloc = scene.alloc;
+fn making_line(scene: &Scene) -> Line {
     let (made, count) = (scene.state.made, scene.notes.thunk.len());
+    let mut what = Line::of(scene.alloc, "BREAK 5 makes ");
     if count <= made as usize {
-        return Ok(format!(in alloc;
-            "BREAK 5 makes a thunk, and all {count} of the notes are made"
-        )?);
+        what.text("a thunk, and all ")
+            .count(count)
+            .text(" of the notes are made");
+        return what;
     }
-    let found = type_text_of(alloc, scene.notes, scene.f, scene.state.regs[7])?;
-    Ok(format!(in alloc;
-        "BREAK 5 makes thunk {made} next, and R7 is {found}; thunk:{made} is wanted"
-    )?)
+    what.text("thunk ")
+        .number(u64::from(made))
+        .text(" next, and R7 is ");
+    what.type_of(scene.notes, scene.f, scene.state.regs[7])
+        .text("; thunk:")
+        .number(u64::from(made));
+    what.text(" is wanted");
+    what
 }
 
 // The number of the thunk whose cell is read.
@@ -35,28 +39,33 @@ fn thunk_read(scene: &Scene) -> Option<u32>
 }
 
 // What is said of another instruction than BREAK.
-fn using_text(scene: &Scene) -> Result<String, NoMemory>
+fn using_line(scene: &Scene) -> Line
     requires { WellFormed scene.now.insn.now }
 {
-    let alloc = scene.alloc;
-    let (made, count) = (scene.state.made, scene.notes.thunk.len());
-    match thunk_read(scene) {
-        Some(thunk) => Ok(format!(in alloc;
-            "thunk {thunk} is used, and {made} of the {count} thunks are made here; BREAK 5 makes them in the order of the notes"
-        )?),
-        None => Ok(format!(in alloc;
-            "{made} of the {count} thunks are made here, and a call wants all of them made before"
-        )?),
+    let thunk = thunk_read(scene);
+    let mut what = Line::new(scene.alloc);
+    if let Some(thunk) = thunk {
+        what.text("thunk ")
+            .number(u64::from(thunk))
+            .text(" is used, and ");
     }
+    what.number(u64::from(scene.state.made))
+        .text(" of the ")
+        .count(scene.notes.thunk.len())
+        .text(" thunks are made here");
+    what.text(match thunk {
+        Some(_) => "; BREAK 5 makes them in the order of the notes",
+        None => ", and a call wants all of them made before",
+    });
+    what
 }
 
 /// What is said of `thunk`.
-pub(crate) fn said_of_thunk(scene: &Scene) -> Result<Option<Said>, NoMemory>
+pub(crate) fn said_of_thunk(scene: &Scene) -> Said
     requires { WellFormed scene.now.insn.now }
 {
-    let what = match scene.insn {
-        Insn::Break { .. } => making_text(scene),
-        _ => using_text(scene),
-    };
-    Ok(Some(Said::only(scene.alloc, what?)))
+    Said::only(match scene.insn {
+        Insn::Break { .. } => making_line(scene),
+        _ => using_line(scene),
+    })
 }

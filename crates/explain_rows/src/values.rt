@@ -1,10 +1,10 @@
-//! The values of operands.
+//! The values of operands, and of registers.
 
 ghost use Rattle.ebc_insn.specs.Spelling.{ExtraFits, IsOperand};
 
 use crate::operands::Memory;
 use ebc_insn::{Extra, Operand};
-use explain_base::Scene;
+use explain_base::{Line, Scene};
 use note_types::Ty;
 use rules_base::{form_access, load_at, operand_value};
 
@@ -38,4 +38,20 @@ pub(crate) fn right_type(scene: &Scene, wide: bool, right: &Operand, extra: &Ext
     )
     .ok()?;
     Some(value.ty)
+}
+
+/// A value by what it is called, with its type: `the divisor is any`.
+pub(crate) fn value_line(scene: &Scene, name: &str, t: Ty) -> Line {
+    let mut line = Line::of(scene.alloc, name);
+    line.text(" is ").type_of(scene.notes, scene.f, t);
+    line
+}
+
+/// A register, with its type.
+pub(crate) fn register_line(scene: &Scene, reg: u8, t: Ty) -> Line {
+    let mut line = Line::of(scene.alloc, "R");
+    line.number(u64::from(reg))
+        .text(" is ")
+        .type_of(scene.notes, scene.f, t);
+    line
 }

@@ -6,6 +6,7 @@ use crate::statement::Statement;
 use crate::trial::faulty_operand;
 use asm_text::AsmFault;
 use ebc_base::NoMemory;
+use explain_base::Line;
 use std::alloc::Global;
 
 // The index of an operand: from its parenthesis or its `#` on.
@@ -26,33 +27,43 @@ fn room_of(bits: u8) -> (u8, u8) {
 }
 
 // What is said of an index of so many bits.
-fn index_what(alloc: Global, found: &str, bits: u8) -> Result<String, NoMemory> {
+fn index_line(alloc: Global, found: &str, bits: u8) -> Line {
     if found.starts_with("(-0,-0)") {
-        return Ok(String::from_str(
+        return Line::of(
             alloc,
             "minus zero has no parentheses; it is written by its raw number, as #0x8000 in 16 bits",
-        )?);
+        );
     }
     if found.starts_with('#') {
-        return Ok(format!(in alloc;
-            "`{found}` has tag 7, which an index of 16 bits has no room for; wanted: a tag from 0 to 6, \
-             which is in the bits 12 to 14"
-        )?);
+        let mut what = Line::of(alloc, "`");
+        what.text(found).text(
+            "` has tag 7, which an index of 16 bits has no room for; wanted: a tag from 0 to 6, \
+             which is in the bits 12 to 14",
+        );
+        return what;
     }
     let (room, step) = room_of(bits);
-    Ok(format!(in alloc;
-        "no index of {bits} bits has room for `{found}`; its two numbers share {room} bits, of which the natural units \
-         have 0, {step}, or another multiple of {step}"
-    )?)
+    let mut what = Line::of(alloc, "no index of ");
+    what.number(u64::from(bits))
+        .text(" bits has room for `")
+        .text(found)
+        .text("`; its two numbers share ")
+        .number(u64::from(room));
+    what.text(" bits, of which the natural units have 0, ")
+        .number(u64::from(step))
+        .text(", or another multiple of ")
+        .number(u64::from(step));
+    what
 }
 
 /// What is said of the index of a statement.
 pub(crate) fn index_found(alloc: Global, statement: Statement) -> Result<Found, NoMemory> {
-    let word = statement.word.shown(alloc)?;
-    let word = word.as_str();
+    let word = statement.word.shown();
     let operand = faulty_operand(alloc, word, statement.operands, AsmFault::Index)?;
     let index = index_in(operand.part);
-    let found = index.shown(alloc)?;
-    let what = index_what(alloc, found.as_str(), index_bits(word, operand.is_second))?;
-    Ok(Found { at: index.at, what })
+    let bits = index_bits(word, operand.is_second);
+    Ok(Found {
+        at: index.at,
+        what: index_line(alloc, index.shown(), bits),
+    })
 }

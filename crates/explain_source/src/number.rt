@@ -6,6 +6,7 @@ use crate::statement::Statement;
 use crate::trial::{faulty_number, faulty_operand};
 use asm_text::AsmFault;
 use ebc_base::NoMemory;
+use explain_base::Line;
 use std::alloc::Global;
 
 fn range_of(bits: u8) -> &'static str {
@@ -26,30 +27,36 @@ fn number_in(operand: Part<'_>) -> Part<'_> {
 }
 
 // What is said of a number of a word.
-fn number_what(alloc: Global, word: &str, number: Part) -> Result<String, NoMemory> {
-    let found = number.shown(alloc)?;
+fn number_line(alloc: Global, word: &str, number: Part) -> Line {
+    let found = number.shown();
+    let mut what = Line::new(alloc);
     if number.text.contains(&b'(') {
-        return Ok(format!(in alloc;
-            "the numbers of the index in `{found}`; wanted: decimal digits without a 0 in front, \
-             or 0x and hexadecimal digits, below 18446744073709551616"
-        )?);
+        what.text("the numbers of the index in `").text(found).text(
+            "`; wanted: decimal digits without a 0 in front, \
+             or 0x and hexadecimal digits, below 18446744073709551616",
+        );
+        return what;
     }
-    let range = range_of(number_bits(word));
-    let or_name = if takes_name(word) { "; or a name" } else { "" };
-    Ok(format!(in alloc;
-        "`{found}` is no number of {word}; wanted: {range}, in decimal digits without a 0 in front, \
-         or 0x and hexadecimal digits{or_name}"
-    )?)
+    what.text("`")
+        .text(found)
+        .text("` is no number of ")
+        .text(word)
+        .text("; wanted: ");
+    what.text(range_of(number_bits(word))).text(
+        ", in decimal digits without a 0 in front, or 0x and hexadecimal digits",
+    );
+    what.text(if takes_name(word) { "; or a name" } else { "" });
+    what
 }
 
 // What is said of what stands for a count of zeros.
-fn zeros_found(alloc: Global, count: Part) -> Result<Found, NoMemory> {
-    let found = count.shown(alloc)?;
-    let what = format!(in alloc;
-        "`{found}` is no count of zeros; wanted: decimal digits without a sign and without a 0 in front, \
-         or 0x and hexadecimal digits"
-    )?;
-    Ok(Found { at: count.at, what })
+fn zeros_found(alloc: Global, count: Part) -> Found {
+    let mut what = Line::of(alloc, "`");
+    what.text(count.shown()).text(
+        "` is no count of zeros; wanted: decimal digits without a sign and without a 0 in front, \
+         or 0x and hexadecimal digits",
+    );
+    Found { at: count.at, what }
 }
 
 // The first number after a word that is none.
@@ -63,14 +70,13 @@ fn faulty<'a>(alloc: Global, word: &str, operands: Part<'a>) -> Result<Part<'a>,
 
 /// What is said of the number of a statement.
 pub(crate) fn number_found(alloc: Global, statement: Statement) -> Result<Found, NoMemory> {
-    let word = statement.word.shown(alloc)?;
-    if word.as_str() == ".zero" {
-        return zeros_found(alloc, statement.operands);
+    let word = statement.word.shown();
+    if word == ".zero" {
+        return Ok(zeros_found(alloc, statement.operands));
     }
-    let number = faulty(alloc, word.as_str(), statement.operands)?;
-    let what = number_what(alloc, word.as_str(), number)?;
+    let number = faulty(alloc, word, statement.operands)?;
     Ok(Found {
         at: number.at,
-        what,
+        what: number_line(alloc, word, number),
     })
 }

@@ -3,7 +3,7 @@
 use crate::form::operands_of;
 use crate::part::{Found, Part};
 use crate::statement::Statement;
-use ebc_base::NoMemory;
+use explain_base::Line;
 use std::alloc::Global;
 
 // What is wrong around a comma that stands between these parts, the first byte of the second, and where.
@@ -108,29 +108,32 @@ fn odd_part(operands: Part) -> Option<(usize, &'static str)> {
 }
 
 // What is said of operands that the word doesn't have.
-fn operands_what(alloc: Global, word: &str, operands: &str) -> Result<String, NoMemory> {
-    let wanted = operands_of(word);
-    let text = if operands.is_empty() {
-        format!(in alloc; "no operands after {word}; wanted: {wanted}")
+fn operands_line(alloc: Global, word: &str, operands: &str) -> Line {
+    let mut what = Line::new(alloc);
+    if operands.is_empty() {
+        what.text("no operands after ").text(word);
     } else if operands.starts_with("R0 ") {
-        format!(in alloc; "`{operands}`: R0 has no number beside it here; wanted: {wanted}")
+        what.text("`")
+            .text(operands)
+            .text("`: R0 has no number beside it here");
     } else {
-        format!(in alloc; "`{operands}` are no operands of {word}; wanted: {wanted}")
-    };
-    Ok(text?)
+        what.text("`")
+            .text(operands)
+            .text("` are no operands of ")
+            .text(word);
+    }
+    what.text("; wanted: ").text(operands_of(word));
+    what
 }
 
 /// What is said of the operands of a statement.
-pub(crate) fn operand_found(alloc: Global, statement: Statement) -> Result<Found, NoMemory> {
+pub(crate) fn operand_found(alloc: Global, statement: Statement) -> Found {
     let operands = statement.operands;
     if let Some((at, what)) = odd_part(operands) {
         return Found::new(alloc, at, what);
     }
-    let word = statement.word.shown(alloc)?;
-    let found = operands.shown(alloc)?;
-    let what = operands_what(alloc, word.as_str(), found.as_str())?;
-    Ok(Found {
+    Found {
         at: operands.at,
-        what,
-    })
+        what: operands_line(alloc, statement.word.shown(), operands.shown()),
+    }
 }

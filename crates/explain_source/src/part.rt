@@ -2,8 +2,9 @@
 
 ghost use Rattle.std.specs.Prelude.{◌≡◌, ◌+◌, ◌<◌, ◌≤◌, ◌^◌, length};
 
-use ebc_base::NoMemory;
+use explain_base::Line;
 use std::alloc::Global;
+use std::str;
 
 /// Part of a line, and the offset in the line at which it begins.
 #[derive(Clone, Copy)]
@@ -67,16 +68,9 @@ impl<'a> Part<'a> {
         }
     }
 
-    /// The part as text.
-    ///
-    /// # Errors
-    ///
-    /// Want of memory alone.
-    pub fn shown(self, alloc: Global) -> Result<String, NoMemory> {
-        match std::str::from_utf8(self.text) {
-            Ok(text) => Ok(String::from_str(alloc, text)?),
-            Err(_) => Ok(String::from_str(alloc, "?")?),
-        }
+    /// The part as text; `?` if it is none.
+    pub fn shown(self) -> &'a str {
+        str::from_utf8(self.text).unwrap_or("?")
     }
 }
 
@@ -84,12 +78,14 @@ impl<'a> Part<'a> {
 #[derive(Drop)]
 pub(crate) struct Found {
     pub at: usize,
-    pub what: String,
+    pub what: Line,
 }
 
 impl Found {
-    pub fn new(alloc: Global, at: usize, what: &str) -> Result<Found, NoMemory> {
-        let what = String::from_str(alloc, what)?;
-        Ok(Found { at, what })
+    pub fn new(alloc: Global, at: usize, what: &str) -> Found {
+        Found {
+            at,
+            what: Line::of(alloc, what),
+        }
     }
 }

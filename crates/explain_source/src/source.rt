@@ -9,7 +9,7 @@ use crate::statement::{odd_byte, statement_in};
 use crate::word::word_found;
 use asm_text::{AsmFault, next_line};
 use ebc_base::NoMemory;
-use explain_base::Said;
+use explain_base::{Line, Said};
 use std::alloc::Global;
 
 // The line of a number, from 1.
@@ -23,20 +23,20 @@ fn line_of(text: &[u8], number: u64) -> Option<&[u8]> {
 
 // What is said of a line by itself: all but that a label is there twice.
 fn line_found(alloc: Global, line: &[u8], fault: AsmFault) -> Result<Found, NoMemory> {
-    if let Some(odd) = odd_byte(alloc, line)? {
+    if let Some(odd) = odd_byte(alloc, line) {
         return Ok(odd);
     }
     let statement = statement_in(line);
     let at = statement.word.at;
     match fault {
-        AsmFault::Word => word_found(alloc, statement),
-        AsmFault::Operand => operand_found(alloc, statement),
+        AsmFault::Word => Ok(word_found(alloc, statement)),
+        AsmFault::Operand => Ok(operand_found(alloc, statement)),
         AsmFault::Number => number_found(alloc, statement),
         AsmFault::Index => index_found(alloc, statement),
-        AsmFault::Label | AsmFault::Twice => label_found(alloc, statement),
-        AsmFault::Far => Found::new(alloc, at, "the section passes 1048576 bytes here"),
+        AsmFault::Label | AsmFault::Twice => Ok(label_found(alloc, statement)),
+        AsmFault::Far => Ok(Found::new(alloc, at, "the section passes 1048576 bytes here")),
         AsmFault::Section => {
-            Found::new(alloc, at, "an instruction in data; .code goes on with code")
+            Ok(Found::new(alloc, at, "an instruction in data; .code goes on with code"))
         }
     }
 }
@@ -51,7 +51,7 @@ fn found_in(
         return Ok(None);
     };
     if fault == AsmFault::Twice {
-        return twice_found(alloc, text, line, number);
+        return Ok(twice_found(alloc, text, line, number));
     }
     Ok(Some(line_found(alloc, line, fault)?))
 }
@@ -72,8 +72,7 @@ pub fn source_said(
     let Some(found) = found_in(alloc, text, fault, line)? else {
         return Ok(None);
     };
-    let column = found.at.saturating_add(1);
-    let at = format!(in alloc; ":{line}:{column}")?;
-    let said = Said::at_place(alloc, at, found.what, "docs/ASSEMBLY.md, \"Faults\"")?;
-    Ok(Some(said))
+    let mut at = Line::of(alloc, ":");
+    at.number(line).text(":").count(found.at.saturating_add(1));
+    Ok(Some(Said::at_place(at, found.what, "docs/ASSEMBLY.md, \"Faults\"")))
 }

@@ -1,7 +1,7 @@
 //! The parts of a line that a fault may be in.
 
 use crate::part::{Found, Part};
-use ebc_base::NoMemory;
+use explain_base::Line;
 use std::alloc::Global;
 
 /// The statement of a line, by its parts.
@@ -44,18 +44,15 @@ pub(crate) fn statement_in(line: &[u8]) -> Statement<'_> {
 }
 
 /// The first byte that no line may have: past ASCII; or before the comment a tab or a carriage return.
-pub(crate) fn odd_byte(alloc: Global, line: &[u8]) -> Result<Option<Found>, NoMemory> {
+pub(crate) fn odd_byte(alloc: Global, line: &[u8]) -> Option<Found> {
     if let Some(at) = line.iter().position(|b| *b >= 128) {
-        let byte = line[at];
-        let what = format!(in alloc;
-            "a byte past ASCII, 0x{byte:02x}; a source is ASCII, in comments too"
-        )?;
-        return Ok(Some(Found { at, what }));
+        let mut what = Line::of(alloc, "a byte past ASCII, 0x");
+        what.byte(line[at])
+            .text("; a source is ASCII, in comments too");
+        return Some(Found { at, what });
     }
     let text = without_comment(line).text;
-    let Some(at) = text.iter().position(|b| *b == b'\t' || *b == b'\r') else {
-        return Ok(None);
-    };
+    let at = text.iter().position(|b| *b == b'\t' || *b == b'\r')?;
     let what = if text[at] == b'\t' {
         "a tab; only spaces may stand here"
     } else if at + 1 == text.len() {
@@ -63,5 +60,5 @@ pub(crate) fn odd_byte(alloc: Global, line: &[u8]) -> Result<Option<Found>, NoMe
     } else {
         "a carriage return; a line ends with a line feed alone"
     };
-    Ok(Some(Found::new(alloc, at, what)?))
+    Some(Found::new(alloc, at, what))
 }

@@ -3,6 +3,7 @@
 use crate::part::Part;
 use asm_text::{AsmFault, line_in};
 use ebc_base::NoMemory;
+use explain_base::Line;
 use std::alloc::Global;
 
 /// An operand with a fault, and whether it is the second one.
@@ -20,8 +21,9 @@ fn fails(
     operand: Part,
     fault: AsmFault,
 ) -> Result<bool, NoMemory> {
-    let operand = operand.shown(alloc)?;
-    let line = format!(in alloc; "{word} {others}{operand}")?;
+    let mut line = Line::of(alloc, word);
+    line.text(" ").text(others).text(operand.shown());
+    let line = line.done()?;
     match line_in(line.as_bytes()) {
         Ok(_) => Ok(false),
         Err(found) => Ok(found == fault),

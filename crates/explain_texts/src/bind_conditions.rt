@@ -1,8 +1,8 @@
 //! What is said of a bind that doesn't agree with the notes of both images: docs/PAIRS.md, "Binds".
 
 use crate::faulty::{Found, Subject};
-use crate::line::Line;
 use crate::values::{write_params, write_result, write_type};
+use explain_base::Line;
 use note_types::{FnNote, Notes, Signature};
 
 // Writes what a signature and a function take and give.

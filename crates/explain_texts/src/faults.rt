@@ -2,12 +2,11 @@
 
 use crate::faulty::{Faulty, TomlText, said_at, table_and_key, value_at};
 use crate::forms::{Form, KeyForm, bare_path};
-use crate::line::Line;
 use crate::names::name_said;
 use crate::ranges::range_said;
 use crate::repeats::twice_said;
 use ebc_base::NoMemory;
-use explain_base::Said;
+use explain_base::{Line, Said};
 use note_types::TomlFault;
 use std::alloc::Global;
 use toml::{Table, Value};
@@ -31,7 +30,7 @@ pub fn toml_said(
                 Some(span) => span.start,
                 None => 0,
             };
-            return not_toml_said(alloc, kind, bytes, offset, error.message());
+            return Ok(not_toml_said(alloc, kind, bytes, offset, error.message()));
         }
     };
     let text = std::str::from_utf8(bytes).unwrap_or("");
@@ -51,15 +50,15 @@ fn not_toml_said(
     bytes: &[u8],
     offset: usize,
     message: &str,
-) -> Result<Said, NoMemory> {
-    let mut what = Line::new(alloc);
-    what.text("this is no TOML: ").text(message);
-    said_at(alloc, bytes, offset, what, kind.page())
+) -> Said {
+    let mut what = Line::of(alloc, "this is no TOML: ");
+    what.text(message);
+    said_at(bytes, offset, what, kind.page())
 }
 
 fn fault_said(f: &Faulty, fault: &TomlFault) -> Result<Said, NoMemory> {
     match fault {
-        TomlFault::NotToml => f.plain_said("nottoml", ""),
+        TomlFault::NotToml => Ok(f.plain_said("nottoml", "")),
         TomlFault::Missing(path) => missing_said(f, path.as_str()),
         TomlFault::Kind(path) => kind_said(f, path.as_str()),
         TomlFault::Name(path) => found_said(f, path.as_str(), "name", fault),
@@ -76,7 +75,7 @@ fn found_said<'a>(
     fault: &TomlFault,
 ) -> Result<Said, NoMemory> {
     let Some(at) = f.find(path)? else {
-        return f.plain_said(word, path);
+        return Ok(f.plain_said(word, path));
     };
     match fault {
         TomlFault::Name(_) => name_said(f, &at),
@@ -111,11 +110,10 @@ fn write_unknown(f: &Faulty, path: &str, line: &mut Line) -> Result<(), NoMemory
     };
     for (key, _) in table.iter() {
         if !is_known(f, bare.as_str(), key.as_str())? {
-            let begun = !line.as_str().is_empty();
-            line.text(if begun {
-                ", "
-            } else {
+            line.text(if line.is_empty() {
                 "keys there that are none: "
+            } else {
+                ", "
             })
             .text(key.as_str());
         }
@@ -138,7 +136,7 @@ fn missing_said(f: &Faulty, path: &str) -> Result<Said, NoMemory> {
         .text(key)
         .text("; wanted: ")
         .text(wanted);
-    f.said_more(offset, what, more)
+    Ok(f.said_more(offset, what, more))
 }
 
 fn kind_word(value: &Value) -> &'static str {
@@ -214,7 +212,7 @@ fn write_kind(f: &Faulty, path: &str, form: KeyForm, line: &mut Line) {
 
 fn kind_said(f: &Faulty, path: &str) -> Result<Said, NoMemory> {
     let Some(offset) = f.key_offset(path)? else {
-        return f.plain_said("kind", path);
+        return Ok(f.plain_said("kind", path));
     };
     let form = f.kind.form_of(f.alloc, path)?;
     let mut what = Line::new(f.alloc);
@@ -228,5 +226,5 @@ fn kind_said(f: &Faulty, path: &str) -> Result<Said, NoMemory> {
         }
         Some(form) => write_kind(f, path, form, &mut what),
     }
-    f.said_at(offset, what, f.kind.page())
+    Ok(f.said_at(offset, what, f.kind.page()))
 }

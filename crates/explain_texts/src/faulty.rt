@@ -1,9 +1,8 @@
 //! A text in TOML with a fault, and what stands at a path of a key in it.
 
 use crate::forms::{KeyForm, Thing};
-use crate::line::Line;
 use ebc_base::NoMemory;
-use explain_base::Said;
+use explain_base::{Line, Said};
 use note_types::Notes;
 use std::alloc::Global;
 use toml::{Table, Value};
@@ -56,21 +55,10 @@ pub(crate) fn write_position(text: &[u8], offset: usize, line: &mut Line) {
 }
 
 /// What is said at an offset of a text, and the page that mends it.
-///
-/// # Errors
-///
-/// Want of memory alone.
-pub(crate) fn said_at(
-    alloc: Global,
-    text: &[u8],
-    offset: usize,
-    what: Line,
-    page: &str,
-) -> Result<Said, NoMemory> {
-    let what = what.done()?;
-    let mut at = Line::new(alloc);
+pub(crate) fn said_at(text: &[u8], offset: usize, what: Line, page: &str) -> Said {
+    let mut at = Line::new(what.alloc);
     write_position(text, offset, &mut at);
-    Said::at_place(alloc, at.done()?, what, page)
+    Said::at_place(at, what, page)
 }
 
 // The key of a part of a path, and the number of the item that it names, if it names one.
@@ -151,42 +139,22 @@ pub(crate) enum Subject {
 
 impl<'a> Faulty<'a> {
     /// What is said at an offset, and the page that mends it.
-    ///
-    /// # Errors
-    ///
-    /// Want of memory alone.
-    pub fn said_at(&self, offset: usize, what: Line, page: &str) -> Result<Said, NoMemory> {
-        said_at(self.alloc, self.text.as_bytes(), offset, what, page)
+    pub fn said_at(&self, offset: usize, what: Line, page: &str) -> Said {
+        said_at(self.text.as_bytes(), offset, what, page)
     }
 
     /// What is said at an offset, with one more line unless it is empty. The page is that of the keys.
-    ///
-    /// # Errors
-    ///
-    /// Want of memory alone.
-    pub fn said_more(&self, offset: usize, what: Line, more: Line) -> Result<Said, NoMemory> {
-        let more = more.done()?;
-        let mut said = self.said_at(offset, what, self.kind.page())?;
-        if !more.is_empty() {
-            said.add(more)?;
-        }
-        Ok(said)
+    pub fn said_more(&self, offset: usize, what: Line, more: Line) -> Said {
+        let mut said = self.said_at(offset, what, self.kind.page());
+        said.add(more);
+        said
     }
 
     /// What is said where nothing is found at a path: the fault's word and the path.
-    ///
-    /// # Errors
-    ///
-    /// Want of memory alone.
-    pub fn plain_said(&self, word: &str, path: &str) -> Result<Said, NoMemory> {
-        let mut what = Line::new(self.alloc);
-        what.text(word).text(" at ").text(path);
-        Said::at_place(
-            self.alloc,
-            String::new(self.alloc),
-            what.done()?,
-            self.kind.page(),
-        )
+    pub fn plain_said(&self, word: &str, path: &str) -> Said {
+        let mut what = Line::of(self.alloc, word);
+        what.text(" at ").text(path);
+        Said::with_page(what, self.kind.page())
     }
 
     /// Where the key at a path stands, if it is there.
@@ -308,11 +276,7 @@ impl<'a> Found<'a> {
     }
 
     /// What is said of what is wrong by a condition over several keys.
-    ///
-    /// # Errors
-    ///
-    /// Want of memory alone.
-    pub fn wrong_said(&self, f: &Faulty, subject: Subject, wrong: &Line) -> Result<Said, NoMemory> {
+    pub fn wrong_said(&self, f: &Faulty, subject: Subject, wrong: &Line) -> Said {
         let page = f.kind.conditions_page();
         match subject {
             Subject::Item(number) => {

@@ -23,13 +23,13 @@
 //! | End of a run | Sentence |
 //! |---|---|
 //! | `Running` | how many steps it took, and how many there may be |
-//! | `Raised` | the exception |
+//! | `Raised` | the exception, and in a run of one image its place |
 //! | `ScriptEnd` | the table that the script lacks, with the words of the call |
 //! | `Mismatch` | by its reason: what the driver does and what the script has |
 //! | `Mismatch` of a reply, of a callback | which value doesn't fit; why it can't be entered |
 //!
 //! In a run of two images the script is that of the image with the last event. After a function returned that a bound
-//! method entered, it is the consumer's, if the reply doesn't fit.
+//! method entered, it is the consumer's, if the reply doesn't fit. The page is docs/PAIRS.md, and else docs/SCRIPTS.md.
 //!
 //! The tables of keys and forms (`KeyForm`) are those of docs/NOTES.md, docs/SCRIPTS.md, docs/LINKING.md and
 //! docs/PAIRS.md.
@@ -39,7 +39,6 @@ mod bind_conditions;
 mod faults;
 mod faulty;
 mod forms;
-mod line;
 mod names;
 mod note_conditions;
 mod pairs;

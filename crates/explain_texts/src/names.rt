@@ -2,9 +2,8 @@
 
 use crate::faulty::{Faulty, Found, TomlText, table_and_key, value_at};
 use crate::forms::{Form, Thing};
-use crate::line::Line;
 use ebc_base::{Name, NoMemory};
-use explain_base::Said;
+use explain_base::{Line, Said};
 use note_texts::FromText;
 use note_types::{Field, Shape};
 use script_draft::CellValueText;
@@ -65,13 +64,7 @@ fn unknown_name<'t>(f: &Faulty, form: Form, text: &'t str) -> Option<(Thing, &'t
 }
 
 // What is said of an item of a list, or of a text, in which a name isn't there.
-fn item_said(
-    f: &Faulty,
-    at: &Found,
-    number: usize,
-    thing: Thing,
-    name: &str,
-) -> Result<Said, NoMemory> {
+fn item_said(f: &Faulty, at: &Found, number: usize, thing: Thing, name: &str) -> Said {
     let mut what = at.item_line(f, number);
     what.text(", which names the ")
         .text(thing.word())
@@ -134,15 +127,15 @@ fn unknown_field(f: &Faulty, at: &Found, wrong: &mut Line) -> Result<Option<usiz
 fn field_said(f: &Faulty, at: &Found) -> Result<Said, NoMemory> {
     let mut wrong = Line::new(f.alloc);
     let Some(number) = unknown_field(f, at, &mut wrong)? else {
-        return f.plain_said("name", at.path);
+        return Ok(f.plain_said("name", at.path));
     };
     let mut what = at.item_line(f, number);
     what.line(&wrong);
-    f.said_at(at.item_offset(number), what, f.kind.page())
+    Ok(f.said_at(at.item_offset(number), what, f.kind.page()))
 }
 
 // What is said of a name that the notes don't have; of binds the notes are told by their file.
-fn thing_said(f: &Faulty, at: &Found, thing: Thing) -> Result<Said, NoMemory> {
+fn thing_said(f: &Faulty, at: &Found, thing: Thing) -> Said {
     let (owner, verb, whose) = match (f.kind, thing) {
         (TomlText::Binds(consumer, _), Thing::Method) => (consumer.file, "doesn't", "it has"),
         (TomlText::Binds(_, provider), _) => (provider.file, "doesn't", "it has"),
@@ -193,16 +186,16 @@ fn write_other_names(f: &Faulty, thing: Thing, line: &mut Line) {
 /// Want of memory alone.
 pub(crate) fn name_said(f: &Faulty, at: &Found) -> Result<Said, NoMemory> {
     if let Form::NameOf(thing) = at.form.form {
-        return thing_said(f, at, thing);
+        return Ok(thing_said(f, at, thing));
     }
     for number in 0..at.count() {
         let text = at.item(number).unwrap_or("");
         if let Some((thing, name)) = unknown_name(f, at.form.form, text) {
-            return item_said(f, at, number, thing, name);
+            return Ok(item_said(f, at, number, thing, name));
         }
     }
     match at.form.form {
         Form::CellValue => field_said(f, at),
-        _ => f.plain_said("name", at.path),
+        _ => Ok(f.plain_said("name", at.path)),
     }
 }

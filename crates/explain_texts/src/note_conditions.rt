@@ -1,8 +1,8 @@
 //! What is said of notes by the conditions over several keys: docs/NOTES.md, "The conditions".
 
 use crate::faulty::{Faulty, Found, Subject, table_number};
-use crate::line::Line;
 use ebc_base::Name;
+use explain_base::Line;
 use note_draft::{FunctionDraft, NotesDraft, PointDraft, read_draft};
 use note_texts::{FieldText, ItemText, ParamText, TypeText, WantText};
 use note_types::{SlotKind, code_limit};

@@ -112,33 +112,30 @@ fn pair_run_said(
     run: &ShownPair,
 ) -> Result<Option<Said>, NoMemory> {
     let seen = counted(run.events);
-    let (steps, ending, most) = (run.steps, run.ending, 100_000);
     let bound = seen.waits && is_bound(pair.consumer.notes, pair.binds, seen.last);
     let replied = seen.replies == seen.provider_calls;
-    if is_consumer(run.events, ending, bound, replied) {
-        let calls = seen.calls.saturating_sub(usize::from(bound));
-        let ended = Ended {
-            width,
-            steps,
-            most,
-            ending,
-            last: seen.last,
-            calls,
-            bound,
-        };
-        return ended_said(alloc, &pair.consumer, &ended);
-    }
-    let (last, calls) = (seen.provider_last, seen.provider_calls);
-    let ended = Ended {
+    let of_provider = Ended {
         width,
-        steps,
-        most,
-        ending,
-        last,
-        calls,
+        steps: run.steps,
+        most: 100_000,
+        ending: run.ending,
+        // The events don't tell of each spot whose it is.
+        place: None,
+        last: seen.provider_last,
+        calls: seen.provider_calls,
         bound: false,
+        page: "docs/PAIRS.md, \"A run that goes wrong\"",
     };
-    ended_said(alloc, &pair.provider, &ended)
+    if is_consumer(run.events, run.ending, bound, replied) {
+        let of_consumer = Ended {
+            last: seen.last,
+            calls: seen.calls.saturating_sub(usize::from(bound)),
+            bound,
+            ..of_provider
+        };
+        return ended_said(alloc, &pair.consumer, &of_consumer);
+    }
+    ended_said(alloc, &pair.provider, &of_provider)
 }
 
 /// What is said of the two runs of `pair`, once where they end alike.

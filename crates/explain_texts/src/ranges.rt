@@ -3,11 +3,10 @@
 use crate::bind_conditions::bind_condition;
 use crate::faulty::{Faulty, Found, Subject, TomlText};
 use crate::forms::Form;
-use crate::line::Line;
 use crate::note_conditions::note_condition;
 use crate::script_conditions::script_condition;
 use ebc_base::NoMemory;
-use explain_base::Said;
+use explain_base::{Line, Said};
 use std::alloc::{AllocError, Global};
 use toml::Value;
 
@@ -73,7 +72,7 @@ fn odd_part(f: &Faulty, at: &Found) -> Result<Odd, NoMemory> {
 }
 
 // What is said of an item or a value that isn't of its form.
-fn odd_said(f: &Faulty, at: &Found, number: usize) -> Result<Said, NoMemory> {
+fn odd_said(f: &Faulty, at: &Found, number: usize) -> Said {
     let mut what = at.item_line(f, number);
     what.text("; wanted: ").text(at.form.wanted);
     let mut more = Line::new(f.alloc);
@@ -82,7 +81,7 @@ fn odd_said(f: &Faulty, at: &Found, number: usize) -> Result<Said, NoMemory> {
 }
 
 // What is said of a value as a whole.
-fn whole_said(f: &Faulty, at: &Found) -> Result<Said, NoMemory> {
+fn whole_said(f: &Faulty, at: &Found) -> Said {
     let found = f.part(at.span.from, at.span.to);
     let mut what = Line::new(f.alloc);
     what.text(at.path)
@@ -94,7 +93,7 @@ fn whole_said(f: &Faulty, at: &Found) -> Result<Said, NoMemory> {
 }
 
 // What is said of a list by how many items it has.
-fn count_said(f: &Faulty, at: &Found) -> Result<Said, NoMemory> {
+fn count_said(f: &Faulty, at: &Found) -> Said {
     let mut what = Line::new(f.alloc);
     what.text(at.path)
         .text(" has ")
@@ -120,9 +119,9 @@ fn condition(f: &Faulty, at: &Found, wrong: &mut Line) -> Result<Option<Subject>
 fn condition_said(f: &Faulty, at: &Found) -> Result<Said, NoMemory> {
     let mut wrong = Line::new(f.alloc);
     match (condition(f, at, &mut wrong)?, at.value) {
-        (Some(subject), _) => at.wrong_said(f, subject, &wrong),
-        (None, Value::Array(_) | Value::Table(_)) => count_said(f, at),
-        _ => whole_said(f, at),
+        (Some(subject), _) => Ok(at.wrong_said(f, subject, &wrong)),
+        (None, Value::Array(_) | Value::Table(_)) => Ok(count_said(f, at)),
+        _ => Ok(whole_said(f, at)),
     }
 }
 
@@ -134,8 +133,8 @@ fn condition_said(f: &Faulty, at: &Found) -> Result<Said, NoMemory> {
 pub(crate) fn range_said(f: &Faulty, at: &Found) -> Result<Said, NoMemory> {
     match odd_part(f, at)? {
         Odd::Nothing => condition_said(f, at),
-        Odd::Whole => whole_said(f, at),
-        Odd::Count => count_said(f, at),
-        Odd::Item(number) => odd_said(f, at, number),
+        Odd::Whole => Ok(whole_said(f, at)),
+        Odd::Count => Ok(count_said(f, at)),
+        Odd::Item(number) => Ok(odd_said(f, at, number)),
     }
 }

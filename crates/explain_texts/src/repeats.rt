@@ -2,9 +2,8 @@
 
 use crate::faulty::{Faulty, Found, table_and_key, value_at, write_position};
 use crate::forms::Form;
-use crate::line::Line;
 use ebc_base::NoMemory;
-use explain_base::Said;
+use explain_base::{Line, Said};
 use toml::Value;
 
 // A text up to its space of that number, from 1.
@@ -85,7 +84,7 @@ fn write_earlier(f: &Faulty, at: &Found, note: &mut Line) -> Result<(), NoMemory
 }
 
 // What is said of an item that repeats another.
-fn item_said(f: &Faulty, at: &Found, number: usize, other: usize) -> Result<Said, NoMemory> {
+fn item_said(f: &Faulty, at: &Found, number: usize, other: usize) -> Said {
     let mut what = Line::new(f.alloc);
     what.text(only_once(at.form.form, at.item(number).unwrap_or("")));
     what.text(" again, in item ")
@@ -100,13 +99,10 @@ fn item_said(f: &Faulty, at: &Found, number: usize, other: usize) -> Result<Said
 fn value_said(f: &Faulty, at: &Found) -> Result<Said, NoMemory> {
     let mut note = Line::new(f.alloc);
     write_earlier(f, at, &mut note)?;
-    let note = note.done()?;
     let mut what = at.item_line(f, 0);
     what.text(", which an earlier table has");
-    let mut said = f.said_at(at.span.key, what, f.kind.page())?;
-    if !note.is_empty() {
-        said.add_note(note)?;
-    }
+    let mut said = f.said_at(at.span.key, what, f.kind.page());
+    said.add_note(note);
     Ok(said)
 }
 
@@ -117,7 +113,7 @@ fn value_said(f: &Faulty, at: &Found) -> Result<Said, NoMemory> {
 /// Want of memory alone.
 pub(crate) fn twice_said(f: &Faulty, at: &Found) -> Result<Said, NoMemory> {
     match repeat(at) {
-        Some((number, other)) => item_said(f, at, number, other),
+        Some((number, other)) => Ok(item_said(f, at, number, other)),
         None => value_said(f, at),
     }
 }

@@ -1,10 +1,10 @@
 //! Why the reply of a script's call doesn't fit: docs/HOST.md, "Steps", on the reply.
 
-use crate::line::Line;
 use crate::values::{
     Parameter, made_objects, write_misfit, write_object, write_result, write_seen, write_target,
 };
 use ebc_base::NoMemory;
+use explain_base::Line;
 use host_model::{TypedObject, fits};
 use note_types::{
     Field, Notes, OutValue, Script, ScriptCall, Seen, Shape, Signature, Value, Want, WantParam,

@@ -1,17 +1,14 @@
 //! What is said of runs that end otherwise than finished.
 
 use crate::faulty::{Faulty, TomlText, write_position};
-use crate::line::Line;
 use crate::replies::{Unfit, unfit_reply};
 use crate::values::{made_objects, write_ending, write_entering, write_seen};
 use ebc_base::NoMemory;
-use explain_base::{Said, place_text};
-use note_types::{Ending, Event, Notes, Reason, Script, Seen};
+use explain_base::{Line, Said};
+use note_types::{Ending, Event, Notes, Reason, Script, Seen, Spot};
 use run_texts::ShownRun;
 use std::alloc::Global;
 use toml_spans::key_span;
-
-const PAGE: &str = "docs/SCRIPTS.md, \"A run that goes wrong\"";
 
 /// A program that ran: its notes, its script, and the name and the text of the script's file.
 #[derive(Clone, Copy)]
@@ -47,12 +44,16 @@ pub(crate) struct Ended<'a> {
     pub steps: u64,
     pub most: u64,
     pub ending: Ending,
+    /// Where it stands, if that is a place of the program's image for sure.
+    pub place: Option<u32>,
     /// The last call of the program, if it made one.
     pub last: Option<&'a Event>,
     /// How many calls of the script it came to.
     pub calls: usize,
     /// Whether a function of another image answers the last call.
     pub bound: bool,
+    /// The page that mends it.
+    pub page: &'static str,
 }
 
 // A run that ended amiss, with the text of its script.
@@ -91,7 +92,7 @@ enum Subject {
 
 impl Amiss<'_> {
     // What is said of a subject.
-    fn said(&self, subject: Subject, what: Line) -> Result<Said, NoMemory> {
+    fn said(&self, subject: Subject, what: Line) -> Said {
         let mut at = Line::new(self.f.alloc);
         if let Subject::Offset(offset) = subject {
             write_position(self.f.text.as_bytes(), offset, &mut at);
@@ -100,10 +101,9 @@ impl Amiss<'_> {
             Subject::Run => "ebc",
             _ => self.f.file,
         };
-        let at = at.done()?;
-        let mut said = Said::at_place(self.f.alloc, at, what.done()?, PAGE)?;
-        said.file = String::from_str(self.f.alloc, file)?;
-        Ok(said)
+        let mut said = Said::at_place(at, what, self.ended.page);
+        said.file.text(file);
+        said
     }
 
     // A key of the script, or the script as a whole where it doesn't have the key.
@@ -309,7 +309,7 @@ impl Amiss<'_> {
     fn notification(&self, number: usize, line: &mut Line) -> Result<Subject, NoMemory> {
         let mut why = Line::new(self.f.alloc);
         self.write_notification(number, &mut why)?;
-        if why.as_str().is_empty() {
+        if why.is_empty() {
             why.text("not all thunk cells are made by then");
         }
         line.text("notify[")
@@ -323,9 +323,9 @@ impl Amiss<'_> {
     fn write_mismatch(&self, reason: Reason, line: &mut Line) {
         match reason {
             Reason::Site { place } => {
-                let place = place_text(line.alloc, self.notes, place);
-                line.text("the call at ").made(place, "");
-                line.text(" has no site in the notes");
+                line.text("the call at ")
+                    .place(self.notes, place)
+                    .text(" has no site in the notes");
             }
             Reason::Target { address } => {
                 line.text("a call goes to the address ")
@@ -383,6 +383,9 @@ impl Amiss<'_> {
             ending => {
                 line.text("the run ");
                 write_ending(self.notes, ending, "end 0 gate ", line);
+                if let (Ending::Raised(_), Some(place)) = (ending, self.ended.place) {
+                    line.text(" at ").place(self.notes, place);
+                }
                 Ok(Subject::Run)
             }
         }
@@ -395,7 +398,7 @@ impl Amiss<'_> {
         let mut line = Line::new(self.f.alloc);
         line.text(self.width).text(" ");
         let subject = self.write(&mut line)?;
-        Ok(Some(self.said(subject, line)?))
+        Ok(Some(self.said(subject, line)))
     }
 }
 
@@ -444,6 +447,14 @@ fn calls_in(events: &[Event]) -> (Option<&Event>, usize) {
     (last, count)
 }
 
+// The place at which a run stands, if it is one of the image.
+fn place_of(spot: Spot) -> Option<u32> {
+    match spot {
+        Spot::Place(place) => Some(place),
+        _ => None,
+    }
+}
+
 /// What is said of a run of `run` at a width, or of `twin` at both; `None` where it finished.
 ///
 /// # Errors
@@ -461,9 +472,11 @@ pub fn run_said(
         steps: run.steps,
         most: 10_000_000,
         ending: run.ending,
+        place: place_of(run.spot),
         last,
         calls,
         bound: false,
+        page: "docs/SCRIPTS.md, \"A run that goes wrong\"",
     };
     ended_said(alloc, ran, &ended)
 }

@@ -1,13 +1,13 @@
 //! What is said of scripts by the conditions over several keys: docs/SCRIPTS.md, "What the reader refuses".
 
 use crate::faulty::{Faulty, Found, Subject, table_and_key, table_number, value_at};
-use crate::line::Line;
 use crate::names::{field_named, shape_at};
 use crate::values::{
     Parameter, drafted_objects, value_of, write_cell, write_misfit, write_object, write_params,
     write_target,
 };
 use ebc_base::NoMemory;
+use explain_base::Line;
 use host_model::{TypedObject, fits};
 use note_texts::FromText;
 use note_types::{Cell, Field, FnNote, Notes, Shape, Value, content_type};

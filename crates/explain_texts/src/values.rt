@@ -1,8 +1,7 @@
 //! Values of scripts, the objects that they point to, and the texts of what takes them.
 
-use crate::line::Line;
 use ebc_base::{Name, NoMemory};
-use explain_base::kind_text;
+use explain_base::{Line, kind_text};
 use host_model::{TypedObject, fits};
 use note_types::{
     Cell, Ending, Field, FnNote, Notes, Param, Script, ScriptObject, Seen, Shape, Signature, Spot,

@@ -8,7 +8,8 @@
 //!   clause says that it is what has the path.
 //! - `position_of`: the line and the column of an offset, both from 1, exactly `position_at`. A column counts bytes.
 //!
-//! The walk goes through the text once, up to what is sought. It ends on each text, also on one that is no document.
+//! The walk goes through the text once, up to what is sought, and skips each key and value that isn't on the way there.
+//! It is for texts that a reader has read. It ends on each text, also on one that is no document.
 //!
 //! | Path | What is found |
 //! |---|---|
@@ -18,12 +19,13 @@
 //! | `"odd key"` | the key in quotes, whichever way the text spells it |
 #![tactic(auto)]
 
-mod end;
-mod headers;
+mod lists;
 mod path;
 mod position;
+mod skip;
+mod span;
 mod walk;
 
-pub use end::KeySpan;
 pub use position::{Position, position_of};
+pub use span::KeySpan;
 pub use walk::key_span;

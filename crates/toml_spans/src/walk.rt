@@ -1,53 +1,47 @@
 //! The walk through a text, up to what has a path.
 
-ghost use Rattle.std.specs.Prelude.{◌≡◌, ◌+◌, ◌<◌, ◌≤◌, length, slice_index, IfOk, IfErr, IfSome};
-ghost use Rattle.toml_spans.specs.Spans.{AreSpansIn, EndsIn, IsNoSpan, IsSpanIn};
+ghost use Rattle.std.specs.Prelude.{◌≡◌, ◌+◌, ◌≤◌, length, IfOk, IfSome};
+ghost use Rattle.toml_spans.specs.Spans.{AreSpansIn, IsSpanIn};
 
-use crate::end::{End, KeySpan};
-use crate::headers::Headers;
-use crate::path::{key_path, sought};
+use crate::lists::Lists;
+use crate::path::{Step, behind_key, steps_of};
+use crate::skip::{
+    first, past, past_blank, past_comma, past_pair, past_spaces, past_value, split_key,
+};
+use crate::span::KeySpan;
 use ebc_base::NoMemory;
 use std::alloc::Global;
-use toml_parser::text::{byte_at, first, skip, skip_blank, skip_ws};
-use toml_parser::{RECURSION_LIMIT, dotted_key, quoted, starts_string, unquoted};
+use toml_parser::bytes::byte_at;
 
-// What follows a comma, if one comes next, with the blanks around it.
-fn past_comma(text: &str) -> &str
-    ensures { length result.now ≤ length text.now }
-{
-    let rest = skip_blank(text, true);
-    if first(rest) == b',' {
-        skip_blank(skip(rest, 1), true)
-    } else {
-        rest
-    }
+// A place of the walk: what is left of the path there, if it agrees so far, and the rest of the text.
+#[derive(Clone, Copy)]
+struct Place<'a> {
+    left: Option<&'a [Step]>,
+    rest: &'a [u8],
 }
 
-// What follows a value that is neither a list nor a table.
-fn past_scalar(alloc: Global, text: &str) -> Result<&str, End>
-    ensures shorter { IfOk result (λ rest. length rest.now < length text.now) }
-    ensures ends { IfErr result IsNoSpan }
-{
-    if starts_string(text) {
-        let (_, rest) = quoted(alloc, text)?;
-        return Ok(rest);
-    }
-    let (_, rest) = unquoted(alloc, text)?;
-    Ok(rest)
+// A value that may have what is sought: the offset of its key, the text from the value on, and what is left of the path.
+#[derive(Clone, Copy)]
+struct Owner<'a> {
+    key: usize,
+    left: &'a [Step],
+    value: &'a [u8],
 }
 
-// What follows the brackets that close a header.
-fn past_brackets(text: &str, is_list: bool) -> &str
-    ensures { length result.now ≤ length text.now }
+// The item of a list by its number, if it is there: the text from it on.
+fn item_of(list: &[u8], number: usize) -> Option<&[u8]>
+    ensures { IfSome result (λ item. length item.now ≤ length list.now) }
 {
-    if first(text) != b']' {
-        return text;
+    if first(list) != b'[' {
+        return None;
     }
-    let rest = skip(text, 1);
-    if is_list && first(rest) == b']' {
-        skip(rest, 1)
-    } else {
-        rest
+    let mut rest = past_blank(past(list, 1));
+    'items: for _ in 0..number.min(list.len()) {
+        rest = past_comma(past_value(rest));
+    }
+    match first(rest) {
+        0 | b']' => None,
+        _ => Some(rest),
     }
 }
 
@@ -56,198 +50,237 @@ fn past_brackets(text: &str, is_list: bool) -> &str
 struct Walk<'a> {
     alloc: Global,
     size: usize,
-    path: &'a str,
+    path: &'a [Step],
 }
 
-impl Walk<'_> {
+impl<'a> Walk<'a> {
     // The offset of the rest of the text.
-    fn offset(&self, rest: &str) -> usize
+    fn offset(&self, rest: &[u8]) -> usize
         requires { length rest.now ≤ self.now.size }
         ensures { result + length rest.now ≡ self.now.size }
     {
         self.size - rest.len()
     }
 
-    // Goes past the value at a path, whose key is at an offset.
-    #[cycle(walk)]
-    fn value<'t>(&self, path: &str, key: usize, text: &'t str, depth: usize) -> Result<&'t str, End>
-        requires { key + length text.now ≤ self.now.size }
-        ensures shorter { IfOk result (λ rest. length rest.now < length text.now) }
-        ensures ends { IfErr result (EndsIn self.now.size) }
-    {
-        let from = self.offset(text);
-        let (items, rest) = self.parts(path, text, depth)?;
-        if path != self.path {
-            return Ok(rest);
-        }
-        let to = self.offset(rest);
-        Err(End::Found(KeySpan {
-            key,
-            from,
-            to,
-            items,
-        }))
-    }
-
-    // Goes past the value at a path: its items, if it is a list, and what follows it.
-    #[cycle(walk)]
-    fn parts<'t>(
-        &self,
-        path: &str,
-        text: &'t str,
-        depth: usize,
-    ) -> Result<(Vec<(usize, usize)>, &'t str), End>
-        requires { length text.now ≤ self.now.size }
-        ensures shorter { IfOk result (λ p. length p.1.now < length text.now) }
-        ensures items { IfOk result (λ p. AreSpansIn self.now.size p.0.items) }
-        ensures ends { IfErr result (EndsIn self.now.size) }
-    {
-        match first(text) {
-            b'[' | b'{' if depth == 0 => Err(End::Fault),
-            b'[' => self.list(path, skip(text, 1), depth - 1),
-            b'{' => {
-                let rest = self.table(path, skip(text, 1), depth - 1)?;
-                Ok((Vec::new(self.alloc), rest))
-            }
-            _ => {
-                let rest = past_scalar(self.alloc, text)?;
-                Ok((Vec::new(self.alloc), rest))
-            }
-        }
-    }
-
-    // Goes past the items of the list at a path.
-    #[cycle(walk)]
-    fn list<'t>(
-        &self,
-        path: &str,
-        text: &'t str,
-        depth: usize,
-    ) -> Result<(Vec<(usize, usize)>, &'t str), End>
-        requires { length text.now ≤ self.now.size }
-        ensures shorter { IfOk result (λ p. length p.1.now ≤ length text.now) }
-        ensures items { IfOk result (λ p. AreSpansIn self.now.size p.0.items) }
-        ensures ends { IfErr result (EndsIn self.now.size) }
+    // Where the items of a list stand; none for what is no list.
+    fn items(&self, list: &[u8]) -> Result<Vec<(usize, usize)>, NoMemory>
+        requires { length list.now ≤ self.now.size }
+        ensures { IfOk result (λ items. AreSpansIn self.now.size items.items) }
     {
         let mut items = Vec::new(self.alloc);
-        let mut rest = skip_blank(text, true);
-        'items: for index in 0..text.len() {
-            if first(rest) == b']' {
-                return Ok((items, skip(rest, 1)));
+        if first(list) != b'[' {
+            return Ok(items);
+        }
+        let mut rest = past_blank(past(list, 1));
+        'items: for _ in 0..list.len() {
+            if matches!(first(rest), 0 | b']') {
+                return Ok(items);
             }
-            let item = format!(in self.alloc; "{path}[{index}]")?;
-            let from = self.offset(rest);
-            let after = self.value(item.as_str(), from, rest, depth)?;
-            items.push((from, self.offset(after)))?;
+            let after = past_value(rest);
+            items.push((self.offset(rest), self.offset(after)))?;
             rest = past_comma(after);
         }
-        Err(End::Fault)
+        Ok(items)
     }
 
-    // Goes past the keys of the inline table at a path.
-    #[cycle(walk)]
-    fn table<'t>(&self, path: &str, text: &'t str, depth: usize) -> Result<&'t str, End>
-        requires { length text.now ≤ self.now.size }
-        ensures shorter { IfOk result (λ rest. length rest.now ≤ length text.now) }
-        ensures ends { IfErr result (EndsIn self.now.size) }
+    // Where a value stands whose key is at an offset.
+    fn value_span(&self, key: usize, value: &[u8]) -> Result<KeySpan, NoMemory>
+        requires { key + length value.now ≤ self.now.size }
+        ensures { IfOk result (IsSpanIn self.now.size) }
     {
-        let mut rest = skip_blank(text, true);
-        'keys: for _ in 0..text.len() {
-            if first(rest) == b'}' {
-                return Ok(skip(rest, 1));
-            }
-            rest = past_comma(self.pair(path, rest, depth)?);
-        }
-        Err(End::Fault)
+        let items = self.items(value)?;
+        Ok(KeySpan {
+            key,
+            from: self.offset(value),
+            to: self.offset(past_value(value)),
+            items,
+        })
     }
 
-    // Goes past a key and its value, in the table at a path.
-    #[cycle(walk)]
-    fn pair<'t>(&self, table: &str, text: &'t str, depth: usize) -> Result<&'t str, End>
-        requires { length text.now ≤ self.now.size }
-        ensures shorter { IfOk result (λ rest. length rest.now < length text.now) }
-        ensures ends { IfErr result (EndsIn self.now.size) }
+    // Where a header stands, with what follows it.
+    fn header_span(&self, header: &[u8], after: &[u8]) -> KeySpan
+        requires within { length header.now ≤ self.now.size }
+        requires after { length after.now ≤ length header.now }
+        ensures { IsSpanIn self.now.size result }
     {
-        let (key, rest) = dotted_key(self.alloc, text)?;
-        if first(rest) != b'=' {
-            return Err(End::Fault);
-        }
-        let path = key_path(self.alloc, table, &key)?;
-        let value = skip_ws(skip(rest, 1));
-        self.value(path.as_str(), self.offset(text), value, depth)
-    }
-
-    // Goes past a header: the path of its table, and what follows it.
-    fn header<'t>(&self, headers: &mut Headers, text: &'t str) -> Result<(String, &'t str), End>
-        requires within { length text.now ≤ self.now.size }
-        requires here { slice_index text.now 0 ≡ 91 }
-        ensures shorter { IfOk result (λ p. length p.1.now < length text.now) }
-        ensures ends { IfErr result (EndsIn self.now.size) }
-    {
-        let is_list = byte_at(text, 1) == b'[';
-        let inner = if is_list {
-            skip(text, 2)
-        } else {
-            skip(text, 1)
-        };
-        let (key, rest) = dotted_key(self.alloc, skip_ws(inner))?;
-        let path = headers.table(&key, is_list)?;
-        let rest = past_brackets(rest, is_list);
-        if path.as_str() != self.path {
-            return Ok((path, rest));
-        }
-        let from = self.offset(text);
-        Err(End::Found(KeySpan {
+        let from = self.offset(header);
+        KeySpan {
             key: from,
             from,
-            to: self.offset(rest),
+            to: self.offset(after),
             items: Vec::new(self.alloc),
-        }))
+        }
+    }
+
+    // Goes past a part of a key.
+    fn part(&self, at: Place<'a>) -> Result<Place<'a>, NoMemory>
+        ensures { IfOk result (λ place. length place.rest.now ≤ length at.entry.rest.now) }
+    {
+        let (spelled, rest) = split_key(at.rest);
+        let left = match at.left {
+            Some(left) => behind_key(self.alloc, left, spelled)?,
+            None => None,
+        };
+        Ok(Place { left, rest })
+    }
+
+    // Goes past a key and the spaces behind it. Each of its parts but the last may name a list of tables.
+    fn key(&self, lists: &Lists, at: Place<'a>) -> Result<Place<'a>, NoMemory>
+        ensures { IfOk result (λ place. length place.rest.now ≤ length at.entry.rest.now) }
+    {
+        let mut place = at;
+        'parts: for _ in 0..at.rest.len() {
+            let Place { left, rest } = self.part(place)?;
+            let rest = past_spaces(rest);
+            if first(rest) != b'.' {
+                return Ok(Place { left, rest });
+            }
+            place = Place {
+                left: lists.in_last(left),
+                rest: past_spaces(past(rest, 1)),
+            };
+        }
+        Ok(place)
+    }
+
+    // The value of the pair that comes next, if the path goes on with its key.
+    fn pair(&self, lists: &Lists, at: Place<'a>) -> Result<Option<Owner<'a>>, NoMemory>
+        requires { length at.rest.now ≤ self.now.size }
+        ensures { IfOk result (λ found. IfSome found (λ o. o.key + length o.value.now ≤ self.now.size)) }
+    {
+        if at.left.is_none() {
+            return Ok(None);
+        }
+        let Place { left, rest } = self.key(lists, at)?;
+        match left {
+            Some(left) => Ok(Some(Owner {
+                key: self.offset(at.rest),
+                left,
+                value: past_spaces(past(rest, 1)),
+            })),
+            None => Ok(None),
+        }
+    }
+
+    // The value of the pair of an inline table with whose key the path goes on.
+    fn member(&self, lists: &Lists, owner: Owner<'a>) -> Result<Option<Owner<'a>>, NoMemory>
+        requires { owner.key + length owner.value.now ≤ self.now.size }
+        ensures { IfOk result (λ found. IfSome found (λ o. o.key + length o.value.now ≤ self.now.size)) }
+    {
+        if first(owner.value) != b'{' {
+            return Ok(None);
+        }
+        let left = Some(owner.left);
+        let mut rest = past_blank(past(owner.value, 1));
+        'pairs: for _ in 0..owner.value.len() {
+            if matches!(first(rest), 0 | b'}') {
+                return Ok(None);
+            }
+            if let Some(inner) = self.pair(lists, Place { left, rest })? {
+                return Ok(Some(inner));
+            }
+            rest = past_comma(past_pair(rest));
+        }
+        Ok(None)
+    }
+
+    // What the next step of the path leads to.
+    fn next(&self, lists: &Lists, owner: Owner<'a>) -> Result<Option<Owner<'a>>, NoMemory>
+        requires { owner.key + length owner.value.now ≤ self.now.size }
+        ensures { IfOk result (λ found. IfSome found (λ o. o.key + length o.value.now ≤ self.now.size)) }
+    {
+        let Some((Step::Item(number), left)) = owner.left.split_first() else {
+            return self.member(lists, owner);
+        };
+        match item_of(owner.value, *number) {
+            Some(value) => Ok(Some(Owner {
+                key: self.offset(value),
+                left,
+                value,
+            })),
+            None => Ok(None),
+        }
+    }
+
+    // Where what has the path stands in a value.
+    fn found(&self, lists: &Lists, outer: Owner<'a>) -> Result<Option<KeySpan>, NoMemory>
+        requires { outer.key + length outer.value.now ≤ self.now.size }
+        ensures { IfOk result (λ found. IfSome found (IsSpanIn self.now.size)) }
+    {
+        let mut owner = outer;
+        'steps: for _ in 0..self.path.len() {
+            if owner.left.is_empty() {
+                return Ok(Some(self.value_span(owner.key, owner.value)?));
+            }
+            match self.next(lists, owner)? {
+                Some(inner) => owner = inner,
+                None => return Ok(None),
+            }
+        }
+        Ok(None)
+    }
+
+    // Goes past a header. What is left is empty in the table that has the path, and at the first table of a list that has it.
+    fn header(&self, lists: &mut Lists, text: &'a [u8]) -> Result<Place<'a>, NoMemory>
+        ensures { IfOk result (λ place. length place.rest.now ≤ length text.now) }
+    {
+        let is_list = byte_at(text, 1) == b'[';
+        let brackets = if is_list { 2 } else { 1 };
+        let at = Place {
+            left: Some(self.path),
+            rest: past_spaces(past(text, brackets)),
+        };
+        let Place { left, rest } = self.key(lists, at)?;
+        let left = if is_list { lists.add(left) } else { left };
+        Ok(Place {
+            left,
+            rest: past(rest, brackets),
+        })
     }
 
     // Goes through the text.
-    fn document(&self, text: &str) -> Result<(), End>
+    fn document(&self, text: &'a [u8]) -> Result<Option<KeySpan>, NoMemory>
         requires { length text.now ≤ self.now.size }
-        ensures { IfErr result (EndsIn self.now.size) }
+        ensures { IfOk result (λ found. IfSome found (IsSpanIn self.now.size)) }
     {
-        let mut headers = Headers::new(self.alloc);
-        let mut table = String::new(self.alloc);
-        let mut rest = skip_blank(text, true);
+        let mut lists = Lists::new(self.alloc, self.path.len())?;
+        let mut left = Some(self.path);
+        let mut rest = past_blank(text);
         'lines: for _ in 0..text.len() {
             if rest.is_empty() {
-                return Ok(());
+                return Ok(None);
             }
             if first(rest) == b'[' {
-                let (path, after) = self.header(&mut headers, rest)?;
-                table = path;
-                rest = skip_blank(after, true);
+                let table = self.header(&mut lists, rest)?;
+                if has_ended(table.left) {
+                    return Ok(Some(self.header_span(rest, table.rest)));
+                }
+                left = table.left;
+                rest = past_blank(table.rest);
             } else {
-                let after = self.pair(table.as_str(), rest, RECURSION_LIMIT)?;
-                rest = skip_blank(after, true);
+                if let Some(owner) = self.pair(&lists, Place { left, rest })? {
+                    return self.found(&lists, owner);
+                }
+                rest = past_blank(past_pair(rest));
             }
         }
-        Ok(())
+        Ok(None)
     }
 }
 
-// Where what has a path stands, as what ends the walk.
-fn walked(alloc: Global, text: &str, path: &str) -> Result<(), End>
-    ensures { IfErr result (EndsIn (length text.now)) }
-{
-    let path = sought(alloc, path)?;
-    let walk = Walk {
-        alloc,
-        size: text.len(),
-        path: path.as_str(),
-    };
-    walk.document(text.strip_prefix('\u{feff}').unwrap_or(text))
+// Whether nothing is left of the path, which agreed so far.
+fn has_ended(left: Option<&[Step]>) -> bool {
+    match left {
+        Some(left) => left.is_empty(),
+        None => false,
+    }
 }
 
 /// Where what has a path stands in a document of TOML: a key, an item of a list, or a table, by its header. A path
 /// is written as readers tell it, as `function[2].need`. A key of other than letters, digits, `_` and `-` stands in
 /// quotes there. A list of tables is where the header of its first table is.
 ///
-/// It is none if nothing in the text has this path, or if the text is no document of TOML up to there.
+/// It is none if nothing in the text has this path. Of a text that is no document it is some span of it, or none.
 ///
 /// # Errors
 ///
@@ -255,19 +288,15 @@ fn walked(alloc: Global, text: &str, path: &str) -> Result<(), End>
 pub fn key_span(alloc: Global, text: &str, path: &str) -> Result<Option<KeySpan>, NoMemory>
     ensures { IfOk result (λ found. IfSome found (IsSpanIn (length text.now))) }
 {
-    if let Some(span) = span_at(alloc, text, path)? {
-        return Ok(Some(span));
+    let steps = steps_of(alloc, path)?;
+    if steps.is_empty() {
+        return Ok(None);
     }
-    let first = format!(in alloc; "{path}[0]")?;
-    span_at(alloc, text, first.as_str())
-}
-
-fn span_at(alloc: Global, text: &str, path: &str) -> Result<Option<KeySpan>, NoMemory>
-    ensures { IfOk result (λ found. IfSome found (IsSpanIn (length text.now))) }
-{
-    match walked(alloc, text, path) {
-        Ok(()) | Err(End::Fault) => Ok(None),
-        Err(End::Found(span)) => Ok(Some(span)),
-        Err(End::NoMemory) => Err(NoMemory),
-    }
+    let walk = Walk {
+        alloc,
+        size: text.len(),
+        path: steps.as_slice(),
+    };
+    let text = text.strip_prefix('\u{feff}').unwrap_or(text);
+    walk.document(text.as_bytes())
 }

@@ -1,4 +1,4 @@
-//! Sentences while they are written.
+//! Texts while they are written.
 
 use ebc_base::NoMemory;
 use std::alloc::Global;
@@ -6,7 +6,7 @@ use std::fmt::Write;
 
 /// A text that is being written. It remembers want of memory and tells it at its end, so that adding to it has one exit.
 #[derive(Drop)]
-pub(crate) struct Line {
+pub struct Line {
     pub alloc: Global,
     text: String,
     is_short: bool,
@@ -20,6 +20,13 @@ impl Line {
             text: String::new(alloc),
             is_short: false,
         }
+    }
+
+    /// A text that begins so.
+    pub fn of(alloc: Global, text: &str) -> Line {
+        let mut line = Line::new(alloc);
+        line.text(text);
+        line
     }
 
     /// Keeps in mind whether something was added; else memory was wanting.
@@ -36,6 +43,12 @@ impl Line {
         self.kept(added.is_ok())
     }
 
+    /// Adds a character.
+    pub fn letter(&mut self, letter: char) -> &mut Line {
+        let added = self.text.push(letter);
+        self.kept(added.is_ok())
+    }
+
     /// Adds a number in decimal digits.
     pub fn number(&mut self, number: u64) -> &mut Line {
         let added = write!(self.text, "{number}");
@@ -47,9 +60,32 @@ impl Line {
         self.number(count as u64)
     }
 
+    /// Adds a number that may be negative, in decimal digits.
+    pub fn signed(&mut self, number: i128) -> &mut Line {
+        let added = write!(self.text, "{number}");
+        self.kept(added.is_ok())
+    }
+
     /// Adds a number in hexadecimal digits, after `0x`.
     pub fn hexadecimal(&mut self, number: u64) -> &mut Line {
         let added = write!(self.text, "0x{number:x}");
+        self.kept(added.is_ok())
+    }
+
+    /// Adds a place of an image or an offset of a file, in hexadecimal digits, after `0x`.
+    pub fn at(&mut self, place: u32) -> &mut Line {
+        self.hexadecimal(u64::from(place))
+    }
+
+    /// Adds the place that an instruction names, in hexadecimal digits, after `0x`. It may lie outside of the image.
+    pub fn target(&mut self, place: i128) -> &mut Line {
+        let added = write!(self.text, "0x{place:x}");
+        self.kept(added.is_ok())
+    }
+
+    /// Adds a byte in two hexadecimal digits.
+    pub fn byte(&mut self, byte: u8) -> &mut Line {
+        let added = write!(self.text, "{byte:02x}");
         self.kept(added.is_ok())
     }
 
@@ -72,9 +108,25 @@ impl Line {
         self.text(line.as_str())
     }
 
+    /// Adds a comma and a space, unless nothing is written.
+    pub fn comma(&mut self) -> &mut Line {
+        let separator = if self.is_empty() { "" } else { ", " };
+        self.text(separator)
+    }
+
+    /// Whether nothing is written.
+    pub fn is_empty(&self) -> bool {
+        self.text.is_empty()
+    }
+
     /// What is written.
     pub fn as_str(&self) -> &str {
         self.text.as_str()
+    }
+
+    /// Whether memory was wanting for something that was added.
+    pub fn is_short(&self) -> bool {
+        self.is_short
     }
 
     /// The text.
