@@ -7,6 +7,7 @@ use Rattle.ebc_outside.specs.Files.{AppendsPart, Files}
 use Rattle.label_places.specs.Labels.{labels_of}
 use Rattle.label_places.specs.Sought.{place_by}
 use Rattle.label_places.specs.declared.label.Label.{Label}
+use Rattle.note_completion.specs.Causes.{FaultHasCause, LargeHasCause, RefusedHasCause}
 use Rattle.note_completion.specs.Completions.{Completes, TellsFirst, label_faults}
 use Rattle.note_completion.specs.declared.completion.Completion.{Completion}
 use Rattle.note_completion.specs.declared.completion.Completion.TheVariants as completions
@@ -36,12 +37,16 @@ completion_reply name more (completions.Fault flaw) =
 completion_reply name more (completions.Refused place rule state) = prints (outcomes.Refused place rule) (refused_line place rule ++ more)
 completion_reply name more completions.Large = large_reply 1 name
 
--- A reply tells what comes of a text: complete notes, where it prints such; and the first fault of a label, where the text has one.
+-- A reply tells what comes of a text: complete notes, where it prints such; and the first fault of a label, where the text has one. A
+-- refusal, `large` and a fault each have their cause.
 pub record TellsNotes (objects : List (List ℕ)) (labels : List Label) (image : Image) (name text : List ℕ) (reply : Reply) : Type 0 where
   pub completion : Completion
   pub more : List ℕ
   pub whole : Completes image (place_by objects labels) text completion
   pub first : TellsFirst (label_faults objects labels text) completion
+  pub refused : RefusedHasCause image (place_by objects labels) text completion
+  pub large : LargeHasCause image (place_by objects labels) text completion
+  pub faulty : FaultHasCause image (place_by objects labels) (label_faults objects labels text) text completion
   pub told : reply ≡ completion_reply name more completion
 
 -- A reply prints labels by their places.

@@ -11,7 +11,9 @@
 //!   `IsReplyTo`). These are the replies:
 //!   - To `PLAN` it prints the labels by their places (`IsMap`).
 //!   - To `PLAN NOTES` it prints complete notes (`IsComplete`), or the first fault of a label, another fault, a refusal
-//!     or `large` (`TellsNotes`).
+//!     or `large` (`TellsNotes`). Each has its cause: a refusal a draft of the text under which the rule fails
+//!     (`HasRefusal`), `large` a filled text that is too long or has too many leaders (`IsLarge`), and a fault that is
+//!     no label's one of those that `HasFault` lists. A `large` of a file too long is the reading's (`request_of`).
 //! - `asked`: the files asked for are the plan, its objects and the text, in this order, also where a put failed.
 //!   `asked_part`: with every outcome a first part of them is asked for, and no other.
 //! - `uncounted`: the count of failed reads stays as it was, unless the outcome is ReadFault.
@@ -29,7 +31,7 @@
 //! - `read_fault_leaves`: where a read failed, the output is as it was. `no_memory_leaves`: where memory ran out,
 //!   nothing was printed.
 //!
-//! No clause says when a refusal, `large`, or a fault that is no label's comes.
+//! No clause says which levels, needs, ends, counts, sites and points a draft has.
 //!
 //! No clause says what stands behind the path of a fault, nor below the line of a refusal: the label, the line and
 //! column in the text, the label before the place, and the lines of the state.

@@ -14,20 +14,27 @@ use Rattle.note_texts.specs.Keys.{document}
 use Rattle.note_texts.specs.Outcome.{Fails}
 use Rattle.note_types.specs.declared.fault.NotesEnd.{NotesEnd}
 use Rattle.note_types.specs.declared.fault.NotesEnd.TheVariants as notes
+use Rattle.note_types.specs.declared.fault.TomlFault.{TomlFault}
 use Rattle.pe_image.specs.declared.image.Image.{Image}
 use Rattle.toml.specs.Data.{Data, Members}
+use Rattle.note_completion.specs.Causes.{IsFilled, without_label}
 use Rattle.note_completion.specs.Completions.{Completes, IsComplete, TellsFirst, label_faults, unlabelled}
-use Rattle.note_completion.specs.Halts.{Ends, IsChecked, IsFilled, Tells, first_fault, of_fill, of_notes, place_in, told}
+use Rattle.note_completion.specs.Halts.{Ends, IsChecked, Tells, first_fault, of_fill, of_notes, place_in, told}
 use Rattle.note_completion.specs.declared.halt.Halt.{Halt}
 use Rattle.note_completion.specs.declared.halt.Halt.TheVariants as halts
 use Rattle.note_completion.specs.declared.task.Task.{Task}
 
--- a text that isn't TOML is told as that
+-- a text that isn't TOML has that as its first fault
+pub faults_unread : (names : List (List ℕ)) (labels : List Label) (text : List ℕ) (f : TomlFault) → document text ≡ Err f
+    → label_faults names labels text ≡ Err (without_label f)
+unfolding label_faults
+faults_unread names labels text f fails = ap (λ d. unlabelled d >>= text_labels names labels) fails
+
+-- it is told as that
 pub ends_unread : (end : NotesEnd) (names : List (List ℕ)) (labels : List Label) (text : List ℕ) → Fails end (document text)
     → Ends (of_notes end) (label_faults names labels text)
-unfolding label_faults
 ends_unread notes.NoMemory names labels text fails = tt
-ends_unread (notes.Fault f) names labels text fails = inl (ap (λ d. unlabelled d >>= text_labels names labels) fails)
+ends_unread (notes.Fault f) names labels text fails = inl (faults_unread names labels text f fails)
 
 -- the first fault of a label of a document is that of its text
 pub faults_in : (names : List (List ℕ)) (labels : List Label) (text : List ℕ) (ms : Members) → document text ≡ Ok ms
@@ -62,18 +69,10 @@ pub tells_any : {X : Type 0} (result : Result X Halt) (read : Result (Unit {0}) 
 tells_any (Ok x) read none = none
 tells_any (Err halt) read none = ends_any halt read none
 
--- a text that is filled over the labels of a task
-pub filled_over : (t : Task) (context : Context) (points sites : List Data) (old new : Members) → context.labels ≡ t.linked.labels
-    → context.names.now ≡ t.linked.plan.now.objects → document t.text.now ≡ Ok old
-    → IsTextKept (filled_place context) points sites old new → IsFilled (place_in t) t.text.now points sites new
-filled_over t context points sites old new labels names read kept = record { old = old; read = read; kept = rw (← labels, ← names) kept }
-
 -- a text that is filled, printed and checked is complete notes
-pub completed : (image : Image) (place : List ℕ → Option ℕ) (text : List ℕ) (points sites : List Data) (new : Members)
-    (result : Result (String Global) Halt) → IsFilled place text points sites new
-    → IfOk result (λ printed. document (string_bytes printed) ≡ Ok new) → IfOk result (λ printed. IsChecked image (string_bytes printed))
-    → IfOk result (λ printed. IsComplete image place text (string_bytes printed))
-completed image place text points sites new (Ok printed) filled shown checked = record {
+pub completed : (image : Image) (place : List ℕ → Option ℕ) (text printed : List ℕ) (points sites : List Data) (new : Members)
+    → IsFilled place text points sites new → document printed ≡ Ok new → IsChecked image printed → IsComplete image place text printed
+completed image place text printed points sites new filled shown checked = record {
   notes = checked.notes;
   stands = checked.stands;
   typed = checked.typed;
@@ -86,7 +85,6 @@ completed image place text points sites new (Ok printed) filled shown checked = 
   sites = sites;
   kept = filled.kept;
 }
-completed image place text points sites new (Err halt) filled shown checked = tt
 
 -- what is told of an end are no notes, and a fault of a label where the text has one
 pub told_completes : (halt : Halt) (image : Image) (place : List ℕ → Option ℕ) (text : List ℕ)

@@ -1,1 +1,2 @@
-mod HaltLaws
+pub mod HaltLaws
+pub mod CauseLaws

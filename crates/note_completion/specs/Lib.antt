@@ -1,2 +1,3 @@
 pub mod Completions
+pub mod Causes
 pub mod Halts

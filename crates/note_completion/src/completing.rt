@@ -1,15 +1,13 @@
 //! Notes with labels made complete.
 
-ghost use Rattle.std.specs.Prelude.{◌≡◌, ◌≤◌, IfOk, Ok, OnOk, string_bytes};
+ghost use Rattle.std.specs.Prelude.{IfErr, IfOk, OnOk, string_bytes};
 ghost use Rattle.label_places.specs.Sought.{place_by};
 ghost use Rattle.pe_image.specs.Images.{IsImage};
-ghost use Rattle.note_texts.specs.Keys.{document};
 ghost use Rattle.note_types.specs.Records.{IsNotes};
-ghost use Rattle.toml.specs.Data.{members_depth};
-ghost use Rattle.toml.specs.View.{table_view};
 ghost use Rattle.width_checker.specs.Typed.{Typed};
+ghost use Rattle.note_completion.specs.Causes.{FaultHasCause, LargeHasCause, RefusedHasCause};
 ghost use Rattle.note_completion.specs.Completions.{Completes, IsComplete, TellsFirst, label_faults};
-ghost use Rattle.note_completion.specs.Halts.{IsChecked, Tells, first_fault, place_in};
+ghost use Rattle.note_completion.specs.Halts.{EndsByRule, EndsChecked, IsCaused, IsChecked, Tells, first_fault, place_in};
 
 use crate::completion::{Completion, Linked};
 use crate::depths::Depths;
@@ -30,7 +28,8 @@ const MOST_BYTES: usize = 1_048_576;
 fn check_rules(alloc: Global, image: &Image, notes: &Notes) -> Result<(), Halt>
     requires image { IsImage image.now }
     requires notes { IsNotes notes.now }
-    ensures { OnOk result (Typed image.now notes.now) }
+    ensures typed { OnOk result (Typed image.now notes.now) }
+    ensures cause { IfErr result (EndsByRule image.now notes.now) }
 {
     match check(alloc, image, notes)? {
         Verdict::Neutral => Ok(()),
@@ -41,25 +40,15 @@ fn check_rules(alloc: Global, image: &Image, notes: &Notes) -> Result<(), Halt>
 // Whether a printed text is notes within the limit, under which the image keeps all rules.
 fn check_text(alloc: Global, image: &Image, filled: &Filled, text: &str) -> Result<(), Halt>
     requires image { IsImage image.now }
-    ensures { OnOk result (IsChecked image.now text.now) }
+    ensures checked { OnOk result (IsChecked image.now text.now) }
+    ensures cause { IfErr result (EndsChecked image.now filled.now text.now) }
 {
     if text.len() > MOST_BYTES {
         return Err(Halt::Large);
     }
     let notes = read_printed(alloc, filled, text)?;
-    check_rules(alloc, image, &notes)
-}
-
-// The text of a filled table, where it is notes under which the image keeps all rules.
-fn checked_text(alloc: Global, image: &Image, filled: &Filled) -> Result<String, Halt>
-    requires image { IsImage image.now }
-    requires shallow { members_depth (table_view filled.now.table) ≤ 80 }
-    ensures shown { IfOk result (λ text. document (string_bytes text) ≡ Ok (table_view filled.now.table)) }
-    ensures checked { IfOk result (λ text. IsChecked image.now (string_bytes text)) }
-{
-    let text = printed(alloc, &filled.table)?;
-    match check_text(alloc, image, filled, text.as_str()) {
-        Ok(()) => Ok(text),
+    match check_rules(alloc, image, &notes) {
+        Ok(()) => Ok(()),
         Err(halt) => Err(halt),
     }
 }
@@ -68,16 +57,22 @@ impl<'a> Task<'a> {
     // The notes with all that was found, where the check of the image calls it neutral.
     fn checked(self, alloc: Global, depths: &Depths, more: More) -> Result<String, Halt>
         requires image { IsImage self.linked.image.now }
-        ensures { IfOk result (λ notes. IsComplete self.entry.linked.image.now (place_in self.entry) self.entry.text.now (string_bytes notes)) }
+        ensures whole { IfOk result (λ notes. IsComplete self.entry.linked.image.now (place_in self.entry) self.entry.text.now (string_bytes notes)) }
+        ensures cause { IfErr result (IsCaused self.entry) }
     {
         let filled = self.fill(alloc, depths.found(), more)?;
-        checked_text(alloc, self.linked.image, &filled)
+        let text = printed(alloc, &filled.table)?;
+        match check_text(alloc, self.linked.image, &filled, text.as_str()) {
+            Ok(()) => Ok(text),
+            Err(halt) => Err(halt),
+        }
     }
 
     // The complete notes of a text whose forms and names are those of notes.
     fn notes(self, alloc: Global) -> Result<String, Halt>
         requires image { IsImage self.linked.image.now }
-        ensures { IfOk result (λ notes. IsComplete self.entry.linked.image.now (place_in self.entry) self.entry.text.now (string_bytes notes)) }
+        ensures whole { IfOk result (λ notes. IsComplete self.entry.linked.image.now (place_in self.entry) self.entry.text.now (string_bytes notes)) }
+        ensures cause { IfErr result (IsCaused self.entry) }
     {
         let depths = self.depths(alloc)?;
         let more = self.missing(alloc, &depths)?;
@@ -90,6 +85,7 @@ impl<'a> Task<'a> {
         requires image { IsImage self.linked.image.now }
         ensures whole { IfOk result (λ notes. IsComplete self.entry.linked.image.now (place_in self.entry) self.entry.text.now (string_bytes notes)) }
         ensures faults { Tells result (first_fault self.entry) }
+        ensures cause { IfErr result (IsCaused self.entry) }
     {
         self.check_forms(alloc)?;
         self.notes(alloc)
@@ -101,12 +97,19 @@ impl<'a> Task<'a> {
 /// # Errors
 ///
 /// There is no memory.
-#[tactic(auto, using(crate::proofs::HaltLaws::told_completes, crate::proofs::HaltLaws::told_tells))]
+#[tactic(auto, using(crate::proofs::HaltLaws::told_completes, crate::proofs::HaltLaws::told_tells, crate::proofs::CauseLaws::told_refused, crate::proofs::CauseLaws::told_large, crate::proofs::CauseLaws::told_faulty))]
 pub fn complete(alloc: Global, linked: Linked, text: &[u8]) -> Result<Completion, NoMemory>
     requires image { IsImage linked.image.now }
     ensures whole { IfOk result (Completes linked.entry.image.now
         (place_by linked.entry.plan.now.objects linked.entry.labels.now.labels) text.now) }
     ensures faults { IfOk result (TellsFirst (label_faults linked.entry.plan.now.objects linked.entry.labels.now.labels text.now)) }
+    ensures refused { IfOk result (RefusedHasCause linked.entry.image.now
+        (place_by linked.entry.plan.now.objects linked.entry.labels.now.labels) text.now) }
+    ensures large { IfOk result (LargeHasCause linked.entry.image.now
+        (place_by linked.entry.plan.now.objects linked.entry.labels.now.labels) text.now) }
+    ensures faulty { IfOk result (FaultHasCause linked.entry.image.now
+        (place_by linked.entry.plan.now.objects linked.entry.labels.now.labels)
+        (label_faults linked.entry.plan.now.objects linked.entry.labels.now.labels text.now) text.now) }
 {
     match (Task { linked, text }).complete(alloc) {
         Ok(notes) => Ok(Completion::Whole(notes)),

@@ -1,9 +1,12 @@
 //! Levels and needs, found in the code.
 
-ghost use Rattle.std.specs.Prelude.{ℕ, OnOk};
+ghost use Rattle.std.specs.Prelude.{◌≡◌, ℕ, IfErr, IfOk, OnOk};
+ghost use Rattle.note_completion.specs.Causes.{no_level};
+ghost use Rattle.note_completion.specs.Halts.{EndsByRule, EndsDepths, IsCaused};
 ghost use Rattle.note_types.specs.Records.{IsNotes};
 ghost use Rattle.pe_image.specs.Images.{IsImage};
 ghost use Rattle.rules_image.specs.Images.{FunctionHolds};
+ghost use Rattle.stack_needs.specs.Calls.{HasCause};
 
 use crate::filling::Draft;
 use crate::halt::{Halt, refused};
@@ -77,7 +80,9 @@ fn known(alloc: Global, filled: &Filled) -> Result<Vec<Known>, NoMemory> {
 }
 
 // That no level is one of a function whose calls lead back to it, with its name.
-fn recursion(alloc: Global, draft: &Draft, function: usize) -> Result<Flaw, NoMemory> {
+fn recursion(alloc: Global, draft: &Draft, function: usize) -> Result<Flaw, NoMemory>
+    ensures { IfOk result (λ flaw. flaw ≡ no_level draft.now.filled.functions.items draft.now.notes function) }
+{
     let index = match draft.filled.functions.as_slice().get(function) {
         Some(index) => *index,
         None => function,
@@ -93,8 +98,11 @@ fn recursion(alloc: Global, draft: &Draft, function: usize) -> Result<Flaw, NoMe
     })
 }
 
-// Why levels and needs aren't found.
-fn not_found(alloc: Global, draft: &Draft, end: NotFound) -> Halt {
+// Why levels and needs aren't found in an image.
+fn not_found(alloc: Global, _image: &Image, draft: &Draft, end: NotFound) -> Halt
+    requires cause { HasCause _image.now draft.now.notes end }
+    ensures { EndsDepths _image.now draft.now result }
+{
     match end {
         NotFound::NoMemory => Halt::NoMemory,
         NotFound::Uneven { place } => refused(alloc, place, RuleName::Below),
@@ -109,7 +117,8 @@ fn not_found(alloc: Global, draft: &Draft, end: NotFound) -> Halt {
 fn check_rule(alloc: Global, image: &Image, notes: &Notes) -> Result<(), Halt>
     requires image { IsImage image.now }
     requires notes { IsNotes notes.now }
-    ensures { OnOk result ((k : ℕ) → FunctionHolds image.now notes.now k) }
+    ensures holds { OnOk result ((k : ℕ) → FunctionHolds image.now notes.now k) }
+    ensures cause { IfErr result (EndsByRule image.now notes.now) }
 {
     match check_functions(image, notes) {
         Ok(()) => Ok(()),
@@ -124,6 +133,7 @@ fn check_rule(alloc: Global, image: &Image, notes: &Notes) -> Result<(), Halt>
 fn depths_of(alloc: Global, image: &Image, draft: &Draft) -> Result<Depths, Halt>
     requires image { IsImage image.now }
     requires notes { IsNotes draft.now.notes }
+    ensures cause { IfErr result (EndsDepths image.now draft.now) }
 {
     check_rule(alloc, image, &draft.notes)?;
     let known = known(alloc, &draft.filled)?;
@@ -132,7 +142,7 @@ fn depths_of(alloc: Global, image: &Image, draft: &Draft) -> Result<Depths, Halt
             let order = draft.filled.functions.as_slice();
             Ok(in_text_order(alloc, order, found.as_slice())?)
         }
-        Err(end) => Err(not_found(alloc, draft, end)),
+        Err(end) => Err(not_found(alloc, image, draft, end)),
     }
 }
 
@@ -140,6 +150,7 @@ impl<'a> Task<'a> {
     /// The levels and needs of the text's functions.
     pub fn depths(self, alloc: Global) -> Result<Depths, Halt>
         requires image { IsImage self.linked.image.now }
+        ensures cause { IfErr result (IsCaused self.entry) }
     {
         let none = Found {
             levels: &[],

@@ -1,7 +1,9 @@
 //! A text filled with what was found, printed, and read as notes.
 
-ghost use Rattle.std.specs.Prelude.{◌≡◌, ◌≤◌, IfOk, Ok, map, string_bytes};
-ghost use Rattle.note_completion.specs.Halts.{IsFilled, place_in};
+ghost use Rattle.std.specs.Prelude.{◌≡◌, ◌≤◌, IfErr, IfOk, Ok, map, string_bytes};
+ghost use Rattle.note_completion.specs.Causes.{IsArranged, original_fault, without_label};
+ghost use Rattle.note_completion.specs.Halts.{EndsPrinting, EndsRead, IsCaused, IsDrafted, IsToldAs, place_in};
+ghost use Rattle.note_filling.specs.Originals.{original_path};
 ghost use Rattle.note_texts.specs.Keys.{document};
 ghost use Rattle.note_types.specs.Records.{IsNotes};
 ghost use Rattle.toml.specs.Data.{members_depth};
@@ -28,17 +30,23 @@ pub(crate) struct Draft {
 /// The text of a table.
 pub(crate) fn printed(alloc: Global, table: &Table) -> Result<String, Halt>
     requires shallow { members_depth (table_view table.now) ≤ 80 }
-    ensures { IfOk result (λ text. document (string_bytes text) ≡ Ok (table_view table.now)) }
+    ensures shown { IfOk result (λ text. document (string_bytes text) ≡ Ok (table_view table.now)) }
+    ensures cause { IfErr result (EndsPrinting (table_view table.now)) }
 {
     match toml::table_to_string(alloc, table) {
         Ok(text) => Ok(text),
         Err(toml::ser::Error::OutOfMemory) => Err(Halt::NoMemory),
-        Err(toml::ser::Error::DateInvalid) => Err(Halt::from(NotesEnd::Fault(TomlFault::NotToml))),
+        Err(toml::ser::Error::DateInvalid) => Err(Halt::Fault(Flaw {
+            fault: TomlFault::NotToml,
+            label: None,
+        })),
     }
 }
 
 // The path that a key had before the lists were put in order.
-fn original(alloc: Global, filled: &Filled, path: Name) -> Result<Name, AllocError> {
+fn original(alloc: Global, filled: &Filled, path: Name) -> Result<Name, AllocError>
+    ensures { IfOk result (λ original. original ≡ original_path filled.now.functions.items filled.now.points.items filled.now.sites.items path) }
+{
     original_path(
         alloc,
         filled.functions.as_slice(),
@@ -49,11 +57,9 @@ fn original(alloc: Global, filled: &Filled, path: Name) -> Result<Name, AllocErr
 }
 
 // The same fault, by the path that its key has in the text.
-fn original_fault(
-    alloc: Global,
-    filled: &Filled,
-    fault: TomlFault,
-) -> Result<TomlFault, AllocError> {
+fn original_fault(alloc: Global, filled: &Filled, fault: TomlFault) -> Result<TomlFault, AllocError>
+    ensures { IfOk result (λ original. original ≡ original_fault filled.now.functions.items filled.now.points.items filled.now.sites.items fault) }
+{
     Ok(match fault {
         TomlFault::NotToml => TomlFault::NotToml,
         TomlFault::Missing(path) => TomlFault::Missing(original(alloc, filled, path)?),
@@ -64,14 +70,13 @@ fn original_fault(
     })
 }
 
-// Why a printed text stands for no notes, told of the text that it was filled from.
-fn unread(alloc: Global, filled: &Filled, end: NotesEnd) -> Halt {
-    match end {
-        NotesEnd::NoMemory => Halt::NoMemory,
-        NotesEnd::Fault(fault) => match original_fault(alloc, filled, fault) {
-            Ok(fault) => Halt::Fault(Flaw { fault, label: None }),
-            Err(_) => Halt::NoMemory,
-        },
+// That notes have a fault, told of the text that they were filled from.
+fn faulty(alloc: Global, filled: &Filled, fault: TomlFault) -> Halt
+    ensures { IsToldAs (without_label (original_fault filled.now.functions.items filled.now.points.items filled.now.sites.items fault)) result }
+{
+    match original_fault(alloc, filled, fault) {
+        Ok(fault) => Halt::Fault(Flaw { fault, label: None }),
+        Err(_) => Halt::NoMemory,
     }
 }
 
@@ -79,28 +84,23 @@ fn unread(alloc: Global, filled: &Filled, end: NotesEnd) -> Halt {
 pub(crate) fn read_printed(alloc: Global, filled: &Filled, text: &str) -> Result<Notes, Halt>
     ensures notes { IfOk result (λ notes. notes_of text.now ≡ Ok notes) }
     ensures conditions { IfOk result IsNotes }
+    ensures cause { IfErr result (EndsRead filled.now text.now) }
 {
     match read_notes(alloc, text.as_bytes()) {
         Ok(notes) => Ok(notes),
-        Err(end) => Err(unread(alloc, filled, end)),
+        Err(NotesEnd::NoMemory) => Err(Halt::NoMemory),
+        Err(NotesEnd::Fault(fault)) => Err(faulty(alloc, filled, fault)),
     }
-}
-
-// The notes that a filled text stands for.
-fn notes_of(alloc: Global, filled: &Filled) -> Result<Notes, Halt>
-    requires shallow { members_depth (table_view filled.now.table) ≤ 80 }
-    ensures { IfOk result IsNotes }
-{
-    let text = printed(alloc, &filled.table)?;
-    read_printed(alloc, filled, text.as_str())
 }
 
 impl<'a> Task<'a> {
     /// The text filled with what was found, and with more points and sites.
     pub fn fill(self, alloc: Global, found: Found, more: More) -> Result<Filled, Halt>
-        ensures filled { IfOk result (λ filled. IsFilled (place_in self.entry) self.entry.text.now
-            (map view more.points.items) (map view more.sites.items) (table_view filled.table)) }
+        ensures arranged { IfOk result (λ filled. IsArranged (place_in self.entry) self.entry.text.now
+            (map view more.points.items) (map view more.sites.items) filled.functions.items filled.points.items filled.sites.items
+            (table_view filled.table)) }
         ensures shallow { IfOk result (λ filled. members_depth (table_view filled.table) ≤ 80) }
+        ensures cause { IfErr result (IsCaused self.entry) }
     {
         let table = document(alloc, self.text)?;
         let entry = &self.linked.plan.entry;
@@ -112,10 +112,13 @@ impl<'a> Task<'a> {
 
     /// The same, and the notes that it stands for.
     pub fn draft(self, alloc: Global, found: Found, more: More) -> Result<Draft, Halt>
-        ensures { IfOk result (λ draft. IsNotes draft.notes) }
+        ensures conditions { IfOk result (λ draft. IsNotes draft.notes) }
+        ensures drafted { IfOk result (IsDrafted self.entry) }
+        ensures cause { IfErr result (IsCaused self.entry) }
     {
         let filled = self.fill(alloc, found, more)?;
-        match notes_of(alloc, &filled) {
+        let text = printed(alloc, &filled.table)?;
+        match read_printed(alloc, &filled, text.as_str()) {
             Ok(notes) => Ok(Draft { filled, notes }),
             Err(halt) => Err(halt),
         }

@@ -2,7 +2,7 @@
 
 ghost use Rattle.std.specs.Prelude.{◌≡◌};
 ghost use Rattle.note_completion.specs.declared.halt.Halt.TheVariants as halts;
-ghost use Rattle.note_completion.specs.Halts.{of_fill, of_notes, told};
+ghost use Rattle.note_completion.specs.Halts.{IsRefusal, of_fill, of_notes, told};
 
 use crate::completion::Completion;
 use ebc_base::NoMemory;
@@ -74,7 +74,9 @@ impl From<NotesEnd> for Halt {
 }
 
 /// That a rule fails at a place, without a state.
-pub(crate) fn refused(alloc: Global, place: u32, rule: RuleName) -> Halt {
+pub(crate) fn refused(alloc: Global, place: u32, rule: RuleName) -> Halt
+    ensures { IsRefusal place rule result }
+{
     Halt::Refused {
         place,
         rule,

@@ -6,8 +6,15 @@
 //!   the text says (`IsComplete`).
 //! - `complete`: where the text isn't TOML, or has a fault of a label, the first such fault is told, and nothing else
 //!   (`label_faults`). It fails only where there is no memory.
+//! - `complete`: each other answer has a cause under a draft, which is notes that say all that the text says (`IsDraft`):
+//!   - `refused`: a rule is refused at a place only where it fails there under a draft (`HasRefusal`).
+//!   - `large`: notes are too large only where a filled text is printed longer than 1 MiB, or a draft has too many
+//!     leaders (`IsLarge`).
+//!   - `faulty`: a fault that is no label's is one of forms, repeats or names, of values that nest too deep, of the
+//!     notes that are printed, or of calls that lead back (`HasFault`).
 //!
-//! No clause says which levels, needs, sites and points are found, nor which of the rules that fail is told.
+//! No clause says which levels, needs, sites and points are found. So drafts may have any, and no clause says which of
+//! the rules that fail is told.
 #![tactic(auto)]
 
 mod completing;

@@ -1,16 +1,19 @@
 //! Points and sites that a text doesn't have.
 
+ghost use Rattle.std.specs.Prelude.{IfErr};
+ghost use Rattle.note_completion.specs.Halts.{EndsUnder, IsCaused, IsDrafted};
 ghost use Rattle.note_types.specs.Records.{IsNotes};
 ghost use Rattle.pe_image.specs.Images.{IsImage};
 
 use crate::depths::{Depths, no_more};
+use crate::filling::Draft;
 use crate::halt::Halt;
 use crate::task::Task;
 use ebc_base::NoMemory;
 use note_filling::{More, has_items, items_at};
 use note_infer::{Inferred, infer};
 use note_texts::document;
-use note_types::{Notes, RuleName, Site, State};
+use note_types::{Notes, NotesEnd, Site, State};
 use pe_image::Image;
 use point_texts::{points_text, state_text};
 use site_finder::find_sites;
@@ -31,40 +34,44 @@ fn sites_text(alloc: Global, notes: &Notes, sites: &[Site]) -> Result<String, No
     Ok(text)
 }
 
-// The tables of a list in a text.
-fn tables_in(alloc: Global, text: &str, key: &str) -> Result<Vec<Value>, Halt> {
-    let table = document(alloc, text.as_bytes())?;
+// The tables of a list in a text; none where the text isn't TOML.
+fn tables_in(alloc: Global, text: &str, key: &str) -> Result<Vec<Value>, NoMemory> {
     let mut tables = Vec::new(alloc);
+    let table = match document(alloc, text.as_bytes()) {
+        Ok(table) => table,
+        Err(NotesEnd::NoMemory) => return Err(NoMemory),
+        Err(NotesEnd::Fault(_)) => return Ok(tables),
+    };
     for item in items_at(&table, key) {
         tables.push(item.clone()?)?;
     }
     Ok(tables)
 }
 
-// That a rule fails at a place, with the lines of the state there.
-fn stuck(
+// The lines of a state at a place, where there is one.
+fn state_lines(
     alloc: Global,
     notes: &Notes,
     place: u32,
-    rule: RuleName,
     state: Option<&State>,
-) -> Result<Halt, NoMemory> {
-    let state = match state {
-        Some(state) => state_text(alloc, notes, place, state)?,
-        None => String::new(alloc),
-    };
-    Ok(Halt::Refused { place, rule, state })
+) -> Result<String, NoMemory> {
+    match state {
+        Some(state) => state_text(alloc, notes, place, state),
+        None => Ok(String::new(alloc)),
+    }
 }
 
 // The points that are found, as tables of notes.
 fn found_points(alloc: Global, image: &Image, notes: &Notes) -> Result<String, Halt>
     requires image { IsImage image.now }
     requires notes { IsNotes notes.now }
+    ensures cause { IfErr result (EndsUnder image.now notes.now) }
 {
     match infer(alloc, image, notes)? {
         Inferred::Points(points) => Ok(points_text(alloc, notes, points.as_slice())?),
         Inferred::Stuck { place, rule, state } => {
-            Err(stuck(alloc, notes, place, rule, state.as_ref())?)
+            let state = state_lines(alloc, notes, place, state.as_ref())?;
+            Err(Halt::Refused { place, rule, state })
         }
         Inferred::Many { leaders: _ } => Err(Halt::Large),
     }
@@ -80,45 +87,75 @@ fn found_sites(alloc: Global, image: &Image, notes: &Notes) -> Result<String, No
 }
 
 // Points and sites by their tables.
-fn more(alloc: Global, points: &str, sites: &str) -> Result<More, Halt> {
+fn more(alloc: Global, points: &str, sites: &str) -> Result<More, NoMemory> {
     let points = tables_in(alloc, points, "point")?;
     let sites = tables_in(alloc, sites, "site")?;
     Ok(More { points, sites })
 }
 
 impl<'a> Task<'a> {
-    // The points that are found under the notes with more sites.
-    fn points_under(self, alloc: Global, depths: &Depths, sites: &str) -> Result<String, Halt>
+    // The points that are found under a draft.
+    fn points_in(self, alloc: Global, draft: &Draft) -> Result<String, Halt>
         requires image { IsImage self.linked.image.now }
+        requires conditions { IsNotes draft.now.notes }
+        requires drafted { IsDrafted self draft.now }
+        ensures cause { IfErr result (IsCaused self.entry) }
     {
-        let more = more(alloc, "", sites)?;
-        let draft = self.draft(alloc, depths.found(), more)?;
         found_points(alloc, self.linked.image, &draft.notes)
     }
 
-    // The sites that notes lack, and then the points. The text is filled once more where there are such sites.
-    fn found(self, alloc: Global, depths: &Depths, notes: &Notes) -> Result<More, Halt>
+    // The points that are found under the notes with more sites.
+    fn points_under(self, alloc: Global, depths: &Depths, sites: &str) -> Result<String, Halt>
         requires image { IsImage self.linked.image.now }
-        requires notes { IsNotes notes.now }
+        ensures cause { IfErr result (IsCaused self.entry) }
     {
-        let sites = found_sites(alloc, self.linked.image, notes)?;
-        let points = if sites.is_empty() {
-            found_points(alloc, self.linked.image, notes)?
+        let more = more(alloc, "", sites)?;
+        let draft = self.draft(alloc, depths.found(), more)?;
+        self.points_in(alloc, &draft)
+    }
+
+    // The points that a draft lacks, with these sites. The text is filled once more where there are such sites.
+    fn points(
+        self,
+        alloc: Global,
+        depths: &Depths,
+        draft: &Draft,
+        sites: &str,
+    ) -> Result<String, Halt>
+        requires image { IsImage self.linked.image.now }
+        requires conditions { IsNotes draft.now.notes }
+        requires drafted { IsDrafted self draft.now }
+        ensures cause { IfErr result (IsCaused self.entry) }
+    {
+        if sites.is_empty() {
+            self.points_in(alloc, draft)
         } else {
-            self.points_under(alloc, depths, sites.as_str())?
-        };
-        more(alloc, points.as_str(), sites.as_str())
+            self.points_under(alloc, depths, sites)
+        }
+    }
+
+    // The sites that a draft lacks, and then the points.
+    fn found(self, alloc: Global, depths: &Depths, draft: &Draft) -> Result<More, Halt>
+        requires image { IsImage self.linked.image.now }
+        requires conditions { IsNotes draft.now.notes }
+        requires drafted { IsDrafted self draft.now }
+        ensures cause { IfErr result (IsCaused self.entry) }
+    {
+        let sites = found_sites(alloc, self.linked.image, &draft.notes)?;
+        let points = self.points(alloc, depths, draft, sites.as_str())?;
+        Ok(more(alloc, points.as_str(), sites.as_str())?)
     }
 
     /// The points and sites that the text doesn't have; none where it has points of its own.
     pub fn missing(self, alloc: Global, depths: &Depths) -> Result<More, Halt>
         requires image { IsImage self.linked.image.now }
+        ensures cause { IfErr result (IsCaused self.entry) }
     {
         let draft = self.draft(alloc, depths.found(), no_more(alloc))?;
         if has_items(&draft.filled.table, "point") {
             Ok(no_more(alloc))
         } else {
-            self.found(alloc, depths, &draft.notes)
+            self.found(alloc, depths, &draft)
         }
     }
 }

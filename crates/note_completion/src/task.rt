@@ -1,7 +1,7 @@
 //! A text, and what it is made complete over.
 
-ghost use Rattle.std.specs.Prelude.{◌≡◌};
-ghost use Rattle.note_completion.specs.Halts.{Tells, first_fault};
+ghost use Rattle.std.specs.Prelude.{◌≡◌, IfErr};
+ghost use Rattle.note_completion.specs.Halts.{IsCaused, Tells, first_fault};
 
 use crate::completion::Linked;
 use crate::halt::Halt;
@@ -30,7 +30,8 @@ impl<'a> Task<'a> {
 
     /// Whether the text, in its own order, has the forms and the names of notes.
     pub fn check_forms(self, alloc: Global) -> Result<(), Halt>
-        ensures { Tells result (first_fault self.entry) }
+        ensures faults { Tells result (first_fault self.entry) }
+        ensures cause { IfErr result (IsCaused self.entry) }
     {
         let table = document(alloc, self.text)?;
         check_forms(alloc, self.context(), &self.linked.plan.entry, table)?;

@@ -5,3 +5,5 @@ pub mod RowLaws
 pub mod ListLaws
 pub mod TextLaws
 pub mod DepthLaws
+pub mod OrderLaws
+pub mod CauseLaws

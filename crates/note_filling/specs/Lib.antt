@@ -4,3 +4,5 @@ pub mod Places
 pub mod Rows
 pub mod Kept
 pub mod Views
+pub mod Causes
+pub mod Originals

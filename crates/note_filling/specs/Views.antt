@@ -1,6 +1,6 @@
 -- For proofs: what the steps of a filling leave of a table, of its lists and of the text.
 use Rattle.std.specs.Prelude.{◌≡◌, ◌⊎◌, ℕ, List, [], ◌∷◌, ◌++◌, Option, Some, None, Result, Ok, Err, Vec, false, bytes_eq, codes, map}
-use Rattle.std.specs.Prelude.{IsPermutation, pos}
+use Rattle.std.specs.Prelude.{IsPermutation, pos, slice_get}
 use Rattle.std.specs.declared.alloc.Global.{Global}
 use Rattle.ebc_base.specs.Tables.{is_named}
 use Rattle.label_places.specs.Sought.{place_by}
@@ -17,7 +17,10 @@ use Rattle.note_filling.specs.declared.end.FillEnd.{FillEnd}
 use Rattle.note_filling.specs.declared.end.FillEnd.TheVariants as ends
 use Rattle.note_filling.specs.declared.end.Flaw.{Flaw as Fault}
 use Rattle.note_filling.specs.declared.label.Placed.{Placed}
+use Rattle.note_filling.specs.declared.order.Ranked.{Ranked}
 use Rattle.note_filling.specs.declared.table.Lists.{Lists}
+use Rattle.note_filling.specs.declared.table.Orders.{Orders}
+use Rattle.note_filling.specs.Originals.{IsOrder}
 
 -- the names of the objects, their labels, and the place that a text names by them
 abbrev pub names_in : Context → List (List ℕ)
@@ -63,6 +66,17 @@ IsArranged None [] new = new ≡ None
 IsArranged None (d ∷ ds) (Some new) = IsPermutation (d ∷ ds) (map view new.items)
 IsArranged None (d ∷ ds) None = ⊥
 
+-- the items of a list, none where there is none
+abbrev pub items_from : Option (Vec Value Global) → List Data
+items_from None = []
+items_from (Some values) = map view values.items
+
+-- The items of lists that are put in order had these numbers, with more points and sites behind the others.
+pub record AreOrdered (old : Lists) (more_points more_sites : List Data) (orders : Orders) (new : Lists) : Type 0 where
+  pub functions : IsOrder (items_from old.functions ++ []) orders.functions.items (items_from new.functions)
+  pub points : IsOrder (items_from old.points ++ more_points) orders.points.items (items_from new.points)
+  pub sites : IsOrder (items_from old.sites ++ more_sites) orders.sites.items (items_from new.sites)
+
 -- Lists put in order, with more points and sites.
 pub record AreArranged (old : Lists) (more_points more_sites : List Data) (new : Lists) : Type 0 where
   pub statics : new.statics ≡ old.statics
@@ -70,6 +84,10 @@ pub record AreArranged (old : Lists) (more_points more_sites : List Data) (new :
   pub functions : IsArranged old.functions [] new.functions
   pub points : IsArranged old.points more_points new.points
   pub sites : IsArranged old.sites more_sites new.sites
+
+-- an item stood at its number among these
+abbrev pub Stands : List Data → Ranked → Type 0
+Stands items r = slice_get items r.index ≡ Some (view r.value)
 
 -- ---- the text
 

@@ -1,7 +1,8 @@
 //! A text made of its filled lists.
-ghost use Rattle.std.specs.Prelude.{◌≡◌, IfOk, OnOk, map};
+ghost use Rattle.std.specs.Prelude.{◌≡◌, ◌++◌, IfOk, OnOk, map};
 ghost use Rattle.toml.specs.View.{table_view, view};
-ghost use Rattle.note_filling.specs.Views.{AreArranged, IsArranged, IsAssembled, put_items};
+ghost use Rattle.note_filling.specs.Originals.{IsOrder};
+ghost use Rattle.note_filling.specs.Views.{AreArranged, AreOrdered, IsArranged, IsAssembled, items_from, put_items};
 
 use crate::context::More;
 use crate::members::{number, put, put_missing};
@@ -17,7 +18,8 @@ fn arranged_list(
     items: Option<Vec<Value>>,
     more: Vec<Value>,
 ) -> Result<(Option<Vec<Value>>, Vec<usize>), NoMemory>
-    ensures { IfOk result (λ parts. IsArranged items (map view more.items) parts.0) }
+    ensures arranged { IfOk result (λ parts. IsArranged items (map view more.items) parts.0) }
+    ensures order { IfOk result (λ parts. IsOrder (items_from items ++ map view more.items) parts.1.items (items_from parts.0)) }
 {
     let mut all = match items {
         Some(items) => items,
@@ -32,7 +34,8 @@ fn arranged_list(
 
 /// The lists with functions, points and sites by place, and with more points and sites.
 pub(crate) fn arranged(alloc: Global, lists: Lists, more: More) -> Result<(Lists, Orders), NoMemory>
-    ensures { IfOk result (λ parts. AreArranged lists (map view more.points.items) (map view more.sites.items) parts.0) }
+    ensures arranged { IfOk result (λ parts. AreArranged lists (map view more.points.items) (map view more.sites.items) parts.0) }
+    ensures order { IfOk result (λ parts. AreOrdered lists (map view more.points.items) (map view more.sites.items) parts.1 parts.0) }
 {
     let Lists {
         statics,

@@ -1,8 +1,10 @@
 //! The forms, the repeats and the names of a filled text.
+ghost use Rattle.std.specs.Prelude.{IfErr};
 ghost use Rattle.toml.specs.View.{table_view};
-ghost use Rattle.note_filling.specs.Ends.{Checks};
+ghost use Rattle.note_texts.specs.Outcome.{Gives};
+ghost use Rattle.note_filling.specs.Causes.{HasCause, HasFormFault, forms_of};
 ghost use Rattle.note_filling.specs.Rows.{text_labels};
-ghost use Rattle.note_filling.specs.Views.{Tells, labels_in, names_in};
+ghost use Rattle.note_filling.specs.Views.{Tells, labels_in, names_in, place_in};
 
 use crate::assembling::assembled;
 use crate::context::{Context, Found};
@@ -15,7 +17,10 @@ use std::alloc::Global;
 use toml::Table;
 
 // Whether the forms, the repeats and the names of a text are those of notes.
-fn check_draft(alloc: Global, table: &Table) -> Result<(), NotesEnd> {
+#[tactic(auto, unfolding(crate::specs::Causes::forms_of))]
+fn check_draft(alloc: Global, table: &Table) -> Result<(), NotesEnd>
+    ensures { Gives result (forms_of (table_view table.now)) }
+{
     let draft = read_draft(alloc, table)?;
     let known = number_names(alloc, &draft)?;
     all_known(alloc, &known, &draft)
@@ -33,7 +38,9 @@ pub fn check_forms(
     entry: &Name,
     table: Table,
 ) -> Result<(), FillEnd>
-    ensures { Tells result (text_labels (names_in context.entry) (labels_in context.entry) (table_view table)) }
+    ensures labels { Tells result (text_labels (names_in context.entry) (labels_in context.entry) (table_view table)) }
+    ensures cause { IfErr result (HasCause (text_labels (names_in context.entry) (labels_in context.entry) (table_view table))
+        (HasFormFault (place_in context.entry) (table_view table))) }
 {
     let found = Found {
         levels: &[],

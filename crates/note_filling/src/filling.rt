@@ -1,8 +1,10 @@
 //! The lists of a text, filled and put in order.
-ghost use Rattle.std.specs.Prelude.{◌≡◌, ◌≤◌, IfOk, map};
+ghost use Rattle.std.specs.Prelude.{◌≡◌, ◌≤◌, IfErr, IfOk, map};
 ghost use Rattle.toml.specs.Data.{get_member, members_depth};
 ghost use Rattle.toml.specs.View.{items_view, table_view, view};
+ghost use Rattle.note_filling.specs.Causes.{HasCause, IsTooDeep};
 ghost use Rattle.note_filling.specs.Ends.{Checks};
+ghost use Rattle.note_filling.specs.Originals.{AreOrders};
 ghost use Rattle.note_filling.specs.Kept.{AreKept, IsItemKept, IsTextKept};
 ghost use Rattle.note_filling.specs.Rows.{item_labels, items_labels, list_labels, place_keys, text_labels};
 ghost use Rattle.note_filling.specs.Views.{AreFilledLists, IsFilledList, Tells, labels_in, names_in, place_in};
@@ -200,6 +202,10 @@ pub fn fill(
     ensures kept { IfOk result (λ filled. IsTextKept (place_in context.entry) (map view more.points.items) (map view more.sites.items)
         (table_view table) (table_view filled.table)) }
     ensures shallow { IfOk result (λ filled. members_depth (table_view filled.table) ≤ 80) }
+    ensures orders { IfOk result (λ filled. AreOrders (place_in context.entry) (map view more.points.items) (map view more.sites.items)
+        filled.functions.items filled.points.items filled.sites.items (table_view table) (table_view filled.table)) }
+    ensures cause { IfErr result (HasCause (text_labels (names_in context.entry) (labels_in context.entry) (table_view table))
+        (IsTooDeep (place_in context.entry) (map view more.points.items) (map view more.sites.items) (table_view table))) }
 {
     let lists = filled_lists(alloc, context, found, &table)?;
     let (arranged_lists, orders) = arranged(alloc, lists, more)?;

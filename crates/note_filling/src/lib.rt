@@ -16,6 +16,10 @@
 //!   (`labels`).
 //! - `fill`: tables and arrays nest no deeper in its values than a reader of TOML goes (`shallow`), so that what is
 //!   printed of it reads back. Deeper ones are the fault NotToml.
+//! - `fill`: the numbers that functions, points and sites had in the text, with those handed in behind its own
+//!   (`orders`, `AreOrders`). By them `original_path` gives the path that a key had there (`original_path`).
+//! - A fault that is no label's has a cause (`cause`, `HasCause`). `check_forms` tells one that the text has where it
+//!   is filled in its own order (`HasFormFault`). `fill` tells one where the filled text nests too deep (`IsTooDeep`).
 //!
 //! That counts, ends, levels and needs are those of docs/LABELS.md is no clause: what is printed is checked before.
 #![tactic(auto)]

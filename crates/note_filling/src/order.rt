@@ -1,6 +1,8 @@
 //! Lists in the order of their places, and where each item stood.
-ghost use Rattle.std.specs.Prelude.{◌≡◌, ◌++◌, map, IfOk, IsPermutation};
+ghost use Rattle.std.specs.Prelude.{◌≡◌, map, All, IfOk, IsPermutation};
 ghost use Rattle.toml.specs.View.{view};
+ghost use Rattle.note_filling.specs.Originals.{IsOrder, original_path, renumbered};
+ghost use Rattle.note_filling.specs.Views.{Stands};
 
 use crate::members::number_at;
 use ebc_base::{Name, NoMemory};
@@ -26,25 +28,26 @@ fn place_of(item: &Value) -> Option<u64> {
 
 // The items with their places, those that have none behind all others.
 fn with_places(alloc: Global, items: Vec<Value>) -> Result<Vec<Ranked>, NoMemory>
-    ensures { IfOk result (λ all. map (λ r. view r.value) all.items ≡ map view items.items) }
+    ensures values { IfOk result (λ all. map (λ r. view r.value) all.items ≡ map view items.items) }
+    ensures stood { IfOk result (λ all. All (Stands (map view items.items)) all.items) }
 {
     let mut all = Vec::new(alloc);
-    let mut index = 0usize;
     for value in items {
         let place = place_of(&value).unwrap_or(u64::MAX);
+        let index = all.len();
         all.push(Ranked {
             place,
             index,
             value,
         })?;
-        index = index.wrapping_add(1);
     }
     Ok(all)
 }
 
 // The items, and where each stood.
 fn without_places(alloc: Global, all: Vec<Ranked>) -> Result<(Vec<Value>, Vec<usize>), NoMemory>
-    ensures { IfOk result (λ parts. map view parts.0.items ≡ map (λ r. view r.value) all.items) }
+    ensures values { IfOk result (λ parts. map view parts.0.items ≡ map (λ r. view r.value) all.items) }
+    ensures order { IfOk result (λ parts. parts.1.items ≡ map (λ r. r.index) all.items) }
 {
     let mut values = Vec::new(alloc);
     let mut order = Vec::new(alloc);
@@ -65,7 +68,8 @@ pub(crate) fn by_place(
     alloc: Global,
     items: Vec<Value>,
 ) -> Result<(Vec<Value>, Vec<usize>), NoMemory>
-    ensures { IfOk result (λ parts. IsPermutation (map view items.items) (map view parts.0.items)) }
+    ensures moved { IfOk result (λ parts. IsPermutation (map view items.items) (map view parts.0.items)) }
+    ensures order { IfOk result (λ parts. IsOrder (map view items.items) parts.1.items (map view parts.0.items)) }
 {
     let mut all = with_places(alloc, items)?;
     all.sort_by_key(|item: &Ranked| item.place)?;
@@ -74,12 +78,15 @@ pub(crate) fn by_place(
 }
 
 // The path of an item of a list by the number that it had.
+#[tactic(auto, unfolding(crate::specs::Originals::renumbered))]
 fn renumbered(
     alloc: Global,
     list: &str,
     order: &[usize],
     path: &str,
-) -> Result<Option<Name>, AllocError> {
+) -> Result<Option<Name>, AllocError>
+    ensures { IfOk result (λ original. original ≡ renumbered list.now order.now path.now) }
+{
     let (head, rest) = parts_at(b'[', path);
     if head != list {
         return Ok(None);
@@ -95,7 +102,7 @@ fn renumbered(
         return Ok(None);
     };
     let rest = rest.unwrap_or("");
-    Ok(Some(Name::new(format!(in alloc; "{head}[{index}]{rest}")?)))
+    Ok(Some(Name::new(format!(in alloc; "{list}[{index}]{rest}")?)))
 }
 
 /// The path that a key had before the lists were put in order.
@@ -103,13 +110,16 @@ fn renumbered(
 /// # Errors
 ///
 /// There was no memory.
+#[tactic(auto, unfolding(crate::specs::Originals::original_path))]
 pub fn original_path(
     alloc: Global,
     functions: &[usize],
     points: &[usize],
     sites: &[usize],
     path: Name,
-) -> Result<Name, AllocError> {
+) -> Result<Name, AllocError>
+    ensures { IfOk result (λ original. original ≡ original_path functions.now points.now sites.now path) }
+{
     if let Some(other) = renumbered(alloc, "function", functions, path.as_str())? {
         return Ok(other);
     }

@@ -1,16 +1,26 @@
-use Rattle.std.proofs.Common.{map, subst, sym, IsPermutation}
-use Rattle.std.proofs.lemmas.List.Sorted.{IsPermutation-map}
+use Rattle.std.proofs.Common.{map, subst, sym, All, IsPermutation}
+use Rattle.std.proofs.lemmas.List.Sorted.{All-permutation, IsPermutation-map}
 use Rattle.toml.specs.Data.{Data}
 use Rattle.toml.specs.View.{view}
+use Rattle.note_filling.specs.Views.{Stands}
 use Rattle.note_filling.specs.declared.order.Ranked.{Ranked}
+use Rattle.note_filling.proofs.OrderLaws.{order_by}
 use Rattle.note_filling.proofs.order.by_place.Goals as goal
 
 seen : Ranked → Data
 seen r = view r.value
 
-pub returns : goal.returns
+pub returns-clause-moved : goal.returns-clause-moved
 unfolding seen
-returns c =
+returns-clause-moved c =
     let moved = IsPermutation-map seen c.in_ok-all.all.items c.sort_by_key.new.self.items c.in_ok-sort_by_key.ensures.permutation in
-    subst (λ ys. IsPermutation (map view c.args.items.items) ys) (sym c.in_ok-parts.ensures)
-    (subst (λ xs. IsPermutation xs (map seen c.sort_by_key.new.self.items)) c.in_ok-all.ensures moved)
+    subst (λ ys. IsPermutation (map view c.args.items.items) ys) (sym c.in_ok-parts.ensures.values)
+    (subst (λ xs. IsPermutation xs (map seen c.sort_by_key.new.self.items)) c.in_ok-all.ensures.values moved)
+
+pub returns-clause-order : goal.returns-clause-order
+returns-clause-order c =
+    let items = map view c.args.items.items in
+    let sorted = c.sort_by_key.new.self.items in
+    let stood : All (Stands items) sorted =
+    All-permutation (Stands items) c.in_ok-all.all.items sorted c.in_ok-sort_by_key.ensures.permutation c.in_ok-all.ensures.stood in
+    rw (c.in_ok-parts.ensures.order, c.in_ok-parts.ensures.values) (order_by items sorted stood)
