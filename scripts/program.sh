@@ -11,7 +11,7 @@ fits() {
     VENDOR | DEVICE) [[ $word =~ ^[0-9a-f]{4}$ ]] ;;
     WIDTH) [[ $word =~ ^(32|64)$ ]] ;;
     NUMBER | STEPS) [[ $word =~ ^(0|[1-9][0-9]*)$ ]] ;;
-    N) [[ $word =~ ^[1-9][0-9]*$ ]] ;;
+    N | FIRST | LAST) [[ $word =~ ^[1-9][0-9]*$ ]] ;;
     [a-z]*) [ "$word" = "$part" ] ;;
     *) [ -n "$word" ] ;;
   esac

@@ -18,7 +18,8 @@
 //!   `end_line`.
 //! - `refused_line`, `rule_text`: the line of a rule that fails at a place, and the rule's name, are those of the
 //!   definitions.
-//! - `Place` is displayed as `place_text`, a place in eight hexadecimal digits.
+//! - `Place` is displayed as `place_text`, a place in eight hexadecimal digits, and `ShownSpot` as `spot_text`, where a
+//!   run stands.
 //!
 //! The calls fail only by want of memory, and ask nothing of the notes: a function, a method or a signature that they
 //! don't have has no name, and an `entry` or `method` of one no text.
@@ -33,7 +34,7 @@ mod run;
 mod value;
 
 pub use event::append_event;
-pub use number::Place;
+pub use number::{Place, ShownSpot};
 pub use pair::{ShownPair, pair_text};
 pub use refusal::{refused_line, rule_text};
 pub use run::{ShownRun, append_end, differ_line, run_text, twin_text};

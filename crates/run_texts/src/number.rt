@@ -33,9 +33,9 @@ impl fmt::Display for Wild {
     }
 }
 
-// Where a run stands, as it is printed.
+/// Where a run stands, as it is printed.
 #[derive(Clone, Copy)]
-pub(crate) struct ShownSpot(pub Spot);
+pub struct ShownSpot(pub Spot);
 
 impl fmt::Display for ShownSpot {
     ghost output = { λ s. Some (spot_text s.0) };

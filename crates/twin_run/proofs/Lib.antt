@@ -22,3 +22,4 @@ pub mod Stepping
 pub mod SteppingOn
 pub mod TypedTest
 pub mod Differing
+pub mod WatchingLaws

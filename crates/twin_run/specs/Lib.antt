@@ -9,3 +9,4 @@ pub mod Runner
 pub mod OnItsWay
 pub mod Reported
 pub mod Bound
+pub mod Watching

@@ -15,6 +15,9 @@
 //!   placement that this project takes. The runner counts it, up to 2^64 - 1 (`counted`); a run that ended stays as it
 //!   is, with its count (`over`). `Runner::ending`, `Runner::spot` and `Runner::trace`: exactly what that state shows.
 //!   `Runner::report`: the same, and how many steps the runner counted.
+//! - Between two steps: `Runner::is_hosts_turn`, whether the next one is the host's or the machine's;
+//!   `Runner::registers`, `Runner::has_c`, `Runner::ip`, `Runner::bytes_from`: exactly what the machine and its memory
+//!   hold in that state.
 //! - What a run of two images on one host asks of a runner beside its steps (docs/PAIRS.md, "The rules"):
 //!   `Runner::asked_call`, the call that the host sees asked for, or that it sees none (`place_called`);
 //!   `Runner::bound_call`, the call step of a bound call, which leaves the run as it is (`bound_step`), and the frames
@@ -50,6 +53,7 @@ mod one_run;
 mod reports;
 mod runner;
 mod two_runs;
+mod watching;
 
 ghost use Rattle.std.specs.Prelude.{◌≡◌, ◌↔◌, ℕ, IfOk};
 ghost use Rattle.note_types.specs.Records.{IsNotes};

@@ -220,7 +220,7 @@ impl<const W: usize> Runner<W> {
     }
 
     // Whether a native call that the script answers is under way above the top frame.
-    fn is_called(&self) -> bool
+    pub(crate) fn is_called(&self) -> bool
         requires { 0 < length self.now.frames }
         ensures called { OnTrue result (IsCalled self.now.frames) }
         ensures none { OnFalse result (call_under_way (map saved_of self.now.frames) ≡ NoCall) }

@@ -1,0 +1,119 @@
+-- What is seen of a run before a step and after it is what the step is made of.
+use Rattle.std.proofs.Common.{◌≡◌, ℕ, Bool, true, false, List, drop, length, Option, None, Result, Ok, Err}
+use Rattle.std.proofs.Common.{refl, sym, ap, ◌∙◌, if◌then◌else◌}
+use Rattle.std.specs.Prelude.{OnOk}
+use Rattle.std.specs.Option.{option_and_then, option_map}
+use Rattle.ebc_base.specs.Steps.{◌>>=◌, or_else}
+use Rattle.ebc_decode.specs.Reading.{read}
+use Rattle.ebc_insn.specs.declared.Insn.{Insn}
+use Rattle.ebc_machine.specs.Fetch.{fetched, or_exception}
+use Rattle.host_model.specs.HostSteps.{spot_of}
+use Rattle.host_model.specs.Placements.{own_placement}
+use Rattle.host_model.specs.RunState.{RunState}
+use Rattle.host_model.specs.World.{World}
+use Rattle.note_types.specs.Concrete.{Concrete, rest_from}
+use Rattle.note_types.specs.declared.ending.Ending.{Ending}
+use Rattle.note_types.specs.declared.ending.Ending.TheVariants.{Running, Finished, Raised, Mismatch, ScriptEnd}
+use Rattle.note_types.specs.declared.event.Event.{Event}
+use Rattle.note_types.specs.declared.exception.Exception.TheVariants as raises
+use Rattle.note_types.specs.declared.notes.Notes.{Notes}
+use Rattle.note_types.specs.declared.spot.Spot.{Spot}
+use Rattle.step_texts.specs.StepTexts.{step_text}
+use Rattle.step_texts.specs.declared.step.Step.{Step}
+use Rattle.step_texts.specs.declared.step.Stored.{Stored}
+use Rattle.twin_run.specs.Watching.{has_c, is_hosts_turn}
+use Rattle.run_trace.specs.Steps.{before_of, bytes_of, flag_change, insn_of, laid, next_insn, next_store, register_changes, step_of}
+use Rattle.run_trace.specs.Steps.{stored_in, unless_ended}
+use Rattle.run_trace.specs.Stores.{stored_by}
+use Rattle.run_trace.specs.Traces.{step_lines}
+use Rattle.run_trace.specs.declared.before.Before.{Before}
+use Rattle.run_trace.specs.declared.stores.StoreRange.{StoreRange}
+
+-- ---- the instruction
+
+-- where no object holds ip none is found
+pub none-found : (s : Concrete) → rest_from s s.ip ≡ None → None ≡ insn_of (fetched s)
+unfolding fetched
+none-found s none = sym (ap (λ o. insn_of (or_else raises.MemoryFault o >>= (λ bytes. or_exception (read bytes)))) none)
+
+pub hosts-none : (world : World) (r : RunState) → true ≡ is_hosts_turn world r → None ≡ next_insn world r
+unfolding next_insn
+hosts-none world r hosts = ap (λ b. if b then None else insn_of (fetched r.machine)) hosts
+
+pub machines-insn : (world : World) (r : RunState) (insn : Option Insn) → false ≡ is_hosts_turn world r → insn ≡ insn_of (fetched r.machine)
+    → insn ≡ next_insn world r
+unfolding next_insn
+machines-insn world r insn machines found = found ∙ ap (λ b. if b then None else insn_of (fetched r.machine)) machines
+
+-- ---- what is stored
+
+pub laid-is : (s : Concrete) (range : StoreRange) (o : Option (List ℕ)) → rest_from s range.address ≡ o
+    → option_map (bytes_of range) o ≡ laid s range
+laid-is s range o found = ap (option_map (bytes_of range)) (sym found)
+
+over-none : (e : Ending) (stored : Option Stored) → (e ≡ Running → ⊥) → None ≡ unless_ended e stored
+over-none Running stored over = absurd (over refl)
+over-none (Finished v) stored over = refl
+over-none (Raised x) stored over = refl
+over-none (Mismatch x) stored over = refl
+over-none ScriptEnd stored over = refl
+
+pub ended-stored : (range : Option StoreRange) (s : RunState) (e : Ending) → e ≡ s.ending → (e ≡ Running → ⊥) → None ≡ stored_in range s
+unfolding stored_in
+ended-stored range s e same over = over-none s.ending _ (λ on. over (same ∙ on))
+
+pub running-stored : (range : Option StoreRange) (s : RunState) (e : Ending) (stored : Option Stored) → e ≡ s.ending → e ≡ Running
+    → stored ≡ option_and_then (laid s.machine) range → stored ≡ stored_in range s
+unfolding stored_in
+running-stored range s e stored same on is =
+    is ∙ sym (ap (λ x. unless_ended x (option_and_then (laid s.machine) range)) (sym same ∙ on))
+
+-- ---- the whole
+
+pub before-is : (w : ℕ) (world : World) (r : RunState) (place : Spot) (insn : Option Insn) (store : Option StoreRange)
+    (registers : List ℕ) (c : Bool) (events : ℕ) → place ≡ spot_of world (own_placement w world) r.machine → insn ≡ next_insn world r
+    → store ≡ option_and_then (stored_by w registers) insn → registers ≡ r.machine.registers → c ≡ has_c r.machine
+    → events ≡ length r.trace
+    → record { place = place; insn = insn; store = store; registers = registers; has_c = c; events = events } ≡ before_of w world r
+unfolding before_of next_store
+before-is w world r place insn store registers c events at is stores holds flag many = λ i. record {
+  place = at i;
+  insn = is i;
+  store = (stores ∙ (λ j. option_and_then (stored_by w (holds j)) (is j))) i;
+  registers = holds i;
+  has_c = flag i;
+  events = many i;
+}
+
+pub step-is : (w : ℕ) (world : World) (number : ℕ) (r s : RunState) (before : Before) (changes : List (Option ℕ)) (flag : Option Bool)
+    (stored : Option Stored) (registers : List ℕ) (c : Bool) → before ≡ before_of w world r
+    → changes ≡ register_changes before.registers registers → registers ≡ s.machine.registers
+    → flag ≡ flag_change before.has_c c → c ≡ has_c s.machine → stored ≡ stored_in before.store s
+    → record { number = number; place = before.place; insn = before.insn; registers = changes; flag = flag; stored = stored }
+    ≡ step_of w world number r s
+unfolding before_of step_of
+step-is w world number r s before changes flag stored registers c same changed holds flags carries is = λ i. record {
+  number = number;
+  place = (same i).place;
+  insn = (same i).insn;
+  registers = (changed ∙ (λ j. register_changes (same j).registers (holds j))) i;
+  flag = (flags ∙ (λ j. flag_change (same j).has_c (carries j))) i;
+  stored = (is ∙ ap (λ (b : Before). stored_in b.store s) same) i;
+}
+
+-- so its lines are those of the step
+pub lines-are : (w : ℕ) (world : World) (number : ℕ) (r s : RunState) (notes : Notes) (step : Step) (events : List Event)
+    → world.notes ≡ notes → step ≡ step_of w world number r s → events ≡ drop (length r.trace) s.trace
+    → step_text notes step events ≡ step_lines w world number r s
+unfolding step_lines
+lines-are w world number r s notes step events same is added = λ i. step_text (sym same i) (is i) (added i)
+
+-- the events that were there before are those that the trace had
+pub events-then : (w : ℕ) (world : World) (r : RunState) (before : Before) → before ≡ before_of w world r → before.events ≡ length r.trace
+unfolding before_of
+events-then w world r before same = ap (λ (b : Before). b.events) same
+
+-- what follows where a call went through
+pub on-ok : {A E : Type 0} (r : Result A E) {P Q : Type 0} → OnOk r P → (P → Q) → OnOk r Q
+on-ok (Ok x) holds follows = follows holds
+on-ok (Err e) holds follows = tt

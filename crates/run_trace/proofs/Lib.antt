@@ -1,0 +1,4 @@
+pub mod BeforeLaws
+pub mod StepLaws
+pub mod StoreLaws
+pub mod TraceLaws

@@ -1,0 +1,17 @@
+use Rattle.std.proofs.Common.{◌++◌, ap, drop, ◌∙◌}
+use Rattle.host_model.specs.Placements.{own_placement}
+use Rattle.host_model.specs.Runs.{run_step}
+use Rattle.run_trace.proofs.BeforeLaws.{events-then, lines-are, on-ok}
+use Rattle.run_trace.proofs.telling.tell_step.Goals as goal
+
+pub returns-clause-text : goal.returns-clause-text
+returns-clause-text g c =
+    on-ok c.append_step.result c.append_step.ensures (λ appended world r notes script is.
+    let w = g.row.W in
+    let s = run_step w world (own_placement w world) r in
+    let there = c.step.ensures.step world r notes script is in
+    let same = c.of-before.ensures.before world r script is in
+    let events = c.added-events.ensures ∙ (λ i. drop (events-then w world r c.of-before.result same i)
+    ((c.as_slice.ensures.value ∙ c.trace.ensures world s there) i)) in
+    appended ∙ ap (λ t. c.args.out.now.items ++ t) (lines-are w world c.args.number r s c.args.program.notes.now c.step-step.result
+    c.added-events.result.now notes (c.step-step.ensures.step world r s same there) events))

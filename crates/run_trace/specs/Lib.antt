@@ -1,0 +1,4 @@
+pub mod Steps
+pub mod StoreLaws
+pub mod Stores
+pub mod Traces

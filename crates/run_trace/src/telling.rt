@@ -1,0 +1,128 @@
+//! The steps of a run, told one by one.
+ghost use Rattle.std.specs.Prelude.{◌≡◌, ◌↔◌, ◌+◌, ◌-◌, ◌^◌, ◌<◌, ◌≤◌, ◌++◌, IfOk, IsTrue, OnOk, drop, min};
+ghost use Rattle.ebc_width.specs.Width.{IsWidth};
+ghost use Rattle.host_model.specs.Placements.{own_placement};
+ghost use Rattle.host_model.specs.RunState.{RunState};
+ghost use Rattle.host_model.specs.Runs.{run_step, world_of};
+ghost use Rattle.host_model.specs.Scripts.{IsScript};
+ghost use Rattle.host_model.specs.World.{World};
+ghost use Rattle.note_types.specs.Records.{IsNotes};
+ghost use Rattle.note_types.specs.declared.ending.Ending.TheVariants.{Running};
+ghost use Rattle.pe_image.specs.Images.{IsImage};
+ghost use Rattle.pe_image.specs.Mapped.{AreBytes};
+ghost use Rattle.run_trace.specs.Traces.{step_lines, trace_lines};
+ghost use Rattle.twin_run.specs.Reported.{IsReport};
+ghost use Rattle.twin_run.specs.Runner.{IsRunner, Runs};
+
+use crate::before::Before;
+use note_types::{Ending, Event, NoMemory, Notes, Script};
+use pe_image::Image;
+use std::alloc::Global;
+use step_texts::append_step;
+use twin_run::{RunReport, Runner, start};
+
+// What a run is of: an image under its notes and with a script.
+#[derive(Clone, Copy)]
+struct Program<'a> {
+    image: &'a Image,
+    notes: &'a Notes,
+    script: &'a Script,
+}
+
+// The events from that number on.
+fn added(events: &[Event], first: usize) -> &[Event]
+    ensures { result.now ≡ drop first events.now }
+{
+    events.get(first..).unwrap_or(&[])
+}
+
+// Takes the next step of a run that goes on, and appends its lines: it is the step of that number.
+fn tell_step<const W: usize>(
+    alloc: Global,
+    program: Program,
+    runner: &mut Runner<W>,
+    number: u64,
+    out: &mut Vec<u8>,
+) -> Result<(), NoMemory>
+    requires width { IsWidth W }
+    requires runs { Runs W program.notes.now program.script.now runner.old }
+    requires running { runner.old.ending ≡ Running }
+    ensures step { (world : World) (r : RunState) → world.notes ≡ program.entry.notes.now → world.script ≡ program.entry.script.now → IsRunner W world runner.old r → IsRunner W world runner.new (run_step W world (own_placement W world) r) }
+    ensures counted { runner.new.taken ≡ min (runner.old.taken + 1) (2 ^ 64 - 1) }
+    ensures text { OnOk result ((world : World) (r : RunState) → world.notes ≡ program.entry.notes.now → world.script ≡ program.entry.script.now → IsRunner W world runner.old r → out.new.items ≡ out.old.items ++ step_lines W world number r (run_step W world (own_placement W world) r)) }
+{
+    let before = Before::of(runner, program.notes, program.script);
+    runner.step(program.image, program.notes, program.script);
+    let step = before.step(number, runner);
+    let events = added(runner.trace().as_slice(), before.events);
+    append_step(alloc, program.notes, &step, events, out)
+}
+
+// Takes the next step of a run that goes on, which is that of this number, and appends its lines from a first number on.
+fn next_step<const W: usize>(
+    alloc: Global,
+    program: Program,
+    runner: &mut Runner<W>,
+    number: u64,
+    first: u64,
+    out: &mut Vec<u8>,
+) -> Result<(), NoMemory>
+    requires width { IsWidth W }
+    requires runs { Runs W program.notes.now program.script.now runner.old }
+    requires running { runner.old.ending ≡ Running }
+    ensures step { (world : World) (r : RunState) → world.notes ≡ program.entry.notes.now → world.script ≡ program.entry.script.now → IsRunner W world runner.old r → IsRunner W world runner.new (run_step W world (own_placement W world) r) }
+    ensures counted { runner.new.taken ≡ min (runner.old.taken + 1) (2 ^ 64 - 1) }
+    ensures before { number < first → out.new ≡ out.old }
+    ensures text { first ≤ number → OnOk result ((world : World) (r : RunState) → world.notes ≡ program.entry.notes.now → world.script ≡ program.entry.script.now → IsRunner W world runner.old r → out.new.items ≡ out.old.items ++ step_lines W world number r (run_step W world (own_placement W world) r)) }
+{
+    if number < first {
+        runner.step(program.image, program.notes, program.script);
+        return Ok(());
+    }
+    tell_step(alloc, program, runner, number, out)
+}
+
+// Whether the run of a runner goes on.
+fn goes_on<const W: usize>(runner: &Runner<W>) -> bool
+    ensures { (world : World) (r : RunState) → IsRunner W world runner.now r → IsTrue result ↔ (r.ending ≡ Running) }
+{
+    matches!(runner.ending(), Ending::Running)
+}
+
+/// Runs an image at `W` bytes an address, 4 or 8, under notes and with a script, until the run ends or its step `last` is taken.
+/// Appends the lines of its steps from the step `first` on, which counts from 1, and reports what the run then shows.
+///
+/// # Errors
+///
+/// There is no memory for the run or for the text.
+pub fn trace<const W: usize>(
+    alloc: Global,
+    image: &Image,
+    notes: &Notes,
+    script: &Script,
+    first: u64,
+    last: u64,
+    out: &mut Vec<u8>,
+) -> Result<RunReport, NoMemory>
+    requires width { IsWidth W }
+    requires image { IsImage image.now }
+    requires bytes { AreBytes image.now }
+    requires notes { IsNotes notes.now }
+    requires script { IsScript notes.now script.now }
+    requires first { 1 ≤ first }
+    ensures report { IfOk result (IsReport W image.now (world_of image.now notes.now script.now) last) }
+    ensures text { OnOk result (out.new.items ≡ out.old.items ++ trace_lines W image.now (world_of image.now notes.now script.now) first last) }
+{
+    let mut runner = start::<W>(alloc, image, notes, script)?;
+    let program = Program {
+        image,
+        notes,
+        script,
+    };
+    let mut taken = 0;
+    while taken < last && goes_on(&runner) {
+        taken += 1;
+        next_step(alloc, program, &mut runner, taken, first, out)?;
+    }
+    Ok(runner.report())
+}

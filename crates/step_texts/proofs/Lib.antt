@@ -1,0 +1,2 @@
+pub mod RegisterLines
+mod Rows

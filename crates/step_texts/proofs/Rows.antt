@@ -1,0 +1,97 @@
+-- Worked rows of the definitions: what is printed of steps of the driver of docs/TRACE.md, and of others.
+use Rattle.std.proofs.Common.{◌≡◌, ℕ, List, [], ◌∷◌, Option, Some, None, codes, false, true, refl}
+use Rattle.std.specs.Fmt.{digits}
+use Rattle.asm_text.specs.Mnemonics.{word_of}
+use Rattle.asm_text.specs.Numbers.{hex_text}
+use Rattle.asm_text.specs.Writing.{listed_text}
+use Rattle.ebc_insn.specs.declared.Insn.TheVariants.{Ret}
+use Rattle.note_types.specs.Records.{function_at}
+use Rattle.note_types.specs.declared.event.Event.TheVariants as event
+use Rattle.note_types.specs.declared.notes.FnNote.{FnNote}
+use Rattle.note_types.specs.declared.notes.Notes.{Notes}
+use Rattle.note_types.specs.declared.spot.Spot.{Spot}
+use Rattle.note_types.specs.declared.spot.Spot.TheVariants as spot
+use Rattle.note_types.specs.declared.types.Ty.TheVariants as ty
+use Rattle.note_types.specs.declared.value.Value.TheVariants as value
+use Rattle.run_texts.specs.RunTexts.{place_text, wild_text}
+use Rattle.script_draft.specs.Printed.{named_value, value_text}
+use Rattle.step_texts.specs.declared.step.Step.{Step}
+use Rattle.step_texts.specs.StepTexts.{lines_below, step_text}
+
+-- functions of these names, with their code between these places
+abbrev function : List ℕ → ℕ → ℕ → FnNote
+function name place end = record {
+  name = name;
+  place = place;
+  end = end;
+  level = 0;
+  need = record { n = 0; c = 0 };
+  locals = None;
+  params = [];
+  result = ty.Any;
+  enter = false;
+}
+
+abbrev notes : Notes
+notes = record {
+  version = 1;
+  entry = 0;
+  shape = [];
+  statics = [];
+  thunk = [];
+  point = [];
+  site = [];
+  function = function (codes "main") 0x1000 0x1044 ∷ function (codes "tick") 0x1044 0x104A ∷ [];
+  signature = [];
+  methods = [];
+}
+
+abbrev same : List (Option ℕ)
+same = None ∷ None ∷ None ∷ None ∷ None ∷ None ∷ None ∷ []
+
+-- a step of this number at a place, which gave R0 such a number
+abbrev moved : ℕ → Spot → ℕ → Step
+moved number place top = record {
+  number = number;
+  place = place;
+  insn = None;
+  registers = Some top ∷ same;
+  flag = None;
+  stored = None;
+}
+
+-- a step of this number at a place that changed nothing
+abbrev still : ℕ → Spot → Step
+still number place = record (moved number place 0) { registers = None ∷ same }
+
+a_callback : step_text notes (moved 21 (spot.Place 0x1038) 0x10414C)
+    (event.Entered 1 (record { lent = false; value = value.Int 1 } ∷ []) ∷ [])
+    ≡ codes "step 21 00001038 main+0x38\n  enter tick int 1\n  R0 000000000010414c\n"
+unfolding place_text hex_text value_text named_value digits function_at lines_below
+a_callback = refl
+
+at_the_gate : step_text notes (moved 24 spot.Gate 0x104160) (event.Returned 1 (value.StatusOk 0) ∷ [])
+    ≡ codes "step 24 gate\n  return tick status ok 0\n  R0 0000000000104160\n"
+unfolding place_text hex_text value_text named_value digits function_at lines_below
+at_the_gate = refl
+
+a_store : step_text notes
+    (record (still 2 (spot.Place 0x1044)) {
+      stored = Some (record { address = 0x106190; bytes = record { items = 0x40 ∷ 0 ∷ 0x10 ∷ 0 ∷ [] } });
+    }) []
+    ≡ codes "step 2 00001044 tick+0x0\n  store 0000000000106190 40001000\n"
+unfolding place_text hex_text digits function_at lines_below
+a_store = refl
+
+a_flag : step_text notes (record (still 12 (spot.Place 0x104A)) { flag = Some true }) [] ≡ codes "step 12 0000104a\n  C 1\n"
+unfolding place_text hex_text digits function_at lines_below
+a_flag = refl
+
+a_flag_again : step_text notes (record (still 13 (spot.Place 0xFFFFFFFF)) { flag = Some false }) [] ≡ codes "step 13 ffffffff\n  C 0\n"
+unfolding place_text hex_text digits function_at lines_below
+a_flag_again = refl
+
+outside_the_image : step_text notes (record (still 4 (spot.Wild 0x1040A0)) { insn = Some Ret }) []
+    ≡ codes "step 4 wild 00000000001040a0 RET\n"
+unfolding wild_text hex_text digits lines_below listed_text word_of
+outside_the_image = refl

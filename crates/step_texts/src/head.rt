@@ -1,0 +1,99 @@
+//! The first line of a step: its number, where the run stood, and the instruction.
+ghost use Rattle.std.specs.Prelude.{◌≡◌, ◌++◌, IfSome, OnOk, Some, option_copied};
+ghost use Rattle.ebc_insn.specs.Spelling.{WellFormed};
+ghost use Rattle.note_types.specs.Records.{function_at, has_place};
+ghost use Rattle.step_texts.specs.StepTexts.{function_part, instruction_part, step_line};
+
+use crate::step::Step;
+use asm_text::Listed;
+use ebc_insn::Insn;
+use note_types::{FnNote, NoMemory, Notes, Spot};
+use run_texts::ShownSpot;
+use std::alloc::Global;
+use std::fmt;
+
+// Whether a function's code has a place.
+fn has_place(f: &FnNote, place: u32) -> bool
+    ensures { result ≡ has_place place f.now }
+{
+    f.place <= place && place < f.end
+}
+
+// The function that a place belongs to.
+#[tactic(auto, unfolding(note_types::specs::Records::function_at))]
+fn function_at(notes: &Notes, place: u32) -> Option<&FnNote>
+    ensures { option_copied result ≡ function_at notes.now place }
+{
+    notes
+        .function
+        .as_slice()
+        .iter()
+        .find(|f| has_place(f, place))
+}
+
+// Where a run stands by the function that has the place, behind a space.
+#[derive(Clone, Copy)]
+struct FunctionPart<'a> {
+    notes: &'a Notes,
+    spot: Spot,
+}
+
+impl fmt::Display for FunctionPart<'_> {
+    ghost output = { λ p. Some (function_part p.notes.now p.spot) };
+
+    fn fmt<W: fmt::Write>(&self, f: &mut fmt::Formatter<W>) -> fmt::Result {
+        let Spot::Place(place) = self.spot else {
+            return Ok(());
+        };
+        let Some(function) = function_at(self.notes, place) else {
+            return Ok(());
+        };
+        let name = function.name.as_str();
+        let offset = place.saturating_sub(function.place);
+        write!(f, " {name}+0x{offset:x}")
+    }
+}
+
+// Appends an instruction behind a space, as a listing has it.
+fn append_instruction(alloc: Global, insn: &Option<Insn>, out: &mut Vec<u8>) -> Result<(), NoMemory>
+    requires { IfSome insn.now WellFormed }
+    ensures { OnOk result (out.new.items ≡ out.old.items ++ instruction_part insn.now) }
+{
+    let Some(insn) = insn else {
+        return Ok(());
+    };
+    let listed = Listed::Instruction {
+        insn: *insn,
+        place: None,
+    };
+    out.push(b' ')?;
+    listed.append_text(alloc, out)?;
+    Ok(())
+}
+
+/// Appends the first line of a step.
+///
+/// # Errors
+///
+/// Want of memory alone.
+pub(crate) fn append_head(
+    alloc: Global,
+    notes: &Notes,
+    step: &Step,
+    out: &mut Vec<u8>,
+) -> Result<(), NoMemory>
+    requires { IfSome step.now.insn WellFormed }
+    ensures { OnOk result (out.new.items ≡ out.old.items ++ step_line notes.now step.now) }
+{
+    let number = step.number;
+    let spot = ShownSpot(step.place);
+    let function = FunctionPart {
+        notes,
+        spot: step.place,
+    };
+    let text = format!(in alloc; "step {number} {spot}{function}")?;
+    out.extend_from_slice(text.as_bytes())?;
+    append_instruction(alloc, &step.insn, out)?;
+    out.push(b'\n')?;
+    Ok(())
+}

@@ -1,0 +1,23 @@
+use Rattle.std.proofs.Common.{true, false, refl}
+use Rattle.host_model.specs.HostPlans.{is_due}
+use Rattle.host_model.specs.Progress.{NoCall}
+use Rattle.native_host.proofs.TopLaws.{under-way}
+use Rattle.twin_run.proofs.RunnerLaws.{away_there}
+use Rattle.twin_run.proofs.TurnLaws.{due_there, none_when, other_call}
+use Rattle.twin_run.proofs.WatchingLaws.{turn_of}
+use Rattle.twin_run.proofs.runner.Runner.is_hosts_turn.Goals as goal
+
+pub returns-then-is_called : goal.returns-then-is_called
+returns-then-is_called g c = λ world r script is.
+    let w = g.row.W in
+    let x = c.args.self.now in
+    turn_of world r false _ (is_due world.script r.script) (away_there w world x r is.at c.if-self.false)
+    (other_call w world x r _ is.at (none_when x.asked c.in_default.not-Some) (under-way x.frames c.if-is_called.ensures.called)) refl
+
+pub returns : goal.returns
+returns g c = λ world r script is.
+    let w = g.row.W in
+    let x = c.args.self.now in
+    turn_of world r false NoCall c.due.result (away_there w world x r is.at c.if-self.false)
+    (other_call w world x r NoCall is.at (none_when x.asked c.in_default.not-Some) c.if-is_called.ensures.none)
+    (due_there w world x r c.args.script.now c.due.result is.at script c.due.ensures)
