@@ -1,17 +1,12 @@
 -- The states at the leaders, by their numbers and by their places, when a state is joined in.
-use Rattle.std.proofs.Common.{◌≡◌, ℕ, zero, suc, ◌<◌, Bool, true, false, nat_eq, if◌then◌else◌, List, [], ◌∷◌, ◌++◌, length}
-use Rattle.std.proofs.Common.{get_or, refl, sym, ap, subst, ◌∙◌, arith, get_or-set_same, get_or-set_other, length-set}
-use Rattle.std.specs.Prelude.{Option, None, Some, option_and_then, slice_index, slice_index_or}
-use Rattle.std.specs.List.{Contains}
-use Rattle.std.specs.List.Sorted.{IsStrictlyIncreasing}
-use Rattle.std.proofs.lemmas.Bool.{cond-false, cond-true, eq-eqb, ne_eqb}
-use Rattle.std.proofs.lemmas.Bool.Decides.{nat_tests}
-use Rattle.std.proofs.lemmas.List.Kept.{AllPairs-from_increasing}
-use Rattle.note_types.specs.declared.notes.FnNote.{FnNote}
-use Rattle.note_types.specs.declared.state.State.{State}
-use Rattle.note_join.specs.JoinStates.{taken_in}
-use Rattle.note_infer.specs.Rounds.{IsWithin, States, all_in}
-use Rattle.note_infer.specs.Coming.{ClashesAt, Takes, TakesNumber, given_to, state_at}
+use Rattle.note_infer.proofs.Common.{◌≡◌, ℕ, zero, suc, ◌<◌, Bool, true, false, nat_eq, if◌then◌else◌, List, [], ◌∷◌, ◌++◌, length, get_or}
+use Rattle.note_infer.proofs.Common.{refl, sym, ap, subst, ◌∙◌, arith, get_or-set_same, length-set, Option, None, Some, option_and_then}
+use Rattle.note_infer.proofs.Common.{slice_index, slice_index_or, Contains, IsStrictlyIncreasing, nat_tests, AllPairs-from_increasing}
+use Rattle.note_infer.proofs.Common.{FnNote, State, taken_in, IsWithin, States, all_in, ClashesAt, Takes, given_to, state_at}
+use Rattle.std.proofs.{Common.get_or-set_other, lemmas.Bool.cond-false, lemmas.Bool.cond-true, lemmas.Bool.eq-eqb, lemmas.Bool.ne_eqb}
+use Rattle.rules_flow.specs.Successors.{falls}
+use Rattle.note_infer.specs.Rounds.{given}
+use Rattle.note_infer.specs.Coming.{TakesNumber}
 
 -- numbers that rise, each below all later ones
 abbrev pub Rise : List ℕ → Type 0
@@ -191,3 +186,10 @@ clash_second leaders f first second old mid a h = record {
   within = h.within;
   clash = all_append (first h.leader) (second h.leader) (old h.leader) (mid h.leader) (a.within h.leader h.there h.within) ∙ h.clash;
 }
+
+-- a fall to a place where no leader is gives nothing
+pub takes_fall_apart : (leaders : List ℕ) (f : FnNote) (next : ℕ) (s : State) (old : States) → (Contains leaders next → ⊥)
+    → Takes leaders f (λ (l : ℕ). given l next (falls s)) old old
+takes_fall_apart leaders f next s old none =
+    takes_both leaders f (given_to next s) (λ (l : ℕ). []) old old old (takes_apart leaders f next s old none)
+    (takes_none leaders f (λ (l : ℕ). []) old (λ l c w. refl))

@@ -13,3 +13,4 @@ pub mod RoundEnds
 pub mod Rounds
 pub mod Starting
 pub mod Stopping
+pub mod Turns

@@ -25,8 +25,11 @@
 //!   one is.
 //! - `Coming::take_after`: each leader of the function takes what the instruction gives (`Takes`), or one of them
 //!   clashes.
-//! - `Walk::pass`, `Walk::step`: the instruction meets its rules and what it gives was joined in (`Passes`), or the
-//!   first rule that fails.
+//! - `turn_of`: what an instruction does, told by what changes (`after_turn`), or the first rule of its row that fails.
+//! - `Walk::take_turn`: what the instruction gives was joined in, and the state is the one that falls on; or it clashes,
+//!   and the state is as it was.
+//! - `Walk::pass`, `Walk::step`: the instruction meets its rules, what it gives was joined in (`Passes`), and the state
+//!   is the one that falls on; or the first rule that fails, and the state is as it was.
 //! - `Walk::go`: the round has come past where the walk ended (`HasPassed`), or it is stuck there (`IsStuck`).
 //! - `Rounds::walk_all`: the round has passed all places (`Reached`), or it is stuck.
 //! - `same_state`: whether two states are one.
@@ -54,6 +57,7 @@ mod rounds;
 mod rows;
 mod states;
 mod tables;
+mod turns;
 mod walk;
 
 pub use ebc_base::NoMemory;

@@ -1,21 +1,12 @@
-use Rattle.std.proofs.Common.{ℕ, ◌<◌, List, refl, subst, sym, ◌∙◌, arith}
-use Rattle.std.proofs.lemmas.Option.{none-some}
-use Rattle.note_types.specs.declared.notes.FnNote.{FnNote}
-use Rattle.note_types.specs.declared.notes.Notes.{Notes}
-use Rattle.pe_image.specs.declared.image.Image.{Image}
-use Rattle.note_infer.specs.PointStates.{AreFound}
-use Rattle.note_infer.specs.Rounds.{Begins, HasState, IsStuck, States}
-use Rattle.note_infer.specs.Coming.{state_at}
-use Rattle.note_infer.specs.Passing.{HasPassed}
-use Rattle.note_infer.specs.Reaching.{Reached}
-use Rattle.note_infer.proofs.Chains.{chain_within}
-use Rattle.note_infer.proofs.Going.{alone_more, alone_next, closed_next, has_first, has_next, reached_next, stuck_at}
-use Rattle.note_infer.proofs.Passing.{range_of}
-use Rattle.width_checker.proofs.Leading.{decode_later}
+use Rattle.note_infer.proofs.Common.{◌≡◌, ℕ, ◌<◌, Bool, true, false, Option, Some, ap, State, List, refl, subst, sym, ◌∙◌, arith}
+use Rattle.note_infer.proofs.Common.{none-some, FnNote, Notes, Image, AreFound, Begins, HasState}
+use Rattle.note_infer.proofs.Common.{IsStuck, States, state_at, HasPassed, Reached, decode_later}
+use Rattle.note_infer.specs.Turns.{fall_to}
+use Rattle.note_infer.proofs.walk.Walk.go.Goals.{In-Ok, then-not-falls-via-then-not-falls, then-not-falls-via-else-not-falls+then-self-next}
+use Rattle.note_infer.proofs.{Chains.chain_within, Going.alone_more, Going.alone_next, Going.closed_next, Going.has_first, Going.has_next}
+use Rattle.note_infer.proofs.{Going.reached_next, Going.stuck_at, Passing.range_of}
+use Rattle.note_infer.proofs.walk.Walk.go.Goals.{then-not-falls-via-else-not-falls+else-self-next+then-is_leader}
 use Rattle.note_infer.proofs.walk.Walk.go.Goals as goal
-use Rattle.note_infer.proofs.walk.Walk.go.Goals.{In-Ok}
-use Rattle.note_infer.proofs.walk.Walk.go.Goals.{in_default-via-in-Some+then-next-self+else-not-is_leader}
-use Rattle.note_infer.proofs.walk.Walk.go.Goals.{in_default-via-in-Some+else-next-self, in_default-via-in_default}
 
 pub code_of-code-requires-clause-range : goal.code_of-code-requires-clause-range
 code_of-code-requires-clause-range c = (c.requires.setting.functions c.args.self.now.func c.args.self.now.f.now c.requires.there).range
@@ -65,7 +56,7 @@ pub loop-next-smaller : goal.loop-next-smaller
 loop-next-smaller c =
     let p = c.in-Ok.ensures.steps.1 in
     let later = decode_later c.args.self.now.image.now c.args.self.now.f.now c.loop-next.at c.in-Ok.next c.in-Ok.ensures.steps.0 p.decode in
-    let inside : c.in-Ok.next < c.args.self.now.f.now.end = c.if-next-self.true in
+    let inside : c.in-Ok.next < c.args.self.now.f.now.end = omega (arith, c.if-self-next.false) in
     omega arith
 
 -- the states before were found, and the round has come to the next instruction
@@ -83,8 +74,15 @@ reached_here c =
     reached_next c.args.self.now.image.now c.args.self.now.notes.now c.args.self.now.marked.now leaders c.requires.setting
     (state_at leaders c.loop-next.coming.before.items) (found_here c) c.args.self.now.func c.args.self.now.f.now c.requires.there
     (state_at leaders c.loop-next.coming.states.items) (state_at leaders c.step.new.coming.states.items) c.loop-next.at c.in-Ok.next
-    c.in-Ok.ensures.steps.0 c.loop-next.state c.in-Ok.fall c.loop-next.invariant.reached c.loop-next.invariant.has
-    c.in-Ok.ensures.steps.1
+    c.in-Ok.ensures.steps.0 c.loop-next.state (fall_to c.in-Ok.falls c.step.new.state) c.loop-next.invariant.reached
+    c.loop-next.invariant.has c.in-Ok.ensures.steps.1
+
+-- where control falls on, the state falls on
+falls_on : (b : Bool) (s : State) → b ≡ true → fall_to b s ≡ Some s
+falls_on b s e = ap (λ x. fall_to x s) e
+
+falls_over : (b : Bool) (s t : State) → b ≡ false → fall_to b s ≡ Some t → ⊥
+falls_over b s t e h = none-some t (sym (ap (λ x. fall_to x s) e) ∙ h)
 
 pub loop-next-preserved : goal.loop-next-preserved
 loop-next-preserved c =
@@ -99,24 +97,27 @@ loop-next-preserved c =
     let next : ℕ = c.in-Ok.next in
     let later = decode_later image f c.loop-next.at next c.in-Ok.ensures.steps.0 p.decode in
     let low = c.loop-next.invariant.from in
+    let inside : next < f.end = omega (arith, c.if-self-next.false) in
+    let falls : c.in-Ok.falls ≡ true = let is = c.if-not-falls.false in cc in
     record {
       coming = c.in-Ok.ensures.coming;
       before = c.in-Ok.ensures.before ∙ c.loop-next.invariant.before;
       reached = subst (λ xs. Reached image notes leaders (state_at leaders xs) after next) (sym c.in-Ok.ensures.before) (reached_here h);
-      has = subst (λ xs. HasState image notes leaders (state_at leaders xs) k f next c.in-Some.s) (sym c.in-Ok.ensures.before)
+      has = subst (λ xs. HasState image notes leaders (state_at leaders xs) k f next c.step.new.state) (sym c.in-Ok.ensures.before)
           (has_next image notes c.args.self.now.marked.now leaders c.requires.setting
           (state_at leaders c.loop-next.coming.before.items) (found_here h) k f c.requires.there
           (state_at leaders c.loop-next.coming.states.items) after c.loop-next.at next c.in-Ok.ensures.steps.0
-          c.loop-next.state c.in-Ok.fall c.loop-next.invariant.reached c.loop-next.invariant.has p c.in-Some.s c.in-Some.is
-          c.if-next-self.true (λ l. let yes = c.is_leader.ensures.1 l in let no = c.if-not-is_leader.true in cc));
+          c.loop-next.state (fall_to c.in-Ok.falls c.step.new.state) c.loop-next.invariant.reached c.loop-next.invariant.has p
+          c.step.new.state (falls_on c.in-Ok.falls c.step.new.state falls) inside
+          (λ l. let yes = c.is_leader.ensures.1 l in let no = c.if-is_leader.false in cc));
       from = omega arith;
       alone = alone_next notes leaders c.args.from c.loop-next.at next p.point c.loop-next.invariant.alone
-          (λ l. let yes = c.is_leader.ensures.1 l in let no = c.if-not-is_leader.true in cc);
+          (λ l. let yes = c.is_leader.ensures.1 l in let no = c.if-is_leader.false in cc);
     }
 
-pub returns-in_default-clause-passed : goal.returns-in_default-clause-passed
-returns-in_default-clause-passed c =
-    let h = (goal.at.returns-in_default-clause-passed c).In-Ok in
+pub returns-then-not-falls-clause-passed : goal.returns-then-not-falls-clause-passed
+returns-then-not-falls-clause-passed c =
+    let h = (goal.at.returns-then-not-falls-clause-passed c).In-Ok in
     let image : Image = c.args.self.now.image.now in
     let notes : Notes = c.args.self.now.notes.now in
     let leaders : List ℕ = c.args.self.now.leaders.now in
@@ -136,11 +137,11 @@ returns-in_default-clause-passed c =
       closed = closed_next image notes c.args.self.now.marked.now leaders c.requires.setting
           (state_at leaders c.loop-next.coming.before.items) (found_here h) c.args.self.now.func f c.requires.there
           (state_at leaders c.loop-next.coming.states.items) after c.loop-next.at next c.in-Ok.ensures.steps.0
-          c.loop-next.state c.in-Ok.fall c.loop-next.invariant.reached c.loop-next.invariant.has p
-          (λ t e inside none. elim c.in_default.branch [
-            | in_default-via-in-Some+then-next-self+else-not-is_leader w ↦ none (w.is_leader.ensures.0 w.if-not-is_leader.false)
-            | in_default-via-in-Some+else-next-self w ↦ (let past = w.if-next-self.false in absurd (omega arith))
-            | in_default-via-in_default w ↦ none-some t (sym w.in_default.is ∙ e)
+          c.loop-next.state (fall_to c.in-Ok.falls c.step.new.state) c.loop-next.invariant.reached c.loop-next.invariant.has p
+          (λ t e inside none. elim c.then-not-falls.branch [
+            | then-not-falls-via-then-not-falls w ↦ falls_over c.in-Ok.falls c.step.new.state t (let is = w.if-not-falls.true in cc) e
+            | then-not-falls-via-else-not-falls+then-self-next w ↦ (let past = w.if-self-next.true in absurd (omega arith))
+            | then-not-falls-via-else-not-falls+else-self-next+then-is_leader w ↦ none (w.is_leader.ensures.0 w.if-is_leader.true)
           ]);
     })
 
@@ -150,9 +151,11 @@ returns-in-Err-clause-stuck c =
     let notes : Notes = c.args.self.now.notes.now in
     let leaders : List ℕ = c.args.self.now.leaders.now in
     let f : FnNote = c.args.self.now.f.now in
-    subst (λ xs. IsStuck image notes leaders (state_at leaders xs) c.loop-next.at c.in-Err.rule c.loop-next.state)
+    subst (λ s. IsStuck image notes leaders (state_at leaders c.args.coming.now.before.items) c.loop-next.at c.in-Err.rule s)
+    (sym c.in-Err.ensures.kept)
+    (subst (λ xs. IsStuck image notes leaders (state_at leaders xs) c.loop-next.at c.in-Err.rule c.loop-next.state)
     c.loop-next.invariant.before
     (stuck_at image notes c.args.self.now.marked.now leaders c.requires.setting
     (state_at leaders c.loop-next.coming.before.items) (state_at leaders c.loop-next.coming.states.items) c.args.self.now.func f
     c.requires.there c.loop-next.at c.loop-next.state c.in-Err.rule c.loop-next.invariant.reached c.loop-next.invariant.has
-    c.in-Err.ensures.fails)
+    c.in-Err.ensures.fails))

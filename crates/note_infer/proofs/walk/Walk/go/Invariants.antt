@@ -1,8 +1,4 @@
-use Rattle.std.proofs.Common.{ℕ, ◌≡◌, ◌-◌, ◌<◌, ◌≤◌}
-use Rattle.std.specs.List.{Contains}
-use Rattle.note_infer.specs.Rounds.{HasState}
-use Rattle.note_infer.specs.Coming.{IsComing, state_at}
-use Rattle.note_infer.specs.Reaching.{Reached}
+use Rattle.note_infer.proofs.Common.{ℕ, ◌≡◌, ◌-◌, ◌<◌, ◌≤◌, Contains, HasState, IsComing, state_at, Reached}
 use Rattle.note_infer.proofs.walk.Walk.go.Given as goal
 
 abbrev pub invariant-loop-next : goal.invariant-loop-next

@@ -1,20 +1,13 @@
-use Rattle.std.proofs.Common.{◌≡◌, ℕ, List, Ok, refl, subst, sym, arith}
+use Rattle.note_infer.proofs.Common.{◌≡◌, ℕ, List, Ok, refl, subst, sym, arith, Insn, FnNote, Notes, State, Image, PointHolds}
+use Rattle.note_infer.proofs.Common.{RelocationHolds, reloc_at, spelled_at, here_at, row_of, decode_later, States, marked, state_at}
 use Rattle.std.proofs.lemmas.Result.{err_from_is_err_and}
-use Rattle.ebc_insn.specs.declared.Insn.{Insn}
-use Rattle.note_types.specs.declared.notes.FnNote.{FnNote}
-use Rattle.note_types.specs.declared.notes.Notes.{Notes}
-use Rattle.note_types.specs.declared.state.State.{State}
-use Rattle.pe_image.specs.declared.image.Image.{Image}
-use Rattle.rules_image.specs.Images.{PointHolds, RelocationHolds, reloc_at}
-use Rattle.rules_image.proofs.Decoding.{spelled_at}
-use Rattle.width_checker.specs.Rows.{here_at, row_of}
-use Rattle.width_checker.proofs.Leading.{decode_later}
-use Rattle.note_infer.specs.Rounds.{States, marked}
-use Rattle.note_infer.specs.Coming.{state_at}
+use Rattle.note_infer.proofs.Common.{ClashesAt, FailsIn, IsFirst, Successors, given}
+use Rattle.note_types.specs.declared.rule.RuleName.TheVariants as rule
+use Rattle.note_infer.specs.Turns.{after_turn}
 use Rattle.note_infer.proofs.Failing.{clashes, falls_out, not_relocated, point_inside, row_fails}
 use Rattle.note_infer.proofs.Passing.{clash_in, no_clash_in, other_read, range_of, row_here}
+use Rattle.note_infer.proofs.walk.Walk.pass.Goals.{In_ok-turn}
 use Rattle.note_infer.proofs.walk.Walk.pass.Goals as goal
-use Rattle.note_infer.proofs.walk.Walk.pass.Goals.{In_ok-after}
 
 pub has_no_point-requires-clause-ascend : goal.has_no_point-requires-clause-ascend
 has_no_point-requires-clause-ascend c =
@@ -63,17 +56,17 @@ returns-in_default-clause-fails c =
     subst (λ m. PointHolds m c.args.at c.args.next) g.marks (c.has_no_point.ensures.0 c.if-not-has_no_point.false) in
     not_relocated image notes leaders states k f c.args.at s i c.args.next d point c.in_default.ensures.fails
 
-pub row-requires-clause-ascend : goal.row-requires-clause-ascend
-row-requires-clause-ascend c =
+pub turn_of-requires-clause-ascend : goal.turn_of-requires-clause-ascend
+turn_of-requires-clause-ascend c =
     (other_read c.args.self.now.image.now c.args.self.now.notes.now c.args.self.now.marked.now c.args.self.now.leaders.now
     c.requires.setting).ascends
 
-pub row-requires-clause-well_formed : goal.row-requires-clause-well_formed
-row-requires-clause-well_formed c =
+pub turn_of-requires-clause-well_formed : goal.turn_of-requires-clause-well_formed
+turn_of-requires-clause-well_formed c =
     (spelled_at c.args.self.now.image.now c.args.self.now.f.now c.args.at c.args.next c.args.insn.now c.requires.decode).well_formed
 
-pub returns-in_err-after-clause-fails : goal.returns-in_err-after-clause-fails
-returns-in_err-after-clause-fails c =
+pub returns-in_err-turn-clause-fails : goal.returns-in_err-turn-clause-fails
+returns-in_err-turn-clause-fails c =
     let image : Image = c.args.self.now.image.now in
     let notes : Notes = c.args.self.now.notes.now in
     let leaders : List ℕ = c.args.self.now.leaders.now in
@@ -93,64 +86,80 @@ returns-in_err-after-clause-fails c =
     rw (p.1, p.2)
     (row_fails image notes leaders states k f c.args.at s i c.args.next d point reloc _
     (row_here image notes c.args.self.now.marked.now leaders k c.args.at c.args.next c.in-Ok.reloc s i _ g.marks c.in-Ok.ensures.holds.0
-    c.in_err-after.ensures))
+    c.in_err-turn.ensures.goes))
 
 -- the row was gone through: no leader is inside the instruction, and its relocation is allowed
-point_holds : (c : In_ok-after) → PointHolds (marked c.args.self.now.notes.now c.args.self.now.leaders.now) c.args.at c.args.next
+point_holds : (c : In_ok-turn) → PointHolds (marked c.args.self.now.notes.now c.args.self.now.leaders.now) c.args.at c.args.next
 point_holds c =
     subst (λ m. PointHolds m c.args.at c.args.next) c.requires.setting.marks (c.has_no_point.ensures.0 c.if-not-has_no_point.false)
 
-reloc_holds : (c : In_ok-after) → RelocationHolds c.args.self.now.image.now c.args.self.now.notes.now c.args.at c.args.insn.now
+reloc_holds : (c : In_ok-turn) → RelocationHolds c.args.self.now.image.now c.args.self.now.notes.now c.args.at c.args.insn.now
     c.args.next (reloc_at c.args.self.now.image.now c.args.next)
 reloc_holds c =
     subst (RelocationHolds c.args.self.now.image.now c.args.self.now.notes.now c.args.at c.args.insn.now c.args.next)
     c.in-Ok.ensures.holds.0 c.in-Ok.ensures.holds.1
 
-row_is : (c : In_ok-after) → row_of (marked c.args.self.now.notes.now c.args.self.now.leaders.now)
-    (here_at c.args.self.now.image.now c.args.self.now.func c.args.at c.args.next) c.args.state.now c.args.insn.now ≡ Ok c.in_ok-after.after
+row_is : (c : In_ok-turn) → row_of (marked c.args.self.now.notes.now c.args.self.now.leaders.now)
+    (here_at c.args.self.now.image.now c.args.self.now.func c.args.at c.args.next) c.args.state.now c.args.insn.now
+    ≡ Ok (after_turn c.args.state.now c.in_ok-turn.turn)
 row_is c =
     row_here c.args.self.now.image.now c.args.self.now.notes.now c.args.self.now.marked.now c.args.self.now.leaders.now
-    c.args.self.now.func c.args.at c.args.next c.in-Ok.reloc c.args.state.now c.args.insn.now (Ok c.in_ok-after.after)
-    c.requires.setting.marks c.in-Ok.ensures.holds.0 c.in_ok-after.ensures
+    c.args.self.now.func c.args.at c.args.next c.in-Ok.reloc c.args.state.now c.args.insn.now
+    (Ok (after_turn c.args.state.now c.in_ok-turn.turn))
+    c.requires.setting.marks c.in-Ok.ensures.holds.0 c.in_ok-turn.ensures.goes
 
-pub returns-then-not-take_after-clause-fails : goal.returns-then-not-take_after-clause-fails
-returns-then-not-take_after-clause-fails c =
-    let h = (goal.at.returns-then-not-take_after-clause-fails c).In_ok-after in
+-- what the instruction does
+abbrev turn_is : In_ok-turn → Successors
+turn_is c = after_turn c.args.state.now c.in_ok-turn.turn
+
+-- what it gives clashes
+clash_fails : (c : In_ok-turn) → ClashesAt c.args.self.now.leaders.now c.args.self.now.f.now (λ (l : ℕ). given l c.args.next (turn_is c))
+    (state_at c.args.self.now.leaders.now c.args.coming.now.states.items) → IsFirst (FailsIn c.args.self.now.image.now
+    c.args.self.now.notes.now c.args.self.now.leaders.now (state_at c.args.self.now.leaders.now c.args.coming.now.before.items)
+    c.args.self.now.func c.args.self.now.f.now c.args.at c.args.state.now) rule.Below
+clash_fails c clash =
     let image : Image = c.args.self.now.image.now in
     let notes : Notes = c.args.self.now.notes.now in
     let leaders : List ℕ = c.args.self.now.leaders.now in
     clashes image notes leaders (state_at leaders c.args.coming.now.before.items) c.args.self.now.func c.args.self.now.f.now c.args.at
-    c.args.state.now c.args.insn.now c.args.next c.requires.decode (point_holds h) (reloc_holds h) c.in_ok-after.after (row_is h)
+    c.args.state.now c.args.insn.now c.args.next c.requires.decode (point_holds c) (reloc_holds c) (turn_is c) (row_is c)
     (clash_in image notes leaders (state_at leaders c.args.coming.now.before.items) (state_at leaders c.args.coming.now.states.items)
-    c.args.self.now.func c.args.self.now.f.now c.args.at c.args.next c.in_ok-after.after c.requires.there
-    (omega (arith, c.requires.within)) c.requires.reached c.if-not-take_after.ensures.clash)
+    c.args.self.now.func c.args.self.now.f.now c.args.at c.args.next (turn_is c) c.requires.there
+    (omega (arith, c.requires.within)) c.requires.reached clash)
+
+pub returns-in-None-clause-fails : goal.returns-in-None-clause-fails
+returns-in-None-clause-fails c = clash_fails ((goal.at.returns-in-None-clause-fails c).In_ok-turn) c.in-None.ensures.clash
+
+pub returns-then-does_clash-clause-fails : goal.returns-then-does_clash-clause-fails
+returns-then-does_clash-clause-fails c =
+    clash_fails ((goal.at.returns-then-does_clash-clause-fails c).In_ok-turn) c.if-does_clash.ensures.clash
 
 pub returns-then-not-ends_within-clause-fails : goal.returns-then-not-ends_within-clause-fails
 returns-then-not-ends_within-clause-fails c =
-    let h = (goal.at.returns-then-not-ends_within-clause-fails c).In_ok-after in
+    let h = (goal.at.returns-then-not-ends_within-clause-fails c).In_ok-turn in
     let image : Image = c.args.self.now.image.now in
     let notes : Notes = c.args.self.now.notes.now in
     let leaders : List ℕ = c.args.self.now.leaders.now in
     let f : FnNote = c.args.self.now.f.now in
+    let taken = c.if-does_clash.ensures.taken in
     falls_out image notes leaders (state_at leaders c.args.coming.now.before.items) c.args.self.now.func f c.args.at
-    c.args.state.now c.args.insn.now c.args.next c.requires.decode (point_holds h) (reloc_holds h) c.in_ok-after.after (row_is h)
+    c.args.state.now c.args.insn.now c.args.next c.requires.decode (point_holds h) (reloc_holds h) (turn_is h) (row_is h)
     (no_clash_in image notes leaders (state_at leaders c.args.coming.now.before.items) (state_at leaders c.args.coming.now.states.items)
-    (state_at leaders c.take_after.new.self.states.items) c.args.self.now.func f c.args.at c.args.next c.in_ok-after.after
-    c.requires.there
+    taken.0 c.args.self.now.func f c.args.at c.args.next (turn_is h) c.requires.there
     (range_of image notes c.args.self.now.marked.now leaders c.requires.setting c.args.self.now.func f c.requires.there)
-    (omega (arith, c.requires.within)) c.requires.reached c.if-not-take_after.ensures.taken)
+    (omega (arith, c.requires.within)) c.requires.reached taken.1)
     (λ x. let yes = c.ends_within.ensures.1 x in let is = c.if-not-ends_within.true in cc)
 
-pub returns-clause-passes : goal.returns-clause-passes
-returns-clause-passes c =
-    let h = (goal.at.returns-clause-passes c).In_ok-after in
+pub returns-in-Some-clause-passes : goal.returns-in-Some-clause-passes
+returns-in-Some-clause-passes c =
+    let h = (goal.at.returns-in-Some-clause-passes c).In_ok-turn in
     record {
       decode = c.requires.decode;
       point = point_holds h;
       relocation = reloc_holds h;
-      x = c.in_ok-after.after;
+      x = turn_is h;
       row = row_is h;
-      takes = c.if-not-take_after.ensures.taken;
+      takes = c.in-Some.ensures.taken;
       ends = c.ends_within.ensures.0 c.if-not-ends_within.false;
-      fall_is = refl;
+      fall_is = c.in-Some.ensures.falls;
     }

@@ -1,6 +1,4 @@
-use Rattle.std.proofs.Common.{arith}
-use Rattle.rules_image.proofs.Decoding.{is_decoded, not_decoded}
-use Rattle.note_infer.specs.Coming.{state_at}
+use Rattle.note_infer.proofs.Common.{arith, is_decoded, not_decoded, state_at}
 use Rattle.note_infer.proofs.Failing.{no_insn}
 use Rattle.note_infer.proofs.walk.Walk.step.Goals as goal
 
