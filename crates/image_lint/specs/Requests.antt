@@ -5,10 +5,9 @@ use Rattle.note_types.specs.declared.notes.Notes.{Notes}
 use Rattle.pe_image.specs.declared.image.Image.{Image}
 use Rattle.cli_base.specs.declared.outcome.Outcome.TheVariants.{BadWords}
 use Rattle.cli_base.specs.declared.reply.Reply.{Reply}
-use Rattle.cli_base.specs.Inputs.{image_limit, image_meaning}
 use Rattle.cli_base.specs.Outputs.{prints}
-use Rattle.cli_base.specs.Readings.{FileReading, ◌>>=◌, done, told}
-use Rattle.file_inputs.specs.Inputs.{input, notes_limit, notes_meaning}
+use Rattle.cli_base.specs.Readings.{FileReading, told}
+use Rattle.file_inputs.specs.Inputs.{image_with_notes}
 
 -- the files of the words: an image and its notes
 abbrev pub files_named : List (List ℕ) → Option (List ℕ × List ℕ)
@@ -19,16 +18,9 @@ files_named words = None
 abbrev pub usage_reply : Reply
 usage_reply = prints BadWords (codes "usage: IMAGE NOTES\n")
 
--- an image and its notes: the image is read whole before the notes
-unfoldable pub image_with_notes : List ℕ → List ℕ → Files → FileReading (Image × Notes)
-image_with_notes image_name notes_name files = do
-  image ← input image_limit image_meaning 0 image_name files
-  notes ← input notes_limit notes_meaning 1 notes_name files
-  done (image, notes)
-
 abbrev pub request_for : Option (List ℕ × List ℕ) → Files → FileReading (Image × Notes)
 request_for None files = told (Err usage_reply)
-request_for (Some (image, notes)) files = image_with_notes image notes files
+request_for (Some (image, notes)) files = image_with_notes 0 image notes files
 
 -- the image and the notes that the words ask for, or the reply at which the reading stops
 unfoldable pub request_of : List (List ℕ) → Files → FileReading (Image × Notes)

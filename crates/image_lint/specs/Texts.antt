@@ -14,6 +14,7 @@ kind_text kinds.Divide = codes "divide"
 kind_text kinds.Shift = codes "shift"
 kind_text kinds.Compare = codes "compare"
 kind_text kinds.Break = codes "break"
+kind_text kinds.Unwritten = codes "unwritten"
 
 -- the line of a warning
 unfoldable pub warning_line : Warning → List ℕ

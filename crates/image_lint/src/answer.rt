@@ -1,5 +1,5 @@
 //! The top call: the words, the files, and what is printed.
-ghost use Rattle.std.specs.Prelude.{◌≡◌, ◌≢◌, ◌++◌, ◌↔◌, ◌⊎◌, ℕ, true, None, IfSome, IfNone, IfOk, IfErr, IsErrOf};
+ghost use Rattle.std.specs.Prelude.{◌≡◌, ◌≢◌, ◌++◌, ◌↔◌, ◌⊎◌, ℕ, true, None, IfSome, IfNone, IfOk, IfErr, IsErrOf, option_map};
 ghost use Rattle.ebc_outside.specs.Counts.{Rose};
 ghost use Rattle.cli_base.specs.Outcomes.{IsAnswer, IsWorkAnswer, ReadsAll};
 ghost use Rattle.cli_base.specs.Outputs.{text_of, written_name};
@@ -11,12 +11,12 @@ ghost use Rattle.image_lint.specs.Answers.{Answers, AnswersWords, Decides, Leave
 ghost use Rattle.image_lint.specs.Requests.{files_named, request_of, usage_reply};
 ghost use Rattle.width_checker.specs.Typed.{Typed};
 
-use crate::reading::{files_named, read_image_with_notes};
 use crate::text::warning_lines;
 use cli_base::text::printed;
 use cli_base::{End, Outcome, Output, Reply, finish};
 use ebc_base::NoMemory;
 use ebc_outside::{Folder, Sink};
+use file_inputs::read_image_with_notes;
 use image_warnings::warnings;
 use note_types::Notes;
 use pe_image::Image;
@@ -111,6 +111,18 @@ fn warned_with(outcome: Outcome, warned: bool) -> bool
     }
 }
 
+// The files that the words name: an image and its notes.
+fn files_named(words: &Vec<String>) -> Option<(&str, &str)>
+    ensures { option_map (λ f. (f.0.now, f.1.now)) result ≡ files_named (word_bytes words.now) }
+{
+    match words.as_slice() {
+        [image, notes] if image.len() > 0 && notes.len() > 0 => {
+            Some((image.as_str(), notes.as_str()))
+        }
+        _ => None,
+    }
+}
+
 // The answer to words that name no files.
 fn usage(alloc: Global) -> Result<Reply, AllocError>
     ensures { IfOk result (λ r. r ≡ usage_reply) }
@@ -141,7 +153,7 @@ fn read_request<F: Folder>(
 {
     match files_named(words) {
         None => Err(End::Stop(usage(alloc)?)),
-        Some((image, notes)) => read_image_with_notes(alloc, image, notes, folder),
+        Some((image, notes)) => read_image_with_notes(alloc, folder, 0, image, notes),
     }
 }
 

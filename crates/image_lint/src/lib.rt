@@ -28,7 +28,6 @@
 #![tactic(auto)]
 
 mod answer;
-mod reading;
 mod text;
 
 pub use answer::{Answer, lint};

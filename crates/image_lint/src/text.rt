@@ -17,6 +17,7 @@ pub fn kind_text(kind: Kind) -> &'static str
         Kind::Shift => "shift",
         Kind::Compare => "compare",
         Kind::Break => "break",
+        Kind::Unwritten => "unwritten",
     }
 }
 

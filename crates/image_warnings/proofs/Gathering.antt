@@ -5,33 +5,26 @@ use Rattle.std.specs.List.{AllPairs, Contains}
 use Rattle.std.proofs.lemmas.Bool.{cases_lt}
 use Rattle.std.proofs.lemmas.List.Elements.{Contains-append_cases, Contains-append_left, Contains-append_right}
 use Rattle.std.proofs.lemmas.Option.{same_Some, slice_get_within}
-use Rattle.ebc_insn.specs.declared.Insn.{Insn}
 use Rattle.note_types.specs.declared.notes.FnNote.{FnNote}
 use Rattle.note_types.specs.declared.notes.Notes.{Notes}
-use Rattle.note_types.specs.declared.state.State.{State}
 use Rattle.pe_image.specs.declared.image.Image.{Image}
-use Rattle.rules_image.specs.Images.{FunctionHolds, IsDecoded}
-use Rattle.rules_image.specs.Places.{IsPlaceOf, Leads}
-use Rattle.rules_image.proofs.Decoding.{decoded_once}
-use Rattle.width_checker.specs.StatesAt.{StateAt}
+use Rattle.rules_image.specs.Images.{FunctionHolds}
+use Rattle.rules_image.specs.Places.{Leads}
 use Rattle.width_checker.proofs.Deciding.{function_before, place_within}
-use Rattle.width_checker.proofs.Leading.{OnePoint, decode_later, leads_of, places_before, start_first, state_one}
+use Rattle.width_checker.proofs.Leading.{OnePoint, decode_later, places_before, start_first}
 use Rattle.image_warnings.specs.Departures.{departs}
-use Rattle.image_warnings.specs.Uncut.{UncutAt}
+use Rattle.image_warnings.specs.Around.{IsAround}
+use Rattle.image_warnings.specs.Stored.{InsnAt}
 use Rattle.image_warnings.specs.Warned.{AreWarnings, IsWarned, IsWarnedIn, Precedes, all_due, turn, warnings_at}
 use Rattle.image_warnings.specs.Walks.{WarnedBefore, WarnedTo}
+use Rattle.image_warnings.specs.declared.departure.Around.{Around}
 use Rattle.image_warnings.specs.declared.warning.Kind.{Kind}
 use Rattle.image_warnings.specs.declared.warning.Warning.{Warning}
 use Rattle.image_warnings.proofs.Ordering.{Ordered, due_sound, due_whole, no_element, turn_small, with_all}
-use Rattle.image_warnings.proofs.UncutLaws.{uncut_at_one}
+use Rattle.image_warnings.proofs.AroundLaws.{one_around}
+use Rattle.image_warnings.proofs.Standing.{one_insn, one_next, one_state, place_of}
 
 -- ---- one place
-
--- a place at which something departs is one of the function's
-place_of : (image : Image) (notes : Notes) (func : ℕ) (f : FnNote) (w : Warning) → IsWarnedIn image notes func f w
-    → IsPlaceOf image f w.place
-place_of image notes func f w i =
-    let s = i.has_state in (s.count, leads_of image notes func f s.count w.place s.come s.comes)
 
 -- warnings in order are so before a place
 ordered_to : (place : ℕ) (ws : List Warning) → AllPairs Precedes ws → ((w : Warning) → Contains ws w → w.place < place)
@@ -43,64 +36,59 @@ ordered_to place ws pairs below = record {
 
 -- the warnings of one more place are gathered
 module _ (image : Image) (notes : Notes) (one : OnePoint notes) (func : ℕ) (f : FnNote) (there : slice_get notes.function func ≡ Some f)
-    (place next n : ℕ) (leads : Leads image f n place) (i : Insn) (decode : IsDecoded image f place i next) (s : State)
-    (has_state : StateAt image notes func f place s) (uncut : Bool) (is_uncut : UncutAt image f place uncut) where
+    (place n : ℕ) (leads : Leads image f n place) (at : InsnAt image notes func f place) (around : Around)
+    (is_around : IsAround image notes f place at.state at.insn at.next around) where
   -- whether something departs there
   abbrev departs_so : Kind → Bool
-  departs_so kind = departs kind notes func f s uncut i
+  departs_so kind = departs kind notes func f at.state around at.insn
+
+  due_in : (w : Warning) → w.place ≡ place → departs_so w.kind ≡ true → IsWarnedIn image notes func f w
+  due_in w same holds =
+      let here : IsWarnedIn image notes func f (record { place = place; kind = w.kind }) =
+      record { at = at; around = around; is_around = is_around; holds = holds } in
+      subst (λ p. IsWarnedIn image notes func f (record { place = p; kind = w.kind })) (sym same) here
 
   due_warned : (w : Warning) → Contains (all_due place departs_so) w → IsWarned image notes w
   due_warned w c =
       let h = due_sound place departs_so w c in
-      let at : place ≡ w.place = sym h.0 in
-      record {
-        func = func;
-        f = f;
-        there = there;
-        warned = record {
-          insn = i;
-          next = next;
-          decode = subst (λ p. IsDecoded image f p i next) at decode;
-          state = s;
-          has_state = subst (λ p. StateAt image notes func f p s) at has_state;
-          uncut = uncut;
-          is_uncut = subst (λ p. UncutAt image f p uncut) at is_uncut;
-          holds = h.1;
-        };
-      }
+      record { func = func; f = f; there = there; warned = due_in w h.0 h.1 }
 
   -- it departs by what was found there
-  found_departs : (w : Warning) → IsWarnedIn image notes func f w → w.place ≡ place → departs_so w.kind ≡ true
-  found_departs w h at =
-      let decode_here : IsDecoded image f place h.insn h.next = subst (λ p. IsDecoded image f p h.insn h.next) at h.decode in
-      let state_here : StateAt image notes func f place h.state = subst (λ p. StateAt image notes func f p h.state) at h.has_state in
-      let uncut_here : UncutAt image f place h.uncut = subst (λ p. UncutAt image f p h.uncut) at h.is_uncut in
-      let insn : h.insn ≡ i = (decoded_once image f place h.insn i h.next next decode_here decode).0 in
-      let state : h.state ≡ s = state_one image notes func f one place h.state s state_here has_state in
-      let is : h.uncut ≡ uncut = uncut_at_one image f place h.uncut uncut uncut_here is_uncut in
-      subst (λ x. departs w.kind notes func f s uncut x ≡ true) insn
-      (subst (λ u. departs w.kind notes func f s u h.insn ≡ true) is
-      (subst (λ t. departs w.kind notes func f t h.uncut h.insn ≡ true) state h.holds))
+  found_departs : (kind : Kind) → IsWarnedIn image notes func f (record { place = place; kind = kind }) → departs_so kind ≡ true
+  found_departs kind h =
+      let insn : h.at.insn ≡ at.insn = one_insn image notes func f place h.at at in
+      let next : h.at.next ≡ at.next = one_next image notes func f place h.at at in
+      let state : h.at.state ≡ at.state = one_state image notes func f place one h.at at in
+      let found : IsAround image notes f place at.state at.insn at.next h.around =
+      subst (λ k. IsAround image notes f place at.state at.insn k h.around) next
+      (subst (λ i. IsAround image notes f place at.state i h.at.next h.around) insn
+      (subst (λ s. IsAround image notes f place s h.at.insn h.at.next h.around) state h.is_around)) in
+      let same : h.around ≡ around = one_around image notes f place at.state at.insn at.next h.around around found is_around in
+      subst (λ i. departs kind notes func f at.state around i ≡ true) insn
+      (subst (λ a. departs kind notes func f at.state a h.at.insn ≡ true) same
+      (subst (λ s. departs kind notes func f s h.around h.at.insn ≡ true) state h.holds))
 
   warned_due : (w : Warning) → IsWarnedIn image notes func f w → w.place ≡ place → Contains (all_due place departs_so) w
-  warned_due w h at =
+  warned_due w h same =
+      let here : IsWarnedIn image notes func f (record { place = place; kind = w.kind }) =
+      subst (λ p. IsWarnedIn image notes func f (record { place = p; kind = w.kind })) same h in
       let c : Contains (all_due place departs_so) (record { place = place; kind = w.kind }) =
-      due_whole place departs_so w.kind (found_departs w h at) in
-      subst (λ p. Contains (all_due place departs_so) (record { place = p; kind = w.kind })) (sym at) c
+      due_whole place departs_so w.kind (found_departs w.kind here) in
+      subst (λ p. Contains (all_due place departs_so) (record { place = p; kind = w.kind })) (sym same) c
 
   pub gathered : (ws : List Warning) → WarnedTo image notes func f place ws
-      → WarnedTo image notes func f next (ws ++ warnings_at place notes func f s uncut i)
+      → WarnedTo image notes func f at.next (ws ++ warnings_at place notes func f at.state around at.insn)
   gathered ws to =
-      let later : place < next = decode_later image f place next i decode in
+      let later : place < at.next = decode_later image f place at.next at.insn at.decode in
       let more : List Warning = all_due place departs_so in
       let ordered : Ordered (8 * place + 8) (ws ++ more) = with_all place departs_so ws (ordered_to place ws to.ordered to.below) in
       record {
         sound = λ w c. ⊎_elim (to.sound w) (due_warned w) (Contains-append_cases ws more w c);
         whole = λ k g less found w h. Contains-append_left ws more w (to.whole k g less found w h);
-        here = λ w h less. let p = place_of image notes func f w h in
+        here = λ w h less. let p = place_of image notes func f w.place h.at in
             ⊎_elim (λ before. Contains-append_left ws more w (to.here w h before))
             (λ same. Contains-append_right ws more w (warned_due w h same))
-            (places_before image f n p.0 place w.place next i leads decode p.1 less);
+            (places_before image f n p.0 place w.place at.next at.insn leads at.decode p.1 less);
         ordered = ordered.pairs;
         below = λ w c. ⊎_elim (λ old. let h : w.place < place = to.below w old in omega arith)
             (λ new. let h : w.place ≡ place = (due_sound place departs_so w new).0 in omega arith) (Contains-append_cases ws more w c);
@@ -122,7 +110,8 @@ module _ (image : Image) (notes : Notes) (all : (k : ℕ) → FunctionHolds imag
   gathered_start b = record {
     sound = b.sound;
     whole = b.whole;
-    here = λ w h less. absurd (let p = place_of image notes func f w h in let first = start_first image f p.0 w.place p.1 in omega arith);
+    here = λ w h less.
+        absurd (let p = place_of image notes func f w.place h.at in let first = start_first image f p.0 w.place p.1 in omega arith);
     ordered = b.ordered;
     below = λ w c. b.below w c func f (omega arith) there;
   }
@@ -138,7 +127,7 @@ module _ (image : Image) (notes : Notes) (all : (k : ℕ) → FunctionHolds imag
         let one : g ≡ f = same_Some g f (sym at ∙ there) in
         let mine : IsWarnedIn image notes func f w =
         subst (λ x. IsWarnedIn image notes func x w) one (subst (λ j. IsWarnedIn image notes j g w) same h) in
-        let p = place_of image notes func f w mine in
+        let p = place_of image notes func f w.place mine.at in
         let inside : w.place < f.end = place_within image notes all func f there p.0 w.place p.1 in
         to.here w mine (omega arith))
         (cases_lt k func);

@@ -41,7 +41,8 @@ module _ (place : ℕ) (departs : Kind → Bool) where
       (either _ _ w (one_due kinds.Divide (departs kinds.Divide) refl w)
       (either _ _ w (one_due kinds.Shift (departs kinds.Shift) refl w)
       (either _ _ w (one_due kinds.Compare (departs kinds.Compare) refl w)
-      (one_due kinds.Break (departs kinds.Break) refl w)))))
+      (either _ _ w (one_due kinds.Break (departs kinds.Break) refl w)
+      (one_due kinds.Unwritten (departs kinds.Unwritten) refl w))))))
 
   is_due : (kind : Kind) (b : Bool) → b ≡ true → Contains (due place kind b) (record { place = place; kind = kind })
   is_due kind false e = absurd (cc)
@@ -54,8 +55,11 @@ module _ (place : ℕ) (departs : Kind → Bool) where
   abbrev due_of : Kind → List Warning
   due_of kind = due place kind (departs kind)
 
+  abbrev from_break : List Warning
+  from_break = due_of kinds.Break ++ due_of kinds.Unwritten
+
   abbrev from_compare : List Warning
-  from_compare = due_of kinds.Compare ++ due_of kinds.Break
+  from_compare = due_of kinds.Compare ++ from_break
 
   abbrev from_shift : List Warning
   from_shift = due_of kinds.Shift ++ from_compare
@@ -85,11 +89,16 @@ module _ (place : ℕ) (departs : Kind → Bool) where
   due_whole kinds.Compare e =
       later kinds.Status from_popn (of_kind kinds.Compare) (later kinds.Popn from_divide (of_kind kinds.Compare)
       (later kinds.Divide from_shift (of_kind kinds.Compare) (later kinds.Shift from_compare (of_kind kinds.Compare)
-      (first kinds.Compare (due_of kinds.Break) e))))
+      (first kinds.Compare from_break e))))
   due_whole kinds.Break e =
       later kinds.Status from_popn (of_kind kinds.Break) (later kinds.Popn from_divide (of_kind kinds.Break)
       (later kinds.Divide from_shift (of_kind kinds.Break) (later kinds.Shift from_compare (of_kind kinds.Break)
-      (later kinds.Compare (due_of kinds.Break) (of_kind kinds.Break) (is_due kinds.Break (departs kinds.Break) e)))))
+      (later kinds.Compare from_break (of_kind kinds.Break) (first kinds.Break (due_of kinds.Unwritten) e)))))
+  due_whole kinds.Unwritten e =
+      later kinds.Status from_popn (of_kind kinds.Unwritten) (later kinds.Popn from_divide (of_kind kinds.Unwritten)
+      (later kinds.Divide from_shift (of_kind kinds.Unwritten) (later kinds.Shift from_compare (of_kind kinds.Unwritten)
+      (later kinds.Compare from_break (of_kind kinds.Unwritten) (later kinds.Break (due_of kinds.Unwritten) (of_kind kinds.Unwritten)
+      (is_due kinds.Unwritten (departs kinds.Unwritten) e))))))
 
 -- ---- their order
 
@@ -105,6 +114,7 @@ turn_small kinds.Divide = omega arith
 turn_small kinds.Shift = omega arith
 turn_small kinds.Compare = omega arith
 turn_small kinds.Break = omega arith
+turn_small kinds.Unwritten = omega arith
 
 wider : (most more : ℕ) (ws : List Warning) → most ≤ more → Ordered most ws → Ordered more ws
 wider most more ws le o = record { pairs = o.pairs; below = λ w c. let h : rank w < most = o.below w c in omega arith }
@@ -138,6 +148,7 @@ with_all place departs ws o =
     let d : List Warning = due place kinds.Shift (departs kinds.Shift) in
     let e : List Warning = due place kinds.Compare (departs kinds.Compare) in
     let f : List Warning = due place kinds.Break (departs kinds.Break) in
+    let g : List Warning = due place kinds.Unwritten (departs kinds.Unwritten) in
     let p1 : Ordered (8 * place + 0 + 1) (ws ++ a) =
     with_due (8 * place) place kinds.Status (departs kinds.Status) ws (omega arith) o in
     let p2 : Ordered (8 * place + 2 + 1) ((ws ++ a) ++ b) =
@@ -150,9 +161,13 @@ with_all place departs ws o =
     with_due (8 * place + 4 + 1) place kinds.Compare (departs kinds.Compare) ((((ws ++ a) ++ b) ++ c) ++ d) (omega arith) p4 in
     let p6 : Ordered (8 * place + 6 + 1) ((((((ws ++ a) ++ b) ++ c) ++ d) ++ e) ++ f) =
     with_due (8 * place + 5 + 1) place kinds.Break (departs kinds.Break) (((((ws ++ a) ++ b) ++ c) ++ d) ++ e) (omega arith) p5 in
-    let q5 = behind _ ((((ws ++ a) ++ b) ++ c) ++ d) e f p6 in
-    let q4 = behind _ (((ws ++ a) ++ b) ++ c) d (e ++ f) q5 in
-    let q3 = behind _ ((ws ++ a) ++ b) c (d ++ (e ++ f)) q4 in
-    let q2 = behind _ (ws ++ a) b (c ++ (d ++ (e ++ f))) q3 in
-    let q1 = behind _ ws a (b ++ (c ++ (d ++ (e ++ f)))) q2 in
-    wider (8 * place + 6 + 1) (8 * place + 8) (ws ++ (a ++ (b ++ (c ++ (d ++ (e ++ f)))))) (omega arith) q1
+    let p7 : Ordered (8 * place + 7 + 1) (((((((ws ++ a) ++ b) ++ c) ++ d) ++ e) ++ f) ++ g) =
+    with_due (8 * place + 6 + 1) place kinds.Unwritten (departs kinds.Unwritten) ((((((ws ++ a) ++ b) ++ c) ++ d) ++ e) ++ f) (omega arith)
+    p6 in
+    let q6 = behind _ (((((ws ++ a) ++ b) ++ c) ++ d) ++ e) f g p7 in
+    let q5 = behind _ ((((ws ++ a) ++ b) ++ c) ++ d) e (f ++ g) q6 in
+    let q4 = behind _ (((ws ++ a) ++ b) ++ c) d (e ++ (f ++ g)) q5 in
+    let q3 = behind _ ((ws ++ a) ++ b) c (d ++ (e ++ (f ++ g))) q4 in
+    let q2 = behind _ (ws ++ a) b (c ++ (d ++ (e ++ (f ++ g)))) q3 in
+    let q1 = behind _ ws a (b ++ (c ++ (d ++ (e ++ (f ++ g))))) q2 in
+    wider (8 * place + 7 + 1) (8 * place + 8) (ws ++ (a ++ (b ++ (c ++ (d ++ (e ++ (f ++ g))))))) (omega arith) q1

@@ -1,24 +1,33 @@
 -- The walk through a function of a typed image: from one instruction to the next.
-use Rattle.std.proofs.Common.{◌≡◌, ℕ, ◌+◌, ◌<◌, ◌≤◌, List, ◌++◌, refl, sym, ap, subst, ◌∙◌}
+use Rattle.std.proofs.Common.{◌≡◌, ℕ, ◌+◌, ◌<◌, ◌≤◌, List, ◌++◌, refl, sym, ap, subst, ◌∙◌, arith}
 use Rattle.std.specs.Prelude.{Bool, Option, None, Some, IfSome}
+use Rattle.std.proofs.lemmas.Option.{none-some}
 use Rattle.ebc_insn.specs.Spelling.{WellFormed}
 use Rattle.ebc_insn.specs.declared.Insn.{Insn}
 use Rattle.note_types.specs.declared.notes.FnNote.{FnNote}
 use Rattle.note_types.specs.declared.notes.Notes.{Notes}
 use Rattle.pe_image.specs.declared.image.Image.{Image}
+use Rattle.rules_image.specs.Places.{Leads}
 use Rattle.rules_image.proofs.Decoding.{spelled_at}
-use Rattle.state_walk.specs.Standing.{IsWalk, StandsBefore}
+use Rattle.state_walk.specs.Standing.{Decodes, GoesOn, HasDecoded, IsWalk, StandsBefore}
 use Rattle.state_walk.specs.declared.preceding.Before.{Before}
 use Rattle.state_walk.proofs.Standing.{insn_there, meets_state}
 use Rattle.width_checker.specs.Typed.{MeetsRules, Typed}
-use Rattle.width_checker.proofs.Leading.{OnePoint, leads_of}
+use Rattle.width_checker.proofs.Leading.{OnePoint, decode_later, leads_of}
 use Rattle.width_checker.proofs.Points.{one_point}
 use Rattle.width_checker.proofs.Walking.{place_of_comes}
+use Rattle.image_warnings.specs.Around.{around_of}
+use Rattle.image_warnings.specs.Fields.{stored_field, with_field}
+use Rattle.image_warnings.specs.Stored.{AreStored, InsnAt, StoredBefore, StoredTo, with_stored}
 use Rattle.image_warnings.specs.Uncut.{UncutAt, uncut_after}
-use Rattle.image_warnings.specs.Walks.{WarnedBefore, WarnedTo, uncut_behind, warnings_of}
+use Rattle.image_warnings.specs.Walks.{WarnedBefore, WarnedTo, insn_of, uncut_behind, warnings_of}
 use Rattle.image_warnings.specs.Warned.{warnings_at}
+use Rattle.image_warnings.specs.declared.departure.Around.{Around}
+use Rattle.image_warnings.specs.declared.field.ObjectField.{ObjectField}
 use Rattle.image_warnings.specs.declared.warning.Warning.{Warning}
+use Rattle.image_warnings.proofs.AroundLaws.{StandsBehind, around_found}
 use Rattle.image_warnings.proofs.Gathering.{gathered, gathered_end}
+use Rattle.image_warnings.proofs.Storing.{stored_end, stored_more}
 use Rattle.image_warnings.proofs.UncutLaws.{uncut_next}
 
 if_insn : (o : Option (Insn × ℕ)) → ((i : Insn) (next : ℕ) → o ≡ Some (i, next) → WellFormed i) → IfSome o (λ p. WellFormed p.0)
@@ -36,18 +45,60 @@ module _ (image : Image) (notes : Notes) (func : ℕ) (f : FnNote) (walk : IsWal
   pub is_well_formed : IfSome b.insn (λ p. WellFormed p.0)
   is_well_formed = if_insn b.insn (λ i next e. (spelled_at image f b.place next i (s.insn.insn i next e)).well_formed)
 
-  pub passed : (uncut : Bool) (ws more : List Warning) → UncutAt image f b.place uncut → WarnedTo image notes func f b.place ws
-      → more ≡ ws ++ warnings_of b.place notes func f uncut b.state b.insn → WarnedTo image notes func f meets.next more
-  passed uncut ws more u to e =
-      let m : MeetsRules image notes func f b.place = meets in
-      let state : b.state ≡ Some m.state = meets_state image notes func f b m one_place s in
-      let insn : b.insn ≡ Some (m.insn, m.next) = insn_there image notes func f b m s.whole in
-      let same : more ≡ ws ++ warnings_at b.place notes func f m.state uncut m.insn =
-      e ∙ (ap (λ o. ws ++ warnings_of b.place notes func f uncut o b.insn) state
-      ∙ ap (λ o. ws ++ warnings_of b.place notes func f uncut (Some m.state) o) insn) in
-      subst (WarnedTo image notes func f m.next) (sym same)
-      (gathered image notes one_place func f walk.there b.place m.next s.comes.0
-      (leads_of image notes func f s.comes.0 b.place b.arrived s.comes.1) m.insn m.decode m.state m.has_state uncut u ws to)
+  -- what stands there
+  abbrev standing : InsnAt image notes func f b.place
+  standing = record {
+    insn = meets.insn;
+    next = meets.next;
+    decode = meets.decode;
+    state = meets.state;
+    has_state = meets.has_state;
+  }
+
+  leads : Leads image f s.comes.0 b.place
+  leads = leads_of image notes func f s.comes.0 b.place b.arrived s.comes.1
+
+  state_is : b.state ≡ Some meets.state
+  state_is = meets_state image notes func f b meets one_place s
+
+  insn_is : b.insn ≡ Some (meets.insn, meets.next)
+  insn_is = insn_there image notes func f b meets s.whole
+
+  -- what stands behind it is that of the next place
+  pub behind_found : (next : Option Before) → IfSome next (StandsBefore image notes func f) → GoesOn image notes func f b.place next
+      → StandsBehind image f meets.next (insn_of next)
+  behind_found None stands goes = record {
+    decodes = λ i n e. absurd (none-some (i, n) e);
+    whole = λ i n d. absurd (let past : f.end ≤ meets.next = goes meets in let later = decode_later image f meets.next n i d in
+        let within : n ≤ f.end = d.within in omega arith);
+  }
+  behind_found (Some c) stands goes = record {
+    decodes = subst (λ p. Decodes image f p c.insn) (goes meets) stands.insn.insn;
+    whole = subst (λ p. HasDecoded image f p c.insn) (goes meets) stands.whole.insn;
+  }
+
+  pub passed : (fields : List ObjectField) (uncut : Bool) (behind : Option (Insn × ℕ)) (ws more : List Warning)
+      → AreStored image notes fields → UncutAt image f b.place uncut → StandsBehind image f meets.next behind
+      → WarnedTo image notes func f b.place ws → more ≡ ws ++ warnings_of fields b.place notes func f uncut behind b.state b.insn
+      → WarnedTo image notes func f meets.next more
+  passed fields uncut behind ws more all u stands to e =
+      let around : Around = around_of fields uncut behind notes f meets.state meets.insn in
+      let same : more ≡ ws ++ warnings_at b.place notes func f meets.state around meets.insn =
+      e ∙ (ap (λ o. ws ++ warnings_of fields b.place notes func f uncut behind o b.insn) state_is
+      ∙ ap (λ o. ws ++ warnings_of fields b.place notes func f uncut behind (Some meets.state) o) insn_is) in
+      subst (WarnedTo image notes func f meets.next) (sym same)
+      (gathered image notes one_place func f walk.there b.place s.comes.0 leads standing around
+      (around_found image notes f b.place meets.state meets.insn meets.next fields uncut behind all u stands) ws to)
+
+  -- and the field into which it stores is gathered
+  pub stored_passed : (fields more : List ObjectField) → StoredTo image notes func f b.place fields
+      → more ≡ with_stored fields notes f b.state b.insn → StoredTo image notes func f meets.next more
+  stored_passed fields more to e =
+      let same : more ≡ with_field fields (stored_field notes f meets.state meets.insn) =
+      e ∙ (ap (λ o. with_stored fields notes f o b.insn) state_is
+      ∙ ap (λ o. with_stored fields notes f (Some meets.state) o) insn_is) in
+      subst (StoredTo image notes func f meets.next) (sym same)
+      (stored_more image notes one_place func f walk.there b.place s.comes.0 leads standing fields to)
 
   pub uncut_passed : (uncut after : Bool) (c : Before) → UncutAt image f b.place uncut → after ≡ uncut_behind uncut b.insn
       → StandsBefore image notes func f c → c.place ≡ meets.next → UncutAt image f c.place after
@@ -65,3 +116,7 @@ module _ (image : Image) (notes : Notes) (func : ℕ) (f : FnNote) (walk : IsWal
       → WarnedBefore image notes (func + 1) ws
   passed_all ws past to =
       gathered_end image notes typed.tables.functions func f walk.there ws meets.next past meets.decode.within to
+
+  pub stored_passed_all : (fields : List ObjectField) → f.end ≤ meets.next → StoredTo image notes func f meets.next fields
+      → StoredBefore image notes (func + 1) fields
+  stored_passed_all fields past to = stored_end image notes typed.tables.functions func f walk.there fields meets.next past to

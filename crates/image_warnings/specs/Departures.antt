@@ -22,6 +22,8 @@ use Rattle.rules_base.specs.declared.access.Loaded.{Loaded}
 use Rattle.rules_base.specs.Outcomes.{OrRule}
 use Rattle.rules_base.specs.Values.{form_access, operand_value}
 use Rattle.rules_data.specs.Arithmetic.{is_unary}
+use Rattle.image_warnings.specs.Fields.{is_foreign, loaded_field}
+use Rattle.image_warnings.specs.declared.departure.Around.{Around}
 use Rattle.image_warnings.specs.declared.warning.Kind.{Kind}
 use Rattle.image_warnings.specs.declared.warning.Kind.TheVariants as kinds
 
@@ -99,9 +101,13 @@ abbrev pub compares_negative : Insn → Bool
 compares_negative (CompareImm op true left idx long imm) = compares_unsigned op && is_negative imm
 compares_negative i = false
 
--- the operand is R7 itself
+-- the operand is a register itself
+abbrev pub is_register : ℕ → Operand → Bool
+is_register r op = not op.indirect && nat_eq op.reg r
+
+-- it is R7 itself
 abbrev pub is_r7 : Operand → Bool
-is_r7 op = not op.indirect && nat_eq op.reg 7
+is_r7 op = is_register 7 op
 
 -- an operation that looks at all bits of operand 2
 abbrev pub takes_all : ArithOp → Bool
@@ -127,11 +133,13 @@ breaks i = false
 
 -- ---- all of them
 
--- the interpreter departs so at an instruction in a state of function number `func`, where R7 is as a native call left it, or isn't
-unfoldable pub departs : Kind → Notes → ℕ → FnNote → State → Bool → Insn → Bool
-departs kinds.Status notes func f s uncut i = uncut && reads_r7 notes func f i
-departs kinds.Popn notes func f s uncut i = pops_sum i
-departs kinds.Divide notes func f s uncut i = divides_smallest notes f s i
-departs kinds.Shift notes func f s uncut i = shifts_past notes f s i
-departs kinds.Compare notes func f s uncut i = compares_negative i
-departs kinds.Break notes func f s uncut i = breaks i
+-- the interpreter departs so at an instruction of function number `func`, in a state, with what is around it
+unfoldable pub departs : Kind → Notes → ℕ → FnNote → State → Around → Insn → Bool
+departs kinds.Status notes func f s around i = around.uncut && reads_r7 notes func f i
+departs kinds.Popn notes func f s around i = pops_sum i
+departs kinds.Divide notes func f s around i = divides_smallest notes f s i
+departs kinds.Shift notes func f s around i = shifts_past notes f s i
+departs kinds.Compare notes func f s around i = compares_negative i
+departs kinds.Break notes func f s around i = breaks i
+departs kinds.Unwritten notes func f s around i =
+    is_foreign notes (loaded_field notes f s i) && (not around.stored && not around.cut)

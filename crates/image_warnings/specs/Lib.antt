@@ -1,4 +1,7 @@
+pub mod Around
 pub mod Departures
+pub mod Fields
+pub mod Stored
 pub mod Uncut
-pub mod Warned
 pub mod Walks
+pub mod Warned

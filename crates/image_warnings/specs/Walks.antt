@@ -6,14 +6,24 @@ use Rattle.note_types.specs.declared.notes.FnNote.{FnNote}
 use Rattle.note_types.specs.declared.notes.Notes.{Notes}
 use Rattle.note_types.specs.declared.state.State.{State}
 use Rattle.pe_image.specs.declared.image.Image.{Image}
+use Rattle.state_walk.specs.declared.preceding.Before.{Before}
+use Rattle.image_warnings.specs.Around.{around_of}
+use Rattle.image_warnings.specs.declared.field.ObjectField.{ObjectField}
 use Rattle.image_warnings.specs.Warned.{IsWarned, IsWarnedIn, Precedes, warnings_at}
 use Rattle.image_warnings.specs.Uncut.{uncut_after}
 use Rattle.image_warnings.specs.declared.warning.Warning.{Warning}
 
--- the warnings of what stands at a place
-abbrev pub warnings_of : ℕ → Notes → ℕ → FnNote → Bool → Option State → Option (Insn × ℕ) → List Warning
-warnings_of place notes func f uncut (Some s) (Some (i, next)) = warnings_at place notes func f s uncut i
-warnings_of place notes func f uncut s insn = []
+-- the warnings of what stands at a place, where these fields are stored into and this stands behind it
+abbrev pub warnings_of : List ObjectField → ℕ → Notes → ℕ → FnNote → Bool → Option (Insn × ℕ) → Option State → Option (Insn × ℕ)
+    → List Warning
+warnings_of fields place notes func f uncut behind (Some s) (Some (i, next)) =
+    warnings_at place notes func f s (around_of fields uncut behind notes f s i) i
+warnings_of fields place notes func f uncut behind s insn = []
+
+-- the instruction that stands before what comes next, if something does
+abbrev pub insn_of : Option Before → Option (Insn × ℕ)
+insn_of None = None
+insn_of (Some b) = b.insn
 
 -- whether R7 is as a native call left it behind what stands at a place
 abbrev pub uncut_behind : Bool → Option (Insn × ℕ) → Bool

@@ -6,24 +6,20 @@ use Rattle.note_types.specs.declared.notes.FnNote.{FnNote}
 use Rattle.note_types.specs.declared.notes.Notes.{Notes}
 use Rattle.note_types.specs.declared.state.State.{State}
 use Rattle.pe_image.specs.declared.image.Image.{Image}
-use Rattle.rules_image.specs.Images.{IsDecoded}
-use Rattle.width_checker.specs.StatesAt.{StateAt}
 use Rattle.image_warnings.specs.Departures.{departs}
-use Rattle.image_warnings.specs.Uncut.{UncutAt}
+use Rattle.image_warnings.specs.Around.{IsAround}
+use Rattle.image_warnings.specs.Stored.{InsnAt}
+use Rattle.image_warnings.specs.declared.departure.Around.{Around}
 use Rattle.image_warnings.specs.declared.warning.Kind.{Kind}
 use Rattle.image_warnings.specs.declared.warning.Kind.TheVariants as kinds
 use Rattle.image_warnings.specs.declared.warning.Warning.{Warning}
 
--- at a place of function `func` the interpreter departs so, by the state before the instruction there
+-- at a place of function `func` the interpreter departs so, by the state before the instruction there and what is around it
 pub record IsWarnedIn (image : Image) (notes : Notes) (func : ℕ) (f : FnNote) (w : Warning) : Type 0 where
-  pub insn : Insn
-  pub next : ℕ
-  pub decode : IsDecoded image f w.place insn next
-  pub state : State
-  pub has_state : StateAt image notes func f w.place state
-  pub uncut : Bool
-  pub is_uncut : UncutAt image f w.place uncut
-  pub holds : departs w.kind notes func f state uncut insn ≡ true
+  pub at : InsnAt image notes func f w.place
+  pub around : Around
+  pub is_around : IsAround image notes f w.place at.state at.insn at.next around
+  pub holds : departs w.kind notes func f at.state around at.insn ≡ true
 
 -- at a place of a function of the notes
 pub record IsWarned (image : Image) (notes : Notes) (w : Warning) : Type 0 where
@@ -40,6 +36,7 @@ turn kinds.Divide = 3
 turn kinds.Shift = 4
 turn kinds.Compare = 5
 turn kinds.Break = 6
+turn kinds.Unwritten = 7
 
 -- a warning comes before another one: its place does, or at one place its kind
 abbrev pub rank : Warning → ℕ
@@ -67,7 +64,8 @@ all_due place holds =
     ++ (due place kinds.Divide (holds kinds.Divide)
     ++ (due place kinds.Shift (holds kinds.Shift)
     ++ (due place kinds.Compare (holds kinds.Compare)
-    ++ due place kinds.Break (holds kinds.Break)))))
+    ++ (due place kinds.Break (holds kinds.Break)
+    ++ due place kinds.Unwritten (holds kinds.Unwritten))))))
 
-abbrev pub warnings_at : ℕ → Notes → ℕ → FnNote → State → Bool → Insn → List Warning
-warnings_at place notes func f s uncut i = all_due place (λ kind. departs kind notes func f s uncut i)
+abbrev pub warnings_at : ℕ → Notes → ℕ → FnNote → State → Around → Insn → List Warning
+warnings_at place notes func f s around i = all_due place (λ kind. departs kind notes func f s around i)

@@ -6,8 +6,10 @@ ghost use Rattle.machine_alu.specs.Alu.{bits_of};
 ghost use Rattle.note_types.specs.BelowTests.{is_any};
 ghost use Rattle.rules_base.specs.Values.{form_access, operand_value};
 ghost use Rattle.rules_data.specs.Arithmetic.{is_unary};
-ghost use Rattle.image_warnings.specs.Departures.{breaks, compares_negative, compares_unsigned, departs, divides_signed, divides_smallest, is_r7, may_be, may_reach, pops_sum, reads_r7, shifts, shifts_past, takes_all, type_may_be, type_may_reach, units_may_reach};
+ghost use Rattle.image_warnings.specs.Fields.{is_foreign, loaded_field};
+ghost use Rattle.image_warnings.specs.Departures.{breaks, compares_negative, compares_unsigned, departs, divides_signed, divides_smallest, is_r7, is_register, may_be, may_reach, pops_sum, reads_r7, shifts, shifts_past, takes_all, type_may_be, type_may_reach, units_may_reach};
 
+use crate::field::{is_foreign, loaded_field};
 use crate::warning::Kind;
 use ebc_insn::{ArithOp, CmpOp, Extra, Insn, Operand, Size};
 use note_types::{FnNote, Notes, RuleName, State, Ty, divides};
@@ -108,11 +110,18 @@ fn minus_one(wide: bool) -> u64
     if wide { u64::MAX } else { 4_294_967_295 }
 }
 
+/// Whether an operand is a register itself.
+pub(crate) fn is_register(reg: u8, op: &Operand) -> bool
+    ensures { result ≡ is_register reg op.now }
+{
+    !op.indirect && op.reg == reg
+}
+
 /// Whether an operand is R7 itself.
 pub(crate) fn is_r7(op: &Operand) -> bool
     ensures { result ≡ is_r7 op.now }
 {
-    !op.indirect && op.reg == 7
+    is_register(7, op)
 }
 
 fn takes_all(op: ArithOp) -> bool
@@ -136,14 +145,25 @@ fn is_any(t: &Ty) -> bool
     matches!(t, Ty::Any)
 }
 
-/// An instruction, with its function and what is before it: the state, and whether R7 is as a native call left it.
+/// What is around an instruction, as far as departures hang on it.
+#[derive(Clone, Copy)]
+pub struct Around {
+    /// R7 is before it as a native call left it.
+    pub uncut: bool,
+    /// Some instruction of the image stores into the natural field of an object that it loads.
+    pub stored: bool,
+    /// The instruction behind it cuts the register that it loads.
+    pub cut: bool,
+}
+
+/// An instruction, with its function, the state before it, and what is around it.
 #[derive(Clone, Copy)]
 pub(crate) struct Scene<'a> {
     pub notes: &'a Notes,
     pub func: u32,
     pub f: &'a FnNote,
     pub state: &'a State,
-    pub uncut: bool,
+    pub around: Around,
     pub insn: &'a Insn,
 }
 
@@ -239,19 +259,33 @@ impl<'a> Scene<'a> {
         }
     }
 
+    // Whether the instruction loads a natural field of an object that a native call hands out.
+    fn loads_foreign(&self) -> bool
+        requires { WellFormed self.now.insn.now }
+        ensures { result ≡ is_foreign self.now.notes.now
+            (loaded_field self.now.notes.now self.now.f.now self.now.state.now self.now.insn.now) }
+    {
+        is_foreign(
+            self.notes,
+            &loaded_field(self.notes, self.f, self.state, self.insn),
+        )
+    }
+
     /// Whether the interpreter departs so from the machine at the instruction.
     #[tactic(auto, unfolding(crate::specs::Departures::departs))]
     pub fn departs(&self, kind: Kind) -> bool
         requires { WellFormed self.now.insn.now }
-        ensures { result ≡ departs kind self.now.notes.now self.now.func self.now.f.now self.now.state.now self.now.uncut self.now.insn.now }
+        ensures { result ≡ departs kind self.now.notes.now self.now.func self.now.f.now self.now.state.now self.now.around
+            self.now.insn.now }
     {
         match kind {
-            Kind::Status => self.uncut && self.reads_r7(),
+            Kind::Status => self.around.uncut && self.reads_r7(),
             Kind::Popn => pops_sum(self.insn),
             Kind::Divide => self.divides_smallest(),
             Kind::Shift => self.shifts_past(),
             Kind::Compare => compares_negative(self.insn),
             Kind::Break => breaks(self.insn),
+            Kind::Unwritten => self.loads_foreign() && !self.around.stored && !self.around.cut,
         }
     }
 }

@@ -4,14 +4,18 @@
 //!
 //! - `warnings`, of an image that is typed under notes that meet their reader's conditions (`AreWarnings`): the list has
 //!   a place and a kind exactly where the interpreter departs so from the machine at the instruction there, by its
-//!   function, the state before it and what is in R7 (`IsWarned`). They stand in order, each once.
+//!   function, the state before it and what is around it (`IsWarned`). They stand in order, each once.
 //!
 //! Inside the crate, `Scene::departs` tells whether the interpreter departs so at one instruction, exactly `departs`.
-//! `uncut_behind` tells whether R7 is as a native call left it. The walk goes over each function once, by `Walk` of
+//! `uncut_behind` tells whether R7 is as a native call left it, and `stored_fields` gives the natural fields of objects
+//! into which the image stores, exactly these (`AreStored`). The walks go over each function twice, by `Walk` of
 //! `state_walk`.
 #![tactic(auto)]
 
+mod around;
 mod departure;
+mod field;
+mod stored;
 mod uncut;
 mod walk;
 mod warning;

@@ -7,10 +7,14 @@ ghost use Rattle.pe_image.specs.Images.{IsImage};
 ghost use Rattle.state_walk.specs.Standing.{IsWalk};
 ghost use Rattle.width_checker.specs.Typed.{Typed};
 ghost use Rattle.image_warnings.specs.Departures.{departs};
+ghost use Rattle.image_warnings.specs.Stored.{AreStored};
 ghost use Rattle.image_warnings.specs.Walks.{WarnedBefore, warnings_of};
 ghost use Rattle.image_warnings.specs.Warned.{AreWarnings, due, warnings_at};
 
+use crate::around::{Beside, insn_of};
 use crate::departure::Scene;
+use crate::field::ObjectField;
+use crate::stored::stored_fields;
 use crate::uncut::uncut_behind;
 use crate::warning::{Kind, Warning};
 use ebc_base::{NoMemory, Sequence};
@@ -23,7 +27,7 @@ use std::alloc::Global;
 fn append_due(scene: &Scene, place: u32, kind: Kind, out: &mut Vec<Warning>) -> Result<(), NoMemory>
     requires { WellFormed scene.now.insn.now }
     ensures { OnOk result (out.new.items ≡ out.old.items ++ due place kind
-        (departs kind scene.now.notes.now scene.now.func scene.now.f.now scene.now.state.now scene.now.uncut scene.now.insn.now)) }
+        (departs kind scene.now.notes.now scene.now.func scene.now.f.now scene.now.state.now scene.now.around scene.now.insn.now)) }
 {
     if scene.departs(kind) {
         out.push(Warning { place, kind })?;
@@ -36,21 +40,27 @@ fn append_due(scene: &Scene, place: u32, kind: Kind, out: &mut Vec<Warning>) -> 
 fn append_all(scene: &Scene, place: u32, out: &mut Vec<Warning>) -> Result<(), NoMemory>
     requires { WellFormed scene.now.insn.now }
     ensures { OnOk result (out.new.items ≡ out.old.items ++ warnings_at place scene.now.notes.now scene.now.func scene.now.f.now
-        scene.now.state.now scene.now.uncut scene.now.insn.now) }
+        scene.now.state.now scene.now.around scene.now.insn.now) }
 {
     append_due(scene, place, Kind::Status, out)?;
     append_due(scene, place, Kind::Popn, out)?;
     append_due(scene, place, Kind::Divide, out)?;
     append_due(scene, place, Kind::Shift, out)?;
     append_due(scene, place, Kind::Compare, out)?;
-    append_due(scene, place, Kind::Break, out)
+    append_due(scene, place, Kind::Break, out)?;
+    append_due(scene, place, Kind::Unwritten, out)
 }
 
 // Appends the warnings of what stands at a place.
-fn append_of(walk: &Walk, b: &Before, uncut: bool, out: &mut Vec<Warning>) -> Result<(), NoMemory>
+fn append_of(
+    walk: &Walk,
+    b: &Before,
+    beside: &Beside,
+    out: &mut Vec<Warning>,
+) -> Result<(), NoMemory>
     requires { IfSome b.now.insn (λ (i, next). WellFormed i) }
-    ensures { OnOk result (out.new.items ≡ out.old.items ++ warnings_of b.now.place walk.now.notes.now walk.now.func walk.now.f.now uncut
-        b.now.state b.now.insn) }
+    ensures { OnOk result (out.new.items ≡ out.old.items ++ warnings_of beside.now.fields.now b.now.place walk.now.notes.now
+        walk.now.func walk.now.f.now beside.now.uncut beside.now.behind b.now.state b.now.insn) }
 {
     let Some(state) = &b.state else {
         return Ok(());
@@ -63,24 +73,36 @@ fn append_of(walk: &Walk, b: &Before, uncut: bool, out: &mut Vec<Warning>) -> Re
         func: walk.func,
         f: walk.f,
         state,
-        uncut,
+        around: beside.around(walk, state, insn),
         insn,
     };
     append_all(&scene, b.place, out)
 }
 
-// Appends the warnings of a function.
-fn append_function(walk: &Walk, out: &mut Vec<Warning>) -> Result<(), NoMemory>
+// Appends the warnings of a function, where these are the fields into which the image stores.
+fn append_function(
+    walk: &Walk,
+    fields: &[ObjectField],
+    out: &mut Vec<Warning>,
+) -> Result<(), NoMemory>
     requires walk { IsWalk walk.now.image.now walk.now.notes.now walk.now.func walk.now.f.now }
     requires typed { Typed walk.now.image.now walk.now.notes.now }
+    requires fields { AreStored walk.now.image.now walk.now.notes.now fields.now }
     requires before { WarnedBefore walk.now.image.now walk.now.notes.now walk.now.func out.old.items }
     ensures { OnOk result (WarnedBefore walk.now.image.now walk.now.notes.now (walk.now.func + 1) out.new.items) }
 {
     let mut b = walk.start();
     let mut uncut = false;
     'places: loop {
-        append_of(walk, &b, uncut, out)?;
-        match walk.next(&b) {
+        let next = walk.next(&b);
+        let behind = insn_of(&next);
+        let beside = Beside {
+            fields,
+            uncut,
+            behind,
+        };
+        append_of(walk, &b, &beside, out)?;
+        match next {
             Some(next) => {
                 uncut = uncut_behind(uncut, &b.insn);
                 b = next;
@@ -95,12 +117,14 @@ fn append_each(
     image: &Image,
     notes: &Notes,
     functions: &[FnNote],
+    fields: &[ObjectField],
     out: &mut Vec<Warning>,
 ) -> Result<(), NoMemory>
     requires image { IsImage image.now }
     requires notes { IsNotes notes.now }
     requires functions { functions.now ≡ notes.now.function }
     requires typed { Typed image.now notes.now }
+    requires fields { AreStored image.now notes.now fields.now }
     requires before { WarnedBefore image.now notes.now 0 out.old.items }
     ensures { OnOk result (WarnedBefore image.now notes.now (length functions.now) out.new.items) }
 {
@@ -111,7 +135,7 @@ fn append_each(
             func: func as u32,
             f,
         };
-        append_function(&walk, out)?;
+        append_function(&walk, fields, out)?;
     }
     Ok(())
 }
@@ -127,7 +151,14 @@ pub fn warnings(alloc: Global, image: &Image, notes: &Notes) -> Result<Sequence<
     requires typed { Typed image.now notes.now }
     ensures { IfOk result (AreWarnings image.now notes.now) }
 {
+    let fields = stored_fields(alloc, image, notes)?;
     let mut out = Vec::new(alloc);
-    append_each(image, notes, notes.function.as_slice(), &mut out)?;
+    append_each(
+        image,
+        notes,
+        notes.function.as_slice(),
+        fields.as_slice(),
+        &mut out,
+    )?;
     Ok(Sequence::new(out))
 }

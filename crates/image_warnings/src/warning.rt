@@ -15,6 +15,8 @@ pub enum Kind {
     Compare,
     /// BREAK has another code than 5.
     Break,
+    /// A natural field of an object that a native call hands out is loaded, and nothing stores into it.
+    Unwritten,
 }
 
 /// A place at which the interpreter departs from the machine.

@@ -1,9 +1,11 @@
-use Rattle.std.proofs.Common.{arith, sym, subst}
-use Rattle.std.specs.Prelude.{false}
+use Rattle.std.proofs.Common.{◌<◌, arith, sym, subst}
+use Rattle.std.specs.Prelude.{IfSome, false}
+use Rattle.state_walk.specs.Standing.{GoesOn, StandsBefore}
 use Rattle.image_warnings.specs.Uncut.{UncutAt}
 use Rattle.image_warnings.specs.Walks.{WarnedTo}
 use Rattle.image_warnings.proofs.Gathering.{gathered_start}
-use Rattle.image_warnings.proofs.Passing.{is_well_formed, meets, passed, passed_all, uncut_passed}
+use Rattle.image_warnings.proofs.AroundLaws.{StandsBehind}
+use Rattle.image_warnings.proofs.Passing.{behind_found, is_well_formed, meets, passed, passed_all, uncut_passed}
 use Rattle.image_warnings.proofs.UncutLaws.{uncut_start}
 use Rattle.image_warnings.proofs.walk.append_function.Goals as goal
 
@@ -27,29 +29,43 @@ pub places-preserved : goal.places-preserved
 places-preserved c =
     let w = c.args.walk.now in
     let i = c.places.invariant in
-    let m = meets w.image.now w.notes.now w.func w.f.now c.requires.walk c.requires.typed c.places.b i.stands in
+    let b = c.places.b in
+    let m = meets w.image.now w.notes.now w.func w.f.now c.requires.walk c.requires.typed b i.stands in
+    let stands = subst (λ o. IfSome o (StandsBefore w.image.now w.notes.now w.func w.f.now)) c.in-Some.is c.next-next.ensures.stands in
+    let goes = subst (GoesOn w.image.now w.notes.now w.func w.f.now b.place) c.in-Some.is c.next-next.ensures.goes_on in
     record {
-      stands = c.in-Some.ensures.stands;
-      uncut = uncut_passed w.image.now w.notes.now w.func w.f.now c.requires.walk c.requires.typed c.places.b i.stands
-          c.places.uncut c.uncut_behind-uncut.result c.in-Some.next i.uncut c.uncut_behind-uncut.ensures c.in-Some.ensures.stands
-          (c.in-Some.ensures.goes_on m);
-      warned = subst (λ p. WarnedTo w.image.now w.notes.now w.func w.f.now p c.append_of.new.out.items) (sym (c.in-Some.ensures.goes_on m))
-          (passed w.image.now w.notes.now w.func w.f.now c.requires.walk c.requires.typed c.places.b i.stands
-          c.places.uncut c.places.out.items c.append_of.new.out.items i.uncut i.warned c.in_ok-append_of.ensures);
+      stands = stands;
+      uncut = uncut_passed w.image.now w.notes.now w.func w.f.now c.requires.walk c.requires.typed b i.stands
+          c.places.uncut c.uncut_behind-uncut.result c.in-Some.next i.uncut c.uncut_behind-uncut.ensures stands (goes m);
+      warned = subst (λ p. WarnedTo w.image.now w.notes.now w.func w.f.now p c.append_of.new.out.items) (sym (goes m))
+          (passed w.image.now w.notes.now w.func w.f.now c.requires.walk c.requires.typed b i.stands
+          c.args.fields.now c.places.uncut c.insn_of-behind.result c.places.out.items c.append_of.new.out.items c.requires.fields i.uncut
+          (subst (StandsBehind w.image.now w.f.now m.next) (sym c.insn_of-behind.ensures)
+          (behind_found w.image.now w.notes.now w.func w.f.now c.requires.walk c.requires.typed b i.stands
+          c.next-next.result c.next-next.ensures.stands c.next-next.ensures.goes_on))
+          i.warned c.in_ok-append_of.ensures);
     }
 
 pub returns-in-None : goal.returns-in-None
 returns-in-None c =
     let w = c.args.walk.now in
     let i = c.places.invariant in
-    let m = meets w.image.now w.notes.now w.func w.f.now c.requires.walk c.requires.typed c.places.b i.stands in
-    passed_all w.image.now w.notes.now w.func w.f.now c.requires.walk c.requires.typed c.places.b i.stands c.append_of.new.out.items
-    (c.in-None.ensures.goes_on m)
-    (passed w.image.now w.notes.now w.func w.f.now c.requires.walk c.requires.typed c.places.b i.stands
-    c.places.uncut c.places.out.items c.append_of.new.out.items i.uncut i.warned c.in_ok-append_of.ensures)
+    let b = c.places.b in
+    let m = meets w.image.now w.notes.now w.func w.f.now c.requires.walk c.requires.typed b i.stands in
+    let goes = subst (GoesOn w.image.now w.notes.now w.func w.f.now b.place) c.in-None.is c.next-next.ensures.goes_on in
+    passed_all w.image.now w.notes.now w.func w.f.now c.requires.walk c.requires.typed b i.stands c.append_of.new.out.items (goes m)
+    (passed w.image.now w.notes.now w.func w.f.now c.requires.walk c.requires.typed b i.stands
+    c.args.fields.now c.places.uncut c.insn_of-behind.result c.places.out.items c.append_of.new.out.items c.requires.fields i.uncut
+    (subst (StandsBehind w.image.now w.f.now m.next) (sym c.insn_of-behind.ensures)
+    (behind_found w.image.now w.notes.now w.func w.f.now c.requires.walk c.requires.typed b i.stands
+    c.next-next.result c.next-next.ensures.stands c.next-next.ensures.goes_on))
+    i.warned c.in_ok-append_of.ensures)
 
 pub places-smaller : goal.places-smaller
 places-smaller c =
-    let inside = c.in-Some.ensures.stands.insn.within in
-    let later = c.in-Some.ensures.later in
+    let w = c.args.walk.now in
+    let b = c.places.b in
+    let stands = subst (λ o. IfSome o (StandsBefore w.image.now w.notes.now w.func w.f.now)) c.in-Some.is c.next-next.ensures.stands in
+    let inside = stands.insn.within in
+    let later = subst (λ o. IfSome o (λ n. b.place < n.place)) c.in-Some.is c.next-next.ensures.later in
     omega arith

@@ -1,9 +1,14 @@
 use Rattle.std.proofs.Common.{List, length, sym, subst}
 use Rattle.note_types.specs.declared.notes.FnNote.{FnNote}
+use Rattle.image_warnings.specs.Stored.{AreStored}
 use Rattle.image_warnings.specs.Walks.{WarnedBefore}
 use Rattle.image_warnings.specs.Warned.{AreWarnings}
 use Rattle.image_warnings.proofs.Gathering.{gathered_all}
 use Rattle.image_warnings.proofs.walk.warnings.Goals as goal
+
+pub append_each-requires-clause-fields : goal.append_each-requires-clause-fields
+append_each-requires-clause-fields c =
+    subst (AreStored c.args.image.now c.args.notes.now) (sym c.as_slice-2.ensures.value) c.in_ok-fields.ensures
 
 pub returns : goal.returns
 returns c =
