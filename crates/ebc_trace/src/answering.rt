@@ -12,7 +12,8 @@ use std::alloc::Global;
 use std::io;
 use std::rt::Files;
 
-const USAGE: &[u8] = b"usage: WIDTH IMAGE NOTES SCRIPT FIRST LAST\n";
+const USAGE: &[u8] =
+    b"usage: WIDTH IMAGE NOTES SCRIPT FIRST LAST | both IMAGE NOTES SCRIPT FIRST LAST\n";
 
 // Puts a text, if it has one, and says how the answer of this outcome ends.
 fn put<O: Sink>(alloc: Global, outcome: Outcome, text: &[u8], out: &mut O) -> Outcome {
@@ -26,7 +27,7 @@ fn put<O: Sink>(alloc: Global, outcome: Outcome, text: &[u8], out: &mut O) -> Ou
     }
 }
 
-// The answer of `run`, whose text is put into memory.
+// The answer of `run` or `twin`, whose text is put into memory.
 fn run<F: Folder>(
     alloc: Global,
     words: &Vec<String>,
@@ -36,10 +37,11 @@ fn run<F: Folder>(
     ebc(alloc, words, folder, printed)
 }
 
-// Says of a run that is done what `run` says of its end.
+// Says of a run that is done what `run` or `twin` says of its end.
 fn say_end<R: io::Eprint + AllocGlobal>(
     rt: &R,
     words: &Vec<String>,
+    outcome: Outcome,
     amiss: bool,
     folder: MemFolder,
 ) {
@@ -47,7 +49,7 @@ fn say_end<R: io::Eprint + AllocGlobal>(
         alloc: rt.alloc(),
         program: Program::Ebc,
         words,
-        outcome: Outcome::Done,
+        outcome,
         amiss,
         asked: "",
         cause: "",
@@ -60,11 +62,12 @@ fn say_end<R: io::Eprint + AllocGlobal>(
     }
 }
 
-// Prints the steps of a run that is done, over the files that were kept, and says what there is to say of its end.
+// Prints the steps of a run that is done, or of two that differ, over the files that were kept, and says what there is to say of its end.
 fn print_steps<R: io::Eprint + AllocGlobal, W: io::Write + Drop>(
     rt: &R,
     request: &Request,
     words: &Vec<String>,
+    outcome: Outcome,
     folder: MemFolder,
     out: &mut Watched<HostSink<W>>,
 ) -> Outcome {
@@ -72,16 +75,17 @@ fn print_steps<R: io::Eprint + AllocGlobal, W: io::Write + Drop>(
     let Ok(text) = traced(rt.alloc(), request, &mut folder) else {
         return Outcome::NoMemory;
     };
-    let outcome = put(rt.alloc(), Outcome::Done, text.as_slice(), out);
-    if let Outcome::Done = outcome {
-        say_end(rt, words, out.amiss(), folder);
+    let outcome = put(rt.alloc(), outcome, text.as_slice(), out);
+    if let Outcome::Done | Outcome::Differ { .. } = outcome {
+        say_end(rt, words, outcome, out.amiss(), folder);
     }
     outcome
 }
 
-// Prints what `run` answers where it isn't done, and says of a file what `run` says.
+// Prints what `run` or `twin` answers where it isn't done, and says of a file what it says.
 fn print_refusal<R: Files + io::Eprint + AllocGlobal, W: io::Write + Drop>(
     rt: &R,
+    request: &Request,
     words: &Vec<String>,
     outcome: Outcome,
     text: &[u8],
@@ -90,13 +94,14 @@ fn print_refusal<R: Files + io::Eprint + AllocGlobal, W: io::Write + Drop>(
 ) -> Outcome {
     let outcome = put(rt.alloc(), outcome, text, out);
     match outcome {
-        Outcome::NoMemory | Outcome::WriteFault | Outcome::TooLarge { word: 5 } => {}
+        Outcome::NoMemory | Outcome::WriteFault => {}
+        Outcome::TooLarge { word } if word == request.last_number() => say_large(rt, request),
         _ => tell(rt, Program::Ebc, words, outcome, folder, out),
     }
     outcome
 }
 
-// The answer to a request, where the words of `run` for it could be made.
+// The answer to a request, where the words of `run` or `twin` for it could be made.
 fn answer_run<R: Files + io::Eprint + AllocGlobal, W: io::Write + Drop>(
     rt: &R,
     request: &Request,
@@ -106,8 +111,10 @@ fn answer_run<R: Files + io::Eprint + AllocGlobal, W: io::Write + Drop>(
     let mut folder = Kept::new(rt.alloc(), HostFolder::new(rt));
     let mut printed = MemSink::new(rt.alloc());
     match run(rt.alloc(), words, &mut folder, &mut printed) {
-        Outcome::Done => print_steps(rt, request, words, folder.replay(), out),
-        outcome => print_refusal(rt, words, outcome, printed.text(), folder, out),
+        outcome @ (Outcome::Done | Outcome::Differ { .. }) => {
+            print_steps(rt, request, words, outcome, folder.replay(), out)
+        }
+        outcome => print_refusal(rt, request, words, outcome, printed.text(), folder, out),
     }
 }
 
@@ -120,11 +127,7 @@ fn answer_request<R: Files + io::Eprint + AllocGlobal, W: io::Write + Drop>(
     let Ok(words) = request.run_words(rt.alloc()) else {
         return Outcome::NoMemory;
     };
-    let outcome = answer_run(rt, request, &words, out);
-    if let Outcome::TooLarge { word: 5 } = outcome {
-        say_large(rt, request);
-    }
-    outcome
+    answer_run(rt, request, &words, out)
 }
 
 // The answer to words that aren't of their form, of which it is said what is wanted.

@@ -1,14 +1,15 @@
-//! The program of docs/TRACE.md: it answers as `run` does, and where a run is done it prints the steps that the words ask
-//! for, and the run's last line. It says on standard error what there is to say, and ends with the exit status of the
-//! outcome.
+//! The program of docs/TRACE.md: it answers as `run` does, or as `twin` does of both widths. Where the runs are done it prints the
+//! steps that the words ask for, and the last lines. It says on standard error what there is to say, and ends with the exit status of
+//! the outcome.
 //!
 //! Promises:
 //!
 //! - `answer`: want of memory for the words is told as such (`memory`).
 //! - `lines_at`: the text of a run that is done has the lines of its steps from the first to the last (`trace_lines` of
-//!   run_trace), and then the last line of what the run up to that one reports (`end_line` of run_texts).
+//!   run_trace), and then the last line of what the run up to that one reports (`end_line` of run_texts). The text of both runs is
+//!   that of `both` of twin_trace.
 //! - Which files are read, and what is printed where a run isn't done, is what `ebc` of ebc_cli promises of the words of
-//!   `run`. No clause says what is put to the system's output.
+//!   `run` and `twin`. No clause says what is put to the system's output.
 #![tactic(auto)]
 
 mod answering;

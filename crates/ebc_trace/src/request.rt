@@ -1,13 +1,21 @@
-//! What the words ask for: a run at a width, and the steps of it that are told.
+//! What the words ask for: a run at a width or at both, and the steps of it that are told.
 ghost use Rattle.std.specs.Prelude.{◌≤◌};
 
 use ebc_base::NoMemory;
 use std::alloc::Global;
 
+/// The widths at which an image is run.
+#[derive(Clone, Copy)]
+pub(crate) enum Widths {
+    Only32,
+    Only64,
+    Both,
+}
+
 /// A run, and the steps of it that are told.
 #[derive(Clone, Copy)]
 pub(crate) struct Request<'a> {
-    pub width: &'a str,
+    pub widths: Widths,
     pub image: &'a str,
     pub notes: &'a str,
     pub script: &'a str,
@@ -26,6 +34,20 @@ pub(crate) enum Misuse<'a> {
         word: &'a str,
         wanted: &'static str,
     },
+}
+
+// The widths of the first word.
+fn widths_of(word: &str) -> Result<Widths, Misuse<'_>> {
+    match word {
+        "32" => Ok(Widths::Only32),
+        "64" => Ok(Widths::Only64),
+        "both" => Ok(Widths::Both),
+        _ => Err(Misuse::Form {
+            name: "WIDTH",
+            word,
+            wanted: "32, 64 or both",
+        }),
+    }
 }
 
 fn is_count(word: &str) -> bool {
@@ -77,11 +99,11 @@ impl<'a> Request<'a> {
     ///
     /// The words aren't of their form; of the first one that isn't.
     pub fn of(words: &'a [String]) -> Result<Request<'a>, Misuse<'a>> {
-        let [width, image, notes, script, first, last] = words else {
+        let [widths, image, notes, script, first, last] = words else {
             return Err(Misuse::Count(words.len()));
         };
         let request = Request {
-            width: width.as_str(),
+            widths: widths_of(widths.as_str())?,
             image: image.as_str(),
             notes: notes.as_str(),
             script: script.as_str(),
@@ -94,14 +116,6 @@ impl<'a> Request<'a> {
     }
 
     fn try_files(&self) -> Result<(), Misuse<'a>> {
-        let width = self.width;
-        if width != "32" && width != "64" {
-            return Err(Misuse::Form {
-                name: "WIDTH",
-                word: width,
-                wanted: "32 or 64",
-            });
-        }
         name_form("IMAGE", self.image)?;
         name_form("NOTES", self.notes)?;
         name_form("SCRIPT", self.script)
@@ -143,17 +157,26 @@ impl<'a> Request<'a> {
     ///
     /// Want of memory alone.
     pub fn run_words(&self, alloc: Global) -> Result<Vec<String>, NoMemory> {
+        let command: &[&str] = match self.widths {
+            Widths::Only32 => &["run", "32"],
+            Widths::Only64 => &["run", "64"],
+            Widths::Both => &["twin"],
+        };
         let mut words = Vec::new(alloc);
-        for word in [
-            "run",
-            self.width,
-            self.image,
-            self.notes,
-            self.script,
-            self.last,
-        ] {
+        for word in command {
+            words.push(String::from_str(alloc, word)?)?;
+        }
+        for word in [self.image, self.notes, self.script, self.last] {
             words.push(String::from_str(alloc, word)?)?;
         }
         Ok(words)
+    }
+
+    /// Which of these words is LAST.
+    pub fn last_number(&self) -> u8 {
+        match self.widths {
+            Widths::Both => 4,
+            _ => 5,
+        }
     }
 }

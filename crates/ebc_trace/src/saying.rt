@@ -45,7 +45,10 @@ fn say<R: io::Eprint + AllocGlobal>(rt: &R, said: &Said) {
 pub(crate) fn say_misuse<R: io::Eprint + AllocGlobal>(rt: &R, misuse: Misuse) {
     let alloc = rt.alloc();
     let mut said = misuse_said(alloc, misuse);
-    said.add(Line::of(alloc, "usage: WIDTH IMAGE NOTES SCRIPT FIRST LAST"));
+    said.add(Line::of(
+        alloc,
+        "usage: WIDTH IMAGE NOTES SCRIPT FIRST LAST | both IMAGE NOTES SCRIPT FIRST LAST",
+    ));
     say(rt, &said);
 }
 

@@ -10,7 +10,7 @@ ghost use Rattle.run_trace.specs.Traces.{trace_lines};
 ghost use Rattle.twin_run.specs.Reported.{IsReport};
 ghost use Rattle.twin_run.specs.declared.reports.RunReport.{RunReport};
 
-use crate::request::Request;
+use crate::request::{Request, Widths};
 use ebc_base::NoMemory;
 use ebc_outside::{Folder, MemFolder};
 use file_inputs::read_as;
@@ -20,6 +20,7 @@ use protocol_script::read_script;
 use run_texts::append_end;
 use run_trace::trace;
 use std::alloc::Global;
+use twin_trace::both;
 
 // How many bytes a script may have.
 const SCRIPT_LIMIT: u64 = 1048576;
@@ -68,9 +69,10 @@ fn lines(
     requires script { IsScript notes.now script.now }
 {
     let (first, last) = (request.first(), request.last());
-    match request.width {
-        "32" => lines_at::<4>(alloc, image, notes, script, first, last),
-        _ => lines_at::<8>(alloc, image, notes, script, first, last),
+    match request.widths {
+        Widths::Only32 => lines_at::<4>(alloc, image, notes, script, first, last),
+        Widths::Only64 => lines_at::<8>(alloc, image, notes, script, first, last),
+        Widths::Both => both(alloc, image, notes, script, first, last),
     }
 }
 

@@ -6,6 +6,7 @@ use Rattle.std.specs.Option.{option_and_then, option_map}
 use Rattle.ebc_base.specs.Steps.{◌>>=◌, or_else}
 use Rattle.ebc_decode.specs.Reading.{read}
 use Rattle.ebc_insn.specs.declared.Insn.{Insn}
+use Rattle.ebc_width.specs.Ranges.{Range}
 use Rattle.ebc_machine.specs.Fetch.{fetched, or_exception}
 use Rattle.host_model.specs.HostSteps.{spot_of}
 use Rattle.host_model.specs.Placements.{own_placement}
@@ -19,6 +20,7 @@ use Rattle.note_types.specs.declared.exception.Exception.TheVariants as raises
 use Rattle.note_types.specs.declared.notes.Notes.{Notes}
 use Rattle.note_types.specs.declared.spot.Spot.{Spot}
 use Rattle.step_texts.specs.StepTexts.{step_text}
+use Rattle.step_texts.specs.declared.step.Change.{Change}
 use Rattle.step_texts.specs.declared.step.Step.{Step}
 use Rattle.step_texts.specs.declared.step.Stored.{Stored}
 use Rattle.twin_run.specs.Watching.{has_c, is_hosts_turn}
@@ -85,18 +87,19 @@ before-is w world r place insn store registers c events at is stores holds flag 
   events = many i;
 }
 
-pub step-is : (w : ℕ) (world : World) (number : ℕ) (r s : RunState) (before : Before) (changes : List (Option ℕ)) (flag : Option Bool)
-    (stored : Option Stored) (registers : List ℕ) (c : Bool) → before ≡ before_of w world r
-    → changes ≡ register_changes before.registers registers → registers ≡ s.machine.registers
+pub step-is : (w : ℕ) (world : World) (number : ℕ) (r s : RunState) (notes : Notes) (before : Before) (changes : List (Option Change))
+    (flag : Option Bool) (stored : Option Stored) (objects : List Range) (registers : List ℕ) (c : Bool)
+    → world.notes ≡ notes → before ≡ before_of w world r → objects ≡ s.machine.objects
+    → changes ≡ register_changes notes objects before.registers registers → registers ≡ s.machine.registers
     → flag ≡ flag_change before.has_c c → c ≡ has_c s.machine → stored ≡ stored_in before.store s
     → record { number = number; place = before.place; insn = before.insn; registers = changes; flag = flag; stored = stored }
     ≡ step_of w world number r s
 unfolding before_of step_of
-step-is w world number r s before changes flag stored registers c same changed holds flags carries is = λ i. record {
+step-is w world number r s notes before changes flag stored objects registers c its same lie changed holds flags carries is = λ i. record {
   number = number;
   place = (same i).place;
   insn = (same i).insn;
-  registers = (changed ∙ (λ j. register_changes (same j).registers (holds j))) i;
+  registers = (changed ∙ (λ j. register_changes (sym its j) (lie j) (same j).registers (holds j))) i;
   flag = (flags ∙ (λ j. flag_change (same j).has_c (carries j))) i;
   stored = (is ∙ ap (λ (b : Before). stored_in b.store s) same) i;
 }

@@ -27,7 +27,7 @@ use Rattle.run_trace.specs.Traces.{IsTold, lines_of, lines_while, step_lines, tr
 
 -- ---- lists
 
-flat-more : {A : Type 0} (f : ℕ → List A) (a n : ℕ)
+pub flat-more : {A : Type 0} (f : ℕ → List A) (a n : ℕ)
     → flat_map f (range_with_len a (suc n)) ≡ flat_map f (range_with_len a n) ++ f (a + n)
 flat-more f a zero = append-nil (f a) ∙ ap f (sym (add-zero a))
 flat-more f a (suc n) =
@@ -38,7 +38,7 @@ flat-more f a (suc n) =
 
 -- ---- the lines of a run
 
-no-lines : (e : Ending) (lines : List ℕ) → e ≢ Running → lines_while e lines ≡ []
+pub no-lines : (e : Ending) (lines : List ℕ) → e ≢ Running → lines_while e lines ≡ []
 no-lines Running lines over = absurd (over refl)
 no-lines (Finished v) lines over = refl
 no-lines (Raised x) lines over = refl
@@ -72,7 +72,7 @@ module _ (w : ℕ) (image : Image) (world : World) where
       ∙ ap (λ k. trace_lines w image world first taken ++ lines_of w image world k) last
 
   -- the lines of a step of a run that goes on
-  step-is : (taken : ℕ) → (own_run w image world taken).ending ≡ Running
+  pub step-is : (taken : ℕ) → (own_run w image world taken).ending ≡ Running
       → lines_of w image world (taken + 1)
       ≡ step_lines w world (taken + 1) (own_run w image world taken)
       (run_step w world (own_placement w world) (own_run w image world taken))
@@ -104,7 +104,7 @@ module _ (w : ℕ) (image : Image) (world : World) where
       same ∙ told ∙ ap (λ t. old ++ t) (trace-none first taken (omega (arith, less)) ∙ sym (trace-none first (taken + 1) less))
 
   -- once the run has ended no lines come
-  ended-lines : (taken d : ℕ) → (own_run w image world taken).ending ≢ Running → lines_of w image world (taken + d + 1) ≡ []
+  pub ended-lines : (taken d : ℕ) → (own_run w image world taken).ending ≢ Running → lines_of w image world (taken + d + 1) ≡ []
   unfolding lines_of
   ended-lines taken d over =
       let back : taken + d + 1 - 1 ≡ taken + d = omega arith in

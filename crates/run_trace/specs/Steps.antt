@@ -3,6 +3,7 @@ use Rattle.std.specs.Prelude.{ℕ, Bool, true, false, List, length, map, take, O
 use Rattle.std.specs.Prelude.{if◌then◌else◌, slice_index}
 use Rattle.std.specs.List.{range_with_len}
 use Rattle.std.specs.Option.{option_and_then, option_map}
+use Rattle.ebc_width.specs.Ranges.{Range}
 use Rattle.ebc_insn.specs.declared.Insn.{Insn}
 use Rattle.ebc_machine.specs.Fetch.{fetched}
 use Rattle.host_model.specs.HostSteps.{spot_of}
@@ -13,9 +14,12 @@ use Rattle.note_types.specs.Concrete.{Concrete, rest_from}
 use Rattle.note_types.specs.declared.ending.Ending.{Ending}
 use Rattle.note_types.specs.declared.ending.Ending.TheVariants.{Running}
 use Rattle.note_types.specs.declared.exception.Exception.{Exception}
+use Rattle.note_types.specs.declared.notes.Notes.{Notes}
+use Rattle.step_texts.specs.declared.step.Change.{Change}
 use Rattle.step_texts.specs.declared.step.Step.{Step}
 use Rattle.step_texts.specs.declared.step.Stored.{Stored}
 use Rattle.twin_run.specs.Watching.{has_c, is_hosts_turn}
+use Rattle.run_trace.specs.Addresses.{meaning_at}
 use Rattle.run_trace.specs.Stores.{stored_by}
 use Rattle.run_trace.specs.declared.before.Before.{Before}
 use Rattle.run_trace.specs.declared.stores.StoreRange.{StoreRange}
@@ -33,13 +37,15 @@ next_insn world r = if is_hosts_turn world r then None else insn_of (fetched r.m
 
 -- ---- registers and C
 
--- the new number, where it is another
-abbrev pub change : ℕ → ℕ → Option ℕ
-change old new = if nat_eq old new then None else Some new
+-- the new number, where it is another, and what it is as an address, where the objects lie so
+abbrev pub change : Notes → List Range → ℕ → ℕ → Option Change
+change notes objects old new =
+    if nat_eq old new then None else Some (record { number = new; meaning = meaning_at notes objects new })
 
 -- the new number of each of R0 to R7 that holds another
-abbrev pub register_changes : List ℕ → List ℕ → List (Option ℕ)
-register_changes old new = map (λ r. change (slice_index old r) (slice_index new r)) (range_with_len 0 8)
+abbrev pub register_changes : Notes → List Range → List ℕ → List ℕ → List (Option Change)
+register_changes notes objects old new =
+    map (λ r. change notes objects (slice_index old r) (slice_index new r)) (range_with_len 0 8)
 
 -- the new C, where it is another
 abbrev pub flag_change : Bool → Bool → Option Bool
@@ -90,7 +96,7 @@ step_of w world number r s = record {
   number = number;
   place = spot_of world (own_placement w world) r.machine;
   insn = next_insn world r;
-  registers = register_changes r.machine.registers s.machine.registers;
+  registers = register_changes world.notes s.machine.objects r.machine.registers s.machine.registers;
   flag = flag_change (has_c r.machine) (has_c s.machine);
   stored = stored_in (next_store w world r) s;
 }

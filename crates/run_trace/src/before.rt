@@ -1,8 +1,9 @@
 //! What a run shows before a step, and what the step then changed.
-ghost use Rattle.std.specs.Prelude.{◌≡◌, ◌≤◌, IfSome, Some};
+ghost use Rattle.std.specs.Prelude.{◌≡◌, ◌^◌, ◌<◌, ◌≤◌, IfSome, Some, length};
 ghost use Rattle.std.specs.Option.{option_and_then};
 ghost use Rattle.ebc_width.specs.Width.{IsWidth};
 ghost use Rattle.ebc_insn.specs.Spelling.{WellFormed};
+ghost use Rattle.object_memory.specs.Memory.{ranges};
 ghost use Rattle.ebc_machine.specs.Fetch.{fetched};
 ghost use Rattle.host_model.specs.RunState.{RunState};
 ghost use Rattle.host_model.specs.World.{World};
@@ -10,14 +11,16 @@ ghost use Rattle.note_types.specs.Concrete.{Concrete, rest_from};
 ghost use Rattle.note_types.specs.declared.ending.Ending.TheVariants.{Running};
 ghost use Rattle.twin_run.specs.Runner.{IsRunner, Runs};
 ghost use Rattle.run_trace.specs.Stores.{stored_by};
+ghost use Rattle.run_trace.specs.Walks.{RunsImage};
 ghost use Rattle.run_trace.specs.Steps.{before_of, bytes_of, change, flag_change, insn_of, laid, next_insn, register_changes, step_of, stored_in};
 
 use crate::stores::{StoreRange, stored_by};
+use crate::walking::meaning_at;
 use arrayvec::ArrayVec;
 use ebc_decode::{Decoded, decode_first};
 use ebc_insn::Insn;
 use note_types::{Ending, Notes, Script, Spot};
-use step_texts::{Step, Stored};
+use step_texts::{Change, Step, Stored};
 use twin_run::Runner;
 
 /// What is kept of a run before a step, to tell afterwards what the step changed.
@@ -89,26 +92,43 @@ fn next_store<const W: usize>(registers: &[u64; 8], insn: &Option<Insn>) -> Opti
     }
 }
 
-// The new number, where it is another.
-fn change(old: u64, new: u64) -> Option<u64>
-    ensures { result ≡ change old new }
+// The new number, where it is another, and what it is as an address.
+fn change<const W: usize>(runner: &Runner<W>, notes: &Notes, old: u64, new: u64) -> Option<Change>
+    requires width { IsWidth W }
+    requires runs { RunsImage W runner.now }
+    requires statics { length notes.now.statics < 2 ^ 32 }
+    ensures { result ≡ change notes.now (ranges runner.now.mem) old new }
 {
-    if old == new { None } else { Some(new) }
+    if old == new {
+        return None;
+    }
+    Some(Change {
+        number: new,
+        meaning: meaning_at(runner, notes, new),
+    })
 }
 
 // The new number of each register that holds another.
-fn register_changes(old: &[u64; 8], new: &[u64; 8]) -> [Option<u64>; 8]
-    ensures { result ≡ register_changes old.now new.now }
+fn register_changes<const W: usize>(
+    runner: &Runner<W>,
+    notes: &Notes,
+    old: &[u64; 8],
+    new: &[u64; 8],
+) -> [Option<Change>; 8]
+    requires width { IsWidth W }
+    requires runs { RunsImage W runner.now }
+    requires statics { length notes.now.statics < 2 ^ 32 }
+    ensures { result ≡ register_changes notes.now (ranges runner.now.mem) old.now new.now }
 {
     [
-        change(old[0], new[0]),
-        change(old[1], new[1]),
-        change(old[2], new[2]),
-        change(old[3], new[3]),
-        change(old[4], new[4]),
-        change(old[5], new[5]),
-        change(old[6], new[6]),
-        change(old[7], new[7]),
+        change(runner, notes, old[0], new[0]),
+        change(runner, notes, old[1], new[1]),
+        change(runner, notes, old[2], new[2]),
+        change(runner, notes, old[3], new[3]),
+        change(runner, notes, old[4], new[4]),
+        change(runner, notes, old[5], new[5]),
+        change(runner, notes, old[6], new[6]),
+        change(runner, notes, old[7], new[7]),
     ]
 }
 
@@ -188,16 +208,19 @@ impl Before {
     }
 
     /// The step of that number, after which the run is where the runner is.
-    pub fn step<const W: usize>(&self, number: u64, runner: &Runner<W>) -> Step
+    pub fn step<const W: usize>(&self, number: u64, runner: &Runner<W>, notes: &Notes) -> Step
+        requires width { IsWidth W }
         requires few { IfSome self.now.store (λ range. range.size ≤ 16) }
-        ensures step { (world : World) (r s : RunState) → self.now ≡ before_of W world r → IsRunner W world runner.now s → result ≡ step_of W world number r s }
+        requires runs { RunsImage W runner.now }
+        requires statics { length notes.now.statics < 2 ^ 32 }
+        ensures step { (world : World) (r s : RunState) → world.notes ≡ notes.now → self.now ≡ before_of W world r → IsRunner W world runner.now s → result ≡ step_of W world number r s }
         ensures insn { result.insn ≡ self.now.insn }
     {
         Step {
             number,
             place: self.place,
             insn: self.insn,
-            registers: register_changes(&self.registers, &runner.registers()),
+            registers: register_changes(runner, notes, &self.registers, &runner.registers()),
             flag: flag_change(self.has_c, runner.has_c()),
             stored: stored_in(runner, self.store),
         }

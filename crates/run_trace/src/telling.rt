@@ -21,12 +21,12 @@ use std::alloc::Global;
 use step_texts::append_step;
 use twin_run::{RunReport, Runner, start};
 
-// What a run is of: an image under its notes and with a script.
+/// What a run is of: an image under its notes and with a script.
 #[derive(Clone, Copy)]
-struct Program<'a> {
-    image: &'a Image,
-    notes: &'a Notes,
-    script: &'a Script,
+pub struct Program<'a> {
+    pub image: &'a Image,
+    pub notes: &'a Notes,
+    pub script: &'a Script,
 }
 
 // The events from that number on.
@@ -36,8 +36,12 @@ fn added(events: &[Event], first: usize) -> &[Event]
     events.get(first..).unwrap_or(&[])
 }
 
-// Takes the next step of a run that goes on, and appends its lines: it is the step of that number.
-fn tell_step<const W: usize>(
+/// Takes the next step of a run that goes on, and appends its lines: it is the step of that number.
+///
+/// # Errors
+///
+/// There is no memory for the text.
+pub fn tell_step<const W: usize>(
     alloc: Global,
     program: Program,
     runner: &mut Runner<W>,
@@ -47,13 +51,14 @@ fn tell_step<const W: usize>(
     requires width { IsWidth W }
     requires runs { Runs W program.notes.now program.script.now runner.old }
     requires running { runner.old.ending ≡ Running }
+    requires image { 0 < runner.old.image_size }
     ensures step { (world : World) (r : RunState) → world.notes ≡ program.entry.notes.now → world.script ≡ program.entry.script.now → IsRunner W world runner.old r → IsRunner W world runner.new (run_step W world (own_placement W world) r) }
     ensures counted { runner.new.taken ≡ min (runner.old.taken + 1) (2 ^ 64 - 1) }
     ensures text { OnOk result ((world : World) (r : RunState) → world.notes ≡ program.entry.notes.now → world.script ≡ program.entry.script.now → IsRunner W world runner.old r → out.new.items ≡ out.old.items ++ step_lines W world number r (run_step W world (own_placement W world) r)) }
 {
     let before = Before::of(runner, program.notes, program.script);
     runner.step(program.image, program.notes, program.script);
-    let step = before.step(number, runner);
+    let step = before.step(number, runner, program.notes);
     let events = added(runner.trace().as_slice(), before.events);
     append_step(alloc, program.notes, &step, events, out)
 }
@@ -70,6 +75,7 @@ fn next_step<const W: usize>(
     requires width { IsWidth W }
     requires runs { Runs W program.notes.now program.script.now runner.old }
     requires running { runner.old.ending ≡ Running }
+    requires image { 0 < runner.old.image_size }
     ensures step { (world : World) (r : RunState) → world.notes ≡ program.entry.notes.now → world.script ≡ program.entry.script.now → IsRunner W world runner.old r → IsRunner W world runner.new (run_step W world (own_placement W world) r) }
     ensures counted { runner.new.taken ≡ min (runner.old.taken + 1) (2 ^ 64 - 1) }
     ensures before { number < first → out.new ≡ out.old }
@@ -82,8 +88,8 @@ fn next_step<const W: usize>(
     tell_step(alloc, program, runner, number, out)
 }
 
-// Whether the run of a runner goes on.
-fn goes_on<const W: usize>(runner: &Runner<W>) -> bool
+/// Whether the run of a runner goes on.
+pub fn goes_on<const W: usize>(runner: &Runner<W>) -> bool
     ensures { (world : World) (r : RunState) → IsRunner W world runner.now r → IsTrue result ↔ (r.ending ≡ Running) }
 {
     matches!(runner.ending(), Ending::Running)

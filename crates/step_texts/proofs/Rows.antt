@@ -15,8 +15,12 @@ use Rattle.note_types.specs.declared.types.Ty.TheVariants as ty
 use Rattle.note_types.specs.declared.value.Value.TheVariants as value
 use Rattle.run_texts.specs.RunTexts.{place_text, wild_text}
 use Rattle.script_draft.specs.Printed.{named_value, value_text}
+use Rattle.step_texts.specs.declared.meaning.Meaning.{Meaning}
+use Rattle.step_texts.specs.declared.meaning.Meaning.TheVariants as meaning
+use Rattle.step_texts.specs.declared.meaning.Thing.TheVariants as thing
+use Rattle.step_texts.specs.declared.step.Change.{Change}
 use Rattle.step_texts.specs.declared.step.Step.{Step}
-use Rattle.step_texts.specs.StepTexts.{lines_below, step_text}
+use Rattle.step_texts.specs.StepTexts.{lines_below, meaning_part, step_text}
 
 -- functions of these names, with their code between these places
 abbrev function : List ℕ → ℕ → ℕ → FnNote
@@ -46,32 +50,33 @@ notes = record {
   methods = [];
 }
 
-abbrev same : List (Option ℕ)
+abbrev same : List (Option Change)
 same = None ∷ None ∷ None ∷ None ∷ None ∷ None ∷ None ∷ []
 
--- a step of this number at a place, which gave R0 such a number
-abbrev moved : ℕ → Spot → ℕ → Step
-moved number place top = record {
+-- a step of this number at a place, which gave R0 such a number, an address of this meaning
+abbrev moved : ℕ → Spot → ℕ → Option Meaning → Step
+moved number place top meaning = record {
   number = number;
   place = place;
   insn = None;
-  registers = Some top ∷ same;
+  registers = Some (record { number = top; meaning = meaning }) ∷ same;
   flag = None;
   stored = None;
 }
 
 -- a step of this number at a place that changed nothing
 abbrev still : ℕ → Spot → Step
-still number place = record (moved number place 0) { registers = None ∷ same }
+still number place = record (moved number place 0 None) { registers = None ∷ same }
 
-a_callback : step_text notes (moved 21 (spot.Place 0x1038) 0x10414C)
+a_callback : step_text notes (moved 21 (spot.Place 0x1038) 0x10414C (Some (meaning.Past thing.Stack 0xEC)))
     (event.Entered 1 (record { lent = false; value = value.Int 1 } ∷ []) ∷ [])
-    ≡ codes "step 21 00001038 main+0x38\n  enter tick int 1\n  R0 000000000010414c\n"
+    ≡ codes "step 21 00001038 main+0x38\n  enter tick int 1\n  R0 000000000010414c stack+0xec\n"
 unfolding place_text hex_text value_text named_value digits function_at lines_below
 a_callback = refl
 
-at_the_gate : step_text notes (moved 24 spot.Gate 0x104160) (event.Returned 1 (value.StatusOk 0) ∷ [])
-    ≡ codes "step 24 gate\n  return tick status ok 0\n  R0 0000000000104160\n"
+at_the_gate : step_text notes (moved 24 spot.Gate 0x104160 (Some (meaning.Past thing.Stack 0x100)))
+    (event.Returned 1 (value.StatusOk 0) ∷ [])
+    ≡ codes "step 24 gate\n  return tick status ok 0\n  R0 0000000000104160 stack+0x100\n"
 unfolding place_text hex_text value_text named_value digits function_at lines_below
 at_the_gate = refl
 
@@ -95,3 +100,34 @@ outside_the_image : step_text notes (record (still 4 (spot.Wild 0x1040A0)) { ins
     ≡ codes "step 4 wild 00000000001040a0 RET\n"
 unfolding wild_text hex_text digits lines_below listed_text word_of
 outside_the_image = refl
+
+no_address : step_text notes (moved 5 spot.Gate 7 None) [] ≡ codes "step 5 gate\n  R0 0000000000000007\n"
+unfolding hex_text digits lines_below
+no_address = refl
+
+an_object : meaning_part notes (Some (meaning.Past (thing.Object 1) 0)) ≡ codes " ptr 1 0"
+unfolding digits
+an_object = refl
+
+in_an_object : meaning_part notes (Some (meaning.Past (thing.Object 12) 0x20)) ≡ codes " ptr 12 0+0x20"
+unfolding digits
+in_an_object = refl
+
+in_a_function : meaning_part notes (Some (meaning.Place 0x1044)) ≡ codes " tick+0x0"
+unfolding digits function_at
+in_a_function = refl
+
+in_the_image : meaning_part notes (Some (meaning.Place 0x2000)) ≡ codes " image+0x2000"
+unfolding digits function_at
+in_the_image = refl
+
+a_thunk : meaning_part notes (Some (meaning.Past (thing.Entry 1) 0)) ≡ codes " entry tick"
+unfolding value_text named_value
+a_thunk = refl
+
+a_handle : meaning_part notes (Some (meaning.Past (thing.Handle 3) 1)) ≡ codes " handle 3+0x1"
+unfolding digits value_text named_value
+a_handle = refl
+
+the_gate : meaning_part notes (Some (meaning.Past thing.Gate 0)) ≡ codes " gate"
+the_gate = refl

@@ -1,5 +1,6 @@
 -- For proofs: the lines of a step of a run: docs/TRACE.md, "The lines of a step".
-use Rattle.std.specs.Prelude.{ℕ, ◌-◌, List, [], ◌++◌, Bool, true, false, Option, Some, None, codes, map, slice_index_or}
+use Rattle.std.specs.Prelude.{ℕ, ◌-◌, List, [], ◌++◌, Bool, true, false, Option, Some, None, codes, map, nat_eq}
+use Rattle.std.specs.Prelude.{if◌then◌else◌, slice_index_or}
 use Rattle.std.specs.Fmt.{decimal, digits}
 use Rattle.std.specs.List.{concat, flat_map, range_with_len}
 use Rattle.asm_text.specs.declared.listing.Listed.TheVariants as listed
@@ -12,7 +13,14 @@ use Rattle.note_types.specs.declared.notes.FnNote.{FnNote}
 use Rattle.note_types.specs.declared.notes.Notes.{Notes}
 use Rattle.note_types.specs.declared.spot.Spot.{Spot}
 use Rattle.note_types.specs.declared.spot.Spot.TheVariants as spots
+use Rattle.note_types.specs.declared.value.Value.TheVariants as values
 use Rattle.run_texts.specs.RunTexts.{event_line, spot_text}
+use Rattle.script_draft.specs.Printed.{value_text}
+use Rattle.step_texts.specs.declared.meaning.Meaning.{Meaning}
+use Rattle.step_texts.specs.declared.meaning.Meaning.TheVariants as meanings
+use Rattle.step_texts.specs.declared.meaning.Thing.{Thing}
+use Rattle.step_texts.specs.declared.meaning.Thing.TheVariants as things
+use Rattle.step_texts.specs.declared.step.Change.{Change}
 use Rattle.step_texts.specs.declared.step.Step.{Step}
 use Rattle.step_texts.specs.declared.step.Stored.{Stored}
 
@@ -40,24 +48,54 @@ step_line notes s =
     codes "step " ++ (decimal s.number ++ (codes " " ++ (spot_text s.place
     ++ (function_part notes s.place ++ (instruction_part s.insn ++ codes "\n")))))
 
+-- ---- addresses
+
+-- so many bytes past something, if any
+abbrev pub past_text : ℕ → List ℕ
+past_text n = if nat_eq n 0 then [] else codes "+0x" ++ digits 16 false n
+
+-- a thing as scripts have it, an object by the address of its first instance
+abbrev pub thing_text : Notes → Thing → List ℕ
+thing_text notes things.Gate = codes "gate"
+thing_text notes (things.Method m) = value_text notes (values.Method m)
+thing_text notes (things.Entry f) = value_text notes (values.Entry f)
+thing_text notes (things.Handle k) = value_text notes (values.Handle k)
+thing_text notes things.Stack = codes "stack"
+thing_text notes (things.Object k) = codes "ptr " ++ (decimal k ++ codes " 0")
+
+-- a place by the function that it belongs to, as `main+0x22`, or by the image
+abbrev pub image_place : Option FnNote → ℕ → List ℕ
+image_place None place = codes "image+0x" ++ digits 16 false place
+image_place (Some f) place = f.name ++ (codes "+0x" ++ digits 16 false (place - f.place))
+
+abbrev pub image_text : Notes → ℕ → List ℕ
+image_text notes place = image_place (function_at notes place) place
+
+-- what a number is as an address, behind a space; nothing if it is none
+abbrev pub meaning_part : Notes → Option Meaning → List ℕ
+meaning_part notes None = []
+meaning_part notes (Some (meanings.Place place)) = codes " " ++ image_text notes place
+meaning_part notes (Some (meanings.Past thing bytes)) = codes " " ++ (thing_text notes thing ++ past_text bytes)
+
 -- ---- the lines below it
 
 -- an event, on a line of its own
 abbrev pub event_below : Notes → Event → List ℕ
 event_below notes e = codes "  " ++ event_line notes e
 
--- the new value of a register, if it changed
-abbrev pub register_line : ℕ → Option ℕ → List ℕ
-register_line r None = []
-register_line r (Some x) = codes "  R" ++ (decimal r ++ (codes " " ++ (hex_text 16 x ++ codes "\n")))
+-- the new number of a register, if it changed, and what it is as an address
+abbrev pub register_line : Notes → ℕ → Option Change → List ℕ
+register_line notes r None = []
+register_line notes r (Some x) =
+    codes "  R" ++ (decimal r ++ (codes " " ++ (hex_text 16 x.number ++ (meaning_part notes x.meaning ++ codes "\n"))))
 
 -- the lines of the first n registers
-unfoldable pub lines_below : List (Option ℕ) → ℕ → List ℕ
-lines_below registers n = concat (map (λ r. register_line r (slice_index_or registers r None)) (range_with_len 0 n))
+unfoldable pub lines_below : Notes → List (Option Change) → ℕ → List ℕ
+lines_below notes registers n = concat (map (λ r. register_line notes r (slice_index_or registers r None)) (range_with_len 0 n))
 
 -- the lines of R0 to R7
-abbrev pub register_lines : List (Option ℕ) → List ℕ
-register_lines registers = lines_below registers 8
+abbrev pub register_lines : Notes → List (Option Change) → List ℕ
+register_lines notes registers = lines_below notes registers 8
 
 -- the new C, if it changed
 abbrev pub flag_line : Option Bool → List ℕ
@@ -75,4 +113,5 @@ stored_line (Some s) = codes "  store " ++ (hex_text 16 s.address ++ (codes " " 
 -- a step of a run, which added these events
 abbrev pub step_text : Notes → Step → List Event → List ℕ
 step_text notes s events =
-    step_line notes s ++ (flat_map (event_below notes) events ++ (register_lines s.registers ++ (flag_line s.flag ++ stored_line s.stored)))
+    step_line notes s
+    ++ (flat_map (event_below notes) events ++ (register_lines notes s.registers ++ (flag_line s.flag ++ stored_line s.stored)))

@@ -4,8 +4,9 @@ ghost use Rattle.std.specs.List.{flat_map};
 ghost use Rattle.asm_text.specs.Numbers.{hex_text};
 ghost use Rattle.step_texts.specs.StepTexts.{event_below, flag_line, register_line, register_lines, stored_line};
 
+use crate::meaning::MeaningPart;
 use crate::numbers::{Byte, Number};
-use crate::step::Stored;
+use crate::step::{Change, Stored};
 use note_types::{Event, NoMemory, Notes};
 use run_texts::append_event;
 use std::alloc::Global;
@@ -44,17 +45,22 @@ fn append_event_below(
 // Appends the line of a register, if it changed.
 fn append_register(
     alloc: Global,
+    notes: &Notes,
     register: u8,
-    value: Option<u64>,
+    change: Option<Change>,
     out: &mut Vec<u8>,
 ) -> Result<(), NoMemory>
-    ensures { OnOk result (out.new.items ≡ out.old.items ++ register_line register value) }
+    ensures { OnOk result (out.new.items ≡ out.old.items ++ register_line notes.now register change) }
 {
-    let Some(value) = value else {
+    let Some(change) = change else {
         return Ok(());
     };
-    let value = Number(value);
-    let line = format!(in alloc; "  R{register} {value}\n")?;
+    let number = Number(change.number);
+    let meaning = MeaningPart {
+        notes,
+        meaning: change.meaning,
+    };
+    let line = format!(in alloc; "  R{register} {number}{meaning}\n")?;
     out.extend_from_slice(line.as_bytes())?;
     Ok(())
 }
@@ -67,13 +73,14 @@ fn append_register(
 #[tactic(auto, using(crate::proofs::RegisterLines::none, crate::proofs::RegisterLines::one_more))]
 pub(crate) fn append_registers(
     alloc: Global,
-    registers: &[Option<u64>; 8],
+    notes: &Notes,
+    registers: &[Option<Change>; 8],
     out: &mut Vec<u8>,
 ) -> Result<(), NoMemory>
-    ensures { OnOk result (out.new.items ≡ out.old.items ++ register_lines registers.now) }
+    ensures { OnOk result (out.new.items ≡ out.old.items ++ register_lines notes.now registers.now) }
 {
     for register in 0..8u8 {
-        append_register(alloc, register, registers[register as usize], out)?;
+        append_register(alloc, notes, register, registers[register as usize], out)?;
     }
     Ok(())
 }

@@ -1,35 +1,16 @@
 //! The first line of a step: its number, where the run stood, and the instruction.
-ghost use Rattle.std.specs.Prelude.{◌≡◌, ◌++◌, IfSome, OnOk, Some, option_copied};
+ghost use Rattle.std.specs.Prelude.{◌≡◌, ◌++◌, IfSome, OnOk, Some};
 ghost use Rattle.ebc_insn.specs.Spelling.{WellFormed};
-ghost use Rattle.note_types.specs.Records.{function_at, has_place};
 ghost use Rattle.step_texts.specs.StepTexts.{function_part, instruction_part, step_line};
 
 use crate::step::Step;
 use asm_text::Listed;
 use ebc_insn::Insn;
-use note_types::{FnNote, NoMemory, Notes, Spot};
+use note_types::{NoMemory, Notes, Spot};
+use point_texts::function_at;
 use run_texts::ShownSpot;
 use std::alloc::Global;
 use std::fmt;
-
-// Whether a function's code has a place.
-fn has_place(f: &FnNote, place: u32) -> bool
-    ensures { result ≡ has_place place f.now }
-{
-    f.place <= place && place < f.end
-}
-
-// The function that a place belongs to.
-#[tactic(auto, unfolding(note_types::specs::Records::function_at))]
-fn function_at(notes: &Notes, place: u32) -> Option<&FnNote>
-    ensures { option_copied result ≡ function_at notes.now place }
-{
-    notes
-        .function
-        .as_slice()
-        .iter()
-        .find(|f| has_place(f, place))
-}
 
 // Where a run stands by the function that has the place, behind a space.
 #[derive(Clone, Copy)]

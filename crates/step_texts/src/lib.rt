@@ -5,16 +5,18 @@
 //!
 //! - `append_step`: what is appended is `step_text` of the step and of the events that it added. The instruction has to have
 //!   a spelling, as each that was decoded has.
-//! - `Step`, `Stored`: plain data.
+//! - `Step`, `Change`, `Meaning`, `Thing`, `Stored`: plain data.
 //!
 //! The call fails only by want of memory, and asks nothing of the notes.
 #![tactic(auto)]
 
 mod changes;
 mod head;
+mod meaning;
 mod numbers;
 mod step;
 mod text;
 
-pub use step::{Step, Stored};
+pub use meaning::{Meaning, Thing};
+pub use step::{Change, Step, Stored};
 pub use text::append_step;

@@ -1,4 +1,5 @@
 //! A step of a run, and what it changed.
+use crate::meaning::Meaning;
 use arrayvec::ArrayVec;
 use ebc_insn::Insn;
 use note_types::Spot;
@@ -13,12 +14,21 @@ pub struct Step {
     /// The instruction that was done or raised an exception. There is none in a step of the host, nor where no instruction
     /// could be read.
     pub insn: Option<Insn>,
-    /// R0 to R7: the new value of each that changed.
-    pub registers: [Option<u64>; 8],
+    /// R0 to R7: the new number of each that changed.
+    pub registers: [Option<Change>; 8],
     /// The new C, if it changed.
     pub flag: Option<bool>,
     /// What the instruction stored, if it stored anything.
     pub stored: Option<Stored>,
+}
+
+/// The number that a register holds in place of another one.
+#[derive(Clone, Copy)]
+pub struct Change {
+    /// The new number.
+    pub number: u64,
+    /// What it is as an address of the run, if it is one.
+    pub meaning: Option<Meaning>,
 }
 
 /// Bytes that an instruction stored.

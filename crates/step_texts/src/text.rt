@@ -27,7 +27,7 @@ pub fn append_step(
 {
     append_head(alloc, notes, step, out)?;
     append_events(alloc, notes, events, out)?;
-    append_registers(alloc, &step.registers, out)?;
+    append_registers(alloc, notes, &step.registers, out)?;
     out.extend_from_slice(flag_line(step.flag).as_bytes())?;
     append_stored(alloc, &step.stored, out)
 }

@@ -3,6 +3,7 @@ use Rattle.std.proofs.lemmas.Bool.{false≢true}
 use Rattle.host_model.specs.Runs.{world_of}
 use Rattle.host_model.specs.World.{World}
 use Rattle.note_types.specs.declared.ending.Ending.TheVariants.{Running}
+use Rattle.run_trace.proofs.RunnerLaws.{image-has-bytes}
 use Rattle.run_trace.proofs.TraceLaws.{runs-of, told-all, told-next, told-none, told-report}
 use Rattle.run_trace.proofs.telling.trace.Goals as goal
 use Rattle.run_trace.proofs.telling.trace.Goals.{then-loop-taken-test+else-goes_on, else-loop-taken-test}
@@ -22,7 +23,10 @@ next_step-requires g c =
         c.requires.width,
         (
           runs-of g.row.W c.args.image.now c.args.notes.now c.args.script.now c.loop-taken.runner _ there,
-          there.at.ending ∙ (c.goes_on.ensures world _ there).0 c.if-goes_on.true,
+          (
+            there.at.ending ∙ (c.goes_on.ensures world _ there).0 c.if-goes_on.true,
+            image-has-bytes g.row.W c.args.image.now c.args.notes.now c.args.script.now c.loop-taken.runner _ c.requires.image there,
+          ),
         ),
       ),
     )

@@ -1,0 +1,36 @@
+use Rattle.std.proofs.Common.{inl, inr, refl, sym, ap, ◌∙◌, ◌++◌, arith, append-nil}
+use Rattle.twin_trace.specs.BothTraces.{steps_beside, world_under}
+use Rattle.twin_trace.proofs.BothLaws.{after-next, stopped}
+use Rattle.twin_trace.proofs.runs.BothRuns.pass.Goals as goal
+
+pub loop-number-init : goal.loop-number-init
+loop-number-init c = record { at = c.requires; least = omega arith; most = omega arith }
+
+pub loop-number-preserved : goal.loop-number-preserved
+loop-number-preserved c =
+    let p = c.args.program in
+    let at = c.loop-number.invariant.at in
+    let under = c.loop-number-test.true in
+    record {
+      at = record {
+        at4 = after-next 4 p c.loop-number.number c.loop-number.self.at4 c.step.new.self at.at4
+            (λ r is. c.step.ensures.step (world_under p) r refl refl is);
+        at8 = after-next 8 p c.loop-number.number c.loop-number.self.at8 c.step-in-loop-number.new.self at.at8
+            (λ r is. c.step-in-loop-number.ensures.step (world_under p) r refl refl is);
+      };
+      least = omega (arith, c.loop-number.invariant.least);
+      most = omega (arith, under);
+    }
+
+pub returns-else-go_on : goal.returns-else-go_on
+returns-else-go_on c =
+    let p = c.args.program in
+    stopped p c.args.taken c.args.last c.loop-number.number c.loop-number.self c.loop-number.invariant.least
+    c.loop-number.invariant.most
+    (inl (c.go_on.ensures p c.loop-number.number c.loop-number.invariant.at c.if-go_on.false)) c.loop-number.invariant.at
+
+pub returns-after-loop-number : goal.returns-after-loop-number
+returns-after-loop-number c =
+    stopped c.args.program c.args.taken c.args.last c.loop-number.number c.loop-number.self c.loop-number.invariant.least
+    c.loop-number.invariant.most
+    (inr c.loop-number-test.false) c.loop-number.invariant.at

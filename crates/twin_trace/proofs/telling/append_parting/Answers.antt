@@ -1,0 +1,17 @@
+use Rattle.std.proofs.Common.{◌≡◌, ◌-◌, arith, max, rules, subst}
+use Rattle.std.proofs.lemmas.Result.{on_ok_weaker}
+use Rattle.twin_trace.specs.BothTraces.{AreAfter, world_under}
+use Rattle.twin_trace.proofs.BothLaws.{parting-told}
+use Rattle.twin_trace.proofs.telling.append_parting.Goals as goal
+
+pub tell-requires-clause-before : goal.tell-requires-clause-before
+tell-requires-clause-before c =
+    let same : max c.passed_over.result (c.args.last - 1) ≡ c.args.last - 1 = omega (arith, c.passed_over.ensures) in
+    subst (λ n. AreAfter c.args.program n c.append_steps.new.runs) same c.in_ok-append_steps.ensures.after
+
+pub returns : goal.returns
+returns c =
+    let p = c.args.program in
+    on_ok_weaker c.tell.result (parting-told p.image.now (world_under p) c.args.first c.args.last c.args.steps c.passed_over.result
+    c.args.out.now.items c.append_steps.new.out.items c.extend_from_slice.new.self.items c.tell.new.out.items c.passed_over.ensures
+    c.in_ok-append_steps.ensures.text (search rules)) c.tell.ensures.text
