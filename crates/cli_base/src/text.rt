@@ -1,5 +1,6 @@
 //! The answers that print a text, and those to a file that isn't there, is too large or is no image.
 ghost use Rattle.std.specs.Prelude.{◌≡◌, IfOk};
+ghost use Rattle.std.specs.Fmt.{decimal};
 ghost use Rattle.cli_base.specs.Inputs.{bad_image_reply, bad_reply};
 ghost use Rattle.cli_base.specs.Outputs.{prints};
 ghost use Rattle.cli_base.specs.Readings.{large_reply, missing_reply};
@@ -58,6 +59,21 @@ pub fn bad(
     ))
 }
 
+/// The answer where the file of the name has a fault at an offset or a line.
+pub fn bad_at(
+    alloc: Global,
+    word: u8,
+    name: &str,
+    number: u8,
+    fault: &str,
+    at: u64,
+) -> Result<Reply, AllocError>
+    ensures { IfOk result (λ r. r ≡ bad_reply word name.now number fault.now (decimal at)) }
+{
+    let detail = format!(in alloc; "{at}")?;
+    bad(alloc, word, name, number, fault, detail.as_str())
+}
+
 /// The answer where the file of the name is no image, by a fault at an offset.
 pub fn bad_image(
     alloc: Global,
@@ -68,14 +84,6 @@ pub fn bad_image(
 ) -> Result<Reply, AllocError>
     ensures { IfOk result (λ r. r ≡ bad_image_reply word name.now (kind, offset)) }
 {
-    let detail = format!(in alloc; "{offset}")?;
     let number = image_fault_number(kind);
-    bad(
-        alloc,
-        word,
-        name,
-        number,
-        image_fault_text(kind),
-        detail.as_str(),
-    )
+    bad_at(alloc, word, name, number, image_fault_text(kind), offset)
 }

@@ -94,10 +94,8 @@ fn read_places<F: Folder>(alloc: Global, name: &str, folder: &mut F) -> Result<R
     ensures write_faults { F.write_faults folder.new ≡ F.write_faults folder.old }
 {
     let bytes = file(alloc, folder, 0, name, IMAGE_LIMIT)?;
-    match image_in(alloc, 0, name, bytes.as_slice()) {
-        Ok(image) => Ok(printed(Outcome::Done, places_text(alloc, &image)?)),
-        Err(end) => Err(end),
-    }
+    let image = image_in(alloc, 0, name, bytes.as_slice())?;
+    Ok(printed(Outcome::Done, places_text(alloc, &image)?))
 }
 
 // The answer to words, or how the call ends without one.

@@ -1,27 +1,17 @@
 -- What comes of files that are there: the work that the words ask for.
-use Rattle.std.proofs.Common.{◌≡◌, ℕ, ◌+◌, List, length, Result, Ok, refl}
+use Rattle.ebc_cli.proofs.Common.{◌≡◌, ℕ, ◌+◌, List, length, Result, Ok, refl, Files, Notes, Script, Bind, Image, Reply, image_limit}
+use Rattle.ebc_cli.proofs.Common.{image_meaning, ReadDriver, ChecksCode, ChecksImage, InfersPoints, PairsImages, TwinsImage, binds_limit}
+use Rattle.ebc_cli.proofs.Common.{binds_meaning, script_limit, script_meaning, input, notes_limit, notes_meaning, driver_files, pair_files}
+use Rattle.ebc_cli.proofs.Common.{unnotified, run_files, image_with_notes, pairing, plain_code_limit, twinning, work_of}
 use Rattle.std.proofs.lemmas.Bool.{le-ltb}
-use Rattle.ebc_outside.specs.Files.{Files}
-use Rattle.note_types.specs.declared.notes.Notes.{Notes}
-use Rattle.note_types.specs.declared.script.Script.{Script}
-use Rattle.pair_model.specs.declared.bind.Bind.{Bind}
-use Rattle.pe_image.specs.declared.image.Image.{Image}
 use Rattle.pe_image.specs.Images.{image_of}
 use Rattle.type_notes.specs.Notes.{notes_of}
-use Rattle.cli_base.specs.declared.reply.Reply.{Reply}
-use Rattle.cli_base.specs.Inputs.{image_limit, image_meaning}
 use Rattle.cli_base.specs.Readings.{file}
 use Rattle.ebc_cli.specs.declared.command.DriverFiles.{DriverFiles}
-use Rattle.ebc_cli.specs.declared.pairing.ReadDriver.{ReadDriver}
-use Rattle.ebc_cli.specs.declared.work.Work.TheVariants as works
-use Rattle.ebc_cli.specs.Answers.{ChecksCode, ChecksImage, HasDriver, HasRunFiles, InfersPoints, PairsImages, TwinsImage}
+use Rattle.ebc_cli.specs.{Answers.HasDriver, Answers.HasRunFiles, Works.code_check, Works.image_check, Works.inference}
 use Rattle.file_inputs.specs.Held.{HasFile}
-use Rattle.ebc_cli.specs.Inputs.{binds_limit, binds_meaning, script_limit, script_meaning}
-use Rattle.file_inputs.specs.Inputs.{input, notes_limit, notes_meaning}
-use Rattle.ebc_cli.specs.Pairings.{driver_files, pair_files, unnotified}
-use Rattle.ebc_cli.specs.Runnings.{run_files}
-use Rattle.ebc_cli.specs.Works.{code_check, image_check, image_with_notes, inference, pairing, plain_code_limit, twinning, work_of}
 use Rattle.ebc_cli.proofs.NumberLemmas.{pair-step-number, step-number}
+use Rattle.ebc_cli.specs.declared.work.Work.TheVariants as works
 
 -- a file that is there is read as its bytes mean
 read-means : {A : Type 0} (limit : ℕ) (meaning : ℕ → List ℕ → List ℕ → Result A Reply) (word : ℕ) (name : List ℕ) (files : Files)
@@ -37,27 +27,28 @@ pub code-work : (words : List (List ℕ)) (files : Files) (code : List ℕ) → 
 unfolding work_of code_check file
 code-work words files code c = rw (c.command, c.code_file.there, le-ltb plain_code_limit (length code) c.code_file.fits) refl
 
-both-are-read : (files : Files) (a b bytes text : List ℕ) (image : Image) (notes : Notes) → HasFile files a image_limit bytes
+both-are-read : (files : Files) (word : ℕ) (a b bytes text : List ℕ) (image : Image) (notes : Notes) → HasFile files a image_limit bytes
     → HasFile files b notes_limit text → image_of bytes ≡ Ok image → notes_of text ≡ Ok notes
-    → (image_with_notes a b files).value ≡ Ok (image, notes)
+    → (image_with_notes word a b files).value ≡ Ok (image, notes)
 unfolding image_with_notes
-both-are-read files a b bytes text image notes image_file notes_file image_is notes_are =
-    let one = read-means image_limit image_meaning 1 a files bytes (Ok image) image_file (rw image_is refl) in
-    let two = read-means notes_limit notes_meaning 2 b files text (Ok notes) notes_file (rw notes_are refl) in
+both-are-read files word a b bytes text image notes image_file notes_file image_is notes_are =
+    let one = read-means image_limit image_meaning word a files bytes (Ok image) image_file (rw image_is refl) in
+    let two = read-means notes_limit notes_meaning (word + 1) b files text (Ok notes) notes_file (rw notes_are refl) in
     rw (one, two) refl
 
 pub image-work : (words : List (List ℕ)) (files : Files) (image : Image) (notes : Notes) → ChecksImage words files image notes
     → (work_of words files).value ≡ Ok (works.CheckImage image notes)
 unfolding work_of image_check
 image-work words files image notes c =
-    let read = both-are-read files c.image_name c.notes_name c.bytes c.text image notes c.image_file c.notes_file c.image_is c.notes_are in
+    let read = both-are-read files 1 c.image_name c.notes_name c.bytes c.text image notes c.image_file c.notes_file c.image_is
+    c.notes_are in
     rw (c.command, read) refl
 
 pub infer-work : (words : List (List ℕ)) (files : Files) (name : List ℕ) (image : Image) (notes : Notes)
     → InfersPoints words files name image notes → (work_of words files).value ≡ Ok (works.InferPoints name image notes)
 unfolding work_of inference
 infer-work words files name image notes x =
-    let read = both-are-read files name x.notes_name x.bytes x.text image notes x.image_file x.notes_file x.image_is x.notes_are in
+    let read = both-are-read files 1 name x.notes_name x.bytes x.text image notes x.image_file x.notes_file x.image_is x.notes_are in
     rw (x.command, read) refl
 
 -- ---- `twin` and `pair`

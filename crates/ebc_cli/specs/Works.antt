@@ -3,11 +3,9 @@
 use Rattle.std.specs.Prelude.{◌≡◌, ◌↔◌, ℕ, List, Option, Some, None, Result, Ok, Err}
 use Rattle.ebc_object.specs.Files.{object_bytes}
 use Rattle.ebc_outside.specs.Files.{Files}
-use Rattle.note_types.specs.declared.notes.Notes.{Notes}
 use Rattle.note_types.specs.declared.rule.RuleName.{RuleName}
 use Rattle.option_rom.specs.Files.{rom_bytes}
 use Rattle.pe_image.specs.Files.{file_of}
-use Rattle.pe_image.specs.declared.image.Image.{Image}
 use Rattle.ebc_disasm.specs.Listings.{listing_of}
 use Rattle.plain_check.specs.declared.verdict.Verdict.{Verdict}
 use Rattle.plain_check.specs.declared.verdict.Verdict.TheVariants as verdicts
@@ -23,7 +21,7 @@ use Rattle.ebc_cli.specs.declared.work.Work.{Work}
 use Rattle.ebc_cli.specs.declared.work.Work.TheVariants as works
 use Rattle.ebc_cli.specs.declared.width.Width.{Width}
 use Rattle.ebc_cli.specs.Commands.{command_of}
-use Rattle.file_inputs.specs.Inputs.{input, input_with_bytes, notes_limit, notes_meaning, source_limit}
+use Rattle.file_inputs.specs.Inputs.{image_with_notes, input, input_with_bytes, source_limit}
 use Rattle.cli_base.specs.Inputs.{image_limit, image_meaning}
 use Rattle.file_inputs.specs.Inputs.{source_meaning}
 use Rattle.ebc_cli.specs.Inputs.{number_meaning, pair_step_limit, rom_number_limit, sample_limit, step_limit}
@@ -56,17 +54,10 @@ code_check name files = do
   code ← file 1 name plain_code_limit files
   done (works.CheckCode code)
 
--- an image and its notes: the image is read whole before the notes
-unfoldable pub image_with_notes : List ℕ → List ℕ → Files → FileReading (Image × Notes)
-image_with_notes image_name notes_name files = do
-  image ← input image_limit image_meaning 1 image_name files
-  notes ← input notes_limit notes_meaning 2 notes_name files
-  done (image, notes)
-
 -- `check IMAGE NOTES`
 unfoldable pub image_check : List ℕ → List ℕ → Files → FileReading Work
 image_check image_name notes_name files = do
-  read ← image_with_notes image_name notes_name files
+  read ← image_with_notes 1 image_name notes_name files
   done (works.CheckImage read.0 read.1)
 
 -- `list IMAGE`
@@ -143,7 +134,7 @@ rom_taking rom_name digits image_name files = do
 -- `infer IMAGE NOTES`
 unfoldable pub inference : List ℕ → List ℕ → Files → FileReading Work
 inference image_name notes_name files = do
-  read ← image_with_notes image_name notes_name files
+  read ← image_with_notes 1 image_name notes_name files
   done (works.InferPoints image_name read.0 read.1)
 
 abbrev pub work_for : Option Command → Files → FileReading Work

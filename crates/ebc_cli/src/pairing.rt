@@ -122,10 +122,7 @@ fn read_binds_file<F: Folder>(
     ensures agree { IfOk result (AllAgree a.now b.now) }
 {
     let bytes = file(alloc, folder, 7, name, BINDS_LIMIT)?;
-    match binds_in(alloc, name, bytes.as_slice(), a, b) {
-        Ok(binds) => Ok(binds),
-        Err(end) => Err(end),
-    }
+    binds_in(alloc, name, bytes.as_slice(), a, b)
 }
 
 /// What is read for a pair: image A and what is read with it, image B and what is read with it, and the binds, each read whole before the

@@ -1,9 +1,8 @@
 //! What each command reads before its work is done.
 ghost use Rattle.std.specs.Prelude.{◌≡◌, ◌≤◌, All, None, Ok, Some, IfOk};
-ghost use Rattle.note_types.specs.Records.{IsNotes};
 ghost use Rattle.option_rom.specs.Roms.{rom_of};
 ghost use Rattle.option_rom.specs.Takes.{IsTakeable};
-ghost use Rattle.cli_base.specs.Inputs.{IsReadImage, Means};
+ghost use Rattle.cli_base.specs.Inputs.{Means};
 ghost use Rattle.cli_base.specs.Outcomes.{IsBadInput};
 ghost use Rattle.cli_base.specs.Outputs.{written_name};
 ghost use Rattle.cli_base.specs.Readings.{IfStop};
@@ -11,8 +10,7 @@ ghost use Rattle.ebc_cli.specs.Commands.{output_of};
 ghost use Rattle.ebc_cli.specs.Inputs.{number_meaning, rom_number_limit, sample_limit, step_limit};
 ghost use Rattle.file_inputs.specs.Inputs.{taking_meaning};
 ghost use Rattle.ebc_cli.specs.Reads.{IsRomCommand, IsRunCommand, ReadsWork};
-ghost use Rattle.file_inputs.specs.Reads.{Reads};
-ghost use Rattle.ebc_cli.specs.Works.{assembly, code_check, image_check, image_listing, image_with_notes, inference, linking, rom_images};
+ghost use Rattle.ebc_cli.specs.Works.{assembly, code_check, image_check, image_listing, inference, linking, rom_images};
 ghost use Rattle.ebc_cli.specs.Works.{pairing, rom_taking, rom_taking_of, rom_wrapping, running, sampling, twinning, work_for};
 
 use crate::command::{Command, DriverFiles};
@@ -26,9 +24,8 @@ use cli_base::{End, file};
 use ebc_base::{Name, Sequence};
 use ebc_outside::Folder;
 use file_inputs::text::bad_taking;
-use file_inputs::{read_as, read_linked, read_with_bytes};
+use file_inputs::{read_as, read_image_with_notes, read_linked, read_with_bytes};
 use note_texts::number_in;
-use note_types::Notes;
 use option_rom::{RomImage, RomImages, take};
 use pe_image::Image;
 use std::alloc::Global;
@@ -123,26 +120,6 @@ fn read_code_check<F: Folder>(alloc: Global, code: Name, folder: &mut F) -> Resu
     Ok(Work::CheckCode { code })
 }
 
-// An image and its notes.
-#[tactic(auto, unfolding(crate::specs::Works::image_with_notes))]
-fn read_image_with_notes<F: Folder>(
-    alloc: Global,
-    image: &str,
-    notes: &str,
-    folder: &mut F,
-) -> Result<(Image, Notes), End>
-    ensures reads { Reads F.contents F.asked F.read_faults F.write_faults folder.old folder.new result
-        (image_with_notes image.now notes.now) }
-    ensures image { IfOk result (λ read. IsReadImage read.0) }
-    ensures notes { IfOk result (λ read. IsNotes read.1) }
-{
-    let image = read_as(alloc, folder, 1, image)?;
-    match read_as(alloc, folder, 2, notes) {
-        Ok(notes) => Ok((image, notes)),
-        Err(end) => Err(end),
-    }
-}
-
 // `check IMAGE NOTES`
 #[tactic(auto, unfolding(crate::specs::Works::image_check))]
 fn read_image_check<F: Folder>(
@@ -153,7 +130,7 @@ fn read_image_check<F: Folder>(
 ) -> Result<Work, End>
     ensures { ReadsWork F.contents F.asked F.read_faults F.write_faults folder.old folder.new result (image_check image notes) None }
 {
-    let (image, notes) = read_image_with_notes(alloc, image.as_str(), notes.as_str(), folder)?;
+    let (image, notes) = read_image_with_notes(alloc, folder, 1, image.as_str(), notes.as_str())?;
     Ok(Work::CheckImage { image, notes })
 }
 
@@ -167,7 +144,7 @@ fn read_inference<F: Folder>(
 ) -> Result<Work, End>
     ensures { ReadsWork F.contents F.asked F.read_faults F.write_faults folder.old folder.new result (inference name notes) None }
 {
-    let (image, notes) = read_image_with_notes(alloc, name.as_str(), notes.as_str(), folder)?;
+    let (image, notes) = read_image_with_notes(alloc, folder, 1, name.as_str(), notes.as_str())?;
     Ok(Work::InferPoints { name, image, notes })
 }
 

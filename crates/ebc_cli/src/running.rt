@@ -69,10 +69,7 @@ fn read_script_file<F: Folder>(
     ensures script { IfOk result (IsScript notes.now) }
 {
     let bytes = file(alloc, folder, word, name, SCRIPT_LIMIT)?;
-    match script_in(alloc, word, name, bytes.as_slice(), notes) {
-        Ok(script) => Ok(script),
-        Err(end) => Err(end),
-    }
+    script_in(alloc, word, name, bytes.as_slice(), notes)
 }
 
 /// The image, the notes and the script under them that the words from this one on name, each read whole before the next.

@@ -70,6 +70,7 @@ fn sample_image(alloc: Global, functions: u32, digits: &str) -> Result<(usize, I
     let object = sample_object(alloc, functions, digits)?;
     let code = object.code.len();
     let plan = plan(alloc)?;
+    // With `?` the drops of the object and the plan would be proved once more.
     match linked(alloc, 1, digits, &[object], &plan) {
         Ok(image) => Ok((code, image)),
         Err(end) => Err(end),

@@ -1,6 +1,6 @@
 -- Meaning: the notes, sources, link plans, objects and option ROMs that files hold, or the reply to the first fault:
 -- docs/COMMANDS.md, "The answer".
-use Rattle.std.specs.Prelude.{ℕ, ◌-◌, List, length, Result, slice_get}
+use Rattle.std.specs.Prelude.{ℕ, ◌+◌, ◌-◌, List, length, Result, slice_get}
 use Rattle.std.specs.Option.{option_map_or}
 use Rattle.std.specs.Fmt.{decimal}
 use Rattle.asm_text.specs.Faults.{asm_fault_number}
@@ -27,7 +27,7 @@ use Rattle.cli_base.specs.declared.reply.Reply.{Reply}
 use Rattle.file_inputs.specs.Faults.{asm_fault_text, toml_fault_number, toml_fault_text}
 use Rattle.file_inputs.specs.Faults.{key_path, link_detail, link_fault_number, link_fault_text, object_fault_number, object_fault_text}
 use Rattle.file_inputs.specs.Faults.{rom_fault_number, rom_fault_text, take_fault_number, take_fault_text}
-use Rattle.cli_base.specs.Inputs.{bad_reply, or_reply}
+use Rattle.cli_base.specs.Inputs.{bad_reply, image_limit, image_meaning, or_reply}
 use Rattle.cli_base.specs.Readings.{FileReading, ◌>>=◌, done, file, told}
 
 -- ---- limits
@@ -127,3 +127,10 @@ input_with_bytes limit meaning word name files = do
   bytes ← file word name limit files
   value ← told (meaning word name bytes)
   done (value, bytes)
+
+-- an image and its notes, by a word and the next one: the image is read whole before the notes
+unfoldable pub image_with_notes : ℕ → List ℕ → List ℕ → Files → FileReading (Image × Notes)
+image_with_notes word image_name notes_name files = do
+  image ← input image_limit image_meaning word image_name files
+  notes ← input notes_limit notes_meaning (word + 1) notes_name files
+  done (image, notes)

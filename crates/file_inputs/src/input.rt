@@ -1,10 +1,11 @@
 //! Reading the images, notes, sources, link plans and option ROMs that files hold.
-ghost use Rattle.std.specs.Prelude.{◌≡◌, ◌≤◌, ℕ, List, None, Result, All, IfSome, IfOk, IsErrOf, Ok, length};
+ghost use Rattle.std.specs.Prelude.{◌≡◌, ◌<◌, ◌≤◌, ℕ, List, None, Result, All, IfSome, IfOk, IsErrOf, Ok, length};
 ghost use Rattle.ebc_link.specs.Plans.{IsPlan};
 ghost use Rattle.ebc_object.specs.Objects.{IsObject};
 ghost use Rattle.note_types.specs.Records.{IsNotes};
 ghost use Rattle.option_rom.specs.Takes.{IsTakeable};
-ghost use Rattle.file_inputs.specs.Inputs.{input, input_with_bytes, notes_limit, notes_meaning, plan_limit, plan_meaning, rom_limit, rom_meaning, source_limit, source_meaning};
+ghost use Rattle.file_inputs.specs.Inputs.{image_with_notes, input, input_with_bytes, notes_limit, notes_meaning};
+ghost use Rattle.file_inputs.specs.Inputs.{plan_limit, plan_meaning, rom_limit, rom_meaning, source_limit, source_meaning};
 ghost use Rattle.file_inputs.specs.Reads.{Reads};
 ghost use Rattle.cli_base.specs.Inputs.{IsReadImage, Means, image_limit, image_meaning};
 ghost use Rattle.cli_base.specs.Outcomes.{IsBadInput};
@@ -61,10 +62,7 @@ pub fn read_as<T: Input, F: Folder>(
     ensures valid { IfOk result T.IsValid }
 {
     let bytes = file(alloc, folder, word, name, T::LIMIT)?;
-    match T::of(alloc, word, name, bytes.as_slice()) {
-        Ok(value) => Ok(value),
-        Err(end) => Err(end),
-    }
+    T::of(alloc, word, name, bytes.as_slice())
 }
 
 /// What is read in the file that a word names, and its bytes.
@@ -82,8 +80,29 @@ pub fn read_with_bytes<T: Input, F: Folder>(
     ensures within { IfOk result (λ read. length read.1 ≤ T.LIMIT) }
 {
     let bytes = file(alloc, folder, word, name, T::LIMIT)?;
-    match T::of(alloc, word, name, bytes.as_slice()) {
-        Ok(value) => Ok((value, bytes)),
+    let value = T::of(alloc, word, name, bytes.as_slice())?;
+    Ok((value, bytes))
+}
+
+/// An image and its notes, which a word and the next one name, by its number: the image is read whole before the notes.
+#[tactic(auto, unfolding(crate::specs::Inputs::image_with_notes))]
+pub fn read_image_with_notes<F: Folder>(
+    alloc: Global,
+    folder: &mut F,
+    word: u8,
+    image: &str,
+    notes: &str,
+) -> Result<(Image, Notes), End>
+    requires { word < 255 }
+    ensures reads { Reads F.contents F.asked F.read_faults F.write_faults folder.old folder.new result
+        (image_with_notes word image.now notes.now) }
+    ensures image { IfOk result (λ read. IsReadImage read.0) }
+    ensures notes { IfOk result (λ read. IsNotes read.1) }
+{
+    let image = read_as(alloc, folder, word, image)?;
+    // With `?` the drop of the image would be proved part by part once more.
+    match read_as(alloc, folder, word + 1, notes) {
+        Ok(notes) => Ok((image, notes)),
         Err(end) => Err(end),
     }
 }

@@ -9,7 +9,7 @@ use crate::fault::{
     rom_fault_text, take_fault_number, take_fault_text, toml_fault_number, toml_fault_text,
 };
 use cli_base::Reply;
-use cli_base::text::bad;
+use cli_base::text::{bad, bad_at};
 use ebc_asm::AsmFault;
 use ebc_object::ObjectFault;
 use note_types::TomlFault;
@@ -46,15 +46,7 @@ pub fn bad_source(
 ) -> Result<Reply, AllocError>
     ensures { IfOk result (λ r. r ≡ bad_source_reply word name.now (kind, line)) }
 {
-    let detail = format!(in alloc; "{line}")?;
-    bad(
-        alloc,
-        word,
-        name,
-        kind.number(),
-        asm_fault_text(kind),
-        detail.as_str(),
-    )
+    bad_at(alloc, word, name, kind.number(), asm_fault_text(kind), line)
 }
 
 /// The answer where the file of the name stands for no link plan.
@@ -82,16 +74,8 @@ pub fn bad_object(
 ) -> Result<Reply, AllocError>
     ensures { IfOk result (λ r. r ≡ bad_object_reply word name.now (kind, offset)) }
 {
-    let detail = format!(in alloc; "{offset}")?;
     let number = object_fault_number(kind);
-    bad(
-        alloc,
-        word,
-        name,
-        number,
-        object_fault_text(kind),
-        detail.as_str(),
-    )
+    bad_at(alloc, word, name, number, object_fault_text(kind), offset)
 }
 
 /// The answer where the file of the name is no option ROM, by a fault at an offset.
@@ -104,16 +88,8 @@ pub fn bad_rom(
 ) -> Result<Reply, AllocError>
     ensures { IfOk result (λ r. r ≡ bad_rom_reply word name.now (kind, offset)) }
 {
-    let detail = format!(in alloc; "{offset}")?;
-    let number = rom_fault_number(kind);
-    bad(
-        alloc,
-        word,
-        name,
-        number,
-        rom_fault_text(kind),
-        detail.as_str(),
-    )
+    let (number, fault) = (rom_fault_number(kind), rom_fault_text(kind));
+    bad_at(alloc, word, name, number, fault, u64::from(offset))
 }
 
 // Where an image of an option ROM ends.
@@ -148,14 +124,6 @@ pub fn bad_taking(
     ensures { IfOk result (λ r. r ≡ bad_taking_reply word name.now images.now number kind) }
 {
     let offset = taking_offset(images, number);
-    let detail = format!(in alloc; "{offset}")?;
     let fault = take_fault_number(kind);
-    bad(
-        alloc,
-        word,
-        name,
-        fault,
-        take_fault_text(kind),
-        detail.as_str(),
-    )
+    bad_at(alloc, word, name, fault, take_fault_text(kind), offset)
 }

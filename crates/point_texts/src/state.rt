@@ -1,36 +1,17 @@
 //! States.
-ghost use Rattle.std.specs.Prelude.{◌≡◌, ◌<◌, ◌++◌, ◌∷◌, [], IfOk, OnOk, if◌then◌else◌, not, option_copied, string_bytes};
+ghost use Rattle.std.specs.Prelude.{◌≡◌, ◌<◌, ◌++◌, ◌∷◌, [], IfOk, OnOk, if◌then◌else◌, not, string_bytes};
 ghost use Rattle.note_types.specs.States.{type_of};
 ghost use Rattle.note_texts.specs.SlotGrammar.{kind_text};
-ghost use Rattle.note_types.specs.Records.{function_at, has_place};
 ghost use Rattle.point_texts.specs.PrintedTypes.{field_names};
 ghost use Rattle.point_texts.specs.PrintedStates.{fields_at, is_left_out, item_text, item_texts, register_text, register_texts, state_text};
 
+use crate::function::function_at;
 use crate::lists::item_line;
 use crate::names::field_names;
 use crate::ty::type_text;
-use note_types::{Field, FnNote, Item, Name, Names, NoMemory, Notes, SlotKind, State, Ty};
+use note_types::{Field, Item, Name, Names, NoMemory, Notes, SlotKind, State, Ty};
 use rules_base::local_fields;
 use std::alloc::Global;
-
-// Whether a function's code has a place.
-fn has_place(f: &FnNote, place: u32) -> bool
-    ensures { result ≡ has_place place f.now }
-{
-    f.place <= place && place < f.end
-}
-
-// The function that a place belongs to.
-#[tactic(auto, unfolding(note_types::specs::Records::function_at))]
-fn function_at(notes: &Notes, place: u32) -> Option<&FnNote>
-    ensures { option_copied result ≡ function_at notes.now place }
-{
-    notes
-        .function
-        .as_slice()
-        .iter()
-        .find(|f| has_place(f, place))
-}
 
 /// The fields of the locals of the function that a place belongs to; none where it belongs to none.
 #[tactic(auto, unfolding(crate::specs::PrintedStates::fields_at))]

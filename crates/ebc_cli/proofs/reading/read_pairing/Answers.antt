@@ -1,9 +1,5 @@
-use Rattle.std.proofs.Common.{refl}
+use Rattle.ebc_cli.proofs.Common.{refl, number_meaning, pair_step_limit, pair_files, pairing, reads-made, reads-told}
 use Rattle.ebc_cli.specs.declared.work.Work.TheVariants as works
-use Rattle.ebc_cli.specs.Inputs.{number_meaning, pair_step_limit}
-use Rattle.ebc_cli.specs.Pairings.{pair_files}
-use Rattle.ebc_cli.specs.Works.{pairing}
-use Rattle.file_inputs.proofs.ReadsLaws.{reads-made, reads-told}
 use Rattle.ebc_cli.proofs.reading.read_pairing.Goals as goal
 
 pub returns : goal.returns

@@ -1,9 +1,6 @@
-use Rattle.std.proofs.Common.{refl}
-use Rattle.ebc_cli.specs.declared.work.Work.TheVariants as works
-use Rattle.ebc_cli.specs.Inputs.{number_meaning, step_limit}
-use Rattle.ebc_cli.specs.Runnings.{run_files}
+use Rattle.ebc_cli.proofs.Common.{refl, number_meaning, step_limit, run_files, reads-made, reads-told}
 use Rattle.ebc_cli.specs.Works.{running}
-use Rattle.file_inputs.proofs.ReadsLaws.{reads-made, reads-told}
+use Rattle.ebc_cli.specs.declared.work.Work.TheVariants as works
 use Rattle.ebc_cli.proofs.reading.read_running.Goals as goal
 
 pub returns : goal.returns

@@ -1,9 +1,7 @@
-use Rattle.std.proofs.lemmas.Result.{err_from_is_err_and}
-use Rattle.cli_base.specs.Readings.{done, told}
-use Rattle.ebc_cli.specs.declared.work.Work.TheVariants as works
+use Rattle.ebc_cli.proofs.Common.{err_from_is_err_and, done, told, reads-ended, reads-refused, reads-then}
 use Rattle.file_inputs.specs.Inputs.{taking_meaning}
 use Rattle.ebc_cli.specs.Works.{rom_taking_of}
-use Rattle.file_inputs.proofs.ReadsLaws.{reads-ended, reads-refused, reads-then}
+use Rattle.ebc_cli.specs.declared.work.Work.TheVariants as works
 use Rattle.ebc_cli.proofs.reading.read_taking_of.Goals as goal
 
 pub returns-in_err-bytes : goal.returns-in_err-bytes
