@@ -446,21 +446,8 @@ not_linked() { plan_of "${@:3}" >p; line "$1" 3 "bad p $2" p n; }
 refusals() {
   sed 's/"next 1 0 /"next 0 2 /' driver.labels >n
   line 'a shape whose fields overlap' 1 'refused 00000001 shape' driver.plan n
-  said 'what is said of a shape' driver.plan n <<'.'
-n: error: shape: where a pointer has 4 bytes or 8, fields overlap or pass the size, or there is none
-  see docs/LABELS.md, "A refusal", and docs/RULES.md, "The verdict", shape
-.
   sed 's/^name = "tick"/&\nend = 4169/' driver.labels >n
   line 'an odd end' 1 $'refused 00001044 function\nat tick' driver.plan n
-  said 'what is said of an end' driver.plan n <<'.'
-n: 0x1044: error: function: a place or end doesn't fit the image, or the image is entered elsewhere
-  see docs/LABELS.md, "A refusal", and docs/RULES.md, "The verdict", function
-.
-  sed '1s/^/bogus = 1\n/' driver.labels >n
-  said 'what is said of a fault' driver.plan n <<'.'
-n: error: NOTES has the fault kind; the answer names the key, and where it stands
-  see docs/LABELS.md, "What is answered"
-.
   awk '/^\[\[/ { out = /static/ } !out' least.labels >n
   line 'no static object where MOVREL leads' 1 $'refused 0000100e address\nat main+14\nregs R7 thunk:0\nstack\nwritten\nmade 1' own.plan n
   sed 's/^name = "main"/&\nlevel = 0/' least.labels >n
@@ -469,6 +456,136 @@ n: error: NOTES has the fault kind; the answer names the key, and where it stand
   plan_of main grows.obj >p
   lines '[[function]] | name = "main" | need = [9, 0]' >n
   begins 'ways of different stacks' 1 $'refused 00001004 below\nat again' p n
+}
+
+# ---- what is said
+
+# The lines in a word, with bars between them.
+split() { tr '|' '\n' <<<"$1"; }
+# The last line of a refusal.
+see_refusal() { printf '  see docs/LABELS.md, "A refusal", and docs/RULES.md, "The verdict", %s\n' "$1"; }
+
+# Refusals of the driver's notes after an edit, of which all lines are said that `check` says.
+said_refusals() {
+  sed 's/"next 1 0 /"next 0 2 /' driver.labels >n
+  said 'fields that overlap' driver.plan n < <(
+    echo 'n: error: shape: where a pointer has 4 bytes, the fields count at (0, 0) and next at (0, 2) of Blk share a byte'
+    echo 'n:13:1: note: the shape, shape[1].fields = ["count 0 0 i32", "next 0 2 ptr?:Blk"]'
+    see_refusal shape)
+  sed 's/^name = "tick"/&\nend = 4169/' driver.labels >n
+  said 'an end that is odd' driver.plan n < <(
+    echo 'n: 0x1044: error: function: tick ends at 0x1049, which is odd'
+    echo 'n:33:1: note: the function, function[1].end = 4169'
+    see_refusal function)
+  sed 's/"n entry"/"n int:0..5"/' driver.labels >n
+  said 'an argument of another type' driver.plan n < <(
+    echo 'n: 0x1032: error: arguments: argument 0 is n entry, and n int:0..5 is wanted'
+    split '  0x1032 CALL32EXa @R4(+1,+0)|  regs R4 ptr:Sys, R5 thunk:0, R6 int:0..4294967295, R7 status!p|  stack n entry, locals|  written p|  made 1'
+    echo 'n:45:1: note: the parameters of the signature, signature[1].params = ["n int:0..5"]'
+    see_refusal arguments)
+  sed 's/^name = "main"/&\nneed = [1, 0]/' driver.labels >n
+  said 'a need too small' driver.plan n < <(
+    echo 'n: 0x1012: error: stack: this push makes the items (2, 0), and main has need (1, 0)'
+    split '  0x1012 PUSHn R5|  regs R4 ptr:Sys, R5 local:p, R7 thunk:0|  stack locals|  written|  made 1'
+    echo "n:27:1: note: the function's need, function[0].need = [1, 0]"
+    see_refusal stack)
+  { sed -n '1,24p; 31,35p' driver.labels; sed -n '25,30p; 36,$p' driver.labels | sed 's/^name = "main"/&\nneed = [1, 0]/'; } >n
+  said 'a need too small, with functions in another order' driver.plan n < <(
+    echo 'n: 0x1012: error: stack: this push makes the items (2, 0), and main has need (1, 0)'
+    split '  0x1012 PUSHn R5|  regs R4 ptr:Sys, R5 local:p, R7 thunk:0|  stack locals|  written|  made 1'
+    echo "n:32:1: note: the function's need, function[1].need = [1, 0]"
+    see_refusal stack)
+  sed '34s/status/int:1..5/' driver.labels >n
+  said 'another result' driver.plan n < <(
+    echo 'n: 0x1048: error: return: RET with int:0..0 in R7, and int:1..5 is wanted'
+    split '  0x1048 RET|  regs R7 int:0..0|  stack|  written|  made 1'
+    echo "n:34:1: note: the function's result, function[1].result = \"int:1..5\""
+    see_refusal return)
+  sed '21,23d' driver.labels >n
+  said 'a thunk that the text lacks' driver.plan n < <(
+    echo 'n: 0x1006: error: thunk: BREAK 5 makes a thunk, and all 0 of the notes are made'
+    echo '  0x1006 BREAK 5'
+    echo '  R7 is any since 0x1000 MOVRELd R7, 4090, where R7 is any; no static object and no thunk cell of the notes begins at 0x2000'
+    split '  regs|  stack|  written|  made 0'
+    see_refusal thunk)
+}
+
+# The same of the program that leaves all out.
+said_left_out() {
+  own_program && without '[a-z]+' >least.labels
+  sed 's/^name = "main"/&\nlevel = 0/' least.labels >n
+  said 'a level that is found, beside one too small' own.plan n < <(
+    echo 'n: 0x1014: error: level: main has level 0 and calls half of level 0, and a lower one is wanted'
+    split '  0x1014 CALL32 28|  regs R4 int:0..4294967295, R7 thunk:0|  stack q int:0..4294967295|  written|  made 1'
+    echo 'n:12:1: note: the level of the function that is called, function[1].level, is left out; found: 0'
+    see_refusal level)
+  sed 's/^name = "tick"/&\nenter = false/' least.labels >n
+  said 'enter false of what a thunk enters' own.plan n < <(
+    echo 'n: 0x2010: error: static: the thunk cell enters tick, which has no enter = true'
+    echo 'n:16:1: note: the function that it enters, function[2].name = "tick"'
+    see_refusal static)
+  awk '/^\[\[/ { if (t !~ /name = "half"/) printf "%s", t; t = "" } { t = t $0 "\n" } END { printf "%s", t }' least.labels >n
+  said 'a function that the text lacks' own.plan n < <(
+    echo 'n: 0x1014: error: target: the call goes to 0x1036, where no function of the notes begins'
+    echo '  0x1014 CALL32 28'
+    see_refusal target)
+  { cat least.labels; table signature 'method = "Put" | name = "other" | params = ["n any"] | result = "none"'; } >n
+  said 'two signatures that fit' own.plan n < <(
+    echo 'n: 0x102a: error: site: Put is called here, at 0x102a, where the notes have no site; main has sites at: none'
+    split '  0x102a CALL32EXa @R5|  a site is found where one signature alone of the method takes what lies on the stack; there are: put, other'
+    see_refusal site)
+  without site >n
+  said 'no site beside a point' own.plan n < <(
+    echo 'n: 0x102a: error: site: Put is called here, at 0x102a, where the notes have no site; main has sites at: none'
+    split '  0x102a CALL32EXa @R5|  where the text has a point, all points and sites are its own'
+    see_refusal site)
+}
+
+# Faults, each an edit of the driver's notes, the first line that is said, and more lines or a page of docs/NOTES.md.
+said_faults() {
+  local edit first more
+  while IFS='~' read -r edit first more; do
+    sed -E "$edit" driver.labels >n
+    [[ $more == \"* ]] && more="  see docs/NOTES.md, $more"
+    said "what is said of $edit" driver.plan n < <(echo "n$first" && split "$more")
+  done <<'EDITS'
+s/^name = "Blk"/name = "Blk/~:11:12: error: this is no TOML: invalid string~"The file" and "Texts"
+s/^place = .*/&\n&/~:23:1: error: this is no TOML: duplicate key~"The file" and "Texts"
+1s/^/bogus = 1\n/~:1:1: error: bogus is no key of this table~"The file" and "Texts"
+/^function = /d~:21:1: error: thunk[0] has no key function; wanted: the name of a function, a text~"The file" and "Texts"
+s/^function = .*/function = "tock"/~:23:12: error: thunk[0].function is "tock", which names a function that the notes don't have~  they have: main, tick|  see docs/NOTES.md, "The file" and "Texts"
+s/ptr[?]:Blk/ptr?:Block/~:13:28: error: item 1 of shape[1].fields is "next 1 0 ptr?:Block", which names the shape Block that the notes don't have~  they have: Sys, Blk, L|  see docs/NOTES.md, "The file" and "Texts"
+s/int:0..4294967295/saved:1/~:33:10: error: item 0 of function[1].params is "n saved:1"; wanted in a natural parameter: another type than saved:I, which MOVn doesn't keep~"The conditions"
+s/^name = "tick"/&\nplace = "main"/~:33:9: error: function[1].place is the place of another table of that list, too~"The conditions"
+s/^place = "cell"/place = "cel"/~:22:9: error: thunk[0].place is "cel", and no object has a label cel~  near to it: cell|  see docs/LABELS.md, "Faults of labels"
+s/^place = "cell"/place = "cell + 4"/~:22:9: error: thunk[0].place is "cell + 4"; wanted: LABEL or OBJECT:LABEL, and +N behind it with N from 0 to 4194303~  see docs/LABELS.md, "Faults of labels"
+s/^place = "cell"/place = "drive.obj:cell"/~:22:9: error: thunk[0].place is "drive.obj:cell", and the plan names no object drive.obj~  it names: driver.obj|  see docs/LABELS.md, "Faults of labels"
+s/^name = "tick"/name = "tock"/~:32:8: error: function[1].name is "tock", and no object has a label tock~  near to it: tick|  see docs/LABELS.md, "Faults of labels"
+s/^name = "tick"/&\nend = "cell"/~:33:7: error: function[1].end is "cell", a label of the data; wanted: one of the code~  see docs/LABELS.md, "Faults of labels"
+EDITS
+}
+
+# Faults of other plans.
+said_elsewhere() {
+  lines '[[function]] | name = "main"' '' '[[function]] | name = "part"' >n
+  said 'what is said of a label that two objects have' two.plan n < <(
+    echo 'n:5:8: error: function[1].name is "part", which several objects have; wanted: OBJECT:LABEL'
+    split '  they are: a.obj:part, b.obj:part|  see docs/LABELS.md, "Faults of labels"')
+  lines '[[function]] | name = "main" | [[function]] | name = "self"' >n
+  said 'what is said of a function that calls itself' self.plan n < <(
+    echo 'n:4:8: error: calls lead from self back to it, so no level fits; wanted: code in which none do'
+    echo '  see docs/LABELS.md, "What is answered"')
+  lines '[[function]] | name = "nowhere"' >n
+  said 'what is said of a label that is far from all' self.plan n < <(
+    echo 'n:2:8: error: function[0].name is "nowhere", and no object has a label nowhere'
+    split '  labels: main, self|  see docs/LABELS.md, "Faults of labels"')
+  { cat shapes; lines '[[static]] | place = "first+8" | shape = "N"'; } >n
+  said 'what is said of a count of none' counts.plan n < <(
+    echo 'n:3:1: error: static[0].count is left out, and not one instance fits between the label and the next one, or the label is one of the code'
+    echo '  see docs/LABELS.md, "What may be left out"')
+  said 'what is said of a need past the greatest' need116496.plan n116496 < <(
+    echo 'n116496:2:1: error: function[0].need is left out, and what the code takes is too much: nine frames take more than 1048576 bytes where a pointer has 8'
+    echo '  see docs/LABELS.md, "What may be left out"')
 }
 
 # ---- large
@@ -520,7 +637,7 @@ long_text() {
 }
 
 quick='examples small_sample two_objects counts left_out written order signatures needs greatest_need recursion label_faults label_marks'
-quick+=' note_faults files links refusals'
+quick+=' note_faults files links refusals said_refusals said_left_out said_faults said_elsewhere'
 large='large_sample flat points long_text'
 case ${1:-} in
   '') set -- $quick ;;

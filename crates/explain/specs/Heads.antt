@@ -1,52 +1,20 @@
 -- For proofs: how the lines begin that are said of an answer. docs/COMMANDS.md, "Standard error".
-use Rattle.std.specs.Prelude.{◌≡◌, ℕ, Bool, true, false, ◌&&◌, ◌==◌, List, [], ◌++◌}
-use Rattle.std.specs.Prelude.{Option, Some, None, codes, length, slice_get, if◌then◌else◌}
-use Rattle.std.specs.Str.{bytes_eq}
+use Rattle.std.specs.Prelude.{◌≡◌, ℕ, ◌==◌, List, [], ◌++◌, codes, length, if◌then◌else◌}
 use Rattle.cli_base.specs.declared.outcome.Outcome.{Outcome}
 use Rattle.cli_base.specs.declared.outcome.Outcome.TheVariants.{BadWords, BadInput, Missing, ReadFault, Refused, NoMemory}
 use Rattle.ebc_outside.specs.Files.{Files}
 use Rattle.note_types.specs.declared.rule.RuleName.{RuleName}
 use Rattle.note_types.specs.declared.rule.RuleName.TheVariants as rules
 use Rattle.run_texts.specs.Refusals.{rule_text}
+use Rattle.explain_answers.specs.Words.{checks_code, name_of, names_objects, word_at}
+use Rattle.explain_answers.specs.declared.program.Program.{Program}
+use Rattle.explain_answers.specs.declared.program.Program.TheVariants as programs
 use Rattle.explain.specs.Places.{notes_named, number_text, place_by}
-use Rattle.explain.specs.declared.program.Program.{Program}
-use Rattle.explain.specs.declared.program.Program.TheVariants as programs
 
 -- a text that begins with another
 pub record BeginsWith (head text : List ℕ) : Type 0 where
   pub rest : List ℕ
   pub joined : text ≡ head ++ rest
-
--- ---- the words
-
--- a word by its number, counted from 0; empty if there is none
-abbrev pub or_empty : Option (List ℕ) → List ℕ
-or_empty (Some word) = word
-or_empty None = []
-
-abbrev pub word_at : List (List ℕ) → ℕ → List ℕ
-word_at words number = or_empty (slice_get words number)
-
--- the name of a program
-abbrev pub name_of : Program → List ℕ
-name_of programs.Ebc = codes "ebc"
-name_of programs.EbcPlaces = codes "ebc_places"
-name_of programs.EbcNotes = codes "ebc_notes"
-name_of programs.EbcLint = codes "ebc_lint"
-
--- whether one of the words is a plan, whose objects may be what is at fault
-abbrev pub names_objects : Program → List (List ℕ) → Bool
-names_objects programs.Ebc words = bytes_eq (word_at words 0) (codes "link")
-names_objects programs.EbcPlaces words = false
-names_objects programs.EbcNotes words = true
-names_objects programs.EbcLint words = false
-
--- whether raw code is checked: `check CODE`
-abbrev pub checks_code : Program → List (List ℕ) → Bool
-checks_code programs.Ebc words = bytes_eq (word_at words 0) (codes "check") && (length words == 2)
-checks_code programs.EbcPlaces words = false
-checks_code programs.EbcNotes words = false
-checks_code programs.EbcLint words = false
 
 -- ---- files
 

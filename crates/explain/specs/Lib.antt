@@ -1,4 +1,3 @@
 pub mod Shown
-pub mod Drivers
 pub mod Places
 pub mod Heads

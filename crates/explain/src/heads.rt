@@ -1,11 +1,12 @@
 //! With what the first line of a refusal begins.
-ghost use Rattle.std.specs.Prelude.{◌≡◌, IfOk, Some, option_copied, string_bytes};
-ghost use Rattle.note_types.specs.Records.{function_at, has_place};
+ghost use Rattle.std.specs.Prelude.{◌≡◌, IfOk, Some, string_bytes};
+ghost use Rattle.note_types.specs.Records.{function_at};
 ghost use Rattle.explain.specs.Heads.{code_head, image_head, place_told, rule_head};
 ghost use Rattle.explain.specs.Places.{number_text, place_in};
 
 use ebc_base::NoMemory;
-use note_types::{FnNote, Notes, RuleName};
+use note_types::{Notes, RuleName};
+use point_texts::function_at;
 use run_texts::rule_text;
 use std::alloc::Global;
 use std::fmt;
@@ -22,25 +23,6 @@ impl fmt::Display for Hexadecimal {
         let number = self.0;
         write!(f, "0x{number:x}")
     }
-}
-
-// Whether a function's code has a place.
-fn has_place(f: &FnNote, place: u32) -> bool
-    ensures { result ≡ has_place place f.now }
-{
-    f.place <= place && place < f.end
-}
-
-// The function that a place belongs to.
-#[tactic(auto, unfolding(note_types::specs::Records::function_at))]
-fn function_at(notes: &Notes, place: u32) -> Option<&FnNote>
-    ensures { option_copied result ≡ function_at notes.now place }
-{
-    notes
-        .function
-        .as_slice()
-        .iter()
-        .find(|f| has_place(f, place))
 }
 
 /// A place of an image as a number, as `0x1012`.

@@ -1,7 +1,6 @@
 //! What the programs say on standard error of an answer: what was found, what is wanted and where, and the page that
-//! mends it (docs/COMMANDS.md, "Standard error"). The crates below give what is said as data (`Said` of
-//! `explain_base`). This one takes the fault of a file from the answer's line, goes any other failed step again over the
-//! kept files, and makes the lines.
+//! mends it (docs/COMMANDS.md, "Standard error"). The sentences come from `explain_answers` as data (`Said` of
+//! `explain_base`). This crate makes the lines of them.
 //!
 //! Promises:
 //!
@@ -22,33 +21,19 @@
 //!   has no clause.
 //! - `Watched` is a `Sink` with each clause of that trait. No clause says which runs it calls amiss, nor which line it
 //!   keeps.
-//! - The sentences have no clause.
 #![tactic(auto)]
 
-mod answer;
-mod driver;
-mod files;
 mod heads;
-mod inputs;
 mod lines;
 mod outcomes;
-mod plans;
-mod printed;
-mod program;
-mod refusals;
 mod refused;
-mod rules;
-mod runs;
-mod since;
 mod telling;
 mod told;
 mod watched;
-mod words;
 
-pub use answer::Answer;
+pub use explain_answers::{Answer, Program};
 pub use lines::add_said;
 pub use outcomes::explanation;
-pub use program::Program;
 pub use telling::{say_no_memory, tell};
 pub use told::Told;
 pub use watched::Watched;

@@ -1,20 +1,20 @@
 //! What is said of an answer.
 ghost use Rattle.std.specs.Prelude.{◌≡◌, ◌≢◌, [], false, IfOk, string_bytes};
 ghost use Rattle.cli_base.specs.Words.{word_bytes};
-ghost use Rattle.explain.specs.Heads.{BeginsWith, asked_or, bad_file, error_head, head_of, missing_file, name_of};
+ghost use Rattle.explain_answers.specs.Words.{name_of};
+ghost use Rattle.explain.specs.Heads.{BeginsWith, asked_or, bad_file, error_head, head_of, missing_file};
 ghost use Rattle.explain.specs.Shown.{IsShown, shown};
 
-use crate::answer::Answer;
-use crate::files::{large_said, unread_said, unwritten_said};
-use crate::inputs::{bad_said, number_said};
 use crate::lines::{add_said, said_lines};
 use crate::refused::refused_lines;
-use crate::runs::{differ_said, runs_said};
 use crate::told::Told;
-use crate::words::words_said;
 use cli_base::Outcome;
 use ebc_base::NoMemory;
 use ebc_outside::MemFolder;
+use explain_answers::{
+    Answer, bad_said, differ_said, large_said, number_said, runs_said, unread_said, unwritten_said,
+    words_said,
+};
 use explain_base::{Line, Said};
 
 // The file of which something is said: the one that is given, and else the program.

@@ -2,20 +2,20 @@
 ghost use Rattle.std.specs.Prelude.{◌≡◌, ◌≢◌, [], Some, IfOk, IfSome, option_map};
 ghost use Rattle.cli_base.specs.Words.{word_bytes};
 ghost use Rattle.note_types.specs.Records.{IsNotes};
-ghost use Rattle.explain.specs.Heads.{BeginsWith, code_head, image_head, refused_head, word_at};
+ghost use Rattle.explain_answers.specs.Words.{word_at};
+ghost use Rattle.explain.specs.Heads.{BeginsWith, code_head, image_head, refused_head};
 ghost use Rattle.explain.specs.Places.{notes_named, number_text, place_by};
 ghost use Rattle.explain.specs.Shown.{shown};
 
-use crate::answer::Answer;
 use crate::heads::{code_head, image_head, number_text, place_text};
 use crate::lines::said_lines;
-use crate::program::Program;
-use crate::refusals::{code_said, image_said};
-use crate::rules::rule_said;
 use crate::told::Told;
 use cli_base::End;
 use ebc_base::{NoMemory, Sequence};
 use ebc_outside::MemFolder;
+use explain_answers::{
+    Answer, Labelled, Program, completed_said, refused_code_said, refused_image_said, rule_said,
+};
 use explain_base::Said;
 use file_inputs::read_with_bytes;
 use note_types::{Notes, RuleName};
@@ -78,7 +78,7 @@ fn noted_lines(
         (shown (image_head (word_at (word_bytes answer.now.words.now) 1) (place_by (Some notes.now) place) rule)) told) }
     ensures says { IfOk result (λ told. told ≢ []) }
 {
-    let said = image_said(answer, notes, text, place, rule, folder)?;
+    let said = refused_image_said(answer, notes, text, place, rule, folder)?;
     let name = place_text(answer.alloc, notes, place)?;
     image_lines(answer, answer.word(1), name.as_str(), rule, &said)
 }
@@ -101,6 +101,26 @@ fn checked_lines(
     }
 }
 
+// The lines of notes with labels that a rule refuses.
+fn completed_lines(
+    answer: &Answer,
+    place: u32,
+    rule: RuleName,
+    folder: &mut MemFolder,
+) -> Result<Told, NoMemory>
+    ensures begins { IfOk result (λ told. BeginsWith
+        (shown (image_head (word_at (word_bytes answer.now.words.now) 1) (number_text place) rule)) told) }
+    ensures says { IfOk result (λ told. told ≢ []) }
+{
+    match completed_said(answer, Labelled::Refused { place, rule }, folder)? {
+        Some(said) => {
+            let number = number_text(answer.alloc, place)?;
+            image_lines(answer, answer.word(1), number.as_str(), rule, &said)
+        }
+        None => bare_lines(answer, answer.word(1), place, rule),
+    }
+}
+
 // The lines of raw code that `check CODE` refuses.
 fn code_lines(
     answer: &Answer,
@@ -111,7 +131,7 @@ fn code_lines(
     ensures begins { IfOk result (λ told. BeginsWith (shown (code_head (word_at (word_bytes answer.now.words.now) 1) place rule)) told) }
     ensures says { IfOk result (λ told. told ≢ []) }
 {
-    let said = code_said(answer, place, rule, folder)?;
+    let said = refused_code_said(answer, place, rule, folder)?;
     let head = code_head(answer.alloc, answer.word(1), place, rule)?;
     Ok(said_lines(answer.alloc, head.as_str(), "", &said)?)
 }
@@ -136,6 +156,6 @@ pub(crate) fn refused_lines(
             }
         }
         Program::EbcPlaces | Program::EbcLint => { bare_lines(answer, answer.word(0), place, rule) }
-        Program::EbcNotes => bare_lines(answer, answer.word(1), place, rule),
+        Program::EbcNotes => completed_lines(answer, place, rule, folder),
     }
 }

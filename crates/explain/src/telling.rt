@@ -1,11 +1,10 @@
 //! The edge to the system's standard error.
 
-use crate::answer::Answer;
 use crate::outcomes::explanation;
-use crate::program::Program;
 use crate::watched::Watched;
 use cli_base::Outcome;
 use ebc_outside::{HostFolder, HostSink};
+use explain_answers::{Answer, Program};
 use kept_files::Kept;
 use std::alloc::{AllocError, Global};
 use std::io;

@@ -10,22 +10,6 @@ use ebc_insn::{Cond, Insn};
 use explain_base::{Line, Said};
 use note_types::State;
 
-// The place to which an instruction jumps.
-fn jump_of(stopped: &Stopped) -> Option<i128> {
-    match stopped.at.insn {
-        Some((Insn::Call { .. }, _)) => None,
-        _ => target_of(stopped),
-    }
-}
-
-// Whether control goes on at the next instruction, too, after one that may jump.
-fn may_fall(insn: &Insn) -> bool {
-    match insn {
-        Insn::Jump { cond, .. } | Insn::Jump8 { cond, .. } => *cond != Cond::Always,
-        _ => true,
-    }
-}
-
 // Where a state comes, by the ways of the instruction before it.
 fn said_of_ways(stopped: &Stopped, ways: Line, s: &State) -> Said {
     let mut what = ways;
@@ -37,35 +21,31 @@ fn said_of_ways(stopped: &Stopped, ways: Line, s: &State) -> Said {
     Said::only(what)
 }
 
-// The same of a jump, which leaves the items and the thunks as they were.
-fn said_of_jump(stopped: &Stopped, insn: &Insn, next: u32, place: i128) -> Option<Said> {
-    let state = stopped.at.state.as_ref()?;
-    let mut ways = Line::of(stopped.refused.alloc, "this jumps to ");
-    ways.target(place);
-    if may_fall(insn) {
-        ways.text(" or falls to ").at(next);
-    }
-    Some(said_of_ways(stopped, ways, state))
-}
-
-// The same of another instruction, before `next`.
-fn said_of_fall(stopped: &Stopped, next: u32) -> Option<Said>
-    requires { IsNotes stopped.now.refused.now.notes.now }
-{
-    let successors = stopped.at.leads(stopped.refused.notes)?;
-    let fall = successors.fall.as_ref()?;
-    let mut ways = Line::of(stopped.refused.alloc, "this falls to ");
-    ways.at(next);
-    Some(said_of_ways(stopped, ways, fall))
-}
-
-/// What is said where the state clashes.
+/// What is said where the state clashes. A jump leaves the items and the thunks as they were.
 pub(crate) fn said_of_clash(stopped: &Stopped) -> Option<Said>
     requires { IsNotes stopped.now.refused.now.notes.now }
 {
     let (insn, next) = stopped.at.insn?;
-    match jump_of(stopped) {
-        Some(place) => said_of_jump(stopped, &insn, next, place),
-        None => said_of_fall(stopped, next),
+    let (place, may_fall) = match insn {
+        Insn::Call { .. } => (None, true),
+        Insn::Jump { cond, .. } | Insn::Jump8 { cond, .. } => (
+            target_of(stopped),
+            cond != Cond::Always,
+        ),
+        _ => (target_of(stopped), true),
+    };
+    let Some(place) = place else {
+        let successors = stopped.at.leads(stopped.refused.notes)?;
+        let fall = successors.fall.as_ref()?;
+        let mut ways = Line::of(stopped.refused.alloc, "this falls to ");
+        ways.at(next);
+        return Some(said_of_ways(stopped, ways, fall));
+    };
+    let state = stopped.at.state.as_ref()?;
+    let mut ways = Line::of(stopped.refused.alloc, "this jumps to ");
+    ways.target(place);
+    if may_fall {
+        ways.text(" or falls to ").at(next);
     }
+    Some(said_of_ways(stopped, ways, state))
 }

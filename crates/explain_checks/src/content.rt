@@ -5,17 +5,10 @@ ghost use Rattle.pe_image.specs.Images.{IsImage};
 use crate::ranges::{Range, nonzero_in, reloc_in, size_at_8};
 use crate::refused::Refused;
 use explain_base::Line;
-use note_types::{Cell, Field, Notes, Shape, Static};
+use note_types::{Cell, Notes, Shape, Static};
 use pe_image::{Image, byte_at, named_place};
 use rules_image::first_reloc;
 use std::alloc::Global;
-
-fn is_natural(cell: Cell) -> bool {
-    match cell {
-        Cell::I8 | Cell::I16 | Cell::I32 | Cell::I64 | Cell::P64 { .. } => false,
-        _ => true,
-    }
-}
 
 /// Whether a shape has a size or a field that depends on the width.
 pub(crate) fn depends(s: &Shape) -> bool {
@@ -23,31 +16,34 @@ pub(crate) fn depends(s: &Shape) -> bool {
         return true;
     }
     for x in s.fields.as_slice() {
-        if x.n != 0 || is_natural(x.cell) {
-            return true;
+        match x.cell {
+            Cell::I8 | Cell::I16 | Cell::I32 | Cell::I64 | Cell::P64 { .. } if x.n == 0 => {}
+            _ => return true,
         }
     }
     false
 }
 
-// Why a cell can't be held by an image in an object that depends on the width.
-fn unheld(alloc: Global, name: &str, x: &Field) -> Option<Line> {
-    let mut what = Line::of(alloc, name);
-    match x.cell {
-        Cell::Method(_) => what.text(" has the method cell ").text(x.name.as_str()),
-        Cell::Ptr { null: false, .. } | Cell::P64 { null: false, .. } => what
-            .text(" depends on the width, and its field ")
-            .text(x.name.as_str())
-            .text(" may not be null"),
-        _ => return None,
-    };
-    what.text(", which an image can't hold");
-    Some(what)
-}
-
-// What is wrong with the bytes and relocations of an object that depends on the width.
-fn unblank(alloc: Global, image: &Image, name: &str, range: &Range) -> Option<Line> {
-    let mut what = Line::of(alloc, name);
+/// What is wrong with the content of an object that depends on the width: a cell that an image can't hold, or a byte that isn't blank.
+pub(crate) fn content_of_blank(
+    alloc: Global,
+    image: &Image,
+    s: &Shape,
+    range: &Range,
+) -> Option<Line> {
+    let mut what = Line::of(alloc, s.name.as_str());
+    for x in s.fields.as_slice() {
+        match x.cell {
+            Cell::Method(_) => what.text(" has the method cell ").text(x.name.as_str()),
+            Cell::Ptr { null: false, .. } | Cell::P64 { null: false, .. } => what
+                .text(" depends on the width, and its field ")
+                .text(x.name.as_str())
+                .text(" may not be null"),
+            _ => continue,
+        };
+        what.text(", which an image can't hold");
+        return Some(what);
+    }
     what.text(" depends on the width, and ");
     if let Some(r) = reloc_in(image, range.from, range.to) {
         what.text("a relocation stands at ")
@@ -64,30 +60,6 @@ fn unblank(alloc: Global, image: &Image, name: &str, range: &Range) -> Option<Li
     Some(what)
 }
 
-/// What is wrong with the content of an object that depends on the width.
-pub(crate) fn content_of_blank(
-    alloc: Global,
-    image: &Image,
-    s: &Shape,
-    range: &Range,
-) -> Option<Line> {
-    let name = s.name.as_str();
-    for x in s.fields.as_slice() {
-        if let Some(what) = unheld(alloc, name, x) {
-            return Some(what);
-        }
-    }
-    unblank(alloc, image, name, range)
-}
-
-// The cell of 64 bits of a field that is a pointer: its shape, its count and whether it may be null.
-fn wide_pointer(cell: Cell) -> Option<(u32, u64, bool)> {
-    match cell {
-        Cell::P64 { shape, count, null } => Some((shape, count, null)),
-        _ => None,
-    }
-}
-
 // Whether a static object of a shape with at least so many instances starts at a place.
 fn is_linked(notes: &Notes, place: u64, shape: u32, count: u64) -> bool {
     for x in notes.statics.as_slice() {
@@ -96,15 +68,6 @@ fn is_linked(notes: &Notes, place: u64, shape: u32, count: u64) -> bool {
         }
     }
     false
-}
-
-fn is_relocated(image: &Image, place: u32) -> bool
-    requires { IsImage image.now }
-{
-    match image.relocs.as_slice().get(first_reloc(image, place)) {
-        Some(r) => *r == place,
-        None => false,
-    }
 }
 
 // A pointer's cell of 64 bits at a place.
@@ -127,9 +90,11 @@ fn fault_of_address(refused: &Refused, field: &str, wanted: (u32, u64), at: u32)
         .hexadecimal(named)
         .text(", where no static object of ")
         .number(count);
-    what.text(" ")
-        .text(shape_name(notes, shape))
-        .text(" starts");
+    let name = match notes.shape.as_slice().get(shape as usize) {
+        Some(s) => s.name.as_str(),
+        None => "",
+    };
+    what.text(" ").text(name).text(" starts");
     Some(what)
 }
 
@@ -137,13 +102,17 @@ fn fault_of_address(refused: &Refused, field: &str, wanted: (u32, u64), at: u32)
 fn fault_of_pointer(refused: &Refused, field: &str, cell: Cell, place: u64) -> Option<Line>
     requires { IsImage refused.now.image.now }
 {
-    let (shape, count, null) = wide_pointer(cell)?;
-    let at = u32::try_from(place).ok()?;
-    if is_relocated(refused.image, at) {
-        return fault_of_address(refused, field, (shape, count), at);
+    let Cell::P64 { shape, count, null } = cell else {
+        return None;
+    };
+    let (image, at) = (refused.image, u32::try_from(place).ok()?);
+    if let Some(r) = image.relocs.as_slice().get(first_reloc(image, at)) {
+        if *r == at {
+            return fault_of_address(refused, field, (shape, count), at);
+        }
     }
     let mut what = pointer_line(refused.alloc, field, place);
-    if nonzero_in(refused.image, place, place.saturating_add(8)).is_some() {
+    if nonzero_in(image, place, place.saturating_add(8)).is_some() {
         what.text(" isn't 0 and has no relocation; an address in data is made by .dq NAME");
         return Some(what);
     }
@@ -154,41 +123,20 @@ fn fault_of_pointer(refused: &Refused, field: &str, cell: Cell, place: u64) -> O
     Some(what)
 }
 
-fn shape_name(notes: &Notes, shape: u32) -> &str {
-    match notes.shape.as_slice().get(shape as usize) {
-        Some(s) => s.name.as_str(),
-        None => "",
-    }
-}
-
-// The place of a field of an instance.
-fn field_place(range: &Range, s: &Shape, instance: u64, x: &Field) -> u64 {
-    range
-        .from
-        .saturating_add(size_at_8(s).saturating_mul(instance))
-        .saturating_add(u64::from(x.c))
-}
-
-// The first pointer of an instance with which something is wrong.
-fn fault_of_instance(refused: &Refused, s: &Shape, range: &Range, instance: u64) -> Option<Line>
-    requires { IsImage refused.now.image.now }
-{
-    for x in s.fields.as_slice() {
-        let place = field_place(range, s, instance, x);
-        if let Some(what) = fault_of_pointer(refused, x.name.as_str(), x.cell, place) {
-            return Some(what);
-        }
-    }
-    None
-}
-
 /// What is wrong with the content of an object whose layout is the same at both widths.
 pub(crate) fn content_of_filled(refused: &Refused, x: &Static, s: &Shape, range: &Range) -> Line
     requires { IsImage refused.now.image.now }
 {
     for instance in 0..x.count {
-        if let Some(what) = fault_of_instance(refused, s, range, instance) {
-            return what;
+        let from = range
+            .from
+            .saturating_add(size_at_8(s).saturating_mul(instance));
+        for field in s.fields.as_slice() {
+            let place = from.saturating_add(u64::from(field.c));
+            let (name, cell) = (field.name.as_str(), field.cell);
+            if let Some(what) = fault_of_pointer(refused, name, cell, place) {
+                return what;
+            }
         }
     }
     let mut what = Line::of(

@@ -39,20 +39,14 @@ pub(crate) fn insn_at(
     }
 }
 
-// The first bytes of an instruction, four at most, each with a space in front.
-fn bytes_line(alloc: Global, code: &[u8]) -> Line {
-    let mut line = Line::of(alloc, "the bytes");
-    for byte in code.iter().take(4) {
-        line.text(" ").byte(*byte);
-    }
-    line
-}
-
 /// What is said where no instruction decodes within the function.
 pub(crate) fn said_of_decode(stopped: &Stopped) -> Result<Said, NoMemory> {
     let (alloc, f) = (stopped.refused.alloc, stopped.f);
     let code = code_from(alloc, stopped.refused.image, stopped.at.place, f.end)?;
-    let mut what = bytes_line(alloc, code.as_slice());
+    let mut what = Line::of(alloc, "the bytes");
+    for byte in code.as_slice().iter().take(4) {
+        what.text(" ").byte(*byte);
+    }
     match decode(code.as_slice(), 0) {
         Err(DecodeFault::Short) => what
             .text(" begin an instruction that ends past ")
@@ -76,8 +70,8 @@ pub(crate) fn said_of_decode(stopped: &Stopped) -> Result<Said, NoMemory> {
 
 // ---- relocations
 
-// Whether an instruction is an absolute jump, or call of byte code, by an immediate of 64 bits.
-fn is_absolute(i: &Insn) -> bool {
+// Whether an instruction is an absolute jump, or call of byte code, by an immediate of 64 bits, or moves an address to a register.
+fn has_address(i: &Insn) -> bool {
     match i {
         Insn::Jump { far, relative, .. } => *far && !*relative,
         Insn::Call {
@@ -86,13 +80,6 @@ fn is_absolute(i: &Insn) -> bool {
             relative,
             ..
         } => *far && !*native && !*relative,
-        _ => false,
-    }
-}
-
-// Whether an instruction moves an address to a register.
-fn is_address_move(i: &Insn) -> bool {
-    match i {
         Insn::MoveImm {
             size,
             bits,
@@ -103,7 +90,7 @@ fn is_address_move(i: &Insn) -> bool {
     }
 }
 
-// What is wrong with the relocated eight bytes at a place, at the end of an instruction.
+// What is wrong with the relocated eight bytes at a place, at the end of an instruction that has an address.
 fn fault_of_address(alloc: Global, image: &Image, insn: &Insn, at: u32) -> Line {
     let named = named_place(image, at);
     let mut what = Line::of(alloc, "the relocated address at ");
@@ -113,7 +100,7 @@ fn fault_of_address(alloc: Global, image: &Image, insn: &Insn, at: u32) -> Line 
             .hexadecimal(named)
             .text(", no place of the image, which ends at ")
             .at(image.size);
-    } else if is_address_move(insn) {
+    } else if let Insn::MoveImm { .. } = insn {
         what.text(" names no static object's start and no thunk cell of the notes");
     } else {
         what.text(" is refused");
@@ -132,7 +119,7 @@ pub(crate) fn said_of_relocation(stopped: &Stopped) -> Option<Said> {
         ));
     };
     let ends_with_it = u64::from(at) + 8 == u64::from(next);
-    if ends_with_it && (is_absolute(&insn) || is_address_move(&insn)) {
+    if ends_with_it && has_address(&insn) {
         return Some(Said::only(fault_of_address(alloc, image, &insn, at)));
     }
     let mut what = Line::of(alloc, "a relocation stands at ");

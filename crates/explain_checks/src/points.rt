@@ -70,10 +70,16 @@ fn inner_leap(stopped: &Stopped, next: u32) -> Result<Option<Leap>, NoMemory>
     Ok(None)
 }
 
-// What is said of a jump of the function to a place inside an instruction before `next`.
-fn said_of_inner_target(stopped: &Stopped, next: u32) -> Result<Option<Said>, NoMemory>
+/// What is said where a point lies inside the instruction, or of `infer` where a jump of the function goes there.
+pub(crate) fn said_of_point(stopped: &Stopped) -> Result<Option<Said>, NoMemory>
     requires { IsImage stopped.now.refused.now.image.now }
 {
+    let Some((_, next)) = stopped.at.insn else {
+        return Ok(None);
+    };
+    if !stopped.refused.infers {
+        return Ok(said_of_inner_point(stopped, next));
+    }
     let Some(leap) = inner_leap(stopped, next)? else {
         return Ok(None);
     };
@@ -84,19 +90,6 @@ fn said_of_inner_target(stopped: &Stopped, next: u32) -> Result<Option<Said>, No
         .text(", ");
     write_extent(stopped, next, &mut what);
     Ok(Some(Said::only(what)))
-}
-
-/// What is said where a point lies inside the instruction.
-pub(crate) fn said_of_point(stopped: &Stopped) -> Result<Option<Said>, NoMemory>
-    requires { IsImage stopped.now.refused.now.image.now }
-{
-    let Some((_, next)) = stopped.at.insn else {
-        return Ok(None);
-    };
-    if stopped.refused.infers {
-        return said_of_inner_target(stopped, next);
-    }
-    Ok(said_of_inner_point(stopped, next))
 }
 
 /// What is said where control falls out of the function.

@@ -14,13 +14,6 @@ pub(crate) struct Range {
     pub number: usize,
 }
 
-impl Range {
-    // Whether another thing shares a byte with it.
-    fn shares(&self, other: &Range) -> bool {
-        other.from < self.to && self.from < other.to
-    }
-}
-
 /// The bytes of an instance of a shape where a pointer has 8 bytes.
 pub(crate) fn size_at_8(s: &Shape) -> u64 {
     u64::from(s.n)
@@ -53,24 +46,18 @@ pub(crate) fn thunk_range(notes: &Notes, number: usize) -> Option<Range> {
     })
 }
 
-fn function_range(notes: &Notes, number: usize) -> Option<Range> {
-    let f = notes.function.as_slice().get(number)?;
-    Some(Range {
-        from: u64::from(f.place),
-        to: u64::from(f.end),
-        list: "function",
-        number,
-    })
-}
-
 // The range of a thing, counted through the functions, the static objects and the thunk cells.
 fn thing_range(notes: &Notes, number: usize) -> Option<Range> {
-    let functions = notes.function.len();
     let statics = notes.statics.len();
-    if number < functions {
-        return function_range(notes, number);
+    if let Some(f) = notes.function.as_slice().get(number) {
+        return Some(Range {
+            from: u64::from(f.place),
+            to: u64::from(f.end),
+            list: "function",
+            number,
+        });
     }
-    let number = number - functions;
+    let number = number.saturating_sub(notes.function.len());
     if number < statics {
         return static_range(notes, number);
     }
@@ -87,7 +74,7 @@ fn sharing(notes: &Notes, it: &Range) -> Option<Range> {
     for number in 0..count {
         if let Some(other) = thing_range(notes, number) {
             let is_itself = other.number == it.number && other.list == it.list;
-            if !is_itself && it.shares(&other) {
+            if !is_itself && other.from < it.to && it.from < other.to {
                 return Some(other);
             }
         }

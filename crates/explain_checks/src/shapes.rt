@@ -13,17 +13,14 @@ fn write_field(s: &Shape, number: u32, line: &mut Line) {
     }
 }
 
-fn write_size(s: &Shape, line: &mut Line) {
-    line.text("size ").pair(u64::from(s.n), u64::from(s.c));
-}
-
 fn write_fault(s: &Shape, fault: ShapeFault, line: &mut Line) {
-    let name = s.name.as_str();
+    let (name, n, c) = (s.name.as_str(), u64::from(s.n), u64::from(s.c));
     match fault {
         ShapeFault::Empty { width } => {
-            line.text(name).text(" has ");
-            write_size(s, line);
-            line.text(", 0 bytes where a pointer has ")
+            line.text(name)
+                .text(" has size ")
+                .pair(n, c)
+                .text(", 0 bytes where a pointer has ")
                 .number(u64::from(width));
         }
         ShapeFault::Outside { width, field } => {
@@ -31,8 +28,10 @@ fn write_fault(s: &Shape, fault: ShapeFault, line: &mut Line) {
                 .number(u64::from(width))
                 .text(" bytes, the field ");
             write_field(s, field, line);
-            line.text(" of ").text(name).text(" ends past its ");
-            write_size(s, line);
+            line.text(" of ")
+                .text(name)
+                .text(" ends past its size ")
+                .pair(n, c);
         }
         ShapeFault::Overlap {
             width,
@@ -50,14 +49,6 @@ fn write_fault(s: &Shape, fault: ShapeFault, line: &mut Line) {
     }
 }
 
-// The key of the part of a shape that is at fault.
-fn key_of(fault: ShapeFault) -> &'static str {
-    match fault {
-        ShapeFault::Empty { .. } => "size",
-        _ => "fields",
-    }
-}
-
 /// What is said where a shape isn't well formed.
 pub(crate) fn said_of_shape(refused: &Refused) -> Option<Said> {
     let number = refused.place as usize;
@@ -71,5 +62,9 @@ pub(crate) fn said_of_shape(refused: &Refused) -> Option<Said> {
     };
     let mut what = Line::new(refused.alloc);
     write_fault(s, fault, &mut what);
-    Some(Said::with_key(what, "shape", number, key_of(fault), "the shape"))
+    let key = match fault {
+        ShapeFault::Empty { .. } => "size",
+        _ => "fields",
+    };
+    Some(Said::with_key(what, "shape", number, key, "the shape"))
 }

@@ -3,26 +3,10 @@
 ghost use Rattle.pe_image.specs.Images.{IsImage};
 
 use crate::content::{content_of_blank, content_of_filled, depends};
-use crate::ranges::{Range, misplaced, static_range};
+use crate::ranges::{misplaced, static_range};
 use crate::refused::Refused;
 use explain_base::{Line, Said};
-use note_types::{Shape, Static};
-
-// What is wrong with a static object.
-fn fault_of(refused: &Refused, x: &Static, s: &Shape, range: &Range) -> Option<Line>
-    requires { IsImage refused.now.image.now }
-{
-    let mut name = Line::of(refused.alloc, "the static object of ");
-    name.text(s.name.as_str());
-    if let Some(what) = misplaced(refused, name, range) {
-        return Some(what);
-    }
-    if depends(s) {
-        content_of_blank(refused.alloc, refused.image, s, range)
-    } else {
-        Some(content_of_filled(refused, x, s, range))
-    }
-}
+use note_types::Static;
 
 // What is said of a static object, by its number.
 fn said_of_object(refused: &Refused, number: usize, x: &Static) -> Option<Said>
@@ -30,7 +14,13 @@ fn said_of_object(refused: &Refused, number: usize, x: &Static) -> Option<Said>
 {
     let s = refused.notes.shape.as_slice().get(x.shape as usize)?;
     let range = static_range(refused.notes, number)?;
-    let what = fault_of(refused, x, s, &range)?;
+    let mut name = Line::of(refused.alloc, "the static object of ");
+    name.text(s.name.as_str());
+    let what = match misplaced(refused, name, &range) {
+        Some(what) => what,
+        None if depends(s) => content_of_blank(refused.alloc, refused.image, s, &range)?,
+        None => content_of_filled(refused, x, s, &range),
+    };
     Some(Said::with_key(what, "static", number, "place", "the static object"))
 }
 

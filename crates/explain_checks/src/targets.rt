@@ -4,7 +4,6 @@ use crate::refused::Stopped;
 use ebc_insn::Insn;
 use explain_base::{Line, Said};
 use note_infer::{jump_names, names_place};
-use note_types::Notes;
 
 // At most so many points are told.
 const POINTS: u32 = 8;
@@ -24,31 +23,14 @@ pub(crate) fn target_place(insn: &Insn, next: u32, reloc: Option<u64>) -> Option
     }
 }
 
-// Writes the places of the points of the function.
-fn write_points(stopped: &Stopped, line: &mut Line) {
-    let mut count = 0u32;
-    for p in stopped.refused.notes.point.as_slice() {
-        if stopped.f.place <= p.place && p.place < stopped.f.end && count < POINTS {
-            line.text(" ").at(p.place);
-            count += 1;
-        }
-    }
-    if count == 0 {
-        line.text(" none");
-    }
-}
-
-fn is_entry(notes: &Notes, place: i128) -> bool {
-    match notes.function.as_slice().get(notes.entry as usize) {
-        Some(f) => i128::from(f.place) == place,
-        None => false,
-    }
-}
-
 fn call_line(stopped: &Stopped, place: i128) -> Line {
+    let notes = stopped.refused.notes;
+    let entry = match notes.function.as_slice().get(notes.entry as usize) {
+        Some(f) => Some(i128::from(f.place)),
+        None => None,
+    };
     let mut what = Line::of(stopped.refused.alloc, "the call goes to ");
-    what.target(place);
-    what.text(if is_entry(stopped.refused.notes, place) {
+    what.target(place).text(if entry == Some(place) {
         ", the entry function, which isn't called"
     } else {
         ", where no function of the notes begins"
@@ -56,19 +38,27 @@ fn call_line(stopped: &Stopped, place: i128) -> Line {
     what
 }
 
+// What is said of a jump, with the places of the points of the function.
 fn jump_line(stopped: &Stopped, place: i128) -> Line {
     let (name, from, to) = (stopped.f.name.as_str(), stopped.f.place, stopped.f.end);
     let mut what = Line::of(stopped.refused.alloc, "the jump goes to ");
     what.target(place);
-    if i128::from(from) <= place && place < i128::from(to) {
-        what.text(", where the notes have no point; ")
-            .text(name)
-            .text(" has points at:");
-        write_points(stopped, &mut what);
-    } else {
+    if place < i128::from(from) || i128::from(to) <= place {
         what.text(", outside ").text(name).text(", which is ");
         what.at(from).text(" up to ").at(to);
+        return what;
     }
+    what.text(", where the notes have no point; ")
+        .text(name)
+        .text(" has points at:");
+    let mut count = 0u32;
+    for p in stopped.refused.notes.point.as_slice() {
+        if from <= p.place && p.place < to && count < POINTS {
+            what.text(" ").at(p.place);
+            count += 1;
+        }
+    }
+    what.text(if count == 0 { " none" } else { "" });
     what
 }
 

@@ -7,20 +7,16 @@ use note_types::FnNote;
 use pe_image::{Image, byte_at};
 use std::alloc::Global;
 
-// The number in the first four bytes of a thunk cell.
-fn half_at(image: &Image, place: u64) -> u32 {
-    u32::from_le_bytes([
-        byte_at(image, place),
-        byte_at(image, place.saturating_add(1)),
-        byte_at(image, place.saturating_add(2)),
-        byte_at(image, place.saturating_add(3)),
-    ])
-}
-
-// What is wrong with the bytes of a thunk cell at a place.
+// What is wrong with the bytes of a thunk cell at a place. The first four say how far from there the function lies.
 fn fault_of_bytes(alloc: Global, image: &Image, f: &FnNote, place: u32) -> Line {
     let from = u64::from(place);
-    let leads = half_at(image, from).wrapping_add(place).wrapping_add(4);
+    let half = u32::from_le_bytes([
+        byte_at(image, from),
+        byte_at(image, from + 1),
+        byte_at(image, from + 2),
+        byte_at(image, from + 3),
+    ]);
+    let leads = half.wrapping_add(place).wrapping_add(4);
     let mut what = Line::new(alloc);
     if leads != f.place {
         let name = f.name.as_str();
@@ -43,33 +39,23 @@ fn fault_of_bytes(alloc: Global, image: &Image, f: &FnNote, place: u32) -> Line 
     what
 }
 
-// What is said of a thunk cell, by its number and what is wrong with it.
-fn said_of(what: Line, number: usize) -> Said {
-    Said::with_key(what, "thunk", number, "place", "the thunk cell")
-}
-
 // What is said of a thunk cell, by its number, which enters function `func`.
 fn said_of_cell(refused: &Refused, number: usize, func: u32) -> Option<Said> {
     let (alloc, notes) = (refused.alloc, refused.notes);
     let f = notes.function.as_slice().get(func as usize)?;
     let range = thunk_range(notes, number)?;
-    if let Some(what) = misplaced(refused, Line::of(alloc, "the thunk cell"), &range) {
-        return Some(said_of(what, number));
-    }
-    if f.enter {
-        let what = fault_of_bytes(alloc, refused.image, f, refused.place);
-        return Some(said_of(what, number));
-    }
-    let mut what = Line::of(alloc, "the thunk cell enters ");
-    what.text(f.name.as_str())
-        .text(", which has no enter = true");
-    Some(Said::with_key(
-        what,
-        "function",
-        func as usize,
-        "name",
-        "the function that it enters",
-    ))
+    let what = match misplaced(refused, Line::of(alloc, "the thunk cell"), &range) {
+        Some(what) => what,
+        None if f.enter => fault_of_bytes(alloc, refused.image, f, refused.place),
+        None => {
+            let mut what = Line::of(alloc, "the thunk cell enters ");
+            what.text(f.name.as_str())
+                .text(", which has no enter = true");
+            let note = "the function that it enters";
+            return Some(Said::with_key(what, "function", func as usize, "name", note));
+        }
+    };
+    Some(Said::with_key(what, "thunk", number, "place", "the thunk cell"))
 }
 
 /// What is said where a thunk cell isn't as the image has it.

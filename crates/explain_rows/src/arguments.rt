@@ -18,28 +18,20 @@ fn is_cell(scene: &Scene, cell: Cell, t: Ty) -> bool {
     }
 }
 
-fn is_start(t: Ty) -> bool {
-    match t {
-        Ty::Ptr { n, c, .. } => n == 0 && c == 0,
-        Ty::Int { lo, hi, .. } => lo == 0 && hi == 0,
-        _ => false,
-    }
-}
-
-fn is_size(n: u32, c: u32, t: Ty) -> bool {
-    match t {
-        Ty::Lin { n: m, c: d } => i64::from(m) == i64::from(n) && i64::from(d) == i64::from(c),
-        Ty::Int { lo, hi, .. } => n == 0 && lo == u64::from(c) && hi == u64::from(c),
-        _ => false,
-    }
-}
-
 fn is_wanted(scene: &Scene, want: Want, t: Ty) -> bool {
     match want {
         Want::Any => true,
         Want::Int { lo, hi } => ty_below(&t, &Ty::Int { lo, hi, div: 1 }),
-        Want::Size { n, c } => is_size(n, c, t),
-        Want::Ptr => is_start(t),
+        Want::Size { n, c } => match t {
+            Ty::Lin { n: m, c: d } => i64::from(m) == i64::from(n) && i64::from(d) == i64::from(c),
+            Ty::Int { lo, hi, .. } => n == 0 && lo == u64::from(c) && hi == u64::from(c),
+            _ => false,
+        },
+        Want::Ptr => match t {
+            Ty::Ptr { n, c, .. } => n == 0 && c == 0,
+            Ty::Int { lo, hi, .. } => lo == 0 && hi == 0,
+            _ => false,
+        },
         Want::Handle => ty_below(&t, &Ty::Handle),
         Want::Status => ty_below(&t, &Ty::Status(0)),
         Want::Entry => ty_below(&t, &Ty::Entry),
@@ -47,25 +39,20 @@ fn is_wanted(scene: &Scene, want: Want, t: Ty) -> bool {
     }
 }
 
-fn is_taken(scene: &Scene, takes: Takes, t: Ty) -> bool {
-    match takes {
-        Takes::Type(Ty::Lent(cell)) => is_cell(scene, cell, t),
-        Takes::Type(p) => ty_below(&t, &p),
-        Takes::Want(want) => is_wanted(scene, want, t),
-    }
-}
-
 // Whether a slot is passed for a parameter that has its kind and takes its value.
 fn is_met(scene: &Scene, p: Parameter, number: usize) -> bool {
-    match slot_at(scene, number) {
-        Some((kind, t)) => kind == p.kind && is_taken(scene, p.takes, t),
-        None => false,
+    match (slot_at(scene, number), p.takes) {
+        (Some((kind, _)), _) if kind != p.kind => false,
+        (Some((_, t)), Takes::Type(Ty::Lent(cell))) => is_cell(scene, cell, t),
+        (Some((_, t)), Takes::Type(p)) => ty_below(&t, &p),
+        (Some((_, t)), Takes::Want(want)) => is_wanted(scene, want, t),
+        (None, _) => false,
     }
 }
 
 // The first parameter that isn't met, and its number.
 fn unmet(scene: &Scene, callee: Callee) -> Option<(usize, Parameter)> {
-    for number in 0..callee.count() {
+    for number in 0..usize::MAX {
         let p = callee.parameter(number)?;
         if !is_met(scene, p, number) {
             return Some((number, p));
@@ -74,22 +61,18 @@ fn unmet(scene: &Scene, callee: Callee) -> Option<(usize, Parameter)> {
     None
 }
 
-// Whether a parameter's cell is read, so that it has to be written.
-fn reads(takes: Takes) -> bool {
-    matches!(
-        takes,
-        Takes::Type(Ty::Lent(_)) | Takes::Want(Want::Inout(_))
-    )
-}
-
 // The first argument that lends a local field that isn't written to be read: its number, and the field's.
 fn lent_unwritten(scene: &Scene, callee: Callee) -> Option<(usize, u32)> {
-    for number in 0..callee.count() {
-        let p = callee.parameter(number)?;
-        if let (true, Some((_, Ty::Local(field)))) = (reads(p.takes), slot_at(scene, number)) {
-            if !has_field(scene.state.written, field) {
+    for number in 0..usize::MAX {
+        let reads = matches!(
+            callee.parameter(number)?.takes,
+            Takes::Type(Ty::Lent(_)) | Takes::Want(Want::Inout(_))
+        );
+        match slot_at(scene, number) {
+            Some((_, Ty::Local(field))) if reads && !has_field(scene.state.written, field) => {
                 return Some((number, field));
             }
+            _ => {}
         }
     }
     None
@@ -97,50 +80,33 @@ fn lent_unwritten(scene: &Scene, callee: Callee) -> Option<(usize, u32)> {
 
 // ---- texts
 
-// Writes what a parameter of a signature wants.
-fn write_want(scene: &Scene, want: Want, line: &mut Line) {
-    match want {
-        Want::Any => line.text("any"),
-        Want::Int { lo, hi } => line.text("int:").number(lo).text("..").number(hi),
-        Want::Size { n, c } => line
+// Writes what a parameter takes.
+fn write_takes(scene: &Scene, callee: Callee, takes: Takes, line: &mut Line) {
+    let f = match callee {
+        Callee::Function(_, g) => g,
+        Callee::Method(..) => scene.f,
+    };
+    match takes {
+        Takes::Type(t) => line.type_of(scene.notes, f, t),
+        Takes::Want(Want::Any) => line.text("any"),
+        Takes::Want(Want::Int { lo, hi }) => line.text("int:").number(lo).text("..").number(hi),
+        Takes::Want(Want::Size { n, c }) => line
             .text("size:")
             .number(u64::from(n))
             .text(",")
             .number(u64::from(c)),
-        Want::Ptr => line.text("ptr, the start of an object or 0,"),
-        Want::Handle => line.text("handle"),
-        Want::Status => line.text("status"),
-        Want::Entry => line.text("entry"),
-        Want::Out(cell) => write_lent(scene, "out:", cell, line),
-        Want::Inout(cell) => write_lent(scene, "inout:", cell, line),
-    };
-}
-
-// Writes what a parameter wants that takes the address of a local field.
-fn write_lent<'l>(scene: &Scene, word: &str, cell: Cell, line: &'l mut Line) -> &'l mut Line {
-    line.text(word)
-        .cell(scene.notes, scene.f, cell)
-        .text(", the address of such a local field,")
-}
-
-// Writes what a parameter takes.
-fn write_takes(scene: &Scene, callee: Callee, takes: Takes, line: &mut Line) {
-    match (takes, callee) {
-        (Takes::Type(t), Callee::Function(_, g)) => {
-            line.type_of(scene.notes, g, t);
-        }
-        (Takes::Type(t), Callee::Method(..)) => {
-            line.type_of(scene.notes, scene.f, t);
-        }
-        (Takes::Want(want), _) => write_want(scene, want, line),
-    }
-}
-
-// Writes what is passed for a parameter.
-fn write_found(scene: &Scene, number: usize, line: &mut Line) {
-    match scene.state.items.as_slice().get(number) {
-        Some(item) => line.item(scene.notes, scene.f, item),
-        None => line.text("not there"),
+        Takes::Want(Want::Ptr) => line.text("ptr, the start of an object or 0,"),
+        Takes::Want(Want::Handle) => line.text("handle"),
+        Takes::Want(Want::Status) => line.text("status"),
+        Takes::Want(Want::Entry) => line.text("entry"),
+        Takes::Want(want @ (Want::Out(cell) | Want::Inout(cell))) => line
+            .text(if matches!(want, Want::Out(_)) {
+                "out:"
+            } else {
+                "inout:"
+            })
+            .cell(scene.notes, scene.f, cell)
+            .text(", the address of such a local field,"),
     };
 }
 
@@ -170,7 +136,10 @@ pub(crate) fn said_of_arguments(scene: &Scene) -> Option<Said> {
     let (number, p) = unmet(scene, callee)?;
     let mut what = Line::of(scene.alloc, "argument ");
     what.count(number).text(" is ");
-    write_found(scene, number, &mut what);
+    match scene.state.items.as_slice().get(number) {
+        Some(item) => what.item(scene.notes, scene.f, item),
+        None => what.text("not there"),
+    };
     what.text(", and ").text(kind_text(p.kind)).text(" ");
     write_takes(scene, callee, p.takes, &mut what);
     what.text(" is wanted");

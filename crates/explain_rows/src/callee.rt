@@ -31,14 +31,6 @@ pub(crate) enum Callee<'a> {
 }
 
 impl Callee<'_> {
-    /// How many parameters it has.
-    pub fn count(&self) -> usize {
-        match self {
-            Callee::Function(_, g) => g.params.len(),
-            Callee::Method(_, g) => g.params.len(),
-        }
-    }
-
     /// A parameter, by its number.
     pub fn parameter(&self, number: usize) -> Option<Parameter> {
         match self {
@@ -70,8 +62,8 @@ pub(crate) fn slot_at(scene: &Scene, number: usize) -> Option<(SlotKind, Ty)> {
 
 // ---- functions
 
-// The place that a call of byte code goes to.
-fn target_place(scene: &Scene) -> Option<i128> {
+/// The function that is called, and its number.
+pub(crate) fn called_function<'a>(scene: &Scene<'a>) -> Option<(usize, &'a FnNote)> {
     let Insn::Call {
         native: false,
         far,
@@ -86,12 +78,7 @@ fn target_place(scene: &Scene) -> Option<i128> {
         Some(place) => Some(u64::from(place)),
         None => None,
     };
-    jump_names(scene.here.next, reloc, *far, *relative, op, extra)
-}
-
-/// The function that is called, and its number.
-pub(crate) fn called_function<'a>(scene: &Scene<'a>) -> Option<(usize, &'a FnNote)> {
-    let place = target_place(scene)?;
+    let place = jump_names(scene.here.next, reloc, *far, *relative, op, extra)?;
     for (number, g) in scene.notes.function.as_slice().iter().enumerate() {
         if i128::from(g.place) == place {
             return Some((number, g));

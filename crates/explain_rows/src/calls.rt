@@ -15,25 +15,16 @@ const RETURN_CELL: Pair = Pair { n: 0, c: 16 };
 
 // ---- sites
 
-// Writes the places of the function's sites.
-fn write_sites(scene: &Scene, line: &mut Line) {
+// Writes the places of the function's sites. It tells the number of the one that is nearest to the place.
+fn write_sites(scene: &Scene, line: &mut Line) -> Option<usize> {
     let mut count = 0u32;
-    for x in scene.notes.site.as_slice() {
-        if scene.f.place <= x.place && x.place < scene.f.end && count < SITES {
-            line.text(" ").at(x.place);
-            count += 1;
-        }
-    }
-    if count == 0 {
-        line.text(" none");
-    }
-}
-
-// The number of the function's site that is nearest to the place.
-fn nearest_site(scene: &Scene) -> Option<usize> {
     let mut best = None;
     for (number, x) in scene.notes.site.as_slice().iter().enumerate() {
         if scene.f.place <= x.place && x.place < scene.f.end {
+            if count < SITES {
+                line.text(" ").at(x.place);
+                count += 1;
+            }
             let far = x.place.abs_diff(scene.here.place);
             best = match best {
                 Some((_, least)) if least <= far => best,
@@ -41,34 +32,11 @@ fn nearest_site(scene: &Scene) -> Option<usize> {
             };
         }
     }
-    let (number, _) = best?;
-    Some(number)
-}
-
-fn no_site(scene: &Scene, method: &str) -> Said {
-    let mut what = Line::of(scene.alloc, method);
-    what.text(" is called here, at ").at(scene.here.place);
-    what.text(", where the notes have no site; ")
-        .text(scene.f.name.as_str())
-        .text(" has sites at:");
-    write_sites(scene, &mut what);
-    match nearest_site(scene) {
-        Some(number) => Said::with_key(what, "site", number, "place", "the nearest site"),
-        None => Said::only(what),
-    }
-}
-
-fn other_site(scene: &Scene, method: &str, site: usize) -> Said {
-    let (name, other) = match signature_of(scene, site) {
-        Some((_, g)) => (g.name.as_str(), method_name(scene.notes, g.method)),
-        None => ("", ""),
+    let Some((number, _)) = best else {
+        line.text(" none");
+        return None;
     };
-    let mut what = Line::of(scene.alloc, method);
-    what.text(" is called, and the site here has signature ")
-        .text(name)
-        .text(", of ")
-        .text(other);
-    Said::with_key(what, "site", site, "signature", "the site here")
+    Some(number)
 }
 
 /// What is said of `site`.
@@ -78,10 +46,26 @@ pub(crate) fn said_of_site(scene: &Scene) -> Option<Said>
     let Some(Ty::Method(number)) = called_type(scene) else {
         return None;
     };
-    let method = method_name(scene.notes, number);
-    Some(match site_number(scene) {
-        Some(site) => other_site(scene, method, site),
-        None => no_site(scene, method),
+    let mut what = Line::of(scene.alloc, method_name(scene.notes, number));
+    if let Some(site) = site_number(scene) {
+        let (name, other) = match signature_of(scene, site) {
+            Some((_, g)) => (g.name.as_str(), method_name(scene.notes, g.method)),
+            None => ("", ""),
+        };
+        what.text(" is called, and the site here has signature ")
+            .text(name)
+            .text(", of ")
+            .text(other);
+        return Some(Said::with_key(what, "site", site, "signature", "the site here"));
+    }
+    what.text(" is called here, at ")
+        .at(scene.here.place)
+        .text(", where the notes have no site; ")
+        .text(scene.f.name.as_str())
+        .text(" has sites at:");
+    Some(match write_sites(scene, &mut what) {
+        Some(number) => Said::with_key(what, "site", number, "place", "the nearest site"),
+        None => Said::only(what),
     })
 }
 
@@ -105,8 +89,12 @@ fn no_lower(scene: &Scene, number: usize, g: &FnNote) -> Said {
     )
 }
 
-// What is said where what the call takes has no room.
-fn no_room(scene: &Scene, g: &FnNote) -> Said {
+/// What is said of `level`: the level of what is called isn't lower, or what the call takes has no room.
+pub(crate) fn said_of_level(scene: &Scene) -> Option<Said> {
+    let (number, g) = called_function(scene)?;
+    if scene.f.level <= g.level {
+        return Some(no_lower(scene, number, g));
+    }
     let items = items_size(scene);
     let mut what = Line::of(scene.alloc, "the items ");
     what.size(items)
@@ -120,21 +108,11 @@ fn no_room(scene: &Scene, g: &FnNote) -> Said {
         .text(scene.f.name.as_str())
         .text(" has need ")
         .size(scene.f.need);
-    Said::with_key(
+    Some(Said::with_key(
         what,
         "function",
         scene.func as usize,
         "need",
         "the function's need",
-    )
-}
-
-/// What is said of `level`.
-pub(crate) fn said_of_level(scene: &Scene) -> Option<Said> {
-    let (number, g) = called_function(scene)?;
-    Some(if scene.f.level <= g.level {
-        no_lower(scene, number, g)
-    } else {
-        no_room(scene, g)
-    })
+    ))
 }

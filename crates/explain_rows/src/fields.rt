@@ -2,29 +2,24 @@
 
 use crate::sizes::{item_size, together};
 use explain_base::{Line, Scene, kind_text};
-use note_types::{Field, Pair, Param};
+use note_types::{Field, Pair};
 use rules_base::{Distance, slot_size};
 
 // How many fields are told at most.
 const FIELDS: usize = 4;
 
-// How far a field begins from a distance, where a pointer has eight bytes.
-fn gap(x: &Field, d: Distance) -> u64 {
-    let field = i64::from(x.n)
-        .saturating_mul(8)
-        .saturating_add(i64::from(x.c));
-    let sought = d.n.saturating_mul(8).saturating_add(d.c);
-    field.saturating_sub(sought).unsigned_abs()
-}
-
-// The number of the field that is nearest to a distance, of those that aren't among these.
+// The number of the field that begins nearest to a distance where a pointer has eight bytes, of those that aren't among these.
 fn nearest(fields: &[Field], d: Distance, told: &[usize]) -> Option<usize> {
+    let sought = d.n.saturating_mul(8).saturating_add(d.c);
     let mut best = None;
     for (number, x) in fields.iter().enumerate() {
-        let far = gap(x, d);
         if told.contains(&number) {
             continue;
         }
+        let field = i64::from(x.n)
+            .saturating_mul(8)
+            .saturating_add(i64::from(x.c));
+        let far = field.saturating_sub(sought).unsigned_abs();
         best = match best {
             Some((_, least)) if least <= far => best,
             _ => Some((number, far)),
@@ -32,14 +27,6 @@ fn nearest(fields: &[Field], d: Distance, told: &[usize]) -> Option<usize> {
     }
     let (number, _) = best?;
     Some(number)
-}
-
-fn write_field(scene: &Scene, x: &Field, line: &mut Line) {
-    line.comma()
-        .text(x.name.as_str())
-        .text(" ")
-        .cell(scene.notes, scene.f, x.cell);
-    line.text(" at ").pair(u64::from(x.n), u64::from(x.c));
 }
 
 /// The fields that are nearest to a distance, the nearest first.
@@ -52,22 +39,15 @@ pub(crate) fn fields_near(scene: &Scene, fields: &[Field], d: Distance) -> Line 
         };
         told[turn] = number;
         if let Some(x) = fields.get(number) {
-            write_field(scene, x, &mut texts);
+            texts
+                .comma()
+                .text(x.name.as_str())
+                .text(" ")
+                .cell(scene.notes, scene.f, x.cell);
+            texts.text(" at ").pair(u64::from(x.n), u64::from(x.c));
         }
     }
     texts
-}
-
-fn write_parameter(scene: &Scene, number: usize, p: &Param, at: Pair, line: &mut Line) {
-    line.comma()
-        .text("parameter ")
-        .count(number)
-        .text(", ")
-        .text(kind_text(p.kind));
-    line.text(" ")
-        .type_of(scene.notes, scene.f, p.ty)
-        .text(", at ")
-        .size(at);
 }
 
 /// What lies above R0: the items and the parameters, each with its distance.
@@ -84,7 +64,12 @@ pub(crate) fn above_stack(scene: &Scene) -> Line {
     }
     at = together(at, Pair { n: 0, c: 16 });
     for (number, p) in scene.f.params.as_slice().iter().enumerate() {
-        write_parameter(scene, number, p, at, &mut texts);
+        texts.comma().text("parameter ").count(number);
+        texts.text(", ").text(kind_text(p.kind)).text(" ");
+        texts
+            .type_of(scene.notes, scene.f, p.ty)
+            .text(", at ")
+            .size(at);
         at = together(at, slot_size(p.kind));
     }
     texts

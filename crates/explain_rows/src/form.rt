@@ -4,7 +4,7 @@ ghost use Rattle.ebc_insn.specs.Spelling.{WellFormed};
 
 use crate::callee::called_type;
 use crate::values::{register_line, value_line};
-use ebc_insn::{Extra, Insn, Operand};
+use ebc_insn::{Extra, Insn};
 use explain_base::{Said, Scene};
 
 // What is said of an instruction other than CALLEX.
@@ -21,15 +21,27 @@ fn form_text(i: &Insn) -> &'static str {
     }
 }
 
-// Whether CALLEX has a form by which a method may be called.
-fn may_call(far: bool, relative: bool, op: &Operand, extra: &Extra) -> bool {
-    !far && !relative && op.reg != 0 && (op.indirect || matches!(extra, Extra::Nothing))
-}
-
-// What is said of CALLEX of something that is no method.
-fn said_of_called(scene: &Scene, op: &Operand) -> Option<Said>
+/// What is said of `form`; of CALLEX in a form by which a method may be called, that this is no method.
+pub(crate) fn said_of_form(scene: &Scene) -> Option<Said>
     requires { WellFormed scene.now.insn.now }
 {
+    let Insn::Call {
+        native: true,
+        far,
+        relative,
+        op,
+        extra,
+    } = scene.insn
+    else {
+        return Some(Said::text(scene.alloc, form_text(scene.insn)));
+    };
+    let is_bare = op.indirect || matches!(extra, Extra::Nothing);
+    if *far || *relative || op.reg == 0 || !is_bare {
+        return Some(Said::text(
+            scene.alloc,
+            "a native call is CALL32EXa on a register but R0, without an immediate, or on what it points to",
+        ));
+    }
     let t = called_type(scene)?;
     let mut what = if op.indirect {
         value_line(scene, "what is called", t)
@@ -38,28 +50,4 @@ fn said_of_called(scene: &Scene, op: &Operand) -> Option<Said>
     };
     what.text(", and a method is wanted");
     Some(Said::only(what))
-}
-
-/// What is said of `form`.
-pub(crate) fn said_of_form(scene: &Scene) -> Option<Said>
-    requires { WellFormed scene.now.insn.now }
-{
-    match scene.insn {
-        Insn::Call {
-            native: true,
-            far,
-            relative,
-            op,
-            extra,
-        } => {
-            if may_call(*far, *relative, op, extra) {
-                return said_of_called(scene, op);
-            }
-            Some(Said::text(
-                scene.alloc,
-                "a native call is CALL32EXa on a register but R0, without an immediate, or on what it points to",
-            ))
-        }
-        _ => Some(Said::text(scene.alloc, form_text(scene.insn))),
-    }
 }

@@ -13,21 +13,13 @@ use rules_base::{constant, index_distance, with_immediate, with_index, wrap64};
 
 const NEGATIVE_INDEX: &str = "an index of fewer than 0 natural units leaves nothing known";
 
-fn is_any(t: Ty) -> bool {
-    matches!(t, Ty::Any)
-}
-
-fn told(scene: &Scene, what: &str) -> Option<Line> {
-    Some(Line::of(scene.alloc, what))
-}
-
 // ---- a register and what stands beside it
 
 // Why nothing is known of a type and the immediate beside it, where that is so.
 fn beside_line(scene: &Scene, t: Ty, extra: &Extra) -> Option<Line> {
     let shapes = scene.notes.shape.as_slice();
-    match extra {
-        Extra::Imm(imm) if is_any(with_immediate(shapes, t, extra)) => {
+    match (extra, with_immediate(shapes, t, extra)) {
+        (Extra::Imm(imm), Ty::Any) => {
             sum_line(scene.alloc, scene.notes, t, constant(wrap64(*imm)))
         }
         _ => None,
@@ -35,16 +27,6 @@ fn beside_line(scene: &Scene, t: Ty, extra: &Extra) -> Option<Line> {
 }
 
 // ---- arithmetic
-
-fn computed_line(scene: &Scene, op: ArithOp, a: Ty, b: Ty) -> Option<Line> {
-    let (alloc, notes) = (scene.alloc, scene.notes);
-    match op {
-        ArithOp::Add => sum_line(alloc, notes, a, b),
-        ArithOp::Sub => difference_line(alloc, notes, a, b),
-        ArithOp::Mul | ArithOp::Mulu => product_line(alloc, a, b),
-        _ => None,
-    }
-}
 
 fn arith_line(
     scene: &Scene,
@@ -57,10 +39,14 @@ fn arith_line(
     requires right { IsOperand right.now }
     requires extra { ExtraFits 16 right.now extra.now }
 {
-    let regs = scene.state.regs;
-    match right_type(scene, true, right, extra)? {
-        b if is_any(b) => beside_line(scene, regs[right.reg as usize], extra),
-        b => computed_line(scene, op, regs[left.reg as usize], b),
+    let (alloc, notes) = (scene.alloc, scene.notes);
+    let a = scene.state.regs[left.reg as usize];
+    match (op, right_type(scene, true, right, extra)?) {
+        (_, Ty::Any) => beside_line(scene, scene.state.regs[right.reg as usize], extra),
+        (ArithOp::Add, b) => sum_line(alloc, notes, a, b),
+        (ArithOp::Sub, b) => difference_line(alloc, notes, a, b),
+        (ArithOp::Mul | ArithOp::Mulu, b) => product_line(alloc, a, b),
+        _ => None,
     }
 }
 
@@ -78,16 +64,6 @@ fn kept_text(size: Size) -> &'static str {
     }
 }
 
-// A move from R0.
-fn frame_line(scene: &Scene, bits: u8, ridx: &Option<Index>) -> Line
-    requires size { IsIndexSize bits }
-    requires index { RightFits bits ridx.now }
-{
-    let mut line = Line::of(scene.alloc, "no local field begins at R0 and ");
-    line.distance(index_distance(bits, ridx));
-    line
-}
-
 fn move_line(
     scene: &Scene,
     size: Size,
@@ -100,46 +76,35 @@ fn move_line(
     requires index { RightFits bits ridx.now }
 {
     if right.reg == 0 {
-        return Some(frame_line(scene, bits, ridx));
+        let mut line = Line::of(scene.alloc, "no local field begins at R0 and ");
+        line.distance(index_distance(bits, ridx));
+        return Some(line);
     }
     let shapes = scene.notes.shape.as_slice();
     let t = scene.state.regs[right.reg as usize];
-    if is_any(t) {
-        return None;
-    }
-    if !is_any(with_index(shapes, t, bits, ridx)) {
-        return told(scene, kept_text(size));
-    }
     let index = with_index(shapes, constant(0), bits, ridx);
-    if is_any(index) {
-        return told(scene, NEGATIVE_INDEX);
+    match (t, with_index(shapes, t, bits, ridx), index) {
+        (Ty::Any, ..) => None,
+        (_, Ty::Any, Ty::Any) => Some(Line::of(scene.alloc, NEGATIVE_INDEX)),
+        (_, Ty::Any, _) => sum_line(scene.alloc, scene.notes, t, index),
+        _ => Some(Line::of(scene.alloc, kept_text(size))),
     }
-    sum_line(scene.alloc, scene.notes, t, index)
 }
 
 fn signed_line(scene: &Scene, right: &Operand, extra: &Extra) -> Option<Line>
     requires { IsOperand right.now }
 {
     let t = scene.state.regs[right.reg as usize];
-    if is_any(t) {
+    if let Ty::Any = t {
         return None;
     }
     match beside_line(scene, t, extra) {
         Some(what) => Some(what),
-        None => told(
-            scene,
+        None => Some(Line::of(
+            scene.alloc,
             "MOVsn keeps a status and numbers below 2147483648 alone",
-        ),
+        )),
     }
-}
-
-fn relative_line(scene: &Scene, imm: i64) -> Line {
-    let mut line = Line::of(
-        scene.alloc,
-        "no static object and no thunk cell of the notes begins at ",
-    );
-    line.target(i128::from(scene.here.next) + i128::from(imm));
-    line
 }
 
 /// Why nothing is known of what an instruction that is accepted leaves in a register of which something was known, or that it reads.
@@ -147,15 +112,15 @@ fn relative_line(scene: &Scene, imm: i64) -> Line {
 pub fn loss_line(scene: &Scene) -> Option<Line>
     requires { WellFormed scene.now.insn.now }
 {
-    match scene.insn {
+    let told = match scene.insn {
         Insn::Arith {
             op,
             wide: true,
             left,
             right,
             extra,
-        } => arith_line(scene, *op, left, right, extra),
-        Insn::Arith { .. } => told(scene, "the 32-bit forms compute numbers alone"),
+        } => return arith_line(scene, *op, left, right, extra),
+        Insn::Arith { .. } => "the 32-bit forms compute numbers alone",
         Insn::Move {
             size,
             bits,
@@ -164,22 +129,22 @@ pub fn loss_line(scene: &Scene) -> Option<Line>
             ridx,
             ..
         } => if left.reg == 0 {
-            told(
-                scene,
-                "the locals are dropped, and the addresses of their fields with them",
-            )
+            "the locals are dropped, and the addresses of their fields with them"
         } else if right.indirect {
-            None
+            return None;
         } else {
-            move_line(scene, *size, *bits, right, ridx)
+            return move_line(scene, *size, *bits, right, ridx);
         },
-        Insn::MoveSigned { right, extra, .. } => if right.indirect {
-            None
-        } else {
-            signed_line(scene, right, extra)
-        },
-        Insn::MoveImmNatural { .. } => told(scene, NEGATIVE_INDEX),
-        Insn::MoveRelative { imm, .. } => Some(relative_line(scene, *imm)),
-        _ => None,
+        Insn::MoveSigned { right, extra, .. } if !right.indirect => {
+            return signed_line(scene, right, extra);
+        }
+        Insn::MoveImmNatural { .. } => NEGATIVE_INDEX,
+        Insn::MoveRelative { .. } => "no static object and no thunk cell of the notes begins at ",
+        _ => return None,
+    };
+    let mut line = Line::of(scene.alloc, told);
+    if let Insn::MoveRelative { imm, .. } = scene.insn {
+        line.target(i128::from(scene.here.next) + i128::from(*imm));
     }
+    Some(line)
 }

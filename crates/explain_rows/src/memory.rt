@@ -6,7 +6,7 @@ use crate::fields::{above_stack, fields_near};
 use crate::operands::{Memory, left_memory, right_memory};
 use crate::values::register_line;
 use explain_base::{Line, Said, Scene, access_text, accesses_of, kind_text};
-use note_types::{Cell, RuleName, Shape, Ty};
+use note_types::{RuleName, Shape, Ty};
 use rules_base::{Distance, Place, load_at, local_fields, place_at, target_at};
 
 // Whether an operand in memory fails by a rule.
@@ -61,11 +61,6 @@ fn place_of(scene: &Scene, m: Memory) -> Option<Place> {
     place_at(scene.notes, scene.f, scene.state, m.reg, m.distance)
 }
 
-// The type of the register of an operand.
-fn address_type(scene: &Scene, m: Memory) -> Ty {
-    scene.state.regs[m.reg as usize]
-}
-
 // ---- operands that name no cell
 
 fn beside_stack(scene: &Scene, m: Memory) -> Said {
@@ -78,29 +73,10 @@ fn beside_stack(scene: &Scene, m: Memory) -> Said {
     said
 }
 
-// The register of an operand, with its type.
-fn address_line(scene: &Scene, m: Memory) -> Line {
-    register_line(scene, m.reg, address_type(scene, m))
-}
-
-fn beside_cell(scene: &Scene, m: Memory) -> Said {
-    let mut what = address_line(scene, m);
-    what.text(", the address of one cell, and ")
-        .distance(m.distance)
-        .text(" leads away from it");
-    Said::only(what)
-}
-
-fn no_address(scene: &Scene, m: Memory) -> Said {
-    let mut what = address_line(scene, m);
-    what.text(", and an address is wanted: a pointer to a shape, or a local's or a thunk cell's");
-    Said::only(what)
-}
-
 // A pointer into a shape, by its number, whose fields begin elsewhere than at a distance from the instance.
 fn beside_field(scene: &Scene, m: Memory, number: u32, s: &Shape, d: Distance) -> Said {
     let name = s.name.as_str();
-    let mut what = address_line(scene, m);
+    let mut what = register_line(scene, m.reg, scene.state.regs[m.reg as usize]);
     what.text(", and ")
         .text(name)
         .text(" has no field that begins at ")
@@ -124,58 +100,63 @@ fn nowhere(scene: &Scene, m: Memory) -> Said {
     if m.reg == 0 {
         return beside_stack(scene, m);
     }
-    match address_type(scene, m) {
-        Ty::Ptr { shape, n, c, .. } => match scene.notes.shape.as_slice().get(shape as usize) {
-            Some(s) => {
-                let d = Distance {
-                    n: m.distance.n.saturating_add(i64::from(n)),
-                    c: m.distance.c.saturating_add(i64::from(c)),
-                };
-                beside_field(scene, m, shape, s, d)
-            }
-            None => no_address(scene, m),
-        },
-        Ty::Local(_) | Ty::Lent(_) | Ty::ThunkAt(_) => beside_cell(scene, m),
-        _ => no_address(scene, m),
+    let t = scene.state.regs[m.reg as usize];
+    if let Ty::Ptr { shape, n, c, .. } = t {
+        if let Some(s) = scene.notes.shape.as_slice().get(shape as usize) {
+            let d = Distance {
+                n: m.distance.n.saturating_add(i64::from(n)),
+                c: m.distance.c.saturating_add(i64::from(c)),
+            };
+            return beside_field(scene, m, shape, s, d);
+        }
     }
+    let mut what = register_line(scene, m.reg, t);
+    match t {
+        Ty::Local(_) | Ty::Lent(_) | Ty::ThunkAt(_) => what
+            .text(", the address of one cell, and ")
+            .distance(m.distance)
+            .text(" leads away from it"),
+        _ => what.text(
+            ", and an address is wanted: a pointer to a shape, or a local's or a thunk cell's",
+        ),
+    };
+    Said::only(what)
 }
 
 // ---- cells that are accessed otherwise than they may be
 
-fn does(m: Memory) -> &'static str {
-    if m.stores { "stored to" } else { "loaded" }
-}
-
-fn other_access(scene: &Scene, m: Memory, cell: Cell) -> Said {
-    let mut what = Line::of(scene.alloc, access_text(m.access));
-    what.text(if m.stores {
-        " stores to a cell "
+// Writes how a place is accessed, and how it may be.
+fn write_access(scene: &Scene, m: Memory, place: Place, line: &mut Line) {
+    let access = access_text(m.access);
+    match place {
+        Place::Object { cell, .. } | Place::Local { cell, .. } => {
+            line.text(access)
+                .text(if m.stores {
+                    " stores to a cell "
+                } else {
+                    " loads a cell "
+                })
+                .cell(scene.notes, scene.f, cell);
+            line.text(", which is accessed by ").text(accesses_of(cell));
+            return;
+        }
+        Place::Parameter { kind, ty } => line
+            .text("a parameter ")
+            .text(kind_text(kind))
+            .text(" ")
+            .type_of(scene.notes, scene.f, ty),
+        Place::ThunkCell(_) => line.text("a thunk cell"),
+    };
+    line.text(if m.stores {
+        " is stored to by "
     } else {
-        " loads a cell "
+        " is loaded by "
     })
-    .cell(scene.notes, scene.f, cell);
-    what.text(", which is accessed by ").text(accesses_of(cell));
-    Said::only(what)
-}
-
-fn of_parameter(scene: &Scene, m: Memory, kind: &str, t: Ty) -> Said {
-    let mut what = Line::of(scene.alloc, "a parameter ");
-    what.text(kind).text(" ").type_of(scene.notes, scene.f, t);
-    what.text(" is ")
-        .text(does(m))
-        .text(" by ")
-        .text(access_text(m.access));
-    what.text(
-        "; it is loaded by MOVn where it is n and by MOVq where it is q, and never stored to",
-    );
-    Said::only(what)
-}
-
-fn of_thunk_cell(scene: &Scene, m: Memory) -> Said {
-    let mut what = Line::of(scene.alloc, "a thunk cell is ");
-    what.text(does(m)).text(" by ").text(access_text(m.access));
-    what.text("; it is loaded by MOVn, and never stored to");
-    Said::only(what)
+    .text(access)
+    .text(match place {
+        Place::ThunkCell(_) => "; it is loaded by MOVn, and never stored to",
+        _ => "; it is loaded by MOVn where it is n and by MOVq where it is q, and never stored to",
+    });
 }
 
 /// What is said of `address`.
@@ -183,14 +164,12 @@ pub(crate) fn said_of_address(scene: &Scene) -> Option<Said>
     requires { WellFormed scene.now.insn.now }
 {
     let m = failing(scene, RuleName::Address)?;
-    Some(match place_of(scene, m) {
-        None => nowhere(scene, m),
-        Some(Place::Object { cell, .. } | Place::Local { cell, .. }) => other_access(
-            scene, m, cell,
-        ),
-        Some(Place::Parameter { kind, ty }) => of_parameter(scene, m, kind_text(kind), ty),
-        Some(Place::ThunkCell(_)) => of_thunk_cell(scene, m),
-    })
+    let Some(place) = place_of(scene, m) else {
+        return Some(nowhere(scene, m));
+    };
+    let mut what = Line::new(scene.alloc);
+    write_access(scene, m, place, &mut what);
+    Some(Said::only(what))
 }
 
 /// What is said of `null`.
@@ -198,7 +177,7 @@ pub(crate) fn said_of_null(scene: &Scene) -> Option<Said>
     requires { WellFormed scene.now.insn.now }
 {
     let m = failing(scene, RuleName::Null)?;
-    let mut what = address_line(scene, m);
+    let mut what = register_line(scene, m.reg, scene.state.regs[m.reg as usize]);
     what.text(", which may be null; a comparison with 0 and a jump where it is are wanted before");
     Some(Said::only(what))
 }

@@ -4,20 +4,10 @@ ghost use Rattle.ebc_insn.specs.Spelling.{WellFormed};
 
 use crate::operands::left_memory;
 use crate::values::{loaded_type, right_type, value_line};
-use ebc_insn::{Insn, Operand};
+use ebc_insn::Insn;
 use explain_base::{Line, Said, Scene};
 use note_types::Ty;
 use rules_base::{constant, wrap64};
-
-// Operand 1 of CMPI.
-fn left_type(scene: &Scene, left: &Operand) -> Option<Ty>
-    requires { WellFormed scene.now.insn.now }
-{
-    if left.indirect {
-        return loaded_type(scene, left_memory(scene.insn)?);
-    }
-    scene.state.regs.get(left.reg as usize).copied()
-}
 
 // Two values that are compared, and whether all 64 bits of them are.
 #[derive(Clone, Copy)]
@@ -51,7 +41,10 @@ fn compared_values(scene: &Scene) -> Option<Compared>
             imm,
             ..
         } => {
-            let a = left_type(scene, left)?;
+            let a = match left_memory(scene.insn) {
+                Some(m) => loaded_type(scene, m)?,
+                None => scene.state.regs[left.reg as usize],
+            };
             Some(Compared {
                 a,
                 b: constant(wrap64(i64::from(*imm))),

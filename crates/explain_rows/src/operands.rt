@@ -70,45 +70,26 @@ pub(crate) fn move_access(size: Size) -> Access {
     }
 }
 
-/// A slot that is pushed or popped: its kind, and the operand beside it.
+/// A slot that is pushed, or popped: its kind, and the operand beside it.
 #[derive(Clone, Copy)]
 pub(crate) struct Slot {
+    pub pops: bool,
     pub kind: SlotKind,
     pub op: Operand,
 }
 
-fn wide_kind(wide: bool) -> SlotKind {
-    if wide { SlotKind::Q } else { SlotKind::D }
-}
-
-/// What an instruction pushes.
-pub(crate) fn pushed(i: &Insn) -> Option<Slot> {
-    match *i {
-        Insn::Push { wide, op, .. } => Some(Slot {
-            kind: wide_kind(wide),
-            op,
-        }),
-        Insn::PushNatural { op, .. } => Some(Slot {
-            kind: SlotKind::N,
-            op,
-        }),
-        _ => None,
-    }
-}
-
-/// What an instruction pops.
-pub(crate) fn popped(i: &Insn) -> Option<Slot> {
-    match *i {
-        Insn::Pop { wide, op, .. } => Some(Slot {
-            kind: wide_kind(wide),
-            op,
-        }),
-        Insn::PopNatural { op, .. } => Some(Slot {
-            kind: SlotKind::N,
-            op,
-        }),
-        _ => None,
-    }
+/// What an instruction pushes or pops.
+pub(crate) fn moved_slot(i: &Insn) -> Option<Slot> {
+    let (pops, kind, op) = match *i {
+        Insn::Push { wide: true, op, .. } => (false, SlotKind::Q, op),
+        Insn::Push { op, .. } => (false, SlotKind::D, op),
+        Insn::PushNatural { op, .. } => (false, SlotKind::N, op),
+        Insn::Pop { wide: true, op, .. } => (true, SlotKind::Q, op),
+        Insn::Pop { op, .. } => (true, SlotKind::D, op),
+        Insn::PopNatural { op, .. } => (true, SlotKind::N, op),
+        _ => return None,
+    };
+    Some(Slot { pops, kind, op })
 }
 
 /// Operand 1, where it is in memory.

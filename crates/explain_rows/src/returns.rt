@@ -19,51 +19,31 @@ fn changed(scene: &Scene) -> Option<u8>
     None
 }
 
-fn of_items(scene: &Scene) -> Said {
-    let mut what = Line::of(scene.alloc, "RET with items on the stack, ");
-    what.size(items_size(scene))
-        .text(" in all, and none is wanted");
-    Said::only(what)
-}
-
-fn of_register(scene: &Scene, reg: u8) -> Said
-    requires { reg < 8 }
-{
-    let (number, t) = (u64::from(reg), scene.state.regs[reg as usize]);
-    let mut what = Line::of(scene.alloc, "RET with ");
-    what.type_of(scene.notes, scene.f, t)
-        .text(" in R")
-        .number(number);
-    what.text(", and saved:")
-        .number(number)
-        .text(", what R")
-        .number(number);
-    what.text(" held at the entry, is wanted");
-    Said::only(what)
-}
-
-fn of_result(scene: &Scene) -> Said {
-    let mut what = Line::of(scene.alloc, "RET with ");
-    what.type_of(scene.notes, scene.f, scene.state.regs[7])
-        .text(" in R7, and ");
-    what.type_of(scene.notes, scene.f, scene.f.result)
-        .text(" is wanted");
-    Said::with_key(
-        what,
-        "function",
-        scene.func as usize,
-        "result",
-        "the function's result",
-    )
-}
-
 /// What is said of `return`.
 pub(crate) fn said_of_return(scene: &Scene) -> Said {
+    let (notes, f) = (scene.notes, scene.f);
+    let mut what = Line::of(scene.alloc, "RET with ");
     if !scene.state.items.is_empty() {
-        return of_items(scene);
+        what.text("items on the stack, ")
+            .size(items_size(scene))
+            .text(" in all, and none is wanted");
+        return Said::only(what);
     }
-    match changed(scene) {
-        Some(reg) => of_register(scene, reg),
-        None => of_result(scene),
+    if let Some(reg) = changed(scene) {
+        let number = u64::from(reg);
+        what.type_of(notes, f, scene.state.regs[reg as usize])
+            .text(" in R")
+            .number(number);
+        what.text(", and saved:").number(number);
+        what.text(", what R")
+            .number(number)
+            .text(" held at the entry, is wanted");
+        return Said::only(what);
     }
+    what.type_of(notes, f, scene.state.regs[7])
+        .text(" in R7, and ")
+        .type_of(notes, f, f.result)
+        .text(" is wanted");
+    let (number, note) = (scene.func as usize, "the function's result");
+    Said::with_key(what, "function", number, "result", note)
 }

@@ -2,47 +2,25 @@
 
 ghost use Rattle.ebc_insn.specs.Spelling.{WellFormed};
 
-use crate::operands::{Slot, popped, pushed};
+use crate::operands::{Slot, moved_slot};
 use crate::sizes::{item_size, items_size, together};
-use ebc_insn::{Insn, Operand, Size};
+use ebc_insn::{Insn, Size};
 use explain_base::{Line, Said, Scene, kind_text};
 use note_types::{Item, Pair, SlotKind};
-use rules_base::{Distance, index_distance, locals_size, slot_size};
+use rules_base::{index_distance, locals_size, slot_size};
 
 // How many slots a function may have at most.
 const SLOTS: usize = 64;
 
-// The sums of the sizes of the items from the top.
-fn sums_line(scene: &Scene) -> Line {
-    let mut sum = Pair { n: 0, c: 0 };
-    let mut sums = Line::new(scene.alloc);
-    sums.size(sum);
-    for item in scene.state.items.as_slice() {
-        sum = together(sum, item_size(scene, item));
-        sums.comma().size(sum);
-    }
-    sums
-}
-
-// Whether the locals are on the stack.
-fn has_locals(scene: &Scene) -> bool {
-    for item in scene.state.items.as_slice() {
-        if let Item::Locals = item {
-            return true;
-        }
-    }
-    false
-}
-
-// Whether no more slot may be pushed, whatever the function's need is.
-fn is_full(scene: &Scene) -> bool {
+// How many of the items are slots. The others are the locals.
+fn slots_in(items: &[Item]) -> usize {
     let mut slots = 0usize;
-    for item in scene.state.items.as_slice() {
+    for item in items {
         if let Item::Slot { .. } = item {
             slots = slots.saturating_add(1);
         }
     }
-    SLOTS <= slots
+    slots
 }
 
 // What is said where an item of this size has no room.
@@ -70,7 +48,7 @@ fn said_of_push(scene: &Scene, slot: Slot) -> Said {
             "R0 is pushed; its value is taken by MOVq alone",
         );
     }
-    if is_full(scene) {
+    if SLOTS <= slots_in(scene.state.items.as_slice()) {
         return Said::text(scene.alloc, "this push makes more than 64 slots");
     }
     no_room(scene, slot_size(slot.kind), "this push")
@@ -102,91 +80,85 @@ fn said_of_pop(scene: &Scene, slot: Slot) -> Said {
 
 // ---- MOVq R0, R0
 
-fn size_of(d: Distance) -> Pair {
-    Pair {
-        n: d.n.unsigned_abs(),
-        c: d.c.unsigned_abs(),
-    }
-}
-
-// What is said where R0 goes down by other than the size of the locals, whose shape has this number.
-fn other_size(scene: &Scene, size: Pair, shape: u32) -> Said {
-    let mut what = Line::of(scene.alloc, "R0 goes down by ");
-    what.size(size)
-        .text(", and the locals take ")
-        .size(locals_size(scene.notes, scene.f));
-    Said::with_key(
-        what,
-        "shape",
-        shape as usize,
-        "size",
-        "the size of the locals",
-    )
-}
-
 // What is said of R0 that goes down.
 fn said_of_locals(scene: &Scene, size: Pair) -> Said {
+    let (items, taken) = (
+        scene.state.items.as_slice(),
+        locals_size(scene.notes, scene.f),
+    );
+    let is_there = slots_in(items) < items.len();
     let mut what = Line::of(scene.alloc, "R0 goes down by ");
     what.size(size).text(", and ");
     let Some(shape) = scene.f.locals else {
         what.text(scene.f.name.as_str()).text(" has no locals");
         return Said::only(what);
     };
-    if has_locals(scene) {
+    if is_there {
         what.text("the locals are there already");
         return Said::only(what);
     }
-    if locals_size(scene.notes, scene.f) == size {
+    if taken == size {
         return no_room(scene, size, "making the locals");
     }
-    other_size(scene, size, shape)
+    what.text("the locals take ").size(taken);
+    let note = "the size of the locals";
+    Said::with_key(what, "shape", shape as usize, "size", note)
 }
 
-// What is said of R0 that goes up.
+// What is said of R0 that goes up: the sums of the sizes of the items from the top.
 fn said_of_drop(scene: &Scene, size: Pair) -> Said {
     let mut what = Line::of(scene.alloc, "R0 goes up by ");
-    what.size(size)
-        .text(", which drops no whole items; the items from the top sum up to ")
-        .line(&sums_line(scene));
+    what.size(size).text(", which drops no whole items; the items from the top sum up to (0, 0)");
+    let mut sum = Pair { n: 0, c: 0 };
+    for item in scene.state.items.as_slice() {
+        sum = together(sum, item_size(scene, item));
+        what.text(", ").size(sum);
+    }
     Said::only(what)
 }
 
 // ---- the rule
 
-fn is_r0(op: &Operand) -> bool {
-    op.reg == 0 && !op.indirect
-}
-
-// How far MOVq R0, R0 moves R0; `None` of other instructions.
-fn frame_distance(i: &Insn) -> Option<Distance>
+// Whether MOVq R0, R0 moves R0 down, and how far; `None` of other instructions.
+fn frame_move(i: &Insn) -> Option<(bool, Pair)>
     requires { WellFormed i.now }
 {
-    match i {
-        Insn::Move {
-            size: Size::Qword,
-            bits,
-            left,
-            right,
-            ridx,
-            ..
-        } if is_r0(left) && is_r0(right) => Some(index_distance(*bits, ridx)),
-        _ => None,
+    let Insn::Move {
+        size: Size::Qword,
+        bits,
+        left,
+        right,
+        ridx,
+        ..
+    } = i
+    else {
+        return None;
+    };
+    if left.reg != 0 || left.indirect || right.reg != 0 || right.indirect {
+        return None;
     }
+    let d = index_distance(*bits, ridx);
+    let size = Pair {
+        n: d.n.unsigned_abs(),
+        c: d.c.unsigned_abs(),
+    };
+    Some((d.n < 0 || d.c < 0, size))
 }
 
 /// What is said of `stack`.
 pub(crate) fn said_of_stack(scene: &Scene) -> Said
     requires { WellFormed scene.now.insn.now }
 {
-    if let Some(slot) = pushed(scene.insn) {
-        return said_of_push(scene, slot);
+    if let Some(slot) = moved_slot(scene.insn) {
+        return if slot.pops {
+            said_of_pop(scene, slot)
+        } else {
+            said_of_push(scene, slot)
+        };
     }
-    if let Some(slot) = popped(scene.insn) {
-        return said_of_pop(scene, slot);
-    }
-    match frame_distance(scene.insn) {
-        Some(d) if d.n < 0 || d.c < 0 => said_of_locals(scene, size_of(d)),
-        Some(d) => said_of_drop(scene, size_of(d)),
+    match frame_move(scene.insn) {
+        Some((true, size)) => said_of_locals(scene, size),
+        Some((false, size)) => said_of_drop(scene, size),
         None => Said::text(
             scene.alloc,
             "R0 is an operand here; its value is taken by MOVq alone, and it is changed by MOVq R0, R0 with an index alone",

@@ -1,11 +1,11 @@
 //! What is said of `store`.
 
-ghost use Rattle.ebc_insn.specs.Spelling.{ExtraFits, IsOperand, RightFits, WellFormed};
+ghost use Rattle.ebc_insn.specs.Spelling.{IsOperand, RightFits, WellFormed};
 ghost use Rattle.natural_index.specs.Index.{IsIndexSize};
 
 use crate::operands::{Memory, left_memory, right_memory};
 use crate::values::{loaded_type, right_type, value_line};
-use ebc_insn::{Extra, Insn, Operand, Size};
+use ebc_insn::{Insn, Operand, Size};
 use explain_base::{Line, Said, Scene};
 use natural_index::Index;
 use note_types::{Cell, Item, Ty};
@@ -42,51 +42,24 @@ fn immediate(size: Size, imm: i64) -> Ty {
     }
 }
 
-// What MOVIn moves.
-fn index_type(n: i64, c: i64) -> Ty {
-    if n == 0 && 0 <= c {
-        constant(c.unsigned_abs())
-    } else if 1 <= n {
-        lin(n, c)
-    } else {
-        Ty::Any
-    }
-}
-
-// What a move reads of R0: the address of a local field, or nothing known.
-fn frame_address(scene: &Scene, bits: u8, ridx: &Option<Index>) -> Ty
-    requires size { IsIndexSize bits }
-    requires index { RightFits bits ridx.now }
-{
-    let d = index_distance(bits, ridx);
-    match place_at(scene.notes, scene.f, scene.state, 0, d) {
-        Some(Place::Local { field, .. }) => Ty::Local(field),
-        _ => Ty::Any,
-    }
-}
-
-// What a move moves from a register.
+// What a move moves from a register; from R0 it is the address of a local field, or nothing known.
 fn moved(scene: &Scene, size: Size, bits: u8, right: &Operand, ridx: &Option<Index>) -> Ty
     requires size { IsIndexSize bits }
     requires right { IsOperand right.now }
     requires index { RightFits bits ridx.now }
 {
     if right.reg == 0 {
-        return frame_address(scene, bits, ridx);
+        let d = index_distance(bits, ridx);
+        return match place_at(scene.notes, scene.f, scene.state, 0, d) {
+            Some(Place::Local { field, .. }) => Ty::Local(field),
+            _ => Ty::Any,
+        };
     }
     let t = scene.state.regs[right.reg as usize];
     kept(
         size,
         with_index(scene.notes.shape.as_slice(), t, bits, ridx),
     )
-}
-
-// What is in the slot on top.
-fn top_type(scene: &Scene) -> Option<Ty> {
-    match scene.state.items.as_slice() {
-        [Item::Slot { ty, .. }, ..] => Some(*ty),
-        _ => None,
-    }
 }
 
 // The value that an instruction stores, where it computes none.
@@ -105,21 +78,26 @@ fn stored(scene: &Scene) -> Option<Ty>
             ..
         } => Some(moved(scene, *size, *bits, right, ridx)),
         Insn::MoveImm { size, imm, .. } => Some(immediate(*size, *imm)),
-        Insn::MoveImmNatural { bits, idx, .. } => {
-            let d = counted(*bits, idx);
-            Some(index_type(d.n, d.c))
-        }
-        Insn::Pop { .. } | Insn::PopNatural { .. } => top_type(scene),
+        Insn::MoveImmNatural { bits, idx, .. } => Some(match counted(*bits, idx) {
+            d if d.n == 0 && 0 <= d.c => constant(d.c.unsigned_abs()),
+            d if 1 <= d.n => lin(d.n, d.c),
+            _ => Ty::Any,
+        }),
+        Insn::Pop { .. } | Insn::PopNatural { .. } => match scene.state.items.as_slice() {
+            [Item::Slot { ty, .. }, ..] => Some(*ty),
+            _ => None,
+        },
         _ => None,
     }
 }
 
-// ---- the operands of an instruction that computes
-
-fn operands_line(scene: &Scene, m: Memory, right: &Operand, extra: &Extra) -> Line
-    requires right { IsOperand right.now }
-    requires extra { ExtraFits 16 right.now extra.now }
+// What is stored: the value, or the operands of an instruction that computes it.
+fn stored_line(scene: &Scene, m: Memory) -> Line
+    requires { WellFormed scene.now.insn.now }
 {
+    let Insn::Arith { right, extra, .. } = scene.insn else {
+        return value_line(scene, "the value", stored(scene).unwrap_or(Ty::Any));
+    };
     let (notes, f) = (scene.notes, scene.f);
     let wide = m.access == Access::Form64;
     let a = loaded_type(scene, m).unwrap_or(Ty::Any);
@@ -127,16 +105,6 @@ fn operands_line(scene: &Scene, m: Memory, right: &Operand, extra: &Extra) -> Li
     let mut line = Line::of(scene.alloc, "the operands are ");
     line.type_of(notes, f, a).text(" and ").type_of(notes, f, b);
     line
-}
-
-// What is stored.
-fn stored_line(scene: &Scene, m: Memory) -> Line
-    requires { WellFormed scene.now.insn.now }
-{
-    if let Insn::Arith { right, extra, .. } = scene.insn {
-        return operands_line(scene, m, right, extra);
-    }
-    value_line(scene, "the value", stored(scene).unwrap_or(Ty::Any))
 }
 
 /// What is said of `store`.

@@ -27,24 +27,16 @@ fn making_line(scene: &Scene) -> Line {
     what
 }
 
-// The number of the thunk whose cell is read.
-fn thunk_read(scene: &Scene) -> Option<u32>
-    requires { WellFormed scene.now.insn.now }
-{
-    let m = right_memory(scene.insn)?;
-    match place_at(scene.notes, scene.f, scene.state, m.reg, m.distance) {
-        Some(Place::ThunkCell(thunk)) => Some(thunk),
-        _ => None,
-    }
-}
-
-// What is said of another instruction than BREAK.
+// What is said of another instruction than BREAK, which may read a thunk cell.
 fn using_line(scene: &Scene) -> Line
     requires { WellFormed scene.now.insn.now }
 {
-    let thunk = thunk_read(scene);
+    let place = match right_memory(scene.insn) {
+        Some(m) => place_at(scene.notes, scene.f, scene.state, m.reg, m.distance),
+        None => None,
+    };
     let mut what = Line::new(scene.alloc);
-    if let Some(thunk) = thunk {
+    if let Some(Place::ThunkCell(thunk)) = place {
         what.text("thunk ")
             .number(u64::from(thunk))
             .text(" is used, and ");
@@ -53,9 +45,9 @@ fn using_line(scene: &Scene) -> Line
         .text(" of the ")
         .count(scene.notes.thunk.len())
         .text(" thunks are made here");
-    what.text(match thunk {
-        Some(_) => "; BREAK 5 makes them in the order of the notes",
-        None => ", and a call wants all of them made before",
+    what.text(match place {
+        Some(Place::ThunkCell(_)) => "; BREAK 5 makes them in the order of the notes",
+        _ => ", and a call wants all of them made before",
     });
     what
 }

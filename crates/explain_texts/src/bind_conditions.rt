@@ -39,16 +39,32 @@ fn signature_of<'n>(notes: &'n Notes, method: &str) -> Option<&'n Signature> {
     None
 }
 
-// Writes what is wrong with a bind of a method to the function of that number.
-fn function_wrong(
+fn text_at<'a>(at: &Found<'a>, key: &str) -> &'a str {
+    match at.value.get(key) {
+        Some(value) => value.as_str().unwrap_or(""),
+        None => "",
+    }
+}
+
+// The function of that name, and its number.
+fn function_named<'n>(notes: &'n Notes, name: &str) -> Option<(usize, &'n FnNote)> {
+    for (number, function) in notes.function.as_slice().iter().enumerate() {
+        if function.name.as_str() == name {
+            return Some((number, function));
+        }
+    }
+    None
+}
+
+/// What of a bind doesn't agree with the notes of both images; it writes what is wrong with it.
+pub(crate) fn bind_condition(
     consumer: &Notes,
     provider: &Notes,
-    method: &str,
-    number: usize,
+    at: &Found,
     line: &mut Line,
 ) -> Option<Subject> {
-    let function = provider.function.as_slice().get(number)?;
-    let name = function.name.as_str();
+    let (method, name) = (text_at(at, "method"), text_at(at, "function"));
+    let (number, function) = function_named(provider, name)?;
     if number == provider.entry as usize {
         line.text(" doesn't agree: ")
             .text(name)
@@ -67,27 +83,4 @@ fn function_wrong(
         );
     }
     Some(Subject::Whole)
-}
-
-fn text_at<'a>(at: &Found<'a>, key: &str) -> &'a str {
-    match at.value.get(key) {
-        Some(value) => value.as_str().unwrap_or(""),
-        None => "",
-    }
-}
-
-/// What of a bind doesn't agree with the notes of both images; it writes what is wrong with it.
-pub(crate) fn bind_condition(
-    consumer: &Notes,
-    provider: &Notes,
-    at: &Found,
-    line: &mut Line,
-) -> Option<Subject> {
-    let (method, name) = (text_at(at, "method"), text_at(at, "function"));
-    for (number, function) in provider.function.as_slice().iter().enumerate() {
-        if function.name.as_str() == name {
-            return function_wrong(consumer, provider, method, number, line);
-        }
-    }
-    None
 }

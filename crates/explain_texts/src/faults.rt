@@ -1,7 +1,7 @@
 //! What is said of the first fault of a text in TOML.
 
 use crate::faulty::{Faulty, TomlText, said_at, table_and_key, value_at};
-use crate::forms::{Form, KeyForm, bare_path};
+use crate::forms::{Form, KeyForm};
 use crate::names::name_said;
 use crate::ranges::range_said;
 use crate::repeats::twice_said;
@@ -9,7 +9,7 @@ use ebc_base::NoMemory;
 use explain_base::{Line, Said};
 use note_types::TomlFault;
 use std::alloc::Global;
-use toml::{Table, Value};
+use toml::Value;
 
 /// What is said of a text in TOML, by the name of its file and what it is, at its first fault.
 ///
@@ -30,7 +30,9 @@ pub fn toml_said(
                 Some(span) => span.start,
                 None => 0,
             };
-            return Ok(not_toml_said(alloc, kind, bytes, offset, error.message()));
+            let mut what = Line::of(alloc, "this is no TOML: ");
+            what.text(error.message());
+            return Ok(said_at(bytes, offset, what, kind.pages().0));
         }
     };
     let text = std::str::from_utf8(bytes).unwrap_or("");
@@ -41,41 +43,25 @@ pub fn toml_said(
         text,
         table: &table,
     };
-    fault_said(&f, fault)
-}
-
-fn not_toml_said(
-    alloc: Global,
-    kind: TomlText,
-    bytes: &[u8],
-    offset: usize,
-    message: &str,
-) -> Said {
-    let mut what = Line::of(alloc, "this is no TOML: ");
-    what.text(message);
-    said_at(bytes, offset, what, kind.page())
-}
-
-fn fault_said(f: &Faulty, fault: &TomlFault) -> Result<Said, NoMemory> {
-    match fault {
-        TomlFault::NotToml => Ok(f.plain_said("nottoml", "")),
-        TomlFault::Missing(path) => missing_said(f, path.as_str()),
-        TomlFault::Kind(path) => kind_said(f, path.as_str()),
-        TomlFault::Name(path) => found_said(f, path.as_str(), "name", fault),
-        TomlFault::Range(path) => found_said(f, path.as_str(), "range", fault),
-        TomlFault::Twice(path) => found_said(f, path.as_str(), "twice", fault),
+    let said = fault_said(&f, fault);
+    if said.is_short() {
+        return Err(NoMemory);
     }
+    Ok(said)
 }
 
-// What is said of what stands at a path.
-fn found_said<'a>(
-    f: &Faulty<'a>,
-    path: &'a str,
-    word: &str,
-    fault: &TomlFault,
-) -> Result<Said, NoMemory> {
-    let Some(at) = f.find(path)? else {
-        return Ok(f.plain_said(word, path));
+fn fault_said(f: &Faulty, fault: &TomlFault) -> Said {
+    let mut what = Line::new(f.alloc);
+    let (word, path) = match fault {
+        TomlFault::NotToml => return f.plain_said(what, "nottoml", ""),
+        TomlFault::Missing(path) => return missing_said(f, path.as_str()),
+        TomlFault::Kind(path) => return kind_said(f, path.as_str()),
+        TomlFault::Name(path) => ("name", path.as_str()),
+        TomlFault::Range(path) => ("range", path.as_str()),
+        TomlFault::Twice(path) => ("twice", path.as_str()),
+    };
+    let Some(at) = f.find(path, &mut what) else {
+        return f.plain_said(what, word, path);
     };
     match fault {
         TomlFault::Name(_) => name_said(f, &at),
@@ -84,59 +70,50 @@ fn found_said<'a>(
     }
 }
 
-// The keys of the table at a path.
-fn table_at<'a>(f: &Faulty<'a>, path: &str) -> Option<&'a Table> {
-    if path.is_empty() {
-        return Some(f.table);
-    }
-    value_at(f.table, path)?.as_table()
-}
-
-// Whether a key stands in a table that is known by its path without numbers.
-fn is_known(f: &Faulty, table: &str, key: &str) -> Result<bool, NoMemory> {
-    let mut path = Line::new(f.alloc);
-    path.text(table)
-        .text(if table.is_empty() { "" } else { "." })
-        .text(key);
-    let path = path.done()?;
-    Ok(f.kind.form_at(path.as_str()).is_some())
-}
-
 // Writes the keys of the table at a path that are none, with commas.
-fn write_unknown(f: &Faulty, path: &str, line: &mut Line) -> Result<(), NoMemory> {
-    let bare = bare_path(f.alloc, path)?;
-    let Some(table) = table_at(f, path) else {
-        return Ok(());
+fn write_unknown(f: &Faulty, path: &str, line: &mut Line) {
+    let found = match value_at(f.table, path) {
+        _ if path.is_empty() => Some(f.table),
+        Some(value) => value.as_table(),
+        None => None,
+    };
+    let Some(table) = found else {
+        return;
     };
     for (key, _) in table.iter() {
-        if !is_known(f, bare.as_str(), key.as_str())? {
+        let mut inner = Line::of(f.alloc, path);
+        inner
+            .text(if path.is_empty() { "" } else { "." })
+            .text(key.as_str());
+        if f.kind.form_at(inner.as_str()).is_none() {
             line.text(if line.is_empty() {
                 "keys there that are none: "
             } else {
                 ", "
             })
-            .text(key.as_str());
+            .text(key.as_str())
+            .kept(!inner.is_short());
         }
     }
-    Ok(())
 }
 
-fn missing_said(f: &Faulty, path: &str) -> Result<Said, NoMemory> {
+fn missing_said(f: &Faulty, path: &str) -> Said {
     let (table, key) = table_and_key(path);
-    let wanted = match f.kind.form_of(f.alloc, path)? {
-        Some(form) => form.wanted,
-        None => "",
+    let owner = if table.is_empty() { "the text" } else { table };
+    let mut what = Line::of(f.alloc, owner);
+    what.text(" has no key ").text(key).text("; wanted: ");
+    if let Some(form) = f.kind.form_at(path) {
+        what.text(form.wanted);
+    }
+    let offset = match f.span(table, &mut what) {
+        Some(span) => span.key,
+        None => 0,
     };
-    let offset = f.key_offset(table)?.unwrap_or(0);
     let mut more = Line::new(f.alloc);
-    write_unknown(f, table, &mut more)?;
-    let mut what = Line::new(f.alloc);
-    what.text(if table.is_empty() { "the text" } else { table });
-    what.text(" has no key ")
-        .text(key)
-        .text("; wanted: ")
-        .text(wanted);
-    Ok(f.said_more(offset, what, more))
+    write_unknown(f, table, &mut more);
+    let mut said = f.said(offset, what);
+    said.add(more);
+    said
 }
 
 fn kind_word(value: &Value) -> &'static str {
@@ -151,35 +128,18 @@ fn kind_word(value: &Value) -> &'static str {
     }
 }
 
-// Whether a value is of the kind of a list's items.
-fn is_item(form: Form, value: &Value) -> bool {
-    match value {
-        Value::String(_) => true,
-        Value::Integer(_) => matches!(form, Form::Pair { .. }),
-        _ => false,
-    }
-}
-
 // The first item of a list of no tables that is of another kind than its items are to be.
 fn odd_item(form: Form, value: &Value) -> Option<(usize, &Value)> {
     if let Form::Tables = form {
         return None;
     }
     for (number, item) in value.as_array()?.iter().enumerate() {
-        if !is_item(form, item) {
-            return Some((number, item));
+        match (item, form) {
+            (Value::String(_), _) | (Value::Integer(_), Form::Pair { .. }) => {}
+            _ => return Some((number, item)),
         }
     }
     None
-}
-
-// Whether a script of version 1 has a key of version 2.
-fn is_of_version_2(f: &Faulty, path: &str) -> bool {
-    let version = match f.table.get("version") {
-        Some(version) => version.as_integer(),
-        None => None,
-    };
-    path == "notify" && version == Some(1)
 }
 
 // Writes of what kind the value at a path is, and what is wanted there.
@@ -210,21 +170,24 @@ fn write_kind(f: &Faulty, path: &str, form: KeyForm, line: &mut Line) {
         .text(if is_table { "a table" } else { form.wanted });
 }
 
-fn kind_said(f: &Faulty, path: &str) -> Result<Said, NoMemory> {
-    let Some(offset) = f.key_offset(path)? else {
-        return Ok(f.plain_said("kind", path));
-    };
-    let form = f.kind.form_of(f.alloc, path)?;
+fn kind_said(f: &Faulty, path: &str) -> Said {
     let mut what = Line::new(f.alloc);
-    match form {
+    let Some(span) = f.span(path, &mut what) else {
+        return f.plain_said(what, "kind", path);
+    };
+    let version = match f.table.get("version") {
+        Some(version) => version.as_integer(),
+        None => None,
+    };
+    match f.kind.form_at(path) {
         None => {
             what.text(path).text(" is no key of this table");
         }
-        Some(_) if is_of_version_2(f, path) => {
+        Some(_) if path == "notify" && version == Some(1) => {
             what.text(path)
                 .text(" is no key with version 1; wanted: version 2");
         }
         Some(form) => write_kind(f, path, form, &mut what),
     }
-    Ok(f.said_at(offset, what, f.kind.page()))
+    f.said(span.key, what)
 }

@@ -1,7 +1,6 @@
 //! A text in TOML with a fault, and what stands at a path of a key in it.
 
 use crate::forms::{KeyForm, Thing};
-use ebc_base::NoMemory;
 use explain_base::{Line, Said};
 use note_types::Notes;
 use std::alloc::Global;
@@ -27,23 +26,22 @@ pub enum TomlText<'a> {
 }
 
 impl TomlText<'_> {
-    /// The page that has the keys.
-    pub fn page(&self) -> &'static str {
+    /// The page that has the keys, and the one that has the conditions over several keys.
+    pub fn pages(&self) -> (&'static str, &'static str) {
         match self {
-            TomlText::Notes => "docs/NOTES.md, \"The file\" and \"Texts\"",
-            TomlText::Script(_) => "docs/SCRIPTS.md, \"The file\" and \"Texts\"",
-            TomlText::Plan => "docs/LINKING.md, \"Plans\"",
-            TomlText::Binds(..) => "docs/PAIRS.md, \"A text of binds\"",
-        }
-    }
-
-    /// The page that has the conditions over several keys.
-    pub fn conditions_page(&self) -> &'static str {
-        match self {
-            TomlText::Notes => "docs/NOTES.md, \"The conditions\"",
-            TomlText::Script(_) => "docs/SCRIPTS.md, \"What the reader refuses\"",
-            TomlText::Plan => self.page(),
-            TomlText::Binds(..) => "docs/PAIRS.md, \"Binds\"",
+            TomlText::Notes => (
+                "docs/NOTES.md, \"The file\" and \"Texts\"",
+                "docs/NOTES.md, \"The conditions\"",
+            ),
+            TomlText::Script(_) => (
+                "docs/SCRIPTS.md, \"The file\" and \"Texts\"",
+                "docs/SCRIPTS.md, \"What the reader refuses\"",
+            ),
+            TomlText::Plan => ("docs/LINKING.md, \"Plans\"", "docs/LINKING.md, \"Plans\""),
+            TomlText::Binds(..) => (
+                "docs/PAIRS.md, \"A text of binds\"",
+                "docs/PAIRS.md, \"Binds\"",
+            ),
         }
     }
 }
@@ -61,25 +59,14 @@ pub(crate) fn said_at(text: &[u8], offset: usize, what: Line, page: &str) -> Sai
     Said::at_place(at, what, page)
 }
 
-// The key of a part of a path, and the number of the item that it names, if it names one.
-fn key_and_item(part: &str) -> (&str, Option<usize>) {
-    match part.split_once('[') {
-        Some((key, rest)) => match rest.split_once(']') {
-            Some((digits, _)) => (key, digits.parse::<usize>().ok()),
-            None => (key, None),
-        },
-        None => (part, None),
-    }
-}
-
-// What a part of a path leads to in a table.
+// What a part of a path leads to in a table: the value of a key, or the item of its list that the part names.
 fn value_in<'t>(table: &'t Table, part: &str) -> Option<&'t Value> {
-    let (key, item) = key_and_item(part);
-    let value = table.get(key)?;
-    match item {
-        Some(number) => value.as_array()?.get(number),
-        None => Some(value),
-    }
+    let Some((key, rest)) = part.split_once('[') else {
+        return table.get(part);
+    };
+    let (digits, _) = rest.split_once(']')?;
+    let number = digits.parse::<usize>().ok()?;
+    table.get(key)?.as_array()?.get(number)
 }
 
 /// What stands at a path, as `function[2].need`, if it is there.
@@ -138,34 +125,25 @@ pub(crate) enum Subject {
 }
 
 impl<'a> Faulty<'a> {
-    /// What is said at an offset, and the page that mends it.
-    pub fn said_at(&self, offset: usize, what: Line, page: &str) -> Said {
-        said_at(self.text.as_bytes(), offset, what, page)
-    }
-
-    /// What is said at an offset, with one more line unless it is empty. The page is that of the keys.
-    pub fn said_more(&self, offset: usize, what: Line, more: Line) -> Said {
-        let mut said = self.said_at(offset, what, self.kind.page());
-        said.add(more);
-        said
+    /// What is said at an offset. The page is that of the keys.
+    pub fn said(&self, offset: usize, what: Line) -> Said {
+        said_at(self.text.as_bytes(), offset, what, self.kind.pages().0)
     }
 
     /// What is said where nothing is found at a path: the fault's word and the path.
-    pub fn plain_said(&self, word: &str, path: &str) -> Said {
-        let mut what = Line::of(self.alloc, word);
-        what.text(" at ").text(path);
-        Said::with_page(what, self.kind.page())
+    pub fn plain_said(&self, mut what: Line, word: &str, path: &str) -> Said {
+        what.text(word).text(" at ").text(path);
+        Said::with_page(what, self.kind.pages().0)
     }
 
-    /// Where the key at a path stands, if it is there.
-    ///
-    /// # Errors
-    ///
-    /// Want of memory alone.
-    pub fn key_offset(&self, path: &str) -> Result<Option<usize>, NoMemory> {
-        match key_span(self.alloc, self.text, path)? {
-            Some(span) => Ok(Some(span.key)),
-            None => Ok(None),
+    /// Where the key at a path and its value stand, if it is there. The line remembers want of memory.
+    pub fn span(&self, path: &str, line: &mut Line) -> Option<KeySpan> {
+        match key_span(self.alloc, self.text, path) {
+            Ok(span) => span,
+            Err(_) => {
+                line.kept(false);
+                None
+            }
         }
     }
 
@@ -177,49 +155,33 @@ impl<'a> Faulty<'a> {
         }
     }
 
-    /// What stands at a path of a key.
-    ///
-    /// # Errors
-    ///
-    /// Want of memory alone.
-    pub fn find(&self, path: &'a str) -> Result<Option<Found<'a>>, NoMemory> {
-        let Some(form) = self.kind.form_of(self.alloc, path)? else {
-            return Ok(None);
-        };
-        let Some(value) = value_at(self.table, path) else {
-            return Ok(None);
-        };
-        let Some(span) = key_span(self.alloc, self.text, path)? else {
-            return Ok(None);
-        };
-        Ok(Some(Found {
+    /// What stands at a path of a key. The line remembers want of memory.
+    pub fn find(&self, path: &'a str, line: &mut Line) -> Option<Found<'a>> {
+        let form = self.kind.form_at(path)?;
+        let value = value_at(self.table, path)?;
+        let span = self.span(path, line)?;
+        Some(Found {
             path,
             form,
             span,
             value,
-        }))
+        })
     }
 
     /// The name of the thing of that number, if there is one.
     pub fn name(&self, thing: Thing, number: usize) -> Option<&'a str> {
-        match self.kind {
-            TomlText::Script(notes) => noted_name(notes, thing, number),
-            TomlText::Binds(consumer, provider) => match thing {
-                Thing::Method => noted_name(consumer.notes, thing, number),
-                _ => noted_name(provider.notes, thing, number),
-            },
-            _ => written_name(self.table, thing, number),
+        let notes = match (self.kind, thing) {
+            (TomlText::Script(notes), _) => notes,
+            (TomlText::Binds(consumer, _), Thing::Method) => consumer.notes,
+            (TomlText::Binds(_, provider), _) => provider.notes,
+            _ => return written_name(self.table, thing, number),
+        };
+        match thing {
+            Thing::Function => Some(notes.function.as_slice().get(number)?.name.as_str()),
+            Thing::Shape => Some(notes.shape.as_slice().get(number)?.name.as_str()),
+            Thing::Signature => Some(notes.signature.as_slice().get(number)?.name.as_str()),
+            Thing::Method => Some(notes.methods.as_slice().get(number)?.as_str()),
         }
-    }
-}
-
-/// The name of the thing of that number of notes, if there is one.
-pub(crate) fn noted_name(notes: &Notes, thing: Thing, number: usize) -> Option<&str> {
-    match thing {
-        Thing::Function => Some(notes.function.as_slice().get(number)?.name.as_str()),
-        Thing::Shape => Some(notes.shape.as_slice().get(number)?.name.as_str()),
-        Thing::Signature => Some(notes.signature.as_slice().get(number)?.name.as_str()),
-        Thing::Method => Some(notes.methods.as_slice().get(number)?.as_str()),
     }
 }
 
@@ -251,44 +213,31 @@ impl<'a> Found<'a> {
         }
     }
 
-    // Where the item of that number stands, or a value that is no list.
-    fn item_span(&self, number: usize) -> (usize, usize) {
-        match self.span.items.get(number) {
-            Some(span) => *span,
-            None => (self.span.from, self.span.to),
-        }
-    }
-
-    /// Where the item of that number begins, or a value that is no list.
-    pub fn item_offset(&self, number: usize) -> usize {
-        self.item_span(number).0
-    }
-
-    /// The item of that number as it stands in the text, or the value: `item 1 of args is "null"`, or `version is 3`.
-    pub fn item_line(&self, f: &Faulty, number: usize) -> Line {
-        let mut line = Line::new(f.alloc);
+    /// Writes the item of that number as it stands in the text, or the value: `item 1 of args is "null"`, or `version is 3`.
+    /// It tells where the item begins.
+    pub fn write_item(&self, f: &Faulty, number: usize, line: &mut Line) -> usize {
         if self.value.is_array() {
             line.text("item ").count(number).text(" of ");
         }
-        let (from, to) = self.item_span(number);
+        let (from, to) = match self.span.items.get(number) {
+            Some(span) => *span,
+            None => (self.span.from, self.span.to),
+        };
         line.text(self.path).text(" is ").text(f.part(from, to));
-        line
+        from
     }
 
     /// What is said of what is wrong by a condition over several keys.
     pub fn wrong_said(&self, f: &Faulty, subject: Subject, wrong: &Line) -> Said {
-        let page = f.kind.conditions_page();
-        match subject {
-            Subject::Item(number) => {
-                let mut what = self.item_line(f, number);
-                what.line(wrong);
-                f.said_at(self.item_offset(number), what, page)
-            }
+        let mut what = Line::new(f.alloc);
+        let offset = match subject {
+            Subject::Item(number) => self.write_item(f, number, &mut what),
             Subject::Whole => {
-                let mut what = Line::new(f.alloc);
-                what.text(self.path).line(wrong);
-                f.said_at(self.span.from, what, page)
+                what.text(self.path);
+                self.span.from
             }
-        }
+        };
+        what.line(wrong);
+        said_at(f.text.as_bytes(), offset, what, f.kind.pages().1)
     }
 }

@@ -1,12 +1,12 @@
 //! What is wanted at the keys of the TOML texts: the tables of docs/NOTES.md, SCRIPTS.md, LINKING.md and PAIRS.md.
 
 use crate::faulty::TomlText;
-use ebc_base::{NoMemory, is_name};
+use ebc_base::is_name;
+use explain_base::Line;
 use note_texts::{
     FieldText, FromText, ItemText, ParamText, RegisterText, ResultText, TypeText, WantParamText,
 };
 use script_draft::{ArgumentText, CallbackText, CellValueText, OutText, ValueText, WriteText};
-use std::alloc::{AllocError, Global};
 
 /// The things that have names.
 #[derive(Clone, Copy)]
@@ -75,9 +75,19 @@ const VALUE: &str =
     "VALUE is int N, size N,C, ptr OBJECT INSTANCE, null, status ok N, status error N, handle K, entry F, \
     method M or any";
 
-fn reads<T: FromText>(alloc: Global, text: &str) -> Result<bool, AllocError> {
-    let read = T::from_text(alloc, text)?;
-    Ok(read.is_some())
+/// What a text stands for, if it is of the form. The line remembers want of memory.
+pub(crate) fn read<T: FromText>(text: &str, line: &mut Line) -> Option<T> {
+    match T::from_text(line.alloc, text) {
+        Ok(read) => read,
+        Err(_) => {
+            line.kept(false);
+            None
+        }
+    }
+}
+
+fn reads<T: FromText>(text: &str, line: &mut Line) -> bool {
+    read::<T>(text, line).is_some()
 }
 
 impl Form {
@@ -97,28 +107,24 @@ impl Form {
         }
     }
 
-    /// Whether a text is of the form.
-    ///
-    /// # Errors
-    ///
-    /// Want of memory alone.
-    pub fn takes(self, alloc: Global, text: &str) -> Result<bool, AllocError> {
+    /// Whether a text is of the form. The line remembers want of memory.
+    pub fn takes(self, text: &str, line: &mut Line) -> bool {
         match self {
-            Form::File => Ok(!text.is_empty()),
-            Form::Field => reads::<FieldText>(alloc, text),
-            Form::Param => reads::<ParamText>(alloc, text),
-            Form::Type => reads::<TypeText>(alloc, text),
-            Form::Register => reads::<RegisterText>(alloc, text),
-            Form::Item => reads::<ItemText>(alloc, text),
-            Form::WantParam => reads::<WantParamText>(alloc, text),
-            Form::ResultType => reads::<ResultText>(alloc, text),
-            Form::Value => reads::<ValueText>(alloc, text),
-            Form::Argument => reads::<ArgumentText>(alloc, text),
-            Form::CellValue => reads::<CellValueText>(alloc, text),
-            Form::Callback => reads::<CallbackText>(alloc, text),
-            Form::Out => reads::<OutText>(alloc, text),
-            Form::Write => reads::<WriteText>(alloc, text),
-            _ => Ok(is_name(text.as_bytes())),
+            Form::File => !text.is_empty(),
+            Form::Field => reads::<FieldText>(text, line),
+            Form::Param => reads::<ParamText>(text, line),
+            Form::Type => reads::<TypeText>(text, line),
+            Form::Register => reads::<RegisterText>(text, line),
+            Form::Item => reads::<ItemText>(text, line),
+            Form::WantParam => reads::<WantParamText>(text, line),
+            Form::ResultType => reads::<ResultText>(text, line),
+            Form::Value => reads::<ValueText>(text, line),
+            Form::Argument => reads::<ArgumentText>(text, line),
+            Form::CellValue => reads::<CellValueText>(text, line),
+            Form::Callback => reads::<CallbackText>(text, line),
+            Form::Out => reads::<OutText>(text, line),
+            Form::Write => reads::<WriteText>(text, line),
+            _ => is_name(text.as_bytes()),
         }
     }
 }
@@ -392,46 +398,37 @@ const BIND_KEYS: [Row; 4] = [
     ),
 ];
 
-/// A path without the numbers of tables, as `function.need` of `function[2].need`.
-pub(crate) fn bare_path(alloc: Global, path: &str) -> Result<String, AllocError> {
-    let mut bare = String::new(alloc);
-    for piece in path.split(']') {
-        match piece.split_once('[') {
-            Some((key, _)) => bare.push_str(key)?,
-            None => bare.push_str(piece)?,
+// Whether a path is that of a list of keys, but for the numbers of tables, as `call[2].make` is that of `call.make`.
+fn leads_to(path: &str, list: &str) -> bool {
+    let mut keys = list.split('.');
+    for part in path.split('.') {
+        let key = match part.split_once('[') {
+            Some((key, _)) => key,
+            None => part,
+        };
+        match keys.next() {
+            Some(wanted) if wanted == key => {}
+            _ => return false,
         }
     }
-    Ok(bare)
-}
-
-fn form_in(rows: &'static [Row], sought: &str) -> Option<KeyForm> {
-    for row in rows {
-        let (key, wanted, form) = *row;
-        if key == sought {
-            return Some(KeyForm { key, wanted, form });
-        }
-    }
-    None
+    keys.next().is_none()
 }
 
 impl TomlText<'_> {
-    /// What is wanted at a key, by its path without numbers; `None` where it is no key.
-    pub(crate) fn form_at(&self, key: &str) -> Option<KeyForm> {
-        match self {
-            TomlText::Notes => form_in(&NOTES_KEYS, key),
-            TomlText::Script(_) => form_in(&SCRIPT_KEYS, key),
-            TomlText::Plan => form_in(&PLAN_KEYS, key),
-            TomlText::Binds(..) => form_in(&BIND_KEYS, key),
-        }
-    }
-
     /// What is wanted at a path; `None` where it is that of no key.
-    ///
-    /// # Errors
-    ///
-    /// Want of memory alone.
-    pub(crate) fn form_of(&self, alloc: Global, path: &str) -> Result<Option<KeyForm>, NoMemory> {
-        let bare = bare_path(alloc, path)?;
-        Ok(self.form_at(bare.as_str()))
+    pub(crate) fn form_at(&self, path: &str) -> Option<KeyForm> {
+        let rows = match self {
+            TomlText::Notes => NOTES_KEYS.as_slice(),
+            TomlText::Script(_) => SCRIPT_KEYS.as_slice(),
+            TomlText::Plan => PLAN_KEYS.as_slice(),
+            TomlText::Binds(..) => BIND_KEYS.as_slice(),
+        };
+        for row in rows {
+            let (key, wanted, form) = *row;
+            if leads_to(path, key) {
+                return Some(KeyForm { key, wanted, form });
+            }
+        }
+        None
     }
 }

@@ -4,7 +4,8 @@
 //!
 //! Promises:
 //!
-//! No sentence has a clause. The calls end, and fail by want of memory alone.
+//! No sentence has a clause. The calls end, and fail by want of memory alone. What is said of a run may remember it instead
+//! (`Said::is_short`).
 //!
 //! - `toml_said`: by the fault of the reader, under the name of the file. It is told what the text is, and the notes
 //!   whose names it may use.

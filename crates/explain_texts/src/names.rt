@@ -1,10 +1,9 @@
 //! What is said of names that aren't there.
 
 use crate::faulty::{Faulty, Found, TomlText, table_and_key, value_at};
-use crate::forms::{Form, Thing};
-use ebc_base::{Name, NoMemory};
+use crate::forms::{Form, Thing, read};
+use ebc_base::Name;
 use explain_base::{Line, Said};
-use note_texts::FromText;
 use note_types::{Field, Shape};
 use script_draft::CellValueText;
 
@@ -32,21 +31,11 @@ fn write_names(f: &Faulty, thing: Thing, line: &mut Line) {
     line.text(", ..");
 }
 
-// What the word behind one names, in a text of a list of notes, or else of a script.
-fn named_behind(f: &Faulty, word: &str) -> Option<Thing> {
-    match (word, f.kind) {
-        ("method", _) => Some(Thing::Method),
-        ("entry", TomlText::Script(_)) => Some(Thing::Function),
-        ("ptr" | "ptr?" | "p64" | "p64?", TomlText::Notes) => Some(Thing::Shape),
-        _ => None,
-    }
-}
-
 fn is_break(c: char) -> bool {
     matches!(c, ' ' | ':' | ',' | '*' | '+' | '!')
 }
 
-// The first name in a text that isn't there, and what it is to name.
+// The first name in a text of a list that isn't there, and what it is to name. The word before a name tells what it names.
 fn unknown_name<'t>(f: &Faulty, form: Form, text: &'t str) -> Option<(Thing, &'t str)> {
     let mut named = match form {
         Form::Callback => Some(Thing::Function),
@@ -58,23 +47,30 @@ fn unknown_name<'t>(f: &Faulty, form: Form, text: &'t str) -> Option<(Thing, &'t
                 return Some((thing, word));
             }
         }
-        named = named_behind(f, word);
+        named = match (word, f.kind) {
+            ("method", _) => Some(Thing::Method),
+            ("entry", TomlText::Script(_)) => Some(Thing::Function),
+            ("ptr" | "ptr?" | "p64" | "p64?", TomlText::Notes) => Some(Thing::Shape),
+            _ => None,
+        };
     }
     None
 }
 
 // What is said of an item of a list, or of a text, in which a name isn't there.
 fn item_said(f: &Faulty, at: &Found, number: usize, thing: Thing, name: &str) -> Said {
-    let mut what = at.item_line(f, number);
+    let mut what = Line::new(f.alloc);
+    let offset = at.write_item(f, number, &mut what);
     what.text(", which names the ")
         .text(thing.word())
         .text(" ")
-        .text(name);
-    what.text(" that the notes don't have");
-    let mut more = Line::new(f.alloc);
-    more.text("they have: ");
+        .text(name)
+        .text(" that the notes don't have");
+    let mut more = Line::of(f.alloc, "they have: ");
     write_names(f, thing, &mut more);
-    f.said_more(at.item_offset(number), what, more)
+    let mut said = f.said(offset, what);
+    said.add(more);
+    said
 }
 
 /// The number of the shape of the table in which a key of a script stands.
@@ -95,43 +91,29 @@ pub(crate) fn field_named<'n>(shape: &'n Shape, name: &Name) -> Option<&'n Field
 }
 
 // Whether a text gives a cell of a field that a shape doesn't have, and what is wrong then.
-fn lacks_field(shape: &Shape, text: &str, wrong: &mut Line) -> Result<bool, NoMemory> {
-    let Some(cell) = CellValueText::from_text(wrong.alloc, text)? else {
-        return Ok(false);
-    };
-    if field_named(shape, &cell.field).is_some() {
-        return Ok(false);
+fn lacks_field(shape: &Shape, text: &str, wrong: &mut Line) -> bool {
+    match read::<CellValueText>(text, wrong) {
+        Some(cell) if field_named(shape, &cell.field).is_none() => {
+            wrong.text(", and the shape ").text(shape.name.as_str());
+            wrong.text(" has no field ").text(cell.field.as_str());
+            true
+        }
+        _ => false,
     }
-    wrong.text(", and the shape ").text(shape.name.as_str());
-    wrong.text(" has no field ").text(cell.field.as_str());
-    Ok(true)
 }
 
 // The first item of a list whose field the shape of its table doesn't have, and what is wrong with it.
-fn unknown_field(f: &Faulty, at: &Found, wrong: &mut Line) -> Result<Option<usize>, NoMemory> {
-    let (TomlText::Script(notes), Some(number)) = (f.kind, shape_at(f, at.path)) else {
-        return Ok(None);
+fn unknown_field(f: &Faulty, at: &Found, wrong: &mut Line) -> Option<usize> {
+    let TomlText::Script(notes) = f.kind else {
+        return None;
     };
-    let Some(shape) = notes.shape.as_slice().get(number) else {
-        return Ok(None);
-    };
+    let shape = notes.shape.as_slice().get(shape_at(f, at.path)?)?;
     for item in 0..at.count() {
-        if lacks_field(shape, at.item(item).unwrap_or(""), wrong)? {
-            return Ok(Some(item));
+        if lacks_field(shape, at.item(item).unwrap_or(""), wrong) {
+            return Some(item);
         }
     }
-    Ok(None)
-}
-
-// What is said of the first item of a list whose field the shape of its table doesn't have.
-fn field_said(f: &Faulty, at: &Found) -> Result<Said, NoMemory> {
-    let mut wrong = Line::new(f.alloc);
-    let Some(number) = unknown_field(f, at, &mut wrong)? else {
-        return Ok(f.plain_said("name", at.path));
-    };
-    let mut what = at.item_line(f, number);
-    what.line(&wrong);
-    Ok(f.said_at(at.item_offset(number), what, f.kind.page()))
+    None
 }
 
 // What is said of a name that the notes don't have; of binds the notes are told by their file.
@@ -141,14 +123,14 @@ fn thing_said(f: &Faulty, at: &Found, thing: Thing) -> Said {
         (TomlText::Binds(_, provider), _) => (provider.file, "doesn't", "it has"),
         _ => ("the notes", "don't", "they have"),
     };
-    let mut what = at.item_line(f, 0);
+    let mut what = Line::new(f.alloc);
+    let offset = at.write_item(f, 0, &mut what);
     what.text(", which names a ")
         .text(thing.word())
         .text(" that ")
         .text(owner);
     what.text(" ").text(verb).text(" have");
-    let mut more = Line::new(f.alloc);
-    more.text(whose);
+    let mut more = Line::of(f.alloc, whose);
     if f.name(thing, 0).is_some() {
         more.text(": ");
         write_names(f, thing, &mut more);
@@ -156,7 +138,9 @@ fn thing_said(f: &Faulty, at: &Found, thing: Thing) -> Said {
         more.text(" none");
         write_other_names(f, thing, &mut more);
     }
-    f.said_more(at.item_offset(0), what, more)
+    let mut said = f.said(offset, what);
+    said.add(more);
+    said
 }
 
 // Writes the things of that kind that the other notes of binds have.
@@ -180,22 +164,26 @@ fn write_other_names(f: &Faulty, thing: Thing, line: &mut Line) {
 }
 
 /// What is said of a name that isn't there.
-///
-/// # Errors
-///
-/// Want of memory alone.
-pub(crate) fn name_said(f: &Faulty, at: &Found) -> Result<Said, NoMemory> {
+pub(crate) fn name_said(f: &Faulty, at: &Found) -> Said {
     if let Form::NameOf(thing) = at.form.form {
-        return Ok(thing_said(f, at, thing));
+        return thing_said(f, at, thing);
     }
     for number in 0..at.count() {
         let text = at.item(number).unwrap_or("");
         if let Some((thing, name)) = unknown_name(f, at.form.form, text) {
-            return Ok(item_said(f, at, number, thing, name));
+            return item_said(f, at, number, thing, name);
         }
     }
-    match at.form.form {
-        Form::CellValue => field_said(f, at),
-        _ => Ok(f.plain_said("name", at.path)),
-    }
+    let mut wrong = Line::new(f.alloc);
+    let number = match at.form.form {
+        Form::CellValue => unknown_field(f, at, &mut wrong),
+        _ => None,
+    };
+    let Some(number) = number else {
+        return f.plain_said(wrong, "name", at.path);
+    };
+    let mut what = Line::new(f.alloc);
+    let offset = at.write_item(f, number, &mut what);
+    what.line(&wrong);
+    f.said(offset, what)
 }

@@ -30,14 +30,13 @@ const CONDITIONS: [Condition; 4] = [
     Condition::HasThunk,
 ];
 
-fn is_narrow(hi: u64) -> bool {
-    hi < 0x1_0000_0000
-}
+/// Numbers below this one are the same at both widths.
+const WIDE: u64 = 0x1_0000_0000;
 
 // What is wanted in a natural slot in place of a type that a natural move doesn't keep; empty where it keeps it.
 fn kept_instead(ty: &TypeText) -> &'static str {
     match ty {
-        TypeText::Int { hi, .. } if !is_narrow(*hi) =>
+        TypeText::Int { hi, .. } if WIDE <= *hi =>
             "numbers below 4294967296, as n int:0..4294967295",
         TypeText::Lin { c, .. } if *c < 0 => "lin:N,C with C from 0 on",
         TypeText::Ptr { n, c, .. } if *n != 0 || *c != 0 => "ptr:S*K without an offset",
@@ -47,19 +46,13 @@ fn kept_instead(ty: &TypeText) -> &'static str {
     }
 }
 
-fn is_handed_in(ty: &TypeText) -> bool {
-    match ty {
-        TypeText::Any | TypeText::Handle | TypeText::Status(_) => true,
-        TypeText::Int { hi, .. } => is_narrow(*hi),
-        TypeText::Ptr { n, c, .. } => *n == 0 && *c == 0,
-        _ => false,
-    }
-}
-
-fn is_handed_back(ty: &TypeText) -> bool {
+// Whether the firmware hands in a value of a type, or else takes it back.
+fn is_handed(ty: &TypeText, inwards: bool) -> bool {
     match ty {
         TypeText::Any | TypeText::Status(_) => true,
-        TypeText::Int { hi, .. } => is_narrow(*hi),
+        TypeText::Int { hi, .. } => *hi < WIDE,
+        TypeText::Handle => inwards,
+        TypeText::Ptr { n, c, .. } => inwards && *n == 0 && *c == 0,
         _ => false,
     }
 }
@@ -90,15 +83,6 @@ fn thunk_wrong(draft: &NotesDraft, ty: &TypeText, line: &mut Line) -> bool {
     }
 }
 
-fn kept_wrong(param: &ParamText, line: &mut Line) -> bool {
-    let instead = kept_instead(&param.ty);
-    if param.kind != SlotKind::N || instead.is_empty() {
-        return false;
-    }
-    line.text("; wanted in a natural parameter: ").text(instead);
-    true
-}
-
 fn write_handed(function: &FunctionDraft, types: &str, line: &mut Line) {
     line.text("; wanted, as the firmware enters ")
         .text(function.name.as_str());
@@ -114,8 +98,15 @@ fn param_wrong(
     line: &mut Line,
 ) -> bool {
     match condition {
-        Condition::Kept => kept_wrong(param, line),
-        Condition::Handed if is_entered(draft, function) && !is_handed_in(&param.ty) => {
+        Condition::Kept => {
+            let instead = kept_instead(&param.ty);
+            if param.kind != SlotKind::N || instead.is_empty() {
+                return false;
+            }
+            line.text("; wanted in a natural parameter: ").text(instead);
+            true
+        }
+        Condition::Handed if is_entered(draft, function) && !is_handed(&param.ty, true) => {
             write_handed(
                 function,
                 "any, int:LO..HI with HI below 4294967296, ptr:S*K, handle, or status",
@@ -147,7 +138,7 @@ fn params_wrong(draft: &NotesDraft, function: &FunctionDraft, line: &mut Line) -
 }
 
 fn write_result(draft: &NotesDraft, function: &FunctionDraft, line: &mut Line) {
-    if is_entered(draft, function) && !is_handed_back(&function.result) {
+    if is_entered(draft, function) && !is_handed(&function.result, false) {
         write_handed(
             function,
             "any, int:LO..HI with HI below 4294967296, or status",
@@ -216,7 +207,7 @@ fn wants_wrong(draft: &NotesDraft, number: usize, line: &mut Line) -> Option<Sub
     let signature = draft.signature.as_slice().get(number)?;
     for (item, param) in signature.params.as_slice().iter().enumerate() {
         match param.want {
-            WantText::Int { hi, .. } if param.kind == SlotKind::N && !is_narrow(hi) => {
+            WantText::Int { hi, .. } if param.kind == SlotKind::N && WIDE <= hi => {
                 line.text(
                     "; wanted in a natural argument: numbers below 4294967296, as n int:0..4294967295",
                 );
@@ -239,32 +230,26 @@ fn place_before(f: &Faulty, at: &Found, list: &str) -> Option<i64> {
     None
 }
 
-// Writes the functions with their places.
-fn write_functions(draft: &NotesDraft, line: &mut Line) {
+// What is wrong with a place: that of the table before isn't below it, or it lies in no function. It tells where the functions lie.
+fn place_wrong(f: &Faulty, draft: &NotesDraft, at: &Found, list: &str, line: &mut Line) -> Subject {
+    if let Some(before) = place_before(f, at, list) {
+        line.text("; wanted: more than that of the ").text(list);
+        line.text(" before, ").hexadecimal(before.cast_unsigned());
+        return Subject::Item(0);
+    }
+    line.text(", which lies in no function; wanted: a place of ");
     let functions = draft.function.as_slice();
     for (number, function) in functions.iter().enumerate().take(MOST_FUNCTIONS) {
         line.text(if number == 0 { "" } else { ", or of " })
             .text(function.name.as_str());
-        line.text(", ").hexadecimal(u64::from(function.place));
-        line.text(" up to ").hexadecimal(u64::from(function.end));
+        line.text(", ").at(function.place);
+        line.text(" up to ").at(function.end);
     }
-    if MOST_FUNCTIONS < functions.len() {
-        line.text(", ..");
-    }
-}
-
-// What is wrong with a place: that of the table before isn't below it, or it lies in no function.
-fn place_wrong(f: &Faulty, draft: &NotesDraft, at: &Found, list: &str, line: &mut Line) -> Subject {
-    match place_before(f, at, list) {
-        Some(before) => {
-            line.text("; wanted: more than that of the ").text(list);
-            line.text(" before, ").hexadecimal(before.cast_unsigned());
-        }
-        None => {
-            line.text(", which lies in no function; wanted: a place of ");
-            write_functions(draft, line);
-        }
-    }
+    line.text(if MOST_FUNCTIONS < functions.len() {
+        ", .."
+    } else {
+        ""
+    });
     Subject::Item(0)
 }
 
@@ -300,24 +285,20 @@ fn is_field(fields: &[FieldText], name: &Name) -> bool {
     false
 }
 
-fn first_unknown<'d>(names: &'d [Name], fields: &[FieldText]) -> Option<&'d Name> {
-    for name in names {
-        if !is_field(fields, name) {
-            return Some(name);
-        }
-    }
-    None
-}
-
 // The first name of a local field in a type that isn't one of these fields.
 fn unknown_field<'d>(ty: &'d TypeText, fields: &[FieldText]) -> Option<&'d Name> {
     match ty {
-        TypeText::Local(name) if !is_field(fields, name) => Some(name),
+        TypeText::Local(name) if !is_field(fields, name) => return Some(name),
         TypeText::Status(names) | TypeText::SignedStatus(names) => {
-            first_unknown(names.as_slice(), fields)
+            for name in names.as_slice() {
+                if !is_field(fields, name) {
+                    return Some(name);
+                }
+            }
         }
-        _ => None,
+        _ => {}
     }
+    None
 }
 
 fn write_field(function: &FunctionDraft, field: &Name, line: &mut Line) {
@@ -338,14 +319,15 @@ fn write_field(function: &FunctionDraft, field: &Name, line: &mut Line) {
     }
 }
 
-// The type of an item of a point's list, by the list's key.
+// The type of an item of a point's list, by the list's key; none where the items have no type.
 fn point_type<'d>(point: &'d PointDraft, key: &str, item: usize) -> Option<&'d TypeText> {
-    if key == "point.regs" {
-        return Some(&point.regs.as_slice().get(item)?.ty);
-    }
-    match point.stack.as_slice().get(item)? {
-        ItemText::Slot { ty, .. } => Some(ty),
-        ItemText::Locals => None,
+    match key {
+        "point.regs" => Some(&point.regs.as_slice().get(item)?.ty),
+        "point.stack" => match point.stack.as_slice().get(item)? {
+            ItemText::Slot { ty, .. } => Some(ty),
+            ItemText::Locals => None,
+        },
+        _ => None,
     }
 }
 
@@ -366,26 +348,6 @@ fn point_field<'d>(
     Some(name)
 }
 
-// The first item of a point's list with a thunk cell that isn't there, and what is wrong with it.
-fn point_thunk(
-    draft: &NotesDraft,
-    point: &PointDraft,
-    at: &Found,
-    line: &mut Line,
-) -> Option<Subject> {
-    if at.form.key == "point.written" {
-        return None;
-    }
-    for item in 0..at.count() {
-        if let Some(ty) = point_type(point, at.form.key, item) {
-            if thunk_wrong(draft, ty, line) {
-                return Some(Subject::Item(item));
-            }
-        }
-    }
-    None
-}
-
 // What is wrong with a list of a point: a local field or a thunk cell that isn't there, or where the locals stand.
 fn point_wrong(draft: &NotesDraft, at: &Found, line: &mut Line) -> Option<Subject> {
     let point = draft.point.as_slice().get(table_number(at.path))?;
@@ -397,8 +359,11 @@ fn point_wrong(draft: &NotesDraft, at: &Found, line: &mut Line) -> Option<Subjec
             return Some(Subject::Item(item));
         }
     }
-    if let Some(subject) = point_thunk(draft, point, at, line) {
-        return Some(subject);
+    for item in 0..at.count() {
+        match point_type(point, at.form.key, item) {
+            Some(ty) if thunk_wrong(draft, ty, line) => return Some(Subject::Item(item)),
+            _ => {}
+        }
     }
     line.text(": wanted are locals once at most, and only where the function has locals");
     Some(Subject::Whole)

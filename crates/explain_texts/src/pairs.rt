@@ -31,32 +31,6 @@ struct Tally<'a> {
     replies: usize,
 }
 
-impl<'a> Tally<'a> {
-    fn add(&mut self, event: &'a PairEvent) {
-        match event {
-            PairEvent::A(event) => {
-                self.waits = matches!(event, Event::Called { .. });
-                if self.waits {
-                    self.calls = self.calls.saturating_add(1);
-                    self.last = Some(event);
-                }
-            }
-            PairEvent::Bound(_) => {
-                self.waits = false;
-                self.calls = self.calls.saturating_sub(1);
-            }
-            PairEvent::B(event) => match event {
-                Event::Called { .. } => {
-                    self.provider_calls = self.provider_calls.saturating_add(1);
-                    self.provider_last = Some(event);
-                }
-                Event::Replied { .. } => self.replies = self.replies.saturating_add(1),
-                _ => {}
-            },
-        }
-    }
-}
-
 fn counted(events: &[PairEvent]) -> Tally<'_> {
     let mut tally = Tally {
         calls: 0,
@@ -67,7 +41,27 @@ fn counted(events: &[PairEvent]) -> Tally<'_> {
         replies: 0,
     };
     for event in events {
-        tally.add(event);
+        match event {
+            PairEvent::A(event) => {
+                tally.waits = matches!(event, Event::Called { .. });
+                if tally.waits {
+                    tally.calls = tally.calls.saturating_add(1);
+                    tally.last = Some(event);
+                }
+            }
+            PairEvent::Bound(_) => {
+                tally.waits = false;
+                tally.calls = tally.calls.saturating_sub(1);
+            }
+            PairEvent::B(event @ Event::Called { .. }) => {
+                tally.provider_calls = tally.provider_calls.saturating_add(1);
+                tally.provider_last = Some(event);
+            }
+            PairEvent::B(Event::Replied { .. }) => {
+                tally.replies = tally.replies.saturating_add(1);
+            }
+            PairEvent::B(_) => {}
+        }
     }
     tally
 }

@@ -2,13 +2,16 @@
 
 use crate::faulty::{Faulty, Found, table_and_key, value_at, write_position};
 use crate::forms::Form;
-use ebc_base::NoMemory;
 use explain_base::{Line, Said};
 use toml::Value;
 
-// A text up to its space of that number, from 1.
-fn words(text: &str, count: usize) -> &str {
-    let mut left = count;
+// What may stand only once in a text of a list: a file, the two words of a cell, or else the first word.
+fn only_once(form: Form, text: &str) -> &str {
+    let mut left = match form {
+        Form::File => return text,
+        Form::CellValue => 2usize,
+        _ => 1,
+    };
     for (at, byte) in text.as_bytes().iter().enumerate() {
         if *byte == b' ' {
             left = left.saturating_sub(1);
@@ -18,15 +21,6 @@ fn words(text: &str, count: usize) -> &str {
         }
     }
     text
-}
-
-// What may stand only once in a text of a list.
-fn only_once(form: Form, text: &str) -> &str {
-    match form {
-        Form::File => text,
-        Form::CellValue => words(text, 2),
-        _ => words(text, 1),
-    }
 }
 
 // The first item that repeats one before it, and that one.
@@ -42,45 +36,36 @@ fn repeat(at: &Found) -> Option<(usize, usize)> {
     None
 }
 
-fn is_same(a: &Value, b: &Value) -> bool {
-    match (a, b) {
-        (Value::Integer(x), Value::Integer(y)) => x == y,
-        (Value::String(x), Value::String(y)) => x.as_str() == y.as_str(),
-        _ => false,
-    }
-}
-
 // The number of the first table of a list that has a value at a key.
 fn first_with(f: &Faulty, list: &str, key: &str, value: &Value) -> Option<usize> {
     let tables = value_at(f.table, list)?.as_array()?;
     for (number, table) in tables.iter().enumerate() {
-        if let Some(other) = table.get(key) {
-            if is_same(other, value) {
-                return Some(number);
-            }
+        let is_same = match (table.get(key), value) {
+            (Some(Value::Integer(x)), Value::Integer(y)) => x == y,
+            (Some(Value::String(x)), Value::String(y)) => x.as_str() == y.as_str(),
+            _ => false,
+        };
+        if is_same {
+            return Some(number);
         }
     }
     None
 }
 
 // Writes the line of the table that has the value of a key first, if there is one.
-fn write_earlier(f: &Faulty, at: &Found, note: &mut Line) -> Result<(), NoMemory> {
+fn write_earlier(f: &Faulty, at: &Found, note: &mut Line) {
     let (table, key) = table_and_key(at.path);
-    let Some((list, _)) = table.rsplit_once('[') else {
-        return Ok(());
-    };
+    let (list, _) = table.rsplit_once('[').unwrap_or(("", ""));
     let Some(number) = first_with(f, list, key, at.value) else {
-        return Ok(());
+        return;
     };
-    let mut path = Line::new(f.alloc);
-    path.text(list).text("[").count(number).text("].").text(key);
-    let path = path.done()?;
-    if let Some(offset) = f.key_offset(path.as_str())? {
+    let mut path = Line::of(f.alloc, list);
+    path.text("[").count(number).text("].").text(key);
+    if let Some(span) = f.span(path.as_str(), note) {
         note.text(f.file);
-        write_position(f.text.as_bytes(), offset, note);
-        note.text(": note: ").text(path.as_str());
+        write_position(f.text.as_bytes(), span.key, note);
+        note.text(": note: ").line(&path);
     }
-    Ok(())
 }
 
 // What is said of an item that repeats another.
@@ -92,28 +77,24 @@ fn item_said(f: &Faulty, at: &Found, number: usize, other: usize) -> Said {
         .text(" of ")
         .text(at.path);
     what.text("; item ").count(other).text(" has it");
-    f.said_at(at.item_offset(number), what, f.kind.page())
+    let offset = match at.span.items.get(number) {
+        Some((from, _)) => *from,
+        None => at.span.from,
+    };
+    f.said(offset, what)
 }
 
-// What is said of a value that an earlier table has.
-fn value_said(f: &Faulty, at: &Found) -> Result<Said, NoMemory> {
-    let mut note = Line::new(f.alloc);
-    write_earlier(f, at, &mut note)?;
-    let mut what = at.item_line(f, 0);
-    what.text(", which an earlier table has");
-    let mut said = f.said_at(at.span.key, what, f.kind.page());
-    said.add_note(note);
-    Ok(said)
-}
-
-/// What is said of what stands there again.
-///
-/// # Errors
-///
-/// Want of memory alone.
-pub(crate) fn twice_said(f: &Faulty, at: &Found) -> Result<Said, NoMemory> {
-    match repeat(at) {
-        Some((number, other)) => Ok(item_said(f, at, number, other)),
-        None => value_said(f, at),
+/// What is said of what stands there again: an item of a list, or a value that an earlier table has.
+pub(crate) fn twice_said(f: &Faulty, at: &Found) -> Said {
+    if let Some((number, other)) = repeat(at) {
+        return item_said(f, at, number, other);
     }
+    let mut what = Line::new(f.alloc);
+    at.write_item(f, 0, &mut what);
+    what.text(", which an earlier table has");
+    let mut note = Line::new(f.alloc);
+    write_earlier(f, at, &mut note);
+    let mut said = f.said(at.span.key, what);
+    said.add_note(note);
+    said
 }

@@ -3,7 +3,6 @@
 use crate::values::{
     Parameter, made_objects, write_misfit, write_object, write_result, write_seen, write_target,
 };
-use ebc_base::NoMemory;
 use explain_base::Line;
 use host_model::{TypedObject, fits};
 use note_types::{
@@ -28,14 +27,6 @@ struct Reply<'a> {
 }
 
 impl Reply<'_> {
-    fn write_result(&self, line: &mut Line) {
-        let result = Seen {
-            lent: false,
-            value: self.call.result,
-        };
-        write_seen(self.notes, result, line);
-    }
-
     // How often `out` has to name an argument, and how often it may.
     fn times(&self, want: Want) -> (usize, usize) {
         let is_error = matches!(self.call.result, Value::StatusError(_));
@@ -47,21 +38,15 @@ impl Reply<'_> {
         }
     }
 
-    // How often `out` names an argument.
-    fn named(&self, number: usize) -> usize {
+    // Whether `out` names an argument too often or not often enough, and what is wrong then.
+    fn misnames(&self, number: usize, param: &WantParam, line: &mut Line) -> bool {
+        let (least, most) = self.times(param.want);
         let mut times = 0usize;
         for out in self.call.out.as_slice() {
             if out.argument == number as u64 {
                 times = times.saturating_add(1);
             }
         }
-        times
-    }
-
-    // Whether `out` names an argument too often or not often enough, and what is wrong then.
-    fn misnames(&self, number: usize, param: &WantParam, line: &mut Line) -> bool {
-        let (least, most) = self.times(param.want);
-        let times = self.named(number);
         if least <= times && times <= most {
             return false;
         }
@@ -78,7 +63,11 @@ impl Reply<'_> {
         } else {
             ", with the result "
         });
-        self.write_result(line);
+        let result = Seen {
+            lent: false,
+            value: self.call.result,
+        };
+        write_seen(self.notes, result, line);
         if times < least {
             line.text(" is no error");
         } else {
@@ -144,16 +133,13 @@ impl Reply<'_> {
         None
     }
 
-    fn is_result(&self) -> bool {
-        match &self.signature.result {
-            Some(ty) => fits(self.made, ty, &self.call.result),
-            None => matches!(self.call.result, Value::Any),
-        }
-    }
-
     // What doesn't fit, and why.
     fn unfit(&self, line: &mut Line) -> Unfit {
-        if !self.is_result() {
+        let is_result = match &self.signature.result {
+            Some(ty) => fits(self.made, ty, &self.call.result),
+            None => matches!(self.call.result, Value::Any),
+        };
+        if !is_result {
             if write_target(self.notes, self.made, &self.call.result, line) {
                 line.text("; ")
                     .text(self.signature.name.as_str())
@@ -176,28 +162,20 @@ impl Reply<'_> {
 }
 
 /// What of the reply of a script's call doesn't fit; it writes why. `None` where there is no such call.
-///
-/// # Errors
-///
-/// Want of memory alone.
 pub(crate) fn unfit_reply(
     notes: &Notes,
     script: &Script,
     entry: usize,
     line: &mut Line,
-) -> Result<Option<Unfit>, NoMemory> {
-    let Some(call) = script.call.as_slice().get(entry) else {
-        return Ok(None);
-    };
-    let Some(signature) = notes.signature.as_slice().get(call.signature as usize) else {
-        return Ok(None);
-    };
-    let made = made_objects(line.alloc, notes, script, entry.saturating_add(1))?;
+) -> Option<Unfit> {
+    let call = script.call.as_slice().get(entry)?;
+    let signature = notes.signature.as_slice().get(call.signature as usize)?;
+    let made = made_objects(notes, script, entry.saturating_add(1), line);
     let reply = Reply {
         notes,
         made: made.as_slice(),
         call,
         signature,
     };
-    Ok(Some(reply.unfit(line)))
+    Some(reply.unfit(line))
 }

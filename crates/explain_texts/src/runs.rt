@@ -8,7 +8,7 @@ use explain_base::{Line, Said};
 use note_types::{Ending, Event, Notes, Reason, Script, Seen, Spot};
 use run_texts::ShownRun;
 use std::alloc::Global;
-use toml_spans::key_span;
+use toml_spans::KeySpan;
 
 /// A program that ran: its notes, its script, and the name and the text of the script's file.
 #[derive(Clone, Copy)]
@@ -25,16 +25,6 @@ pub enum Width {
     At32,
     At64,
     Both,
-}
-
-impl Width {
-    fn words(self) -> &'static str {
-        match self {
-            Width::At32 => "at width 32",
-            Width::At64 => "at width 64",
-            Width::Both => "at both widths",
-        }
-    }
 }
 
 /// How a run of a program ended: at which width, after how many steps of at most how many, and its last call.
@@ -56,29 +46,20 @@ pub(crate) struct Ended<'a> {
     pub page: &'static str,
 }
 
-// A run that ended amiss, with the text of its script.
+// A run that ended amiss, with the text of its script. `call` is the number of the script's call that the last call is for.
 #[derive(Clone, Copy)]
 struct Amiss<'a> {
     f: &'a Faulty<'a>,
     notes: &'a Notes,
     script: &'a Script,
     ended: &'a Ended<'a>,
-    width: &'a str,
+    call: usize,
 }
 
 fn signature_name(notes: &Notes, number: u32) -> &str {
     match notes.signature.as_slice().get(number as usize) {
         Some(signature) => signature.name.as_str(),
         None => "none",
-    }
-}
-
-// Writes the arguments of a call as a script has them, each in quotes.
-fn write_args(notes: &Notes, args: &[Seen], line: &mut Line) {
-    for (number, seen) in args.iter().enumerate() {
-        line.text(if number == 0 { "\"" } else { ", \"" });
-        write_seen(notes, *seen, line);
-        line.text("\"");
     }
 }
 
@@ -106,35 +87,25 @@ impl Amiss<'_> {
         said
     }
 
-    // A key of the script, or the script as a whole where it doesn't have the key.
-    fn at_key(&self, key: &str) -> Result<Subject, NoMemory> {
-        match self.f.key_offset(key)? {
-            Some(offset) => Ok(Subject::Offset(offset)),
-            None => Ok(Subject::Script),
+    // Where a key of a table of a list of the script stands, if it is there.
+    fn span(&self, list: &str, number: usize, key: &str, line: &mut Line) -> Option<KeySpan> {
+        let mut path = Line::of(self.f.alloc, list);
+        path.text("[").count(number).text("]").text(key);
+        line.kept(!path.is_short());
+        self.f.span(path.as_str(), line)
+    }
+
+    // A key of a table of a list of the script, or the script as a whole where it doesn't have the key.
+    fn at_item(&self, list: &str, number: usize, key: &str, line: &mut Line) -> Subject {
+        match self.span(list, number, key, line) {
+            Some(span) => Subject::Offset(span.key),
+            None => Subject::Script,
         }
     }
 
-    // A key of a table of a list of the script.
-    fn at_item(&self, list: &str, number: usize, key: &str) -> Result<Subject, NoMemory> {
-        let path = self.path(list, number, key)?;
-        self.at_key(path.as_str())
-    }
-
-    // The path of a key of a table of a list.
-    fn path(&self, list: &str, number: usize, key: &str) -> Result<String, NoMemory> {
-        let mut path = Line::new(self.f.alloc);
-        path.text(list).text("[").count(number).text("]").text(key);
-        path.done()
-    }
-
-    // The number of the script's call that the last call is for.
-    fn call(&self) -> usize {
-        self.ended.calls.saturating_sub(1)
-    }
-
     // The last call of the script.
-    fn last_call(&self) -> Result<Subject, NoMemory> {
-        self.at_item("call", self.script.call.len().saturating_sub(1), "")
+    fn last_call(&self, line: &mut Line) -> Subject {
+        self.at_item("call", self.script.call.len().saturating_sub(1), "", line)
     }
 
     // The item of a list of a call of the script, and its text.
@@ -143,65 +114,54 @@ impl Amiss<'_> {
         call: usize,
         key: &str,
         item: usize,
-    ) -> Result<Option<(usize, &str)>, NoMemory> {
-        let path = self.path("call", call, key)?;
-        let Some(span) = key_span(self.f.alloc, self.f.text, path.as_str())? else {
-            return Ok(None);
-        };
+        line: &mut Line,
+    ) -> Option<(usize, &str)> {
+        let span = self.span("call", call, key, line)?;
         let (from, to) = match span.items.get(item) {
             Some(item) => *item,
             None => (span.from, span.to),
         };
-        Ok(Some((from, self.f.part(from, to))))
+        Some((from, self.f.part(from, to)))
     }
 
-    // The program makes a call more than the script has.
-    fn script_end(&self, line: &mut Line) -> Result<Subject, NoMemory> {
-        match self.ended.last {
-            Some(
-                Event::Called {
-                    signature,
-                    args,
-                    ..
-                },
-            ) => {
-                line.text("the driver makes one call more than the ")
-                    .count(self.script.call.len());
-                line.text(" of the script; wanted: one more table [[call]], with signature = \"");
-                line.text(signature_name(self.notes, signature.unwrap_or(u32::MAX)));
-                line.text("\" and args = [");
-                write_args(self.notes, args.as_slice(), line);
-                line.text("]");
-            }
-            _ => {
-                line.text("the script has no call left");
-            }
+    // The program makes a call more than the script has. Its arguments stand as a script has them.
+    fn script_end(&self, line: &mut Line) -> Subject {
+        let Some(
+            Event::Called {
+                signature,
+                args,
+                ..
+            },
+        ) = self.ended.last
+        else {
+            line.text("the script has no call left");
+            return self.last_call(line);
+        };
+        line.text("the driver makes one call more than the ")
+            .count(self.script.call.len())
+            .text(" of the script; wanted: one more table [[call]], with signature = \"")
+            .text(signature_name(self.notes, signature.unwrap_or(u32::MAX)))
+            .text("\" and args = [");
+        for (number, seen) in args.as_slice().iter().enumerate() {
+            line.text(if number == 0 { "\"" } else { ", \"" });
+            write_seen(self.notes, *seen, line);
+            line.text("\"");
         }
-        self.last_call()
+        line.text("]");
+        self.last_call(line)
     }
 
-    fn other_signature(
-        &self,
-        found: u32,
-        wanted: u32,
-        line: &mut Line,
-    ) -> Result<Subject, NoMemory> {
+    fn other_signature(&self, found: u32, wanted: u32, line: &mut Line) -> Subject {
         line.text("the driver calls by ")
-            .text(signature_name(self.notes, found));
-        line.text(", and call[")
-            .count(self.call())
-            .text("] is one by ");
-        line.text(signature_name(self.notes, wanted));
-        self.at_item("call", self.call(), ".signature")
+            .text(signature_name(self.notes, found))
+            .text(", and call[")
+            .count(self.call)
+            .text("] is one by ")
+            .text(signature_name(self.notes, wanted));
+        self.at_item("call", self.call, ".signature", line)
     }
 
-    fn other_argument(
-        &self,
-        number: u32,
-        found: Seen,
-        wanted: Seen,
-        line: &mut Line,
-    ) -> Result<Subject, NoMemory> {
+    fn other_argument(&self, number: u32, found: Seen, wanted: Seen, line: &mut Line) -> Subject {
         line.text("argument ").number(u64::from(number));
         line.text(if self.ended.bound {
             " of the call of a bound method is "
@@ -211,26 +171,20 @@ impl Amiss<'_> {
         write_seen(self.notes, found, line);
         if self.ended.bound {
             line.text(", which doesn't fit its function");
-            return Ok(Subject::Run);
+            return Subject::Run;
         }
-        line.text(", and call[").count(self.call()).text("] has ");
+        line.text(", and call[").count(self.call).text("] has ");
         write_seen(self.notes, wanted, line);
-        self.at_item("call", self.call(), ".args")
+        self.at_item("call", self.call, ".args", line)
     }
 
     // An item of the reply of a call, or its result.
-    fn unfit_item(
-        &self,
-        call: usize,
-        list: &str,
-        item: usize,
-        line: &mut Line,
-    ) -> Result<Subject, NoMemory> {
-        let mut key = Line::new(self.f.alloc);
-        key.text(".").text(list);
-        let Some((offset, part)) = self.item_at(call, key.as_str(), item)? else {
+    fn unfit_item(&self, call: usize, list: &str, item: usize, line: &mut Line) -> Subject {
+        let mut key = Line::of(self.f.alloc, ".");
+        key.text(list);
+        let Some((offset, part)) = self.item_at(call, key.as_str(), item, line) else {
             line.text(list);
-            return self.last_call();
+            return self.last_call(line);
         };
         if list == "result" {
             line.text("its result");
@@ -238,49 +192,36 @@ impl Amiss<'_> {
             line.text("item ").count(item).text(" of ").text(list);
         }
         line.text(" is ").text(part);
-        Ok(Subject::Offset(offset))
+        Subject::Offset(offset)
     }
 
-    fn reply(&self, entry: u32, line: &mut Line) -> Result<Subject, NoMemory> {
+    fn reply(&self, entry: u32, line: &mut Line) -> Subject {
         if self.ended.bound {
             line.text(
                 "what the function of a bound method returned doesn't fit the result of the method",
             );
-            return Ok(Subject::Run);
+            return Subject::Run;
         }
         let call = entry as usize;
         line.text("the reply of call[")
             .count(call)
             .text("] doesn't fit: ");
         let mut wrong = Line::new(self.f.alloc);
-        let subject = match unfit_reply(self.notes, self.script, call, &mut wrong)? {
-            Some(Unfit::Item(list, item)) => self.unfit_item(call, list, item, line)?,
-            Some(Unfit::Call) => self.at_item("call", call, "")?,
+        let subject = match unfit_reply(self.notes, self.script, call, &mut wrong) {
+            Some(Unfit::Item(list, item)) => self.unfit_item(call, list, item, line),
+            Some(Unfit::Call) => self.at_item("call", call, "", line),
             None => {
                 wrong.text("there is no such call");
-                self.last_call()?
+                self.last_call(line)
             }
         };
         line.line(&wrong);
-        Ok(subject)
+        subject
     }
 
-    // Writes why a callback of a call can't be entered.
-    fn write_callback(&self, call: usize, number: usize, line: &mut Line) -> Result<(), NoMemory> {
-        let calls = call.saturating_add(1);
-        let made = made_objects(line.alloc, self.notes, self.script, calls)?;
-        if let Some(call) = self.script.call.as_slice().get(call) {
-            if let Some(callback) = call.enter.as_slice().get(number) {
-                let values = callback.values.as_slice();
-                write_entering(self.notes, made.as_slice(), callback.function, values, line);
-            }
-        }
-        Ok(())
-    }
-
-    fn callback(&self, call: usize, number: usize, line: &mut Line) -> Result<Subject, NoMemory> {
+    fn callback(&self, call: usize, number: usize, line: &mut Line) -> Subject {
         line.text("callback ").count(number);
-        let subject = match self.item_at(call, ".enter", number)? {
+        let subject = match self.item_at(call, ".enter", number, line) {
             Some((offset, part)) => {
                 line.text(" of call[")
                     .count(call)
@@ -289,26 +230,33 @@ impl Amiss<'_> {
                     .text(",");
                 Subject::Offset(offset)
             }
-            None => self.last_call()?,
+            None => self.last_call(line),
         };
         line.text(" can't be entered: ");
-        self.write_callback(call, number, line)?;
-        Ok(subject)
+        let made = made_objects(self.notes, self.script, call.saturating_add(1), line);
+        if let Some(call) = self.script.call.as_slice().get(call) {
+            if let Some(callback) = call.enter.as_slice().get(number) {
+                let values = callback.values.as_slice();
+                write_entering(self.notes, made.as_slice(), callback.function, values, line);
+            }
+        }
+        subject
     }
 
-    // Writes why a notification can't be entered, if that isn't for want of thunk cells.
-    fn write_notification(&self, number: usize, line: &mut Line) -> Result<(), NoMemory> {
-        let made = made_objects(line.alloc, self.notes, self.script, self.ended.calls)?;
+    // A notification can't be entered; if its values fit, that is for want of thunk cells.
+    fn notification(&self, number: usize, line: &mut Line) -> Subject {
+        let mut why = Line::new(self.f.alloc);
+        let made = made_objects(self.notes, self.script, self.ended.calls, &mut why);
         if let Some(notify) = self.script.notify.as_slice().get(number) {
             let values = notify.args.as_slice();
-            write_entering(self.notes, made.as_slice(), notify.function, values, line);
+            write_entering(
+                self.notes,
+                made.as_slice(),
+                notify.function,
+                values,
+                &mut why,
+            );
         }
-        Ok(())
-    }
-
-    fn notification(&self, number: usize, line: &mut Line) -> Result<Subject, NoMemory> {
-        let mut why = Line::new(self.f.alloc);
-        self.write_notification(number, &mut why)?;
         if why.is_empty() {
             why.text("not all thunk cells are made by then");
         }
@@ -316,7 +264,7 @@ impl Amiss<'_> {
             .count(number)
             .text("] can't be entered: ")
             .line(&why);
-        self.at_item("notify", number, "")
+        self.at_item("notify", number, "", line)
     }
 
     // Writes what doesn't match where that is no matter of the script.
@@ -348,7 +296,7 @@ impl Amiss<'_> {
         }
     }
 
-    fn mismatch(&self, reason: Reason, line: &mut Line) -> Result<Subject, NoMemory> {
+    fn mismatch(&self, reason: Reason, line: &mut Line) -> Subject {
         match reason {
             Reason::Signature { found, wanted } => self.other_signature(found, wanted, line),
             Reason::Argument {
@@ -363,42 +311,32 @@ impl Amiss<'_> {
             Reason::Notify { number } => self.notification(number as usize, line),
             _ => {
                 self.write_mismatch(reason, line);
-                Ok(Subject::Run)
+                Subject::Run
             }
         }
     }
 
     // Writes how the run ended, and tells of what that is said.
-    fn write(&self, line: &mut Line) -> Result<Subject, NoMemory> {
+    fn write(&self, line: &mut Line) -> Subject {
         match self.ended.ending {
-            Ending::ScriptEnd => self.script_end(line),
-            Ending::Mismatch(reason) => self.mismatch(reason, line),
-            Ending::Running => {
-                line.text("the run goes on after ").number(self.ended.steps);
-                line.text(" steps; wanted: more STEPS, ")
-                    .number(self.ended.most)
-                    .text(" at most");
-                Ok(Subject::Run)
-            }
+            Ending::ScriptEnd => return self.script_end(line),
+            Ending::Mismatch(reason) => return self.mismatch(reason, line),
+            Ending::Running => line
+                .text("the run goes on after ")
+                .number(self.ended.steps)
+                .text(" steps; wanted: more STEPS, ")
+                .number(self.ended.most)
+                .text(" at most"),
             ending => {
                 line.text("the run ");
                 write_ending(self.notes, ending, "end 0 gate ", line);
-                if let (Ending::Raised(_), Some(place)) = (ending, self.ended.place) {
-                    line.text(" at ").place(self.notes, place);
+                match (ending, self.ended.place) {
+                    (Ending::Raised(_), Some(place)) => line.text(" at ").place(self.notes, place),
+                    _ => line,
                 }
-                Ok(Subject::Run)
             }
-        }
-    }
-
-    fn ending(&self) -> Result<Option<Said>, NoMemory> {
-        if let Ending::Finished(_) = self.ended.ending {
-            return Ok(None);
-        }
-        let mut line = Line::new(self.f.alloc);
-        line.text(self.width).text(" ");
-        let subject = self.write(&mut line)?;
-        Ok(Some(self.said(subject, line)))
+        };
+        Subject::Run
     }
 }
 
@@ -412,16 +350,17 @@ pub(crate) fn ended_said(
     ran: &Scripted,
     ended: &Ended,
 ) -> Result<Option<Said>, NoMemory> {
+    if let Ending::Finished(_) = ended.ending {
+        return Ok(None);
+    }
     let Ok(table) = toml::table_from_slice(alloc, ran.text) else {
         return Err(NoMemory);
     };
-    let text = std::str::from_utf8(ran.text).unwrap_or("");
-    let kind = TomlText::Script(ran.notes);
     let f = Faulty {
         alloc,
         file: ran.file,
-        kind,
-        text,
+        kind: TomlText::Script(ran.notes),
+        text: std::str::from_utf8(ran.text).unwrap_or(""),
         table: &table,
     };
     let amiss = Amiss {
@@ -429,9 +368,18 @@ pub(crate) fn ended_said(
         notes: ran.notes,
         script: ran.script,
         ended,
-        width: ended.width.words(),
+        call: ended.calls.saturating_sub(1),
     };
-    amiss.ending()
+    let mut line = Line::of(
+        alloc,
+        match ended.width {
+            Width::At32 => "at width 32 ",
+            Width::At64 => "at width 64 ",
+            Width::Both => "at both widths ",
+        },
+    );
+    let subject = amiss.write(&mut line);
+    Ok(Some(amiss.said(subject, line)))
 }
 
 // The last call among events, and how many there are.
@@ -445,14 +393,6 @@ fn calls_in(events: &[Event]) -> (Option<&Event>, usize) {
         }
     }
     (last, count)
-}
-
-// The place at which a run stands, if it is one of the image.
-fn place_of(spot: Spot) -> Option<u32> {
-    match spot {
-        Spot::Place(place) => Some(place),
-        _ => None,
-    }
 }
 
 /// What is said of a run of `run` at a width, or of `twin` at both; `None` where it finished.
@@ -472,7 +412,10 @@ pub fn run_said(
         steps: run.steps,
         most: 10_000_000,
         ending: run.ending,
-        place: place_of(run.spot),
+        place: match run.spot {
+            Spot::Place(place) => Some(place),
+            _ => None,
+        },
         last,
         calls,
         bound: false,

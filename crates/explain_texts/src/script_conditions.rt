@@ -1,18 +1,16 @@
 //! What is said of scripts by the conditions over several keys: docs/SCRIPTS.md, "What the reader refuses".
 
 use crate::faulty::{Faulty, Found, Subject, table_and_key, table_number, value_at};
+use crate::forms::read;
 use crate::names::{field_named, shape_at};
 use crate::values::{
     Parameter, drafted_objects, value_of, write_cell, write_misfit, write_object, write_params,
     write_target,
 };
-use ebc_base::NoMemory;
 use explain_base::Line;
 use host_model::{TypedObject, fits};
-use note_texts::FromText;
-use note_types::{Cell, Field, FnNote, Notes, Shape, Value, content_type};
+use note_types::{Cell, FnNote, Notes, Shape, Value, content_type};
 use script_draft::{CellValueText, ScriptDraft, ValueText, WriteText, read_draft};
-use std::alloc::Global;
 
 // Writes how many values a list has, and what the owner of the parameters has; each value has one parameter.
 fn write_count(at: &Found, owner: &str, name: &str, line: &mut Line) {
@@ -25,11 +23,11 @@ fn write_count(at: &Found, owner: &str, name: &str, line: &mut Line) {
     line.text(owner).text(name).text(" has ");
 }
 
-// The value that an item of a list stands for.
-fn value_in(notes: &Notes, text: &str, alloc: Global) -> Result<Option<Value>, NoMemory> {
-    match ValueText::from_text(alloc, text)? {
-        Some(value) => Ok(Some(value_of(notes, &value))),
-        None => Ok(None),
+// The value that an item of a list stands for. The line remembers want of memory.
+fn value_in(notes: &Notes, text: &str, line: &mut Line) -> Option<Value> {
+    match read::<ValueText>(text, line) {
+        Some(value) => Some(value_of(notes, &value)),
+        None => None,
     }
 }
 
@@ -40,41 +38,34 @@ fn arg_wrong(
     entry: &FnNote,
     at: &Found,
     line: &mut Line,
-) -> Result<Option<Subject>, NoMemory> {
+) -> Option<Subject> {
     for (item, param) in entry.params.as_slice().iter().enumerate() {
-        let Some(value) = value_in(notes, at.item(item).unwrap_or(""), line.alloc)? else {
-            continue;
-        };
-        if !fits(made, &param.ty, &value) {
-            if write_target(notes, made, &value, line) {
-                line.text("; parameter ")
-                    .count(item)
-                    .text(" of ")
-                    .text(entry.name.as_str());
-                line.text(" is ");
-                param.write(notes, line);
+        match value_in(notes, at.item(item).unwrap_or(""), line) {
+            Some(value) if !fits(made, &param.ty, &value) => {
+                if write_target(notes, made, &value, line) {
+                    line.text("; parameter ")
+                        .count(item)
+                        .text(" of ")
+                        .text(entry.name.as_str())
+                        .text(" is ");
+                    param.write(notes, line);
+                }
+                return Some(Subject::Item(item));
             }
-            return Ok(Some(Subject::Item(item)));
+            _ => {}
         }
     }
-    Ok(None)
+    None
 }
 
-fn args_wrong(
-    notes: &Notes,
-    draft: &ScriptDraft,
-    at: &Found,
-    line: &mut Line,
-) -> Result<Option<Subject>, NoMemory> {
-    let Some(entry) = notes.function.as_slice().get(notes.entry as usize) else {
-        return Ok(None);
-    };
+fn args_wrong(notes: &Notes, draft: &ScriptDraft, at: &Found, line: &mut Line) -> Option<Subject> {
+    let entry = notes.function.as_slice().get(notes.entry as usize)?;
     if entry.params.len() != at.count() {
         write_count(at, "", entry.name.as_str(), line);
         write_params(notes, entry.params.as_slice(), line);
-        return Ok(Some(Subject::Whole));
+        return Some(Subject::Whole);
     }
-    let made = drafted_objects(line.alloc, notes, draft, false)?;
+    let made = drafted_objects(notes, draft, false, line);
     arg_wrong(notes, made.as_slice(), entry, at, line)
 }
 
@@ -121,35 +112,20 @@ fn cell_wrong(
     true
 }
 
-fn is_needed(cell: &Cell) -> bool {
-    match cell {
-        Cell::Ptr { null, .. } | Cell::P64 { null, .. } => !*null,
-        Cell::Method(_) => true,
-        _ => false,
-    }
-}
-
-fn is_given(at: &Found, head: &str) -> bool {
+// Whether a list has a text of the cell of an instance at a field.
+fn is_given(at: &Found, instance: u64, field: &str) -> bool {
     for item in 0..at.count() {
-        if at.item(item).unwrap_or("").starts_with(head) {
+        let (digits, rest) = at
+            .item(item)
+            .unwrap_or("")
+            .split_once(' ')
+            .unwrap_or(("", ""));
+        let (name, _) = rest.split_once(' ').unwrap_or(("", ""));
+        if name == field && digits.parse::<u64>().ok() == Some(instance) {
             return true;
         }
     }
     false
-}
-
-// Whether a cell of an instance has to be given, and isn't.
-fn lacks(at: &Found, instance: u64, field: &Field, alloc: Global) -> Result<bool, NoMemory> {
-    if !is_needed(&field.cell) {
-        return Ok(false);
-    }
-    let mut head = Line::new(alloc);
-    head.number(instance)
-        .text(" ")
-        .text(field.name.as_str())
-        .text(" ");
-    let head = head.done()?;
-    Ok(!is_given(at, head.as_str()))
 }
 
 // Whether an instance lacks a cell that has to be given, and which.
@@ -159,37 +135,24 @@ fn instance_wrong(
     at: &Found,
     instance: u64,
     line: &mut Line,
-) -> Result<bool, NoMemory> {
+) -> bool {
     for field in shape.fields.as_slice() {
-        if lacks(at, instance, field, line.alloc)? {
-            line.text(" has no value for field ")
-                .text(field.name.as_str());
+        let (name, cell) = (field.name.as_str(), field.cell);
+        let is_needed = match cell {
+            Cell::Ptr { null, .. } | Cell::P64 { null, .. } => !null,
+            Cell::Method(_) => true,
+            _ => false,
+        };
+        if is_needed && !is_given(at, instance, name) {
+            line.text(" has no value for field ").text(name);
             line.text(" of instance ")
                 .number(instance)
                 .text(", which is ");
-            write_cell(notes, field.cell, line);
-            return Ok(true);
+            write_cell(notes, cell, line);
+            return true;
         }
     }
-    Ok(false)
-}
-
-// The cell of some instance that has to be given, and isn't; or else a pointer names a later object.
-fn whole_wrong(
-    notes: &Notes,
-    shape: &Shape,
-    count: u64,
-    at: &Found,
-    line: &mut Line,
-) -> Result<Option<Subject>, NoMemory> {
-    let instances = count.min((at.count() as u64).saturating_add(1));
-    for instance in 0..instances {
-        if instance_wrong(notes, shape, at, instance, line)? {
-            return Ok(Some(Subject::Whole));
-        }
-    }
-    line.text(" has a pointer to a later object; wanted: objects up to this one");
-    Ok(Some(Subject::Whole))
+    false
 }
 
 // How many instances the table has in which a key stands.
@@ -205,75 +168,69 @@ fn instances_at(f: &Faulty, path: &str) -> u64 {
     }
 }
 
-// The first text of a list of cells that is wrong.
-fn first_cell(
+// Whether a text of a list of cells is wrong, and how. The line remembers want of memory.
+fn text_wrong(
     notes: &Notes,
     made: &[TypedObject],
     shape: &Shape,
     count: u64,
-    at: &Found,
+    text: &str,
     line: &mut Line,
-) -> Result<Option<Subject>, NoMemory> {
-    for item in 0..at.count() {
-        let Some(cell) = CellValueText::from_text(line.alloc, at.item(item).unwrap_or(""))? else {
-            continue;
-        };
-        if cell_wrong(notes, made, shape, count, &cell, line) {
-            return Ok(Some(Subject::Item(item)));
-        }
+) -> bool {
+    match read::<CellValueText>(text, line) {
+        Some(cell) => cell_wrong(notes, made, shape, count, &cell, line),
+        None => false,
     }
-    whole_wrong(notes, shape, count, at, line)
 }
 
+// The first text of a list of cells that is wrong; the cell of some instance that has to be given, and isn't; or else a pointer
+// names a later object.
 fn cells_wrong(
     f: &Faulty,
     notes: &Notes,
     draft: &ScriptDraft,
     at: &Found,
     line: &mut Line,
-) -> Result<Option<Subject>, NoMemory> {
+) -> Option<Subject> {
     let number = shape_at(f, at.path).unwrap_or(usize::MAX);
-    let Some(shape) = notes.shape.as_slice().get(number) else {
-        return Ok(None);
-    };
-    let made = drafted_objects(f.alloc, notes, draft, true)?;
-    first_cell(
-        notes,
-        made.as_slice(),
-        shape,
-        instances_at(f, at.path),
-        at,
-        line,
-    )
+    let shape = notes.shape.as_slice().get(number)?;
+    let count = instances_at(f, at.path);
+    let made = drafted_objects(notes, draft, true, line);
+    for item in 0..at.count() {
+        let text = at.item(item).unwrap_or("");
+        if text_wrong(notes, made.as_slice(), shape, count, text, line) {
+            return Some(Subject::Item(item));
+        }
+    }
+    let instances = count.min((at.count() as u64).saturating_add(1));
+    for instance in 0..instances {
+        if instance_wrong(notes, shape, at, instance, line) {
+            return Some(Subject::Whole);
+        }
+    }
+    line.text(" has a pointer to a later object; wanted: objects up to this one");
+    Some(Subject::Whole)
 }
 
-// The object that a text of `write` names, if it or its instance isn't there.
-fn absent_object(made: &[TypedObject], text: &str, alloc: Global) -> Result<Option<u64>, NoMemory> {
-    let Some(write) = WriteText::from_text(alloc, text)? else {
-        return Ok(None);
-    };
+// The object that a text of `write` names, if it or its instance isn't there. The line remembers want of memory.
+fn absent_object(made: &[TypedObject], text: &str, line: &mut Line) -> Option<u64> {
+    let write = read::<WriteText>(text, line)?;
     match made.get(write.object as usize) {
-        Some(object) if write.instance < object.count => Ok(None),
-        _ => Ok(Some(write.object)),
+        Some(object) if write.instance < object.count => None,
+        _ => Some(write.object),
     }
 }
 
 // The first text of `write` whose object or instance isn't there.
-fn write_wrong(
-    notes: &Notes,
-    draft: &ScriptDraft,
-    at: &Found,
-    line: &mut Line,
-) -> Result<Option<Subject>, NoMemory> {
-    let made = drafted_objects(line.alloc, notes, draft, true)?;
+fn write_wrong(notes: &Notes, draft: &ScriptDraft, at: &Found, line: &mut Line) -> Option<Subject> {
+    let made = drafted_objects(notes, draft, true, line);
     for item in 0..at.count() {
-        let text = at.item(item).unwrap_or("");
-        if let Some(object) = absent_object(made.as_slice(), text, line.alloc)? {
+        if let Some(object) = absent_object(made.as_slice(), at.item(item).unwrap_or(""), line) {
             write_object(notes, made.as_slice(), object, line);
-            return Ok(Some(Subject::Item(item)));
+            return Some(Subject::Item(item));
         }
     }
-    Ok(None)
+    None
 }
 
 // What is wrong at a key that has one condition alone; empty where it has none.
@@ -293,18 +250,6 @@ fn single_condition(key: &str) -> &'static str {
     }
 }
 
-fn limit_wrong(at: &Found, line: &mut Line) -> Option<Subject> {
-    let condition = single_condition(at.form.key);
-    if condition.is_empty() {
-        return None;
-    }
-    line.text(condition);
-    if at.value.is_array() {
-        return Some(Subject::Whole);
-    }
-    Some(Subject::Item(0))
-}
-
 // What is wrong at a path by the first condition that fails.
 fn first_wrong(
     f: &Faulty,
@@ -312,29 +257,34 @@ fn first_wrong(
     draft: &ScriptDraft,
     at: &Found,
     line: &mut Line,
-) -> Result<Option<Subject>, NoMemory> {
+) -> Option<Subject> {
     match at.form.key {
-        "args" => args_wrong(notes, draft, at, line),
-        "call.args" => Ok(call_args_wrong(notes, draft, at, line)),
-        "object.cells" | "call.make.cells" => cells_wrong(f, notes, draft, at, line),
-        "call.write" => write_wrong(notes, draft, at, line),
-        _ => Ok(limit_wrong(at, line)),
+        "args" => return args_wrong(notes, draft, at, line),
+        "call.args" => return call_args_wrong(notes, draft, at, line),
+        "object.cells" | "call.make.cells" => return cells_wrong(f, notes, draft, at, line),
+        "call.write" => return write_wrong(notes, draft, at, line),
+        _ => {}
+    }
+    let condition = single_condition(at.form.key);
+    line.text(condition);
+    if condition.is_empty() {
+        None
+    } else if at.value.is_array() {
+        Some(Subject::Whole)
+    } else {
+        Some(Subject::Item(0))
     }
 }
 
 /// What of a script isn't at a path as the conditions over several keys want it; it writes what is wrong with it.
-///
-/// # Errors
-///
-/// Want of memory alone.
 pub(crate) fn script_condition(
     f: &Faulty,
     notes: &Notes,
     at: &Found,
     line: &mut Line,
-) -> Result<Option<Subject>, NoMemory> {
+) -> Option<Subject> {
     match read_draft(f.alloc, f.table) {
         Ok(draft) => first_wrong(f, notes, &draft, at, line),
-        Err(_) => Ok(None),
+        Err(_) => None,
     }
 }

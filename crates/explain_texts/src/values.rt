@@ -1,17 +1,16 @@
 //! Values of scripts, the objects that they point to, and the texts of what takes them.
 
-use ebc_base::{Name, NoMemory};
+use ebc_base::Name;
 use explain_base::{Line, kind_text};
 use host_model::{TypedObject, fits};
 use note_types::{
-    Cell, Ending, Field, FnNote, Notes, Param, Script, ScriptObject, Seen, Shape, Signature, Spot,
-    Ty, Value, Want, WantParam,
+    Cell, Ending, Field, FnNote, Notes, Param, Script, Seen, Shape, Signature, Spot, Ty, Value,
+    Want, WantParam,
 };
 use point_texts::type_text;
 use protocol_script::{function_number, method_number};
 use run_texts::append_end;
 use script_draft::{ObjectDraft, ScriptDraft, ValueText};
-use std::alloc::Global;
 
 /// Writes a type that names no local fields, as notes spell it.
 pub(crate) fn write_type(notes: &Notes, ty: Ty, line: &mut Line) {
@@ -49,45 +48,25 @@ impl Parameter for Param {
 
 impl Parameter for WantParam {
     fn write(&self, notes: &Notes, line: &mut Line) {
-        line.text(kind_text(self.kind)).text(" ");
-        write_want(notes, self.want, line);
-    }
-}
-
-// Writes what a native method wants.
-fn write_want(notes: &Notes, want: Want, line: &mut Line) {
-    match want {
-        Want::Int { lo, hi } => {
-            line.text("int:").number(lo).text("..").number(hi);
-        }
-        Want::Size { n, c } => {
-            line.text("size:")
+        line.text(kind_text(self.kind));
+        match self.want {
+            Want::Any => line.text(" any"),
+            Want::Int { lo, hi } => line.text(" int:").number(lo).text("..").number(hi),
+            Want::Size { n, c } => line
+                .text(" size:")
                 .number(u64::from(n))
                 .text(",")
-                .number(u64::from(c));
-        }
-        Want::Out(cell) => {
-            line.text("out:");
+                .number(u64::from(c)),
+            Want::Ptr => line.text(" ptr"),
+            Want::Handle => line.text(" handle"),
+            Want::Status => line.text(" status"),
+            Want::Entry => line.text(" entry"),
+            Want::Out(_) => line.text(" out:"),
+            Want::Inout(_) => line.text(" inout:"),
+        };
+        if let Want::Out(cell) | Want::Inout(cell) = self.want {
             write_cell(notes, cell, line);
         }
-        Want::Inout(cell) => {
-            line.text("inout:");
-            write_cell(notes, cell, line);
-        }
-        other => {
-            line.text(plain_want(other));
-        }
-    }
-}
-
-// The word for what a native method wants that has no parts.
-fn plain_want(want: Want) -> &'static str {
-    match want {
-        Want::Ptr => "ptr",
-        Want::Handle => "handle",
-        Want::Status => "status",
-        Want::Entry => "entry",
-        _ => "any",
     }
 }
 
@@ -146,20 +125,10 @@ pub(crate) fn write_ending(notes: &Notes, ending: Ending, begins: &str, line: &m
 
 // ---- objects
 
-/// The static objects of notes.
-///
-/// # Errors
-///
-/// Want of memory alone.
-fn static_objects(alloc: Global, notes: &Notes) -> Result<Vec<TypedObject>, NoMemory> {
-    let mut made = Vec::new(alloc);
-    for object in notes.statics.as_slice() {
-        made.push(TypedObject {
-            shape: object.shape,
-            count: object.count,
-        })?;
-    }
-    Ok(made)
+// Adds objects of a shape. The line remembers want of memory.
+fn add_object(made: &mut Vec<TypedObject>, shape: u32, count: u64, line: &mut Line) {
+    let added = made.push(TypedObject { shape, count });
+    line.kept(added.is_ok());
 }
 
 // The number of the shape of that name, or one that no shape has.
@@ -172,68 +141,63 @@ fn shape_number(notes: &Notes, name: &Name) -> u32 {
     u32::MAX
 }
 
+// Adds the objects of drafts.
 fn add_drafts(
     made: &mut Vec<TypedObject>,
     notes: &Notes,
     objects: &[ObjectDraft],
-) -> Result<(), NoMemory> {
+    line: &mut Line,
+) {
     for object in objects {
-        made.push(TypedObject {
-            shape: shape_number(notes, &object.shape),
-            count: object.count,
-        })?;
+        let shape = shape_number(notes, &object.shape);
+        add_object(made, shape, object.count, line);
     }
-    Ok(())
 }
 
-/// The typed objects of the draft of a script: those of the start, and with `all` those that its calls make too.
-///
-/// # Errors
-///
-/// Want of memory alone.
+// The static objects of notes.
+fn static_objects(notes: &Notes, line: &mut Line) -> Vec<TypedObject> {
+    let mut made = Vec::new(line.alloc);
+    for object in notes.statics.as_slice() {
+        add_object(&mut made, object.shape, object.count, line);
+    }
+    made
+}
+
+/// The typed objects of the draft of a script: those of the start, and with `all` those that its calls make too. The line remembers
+/// want of memory.
 pub(crate) fn drafted_objects(
-    alloc: Global,
     notes: &Notes,
     draft: &ScriptDraft,
     all: bool,
-) -> Result<Vec<TypedObject>, NoMemory> {
-    let mut made = static_objects(alloc, notes)?;
-    add_drafts(&mut made, notes, draft.object.as_slice())?;
+    line: &mut Line,
+) -> Vec<TypedObject> {
+    let mut made = static_objects(notes, line);
+    add_drafts(&mut made, notes, draft.object.as_slice(), line);
     if all {
         for call in draft.call.as_slice() {
-            add_drafts(&mut made, notes, call.make.as_slice())?;
+            add_drafts(&mut made, notes, call.make.as_slice(), line);
         }
     }
-    Ok(made)
+    made
 }
 
-fn add_objects(made: &mut Vec<TypedObject>, objects: &[ScriptObject]) -> Result<(), NoMemory> {
-    for object in objects {
-        made.push(TypedObject {
-            shape: object.shape,
-            count: object.count,
-        })?;
-    }
-    Ok(())
-}
-
-/// The typed objects that are made once so many calls of a script were accepted.
-///
-/// # Errors
-///
-/// Want of memory alone.
+/// The typed objects that are made once so many calls of a script were accepted. The line remembers want of memory.
 pub(crate) fn made_objects(
-    alloc: Global,
     notes: &Notes,
     script: &Script,
     calls: usize,
-) -> Result<Vec<TypedObject>, NoMemory> {
-    let mut made = static_objects(alloc, notes)?;
-    add_objects(&mut made, script.object.as_slice())?;
-    for call in script.call.as_slice().iter().take(calls) {
-        add_objects(&mut made, call.make.as_slice())?;
+    line: &mut Line,
+) -> Vec<TypedObject> {
+    let mut made = static_objects(notes, line);
+    for object in script.object.as_slice() {
+        add_object(&mut made, object.shape, object.count, line);
     }
-    Ok(made)
+    for call in script.call.as_slice().iter().take(calls) {
+        for object in call.make.as_slice() {
+            add_object(&mut made, object.shape, object.count, line);
+        }
+    }
+    made
 }
 
 /// Writes what an object is, after a comma: `, and object 1 is a Blk`. It tells whether there is one.

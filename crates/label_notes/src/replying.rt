@@ -35,7 +35,8 @@ fn map_reply(alloc: Global, plan: &LinkPlan, objects: &[Object]) -> Result<Reply
 // What comes of a text of this name.
 fn told(alloc: Global, linked: Linked, name: &str, text: &[u8]) -> Result<Reply, NoMemory>
     requires image { IsImage linked.image.now }
-    ensures reply { IfOk result (TellsNotes linked.entry.plan.now.objects linked.entry.labels.now.labels linked.entry.image.now name.now text.now) }
+    ensures reply { IfOk result (TellsNotes
+        linked.entry.plan.now.objects linked.entry.labels.now.labels linked.entry.image.now name.now text.now) }
     ensures answer { IfOk result (λ r. IsRequestAnswer r.outcome) }
     ensures output { IfOk result (λ r. written_name r.output ≡ None) }
 {

@@ -19,7 +19,8 @@ use std::alloc::{AllocError, Global};
 
 // The answer where the text of the name has a fault, with more behind its path.
 fn faulty(alloc: Global, name: &str, fault: &TomlFault, more: &str) -> Result<Reply, AllocError>
-    ensures { IfOk result (λ r. r ≡ bad_reply 1 name.now (toml_fault_number fault.now) (toml_fault_text fault.now) (key_path fault.now ++ more.now)) }
+    ensures { IfOk result (λ r.
+        r ≡ bad_reply 1 name.now (toml_fault_number fault.now) (toml_fault_text fault.now) (key_path fault.now ++ more.now)) }
 {
     let number = toml_fault_number(fault);
     let path = key_path(fault);

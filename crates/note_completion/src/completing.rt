@@ -57,7 +57,8 @@ impl<'a> Task<'a> {
     // The notes with all that was found, where the check of the image calls it neutral.
     fn checked(self, alloc: Global, depths: &Depths, more: More) -> Result<String, Halt>
         requires image { IsImage self.linked.image.now }
-        ensures whole { IfOk result (λ notes. IsComplete self.entry.linked.image.now (place_in self.entry) self.entry.text.now (string_bytes notes)) }
+        ensures whole { IfOk result (λ notes.
+            IsComplete self.entry.linked.image.now (place_in self.entry) self.entry.text.now (string_bytes notes)) }
         ensures cause { IfErr result (IsCaused self.entry) }
     {
         let filled = self.fill(alloc, depths.found(), more)?;
@@ -71,7 +72,8 @@ impl<'a> Task<'a> {
     // The complete notes of a text whose forms and names are those of notes.
     fn notes(self, alloc: Global) -> Result<String, Halt>
         requires image { IsImage self.linked.image.now }
-        ensures whole { IfOk result (λ notes. IsComplete self.entry.linked.image.now (place_in self.entry) self.entry.text.now (string_bytes notes)) }
+        ensures whole { IfOk result (λ notes.
+            IsComplete self.entry.linked.image.now (place_in self.entry) self.entry.text.now (string_bytes notes)) }
         ensures cause { IfErr result (IsCaused self.entry) }
     {
         let depths = self.depths(alloc)?;
@@ -83,7 +85,8 @@ impl<'a> Task<'a> {
     #[tactic(auto, using(crate::proofs::HaltLaws::tells_any))]
     fn complete(self, alloc: Global) -> Result<String, Halt>
         requires image { IsImage self.linked.image.now }
-        ensures whole { IfOk result (λ notes. IsComplete self.entry.linked.image.now (place_in self.entry) self.entry.text.now (string_bytes notes)) }
+        ensures whole { IfOk result (λ notes.
+            IsComplete self.entry.linked.image.now (place_in self.entry) self.entry.text.now (string_bytes notes)) }
         ensures faults { Tells result (first_fault self.entry) }
         ensures cause { IfErr result (IsCaused self.entry) }
     {

@@ -2,7 +2,7 @@
 
 ghost use Rattle.std.specs.Prelude.{◌≡◌, ℕ, IfErr, IfOk, OnOk};
 ghost use Rattle.note_completion.specs.Causes.{no_level};
-ghost use Rattle.note_completion.specs.Halts.{EndsByRule, EndsDepths, IsCaused};
+ghost use Rattle.note_completion.specs.Halts.{EndsByRule, EndsDepths, IsCaused, IsDrafted};
 ghost use Rattle.note_types.specs.Records.{IsNotes};
 ghost use Rattle.pe_image.specs.Images.{IsImage};
 ghost use Rattle.rules_image.specs.Images.{FunctionHolds};
@@ -129,8 +129,8 @@ fn check_rule(alloc: Global, image: &Image, notes: &Notes) -> Result<(), Halt>
     }
 }
 
-// The levels and needs of the functions of notes.
-fn depths_of(alloc: Global, image: &Image, draft: &Draft) -> Result<Depths, Halt>
+/// The levels and needs of the functions of a draft.
+pub(crate) fn depths_of(alloc: Global, image: &Image, draft: &Draft) -> Result<Depths, Halt>
     requires image { IsImage image.now }
     requires notes { IsNotes draft.now.notes }
     ensures cause { IfErr result (EndsDepths image.now draft.now) }
@@ -147,16 +147,25 @@ fn depths_of(alloc: Global, image: &Image, draft: &Draft) -> Result<Depths, Halt
 }
 
 impl<'a> Task<'a> {
-    /// The levels and needs of the text's functions.
-    pub fn depths(self, alloc: Global) -> Result<Depths, Halt>
-        requires image { IsImage self.linked.image.now }
+    /// The draft that is filled with what the text has alone.
+    pub fn bare_draft(self, alloc: Global) -> Result<Draft, Halt>
+        ensures conditions { IfOk result (λ draft. IsNotes draft.notes) }
+        ensures drafted { IfOk result (IsDrafted self.entry) }
         ensures cause { IfErr result (IsCaused self.entry) }
     {
         let none = Found {
             levels: &[],
             needs: &[],
         };
-        let draft = self.draft(alloc, none, no_more(alloc))?;
+        self.draft(alloc, none, no_more(alloc))
+    }
+
+    /// The levels and needs of the text's functions.
+    pub fn depths(self, alloc: Global) -> Result<Depths, Halt>
+        requires image { IsImage self.linked.image.now }
+        ensures cause { IfErr result (IsCaused self.entry) }
+    {
+        let draft = self.bare_draft(alloc)?;
         depths_of(alloc, self.linked.image, &draft)
     }
 }

@@ -22,7 +22,7 @@ use type_notes::read_notes;
 
 /// A text filled up to notes, and the notes.
 #[derive(Drop)]
-pub(crate) struct Draft {
+pub struct Draft {
     pub filled: Filled,
     pub notes: Notes,
 }
@@ -45,7 +45,8 @@ pub(crate) fn printed(alloc: Global, table: &Table) -> Result<String, Halt>
 
 // The path that a key had before the lists were put in order.
 fn original(alloc: Global, filled: &Filled, path: Name) -> Result<Name, AllocError>
-    ensures { IfOk result (λ original. original ≡ original_path filled.now.functions.items filled.now.points.items filled.now.sites.items path) }
+    ensures { IfOk result (λ original.
+        original ≡ original_path filled.now.functions.items filled.now.points.items filled.now.sites.items path) }
 {
     original_path(
         alloc,
@@ -58,7 +59,8 @@ fn original(alloc: Global, filled: &Filled, path: Name) -> Result<Name, AllocErr
 
 // The same fault, by the path that its key has in the text.
 fn original_fault(alloc: Global, filled: &Filled, fault: TomlFault) -> Result<TomlFault, AllocError>
-    ensures { IfOk result (λ original. original ≡ original_fault filled.now.functions.items filled.now.points.items filled.now.sites.items fault) }
+    ensures { IfOk result (λ original.
+        original ≡ original_fault filled.now.functions.items filled.now.points.items filled.now.sites.items fault) }
 {
     Ok(match fault {
         TomlFault::NotToml => TomlFault::NotToml,
@@ -72,7 +74,8 @@ fn original_fault(alloc: Global, filled: &Filled, fault: TomlFault) -> Result<To
 
 // That notes have a fault, told of the text that they were filled from.
 fn faulty(alloc: Global, filled: &Filled, fault: TomlFault) -> Halt
-    ensures { IsToldAs (without_label (original_fault filled.now.functions.items filled.now.points.items filled.now.sites.items fault)) result }
+    ensures { IsToldAs (without_label
+        (original_fault filled.now.functions.items filled.now.points.items filled.now.sites.items fault)) result }
 {
     match original_fault(alloc, filled, fault) {
         Ok(fault) => Halt::Fault(Flaw { fault, label: None }),

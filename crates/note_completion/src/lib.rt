@@ -12,6 +12,8 @@
 //!     leaders (`IsLarge`).
 //!   - `faulty`: a fault that is no label's is one of forms, repeats or names, of values that nest too deep, of the
 //!     notes that are printed, or of calls that lead back (`HasFault`).
+//! - `stop_of`: the draft that it gives is one of the text, and meets the conditions of notes (`drafted`, `conditions`). It
+//!   goes the same steps as `complete`. No clause says that it is the draft at which `complete` ends.
 //!
 //! No clause says which levels, needs, sites and points are found. So drafts may have any, and no clause says which of
 //! the rules that fail is told.
@@ -23,9 +25,12 @@ mod depths;
 mod filling;
 mod halt;
 mod missing;
+mod stopping;
 mod task;
 
 pub use completing::complete;
 pub use completion::{Completion, Linked};
 pub use ebc_base::NoMemory;
+pub use filling::Draft;
 pub use note_filling::Flaw;
+pub use stopping::{Stop, stop_of};

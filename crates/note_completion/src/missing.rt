@@ -1,6 +1,6 @@
 //! Points and sites that a text doesn't have.
 
-ghost use Rattle.std.specs.Prelude.{IfErr};
+ghost use Rattle.std.specs.Prelude.{IfErr, IfOk};
 ghost use Rattle.note_completion.specs.Halts.{EndsUnder, IsCaused, IsDrafted};
 ghost use Rattle.note_types.specs.Records.{IsNotes};
 ghost use Rattle.pe_image.specs.Images.{IsImage};
@@ -77,8 +77,8 @@ fn found_points(alloc: Global, image: &Image, notes: &Notes) -> Result<String, H
     }
 }
 
-// The sites that notes lack, as tables of notes.
-fn found_sites(alloc: Global, image: &Image, notes: &Notes) -> Result<String, NoMemory>
+/// The sites that notes lack, as tables of notes.
+pub(crate) fn found_sites(alloc: Global, image: &Image, notes: &Notes) -> Result<String, NoMemory>
     requires image { IsImage image.now }
     requires notes { IsNotes notes.now }
 {
@@ -94,6 +94,22 @@ fn more(alloc: Global, points: &str, sites: &str) -> Result<More, NoMemory> {
 }
 
 impl<'a> Task<'a> {
+    /// The draft with these levels and needs, and with points and sites by their tables.
+    pub fn draft_with(
+        self,
+        alloc: Global,
+        depths: &Depths,
+        points: &str,
+        sites: &str,
+    ) -> Result<Draft, Halt>
+        ensures conditions { IfOk result (λ draft. IsNotes draft.notes) }
+        ensures drafted { IfOk result (IsDrafted self.entry) }
+        ensures cause { IfErr result (IsCaused self.entry) }
+    {
+        let more = more(alloc, points, sites)?;
+        self.draft(alloc, depths.found(), more)
+    }
+
     // The points that are found under a draft.
     fn points_in(self, alloc: Global, draft: &Draft) -> Result<String, Halt>
         requires image { IsImage self.linked.image.now }
@@ -109,8 +125,7 @@ impl<'a> Task<'a> {
         requires image { IsImage self.linked.image.now }
         ensures cause { IfErr result (IsCaused self.entry) }
     {
-        let more = more(alloc, "", sites)?;
-        let draft = self.draft(alloc, depths.found(), more)?;
+        let draft = self.draft_with(alloc, depths, "", sites)?;
         self.points_in(alloc, &draft)
     }
 

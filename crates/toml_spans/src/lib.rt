@@ -9,7 +9,8 @@
 //! - `position_of`: the line and the column of an offset, both from 1, exactly `position_at`. A column counts bytes.
 //!
 //! The walk goes through the text once, up to what is sought, and skips each key and value that isn't on the way there.
-//! It is for texts that a reader has read. It ends on each text, also on one that is no document.
+//! Of a table that isn't on the way it looks at brackets alone, unless the text has strings of several lines. It is for
+//! texts that a reader has read. It ends on each text, also on one that is no document.
 //!
 //! | Path | What is found |
 //! |---|---|

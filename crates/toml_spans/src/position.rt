@@ -22,7 +22,11 @@ fn line_feeds(text: &[u8]) -> usize
     ensures count { result ≡ length (filter is_line_feed text.now) }
     ensures within { result ≤ length text.now }
 {
-    text.iter().filter(|byte| **byte == b'\n').count()
+    let mut count = 0_usize;
+    for byte in text {
+        count += usize::from(*byte == b'\n');
+    }
+    count
 }
 
 // How many bytes stand after the last line feed.

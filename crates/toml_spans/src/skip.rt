@@ -2,6 +2,7 @@
 
 ghost use Rattle.std.specs.Prelude.{◌≡◌, ◌≤◌, length, slice_index};
 
+use memchr::{memchr, memmem};
 use toml_parser::bytes::{byte_at, is_bare, is_word, is_ws};
 
 /// The first byte, and 0 where there is none.
@@ -144,7 +145,10 @@ fn past_brackets(text: &[u8]) -> &[u8]
             }
             b'"' | b'\'' => rest = past_string(rest),
             b'#' => rest = past_blank(rest),
-            _ => rest = past(rest, 1),
+            _ => {
+                let letters = rest.iter().take_while(|byte| byte.is_ascii_lowercase());
+                rest = past(rest, letters.count().max(1));
+            }
         }
     }
     rest
@@ -197,4 +201,42 @@ pub(crate) fn past_pair(text: &[u8]) -> &[u8]
     ensures { length result.now ≤ length text.now }
 {
     past_value(past_spaces(past(past_key(text), 1)))
+}
+
+/// Whether a text may have a string of several lines.
+pub(crate) fn has_long_strings(text: &[u8]) -> bool {
+    memmem::find(text, b"\"\"\"").is_some() || memmem::find(text, b"'''").is_some()
+}
+
+// Whether only spaces stand before an offset on its line.
+fn begins_line(text: &[u8], at: usize) -> bool {
+    let before = text.get(..at).unwrap_or(text);
+    match before.iter().rev().find(|byte| !is_ws(**byte)) {
+        Some(byte) => *byte == b'\n',
+        None => false,
+    }
+}
+
+// Whether a header comes next, where a line begins with a bracket. An item of a list has a comma or a bracket behind it.
+fn is_header(text: &[u8]) -> bool {
+    !matches!(first(past_blank(past_brackets(text))), b',' | b']')
+}
+
+/// What follows the pairs that come next: the header behind them. The text has no string of several lines.
+pub(crate) fn past_pairs(text: &[u8]) -> &[u8]
+    ensures { length result.now ≤ length text.now }
+{
+    let mut at = 0_usize;
+    'brackets: for _ in 0..text.len() {
+        let Some(count) = memchr(b'[', past(text, at)) else {
+            return &[];
+        };
+        at = at.saturating_add(count);
+        let rest = past(text, at);
+        if begins_line(text, at) && is_header(rest) {
+            return rest;
+        }
+        at = at.saturating_add(1);
+    }
+    &[]
 }

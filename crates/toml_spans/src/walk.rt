@@ -6,7 +6,8 @@ ghost use Rattle.toml_spans.specs.Spans.{AreSpansIn, IsSpanIn};
 use crate::lists::Lists;
 use crate::path::{Step, behind_key, steps_of};
 use crate::skip::{
-    first, past, past_blank, past_comma, past_pair, past_spaces, past_value, split_key,
+    first, has_long_strings, past, past_blank, past_comma, past_pair, past_pairs, past_spaces,
+    past_value, split_key,
 };
 use crate::span::KeySpan;
 use ebc_base::NoMemory;
@@ -243,6 +244,7 @@ impl<'a> Walk<'a> {
         requires { length text.now ≤ self.now.size }
         ensures { IfOk result (λ found. IfSome found (IsSpanIn self.now.size)) }
     {
+        let is_even = !has_long_strings(text);
         let mut lists = Lists::new(self.alloc, self.path.len())?;
         let mut left = Some(self.path);
         let mut rest = past_blank(text);
@@ -257,6 +259,8 @@ impl<'a> Walk<'a> {
                 }
                 left = table.left;
                 rest = past_blank(table.rest);
+            } else if is_even && left.is_none() {
+                rest = past_pairs(rest);
             } else {
                 if let Some(owner) = self.pair(&lists, Place { left, rest })? {
                     return self.found(&lists, owner);

@@ -54,7 +54,7 @@ pub(crate) fn rule_page(answer: &Answer, rule: RuleName) -> Line {
 }
 
 /// What is said of a rule by which an answer refuses, whatever is refused.
-pub(crate) fn rule_said(answer: &Answer, rule: RuleName) -> Said {
+pub fn rule_said(answer: &Answer, rule: RuleName) -> Said {
     let mut said = Said::text(answer.alloc, sentence(rule));
     said.see = rule_page(answer, rule);
     said

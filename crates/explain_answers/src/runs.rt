@@ -2,7 +2,7 @@
 ghost use Rattle.std.specs.Prelude.{IfSome};
 ghost use Rattle.ebc_width.specs.Width.{IsWidth};
 ghost use Rattle.pair_model.specs.Binds.{AllAgree};
-ghost use Rattle.explain.specs.Drivers.{IsDriver};
+ghost use Rattle.explain_answers.specs.Drivers.{IsDriver};
 
 use crate::answer::Answer;
 use crate::driver::Driver;
@@ -218,7 +218,7 @@ fn steps_of(answer: &Answer) -> Option<u64> {
 }
 
 /// What is said of runs that are done, of which one ended otherwise than finished; nothing if the files weren't kept.
-pub(crate) fn runs_said(answer: &Answer, folder: &mut MemFolder) -> Result<Vec<Said>, NoMemory> {
+pub fn runs_said(answer: &Answer, folder: &mut MemFolder) -> Result<Vec<Said>, NoMemory> {
     let Some(steps) = steps_of(answer) else {
         return Ok(Vec::new(answer.alloc));
     };
@@ -318,11 +318,7 @@ fn of_parting(answer: &Answer, step: u64, driver: &Driver) -> Result<Said, NoMem
 }
 
 /// What is said of two runs that first differ after so many steps: of those of `twin` where they stand, if the files were kept.
-pub(crate) fn differ_said(
-    answer: &Answer,
-    step: u64,
-    folder: &mut MemFolder,
-) -> Result<Said, NoMemory> {
+pub fn differ_said(answer: &Answer, step: u64, folder: &mut MemFolder) -> Result<Said, NoMemory> {
     if answer.word(0) != "twin" {
         return Ok(parting_said(answer.alloc, step));
     }

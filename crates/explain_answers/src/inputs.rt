@@ -2,6 +2,7 @@
 ghost use Rattle.std.specs.Prelude.{◌≤◌, length};
 
 use crate::answer::Answer;
+use crate::labelled::{Labelled, completed_said};
 use crate::plans::plan_said;
 use crate::printed::PrintedFault;
 use crate::program::{Program, Slot};
@@ -233,10 +234,31 @@ fn bad_pair(
     }
 }
 
-// Of notes. Those with labels are told by the answer itself.
-fn bad_notes(answer: &Answer, file: &BadFile) -> Result<Option<Said>, NoMemory> {
+// Of notes with labels.
+fn bad_labels(
+    answer: &Answer,
+    file: &BadFile,
+    folder: &mut MemFolder,
+) -> Result<Option<Said>, NoMemory> {
+    let Some((fault, behind)) = file.fault.of_labelled(answer.alloc)? else {
+        return Ok(None);
+    };
+    let fault = &fault;
+    let labelled = Labelled::Faulty { fault, behind };
+    match completed_said(answer, labelled, folder)? {
+        Some(said) => Ok(Some(with_beginning(file.bytes, said))),
+        None => Ok(None),
+    }
+}
+
+// Of notes.
+fn bad_notes(
+    answer: &Answer,
+    file: &BadFile,
+    folder: &mut MemFolder,
+) -> Result<Option<Said>, NoMemory> {
     match answer.program {
-        Program::EbcNotes => Ok(None),
+        Program::EbcNotes => bad_labels(answer, file, folder),
         _ => toml_text_said(answer, file, TomlText::Notes),
     }
 }
@@ -254,7 +276,7 @@ fn fault_name(fault: u8) -> &'static str {
 }
 
 /// What is said of the fault of a file of which nothing more is known. The answer itself tells where notes with labels have theirs.
-pub(crate) fn number_said(answer: &Answer, number: usize, fault: u8) -> Said {
+pub fn number_said(answer: &Answer, number: usize, fault: u8) -> Said {
     let Some(slot) = answer.slot(number) else {
         return Said::text(answer.alloc, "the file isn't of its form");
     };
@@ -279,7 +301,7 @@ fn bad_file_said(
     match slot {
         Slot::Image | Slot::Image2 => bad_image(answer.alloc, file),
         Slot::Source => bad_source(answer.alloc, file),
-        Slot::Notes | Slot::Notes2 => bad_notes(answer, file),
+        Slot::Notes | Slot::Notes2 => bad_notes(answer, file, folder),
         Slot::Script | Slot::Script2 => bad_script(answer, file, folder),
         Slot::Binds => bad_pair(answer, file, folder),
         _ => Ok(None),
@@ -287,7 +309,7 @@ fn bad_file_said(
 }
 
 /// What is said of the file of a word that isn't of its form; none if nothing more is known of it.
-pub(crate) fn bad_said(
+pub fn bad_said(
     answer: &Answer,
     number: usize,
     folder: &mut MemFolder,

@@ -3,7 +3,7 @@ use Rattle.host_model.specs.Scripts.{IsScript}
 use Rattle.note_types.specs.Records.{IsNotes}
 use Rattle.pe_image.specs.Images.{IsImage}
 use Rattle.pe_image.specs.Mapped.{AreBytes}
-use Rattle.explain.specs.declared.driver.Driver.{Driver}
+use Rattle.explain_answers.specs.declared.driver.Driver.{Driver}
 
 -- the image, the notes and the script of a driver can be run
 pub record IsDriver (driver : Driver) : Type 0 where

@@ -4,8 +4,10 @@ ghost use Rattle.note_types.specs.Records.{IsNotes};
 ghost use Rattle.pe_image.specs.Images.{IsImage};
 
 use crate::answer::Answer;
+use crate::keys::add_key;
 use crate::rules::{rule_page, rule_said};
 use crate::since::add_since;
+use crate::sites::add_cause;
 use cli_base::End;
 use ebc_base::NoMemory;
 use ebc_decode::decode;
@@ -15,13 +17,13 @@ use explain_base::{Line, Said, Scene};
 use explain_checks::{Refused, check_said};
 use explain_rows::row_said;
 use file_inputs::read_as;
+use note_filling::Filled;
 use note_infer::{Inferred, infer};
 use note_types::{Notes, RuleName, State};
 use pe_image::Image;
 use point_texts::state_text;
 use state_walk::{Before, before, given};
 use std::alloc::Global;
-use toml_spans::{KeySpan, key_span, position_of};
 
 // Whether a rule looks at the state.
 fn looks_at_state(rule: RuleName) -> bool {
@@ -132,64 +134,20 @@ fn said_of(refused: &Refused) -> Result<Option<Said>, NoMemory>
     }
 }
 
-// A refused image: what was read of it and of its notes, and the text of the notes.
+/// A refused image: what was read of it and of its notes, and the text of the notes.
 #[derive(Clone, Copy)]
-struct Read<'a> {
-    image: &'a Image,
-    notes: &'a Notes,
-    text: &'a [u8],
+pub(crate) struct Read<'a> {
+    pub image: &'a Image,
+    pub notes: &'a Notes,
+    pub text: &'a [u8],
+    /// Whether the search for points refuses it, which takes no points of the notes.
+    pub infers: bool,
+    /// What the notes were read from, if the text is one of notes with labels that was filled.
+    pub filled: Option<&'a Filled>,
 }
 
-// The line of a key of the notes, which stands in their text: its place, what is said of it, and its value if that is short.
-fn key_line(answer: &Answer, text: &[u8], span: &KeySpan, said: &Said) -> Line {
-    let at = position_of(text, span.key);
-    let mut line = Line::of(answer.alloc, answer.word(2));
-    line.text(":")
-        .number(at.line)
-        .text(":")
-        .number(at.column)
-        .text(": note: ");
-    line.text(said.note).text(", ").line(&said.key);
-    let says = match text.get(span.from..span.to) {
-        Some(part) => std::str::from_utf8(part).unwrap_or("").trim_end(),
-        None => "",
-    };
-    if !says.is_empty() && says.len() <= 120 && !says.starts_with("[[") {
-        line.text(" = ").text(says);
-    }
-    line
-}
-
-// Adds the line of the key of the notes that is concerned.
-fn add_key(answer: &Answer, text: &[u8], said: &mut Said) -> Result<(), NoMemory> {
-    let Ok(toml) = std::str::from_utf8(text) else {
-        return Ok(());
-    };
-    if let Some(span) = key_span(answer.alloc, toml, said.key.as_str())? {
-        let line = key_line(answer, text, &span, said);
-        said.add_note(line);
-    }
-    Ok(())
-}
-
-// Adds what may be the cause if a native call has no site: all places behind an edit move.
-fn add_moved(notes: &Notes, place: u32, rule: RuleName, said: &mut Said) {
-    let RuleName::Site = rule else {
-        return;
-    };
-    for site in notes.site.as_slice() {
-        if site.place == place {
-            return;
-        }
-    }
-    said.add(Line::of(
-        said.what.alloc,
-        "an edit of the source moves all places behind it; ebc_notes finds them by labels: docs/LABELS.md",
-    ));
-}
-
-// What is said of an image that is refused at a place by a rule, and of what stands before the instruction there.
-fn told_of(
+/// What is said of an image that is refused at a place by a rule, and of what stands before the instruction there, with the rule's page.
+pub(crate) fn read_said(
     answer: &Answer,
     read: &Read,
     place: u32,
@@ -207,7 +165,7 @@ fn told_of(
         place,
         rule,
         at,
-        infers: answer.word(0) == "infer",
+        infers: read.infers,
     };
     let mut said = match said_of(&refused)? {
         Some(said) => said,
@@ -216,10 +174,13 @@ fn told_of(
     if let Some(at) = at {
         add_before(alloc, read.image, read.notes, at, rule, &mut said)?;
     }
-    add_moved(read.notes, place, rule, &mut said);
-    if !said.key.is_empty() {
-        add_key(answer, read.text, &mut said)?;
+    if let RuleName::Site = rule {
+        add_cause(answer, read, place, &mut said)?;
     }
+    if !said.key.is_empty() {
+        add_key(answer, read, &mut said)?;
+    }
+    said.see = rule_page(answer, rule);
     Ok(said)
 }
 
@@ -255,19 +216,22 @@ fn before_place(
     Ok(before(image, notes, place))
 }
 
-// What is said of a refused image that was read.
-fn told_read(answer: &Answer, read: &Read, place: u32, rule: RuleName) -> Result<Said, NoMemory>
-    requires image { IsImage read.now.image.now }
-    requires notes { IsNotes read.now.notes.now }
+// What was read of an image that is refused under notes without labels.
+fn image_read<'a>(image: &'a Image, notes: &'a Notes, text: &'a [u8], infers: bool) -> Read<'a>
+    ensures image { result.image.now ≡ image.now }
+    ensures notes { result.notes.now ≡ notes.now }
 {
-    let at = before_place(answer, read.image, read.notes, place)?;
-    let mut said = told_of(answer, read, place, rule, at.as_ref())?;
-    said.see = rule_page(answer, rule);
-    Ok(said)
+    Read {
+        image,
+        notes,
+        text,
+        infers,
+        filled: None,
+    }
 }
 
 /// What is said of a refusal of `check IMAGE NOTES`, or of `infer`, by the notes and their text; the rule alone if the image wasn't kept.
-pub(crate) fn image_said(
+pub fn refused_image_said(
     answer: &Answer,
     notes: &Notes,
     text: &[u8],
@@ -279,12 +243,10 @@ pub(crate) fn image_said(
 {
     match read_as::<Image, MemFolder>(answer.alloc, folder, 1, answer.word(1)) {
         Ok(image) => {
-            let read = Read {
-                image: &image,
-                notes,
-                text,
-            };
-            told_read(answer, &read, place, rule)
+            let at = before_place(answer, &image, notes, place)?;
+            let infers = answer.word(0) == "infer";
+            let read = image_read(&image, notes, text, infers);
+            read_said(answer, &read, place, rule, at.as_ref())
         }
         Err(End::NoMemory) => Err(NoMemory),
         Err(_) => Ok(rule_said(answer, rule)),
@@ -320,7 +282,7 @@ fn add_code(code: &[u8], place: u32, said: &mut Said) {
 }
 
 /// What is said of a refusal of `check CODE`; the rule alone if the file wasn't kept.
-pub(crate) fn code_said(
+pub fn refused_code_said(
     answer: &Answer,
     place: u32,
     rule: RuleName,

@@ -43,6 +43,26 @@ impl<'a> PrintedFault<'a> {
         })
     }
 
+    /// The fault of notes with labels, and what is printed behind its path; none if it is one of something else.
+    pub fn of_labelled(&self, alloc: Global) -> Result<Option<(TomlFault, &'a str)>, NoMemory> {
+        // A key of other than letters and digits stands in quotes, and has no label.
+        let (path, behind) = match self.detail.split_once(' ') {
+            Some((path, behind)) if !path.contains('"') => (path, behind),
+            Some(_) if !self.detail.ends_with('"') => {
+                self.detail.rsplit_once(' ').unwrap_or((self.detail, ""))
+            }
+            _ => (self.detail, ""),
+        };
+        let fault = PrintedFault {
+            name: self.name,
+            detail: path,
+        };
+        match fault.of_toml(alloc)? {
+            Some(fault) => Ok(Some((fault, behind))),
+            None => Ok(None),
+        }
+    }
+
     /// The fault of a source, and its line, from 1; none if it is one of something else.
     pub fn of_source(&self) -> Option<(AsmFault, u64)> {
         let fault = match self.name {

@@ -1,6 +1,6 @@
 //! The programs, and what their words stand for.
 ghost use Rattle.std.specs.Prelude.{◌≡◌};
-ghost use Rattle.explain.specs.Heads.{name_of};
+ghost use Rattle.explain_answers.specs.Words.{name_of};
 
 /// A program whose answers are explained.
 #[derive(Clone, Copy)]

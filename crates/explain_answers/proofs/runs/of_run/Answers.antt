@@ -1,4 +1,4 @@
-use Rattle.explain.proofs.runs.of_run.Goals as goal
+use Rattle.explain_answers.proofs.runs.of_run.Goals as goal
 
 pub of_named_width-requires : goal.of_named_width-requires
 of_named_width-requires c = c.in-Some.ensures

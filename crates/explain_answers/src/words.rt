@@ -133,7 +133,7 @@ fn misused(answer: &Answer, slots: &[Slot]) -> Said {
 }
 
 /// What is said of words that are no command.
-pub(crate) fn words_said(answer: &Answer) -> Said {
+pub fn words_said(answer: &Answer) -> Said {
     let mut said = match answer.slots() {
         None => unknown(answer),
         Some(slots) => misused(answer, slots),

@@ -1,4 +1,4 @@
-use Rattle.explain.proofs.runs.of_pair.Goals as goal
+use Rattle.explain_answers.proofs.runs.of_pair.Goals as goal
 
 pub of_drivers-requires-clause-a : goal.of_drivers-requires-clause-a
 of_drivers-requires-clause-a c = c.in-Some.ensures

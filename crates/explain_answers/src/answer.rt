@@ -1,7 +1,7 @@
 //! An answer that is explained.
 ghost use Rattle.std.specs.Prelude.{◌≡◌};
 ghost use Rattle.cli_base.specs.Words.{word_bytes};
-ghost use Rattle.explain.specs.Heads.{checks_code, names_objects, word_at};
+ghost use Rattle.explain_answers.specs.Words.{checks_code, names_objects, word_at};
 
 use crate::printed::PrintedFault;
 use crate::program::{Program, Slot, Use, command_slots, notes_slots};
@@ -49,6 +49,14 @@ impl<'a> Answer<'a> {
         }
     }
 
+    /// The file of the notes that are checked or completed.
+    pub(crate) fn notes_file(&self) -> &'a str {
+        match self.program {
+            Program::Ebc => self.word(2),
+            Program::EbcPlaces | Program::EbcNotes | Program::EbcLint => self.word(1),
+        }
+    }
+
     /// How many words stand before the first slot.
     pub(crate) fn skipped(&self) -> usize {
         match self.program {
@@ -58,7 +66,7 @@ impl<'a> Answer<'a> {
     }
 
     /// A word by its number, counted from 0; empty if there is none.
-    pub(crate) fn word(&self, number: usize) -> &'a str
+    pub fn word(&self, number: usize) -> &'a str
         ensures { result.now ≡ word_at (word_bytes self.now.words.now) number }
     {
         match self.words.as_slice().get(number) {
@@ -68,7 +76,7 @@ impl<'a> Answer<'a> {
     }
 
     /// Whether one of the words is a plan, which names objects.
-    pub(crate) fn names_objects(&self) -> bool
+    pub fn names_objects(&self) -> bool
         ensures { result ≡ names_objects self.now.program (word_bytes self.now.words.now) }
     {
         match self.program {
@@ -79,7 +87,7 @@ impl<'a> Answer<'a> {
     }
 
     /// Whether raw code is checked.
-    pub(crate) fn checks_code(&self) -> bool
+    pub fn checks_code(&self) -> bool
         ensures { result ≡ checks_code self.now.program (word_bytes self.now.words.now) }
     {
         match self.program {

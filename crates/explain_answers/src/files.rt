@@ -31,7 +31,7 @@ fn asked_line(answer: &Answer) -> Line {
 }
 
 /// What is said of a file that isn't there, or can't be read.
-pub(crate) fn unread_said(answer: &Answer) -> Said {
+pub fn unread_said(answer: &Answer) -> Said {
     let mut what = asked_line(answer);
     what.text(" can't be read");
     write_cause(answer, &mut what);
@@ -95,7 +95,7 @@ fn large_number(answer: &Answer, slot: Slot, word: &str) -> Line {
 }
 
 /// What is said of a file or a number that is too large, by the number of its word. The file is that which was asked for last.
-pub(crate) fn large_said(answer: &Answer, number: usize) -> Said {
+pub fn large_said(answer: &Answer, number: usize) -> Said {
     let word = answer.word(number);
     let page = match answer.program {
         Program::EbcNotes => "docs/LABELS.md, \"What is answered\"",
@@ -116,7 +116,7 @@ pub(crate) fn large_said(answer: &Answer, number: usize) -> Said {
 }
 
 /// What is said of a file that can't be written, or of output that can't.
-pub(crate) fn unwritten_said(answer: &Answer) -> Said {
+pub fn unwritten_said(answer: &Answer) -> Said {
     let (name, file) = match answer.first_of(Use::Written, "") {
         Some(place) => (place.slot.name(), place.word),
         None => ("the output", ""),

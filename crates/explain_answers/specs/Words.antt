@@ -1,0 +1,35 @@
+-- For proofs: what the words of an answer are. docs/COMMANDS.md, "Standard error".
+use Rattle.std.specs.Prelude.{ℕ, Bool, true, false, ◌&&◌, ◌==◌, List, []}
+use Rattle.std.specs.Prelude.{Option, Some, None, codes, length, slice_get}
+use Rattle.std.specs.Str.{bytes_eq}
+use Rattle.explain_answers.specs.declared.program.Program.{Program}
+use Rattle.explain_answers.specs.declared.program.Program.TheVariants as programs
+
+-- a word by its number, counted from 0; empty if there is none
+abbrev pub or_empty : Option (List ℕ) → List ℕ
+or_empty (Some word) = word
+or_empty None = []
+
+abbrev pub word_at : List (List ℕ) → ℕ → List ℕ
+word_at words number = or_empty (slice_get words number)
+
+-- the name of a program
+abbrev pub name_of : Program → List ℕ
+name_of programs.Ebc = codes "ebc"
+name_of programs.EbcPlaces = codes "ebc_places"
+name_of programs.EbcNotes = codes "ebc_notes"
+name_of programs.EbcLint = codes "ebc_lint"
+
+-- whether one of the words is a plan, whose objects may be what is at fault
+abbrev pub names_objects : Program → List (List ℕ) → Bool
+names_objects programs.Ebc words = bytes_eq (word_at words 0) (codes "link")
+names_objects programs.EbcPlaces words = false
+names_objects programs.EbcNotes words = true
+names_objects programs.EbcLint words = false
+
+-- whether raw code is checked: `check CODE`
+abbrev pub checks_code : Program → List (List ℕ) → Bool
+checks_code programs.Ebc words = bytes_eq (word_at words 0) (codes "check") && (length words == 2)
+checks_code programs.EbcPlaces words = false
+checks_code programs.EbcNotes words = false
+checks_code programs.EbcLint words = false
