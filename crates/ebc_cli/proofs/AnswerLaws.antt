@@ -1,19 +1,12 @@
 -- From a reply that was decided and put or written to the clauses of `ebc`: each holds where it does by what is known of an answer, and
 -- where the files aren't told, or there is no answer, it says nothing.
-use Rattle.std.proofs.Common.{◌≡◌, ◌≢◌, ◌⊎◌, ℕ, List, [], ◌++◌, Option, Some, None, option_map, IfSome, IfNone, IfOk, Result, Ok, inl, inr}
-use Rattle.std.proofs.Common.{append-nil, sym, ◌∙◌}
-use Rattle.ebc_outside.specs.Counts.{Rose}
-use Rattle.ebc_outside.specs.Files.{Files, AppendsPart}
-use Rattle.cli_base.specs.declared.outcome.Outcome.{Outcome}
+use Rattle.ebc_cli.proofs.Common.{◌≡◌, ◌≢◌, ℕ, List, [], ◌++◌, Option, Some, None, IfSome, IfOk, Result, Ok, inr, append-nil, sym, ◌∙◌}
+use Rattle.ebc_cli.proofs.Common.{Files, Outcome, Reply, printed, text_of, written_name, Work, IsDecided, IsReplyOf, IsReplyTo, work_of}
+use Rattle.std.proofs.Common.{◌⊎◌, option_map, IfNone, inl}
+use Rattle.ebc_outside.specs.{Counts.Rose, Files.AppendsPart}
+use Rattle.cli_base.specs.{Outcomes.IsAnswer, Outputs.SameBut, Outputs.files_left, Readings.AsksPart, Readings.MissingHasCause}
+use Rattle.ebc_cli.specs.{Answers.Answers, Answers.LeavesPart, Reads.CanBeDone}
 use Rattle.cli_base.specs.declared.outcome.Outcome.TheVariants as outcomes
-use Rattle.cli_base.specs.declared.reply.Reply.{Reply}
-use Rattle.cli_base.specs.Outcomes.{IsAnswer}
-use Rattle.cli_base.specs.Outputs.{SameBut, files_left, printed, text_of, written_name}
-use Rattle.cli_base.specs.Readings.{AsksPart, MissingHasCause}
-use Rattle.ebc_cli.specs.declared.work.Work.{Work}
-use Rattle.ebc_cli.specs.Answers.{Answers, LeavesPart}
-use Rattle.ebc_cli.specs.Reads.{CanBeDone, IsDecided}
-use Rattle.ebc_cli.specs.Works.{IsReplyOf, IsReplyTo, work_of}
 
 -- ---- what is known of an answer
 

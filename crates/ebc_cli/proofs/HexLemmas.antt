@@ -1,5 +1,6 @@
 -- Numbers in hexadecimal digits, as they are printed.
-use Rattle.std.proofs.Common.{◌≡◌, ℕ, ◌<◌, ◌^◌, ◌-◌, [], false}
+use Rattle.ebc_cli.proofs.Common.{◌≡◌, ℕ, ◌<◌, ◌^◌, ◌-◌, []}
+use Rattle.std.proofs.Common.{false}
 use Rattle.std.specs.Fmt.{digits, padded_integral, format_spec}
 use Rattle.asm_text.proofs.HexLaws.{raw16}
 use Rattle.ebc_cli.specs.RomTexts.{machine_text}

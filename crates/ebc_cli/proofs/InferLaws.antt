@@ -1,28 +1,14 @@
 -- The clauses of `ebc` on `infer`: what is found is told exactly, and the image is typed under the notes with found points.
-use Rattle.std.proofs.Common.{◌≡◌, ◌↔◌, ℕ, List, Option, refl, sym, ap, ◌∙◌, subst}
-use Rattle.ebc_outside.specs.Files.{Files}
-use Rattle.note_infer.specs.Inferred.{IsInferred, by_number, by_points, by_round, by_tables, by_verdict}
-use Rattle.note_infer.specs.Rounds.{with_points}
-use Rattle.note_infer.specs.declared.inferred.Inferred.{Inferred}
-use Rattle.note_infer.specs.declared.inferred.Inferred.TheVariants.{Points, Stuck, Many}
-use Rattle.note_types.specs.Records.{IsNotes}
-use Rattle.note_types.specs.declared.notes.Notes.{Notes}
-use Rattle.note_types.specs.declared.notes.Point.{Point}
-use Rattle.note_types.specs.declared.rule.RuleName.{RuleName}
-use Rattle.note_types.specs.declared.state.State.{State}
-use Rattle.pe_image.specs.declared.image.Image.{Image}
-use Rattle.note_infer.proofs.OneAnswer.{inferred_once}
+use Rattle.ebc_cli.proofs.Common.{◌≡◌, ◌↔◌, ℕ, List, Option, refl, sym, ap, ◌∙◌, subst, Files, Inferred, Points, Stuck, Many, IsNotes}
+use Rattle.ebc_cli.proofs.Common.{Notes, RuleName, Image, inferred_once, Typed, Outcome, Reply, IsReadImage, printed, text_of, InfersPoints}
+use Rattle.ebc_cli.proofs.Common.{inferred_reply}
+use Rattle.note_infer.specs.Inferred.{IsInferred, by_number, by_points, by_round, by_tables}
+use Rattle.note_infer.specs.{Inferred.by_verdict, Rounds.with_points}
+use Rattle.note_types.specs.declared.{notes.Point.Point, state.State.State}
 use Rattle.point_texts.specs.PrintedStates.{points_text}
-use Rattle.width_checker.specs.Typed.{Typed}
-use Rattle.cli_base.specs.declared.outcome.Outcome.{Outcome}
+use Rattle.ebc_cli.specs.Inferrings.{TellsInferred}
+use Rattle.ebc_cli.proofs.{AnswerLaws.Answered, AnswerLaws.can-be-done, AnswerLaws.replied, WorkLemmas.infer-work}
 use Rattle.cli_base.specs.declared.outcome.Outcome.TheVariants as outcomes
-use Rattle.cli_base.specs.declared.reply.Reply.{Reply}
-use Rattle.cli_base.specs.Inputs.{IsReadImage}
-use Rattle.cli_base.specs.Outputs.{printed, text_of}
-use Rattle.ebc_cli.specs.Answers.{InfersPoints}
-use Rattle.ebc_cli.specs.Inferrings.{TellsInferred, inferred_reply}
-use Rattle.ebc_cli.proofs.AnswerLaws.{Answered, can-be-done, replied}
-use Rattle.ebc_cli.proofs.WorkLemmas.{infer-work}
 
 -- ---- which answer has which outcome
 

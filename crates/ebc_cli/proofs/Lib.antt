@@ -1,3 +1,4 @@
+pub mod Common
 pub mod HexLemmas
 pub mod RomLemmas
 pub mod NumberLemmas

@@ -1,9 +1,6 @@
 -- The numbers among the words: which digits spell one within its limit.
-use Rattle.std.proofs.Common.{◌≡◌, ℕ, ◌^◌, ◌<◌, ◌≤◌, List, Some, refl, arith}
-use Rattle.std.specs.Fmt.{decimal}
+use Rattle.ebc_cli.proofs.Common.{◌≡◌, ℕ, ◌^◌, ◌<◌, ◌≤◌, List, Some, refl, arith, decimal, number_in, pair_step_limit, step_limit}
 use Rattle.note_texts.proofs.NumberRanges.{number_in-complete, number_in-sound}
-use Rattle.note_texts.specs.Numbers.{number_in}
-use Rattle.ebc_cli.specs.Inputs.{pair_step_limit, step_limit}
 
 -- a number that is read is spelled by its digits
 pub number-read : (limit : ℕ) (digits : List ℕ) (n : ℕ) → number_in 0 limit digits ≡ Some n → (digits ≡ decimal n) × (n ≤ limit)

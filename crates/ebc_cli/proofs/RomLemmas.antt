@@ -1,14 +1,12 @@
 -- What is taken out of option ROMs, and the lines of a listing.
-use Rattle.std.proofs.Common.{◌≡◌, ℕ, suc, ◌+◌, ◌-◌, ◌<◌, ◌≤◌, List, [], ◌++◌, drop, length, get_or, length-drop, drop-cons}
-use Rattle.std.proofs.Common.{append-nil, append_assoc, Ok, nat_eq, refl, sym, ap, ◌∙◌, arith}
-use Rattle.std.proofs.lemmas.Bool.Decides.{nat_tests}
+use Rattle.ebc_cli.proofs.Common.{◌≡◌, ℕ, ◌+◌, ◌-◌, ◌<◌, ◌≤◌, List, [], ◌++◌, drop, length, append-nil, append_assoc, Ok, refl, sym, ap}
+use Rattle.ebc_cli.proofs.Common.{◌∙◌, arith, rom_lines}
+use Rattle.std.proofs.{Common.suc, Common.get_or, Common.length-drop, Common.drop-cons, Common.nat_eq, lemmas.Bool.Decides.nat_tests}
 use Rattle.std.proofs.lemmas.List.{drop_all}
 use Rattle.option_rom.specs.declared.image.RomImage.{RomImage}
-use Rattle.option_rom.specs.Roms.{rom_of}
-use Rattle.option_rom.specs.Takes.{taken}
-use Rattle.option_rom.proofs.Takings.{taken_inside}
-use Rattle.option_rom.proofs.Walks.{read-rom}
-use Rattle.ebc_cli.specs.RomTexts.{last_mark, rom_line, rom_lines, rom_listing}
+use Rattle.option_rom.specs.{Roms.rom_of, Takes.taken}
+use Rattle.option_rom.proofs.{Takings.taken_inside, Walks.read-rom}
+use Rattle.ebc_cli.specs.RomTexts.{last_mark, rom_line, rom_listing}
 
 -- ---- what is taken
 

@@ -1,35 +1,21 @@
 -- The clauses of `ebc` on `twin` and `pair`: how the runs end is told exactly, and those of typed images are the same.
-use Rattle.std.proofs.Common.{◌≡◌, ◌↔◌, ℕ, List, ◌++◌, codes, Option, Some, None, append_assoc, refl, sym, ap, ◌∙◌, subst}
-use Rattle.ebc_outside.specs.Files.{Files}
-use Rattle.host_model.specs.Runs.{world_of}
-use Rattle.host_model.specs.Scripts.{IsScript}
-use Rattle.note_types.specs.Records.{IsNotes}
-use Rattle.note_types.specs.declared.notes.Notes.{Notes}
-use Rattle.note_types.specs.declared.script.Script.{Script}
+use Rattle.ebc_cli.proofs.Common.{◌≡◌, ◌↔◌, ℕ, List, ◌++◌, Option, Some, None, append_assoc, refl, sym, ap, ◌∙◌, subst, Files, IsNotes}
+use Rattle.ebc_cli.proofs.Common.{Notes, Script, Bind, Image, read-is-script, Typed, Outcome, Reply, IsReadImage, printed, text_of}
+use Rattle.ebc_cli.proofs.Common.{ReadDriver, PairsImages, TwinsImage, twin_outcome}
+use Rattle.std.proofs.Common.{codes}
+use Rattle.host_model.specs.{Runs.world_of, Scripts.IsScript}
 use Rattle.pair_host.specs.PairDiffers.{PairsDifferAt}
 use Rattle.pair_host.proofs.PairDiffering.{one_pair_differs, typed_pairs_never_differ}
-use Rattle.pair_model.specs.declared.bind.Bind.{Bind}
-use Rattle.pe_image.specs.declared.image.Image.{Image}
-use Rattle.protocol_script.proofs.RecordLaws.{read-is-script}
 use Rattle.run_texts.specs.RunTexts.{differ_line, twin_text}
 use Rattle.twin_run.specs.Differs.{DifferAt}
-use Rattle.twin_run.proofs.Differing.{one_differs}
-use Rattle.twin_run.proofs.Runs.{typed_never_differ}
+use Rattle.twin_run.proofs.{Differing.one_differs, Runs.typed_never_differ}
 use Rattle.pair_laws.proofs.Typed.{typed_pairs_are_same}
 use Rattle.pair_laws.specs.TypedPairs.{IsTypedPair}
-use Rattle.width_checker.specs.Typed.{Typed}
-use Rattle.cli_base.specs.declared.outcome.Outcome.{Outcome}
+use Rattle.ebc_cli.specs.{Answers.EndsWith, Answers.SamePairForScripts, Pairings.TellsPair, Pairings.images_of, Pairings.pair_report_text}
+use Rattle.ebc_cli.specs.{Pairings.pair_world_of, Pairings.with_script, Reads.IsReadPair, Runnings.TellsTwin, Runnings.report_text}
+use Rattle.ebc_cli.proofs.{AnswerLaws.Answered, AnswerLaws.can-be-done, AnswerLaws.replied, WorkLemmas.pairing-work}
+use Rattle.ebc_cli.proofs.WorkLemmas.{twinning-work}
 use Rattle.cli_base.specs.declared.outcome.Outcome.TheVariants as outcomes
-use Rattle.cli_base.specs.declared.reply.Reply.{Reply}
-use Rattle.cli_base.specs.Inputs.{IsReadImage}
-use Rattle.cli_base.specs.Outputs.{printed, text_of}
-use Rattle.ebc_cli.specs.declared.pairing.ReadDriver.{ReadDriver}
-use Rattle.ebc_cli.specs.Answers.{EndsWith, PairsImages, SamePairForScripts, TwinsImage}
-use Rattle.ebc_cli.specs.Pairings.{TellsPair, images_of, pair_report_text, pair_world_of, with_script}
-use Rattle.ebc_cli.specs.Reads.{IsReadPair}
-use Rattle.ebc_cli.specs.Runnings.{TellsTwin, report_text, twin_outcome}
-use Rattle.ebc_cli.proofs.AnswerLaws.{Answered, can-be-done, replied}
-use Rattle.ebc_cli.proofs.WorkLemmas.{pairing-work, twinning-work}
 
 -- ---- outcomes and last lines
 

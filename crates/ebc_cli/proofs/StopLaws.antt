@@ -1,34 +1,17 @@
 -- The clauses of `ebc` on where the work stops and how it completes, on answers with no text, and on what numbers and option ROMs are.
-use Rattle.std.proofs.Common.{◌≡◌, ◌≢◌, ◌↔◌, ◌⊎◌, ℕ, ◌<◌, ◌≤◌, ◌^◌, List, [], Option, Some, None, IfSome, IfOk, Result, Ok, Err}
-use Rattle.std.proofs.Common.{refl, sym, ap, ◌∙◌}
-use Rattle.std.specs.Fmt.{decimal}
-use Rattle.ebc_outside.specs.Files.{Files}
-use Rattle.note_infer.specs.declared.inferred.Inferred.{Inferred}
-use Rattle.note_infer.specs.declared.inferred.Inferred.TheVariants.{Points, Stuck, Many}
-use Rattle.note_texts.specs.Numbers.{number_in}
-use Rattle.note_types.specs.declared.notes.Notes.{Notes}
-use Rattle.option_rom.specs.Images.{IsRom}
-use Rattle.option_rom.specs.Roms.{FailsFirst, rom_of}
-use Rattle.option_rom.specs.declared.fault.RomFault.{RomFault}
-use Rattle.option_rom.specs.declared.image.RomImage.{RomImage}
+use Rattle.ebc_cli.proofs.Common.{◌≡◌, ◌≢◌, ◌↔◌, ℕ, ◌<◌, ◌≤◌, ◌^◌, List, [], Option, Some, None, IfSome, IfOk, Result, Ok, refl, sym, ap}
+use Rattle.ebc_cli.proofs.Common.{◌∙◌, decimal, Files, Inferred, Points, Stuck, Many, number_in, Notes, Verdict, Neutral, Refused}
+use Rattle.ebc_cli.proofs.Common.{inferred_once, Outcome, Reply, text_of, written_name, Work, command_of, output_of, inferred_reply}
+use Rattle.ebc_cli.proofs.Common.{IsDecided, twin_outcome, IsReplyOf, IsReplyTo, verdict_reply, work_of}
+use Rattle.std.proofs.Common.{◌⊎◌, Err}
+use Rattle.option_rom.specs.{Images.IsRom, Roms.FailsFirst, Roms.rom_of}
+use Rattle.option_rom.specs.declared.{fault.RomFault.RomFault, image.RomImage.RomImage}
 use Rattle.option_rom.proofs.Walks.{fault-read, read-fault, read-rom, rom-read}
-use Rattle.plain_check.specs.declared.verdict.Verdict.{Verdict}
-use Rattle.plain_check.specs.declared.verdict.Verdict.TheVariants.{Neutral, Refused}
-use Rattle.note_infer.proofs.OneAnswer.{inferred_once}
-use Rattle.cli_base.specs.declared.outcome.Outcome.{Outcome}
-use Rattle.cli_base.specs.declared.outcome.Outcome.TheVariants as outcomes
-use Rattle.cli_base.specs.declared.reply.Reply.{Reply}
-use Rattle.cli_base.specs.Outputs.{text_of, written_name}
-use Rattle.ebc_cli.specs.declared.work.Work.{Work}
-use Rattle.ebc_cli.specs.declared.work.Work.TheVariants as works
-use Rattle.ebc_cli.specs.Answers.{HasNoText, IsOutcomeOf, IsStop, StopsWith}
-use Rattle.ebc_cli.specs.Commands.{command_of, output_of}
-use Rattle.ebc_cli.specs.Inferrings.{inferred_reply}
-use Rattle.ebc_cli.specs.Reads.{CanBeDone, IsDecided}
-use Rattle.ebc_cli.specs.Runnings.{twin_outcome}
-use Rattle.ebc_cli.specs.Works.{IsReplyOf, IsReplyTo, verdict_reply, work_of}
+use Rattle.ebc_cli.specs.{Answers.HasNoText, Answers.IsOutcomeOf, Answers.IsStop, Answers.StopsWith, Reads.CanBeDone}
 use Rattle.ebc_cli.proofs.AnswerLaws.{Answered, can-be-done, names-output, replied}
 use Rattle.ebc_cli.proofs.NumberLemmas.{number-read, number-spelled}
+use Rattle.cli_base.specs.declared.outcome.Outcome.TheVariants as outcomes
+use Rattle.ebc_cli.specs.declared.work.Work.TheVariants as works
 
 -- ---- the outcomes of work
 

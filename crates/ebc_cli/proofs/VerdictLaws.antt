@@ -1,31 +1,16 @@
 -- The clauses of `ebc` on `check`: a verdict is told exactly where it holds, and a neutral image or code is the same at both widths.
-use Rattle.std.proofs.Common.{◌≡◌, ◌↔◌, ℕ, ◌≤◌, List, Option, length, refl, sym, ap, ◌∙◌, arith}
-use Rattle.ebc_outside.specs.Files.{Files}
-use Rattle.note_types.specs.declared.notes.Notes.{Notes}
-use Rattle.note_types.specs.declared.rule.RuleName.{RuleName}
-use Rattle.pe_image.specs.declared.image.Image.{Image}
-use Rattle.plain_check.specs.declared.verdict.Verdict.{Verdict}
-use Rattle.plain_check.specs.declared.verdict.Verdict.TheVariants.{Neutral, Refused}
-use Rattle.plain_check.specs.PlainRules as plain
+use Rattle.ebc_cli.proofs.Common.{◌≡◌, ◌↔◌, ℕ, ◌≤◌, List, Option, length, refl, sym, ap, ◌∙◌, arith, Files, Notes, RuleName, Image, Verdict}
+use Rattle.ebc_cli.proofs.Common.{Neutral, Refused, read-is-script, Typed, Outcome, Reply, IsReadImage, printed, text_of, IsNotes}
+use Rattle.ebc_cli.proofs.Common.{ChecksCode, ChecksImage, plain_code_limit, verdict_reply}
 use Rattle.plain_check.specs.PlainRuns.{RunsAlike}
-use Rattle.plain_check.proofs.Rules.{neutral-exactly}
-use Rattle.plain_check.proofs.Runs.{neutral-alike}
-use Rattle.protocol_script.proofs.RecordLaws.{read-is-script}
+use Rattle.plain_check.proofs.{Rules.neutral-exactly, Runs.neutral-alike}
 use Rattle.twin_run.proofs.Runs.{neutral_is_same}
-use Rattle.width_checker.specs.Typed.{Typed}
 use Rattle.width_checker.specs.Verdicts.{IsRefused}
-use Rattle.cli_base.specs.declared.outcome.Outcome.{Outcome}
-use Rattle.cli_base.specs.declared.outcome.Outcome.TheVariants as outcomes
-use Rattle.cli_base.specs.declared.reply.Reply.{Reply}
-use Rattle.cli_base.specs.Inputs.{IsReadImage}
-use Rattle.cli_base.specs.Outputs.{printed, text_of}
-use Rattle.note_types.specs.Records.{IsNotes}
-use Rattle.ebc_cli.specs.Answers.{ChecksCode, ChecksImage, SameForScripts}
-use Rattle.ebc_cli.specs.Texts.{neutral_line}
+use Rattle.ebc_cli.specs.{Answers.SameForScripts, Texts.neutral_line, Works.TellsVerdict}
 use Rattle.run_texts.specs.Refusals.{refused_line}
-use Rattle.ebc_cli.specs.Works.{TellsVerdict, plain_code_limit, verdict_reply}
-use Rattle.ebc_cli.proofs.AnswerLaws.{Answered, can-be-done, replied}
-use Rattle.ebc_cli.proofs.WorkLemmas.{code-work, image-work}
+use Rattle.ebc_cli.proofs.{AnswerLaws.Answered, AnswerLaws.can-be-done, AnswerLaws.replied, WorkLemmas.code-work, WorkLemmas.image-work}
+use Rattle.plain_check.specs.PlainRules as plain
+use Rattle.cli_base.specs.declared.outcome.Outcome.TheVariants as outcomes
 
 -- ---- verdicts
 

@@ -1,14 +1,8 @@
 -- Answers to words whose work was done.
-use Rattle.std.proofs.Common.{◌≡◌, ◌≢◌, ℕ, List, Option, Some, None, inr}
-use Rattle.ebc_outside.specs.Files.{Files}
-use Rattle.cli_base.specs.declared.outcome.Outcome.{Outcome}
-use Rattle.cli_base.specs.declared.outcome.Outcome.TheVariants as outcomes
-use Rattle.cli_base.specs.declared.reply.Reply.{Reply}
-use Rattle.cli_base.specs.Outcomes.{IsAnswer, IsWorkAnswer}
-use Rattle.cli_base.specs.Outputs.{written_name}
-use Rattle.cli_base.specs.Readings.{MissingHasCause}
+use Rattle.ebc_cli.proofs.Common.{◌≡◌, ◌≢◌, ℕ, List, Option, Some, None, inr, Files, Outcome, Reply, written_name, command_of, output_of}
+use Rattle.cli_base.specs.{Outcomes.IsAnswer, Outcomes.IsWorkAnswer, Readings.MissingHasCause}
 use Rattle.ebc_cli.specs.Reads.{AnswersWords}
-use Rattle.ebc_cli.specs.Commands.{command_of, output_of}
+use Rattle.cli_base.specs.declared.outcome.Outcome.TheVariants as outcomes
 
 work-answer : (o : Outcome) → IsWorkAnswer o → IsAnswer o
 work-answer outcomes.Done works = tt

@@ -1,8 +1,6 @@
 -- The first name that stands there again, behind names that don't.
-use Rattle.std.proofs.Common.{◌≡◌, Bool, true, false, cond, List, ℕ, [], ◌∷◌, ◌++◌, Some, None, refl, sym, ap, ◌∙◌, append_assoc}
-use Rattle.std.proofs.Common.{append-nil}
-use Rattle.ebc_base.specs.Tables.{is_named}
-use Rattle.ebc_link.specs.Symbols.{first_again}
+use Rattle.ebc_link.proofs.Common.{◌≡◌, Bool, true, false, cond, List, ℕ, [], ◌∷◌, ◌++◌, Some, None, refl, sym, ap, ◌∙◌, append_assoc}
+use Rattle.ebc_link.proofs.Common.{append-nil, is_named, first_again}
 
 -- where none of some names does, it is the first of those behind them
 pub again_behind : (before ns ms : List (List ℕ)) → first_again before ns ≡ None

@@ -1,36 +1,16 @@
 -- What the steps of linking say of the answer.
-use Rattle.std.proofs.Common.{◌≡◌, ℕ, ◌-◌, ◌^◌, ◌<◌, ◌≤◌, List, [], length, map, Option, Some, None, Result, Ok, Err, refl, sym, ap, ap₂}
-use Rattle.std.proofs.Common.{subst}
-use Rattle.std.proofs.Common.{◌∙◌, arith}
-use Rattle.std.specs.Prelude.{All, AllPairs}
-use Rattle.std.proofs.lemmas.List.{length-map}
-use Rattle.ebc_base.specs.Steps.{◌>>=◌}
-use Rattle.ebc_object.specs.Objects.{IsObject}
-use Rattle.ebc_object.specs.declared.object.Object.{Object}
-use Rattle.pe_image.specs.Conditions.{most}
-use Rattle.pe_image.specs.Images.{IsBelow}
-use Rattle.pe_image.specs.Linked.{linked_sections}
+use Rattle.ebc_link.proofs.Common.{◌≡◌, ℕ, ◌-◌, ◌^◌, ◌<◌, ◌≤◌, List, [], length, map, Option, Some, None, Result, Ok, Err, refl, sym, ap}
+use Rattle.ebc_link.proofs.Common.{ap₂, subst, ◌∙◌, arith, All, AllPairs, length-map, ◌>>=◌, IsObject, Object, most, IsBelow}
+use Rattle.ebc_link.proofs.Common.{linked_sections, Image, Section, LinkEnd, Home, LinkPlan, Resolved, Laid, code_start, contents_start}
+use Rattle.ebc_link.proofs.Common.{homes_of, laid_objects, laid_with, Definition, definitions, first_again, first_in, names_of, places_of}
+use Rattle.ebc_link.proofs.Common.{undefined_in, contents_of, far_in, filled_section, relocs_of, Entry, Fails, Far, Fault, Size, Twice}
+use Rattle.ebc_link.proofs.Common.{Undefined, entry_in, links, unless_some, ArePacked, IsResolved, defined_in, laid_in}
 use Rattle.pe_image.specs.Sizes.{IsLinkedSize}
-use Rattle.pe_image.specs.declared.image.Image.{Image}
-use Rattle.pe_image.specs.declared.image.Section.{Section}
-use Rattle.ebc_link.specs.declared.end.LinkEnd.{LinkEnd}
 use Rattle.ebc_link.specs.declared.layout.Bounds.{Bounds}
-use Rattle.ebc_link.specs.declared.layout.Home.{Home}
-use Rattle.ebc_link.specs.declared.plan.LinkPlan.{LinkPlan}
-use Rattle.ebc_link.specs.declared.resolved.Resolved.{Resolved}
-use Rattle.ebc_link.specs.Layout.{Laid, code_start, contents_from, contents_start, homes_of, laid_objects}
-use Rattle.ebc_link.specs.Layout.{laid_with, text_from}
-use Rattle.ebc_link.specs.Symbols.{Definition, definitions, first_again, first_in, names_of, places_of, undefined_in}
-use Rattle.ebc_link.specs.Fixups.{code_of, contents_of, far_in, filled_section, relocs_of}
-use Rattle.ebc_link.specs.Links.{Entry, Fails, Far, Fault, Size, Twice, Undefined, entry_in, linked_image, links, unless_some}
-use Rattle.ebc_link.specs.Walks.{ArePacked, IsBounds, IsResolved, defined_in, laid_in, resolution}
-use Rattle.ebc_link.proofs.EndLaws.{fails_first, none_where_ok}
-use Rattle.ebc_link.proofs.ImageLaws.{contents_ends, text_ends}
-use Rattle.ebc_link.proofs.LaidLaws.{length-laid}
+use Rattle.ebc_link.specs.{Layout.contents_from, Layout.text_from, Fixups.code_of, Links.linked_image, Walks.IsBounds, Walks.resolution}
 use Rattle.ebc_link.proofs.LinkLaws.{AreResolved, ends_entry, ends_far, ends_linked, ends_size, ends_twice, ends_undefined}
-use Rattle.ebc_link.proofs.OwnLaws.{code_packed, contents_packed}
-use Rattle.ebc_link.proofs.RelocLaws.{relocs_apart}
-use Rattle.ebc_link.proofs.StandLaws.{length-homes}
+use Rattle.ebc_link.proofs.{EndLaws.fails_first, EndLaws.none_where_ok, ImageLaws.contents_ends, ImageLaws.text_ends, LaidLaws.length-laid}
+use Rattle.ebc_link.proofs.{OwnLaws.code_packed, OwnLaws.contents_packed, RelocLaws.relocs_apart, StandLaws.length-homes}
 
 -- ---- names with places
 

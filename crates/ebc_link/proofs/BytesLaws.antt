@@ -1,28 +1,15 @@
 -- Which bytes stand where in the sections of an image that objects are linked to.
-use Rattle.std.proofs.Common.{◌≡◌, ℕ, suc, ◌+◌, ◌-◌, ◌<◌, ◌≤◌, ◌⊎◌, inl, ⊎_elim, Bool, true, false, cond, ◌&&◌, List}
-use Rattle.std.proofs.Common.{[], ◌∷◌, ◌++◌}
-use Rattle.std.proofs.Common.{length, drop, get_or, Some, refl, sym, ap, subst, ◌∙◌, arith, append_assoc, append-nil}
-use Rattle.std.proofs.Common.{length-append}
-use Rattle.std.specs.Prelude.{All, AllPairs, codes, nat_le, nat_lt, slice_index}
-use Rattle.std.specs.List.{Contains, find}
-use Rattle.std.specs.Option.{option_map_or}
-use Rattle.std.proofs.lemmas.Bool.Decides.{nat_tests}
-use Rattle.std.proofs.lemmas.List.{drop_all, get_or-append_right, get_or-replicate, get_or_append_left, length-replicate}
-use Rattle.std.proofs.lemmas.List.Elements.{All-head, All-tail}
-use Rattle.ebc_width.specs.Bytes.{overlaid}
+use Rattle.ebc_link.proofs.Common.{◌≡◌, ℕ, suc, ◌+◌, ◌-◌, ◌<◌, ◌≤◌, inl, ⊎_elim, Bool, true, false, cond, ◌&&◌, List, [], ◌∷◌, ◌++◌, length}
+use Rattle.ebc_link.proofs.Common.{drop, get_or, Some, refl, sym, ap, subst, ◌∙◌, arith, append_assoc, append-nil, length-append, All}
+use Rattle.ebc_link.proofs.Common.{AllPairs, codes, nat_le, nat_lt, Contains, find, option_map_or, nat_tests, drop_all, get_or-append_right}
+use Rattle.ebc_link.proofs.Common.{get_or_append_left, All-head, All-tail, overlaid, Fixup, next_place, rounded, zeros, linked_sections}
+use Rattle.ebc_link.proofs.Common.{section_if, text_sections, laid, Section, Laid, section_from, start_of, put_at, with_fixups, ArePacked}
+use Rattle.std.proofs.{Common.◌⊎◌, lemmas.List.get_or-replicate, lemmas.List.length-replicate}
+use Rattle.std.specs.Prelude.{slice_index}
 use Rattle.ebc_width.proofs.ByteLaws.{overlaid-agree}
-use Rattle.ebc_object.specs.declared.object.Fixup.{Fixup}
-use Rattle.pe_image.specs.Files.{next_place, rounded, zeros}
-use Rattle.pe_image.specs.Linked.{linked_sections, section_if, text_sections}
-use Rattle.pe_image.specs.Mapped.{has_place, laid, section_byte}
-use Rattle.pe_image.specs.declared.image.Section.{Section}
-use Rattle.ebc_link.specs.Layout.{Laid, section_from, start_of}
-use Rattle.ebc_link.specs.Fixups.{put_at, with_fixups}
-use Rattle.ebc_link.specs.Walks.{ArePacked}
-use Rattle.ebc_link.proofs.FillLaws.{put_before, put_behind, put_inside, put_length}
-use Rattle.ebc_link.proofs.FoundLaws.{first_of_all, further}
-use Rattle.ebc_link.proofs.ImageLaws.{contents_place}
-use Rattle.ebc_link.proofs.ThereLaws.{head_or_later, nowhere}
+use Rattle.pe_image.specs.Mapped.{has_place, section_byte}
+use Rattle.ebc_link.proofs.{FillLaws.put_before, FillLaws.put_behind, FillLaws.put_inside, FillLaws.put_length, FoundLaws.first_of_all}
+use Rattle.ebc_link.proofs.{FoundLaws.further, ImageLaws.contents_place, ThereLaws.head_or_later, ThereLaws.nowhere}
 
 -- ---- sections
 

@@ -1,12 +1,8 @@
 -- What an end of a part says of the whole.
-use Rattle.std.proofs.Common.{◌≡◌, List, ◌++◌, Option, Some, None, Result, Ok, Err, refl, sym, ap, subst, ◌∙◌}
-use Rattle.std.proofs.lemmas.List.{map-append}
-use Rattle.ebc_link.specs.declared.end.LinkEnd.{LinkEnd}
-use Rattle.ebc_link.specs.declared.end.LinkEnd.TheVariants as ends
-use Rattle.ebc_base.specs.Steps.{◌>>=◌}
-use Rattle.ebc_link.specs.Links.{Fails, Fault, Twice, unless_some}
-use Rattle.ebc_link.specs.Symbols.{Definition, first_again, names_of}
+use Rattle.ebc_link.proofs.Common.{◌≡◌, List, ◌++◌, Option, Some, None, Result, Ok, Err, refl, sym, ap, subst, ◌∙◌, map-append, LinkEnd}
+use Rattle.ebc_link.proofs.Common.{◌>>=◌, Fails, Fault, Twice, unless_some, Definition, first_again, names_of}
 use Rattle.ebc_link.proofs.AgainLaws.{again_among, again_behind}
+use Rattle.ebc_link.specs.declared.end.LinkEnd.TheVariants as ends
 
 -- nothing but want of memory ends what doesn't fail
 pub fails_never : {X Y : Type 0} → (e : LinkEnd) (x : X) → Fails e (Ok x) → (reading : Result Y Fault) → Fails e reading

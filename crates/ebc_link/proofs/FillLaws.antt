@@ -1,21 +1,10 @@
 -- Bytes with others over them: how many there are, and which stand where.
-use Rattle.std.proofs.Common.{◌≡◌, ℕ, ◌+◌, ◌-◌, ◌<◌, ◌≤◌, cond, List, [], ◌∷◌, ◌++◌, length, get_or, take, drop, refl, sym, ap}
-use Rattle.std.proofs.Common.{subst, ◌∙◌}
-use Rattle.std.proofs.Common.{arith, length-append, length-drop, length-take-le}
-use Rattle.std.specs.Prelude.{All, nat_eq}
-use Rattle.std.specs.Int.{w64, to_le_bytes}
-use Rattle.std.proofs.lemmas.Bool.{eq-eqb, eqb-true, ne_eqb}
-use Rattle.std.proofs.lemmas.Bool.Decides.{nat_tests}
-use Rattle.std.proofs.lemmas.List.{drop_all, drop_more, get_or-append_right, get_or-drop, get_or-take, get_or_append_left}
-use Rattle.std.proofs.lemmas.List.Elements.{All-filter, All-head, All-tail, filter_passes}
-use Rattle.ebc_width.specs.Width.{wrap64}
-use Rattle.ebc_object.specs.Objects.{IsFixup, IsObject, section_bytes, width}
-use Rattle.ebc_object.specs.declared.object.Fixup.{Fixup}
-use Rattle.ebc_object.specs.declared.object.Object.{Object}
-use Rattle.ebc_link.specs.declared.layout.Home.{Home}
-use Rattle.ebc_link.specs.Layout.{Laid}
-use Rattle.ebc_link.specs.Symbols.{Definition, places_of}
-use Rattle.ebc_link.specs.Fixups.{bytes_for, filled_section, in_section, put_at, value_of, with_fixups}
+use Rattle.ebc_link.proofs.Common.{◌≡◌, ℕ, ◌+◌, ◌-◌, ◌<◌, ◌≤◌, cond, List, [], ◌∷◌, ◌++◌, length, get_or, take, drop, refl, sym, ap, subst}
+use Rattle.ebc_link.proofs.Common.{◌∙◌, arith, length-append, All, nat_eq, w64, to_le_bytes, eqb-true, nat_tests, drop_all, drop_more}
+use Rattle.ebc_link.proofs.Common.{get_or-append_right, get_or-take, get_or_append_left, All-filter, All-head, All-tail, filter_passes}
+use Rattle.ebc_link.proofs.Common.{wrap64, IsFixup, IsObject, section_bytes, width, Fixup, Object, Home, Laid, Definition, places_of}
+use Rattle.ebc_link.proofs.Common.{bytes_for, filled_section, in_section, put_at, value_of, with_fixups}
+use Rattle.std.proofs.{Common.length-drop, Common.length-take-le, lemmas.Bool.eq-eqb, lemmas.Bool.ne_eqb, lemmas.List.get_or-drop}
 
 -- ---- bytes put over others
 

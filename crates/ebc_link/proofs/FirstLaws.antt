@@ -1,11 +1,6 @@
 -- The first thing of a list, or of objects, of which something holds, one thing more.
-use Rattle.std.proofs.Common.{◌≡◌, ℕ, ◌+◌, ◌<◌, ◌≤◌, Bool, true, false, cond, List, ◌∷◌, length, get_or, drop, Option, Some, None}
-use Rattle.std.proofs.Common.{sym, ap, ◌∙◌}
-use Rattle.std.specs.List.{find}
-use Rattle.std.specs.Option.{option_or}
-use Rattle.std.proofs.lemmas.List.{drop_all}
-use Rattle.ebc_link.specs.Layout.{Laid}
-use Rattle.ebc_link.specs.Symbols.{first_in}
+use Rattle.ebc_link.proofs.Common.{◌≡◌, ℕ, ◌+◌, ◌<◌, ◌≤◌, Bool, true, false, cond, List, ◌∷◌, length, get_or, drop, Option, Some, None, sym}
+use Rattle.ebc_link.proofs.Common.{ap, ◌∙◌, find, option_or, drop_all, Laid, first_in}
 use Rattle.ebc_link.proofs.LaidLaws.{at_hand}
 
 -- ---- in a list, by what is left of it

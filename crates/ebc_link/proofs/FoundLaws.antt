@@ -1,18 +1,9 @@
 -- What is found is there.
-use Rattle.std.proofs.Common.{◌≡◌, ℕ, zero, suc, ◌%◌, Bool, true, false, cond, ◌&&◌, List, [], ◌∷◌, length, Option, Some}
-use Rattle.std.proofs.Common.{None, refl, sym, ap}
-use Rattle.std.proofs.Common.{◌∙◌, arith, subst}
-use Rattle.std.specs.Prelude.{bytes_eq, nat_eq, nat_lt}
-use Rattle.std.specs.List.{Contains, find}
-use Rattle.std.specs.Option.{option_or}
-use Rattle.std.proofs.lemmas.Bool.{and_parts, eqb-true, ltb-true}
-use Rattle.ebc_base.proofs.Given.{some_of_map}
-use Rattle.ebc_base.proofs.TableLaws.{same_name}
-use Rattle.ebc_object.specs.declared.object.Symbol.{Symbol}
-use Rattle.ebc_link.specs.Layout.{Laid, place_in}
-use Rattle.ebc_link.specs.Symbols.{first_in, is_definition}
-use Rattle.ebc_link.specs.Links.{entry_in, is_entry}
-use Rattle.ebc_link.specs.Linked.{IsEntry}
+use Rattle.ebc_link.proofs.Common.{◌≡◌, ℕ, zero, suc, ◌%◌, Bool, true, false, cond, ◌&&◌, List, [], ◌∷◌, length, Option, Some, None, refl}
+use Rattle.ebc_link.proofs.Common.{sym, ap, ◌∙◌, arith, subst, bytes_eq, nat_eq, nat_lt, Contains, find, option_or, and_parts, eqb-true}
+use Rattle.ebc_link.proofs.Common.{Symbol, Laid, place_in, first_in, is_definition, entry_in, is_entry, IsEntry}
+use Rattle.std.proofs.lemmas.Bool.{ltb-true}
+use Rattle.ebc_base.proofs.{Given.some_of_map, TableLaws.same_name}
 
 pub further : {X : Type 0} → (y : X) (xs : List X) (x : X) → Contains xs x → Contains (y ∷ xs) x
 further y xs x (k, within, is) = (suc k, omega (arith, within), is)

@@ -1,23 +1,14 @@
 -- What symbols define for all, and the places of symbols.
-use Rattle.std.proofs.Common.{◌≡◌, ℕ, suc, ◌+◌, ◌<◌, Bool, true, false, cond, not, List, [], ◌∷◌, ◌++◌, length, get_or, map, take}
-use Rattle.std.proofs.Common.{drop}
-use Rattle.std.proofs.Common.{Option, Some, None, refl, sym, ap, ap₂, ◌∙◌, arith, append-nil}
-use Rattle.std.specs.Prelude.{bytes_eq, filter, nat_eq, slice_get, ◌&&◌, ◌||◌}
-use Rattle.std.specs.List.{find}
-use Rattle.std.specs.Option.{is_some, option_map, option_map_or}
-use Rattle.std.proofs.lemmas.List.{map-append, take-append-drop}
-use Rattle.std.proofs.lemmas.List.Concat.{flat_map-append}
-use Rattle.std.proofs.lemmas.List.Elements.{filter-append}
-use Rattle.ebc_base.specs.Steps.{only_if}
-use Rattle.ebc_base.specs.Tables.{is_named, name_number, with_name}
-use Rattle.ebc_object.specs.declared.object.Symbol.{Symbol}
-use Rattle.ebc_link.specs.declared.layout.Home.{Home}
-use Rattle.ebc_link.specs.Layout.{Laid, place_in}
-use Rattle.ebc_link.specs.Symbols.{Definition, defined_place, definition_in, definitions, definitions_in, definitions_of, is_definition}
-use Rattle.ebc_link.specs.Symbols.{first_again, is_undefined, names_of, symbol_place}
-use Rattle.ebc_link.specs.Walks.{defined_with}
-use Rattle.ebc_link.proofs.AgainLaws.{again_new, again_none, again_old}
-use Rattle.ebc_link.proofs.LaidLaws.{at_hand, taken}
+use Rattle.ebc_link.proofs.Common.{◌≡◌, ℕ, suc, ◌+◌, ◌<◌, Bool, true, false, cond, not, List, [], ◌∷◌, ◌++◌, length, get_or, map, take}
+use Rattle.ebc_link.proofs.Common.{drop, Option, Some, None, refl, sym, ap, ap₂, ◌∙◌, arith, append-nil, bytes_eq, nat_eq, slice_get, ◌&&◌}
+use Rattle.ebc_link.proofs.Common.{find, is_some, option_map, option_map_or, map-append, is_named, Symbol, Home, Laid, place_in, Definition}
+use Rattle.ebc_link.proofs.Common.{definition_in, definitions, definitions_in, definitions_of, is_definition, first_again, is_undefined}
+use Rattle.ebc_link.proofs.Common.{names_of, symbol_place}
+use Rattle.std.specs.Prelude.{filter, ◌||◌}
+use Rattle.std.proofs.lemmas.List.{take-append-drop, Concat.flat_map-append, Elements.filter-append}
+use Rattle.ebc_base.specs.{Steps.only_if, Tables.name_number, Tables.with_name}
+use Rattle.ebc_link.specs.{Symbols.defined_place, Walks.defined_with}
+use Rattle.ebc_link.proofs.{AgainLaws.again_new, AgainLaws.again_none, AgainLaws.again_old, LaidLaws.at_hand, LaidLaws.taken}
 
 -- ---- names with a place each
 

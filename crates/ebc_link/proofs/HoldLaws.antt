@@ -1,34 +1,18 @@
 -- What stands at fixups of an image that objects are linked to, its relocations, and its code and data.
-use Rattle.std.proofs.Common.{◌≡◌, ℕ, ◌+◌, ◌*◌, ◌%◌, ◌^◌, ◌<◌, ◌≤◌, ◌⊎◌, inl, inr, ⊎_elim, true, false, cond, ◌&&◌}
-use Rattle.std.proofs.Common.{List, [], ◌∷◌}
-use Rattle.std.proofs.Common.{append-nil, length, refl, sym, ap, subst, ◌∙◌, arith}
-use Rattle.std.specs.Prelude.{All, nat_eq, ℤ, pos, ◌+ℤ◌, ◌*ℤ◌, ◌-ℤ◌, int_div, int_rem}
-use Rattle.std.specs.Ordering.{int_eq}
-use Rattle.std.specs.List.{Contains, filter, flat_map}
-use Rattle.std.proofs.lemmas.Bool.{and_parts, cases_lt, eqb-true}
-use Rattle.std.proofs.lemmas.Bool.Decides.{Decides-int_eq, nat_tests}
-use Rattle.std.proofs.lemmas.Int.{ints, quot-rem}
-use Rattle.std.proofs.lemmas.List.Elements.{All-contains, Contains-append_cases, Contains-append_left, Contains-append_right}
-use Rattle.ebc_width.specs.Bytes.{little_endian}
-use Rattle.ebc_width.specs.Width.{signed_at, wrap64}
-use Rattle.ebc_object.specs.Objects.{IsFixup, IsObject, section_bytes, width}
-use Rattle.ebc_object.specs.declared.object.Fixup.{Fixup}
-use Rattle.ebc_object.specs.declared.object.Object.{Object}
-use Rattle.pe_image.specs.Linked.{linked_sections}
-use Rattle.pe_image.specs.Mapped.{laid}
-use Rattle.pe_image.specs.declared.image.Image.{Image}
-use Rattle.pe_image.specs.declared.image.Section.{Section}
-use Rattle.ebc_link.specs.declared.layout.Home.{Home}
-use Rattle.ebc_link.specs.Layout.{Laid, code_start, contents_from, contents_start, laid_objects, place_in, start_of, text_from}
-use Rattle.ebc_link.specs.Symbols.{Definition, places_of}
-use Rattle.ebc_link.specs.Fixups.{bytes_for, code_of, contents_of, counted, distance_to, holds_signed, is_address}
-use Rattle.ebc_link.specs.Fixups.{is_near, is_whole, place_of, relocs_in, relocs_of, target_of, value_of}
-use Rattle.ebc_link.specs.Linked.{Holds, IsAddress}
-use Rattle.ebc_link.specs.Linked.Holds.{address, bytes, words}
-use Rattle.ebc_link.proofs.FillLaws.{width_small}
-use Rattle.ebc_link.proofs.NumberLaws.{back_1, back_2, back_4, back_8, number_there}
-use Rattle.ebc_link.proofs.OwnLaws.{code_byte, contents_byte, fixup_byte}
-use Rattle.ebc_link.proofs.ThereLaws.{joined, kept, mapped, was_joined, was_kept, was_mapped}
+use Rattle.ebc_link.proofs.Common.{◌≡◌, ℕ, ◌+◌, ◌*◌, ◌%◌, ◌^◌, ◌<◌, ◌≤◌, inl, inr, ⊎_elim, true, false, cond, ◌&&◌, List, [], ◌∷◌}
+use Rattle.ebc_link.proofs.Common.{append-nil, length, refl, sym, ap, subst, ◌∙◌, arith, All, nat_eq, ℤ, pos, Contains, filter, flat_map}
+use Rattle.ebc_link.proofs.Common.{and_parts, cases_lt, eqb-true, nat_tests, All-contains, Contains-append_cases, Contains-append_left}
+use Rattle.ebc_link.proofs.Common.{Contains-append_right, little_endian, signed_at, wrap64, IsFixup, IsObject, section_bytes, width, Fixup}
+use Rattle.ebc_link.proofs.Common.{Object, linked_sections, laid, Image, Section, Home, Laid, code_start, contents_start, laid_objects}
+use Rattle.ebc_link.proofs.Common.{place_in, start_of, Definition, places_of, bytes_for, contents_of, holds_signed, is_address, is_near}
+use Rattle.ebc_link.proofs.Common.{place_of, relocs_in, relocs_of, target_of, value_of}
+use Rattle.std.proofs.{Common.◌⊎◌, lemmas.Bool.Decides.Decides-int_eq, lemmas.Int.ints, lemmas.Int.quot-rem}
+use Rattle.std.specs.{Prelude.◌+ℤ◌, Prelude.◌*ℤ◌, Prelude.◌-ℤ◌, Prelude.int_div, Prelude.int_rem, Ordering.int_eq}
+use Rattle.ebc_link.specs.{Layout.contents_from, Layout.text_from, Fixups.code_of, Fixups.counted, Fixups.distance_to, Fixups.is_whole}
+use Rattle.ebc_link.specs.Linked.{Holds, IsAddress, Holds.address, Holds.bytes, Holds.words}
+use Rattle.ebc_link.proofs.{FillLaws.width_small, NumberLaws.back_1, NumberLaws.back_2, NumberLaws.back_4, NumberLaws.back_8}
+use Rattle.ebc_link.proofs.{NumberLaws.number_there, OwnLaws.code_byte, OwnLaws.contents_byte, OwnLaws.fixup_byte, ThereLaws.joined}
+use Rattle.ebc_link.proofs.ThereLaws.{kept, mapped, was_joined, was_kept, was_mapped}
 
 -- ---- the sections tell the code and the data
 

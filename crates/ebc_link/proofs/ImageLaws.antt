@@ -1,36 +1,17 @@
 -- The image that objects are linked to is in the linker's layout.
-use Rattle.std.proofs.Common.{◌≡◌, ℕ, ◌+◌, ◌%◌, ◌<◌, ◌≤◌, List, [], ◌∷◌, ◌++◌, length, get_or, refl, sym, ap, subst}
-use Rattle.std.proofs.Common.{◌∙◌, arith}
-use Rattle.std.proofs.Common.{Ok, ⊎_elim}
-use Rattle.std.proofs.lemmas.Bool.{cases_lt}
+use Rattle.ebc_link.proofs.Common.{◌≡◌, ℕ, ◌+◌, ◌%◌, ◌<◌, ◌≤◌, List, [], ◌∷◌, ◌++◌, length, get_or, refl, sym, ap, subst, ◌∙◌, arith, Ok}
+use Rattle.ebc_link.proofs.Common.{⊎_elim, cases_lt, All, codes, flat_map, All-append, All-cons, All-contains, All-nil, IsObject, Object}
+use Rattle.ebc_link.proofs.Common.{most, next_place, rounded, linked_sections, section_if, text_sections, laid, Image, Section, LinkPlan}
+use Rattle.ebc_link.proofs.Common.{IsPlan, Laid, code_end, code_start, contents_end, contents_start, homes_from, homes_of, laid_objects}
+use Rattle.ebc_link.proofs.Common.{laid_with, Definition, definitions, contents_of, relocs_in, relocs_of, IsEntry, links}
 use Rattle.std.proofs.lemmas.List.{get_or_past}
-use Rattle.std.specs.Prelude.{All, codes}
-use Rattle.std.specs.List.{Any, flat_map}
-use Rattle.std.proofs.lemmas.List.Elements.{All-append, All-cons, All-contains, All-nil}
-use Rattle.ebc_object.specs.Objects.{IsObject}
-use Rattle.ebc_object.specs.declared.object.Object.{Object}
-use Rattle.pe_image.specs.Conditions.{most}
-use Rattle.pe_image.specs.Files.{file_sections, next_place, reloc_section, reloc_sections, rounded}
-use Rattle.pe_image.specs.Linked.{Has, IsLinked, linked_sections, section_if, text_sections}
-use Rattle.pe_image.specs.Mapped.{laid}
-use Rattle.pe_image.specs.declared.image.Image.{Image}
-use Rattle.pe_image.specs.declared.image.Section.{Section}
+use Rattle.std.specs.List.{Any}
+use Rattle.pe_image.specs.{Files.file_sections, Files.reloc_section, Files.reloc_sections, Linked.Has, Linked.IsLinked}
 use Rattle.pe_image.proofs.Held.{IsBytes, laid_byte}
-use Rattle.ebc_link.specs.declared.plan.LinkPlan.{LinkPlan}
-use Rattle.ebc_link.specs.Plans.{IsPlan}
-use Rattle.ebc_link.specs.Layout.{Laid, code_end, code_start, contents_end, contents_from, contents_start, homes_from, homes_of}
-use Rattle.ebc_link.specs.Layout.{laid_objects, laid_with}
-use Rattle.ebc_link.specs.Layout.{text_from}
-use Rattle.ebc_link.specs.Symbols.{Definition, definitions}
-use Rattle.ebc_link.specs.Fixups.{code_of, contents_of, relocs_in, relocs_of}
-use Rattle.ebc_link.specs.Linked.{IsEntry}
-use Rattle.ebc_link.specs.Links.{linked_image, links}
-use Rattle.ebc_link.proofs.FillLaws.{length-filled}
-use Rattle.ebc_link.proofs.FoundLaws.{entry_is}
-use Rattle.ebc_link.proofs.LaidLaws.{laid_at}
-use Rattle.ebc_link.proofs.LinkLaws.{made}
-use Rattle.ebc_link.proofs.RelocLaws.{IsRun, code_run, contents_run, relocs_apart}
-use Rattle.ebc_link.proofs.StandLaws.{Stands, length-contents, length-text, stands}
+use Rattle.ebc_link.specs.{Layout.contents_from, Layout.text_from, Fixups.code_of, Links.linked_image}
+use Rattle.ebc_link.proofs.{FillLaws.length-filled, FoundLaws.entry_is, LaidLaws.laid_at, LinkLaws.made, RelocLaws.IsRun}
+use Rattle.ebc_link.proofs.{RelocLaws.code_run, RelocLaws.contents_run, RelocLaws.relocs_apart, StandLaws.Stands, StandLaws.length-contents}
+use Rattle.ebc_link.proofs.StandLaws.{length-text, stands}
 
 -- ---- how long code and data are
 

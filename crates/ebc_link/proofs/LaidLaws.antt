@@ -1,10 +1,7 @@
 -- Objects and where they stand, by their numbers.
-use Rattle.std.proofs.Common.{◌≡◌, ℕ, zero, suc, ◌+◌, ◌<◌, List, [], ◌∷◌, ◌++◌, length, get_or, map, take, drop, refl, sym, ap, ◌∙◌}
-use Rattle.std.proofs.Common.{arith}
-use Rattle.std.proofs.lemmas.List.{drop_more, get_or-map, get_or_default, take_more}
-use Rattle.ebc_object.specs.declared.object.Object.{Object}
-use Rattle.ebc_link.specs.declared.layout.Home.{Home}
-use Rattle.ebc_link.specs.Layout.{Laid, laid_with}
+use Rattle.ebc_link.proofs.Common.{◌≡◌, ℕ, zero, suc, ◌+◌, ◌<◌, List, [], ◌∷◌, ◌++◌, length, get_or, map, take, drop, refl, sym, ap, ◌∙◌}
+use Rattle.ebc_link.proofs.Common.{arith, drop_more, get_or-map, get_or_default, Object, Home, Laid, laid_with}
+use Rattle.std.proofs.lemmas.List.{take_more}
 
 -- ---- in any list
 

@@ -1,3 +1,4 @@
+pub mod Common
 pub mod LaidLaws
 pub mod HomeLaws
 pub mod FirstLaws

@@ -1,16 +1,10 @@
 -- What objects are linked to, by the tries in their order; and back.
-use Rattle.std.proofs.Common.{◌≡◌, ℕ, ◌≤◌, ◌<◌, Bool, true, false, List, [], Option, Some, None, Result, Ok, Err, refl}
-use Rattle.std.specs.Prelude.{nat_le}
-use Rattle.std.proofs.lemmas.Bool.{le-leb, leb-true, lt-leb}
-use Rattle.ebc_base.specs.Steps.{◌>>=◌, or_else, passes}
-use Rattle.pe_image.specs.Conditions.{most}
-use Rattle.pe_image.specs.declared.image.Image.{Image}
-use Rattle.ebc_link.specs.declared.end.LinkEnd.{LinkEnd}
-use Rattle.ebc_link.specs.declared.plan.LinkPlan.{LinkPlan}
-use Rattle.ebc_link.specs.Layout.{Laid}
-use Rattle.ebc_link.specs.Symbols.{definitions, first_again, first_in, names_of, undefined_in}
-use Rattle.ebc_link.specs.Fixups.{far_in}
-use Rattle.ebc_link.specs.Links.{Entry, Fails, Far, Fault, Size, Twice, Undefined, entry_in, linked_image, links_laid, unless_some}
+use Rattle.ebc_link.proofs.Common.{◌≡◌, ℕ, ◌≤◌, ◌<◌, Bool, true, false, List, [], Option, Some, None, Result, Ok, Err, refl, nat_le}
+use Rattle.ebc_link.proofs.Common.{leb-true, ◌>>=◌, or_else, most, Image, LinkEnd, LinkPlan, Laid, definitions, first_again, first_in}
+use Rattle.ebc_link.proofs.Common.{names_of, undefined_in, far_in, Entry, Fails, Far, Fault, Size, Twice, Undefined, entry_in, unless_some}
+use Rattle.std.proofs.lemmas.Bool.{le-leb, lt-leb}
+use Rattle.ebc_base.specs.Steps.{passes}
+use Rattle.ebc_link.specs.Links.{linked_image, links_laid}
 use Rattle.ebc_link.proofs.EndLaws.{fails_first}
 
 -- ---- the first fault

@@ -1,39 +1,20 @@
 -- What objects are linked to is a linked image.
-use Rattle.std.proofs.Common.{◌≡◌, ◌≢◌, ℕ, ◌+◌, ◌^◌, ◌<◌, ◌≤◌, ⊎_elim, Bool, true, not, List, []}
-use Rattle.std.proofs.Common.{length, get_or, None}
-use Rattle.std.proofs.Common.{Some, Ok, refl, sym, ap, subst, ◌∙◌, arith}
-use Rattle.std.specs.Prelude.{All, nat_eq, slice_get}
-use Rattle.std.specs.List.{Contains, find}
-use Rattle.std.proofs.lemmas.Bool.{and_parts, cases_lt, eqb-false, not-false, not-true}
-use Rattle.std.proofs.lemmas.List.Elements.{All-contains}
+use Rattle.ebc_link.proofs.Common.{◌≡◌, ◌≢◌, ℕ, ◌+◌, ◌^◌, ◌<◌, ◌≤◌, ⊎_elim, Bool, true, not, List, [], length, get_or, None, Some, Ok, refl}
+use Rattle.ebc_link.proofs.Common.{sym, ap, subst, ◌∙◌, arith, All, nat_eq, slice_get, Contains, find, and_parts, cases_lt, eqb-false}
+use Rattle.ebc_link.proofs.Common.{not-false, not-true, All-contains, little_endian, IsFixup, IsObject, width, Fixup, Object, Symbol, most}
+use Rattle.ebc_link.proofs.Common.{laid, linked_sections, Image, LinkPlan, IsPlan, Laid, code_end, code_start, contents_end, contents_start}
+use Rattle.ebc_link.proofs.Common.{laid_objects, place_in, Definition, definitions, first_in, is_definition, places_of, symbol_place}
+use Rattle.ebc_link.proofs.Common.{contents_of, far_in, is_near, place_of, target_of, StandsAt, own_bytes, other, own, entry_in, links}
 use Rattle.std.proofs.lemmas.Option.{gets}
-use Rattle.ebc_width.specs.Bytes.{little_endian}
 use Rattle.ebc_base.proofs.Lists.{within_some}
-use Rattle.ebc_object.specs.Objects.{IsFixup, IsObject, IsSymbol, width}
-use Rattle.ebc_object.specs.declared.object.Fixup.{Fixup}
-use Rattle.ebc_object.specs.declared.object.Object.{Object}
-use Rattle.ebc_object.specs.declared.object.Symbol.{Symbol}
-use Rattle.pe_image.specs.Conditions.{most}
-use Rattle.pe_image.specs.Mapped.{laid}
-use Rattle.pe_image.specs.Linked.{linked_sections}
-use Rattle.pe_image.specs.declared.image.Image.{Image}
-use Rattle.ebc_link.specs.declared.plan.LinkPlan.{LinkPlan}
-use Rattle.ebc_link.specs.Plans.{IsPlan}
-use Rattle.ebc_link.specs.Layout.{Laid, code_end, code_start, contents_end, contents_from, contents_start, laid_objects}
-use Rattle.ebc_link.specs.Layout.{place_in}
-use Rattle.ebc_link.specs.Layout.{text_from}
-use Rattle.ebc_link.specs.Symbols.{Definition, definitions, first_in, is_definition, places_of, symbol_place}
-use Rattle.ebc_link.specs.Fixups.{code_of, contents_of, far_in, is_near, place_of, target_of}
-use Rattle.ebc_link.specs.Linked.{IsFilled, Linked, StandsAt, own_bytes}
-use Rattle.ebc_link.specs.Linked.StandsAt.{other, own}
-use Rattle.ebc_link.specs.Links.{entry_in, linked_image, links}
-use Rattle.ebc_link.proofs.FoundLaws.{entry_is, first_nowhere}
-use Rattle.ebc_link.proofs.HoldLaws.{contents_in, holds, is_there, spelled_there, text_of, was_there, with_flags}
-use Rattle.ebc_link.proofs.ImageLaws.{contents_ends, linked_layout, text_ends}
-use Rattle.ebc_link.proofs.LinkLaws.{AreResolved, made}
-use Rattle.ebc_link.proofs.OwnLaws.{code_byte, contents_byte, object_so, own_byte, stands_so, zero_between}
-use Rattle.ebc_link.proofs.StandLaws.{Stands, code_small, contents_small}
-use Rattle.ebc_link.proofs.SymbolLaws.{find_nowhere, none_mapped, stands_at, target_is}
+use Rattle.ebc_object.specs.Objects.{IsSymbol}
+use Rattle.ebc_link.specs.{Layout.contents_from, Layout.text_from, Fixups.code_of, Linked.IsFilled, Linked.Linked, Links.linked_image}
+use Rattle.ebc_link.proofs.{FoundLaws.entry_is, FoundLaws.first_nowhere, HoldLaws.contents_in, HoldLaws.holds, HoldLaws.is_there}
+use Rattle.ebc_link.proofs.{HoldLaws.spelled_there, HoldLaws.text_of, HoldLaws.was_there, HoldLaws.with_flags, ImageLaws.contents_ends}
+use Rattle.ebc_link.proofs.{ImageLaws.linked_layout, ImageLaws.text_ends, LinkLaws.AreResolved, LinkLaws.made, OwnLaws.code_byte}
+use Rattle.ebc_link.proofs.OwnLaws.{contents_byte, object_so, own_byte, stands_so, zero_between}
+use Rattle.ebc_link.proofs.{StandLaws.Stands, StandLaws.code_small, StandLaws.contents_small, SymbolLaws.find_nowhere}
+use Rattle.ebc_link.proofs.SymbolLaws.{none_mapped, stands_at, target_is}
 
 -- ---- places are small
 

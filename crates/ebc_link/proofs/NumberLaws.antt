@@ -1,16 +1,10 @@
 -- Numbers in the bytes of fixups, and the numbers that these spell.
-use Rattle.std.proofs.Common.{◌≡◌, ℕ, ◌+◌, ◌-◌, ◌%◌, ◌^◌, ◌<◌, ◌≤◌, true, cond, ◌&&◌}
-use Rattle.std.proofs.Common.{get_or, take}
-use Rattle.std.proofs.Common.{sym, ap, ◌∙◌, arith}
-use Rattle.std.specs.Prelude.{ℤ, pos, negsuc, int_le}
-use Rattle.std.specs.Int.{w64, to_le_bytes}
-use Rattle.std.proofs.lemmas.Bool.{and_parts, le-ltb, leb-true, lt-ltb}
-use Rattle.std.proofs.lemmas.List.{get_or-take}
-use Rattle.ebc_width.specs.Bytes.{little_endian, put}
-use Rattle.ebc_width.specs.Width.{signed_at, wrap64}
-use Rattle.ebc_width.proofs.ByteLaws.{little_endian-agree, little_endian-same, put-within}
-use Rattle.ebc_width.proofs.Numbers.{get_or-to_le_bytes}
-use Rattle.ebc_link.specs.Fixups.{holds_signed}
+use Rattle.ebc_link.proofs.Common.{◌≡◌, ℕ, ◌+◌, ◌-◌, ◌%◌, ◌^◌, ◌<◌, ◌≤◌, true, cond, ◌&&◌, get_or, take, sym, ap, ◌∙◌, arith, ℤ, pos, w64}
+use Rattle.ebc_link.proofs.Common.{to_le_bytes, and_parts, leb-true, get_or-take, little_endian, signed_at, wrap64, holds_signed}
+use Rattle.std.specs.Prelude.{negsuc, int_le}
+use Rattle.std.proofs.lemmas.Bool.{le-ltb, lt-ltb}
+use Rattle.ebc_width.specs.Bytes.{put}
+use Rattle.ebc_width.proofs.{ByteLaws.little_endian-agree, ByteLaws.little_endian-same, ByteLaws.put-within, Numbers.get_or-to_le_bytes}
 
 -- what the low bytes of a number spell
 pub number_there : (b : ℕ → ℕ) (place n v : ℕ) → n ≤ 8 → ((j : ℕ) → j < n → b (place + j) ≡ get_or (take n (to_le_bytes w64 v)) j 0)

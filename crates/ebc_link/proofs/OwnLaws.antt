@@ -1,35 +1,17 @@
 -- The bytes of each object where it stands in the image that objects are linked to.
-use Rattle.std.proofs.Common.{◌≡◌, ℕ, ◌+◌, ◌<◌, ◌≤◌, ◌⊎◌, inl, inr, ⊎_elim, Bool, true, false, List, [], ◌∷◌, length}
-use Rattle.std.proofs.Common.{get_or, sym, ap}
-use Rattle.std.proofs.Common.{subst, ◌∙◌, arith}
-use Rattle.std.specs.Prelude.{All, nat_eq, nat_lt}
-use Rattle.std.specs.List.{Contains, list_any}
-use Rattle.std.proofs.lemmas.Bool.{cases_lt, or_parts}
-use Rattle.std.proofs.lemmas.Bool.Decides.{nat_tests}
-use Rattle.std.proofs.lemmas.List.Elements.{All-cons, All-contains, All-head, All-nil, All-tail}
-use Rattle.std.proofs.lemmas.List.Kept.{AllPairs-filter}
-use Rattle.ebc_width.specs.Bytes.{overlaid}
+use Rattle.ebc_link.proofs.Common.{◌≡◌, ℕ, ◌+◌, ◌<◌, ◌≤◌, inl, inr, ⊎_elim, Bool, true, false, List, [], ◌∷◌, length, get_or, sym, ap}
+use Rattle.ebc_link.proofs.Common.{subst, ◌∙◌, arith, All, nat_eq, nat_lt, Contains, list_any, cases_lt, nat_tests, All-cons, All-contains}
+use Rattle.ebc_link.proofs.Common.{All-head, All-nil, All-tail, AllPairs-filter, overlaid, EndsBefore, IsFixup, IsObject, width, Fixup}
+use Rattle.ebc_link.proofs.Common.{Object, rounded, linked_sections, laid, Home, Laid, code_end, code_start, contents_end, contents_start}
+use Rattle.ebc_link.proofs.Common.{homes_from, homes_of, laid_objects, laid_with, Definition, places_of, bytes_for, contents_of}
+use Rattle.ebc_link.proofs.Common.{filled_section, in_section, own_bytes, ArePacked}
+use Rattle.std.proofs.{Common.◌⊎◌, lemmas.Bool.or_parts}
 use Rattle.ebc_width.proofs.ByteLaws.{overlaid-apart, overlaid-within}
-use Rattle.ebc_object.specs.Objects.{EndsBefore, IsFixup, IsObject, width}
-use Rattle.ebc_object.specs.declared.object.Fixup.{Fixup}
-use Rattle.ebc_object.specs.declared.object.Object.{Object}
-use Rattle.pe_image.specs.Files.{rounded}
-use Rattle.pe_image.specs.Linked.{linked_sections}
-use Rattle.pe_image.specs.Mapped.{laid}
-use Rattle.ebc_link.specs.declared.layout.Home.{Home}
-use Rattle.ebc_link.specs.Layout.{Laid, code_end, code_start, contents_end, contents_from, contents_start, homes_from, homes_of}
-use Rattle.ebc_link.specs.Layout.{laid_objects, laid_with}
-use Rattle.ebc_link.specs.Layout.{text_from}
-use Rattle.ebc_link.specs.Symbols.{Definition, places_of}
-use Rattle.ebc_link.specs.Fixups.{bytes_for, code_of, contents_of, filled_section, in_section}
-use Rattle.ebc_link.specs.Linked.{IsOutside, fills, own_bytes}
-use Rattle.ebc_link.specs.Walks.{ArePacked}
-use Rattle.ebc_link.proofs.BytesLaws.{LieIn, at_object, between_objects, filled_at, laid_linked, unfilled}
-use Rattle.ebc_link.proofs.FillLaws.{all-in_section, fixups_within, length-bytes_for, length-filled}
-use Rattle.ebc_link.proofs.ImageLaws.{contents_ends, text_ends}
-use Rattle.ebc_link.proofs.LaidLaws.{laid_at}
-use Rattle.ebc_link.proofs.StandLaws.{Stands, stands}
-use Rattle.ebc_link.proofs.ThereLaws.{kept}
+use Rattle.ebc_link.specs.{Layout.contents_from, Layout.text_from, Fixups.code_of, Linked.IsOutside, Linked.fills}
+use Rattle.ebc_link.proofs.BytesLaws.{LieIn, at_object, between_objects, filled_at, laid_linked}
+use Rattle.ebc_link.proofs.{BytesLaws.unfilled, FillLaws.all-in_section, FillLaws.fixups_within, FillLaws.length-bytes_for}
+use Rattle.ebc_link.proofs.{FillLaws.length-filled, ImageLaws.contents_ends, ImageLaws.text_ends, LaidLaws.laid_at, StandLaws.Stands}
+use Rattle.ebc_link.proofs.{StandLaws.stands, ThereLaws.kept}
 
 -- ---- objects are packed
 

@@ -1,24 +1,16 @@
 -- The names of a plan's objects, one more at a time, and the name of its entry.
-use Rattle.std.proofs.Common.{◌≡◌, ℕ, ◌+◌, ◌≤◌, ◌<◌, Bool, true, false, cond, List, [], ◌∷◌, ◌++◌, length, get_or, drop, Option, Some}
-use Rattle.std.proofs.Common.{None, Ok, Err, refl, sym, ap, subst, ◌∙◌, arith, length-append, drop_of_length-le, All}
-use Rattle.std.specs.Prelude.{◌≢◌, ◌||◌, AllPairs, IfOk, IfSome, bytes_eq, codes, not, if◌then◌else◌}
-use Rattle.std.specs.List.{list_any}
-use Rattle.std.proofs.lemmas.Bool.Decides.{not_from_Decides}
-use Rattle.std.proofs.lemmas.List.{drop_more}
-use Rattle.std.proofs.lemmas.List.Elements.{All-cons, All-nil}
-use Rattle.std.proofs.lemmas.List.Folds.{list_any-append}
-use Rattle.std.proofs.lemmas.List.Kept.{AllPairs-cons}
-use Rattle.std.proofs.lemmas.Option.{none-some}
-use Rattle.std.proofs.lemmas.Slice.Eq.{bytes_eq-Decides}
+use Rattle.ebc_link.proofs.Common.{◌≡◌, ℕ, ◌+◌, ◌≤◌, ◌<◌, Bool, true, false, cond, List, [], ◌∷◌, ◌++◌, length, get_or, drop, Option, Some}
+use Rattle.ebc_link.proofs.Common.{None, Ok, Err, refl, sym, ap, subst, ◌∙◌, arith, length-append, drop_of_length-le, All, ◌≢◌, AllPairs}
+use Rattle.ebc_link.proofs.Common.{bytes_eq, codes, not, list_any, drop_more, All-cons, All-nil, or_else, is_named, first_again}
+use Rattle.std.specs.Prelude.{◌||◌, IfOk, IfSome, if◌then◌else◌}
+use Rattle.std.proofs.lemmas.{Bool.Decides.not_from_Decides, List.Folds.list_any-append, List.Kept.AllPairs-cons}
+use Rattle.std.proofs.lemmas.{Option.none-some, Slice.Eq.bytes_eq-Decides}
 use Rattle.toml.specs.Data.{Members, as_str}
 use Rattle.note_types.specs.declared.fault.TomlFault.TheVariants.{Kind, Range, Twice}
 use Rattle.ebc_base.specs.Names.{is_name, name_of}
-use Rattle.ebc_base.specs.Steps.{or_else}
-use Rattle.ebc_base.specs.Tables.{is_named}
 use Rattle.ebc_base.proofs.Given.{ok_next, ok_some}
 use Rattle.note_texts.specs.Keys.{field, text_at, text_of}
 use Rattle.ebc_link.specs.PlanTexts.{objects_once}
-use Rattle.ebc_link.specs.Symbols.{first_again}
 
 -- ---- a name more
 

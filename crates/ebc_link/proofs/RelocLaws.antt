@@ -1,24 +1,11 @@
 -- The places of addresses ascend, each in its section.
-use Rattle.std.proofs.Common.{◌≡◌, ℕ, ◌+◌, ◌-◌, ◌<◌, ◌≤◌, ⊎_elim, List, [], ◌∷◌, ◌++◌, length, get_or}
-use Rattle.std.proofs.Common.{map, refl}
-use Rattle.std.proofs.Common.{ap, subst, ◌∙◌, arith, length-append}
-use Rattle.std.specs.Prelude.{All, AllPairs, nat_eq}
-use Rattle.std.specs.List.{filter, flat_map}
-use Rattle.std.proofs.lemmas.Bool.{and_parts, cases_lt, eqb-true}
-use Rattle.std.proofs.lemmas.List.{get_or-append_right, get_or-map, get_or_append_left, length-map}
-use Rattle.std.proofs.lemmas.List.Elements.{All-append, All-filter, All-head, All-nil, All-tail, filter_passes}
-use Rattle.std.proofs.lemmas.List.Kept.{AllPairs-filter}
-use Rattle.ebc_object.specs.Objects.{EndsBefore, IsFixup, IsObject, section_bytes, width}
-use Rattle.ebc_object.specs.declared.object.Fixup.{Fixup}
-use Rattle.ebc_object.specs.declared.object.Object.{Object}
-use Rattle.pe_image.specs.Files.{rounded}
-use Rattle.pe_image.specs.Images.{IsBelow}
-use Rattle.ebc_link.specs.declared.layout.Home.{Home}
-use Rattle.ebc_link.specs.Layout.{Laid, code_end, code_start, contents_end, contents_start, homes_from, homes_of, laid_objects, laid_with}
-use Rattle.ebc_link.specs.Layout.{start_of}
-use Rattle.ebc_link.specs.Fixups.{is_address, place_of, relocs_in, relocs_of}
-use Rattle.ebc_link.proofs.LaidLaws.{laid_at}
-use Rattle.ebc_link.proofs.StandLaws.{code_grows, contents_grow}
+use Rattle.ebc_link.proofs.Common.{◌≡◌, ℕ, ◌+◌, ◌-◌, ◌<◌, ◌≤◌, ⊎_elim, List, [], ◌∷◌, ◌++◌, length, get_or, map, refl, ap, subst, ◌∙◌}
+use Rattle.ebc_link.proofs.Common.{arith, length-append, All, AllPairs, nat_eq, filter, flat_map, and_parts, cases_lt, eqb-true}
+use Rattle.ebc_link.proofs.Common.{get_or-append_right, get_or-map, get_or_append_left, length-map, All-append, All-filter, All-head}
+use Rattle.ebc_link.proofs.Common.{All-nil, All-tail, filter_passes, AllPairs-filter, EndsBefore, IsFixup, IsObject, section_bytes, width}
+use Rattle.ebc_link.proofs.Common.{Fixup, Object, rounded, IsBelow, Home, Laid, code_end, code_start, contents_end, contents_start}
+use Rattle.ebc_link.proofs.Common.{homes_from, homes_of, laid_objects, laid_with, start_of, is_address, place_of, relocs_in, relocs_of}
+use Rattle.ebc_link.proofs.{LaidLaws.laid_at, StandLaws.code_grows, StandLaws.contents_grow}
 
 -- ---- places between two others
 

@@ -1,17 +1,8 @@
 -- The object of a number, with its home and the places of its symbols.
-use Rattle.std.proofs.Common.{◌≡◌, ℕ, ◌<◌, List, length, get_or, not, Option, sym, ap, subst, ◌∙◌, arith}
-use Rattle.std.specs.List.{find}
-use Rattle.std.specs.Option.{option_map}
-use Rattle.std.proofs.lemmas.List.{get_or_default, length-map}
-use Rattle.ebc_object.specs.Objects.{IsObject}
-use Rattle.ebc_object.specs.declared.object.Fixup.{Fixup}
-use Rattle.ebc_object.specs.declared.object.Object.{Object}
-use Rattle.ebc_link.specs.declared.layout.Home.{Home}
+use Rattle.ebc_link.proofs.Common.{◌≡◌, ℕ, ◌<◌, List, length, get_or, not, Option, sym, ap, subst, ◌∙◌, arith, find, option_map}
+use Rattle.ebc_link.proofs.Common.{get_or_default, length-map, IsObject, Fixup, Object, Home, Resolved, Definition, places_of, symbol_place}
+use Rattle.ebc_link.proofs.Common.{far_in, is_near, place_of, IsLow, IsResolved, defined_in, laid_of}
 use Rattle.ebc_link.specs.declared.piece.Piece.{Piece}
-use Rattle.ebc_link.specs.declared.resolved.Resolved.{Resolved}
-use Rattle.ebc_link.specs.Symbols.{Definition, places_of, symbol_place}
-use Rattle.ebc_link.specs.Fixups.{far_in, is_near, place_of}
-use Rattle.ebc_link.specs.Walks.{IsLow, IsResolved, defined_in, laid_of}
 use Rattle.ebc_link.proofs.LaidLaws.{IsAt, laid_at, made_at}
 
 pub is_at : (r : Resolved) (i : ℕ) (d : Object) (h : Home) → IsResolved r → i < length r.objects.now → h ≡ get_or r.homes.items i h

@@ -1,14 +1,9 @@
 -- Where objects stand: in order, each behind the ones before.
-use Rattle.std.proofs.Common.{◌≡◌, ℕ, suc, ◌+◌, ◌-◌, ◌*◌, ◌%◌, ◌≤◌, List, [], ◌∷◌, ◌++◌, length, refl, ap, ◌∙◌}
-use Rattle.std.proofs.Common.{arith, length-append}
-use Rattle.std.specs.Prelude.{All}
-use Rattle.std.proofs.lemmas.List.{length-replicate}
-use Rattle.std.proofs.lemmas.List.Elements.{All-cons, All-head, All-nil, All-tail, All-weaker}
-use Rattle.ebc_object.specs.Objects.{IsObject, most}
-use Rattle.ebc_object.specs.declared.object.Object.{Object}
-use Rattle.pe_image.specs.Files.{rounded, zeros}
-use Rattle.ebc_link.specs.declared.layout.Home.{Home}
-use Rattle.ebc_link.specs.Layout.{Laid, code_end, contents_end, homes_from, laid_with, section_from}
+use Rattle.ebc_link.proofs.Common.{◌≡◌, ℕ, suc, ◌+◌, ◌-◌, ◌*◌, ◌%◌, ◌≤◌, List, [], ◌∷◌, ◌++◌, length, refl, ap, ◌∙◌, arith, length-append}
+use Rattle.ebc_link.proofs.Common.{All, All-cons, All-head, All-nil, All-tail, IsObject, Object, rounded, zeros, Home, Laid, code_end}
+use Rattle.ebc_link.proofs.Common.{contents_end, homes_from, laid_with, section_from}
+use Rattle.std.proofs.lemmas.List.{length-replicate, Elements.All-weaker}
+use Rattle.ebc_object.specs.Objects.{most}
 use Rattle.ebc_link.proofs.LaidLaws.{laid_at}
 
 pub code_grows : (code : ℕ) (os : List Object) → code ≤ code_end code os

@@ -1,26 +1,14 @@
 -- Each symbol stands at the place that fixups take for it.
-use Rattle.std.proofs.Common.{◌≡◌, ℕ, ◌<◌, Bool, true, false, cond, not, ◌&&◌, List, [], ◌∷◌, length, get_or, Option, Some}
-use Rattle.std.proofs.Common.{None, refl, sym, ap}
-use Rattle.std.proofs.Common.{◌∙◌}
-use Rattle.std.specs.Prelude.{filter, nat_eq}
-use Rattle.std.specs.List.{Contains, find}
-use Rattle.std.specs.Option.{is_some, option_map, option_map_or}
-use Rattle.std.proofs.lemmas.Bool.{eqb-false, eqb-true}
-use Rattle.std.proofs.lemmas.List.{get_or-map}
+use Rattle.ebc_link.proofs.Common.{◌≡◌, ℕ, ◌<◌, Bool, true, false, cond, not, ◌&&◌, List, [], ◌∷◌, length, get_or, Option, Some, None, refl}
+use Rattle.ebc_link.proofs.Common.{sym, ap, ◌∙◌, nat_eq, Contains, find, is_some, option_map, option_map_or, eqb-false, eqb-true}
+use Rattle.ebc_link.proofs.Common.{get_or-map, is_named, Fixup, Symbol, Laid, place_in, Definition, definition_in, definitions}
+use Rattle.ebc_link.proofs.Common.{definitions_of, first_in, is_definition, is_undefined, names_of, places_of, symbol_place, undefined_in}
+use Rattle.ebc_link.proofs.Common.{target_of, StandsAt, other, own}
+use Rattle.std.specs.Prelude.{filter}
 use Rattle.ebc_base.proofs.TableLaws.{same_name}
-use Rattle.ebc_base.specs.Tables.{is_named}
-use Rattle.ebc_object.specs.declared.object.Fixup.{Fixup}
-use Rattle.ebc_object.specs.declared.object.Symbol.{Symbol}
-use Rattle.ebc_link.specs.Layout.{Laid, place_in}
-use Rattle.ebc_link.specs.Symbols.{Definition, defined_place, definition_in, definitions, definitions_of, first_in, is_definition}
-use Rattle.ebc_link.specs.Symbols.{is_undefined, names_of}
-use Rattle.ebc_link.specs.Symbols.{places_of, symbol_place, undefined_in}
-use Rattle.ebc_link.specs.Fixups.{target_of}
-use Rattle.ebc_link.specs.Linked.{StandsAt}
-use Rattle.ebc_link.specs.Linked.StandsAt.{other, own}
-use Rattle.ebc_link.proofs.FoundLaws.{find_some, first_nowhere}
-use Rattle.ebc_link.proofs.GlobalLaws.{found-named, is_of}
-use Rattle.ebc_link.proofs.ThereLaws.{head_or_later, nowhere, was_joined, was_kept, was_mapped}
+use Rattle.ebc_link.specs.Symbols.{defined_place}
+use Rattle.ebc_link.proofs.{FoundLaws.find_some, FoundLaws.first_nowhere, GlobalLaws.found-named, GlobalLaws.is_of, ThereLaws.head_or_later}
+use Rattle.ebc_link.proofs.ThereLaws.{nowhere, was_joined, was_kept, was_mapped}
 
 -- what a search doesn't find isn't there
 pub find_nowhere : {X : Type 0} → (p : X → Bool) (xs : List X) (x : X) → find p xs ≡ None → Contains xs x → p x ≡ false

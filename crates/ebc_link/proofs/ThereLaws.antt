@@ -1,9 +1,6 @@
 -- What is in a list that is made of another.
-use Rattle.std.proofs.Common.{◌≡◌, zero, suc, ⊎_elim, Bool, true, false, cond, List, [], ◌∷◌, ◌++◌, map}
-use Rattle.std.proofs.Common.{refl, sym, ap}
-use Rattle.std.proofs.Common.{◌∙◌, arith, subst}
-use Rattle.std.specs.List.{Contains, filter, flat_map}
-use Rattle.std.proofs.lemmas.List.Elements.{Contains-append_cases, Contains-append_left, Contains-append_right}
+use Rattle.ebc_link.proofs.Common.{◌≡◌, zero, suc, ⊎_elim, Bool, true, false, cond, List, [], ◌∷◌, ◌++◌, map, refl, sym, ap, ◌∙◌, arith}
+use Rattle.ebc_link.proofs.Common.{subst, Contains, filter, flat_map, Contains-append_cases, Contains-append_left, Contains-append_right}
 use Rattle.ebc_link.proofs.FoundLaws.{first_of_all, further}
 
 -- a list has its first, or has it among the others

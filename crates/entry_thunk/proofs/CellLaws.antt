@@ -1,24 +1,17 @@
 -- Laws of the cells below R0: one slot after the other, and what a memory has once they are stored.
-use Rattle.std.proofs.Common.{◌≡◌, ℕ, ◌+◌, ◌%◌, ◌^◌, ◌<◌, ◌≤◌, Bool, true, false, if◌then◌else◌, ◌&&◌, List, [], ◌∷◌, length, drop, get_or}
-use Rattle.std.proofs.Common.{refl, sym, ap, ap₂, ◌∙◌, arith, Option, Some, None, add-one}
+use Rattle.entry_thunk.proofs.Common.{◌≡◌, ℕ, ◌+◌, ◌%◌, ◌^◌, ◌<◌, ◌≤◌, true, false, ◌&&◌, List, length, drop, get_or, refl, sym, ap, ap₂}
+use Rattle.entry_thunk.proofs.Common.{◌∙◌, arith, None, cut_at, holds, Memory, ranges, Concrete, stored, KeepsObjects, params_bytes}
+use Rattle.entry_thunk.proofs.Common.{with_slots, params_of, with_memory, with_cells, slots_mapped}
+use Rattle.std.proofs.Common.{Bool, if◌then◌else◌, [], ◌∷◌, Option, Some, add-one}
+use Rattle.std.proofs.{Math.Path.fun_ext, Math.Seq.drop-cons, lemmas.List.drop_all, lemmas.Bool.true≢false, lemmas.Bool.and_parts}
 use Rattle.std.specs.Option.{option_and_then}
-use Rattle.std.proofs.Math.Path.{fun_ext}
-use Rattle.std.proofs.Math.Seq.{drop-cons}
-use Rattle.std.proofs.lemmas.List.{drop_all}
-use Rattle.std.proofs.lemmas.Bool.{true≢false, and_parts}
-use Rattle.ebc_width.specs.Width.{IsWidth, cut_at}
-use Rattle.ebc_width.specs.Bytes.{put}
-use Rattle.ebc_width.specs.Ranges.{Range, holds}
+use Rattle.ebc_width.specs.{Width.IsWidth, Bytes.put, Ranges.Range}
 use Rattle.ebc_width.proofs.Laws.{cut_at-mod_64}
-use Rattle.object_memory.specs.Memory.{Memory, ranges, byte_at, with_bytes, memory_after}
+use Rattle.object_memory.specs.Memory.{byte_at, with_bytes, memory_after}
 use Rattle.object_memory.proofs.Laws.{ranges-memory_after, memory_after-held, byte_at-memory_after}
-use Rattle.note_types.specs.Concrete.{Concrete, stored}
-use Rattle.note_types.specs.declared.cell.SlotKind.{SlotKind}
-use Rattle.note_types.specs.declared.notes.Param.{Param}
-use Rattle.ebc_machine.specs.States.{KeepsObjects}
-use Rattle.host_model.specs.Placements.{slot_bytes, params_bytes}
-use Rattle.host_model.specs.HostSteps.{with_slots}
-use Rattle.entry_thunk.specs.Cells.{params_of, with_memory, with_cells, slots_mapped, cells_mapped}
+use Rattle.note_types.specs.declared.{cell.SlotKind.SlotKind, notes.Param.Param}
+use Rattle.host_model.specs.Placements.{slot_bytes}
+use Rattle.entry_thunk.specs.Cells.{cells_mapped}
 
 -- ---- lists from an index on
 

@@ -1,19 +1,13 @@
 -- Laws of entering and leaving: the machine inside a function, and the frame that keeps it as it was.
-use Rattle.std.proofs.Common.{◌≡◌, ℕ, ◌+◌, ◌-◌, ◌%◌, ◌^◌, ◌<◌, ◌≤◌, true, false, List, sym, ap, ap₂, ◌∙◌, arith}
+use Rattle.entry_thunk.proofs.Common.{◌≡◌, ℕ, ◌+◌, ◌-◌, ◌%◌, ◌^◌, ◌<◌, ◌≤◌, true, false, List, sym, ap, ap₂, ◌∙◌, arith, Memory, Concrete}
+use Rattle.entry_thunk.proofs.Common.{params_bytes, inside, concrete_of, with_cells}
 use Rattle.std.specs.Prelude.{slice_set, nat_le}
-use Rattle.std.proofs.lemmas.Bool.Decides.{nat_tests}
-use Rattle.std.proofs.Math.Nat.{mod-eq_of_lt}
-use Rattle.object_memory.specs.Memory.{Memory}
-use Rattle.note_types.specs.Concrete.{Concrete, register}
+use Rattle.std.proofs.{lemmas.Bool.Decides.nat_tests, Math.Nat.mod-eq_of_lt}
+use Rattle.note_types.specs.Concrete.{register}
 use Rattle.note_types.specs.declared.notes.Param.{Param}
-use Rattle.host_model.specs.Placements.{params_bytes}
-use Rattle.host_model.specs.Values.{minus}
-use Rattle.host_model.specs.Progress.{NoCall}
-use Rattle.host_model.specs.HostSteps.{inside, frame_for}
+use Rattle.host_model.specs.{Values.minus, Progress.NoCall, HostSteps.frame_for}
 use Rattle.ebc_machine.specs.declared.Machine.{Machine}
-use Rattle.ebc_machine.specs.States.{concrete_of}
 use Rattle.callex_thunk.specs.HostFrames.{saved_of, call_of}
-use Rattle.entry_thunk.specs.Cells.{with_cells}
 use Rattle.entry_thunk.specs.Entering.{frame_of}
 
 -- a state where control is in a function, with R0 at these cells

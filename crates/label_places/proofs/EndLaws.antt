@@ -1,19 +1,14 @@
 -- The least of some ascending places above one, and the end of what begins there.
-use Rattle.std.proofs.Common.{◌≡◌, ℕ, ◌+◌, ◌-◌, ◌<◌, ◌≤◌, Bool, true, false, cond, List, [], ◌∷◌, length, get_or, map, take, drop, refl}
-use Rattle.std.proofs.Common.{sym, ◌⊎◌, ap, ◌∙◌, arith, inl, inr, All, Contains, leb, ltb, nat_eq}
-use Rattle.std.specs.Prelude.{filter, ◌&&◌, ◌||◌}
-use Rattle.std.specs.List.{list_any}
-use Rattle.std.specs.List.Sorted.{IsNonDecreasing, IsNonDecreasingBy, IsPartitionPoint}
-use Rattle.std.proofs.lemmas.Bool.{and_cases, and_from, and_left, and_parts, and_right, cases_lt, le-ltb, leb-false, leb-true}
-use Rattle.std.proofs.lemmas.Bool.{eqb-true, ltb-false, true≢false}
-use Rattle.std.proofs.lemmas.List.{get_or-drop, get_or-take, get_or_default, length-drop, length-take, take-append-drop, take_all}
-use Rattle.std.proofs.lemmas.List.Elements.{All-cons, All-nil, Contains-append_right}
-use Rattle.std.proofs.lemmas.List.Folds.{list_any-append, list_any_at, list_any_none}
-use Rattle.label_places.specs.declared.label.Label.{Label}
-use Rattle.label_places.specs.declared.label.Position.{Position}
-use Rattle.label_places.specs.Ends.{IsNext, is_in, places_in}
-use Rattle.label_places.specs.Indexes.{AreByPlace}
-use Rattle.label_places.specs.Views.{HasEnd, is_at, is_between, is_placed}
+use Rattle.label_places.proofs.Common.{◌≡◌, ◌+◌, ◌<◌, ◌≤◌, true, false, cond, List, [], ◌∷◌, length, get_or, map, take, drop, refl, sym, ap}
+use Rattle.label_places.proofs.Common.{◌∙◌, arith, All, leb, filter, ◌&&◌, get_or_default, take_all, Label, Position, AreByPlace, HasEnd}
+use Rattle.std.proofs.lemmas.Bool.{and_cases, and_from, and_left, and_parts, and_right, cases_lt, le-ltb, leb-false, leb-true, eqb-true}
+use Rattle.std.proofs.Common.{ℕ, ◌-◌, Bool, ◌⊎◌, inl, inr, Contains, ltb, nat_eq}
+use Rattle.std.proofs.lemmas.{Bool.ltb-false, Bool.true≢false, List.get_or-drop, List.get_or-take}
+use Rattle.std.proofs.lemmas.List.{length-drop, length-take, take-append-drop, Elements.All-cons}
+use Rattle.std.proofs.lemmas.List.{Elements.All-nil, Elements.Contains-append_right, Folds.list_any-append}
+use Rattle.std.proofs.lemmas.List.Folds.{list_any_at, list_any_none}
+use Rattle.std.specs.{Prelude.◌||◌, List.list_any, List.Sorted.IsNonDecreasing, List.Sorted.IsNonDecreasingBy, List.Sorted.IsPartitionPoint}
+use Rattle.label_places.specs.{Ends.IsNext, Ends.is_in, Ends.places_in, Views.is_at, Views.is_between, Views.is_placed}
 
 -- the values before number k have a key that isn't above a place, and the others have one that is
 abbrev pub Parts : {X : Type 0} → (X → ℕ) → List X → ℕ → ℕ → Type 0

@@ -1,15 +1,11 @@
 -- The labels of objects, one object or one symbol more.
-use Rattle.std.proofs.Common.{◌≡◌, ℕ, ◌+◌, ◌<◌, ◌≤◌, List, [], ◌∷◌, ◌++◌, length, get_or, map, take, drop, sym, ap, ◌∙◌}
-use Rattle.std.proofs.Common.{append-nil, append_assoc}
-use Rattle.std.specs.Prelude.{filter}
-use Rattle.std.proofs.lemmas.List.{map-append, drop_all}
-use Rattle.std.proofs.lemmas.List.Elements.{filter-append}
+use Rattle.label_places.proofs.Common.{◌≡◌, ◌+◌, ◌<◌, ◌≤◌, List, [], ◌∷◌, ◌++◌, length, get_or, map, take, drop, sym, ap, ◌∙◌, append-nil}
+use Rattle.label_places.proofs.Common.{append_assoc, filter, map-append, filter-append, taken, Label, labels_from, labels_in}
+use Rattle.std.proofs.{Common.ℕ, lemmas.List.drop_all}
 use Rattle.ebc_object.specs.declared.object.Symbol.{Symbol}
 use Rattle.ebc_link.specs.declared.layout.Home.{Home}
 use Rattle.ebc_link.specs.Layout.{Laid}
-use Rattle.ebc_link.proofs.LaidLaws.{taken}
-use Rattle.label_places.specs.declared.label.Label.{Label}
-use Rattle.label_places.specs.Labels.{is_label, label_in, labels_from, labels_in}
+use Rattle.label_places.specs.Labels.{is_label, label_in}
 
 -- one symbol more
 pub labels-more : (object : ℕ) (h : Home) (symbols : List Symbol) (i : ℕ) (s : Symbol) → i < length symbols → s ≡ get_or symbols i s

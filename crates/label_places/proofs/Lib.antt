@@ -1,3 +1,4 @@
+pub mod Common
 pub mod LabelLaws
 pub mod EndLaws
 pub mod SoughtLaws

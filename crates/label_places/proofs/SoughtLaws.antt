@@ -1,23 +1,15 @@
 -- The only position that is meant, one position more, and the only label of a name.
-use Rattle.std.proofs.Common.{◌≡◌, ℕ, ◌+◌, ◌<◌, Bool, true, false, cond, List, [], ◌∷◌, ◌++◌, length, get_or, take, drop, refl, sym, ap}
-use Rattle.std.proofs.Common.{◌∙◌}
-use Rattle.std.proofs.Common.{append-nil, Global, Option, Some, None, String, Vec, ◌≤◌}
-use Rattle.std.specs.Prelude.{bytes_eq, filter, map, ◌&&◌, Result, Ok, Err}
-use Rattle.std.proofs.lemmas.Slice.Eq.{bytes_eq-Decides}
-use Rattle.std.specs.BTreeMap.{BTreeMap, get_by_text}
+use Rattle.label_places.proofs.Common.{◌≡◌, ◌+◌, ◌<◌, true, false, cond, List, [], ◌∷◌, ◌++◌, length, get_or, take, drop, refl, sym, ap}
+use Rattle.label_places.proofs.Common.{◌∙◌, append-nil, ◌≤◌, filter, map, ◌&&◌, filter-append, or_else, taken, Label, Position, Unknown}
+use Rattle.label_places.proofs.Common.{AreByName, is_meant_in, only_in, the_only}
+use Rattle.std.proofs.Common.{ℕ, Bool, Global, Option, Some, None, String, Vec}
+use Rattle.std.proofs.lemmas.{Slice.Eq.bytes_eq-Decides, List.take-append-drop}
+use Rattle.std.specs.{Prelude.bytes_eq, Prelude.Result, Prelude.Ok, Prelude.Err, BTreeMap.BTreeMap, BTreeMap.get_by_text}
 use Rattle.std.specs.Option.{option_map_or}
-use Rattle.std.proofs.lemmas.List.{take-append-drop}
-use Rattle.std.proofs.lemmas.List.Elements.{filter-append}
-use Rattle.ebc_base.specs.Steps.{or_else}
-use Rattle.ebc_link.proofs.LaidLaws.{at_hand, taken}
-use Rattle.label_places.specs.declared.label.Label.{Label}
-use Rattle.label_places.specs.declared.label.Position.{Position}
-use Rattle.label_places.specs.declared.seeking.NotFound.{NotFound}
-use Rattle.label_places.specs.declared.seeking.NotFound.TheVariants.{Unknown, Several}
-use Rattle.label_places.specs.References.{LabelReference}
-use Rattle.label_places.specs.Sought.{is_meant, only, position_of}
-use Rattle.label_places.specs.Indexes.{AreByName, positions_of}
-use Rattle.label_places.specs.Views.{is_meant_in, meant_so_far, only_in, the_only}
+use Rattle.ebc_link.proofs.LaidLaws.{at_hand}
+use Rattle.label_places.specs.declared.seeking.NotFound.{NotFound, TheVariants.Several}
+use Rattle.label_places.specs.{References.LabelReference, Sought.is_meant, Sought.only, Sought.position_of, Indexes.positions_of}
+use Rattle.label_places.specs.Views.{meant_so_far}
 
 first : (ls : List Position) (l : Position) → the_only ls ≡ Err Unknown → the_only (ls ++ l ∷ []) ≡ Ok l
 first [] l none = refl

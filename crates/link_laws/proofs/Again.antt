@@ -11,19 +11,17 @@ use Rattle.ebc_asm.specs.Symbols.{flag}
 use Rattle.ebc_asm.proofs.LineSteps.{apart_in}
 use Rattle.ebc_link.specs.Fixups.{code_of, is_address, relocs_in}
 use Rattle.link_laws.specs.Laws.{ListsAgain}
-use Rattle.link_laws.proofs.Faultless.{IsEntrySymbol, linked, sole_entry, sole_far, sole_twice, sole_undefined}
-use Rattle.link_laws.proofs.Filling.{IsReloc, IsSection, StandsAt, section_again, stands_at}
-use Rattle.link_laws.proofs.FixupWalk.{AreNamed, in_range, named_some, with_target}
 use Rattle.link_laws.proofs.Listings.{IsShown, all_lines, all_of_lines, data_place, data_placed, entry_labelled, listing_object}
-use Rattle.link_laws.proofs.Listings.{text_placed}
-use Rattle.link_laws.proofs.Lists.{all_map, all_members, all_of, drop_map, each_of, each_of_both, keep_map, map_twice}
 use Rattle.link_laws.proofs.Objects.{code_agrees, code_fixups, code_is, contents_agree, contents_fixups, contents_is, object_is}
-use Rattle.link_laws.proofs.Objects.{reloc_fixup}
 use Rattle.link_laws.proofs.Relocs.{IsHome, Within, are_low, are_named, are_uncut, code_bytes, contents_bytes, count_relocs, homes}
+use Rattle.link_laws.proofs.Faultless.{IsEntrySymbol, linked, sole_entry, sole_far, sole_twice, sole_undefined}
+use Rattle.link_laws.proofs.Lists.{all_map, all_members, all_of, drop_map, each_of, each_of_both, keep_map, map_twice}
 use Rattle.link_laws.proofs.Relocs.{label_inside, laid_code, laid_data, relocs_parted, section_inside, whole_code, whole_data}
-use Rattle.link_laws.proofs.{Bodies.IsLabelled, Bodies.named_inside, Bodies.target_labelled, Counts.names_few_in, Entries.entry_global}
-use Rattle.link_laws.proofs.{Lines.place_in_line, Names.IsLabel, Names.names_are, OneImage.image_again, OneImage.sole, OneImage.sole_laid}
-use Rattle.link_laws.proofs.{SectionLaws.Agree, Sources.fixup_at, Sources.source, Standing.IsPlaced}
+use Rattle.link_laws.proofs.Filling.{IsReloc, IsSection, StandsAt, section_again, stands_at}
+use Rattle.link_laws.proofs.{FixupWalk.AreNamed, FixupWalk.in_range, FixupWalk.named_some, FixupWalk.with_target, Listings.text_placed}
+use Rattle.link_laws.proofs.{Objects.reloc_fixup, Bodies.IsLabelled, Bodies.named_inside, Bodies.target_labelled, Counts.names_few_in}
+use Rattle.link_laws.proofs.{Entries.entry_global, Lines.place_in_line, Names.IsLabel, Names.names_are, OneImage.image_again, OneImage.sole}
+use Rattle.link_laws.proofs.{OneImage.sole_laid, SectionLaws.Agree, Sources.fixup_at, Sources.source, Standing.IsPlaced}
 use Rattle.ebc_link.specs.Fixups as fixups
 
 -- ---- an image whose listing is linked again

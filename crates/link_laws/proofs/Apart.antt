@@ -2,8 +2,7 @@
 use Rattle.link_laws.proofs.Common.{◌≡◌, ◌⊎◌, inl, inr, ⊎_elim, ℕ, ◌+◌, ◌≤◌, List, [], ◌∷◌, length, get_or, sym, ap, subst, ◌∙◌, arith}
 use Rattle.link_laws.proofs.Common.{AllPairs, AllByRecursion, Contains, All-from_recursion, Object, rounded, Laid, code_end, code_start}
 use Rattle.link_laws.proofs.Common.{contents_start, homes_from, homes_of, laid_objects, laid_with}
-use Rattle.std.proofs.Common.{subst₂}
-use Rattle.std.proofs.lemmas.{Bool.cases_order, List.get_or_default, List.Kept.AllPairs-cons}
+use Rattle.std.proofs.{Common.subst₂, lemmas.Bool.cases_order, lemmas.List.get_or_default, lemmas.List.Kept.AllPairs-cons}
 use Rattle.ebc_link.proofs.StandLaws.{code_grows}
 use Rattle.link_laws.proofs.Lists.{each_of}
 

@@ -10,8 +10,8 @@ use Rattle.link_laws.proofs.Common.{homes_from, homes_of, laid_objects, laid_wit
 use Rattle.ebc_object.specs.Objects.{IsFixup, section_bytes}
 use Rattle.ebc_asm.proofs.{FixupLaws.AreFixups, FixupLaws.are_fixups, StateLaws.Knows}
 use Rattle.ebc_link.specs.Linked.{IsAddress}
-use Rattle.link_laws.proofs.Apart.{IsBefore, IsInside, behind_code, laid_apart, laid_inside}
-use Rattle.link_laws.proofs.{Lists.each_of, Sources.ends_at, Sources.fixups_append}
+use Rattle.link_laws.proofs.{Apart.IsBefore, Apart.IsInside, Apart.behind_code, Apart.laid_apart, Apart.laid_inside, Lists.each_of}
+use Rattle.link_laws.proofs.Sources.{ends_at, fixups_append}
 use Rattle.asm_text.specs.Statements as statements
 
 -- ---- fixups beside a line of the code

@@ -4,10 +4,10 @@ use Rattle.link_laws.proofs.Common.{◌||◌, refl, ap, arith, length-append, le
 use Rattle.link_laws.proofs.Common.{nat_tests, length-map, IsBytes, Listed, listed_line, names_in_lines, Image, item_at, label_lines}
 use Rattle.link_laws.proofs.Common.{labels, lines_from, named}
 use Rattle.ebc_asm.proofs.CountLaws.{names_in_line}
-use Rattle.link_laws.proofs.FixupWalk.{AreNamed, AreWhole, in_range, section_uses, target_use, use_at, uses_from, with_target}
-use Rattle.link_laws.proofs.Listings.{IsShown, all_lines, code_lines, data_lines, data_place}
-use Rattle.link_laws.proofs.{ItemLaws.line_bytes, Bodies.AreLow, Bodies.IsBody, Bodies.is_body, Bodies.item_body, Walks.IsStep, Walks.walk}
-use Rattle.link_laws.proofs.Sources.{source}
+use Rattle.link_laws.proofs.FixupWalk.{AreNamed, AreWhole, in_range, section_uses, target_use}
+use Rattle.link_laws.proofs.{FixupWalk.use_at, FixupWalk.uses_from, FixupWalk.with_target, Listings.IsShown, Listings.all_lines}
+use Rattle.link_laws.proofs.{Listings.code_lines, Listings.data_lines, Listings.data_place, ItemLaws.line_bytes, Bodies.AreLow}
+use Rattle.link_laws.proofs.{Bodies.IsBody, Bodies.is_body, Bodies.item_body, Walks.IsStep, Walks.walk, Sources.source}
 use Rattle.asm_text.specs.declared.listing.Listed.TheVariants as listed
 
 -- ---- names of labels, and names that are used

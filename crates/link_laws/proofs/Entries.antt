@@ -4,8 +4,8 @@ use Rattle.link_laws.proofs.Common.{arith, length-drop, subst, nat_eq, list_any,
 use Rattle.link_laws.proofs.Common.{list_any-append, Listed, label_text, listed_line, same_bytes, Image, is_inside, item_at, label_lines}
 use Rattle.link_laws.proofs.Common.{labels}
 use Rattle.ebc_asm.specs.Symbols.{makes_global}
-use Rattle.link_laws.proofs.PlaceLaws.{AreUncut, behind_item, cut_is, uncut_item}
-use Rattle.link_laws.proofs.Listings.{IsShown, all_lines, code_lines, data_lines, data_place, entry_labelled}
+use Rattle.link_laws.proofs.{PlaceLaws.AreUncut, PlaceLaws.behind_item, PlaceLaws.cut_is, PlaceLaws.uncut_item, Listings.IsShown}
+use Rattle.link_laws.proofs.Listings.{all_lines, code_lines, data_lines, data_place, entry_labelled}
 use Rattle.link_laws.proofs.{Walks.IsStep, Walks.walk, Sources.source}
 use Rattle.asm_text.specs.declared.listing.Listed.TheVariants as listed
 

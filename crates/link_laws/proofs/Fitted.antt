@@ -8,8 +8,8 @@ use Rattle.asm_text.specs.declared.{form.Form.Form, directive.Directive.Directiv
 use Rattle.asm_text.specs.Mnemonics.{FormFits, arith_of, bits_at, call_end, call_form, cmp_of, compare_form, compare_imm_form, cond_of}
 use Rattle.asm_text.specs.Mnemonics.{form_of, jump_end, jump_form, long_at, move_form, move_imm_form, move_imm_letters, move_letters}
 use Rattle.asm_text.specs.Mnemonics.{other_form, relative_letter, signed_form, size_at, stem_form, stem_of, wide_of}
-use Rattle.asm_text.specs.Splits.{trim, trim_front, until, without_comment, is_empty, word_part}
 use Rattle.asm_text.specs.Statements.{Statement, directed, directive_of, instruction, name, starts_point, statement_of}
+use Rattle.asm_text.specs.Splits.{trim, trim_front, until, without_comment, is_empty, word_part}
 use Rattle.asm_text.specs.{Faults.both, Instructions.insn_in, Instructions.insn_of, Lines.line_in, Lines.parted, Lines.statement_in}
 use Rattle.asm_text.proofs.Fitting.{any_ok, insn_fits, kept_both, kept_made}
 use Rattle.ebc_insn.specs.declared.Size.TheVariants as sizes

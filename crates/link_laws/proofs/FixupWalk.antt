@@ -7,8 +7,8 @@ use Rattle.link_laws.proofs.Common.{and_parts, cases_lt, map-append, label_lines
 use Rattle.link_laws.proofs.Common.{spelling, DecodeFault, read, read_length, read_spells, IsBytes, IsBytes-drop, Listed, named_place}
 use Rattle.link_laws.proofs.Common.{Image, byte_at, if_whole, in_section, insn_at, is_cut, is_of_immediate, is_whole, item_at, label_before}
 use Rattle.link_laws.proofs.Common.{lies_on, named, place_at, takes_label, with_label, without_immediate, word_at, IfSome}
-use Rattle.link_laws.proofs.ItemLaws.{ItemOf, item_of, line_bytes, label_taken}
-use Rattle.link_laws.proofs.FillLaws.{EndsWith, labels_fill}
+use Rattle.link_laws.proofs.{ItemLaws.ItemOf, ItemLaws.item_of, ItemLaws.line_bytes, ItemLaws.label_taken, FillLaws.EndsWith}
+use Rattle.link_laws.proofs.FillLaws.{labels_fill}
 use Rattle.asm_text.specs.declared.listing.Listed.TheVariants as listed
 
 -- ---- what lines name

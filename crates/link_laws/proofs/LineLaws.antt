@@ -1,8 +1,7 @@
 -- The text of a listing is the texts of its lines.
 use Rattle.link_laws.proofs.Common.{◌≡◌, ℕ, List, [], ◌∷◌, ◌++◌, map, Some, true, not, ◌==◌, refl, ap, ◌∙◌, append_assoc, codes, All}
 use Rattle.link_laws.proofs.Common.{All-head, All-tail, and_from, Listed, label_text, hex_text, ListedFits, listed_text, text_of}
-use Rattle.std.proofs.Common.{unwrap_or}
-use Rattle.std.proofs.lemmas.List.Folds.{list_all-append}
+use Rattle.std.proofs.{Common.unwrap_or, lemmas.List.Folds.list_all-append}
 use Rattle.asm_text.specs.Splits.{lacks, line_cut, lines_of}
 use Rattle.asm_text.proofs.{Clean.clean, Clean.clean_append, Clean.clean_hex, Clean.clean_lacks, CleanLaws.text_good, Pieces.until_first}
 use Rattle.ebc_asm.proofs.SourceLaws.{next_lines}

@@ -2,8 +2,8 @@
 use Rattle.link_laws.proofs.Common.{◌≡◌, ℕ, ◌+◌, ◌^◌, ◌<◌, ◌≤◌, List, [], ◌∷◌, ◌++◌, length, Option, Some, Bool, true, false, cond, refl}
 use Rattle.link_laws.proofs.Common.{arith, length-drop, IfSome, nat_eq, AllByRecursion, list_any, all_append, IsBytes, Listed, ListedFits}
 use Rattle.link_laws.proofs.Common.{Image, item_at, label_lines, labels, lines_from}
-use Rattle.link_laws.proofs.Bodies.{AreLow, IsBody, IsLabelled, is_body, is_insn, item_body, item_in_data, takes_address, target_in}
-use Rattle.link_laws.proofs.Walks.{IsStep, walk}
+use Rattle.link_laws.proofs.Bodies.{AreLow, IsBody, IsLabelled, is_body, is_insn, item_body}
+use Rattle.link_laws.proofs.{Bodies.item_in_data, Bodies.takes_address, Bodies.target_in, Walks.IsStep, Walks.walk}
 use Rattle.asm_text.specs.declared.listing.Listed.TheVariants as listed
 
 abbrev pub is_head : Listed → Bool

@@ -7,9 +7,9 @@ use Rattle.link_laws.proofs.Common.{section_of, behind_ok, behind, is_defined, l
 use Rattle.link_laws.proofs.Common.{next_place, rounded, zeros, linked_sections, section_if, text_sections, item_at, label_lines, labels}
 use Rattle.link_laws.proofs.Common.{lines_from, listing_of, text_of}
 use Rattle.ebc_disasm.specs.Listings.{heading, lines_of, section_lines}
-use Rattle.link_laws.proofs.PlaceLaws.{AreUncut, Splits, is_label_of, label_at, no_label, not_item}
-use Rattle.link_laws.proofs.Standing.{IsPlaced, code_stands, data_stands, placed_at}
 use Rattle.link_laws.proofs.Taken.{AreTaken, IsFresh, Stand, data_behind, defined_in, lines_taken, section_taken, stand_more, taken_append}
+use Rattle.link_laws.proofs.PlaceLaws.{AreUncut, Splits, is_label_of, label_at, no_label}
+use Rattle.link_laws.proofs.{PlaceLaws.not_item, Standing.IsPlaced, Standing.code_stands, Standing.data_stands, Standing.placed_at}
 use Rattle.link_laws.proofs.{LineLaws.lines_again, Lists.all_front, Lists.each_of, Lists.none_append, SectionLaws.bytes_of_lines}
 use Rattle.link_laws.proofs.{SectionLaws.section_agrees, Walks.IsStep, Walks.walk, Bodies.AreLow, Bodies.IsLabelled, Bodies.takes_address}
 use Rattle.link_laws.proofs.{Lines.IsLine, Lines.is_head, Lines.lines_are, Sources.IsLowLabel, Sources.none_labelled, Sources.source}

@@ -18,11 +18,10 @@ use Rattle.ebc_base.proofs.Lists.{found_within}
 use Rattle.pe_image.proofs.Laid.{IsLaid, laid-file}
 use Rattle.ebc_asm.proofs.StateLaws.{KnowsUse}
 use Rattle.link_laws.proofs.Beside.{IsAside, IsBeside, address_aside, all_beside, aside_free, before_number, ends_here, knows_back}
-use Rattle.link_laws.proofs.Beside.{line_byte, line_fixups, own_fixup}
-use Rattle.link_laws.proofs.LoadedBytes.{decoded, mapped_free, mapped_moved, moved_address}
-use Rattle.link_laws.proofs.{Apart.laid_inside, Fitted.insn_is_read, Holding.IsFar, Holding.holds_address, Holding.holds_distance}
-use Rattle.link_laws.proofs.{Immediates.TakesNumber, Immediates.takes_number, Lists.each_of, Relocs.byte_of, Sources.ends_at}
-use Rattle.link_laws.proofs.{Sources.fixups_append, Sources.section_append}
+use Rattle.link_laws.proofs.{Beside.line_byte, Beside.line_fixups, Beside.own_fixup, LoadedBytes.decoded, LoadedBytes.mapped_free}
+use Rattle.link_laws.proofs.{LoadedBytes.mapped_moved, LoadedBytes.moved_address, Apart.laid_inside, Fitted.insn_is_read, Holding.IsFar}
+use Rattle.link_laws.proofs.{Holding.holds_address, Holding.holds_distance, Immediates.TakesNumber, Immediates.takes_number, Lists.each_of}
+use Rattle.link_laws.proofs.{Relocs.byte_of, Sources.ends_at, Sources.fixups_append, Sources.section_append}
 use Rattle.link_laws.specs.Loads.{IsDecoded, IsNumberBy, IsRead, IsResolved, LinkedLoads, NameStands, line_place}
 use Rattle.ebc_insn.specs.declared.Insn.TheVariants as insns
 use Rattle.asm_text.specs.Statements as statements

@@ -4,13 +4,12 @@ use Rattle.link_laws.proofs.Common.{AllByRecursion, list_any, map-append, IsByte
 use Rattle.link_laws.proofs.Common.{listed_text, reads_listed, ends_in_data, section_of, object_in, fixups_in, start, names_in_lines}
 use Rattle.link_laws.proofs.Common.{line_fits, AreFit, ends_of, Image, lines_from}
 use Rattle.ebc_asm.proofs.SoundLaws.{is_object, object_fixups_few, symbols_few}
-use Rattle.link_laws.proofs.FixupWalk.{AreNamed, AreWhole, section_uses, uses_from, wanted, with_target}
 use Rattle.link_laws.proofs.Sources.{ends_at, ends_code, ends_same, fixup_at, fixups_append, fixups_here, fixups_other, section_append}
-use Rattle.link_laws.proofs.Sources.{section_here, section_other, source}
 use Rattle.link_laws.proofs.Listings.{IsShown, all_lines, code_lines, code_lines_are, contents_lines_are, data_lines, data_place, lines_fit}
-use Rattle.link_laws.proofs.Listings.{no_head, takes_of}
-use Rattle.link_laws.proofs.{SectionLaws.Agree, SectionLaws.bytes_of_lines, SectionLaws.section_agrees, Lines.IsLine, Lines.is_head}
-use Rattle.link_laws.proofs.Bodies.{takes_address}
+use Rattle.link_laws.proofs.FixupWalk.{AreNamed, AreWhole, section_uses, uses_from, wanted}
+use Rattle.link_laws.proofs.{FixupWalk.with_target, Sources.section_here, Sources.section_other, Sources.source, Listings.no_head}
+use Rattle.link_laws.proofs.{Listings.takes_of, SectionLaws.Agree, SectionLaws.bytes_of_lines, SectionLaws.section_agrees, Lines.IsLine}
+use Rattle.link_laws.proofs.{Lines.is_head, Bodies.takes_address}
 use Rattle.asm_text.specs.declared.listing.Listed.TheVariants as listed
 
 -- ---- its sections

@@ -4,8 +4,8 @@ use Rattle.link_laws.proofs.Common.{ap, sym, subst, ◌∙◌, arith, ⊎_elim, 
 use Rattle.link_laws.proofs.Common.{Object, AreBytes, laid, Image, first_of_all, further, head_or_later, nowhere, LinkPlan, place_of, Laid}
 use Rattle.link_laws.proofs.Common.{laid_objects, place_in, Holds, Linked, StandsAt, fills, number_at, definitions, first_again, names_of}
 use Rattle.ebc_link.specs.Linked.{IsFilled, IsOutside, own_bytes}
-use Rattle.link_laws.proofs.OneRecord.{one_ascending, one_image, one_sections, size_is}
-use Rattle.link_laws.proofs.{Once.one_entry, Once.one_stand, Numbers.same_byte, Numbers.same_number}
+use Rattle.link_laws.proofs.{OneRecord.one_ascending, OneRecord.one_image, OneRecord.one_sections, OneRecord.size_is, Once.one_entry}
+use Rattle.link_laws.proofs.{Once.one_stand, Numbers.same_byte, Numbers.same_number}
 use Rattle.link_laws.specs.Fixes.{LinkedIsOne}
 
 -- ---- where a place lies

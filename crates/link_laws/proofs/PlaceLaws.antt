@@ -6,7 +6,7 @@ use Rattle.link_laws.proofs.Common.{flat_map-append, cases_lt, nat_tests, Insn, 
 use Rattle.link_laws.proofs.Common.{byte_at, if_whole, insn_at, is_cut, is_inside, is_of_immediate, is_whole, item_at, label_before}
 use Rattle.link_laws.proofs.Common.{label_lines, labels, lies_on, lines_from, named, place_at, with_label, word_at, next_lines, IfSome}
 use Rattle.link_laws.proofs.{Lists.none_append, ItemLaws.ItemOf, ItemLaws.chosen, ItemLaws.item_of, ItemLaws.line_bytes}
-use Rattle.link_laws.proofs.{SectionLaws.bytes_of_lines, SectionLaws.one_item}
+use Rattle.link_laws.proofs.SectionLaws.{bytes_of_lines, one_item}
 use Rattle.asm_text.specs.declared.listing.Listed.TheVariants as listed
 
 -- No label is among the last seven of the eight bytes of a relocation.

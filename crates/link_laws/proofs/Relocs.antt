@@ -8,14 +8,14 @@ use Rattle.link_laws.proofs.Common.{All-head, All-tail, recursion_from_All, all_
 use Rattle.link_laws.proofs.Common.{IsBytes, Image, Section, file_sections, next_place, reloc_section, reloc_sections, IsBelow}
 use Rattle.link_laws.proofs.Common.{linked_sections, section_if, laid, named_place, pairs_tail, in_section, is_cut, labels, named}
 use Rattle.std.specs.List.{Any}
-use Rattle.std.proofs.Math.Nat.{div-div-eq-div-mul, pow-suc}
-use Rattle.std.proofs.lemmas.{Bool.eqb-true, Bool.not_from_false, Bool.or_cases, List.get_or_past}
+use Rattle.std.proofs.{Math.Nat.div-div-eq-div-mul, Math.Nat.pow-suc, lemmas.Bool.eqb-true, lemmas.Bool.not_from_false}
+use Rattle.std.proofs.lemmas.{Bool.or_cases, List.get_or_past}
 use Rattle.ebc_width.proofs.ByteLaws.{little_endian-zeros}
 use Rattle.pe_image.specs.{Files.one_unless, Linked.Has, Mapped.has_place}
 use Rattle.pe_image.proofs.Pages.{pairs_head}
-use Rattle.link_laws.proofs.FixupWalk.{AreNamed, AreWhole, ascend, in_range, past, range_split}
-use Rattle.link_laws.proofs.{PlaceLaws.AreUncut, Bodies.AreLow, Bodies.IsLabelled, Bodies.named_inside, Listings.data_place, Lists.all_at}
-use Rattle.link_laws.proofs.{Lists.each_of, Lists.each_of_both}
+use Rattle.link_laws.proofs.FixupWalk.{AreNamed, AreWhole, ascend, in_range, past}
+use Rattle.link_laws.proofs.{FixupWalk.range_split, PlaceLaws.AreUncut, Bodies.AreLow, Bodies.IsLabelled, Bodies.named_inside}
+use Rattle.link_laws.proofs.{Listings.data_place, Lists.all_at, Lists.each_of, Lists.each_of_both}
 
 -- ---- relocations ascend
 

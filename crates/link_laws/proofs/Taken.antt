@@ -8,13 +8,13 @@ use Rattle.link_laws.proofs.Common.{lines_behind, global_of, is_labelled, same_b
 use Rattle.link_laws.proofs.Common.{lines_from}
 use Rattle.asm_text.proofs.LabelLaws.{label_read}
 use Rattle.asm_text.specs.Lines.{label_of}
-use Rattle.ebc_asm.specs.Sources.{global_is_defined, has_room, is_instruction, is_placed, label_is_new, line_behind, numbered}
-use Rattle.ebc_asm.specs.Symbols.{is_some_name}
-use Rattle.link_laws.proofs.Bodies.{AreLow, IsBody, is_body, is_insn, item_body}
-use Rattle.link_laws.proofs.Sources.{ends_append, ends_same, IsLowLabel, none_labelled, section_append, section_here, source}
-use Rattle.link_laws.proofs.{ItemLaws.line_bytes, SectionLaws.bytes_of_lines, SectionLaws.no_bytes, SectionLaws.one_item}
+use Rattle.ebc_asm.specs.Sources.{global_is_defined, has_room, is_instruction, is_placed, label_is_new}
+use Rattle.ebc_asm.specs.{Sources.line_behind, Sources.numbered, Symbols.is_some_name}
+use Rattle.link_laws.proofs.{Bodies.AreLow, Bodies.IsBody, Bodies.is_body, Bodies.is_insn, Bodies.item_body, Sources.ends_append}
+use Rattle.link_laws.proofs.Sources.{ends_same, IsLowLabel, none_labelled, section_append, section_here}
+use Rattle.link_laws.proofs.{Sources.source, ItemLaws.line_bytes, SectionLaws.bytes_of_lines, SectionLaws.no_bytes, SectionLaws.one_item}
 use Rattle.link_laws.proofs.{PlaceLaws.is_label_of, PlaceLaws.no_label, PlaceLaws.not_item, Lists.none_append, Walks.IsStep, Walks.walk}
-use Rattle.link_laws.proofs.{Lines.head_of, Lines.in_data, Lines.is_head, Lines.no_heads}
+use Rattle.link_laws.proofs.Lines.{head_of, in_data, is_head, no_heads}
 use Rattle.asm_text.specs.declared.listing.Listed.TheVariants as listed
 
 -- ---- the label of a line

@@ -1,34 +1,14 @@
 -- Laws of a call that is accepted: what it makes comes next, lies at its bases, and is there afterwards.
-use Rattle.std.proofs.Common.{◌≡◌, ℕ, zero, suc, ◌+◌, ◌^◌, ◌<◌, ◌≤◌, List, [], ◌∷◌, ◌++◌, length, map, take, drop, Option, Some, None}
-use Rattle.std.proofs.Common.{slice_get, refl, sym, ap, ◌∙◌, subst, arith, add-one}
-use Rattle.std.specs.Prelude.{vec_capacity}
-use Rattle.std.specs.List.{flat_map}
-use Rattle.std.specs.Option.{option_map_or}
-use Rattle.std.proofs.lemmas.List.{append-nil, append_assoc, length-append, map-append}
-use Rattle.std.proofs.lemmas.Option.{none-some, same_Some}
-use Rattle.ebc_width.specs.Width.{IsWidth}
-use Rattle.object_memory.specs.Memory.{Memory, ranges}
-use Rattle.note_types.specs.Concrete.{Concrete}
-use Rattle.note_types.specs.Records.{IsNotes}
-use Rattle.note_types.specs.declared.notes.Notes.{Notes}
-use Rattle.note_types.specs.declared.notes.Signature.{Signature}
-use Rattle.note_types.specs.declared.script.Script.{Script}
-use Rattle.note_types.specs.declared.script.ScriptCall.{ScriptCall}
-use Rattle.host_model.specs.HostPlans.{signature_params}
-use Rattle.host_model.specs.HostSteps.{with_objects}
-use Rattle.host_model.specs.Objects.{made_objects, objects_of, placed_objects, script_object, static_object}
-use Rattle.host_model.specs.Placements.{Placement, image_range, native_range, own_placement, placed_ranges, script_ranges}
-use Rattle.host_model.specs.Placements.{stack_range}
-use Rattle.host_model.specs.Scripts.{IsScript, all_made}
-use Rattle.host_model.specs.World.{World}
-use Rattle.entry_thunk.specs.Cells.{with_memory}
-use Rattle.native_host.specs.Hosts.{HasStack, IsMemoryOf, IsServing, host_world}
-use Rattle.native_host.specs.Kept.{IsOf, placement_of}
-use Rattle.native_host.specs.Placing.{AreComing}
-use Rattle.native_host.specs.declared.host.Host.{Host}
-use Rattle.native_host.specs.declared.places.Places.{Places}
-use Rattle.native_host.proofs.ComingLaws.{bytes_some, next_coming, next_ranges}
-use Rattle.native_host.proofs.StartLaws.{all_placed, made_count, objects_few}
+use Rattle.native_host.proofs.Common.{◌≡◌, ℕ, zero, suc, ◌+◌, ◌^◌, ◌<◌, ◌≤◌, List, [], ◌∷◌, ◌++◌, length, map, take, drop, Option, Some}
+use Rattle.native_host.proofs.Common.{None, slice_get, refl, sym, ap, ◌∙◌, subst, arith, add-one, vec_capacity, flat_map, option_map_or}
+use Rattle.native_host.proofs.Common.{append-nil, append_assoc, length-append, map-append, none-some, same_Some, IsWidth, Memory, ranges}
+use Rattle.native_host.proofs.Common.{Concrete, IsNotes, Notes, Signature, Script, ScriptCall, signature_params, with_objects, made_objects}
+use Rattle.native_host.proofs.Common.{objects_of, placed_objects, script_object, static_object, Placement, image_range, native_range}
+use Rattle.native_host.proofs.Common.{own_placement, placed_ranges, script_ranges, stack_range, IsScript, all_made, World, with_memory}
+use Rattle.native_host.proofs.Common.{host_world, IsOf, placement_of, AreComing, Host, Places}
+use Rattle.native_host.specs.Hosts.{HasStack, IsMemoryOf, IsServing}
+use Rattle.native_host.proofs.{ComingLaws.bytes_some, ComingLaws.next_coming, ComingLaws.next_ranges, StartLaws.all_placed}
+use Rattle.native_host.proofs.StartLaws.{made_count, objects_few}
 
 -- ---- what a call makes
 

@@ -1,37 +1,20 @@
 -- Laws of what a call instruction asks for: the site at a place, and the arguments one after the other.
-use Rattle.std.proofs.Common.{◌≡◌, ℕ, zero, suc, ◌+◌, ◌<◌, ◌≤◌, Bool, true, false, if◌then◌else◌, nat_eq, ltb, List, [], ◌∷◌}
-use Rattle.std.proofs.Common.{length, map, drop, get_or, ◌++◌, append_assoc, append-nil}
-use Rattle.std.proofs.Common.{Option, Some, None, ⊎_elim, refl, sym, ap, ap₂, ◌∙◌, arith, add-one}
-use Rattle.std.specs.List.{find}
-use Rattle.std.specs.Option.{IsSomeAnd, option_and_then, option_map_or}
-use Rattle.std.specs.List.Sorted.{IsNonDecreasingBy, IsPartitionPoint, IsPartitionedBy, IsStrictlyIncreasing}
-use Rattle.std.proofs.lemmas.Option.{none-some, same_Some, slice_get-get_or}
-use Rattle.std.proofs.lemmas.Bool.{cases_lt, ltb-false, ltb-true}
-use Rattle.std.proofs.lemmas.List.{drop_all, drop_more, get_or-map, get_or_default, length-map}
+use Rattle.native_host.proofs.Common.{◌≡◌, ℕ, zero, suc, ◌+◌, ◌<◌, ◌≤◌, Bool, true, false, if◌then◌else◌, nat_eq, ltb, List, [], ◌∷◌}
+use Rattle.native_host.proofs.Common.{length, map, drop, get_or, ◌++◌, append_assoc, append-nil, Option, Some, None, ⊎_elim, refl, sym, ap}
+use Rattle.native_host.proofs.Common.{ap₂, ◌∙◌, arith, add-one, option_and_then, option_map_or, none-some, same_Some, slice_get-get_or}
+use Rattle.native_host.proofs.Common.{ltb-true, drop_all, drop_more, length-map, Mismatch, Site, Seen, slice_get, cut_at, Memory, byte_at}
+use Rattle.native_host.proofs.Common.{ranges, Concrete, register, Notes, Signature, WantParam, memory_state, with_arguments, Frame, Asks}
+use Rattle.native_host.proofs.Common.{NoSite, argument_refused, signature_method, signature_params, site_of, asking_at, asking_by}
+use Rattle.native_host.proofs.Common.{objects_at, slots_asked, slots_of, Placement, method_at, slot_bytes, Asked, argument_read}
+use Rattle.native_host.proofs.Common.{arguments_read, role_of, slots_from, RunState, World, TypedObject}
+use Rattle.std.specs.{List.find, Option.IsSomeAnd, List.Sorted.IsNonDecreasingBy, List.Sorted.IsPartitionPoint, List.Sorted.IsPartitionedBy}
+use Rattle.std.specs.List.Sorted.{IsStrictlyIncreasing}
+use Rattle.std.proofs.lemmas.{Bool.cases_lt, Bool.ltb-false, List.get_or-map, List.get_or_default}
 use Rattle.std.proofs.lemmas.List.Sorted.{IsNonDecreasingBy-from_all_adjacent, IsPartitionedBy-ltb}
-use Rattle.note_types.specs.declared.ending.Ending.TheVariants.{Mismatch}
-use Rattle.note_types.specs.declared.notes.Site.{Site}
-use Rattle.note_types.specs.declared.reason.Reason.TheVariants as reason
-use Rattle.note_types.specs.declared.seen.Seen.{Seen}
-use Rattle.std.specs.Prelude.{slice_get}
-use Rattle.ebc_width.specs.Width.{cut_at}
-use Rattle.object_memory.specs.Memory.{Memory, byte_at, ranges}
-use Rattle.note_types.specs.Concrete.{Concrete, loaded, register}
-use Rattle.note_types.specs.declared.notes.Notes.{Notes}
-use Rattle.note_types.specs.declared.notes.Signature.{Signature}
-use Rattle.note_types.specs.declared.notes.WantParam.{WantParam}
-use Rattle.callex_thunk.specs.Slots.{memory_state, with_arguments}
-use Rattle.frame_stack.specs.declared.Frame.{Frame}
+use Rattle.note_types.specs.Concrete.{loaded}
 use Rattle.callex_thunk.proofs.SlotLaws.{slots_from-agree}
-use Rattle.host_model.specs.HostPlans.{Asks, NoSite, Unmapped, argument_refused, signature_method, signature_params, site_of}
-use Rattle.host_model.specs.HostSteps.{asking_at, asking_by, objects_at, slots_asked, slots_of}
-use Rattle.host_model.specs.Placements.{Placement, method_at, slot_bytes}
-use Rattle.host_model.specs.Progress.{Asked}
-use Rattle.host_model.specs.Readings.{argument_read, arguments_read, before_all, role_of, slots_from}
-use Rattle.host_model.specs.RunState.{RunState}
-use Rattle.host_model.specs.World.{World}
-use Rattle.host_model.specs.declared.object.TypedObject.{TypedObject}
-use Rattle.host_model.specs.ScriptValues.{same_seen}
+use Rattle.host_model.specs.{HostPlans.Unmapped, Readings.before_all, ScriptValues.same_seen}
+use Rattle.note_types.specs.declared.reason.Reason.TheVariants as reason
 
 -- ---- arguments
 

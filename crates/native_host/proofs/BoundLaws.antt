@@ -1,34 +1,15 @@
 -- Laws of bound calls: how many arguments a call has, what its frames are, and which argument is refused.
-use Rattle.std.proofs.Common.{◌≡◌, ℕ, suc, ◌≤◌, Bool, true, false, if◌then◌else◌, nat_eq, List, [], ◌∷◌, length, map, drop}
-use Rattle.std.proofs.Common.{Option, Some, None, refl, sym, ap, ◌∙◌, subst, arith}
-use Rattle.std.specs.Option.{option_map_or}
-use Rattle.std.proofs.lemmas.List.{drop_all}
-use Rattle.object_memory.specs.Memory.{Memory}
-use Rattle.frame_stack.specs.Frames.{with_mark}
-use Rattle.frame_stack.specs.declared.Frame.{Frame}
-use Rattle.note_types.specs.Concrete.{register}
+use Rattle.native_host.proofs.Common.{◌≡◌, ℕ, suc, ◌≤◌, Bool, true, false, if◌then◌else◌, nat_eq, List, [], ◌∷◌, length, map, drop, Option}
+use Rattle.native_host.proofs.Common.{Some, None, refl, sym, ap, ◌∙◌, subst, arith, option_map_or, drop_all, Memory, with_mark, Frame}
+use Rattle.native_host.proofs.Common.{register, Notes, Param, WantParam, Seen, saved_of, memory_state, with_arguments, NO_ENTRY, Asks}
+use Rattle.native_host.proofs.Common.{NoSite, signature_method, signature_params, site_of, asking_at, asking_by, objects_at, slots_of}
+use Rattle.native_host.proofs.Common.{with_call, Placement, method_at, NativeCall, NoCall, arguments_read, RunState, World, TypedObject}
+use Rattle.native_host.proofs.Common.{parameter_refused, bound_step}
 use Rattle.note_types.specs.declared.ending.Ending.TheVariants.{Running}
-use Rattle.note_types.specs.declared.notes.Notes.{Notes}
-use Rattle.note_types.specs.declared.notes.Param.{Param}
-use Rattle.note_types.specs.declared.notes.WantParam.{WantParam}
-use Rattle.note_types.specs.declared.seen.Seen.{Seen}
-use Rattle.callex_thunk.specs.HostFrames.{saved_of}
-use Rattle.callex_thunk.specs.Slots.{memory_state, with_arguments}
-use Rattle.callex_thunk.specs.declared.TheConstants.{NO_ENTRY}
-use Rattle.host_model.specs.HostPlans.{Asks, NoSite, signature_method, signature_params, site_of}
-use Rattle.host_model.specs.HostSteps.{asking_at, asking_by, objects_at, slots_of, with_call}
-use Rattle.host_model.specs.Placements.{Placement, method_at}
-use Rattle.host_model.specs.Progress.{NativeCall, NoCall, script_start}
-use Rattle.host_model.specs.Readings.{arguments_read}
-use Rattle.host_model.specs.RunState.{RunState}
-use Rattle.host_model.specs.World.{World}
-use Rattle.host_model.specs.declared.object.TypedObject.{TypedObject}
-use Rattle.pair_model.specs.Rules.{parameter_refused}
-use Rattle.native_host.specs.Bound.{OnCalled, bound_step}
+use Rattle.host_model.specs.Progress.{script_start}
+use Rattle.native_host.specs.Bound.{OnCalled}
 use Rattle.native_host.specs.declared.bound.BoundStep.{BoundStep}
-use Rattle.native_host.proofs.AskingLaws.{slots-count}
-use Rattle.native_host.proofs.CallLaws.{with_call-arguments, with_call-twice}
-use Rattle.native_host.proofs.TopLaws.{marked-none}
+use Rattle.native_host.proofs.{AskingLaws.slots-count, CallLaws.with_call-arguments, CallLaws.with_call-twice, TopLaws.marked-none}
 
 -- ---- a state in which a call is asked for
 

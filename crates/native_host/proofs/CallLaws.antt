@@ -1,42 +1,20 @@
 -- Laws of the call step: the plan that the host has where a native call is asked for, and what that leaves.
-use Rattle.std.proofs.Common.{◌≡◌, ℕ, ◌+◌, ◌<◌, Bool, true, false, if◌then◌else◌, nat_eq, List, [], ◌∷◌, ◌++◌, length, map, take, drop}
-use Rattle.std.proofs.Common.{Option, Some, None, slice_get, refl, sym, ap, ap₂, ◌∙◌, subst, arith}
-use Rattle.std.proofs.Math.Seq.{take-append_seam}
-use Rattle.std.specs.Option.{option_and_then, option_map_or, option_or}
-use Rattle.std.proofs.lemmas.Bool.{eqb-true}
-use Rattle.std.proofs.lemmas.Option.{none-some, same_Some}
-use Rattle.object_memory.specs.Memory.{Memory}
-use Rattle.frame_stack.specs.Frames.{with_mark}
-use Rattle.frame_stack.specs.declared.Frame.{Frame}
-use Rattle.note_types.specs.Concrete.{Concrete, register}
-use Rattle.note_types.specs.declared.ending.Ending.{Ending}
+use Rattle.native_host.proofs.Common.{◌≡◌, ℕ, ◌+◌, ◌<◌, Bool, true, false, if◌then◌else◌, nat_eq, List, [], ◌∷◌, ◌++◌, length, map, take}
+use Rattle.native_host.proofs.Common.{drop, Option, Some, None, slice_get, refl, sym, ap, ap₂, ◌∙◌, subst, arith, option_and_then}
+use Rattle.native_host.proofs.Common.{option_map_or, option_or, none-some, same_Some, Memory, with_mark, Frame, Concrete, register, Ending}
+use Rattle.native_host.proofs.Common.{Event, ScriptCall, Seen, saved_of, with_arguments, NO_ENTRY, Asking, Asks, Ends, NoSite, Store}
+use Rattle.native_host.proofs.Common.{argument_refused, call_event, host_plan, signature_params, site_of, after_stores, asking_at}
+use Rattle.native_host.proofs.Common.{asking_by, call_under_way, performed, slots_asked, slots_of, with_call, with_objects, made_objects}
+use Rattle.native_host.proofs.Common.{TypedObject, Placement, Accepted, Asked, NativeCall, ScriptPlace, RunState, SavedFrame, IsScript}
+use Rattle.native_host.proofs.Common.{World, with_memory, asked, entry_count, Host, HostStep}
+use Rattle.std.proofs.{Math.Seq.take-append_seam, lemmas.Bool.eqb-true}
+use Rattle.host_model.specs.HostPlans.{Accepts, Calls, Unmapped, asked_args, asked_signature, asking_refused, call_plan, call_settled}
+use Rattle.host_model.specs.HostPlans.{entry_refused}
+use Rattle.native_host.specs.Steps.{end_step, settled, taken}
+use Rattle.native_host.proofs.{AskingLaws.other-place, AskingLaws.slots-count, TopLaws.marked-some}
 use Rattle.note_types.specs.declared.ending.Ending.TheVariants as ending
-use Rattle.note_types.specs.declared.event.Event.{Event}
 use Rattle.note_types.specs.declared.reason.Reason.TheVariants as reason
-use Rattle.note_types.specs.declared.script.ScriptCall.{ScriptCall}
-use Rattle.note_types.specs.declared.seen.Seen.{Seen}
-use Rattle.callex_thunk.specs.HostFrames.{saved_of}
-use Rattle.callex_thunk.specs.Slots.{with_arguments}
-use Rattle.callex_thunk.specs.declared.TheConstants.{NO_ENTRY}
-use Rattle.host_model.specs.HostPlans.{Accepts, Asking, Asks, Calls, Ends, NoSite, Store, Unmapped, argument_refused, asked_args}
-use Rattle.host_model.specs.HostPlans.{asked_signature, asking_refused, call_event, call_plan, call_settled, entry_refused, host_plan}
-use Rattle.host_model.specs.HostPlans.{signature_params, site_of}
-use Rattle.host_model.specs.HostSteps.{after_stores, asking_at, asking_by, call_under_way, performed, slots_asked, slots_of}
-use Rattle.host_model.specs.HostSteps.{with_call, with_objects}
-use Rattle.host_model.specs.Objects.{made_objects}
-use Rattle.host_model.specs.declared.object.TypedObject.{TypedObject}
-use Rattle.host_model.specs.Placements.{Placement}
-use Rattle.host_model.specs.Progress.{Accepted, Asked, NativeCall, ScriptPlace}
-use Rattle.host_model.specs.RunState.{RunState, SavedFrame}
-use Rattle.host_model.specs.Scripts.{IsScript}
-use Rattle.host_model.specs.World.{World}
-use Rattle.entry_thunk.specs.Cells.{with_memory}
-use Rattle.native_host.specs.Steps.{asked, end_step, entry_count, settled, taken}
-use Rattle.native_host.specs.declared.host.Host.{Host}
-use Rattle.native_host.specs.declared.step.HostStep.{HostStep}
 use Rattle.native_host.specs.declared.step.HostStep.TheVariants as step
-use Rattle.native_host.proofs.AskingLaws.{other-place, slots-count}
-use Rattle.native_host.proofs.TopLaws.{marked-some}
 
 -- ---- the plan
 

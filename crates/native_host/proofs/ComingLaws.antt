@@ -1,39 +1,18 @@
 -- Laws of the objects of a script that a host places: they come next, one after the other, and lie at their bases.
-use Rattle.std.proofs.Common.{◌≡◌, ℕ, zero, suc, ◌+◌, ◌*◌, ◌-◌, ◌^◌, ◌<◌, ◌≤◌, List, [], ◌∷◌, ◌++◌, length, map, Some}
-use Rattle.std.proofs.Common.{slice_get, slice_index}
-use Rattle.std.proofs.Common.{refl, sym, ap, ap₂, ◌∙◌, subst, arith, if◌then◌else◌, ⊎_elim, nat_lt, false}
-use Rattle.std.specs.List.{flat_map, sum_by}
+use Rattle.native_host.proofs.Common.{◌≡◌, ℕ, zero, suc, ◌+◌, ◌*◌, ◌-◌, ◌^◌, ◌<◌, ◌≤◌, List, [], ◌∷◌, ◌++◌, length, map, Some, slice_get}
+use Rattle.native_host.proofs.Common.{slice_index, refl, sym, ap, ap₂, ◌∙◌, subst, arith, if◌then◌else◌, ⊎_elim, nat_lt, false, flat_map}
+use Rattle.native_host.proofs.Common.{sum_by, append-nil, append_assoc, length-append, sum_by-cons, mul-le, none-some, same_Some, Range}
+use Rattle.native_host.proofs.Common.{IsWidth, by_width, Memory, Object, first_base, next_base, padded, placed, range_of, ranges, used}
+use Rattle.native_host.proofs.Common.{Concrete, size_at, Notes, Script, ScriptObject, filling, after_stores, with_object, with_objects}
+use Rattle.native_host.proofs.Common.{made_objects, objects_of, placed_objects, script_object, shape_of, static_object, TypedObject}
+use Rattle.native_host.proofs.Common.{Placement, all_ranges, area_bytes, bases_from, image_range, native_range, object_at, object_bytes}
+use Rattle.native_host.proofs.Common.{object_range, own_placement, placed_ranges, script_ranges, stack_bytes, stack_range, IsScript}
+use Rattle.native_host.proofs.Common.{all_made, bare_machine, start_machine, World, with_memory, AreComing, room_in, rooms_in, used-placed}
 use Rattle.std.proofs.lemmas.Bool.{le-ltb}
-use Rattle.std.proofs.lemmas.List.{append-nil, append_assoc, length-append}
-use Rattle.std.proofs.lemmas.List.Sums.{sum_by-cons}
-use Rattle.std.proofs.lemmas.Nat.{mul-le}
-use Rattle.std.proofs.lemmas.Option.{none-some, same_Some}
 use Rattle.ebc_base.proofs.Lists.{length-map, slice_get-append_right}
-use Rattle.ebc_width.specs.Ranges.{Range}
-use Rattle.ebc_width.specs.Width.{IsWidth}
-use Rattle.ebc_width.proofs.Laws.{by_width}
-use Rattle.object_memory.specs.Memory.{Memory, Object, first_base, next_base, padded, placed, range_of, ranges, used}
-use Rattle.note_types.specs.Concrete.{Concrete}
-use Rattle.note_types.specs.Shapes.{size_at}
-use Rattle.note_types.specs.declared.notes.Notes.{Notes}
-use Rattle.note_types.specs.declared.script.Script.{Script}
-use Rattle.note_types.specs.declared.script.ScriptObject.{ScriptObject}
-use Rattle.host_model.specs.HostPlans.{filling}
-use Rattle.host_model.specs.HostSteps.{after_stores, with_object, with_objects}
-use Rattle.host_model.specs.Objects.{made_objects, objects_of, placed_objects, script_object, shape_of, static_object}
-use Rattle.host_model.specs.declared.object.TypedObject.{TypedObject}
-use Rattle.host_model.specs.Placements.{Placement, all_ranges, area_bytes, bases_from, image_range, native_range, object_at, object_bytes}
-use Rattle.host_model.specs.Placements.{object_range, own_placement, placed_ranges, script_ranges, stack_bytes, stack_range, static_place}
-use Rattle.host_model.specs.Scripts.{IsObjectOf, IsScript, all_made}
-use Rattle.host_model.specs.Start.{bare_machine, start_machine}
-use Rattle.host_model.specs.World.{World}
-use Rattle.entry_thunk.specs.Cells.{with_memory}
-use Rattle.native_host.specs.Placing.{AreComing}
-use Rattle.native_host.specs.Starting.{room_in, rooms_in}
-use Rattle.native_host.proofs.PlacedLaws.{limits_placed, next_placed, objects_placed}
-use Rattle.native_host.proofs.StartLaws.{all_count, all_placed, all_sum, ranges-count, ranges_sum, room_same}
-use Rattle.native_host.proofs.StartLaws.{rooms_append, rooms_small, sizes}
-use Rattle.object_memory.proofs.Laws.{used-placed}
+use Rattle.host_model.specs.{Placements.static_place, Scripts.IsObjectOf}
+use Rattle.native_host.proofs.StartLaws.{all_count, all_placed, all_sum, ranges-count, ranges_sum, room_same, rooms_append, rooms_small}
+use Rattle.native_host.proofs.{PlacedLaws.limits_placed, PlacedLaws.next_placed, PlacedLaws.objects_placed, StartLaws.sizes}
 
 -- an object past the static ones lies at its base
 object-past : (notes : Notes) (P : Placement) (j : ℕ) → object_at notes P (length notes.statics + j) ≡ slice_index P.objects j

@@ -1,20 +1,9 @@
 -- Laws of functions that are to be entered: they are there, and have at most 16 parameters.
-use Rattle.std.proofs.Common.{◌≡◌, ℕ, ◌≤◌, ◌<◌, Bool, true, false, ◌&&◌, List, [], length, Option, Some, None, nat_eq, refl, sym, arith}
-use Rattle.std.specs.Prelude.{slice_get, not, nat_le}
-use Rattle.std.specs.Option.{option_map_or}
-use Rattle.std.proofs.lemmas.Bool.{and_parts, true≢false}
+use Rattle.native_host.proofs.Common.{◌≡◌, ℕ, ◌≤◌, ◌<◌, Bool, true, false, ◌&&◌, List, [], length, Option, Some, None, nat_eq, refl, sym}
+use Rattle.native_host.proofs.Common.{arith, slice_get, not, nat_le, option_map_or, and_parts, true≢false, slice_get_within, IsNotes}
+use Rattle.native_host.proofs.Common.{FnNote, Notes, Param, Value, frame_limit, TypedObject, can_enter}
 use Rattle.std.proofs.lemmas.Bool.Decides.{nat_tests}
-use Rattle.std.proofs.lemmas.Option.{slice_get_within}
-use Rattle.note_types.specs.Records.{IsNotes}
-use Rattle.note_types.specs.declared.notes.FnNote.{FnNote}
-use Rattle.note_types.specs.declared.notes.Notes.{Notes}
-use Rattle.note_types.specs.declared.notes.Param.{Param}
-use Rattle.note_types.specs.declared.value.Value.{Value}
-use Rattle.host_model.specs.HostPlans.{function_params, may_enter}
-use Rattle.host_model.specs.Placements.{frame_limit}
-use Rattle.host_model.specs.ScriptValues.{fits_each}
-use Rattle.host_model.specs.declared.object.TypedObject.{TypedObject}
-use Rattle.native_host.specs.Entering.{can_enter}
+use Rattle.host_model.specs.{HostPlans.function_params, HostPlans.may_enter, ScriptValues.fits_each}
 
 params-few : (notes : Notes) (f : ℕ) (o : Option FnNote) → IsNotes notes → slice_get notes.function f ≡ o
     → length (option_map_or (λ (g : FnNote). g.params) o []) ≤ 16

@@ -1,21 +1,11 @@
 -- Laws of what a host keeps: it is what the notes and the placement have.
-use Rattle.std.proofs.Common.{◌≡◌, ℕ, zero, suc, ◌+◌, ◌-◌, ◌*◌, ◌%◌, ◌^◌, List, [], ◌∷◌, length, map, Option, Some, None}
-use Rattle.std.proofs.Common.{refl, ap, ap₂, ◌∙◌, arith}
-use Rattle.std.proofs.Common.{if◌then◌else◌, slice_get}
-use Rattle.std.specs.Prelude.{IfNone, nat_lt, slice_index, slice_index_or}
-use Rattle.std.specs.Option.{option_map_or}
-use Rattle.std.proofs.lemmas.List.{length-map}
-use Rattle.note_types.specs.Shapes.{size_at}
-use Rattle.note_types.specs.declared.notes.Notes.{Notes}
-use Rattle.note_types.specs.declared.notes.Static.{Static}
+use Rattle.native_host.proofs.Common.{◌≡◌, ℕ, zero, suc, ◌+◌, ◌-◌, ◌*◌, ◌%◌, ◌^◌, List, [], ◌∷◌, length, map, Option, Some, None, refl, ap}
+use Rattle.native_host.proofs.Common.{ap₂, ◌∙◌, arith, if◌then◌else◌, slice_get, nat_lt, slice_index, option_map_or, length-map, size_at}
+use Rattle.native_host.proofs.Common.{Notes, Static, TypedObject, object_at, shape_bytes, Field, cell_address, Places, IsOf, instance_bytes}
+use Rattle.native_host.proofs.Common.{object_base, placement_of}
+use Rattle.std.specs.Prelude.{IfNone, slice_index_or}
 use Rattle.note_types.specs.declared.shape.Shape.{Shape}
-use Rattle.host_model.specs.Objects.{no_shape}
-use Rattle.host_model.specs.declared.object.TypedObject.{TypedObject}
-use Rattle.host_model.specs.Placements.{instance_address, object_at, shape_bytes}
-use Rattle.note_types.specs.declared.shape.Field.{Field}
-use Rattle.host_model.specs.HostSteps.{cell_address}
-use Rattle.native_host.specs.declared.places.Places.{Places}
-use Rattle.native_host.specs.Kept.{IsOf, instance_bytes, object_base, placement_of}
+use Rattle.host_model.specs.{Objects.no_shape, Placements.instance_address}
 
 -- a number that an item of a list has, and 0 past its end
 index-map : {A : Type 0} (f : A → ℕ) (xs : List A) (k : ℕ) → slice_index (map f xs) k ≡ option_map_or f (slice_get xs k) 0

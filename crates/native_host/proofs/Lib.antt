@@ -1,3 +1,4 @@
+pub mod Common
 pub mod AcceptLaws
 pub mod AskingLaws
 pub mod BoundLaws

@@ -1,18 +1,11 @@
 -- Laws of the notify step: which plan the host has where a notification is due.
-use Rattle.std.proofs.Common.{◌≡◌, ℕ, Bool, true, false, not, List, [], map, Some, None, sym, ap, ◌∙◌, if◌then◌else◌}
-use Rattle.std.specs.Prelude.{nat_le, slice_get}
-use Rattle.std.specs.Option.{option_map_or}
-use Rattle.note_types.specs.declared.ending.Ending.TheVariants.{Mismatch, ScriptEnd}
+use Rattle.native_host.proofs.Common.{◌≡◌, ℕ, Bool, true, false, not, List, [], map, Some, None, sym, ap, ◌∙◌, if◌then◌else◌, nat_le}
+use Rattle.native_host.proofs.Common.{slice_get, option_map_or, Mismatch, ScriptEnd, Ends, Notifies, host_plan, made_objects, frame_limit}
+use Rattle.native_host.proofs.Common.{ScriptPlace, given, World, TypedObject}
+use Rattle.note_types.specs.declared.script.Notify.{Notify}
+use Rattle.host_model.specs.HostPlans.{IsDue, notification_fits, notify_plan}
 use Rattle.note_types.specs.declared.event.Event.TheVariants as event
 use Rattle.note_types.specs.declared.reason.Reason.TheVariants as reason
-use Rattle.note_types.specs.declared.script.Notify.{Notify}
-use Rattle.host_model.specs.HostPlans.{Ends, IsDue, Notifies, host_plan, notification_fits, notify_plan}
-use Rattle.host_model.specs.Objects.{made_objects}
-use Rattle.host_model.specs.Placements.{frame_limit}
-use Rattle.host_model.specs.Progress.{ScriptPlace}
-use Rattle.host_model.specs.ScriptValues.{given}
-use Rattle.host_model.specs.World.{World}
-use Rattle.host_model.specs.declared.object.TypedObject.{TypedObject}
 
 -- no notification is left
 pub due-none : (world : World) (at : ScriptPlace) (frames : ℕ) → None ≡ slice_get world.script.notify at.notifications

@@ -1,21 +1,11 @@
 -- Laws of objects that are placed: the memory with an object more is the state with its zeros more.
-use Rattle.std.proofs.Common.{◌≡◌, ℕ, ◌+◌, ◌<◌, ◌≤◌, Bool, true, false, if◌then◌else◌, List, [], ◌∷◌, ◌++◌, length, map, take}
-use Rattle.std.proofs.Common.{drop, get_or, refl, sym, ap, ap₂, ◌∙◌, arith, add-one, append_assoc, subst}
-use Rattle.std.proofs.Math.Path.{fun_ext}
-use Rattle.std.proofs.lemmas.List.{drop_all, drop_more, map-append, take_more}
-use Rattle.ebc_width.specs.Ranges.{Range, covers}
-use Rattle.ebc_width.proofs.RangeLaws.{covers-bounds}
-use Rattle.object_memory.specs.Memory.{Memory, byte_at, next_base, placed, range_of, ranges}
-use Rattle.object_memory.proofs.Laws.{byte_at-placed}
-use Rattle.note_types.specs.Concrete.{Concrete}
-use Rattle.note_types.specs.declared.notes.Notes.{Notes}
-use Rattle.note_types.specs.declared.script.ScriptObject.{ScriptObject}
-use Rattle.host_model.specs.HostSteps.{with_object, with_objects}
-use Rattle.host_model.specs.Objects.{script_object}
-use Rattle.host_model.specs.Placements.{Placement, object_at, object_bytes, object_range}
-use Rattle.host_model.specs.declared.object.TypedObject.{TypedObject}
-use Rattle.entry_thunk.specs.Cells.{with_memory}
-use Rattle.native_host.specs.Placing.{AreComing, IsNext}
+use Rattle.native_host.proofs.Common.{◌≡◌, ℕ, ◌+◌, ◌<◌, ◌≤◌, Bool, true, false, if◌then◌else◌, List, [], ◌∷◌, ◌++◌, length, map, take, drop}
+use Rattle.native_host.proofs.Common.{get_or, refl, sym, ap, ap₂, ◌∙◌, arith, add-one, append_assoc, subst, fun_ext, drop_all, drop_more}
+use Rattle.native_host.proofs.Common.{map-append, Range, covers, covers-bounds, Memory, byte_at, next_base, placed, range_of, ranges}
+use Rattle.native_host.proofs.Common.{byte_at-placed, Concrete, Notes, ScriptObject, with_object, with_objects, script_object, Placement}
+use Rattle.native_host.proofs.Common.{object_at, object_bytes, object_range, TypedObject, with_memory, AreComing}
+use Rattle.std.proofs.lemmas.List.{take_more}
+use Rattle.native_host.specs.Placing.{IsNext}
 
 pub ranges-placed : (w : ℕ) (m : Memory) (n : ℕ) → ranges (placed w m n) ≡ ranges m ++ record { base = next_base w m; size = n } ∷ []
 unfolding placed

@@ -1,30 +1,17 @@
 -- Laws of what is placed at the start: the native area, the stack and the image, and the objects that are to come.
-use Rattle.std.proofs.Common.{◌≡◌, ℕ, ◌+◌, ◌-◌, ◌%◌, ◌<◌, ◌≤◌, ◌⊎◌, ◌&&◌, true, false, Bool, List, [], ◌∷◌, ◌++◌}
-use Rattle.std.proofs.Common.{length, map}
-use Rattle.std.proofs.Common.{refl, sym, ap, ap₂, ◌∙◌, arith, if◌then◌else◌, inl, inr, ⊎_elim}
-use Rattle.std.specs.List.{find, sum_by}
-use Rattle.std.specs.Option.{option_map_or}
-use Rattle.std.specs.Prelude.{nat_le}
-use Rattle.std.proofs.lemmas.Bool.{leb-false, true≢false}
-use Rattle.std.proofs.Math.Path.{fun_ext}
-use Rattle.ebc_width.specs.Ranges.{Range, covers}
-use Rattle.ebc_width.specs.Width.{IsWidth}
-use Rattle.ebc_width.proofs.Laws.{by_width}
-use Rattle.ebc_width.proofs.RangeLaws.{covers-bounds}
-use Rattle.object_memory.specs.Memory.{IsFull, Memory, Object, byte_at, byte_of, first_base, has_byte, next_base, object_at}
-use Rattle.object_memory.specs.Memory.{padded, placed, range_of, ranges, used}
-use Rattle.object_memory.proofs.Laws.{byte_at-placed, ranges-with_bytes, used-placed}
-use Rattle.pe_image.specs.Mapped.{mapped}
+use Rattle.native_host.proofs.Common.{◌≡◌, ℕ, ◌+◌, ◌-◌, ◌%◌, ◌<◌, ◌≤◌, ◌&&◌, true, false, Bool, List, [], ◌∷◌, ◌++◌, length, map, refl, sym}
+use Rattle.native_host.proofs.Common.{ap, ap₂, ◌∙◌, arith, if◌then◌else◌, ⊎_elim, sum_by, option_map_or, nat_le, true≢false, fun_ext, Range}
+use Rattle.native_host.proofs.Common.{covers, IsWidth, by_width, covers-bounds, Memory, Object, byte_at, first_base, next_base, padded}
+use Rattle.native_host.proofs.Common.{placed, range_of, ranges, used, byte_at-placed, used-placed, mapped, Concrete, Notes, Script}
+use Rattle.native_host.proofs.Common.{Placement, area_bytes, image_range, native_range, stack_bytes, stack_range, world_of, bare_machine}
+use Rattle.native_host.proofs.Common.{World, with_memory}
+use Rattle.std.proofs.{Common.◌⊎◌, Common.inl, Common.inr, lemmas.Bool.leb-false}
+use Rattle.std.specs.List.{find}
+use Rattle.object_memory.specs.Memory.{IsFull, byte_of, has_byte, object_at}
+use Rattle.object_memory.proofs.Laws.{ranges-with_bytes}
 use Rattle.pe_image.specs.declared.image.Image.{Image}
 use Rattle.reloc_loader.specs.Loads.{loaded_at}
-use Rattle.note_types.specs.Concrete.{Concrete}
-use Rattle.note_types.specs.declared.notes.Notes.{Notes}
-use Rattle.note_types.specs.declared.script.Script.{Script}
-use Rattle.host_model.specs.Placements.{Placement, area_bytes, image_range, native_range, stack_bytes, stack_range}
-use Rattle.host_model.specs.Runs.{world_of}
-use Rattle.host_model.specs.Start.{bare_machine, image_byte}
-use Rattle.host_model.specs.World.{World}
-use Rattle.entry_thunk.specs.Cells.{with_memory}
+use Rattle.host_model.specs.Start.{image_byte}
 use Rattle.native_host.proofs.PlaceLaws.{ranges-placed}
 
 pub limits_placed : (w : ℕ) (m : Memory) (n : ℕ) → ((placed w m n).byte_limit ≡ m.byte_limit)

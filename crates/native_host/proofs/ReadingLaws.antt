@@ -1,16 +1,10 @@
 -- Laws of readings: what begins at an address, and the typed objects one after the other.
-use Rattle.std.proofs.Common.{◌≡◌, ℕ, ◌+◌, ◌*◌, ◌<◌, ◌≤◌, List, length, drop, get_or, Option, None, sym, ap, ap₂}
-use Rattle.std.proofs.Common.{◌∙◌, arith, add-one}
-use Rattle.std.specs.Option.{option_map, option_or}
-use Rattle.std.proofs.lemmas.List.{drop_all, drop_more}
-use Rattle.note_types.specs.declared.notes.Notes.{Notes}
-use Rattle.note_types.specs.declared.value.Value.TheVariants as value
-use Rattle.host_model.specs.declared.object.TypedObject.{TypedObject}
-use Rattle.host_model.specs.Placements.{Placement, object_at, shape_bytes}
-use Rattle.host_model.specs.Readings.{entry_named, handle_named, instance_named, method_named, pointer_from, thing_at}
-use Rattle.native_host.specs.declared.places.Places.{Places}
-use Rattle.native_host.specs.Kept.{IsOf, instance_bytes, object_base, placement_of}
+use Rattle.native_host.proofs.Common.{◌≡◌, ℕ, ◌+◌, ◌*◌, ◌<◌, ◌≤◌, List, length, drop, get_or, Option, None, sym, ap, ap₂, ◌∙◌, arith}
+use Rattle.native_host.proofs.Common.{add-one, option_map, option_or, drop_all, drop_more, Notes, TypedObject, Placement, object_at}
+use Rattle.native_host.proofs.Common.{shape_bytes, pointer_from, Places, IsOf, instance_bytes, object_base, placement_of}
+use Rattle.host_model.specs.Readings.{entry_named, handle_named, instance_named, method_named, thing_at}
 use Rattle.native_host.proofs.KeptLaws.{instance_bytes-is, object_base-is}
+use Rattle.note_types.specs.declared.value.Value.TheVariants as value
 
 -- ---- things of the native area
 

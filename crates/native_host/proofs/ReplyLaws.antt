@@ -1,43 +1,20 @@
 -- Laws of callbacks and replies: which plan the host has, and arguments that are named one after the other.
-use Rattle.std.proofs.Common.{◌≡◌, ℕ, zero, suc, ◌+◌, ◌<◌, ◌≤◌, Bool, true, false, not, ◌&&◌, if◌then◌else◌, List, [], ◌∷◌, length, map}
-use Rattle.std.proofs.Common.{take, drop, get_or}
-use Rattle.std.proofs.Common.{Some, None, refl, sym, ap, ◌∙◌, arith, add-one}
-use Rattle.std.specs.Prelude.{nat_le, slice_get}
-use Rattle.std.specs.List.{flat_map, list_all, sum_by}
-use Rattle.std.specs.Option.{option_map_or}
-use Rattle.std.proofs.lemmas.List.{drop_more, length-map}
+use Rattle.native_host.proofs.Common.{◌≡◌, ℕ, zero, suc, ◌+◌, ◌<◌, ◌≤◌, Bool, true, false, not, ◌&&◌, if◌then◌else◌, List, [], ◌∷◌, length}
+use Rattle.native_host.proofs.Common.{map, take, drop, get_or, Some, None, refl, sym, ap, ◌∙◌, arith, add-one, nat_le, slice_get, flat_map}
+use Rattle.native_host.proofs.Common.{sum_by, option_map_or, drop_more, length-map, same_Some, Memory, ranges, saved_of, Concrete}
+use Rattle.native_host.proofs.Common.{with_memory, Frame, Mismatch, ScriptEnd, Notes, WantParam, OutValue, ScriptCall, GoesOn, Ends, Enters}
+use Rattle.native_host.proofs.Common.{Replies, all_named_right, named_right, reply_fits, reply_plan, reply_stores, host_plan, out_store}
+use Rattle.native_host.proofs.Common.{write_store, signature_params, after_stores, call_under_way, writes_mapped, made_objects, Placement}
+use Rattle.native_host.proofs.Common.{frame_limit, ScriptPlace, RunState, SavedFrame, World, given, TypedObject, can_enter, IsCalled, shown}
+use Rattle.native_host.proofs.Common.{top_count, are_mapped, Host}
+use Rattle.std.specs.List.{list_all}
 use Rattle.std.proofs.lemmas.List.Sums.{sum_by-append}
-use Rattle.std.proofs.lemmas.Option.{same_Some}
-use Rattle.object_memory.specs.Memory.{Memory, ranges}
-use Rattle.callex_thunk.specs.HostFrames.{saved_of}
-use Rattle.note_types.specs.Concrete.{Concrete}
-use Rattle.entry_thunk.specs.Cells.{with_memory}
-use Rattle.frame_stack.specs.declared.Frame.{Frame}
-use Rattle.note_types.specs.declared.ending.Ending.TheVariants.{Mismatch, ScriptEnd}
-use Rattle.note_types.specs.declared.event.Event.TheVariants as event
-use Rattle.note_types.specs.declared.notes.Notes.{Notes}
-use Rattle.note_types.specs.declared.notes.WantParam.{WantParam}
-use Rattle.note_types.specs.declared.reason.Reason.TheVariants as reason
 use Rattle.note_types.specs.declared.script.Callback.{Callback}
-use Rattle.note_types.specs.declared.script.OutValue.{OutValue}
-use Rattle.note_types.specs.declared.script.ScriptCall.{ScriptCall}
-use Rattle.host_model.specs.HostPlans.{GoesOn, View, Ends, Enters, Replies, all_named_right, enter_plan, named_right, reply_fits}
-use Rattle.host_model.specs.HostPlans.{reply_plan, reply_stores}
-use Rattle.host_model.specs.HostPlans.{host_plan, next_plan, out_store, write_store, signature_params, signature_result, times_named}
-use Rattle.host_model.specs.HostSteps.{after_stores, call_seen, call_under_way, write_mapped, writes_mapped}
-use Rattle.host_model.specs.Objects.{made_objects}
-use Rattle.host_model.specs.Placements.{Placement, frame_limit}
-use Rattle.host_model.specs.Progress.{ScriptPlace}
-use Rattle.host_model.specs.RunState.{RunState, SavedFrame}
-use Rattle.host_model.specs.World.{World}
-use Rattle.host_model.specs.ScriptValues.{given}
-use Rattle.host_model.specs.declared.object.TypedObject.{TypedObject}
-use Rattle.native_host.specs.Entering.{can_enter}
-use Rattle.native_host.specs.Hosts.{IsCalled, shown, top_count}
-use Rattle.native_host.specs.Stores.{are_mapped}
-use Rattle.native_host.specs.declared.host.Host.{Host}
-use Rattle.native_host.proofs.StoreLaws.{stores-append}
-use Rattle.native_host.proofs.TopLaws.{under-way}
+use Rattle.host_model.specs.HostPlans.{View, enter_plan, next_plan, signature_result, times_named}
+use Rattle.host_model.specs.HostSteps.{call_seen, write_mapped}
+use Rattle.native_host.proofs.{StoreLaws.stores-append, TopLaws.under-way}
+use Rattle.note_types.specs.declared.event.Event.TheVariants as event
+use Rattle.note_types.specs.declared.reason.Reason.TheVariants as reason
 
 -- ---- arguments that are named
 

@@ -1,16 +1,8 @@
 -- The law of a function's result: what a host reads from R7 is what it sees in each state of its run that has that number there.
-use Rattle.std.proofs.Common.{◌≡◌, ℕ, sym, ap, ap₂, ◌∙◌}
-use Rattle.ebc_width.specs.Width.{cut_at}
-use Rattle.note_types.specs.Concrete.{register}
-use Rattle.note_types.specs.declared.notes.Notes.{Notes}
-use Rattle.host_model.specs.HostSteps.{objects_at, result_of}
-use Rattle.host_model.specs.Objects.{made_objects}
-use Rattle.host_model.specs.Readings.{Sort, reading_of}
-use Rattle.host_model.specs.RunState.{RunState}
-use Rattle.host_model.specs.World.{World}
-use Rattle.native_host.specs.declared.host.Host.{Host}
+use Rattle.native_host.proofs.Common.{◌≡◌, ℕ, sym, ap, ap₂, ◌∙◌, cut_at, register, Notes, objects_at, made_objects, reading_of, RunState}
+use Rattle.native_host.proofs.Common.{World, Host, placement_of}
+use Rattle.host_model.specs.{HostSteps.result_of, Readings.Sort}
 use Rattle.native_host.specs.Hosts.{IsHost, Tells, result_sort}
-use Rattle.native_host.specs.Kept.{placement_of}
 
 pub result-told : (w : ℕ) (world : World) (r : RunState) (h : Host w) (notes : Notes) (f x y : ℕ) (sort : Sort) → world.notes ≡ notes
     → IsHost w world h → Tells h r → register r.machine 7 ≡ x → y ≡ cut_at w x → sort ≡ result_sort notes f

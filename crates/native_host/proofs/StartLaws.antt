@@ -1,36 +1,18 @@
 -- Laws of the start: what is counted over a script and notes, and what all that is placed takes.
-use Rattle.std.proofs.Common.{◌≡◌, ℕ, zero, suc, ◌+◌, ◌*◌, ◌^◌, ◌<◌, ◌≤◌, true, ◌||◌, List, [], ◌∷◌, ◌++◌, length, map}
-use Rattle.std.proofs.Common.{take, Some, None}
-use Rattle.std.proofs.Common.{refl, sym, ap, ap₂, ◌∙◌, subst, arith, le_refl, nat_le, nat_eq, slice_get, if◌then◌else◌}
-use Rattle.std.proofs.Common.{Option}
-use Rattle.std.proofs.lemmas.Option.{none-some, same_Some}
-use Rattle.std.specs.List.{flat_map, sum_by}
-use Rattle.std.proofs.lemmas.Bool.{and_parts, eq-eqb, leb-true}
-use Rattle.std.proofs.lemmas.List.{append-nil, length-append, nil_from_length}
-use Rattle.std.proofs.lemmas.List.Sums.{sum_by-cons}
-use Rattle.std.proofs.lemmas.Nat.{mul-le}
+use Rattle.native_host.proofs.Common.{◌≡◌, ℕ, zero, suc, ◌+◌, ◌*◌, ◌^◌, ◌<◌, ◌≤◌, true, List, [], ◌∷◌, ◌++◌, length, map, take, Some, None}
+use Rattle.native_host.proofs.Common.{refl, sym, ap, ap₂, ◌∙◌, subst, arith, le_refl, nat_le, nat_eq, slice_get, if◌then◌else◌, Option}
+use Rattle.native_host.proofs.Common.{none-some, same_Some, flat_map, sum_by, and_parts, append-nil, length-append, sum_by-cons, mul-le}
+use Rattle.native_host.proofs.Common.{IsWidth, by_width, Range, first_base, padded, IsNotes, size_at, FnNote, Notes, Param, Script}
+use Rattle.native_host.proofs.Common.{ScriptCall, ScriptObject, made_objects, objects_of, placed_objects, script_object, shape_of}
+use Rattle.native_host.proofs.Common.{static_object, all_ranges, area_bytes, bases_from, frame_bytes, most_bytes, object_bytes}
+use Rattle.native_host.proofs.Common.{own_placement, params_bytes, placed_ranges, script_ranges, slot_bytes, stack_bytes, World, IsScript}
+use Rattle.native_host.proofs.Common.{callbacks_of, all_events, bases_in, bases_made, rest_events, rest_made, room_in, rooms_in, rooms_made}
+use Rattle.std.proofs.{Common.◌||◌, lemmas.Bool.eq-eqb, lemmas.Bool.leb-true, lemmas.List.nil_from_length}
 use Rattle.ebc_base.proofs.Lists.{length-map, take-all, within_some}
-use Rattle.ebc_width.specs.Width.{IsWidth}
-use Rattle.ebc_width.proofs.Laws.{by_width}
-use Rattle.ebc_width.specs.Ranges.{Range}
-use Rattle.object_memory.specs.Memory.{first_base, padded}
-use Rattle.note_types.specs.Records.{CanBeEntered, IsNotes}
-use Rattle.note_types.specs.Shapes.{size_at}
+use Rattle.note_types.specs.Records.{CanBeEntered}
 use Rattle.note_types.specs.declared.cell.SlotKind.TheVariants.{N, Q, D}
-use Rattle.note_types.specs.declared.notes.FnNote.{FnNote}
-use Rattle.note_types.specs.declared.notes.Notes.{Notes}
-use Rattle.note_types.specs.declared.notes.Param.{Param}
-use Rattle.note_types.specs.declared.script.Script.{Script}
-use Rattle.note_types.specs.declared.script.ScriptCall.{ScriptCall}
-use Rattle.note_types.specs.declared.script.ScriptObject.{ScriptObject}
-use Rattle.host_model.specs.Objects.{made_objects, objects_of, placed_objects, script_object, shape_of, static_object}
-use Rattle.host_model.specs.Placements.{all_ranges, area_bytes, bases_from, frame_bytes, most_bytes, object_bytes, own_placement}
-use Rattle.host_model.specs.Placements.{pair_at, params_bytes, placed_ranges, script_ranges, slot_bytes, stack_bytes}
-use Rattle.host_model.specs.World.{World}
-use Rattle.host_model.specs.Scripts.{IsScript, callbacks_of, have_room, room_of}
-use Rattle.native_host.specs.Hosts.{all_events}
+use Rattle.host_model.specs.{Placements.pair_at, Scripts.have_room, Scripts.room_of}
 use Rattle.native_host.proofs.KeptLaws.{index-sizes}
-use Rattle.native_host.specs.Starting.{bases_in, bases_made, rest_events, rest_made, room_in, rooms_in, rooms_made}
 
 -- ---- counts over a script
 

@@ -1,20 +1,11 @@
 -- Laws of what plans leave: the run with an event more, before whoever runs the machine has done its part.
-use Rattle.std.proofs.Common.{◌≡◌, ℕ, true, false, List, [], ◌∷◌, ◌++◌, map, Option, Some, refl, sym, ap, ap₂, ◌∙◌, append-nil}
-use Rattle.note_types.specs.declared.ending.Ending.{Ending}
-use Rattle.note_types.specs.declared.event.Event.{Event}
-use Rattle.note_types.specs.declared.seen.Seen.{Seen}
+use Rattle.native_host.proofs.Common.{◌≡◌, ℕ, true, false, List, [], ◌∷◌, ◌++◌, map, Option, Some, refl, sym, ap, ap₂, ◌∙◌, append-nil}
+use Rattle.native_host.proofs.Common.{Ending, Event, Seen, Value, Concrete, Ends, Enters, Notifies, Replies, Store, after_stores}
+use Rattle.native_host.proofs.Common.{call_under_way, objects_at, performed, with_call, written_number, Placement, NoCall, copied}
+use Rattle.native_host.proofs.Common.{one_callback, RunState, SavedFrame, given, World, step_of, HostStep}
 use Rattle.note_types.specs.declared.types.Ty.{Ty}
-use Rattle.note_types.specs.declared.value.Value.{Value}
-use Rattle.note_types.specs.Concrete.{Concrete, with_register}
-use Rattle.host_model.specs.HostPlans.{Plan, Ends, Enters, Notifies, Replies, Store}
-use Rattle.host_model.specs.HostSteps.{after_stores, call_under_way, entered, objects_at, performed, with_call, written_number}
-use Rattle.host_model.specs.Placements.{Placement}
-use Rattle.host_model.specs.Progress.{NoCall, copied, one_callback, one_notification}
-use Rattle.host_model.specs.RunState.{RunState, SavedFrame}
-use Rattle.host_model.specs.ScriptValues.{given}
-use Rattle.host_model.specs.World.{World}
-use Rattle.native_host.specs.Steps.{step_of}
-use Rattle.native_host.specs.declared.step.HostStep.{HostStep}
+use Rattle.note_types.specs.Concrete.{with_register}
+use Rattle.host_model.specs.{HostPlans.Plan, HostSteps.entered, Progress.one_notification}
 
 -- the numbers of values that aren't lent
 pub map-given : (f : Value → ℕ) (values : List Value) → map (λ (s : Seen). f s.value) (map given values) ≡ map f values

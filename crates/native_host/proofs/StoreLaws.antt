@@ -1,37 +1,18 @@
 -- Laws of stores of values: one after the other, in cells that are there or not.
-use Rattle.std.proofs.Common.{◌≡◌, ℕ, ◌+◌, ◌*◌, ◌^◌, ◌<◌, ◌≤◌, Bool, true, false, if◌then◌else◌, List, [], ◌∷◌, ◌++◌, length, drop}
-use Rattle.std.proofs.Common.{get_or, Option, Some, None}
-use Rattle.std.proofs.Common.{refl, sym, ap, ◌∙◌, arith}
-use Rattle.std.specs.List.{flat_map}
-use Rattle.std.specs.Prelude.{nat_lt, slice_get, slice_index}
-use Rattle.std.specs.Option.{option_and_then, option_map_or}
-use Rattle.std.proofs.lemmas.List.{drop_all, drop_more}
-use Rattle.ebc_width.specs.Ranges.{Range, holds}
-use Rattle.ebc_width.specs.Width.{IsWidth}
-use Rattle.ebc_width.proofs.Laws.{by_width}
-use Rattle.object_memory.specs.Memory.{IsMemory, Memory, first_base, memory_after, next_base, ranges}
-use Rattle.object_memory.proofs.Laws.{holds-bounds, memory_after-absent}
-use Rattle.note_types.specs.Cells.{cell_size}
-use Rattle.note_types.specs.Concrete.{Concrete, stored}
-use Rattle.note_types.specs.declared.cell.Cell.{Cell}
+use Rattle.native_host.proofs.Common.{◌≡◌, ℕ, ◌+◌, ◌*◌, ◌^◌, ◌<◌, ◌≤◌, Bool, true, false, if◌then◌else◌, List, [], ◌∷◌, ◌++◌, length, drop}
+use Rattle.native_host.proofs.Common.{get_or, Option, Some, None, refl, sym, ap, ◌∙◌, arith, flat_map, nat_lt, slice_get, slice_index}
+use Rattle.native_host.proofs.Common.{option_and_then, option_map_or, drop_all, drop_more, Range, holds, IsWidth, by_width, Memory}
+use Rattle.native_host.proofs.Common.{first_base, memory_after, next_base, ranges, memory_after-absent, cell_size, Concrete, stored, Notes}
+use Rattle.native_host.proofs.Common.{WantParam, OutValue, ScriptObject, Field, Value, Store, cell_store, field_at, filling, object_stores}
+use Rattle.native_host.proofs.Common.{out_store, write_store, after_stores, cell_address, written_number, script_object, Placement}
+use Rattle.native_host.proofs.Common.{TypedObject, with_memory, stored-memory, after_number}
+use Rattle.object_memory.specs.Memory.{IsMemory}
+use Rattle.object_memory.proofs.Laws.{holds-bounds}
+use Rattle.note_types.specs.declared.{cell.Cell.Cell, script.CellValue.CellValue, script.WriteValue.WriteValue}
+use Rattle.host_model.specs.HostPlans.{InArgument, InObject, field_in, field_of, lent_at}
+use Rattle.host_model.specs.HostSteps.{after_store}
+use Rattle.native_host.specs.Stores.{is_mapped}
 use Rattle.note_types.specs.declared.cell.Cell.TheVariants as cell
-use Rattle.note_types.specs.declared.notes.Notes.{Notes}
-use Rattle.note_types.specs.declared.script.CellValue.{CellValue}
-use Rattle.note_types.specs.declared.notes.WantParam.{WantParam}
-use Rattle.note_types.specs.declared.script.OutValue.{OutValue}
-use Rattle.note_types.specs.declared.script.ScriptObject.{ScriptObject}
-use Rattle.note_types.specs.declared.script.WriteValue.{WriteValue}
-use Rattle.note_types.specs.declared.shape.Field.{Field}
-use Rattle.note_types.specs.declared.value.Value.{Value}
-use Rattle.host_model.specs.HostPlans.{InArgument, InObject, Store, cell_store, field_at, field_in, field_of, filling, lent_at}
-use Rattle.host_model.specs.HostPlans.{object_stores, out_store, write_store}
-use Rattle.host_model.specs.HostSteps.{after_store, after_stores, cell_address, written_number}
-use Rattle.host_model.specs.Objects.{script_object}
-use Rattle.host_model.specs.Placements.{Placement}
-use Rattle.host_model.specs.declared.object.TypedObject.{TypedObject}
-use Rattle.entry_thunk.specs.Cells.{with_memory}
-use Rattle.entry_thunk.proofs.CellLaws.{stored-memory}
-use Rattle.native_host.specs.Stores.{after_number, is_mapped}
 
 -- ---- a store at an address
 

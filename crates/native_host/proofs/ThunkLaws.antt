@@ -1,27 +1,12 @@
 -- Laws of thunk cells: what the host sees of one, and what it stores.
-use Rattle.std.proofs.Common.{◌≡◌, ℕ, ◌+◌, ◌*◌, ◌≤◌, Bool, true, false, if◌then◌else◌, Option, Some, refl, sym, ap, ◌∙◌}
-use Rattle.std.proofs.Common.{arith, le_refl}
-use Rattle.std.specs.Option.{option_map_or}
-use Rattle.std.proofs.lemmas.Option.{same_Some}
-use Rattle.ebc_width.specs.Bytes.{little_endian}
-use Rattle.ebc_width.specs.Ranges.{holds}
-use Rattle.ebc_width.specs.Width.{IsWidth}
-use Rattle.ebc_width.proofs.Laws.{by_width}
+use Rattle.native_host.proofs.Common.{◌≡◌, ℕ, ◌+◌, ◌*◌, ◌≤◌, Bool, true, false, if◌then◌else◌, Option, Some, refl, sym, ap, ◌∙◌, arith}
+use Rattle.native_host.proofs.Common.{le_refl, option_map_or, same_Some, little_endian, holds, IsWidth, by_width, Memory, byte_at}
+use Rattle.native_host.proofs.Common.{held_number, memory_after, ranges, held_number-held, memory_after-absent, Concrete, stored, Notes}
+use Rattle.native_host.proofs.Common.{KeepsObjects, Placement, World, memory_state, with_memory, stored-memory, Places, IsOf, placement_of}
 use Rattle.ebc_width.proofs.RangeLaws.{holds-within}
-use Rattle.object_memory.specs.Memory.{Memory, byte_at, held_number, memory_after, ranges}
-use Rattle.object_memory.proofs.Laws.{held_number-held, memory_after-absent}
-use Rattle.note_types.specs.Concrete.{Concrete, stored}
-use Rattle.note_types.specs.declared.notes.Notes.{Notes}
-use Rattle.ebc_machine.specs.States.{KeepsObjects}
-use Rattle.host_model.specs.HostPlans.{NamesNone, Names, NotMapped}
-use Rattle.host_model.specs.HostSteps.{entered_at, thunk_place, thunk_view}
-use Rattle.host_model.specs.Placements.{Placement, thunk_at}
-use Rattle.host_model.specs.World.{World}
-use Rattle.callex_thunk.specs.Slots.{memory_state}
-use Rattle.entry_thunk.specs.Cells.{with_memory}
-use Rattle.entry_thunk.proofs.CellLaws.{keeps-stored, stored-memory}
-use Rattle.native_host.specs.declared.places.Places.{Places}
-use Rattle.native_host.specs.Kept.{IsOf, placement_of}
+use Rattle.host_model.specs.{HostPlans.NamesNone, HostPlans.Names, HostPlans.NotMapped, HostSteps.entered_at, HostSteps.thunk_place}
+use Rattle.host_model.specs.{HostSteps.thunk_view, Placements.thunk_at}
+use Rattle.entry_thunk.proofs.CellLaws.{keeps-stored}
 
 -- the first four bytes of eight that one object holds
 pub held-four : (m : Memory) (a : ℕ) → holds (ranges m) a 8 ≡ true → held_number m a 4 ≡ Some (little_endian (byte_at m) a 4)

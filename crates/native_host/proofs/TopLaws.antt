@@ -1,19 +1,12 @@
 -- Laws of the top frame: its slots, and what a mark makes of it.
-use Rattle.std.proofs.Common.{◌≡◌, ℕ, zero, suc, ◌+◌, ◌-◌, ◌*◌, ◌<◌, ◌≤◌, Bool, false, List, [], ◌∷◌, length, map, reverse, take, get_or}
-use Rattle.std.proofs.Common.{nat_eq}
-use Rattle.std.proofs.Common.{Some, if◌then◌else◌, refl, sym, ap, ap₂, ◌∙◌, arith, add-one}
-use Rattle.std.specs.Prelude.{slice_get, slice_index}
-use Rattle.std.proofs.lemmas.List.{length-reverse, get_or-reverse}
-use Rattle.std.specs.Option.{option_map_or}
-use Rattle.std.proofs.lemmas.Option.{same_Some, slice_get-get_or}
-use Rattle.frame_stack.specs.Frames.{frame_at, from_bottom, with_mark}
-use Rattle.frame_stack.specs.declared.Frame.{Frame}
+use Rattle.native_host.proofs.Common.{◌≡◌, ℕ, zero, suc, ◌+◌, ◌-◌, ◌*◌, ◌<◌, ◌≤◌, Bool, false, List, [], ◌∷◌, length, map, take, get_or}
+use Rattle.native_host.proofs.Common.{nat_eq, Some, if◌then◌else◌, refl, sym, ap, ap₂, ◌∙◌, arith, add-one, slice_get, slice_index}
+use Rattle.native_host.proofs.Common.{option_map_or, same_Some, slice_get-get_or, with_mark, Frame, saved_of, NO_ENTRY, call_under_way}
+use Rattle.native_host.proofs.Common.{with_call, Accepted, NativeCall, NoCall, copied, one_callback, IsCalled, top_count, top_slots}
+use Rattle.std.proofs.{Common.reverse, lemmas.List.length-reverse, lemmas.List.get_or-reverse}
+use Rattle.frame_stack.specs.Frames.{frame_at, from_bottom}
 use Rattle.frame_stack.proofs.WordLaws.{length-words}
-use Rattle.callex_thunk.specs.HostFrames.{call_of, saved_of}
-use Rattle.callex_thunk.specs.declared.TheConstants.{NO_ENTRY}
-use Rattle.host_model.specs.HostSteps.{call_under_way, with_call}
-use Rattle.host_model.specs.Progress.{Accepted, NativeCall, NoCall, copied, one_callback}
-use Rattle.native_host.specs.Hosts.{IsCalled, top_count, top_slots}
+use Rattle.callex_thunk.specs.HostFrames.{call_of}
 
 -- ---- slots
 

@@ -1,23 +1,14 @@
 -- Why a text isn't filled, by the step that ends it.
-use Rattle.std.proofs.Common.{ℕ, List, Option, refl, inl, inr}
-use Rattle.std.specs.Prelude.{Result, codes}
+use Rattle.note_filling.proofs.Common.{ℕ, List, Option, refl, inl, inr, Result, codes, NotesEnd, TomlFault, Data, Members, get_member}
+use Rattle.note_filling.proofs.Common.{Fails, of_notes, AreFilledLists, IsAssembled, FillEnd, Lists}
+use Rattle.note_filling.specs.{Causes.HasCause, Causes.HasFormFault, Causes.IsKeptInPlace, Causes.forms_of, Originals.AreOrders}
+use Rattle.note_filling.specs.Views.{AreArranged, AreOrdered}
+use Rattle.note_filling.specs.declared.{end.Flaw.Flaw as Fault, table.Orders.Orders}
+use Rattle.note_filling.proofs.{ListLaws.list-kept, OrderLaws.list_order}
 use Rattle.note_draft.specs.declared.finding.TableList.TheVariants as lists
 use Rattle.note_texts.specs.Outcome as texts
-use Rattle.note_types.specs.declared.fault.NotesEnd.{NotesEnd}
 use Rattle.note_types.specs.declared.fault.NotesEnd.TheVariants as notes
-use Rattle.note_types.specs.declared.fault.TomlFault.{TomlFault}
-use Rattle.toml.specs.Data.{Data, Members, get_member}
-use Rattle.note_filling.specs.Causes.{HasCause, HasFormFault, IsKeptInPlace, forms_of}
-use Rattle.note_filling.specs.Ends.{Fails, of_notes}
-use Rattle.note_filling.specs.Originals.{AreOrders}
-use Rattle.note_filling.specs.Views.{AreArranged, AreFilledLists, AreOrdered, IsAssembled}
-use Rattle.note_filling.specs.declared.end.FillEnd.{FillEnd}
 use Rattle.note_filling.specs.declared.end.FillEnd.TheVariants as ends
-use Rattle.note_filling.specs.declared.end.Flaw.{Flaw as Fault}
-use Rattle.note_filling.specs.declared.table.Lists.{Lists}
-use Rattle.note_filling.specs.declared.table.Orders.{Orders}
-use Rattle.note_filling.proofs.ListLaws.{list-kept}
-use Rattle.note_filling.proofs.OrderLaws.{list_order}
 
 -- a step that ends by the first fault of a label
 pub caused_label : (e : FillEnd) (labels : Result (Unit {0}) Fault) (cause : TomlFault → Type 0) → Fails e labels → HasCause labels cause e

@@ -1,14 +1,9 @@
 -- What a function tells that goes on from step to step.
-use Rattle.std.proofs.Common.{◌≡◌, refl, ap, ◌∙◌, inl, inr}
-use Rattle.std.specs.Prelude.{Result, Ok}
-use Rattle.ebc_base.specs.Steps.{◌>>=◌}
-use Rattle.note_types.specs.declared.fault.NotesEnd.{NotesEnd}
-use Rattle.note_types.specs.declared.fault.NotesEnd.TheVariants as notes
-use Rattle.note_filling.specs.Ends.{Fails, of_notes}
+use Rattle.note_filling.proofs.Common.{◌≡◌, refl, ap, ◌∙◌, inl, inr, Result, Ok, ◌>>=◌, NotesEnd, Fails, of_notes, FillEnd}
 use Rattle.note_filling.specs.Views.{Refuses}
-use Rattle.note_filling.specs.declared.end.FillEnd.{FillEnd}
-use Rattle.note_filling.specs.declared.end.FillEnd.TheVariants as ends
 use Rattle.note_filling.specs.declared.end.Flaw.{Flaw as Fault}
+use Rattle.note_types.specs.declared.fault.NotesEnd.TheVariants as notes
+use Rattle.note_filling.specs.declared.end.FillEnd.TheVariants as ends
 
 -- the first step ends all
 pub fails_first : {A B : Type 0} (e : FillEnd) (first : Result A Fault) (more : A → Result B Fault) → Fails e first

@@ -1,11 +1,7 @@
 -- How deep items and members nest, one more of them.
-use Rattle.std.proofs.Common.{◌≡◌, ◌↔◌, ⊎_elim, ℕ, zero, suc, ◌<◌, ◌≤◌, Bool, true, false, IsTrue, List, [], ◌∷◌, ◌++◌, length, get_or}
-use Rattle.std.proofs.Common.{ap, arith}
-use Rattle.std.proofs.lemmas.Bool.{cases_lt}
-use Rattle.toml.specs.Data.{depth, items_depth, members_depth}
-use Rattle.toml.specs.View.{items_view, members_view, view}
-use Rattle.toml.specs.declared.value.Value.{Value}
-use Rattle.toml.proofs.Views.{Entry}
+use Rattle.note_filling.proofs.Common.{◌≡◌, ℕ, ◌<◌, ◌≤◌, Bool, true, false, List, [], ◌∷◌, ◌++◌, length, get_or, ap, arith, depth}
+use Rattle.note_filling.proofs.Common.{items_depth, members_depth, items_view, members_view, view, Value, Entry}
+use Rattle.std.proofs.{Common.◌↔◌, Common.⊎_elim, Common.zero, Common.suc, Common.IsTrue, lemmas.Bool.cases_lt}
 
 pub items-deeper : (vs : List Value) (v : Value) (n : ℕ) → items_depth (items_view vs) ≤ n → depth (view v) ≤ n
     → items_depth (items_view (vs ++ v ∷ [])) ≤ n

@@ -1,3 +1,4 @@
+pub mod Common
 pub mod MemberLaws
 pub mod CheckLaws
 pub mod PlaceLaws

@@ -1,23 +1,16 @@
 -- The items of a list, one item more, and what the arranged list keeps.
-use Rattle.std.proofs.Common.{◌≡◌, ℕ, ◌+◌, ◌<◌, ◌≤◌, List, [], ◌∷◌, ◌++◌, length, get_or, map, take, drop, Option, Some, None, Vec, Global}
-use Rattle.std.proofs.Common.{refl, sym, ap, ◌∙◌, subst}
-use Rattle.std.specs.Prelude.{Result, Ok, Err}
-use Rattle.std.proofs.lemmas.List.{drop_all, map-append}
-use Rattle.std.proofs.lemmas.List.Elements.{AllZip-push}
-use Rattle.ebc_base.specs.Steps.{◌>>=◌}
+use Rattle.note_filling.proofs.Common.{◌≡◌, ℕ, ◌+◌, ◌<◌, ◌≤◌, List, [], ◌∷◌, ◌++◌, length, get_or, map, take, drop, Option, Some, None, Vec}
+use Rattle.note_filling.proofs.Common.{Global, refl, sym, ap, ◌∙◌, subst, Result, Ok, Err, map-append, ◌>>=◌, TableList, Data, array}
+use Rattle.note_filling.proofs.Common.{string, integer, float, boolean, datetime, table, items_view, view, Value, AreKept, items_labels}
+use Rattle.note_filling.proofs.Common.{IsArranged, IsFilledList, list_at, Fails, FillEnd}
+use Rattle.std.proofs.lemmas.List.{drop_all, Elements.AllZip-push}
 use Rattle.ebc_link.proofs.LaidLaws.{at_hand, taken}
 use Rattle.label_places.specs.declared.label.Label.{Label}
-use Rattle.note_draft.specs.declared.finding.TableList.{TableList}
-use Rattle.toml.specs.Data.{Data, item, array, as_array, string, integer, float, boolean, datetime, table}
-use Rattle.toml.specs.View.{items_of, items_view, view}
-use Rattle.toml.specs.declared.value.Value.{Value}
-use Rattle.note_filling.specs.Kept.{AreKept, IsItemKept, IsListKept, IsListMade, IsListMixed, list_of}
-use Rattle.note_filling.specs.Rows.{item_labels, items_labels, place_keys}
-use Rattle.note_filling.specs.Views.{IsArranged, IsFilledList, list_at}
-use Rattle.note_filling.specs.Ends.{Fails}
-use Rattle.note_filling.specs.declared.end.FillEnd.{FillEnd}
-use Rattle.note_filling.specs.declared.end.FillEnd.TheVariants as ends
+use Rattle.toml.specs.{Data.item, Data.as_array, View.items_of}
+use Rattle.note_filling.specs.{Kept.IsItemKept, Kept.IsListKept, Kept.IsListMade, Kept.IsListMixed, Kept.list_of, Rows.item_labels}
+use Rattle.note_filling.specs.Rows.{place_keys}
 use Rattle.note_filling.specs.declared.end.Flaw.{Flaw}
+use Rattle.note_filling.specs.declared.end.FillEnd.TheVariants as ends
 
 -- ---- the labels of a list
 

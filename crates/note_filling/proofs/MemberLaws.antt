@@ -1,21 +1,12 @@
 -- What stands at the keys of a table after something is put at one.
-use Rattle.std.proofs.Common.{◌≡◌, ℕ, true, false, cond, List, [], ◌∷◌, Option, Some, None, String, Global, Ordering, Less, Equal, Greater}
-use Rattle.std.proofs.Common.{string_bytes, nat_cmp, is_eq, refl, sym, ap, ◌∙◌, subst, inl, inr}
-use Rattle.std.specs.Prelude.{bytes_eq}
-use Rattle.std.proofs.lemmas.Cmp.{nat_list_cmp_total}
-use Rattle.std.proofs.lemmas.Map.Text.{is_eq-slice_cmp}
-use Rattle.std.proofs.lemmas.Slice.Eq.{bytes_eq-Decides}
-use Rattle.std.proofs.lemmas.Bool.{cases_Bool}
-use Rattle.std.specs.Cmp.{tied_itself}
-use Rattle.std.specs.Cmp.Lexicographic.{slice_cmp}
-use Rattle.std.specs.Ordering.{match_ordering}
-use Rattle.std.specs.BTreeMap.{insert_entry}
-use Rattle.std.specs.String.{string_cmp}
-use Rattle.toml.specs.Data.{Data, Members, no_members, member, get_member}
-use Rattle.toml.specs.View.{view, members_view}
-use Rattle.toml.specs.declared.value.Value.{Value}
-use Rattle.toml.proofs.Views.{Entry}
-use Rattle.note_filling.specs.Members.{IsExtended, put_member, put_missing_member, put_where}
+use Rattle.note_filling.proofs.Common.{◌≡◌, ℕ, true, false, List, [], ◌∷◌, Option, Some, None, Global, refl, sym, ap, ◌∙◌, subst, inl, inr}
+use Rattle.note_filling.proofs.Common.{bytes_eq, bytes_eq-Decides, Data, Members, get_member, view, members_view, Value, Entry, IsExtended}
+use Rattle.note_filling.proofs.Common.{put_member, put_missing_member}
+use Rattle.std.proofs.Common.{cond, String, Ordering, Less, Equal, Greater, string_bytes}
+use Rattle.std.proofs.{Common.nat_cmp, Common.is_eq, lemmas.Cmp.nat_list_cmp_total, lemmas.Map.Text.is_eq-slice_cmp, lemmas.Bool.cases_Bool}
+use Rattle.std.specs.{Cmp.tied_itself, Cmp.Lexicographic.slice_cmp, Ordering.match_ordering, BTreeMap.insert_entry, String.string_cmp}
+use Rattle.toml.specs.Data.{no_members, member}
+use Rattle.note_filling.specs.Members.{put_where}
 
 -- ---- the map of a table
 

@@ -1,18 +1,11 @@
 -- The numbers that items had before they were put in order.
-use Rattle.std.proofs.Common.{◌≡◌, ℕ, List, [], ◌∷◌, ◌++◌, length, map, Option, Some, None, Vec, Global, All}
-use Rattle.std.proofs.Common.{refl, sym, ap, ◌∙◌, subst}
+use Rattle.note_filling.proofs.Common.{◌≡◌, ℕ, List, [], ◌∷◌, ◌++◌, length, map, Option, Some, None, Vec, Global, All, refl, sym, ap, ◌∙◌}
+use Rattle.note_filling.proofs.Common.{subst, map-append, TableList, Data, array, string, integer, float, boolean, datetime, table, view}
+use Rattle.note_filling.proofs.Common.{Value, AreKept, IsArranged, IsFilledList, Stands, list_at, Ranked}
 use Rattle.std.specs.Prelude.{slice_get}
-use Rattle.std.proofs.lemmas.List.{map-append}
 use Rattle.std.proofs.lemmas.List.Elements.{All-head, All-push, All-tail, All-weaker}
 use Rattle.ebc_base.proofs.Lists.{length-map, slice_get-front}
-use Rattle.note_draft.specs.declared.finding.TableList.{TableList}
-use Rattle.toml.specs.Data.{Data, array, string, integer, float, boolean, datetime, table}
-use Rattle.toml.specs.View.{view}
-use Rattle.toml.specs.declared.value.Value.{Value}
-use Rattle.note_filling.specs.Kept.{AreKept}
-use Rattle.note_filling.specs.Originals.{IsOrder, IsOrderOf, items_in}
-use Rattle.note_filling.specs.Views.{IsArranged, IsFilledList, Stands, items_from, list_at}
-use Rattle.note_filling.specs.declared.order.Ranked.{Ranked}
+use Rattle.note_filling.specs.{Originals.IsOrder, Originals.IsOrderOf, Originals.items_in, Views.items_from}
 use Rattle.note_filling.proofs.ListLaws.{list-of-items}
 
 -- one more item stands behind the others

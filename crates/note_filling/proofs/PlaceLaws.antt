@@ -1,24 +1,17 @@
 -- The place that a text names, and a table with it at a key.
-use Rattle.std.proofs.Common.{◌≡◌, ℕ, ◌+◌, pos, Bool, true, false, not, List, Option, Some, None, refl, sym, ap, ◌∙◌, subst}
-use Rattle.std.specs.Prelude.{Result, Ok, Err, nat_eq, ◌&&◌}
-use Rattle.std.specs.Option.{option_and_then}
-use Rattle.ebc_base.specs.Steps.{◌>>=◌, or_else, passes}
-use Rattle.label_places.specs.References.{LabelReference, reference_of}
-use Rattle.label_places.specs.Sought.{behind, place_by, position_of}
-use Rattle.label_places.specs.declared.label.Label.{Label}
-use Rattle.label_places.specs.declared.label.Position.{Position}
-use Rattle.label_places.specs.declared.seeking.NotFound.{NotFound}
+use Rattle.note_filling.proofs.Common.{◌≡◌, ℕ, ◌+◌, Bool, true, false, List, Option, Some, None, refl, sym, ap, ◌∙◌, subst, Result, Ok, Err}
+use Rattle.note_filling.proofs.Common.{option_and_then, ◌>>=◌, TomlFault, Data, string, integer, float, boolean, datetime, array, table}
+use Rattle.note_filling.proofs.Common.{Members, get_member, as_str, IsPlacedAs, put_member, label_of, IsReplaced}
+use Rattle.std.proofs.Common.{pos, not}
+use Rattle.std.specs.Prelude.{nat_eq, ◌&&◌}
+use Rattle.ebc_base.specs.Steps.{or_else, passes}
+use Rattle.label_places.specs.{References.LabelReference, References.reference_of, Sought.behind, Sought.place_by, Sought.position_of}
+use Rattle.label_places.specs.declared.{label.Label.Label, label.Position.Position, seeking.NotFound.NotFound}
 use Rattle.label_places.specs.declared.seeking.NotFound.TheVariants.{Unknown, Several}
-use Rattle.note_types.specs.declared.fault.TomlFault.{TomlFault}
-use Rattle.toml.specs.Data.{Data, string, integer, float, boolean, datetime, array, table, Members, get_member, as_str}
-use Rattle.note_filling.specs.Kept.{IsPlacedAs}
-use Rattle.note_filling.specs.Members.{put_member}
-use Rattle.note_filling.specs.Places.{flawed, label_of, placed_by, placed_in, told, told_at}
-use Rattle.note_filling.specs.Views.{IsReplaced, put_place}
-use Rattle.note_filling.specs.declared.label.LabelFault.{LabelFault}
-use Rattle.note_filling.specs.declared.label.LabelFault.TheVariants as faults
-use Rattle.note_filling.specs.declared.label.Placed.{Placed}
+use Rattle.note_filling.specs.{Places.flawed, Places.placed_by, Places.placed_in, Places.told, Places.told_at, Views.put_place}
+use Rattle.note_filling.specs.declared.label.{LabelFault.LabelFault, Placed.Placed}
 use Rattle.note_filling.proofs.MemberLaws.{get-put, get-put_other}
+use Rattle.note_filling.specs.declared.label.LabelFault.TheVariants as faults
 
 -- ---- the place that a text names
 

@@ -1,12 +1,10 @@
 -- What is kept of a table whose places are put.
-use Rattle.std.proofs.Common.{◌≡◌, ◌⊎◌, ℕ, Bool, true, false, List, [], ◌∷◌, Option, Some, refl, sym, ap, ◌∙◌, inl, inr}
-use Rattle.std.specs.Prelude.{bytes_eq, ◌||◌}
-use Rattle.std.proofs.lemmas.Slice.Eq.{bytes_eq-Decides}
+use Rattle.note_filling.proofs.Common.{◌≡◌, ℕ, Bool, true, false, List, [], ◌∷◌, Option, Some, refl, sym, ap, ◌∙◌, inl, inr, bytes_eq}
+use Rattle.note_filling.proofs.Common.{bytes_eq-Decides, Data, Members, get_member, IsPlacedAs, IsExtended, IsReplaced}
+use Rattle.std.proofs.Common.{◌⊎◌}
+use Rattle.std.specs.Prelude.{◌||◌}
 use Rattle.ebc_base.specs.Tables.{is_named}
-use Rattle.toml.specs.Data.{Data, Members, get_member}
-use Rattle.note_filling.specs.Kept.{IsPlacedAs, IsRowKept}
-use Rattle.note_filling.specs.Members.{IsExtended}
-use Rattle.note_filling.specs.Views.{IsReplaced}
+use Rattle.note_filling.specs.Kept.{IsRowKept}
 
 -- the two sides of an `or` that fails
 pub neither : (a b : Bool) → (a || b) ≡ false → (a ≡ false) × (b ≡ false)

@@ -1,16 +1,10 @@
 -- What stands in a text that is made of filled lists.
-use Rattle.std.proofs.Common.{◌≡◌, ℕ, false, List, [], Option, Some, None, Vec, Global, refl, ap, ◌∙◌}
-use Rattle.std.specs.Prelude.{bytes_eq, codes}
+use Rattle.note_filling.proofs.Common.{◌≡◌, ℕ, false, List, [], Option, Some, None, Vec, Global, refl, ap, ◌∙◌, bytes_eq, codes, Data}
+use Rattle.note_filling.proofs.Common.{Members, get_member, Value, put_missing_member, AreFilledLists, IsAssembled, list_at, Lists}
+use Rattle.note_filling.specs.{Kept.IsTextKept, Views.AreArranged, Views.put_items}
+use Rattle.note_filling.proofs.{ListLaws.list-kept, ListLaws.list-mixed, RowLaws.neither, MemberLaws.extended-put_missing}
+use Rattle.note_filling.proofs.MemberLaws.{get-put, get-put_missing_other, get-put_other}
 use Rattle.note_draft.specs.declared.finding.TableList.TheVariants as lists
-use Rattle.toml.specs.Data.{Data, Members, get_member}
-use Rattle.toml.specs.declared.value.Value.{Value}
-use Rattle.note_filling.specs.Kept.{IsTextKept}
-use Rattle.note_filling.specs.Members.{put_missing_member}
-use Rattle.note_filling.specs.Views.{AreArranged, AreFilledLists, IsAssembled, list_at, put_items}
-use Rattle.note_filling.specs.declared.table.Lists.{Lists}
-use Rattle.note_filling.proofs.ListLaws.{list-kept, list-mixed}
-use Rattle.note_filling.proofs.RowLaws.{neither}
-use Rattle.note_filling.proofs.MemberLaws.{extended-put_missing, get-put, get-put_missing_other, get-put_other}
 
 here : (k : List ℕ) (values : Option (Vec Value Global)) (old new : Members) → new ≡ put_items k values old
     → get_member k new ≡ list_at values (get_member k old)

@@ -1,20 +1,10 @@
 -- A round goes on past a place.
-use Rattle.std.proofs.Common.{◌≡◌, ℕ, zero, suc, ◌+◌, ◌<◌, ◌≤◌, List, [], refl, sym, subst, ⊎_elim, arith}
-use Rattle.std.specs.Prelude.{Some, slice_get}
-use Rattle.std.specs.List.{Contains}
-use Rattle.std.proofs.lemmas.Bool.{cases_lt}
-use Rattle.note_types.specs.Notes.{entry_state}
-use Rattle.note_types.specs.Records.{IsNotes}
-use Rattle.note_types.specs.declared.notes.FnNote.{FnNote}
-use Rattle.note_types.specs.declared.notes.Notes.{Notes}
-use Rattle.note_types.specs.declared.state.State.{State}
-use Rattle.pe_image.specs.declared.image.Image.{Image}
-use Rattle.note_infer.specs.PointStates.{AreFound, IsFound}
-use Rattle.note_infer.specs.Rounds.{GivenAt, HasCome, IsWithin, States, all_in, given, gives, gives_none, marked}
-use Rattle.note_infer.proofs.RoundStates.{AllFound, SomeFound, entry_found, given_at-found, has_come-found}
-use Rattle.note_infer.specs.Reaching.{Passed, Reached, Settles, Stood, stood, stood_none}
-use Rattle.note_infer.proofs.Chains.{passed_with}
-use Rattle.note_infer.proofs.Settling.{all_kept, all_settled}
+use Rattle.note_infer.proofs.Common.{◌≡◌, ℕ, zero, suc, ◌+◌, ◌<◌, ◌≤◌, List, [], refl, sym, subst, ⊎_elim, arith, Some, slice_get, Contains}
+use Rattle.note_infer.proofs.Common.{cases_lt, entry_state, IsNotes, FnNote, Notes, State, Image, AreFound, IsFound, GivenAt, HasCome}
+use Rattle.note_infer.proofs.Common.{IsWithin, States, all_in, given, gives, gives_none, marked, Passed, Reached, Settles, Stood, stood}
+use Rattle.note_infer.proofs.Common.{stood_none}
+use Rattle.note_infer.proofs.RoundStates.{AllFound, SomeFound, entry_found, given_at-found}
+use Rattle.note_infer.proofs.{RoundStates.has_come-found, Chains.passed_with, Settling.all_kept, Settling.all_settled}
 
 -- what is given at a place to a leader is joined in: there what has come takes it, and past the function's end nothing changes
 pub record Joins (image : Image) (notes : Notes) (leaders : List ℕ) (states come after : States) (place : ℕ) (k : ℕ) (f : FnNote)

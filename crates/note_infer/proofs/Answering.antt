@@ -1,23 +1,11 @@
 -- The answer: that leaders are few, that the notes with the points found may be checked, and what each case needs.
-use Rattle.std.proofs.Common.{◌≡◌, ℕ, zero, suc, ◌^◌, ◌<◌, ◌≤◌, List, length, get_or, refl, subst, ⊎_elim, arith}
-use Rattle.std.specs.Prelude.{Some}
-use Rattle.std.specs.List.Sorted.{IsStrictlyIncreasing}
-use Rattle.std.proofs.lemmas.Bool.{cases_lt}
-use Rattle.std.proofs.lemmas.List.Kept.{AllPairs-from_increasing}
-use Rattle.note_types.specs.Limits.{point_limit}
-use Rattle.note_types.specs.Records.{IsNotes}
-use Rattle.note_types.specs.declared.notes.Notes.{Notes}
-use Rattle.pe_image.specs.declared.image.Image.{Image}
-use Rattle.note_infer.specs.declared.inferred.Inferred.TheVariants.{Stuck}
-use Rattle.note_infer.specs.Inferred.{IsInferred, IsSettled, by_round, points_of}
-use Rattle.note_infer.specs.Leaders.{AreLeaders}
-use Rattle.note_infer.specs.Rounds.{States, with_points}
-use Rattle.note_infer.proofs.Promising.{found_are_notes}
+use Rattle.note_infer.proofs.Common.{◌≡◌, ℕ, zero, suc, ◌^◌, ◌<◌, ◌≤◌, List, length, get_or, refl, subst, ⊎_elim, arith, Some}
+use Rattle.note_infer.proofs.Common.{IsStrictlyIncreasing, cases_lt, AllPairs-from_increasing, point_limit, IsNotes, Notes, Image, Stuck}
+use Rattle.note_infer.proofs.Common.{IsInferred, IsSettled, by_round, points_of, AreLeaders, States, with_points}
+use Rattle.note_infer.proofs.{Promising.found_are_notes, Searching.there_at}
 use Rattle.note_infer.specs.Stopping.{IsNotFound, StuckAfter}
-use Rattle.note_infer.specs.declared.rounds.NotFound.{NotFound}
+use Rattle.note_infer.specs.declared.{rounds.NotFound.NotFound, walk.Stop.Stop}
 use Rattle.note_infer.specs.declared.rounds.NotFound.TheVariants as failures
-use Rattle.note_infer.specs.declared.walk.Stop.{Stop}
-use Rattle.note_infer.proofs.Searching.{there_at}
 
 -- numbers that rise are at least their places in the list
 rises_past : (xs : List ℕ) → IsStrictlyIncreasing xs → (k : ℕ) → k < length xs → k ≤ get_or xs k 0

@@ -1,22 +1,9 @@
 -- The state before an instruction is one: instructions that have a state don't overlap where no leader lies inside them.
-use Rattle.std.proofs.Common.{◌≡◌, ℕ, zero, suc, ◌+◌, ◌<◌, ◌≤◌, List, [], ◌∷◌, refl, sym, ap, subst, ◌∙◌, ⊎_elim, arith}
-use Rattle.std.specs.Prelude.{Some, Ok, map, slice_get}
-use Rattle.std.specs.List.{Contains}
-use Rattle.std.proofs.lemmas.Bool.{cases_lt}
-use Rattle.std.proofs.lemmas.Option.{same_Some}
-use Rattle.ebc_insn.specs.declared.Insn.{Insn}
-use Rattle.note_types.specs.declared.notes.FnNote.{FnNote}
-use Rattle.note_types.specs.declared.notes.Notes.{Notes}
-use Rattle.note_types.specs.declared.state.State.{State}
-use Rattle.pe_image.specs.declared.image.Image.{Image}
-use Rattle.rules_flow.specs.declared.successors.Successors.{Successors}
-use Rattle.rules_image.specs.Images.{IsDecoded, PointHolds}
-use Rattle.rules_image.proofs.Decoding.{decoded_once}
+use Rattle.note_infer.proofs.Common.{◌≡◌, ℕ, zero, suc, ◌+◌, ◌<◌, ◌≤◌, List, [], ◌∷◌, refl, sym, ap, subst, ◌∙◌, ⊎_elim, arith, Some, Ok}
+use Rattle.note_infer.proofs.Common.{map, slice_get, Contains, cases_lt, same_Some, Insn, FnNote, Notes, State, Image, Successors}
+use Rattle.note_infer.proofs.Common.{IsDecoded, PointHolds, decoded_once, here_at, row_of, decode_later, Begins, Comes, FallsTo, HasState}
+use Rattle.note_infer.proofs.Common.{IsWithin, States, at_entry, at_leader, given, mark, marked, Passed, SettlesAll, origin}
 use Rattle.rules_image.proofs.Relocs.{there_at}
-use Rattle.width_checker.specs.Rows.{here_at, row_of}
-use Rattle.width_checker.proofs.Leading.{decode_later}
-use Rattle.note_infer.specs.Rounds.{Begins, Comes, FallsTo, HasState, IsWithin, States, at_entry, at_leader, given, mark, marked}
-use Rattle.note_infer.specs.Reaching.{Passed, SettlesAll, origin}
 
 -- ---- leaders as points
 

@@ -1,31 +1,15 @@
 -- The states of a round become those of the round before, leader by leader.
-use Rattle.std.proofs.Common.{◌≡◌, ◌⊎◌, ℕ, zero, suc, ◌+◌, ◌^◌, ◌<◌, ◌≤◌, Bool, true, false, nat_eq, if◌then◌else◌, List, [], ◌∷◌, ◌++◌}
-use Rattle.std.proofs.Common.{length, get_or, refl, sym, ap, subst, ◌∙◌, ⊎_elim, arith, inl, inr}
-use Rattle.std.proofs.Common.{get_or-set_other, get_or-set_same, length-set}
-use Rattle.std.specs.Prelude.{None, Option, Some, slice_get, slice_index, slice_index_or, slice_set}
-use Rattle.std.specs.List.{Contains}
-use Rattle.std.specs.List.Sorted.{IsStrictlyIncreasing}
-use Rattle.std.proofs.lemmas.Bool.{cases_lt}
-use Rattle.std.proofs.lemmas.Bool.Decides.{nat_tests}
-use Rattle.std.proofs.lemmas.List.{ext_get_or, get_or_past}
-use Rattle.std.proofs.lemmas.List.Kept.{AllPairs-from_increasing}
-use Rattle.std.proofs.lemmas.Option.{none-some, slice_get_within}
-use Rattle.note_types.specs.declared.notes.FnNote.{FnNote}
-use Rattle.note_types.specs.declared.notes.Notes.{Notes}
-use Rattle.note_types.specs.declared.state.State.{State}
-use Rattle.pe_image.specs.declared.image.Image.{Image}
-use Rattle.note_infer.specs.Rounds.{IsWithin, at_leader}
-use Rattle.note_infer.specs.Beginning.{AreChanges, StartsAt}
-use Rattle.note_infer.specs.Changing.{Changed, IsChange, IsChangeBelow, Turned, turned, turned_none}
-use Rattle.note_infer.specs.Coming.{IsComing, state_at}
-use Rattle.note_infer.specs.Passing.{IsSetting}
-use Rattle.note_infer.specs.Starting.{AreStarts}
+use Rattle.note_infer.proofs.Common.{◌≡◌, ◌⊎◌, ℕ, zero, suc, ◌+◌, ◌^◌, ◌<◌, ◌≤◌, Bool, true, false, nat_eq, if◌then◌else◌, List, [], ◌∷◌}
+use Rattle.note_infer.proofs.Common.{◌++◌, length, get_or, refl, sym, ap, subst, ◌∙◌, ⊎_elim, arith, inl, inr, get_or-set_same, length-set}
+use Rattle.note_infer.proofs.Common.{None, Option, Some, slice_get, slice_index, slice_index_or, Contains, IsStrictlyIncreasing, cases_lt}
+use Rattle.note_infer.proofs.Common.{nat_tests, ext_get_or, AllPairs-from_increasing, none-some, slice_get_within, FnNote, Notes, State}
+use Rattle.note_infer.proofs.Common.{Image, IsWithin, at_leader, StartsAt, Changed, turned, IsComing, state_at, IsSetting, AreStarts, Start}
+use Rattle.std.proofs.{Common.get_or-set_other, lemmas.List.get_or_past}
+use Rattle.std.specs.Prelude.{slice_set}
+use Rattle.note_infer.specs.{Beginning.AreChanges, Changing.IsChange, Changing.IsChangeBelow, Changing.Turned, Changing.turned_none}
 use Rattle.note_infer.specs.declared.coming.Coming.{Coming}
-use Rattle.note_infer.specs.declared.rounds.Start.{Start}
-use Rattle.note_infer.proofs.Entering.{pushed_ascend, pushed_cases, starts_here, starts_kept}
-use Rattle.note_infer.proofs.Rounding.{start_of}
-use Rattle.note_infer.proofs.Searching.{there_at}
-use Rattle.note_infer.proofs.StatesAt.{at_number, number_of}
+use Rattle.note_infer.proofs.{Entering.pushed_ascend, Entering.pushed_cases, Entering.starts_here, Entering.starts_kept, Rounding.start_of}
+use Rattle.note_infer.proofs.{Searching.there_at, StatesAt.at_number, StatesAt.number_of}
 
 -- ---- places that are no leaders
 

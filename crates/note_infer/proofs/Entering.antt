@@ -1,27 +1,13 @@
 -- The entries come, function by function.
-use Rattle.std.proofs.Common.{◌≡◌, ◌⊎◌, ℕ, zero, suc, ◌+◌, ◌-◌, ◌<◌, ◌≤◌, Bool, true, false, nat_eq, if◌then◌else◌, List, [], ◌∷◌, ◌++◌}
-use Rattle.std.proofs.Common.{length, map, replicate, refl, sym, ap, subst, ◌∙◌, ⊎_elim, arith, inl, inr}
-use Rattle.std.specs.Prelude.{None, Option, Some, slice_get}
+use Rattle.note_infer.proofs.Common.{◌≡◌, ◌⊎◌, ℕ, zero, suc, ◌+◌, ◌-◌, ◌<◌, ◌≤◌, Bool, true, false, nat_eq, if◌then◌else◌, List, [], ◌∷◌}
+use Rattle.note_infer.proofs.Common.{◌++◌, length, map, replicate, refl, sym, ap, subst, ◌∙◌, ⊎_elim, arith, inl, inr, None, Option, Some}
+use Rattle.note_infer.proofs.Common.{slice_get, Contains, OnFalse_at, OnTrue_at, cases_lt, same_Some, slice_get_within, entry_state, FnNote}
+use Rattle.note_infer.proofs.Common.{Notes, State, Image, function_before, IsWithin, States, all_in, at_entry, by_entry, AreEntries}
+use Rattle.note_infer.proofs.Common.{StartsAt, ClashesAt, Takes, given_to, state_at, Entered, IsSetting, AreStarts, Start}
 use Rattle.std.specs.Bool.{OnFalse, OnTrue}
-use Rattle.std.specs.List.{Contains}
-use Rattle.std.proofs.lemmas.Bool.{OnFalse_at, OnTrue_at, cases_lt}
-use Rattle.std.proofs.lemmas.List.{map-append}
-use Rattle.std.proofs.lemmas.List.Elements.{Contains-append_left, Contains-push}
-use Rattle.std.proofs.lemmas.Option.{same_Some, slice_get_within}
+use Rattle.std.proofs.lemmas.List.{map-append, Elements.Contains-append_left, Elements.Contains-push}
 use Rattle.ebc_base.proofs.Lists.{slice_get-append_left, slice_get-append_right}
-use Rattle.note_types.specs.Notes.{entry_state}
-use Rattle.note_types.specs.declared.notes.FnNote.{FnNote}
-use Rattle.note_types.specs.declared.notes.Notes.{Notes}
-use Rattle.note_types.specs.declared.state.State.{State}
-use Rattle.pe_image.specs.declared.image.Image.{Image}
-use Rattle.width_checker.proofs.Deciding.{function_before}
-use Rattle.note_infer.specs.Rounds.{IsWithin, States, all_in, at_entry, by_entry}
-use Rattle.note_infer.specs.Beginning.{AreEntries, StartsAt}
-use Rattle.note_infer.specs.Coming.{ClashesAt, Takes, given_to, state_at}
-use Rattle.note_infer.specs.Entering.{Entered, IsEntry}
-use Rattle.note_infer.specs.Passing.{IsSetting}
-use Rattle.note_infer.specs.Starting.{AreStarts, StartsAscend}
-use Rattle.note_infer.specs.declared.rounds.Start.{Start}
+use Rattle.note_infer.specs.{Entering.IsEntry, Starting.StartsAscend}
 use Rattle.note_infer.proofs.StatesAt.{all_none, given_apart}
 
 -- ---- lists of starts

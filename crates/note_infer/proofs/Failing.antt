@@ -1,22 +1,10 @@
 -- Which rule is the first that fails at an instruction in a round, by what was found there.
-use Rattle.std.proofs.Common.{◌≡◌, ◌⊎◌, ℕ, ◌≤◌, List, refl, sym, subst, ◌∙◌, ⊎_elim, arith, inl, inr}
-use Rattle.std.specs.Prelude.{Err, Ok}
-use Rattle.ebc_insn.specs.declared.Insn.{Insn}
-use Rattle.note_types.specs.declared.notes.FnNote.{FnNote}
-use Rattle.note_types.specs.declared.notes.Notes.{Notes}
-use Rattle.note_types.specs.declared.rule.RuleName.{RuleName}
+use Rattle.note_infer.proofs.Common.{◌≡◌, ◌⊎◌, ℕ, ◌≤◌, List, refl, sym, subst, ◌∙◌, ⊎_elim, arith, inl, inr, Err, Ok, Insn, FnNote, Notes}
+use Rattle.note_infer.proofs.Common.{RuleName, State, Image, IsFirst, OrRule, Successors, EndHolds, IsDecoded, PointHolds, RelocationHolds}
+use Rattle.note_infer.proofs.Common.{reloc_at, decoded_once, here_at, row_of, Clashes, FailsIn, States, fails_below, fails_decode}
+use Rattle.note_infer.proofs.Common.{fails_end, fails_point, fails_relocation, fails_row, marked}
+use Rattle.rules_base.specs.Outcomes.{number_of_rule}
 use Rattle.note_types.specs.declared.rule.RuleName.TheVariants as rule
-use Rattle.note_types.specs.declared.state.State.{State}
-use Rattle.pe_image.specs.declared.image.Image.{Image}
-use Rattle.rules_base.specs.FirstRule.{IsFirst}
-use Rattle.rules_base.specs.Outcomes.{OrRule, number_of_rule}
-use Rattle.rules_flow.specs.declared.successors.Successors.{Successors}
-use Rattle.rules_image.specs.Images.{EndHolds, IsDecoded, PointHolds, RelocationHolds, reloc_at}
-use Rattle.rules_image.proofs.Decoding.{decoded_once}
-use Rattle.width_checker.specs.Rows.{here_at, row_of}
-use Rattle.note_infer.specs.Rounds.{Clashes, FailsIn, States, fails_below, fails_decode, fails_end, fails_point, fails_relocation}
-use Rattle.note_infer.specs.Rounds.{fails_row}
-use Rattle.note_infer.specs.Rounds.{marked}
 
 last_rule : (r : RuleName) → number_of_rule r ≤ 23
 last_rule rule.Shape = omega arith

@@ -1,13 +1,6 @@
 -- Where points are found, the image is typed under the notes with these points.
-use Rattle.std.proofs.Common.{◌≡◌, List, sym, ap, subst}
-use Rattle.note_types.specs.declared.notes.Notes.{Notes}
-use Rattle.note_types.specs.declared.notes.Point.{Point}
-use Rattle.pe_image.specs.declared.image.Image.{Image}
-use Rattle.width_checker.specs.Typed.{Typed}
-use Rattle.note_infer.specs.declared.inferred.Inferred.{Inferred}
-use Rattle.note_infer.specs.declared.inferred.Inferred.TheVariants.{Points}
-use Rattle.note_infer.specs.Inferred.{IsInferred, by_number, by_points, by_round, by_tables, by_verdict, points_of}
-use Rattle.note_infer.specs.Rounds.{with_points}
+use Rattle.note_infer.proofs.Common.{◌≡◌, List, sym, ap, subst, Notes, Point, Image, Typed, Inferred, Points, IsInferred, by_number}
+use Rattle.note_infer.proofs.Common.{by_points, by_round, by_tables, by_verdict, points_of, with_points}
 
 same_points : (xs ys : List Point) → Points xs ≡ Points ys → xs ≡ ys
 same_points xs ys e = ap points_in e

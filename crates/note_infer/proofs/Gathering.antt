@@ -1,24 +1,13 @@
 -- How the leaders are gathered, instruction by instruction and function by function.
-use Rattle.std.proofs.Common.{◌≡◌, ◌⊎◌, ℕ, zero, suc, ◌+◌, ◌^◌, ◌<◌, ◌≤◌, List, [], ◌∷◌, ◌++◌, get_or, length}
-use Rattle.std.proofs.Common.{⊎_elim, refl, sym, subst, ◌∙◌, inl, inr}
-use Rattle.std.proofs.Common.{arith}
-use Rattle.std.specs.Prelude.{Some, pos, slice_get}
-use Rattle.std.specs.List.{Contains}
-use Rattle.std.proofs.lemmas.Bool.{cases_lt}
+use Rattle.note_infer.proofs.Common.{◌≡◌, ◌⊎◌, ℕ, zero, suc, ◌+◌, ◌^◌, ◌<◌, ◌≤◌, List, [], ◌∷◌, ◌++◌, get_or, length, ⊎_elim, refl, sym}
+use Rattle.note_infer.proofs.Common.{subst, ◌∙◌, inl, inr, arith, Some, slice_get, Contains, cases_lt, same_Some, slice_get_within, Insn}
+use Rattle.note_infer.proofs.Common.{FnNote, Notes, IsNotes, Image, FunctionHolds, IsDecoded, IsPlaceOf, decoded_once, item_there}
+use Rattle.note_infer.proofs.Common.{decode_later, IsLeaderOf, Adds, IsLeaderBelow, IsNamedBefore}
+use Rattle.std.specs.Prelude.{pos}
 use Rattle.std.proofs.lemmas.List.Elements.{Contains-append_left, Contains-push, Contains-push_cases}
-use Rattle.std.proofs.lemmas.Option.{same_Some, slice_get_within}
-use Rattle.ebc_insn.specs.declared.Insn.{Insn}
-use Rattle.note_types.specs.declared.notes.FnNote.{FnNote}
-use Rattle.note_types.specs.declared.notes.Notes.{Notes}
-use Rattle.note_types.specs.Records.{IsNotes}
-use Rattle.pe_image.specs.declared.image.Image.{Image}
-use Rattle.rules_image.specs.Images.{FunctionHolds, IsDecoded}
-use Rattle.rules_image.specs.Places.{IsPlaceOf, Leads}
-use Rattle.rules_image.proofs.Decoding.{decoded_once}
-use Rattle.rules_image.proofs.Firsts.{item_there}
-use Rattle.width_checker.proofs.Leading.{decode_later, leads_further, leads_one, places_before, start_first}
-use Rattle.note_infer.specs.Leaders.{IsLeader, IsLeaderOf}
-use Rattle.note_infer.specs.Finding.{Adds, HasCode, IsLeaderBelow, IsNamedBefore, IsNamedIn}
+use Rattle.rules_image.specs.Places.{Leads}
+use Rattle.width_checker.proofs.Leading.{leads_further, leads_one, places_before, start_first}
+use Rattle.note_infer.specs.{Leaders.IsLeader, Finding.HasCode, Finding.IsNamedIn}
 
 -- ---- lists
 

@@ -1,33 +1,14 @@
 -- A walk goes on past an instruction.
-use Rattle.std.proofs.Common.{◌≡◌, ◌⊎◌, ℕ, suc, ◌+◌, ◌-◌, ◌<◌, ◌≤◌, List, [], refl, sym, ap, subst, ◌∙◌, inl, inr, ⊎_elim, arith}
-use Rattle.std.specs.Prelude.{Option, Some, slice_get}
-use Rattle.std.specs.List.{Contains}
-use Rattle.std.proofs.lemmas.Bool.{cases_lt}
-use Rattle.std.proofs.lemmas.Option.{same_Some}
-use Rattle.ebc_insn.specs.declared.Insn.{Insn}
-use Rattle.note_types.specs.declared.notes.FnNote.{FnNote}
-use Rattle.note_types.specs.declared.notes.Notes.{Notes}
-use Rattle.note_types.specs.declared.rule.RuleName.{RuleName}
-use Rattle.note_types.specs.declared.state.State.{State}
-use Rattle.pe_image.specs.declared.image.Image.{Image}
-use Rattle.rules_base.specs.FirstRule.{IsFirst}
-use Rattle.rules_flow.specs.declared.successors.Successors.{Successors}
-use Rattle.rules_image.specs.Images.{IsDecoded, PointHolds}
-use Rattle.rules_image.proofs.Decoding.{decoded_once}
-use Rattle.width_checker.proofs.Deciding.{function_before}
-use Rattle.width_checker.proofs.Leading.{decode_later}
-use Rattle.note_infer.specs.PointStates.{AreFound}
-use Rattle.note_infer.specs.Rounds.{Begins, Comes, FailsIn, FallsTo, HasState, IsStuck, IsWithin, States, given, gives}
-use Rattle.note_infer.specs.Rounds.{gives_none, marked}
-use Rattle.note_infer.proofs.RoundStates.{given_at-found}
-use Rattle.note_infer.specs.Passing.{IsSetting, Passes}
-use Rattle.note_infer.specs.Reaching.{IsClosed, Passed, Reached, Stood, stood, stood_none}
-use Rattle.note_infer.proofs.Advancing.{AllJoin, Joins, advance, come_found, rest_to}
-use Rattle.note_infer.proofs.Chains.{apart, chain_within, leader_outside, none_inside, one_chain, rows_one}
-use Rattle.note_infer.proofs.Lone.{none_fails, points_before}
-use Rattle.note_infer.proofs.Passing.{marks_read, range_of}
-use Rattle.note_infer.proofs.Settling.{all_new}
-use Rattle.note_infer.proofs.StatesAt.{all_none}
+use Rattle.note_infer.proofs.Common.{◌≡◌, ◌⊎◌, ℕ, suc, ◌+◌, ◌-◌, ◌<◌, ◌≤◌, List, [], refl, sym, ap, subst, ◌∙◌, inl, inr, ⊎_elim, arith}
+use Rattle.note_infer.proofs.Common.{Option, Some, slice_get, Contains, cases_lt, same_Some, Insn, FnNote, Notes, RuleName, State, Image}
+use Rattle.note_infer.proofs.Common.{IsFirst, Successors, IsDecoded, PointHolds, decoded_once, function_before, decode_later, AreFound}
+use Rattle.note_infer.proofs.Common.{Begins, Comes, FailsIn, FallsTo, HasState, IsStuck, IsWithin, States, given, gives, gives_none, marked}
+use Rattle.note_infer.proofs.Common.{IsSetting, IsClosed, Passed, Reached, Stood, stood, stood_none}
+use Rattle.note_infer.proofs.{RoundStates.given_at-found, Advancing.AllJoin, Advancing.Joins, Advancing.advance, Advancing.come_found}
+use Rattle.note_infer.proofs.{Advancing.rest_to, Chains.apart, Chains.chain_within, Chains.leader_outside, Chains.none_inside}
+use Rattle.note_infer.proofs.{Chains.one_chain, Chains.rows_one, Lone.none_fails, Lone.points_before, Passing.marks_read, Passing.range_of}
+use Rattle.note_infer.proofs.{Settling.all_new, StatesAt.all_none}
+use Rattle.note_infer.specs.Passing.{Passes}
 
 module _ (image : Image) (notes other : Notes) (leaders : List ℕ) (g : IsSetting image notes other leaders) (states : States)
     (found : AreFound notes leaders states) (k : ℕ) (f : FnNote) (there : slice_get notes.function k ≡ Some f) where

@@ -1,3 +1,4 @@
+pub mod Common
 pub mod Advancing
 pub mod Answering
 pub mod Chains

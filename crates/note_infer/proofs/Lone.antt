@@ -1,24 +1,10 @@
 -- What comes to a leader by a place is one, and where a round has come to a place nothing before it fails.
-use Rattle.std.proofs.Common.{◌≡◌, ℕ, zero, suc, ◌+◌, ◌-◌, ◌<◌, ◌≤◌, List, refl, sym, subst, ◌∙◌, ⊎_elim, arith}
-use Rattle.std.specs.Prelude.{Err, None, Ok, Option, Some, slice_get}
-use Rattle.std.specs.List.{Contains}
-use Rattle.std.proofs.lemmas.Bool.{cases_lt}
-use Rattle.std.proofs.lemmas.Option.{same_Some}
-use Rattle.ebc_insn.specs.declared.Insn.{Insn}
-use Rattle.note_types.specs.declared.notes.FnNote.{FnNote}
-use Rattle.note_types.specs.declared.notes.Notes.{Notes}
-use Rattle.note_types.specs.declared.rule.RuleName.{RuleName}
-use Rattle.note_types.specs.declared.state.State.{State}
-use Rattle.pe_image.specs.declared.image.Image.{Image}
-use Rattle.rules_flow.specs.declared.successors.Successors.{Successors}
-use Rattle.rules_image.specs.Images.{EndHolds, IsDecoded, PointHolds, RelocationHolds, reloc_at}
-use Rattle.rules_image.proofs.Decoding.{decoded_once}
-use Rattle.width_checker.specs.Rows.{here_at, row_of}
-use Rattle.note_infer.specs.Rounds.{Clashes, FailsIn, GivenAt, HasCome, HasState, IsWithin, NoneFailsBefore, States, all_in}
-use Rattle.note_infer.specs.Rounds.{fails_below, fails_decode, fails_end, fails_point, fails_relocation, fails_row, given, gives}
-use Rattle.note_infer.specs.Rounds.{gives_none}
-use Rattle.note_infer.specs.Rounds.{marked}
-use Rattle.note_infer.specs.Reaching.{Passed, Reached, Stood, stood, stood_none}
+use Rattle.note_infer.proofs.Common.{◌≡◌, ℕ, zero, suc, ◌+◌, ◌-◌, ◌<◌, ◌≤◌, List, refl, sym, subst, ◌∙◌, ⊎_elim, arith, Err, None, Ok}
+use Rattle.note_infer.proofs.Common.{Option, Some, slice_get, Contains, cases_lt, same_Some, Insn, FnNote, Notes, RuleName, State, Image}
+use Rattle.note_infer.proofs.Common.{Successors, EndHolds, IsDecoded, PointHolds, RelocationHolds, reloc_at, decoded_once, here_at, row_of}
+use Rattle.note_infer.proofs.Common.{Clashes, FailsIn, GivenAt, HasCome, HasState, IsWithin, NoneFailsBefore, States, all_in, fails_below}
+use Rattle.note_infer.proofs.Common.{fails_decode, fails_end, fails_point, fails_relocation, fails_row, given, gives, gives_none, marked}
+use Rattle.note_infer.proofs.Common.{Passed, Reached, Stood, stood, stood_none}
 use Rattle.note_infer.proofs.Chains.{PointsBefore, chain_within, one_chain, rows_one}
 
 apart_rows : (image : Image) (m : Notes) (func p q q' : ℕ) (s s' : State) (i i' : Insn) (x : Successors) (r : RuleName) → q ≡ q' → s ≡ s'

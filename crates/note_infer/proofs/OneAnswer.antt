@@ -1,32 +1,15 @@
 -- The answer is one: the leaders, the states on which rounds settle, and where they get stuck.
-use Rattle.std.proofs.Common.{◌≡◌, ◌⊎◌, ℕ, zero, suc, ◌+◌, ◌-◌, ◌<◌, List, [], ◌∷◌, length, get_or, refl, sym, ap, subst, ◌∙◌}
-use Rattle.std.proofs.Common.{⊎_elim, arith, inl, inr}
-use Rattle.std.specs.Prelude.{Err, IfOk, None, Ok, Option, Result, Some}
-use Rattle.std.specs.List.{Contains}
-use Rattle.std.proofs.lemmas.Bool.{cases_lt}
+use Rattle.note_infer.proofs.Common.{◌≡◌, ◌⊎◌, ℕ, zero, suc, ◌+◌, ◌-◌, ◌<◌, List, [], ◌∷◌, length, get_or, refl, sym, ap, subst, ◌∙◌}
+use Rattle.note_infer.proofs.Common.{⊎_elim, arith, inl, inr, Err, IfOk, None, Ok, Option, Result, Some, Contains, cases_lt, point_limit}
+use Rattle.note_infer.proofs.Common.{IsNotes, Notes, Point, RuleName, State, Image, FunctionHolds, Typed, Inferred, Many, Points, Stuck}
+use Rattle.note_infer.proofs.Common.{IsInferred, IsSettled, by_number, by_points, by_round, by_tables, by_verdict, points_of, with_point}
+use Rattle.note_infer.proofs.Common.{AreLeaders, AreAfter, AreSame, IsRound, IsStuck, States, with_points}
 use Rattle.std.proofs.lemmas.Grind.{get_or_default_zero}
-use Rattle.note_types.specs.Limits.{point_limit}
-use Rattle.note_types.specs.Records.{IsNotes}
-use Rattle.note_types.specs.declared.notes.Notes.{Notes}
-use Rattle.note_types.specs.declared.notes.Point.{Point}
-use Rattle.note_types.specs.declared.rule.RuleName.{RuleName}
-use Rattle.note_types.specs.declared.state.State.{State}
-use Rattle.pe_image.specs.declared.image.Image.{Image}
-use Rattle.rules_image.specs.Images.{FunctionHolds}
-use Rattle.width_checker.specs.Typed.{Typed}
 use Rattle.width_checker.specs.Verdicts.{IsRefused}
-use Rattle.width_checker.proofs.Deciding.{not_both, refused_once}
-use Rattle.width_checker.proofs.Leading.{OnePoint}
-use Rattle.width_checker.proofs.Points.{one_point}
-use Rattle.note_infer.specs.declared.inferred.Inferred.{Inferred}
-use Rattle.note_infer.specs.declared.inferred.Inferred.TheVariants.{Many, Points, Stuck}
-use Rattle.note_infer.specs.Inferred.{HasRounds, IsInferred, IsSettled, by_number, by_points, by_round, by_tables, by_verdict, points_of}
-use Rattle.note_infer.specs.Inferred.{with_point}
-use Rattle.note_infer.specs.Leaders.{AreLeaders}
-use Rattle.note_infer.specs.Rounds.{AreAfter, AreSame, IsRound, IsStuck, States, with_points}
-use Rattle.note_infer.proofs.Answering.{settled_notes}
-use Rattle.note_infer.proofs.OneRound.{round_one, round_or_stuck, round_with, same_back, same_on, stuck_one, stuck_with}
-use Rattle.note_infer.proofs.StatesAt.{Rise, rise_of}
+use Rattle.width_checker.proofs.{Deciding.not_both, Deciding.refused_once, Leading.OnePoint, Points.one_point}
+use Rattle.note_infer.specs.Inferred.{HasRounds}
+use Rattle.note_infer.proofs.{Answering.settled_notes, OneRound.round_one, OneRound.round_or_stuck, OneRound.round_with, OneRound.same_back}
+use Rattle.note_infer.proofs.{OneRound.same_on, OneRound.stuck_one, OneRound.stuck_with, StatesAt.Rise, StatesAt.rise_of}
 
 -- ---- leaders
 

@@ -1,26 +1,12 @@
 -- Rounds from states that are the same at the leaders: they are the same rounds, and each comes to one end.
-use Rattle.std.proofs.Common.{◌≡◌, ℕ, zero, suc, ◌<◌, List, refl, sym, ap, subst, ◌∙◌, ⊎_elim, arith, inl, inr}
-use Rattle.std.specs.Prelude.{Option, Some, slice_get}
-use Rattle.std.specs.List.{Contains}
-use Rattle.std.proofs.lemmas.Bool.{cases_lt}
-use Rattle.std.proofs.lemmas.Option.{same_Some}
-use Rattle.note_types.specs.declared.notes.FnNote.{FnNote}
-use Rattle.note_types.specs.declared.notes.Notes.{Notes}
-use Rattle.note_types.specs.declared.rule.RuleName.{RuleName}
-use Rattle.note_types.specs.declared.rule.RuleName.TheVariants as rule
-use Rattle.note_types.specs.declared.state.State.{State}
-use Rattle.pe_image.specs.declared.image.Image.{Image}
-use Rattle.rules_base.specs.FirstRule.{IsFirst}
+use Rattle.note_infer.proofs.Common.{◌≡◌, ℕ, zero, suc, ◌<◌, List, refl, sym, ap, subst, ◌∙◌, ⊎_elim, arith, inl, inr, Option, Some}
+use Rattle.note_infer.proofs.Common.{slice_get, Contains, cases_lt, same_Some, FnNote, Notes, RuleName, State, Image, IsFirst}
+use Rattle.note_infer.proofs.Common.{FunctionHolds, function_before, AreLeaders, AreSame, FailsIn, GivenAt, HasCome, HasState, IsRound}
+use Rattle.note_infer.proofs.Common.{IsStuck, IsWithin, NoneFailsBefore, States, all_in, by_entry, fails_below, fails_decode, fails_end}
+use Rattle.note_infer.proofs.Common.{fails_point, fails_relocation, fails_row, gives, gives_none, origin}
 use Rattle.rules_base.proofs.FirstRule.{one_first}
-use Rattle.rules_image.specs.Images.{FunctionHolds}
-use Rattle.width_checker.proofs.Deciding.{function_before}
-use Rattle.note_infer.specs.Leaders.{AreLeaders}
-use Rattle.note_infer.specs.Rounds.{AreSame, FailsIn, GivenAt, HasCome, HasState, IsRound, IsStuck, IsWithin}
-use Rattle.note_infer.specs.Rounds.{NoneFailsBefore, States, all_in, by_entry, fails_below, fails_decode, fails_end}
-use Rattle.note_infer.specs.Rounds.{fails_point, fails_relocation, fails_row, gives, gives_none}
-use Rattle.note_infer.specs.Reaching.{origin}
-use Rattle.note_infer.proofs.Chains.{PointsBefore, carried, chain_within, one_chain}
-use Rattle.note_infer.proofs.Lone.{come_one}
+use Rattle.note_infer.proofs.{Chains.PointsBefore, Chains.carried, Chains.chain_within, Chains.one_chain, Lone.come_one}
+use Rattle.note_types.specs.declared.rule.RuleName.TheVariants as rule
 
 -- ---- other states at the leaders
 

@@ -1,28 +1,12 @@
 -- The conditions on notes, of notes with other points.
-use Rattle.std.proofs.Common.{◌≤◌, List, length, map, Option, Some, None}
-use Rattle.std.specs.Prelude.{IfSome}
-use Rattle.std.specs.List.Sorted.{IsStrictlyIncreasing}
-use Rattle.note_types.specs.Known.{IsKnown, IsKnownCell, IsState, local_fields}
-use Rattle.note_types.specs.Limits.{point_limit}
-use Rattle.note_types.specs.Records.{Each, IsFieldNote, IsFunctionNote, IsKnownWant, IsNotes, IsParamNote, IsPointNote, IsResultNote}
-use Rattle.note_types.specs.Records.{IsShapeNote, IsSignatureNote, IsSiteNote, IsStaticNote, IsThunkNote, IsWantNote, function_at}
-use Rattle.note_types.specs.declared.cell.Cell.{Cell}
-use Rattle.note_types.specs.declared.notes.FnNote.{FnNote}
-use Rattle.note_types.specs.declared.notes.Notes.{Notes}
-use Rattle.note_types.specs.declared.notes.Param.{Param}
-use Rattle.note_types.specs.declared.notes.Point.{Point}
-use Rattle.note_types.specs.declared.notes.Signature.{Signature}
-use Rattle.note_types.specs.declared.notes.Site.{Site}
-use Rattle.note_types.specs.declared.notes.Static.{Static}
-use Rattle.note_types.specs.declared.notes.Thunk.{Thunk}
-use Rattle.note_types.specs.declared.notes.Want.{Want}
+use Rattle.note_infer.proofs.Common.{◌≤◌, List, length, map, Option, Some, None, IfSome, IsStrictlyIncreasing, IsState, local_fields}
+use Rattle.note_infer.proofs.Common.{point_limit, Each, IsNotes, IsPointNote, function_at, FnNote, Notes, Point, State, Ty, with_points}
+use Rattle.note_types.specs.Records.{IsFieldNote, IsFunctionNote, IsKnownWant, IsParamNote, IsResultNote, IsShapeNote, IsSignatureNote}
+use Rattle.note_types.specs.{Known.IsKnown, Known.IsKnownCell, Records.IsSiteNote, Records.IsStaticNote, Records.IsThunkNote}
+use Rattle.note_types.specs.Records.{IsWantNote}
+use Rattle.note_types.specs.declared.{cell.Cell.Cell, notes.Param.Param, notes.Signature.Signature, notes.Site.Site, notes.Static.Static}
+use Rattle.note_types.specs.declared.{notes.Thunk.Thunk, notes.Want.Want, notes.WantParam.WantParam, shape.Field.Field, shape.Shape.Shape}
 use Rattle.note_types.specs.declared.notes.Want.TheVariants as want
-use Rattle.note_types.specs.declared.notes.WantParam.{WantParam}
-use Rattle.note_types.specs.declared.shape.Field.{Field}
-use Rattle.note_types.specs.declared.shape.Shape.{Shape}
-use Rattle.note_types.specs.declared.state.State.{State}
-use Rattle.note_types.specs.declared.types.Ty.{Ty}
-use Rattle.note_infer.specs.Rounds.{with_points}
 
 -- notes that differ in their points alone
 module _ (notes : Notes) (points : List Point) where

@@ -1,16 +1,10 @@
 -- Which function a place belongs to.
-use Rattle.std.proofs.Common.{◌≡◌, ℕ, true, false, get_or, ap, subst, ⊎_elim, arith, leb}
-use Rattle.std.specs.Prelude.{Some, slice_get}
-use Rattle.std.specs.List.Sorted.{IsNonDecreasingBy, IsPartitionPoint, IsPartitionedBy}
-use Rattle.std.proofs.lemmas.Bool.{cases_lt, leb-false, leb-true}
-use Rattle.std.proofs.lemmas.List.Sorted.{IsPartitionedBy-leb}
-use Rattle.std.proofs.lemmas.Option.{get_or_from_slice_get, slice_get-get_or, slice_get_within}
-use Rattle.note_types.specs.declared.notes.FnNote.{FnNote}
-use Rattle.note_types.specs.declared.notes.Notes.{Notes}
-use Rattle.pe_image.specs.declared.image.Image.{Image}
-use Rattle.rules_image.specs.Images.{FunctionHolds}
-use Rattle.width_checker.proofs.Deciding.{function_before}
-use Rattle.note_infer.specs.Rounds.{IsWithin}
+use Rattle.note_infer.proofs.Common.{◌≡◌, ℕ, true, false, get_or, ap, subst, ⊎_elim, arith, leb, Some, slice_get, IsPartitionPoint}
+use Rattle.note_infer.proofs.Common.{IsPartitionedBy, cases_lt, leb-true, slice_get_within, FnNote, Notes, Image, FunctionHolds}
+use Rattle.note_infer.proofs.Common.{function_before, IsWithin}
+use Rattle.std.specs.List.Sorted.{IsNonDecreasingBy}
+use Rattle.std.proofs.lemmas.{Bool.leb-false, List.Sorted.IsPartitionedBy-leb, Option.get_or_from_slice_get}
+use Rattle.std.proofs.lemmas.Option.{slice_get-get_or}
 
 module _ (image : Image) (notes : Notes) (all : (k : ℕ) → FunctionHolds image notes k) where
   ends_up : IsNonDecreasingBy (λ (f : FnNote). f.end) notes.function

@@ -1,23 +1,9 @@
 -- A walk through an instruction.
-use Rattle.std.proofs.Common.{◌≡◌, ℕ, ◌<◌, ◌≤◌, List, sym, ap, subst, ◌∙◌, arith}
-use Rattle.std.specs.Prelude.{None, Option, Some, slice_get}
-use Rattle.ebc_insn.specs.declared.Insn.{Insn}
-use Rattle.note_types.specs.Records.{IsNotes}
-use Rattle.note_types.specs.declared.notes.FnNote.{FnNote}
-use Rattle.note_types.specs.declared.notes.Notes.{Notes}
-use Rattle.note_types.specs.declared.state.State.{State}
-use Rattle.pe_image.specs.declared.image.Image.{Image}
-use Rattle.rules_flow.specs.declared.successors.Successors.{Successors}
-use Rattle.rules_base.specs.Outcomes.{OrRule}
-use Rattle.rules_image.specs.Images.{reloc_at}
-use Rattle.width_checker.specs.Rows.{here_at, row_of}
+use Rattle.note_infer.proofs.Common.{◌≡◌, ℕ, ◌<◌, ◌≤◌, List, sym, ap, subst, ◌∙◌, arith, None, Option, Some, slice_get, Insn, IsNotes}
+use Rattle.note_infer.proofs.Common.{FnNote, Notes, State, Image, Successors, OrRule, reloc_at, here_at, row_of, Clashes, States, all_in}
+use Rattle.note_infer.proofs.Common.{given, marked, ClashesAt, Takes, IsSetting, Reached}
 use Rattle.width_checker.proofs.Walking.{here_is}
-use Rattle.note_infer.specs.Rounds.{Clashes, States, all_in, given, marked}
-use Rattle.note_infer.proofs.PointNotes.{marked_notes}
-use Rattle.note_infer.specs.Coming.{ClashesAt, Takes}
-use Rattle.note_infer.specs.Passing.{IsSetting}
-use Rattle.note_infer.specs.Reaching.{Reached}
-use Rattle.note_infer.proofs.Lone.{come_one, points_before}
+use Rattle.note_infer.proofs.{PointNotes.marked_notes, Lone.come_one, Lone.points_before}
 
 -- ---- the setting
 

@@ -1,13 +1,8 @@
 -- The points at the leaders, one leader after another.
-use Rattle.std.proofs.Common.{◌≡◌, ℕ, zero, suc, ◌+◌, ◌<◌, List, [], ◌∷◌, ◌++◌, length, take, get_or, refl, sym, ap, ◌∙◌, arith}
-use Rattle.std.specs.Prelude.{None, Option, Some, slice_index}
-use Rattle.std.specs.List.Sorted.{IsStrictlyIncreasing}
+use Rattle.note_infer.proofs.Common.{◌≡◌, ℕ, zero, suc, ◌+◌, ◌<◌, List, [], ◌∷◌, ◌++◌, length, take, get_or, refl, sym, ap, ◌∙◌, arith}
+use Rattle.note_infer.proofs.Common.{None, Option, Some, slice_index, IsStrictlyIncreasing, Point, State, points_of, with_point, States}
+use Rattle.note_infer.proofs.Common.{state_at}
 use Rattle.std.proofs.lemmas.List.{take_more}
-use Rattle.note_types.specs.declared.notes.Point.{Point}
-use Rattle.note_types.specs.declared.state.State.{State}
-use Rattle.note_infer.specs.Inferred.{points_of, with_point}
-use Rattle.note_infer.specs.Rounds.{States}
-use Rattle.note_infer.specs.Coming.{state_at}
 use Rattle.note_infer.proofs.StatesAt.{at_number}
 
 with_more : (x : ℕ) (o : Option State) (ps qs : List Point) → with_point x o (ps ++ qs) ≡ with_point x o ps ++ qs

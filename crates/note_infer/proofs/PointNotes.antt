@@ -1,26 +1,13 @@
 -- The points that are found are points of the notes, so the conditions on notes hold of the notes with these points.
-use Rattle.std.proofs.Common.{◌≡◌, ℕ, zero, suc, ◌≤◌, Bool, true, false, List, [], ◌∷◌, length, map, Option, None, Some, slice_get}
-use Rattle.std.proofs.Common.{refl, ap, sym, subst, ◌∙◌, arith}
-use Rattle.std.specs.Prelude.{cond, filter, is_some}
-use Rattle.std.specs.List.{Contains, find}
-use Rattle.std.specs.List.Sorted.{IsStrictlyIncreasing}
-use Rattle.std.proofs.lemmas.Bool.{and_from, and_parts, le-leb, leb-true, lt-ltb, ltb-true}
+use Rattle.note_infer.proofs.Common.{◌≡◌, ℕ, zero, suc, ◌≤◌, Bool, true, false, List, [], ◌∷◌, length, map, Option, None, Some, slice_get}
+use Rattle.note_infer.proofs.Common.{refl, ap, sym, subst, ◌∙◌, arith, Contains, IsStrictlyIncreasing, le-leb, leb-true, same_Some}
+use Rattle.note_infer.proofs.Common.{point_limit, entry_state, Each, IsNotes, IsPointNote, function_at, FnNote, Notes, Point, State, Image}
+use Rattle.note_infer.proofs.Common.{points_of, with_point, AreLeaders, IsFound, AreAfter, IsWithin, States, mark, marked, with_points}
+use Rattle.std.specs.{Prelude.cond, Prelude.filter, Prelude.is_some, List.find}
+use Rattle.std.proofs.lemmas.Bool.{and_from, and_parts, lt-ltb, ltb-true}
 use Rattle.std.proofs.lemmas.List.Kept.{IsStrictlyIncreasing-filter}
-use Rattle.std.proofs.lemmas.Option.{same_Some}
-use Rattle.note_types.specs.Limits.{point_limit}
-use Rattle.note_types.specs.Notes.{entry_state}
-use Rattle.note_types.specs.Records.{Each, IsNotes, IsPointNote, function_at, has_place}
-use Rattle.note_types.specs.declared.notes.FnNote.{FnNote}
-use Rattle.note_types.specs.declared.notes.Notes.{Notes}
-use Rattle.note_types.specs.declared.notes.Point.{Point}
-use Rattle.note_types.specs.declared.state.State.{State}
-use Rattle.pe_image.specs.declared.image.Image.{Image}
-use Rattle.note_infer.specs.Inferred.{points_of, with_point}
-use Rattle.note_infer.specs.Leaders.{AreLeaders}
-use Rattle.note_infer.specs.PointStates.{IsFound}
-use Rattle.note_infer.specs.Rounds.{AreAfter, IsWithin, States, mark, marked, with_points}
-use Rattle.note_infer.proofs.OtherPoints.{notes_with}
-use Rattle.note_infer.proofs.RoundStates.{after_found, after_plain, entry_found}
+use Rattle.note_types.specs.Records.{has_place}
+use Rattle.note_infer.proofs.{OtherPoints.notes_with, RoundStates.after_found, RoundStates.after_plain, RoundStates.entry_found}
 
 -- ---- the function that a place belongs to
 

@@ -1,9 +1,7 @@
 -- The promises, from the laws of rounds and of the points that are found.
 use Rattle.note_infer.specs.Promises.{FoundAreNotes, FoundIsTyped, RoundsBegin, RoundsEnd}
-use Rattle.note_infer.proofs.Found.{found_typed}
-use Rattle.note_infer.proofs.PointNotes.{found_notes, marked_notes}
-use Rattle.note_infer.proofs.RoundLaws.{first_rank, round_falls}
-use Rattle.note_infer.proofs.RoundStates.{after_found, round_room}
+use Rattle.note_infer.proofs.{Found.found_typed, PointNotes.found_notes, PointNotes.marked_notes, RoundLaws.first_rank}
+use Rattle.note_infer.proofs.{RoundLaws.round_falls, RoundStates.after_found, RoundStates.round_room}
 
 pub rounds_end : RoundsEnd
 rounds_end image notes leaders rounds states next g round =

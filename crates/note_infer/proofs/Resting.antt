@@ -1,24 +1,10 @@
 -- From one round to the next: what rests where a leader's state doesn't change.
-use Rattle.std.proofs.Common.{◌≡◌, ◌⊎◌, ℕ, zero, suc, ◌^◌, ◌<◌, ◌≤◌, Bool, true, false, nat_eq, if◌then◌else◌, List, [], ◌∷◌, refl, sym}
-use Rattle.std.proofs.Common.{subst, ◌∙◌, ⊎_elim, arith}
-use Rattle.std.specs.Prelude.{Some, slice_get}
-use Rattle.std.specs.List.{Contains}
-use Rattle.std.proofs.lemmas.Bool.Decides.{nat_tests}
-use Rattle.std.proofs.lemmas.Option.{same_Some}
-use Rattle.note_types.specs.Notes.{entry_state}
-use Rattle.note_types.specs.declared.notes.FnNote.{FnNote}
-use Rattle.note_types.specs.declared.notes.Notes.{Notes}
-use Rattle.note_types.specs.declared.state.State.{State}
-use Rattle.pe_image.specs.declared.image.Image.{Image}
-use Rattle.note_infer.specs.PointStates.{AreFound}
-use Rattle.note_infer.specs.Rounds.{Comes, HasCome, IsRound, States, by_entry}
-use Rattle.note_infer.proofs.RoundStates.{round_found}
-use Rattle.note_infer.specs.Passing.{IsSetting}
-use Rattle.note_infer.specs.Reaching.{AllRest, Reached, Rests, Settles, SettlesAll, Stood, origin, rests, rests_none, stood, stood_none}
-use Rattle.note_infer.proofs.Chains.{carried, chain_within, one_chain, passed_with}
-use Rattle.note_infer.proofs.Lone.{none_fails, points_before}
-use Rattle.note_infer.proofs.Passing.{marks_read, range_of}
-use Rattle.note_infer.proofs.Settling.{all_settled}
+use Rattle.note_infer.proofs.Common.{◌≡◌, ◌⊎◌, ℕ, zero, suc, ◌^◌, ◌<◌, ◌≤◌, Bool, true, false, nat_eq, if◌then◌else◌, List, [], ◌∷◌, refl}
+use Rattle.note_infer.proofs.Common.{sym, subst, ◌∙◌, ⊎_elim, arith, Some, slice_get, Contains, nat_tests, same_Some, entry_state, FnNote}
+use Rattle.note_infer.proofs.Common.{Notes, State, Image, AreFound, Comes, HasCome, IsRound, States, by_entry, IsSetting, AllRest, Reached}
+use Rattle.note_infer.proofs.Common.{Rests, Settles, SettlesAll, Stood, origin, rests, rests_none, stood, stood_none}
+use Rattle.note_infer.proofs.{RoundStates.round_found, Chains.carried, Chains.chain_within, Chains.one_chain, Chains.passed_with}
+use Rattle.note_infer.proofs.{Lone.none_fails, Lone.points_before, Passing.marks_read, Passing.range_of, Settling.all_settled}
 
 module _ (image : Image) (notes other : Notes) (leaders : List ℕ) (g : IsSetting image notes other leaders) (states next : States)
     (reached : Reached image notes leaders states next (2 ^ 22)) where

@@ -1,26 +1,14 @@
 -- Rounds end: a round that changes something makes the leaders' states say less.
-use Rattle.std.proofs.Common.{◌≡◌, ◌⊎◌, ℕ, zero, suc, ◌+◌, ◌*◌, ◌<◌, ◌≤◌, Bool, true, false, nat_eq, if◌then◌else◌, List, [], ◌∷◌, length}
-use Rattle.std.proofs.Common.{Option, None, Some, refl, ap, sym, subst, ◌∙◌, inl, inr, ⊎_elim, arith}
-use Rattle.std.specs.Prelude.{option_and_then, slice_get}
-use Rattle.std.specs.List.{Contains}
+use Rattle.note_infer.proofs.Common.{◌≡◌, ◌⊎◌, ℕ, zero, suc, ◌+◌, ◌<◌, ◌≤◌, Bool, true, false, nat_eq, if◌then◌else◌, List, [], ◌∷◌, length}
+use Rattle.note_infer.proofs.Common.{Option, None, Some, refl, ap, sym, subst, ◌∙◌, inl, inr, ⊎_elim, arith, option_and_then, slice_get}
+use Rattle.note_infer.proofs.Common.{Contains, same_Some, entry_state, FnNote, Notes, State, Ty, Image, agree, joined, without_fact}
+use Rattle.note_infer.proofs.Common.{AreLeaders, AreSame, GivenAt, HasCome, IsRound, States, all_in, by_entry, GivesRoom, HasRoom}
+use Rattle.note_infer.proofs.Common.{leaders_rank}
+use Rattle.std.proofs.{Common.◌*◌, lemmas.Nat.ones-le}
 use Rattle.std.specs.Int.RustNames.{count_ones}
-use Rattle.std.proofs.lemmas.Nat.{ones-le}
-use Rattle.std.proofs.lemmas.Option.{same_Some}
-use Rattle.note_types.specs.Notes.{entry_state}
-use Rattle.note_types.specs.declared.items.Item.{Item}
-use Rattle.note_types.specs.declared.items.Item.TheVariants.{Slot, Locals}
-use Rattle.note_types.specs.declared.notes.FnNote.{FnNote}
-use Rattle.note_types.specs.declared.notes.Notes.{Notes}
-use Rattle.note_types.specs.declared.state.State.{State}
-use Rattle.note_types.specs.declared.types.Ty.{Ty}
-use Rattle.pe_image.specs.declared.image.Image.{Image}
-use Rattle.note_join.specs.JoinStates.{agree, joined, without_fact}
-use Rattle.note_infer.specs.Leaders.{AreLeaders}
+use Rattle.note_types.specs.declared.items.Item.{Item, TheVariants.Slot, TheVariants.Locals}
 use Rattle.note_join.specs.Ranks.{item_rank, leader_rank, most_rank, register_rank, state_rank, summed}
-use Rattle.note_infer.specs.Rounds.{AreSame, GivenAt, HasCome, IsRound, States, all_in, by_entry}
-use Rattle.note_infer.specs.RoundEnds.{GivesRoom, HasRoom, leaders_rank}
-use Rattle.note_join.proofs.StateJoins.{state_weakens}
-use Rattle.note_join.proofs.TypeJoins.{rank-most}
+use Rattle.note_join.proofs.{StateJoins.state_weakens, TypeJoins.rank-most}
 
 -- ---- what a state says at most
 

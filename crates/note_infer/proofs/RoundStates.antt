@@ -1,44 +1,23 @@
 -- Every state that is found in a round is one of its function.
-use Rattle.std.proofs.Common.{◌≡◌, ℕ, zero, suc, ◌≤◌, Bool, true, false, nat_eq, if◌then◌else◌, List, [], ◌∷◌, ◌++◌, length, Option}
-use Rattle.std.proofs.Common.{None, Some, refl, sym, subst, ◌∙◌, arith}
-use Rattle.std.specs.Prelude.{IfOk, IfSome, Ok, Result, option_and_then, slice_get}
-use Rattle.std.specs.List.{Contains}
+use Rattle.note_infer.proofs.Common.{◌≡◌, ℕ, zero, suc, ◌≤◌, Bool, true, false, nat_eq, if◌then◌else◌, List, [], ◌∷◌, ◌++◌, length, Option}
+use Rattle.note_infer.proofs.Common.{None, Some, refl, sym, subst, ◌∙◌, arith, IfOk, IfSome, Ok, Result, option_and_then, slice_get}
+use Rattle.note_infer.proofs.Common.{Contains, same_Some, Insn, IsState, local_fields, entry_state, IsNotes, FnNote, Notes, Point, RuleName}
+use Rattle.note_infer.proofs.Common.{State, Image, Successors, here_at, row_of, agree, joined, without_fact, AreFound, IsFound, GivesRoom}
+use Rattle.note_infer.proofs.Common.{HasRoom, AreAfter, Comes, GivenAt, HasCome, IsRound, IsWithin, States, all_in, at_entry, at_leader}
+use Rattle.note_infer.proofs.Common.{by_entry, by_fall, by_jump, given, gives, gives_none, marked, with_points, spelled_at}
 use Rattle.std.proofs.lemmas.Nat.{and_le_l}
-use Rattle.std.proofs.lemmas.Option.{same_Some}
-use Rattle.ebc_insn.specs.declared.Insn.{Insn}
 use Rattle.ebc_insn.specs.Spelling.{WellFormed}
-use Rattle.note_types.specs.Known.{IsState, local_fields}
-use Rattle.note_types.specs.Notes.{entry_state}
-use Rattle.note_types.specs.Records.{IsNotes}
-use Rattle.note_types.specs.declared.notes.FnNote.{FnNote}
-use Rattle.note_types.specs.declared.notes.Notes.{Notes}
-use Rattle.note_types.specs.declared.notes.Point.{Point}
-use Rattle.note_types.specs.declared.rule.RuleName.{RuleName}
-use Rattle.note_types.specs.declared.state.State.{State}
-use Rattle.note_types.proofs.RecordLaws.{slots_and_locals}
-use Rattle.note_types.proofs.TypeLaws.{entry_is_state}
-use Rattle.pe_image.specs.declared.image.Image.{Image}
+use Rattle.note_types.proofs.{RecordLaws.slots_and_locals, TypeLaws.entry_is_state}
 use Rattle.rules_base.specs.declared.here.Here.{Here}
 use Rattle.rules_data.specs.Data.{after_data}
-use Rattle.rules_flow.specs.declared.successors.Successors.{Successors}
-use Rattle.rules_flow.specs.Flow.{after_flow}
-use Rattle.rules_flow.specs.Successors.{falls}
-use Rattle.rules_laws.specs.Keeping.{AreStates}
-use Rattle.rules_laws.proofs.FlowKeeps.{after_flow-keeps}
-use Rattle.rules_laws.proofs.Options.{ok_map}
-use Rattle.rules_laws.proofs.RowsKeep.{after_data-keeps}
+use Rattle.rules_flow.specs.{Flow.after_flow, Successors.falls}
+use Rattle.rules_laws.specs.{Keeping.AreStates, Fields.HasFields, Fields.HaveFields}
+use Rattle.rules_laws.proofs.{FlowKeeps.after_flow-keeps, Options.ok_map, RowsKeep.after_data-keeps, FieldsKept.data_kept}
+use Rattle.rules_laws.proofs.FieldsKept.{flow_kept}
 use Rattle.rules_base.specs.Outcomes.{gives_map}
-use Rattle.width_checker.specs.Rows.{here_at, is_flow, row_of}
-use Rattle.note_join.specs.JoinStates.{agree, joined, without_fact}
-use Rattle.rules_laws.specs.Fields.{HasFields, HaveFields}
-use Rattle.rules_laws.proofs.FieldsKept.{data_kept, flow_kept}
-use Rattle.note_infer.specs.PointStates.{AreFound, IsFound}
-use Rattle.note_infer.specs.RoundEnds.{GivesRoom, HasRoom}
-use Rattle.note_infer.specs.Rounds.{AreAfter, Comes, GivenAt, HasCome, IsRound, IsWithin, States, all_in, at_entry, at_leader, by_entry}
-use Rattle.note_infer.specs.Rounds.{by_fall, by_jump, given, gives, gives_none, marked, with_points}
+use Rattle.width_checker.specs.Rows.{is_flow}
 use Rattle.note_infer.proofs.OtherPoints.{state_is}
 use Rattle.note_join.proofs.StateJoins.{states_below}
-use Rattle.rules_image.proofs.Decoding.{spelled_at}
 
 -- ---- rows
 

@@ -1,24 +1,11 @@
 -- A round over all starts: what rests between two walks is passed over, and after the last one the round is whole.
-use Rattle.std.proofs.Common.{◌≡◌, ℕ, zero, suc, ◌+◌, ◌-◌, ◌^◌, ◌<◌, ◌≤◌, List, [], ◌∷◌, length, map, get_or, refl, sym, ap, subst, ◌∙◌}
-use Rattle.std.proofs.Common.{⊎_elim}
-use Rattle.std.proofs.Common.{arith}
-use Rattle.std.specs.Prelude.{Some, slice_get}
-use Rattle.std.specs.List.{Contains}
-use Rattle.std.proofs.lemmas.Bool.{cases_lt}
-use Rattle.std.proofs.lemmas.Option.{same_Some, slice_get_read, slice_get_within}
-use Rattle.note_types.specs.declared.notes.FnNote.{FnNote}
-use Rattle.note_types.specs.declared.notes.Notes.{Notes}
-use Rattle.note_types.specs.declared.state.State.{State}
-use Rattle.pe_image.specs.declared.image.Image.{Image}
-use Rattle.note_infer.specs.PointStates.{AreFound}
-use Rattle.note_infer.specs.Rounds.{Begins, Comes, IsWithin, States, at_entry, at_leader}
-use Rattle.note_infer.specs.Passing.{HasPassed, IsSetting}
-use Rattle.note_infer.specs.Reaching.{AllRest, IsClosed, Reached, Rests, Stood, origin, rests, rests_none, stood, stood_none}
-use Rattle.note_infer.specs.Starting.{AreStarts, IsStart}
-use Rattle.note_infer.specs.declared.rounds.Start.{Start}
-use Rattle.note_infer.proofs.Advancing.{passed_given, rest_to}
-use Rattle.note_infer.proofs.Chains.{origin_low, passed_with}
-use Rattle.note_infer.proofs.Going.{same_or_other}
+use Rattle.note_infer.proofs.Common.{◌≡◌, ℕ, zero, suc, ◌+◌, ◌-◌, ◌^◌, ◌<◌, ◌≤◌, List, [], ◌∷◌, length, map, get_or, refl, sym, ap, subst}
+use Rattle.note_infer.proofs.Common.{◌∙◌, ⊎_elim, arith, Some, slice_get, Contains, cases_lt, same_Some, slice_get_read, slice_get_within}
+use Rattle.note_infer.proofs.Common.{FnNote, Notes, State, Image, AreFound, Begins, Comes, IsWithin, States, at_entry, at_leader, HasPassed}
+use Rattle.note_infer.proofs.Common.{IsSetting, AllRest, IsClosed, Reached, Rests, Stood, origin, rests, rests_none, stood, stood_none}
+use Rattle.note_infer.proofs.Common.{AreStarts, Start}
+use Rattle.note_infer.specs.Starting.{IsStart}
+use Rattle.note_infer.proofs.{Advancing.passed_given, Advancing.rest_to, Chains.origin_low, Chains.passed_with, Going.same_or_other}
 use Rattle.note_infer.proofs.Passing.{marks_read, range_of}
 
 -- a chain past a place over which nothing falls began past it

@@ -1,18 +1,11 @@
 -- What a search in ascending numbers finds.
-use Rattle.std.proofs.Common.{◌≡◌, ℕ, zero, suc, ◌-◌, ◌<◌, ◌≤◌, Bool, true, false, nat_eq, ◌||◌, List, [], ◌∷◌, length}
-use Rattle.std.proofs.Common.{get_or, refl, sym, ap, subst, ◌∙◌, ⊎_elim, arith}
-use Rattle.std.specs.Prelude.{Err, None, Ok, Some}
-use Rattle.std.specs.List.{Contains, list_any}
-use Rattle.std.specs.List.Sorted.{IsBinarySearchResult, IsStrictlyIncreasing}
-use Rattle.std.specs.Ordering.{nat_cmp}
-use Rattle.std.proofs.lemmas.Bool.{cases_lt}
-use Rattle.std.proofs.lemmas.Bool.Decides.{nat_tests}
-use Rattle.std.proofs.lemmas.List.Kept.{AllPairs-from_increasing}
-use Rattle.std.proofs.lemmas.List.Sorted.{searched}
-use Rattle.pe_image.specs.Images.{IsImage}
-use Rattle.pe_image.specs.Mapped.{named_place}
-use Rattle.pe_image.specs.declared.image.Image.{Image}
-use Rattle.rules_image.specs.Images.{is_relocated, named_at, reloc_at}
+use Rattle.note_infer.proofs.Common.{◌≡◌, ℕ, zero, suc, ◌-◌, ◌<◌, ◌≤◌, Bool, true, false, nat_eq, List, [], ◌∷◌, length, get_or, refl, sym}
+use Rattle.note_infer.proofs.Common.{ap, subst, ◌∙◌, ⊎_elim, arith, Err, None, Ok, Some, Contains, IsStrictlyIncreasing, cases_lt}
+use Rattle.note_infer.proofs.Common.{nat_tests, AllPairs-from_increasing, Image, reloc_at}
+use Rattle.std.proofs.{Common.◌||◌, lemmas.List.Sorted.searched}
+use Rattle.std.specs.{List.list_any, List.Sorted.IsBinarySearchResult, Ordering.nat_cmp}
+use Rattle.pe_image.specs.{Images.IsImage, Mapped.named_place}
+use Rattle.rules_image.specs.Images.{is_relocated, named_at}
 
 -- numbers that don't fall
 abbrev pub Climb : List ℕ → Type 0

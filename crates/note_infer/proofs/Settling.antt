@@ -1,17 +1,10 @@
 -- What has come to a leader takes a state again without a change, also once others are joined in.
-use Rattle.std.proofs.Common.{◌≡◌, zero, suc, List, [], ◌∷◌, refl, sym, ap, subst, ◌∙◌}
-use Rattle.std.specs.Prelude.{Option, None, Some, option_and_then}
-use Rattle.std.proofs.lemmas.Option.{none-some, same_Some}
-use Rattle.note_types.specs.declared.notes.FnNote.{FnNote}
-use Rattle.note_types.specs.declared.notes.Notes.{Notes}
-use Rattle.note_types.specs.declared.state.State.{State}
-use Rattle.note_join.specs.JoinStates.{join_states, taken_in, without_fact}
+use Rattle.note_infer.proofs.Common.{◌≡◌, zero, suc, List, [], ◌∷◌, refl, sym, ap, subst, ◌∙◌, Option, None, Some, option_and_then}
+use Rattle.note_infer.proofs.Common.{none-some, same_Some, FnNote, Notes, State, taken_in, without_fact, IsFound, all_in, Settles}
+use Rattle.note_infer.proofs.Common.{SettlesAll}
+use Rattle.note_join.specs.JoinStates.{join_states}
 use Rattle.note_join.proofs.SettledStates.{first_again, states_again, states_settled}
-use Rattle.note_infer.specs.PointStates.{IsFound}
-use Rattle.note_infer.specs.Rounds.{all_in}
-use Rattle.note_infer.proofs.RoundStates.{AllFound, SomeFound, all_in-found}
-use Rattle.note_infer.specs.Reaching.{Settles, SettlesAll}
-use Rattle.note_infer.proofs.StatesAt.{all_one}
+use Rattle.note_infer.proofs.{RoundStates.AllFound, RoundStates.SomeFound, RoundStates.all_in-found, StatesAt.all_one}
 
 -- the first of several states that are joined in, and the others
 record Taken (come after : Option State) (t : State) (ts : List State) : Type 0 where

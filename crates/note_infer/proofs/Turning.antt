@@ -1,37 +1,14 @@
 -- Rounds, one after another: what holds where the walks of a round begin, and what follows where it went through.
-use Rattle.std.proofs.Common.{◌≡◌, ℕ, zero, suc, ◌^◌, ◌<◌, Bool, true, nat_eq, if◌then◌else◌, List, [], ◌∷◌, length, map}
-use Rattle.std.proofs.Common.{get_or, replicate, refl, sym, ap, subst, ◌∙◌, ⊎_elim, arith}
-use Rattle.std.specs.Prelude.{None, Option, Some, option_and_then}
-use Rattle.std.specs.List.{Contains}
-use Rattle.std.specs.List.Sorted.{IsStrictlyIncreasing}
-use Rattle.std.proofs.lemmas.Bool.Decides.{nat_tests}
-use Rattle.std.proofs.lemmas.List.{ext_get_or}
-use Rattle.std.proofs.lemmas.Option.{none-some, same_Some}
-use Rattle.note_types.specs.Notes.{entry_state}
-use Rattle.note_types.specs.declared.notes.FnNote.{FnNote}
-use Rattle.note_types.specs.declared.notes.Notes.{Notes}
-use Rattle.note_types.specs.declared.state.State.{State}
-use Rattle.note_join.specs.JoinStates.{taken_in}
-use Rattle.pe_image.specs.declared.image.Image.{Image}
-use Rattle.width_checker.specs.Typed.{TablesHold}
-use Rattle.note_infer.specs.Inferred.{IsSettled}
-use Rattle.note_infer.specs.PointStates.{AreFound, IsFound}
-use Rattle.note_infer.specs.RoundEnds.{leaders_rank}
-use Rattle.note_infer.specs.Rounds.{AreAfter, AreSame, Comes, HasCome, IsRound, IsWithin, States, all_in, at_entry, at_leader, by_entry}
-use Rattle.note_infer.proofs.Promising.{rounds_end}
-use Rattle.note_infer.proofs.RoundStates.{AllFound, after_found, entry_found}
-use Rattle.note_infer.specs.Beginning.{AreChanges, AreEntries, StartsAt, StayKnown}
-use Rattle.note_infer.specs.Coming.{state_at}
-use Rattle.note_infer.specs.Passing.{IsSetting}
-use Rattle.note_infer.specs.Reaching.{AllRest, Reached, origin, rests_none}
-use Rattle.note_infer.specs.Starting.{AreStarts}
-use Rattle.note_infer.specs.declared.rounds.Start.{Start}
-use Rattle.note_infer.proofs.Entering.{nothing_before}
-use Rattle.note_infer.proofs.Passing.{marks_read, range_of}
-use Rattle.note_infer.proofs.Resting.{begin_next, rest_next, whole_round}
-use Rattle.note_infer.proofs.Searching.{there_at}
-use Rattle.note_infer.proofs.Settling.{all_new}
-use Rattle.note_infer.proofs.StatesAt.{at_number}
+use Rattle.note_infer.proofs.Common.{◌≡◌, ℕ, zero, suc, ◌^◌, ◌<◌, Bool, true, nat_eq, if◌then◌else◌, List, [], ◌∷◌, length, map, get_or}
+use Rattle.note_infer.proofs.Common.{replicate, refl, sym, ap, subst, ◌∙◌, ⊎_elim, arith, None, Option, Some, option_and_then, Contains}
+use Rattle.note_infer.proofs.Common.{IsStrictlyIncreasing, nat_tests, ext_get_or, none-some, same_Some, entry_state, FnNote, Notes, State}
+use Rattle.note_infer.proofs.Common.{taken_in, Image, TablesHold, IsSettled, AreFound, IsFound, leaders_rank, AreAfter, AreSame, Comes}
+use Rattle.note_infer.proofs.Common.{HasCome, IsRound, IsWithin, States, all_in, at_entry, at_leader, by_entry, AreEntries, StartsAt}
+use Rattle.note_infer.proofs.Common.{state_at, IsSetting, AllRest, Reached, origin, rests_none, AreStarts, Start}
+use Rattle.note_infer.proofs.{Promising.rounds_end, RoundStates.AllFound, RoundStates.after_found, RoundStates.entry_found}
+use Rattle.note_infer.proofs.{Entering.nothing_before, Passing.marks_read, Passing.range_of, Resting.begin_next, Resting.rest_next}
+use Rattle.note_infer.proofs.{Resting.whole_round, Searching.there_at, Settling.all_new, StatesAt.at_number}
+use Rattle.note_infer.specs.Beginning.{AreChanges, StayKnown}
 
 -- the walks of a round begin: the states before it and what has come to the leaders, in the leaders' order
 pub record IsTurn (image : Image) (notes : Notes) (leaders : List ℕ) (starts : List Start) (before come : List (Option State)) : Type 0

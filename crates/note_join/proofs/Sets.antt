@@ -1,11 +1,8 @@
 -- Sets of fields that are common to two.
-use Rattle.std.proofs.Common.{◌≡◌, ◌⊎◌, ℕ, zero, suc, ◌+◌, ◌*◌, ◌/◌, ◌%◌, ◌^◌, ◌<◌, ◌≤◌, refl, ap, subst, ◌∙◌, inl, inr, ⊎_elim, arith}
-use Rattle.std.proofs.Common.{bit_and, min}
-use Rattle.std.specs.Int.{bit_at}
-use Rattle.std.specs.Int.RustNames.{count_ones}
+use Rattle.note_join.proofs.Common.{◌≡◌, ◌⊎◌, ℕ, suc, ◌+◌, ◌^◌, ◌<◌, ◌≤◌, refl, ap, subst, ◌∙◌, inl, inr, ⊎_elim, arith, bit_and, min}
+use Rattle.note_join.proofs.Common.{bit_at, count_ones, cases_lt, bit_at_and, same_from_bits}
 use Rattle.std.proofs.lemmas.Nat.{and_block, and_le_l, and_le_r, ones_cat, ones_le_self, shr_split, zero_from_ones}
-use Rattle.std.proofs.lemmas.Bool.{cases_eq, cases_lt}
-use Rattle.std.proofs.lemmas.Nat.Bits.{bit_at_and, bit_at-lt, same_from_bits}
+use Rattle.std.proofs.{Common.zero, Common.◌*◌, Common.◌/◌, Common.◌%◌, lemmas.Bool.cases_eq, lemmas.Nat.Bits.bit_at-lt}
 use Rattle.note_types.specs.FieldSets.{IsAmong}
 
 -- the fields of both are among those of each

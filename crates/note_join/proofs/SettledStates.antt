@@ -1,27 +1,14 @@
 -- A state that has had another one joined in takes it again without a change, whatever else was joined in since.
-use Rattle.std.proofs.Common.{◌≡◌, ℕ, suc, Bool, true, false, List, [], ◌∷◌, length, Option, None, Some, slice_get}
-use Rattle.std.proofs.Common.{refl, ap, sym, subst, ◌∙◌, arith, bit_and, min}
-use Rattle.std.specs.Int.{bit_at}
-use Rattle.std.proofs.lemmas.Bool.{and_parts, and_from, eq-eqb, false≢true}
-use Rattle.std.proofs.lemmas.Nat.Bits.{bit_at_and, same_from_bits}
+use Rattle.note_join.proofs.Common.{◌≡◌, ℕ, suc, Bool, true, false, List, [], ◌∷◌, length, Option, None, Some, slice_get, refl, ap, sym}
+use Rattle.note_join.proofs.Common.{subst, ◌∙◌, arith, bit_and, min, bit_at, and_parts, and_from, eq-eqb, false≢true, bit_at_and}
+use Rattle.note_join.proofs.Common.{same_from_bits, only_if, IsBounded, Item, Slot, Locals, FnNote, Notes, State, Ty, join_types, agree}
+use Rattle.note_join.proofs.Common.{item_agrees, items_agree, join_item, joined, zipped}
 use Rattle.std.proofs.lemmas.Option.{get_or_from_slice_get}
-use Rattle.ebc_base.specs.Steps.{only_if}
 use Rattle.note_types.specs.Known.{IsState}
-use Rattle.note_types.specs.Types.{IsBounded}
-use Rattle.note_types.specs.declared.items.Item.{Item}
-use Rattle.note_types.specs.declared.items.Item.TheVariants.{Slot, Locals}
-use Rattle.note_types.specs.declared.notes.FnNote.{FnNote}
-use Rattle.note_types.specs.declared.notes.Notes.{Notes}
-use Rattle.note_types.specs.declared.state.State.{State}
-use Rattle.note_types.specs.declared.types.Ty.{Ty}
+use Rattle.note_join.specs.{JoinStates.join_states, JoinStates.without_fact, Laws.FirstAgain, Laws.StatesAgain, Laws.StatesSettle}
+use Rattle.note_join.proofs.{Sets.and_self, SettledTypes.types_again, SettledTypes.types_settled, StateJoins.item-equal}
+use Rattle.note_join.proofs.{StateJoins.items_agree-equal, StateJoins.zipped-equal, TypeJoins.types_equal}
 use Rattle.note_types.specs.declared.types.Ty.TheVariants as ty
-use Rattle.note_join.specs.Join.{join_types}
-use Rattle.note_join.specs.JoinStates.{agree, item_agrees, items_agree, join_item, join_states, joined, without_fact, zipped}
-use Rattle.note_join.specs.Laws.{FirstAgain, StatesAgain, StatesSettle}
-use Rattle.note_join.proofs.Sets.{and_self}
-use Rattle.note_join.proofs.SettledTypes.{types_again, types_settled}
-use Rattle.note_join.proofs.StateJoins.{item-equal, items_agree-equal, zipped-equal}
-use Rattle.note_join.proofs.TypeJoins.{types_equal}
 
 -- ---- lists
 

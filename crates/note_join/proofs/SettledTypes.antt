@@ -1,20 +1,14 @@
 -- A type that has had another one joined in takes it again without a change, whatever else was joined in since: so what
 -- is given again need not be joined again.
-use Rattle.std.proofs.Common.{◌≡◌, ◌⊎◌, ℕ, ◌-◌, ◌^◌, ◌<◌, ◌≤◌, Bool, true, false, ◌&&◌, ◌||◌, nat_eq, nat_lt}
-use Rattle.std.proofs.Common.{if◌then◌else◌, Option, None, Some, refl, ap, sym, subst, ◌∙◌, inl, inr, ⊎_elim, arith, pos, ℤ}
-use Rattle.std.specs.Prelude.{IfSome, unwrap_or, ⊤}
-use Rattle.std.specs.Ordering.{int_eq}
-use Rattle.std.proofs.lemmas.Bool.{and_from, and_parts, eqb-true, eq-eqb, leb-true, le-leb, lt-ltb, ltb-true, false≢true}
-use Rattle.std.proofs.lemmas.Bool.Decides.{Decides-int_eq}
-use Rattle.note_types.specs.BelowTests.{same_type}
-use Rattle.note_types.specs.Types.{IsBounded, is_start}
-use Rattle.ebc_base.specs.Steps.{only_if}
-use Rattle.note_types.proofs.SameLaws.{Decides-same_type, same_type-equal}
-use Rattle.note_types.specs.declared.types.Ty.{Ty}
-use Rattle.note_types.specs.declared.types.Ty.TheVariants as ty
-use Rattle.note_join.specs.Join.{are_within, common, is_zero, join_ints, join_null, join_pointers, join_signed, join_status, join_types}
-use Rattle.note_join.specs.Join.{least_end, or_null}
+use Rattle.note_join.proofs.Common.{◌≡◌, ◌⊎◌, ℕ, ◌-◌, ◌^◌, ◌<◌, ◌≤◌, Bool, true, false, ◌&&◌, ◌||◌, nat_eq, nat_lt, if◌then◌else◌, Option}
+use Rattle.note_join.proofs.Common.{None, Some, refl, ap, sym, subst, ◌∙◌, inl, inr, ⊎_elim, arith, pos, IfSome, unwrap_or, int_eq}
+use Rattle.note_join.proofs.Common.{and_from, and_parts, eqb-true, eq-eqb, leb-true, ltb-true, false≢true, Decides-int_eq, same_type}
+use Rattle.note_join.proofs.Common.{IsBounded, is_start, only_if, Decides-same_type, same_type-equal, Ty, are_within, common, is_zero}
+use Rattle.note_join.proofs.Common.{join_ints, join_null, join_pointers, join_signed, join_status, join_types, least_end, or_null}
+use Rattle.std.proofs.{Common.ℤ, lemmas.Bool.le-leb, lemmas.Bool.lt-ltb}
+use Rattle.std.specs.Prelude.{⊤}
 use Rattle.note_join.proofs.TypeJoins.{choose, common-is, least_end-above, other_rows, row_if-is, some_if-is, table-is, when}
+use Rattle.note_types.specs.declared.types.Ty.TheVariants as ty
 
 -- one of the three upper ends
 abbrev IsEnd : ℕ → Type 0

@@ -1,29 +1,17 @@
 -- Laws of the join of two states.
-use Rattle.std.proofs.Common.{cond, ◌≡◌, ◌⊎◌, ℕ, zero, suc, ◌+◌, ◌<◌, ◌≤◌, Bool, true, false, List, [], ◌∷◌, ◌++◌, length, take, Option}
-use Rattle.std.proofs.Common.{None, Some, slice_get, slice_index_or, refl, ap, sym, subst, ◌∙◌, inl, inr, ⊎_elim, arith, bit_and}
-use Rattle.std.specs.Prelude.{count_by, is_some}
-use Rattle.std.specs.List.{AllZip, fold}
-use Rattle.std.specs.Int.RustNames.{count_ones}
-use Rattle.std.proofs.lemmas.Bool.{and_parts, and_from, and_left, and_right, eqb-true, eq-eqb, false≢true}
-use Rattle.note_types.specs.Below.{Below}
-use Rattle.note_types.specs.Known.{IsKnown, is_locals, is_slot}
-use Rattle.note_types.specs.States.{ItemBelow, type_of}
-use Rattle.note_types.specs.declared.cell.SlotKind.{SlotKind}
-use Rattle.note_types.specs.declared.items.Item.{Item}
-use Rattle.note_types.specs.declared.items.Item.TheVariants.{Slot, Locals}
-use Rattle.note_types.specs.declared.notes.FnNote.{FnNote}
-use Rattle.note_types.specs.declared.notes.Notes.{Notes}
-use Rattle.note_types.specs.declared.state.Fact.{Fact}
-use Rattle.note_types.specs.declared.state.State.{State}
-use Rattle.note_types.specs.declared.types.Ty.{Ty}
-use Rattle.note_types.specs.declared.types.Ty.TheVariants as ty
+use Rattle.note_join.proofs.Common.{◌≡◌, ◌⊎◌, ℕ, suc, ◌+◌, ◌<◌, ◌≤◌, Bool, true, false, List, [], ◌∷◌, ◌++◌, length, take, Option, None}
+use Rattle.note_join.proofs.Common.{Some, slice_get, refl, ap, sym, subst, ◌∙◌, inl, inr, ⊎_elim, arith, bit_and, count_ones, and_parts}
+use Rattle.note_join.proofs.Common.{and_from, eqb-true, eq-eqb, false≢true, Below, IsKnown, Item, Slot, Locals, FnNote, Notes, State, Ty}
+use Rattle.note_join.proofs.Common.{join_types, agree, item_agrees, items_agree, join_item, joined, zipped, AreBothBelow, StateWeakens}
+use Rattle.std.proofs.{Common.cond, Common.zero, Common.slice_index_or, lemmas.Bool.and_left, lemmas.Bool.and_right}
+use Rattle.std.specs.{Prelude.count_by, Prelude.is_some, List.AllZip, List.fold}
+use Rattle.note_types.specs.{Known.is_locals, Known.is_slot, States.ItemBelow, States.type_of}
+use Rattle.note_types.specs.declared.{cell.SlotKind.SlotKind, state.Fact.Fact}
 use Rattle.note_types.proofs.SameLaws.{same_kind-equal, same_kind-refl}
-use Rattle.note_join.specs.Join.{join_types}
-use Rattle.note_join.specs.JoinStates.{agree, item_agrees, items_agree, join_item, joined, zipped}
-use Rattle.note_join.specs.Laws.{AreBothBelow, StateWeakens}
 use Rattle.note_join.specs.Ranks.{fact_rank, item_rank, register_rank, state_rank, summed}
-use Rattle.note_join.proofs.Sets.{and_self, both-fewer, both-first, both-second}
-use Rattle.note_join.proofs.TypeJoins.{types_below, types_equal, types_known, types_weaken}
+use Rattle.note_join.proofs.{Sets.and_self, Sets.both-fewer, Sets.both-first, Sets.both-second, TypeJoins.types_below}
+use Rattle.note_join.proofs.TypeJoins.{types_equal, types_known, types_weaken}
+use Rattle.note_types.specs.declared.types.Ty.TheVariants as ty
 
 -- ---- lists
 

@@ -1,27 +1,15 @@
 -- Laws of the join of two types.
-use Rattle.std.proofs.Common.{◌≡◌, ◌⊎◌, ℕ, ◌-◌, ◌^◌, ◌<◌, ◌≤◌, Bool, true, false, ◌&&◌, ◌||◌, nat_eq, nat_lt, if◌then◌else◌, Option, None}
-use Rattle.std.proofs.Common.{Some, refl, ap, sym, subst, inl, inr, ⊎_elim, arith, pos}
-use Rattle.std.specs.Prelude.{IfSome, unwrap_or}
-use Rattle.std.specs.Ordering.{int_eq}
+use Rattle.note_join.proofs.Common.{◌≡◌, ◌⊎◌, ℕ, ◌-◌, ◌^◌, ◌<◌, ◌≤◌, Bool, true, false, ◌&&◌, ◌||◌, nat_eq, nat_lt, if◌then◌else◌, Option}
+use Rattle.note_join.proofs.Common.{None, Some, refl, ap, sym, subst, inl, inr, ⊎_elim, arith, pos, IfSome, unwrap_or, int_eq, and_parts}
+use Rattle.note_join.proofs.Common.{eqb-true, leb-true, ltb-true, cases_lt, Decides-int_eq, Below, same_type, IsKnown, IsBounded, is_start}
+use Rattle.note_join.proofs.Common.{only_if, FnNote, Notes, Ty, same_type-equal, are_within, common, is_zero, join_ints, join_null}
+use Rattle.note_join.proofs.Common.{join_pointers, join_signed, join_status, join_types, least_end, or_null, AreBelow, KeepsKnown, Weakens}
 use Prim.Native.Nat.{◌∣◌}
-use Rattle.std.proofs.lemmas.Bool.{and_parts, eqb-true, eqb-false, leb-true, ltb-true, cases_lt, cases_eq}
-use Rattle.std.proofs.lemmas.Bool.Decides.{Decides-int_eq}
-use Rattle.std.proofs.lemmas.Nat.Gcd.{dvd_refl}
-use Rattle.std.proofs.Math.Nat.{one-dvd}
-use Rattle.note_types.specs.Below.{Below, below_any, below_equal, below_range, below_pointer, below_null, below_status, below_grants}
-use Rattle.note_types.specs.BelowTests.{same_type}
-use Rattle.note_types.specs.Known.{IsKnown}
-use Rattle.note_types.specs.Types.{IsBounded, is_start}
-use Rattle.ebc_base.specs.Steps.{only_if}
-use Rattle.note_types.specs.declared.notes.FnNote.{FnNote}
-use Rattle.note_types.specs.declared.notes.Notes.{Notes}
-use Rattle.note_types.specs.declared.types.Ty.{Ty}
-use Rattle.note_types.specs.declared.types.Ty.TheVariants as ty
-use Rattle.note_types.proofs.SameLaws.{same_type-equal, same_type-refl}
-use Rattle.note_join.specs.Join.{are_within, common, is_zero, join_ints, join_null, join_pointers, join_signed, join_status, join_types}
-use Rattle.note_join.specs.Join.{least_end, or_null}
-use Rattle.note_join.specs.Laws.{AreBelow, KeepsKnown, Weakens}
+use Rattle.std.proofs.{lemmas.Bool.eqb-false, lemmas.Bool.cases_eq, lemmas.Nat.Gcd.dvd_refl, Math.Nat.one-dvd}
+use Rattle.note_types.specs.Below.{below_any, below_equal, below_range, below_pointer, below_null, below_status, below_grants}
+use Rattle.note_types.proofs.SameLaws.{same_type-refl}
 use Rattle.note_join.specs.Ranks.{differs, ends_above, not_null, rank_of}
+use Rattle.note_types.specs.declared.types.Ty.TheVariants as ty
 
 -- ---- choices
 

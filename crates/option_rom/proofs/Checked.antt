@@ -1,18 +1,14 @@
 -- The conditions on an image as they are said, and as they are tried.
-use Rattle.std.proofs.Common.{◌≡◌, ℕ, ◌+◌, ◌*◌, ◌<◌, ◌≤◌, Bool, true, false, not, ◌||◌, List, length, refl, sym, ap, ◌∙◌, subst, Result, Ok}
-use Rattle.std.proofs.Common.{Err}
-use Rattle.std.specs.Prelude.{bit_and, bytes_eq, codes, nat_eq, nat_le, nat_lt}
-use Rattle.std.proofs.lemmas.Bool.{and_parts, eq-eqb, eqb-true, le-leb, leb-true, lt-ltb, ltb-true, true≢false}
-use Rattle.std.proofs.lemmas.Slice.Eq.{bytes_eq-Decides}
-use Rattle.ebc_base.specs.Steps.{◌>>=◌, passes}
+use Rattle.option_rom.proofs.Common.{◌≡◌, ℕ, ◌+◌, ◌*◌, ◌<◌, ◌≤◌, Bool, true, false, List, length, refl, sym, ap, ◌∙◌, subst, Result, Ok}
+use Rattle.option_rom.proofs.Common.{Err, nat_eq, nat_le, eqb-true, ◌>>=◌, passes, RomImage, Fault, checked, header_checked, size_at}
+use Rattle.option_rom.proofs.Common.{blocks, code_type, structure, IsMarkedLast, IsRomImage, image_at, size_of, is_last}
+use Rattle.std.proofs.{Common.not, Common.◌||◌, lemmas.Bool.and_parts, lemmas.Bool.eq-eqb, lemmas.Bool.le-leb, lemmas.Bool.leb-true}
+use Rattle.std.proofs.lemmas.{Bool.lt-ltb, Bool.ltb-true, Bool.true≢false, Slice.Eq.bytes_eq-Decides}
+use Rattle.std.specs.Prelude.{bit_and, bytes_eq, codes, nat_lt}
 use Rattle.pe_image.specs.Fields.{bytes_at}
+use Rattle.option_rom.specs.Conditions.{has_blocks, has_header, has_structure, is_marked, is_other_or_signed, is_pcir, is_signed}
+use Rattle.option_rom.specs.{Conditions.length_checked, Fields.efi_signature, Fields.indicator, Fields.mark, Fields.start}
 use Rattle.option_rom.specs.declared.fault.RomFault.TheVariants as faults
-use Rattle.option_rom.specs.declared.image.RomImage.{RomImage}
-use Rattle.option_rom.specs.Conditions.{Fault, checked, has_blocks, has_header, has_structure, header_checked, is_marked}
-use Rattle.option_rom.specs.Conditions.{is_other_or_signed, is_pcir, is_signed, length_checked, size_at}
-use Rattle.option_rom.specs.Fields.{blocks, code_type, efi_signature, indicator, mark, start, structure}
-use Rattle.option_rom.specs.Images.{IsMarkedLast, IsRomImage, image_at, size_of}
-use Rattle.option_rom.specs.Roms.{is_last}
 
 -- ---- steps of which each passed
 

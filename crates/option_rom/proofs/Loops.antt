@@ -1,17 +1,12 @@
 -- The loop that reads the images of a file.
-use Rattle.std.proofs.Common.{◌≡◌, ℕ, suc, ◌+◌, ◌-◌, ◌^◌, ◌≤◌, List, [], ◌∷◌, ◌++◌, length, get_or, sym, ap, subst, ◌∙◌, arith}
-use Rattle.std.proofs.Common.{length-append, Option, Some, None, Ok}
-use Rattle.std.specs.Prelude.{All, IfSome}
+use Rattle.option_rom.proofs.Common.{◌≡◌, ℕ, suc, ◌+◌, ◌-◌, ◌^◌, ◌≤◌, List, [], ◌∷◌, ◌++◌, length, get_or, sym, ap, subst, ◌∙◌, arith}
+use Rattle.option_rom.proofs.Common.{length-append, Option, Some, None, Ok, All, IfSome, RomImage, checked, IsRom, IsRomImage, image_at}
+use Rattle.option_rom.proofs.Common.{images_from, next_of, rom_of}
 use Rattle.std.proofs.lemmas.Option.{IfSome_then}
 use Rattle.option_rom.specs.declared.fault.RomEnd.{RomEnd}
+use Rattle.option_rom.specs.{Roms.Fails, Roms.TellsFirst, Takes.IsTakeable}
+use Rattle.option_rom.proofs.{Takings.starts_within, Walks.none_left, Walks.one_fails, Walks.one_more, Walks.read-fault}
 use Rattle.option_rom.specs.declared.fault.RomEnd.TheVariants as ends
-use Rattle.option_rom.specs.declared.image.RomImage.{RomImage}
-use Rattle.option_rom.specs.Conditions.{checked}
-use Rattle.option_rom.specs.Images.{IsRom, IsRomImage, image_at}
-use Rattle.option_rom.specs.Roms.{Fails, TellsFirst, images_from, next_of, rom_of}
-use Rattle.option_rom.specs.Takes.{IsTakeable}
-use Rattle.option_rom.proofs.Takings.{starts_within}
-use Rattle.option_rom.proofs.Walks.{none_left, one_fails, one_more, read-fault}
 
 -- These images have been read, and the next stands at this offset, unless there is none.
 pub record HasRead (file : List ℕ) (images : List RomImage) (next : Option ℕ) : Type 0 where

@@ -1,19 +1,12 @@
 -- What is taken out of an option ROM lies inside its file.
-use Rattle.std.proofs.Common.{◌≡◌, ℕ, ◌<◌, ◌≤◌, Bool, true, false, if◌then◌else◌, List, length, get_or, refl, sym, ap, ◌∙◌, subst, arith}
-use Rattle.std.proofs.Common.{Option, Some, None, Result, Ok}
-use Rattle.std.specs.Prelude.{IfSome, nat_eq, slice_get}
-use Rattle.std.specs.Option.{option_map_or}
-use Rattle.std.proofs.lemmas.Bool.{eqb-true}
-use Rattle.std.proofs.lemmas.Option.{get_or_from_slice_get, slice_get_within}
-use Rattle.ebc_base.specs.Steps.{◌>>=◌, or_else, passes}
-use Rattle.option_rom.specs.declared.fault.TakeFault.{TakeFault}
+use Rattle.option_rom.proofs.Common.{◌≡◌, ℕ, ◌<◌, ◌≤◌, Bool, true, false, List, length, get_or, refl, sym, ap, ◌∙◌, subst, arith, Option}
+use Rattle.option_rom.proofs.Common.{Some, None, Result, Ok, IfSome, nat_eq, slice_get, option_map_or, eqb-true, ◌>>=◌, passes, RomImage}
+use Rattle.option_rom.proofs.Common.{code_type, structure, IsRomImage, efi_at, image_at, size_of, range_of, taken}
+use Rattle.std.proofs.{Common.if◌then◌else◌, lemmas.Option.get_or_from_slice_get, lemmas.Option.slice_get_within}
+use Rattle.ebc_base.specs.Steps.{or_else}
+use Rattle.option_rom.specs.declared.{fault.TakeFault.TakeFault, image.EfiPart.EfiPart}
+use Rattle.option_rom.specs.{Images.end_of, Laws.TakenIsInside, Takes.begin_of, Takes.is_ebc, Takes.is_plain}
 use Rattle.option_rom.specs.declared.fault.TakeFault.TheVariants as faults
-use Rattle.option_rom.specs.declared.image.EfiPart.{EfiPart}
-use Rattle.option_rom.specs.declared.image.RomImage.{RomImage}
-use Rattle.option_rom.specs.Fields.{code_type, structure}
-use Rattle.option_rom.specs.Images.{IsRomImage, efi_at, end_of, image_at, size_of}
-use Rattle.option_rom.specs.Laws.{TakenIsInside}
-use Rattle.option_rom.specs.Takes.{begin_of, is_ebc, is_plain, range_of, taken}
 
 -- the EFI image of an image begins in it or at its end
 pub starts_within : (file : List ℕ) (r : RomImage) → IsRomImage file r → IfSome r.efi (λ e. e.start ≤ size_of r)

@@ -1,21 +1,17 @@
 -- The walk over the images of a file finds the images of an option ROM, or the first fault.
-use Rattle.std.proofs.Common.{◌≡◌, ℕ, zero, suc, ◌+◌, ◌-◌, ◌<◌, ◌≤◌, ⊎_elim, Bool, true, false, cond, List, [], ◌∷◌, ◌++◌, length, get_or}
-use Rattle.std.proofs.Common.{take, refl, sym, ap, ◌∙◌, subst, arith, length-append, Some, None, Result, Ok, Err}
-use Rattle.std.specs.Prelude.{All, IfSome, nat_le, slice_get, sum_by}
-use Rattle.std.proofs.Math.Seq.{get_or-append_seam, take-append_seam, take-length}
-use Rattle.std.proofs.lemmas.Bool.{cases_lt}
-use Rattle.std.proofs.lemmas.Bool.Decides.{nat_tests}
-use Rattle.std.proofs.lemmas.List.{get_or_append_left, take-append-le, take_more}
-use Rattle.std.proofs.lemmas.List.Elements.{All-push}
-use Rattle.std.proofs.lemmas.List.Sums.{sum_by_more, sum_by_push}
-use Rattle.ebc_base.specs.Steps.{◌>>=◌}
+use Rattle.option_rom.proofs.Common.{◌≡◌, ℕ, zero, suc, ◌+◌, ◌-◌, ◌<◌, ◌≤◌, Bool, true, false, List, [], ◌∷◌, ◌++◌, length, get_or, refl}
+use Rattle.option_rom.proofs.Common.{sym, ap, ◌∙◌, subst, arith, length-append, Some, None, Result, Ok, Err, All, IfSome, nat_le, slice_get}
+use Rattle.option_rom.proofs.Common.{◌>>=◌, RomImage, Fault, checked, header_checked, size_at, IsMarkedLast, IsRom, IsRomImage, image_at}
+use Rattle.option_rom.proofs.Common.{size_of, images_from, is_last, next_of, rom_of}
+use Rattle.std.proofs.{Common.⊎_elim, Common.cond, Common.take, Math.Seq.get_or-append_seam, Math.Seq.take-append_seam}
+use Rattle.std.proofs.{Math.Seq.take-length, lemmas.Bool.cases_lt, lemmas.Bool.Decides.nat_tests, lemmas.List.get_or_append_left}
+use Rattle.std.proofs.lemmas.List.{take-append-le, take_more, Elements.All-push, Sums.sum_by_more}
+use Rattle.std.proofs.lemmas.List.Sums.{sum_by_push}
+use Rattle.std.specs.Prelude.{sum_by}
 use Rattle.option_rom.specs.declared.fault.RomFault.{RomFault}
-use Rattle.option_rom.specs.declared.fault.RomFault.TheVariants as faults
-use Rattle.option_rom.specs.declared.image.RomImage.{RomImage}
-use Rattle.option_rom.specs.Conditions.{Fault, checked, header_checked, size_at}
-use Rattle.option_rom.specs.Images.{FollowEachOther, IsMarkedLast, IsRom, IsRomImage, image_at, size_of}
-use Rattle.option_rom.specs.Roms.{FailsFirst, images_from, is_last, next_of, rom_of}
+use Rattle.option_rom.specs.{Images.FollowEachOther, Roms.FailsFirst}
 use Rattle.option_rom.proofs.Checked.{IsRomImage-checked, checked-image, marked_last, not_last}
+use Rattle.option_rom.specs.declared.fault.RomFault.TheVariants as faults
 
 -- ---- images one behind the other
 

@@ -1,20 +1,14 @@
 -- The option ROM that is written is read again, and its EBC image taken out of it.
-use Rattle.std.proofs.Common.{◌≡◌, ℕ, zero, suc, ◌+◌, ◌-◌, ◌*◌, ◌^◌, ◌<◌, ◌≤◌, List, [], ◌∷◌, ◌++◌, length, get_or, refl, ap, arith}
-use Rattle.std.proofs.Common.{length-append, Some, Result, Ok, Err}
-use Rattle.std.specs.Prelude.{All, IfOk}
+use Rattle.option_rom.proofs.Common.{◌≡◌, ℕ, zero, suc, ◌+◌, ◌-◌, ◌*◌, ◌^◌, ◌<◌, ◌≤◌, List, [], ◌∷◌, ◌++◌, length, get_or, refl, ap, arith}
+use Rattle.option_rom.proofs.Common.{length-append, Some, Result, Ok, Err, All, RomImage, blocks, wrapped, IsMarkedLast, IsRom, IsRomImage}
+use Rattle.option_rom.proofs.Common.{efi_at, image_at, rom_of, bytes_taken, range_of, taken}
+use Rattle.std.specs.Prelude.{IfOk}
 use Rattle.std.proofs.lemmas.List.{length-replicate, take_all}
 use Rattle.ebc_width.specs.Bytes.{little_endian}
-use Rattle.pe_image.specs.declared.fault.ImageFault.{ImageFault}
-use Rattle.pe_image.specs.declared.image.Image.{Image}
-use Rattle.pe_image.specs.Files.{zeros}
-use Rattle.pe_image.specs.Images.{image_of}
-use Rattle.pe_image.specs.Fields.{bytes_at, number_at}
-use Rattle.option_rom.specs.declared.image.RomImage.{RomImage}
-use Rattle.option_rom.specs.Fields.{blocks, subsystem}
-use Rattle.option_rom.specs.Files.{block_count, filling, header_bytes, padded, rom_bytes, structure_bytes, wrapped}
-use Rattle.option_rom.specs.Images.{IsMarkedLast, IsRom, IsRomImage, efi_at, image_at}
-use Rattle.option_rom.specs.Roms.{rom_of}
-use Rattle.option_rom.specs.Takes.{bytes_taken, range_of, taken}
+use Rattle.pe_image.specs.declared.{fault.ImageFault.ImageFault, image.Image.Image}
+use Rattle.pe_image.specs.{Files.zeros, Images.image_of, Fields.bytes_at, Fields.number_at}
+use Rattle.option_rom.specs.{Fields.subsystem, Files.block_count, Files.filling, Files.header_bytes, Files.padded, Files.rom_bytes}
+use Rattle.option_rom.specs.Files.{structure_bytes}
 use Rattle.pe_image.proofs.Padded.{padded-same}
 use Rattle.option_rom.proofs.Walks.{rom-read}
 

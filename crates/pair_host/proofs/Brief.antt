@@ -1,38 +1,24 @@
 -- Laws of how much a step tells: one event at most.
-use Rattle.std.proofs.Common.{ℕ, ◌≤◌, Bool, true, false, not, ◌&&◌, if◌then◌else◌, nat_eq, nat_le, List, [], ◌∷◌, ◌++◌, map, length, Option}
-use Rattle.std.proofs.Common.{Some, None, arith, slice_get}
+use Rattle.pair_host.proofs.Common.{ℕ, ◌≤◌, Bool, true, false, if◌then◌else◌, nat_eq, List, [], ◌∷◌, ◌++◌, map, length, Option, Some, None}
+use Rattle.pair_host.proofs.Common.{arith, slice_get, option_map_or, option_or, machine_step, StepEnd, Concrete, Ending, Event, Plan, View}
+use Rattle.pair_host.proofs.Common.{host_plan, host_turn, is_due, function_params, Finishes, Leaves, Accepts, Enters, Replies, Resumes}
+use Rattle.pair_host.proofs.Common.{Notifies, Ends, Returns, Calls, GoesOn, IsDue, NotifiedReturns, ThunkView, Names, NamesNone, NotMapped}
+use Rattle.pair_host.proofs.Common.{asked_args, call_event, signature_params, signature_result, call_under_way, entered, frame_for}
+use Rattle.pair_host.proofs.Common.{host_step, host_view, inside, left, objects_at, performed, resumed, thunk_made, thunk_view, with_call}
+use Rattle.pair_host.proofs.Common.{written_number, made_objects, Placement, code_at, ScriptPlace, one_callback, one_instruction}
+use Rattle.pair_host.proofs.Common.{one_notification, RunState, SavedFrame, after_instruction, instruction_step, run_step, running_step}
+use Rattle.pair_host.proofs.Common.{step_if, given, World, TypedObject, told}
+use Rattle.std.proofs.Common.{not, ◌&&◌, nat_le}
 use Rattle.std.specs.Prelude.{⊤}
-use Rattle.std.specs.Option.{option_map_or, option_or}
-use Rattle.ebc_machine.specs.Step.{machine_step}
-use Rattle.ebc_machine.specs.declared.StepEnd.{StepEnd}
+use Rattle.note_types.specs.declared.script.{Callback.Callback, Notify.Notify, ScriptCall.ScriptCall}
+use Rattle.host_model.specs.HostPlans.{call_plan, call_settled, callback_fits, asked_signature, asking_refused, enter_plan, entry_refused}
+use Rattle.host_model.specs.HostPlans.{next_plan, notification_fits, notify_plan, reply_fits}
+use Rattle.host_model.specs.{HostPlans.reply_plan, HostPlans.reply_stores, Placements.frame_limit}
 use Rattle.ebc_machine.specs.declared.StepEnd.TheVariants as ends
-use Rattle.note_types.specs.Concrete.{Concrete}
-use Rattle.note_types.specs.declared.ending.Ending.{Ending}
 use Rattle.note_types.specs.declared.ending.Ending.TheVariants as ending
-use Rattle.note_types.specs.declared.event.Event.{Event}
 use Rattle.note_types.specs.declared.event.Event.TheVariants as event
 use Rattle.note_types.specs.declared.exception.Exception.TheVariants as raises
 use Rattle.note_types.specs.declared.reason.Reason.TheVariants as reason
-use Rattle.note_types.specs.declared.script.Callback.{Callback}
-use Rattle.note_types.specs.declared.script.Notify.{Notify}
-use Rattle.note_types.specs.declared.script.ScriptCall.{ScriptCall}
-use Rattle.host_model.specs.HostPlans.{Plan, View, host_plan, host_turn, is_due, function_params, call_plan, call_settled, callback_fits}
-use Rattle.host_model.specs.HostPlans.{Finishes, Leaves, Accepts, Enters, Replies, Resumes, Notifies, Ends, Returns, Calls, GoesOn, IsDue}
-use Rattle.host_model.specs.HostPlans.{NotifiedReturns, ThunkView, Names, NamesNone, NotMapped, asked_args, asked_signature, asking_refused}
-use Rattle.host_model.specs.HostPlans.{call_event, enter_plan, entry_refused, next_plan, notification_fits, notify_plan, reply_fits}
-use Rattle.host_model.specs.HostPlans.{reply_plan}
-use Rattle.host_model.specs.HostPlans.{reply_stores, signature_params, signature_result}
-use Rattle.host_model.specs.HostSteps.{call_under_way, entered, frame_for, host_step, host_view, inside, left, objects_at, performed}
-use Rattle.host_model.specs.HostSteps.{resumed, thunk_made, thunk_view, with_call, written_number}
-use Rattle.host_model.specs.Objects.{made_objects}
-use Rattle.host_model.specs.Placements.{Placement, code_at, frame_limit}
-use Rattle.host_model.specs.Progress.{ScriptPlace, one_callback, one_instruction, one_notification}
-use Rattle.host_model.specs.RunState.{RunState, SavedFrame}
-use Rattle.host_model.specs.Runs.{after_instruction, instruction_step, run_step, running_step, step_if}
-use Rattle.host_model.specs.ScriptValues.{given}
-use Rattle.host_model.specs.World.{World}
-use Rattle.host_model.specs.declared.object.TypedObject.{TypedObject}
-use Rattle.pair_host.specs.PairRunner.{told}
 
 -- ---- plans
 

@@ -1,58 +1,32 @@
 -- Laws of the bound calls of a pair: what is refused ends the pair, and what is taken can be entered.
-use Rattle.std.proofs.Common.{◌≡◌, ℕ, suc, ◌<◌, Bool, true, false, if◌then◌else◌, nat_lt, nat_eq, List, [], ◌∷◌, ◌++◌, length, map, Option}
-use Rattle.std.proofs.Common.{arith, zero, Some, None, refl, sym, ap, ◌∙◌, subst, vec_capacity, slice_get}
+use Rattle.pair_host.proofs.Common.{◌≡◌, ℕ, suc, ◌<◌, Bool, true, false, if◌then◌else◌, nat_eq, List, [], ◌∷◌, ◌++◌, length, map, Option}
+use Rattle.pair_host.proofs.Common.{arith, zero, Some, None, refl, sym, ap, ◌∙◌, subst, slice_get, option_map_or, option_or}
+use Rattle.pair_host.proofs.Common.{drop-append_seam, Ending, Running, Event, Notes, Seen, Ty, Value, Asking, NoSite, Ends, View, Calls}
+use Rattle.pair_host.proofs.Common.{Returns, GoesOn, IsDue, NotifiedReturns, asked_args, call_event, function_params, signature_params}
+use Rattle.pair_host.proofs.Common.{site_of, asking_at, asking_by, host_view, performed, slots_of, made_objects, Placement, own_placement}
+use Rattle.pair_host.proofs.Common.{ScriptPlace, RunState, run_step, given, World, TypedObject, bound_step, BoundCall, bound_at}
+use Rattle.pair_host.proofs.Common.{own_placements, side_at, sides_at, PairWorld, PairState, call_refused, call_step, call_told}
+use Rattle.pair_host.proofs.Common.{caller_step, caller_step_seen, plain_step, reply_refused, with_a, Rests, IsAt, IsQuiet, IsRunner}
+use Rattle.pair_host.proofs.Common.{Runner, CanBeEntered, IsPair, IsProvider, SidesGoOn, own, stage_of, stepped, PairRunner}
+use Rattle.std.proofs.{Common.nat_lt, Common.vec_capacity, lemmas.Option.slice_get_within}
 use Rattle.std.specs.List.{find}
-use Rattle.std.specs.Option.{option_map_or, option_or}
-use Rattle.std.proofs.Math.Seq.{drop-append_seam}
-use Rattle.std.proofs.lemmas.Option.{slice_get_within}
-use Rattle.ebc_base.proofs.Given.{some_of_map}
-use Rattle.ebc_base.proofs.Lists.{length-map}
+use Rattle.ebc_base.proofs.{Given.some_of_map, Lists.length-map}
 use Rattle.note_types.specs.Records.{IsNotes}
-use Rattle.note_types.specs.declared.ending.Ending.{Ending}
-use Rattle.note_types.specs.declared.ending.Ending.TheVariants.{Running, Mismatch}
-use Rattle.note_types.specs.declared.event.Event.{Event}
-use Rattle.note_types.specs.declared.notes.FnNote.{FnNote}
-use Rattle.note_types.specs.declared.notes.Notes.{Notes}
-use Rattle.note_types.specs.declared.notes.Param.{Param}
-use Rattle.note_types.specs.declared.notes.Signature.{Signature}
+use Rattle.note_types.specs.declared.{ending.Ending.TheVariants.Mismatch, notes.FnNote.FnNote, notes.Param.Param, notes.Signature.Signature}
 use Rattle.note_types.specs.declared.notes.Site.{Site}
-use Rattle.note_types.specs.declared.reason.Reason.TheVariants as reason
-use Rattle.note_types.specs.declared.seen.Seen.{Seen}
-use Rattle.note_types.specs.declared.types.Ty.{Ty}
-use Rattle.note_types.specs.declared.value.Value.{Value}
-use Rattle.note_types.specs.declared.value.Value.TheVariants as value
-use Rattle.host_model.specs.HostPlans.{Asking, NoSite, Unmapped, Asks, Ends, View, Calls, Returns, GoesOn, IsDue, NotifiedReturns}
-use Rattle.host_model.specs.HostPlans.{asked_args}
-use Rattle.host_model.specs.HostPlans.{asked_signature, asking_refused, call_event, function_params, signature_params, site_of}
-use Rattle.host_model.specs.HostSteps.{asking_at, asking_by, host_view, performed, slots_of}
-use Rattle.host_model.specs.Objects.{made_objects}
-use Rattle.host_model.specs.Placements.{Placement, own_placement}
-use Rattle.host_model.specs.Progress.{ScriptPlace}
-use Rattle.host_model.specs.RunState.{RunState}
-use Rattle.host_model.specs.Runs.{run_step}
-use Rattle.host_model.specs.ScriptValues.{fits, given}
-use Rattle.host_model.specs.World.{World}
-use Rattle.host_model.specs.declared.object.TypedObject.{TypedObject}
-use Rattle.native_host.specs.Bound.{bound_step}
-use Rattle.native_host.specs.declared.bound.BoundStep.TheVariants as step
+use Rattle.host_model.specs.{HostPlans.Unmapped, HostPlans.Asks, HostPlans.asked_signature, HostPlans.asking_refused, ScriptValues.fits}
 use Rattle.native_host.proofs.AskingLaws.{asks-by}
-use Rattle.pair_laws.proofs.Agreeing as agreeing
-use Rattle.pair_model.specs.Binds.{AllAgree, BoundCall, bound_at}
-use Rattle.pair_model.specs.PairReports.{own_placements}
-use Rattle.pair_model.specs.PairRuns.{side_at, sides_at}
-use Rattle.pair_model.specs.Pairs.{PairWorld, PairState}
-use Rattle.pair_model.specs.Pairs as pairs
-use Rattle.pair_model.specs.Rules.{call_refused, call_step, call_told, caller_step, caller_step_seen, parameter_refused, plain_step}
-use Rattle.pair_model.specs.Rules.{provider_refused, reply_refused, with_a}
-use Rattle.pair_model.specs.declared.event.PairEvent.TheVariants as pair_event
+use Rattle.pair_model.specs.{Binds.AllAgree, Rules.parameter_refused, Rules.provider_refused}
 use Rattle.step_sound.proofs.EvenPlaces.{find_some}
-use Rattle.twin_run.specs.Bound.{Rests, place_called}
-use Rattle.twin_run.specs.Room.{HasEvents}
-use Rattle.twin_run.specs.Runner.{IsAt, IsQuiet, IsRunner}
-use Rattle.twin_run.specs.declared.runner.Runner.{Runner}
-use Rattle.pair_host.specs.PairRunner.{CanBeCalled, CanBeEntered, IsPair, IsProvider, SidesGoOn, own, stage_of, stepped}
-use Rattle.pair_host.specs.declared.pair_runner.PairRunner.{PairRunner}
+use Rattle.twin_run.specs.{Bound.place_called, Room.HasEvents}
+use Rattle.pair_host.specs.PairRunner.{CanBeCalled}
 use Rattle.pair_host.proofs.Past.{asking-alike, view-alike}
+use Rattle.note_types.specs.declared.reason.Reason.TheVariants as reason
+use Rattle.note_types.specs.declared.value.Value.TheVariants as value
+use Rattle.native_host.specs.declared.bound.BoundStep.TheVariants as step
+use Rattle.pair_laws.proofs.Agreeing as agreeing
+use Rattle.pair_model.specs.Pairs as pairs
+use Rattle.pair_model.specs.declared.event.PairEvent.TheVariants as pair_event
 
 -- ---- what is refused ends the pair
 

@@ -1,36 +1,18 @@
 -- Laws of the entering of a function of the provider, and of the reply to a bound call.
-use Rattle.std.proofs.Common.{◌≡◌, ℕ, false, List, [], ◌∷◌, ◌++◌, map, Option, Some, None, refl, sym, ap, ◌∙◌, subst}
-use Rattle.std.proofs.Common.{append-nil}
-use Rattle.std.specs.Option.{option_map_or}
-use Rattle.std.proofs.Math.Seq.{drop-append_seam}
-use Rattle.note_types.specs.Concrete.{Concrete}
-use Rattle.note_types.specs.declared.ending.Ending.{Ending}
+use Rattle.pair_host.proofs.Common.{◌≡◌, ℕ, false, List, [], ◌∷◌, ◌++◌, map, Option, Some, None, refl, sym, ap, ◌∙◌, subst, append-nil}
+use Rattle.pair_host.proofs.Common.{option_map_or, drop-append_seam, Concrete, Ending, Event, Seen, Ty, Value, Ends, Enters}
+use Rattle.pair_host.proofs.Common.{function_params, signature_result, call_under_way, entered, frame_for, inside, objects_at, performed}
+use Rattle.pair_host.proofs.Common.{with_call, written_number, Placement, code_at, own_placement, one_callback, RunState, SavedFrame, given}
+use Rattle.pair_host.proofs.Common.{World, own_placements, bound_reply, side_at, sides_at, PairWorld, PairState, call_answered, enter_step}
+use Rattle.pair_host.proofs.Common.{function_entered, reply_refused, reply_step, with_a, with_b, Rests, IsAt, IsQuiet, IsRunner, Runner}
+use Rattle.pair_host.proofs.Common.{IsPair, IsProvider, SidesGoOn, own, stage_of, told, PairRunner}
+use Rattle.twin_run.specs.Runner.{hosts_of}
+use Rattle.pair_host.proofs.Calls.{IsOver, b_rests, reply_ends}
 use Rattle.note_types.specs.declared.ending.Ending.TheVariants as ending
-use Rattle.note_types.specs.declared.event.Event.{Event}
 use Rattle.note_types.specs.declared.event.Event.TheVariants as event
 use Rattle.note_types.specs.declared.exception.Exception.TheVariants as raises
-use Rattle.note_types.specs.declared.seen.Seen.{Seen}
-use Rattle.note_types.specs.declared.types.Ty.{Ty}
-use Rattle.note_types.specs.declared.value.Value.{Value}
-use Rattle.host_model.specs.HostPlans.{Ends, Enters, function_params, signature_result}
-use Rattle.host_model.specs.HostSteps.{call_under_way, entered, frame_for, inside, objects_at, performed, with_call, written_number}
-use Rattle.host_model.specs.Placements.{Placement, code_at, own_placement}
-use Rattle.host_model.specs.Progress.{one_callback}
-use Rattle.host_model.specs.RunState.{RunState, SavedFrame}
-use Rattle.host_model.specs.ScriptValues.{given}
-use Rattle.host_model.specs.World.{World}
-use Rattle.pair_model.specs.PairReports.{own_placements}
-use Rattle.pair_model.specs.PairRuns.{bound_reply, side_at, sides_at}
-use Rattle.pair_model.specs.Pairs.{PairWorld, PairState}
 use Rattle.pair_model.specs.Pairs as pairs
-use Rattle.pair_model.specs.Rules.{call_answered, enter_step, function_entered, reply_refused, reply_step, with_a, with_b}
 use Rattle.pair_model.specs.declared.event.PairEvent.TheVariants as pair_event
-use Rattle.twin_run.specs.Bound.{Rests}
-use Rattle.twin_run.specs.Runner.{IsAt, IsQuiet, IsRunner, hosts_of}
-use Rattle.twin_run.specs.declared.runner.Runner.{Runner}
-use Rattle.pair_host.specs.PairRunner.{IsPair, IsProvider, SidesGoOn, own, stage_of, told}
-use Rattle.pair_host.specs.declared.pair_runner.PairRunner.{PairRunner}
-use Rattle.pair_host.proofs.Calls.{IsOver, b_rests, reply_ends}
 
 -- ---- values of arguments
 

@@ -1,18 +1,10 @@
 -- A step of a pair that goes on: what its runner is at, by the stage that the code is in.
-use Rattle.std.proofs.Common.{◌≡◌, ℕ, ◌<◌, length, refl, sym, ap, ◌∙◌, subst}
-use Rattle.note_types.specs.declared.ending.Ending.TheVariants.{Running}
-use Rattle.note_types.specs.declared.value.Value.{Value}
-use Rattle.host_model.specs.RunState.{RunState}
-use Rattle.pair_model.specs.PairReports.{own_placements}
-use Rattle.pair_model.specs.PairRuns.{pair_step_at, sides_at}
-use Rattle.pair_model.specs.Pairs.{PairWorld, PairState}
-use Rattle.pair_model.specs.Pairs as pairs
-use Rattle.pair_model.specs.Rules.{stage_step}
+use Rattle.pair_host.proofs.Common.{◌≡◌, ℕ, ◌<◌, length, refl, sym, ap, ◌∙◌, subst, Running, Value, RunState, own_placements, pair_step_at}
+use Rattle.pair_host.proofs.Common.{sides_at, PairWorld, PairState, stage_step, IsPair, SidesGoOn, own, stage_of, stepped, PairRunner}
 use Rattle.twin_run.proofs.TurnLaws.{is_ready}
-use Rattle.pair_host.specs.PairRunner.{IsPair, SidesGoOn, own, stage_of, stepped}
-use Rattle.pair_host.specs.declared.pair_runner.PairRunner.{PairRunner}
-use Rattle.pair_host.specs.declared.stage.Stage.TheVariants as stage
 use Rattle.pair_host.proofs.Turns.{turn}
+use Rattle.pair_model.specs.Pairs as pairs
+use Rattle.pair_host.specs.declared.stage.Stage.TheVariants as stage
 
 module _ (w : ℕ) (world : PairWorld) where
   -- while a bound call waits for its reply, image A is inside a function

@@ -1,3 +1,4 @@
+pub mod Common
 pub mod Past
 pub mod Brief
 pub mod Sides

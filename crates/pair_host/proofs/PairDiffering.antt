@@ -1,17 +1,12 @@
 -- There is one least number of steps after which two runs of a pair aren't the same, or none; and none where both images are typed.
-use Rattle.std.proofs.Common.{◌≡◌, ℕ, ◌<◌, List, Option, Some, None, inl, inr, refl, ap, sym, ◌∙◌, subst, arith}
-use Rattle.std.proofs.lemmas.Bool.{cases_lt}
-use Rattle.pair_model.specs.Pairs.{Both, PairWorld}
+use Rattle.pair_host.proofs.Common.{◌≡◌, ℕ, ◌<◌, List, Option, Some, None, inl, inr, refl, ap, sym, ◌∙◌, subst, arith, cases_lt, Both}
+use Rattle.pair_host.proofs.Common.{PairWorld, Image, OwnPairsSame, PairsDifferAt, nowhere, IsPairReport, images_for, pair_world, PairRun}
 use Rattle.pair_model.specs.declared.bind.Bind.{Bind}
-use Rattle.pe_image.specs.declared.image.Image.{Image}
 use Rattle.pair_laws.specs.TypedPairs.{IsTypedPair}
 use Rattle.pair_laws.proofs.Typed.{own_typed_pairs_are_same}
 use Rattle.invariant_laws.specs.Endings.{RaisesOnlyDivideError}
-use Rattle.pair_host.specs.PairDiffers.{OwnPairsSame, PairsDifferAt, first, nowhere}
-use Rattle.pair_host.specs.PairReported.{IsPairReport}
-use Rattle.pair_host.specs.PairRunner.{ArePaired, images_for, pair_world}
+use Rattle.pair_host.specs.{PairDiffers.first, PairRunner.ArePaired}
 use Rattle.pair_host.specs.declared.driver.Driver.{Driver}
-use Rattle.pair_host.specs.declared.reports.PairRun.{PairRun}
 use Rattle.width_checker.specs.Typed.{Typed}
 
 -- what was read of two typed images whose binds agree is a typed pair

@@ -1,30 +1,16 @@
 -- Runners of a pair on their way along runs: one at its start, after a step more, and at the end; and two, which show where the runs part.
-use Rattle.std.specs.Prelude.{◌≢◌, IsTrue}
-use Rattle.std.proofs.Common.{◌≡◌, ◌↔◌, ◌⊎◌, ℕ, zero, suc, ◌+◌, ◌-◌, ◌<◌, ◌≤◌, Bool, true, false, if◌then◌else◌, List, []}
-use Rattle.std.proofs.Common.{◌++◌, length, drop}
-use Rattle.std.proofs.Common.{Some, None, refl, sym, ap, ◌∙◌, subst, inl, inr, arith, add-one, add-suc, add-zero}
-use Rattle.std.proofs.Math.Seq.{drop-append_seam}
-use Rattle.std.proofs.lemmas.Bool.{cases_lt, false≢true}
-use Rattle.note_types.specs.declared.ending.Ending.TheVariants.{Running}
-use Rattle.host_model.specs.RunState.{RunState}
+use Rattle.pair_host.proofs.Common.{◌≢◌, ◌≡◌, ◌⊎◌, ℕ, zero, suc, ◌-◌, ◌<◌, ◌≤◌, Bool, true, false, if◌then◌else◌, List, [], ◌++◌, length}
+use Rattle.pair_host.proofs.Common.{drop, Some, None, refl, sym, ap, ◌∙◌, subst, inl, inr, arith, drop-append_seam, cases_lt, false≢true}
+use Rattle.pair_host.proofs.Common.{Running, RunState, own_placement, World, own_placements, pair_step_at, Both, PairState, PairWorld}
+use Rattle.pair_host.proofs.Common.{PairEvent, Image, IsRunner, Runner, OwnPairsSame, PairsDifferAt, nowhere, ArePairsInStep, IsPairReport}
+use Rattle.pair_host.proofs.Common.{own_pair_run, IsPair, stage_of, told, PairRunner, PairRun}
+use Rattle.std.specs.Prelude.{IsTrue}
+use Rattle.std.proofs.Common.{◌↔◌, ◌+◌, add-one, add-suc, add-zero}
 use Rattle.host_model.specs.Runs.{run_after, run_of}
-use Rattle.host_model.specs.Placements.{own_placement}
-use Rattle.host_model.specs.World.{World}
-use Rattle.pair_model.specs.PairReports.{own_placements}
-use Rattle.pair_model.specs.PairRuns.{SamePair, pair_run, pair_spot, pair_step_at}
-use Rattle.pair_model.specs.Pairs.{Both, PairState, PairWorld}
-use Rattle.pair_model.specs.declared.event.PairEvent.{PairEvent}
-use Rattle.pe_image.specs.declared.image.Image.{Image}
-use Rattle.twin_run.specs.Runner.{IsRunner}
-use Rattle.twin_run.specs.declared.runner.Runner.{Runner}
-use Rattle.pair_host.specs.PairDiffers.{OwnPairsSame, PairsDifferAt, first, nowhere}
-use Rattle.pair_host.specs.PairOnItsWay.{ArePairsInStep, ArePairsSameButFirst, IsPairOnItsWay}
-use Rattle.pair_host.specs.PairReported.{IsPairReport, own_pair_run}
-use Rattle.pair_host.specs.PairRunner.{HasPairRoom, IsPair, stage_of, told}
-use Rattle.pair_host.specs.declared.pair_runner.PairRunner.{PairRunner}
-use Rattle.pair_host.specs.declared.reports.PairRun.{PairRun}
-use Rattle.pair_host.specs.declared.stage.Stage.TheVariants as stage
+use Rattle.pair_model.specs.PairRuns.{SamePair, pair_run, pair_spot}
+use Rattle.pair_host.specs.{PairDiffers.first, PairOnItsWay.ArePairsSameButFirst, PairOnItsWay.IsPairOnItsWay, PairRunner.HasPairRoom}
 use Rattle.pair_host.proofs.Turns.{over-stays, pair_step-tells}
+use Rattle.pair_host.specs.declared.stage.Stage.TheVariants as stage
 
 -- ---- one run
 

@@ -1,23 +1,16 @@
 -- What is reported of a run of a pair, computed: a bound call of a function that doubles a number, at either width.
-use Rattle.std.specs.Prelude.{◌≢◌}
-use Rattle.std.proofs.Common.{◌≡◌, ◌⊎◌, ℕ, ◌<◌, List, [], ◌∷◌, Some, None, refl, sym, ap, ◌∙◌, subst, inl, inr, arith}
-use Rattle.host_model.specs.ScriptValues.{given}
-use Rattle.note_types.specs.declared.ending.Ending.{Ending}
+use Rattle.pair_host.proofs.Common.{◌≢◌, ◌≡◌, ◌⊎◌, ℕ, ◌<◌, List, [], ◌∷◌, Some, None, refl, sym, ap, ◌∙◌, subst, inl, inr, arith, given}
+use Rattle.pair_host.proofs.Common.{Ending, Both, PairWorld, OfA, PairEvent, Image, OwnPairsSame, PairsDifferAt, nowhere, IsPairReport}
+use Rattle.pair_host.proofs.Common.{own_pair_run, PairRun}
+use Rattle.pair_laws.proofs.{Computing.pairs_compute, Programs.images_with, Programs.pair_with}
+use Rattle.pair_model.specs.PairReports.{PairReport, pair_report_after}
+use Rattle.pair_host.specs.PairReported.{PairStepsTaken}
+use Rattle.pair_host.proofs.PairOnItsWay.{stays}
 use Rattle.note_types.specs.declared.ending.Ending.TheVariants as ending
 use Rattle.note_types.specs.declared.event.Event.TheVariants as event
 use Rattle.note_types.specs.declared.spot.Spot.TheVariants as spot
 use Rattle.note_types.specs.declared.value.Value.TheVariants as value
-use Rattle.pair_laws.proofs.Computing.{pairs_compute}
-use Rattle.pair_laws.proofs.Programs.{images_with, pair_with}
-use Rattle.pair_model.specs.PairReports.{PairReport, pair_report_after}
-use Rattle.pair_model.specs.Pairs.{Both, PairWorld, OfA}
-use Rattle.pair_model.specs.declared.event.PairEvent.{PairEvent}
 use Rattle.pair_model.specs.declared.event.PairEvent.TheVariants as pair_event
-use Rattle.pe_image.specs.declared.image.Image.{Image}
-use Rattle.pair_host.specs.PairDiffers.{OwnPairsSame, PairsDifferAt, nowhere}
-use Rattle.pair_host.specs.PairReported.{IsPairReport, PairStepsTaken, own_pair_run}
-use Rattle.pair_host.specs.declared.reports.PairRun.{PairRun}
-use Rattle.pair_host.proofs.PairOnItsWay.{stays}
 
 abbrev world : PairWorld
 world = pair_with []

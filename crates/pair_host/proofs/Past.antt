@@ -1,27 +1,16 @@
 -- Laws of the events before a step: whatever these are, a step adds the same events and leaves the same otherwise.
-use Rattle.std.proofs.Common.{◌≡◌, ℕ, Bool, true, false, if◌then◌else◌, nat_eq, List, [], ◌∷◌, ◌++◌, append-nil, map, Option, Some, None}
-use Rattle.std.proofs.Common.{refl, sym, ap, ◌∙◌}
-use Rattle.std.specs.Option.{option_map_or}
-use Rattle.ebc_machine.specs.Step.{machine_step}
-use Rattle.ebc_machine.specs.declared.StepEnd.{StepEnd}
+use Rattle.pair_host.proofs.Common.{◌≡◌, ℕ, Bool, true, false, if◌then◌else◌, nat_eq, List, [], ◌∷◌, ◌++◌, append-nil, map, Option, Some}
+use Rattle.pair_host.proofs.Common.{None, refl, sym, ap, ◌∙◌, option_map_or, machine_step, StepEnd, Concrete, Ending, Event, Plan, View}
+use Rattle.pair_host.proofs.Common.{host_plan, host_turn, is_due, function_params, site_of, Finishes, Leaves, Accepts, Enters, Replies}
+use Rattle.pair_host.proofs.Common.{Resumes, Notifies, Ends, ThunkView, Names, NamesNone, NotMapped, Calls, NoSite, asking_at, asking_by}
+use Rattle.pair_host.proofs.Common.{call_seen, call_under_way, entered, frame_for, host_step, host_view, inside, left, objects_at}
+use Rattle.pair_host.proofs.Common.{performed, resumed, return_seen, slots_of, thunk_made, thunk_view, with_call, written_number, Placement}
+use Rattle.pair_host.proofs.Common.{code_at, NativeCall, NoCall, Asked, Accepted, one_callback, one_instruction, one_notification, RunState}
+use Rattle.pair_host.proofs.Common.{SavedFrame, after_instruction, instruction_step, run_step, running_step, step_if, World, told}
+use Rattle.host_model.specs.HostSteps.{result_of, slots_asked, writes_mapped}
 use Rattle.ebc_machine.specs.declared.StepEnd.TheVariants as ends
-use Rattle.note_types.specs.Concrete.{Concrete}
-use Rattle.note_types.specs.declared.ending.Ending.{Ending}
 use Rattle.note_types.specs.declared.ending.Ending.TheVariants as ending
-use Rattle.note_types.specs.declared.event.Event.{Event}
 use Rattle.note_types.specs.declared.exception.Exception.TheVariants as raises
-use Rattle.host_model.specs.HostPlans.{Plan, View, host_plan, host_turn, is_due, function_params, site_of}
-use Rattle.host_model.specs.HostPlans.{Finishes, Leaves, Accepts, Enters, Replies, Resumes, Notifies, Ends}
-use Rattle.host_model.specs.HostPlans.{ThunkView, Names, NamesNone, NotMapped, Calls, NoSite}
-use Rattle.host_model.specs.HostSteps.{asking_at, asking_by, call_seen, call_under_way, entered, frame_for, host_step, host_view}
-use Rattle.host_model.specs.HostSteps.{inside, left, objects_at, performed, result_of, resumed, return_seen, slots_asked, slots_of}
-use Rattle.host_model.specs.HostSteps.{thunk_made, thunk_view, with_call, writes_mapped, written_number}
-use Rattle.host_model.specs.Placements.{Placement, code_at}
-use Rattle.host_model.specs.Progress.{NativeCall, NoCall, Asked, Accepted, one_callback, one_instruction, one_notification}
-use Rattle.host_model.specs.RunState.{RunState, SavedFrame}
-use Rattle.host_model.specs.Runs.{after_instruction, instruction_step, run_step, running_step, step_if}
-use Rattle.host_model.specs.World.{World}
-use Rattle.pair_host.specs.PairRunner.{told}
 
 -- what a step makes of a run whose events are these: the events that it makes of none come after them
 abbrev pub AddsAlike : (RunState → RunState) → RunState → List Event → Type 0

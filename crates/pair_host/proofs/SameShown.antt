@@ -1,16 +1,13 @@
 -- Events of a pair, and its sides, are one exactly where `==` says so.
-use Rattle.std.proofs.Common.{◌≡◌, true, refl, ap, subst, Decides}
-use Rattle.std.proofs.lemmas.Bool.{false≢true}
+use Rattle.pair_host.proofs.Common.{◌≡◌, true, refl, ap, subst, false≢true, Ending, Value, PairEvent}
+use Rattle.std.proofs.Common.{Decides}
 use Rattle.note_types.specs.contracts.value.ValuePartialEq.TheImpl.{ghosts as values}
-use Rattle.note_types.specs.declared.ending.Ending.{Ending}
-use Rattle.note_types.specs.declared.ending.Ending.TheVariants as ending
-use Rattle.note_types.specs.declared.value.Value.{Value}
 use Rattle.pair_model.specs.contracts.event.PairEventPartialEq.TheImpl.{ghosts as pair_events}
-use Rattle.pair_model.specs.declared.event.PairEvent.{PairEvent}
-use Rattle.pair_model.specs.declared.event.PairEvent.TheVariants as pair_event
 use Rattle.twin_run.proofs.SameEvents.{Decides-ending, Decides-event}
 use Rattle.pair_host.specs.PairRunner.{side_of}
 use Rattle.pair_host.specs.declared.stage.Side.{Side}
+use Rattle.note_types.specs.declared.ending.Ending.TheVariants as ending
+use Rattle.pair_model.specs.declared.event.PairEvent.TheVariants as pair_event
 use Rattle.pair_host.specs.declared.stage.Side.TheVariants as side
 
 -- the value that a run finished with

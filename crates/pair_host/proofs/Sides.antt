@@ -1,35 +1,18 @@
 -- Laws of a side of a pair: what its runner is at after a step, and which events the step adds; its end, where the first function returned.
-use Rattle.std.proofs.Common.{◌≡◌, ℕ, ◌≤◌, Bool, true, false, if◌then◌else◌, nat_eq, List, [], ◌∷◌, ◌++◌, length, map, drop}
-use Rattle.std.proofs.Common.{Option, Some, None, refl, sym, ap, ◌∙◌, subst, arith}
-use Rattle.std.specs.Prelude.{slice_get}
-use Rattle.std.specs.Option.{option_map_or}
-use Rattle.std.proofs.Math.Seq.{drop-append_seam}
-use Rattle.ebc_machine.specs.Step.{machine_step}
-use Rattle.ebc_machine.specs.declared.StepEnd.{StepEnd}
-use Rattle.ebc_machine.specs.declared.StepEnd.TheVariants as ends
-use Rattle.note_types.specs.Concrete.{Concrete}
-use Rattle.note_types.specs.declared.ending.Ending.TheVariants as ending
-use Rattle.note_types.specs.declared.event.Event.{Event}
-use Rattle.note_types.specs.declared.exception.Exception.TheVariants as raises
-use Rattle.note_types.specs.declared.value.Value.{Value}
-use Rattle.host_model.specs.HostPlans.{Plan, View, Returns, host_plan, host_turn, is_due, function_params, IsDue}
-use Rattle.host_model.specs.HostPlans.{Finishes, Leaves, Accepts, Enters, Replies, Resumes, Notifies, Ends}
-use Rattle.host_model.specs.HostPlans.{ThunkView, Names, NamesNone, NotMapped}
-use Rattle.host_model.specs.HostSteps.{call_seen, call_under_way, entered, frame_for, host_step, host_view, inside, left, objects_at}
-use Rattle.host_model.specs.HostSteps.{performed}
-use Rattle.host_model.specs.HostSteps.{resumed, return_seen, thunk_made, thunk_view, with_call, written_number}
-use Rattle.host_model.specs.Placements.{Placement, code_at}
-use Rattle.host_model.specs.Progress.{NativeCall, NoCall, Asked, Accepted, one_callback, one_instruction, one_notification}
-use Rattle.host_model.specs.RunState.{RunState, SavedFrame}
-use Rattle.host_model.specs.Runs.{after_instruction, instruction_step, run_step, running_step, step_if}
-use Rattle.host_model.specs.World.{World}
+use Rattle.pair_host.proofs.Common.{◌≡◌, ℕ, ◌≤◌, Bool, true, false, if◌then◌else◌, nat_eq, List, [], ◌∷◌, ◌++◌, length, map, drop, Option}
+use Rattle.pair_host.proofs.Common.{Some, None, refl, sym, ap, ◌∙◌, subst, arith, slice_get, option_map_or, drop-append_seam, machine_step}
+use Rattle.pair_host.proofs.Common.{StepEnd, Concrete, Event, Value, Plan, View, Returns, host_plan, host_turn, is_due, function_params}
+use Rattle.pair_host.proofs.Common.{IsDue, Finishes, Leaves, Accepts, Enters, Replies, Resumes, Notifies, Ends, ThunkView, Names, NamesNone}
+use Rattle.pair_host.proofs.Common.{NotMapped, call_seen, call_under_way, entered, frame_for, host_step, host_view, inside, left}
+use Rattle.pair_host.proofs.Common.{objects_at, performed, resumed, return_seen, thunk_made, thunk_view, with_call, written_number}
+use Rattle.pair_host.proofs.Common.{Placement, code_at, NativeCall, NoCall, Asked, Accepted, one_callback, one_instruction}
+use Rattle.pair_host.proofs.Common.{one_notification, RunState, SavedFrame, after_instruction, instruction_step, run_step, running_step}
+use Rattle.pair_host.proofs.Common.{step_if, World, IsNoFirstReturn, IsRunner, Runner, listed, own, told}
 use Rattle.pair_laws.proofs.Finishing.{Goes, Unfinished, plan_goes}
-use Rattle.twin_run.specs.Bound.{IsNoFirstReturn}
-use Rattle.twin_run.specs.Runner.{IsRunner}
-use Rattle.twin_run.specs.declared.runner.Runner.{Runner}
-use Rattle.pair_host.specs.PairRunner.{listed, own, told}
-use Rattle.pair_host.proofs.Brief.{run_step-brief}
-use Rattle.pair_host.proofs.Past.{run_step-alike}
+use Rattle.pair_host.proofs.{Brief.run_step-brief, Past.run_step-alike}
+use Rattle.ebc_machine.specs.declared.StepEnd.TheVariants as ends
+use Rattle.note_types.specs.declared.ending.Ending.TheVariants as ending
+use Rattle.note_types.specs.declared.exception.Exception.TheVariants as raises
 
 -- ---- events
 

@@ -1,32 +1,18 @@
 -- Laws of the steps of a pair: what its runner is at after a step of a side.
-use Rattle.std.proofs.Common.{◌≡◌, ℕ, true, false, if◌then◌else◌, List, [], ◌∷◌, ◌++◌, length, map, Option, Some, None, refl, sym, ap, ◌∙◌}
-use Rattle.std.proofs.Common.{subst, append-nil, drop}
-use Rattle.std.specs.Prelude.{slice_get}
-use Rattle.std.proofs.Math.Seq.{drop-append_seam}
-use Rattle.note_types.specs.declared.ending.Ending.{Ending}
-use Rattle.note_types.specs.declared.ending.Ending.TheVariants as ending
-use Rattle.note_types.specs.declared.event.Event.{Event}
-use Rattle.note_types.specs.declared.event.Event.TheVariants as event
-use Rattle.note_types.specs.declared.value.Value.{Value}
-use Rattle.host_model.specs.HostPlans.{View, Returns, Calls, GoesOn, IsDue, NotifiedReturns, is_error}
-use Rattle.host_model.specs.HostSteps.{host_view, left, performed}
-use Rattle.host_model.specs.Placements.{own_placement}
-use Rattle.host_model.specs.RunState.{RunState, SavedFrame}
-use Rattle.host_model.specs.Runs.{run_step}
+use Rattle.pair_host.proofs.Common.{◌≡◌, ℕ, true, false, if◌then◌else◌, List, [], ◌∷◌, ◌++◌, length, map, Option, Some, None, refl, sym, ap}
+use Rattle.pair_host.proofs.Common.{◌∙◌, subst, append-nil, drop, slice_get, drop-append_seam, Ending, Event, Value, View, Returns, Calls}
+use Rattle.pair_host.proofs.Common.{GoesOn, IsDue, NotifiedReturns, is_error, host_view, left, performed, own_placement, RunState}
+use Rattle.pair_host.proofs.Common.{SavedFrame, run_step, own_placements, side_at, sides_at, Both, PairWorld, PairState, SideOf, OfA}
+use Rattle.pair_host.proofs.Common.{running_side, function_step, function_step_seen, provider_ended, provider_step, with_a, with_b}
+use Rattle.pair_host.proofs.Common.{IsNoFirstReturn, Rests, IsAt, IsQuiet, IsRunner, Runner, IsPair, IsProvider, SidesGoOn, listed, own}
+use Rattle.pair_host.proofs.Common.{stage_of, stepped, told, PairRunner}
 use Rattle.pair_laws.proofs.Finishing.{Unfinished}
-use Rattle.pair_model.specs.PairReports.{own_placements}
-use Rattle.pair_model.specs.PairRuns.{side_at, sides_at}
-use Rattle.pair_model.specs.Pairs.{Both, PairWorld, PairState, Side, SideOf, OfA, OfB, running_side}
+use Rattle.pair_model.specs.Pairs.{Side, OfB}
+use Rattle.pair_host.proofs.{Past.view-alike, Sides.first_step, Sides.is_stepped, Sides.step_goes}
+use Rattle.note_types.specs.declared.ending.Ending.TheVariants as ending
+use Rattle.note_types.specs.declared.event.Event.TheVariants as event
 use Rattle.pair_model.specs.Pairs as pairs
-use Rattle.pair_model.specs.Rules.{function_step, function_step_seen, provider_ended, provider_step, with_a, with_b}
 use Rattle.pair_model.specs.declared.event.PairEvent.TheVariants as pair_event
-use Rattle.twin_run.specs.Bound.{IsNoFirstReturn, Rests}
-use Rattle.twin_run.specs.Runner.{IsAt, IsQuiet, IsRunner}
-use Rattle.twin_run.specs.declared.runner.Runner.{Runner}
-use Rattle.pair_host.specs.PairRunner.{IsPair, IsProvider, SidesGoOn, listed, own, stage_of, stepped, told}
-use Rattle.pair_host.specs.declared.pair_runner.PairRunner.{PairRunner}
-use Rattle.pair_host.proofs.Past.{view-alike}
-use Rattle.pair_host.proofs.Sides.{first_step, is_stepped, step_goes}
 
 module _ (w : ℕ) (world : PairWorld) where
   -- the provider's runner while its side runs, and the caller's

@@ -1,29 +1,14 @@
 -- Laws of the steps of a pair: by how far it is, once it ended, and that they add events after those that there are.
-use Rattle.std.specs.Prelude.{◌≢◌}
-use Rattle.std.proofs.Common.{◌≡◌, ℕ, Bool, true, false, if◌then◌else◌, List, [], ◌++◌, Option, Some, None, refl, sym, ap, ◌∙◌}
-use Rattle.std.proofs.Common.{append-nil}
-use Rattle.std.specs.Option.{option_map_or}
-use Rattle.note_types.specs.declared.ending.Ending.{Ending}
+use Rattle.pair_host.proofs.Common.{◌≢◌, ◌≡◌, ℕ, Bool, true, false, if◌then◌else◌, List, [], ◌++◌, Option, Some, None, refl, sym, ap, ◌∙◌}
+use Rattle.pair_host.proofs.Common.{append-nil, option_map_or, Ending, Event, Seen, Ty, Value, Asking, View, Returns, Calls, GoesOn, IsDue}
+use Rattle.pair_host.proofs.Common.{NotifiedReturns, is_error, signature_result, host_view, asked_args, call_event, Placement, RunState}
+use Rattle.pair_host.proofs.Common.{run_step, BoundCall, bound_at, pair_step_at, sides_at, Both, PairWorld, PairState, SideOf}
+use Rattle.pair_host.proofs.Common.{call_answered, call_refused, call_step, call_told, caller_step, caller_step_seen, enter_step}
+use Rattle.pair_host.proofs.Common.{function_entered, function_step, function_step_seen, plain_step, provider_ended, provider_step}
+use Rattle.pair_host.proofs.Common.{reply_refused, reply_step, stage_step, with_b, PairEvent, stepped}
+use Rattle.pair_model.specs.{Pairs.Stage, Rules.pair_step, Rules.step_if}
 use Rattle.note_types.specs.declared.ending.Ending.TheVariants as ending
-use Rattle.note_types.specs.declared.event.Event.{Event}
-use Rattle.note_types.specs.declared.seen.Seen.{Seen}
-use Rattle.note_types.specs.declared.types.Ty.{Ty}
-use Rattle.note_types.specs.declared.value.Value.{Value}
-use Rattle.host_model.specs.HostPlans.{Asking, View, Returns, Calls, GoesOn, IsDue, NotifiedReturns, is_error, signature_result}
-use Rattle.host_model.specs.HostSteps.{host_view}
-use Rattle.host_model.specs.HostPlans.{asked_args, call_event}
-use Rattle.host_model.specs.Placements.{Placement}
-use Rattle.host_model.specs.RunState.{RunState}
-use Rattle.host_model.specs.Runs.{run_step}
-use Rattle.pair_model.specs.Binds.{BoundCall, bound_at}
-use Rattle.pair_model.specs.PairRuns.{pair_step_at, sides_at}
-use Rattle.pair_model.specs.Pairs.{Both, PairWorld, PairState, SideOf, Stage}
 use Rattle.pair_model.specs.Pairs as pairs
-use Rattle.pair_model.specs.Rules.{call_answered, call_refused, call_step, call_told, caller_step, caller_step_seen, enter_step}
-use Rattle.pair_model.specs.Rules.{function_entered, function_step, function_step_seen, pair_step, plain_step, provider_ended}
-use Rattle.pair_model.specs.Rules.{provider_step, reply_refused, reply_step, stage_step, step_if, with_b}
-use Rattle.pair_model.specs.declared.event.PairEvent.{PairEvent}
-use Rattle.pair_host.specs.PairRunner.{stepped}
 
 -- some events more
 abbrev pub PairTells : List PairEvent → List PairEvent → Type 0

@@ -4,9 +4,8 @@ use Rattle.pair_laws.proofs.Common.{None, option_map, refl, sym, ap, ◌∙◌, 
 use Rattle.pair_laws.proofs.Common.{false≢true, none-some, same_Some, and_then_some, some_of_map, same_kind, FnNote, Notes, Param}
 use Rattle.pair_laws.proofs.Common.{Signature, Want, WantParam, Ty, signature_method, site_of, Bind, each_item, passing, AllAgree}
 use Rattle.pair_laws.proofs.Common.{BoundCall, bound_to, bound_at, takes_alike, param_agrees, signature_agrees, bind_agrees}
-use Rattle.std.proofs.Common.{subst₂}
+use Rattle.std.proofs.{Common.subst₂, lemmas.Bool.eqb-true, lemmas.Bool.eq-eqb}
 use Rattle.std.specs.List.{find}
-use Rattle.std.proofs.lemmas.Bool.{eqb-true, eq-eqb}
 use Rattle.host_model.specs.HostPlans.{may_enter}
 use Rattle.step_sound.proofs.EvenPlaces.{find_some}
 use Rattle.pair_model.specs.Binds.{function_agrees}

@@ -8,12 +8,11 @@ use Rattle.pair_laws.proofs.Common.{asked_args, asking_refused, call_event, func
 use Rattle.pair_laws.proofs.Common.{RunState, AllAgree, BoundCall, bound_at, param_agrees, signature_agrees, neutral_sides, PairWorld, Both}
 use Rattle.pair_laws.proofs.Common.{CallerRuns, PairState, SideOf, with_a, caller_step_seen, caller_step, provider_refused, call_refused}
 use Rattle.pair_laws.proofs.Common.{call_told, call_step, parameter_refused, plain_step, IsPairAt, PairStands, TypedSide}
-use Rattle.std.proofs.Common.{◌⊎◌}
-use Rattle.std.proofs.lemmas.Bool.{lt-ltb, cases_lt}
-use Rattle.pair_laws.proofs.Joining.{Ready, StageHolds, PairHolds, Goes, world_a}
-use Rattle.pair_laws.proofs.Telling.{stops_ends, call_stops, bound_taken, read_at}
-use Rattle.pair_laws.proofs.{Agreeing.bound_call, Agreeing.agreed_lends, Crossing.CanTake, Crossing.call_holds, Holding.Rests}
-use Rattle.pair_laws.proofs.{Resting.AsksAt, Resting.asks_at, SideSteps.side_steps, Values.arguments_known, Values.slots_long}
+use Rattle.std.proofs.{Common.◌⊎◌, lemmas.Bool.lt-ltb, lemmas.Bool.cases_lt}
+use Rattle.pair_laws.proofs.{Joining.Ready, Joining.StageHolds, Joining.PairHolds, Joining.Goes, Joining.world_a, Telling.stops_ends}
+use Rattle.pair_laws.proofs.{Telling.call_stops, Telling.bound_taken, Telling.read_at, Agreeing.bound_call, Agreeing.agreed_lends}
+use Rattle.pair_laws.proofs.{Crossing.CanTake, Crossing.call_holds, Holding.Rests, Resting.AsksAt, Resting.asks_at, SideSteps.side_steps}
+use Rattle.pair_laws.proofs.Values.{arguments_known, slots_long}
 use Rattle.host_model.specs.HostSteps as width
 use Rattle.neutral_machine.specs.NeutralHost as neutral
 

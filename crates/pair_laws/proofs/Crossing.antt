@@ -11,10 +11,10 @@ use Rattle.host_laws.proofs.Entering.{heights}
 use Rattle.invariant_laws.proofs.Entering.{entered_holds}
 use Rattle.note_types.specs.{Passing.IsGiven, Types.is_start}
 use Rattle.neutral_machine.specs.Layout.{height}
-use Rattle.host_model.specs.ScriptValues.{fits_range, fits_pointer, is_status}
-use Rattle.host_model.specs.{Placements.return_cell, Placements.params_bytes, Progress.one_callback}
-use Rattle.pair_laws.proofs.Holding.{Rests, LendsNone, rest_enters, bound_reply_holds, reply_given, told_holds}
-use Rattle.pair_laws.proofs.Resting.{AsksAt}
+use Rattle.host_model.specs.{ScriptValues.fits_range, ScriptValues.fits_pointer, ScriptValues.is_status, Placements.return_cell}
+use Rattle.host_model.specs.{Placements.params_bytes, Progress.one_callback}
+use Rattle.pair_laws.proofs.Holding.{Rests, LendsNone, rest_enters, bound_reply_holds, reply_given}
+use Rattle.pair_laws.proofs.{Holding.told_holds, Resting.AsksAt}
 use Rattle.note_types.specs.declared.ending.Ending.TheVariants as ending
 use Rattle.note_types.specs.declared.spot.Spot.TheVariants as spot
 use Rattle.note_types.specs.declared.types.Ty.TheVariants as ty

@@ -5,7 +5,7 @@ use Rattle.pair_laws.proofs.Common.{refl, sym, ap, subst, arith, inl, map, pos, 
 use Rattle.pair_laws.proofs.Common.{none-some, same_Some, made_objects, fits, is_below, IsHandedIn, IsShape, FnNote, Notes, Param}
 use Rattle.pair_laws.proofs.Common.{Signature, Notify, Script, Field, AllAgree, bind_agrees, Both, PairWorld, Bind, Image, each_item}
 use Rattle.std.proofs.Common.{take, codes}
-use Rattle.std.specs.{List.sum_by, List.Sorted.IsStrictlyIncreasing}
+use Rattle.std.specs.List.{sum_by, Sorted.IsStrictlyIncreasing}
 use Rattle.host_model.specs.Scripts.{HasNotifications, IsCellOf, IsObjectOf, IsScript, IsWritten, all_made, have_room, is_given, is_needed}
 use Rattle.host_model.specs.{Objects.placed_objects, Objects.shape_of, ScriptValues.fits_each}
 use Rattle.pair_laws.proofs.Programs.{images_with, pair_with}

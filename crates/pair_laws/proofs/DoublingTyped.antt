@@ -1,10 +1,8 @@
 -- The pair of the rows is typed and its bind agrees, and its run finishes once the bound call was answered.
 use Rattle.pair_laws.proofs.Common.{◌≡◌, true, List, [], ◌∷◌, Some, refl, none-some, given, PairEvent, IsTypedPair}
 use Rattle.pair_laws.proofs.Doubling.{a_notes, a_notes_meet, a_script_meets, b_notes, b_notes_meet, b_script_meets, doubling}
-use Rattle.pair_laws.proofs.Doubling.{doubling_agrees, doubling_images}
 use Rattle.pair_laws.proofs.DoublingImages.{a_bytes, a_functions, a_image_meets, a_shapes, b_bytes, b_functions, b_image_meets, b_shapes}
-use Rattle.pair_laws.proofs.DoublingImages.{system_formed}
-use Rattle.pair_laws.proofs.Computing.{pairs_compute}
+use Rattle.pair_laws.proofs.{Doubling.doubling_agrees, Doubling.doubling_images, DoublingImages.system_formed, Computing.pairs_compute}
 use Rattle.width_checker.specs.Typed.{Typed}
 use Rattle.twin_run.proofs.TypedTest.{code_test, code_typed, functions_test, image_test}
 use Rattle.twin_run.proofs.DriverTyped.{rows_compute}

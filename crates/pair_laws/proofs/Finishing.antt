@@ -10,11 +10,11 @@ use Rattle.pair_laws.proofs.Common.{made_objects, given, World, TypedObject, liv
 use Rattle.std.specs.Bool.{⊤}
 use Rattle.neutral_machine.specs.{Rows.Site, Rows.NeutralRow, Rows.Next, Rows.Native, Rows.MakeThunk, Outcomes.Gives, Outcomes.Raises}
 use Rattle.neutral_machine.specs.Outcomes.{Stuck}
-use Rattle.note_types.specs.declared.{script.Callback.Callback, script.ScriptCall.ScriptCall}
+use Rattle.note_types.specs.declared.script.{Callback.Callback, ScriptCall.ScriptCall}
 use Rattle.host_model.specs.HostPlans.{Plan, Finishes, Replies, Resumes, Notifies, notification_fits, notify_plan, argument_refused}
 use Rattle.host_model.specs.HostPlans.{entry_refused, call_settled, call_plan, asked_signature, callback_fits, enter_plan, reply_fits}
-use Rattle.host_model.specs.HostPlans.{reply_plan, reply_stores, next_plan}
-use Rattle.host_model.specs.{Placements.frame_limit, Progress.one_thunk, ScriptValues.same_seen}
+use Rattle.host_model.specs.{HostPlans.reply_plan, HostPlans.reply_stores, HostPlans.next_plan, Placements.frame_limit, Progress.one_thunk}
+use Rattle.host_model.specs.ScriptValues.{same_seen}
 use Rattle.invariant_laws.proofs.After.{instruction_leaves}
 use Rattle.pair_laws.proofs.Sides.{no_return, returns_top}
 use Rattle.note_types.specs.declared.ending.Ending.TheVariants as ending

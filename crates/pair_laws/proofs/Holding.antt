@@ -8,8 +8,8 @@ use Rattle.pair_laws.proofs.Common.{SoundBelow, States, AsksWell, RunWorld, at_p
 use Rattle.neutral_machine.specs.{Config.with_value, Config.locals_at, FitsState.FitsState, Memory.memory_of}
 use Rattle.invariant_laws.specs.{Asked.ArgumentsFit, Asked.OutsWritten, Holds.RunsAt, Later.Later}
 use Rattle.invariant_laws.proofs.Marks.{depth_call, locals_call, hosts_call, call_is, frames_call, chain_call}
-use Rattle.invariant_laws.proofs.Same.{SameMemory, same_later, live_same, frames_later, cells_same}
-use Rattle.invariant_laws.proofs.{Chains.chain_later, Entering.CanEnter, Leaving.seven_other, Replying.result_given}
+use Rattle.invariant_laws.proofs.{Same.SameMemory, Same.same_later, Same.live_same, Same.frames_later, Same.cells_same, Chains.chain_later}
+use Rattle.invariant_laws.proofs.{Entering.CanEnter, Leaving.seven_other, Replying.result_given}
 use Rattle.note_types.specs.declared.ending.Ending.TheVariants as ending
 use Rattle.note_types.specs.declared.notes.Want.TheVariants as want
 use Rattle.note_types.specs.declared.spot.Spot.TheVariants as spot

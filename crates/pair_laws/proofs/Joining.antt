@@ -9,9 +9,9 @@ use Rattle.pair_laws.proofs.Common.{neutral_sides, PairWorld, Both, Stage, Provi
 use Rattle.pair_laws.proofs.Common.{PairState, SideOf, with_b, provider_ended, provider_step, function_entered, enter_step}
 use Rattle.pair_laws.proofs.Common.{function_step_seen, function_step, call_answered, reply_refused, reply_step, IsValue, IsResultNote}
 use Rattle.pair_laws.proofs.Common.{IfSome, States, RunWorld}
-use Rattle.pair_laws.proofs.Crossing.{CanTake, enter_holds, given_known, reply_holds}
-use Rattle.pair_laws.proofs.{Agreeing.bound_call, Agreeing.agreed_lends, Sides.no_return, Sides.returns_top, Finishing.left_ending}
-use Rattle.pair_laws.proofs.{Holding.Rests, Holding.LendsNone, Resting.AsksAt, Resting.own_rests, Resting.leave_rests, SideSteps.SideSteps}
+use Rattle.pair_laws.proofs.{Crossing.CanTake, Crossing.enter_holds, Crossing.given_known, Crossing.reply_holds, Agreeing.bound_call}
+use Rattle.pair_laws.proofs.{Agreeing.agreed_lends, Sides.no_return, Sides.returns_top, Finishing.left_ending, Holding.Rests}
+use Rattle.pair_laws.proofs.{Holding.LendsNone, Resting.AsksAt, Resting.own_rests, Resting.leave_rests, SideSteps.SideSteps}
 use Rattle.pair_laws.proofs.{SideSteps.side_steps, Values.NoHandle, Values.result_plain}
 use Rattle.invariant_laws.proofs.Leaving.{can_be_entered}
 use Rattle.note_types.specs.declared.reason.Reason.TheVariants as reason

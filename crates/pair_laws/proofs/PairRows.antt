@@ -4,8 +4,7 @@ use Rattle.pair_laws.proofs.Common.{◌≡◌, ℕ, true, false, List, [], ◌�
 use Rattle.pair_laws.proofs.Common.{PairWorld, OfA, OfB, PairEvent, Image}
 use Rattle.pair_laws.specs.NeutralPair.{neutral_pair_report_after}
 use Rattle.pair_model.specs.PairReports.{PairReport, pair_report_after}
-use Rattle.pair_laws.proofs.Programs.{a_notes, b_notes, pair_with, images_with}
-use Rattle.pair_laws.proofs.Computing.{pairs_compute}
+use Rattle.pair_laws.proofs.{Programs.a_notes, Programs.b_notes, Programs.pair_with, Programs.images_with, Computing.pairs_compute}
 use Rattle.note_types.specs.declared.ending.Ending.TheVariants as ending
 use Rattle.note_types.specs.declared.event.Event.TheVariants as event
 use Rattle.note_types.specs.declared.reason.Reason.TheVariants as reason

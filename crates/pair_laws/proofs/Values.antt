@@ -11,9 +11,8 @@ use Rattle.host_laws.proofs.ViewAlike.{before_some}
 use Rattle.note_types.specs.{Concrete.Concrete, Concrete.loaded, Passing.IsHandedBack, Records.Each}
 use Rattle.ebc_width.specs.Width.{cut_at}
 use Rattle.neutral_machine.specs.NeutralReadings.{neutral_reading}
-use Rattle.host_model.specs.Placements.{slot_bytes, area_step, handle_count, handle_at}
 use Rattle.host_model.specs.Readings.{thing_at, handle_named, or_wild, or_null, status_read, reading_of, role_of, argument_read, Number}
-use Rattle.host_model.specs.Readings.{StatusOf}
+use Rattle.host_model.specs.{Placements.slot_bytes, Placements.area_step, Placements.handle_count, Placements.handle_at, Readings.StatusOf}
 use Rattle.host_model.specs.Values.{Num, Error, word, error_bit}
 use Rattle.pair_laws.proofs.Crossing.{status_known}
 use Rattle.note_types.specs.declared.ending.Ending.TheVariants as ending

@@ -1,19 +1,11 @@
 -- The places that lengths reach, as a walk over the code finds them.
-use Rattle.std.proofs.Common.{◌≡◌, ℕ, ◌+◌, ◌-◌, ◌<◌, ◌≤◌, zero, suc, Bool, true, false, ◌||◌, ◌&&◌, nat_eq, List, [], ◌∷◌, length, drop}
-use Rattle.std.proofs.Common.{get_or, Result, Ok, Err, refl, sym, ap, ◌∙◌, subst, arith, inl, inr, nat_lt, length-drop, length-set}
-use Rattle.std.proofs.lemmas.Bool.{cases_Bool}
-use Rattle.std.proofs.Math.ListN.{replicate, set}
-use Rattle.std.proofs.lemmas.Bool.Decides.{nat_tests}
-use Rattle.std.proofs.lemmas.Grind.{common_steps}
-use Rattle.std.proofs.lemmas.List.{drop-drop, get_or-set_same, get_or-set_other, get_or-replicate, get_or_past, length-replicate}
-use Rattle.std.proofs.lemmas.Option.{unwrap_or-slice_get}
-use Rattle.ebc_insn.specs.declared.Insn.{Insn}
-use Rattle.ebc_decode.specs.declared.DecodeFault.{DecodeFault}
-use Rattle.ebc_decode.specs.Reading.{read}
-use Rattle.ebc_decode.proofs.Laws.{read_length}
-use Rattle.note_types.specs.declared.rule.RuleName.TheVariants.{Decode}
-use Rattle.plain_check.specs.declared.verdict.Verdict.TheVariants.{Neutral, Refused}
-use Rattle.plain_check.specs.PlainChecks.{Reached, reached, starts, is_start, marked, first_refusal, instruction_rule, judged}
+use Rattle.plain_check.proofs.Common.{◌≡◌, ℕ, ◌+◌, ◌-◌, ◌<◌, ◌≤◌, zero, suc, Bool, true, false, ◌||◌, ◌&&◌, nat_eq, List, [], ◌∷◌, length}
+use Rattle.plain_check.proofs.Common.{drop, Result, Ok, Err, refl, sym, ap, ◌∙◌, subst, arith, inl, inr, nat_lt, length-drop, cases_Bool}
+use Rattle.plain_check.proofs.Common.{nat_tests, drop-drop, Insn, DecodeFault, read, read_length, Decode, Neutral, Refused, Reached}
+use Rattle.plain_check.proofs.Common.{reached, starts, is_start, marked, first_refusal, instruction_rule, judged}
+use Rattle.std.proofs.{Common.get_or, Common.length-set, Math.ListN.replicate, Math.ListN.set, lemmas.Grind.common_steps}
+use Rattle.std.proofs.lemmas.List.{get_or-set_same, get_or-set_other, get_or-replicate, get_or_past}
+use Rattle.std.proofs.lemmas.{List.length-replicate, Option.unwrap_or-slice_get}
 
 -- the rest of an instruction is passed over
 reached-inside : (place inside : ℕ) (bytes : List ℕ) → inside ≤ length bytes

@@ -1,22 +1,15 @@
 -- What is read has an even length, and no index beside a register.
-use Rattle.std.proofs.Common.{◌≡◌, ℕ, ◌/◌, ◌%◌, Bool, true, false, ◌&&◌, not, List, Option, Some, None, Ok, if◌then◌else◌, refl, subst}
-use Rattle.std.proofs.Common.{arith, inl, inr}
+use Rattle.plain_check.proofs.Common.{◌≡◌, ℕ, ◌%◌, Bool, true, false, ◌&&◌, not, List, Option, Some, None, Ok, if◌then◌else◌, refl, subst}
+use Rattle.plain_check.proofs.Common.{arith, inl, inr, Index, Operand, Extra, Nothing, Imm, Idx, Insn, read, insn_at, size1_at, size2_at}
+use Rattle.std.proofs.Common.{◌/◌}
 use Rattle.std.specs.Option.{option_map, option_and_then}
-use Rattle.natural_index.specs.declared.Index.{Index}
-use Rattle.ebc_insn.specs.declared.Operand.{Operand}
-use Rattle.ebc_insn.specs.declared.Extra.{Extra}
-use Rattle.ebc_insn.specs.declared.Extra.TheVariants.{Nothing, Imm, Idx}
-use Rattle.ebc_insn.specs.declared.Insn.{Insn}
-use Rattle.ebc_insn.specs.declared.Insn.TheVariants as insns
-use Rattle.ebc_insn.specs.declared.code.Code.{Code}
-use Rattle.ebc_insn.specs.declared.code.Field.{Field}
-use Rattle.ebc_insn.specs.declared.code.Field.TheVariants as fields
+use Rattle.ebc_insn.specs.declared.code.{Code.Code, Field.Field}
 use Rattle.ebc_decode.specs.declared.form.Form.{Form}
+use Rattle.ebc_decode.specs.Reading.{extra_at, index_at, int_at, optional_at, left_at, right_at, bits_at}
+use Rattle.ebc_decode.proofs.{Fields.IsFieldSize, Forms.form_whole, Parts.read_parts, Parts.size1_sized, Parts.size2_sized}
+use Rattle.ebc_insn.specs.declared.Insn.TheVariants as insns
+use Rattle.ebc_insn.specs.declared.code.Field.TheVariants as fields
 use Rattle.ebc_decode.specs.declared.form.Form.TheVariants as forms
-use Rattle.ebc_decode.specs.Reading.{read, insn_at, extra_at, index_at, int_at, optional_at, left_at, right_at, bits_at, size1_at, size2_at}
-use Rattle.ebc_decode.proofs.Fields.{IsFieldSize}
-use Rattle.ebc_decode.proofs.Forms.{form_whole}
-use Rattle.ebc_decode.proofs.Parts.{read_parts, size1_sized, size2_sized}
 
 -- ---- the length
 

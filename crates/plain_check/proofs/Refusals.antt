@@ -1,22 +1,13 @@
 -- Where the plain check refuses, and by which rule.
-use Rattle.std.proofs.Common.{◌≡◌, ◌≢◌, ◌↔◌, ℕ, ◌+◌, ◌<◌, ◌≤◌, zero, suc, Bool, true, false, not, ◌&&◌, nat_eq, nat_lt, nat_le}
-use Rattle.std.proofs.Common.{if◌then◌else◌, List, [], ◌∷◌, length, drop, Option, Some, None, Ok, Err, refl, sym, ap, ◌∙◌, subst, arith}
-use Rattle.std.proofs.Common.{inl, inr}
-use Rattle.std.proofs.lemmas.Bool.{cases_Bool, and_parts}
-use Rattle.std.proofs.lemmas.Bool.Decides.{nat_tests}
-use Rattle.ebc_insn.specs.declared.Insn.{Insn}
-use Rattle.ebc_decode.specs.declared.DecodeFault.{DecodeFault}
-use Rattle.ebc_decode.specs.Reading.{read}
-use Rattle.ebc_decode.proofs.Laws.{read_length}
-use Rattle.note_types.specs.declared.rule.RuleName.{RuleName}
-use Rattle.note_types.specs.declared.rule.RuleName.TheVariants.{Decode, Form, Target, End}
-use Rattle.plain_check.specs.declared.verdict.Verdict.{Verdict}
-use Rattle.plain_check.specs.declared.verdict.Verdict.TheVariants.{Neutral, Refused}
-use Rattle.plain_check.specs.PlainChecks.{is_plain, reached, starts, lands, falls_through, instruction_rule, first_refusal, judged}
-use Rattle.plain_check.specs.PlainChecks.{plain_verdict}
-use Rattle.plain_check.specs.PlainRules.{place_of, IsReached, Decodes, NamesStart, FailsFirst, IsRefusedAt, IsRefused, MeetsPlainRules}
-use Rattle.plain_check.proofs.Places.{along}
-use Rattle.plain_check.proofs.Rules.{one-further, onward, before, same-read, begins, names, lands-named, meets, neutral-exactly}
+use Rattle.plain_check.proofs.Common.{◌≡◌, ◌≢◌, ◌↔◌, ℕ, ◌+◌, ◌<◌, ◌≤◌, zero, suc, Bool, true, false, not, ◌&&◌, nat_eq, nat_lt}
+use Rattle.plain_check.proofs.Common.{if◌then◌else◌, List, [], ◌∷◌, length, drop, Option, Some, None, Ok, Err, refl, sym, ap, ◌∙◌, subst}
+use Rattle.plain_check.proofs.Common.{arith, inl, inr, cases_Bool, and_parts, nat_tests, Insn, DecodeFault, read, read_length, RuleName}
+use Rattle.plain_check.proofs.Common.{Decode, Form, Target, End, Verdict, Neutral, Refused, is_plain, reached, starts, lands, falls_through}
+use Rattle.plain_check.proofs.Common.{instruction_rule, first_refusal, judged, plain_verdict, place_of, IsReached, Decodes}
+use Rattle.std.proofs.Common.{nat_le}
+use Rattle.plain_check.specs.PlainRules.{NamesStart, FailsFirst, IsRefusedAt, IsRefused, MeetsPlainRules}
+use Rattle.plain_check.proofs.{Places.along, Rules.one-further, Rules.onward, Rules.before, Rules.same-read, Rules.begins, Rules.names}
+use Rattle.plain_check.proofs.Rules.{lands-named, meets, neutral-exactly}
 
 -- ---- no place lies between two that follow one another
 

@@ -1,21 +1,11 @@
 -- Worked rows of the plain check and of the plain run.
-use Rattle.std.proofs.Common.{◌≡◌, ℕ, List, [], ◌∷◌, refl}
-use Rattle.ebc_decode.specs.Reading.{form_at, is_reserved, has_left_index, size1_at, size2_at, field_at, insn_at, parts_at, read}
-use Rattle.note_types.specs.declared.rule.RuleName.TheVariants.{Decode, Form, Target, End}
-use Rattle.plain_check.specs.declared.verdict.Verdict.{Verdict}
-use Rattle.plain_check.specs.declared.verdict.Verdict.TheVariants.{Neutral, Refused}
-use Rattle.plain_check.specs.PlainChecks.{plain_verdict, first_refusal, reached}
-use Rattle.plain_check.specs.PlainRuns.{GoesOn, Returned, Stopped, plain_machine, plain_run, plain_step}
-use Rattle.machine_alu.specs.Alu.{computed, compared}
-use Rattle.note_types.specs.Concrete.{with_register, with_flags, at_ip}
+use Rattle.plain_check.proofs.Common.{◌≡◌, ℕ, List, [], ◌∷◌, refl, size1_at, size2_at, insn_at, read, Decode, Form, Target, End, Verdict}
+use Rattle.plain_check.proofs.Common.{Neutral, Refused, plain_verdict, first_refusal, reached, GoesOn, Returned, Stopped, plain_machine}
+use Rattle.plain_check.proofs.Common.{plain_run, plain_step, computed, compared, with_register, with_flags, at_ip, goes, value, written}
+use Rattle.plain_check.proofs.Common.{sum_at, arith_row, compare_row, move_imm_row, jump8_row, executed}
+use Rattle.ebc_decode.specs.Reading.{form_at, is_reserved, has_left_index, field_at, parts_at}
 use Rattle.note_types.specs.declared.exception.Exception.TheVariants as raises
 use Rattle.ebc_machine.specs.declared.StepEnd.TheVariants as ends
-use Rattle.ebc_machine.specs.Results.{goes}
-use Rattle.ebc_machine.specs.Operands.{value, written, sum_at}
-use Rattle.ebc_machine.specs.Data.{arith_row, compare_row}
-use Rattle.ebc_machine.specs.Moves.{move_imm_row}
-use Rattle.ebc_machine.specs.Flow.{jump8_row}
-use Rattle.ebc_machine.specs.Step.{executed}
 
 -- ---- verdicts
 

@@ -1,23 +1,13 @@
 -- The verdict on plain code, by the rules at each place.
-use Rattle.std.proofs.Common.{◌≡◌, ◌↔◌, ℕ, ◌+◌, ◌%◌, ◌<◌, zero, suc, Bool, true, false, not, ◌&&◌, nat_eq, if◌then◌else◌, List, [], ◌∷◌}
-use Rattle.std.proofs.Common.{length, drop, Option, Some, None, Result, Ok, Err, ℤ, pos, negsuc, refl, sym, ap, ◌∙◌, subst, arith, inl, inr}
-use Rattle.std.proofs.lemmas.Bool.{cases_Bool, or_right}
-use Rattle.std.proofs.lemmas.Bool.Decides.{nat_tests}
+use Rattle.plain_check.proofs.Common.{◌≡◌, ◌↔◌, ℕ, ◌+◌, ◌%◌, ◌<◌, zero, suc, Bool, true, false, not, ◌&&◌, nat_eq, if◌then◌else◌, List, []}
+use Rattle.plain_check.proofs.Common.{◌∷◌, length, drop, Option, Some, None, Result, Ok, Err, ℤ, pos, negsuc, refl, sym, ap, ◌∙◌, subst}
+use Rattle.plain_check.proofs.Common.{arith, inl, inr, cases_Bool, or_right, nat_tests, Insn, Jump8, DecodeFault, read, read_length, Form}
+use Rattle.plain_check.proofs.Common.{Target, End, Neutral, is_plain, reached, starts, is_start, passes, lands, falls_through}
+use Rattle.plain_check.proofs.Common.{instruction_rule, first_refusal, jump_target, plain_verdict, place_of, IsReached, Decodes, IsStart}
 use Rattle.std.specs.Option.{option_and_then}
-use Rattle.ebc_insn.specs.declared.Insn.{Insn}
-use Rattle.ebc_insn.specs.declared.Insn.TheVariants.{Jump8}
-use Rattle.ebc_decode.specs.declared.DecodeFault.{DecodeFault}
-use Rattle.ebc_decode.specs.Reading.{read}
-use Rattle.ebc_decode.proofs.Laws.{read_length}
-use Rattle.note_types.specs.declared.rule.RuleName.TheVariants.{Form, Target, End}
-use Rattle.plain_check.specs.declared.verdict.Verdict.TheVariants.{Neutral}
-use Rattle.plain_check.specs.PlainChecks.{is_plain, reached, starts, is_start, passes, lands, falls_through, instruction_rule}
-use Rattle.plain_check.specs.PlainChecks.{first_refusal, jump_target, plain_verdict}
-use Rattle.plain_check.specs.PlainRules.{place_after, place_of, IsReached, Decodes, IsStart, NamesStart, IsNeutral, MeetsPlainRules}
-use Rattle.plain_check.proofs.Places.{along}
-use Rattle.plain_check.proofs.Readings.{read-even}
+use Rattle.plain_check.specs.PlainRules.{place_after, NamesStart, IsNeutral, MeetsPlainRules}
 use Rattle.plain_check.proofs.Starts.{Good, GoodStarts, good-starts, head-started, first-started, or-cases, and-true, fault-unstarted}
-use Rattle.plain_check.proofs.Starts.{no-rule}
+use Rattle.plain_check.proofs.{Places.along, Readings.read-even, Starts.no-rule}
 
 -- ---- the places that are reached
 

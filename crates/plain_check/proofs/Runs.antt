@@ -1,43 +1,27 @@
 -- The runs of neutral code: the same at every width, and kept to the code.
-use Rattle.std.proofs.Common.{◌≡◌, ◌≢◌, ℕ, ◌+◌, ◌*◌, ◌%◌, ◌^◌, ◌<◌, ◌≤◌, zero, suc, Bool, true, false, ◌&&◌, not, nat_eq, List, [], ◌∷◌}
-use Rattle.std.proofs.Common.{length, drop, Option, Result, Ok, ℤ, pos, negsuc, ◌+ℤ◌, ◌*ℤ◌, refl, sym, ap, ◌∙◌, subst, arith, inl, inr}
-use Rattle.std.proofs.Common.{length-drop}
-use Rattle.std.proofs.lemmas.Bool.{cases_Bool, and_parts}
-use Rattle.std.proofs.lemmas.Bool.Decides.{nat_tests}
-use Rattle.std.proofs.lemmas.Int.{ints}
-use Rattle.std.proofs.Math.IntN.{neg_ℤ, negsuc-*ℤ-pos, pos-*ℤ-negsuc}
-use Rattle.natural_index.specs.declared.Index.{Index}
+use Rattle.plain_check.proofs.Common.{◌≡◌, ◌≢◌, ℕ, ◌+◌, ◌%◌, ◌<◌, ◌≤◌, zero, suc, Bool, true, false, ◌&&◌, not, nat_eq, List, [], ◌∷◌}
+use Rattle.plain_check.proofs.Common.{length, drop, Option, Result, Ok, ℤ, pos, negsuc, refl, sym, ap, ◌∙◌, subst, arith, inl, inr}
+use Rattle.plain_check.proofs.Common.{length-drop, cases_Bool, and_parts, nat_tests, Index, Operand, Extra, Nothing, Imm, Idx, Insn, Jump8}
+use Rattle.plain_check.proofs.Common.{DecodeFault, read, read_length, computed, compared, with_register, with_flags, at_ip, goes, value}
+use Rattle.plain_check.proofs.Common.{written, sum_at, arith_row, compare_row, move_imm_row, jump8_row, executed, Neutral, is_plain, starts}
+use Rattle.plain_check.proofs.Common.{passes, lands, falls_through, jump_target, plain_verdict, IsStart, GoesOn, Returned, Stopped}
+use Rattle.plain_check.proofs.Common.{plain_step, plain_run, plain_machine}
+use Rattle.std.proofs.{Common.◌*◌, Common.◌^◌, Common.◌+ℤ◌, Common.◌*ℤ◌, lemmas.Int.ints, Math.IntN.neg_ℤ, Math.IntN.negsuc-*ℤ-pos}
+use Rattle.std.proofs.Math.IntN.{pos-*ℤ-negsuc}
 use Rattle.ebc_width.specs.Width.{wrap64}
-use Rattle.ebc_insn.specs.declared.Operand.{Operand}
-use Rattle.ebc_insn.specs.declared.Extra.{Extra}
-use Rattle.ebc_insn.specs.declared.Extra.TheVariants.{Nothing, Imm, Idx}
+use Rattle.ebc_insn.specs.declared.{Cond.Cond, Cond.TheVariants.Always, Cond.TheVariants.Set, Cond.TheVariants.Clear, Insn.TheVariants.Ret}
+use Rattle.ebc_insn.specs.declared.Insn.TheVariants.{Compare, Arith, MoveImm}
+use Rattle.machine_alu.specs.Alu.{outcome, low}
+use Rattle.note_types.specs.Concrete.{Concrete, register}
+use Rattle.ebc_machine.specs.{Operands.low_bytes, Data.with_c, Flow.is_taken}
+use Rattle.plain_check.specs.PlainRuns.{Progress, PlainState, done_at, KeepsTo, KeepsToCode, RunsAlike}
+use Rattle.plain_check.proofs.{Readings.is_index, Readings.misplaced, Readings.read-placed, Starts.Good, Starts.GoodStarts}
+use Rattle.plain_check.proofs.{Starts.good-starts, Starts.head-started, Starts.no-rule, Rules.start-is, Rules.reached-started}
+use Rattle.plain_check.proofs.Rules.{reached-even}
 use Rattle.ebc_insn.specs.declared.Size.TheVariants as sizes
 use Rattle.ebc_insn.specs.declared.CmpOp.TheVariants as cmps
 use Rattle.ebc_insn.specs.declared.ArithOp.TheVariants as ops
-use Rattle.ebc_insn.specs.declared.Cond.{Cond}
-use Rattle.ebc_insn.specs.declared.Cond.TheVariants.{Always, Set, Clear}
-use Rattle.ebc_insn.specs.declared.Insn.{Insn}
-use Rattle.ebc_insn.specs.declared.Insn.TheVariants.{Jump8, Ret, Compare, Arith, MoveImm}
-use Rattle.ebc_decode.specs.declared.DecodeFault.{DecodeFault}
-use Rattle.ebc_decode.specs.Reading.{read}
-use Rattle.ebc_decode.proofs.Laws.{read_length}
-use Rattle.machine_alu.specs.Alu.{computed, compared, outcome, low}
-use Rattle.note_types.specs.Concrete.{Concrete, register, with_register, with_flags, at_ip}
 use Rattle.ebc_machine.specs.declared.StepEnd.TheVariants as ends
-use Rattle.ebc_machine.specs.Results.{goes}
-use Rattle.ebc_machine.specs.Operands.{value, written, sum_at, low_bytes}
-use Rattle.ebc_machine.specs.Data.{arith_row, compare_row, with_c}
-use Rattle.ebc_machine.specs.Moves.{move_imm_row}
-use Rattle.ebc_machine.specs.Flow.{jump8_row, is_taken}
-use Rattle.ebc_machine.specs.Step.{executed}
-use Rattle.plain_check.specs.declared.verdict.Verdict.TheVariants.{Neutral}
-use Rattle.plain_check.specs.PlainChecks.{is_plain, starts, passes, lands, falls_through, jump_target, plain_verdict}
-use Rattle.plain_check.specs.PlainRules.{IsStart}
-use Rattle.plain_check.specs.PlainRuns.{Progress, GoesOn, Returned, Stopped, PlainState, done_at, plain_step, plain_run, plain_machine}
-use Rattle.plain_check.specs.PlainRuns.{KeepsTo, KeepsToCode, RunsAlike}
-use Rattle.plain_check.proofs.Readings.{is_index, misplaced, read-placed}
-use Rattle.plain_check.proofs.Starts.{Good, GoodStarts, good-starts, head-started, no-rule}
-use Rattle.plain_check.proofs.Rules.{start-is, reached-started, reached-even}
 
 -- ---- the rows of plain code
 

@@ -1,17 +1,10 @@
 -- What neutral code has at each start.
-use Rattle.std.proofs.Common.{◌≡◌, ◌⊎◌, ℕ, ◌+◌, ◌<◌, Bool, true, false, not, ◌||◌, ◌&&◌, nat_eq, if◌then◌else◌, List, [], ◌∷◌, length, drop}
-use Rattle.std.proofs.Common.{Option, Some, None, Result, Ok, Err, refl, sym, ◌∙◌, subst, arith, inl, inr, length-drop}
-use Rattle.std.proofs.lemmas.Bool.Decides.{nat_tests}
-use Rattle.ebc_insn.specs.declared.Insn.{Insn}
-use Rattle.ebc_decode.specs.declared.DecodeFault.{DecodeFault}
-use Rattle.ebc_decode.specs.Reading.{read}
-use Rattle.note_types.specs.declared.rule.RuleName.{RuleName}
-use Rattle.note_types.specs.declared.rule.RuleName.TheVariants.{Form, Target, End}
-use Rattle.plain_check.specs.declared.verdict.Verdict.{Verdict}
-use Rattle.plain_check.specs.declared.verdict.Verdict.TheVariants.{Neutral, Refused}
-use Rattle.plain_check.specs.PlainChecks.{Reached, reached, is_start, instruction_rule, first_refusal, judged}
+use Rattle.plain_check.proofs.Common.{◌≡◌, ℕ, ◌+◌, ◌<◌, Bool, true, false, not, ◌||◌, ◌&&◌, nat_eq, if◌then◌else◌, List, [], ◌∷◌, length}
+use Rattle.plain_check.proofs.Common.{drop, Option, Some, None, Result, Ok, Err, refl, sym, ◌∙◌, subst, arith, inl, inr, length-drop}
+use Rattle.plain_check.proofs.Common.{nat_tests, Insn, DecodeFault, read, RuleName, Form, Target, End, Verdict, Neutral, Refused, Reached}
+use Rattle.plain_check.proofs.Common.{reached, is_start, instruction_rule, first_refusal, judged, or_right}
+use Rattle.std.proofs.Common.{◌⊎◌}
 use Rattle.plain_check.proofs.Places.{reached-read, judged-none, along}
-use Rattle.std.proofs.lemmas.Bool.{or_right}
 
 -- ---- what neutral code has at a start
 

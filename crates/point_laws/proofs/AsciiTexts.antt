@@ -2,8 +2,7 @@
 use Rattle.point_laws.proofs.Common.{◌≡◌, ℕ, true, not, ◌&&◌, ◌==◌, List, [], ◌∷◌, ◌++◌, map, refl, arith, codes, nat_le, and_parts}
 use Rattle.point_laws.proofs.Common.{ltb-true, IsAscii-append, IsAscii-nil, decimal, flat_map, list_all, IsAscii, array_line, in_quotes}
 use Rattle.point_laws.proofs.Common.{listed}
-use Rattle.std.proofs.Common.{nat_lt}
-use Rattle.std.proofs.lemmas.{Bool.leb-true, Str.Ascii.IsAscii-cons, Fmt.IsAscii-decimal}
+use Rattle.std.proofs.{Common.nat_lt, lemmas.Bool.leb-true, lemmas.Str.Ascii.IsAscii-cons, lemmas.Fmt.IsAscii-decimal}
 use Rattle.point_laws.proofs.{PlainTexts.are_plain, PlainTexts.is_plain, PointsDocument.IsToldPlain, PointsDocument.Told}
 use Rattle.point_laws.proofs.{PointsDocument.told_text, TomlTexts.AllPlain}
 

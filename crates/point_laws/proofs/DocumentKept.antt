@@ -5,7 +5,7 @@ use Rattle.point_laws.proofs.Common.{array_at, list_at, tables_at, call_lists, c
 use Rattle.point_laws.proofs.Common.{point_of, shape_of, static_of, thunk_of, NotesDraft, PointDraft, DraftLists, notes_in, notes_of}
 use Rattle.point_laws.proofs.Common.{resolved, ok_given, point_draft, points_members, with_printed}
 use Rattle.note_draft.specs.Drafts.{draft_keys, function_of, signatures_at, site_of}
-use Rattle.note_draft.specs.declared.{reading.CallLists.CallLists, reading.CodeLists.CodeLists}
+use Rattle.note_draft.specs.declared.reading.{CallLists.CallLists, CodeLists.CodeLists}
 use Rattle.point_laws.specs.PrintedPoints.{PrintedPointsStand}
 use Rattle.point_laws.proofs.{PointsRead.all_printed, PointsRead.is_read, PointsRead.tables_again, PointsStand.ok_with}
 use Rattle.point_laws.proofs.PointsStand.{printed_accepted}

@@ -5,10 +5,9 @@ use Rattle.point_laws.proofs.Common.{position_or_len, range_with_len, option_map
 use Rattle.point_laws.proofs.Common.{lt-ltb, get_or_from_slice_get, slice_get-map, slice_get_within, bytes_eq-Decides, name_number}
 use Rattle.point_laws.proofs.Common.{within_some, Field, FieldText, NameTables, has_field, field_number, field_set, resolved_field}
 use Rattle.point_laws.proofs.Common.{field_name, field_names, names_below, has}
-use Rattle.std.proofs.Common.{◌/◌}
+use Rattle.std.proofs.{Common.◌/◌, lemmas.List.Sums.position_or_len_is, lemmas.Nat.Bits.bit_at-lt, lemmas.Nat.Bits.same_from_bits_below}
+use Rattle.std.proofs.lemmas.Option.{same_Some, slice_get-get_or}
 use Rattle.std.specs.Int.{bit_at}
-use Rattle.std.proofs.lemmas.{List.Sums.position_or_len_is, Nat.Bits.bit_at-lt, Nat.Bits.same_from_bits_below, Option.same_Some}
-use Rattle.std.proofs.lemmas.Option.{slice_get-get_or}
 use Rattle.note_types.specs.FieldSets.{HasField}
 use Rattle.type_notes.specs.Locals.{SomeNames}
 use Rattle.type_notes.proofs.{FieldSetLaws.field_set-fields, ResolvedTypes.field_set-below}

@@ -4,8 +4,9 @@ use Rattle.point_laws.proofs.Common.{refl, sym, ap, ◌∙◌, ⊎_elim, arith, 
 use Rattle.point_laws.proofs.Common.{IsStrictlyIncreasing, cases_Bool, nat_tests, get_or-take, length-map, length-take-le}
 use Rattle.point_laws.proofs.Common.{get_or_from_slice_get, within_some, first_descent, first_repeat, repeats, repeats-at}
 use Rattle.std.specs.List.{All, AllPairs}
-use Rattle.std.proofs.lemmas.{Bool.le-ltb, List.get_or-map, List.Folds.list_any_none, List.FromFn.get_or-range_with_len}
-use Rattle.std.proofs.lemmas.{List.FromFn.length-range_with_len, List.Kept.AllPairs-from_increasing}
+use Rattle.std.proofs.lemmas.{Bool.le-ltb, List.get_or-map, List.Folds.list_any_none}
+use Rattle.std.proofs.lemmas.List.FromFn.{get_or-range_with_len, length-range_with_len}
+use Rattle.std.proofs.lemmas.List.Kept.{AllPairs-from_increasing}
 use Rattle.note_draft.proofs.RepeatLaws.{first_descent-none, first_repeat-none}
 
 -- ---- tests

@@ -2,13 +2,12 @@
 use Rattle.point_laws.proofs.Common.{◌≡◌, ℕ, ◌+◌, ◌%◌, ◌^◌, ◌<◌, ◌≤◌, pos, suc, Bool, true, false, not, ◌&&◌, ◌==◌, List, [], ◌∷◌, ◌++◌}
 use Rattle.point_laws.proofs.Common.{length, refl, ap, ◌∙◌, inl, inr, ⊎_elim, arith, codes, nat_le, and_parts, nat_tests, decimal, list_all}
 use Rattle.point_laws.proofs.Common.{is_name, IsName, AreNames}
-use Rattle.std.proofs.Common.{ℤ, negsuc}
-use Rattle.std.proofs.lemmas.{Fmt.decimal_by_steps, List.Folds.list_all-append}
+use Rattle.std.proofs.{Common.ℤ, Common.negsuc, lemmas.Fmt.decimal_by_steps, lemmas.List.Folds.list_all-append}
 use Rattle.std.specs.Fmt.{signed_decimal}
 use Rattle.ebc_base.specs.Names.{begins_name, continues_name}
 use Rattle.note_types.specs.Types.{IsNear, IsUnits}
-use Rattle.note_texts.specs.TypeGrammar.{IsIntText, IsOffsetText, IsTypeText, grants_text, pair_text, range_text}
-use Rattle.note_texts.specs.Grammar.{IsCellText, IsCounted, mark_of}
+use Rattle.note_texts.specs.TypeGrammar.{IsIntText, IsOffsetText, IsTypeText, grants_text}
+use Rattle.note_texts.specs.{TypeGrammar.pair_text, TypeGrammar.range_text, Grammar.IsCellText, Grammar.IsCounted, Grammar.mark_of}
 use Rattle.note_texts.specs.declared.{cell.CellText.CellText, ty.TypeText.TypeText}
 use Rattle.note_texts.specs.declared.cell.CellText.TheVariants as cells
 use Rattle.note_texts.specs.declared.ty.TypeText.TheVariants as types

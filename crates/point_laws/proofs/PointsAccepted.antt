@@ -8,12 +8,12 @@ use Rattle.point_laws.proofs.Common.{regs_have_thunks, stack_has_thunks, stack_i
 use Rattle.point_laws.proofs.Common.{point_locals, resolved, resolved_locals, has_fields, has_thunk, told_up_to, field_names, draft_in}
 use Rattle.point_laws.proofs.Common.{item_draft, register_draft}
 use Rattle.std.specs.Prelude.{if◌then◌else◌}
-use Rattle.std.proofs.lemmas.{List.Kept.IsStrictlyIncreasing-filter, List.Sums.length-filter}
+use Rattle.std.proofs.lemmas.List.{Kept.IsStrictlyIncreasing-filter, Sums.length-filter}
 use Rattle.note_draft.specs.{Known.knows_item, Once.same_register}
 use Rattle.type_notes.specs.Conditions.{has_item_fields, has_item_thunk}
-use Rattle.point_laws.proofs.NoneAgain.{all_pass, by_each, none_again, range_up}
-use Rattle.point_laws.proofs.TypesAccepted.{fields_there, set_there, thunk_there, type_there}
-use Rattle.point_laws.proofs.{PointsResolved.AreNamesOf, TextsRead.AllKnown, TextsRead.KnownItem}
+use Rattle.point_laws.proofs.{NoneAgain.all_pass, NoneAgain.by_each, NoneAgain.none_again, NoneAgain.range_up, TypesAccepted.fields_there}
+use Rattle.point_laws.proofs.{TypesAccepted.set_there, TypesAccepted.thunk_there, TypesAccepted.type_there, PointsResolved.AreNamesOf}
+use Rattle.point_laws.proofs.TextsRead.{AllKnown, KnownItem}
 use Rattle.note_types.specs.declared.items.Item.TheVariants as items
 use Rattle.type_notes.specs.Conditions as conditions
 

@@ -3,10 +3,9 @@ use Rattle.point_laws.proofs.Common.{◌≡◌, ℕ, suc, ◌^◌, ◌<◌, pos,
 use Rattle.point_laws.proofs.Common.{append_assoc, codes, decimal, flat_map, skip_from-nil, key_text, integer, array, table, Items}
 use Rattle.point_laws.proofs.Common.{no_items, item, Members, no_members, member, Document, Expression, define, key_value, lines}
 use Rattle.point_laws.proofs.Common.{parse_document, IsLineText, lines_end, AllPrinted, run, array_line, members_of, strings, tables_of}
-use Rattle.toml.specs.Tables.{Nodes, no_nodes, node, value, open_array, close, along_dots, along_header, at_key, array_table}
-use Rattle.toml.specs.{Data.push_item, Parse.skip_bom}
-use Rattle.toml.proofs.ReadValues.{item_join, item_join-none, item_join-push}
-use Rattle.toml.proofs.Turns.{document_some}
+use Rattle.toml.specs.Tables.{Nodes, no_nodes, node, value, open_array, close, along_dots}
+use Rattle.toml.specs.{Tables.along_header, Tables.at_key, Tables.array_table, Data.push_item, Parse.skip_bom}
+use Rattle.toml.proofs.{ReadValues.item_join, ReadValues.item_join-none, ReadValues.item_join-push, Turns.document_some}
 use Rattle.point_laws.proofs.TomlTexts.{AllPlain, AreLines, array_line_spelled, lines_read, number_line_spelled, strings_flat}
 use Rattle.point_laws.proofs.TomlTexts.{strings_valid}
 

@@ -12,9 +12,8 @@ use Rattle.point_laws.proofs.Common.{locals_fields, point_locals, resolved, reso
 use Rattle.point_laws.proofs.Common.{resolved_point, each_first, each_rest, ok_given, HaveNames, fields_at, item_text, item_texts}
 use Rattle.point_laws.proofs.Common.{register_text, register_texts, told_up_to, field_name, field_names, names_below, has_field, draft_in}
 use Rattle.point_laws.proofs.Common.{item_draft, point_draft, points_members, register_draft, strings, tables_of}
-use Rattle.std.proofs.Common.{◌||◌}
-use Rattle.std.proofs.lemmas.{List.Folds.find_at, List.Folds.flat_map-map, List.Sums.sum_by-cons, Option.none-some, Str.IsUtf8-from_ascii}
-use Rattle.std.proofs.lemmas.Str.{is_utf8-from_IsUtf8}
+use Rattle.std.proofs.{Common.◌||◌, lemmas.List.Folds.find_at, lemmas.List.Folds.flat_map-map, lemmas.List.Sums.sum_by-cons}
+use Rattle.std.proofs.lemmas.{Option.none-some, Str.IsUtf8-from_ascii, Str.is_utf8-from_IsUtf8}
 use Rattle.std.specs.Str.{is_utf8}
 use Rattle.ebc_base.proofs.{Given.some_of_map, TableLaws.position_or_len-map}
 use Rattle.note_types.proofs.RecordLaws.{each_none, slots_and_locals}
@@ -27,9 +26,9 @@ use Rattle.point_texts.specs.PrintedStates.{point_text, points_text}
 use Rattle.point_texts.proofs.PrintedTypeLaws.{below_are}
 use Rattle.point_laws.specs.PrintedPoints.{IsReading, PrintedPointsAreRead, PrintedPointsAreTables}
 use Rattle.point_laws.specs.PointTables.{members_in, point_members}
-use Rattle.point_laws.proofs.NamesGiven.{HasNamesOnce, IsNamedShape, draft_named, names_once}
 use Rattle.point_laws.proofs.PointsDocument.{AllToldPlain, Told, told_document, told_members, told_parsed, told_text}
 use Rattle.point_laws.proofs.TablesRead.{AllTables, count_strings, names_again, point_read, tables_read, texts_again}
+use Rattle.point_laws.proofs.NamesGiven.{HasNamesOnce, IsNamedShape, draft_named, names_once}
 use Rattle.point_laws.proofs.{NamesNumbered.Once, TomlTexts.AllPlain, PointsResolved.AreNamesOf, TextsRead.AllKnown, TextsRead.KnownItem}
 use Rattle.point_laws.proofs.{TextsRead.names_are_plain, AsciiTexts.told_ascii}
 use Rattle.protocol_script.specs.PrintedLaw.{HasNames}

@@ -11,16 +11,16 @@ use Rattle.point_laws.proofs.Common.{nothing_refused, ok_given, fields_at, draft
 use Rattle.std.proofs.Common.{Err}
 use Rattle.ebc_base.specs.Steps.{◌>>=◌, passes}
 use Rattle.note_draft.specs.Known.{unknown, unknown_in_functions, unknown_in_points, unknown_in_shapes, unknown_in_signatures}
-use Rattle.note_draft.specs.Known.{unknown_in_sites, unknown_in_statics, unknown_in_thunks}
-use Rattle.note_draft.specs.{Findings.sooner, Findings.◌otherwise◌, Once.function_names, Once.repeated_in_points}
+use Rattle.note_draft.specs.{Known.unknown_in_sites, Known.unknown_in_statics, Known.unknown_in_thunks, Findings.sooner}
+use Rattle.note_draft.specs.{Findings.◌otherwise◌, Once.function_names, Once.repeated_in_points}
 use Rattle.note_draft.specs.declared.{finding.Finding.Finding, draft.SiteDraft.SiteDraft}
 use Rattle.type_notes.specs.Conditions.{disordered, first_point, stray, thunkless_points, unmet}
 use Rattle.type_notes.specs.{Owners.first_stray, Resolved.resolved_thunk}
 use Rattle.type_notes.proofs.{OrderLemmas.neither, Outcomes.ok_passes}
 use Rattle.point_laws.specs.PrintedPoints.{PrintedPointsAreAccepted}
-use Rattle.point_laws.proofs.NoneAgain.{AllBy, NoneBy, none_again, none_descends, none_fails, none_passes}
-use Rattle.point_laws.proofs.PointsAccepted.{IsAccepted, accepted, has_as_many}
 use Rattle.point_laws.proofs.PointsRead.{AllPrinted, IsRead, all_known, all_printed, are_names, is_read, its_fields, locals_once, owned}
+use Rattle.point_laws.proofs.NoneAgain.{AllBy, NoneBy, none_again, none_descends, none_fails}
+use Rattle.point_laws.proofs.{NoneAgain.none_passes, PointsAccepted.IsAccepted, PointsAccepted.accepted, PointsAccepted.has_as_many}
 use Rattle.note_draft.specs.declared.finding.Key.TheVariants as key
 use Rattle.note_draft.specs.declared.finding.Refusal.TheVariants as refusals
 use Rattle.note_draft.specs.declared.finding.TableList.TheVariants as list

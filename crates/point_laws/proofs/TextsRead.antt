@@ -8,8 +8,8 @@ use Rattle.note_texts.specs.declared.slot.ItemText.TheVariants.{Slot, Locals}
 use Rattle.note_texts.proofs.SlotLaws.{item_read, register_read}
 use Rattle.point_texts.specs.PrintedTypes.{type_text}
 use Rattle.point_texts.proofs.PrintedTypeLaws.{type_spelled}
-use Rattle.point_laws.proofs.PlainTexts.{are_plain, decimal_plain, name_plain, plain-append, type_plain}
-use Rattle.point_laws.proofs.TomlTexts.{AllPlain}
+use Rattle.point_laws.proofs.PlainTexts.{are_plain, decimal_plain, name_plain, plain-append}
+use Rattle.point_laws.proofs.{PlainTexts.type_plain, TomlTexts.AllPlain}
 use Rattle.note_types.specs.declared.cell.SlotKind.TheVariants as kinds
 use Rattle.note_types.specs.declared.items.Item.TheVariants as item_of
 use Rattle.note_texts.specs.SlotTexts as slots

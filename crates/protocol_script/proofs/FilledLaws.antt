@@ -1,15 +1,9 @@
 -- Which instances of an object are settled, one field and one instance more at a time.
-use Rattle.std.proofs.Common.{◌≡◌, ℕ, ◌+◌, ◌≤◌, ◌<◌, zero, suc, List, [], ◌∷◌, length, Option, Some, None, Bool, true, false, refl, sym, ap}
-use Rattle.std.proofs.Common.{subst, ◌∙◌, arith, ⊎_elim, slice_get}
-use Rattle.std.proofs.lemmas.Bool.{cases_lt, or_parts}
-use Rattle.std.proofs.lemmas.Option.{same_Some}
-use Rattle.std.specs.List.{list_all, list_any, range_with_len}
-use Rattle.std.specs.Option.{option_map_or}
-use Rattle.std.specs.Prelude.{◌||◌, ◌&&◌, not}
-use Rattle.note_types.specs.declared.script.CellValue.{CellValue}
-use Rattle.note_types.specs.declared.shape.Field.{Field}
-use Rattle.protocol_script.specs.Contents.{all_settled, is_filled}
-use Rattle.host_model.specs.Scripts.{is_needed}
+use Rattle.protocol_script.proofs.Common.{◌≡◌, ℕ, ◌+◌, ◌≤◌, ◌<◌, zero, suc, List, [], ◌∷◌, length, Option, Some, None, Bool, true, false}
+use Rattle.protocol_script.proofs.Common.{refl, sym, ap, subst, ◌∙◌, arith, ⊎_elim, slice_get, cases_lt, same_Some, list_all, list_any}
+use Rattle.protocol_script.proofs.Common.{option_map_or, ◌||◌, ◌&&◌, not, CellValue, Field, all_settled, is_filled, is_needed}
+use Rattle.std.proofs.lemmas.Bool.{or_parts}
+use Rattle.std.specs.List.{range_with_len}
 
 -- ---- tests of numbers
 

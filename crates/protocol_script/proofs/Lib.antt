@@ -1,3 +1,4 @@
+pub mod Common
 pub mod FilledLaws
 pub mod LimitLaws
 pub mod NumberedLaws

@@ -1,25 +1,12 @@
 -- Sums over the items of a list, one item more at a time, and what keeps the limits.
-use Rattle.std.proofs.Common.{◌≡◌, ℕ, ◌+◌, ◌≤◌, ◌<◌, ◌^◌, ◌⊎◌, zero, suc, Result, Ok, Err, List, [], ◌∷◌, ◌++◌, length, take, drop, get_or}
-use Rattle.std.proofs.Common.{true, false, ◌&&◌, refl, sym, ap, subst, ◌∙◌, arith, inl, inr}
-use Rattle.std.proofs.lemmas.Bool.{cases_Bool, and_parts}
-use Rattle.std.proofs.lemmas.Bool.Decides.{nat_tests}
-use Rattle.std.proofs.lemmas.List.Sums.{sum_by-append, sum_by-take-drop}
-use Rattle.std.specs.List.{sum_by}
-use Rattle.std.specs.Prelude.{nat_le}
-use Rattle.note_texts.specs.Outcome.{Fails}
-use Rattle.note_types.specs.declared.fault.NotesEnd.{NotesEnd}
-use Rattle.note_types.specs.declared.fault.NotesEnd.TheVariants as ends
-use Rattle.note_types.specs.declared.fault.TomlFault.{TomlFault}
-use Rattle.script_draft.specs.Lists.{all_pass}
-use Rattle.note_types.specs.declared.notes.Notes.{Notes}
-use Rattle.note_types.specs.declared.script.Script.{Script}
-use Rattle.note_types.specs.declared.script.ScriptCall.{ScriptCall}
-use Rattle.note_types.specs.declared.script.ScriptObject.{ScriptObject}
-use Rattle.host_model.specs.Objects.{placed_objects}
-use Rattle.protocol_script.specs.Limits.{IsLoad}
-use Rattle.host_model.specs.Scripts.{have_room, room_of}
+use Rattle.protocol_script.proofs.Common.{◌≡◌, ℕ, ◌+◌, ◌≤◌, ◌<◌, ◌^◌, zero, suc, Result, Ok, Err, List, [], ◌∷◌, ◌++◌, length, take, drop}
+use Rattle.protocol_script.proofs.Common.{get_or, true, false, ◌&&◌, refl, sym, ap, subst, ◌∙◌, arith, inl, inr, cases_Bool, and_parts}
+use Rattle.protocol_script.proofs.Common.{nat_tests, sum_by, nat_le, Fails, NotesEnd, TomlFault, all_pass, Notes, Script, ScriptCall}
+use Rattle.protocol_script.proofs.Common.{ScriptObject, placed_objects, IsLoad, have_room, room_of}
+use Rattle.std.proofs.{Common.◌⊎◌, lemmas.List.Sums.sum_by-append, lemmas.List.Sums.sum_by-take-drop}
 use Rattle.protocol_script.specs.declared.limits.Load.{Load}
 use Rattle.protocol_script.proofs.ObjectLaws.{length-both, placed-more, take_one}
+use Rattle.note_types.specs.declared.fault.NotesEnd.TheVariants as ends
 
 pub sum-one : {A : Type 0} (f : A → ℕ) (xs : List A) (i : ℕ) (x : A) → i < length xs → x ≡ get_or xs i x
     → sum_by f (take (i + 1) xs) ≡ sum_by f (take i xs) + f x

@@ -1,18 +1,13 @@
 -- Names of which no two are one: of a list in which a search finds no repeat, and of the distinct names of a list.
-use Rattle.std.proofs.Common.{◌≡◌, ℕ, suc, List, [], ◌∷◌, length, take, get_or, filter, true, false, None, Some, refl, sym, ap, ◌∙◌, ⊎_elim}
-use Rattle.std.proofs.Common.{arith}
-use Rattle.std.specs.Prelude.{bytes_eq, not, slice_get}
-use Rattle.std.specs.List.{All, AllPairs, list_any}
-use Rattle.std.proofs.lemmas.Bool.{cases_lt}
-use Rattle.std.proofs.lemmas.List.{get_or-take, length-take-le}
-use Rattle.std.proofs.lemmas.List.Elements.{All-cons, All-filter, filter_passes}
-use Rattle.std.proofs.lemmas.List.Folds.{list_any_at}
-use Rattle.std.proofs.lemmas.List.Kept.{AllPairs-cons, AllPairs-filter}
-use Rattle.std.proofs.lemmas.Option.{get_or_from_slice_get, slice_get-get_or}
-use Rattle.std.proofs.lemmas.Slice.Eq.{bytes_eq-Decides}
+use Rattle.protocol_script.proofs.Common.{◌≡◌, ℕ, suc, List, [], ◌∷◌, length, take, get_or, true, false, None, Some, refl, sym, ap, ◌∙◌}
+use Rattle.protocol_script.proofs.Common.{⊎_elim, arith, bytes_eq, not, slice_get, AllPairs, list_any, cases_lt, slice_get-get_or}
+use Rattle.protocol_script.proofs.Common.{bytes_eq-Decides, first_repeat}
+use Rattle.std.proofs.{Common.filter, lemmas.List.get_or-take, lemmas.List.length-take-le, lemmas.List.Elements.All-cons}
+use Rattle.std.proofs.lemmas.List.{Elements.All-filter, Elements.filter_passes, Folds.list_any_at}
+use Rattle.std.proofs.lemmas.{List.Kept.AllPairs-cons, List.Kept.AllPairs-filter, Option.get_or_from_slice_get}
+use Rattle.std.specs.List.{All}
 use Rattle.ebc_base.proofs.Lists.{AllPairs_at}
-use Rattle.note_draft.specs.Names.{distinct}
-use Rattle.note_draft.specs.Repeats.{first_repeat, repeats}
+use Rattle.note_draft.specs.{Names.distinct, Repeats.repeats}
 use Rattle.note_draft.proofs.RepeatLaws.{repeats-at}
 use Rattle.type_notes.proofs.OwnerLaws.{fails-from_none}
 

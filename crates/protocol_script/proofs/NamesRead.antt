@@ -1,30 +1,20 @@
 -- The functions and the methods of a draft that was read have names that texts can have.
-use Rattle.std.proofs.Common.{◌≡◌, ℕ, ◌+◌, List, [], ◌∷◌, ◌++◌, length}
-use Rattle.std.specs.Prelude.{IfOk, IfSome, codes}
+use Rattle.protocol_script.proofs.Common.{◌≡◌, ℕ, ◌+◌, List, [], ◌∷◌, ◌++◌, length, IfOk, codes, Each, IsName, row_prefix, draft_of}
+use Rattle.protocol_script.proofs.Common.{each_none, each_more, ok_then, ok_next}
+use Rattle.std.specs.Prelude.{IfSome}
 use Rattle.toml.specs.Data.{Items, no_items, item, Members, as_str}
-use Rattle.ebc_base.specs.Steps.{or_else, passes}
+use Rattle.ebc_base.specs.{Steps.or_else, Steps.passes, Names.is_name, Names.name_of}
 use Rattle.note_types.specs.declared.fault.TomlFault.TheVariants.{Kind, Range}
 use Rattle.note_types.specs.Limits.{point_limit}
-use Rattle.note_types.specs.Records.{Each}
-use Rattle.note_texts.specs.Grammar.{IsName}
-use Rattle.note_texts.specs.Keys.{field, number_at, only_keys, row_prefix, text_at, text_of}
-use Rattle.note_texts.specs.Lists.{count, each, list_at, row_of, rows_of, table_of, tables_at, texts_at}
-use Rattle.ebc_base.specs.Names.{is_name, name_of}
-use Rattle.note_texts.specs.WantTexts.{want_param_of}
-use Rattle.note_draft.specs.declared.draft.FunctionDraft.{FunctionDraft}
-use Rattle.note_draft.specs.declared.draft.NotesDraft.{NotesDraft}
-use Rattle.note_draft.specs.declared.draft.SignatureDraft.{SignatureDraft}
-use Rattle.note_draft.specs.declared.reading.CallLists.{CallLists}
-use Rattle.note_draft.specs.declared.reading.CodeLists.{CodeLists}
-use Rattle.note_draft.specs.declared.reading.DraftLists.{DraftLists}
-use Rattle.note_draft.specs.Drafts.{call_lists, code_lists, data_lists, draft_keys, draft_lists, draft_of, extent_of, function_enter}
-use Rattle.note_draft.specs.Drafts.{function_of, greatest_32, has_room, interface_of, method_of, point_of, signature_in, signature_of}
-use Rattle.note_draft.specs.Drafts.{signature_result, signatures_at, signatures_from, site_of}
-use Rattle.note_draft.specs.Names.{distinct}
-use Rattle.type_notes.proofs.ListBounds.{each_read}
-use Rattle.type_notes.proofs.Outcomes.{some_if}
-use Rattle.note_types.proofs.RecordLaws.{each_none, each_more}
-use Rattle.ebc_base.proofs.Given.{ok_then, ok_next, ok_some, ok_weaken}
+use Rattle.note_texts.specs.{Keys.field, Keys.number_at, Keys.only_keys, Keys.text_at, Keys.text_of, Lists.count, Lists.each, Lists.list_at}
+use Rattle.note_texts.specs.{Lists.row_of, Lists.rows_of, Lists.table_of, Lists.tables_at, Lists.texts_at, WantTexts.want_param_of}
+use Rattle.note_draft.specs.declared.draft.{FunctionDraft.FunctionDraft, NotesDraft.NotesDraft, SignatureDraft.SignatureDraft}
+use Rattle.note_draft.specs.declared.reading.{CallLists.CallLists, CodeLists.CodeLists, DraftLists.DraftLists}
+use Rattle.note_draft.specs.Drafts.{call_lists, code_lists, data_lists, draft_keys, draft_lists, extent_of, function_enter, function_of}
+use Rattle.note_draft.specs.Drafts.{greatest_32, has_room, interface_of, method_of, point_of, signature_in, signature_of, signature_result}
+use Rattle.note_draft.specs.{Drafts.signatures_at, Drafts.signatures_from, Drafts.site_of, Names.distinct}
+use Rattle.type_notes.proofs.{ListBounds.each_read, Outcomes.some_if}
+use Rattle.ebc_base.proofs.Given.{ok_some, ok_weaken}
 
 abbrev pub IsNamedFunction : FunctionDraft → Type 0
 IsNamedFunction f = IsName f.name

@@ -1,60 +1,31 @@
 -- A draft with the numbers of what it names: its values are such as texts may have, and each thing that it names is there.
-use Rattle.std.proofs.Common.{◌≡◌, ℕ, suc, ◌+◌, ◌^◌, ◌<◌, ◌≤◌, Bool, List, [], ◌∷◌, ◌++◌, length, map, Option, Some, Ok, refl, sym, ap, ap₂}
-use Rattle.std.proofs.Common.{subst, ◌∙◌, slice_get, inl, inr}
-use Rattle.std.proofs.lemmas.Bool.{ltb-true}
-use Rattle.std.proofs.lemmas.List.{map-append}
-use Rattle.std.proofs.lemmas.Option.{cond_some, option_and_then_some}
-use Rattle.std.specs.List.{flat_map, position, position_or_len}
-use Rattle.std.specs.Prelude.{codes, nat_lt, option_and_then}
-use Rattle.note_texts.specs.Keys.{row_prefix}
+use Rattle.protocol_script.proofs.Common.{◌≡◌, ℕ, suc, ◌+◌, ◌^◌, ◌<◌, ◌≤◌, Bool, List, [], ◌∷◌, ◌++◌, length, map, Option, Some, Ok, refl}
+use Rattle.protocol_script.proofs.Common.{sym, ap, subst, ◌∙◌, slice_get, inl, inr, ltb-true, map-append, flat_map, position}
+use Rattle.protocol_script.proofs.Common.{position_or_len, codes, nat_lt, option_and_then, row_prefix, Each, Notes, Static, CellValue}
+use Rattle.protocol_script.proofs.Common.{Notify, Script, ScriptCall, ScriptObject, WriteValue, Seen, Field, Value, field_of, made_objects}
+use Rattle.protocol_script.proofs.Common.{objects_of, placed_objects, script_object, shape_of, static_object, given, IsWritten, all_made}
+use Rattle.protocol_script.proofs.Common.{TypedObject, within_some, all_of, each_of, CallDraft, ScriptDraft, ValueText, ok_step, same_Ok}
+use Rattle.protocol_script.proofs.Common.{function_number, method_number, narrow, draft_shapes, resolved, resolved_argument, resolved_call}
+use Rattle.protocol_script.proofs.Common.{resolved_calls, resolved_notifications, resolved_notify, resolved_object, resolved_objects}
+use Rattle.protocol_script.proofs.Common.{resolved_value, each_none, each_more}
+use Rattle.std.proofs.{Common.ap₂, lemmas.Option.cond_some, lemmas.Option.option_and_then_some}
 use Rattle.note_texts.proofs.Tables.{map_some, moved}
 use Rattle.note_types.specs.Limits.{IsVersion}
-use Rattle.note_types.specs.Records.{Each}
-use Rattle.note_types.specs.declared.fault.TomlFault.TheVariants.{Name}
-use Rattle.note_types.specs.declared.notes.Notes.{Notes}
-use Rattle.note_types.specs.declared.notes.Static.{Static}
-use Rattle.note_types.specs.declared.script.Callback.{Callback}
-use Rattle.note_types.specs.declared.script.CellValue.{CellValue}
-use Rattle.note_types.specs.declared.script.Notify.{Notify}
-use Rattle.note_types.specs.declared.script.OutValue.{OutValue}
-use Rattle.note_types.specs.declared.script.Script.{Script}
-use Rattle.note_types.specs.declared.script.ScriptCall.{ScriptCall}
-use Rattle.note_types.specs.declared.script.ScriptObject.{ScriptObject}
-use Rattle.note_types.specs.declared.script.WriteValue.{WriteValue}
-use Rattle.note_types.specs.declared.seen.Seen.{Seen}
-use Rattle.note_types.specs.declared.shape.Field.{Field}
-use Rattle.note_types.specs.declared.value.Value.{Value}
-use Rattle.note_types.specs.declared.value.Value.TheVariants as value
-use Rattle.host_model.specs.HostPlans.{field_of}
-use Rattle.host_model.specs.Objects.{made_objects, objects_of, placed_objects, script_object, shape_of, static_object}
-use Rattle.host_model.specs.ScriptValues.{given, lent}
-use Rattle.host_model.specs.Scripts.{IsArgument, IsCallbackOf, IsNotifyOf, IsOutOf, IsWritten, all_made}
-use Rattle.host_model.specs.declared.object.TypedObject.{TypedObject}
-use Rattle.ebc_base.proofs.Lists.{within_some}
-use Rattle.script_draft.specs.Grammar.{IsWritable}
-use Rattle.script_draft.specs.Lists.{all_of, each_of}
+use Rattle.note_types.specs.declared.{fault.TomlFault.TheVariants.Name, script.Callback.Callback, script.OutValue.OutValue}
+use Rattle.host_model.specs.{ScriptValues.lent, Scripts.IsArgument, Scripts.IsCallbackOf, Scripts.IsNotifyOf, Scripts.IsOutOf}
 use Rattle.script_draft.specs.Records.{IsArgumentDraft, IsCallDraft, IsCallbackDraft, IsCellDraft, IsDraft, IsNotifyDraft, IsObjectDraft}
-use Rattle.script_draft.specs.Records.{IsOutDraft, IsWriteDraft}
-use Rattle.script_draft.specs.declared.draft.CallDraft.{CallDraft}
-use Rattle.script_draft.specs.declared.draft.NotifyDraft.{NotifyDraft}
-use Rattle.script_draft.specs.declared.draft.ObjectDraft.{ObjectDraft}
-use Rattle.script_draft.specs.declared.draft.ScriptDraft.{ScriptDraft}
-use Rattle.script_draft.specs.declared.parts.CallbackText.{CallbackText}
-use Rattle.script_draft.specs.declared.parts.CellValueText.{CellValueText}
-use Rattle.script_draft.specs.declared.parts.OutText.{OutText}
-use Rattle.script_draft.specs.declared.parts.WriteText.{WriteText}
+use Rattle.script_draft.specs.{Grammar.IsWritable, Records.IsOutDraft, Records.IsWriteDraft}
+use Rattle.script_draft.specs.declared.{draft.NotifyDraft.NotifyDraft, draft.ObjectDraft.ObjectDraft, parts.CallbackText.CallbackText}
+use Rattle.script_draft.specs.declared.parts.{CellValueText.CellValueText, OutText.OutText, WriteText.WriteText}
 use Rattle.script_draft.specs.declared.value.ArgumentText.{ArgumentText}
-use Rattle.script_draft.specs.declared.value.ArgumentText.TheVariants as argument
-use Rattle.script_draft.specs.declared.value.ValueText.{ValueText}
-use Rattle.script_draft.specs.declared.value.ValueText.TheVariants as text
-use Rattle.script_draft.proofs.DraftLaws.{all_given, found, ok_step, same_Ok}
-use Rattle.protocol_script.specs.Numbers.{field_number, function_number, method_number, narrow, shape_number, signature_number}
-use Rattle.protocol_script.specs.Resolved.{draft_shapes, field_in, resolved, resolved_argument, resolved_call, resolved_callback}
-use Rattle.protocol_script.specs.Resolved.{resolved_calls, resolved_cell, resolved_notifications, resolved_notify, resolved_object}
-use Rattle.protocol_script.specs.Resolved.{resolved_objects, resolved_out, resolved_reply, resolved_value, resolved_write, typed_shapes}
+use Rattle.script_draft.proofs.DraftLaws.{all_given, found}
+use Rattle.protocol_script.specs.Resolved.{field_in, resolved_callback, resolved_cell, resolved_out, resolved_reply, resolved_write}
+use Rattle.protocol_script.specs.{Numbers.field_number, Numbers.shape_number, Numbers.signature_number, Resolved.typed_shapes}
 use Rattle.protocol_script.specs.declared.resolve.Reply.{Reply}
 use Rattle.protocol_script.proofs.ObjectLaws.{map-flat_map, placed-all}
-use Rattle.note_types.proofs.RecordLaws.{each_none, each_more}
+use Rattle.note_types.specs.declared.value.Value.TheVariants as value
+use Rattle.script_draft.specs.declared.value.ArgumentText.TheVariants as argument
+use Rattle.script_draft.specs.declared.value.ValueText.TheVariants as text
 
 -- ---- numbers of names
 

@@ -1,13 +1,9 @@
 -- The typed objects of a script, one call more at a time.
-use Rattle.std.proofs.Common.{◌≡◌, ℕ, ◌+◌, ◌≤◌, ◌<◌, List, [], ◌∷◌, ◌++◌, length, map, take, drop, get_or, refl, sym, ap, subst, ◌∙◌}
-use Rattle.std.proofs.Common.{append_assoc, length-append, arith}
-use Rattle.std.proofs.lemmas.List.{append-nil, length-map, map-append, take-append-drop, take_all, take_more}
-use Rattle.std.specs.List.{flat_map}
-use Rattle.note_types.specs.declared.notes.Notes.{Notes}
-use Rattle.note_types.specs.declared.script.Script.{Script}
-use Rattle.note_types.specs.declared.script.ScriptCall.{ScriptCall}
-use Rattle.host_model.specs.declared.object.TypedObject.{TypedObject}
-use Rattle.host_model.specs.Objects.{made_objects, objects_of, placed_objects, script_object, static_object}
+use Rattle.protocol_script.proofs.Common.{◌≡◌, ℕ, ◌+◌, ◌≤◌, ◌<◌, List, [], ◌∷◌, ◌++◌, length, map, take, drop, get_or, refl, sym, ap, subst}
+use Rattle.protocol_script.proofs.Common.{◌∙◌, arith, length-map, map-append, flat_map, Notes, Script, ScriptCall, TypedObject}
+use Rattle.protocol_script.proofs.Common.{made_objects, objects_of, placed_objects, script_object, static_object}
+use Rattle.std.proofs.{Common.append_assoc, Common.length-append, lemmas.List.append-nil, lemmas.List.take-append-drop}
+use Rattle.std.proofs.lemmas.List.{take_all, take_more}
 
 -- ---- lists
 

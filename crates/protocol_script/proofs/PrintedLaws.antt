@@ -1,32 +1,18 @@
 -- What is printed of a value that scripts can write is read as that value.
-use Rattle.std.proofs.Common.{◌≡◌, ℕ, zero, suc, ◌+◌, ◌^◌, ◌<◌, Bool, true, false, List, [], ◌∷◌, ◌++◌, length, Option, Some, refl, sym, ap}
-use Rattle.std.proofs.Common.{subst, ◌∙◌, arith, slice_get, ⊎_elim}
-use Rattle.std.proofs.lemmas.Bool.{cases_Bool, lt-ltb}
-use Rattle.std.proofs.lemmas.Option.{none-some, same_Some, slice_get_within}
-use Rattle.std.proofs.lemmas.Slice.Eq.{bytes_eq-Decides}
-use Rattle.std.specs.List.{position, position_or_len}
-use Rattle.std.specs.Option.{option_map_or}
-use Rattle.std.specs.Prelude.{bytes_eq, codes, nat_lt, option_and_then, option_map}
-use Rattle.note_types.specs.Records.{IsNotes}
-use Rattle.note_types.specs.declared.notes.FnNote.{FnNote}
-use Rattle.note_types.specs.declared.notes.Notes.{Notes}
-use Rattle.note_types.specs.declared.seen.Seen.{Seen}
-use Rattle.note_types.specs.declared.value.Value.{Value}
-use Rattle.note_types.specs.declared.value.Value.TheVariants as value
-use Rattle.host_model.specs.ScriptValues.{given}
-use Rattle.host_model.specs.Scripts.{IsWritten}
-use Rattle.ebc_base.proofs.Lists.{within_some}
-use Rattle.script_draft.specs.Grammar as grammar
-use Rattle.script_draft.specs.Printed.{named_value, seen_text, value_text}
-use Rattle.script_draft.specs.ValueTexts.{argument_of, value_of}
-use Rattle.script_draft.specs.declared.value.ArgumentText.TheVariants as argument
-use Rattle.script_draft.specs.declared.value.ValueText.{ValueText}
-use Rattle.script_draft.specs.declared.value.ValueText.TheVariants as text
+use Rattle.protocol_script.proofs.Common.{◌≡◌, ℕ, zero, suc, ◌+◌, ◌^◌, ◌<◌, Bool, true, false, List, [], ◌∷◌, ◌++◌, length, Option, Some}
+use Rattle.protocol_script.proofs.Common.{refl, sym, ap, subst, ◌∙◌, arith, slice_get, ⊎_elim, cases_Bool, same_Some, bytes_eq-Decides}
+use Rattle.protocol_script.proofs.Common.{position, position_or_len, option_map_or, bytes_eq, codes, nat_lt, option_and_then, option_map}
+use Rattle.protocol_script.proofs.Common.{IsNotes, FnNote, Notes, Seen, Value, given, IsWritten, within_some, ValueText, function_number}
+use Rattle.protocol_script.proofs.Common.{method_number, narrow, HasNames, resolved_argument, resolved_value}
+use Rattle.std.proofs.lemmas.{Bool.lt-ltb, Option.none-some, Option.slice_get_within}
+use Rattle.script_draft.specs.{Printed.named_value, Printed.seen_text, Printed.value_text, ValueTexts.argument_of, ValueTexts.value_of}
 use Rattle.script_draft.proofs.ValueLaws.{argument_complete, value_complete}
-use Rattle.protocol_script.specs.Numbers.{function_number, method_number, narrow}
-use Rattle.protocol_script.specs.PrintedLaw.{HasNames, PrintedArgumentsAreRead, PrintedValuesAreRead}
-use Rattle.protocol_script.specs.Resolved.{resolved_argument, resolved_value}
+use Rattle.protocol_script.specs.PrintedLaw.{PrintedArgumentsAreRead, PrintedValuesAreRead}
 use Rattle.ebc_base.proofs.TableLaws.{same_name}
+use Rattle.note_types.specs.declared.value.Value.TheVariants as value
+use Rattle.script_draft.specs.Grammar as grammar
+use Rattle.script_draft.specs.declared.value.ArgumentText.TheVariants as argument
+use Rattle.script_draft.specs.declared.value.ValueText.TheVariants as text
 
 -- ---- numbers of names
 

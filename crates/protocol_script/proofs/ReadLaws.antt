@@ -1,42 +1,25 @@
 -- The functions and the methods of notes that a text stands for have names of their own, and so printed values are read.
-use Rattle.std.proofs.Common.{◌≡◌, ℕ, List, [], ◌∷◌, map, Some, None, Result, Ok, Err, refl, ap, sym, subst, ◌∙◌}
-use Rattle.std.specs.Prelude.{IfOk, bytes_eq, option_map, slice_get}
-use Rattle.std.specs.List.{AllPairs}
-use Rattle.std.proofs.lemmas.Option.{slice_get-get_or, slice_get-map}
-use Rattle.note_types.specs.declared.notes.FnNote.{FnNote}
-use Rattle.note_types.specs.declared.notes.Notes.{Notes}
-use Rattle.note_types.specs.Records.{Each, IsNotes}
-use Rattle.note_texts.specs.Grammar.{IsName}
+use Rattle.protocol_script.proofs.Common.{◌≡◌, ℕ, List, [], ◌∷◌, map, Some, None, Result, Ok, Err, refl, ap, sym, subst, ◌∙◌, IfOk}
+use Rattle.protocol_script.proofs.Common.{bytes_eq, option_map, slice_get, AllPairs, slice_get-get_or, slice_get-map, FnNote, Notes, Each}
+use Rattle.protocol_script.proofs.Common.{IsNotes, IsName, draft_of, first_repeat, HasNames, ok_then, ok_next}
 use Rattle.note_texts.specs.Keys.{document}
-use Rattle.note_draft.specs.declared.draft.FunctionDraft.{FunctionDraft}
-use Rattle.note_draft.specs.declared.draft.NotesDraft.{NotesDraft}
-use Rattle.note_draft.specs.declared.draft.SignatureDraft.{SignatureDraft}
+use Rattle.note_draft.specs.declared.draft.{FunctionDraft.FunctionDraft, NotesDraft.NotesDraft, SignatureDraft.SignatureDraft}
+use Rattle.note_draft.specs.declared.tables.NameTables.{NameTables}
+use Rattle.note_draft.specs.Once.{function_names, method_names, names_of_calls, names_of_code, names_of_data, once, repeated_in_functions}
+use Rattle.note_draft.specs.{Findings.refused, Known.known, Once.repeated_in_points}
+use Rattle.type_notes.specs.{Conditions.conditions, Notes.known_names, Notes.notes_in, Notes.notes_of, Resolved.resolved}
+use Rattle.type_notes.specs.Resolved.{resolved_function}
+use Rattle.type_notes.proofs.{ListBounds.each_map, NamesFound.none_sooner, NamesFound.nothing_refused, NamesFound.once-names}
+use Rattle.type_notes.proofs.{NotesLaws.notes_of-notes, OrderLemmas.nothing-at, Outcomes.ok_given}
+use Rattle.ebc_base.proofs.Lists.{All_at}
+use Rattle.protocol_script.proofs.{PrintedLaws.printed_arguments, PrintedLaws.printed_values, NamesApart.AreTwo, NamesApart.all_distinct}
+use Rattle.protocol_script.proofs.{NamesApart.apart_at, NamesApart.apart_distinct, NamesApart.apart_once, NamesRead.HasNamedMethod}
+use Rattle.protocol_script.proofs.NamesRead.{IsNamed, IsNamedFunction, draft_named}
+use Rattle.protocol_script.specs.ReadLaw.{ReadArgumentsAreRead, ReadNamesAreGiven, ReadValuesAreRead}
 use Rattle.note_draft.specs.declared.finding.Key.TheVariants as key
 use Rattle.note_draft.specs.declared.finding.Refusal.TheVariants as refusals
 use Rattle.note_draft.specs.declared.finding.TableList.TheVariants as list
-use Rattle.note_draft.specs.declared.tables.NameTables.{NameTables}
-use Rattle.note_draft.specs.Drafts.{draft_of}
-use Rattle.note_draft.specs.Findings.{refused}
-use Rattle.note_draft.specs.Known.{known}
-use Rattle.note_draft.specs.Once.{function_names, method_names, names_of_calls, names_of_code, names_of_data, once}
-use Rattle.note_draft.specs.Once.{repeated_in_functions, repeated_in_points}
-use Rattle.note_draft.specs.Repeats.{first_repeat}
-use Rattle.type_notes.specs.Conditions.{conditions}
-use Rattle.type_notes.specs.Notes.{known_names, notes_in, notes_of}
-use Rattle.type_notes.specs.Resolved.{resolved, resolved_function}
-use Rattle.type_notes.proofs.ListBounds.{each_map}
-use Rattle.type_notes.proofs.NamesFound.{none_sooner, nothing_refused, once-names}
 use Rattle.type_notes.proofs.NamesFound as found
-use Rattle.type_notes.proofs.NotesLaws.{notes_of-notes}
-use Rattle.type_notes.proofs.OrderLemmas.{nothing-at}
-use Rattle.type_notes.proofs.Outcomes.{ok_given}
-use Rattle.ebc_base.proofs.Lists.{All_at}
-use Rattle.protocol_script.specs.PrintedLaw.{HasNames}
-use Rattle.protocol_script.proofs.PrintedLaws.{printed_arguments, printed_values}
-use Rattle.protocol_script.specs.ReadLaw.{ReadArgumentsAreRead, ReadNamesAreGiven, ReadValuesAreRead}
-use Rattle.protocol_script.proofs.NamesApart.{AreTwo, all_distinct, apart_at, apart_distinct, apart_once}
-use Rattle.protocol_script.proofs.NamesRead.{HasNamedMethod, IsNamed, IsNamedFunction, draft_named}
-use Rattle.ebc_base.proofs.Given.{ok_then, ok_next}
 
 -- ---- functions that were named once
 

@@ -1,56 +1,30 @@
 -- A script that meets the conditions: what they say of each thing by itself.
-use Rattle.std.proofs.Common.{◌≡◌, ℕ, ◌+◌, ◌≤◌, ◌<◌, zero, suc, List, [], ◌∷◌, length, take, Option, Some, None, Result, Ok, Err, Bool}
-use Rattle.std.proofs.Common.{true, false, ◌&&◌, ◌-◌, nat_eq, refl, sym, ap, subst, subst₂, ◌∙◌, arith, slice_get, ⊎_elim, map, get_or}
-use Rattle.std.proofs.lemmas.Bool.{cases_lt, and_parts, leb-true, ltb-true, ne_eqb}
-use Rattle.std.proofs.lemmas.Bool.Decides.{nat_tests}
-use Rattle.std.proofs.lemmas.Option.{same_Some, slice_get-map}
-use Rattle.std.proofs.lemmas.List.{length-map}
-use Rattle.std.specs.List.{list_all, range_with_len, sum_by}
-use Rattle.std.specs.List.Sorted.{IsStrictlyIncreasing}
-use Rattle.std.specs.Option.{option_map, option_map_or}
-use Rattle.std.specs.Prelude.{◌||◌, nat_le, nat_lt, not, codes, ◌++◌, IfOk}
-use Rattle.ebc_base.proofs.Lists.{within_some}
+use Rattle.protocol_script.proofs.Common.{◌≡◌, ℕ, ◌+◌, ◌≤◌, ◌<◌, zero, suc, List, [], ◌∷◌, length, take, Option, Some, None, Result, Ok}
+use Rattle.protocol_script.proofs.Common.{Err, Bool, true, false, ◌&&◌, refl, sym, ap, subst, ◌∙◌, arith, slice_get, ⊎_elim, map, get_or}
+use Rattle.protocol_script.proofs.Common.{cases_lt, and_parts, ltb-true, nat_tests, same_Some, slice_get-map, length-map, list_all, sum_by}
+use Rattle.protocol_script.proofs.Common.{option_map_or, ◌||◌, nat_le, nat_lt, not, codes, ◌++◌, IfOk, within_some, row_prefix, NotesEnd}
+use Rattle.protocol_script.proofs.Common.{TomlFault, Notes, CellValue, Notify, Script, ScriptCall, ScriptObject, WriteValue, Field, Value}
+use Rattle.protocol_script.proofs.Common.{field_of, made_objects, shape_of, TypedObject, all_pass, call_args, call_passes, calls_pass}
+use Rattle.protocol_script.proofs.Common.{notify_ascends, notify_at, table_passes, tables_pass, all_settled, is_filled, is_settled}
+use Rattle.protocol_script.proofs.Common.{call_limit, calls_limit, object_limit, objects_limit, IsWritten, all_made, have_room, is_needed}
+use Rattle.protocol_script.proofs.Common.{fits_at, is_shape, resolved, ScriptDraft, ok_step, same_Ok}
+use Rattle.std.proofs.{Common.◌-◌, Common.nat_eq, Common.subst₂, lemmas.Bool.leb-true, lemmas.Bool.ne_eqb}
+use Rattle.std.specs.{List.range_with_len, List.Sorted.IsStrictlyIncreasing, Option.option_map}
 use Rattle.ebc_base.specs.Steps.{◌>>=◌, passes}
-use Rattle.note_texts.specs.Keys.{document, row_prefix}
-use Rattle.note_texts.specs.Outcome.{Gives}
+use Rattle.note_texts.specs.{Keys.document, Outcome.Gives}
 use Rattle.note_types.specs.Cells.{content_type}
-use Rattle.note_types.specs.declared.fault.NotesEnd.{NotesEnd}
-use Rattle.note_types.specs.declared.fault.TomlFault.{TomlFault}
-use Rattle.note_types.specs.declared.notes.Notes.{Notes}
-use Rattle.note_types.specs.declared.script.CellValue.{CellValue}
-use Rattle.note_types.specs.declared.script.Notify.{Notify}
-use Rattle.note_types.specs.declared.script.Script.{Script}
-use Rattle.note_types.specs.declared.script.ScriptCall.{ScriptCall}
-use Rattle.note_types.specs.declared.script.ScriptObject.{ScriptObject}
-use Rattle.note_types.specs.declared.script.WriteValue.{WriteValue}
-use Rattle.note_types.specs.declared.shape.Field.{Field}
-use Rattle.note_types.specs.declared.value.Value.{Value}
 use Rattle.note_types.specs.declared.value.Value.TheVariants.{Ptr}
-use Rattle.host_model.specs.HostPlans.{field_of, signature_params}
-use Rattle.host_model.specs.Objects.{made_objects, shape_of}
-use Rattle.host_model.specs.ScriptValues.{fits}
-use Rattle.host_model.specs.declared.object.TypedObject.{TypedObject}
-use Rattle.script_draft.specs.Lists.{all_pass}
-use Rattle.protocol_script.specs.Conditions.{all_tables_pass, args_fit, call_args, call_passes, calls_pass, conditions, has_args, is_there}
-use Rattle.protocol_script.specs.Conditions.{is_later, notify_ascends, notify_at, notify_conditions, table_conditions, table_meets}
-use Rattle.protocol_script.specs.Conditions.{table_passes, tables_pass, waits_for}
-use Rattle.protocol_script.specs.Contents.{all_settled, are_contents, cell_fits, is_by, is_filled, is_settled}
-use Rattle.protocol_script.specs.Limits.{call_limit, calls_limit, limits, object_limit, objects_limit}
-use Rattle.host_model.specs.Scripts.{IsCallOf, IsCellOf, IsObjectOf, IsScript, IsWriteOf, IsWritten, all_made, callbacks_of, have_room}
-use Rattle.host_model.specs.Scripts.{is_given, is_needed}
-use Rattle.protocol_script.specs.ShapeTests.{fits_at, is_shape}
-use Rattle.protocol_script.specs.declared.tables.TableCondition.{TableCondition}
+use Rattle.host_model.specs.{HostPlans.signature_params, ScriptValues.fits, Scripts.IsCallOf, Scripts.IsCellOf, Scripts.IsObjectOf}
+use Rattle.host_model.specs.Scripts.{IsScript, IsWriteOf, callbacks_of, is_given}
+use Rattle.protocol_script.specs.Conditions.{all_tables_pass, args_fit, conditions, has_args, is_there, is_later, notify_conditions}
+use Rattle.protocol_script.specs.{Conditions.table_conditions, Conditions.table_meets, Conditions.waits_for, Contents.are_contents}
+use Rattle.protocol_script.specs.{Contents.cell_fits, Contents.is_by, Limits.limits, Scripts.script_in, Scripts.script_of}
 use Rattle.protocol_script.specs.declared.tables.TableCondition.TheVariants.{Instances, WellFormed, Contents, Pointers}
-use Rattle.protocol_script.specs.Resolved.{resolved}
-use Rattle.protocol_script.specs.Scripts.{script_in, script_of}
-use Rattle.script_draft.specs.declared.draft.ScriptDraft.{ScriptDraft}
-use Rattle.script_draft.specs.Drafts.{draft_of}
-use Rattle.script_draft.specs.Once.{once}
-use Rattle.script_draft.specs.Records.{IsDraft}
-use Rattle.script_draft.proofs.DraftLaws.{draft_is, ok_step, same_Ok}
+use Rattle.protocol_script.specs.declared.tables.TableCondition.{TableCondition}
+use Rattle.script_draft.specs.{Drafts.draft_of, Once.once, Records.IsDraft}
+use Rattle.script_draft.proofs.DraftLaws.{draft_is}
 use Rattle.protocol_script.proofs.NumberedLaws.{IsNumberedCall, IsNumberedObject, IsNumberedScript, IsNumberedWrite, made_shapes}
-use Rattle.protocol_script.proofs.NumberedLaws.{script_for}
-use Rattle.protocol_script.proofs.ShapeLaws.{all-at, shape-of}
+use Rattle.protocol_script.proofs.{NumberedLaws.script_for, ShapeLaws.all-at, ShapeLaws.shape-of}
 
 -- ---- steps
 

@@ -1,16 +1,10 @@
 -- The test of a shape passes just where the shape is well formed.
-use Rattle.std.proofs.Common.{◌≡◌, ℕ, ◌≤◌, ◌<◌, ◌^◌, zero, suc, List, [], ◌∷◌, length, Some, Bool, true, false, ◌&&◌, refl, sym, ap, ◌∙◌}
-use Rattle.std.proofs.Common.{arith, inl, inr, ⊎_elim, slice_get}
-use Rattle.std.proofs.lemmas.Bool.{cases_Bool, cases_lt, and_parts}
-use Rattle.std.proofs.lemmas.Bool.Decides.{nat_tests}
-use Rattle.std.proofs.lemmas.Option.{same_Some}
-use Rattle.std.specs.List.{list_all}
-use Rattle.std.specs.Prelude.{nat_le, nat_lt}
+use Rattle.protocol_script.proofs.Common.{◌≡◌, ℕ, ◌≤◌, ◌<◌, ◌^◌, zero, suc, List, [], ◌∷◌, length, Some, Bool, true, false, ◌&&◌, refl, sym}
+use Rattle.protocol_script.proofs.Common.{ap, ◌∙◌, arith, inl, inr, ⊎_elim, slice_get, cases_Bool, cases_lt, and_parts, nat_tests}
+use Rattle.protocol_script.proofs.Common.{same_Some, list_all, nat_le, nat_lt, Field, no_shape, fits_at, is_shape}
 use Rattle.note_types.specs.Shapes.{AreApart, FitsAt, IsShape, end_at, size_at, start_at}
-use Rattle.note_types.specs.declared.shape.Field.{Field}
 use Rattle.note_types.specs.declared.shape.Shape.{Shape}
-use Rattle.host_model.specs.Objects.{no_shape}
-use Rattle.protocol_script.specs.ShapeTests.{all_apart, fits_at, is_apart, is_shape}
+use Rattle.protocol_script.specs.ShapeTests.{all_apart, is_apart}
 
 -- ---- tests of all items
 

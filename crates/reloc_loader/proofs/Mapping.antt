@@ -1,29 +1,21 @@
 -- The bytes of an image, one section and one relocation at a time, and in an object of memory.
-use Rattle.std.proofs.Common.{◌≡◌, ℕ, ◌+◌, ◌-◌, ◌*◌, ◌%◌, ◌/◌, ◌^◌, ◌<◌, ◌≤◌, ◌⊎◌, inl, inr, ⊎_elim, Bool, true, false, cond, List, [], ◌∷◌}
-use Rattle.std.proofs.Common.{◌++◌, length, replicate, take, get_or, refl, sym, ap, subst, ◌∙◌, arith, Option, Some, None, map, zero, suc}
-use Rattle.std.specs.Prelude.{slice_get, All, AllPairs}
-use Rattle.std.specs.List.{find}
-use Rattle.std.specs.Option.{option_map_or, option_or}
-use Rattle.std.proofs.lemmas.Bool.{cases_lt}
-use Rattle.std.proofs.lemmas.Bool.Decides.{nat_tests}
-use Rattle.std.proofs.lemmas.List.{get_or-take, get_or_past, get_or_default, length-take-le, take_all, take_more}
-use Rattle.std.proofs.lemmas.List.Elements.{All-head, All-tail}
-use Rattle.std.proofs.lemmas.List.Folds.{find-append}
+use Rattle.reloc_loader.proofs.Common.{◌≡◌, ℕ, ◌+◌, ◌%◌, ◌^◌, ◌<◌, ◌≤◌, true, List, length, take, get_or, sym, ap, subst, ◌∙◌, arith, None}
+use Rattle.reloc_loader.proofs.Common.{little_endian, put, holds, IsMemory, ranges, with_bytes, Section, laid, moved, within}
+use Rattle.std.proofs.Common.{◌-◌, ◌*◌, ◌/◌, ◌⊎◌, inl, inr, ⊎_elim, Bool, false, cond, [], ◌∷◌, ◌++◌, replicate, refl, Option, Some, map}
+use Rattle.std.proofs.{Common.zero, Common.suc, lemmas.Bool.cases_lt, lemmas.Bool.Decides.nat_tests, lemmas.List.get_or-take}
+use Rattle.std.proofs.lemmas.List.{get_or_past, get_or_default, length-take-le, take_all}
+use Rattle.std.proofs.lemmas.List.{take_more, Elements.All-head, Elements.All-tail, Folds.find-append}
 use Rattle.std.proofs.lemmas.Option.{get_or_from_slice_get, same_Some, slice_get_within}
-use Rattle.ebc_width.proofs.Laws.{by_width}
+use Rattle.std.specs.{Prelude.slice_get, Prelude.All, Prelude.AllPairs, List.find, Option.option_map_or, Option.option_or}
 use Rattle.ebc_width.proofs.ByteLaws.{little_endian-agree, little_endian-moved, overlaid-apart, overlaid-moved, overlaid-within, put-apart}
-use Rattle.ebc_width.proofs.ByteLaws.{put-moved, put-within}
-use Rattle.ebc_width.proofs.RangeLaws.{covers-inside, holds-at}
-use Rattle.ebc_width.specs.Bytes.{little_endian, overlaid, put}
-use Rattle.ebc_width.specs.Ranges.{holds}
-use Rattle.object_memory.specs.Memory.{IsMemory, IsPlaced, Memory, Object, byte_at, first_base, next_base, padded, placed, range_of, ranges}
-use Rattle.object_memory.specs.Memory.{used, with_bytes}
+use Rattle.ebc_width.proofs.{Laws.by_width, ByteLaws.put-moved, ByteLaws.put-within, RangeLaws.covers-inside, RangeLaws.holds-at}
+use Rattle.ebc_width.specs.Bytes.{overlaid}
+use Rattle.object_memory.specs.Memory.{IsPlaced, Memory, Object, byte_at, first_base, next_base, padded, placed, range_of, used}
 use Rattle.object_memory.specs.declared.ObjId.{ObjId}
 use Rattle.object_memory.proofs.Laws.{byte_at-none, byte_at-with_bytes, holds-with_bytes, with_bytes-agree, with_bytes-same}
-use Rattle.pe_image.specs.declared.image.Section.{Section}
-use Rattle.pe_image.specs.Images.{EndsBefore, IsBelow, IsSection}
-use Rattle.pe_image.specs.Mapped.{has_place, is_of, laid, moved, moved_byte, section_byte}
-use Rattle.reloc_loader.specs.Loads.{Becomes, IsPlacedAt, within}
+use Rattle.pe_image.specs.{Images.EndsBefore, Images.IsBelow, Images.IsSection, Mapped.has_place, Mapped.is_of, Mapped.moved_byte}
+use Rattle.pe_image.specs.Mapped.{section_byte}
+use Rattle.reloc_loader.specs.Loads.{Becomes, IsPlacedAt}
 
 -- ---- one section more
 

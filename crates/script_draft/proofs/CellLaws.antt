@@ -1,14 +1,9 @@
 -- The cells of a table that were seen, one more at a time, by what names them.
-use Rattle.std.proofs.Common.{◌≡◌, ℕ, ◌+◌, ◌<◌, ◌≤◌, List, [], ◌∷◌, ◌++◌, length, map, take, get_or, Bool, true, false, cond, refl, sym, ap}
-use Rattle.std.proofs.Common.{subst, ◌∙◌, arith}
-use Rattle.std.proofs.lemmas.List.{take_more, map-append}
-use Rattle.std.specs.Prelude.{◌&&◌, nat_eq, bytes_eq, not}
-use Rattle.std.specs.List.{list_any}
-use denote.Ref.{Bor}
+use Rattle.script_draft.proofs.Common.{◌≡◌, ℕ, ◌+◌, ◌<◌, ◌≤◌, List, [], ◌∷◌, ◌++◌, length, take, get_or, Bool, true, false, cond, refl, sym}
+use Rattle.script_draft.proofs.Common.{ap, subst, ◌∙◌, arith, bytes_eq, Bor, has_repeat, same_cell, CellValueText}
+use Rattle.std.proofs.{Common.map, lemmas.List.take_more, lemmas.List.map-append}
+use Rattle.std.specs.{Prelude.◌&&◌, Prelude.nat_eq, Prelude.not, List.list_any}
 use Rattle.note_draft.proofs.RepeatLaws.{AreNewBelow, AreNewBelow-next, has_repeat-some}
-use Rattle.note_draft.specs.Repeats.{has_repeat}
-use Rattle.script_draft.specs.Once.{same_cell}
-use Rattle.script_draft.specs.declared.parts.CellValueText.{CellValueText}
 
 -- what names a cell
 abbrev pub key_of : CellValueText → ℕ × List ℕ

@@ -1,49 +1,27 @@
 -- A draft that was read is within what texts may have.
-use Rattle.std.proofs.Common.{◌≡◌, ℕ, suc, ◌+◌, ◌-◌, ◌^◌, ◌<◌, ◌≤◌, ℤ, pos, negsuc, List, [], ◌∷◌, ◌++◌, Option, Some, None, Result, Ok}
-use Rattle.std.proofs.Common.{Err, Bool, true, false, nat_eq, if◌then◌else◌, refl, sym, ap, ◌∙◌, subst, arith}
-use Rattle.std.proofs.lemmas.Bool.{true≢false}
-use Rattle.std.proofs.lemmas.Bool.Decides.{nat_tests}
-use Rattle.std.proofs.lemmas.Option.{option_and_then_some, same_Some}
-use Rattle.std.specs.Prelude.{IfOk, codes}
+use Rattle.script_draft.proofs.Common.{◌≡◌, ℕ, suc, ◌+◌, ◌-◌, ◌^◌, ◌<◌, ◌≤◌, List, [], ◌∷◌, ◌++◌, Option, Some, None, Result, Ok, Err, Bool}
+use Rattle.script_draft.proofs.Common.{true, false, refl, sym, ap, ◌∙◌, subst, arith, nat_tests, option_and_then_some, same_Some, codes}
+use Rattle.script_draft.proofs.Common.{decimal-number_of, name_of-sound, map_some, moved, NotesEnd, TomlFault, IsWritable, all_of, pieces}
+use Rattle.script_draft.proofs.Common.{values_of, argument_of, value_of, CellValueText, ArgumentText, Out, Lent, Given, ValueText}
+use Rattle.std.proofs.{Common.ℤ, Common.pos, Common.negsuc, Common.nat_eq, Common.if◌then◌else◌, lemmas.Bool.true≢false}
+use Rattle.std.specs.Prelude.{IfOk}
 use Rattle.toml.specs.Data.{Data, Items, Members, item, no_items}
-use Rattle.ebc_base.specs.Steps.{◌>>=◌, or_else}
-use Rattle.note_texts.specs.Grammar.{IsName}
-use Rattle.note_texts.specs.Keys.{field, natural_in, number_at, row_prefix, text_at, text_of, whole_number}
-use Rattle.note_texts.specs.Lists.{count, each, row_of, rows_of, tables_at, texts_at, texts_of}
-use Rattle.note_texts.specs.Numbers.{number_of}
-use Rattle.note_texts.specs.Outcome.{Gives}
-use Rattle.note_texts.specs.Splits.{parts_at, split_at}
-use Rattle.note_texts.proofs.NumberLaws.{decimal-number_of}
-use Rattle.note_texts.proofs.NumberRanges.{name_of-sound}
-use Rattle.note_texts.proofs.Tables.{map_some, moved}
+use Rattle.ebc_base.specs.{Steps.◌>>=◌, Steps.or_else, Names.name_of}
+use Rattle.note_texts.specs.{Grammar.IsName, Keys.field, Keys.natural_in, Keys.number_at, Keys.row_prefix, Keys.text_at, Keys.text_of}
+use Rattle.note_texts.specs.{Keys.whole_number, Lists.count, Lists.each, Lists.row_of, Lists.rows_of, Lists.tables_at, Lists.texts_at}
+use Rattle.note_texts.specs.{Lists.texts_of, Numbers.number_of, Outcome.Gives, Splits.parts_at, Splits.split_at}
 use Rattle.note_draft.proofs.VersionLaws.{is_version}
 use Rattle.note_types.specs.Records.{Each}
-use Rattle.note_types.specs.declared.fault.NotesEnd.{NotesEnd}
-use Rattle.note_types.specs.declared.fault.TomlFault.{TomlFault}
 use Rattle.note_types.specs.declared.fault.TomlFault.TheVariants.{Range}
-use Rattle.script_draft.specs.Drafts.{call_of, draft_of, most_items, notifications_of, notify_of, object_draft, reply_of}
-use Rattle.script_draft.specs.Grammar.{IsWritable}
-use Rattle.script_draft.specs.Lists.{all_of}
-use Rattle.script_draft.specs.PartTexts.{callback_of, cell_value_of, out_of, values_after, write_of}
-use Rattle.script_draft.specs.Pieces.{pieces, values_of}
 use Rattle.script_draft.specs.Records.{IsArgumentDraft, IsCallDraft, IsCallbackDraft, IsCellDraft, IsDraft, IsNotifyDraft, IsObjectDraft}
-use Rattle.script_draft.specs.Records.{IsOutDraft, IsWriteDraft}
-use Rattle.script_draft.specs.ValueTexts.{argument_of, value_of}
-use Rattle.script_draft.specs.declared.draft.CallDraft.{CallDraft}
-use Rattle.script_draft.specs.declared.draft.NotifyDraft.{NotifyDraft}
-use Rattle.script_draft.specs.declared.draft.ObjectDraft.{ObjectDraft}
-use Rattle.script_draft.specs.declared.draft.ScriptDraft.{ScriptDraft}
-use Rattle.script_draft.specs.declared.parts.CallbackText.{CallbackText}
-use Rattle.script_draft.specs.declared.parts.CellValueText.{CellValueText}
-use Rattle.script_draft.specs.declared.parts.OutText.{OutText}
-use Rattle.script_draft.specs.declared.parts.WriteText.{WriteText}
-use Rattle.script_draft.specs.declared.reading.Reply.{Reply}
-use Rattle.script_draft.specs.declared.value.ArgumentText.{ArgumentText}
-use Rattle.script_draft.specs.declared.value.ArgumentText.TheVariants.{Out, Lent, Given}
-use Rattle.script_draft.specs.declared.value.ValueText.{ValueText}
+use Rattle.script_draft.specs.Drafts.{call_of, draft_of, most_items, notifications_of, notify_of}
+use Rattle.script_draft.specs.{Drafts.object_draft, Drafts.reply_of, PartTexts.callback_of, PartTexts.cell_value_of, PartTexts.out_of}
+use Rattle.script_draft.specs.{PartTexts.values_after, PartTexts.write_of, Records.IsOutDraft, Records.IsWriteDraft}
+use Rattle.script_draft.specs.declared.draft.{CallDraft.CallDraft, NotifyDraft.NotifyDraft, ObjectDraft.ObjectDraft}
+use Rattle.script_draft.specs.declared.{draft.ScriptDraft.ScriptDraft, parts.CallbackText.CallbackText, parts.OutText.OutText}
+use Rattle.script_draft.specs.declared.{parts.WriteText.WriteText, reading.Reply.Reply}
 use Rattle.script_draft.proofs.ValueLaws.{argument_sound, value_sound}
 use Rattle.note_types.proofs.RecordLaws.{each_none, each_more}
-use Rattle.ebc_base.specs.Names.{name_of}
 
 -- ---- steps
 

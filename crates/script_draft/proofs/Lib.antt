@@ -1,3 +1,4 @@
+pub mod Common
 pub mod CellLaws
 pub mod DraftLaws
 pub mod ListLaws

@@ -1,15 +1,12 @@
 -- What the items of a list give, one item more at a time, as a loop does.
-use Rattle.std.proofs.Common.{◌≡◌, ℕ, ◌+◌, ◌≤◌, ◌<◌, List, [], ◌∷◌, ◌++◌, length, get_or, drop, Option, Some, None, Result, Ok, Err, refl}
-use Rattle.std.proofs.Common.{sym, ap, ◌∙◌, append_assoc, option_map, arith}
-use Rattle.std.proofs.lemmas.Grind.{common_steps}
-use Rattle.std.proofs.lemmas.List.{append-nil}
-use Rattle.note_types.specs.declared.fault.TomlFault.{TomlFault}
-use Rattle.note_types.specs.declared.fault.NotesEnd.{NotesEnd}
-use Rattle.note_types.specs.declared.fault.NotesEnd.TheVariants as ends
+use Rattle.script_draft.proofs.Common.{◌≡◌, ℕ, ◌+◌, ◌≤◌, ◌<◌, List, [], ◌∷◌, ◌++◌, length, get_or, drop, Option, Some, None, Result, Ok}
+use Rattle.script_draft.proofs.Common.{Err, refl, sym, ap, ◌∙◌, option_map, arith, TomlFault, NotesEnd, all_of, all_pass}
+use Rattle.std.proofs.{Common.append_assoc, lemmas.Grind.common_steps, lemmas.List.append-nil}
 use Rattle.ebc_base.specs.Steps.{◌>>=◌}
 use Rattle.note_texts.specs.Outcome.{Fails}
 use Rattle.note_texts.proofs.Loop.{with_front}
-use Rattle.script_draft.specs.Lists.{all_of, all_pass, each_of}
+use Rattle.script_draft.specs.Lists.{each_of}
+use Rattle.note_types.specs.declared.fault.NotesEnd.TheVariants as ends
 
 -- the items from number i on, of which there is one
 pub from_item : {A : Type 0} (xs : List A) (i : ℕ) (x : A) → i < length xs → x ≡ get_or xs i x → drop i xs ≡ x ∷ drop (i + 1) xs

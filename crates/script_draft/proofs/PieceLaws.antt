@@ -1,17 +1,11 @@
 -- A text is cut where `, ` first stands in it, and its pieces are those that the cuts leave.
-use Rattle.std.proofs.Common.{◌≡◌, ℕ, ◌+◌, ◌≤◌, ◌<◌, ◌==◌, zero, suc, List, [], ◌∷◌, ◌++◌, length, take, drop, Option, Some, None, Bool}
-use Rattle.std.proofs.Common.{true, false, refl, sym, ap, subst, cond, ◌∙◌, arith, inl, inr, option_map}
-use Rattle.std.proofs.lemmas.Bool.{cases_Bool, and_parts}
-use Rattle.std.proofs.lemmas.Bool.Decides.{nat_tests}
-use Rattle.std.proofs.lemmas.Option.{same_Some}
-use Rattle.std.specs.Option.{MatchOption}
-use Rattle.std.specs.Prelude.{codes}
-use Rattle.std.specs.Str.Pattern.{FindsText, HasTextAt, LacksTextAt, SplitsAroundMatch}
-use denote.Ref.{Bor}
-use Rattle.script_draft.specs.Lists.{all_of}
-use Rattle.script_draft.specs.Pieces.{cut, is_comma, onto_first, pieces}
-use Rattle.script_draft.specs.ValueTexts.{value_of}
-use Rattle.script_draft.specs.declared.value.ValueText.{ValueText}
+use Rattle.script_draft.proofs.Common.{◌≡◌, ℕ, ◌+◌, ◌≤◌, ◌<◌, suc, List, [], ◌∷◌, ◌++◌, length, take, drop, Option, Some, None, Bool, true}
+use Rattle.script_draft.proofs.Common.{false, refl, sym, ap, subst, cond, ◌∙◌, arith, inl, inr, option_map, nat_tests, same_Some, codes}
+use Rattle.script_draft.proofs.Common.{Bor, all_of, cut, pieces, value_of, ValueText}
+use Rattle.std.proofs.{Common.◌==◌, Common.zero, lemmas.Bool.cases_Bool, lemmas.Bool.and_parts}
+use Rattle.std.specs.{Option.MatchOption, Str.Pattern.FindsText, Str.Pattern.HasTextAt, Str.Pattern.LacksTextAt}
+use Rattle.std.specs.Str.Pattern.{SplitsAroundMatch}
+use Rattle.script_draft.specs.Pieces.{is_comma, onto_first}
 use Rattle.script_draft.proofs.ListLaws.{all-done, all-on, all-stop, none_left, onto}
 
 are_comma : (b c : ℕ) → is_comma b c ≡ true → (b ≡ 44) × (c ≡ 32)

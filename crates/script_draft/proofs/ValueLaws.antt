@@ -1,19 +1,14 @@
 -- Values and arguments are read just where the grammar has them.
-use Rattle.std.proofs.Common.{◌≡◌, ℕ, ◌+◌, ◌-◌, ◌^◌, ◌<◌, ◌≤◌, List, ◌∷◌, ◌++◌, Option, Some, true, false, refl, ◌∙◌, arith, inl, inr}
-use Rattle.std.proofs.lemmas.Option.{option_and_then_some}
-use Rattle.std.specs.Prelude.{bytes_eq, codes, option_map}
+use Rattle.script_draft.proofs.Common.{◌≡◌, ℕ, ◌+◌, ◌-◌, ◌^◌, ◌<◌, ◌≤◌, List, ◌∷◌, ◌++◌, Option, Some, true, false, refl, ◌∙◌, arith, inl}
+use Rattle.script_draft.proofs.Common.{inr, option_and_then_some, bytes_eq, codes, option_map, decimal-number_of, name_of-sound, map_some}
+use Rattle.script_draft.proofs.Common.{moved, IsWritable, argument_of, value_of, ArgumentText, Out, Lent, Given, ValueText}
 use Rattle.std.specs.Fmt.{decimal}
-use Rattle.note_texts.specs.Grammar.{ReadsJust}
-use Rattle.note_texts.specs.Ranges.{size_of}
-use Rattle.note_texts.proofs.NumberLaws.{decimal-number_of, number_of-decimal}
-use Rattle.note_texts.proofs.NumberRanges.{decimal_lacks, name_of-complete, name_of-sound, number_in-complete, number_in-sound}
-use Rattle.note_texts.proofs.SplitLaws.{lacks, parts_at-mark, parts_at-none, split_at-mark, split_cases}
-use Rattle.note_texts.proofs.Tables.{by_word, map_some, moved, none_read}
-use Rattle.script_draft.specs.Grammar.{IsArgumentText, IsValueText, IsWritable, value_text}
-use Rattle.script_draft.specs.ValueTexts.{argument_of, given_of, instance_of, marked_value, plain_value, status_by, status_of, value_of}
-use Rattle.script_draft.specs.declared.value.ArgumentText.{ArgumentText}
-use Rattle.script_draft.specs.declared.value.ArgumentText.TheVariants.{Out, Lent, Given}
-use Rattle.script_draft.specs.declared.value.ValueText.{ValueText}
+use Rattle.note_texts.specs.{Grammar.ReadsJust, Ranges.size_of}
+use Rattle.note_texts.proofs.{NumberLaws.number_of-decimal, NumberRanges.decimal_lacks, NumberRanges.name_of-complete}
+use Rattle.note_texts.proofs.{NumberRanges.number_in-complete, NumberRanges.number_in-sound, SplitLaws.lacks, SplitLaws.parts_at-mark}
+use Rattle.note_texts.proofs.{SplitLaws.parts_at-none, SplitLaws.split_at-mark, SplitLaws.split_cases, Tables.by_word, Tables.none_read}
+use Rattle.script_draft.specs.{Grammar.IsArgumentText, Grammar.IsValueText, Grammar.value_text, ValueTexts.given_of, ValueTexts.instance_of}
+use Rattle.script_draft.specs.ValueTexts.{marked_value, plain_value, status_by, status_of}
 use Rattle.script_draft.specs.declared.value.ValueText.TheVariants.{Int, Size, Ptr, Null, StatusOk, StatusError, Handle, Entry, Method, Any}
 
 -- ---- what is read is written so

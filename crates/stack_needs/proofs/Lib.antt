@@ -1,2 +1,3 @@
+pub mod Common
 pub mod StackLaws
 pub mod WayLaws

@@ -1,13 +1,10 @@
 -- The functions whose calls are being looked at, one more and one less.
-use Rattle.std.proofs.Common.{◌≡◌, ◌⊎◌, ℕ, zero, suc, ◌<◌, List, [], ◌∷◌, ◌++◌, length, Some}
-use Rattle.std.proofs.Common.{refl, sym, ap, subst, ◌∙◌, inl, inr, ⊎_elim, arith}
-use Rattle.std.specs.Prelude.{slice_get, slice_set}
-use Rattle.std.proofs.lemmas.List.{map-append}
+use Rattle.stack_needs.proofs.Common.{◌≡◌, ℕ, zero, suc, List, [], ◌∷◌, ◌++◌, length, Some, refl, sym, ap, subst, ◌∙◌, inl, inr, ⊎_elim}
+use Rattle.stack_needs.proofs.Common.{arith, slice_get, IsStack, functions_of, Mark, Open}
+use Rattle.std.proofs.{Common.◌⊎◌, Common.◌<◌, lemmas.List.map-append}
+use Rattle.std.specs.Prelude.{slice_set}
 use Rattle.ebc_base.proofs.Lists.{slice_get-front}
-use Rattle.stack_needs.specs.Calls.{Leads, LeadsIn}
-use Rattle.stack_needs.specs.Walks.{IsStack, LastCalls, functions_of}
-use Rattle.stack_needs.specs.declared.order.Mark.{Mark}
-use Rattle.stack_needs.specs.declared.order.Mark.TheVariants.{Open}
+use Rattle.stack_needs.specs.{Calls.Leads, Calls.LeadsIn, Walks.LastCalls}
 use Rattle.stack_needs.specs.declared.order.Visit.{Visit}
 
 -- ---- steps

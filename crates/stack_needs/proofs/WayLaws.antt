@@ -1,28 +1,20 @@
 -- A way one instruction longer.
-use Rattle.std.proofs.Common.{◌≡◌, ℕ, zero, suc, ◌+◌, ◌*◌, List, [], ◌∷◌, ◌++◌, Option, Some, length, None, IfSome}
-use Rattle.std.proofs.Common.{true, false, nat_eq, pos, get_or, refl, sym, ap, subst, arith, ◌∙◌, ⊎_elim}
-use Rattle.std.proofs.lemmas.List.Quantifiers.{position-Some}
-use Rattle.std.proofs.lemmas.Option.{slice_get-get_or}
+use Rattle.stack_needs.proofs.Common.{◌≡◌, ℕ, zero, suc, List, [], ◌∷◌, ◌++◌, Some, length, refl, sym, ap, subst, arith, ◌∙◌, ⊎_elim}
+use Rattle.stack_needs.proofs.Common.{slice_get, Calls, AreCalls, Sees, Walked, Comes, Depth}
+use Rattle.std.proofs.Common.{◌+◌, ◌*◌, Option, None, IfSome, true, false, nat_eq, pos, get_or}
+use Rattle.std.proofs.lemmas.{List.Quantifiers.position-Some, Option.slice_get-get_or, Bool.Decides.Decides-int_eq}
 use Rattle.rules_flow.specs.Found.{is_at, number_at}
-use Rattle.std.specs.Prelude.{slice_get, slice_set, ◌&&◌}
-use Rattle.std.specs.Ordering.{int_eq}
-use Rattle.std.proofs.lemmas.Bool.Decides.{Decides-int_eq}
+use Rattle.std.specs.{Prelude.slice_set, Prelude.◌&&◌, Ordering.int_eq}
 use Rattle.ebc_base.proofs.Lists.{All_at}
-use Rattle.note_types.specs.declared.notes.Notes.{Notes}
-use Rattle.stack_needs.specs.Calls.{Calls, CallsFrom, HasCause, called_place}
-use Rattle.stack_needs.specs.Walks.{AreCalls, AreWritten, EndsSearch, EndsWalk, IsCallee, Sees}
-use Rattle.stack_needs.specs.declared.outcome.NotFound.{NotFound}
-use Rattle.stack_needs.specs.declared.outcome.NotFound.TheVariants as ends
-use Rattle.stack_needs.specs.declared.walk.Called.{Called}
-use Rattle.stack_needs.specs.declared.walk.Walked.{Walked}
+use Rattle.note_types.specs.declared.notes.{Notes.Notes, FnNote.FnNote}
+use Rattle.stack_needs.specs.{Calls.CallsFrom, Calls.HasCause, Calls.called_place, Walks.AreWritten, Walks.EndsSearch, Walks.EndsWalk}
+use Rattle.stack_needs.specs.{Walks.IsCallee, Depths.after, Depths.no_depth, Ways.ComesBy, Ways.LeadsTo}
+use Rattle.stack_needs.specs.declared.{outcome.NotFound.NotFound, walk.Called.Called}
 use Rattle.stack_needs.proofs.StackLaws.{leads-by, push-cases, set-cases}
 use Rattle.ebc_insn.specs.declared.Insn.{Insn}
-use Rattle.note_types.specs.declared.notes.FnNote.{FnNote}
 use Rattle.pe_image.specs.declared.image.Image.{Image}
 use Rattle.rules_image.specs.Images.{IsDecoded, reloc_at}
-use Rattle.stack_needs.specs.Depths.{after, no_depth}
-use Rattle.stack_needs.specs.Ways.{Comes, ComesBy, LeadsTo}
-use Rattle.stack_needs.specs.declared.depth.Depth.{Depth}
+use Rattle.stack_needs.specs.declared.outcome.NotFound.TheVariants as ends
 
 pub comes-first : (image : Image) (f : FnNote) → Comes image f f.place no_depth
 unfolding ComesBy

@@ -1,18 +1,11 @@
 -- What the neutral machine reads at a place is decoded there.
-use Rattle.std.proofs.Common.{◌≡◌, ℕ, zero, suc, ◌+◌, ◌-◌, ◌<◌, ◌≤◌, length, Some, Result, Ok, Err, sym, ap, ◌∙◌, subst, arith}
-use Rattle.std.proofs.lemmas.List.Elements.{All-from_get_or}
-use Rattle.std.proofs.lemmas.Option.{same_Some, none-some}
-use Rattle.ebc_decode.specs.Reading.{read}
+use Rattle.step_sound.proofs.Common.{◌≡◌, ℕ, zero, suc, ◌+◌, ◌-◌, ◌<◌, ◌≤◌, length, Some, Ok, Err, sym, ap, ◌∙◌, subst, arith, same_Some}
+use Rattle.step_sound.proofs.Common.{none-some, read, spelling, Insn, window, instruction_at, or_none, image_byte}
+use Rattle.std.proofs.{Common.Result, lemmas.List.Elements.All-from_get_or}
 use Rattle.ebc_decode.specs.declared.DecodeFault.{DecodeFault}
-use Rattle.ebc_decode.proofs.Laws.{read_length, read_spells}
-use Rattle.ebc_decode.proofs.Numbers.{IsBytes}
-use Rattle.ebc_insn.specs.Spelling.{spelling}
-use Rattle.ebc_insn.specs.declared.Insn.{Insn}
-use Rattle.ebc_width.specs.Bytes.{window}
+use Rattle.ebc_decode.proofs.{Laws.read_length, Laws.read_spells, Numbers.IsBytes}
 use Rattle.ebc_width.proofs.ByteLaws.{length-window, take-window}
-use Rattle.neutral_machine.specs.NeutralImage.{instruction_at, or_none}
 use Rattle.step_sound.specs.Loaded.{ReadIsDecoded}
-use Rattle.pe_image.specs.Mapped.{image_byte}
 use Rattle.rules_image.proofs.Decoding.{decoded_at}
 
 -- ---- windows

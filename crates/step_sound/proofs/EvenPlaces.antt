@@ -1,24 +1,16 @@
 -- The places of functions are even, and so are those of points.
-use Rattle.std.specs.List.{find}
-use Rattle.std.proofs.Common.{◌≡◌, ◌⊎◌, ℕ, zero, suc, ◌-◌, ◌%◌, ◌<◌, ◌≤◌, Bool, true, false, if◌then◌else◌, nat_lt, nat_le, List, [], ◌∷◌}
-use Rattle.std.proofs.Common.{length, Some, refl, sym, ap, ◌∙◌, subst, arith, inl, inr, ⊎_elim, slice_get}
-use Rattle.std.proofs.lemmas.Bool.{cases_lt, and_parts, leb-true, ltb-true}
-use Rattle.std.proofs.lemmas.Option.{none-some, same_Some}
+use Rattle.step_sound.proofs.Common.{find, ◌≡◌, ◌⊎◌, ℕ, zero, suc, ◌-◌, ◌%◌, ◌<◌, ◌≤◌, Bool, true, false, if◌then◌else◌, nat_lt, nat_le}
+use Rattle.step_sound.proofs.Common.{List, [], ◌∷◌, length, Some, refl, sym, ap, ◌∙◌, subst, arith, inl, inr, ⊎_elim, slice_get, cases_lt}
+use Rattle.step_sound.proofs.Common.{and_parts, leb-true, ltb-true, none-some, same_Some, spelling, Insn, FnNote, Notes, Image, spelled_at}
 use Rattle.std.proofs.lemmas.List.{length-append}
-use Rattle.ebc_insn.specs.Spelling.{spelling, bytes_of, code_of, field_bytes}
-use Rattle.ebc_insn.specs.declared.Insn.{Insn}
+use Rattle.ebc_insn.specs.Spelling.{bytes_of, code_of, field_bytes}
 use Rattle.ebc_insn.specs.declared.code.Field.{Field}
-use Rattle.ebc_insn.specs.declared.code.Field.TheVariants as fields
 use Rattle.note_types.specs.Records.{IsNotes, Each, has_place, function_at}
-use Rattle.note_types.specs.declared.notes.FnNote.{FnNote}
-use Rattle.note_types.specs.declared.notes.Notes.{Notes}
 use Rattle.note_types.specs.declared.notes.Point.{Point}
-use Rattle.pe_image.specs.declared.image.Image.{Image}
-use Rattle.rules_image.specs.Images.{FunctionHolds}
-use Rattle.rules_image.specs.Places.{Leads, IsPlaceOf}
+use Rattle.rules_image.specs.{Images.FunctionHolds, Places.Leads, Places.IsPlaceOf}
 use Rattle.width_checker.proofs.Leading.{decode_later}
 use Rattle.step_sound.specs.PlaceStates.{PlacesHold}
-use Rattle.rules_image.proofs.Decoding.{spelled_at}
+use Rattle.ebc_insn.specs.declared.code.Field.TheVariants as fields
 
 -- ---- places are even
 

@@ -1,15 +1,11 @@
 -- What a frame of the host takes of the stack, with the functions that stand upon it.
-use Rattle.std.proofs.Common.{◌≡◌, ℕ, zero, suc, ◌+◌, ◌≤◌, List, [], ◌∷◌, drop, Option, Some, sym, ap, ◌∙◌, arith, slice_get}
-use Rattle.std.proofs.lemmas.Option.{same_Some, none-some}
-use Rattle.ebc_width.specs.Width.{IsWidth}
-use Rattle.note_types.specs.declared.notes.FnNote.{FnNote}
-use Rattle.neutral_machine.specs.Config.{FunctionFrame, Frame, Function, Host, HostFrame}
+use Rattle.step_sound.proofs.Common.{◌≡◌, ℕ, zero, suc, ◌+◌, ◌≤◌, List, [], ◌∷◌, Option, Some, sym, ap, ◌∙◌, arith, slice_get, same_Some}
+use Rattle.step_sound.proofs.Common.{none-some, IsWidth, FnNote, FunctionFrame, Frame, Function, Host, HostFrame, Memory, World}
+use Rattle.step_sound.proofs.Common.{live_memory, FramesKeep}
+use Rattle.std.proofs.Common.{drop}
 use Rattle.neutral_machine.specs.Layout.{height}
-use Rattle.neutral_machine.specs.Memory.{Memory}
 use Rattle.host_model.specs.Placements.{frame_bytes, pair_at, params_bytes, return_cell}
-use Rattle.host_model.specs.World.{World}
-use Rattle.invariant_laws.specs.Live.{live_memory}
-use Rattle.invariant_laws.specs.Sound.{FrameBelow, FramesKeep}
+use Rattle.invariant_laws.specs.Sound.{FrameBelow}
 use Rattle.typing_laws.proofs.Rooms.{params_height, within_at}
 use Rattle.step_sound.specs.HostStack.{HostFramesFit, TopHostFits, top_bytes, top_host}
 

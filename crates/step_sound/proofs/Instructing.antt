@@ -1,52 +1,34 @@
 -- An instruction that its rule accepts: what holds of a configuration holds of the one after it.
+use Rattle.step_sound.proofs.Common.{◌≡◌, ℕ, suc, ◌+◌, ◌<◌, ◌≤◌, Bool, true, false, if◌then◌else◌, nat_eq, ◌&&◌, List, [], ◌∷◌, map, length}
+use Rattle.step_sound.proofs.Common.{Some, None, option_and_then, refl, sym, ap, ◌∙◌, subst, subst₂, arith, ⊎_elim, eq-eqb, true≢false}
+use Rattle.step_sound.proofs.Common.{Insn, type_of, Notes, State, Successors, FunctionFrame, Frame, Function, Host, Config, call_under_way}
+use Rattle.step_sound.proofs.Common.{with_call, Memory, memory_of, thunk_made, thunk_function, next_thunk, Outcome, Gives, Raises, Stuck}
+use Rattle.step_sound.proofs.Common.{NativeCall, NoCall, Asked, one_thunk, Neutral, World, Site, NeutralEnd, Next, Native, MakeThunk}
+use Rattle.step_sound.proofs.Common.{executed, Accepts, live_memory, EndsSound, FramesKeep, States, RunsAt, TopHolds, GateHolds, SpotHolds}
+use Rattle.step_sound.proofs.Common.{Holds, StatesFitBelow, RunWorld}
 use Rattle.std.specs.Option.{option_map}
-use Rattle.std.proofs.Common.{◌≡◌, ℕ, suc, ◌+◌, ◌<◌, ◌≤◌, Bool, true, false, if◌then◌else◌, nat_eq, ◌&&◌, List, [], ◌∷◌, map, length, Some}
-use Rattle.std.proofs.Common.{None, option_and_then, refl, sym, ap, ◌∙◌, subst, subst₂, arith, ⊎_elim}
-use Rattle.std.proofs.lemmas.Bool.{eq-eqb, true≢false}
-use Rattle.ebc_insn.specs.declared.Insn.{Insn}
-use Rattle.ebc_insn.specs.declared.Insn.TheVariants as insns
-use Rattle.note_types.specs.Below.{Below, below_any, below_equal, below_range, below_pointer, below_null, below_status, below_grants}
-use Rattle.note_types.specs.Notes.{entry_state}
-use Rattle.note_types.specs.States.{type_of}
-use Rattle.note_types.specs.declared.ending.Ending.TheVariants as ending
-use Rattle.note_types.specs.declared.exception.Exception.{Exception}
-use Rattle.note_types.specs.declared.exception.Exception.TheVariants as raises
-use Rattle.note_types.specs.declared.notes.Notes.{Notes}
-use Rattle.note_types.specs.declared.spot.Spot.TheVariants as spot
-use Rattle.note_types.specs.declared.state.State.{State}
-use Rattle.note_types.specs.declared.types.Ty.{Ty}
-use Rattle.note_types.specs.declared.types.Ty.TheVariants as ty
-use Rattle.rules_flow.specs.declared.successors.Successors.{Successors}
-use Rattle.neutral_machine.specs.Config.{Registers, FunctionFrame, Frame, Function, Host, Config, depth, hosts, call_under_way, with_call}
-use Rattle.neutral_machine.specs.Config.{locals_at}
-use Rattle.neutral_machine.specs.FitsState.{FitsState}
-use Rattle.neutral_machine.specs.Memory.{Memory, memory_of}
-use Rattle.neutral_machine.specs.NeutralHost.{thunk_made, thunk_function, next_thunk}
-use Rattle.neutral_machine.specs.Outcomes.{Outcome, Gives, Raises, Stuck}
-use Rattle.host_model.specs.Placements.{frame_limit}
-use Rattle.host_model.specs.Progress.{ScriptPlace, NativeCall, NoCall, Asked, one_thunk}
-use Rattle.host_model.specs.Values.{Neutral}
-use Rattle.host_model.specs.World.{World}
-use Rattle.neutral_machine.specs.Rows.{Site, NeutralEnd, Next, Native, MakeThunk, executed, frame_without, call_without}
-use Rattle.invariant_laws.specs.Accepts.{Accepts}
-use Rattle.invariant_laws.specs.Asked.{GivenByCall}
-use Rattle.invariant_laws.specs.Later.{Later, IsFresh, WillFit}
-use Rattle.invariant_laws.specs.Live.{live_memory}
-use Rattle.typing_laws.specs.OneRule.{GoesOn, Enters, Returns, GoesBack, Asks, Makes, EndsSound}
-use Rattle.invariant_laws.specs.Sound.{FramesKeep, SoundBelow, TopFits}
-use Rattle.invariant_laws.specs.Waiting.{States, Waits, AsksWell, BelowFunction, Chain}
-use Rattle.invariant_laws.specs.Endings.{RaisesOnlyDivideError}
-use Rattle.invariant_laws.specs.Holds.{RunsAt, TopHolds, GateHolds, SpotHolds, GoesOnWell, Holds}
+use Rattle.note_types.specs.Below.{Below, below_any, below_equal, below_range, below_pointer, below_null}
+use Rattle.note_types.specs.{Below.below_status, Below.below_grants, Notes.entry_state}
+use Rattle.note_types.specs.declared.{exception.Exception.Exception, types.Ty.Ty}
+use Rattle.neutral_machine.specs.{Config.Registers, Config.depth, Config.hosts, Config.locals_at, FitsState.FitsState, Rows.frame_without}
+use Rattle.neutral_machine.specs.Rows.{call_without}
+use Rattle.host_model.specs.{Placements.frame_limit, Progress.ScriptPlace}
+use Rattle.invariant_laws.specs.{Asked.GivenByCall, Later.Later, Later.IsFresh, Later.WillFit, Sound.SoundBelow, Sound.TopFits}
+use Rattle.invariant_laws.specs.{Waiting.Waits, Waiting.AsksWell, Waiting.BelowFunction, Waiting.Chain, Endings.RaisesOnlyDivideError}
+use Rattle.invariant_laws.specs.{Holds.GoesOnWell, Hosted.EntersAs, Hosted.as_entry, Hosted.as_point}
+use Rattle.typing_laws.specs.OneRule.{GoesOn, Enters, Returns, GoesBack, Asks, Makes}
 use Rattle.neutral_machine.proofs.Keeping.{moves_between}
-use Rattle.invariant_laws.proofs.After.{FramesAfter, stays, drops, enters, leaves, Left, instruction_leaves}
-use Rattle.invariant_laws.proofs.Later.{live_later, will_later}
 use Rattle.invariant_laws.proofs.Chains.{arguments_later, below_later, chain_later, below_without, chain_without, without, call_map}
-use Rattle.invariant_laws.proofs.Chains.{chain_all}
-use Rattle.invariant_laws.proofs.Marks.{depth_call, locals_call, hosts_call, frames_call, chain_call}
-use Rattle.invariant_laws.proofs.Same.{SameMemory, same_later, live_same, frames_later, cells_same}
-use Rattle.invariant_laws.specs.LaterLaws.{StatesFitBelow}
-use Rattle.invariant_laws.specs.Hosted.{EntersAs, as_entry, as_point, RunWorld}
+use Rattle.invariant_laws.proofs.After.{FramesAfter, stays, drops, enters, leaves, Left}
+use Rattle.invariant_laws.proofs.{After.instruction_leaves, Later.live_later, Later.will_later, Chains.chain_all, Marks.depth_call}
+use Rattle.invariant_laws.proofs.{Marks.locals_call, Marks.hosts_call, Marks.frames_call, Marks.chain_call, Same.SameMemory}
+use Rattle.invariant_laws.proofs.Same.{same_later, live_same, frames_later, cells_same}
 use Rattle.step_sound.specs.PlaceStates.{Reached, LeadsTo}
+use Rattle.ebc_insn.specs.declared.Insn.TheVariants as insns
+use Rattle.note_types.specs.declared.ending.Ending.TheVariants as ending
+use Rattle.note_types.specs.declared.exception.Exception.TheVariants as raises
+use Rattle.note_types.specs.declared.spot.Spot.TheVariants as spot
+use Rattle.note_types.specs.declared.types.Ty.TheVariants as ty
 
 -- ---- what a state is below
 

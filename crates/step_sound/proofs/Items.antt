@@ -1,9 +1,8 @@
 -- What holds of the items of a list, shown one by one; and numbers that a test compares.
-use Rattle.std.proofs.Common.{◌≡◌, ℕ, zero, suc, Bool, true, List, [], ◌∷◌, Some, All, AllPairs, subst, arith, slice_get}
-use Rattle.std.specs.Prelude.{⊤}
-use Rattle.std.specs.List.{AllByRecursion, list_all}
-use Rattle.std.proofs.lemmas.Bool.{and_parts}
-use Rattle.std.proofs.lemmas.Option.{same_Some, none-some}
+use Rattle.step_sound.proofs.Common.{◌≡◌, ℕ, zero, suc, Bool, true, List, [], ◌∷◌, Some, subst, arith, slice_get, and_parts, same_Some}
+use Rattle.step_sound.proofs.Common.{none-some}
+use Rattle.std.proofs.Common.{All, AllPairs}
+use Rattle.std.specs.{Prelude.⊤, List.AllByRecursion, List.list_all}
 
 pub each_item : {A : Type 0} (P : A → Type 0) (xs : List A) → AllByRecursion P xs → (k : ℕ) (x : A) → slice_get xs k ≡ Some x → P x
 each_item P [] all k x g = absurd (none-some x g)

@@ -1,44 +1,26 @@
 -- Each kind of step keeps the invariant.
-use Rattle.std.proofs.Common.{◌≡◌, ◌≢◌, ℕ, Bool, true, false, List, [], ◌∷◌, Option, Some, None, refl, sym, ap, ap₂, ◌∙◌, subst, slice_get}
-use Rattle.ebc_insn.specs.declared.Insn.{Insn}
+use Rattle.step_sound.proofs.Common.{◌≡◌, ℕ, Bool, true, false, List, [], ◌∷◌, Option, Some, None, refl, sym, ap, ap₂, ◌∙◌, subst}
+use Rattle.step_sound.proofs.Common.{slice_get, Insn, world_meets, Stands, Ending, Spot, mapped, Image, FunctionFrame, HostFrame, Frame}
+use Rattle.step_sound.proofs.Common.{Function, Host, Config, call_under_way, host_turn, is_due, is_gate, Placement, NativeCall, NoCall}
+use Rattle.step_sound.proofs.Common.{Asked, RunState, Neutral, World, RunsAt, TopHolds, GateHolds, SpotHolds, Holds, States, static_cells}
+use Rattle.std.proofs.Common.{◌≢◌}
 use Rattle.host_laws.proofs.Starting.{run_starts}
-use Rattle.instruction_laws.proofs.Worlds.{world_meets}
 use Rattle.invariant_laws.specs.Laws.{states_by}
 use Rattle.invariant_laws.proofs.Starting.{start_holds}
-use Rattle.neutral_machine.specs.Stands.{Stands}
-use Rattle.note_types.specs.declared.ending.Ending.{Ending}
-use Rattle.note_types.specs.declared.ending.Ending.TheVariants as ending
 use Rattle.note_types.specs.declared.script.Callback.{Callback}
-use Rattle.note_types.specs.declared.spot.Spot.{Spot}
-use Rattle.note_types.specs.declared.spot.Spot.TheVariants as spot
-use Rattle.pe_image.specs.Mapped.{mapped}
-use Rattle.pe_image.specs.declared.image.Image.{Image}
-use Rattle.neutral_machine.specs.Config.{FunctionFrame, HostFrame, Frame, Function, Host, Config, call_under_way}
-use Rattle.host_model.specs.HostPlans.{host_turn, is_due}
-use Rattle.neutral_machine.specs.NeutralRuns.{is_gate, neutral_start, neutral_step, step_if}
-use Rattle.host_model.specs.Placements.{Placement}
-use Rattle.host_model.specs.Progress.{NativeCall, NoCall, Asked, Accepted}
-use Rattle.host_model.specs.RunState.{RunState}
-use Rattle.host_model.specs.Values.{Neutral}
-use Rattle.host_model.specs.World.{World}
-use Rattle.invariant_laws.specs.Holds.{RunsAt, TopHolds, GateHolds, SpotHolds, Holds}
-use Rattle.invariant_laws.specs.Waiting.{States}
-use Rattle.neutral_machine.specs.NeutralImage.{static_cells}
-use Rattle.neutral_machine.specs.NeutralRun.{neutral_instruction}
-use Rattle.host_model.specs.Runs.{run_after, run_of, run_step}
-use Rattle.step_sound.specs.Invariant.{Invariant, RunHolds, RunsAtPlace}
+use Rattle.neutral_machine.specs.{NeutralRuns.neutral_start, NeutralRuns.neutral_step, NeutralRuns.step_if, NeutralRun.neutral_instruction}
+use Rattle.host_model.specs.{Progress.Accepted, Runs.run_after, Runs.run_of, Runs.run_step}
 use Rattle.step_sound.specs.StepKinds.{AtInstruction, IsPlain, IsNativeCall, IsThunk, IsCall, IsEnter, IsReply, IsNotify, IsLeaving}
 use Rattle.step_sound.specs.StepKinds.{IsResuming, IsLast, NextStep, plain, native_call, thunk, call, enter, reply, notify, leaving}
-use Rattle.step_sound.specs.StepKinds.{resuming, last, calls_native, makes_thunk}
 use Rattle.step_sound.specs.StepLaws.{StepKeeps, PlainStepsKeep, NativeCallsKeep, ThunksKeep, CallsKeep, EntersKeep, RepliesKeep}
-use Rattle.step_sound.specs.StepLaws.{NotifiesKeep, LeavingKeeps, ResumingKeeps, LastKeeps, StartMeets, NextStepIsThere}
-use Rattle.step_sound.proofs.Read.{read_is_run, read_is_run_at, read_starts}
-use Rattle.step_sound.proofs.Relocated.{bytes_loaded}
-use Rattle.step_sound.proofs.RunSteps.{run_step_keeps_standing}
-use Rattle.step_sound.proofs.StaticFits.{statics_fit}
-use Rattle.step_sound.proofs.Statics.{statics_show}
-use Rattle.step_sound.proofs.Steps.{StepHolds, host_keeps, code_keeps, code_there, state_below}
-use Rattle.step_sound.proofs.Worlds.{run_world}
+use Rattle.step_sound.specs.{Invariant.Invariant, Invariant.RunHolds, Invariant.RunsAtPlace, StepKinds.resuming, StepKinds.last}
+use Rattle.step_sound.specs.{StepKinds.calls_native, StepKinds.makes_thunk, StepLaws.NotifiesKeep, StepLaws.LeavingKeeps}
+use Rattle.step_sound.specs.StepLaws.{ResumingKeeps, LastKeeps, StartMeets, NextStepIsThere}
+use Rattle.step_sound.proofs.{Read.read_is_run, Read.read_is_run_at, Read.read_starts, Relocated.bytes_loaded}
+use Rattle.step_sound.proofs.{RunSteps.run_step_keeps_standing, StaticFits.statics_fit, Statics.statics_show, Steps.StepHolds}
+use Rattle.step_sound.proofs.{Steps.host_keeps, Steps.code_keeps, Steps.code_there, Steps.state_below, Worlds.run_world}
+use Rattle.note_types.specs.declared.ending.Ending.TheVariants as ending
+use Rattle.note_types.specs.declared.spot.Spot.TheVariants as spot
 
 module _ (w : ℕ) (image : Image) (world : World) (P : Placement) (states : States) (run : RunHolds w image world P states) where
   -- ---- the five parts

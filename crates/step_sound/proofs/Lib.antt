@@ -1,3 +1,4 @@
+pub mod Common
 pub mod Decoded
 pub mod EvenPlaces
 pub mod HostStacks

@@ -1,24 +1,13 @@
 -- A world that was read meets what the laws of a step ask of it.
-use Rattle.std.proofs.Common.{◌≡◌, ℕ, zero, suc, ◌+◌, ◌^◌, ◌≤◌, true, List, length, take, refl, sym, subst, arith, nat_le}
-use Rattle.std.specs.List.{sum_by}
-use Rattle.std.proofs.lemmas.Bool.{and_parts, leb-true}
-use Rattle.std.proofs.lemmas.List.{append-nil, nil_from_length}
-use Rattle.ebc_width.specs.Width.{IsWidth}
+use Rattle.step_sound.proofs.Common.{◌≡◌, ℕ, zero, suc, ◌+◌, ◌^◌, ◌≤◌, true, List, length, refl, sym, subst, arith, nat_le, sum_by}
+use Rattle.step_sound.proofs.Common.{and_parts, leb-true, IsWidth, IsRunOf, Notes, Image, placed_objects, Placement, IsPlacement, room_of}
+use Rattle.step_sound.proofs.Common.{World, within_some, static_cells, IsReadWorld, IsRunAt}
+use Rattle.std.proofs.{Common.take, lemmas.List.append-nil, lemmas.List.nil_from_length}
 use Rattle.host_laws.specs.StartGiven.{StartGiven}
 use Rattle.host_laws.proofs.ScriptGives.{calls_are_given, objects_are_given, start_is_given}
-use Rattle.instruction_laws.specs.Premises.{IsRunOf}
-use Rattle.note_types.specs.declared.notes.Notes.{Notes}
-use Rattle.note_types.specs.declared.script.Script.{Script}
-use Rattle.note_types.specs.declared.script.ScriptObject.{ScriptObject}
-use Rattle.pe_image.specs.declared.image.Image.{Image}
-use Rattle.host_model.specs.Objects.{placed_objects}
-use Rattle.host_model.specs.Placements.{Placement, IsPlacement}
-use Rattle.host_model.specs.Scripts.{IsScript, have_room, room_of}
-use Rattle.host_model.specs.World.{World}
-use Rattle.ebc_base.proofs.Lists.{take-all, within_some}
-use Rattle.neutral_machine.specs.NeutralImage.{static_cells}
-use Rattle.step_sound.specs.ReadWorld.{IsReadWorld}
-use Rattle.step_sound.specs.StepLaw.{IsRunAt}
+use Rattle.note_types.specs.declared.script.{Script.Script, ScriptObject.ScriptObject}
+use Rattle.host_model.specs.Scripts.{IsScript, have_room}
+use Rattle.ebc_base.proofs.Lists.{take-all}
 
 -- ---- what the objects of a script take
 

@@ -1,18 +1,12 @@
 -- The bytes of a loaded image: those that aren't relocated are the image's, and a relocated number is moved with the image.
-use Rattle.std.proofs.Common.{◌≡◌, ℕ, zero, suc, ◌+◌, ◌-◌, ◌/◌, ◌%◌, ◌^◌, ◌<◌, ◌≤◌, Bool, true, false, if◌then◌else◌, nat_le, nat_lt, List}
-use Rattle.std.proofs.Common.{[], ◌∷◌, length, Option, Some, None, refl, sym, ap, ◌∙◌, subst, subst₂, slice_index_or, arith, ⊎_elim}
-use Rattle.std.proofs.lemmas.Bool.{and_from, and_parts, leb-true, ltb-true, le-leb, lt-ltb, true≢false, cases_order}
-use Rattle.std.proofs.lemmas.List.{get_or_default}
-use Rattle.std.specs.List.{find, Contains}
-use Rattle.std.specs.Option.{option_map_or}
-use Rattle.ebc_width.specs.Bytes.{little_endian, put}
+use Rattle.step_sound.proofs.Common.{◌≡◌, ℕ, zero, suc, ◌+◌, ◌-◌, ◌%◌, ◌^◌, ◌<◌, ◌≤◌, Bool, true, false, if◌then◌else◌, nat_le, nat_lt}
+use Rattle.step_sound.proofs.Common.{List, [], ◌∷◌, length, Option, Some, None, refl, sym, ap, ◌∙◌, subst, subst₂, arith, ⊎_elim, and_from}
+use Rattle.step_sound.proofs.Common.{and_parts, leb-true, ltb-true, lt-ltb, true≢false, find, Contains, option_map_or, little_endian}
+use Rattle.step_sound.proofs.Common.{AreBytes, mapped, image_byte, named_place, Image, IsUnrelocated, word}
+use Rattle.std.proofs.{Common.◌/◌, Common.slice_index_or, lemmas.Bool.le-leb, lemmas.Bool.cases_order, lemmas.List.get_or_default}
+use Rattle.ebc_width.specs.{Bytes.put, Width.distance_of}
 use Rattle.ebc_width.proofs.ByteLaws.{put-within, little_endian-agree, little_endian-same}
-use Rattle.pe_image.specs.Images.{IsImage}
-use Rattle.pe_image.specs.Mapped.{AreBytes, is_of, laid, moved, moved_byte, mapped, image_byte, named_place}
-use Rattle.pe_image.specs.declared.image.Image.{Image}
-use Rattle.rules_image.specs.Images.{IsUnrelocated}
-use Rattle.host_model.specs.Values.{word}
-use Rattle.ebc_width.specs.Width.{distance_of}
+use Rattle.pe_image.specs.{Images.IsImage, Mapped.is_of, Mapped.laid, Mapped.moved, Mapped.moved_byte}
 
 -- ---- what is found
 

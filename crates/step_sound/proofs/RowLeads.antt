@@ -1,54 +1,30 @@
 -- Where the rows lead: a jump goes to a point of the function, and what falls through is an instruction that may.
-use Rattle.std.specs.Prelude.{IfOk, Ok, Err}
-use Rattle.std.proofs.Common.{int_le, unsigned_abs, ◌≡◌, ℕ, ◌<◌, ◌≤◌, ℤ, ◌*ℤ◌, pos, Bool, true, false, not, ◌&&◌, if◌then◌else◌, nat_eq}
-use Rattle.std.proofs.Common.{nat_lt, nat_le, List, Option, Some, None, is_none, refl, sym, ap, ◌∙◌, subst, inl, inr, slice_get}
-use Rattle.std.proofs.lemmas.Bool.{and_parts, leb-true, ltb-true, true≢false}
-use Rattle.std.proofs.lemmas.Option.{none-some, same_Some}
-use Rattle.ebc_insn.specs.declared.Cond.{Cond}
-use Rattle.ebc_insn.specs.declared.Cond.TheVariants as conds
-use Rattle.ebc_insn.specs.declared.Extra.{Extra}
-use Rattle.ebc_insn.specs.declared.Insn.{Insn}
-use Rattle.ebc_insn.specs.declared.Insn.TheVariants as insn
-use Rattle.ebc_insn.specs.declared.Operand.{Operand}
-use Rattle.ebc_insn.specs.declared.Size.{Size}
-use Rattle.ebc_insn.specs.declared.Size.TheVariants.{Qword}
-use Rattle.natural_index.specs.declared.Index.{Index}
+use Rattle.step_sound.proofs.Common.{IfOk, Ok, Err, ◌≡◌, ℕ, ◌<◌, ◌≤◌, pos, Bool, true, false, not, ◌&&◌, if◌then◌else◌, nat_eq, nat_lt}
+use Rattle.step_sound.proofs.Common.{nat_le, List, Option, Some, None, refl, sym, ap, ◌∙◌, subst, inl, inr, slice_get, and_parts, leb-true}
+use Rattle.step_sound.proofs.Common.{ltb-true, true≢false, none-some, same_Some, Insn, Index, type_of, FnNote, Notes, State, after_data}
+use Rattle.step_sound.proofs.Common.{after_flow, falls, Successors, row_of, is_flow}
+use Rattle.std.proofs.Common.{int_le, unsigned_abs, ℤ, ◌*ℤ◌, is_none}
+use Rattle.ebc_insn.specs.declared.{Cond.Cond, Extra.Extra, Operand.Operand, Size.Size, Size.TheVariants.Qword}
 use Rattle.ebc_base.specs.Steps.{or_else, ◌>>=◌, only_if}
-use Rattle.note_types.specs.States.{type_of}
-use Rattle.note_types.specs.declared.cell.SlotKind.{SlotKind}
-use Rattle.note_types.specs.declared.cell.SlotKind.TheVariants.{N}
-use Rattle.note_types.specs.declared.items.Item.{Item}
-use Rattle.note_types.specs.declared.items.Item.TheVariants.{Slot, Locals}
-use Rattle.note_types.specs.declared.notes.FnNote.{FnNote}
-use Rattle.note_types.specs.declared.notes.Notes.{Notes}
-use Rattle.note_types.specs.declared.notes.Point.{Point}
-use Rattle.note_types.specs.declared.rule.RuleName.TheVariants as rule
-use Rattle.note_types.specs.declared.state.State.{State}
-use Rattle.note_types.specs.declared.types.Ty.TheVariants as ty
-use Rattle.rules_base.specs.declared.here.Here.{Here}
-use Rattle.rules_base.specs.declared.operand.Distance.{Distance}
-use Rattle.rules_base.specs.Destinations.{put}
-use Rattle.rules_base.specs.Operands.{index_distance}
-use Rattle.rules_base.specs.Outcomes.{also, beside, gives_map, needs, OrRule}
-use Rattle.rules_base.specs.Parts.{and_then}
-use Rattle.rules_base.specs.Places.{locals_size}
-use Rattle.rules_base.specs.Values.{operand_value}
-use Rattle.rules_data.specs.Data.{after_data}
-use Rattle.rules_image.specs.Images as images
-use Rattle.rules_flow.specs.Arguments.{all_lent_out}
+use Rattle.note_types.specs.declared.{cell.SlotKind.SlotKind, cell.SlotKind.TheVariants.N, items.Item.Item, items.Item.TheVariants.Slot}
+use Rattle.note_types.specs.declared.{items.Item.TheVariants.Locals, notes.Point.Point}
+use Rattle.rules_base.specs.declared.{here.Here.Here, operand.Distance.Distance}
+use Rattle.rules_base.specs.{Destinations.put, Operands.index_distance, Outcomes.also, Outcomes.beside, Outcomes.gives_map, Outcomes.needs}
+use Rattle.rules_base.specs.{Outcomes.OrRule, Parts.and_then, Places.locals_size, Values.operand_value}
 use Rattle.rules_flow.specs.Calls.{break_row, call_fails, call_native_row, call_row, call_to, callee_at, callee_method, called}
-use Rattle.rules_flow.specs.Calls.{is_next_thunk, may_return, native_call, native_called, return_row, signature_at, with_thunk}
-use Rattle.rules_flow.specs.Flow.{after_flow, flow_row, frame_move, plain_row, slot_kind, unrelocated}
-use Rattle.rules_flow.specs.Found.{number_from}
 use Rattle.rules_flow.specs.Frames.{drop_to, frame_row, has_room, left_after, pop_destination, pop_row, popped_type, push_row, slot_access}
-use Rattle.rules_flow.specs.Frames.{slot_type, top_type, with_item}
+use Rattle.rules_flow.specs.Calls.{is_next_thunk, may_return, native_call, native_called, return_row, signature_at, with_thunk}
 use Rattle.rules_flow.specs.Jumps.{jump8_row, jump_row, jump_to, jumps, place_within, point_at, relative, target_of}
-use Rattle.rules_flow.specs.Successors.{ends, falls}
-use Rattle.rules_flow.specs.declared.successors.Successors.{Successors}
+use Rattle.rules_flow.specs.{Arguments.all_lent_out, Flow.flow_row, Flow.frame_move, Flow.plain_row, Flow.slot_kind, Flow.unrelocated}
+use Rattle.rules_flow.specs.{Found.number_from, Frames.slot_type, Frames.top_type, Frames.with_item, Successors.ends}
 use Rattle.rules_laws.proofs.Options.{ok_also, ok_anything, ok_choice, ok_then}
 use Rattle.typing_laws.specs.OneRule.{Accepted}
 use Rattle.typing_laws.proofs.DataTable.{ChangeFound, change_found, no_row}
-use Rattle.width_checker.specs.Rows.{row_of, is_flow}
+use Rattle.ebc_insn.specs.declared.Cond.TheVariants as conds
+use Rattle.ebc_insn.specs.declared.Insn.TheVariants as insn
+use Rattle.note_types.specs.declared.rule.RuleName.TheVariants as rule
+use Rattle.note_types.specs.declared.types.Ty.TheVariants as ty
+use Rattle.rules_image.specs.Images as images
 
 -- a point of a function's code stands at a place
 pub record PointIn (notes : Notes) (f : FnNote) (place : ℕ) : Type 0 where

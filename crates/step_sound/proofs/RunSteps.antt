@@ -1,58 +1,31 @@
 -- A step of a run: it goes on standing for the configuration.
-use Rattle.std.proofs.Common.{◌≡◌, ℕ, ◌+◌, ◌-◌, ◌<◌, ◌≤◌, Bool, true, false, if◌then◌else◌, nat_eq, List, [], ◌∷◌, ◌++◌, length, Option}
-use Rattle.std.proofs.Common.{Some, None, option_map, option_and_then, refl, sym, ap, ap₂, ◌∙◌, subst, subst₂, arith, slice_get}
-use Rattle.std.proofs.lemmas.Bool.{eqb-true, true≢false}
-use Rattle.std.proofs.lemmas.Option.{same_Some, none-some, slice_get_within}
-use Rattle.ebc_decode.specs.Reading.{read}
-use Rattle.ebc_insn.specs.Spelling.{spelling}
-use Rattle.ebc_insn.specs.declared.Insn.{Insn}
-use Rattle.ebc_machine.specs.Step.{machine_step}
-use Rattle.ebc_machine.specs.declared.StepEnd.{StepEnd}
-use Rattle.ebc_machine.specs.declared.StepEnd.TheVariants as ends
-use Rattle.ebc_width.specs.Bytes.{window}
+use Rattle.step_sound.proofs.Common.{◌≡◌, ℕ, ◌+◌, ◌-◌, ◌<◌, ◌≤◌, Bool, true, false, if◌then◌else◌, nat_eq, List, [], ◌∷◌, ◌++◌, length}
+use Rattle.step_sound.proofs.Common.{Option, Some, None, option_map, option_and_then, refl, sym, ap, ap₂, ◌∙◌, subst, subst₂, arith}
+use Rattle.step_sound.proofs.Common.{slice_get, eqb-true, true≢false, same_Some, none-some, slice_get_within, read, spelling, Insn}
+use Rattle.step_sound.proofs.Common.{machine_step, StepEnd, window, IsInsnOf, IsRunOf, world_meets, Index, Site, NeutralRow, Next, Native}
+use Rattle.step_sound.proofs.Common.{MakeThunk, executed, Stands, WorldFits, Concrete, Ending, FnNote, Thunk, Spot, mapped, image_byte}
+use Rattle.step_sound.proofs.Common.{Image, Config, call_under_way, with_call, host_turn, is_due, addresses, neutral_host_step, next_thunk}
+use Rattle.step_sound.proofs.Common.{thunk_function, thunk_made, is_gate, Gives, Raises, Stuck, Placement, image_range, NativeCall, NoCall}
+use Rattle.step_sound.proofs.Common.{Asked, one_instruction, one_thunk, RunState, Addresses, Neutral, World, instruction_at, or_none}
+use Rattle.step_sound.proofs.Common.{site_at, instruction_from, instruction_left, IsRunAt, StepGoesWell}
 use Rattle.ebc_width.specs.Ranges.{covers}
-use Rattle.host_laws.proofs.Entering.{marked_stands}
-use Rattle.host_laws.proofs.HostLaw.{host_law}
-use Rattle.host_laws.proofs.Marks.{machine_counted, machine_told}
-use Rattle.host_laws.proofs.Replies.{marks_show}
+use Rattle.host_laws.proofs.{Entering.marked_stands, HostLaw.host_law, Marks.machine_counted, Marks.machine_told, Replies.marks_show}
 use Rattle.host_laws.proofs.Thunks.{names_stand, thunk_stands}
-use Rattle.instruction_laws.specs.Premises.{IsInsnOf, IsRunOf, RunAlike}
+use Rattle.instruction_laws.specs.Premises.{RunAlike}
 use Rattle.instruction_laws.proofs.ImageSteps.{image_run_step, instruction_read}
-use Rattle.instruction_laws.proofs.Worlds.{world_meets}
-use Rattle.natural_index.specs.declared.Index.{Index}
-use Rattle.ebc_insn.specs.declared.Insn.TheVariants as insns
-use Rattle.neutral_machine.specs.Operands.{plainly}
-use Rattle.neutral_machine.specs.Room.{HasRoom, growth, index_growth}
-use Rattle.neutral_machine.specs.Rows.{is_stack_pointer, Site, NeutralRow, Next, Native, MakeThunk, executed}
-use Rattle.neutral_machine.specs.Stands.{Stands, CallShows, spot_at}
-use Rattle.neutral_machine.specs.WorldFits.{WorldFits}
-use Rattle.note_types.specs.Concrete.{Concrete}
-use Rattle.note_types.specs.declared.ending.Ending.{Ending}
-use Rattle.note_types.specs.declared.ending.Ending.TheVariants as ending
-use Rattle.note_types.specs.declared.notes.FnNote.{FnNote}
-use Rattle.note_types.specs.declared.notes.Thunk.{Thunk}
-use Rattle.note_types.specs.declared.spot.Spot.{Spot}
-use Rattle.note_types.specs.declared.spot.Spot.TheVariants as spot
-use Rattle.pe_image.specs.Mapped.{mapped, image_byte}
-use Rattle.pe_image.specs.declared.image.Image.{Image}
+use Rattle.neutral_machine.specs.{Operands.plainly, Room.HasRoom, Room.growth, Room.index_growth, Rows.is_stack_pointer, Stands.CallShows}
+use Rattle.neutral_machine.specs.{Stands.spot_at, Layout.total, NeutralRuns.neutral_step, NeutralRuns.running_step as neutral_running}
+use Rattle.neutral_machine.specs.{NeutralRuns.step_if as neutral_if, NeutralRun.neutral_instruction}
 use Rattle.rules_image.specs.Images.{named_at, is_relocated}
-use Rattle.neutral_machine.specs.Config.{Config, call_under_way, with_call}
-use Rattle.host_model.specs.HostPlans.{Names, ThunkView, host_turn, is_due}
-use Rattle.host_model.specs.HostSteps as width
-use Rattle.neutral_machine.specs.Layout.{addresses, total}
-use Rattle.neutral_machine.specs.NeutralHost.{neutral_host_step, next_thunk, thunk_function, thunk_made}
-use Rattle.neutral_machine.specs.NeutralRuns.{is_gate, neutral_step, running_step as neutral_running, step_if as neutral_if}
-use Rattle.neutral_machine.specs.Outcomes.{Gives, Raises, Stuck}
-use Rattle.host_model.specs.Placements.{Placement, image_range, stack_bytes, thunk_cell_address}
-use Rattle.host_model.specs.Progress.{NativeCall, NoCall, Asked, Accepted, one_instruction, one_thunk}
-use Rattle.host_model.specs.RunState.{RunState}
-use Rattle.host_model.specs.Values.{Addresses, Neutral, Shows}
-use Rattle.host_model.specs.World.{World}
-use Rattle.neutral_machine.specs.NeutralImage.{instruction_at, or_none, site_at}
-use Rattle.neutral_machine.specs.NeutralRun.{instruction_from, instruction_left, neutral_instruction}
-use Rattle.host_model.specs.Runs.{after_instruction, instruction_step, run_step, running_step, step_if}
-use Rattle.step_sound.specs.StepLaw.{IsRunAt, StepGoesWell, RunStepKeepsStanding}
+use Rattle.host_model.specs.{HostPlans.Names, HostPlans.ThunkView, Placements.stack_bytes, Placements.thunk_cell_address, Progress.Accepted}
+use Rattle.host_model.specs.{Values.Shows, Runs.after_instruction, Runs.instruction_step, Runs.run_step, Runs.running_step, Runs.step_if}
+use Rattle.step_sound.specs.StepLaw.{RunStepKeepsStanding}
 use Rattle.step_sound.proofs.Thunks.{thunks_are_loaded}
+use Rattle.ebc_machine.specs.declared.StepEnd.TheVariants as ends
+use Rattle.ebc_insn.specs.declared.Insn.TheVariants as insns
+use Rattle.note_types.specs.declared.ending.Ending.TheVariants as ending
+use Rattle.note_types.specs.declared.spot.Spot.TheVariants as spot
+use Rattle.host_model.specs.HostSteps as width
 
 -- ---- whose turn it is
 

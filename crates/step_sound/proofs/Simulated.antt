@@ -1,42 +1,18 @@
 -- One step at one width: the machine does what the neutral machine does, and both go on soundly.
-use Rattle.std.specs.Prelude.{IfOk, Ok, Err}
-use Rattle.std.proofs.Common.{◌≡◌, ◌⊎◌, ℕ, ◌%◌, ◌<◌, ◌≤◌, List, Option, Some, None, refl, sym, subst, arith, inl, inr, slice_get}
-use Rattle.ebc_machine.specs.Step.{machine_step}
-use Rattle.ebc_machine.specs.declared.StepEnd.{StepEnd}
-use Rattle.ebc_insn.specs.declared.Insn.{Insn}
-use Rattle.ebc_width.specs.Width.{IsWidth}
-use Rattle.instruction_laws.specs.Premises.{IsInsnOf}
+use Rattle.step_sound.proofs.Common.{IfOk, Ok, Err, ◌≡◌, ◌⊎◌, ℕ, ◌%◌, ◌<◌, ◌≤◌, List, Option, Some, None, refl, sym, subst, arith, inl, inr}
+use Rattle.step_sound.proofs.Common.{slice_get, machine_step, StepEnd, Insn, IsWidth, IsInsnOf, world_meets, NeutralRow, executed, Concrete}
+use Rattle.step_sound.proofs.Common.{FnNote, Notes, State, mapped, Image, after_data, after_flow, falls, Successors, FunctionFrame, Frame}
+use Rattle.step_sound.proofs.Common.{Config, Gives, Raises, Stuck, Placement, World, Accepts, WorldTyped, here_of, StandsTyped, EndsSound}
+use Rattle.step_sound.proofs.Common.{one_rule, room_fits, spelled_at}
 use Rattle.instruction_laws.proofs.ImageSteps.{image_step}
-use Rattle.instruction_laws.proofs.Worlds.{world_meets}
 use Rattle.neutral_machine.specs.Alike.{StepAlike}
-use Rattle.neutral_machine.specs.Rows.{NeutralRow, executed}
-use Rattle.note_types.specs.Concrete.{Concrete}
-use Rattle.note_types.specs.declared.notes.FnNote.{FnNote}
-use Rattle.note_types.specs.declared.notes.Notes.{Notes}
-use Rattle.note_types.specs.declared.state.State.{State}
-use Rattle.pe_image.specs.Mapped.{mapped}
-use Rattle.pe_image.specs.declared.image.Image.{Image}
 use Rattle.rules_base.specs.declared.here.Here.{Here}
-use Rattle.rules_data.specs.Data.{after_data}
-use Rattle.rules_flow.specs.Flow.{after_flow}
-use Rattle.rules_flow.specs.Successors.{falls}
-use Rattle.rules_flow.specs.declared.successors.Successors.{Successors}
-use Rattle.neutral_machine.specs.Config.{FunctionFrame, Frame, Config}
-use Rattle.neutral_machine.specs.Outcomes.{Gives, Raises, Stuck}
-use Rattle.host_model.specs.Placements.{Placement}
-use Rattle.host_model.specs.World.{World}
-use Rattle.invariant_laws.specs.Accepts.{Accepts}
-use Rattle.typing_laws.specs.OneRule.{Accepted, WorldTyped, here_of, StandsTyped, EndsSound}
-use Rattle.typing_laws.proofs.FlowTable.{one_rule}
-use Rattle.typing_laws.proofs.Rooms.{room_fits}
+use Rattle.typing_laws.specs.OneRule.{Accepted}
 use Rattle.step_sound.specs.Simulation.{StepStands, StepSimulated, Simulated, site_of}
 use Rattle.host_model.specs.Runs.{world_of}
-use Rattle.step_sound.proofs.EvenPlaces.{place_even, spelling_even}
-use Rattle.step_sound.proofs.Read.{read_is_run}
-use Rattle.step_sound.proofs.RowLeads.{falls_where_it_may}
+use Rattle.step_sound.proofs.{EvenPlaces.place_even, EvenPlaces.spelling_even, Read.read_is_run, RowLeads.falls_where_it_may}
 use Rattle.step_sound.proofs.Worlds.{world_typed}
 use Rattle.rules_base.specs.Outcomes.{OrRule as Given}
-use Rattle.rules_image.proofs.Decoding.{spelled_at}
 use Rattle.rules_image.specs.Spelled.{IsSpelledAt}
 
 module _ (w : ℕ) (h : IsWidth w) (image : Image) (world : World) (P : Placement) (a : Config) (f : FunctionFrame) (fs : List Frame)

@@ -1,43 +1,24 @@
 -- What the cells of a typed image's static objects hold at first fits them.
-use Rattle.std.proofs.Common.{◌≡◌, ℕ, suc, ◌+◌, ◌-◌, ◌*◌, ◌^◌, ◌<◌, ◌≤◌, Bool, true, false, not, if◌then◌else◌, List, map, Option, Some}
-use Rattle.std.proofs.Common.{option_map, option_and_then, refl, sym, ap, ap₂, ◌∙◌, subst, arith, inl, ⊎_elim, slice_get, pos, inr, nat_lt}
-use Rattle.std.proofs.Common.{None, ◌++◌, ltb-true}
-use Rattle.std.specs.Option.{option_map_or}
-use Rattle.std.proofs.lemmas.Nat.{row_fits}
-use Rattle.std.proofs.lemmas.Option.{same_Some, slice_get-map, slice_get_within, slice_get-get_or, none-some}
-use Rattle.ebc_width.specs.Bytes.{little_endian}
+use Rattle.step_sound.proofs.Common.{◌≡◌, ℕ, suc, ◌+◌, ◌-◌, ◌*◌, ◌^◌, ◌<◌, ◌≤◌, Bool, true, false, not, if◌then◌else◌, List, map, Option}
+use Rattle.step_sound.proofs.Common.{Some, option_map, option_and_then, refl, sym, ap, ap₂, ◌∙◌, subst, arith, inl, ⊎_elim, slice_get, pos}
+use Rattle.step_sound.proofs.Common.{inr, nat_lt, None, ◌++◌, ltb-true, option_map_or, row_fits, same_Some, slice_get-map, slice_get_within}
+use Rattle.step_sound.proofs.Common.{slice_get-get_or, none-some, little_endian, little_endian-below, IsRunOf, cell_size, size_at, start_at}
+use Rattle.step_sound.proofs.Common.{Cell, Static, Field, Shape, AreBytes, image_byte, named_place, Image, extent, depends, field_place}
+use Rattle.step_sound.proofs.Common.{IsStatic, IsLinked, CellHolds, HasContentBy, IsUnrelocated, field_at, cell_field, no_shape, shape_of}
+use Rattle.step_sound.proofs.Common.{static_object, made_objects, script_object, placed_objects, Neutral, At, ObjectOf, FieldOf, number}
+use Rattle.step_sound.proofs.Common.{null, word, World, TypedObject, slice_get-append_left, length-map, contains-any, static_cells}
+use Rattle.step_sound.proofs.Common.{static_cell_place, static_value, static_address, loaded_value}
 use Rattle.ebc_width.specs.Width.{wrap64}
-use Rattle.ebc_width.proofs.ByteLaws.{little_endian-below}
 use Rattle.host_laws.proofs.Accepting.{read_zero}
-use Rattle.instruction_laws.specs.Premises.{IsRunOf}
-use Rattle.note_types.specs.Cells.{cell_size}
-use Rattle.note_types.specs.Shapes.{size_at, start_at, IsShape}
-use Rattle.note_types.specs.declared.cell.Cell.{Cell}
-use Rattle.note_types.specs.declared.cell.Cell.TheVariants as cell
-use Rattle.note_types.specs.declared.notes.Static.{Static}
-use Rattle.note_types.specs.declared.shape.Field.{Field}
-use Rattle.note_types.specs.declared.shape.Shape.{Shape}
-use Rattle.pe_image.specs.Mapped.{AreBytes, image_byte, named_place}
-use Rattle.pe_image.specs.declared.image.Image.{Image}
-use Rattle.rules_image.specs.Images.{extent, depends, field_place, IsStatic, IsLinked, CellHolds, HasContentBy, IsUnrelocated}
-use Rattle.host_model.specs.HostPlans.{field_at}
-use Rattle.neutral_machine.specs.Memory.{cell_field}
-use Rattle.host_model.specs.Objects.{no_shape, shape_of, static_object, made_objects, script_object, placed_objects}
-use Rattle.host_model.specs.Values.{Neutral, At, ObjectOf, FieldOf, number, null, word, CellPlace, FieldOfLocals}
-use Rattle.host_model.specs.World.{World}
-use Rattle.host_model.specs.declared.object.TypedObject.{TypedObject}
-use Rattle.ebc_base.proofs.Lists.{slice_get-append_left, length-map, contains-any}
-use Rattle.neutral_machine.specs.NeutralImage.{static_cells, static_cell_place, static_value, static_address, loaded_value}
+use Rattle.note_types.specs.{Shapes.IsShape, Cells.content_type}
+use Rattle.host_model.specs.{Values.CellPlace, Values.FieldOfLocals, HostPlans.field_in, Scripts.is_needed}
 use Rattle.step_sound.proofs.StaticThings.{units_none, field_units, unlisted, static_found}
 use Rattle.neutral_machine.specs.Fits.{IsNumber, IsPointer, FitsPlain}
-use Rattle.note_types.specs.Cells.{content_type}
-use Rattle.host_model.specs.HostPlans.{field_in}
-use Rattle.host_model.specs.Scripts.{is_needed}
-use Rattle.host_model.specs.Values.{null}
 use Rattle.std.proofs.Math.Nat.{dvd_of_mod-eq-zero}
 use Rattle.rules_image.specs.Images.{MayBeZero}
 use Rattle.invariant_laws.proofs.Filling.{zero_fits}
 use Rattle.invariant_laws.specs.Hosted.{StaticsFit, no_locals_there}
+use Rattle.note_types.specs.declared.cell.Cell.TheVariants as cell
 
 -- ---- cells
 

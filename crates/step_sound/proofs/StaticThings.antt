@@ -1,22 +1,12 @@
 -- Static objects: those whose layout doesn't depend on the width, which places are relocated, and that the object at a place is found.
-use Rattle.std.proofs.Common.{◌≡◌, ℕ, ◌*◌, ◌<◌, Bool, true, false, not, nat_eq, List, Some, refl, sym, ap, ◌∙◌, arith, slice_get, ⊎_elim}
-use Rattle.std.specs.List.{list_any, position, Contains}
-use Rattle.std.proofs.lemmas.Bool.{eq-eqb, ne_eqb, eqb-true, or_left, or_right, true≢false}
-use Rattle.std.proofs.lemmas.List.Folds.{list_any_at}
-use Rattle.std.proofs.lemmas.Option.{slice_get_within, slice_get-get_or, get_or_from_slice_get}
-use Rattle.std.proofs.Math.Nat.{mul-pos}
-use Rattle.instruction_laws.specs.Premises.{IsRunOf}
+use Rattle.step_sound.proofs.Common.{◌≡◌, ℕ, ◌*◌, ◌<◌, Bool, true, false, not, nat_eq, List, Some, refl, sym, ap, ◌∙◌, arith, slice_get}
+use Rattle.step_sound.proofs.Common.{⊎_elim, position, Contains, eq-eqb, ne_eqb, eqb-true, true≢false, slice_get_within, slice_get-get_or}
+use Rattle.step_sound.proofs.Common.{get_or_from_slice_get, IsRunOf, world_meets, WorldFits, size_at, Static, Field, Shape, Image, depends}
+use Rattle.step_sound.proofs.Common.{no_shape, shape_of, World}
+use Rattle.std.specs.List.{list_any}
+use Rattle.std.proofs.{lemmas.Bool.or_left, lemmas.Bool.or_right, lemmas.List.Folds.list_any_at, Math.Nat.mul-pos}
 use Rattle.instruction_laws.proofs.Loaded.{of_any}
-use Rattle.instruction_laws.proofs.Worlds.{world_meets}
-use Rattle.neutral_machine.specs.WorldFits.{WorldFits}
-use Rattle.note_types.specs.Shapes.{size_at}
-use Rattle.note_types.specs.declared.notes.Static.{Static}
-use Rattle.note_types.specs.declared.shape.Field.{Field}
-use Rattle.note_types.specs.declared.shape.Shape.{Shape}
-use Rattle.pe_image.specs.declared.image.Image.{Image}
-use Rattle.rules_image.specs.Images.{depends, has_natural, IsStaticAt}
-use Rattle.host_model.specs.Objects.{no_shape, shape_of}
-use Rattle.host_model.specs.World.{World}
+use Rattle.rules_image.specs.Images.{has_natural, IsStaticAt}
 use Rattle.step_sound.proofs.Thunks.{first_found}
 
 -- ---- layouts that don't depend on the width

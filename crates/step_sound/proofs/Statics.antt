@@ -1,50 +1,26 @@
 -- The loaded bytes show what the cells of static objects hold, where these keep their rule.
-use Rattle.std.proofs.Common.{◌≡◌, ℕ, zero, suc, ◌+◌, ◌-◌, ◌*◌, ◌%◌, ◌^◌, ◌<◌, ◌≤◌, Bool, true, false, if◌then◌else◌, [], length, map}
-use Rattle.std.proofs.Common.{get_or, Option, Some, option_map, option_and_then, refl, sym, ap, ap₂, ◌∙◌, subst, subst₂, arith}
-use Rattle.std.proofs.Common.{mod-eq_of_lt, le_refl, inl, ⊎_elim, slice_get}
-use Rattle.std.specs.Option.{option_map_or}
-use Rattle.std.proofs.lemmas.Bool.{lt-ltb}
-use Rattle.std.proofs.lemmas.Nat.{row_fits}
-use Rattle.std.proofs.lemmas.Option.{same_Some, slice_get-map, slice_get_within, slice_get-get_or}
-use Rattle.std.proofs.Math.Nat.{one-le-pow}
-use Rattle.ebc_width.specs.Bytes.{little_endian}
-use Rattle.ebc_width.specs.Width.{IsWidth}
-use Rattle.ebc_width.proofs.ByteLaws.{little_endian-moved, little_endian-below}
-use Rattle.ebc_width.proofs.Laws.{by_width}
-use Rattle.ebc_width.proofs.RangeLaws.{covers-inside}
+use Rattle.step_sound.proofs.Common.{◌≡◌, ℕ, zero, suc, ◌+◌, ◌-◌, ◌*◌, ◌%◌, ◌^◌, ◌<◌, ◌≤◌, Bool, true, false, if◌then◌else◌, [], length}
+use Rattle.step_sound.proofs.Common.{map, get_or, Option, Some, option_map, option_and_then, refl, sym, ap, ap₂, ◌∙◌, subst, subst₂, arith}
+use Rattle.step_sound.proofs.Common.{mod-eq_of_lt, inl, ⊎_elim, slice_get, option_map_or, lt-ltb, row_fits, same_Some, slice_get-map}
+use Rattle.step_sound.proofs.Common.{slice_get_within, slice_get-get_or, little_endian, IsWidth, little_endian-below, IsRunOf, world_meets}
+use Rattle.step_sound.proofs.Common.{WorldFits, cell_size, size_at, start_at, Cell, Static, Field, Shape, AreBytes, mapped, image_byte}
+use Rattle.step_sound.proofs.Common.{named_place, Image, extent, depends, field_place, IsStatic, IsLinked, CellHolds, HasContentBy}
+use Rattle.step_sound.proofs.Common.{IsUnrelocated, field_at, addresses, memory_of, cell_field, no_shape, shape_of, static_object}
+use Rattle.step_sound.proofs.Common.{made_objects, Placement, IsPlacement, object_bytes, image_range, Neutral, At, ObjectOf, FieldOf}
+use Rattle.step_sound.proofs.Common.{Addresses, number, null, word, World, TypedObject, slice_get-append_left, within_some, length-map}
+use Rattle.step_sound.proofs.Common.{contains-any, static_cells, static_cell_place, static_value, static_address, loaded_value}
+use Rattle.std.proofs.{Common.le_refl, Math.Nat.one-le-pow}
+use Rattle.ebc_width.proofs.{ByteLaws.little_endian-moved, Laws.by_width, RangeLaws.covers-inside}
 use Rattle.host_laws.specs.StartGiven.{StaticsShow, start_config}
-use Rattle.host_laws.proofs.Accepting.{read_zero}
-use Rattle.host_laws.proofs.Things.{base_is}
-use Rattle.instruction_laws.specs.Premises.{IsRunOf}
-use Rattle.instruction_laws.proofs.Worlds.{world_meets}
+use Rattle.host_laws.proofs.{Accepting.read_zero, Things.base_is}
 use Rattle.neutral_machine.specs.Stands.{CellShows, cell_address}
-use Rattle.neutral_machine.specs.WorldFits.{WorldFits}
-use Rattle.neutral_machine.proofs.Cells.{in_object_at, object_cell}
-use Rattle.note_types.specs.Cells.{cell_size}
-use Rattle.note_types.specs.Shapes.{size_at, start_at}
-use Rattle.note_types.specs.declared.cell.Cell.{Cell}
-use Rattle.note_types.specs.declared.cell.Cell.TheVariants as cell
-use Rattle.note_types.specs.declared.notes.Static.{Static}
-use Rattle.note_types.specs.declared.shape.Field.{Field}
-use Rattle.note_types.specs.declared.shape.Shape.{Shape}
-use Rattle.pe_image.specs.Mapped.{AreBytes, mapped, image_byte, named_place}
-use Rattle.pe_image.specs.declared.image.Image.{Image}
-use Rattle.rules_image.specs.Images.{extent, depends, field_place, IsStatic, IsLinked, CellHolds, HasContentBy, IsUnrelocated}
-use Rattle.host_model.specs.HostPlans.{field_at}
-use Rattle.neutral_machine.specs.Layout.{addresses}
-use Rattle.neutral_machine.specs.Memory.{memory_of, cell_field}
-use Rattle.host_model.specs.Objects.{no_shape, shape_of, static_object, made_objects}
-use Rattle.host_model.specs.Placements.{Placement, IsPlacement, object_at, object_bytes, image_range, static_place}
-use Rattle.host_model.specs.Start as start
-use Rattle.host_model.specs.Values.{Neutral, At, ObjectOf, FieldOf, ShowsIn, Addresses, number, null, word}
-use Rattle.host_model.specs.World.{World}
-use Rattle.host_model.specs.declared.object.TypedObject.{TypedObject}
-use Rattle.ebc_base.proofs.Lists.{slice_get-append_left, within_some, length-map, contains-any}
-use Rattle.neutral_machine.proofs.NamedThings.{some_there}
-use Rattle.neutral_machine.specs.NeutralImage.{static_cells, static_cell_place, static_value, static_address, loaded_value}
+use Rattle.neutral_machine.proofs.{Cells.in_object_at, Cells.object_cell, NamedThings.some_there}
+use Rattle.host_model.specs.{Placements.object_at, Placements.static_place, Values.ShowsIn}
 use Rattle.step_sound.specs.Loaded.{StaticsAreShown}
-use Rattle.step_sound.proofs.Relocated.{number_kept, number_moved}
-use Rattle.step_sound.proofs.StaticThings.{units_none, field_units, unlisted, static_found}
+use Rattle.step_sound.proofs.{Relocated.number_kept, Relocated.number_moved, StaticThings.units_none, StaticThings.field_units}
+use Rattle.step_sound.proofs.StaticThings.{unlisted, static_found}
+use Rattle.note_types.specs.declared.cell.Cell.TheVariants as cell
+use Rattle.host_model.specs.Start as start
 
 -- ---- numbers
 

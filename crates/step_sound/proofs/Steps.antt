@@ -1,57 +1,26 @@
 -- A step of a typed program's run: the neutral machine isn't stuck, and the invariant holds after it.
-use Rattle.std.specs.Prelude.{Ok, Err}
-use Rattle.std.proofs.Common.{◌≡◌, ◌⊎◌, ℕ, ◌%◌, ◌<◌, ◌≤◌, Bool, true, false, if◌then◌else◌, List, [], ◌∷◌, length, Option, Some, None}
-use Rattle.std.proofs.Common.{option_and_then, refl, sym, ap, ap₂, ◌∙◌, subst, arith, inl, inr}
-use Rattle.std.proofs.lemmas.Bool.{eq-eqb, true≢false}
-use Rattle.ebc_insn.specs.Spelling.{spelling}
-use Rattle.ebc_insn.specs.declared.Insn.{Insn}
-use Rattle.ebc_width.specs.Width.{IsWidth}
+use Rattle.step_sound.proofs.Common.{Ok, Err, ◌≡◌, ◌⊎◌, ℕ, ◌%◌, ◌<◌, ◌≤◌, Bool, true, false, if◌then◌else◌, List, [], ◌∷◌, length, Option}
+use Rattle.step_sound.proofs.Common.{Some, None, option_and_then, refl, sym, ap, ap₂, ◌∙◌, subst, arith, inl, inr, eq-eqb, true≢false}
+use Rattle.step_sound.proofs.Common.{spelling, Insn, IsWidth, State, Image, after_data, after_flow, falls, Successors, FunctionFrame, Frame}
+use Rattle.step_sound.proofs.Common.{Function, Host, Config, call_under_way, with_call, host_turn, is_due, neutral_host_step, thunk_made}
+use Rattle.step_sound.proofs.Common.{is_gate, Outcome, Gives, Raises, Stuck, NativeCall, NoCall, Asked, one_instruction, Neutral, World}
+use Rattle.step_sound.proofs.Common.{Site, NeutralEnd, Next, Native, MakeThunk, executed, IsInsnOf, IsRunOf, world_meets, instruction_at}
+use Rattle.step_sound.proofs.Common.{site_at, instruction_left, instruction_from, IsReadWorld, StepGoesWell, row_of, is_flow, live_memory}
+use Rattle.step_sound.proofs.Common.{here_of, StandsTyped, States, RunsAt, TopHolds, SpotHolds, Holds, StatesFitBelow, one_rule, room_fits}
+use Rattle.step_sound.proofs.Common.{StatesHold, spelled_at}
+use Rattle.rules_base.specs.Outcomes.{gives_map, OrRule as Given}
+use Rattle.neutral_machine.specs.{NeutralRuns.running_step, NeutralRun.neutral_instruction}
+use Rattle.step_sound.specs.{StepLaw.InsnStands, PlaceStates.InsnHolds}
+use Rattle.typing_laws.specs.OneRule.{Accepted as RuleAccepts}
+use Rattle.invariant_laws.specs.{Sound.TopFits, Sound.Sound, Waiting.Chain, Hosted.HostGoesOn, Hosted.Turn, Hosted.of_host, Hosted.of_code}
+use Rattle.typing_laws.proofs.{Rooms.sound_room, StatesBelow.state_fits_below}
+use Rattle.invariant_laws.proofs.Turns.{turn_holds}
+use Rattle.step_sound.proofs.{EvenPlaces.place_even, EvenPlaces.spelling_even, Read.read_is_run, RowLeads.falls_where_it_may}
+use Rattle.step_sound.proofs.{RunSteps.found_there, RunSteps.site_there, Worlds.run_world, Worlds.world_typed, Worlds.thunks_enter}
+use Rattle.step_sound.proofs.Instructing.{Before, HoldsAfter, instruction_holds}
+use Rattle.rules_image.specs.{Images.reloc_at, Spelled.IsSpelledAt}
 use Rattle.note_types.specs.declared.ending.Ending.TheVariants as ending
 use Rattle.note_types.specs.declared.spot.Spot.TheVariants as spot
-use Rattle.note_types.specs.declared.state.State.{State}
-use Rattle.pe_image.specs.declared.image.Image.{Image}
-use Rattle.rules_base.specs.Outcomes.{gives_map, OrRule as Given}
-use Rattle.rules_data.specs.Data.{after_data}
-use Rattle.rules_flow.specs.Flow.{after_flow}
-use Rattle.rules_flow.specs.Successors.{falls}
-use Rattle.rules_flow.specs.declared.successors.Successors.{Successors}
-use Rattle.neutral_machine.specs.Config.{FunctionFrame, Frame, Function, Host, Config, call_under_way, with_call}
-use Rattle.host_model.specs.HostPlans.{host_turn, is_due}
-use Rattle.neutral_machine.specs.NeutralHost.{neutral_host_step, thunk_made}
-use Rattle.neutral_machine.specs.NeutralRuns.{is_gate, running_step}
-use Rattle.neutral_machine.specs.Outcomes.{Outcome, Gives, Raises, Stuck}
-use Rattle.host_model.specs.Progress.{NativeCall, NoCall, Asked, one_instruction}
-use Rattle.host_model.specs.Values.{Neutral}
-use Rattle.host_model.specs.World.{World}
-use Rattle.neutral_machine.specs.Rows.{Site, NeutralEnd, Next, Native, MakeThunk, executed}
-use Rattle.instruction_laws.specs.Premises.{IsInsnOf, IsRunOf}
-use Rattle.instruction_laws.proofs.Worlds.{world_meets}
-use Rattle.neutral_machine.specs.NeutralImage.{instruction_at, site_at}
-use Rattle.neutral_machine.specs.NeutralRun.{instruction_left, instruction_from, neutral_instruction}
-use Rattle.step_sound.specs.ReadWorld.{IsReadWorld}
-use Rattle.step_sound.specs.StepLaw.{InsnStands, StepGoesWell}
-use Rattle.width_checker.specs.Rows.{row_of, is_flow}
-use Rattle.invariant_laws.specs.Live.{live_memory}
-use Rattle.typing_laws.specs.OneRule.{Accepted as RuleAccepts, here_of, StandsTyped}
-use Rattle.invariant_laws.specs.Sound.{TopFits, Sound}
-use Rattle.invariant_laws.specs.Waiting.{States, Chain}
-use Rattle.invariant_laws.specs.Holds.{RunsAt, TopHolds, SpotHolds, Holds}
-use Rattle.invariant_laws.specs.LaterLaws.{StatesFitBelow}
-use Rattle.typing_laws.proofs.FlowTable.{one_rule}
-use Rattle.typing_laws.proofs.Rooms.{sound_room, room_fits}
-use Rattle.typing_laws.proofs.StatesBelow.{state_fits_below}
-use Rattle.invariant_laws.specs.Hosted.{HostGoesOn, Turn, of_host, of_code}
-use Rattle.invariant_laws.proofs.Turns.{turn_holds}
-use Rattle.step_sound.specs.PlaceStates.{InsnHolds, StatesHold}
-use Rattle.step_sound.proofs.EvenPlaces.{place_even, spelling_even}
-use Rattle.step_sound.proofs.Read.{read_is_run}
-use Rattle.step_sound.proofs.RowLeads.{falls_where_it_may}
-use Rattle.step_sound.proofs.RunSteps.{found_there, site_there}
-use Rattle.step_sound.proofs.Worlds.{run_world, world_typed, thunks_enter}
-use Rattle.step_sound.proofs.Instructing.{Before, HoldsAfter, instruction_holds}
-use Rattle.rules_image.specs.Images.{reloc_at}
-use Rattle.rules_image.proofs.Decoding.{spelled_at}
-use Rattle.rules_image.specs.Spelled.{IsSpelledAt}
 
 -- what fits a state fits each state above it
 pub state_below : StatesFitBelow

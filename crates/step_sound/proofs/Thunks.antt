@@ -1,16 +1,12 @@
 -- A thunk cell that keeps its rule names its function wherever the image is loaded.
-use Rattle.std.proofs.Common.{◌≡◌, ℕ, zero, suc, ◌+◌, ◌*◌, ◌%◌, ◌^◌, ◌<◌, ◌≤◌, Bool, true, false, ◌&&◌, if◌then◌else◌, nat_eq, nat_lt, List}
-use Rattle.std.proofs.Common.{[], ◌∷◌, length, get_or, Option, Some, None, refl, sym, ap, ◌∙◌, subst, arith, mod-eq_of_lt, ◌-◌, ⊎_elim}
-use Rattle.std.proofs.Common.{slice_get}
-use Rattle.std.proofs.lemmas.Bool.{and_from, eq-eqb, ne_eqb, cases_lt, lt-ltb, ltb-true, ltb-false}
-use Rattle.std.proofs.lemmas.Option.{same_Some, none-some, slice_get_within, slice_get-get_or, get_or_from_slice_get}
-use Rattle.std.specs.List.{position, position_or_len}
-use Rattle.std.proofs.lemmas.List.Sums.{position_or_len_is}
-use Rattle.ebc_width.specs.Bytes.{little_endian}
+use Rattle.step_sound.proofs.Common.{◌≡◌, ℕ, zero, suc, ◌+◌, ◌*◌, ◌%◌, ◌^◌, ◌<◌, ◌≤◌, Bool, true, false, ◌&&◌, if◌then◌else◌, nat_eq}
+use Rattle.step_sound.proofs.Common.{nat_lt, List, [], ◌∷◌, length, get_or, Option, Some, None, refl, sym, ap, ◌∙◌, subst, arith}
+use Rattle.step_sound.proofs.Common.{mod-eq_of_lt, ◌-◌, ⊎_elim, slice_get, and_from, eq-eqb, ne_eqb, cases_lt, lt-ltb, ltb-true, same_Some}
+use Rattle.step_sound.proofs.Common.{none-some, slice_get_within, slice_get-get_or, get_or_from_slice_get, position, little_endian}
+use Rattle.step_sound.proofs.Common.{little_endian-below, FnNote, mapped, image_byte}
+use Rattle.std.proofs.lemmas.{Bool.ltb-false, List.Sums.position_or_len_is}
+use Rattle.std.specs.List.{position_or_len}
 use Rattle.ebc_width.specs.Width.{extended_at}
-use Rattle.ebc_width.proofs.ByteLaws.{little_endian-below}
-use Rattle.note_types.specs.declared.notes.FnNote.{FnNote}
-use Rattle.pe_image.specs.Mapped.{mapped, image_byte}
 use Rattle.rules_image.specs.Images.{IsThunk}
 use Rattle.step_sound.specs.Loaded.{ThunksAreLoaded}
 use Rattle.step_sound.proofs.Relocated.{number_kept}

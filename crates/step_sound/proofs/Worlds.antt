@@ -1,35 +1,16 @@
 -- What a world that was read gives to the laws: small objects, thunk cells that enter functions, and, with states that meet the typing
 -- rules, what the laws of an instruction on types ask.
-use Rattle.std.specs.List.{sum_by}
-use Rattle.std.proofs.Common.{◌≡◌, ℕ, zero, suc, ◌+◌, ◌-◌, ◌*◌, ◌<◌, ◌≤◌, ◌^◌, if◌then◌else◌, List, [], ◌∷◌, map, length, Option, Some}
-use Rattle.std.proofs.Common.{None, option_and_then, sym, ap, ◌∙◌, arith, ⊎_elim, slice_get}
-use Rattle.std.proofs.lemmas.Bool.{cases_lt}
+use Rattle.step_sound.proofs.Common.{sum_by, ◌≡◌, ℕ, zero, suc, ◌+◌, ◌-◌, ◌*◌, ◌<◌, ◌≤◌, ◌^◌, if◌then◌else◌, List, [], ◌∷◌, map, length}
+use Rattle.step_sound.proofs.Common.{Option, Some, None, option_and_then, sym, ap, ◌∙◌, arith, ⊎_elim, slice_get, cases_lt, none-some}
+use Rattle.step_sound.proofs.Common.{same_Some, slice_get-map, size_at, FnNote, Thunk, Image, TypedObject, made_objects, placed_objects}
+use Rattle.step_sound.proofs.Common.{shape_of, static_object, script_object, object_bytes, room_of, World, slice_get-append_left}
+use Rattle.step_sound.proofs.Common.{within_some, WorldFits, world_meets, States, StatesHold, IsReadWorld, WorldTyped, RunWorld}
 use Rattle.std.proofs.lemmas.List.Sums.{sum_by-cons}
-use Rattle.std.proofs.lemmas.Option.{none-some, same_Some, slice_get-map}
-use Rattle.note_types.specs.Shapes.{size_at}
-use Rattle.note_types.specs.declared.notes.FnNote.{FnNote}
-use Rattle.note_types.specs.declared.notes.Thunk.{Thunk}
-use Rattle.pe_image.specs.declared.image.Image.{Image}
-use Rattle.host_model.specs.declared.object.TypedObject.{TypedObject}
 use Rattle.neutral_machine.specs.CellLaw.{AreSmall}
-use Rattle.host_model.specs.Objects.{made_objects, placed_objects, shape_of, static_object, script_object}
-use Rattle.host_model.specs.Placements.{object_bytes}
-use Rattle.host_model.specs.Scripts.{room_of}
-use Rattle.host_model.specs.World.{World}
-use Rattle.ebc_base.proofs.Lists.{slice_get-append_left, slice_get-append_right, within_some}
-use Rattle.neutral_machine.specs.WorldFits.{WorldFits}
-use Rattle.neutral_machine.proofs.Cells.{shape_fits}
-use Rattle.instruction_laws.proofs.Worlds.{world_meets}
-use Rattle.invariant_laws.specs.Waiting.{States}
-use Rattle.step_sound.specs.PlaceStates.{PlacesHold, StatesHold}
-use Rattle.step_sound.specs.ReadWorld.{IsReadWorld}
-use Rattle.step_sound.proofs.Read.{read_is_run, objects_have_room}
-use Rattle.typing_laws.specs.OneRule.{WorldTyped}
-use Rattle.invariant_laws.specs.Hosted.{RunWorld}
-use Rattle.step_sound.proofs.Instructing.{ThunksEnter}
-use Rattle.step_sound.proofs.EvenPlaces.{points_even}
-use Rattle.ebc_base.proofs.Given.{some_of_map}
-use Rattle.neutral_machine.proofs.PlacedObjects.{placed_in_all}
+use Rattle.ebc_base.proofs.{Lists.slice_get-append_right, Given.some_of_map}
+use Rattle.neutral_machine.proofs.{Cells.shape_fits, PlacedObjects.placed_in_all}
+use Rattle.step_sound.specs.PlaceStates.{PlacesHold}
+use Rattle.step_sound.proofs.{Read.read_is_run, Read.objects_have_room, Instructing.ThunksEnter, EvenPlaces.points_even}
 
 -- one of the terms is at most the sum
 term_below : {A : Type 0} (f : A → ℕ) (xs : List A) (k : ℕ) (x : A) → slice_get xs k ≡ Some x → f x ≤ sum_by f xs

@@ -1,45 +1,16 @@
 -- Laws of the start of a run: what the stores of the start leave, and what a runner is at before the first step.
-use Rattle.std.proofs.Common.{◌≡◌, ℕ, suc, ◌%◌, ◌^◌, ◌<◌, ◌≤◌, Bool, true, false, List, [], ◌∷◌, length, map}
-use Rattle.std.proofs.Common.{Some, None}
-use Rattle.std.proofs.Common.{refl, sym, ap, ◌∙◌, subst, arith, if◌then◌else◌}
-use Rattle.std.specs.Prelude.{vec_capacity}
-use Rattle.std.specs.Option.{option_map_or}
-use Rattle.std.proofs.Math.Nat.{mod-eq_of_lt}
-use Rattle.ebc_width.specs.Bytes.{put}
-use Rattle.ebc_width.specs.Ranges.{holds}
-use Rattle.object_memory.specs.Memory.{Memory}
-use Rattle.pe_image.specs.Mapped.{mapped}
-use Rattle.pe_image.specs.declared.image.Image.{Image}
-use Rattle.note_types.specs.Concrete.{Concrete, stored}
-use Rattle.note_types.specs.declared.ending.Ending.TheVariants.{Running}
-use Rattle.note_types.specs.declared.notes.Notes.{Notes}
-use Rattle.note_types.specs.declared.script.Script.{Script}
-use Rattle.note_types.specs.declared.value.Value.{Value}
-use Rattle.ebc_machine.specs.States.{concrete_of}
-use Rattle.ebc_machine.specs.declared.Machine.{Machine}
-use Rattle.entry_thunk.specs.Cells.{with_memory}
-use Rattle.host_model.specs.HostPlans.{Store, function_params}
-use Rattle.host_model.specs.HostSteps.{after_store, after_stores, entered, frame_for, inside, with_object, with_objects, written_number}
-use Rattle.host_model.specs.Objects.{made_objects}
-use Rattle.host_model.specs.Placements.{Placement, code_at, object_range, own_placement, stack_end}
-use Rattle.host_model.specs.Progress.{script_start}
-use Rattle.host_model.specs.RunState.{RunState}
-use Rattle.host_model.specs.Runs.{run_after, run_of, world_of}
-use Rattle.host_model.specs.Start.{bare_machine, run_start, start_machine}
-use Rattle.host_model.specs.World.{World}
-use Rattle.host_model.specs.declared.object.TypedObject.{TypedObject}
-use Rattle.native_host.specs.Hosts.{HasRoom, IsHost, IsMemoryOf, IsServing, all_events}
-use Rattle.native_host.proofs.StartLaws.{all_rest_events}
-use Rattle.native_host.specs.declared.host.Host.{Host}
-use Rattle.twin_run.specs.Runner.{IsAt, IsQuiet, IsRunner, hosts_of}
-use Rattle.twin_run.specs.declared.runner.Runner.{Runner}
-use Rattle.twin_run.proofs.EnteringLaws.{few_params, params_there}
-use Rattle.twin_run.proofs.RoomLaws.{first_events}
-use Rattle.ebc_base.proofs.Lists.{length-map}
-use Rattle.std.proofs.lemmas.Option.{slice_get_within}
-use Rattle.note_types.specs.Records.{IsNotes}
-use Rattle.host_model.specs.Scripts.{IsScript}
-use Rattle.native_host.proofs.EnterLaws.{fits-length}
+use Rattle.twin_run.proofs.Common.{◌≡◌, ℕ, suc, ◌%◌, ◌^◌, ◌<◌, ◌≤◌, Bool, true, false, List, [], ◌∷◌, length, map, Some, None, refl, sym}
+use Rattle.twin_run.proofs.Common.{ap, ◌∙◌, subst, arith, if◌then◌else◌, vec_capacity, option_map_or, put, holds, Memory, mapped, Image}
+use Rattle.twin_run.proofs.Common.{Concrete, stored, Running, Notes, Script, Value, concrete_of, Machine, with_memory, function_params}
+use Rattle.twin_run.proofs.Common.{entered, frame_for, inside, written_number, made_objects, Placement, code_at, own_placement, stack_end}
+use Rattle.twin_run.proofs.Common.{script_start, RunState, run_after, run_of, world_of, World, TypedObject, IsHost, IsMemoryOf, IsServing}
+use Rattle.twin_run.proofs.Common.{Host, IsAt, IsQuiet, IsRunner, hosts_of, Runner, length-map, IsNotes, IsScript}
+use Rattle.std.proofs.{Math.Nat.mod-eq_of_lt, lemmas.Option.slice_get_within}
+use Rattle.host_model.specs.{HostPlans.Store, HostSteps.after_store, HostSteps.after_stores, HostSteps.with_object, HostSteps.with_objects}
+use Rattle.host_model.specs.{Placements.object_range, Start.bare_machine, Start.run_start, Start.start_machine}
+use Rattle.native_host.specs.Hosts.{HasRoom, all_events}
+use Rattle.native_host.proofs.{StartLaws.all_rest_events, EnterLaws.fits-length}
+use Rattle.twin_run.proofs.{EnteringLaws.few_params, EnteringLaws.params_there, RoomLaws.first_events}
 
 -- ---- what stores leave
 

@@ -1,42 +1,21 @@
 -- Laws of what a run is asked beside its steps where its image is one of two on one host.
-use Rattle.std.proofs.Common.{◌≡◌, ℕ, ◌+◌, ◌<◌, ◌≤◌, Bool, true, false, List, [], ◌∷◌, length, map, Option, Some, None, refl, sym, ap, ◌∙◌}
-use Rattle.std.proofs.Common.{subst, arith, nat_eq, drop, take, if◌then◌else◌}
-use Rattle.std.specs.Prelude.{IfNone, IfSome, Ok, Err, slice_index, slice_set, vec_capacity}
-use Rattle.std.specs.Option.{option_map_or}
-use Rattle.ebc_base.proofs.Lists.{length-map}
+use Rattle.twin_run.proofs.Common.{◌≡◌, ℕ, ◌+◌, ◌<◌, ◌≤◌, Bool, true, false, List, [], ◌∷◌, length, map, Option, Some, None, refl, sym, ap}
+use Rattle.twin_run.proofs.Common.{◌∙◌, subst, arith, nat_eq, drop, take, if◌then◌else◌, IfNone, IfSome, Ok, Err, slice_index, slice_set}
+use Rattle.twin_run.proofs.Common.{vec_capacity, option_map_or, length-map, Concrete, register, with_register, Ending, Running, Raised}
+use Rattle.twin_run.proofs.Common.{Script, Ty, Value, Frame, Machine, call_of, saved_of, NO_ENTRY, Calls, is_due, return_view, IsDue}
+use Rattle.twin_run.proofs.Common.{asking_at, call_seen, call_under_way, entered, frame_for, host_view, inside, left, outside, result_of}
+use Rattle.twin_run.proofs.Common.{return_seen, with_call, function_params, made_objects, Placement, code_at, own_placement, NativeCall}
+use Rattle.twin_run.proofs.Common.{NoCall, Asked, Accepted, ScriptPlace, is_empty, RunState, SavedFrame, World, placement_of, Host}
+use Rattle.twin_run.proofs.Common.{AreInside, HasEvents, call_events, events_left, IsAt, IsQuiet, IsRunner, hosts_of, AskedCall, Runner}
 use Rattle.object_memory.specs.Memory.{byte_at, ranges}
-use Rattle.note_types.specs.Concrete.{Concrete, register, with_register}
-use Rattle.note_types.specs.declared.ending.Ending.{Ending}
-use Rattle.note_types.specs.declared.ending.Ending.TheVariants.{Running, Raised}
-use Rattle.note_types.specs.declared.exception.Exception.TheVariants as raises
-use Rattle.note_types.specs.declared.script.Script.{Script}
-use Rattle.note_types.specs.declared.types.Ty.{Ty}
-use Rattle.note_types.specs.declared.value.Value.{Value}
-use Rattle.frame_stack.specs.declared.Frame.{Frame}
-use Rattle.ebc_machine.specs.declared.Machine.{Machine}
-use Rattle.callex_thunk.specs.HostFrames.{call_of, saved_of}
-use Rattle.callex_thunk.specs.declared.TheConstants.{NO_ENTRY}
-use Rattle.host_model.specs.HostPlans.{Calls, Returns, due_view, is_due, return_view, IsDue}
-use Rattle.host_model.specs.HostSteps.{asking_at, call_seen, call_under_way, entered, frame_for, host_view, inside, left, outside}
-use Rattle.host_model.specs.HostSteps.{result_of, return_seen, with_call}
-use Rattle.host_model.specs.HostPlans.{function_params}
-use Rattle.host_model.specs.Objects.{made_objects}
-use Rattle.host_model.specs.Placements.{Placement, code_at, own_placement}
-use Rattle.host_model.specs.Progress.{NativeCall, NoCall, Asked, Accepted, ScriptPlace, is_empty}
-use Rattle.host_model.specs.RunState.{RunState, SavedFrame}
-use Rattle.host_model.specs.World.{World}
-use Rattle.native_host.specs.Kept.{placement_of}
-use Rattle.native_host.specs.declared.host.Host.{Host}
+use Rattle.host_model.specs.HostPlans.{Returns, due_view}
 use Rattle.pair_model.specs.PairRuns.{bound_number, bound_reply}
 use Rattle.twin_run.specs.Bound.{IsNoFirstReturn, Rests, place_called}
-use Rattle.twin_run.specs.Room.{AreInside, HasEvents, call_events, events_left}
-use Rattle.twin_run.specs.Runner.{IsAt, IsQuiet, IsRunner, hosts_of}
-use Rattle.twin_run.specs.declared.runner.AskedCall.{AskedCall}
-use Rattle.twin_run.specs.declared.runner.Runner.{Runner}
-use Rattle.twin_run.proofs.HostingLaws.{IsLeft, Reads, left_at, left_hosts, left_outside, result_there, top_of}
-use Rattle.twin_run.proofs.RoomLaws.{inside-call, inside_some, more, quiet}
-use Rattle.twin_run.proofs.RunnerLaws.{away_there, gate_there, is_placed, replied_at}
+use Rattle.twin_run.proofs.HostingLaws.{IsLeft, Reads, left_at, left_hosts, left_outside}
+use Rattle.twin_run.proofs.{HostingLaws.result_there, HostingLaws.top_of, RoomLaws.inside-call, RoomLaws.inside_some, RoomLaws.more}
+use Rattle.twin_run.proofs.{RoomLaws.quiet, RunnerLaws.away_there, RunnerLaws.gate_there, RunnerLaws.is_placed, RunnerLaws.replied_at}
 use Rattle.twin_run.proofs.TurnLaws.{asked_call, asked_under_way, hosts_length, other_call, quiet_none}
+use Rattle.note_types.specs.declared.exception.Exception.TheVariants as raises
 
 -- ---- answers that may be none
 

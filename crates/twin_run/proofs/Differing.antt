@@ -1,9 +1,6 @@
 -- There is one least number of steps after which two runs aren't the same, or none.
-use Rattle.std.proofs.Common.{◌≡◌, ℕ, ◌<◌, Option, Some, inl, inr, refl, ap, arith}
-use Rattle.std.proofs.lemmas.Bool.{cases_lt}
-use Rattle.pe_image.specs.declared.image.Image.{Image}
-use Rattle.host_model.specs.World.{World}
-use Rattle.twin_run.specs.Differs.{DifferAt, OwnRunsSame, nowhere, first}
+use Rattle.twin_run.proofs.Common.{◌≡◌, ℕ, ◌<◌, Option, Some, inl, inr, refl, ap, arith, cases_lt, Image, World, DifferAt, nowhere, first}
+use Rattle.twin_run.specs.Differs.{OwnRunsSame}
 
 -- neither of two of them is below the other
 same_first : (image : Image) (world : World) (k j : ℕ) → ¬ OwnRunsSame image world k → ((i : ℕ) → i < k → OwnRunsSame image world i)

@@ -1,25 +1,18 @@
 -- The driver's image: it is as the reader of images gives one, holds bytes, and keeps the rules on shapes, functions, static
 -- objects and thunk cells with the driver's notes.
-use Rattle.std.proofs.Common.{◌≡◌, ◌⊎◌, ℕ, zero, suc, ◌+◌, ◌-◌, ◌^◌, ◌<◌, ◌≤◌, true, List, [], ◌∷◌, length, get_or, Some, refl, sym, ◌∙◌}
-use Rattle.std.proofs.Common.{subst, subst₂, arith, inl, inr, nat_le, nat_lt, slice_get}
-use Rattle.std.specs.List.{AllByRecursion, list_all}
-use Rattle.std.proofs.lemmas.Bool.{and_parts, leb-true, ltb-true}
-use Rattle.ebc_width.specs.Bytes.{little_endian}
-use Rattle.std.proofs.lemmas.Option.{same_Some, none-some}
+use Rattle.twin_run.proofs.Common.{◌≡◌, ◌⊎◌, ℕ, zero, suc, ◌+◌, ◌-◌, ◌^◌, ◌<◌, ◌≤◌, true, List, [], ◌∷◌, length, get_or, Some, refl, sym}
+use Rattle.twin_run.proofs.Common.{◌∙◌, subst, arith, inl, inr, nat_le, nat_lt, slice_get, AllByRecursion, list_all, and_parts, leb-true}
+use Rattle.twin_run.proofs.Common.{ltb-true, little_endian, same_Some, none-some, FnNote, Notes, Field, Shape, IsImage, AreBytes, laid}
+use Rattle.twin_run.proofs.Common.{driver_image, all_pairs, each_item}
+use Rattle.std.proofs.Common.{subst₂}
 use Rattle.note_types.specs.Shapes.{AreApart as FieldsApart, FitsAt, IsShape, end_at, size_at, start_at}
-use Rattle.note_types.specs.declared.notes.FnNote.{FnNote}
-use Rattle.note_types.specs.declared.notes.Notes.{Notes}
 use Rattle.note_types.specs.declared.notes.Thunk.{Thunk}
-use Rattle.note_types.specs.declared.shape.Field.{Field}
-use Rattle.note_types.specs.declared.shape.Shape.{Shape}
-use Rattle.pe_image.specs.Images.{EndsBefore, IsImage, IsSection}
-use Rattle.pe_image.specs.Mapped.{AreBytes, laid, image_byte}
+use Rattle.pe_image.specs.{Images.EndsBefore, Images.IsSection, Mapped.image_byte}
 use Rattle.pe_image.specs.declared.image.Section.{Section}
 use Rattle.rules_image.specs.Images.{AreApart, FunctionHolds, ShapeHolds, IsEven, IsFunction, IsThunk, ThunkHolds}
-use Rattle.neutral_machine.proofs.Programs.{driver_image}
 use Rattle.twin_run.proofs.DriverNotes.{driver_named, main, tick}
 use Rattle.pe_image.proofs.Held.{IsBytes, laid_byte}
-use Rattle.step_sound.proofs.Items.{all_items, all_pairs, each_item, passing}
+use Rattle.step_sound.proofs.Items.{all_items, passing}
 
 abbrev notes : Notes
 notes = driver_named.notes

@@ -1,38 +1,20 @@
 -- The driver of docs/NOTES.md with its names and its point: its notes meet the conditions on notes.
-use Rattle.std.proofs.Common.{◌≡◌, ℕ, zero, suc, ◌-◌, ◌*◌, ◌^◌, ◌<◌, ◌≤◌, Bool, true, false, List, [], ◌∷◌, length, get_or, slice_get, Some}
-use Rattle.std.proofs.Common.{None, refl, sym, pos, codes, nat_le, nat_lt, arith, inl}
-use Rattle.std.specs.Prelude.{IfSome}
-use Rattle.std.specs.Int.{bit_at}
-use Rattle.std.specs.List.{AllByRecursion, sum_by}
-use Rattle.std.specs.List.Sorted.{IsStrictlyIncreasing}
+use Rattle.twin_run.proofs.Common.{◌≡◌, ℕ, zero, suc, ◌-◌, ◌*◌, ◌^◌, ◌<◌, ◌≤◌, Bool, true, false, List, [], ◌∷◌, length, get_or, slice_get}
+use Rattle.twin_run.proofs.Common.{Some, None, refl, sym, pos, codes, nat_le, nat_lt, arith, inl, IfSome, AllByRecursion, sum_by, none-some}
+use Rattle.twin_run.proofs.Common.{leb-true, ltb-true, true≢false, IsState, SlotKind, State, Ty, IsNotes, function_at, FnNote, Notes, Param}
+use Rattle.twin_run.proofs.Common.{Notify, Field, Shape, World, locate_call, register_call, each_item}
+use Rattle.std.specs.{Int.bit_at, List.Sorted.IsStrictlyIncreasing}
 use Rattle.std.proofs.lemmas.Nat.Bits.{bit_at-pow_other}
-use Rattle.std.proofs.lemmas.Option.{none-some}
-use Rattle.std.proofs.lemmas.Bool.{leb-true, ltb-true, true≢false}
-use Rattle.note_types.specs.Known.{AreFields, IsKnown, IsKnownCell, IsState, local_fields}
-use Rattle.note_types.specs.States.{type_of}
-use Rattle.note_types.specs.declared.cell.SlotKind.{SlotKind}
-use Rattle.note_types.specs.declared.items.Item.TheVariants.{Locals, Slot}
-use Rattle.note_types.specs.declared.state.State.{State}
-use Rattle.note_types.specs.declared.types.Ty.{Ty}
-use Rattle.note_types.specs.Limits.{code_limit, point_limit, stack_limit}
-use Rattle.note_types.specs.Passing.{IsHandedBack, IsHandedIn}
-use Rattle.note_types.specs.Records.{CanBeEntered, HasNameLength, IsFieldNote, IsFunctionNote, IsNotes, IsParamNote, IsPointNote}
-use Rattle.note_types.specs.Records.{IsResultNote, IsShapeNote, IsSignatureNote, IsSiteNote, IsThunkNote, IsWantNote, code_size, frame_size}
-use Rattle.note_types.specs.Records.{function_at}
+use Rattle.note_types.specs.Records.{CanBeEntered, HasNameLength, IsFieldNote, IsFunctionNote, IsParamNote, IsPointNote, IsResultNote}
+use Rattle.note_types.specs.Records.{IsShapeNote, IsSignatureNote, IsSiteNote, IsThunkNote, IsWantNote, code_size, frame_size}
+use Rattle.note_types.specs.{Known.AreFields, Known.IsKnown, Known.IsKnownCell, Known.local_fields, States.type_of, Limits.code_limit}
+use Rattle.note_types.specs.{Limits.point_limit, Limits.stack_limit, Passing.IsHandedBack, Passing.IsHandedIn}
+use Rattle.note_types.specs.declared.{items.Item.TheVariants.Locals, items.Item.TheVariants.Slot, notes.Signature.Signature}
+use Rattle.note_types.proofs.TypeLaws.{no_fields}
+use Rattle.neutral_machine.proofs.Driver.{driver_notes, driver_notified}
 use Rattle.note_types.specs.declared.cell.Cell.TheVariants as cell
-use Rattle.note_types.specs.declared.notes.FnNote.{FnNote}
-use Rattle.note_types.specs.declared.notes.Notes.{Notes}
-use Rattle.note_types.specs.declared.notes.Param.{Param}
-use Rattle.note_types.specs.declared.notes.Signature.{Signature}
-use Rattle.note_types.specs.declared.script.Notify.{Notify}
-use Rattle.note_types.specs.declared.shape.Field.{Field}
-use Rattle.note_types.specs.declared.shape.Shape.{Shape}
 use Rattle.note_types.specs.declared.types.Ty.TheVariants as ty
 use Rattle.note_types.specs.declared.value.Value.TheVariants as value
-use Rattle.note_types.proofs.TypeLaws.{no_fields}
-use Rattle.host_model.specs.World.{World}
-use Rattle.neutral_machine.proofs.Driver.{driver_notes, driver_notified, locate_call, register_call}
-use Rattle.step_sound.proofs.Items.{each_item}
 
 -- ---- the notes with names
 

@@ -1,25 +1,15 @@
 -- The driver's script, with a notification: it is as the reader of scripts gives one.
-use Rattle.std.proofs.Common.{◌≡◌, ℕ, zero, suc, ◌+◌, ◌^◌, ◌<◌, ◌≤◌, true, List, [], ◌∷◌, length, take, Some, refl, sym, ap, ◌∙◌, subst}
-use Rattle.std.proofs.Common.{arith, inl, inr, codes, nat_lt, slice_get}
-use Rattle.std.specs.List.{sum_by}
-use Rattle.std.proofs.lemmas.Bool.{leb-true, ltb-true, true≢false}
-use Rattle.std.proofs.lemmas.Option.{same_Some, none-some}
-use Rattle.note_types.specs.declared.cell.Cell.TheVariants as cell
-use Rattle.note_types.specs.declared.notes.Notes.{Notes}
+use Rattle.twin_run.proofs.Common.{◌≡◌, ℕ, zero, suc, ◌+◌, ◌^◌, ◌<◌, ◌≤◌, true, List, [], ◌∷◌, length, take, Some, refl, sym, ap, ◌∙◌}
+use Rattle.twin_run.proofs.Common.{subst, arith, inl, inr, codes, nat_lt, slice_get, sum_by, leb-true, ltb-true, true≢false, same_Some}
+use Rattle.twin_run.proofs.Common.{none-some, Notes, Script, ScriptCall, ScriptObject, Field, made_objects, placed_objects, shape_of}
+use Rattle.twin_run.proofs.Common.{IsScript, locate_call, register_call, each_item}
 use Rattle.note_types.specs.declared.script.CellValue.{CellValue}
-use Rattle.note_types.specs.declared.script.Script.{Script}
-use Rattle.note_types.specs.declared.script.ScriptCall.{ScriptCall}
-use Rattle.note_types.specs.declared.script.ScriptObject.{ScriptObject}
-use Rattle.note_types.specs.declared.shape.Field.{Field}
-use Rattle.note_types.specs.declared.value.Value.TheVariants as value
-use Rattle.host_model.specs.Objects.{made_objects, placed_objects, shape_of}
-use Rattle.host_model.specs.ScriptValues.{fits, fits_each}
 use Rattle.host_model.specs.Scripts.{HasNotifications, IsArgument, IsCallOf, IsCallbackOf, IsCellOf, IsNotifyOf, IsObjectOf, IsOutOf}
-use Rattle.host_model.specs.Scripts.{IsScript, IsWritten, all_made, callbacks_of, have_room, is_given, is_needed}
-use Rattle.neutral_machine.proofs.Driver.{locate_call, register_call}
-use Rattle.twin_run.proofs.DriverImage.{driver_shapes}
-use Rattle.twin_run.proofs.DriverNotes.{driver_named, ticking}
-use Rattle.step_sound.proofs.Items.{each_item}
+use Rattle.host_model.specs.{ScriptValues.fits, ScriptValues.fits_each, Scripts.IsWritten, Scripts.all_made, Scripts.callbacks_of}
+use Rattle.host_model.specs.Scripts.{have_room, is_given, is_needed}
+use Rattle.twin_run.proofs.{DriverImage.driver_shapes, DriverNotes.driver_named, DriverNotes.ticking}
+use Rattle.note_types.specs.declared.cell.Cell.TheVariants as cell
+use Rattle.note_types.specs.declared.value.Value.TheVariants as value
 
 abbrev notes : Notes
 notes = driver_named.notes

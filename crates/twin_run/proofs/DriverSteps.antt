@@ -1,19 +1,11 @@
 -- The run of the driver of docs/NOTES.md with its script comes to each kind of step, and finishes. The configurations are computed.
-use Rattle.std.proofs.Common.{◌≡◌, ℕ, Option, Some, None, refl}
-use Rattle.note_types.specs.declared.ending.Ending.TheVariants.{Finished}
-use Rattle.note_types.specs.declared.value.Value.TheVariants as value
-use Rattle.neutral_machine.specs.Config.{Config}
-use Rattle.neutral_machine.specs.NeutralRuns.{neutral_start}
-use Rattle.host_model.specs.Placements.{own_placement}
-use Rattle.neutral_machine.specs.NeutralImage.{static_cells}
-use Rattle.neutral_machine.specs.NeutralRun.{config_after}
-use Rattle.host_model.specs.Runs.{run_of}
+use Rattle.twin_run.proofs.Common.{◌≡◌, ℕ, Option, Some, None, refl, Finished, Config, neutral_start, own_placement, static_cells}
+use Rattle.twin_run.proofs.Common.{config_after, run_of, driver_image}
 use Rattle.neutral_machine.proofs.Computing.{runs_compute}
-use Rattle.neutral_machine.proofs.Programs.{driver_image}
 use Rattle.step_sound.specs.StepKinds.{IsPlain, IsNativeCall, IsThunk, IsNotify, IsCall, IsEnter, IsReply, IsLeaving, IsResuming, IsLast}
 use Rattle.twin_run.specs.Met.{ComesTo, TypedPremisesAreMet}
-use Rattle.twin_run.proofs.DriverNotes.{driver_named}
-use Rattle.twin_run.proofs.DriverTyped.{driver_world}
+use Rattle.twin_run.proofs.{DriverNotes.driver_named, DriverTyped.driver_world}
+use Rattle.note_types.specs.declared.value.Value.TheVariants as value
 
 -- what is there, or something else
 abbrev or_else : {A : Type 0} → A → Option A → A

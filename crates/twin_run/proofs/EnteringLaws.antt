@@ -1,38 +1,17 @@
 -- Laws of entering functions: the machine inside one by the kinds of its parameters, and the runner there.
-use Rattle.std.proofs.Common.{◌≡◌, ℕ, ◌+◌, ◌^◌, ◌<◌, ◌≤◌, Bool, List, [], ◌∷◌, length, map, Option, Some, None, refl, sym, ap, ◌∙◌, subst}
-use Rattle.std.proofs.Common.{arith}
-use Rattle.std.proofs.Common.{slice_get, take}
-use Rattle.std.specs.Prelude.{slice_set}
-use Rattle.std.specs.Option.{option_and_then, option_map_or}
-use Rattle.object_memory.specs.Memory.{Memory}
+use Rattle.twin_run.proofs.Common.{◌≡◌, ℕ, ◌+◌, ◌^◌, ◌<◌, ◌≤◌, Bool, List, [], ◌∷◌, length, map, Option, Some, None, refl, sym, ap, ◌∙◌}
+use Rattle.twin_run.proofs.Common.{subst, arith, slice_get, take, slice_set, option_map_or, Memory, Concrete, register, stored, SlotKind}
+use Rattle.twin_run.proofs.Common.{Raised, FnNote, Notes, Param, KeepsObjects, concrete_of, Machine, Frame, saved_of, length-map, IsNotes}
+use Rattle.twin_run.proofs.Common.{function_params, entered, frame_for, inside, Placement, code_at, own_placement, RunState, World}
+use Rattle.twin_run.proofs.Common.{placement_of, IsAt, hosts_of, Runner}
+use Rattle.std.specs.Option.{option_and_then}
 use Rattle.ebc_width.specs.Width.{cut_at}
-use Rattle.note_types.specs.Concrete.{Concrete, register, stored}
-use Rattle.note_types.specs.declared.cell.SlotKind.{SlotKind}
-use Rattle.note_types.specs.declared.ending.Ending.TheVariants.{Raised}
-use Rattle.note_types.specs.declared.exception.Exception.TheVariants as raises
-use Rattle.note_types.specs.declared.notes.FnNote.{FnNote}
-use Rattle.note_types.specs.declared.notes.Notes.{Notes}
-use Rattle.note_types.specs.declared.notes.Param.{Param}
-use Rattle.ebc_machine.specs.States.{KeepsObjects, concrete_of}
-use Rattle.ebc_machine.specs.declared.Machine.{Machine}
-use Rattle.frame_stack.specs.declared.Frame.{Frame}
-use Rattle.callex_thunk.specs.HostFrames.{saved_of}
-use Rattle.ebc_base.proofs.Lists.{length-map}
-use Rattle.note_types.specs.Records.{IsNotes}
-use Rattle.entry_thunk.specs.Cells.{params_of}
-use Rattle.entry_thunk.specs.Entering.{OnRefused}
+use Rattle.entry_thunk.specs.{Cells.params_of, Entering.OnRefused}
 use Rattle.entry_thunk.specs.declared.EnterEnd.{EnterEnd}
-use Rattle.entry_thunk.specs.declared.EnterEnd.TheVariants as ends
-use Rattle.host_model.specs.HostPlans.{function_params}
-use Rattle.host_model.specs.HostSteps.{entered, frame_for, inside, with_slots}
-use Rattle.host_model.specs.Placements.{Placement, code_at, own_placement, params_bytes, return_cell, slot_bytes}
-use Rattle.host_model.specs.RunState.{RunState}
-use Rattle.host_model.specs.Values.{minus}
-use Rattle.host_model.specs.World.{World}
-use Rattle.native_host.specs.Kept.{placement_of}
-use Rattle.twin_run.specs.Runner.{IsAt, hosts_of}
-use Rattle.twin_run.specs.declared.runner.Runner.{Runner}
+use Rattle.host_model.specs.{HostSteps.with_slots, Placements.params_bytes, Placements.return_cell, Placements.slot_bytes, Values.minus}
 use Rattle.twin_run.proofs.RunnerLaws.{ended_at, is_placed, memory_kept}
+use Rattle.note_types.specs.declared.exception.Exception.TheVariants as raises
+use Rattle.entry_thunk.specs.declared.EnterEnd.TheVariants as ends
 
 -- ---- by the kinds of the parameters
 

@@ -1,47 +1,23 @@
 -- Laws of the host's steps in a run: which step is the host's, and what a runner is at after it.
-use Rattle.std.proofs.Common.{◌≡◌, ℕ, ◌<◌, Bool, true, false, List, [], ◌∷◌, ◌++◌, length, map, Option, Some}
-use Rattle.std.proofs.Common.{None, refl, sym, ap, ◌∙◌, subst, arith, nat_eq, drop, take, slice_get, slice_index, slice_set}
-use Rattle.std.proofs.Common.{if◌then◌else◌}
-use Rattle.std.specs.Option.{option_map_or}
-use Rattle.ebc_base.proofs.Lists.{length-map, within_some}
-use Rattle.object_memory.specs.Memory.{Memory}
-use Rattle.note_types.specs.Concrete.{Concrete, register}
-use Rattle.note_types.specs.declared.ending.Ending.{Ending}
-use Rattle.note_types.specs.declared.ending.Ending.TheVariants.{Finished}
-use Rattle.note_types.specs.declared.event.Event.{Event}
-use Rattle.note_types.specs.declared.event.Event.TheVariants as event
-use Rattle.note_types.specs.declared.notes.Notes.{Notes}
-use Rattle.note_types.specs.declared.script.Script.{Script}
-use Rattle.note_types.specs.declared.seen.Seen.{Seen}
-use Rattle.note_types.specs.declared.value.Value.{Value}
-use Rattle.ebc_machine.specs.States.{KeepsObjects, concrete_of}
-use Rattle.ebc_machine.specs.declared.Machine.{Machine}
-use Rattle.frame_stack.specs.declared.Frame.{Frame}
-use Rattle.callex_thunk.specs.HostFrames.{call_of, saved_of}
-use Rattle.callex_thunk.specs.declared.TheConstants.{NO_ENTRY}
+use Rattle.twin_run.proofs.Common.{◌≡◌, ℕ, ◌<◌, Bool, true, false, List, [], ◌∷◌, ◌++◌, length, map, Option, Some, None, refl, sym, ap, ◌∙◌}
+use Rattle.twin_run.proofs.Common.{subst, arith, nat_eq, drop, take, slice_get, slice_index, slice_set, if◌then◌else◌, option_map_or}
+use Rattle.twin_run.proofs.Common.{length-map, within_some, Memory, Concrete, register, Ending, Finished, Event, Notes, Script, Seen, Value}
+use Rattle.twin_run.proofs.Common.{KeepsObjects, concrete_of, Machine, Frame, call_of, saved_of, NO_ENTRY, Calls, GoesOn, IsDue, View}
+use Rattle.twin_run.proofs.Common.{function_params, host_plan, is_due, return_view, call_seen, call_under_way, host_step, host_view}
+use Rattle.twin_run.proofs.Common.{objects_at, performed, result_of, return_seen, made_objects, asking_at, outside, written_number}
+use Rattle.twin_run.proofs.Common.{Placement, frame_limit, own_placement, NativeCall, NoCall, Asked, Accepted, is_empty, RunState}
+use Rattle.twin_run.proofs.Common.{SavedFrame, World, IsHost, IsMemoryOf, IsServing, host_world, shown, placement_of, taken, under-way}
+use Rattle.twin_run.proofs.Common.{Host, HostStep, IsAt, hosts_of, AskedCall, Runner}
 use Rattle.entry_thunk.specs.Entering.{once_left}
 use Rattle.entry_thunk.proofs.CellLaws.{keeps-none}
-use Rattle.host_model.specs.HostPlans.{Calls, GoesOn, IsDue, View, function_params, host_plan, is_due, return_view}
-use Rattle.host_model.specs.HostSteps.{call_seen, call_under_way, host_step, host_view, objects_at, performed, result_of, return_seen}
-use Rattle.host_model.specs.Objects.{made_objects}
-use Rattle.host_model.specs.HostSteps.{as_before, asking_at, outside, writes_mapped, written_number}
-use Rattle.host_model.specs.Placements.{Placement, frame_limit, own_placement}
-use Rattle.host_model.specs.Progress.{NativeCall, NoCall, Asked, Accepted, is_empty}
-use Rattle.host_model.specs.RunState.{RunState, SavedFrame}
-use Rattle.host_model.specs.World.{World}
-use Rattle.native_host.specs.Hosts.{CountsThunks, IsCalled, IsHost, IsMemoryOf, IsServing, Tells, host_world, shown}
-use Rattle.native_host.specs.Kept.{placement_of}
-use Rattle.native_host.specs.Steps.{IsSettled, OnEnter, asked, asked_plan, due_plan, settled, taken}
+use Rattle.host_model.specs.HostSteps.{as_before, writes_mapped}
+use Rattle.native_host.specs.{Hosts.CountsThunks, Hosts.IsCalled, Hosts.Tells, Steps.IsSettled, Steps.OnEnter, Steps.asked}
+use Rattle.native_host.specs.Steps.{asked_plan, due_plan, settled}
 use Rattle.native_host.specs.declared.places.Places.{Places}
-use Rattle.native_host.proofs.TopLaws.{under-way}
-use Rattle.native_host.specs.declared.host.Host.{Host}
-use Rattle.native_host.specs.declared.step.HostStep.{HostStep}
+use Rattle.twin_run.proofs.{TurnLaws.asked_under_way, RunnerLaws.is_placed, RunnerLaws.is_world, RunnerLaws.memory_kept}
+use Rattle.twin_run.proofs.RunnerLaws.{replied_at, shown_at, shown_same}
+use Rattle.note_types.specs.declared.event.Event.TheVariants as event
 use Rattle.native_host.specs.declared.step.HostStep.TheVariants as step
-use Rattle.twin_run.specs.Runner.{IsAt, hosts_of}
-use Rattle.twin_run.specs.declared.runner.AskedCall.{AskedCall}
-use Rattle.twin_run.specs.declared.runner.Runner.{Runner}
-use Rattle.twin_run.proofs.TurnLaws.{asked_under_way}
-use Rattle.twin_run.proofs.RunnerLaws.{is_placed, is_world, memory_kept, replied_at, shown_at, shown_same}
 
 -- ---- what the host does
 

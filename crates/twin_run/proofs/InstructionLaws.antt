@@ -1,44 +1,18 @@
 -- Laws of instructions: what a runner is at after one, by how the machine's step ends.
-use Rattle.std.proofs.Common.{◌≡◌, ℕ, ◌+◌, ◌-◌, ◌^◌, List, [], ◌∷◌, map, min, Option, Some, None}
-use Rattle.std.proofs.Common.{refl, sym, ap}
-use Rattle.std.proofs.Common.{◌∙◌, subst, arith}
-use Rattle.std.specs.Option.{option_map_or}
-use Rattle.object_memory.specs.Memory.{Memory}
-use Rattle.note_types.specs.Concrete.{Concrete, stored}
-use Rattle.note_types.specs.declared.ending.Ending.{Ending}
-use Rattle.note_types.specs.declared.ending.Ending.TheVariants.{Raised, Mismatch}
-use Rattle.note_types.specs.declared.exception.Exception.{Exception}
-use Rattle.note_types.specs.declared.exception.Exception.TheVariants as raises
-use Rattle.note_types.specs.declared.notes.Notes.{Notes}
-use Rattle.note_types.specs.declared.reason.Reason.{Reason}
-use Rattle.note_types.specs.declared.reason.Reason.TheVariants as reason
-use Rattle.ebc_machine.specs.States.{KeepsObjects, concrete_of}
-use Rattle.ebc_machine.specs.Step.{machine_step}
-use Rattle.ebc_machine.specs.declared.Machine.{Machine}
-use Rattle.ebc_machine.specs.declared.StepEnd.{StepEnd}
-use Rattle.ebc_machine.specs.declared.StepEnd.TheVariants as ends
-use Rattle.frame_stack.specs.declared.Frame.{Frame}
-use Rattle.callex_thunk.specs.HostFrames.{saved_of}
+use Rattle.twin_run.proofs.Common.{◌≡◌, ℕ, ◌+◌, ◌-◌, ◌^◌, List, [], ◌∷◌, map, min, Option, Some, None, refl, sym, ap, ◌∙◌, subst, arith}
+use Rattle.twin_run.proofs.Common.{option_map_or, Memory, Concrete, stored, Ending, Raised, Mismatch, Exception, Notes, Reason}
+use Rattle.twin_run.proofs.Common.{KeepsObjects, concrete_of, machine_step, Machine, StepEnd, Frame, saved_of, with_memory, ThunkView}
+use Rattle.twin_run.proofs.Common.{NotMapped, NamesNone, Names, thunk_made, thunk_view, with_call, Placement, own_placement, NativeCall}
+use Rattle.twin_run.proofs.Common.{Asked, one_instruction, RunState, SavedFrame, after_instruction, instruction_step, World, IsMemoryOf}
+use Rattle.twin_run.proofs.Common.{IsServing, placement_of, Host, HostStep, IsAt, hosts_of, AskedCall, Runner}
 use Rattle.callex_thunk.specs.Slots.{memory_state}
-use Rattle.entry_thunk.specs.Cells.{with_memory}
-use Rattle.host_model.specs.HostPlans.{ThunkView, NotMapped, NamesNone, Names}
-use Rattle.host_model.specs.HostSteps.{call_place, thunk_made, thunk_view, with_call}
-use Rattle.host_model.specs.Placements.{Placement, own_placement, thunk_at}
-use Rattle.host_model.specs.Progress.{NativeCall, Asked, one_instruction}
-use Rattle.host_model.specs.RunState.{RunState, SavedFrame}
-use Rattle.host_model.specs.Runs.{after_instruction, instruction_step}
-use Rattle.host_model.specs.World.{World}
-use Rattle.native_host.specs.Hosts.{IsMemoryOf, IsServing}
-use Rattle.native_host.specs.Kept.{placement_of}
+use Rattle.host_model.specs.{HostSteps.call_place, Placements.thunk_at}
 use Rattle.native_host.specs.Steps.{OnAccepted, thunk_step}
-use Rattle.native_host.specs.declared.host.Host.{Host}
-use Rattle.native_host.specs.declared.step.HostStep.{HostStep}
+use Rattle.twin_run.proofs.{RunnerLaws.is_placed, RunnerLaws.memory_kept, ThunkSteps.stays}
+use Rattle.note_types.specs.declared.exception.Exception.TheVariants as raises
+use Rattle.note_types.specs.declared.reason.Reason.TheVariants as reason
+use Rattle.ebc_machine.specs.declared.StepEnd.TheVariants as ends
 use Rattle.native_host.specs.declared.step.HostStep.TheVariants as step
-use Rattle.twin_run.specs.Runner.{IsAt, hosts_of}
-use Rattle.twin_run.specs.declared.runner.AskedCall.{AskedCall}
-use Rattle.twin_run.specs.declared.runner.Runner.{Runner}
-use Rattle.twin_run.proofs.RunnerLaws.{is_placed, memory_kept}
-use Rattle.twin_run.proofs.ThunkSteps.{stays}
 
 -- ---- the machine's step
 

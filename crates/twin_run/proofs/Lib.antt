@@ -1,3 +1,4 @@
+pub mod Common
 pub mod BeginningLaws
 pub mod BoundLaws
 pub mod DriverImage

@@ -1,25 +1,13 @@
 -- Runners on their way along runs: one at its start, after a step more, and at the end; and two, which show where the runs part.
-use Rattle.std.specs.Prelude.{◌≢◌, IsTrue}
-use Rattle.std.proofs.Common.{◌≡◌, ◌↔◌, ◌⊎◌, ℕ, zero, suc, ◌+◌, ◌-◌, ◌<◌, ◌≤◌, ◌^◌, min, Bool, true, false, if◌then◌else◌}
-use Rattle.std.proofs.Common.{List, ◌++◌, length, drop}
-use Rattle.std.proofs.Common.{Some, None, refl, sym, ap, ◌∙◌, subst, inl, inr, arith, add-one, add-suc, add-zero}
-use Rattle.std.proofs.Math.Seq.{drop-append_seam}
-use Rattle.std.proofs.lemmas.Bool.{cases_lt, false≢true}
-use Rattle.note_types.specs.declared.ending.Ending.TheVariants.{Running}
-use Rattle.note_types.specs.declared.event.Event.{Event}
-use Rattle.pe_image.specs.Mapped.{mapped}
-use Rattle.pe_image.specs.declared.image.Image.{Image}
-use Rattle.host_model.specs.HostSteps.{spot_of}
-use Rattle.host_model.specs.Placements.{own_placement}
-use Rattle.host_model.specs.RunState.{RunState}
-use Rattle.host_model.specs.Runs.{SameRun, run_after, run_step}
-use Rattle.host_model.specs.World.{World}
-use Rattle.twin_run.specs.Differs.{DifferAt, OwnRunsSame, first, nowhere}
-use Rattle.twin_run.specs.OnItsWay.{AreInStep, IsOnItsWay, IsSameButFirst}
-use Rattle.twin_run.specs.Reported.{IsReport, own_run}
-use Rattle.twin_run.specs.Runner.{GoesOnFor, IsRunner, steps_on}
+use Rattle.twin_run.proofs.Common.{◌≢◌, ◌≡◌, ◌↔◌, ◌⊎◌, ℕ, zero, suc, ◌+◌, ◌-◌, ◌<◌, ◌≤◌, ◌^◌, min, Bool, true, false, if◌then◌else◌, List}
+use Rattle.twin_run.proofs.Common.{◌++◌, length, drop, Some, None, refl, sym, ap, ◌∙◌, subst, inl, inr, arith, add-one, add-zero, cases_lt}
+use Rattle.twin_run.proofs.Common.{false≢true, Running, Event, mapped, Image, spot_of, own_placement, RunState, run_after, run_step, World}
+use Rattle.twin_run.proofs.Common.{DifferAt, first, nowhere, AreInStep, IsOnItsWay, own_run, GoesOnFor, IsRunner, steps_on, Runner}
+use Rattle.std.specs.Prelude.{IsTrue}
+use Rattle.std.proofs.{Common.add-suc, Math.Seq.drop-append_seam}
+use Rattle.host_model.specs.Runs.{SameRun}
+use Rattle.twin_run.specs.{Differs.OwnRunsSame, OnItsWay.IsSameButFirst, Reported.IsReport}
 use Rattle.twin_run.specs.declared.reports.RunReport.{RunReport}
-use Rattle.twin_run.specs.declared.runner.Runner.{Runner}
 use Rattle.twin_run.proofs.Stepping.{ended-is-last, step-tells}
 
 -- each number below the next one is below this one, or is this one

@@ -1,22 +1,15 @@
 -- The placement that this project takes is valid.
-use Rattle.std.proofs.Common.{◌≡◌, ℕ, suc, ◌+◌, ◌*◌, ◌%◌, ◌^◌, ◌<◌, ◌≤◌, List, [], ◌∷◌, length, refl, ap, arith, inl, le_refl}
-use Rattle.std.specs.List.{AllByRecursion, sum_by}
-use Rattle.std.proofs.lemmas.List.Sums.{sum_by-append}
-use Rattle.std.proofs.lemmas.Nat.{mul-le}
-use Rattle.ebc_width.specs.Ranges.{Range}
-use Rattle.ebc_width.specs.Width.{IsWidth}
+use Rattle.twin_run.proofs.Common.{◌≡◌, ℕ, suc, ◌+◌, ◌*◌, ◌%◌, ◌^◌, ◌<◌, ◌≤◌, List, [], ◌∷◌, length, refl, ap, arith, inl, AllByRecursion}
+use Rattle.twin_run.proofs.Common.{sum_by, Range, IsWidth, Notes, ScriptObject, placed_objects, shape_of, own_placement, all_pairs}
+use Rattle.std.proofs.{Common.le_refl, lemmas.List.Sums.sum_by-append, lemmas.Nat.mul-le}
 use Rattle.ebc_width.proofs.Laws.{by_width}
 use Rattle.note_types.specs.Concrete.{AreDisjoint}
-use Rattle.note_types.specs.declared.notes.Notes.{Notes}
-use Rattle.note_types.specs.declared.script.ScriptObject.{ScriptObject}
 use Rattle.object_memory.specs.Memory.{first_base, padded}
-use Rattle.host_model.specs.Objects.{placed_objects, script_object, shape_of}
-use Rattle.host_model.specs.Placements.{IsWithin, area_bytes, bases_from, object_bytes, own_placement, placed_ranges, script_ranges}
-use Rattle.host_model.specs.Placements.{stack_bytes}
-use Rattle.host_model.specs.Scripts.{room_of}
+use Rattle.host_model.specs.Placements.{IsWithin, area_bytes, bases_from, object_bytes, placed_ranges, script_ranges, stack_bytes}
+use Rattle.host_model.specs.{Objects.script_object, Scripts.room_of}
 use Rattle.neutral_machine.proofs.Ranges.{stack_is_within_limit}
 use Rattle.twin_run.specs.OwnPlacement.{OwnPlacementIsValid}
-use Rattle.step_sound.proofs.Items.{EachPair, all_items, all_pairs}
+use Rattle.step_sound.proofs.Items.{EachPair, all_items}
 
 weaker : {A : Type 0} (P Q : A → Type 0) → ((x : A) → P x → Q x) → (xs : List A) → AllByRecursion P xs → AllByRecursion Q xs
 weaker P Q h [] all = tt

@@ -1,44 +1,26 @@
 -- A typed image has a state at each place to which control comes, and these states meet the typing rules.
-use Rattle.std.specs.Prelude.{IfOk, IfSome, Ok, Err}
-use Rattle.std.proofs.Common.{◌≡◌, ◌⊎◌, ℕ, zero, suc, ◌+◌, ◌-◌, ◌<◌, ◌≤◌, Bool, true, false, if◌then◌else◌, nat_eq, nat_lt, nat_le}
-use Rattle.std.proofs.Common.{List, [], ◌∷◌, length, Option, Some, refl, sym, ap, ◌∙◌, subst, arith, inl, inr, ⊎_elim, slice_get}
-use Rattle.std.proofs.lemmas.Bool.{cases_lt, and_parts, eqb-true, eqb-false, leb-true, ltb-true}
-use Rattle.std.proofs.lemmas.Option.{none-some, same_Some}
+use Rattle.twin_run.proofs.Common.{IfOk, IfSome, Ok, Err, ◌≡◌, ◌⊎◌, ℕ, zero, suc, ◌+◌, ◌-◌, ◌<◌, ◌≤◌, Bool, true, false, if◌then◌else◌}
+use Rattle.twin_run.proofs.Common.{nat_eq, nat_lt, nat_le, List, [], ◌∷◌, length, Option, Some, refl, sym, ap, ◌∙◌, subst, arith, inl, inr}
+use Rattle.twin_run.proofs.Common.{⊎_elim, slice_get, cases_lt, and_parts, eqb-true, leb-true, ltb-true, none-some, same_Some, Insn}
+use Rattle.twin_run.proofs.Common.{IsState, entry_state, IsNotes, function_at, FnNote, Notes, Point, State, Image, Leads, IsPlaceOf}
+use Rattle.twin_run.proofs.Common.{IsBefore, of_point, of_fall, Comes, row_of, here_at, MeetsRules, Typed, World, within_some, states_of}
+use Rattle.std.proofs.lemmas.{Bool.eqb-false, Option.slice_get_within}
 use Rattle.ebc_insn.specs.Spelling.{WellFormed}
-use Rattle.ebc_insn.specs.declared.Insn.{Insn}
-use Rattle.note_types.specs.Known.{IsState}
-use Rattle.note_types.specs.Notes.{entry_state}
-use Rattle.note_types.specs.Records.{IsNotes, has_place, function_at}
-use Rattle.note_types.specs.States.{StateBelow}
+use Rattle.note_types.specs.{Records.has_place, States.StateBelow}
 use Rattle.note_types.proofs.TypeLaws.{entry_is_state}
-use Rattle.note_types.specs.declared.notes.FnNote.{FnNote}
-use Rattle.note_types.specs.declared.notes.Notes.{Notes}
-use Rattle.note_types.specs.declared.notes.Point.{Point}
-use Rattle.note_types.specs.declared.state.State.{State}
-use Rattle.pe_image.specs.declared.image.Image.{Image}
 use Rattle.rules_base.specs.declared.here.Here.{Here}
 use Rattle.rules_base.specs.Outcomes.{gives_map, OrRule}
 use Rattle.rules_data.specs.Data.{after_data}
-use Rattle.rules_flow.specs.Flow.{after_flow}
-use Rattle.rules_flow.specs.Successors.{falls}
+use Rattle.rules_flow.specs.{Flow.after_flow, Successors.falls}
 use Rattle.rules_flow.specs.declared.successors.Successors.{Successors}
 use Rattle.rules_laws.specs.Keeping.{AreStates}
-use Rattle.rules_laws.proofs.FlowKeeps.{after_flow-keeps}
-use Rattle.rules_laws.proofs.RowsKeep.{after_data-keeps}
-use Rattle.rules_image.specs.Places.{Leads, IsPlaceOf}
-use Rattle.width_checker.specs.StatesAt.{IsPointAt, IsBefore, of_point, of_fall, Falls, Comes, StateAt}
-use Rattle.width_checker.specs.Rows.{row_of, here_at, is_flow}
-use Rattle.width_checker.specs.Typed.{EntryBelow, MeetsRules, Typed}
-use Rattle.width_checker.proofs.Leading.{OnePoint, leads_of, state_of, state_one}
-use Rattle.width_checker.proofs.Points.{one_point}
+use Rattle.rules_laws.proofs.{FlowKeeps.after_flow-keeps, RowsKeep.after_data-keeps}
+use Rattle.width_checker.specs.{StatesAt.IsPointAt, StatesAt.Falls, StatesAt.StateAt, Rows.is_flow, Typed.EntryBelow}
+use Rattle.width_checker.proofs.{Leading.OnePoint, Leading.leads_of, Leading.state_of, Leading.state_one, Points.one_point}
 use Rattle.invariant_laws.specs.Hosted.{EntersAs, as_entry, as_point}
 use Rattle.step_sound.specs.PlaceStates.{Reached, LeadsTo, PlacesHold, InsnHolds, StatesHold}
-use Rattle.step_sound.proofs.EvenPlaces.{find_some, place_even, point_place}
-use Rattle.host_model.specs.World.{World}
-use Rattle.ebc_base.proofs.Lists.{within_some}
-use Rattle.std.proofs.lemmas.Option.{slice_get_within}
-use Rattle.twin_run.specs.StatesOf.{StandsIn, states_of}
-use Rattle.step_sound.proofs.RowLeads.{RowLeads, row_leads}
+use Rattle.step_sound.proofs.{EvenPlaces.find_some, EvenPlaces.place_even, EvenPlaces.point_place, RowLeads.RowLeads, RowLeads.row_leads}
+use Rattle.twin_run.specs.StatesOf.{StandsIn}
 use Rattle.rules_image.proofs.Decoding.{spelled_at}
 
 -- ---- a point at a place

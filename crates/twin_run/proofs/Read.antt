@@ -1,12 +1,7 @@
 -- The placement that this project takes is valid for what was read.
-use Rattle.ebc_width.specs.Width.{IsWidth}
-use Rattle.pe_image.specs.declared.image.Image.{Image}
-use Rattle.host_model.specs.Placements.{IsPlacement, own_placement}
-use Rattle.host_model.specs.World.{World}
-use Rattle.std.proofs.Common.{ℕ}
+use Rattle.twin_run.proofs.Common.{IsWidth, Image, IsPlacement, own_placement, World, ℕ, IsTypedWorld}
 use Rattle.step_sound.specs.ReadWorld.{IsReadWorld}
 use Rattle.step_sound.proofs.Read.{objects_have_room}
-use Rattle.twin_run.specs.TypedRuns.{IsTypedWorld}
 use Rattle.twin_run.proofs.OwnPlacement.{own_placement_is_valid}
 
 pub read_is_placed : (w : ℕ) (image : Image) (world : World) → IsWidth w → IsReadWorld image world

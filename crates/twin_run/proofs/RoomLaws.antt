@@ -1,48 +1,27 @@
 -- Laws of the events that may still come: no step of a run that goes on raises what its trace has and what may still come.
-use Rattle.std.proofs.Common.{◌≡◌, ℕ, zero, suc, ◌+◌, ◌-◌, ◌*◌, ◌<◌, ◌≤◌, Bool, true, false, not, ◌&&◌, List, [], ◌∷◌, ◌++◌, length, map}
-use Rattle.std.proofs.Common.{drop, Option, Some, None, refl, sym, ap, subst, arith, slice_get, nat_eq, nat_le, length-append}
-use Rattle.std.proofs.Common.{if◌then◌else◌, add-one}
-use Rattle.std.specs.Prelude.{⊤}
-use Rattle.std.specs.List.{sum_by}
-use Rattle.std.specs.Option.{option_map_or, option_or}
-use Rattle.std.proofs.lemmas.List.Sums.{sum_by-cons}
-use Rattle.std.proofs.lemmas.Option.{slice_get_within}
-use Rattle.ebc_machine.specs.declared.StepEnd.{StepEnd}
+use Rattle.twin_run.proofs.Common.{◌≡◌, ℕ, zero, suc, ◌+◌, ◌-◌, ◌*◌, ◌<◌, ◌≤◌, Bool, true, false, not, ◌&&◌, List, [], ◌∷◌, ◌++◌, length}
+use Rattle.twin_run.proofs.Common.{map, drop, Option, Some, None, refl, sym, ap, subst, arith, slice_get, nat_eq, nat_le, if◌then◌else◌}
+use Rattle.twin_run.proofs.Common.{add-one, ⊤, sum_by, option_map_or, StepEnd, machine_step, Concrete, Ending, Running, Raised, Mismatch}
+use Rattle.twin_run.proofs.Common.{ScriptEnd, Event, Notify, Script, ScriptCall, Seen, Value, View, IsDue, GoesOn, Ends, Enters, Replies}
+use Rattle.twin_run.proofs.Common.{Notifies, ThunkView, NotMapped, NamesNone, Names, function_params, signature_result, host_plan}
+use Rattle.twin_run.proofs.Common.{host_turn, is_due, return_view, call_seen, call_under_way, frame_for, host_step, host_view, performed}
+use Rattle.twin_run.proofs.Common.{return_seen, thunk_made, thunk_view, with_call, inside, written_number, made_objects, TypedObject}
+use Rattle.twin_run.proofs.Common.{Placement, code_at, frame_limit, NativeCall, NoCall, Asked, Accepted, ScriptPlace, is_empty}
+use Rattle.twin_run.proofs.Common.{one_callback, one_notification, script_start, RunState, SavedFrame, after_instruction, instruction_step}
+use Rattle.twin_run.proofs.Common.{running_step, World, AreInside, HasEvents, call_events, events_left}
+use Rattle.std.proofs.{Common.length-append, lemmas.List.Sums.sum_by-cons, lemmas.Option.slice_get_within}
+use Rattle.std.specs.Option.{option_or}
+use Rattle.note_types.specs.declared.script.Callback.{Callback}
+use Rattle.host_model.specs.HostPlans.{Asking, NoSite, Unmapped, Asks, reply_stores, signature_params, argument_refused, asking_refused}
+use Rattle.host_model.specs.HostPlans.{call_event, call_plan, call_settled, callback_fits, enter_plan, entry_refused, next_plan}
+use Rattle.host_model.specs.HostPlans.{notification_fits, notify_plan, reply_fits, reply_plan, asked_signature, asked_args}
+use Rattle.host_model.specs.{Progress.one_entry, ScriptValues.given, ScriptValues.same_seen}
+use Rattle.native_host.specs.Starting.{rest_events}
+use Rattle.twin_run.specs.Room.{callbacks_left, frame_events}
 use Rattle.ebc_machine.specs.declared.StepEnd.TheVariants as ends
-use Rattle.ebc_machine.specs.Step.{machine_step}
-use Rattle.note_types.specs.Concrete.{Concrete}
-use Rattle.note_types.specs.declared.ending.Ending.{Ending}
-use Rattle.note_types.specs.declared.ending.Ending.TheVariants.{Running, Raised, Mismatch, ScriptEnd}
-use Rattle.note_types.specs.declared.event.Event.{Event}
 use Rattle.note_types.specs.declared.event.Event.TheVariants as event
 use Rattle.note_types.specs.declared.exception.Exception.TheVariants as raises
 use Rattle.note_types.specs.declared.reason.Reason.TheVariants as reason
-use Rattle.note_types.specs.declared.script.Callback.{Callback}
-use Rattle.note_types.specs.declared.script.Notify.{Notify}
-use Rattle.note_types.specs.declared.script.Script.{Script}
-use Rattle.note_types.specs.declared.script.ScriptCall.{ScriptCall}
-use Rattle.note_types.specs.declared.seen.Seen.{Seen}
-use Rattle.note_types.specs.declared.value.Value.{Value}
-use Rattle.host_model.specs.HostPlans.{Asking, NoSite, Unmapped, Asks, View, IsDue, GoesOn, Ends, Enters, Replies, Notifies}
-use Rattle.host_model.specs.HostPlans.{ThunkView, NotMapped, NamesNone}
-use Rattle.host_model.specs.HostPlans.{Names, function_params, reply_stores, signature_params, signature_result}
-use Rattle.host_model.specs.HostPlans.{argument_refused, asking_refused, call_event, call_plan, call_settled, callback_fits, enter_plan}
-use Rattle.host_model.specs.HostPlans.{entry_refused, host_plan, host_turn, is_due, next_plan, notification_fits, notify_plan, reply_fits}
-use Rattle.host_model.specs.HostPlans.{reply_plan, asked_signature, asked_args, return_view}
-use Rattle.host_model.specs.HostSteps.{call_seen, call_under_way, frame_for, host_step, host_view, performed, return_seen}
-use Rattle.host_model.specs.HostSteps.{thunk_made}
-use Rattle.host_model.specs.HostSteps.{thunk_view, with_call, inside, written_number}
-use Rattle.host_model.specs.Objects.{made_objects}
-use Rattle.host_model.specs.declared.object.TypedObject.{TypedObject}
-use Rattle.host_model.specs.Placements.{Placement, code_at, frame_limit}
-use Rattle.host_model.specs.Progress.{NativeCall, NoCall, Asked, Accepted, ScriptPlace, is_empty, one_callback, one_entry, one_notification}
-use Rattle.host_model.specs.Progress.{script_start}
-use Rattle.host_model.specs.RunState.{RunState, SavedFrame}
-use Rattle.host_model.specs.Runs.{after_instruction, instruction_step, running_step}
-use Rattle.host_model.specs.ScriptValues.{given, same_seen}
-use Rattle.host_model.specs.World.{World}
-use Rattle.native_host.specs.Starting.{rest_events}
-use Rattle.twin_run.specs.Room.{AreInside, HasEvents, call_events, callbacks_left, events_left, frame_events}
 
 -- ---- what the frames may still give
 

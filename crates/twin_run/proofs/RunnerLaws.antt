@@ -1,27 +1,11 @@
 -- Laws of runners: what a runner holds is a state of its run, and what changes of it are changes of the state.
-use Rattle.std.proofs.Common.{◌≡◌, ℕ, ◌-◌, Bool, true, false, List, Option, Some, None}
-use Rattle.std.proofs.Common.{refl, sym}
-use Rattle.std.proofs.Common.{ap, ◌∙◌, subst, eq-eqb, nat_eq, slice_set, if◌then◌else◌}
-use Rattle.ebc_width.specs.Ranges.{covers}
-use Rattle.object_memory.specs.Memory.{Memory}
-use Rattle.note_types.specs.Concrete.{Concrete, with_register}
-use Rattle.note_types.specs.declared.ending.Ending.{Ending}
-use Rattle.note_types.specs.declared.spot.Spot.{Spot}
+use Rattle.twin_run.proofs.Common.{◌≡◌, ℕ, ◌-◌, Bool, true, false, List, Option, Some, None, refl, sym, ap, ◌∙◌, subst, eq-eqb, nat_eq}
+use Rattle.twin_run.proofs.Common.{slice_set, if◌then◌else◌, covers, Memory, Concrete, with_register, Ending, Spot, KeepsObjects}
+use Rattle.twin_run.proofs.Common.{concrete_of, Frame, with_memory, spot_of, Placement, own_placement, RunState, World, IsMemoryOf}
+use Rattle.twin_run.proofs.Common.{IsServing, host_world, shown, placement_of, Host, other-place, IsAt, IsRunner, hosts_of, AskedCall}
+use Rattle.twin_run.proofs.Common.{Runner}
+use Rattle.host_model.specs.Placements.{image_range}
 use Rattle.note_types.specs.declared.spot.Spot.TheVariants as spot
-use Rattle.ebc_machine.specs.States.{KeepsObjects, concrete_of}
-use Rattle.frame_stack.specs.declared.Frame.{Frame}
-use Rattle.entry_thunk.specs.Cells.{with_memory}
-use Rattle.host_model.specs.HostSteps.{spot_of}
-use Rattle.host_model.specs.Placements.{Placement, image_range, own_placement}
-use Rattle.host_model.specs.RunState.{RunState}
-use Rattle.host_model.specs.World.{World}
-use Rattle.native_host.specs.Hosts.{IsMemoryOf, IsServing, host_world, shown}
-use Rattle.native_host.specs.Kept.{placement_of}
-use Rattle.native_host.specs.declared.host.Host.{Host}
-use Rattle.native_host.proofs.AskingLaws.{other-place}
-use Rattle.twin_run.specs.Runner.{IsAt, IsRunner, hosts_of}
-use Rattle.twin_run.specs.declared.runner.AskedCall.{AskedCall}
-use Rattle.twin_run.specs.declared.runner.Runner.{Runner}
 
 -- ---- worlds and placements
 

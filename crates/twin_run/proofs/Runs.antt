@@ -1,43 +1,24 @@
 -- The induction: at either width the run of a typed program meets the invariant after every number of steps. It cites the laws of the
 -- steps and no row of the rules. So the runs at both widths are the same.
-use Rattle.std.specs.Prelude.{IfOk, Result, Ok, Err}
-use Rattle.std.proofs.Common.{◌≡◌, ◌↔◌, ℕ, zero, suc, Option, Some, None, option_and_then, refl, sym, ap, ◌∙◌, subst, inl, inr}
-use Rattle.std.proofs.lemmas.Option.{same_Some}
-use Rattle.ebc_width.specs.Width.{IsWidth}
+use Rattle.twin_run.proofs.Common.{IfOk, Result, Ok, Err, ◌≡◌, ◌↔◌, ℕ, zero, suc, Option, Some, None, refl, sym, ap, ◌∙◌, subst, inl, inr}
+use Rattle.twin_run.proofs.Common.{same_Some, IsWidth, IsNotes, Ending, Notes, IsImage, AreBytes, mapped, Image, Config, spot_of}
+use Rattle.twin_run.proofs.Common.{neutral_start, Placement, IsPlacement, own_placement, RunState, World, static_cells, config_after}
+use Rattle.twin_run.proofs.Common.{run_after, run_of, world_of, Typed, DifferAt, nowhere, first, states_of, IsTypedWorld}
+use Rattle.std.proofs.Common.{option_and_then}
 use Rattle.host_laws.proofs.SeenStands.{spot_is}
 use Rattle.instruction_laws.proofs.Worlds.{world_meets}
-use Rattle.note_types.specs.Records.{IsNotes}
-use Rattle.note_types.specs.declared.ending.Ending.{Ending}
-use Rattle.note_types.specs.declared.ending.Ending.TheVariants as ending
-use Rattle.note_types.specs.declared.notes.Notes.{Notes}
-use Rattle.pe_image.specs.Images.{IsImage}
-use Rattle.pe_image.specs.Mapped.{AreBytes, mapped}
-use Rattle.pe_image.specs.declared.image.Image.{Image}
-use Rattle.neutral_machine.specs.Config.{Config}
-use Rattle.host_model.specs.HostSteps.{spot_of}
-use Rattle.neutral_machine.specs.NeutralRuns.{neutral_run, neutral_start, neutral_step}
-use Rattle.host_model.specs.Placements.{Placement, IsPlacement, own_placement}
-use Rattle.host_model.specs.RunState.{RunState}
-use Rattle.host_model.specs.World.{World}
-use Rattle.step_sound.specs.Invariant.{Invariant, RunHolds}
+use Rattle.neutral_machine.specs.{NeutralRuns.neutral_run, NeutralRuns.neutral_step, NeutralRun.neutral_instruction}
 use Rattle.step_sound.specs.StepKinds.{NextStep, plain, native_call, thunk, call, enter, reply, notify, leaving, resuming, last}
-use Rattle.step_sound.specs.StepLaws.{StepKeeps}
+use Rattle.step_sound.specs.{Invariant.Invariant, Invariant.RunHolds, StepLaws.StepKeeps}
 use Rattle.step_sound.proofs.Keeping.{plain_keeps, native_call_keeps, thunk_keeps, call_keeps, enter_keeps, reply_keeps, notify_keeps}
-use Rattle.step_sound.proofs.Keeping.{leaving_keeps, resuming_keeps, last_keeps, ended_keeps, next_step, start_meets}
-use Rattle.step_sound.proofs.Read.{read_is_run}
+use Rattle.step_sound.proofs.Keeping.{leaving_keeps, resuming_keeps, last_keeps, ended_keeps, next_step}
+use Rattle.step_sound.proofs.{Keeping.start_meets, Read.read_is_run}
 use Rattle.invariant_laws.specs.Endings.{RaisesOnlyDivideError}
-use Rattle.neutral_machine.specs.NeutralImage.{static_cells}
-use Rattle.neutral_machine.specs.NeutralRun.{config_after, neutral_instruction}
-use Rattle.host_model.specs.Runs.{run_after, run_of, world_of}
-use Rattle.width_checker.specs.Typed.{Typed}
-use Rattle.plain_check.specs.declared.verdict.Verdict.{Verdict}
-use Rattle.plain_check.specs.declared.verdict.Verdict.TheVariants.{Neutral}
-use Rattle.twin_run.specs.Differs.{DifferAt, nowhere, first}
-use Rattle.twin_run.specs.Headline.{SameAtBothWidths}
-use Rattle.twin_run.specs.StatesOf.{states_of}
-use Rattle.twin_run.specs.TypedRuns.{IsTypedWorld, MachinesFollow, TypedRunsAreSame, OwnTypedRunsAreSame, TypedNeverDiffer}
-use Rattle.twin_run.proofs.Places.{typed_states}
-use Rattle.twin_run.proofs.Read.{read_is_placed, typed_is_read}
+use Rattle.plain_check.specs.declared.verdict.Verdict.{Verdict, TheVariants.Neutral}
+use Rattle.twin_run.specs.{Headline.SameAtBothWidths, TypedRuns.MachinesFollow, TypedRuns.TypedRunsAreSame, TypedRuns.OwnTypedRunsAreSame}
+use Rattle.twin_run.specs.TypedRuns.{TypedNeverDiffer}
+use Rattle.twin_run.proofs.{Places.typed_states, Read.read_is_placed, Read.typed_is_read}
+use Rattle.note_types.specs.declared.ending.Ending.TheVariants as ending
 
 -- ---- one width
 

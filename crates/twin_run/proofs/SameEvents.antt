@@ -1,27 +1,18 @@
 -- Events, spots and endings are one exactly where `==` says so.
-use Rattle.std.proofs.Common.{◌≡◌, Bool, true, false, nat_eq, Some, None, List, refl, ap, subst, Decides}
-use Rattle.std.proofs.lemmas.Bool.{and_parts, and_from, eqb-true, eq-eqb, false≢true}
-use Rattle.std.proofs.lemmas.Slice.Eq.{slice_eq-Decides}
+use Rattle.twin_run.proofs.Common.{◌≡◌, Bool, true, false, nat_eq, Some, None, List, refl, ap, subst, and_parts, eqb-true, eq-eqb}
+use Rattle.twin_run.proofs.Common.{false≢true, Ending, Event, Exception, Reason, Seen, Spot, Value}
+use Rattle.std.proofs.{Common.Decides, lemmas.Bool.and_from, lemmas.Slice.Eq.slice_eq-Decides}
 use Rattle.std.specs.Cmp.Lexicographic.{pointwise}
-use Rattle.note_types.specs.contracts.event.EventPartialEq.TheImpl.{ghosts as events}
 use Rattle.note_types.specs.contracts.ending.EndingPartialEq.TheImpl.{ghosts as endings}
 use Rattle.note_types.specs.contracts.exception.ExceptionPartialEq.TheImpl.{ghosts as exceptions}
 use Rattle.note_types.specs.contracts.reason.ReasonPartialEq.TheImpl.{ghosts as reasons}
-use Rattle.note_types.specs.contracts.seen.SeenPartialEq.TheImpl.{ghosts as seens}
-use Rattle.note_types.specs.contracts.spot.SpotPartialEq.TheImpl.{ghosts as spots}
-use Rattle.note_types.specs.contracts.value.ValuePartialEq.TheImpl.{ghosts as values}
-use Rattle.note_types.specs.declared.ending.Ending.{Ending}
+use Rattle.note_types.specs.contracts.{event.EventPartialEq.TheImpl.ghosts as events, seen.SeenPartialEq.TheImpl.ghosts as seens}
+use Rattle.note_types.specs.contracts.{spot.SpotPartialEq.TheImpl.ghosts as spots, value.ValuePartialEq.TheImpl.ghosts as values}
 use Rattle.note_types.specs.declared.ending.Ending.TheVariants as ending
-use Rattle.note_types.specs.declared.event.Event.{Event}
 use Rattle.note_types.specs.declared.event.Event.TheVariants as event
-use Rattle.note_types.specs.declared.exception.Exception.{Exception}
 use Rattle.note_types.specs.declared.exception.Exception.TheVariants as raises
-use Rattle.note_types.specs.declared.reason.Reason.{Reason}
 use Rattle.note_types.specs.declared.reason.Reason.TheVariants as reason
-use Rattle.note_types.specs.declared.seen.Seen.{Seen}
-use Rattle.note_types.specs.declared.spot.Spot.{Spot}
 use Rattle.note_types.specs.declared.spot.Spot.TheVariants as spot
-use Rattle.note_types.specs.declared.value.Value.{Value}
 use Rattle.note_types.specs.declared.value.Value.TheVariants as value
 
 -- ---- values

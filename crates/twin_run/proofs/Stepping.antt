@@ -1,26 +1,16 @@
 -- Runs step by step: one that ended stays as it is, and the events of one that goes on are added to.
-use Rattle.std.specs.Prelude.{◌≢◌}
-use Rattle.std.proofs.Common.{◌≡◌, ℕ, zero, suc, ◌+◌, Bool, true, false, if◌then◌else◌, nat_eq, List, [], ◌∷◌, ◌++◌, append-nil, map}
-use Rattle.std.proofs.Common.{Option, Some, None, refl, sym, ap, ◌∙◌, add-suc, add-zero}
-use Rattle.std.specs.Option.{option_map_or}
-use Rattle.ebc_machine.specs.Step.{machine_step}
-use Rattle.ebc_machine.specs.declared.StepEnd.{StepEnd}
+use Rattle.twin_run.proofs.Common.{◌≢◌, ◌≡◌, ℕ, zero, suc, ◌+◌, Bool, true, false, if◌then◌else◌, nat_eq, List, [], ◌∷◌, ◌++◌, map, Option}
+use Rattle.twin_run.proofs.Common.{Some, None, refl, sym, ap, ◌∙◌, add-zero, option_map_or, machine_step, StepEnd, Concrete, Ending, Event}
+use Rattle.twin_run.proofs.Common.{View, host_plan, host_turn, is_due, Enters, Replies, Notifies, Ends, ThunkView, Names, NamesNone}
+use Rattle.twin_run.proofs.Common.{NotMapped, function_params, call_under_way, entered, frame_for, host_step, host_view, inside, left}
+use Rattle.twin_run.proofs.Common.{performed, objects_at, thunk_made, thunk_view, with_call, written_number, Placement, code_at}
+use Rattle.twin_run.proofs.Common.{one_callback, one_instruction, one_notification, RunState, SavedFrame, after_instruction}
+use Rattle.twin_run.proofs.Common.{instruction_step, run_after, run_step, running_step, step_if, World}
+use Rattle.std.proofs.Common.{append-nil, add-suc}
+use Rattle.host_model.specs.{HostPlans.Plan, HostPlans.Finishes, HostPlans.Leaves, HostPlans.Accepts, HostPlans.Resumes, HostSteps.resumed}
 use Rattle.ebc_machine.specs.declared.StepEnd.TheVariants as ends
-use Rattle.note_types.specs.Concrete.{Concrete}
-use Rattle.note_types.specs.declared.ending.Ending.{Ending}
 use Rattle.note_types.specs.declared.ending.Ending.TheVariants as ending
-use Rattle.note_types.specs.declared.event.Event.{Event}
 use Rattle.note_types.specs.declared.exception.Exception.TheVariants as raises
-use Rattle.host_model.specs.HostPlans.{Plan, View, host_plan, host_turn, is_due}
-use Rattle.host_model.specs.HostPlans.{Finishes, Leaves, Accepts, Enters, Replies, Resumes, Notifies, Ends}
-use Rattle.host_model.specs.HostPlans.{ThunkView, Names, NamesNone, NotMapped, function_params}
-use Rattle.host_model.specs.HostSteps.{call_under_way, entered, frame_for, host_step, host_view, inside, left, performed}
-use Rattle.host_model.specs.HostSteps.{objects_at, resumed, thunk_made, thunk_view, with_call, written_number}
-use Rattle.host_model.specs.Placements.{Placement, code_at}
-use Rattle.host_model.specs.Progress.{one_callback, one_instruction, one_notification}
-use Rattle.host_model.specs.RunState.{RunState, SavedFrame}
-use Rattle.host_model.specs.Runs.{after_instruction, instruction_step, run_after, run_step, running_step, step_if}
-use Rattle.host_model.specs.World.{World}
 
 -- ---- the end
 

@@ -1,25 +1,11 @@
 -- Runs so many steps on: what a runner is at after several instructions, and after several steps.
-use Rattle.std.specs.Prelude.{◌≢◌, vec_capacity}
-use Rattle.std.proofs.Common.{◌≡◌, ℕ, zero, suc, ◌+◌, ◌-◌, ◌^◌, ◌<◌, ◌≤◌, false, map, min, None}
-use Rattle.std.proofs.Common.{refl, sym, ap, ◌∙◌, subst, arith, add-one, inl, inr}
-use Rattle.std.proofs.lemmas.Bool.{cases_lt}
-use Rattle.note_types.specs.declared.ending.Ending.TheVariants.{Running}
-use Rattle.note_types.specs.declared.script.Script.{Script}
-use Rattle.note_types.specs.declared.notes.Notes.{Notes}
-use Rattle.callex_thunk.specs.HostFrames.{saved_of}
-use Rattle.host_model.specs.HostPlans.{is_due}
-use Rattle.host_model.specs.HostSteps.{call_under_way}
-use Rattle.host_model.specs.Placements.{own_placement}
-use Rattle.host_model.specs.Progress.{NoCall, ScriptPlace}
-use Rattle.host_model.specs.RunState.{RunState}
-use Rattle.host_model.specs.Runs.{instruction_step, run_step, running_step, step_if}
-use Rattle.host_model.specs.World.{World}
-use Rattle.twin_run.specs.Room.{HasEvents}
-use Rattle.twin_run.specs.Runner.{GoesOnFor, IsAt, IsFree, IsMachines, IsQuiet, IsRunner, Runs, hosts_of, steps_on}
-use Rattle.twin_run.specs.declared.runner.Runner.{Runner}
-use Rattle.twin_run.proofs.RoomLaws.{step_events}
-use Rattle.twin_run.proofs.RunnerLaws.{away_there}
-use Rattle.twin_run.proofs.TurnLaws.{due_there, more_events, not_due_before, quiet_at, turn_is}
+use Rattle.twin_run.proofs.Common.{◌≢◌, vec_capacity, ◌≡◌, ℕ, zero, suc, ◌+◌, ◌-◌, ◌^◌, ◌<◌, ◌≤◌, false, map, min, None, refl, sym, ap, ◌∙◌}
+use Rattle.twin_run.proofs.Common.{subst, arith, add-one, inl, inr, cases_lt, Running, Script, Notes, saved_of, is_due, call_under_way}
+use Rattle.twin_run.proofs.Common.{own_placement, NoCall, ScriptPlace, RunState, instruction_step, run_step, running_step, step_if, World}
+use Rattle.twin_run.proofs.Common.{HasEvents, GoesOnFor, IsAt, IsFree, IsQuiet, IsRunner, Runs, hosts_of, steps_on, Runner}
+use Rattle.twin_run.specs.Runner.{IsMachines}
+use Rattle.twin_run.proofs.{RoomLaws.step_events, RunnerLaws.away_there, TurnLaws.due_there, TurnLaws.more_events, TurnLaws.not_due_before}
+use Rattle.twin_run.proofs.TurnLaws.{quiet_at, turn_is}
 
 -- ---- one step more
 

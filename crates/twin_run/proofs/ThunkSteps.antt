@@ -1,33 +1,24 @@
 -- Laws of the ends of an instruction: one that asks for a thunk leaves all but ip as it was, and at the gate nothing is done.
-use Rattle.std.proofs.Common.{◌≡◌, ℕ, ◌+◌, ◌*◌, ◌/◌, ◌%◌, ◌^◌, Bool, true, false, Result, Ok, Err, refl, sym, subst, nat_eq, if◌then◌else◌}
-use Rattle.std.proofs.Common.{ℤ, pos}
-use Rattle.std.specs.Prelude.{⊤, ◌*ℤ◌}
+use Rattle.twin_run.proofs.Common.{◌≡◌, ℕ, ◌+◌, ◌*◌, ◌%◌, ◌^◌, Bool, true, false, Result, Ok, Err, refl, sym, subst, nat_eq, if◌then◌else◌}
+use Rattle.twin_run.proofs.Common.{pos, ⊤, Insn, compared, computed, Concrete, register, with_register, Exception, machine_step, StepEnd}
+use Rattle.std.proofs.Common.{◌/◌, ℤ}
+use Rattle.std.specs.Prelude.{◌*ℤ◌}
 use Rattle.ebc_base.specs.Steps.{◌>>=◌}
-use Rattle.ebc_insn.specs.declared.ArithOp.{ArithOp}
-use Rattle.ebc_insn.specs.declared.CmpOp.{CmpOp}
-use Rattle.ebc_insn.specs.declared.Cond.{Cond}
-use Rattle.ebc_insn.specs.declared.Insn.{Insn}
-use Rattle.ebc_insn.specs.declared.Insn.TheVariants as insns
-use Rattle.ebc_insn.specs.declared.Size.{Size}
+use Rattle.ebc_insn.specs.declared.{ArithOp.ArithOp, CmpOp.CmpOp, Cond.Cond, Size.Size}
 use Rattle.ebc_width.specs.Width.{extended_at, wrap64}
 use Rattle.natural_index.specs.declared.Index.{Index}
-use Rattle.machine_alu.specs.Alu.{compared, computed}
-use Rattle.note_types.specs.Concrete.{Concrete, at_ip, register, with_flags, with_register}
-use Rattle.note_types.specs.declared.exception.Exception.{Exception}
-use Rattle.note_types.specs.declared.exception.Exception.TheVariants as raises
-use Rattle.ebc_machine.specs.Data.{arith_row, compare_row, compare_imm_row, with_c}
-use Rattle.ebc_machine.specs.Fetch.{fetched}
+use Rattle.note_types.specs.Concrete.{at_ip, with_flags}
 use Rattle.ebc_machine.specs.Flow.{aligned, break_row, call_native_row, call_row, called, is_taken, jump8_row, jump_row, return_row}
-use Rattle.ebc_machine.specs.Flow.{target_at}
 use Rattle.ebc_machine.specs.Moves.{load_special_row, move_imm_natural_row, move_imm_row, move_relative_row, move_row, move_signed_row}
-use Rattle.ebc_machine.specs.Moves.{store_special_row}
-use Rattle.ebc_machine.specs.Operands.{form_bytes, index_offset, loaded_at, low_bytes, size_bytes, value, written}
-use Rattle.ebc_machine.specs.Results.{Row, Written, goes, or_divide_error}
-use Rattle.ebc_machine.specs.Stack.{pop_row, popped, popped_number, push_row, pushed, raised_by, stack_fault}
-use Rattle.ebc_machine.specs.Step.{ended, executed, instruction_done, machine_step}
-use Rattle.ebc_machine.specs.declared.StepEnd.{StepEnd}
-use Rattle.ebc_machine.specs.declared.StepEnd.TheVariants as ends
+use Rattle.ebc_machine.specs.{Data.arith_row, Data.compare_row, Data.compare_imm_row, Data.with_c, Fetch.fetched, Flow.target_at}
+use Rattle.ebc_machine.specs.{Moves.store_special_row, Operands.form_bytes, Operands.index_offset, Operands.loaded_at, Operands.low_bytes}
+use Rattle.ebc_machine.specs.{Operands.size_bytes, Operands.value, Operands.written, Results.Row, Results.Written, Results.goes}
+use Rattle.ebc_machine.specs.{Results.or_divide_error, Stack.pop_row, Stack.popped, Stack.popped_number, Stack.push_row, Stack.pushed}
+use Rattle.ebc_machine.specs.{Stack.raised_by, Stack.stack_fault, Step.ended, Step.executed, Step.instruction_done}
 use Rattle.ebc_machine.specs.declared.operand.Side.{Side}
+use Rattle.ebc_insn.specs.declared.Insn.TheVariants as insns
+use Rattle.note_types.specs.declared.exception.Exception.TheVariants as raises
+use Rattle.ebc_machine.specs.declared.StepEnd.TheVariants as ends
 
 -- what is as it was where a step ends so
 abbrev pub Stays : Concrete → StepEnd → Concrete → Type 0

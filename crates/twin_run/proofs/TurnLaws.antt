@@ -1,35 +1,14 @@
 -- Laws of a step of a run: whose it is, and what the runner needs for it and is at after it.
-use Rattle.std.proofs.Common.{◌≡◌, ℕ, ◌-◌, ◌^◌, ◌<◌, ◌≤◌, Bool, true, false, List, [], ◌∷◌, length, map, min, Option, Some, None}
-use Rattle.std.proofs.Common.{refl, sym}
-use Rattle.std.proofs.Common.{ap, ◌∙◌, subst, arith, nat_eq, nat_le, slice_get, if◌then◌else◌}
-use Rattle.std.specs.Prelude.{vec_capacity}
-use Rattle.std.specs.Option.{option_map_or}
-use Rattle.std.proofs.lemmas.Bool.{leb-true}
+use Rattle.twin_run.proofs.Common.{◌≡◌, ℕ, ◌-◌, ◌^◌, ◌<◌, ◌≤◌, Bool, true, false, List, [], ◌∷◌, length, map, min, Option, Some, None, refl}
+use Rattle.twin_run.proofs.Common.{sym, ap, ◌∙◌, subst, arith, nat_eq, nat_le, slice_get, if◌then◌else◌, vec_capacity, option_map_or}
+use Rattle.twin_run.proofs.Common.{leb-true, Ending, Running, Finished, Raised, Mismatch, ScriptEnd, Notes, Notify, Script, Frame, saved_of}
+use Rattle.twin_run.proofs.Common.{host_turn, is_due, call_under_way, host_step, Placement, own_placement, NativeCall, NoCall, Asked}
+use Rattle.twin_run.proofs.Common.{ScriptPlace, RunState, SavedFrame, instruction_step, run_step, running_step, step_if, IsScript, World}
+use Rattle.twin_run.proofs.Common.{IsMemoryOf, IsServing, host_world, placement_of, Host, HasEvents, IsAt, IsQuiet, IsRunner, Runs}
+use Rattle.twin_run.proofs.Common.{hosts_of, AskedCall, Runner}
 use Rattle.std.proofs.lemmas.Bool.Decides.{nat_tests}
-use Rattle.note_types.specs.declared.ending.Ending.{Ending}
-use Rattle.note_types.specs.declared.ending.Ending.TheVariants.{Running, Finished, Raised, Mismatch, ScriptEnd}
-use Rattle.note_types.specs.declared.notes.Notes.{Notes}
-use Rattle.note_types.specs.declared.script.Notify.{Notify}
-use Rattle.note_types.specs.declared.script.Script.{Script}
-use Rattle.frame_stack.specs.declared.Frame.{Frame}
-use Rattle.callex_thunk.specs.HostFrames.{saved_of}
-use Rattle.host_model.specs.HostPlans.{host_turn, is_due}
-use Rattle.host_model.specs.HostSteps.{call_under_way, host_step}
-use Rattle.host_model.specs.Placements.{Placement, own_placement}
-use Rattle.host_model.specs.Progress.{NativeCall, NoCall, Asked, ScriptPlace}
-use Rattle.host_model.specs.RunState.{RunState, SavedFrame}
-use Rattle.host_model.specs.Runs.{instruction_step, run_step, running_step, step_if}
-use Rattle.host_model.specs.Scripts.{IsScript}
-use Rattle.host_model.specs.World.{World}
-use Rattle.native_host.specs.Hosts.{IsMemoryOf, IsServing, host_world}
-use Rattle.native_host.specs.Kept.{placement_of}
-use Rattle.native_host.specs.declared.host.Host.{Host}
-use Rattle.twin_run.specs.Room.{HasEvents}
-use Rattle.twin_run.specs.Runner.{IsAt, IsQuiet, IsReady, IsRunner, Runs, hosts_of}
-use Rattle.twin_run.specs.declared.runner.AskedCall.{AskedCall}
-use Rattle.twin_run.specs.declared.runner.Runner.{Runner}
-use Rattle.twin_run.proofs.RoomLaws.{has_room, inside_some}
-use Rattle.twin_run.proofs.RunnerLaws.{is_placed, is_world}
+use Rattle.twin_run.specs.Runner.{IsReady}
+use Rattle.twin_run.proofs.{RoomLaws.has_room, RoomLaws.inside_some, RunnerLaws.is_placed, RunnerLaws.is_world}
 
 -- ---- whose step it is
 

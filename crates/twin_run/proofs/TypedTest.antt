@@ -1,27 +1,15 @@
 -- A test of the code of an image without relocations: where it passes, each instruction of a function meets the typing rules.
-use Rattle.std.proofs.Common.{◌≡◌, ◌⊎◌, ℕ, zero, suc, ◌+◌, ◌-◌, ◌<◌, ◌≤◌, Bool, true, false, not, if◌then◌else◌, ◌&&◌, ◌||◌, nat_eq, nat_le}
-use Rattle.std.proofs.Common.{nat_lt, List, [], ◌∷◌, length, Option, Some, None, Ok, Err, refl, sym, ap, ◌∙◌, subst, arith, inl, inr}
-use Rattle.std.proofs.Common.{⊎_elim, slice_get}
-use Rattle.std.specs.List.{list_all, list_any, Contains}
-use Rattle.std.proofs.lemmas.Bool.{and_parts, eq-eqb, eqb-true, leb-true, ltb-true, lt-ltb, true≢false}
-use Rattle.std.proofs.lemmas.Option.{none-some, same_Some}
-use Rattle.ebc_insn.specs.declared.Insn.{Insn}
-use Rattle.note_types.specs.BelowTests.{state_below}
-use Rattle.note_types.specs.Notes.{entry_state}
-use Rattle.note_types.specs.declared.notes.FnNote.{FnNote}
-use Rattle.note_types.specs.declared.notes.Notes.{Notes}
-use Rattle.note_types.specs.declared.notes.Point.{Point}
-use Rattle.note_types.specs.declared.state.State.{State}
+use Rattle.twin_run.proofs.Common.{◌≡◌, ◌⊎◌, ℕ, zero, suc, ◌+◌, ◌-◌, ◌<◌, ◌≤◌, Bool, true, false, not, if◌then◌else◌, ◌&&◌, nat_eq, nat_le}
+use Rattle.twin_run.proofs.Common.{nat_lt, List, [], ◌∷◌, length, Option, Some, None, Ok, Err, refl, sym, ap, ◌∙◌, subst, arith, inl, inr}
+use Rattle.twin_run.proofs.Common.{⊎_elim, slice_get, list_all, and_parts, eq-eqb, eqb-true, leb-true, ltb-true, true≢false, none-some}
+use Rattle.twin_run.proofs.Common.{same_Some, Insn, state_below, entry_state, FnNote, Notes, Point, State, AreBytes, Image, reloc_at}
+use Rattle.twin_run.proofs.Common.{instruction_at, Leads, IsPlaceOf, IsBefore, of_point, of_fall, Comes, here_at, row_of, MeetsRules}
+use Rattle.std.proofs.{Common.◌||◌, lemmas.Bool.lt-ltb}
+use Rattle.std.specs.List.{list_any, Contains}
 use Rattle.note_types.proofs.BelowLaws.{state_below_exact}
-use Rattle.pe_image.specs.Mapped.{AreBytes}
-use Rattle.pe_image.specs.declared.image.Image.{Image}
-use Rattle.rules_image.specs.Images.{falls, is_absolute, named_at, IsDecoded, PointHolds, RelocationHolds, reloc_at}
+use Rattle.rules_image.specs.Images.{falls, is_absolute, named_at, IsDecoded, PointHolds, RelocationHolds}
 use Rattle.rules_flow.specs.declared.successors.Successors.{Successors}
-use Rattle.neutral_machine.specs.NeutralImage.{instruction_at}
-use Rattle.rules_image.specs.Places.{Leads, IsPlaceOf}
-use Rattle.width_checker.specs.StatesAt.{IsBefore, of_point, of_fall, Comes}
-use Rattle.width_checker.specs.Rows.{here_at, row_of}
-use Rattle.width_checker.specs.Typed.{IsBelowPoint, LeadsBelow, MeetsRules}
+use Rattle.width_checker.specs.Typed.{IsBelowPoint, LeadsBelow}
 use Rattle.rules_image.proofs.Decoding.{decoded_once}
 use Rattle.step_sound.proofs.Decoded.{read_is_decoded}
 use Rattle.rules_base.specs.Outcomes.{OrRule}

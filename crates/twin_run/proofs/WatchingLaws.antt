@@ -1,23 +1,14 @@
 -- What is seen of a run is what its runner holds.
-use Rattle.std.proofs.Common.{◌≡◌, ℕ, Bool, true, false, cond, List, [], ◌∷◌, map, Option, Some, None, refl, sym, ap, ◌∙◌, subst, nat_eq}
-use Rattle.std.specs.Prelude.{IfNone}
-use Rattle.std.specs.List.{find}
-use Rattle.std.specs.Option.{option_map}
-use Rattle.ebc_width.specs.Ranges.{Range, covers}
-use Rattle.object_memory.specs.Memory as memory
-use Rattle.object_memory.specs.Memory.{Object, Memory, IsMemory, range_of, ranges, has_byte}
+use Rattle.twin_run.proofs.Common.{◌≡◌, ℕ, Bool, true, false, List, [], ◌∷◌, map, Option, Some, None, refl, sym, ap, ◌∙◌, subst, nat_eq}
+use Rattle.twin_run.proofs.Common.{IfNone, Range, covers, Memory, Concrete, concrete_of, Machine, host_turn, is_due, call_under_way}
+use Rattle.twin_run.proofs.Common.{NativeCall, RunState, World, IsRunner, Runner}
+use Rattle.std.proofs.Common.{cond}
+use Rattle.std.specs.{List.find, Option.option_map}
+use Rattle.object_memory.specs.Memory.{Object, IsMemory, range_of, ranges, has_byte}
 use Rattle.object_memory.proofs.Laws.{rest_from-window}
-use Rattle.note_types.specs.Concrete.{Concrete, rest_of, rest_from}
-use Rattle.ebc_machine.specs.States.{concrete_of}
-use Rattle.ebc_machine.specs.declared.Machine.{Machine}
-use Rattle.host_model.specs.HostPlans.{host_turn, is_due}
-use Rattle.host_model.specs.HostSteps.{call_under_way}
-use Rattle.host_model.specs.Progress.{NativeCall}
-use Rattle.host_model.specs.RunState.{RunState}
-use Rattle.host_model.specs.World.{World}
-use Rattle.twin_run.specs.Runner.{IsRunner}
+use Rattle.note_types.specs.Concrete.{rest_of, rest_from}
 use Rattle.twin_run.specs.Watching.{is_hosts_turn}
-use Rattle.twin_run.specs.declared.runner.Runner.{Runner}
+use Rattle.object_memory.specs.Memory as memory
 
 -- whose turn it is, by whether the run is at the gate, the call that is under way and whether a notification is due
 pub turn_of : (world : World) (r : RunState) (b : Bool) (c : NativeCall ℕ) (d : Bool) → nat_eq r.machine.ip r.machine.gate ≡ b

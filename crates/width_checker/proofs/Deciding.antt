@@ -1,26 +1,15 @@
 -- The verdict is one: an image isn't both typed and refused, nor refused twice.
-use Rattle.std.proofs.Common.{◌≡◌, ℕ, ◌+◌, ◌-◌, ◌<◌, ◌≤◌, ◌↔◌, zero, suc, ◌∷◌, length, get_or, refl, sym, ap, subst, ◌∙◌, ⊎_elim}
-use Rattle.std.proofs.Common.{arith}
-use Rattle.std.specs.Prelude.{Some, slice_get}
-use Rattle.std.proofs.lemmas.Bool.{cases_lt}
-use Rattle.std.proofs.lemmas.Option.{same_Some, slice_get_within, slice_get-get_or}
-use Rattle.note_types.specs.declared.notes.FnNote.{FnNote}
-use Rattle.note_types.specs.declared.notes.Notes.{Notes}
-use Rattle.note_types.specs.declared.notes.Static.{Static}
-use Rattle.note_types.specs.declared.notes.Thunk.{Thunk}
-use Rattle.note_types.specs.declared.rule.RuleName.{RuleName}
-use Rattle.note_types.specs.declared.rule.RuleName.TheVariants as rule
-use Rattle.pe_image.specs.declared.image.Image.{Image}
-use Rattle.rules_base.specs.FirstRule.{IsFirst}
-use Rattle.rules_image.specs.Images.{FunctionHolds, IsFirstFailing}
+use Rattle.width_checker.proofs.Common.{◌≡◌, ℕ, ◌+◌, ◌-◌, ◌<◌, ◌≤◌, ◌↔◌, zero, suc, length, get_or, refl, sym, ap, subst, ◌∙◌, ⊎_elim}
+use Rattle.width_checker.proofs.Common.{arith, Some, slice_get, cases_lt, same_Some, FnNote, Notes, RuleName, Image, IsFirst, Neutral}
+use Rattle.width_checker.proofs.Common.{Refused, Leads, Typed, FailsAt, RefusesInsn}
+use Rattle.std.proofs.{Common.◌∷◌, lemmas.Option.slice_get_within, lemmas.Option.slice_get-get_or}
+use Rattle.note_types.specs.declared.notes.{Static.Static, Thunk.Thunk}
+use Rattle.rules_image.specs.{Images.FunctionHolds, Images.IsFirstFailing, Places.IsPlaceOf}
 use Rattle.plain_check.specs.declared.verdict.Verdict.{Verdict}
-use Rattle.plain_check.specs.declared.verdict.Verdict.TheVariants.{Neutral, Refused}
-use Rattle.rules_image.specs.Places.{IsPlaceOf, Leads}
-use Rattle.width_checker.specs.Typed.{Typed}
-use Rattle.width_checker.specs.Verdicts.{FailsAt, IsRefused, IsVerdict, RefusesInsn, by_function, by_insn, by_shape, by_static, by_thunk}
-use Rattle.width_checker.proofs.Failing.{meets_all}
-use Rattle.width_checker.proofs.Leading.{OnePoint, start_first}
+use Rattle.width_checker.specs.Verdicts.{IsRefused, IsVerdict, by_function, by_insn, by_shape, by_static, by_thunk}
+use Rattle.width_checker.proofs.{Failing.meets_all, Leading.OnePoint, Leading.start_first}
 use Rattle.rules_base.proofs.FirstRule.{one_first}
+use Rattle.note_types.specs.declared.rule.RuleName.TheVariants as rule
 
 -- ---- the first thing of which a rule doesn't hold is one
 

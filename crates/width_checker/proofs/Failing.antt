@@ -1,24 +1,12 @@
 -- Which rule is the first that fails at a place, by what was found there.
-use Rattle.std.proofs.Common.{◌≡◌, ℕ, ◌≤◌, refl, sym, ap, subst, arith}
-use Rattle.std.specs.Prelude.{Ok, Err}
-use Rattle.ebc_insn.specs.declared.Insn.{Insn}
-use Rattle.note_types.specs.declared.notes.FnNote.{FnNote}
-use Rattle.note_types.specs.declared.notes.Notes.{Notes}
-use Rattle.note_types.specs.declared.rule.RuleName.{RuleName}
-use Rattle.note_types.specs.declared.rule.RuleName.TheVariants as rule
-use Rattle.note_types.specs.declared.state.State.{State}
-use Rattle.pe_image.specs.declared.image.Image.{Image}
-use Rattle.rules_base.specs.FirstRule.{IsFirst}
+use Rattle.width_checker.proofs.Common.{◌≡◌, ℕ, ◌≤◌, refl, sym, ap, subst, arith, Ok, Err, Insn, FnNote, Notes, RuleName, State, Image}
+use Rattle.width_checker.proofs.Common.{IsFirst, IsDecoded, PointHolds, RelocationHolds, reloc_at, Successors, StateAt, here_at, row_of}
+use Rattle.width_checker.proofs.Common.{BelowHolds, MeetsRules, FailsAt, HasState, decoded_once}
 use Rattle.rules_base.specs.Outcomes.{number_of_rule, OrRule}
-use Rattle.rules_image.specs.Images.{EndHolds, IsDecoded, PointHolds, RelocationHolds, reloc_at}
-use Rattle.rules_flow.specs.declared.successors.Successors.{Successors}
-use Rattle.width_checker.specs.StatesAt.{StateAt}
-use Rattle.width_checker.specs.Rows.{here_at, row_of}
-use Rattle.width_checker.specs.Typed.{BelowHolds, MeetsRules}
-use Rattle.width_checker.specs.Verdicts.{FailsAt, HasState, fails_below, fails_decode, fails_end, fails_point, fails_relocation, fails_row}
-use Rattle.width_checker.specs.Verdicts.{fails_state}
-use Rattle.rules_image.proofs.Decoding.{decoded_once}
+use Rattle.rules_image.specs.Images.{EndHolds}
+use Rattle.width_checker.specs.Verdicts.{fails_below, fails_decode, fails_end, fails_point, fails_relocation, fails_row, fails_state}
 use Rattle.width_checker.proofs.Leading.{OnePoint, state_one}
+use Rattle.note_types.specs.declared.rule.RuleName.TheVariants as rule
 
 last_rule : (r : RuleName) → number_of_rule r ≤ 23
 last_rule rule.Shape = omega arith

@@ -1,21 +1,10 @@
 -- The places of a function rise, and the state before each is one.
-use Rattle.std.proofs.Common.{◌≡◌, ℕ, zero, suc, ◌<◌, ◌≤◌, ◌⊎◌, refl, sym, ap, subst, ◌∙◌, inl, inr, ⊎_elim, arith}
-use Rattle.std.specs.Prelude.{Option, Ok}
-use Rattle.std.proofs.lemmas.Bool.{cases_lt}
-use Rattle.std.proofs.lemmas.Option.{same_Some}
-use Rattle.ebc_insn.specs.declared.Insn.{Insn}
+use Rattle.width_checker.proofs.Common.{◌≡◌, ℕ, zero, suc, ◌<◌, ◌≤◌, refl, sym, ap, subst, ◌∙◌, inl, inr, ⊎_elim, arith, Option, Ok}
+use Rattle.width_checker.proofs.Common.{cases_lt, same_Some, Insn, FnNote, Notes, Point, State, Image, IsDecoded, Successors, Leads, Comes}
+use Rattle.width_checker.proofs.Common.{IsBefore, IsPointAt, StateAt, of_fall, of_point, here_at, row_of, decoded_once}
+use Rattle.std.proofs.Common.{◌⊎◌}
 use Rattle.ebc_decode.proofs.Laws.{read_length}
-use Rattle.note_types.specs.declared.notes.FnNote.{FnNote}
-use Rattle.note_types.specs.declared.notes.Notes.{Notes}
-use Rattle.note_types.specs.declared.notes.Point.{Point}
-use Rattle.note_types.specs.declared.state.State.{State}
-use Rattle.pe_image.specs.declared.image.Image.{Image}
-use Rattle.rules_image.specs.Images.{IsDecoded, rest_of}
-use Rattle.rules_flow.specs.declared.successors.Successors.{Successors}
-use Rattle.rules_image.specs.Places.{Leads}
-use Rattle.width_checker.specs.StatesAt.{Comes, IsBefore, IsPointAt, StateAt, of_fall, of_point}
-use Rattle.width_checker.specs.Rows.{here_at, row_of}
-use Rattle.rules_image.proofs.Decoding.{decoded_once}
+use Rattle.rules_image.specs.Images.{rest_of}
 
 -- ---- places
 

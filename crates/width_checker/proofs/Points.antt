@@ -1,19 +1,10 @@
 -- Where the checker stands in the list of points, which ascend.
-use Rattle.std.proofs.Common.{◌≡◌, ℕ, ◌+◌, ◌-◌, ◌<◌, ◌≤◌, ◌↔◌, List, length, get_or, refl, sym, ap, subst, ◌∙◌, inl, inr, ⊎_elim, arith}
-use Rattle.std.specs.Prelude.{Bool, IsTrue, Option, None, Some, slice_get}
-use Rattle.std.proofs.lemmas.Bool.{cases_lt}
-use Rattle.std.proofs.lemmas.Option.{none-some, same_Some, slice_get-get_or, slice_get_past, slice_get_read, slice_get_within}
-use Rattle.note_types.specs.Records.{Ascends}
-use Rattle.note_types.specs.States.{StateBelow}
-use Rattle.note_types.specs.declared.notes.Notes.{Notes}
-use Rattle.note_types.specs.declared.notes.Point.{Point}
-use Rattle.note_types.specs.declared.state.State.{State}
-use Rattle.rules_image.specs.Images.{PointHolds}
-use Rattle.width_checker.specs.StatesAt.{IsBefore, IsPointAt, of_fall, of_point}
-use Rattle.width_checker.specs.Typed.{IsBelowPoint}
-use Rattle.width_checker.specs.Walks.{Arrives}
+use Rattle.width_checker.proofs.Common.{◌≡◌, ℕ, ◌+◌, ◌-◌, ◌<◌, ◌≤◌, ◌↔◌, List, length, get_or, refl, sym, ap, subst, ◌∙◌, inl, inr, ⊎_elim}
+use Rattle.width_checker.proofs.Common.{arith, Bool, IsTrue, Option, None, Some, slice_get, cases_lt, none-some, same_Some, Notes, Point}
+use Rattle.width_checker.proofs.Common.{State, PointHolds, IsBefore, IsPointAt, of_fall, of_point, IsBelowPoint, Arrives, PointsFrom}
+use Rattle.std.proofs.lemmas.Option.{slice_get-get_or, slice_get_past, slice_get_read, slice_get_within}
+use Rattle.note_types.specs.{Records.Ascends, States.StateBelow}
 use Rattle.width_checker.proofs.Leading.{OnePoint}
-use Rattle.rules_image.specs.Marks.{PointsFrom}
 use Rattle.rules_image.proofs.Ascending.{points_rise}
 
 -- ---- the point at a place

@@ -1,35 +1,22 @@
 -- The walk through a function: what holds where the checker stands, and after an instruction.
-use Rattle.std.proofs.Common.{◌≡◌, ℕ, zero, suc, ◌+◌, ◌<◌, ◌≤◌, ◌↔◌, length, refl, sym, ap, subst, ◌∙◌, ⊎_elim, arith}
-use Rattle.std.specs.Prelude.{Bool, true, false, IsTrue, Option, None, Some, Ok, Err, slice_get}
-use Rattle.std.proofs.lemmas.Bool.{cases_lt}
-use Rattle.std.proofs.lemmas.Option.{none-some, same_Some, slice_get_within, some_pair_parts}
-use Rattle.ebc_insn.specs.declared.Insn.{Insn}
+use Rattle.width_checker.proofs.Common.{◌≡◌, ℕ, zero, suc, ◌+◌, ◌<◌, ◌≤◌, ◌↔◌, length, refl, sym, ap, subst, ◌∙◌, ⊎_elim, arith, Bool}
+use Rattle.width_checker.proofs.Common.{IsTrue, Option, None, Some, Ok, Err, slice_get, cases_lt, none-some, same_Some, Insn, FnNote, Notes}
+use Rattle.width_checker.proofs.Common.{State, Image, RuleName, IsFirst, IsDecoded, reloc_at, Successors, successors_from, Leads, Comes}
+use Rattle.width_checker.proofs.Common.{IsBefore, StateAt, here_at, row_of, BelowHolds, EntryBelow, IsBelowPoint, MeetsRules, Typed}
+use Rattle.width_checker.proofs.Common.{FailsAt, HasState, RefusesInsn, Arrives, ComesTo, FunctionsMeet, PointsFrom, RelocsFrom, only_if}
+use Rattle.std.specs.Prelude.{true, false}
+use Rattle.std.proofs.lemmas.Option.{slice_get_within, some_pair_parts}
 use Rattle.note_types.specs.Notes.{entry_state}
-use Rattle.note_types.specs.declared.notes.FnNote.{FnNote}
-use Rattle.note_types.specs.declared.notes.Notes.{Notes}
-use Rattle.note_types.specs.declared.state.State.{State}
-use Rattle.pe_image.specs.declared.image.Image.{Image}
-use Rattle.note_types.specs.declared.rule.RuleName.{RuleName}
 use Rattle.rules_base.specs.declared.here.Here.{Here}
-use Rattle.rules_base.specs.FirstRule.{IsFirst}
 use Rattle.rules_base.specs.Outcomes.{gives_map}
-use Rattle.rules_image.specs.Images.{IsDecoded, IsFunction, reloc_at}
-use Rattle.rules_flow.specs.declared.successors.Successors.{Successors}
+use Rattle.rules_image.specs.{Images.IsFunction, Places.IsPlaceOf}
 use Rattle.rules_image.specs.declared.marks.Marks.{Marks}
-use Rattle.width_checker.specs.declared.row.Path.{Path}
+use Rattle.width_checker.specs.declared.{row.Path.Path, refusal.Refusal.Refusal}
+use Rattle.width_checker.specs.{Paths.does_fall, Typed.LeadsBelow, Typed.TablesHold, Walks.AllMeetBelow, Walks.FailsIn, Walks.Passes}
+use Rattle.width_checker.specs.Walks.{StandsAt}
+use Rattle.width_checker.proofs.{Deciding.function_before, Deciding.place_within, Leading.OnePoint, Leading.decode_later, Leading.leads_of}
+use Rattle.width_checker.proofs.Leading.{places_before, start_by_none, start_first, state_of}
 use Rattle.width_checker.specs.declared.row.Path.TheVariants as path
-use Rattle.width_checker.specs.Paths.{does_fall, successors_from}
-use Rattle.rules_image.specs.Places.{IsPlaceOf, Leads}
-use Rattle.width_checker.specs.StatesAt.{Comes, IsBefore, StateAt}
-use Rattle.width_checker.specs.Rows.{here_at, row_of}
-use Rattle.width_checker.specs.Typed.{BelowHolds, EntryBelow, IsBelowPoint, LeadsBelow, MeetsRules, TablesHold, Typed}
-use Rattle.width_checker.specs.Verdicts.{FailsAt, HasState, RefusesInsn}
-use Rattle.width_checker.specs.Walks.{AllMeetBelow, Arrives, ComesTo, FailsIn, FunctionsMeet, Passes, StandsAt}
-use Rattle.width_checker.specs.declared.refusal.Refusal.{Refusal}
-use Rattle.width_checker.proofs.Deciding.{function_before, place_within}
-use Rattle.width_checker.proofs.Leading.{OnePoint, decode_later, leads_of, places_before, start_by_none, start_first, state_of}
-use Rattle.rules_image.specs.Marks.{PointsFrom, RelocsFrom}
-use Rattle.ebc_base.specs.Steps.{only_if}
 
 come_some : (b : Bool) (s t : State) → only_if b s ≡ Some t → (b ≡ true) × (s ≡ t)
 come_some true s t e = (refl, same_Some s t e)

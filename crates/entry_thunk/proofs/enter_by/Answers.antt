@@ -1,12 +1,7 @@
-use Rattle.std.proofs.Common.{◌≡◌, ℕ, ◌+◌, ◌-◌, ◌%◌, ◌^◌, refl, sym, ◌∙◌, arith, None}
+use Rattle.entry_thunk.proofs.Common.{◌≡◌, ℕ, ◌+◌, ◌-◌, ◌%◌, ◌^◌, refl, sym, ◌∙◌, arith, None, Concrete, concrete_of, inside, params_of}
 use Rattle.std.specs.Prelude.{slice_index}
 use Rattle.std.proofs.lemmas.Option.{none-some}
-use Rattle.note_types.specs.Concrete.{Concrete}
-use Rattle.ebc_machine.specs.States.{concrete_of}
-use Rattle.host_model.specs.HostSteps.{inside}
-use Rattle.entry_thunk.specs.Cells.{params_of}
-use Rattle.entry_thunk.proofs.CellLaws.{with_cells-none}
-use Rattle.entry_thunk.proofs.EnterLaws.{called_at, inside-cells}
+use Rattle.entry_thunk.proofs.{CellLaws.with_cells-none, EnterLaws.called_at, EnterLaws.inside-cells}
 use Rattle.entry_thunk.proofs.enter_by.Goals as goal
 
 pub returns-then-not-cells_mapped-clause-fault : goal.returns-then-not-cells_mapped-clause-fault

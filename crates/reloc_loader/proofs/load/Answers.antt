@@ -1,15 +1,11 @@
-use Rattle.std.proofs.Common.{◌≡◌, ℕ, ◌+◌, ◌<◌, ◌≤◌, ◌^◌, List, length, take, get_or, true, arith, sym, subst, ◌∙◌}
+use Rattle.reloc_loader.proofs.Common.{◌≡◌, ℕ, ◌+◌, ◌<◌, ◌≤◌, ◌^◌, List, length, take, get_or, true, arith, sym, subst, ◌∙◌, holds, ranges}
+use Rattle.reloc_loader.proofs.Common.{Section, laid, within, distance_of}
 use Rattle.std.proofs.lemmas.Bool.{true≢false}
-use Rattle.ebc_width.specs.Ranges.{holds}
-use Rattle.object_memory.specs.Memory.{memory_filled, ranges}
+use Rattle.object_memory.specs.Memory.{memory_filled}
 use Rattle.object_memory.proofs.Laws.{memory_filled-with_bytes}
-use Rattle.pe_image.specs.declared.image.Section.{Section}
-use Rattle.pe_image.specs.Images.{IsSection}
-use Rattle.pe_image.specs.Mapped.{laid, mapped}
-use Rattle.reloc_loader.specs.Loads.{within}
+use Rattle.pe_image.specs.{Images.IsSection, Mapped.mapped}
 use Rattle.reloc_loader.proofs.Mapping.{laid-step, moved-all, moved-start, moved-step, new_holds, object_byte, object_end, object_holds}
 use Rattle.reloc_loader.proofs.Mapping.{object_others, place_fits, section_fits, zeros-step}
-use Rattle.ebc_width.specs.Width.{distance_of}
 use Rattle.reloc_loader.proofs.load.Goals as goal
 
 pub prove-unreachable-requires : goal.prove-unreachable-requires

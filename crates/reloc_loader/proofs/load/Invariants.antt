@@ -1,8 +1,4 @@
-use Rattle.std.proofs.Common.{◌≡◌, take}
-use Rattle.object_memory.specs.Memory.{IsMemory, with_bytes}
-use Rattle.reloc_loader.specs.Loads.{within}
-use Rattle.pe_image.specs.Mapped.{laid, moved}
-use Rattle.ebc_width.specs.Width.{distance_of}
+use Rattle.reloc_loader.proofs.Common.{◌≡◌, take, IsMemory, with_bytes, within, laid, moved, distance_of}
 use Rattle.reloc_loader.proofs.load.Given as goal
 
 abbrev pub invariant-loop-section : goal.invariant-loop-section

@@ -1,4 +1,4 @@
-use Rattle.std.proofs.Common.{◌∙◌}
+use Rattle.ebc_cli.proofs.Common.{◌∙◌}
 use Rattle.ebc_cli.proofs.WorkAnswers.{work-answers}
 use Rattle.ebc_cli.proofs.answer.decide.Goals as goal
 

@@ -1,10 +1,10 @@
-use Rattle.std.proofs.Common.{◌∙◌}
+use Rattle.ebc_cli.proofs.Common.{◌∙◌}
 use Rattle.cli_base.proofs.OutputLemmas.{but-output, writes-none}
 use Rattle.ebc_cli.proofs.AnswerLaws.{all-asked, answers, done, leaves-part, missing-cause, part-asked, told, uncounted}
-use Rattle.ebc_cli.proofs.InferLaws.{points-exactly, points-typed, stuck-exactly}
-use Rattle.ebc_cli.proofs.RunLaws.{pair-alike, pair-exactly, pair-same, twin-exactly, twin-same}
-use Rattle.ebc_cli.proofs.StopLaws.{completes, numbers-exactly, roms-exactly, stops-exactly, unput}
 use Rattle.ebc_cli.proofs.VerdictLaws.{code-alike, code-neutral, code-refused, image-alike, image-neutral, image-refused}
+use Rattle.ebc_cli.proofs.{InferLaws.points-exactly, InferLaws.points-typed, InferLaws.stuck-exactly, RunLaws.pair-alike}
+use Rattle.ebc_cli.proofs.{RunLaws.pair-exactly, RunLaws.pair-same, RunLaws.twin-exactly, RunLaws.twin-same, StopLaws.completes}
+use Rattle.ebc_cli.proofs.StopLaws.{numbers-exactly, roms-exactly, stops-exactly, unput}
 use Rattle.ebc_cli.proofs.answer.ebc.Goals as goal
 
 pub returns-in-Ok-clause-answer : goal.returns-in-Ok-clause-answer

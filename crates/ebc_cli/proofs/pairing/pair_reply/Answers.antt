@@ -1,4 +1,4 @@
-use Rattle.std.proofs.Common.{refl}
+use Rattle.ebc_cli.proofs.Common.{refl}
 use Rattle.ebc_cli.proofs.pairing.pair_reply.Goals as goal
 
 pub returns-clause-tells : goal.returns-clause-tells

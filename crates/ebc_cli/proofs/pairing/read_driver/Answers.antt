@@ -1,11 +1,5 @@
-use Rattle.std.proofs.Common.{◌+◌}
-use Rattle.cli_base.specs.Readings.{done, told}
-use Rattle.note_types.specs.declared.notes.Notes.{Notes}
-use Rattle.note_types.specs.declared.script.Script.{Script}
-use Rattle.pe_image.specs.declared.image.Image.{Image}
-use Rattle.ebc_cli.specs.declared.pairing.ReadDriver.{ReadDriver}
-use Rattle.ebc_cli.specs.Pairings.{driver_files, unnotified}
-use Rattle.file_inputs.proofs.ReadsLaws.{reads-ended, reads-refused, reads-then}
+use Rattle.ebc_cli.proofs.Common.{◌+◌, done, told, Notes, Script, Image, ReadDriver, driver_files, unnotified, reads-ended, reads-refused}
+use Rattle.ebc_cli.proofs.Common.{reads-then}
 use Rattle.ebc_cli.proofs.pairing.read_driver.Goals as goal
 
 -- what is made of what was read

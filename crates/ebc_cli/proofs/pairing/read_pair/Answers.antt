@@ -1,10 +1,5 @@
-use Rattle.std.proofs.lemmas.Result.{err_from_is_err_and}
-use Rattle.cli_base.specs.Readings.{◌>>=◌, done}
-use Rattle.ebc_cli.specs.declared.pairing.ReadDriver.{ReadDriver}
-use Rattle.ebc_cli.specs.Inputs.{binds_limit, binds_meaning}
-use Rattle.file_inputs.specs.Inputs.{input}
-use Rattle.ebc_cli.specs.Pairings.{driver_files, pair_files}
-use Rattle.file_inputs.proofs.ReadsLaws.{reads-ended, reads-made, reads-then}
+use Rattle.ebc_cli.proofs.Common.{err_from_is_err_and, ◌>>=◌, done, ReadDriver, binds_limit, binds_meaning, input, driver_files, pair_files}
+use Rattle.ebc_cli.proofs.Common.{reads-ended, reads-made, reads-then}
 use Rattle.ebc_cli.proofs.pairing.read_pair.Goals as goal
 
 pub returns-in_err-a-clause-reads : goal.returns-in_err-a-clause-reads

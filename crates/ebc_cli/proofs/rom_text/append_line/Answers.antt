@@ -1,4 +1,4 @@
-use Rattle.std.proofs.Common.{◌∙◌}
+use Rattle.ebc_cli.proofs.Common.{◌∙◌}
 use Rattle.ebc_cli.proofs.RomLemmas.{line-appended}
 use Rattle.ebc_cli.proofs.rom_text.append_line.Goals as goal
 

@@ -1,5 +1,4 @@
-use Rattle.std.proofs.Common.{◌≡◌, ◌++◌, drop}
-use Rattle.ebc_cli.specs.RomTexts.{rom_lines}
+use Rattle.ebc_cli.proofs.Common.{◌≡◌, ◌++◌, drop, rom_lines}
 use Rattle.ebc_cli.proofs.rom_text.rom_listing.Given as goal
 
 abbrev pub invariant-loop-number : goal.invariant-loop-number

@@ -1,13 +1,5 @@
-use Rattle.std.proofs.Common.{◌+◌}
-use Rattle.std.proofs.lemmas.Result.{err_from_is_err_and}
-use Rattle.cli_base.specs.Inputs.{image_limit, image_meaning}
-use Rattle.note_types.specs.declared.notes.Notes.{Notes}
-use Rattle.pe_image.specs.declared.image.Image.{Image}
-use Rattle.cli_base.specs.Readings.{◌>>=◌, done}
-use Rattle.ebc_cli.specs.Inputs.{script_limit, script_meaning}
-use Rattle.file_inputs.specs.Inputs.{input, notes_limit, notes_meaning}
-use Rattle.ebc_cli.specs.Runnings.{run_files}
-use Rattle.file_inputs.proofs.ReadsLaws.{reads-ended, reads-made, reads-then}
+use Rattle.ebc_cli.proofs.Common.{◌+◌, err_from_is_err_and, image_limit, image_meaning, Notes, Image, ◌>>=◌, done, script_limit}
+use Rattle.ebc_cli.proofs.Common.{script_meaning, input, notes_limit, notes_meaning, run_files, reads-ended, reads-made, reads-then}
 use Rattle.ebc_cli.proofs.running.read_run.Goals as goal
 
 pub returns-in_err-image-clause-reads : goal.returns-in_err-image-clause-reads

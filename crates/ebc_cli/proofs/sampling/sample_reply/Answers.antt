@@ -1,6 +1,4 @@
-use Rattle.std.proofs.Common.{ap, ◌∙◌}
-use Rattle.cli_base.specs.declared.outcome.Outcome.TheVariants.{Done}
-use Rattle.cli_base.specs.Outputs.{prints}
+use Rattle.ebc_cli.proofs.Common.{ap, ◌∙◌, Done, prints}
 use Rattle.ebc_cli.proofs.sampling.sample_reply.Goals as goal
 
 pub returns-clause-tells : goal.returns-clause-tells

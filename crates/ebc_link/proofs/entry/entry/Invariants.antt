@@ -1,6 +1,4 @@
-use Rattle.std.proofs.Common.{◌≡◌, drop}
-use Rattle.std.specs.List.{find}
-use Rattle.ebc_link.specs.Links.{is_entry}
+use Rattle.ebc_link.proofs.Common.{◌≡◌, drop, find, is_entry}
 use Rattle.ebc_link.proofs.entry.entry.Given as goal
 
 abbrev pub invariant-loop-symbol : goal.invariant-loop-symbol

@@ -1,6 +1,4 @@
-use Rattle.std.proofs.Common.{◌≡◌, ◌++◌, map, take}
-use Rattle.std.specs.List.{filter}
-use Rattle.ebc_link.specs.Fixups.{is_address, place_of}
+use Rattle.ebc_link.proofs.Common.{◌≡◌, ◌++◌, map, take, filter, is_address, place_of}
 use Rattle.ebc_link.proofs.fixups.append_relocs.Given as goal
 
 abbrev pub invariant-loop-fixup : goal.invariant-loop-fixup

@@ -1,9 +1,7 @@
-use Rattle.ebc_object.specs.declared.object.Fixup.{Fixup}
-use Rattle.ebc_link.specs.Fixups.{bytes_for}
-use Rattle.ebc_link.proofs.FillLaws.{fill_all, fill_more, fill_past}
+use Rattle.ebc_link.proofs.Common.{Fixup, bytes_for, arith, ◌∙◌}
+use Rattle.ebc_link.proofs.{FillLaws.fill_all, FillLaws.fill_more, FillLaws.fill_past, fixups.fill.Goals.then-fixup-section}
+use Rattle.ebc_link.proofs.fixups.fill.Goals.{else-fixup-section}
 use Rattle.ebc_link.proofs.fixups.fill.Goals as goal
-use Rattle.ebc_link.proofs.fixups.fill.Goals.{then-fixup-section, else-fixup-section}
-use Rattle.std.proofs.Common.{arith, ◌∙◌}
 
 abbrev no_fixup : Fixup
 no_fixup = record { section = 0; kind = 0; offset = 0; symbol = 0; from = 0 }

@@ -1,5 +1,4 @@
-use Rattle.std.proofs.Common.{◌≡◌, drop}
-use Rattle.ebc_link.specs.Fixups.{bytes_for, in_section, with_fixups}
+use Rattle.ebc_link.proofs.Common.{◌≡◌, drop, bytes_for, in_section, with_fixups}
 use Rattle.ebc_link.proofs.fixups.fill.Given as goal
 
 abbrev pub invariant-loop-fixup : goal.invariant-loop-fixup

@@ -1,7 +1,4 @@
-use Rattle.std.proofs.Common.{◌≡◌, drop, not}
-use Rattle.std.specs.List.{find}
-use Rattle.ebc_object.specs.declared.object.Fixup.{Fixup}
-use Rattle.ebc_link.specs.Fixups.{is_near}
+use Rattle.ebc_link.proofs.Common.{◌≡◌, drop, not, find, Fixup, is_near}
 use Rattle.ebc_link.proofs.fixups.first_far.Given as goal
 
 abbrev pub invariant-loop-fixup : goal.invariant-loop-fixup

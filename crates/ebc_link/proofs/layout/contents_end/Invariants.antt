@@ -1,5 +1,4 @@
-use Rattle.std.proofs.Common.{◌≡◌, ◌+◌, ◌*◌, ◌≤◌, drop}
-use Rattle.ebc_link.specs.Layout.{contents_end}
+use Rattle.ebc_link.proofs.Common.{◌≡◌, ◌+◌, ◌*◌, ◌≤◌, drop, contents_end}
 use Rattle.ebc_link.proofs.layout.contents_end.Given as goal
 
 abbrev pub invariant-loop-object : goal.invariant-loop-object

@@ -1,12 +1,8 @@
-use Rattle.std.proofs.Common.{arith, sym, ◌∙◌}
-use Rattle.std.proofs.lemmas.Result.{err_from_is_err_and}
+use Rattle.ebc_link.proofs.Common.{arith, sym, ◌∙◌, err_from_is_err_and, contents_start}
 use Rattle.pe_image.proofs.RoundTrip.{IsImage-linked}
-use Rattle.ebc_link.specs.Layout.{contents_start}
 use Rattle.ebc_link.proofs.AnswerLaws.{IsOf, ends_resolution, is_of, relocs_apart_there, size_there, told_entry, told_far, told_linked}
-use Rattle.ebc_link.proofs.AnswerLaws.{told_size}
-use Rattle.ebc_link.proofs.ImageLaws.{links_layout}
-use Rattle.ebc_link.proofs.LinkedLaws.{is_linked}
-use Rattle.ebc_link.proofs.StandLaws.{code_grows, contents_grow}
+use Rattle.ebc_link.proofs.{AnswerLaws.told_size, ImageLaws.links_layout, LinkedLaws.is_linked, StandLaws.code_grows}
+use Rattle.ebc_link.proofs.StandLaws.{contents_grow}
 use Rattle.ebc_link.proofs.linking.link.Goals as goal
 
 pub returns-in_err-resolved-clause-answer : goal.returns-in_err-resolved-clause-answer

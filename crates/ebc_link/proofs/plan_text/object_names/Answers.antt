@@ -1,12 +1,7 @@
-use Rattle.std.proofs.Common.{ℕ, List, [], refl, length-append, arith}
-use Rattle.std.specs.Prelude.{◌≢◌, codes}
-use Rattle.std.proofs.lemmas.List.Elements.{All-nil, All-push}
-use Rattle.std.proofs.lemmas.Result.{err_from_is_err_and}
+use Rattle.ebc_link.proofs.Common.{ℕ, List, [], refl, length-append, arith, ◌≢◌, codes, All-nil, All-push, err_from_is_err_and, some_text}
 use Rattle.toml.specs.View.{items_view}
-use Rattle.note_texts.specs.Keys.{text_of}
-use Rattle.note_texts.specs.Lists.{texts_of}
+use Rattle.note_texts.specs.{Keys.text_of, Lists.texts_of}
 use Rattle.note_texts.proofs.Loop.{from_start, goes_on, stops, is_done}
-use Rattle.ebc_link.specs.PlanTexts.{some_text}
 use Rattle.ebc_link.proofs.plan_text.object_names.Goals as goal
 
 pub loop-i-init : goal.loop-i-init

@@ -1,10 +1,7 @@
-use Rattle.std.proofs.Common.{◌≡◌, ℕ, List, [], drop, length, All}
-use Rattle.std.specs.Prelude.{◌≢◌, codes}
+use Rattle.ebc_link.proofs.Common.{◌≡◌, ℕ, List, [], drop, length, All, ◌≢◌, codes, some_text}
 use Rattle.toml.specs.View.{items_view}
-use Rattle.note_texts.specs.Keys.{text_of}
-use Rattle.note_texts.specs.Lists.{each, texts_of}
+use Rattle.note_texts.specs.{Keys.text_of, Lists.each, Lists.texts_of}
 use Rattle.note_texts.proofs.Loop.{with_front}
-use Rattle.ebc_link.specs.PlanTexts.{some_text}
 use Rattle.ebc_link.proofs.plan_text.object_names.Given as goal
 
 abbrev pub invariant-loop-i : goal.invariant-loop-i

@@ -1,5 +1,4 @@
-use Rattle.std.proofs.Common.{◌≡◌, ◌≤◌, [], drop, length}
-use Rattle.ebc_link.specs.Symbols.{first_again}
+use Rattle.ebc_link.proofs.Common.{◌≡◌, ◌≤◌, [], drop, length, first_again}
 use Rattle.ebc_link.proofs.plan_text.objects_once.Given as goal
 
 abbrev pub invariant-loop-object : goal.invariant-loop-object

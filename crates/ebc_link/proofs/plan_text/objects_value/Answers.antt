@@ -1,4 +1,4 @@
-use Rattle.std.specs.Prelude.{codes}
+use Rattle.ebc_link.proofs.Common.{codes}
 use Rattle.toml.proofs.Views.{table_get}
 use Rattle.ebc_link.proofs.plan_text.objects_value.Goals as goal
 

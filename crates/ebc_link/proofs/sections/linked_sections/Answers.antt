@@ -1,6 +1,4 @@
-use Rattle.std.proofs.Common.{◌≡◌, ◌+◌, ◌<◌, length, ap, arith, subst, sym, ◌∙◌, rules}
-use Rattle.pe_image.specs.Files.{rounded}
-use Rattle.pe_image.specs.Mapped.{laid}
+use Rattle.ebc_link.proofs.Common.{◌≡◌, ◌+◌, ◌<◌, length, ap, arith, subst, sym, ◌∙◌, rules, rounded, laid}
 use Rattle.ebc_link.proofs.ImageLaws.{bytes_laid, bytes_there, sections_by}
 use Rattle.ebc_link.proofs.sections.linked_sections.Goals as goal
 

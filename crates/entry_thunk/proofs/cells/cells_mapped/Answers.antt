@@ -1,11 +1,7 @@
-use Rattle.std.proofs.Common.{◌≡◌, ◌+◌, ◌%◌, ◌^◌, ◌&&◌, sym, ap, ◌∙◌}
-use Rattle.ebc_width.specs.Width.{cut_at}
-use Rattle.ebc_width.specs.Ranges.{holds}
-use Rattle.object_memory.specs.Memory.{ranges}
-use Rattle.entry_thunk.specs.Cells.{slots_mapped}
-use Rattle.entry_thunk.proofs.CellLaws.{cells_mapped-word, all-three, not-both}
+use Rattle.entry_thunk.proofs.Common.{◌≡◌, ◌+◌, ◌%◌, ◌^◌, ◌&&◌, sym, ap, ◌∙◌, cut_at, holds, ranges, slots_mapped}
+use Rattle.entry_thunk.proofs.{CellLaws.cells_mapped-word, CellLaws.all-three, CellLaws.not-both, cells.cells_mapped.Goals.then-holds}
+use Rattle.entry_thunk.proofs.cells.cells_mapped.Goals.{else-holds}
 use Rattle.entry_thunk.proofs.cells.cells_mapped.Goals as goal
-use Rattle.entry_thunk.proofs.cells.cells_mapped.Goals.{then-holds, else-holds}
 
 pub returns-then-holds-2 : goal.returns-then-holds-2
 returns-then-holds-2 g c =

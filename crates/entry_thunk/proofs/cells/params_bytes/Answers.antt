@@ -1,4 +1,4 @@
-use Rattle.std.proofs.Common.{arith}
+use Rattle.entry_thunk.proofs.Common.{arith}
 use Rattle.entry_thunk.proofs.CellLaws.{bytes-next, bytes-end}
 use Rattle.entry_thunk.proofs.cells.params_bytes.Goals as goal
 

@@ -1,6 +1,5 @@
-use Rattle.std.proofs.Common.{◌≡◌, ◌+◌, ◌*◌, ◌≤◌, drop}
-use Rattle.host_model.specs.Placements.{params_bytes}
-use Rattle.entry_thunk.specs.Cells.{params_of}
+use Rattle.entry_thunk.proofs.Common.{◌≡◌, ◌+◌, ◌≤◌, drop, params_bytes, params_of}
+use Rattle.std.proofs.Common.{◌*◌}
 use Rattle.entry_thunk.proofs.cells.params_bytes.Given as goal
 
 abbrev pub invariant-loop-kind : goal.invariant-loop-kind

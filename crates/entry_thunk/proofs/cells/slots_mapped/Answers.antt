@@ -1,6 +1,4 @@
-use Rattle.std.proofs.Common.{sym, ap, ◌∙◌}
-use Rattle.ebc_width.specs.Ranges.{holds}
-use Rattle.object_memory.specs.Memory.{ranges}
+use Rattle.entry_thunk.proofs.Common.{sym, ap, ◌∙◌, holds, ranges}
 use Rattle.entry_thunk.proofs.CellLaws.{mapped-step, mapped-stop, mapped-end}
 use Rattle.entry_thunk.proofs.cells.slots_mapped.Goals as goal
 

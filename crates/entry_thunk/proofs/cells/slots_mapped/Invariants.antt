@@ -1,6 +1,4 @@
-use Rattle.std.proofs.Common.{◌≡◌, drop}
-use Rattle.object_memory.specs.Memory.{ranges}
-use Rattle.entry_thunk.specs.Cells.{slots_mapped}
+use Rattle.entry_thunk.proofs.Common.{◌≡◌, drop, ranges, slots_mapped}
 use Rattle.entry_thunk.proofs.cells.slots_mapped.Given as goal
 
 abbrev pub invariant-loop-kind : goal.invariant-loop-kind

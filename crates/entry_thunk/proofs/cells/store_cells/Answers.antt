@@ -1,9 +1,6 @@
-use Rattle.std.proofs.Common.{◌+◌, ◌%◌, ◌^◌, inr, refl, sym, ap, ◌∙◌, arith}
-use Rattle.ebc_width.specs.Width.{cut_at}
-use Rattle.ebc_width.specs.Ranges.{holds}
-use Rattle.object_memory.specs.Memory.{ranges}
-use Rattle.note_types.specs.Concrete.{stored}
-use Rattle.entry_thunk.specs.Cells.{params_of, with_memory, slots_mapped}
+use Rattle.entry_thunk.proofs.Common.{◌+◌, ◌%◌, ◌^◌, refl, sym, ap, ◌∙◌, arith, cut_at, holds, ranges, stored, params_of, with_memory}
+use Rattle.entry_thunk.proofs.Common.{slots_mapped}
+use Rattle.std.proofs.Common.{inr}
 use Rattle.entry_thunk.proofs.CellLaws.{cells-parts, cells-stored, keeps-more}
 use Rattle.entry_thunk.proofs.cells.store_cells.Goals as goal
 

@@ -1,8 +1,5 @@
-use Rattle.std.proofs.Common.{◌+◌, ◌%◌, ◌^◌, ◌<◌, length, drop, get_or, refl, sym, ap, ◌∙◌, arith}
-use Rattle.ebc_width.specs.Ranges.{holds}
-use Rattle.object_memory.specs.Memory.{ranges}
-use Rattle.note_types.specs.Concrete.{stored}
-use Rattle.entry_thunk.specs.Cells.{with_memory, slots_mapped}
+use Rattle.entry_thunk.proofs.Common.{◌+◌, ◌%◌, ◌^◌, ◌<◌, length, drop, get_or, refl, sym, ap, ◌∙◌, arith, holds, ranges, stored}
+use Rattle.entry_thunk.proofs.Common.{with_memory, slots_mapped}
 use Rattle.entry_thunk.proofs.CellLaws.{mapped-parts, stored-next, stored-end, keeps-none, keeps-more}
 use Rattle.entry_thunk.proofs.cells.store_slots.Goals as goal
 

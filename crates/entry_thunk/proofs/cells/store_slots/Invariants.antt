@@ -1,9 +1,4 @@
-use Rattle.std.proofs.Common.{◌≡◌, true, drop}
-use Rattle.object_memory.specs.Memory.{ranges}
-use Rattle.note_types.specs.Concrete.{Concrete}
-use Rattle.ebc_machine.specs.States.{KeepsObjects}
-use Rattle.host_model.specs.HostSteps.{with_slots}
-use Rattle.entry_thunk.specs.Cells.{params_of, with_memory, slots_mapped}
+use Rattle.entry_thunk.proofs.Common.{◌≡◌, true, drop, ranges, Concrete, KeepsObjects, with_slots, params_of, with_memory, slots_mapped}
 use Rattle.entry_thunk.proofs.cells.store_slots.Given as goal
 
 abbrev pub invariant-loop-k : goal.invariant-loop-k

@@ -1,6 +1,4 @@
-use Rattle.std.proofs.Common.{[], ◌∷◌, ◌++◌, ap, append-nil, append_assoc, arith, sym, take, ◌∙◌, ◌≡◌}
-use Rattle.std.proofs.lemmas.List.{take_all}
-use Rattle.label_places.specs.Labels.{labels_in}
+use Rattle.label_places.proofs.Common.{[], ◌∷◌, ◌++◌, ap, append-nil, append_assoc, arith, sym, take, ◌∙◌, ◌≡◌, take_all, labels_in}
 use Rattle.label_places.proofs.LabelLaws.{labels-more}
 use Rattle.label_places.proofs.collecting.append_labels.Goals as goal
 

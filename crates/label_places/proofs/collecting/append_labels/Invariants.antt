@@ -1,5 +1,4 @@
-use Rattle.std.proofs.Common.{◌≡◌, ◌++◌, take}
-use Rattle.label_places.specs.Labels.{labels_in}
+use Rattle.label_places.proofs.Common.{◌≡◌, ◌++◌, take, labels_in}
 use Rattle.label_places.proofs.collecting.append_labels.Given as goal
 
 abbrev pub invariant-loop-symbol : goal.invariant-loop-symbol

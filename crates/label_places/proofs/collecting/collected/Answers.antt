@@ -1,7 +1,6 @@
-use Rattle.std.proofs.Common.{◌++◌, ap, arith, get_or, ◌∙◌, ◌≤◌, length}
-use Rattle.ebc_link.specs.Layout.{laid_with}
-use Rattle.ebc_link.proofs.LaidLaws.{IsAt, at_number, laid_at, laid_more, length-laid, no_home}
-use Rattle.label_places.specs.Labels.{labels_from, labels_in}
+use Rattle.label_places.proofs.Common.{◌++◌, ap, arith, get_or, ◌∙◌, ◌≤◌, length, laid_with, IsAt, at_number, laid_at, length-laid, no_home}
+use Rattle.label_places.proofs.Common.{labels_from, labels_in}
+use Rattle.ebc_link.proofs.LaidLaws.{laid_more}
 use Rattle.label_places.proofs.LabelLaws.{object-more, objects-done}
 use Rattle.label_places.proofs.collecting.collected.Goals as goal
 

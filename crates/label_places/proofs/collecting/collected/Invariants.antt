@@ -1,6 +1,4 @@
-use Rattle.std.proofs.Common.{◌≡◌, ◌++◌, drop}
-use Rattle.ebc_link.specs.Layout.{laid_with}
-use Rattle.label_places.specs.Labels.{labels_from}
+use Rattle.label_places.proofs.Common.{◌≡◌, ◌++◌, drop, laid_with, labels_from}
 use Rattle.label_places.proofs.collecting.collected.Given as goal
 
 abbrev pub invariant-loop-number : goal.invariant-loop-number

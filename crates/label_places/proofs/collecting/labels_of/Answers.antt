@@ -1,7 +1,7 @@
-use Rattle.std.proofs.Common.{ap, length, map, ◌∙◌}
-use Rattle.ebc_link.specs.Layout.{laid_objects, laid_with}
+use Rattle.label_places.proofs.Common.{ap, length, map, ◌∙◌, laid_with, labels_from, span_of}
+use Rattle.ebc_link.specs.Layout.{laid_objects}
 use Rattle.ebc_link.proofs.AnswerLaws.{length-homes_of}
-use Rattle.label_places.specs.Labels.{labels_from, labels_of, span_of, spans_of}
+use Rattle.label_places.specs.Labels.{labels_of, spans_of}
 use Rattle.label_places.proofs.collecting.labels_of.Goals as goal
 
 pub collected-requires-clause-homes : goal.collected-requires-clause-homes

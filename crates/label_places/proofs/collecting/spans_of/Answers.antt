@@ -1,8 +1,6 @@
-use Rattle.std.proofs.Common.{[], ◌∷◌, ◌++◌, ap, arith, get_or, map, sym, take, ◌∙◌, ◌≡◌}
-use Rattle.std.proofs.lemmas.List.{map-append, take_all}
-use Rattle.ebc_link.specs.Layout.{laid_with}
-use Rattle.ebc_link.proofs.LaidLaws.{IsAt, at_number, laid_at, laid_taken, length-laid, no_home}
-use Rattle.label_places.specs.Labels.{span_of}
+use Rattle.label_places.proofs.Common.{[], ◌∷◌, ◌++◌, ap, arith, get_or, map, sym, take, ◌∙◌, ◌≡◌, map-append, take_all, laid_with, IsAt}
+use Rattle.label_places.proofs.Common.{at_number, laid_at, length-laid, no_home, span_of}
+use Rattle.ebc_link.proofs.LaidLaws.{laid_taken}
 use Rattle.label_places.proofs.collecting.spans_of.Goals as goal
 
 pub loop-number-preserved : goal.loop-number-preserved

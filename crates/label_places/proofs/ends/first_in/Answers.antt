@@ -1,6 +1,4 @@
-use Rattle.std.proofs.Common.{◌<◌, ap, arith, get_or, length, sym, ◌∙◌}
-use Rattle.std.proofs.lemmas.List.{get_or_default}
-use Rattle.label_places.specs.declared.label.Position.{Position}
+use Rattle.label_places.proofs.Common.{◌<◌, ap, arith, get_or, length, sym, ◌∙◌, get_or_default, Position}
 use Rattle.label_places.proofs.EndLaws.{end-bound, end-first, no_position}
 use Rattle.label_places.proofs.ends.first_in.Goals as goal
 

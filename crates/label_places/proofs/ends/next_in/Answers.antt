@@ -1,7 +1,5 @@
-use Rattle.std.proofs.Common.{◌<◌, All, List, leb, rules, subst, sym}
-use Rattle.std.proofs.lemmas.List.Sorted.{IsPartitionPoint-from_clause, IsPartitionedBy-leb}
-use Rattle.label_places.specs.declared.label.Position.{Position}
-use Rattle.label_places.specs.Views.{HasEnd}
+use Rattle.label_places.proofs.Common.{◌<◌, All, List, leb, rules, subst, sym, IsPartitionPoint-from_clause, IsPartitionedBy-leb, Position}
+use Rattle.label_places.proofs.Common.{HasEnd}
 use Rattle.label_places.proofs.EndLaws.{Parts, above-rest, end-all, rest_of}
 use Rattle.label_places.proofs.ends.next_in.Goals as goal
 

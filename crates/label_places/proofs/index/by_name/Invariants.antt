@@ -1,5 +1,4 @@
-use Rattle.std.proofs.Common.{take}
-use Rattle.label_places.specs.Indexes.{AreByName}
+use Rattle.label_places.proofs.Common.{take, AreByName}
 use Rattle.label_places.proofs.index.by_name.Given as goal
 
 abbrev pub invariant-loop-label : goal.invariant-loop-label

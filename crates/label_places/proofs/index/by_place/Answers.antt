@@ -1,6 +1,5 @@
-use Rattle.std.proofs.Common.{rules, sym, ◌∙◌}
+use Rattle.label_places.proofs.Common.{rules, sym, ◌∙◌, Position}
 use Rattle.std.proofs.lemmas.List.Sorted.{IsNonDecreasingBy-from_sort_by_key, list_any-IsPermutation}
-use Rattle.label_places.specs.declared.label.Position.{Position}
 use Rattle.label_places.proofs.index.by_place.Goals as goal
 
 pub returns-clause-placed : goal.returns-clause-placed

@@ -1,5 +1,4 @@
-use Rattle.std.proofs.Common.{take}
-use Rattle.label_places.specs.Indexes.{AreByPlace}
+use Rattle.label_places.proofs.Common.{take, AreByPlace}
 use Rattle.label_places.proofs.index.positions_of.Given as goal
 
 abbrev pub invariant-loop-label : goal.invariant-loop-label

@@ -1,7 +1,5 @@
-use Rattle.std.proofs.Common.{List, arith, leb, rules, sym, ℕ}
-use Rattle.std.proofs.lemmas.Bool.{ltb-true}
-use Rattle.std.proofs.lemmas.List.{get_or_default}
-use Rattle.std.proofs.lemmas.List.Sorted.{IsPartitionPoint-from_clause, IsPartitionedBy-leb}
+use Rattle.label_places.proofs.Common.{List, arith, leb, rules, sym, get_or_default, IsPartitionPoint-from_clause, IsPartitionedBy-leb}
+use Rattle.std.proofs.{Common.ℕ, lemmas.Bool.ltb-true}
 use Rattle.label_places.proofs.EndLaws.{Parts, next-none, next-some}
 use Rattle.label_places.proofs.places.next_above.Goals as goal
 

@@ -1,10 +1,5 @@
-use Rattle.std.proofs.Common.{◌<◌, get_or, length}
-use Rattle.std.specs.Prelude.{option_map}
-use Rattle.std.proofs.lemmas.List.{get_or_default}
-use Rattle.label_places.specs.declared.label.Position.{Position}
-use Rattle.label_places.specs.Views.{is_meant_in}
-use Rattle.label_places.proofs.EndLaws.{no_position}
-use Rattle.label_places.proofs.SoughtLaws.{sought-ends, sought-more}
+use Rattle.label_places.proofs.Common.{◌<◌, get_or, length, option_map, get_or_default, Position, is_meant_in}
+use Rattle.label_places.proofs.{EndLaws.no_position, SoughtLaws.sought-ends, SoughtLaws.sought-more}
 use Rattle.label_places.proofs.seeking.only_in.Goals as goal
 
 pub loop-position-preserved : goal.loop-position-preserved

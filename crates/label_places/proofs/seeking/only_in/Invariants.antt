@@ -1,8 +1,4 @@
-use Rattle.std.proofs.Common.{◌≡◌, take}
-use Rattle.std.specs.Prelude.{filter, option_map}
-use Rattle.ebc_base.specs.Steps.{or_else}
-use Rattle.label_places.specs.declared.seeking.NotFound.TheVariants.{Unknown}
-use Rattle.label_places.specs.Views.{is_meant_in, the_only}
+use Rattle.label_places.proofs.Common.{◌≡◌, take, filter, option_map, or_else, Unknown, is_meant_in, the_only}
 use Rattle.label_places.proofs.seeking.only_in.Given as goal
 
 abbrev pub invariant-loop-position : goal.invariant-loop-position

@@ -1,4 +1,4 @@
-use Rattle.std.proofs.Common.{sym, ◌∙◌}
+use Rattle.native_host.proofs.Common.{sym, ◌∙◌}
 use Rattle.native_host.proofs.AskingLaws.{refused-past}
 use Rattle.native_host.proofs.asking.argument_refused.Goals as goal
 

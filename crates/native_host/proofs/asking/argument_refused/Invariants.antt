@@ -1,5 +1,4 @@
-use Rattle.std.proofs.Common.{◌≡◌, drop}
-use Rattle.host_model.specs.HostPlans.{argument_refused}
+use Rattle.native_host.proofs.Common.{◌≡◌, drop, argument_refused}
 use Rattle.native_host.proofs.asking.argument_refused.Given as goal
 
 abbrev pub invariant-loop-k : goal.invariant-loop-k

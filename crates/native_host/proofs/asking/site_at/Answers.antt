@@ -1,8 +1,5 @@
-use Rattle.std.proofs.Common.{List, Some, ap, sym, ◌∙◌, ltb, rules}
-use Rattle.std.specs.Option.{option_map}
-use Rattle.std.proofs.lemmas.Bool.{ltb-true}
+use Rattle.native_host.proofs.Common.{List, Some, ap, sym, ◌∙◌, ltb, rules, option_map, ltb-true, Site}
 use Rattle.std.proofs.lemmas.List.Sorted.{IsPartitionPoint-from_clause}
-use Rattle.note_types.specs.declared.notes.Site.{Site}
 use Rattle.native_host.proofs.AskingLaws.{Begins, place_in, site-found, site-missed, site-parts, site-past}
 use Rattle.native_host.proofs.asking.site_at.Goals as goal
 

@@ -1,4 +1,4 @@
-use Rattle.std.proofs.Common.{sym, ◌∙◌}
+use Rattle.native_host.proofs.Common.{sym, ◌∙◌}
 use Rattle.native_host.proofs.BoundLaws.{parameters-end}
 use Rattle.native_host.proofs.bound.parameter_refused.Goals as goal
 

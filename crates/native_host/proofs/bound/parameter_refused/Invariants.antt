@@ -1,5 +1,4 @@
-use Rattle.std.proofs.Common.{◌≡◌, drop}
-use Rattle.pair_model.specs.Rules.{parameter_refused}
+use Rattle.native_host.proofs.Common.{◌≡◌, drop, parameter_refused}
 use Rattle.native_host.proofs.bound.parameter_refused.Given as goal
 
 abbrev pub invariant-loop-k : goal.invariant-loop-k

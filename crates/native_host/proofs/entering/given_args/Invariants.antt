@@ -1,5 +1,4 @@
-use Rattle.std.proofs.Common.{◌≡◌, map, take}
-use Rattle.host_model.specs.ScriptValues.{given}
+use Rattle.native_host.proofs.Common.{◌≡◌, map, take, given}
 use Rattle.native_host.proofs.entering.given_args.Given as goal
 
 abbrev pub invariant-loop-value : goal.invariant-loop-value

@@ -1,5 +1,4 @@
-use Rattle.std.proofs.Common.{◌<◌, arith}
-use Rattle.std.specs.Prelude.{slice_index}
+use Rattle.native_host.proofs.Common.{◌<◌, arith, slice_index}
 use Rattle.native_host.proofs.TopLaws.{slot-here, slot-none}
 use Rattle.native_host.proofs.next.argument_slot.Goals as goal
 

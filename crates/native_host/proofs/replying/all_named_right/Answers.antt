@@ -1,5 +1,4 @@
-use Rattle.std.proofs.Common.{sym, ap, ◌∙◌}
-use Rattle.host_model.specs.HostPlans.{named_right}
+use Rattle.native_host.proofs.Common.{sym, ap, ◌∙◌, named_right}
 use Rattle.native_host.proofs.ReplyLaws.{named-on, named-stop}
 use Rattle.native_host.proofs.replying.all_named_right.Goals as goal
 

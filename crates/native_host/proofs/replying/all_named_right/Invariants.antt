@@ -1,5 +1,4 @@
-use Rattle.std.proofs.Common.{◌≡◌, drop}
-use Rattle.host_model.specs.HostPlans.{all_named_right}
+use Rattle.native_host.proofs.Common.{◌≡◌, drop, all_named_right}
 use Rattle.native_host.proofs.replying.all_named_right.Given as goal
 
 abbrev pub invariant-loop-k : goal.invariant-loop-k

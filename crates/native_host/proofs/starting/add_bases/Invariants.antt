@@ -1,5 +1,4 @@
-use Rattle.std.proofs.Common.{◌≡◌, ◌+◌, ◌++◌, ◌≤◌, drop}
-use Rattle.native_host.specs.Starting.{bases_in, rooms_in}
+use Rattle.native_host.proofs.Common.{◌≡◌, ◌+◌, ◌++◌, ◌≤◌, drop, bases_in, rooms_in}
 use Rattle.native_host.proofs.starting.add_bases.Given as goal
 
 abbrev pub invariant-loop-object : goal.invariant-loop-object

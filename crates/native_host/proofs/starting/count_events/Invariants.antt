@@ -1,6 +1,4 @@
-use Rattle.std.proofs.Common.{◌≡◌, ◌+◌, drop}
-use Rattle.native_host.specs.Hosts.{all_events}
-use Rattle.native_host.specs.Starting.{rest_events}
+use Rattle.native_host.proofs.Common.{◌≡◌, ◌+◌, drop, all_events, rest_events}
 use Rattle.native_host.proofs.starting.count_events.Given as goal
 
 abbrev pub invariant-loop-call : goal.invariant-loop-call

@@ -1,6 +1,4 @@
-use Rattle.std.proofs.Common.{◌≡◌, ◌+◌, drop, length}
-use Rattle.host_model.specs.Objects.{placed_objects}
-use Rattle.native_host.specs.Starting.{rest_made}
+use Rattle.native_host.proofs.Common.{◌≡◌, ◌+◌, drop, length, placed_objects, rest_made}
 use Rattle.native_host.proofs.starting.count_objects.Given as goal
 
 abbrev pub invariant-loop-call : goal.invariant-loop-call

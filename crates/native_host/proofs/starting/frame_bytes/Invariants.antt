@@ -1,5 +1,4 @@
-use Rattle.std.proofs.Common.{◌≡◌, ◌+◌, drop}
-use Rattle.host_model.specs.Placements.{frame_bytes, params_bytes}
+use Rattle.native_host.proofs.Common.{◌≡◌, ◌+◌, drop, frame_bytes, params_bytes}
 use Rattle.native_host.proofs.starting.frame_bytes.Given as goal
 
 abbrev pub invariant-loop-param : goal.invariant-loop-param

@@ -1,5 +1,4 @@
-use Rattle.std.proofs.Common.{ap, length, sym, ◌∙◌, arith, ◌+◌}
-use Rattle.host_model.specs.Runs.{world_of}
+use Rattle.native_host.proofs.Common.{ap, length, sym, ◌∙◌, arith, ◌+◌, world_of}
 use Rattle.native_host.proofs.StartLaws.{all_count, events_few, made_count, objects_few}
 use Rattle.native_host.proofs.starting.fresh_host.Goals as goal
 

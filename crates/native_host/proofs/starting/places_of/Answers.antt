@@ -1,7 +1,4 @@
-use Rattle.std.proofs.Common.{rules, ◌≡◌, length, ap, arith}
-use Rattle.host_model.specs.Objects.{placed_objects}
-use Rattle.host_model.specs.Runs.{world_of}
-use Rattle.native_host.specs.Starting.{rooms_in}
+use Rattle.native_host.proofs.Common.{rules, ◌≡◌, length, ap, arith, placed_objects, world_of, rooms_in}
 use Rattle.native_host.proofs.StartLaws.{all_sum, sizes}
 use Rattle.native_host.proofs.starting.places_of.Goals as goal
 

@@ -1,5 +1,4 @@
-use Rattle.std.proofs.Common.{◌≡◌, map, take}
-use Rattle.note_types.specs.Shapes.{size_at}
+use Rattle.native_host.proofs.Common.{◌≡◌, map, take, size_at}
 use Rattle.native_host.proofs.starting.sizes_of.Given as goal
 
 abbrev pub invariant-loop-shape : goal.invariant-loop-shape

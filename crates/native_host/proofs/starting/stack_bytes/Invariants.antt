@@ -1,5 +1,5 @@
-use Rattle.std.proofs.Common.{◌≡◌, ◌*◌, ◌^◌, ◌≤◌, drop, max}
-use Rattle.host_model.specs.Placements.{most_bytes}
+use Rattle.native_host.proofs.Common.{◌≡◌, ◌*◌, ◌^◌, ◌≤◌, drop, most_bytes}
+use Rattle.std.proofs.Common.{max}
 use Rattle.native_host.proofs.starting.stack_bytes.Given as goal
 
 abbrev pub invariant-loop-k : goal.invariant-loop-k

@@ -1,5 +1,4 @@
-use Rattle.std.proofs.Common.{◌≡◌, ◌+◌, ◌≤◌, length, map, take, vec_capacity}
-use Rattle.host_model.specs.Objects.{static_object}
+use Rattle.native_host.proofs.Common.{◌≡◌, ◌+◌, ◌≤◌, length, map, take, vec_capacity, static_object}
 use Rattle.native_host.proofs.starting.statics_made.Given as goal
 
 abbrev pub invariant-loop-object : goal.invariant-loop-object

@@ -1,5 +1,4 @@
-use Rattle.std.proofs.Common.{◌≡◌, map, take}
-use Rattle.note_types.specs.declared.notes.Static.{Static}
+use Rattle.native_host.proofs.Common.{◌≡◌, map, take, Static}
 use Rattle.native_host.proofs.starting.statics_of.Given as goal
 
 abbrev pub invariant-loop-object : goal.invariant-loop-object

@@ -1,4 +1,4 @@
-use Rattle.toml.specs.View.{table_view, view}
+use Rattle.note_filling.proofs.Common.{table_view, view}
 use Rattle.note_filling.proofs.TextLaws.{assembled_by}
 use Rattle.note_filling.proofs.assembling.assembled.Goals as goal
 

@@ -1,8 +1,6 @@
-use Rattle.std.proofs.lemmas.Result.{err_from_is_err_and}
-use Rattle.toml.specs.View.{table_view}
-use Rattle.note_filling.specs.Views.{place_in}
-use Rattle.note_filling.proofs.CauseLaws.{caused_form, caused_label, kept_in_place}
-use Rattle.note_filling.proofs.CheckLaws.{refuses_from, refuses_notes}
+use Rattle.note_filling.proofs.Common.{err_from_is_err_and, table_view, place_in}
+use Rattle.note_filling.proofs.{CauseLaws.caused_form, CauseLaws.caused_label, CauseLaws.kept_in_place, CheckLaws.refuses_from}
+use Rattle.note_filling.proofs.CheckLaws.{refuses_notes}
 use Rattle.note_filling.proofs.checking.check_forms.Goals as goal
 
 pub returns-in_err-lists-clause-labels : goal.returns-in_err-lists-clause-labels

@@ -1,8 +1,7 @@
-use Rattle.std.proofs.Common.{◌≡◌, ◌≤◌, ◌++◌, [], ◌∷◌, ap, append_assoc, arith, subst, sym, ◌∙◌}
+use Rattle.note_filling.proofs.Common.{◌≡◌, ◌≤◌, ◌++◌, [], ◌∷◌, ap, arith, subst, sym, ◌∙◌, depth, items_depth, members_depth, items_view}
+use Rattle.note_filling.proofs.Common.{members_view, view, Entry}
+use Rattle.std.proofs.Common.{append_assoc}
 use Rattle.ebc_link.proofs.LaidLaws.{taken}
-use Rattle.toml.specs.Data.{depth, items_depth, members_depth}
-use Rattle.toml.specs.View.{items_view, members_view, view}
-use Rattle.toml.proofs.Views.{Entry}
 use Rattle.note_filling.proofs.DepthLaws.{item-deep, items-deeper, member-deep, members-deeper, unfit}
 use Rattle.note_filling.proofs.depth.+depth.Goals as goal
 

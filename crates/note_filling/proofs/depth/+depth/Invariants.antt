@@ -1,7 +1,4 @@
-use Rattle.std.proofs.Common.{◌≡◌, ◌≤◌, ◌++◌, List, take}
-use Rattle.toml.specs.Data.{items_depth, members_depth}
-use Rattle.toml.specs.View.{items_view, members_view}
-use Rattle.toml.proofs.Views.{Entry}
+use Rattle.note_filling.proofs.Common.{◌≡◌, ◌≤◌, ◌++◌, List, take, items_depth, members_depth, items_view, members_view, Entry}
 use Rattle.note_filling.proofs.depth.+depth.Given as goal
 
 abbrev pub invariant-items_fit-loop-item : goal.invariant-items_fit-loop-item

@@ -1,11 +1,5 @@
-use Rattle.std.proofs.Common.{inr, map, refl}
-use Rattle.std.proofs.lemmas.Result.{err_from_is_err_and}
-use Rattle.toml.specs.Data.{members_depth}
-use Rattle.toml.specs.View.{table_view, view}
-use Rattle.note_filling.specs.Views.{place_in}
-use Rattle.note_filling.proofs.CauseLaws.{caused_label, orders_of}
-use Rattle.note_filling.proofs.CheckLaws.{refuses_from}
-use Rattle.note_filling.proofs.DepthLaws.{beyond_limit}
+use Rattle.note_filling.proofs.Common.{inr, map, refl, err_from_is_err_and, members_depth, table_view, view, place_in}
+use Rattle.note_filling.proofs.{CauseLaws.caused_label, CauseLaws.orders_of, CheckLaws.refuses_from, DepthLaws.beyond_limit}
 use Rattle.note_filling.proofs.TextLaws.{text_kept}
 use Rattle.note_filling.proofs.filling.fill.Goals as goal
 

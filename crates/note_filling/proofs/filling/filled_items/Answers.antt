@@ -1,9 +1,5 @@
-use Rattle.std.proofs.Common.{◌≡◌, arith, map, take, subst}
+use Rattle.note_filling.proofs.Common.{◌≡◌, arith, map, take, subst, err_from_is_err_and, view, AreKept, labels_in, names_in, place_in}
 use Rattle.std.proofs.lemmas.List.{take_all}
-use Rattle.std.proofs.lemmas.Result.{err_from_is_err_and}
-use Rattle.toml.specs.View.{view}
-use Rattle.note_filling.specs.Kept.{AreKept}
-use Rattle.note_filling.specs.Views.{labels_in, names_in, place_in}
 use Rattle.note_filling.proofs.ListLaws.{items-done, items-fails, items-more, kept-push}
 use Rattle.note_filling.proofs.filling.filled_items.Goals as goal
 

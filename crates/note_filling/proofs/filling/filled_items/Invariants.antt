@@ -1,8 +1,4 @@
-use Rattle.std.proofs.Common.{◌≡◌, drop, map, take}
-use Rattle.toml.specs.View.{items_view, view}
-use Rattle.note_filling.specs.Kept.{AreKept}
-use Rattle.note_filling.specs.Rows.{items_labels}
-use Rattle.note_filling.specs.Views.{labels_in, names_in, place_in}
+use Rattle.note_filling.proofs.Common.{◌≡◌, drop, map, take, items_view, view, AreKept, items_labels, labels_in, names_in, place_in}
 use Rattle.note_filling.proofs.filling.filled_items.Given as goal
 
 abbrev pub invariant-loop-k : goal.invariant-loop-k

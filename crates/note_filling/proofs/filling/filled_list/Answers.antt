@@ -1,8 +1,4 @@
-use Rattle.std.proofs.Common.{map, subst, sym}
-use Rattle.toml.specs.Data.{get_member}
-use Rattle.toml.specs.View.{table_view, view}
-use Rattle.note_filling.specs.Kept.{AreKept}
-use Rattle.note_filling.specs.Views.{place_in}
+use Rattle.note_filling.proofs.Common.{map, subst, sym, get_member, table_view, view, AreKept, place_in}
 use Rattle.note_filling.proofs.ListLaws.{filled-array}
 use Rattle.note_filling.proofs.filling.filled_list.Goals as goal
 

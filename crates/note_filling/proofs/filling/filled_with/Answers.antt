@@ -1,4 +1,4 @@
-use Rattle.std.proofs.lemmas.Result.{err_from_is_err_and}
+use Rattle.note_filling.proofs.Common.{err_from_is_err_and}
 use Rattle.note_filling.specs.Rows.{text_labels}
 use Rattle.note_filling.proofs.CheckLaws.{fails_first, fails_then, goes_then}
 use Rattle.note_filling.proofs.filling.filled_with.Goals as goal

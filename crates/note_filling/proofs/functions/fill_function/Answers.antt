@@ -1,12 +1,6 @@
-use Rattle.std.proofs.Common.{ap, codes, refl}
-use Rattle.std.proofs.lemmas.Result.{err_from_is_err_and}
-use Rattle.std.specs.Option.{option_and_then}
-use Rattle.toml.specs.Data.{as_str}
-use Rattle.toml.specs.View.{table_view}
+use Rattle.note_filling.proofs.Common.{ap, codes, refl, err_from_is_err_and, option_and_then, as_str, table_view, place_in}
 use Rattle.note_filling.specs.Rows.{row_labels}
-use Rattle.note_filling.specs.Views.{place_in}
-use Rattle.note_filling.proofs.CheckLaws.{fails_first, fails_then, goes_then}
-use Rattle.note_filling.proofs.RowLaws.{kept_more, kept_two}
+use Rattle.note_filling.proofs.{CheckLaws.fails_first, CheckLaws.fails_then, CheckLaws.goes_then, RowLaws.kept_more, RowLaws.kept_two}
 use Rattle.note_filling.proofs.functions.fill_function.Goals as goal
 
 pub returns-in_err-place-clause-labels : goal.returns-in_err-place-clause-labels

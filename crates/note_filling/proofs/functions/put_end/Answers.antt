@@ -1,5 +1,4 @@
-use Rattle.std.proofs.Common.{refl}
-use Rattle.std.proofs.lemmas.Result.{err_from_is_err_and}
+use Rattle.note_filling.proofs.Common.{refl, err_from_is_err_and}
 use Rattle.note_filling.proofs.CheckLaws.{fails_first, goes_then}
 use Rattle.note_filling.proofs.functions.put_end.Goals as goal
 

@@ -1,15 +1,9 @@
-use Rattle.std.proofs.Common.{ap, codes, refl, sym, true, ◌∙◌}
-use Rattle.std.proofs.lemmas.Result.{err_from_is_err_and}
-use Rattle.note_draft.specs.Findings.{path_of}
+use Rattle.note_filling.proofs.Common.{ap, codes, refl, sym, true, ◌∙◌, err_from_is_err_and, path_of, table_view, text_in, label_of}
+use Rattle.note_filling.proofs.Common.{labels_in, names_in}
+use Rattle.note_filling.specs.Rows.{function_text, place_text_or}
+use Rattle.note_filling.proofs.{CheckLaws.fails_first, CheckLaws.goes_then, PlaceLaws.replaced_by}
 use Rattle.note_draft.specs.declared.finding.Key.TheVariants as keys
 use Rattle.note_draft.specs.declared.finding.TableList.TheVariants as lists
-use Rattle.toml.specs.View.{table_view}
-use Rattle.note_filling.specs.Members.{text_in}
-use Rattle.note_filling.specs.Places.{label_of}
-use Rattle.note_filling.specs.Rows.{function_text, place_text_or}
-use Rattle.note_filling.specs.Views.{labels_in, names_in}
-use Rattle.note_filling.proofs.CheckLaws.{fails_first, goes_then}
-use Rattle.note_filling.proofs.PlaceLaws.{replaced_by}
 use Rattle.note_filling.proofs.functions.put_place.Goals as goal
 
 pub returns-in_err-placed-clause-labels : goal.returns-in_err-placed-clause-labels

@@ -1,6 +1,4 @@
-use Rattle.std.proofs.Common.{ap, ◌∙◌}
-use Rattle.toml.specs.View.{members_view, table_view, view}
-use Rattle.note_filling.specs.Members.{put_member}
+use Rattle.note_filling.proofs.Common.{ap, ◌∙◌, members_view, table_view, view, put_member}
 use Rattle.note_filling.proofs.MemberLaws.{view-insert}
 use Rattle.note_filling.proofs.members.put.Goals as goal
 

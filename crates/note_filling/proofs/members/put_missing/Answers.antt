@@ -1,6 +1,4 @@
-use Rattle.std.proofs.Common.{subst, sym}
-use Rattle.toml.specs.View.{table_view, view}
-use Rattle.note_filling.specs.Members.{IsExtended}
+use Rattle.note_filling.proofs.Common.{subst, sym, table_view, view, IsExtended}
 use Rattle.note_filling.proofs.MemberLaws.{extended-put}
 use Rattle.note_filling.proofs.members.put_missing.Goals as goal
 

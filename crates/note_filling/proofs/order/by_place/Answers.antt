@@ -1,9 +1,5 @@
-use Rattle.std.proofs.Common.{map, subst, sym, All, IsPermutation}
-use Rattle.std.proofs.lemmas.List.Sorted.{All-permutation, IsPermutation-map}
-use Rattle.toml.specs.Data.{Data}
-use Rattle.toml.specs.View.{view}
-use Rattle.note_filling.specs.Views.{Stands}
-use Rattle.note_filling.specs.declared.order.Ranked.{Ranked}
+use Rattle.note_filling.proofs.Common.{map, subst, sym, All, Data, view, Stands, Ranked}
+use Rattle.std.proofs.{Common.IsPermutation, lemmas.List.Sorted.All-permutation, lemmas.List.Sorted.IsPermutation-map}
 use Rattle.note_filling.proofs.OrderLaws.{order_by}
 use Rattle.note_filling.proofs.order.by_place.Goals as goal
 

@@ -1,4 +1,4 @@
-use Rattle.std.proofs.Common.{arith}
+use Rattle.note_filling.proofs.Common.{arith}
 use Rattle.note_filling.proofs.OrderLaws.{one_more}
 use Rattle.note_filling.proofs.order.with_places.Goals as goal
 

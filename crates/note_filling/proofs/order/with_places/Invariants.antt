@@ -1,7 +1,4 @@
-use Rattle.std.proofs.Common.{◌≡◌, All, map}
-use Rattle.toml.specs.View.{view}
-use Rattle.note_filling.specs.Views.{Stands}
-use Rattle.note_filling.specs.declared.order.Ranked.{Ranked}
+use Rattle.note_filling.proofs.Common.{◌≡◌, All, map, view, Stands, Ranked}
 use Rattle.note_filling.proofs.order.with_places.Given as goal
 
 abbrev pub invariant-loop-value : goal.invariant-loop-value

@@ -1,6 +1,4 @@
-use Rattle.std.proofs.Common.{◌≡◌, map}
-use Rattle.toml.specs.View.{view}
-use Rattle.note_filling.specs.declared.order.Ranked.{Ranked}
+use Rattle.note_filling.proofs.Common.{◌≡◌, map, view, Ranked}
 use Rattle.note_filling.proofs.order.without_places.Given as goal
 
 abbrev pub invariant-loop-item : goal.invariant-loop-item

@@ -1,7 +1,5 @@
-use Rattle.std.proofs.Common.{refl, sym}
-use Rattle.std.proofs.lemmas.Result.{err_from_is_err_and}
-use Rattle.note_filling.proofs.CheckLaws.{fails_first, goes_then}
-use Rattle.note_filling.proofs.RowLaws.{kept_one}
+use Rattle.note_filling.proofs.Common.{refl, sym, err_from_is_err_and}
+use Rattle.note_filling.proofs.{CheckLaws.fails_first, CheckLaws.goes_then, RowLaws.kept_one}
 use Rattle.note_filling.proofs.rows.fill_place.Goals as goal
 
 pub returns-in_err-replace_label-clause-labels : goal.returns-in_err-replace_label-clause-labels

@@ -1,11 +1,4 @@
-use Rattle.std.proofs.Common.{ap, sym, ◌∙◌}
-use Rattle.std.specs.Option.{option_and_then}
-use Rattle.note_draft.specs.Findings.{path_of}
-use Rattle.toml.specs.Data.{as_str}
-use Rattle.toml.specs.View.{table_view}
-use Rattle.note_filling.specs.Members.{text_in}
-use Rattle.note_filling.specs.Places.{label_of}
-use Rattle.note_filling.specs.Views.{labels_in, names_in}
+use Rattle.note_filling.proofs.Common.{ap, sym, ◌∙◌, option_and_then, path_of, as_str, table_view, text_in, label_of, labels_in, names_in}
 use Rattle.note_filling.proofs.PlaceLaws.{replaced_by}
 use Rattle.note_filling.proofs.rows.replace_label.Goals as goal
 

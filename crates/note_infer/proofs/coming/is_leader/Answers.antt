@@ -1,4 +1,4 @@
-use Rattle.std.proofs.Common.{refl}
+use Rattle.note_infer.proofs.Common.{refl}
 use Rattle.note_infer.proofs.Searching.{there_at}
 use Rattle.note_infer.proofs.coming.is_leader.Goals as goal
 

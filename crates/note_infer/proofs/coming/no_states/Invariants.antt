@@ -1,5 +1,4 @@
-use Rattle.std.proofs.Common.{◌≡◌}
-use Rattle.std.specs.Prelude.{None, replicate}
+use Rattle.note_infer.proofs.Common.{◌≡◌, None, replicate}
 use Rattle.note_infer.proofs.coming.no_states.Given as goal
 
 abbrev pub invariant-loop : goal.invariant-loop

@@ -1,4 +1,4 @@
-use Rattle.std.proofs.Common.{◌≡◌, take}
+use Rattle.note_infer.proofs.Common.{◌≡◌, take}
 use Rattle.note_infer.proofs.copies.copy_names.Given as goal
 
 abbrev pub invariant-loop-name : goal.invariant-loop-name

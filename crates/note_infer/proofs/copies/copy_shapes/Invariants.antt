@@ -1,4 +1,4 @@
-use Rattle.std.proofs.Common.{◌≡◌, take}
+use Rattle.note_infer.proofs.Common.{◌≡◌, take}
 use Rattle.note_infer.proofs.copies.copy_shapes.Given as goal
 
 abbrev pub invariant-loop-shape : goal.invariant-loop-shape

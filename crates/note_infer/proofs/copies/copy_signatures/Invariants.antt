@@ -1,4 +1,4 @@
-use Rattle.std.proofs.Common.{◌≡◌, take}
+use Rattle.note_infer.proofs.Common.{◌≡◌, take}
 use Rattle.note_infer.proofs.copies.copy_signatures.Given as goal
 
 abbrev pub invariant-loop-signature : goal.invariant-loop-signature

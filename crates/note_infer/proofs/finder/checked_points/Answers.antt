@@ -1,15 +1,8 @@
-use Rattle.std.proofs.Common.{◌≡◌, ap, refl, subst, sym, ◌∙◌}
-use Rattle.note_types.specs.Records.{IsNotes}
-use Rattle.note_types.specs.declared.notes.Notes.{Notes}
+use Rattle.note_infer.proofs.Common.{◌≡◌, ap, refl, subst, sym, ◌∙◌, IsNotes, Notes, IsVerdict, Points, by_points, by_verdict, points_of}
+use Rattle.note_infer.proofs.Common.{States, with_points, state_at}
 use Rattle.plain_check.specs.declared.verdict.Verdict.TheVariants.{Neutral, Refused}
-use Rattle.width_checker.specs.Verdicts.{IsVerdict}
-use Rattle.note_infer.specs.declared.inferred.Inferred.TheVariants.{Points}
-use Rattle.note_infer.specs.Inferred.{by_points, by_verdict, points_of}
-use Rattle.note_infer.specs.Rounds.{States, with_points}
-use Rattle.note_infer.specs.Coming.{state_at}
-use Rattle.note_infer.proofs.Answering.{settled_notes}
+use Rattle.note_infer.proofs.{Answering.settled_notes, finder.checked_points.Goals.In_ok-found}
 use Rattle.note_infer.proofs.finder.checked_points.Goals as goal
-use Rattle.note_infer.proofs.finder.checked_points.Goals.{In_ok-found}
 
 found_is : (c : In_ok-found)
     → c.in_ok-found.found ≡ with_points c.args.notes.now (points_of (state_at c.args.leaders.now c.args.states.now) c.args.leaders.now)

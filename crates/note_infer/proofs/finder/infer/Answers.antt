@@ -1,10 +1,5 @@
-use Rattle.std.proofs.Common.{rules, ◌≡◌, ◌<◌, ◌≤◌, ◌^◌, ap, arith, length}
-use Rattle.note_types.specs.Limits.{point_limit}
-use Rattle.width_checker.specs.Typed.{TablesHold}
-use Rattle.note_infer.specs.declared.inferred.Inferred.TheVariants.{Many}
-use Rattle.note_infer.specs.Inferred.{IsInferred, by_number}
-use Rattle.note_infer.proofs.Answering.{few_leaders}
-use Rattle.note_infer.proofs.OneAnswer.{inferred_once, once_ok}
+use Rattle.note_infer.proofs.Common.{rules, ◌≡◌, ◌<◌, ◌≤◌, ◌^◌, ap, arith, length, point_limit, TablesHold, Many, IsInferred, by_number}
+use Rattle.note_infer.proofs.{Answering.few_leaders, OneAnswer.inferred_once, OneAnswer.once_ok}
 use Rattle.note_infer.proofs.finder.infer.Goals as goal
 
 pub returns-then-not-branch-clause-once : goal.returns-then-not-branch-clause-once

@@ -1,6 +1,4 @@
-use Rattle.std.proofs.Common.{refl, subst}
-use Rattle.width_checker.specs.Verdicts.{IsVerdict}
-use Rattle.note_infer.specs.Inferred.{by_tables}
+use Rattle.note_infer.proofs.Common.{refl, subst, IsVerdict, by_tables}
 use Rattle.note_infer.proofs.finder.refused_tables.Goals as goal
 
 pub returns : goal.returns

@@ -1,5 +1,4 @@
-use Rattle.std.proofs.Common.{ap, ◌∙◌}
-use Rattle.std.specs.Prelude.{Some}
+use Rattle.note_infer.proofs.Common.{ap, ◌∙◌, Some}
 use Rattle.note_infer.proofs.Searching.{reloc_found, reloc_none}
 use Rattle.note_infer.proofs.jumps.reloc_at.Goals as goal
 

@@ -1,17 +1,10 @@
-use Rattle.std.proofs.Common.{ℕ, ◌+◌, ⊎_elim, sym, subst, arith}
+use Rattle.note_infer.proofs.Common.{ℕ, ◌+◌, ⊎_elim, sym, subst, arith, FnNote, Image, IsDecoded, IsPlaceOf, is_decoded, not_decoded}
+use Rattle.note_infer.proofs.Common.{decode_later, IsLeaderOf, Adds, IsNamedBefore}
 use Rattle.ebc_decode.proofs.Numbers.{IsBytes}
-use Rattle.note_types.specs.declared.notes.FnNote.{FnNote}
-use Rattle.pe_image.specs.declared.image.Image.{Image}
-use Rattle.rules_image.specs.Images.{IsDecoded}
-use Rattle.rules_image.specs.Places.{IsPlaceOf}
-use Rattle.rules_image.proofs.Decoding.{is_decoded, not_decoded}
-use Rattle.width_checker.proofs.Leading.{decode_later}
-use Rattle.note_infer.specs.Leaders.{IsLeaderOf}
-use Rattle.note_infer.specs.Finding.{Adds, IsNamedBefore}
-use Rattle.note_infer.proofs.Gathering.{adds_none, adds_push, adds_same, before_cases, before_here, before_more, leader_from}
-use Rattle.note_infer.proofs.Gathering.{named_at-end, named_at-stop, named_once, next_place, none_before, start_place}
+use Rattle.note_infer.proofs.Gathering.{adds_none, adds_push, adds_same, before_cases, before_here, before_more, leader_from, named_at-end}
+use Rattle.note_infer.proofs.Gathering.{named_at-stop, named_once, next_place, none_before}
+use Rattle.note_infer.proofs.{Gathering.start_place, leaders.add_leaders.Goals.After-named_in}
 use Rattle.note_infer.proofs.leaders.add_leaders.Goals as goal
-use Rattle.note_infer.proofs.leaders.add_leaders.Goals.{After-named_in}
 
 pub loop-at-init : goal.loop-at-init
 loop-at-init c = record {

@@ -1,6 +1,4 @@
-use Rattle.std.proofs.Common.{◌-◌, ◌<◌, ◌≤◌}
-use Rattle.rules_image.specs.Places.{IsPlaceOf}
-use Rattle.note_infer.specs.Finding.{Adds, IsNamedBefore}
+use Rattle.note_infer.proofs.Common.{◌-◌, ◌<◌, ◌≤◌, IsPlaceOf, Adds, IsNamedBefore}
 use Rattle.note_infer.proofs.leaders.add_leaders.Given as goal
 
 abbrev pub invariant-loop-at : goal.invariant-loop-at

@@ -1,5 +1,4 @@
-use Rattle.std.proofs.Common.{◌≤◌, List, length, subst}
-use Rattle.note_types.specs.declared.notes.FnNote.{FnNote}
+use Rattle.note_infer.proofs.Common.{◌≤◌, List, length, subst, FnNote}
 use Rattle.note_infer.proofs.Gathering.{below_more, function_there, has_code, leader_below, leader_of}
 use Rattle.note_infer.proofs.leaders.all_named.Goals as goal
 

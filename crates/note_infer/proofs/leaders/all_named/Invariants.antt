@@ -1,6 +1,4 @@
-use Rattle.std.proofs.Common.{ℕ}
-use Rattle.std.specs.List.{Contains}
-use Rattle.note_infer.specs.Finding.{IsLeaderBelow}
+use Rattle.note_infer.proofs.Common.{ℕ, Contains, IsLeaderBelow}
 use Rattle.note_infer.proofs.leaders.all_named.Given as goal
 
 abbrev pub invariant-loop-f : goal.invariant-loop-f

@@ -1,7 +1,4 @@
-use Rattle.std.proofs.Common.{◌≡◌, refl}
-use Rattle.std.specs.Prelude.{Some, slice_get}
-use Rattle.std.proofs.lemmas.Bool.{le-leb, leb-true}
-use Rattle.note_types.specs.declared.notes.Point.{Point}
+use Rattle.note_infer.proofs.Common.{◌≡◌, refl, Some, slice_get, le-leb, leb-true, Point}
 use Rattle.width_checker.proofs.Points.{looked, looked_past, no_point_none, no_point_some, point_within}
 use Rattle.note_infer.proofs.marks.has_no_point.Goals as goal
 

@@ -1,5 +1,4 @@
-use Rattle.std.proofs.Common.{◌≡◌, map, take}
-use Rattle.note_infer.specs.Rounds.{mark}
+use Rattle.note_infer.proofs.Common.{◌≡◌, map, take, mark}
 use Rattle.note_infer.proofs.marks.marked.Given as goal
 
 abbrev pub invariant-loop-leader : goal.invariant-loop-leader

@@ -1,4 +1,4 @@
-use Rattle.std.proofs.Common.{◌≡◌, take}
+use Rattle.note_infer.proofs.Common.{◌≡◌, take}
 use Rattle.note_infer.proofs.states.same_registers.Given as goal
 
 abbrev pub invariant-loop-r : goal.invariant-loop-r

@@ -1,5 +1,4 @@
-use Rattle.std.proofs.Common.{sym, ◌∙◌}
-use Rattle.note_infer.specs.Coming.{state_at}
+use Rattle.note_infer.proofs.Common.{sym, ◌∙◌, state_at}
 use Rattle.note_infer.proofs.PointLists.{points_none, points_step}
 use Rattle.note_infer.proofs.tables.points_of.Goals as goal
 

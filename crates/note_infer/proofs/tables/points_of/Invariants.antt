@@ -1,6 +1,4 @@
-use Rattle.std.proofs.Common.{◌≡◌, take}
-use Rattle.note_infer.specs.Inferred.{points_of}
-use Rattle.note_infer.specs.Coming.{state_at}
+use Rattle.note_infer.proofs.Common.{◌≡◌, take, points_of, state_at}
 use Rattle.note_infer.proofs.tables.points_of.Given as goal
 
 abbrev pub invariant-loop-number : goal.invariant-loop-number

@@ -1,5 +1,5 @@
-use Rattle.note_join.proofs.SettledStates.{first_again, states_again, states_settled}
-use Rattle.note_join.proofs.SettledTypes.{types_again, types_settled}
+use Rattle.note_join.proofs.{SettledStates.first_again, SettledStates.states_again, SettledStates.states_settled, SettledTypes.types_again}
+use Rattle.note_join.proofs.SettledTypes.{types_settled}
 use Rattle.note_join.proofs.again.joins_settle.Goals as goal
 
 pub returns-clause-types_again : goal.returns-clause-types_again

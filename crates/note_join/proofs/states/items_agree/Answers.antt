@@ -1,6 +1,5 @@
-use Rattle.std.proofs.Common.{sym, ◌∙◌, arith}
+use Rattle.note_join.proofs.Common.{sym, ◌∙◌, arith, Locals}
 use Rattle.note_join.proofs.StateJoins.{items_agree-all, items_agree-none, items_agree-lengths}
-use Rattle.note_types.specs.declared.items.Item.TheVariants.{Locals}
 use Rattle.note_join.proofs.states.items_agree.Goals as goal
 
 pub returns-then-xs-ys : goal.returns-then-xs-ys

@@ -1,10 +1,7 @@
-use Rattle.std.proofs.Common.{ap, ◌∙◌, ◌++◌, [], ◌∷◌, List, take, length, arith, subst, sym, ◌<◌}
-use Rattle.note_types.specs.declared.items.Item.{Item}
+use Rattle.note_join.proofs.Common.{ap, ◌∙◌, ◌++◌, [], ◌∷◌, List, take, length, arith, subst, sym, ◌<◌, Item, Slot, join_item, zipped}
 use Rattle.note_types.specs.declared.cell.SlotKind.TheVariants.{N}
-use Rattle.note_types.specs.declared.items.Item.TheVariants.{Slot}
-use Rattle.note_types.specs.declared.types.Ty.TheVariants as ty
-use Rattle.note_join.specs.JoinStates.{join_item, zipped}
 use Rattle.note_join.proofs.StateJoins.{zipped_more, zipped_within}
+use Rattle.note_types.specs.declared.types.Ty.TheVariants as ty
 use Rattle.note_join.proofs.states.join_items.Goals as goal
 
 pub loop-number-init : goal.loop-number-init

@@ -1,5 +1,4 @@
-use Rattle.std.proofs.Common.{◌≡◌, take}
-use Rattle.note_join.specs.JoinStates.{join_item, zipped}
+use Rattle.note_join.proofs.Common.{◌≡◌, take, join_item, zipped}
 use Rattle.note_join.proofs.states.join_items.Given as goal
 
 abbrev pub invariant-loop-number : goal.invariant-loop-number

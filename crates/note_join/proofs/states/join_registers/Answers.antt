@@ -1,7 +1,6 @@
-use Rattle.std.proofs.Common.{◌∙◌, [], ◌∷◌, arith}
-use Rattle.note_types.specs.declared.types.Ty.TheVariants as ty
-use Rattle.note_join.specs.Join.{join_types}
+use Rattle.note_join.proofs.Common.{◌∙◌, [], ◌∷◌, arith, join_types}
 use Rattle.note_join.proofs.StateJoins.{zipped_row}
+use Rattle.note_types.specs.declared.types.Ty.TheVariants as ty
 use Rattle.note_join.proofs.states.join_registers.Goals as goal
 
 pub returns : goal.returns

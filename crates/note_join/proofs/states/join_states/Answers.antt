@@ -1,6 +1,4 @@
-use Rattle.std.proofs.Common.{◌∙◌, ap, sym, subst, Some}
-use Rattle.std.proofs.lemmas.Bool.{false≢true}
-use Rattle.note_join.specs.Laws.{AreBothBelow, StateWeakens}
+use Rattle.note_join.proofs.Common.{◌∙◌, ap, sym, subst, Some, false≢true, AreBothBelow, StateWeakens}
 use Rattle.note_join.proofs.StateJoins.{agree_equal, joined_equal, states-length, states_below, state_weakens}
 use Rattle.note_join.proofs.states.join_states.Goals as goal
 

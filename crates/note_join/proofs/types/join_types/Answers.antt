@@ -1,5 +1,4 @@
-use Rattle.std.proofs.Common.{subst, sym, ◌∙◌}
-use Rattle.note_join.specs.Laws.{AreBelow, KeepsKnown, Weakens}
+use Rattle.note_join.proofs.Common.{subst, sym, ◌∙◌, AreBelow, KeepsKnown, Weakens}
 use Rattle.note_join.proofs.TypeJoins.{types_below, types_equal, types_known, types_weaken}
 use Rattle.note_join.proofs.types.join_types.Goals as goal
 

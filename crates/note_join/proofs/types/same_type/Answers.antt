@@ -1,7 +1,5 @@
-use Rattle.std.proofs.Common.{◌≡◌, ◌↔◌, IsTrue, arith}
-use Rattle.std.proofs.lemmas.Grind.{common_steps}
-use Rattle.std.proofs.lemmas.Bool.Decides.{same_from_decides}
-use Rattle.note_types.proofs.SameLaws.{Decides-same_type}
+use Rattle.note_join.proofs.Common.{◌≡◌, arith, Decides-same_type}
+use Rattle.std.proofs.{Common.◌↔◌, Common.IsTrue, lemmas.Grind.common_steps, lemmas.Bool.Decides.same_from_decides}
 use Rattle.note_join.proofs.types.same_type.Goals as goal
 
 same : (c : goal.After-eq) → IsTrue c.eq.result ↔ (c.args.a.now ≡ c.args.b.now)

@@ -1,7 +1,7 @@
-use Rattle.std.proofs.Common.{◌∙◌, Ok, ap, sym}
+use Rattle.option_rom.proofs.Common.{◌∙◌, Ok, ap, sym}
 use Rattle.std.proofs.lemmas.Result.{err_from_is_err_and}
-use Rattle.option_rom.proofs.Loops.{HasRead-all, HasRead-fails, HasRead-more, HasRead-none, all_takeable, first_told}
-use Rattle.option_rom.proofs.Walks.{read-rom}
+use Rattle.option_rom.proofs.Loops.{HasRead-all, HasRead-fails, HasRead-more, HasRead-none, all_takeable}
+use Rattle.option_rom.proofs.{Loops.first_told, Walks.read-rom}
 use Rattle.option_rom.proofs.reading.read_rom.Goals as goal
 
 pub loop-next-init : goal.loop-next-init

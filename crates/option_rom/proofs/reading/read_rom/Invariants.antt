@@ -1,5 +1,4 @@
-use Rattle.std.proofs.Common.{◌+◌, ◌-◌, length}
-use Rattle.std.specs.Option.{option_map_or}
+use Rattle.option_rom.proofs.Common.{◌+◌, ◌-◌, length, option_map_or}
 use Rattle.option_rom.proofs.Loops.{HasRead}
 use Rattle.option_rom.proofs.reading.read_rom.Given as goal
 

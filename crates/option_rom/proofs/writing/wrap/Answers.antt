@@ -1,7 +1,4 @@
-use Rattle.std.proofs.Common.{◌∙◌, [], ◌∷◌, ap, arith, length}
-use Rattle.option_rom.specs.Files.{wrapped}
-use Rattle.option_rom.specs.Roms.{rom_of}
-use Rattle.option_rom.specs.Takes.{bytes_taken}
+use Rattle.option_rom.proofs.Common.{◌∙◌, [], ◌∷◌, ap, arith, length, wrapped, rom_of, bytes_taken}
 use Rattle.option_rom.proofs.Wrapped.{rom-length, same-image, wrapped-read, wrapped-taken}
 use Rattle.option_rom.proofs.writing.wrap.Goals as goal
 

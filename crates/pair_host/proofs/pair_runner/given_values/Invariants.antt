@@ -1,6 +1,5 @@
-use Rattle.std.proofs.Common.{◌≡◌, length, map, take}
-use Rattle.note_types.specs.declared.seen.Seen.{Seen}
-use Rattle.host_model.specs.ScriptValues.{given}
+use Rattle.pair_host.proofs.Common.{◌≡◌, length, map, Seen, given}
+use Rattle.std.proofs.Common.{take}
 use Rattle.pair_host.proofs.pair_runner.given_values.Given as goal
 
 abbrev pub invariant-loop-arg : goal.invariant-loop-arg

@@ -1,5 +1,4 @@
-use Rattle.std.proofs.Common.{refl}
-use Rattle.pair_host.specs.PairRunner.{images_for, pair_world}
+use Rattle.pair_host.proofs.Common.{refl, images_for, pair_world}
 use Rattle.pair_host.proofs.PairOnItsWay.{begins}
 use Rattle.pair_host.proofs.pair_runner.start.Goals as goal
 

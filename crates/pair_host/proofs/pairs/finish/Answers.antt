@@ -1,12 +1,8 @@
-use Rattle.std.specs.Prelude.{◌≢◌}
-use Rattle.std.proofs.Common.{◌≡◌, ◌⊎◌, refl, sym, ◌∙◌, inl, inr, arith}
-use Rattle.std.proofs.lemmas.Bool.{false≢true}
-use Rattle.note_types.specs.declared.ending.Ending.TheVariants.{Running}
-use Rattle.pair_host.specs.PairReported.{own_pair_run}
-use Rattle.pair_host.specs.PairRunner.{images_for, pair_world}
+use Rattle.pair_host.proofs.Common.{◌≢◌, ◌≡◌, ◌⊎◌, refl, sym, ◌∙◌, inl, inr, arith, false≢true, Running, own_pair_run, images_for}
+use Rattle.pair_host.proofs.Common.{pair_world}
 use Rattle.pair_host.proofs.PairOnItsWay.{goes-on, reports, room-for-one}
-use Rattle.pair_host.proofs.pairs.finish.Goals as goal
 use Rattle.pair_host.proofs.pairs.finish.Goals.{then-loop-steps-test+else-goes_on, else-loop-steps-test}
+use Rattle.pair_host.proofs.pairs.finish.Goals as goal
 
 pub loop-steps-init : goal.loop-steps-init
 loop-steps-init g c = c.requires.on

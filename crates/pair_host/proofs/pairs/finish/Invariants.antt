@@ -1,6 +1,5 @@
-use Rattle.std.proofs.Common.{◌-◌}
+use Rattle.pair_host.proofs.Common.{◌-◌, images_for, pair_world}
 use Rattle.pair_host.specs.PairOnItsWay.{IsPairOnItsWay}
-use Rattle.pair_host.specs.PairRunner.{images_for, pair_world}
 use Rattle.pair_host.proofs.pairs.finish.Given as goal
 
 abbrev pub invariant-loop-steps : goal.invariant-loop-steps

@@ -1,4 +1,4 @@
-use Rattle.std.proofs.Common.{sym, ◌∙◌}
+use Rattle.pair_host.proofs.Common.{sym, ◌∙◌}
 use Rattle.pair_host.proofs.pairs.goes_on.Goals as goal
 
 pub returns : goal.returns

@@ -1,6 +1,6 @@
-use Rattle.pair_host.specs.PairRunner.{images_for, pair_world}
-use Rattle.pair_host.proofs.PairDiffering.{raised_at4, raised_at8, typed_pair, typed_pairs_never_differ}
-use Rattle.pair_host.proofs.PairOnItsWay.{starts}
+use Rattle.pair_host.proofs.Common.{images_for, pair_world}
+use Rattle.pair_host.proofs.PairDiffering.{raised_at4, raised_at8, typed_pair}
+use Rattle.pair_host.proofs.{PairDiffering.typed_pairs_never_differ, PairOnItsWay.starts}
 use Rattle.pair_host.proofs.pairs.run_pair.Goals as goal
 
 pub step_together-taken-requires-clause-at4 : goal.step_together-taken-requires-clause-at4

@@ -1,16 +1,9 @@
-use Rattle.std.specs.Prelude.{◌≢◌}
-use Rattle.std.proofs.Common.{◌≡◌, ◌⊎◌, ℕ, Bool, false, if◌then◌else◌, Option, Some, None, sym, ap, ◌∙◌, subst, refl, inl, inr, arith}
-use Rattle.std.proofs.Common.{length}
-use Rattle.std.proofs.lemmas.Bool.{false≢true}
-use Rattle.note_types.specs.declared.ending.Ending.TheVariants.{Running}
-use Rattle.pair_host.specs.PairDiffers.{PairsDifferAt}
-use Rattle.pair_host.specs.PairOnItsWay.{ArePairsInStep}
-use Rattle.pair_host.specs.PairReported.{own_pair_run}
-use Rattle.pair_host.specs.PairRunner.{images_for, pair_world}
-use Rattle.pair_host.proofs.PairOnItsWay.{goes-on_in_step, parts, starts-in_step}
-use Rattle.pair_host.proofs.pairs.step_together.Goals as goal
+use Rattle.pair_host.proofs.Common.{◌≢◌, ◌≡◌, ◌⊎◌, ℕ, Bool, false, if◌then◌else◌, Option, Some, None, sym, ap, ◌∙◌, subst, refl, inl, inr}
+use Rattle.pair_host.proofs.Common.{arith, length, false≢true, Running, PairsDifferAt, ArePairsInStep, own_pair_run, images_for, pair_world}
 use Rattle.pair_host.proofs.pairs.step_together.Goals.{then-loop-same-test+then-taken-limit+else-goes_on}
+use Rattle.pair_host.proofs.PairOnItsWay.{goes-on_in_step, parts, starts-in_step}
 use Rattle.pair_host.proofs.pairs.step_together.Goals.{then-loop-same-test+else-taken-limit, else-loop-same-test}
+use Rattle.pair_host.proofs.pairs.step_together.Goals as goal
 
 pub loop-same-init : goal.loop-same-init
 loop-same-init c =

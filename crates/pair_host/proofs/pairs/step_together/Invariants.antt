@@ -1,6 +1,4 @@
-use Rattle.std.proofs.Common.{◌-◌}
-use Rattle.pair_host.specs.PairOnItsWay.{ArePairsInStep}
-use Rattle.pair_host.specs.PairRunner.{images_for, pair_world}
+use Rattle.pair_host.proofs.Common.{◌-◌, ArePairsInStep, images_for, pair_world}
 use Rattle.pair_host.proofs.pairs.step_together.Given as goal
 
 abbrev pub invariant-loop-same : goal.invariant-loop-same

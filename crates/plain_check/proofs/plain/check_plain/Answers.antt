@@ -1,7 +1,5 @@
-use Rattle.std.proofs.Common.{sym, ◌∙◌}
-use Rattle.plain_check.proofs.Rules.{neutral-exactly}
-use Rattle.plain_check.proofs.Refusals.{refused-exactly}
-use Rattle.plain_check.proofs.Runs.{neutral-alike}
+use Rattle.plain_check.proofs.Common.{sym, ◌∙◌}
+use Rattle.plain_check.proofs.{Rules.neutral-exactly, Refusals.refused-exactly, Runs.neutral-alike}
 use Rattle.plain_check.proofs.plain.check_plain.Goals as goal
 
 pub returns-clause-neutral_exactly : goal.returns-clause-neutral_exactly

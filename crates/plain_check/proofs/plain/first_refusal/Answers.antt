@@ -1,5 +1,4 @@
-use Rattle.std.proofs.Common.{sym, ◌∙◌, arith, length}
-use Rattle.plain_check.specs.PlainChecks.{marked}
+use Rattle.plain_check.proofs.Common.{sym, ◌∙◌, arith, length, marked}
 use Rattle.plain_check.proofs.Places.{judged-end}
 use Rattle.plain_check.proofs.plain.first_refusal.Goals as goal
 

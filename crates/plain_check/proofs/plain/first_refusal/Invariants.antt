@@ -1,5 +1,5 @@
-use Rattle.std.proofs.Common.{◌≡◌, ◌-◌, ◌≤◌, length, drop}
-use Rattle.plain_check.specs.PlainChecks.{first_refusal, marked, places, reached}
+use Rattle.plain_check.proofs.Common.{◌≡◌, ◌-◌, ◌≤◌, length, drop, first_refusal, marked, reached}
+use Rattle.plain_check.specs.PlainChecks.{places}
 use Rattle.plain_check.proofs.plain.first_refusal.Given as goal
 
 abbrev pub decreases-loop-at : goal.decreases-loop-at

@@ -1,7 +1,5 @@
-use Rattle.std.proofs.Common.{refl, sym, ◌∙◌, arith, length-drop}
-use Rattle.std.proofs.lemmas.List.{drop-drop}
+use Rattle.plain_check.proofs.Common.{refl, sym, ◌∙◌, arith, length-drop, drop-drop, marked}
 use Rattle.plain_check.proofs.Places.{judged-read, judged-none}
-use Rattle.plain_check.specs.PlainChecks.{marked}
 use Rattle.plain_check.proofs.plain.rule_at.Goals as goal
 
 pub returns-in_default-clause-judged : goal.returns-in_default-clause-judged

@@ -1,7 +1,7 @@
-use Rattle.std.proofs.Common.{sym, ◌∙◌, arith}
-use Rattle.plain_check.proofs.Places.{marks-more, marks-end, marks-stop}
+use Rattle.plain_check.proofs.Common.{sym, ◌∙◌, arith}
+use Rattle.plain_check.proofs.{Places.marks-more, Places.marks-end, Places.marks-stop, plain.starts_of.Goals.else-loop-at-test}
+use Rattle.plain_check.proofs.plain.starts_of.Goals.{then-loop-at-test+in_default}
 use Rattle.plain_check.proofs.plain.starts_of.Goals as goal
-use Rattle.plain_check.proofs.plain.starts_of.Goals.{else-loop-at-test, then-loop-at-test+in_default}
 
 pub loop-at-preserved : goal.loop-at-preserved
 loop-at-preserved c =

@@ -1,4 +1,4 @@
-use Rattle.std.proofs.Common.{◌-◌, length}
+use Rattle.plain_check.proofs.Common.{◌-◌, length}
 use Rattle.plain_check.proofs.Places.{MarksTo}
 use Rattle.plain_check.proofs.plain.starts_of.Given as goal
 

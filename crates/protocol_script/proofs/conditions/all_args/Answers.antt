@@ -1,8 +1,4 @@
-use Rattle.std.proofs.Common.{refl}
-use Rattle.std.proofs.lemmas.Result.{err_from_is_err_and}
-use Rattle.script_draft.specs.Lists.{all_pass}
-use Rattle.script_draft.proofs.ListLaws.{pass-on, pass-stop, pass-done}
-use Rattle.protocol_script.specs.Conditions.{call_args}
+use Rattle.protocol_script.proofs.Common.{refl, err_from_is_err_and, all_pass, pass-on, pass-stop, pass-done, call_args}
 use Rattle.protocol_script.proofs.conditions.all_args.Goals as goal
 
 pub loop-i-init : goal.loop-i-init

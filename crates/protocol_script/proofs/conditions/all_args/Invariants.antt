@@ -1,6 +1,4 @@
-use Rattle.std.proofs.Common.{◌≡◌, drop}
-use Rattle.script_draft.specs.Lists.{all_pass}
-use Rattle.protocol_script.specs.Conditions.{call_args}
+use Rattle.protocol_script.proofs.Common.{◌≡◌, drop, all_pass, call_args}
 use Rattle.protocol_script.proofs.conditions.all_args.Given as goal
 
 abbrev pub invariant-loop-i : goal.invariant-loop-i

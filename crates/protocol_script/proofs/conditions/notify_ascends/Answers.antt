@@ -1,8 +1,4 @@
-use Rattle.std.proofs.Common.{refl}
-use Rattle.std.proofs.lemmas.Result.{err_from_is_err_and}
-use Rattle.note_types.specs.declared.script.Notify.{Notify}
-use Rattle.script_draft.proofs.ListLaws.{pass-done}
-use Rattle.protocol_script.specs.Conditions.{notify_ascends, notify_at}
+use Rattle.protocol_script.proofs.Common.{refl, err_from_is_err_and, Notify, pass-done, notify_ascends, notify_at}
 use Rattle.protocol_script.proofs.LimitLaws.{number-on, number-stop}
 use Rattle.protocol_script.proofs.conditions.notify_ascends.Goals as goal
 

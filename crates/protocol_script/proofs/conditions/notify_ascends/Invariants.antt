@@ -1,6 +1,4 @@
-use Rattle.std.proofs.Common.{◌≡◌, drop}
-use Rattle.script_draft.specs.Lists.{all_pass}
-use Rattle.protocol_script.specs.Conditions.{notify_ascends, notify_at}
+use Rattle.protocol_script.proofs.Common.{◌≡◌, drop, all_pass, notify_ascends, notify_at}
 use Rattle.protocol_script.proofs.conditions.notify_ascends.Given as goal
 
 abbrev pub invariant-loop-i : goal.invariant-loop-i

@@ -1,5 +1,4 @@
-use Rattle.std.proofs.Common.{length, sym, ◌∙◌}
-use Rattle.protocol_script.specs.Contents.{all_settled, is_settled}
+use Rattle.protocol_script.proofs.Common.{length, sym, ◌∙◌, all_settled, is_settled}
 use Rattle.protocol_script.proofs.FilledLaws.{AllBelow-more, all-numbers, one-fails}
 use Rattle.protocol_script.proofs.contents.all_settled.Goals as goal
 

@@ -1,4 +1,4 @@
-use Rattle.protocol_script.specs.Contents.{is_settled}
+use Rattle.protocol_script.proofs.Common.{is_settled}
 use Rattle.protocol_script.proofs.FilledLaws.{AllBelow}
 use Rattle.protocol_script.proofs.contents.all_settled.Given as goal
 

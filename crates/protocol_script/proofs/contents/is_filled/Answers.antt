@@ -1,5 +1,4 @@
-use Rattle.std.proofs.Common.{sym, ◌∙◌}
-use Rattle.protocol_script.specs.Contents.{all_settled, is_filled}
+use Rattle.protocol_script.proofs.Common.{sym, ◌∙◌, all_settled, is_filled}
 use Rattle.protocol_script.proofs.FilledLaws.{AllBelow-more, all-numbers, none-needed, one-fails}
 use Rattle.protocol_script.proofs.contents.is_filled.Goals as goal
 

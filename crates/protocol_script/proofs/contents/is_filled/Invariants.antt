@@ -1,4 +1,4 @@
-use Rattle.protocol_script.specs.Contents.{all_settled}
+use Rattle.protocol_script.proofs.Common.{all_settled}
 use Rattle.protocol_script.proofs.FilledLaws.{AllBelow}
 use Rattle.protocol_script.proofs.contents.is_filled.Given as goal
 

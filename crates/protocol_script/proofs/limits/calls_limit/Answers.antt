@@ -1,11 +1,6 @@
-use Rattle.std.proofs.Common.{arith, refl, subst, sym, List}
-use Rattle.std.proofs.lemmas.Result.{err_from_is_err_and}
-use Rattle.note_types.specs.declared.script.ScriptCall.{ScriptCall}
-use Rattle.note_types.specs.declared.script.ScriptObject.{ScriptObject}
-use Rattle.script_draft.proofs.ListLaws.{pass-done}
-use Rattle.protocol_script.specs.Limits.{IsLoad, call_limit, calls_limit}
-use Rattle.protocol_script.proofs.LimitLaws.{number-on, number-stop}
-use Rattle.protocol_script.proofs.ObjectLaws.{placed-start}
+use Rattle.protocol_script.proofs.Common.{arith, refl, subst, sym, List, err_from_is_err_and, ScriptCall, ScriptObject, pass-done, IsLoad}
+use Rattle.protocol_script.proofs.Common.{call_limit, calls_limit}
+use Rattle.protocol_script.proofs.{LimitLaws.number-on, LimitLaws.number-stop, ObjectLaws.placed-start}
 use Rattle.protocol_script.proofs.limits.calls_limit.Goals as goal
 
 pub loop-i-init : goal.loop-i-init

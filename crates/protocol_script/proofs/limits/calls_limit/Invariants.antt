@@ -1,6 +1,5 @@
-use Rattle.std.proofs.Common.{◌≡◌, drop}
-use Rattle.script_draft.specs.Lists.{all_pass}
-use Rattle.protocol_script.specs.Limits.{IsTally, call_limit, calls_limit}
+use Rattle.protocol_script.proofs.Common.{◌≡◌, drop, all_pass, call_limit, calls_limit}
+use Rattle.protocol_script.specs.Limits.{IsTally}
 use Rattle.protocol_script.proofs.limits.calls_limit.Given as goal
 
 abbrev pub invariant-loop-i : goal.invariant-loop-i

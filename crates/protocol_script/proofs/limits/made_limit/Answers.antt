@@ -1,4 +1,4 @@
-use Rattle.std.proofs.Common.{refl}
+use Rattle.protocol_script.proofs.Common.{refl}
 use Rattle.protocol_script.proofs.LimitLaws.{made-kept, made-load, made-lost}
 use Rattle.protocol_script.proofs.limits.made_limit.Goals as goal
 

@@ -1,8 +1,4 @@
-use Rattle.std.proofs.Common.{arith, refl}
-use Rattle.std.proofs.lemmas.Result.{err_from_is_err_and}
-use Rattle.note_types.specs.declared.script.ScriptObject.{ScriptObject}
-use Rattle.script_draft.proofs.ListLaws.{pass-done}
-use Rattle.protocol_script.specs.Limits.{object_limit, objects_limit}
+use Rattle.protocol_script.proofs.Common.{arith, refl, err_from_is_err_and, ScriptObject, pass-done, object_limit, objects_limit}
 use Rattle.protocol_script.proofs.LimitLaws.{number-on, number-stop}
 use Rattle.protocol_script.proofs.limits.objects_limit.Goals as goal
 

@@ -1,6 +1,4 @@
-use Rattle.std.proofs.Common.{◌≡◌, drop, take}
-use Rattle.script_draft.specs.Lists.{all_pass}
-use Rattle.protocol_script.specs.Limits.{IsLoad, object_limit, objects_limit}
+use Rattle.protocol_script.proofs.Common.{◌≡◌, drop, take, all_pass, IsLoad, object_limit, objects_limit}
 use Rattle.protocol_script.proofs.limits.objects_limit.Given as goal
 
 abbrev pub invariant-loop-i : goal.invariant-loop-i

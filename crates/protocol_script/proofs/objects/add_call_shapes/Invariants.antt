@@ -1,7 +1,4 @@
-use Rattle.std.proofs.Common.{◌≡◌, ◌++◌, take}
-use Rattle.std.specs.List.{flat_map}
-use Rattle.script_draft.specs.declared.draft.CallDraft.{CallDraft}
-use Rattle.protocol_script.specs.Resolved.{draft_shapes}
+use Rattle.protocol_script.proofs.Common.{◌≡◌, ◌++◌, take, flat_map, CallDraft, draft_shapes}
 use Rattle.protocol_script.proofs.objects.add_call_shapes.Given as goal
 
 abbrev pub invariant-loop-call : goal.invariant-loop-call

@@ -1,5 +1,4 @@
-use Rattle.std.proofs.Common.{◌≡◌, ◌++◌, take}
-use Rattle.protocol_script.specs.Resolved.{draft_shapes}
+use Rattle.protocol_script.proofs.Common.{◌≡◌, ◌++◌, take, draft_shapes}
 use Rattle.protocol_script.proofs.objects.add_draft_shapes.Given as goal
 
 abbrev pub invariant-loop-object : goal.invariant-loop-object

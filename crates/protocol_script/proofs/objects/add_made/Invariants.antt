@@ -1,7 +1,4 @@
-use Rattle.std.proofs.Common.{◌≡◌, ◌++◌, map, take}
-use Rattle.std.specs.List.{flat_map}
-use Rattle.note_types.specs.declared.script.ScriptCall.{ScriptCall}
-use Rattle.host_model.specs.Objects.{script_object}
+use Rattle.protocol_script.proofs.Common.{◌≡◌, ◌++◌, map, take, flat_map, ScriptCall, script_object}
 use Rattle.protocol_script.proofs.objects.add_made.Given as goal
 
 abbrev pub invariant-loop-call : goal.invariant-loop-call

@@ -1,5 +1,4 @@
-use Rattle.std.proofs.Common.{◌≡◌, ◌++◌, map, take}
-use Rattle.host_model.specs.Objects.{script_object}
+use Rattle.protocol_script.proofs.Common.{◌≡◌, ◌++◌, map, take, script_object}
 use Rattle.protocol_script.proofs.objects.add_objects.Given as goal
 
 abbrev pub invariant-loop-object : goal.invariant-loop-object

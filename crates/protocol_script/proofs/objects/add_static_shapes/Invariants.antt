@@ -1,5 +1,4 @@
-use Rattle.std.proofs.Common.{◌≡◌, ◌++◌, map, take, Some}
-use Rattle.note_types.specs.declared.notes.Static.{Static}
+use Rattle.protocol_script.proofs.Common.{◌≡◌, ◌++◌, map, take, Some, Static}
 use Rattle.protocol_script.proofs.objects.add_static_shapes.Given as goal
 
 abbrev pub invariant-loop-object : goal.invariant-loop-object

@@ -1,4 +1,4 @@
-use Rattle.std.proofs.Common.{refl}
+use Rattle.protocol_script.proofs.Common.{refl}
 use Rattle.protocol_script.proofs.ObjectLaws.{made-all}
 use Rattle.protocol_script.proofs.objects.all_objects.Goals as goal
 

@@ -1,4 +1,4 @@
-use Rattle.std.proofs.Common.{refl}
+use Rattle.protocol_script.proofs.Common.{refl}
 use Rattle.protocol_script.proofs.ObjectLaws.{made-start}
 use Rattle.protocol_script.proofs.objects.objects_at_start.Goals as goal
 

@@ -1,6 +1,5 @@
-use Rattle.std.proofs.Common.{◌≡◌, ◌+◌, ◌∙◌, drop, subst, sym}
-use Rattle.script_draft.specs.Lists.{all_of}
-use Rattle.script_draft.proofs.ListLaws.{all-done, all-on, all-stop, from_item, none_left, onto}
+use Rattle.protocol_script.proofs.Common.{◌≡◌, ◌+◌, ◌∙◌, drop, subst, sym, all_of, onto}
+use Rattle.script_draft.proofs.ListLaws.{all-done, all-on, all-stop, from_item, none_left}
 use Rattle.protocol_script.proofs.resolve.all_of.Goals as goal
 
 pub returns-in_default : goal.returns-in_default

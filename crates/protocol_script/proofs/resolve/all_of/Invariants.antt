@@ -1,6 +1,4 @@
-use Rattle.std.proofs.Common.{◌≡◌, drop}
-use Rattle.script_draft.specs.Lists.{all_of}
-use Rattle.script_draft.proofs.ListLaws.{onto}
+use Rattle.protocol_script.proofs.Common.{◌≡◌, drop, all_of, onto}
 use Rattle.protocol_script.proofs.resolve.all_of.Given as goal
 
 abbrev pub invariant-loop-text : goal.invariant-loop-text

@@ -1,9 +1,5 @@
-use Rattle.std.specs.Prelude.{codes}
-use Rattle.std.proofs.lemmas.Result.{err_from_is_err_and}
-use Rattle.note_texts.specs.Keys.{row_prefix}
-use Rattle.script_draft.specs.Lists.{each_of}
-use Rattle.script_draft.proofs.ListLaws.{with_front-none, each-on, each-stop, each-done}
-use Rattle.protocol_script.specs.Resolved.{resolved_call, resolved_calls}
+use Rattle.protocol_script.proofs.Common.{codes, err_from_is_err_and, row_prefix, each_of, with_front-none, each-on, each-stop, each-done}
+use Rattle.protocol_script.proofs.Common.{resolved_call, resolved_calls}
 use Rattle.protocol_script.proofs.resolve.resolve_calls.Goals as goal
 
 pub loop-i-init : goal.loop-i-init

@@ -1,9 +1,4 @@
-use Rattle.std.specs.Prelude.{codes}
-use Rattle.std.proofs.Common.{◌≡◌, drop}
-use Rattle.note_texts.specs.Keys.{row_prefix}
-use Rattle.note_texts.proofs.Loop.{with_front}
-use Rattle.script_draft.specs.Lists.{each_of}
-use Rattle.protocol_script.specs.Resolved.{resolved_notifications, resolved_notify}
+use Rattle.protocol_script.proofs.Common.{codes, ◌≡◌, drop, row_prefix, with_front, each_of, resolved_notifications, resolved_notify}
 use Rattle.protocol_script.proofs.resolve.resolve_notifications.Given as goal
 
 abbrev pub invariant-loop-i : goal.invariant-loop-i

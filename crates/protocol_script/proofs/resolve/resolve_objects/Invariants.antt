@@ -1,8 +1,4 @@
-use Rattle.std.proofs.Common.{◌≡◌, drop}
-use Rattle.note_texts.specs.Keys.{row_prefix}
-use Rattle.script_draft.specs.Lists.{each_of}
-use Rattle.note_texts.proofs.Loop.{with_front}
-use Rattle.protocol_script.specs.Resolved.{resolved_object, resolved_objects}
+use Rattle.protocol_script.proofs.Common.{◌≡◌, drop, row_prefix, each_of, with_front, resolved_object, resolved_objects}
 use Rattle.protocol_script.proofs.resolve.resolve_objects.Given as goal
 
 abbrev pub invariant-loop-i : goal.invariant-loop-i

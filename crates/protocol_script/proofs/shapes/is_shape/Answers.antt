@@ -1,4 +1,4 @@
-use Rattle.std.proofs.Common.{arith, refl}
+use Rattle.protocol_script.proofs.Common.{arith, refl}
 use Rattle.protocol_script.proofs.ShapeLaws.{fails-test, many-fail, passes-test}
 use Rattle.protocol_script.proofs.shapes.is_shape.Goals as goal
 

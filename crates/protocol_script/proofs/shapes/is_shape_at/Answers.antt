@@ -1,6 +1,5 @@
-use Rattle.std.proofs.Common.{◌≡◌, ◌∙◌, ap, rules}
-use Rattle.host_model.specs.Objects.{no_shape, shape_of}
-use Rattle.protocol_script.specs.ShapeTests.{is_shape}
+use Rattle.protocol_script.proofs.Common.{◌≡◌, ◌∙◌, ap, no_shape, shape_of, is_shape}
+use Rattle.std.proofs.Common.{rules}
 use Rattle.protocol_script.proofs.ShapeLaws.{no-shape}
 use Rattle.protocol_script.proofs.shapes.is_shape_at.Goals as goal
 

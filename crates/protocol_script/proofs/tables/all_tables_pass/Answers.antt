@@ -1,4 +1,4 @@
-use Rattle.std.proofs.Common.{ap, arith, length}
+use Rattle.protocol_script.proofs.Common.{ap, arith, length}
 use Rattle.protocol_script.proofs.ObjectLaws.{count-start, count-within}
 use Rattle.protocol_script.proofs.tables.all_tables_pass.Goals as goal
 

@@ -1,10 +1,6 @@
-use Rattle.std.proofs.Common.{◌≡◌, ap, arith, length, refl, subst, sym, Ok, ℕ}
-use Rattle.std.proofs.lemmas.Result.{err_from_is_err_and}
-use Rattle.note_texts.specs.Outcome.{Fails}
-use Rattle.host_model.specs.Objects.{made_objects}
-use Rattle.script_draft.proofs.ListLaws.{pass-on, pass-stop, pass-done}
+use Rattle.protocol_script.proofs.Common.{◌≡◌, ap, arith, length, refl, subst, sym, Ok, ℕ, err_from_is_err_and, Fails, made_objects}
+use Rattle.protocol_script.proofs.Common.{pass-on, pass-stop, pass-done, call_passes, calls_pass}
 use Rattle.protocol_script.proofs.ObjectLaws.{call-count, call-fits, count-start, count-within}
-use Rattle.protocol_script.specs.Conditions.{call_passes, calls_pass}
 use Rattle.protocol_script.proofs.tables.calls_pass.Goals as goal
 
 pub overflow_add-first : goal.overflow_add-first

@@ -1,7 +1,4 @@
-use Rattle.std.proofs.Common.{◌≡◌, drop, length}
-use Rattle.host_model.specs.Objects.{made_objects}
-use Rattle.script_draft.specs.Lists.{all_pass}
-use Rattle.protocol_script.specs.Conditions.{call_passes, calls_pass}
+use Rattle.protocol_script.proofs.Common.{◌≡◌, drop, length, made_objects, all_pass, call_passes, calls_pass}
 use Rattle.protocol_script.proofs.tables.calls_pass.Given as goal
 
 abbrev pub invariant-loop-i : goal.invariant-loop-i

@@ -1,7 +1,4 @@
-use Rattle.std.proofs.Common.{◌+◌, refl}
-use Rattle.std.proofs.lemmas.Result.{err_from_is_err_and}
-use Rattle.script_draft.proofs.ListLaws.{pass-on, pass-stop, pass-done}
-use Rattle.protocol_script.specs.Conditions.{table_passes, tables_pass}
+use Rattle.protocol_script.proofs.Common.{◌+◌, refl, err_from_is_err_and, pass-on, pass-stop, pass-done, table_passes, tables_pass}
 use Rattle.protocol_script.proofs.tables.tables_pass.Goals as goal
 
 pub loop-i-init : goal.loop-i-init

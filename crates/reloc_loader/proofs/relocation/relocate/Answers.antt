@@ -1,7 +1,6 @@
-use Rattle.std.proofs.Common.{◌≡◌, ◌+◌, ◌%◌, ◌^◌, ap, ◌∙◌, None}
+use Rattle.reloc_loader.proofs.Common.{◌≡◌, ◌+◌, ◌%◌, ◌^◌, ap, ◌∙◌, None, little_endian, put, with_bytes}
 use Rattle.std.proofs.lemmas.Option.{same_Some}
-use Rattle.ebc_width.specs.Bytes.{little_endian, put}
-use Rattle.object_memory.specs.Memory.{held_number, with_bytes}
+use Rattle.object_memory.specs.Memory.{held_number}
 use Rattle.object_memory.proofs.Laws.{held_number-with_bytes, memory_after-with_bytes}
 use Rattle.reloc_loader.proofs.relocation.relocate.Goals as goal
 

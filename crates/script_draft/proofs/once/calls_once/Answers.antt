@@ -1,7 +1,4 @@
-use Rattle.std.proofs.Common.{refl}
-use Rattle.std.proofs.lemmas.Result.{err_from_is_err_and}
-use Rattle.script_draft.specs.Lists.{all_pass}
-use Rattle.script_draft.specs.Once.{call_once}
+use Rattle.script_draft.proofs.Common.{refl, err_from_is_err_and, all_pass, call_once}
 use Rattle.script_draft.proofs.ListLaws.{pass-on, pass-stop, pass-done}
 use Rattle.script_draft.proofs.once.calls_once.Goals as goal
 

@@ -1,6 +1,4 @@
-use Rattle.std.proofs.Common.{refl}
-use Rattle.std.proofs.lemmas.Result.{err_from_is_err_and}
-use Rattle.script_draft.specs.Once.{object_once, objects_once}
+use Rattle.script_draft.proofs.Common.{refl, err_from_is_err_and, object_once, objects_once}
 use Rattle.script_draft.proofs.ListLaws.{pass-on, pass-stop, pass-done}
 use Rattle.script_draft.proofs.once.objects_once.Goals as goal
 

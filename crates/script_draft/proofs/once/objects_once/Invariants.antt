@@ -1,6 +1,4 @@
-use Rattle.std.proofs.Common.{◌≡◌, drop}
-use Rattle.script_draft.specs.Lists.{all_pass}
-use Rattle.script_draft.specs.Once.{object_once, objects_once}
+use Rattle.script_draft.proofs.Common.{◌≡◌, drop, all_pass, object_once, objects_once}
 use Rattle.script_draft.proofs.once.objects_once.Given as goal
 
 abbrev pub invariant-loop-i : goal.invariant-loop-i

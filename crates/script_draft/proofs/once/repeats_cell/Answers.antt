@@ -1,8 +1,5 @@
-use Rattle.std.proofs.Common.{ℕ, List, refl, sym, ◌∙◌, ap}
-use denote.Ref.{Bor}
+use Rattle.script_draft.proofs.Common.{ℕ, List, refl, sym, ◌∙◌, ap, Bor, has_repeat, same_cell}
 use Rattle.note_draft.proofs.RepeatLaws.{has_repeat-none}
-use Rattle.note_draft.specs.Repeats.{has_repeat}
-use Rattle.script_draft.specs.Once.{same_cell}
 use Rattle.script_draft.proofs.CellLaws.{AreSeen-more, AreSeen-repeat}
 use Rattle.script_draft.proofs.once.repeats_cell.Goals as goal
 

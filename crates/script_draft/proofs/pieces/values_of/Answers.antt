@@ -1,9 +1,7 @@
-use Rattle.std.proofs.Common.{◌≡◌, Some, None, sym, ◌∙◌, arith, rules, ap}
-use Rattle.script_draft.specs.Lists.{all_of}
-use Rattle.script_draft.specs.Pieces.{cut, pieces, values_of}
-use Rattle.script_draft.specs.ValueTexts.{value_of}
-use Rattle.script_draft.proofs.ListLaws.{onto-none}
-use Rattle.script_draft.proofs.PieceLaws.{cut-shorter, last-done, last-stop, values-on, values-stop}
+use Rattle.script_draft.proofs.Common.{◌≡◌, Some, None, sym, ◌∙◌, arith, ap, all_of, cut, pieces, values_of, value_of}
+use Rattle.std.proofs.Common.{rules}
+use Rattle.script_draft.proofs.{ListLaws.onto-none, PieceLaws.cut-shorter, PieceLaws.last-done, PieceLaws.last-stop, PieceLaws.values-on}
+use Rattle.script_draft.proofs.PieceLaws.{values-stop}
 use Rattle.script_draft.proofs.pieces.values_of.Goals as goal
 
 pub loop-first-init : goal.loop-first-init

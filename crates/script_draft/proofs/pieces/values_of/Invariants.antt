@@ -1,9 +1,6 @@
-use Rattle.std.proofs.Common.{◌≡◌, length}
+use Rattle.script_draft.proofs.Common.{◌≡◌, length, all_of, pieces, values_of, value_of}
 use denote.Text.{Utf8}
 use denote.Shadow.{shadow}
-use Rattle.script_draft.specs.Lists.{all_of}
-use Rattle.script_draft.specs.Pieces.{pieces, values_of}
-use Rattle.script_draft.specs.ValueTexts.{value_of}
 use Rattle.script_draft.proofs.ListLaws.{onto}
 use Rattle.script_draft.proofs.pieces.values_of.Given as goal
 

@@ -1,8 +1,4 @@
-use Rattle.std.proofs.Common.{ℕ, List, subst, sym}
-use Rattle.std.proofs.lemmas.Result.{err_from_is_err_and}
-use Rattle.stack_needs.specs.Calls.{Calls}
-use Rattle.stack_needs.specs.Walks.{Sees}
-use Rattle.stack_needs.specs.declared.walk.Walked.{Walked}
+use Rattle.stack_needs.proofs.Common.{ℕ, List, subst, sym, err_from_is_err_and, Calls, Sees, Walked}
 use Rattle.stack_needs.proofs.WayLaws.{cause-search}
 use Rattle.stack_needs.proofs.needs.find_needs.Goals as goal
 

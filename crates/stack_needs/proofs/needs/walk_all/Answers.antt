@@ -1,9 +1,6 @@
-use Rattle.std.proofs.Common.{ℕ, List, [], ◌∷◌, ap, arith, length, length-append, subst, sym}
-use Rattle.std.proofs.lemmas.Result.{err_from_is_err_and}
+use Rattle.stack_needs.proofs.Common.{ℕ, List, [], ◌∷◌, ap, arith, length, subst, sym, err_from_is_err_and, Calls, Sees, Walked}
+use Rattle.std.proofs.Common.{length-append}
 use Rattle.note_infer.proofs.Gathering.{function_there, has_code}
-use Rattle.stack_needs.specs.Calls.{Calls}
-use Rattle.stack_needs.specs.Walks.{Sees}
-use Rattle.stack_needs.specs.declared.walk.Walked.{Walked}
 use Rattle.stack_needs.proofs.WayLaws.{cause-walk, sees-more, sees-none}
 use Rattle.stack_needs.proofs.needs.walk_all.Goals as goal
 

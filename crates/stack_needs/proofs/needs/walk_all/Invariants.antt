@@ -1,6 +1,4 @@
-use Rattle.std.proofs.Common.{◌≡◌, ℕ, length}
-use Rattle.stack_needs.specs.Calls.{Calls}
-use Rattle.stack_needs.specs.Walks.{Sees}
+use Rattle.stack_needs.proofs.Common.{◌≡◌, ℕ, length, Calls, Sees}
 use Rattle.stack_needs.proofs.needs.walk_all.Given as goal
 
 abbrev pub invariant-loop-f : goal.invariant-loop-f

@@ -1,4 +1,4 @@
-use Rattle.std.proofs.Common.{◌≡◌, length}
+use Rattle.stack_needs.proofs.Common.{◌≡◌, length}
 use Rattle.stack_needs.proofs.needs.written.Given as goal
 
 abbrev pub invariant-loop-f : goal.invariant-loop-f

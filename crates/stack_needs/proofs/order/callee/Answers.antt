@@ -1,6 +1,4 @@
-use Rattle.std.proofs.Common.{◌≡◌, List, Some, length, refl, slice_get, subst, sym}
-use Rattle.std.proofs.lemmas.Bool.{ltb-true}
-use Rattle.std.proofs.lemmas.Option.{slice_get_read}
+use Rattle.stack_needs.proofs.Common.{◌≡◌, List, Some, length, refl, slice_get, subst, sym, ltb-true, slice_get_read}
 use Rattle.stack_needs.specs.declared.walk.Called.{Called}
 use Rattle.stack_needs.proofs.order.callee.Goals as goal
 

@@ -1,4 +1,4 @@
-use Rattle.stack_needs.specs.Walks.{IsStack, Sees, functions_of}
+use Rattle.stack_needs.proofs.Common.{IsStack, Sees, functions_of}
 use Rattle.stack_needs.proofs.order.callees_first.Given as goal
 
 abbrev pub invariant-loop-function : goal.invariant-loop-function

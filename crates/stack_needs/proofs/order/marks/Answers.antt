@@ -1,6 +1,4 @@
-use Rattle.std.proofs.Common.{◌≡◌, ℕ, Some, slice_get, List, subst, sym}
-use Rattle.stack_needs.specs.declared.order.Mark.{Mark}
-use Rattle.stack_needs.specs.declared.order.Mark.TheVariants.{Open}
+use Rattle.stack_needs.proofs.Common.{◌≡◌, ℕ, Some, slice_get, List, subst, sym, Mark, Open}
 use Rattle.stack_needs.proofs.StackLaws.{none-pushed}
 use Rattle.stack_needs.proofs.order.marks.Goals as goal
 

@@ -1,5 +1,4 @@
-use Rattle.std.proofs.Common.{◌≡◌, ℕ, Some, slice_get}
-use Rattle.stack_needs.specs.declared.order.Mark.TheVariants.{Open}
+use Rattle.stack_needs.proofs.Common.{◌≡◌, ℕ, Some, slice_get, Open}
 use Rattle.stack_needs.proofs.order.marks.Given as goal
 
 abbrev pub invariant-loop-function : goal.invariant-loop-function

@@ -1,12 +1,7 @@
-use Rattle.std.proofs.Common.{subst, sym}
-use Rattle.std.proofs.lemmas.Result.{err_from_is_err_and}
-use Rattle.stack_needs.specs.Walks.{AreCalls}
-use Rattle.stack_needs.specs.Ways.{Comes}
-use Rattle.stack_needs.specs.declared.depth.Depth.{Depth}
+use Rattle.stack_needs.proofs.Common.{subst, sym, err_from_is_err_and, AreCalls, Comes, Depth}
 use Rattle.stack_needs.specs.declared.walk.Course.{Course}
-use Rattle.stack_needs.proofs.WayLaws.{comes-first}
+use Rattle.stack_needs.proofs.{WayLaws.comes-first, walk.walk.Goals.else-loop-test, walk.walk.Goals.then-loop-test+in_default}
 use Rattle.stack_needs.proofs.walk.walk.Goals as goal
-use Rattle.stack_needs.proofs.walk.walk.Goals.{else-loop-test, then-loop-test+in_default}
 
 pub reach-requires-clause-course : goal.reach-requires-clause-course
 reach-requires-clause-course c = c.in_ok-course.ensures.begun c.args.image.now c.args.notes.now c.args.f.now

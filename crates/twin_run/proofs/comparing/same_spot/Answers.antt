@@ -1,4 +1,4 @@
-use Rattle.std.proofs.lemmas.Bool.Decides.{Decides-at}
+use Rattle.twin_run.proofs.Common.{Decides-at}
 use Rattle.twin_run.proofs.SameEvents.{Decides-spot}
 use Rattle.twin_run.proofs.comparing.same_spot.Goals as goal
 

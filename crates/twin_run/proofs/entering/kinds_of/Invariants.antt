@@ -1,5 +1,4 @@
-use Rattle.std.proofs.Common.{◌≡◌, length, map, take}
-use Rattle.note_types.specs.declared.notes.Param.{Param}
+use Rattle.twin_run.proofs.Common.{◌≡◌, length, map, take, Param}
 use Rattle.twin_run.proofs.entering.kinds_of.Given as goal
 
 abbrev pub invariant-loop-k : goal.invariant-loop-k

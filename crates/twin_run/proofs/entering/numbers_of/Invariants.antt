@@ -1,7 +1,4 @@
-use Rattle.std.proofs.Common.{◌≡◌, length, map, take}
-use Rattle.note_types.specs.declared.notes.Notes.{Notes}
-use Rattle.host_model.specs.HostSteps.{written_number}
-use Rattle.native_host.specs.Kept.{IsOf, placement_of}
+use Rattle.twin_run.proofs.Common.{◌≡◌, length, map, take, Notes, written_number, IsOf, placement_of}
 use Rattle.twin_run.proofs.entering.numbers_of.Given as goal
 
 abbrev pub invariant-loop-value : goal.invariant-loop-value

@@ -1,13 +1,7 @@
-use Rattle.std.specs.Prelude.{◌≢◌}
-use Rattle.std.proofs.Common.{◌≡◌, ◌⊎◌, sym, subst, ◌∙◌, inl, inr, arith}
-use Rattle.std.proofs.lemmas.Bool.{false≢true}
-use Rattle.note_types.specs.declared.ending.Ending.TheVariants.{Running}
-use Rattle.twin_run.specs.OnItsWay.{IsOnItsWay}
-use Rattle.twin_run.specs.Reported.{own_run}
-use Rattle.twin_run.proofs.OnItsWay.{goes-on_for, reports}
-use Rattle.twin_run.proofs.SteppingOn.{runs_still}
-use Rattle.twin_run.proofs.one_run.finish.Goals as goal
+use Rattle.twin_run.proofs.Common.{◌≢◌, ◌≡◌, ◌⊎◌, sym, subst, ◌∙◌, inl, inr, arith, false≢true, Running, IsOnItsWay, own_run}
+use Rattle.twin_run.proofs.{OnItsWay.goes-on_for, OnItsWay.reports, SteppingOn.runs_still}
 use Rattle.twin_run.proofs.one_run.finish.Goals.{then-loop-runner-test+else-goes_on, else-loop-runner-test}
+use Rattle.twin_run.proofs.one_run.finish.Goals as goal
 
 pub loop-runner-init : goal.loop-runner-init
 loop-runner-init g c = record {

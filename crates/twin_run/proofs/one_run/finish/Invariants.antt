@@ -1,8 +1,4 @@
-use Rattle.std.proofs.Common.{◌≡◌, ℕ, ◌-◌}
-use Rattle.host_model.specs.World.{World}
-use Rattle.pe_image.specs.declared.image.Image.{Image}
-use Rattle.twin_run.specs.OnItsWay.{IsOnItsWay}
-use Rattle.twin_run.specs.Runner.{Runs}
+use Rattle.twin_run.proofs.Common.{◌≡◌, ℕ, ◌-◌, World, Image, IsOnItsWay, Runs}
 use Rattle.twin_run.proofs.one_run.finish.Given as goal
 
 abbrev pub invariant-loop-runner : goal.invariant-loop-runner

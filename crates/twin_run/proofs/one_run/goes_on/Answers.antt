@@ -1,4 +1,4 @@
-use Rattle.std.proofs.Common.{sym, ◌∙◌}
+use Rattle.twin_run.proofs.Common.{sym, ◌∙◌}
 use Rattle.twin_run.proofs.one_run.goes_on.Goals as goal
 
 pub returns : goal.returns

@@ -1,9 +1,5 @@
-use Rattle.std.proofs.Common.{ap, ◌∙◌, arith, length, map, refl}
-use Rattle.pe_image.specs.Mapped.{mapped}
-use Rattle.host_model.specs.HostSteps.{written_number}
-use Rattle.host_model.specs.Objects.{made_objects}
-use Rattle.host_model.specs.Placements.{Placement, own_placement, stack_end}
-use Rattle.host_model.specs.Runs.{world_of}
+use Rattle.twin_run.proofs.Common.{ap, ◌∙◌, arith, length, map, refl, mapped, written_number, made_objects, Placement, own_placement}
+use Rattle.twin_run.proofs.Common.{stack_end, world_of}
 use Rattle.twin_run.proofs.BeginningLaws.{begins, begun, begun_at, entry_within, few_args, numbers_count, outset, room_begins}
 use Rattle.twin_run.proofs.TurnLaws.{quiet_none}
 use Rattle.twin_run.proofs.runner.start.Goals as goal

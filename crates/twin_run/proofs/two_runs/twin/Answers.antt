@@ -1,18 +1,9 @@
-use Rattle.std.specs.Prelude.{◌≢◌}
-use Rattle.std.proofs.Common.{◌≡◌, ◌⊎◌, ℕ, Bool, false, if◌then◌else◌, Option, Some, None, refl, sym, ap, ◌∙◌, subst, inl, inr, arith}
-use Rattle.std.proofs.lemmas.Bool.{false≢true}
-use Rattle.note_types.specs.declared.ending.Ending.TheVariants.{Running}
-use Rattle.pe_image.specs.declared.image.Image.{Image}
-use Rattle.host_model.specs.Runs.{world_of}
-use Rattle.host_model.specs.World.{World}
-use Rattle.twin_run.specs.Differs.{DifferAt}
-use Rattle.twin_run.specs.OnItsWay.{AreInStep}
-use Rattle.twin_run.specs.Reported.{own_run}
-use Rattle.twin_run.proofs.OnItsWay.{goes-on_in_step, parts, starts-in_step, told}
-use Rattle.twin_run.proofs.Runs.{typed_never_differ}
-use Rattle.twin_run.proofs.two_runs.twin.Goals as goal
+use Rattle.twin_run.proofs.Common.{◌≢◌, ◌≡◌, ◌⊎◌, ℕ, Bool, false, if◌then◌else◌, Option, Some, None, refl, sym, ap, ◌∙◌, subst, inl, inr}
+use Rattle.twin_run.proofs.Common.{arith, false≢true, Running, Image, world_of, World, DifferAt, AreInStep, own_run}
 use Rattle.twin_run.proofs.two_runs.twin.Goals.{then-loop-same-test+then-taken-steps+else-goes_on, then-loop-same-test+else-taken-steps}
+use Rattle.twin_run.proofs.{OnItsWay.goes-on_in_step, OnItsWay.parts, OnItsWay.starts-in_step, OnItsWay.told, Runs.typed_never_differ}
 use Rattle.twin_run.proofs.two_runs.twin.Goals.{else-loop-same-test, then-same, else-same}
+use Rattle.twin_run.proofs.two_runs.twin.Goals as goal
 
 pub loop-same-init : goal.loop-same-init
 loop-same-init c =

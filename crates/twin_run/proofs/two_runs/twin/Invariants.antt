@@ -1,6 +1,4 @@
-use Rattle.std.proofs.Common.{◌-◌}
-use Rattle.host_model.specs.Runs.{world_of}
-use Rattle.twin_run.specs.OnItsWay.{AreInStep}
+use Rattle.twin_run.proofs.Common.{◌-◌, world_of, AreInStep}
 use Rattle.twin_run.proofs.two_runs.twin.Given as goal
 
 abbrev pub invariant-loop-same : goal.invariant-loop-same

@@ -1,10 +1,6 @@
-use Rattle.std.proofs.Common.{◌≡◌, ap, refl, sym, ◌∙◌}
-use Rattle.std.specs.Prelude.{Some, slice_get}
-use Rattle.std.proofs.lemmas.Option.{none-some, same_Some}
-use Rattle.note_types.specs.declared.notes.Point.{Point}
+use Rattle.width_checker.proofs.Common.{◌≡◌, ap, refl, sym, ◌∙◌, Some, slice_get, none-some, same_Some, Point, only_if}
 use Rattle.width_checker.proofs.Points.{arrives_none, arrives_point, below_here, below_none, looked, looked_past, one_point, points_more}
 use Rattle.width_checker.proofs.Points.{points_same}
-use Rattle.ebc_base.specs.Steps.{only_if}
 use Rattle.width_checker.proofs.walk.arrive.Goals as goal
 
 pub returns-then-p-at-clause-arrives : goal.returns-then-p-at-clause-arrives

@@ -1,6 +1,4 @@
-use Rattle.std.proofs.Common.{List, length, subst}
-use Rattle.note_types.specs.declared.notes.FnNote.{FnNote}
-use Rattle.width_checker.specs.Walks.{FunctionsMeet}
+use Rattle.width_checker.proofs.Common.{List, length, subst, FnNote, FunctionsMeet}
 use Rattle.width_checker.proofs.Walking.{typed_image}
 use Rattle.width_checker.proofs.walk.check_code.Goals as goal
 

@@ -1,6 +1,4 @@
-use Rattle.std.proofs.Common.{◌≡◌, List, subst}
-use Rattle.std.specs.Prelude.{Some, slice_get}
-use Rattle.note_types.specs.declared.notes.FnNote.{FnNote}
+use Rattle.width_checker.proofs.Common.{◌≡◌, List, subst, Some, slice_get, FnNote}
 use Rattle.rules_image.proofs.Firsts.{item_there}
 use Rattle.width_checker.proofs.Walking.{functions_more, refuses}
 use Rattle.width_checker.proofs.walk.check_each.Goals as goal

@@ -1,4 +1,4 @@
-use Rattle.width_checker.specs.Walks.{FunctionsMeet}
+use Rattle.width_checker.proofs.Common.{FunctionsMeet}
 use Rattle.width_checker.proofs.walk.check_each.Given as goal
 
 abbrev pub invariant-loop-func : goal.invariant-loop-func

@@ -1,7 +1,5 @@
-use Rattle.std.proofs.Common.{◌≡◌, refl}
-use Rattle.std.specs.Prelude.{Some, slice_get}
+use Rattle.width_checker.proofs.Common.{◌≡◌, refl, Some, slice_get, Point}
 use Rattle.std.proofs.lemmas.Bool.{le-leb, leb-true}
-use Rattle.note_types.specs.declared.notes.Point.{Point}
 use Rattle.width_checker.proofs.Points.{looked, looked_past, no_point_none, no_point_some, point_within}
 use Rattle.width_checker.proofs.walk.has_no_point.Goals as goal
 

@@ -1,7 +1,4 @@
-use Rattle.std.proofs.Common.{◌≡◌, ap, refl, sym, ◌∙◌}
-use Rattle.std.specs.Prelude.{Some, slice_get}
-use Rattle.std.proofs.lemmas.Option.{none-some, same_Some}
-use Rattle.note_types.specs.declared.notes.Point.{Point}
+use Rattle.width_checker.proofs.Common.{◌≡◌, ap, refl, sym, ◌∙◌, Some, slice_get, none-some, same_Some, Point}
 use Rattle.width_checker.proofs.Points.{below_here, below_none, looked, looked_past}
 use Rattle.width_checker.proofs.walk.is_below_next.Goals as goal
 

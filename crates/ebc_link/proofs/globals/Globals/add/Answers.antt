@@ -1,9 +1,5 @@
-use Rattle.std.proofs.Common.{◌≡◌, ◌+◌, ◌++◌, [], ◌∷◌, Err, ap, sym, ◌∙◌, true, false}
-use Rattle.std.proofs.lemmas.Bool.{not-false, not-true}
-use Rattle.ebc_base.specs.Tables.{is_named}
-use Rattle.ebc_link.specs.Links.{Twice, unless_some}
-use Rattle.ebc_link.specs.Symbols.{is_definition}
-use Rattle.ebc_link.specs.Walks.{defined}
+use Rattle.ebc_link.proofs.Common.{◌≡◌, ◌+◌, ◌++◌, [], ◌∷◌, Err, ap, sym, ◌∙◌, true, false, not-false, not-true, is_named, Twice}
+use Rattle.ebc_link.proofs.Common.{unless_some, is_definition, defined}
 use Rattle.ebc_link.proofs.GlobalLaws.{add_defined, add_new, add_old, add_other}
 use Rattle.ebc_link.proofs.globals.Globals.add.Goals as goal
 

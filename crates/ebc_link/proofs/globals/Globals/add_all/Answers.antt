@@ -1,11 +1,6 @@
-use Rattle.std.proofs.Common.{[], ◌∷◌, ◌++◌, ap, append-nil, append_assoc, arith, sym, take, drop, ◌+◌, ◌∙◌, ◌≡◌}
-use Rattle.std.proofs.lemmas.List.{take_all}
-use Rattle.std.proofs.lemmas.Result.{err_from_is_err_and}
-use Rattle.ebc_link.specs.Links.{Twice, unless_some}
-use Rattle.ebc_link.specs.Symbols.{definitions_in, first_again, names_of}
-use Rattle.ebc_link.specs.Walks.{defined}
-use Rattle.ebc_link.proofs.AgainLaws.{again_none}
-use Rattle.ebc_link.proofs.EndLaws.{none_where_ok, twice-fails, twice-more}
+use Rattle.ebc_link.proofs.Common.{[], ◌∷◌, ◌++◌, ap, append-nil, append_assoc, arith, sym, take, drop, ◌+◌, ◌∙◌, ◌≡◌, take_all}
+use Rattle.ebc_link.proofs.Common.{err_from_is_err_and, Twice, unless_some, definitions_in, first_again, names_of, defined}
+use Rattle.ebc_link.proofs.{AgainLaws.again_none, EndLaws.none_where_ok, EndLaws.twice-fails, EndLaws.twice-more}
 use Rattle.ebc_link.proofs.GlobalLaws.{definitions-more, definitions-split}
 use Rattle.ebc_link.proofs.globals.Globals.add_all.Goals as goal
 

@@ -1,6 +1,4 @@
-use Rattle.std.proofs.Common.{◌≡◌, ◌+◌, ◌≤◌, ◌++◌, None, length, take}
-use Rattle.ebc_link.specs.Symbols.{definitions_in, first_again, names_of}
-use Rattle.ebc_link.specs.Walks.{IsPaired, defined}
+use Rattle.ebc_link.proofs.Common.{◌≡◌, ◌+◌, ◌≤◌, ◌++◌, None, length, take, definitions_in, first_again, names_of, IsPaired, defined}
 use Rattle.ebc_link.proofs.globals.Globals.add_all.Given as goal
 
 abbrev pub invariant-loop-symbol : goal.invariant-loop-symbol

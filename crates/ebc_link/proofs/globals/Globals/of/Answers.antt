@@ -1,14 +1,8 @@
-use Rattle.std.proofs.Common.{◌≡◌, ◌+◌, ◌++◌, [], ap, arith, drop, get_or, subst, sym, take, ◌∙◌}
-use Rattle.std.proofs.lemmas.List.{take_all}
-use Rattle.std.proofs.lemmas.Result.{err_from_is_err_and}
-use Rattle.ebc_link.specs.Layout.{laid_with}
-use Rattle.ebc_link.specs.Links.{Fails, Twice, unless_some}
-use Rattle.ebc_link.specs.Symbols.{definitions, definitions_in, first_again, names_of}
-use Rattle.ebc_link.specs.Walks.{defined}
-use Rattle.ebc_link.proofs.AgainLaws.{again_none}
-use Rattle.ebc_link.proofs.EndLaws.{none_where_ok, twice-fails, twice-more}
-use Rattle.ebc_link.proofs.GlobalLaws.{objects-more, objects-split}
-use Rattle.ebc_link.proofs.LaidLaws.{IsAt, at_number, laid_at, laid_more, laid_taken, length-laid, no_home}
+use Rattle.ebc_link.proofs.Common.{◌≡◌, ◌+◌, ◌++◌, [], ap, arith, drop, get_or, subst, sym, take, ◌∙◌, take_all, err_from_is_err_and}
+use Rattle.ebc_link.proofs.Common.{laid_with, Fails, Twice, unless_some, definitions, definitions_in, first_again, names_of, defined}
+use Rattle.ebc_link.proofs.{AgainLaws.again_none, EndLaws.none_where_ok, EndLaws.twice-fails, EndLaws.twice-more, GlobalLaws.objects-more}
+use Rattle.ebc_link.proofs.{GlobalLaws.objects-split, LaidLaws.IsAt, LaidLaws.at_number, LaidLaws.laid_at, LaidLaws.laid_more}
+use Rattle.ebc_link.proofs.LaidLaws.{laid_taken, length-laid, no_home}
 use Rattle.ebc_link.proofs.globals.Globals.of.Goals as goal
 
 pub loop-number-init : goal.loop-number-init

@@ -1,8 +1,5 @@
-use Rattle.std.proofs.Common.{◌≡◌, ◌*◌, ◌≤◌, [], None, length, take}
+use Rattle.ebc_link.proofs.Common.{◌≡◌, ◌*◌, ◌≤◌, [], None, length, take, laid_with, definitions, first_again, names_of, IsPaired, defined}
 use Rattle.ebc_object.specs.Objects.{most}
-use Rattle.ebc_link.specs.Layout.{laid_with}
-use Rattle.ebc_link.specs.Symbols.{definitions, first_again, names_of}
-use Rattle.ebc_link.specs.Walks.{IsPaired, defined}
 use Rattle.ebc_link.proofs.globals.Globals.of.Given as goal
 
 abbrev pub invariant-loop-number : goal.invariant-loop-number

@@ -1,5 +1,4 @@
-use Rattle.std.proofs.Common.{ap, ◌∙◌}
-use Rattle.std.specs.Prelude.{slice_get}
+use Rattle.ebc_link.proofs.Common.{ap, ◌∙◌, slice_get}
 use Rattle.ebc_link.proofs.GlobalLaws.{place-named}
 use Rattle.ebc_link.proofs.globals.Globals.place.Goals as goal
 

@@ -1,16 +1,9 @@
-use Rattle.std.proofs.Common.{◌≡◌, ◌+◌, ◌++◌, List, [], ◌∷◌, ap, arith, drop, get_or, map, subst, sym, take, ◌∙◌}
-use Rattle.std.specs.List.{find}
-use Rattle.std.specs.Option.{option_map}
-use Rattle.std.proofs.lemmas.List.{map_push, take_all}
-use Rattle.std.proofs.lemmas.Result.{err_from_is_err_and}
-use Rattle.ebc_object.specs.declared.object.Symbol.{Symbol}
-use Rattle.ebc_link.specs.Layout.{laid_with}
-use Rattle.ebc_link.specs.Links.{Fails, Undefined, unless_some}
-use Rattle.ebc_link.specs.Symbols.{first_in, is_undefined, places_of, symbol_place, undefined_in}
-use Rattle.ebc_link.specs.Walks.{defined}
-use Rattle.ebc_link.proofs.EndLaws.{fails_as, none_where_ok}
-use Rattle.ebc_link.proofs.FirstLaws.{first_here, first_more, first_none}
+use Rattle.ebc_link.proofs.Common.{◌≡◌, ◌+◌, ◌++◌, List, [], ◌∷◌, ap, arith, drop, get_or, map, subst, sym, take, ◌∙◌, find, option_map}
+use Rattle.ebc_link.proofs.Common.{take_all, err_from_is_err_and, Symbol, laid_with, Fails, Undefined, unless_some, first_in, is_undefined}
+use Rattle.ebc_link.proofs.Common.{places_of, symbol_place, undefined_in, defined}
+use Rattle.std.proofs.lemmas.List.{map_push}
 use Rattle.ebc_link.proofs.LaidLaws.{IsAt, at_number, laid_at, laid_more, laid_taken, length-laid, no_home}
+use Rattle.ebc_link.proofs.{EndLaws.fails_as, EndLaws.none_where_ok, FirstLaws.first_here, FirstLaws.first_more, FirstLaws.first_none}
 use Rattle.ebc_link.proofs.globals.Globals.places.Goals as goal
 
 pub returns-in_err-symbol_places-clause-undefined : goal.returns-in_err-symbol_places-clause-undefined

@@ -1,7 +1,4 @@
-use Rattle.std.proofs.Common.{◌≡◌, drop, map, take}
-use Rattle.ebc_link.specs.Layout.{laid_with}
-use Rattle.ebc_link.specs.Symbols.{first_in, places_of, undefined_in}
-use Rattle.ebc_link.specs.Walks.{defined}
+use Rattle.ebc_link.proofs.Common.{◌≡◌, drop, map, take, laid_with, first_in, places_of, undefined_in, defined}
 use Rattle.ebc_link.proofs.globals.Globals.places.Given as goal
 
 abbrev pub invariant-loop-number : goal.invariant-loop-number

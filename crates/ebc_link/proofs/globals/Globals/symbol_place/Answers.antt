@@ -1,5 +1,4 @@
-use Rattle.std.proofs.Common.{◌∙◌}
-use Rattle.ebc_link.specs.Walks.{defined}
+use Rattle.ebc_link.proofs.Common.{◌∙◌, defined}
 use Rattle.ebc_link.proofs.GlobalLaws.{place-used}
 use Rattle.ebc_link.proofs.globals.Globals.symbol_place.Goals as goal
 

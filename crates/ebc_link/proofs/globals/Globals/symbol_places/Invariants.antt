@@ -1,7 +1,4 @@
-use Rattle.std.proofs.Common.{◌≡◌, drop, map, take}
-use Rattle.std.specs.List.{find}
-use Rattle.ebc_link.specs.Symbols.{is_undefined, symbol_place}
-use Rattle.ebc_link.specs.Walks.{defined}
+use Rattle.ebc_link.proofs.Common.{◌≡◌, drop, map, take, find, is_undefined, symbol_place, defined}
 use Rattle.ebc_link.proofs.globals.Globals.symbol_places.Given as goal
 
 abbrev pub invariant-loop-symbol : goal.invariant-loop-symbol

@@ -1,8 +1,4 @@
-use Rattle.std.proofs.Common.{◌≡◌, ◌++◌, [], append-nil, arith, ap, drop, sym, ◌∙◌}
-use Rattle.std.specs.List.{flat_map}
-use Rattle.std.proofs.lemmas.List.{drop_all}
-use Rattle.ebc_link.specs.Fixups.{relocs_in}
-use Rattle.ebc_link.specs.Walks.{laid_in}
+use Rattle.ebc_link.proofs.Common.{◌≡◌, ◌++◌, [], append-nil, arith, ap, drop, sym, ◌∙◌, flat_map, drop_all, relocs_in, laid_in}
 use Rattle.ebc_link.proofs.LaidLaws.{length-laid}
 use Rattle.ebc_link.proofs.resolved.Resolved.append_relocs.Goals as goal
 

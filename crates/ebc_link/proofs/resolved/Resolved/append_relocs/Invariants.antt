@@ -1,7 +1,4 @@
-use Rattle.std.proofs.Common.{◌≡◌, ◌++◌, drop}
-use Rattle.std.specs.List.{flat_map}
-use Rattle.ebc_link.specs.Fixups.{relocs_in}
-use Rattle.ebc_link.specs.Walks.{laid_in}
+use Rattle.ebc_link.proofs.Common.{◌≡◌, ◌++◌, drop, flat_map, relocs_in, laid_in}
 use Rattle.ebc_link.proofs.resolved.Resolved.append_relocs.Given as goal
 
 abbrev pub invariant-loop-number : goal.invariant-loop-number

@@ -1,11 +1,6 @@
-use Rattle.std.proofs.Common.{◌≡◌, ℕ, ◌+◌, ◌-◌, ◌++◌, List, drop, length, ap, ap₂, arith, rules, ◌∙◌}
-use Rattle.pe_image.specs.Files.{zeros}
-use Rattle.ebc_object.specs.Objects.{section_bytes}
-use Rattle.ebc_link.specs.Fixups.{bytes_for, filled_section, in_section, with_fixups}
-use Rattle.ebc_link.specs.Layout.{section_from, start_of}
-use Rattle.ebc_link.specs.Walks.{defined_in, laid_in, laid_of}
-use Rattle.ebc_link.proofs.BytesLaws.{section_all, section_more}
-use Rattle.ebc_link.proofs.LaidLaws.{length-laid}
+use Rattle.ebc_link.proofs.Common.{◌≡◌, ℕ, ◌+◌, ◌-◌, ◌++◌, List, drop, length, ap, ap₂, arith, rules, ◌∙◌, zeros, section_bytes, bytes_for}
+use Rattle.ebc_link.proofs.Common.{filled_section, in_section, with_fixups, section_from, start_of, defined_in, laid_in, laid_of}
+use Rattle.ebc_link.proofs.{BytesLaws.section_all, BytesLaws.section_more, LaidLaws.length-laid}
 use Rattle.ebc_link.proofs.resolved.Resolved.bytes.Goals as goal
 
 pub loop-number-preserved : goal.loop-number-preserved

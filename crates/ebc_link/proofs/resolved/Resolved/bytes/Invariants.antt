@@ -1,7 +1,4 @@
-use Rattle.std.proofs.Common.{◌≡◌, ◌+◌, ◌++◌, drop, length}
-use Rattle.ebc_link.specs.Fixups.{filled_section}
-use Rattle.ebc_link.specs.Layout.{section_from}
-use Rattle.ebc_link.specs.Walks.{ArePacked, defined_in, laid_in}
+use Rattle.ebc_link.proofs.Common.{◌≡◌, ◌+◌, ◌++◌, drop, length, filled_section, section_from, ArePacked, defined_in, laid_in}
 use Rattle.ebc_link.proofs.resolved.Resolved.bytes.Given as goal
 
 abbrev pub invariant-loop-number : goal.invariant-loop-number

@@ -1,8 +1,5 @@
-use Rattle.std.proofs.Common.{◌+◌, drop, sym, ◌∙◌, arith}
-use Rattle.ebc_link.specs.Links.{entry_in}
-use Rattle.ebc_link.specs.Walks.{laid_in, laid_of}
-use Rattle.ebc_link.proofs.FirstLaws.{first_here, first_more, first_none}
-use Rattle.ebc_link.proofs.LaidLaws.{length-laid}
+use Rattle.ebc_link.proofs.Common.{◌+◌, drop, sym, ◌∙◌, arith, entry_in, laid_in, laid_of}
+use Rattle.ebc_link.proofs.{FirstLaws.first_here, FirstLaws.first_more, FirstLaws.first_none, LaidLaws.length-laid}
 use Rattle.ebc_link.proofs.resolved.Resolved.entry.Goals as goal
 
 pub returns-in-Some : goal.returns-in-Some

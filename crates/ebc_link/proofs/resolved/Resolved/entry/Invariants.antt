@@ -1,7 +1,4 @@
-use Rattle.std.proofs.Common.{◌≡◌, drop}
-use Rattle.ebc_link.specs.Links.{entry_in}
-use Rattle.ebc_link.specs.Symbols.{first_in}
-use Rattle.ebc_link.specs.Walks.{laid_in}
+use Rattle.ebc_link.proofs.Common.{◌≡◌, drop, entry_in, first_in, laid_in}
 use Rattle.ebc_link.proofs.resolved.Resolved.entry.Given as goal
 
 abbrev pub invariant-loop-number : goal.invariant-loop-number

@@ -1,9 +1,5 @@
-use Rattle.std.proofs.Common.{◌+◌, drop, sym, ◌∙◌, arith}
-use Rattle.ebc_link.specs.Fixups.{far_in}
-use Rattle.ebc_link.proofs.ResolvedLaws.{far_so}
-use Rattle.ebc_link.specs.Walks.{defined_in, laid_in, laid_of}
-use Rattle.ebc_link.proofs.FirstLaws.{first_here, first_more, first_none}
-use Rattle.ebc_link.proofs.LaidLaws.{length-laid}
+use Rattle.ebc_link.proofs.Common.{◌+◌, drop, sym, ◌∙◌, arith, far_in, defined_in, laid_in, laid_of}
+use Rattle.ebc_link.proofs.{ResolvedLaws.far_so, FirstLaws.first_here, FirstLaws.first_more, FirstLaws.first_none, LaidLaws.length-laid}
 use Rattle.ebc_link.proofs.resolved.Resolved.first_far.Goals as goal
 
 pub returns-in-Some : goal.returns-in-Some

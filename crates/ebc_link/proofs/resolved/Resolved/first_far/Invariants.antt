@@ -1,7 +1,4 @@
-use Rattle.std.proofs.Common.{◌≡◌, drop}
-use Rattle.ebc_link.specs.Fixups.{far_in}
-use Rattle.ebc_link.specs.Symbols.{first_in}
-use Rattle.ebc_link.specs.Walks.{defined_in, laid_in}
+use Rattle.ebc_link.proofs.Common.{◌≡◌, drop, far_in, first_in, defined_in, laid_in}
 use Rattle.ebc_link.proofs.resolved.Resolved.first_far.Given as goal
 
 abbrev pub invariant-loop-number : goal.invariant-loop-number

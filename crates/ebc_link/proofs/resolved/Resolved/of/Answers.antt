@@ -1,13 +1,7 @@
-use Rattle.std.proofs.Common.{◌≡◌, ap, sym, ◌∙◌}
-use Rattle.std.specs.Prelude.{map}
-use Rattle.std.proofs.lemmas.Result.{err_from_is_err_and}
-use Rattle.ebc_link.specs.Layout.{laid_with}
-use Rattle.ebc_link.specs.Links.{Twice, unless_some}
-use Rattle.ebc_link.specs.Symbols.{definitions, first_again, names_of, places_of}
-use Rattle.ebc_link.specs.Walks.{defined}
+use Rattle.ebc_link.proofs.Common.{◌≡◌, ap, sym, ◌∙◌, map, err_from_is_err_and, laid_with, Twice, unless_some, definitions, first_again}
+use Rattle.ebc_link.proofs.Common.{names_of, places_of, defined, length, []}
 use Rattle.ebc_link.proofs.AnswerLaws.{are_placed, ends_names, ends_places, laid_by, length-homes_of, length-placed}
 use Rattle.ebc_link.proofs.resolved.Resolved.of.Goals as goal
-use Rattle.std.proofs.Common.{length, []}
 
 pub of-requires-clause-homes : goal.of-requires-clause-homes
 of-requires-clause-homes c =

@@ -1,6 +1,6 @@
-use Rattle.ebc_link.proofs.LaidLaws.{laid_more}
-use Rattle.ebc_link.proofs.ResolvedLaws.{is_at, length-places, low_at, object_at, places_at}
-use Rattle.ebc_link.specs.Walks.{defined_in}
+use Rattle.ebc_link.proofs.Common.{defined_in}
+use Rattle.ebc_link.proofs.{LaidLaws.laid_more, ResolvedLaws.is_at, ResolvedLaws.length-places, ResolvedLaws.low_at, ResolvedLaws.object_at}
+use Rattle.ebc_link.proofs.ResolvedLaws.{places_at}
 use Rattle.ebc_link.proofs.resolved.Resolved.piece.Goals as goal
 
 pub returns-clause-places : goal.returns-clause-places

@@ -1,5 +1,5 @@
-use Rattle.std.proofs.Common.{ap, sym, ◌∙◌}
-use Rattle.label_places.specs.Views.{only_in, reference_view}
+use Rattle.label_places.proofs.Common.{ap, sym, ◌∙◌, only_in}
+use Rattle.label_places.specs.Views.{reference_view}
 use Rattle.label_places.proofs.SoughtLaws.{found-by_name, missed-by_name}
 use Rattle.label_places.proofs.label.Labels.find.Goals as goal
 

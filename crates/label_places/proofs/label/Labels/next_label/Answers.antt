@@ -1,6 +1,4 @@
-use Rattle.std.proofs.Common.{List, subst}
-use Rattle.label_places.specs.declared.label.Position.{Position}
-use Rattle.label_places.specs.Views.{HasEnd}
+use Rattle.label_places.proofs.Common.{List, subst, Position, HasEnd}
 use Rattle.label_places.proofs.EndLaws.{next-label}
 use Rattle.label_places.proofs.label.Labels.next_label.Goals as goal
 

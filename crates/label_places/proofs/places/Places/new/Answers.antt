@@ -1,5 +1,4 @@
-use Rattle.std.proofs.Common.{ℕ}
-use Rattle.std.proofs.lemmas.List.Sorted.{IsNonDecreasingBy-from_sort}
+use Rattle.std.proofs.{Common.ℕ, lemmas.List.Sorted.IsNonDecreasingBy-from_sort}
 use Rattle.label_places.proofs.places.Places.new.Goals as goal
 
 pub invariant_of-result : goal.invariant_of-result

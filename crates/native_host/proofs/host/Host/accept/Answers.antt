@@ -1,17 +1,6 @@
-use Rattle.std.proofs.Common.{◌≡◌, ◌+◌, ◌++◌, length, map, slice_get, refl, sym, ap, ap₂, subst, ◌∙◌, arith, Some}
-use Rattle.std.specs.Prelude.{option_copied}
-use Rattle.object_memory.specs.Memory.{Memory}
-use Rattle.note_types.specs.Concrete.{Concrete}
-use Rattle.note_types.specs.declared.script.ScriptCall.{ScriptCall}
-use Rattle.callex_thunk.specs.Slots.{memory_state}
-use Rattle.host_model.specs.HostSteps.{with_objects}
-use Rattle.host_model.specs.Objects.{made_objects, script_object}
-use Rattle.host_model.specs.Placements.{Placement}
-use Rattle.host_model.specs.World.{World}
-use Rattle.entry_thunk.specs.Cells.{with_memory}
-use Rattle.native_host.specs.Hosts.{host_world}
-use Rattle.native_host.specs.Kept.{placement_of}
-use Rattle.native_host.specs.Placing.{AreComing}
+use Rattle.native_host.proofs.Common.{◌≡◌, ◌+◌, ◌++◌, length, map, slice_get, refl, sym, ap, ap₂, subst, ◌∙◌, arith, Some, option_copied}
+use Rattle.native_host.proofs.Common.{Memory, Concrete, ScriptCall, memory_state, with_objects, made_objects, script_object, Placement}
+use Rattle.native_host.proofs.Common.{World, with_memory, host_world, placement_of, AreComing}
 use Rattle.native_host.proofs.AcceptLaws.{call_coming, call_ranges, made-few, made-within, memory-accepted, params-few, serving-accepted}
 use Rattle.native_host.proofs.host.Host.accept.Goals as goal
 

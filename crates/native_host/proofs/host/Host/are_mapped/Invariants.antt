@@ -1,7 +1,4 @@
-use Rattle.std.proofs.Common.{◌≡◌, drop}
-use Rattle.object_memory.specs.Memory.{ranges}
-use Rattle.native_host.specs.Kept.{placement_of}
-use Rattle.native_host.specs.Stores.{are_mapped}
+use Rattle.native_host.proofs.Common.{◌≡◌, drop, ranges, placement_of, are_mapped}
 use Rattle.native_host.proofs.host.Host.are_mapped.Given as goal
 
 abbrev pub invariant-loop-write : goal.invariant-loop-write

@@ -1,8 +1,5 @@
-use Rattle.std.proofs.Common.{sym, ap, ◌∙◌}
-use Rattle.object_memory.specs.Memory.{byte_at}
-use Rattle.host_model.specs.Readings.{argument_read, role_of}
+use Rattle.native_host.proofs.Common.{sym, ap, ◌∙◌, byte_at, argument_read, role_of, placement_of}
 use Rattle.note_types.specs.declared.notes.Want.{Want}
-use Rattle.native_host.specs.Kept.{placement_of}
 use Rattle.native_host.proofs.host.Host.argument.Goals as goal
 
 pub returns-in-Out : goal.returns-in-Out

@@ -1,11 +1,6 @@
-use Rattle.std.proofs.Common.{◌≡◌, ◌+◌, ◌<◌, ◌++◌, length, drop, sym, ap, ◌∙◌, arith}
-use Rattle.std.specs.Prelude.{slice_index}
-use Rattle.std.proofs.lemmas.List.{length_push}
-use Rattle.object_memory.specs.Memory.{byte_at}
-use Rattle.host_model.specs.Readings.{arguments_read}
-use Rattle.native_host.specs.Kept.{placement_of}
-use Rattle.native_host.proofs.AskingLaws.{read-end, read-next}
-use Rattle.native_host.proofs.TopLaws.{sixteen-top, top-at}
+use Rattle.native_host.proofs.Common.{◌≡◌, ◌+◌, ◌<◌, ◌++◌, length, drop, sym, ap, ◌∙◌, arith, slice_index, length_push, byte_at}
+use Rattle.native_host.proofs.Common.{arguments_read, placement_of}
+use Rattle.native_host.proofs.{AskingLaws.read-end, AskingLaws.read-next, TopLaws.sixteen-top, TopLaws.top-at}
 use Rattle.native_host.proofs.host.Host.arguments.Goals as goal
 
 pub loop-k-preserved : goal.loop-k-preserved

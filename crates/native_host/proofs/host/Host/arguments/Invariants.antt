@@ -1,9 +1,4 @@
-use Rattle.std.proofs.Common.{◌≡◌, ◌++◌, Some, drop, length}
-use Rattle.std.specs.Prelude.{slice_get}
-use Rattle.frame_stack.specs.declared.Frame.{Frame}
-use Rattle.object_memory.specs.Memory.{byte_at}
-use Rattle.host_model.specs.Readings.{arguments_read}
-use Rattle.native_host.specs.Kept.{placement_of}
+use Rattle.native_host.proofs.Common.{◌≡◌, ◌++◌, Some, drop, length, slice_get, Frame, byte_at, arguments_read, placement_of}
 use Rattle.native_host.proofs.host.Host.arguments.Given as goal
 
 abbrev pub invariant-loop-k : goal.invariant-loop-k

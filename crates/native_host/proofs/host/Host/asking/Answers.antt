@@ -1,15 +1,11 @@
+use Rattle.native_host.proofs.Common.{◌≡◌, length, refl, sym, ap, ◌∙◌, arith, option_copied, byte_at, memory_state, with_arguments, Asks}
+use Rattle.native_host.proofs.Common.{arguments_read, slots_from, placement_of}
 use Rattle.callex_thunk.specs.declared.ThunkFault.{ThunkFault}
-use Rattle.callex_thunk.specs.declared.ThunkFault.TheVariants as fault
-use Rattle.std.proofs.Common.{◌≡◌, length, refl, sym, ap, ◌∙◌, arith}
-use Rattle.std.specs.Prelude.{Err, option_copied}
-use Rattle.object_memory.specs.Memory.{byte_at}
-use Rattle.callex_thunk.specs.Slots.{memory_state, with_arguments}
+use Rattle.std.specs.Prelude.{Err}
 use Rattle.callex_thunk.proofs.FrameLaws.{with_arguments-none}
-use Rattle.host_model.specs.HostPlans.{Asks}
-use Rattle.host_model.specs.Readings.{arguments_read, slots_from}
-use Rattle.native_host.specs.Kept.{placement_of}
 use Rattle.native_host.proofs.AskingLaws.{arguments-length, asks-all, asks-none, asks-unmapped, copied-all, copied-none, copied-parts}
 use Rattle.native_host.proofs.AskingLaws.{read-top, slots-count, slots-none, there-is}
+use Rattle.callex_thunk.specs.declared.ThunkFault.TheVariants as fault
 use Rattle.native_host.proofs.host.Host.asking.Goals as goal
 
 -- there is no other fault

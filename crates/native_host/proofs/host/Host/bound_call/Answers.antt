@@ -1,8 +1,4 @@
-use Rattle.std.proofs.Common.{refl, ap, ◌∙◌}
-use Rattle.host_model.specs.HostSteps.{slots_asked}
-use Rattle.host_model.specs.Progress.{Asked}
-use Rattle.native_host.specs.Bound.{bound_step}
-use Rattle.native_host.specs.Kept.{placement_of}
+use Rattle.native_host.proofs.Common.{refl, ap, ◌∙◌, slots_asked, Asked, bound_step, placement_of}
 use Rattle.native_host.proofs.BoundLaws.{asking_state, asking_world, called-count, hosts-asked}
 use Rattle.native_host.proofs.host.Host.bound_call.Goals as goal
 

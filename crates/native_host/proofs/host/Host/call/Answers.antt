@@ -1,20 +1,11 @@
-use Rattle.std.proofs.Common.{◌∷◌, ◌++◌, [], ℕ, length, map, slice_get, None, Some, refl, sym, ap, ◌∙◌, arith}
-use Rattle.host_model.specs.HostPlans.{Asking, call_event, filling, objects_made_by}
-use Rattle.host_model.specs.HostSteps.{asking_at, performed, slots_asked, written_number}
-use Rattle.host_model.specs.Objects.{made_objects, script_object}
-use Rattle.host_model.specs.Placements.{Placement}
-use Rattle.host_model.specs.Progress.{Asked}
-use Rattle.host_model.specs.RunState.{RunState}
-use Rattle.host_model.specs.World.{World}
+use Rattle.native_host.proofs.Common.{◌∷◌, ◌++◌, [], ℕ, length, map, slice_get, None, Some, refl, sym, ap, ◌∙◌, arith, Asking, call_event}
+use Rattle.native_host.proofs.Common.{filling, asking_at, performed, slots_asked, written_number, made_objects, script_object, Placement}
+use Rattle.native_host.proofs.Common.{Asked, RunState, World, host_world, placement_of, asked, entry_count, Host}
+use Rattle.host_model.specs.HostPlans.{objects_made_by}
 use Rattle.native_host.specs.Askings.{asking_of}
-use Rattle.native_host.specs.Hosts.{host_world}
-use Rattle.native_host.specs.Kept.{placement_of}
-use Rattle.native_host.specs.Steps.{asked, entry_count}
-use Rattle.native_host.specs.declared.host.Host.{Host}
+use Rattle.native_host.proofs.{AcceptLaws.stack-there, CallLaws.accepted-call, CallLaws.asked-accepts, CallLaws.asked-ends}
+use Rattle.native_host.proofs.{CallLaws.entry-real, CallLaws.plan-asked, CallLaws.slots-asked-count, StepLaws.step-by}
 use Rattle.native_host.specs.declared.step.HostStep.TheVariants as step
-use Rattle.native_host.proofs.AcceptLaws.{stack-there}
-use Rattle.native_host.proofs.CallLaws.{accepted-call, asked-accepts, asked-ends, entry-real, plan-asked, slots-asked-count}
-use Rattle.native_host.proofs.StepLaws.{step-by}
 use Rattle.native_host.proofs.host.Host.call.Goals as goal
 
 pub asking-asking-requires : goal.asking-asking-requires

@@ -1,6 +1,4 @@
-use Rattle.std.proofs.Common.{◌+◌, ◌*◌, ◌<◌, ◌≤◌, ◌^◌, refl, arith}
-use Rattle.host_model.specs.HostSteps.{cell_address}
-use Rattle.native_host.specs.Kept.{placement_of}
+use Rattle.native_host.proofs.Common.{◌+◌, ◌*◌, ◌<◌, ◌≤◌, ◌^◌, refl, arith, cell_address, placement_of}
 use Rattle.native_host.proofs.KeptLaws.{address-is, if-none}
 use Rattle.native_host.proofs.host.Host.cell_address.Goals as goal
 

@@ -1,13 +1,6 @@
-use Rattle.std.proofs.Common.{◌≡◌, Some, sym, ap, ap₂, ◌∙◌}
-use Rattle.std.proofs.lemmas.Option.{none-some, same_Some}
-use Rattle.ebc_width.specs.Bytes.{little_endian}
-use Rattle.ebc_width.specs.Ranges.{covers}
+use Rattle.native_host.proofs.Common.{◌≡◌, Some, sym, ap, ap₂, ◌∙◌, none-some, same_Some, little_endian, covers, byte_at, held_number}
+use Rattle.native_host.proofs.Common.{ranges, held_number-held, stack_range, reading_of, placement_of}
 use Rattle.ebc_width.proofs.RangeLaws.{holds-at}
-use Rattle.object_memory.specs.Memory.{byte_at, held_number, ranges}
-use Rattle.object_memory.proofs.Laws.{held_number-held}
-use Rattle.host_model.specs.Placements.{stack_range}
-use Rattle.host_model.specs.Readings.{reading_of}
-use Rattle.native_host.specs.Kept.{placement_of}
 use Rattle.native_host.proofs.host.Host.content.Goals as goal
 
 pub unreachable-requires : goal.unreachable-requires

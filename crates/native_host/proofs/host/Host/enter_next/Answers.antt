@@ -1,18 +1,10 @@
-use Rattle.std.proofs.Common.{◌+◌, true, false, [], ◌∷◌, ◌++◌, length, map, Some, refl, sym, ap, ◌∙◌}
-use Rattle.std.proofs.lemmas.List.{length-map}
-use Rattle.frame_stack.specs.Frames.{with_mark}
+use Rattle.native_host.proofs.Common.{◌+◌, true, false, [], ◌∷◌, ◌++◌, length, map, Some, refl, sym, ap, ◌∙◌, length-map, with_mark}
+use Rattle.native_host.proofs.Common.{saved_of, performed, given, host_world, shown, placement_of, can_enter}
+use Rattle.native_host.proofs.{EnterLaws.entered-parts, EnterLaws.is-deep, EnterLaws.is-low, ReplyLaws.enter-deep, ReplyLaws.enter-unfit}
+use Rattle.native_host.proofs.{ReplyLaws.top-count-is, StepLaws.ends-by, StepLaws.performed-enters, StepLaws.step-by, TopLaws.called-some}
+use Rattle.native_host.proofs.TopLaws.{marked-callback}
 use Rattle.note_types.specs.declared.event.Event.TheVariants as event
-use Rattle.callex_thunk.specs.HostFrames.{saved_of}
-use Rattle.host_model.specs.HostSteps.{performed}
-use Rattle.host_model.specs.ScriptValues.{given}
-use Rattle.native_host.specs.Hosts.{host_world, shown}
-use Rattle.native_host.specs.Kept.{placement_of}
 use Rattle.native_host.specs.declared.step.HostStep.TheVariants as step
-use Rattle.native_host.specs.Entering.{can_enter}
-use Rattle.native_host.proofs.EnterLaws.{entered-parts, is-deep, is-low}
-use Rattle.native_host.proofs.ReplyLaws.{enter-deep, enter-unfit, top-count-is}
-use Rattle.native_host.proofs.StepLaws.{ends-by, performed-enters, step-by}
-use Rattle.native_host.proofs.TopLaws.{called-some, marked-callback}
 use Rattle.native_host.proofs.host.Host.enter_next.Goals as goal
 
 pub returns-then-not-can_enter-clause-step : goal.returns-then-not-can_enter-clause-step

@@ -1,5 +1,4 @@
-use Rattle.std.proofs.Common.{◌∙◌}
-use Rattle.native_host.specs.Kept.{placement_of}
+use Rattle.native_host.proofs.Common.{◌∙◌, placement_of}
 use Rattle.native_host.proofs.StoreLaws.{cell-is-write}
 use Rattle.native_host.proofs.host.Host.fill_cell.Goals as goal
 

@@ -1,8 +1,4 @@
-use Rattle.std.proofs.Common.{refl, sym, ◌∙◌}
-use Rattle.entry_thunk.specs.Cells.{with_memory}
-use Rattle.entry_thunk.proofs.CellLaws.{keeps-more, keeps-none}
-use Rattle.native_host.specs.Kept.{placement_of}
-use Rattle.host_model.specs.HostPlans.{cell_store}
+use Rattle.native_host.proofs.Common.{refl, sym, ◌∙◌, with_memory, keeps-more, keeps-none, placement_of, cell_store}
 use Rattle.native_host.proofs.StoreLaws.{stores-end, stores-next}
 use Rattle.native_host.proofs.host.Host.fill_cells.Goals as goal
 

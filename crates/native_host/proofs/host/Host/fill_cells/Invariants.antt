@@ -1,11 +1,5 @@
-use Rattle.std.proofs.Common.{◌≡◌, ℕ, List, drop}
-use Rattle.std.specs.List.{flat_map}
-use Rattle.note_types.specs.Concrete.{Concrete}
-use Rattle.ebc_machine.specs.States.{KeepsObjects}
-use Rattle.host_model.specs.HostSteps.{after_stores}
-use Rattle.entry_thunk.specs.Cells.{with_memory}
-use Rattle.native_host.specs.Kept.{placement_of}
-use Rattle.host_model.specs.HostPlans.{cell_store}
+use Rattle.native_host.proofs.Common.{◌≡◌, ℕ, List, drop, flat_map, Concrete, KeepsObjects, after_stores, with_memory, placement_of}
+use Rattle.native_host.proofs.Common.{cell_store}
 use Rattle.native_host.proofs.host.Host.fill_cells.Given as goal
 
 abbrev pub invariant-loop-cell : goal.invariant-loop-cell

@@ -1,9 +1,4 @@
-use Rattle.std.proofs.Common.{sym, ap, ◌∙◌}
-use Rattle.std.specs.List.{flat_map}
-use Rattle.entry_thunk.specs.Cells.{with_memory}
-use Rattle.host_model.specs.HostPlans.{cell_store}
-use Rattle.host_model.specs.HostSteps.{after_stores}
-use Rattle.native_host.specs.Kept.{placement_of}
+use Rattle.native_host.proofs.Common.{sym, ap, ◌∙◌, flat_map, with_memory, cell_store, after_stores, placement_of}
 use Rattle.native_host.proofs.host.Host.fill_object.Goals as goal
 
 pub returns-clause-after : goal.returns-clause-after

@@ -1,9 +1,5 @@
-use Rattle.std.proofs.Common.{◌≡◌, ◌+◌, drop, sym, ap, ◌∙◌, arith}
-use Rattle.entry_thunk.specs.Cells.{with_memory}
-use Rattle.entry_thunk.proofs.CellLaws.{keeps-more, keeps-none}
-use Rattle.host_model.specs.HostPlans.{filling, object_stores}
-use Rattle.host_model.specs.HostSteps.{after_stores}
-use Rattle.native_host.specs.Kept.{placement_of}
+use Rattle.native_host.proofs.Common.{◌≡◌, ◌+◌, drop, sym, ap, ◌∙◌, arith, with_memory, keeps-more, keeps-none, filling, object_stores}
+use Rattle.native_host.proofs.Common.{after_stores, placement_of}
 use Rattle.native_host.proofs.StoreLaws.{filling-end, filling-next, stores-append, stores-none}
 use Rattle.native_host.proofs.host.Host.fill_objects.Goals as goal
 

@@ -1,10 +1,4 @@
-use Rattle.std.proofs.Common.{◌≡◌, ℕ, ◌+◌, List, drop}
-use Rattle.note_types.specs.Concrete.{Concrete}
-use Rattle.ebc_machine.specs.States.{KeepsObjects}
-use Rattle.host_model.specs.HostPlans.{filling}
-use Rattle.host_model.specs.HostSteps.{after_stores}
-use Rattle.entry_thunk.specs.Cells.{with_memory}
-use Rattle.native_host.specs.Kept.{placement_of}
+use Rattle.native_host.proofs.Common.{◌≡◌, ℕ, ◌+◌, List, drop, Concrete, KeepsObjects, filling, after_stores, with_memory, placement_of}
 use Rattle.native_host.proofs.host.Host.fill_objects.Given as goal
 
 abbrev pub invariant-loop-k : goal.invariant-loop-k

@@ -1,4 +1,4 @@
-use Rattle.std.proofs.Common.{◌+◌, ◌*◌, ap, ap₂, ◌∙◌}
+use Rattle.native_host.proofs.Common.{◌+◌, ◌*◌, ap, ap₂, ◌∙◌}
 use Rattle.host_model.specs.Values.{word}
 use Rattle.native_host.proofs.KeptLaws.{instance-is, word-sum}
 use Rattle.native_host.proofs.host.Host.instance_address.Goals as goal

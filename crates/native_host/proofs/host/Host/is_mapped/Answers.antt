@@ -1,9 +1,4 @@
-use Rattle.std.proofs.Common.{sym, ap, ◌∙◌}
-use Rattle.std.specs.Prelude.{option_copied}
-use Rattle.host_model.specs.HostPlans.{field_at}
-use Rattle.note_types.specs.Cells.{cell_size}
-use Rattle.object_memory.specs.Memory.{ranges}
-use Rattle.native_host.specs.Kept.{placement_of}
+use Rattle.native_host.proofs.Common.{sym, ap, ◌∙◌, option_copied, field_at, cell_size, ranges, placement_of}
 use Rattle.native_host.proofs.StoreLaws.{absent-past, cell-some, mapped-some}
 use Rattle.native_host.proofs.host.Host.is_mapped.Goals as goal
 

@@ -1,5 +1,4 @@
-use Rattle.std.proofs.Common.{◌≡◌, ◌+◌, length, slice_get, sym, ap, ap₂, subst, ◌∙◌, arith}
-use Rattle.native_host.specs.Kept.{IsOf}
+use Rattle.native_host.proofs.Common.{◌≡◌, ◌+◌, length, slice_get, sym, ap, ap₂, subst, ◌∙◌, arith, IsOf}
 use Rattle.native_host.proofs.ComingLaws.{made_last}
 use Rattle.native_host.proofs.host.Host.make_objects.Goals as goal
 

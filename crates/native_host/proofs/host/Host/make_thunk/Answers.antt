@@ -1,6 +1,4 @@
-use Rattle.std.proofs.Common.{◌+◌, ◌*◌, refl, sym, ap, ◌∙◌, arith}
-use Rattle.std.proofs.lemmas.Option.{none-some}
-use Rattle.native_host.specs.Kept.{placement_of}
+use Rattle.native_host.proofs.Common.{◌+◌, ◌*◌, refl, sym, ap, ◌∙◌, arith, none-some, placement_of}
 use Rattle.native_host.specs.Steps.{thunk_step}
 use Rattle.native_host.proofs.ThunkLaws.{held-four, keeps-any, same-name, thunk-stored, view-absent, view-held}
 use Rattle.native_host.proofs.host.Host.make_thunk.Goals as goal

@@ -1,15 +1,8 @@
-use Rattle.std.proofs.Common.{length, map, refl, sym, ap, ap₂, ◌∙◌, arith}
-use Rattle.std.specs.Prelude.{option_copied}
-use Rattle.std.proofs.lemmas.Option.{slice_get_within}
-use Rattle.callex_thunk.specs.HostFrames.{saved_of}
-use Rattle.host_model.specs.HostPlans.{GoesOn, host_plan, reply_plan}
-use Rattle.host_model.specs.HostSteps.{performed, writes_mapped, written_number}
-use Rattle.host_model.specs.Scripts.{callbacks_of}
-use Rattle.native_host.specs.Hosts.{host_world, shown}
-use Rattle.native_host.specs.Kept.{placement_of}
-use Rattle.native_host.specs.Steps.{step_of}
-use Rattle.native_host.proofs.ReplyLaws.{element-sum, goes-enter, goes-none, goes-reply, seen-goes, writes-are}
-use Rattle.native_host.proofs.StepLaws.{ends-by, step-by}
+use Rattle.native_host.proofs.Common.{length, map, refl, sym, ap, ap₂, ◌∙◌, arith, option_copied, slice_get_within, saved_of, GoesOn}
+use Rattle.native_host.proofs.Common.{host_plan, reply_plan, performed, writes_mapped, written_number, callbacks_of, host_world, shown}
+use Rattle.native_host.proofs.Common.{placement_of, step_of}
+use Rattle.native_host.proofs.ReplyLaws.{element-sum, goes-enter, goes-none, goes-reply, seen-goes}
+use Rattle.native_host.proofs.{ReplyLaws.writes-are, StepLaws.ends-by, StepLaws.step-by}
 use Rattle.native_host.proofs.host.Host.next.Goals as goal
 
 pub returns-in_default-clause-step : goal.returns-in_default-clause-step

@@ -1,16 +1,9 @@
-use Rattle.std.proofs.Common.{true, false, [], ◌∷◌, ◌++◌, length, Some, refl, sym, ap, ◌∙◌, arith}
-use Rattle.std.specs.Prelude.{option_copied}
-use Rattle.std.proofs.lemmas.List.{length-map}
-use Rattle.std.proofs.lemmas.Option.{slice_get_within}
-use Rattle.host_model.specs.ScriptValues.{given}
-use Rattle.host_model.specs.HostSteps.{performed, written_number}
-use Rattle.native_host.specs.Hosts.{host_world, shown}
-use Rattle.native_host.specs.Kept.{placement_of}
+use Rattle.native_host.proofs.Common.{true, false, [], ◌∷◌, ◌++◌, length, Some, refl, sym, ap, ◌∙◌, arith, option_copied, length-map}
+use Rattle.native_host.proofs.Common.{slice_get_within, given, performed, written_number, host_world, shown, placement_of}
+use Rattle.native_host.proofs.{EnterLaws.is-deep, EnterLaws.is-low, EnterLaws.entered-parts, NotifyLaws.due-none, NotifyLaws.due-unfit}
+use Rattle.native_host.proofs.{NotifyLaws.due-deep, StepLaws.ends-by, StepLaws.performed-notifies, StepLaws.step-by}
 use Rattle.note_types.specs.declared.event.Event.TheVariants as event
 use Rattle.native_host.specs.declared.step.HostStep.TheVariants as step
-use Rattle.native_host.proofs.EnterLaws.{is-deep, is-low, entered-parts}
-use Rattle.native_host.proofs.NotifyLaws.{due-none, due-unfit, due-deep}
-use Rattle.native_host.proofs.StepLaws.{ends-by, performed-notifies, step-by}
 use Rattle.native_host.proofs.host.Host.notification.Goals as goal
 
 pub returns-in_default-clause-step : goal.returns-in_default-clause-step

@@ -1,7 +1,5 @@
-use Rattle.std.proofs.Common.{◌≡◌, ◌+◌, sym, ap, ap₂, ◌∙◌, arith}
-use Rattle.host_model.specs.HostSteps.{written_number}
+use Rattle.native_host.proofs.Common.{◌≡◌, ◌+◌, sym, ap, ap₂, ◌∙◌, arith, written_number, placement_of}
 use Rattle.host_model.specs.Placements.{handle_at, thunk_at}
-use Rattle.native_host.specs.Kept.{placement_of}
 use Rattle.native_host.proofs.host.Host.number_of.Goals as goal
 
 pub returns-in-Int : goal.returns-in-Int

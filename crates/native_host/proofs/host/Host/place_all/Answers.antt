@@ -1,20 +1,10 @@
-use Rattle.std.proofs.Common.{◌≡◌, ◌++◌, length, map, ap, ap₂, sym, subst, ◌∙◌, arith}
+use Rattle.native_host.proofs.Common.{◌≡◌, ◌++◌, length, map, ap, ap₂, sym, subst, ◌∙◌, arith, mapped, Memory, ranges, Concrete}
+use Rattle.native_host.proofs.Common.{with_objects, script_object, static_object, Placement, placed_ranges, world_of, bare_machine}
+use Rattle.native_host.proofs.Common.{start_machine, World, with_memory, placement_of, AreComing}
 use Rattle.ebc_base.proofs.Lists.{length-map}
-use Rattle.pe_image.specs.Mapped.{mapped}
-use Rattle.object_memory.specs.Memory.{Memory, ranges}
-use Rattle.note_types.specs.Concrete.{Concrete}
-use Rattle.host_model.specs.HostSteps.{with_objects}
-use Rattle.host_model.specs.Objects.{script_object, static_object}
-use Rattle.host_model.specs.Placements.{Placement, placed_ranges}
-use Rattle.host_model.specs.Runs.{world_of}
-use Rattle.host_model.specs.Start.{bare_machine, start_machine}
-use Rattle.host_model.specs.World.{World}
-use Rattle.entry_thunk.specs.Cells.{with_memory}
-use Rattle.native_host.specs.Kept.{placement_of}
-use Rattle.native_host.specs.Placing.{AreComing}
+use Rattle.native_host.proofs.ComingLaws.{bare_ranges, made_at_start, own_image, own_native, own_stack, start_coming, start_ranges}
 use Rattle.native_host.proofs.StartLaws.{all_count, all_sum, made_count, objects_few, all_rest_made}
-use Rattle.native_host.proofs.ComingLaws.{bare_ranges, made_at_start, own_image, own_native, own_stack, start_coming}
-use Rattle.native_host.proofs.ComingLaws.{start_ranges, start_state}
+use Rattle.native_host.proofs.ComingLaws.{start_state}
 use Rattle.native_host.proofs.host.Host.place_all.Goals as goal
 
 pub place_image-requires : goal.place_image-requires

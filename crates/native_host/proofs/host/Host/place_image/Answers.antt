@@ -1,10 +1,7 @@
-use Rattle.std.proofs.Common.{◌≡◌, ◌+◌, ◌*◌, sym, ap, ◌∙◌, arith}
-use Rattle.object_memory.specs.Memory.{first_base, padded, placed}
+use Rattle.native_host.proofs.Common.{◌≡◌, ◌+◌, ◌*◌, sym, ap, ◌∙◌, arith, first_base, padded, placed, area_bytes, stack_bytes, placement_of}
 use Rattle.reloc_loader.proofs.Mapping.{is_placed_at}
-use Rattle.host_model.specs.Placements.{area_bytes, stack_bytes}
-use Rattle.native_host.specs.Kept.{placement_of}
-use Rattle.native_host.proofs.StartLaws.{stack_some}
 use Rattle.native_host.proofs.PlacedLaws.{bare_is, base_even, third_base, three_limits, three_ranges, three_room, three_zeros, two_room}
+use Rattle.native_host.proofs.StartLaws.{stack_some}
 use Rattle.native_host.proofs.host.Host.place_image.Goals as goal
 
 pub place_next-requires-2 : goal.place_next-requires-2

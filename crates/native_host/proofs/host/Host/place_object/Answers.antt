@@ -1,11 +1,6 @@
-use Rattle.std.proofs.Common.{◌≡◌, ◌*◌, length, ap, ◌∙◌, arith}
-use Rattle.object_memory.specs.Memory.{next_base, placed}
+use Rattle.native_host.proofs.Common.{◌≡◌, ◌*◌, length, ap, ◌∙◌, arith, next_base, placed, script_object, object_bytes, placement_of}
 use Rattle.object_memory.specs.declared.ObjId.{ObjId}
-use Rattle.host_model.specs.Objects.{script_object}
-use Rattle.host_model.specs.Placements.{object_bytes}
-use Rattle.native_host.specs.Kept.{placement_of}
-use Rattle.native_host.proofs.KeptLaws.{instance_bytes-is}
-use Rattle.native_host.proofs.PlaceLaws.{with_object-placed}
+use Rattle.native_host.proofs.{KeptLaws.instance_bytes-is, PlaceLaws.with_object-placed}
 use Rattle.native_host.proofs.host.Host.place_object.Goals as goal
 
 pub returns-clause-placed : goal.returns-clause-placed

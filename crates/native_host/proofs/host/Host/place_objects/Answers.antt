@@ -1,16 +1,6 @@
-use Rattle.std.proofs.Common.{◌≡◌, ℕ, ◌+◌, ◌++◌, ◌∷◌, [], List, length, map, drop, get_or, sym, ap, ap₂, subst, ◌∙◌, arith}
-use Rattle.std.proofs.lemmas.List.{length_push}
-use Rattle.object_memory.specs.Memory.{Memory, placed}
-use Rattle.note_types.specs.declared.notes.Notes.{Notes}
-use Rattle.note_types.specs.declared.script.ScriptObject.{ScriptObject}
-use Rattle.host_model.specs.HostSteps.{with_object, with_objects}
-use Rattle.host_model.specs.Objects.{script_object}
-use Rattle.host_model.specs.Placements.{Placement, object_bytes, object_range}
-use Rattle.entry_thunk.specs.Cells.{with_memory}
-use Rattle.host_model.specs.declared.object.TypedObject.{TypedObject}
-use Rattle.native_host.specs.declared.host.Host.{Host}
-use Rattle.native_host.specs.Kept.{placement_of}
-use Rattle.native_host.specs.Placing.{AreComing}
+use Rattle.native_host.proofs.Common.{◌≡◌, ℕ, ◌+◌, ◌++◌, ◌∷◌, [], List, length, map, drop, get_or, sym, ap, ap₂, subst, ◌∙◌, arith}
+use Rattle.native_host.proofs.Common.{length_push, Memory, placed, Notes, ScriptObject, with_object, with_objects, script_object, Placement}
+use Rattle.native_host.proofs.Common.{object_bytes, object_range, with_memory, TypedObject, Host, placement_of, AreComing}
 use Rattle.native_host.proofs.PlaceLaws.{coming-here, made-next, objects-end, objects-next}
 use Rattle.native_host.proofs.PlacedLaws.{limits_placed}
 use Rattle.native_host.proofs.host.Host.place_objects.Goals as goal

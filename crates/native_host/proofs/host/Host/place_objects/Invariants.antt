@@ -1,11 +1,5 @@
-use Rattle.std.proofs.Common.{◌≡◌, ◌≤◌, ◌++◌, length, map, take, drop}
-use Rattle.std.specs.Prelude.{vec_capacity}
-use Rattle.note_types.specs.Concrete.{Concrete}
-use Rattle.host_model.specs.HostSteps.{with_objects}
-use Rattle.host_model.specs.Objects.{script_object}
-use Rattle.entry_thunk.specs.Cells.{with_memory}
-use Rattle.native_host.specs.Kept.{placement_of}
-use Rattle.native_host.specs.Placing.{AreComing}
+use Rattle.native_host.proofs.Common.{◌≡◌, ◌≤◌, ◌++◌, length, map, take, drop, vec_capacity, Concrete, with_objects, script_object}
+use Rattle.native_host.proofs.Common.{with_memory, placement_of, AreComing}
 use Rattle.native_host.proofs.host.Host.place_objects.Given as goal
 
 abbrev pub invariant-loop-object : goal.invariant-loop-object

@@ -1,20 +1,10 @@
-use Rattle.std.proofs.Common.{◌≡◌, ◌&&◌, true, false, [], map, Some, refl, sym, ap, ap₂, ◌∙◌}
-use Rattle.std.specs.Prelude.{option_copied}
-use Rattle.std.specs.List.{flat_map}
-use Rattle.std.specs.Option.{option_map_or}
-use Rattle.note_types.specs.declared.notes.Signature.{Signature}
-use Rattle.entry_thunk.specs.Cells.{with_memory}
-use Rattle.object_memory.specs.Memory.{ranges}
-use Rattle.callex_thunk.specs.HostFrames.{saved_of}
-use Rattle.host_model.specs.HostPlans.{out_store, reply_fits, reply_stores, signature_params, write_store}
-use Rattle.host_model.specs.HostSteps.{after_stores, performed, written_number}
-use Rattle.native_host.specs.declared.step.HostStep.TheVariants as step
-use Rattle.native_host.specs.Hosts.{host_world, shown, top_slots}
-use Rattle.native_host.specs.Kept.{placement_of}
-use Rattle.native_host.specs.Stores.{are_mapped}
-use Rattle.native_host.proofs.ReplyLaws.{reply-by, stored-all}
-use Rattle.native_host.proofs.StepLaws.{ends-by, performed-replies, step-by}
+use Rattle.native_host.proofs.Common.{◌≡◌, ◌&&◌, true, false, [], map, Some, refl, sym, ap, ap₂, ◌∙◌, option_copied, flat_map}
+use Rattle.native_host.proofs.Common.{option_map_or, Signature, with_memory, ranges, saved_of, out_store, reply_fits, reply_stores}
+use Rattle.native_host.proofs.Common.{signature_params, write_store, after_stores, performed, written_number, host_world, shown, top_slots}
+use Rattle.native_host.proofs.Common.{placement_of, are_mapped}
+use Rattle.native_host.proofs.{ReplyLaws.reply-by, ReplyLaws.stored-all, StepLaws.ends-by, StepLaws.performed-replies, StepLaws.step-by}
 use Rattle.native_host.proofs.TopLaws.{copied-slots, marked-none}
+use Rattle.native_host.specs.declared.step.HostStep.TheVariants as step
 use Rattle.native_host.proofs.host.Host.reply.Goals as goal
 
 pub returns-then-not-reply_fits-clause-step : goal.returns-then-not-reply_fits-clause-step

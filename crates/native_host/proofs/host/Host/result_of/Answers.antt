@@ -1,7 +1,4 @@
-use Rattle.std.proofs.Common.{ap, ◌∙◌}
-use Rattle.host_model.specs.Readings.{reading_of}
-use Rattle.native_host.specs.Kept.{placement_of}
-use Rattle.native_host.specs.Sorts.{sort_of}
+use Rattle.native_host.proofs.Common.{ap, ◌∙◌, reading_of, placement_of, sort_of}
 use Rattle.native_host.proofs.ResultLaws.{result-told}
 use Rattle.native_host.proofs.host.Host.result_of.Goals as goal
 

@@ -1,6 +1,5 @@
-use Rattle.native_host.specs.Kept.{placement_of}
-use Rattle.native_host.proofs.StoreLaws.{after-number}
-use Rattle.native_host.proofs.ThunkLaws.{keeps-any}
+use Rattle.native_host.proofs.Common.{placement_of}
+use Rattle.native_host.proofs.{StoreLaws.after-number, ThunkLaws.keeps-any}
 use Rattle.native_host.proofs.host.Host.store_number.Goals as goal
 
 pub returns-clause-after : goal.returns-clause-after

@@ -1,8 +1,4 @@
-use Rattle.std.proofs.Common.{sym, ap, ◌∙◌}
-use Rattle.std.specs.Prelude.{option_copied}
-use Rattle.entry_thunk.specs.Cells.{with_memory}
-use Rattle.host_model.specs.HostPlans.{field_at}
-use Rattle.native_host.specs.Kept.{placement_of}
+use Rattle.native_host.proofs.Common.{sym, ap, ◌∙◌, option_copied, with_memory, field_at, placement_of}
 use Rattle.native_host.proofs.StoreLaws.{write-none}
 use Rattle.native_host.proofs.host.Host.write.Goals as goal
 

@@ -1,8 +1,4 @@
-use Rattle.std.proofs.Common.{sym, ap, ◌∙◌}
-use Rattle.note_types.specs.Cells.{cell_size}
-use Rattle.entry_thunk.specs.Cells.{with_memory}
-use Rattle.native_host.specs.Kept.{placement_of}
-use Rattle.native_host.specs.Stores.{after_number}
+use Rattle.native_host.proofs.Common.{sym, ap, ◌∙◌, cell_size, with_memory, placement_of, after_number}
 use Rattle.native_host.proofs.StoreLaws.{absent-past, after-absent, cell-some, write-some}
 use Rattle.native_host.proofs.host.Host.write_field.Goals as goal
 

@@ -1,8 +1,4 @@
-use Rattle.std.proofs.Common.{sym, ap, ◌∙◌}
-use Rattle.entry_thunk.specs.Cells.{with_memory}
-use Rattle.native_host.specs.Hosts.{top_slots}
-use Rattle.native_host.specs.Kept.{placement_of}
-use Rattle.native_host.specs.Stores.{after_number}
+use Rattle.native_host.proofs.Common.{sym, ap, ◌∙◌, with_memory, top_slots, placement_of, after_number}
 use Rattle.native_host.proofs.StoreLaws.{out-none, out-some}
 use Rattle.native_host.proofs.host.Host.write_out.Goals as goal
 

@@ -1,12 +1,5 @@
-use Rattle.std.proofs.Common.{◌≡◌, drop}
-use Rattle.std.specs.List.{flat_map}
-use Rattle.note_types.specs.Concrete.{Concrete}
-use Rattle.ebc_machine.specs.States.{KeepsObjects}
-use Rattle.host_model.specs.HostSteps.{after_stores}
-use Rattle.entry_thunk.specs.Cells.{with_memory}
-use Rattle.native_host.specs.Kept.{placement_of}
-use Rattle.host_model.specs.HostPlans.{out_store}
-use Rattle.native_host.specs.Hosts.{top_slots}
+use Rattle.native_host.proofs.Common.{◌≡◌, drop, flat_map, Concrete, KeepsObjects, after_stores, with_memory, placement_of, out_store}
+use Rattle.native_host.proofs.Common.{top_slots}
 use Rattle.native_host.proofs.host.Host.write_outs.Given as goal
 
 abbrev pub invariant-loop-out : goal.invariant-loop-out

@@ -1,5 +1,4 @@
-use Rattle.std.proofs.Common.{None, Some, sym, ◌∙◌}
-use Rattle.native_host.specs.Kept.{placement_of}
+use Rattle.native_host.proofs.Common.{None, Some, sym, ◌∙◌, placement_of}
 use Rattle.native_host.proofs.ReadingLaws.{pointer-end, pointer-step}
 use Rattle.native_host.proofs.places.Places.pointer_read.Goals as goal
 

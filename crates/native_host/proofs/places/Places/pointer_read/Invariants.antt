@@ -1,7 +1,4 @@
-use Rattle.std.proofs.Common.{◌≡◌, ℕ, drop}
-use Rattle.note_types.specs.declared.notes.Notes.{Notes}
-use Rattle.host_model.specs.Readings.{pointer_from}
-use Rattle.native_host.specs.Kept.{IsOf, placement_of}
+use Rattle.native_host.proofs.Common.{◌≡◌, ℕ, drop, Notes, pointer_from, IsOf, placement_of}
 use Rattle.native_host.proofs.places.Places.pointer_read.Given as goal
 
 abbrev pub invariant-loop-k : goal.invariant-loop-k

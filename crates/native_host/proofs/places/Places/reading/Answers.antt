@@ -1,11 +1,8 @@
-use Rattle.std.proofs.Common.{sym, ap, ◌∙◌}
-use Rattle.std.specs.Option.{option_map}
-use Rattle.note_types.specs.declared.value.Value.TheVariants as value
-use Rattle.host_model.specs.Readings.{or_null, or_wild, reading_of}
+use Rattle.native_host.proofs.Common.{sym, ap, ◌∙◌, option_map, reading_of, placement_of, sort_of}
+use Rattle.host_model.specs.Readings.{or_null, or_wild}
 use Rattle.native_host.specs.declared.sort.Sort.{Sort}
-use Rattle.native_host.specs.Kept.{placement_of}
-use Rattle.native_host.specs.Sorts.{sort_of}
 use Rattle.native_host.proofs.ReadingLaws.{entry-is, handle-is, method-is}
+use Rattle.note_types.specs.declared.value.Value.TheVariants as value
 use Rattle.native_host.proofs.places.Places.reading.Goals as goal
 
 pub returns-in-Anything : goal.returns-in-Anything

@@ -1,6 +1,4 @@
-use Rattle.std.proofs.Common.{ℕ}
-use Rattle.std.proofs.lemmas.Bool.{OnFalse_at, OnFalse_from, OnTrue_at, OnTrue_from}
-use Rattle.note_infer.specs.Rounds.{by_fall, by_jump}
+use Rattle.note_infer.proofs.Common.{ℕ, OnFalse_at, OnFalse_from, OnTrue_at, OnTrue_from, by_fall, by_jump}
 use Rattle.note_infer.proofs.StatesAt.{clash_first, clash_second, takes_both}
 use Rattle.note_infer.proofs.coming.Coming.take_after.Goals as goal
 

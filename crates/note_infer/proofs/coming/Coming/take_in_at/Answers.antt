@@ -1,9 +1,7 @@
-use Rattle.std.proofs.Common.{arith}
-use Rattle.std.proofs.lemmas.Bool.{OnFalse_at, OnFalse_from, OnTrue_at, OnTrue_from}
-use Rattle.note_infer.specs.Coming.{state_at}
+use Rattle.note_infer.proofs.Common.{arith, OnFalse_at, OnFalse_from, OnTrue_at, OnTrue_from, state_at}
+use Rattle.note_infer.proofs.coming.Coming.take_in_at.Goals.{then-place-f-via-then-place-f, then-place-f-via-else-place-f+then-f-place}
 use Rattle.note_infer.proofs.StatesAt.{clashes_at, takes_apart, takes_at, takes_outside}
 use Rattle.note_infer.proofs.coming.Coming.take_in_at.Goals as goal
-use Rattle.note_infer.proofs.coming.Coming.take_in_at.Goals.{then-place-f-via-then-place-f, then-place-f-via-else-place-f+then-f-place}
 
 pub returns-then-place-f-clause-taken : goal.returns-then-place-f-clause-taken
 returns-then-place-f-clause-taken c =

@@ -1,7 +1,4 @@
-use Rattle.std.proofs.Common.{List, [], refl}
-use Rattle.std.specs.Prelude.{ℕ}
-use Rattle.note_types.specs.declared.state.State.{State}
-use Rattle.note_infer.specs.Coming.{state_at}
+use Rattle.note_infer.proofs.Common.{List, [], refl, ℕ, State, state_at}
 use Rattle.note_infer.proofs.StatesAt.{takes_none}
 use Rattle.note_infer.proofs.coming.Coming.take_jump.Goals as goal
 

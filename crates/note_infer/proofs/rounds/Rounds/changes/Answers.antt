@@ -1,4 +1,4 @@
-use Rattle.std.proofs.Common.{rules}
+use Rattle.note_infer.proofs.Common.{rules}
 use Rattle.note_infer.proofs.Changing.{changed_all, changed_more, changed_quiet, changed_starts, quiet_at, taken_over}
 use Rattle.note_infer.proofs.rounds.Rounds.changes.Goals.{else-index, then-index+in_ok-turn}
 use Rattle.note_infer.proofs.rounds.Rounds.changes.Goals as goal

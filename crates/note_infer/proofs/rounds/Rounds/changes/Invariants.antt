@@ -1,4 +1,4 @@
-use Rattle.note_infer.specs.Changing.{Changed}
+use Rattle.note_infer.proofs.Common.{Changed}
 use Rattle.note_infer.proofs.rounds.Rounds.changes.Given as goal
 
 abbrev pub invariant-loop-number : goal.invariant-loop-number

@@ -1,10 +1,7 @@
-use Rattle.std.proofs.Common.{◌≡◌, refl, true}
-use Rattle.std.proofs.lemmas.Bool.{OnTrue_at}
-use Rattle.note_types.specs.Notes.{entry_state}
-use Rattle.note_infer.specs.Coming.{Takes, given_to, state_at}
+use Rattle.note_infer.proofs.Common.{◌≡◌, refl, true, OnTrue_at, entry_state, Takes, given_to, state_at}
 use Rattle.note_infer.proofs.Entering.{entered_leader, entered_start, entry_taken}
-use Rattle.note_infer.proofs.rounds.Rounds.enter.Goals as goal
 use Rattle.note_infer.proofs.rounds.Rounds.enter.Goals.{After-take_in_at-first}
+use Rattle.note_infer.proofs.rounds.Rounds.enter.Goals as goal
 
 -- the entry state was taken by the leader at the function's start
 taken : (c : After-take_in_at-first) → (c.take_in_at-first.result ≡ true)

@@ -1,7 +1,4 @@
-use Rattle.std.proofs.Common.{◌≤◌, List, get_or, length, refl, ap, subst, ◌∙◌}
-use Rattle.std.proofs.lemmas.Option.{slice_get_read}
-use Rattle.note_types.specs.declared.notes.FnNote.{FnNote}
-use Rattle.note_infer.specs.Coming.{state_at}
+use Rattle.note_infer.proofs.Common.{◌≤◌, List, get_or, length, refl, ap, subst, ◌∙◌, slice_get_read, FnNote, state_at}
 use Rattle.note_infer.proofs.Entering.{entered_all, entered_none, entered_starts, nothing_before}
 use Rattle.note_infer.proofs.rounds.Rounds.entries.Goals as goal
 

@@ -1,6 +1,4 @@
-use Rattle.std.proofs.Common.{◌≡◌}
-use Rattle.note_infer.specs.Coming.{IsComing, state_at}
-use Rattle.note_infer.specs.Entering.{Entered}
+use Rattle.note_infer.proofs.Common.{◌≡◌, IsComing, state_at, Entered}
 use Rattle.note_infer.proofs.rounds.Rounds.entries.Given as goal
 
 abbrev pub invariant-loop-func : goal.invariant-loop-func

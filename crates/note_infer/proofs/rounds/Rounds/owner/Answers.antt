@@ -1,7 +1,5 @@
-use Rattle.std.proofs.Common.{◌≡◌, List, rules, leb, subst, sym, true, false}
-use Rattle.std.specs.List.Sorted.{IsPartitionPoint, IsPartitionedBy}
+use Rattle.note_infer.proofs.Common.{◌≡◌, List, rules, leb, subst, sym, true, false, IsPartitionPoint, IsPartitionedBy, FnNote}
 use Rattle.std.proofs.lemmas.List.Sorted.{IsPartitionPoint-from_clause}
-use Rattle.note_types.specs.declared.notes.FnNote.{FnNote}
 use Rattle.note_infer.proofs.Owning.{ends_parted, owner_is}
 use Rattle.note_infer.proofs.rounds.Rounds.owner.Goals as goal
 

@@ -1,10 +1,7 @@
-use Rattle.std.proofs.Common.{rules, ◌≡◌, List, ℕ, length, map, subst, sym, ◌∙◌}
-use Rattle.note_infer.specs.Coming.{state_at}
-use Rattle.note_infer.specs.Reaching.{AllRest}
-use Rattle.note_infer.specs.declared.rounds.Start.{Start}
+use Rattle.note_infer.proofs.Common.{rules, ◌≡◌, List, ℕ, length, map, subst, sym, ◌∙◌, state_at, AllRest, Start}
 use Rattle.note_infer.proofs.Turning.{HasGone, first_turn, gone_by, stays_known, turn_found}
-use Rattle.note_infer.proofs.rounds.Rounds.settle.Goals as goal
 use Rattle.note_infer.proofs.rounds.Rounds.settle.Goals.{In_ok-starts-2}
+use Rattle.note_infer.proofs.rounds.Rounds.settle.Goals as goal
 
 pub loop-stop-init : goal.loop-stop-init
 loop-stop-init c = record {

@@ -1,5 +1,4 @@
-use Rattle.note_infer.specs.RoundEnds.{leaders_rank}
-use Rattle.note_infer.specs.Coming.{IsComing, state_at}
+use Rattle.note_infer.proofs.Common.{leaders_rank, IsComing, state_at}
 use Rattle.note_infer.proofs.Turning.{IsTurn}
 use Rattle.note_infer.proofs.rounds.Rounds.settle.Given as goal
 

@@ -1,6 +1,4 @@
-use Rattle.std.proofs.Common.{ℕ, ◌^◌, ◌<◌, arith, refl}
-use Rattle.std.specs.Prelude.{slice_index}
-use Rattle.note_infer.specs.Changing.{turned}
+use Rattle.note_infer.proofs.Common.{ℕ, ◌^◌, ◌<◌, arith, refl, slice_index, turned}
 use Rattle.note_infer.proofs.Changing.{IsOwner, owned, owner_small}
 use Rattle.note_infer.proofs.rounds.Rounds.turn.Goals as goal
 

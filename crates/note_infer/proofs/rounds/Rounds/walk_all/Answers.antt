@@ -1,17 +1,6 @@
-use Rattle.std.proofs.Common.{◌≡◌, ℕ, ◌+◌, ◌<◌, List, length, refl, subst, sym, ◌∙◌}
-use Rattle.std.specs.Prelude.{Some, slice_get}
-use Rattle.std.proofs.lemmas.Option.{same_Some, slice_get_within}
-use Rattle.note_types.specs.declared.notes.FnNote.{FnNote}
-use Rattle.note_types.specs.declared.notes.Notes.{Notes}
-use Rattle.pe_image.specs.declared.image.Image.{Image}
-use Rattle.rules_image.proofs.Firsts.{item_there}
-use Rattle.note_infer.specs.PointStates.{AreFound}
-use Rattle.note_infer.specs.Rounds.{Begins, States}
-use Rattle.note_infer.specs.Coming.{state_at}
-use Rattle.note_infer.specs.Passing.{HasPassed}
-use Rattle.note_infer.specs.Reaching.{AllRest}
-use Rattle.note_infer.specs.Starting.{AreStarts}
-use Rattle.note_infer.specs.declared.rounds.Start.{Start}
+use Rattle.note_infer.proofs.Common.{◌≡◌, ℕ, ◌+◌, ◌<◌, List, length, refl, subst, sym, ◌∙◌, Some, slice_get, same_Some, slice_get_within}
+use Rattle.note_infer.proofs.Common.{FnNote, Notes, Image, item_there, AreFound, Begins, States, state_at, HasPassed, AllRest, AreStarts}
+use Rattle.note_infer.proofs.Common.{Start}
 use Rattle.note_infer.proofs.Rounding.{Walked, at_function, places_of, walked_all, walked_more, walked_none, walked_up}
 use Rattle.note_infer.proofs.rounds.Rounds.walk_all.Goals as goal
 

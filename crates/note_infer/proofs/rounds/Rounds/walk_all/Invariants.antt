@@ -1,5 +1,4 @@
-use Rattle.std.proofs.Common.{◌≡◌}
-use Rattle.note_infer.specs.Coming.{IsComing, state_at}
+use Rattle.note_infer.proofs.Common.{◌≡◌, IsComing, state_at}
 use Rattle.note_infer.proofs.Rounding.{Walked}
 use Rattle.note_infer.proofs.rounds.Rounds.walk_all.Given as goal
 

@@ -1,20 +1,10 @@
-use Rattle.std.proofs.Common.{◌≡◌, ◌∙◌, ℕ, ◌<◌, ap, length, None, refl, Some, subst, sym}
-use Rattle.host_model.specs.HostPlans.{site_of}
-use Rattle.host_model.specs.HostSteps.{asking_at}
-use Rattle.host_model.specs.Placements.{own_placement}
-use Rattle.host_model.specs.World.{World}
-use Rattle.native_host.specs.Bound.{bound_call_of, bound_step}
-use Rattle.note_types.specs.declared.notes.Notes.{Notes}
-use Rattle.pair_model.specs.Pairs.{running_side}
+use Rattle.pair_host.proofs.Common.{◌≡◌, ◌∙◌, ℕ, ◌<◌, ap, length, None, refl, Some, subst, sym, site_of, asking_at, own_placement, World}
+use Rattle.pair_host.proofs.Common.{bound_call_of, bound_step, Notes, running_side, IsQuiet, Runner, own, PairRunner}
 use Rattle.note_types.specs.declared.script.Script.{Script}
 use Rattle.twin_run.proofs.BoundLaws.{slots_quiet}
-use Rattle.twin_run.specs.Runner.{IsQuiet}
 use Rattle.twin_run.specs.declared.runner.AskedCall.{AskedCall}
-use Rattle.twin_run.specs.declared.runner.Runner.{Runner}
-use Rattle.pair_host.specs.PairRunner.{own}
-use Rattle.pair_host.specs.declared.pair_runner.PairRunner.{PairRunner}
-use Rattle.pair_host.proofs.Calls.{asked_by_site, b_rests, call_refuses, call_takes, ended_call, enterable, provider_ends, refused_call}
-use Rattle.pair_host.proofs.Past.{asking-alike}
+use Rattle.pair_host.proofs.Calls.{asked_by_site, b_rests, call_refuses, call_takes, ended_call, enterable}
+use Rattle.pair_host.proofs.{Calls.provider_ends, Calls.refused_call, Past.asking-alike}
 use Rattle.pair_host.proofs.pair_runner.PairRunner.call_step.Goals as goal
 
 -- what was quiet of A is once the call was asked

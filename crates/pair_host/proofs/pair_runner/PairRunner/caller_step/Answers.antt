@@ -1,12 +1,8 @@
-use Rattle.std.proofs.Common.{◌∙◌, ap, arith, refl, subst, sym}
-use Rattle.host_model.specs.HostSteps.{asking_at}
-use Rattle.host_model.specs.Placements.{Placement, own_placement}
-use Rattle.native_host.specs.Bound.{bound_call_of}
+use Rattle.pair_host.proofs.Common.{◌∙◌, ap, arith, refl, subst, sym, asking_at, Placement, own_placement, bound_call_of, own, pair_world}
+use Rattle.pair_host.proofs.Common.{stage_of}
 use Rattle.native_host.specs.Hosts.{HasStack}
 use Rattle.native_host.proofs.AcceptLaws.{stack-there}
-use Rattle.twin_run.proofs.BoundLaws.{frames_some}
-use Rattle.twin_run.proofs.RunnerLaws.{is_placed}
-use Rattle.pair_host.specs.PairRunner.{own, pair_world, stage_of}
+use Rattle.twin_run.proofs.{BoundLaws.frames_some, RunnerLaws.is_placed}
 use Rattle.pair_host.proofs.Calls.{a_on, caller_bound, caller_calls, caller_goes, can_be_called}
 use Rattle.pair_host.proofs.pair_runner.PairRunner.caller_step.Goals as goal
 

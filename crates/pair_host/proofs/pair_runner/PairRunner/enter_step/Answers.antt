@@ -1,9 +1,5 @@
-use Rattle.std.proofs.Common.{ap, refl}
-use Rattle.host_model.specs.World.{World}
-use Rattle.pair_model.specs.Pairs.{running_side}
-use Rattle.pair_host.specs.PairRunner.{own}
-use Rattle.pair_host.proofs.Calls.{b_rests}
-use Rattle.pair_host.proofs.Entering.{enter_fails, enter_runs}
+use Rattle.pair_host.proofs.Common.{ap, refl, World, running_side, own}
+use Rattle.pair_host.proofs.{Calls.b_rests, Entering.enter_fails, Entering.enter_runs}
 use Rattle.pair_host.proofs.pair_runner.PairRunner.enter_step.Goals as goal
 
 pub returns-in-Running-clause-step : goal.returns-in-Running-clause-step

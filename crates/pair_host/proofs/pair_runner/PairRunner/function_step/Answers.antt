@@ -1,8 +1,4 @@
-use Rattle.std.proofs.Common.{ap, refl, subst, sym}
-use Rattle.host_model.specs.World.{World}
-use Rattle.pair_model.specs.Pairs.{running_side}
-use Rattle.twin_run.specs.declared.runner.Runner.{Runner}
-use Rattle.pair_host.specs.PairRunner.{IsPair, own}
+use Rattle.pair_host.proofs.Common.{ap, refl, subst, sym, World, running_side, Runner, IsPair, own}
 use Rattle.pair_host.proofs.Steps.{b_on, b_runs, function_goes, function_returns}
 use Rattle.pair_host.proofs.pair_runner.PairRunner.function_step.Goals as goal
 

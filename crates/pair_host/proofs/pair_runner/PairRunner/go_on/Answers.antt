@@ -1,11 +1,7 @@
-use Rattle.std.proofs.Common.{◌∙◌, List, ap, arith, length, map, refl, subst, sym}
+use Rattle.pair_host.proofs.Common.{◌∙◌, List, ap, arith, length, map, refl, subst, sym, Seen, Value, CanBeEntered, pair_world, stage_of}
 use Rattle.ebc_base.proofs.Lists.{length-map}
-use Rattle.note_types.specs.declared.seen.Seen.{Seen}
-use Rattle.note_types.specs.declared.value.Value.{Value}
+use Rattle.pair_host.proofs.{Calls.b_rests, GoingOn.caller_inside, GoingOn.turned}
 use Rattle.pair_model.specs.Pairs as pairs
-use Rattle.pair_host.specs.PairRunner.{CanBeEntered, pair_world, stage_of}
-use Rattle.pair_host.proofs.Calls.{b_rests}
-use Rattle.pair_host.proofs.GoingOn.{caller_inside, turned}
 use Rattle.pair_host.proofs.pair_runner.PairRunner.go_on.Goals as goal
 
 pub reply_step-requires : goal.reply_step-requires

@@ -1,10 +1,5 @@
-use Rattle.std.proofs.Common.{◌∙◌, ap, refl, subst, sym}
-use Rattle.host_model.specs.World.{World}
-use Rattle.pair_model.specs.Pairs.{running_side}
+use Rattle.pair_host.proofs.Common.{◌∙◌, ap, refl, subst, sym, World, running_side, IsQuiet, Runner, IsPair, own}
 use Rattle.twin_run.proofs.BoundLaws.{rests_quiet}
-use Rattle.twin_run.specs.Runner.{IsQuiet}
-use Rattle.twin_run.specs.declared.runner.Runner.{Runner}
-use Rattle.pair_host.specs.PairRunner.{IsPair, own}
 use Rattle.pair_host.proofs.Steps.{b_on, b_runs, provider_fails, provider_goes, provider_rests}
 use Rattle.pair_host.proofs.pair_runner.PairRunner.provider_step.Goals as goal
 

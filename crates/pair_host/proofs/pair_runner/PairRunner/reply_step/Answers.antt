@@ -1,13 +1,5 @@
-use Rattle.std.proofs.Common.{◌≡◌, ◌∙◌, ap, None, refl, Some, subst, sym}
-use Rattle.host_model.specs.HostPlans.{signature_result}
-use Rattle.host_model.specs.Placements.{own_placement}
-use Rattle.host_model.specs.World.{World}
-use Rattle.note_types.specs.declared.notes.Notes.{Notes}
-use Rattle.pair_model.specs.PairRuns.{bound_reply}
-use Rattle.pair_model.specs.Rules.{reply_refused}
-use Rattle.twin_run.specs.Runner.{IsAt, IsQuiet, IsRunner}
-use Rattle.twin_run.specs.declared.runner.Runner.{Runner}
-use Rattle.pair_host.specs.PairRunner.{own}
+use Rattle.pair_host.proofs.Common.{◌≡◌, ◌∙◌, ap, None, refl, Some, subst, sym, signature_result, own_placement, World, Notes, bound_reply}
+use Rattle.pair_host.proofs.Common.{reply_refused, IsAt, IsQuiet, IsRunner, Runner, own}
 use Rattle.pair_host.proofs.Entering.{reply_fails, reply_given}
 use Rattle.pair_host.proofs.pair_runner.PairRunner.reply_step.Goals as goal
 

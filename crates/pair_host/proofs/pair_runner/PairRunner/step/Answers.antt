@@ -1,6 +1,4 @@
-use Rattle.std.proofs.Common.{◌∙◌, arith, subst, sym}
-use Rattle.pair_model.specs.PairReports.{own_placements}
-use Rattle.pair_host.specs.PairRunner.{IsPair, pair_world}
+use Rattle.pair_host.proofs.Common.{◌∙◌, arith, subst, sym, own_placements, IsPair, pair_world}
 use Rattle.pair_host.proofs.Turns.{over-stays}
 use Rattle.pair_host.proofs.pair_runner.PairRunner.step.Goals as goal
 

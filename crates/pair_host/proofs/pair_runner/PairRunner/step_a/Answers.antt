@@ -1,6 +1,4 @@
-use Rattle.std.proofs.Common.{◌∙◌, ap, length, refl}
-use Rattle.host_model.specs.World.{World}
-use Rattle.pair_host.specs.PairRunner.{own}
+use Rattle.pair_host.proofs.Common.{◌∙◌, ap, length, refl, World, own}
 use Rattle.pair_host.proofs.Steps.{a_steps}
 use Rattle.pair_host.proofs.pair_runner.PairRunner.step_a.Goals as goal
 

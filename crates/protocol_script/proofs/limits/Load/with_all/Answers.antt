@@ -1,5 +1,4 @@
-use Rattle.std.proofs.Common.{◌+◌, arith, inl, inr, sym, ◌∙◌, ⊎_elim}
-use Rattle.host_model.specs.Scripts.{room_of}
+use Rattle.protocol_script.proofs.Common.{◌+◌, arith, inl, inr, sym, ◌∙◌, ⊎_elim, room_of}
 use Rattle.protocol_script.proofs.LimitLaws.{kept, past, sum-one, sum-within}
 use Rattle.protocol_script.proofs.limits.Load.with_all.Goals as goal
 

@@ -1,6 +1,4 @@
-use Rattle.std.proofs.Common.{◌≡◌, ◌+◌, ◌≤◌, ◌^◌, take}
-use Rattle.std.specs.List.{sum_by}
-use Rattle.host_model.specs.Scripts.{room_of}
+use Rattle.protocol_script.proofs.Common.{◌≡◌, ◌+◌, ◌≤◌, ◌^◌, take, sum_by, room_of}
 use Rattle.protocol_script.proofs.limits.Load.with_all.Given as goal
 
 abbrev pub invariant-loop-object : goal.invariant-loop-object

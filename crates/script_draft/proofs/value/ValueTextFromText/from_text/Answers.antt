@@ -1,4 +1,4 @@
-use Rattle.std.proofs.lemmas.Result.{IfOk-weaker}
+use Rattle.script_draft.proofs.Common.{IfOk-weaker}
 use Rattle.script_draft.proofs.ValueLaws.{value_read}
 use Rattle.script_draft.proofs.value.ValueTextFromText.from_text.Goals as goal
 

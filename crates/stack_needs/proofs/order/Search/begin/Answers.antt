@@ -1,4 +1,4 @@
-use Rattle.stack_needs.specs.Walks.{Sees}
+use Rattle.stack_needs.proofs.Common.{Sees}
 use Rattle.stack_needs.proofs.StackLaws.{stack-begun}
 use Rattle.stack_needs.proofs.order.Search.begin.Goals as goal
 

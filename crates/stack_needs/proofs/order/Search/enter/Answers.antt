@@ -1,9 +1,5 @@
-use Rattle.std.proofs.Common.{◌≡◌, List, Some, ap, length, refl, slice_get, subst, sym, ◌∙◌}
-use Rattle.std.proofs.lemmas.Bool.{ltb-true}
-use Rattle.std.proofs.lemmas.Option.{slice_get_read}
-use Rattle.stack_needs.specs.Walks.{Sees, functions_of}
-use Rattle.stack_needs.specs.declared.order.Mark.{Mark}
-use Rattle.stack_needs.specs.declared.order.Mark.TheVariants.{Open}
+use Rattle.stack_needs.proofs.Common.{◌≡◌, List, Some, ap, length, refl, slice_get, subst, sym, ◌∙◌, ltb-true, slice_get_read, Sees}
+use Rattle.stack_needs.proofs.Common.{functions_of, Mark, Open}
 use Rattle.stack_needs.proofs.StackLaws.{stack-back}
 use Rattle.stack_needs.proofs.order.Search.enter.Goals as goal
 

@@ -1,4 +1,4 @@
-use Rattle.std.proofs.Common.{arith}
+use Rattle.stack_needs.proofs.Common.{arith}
 use Rattle.rules_image.proofs.Decoding.{is_decoded}
 use Rattle.stack_needs.proofs.walk.Code.insn_at.Goals as goal
 

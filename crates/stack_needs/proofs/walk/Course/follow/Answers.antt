@@ -1,4 +1,4 @@
-use Rattle.std.proofs.Common.{inl, inr, refl, sym, ◌∙◌}
+use Rattle.stack_needs.proofs.Common.{inl, inr, refl, sym, ◌∙◌}
 use Rattle.stack_needs.proofs.WayLaws.{comes-on}
 use Rattle.stack_needs.proofs.walk.Course.follow.Goals as goal
 

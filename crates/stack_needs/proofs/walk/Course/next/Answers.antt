@@ -1,5 +1,5 @@
+use Rattle.stack_needs.proofs.Common.{IsReached}
 use Rattle.std.proofs.lemmas.List.Elements.{All-pop}
-use Rattle.stack_needs.specs.Walks.{IsReached}
 use Rattle.stack_needs.proofs.walk.Course.next.Goals as goal
 
 pub returns-clause-course : goal.returns-clause-course

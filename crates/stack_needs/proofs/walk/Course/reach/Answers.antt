@@ -1,5 +1,4 @@
-use Rattle.std.proofs.Common.{Some, ap, sym, subst, ◌∙◌}
-use Rattle.stack_needs.specs.Ways.{Comes}
+use Rattle.stack_needs.proofs.Common.{Some, ap, sym, subst, ◌∙◌, Comes}
 use Rattle.stack_needs.proofs.WayLaws.{apart-depths}
 use Rattle.stack_needs.proofs.walk.Course.reach.Goals as goal
 

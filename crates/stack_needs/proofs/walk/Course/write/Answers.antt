@@ -1,6 +1,5 @@
-use Rattle.std.proofs.Common.{List, All, subst, sym}
-use Rattle.std.proofs.lemmas.List.Elements.{All-push}
-use Rattle.stack_needs.specs.Walks.{IsReached}
+use Rattle.stack_needs.proofs.Common.{List, subst, sym, IsReached}
+use Rattle.std.proofs.{Common.All, lemmas.List.Elements.All-push}
 use Rattle.stack_needs.specs.declared.walk.Reached.{Reached}
 use Rattle.stack_needs.proofs.WayLaws.{written-more}
 use Rattle.stack_needs.proofs.walk.Course.write.Goals as goal

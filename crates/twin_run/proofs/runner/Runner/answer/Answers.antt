@@ -1,5 +1,4 @@
-use Rattle.std.proofs.Common.{◌∙◌, sym}
-use Rattle.host_model.specs.HostPlans.{signature_result}
+use Rattle.twin_run.proofs.Common.{◌∙◌, sym, signature_result}
 use Rattle.twin_run.proofs.BoundLaws.{answer_ok, answered_at, made_there}
 use Rattle.twin_run.proofs.runner.Runner.answer.Goals as goal
 

@@ -1,6 +1,4 @@
-use Rattle.std.proofs.Common.{◌≡◌, refl, subst}
-use Rattle.host_model.specs.HostSteps.{asking_at}
-use Rattle.host_model.specs.Placements.{Placement}
+use Rattle.twin_run.proofs.Common.{◌≡◌, refl, subst, asking_at, Placement}
 use Rattle.native_host.specs.Bound.{bound_step}
 use Rattle.twin_run.proofs.BoundLaws.{bytes_there, made_there, ranges_there, slots_at, slots_there}
 use Rattle.twin_run.proofs.RunnerLaws.{is_placed}

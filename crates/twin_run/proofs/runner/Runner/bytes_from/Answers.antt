@@ -1,4 +1,4 @@
-use Rattle.std.proofs.Common.{None, Some}
+use Rattle.twin_run.proofs.Common.{None, Some}
 use Rattle.std.proofs.lemmas.Option.{IfSome_then}
 use Rattle.twin_run.proofs.WatchingLaws.{bytes_there, none-then}
 use Rattle.twin_run.proofs.runner.Runner.bytes_from.Goals as goal

@@ -1,6 +1,6 @@
-use Rattle.std.proofs.Common.{None, arith, false, refl}
-use Rattle.native_host.specs.declared.step.HostStep.TheVariants as step
+use Rattle.twin_run.proofs.Common.{None, arith, false, refl}
 use Rattle.twin_run.proofs.HostingLaws.{accepted_shown, call_part, called_host, settled_enters, settled_shown, taken_at}
+use Rattle.native_host.specs.declared.step.HostStep.TheVariants as step
 use Rattle.twin_run.proofs.runner.Runner.call.Goals as goal
 
 pub returns-in-Accepted-clause-at : goal.returns-in-Accepted-clause-at

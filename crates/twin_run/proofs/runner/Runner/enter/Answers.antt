@@ -1,13 +1,7 @@
-use Rattle.std.proofs.Common.{◌≡◌, ap, sym, subst, arith, take, length, Some}
-use Rattle.std.specs.Prelude.{slice_get}
-use Rattle.note_types.specs.declared.ending.Ending.TheVariants.{Raised}
-use Rattle.note_types.specs.declared.exception.Exception.TheVariants as raises
-use Rattle.note_types.specs.declared.notes.Notes.{Notes}
-use Rattle.host_model.specs.HostSteps.{entered}
-use Rattle.host_model.specs.Placements.{own_placement}
-use Rattle.twin_run.specs.Runner.{IsAt}
-use Rattle.twin_run.specs.declared.runner.Runner.{Runner}
+use Rattle.twin_run.proofs.Common.{◌≡◌, ap, sym, subst, arith, take, length, Some, slice_get, Raised, Notes, entered, own_placement, IsAt}
+use Rattle.twin_run.proofs.Common.{Runner}
 use Rattle.twin_run.proofs.EnteringLaws.{can_enter, entered_at, few_params, kinds_are, refused_at, refused_facts}
+use Rattle.note_types.specs.declared.exception.Exception.TheVariants as raises
 use Rattle.twin_run.proofs.runner.Runner.enter.Goals as goal
 
 pub kinds_of-kinds-requires : goal.kinds_of-kinds-requires

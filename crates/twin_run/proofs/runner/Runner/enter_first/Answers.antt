@@ -1,15 +1,6 @@
-use Rattle.std.proofs.Common.{◌≡◌, ◌∙◌, List, ℕ, ap, arith, length, refl, subst}
-use Rattle.ebc_base.proofs.Lists.{length-map}
-use Rattle.note_types.specs.declared.seen.Seen.{Seen}
-use Rattle.host_model.specs.HostSteps.{written_number}
-use Rattle.native_host.specs.Kept.{placement_of}
-use Rattle.host_model.specs.HostSteps.{entered}
-use Rattle.host_model.specs.Placements.{own_placement}
-use Rattle.std.specs.Prelude.{false}
-use Rattle.twin_run.specs.Runner.{IsRunner}
-use Rattle.twin_run.proofs.BoundLaws.{enters_first}
-use Rattle.twin_run.proofs.HostingLaws.{numbers_there}
-use Rattle.twin_run.proofs.TurnLaws.{quiet_at}
+use Rattle.twin_run.proofs.Common.{◌≡◌, ◌∙◌, List, ℕ, ap, arith, length, refl, subst, length-map, Seen, written_number, placement_of}
+use Rattle.twin_run.proofs.Common.{entered, own_placement, false, IsRunner}
+use Rattle.twin_run.proofs.{BoundLaws.enters_first, HostingLaws.numbers_there, TurnLaws.quiet_at}
 use Rattle.twin_run.proofs.runner.Runner.enter_first.Goals as goal
 
 pub returns-clause-runner : goal.returns-clause-runner

@@ -1,11 +1,7 @@
-use Rattle.std.specs.Prelude.{vec_capacity}
-use Rattle.std.proofs.Common.{◌∙◌, ◌≤◌, ap, arith, subst, sym}
-use Rattle.note_types.specs.declared.script.Script.{Script}
-use Rattle.twin_run.specs.Runner.{IsFree, IsQuiet}
+use Rattle.twin_run.proofs.Common.{vec_capacity, ◌∙◌, ◌≤◌, ap, arith, subst, sym, Script, IsFree, IsQuiet}
 use Rattle.twin_run.proofs.SteppingOn.{free_fewer, goes_one, machines_at, one_on, went_on_for}
-use Rattle.twin_run.proofs.TurnLaws.{is_ready}
+use Rattle.twin_run.proofs.{TurnLaws.is_ready, runner.Runner.go_on.Goals.then-free-most, runner.Runner.go_on.Goals.else-free-most}
 use Rattle.twin_run.proofs.runner.Runner.go_on.Goals as goal
-use Rattle.twin_run.proofs.runner.Runner.go_on.Goals.{then-free-most, else-free-most}
 
 pub turn-requires : goal.turn-requires
 turn-requires g c =

@@ -1,8 +1,6 @@
-use Rattle.std.proofs.Common.{◌+◌, ◌-◌, ◌^◌, min, Some, refl}
-use Rattle.host_model.specs.Progress.{one_instruction}
-use Rattle.twin_run.specs.declared.runner.Runner.{Runner}
-use Rattle.twin_run.proofs.InstructionLaws.{at_thunk, before_thunk, gate_at, native_at, next_at, raised_at, thunk_at_step}
-use Rattle.twin_run.proofs.TurnLaws.{quiet_at}
+use Rattle.twin_run.proofs.Common.{◌+◌, ◌-◌, ◌^◌, min, Some, refl, one_instruction, Runner}
+use Rattle.twin_run.proofs.InstructionLaws.{at_thunk, before_thunk, gate_at, native_at}
+use Rattle.twin_run.proofs.{InstructionLaws.next_at, InstructionLaws.raised_at, InstructionLaws.thunk_at_step, TurnLaws.quiet_at}
 use Rattle.twin_run.proofs.runner.Runner.instruction.Goals as goal
 
 pub returns-in-Next-clause-at : goal.returns-in-Next-clause-at

@@ -1,5 +1,4 @@
-use Rattle.std.proofs.Common.{◌≡◌, ◌+◌, ◌-◌, refl, ◌∙◌, subst, arith}
-use Rattle.twin_run.specs.declared.runner.Runner.{Runner}
+use Rattle.twin_run.proofs.Common.{◌≡◌, ◌+◌, ◌-◌, refl, ◌∙◌, subst, arith, Runner}
 use Rattle.twin_run.proofs.SteppingOn.{IsOn, is_on, is_on_next}
 use Rattle.twin_run.proofs.runner.Runner.instructions.Goals as goal
 

@@ -1,10 +1,4 @@
-use Rattle.std.proofs.Common.{◌≡◌, ◌-◌, ◌≤◌, true}
-use Rattle.std.specs.Prelude.{◌≢◌}
-use Rattle.note_types.specs.declared.ending.Ending.TheVariants.{Running}
-use Rattle.note_types.specs.declared.script.Script.{Script}
-use Rattle.host_model.specs.RunState.{RunState}
-use Rattle.host_model.specs.World.{World}
-use Rattle.twin_run.specs.Runner.{IsAt, IsFree, IsQuiet}
+use Rattle.twin_run.proofs.Common.{◌≡◌, ◌-◌, ◌≤◌, true, ◌≢◌, Running, Script, RunState, World, IsAt, IsFree, IsQuiet}
 use Rattle.twin_run.proofs.SteppingOn.{IsOn}
 use Rattle.twin_run.proofs.runner.Runner.instructions.Given as goal
 

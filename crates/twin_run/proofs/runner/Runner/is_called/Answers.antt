@@ -1,4 +1,4 @@
-use Rattle.std.proofs.Common.{◌≡◌, Bool, true, false, not, refl, nat_eq}
+use Rattle.twin_run.proofs.Common.{◌≡◌, Bool, true, false, not, refl, nat_eq}
 use Rattle.std.specs.Bool.{OnFalse, OnTrue}
 use Rattle.twin_run.proofs.HostingLaws.{called_there, none_there}
 use Rattle.twin_run.proofs.runner.Runner.is_called.Goals as goal

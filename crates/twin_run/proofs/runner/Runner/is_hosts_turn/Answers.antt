@@ -1,10 +1,5 @@
-use Rattle.std.proofs.Common.{true, false, refl}
-use Rattle.host_model.specs.HostPlans.{is_due}
-use Rattle.host_model.specs.Progress.{NoCall}
-use Rattle.native_host.proofs.TopLaws.{under-way}
-use Rattle.twin_run.proofs.RunnerLaws.{away_there}
-use Rattle.twin_run.proofs.TurnLaws.{due_there, none_when, other_call}
-use Rattle.twin_run.proofs.WatchingLaws.{turn_of}
+use Rattle.twin_run.proofs.Common.{true, false, refl, is_due, NoCall, under-way}
+use Rattle.twin_run.proofs.{RunnerLaws.away_there, TurnLaws.due_there, TurnLaws.none_when, TurnLaws.other_call, WatchingLaws.turn_of}
 use Rattle.twin_run.proofs.runner.Runner.is_hosts_turn.Goals as goal
 
 pub returns-then-is_called : goal.returns-then-is_called

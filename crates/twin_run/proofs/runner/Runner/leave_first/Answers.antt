@@ -1,6 +1,6 @@
-use Rattle.std.proofs.Common.{◌≡◌, ◌<◌, ◌∙◌, arith, length}
-use Rattle.twin_run.proofs.BoundLaws.{drop_one, first_rests, first_view, no_return_away, no_return_deep}
-use Rattle.twin_run.proofs.HostingLaws.{is_left}
+use Rattle.twin_run.proofs.Common.{◌≡◌, ◌<◌, ◌∙◌, arith, length}
+use Rattle.twin_run.proofs.BoundLaws.{drop_one, first_rests, first_view, no_return_away}
+use Rattle.twin_run.proofs.{BoundLaws.no_return_deep, HostingLaws.is_left}
 use Rattle.twin_run.proofs.runner.Runner.leave_first.Goals as goal
 
 pub returns-then-self-clause-other : goal.returns-then-self-clause-other

@@ -1,6 +1,4 @@
-use Rattle.std.proofs.Common.{subst}
-use Rattle.note_types.specs.declared.notes.Notes.{Notes}
-use Rattle.native_host.specs.Hosts.{IsServing}
+use Rattle.twin_run.proofs.Common.{subst, Notes, IsServing}
 use Rattle.twin_run.proofs.HostingLaws.{empty_when, finished_at, is_left, resumed_at, returned_at, serving_back, some_when}
 use Rattle.twin_run.proofs.runner.Runner.leave_function.Goals as goal
 

@@ -1,12 +1,6 @@
-use Rattle.std.proofs.Common.{arith, false, true, refl, subst}
-use Rattle.host_model.specs.HostPlans.{is_due}
-use Rattle.host_model.specs.Placements.{own_placement}
-use Rattle.host_model.specs.Progress.{Asked, NoCall}
-use Rattle.native_host.proofs.TopLaws.{under-way}
-use Rattle.twin_run.specs.Runner.{IsAt}
-use Rattle.twin_run.proofs.RunnerLaws.{away_there}
-use Rattle.twin_run.proofs.SteppingOn.{free_one}
-use Rattle.twin_run.proofs.TurnLaws.{asked_call, due_there, none_when, other_call, quiet_at, quiet_next, quiet_none, turn_is}
+use Rattle.twin_run.proofs.Common.{arith, false, true, refl, subst, is_due, own_placement, Asked, NoCall, under-way, IsAt}
+use Rattle.twin_run.proofs.{RunnerLaws.away_there, SteppingOn.free_one, TurnLaws.asked_call, TurnLaws.due_there, TurnLaws.none_when}
+use Rattle.twin_run.proofs.TurnLaws.{other_call, quiet_at, quiet_next, quiet_none, turn_is}
 use Rattle.twin_run.proofs.runner.Runner.look.Goals as goal
 
 pub returns-in-Some-clause-host : goal.returns-in-Some-clause-host

@@ -1,4 +1,4 @@
-use Rattle.std.proofs.Common.{false}
+use Rattle.twin_run.proofs.Common.{false}
 use Rattle.twin_run.proofs.HostingLaws.{next_part, next_shown, taken_at}
 use Rattle.twin_run.proofs.runner.Runner.next.Goals as goal
 

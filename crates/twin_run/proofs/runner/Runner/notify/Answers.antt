@@ -1,4 +1,4 @@
-use Rattle.std.proofs.Common.{arith, length, true}
+use Rattle.twin_run.proofs.Common.{arith, length, true}
 use Rattle.twin_run.proofs.HostingLaws.{due_enters, due_part, due_shown, taken_at}
 use Rattle.twin_run.proofs.runner.Runner.notify.Goals as goal
 

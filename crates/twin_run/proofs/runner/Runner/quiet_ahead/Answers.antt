@@ -1,4 +1,4 @@
-use Rattle.std.proofs.Common.{arith}
+use Rattle.twin_run.proofs.Common.{arith}
 use Rattle.twin_run.proofs.TurnLaws.{not_due_before}
 use Rattle.twin_run.proofs.runner.Runner.quiet_ahead.Goals as goal
 

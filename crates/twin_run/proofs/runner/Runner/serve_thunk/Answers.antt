@@ -1,9 +1,5 @@
-use Rattle.std.proofs.Common.{ap, subst}
-use Rattle.note_types.specs.declared.notes.Notes.{Notes}
-use Rattle.native_host.specs.Hosts.{IsServing}
-use Rattle.native_host.specs.declared.host.Host.{Host}
-use Rattle.twin_run.proofs.InstructionLaws.{served_by, unmapped_at, unnamed_at}
-use Rattle.twin_run.proofs.TurnLaws.{quiet_host}
+use Rattle.twin_run.proofs.Common.{ap, subst, Notes, IsServing, Host}
+use Rattle.twin_run.proofs.{InstructionLaws.served_by, InstructionLaws.unmapped_at, InstructionLaws.unnamed_at, TurnLaws.quiet_host}
 use Rattle.twin_run.proofs.runner.Runner.serve_thunk.Goals as goal
 
 pub returns-in-Mismatch-clause-at : goal.returns-in-Mismatch-clause-at

@@ -1,5 +1,4 @@
-use Rattle.std.proofs.Common.{eq-eqb}
-use Rattle.native_host.proofs.AskingLaws.{other-place}
+use Rattle.twin_run.proofs.Common.{eq-eqb, other-place}
 use Rattle.twin_run.proofs.RunnerLaws.{spot_away, spot_gate}
 use Rattle.twin_run.proofs.runner.Runner.spot.Goals as goal
 

@@ -1,7 +1,5 @@
-use Rattle.std.proofs.Common.{arith, subst, ap, ◌∙◌, ◌≡◌, ◌+◌, ◌-◌, ◌^◌, min}
-use Rattle.twin_run.specs.Runner.{IsRunner, steps_on}
-use Rattle.twin_run.proofs.SteppingOn.{on_one}
-use Rattle.twin_run.proofs.TurnLaws.{stayed}
+use Rattle.twin_run.proofs.Common.{arith, subst, ap, ◌∙◌, ◌≡◌, ◌+◌, ◌-◌, ◌^◌, min, IsRunner, steps_on}
+use Rattle.twin_run.proofs.{SteppingOn.on_one, TurnLaws.stayed}
 use Rattle.twin_run.proofs.runner.Runner.step.Goals as goal
 
 pub returns-in-Running-clause-step : goal.returns-in-Running-clause-step

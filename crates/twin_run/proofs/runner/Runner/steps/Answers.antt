@@ -1,4 +1,4 @@
-use Rattle.twin_run.specs.Runner.{steps_on}
+use Rattle.twin_run.proofs.Common.{steps_on}
 use Rattle.twin_run.proofs.SteppingOn.{recounted}
 use Rattle.twin_run.proofs.runner.Runner.steps.Goals as goal
 

@@ -1,9 +1,4 @@
-use Rattle.std.proofs.Common.{List, ℕ, sym, subst, ◌∙◌}
-use Rattle.host_model.specs.HostSteps.{entered}
-use Rattle.host_model.specs.Placements.{own_placement}
-use Rattle.native_host.specs.Steps.{taken}
-use Rattle.native_host.specs.declared.step.HostStep.{HostStep}
-use Rattle.twin_run.specs.Runner.{IsAt}
+use Rattle.twin_run.proofs.Common.{List, ℕ, sym, subst, ◌∙◌, entered, own_placement, taken, HostStep, IsAt}
 use Rattle.twin_run.proofs.HostingLaws.{numbers_there, replied_taken}
 use Rattle.twin_run.proofs.runner.Runner.take.Goals as goal
 

@@ -1,11 +1,5 @@
-use Rattle.std.proofs.Common.{true, refl, subst, arith}
-use Rattle.host_model.specs.HostPlans.{is_due}
-use Rattle.host_model.specs.HostSteps.{call_under_way}
-use Rattle.host_model.specs.Placements.{own_placement}
-use Rattle.twin_run.specs.Runner.{IsAt}
-use Rattle.twin_run.proofs.RunnerLaws.{gate_there}
-use Rattle.twin_run.proofs.SteppingOn.{free_quiet}
-use Rattle.twin_run.proofs.TurnLaws.{quiet_at, quiet_none, turn_is}
+use Rattle.twin_run.proofs.Common.{true, refl, subst, arith, is_due, call_under_way, own_placement, IsAt}
+use Rattle.twin_run.proofs.{RunnerLaws.gate_there, SteppingOn.free_quiet, TurnLaws.quiet_at, TurnLaws.quiet_none, TurnLaws.turn_is}
 use Rattle.twin_run.proofs.runner.Runner.turn.Goals as goal
 
 pub returns-then-self-clause-host : goal.returns-then-self-clause-host

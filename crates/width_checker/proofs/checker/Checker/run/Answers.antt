@@ -1,6 +1,5 @@
-use Rattle.plain_check.specs.declared.verdict.Verdict.TheVariants.{Neutral, Refused}
-use Rattle.width_checker.proofs.Deciding.{neutral_exactly, refused_exactly}
-use Rattle.width_checker.proofs.Points.{one_point}
+use Rattle.width_checker.proofs.Common.{Neutral, Refused}
+use Rattle.width_checker.proofs.{Deciding.neutral_exactly, Deciding.refused_exactly, Points.one_point}
 use Rattle.width_checker.proofs.checker.Checker.run.Goals as goal
 
 pub returns-in-Ok-clause-refused : goal.returns-in-Ok-clause-refused

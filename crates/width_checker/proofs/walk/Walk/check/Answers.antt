@@ -1,4 +1,4 @@
-use Rattle.std.proofs.Common.{arith}
+use Rattle.width_checker.proofs.Common.{arith}
 use Rattle.width_checker.proofs.Walking.{later_place, walked_end, walked_fails, walked_more, walked_start}
 use Rattle.width_checker.proofs.walk.Walk.check.Goals as goal
 

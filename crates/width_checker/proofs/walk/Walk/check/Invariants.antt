@@ -1,4 +1,4 @@
-use Rattle.std.proofs.Common.{◌-◌}
+use Rattle.width_checker.proofs.Common.{◌-◌}
 use Rattle.width_checker.proofs.Walking.{Walked}
 use Rattle.width_checker.proofs.walk.Walk.check.Given as goal
 

@@ -1,29 +1,13 @@
-use Rattle.std.proofs.Common.{◌≡◌, refl, sym, subst}
-use Rattle.std.specs.Prelude.{Ok}
+use Rattle.width_checker.proofs.Common.{◌≡◌, refl, sym, subst, Ok, Insn, FnNote, Notes, State, Image, PointHolds, RelocationHolds, reloc_at}
+use Rattle.width_checker.proofs.Common.{Successors, successors_from, StateAt, here_at, row_of, BelowHolds, EntryBelow, MeetsRules, ComesTo}
+use Rattle.width_checker.proofs.Common.{RelocsFrom, only_if}
 use Rattle.std.proofs.lemmas.Result.{err_from_is_err_and}
-use Rattle.ebc_insn.specs.declared.Insn.{Insn}
-use Rattle.note_types.specs.declared.notes.FnNote.{FnNote}
-use Rattle.note_types.specs.declared.notes.Notes.{Notes}
-use Rattle.note_types.specs.declared.state.State.{State}
-use Rattle.pe_image.specs.declared.image.Image.{Image}
-use Rattle.rules_image.specs.Images.{PointHolds, RelocationHolds, reloc_at}
-use Rattle.rules_flow.specs.declared.successors.Successors.{Successors}
-use Rattle.width_checker.specs.Paths.{successors_from}
-use Rattle.width_checker.specs.StatesAt.{StateAt}
-use Rattle.width_checker.specs.Rows.{here_at, row_of}
-use Rattle.width_checker.specs.Typed.{BelowHolds, EntryBelow, MeetsRules}
-use Rattle.width_checker.specs.Walks.{ComesTo}
-use Rattle.width_checker.proofs.Failing.{falls_out, no_state, not_below, not_relocated, point_inside, row_fails}
-use Rattle.width_checker.proofs.Leading.{decode_later}
-use Rattle.width_checker.proofs.Points.{one_point, points_next}
-use Rattle.rules_image.proofs.Decoding.{spelled_at}
-use Rattle.rules_image.proofs.Relocs.{ends_with}
 use Rattle.width_checker.proofs.Walking.{come_false, come_true, comes_next, entry_below, entry_not_below, here_is, none_there, row_err}
-use Rattle.width_checker.proofs.Walking.{row_ok, state_there}
-use Rattle.width_checker.proofs.walk.Walk.pass.Goals as goal
+use Rattle.width_checker.proofs.Failing.{falls_out, no_state, not_below, not_relocated, point_inside, row_fails}
 use Rattle.width_checker.proofs.walk.Walk.pass.Goals.{else-at-self-via-else-at-self, else-at-self-via-then-at-self+else-not-arrived_below}
-use Rattle.rules_image.specs.Marks.{RelocsFrom}
-use Rattle.ebc_base.specs.Steps.{only_if}
+use Rattle.width_checker.proofs.{Leading.decode_later, Points.one_point, Points.points_next, Walking.row_ok, Walking.state_there}
+use Rattle.rules_image.proofs.{Decoding.spelled_at, Relocs.ends_with}
+use Rattle.width_checker.proofs.walk.Walk.pass.Goals as goal
 
 pub returns-then-not-marks-clause-fails : goal.returns-then-not-marks-clause-fails
 returns-then-not-marks-clause-fails c =

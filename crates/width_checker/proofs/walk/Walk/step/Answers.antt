@@ -1,4 +1,4 @@
-use Rattle.std.proofs.Common.{arith}
+use Rattle.width_checker.proofs.Common.{arith}
 use Rattle.rules_image.proofs.Decoding.{is_decoded, not_decoded}
 use Rattle.width_checker.proofs.Failing.{no_insn}
 use Rattle.width_checker.proofs.walk.Walk.step.Goals as goal
