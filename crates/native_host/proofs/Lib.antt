@@ -5,6 +5,7 @@ pub mod BoundLaws
 pub mod CallLaws
 pub mod ComingLaws
 pub mod EnterLaws
+pub mod EnteredLaws
 pub mod KeptLaws
 pub mod NotifyLaws
 pub mod PlaceLaws

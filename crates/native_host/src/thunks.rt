@@ -19,15 +19,21 @@ ghost use Rattle.native_host.specs.Steps.{OnAccepted, OnEnd, thunk_step};
 use crate::host::Host;
 use crate::step::HostStep;
 use ebc_width::extend;
-use note_types::{Exception, FnNote, Notes, Reason};
+use note_types::{Exception, FnNote, Functions, Notes, Reason};
 use object_memory::ObjMem;
 
-// Which of the functions is marked as entered by the firmware and begins at a place.
-fn entered_position(functions: &[FnNote], place: u64) -> Option<usize>
+// Which of the functions is marked as entered by the firmware and begins at a place. Functions begin at places of their own,
+// so the others at the place are looked through only where the notes have been refused.
+fn entered_position(functions: &Functions, place: u64) -> Option<usize>
     ensures position { result ≡ position (λ (f : FnNote). nat_eq f.place place && f.enter) functions.now }
     ensures within { IfSome result (λ k. k < length functions.now) }
 {
-    functions.iter().position(|function| u64::from(function.place) == place && function.enter)
+    let first = functions.first_at(i128::from(place))?;
+    let all = functions.as_slice();
+    if all[first].enter {
+        return Some(first);
+    }
+    all.iter().position(|function| u64::from(function.place) == place && function.enter)
 }
 
 // The function that is marked as entered by the firmware and begins at a place.
@@ -36,7 +42,7 @@ fn entered_at(notes: &Notes, place: u64) -> Option<u32>
     requires { length notes.now.function < 2 ^ 32 }
     ensures { result ≡ entered_at notes.now place }
 {
-    let number = entered_position(notes.function.as_slice(), place)?;
+    let number = entered_position(&notes.function, place)?;
     Some(number as u32)
 }
 

@@ -5,8 +5,8 @@ ghost use Rattle.note_infer.specs.Rounds.{with_points};
 
 use ebc_base::{Name, NoMemory, Sequence};
 use note_types::{
-    Field, Fields, FnNote, Functions, Names, Notes, Points, Shape, Shapes, Signature, Signatures,
-    Sites, Statics, Thunks,
+    Field, Fields, FnNote, Functions, Names, Notes, PlacedList, Points, Shape, Shapes, Signature,
+    Signatures, Sites, Statics, Thunks,
 };
 use std::alloc::Global;
 
@@ -99,7 +99,7 @@ fn copy_functions(alloc: Global, functions: &[FnNote]) -> Result<Functions, NoMe
     for f in functions {
         copy.push(copy_function(alloc, f)?)?;
     }
-    Ok(Sequence::new(copy))
+    Ok(PlacedList::new(alloc, copy)?)
 }
 
 // The same signature once more.
@@ -144,7 +144,9 @@ fn copy_plain(alloc: Global, notes: &Notes) -> Result<(Statics, Thunks, Sites), 
     ensures { IfOk result (λ (statics, thunk, site). (statics ≡ notes.now.statics) × (thunk ≡ notes.now.thunk) × (site ≡ notes.now.site)) }
 {
     let statics = copy_all(alloc, notes.statics.as_slice())?;
+    let statics = PlacedList::new(alloc, statics.into_vec())?;
     let thunk = copy_all(alloc, notes.thunk.as_slice())?;
+    let thunk = PlacedList::new(alloc, thunk.into_vec())?;
     let site = copy_all(alloc, notes.site.as_slice())?;
     Ok((statics, thunk, site))
 }

@@ -7,6 +7,7 @@ pub mod Known
 pub mod Limits
 pub mod Notes
 pub mod Passing
+pub mod Places
 pub mod Records
 pub mod Shapes
 pub mod States

@@ -22,6 +22,9 @@
 //! - `State::copy` gives an equal state.
 //! - `Args`: a list of at most 16 `Seen`, the values of a native call. `new`, `push`, `copy`, `len`, `is_empty` and
 //!   `as_slice` say which list it is after each, and what they give.
+//! - `PlacedList`: things that begin at places of the image, as static objects, thunk cells and functions do, in their
+//!   order. `new`, `as_slice`, `len` and `is_empty` say which list it is; `first_at` gives the number of the first thing
+//!   at a place, in a time that grows with the logarithm of their number.
 //! - `NotesEnd` is made from `AllocError`, `AllocFailed` and `NoMemory` by `?`; `from_gives` says that each gives its
 //!   variant NoMemory.
 //! - `Notes` and the records in it, `Ty`, `Cell`, `SlotKind`, `Fact`, `Exception`, `RuleName`, `TomlFault`, `Value`,
@@ -40,6 +43,7 @@ mod fault;
 mod items;
 mod limits;
 mod notes;
+mod placed_list;
 mod reason;
 mod rule;
 mod script;
@@ -65,6 +69,7 @@ pub use notes::{
     FnNote, Functions, Names, Notes, Pair, Param, Params, Point, Points, Signature, Signatures,
     Site, Sites, Static, Statics, Thunk, Thunks, Want, WantParam, WantParams,
 };
+pub use placed_list::{Placed, PlacedList};
 pub use reason::Reason;
 pub use rule::RuleName;
 pub use script::{

@@ -1,9 +1,9 @@
 //! Worked rows of cells, shapes, types, states and entries.
 use ebc_insn::CmpOp;
 use note_types::{
-    Cell, Fact, Field, FnNote, Item, Items, Name, Notes, Pair, Sequence, Shape, ShapeFault,
-    SlotKind, State, Thunk, Ty, cell_size, code_limit, content_type, divides, entry_state,
-    fits_below, point_limit, shape_ok, ty_below,
+    Cell, Fact, Field, FnNote, Item, Items, Name, Notes, Pair, PlacedList, Sequence, Shape,
+    ShapeFault, SlotKind, State, Thunk, Ty, cell_size, code_limit, content_type, divides,
+    entry_state, fits_below, point_limit, shape_ok, ty_below,
 };
 use std::alloc::{AllocError, Global};
 use std::test::Fail;
@@ -370,12 +370,12 @@ fn entries(rt: HostRuntime) -> Result<(), Fail> {
         version: 1,
         entry: 0,
         shape: Sequence::new(Vec::new(alloc)),
-        statics: Sequence::new(Vec::new(alloc)),
-        thunk: Sequence::new(thunks),
-        function: Sequence::new(vec![in alloc;
-            function(alloc, "main")?,
-            function(alloc, "tick")?,
-        ]?),
+        statics: PlacedList::new(alloc, Vec::new(alloc))?,
+        thunk: PlacedList::new(alloc, thunks)?,
+        function: PlacedList::new(
+            alloc,
+            vec![in alloc; function(alloc, "main")?, function(alloc, "tick")?]?,
+        )?,
         point: Sequence::new(Vec::new(alloc)),
         signature: Sequence::new(Vec::new(alloc)),
         site: Sequence::new(Vec::new(alloc)),

@@ -1,2 +1,3 @@
 mod Euclid
 pub mod FirstRule
+pub mod ThingLaws

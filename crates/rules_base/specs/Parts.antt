@@ -1,6 +1,6 @@
 -- Meaning: Parts of types that the rows look at: numbers in a range, constants, offsets, pointers that aren't null.
 -- docs/NOTES.md says what the types mean.
-use Rattle.std.specs.Prelude.{ℕ, ◌+◌, ◌-◌, ◌%◌, ◌^◌, Bool, true, false, ◌&&◌, nat_lt, nat_le, nat_eq, if◌then◌else◌, Option, Some, None, ℤ}
+use Rattle.std.specs.Prelude.{ℕ, ◌+◌, ◌-◌, ◌^◌, Bool, true, false, ◌&&◌, nat_lt, nat_le, nat_eq, if◌then◌else◌, Option, Some, None, ℤ}
 use Rattle.std.specs.Prelude.{pos, negsuc, int_le, option_and_then}
 use Rattle.note_types.specs.declared.types.Ty.{Ty}
 use Rattle.note_types.specs.declared.types.Ty.TheVariants.{Int, Lin, Ptr}

@@ -1,38 +1,27 @@
 //! What starts at a place of the image, and what a relocated immediate is the address of.
 
 ghost use Rattle.std.specs.Prelude.{◌≡◌, ◌<◌, ◌^◌, length, option_copied, IfSome};
-ghost use Rattle.rules_base.specs.Things.{is_static_at, is_thunk_at, relocated, static_at, takes_address, thing_at, thunk_at};
+ghost use Rattle.rules_base.specs.Things.{relocated, static_at, takes_address, thing_at, thunk_at};
 
 use ebc_insn::Size;
-use note_types::{Notes, RuleName, Static, Thunk, Ty};
-
-fn is_static_at(s: &Static, place: i128) -> bool
-    ensures { result ≡ is_static_at place s.now }
-{
-    i128::from(s.place) == place
-}
-
-fn is_thunk_at(t: &Thunk, place: i128) -> bool
-    ensures { result ≡ is_thunk_at place t.now }
-{
-    i128::from(t.place) == place
-}
+use note_types::{Notes, RuleName, Static, Statics, Thunks, Ty};
 
 // The static object that starts at a place.
-#[tactic(auto, unfolding(crate::specs::Things::static_at))]
-fn static_at(statics: &[Static], place: i128) -> Option<&Static>
+fn static_at(statics: &Statics, place: i128) -> Option<&Static>
     ensures { option_copied result ≡ static_at statics.now place }
 {
-    statics.iter().find(|s| is_static_at(s, place))
+    match statics.first_at(place) {
+        Some(number) => Some(&statics.as_slice()[number]),
+        None => None,
+    }
 }
 
 // The number of the thunk cell that starts at a place.
-#[tactic(auto, unfolding(crate::specs::Things::thunk_at))]
-fn thunk_at(thunks: &[Thunk], place: i128) -> Option<usize>
+fn thunk_at(thunks: &Thunks, place: i128) -> Option<usize>
     ensures found { result ≡ thunk_at thunks.now place }
     ensures number { IfSome result (λ i. i < length thunks.now) }
 {
-    thunks.iter().position(|t| is_thunk_at(t, place))
+    thunks.first_at(place)
 }
 
 /// What starts at a place: a static object or a thunk cell.
@@ -41,7 +30,7 @@ pub fn thing_at(notes: &Notes, place: i128) -> Option<Ty>
     requires { length notes.now.thunk < 2 ^ 32 }
     ensures { result ≡ thing_at notes.now place }
 {
-    if let Some(s) = static_at(notes.statics.as_slice(), place) {
+    if let Some(s) = static_at(&notes.statics, place) {
         return Some(Ty::Ptr {
             shape: s.shape,
             count: s.count,
@@ -50,7 +39,7 @@ pub fn thing_at(notes: &Notes, place: i128) -> Option<Ty>
             null: false,
         });
     }
-    let thunk = thunk_at(notes.thunk.as_slice(), place)?;
+    let thunk = thunk_at(&notes.thunk, place)?;
     Some(Ty::ThunkAt(thunk as u32))
 }
 

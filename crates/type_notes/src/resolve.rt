@@ -13,9 +13,9 @@ use note_draft::{
 };
 use note_texts::{CellText, FieldText, ItemText, ParamText, TypeText, WantParamText, WantText};
 use note_types::{
-    Cell, Field, FnNote, Functions, Item, Name, Names, NoMemory, Notes, Param, Points, Sequence,
-    Shape, Shapes, Signature, Signatures, Site, Sites, Static, Statics, Thunk, Thunks, Ty, Want,
-    WantParam,
+    Cell, Field, FnNote, Functions, Item, Name, Names, NoMemory, Notes, Param, Placed, PlacedList,
+    Points, Sequence, Shape, Shapes, Signature, Signatures, Site, Sites, Static, Statics, Thunk,
+    Thunks, Ty, Want, WantParam,
 };
 use std::alloc::Global;
 
@@ -221,6 +221,20 @@ pub fn resolve_all<T: Resolve>(
     Ok(Sequence::new(values))
 }
 
+// Things that begin at places, with numbers, in their order.
+fn resolve_placed<T: Resolve>(
+    alloc: Global,
+    names: &NameTables,
+    items: &[T],
+) -> Result<PlacedList<T::Resolved>, NoMemory>
+where
+    T::Resolved: Placed,
+    ensures { IfOk result (λ values. values ≡ map (T.resolved names.now) items.now) }
+{
+    let values = resolve_all(alloc, names, items)?;
+    Ok(PlacedList::new(alloc, values.into_vec())?)
+}
+
 impl Resolve for FieldText {
     type Resolved = Field;
 
@@ -382,8 +396,8 @@ fn resolve_data(
 {
     Ok(DataNotes {
         shape: resolve_all(alloc, names, draft.shape.as_slice())?,
-        statics: resolve_all(alloc, names, draft.statics.as_slice())?,
-        thunk: resolve_all(alloc, names, draft.thunk.as_slice())?,
+        statics: resolve_placed(alloc, names, draft.statics.as_slice())?,
+        thunk: resolve_placed(alloc, names, draft.thunk.as_slice())?,
     })
 }
 
@@ -405,7 +419,7 @@ fn resolve_code(
     ensures point { IfOk result (λ lists. lists.point ≡ map (resolved_point names.now draft.now) draft.now.point) }
 {
     Ok(CodeNotes {
-        function: resolve_all(alloc, names, draft.function.as_slice())?,
+        function: resolve_placed(alloc, names, draft.function.as_slice())?,
         point: resolve_points(alloc, names, draft, owners)?,
     })
 }

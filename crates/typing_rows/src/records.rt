@@ -1,11 +1,19 @@
 //! The records of notes in text: a record as its name and its fields.
 use crate::text::{Shown, Text};
 use note_types::{
-    Field, FnNote, Name, Notes, Param, Point, Sequence, Shape, Signature, Site, Static, Thunk,
-    WantParam,
+    Field, FnNote, Name, Notes, Param, Placed, PlacedList, Point, Sequence, Shape, Signature, Site,
+    Static, Thunk, WantParam,
 };
 
 impl<T: Shown> Shown for Sequence<T> {
+    fn show(&self, text: &mut Text) {
+        text.word("Sequence { items: [");
+        text.list(self.as_slice());
+        text.word("] }");
+    }
+}
+
+impl<T: Shown + Placed> Shown for PlacedList<T> {
     fn show(&self, text: &mut Text) {
         text.word("Sequence { items: [");
         text.list(self.as_slice());

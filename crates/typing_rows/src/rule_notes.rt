@@ -3,8 +3,8 @@ use crate::words::{
     cell, first_state, number, pair, place, shape_number, short, slot_kind, ty, want,
 };
 use note_types::{
-    Field, FnNote, Name, Notes, Pair, Param, Point, Sequence, Shape, Signature, Site, Static,
-    Thunk, Ty, WantParam,
+    Field, FnNote, Name, Notes, Pair, Param, PlacedList, Point, Sequence, Shape, Signature, Site,
+    Static, Thunk, Ty, WantParam,
 };
 use std::alloc::Global;
 
@@ -274,9 +274,9 @@ pub fn notes(alloc: Global) -> Option<Notes> {
         version: 1,
         entry: 0,
         shape: Sequence::new(lists.shape),
-        statics: Sequence::new(lists.statics),
-        thunk: Sequence::new(lists.thunk),
-        function: Sequence::new(lists.function),
+        statics: PlacedList::new(alloc, lists.statics).ok()?,
+        thunk: PlacedList::new(alloc, lists.thunk).ok()?,
+        function: PlacedList::new(alloc, lists.function).ok()?,
         point: Sequence::new(lists.point),
         signature: Sequence::new(lists.signature),
         site: Sequence::new(lists.site),
