@@ -1,454 +1,326 @@
 -- The listing of an image is assembled to an object, which is linked to the image.
 use Rattle.link_laws.proofs.Common.{◌≡◌, inl, inr, ⊎_elim, ℕ, ◌+◌, ◌-◌, ◌*◌, ◌^◌, ◌<◌, ◌≤◌, List, [], ◌∷◌, ◌++◌, length, map, Some, Ok}
-use Rattle.link_laws.proofs.Common.{Bool, true, false, cond, refl, sym, ap, subst, ◌∙◌, arith, append-nil, All, IfSome, nat_eq, slice_index}
-use Rattle.link_laws.proofs.Common.{AllByRecursion, filter, list_any, nat_tests, all_append, IsObject, Fixup, Object, Symbol, Line}
+use Rattle.link_laws.proofs.Common.{Bool, true, false, refl, sym, ap, subst, ◌∙◌, arith, append-nil, IfSome, nat_eq, slice_index}
+use Rattle.link_laws.proofs.Common.{AllByRecursion, filter, list_any, nat_tests, all_append, IsBytes, ◌⊎◌, IsObject, Fixup, Object, Line}
 use Rattle.link_laws.proofs.Common.{label_text, object_in, object_of, fixups_in, names_with, start, symbol_of, same_bytes, rounded}
-use Rattle.link_laws.proofs.Common.{IsLinked, linked_sections, AreBytes, is_of, laid, named_place, Image, Section, in_section, is_cut}
-use Rattle.link_laws.proofs.Common.{listing_of, named, LinkPlan, Laid, contents_start, place_in, places_of, Definition, definitions}
-use Rattle.link_laws.proofs.Common.{first_in, bytes_for, contents_of, place_of, relocs_of, with_fixups, entry_in, links, links_laid}
-use Rattle.std.proofs.lemmas.List.Elements.{filter-append}
-use Rattle.ebc_asm.specs.Symbols.{flag}
-use Rattle.ebc_asm.proofs.LineSteps.{apart_in}
-use Rattle.ebc_link.specs.Fixups.{code_of, is_address, relocs_in}
-use Rattle.link_laws.specs.Laws.{ListsAgain}
-use Rattle.link_laws.proofs.Listings.{IsShown, all_lines, all_of_lines, data_place, data_placed, entry_labelled, listing_object}
-use Rattle.link_laws.proofs.Objects.{code_agrees, code_fixups, code_is, contents_agree, contents_fixups, contents_is, object_is}
-use Rattle.link_laws.proofs.Relocs.{IsHome, Within, are_low, are_named, are_uncut, code_bytes, contents_bytes, count_relocs, homes}
-use Rattle.link_laws.proofs.Faultless.{IsEntrySymbol, linked, sole_entry, sole_far, sole_twice, sole_undefined}
-use Rattle.link_laws.proofs.Lists.{all_map, all_members, all_of, drop_map, each_of, each_of_both, keep_map, map_twice}
-use Rattle.link_laws.proofs.Relocs.{label_inside, laid_code, laid_data, relocs_parted, section_inside, whole_code, whole_data}
-use Rattle.link_laws.proofs.Filling.{IsReloc, IsSection, StandsAt, section_again, stands_at}
-use Rattle.link_laws.proofs.{FixupWalk.AreNamed, FixupWalk.in_range, FixupWalk.named_some, FixupWalk.with_target, Listings.text_placed}
-use Rattle.link_laws.proofs.{Objects.reloc_fixup, Bodies.IsLabelled, Bodies.named_inside, Bodies.target_labelled, Counts.names_few_in}
-use Rattle.link_laws.proofs.{Entries.entry_global, Lines.place_in_line, Names.IsLabel, Names.names_are, OneImage.image_again, OneImage.sole}
-use Rattle.link_laws.proofs.{OneImage.sole_laid, SectionLaws.Agree, Sources.fixup_at, Sources.source, Standing.IsPlaced}
+use Rattle.link_laws.proofs.Common.{IsLinked, linked_sections, AreBytes, laid, named_place, Image, Section, is_cut, recursion_from_All}
+use Rattle.link_laws.proofs.Common.{listing_of, named, LinkPlan, Laid, contents_start, places_of, Definition, definitions, first_in}
+use Rattle.link_laws.proofs.Common.{bytes_for, contents_of, place_of, relocs_of, with_fixups, entry_in, links, links_laid, filter-append}
+use Rattle.link_laws.proofs.Common.{flag, apart_in, is_address, relocs_in, IsListable, ListsAgain}
+use Rattle.ebc_link.specs.Fixups.{code_of}
+use Rattle.link_laws.proofs.Relocs.{IsHome, Within, are_low, are_named, code_bytes, contents_bytes, count_relocs, homes, label_inside}
+use Rattle.link_laws.proofs.Relocs.{laid_code, laid_data, relocs_parted, section_inside, whole_code, whole_data}
+use Rattle.link_laws.proofs.{Listings.IsShown, Listings.all_lines, Listings.all_of_lines, Listings.data_place, Listings.data_placed}
+use Rattle.link_laws.proofs.{Listings.entry_labelled, Listings.listing_object, Listings.text_placed, Objects.code_agrees}
+use Rattle.link_laws.proofs.{Objects.code_fixups, Objects.code_is, Objects.contents_agree, Objects.contents_fixups, Objects.contents_is}
+use Rattle.link_laws.proofs.{Objects.object_is, Objects.reloc_fixup, Faultless.IsEntrySymbol, Faultless.linked, Faultless.sole_entry}
+use Rattle.link_laws.proofs.{Faultless.sole_far, Faultless.sole_twice, Faultless.sole_undefined, Lists.all_kept, Lists.all_map}
+use Rattle.link_laws.proofs.{Lists.all_members, Lists.all_of, Lists.drop_map, Lists.each_of, Lists.each_of_both, Lists.keep_map}
+use Rattle.link_laws.proofs.{Lists.map_twice, Filling.IsReloc, Filling.IsSection, Filling.StandsAt, Filling.section_again}
+use Rattle.link_laws.proofs.{Filling.stands_at, FixupWalk.AreNamed, FixupWalk.in_range, FixupWalk.named_some, FixupWalk.with_target}
+use Rattle.link_laws.proofs.{Bodies.IsLabelled, Bodies.named_inside, Bodies.target_labelled, Counts.names_few_in, Entries.entry_global}
+use Rattle.link_laws.proofs.{Lines.place_in_line, Standing.IsLabel, Standing.names_are, Standing.IsPlaced, OneImage.image_again}
+use Rattle.link_laws.proofs.{OneImage.sole, OneImage.sole_laid, SectionLaws.Agree, Sources.fixup_at, Sources.source}
 use Rattle.ebc_link.specs.Fixups as fixups
 
 -- ---- an image whose listing is linked again
 
--- What is known of an image and of its code, which isn't empty, and data.
-record Shows (image : Image) (b : ℕ) (bs contents : List ℕ) : Type 0 where
-  sections : image.sections ≡ linked_sections (b ∷ bs) contents
-  linked : IsLinked image
-  small : image.base < 2 ^ 32
-  bytes : AreBytes image
-  shown : IsShown image (b ∷ bs) contents
-  are : AreNamed image
-  home : AllByRecursion (IsHome (length (b ∷ bs)) (data_place (b ∷ bs)) (length contents)) image.relocs
+places_back : (f : ℕ → ℕ) (x n : ℕ) (rs : List ℕ) → ((r : ℕ) → f r ≡ x + (r - x))
+    → map f (filter (in_range x n) rs) ≡ filter (in_range x n) rs
+places_back f x n rs is = back (filter (in_range x n) rs)
+    (all_kept (in_range x n) (λ r. x ≤ r) rs (all_of (λ r. in_range x n r ≡ true → x ≤ r) rs (λ r e. grind (arith, nat_tests))))
+  where
+    back : (qs : List ℕ) → AllByRecursion (λ q. x ≤ q) qs → map f qs ≡ qs
+    back [] all = refl
+    back (q ∷ qs) all =
+        let same : x + (q - x) ≡ q = omega arith in
+        ap (λ r. r ∷ map f qs) (is q ∙ same) ∙ ap (λ rs. q ∷ rs) (back qs all.1)
 
-shows_by : (image : Image) (b : ℕ) (bs contents : List ℕ) → image.sections ≡ linked_sections (b ∷ bs) contents → IsLinked image
-    → image.base < 2 ^ 32 → AreBytes image → length (b ∷ bs) ≤ 2 ^ 20 → length contents ≤ 2 ^ 20 → 0x1000 ≤ image.entry
-    → image.entry < 0x1000 + length (b ∷ bs) → All (λ r. in_section image (named_place image r) ≡ true) image.relocs
-    → All (λ r. is_cut image r 8 ≡ false) image.relocs → Shows image b bs contents
-shows_by image b bs contents is linked_ small bytes few less from to named_ uncut =
-    let each : (y : ℕ) → laid (linked_sections (b ∷ bs) contents) y < 256 =
-    subst (λ (ss : List Section). (y : ℕ) → laid ss y < 256) is bytes in
-    record {
-      sections = is;
-      linked = linked_;
-      small = small;
-      bytes = bytes;
-      shown = record {
-        text_bytes = code_bytes b bs contents each;
-        contents_bytes = contents_bytes b bs contents each;
-        text_small = few;
-        contents_small = less;
-        low = are_low image b bs contents is few less;
-        uncut = are_uncut image uncut;
-        entry_from = from;
-        entry_to = to;
-      };
-      are = are_named image named_ linked_.apart;
-      home = homes image b bs contents is small few less named_ linked_.relocated;
-    }
-
--- ---- its object
-
-abbrev its_lines : Image → ℕ → List ℕ → List ℕ → List Line
-its_lines image b bs contents = source (all_lines image (b ∷ bs) contents)
-
-abbrev its_object : Image → ℕ → List ℕ → List ℕ → Object
-its_object image b bs contents = object_in (its_lines image b bs contents)
-
-code_long : (image : Image) (b : ℕ) (bs contents : List ℕ) → Shows image b bs contents
-    → length (its_object image b bs contents).code ≡ length (b ∷ bs)
-unfolding object_in
-code_long image b bs contents s =
-    ap length (code_is image (b ∷ bs) contents s.shown) ∙ (code_agrees image (b ∷ bs) contents s.shown).long
-
-its_symbols : (image : Image) (b : ℕ) (bs contents : List ℕ)
-    → (its_object image b bs contents).symbols ≡ map (symbol_of (its_lines image b bs contents)) (names_with []
-    (its_lines image b bs contents))
-unfolding object_in
-its_symbols image b bs contents = refl
-
--- where its data stand
-its_home : (image : Image) (b : ℕ) (bs contents : List ℕ) → Shows image b bs contents
-    → (sole (its_object image b bs contents)).home.contents ≡ data_place (b ∷ bs)
-its_home image b bs contents s = ap (λ n. rounded 0x1000 (0x1000 + n)) (code_long image b bs contents s)
-
--- each label stands in its place
-label_stands : (image : Image) (b : ℕ) (bs contents : List ℕ) (y : ℕ) → Shows image b bs contents → IsLabelled image y
-    → StandsAt (its_lines image b bs contents) (sole (its_object image b bs contents)) y
-label_stands image b bs contents y s here =
-    let from = s.shown.entry_from in
-    let to = s.shown.entry_to in
-    let in_code : Within 0x1000 (length (b ∷ bs)) y
-    → StandsAt (its_lines image b bs contents) (sole (its_object image b bs contents)) y = λ w.
-    stands_at (its_lines image b bs contents) (sole (its_object image b bs contents)) false 0x1000 y
-    (text_placed image (b ∷ bs) contents y s.shown here w.0 w.1) refl in
-    let in_data : Within (data_place (b ∷ bs)) (length contents) y
-    → StandsAt (its_lines image b bs contents) (sole (its_object image b bs contents)) y = λ w.
-    stands_at (its_lines image b bs contents) (sole (its_object image b bs contents)) true (data_place (b ∷ bs)) y
-    (data_placed image (b ∷ bs) contents y s.shown here w.0 w.1) (its_home image b bs contents s) in
-    ⊎_elim
-    (λ same. in_code (omega (arith, same, from), omega (arith, same, to)))
-    (λ there. ⊎_elim in_code in_data (section_inside image b bs contents y s.sections there))
-    (label_inside image y here)
-
--- ---- its relocations
+-- the eight bytes of a relocation lie in some bytes, before them or behind them
+abbrev Lies : ℕ → ℕ → ℕ → Type 0
+Lies s n r = ((s ≤ r) × (r + 8 ≤ s + n)) ⊎ ((r + 8 ≤ s) ⊎ (s + n ≤ r))
 
 -- the target of a relocation stands in its place, which is small
 abbrev Targets : Image → List Line → Laid → ℕ → Type 0
 Targets image ls h r = StandsAt ls h (named_place image r) × (named_place image r < 2 ^ 32)
 
-targets_stand : (image : Image) (b : ℕ) (bs contents : List ℕ) → Shows image b bs contents
-    → AllByRecursion (Targets image (its_lines image b bs contents) (sole (its_object image b bs contents))) image.relocs
-targets_stand image b bs contents s =
-    each_of (λ r. list_any (nat_eq r) image.relocs ≡ true)
-    (Targets image (its_lines image b bs contents) (sole (its_object image b bs contents))) image.relocs
-    (λ r here.
-    let is : named image r ≡ Some (named_place image r) = named_some image image.relocs r s.are.named here in (
-      label_stands image b bs contents (named_place image r) s (target_labelled image r (named_place image r) here is),
-      s.shown.low (named_place image r) (named_inside image r (named_place image r) is),
-    ))
-    (all_members image.relocs)
-
-in_it : (x n r : ℕ) → x ≤ r → r + 8 ≤ x + n → in_range x n r ≡ true
-in_it x n r from to = grind (arith, nat_tests)
-
-before_it : (x i r : ℕ) → r + 8 ≤ x → is_of (x + i) r ≡ false
-before_it x i r far = grind (arith, nat_tests)
-
-behind_it : (x n i r : ℕ) → x + n ≤ r → i < n → is_of (x + i) r ≡ false
-behind_it x n i r far low = grind (arith, nat_tests)
-
-range_ends : (x n r : ℕ) → in_range x n r ≡ true → (x ≤ r) × (r < x + n)
-range_ends x n r h = (from, to)
-  where
-    from : x ≤ r
-    from = grind (arith, nat_tests)
-
-    to : r < x + n
-    to = grind (arith, nat_tests)
-
-code_reloc : (image : Image) (ls : List Line) (h : Laid) (n place m r : ℕ) → 0x1000 + n ≤ place → IsHome n place m r → Targets image ls h r
-    → IsReloc image ls h 0x1000 n r
-code_reloc image ls h n place m r behind home target = record {
-  whole = λ e. let w = range_ends 0x1000 n r e in
-      ⊎_elim (λ a. a.1) (λ a. let low = a.0 in let high = w.1 in absurd (omega (arith, low, high, behind))) home;
-  apart = ⊎_elim (λ a. inl (in_it 0x1000 n r a.0 a.1))
-      (λ a. let low = a.0 in inr (λ i few. behind_it 0x1000 n i r (omega (arith, low, behind)) few)) home;
-  target = target.0;
-  low = target.1;
-}
-
-data_reloc : (image : Image) (ls : List Line) (h : Laid) (n place m r : ℕ) → 0x1000 + n ≤ place → IsHome n place m r → Targets image ls h r
-    → IsReloc image ls h place m r
-data_reloc image ls h n place m r behind home target = record {
-  whole = λ e. let w = range_ends place m r e in
-      ⊎_elim (λ a. let high = a.1 in let low = w.0 in absurd (omega (arith, low, high, behind))) (λ a. a.1) home;
-  apart = ⊎_elim (λ a. let high = a.1 in inr (λ i few. before_it place i r (omega (arith, high, behind))))
-      (λ a. inl (in_it place m r a.0 a.1)) home;
-  target = target.0;
-  low = target.1;
-}
-
-far_enough : (b : ℕ) (bs : List ℕ) → 0x1000 + length (b ∷ bs) ≤ data_place (b ∷ bs)
-far_enough b bs = omega arith
-
--- ---- its sections
-
-code_section : (image : Image) (b : ℕ) (bs contents : List ℕ) → Shows image b bs contents
-    → IsSection image (its_lines image b bs contents) (sole (its_object image b bs contents)) 0x1000 (b ∷ bs)
-    (its_object image b bs contents).code
-unfolding object_in
-code_section image b bs contents s =
-    let ls : List Line = its_lines image b bs contents in
-    let h : Laid = sole (its_object image b bs contents) in
-    record {
-      here = λ i low.
-          let same : 0x1000 + i - 0x1000 ≡ i = omega arith in
-          subst (λ (ss : List Section). laid ss (0x1000 + i) ≡ slice_index (b ∷ bs) i) (sym s.sections)
-          (laid_code b bs contents (0x1000 + i) (omega arith, omega (arith, low)) ∙ ap (slice_index (b ∷ bs)) same);
-      each = s.shown.text_bytes;
-      agree = subst (λ bytes. Agree image 0x1000 bytes (b ∷ bs)) (sym (code_is image (b ∷ bs) contents s.shown))
-          (code_agrees image (b ∷ bs) contents s.shown);
-      relocs = each_of_both (IsHome (length (b ∷ bs)) (data_place (b ∷ bs)) (length contents)) (Targets image ls h)
-          (IsReloc image ls h 0x1000 (length (b ∷ bs))) image.relocs
-          (λ r home target. code_reloc image ls h (length (b ∷ bs)) (data_place (b ∷ bs)) (length contents) r (far_enough b bs) home target)
-          s.home (targets_stand image b bs contents s);
-    }
-
-data_section : (image : Image) (b : ℕ) (bs contents : List ℕ) → Shows image b bs contents
-    → IsSection image (its_lines image b bs contents) (sole (its_object image b bs contents)) (data_place (b ∷ bs)) contents
-    (its_object image b bs contents).contents
-unfolding object_in
-data_section image b bs contents s =
-    let ls : List Line = its_lines image b bs contents in
-    let h : Laid = sole (its_object image b bs contents) in
-    let place : ℕ = data_place (b ∷ bs) in
-    record {
-      here = λ i low.
-          let same : place + i - place ≡ i = omega arith in
-          subst (λ (ss : List Section). laid ss (place + i) ≡ slice_index contents i) (sym s.sections)
-          (laid_data b bs contents (place + i) (omega arith, omega (arith, low)) ∙ ap (slice_index contents) same);
-      each = s.shown.contents_bytes;
-      agree = subst (λ bytes. Agree image place bytes contents) (sym (contents_is image (b ∷ bs) contents s.shown))
-          (contents_agree image place contents s.shown.contents_bytes);
-      relocs = each_of_both (IsHome (length (b ∷ bs)) place (length contents)) (Targets image ls h)
-          (IsReloc image ls h place (length contents)) image.relocs
-          (λ r home target. data_reloc image ls h (length (b ∷ bs)) place (length contents) r (far_enough b bs) home target)
-          s.home (targets_stand image b bs contents s);
-    }
-
--- ---- its fixups
+reloc_by : (image : Image) (ls : List Line) (h : Laid) (s n r : ℕ) → Lies s n r → Targets image ls h r → IsReloc image ls h s n r
+reloc_by image ls h s n r (inl a) t =
+    record { whole = λ e. a.1; apart = inl (grind (arith, nat_tests)); target = t.0; low = t.1 }
+reloc_by image ls h s n r (inr (inl far)) t =
+    record { whole = λ e. omega (arith, far); apart = inr (λ i few. grind (arith, nat_tests)); target = t.0; low = t.1 }
+reloc_by image ls h s n r (inr (inr far)) t =
+    record { whole = λ e. grind (arith, nat_tests); apart = inr (λ i few. grind (arith, nat_tests)); target = t.0; low = t.1 }
 
 first_kept : {A : Type 0} (p : Fixup → Bool) (f g : A → Fixup) (xs ys : List A) → ((x : A) → p (f x) ≡ true) → ((x : A) → p (g x) ≡ false)
     → filter p (map f xs ++ map g ys) ≡ map f xs
 first_kept p f g xs ys all none =
-    filter-append p (map f xs) (map g ys)
-    ∙ (ap (λ fs. fs ++ filter p (map g ys)) (keep_map p f xs all)
-    ∙ (ap (λ fs. map f xs ++ fs) (drop_map p g ys none) ∙ append-nil (map f xs)))
+    rw (filter-append p (map f xs) (map g ys), keep_map p f xs all, drop_map p g ys none) (append-nil (map f xs))
 
 last_kept : {A : Type 0} (p : Fixup → Bool) (f g : A → Fixup) (xs ys : List A) → ((x : A) → p (f x) ≡ false) → ((x : A) → p (g x) ≡ true)
     → filter p (map f xs ++ map g ys) ≡ map g ys
-last_kept p f g xs ys none all =
-    filter-append p (map f xs) (map g ys)
-    ∙ (ap (λ fs. fs ++ filter p (map g ys)) (drop_map p f xs none) ∙ keep_map p g ys all)
+last_kept p f g xs ys none all = rw (filter-append p (map f xs) (map g ys), drop_map p f xs none) (keep_map p g ys all)
 
--- the relocations of its code, and those of its data
-abbrev code_relocs : Image → ℕ → List ℕ → List ℕ
-code_relocs image b bs = filter (in_range 0x1000 (length (b ∷ bs))) image.relocs
+module _ (image : Image) (b : ℕ) (bs contents : List ℕ) where
+  -- its code, where its data begin, the lines of its listing, their names and their object, alone
+  abbrev text : List ℕ
+  text = b ∷ bs
 
-abbrev data_relocs : Image → ℕ → List ℕ → List ℕ → List ℕ
-data_relocs image b bs contents = filter (in_range (data_place (b ∷ bs)) (length contents)) image.relocs
+  abbrev place : ℕ
+  place = data_place text
 
-its_fixups : (image : Image) (b : ℕ) (bs contents : List ℕ) → Shows image b bs contents
-    → (its_object image b bs contents).fixups
-    ≡ map (reloc_fixup image false 0x1000 (names_with [] (its_lines image b bs contents))) (code_relocs image b bs)
-    ++ map (reloc_fixup image true (data_place (b ∷ bs)) (names_with [] (its_lines image b bs contents))) (data_relocs image b bs contents)
-unfolding object_in
-its_fixups image b bs contents s =
-    let ls : List Line = its_lines image b bs contents in
-    let names : List (List ℕ) = names_with [] ls in
-    let n : ℕ = length (b ∷ bs) in
-    let place : ℕ = data_place (b ∷ bs) in
-    let m : ℕ = length contents in
-    let first : fixups_in false start names ls ≡ map (reloc_fixup image false 0x1000 names) (code_relocs image b bs) =
-    code_fixups image (b ∷ bs) contents names s.shown s.are (whole_code image n place m (far_enough b bs) s.home)
-    ∙ map_twice (fixup_at false 0x1000 names) (with_target image) (code_relocs image b bs) in
-    let second : fixups_in true start names ls ≡ map (reloc_fixup image true place names) (data_relocs image b bs contents) =
-    contents_fixups image (b ∷ bs) contents names s.shown s.are (whole_data image n place m (far_enough b bs) s.home)
-    ∙ map_twice (fixup_at true place names) (with_target image) (data_relocs image b bs contents) in
-    ap (λ fs. fs ++ fixups_in true start names ls) first
-    ∙ ap (λ fs. map (reloc_fixup image false 0x1000 names) (code_relocs image b bs) ++ fs) second
+  abbrev ls : List Line
+  ls = source (all_lines image text contents)
 
-code_again : (image : Image) (b : ℕ) (bs contents : List ℕ) (base : ℕ) (ds : List Definition) → Shows image b bs contents
-    → base ≡ image.base
-    → code_of base ds (sole (its_object image b bs contents)) ≡ b ∷ bs
-code_again image b bs contents base ds s same =
-    let ls : List Line = its_lines image b bs contents in
-    let o : Object = its_object image b bs contents in
-    let names : List (List ℕ) = names_with [] ls in
-    let f : ℕ → Fixup = reloc_fixup image false 0x1000 names in
-    let g : ℕ → Fixup = reloc_fixup image true (data_place (b ∷ bs)) names in
-    let fs : fixups.in_section 1 o.fixups ≡ map f (code_relocs image b bs) =
-    ap (fixups.in_section 1) (its_fixups image b bs contents s)
-    ∙ first_kept (λ (x : Fixup). nat_eq x.section 1) f g (code_relocs image b bs) (data_relocs image b bs contents) (λ r. refl)
-    (λ r. refl) in
-    ap (with_fixups (bytes_for base (places_of ds (sole o)) (sole o).home) o.code) fs
-    ∙ section_again image ls (sole o) false 0x1000 base (b ∷ bs) o.code ds (code_section image b bs contents s)
-    (its_symbols image b bs contents) same (subst (λ k. k < 2 ^ 32) (sym same) s.small) s.bytes
+  abbrev names : List (List ℕ)
+  names = names_with [] ls
 
-contents_again : (image : Image) (b : ℕ) (bs contents : List ℕ) (base : ℕ) (ds : List Definition) → Shows image b bs contents
-    → base ≡ image.base → contents_of base ds (sole (its_object image b bs contents)) ≡ contents
-contents_again image b bs contents base ds s same =
-    let ls : List Line = its_lines image b bs contents in
-    let o : Object = its_object image b bs contents in
-    let names : List (List ℕ) = names_with [] ls in
-    let f : ℕ → Fixup = reloc_fixup image false 0x1000 names in
-    let g : ℕ → Fixup = reloc_fixup image true (data_place (b ∷ bs)) names in
-    let fs : fixups.in_section 2 o.fixups ≡ map g (data_relocs image b bs contents) =
-    ap (fixups.in_section 2) (its_fixups image b bs contents s)
-    ∙ last_kept (λ (x : Fixup). nat_eq x.section 2) f g (code_relocs image b bs) (data_relocs image b bs contents) (λ r. refl)
-    (λ r. refl) in
-    ap (with_fixups (bytes_for base (places_of ds (sole o)) (sole o).home) o.contents) fs
-    ∙ section_again image ls (sole o) true (data_place (b ∷ bs)) base contents o.contents ds (data_section image b bs contents s)
-    (its_symbols image b bs contents) same (subst (λ k. k < 2 ^ 32) (sym same) s.small) s.bytes
+  abbrev object : Object
+  object = object_in ls
 
--- ---- its relocations are those of the image
+  abbrev alone : Laid
+  alone = sole object
 
-ranged : (x n : ℕ) (rs : List ℕ) → AllByRecursion (λ r. x ≤ r) (filter (in_range x n) rs)
-ranged x n [] = tt
-ranged x n (r ∷ rs) = first (in_range x n r) refl (ranged x n rs)
-  where
-    first : (c : Bool) → in_range x n r ≡ c → AllByRecursion (λ r. x ≤ r) (filter (in_range x n) rs)
-        → AllByRecursion (λ r. x ≤ r) (cond c (r ∷ filter (in_range x n) rs) (filter (in_range x n) rs))
-    first true e later = ((range_ends x n r e).0, later)
-    first false e later = later
+  -- the relocations of its code and those of its data, and their fixups
+  abbrev code_relocs : List ℕ
+  code_relocs = filter (in_range 0x1000 (length text)) image.relocs
 
-places_back : (f : ℕ → ℕ) (x : ℕ) (rs : List ℕ) → ((r : ℕ) → f r ≡ x + (r - x)) → AllByRecursion (λ r. x ≤ r) rs → map f rs ≡ rs
-places_back f x [] is all = refl
-places_back f x (r ∷ rs) is all =
-    let from = all.0 in
-    let same : x + (r - x) ≡ r = omega (arith, from) in
-    ap (λ q. q ∷ map f rs) (is r ∙ same) ∙ ap (λ qs. r ∷ qs) (places_back f x rs is all.1)
+  abbrev data_relocs : List ℕ
+  data_relocs = filter (in_range place (length contents)) image.relocs
 
-relocs_again : (image : Image) (b : ℕ) (bs contents : List ℕ) → Shows image b bs contents
-    → relocs_of (sole (its_object image b bs contents) ∷ []) ≡ image.relocs
-unfolding relocs_of
-relocs_again image b bs contents s =
-    let ls : List Line = its_lines image b bs contents in
-    let o : Object = its_object image b bs contents in
-    let l : Laid = sole o in
-    let names : List (List ℕ) = names_with [] ls in
-    let place : ℕ = data_place (b ∷ bs) in
-    let f : ℕ → Fixup = reloc_fixup image false 0x1000 names in
-    let g : ℕ → Fixup = reloc_fixup image true place names in
-    let one : List ℕ = code_relocs image b bs in
-    let two : List ℕ = data_relocs image b bs contents in
-    let at_home : (r : ℕ) → place_of l.home (g r) ≡ place + (r - place) = λ r. ap (λ p. p + (r - place)) (its_home image b bs contents s) in
-    let first : relocs_in 1 l ≡ one =
-    ap (λ fs. map (place_of l.home) (filter (is_address 1) fs)) (its_fixups image b bs contents s)
-    ∙ (ap (map (place_of l.home)) (first_kept (is_address 1) f g one two (λ r. refl) (λ r. refl))
-    ∙ (map_twice (place_of l.home) f one
-    ∙ places_back (λ r. place_of l.home (f r)) 0x1000 one (λ r. refl) (ranged 0x1000 (length (b ∷ bs)) image.relocs))) in
-    let second : relocs_in 2 l ≡ two =
-    ap (λ fs. map (place_of l.home) (filter (is_address 2) fs)) (its_fixups image b bs contents s)
-    ∙ (ap (map (place_of l.home)) (last_kept (is_address 2) f g one two (λ r. refl) (λ r. refl))
-    ∙ (map_twice (place_of l.home) g two
-    ∙ places_back (λ r. place_of l.home (g r)) place two at_home (ranged place (length contents) image.relocs))) in
-    ap (λ ps. ps ++ (relocs_in 2 l ++ [])) (append-nil (relocs_in 1 l) ∙ first)
-    ∙ (ap (λ ps. one ++ ps) (append-nil (relocs_in 2 l) ∙ second)
-    ∙ relocs_parted (length (b ∷ bs)) place (length contents) image.relocs (far_enough b bs) s.are.ascend s.home)
+  abbrev code_fixup : ℕ → Fixup
+  code_fixup = reloc_fixup image false 0x1000 names
 
--- ---- no fault comes of it
+  abbrev data_fixup : ℕ → Fixup
+  data_fixup = reloc_fixup image true place names
 
-names_stand : (image : Image) (b : ℕ) (bs contents : List ℕ) → Shows image b bs contents
-    → AllByRecursion (λ n. nat_eq (symbol_of (its_lines image b bs contents) n).kind 0 ≡ false) (names_with []
-    (its_lines image b bs contents))
-names_stand image b bs contents s =
-    let ls : List Line = its_lines image b bs contents in
-    each_of (IsLabel image) (λ n. nat_eq (symbol_of ls n).kind 0 ≡ false) (names_with [] ls)
-    (λ n is. subst (λ m. nat_eq (symbol_of ls m).kind 0 ≡ false) (sym is.is)
-    (label_stands image b bs contents is.place s is.labelled).there)
-    (names_are image (all_lines image (b ∷ bs) contents)
-    (all_of_lines image (b ∷ bs) contents (λ l. IfSome (place_in_line l) (IsLabelled image)) s.shown tt tt (λ code l h. h.place)))
+  -- What is known of an image and of its code, which isn't empty, and data.
+  record Shows : Type 0 where
+    sections : image.sections ≡ linked_sections text contents
+    linked : IsLinked image
+    small : image.base < 2 ^ 32
+    bytes : AreBytes image
+    shown : IsShown image text contents
+    are : AreNamed image
+    home : AllByRecursion (IsHome (length text) place (length contents)) image.relocs
 
-all_addresses : (image : Image) (b : ℕ) (bs contents : List ℕ) → Shows image b bs contents
-    → AllByRecursion (λ (f : Fixup). f.kind ≡ 5) (its_object image b bs contents).fixups
-all_addresses image b bs contents s =
-    let names : List (List ℕ) = names_with [] (its_lines image b bs contents) in
-    let one : List Fixup = map (reloc_fixup image false 0x1000 names) (code_relocs image b bs) in
-    let two : List Fixup = map (reloc_fixup image true (data_place (b ∷ bs)) names) (data_relocs image b bs contents) in
-    subst (AllByRecursion (λ (f : Fixup). f.kind ≡ 5)) (sym (its_fixups image b bs contents s))
-    (all_append (λ (f : Fixup). f.kind ≡ 5) one two
-    (all_map (λ (f : Fixup). f.kind ≡ 5) (reloc_fixup image false 0x1000 names) (code_relocs image b bs)
-    (all_of (λ r. (reloc_fixup image false 0x1000 names r).kind ≡ 5) (code_relocs image b bs) (λ r. refl)))
-    (all_map (λ (f : Fixup). f.kind ≡ 5) (reloc_fixup image true (data_place (b ∷ bs)) names) (data_relocs image b bs contents)
-    (all_of (λ r. (reloc_fixup image true (data_place (b ∷ bs)) names r).kind ≡ 5) (data_relocs image b bs contents) (λ r. refl))))
+  far_enough : 0x1000 + length text ≤ place
+  far_enough = omega arith
 
-entry_placed : (image : Image) (b : ℕ) (bs contents : List ℕ) → Shows image b bs contents
-    → IsPlaced (its_lines image b bs contents) false 0x1000 image.entry
-entry_placed image b bs contents s =
-    text_placed image (b ∷ bs) contents image.entry s.shown (entry_labelled image) s.shown.entry_from s.shown.entry_to
+  its_symbols : object.symbols ≡ map (symbol_of ls) names
+  unfolding object_in
+  its_symbols = refl
 
-entry_symbol : (image : Image) (b : ℕ) (bs contents : List ℕ) → Shows image b bs contents
-    → IsEntrySymbol (its_object image b bs contents) (symbol_of (its_lines image b bs contents) (label_text image.entry))
-entry_symbol image b bs contents s =
-    let placed : IsPlaced (its_lines image b bs contents) false 0x1000 image.entry = entry_placed image b bs contents s in
-    let at = placed.offset in
-    let even = s.linked.even in
-    let to = s.shown.entry_to in
-    let long = code_long image b bs contents s in
-    record {
-      global = ap flag (entry_global image (b ∷ bs) contents s.shown);
-      kind = placed.kind;
-      even = omega (arith, at, even);
-      within = omega (arith, at, to, long);
+  module _ (s : Shows) where
+    code_long : length object.code ≡ length text
+    unfolding object_in
+    code_long = ap length (code_is image text contents s.shown) ∙ (code_agrees image text contents s.shown).long
+
+    -- where its data stand
+    its_home : alone.home.contents ≡ place
+    its_home = ap (λ n. rounded 0x1000 (0x1000 + n)) code_long
+
+    -- each label stands in its place
+    label_stands : (y : ℕ) → IsLabelled image y → StandsAt ls alone y
+    label_stands y here =
+        let in_code : Within 0x1000 (length text) y → StandsAt ls alone y = λ w.
+        stands_at ls alone false 0x1000 y (text_placed image text contents s.shown y here w.0 w.1) refl in
+        let in_data : Within place (length contents) y → StandsAt ls alone y = λ w.
+        stands_at ls alone true place y (data_placed image text contents s.shown y here w.0 w.1) its_home in
+        ⊎_elim
+        (λ same. in_code (omega (arith, same), omega (arith, same)))
+        (λ there. ⊎_elim in_code in_data (section_inside image b bs contents s.sections y there))
+        (label_inside image y here)
+
+    targets_stand : AllByRecursion (Targets image ls alone) image.relocs
+    targets_stand =
+        each_of (λ r. list_any (nat_eq r) image.relocs ≡ true) (Targets image ls alone) image.relocs
+        (λ r here.
+        let is : named image r ≡ Some (named_place image r) = named_some image r s.are here in (
+          label_stands (named_place image r) (target_labelled image r (named_place image r) here is),
+          s.shown.low (named_place image r) (named_inside image r (named_place image r) is),
+        ))
+        (all_members image.relocs)
+
+    -- ---- its sections
+
+    section_by : (x : ℕ) (bytes out : List ℕ)
+        → ((y : ℕ) → Within x (length bytes) y → laid (linked_sections text contents) y ≡ slice_index bytes (y - x)) → IsBytes bytes
+        → Agree image x out bytes
+        → ((r : ℕ) → IsHome (length text) place (length contents) r → Lies x (length bytes) r) → IsSection image ls alone x bytes out
+    section_by x bytes out is each agree lies = record {
+      here = λ i low.
+          let same : x + i - x ≡ i = omega arith in
+          ap (λ (ss : List Section). laid ss (x + i)) s.sections
+          ∙ (is (x + i) (omega arith, omega (arith, low)) ∙ ap (slice_index bytes) same);
+      each = each;
+      agree = agree;
+      relocs = each_of_both (IsHome (length text) place (length contents)) (Targets image ls alone)
+          (IsReloc image ls alone x (length bytes)) image.relocs
+          (λ r home t. reloc_by image ls alone x (length bytes) r (lies r home) t) s.home targets_stand;
     }
 
--- ---- it is linked to the image
+    code_section : IsSection image ls alone 0x1000 text object.code
+    unfolding object_in
+    code_section = section_by 0x1000 text object.code (laid_code text contents) s.shown.text_bytes
+        (subst (λ bytes. Agree image 0x1000 bytes text) (sym (code_is image text contents s.shown))
+        (code_agrees image text contents s.shown))
+        (λ r home. ⊎_elim (λ a. inl a) (λ a. inr (inr (omega arith))) home)
 
-its_image : (image : Image) (b : ℕ) (bs contents : List ℕ) (plan : LinkPlan) → Shows image b bs contents → plan.base ≡ image.base
-    → plan.subsystem ≡ image.subsystem → plan.entry ≡ label_text image.entry → links (its_object image b bs contents ∷ []) plan ≡ Ok image
-unfolding links
-its_image image b bs contents plan s base subsystem entry =
-    let ls : List Line = its_lines image b bs contents in
-    let o : Object = its_object image b bs contents in
-    let l : Laid = sole o in
-    let h : Laid = sole o in
-    let f : List ℕ → Symbol = symbol_of ls in
-    let names : List (List ℕ) = names_with [] ls in
-    let name : List ℕ = label_text image.entry in
-    let ds : List Definition = definitions (l ∷ []) in
-    let placed : IsPlaced ls false 0x1000 image.entry = entry_placed image b bs contents s in
-    let found : first_in (entry_in name) (l ∷ []) ≡ Some (place_in h.home 1 (f name).offset) =
-    sole_entry l f name names (its_symbols image b bs contents) (λ n. refl) placed.known (same_bytes name)
-    (entry_symbol image b bs contents s) in
-    let at_entry : first_in (entry_in plan.entry) (l ∷ []) ≡ Some image.entry =
-    ap (λ n. first_in (entry_in n) (l ∷ [])) entry ∙ (found ∙ ap Some placed.offset) in
-    ap (λ ms. links_laid plan ms (contents_start (o ∷ []))) (sole_laid o)
-    ∙ linked plan (l ∷ []) (contents_start (o ∷ [])) image.entry image
-    (sole_twice o h f names (its_symbols image b bs contents) (λ n. refl) (apart_in [] ls tt))
-    (sole_undefined ds o h f names (its_symbols image b bs contents) (names_stand image b bs contents s))
-    (sole_far ds l (all_addresses image b bs contents s))
-    at_entry
-    (image_again plan o image (b ∷ bs) contents base subsystem s.sections s.linked.size
-    (code_again image b bs contents plan.base ds s base) (contents_again image b bs contents plan.base ds s base)
-    (relocs_again image b bs contents s))
-    s.linked.small
+    data_section : IsSection image ls alone place contents object.contents
+    unfolding object_in
+    data_section = section_by place contents object.contents (laid_data text contents) s.shown.contents_bytes
+        (subst (λ bytes. Agree image place bytes contents) (sym (contents_is image text contents s.shown))
+        (contents_agree image place contents s.shown.contents_bytes))
+        (λ r home. ⊎_elim (λ a. inr (inl (omega arith))) (λ a. inl a) home)
 
--- ---- it is an object
+    -- ---- its fixups
 
-its_size : (image : Image) (b : ℕ) (bs contents : List ℕ) → Shows image b bs contents → IsObject (its_object image b bs contents)
-its_size image b bs contents s =
-    let n : ℕ = length (b ∷ bs) in
-    let place : ℕ = data_place (b ∷ bs) in
-    let m : ℕ = length contents in
-    let parted = relocs_parted n place m image.relocs (far_enough b bs) s.are.ascend s.home in
-    let names = names_few_in image (b ∷ bs) contents s.shown s.are (whole_code image n place m (far_enough b bs) s.home)
-    (whole_data image n place m (far_enough b bs) s.home) parted in
-    let few = count_relocs n place m image.relocs (far_enough b bs) s.are.ascend s.home in
-    let code = s.shown.text_small in
-    let data_ = s.shown.contents_small in
-    object_is image (b ∷ bs) contents (3 * length image.relocs + 2) s.shown names (omega (arith, few, code, data_))
+    its_fixups : object.fixups ≡ map code_fixup code_relocs ++ map data_fixup data_relocs
+    unfolding object_in
+    its_fixups =
+        let first : fixups_in false start names ls ≡ map code_fixup code_relocs =
+        code_fixups image text contents s.shown names s.are (whole_code image (length text) place (length contents) far_enough s.home)
+        ∙ map_twice (fixup_at false 0x1000 names) (with_target image) code_relocs in
+        let second : fixups_in true start names ls ≡ map data_fixup data_relocs =
+        contents_fixups image text contents s.shown names s.are (whole_data image (length text) place (length contents) far_enough s.home)
+        ∙ map_twice (fixup_at true place names) (with_target image) data_relocs in
+        rw (first, second) refl
+
+    code_again : (base : ℕ) (ds : List Definition) → base ≡ image.base → code_of base ds alone ≡ text
+    code_again base ds same =
+        let fs = ap (fixups.in_section 1) its_fixups
+        ∙ first_kept (λ (x : Fixup). nat_eq x.section 1) code_fixup data_fixup code_relocs data_relocs (λ r. refl) (λ r. refl) in
+        ap (with_fixups (bytes_for base (places_of ds alone) alone.home) object.code) fs
+        ∙ section_again image ls alone false 0x1000 base text object.code ds code_section its_symbols same
+        (subst (λ k. k < 2 ^ 32) (sym same) s.small) s.bytes
+
+    contents_again : (base : ℕ) (ds : List Definition) → base ≡ image.base → contents_of base ds alone ≡ contents
+    contents_again base ds same =
+        let fs = ap (fixups.in_section 2) its_fixups
+        ∙ last_kept (λ (x : Fixup). nat_eq x.section 2) code_fixup data_fixup code_relocs data_relocs (λ r. refl) (λ r. refl) in
+        ap (with_fixups (bytes_for base (places_of ds alone) alone.home) object.contents) fs
+        ∙ section_again image ls alone true place base contents object.contents ds data_section its_symbols same
+        (subst (λ k. k < 2 ^ 32) (sym same) s.small) s.bytes
+
+    -- its relocations are those of the image
+    relocs_again : relocs_of (alone ∷ []) ≡ image.relocs
+    unfolding relocs_of
+    relocs_again =
+        let at_home : (r : ℕ) → place_of alone.home (data_fixup r) ≡ place + (r - place) = λ r. ap (λ p. p + (r - place)) its_home in
+        let first : relocs_in 1 alone ≡ code_relocs =
+        rw (
+          its_fixups,
+          first_kept (is_address 1) code_fixup data_fixup code_relocs data_relocs (λ r. refl) (λ r. refl),
+          map_twice (place_of alone.home) code_fixup code_relocs,
+        )
+        (places_back (λ r. place_of alone.home (code_fixup r)) 0x1000 (length text) image.relocs (λ r. refl)) in
+        let second : relocs_in 2 alone ≡ data_relocs =
+        rw (
+          its_fixups,
+          last_kept (is_address 2) code_fixup data_fixup code_relocs data_relocs (λ r. refl) (λ r. refl),
+          map_twice (place_of alone.home) data_fixup data_relocs,
+        )
+        (places_back (λ r. place_of alone.home (data_fixup r)) place (length contents) image.relocs at_home) in
+        rw (append-nil (relocs_in 1 alone) ∙ first, append-nil (relocs_in 2 alone) ∙ second)
+        (relocs_parted (length text) place (length contents) image.relocs far_enough s.are.ascend s.home)
+
+    -- ---- no fault comes of it
+
+    names_stand : AllByRecursion (λ n. nat_eq (symbol_of ls n).kind 0 ≡ false) names
+    names_stand =
+        each_of (IsLabel image) (λ n. nat_eq (symbol_of ls n).kind 0 ≡ false) names
+        (λ n is. subst (λ m. nat_eq (symbol_of ls m).kind 0 ≡ false) (sym is.is) (label_stands is.place is.labelled).there)
+        (names_are image (all_lines image text contents)
+        (all_of_lines image text contents s.shown (λ l. IfSome (place_in_line l) (IsLabelled image)) tt tt (λ code l h. h.place)))
+
+    all_addresses : AllByRecursion (λ (f : Fixup). f.kind ≡ 5) object.fixups
+    all_addresses =
+        let Address : Fixup → Type 0 = λ f. f.kind ≡ 5 in
+        subst (AllByRecursion Address) (sym its_fixups)
+        (all_append Address (map code_fixup code_relocs) (map data_fixup data_relocs)
+        (all_map Address code_fixup code_relocs (all_of (λ r. Address (code_fixup r)) code_relocs (λ r. refl)))
+        (all_map Address data_fixup data_relocs (all_of (λ r. Address (data_fixup r)) data_relocs (λ r. refl))))
+
+    entry_placed : IsPlaced ls false 0x1000 image.entry
+    entry_placed = text_placed image text contents s.shown image.entry (entry_labelled image) s.shown.entry_from s.shown.entry_to
+
+    entry_symbol : IsEntrySymbol object (symbol_of ls (label_text image.entry))
+    entry_symbol =
+        record {
+          global = ap flag (entry_global image text contents s.shown);
+          kind = entry_placed.kind;
+          even = omega (arith, entry_placed.offset, s.linked.even);
+          within = omega (arith, entry_placed.offset, s.shown.entry_to, code_long);
+        }
+
+    -- ---- it is linked to the image
+
+    its_image : (plan : LinkPlan) → plan.base ≡ image.base → plan.subsystem ≡ image.subsystem → plan.entry ≡ label_text image.entry
+        → links (object ∷ []) plan ≡ Ok image
+    unfolding links
+    its_image plan base subsystem entry =
+        let name : List ℕ = label_text image.entry in
+        let ds : List Definition = definitions (alone ∷ []) in
+        let found = sole_entry alone (symbol_of ls) name names its_symbols (λ n. refl) entry_placed.known (same_bytes name) entry_symbol in
+        ap (λ ms. links_laid plan ms (contents_start (object ∷ []))) (sole_laid object)
+        ∙ linked plan (alone ∷ []) (contents_start (object ∷ [])) image.entry image
+        (sole_twice object alone (symbol_of ls) names its_symbols (λ n. refl) (apart_in [] ls tt))
+        (sole_undefined ds object alone (symbol_of ls) names its_symbols names_stand)
+        (sole_far ds alone all_addresses) (ap (λ n. first_in (entry_in n) (alone ∷ [])) entry ∙ (found ∙ ap Some entry_placed.offset))
+        (image_again plan object image text contents base subsystem s.sections s.linked.size (code_again plan.base ds base)
+        (contents_again plan.base ds base) relocs_again)
+        s.linked.small
+
+    -- ---- it is an object
+
+    its_size : IsObject object
+    its_size =
+        let n : ℕ = length text in
+        let m : ℕ = length contents in
+        let named_ = names_few_in image text contents s.shown s.are (whole_code image n place m far_enough s.home)
+        (whole_data image n place m far_enough s.home) (relocs_parted n place m image.relocs far_enough s.are.ascend s.home) in
+        let few = count_relocs n place m image.relocs far_enough s.are.ascend s.home in
+        object_is image text contents s.shown (3 * length image.relocs + 2) named_ (omega (arith, few))
 
 -- ---- the law
 
--- What the law says of one image.
-abbrev ListsBack : Image → Type 0
-ListsBack image =
-    (o : Object) × (object_of (listing_of image) ≡ Ok o) × IsObject o
-    × ((plan : LinkPlan) → plan.base ≡ image.base → plan.subsystem ≡ image.subsystem → plan.entry ≡ label_text image.entry
-    → links (o ∷ []) plan ≡ Ok image)
-
-lists_by : (image : Image) (text contents : List ℕ) → image.sections ≡ linked_sections text contents → IsLinked image
-    → image.base < 2 ^ 32 → AreBytes image → length text ≤ 2 ^ 20 → length contents ≤ 2 ^ 20 → 0x1000 ≤ image.entry
-    → image.entry < 0x1000 + length text → All (λ r. in_section image (named_place image r) ≡ true) image.relocs
-    → All (λ r. is_cut image r 8 ≡ false) image.relocs → ListsBack image
-lists_by image [] contents is linked_ small bytes few less from to named_ uncut = absurd (omega (arith, from, to))
-lists_by image (b ∷ bs) contents is linked_ small bytes few less from to named_ uncut =
-    let s : Shows image b bs contents = shows_by image b bs contents is linked_ small bytes few less from to named_ uncut in (
-      its_object image b bs contents,
-      listing_object image b bs contents is s.shown,
-      its_size image b bs contents s,
-      λ plan base subsystem entry. its_image image b bs contents plan s base subsystem entry,
-    )
+shows : (image : Image) (l : IsListable image) (b : ℕ) (bs : List ℕ) → l.text ≡ b ∷ bs → Shows image b bs l.contents
+shows image l b bs e =
+    let is : image.sections ≡ linked_sections (b ∷ bs) l.contents = l.sections ∙ ap (λ t. linked_sections t l.contents) e in
+    let few : length (b ∷ bs) ≤ 2 ^ 20 = subst (λ t. length t ≤ 2 ^ 20) e l.text_size in
+    let each = subst (λ (ss : List Section). (y : ℕ) → laid ss y < 256) is l.bytes in
+    record {
+      sections = is;
+      linked = l.linked;
+      small = l.base_small;
+      bytes = l.bytes;
+      shown = record {
+        text_bytes = code_bytes (b ∷ bs) l.contents each;
+        contents_bytes = contents_bytes (b ∷ bs) l.contents each;
+        text_small = few;
+        contents_small = l.contents_size;
+        low = are_low image b bs l.contents is l.base_small few l.contents_size;
+        uncut = recursion_from_All (λ r. is_cut image r 8 ≡ false) image.relocs l.uncut;
+        entry_from = l.entry.0;
+        entry_to = subst (λ t. image.entry < 0x1000 + length t) e l.entry.1;
+      };
+      are = are_named image l.named l.linked.apart;
+      home = homes image b bs l.contents is l.base_small few l.contents_size l.named l.linked.relocated;
+    }
 
 -- Listings are linked to their images again.
 pub lists_again : ListsAgain
-lists_again image is =
-    lists_by image is.text is.contents is.sections is.linked is.base_small is.bytes is.text_size is.contents_size is.entry.0 is.entry.1
-    is.named is.uncut
+lists_again image l = by l.text refl
+  where
+    by : (text : List ℕ) → l.text ≡ text → (o : Object) × (object_of (listing_of image) ≡ Ok o) × IsObject o
+        × ((plan : LinkPlan) → plan.base ≡ image.base → plan.subsystem ≡ image.subsystem → plan.entry ≡ label_text image.entry
+        → links (o ∷ []) plan ≡ Ok image)
+    by [] e = let none = ap length e in absurd (omega (arith, none))
+    by (b ∷ bs) e =
+        let s : Shows image b bs l.contents = shows image l b bs e in (
+          object image b bs l.contents,
+          listing_object image b bs l.contents s.sections s.shown,
+          its_size image b bs l.contents s,
+          its_image image b bs l.contents s,
+        )

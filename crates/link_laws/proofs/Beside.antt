@@ -1,18 +1,66 @@
 -- The bytes of a line of the code in the image that its object is linked to, and the fixups and relocations beside them.
-use Rattle.link_laws.proofs.Common.{Bool, List, None, Option, Some, [], ap, arith, false, get_or, inl, inr, length, length-append, refl}
-use Rattle.link_laws.proofs.Common.{replicate, subst, sym, true, ℕ, ⊎_elim, ◌++◌, ◌+◌, ◌<◌, ◌∙◌, ◌∷◌, ◌≡◌, ◌≤◌, ◌⊎◌, AllByRecursion}
-use Rattle.link_laws.proofs.Common.{Contains, list_any, All, slice_index, or_from, nat_tests, get_or-append-add, get_or_append_left}
-use Rattle.link_laws.proofs.Common.{length-replicate, All-contains, All-from_recursion, recursion_from_All, all_append, spelling, Insn}
-use Rattle.link_laws.proofs.Common.{IsObject, width, Fixup, Object, Line, rounded, is_of, laid, Image, AreFit, code_ends, ends_in, ends_of}
-use Rattle.link_laws.proofs.Common.{known_in, data_after, ends_in_data, insn_use, section_of, use_of, bytes_of, object_in, fixup_of}
-use Rattle.link_laws.proofs.Common.{fixups_in, fixups_of, names_with, section_kind, start, place_of, Laid, code_start, contents_start}
-use Rattle.link_laws.proofs.Common.{homes_from, homes_of, laid_objects, laid_with, place_in, Linked, fills, LinkPlan}
-use Rattle.ebc_object.specs.Objects.{IsFixup, section_bytes}
-use Rattle.ebc_asm.proofs.{FixupLaws.AreFixups, FixupLaws.are_fixups, StateLaws.Knows}
-use Rattle.ebc_link.specs.Linked.{IsAddress}
-use Rattle.link_laws.proofs.{Apart.IsBefore, Apart.IsInside, Apart.behind_code, Apart.laid_apart, Apart.laid_inside, Lists.each_of}
-use Rattle.link_laws.proofs.Sources.{ends_at, fixups_append}
+use Rattle.link_laws.proofs.Common.{◌≡◌, ◌⊎◌, inl, inr, ⊎_elim, ℕ, ◌+◌, ◌≤◌, List, [], ◌∷◌, length, get_or, sym, ap, subst, ◌∙◌, arith}
+use Rattle.link_laws.proofs.Common.{AllPairs, AllByRecursion, Contains, All-from_recursion, Object, rounded, Laid, code_end, code_start}
+use Rattle.link_laws.proofs.Common.{contents_start, homes_from, homes_of, laid_objects, laid_with, Bool, None, Option, Some, false}
+use Rattle.link_laws.proofs.Common.{length-append, refl, replicate, true, ◌++◌, ◌<◌, All, slice_index, nat_tests, get_or-append-add}
+use Rattle.link_laws.proofs.Common.{get_or_append_left, length-replicate, All-contains, recursion_from_All, all_append, spelling, Insn}
+use Rattle.link_laws.proofs.Common.{IsObject, width, Fixup, Line, is_of, laid, Image, AreFit, code_ends, ends_in, ends_of, known_in}
+use Rattle.link_laws.proofs.Common.{data_after, ends_in_data, insn_use, section_of, use_of, bytes_of, object_in, fixup_of, fixups_in}
+use Rattle.link_laws.proofs.Common.{fixups_of, names_with, section_kind, start, place_of, place_in, Linked, fills, LinkPlan, subst₂}
+use Rattle.link_laws.proofs.Common.{cases_order, get_or_default, AllPairs-cons, All-weaker, contents_end, Stands, stands, IsFixup}
+use Rattle.link_laws.proofs.Common.{section_bytes, AreFixups, are_fixups, Knows, KnowsUse, LineFits, IsAddress}
+use Rattle.link_laws.proofs.{Lists.all_back, Lists.all_front, Lists.each_of, Lists.none_passes, Sources.ends_at, Sources.fixups_append}
 use Rattle.asm_text.specs.Statements as statements
+
+-- ---- objects stand apart: the code of one ends before that of a later one, and so do its data, which stand behind all code
+
+-- One object stands before another.
+pub record IsBefore (l m : Laid) : Type 0 where
+  pub code : l.home.code + length l.object.code ≤ m.home.code
+  pub contents : l.home.contents + length l.object.contents ≤ m.home.contents
+
+all_before : (code contents : ℕ) (os : List Object) → AllPairs IsBefore (laid_with os (homes_from code contents os))
+unfolding homes_from
+all_before code contents [] = λ i j d less below. absurd (omega (arith, below))
+all_before code contents (o ∷ os) =
+    let c : ℕ = rounded 2 code + length o.code in
+    let d : ℕ = rounded 8 contents + length o.contents in
+    let first : Laid = record { object = o; home = record { code = rounded 2 code; contents = rounded 8 contents } } in
+    let ls : List Laid = laid_with os (homes_from c d os) in
+    AllPairs-cons IsBefore first ls
+    (All-weaker (Stands c d (code_end c os) (contents_end d os)) (IsBefore first)
+    (λ l s. record { code = s.code_low; contents = s.contents_low }) ls (stands c d os)) (all_before c d os)
+
+-- Each object stands in the sections.
+abbrev pub IsInside : List Object → Laid → Type 0
+IsInside objects l =
+    Stands code_start (contents_start objects) (code_end code_start objects) (contents_end (contents_start objects) objects) l
+
+pub laid_inside : (objects : List Object) (l : Laid) → Contains (laid_objects objects) l → IsInside objects l
+unfolding laid_objects homes_of
+laid_inside objects l there =
+    All-contains (IsInside objects) (laid_with objects (homes_from code_start (contents_start objects) objects)) l
+    (stands code_start (contents_start objects) objects) there
+
+-- the same object, or one that stands before or behind
+pub laid_apart : (objects : List Object) (l m : Laid) → Contains (laid_objects objects) l → Contains (laid_objects objects) m
+    → (l ≡ m) ⊎ (IsBefore l m ⊎ IsBefore m l)
+unfolding laid_objects homes_of
+laid_apart objects l m first second =
+    let ls : List Laid = laid_with objects (homes_from code_start (contents_start objects) objects) in
+    let pairs : AllPairs IsBefore ls = all_before code_start (contents_start objects) objects in
+    ⊎_elim
+    (λ same. inl (sym first.2 ∙ (ap (λ k. get_or ls k l) same ∙ (get_or_default ls second.0 l m second.1 ∙ second.2))))
+    (λ other. ⊎_elim
+    (λ less. inr (inl (subst₂ IsBefore first.2 (get_or_default ls second.0 l m second.1
+    ∙ second.2) (pairs first.0 second.0 l less second.1))))
+    (λ more. inr (inr (subst₂ IsBefore second.2 (get_or_default ls first.0 m l first.1 ∙ first.2) (pairs second.0 first.0 m more first.1))))
+    other)
+    (cases_order first.0 second.0)
+
+pub behind_code : (objects : List Object) → code_end code_start objects ≤ contents_start objects
+unfolding contents_start
+behind_code objects = omega arith
 
 -- ---- fixups beside a line of the code
 
@@ -21,9 +69,13 @@ abbrev pub IsBeside : ℕ → ℕ → Option Fixup → Fixup → Type 0
 IsBeside off n this f =
     (f.section ≡ 2) ⊎ (((f.section ≡ 1) × (f.offset + width f.kind ≤ off)) ⊎ (((f.section ≡ 1) × (off + n ≤ f.offset)) ⊎ (this ≡ Some f)))
 
+-- A fixup of a section fills in bytes from one offset on up to another.
+abbrev IsWithin : ℕ → ℕ → ℕ → Fixup → Type 0
+IsWithin section from to f = (f.section ≡ section) × ((from ≤ f.offset) × (f.offset + width f.kind ≤ to))
+
 section_all : (w : Bool) (m start : ℕ) (bytes : List ℕ) (names : List (List ℕ)) (fs : List Fixup) → m ≤ start
     → AreFixups w start bytes names fs
-    → AllByRecursion (λ (f : Fixup). (f.section ≡ section_kind w) × ((m ≤ f.offset) × (f.offset + width f.kind ≤ length bytes))) fs
+    → AllByRecursion (IsWithin (section_kind w) m (length bytes)) fs
 section_all w m start bytes names [] low h = tt
 section_all w m start bytes names (f ∷ fs) low h =
     let behind = h.0.behind in (
@@ -31,48 +83,20 @@ section_all w m start bytes names (f ∷ fs) low h =
       section_all w m (f.offset + width f.kind) bytes names fs (omega (arith, low, behind)) h.1,
     )
 
-fit_front : (xs ys : List Line) → AreFit (xs ++ ys) → AreFit xs
-fit_front [] ys h = tt
-fit_front (x ∷ xs) ys h = (h.0, fit_front xs ys h.1)
-
-fit_back : (xs ys : List Line) → AreFit (xs ++ ys) → AreFit ys
-fit_back [] ys h = h
-fit_back (x ∷ xs) ys h = fit_back xs ys h.1
-
-knows_front : (names : List (List ℕ)) (xs ys : List Line) → Knows names (xs ++ ys) → Knows names xs
-knows_front names [] ys h = tt
-knows_front names (x ∷ xs) ys h = (h.0, knows_front names xs ys h.1)
-
-pub knows_back : (names : List (List ℕ)) (xs ys : List Line) → Knows names (xs ++ ys) → Knows names ys
-knows_back names [] ys h = h
-knows_back names (x ∷ xs) ys h = knows_back names xs ys h.1
+-- the name that a line uses is among names
+abbrev pub KnowsLine : List (List ℕ) → Line → Type 0
+KnowsLine names l = KnowsUse names (use_of l.statement)
 
 -- the fixups of the code that some lines have, which begin with its end at c
 code_between : (d : Bool) (c k : ℕ) (names : List (List ℕ)) (ls : List Line) → AreFit ls → Knows names ls
-    → AllByRecursion (λ (f : Fixup). (f.section ≡ 1) × ((c ≤ f.offset) × (f.offset + width f.kind ≤ c + length (section_of false d ls))))
-    (fixups_in false (record { in_data = d; code_end = c; data_end = k }) names ls)
+    → AllByRecursion (IsWithin 1 c (c + length (section_of false d ls))) (fixups_in false (ends_at d c k) names ls)
 code_between d c k names ls fit known =
     let pre : List ℕ = replicate c 0 in
+    let bytes : List ℕ = section_of false d ls in
+    let fs : List Fixup = fixups_in false (ends_at d c k) names ls in
     let long : length pre ≡ c = length-replicate c 0 in
-    let all = are_fixups false d c k names ls pre long fit known in
-    let count = length-append pre (section_of false d ls) in
-    each_of (λ (f : Fixup). (f.section ≡ 1) × ((c ≤ f.offset) × (f.offset + width f.kind ≤ length (pre ++ section_of false d ls))))
-    (λ (f : Fixup). (f.section ≡ 1) × ((c ≤ f.offset) × (f.offset + width f.kind ≤ c + length (section_of false d ls))))
-    (fixups_in false (record { in_data = d; code_end = c; data_end = k }) names ls)
-    (λ f h. let to = h.1.1 in (h.0, (h.1.0, omega (arith, to, count, long))))
-    (section_all false c (length pre) (pre ++ section_of false d ls) names
-    (fixups_in false (record { in_data = d; code_end = c; data_end = k }) names ls) (omega (arith, long)) all)
-
-data_all : (d : Bool) (c k : ℕ) (names : List (List ℕ)) (ls : List Line) → AreFit ls → Knows names ls
-    → AllByRecursion (λ (f : Fixup). f.section ≡ 2) (fixups_in true (record { in_data = d; code_end = c; data_end = k }) names ls)
-data_all d c k names ls fit known =
-    let pre : List ℕ = replicate k 0 in
-    let long : length pre ≡ k = length-replicate k 0 in
-    let all = are_fixups true d c k names ls pre long fit known in
-    each_of (λ (f : Fixup). (f.section ≡ 2) × ((k ≤ f.offset) × (f.offset + width f.kind ≤ length (pre ++ section_of true d ls))))
-    (λ (f : Fixup). f.section ≡ 2) (fixups_in true (record { in_data = d; code_end = c; data_end = k }) names ls) (λ f h. h.0)
-    (section_all true k (length pre) (pre ++ section_of true d ls) names
-    (fixups_in true (record { in_data = d; code_end = c; data_end = k }) names ls) (omega (arith, long)) all)
+    subst (λ to. AllByRecursion (IsWithin 1 c to) fs) (length-append pre bytes ∙ ap (λ n. n + length bytes) long)
+    (section_all false c (length pre) (pre ++ bytes) names fs (omega (arith, long)) (are_fixups false d c k names ls pre long fit known))
 
 -- the fixup of a line with an instruction at an offset of the code
 abbrev pub own_fixup : ℕ → List (List ℕ) → Insn → Option (List ℕ) → Option Fixup
@@ -117,31 +141,27 @@ all_beside front back line i name fit is code =
     let k : ℕ = (ends_of start front).data_end in
     let this : Option Fixup = own_fixup off names i name in
     let known : Knows names ls = known_in [] ls in
-    let rest_fit = fit_back front (line ∷ back) fit in
-    let rest_known = knows_back names front (line ∷ back) known in
+    let rest_fit = all_back LineFits front (line ∷ back) fit in
+    let rest_known = all_back (KnowsLine names) front (line ∷ back) known in
     let one : List Fixup = fixups_in false start names front in
     let two : List Fixup = fixups_of false off names (use_of (Some (statements.Instruction i name))) in
     let three : List Fixup = fixups_in false (ends_at false (off + n) k) names back in
-    let parts : fixups_in false start names ls ≡ one ++ (two ++ three) =
-    fixups_append false start names front (line ∷ back)
+    let parts = fixups_append false start names front (line ∷ back)
     ∙ ap (λ fs. one ++ fs) (ap (λ e. fixups_in false e names (line ∷ back)) (ends_here front code)
     ∙ line_fixups off k names line back i name is) in
-    let first : AllByRecursion (IsBeside off n this) one =
-    each_of (λ (f : Fixup). (f.section ≡ 1) × ((0 ≤ f.offset) × (f.offset + width f.kind ≤ 0 + length (section_of false false front))))
-    (IsBeside off n this) one (λ f h. let to = h.1.1 in inr (inl (h.0, omega (arith, to))))
-    (code_between false 0 0 names front (fit_front front (line ∷ back) fit) (knows_front names front (line ∷ back) known)) in
-    let second : AllByRecursion (IsBeside off n this) two =
-    each_of (λ f. this ≡ Some f) (IsBeside off n this) two (λ f h. inr (inr (inr h))) (own_is off names i name) in
-    let third : AllByRecursion (IsBeside off n this) three =
-    each_of (λ (f : Fixup). (f.section ≡ 1) × ((off + n ≤ f.offset) × (f.offset + width f.kind ≤ off + n + length
-    (section_of false false back))))
-    (IsBeside off n this) three (λ f h. inr (inr (inl (h.0, h.1.0)))) (code_between false (off + n) k names back rest_fit.1 rest_known.1) in
-    let last : AllByRecursion (IsBeside off n this) (fixups_in true start names ls) =
-    each_of (λ (f : Fixup). f.section ≡ 2) (IsBeside off n this) (fixups_in true start names ls) (λ f h. inl h)
-    (data_all false 0 0 names ls fit known) in
-    all_append (IsBeside off n this) (fixups_in false start names ls) (fixups_in true start names ls)
-    (subst (AllByRecursion (IsBeside off n this)) (sym parts)
-    (all_append (IsBeside off n this) one (two ++ three) first (all_append (IsBeside off n this) two three second third))) last
+    let B : Fixup → Type 0 = IsBeside off n this in
+    let first = each_of (IsWithin 1 0 (0 + off)) B one (λ f h. inr (inl (h.0, omega arith)))
+    (code_between false 0 0 names front (all_front LineFits front (line ∷ back) fit)
+    (all_front (KnowsLine names) front (line ∷ back) known)) in
+    let second : AllByRecursion B two = each_of (λ f. this ≡ Some f) B two (λ f h. inr (inr (inr h))) (own_is off names i name) in
+    let third : AllByRecursion B three =
+    each_of (IsWithin 1 (off + n) (off + n + length (section_of false false back))) B three (λ f h. inr (inr (inl (h.0, h.1.0))))
+    (code_between false (off + n) k names back rest_fit.1 rest_known.1) in
+    let last = each_of (IsWithin 2 0 (length (section_of true false ls))) B (fixups_in true start names ls) (λ f h. inl h.0)
+    (section_all true 0 0 (section_of true false ls) names (fixups_in true start names ls) (omega arith)
+    (are_fixups true false 0 0 names ls [] refl fit known)) in
+    all_append B (fixups_in false start names ls) (fixups_in true start names ls)
+    (subst (AllByRecursion B) (sym parts) (all_append B one (two ++ three) first (all_append B two three second third))) last
 
 -- ---- relocations beside a line
 
@@ -158,23 +178,18 @@ all_objects P code contents (o ∷ os) all = (
 object_of_laid : (objects : List Object) (l : Laid) → All IsObject objects → Contains (laid_objects objects) l → IsObject l.object
 unfolding laid_objects homes_of
 object_of_laid objects l all there =
-    subst (λ (m : Laid). IsObject m.object) there.2
+    All-contains (λ (m : Laid). IsObject m.object) (laid_with objects (homes_from code_start (contents_start objects) objects)) l
     (All-from_recursion (λ (m : Laid). IsObject m.object) (laid_with objects (homes_from code_start (contents_start objects) objects))
-    (all_objects IsObject code_start (contents_start objects) objects (recursion_from_All IsObject objects all)) there.0 l there.1)
+    (all_objects IsObject code_start (contents_start objects) objects (recursion_from_All IsObject objects all))) there
 
 -- Eight bytes end before some bytes, begin behind them, or are those of an address that is this fixup.
 abbrev pub IsAside : Laid → ℕ → ℕ → Option Fixup → ℕ → Type 0
-IsAside l p n this x =
-    ((x + 8 ≤ p) ⊎ (p + n ≤ x)) ⊎ ((f : Fixup) × (this ≡ Some f) × (f.kind ≡ 5) × (x ≡ l.home.code + f.offset))
+IsAside l p n this x = ((x + 8 ≤ p) ⊎ (p + n ≤ x)) ⊎ ((f : Fixup) × (this ≡ Some f) × (f.kind ≡ 5) × (x ≡ l.home.code + f.offset))
 
 data_aside : (objects : List Object) (l m : Laid) (p n x : ℕ) (this : Option Fixup) (f : Fixup) → IsInside objects l → IsInside objects m
     → p + n ≤ l.home.code + length l.object.code → f.section ≡ 2 → x ≡ place_of m.home f → IsAside l p n this x
 data_aside objects l m p n x this f il im within section is =
-    let place : x ≡ m.home.contents + f.offset = is ∙ ap (λ s. place_in m.home s f.offset) section in
-    let a = il.code_to in
-    let b = im.contents_from in
-    let c = behind_code objects in
-    inl (inr (omega (arith, place, a, b, c, within)))
+    inl (inr (omega (arith, is ∙ ap (λ s. place_in m.home s f.offset) section, behind_code objects, within)))
 
 code_place : (m : Laid) (f : Fixup) (x : ℕ) → f.section ≡ 1 → x ≡ place_of m.home f → x ≡ m.home.code + f.offset
 code_place m f x section is = is ∙ ap (λ s. place_in m.home s f.offset) section
@@ -182,35 +197,28 @@ code_place m f x section is = is ∙ ap (λ s. place_in m.home s f.offset) secti
 own_aside : (objects : List Object) (l : Laid) (off n x : ℕ) (this : Option Fixup) (f : Fixup) → IsInside objects l
     → off + n ≤ length l.object.code → f.kind ≡ 5 → x ≡ place_of l.home f → (f.section ≡ 1) ⊎ (f.section ≡ 2) → IsBeside off n this f
     → IsAside l (l.home.code + off) n this x
-own_aside objects l off n x this f il within five is section beside =
-    let wide : width f.kind ≡ 8 = ap width five in
-    let fits : l.home.code + off + n ≤ l.home.code + length l.object.code = omega (arith, within) in
-    ⊎_elim
-    (λ two. data_aside objects l l (l.home.code + off) n x this f il il fits two is)
-    (λ rest. ⊎_elim
-    (λ a. let place = code_place l f x a.0 is in let to = a.1 in inl (inl (omega (arith, place, to, wide))))
-    (λ more. ⊎_elim
-    (λ a. let place = code_place l f x a.0 is in let from = a.1 in inl (inr (omega (arith, place, from))))
-    (λ own. ⊎_elim
-    (λ one. inr (f, own, five, code_place l f x one is))
-    (λ two. data_aside objects l l (l.home.code + off) n x this f il il fits two is) section) more) rest)
-    beside
+own_aside objects l off n x this f il within five is section (inl two) =
+    data_aside objects l l (l.home.code + off) n x this f il il (omega (arith, within)) two is
+own_aside objects l off n x this f il within five is section (inr (inl a)) =
+    inl (inl (omega (arith, code_place l f x a.0 is, ap width five)))
+own_aside objects l off n x this f il within five is section (inr (inr (inl a))) = inl (inr (omega (arith, code_place l f x a.0 is)))
+own_aside objects l off n x this f il within five is (inl one) (inr (inr (inr own))) = inr (f, own, five, code_place l f x one is)
+own_aside objects l off n x this f il within five is (inr two) (inr (inr (inr own))) =
+    data_aside objects l l (l.home.code + off) n x this f il il (omega (arith, within)) two is
 
 other_aside : (objects : List Object) (l m : Laid) (off n x : ℕ) (this : Option Fixup) (f : Fixup) → IsInside objects l → IsInside objects m
     → off + n ≤ length l.object.code → f.kind ≡ 5 → x ≡ place_of m.home f
     → IsFixup m.object.code m.object.contents (length m.object.symbols) f
     → IsBefore l m ⊎ IsBefore m l → IsAside l (l.home.code + off) n this x
 other_aside objects l m off n x this f il im within five is fix apart =
-    let wide : width f.kind ≡ 8 = ap width five in
     let fits : l.home.code + off + n ≤ l.home.code + length l.object.code = omega (arith, within) in
     ⊎_elim
     (λ one.
     let place = code_place m f x one is in
-    let inside : f.offset + width f.kind ≤ length m.object.code =
-    subst (λ s. f.offset + width f.kind ≤ length (section_bytes m.object.code m.object.contents s)) one fix.within in
+    let inside = subst (λ s. f.offset + width f.kind ≤ length (section_bytes m.object.code m.object.contents s)) one fix.within in
     ⊎_elim
-    (λ before. let c = before.code in inl (inr (omega (arith, place, c, fits))))
-    (λ behind. let c = behind.code in inl (inl (omega (arith, place, c, inside, wide)))) apart)
+    (λ before. inl (inr (omega (arith, place, fits))))
+    (λ behind. inl (inl (omega (arith, place, inside, ap width five)))) apart)
     (λ two. data_aside objects l m (l.home.code + off) n x this f il im fits two is)
     fix.section
 
@@ -220,35 +228,24 @@ pub address_aside : (objects : List Object) (l : Laid) (off n x : ℕ) (this : O
     → IsAddress (laid_objects objects) x → IsAside l (l.home.code + off) n this x
 address_aside objects l off n x this all there within beside (m, f, has, its, five, is) =
     let il = laid_inside objects l there in
-    let im = laid_inside objects m has in
-    let fix : IsFixup m.object.code m.object.contents (length m.object.symbols) f =
-    All-contains (IsFixup m.object.code m.object.contents (length m.object.symbols)) m.object.fixups f
+    let fix = All-contains (IsFixup m.object.code m.object.contents (length m.object.symbols)) m.object.fixups f
     (object_of_laid objects m all has).fixups its in
     ⊎_elim
     (λ same.
     let mine : Contains l.object.fixups f = subst (λ (k : Laid). Contains k.object.fixups f) (sym same) its in
-    let place : x ≡ place_of l.home f = subst (λ (k : Laid). x ≡ place_of k.home f) (sym same) is in
-    own_aside objects l off n x this f il within five place fix.section
+    own_aside objects l off n x this f il within five (subst (λ (k : Laid). x ≡ place_of k.home f) (sym same) is) fix.section
     (All-contains (IsBeside off n this) l.object.fixups f (All-from_recursion (IsBeside off n this) l.object.fixups beside) mine))
-    (λ other. other_aside objects l m off n x this f il im within five is fix other)
+    (λ other. other_aside objects l m off n x this f il (laid_inside objects m has) within five is fix other)
     (laid_apart objects l m there has)
 
 -- ---- the bytes of a line in the image
 
-none_any : (p : Fixup → Bool) (fs : List Fixup) → AllByRecursion (λ f. p f ≡ false) fs → list_any p fs ≡ false
-none_any p [] all = refl
-none_any p (f ∷ fs) all = or_from _ _ all.0 (none_any p fs all.1)
-
 not_filled : (off n k limit : ℕ) (this : Option Fixup) (f : Fixup) → IsBeside off n this f → k < limit → limit ≤ n
     → (this ≡ Some f → off + limit ≤ f.offset) → fills 1 (off + k) f ≡ false
-not_filled off n k limit this f beside low short later = ⊎_elim
-    (λ two. grind (arith, nat_tests, two))
-    (λ rest. ⊎_elim
-    (λ a. let to = a.1 in grind (arith, nat_tests))
-    (λ more. ⊎_elim
-    (λ a. let from = a.1 in grind (arith, nat_tests))
-    (λ own. let from = later own in grind (arith, nat_tests)) more) rest)
-    beside
+not_filled off n k limit this f (inl two) low short later = grind (arith, nat_tests, two)
+not_filled off n k limit this f (inr (inl a)) low short later = grind (arith, nat_tests)
+not_filled off n k limit this f (inr (inr (inl a))) low short later = grind (arith, nat_tests)
+not_filled off n k limit this f (inr (inr (inr own))) low short later = let from = later own in grind (arith, nat_tests)
 
 -- a byte of a line that its fixup doesn't fill in
 pub line_byte : (objects : List Object) (plan : LinkPlan) (image : Image) (l : Laid) (before bytes rest : List ℕ) (limit k : ℕ)
@@ -258,28 +255,20 @@ pub line_byte : (objects : List Object) (plan : LinkPlan) (image : Image) (l : L
     → laid image.sections (l.home.code + length before + k) ≡ get_or bytes k 0
 line_byte objects plan image l before bytes rest limit k this link there code beside low short later =
     let off : ℕ = length before in
-    let a = length-append before (bytes ++ rest) in
-    let b = length-append bytes rest in
     let long = ap length code in
-    let free : list_any (fills 1 (off + k)) l.object.fixups ≡ false =
-    none_any (fills 1 (off + k)) l.object.fixups
+    let free = none_passes (fills 1 (off + k)) l.object.fixups
     (each_of (IsBeside off (length bytes) this) (λ f. fills 1 (off + k) f ≡ false) l.object.fixups
     (λ f h. not_filled off (length bytes) k limit this f h low short (later f)) beside) in
     let here : laid image.sections (l.home.code + (off + k)) ≡ slice_index l.object.code (off + k) =
-    link.code l there (off + k) (omega (arith, long, a, b, low, short)) free in
+    link.code l there (off + k) (omega (arith, long, length-append before (bytes ++ rest), length-append bytes rest, low, short)) free in
     let place : l.home.code + off + k ≡ l.home.code + (off + k) = omega arith in
-    ap (laid image.sections) place ∙ (here ∙ (ap (λ bs. get_or bs (off + k) 0) code
-    ∙ (get_or-append-add before (bytes ++ rest) k 0 ∙ get_or_append_left bytes rest 0 k (omega (arith, low, short)))))
-
-pub aside_free : (l : Laid) (p n k x : ℕ) → k < n → IsAside l p n None x → is_of (p + k) x ≡ false
-aside_free l p n k x low aside = ⊎_elim
-    (λ a. ⊎_elim (λ to. grind (arith, nat_tests)) (λ from. grind (arith, nat_tests)) a)
-    (λ own. let e = own.1 in cc e) aside
+    rw (place, here, code, get_or-append-add before (bytes ++ rest) k 0) (get_or_append_left bytes rest 0 k (omega (arith, low, short)))
 
 -- a relocation beside a line has no byte in front of its number
 pub before_number : (l : Laid) (p off n limit k x : ℕ) (this : Option Fixup) → IsAside l p n this x → p ≡ l.home.code + off → k < limit
     → limit ≤ n
     → ((f : Fixup) → this ≡ Some f → off + limit ≤ f.offset) → is_of (p + k) x ≡ false
-before_number l p off n limit k x this aside at low short later = ⊎_elim
-    (λ a. ⊎_elim (λ to. grind (arith, nat_tests)) (λ from. grind (arith, nat_tests)) a)
-    (λ own. let from = later own.0 own.1 in let place = own.3 in grind (arith, nat_tests)) aside
+before_number l p off n limit k x this (inl (inl to)) at low short later = grind (arith, nat_tests)
+before_number l p off n limit k x this (inl (inr from)) at low short later = grind (arith, nat_tests)
+before_number l p off n limit k x this (inr own) at low short later =
+    let from = later own.0 own.1 in grind (arith, nat_tests)

@@ -1,15 +1,14 @@
 -- No fault of the linker comes of the object of a listing.
 use Rattle.link_laws.proofs.Common.{◌≡◌, ℕ, ◌%◌, ◌<◌, ◌≤◌, List, [], ◌∷◌, ◌++◌, length, map, Some, None, Ok, Bool, true, false, not, cond}
-use Rattle.link_laws.proofs.Common.{◌&&◌, ◌||◌, refl, sym, ap, subst, ◌∙◌, arith, append-nil, bytes_eq, nat_eq, nat_le, nat_lt}
-use Rattle.link_laws.proofs.Common.{if◌then◌else◌, AllByRecursion, filter, find, option_or, and_from, and_parts, or_from, or_parts}
-use Rattle.link_laws.proofs.Common.{nat_tests, list_any-append, is_named, same_name, Fixup, Object, Symbol, Image, LinkPlan, Laid, place_in}
-use Rattle.link_laws.proofs.Common.{places_of, Definition, definition_in, definitions, first_again, first_in, is_definition, names_of}
-use Rattle.link_laws.proofs.Common.{place_of, entry_in, linked_image, links_laid}
+use Rattle.link_laws.proofs.Common.{◌&&◌, refl, sym, ap, subst, ◌∙◌, arith, append-nil, bytes_eq, nat_eq, nat_le, nat_lt, if◌then◌else◌}
+use Rattle.link_laws.proofs.Common.{AllByRecursion, filter, find, option_or, and_from, and_parts, or_from, or_parts, nat_tests}
+use Rattle.link_laws.proofs.Common.{list_any-append, cond_both, cases_Bool, or_cases, ⊎_elim, is_named, same_name, Fixup, Object, Symbol}
+use Rattle.link_laws.proofs.Common.{Image, LinkPlan, Laid, place_in, places_of, Definition, definition_in, definitions, first_again}
+use Rattle.link_laws.proofs.Common.{first_in, is_definition, names_of, place_of, entry_in, linked_image, links_laid, other_way, Apart}
+use Rattle.link_laws.proofs.Common.{is_undefined, undefined_in, far_in, is_near, is_entry}
 use Rattle.std.specs.Option.{option_map}
-use Rattle.ebc_asm.proofs.{PlaceLaws.other_way, StateLaws.Apart}
 use Rattle.pe_image.specs.Conditions.{most}
-use Rattle.link_laws.proofs.Lists.{all_map, all_of, each_of, find_none}
-use Rattle.ebc_link.specs.{Symbols.is_undefined, Symbols.undefined_in, Fixups.far_in, Fixups.is_near, Links.is_entry}
+use Rattle.link_laws.proofs.Lists.{all_kept, all_map, all_of, each_of, fails_of, find_none, none_passes}
 
 -- ---- searches
 
@@ -18,37 +17,24 @@ pub find_named : (p : Symbol → Bool) (f : List ℕ → Symbol) (n : List ℕ) 
     → ((m : List ℕ) → p (f m) ≡ true → m ≡ n) → find p (map f ns) ≡ Some (f n)
 find_named p f n [] there passes only = cc there
 find_named p f n (m ∷ ms) there passes only =
-    first (p (f m)) (bytes_eq n m) refl refl there (λ h. find_named p f n ms h passes only)
-  where
-    first : (a b : Bool) → p (f m) ≡ a → bytes_eq n m ≡ b → (b || is_named n ms) ≡ true
-        → (is_named n ms ≡ true → find p (map f ms) ≡ Some (f n)) → cond a (Some (f m)) (find p (map f ms)) ≡ Some (f n)
-    first true b e g h later = ap (λ k. Some (f k)) (only m e)
-    first false true e g h later =
-        let same : n ≡ m = same_name n m g in
-        let yes : p (f m) ≡ true = subst (λ k. p (f k) ≡ true) same passes in
-        cc (sym e ∙ yes)
-    first false false e g h later = later h
+    ⊎_elim (λ yes. rw yes (ap (λ k. Some (f k)) (only m yes)))
+    (λ no. rw no (⊎_elim
+    (λ e. let yes : p (f m) ≡ true = subst (λ k. p (f k) ≡ true) (same_name n m e) passes in cc (sym no ∙ yes))
+    (λ later. find_named p f n ms later passes only) (or_cases (bytes_eq n m) _ there)))
+    (cases_Bool (p (f m)))
 
 -- ---- a name that is defined twice
 
 not_in_filter : (p : List ℕ → Bool) (n : List ℕ) (ns : List (List ℕ)) → is_named n ns ≡ false → is_named n (filter p ns) ≡ false
-not_in_filter p n [] h = refl
-not_in_filter p n (m ∷ ns) h =
-    let parts = or_parts (bytes_eq n m) (is_named n ns) h in
-    first (p m) parts.0 (not_in_filter p n ns parts.1)
-  where
-    first : (b : Bool) → bytes_eq n m ≡ false → is_named n (filter p ns) ≡ false
-        → is_named n (cond b (m ∷ filter p ns) (filter p ns)) ≡ false
-    first true e later = or_from _ _ e later
-    first false e later = later
+not_in_filter p n ns h =
+    none_passes (bytes_eq n) (filter p ns) (all_kept p (λ m. bytes_eq n m ≡ false) ns
+    (each_of (λ m. bytes_eq n m ≡ false) (λ m. p m ≡ true → bytes_eq n m ≡ false) ns (λ m e passes. e) (fails_of (bytes_eq n) ns h)))
 
 pub apart_filter : (p : List ℕ → Bool) (ns : List (List ℕ)) → Apart ns → Apart (filter p ns)
 apart_filter p [] h = tt
-apart_filter p (n ∷ ns) h = first (p n) (not_in_filter p n ns h.0) (apart_filter p ns h.1)
-  where
-    first : (b : Bool) → is_named n (filter p ns) ≡ false → Apart (filter p ns) → Apart (cond b (n ∷ filter p ns) (filter p ns))
-    first true new later = (new, later)
-    first false new later = later
+apart_filter p (n ∷ ns) h =
+    let rest : Apart (filter p ns) = apart_filter p ns h.1 in
+    cond_both (p n) (n ∷ filter p ns) (filter p ns) Apart (λ e. (not_in_filter p n ns h.0, rest)) (λ e. rest)
 
 -- names that aren't among others aren't among these and one more
 more_before : (n : List ℕ) (before ns : List (List ℕ)) → AllByRecursion (λ m. is_named m before ≡ false) ns → is_named n ns ≡ false
@@ -87,8 +73,7 @@ pub sole_twice : (o : Object) (h : Laid) (f : List ℕ → Symbol) (ns : List (L
 unfolding definitions
 sole_twice o h f ns symbols same apart =
     let kept : List (List ℕ) = filter (λ n. is_definition (f n)) ns in
-    let names : names_of (map (definition_in h.home) (filter is_definition o.symbols) ++ []) ≡ kept =
-    ap names_of (append-nil (map (definition_in h.home) (filter is_definition o.symbols)))
+    let names = ap names_of (append-nil (map (definition_in h.home) (filter is_definition o.symbols)))
     ∙ (ap (λ ss. names_of (map (definition_in h.home) (filter is_definition ss))) symbols ∙ defined_names h f ns same) in
     ap (first_again []) names ∙ none_again [] kept (apart_filter (λ n. is_definition (f n)) ns apart) (all_of
     (λ m. is_named m [] ≡ false) kept (λ m. refl))
@@ -97,28 +82,21 @@ pub sole_undefined : (ds : List Definition) (o : Object) (h : Laid) (f : List �
     → AllByRecursion (λ n. nat_eq (f n).kind 0 ≡ false) ns → first_in (undefined_in ds) (record { object = o; home = h.home } ∷ []) ≡ None
 unfolding first_in
 sole_undefined ds o h f ns symbols placed =
-    let none : find (is_undefined ds) (map f ns) ≡ None =
-    find_none (is_undefined ds) (map f ns) (all_map (λ s. is_undefined ds s ≡ false) f ns (each ns placed)) in
-    let found : find (is_undefined ds) o.symbols ≡ None = ap (find (is_undefined ds)) symbols ∙ none in
-    ap (λ x. option_or (option_map (λ (s : Symbol). s.name) x) None) found
+    let none = find_none (is_undefined ds) (map f ns) (all_map (λ s. is_undefined ds s ≡ false) f ns (each ns placed)) in
+    ap (λ x. option_or (option_map (λ (s : Symbol). s.name) x) None) (ap (find (is_undefined ds)) symbols ∙ none)
   where
     each : (ms : List (List ℕ)) → AllByRecursion (λ n. nat_eq (f n).kind 0 ≡ false) ms
         → AllByRecursion (λ n. is_undefined ds (f n) ≡ false) ms
     each [] all = tt
     each (m ∷ ms) all = (ap (λ b. b && not (is_named (f m).name (names_of ds))) all.0, each ms all.1)
 
-near_address : (places : List ℕ) (l : Laid) (f : Fixup) → f.kind ≡ 5 → not (is_near places l.home f) ≡ false
-unfolding is_near
-near_address places l f five = rw five refl
-
 pub sole_far : (ds : List Definition) (l : Laid) → AllByRecursion (λ (f : Fixup). f.kind ≡ 5) l.object.fixups
     → first_in (far_in ds) (l ∷ []) ≡ None
-unfolding first_in
+unfolding first_in is_near
 sole_far ds l five =
-    let none : find (λ (f : Fixup). not (is_near (places_of ds l) l.home f)) l.object.fixups ≡ None =
-    find_none (λ (f : Fixup). not (is_near (places_of ds l) l.home f)) l.object.fixups
+    let none = find_none (λ (f : Fixup). not (is_near (places_of ds l) l.home f)) l.object.fixups
     (each_of (λ (f : Fixup). f.kind ≡ 5) (λ (f : Fixup). not (is_near (places_of ds l) l.home f) ≡ false) l.object.fixups
-    (λ f kind. near_address (places_of ds l) l f kind) five) in
+    (λ f kind. rw kind refl) five) in
     ap (λ x. option_or (option_map (place_of l.home) x) None) none
 
 -- What is asked of the symbol of the entry.
@@ -131,8 +109,6 @@ pub record IsEntrySymbol (o : Object) (s : Symbol) : Type 0 where
 entry_passes : (o : Object) (s : Symbol) → IsEntrySymbol o s → bytes_eq s.name s.name ≡ true
     → is_entry s.name (length o.code) s ≡ true
 entry_passes o s is same =
-    let even = is.even in
-    let within = is.within in
     let a : nat_eq (s.offset % 2) 0 ≡ true = grind (arith, nat_tests) in
     let b : nat_lt s.offset (length o.code) ≡ true = grind (arith, nat_tests) in
     rw (is.global, is.kind, same) (and_from _ _ a b)
@@ -143,11 +119,9 @@ pub sole_entry : (l : Laid) (f : List ℕ → Symbol) (name : List ℕ) (ns : Li
 unfolding first_in
 sole_entry l f name ns symbols named there same is =
     let size : ℕ = length l.object.code in
-    let passes : is_entry name size (f name) ≡ true =
-    subst (λ n. is_entry n size (f name) ≡ true) (named name)
+    let passes = subst (λ n. is_entry n size (f name) ≡ true) (named name)
     (entry_passes l.object (f name) is (subst (λ n. bytes_eq n n ≡ true) (sym (named name)) same)) in
-    let found : find (is_entry name size) l.object.symbols ≡ Some (f name) =
-    ap (find (is_entry name size)) symbols ∙ find_named (is_entry name size) f name ns there passes only in
+    let found = ap (find (is_entry name size)) symbols ∙ find_named (is_entry name size) f name ns there passes only in
     ap (λ x. option_or (option_map (λ (s : Symbol). place_in l.home 1 s.offset) x) None) found
   where
     only : (m : List ℕ) → is_entry name (length l.object.code) (f m) ≡ true → m ≡ name

@@ -1,16 +1,78 @@
 -- The fixups of a section are filled in with the numbers that the image has there.
-use Rattle.link_laws.proofs.Common.{◌≡◌, ◌⊎◌, ⊎_elim, ℕ, ◌+◌, ◌-◌, ◌%◌, ◌^◌, ◌<◌, ◌≤◌, List, [], ◌∷◌, length, map, take, drop, Bool, true}
-use Rattle.link_laws.proofs.Common.{false, not, cond, ◌&&◌, refl, sym, ap, subst, ◌∙◌, arith, nat_eq, nat_le, nat_lt, slice_index}
-use Rattle.link_laws.proofs.Common.{if◌then◌else◌, w64, to_le_bytes, AllByRecursion, filter, list_all, and_from, and_parts, nat_tests}
-use Rattle.link_laws.proofs.Common.{is_named, name_number, little_endian, distance_of, little_endian-below, IsBytes, Fixup, Symbol, Line}
-use Rattle.link_laws.proofs.Common.{label_text, names_with, section_kind, start, symbol_of, is_of, laid, named_place, Image, Laid, place_in}
-use Rattle.link_laws.proofs.Common.{Definition, places_of, get_name, bytes_for, with_fixups}
-use Rattle.ebc_width.proofs.ByteLaws.{little_endian-moved}
+use Rattle.link_laws.proofs.Common.{◌≡◌, ◌⊎◌, ⊎_elim, inl, inr, ℕ, ◌+◌, ◌-◌, ◌<◌, ◌≤◌, Bool, true, false, ◌&&◌, List, [], ◌∷◌, length}
+use Rattle.link_laws.proofs.Common.{get_or, take, drop, refl, sym, ap, ◌∙◌, arith, length-drop, length-take-le, nat_le, nat_lt, nat_tests}
+use Rattle.link_laws.proofs.Common.{AllByRecursion, cases_lt, ext_get_or, get_or-drop, get_or-take, Fixup, with_fixups, ◌%◌, ◌^◌, map, not}
+use Rattle.link_laws.proofs.Common.{cond, subst, nat_eq, slice_index, if◌then◌else◌, w64, to_le_bytes, filter, cases_Bool, is_named}
+use Rattle.link_laws.proofs.Common.{name_number, little_endian, distance_of, little_endian-below, IsBytes, Symbol, Line, label_text}
+use Rattle.link_laws.proofs.Common.{names_with, section_kind, start, symbol_of, is_of, laid, named_place, Image, Laid, place_in, Definition}
+use Rattle.link_laws.proofs.Common.{places_of, get_name, bytes_for, put_at, target_of, value_of, defined_place, symbol_place, put_before}
+use Rattle.link_laws.proofs.Common.{put_behind, put_inside, put_length, little_endian-moved}
 use Rattle.ebc_asm.specs.Symbols.{place_of}
-use Rattle.ebc_link.specs.{Symbols.defined_place, Symbols.symbol_place, Fixups.target_of, Fixups.value_of}
-use Rattle.link_laws.proofs.OneObject.{Restore, if_free, is_free, is_in, restored}
-use Rattle.link_laws.proofs.{SectionLaws.Agree, FixupWalk.in_range, Lists.all_kept, Lists.map_twice, Objects.reloc_fixup}
-use Rattle.link_laws.proofs.{Relocs.number_bytes, Standing.IsPlaced}
+use Rattle.link_laws.proofs.{SectionLaws.Agree, FixupWalk.in_range, Lists.all_kept, Lists.all_pass, Lists.each_of, Lists.each_of_both}
+use Rattle.link_laws.proofs.{Lists.map_twice, Objects.reloc_fixup, Relocs.number_bytes, Standing.IsPlaced}
+
+-- ---- one object gets the places that its listing had: its bytes with zeros at some numbers are filled in with these numbers again
+
+-- ---- bytes filled in
+
+-- Each fixup fills in eight bytes that a whole has there.
+abbrev pub Restore : (Fixup → List ℕ) → List ℕ → List Fixup → Type 0
+Restore over whole [] = Unit {0}
+Restore over whole (f ∷ fs) = (over f ≡ take 8 (drop f.offset whole)) × (f.offset + 8 ≤ length whole) × Restore over whole fs
+
+-- whether a place is one of the eight of a fixup
+abbrev pub is_in : ℕ → Fixup → Bool
+is_in i f = nat_le f.offset i && nat_lt i (f.offset + 8)
+
+-- A place is none of those of fixups.
+abbrev pub IsFree : ℕ → List Fixup → Type 0
+IsFree i fs = AllByRecursion (λ f. is_in i f ≡ false) fs
+
+-- Bytes are those of a whole but where fixups are to fill in.
+abbrev pub AgreesBut : List ℕ → List Fixup → List ℕ → Type 0
+AgreesBut whole fs bytes = (length bytes ≡ length whole) × ((i : ℕ) → i < length whole → IsFree i fs
+    → get_or bytes i 0 ≡ get_or whole i 0)
+
+-- what is at a place once eight bytes of the whole are put
+put_agrees : (whole bytes over : List ℕ) (at i : ℕ) → length bytes ≡ length whole → over ≡ take 8 (drop at whole) → at + 8 ≤ length whole
+    → i < length whole →
+    ((i < at) ⊎ (at + 8 ≤ i) → get_or bytes i 0 ≡ get_or whole i 0) → get_or (put_at bytes at over) i 0 ≡ get_or whole i 0
+put_agrees whole bytes over at i long is within low else_same =
+    let eight : length over ≡ 8 = ap length is ∙ length-take-le 8 (drop at whole) (omega (arith, length-drop at whole, within)) in
+    ⊎_elim
+    (λ before. put_before bytes at over i (omega (arith, eight, long, within)) before ∙ else_same (inl before))
+    (λ after. ⊎_elim
+    (λ inside.
+    let j : ℕ = i - at in
+    let here : at + j ≡ i = omega (arith, after) in
+    let put : get_or (put_at bytes at over) (at + j) 0 ≡ get_or over j 0 = put_inside bytes at over j (omega
+    (arith, eight, long, within)) (omega (arith, eight, inside, after)) in
+    let from : get_or over j 0 ≡ get_or whole (at + j) 0 = ap (λ xs. get_or xs j 0) is
+    ∙ (get_or-take 8 (drop at whole) j 0 (omega (arith, inside, after)) ∙ get_or-drop at whole j 0) in
+    ap (λ n. get_or (put_at bytes at over) n 0) (sym here) ∙ (put ∙ (from ∙ ap (λ n. get_or whole n 0) here)))
+    (λ behind. put_behind bytes at over i (omega (arith, eight, long, within)) (omega (arith, eight, behind)) ∙ else_same (inr behind))
+    (cases_lt i (at + 8)))
+    (cases_lt i at)
+
+outside : (i : ℕ) (f : Fixup) → (i < f.offset) ⊎ (f.offset + 8 ≤ i) → is_in i f ≡ false
+outside i f (inl low) = grind (arith, nat_tests)
+outside i f (inr high) = grind (arith, nat_tests)
+
+-- Bytes of a whole with anything at the places of fixups, which fill in what the whole has there, become the whole.
+pub restored : (over : Fixup → List ℕ) (whole : List ℕ) (fs : List Fixup) (bytes : List ℕ) → Restore over whole fs
+    → AgreesBut whole fs bytes → with_fixups over bytes fs ≡ whole
+unfolding with_fixups
+restored over whole [] bytes restore agrees = ext_get_or 0 bytes whole agrees.0 (λ i low. agrees.1 i (omega (arith, low, agrees.0)) tt)
+restored over whole (f ∷ fs) bytes restore agrees =
+    let rest = length-drop f.offset whole in
+    let eight : length (over f) ≡ 8 = ap length restore.0 ∙ length-take-le 8 (drop f.offset whole) (omega (arith, rest, restore.1)) in
+    let long : length (put_at bytes f.offset (over f)) ≡ length whole = put_length bytes f.offset (over f) (omega
+    (arith, eight, agrees.0, restore.1)) ∙ agrees.0 in
+    restored over whole fs (put_at bytes f.offset (over f)) restore.2 (
+      long,
+      λ i low free. put_agrees whole bytes (over f) f.offset i agrees.0 restore.0 restore.1 low (λ apart. agrees.1 i low
+          (outside i f apart, free)),
+    )
 
 -- ---- where a symbol stands once its object does
 
@@ -48,25 +110,14 @@ target_is ds l ls f y symbols number st =
     let ns : List (List ℕ) = names_with [] ls in
     let place : Symbol → ℕ = symbol_place ds l.home in
     let s : Symbol = symbol_of ls (label_text y) in
-    ap (λ ss. slice_index (map place ss) f.symbol) symbols
-    ∙ (ap (λ n. slice_index (map place (map (symbol_of ls) ns)) n) number
-    ∙ (ap (λ ps. slice_index ps (name_number (label_text y) ns)) (map_twice place (symbol_of ls) ns)
-    ∙ (get_name (λ n. place (symbol_of ls n)) 0 (label_text y) ns st.known
-    ∙ (ap (λ b. if b then defined_place ds s.name else place_in l.home s.kind s.offset) st.there ∙ st.place))))
-
--- the address is the number that was there
-address_is : (n base t : ℕ) → n < 2 ^ 64 → base < 2 ^ 32 → t ≡ distance_of n base → t < 2 ^ 32 → base + t ≡ n
-address_is n base t low small is few = omega (arith, low, small, is, few)
-
-number_below : (f : ℕ → ℕ) (r : ℕ) → ((x : ℕ) → f x < 256) → little_endian f r 8 < 2 ^ 64
-number_below f r each = let below : little_endian f r 8 < 256 ^ 8 = little_endian-below f r 8 each in omega (arith, below)
+    rw (symbols, number, map_twice place (symbol_of ls) ns, get_name (λ n. place (symbol_of ls n)) 0 (label_text y) ns st.known)
+    (ap (λ b. if b then defined_place ds s.name else place_in l.home s.kind s.offset) st.there ∙ st.place)
 
 pub bytes_are : (base : ℕ) (places : List ℕ) (l : Laid) (f : Fixup) (n t : ℕ) → f.kind ≡ 5 → target_of places f ≡ t → base + t ≡ n
     → n < 2 ^ 64 → bytes_for base places l.home f ≡ to_le_bytes w64 n
 unfolding bytes_for value_of
 bytes_are base places l f n t five target is low =
-    let whole : (base + target_of places f) % 2 ^ 64 ≡ n = ap (λ m. (base + m) % 2 ^ 64) target ∙ omega (arith, is, low) in
-    rw five (ap (λ m. take 8 (to_le_bytes w64 m)) whole)
+    rw five (ap (λ m. take 8 (to_le_bytes w64 m)) (ap (λ m. (base + m) % 2 ^ 64) target ∙ omega (arith, is, low)))
 
 -- ---- one section of an object
 
@@ -89,47 +140,20 @@ pub record IsSection (image : Image) (ls : List Line) (h : Laid) (s : ℕ) (byte
 abbrev IsBack : (Fixup → List ℕ) → (ℕ → Fixup) → ℕ → List ℕ → ℕ → Type 0
 IsBack over fix s bytes r = (over (fix r) ≡ take 8 (drop (r - s) bytes)) × (r - s + 8 ≤ length bytes)
 
-named_is : (image : Image) (r : ℕ) → named_place image r ≡ distance_of (little_endian (laid image.sections) r 8) image.base
-unfolding named_place
-named_is image r = refl
-
-back_of : (image : Image) (ls : List Line) (h : Laid) (d : Bool) (s base : ℕ) (bytes out : List ℕ) (ds : List Definition)
-    (r : ℕ)
-    → IsSection image ls h s bytes out → h.object.symbols ≡ map (symbol_of ls) (names_with [] ls) → base ≡ image.base → base < 2 ^ 32
-    → ((x : ℕ) → laid image.sections x < 256) → IsReloc image ls h s (length bytes) r → in_range s (length bytes) r ≡ true
-    → IsBack (bytes_for base (places_of ds h) h.home) (reloc_fixup image d s (names_with [] ls)) s bytes r
-back_of image ls h d s base bytes out ds r sec symbols same small are_bytes is there =
-    let f : Fixup = reloc_fixup image d s (names_with [] ls) r in
-    let n : ℕ = little_endian (laid image.sections) r 8 in
-    let p = and_parts (nat_le s r) (nat_lt r (s + length bytes)) there in
-    let first = p.0 in
-    let from : s ≤ r = grind (arith, nat_tests) in
-    let within : r + 8 ≤ s + length bytes = is.whole there in
-    let named_ : named_place image r ≡ distance_of n base = named_is image r ∙ ap (distance_of n) (sym same) in
-    let low : n < 2 ^ 64 = number_below (laid image.sections) r are_bytes in
-    let address : base + named_place image r ≡ n = address_is n base (named_place image r) low small named_ is.low in
-    let target : target_of (places_of ds h) f ≡ named_place image r = target_is ds h ls f (named_place image r) symbols refl is.target in
-    let moved : n ≡ little_endian (slice_index bytes) (r - s) 8 =
-    little_endian-moved (laid image.sections) (slice_index bytes) r (r - s) 8 (λ i few.
-    let at : s + (r - s + i) ≡ r + i = omega (arith, from) in
-    ap (laid image.sections) (sym at) ∙ sec.here (r - s + i) (omega (arith, few, from, within))) in
-    let room : r - s + 8 ≤ length bytes = omega (arith, from, within) in (
-      bytes_are base (places_of ds h) h f n (named_place image r) refl target address low
-          ∙ (ap (to_le_bytes w64) moved ∙ number_bytes bytes (r - s) sec.each room),
-      room,
-    )
-
-each_back : (image : Image) (ls : List Line) (h : Laid) (d : Bool) (s base : ℕ) (bytes out : List ℕ) (ds : List Definition)
-    (rs : List ℕ) → IsSection image ls h s bytes out → h.object.symbols ≡ map (symbol_of ls) (names_with [] ls)
-    → base ≡ image.base → base < 2 ^ 32
-    → ((x : ℕ) → laid image.sections x < 256) → AllByRecursion (IsReloc image ls h s (length bytes)) rs
-    → AllByRecursion (λ r. in_range s (length bytes) r ≡ true
-    → IsBack (bytes_for base (places_of ds h) h.home) (reloc_fixup image d s (names_with [] ls)) s bytes r) rs
-each_back image ls h d s base bytes out ds [] sec symbols same small are_bytes all = tt
-each_back image ls h d s base bytes out ds (r ∷ rs) sec symbols same small are_bytes all = (
-  back_of image ls h d s base bytes out ds r sec symbols same small are_bytes all.0,
-  each_back image ls h d s base bytes out ds rs sec symbols same small are_bytes all.1,
-)
+-- what holds of the images of those that pass
+kept_back : (p : ℕ → Bool) (Q : Fixup → Type 0) (f : ℕ → Fixup) (rs : List ℕ) → AllByRecursion Q (map f (filter p rs))
+    → AllByRecursion (λ r. p r ≡ true → Q (f r)) rs
+kept_back p Q f [] all = tt
+kept_back p Q f (r ∷ rs) all =
+    ⊎_elim
+    (λ yes.
+    let here = subst (λ b. AllByRecursion Q (map f (cond b (r ∷ filter p rs) (filter p rs)))) yes all in
+    (λ e. here.0, kept_back p Q f rs here.1))
+    (λ no. (
+      λ e. cc (sym no ∙ e),
+      kept_back p Q f rs (subst (λ b. AllByRecursion Q (map f (cond b (r ∷ filter p rs) (filter p rs)))) no all),
+    ))
+    (cases_Bool (p r))
 
 restore_all : (over : Fixup → List ℕ) (fix : ℕ → Fixup) (s : ℕ) (bytes : List ℕ) (rs : List ℕ) → ((r : ℕ) → (fix r).offset ≡ r - s)
     → AllByRecursion (IsBack over fix s bytes) rs → Restore over bytes (map fix rs)
@@ -140,47 +164,54 @@ restore_all over fix s bytes (r ∷ rs) at all = (
   restore_all over fix s bytes rs at all.1,
 )
 
-if_free_parts : (a b : Bool) → if_free a b ≡ true → (a ≡ false) × (b ≡ true)
-if_free_parts true b h = cc h
-if_free_parts false b h = (refl, h)
+module _ (image : Image) (ls : List Line) (h : Laid) (d : Bool) (s base : ℕ) (bytes out : List ℕ) (ds : List Definition)
+    (sec : IsSection image ls h s bytes out) (symbols : h.object.symbols ≡ map (symbol_of ls) (names_with [] ls)) (same : base ≡ image.base)
+    (small : base < 2 ^ 32) (are_bytes : (x : ℕ) → laid image.sections x < 256) where
+  abbrev over : Fixup → List ℕ
+  over = bytes_for base (places_of ds h) h.home
 
-not_of : (s i r : ℕ) → s ≤ r → (nat_le (r - s) i && nat_lt i (r - s + 8)) ≡ false → not (is_of (s + i) r) ≡ true
-not_of s i r from out = grind (arith, nat_tests)
+  abbrev fix : ℕ → Fixup
+  fix = reloc_fixup image d s (names_with [] ls)
 
--- a byte that no fixup of the section has is one that no relocation has
-free_place : (image : Image) (ls : List Line) (h : Laid) (fix : ℕ → Fixup) (s n i : ℕ) (rs : List ℕ) → ((r : ℕ) → (fix r).offset ≡ r - s)
-    → i < n
-    → AllByRecursion (IsReloc image ls h s n) rs → is_free i (map fix (filter (in_range s n) rs)) ≡ true
-    → list_all (λ r. not (is_of (s + i) r)) rs ≡ true
-free_place image ls h fix s n i [] at low all free = refl
-free_place image ls h fix s n i (r ∷ rs) at low all free =
-    first (in_range s n r) refl free (λ k. free_place image ls h fix s n i rs at low all.1 k)
-  where
-    first : (b : Bool) → in_range s n r ≡ b → is_free i (map fix (cond b (r ∷ filter (in_range s n) rs) (filter (in_range s n) rs))) ≡ true
-        → (is_free i (map fix (filter (in_range s n) rs)) ≡ true → list_all (λ r. not (is_of (s + i) r)) rs ≡ true)
-        → list_all (λ r. not (is_of (s + i) r)) (r ∷ rs) ≡ true
-    first true e k later =
-        let p = if_free_parts (is_in i (fix r)) (is_free i (map fix (filter (in_range s n) rs))) k in
-        let q = and_parts (nat_le s r) (nat_lt r (s + n)) e in
-        let low_ = q.0 in
-        let from : s ≤ r = grind (arith, nat_tests) in
-        let out : (nat_le (r - s) i && nat_lt i (r - s + 8)) ≡ false = subst (λ m. (nat_le m i && nat_lt i (m + 8)) ≡ false) (at r) p.0 in
-        and_from _ _ (not_of s i r from out) (later p.1)
-    first false e k later = ⊎_elim (λ yes. cc (sym e ∙ yes)) (λ none. and_from _ _ (ap not (none i low)) (later k)) all.0.apart
+  back_of : (r : ℕ) → IsReloc image ls h s (length bytes) r → in_range s (length bytes) r ≡ true → IsBack over fix s bytes r
+  unfolding named_place
+  back_of r is there =
+      let n : ℕ = little_endian (laid image.sections) r 8 in
+      let from : s ≤ r = grind (arith, nat_tests) in
+      let within : r + 8 ≤ s + length bytes = is.whole there in
+      let named_ : named_place image r ≡ distance_of n base = ap (distance_of n) (sym same) in
+      let low : n < 2 ^ 64 = omega (arith, little_endian-below (laid image.sections) r 8 are_bytes) in
+      let address : base + named_place image r ≡ n = omega (arith, low, small, named_, is.low) in
+      let moved = little_endian-moved (laid image.sections) (slice_index bytes) r (r - s) 8 (λ i few.
+      let at : s + (r - s + i) ≡ r + i = omega (arith, from) in
+      ap (laid image.sections) (sym at) ∙ sec.here (r - s + i) (omega (arith, few, from, within))) in
+      let room : r - s + 8 ≤ length bytes = omega (arith, from, within) in (
+        bytes_are base (places_of ds h) h (fix r) n (named_place image r) refl
+            (target_is ds h ls (fix r) (named_place image r) symbols refl is.target) address low
+            ∙ (ap (to_le_bytes w64) moved ∙ number_bytes bytes (r - s) sec.each room),
+        room,
+      )
 
--- The fixups of a section fill in what the image has there.
-pub section_again : (image : Image) (ls : List Line) (h : Laid) (d : Bool) (s base : ℕ) (bytes out : List ℕ) (ds : List Definition)
-    → IsSection image ls h s bytes out → h.object.symbols ≡ map (symbol_of ls) (names_with [] ls) → base ≡ image.base → base < 2 ^ 32
-    → ((x : ℕ) → laid image.sections x < 256)
-    → with_fixups (bytes_for base (places_of ds h) h.home) out
-    (map (reloc_fixup image d s (names_with [] ls)) (filter (in_range s (length bytes)) image.relocs)) ≡ bytes
-section_again image ls h d s base bytes out ds sec symbols same small are_bytes =
-    let over : Fixup → List ℕ = bytes_for base (places_of ds h) h.home in
-    let fix : ℕ → Fixup = reloc_fixup image d s (names_with [] ls) in
-    let n : ℕ = length bytes in
-    let rs : List ℕ = filter (in_range s n) image.relocs in
-    restored over bytes (map fix rs) out
-    (restore_all over fix s bytes rs (λ r. refl)
-    (all_kept (in_range s n) (IsBack over fix s bytes) image.relocs
-    (each_back image ls h d s base bytes out ds image.relocs sec symbols same small are_bytes sec.relocs)))
-    (sec.agree.long, λ i low free. sec.agree.same i low (free_place image ls h fix s n i image.relocs (λ r. refl) low sec.relocs free))
+  -- a relocation has no byte that no fixup of the section has
+  free_of : (i r : ℕ) → i < length bytes → IsReloc image ls h s (length bytes) r
+      → (in_range s (length bytes) r ≡ true → is_in i (fix r) ≡ false) → not (is_of (s + i) r) ≡ true
+  free_of i r low is out =
+      ⊎_elim
+      (λ yes. let apart : (nat_le (r - s) i && nat_lt i (r - s + 8)) ≡ false = out yes in grind (arith, nat_tests))
+      (λ none. ap not (none i low)) is.apart
+
+  -- The fixups of a section fill in what the image has there.
+  pub section_again : with_fixups over out (map fix (filter (in_range s (length bytes)) image.relocs)) ≡ bytes
+  section_again =
+      let p : ℕ → Bool = in_range s (length bytes) in
+      let rs : List ℕ = filter p image.relocs in
+      restored over bytes (map fix rs) out
+      (restore_all over fix s bytes rs (λ r. refl)
+      (all_kept p (IsBack over fix s bytes) image.relocs
+      (each_of (IsReloc image ls h s (length bytes)) (λ r. p r ≡ true → IsBack over fix s bytes r) image.relocs back_of sec.relocs))) (
+        sec.agree.long,
+        λ i low free. sec.agree.same i low (all_pass (λ r. not (is_of (s + i) r)) image.relocs
+            (each_of_both (IsReloc image ls h s (length bytes)) (λ r. p r ≡ true → is_in i (fix r) ≡ false)
+            (λ r. not (is_of (s + i) r) ≡ true) image.relocs (λ r is out. free_of i r low is out) sec.relocs
+            (kept_back p (λ f. is_in i f ≡ false) fix image.relocs free))),
+      )

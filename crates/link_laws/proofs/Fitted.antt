@@ -1,17 +1,12 @@
 -- An instruction of a line that is read has a spelling, and its name, if any, stands where one may.
 use Rattle.link_laws.proofs.Common.{◌≡◌, inl, inr, ℕ, List, [], ◌∷◌, Option, Some, None, Result, Ok, Err, Bool, true, false, refl, subst}
-use Rattle.link_laws.proofs.Common.{cond, option_map, if◌then◌else◌, ◌==◌, ◌&&◌, codes, bytes_eq, ◌>>=◌, Insn, Size, AsmFault, InsnFits}
-use Rattle.link_laws.proofs.Common.{Line}
-use Rattle.std.specs.Prelude.{⊤, IfOk, option_and_then}
-use Rattle.ebc_base.specs.{Steps.or_else, Names.is_name}
-use Rattle.asm_text.specs.declared.{form.Form.Form, directive.Directive.Directive}
-use Rattle.asm_text.specs.Mnemonics.{FormFits, arith_of, bits_at, call_end, call_form, cmp_of, compare_form, compare_imm_form, cond_of}
-use Rattle.asm_text.specs.Mnemonics.{form_of, jump_end, jump_form, long_at, move_form, move_imm_form, move_imm_letters, move_letters}
-use Rattle.asm_text.specs.Mnemonics.{other_form, relative_letter, signed_form, size_at, stem_form, stem_of, wide_of}
-use Rattle.asm_text.specs.Statements.{Statement, directed, directive_of, instruction, name, starts_point, statement_of}
-use Rattle.asm_text.specs.Splits.{trim, trim_front, until, without_comment, is_empty, word_part}
-use Rattle.asm_text.specs.{Faults.both, Instructions.insn_in, Instructions.insn_of, Lines.line_in, Lines.parted, Lines.statement_in}
-use Rattle.asm_text.proofs.Fitting.{any_ok, insn_fits, kept_both, kept_made}
+use Rattle.link_laws.proofs.Common.{cond, option_map, if◌then◌else◌, ◌==◌, ◌&&◌, ◌>>=◌, Insn, Size, AsmFault, InsnFits, Line, ⊤, IfOk}
+use Rattle.link_laws.proofs.Common.{or_else, is_name, Form, Directive, FormFits, bits_at, call_form, compare_form, compare_imm_form}
+use Rattle.link_laws.proofs.Common.{form_of, jump_end, jump_form, move_form, move_imm_form, move_imm_letters, move_letters, other_form}
+use Rattle.link_laws.proofs.Common.{relative_letter, signed_form, stem_form, stem_of, Statement, directed, directive_of, instruction, name}
+use Rattle.link_laws.proofs.Common.{starts_point, statement_of, trim, trim_front, until, without_comment, is_empty, word_part, both}
+use Rattle.link_laws.proofs.Common.{insn_in, insn_of, line_in, parted, statement_in, any_ok, insn_fits, kept_both, kept_made}
+use Rattle.std.specs.Prelude.{option_and_then}
 use Rattle.ebc_insn.specs.declared.Size.TheVariants as sizes
 use Rattle.asm_text.specs.declared.form.Form.TheVariants as forms
 use Rattle.asm_text.specs.declared.directive.Directive.TheVariants as directives
@@ -55,15 +50,13 @@ move_imm_fits sizes.Natural b = bits_fits b (λ bits. move_imm_form sizes.Natura
 move_imm_fits size b = bits_fits b (λ bits. move_imm_form size bits) (inl refl, tt) (inr (inl refl), tt) (inr (inr refl), tt)
 
 letters_fit : (s : List ℕ) → FitsForm (move_letters s)
-letters_fit (s ∷ w ∷ []) = then_fits (λ size. option_and_then (λ bits. move_form size bits) (bits_at w)) (size_at s)
-    (λ size. move_fits size w)
+letters_fit (s ∷ w ∷ []) = search (then_fits, move_fits)
 letters_fit (s ∷ n ∷ w ∷ []) = if_fits (s == 115 && n == 110) (option_and_then signed_form (bits_at w)) None
     (bits_fits w signed_form (inl refl) (inr refl) tt) tt
 letters_fit xs = tt
 
 imm_letters_fit : (s : List ℕ) → FitsForm (move_imm_letters s)
-imm_letters_fit (s ∷ w ∷ []) =
-    then_fits (λ size. option_and_then (λ bits. move_imm_form size bits) (bits_at w)) (size_at s) (λ size. move_imm_fits size w)
+imm_letters_fit (s ∷ w ∷ []) = search (then_fits, move_imm_fits)
 imm_letters_fit xs = tt
 
 mapped_bits : (one two three : Bool) →
@@ -81,62 +74,45 @@ relative_fits (w ∷ x ∷ rest) = tt
 
 jump_end_fits : (far : Bool) (s : List ℕ) → FitsForm (jump_end far s)
 jump_end_fits far [] = tt
-jump_end_fits far (b ∷ bs) = if_fits (b == 97) _ _ (map_fits (λ c. forms.Jump c far false) (cond_of bs) (λ c. tt))
-    (map_fits (λ c. forms.Jump c far true) (cond_of (b ∷ bs)) (λ c. tt))
+jump_end_fits far (b ∷ bs) = search (if_fits, map_fits)
 
 jump_fits : (s : List ℕ) → FitsForm (jump_form s)
 jump_fits [] = tt
-jump_fits (b ∷ []) = if_fits (b == 56) _ None tt tt
-jump_fits (b ∷ c ∷ rest) = if_fits (b == 56) _ _ (map_fits (λ d. forms.Jump8 d) (cond_of (c ∷ rest)) (λ d. tt))
-    (then_fits (λ far. jump_end far rest) (wide_of (b ∷ c ∷ [])) (λ far. jump_end_fits far rest))
-
-call_end_fits : (far : Bool) (s : List ℕ) → FitsForm (call_end far s)
-call_end_fits far s = if_fits (bytes_eq s []) _ _ tt (if_fits (bytes_eq s (codes "a")) _ _ tt
-    (if_fits (bytes_eq s (codes "EX")) _ _ tt (if_fits (bytes_eq s (codes "EXa")) _ None tt tt)))
+jump_fits (b ∷ []) = search if_fits
+jump_fits (b ∷ c ∷ rest) = search (if_fits, map_fits, then_fits, jump_end_fits)
 
 call_fits : (s : List ℕ) → FitsForm (call_form s)
 call_fits [] = tt
 call_fits (b ∷ []) = tt
-call_fits (b ∷ c ∷ rest) = then_fits (λ far. call_end far rest) (wide_of (b ∷ c ∷ [])) (λ far. call_end_fits far rest)
+call_fits (b ∷ c ∷ rest) = search (if_fits, then_fits) depth 12
 
 compare_fits : (s : List ℕ) → FitsForm (compare_form s)
 compare_fits [] = tt
 compare_fits (b ∷ []) = tt
-compare_fits (b ∷ c ∷ rest) = then_fits (λ wide. option_map (λ op. forms.Compare op wide) (cmp_of rest)) (wide_of (b ∷ c ∷ []))
-    (λ wide. map_fits (λ op. forms.Compare op wide) (cmp_of rest) (λ op. tt))
+compare_fits (b ∷ c ∷ rest) = search (map_fits, then_fits)
 
 compare_imm_fits : (s : List ℕ) → FitsForm (compare_imm_form s)
-compare_imm_fits (b ∷ c ∷ d ∷ rest) =
-    then_fits (λ wide. option_and_then (λ long. option_map (λ op. forms.CompareImm op wide long) (cmp_of rest)) (long_at d))
-    (wide_of (b ∷ c ∷ []))
-    (λ wide. then_fits (λ long. option_map (λ op. forms.CompareImm op wide long) (cmp_of rest)) (long_at d)
-    (λ long. map_fits (λ op. forms.CompareImm op wide long) (cmp_of rest) (λ op. tt)))
+compare_imm_fits (b ∷ c ∷ d ∷ rest) = search (map_fits, then_fits)
 compare_imm_fits xs = tt
 
 other_fits : (stem suffix : List ℕ) → FitsForm (other_form stem suffix)
 unfolding other_form
-other_fits stem suffix =
-    if_fits (bytes_eq stem (codes "PUSH")) _ _ (if_fits (bytes_eq suffix (codes "n")) _ _ tt
-    (map_fits (λ wide. forms.Push wide) (wide_of suffix) (λ wide. tt)))
-    (if_fits (bytes_eq stem (codes "POP")) _ _ (if_fits (bytes_eq suffix (codes "n")) _ _ tt
-    (map_fits (λ wide. forms.Pop wide) (wide_of suffix) (λ wide. tt)))
-    (if_fits (bytes_eq stem (codes "RET")) _ _ (if_fits (bytes_eq suffix []) _ None tt tt)
-    (if_fits (bytes_eq stem (codes "BREAK")) _ _ (if_fits (bytes_eq suffix []) _ None tt tt)
-    (if_fits (bytes_eq stem (codes "LOADSP")) _ _ (if_fits (bytes_eq suffix []) _ None tt tt)
-    (if_fits (bytes_eq stem (codes "STORESP")) _ _ (if_fits (bytes_eq suffix []) _ None tt tt)
-    (then_fits (λ op. option_map (λ wide. forms.Arith op wide) (wide_of suffix)) (arith_of stem)
-    (λ op. map_fits (λ wide. forms.Arith op wide) (wide_of suffix) (λ wide. tt))))))))
+other_fits stem suffix = search (if_fits, map_fits, then_fits) depth 24
 
 stem_fits : (stem suffix : List ℕ) → FitsForm (stem_form stem suffix)
 unfolding stem_form
 stem_fits stem suffix =
-    if_fits (bytes_eq stem (codes "MOV")) _ _ (letters_fit suffix)
-    (if_fits (bytes_eq stem (codes "MOVI")) _ _ (imm_letters_fit suffix)
-    (if_fits (bytes_eq stem (codes "MOVREL")) _ _ (relative_fits suffix)
-    (if_fits (bytes_eq stem (codes "JMP")) _ _ (jump_fits suffix)
-    (if_fits (bytes_eq stem (codes "CALL")) _ _ (call_fits suffix)
-    (if_fits (bytes_eq stem (codes "CMP")) _ _ (compare_fits suffix)
-    (if_fits (bytes_eq stem (codes "CMPI")) _ _ (compare_imm_fits suffix) (other_fits stem suffix)))))))
+    search (
+      if_fits,
+      letters_fit suffix,
+      imm_letters_fit suffix,
+      relative_fits suffix,
+      jump_fits suffix,
+      call_fits suffix,
+      compare_fits suffix,
+      compare_imm_fits suffix,
+      other_fits stem suffix,
+    ) depth 24
 
 -- a mnemonic names a form that there is
 form_fits : (word : List ℕ) → FitsForm (form_of word)

@@ -1,7 +1,7 @@
 -- What a fixup holds, by its kind: an address, or a distance.
 use Rattle.link_laws.proofs.Common.{◌≡◌, ℕ, ◌+◌, ◌*◌, ◌≤◌, Bool, true, false, refl, arith, pos, nat_eq, ◌+ℤ◌, ◌*ℤ◌, if◌then◌else◌}
-use Rattle.link_laws.proofs.Common.{nat_tests, signed_at, width, Fixup, Image, Laid, place_in, place_of, Holds, number_at}
-use Rattle.ebc_link.specs.Linked.Holds.{address, bytes, words}
+use Rattle.link_laws.proofs.Common.{nat_tests, signed_at, width, Fixup, Image, Laid, place_in, place_of, Holds, number_at, address, bytes}
+use Rattle.link_laws.proofs.Common.{words}
 
 -- ---- what a fixup holds
 

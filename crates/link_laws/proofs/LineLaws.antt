@@ -1,9 +1,9 @@
 -- The text of a listing is the texts of its lines.
 use Rattle.link_laws.proofs.Common.{◌≡◌, ℕ, List, [], ◌∷◌, ◌++◌, map, Some, true, not, ◌==◌, refl, ap, ◌∙◌, append_assoc, codes, All}
 use Rattle.link_laws.proofs.Common.{All-head, All-tail, and_from, Listed, label_text, hex_text, ListedFits, listed_text, text_of}
-use Rattle.std.proofs.{Common.unwrap_or, lemmas.List.Folds.list_all-append}
-use Rattle.asm_text.specs.Splits.{lacks, line_cut, lines_of}
-use Rattle.asm_text.proofs.{Clean.clean, Clean.clean_append, Clean.clean_hex, Clean.clean_lacks, CleanLaws.text_good, Pieces.until_first}
+use Rattle.link_laws.proofs.Common.{list_all-append, lacks, line_cut, lines_of, clean, clean_append, clean_hex, clean_lacks, text_good}
+use Rattle.link_laws.proofs.Common.{until_first}
+use Rattle.std.proofs.Common.{unwrap_or}
 use Rattle.ebc_asm.proofs.SourceLaws.{next_lines}
 use Rattle.asm_text.specs.declared.listing.Listed.TheVariants as listed
 
@@ -39,8 +39,7 @@ pub lines_again : (ls : List Listed) → All ListedFits ls → lines_of (text_of
 unfolding text_of lines_of
 lines_again [] fits = refl
 lines_again (l ∷ ls) fits =
-    let none = one_line l (All-head ListedFits l ls fits) in
     let rest = lines_again ls (All-tail ListedFits l ls fits) in
     let parted : text_of (l ∷ ls) ≡ listed_text l ++ 10 ∷ text_of ls = append_assoc (listed_text l) (10 ∷ []) (text_of ls) in
     ap lines_of parted ∙ (next_lines (listed_text l ++ 10 ∷ text_of ls) (listed_text l) (text_of ls) (first_cut (listed_text l)
-    (text_of ls) none) ∙ ap (λ ts. listed_text l ∷ ts) rest)
+    (text_of ls) (one_line l (All-head ListedFits l ls fits))) ∙ ap (λ ts. listed_text l ∷ ts) rest)

@@ -1,9 +1,7 @@
 -- What the calls make of an image: the law of listings, at the object that was assembled.
 use Rattle.link_laws.proofs.Common.{◌≡◌, ℕ, List, [], ◌∷◌, All, Ok, subst, sym, ◌∙◌, ap, arith, label_text, object_of, listing_of, links}
-use Rattle.link_laws.proofs.Common.{LinkPlan, IsObject, Object, Image}
-use Rattle.pe_image.specs.Files.{file_of}
+use Rattle.link_laws.proofs.Common.{LinkPlan, IsObject, Object, Image, file_of, IsListable}
 use Rattle.link_laws.proofs.Again.{lists_again}
-use Rattle.link_laws.specs.Laws.{IsListable}
 
 -- a plan with the base, the subsystem and the entry of an image
 pub record IsPlanOf (image : Image) (plan : LinkPlan) : Type 0 where

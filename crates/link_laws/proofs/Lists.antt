@@ -1,7 +1,8 @@
 -- Lists: what holds of each element, and of a part.
 use Rattle.link_laws.proofs.Common.{◌≡◌, ℕ, List, [], ◌∷◌, ◌++◌, map, Some, None, Bool, true, false, cond, ◌||◌, refl, sym, ap, subst, ◌∙◌}
-use Rattle.link_laws.proofs.Common.{arith, nat_eq, AllByRecursion, filter, find, list_any, or_from, or_parts, or_right, nat_tests}
-use Rattle.link_laws.proofs.Common.{list_any-append}
+use Rattle.link_laws.proofs.Common.{arith, nat_eq, AllByRecursion, filter, find, list_all, list_any, and_from, and_parts, or_from, or_parts}
+use Rattle.link_laws.proofs.Common.{or_left, or_right, or_cases, cond_both, eqb-true, nat_tests, list_any-append, ⊎_elim, same_Some}
+use Rattle.link_laws.proofs.Common.{cases_Bool, eq-eqb, false_from_ne_true}
 
 -- what follows of each element
 pub each_of : {A : Type 0} (P Q : A → Type 0) (xs : List A) → ((x : A) → P x → Q x) → AllByRecursion P xs → AllByRecursion Q xs
@@ -22,29 +23,28 @@ pub all_map : {A B : Type 0} (P : B → Type 0) (f : A → B) (xs : List A) → 
 all_map P f [] all = tt
 all_map P f (x ∷ xs) all = (all.0, all_map P f xs all.1)
 
--- what holds of all elements holds of those in front
+-- what holds of all elements holds of those in front and of those behind
 pub all_front : {A : Type 0} (P : A → Type 0) (xs ys : List A) → AllByRecursion P (xs ++ ys) → AllByRecursion P xs
 all_front P [] ys h = tt
 all_front P (x ∷ xs) ys h = (h.0, all_front P xs ys h.1)
+
+pub all_back : {A : Type 0} (P : A → Type 0) (xs ys : List A) → AllByRecursion P (xs ++ ys) → AllByRecursion P ys
+all_back P [] ys h = h
+all_back P (x ∷ xs) ys h = all_back P xs ys h.1
 
 -- what holds of those that pass holds of those that are kept
 pub all_kept : {A : Type 0} (p : A → Bool) (R : A → Type 0) (xs : List A) → AllByRecursion (λ x. p x ≡ true → R x) xs
     → AllByRecursion R (filter p xs)
 all_kept p R [] all = tt
-all_kept p R (x ∷ xs) all = first (p x) refl (all_kept p R xs all.1)
-  where
-    first : (b : Bool) → p x ≡ b → AllByRecursion R (filter p xs) → AllByRecursion R (cond b (x ∷ filter p xs) (filter p xs))
-    first true e later = (all.0 e, later)
-    first false e later = later
+all_kept p R (x ∷ xs) all =
+    let rest : AllByRecursion R (filter p xs) = all_kept p R xs all.1 in
+    cond_both (p x) (x ∷ filter p xs) (filter p xs) (AllByRecursion R) (λ e. (all.0 e, rest)) (λ e. rest)
 
 -- a number among numbers
 pub all_at : (P : ℕ → Type 0) (rs : List ℕ) (r : ℕ) → AllByRecursion P rs → list_any (nat_eq r) rs ≡ true → P r
 all_at P [] r all here = cc here
-all_at P (q ∷ rs) r all here = first (nat_eq r q) refl here (λ h. all_at P rs r all.1 h)
-  where
-    first : (c : Bool) → nat_eq r q ≡ c → (c || list_any (nat_eq r) rs) ≡ true → (list_any (nat_eq r) rs ≡ true → P r) → P r
-    first true e h later = let same : q ≡ r = grind (arith, nat_tests) in subst P same all.0
-    first false e h later = later h
+all_at P (q ∷ rs) r all here =
+    ⊎_elim (λ e. subst P (sym (eqb-true r q e)) all.0) (λ later. all_at P rs r all.1 later) (or_cases (nat_eq r q) _ here)
 
 pub all_members : (rs : List ℕ) → AllByRecursion (λ r. list_any (nat_eq r) rs ≡ true) rs
 all_members [] = tt
@@ -55,7 +55,28 @@ all_members (r ∷ rs) =
           (all_members rs),
     )
 
--- ---- what no element passes
+-- ---- tests of each element
+
+-- two tests that pass together are one
+pub same_test : (a b : Bool) → (a ≡ true → b ≡ true) → (b ≡ true → a ≡ true) → a ≡ b
+same_test true b there back = sym (there refl)
+same_test false b there back = sym (false_from_ne_true b (λ e. cc (back e)))
+
+pub all_pass : {A : Type 0} (p : A → Bool) (xs : List A) → AllByRecursion (λ x. p x ≡ true) xs → list_all p xs ≡ true
+all_pass p [] all = refl
+all_pass p (x ∷ xs) all = and_from _ _ all.0 (all_pass p xs all.1)
+
+pub passes_of : {A : Type 0} (p : A → Bool) (xs : List A) → list_all p xs ≡ true → AllByRecursion (λ x. p x ≡ true) xs
+passes_of p [] h = tt
+passes_of p (x ∷ xs) h = let q = and_parts (p x) (list_all p xs) h in (q.0, passes_of p xs q.1)
+
+pub fails_of : {A : Type 0} (p : A → Bool) (xs : List A) → list_any p xs ≡ false → AllByRecursion (λ x. p x ≡ false) xs
+fails_of p [] h = tt
+fails_of p (x ∷ xs) h = let q = or_parts (p x) (list_any p xs) h in (q.0, fails_of p xs q.1)
+
+pub none_passes : {A : Type 0} (p : A → Bool) (xs : List A) → AllByRecursion (λ x. p x ≡ false) xs → list_any p xs ≡ false
+none_passes p [] all = refl
+none_passes p (x ∷ xs) all = or_from _ _ all.0 (none_passes p xs all.1)
 
 pub none_append : {A : Type 0} (p : A → Bool) (xs ys : List A) → list_any p xs ≡ false → list_any p ys ≡ false
     → list_any p (xs ++ ys) ≡ false
@@ -68,6 +89,36 @@ pub find_none : {A : Type 0} (p : A → Bool) (xs : List A) → AllByRecursion (
 find_none p [] all = refl
 find_none p (x ∷ xs) all = ap (λ b. cond b (Some x) (find p xs)) all.0 ∙ find_none p xs all.1
 
+-- what isn't found is nowhere, and what is found is there and passes
+pub none_found : {A : Type 0} (p : A → Bool) (xs : List A) → find p xs ≡ None → AllByRecursion (λ x. p x ≡ false) xs
+none_found p [] e = tt
+none_found p (x ∷ xs) e = ⊎_elim (λ yes. cc (rw yes at e)) (λ no. (no, none_found p xs (rw no at e))) (cases_Bool (p x))
+
+pub found_in : (p : ℕ → Bool) (rs : List ℕ) (r : ℕ) → find p rs ≡ Some r → (list_any (nat_eq r) rs ≡ true) × (p r ≡ true)
+found_in p [] r e = cc e
+found_in p (q ∷ rs) r e =
+    ⊎_elim
+    (λ yes.
+    let is : Some q ≡ Some r = rw yes at e in
+    let same : q ≡ r = same_Some q r is in
+    (or_left _ _ (eq-eqb r q (sym same)), subst (λ t. p t ≡ true) same yes))
+    (λ no. let later = found_in p rs r (rw no at e) in (or_right (nat_eq r q) _ later.0, later.1))
+    (cases_Bool (p q))
+
+-- ---- what is kept
+
+pub keep_all : {A : Type 0} (p : A → Bool) (xs : List A) → AllByRecursion (λ x. p x ≡ true) xs → filter p xs ≡ xs
+keep_all p [] all = refl
+keep_all p (x ∷ xs) all = rw (all.0) (ap (λ ys. x ∷ ys) (keep_all p xs all.1))
+
+pub keep_none : {A : Type 0} (p : A → Bool) (xs : List A) → AllByRecursion (λ x. p x ≡ false) xs → filter p xs ≡ []
+keep_none p [] all = refl
+keep_none p (x ∷ xs) all = rw (all.0) (keep_none p xs all.1)
+
+pub keep_same : {A : Type 0} (p q : A → Bool) (xs : List A) → AllByRecursion (λ x. p x ≡ q x) xs → filter p xs ≡ filter q xs
+keep_same p q [] all = refl
+keep_same p q (x ∷ xs) all = rw (all.0) (ap (λ ys. cond (q x) (x ∷ ys) ys) (keep_same p q xs all.1))
+
 -- ---- images
 
 pub map_twice : {A B C : Type 0} (f : B → C) (g : A → B) (xs : List A) → map f (map g xs) ≡ map (λ x. f (g x)) xs
@@ -76,10 +127,7 @@ map_twice f g (x ∷ xs) = ap (λ ys. f (g x) ∷ ys) (map_twice f g xs)
 
 -- all images pass, or none does
 pub keep_map : {A B : Type 0} (p : B → Bool) (f : A → B) (xs : List A) → ((x : A) → p (f x) ≡ true) → filter p (map f xs) ≡ map f xs
-keep_map p f [] all = refl
-keep_map p f (x ∷ xs) all =
-    ap (λ c. cond c (f x ∷ filter p (map f xs)) (filter p (map f xs))) (all x) ∙ ap (λ ys. f x ∷ ys) (keep_map p f xs all)
+keep_map p f xs all = keep_all p (map f xs) (all_map (λ y. p y ≡ true) f xs (all_of (λ x. p (f x) ≡ true) xs all))
 
 pub drop_map : {A B : Type 0} (p : B → Bool) (f : A → B) (xs : List A) → ((x : A) → p (f x) ≡ false) → filter p (map f xs) ≡ []
-drop_map p f [] all = refl
-drop_map p f (x ∷ xs) all = ap (λ c. cond c (f x ∷ filter p (map f xs)) (filter p (map f xs))) (all x) ∙ drop_map p f xs all
+drop_map p f xs all = keep_none p (map f xs) (all_map (λ y. p y ≡ false) f xs (all_of (λ x. p (f x) ≡ false) xs all))

@@ -2,11 +2,8 @@
 use Rattle.link_laws.proofs.Common.{List, Ok, Some, [], ap, arith, cond, false, get_or, length, subst, suc, sym, true, zero, ℕ, ◌%◌, ◌++◌}
 use Rattle.link_laws.proofs.Common.{◌+◌, ◌-◌, ◌/◌, ◌<◌, ◌^◌, ◌∙◌, ◌∷◌, ◌≡◌, ◌≤◌, AllByRecursion, Contains, find, AllPairs, nat_tests}
 use Rattle.link_laws.proofs.Common.{ext_get_or, WellFormed, spelling, Insn, little_endian, window, distance_of, read, pairs_tail, IsBelow}
-use Rattle.link_laws.proofs.Common.{is_of, laid, mapped, Image}
-use Rattle.std.specs.Option.{option_map_or}
-use Rattle.ebc_width.proofs.ByteLaws.{get_or-window, length-window, window-append}
-use Rattle.ebc_decode.proofs.Again.{read_again}
-use Rattle.pe_image.specs.Mapped.{moved, moved_byte}
+use Rattle.link_laws.proofs.Common.{is_of, laid, mapped, Image, option_map_or, get_or-window, length-window, window-append, read_again}
+use Rattle.link_laws.proofs.Common.{moved, moved_byte}
 use Rattle.link_laws.proofs.Lists.{find_none}
 
 -- ---- bytes of a loaded image
@@ -19,19 +16,14 @@ mapped_free image base x free =
     ap (λ o. option_map_or (moved_byte (laid image.sections) (distance_of base image.base) x) o (laid image.sections x))
     (find_none (is_of x) image.relocs free)
 
-not_both : (x q r : ℕ) → q + 8 ≤ r → is_of x r ≡ true → is_of x q ≡ false
-not_both x q r far here = grind (arith, nat_tests)
-
 -- the one relocation that has a byte is found
 found_one : (x r : ℕ) (rs : List ℕ) → Contains rs r → AllPairs IsBelow rs → is_of x r ≡ true → find (is_of x) rs ≡ Some r
-found_one x r [] there apart here = absurd (let low = there.1 in omega (arith, low))
+found_one x r [] there apart here = absurd (omega arith)
 found_one x r (q ∷ rs) (zero, low, is) apart here =
-    let yes : is_of x q ≡ true = subst (λ p. is_of x p ≡ true) (sym is) here in
-    ap (λ b. cond b (Some q) (find (is_of x) rs)) yes ∙ ap Some is
+    ap (λ b. cond b (Some q) (find (is_of x) rs)) (subst (λ p. is_of x p ≡ true) (sym is) here) ∙ ap Some is
 found_one x r (q ∷ rs) (suc k, low, is) apart here =
-    let below : q + 8 ≤ get_or rs k r = apart 0 (suc k) r (omega arith) low in
-    let far : q + 8 ≤ r = subst (λ p. q + 8 ≤ p) is below in
-    let no_ : is_of x q ≡ false = not_both x q r far here in
+    let far = subst (λ p. q + 8 ≤ p) is (apart 0 (suc k) r (omega arith) low) in
+    let no_ : is_of x q ≡ false = grind (arith, nat_tests) in
     ap (λ b. cond b (Some q) (find (is_of x) rs)) no_ ∙ found_one x r rs (k, omega (arith, low), is) (pairs_tail q rs apart) here
 
 -- a byte of a relocated number is that of the number at the base
@@ -64,7 +56,6 @@ pub decoded : (b : ℕ → ℕ) (p size : ℕ) (j : Insn) → WellFormed j → p
 decoded b p size j well within same =
     let n : ℕ = length (spelling j) in
     let count : size - p ≡ n + (size - p - n) = omega (arith, within) in
-    let parts : window b p (size - p) ≡ spelling j ++ window b (p + n) (size - p - n) =
-    ap (window b p) count ∙ (window-append b p n (size - p - n)
+    let parts = ap (window b p) count ∙ (window-append b p n (size - p - n)
     ∙ ap (λ bs. bs ++ window b (p + n) (size - p - n)) (window_is b p (spelling j) same)) in
     ap read parts ∙ read_again j (window b (p + n) (size - p - n)) well

@@ -1,11 +1,10 @@
 -- Where no name is defined twice, a symbol stands at one place, and an image is entered at one.
 use Rattle.link_laws.proofs.Common.{◌≡◌, ℕ, List, [], ◌∷◌, ◌++◌, Option, Some, None, Bool, true, false, cond, refl, ap, sym, subst, ◌∙◌}
 use Rattle.link_laws.proofs.Common.{bytes_eq, Contains, ◌||◌, is_named, Symbol, head_or_later, nowhere, Laid, place_in, StandsAt}
-use Rattle.link_laws.proofs.Common.{Definition, definition_in, definitions, first_again, is_definition, names_of}
+use Rattle.link_laws.proofs.Common.{Definition, definition_in, definitions, first_again, is_definition, names_of, or_right}
+use Rattle.link_laws.proofs.Common.{bytes_eq-Decides, joined, kept, IsEntry, own, other, definitions_of}
 use Rattle.std.specs.Prelude.{filter}
-use Rattle.std.proofs.lemmas.Slice.Eq.{bytes_eq-Decides}
-use Rattle.ebc_link.proofs.ThereLaws.{joined, kept, mapped}
-use Rattle.ebc_link.specs.{Linked.IsEntry, Linked.own, Linked.other, Symbols.definitions_of}
+use Rattle.ebc_link.proofs.ThereLaws.{mapped}
 use Rattle.link_laws.proofs.Lists.{none_front}
 
 -- ---- definitions
@@ -28,18 +27,13 @@ new_names (d ∷ ds) before e none there =
 -- a name is not among names that end with it
 own_name : (n : List ℕ) (before : List (List ℕ)) → is_named n (before ++ n ∷ []) ≡ true
 own_name n [] = ap (λ b. b || false) ((bytes_eq-Decides n n).1 refl)
-own_name n (m ∷ ms) = from (bytes_eq n m) (own_name n ms)
-  where
-    from : (b : Bool) → is_named n (ms ++ n ∷ []) ≡ true → (b || is_named n (ms ++ n ∷ [])) ≡ true
-    from true h = refl
-    from false h = h
+own_name n (m ∷ ms) = or_right (bytes_eq n m) _ (own_name n ms)
 
 not_later : (d : Definition) (ds : List Definition) (before : List (List ℕ)) (e : Definition)
     → first_again (before ++ d.name ∷ []) (names_of ds) ≡ None → Contains ds e → d.name ≡ e.name → (P : Type 0) → P
 not_later d ds before e none there same P =
     let new : is_named e.name (before ++ d.name ∷ []) ≡ false = new_names ds (before ++ d.name ∷ []) e none there in
-    let old : is_named e.name (before ++ d.name ∷ []) ≡ true =
-    subst (λ n. is_named n (before ++ d.name ∷ []) ≡ true) same (own_name d.name before) in
+    let old = subst (λ n. is_named n (before ++ d.name ∷ []) ≡ true) same (own_name d.name before) in
     absurd cc
 
 pub one_definition : (ds : List Definition) (before : List (List ℕ)) (d e : Definition) → first_again before (names_of ds) ≡ None
@@ -86,6 +80,5 @@ pub one_entry : (ls : List Laid) (name : List ℕ) (x y : ℕ) → first_again [
     → IsEntry ls name y → x ≡ y
 one_entry ls name x y none (l, s, there, has, defines, named, code, even, within, is)
     (m, t, there2, has2, defines2, named2, code2, even2, within2, also) =
-    let place : place_in l.home s.kind s.offset ≡ place_in m.home t.kind t.offset =
-    one_place ls l m s t none there has defines there2 has2 defines2 (named ∙ sym named2) in
+    let place = one_place ls l m s t none there has defines there2 has2 defines2 (named ∙ sym named2) in
     is ∙ (ap (λ k. place_in l.home k s.offset) (sym code) ∙ (place ∙ (ap (λ k. place_in m.home k t.offset) code2 ∙ sym also)))

@@ -1,16 +1,26 @@
 -- The sections, the places of labels, the fixups and the names of the lines of a listing, as those of a source.
-use Rattle.link_laws.proofs.Common.{◌≡◌, ℕ, ◌+◌, ◌-◌, ◌^◌, ◌<◌, List, [], ◌∷◌, ◌++◌, length, map, Some, None, Bool, true, false, cond, not}
-use Rattle.link_laws.proofs.Common.{◌&&◌, refl, sym, ap, ◌∙◌, arith, append_assoc, length-append, bytes_eq, nat_eq, if◌then◌else◌}
-use Rattle.link_laws.proofs.Common.{AllByRecursion, list_any, or_from, or_parts, nat_tests, map-append, Insn, spelling, name_number}
-use Rattle.link_laws.proofs.Common.{same_name, Fixup, Listed, Line, label_text, listed_line, bytes_of, data_after, distance_kind}
-use Rattle.link_laws.proofs.Common.{ends_in_data, immediate_size, is_distance, section_of, use_of, Ends, Place, fixups_in, fixups_of}
-use Rattle.link_laws.proofs.Common.{from_of, here, is_labelled, section_kind, ends_of, same_bytes, takes_label}
-use Rattle.ebc_asm.specs.{Pieces.if_there, Symbols.ends_after, Symbols.place_of}
+use Rattle.link_laws.proofs.Common.{◌≡◌, ℕ, ◌^◌, ◌<◌, Some, sym, ap, ◌∙◌, arith, drop, label_text, hex_text, ◌+◌, ◌-◌, List, [], ◌∷◌, ◌++◌}
+use Rattle.link_laws.proofs.Common.{length, map, Bool, true, false, cond, not, ◌&&◌, refl, append_assoc, length-append, bytes_eq, nat_eq}
+use Rattle.link_laws.proofs.Common.{if◌then◌else◌, AllByRecursion, list_any, or_from, or_parts, nat_tests, map-append, Insn, spelling}
+use Rattle.link_laws.proofs.Common.{name_number, same_name, Fixup, Listed, Line, listed_line, bytes_of, data_after, ends_in_data}
+use Rattle.link_laws.proofs.Common.{immediate_size, is_distance, section_of, use_of, Ends, Place, fixups_in, fixups_of, here, is_labelled}
+use Rattle.link_laws.proofs.Common.{section_kind, ends_of, same_bytes, takes_label, digits_from, hex_read, if_there, ends_after}
+use Rattle.link_laws.proofs.Common.{false_from_ne_true}
+use Rattle.ebc_asm.specs.Symbols.{place_of}
 use Rattle.link_laws.proofs.{ItemLaws.line_bytes, SectionLaws.bytes_of_lines, PlaceLaws.is_label_of, FixupWalk.target_use, FixupWalk.use_at}
-use Rattle.link_laws.proofs.{FixupWalk.uses_from, LabelLaws.labels_apart, Bodies.takes_address, Lines.is_head}
+use Rattle.link_laws.proofs.{FixupWalk.uses_from, Bodies.takes_address, Lines.is_head}
 use Rattle.ebc_insn.specs.declared.Insn.TheVariants as insns
 use Rattle.ebc_insn.specs.declared.Size.TheVariants as sizes
 use Rattle.asm_text.specs.declared.listing.Listed.TheVariants as listed
+
+-- ---- two places have two labels
+
+pub labels_apart : (p q : ℕ) → p < 2 ^ 32 → q < 2 ^ 32 → label_text p ≡ label_text q → p ≡ q
+labels_apart p q low small same =
+    let second : digits_from 16 0 (hex_text 8 q) ≡ Some q = hex_read 8 q (omega (arith, small)) (omega (arith, small)) in
+    let both : Some p ≡ Some q = sym (hex_read 8 p (omega (arith, low)) (omega (arith, low)))
+    ∙ (ap (digits_from 16 0) (ap (drop 1) same) ∙ second) in
+    cc both
 
 -- lines of a listing as lines of a source
 abbrev pub source : List Listed → List Line
@@ -49,26 +59,22 @@ pub section_append : (w d : Bool) (xs ys : List Line) → section_of w d (xs ++ 
 unfolding section_of ends_in_data
 section_append w d [] ys = refl
 section_append w d (x ∷ xs) ys =
-    ap (λ bs. if_there w d (bytes_of x.statement) ++ bs) (section_append w (data_after d x.statement) xs ys)
-    ∙ sym (append_assoc (if_there w d (bytes_of x.statement)) (section_of w (data_after d x.statement) xs)
-    (section_of w (ends_in_data (data_after d x.statement) xs) ys))
+    rw (section_append w (data_after d x.statement) xs ys) (sym (append_assoc (if_there w d (bytes_of x.statement))
+    (section_of w (data_after d x.statement) xs) (section_of w (ends_in_data (data_after d x.statement) xs) ys)))
 
 pub section_here : (d : Bool) (ls : List Listed) → list_any is_head ls ≡ false → section_of d d (source ls) ≡ bytes_of_lines ls
 unfolding section_of
 section_here d [] h = refl
 section_here d (l ∷ ls) h =
     let p = or_parts (is_head l) (list_any is_head ls) h in
-    let rest : section_of d (data_after d (listed_line l).statement) (source ls) ≡ bytes_of_lines ls =
-    ap (λ c. section_of d c (source ls)) (after_line d l p.0) ∙ section_here d ls p.1 in
-    ap (λ bs. if_there d d (line_bytes l) ++ bs) rest ∙ ap (λ bs. bs ++ bytes_of_lines ls) (there d (line_bytes l))
+    rw (there d (line_bytes l), after_line d l p.0, section_here d ls p.1) refl
 
 pub section_other : (d : Bool) (ls : List Listed) → list_any is_head ls ≡ false → section_of (not d) d (source ls) ≡ []
 unfolding section_of
 section_other d [] h = refl
 section_other d (l ∷ ls) h =
     let p = or_parts (is_head l) (list_any is_head ls) h in
-    ap (λ bs. bs ++ section_of (not d) (data_after d (listed_line l).statement) (source ls)) (not_there d (line_bytes l))
-    ∙ (ap (λ c. section_of (not d) c (source ls)) (after_line d l p.0) ∙ section_other d ls p.1)
+    rw (not_there d (line_bytes l), after_line d l p.0) (section_other d ls p.1)
 
 -- ---- where sections end
 
@@ -90,30 +96,25 @@ unfolding place_of ends_of
 place_past e name [] ys h = refl
 place_past e name (x ∷ xs) ys h =
     let p = or_parts (is_labelled name x) (list_any (is_labelled name) xs) h in
-    ap (λ b. cond b (next_place e) (place_of (ends_after e x) name (xs ++ ys))) p.0 ∙ place_past (ends_after e x) name xs ys p.1
+    rw (p.0) (place_past (ends_after e x) name xs ys p.1)
 
 pub place_label : (e : Ends) (y : ℕ) (ls : List Line)
     → place_of e (label_text y) (listed_line (listed.Label y) ∷ ls) ≡ next_place e
 unfolding place_of
-place_label e y ls =
-    ap (λ b. cond b (next_place e) (place_of (ends_after e (listed_line (listed.Label y))) (label_text y) ls)) (same_bytes (label_text y))
+place_label e y ls = rw (same_bytes (label_text y)) refl
 
 -- A label is of a place below 2 ^ 32.
 abbrev pub IsLowLabel : Listed → Type 0
 IsLowLabel (listed.Label place) = place < 2 ^ 32
 IsLowLabel l = Unit {0}
 
-other_label : (y p : ℕ) (b : Bool) → bytes_eq (label_text y) (label_text p) ≡ b → y < 2 ^ 32 → p < 2 ^ 32 → nat_eq p y ≡ false → b ≡ false
-other_label y p false e small low other = refl
-other_label y p true e small low other =
-    let same : y ≡ p = labels_apart y p small low (same_name (label_text y) (label_text p) e) in
-    let yes : nat_eq p y ≡ true = grind (arith, nat_tests) in
-    cc (sym other ∙ yes)
-
 not_labelled : (y : ℕ) (l : Listed) → y < 2 ^ 32 → IsLowLabel l → is_label_of y l ≡ false
     → is_labelled (label_text y) (listed_line l) ≡ false
 not_labelled y (listed.Label p) small low other =
-    other_label y p (bytes_eq (label_text y) (label_text p)) refl small low other
+    false_from_ne_true (bytes_eq (label_text y) (label_text p)) (λ e.
+    let same : y ≡ p = labels_apart y p small low (same_name (label_text y) (label_text p) e) in
+    let yes : nat_eq p y ≡ true = grind (arith, nat_tests) in
+    cc (sym other ∙ yes))
 not_labelled y c small low other = refl
 
 pub none_labelled : (y : ℕ) (ls : List Listed) → y < 2 ^ 32 → AllByRecursion IsLowLabel ls → list_any (is_label_of y) ls ≡ false
@@ -140,10 +141,9 @@ pub fixups_append : (w : Bool) (e : Ends) (names : List (List ℕ)) (xs ys : Lis
 unfolding fixups_in ends_of
 fixups_append w e names [] ys = refl
 fixups_append w e names (x ∷ xs) ys =
-    ap (λ fs. if_there w e.in_data (fixups_of e.in_data (here e) names (use_of x.statement)) ++ fs)
-    (fixups_append w (ends_after e x) names xs ys)
-    ∙ sym (append_assoc (if_there w e.in_data (fixups_of e.in_data (here e) names (use_of x.statement)))
-    (fixups_in w (ends_after e x) names xs) (fixups_in w (ends_of (ends_after e x) xs) names ys))
+    rw (fixups_append w (ends_after e x) names xs ys)
+    (sym (append_assoc (if_there w e.in_data (fixups_of e.in_data (here e) names (use_of x.statement)))
+    (fixups_in w (ends_after e x) names xs) (fixups_in w (ends_of (ends_after e x) xs) names ys)))
 
 far_address : (far relative : Bool) → (far && not relative) ≡ true → (relative ≡ false) × (◌≡◌ {A = ℕ} (if far then 8 else 4) 8)
 far_address true false h = (refl, refl)
@@ -158,35 +158,11 @@ address_insn i h = cc h
 
 line_fixups : (d : Bool) (s n : ℕ) (names : List (List ℕ)) (l : Listed) → takes_address l ≡ true
     → fixups_of d n names (use_of (listed_line l).statement) ≡ map (fixup_at d s names) (use_at (s + n) (target_use l))
-line_fixups d s n names (listed.Place t) h =
-    let make : ℕ → List Fixup = λ k. record {
-      section = section_kind d;
-      kind = 5;
-      offset = k;
-      symbol = name_number (label_text t) names;
-      from = 0;
-    } ∷ [] in
-    let same : n + 0 ≡ s + n + 0 - s = omega arith in
-    ap make same
+line_fixups d s n names (listed.Place t) h = let same : n + 0 ≡ s + n + 0 - s = omega arith in rw same refl
 line_fixups d s n names (listed.Instruction i (Some t)) h =
     let a = address_insn i h in
-    let long : ℕ = length (spelling i) in
-    let make : Bool → ℕ → List Fixup = λ b k. record {
-      section = section_kind d;
-      kind = (if b then distance_kind k else 5);
-      offset = n + (long - k);
-      symbol = name_number (label_text t) names;
-      from = from_of n (if b then Some long else None);
-    } ∷ [] in
-    let at_offset : ℕ → List Fixup = λ k. record {
-      section = section_kind d;
-      kind = 5;
-      offset = k;
-      symbol = name_number (label_text t) names;
-      from = 0;
-    } ∷ [] in
-    let same : n + (long - 8) ≡ s + n + (long - 8) - s = omega arith in
-    ap (λ b. make b (immediate_size i)) a.0 ∙ (ap (λ k. make false k) a.1 ∙ ap at_offset same)
+    let same : n + (length (spelling i) - 8) ≡ s + n + (length (spelling i) - 8) - s = omega arith in
+    rw (a.0, a.1, same) refl
 line_fixups d s n names c h = refl
 
 -- where sections end behind some lines, by numbers
@@ -209,17 +185,15 @@ fixups_here d c k s names (l ∷ ls) h takes =
     let x : ℕ = here (ends_at d c k) in
     let c2 : ℕ = (if d then c else c + n) in
     let k2 : ℕ = (if d then k + n else k) in
-    let first : if_there d d (fixups_of d x names (use_of (listed_line l).statement)) ≡ map (fixup_at d s names) (use_at (s + x)
-    (target_use l)) =
-    there d (fixups_of d x names (use_of (listed_line l).statement)) ∙ line_fixups d s x names l takes.0 in
     let next : s + here (ends_at d c2 k2) ≡ s + x + n = ap (λ m. s + m) (here_more d c k n) ∙ omega arith in
-    let rest : fixups_in d (ends_at (data_after d (listed_line l).statement) c2 k2) names (source ls)
-    ≡ map (fixup_at d s names) (uses_from (s + x + n) ls) =
-    ap (λ b. fixups_in d (ends_at b c2 k2) names (source ls)) (after_line d l p.0)
-    ∙ (fixups_here d c2 k2 s names ls p.1 takes.1 ∙ ap (λ m. map (fixup_at d s names) (uses_from m ls)) next) in
-    ap (λ fs. fs ++ fixups_in d (ends_at (data_after d (listed_line l).statement) c2 k2) names (source ls)) first
-    ∙ (ap (λ fs. map (fixup_at d s names) (use_at (s + x) (target_use l)) ++ fs) rest
-    ∙ sym (map-append (fixup_at d s names) (use_at (s + x) (target_use l)) (uses_from (s + x + n) ls)))
+    rw (
+      there d (fixups_of d x names (use_of (listed_line l).statement)),
+      line_fixups d s x names l takes.0,
+      after_line d l p.0,
+      fixups_here d c2 k2 s names ls p.1 takes.1,
+      next,
+    )
+    (sym (map-append (fixup_at d s names) (use_at (s + x) (target_use l)) (uses_from (s + x + n) ls)))
 
 pub fixups_other : (d : Bool) (c k : ℕ) (names : List (List ℕ)) (ls : List Listed) → list_any is_head ls ≡ false
     → fixups_in (not d) (ends_at d c k) names (source ls) ≡ []
@@ -228,12 +202,8 @@ fixups_other d c k names [] h = refl
 fixups_other d c k names (l ∷ ls) h =
     let p = or_parts (is_head l) (list_any is_head ls) h in
     let n : ℕ = length (line_bytes l) in
-    let x : ℕ = here (ends_at d c k) in
-    let c2 : ℕ = (if d then c else c + n) in
-    let k2 : ℕ = (if d then k + n else k) in
-    ap (λ fs. fs ++ fixups_in (not d) (ends_at (data_after d (listed_line l).statement) c2 k2) names (source ls))
-    (not_there d (fixups_of d x names (use_of (listed_line l).statement)))
-    ∙ (ap (λ b. fixups_in (not d) (ends_at b c2 k2) names (source ls)) (after_line d l p.0) ∙ fixups_other d c2 k2 names ls p.1)
+    rw (not_there d (fixups_of d (here (ends_at d c k)) names (use_of (listed_line l).statement)), after_line d l p.0)
+    (fixups_other d (if d then c else c + n) (if d then k + n else k) names ls p.1)
 
 -- ---- where sections end behind lines of the code
 
@@ -244,7 +214,7 @@ ends_code c k [] h = let same : c ≡ c + 0 = omega arith in ap (λ n. ends_at f
 ends_code c k (l ∷ ls) h =
     let p = or_parts (is_head l) (list_any is_head ls) h in
     let n : ℕ = length (line_bytes l) in
-    let more = length-append (line_bytes l) (bytes_of_lines ls) in
-    let count : c + n + length (bytes_of_lines ls) ≡ c + length (bytes_of_lines (l ∷ ls)) = omega (arith, more) in
+    let count : c + n + length (bytes_of_lines ls) ≡ c + length (bytes_of_lines (l ∷ ls)) =
+    omega (arith, length-append (line_bytes l) (bytes_of_lines ls)) in
     ap (λ b. ends_of (ends_at b (c + n) k) (source ls)) (after_line false l p.0)
     ∙ (ends_code (c + n) k ls p.1 ∙ ap (λ m. ends_at false m k) count)

@@ -7,17 +7,9 @@ use Rattle.point_laws.proofs.Common.{only_keys, text_at, text_of, count, each, l
 use Rattle.point_laws.proofs.Common.{row_prefix, FieldText, NotesDraft, ShapeDraft, DraftLists, NameTables, call_lists, code_lists}
 use Rattle.point_laws.proofs.Common.{data_lists, draft_lists, draft_of, greatest_32, shape_of, static_of, thunk_of, refused, names_of_calls}
 use Rattle.point_laws.proofs.Common.{names_of_code, names_of_data, once, first_repeat, has_repeat, repeats, repeats-at, nothing_refused}
-use Rattle.std.specs.Prelude.{IfSome}
-use Rattle.toml.specs.Data.{Data, as_str}
-use Rattle.ebc_base.specs.Steps.{or_else}
-use Rattle.ebc_base.proofs.Given.{ok_some}
-use Rattle.note_types.specs.declared.fault.TomlFault.TheVariants.{Kind, Range}
-use Rattle.note_texts.specs.{CellTexts.field_of, Keys.field, Keys.pair_at, Lists.table_of}
-use Rattle.note_texts.proofs.SlotLaws.{field_read}
-use Rattle.note_draft.specs.declared.reading.DataLists.{DataLists}
-use Rattle.note_draft.specs.Once.{repeated_in_shapes, repeated_place_in, repeats_field, same_name, shape_names}
-use Rattle.type_notes.proofs.{ListBounds.each_fails, ListBounds.each_read, NamesFound.none_sooner, OrderLemmas.nothing-at, Outcomes.some_if}
-use Rattle.type_notes.proofs.OwnerLaws.{fails-from_none}
+use Rattle.point_laws.proofs.Common.{IfSome, Data, ok_some, field_of, pair_at, table_of, field_read, DataLists, repeated_in_shapes}
+use Rattle.point_laws.proofs.Common.{repeated_place_in, repeats_field, same_name, shape_names, each_fails, each_read, none_sooner}
+use Rattle.point_laws.proofs.Common.{nothing-at, some_if, fails-from_none}
 use Rattle.point_laws.proofs.NamesNumbered.{Once}
 use Rattle.note_draft.specs.declared.finding.Key.TheVariants as key
 use Rattle.note_draft.specs.declared.finding.Refusal.TheVariants as refusals
@@ -41,18 +33,13 @@ name_is s = some_if IsName (is_name s) s (λ e. e)
 
 name_read : (prefix key : List ℕ) (table : Members) → IfOk (text_at name_of prefix key table) IsName
 unfolding text_at
-name_read prefix key table =
-    ok_next IsName (field prefix key table) (text_of name_of (prefix ++ key))
-    (λ d. ok_next IsName (or_else (Kind (prefix ++ key)) (as_str d)) (λ s. or_else (Range (prefix ++ key)) (name_of s))
-    (λ s. ok_some IsName (Range (prefix ++ key)) (name_of s) (name_is s)))
+name_read prefix key table = search (ok_next, ok_some, name_is)
 
 field_is : (s : List ℕ) → IfSome (field_of s) IsNamedField
 field_is s = some_reads IsNamedField (field_of s) (λ x e. ((field_read s (field_of s) refl x).0 e).2)
 
 field_named : (path : List ℕ) (d : Data) → IfOk (text_of field_of path d) IsNamedField
-field_named path d =
-    ok_next IsNamedField (or_else (Kind path) (as_str d)) (λ s. or_else (Range path) (field_of s))
-    (λ s. ok_some IsNamedField (Range path) (field_of s) (field_is s))
+field_named path d = search (ok_next, ok_some, field_is)
 
 fields_named : (prefix key : List ℕ) (limit : ℕ) (table : Members) → IfOk (texts_at field_of prefix key limit table) (Each IsNamedField)
 unfolding texts_at texts_of

@@ -4,13 +4,10 @@ use Rattle.point_laws.proofs.Common.{cond, get_or, Option, Some, refl, sym, ap, 
 use Rattle.point_laws.proofs.Common.{position_or_len, range_with_len, option_map_or, bytes_eq, option_map, cases_Bool, cases_lt, eq-eqb}
 use Rattle.point_laws.proofs.Common.{lt-ltb, get_or_from_slice_get, slice_get-map, slice_get_within, bytes_eq-Decides, name_number}
 use Rattle.point_laws.proofs.Common.{within_some, Field, FieldText, NameTables, has_field, field_number, field_set, resolved_field}
-use Rattle.point_laws.proofs.Common.{field_name, field_names, names_below, has}
-use Rattle.std.proofs.{Common.◌/◌, lemmas.List.Sums.position_or_len_is, lemmas.Nat.Bits.bit_at-lt, lemmas.Nat.Bits.same_from_bits_below}
-use Rattle.std.proofs.lemmas.Option.{same_Some, slice_get-get_or}
-use Rattle.std.specs.Int.{bit_at}
-use Rattle.note_types.specs.FieldSets.{HasField}
-use Rattle.type_notes.specs.Locals.{SomeNames}
-use Rattle.type_notes.proofs.{FieldSetLaws.field_set-fields, ResolvedTypes.field_set-below}
+use Rattle.point_laws.proofs.Common.{field_name, field_names, names_below, has, AllByRecursion, ◌/◌, position_or_len_is, bit_at-lt}
+use Rattle.point_laws.proofs.Common.{same_from_bits_below, same_Some, slice_get-get_or, bit_at, HasField, SomeNames, field_set-fields}
+use Rattle.point_laws.proofs.Common.{field_set-below}
+use Rattle.point_laws.proofs.NoneAgain.{all_kept, all_of}
 
 -- things of one name are one
 abbrev pub Once : {A : Type 0} → (A → List ℕ) → List A → Type 0
@@ -34,11 +31,15 @@ module _ {A : Type 0} (name : A → List ℕ) (xs : List A) (once : Once name xs
       position_or_len_is p xs k x (omega arith) not_before (λ _. ap p (get_or_from_slice_get xs k x x there) ∙ passes)
 
   pub found_of_name : position p xs ≡ Some k
-  found_of_name =
-      let within = slice_get_within xs k x there in
-      rw (first_of_name, lt-ltb k (length xs) within) refl
+  found_of_name = rw (first_of_name, lt-ltb k (length xs) (slice_get_within xs k x there)) refl
 
-same : (a : List ℕ) → bytes_eq a a ≡ true
+-- two bits are one where they are set together
+same_bit : (a b : ℕ) → a < 2 → b < 2 → (a ≡ 1 → b ≡ 1) → (b ≡ 1 → a ≡ 1) → a ≡ b
+same_bit a b small low there back = ⊎_elim
+    (λ out. ⊎_elim (λ none. omega arith) (λ one. let e : a ≡ 1 = back (omega arith) in absurd (omega arith)) (cases_lt b 1))
+    (λ set. let e : b ≡ 1 = there (omega arith) in omega arith) (cases_lt a 1)
+
+pub same : (a : List ℕ) → bytes_eq a a ≡ true
 same a = (bytes_eq-Decides a a).1 refl
 
 -- the number of a name in a table of names
@@ -63,8 +64,7 @@ module _ (t : NameTables) (fs : List FieldText) (once : Once (λ (g : FieldText)
   field_found : (x : ℕ) → x < length fs → position (λ (g : FieldText). bytes_eq g.name (field_name fields x)) fs ≡ Some x
   field_found x within =
       let g = within_some fs x within in
-      let name : field_name fields x ≡ g.0.name = name_kept x g.0 g.1 in
-      ap (λ n. position (λ (y : FieldText). bytes_eq y.name n) fs) name
+      ap (λ n. position (λ (y : FieldText). bytes_eq y.name n) fs) (name_kept x g.0 g.1)
       ∙ found_of_name (λ (y : FieldText). y.name) fs once (λ y. bytes_eq y.name g.0.name) x g.0 g.1
       (λ y e. (bytes_eq-Decides y.name g.0.name).0 e) (same g.0.name)
 
@@ -74,19 +74,13 @@ module _ (t : NameTables) (fs : List FieldText) (once : Once (λ (g : FieldText)
 
   -- a field of the set has its name among those of the set
   module _ (set : ℕ) (known : (x : ℕ) → HasField set x → x < length fs) where
-    kept_named : (i n : ℕ) (b : Bool) (ns : List ℕ) → has_field set n ≡ b
-        → (SomeNames fs i (map (field_name fields) ns) → HasField set i)
-        → SomeNames fs i (map (field_name fields) (cond b (n ∷ ns) ns)) → HasField set i
-    kept_named i n true ns e rest h = ⊎_elim
+    named_has : (i : ℕ) (ns : List ℕ) → AllByRecursion (λ n. has_field set n ≡ true) ns → SomeNames fs i (map (field_name fields) ns)
+        → HasField set i
+    named_has i [] all h = absurd h
+    named_has i (n ∷ ns) all h = ⊎_elim
         (λ here.
-        let it : n ≡ i = same_Some n i (sym (field_found n (known n (has set n e))) ∙ here) in
-        subst (HasField set) it (has set n e))
-        rest h
-    kept_named i n false ns e rest h = rest h
-
-    named_has : (i : ℕ) (ns : List ℕ) → SomeNames fs i (map (field_name fields) (filter (has_field set) ns)) → HasField set i
-    named_has i [] h = absurd h
-    named_has i (n ∷ ns) h = kept_named i n (has_field set n) (filter (has_field set) ns) refl (named_has i ns) h
+        subst (HasField set) (same_Some n i (sym (field_found n (known n (has set n all.0))) ∙ here)) (has set n all.0))
+        (λ later. named_has i ns all.1 later) h
 
     kept_more : (i n : ℕ) (b : Bool) (ns : List ℕ) → SomeNames fs i (map (field_name fields) ns)
         → SomeNames fs i (map (field_name fields) (cond b (n ∷ ns) ns))
@@ -111,7 +105,10 @@ module _ (t : NameTables) (fs : List FieldText) (once : Once (λ (g : FieldText)
 
     below_has : (i n : ℕ) → SomeNames fs i (names_below fields set n) → HasField set i
     unfolding names_below
-    below_has i n h = named_has i (range_with_len 0 n) h
+    below_has i n h =
+        named_has i (filter (has_field set) (range_with_len 0 n))
+        (all_kept (λ x. has_field set x ≡ true) (has_field set) (range_with_len 0 n)
+        (all_of (λ x. has_field set x ≡ true → has_field set x ≡ true) (range_with_len 0 n) (λ x e. e))) h
 
     has_below : (i n : ℕ) → has_field set i ≡ true → i < length fs → i < n → SomeNames fs i (names_below fields set n)
     unfolding names_below
@@ -123,24 +120,8 @@ module _ (t : NameTables) (fs : List FieldText) (once : Once (λ (g : FieldText)
     bit_again : (i : ℕ) → i < 64 → bit_at (field_set fs (field_names fields set)) i ≡ bit_at set i
     bit_again i small =
         let exact = field_set-fields fs (field_names fields set) i in
-        let a = bit_at (field_set fs (field_names fields set)) i in
-        let x : a < 2 = bit_at-lt (field_set fs (field_names fields set)) i in
-        let y : bit_at set i < 2 = bit_at-lt set i in
-        ⊎_elim
-        (λ out. ⊎_elim
-        (λ none. let l : a ≡ 0 = omega arith in let r : bit_at set i ≡ 0 = omega arith in l ∙ sym r)
-        (λ one.
-        let h : HasField set i = (let e : bit_at set i ≡ 1 = omega arith in e) in
-        let w = known i h in
-        let g : a ≡ 1 = exact.1 (small, has_below i 64 (has_by i small h) w small) in
-        absurd (omega arith))
-        (cases_lt (bit_at set i) 1))
-        (λ in_it.
-        let g : HasField (field_set fs (field_names fields set)) i = (let e : a ≡ 1 = omega arith in e) in
-        let named = exact.0 g in
-        let r : bit_at set i ≡ 1 = below_has i 64 named.1 in
-        let l : a ≡ 1 = omega arith in l ∙ sym r)
-        (cases_lt a 1)
+        same_bit (bit_at (field_set fs (field_names fields set)) i) (bit_at set i) (bit_at-lt (field_set fs (field_names fields set)) i)
+        (bit_at-lt set i) (λ e. below_has i 64 (exact.0 e).1) (λ e. exact.1 (small, has_below i 64 (has_by i small e) (known i e) small))
 
     pub set_again : set < 2 ^ 64 → field_set fs (field_names fields set) ≡ set
     set_again small =

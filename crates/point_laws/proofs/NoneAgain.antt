@@ -1,49 +1,76 @@
--- Lists in which a search finds nothing: no item fails a test, none stands there again, none descends.
-use Rattle.point_laws.proofs.Common.{◌≡◌, ℕ, ◌+◌, ◌-◌, ◌<◌, Bool, true, false, not, List, [], ◌∷◌, length, take, get_or, map, Some, None}
-use Rattle.point_laws.proofs.Common.{refl, sym, ap, ◌∙◌, ⊎_elim, arith, slice_get, list_all, position, position_or_len, range_with_len}
-use Rattle.point_laws.proofs.Common.{IsStrictlyIncreasing, cases_Bool, nat_tests, get_or-take, length-map, length-take-le}
-use Rattle.point_laws.proofs.Common.{get_or_from_slice_get, within_some, first_descent, first_repeat, repeats, repeats-at}
-use Rattle.std.specs.List.{All, AllPairs}
-use Rattle.std.proofs.lemmas.{Bool.le-ltb, List.get_or-map, List.Folds.list_any_none}
-use Rattle.std.proofs.lemmas.List.FromFn.{get_or-range_with_len, length-range_with_len}
-use Rattle.std.proofs.lemmas.List.Kept.{AllPairs-from_increasing}
-use Rattle.note_draft.proofs.RepeatLaws.{first_descent-none, first_repeat-none}
+-- Lists: what holds of each item; and those in which a search finds nothing: no item fails a test, stands there again or descends.
+use Rattle.point_laws.proofs.Common.{and_parts, ◌≡◌, ℕ, zero, suc, ◌+◌, ◌-◌, ◌<◌, ◌≤◌, Bool, true, false, not, List, [], ◌∷◌, length, take}
+use Rattle.point_laws.proofs.Common.{get_or, map, Some, None, refl, sym, ap, ◌∙◌, ⊎_elim, arith, slice_get, list_all, position}
+use Rattle.point_laws.proofs.Common.{position_or_len, range_with_len, IsStrictlyIncreasing, cases_Bool, nat_tests, get_or-take, length-map}
+use Rattle.point_laws.proofs.Common.{length-take-le, get_or_from_slice_get, within_some, first_descent, first_repeat, repeats, repeats-at}
+use Rattle.point_laws.proofs.Common.{All, AllPairs, AllByRecursion, filter, cond_both, Each, each_first, each_rest, le-ltb, get_or-map}
+use Rattle.point_laws.proofs.Common.{list_any_none, get_or-range_with_len, length-range_with_len, AllPairs-from_increasing}
+use Rattle.point_laws.proofs.Common.{first_descent-none, first_repeat-none}
+
+-- ---- each item
+
+pub each_of : {A : Type 0} (P Q : A → Type 0) (xs : List A) → ((x : A) → P x → Q x) → AllByRecursion P xs → AllByRecursion Q xs
+each_of P Q [] f h = tt
+each_of P Q (x ∷ xs) f h = (f x h.0, each_of P Q xs f h.1)
+
+pub all_map : {A B : Type 0} (P : B → Type 0) (f : A → B) (xs : List A) → AllByRecursion (λ x. P (f x)) xs → AllByRecursion P (map f xs)
+all_map P f [] h = tt
+all_map P f (x ∷ xs) h = (h.0, all_map P f xs h.1)
+
+pub all_of : {A : Type 0} (P : A → Type 0) (xs : List A) → ((x : A) → P x) → AllByRecursion P xs
+all_of P [] h = tt
+all_of P (x ∷ xs) h = (h x, all_of P xs h)
+
+-- what holds of each by its number
+pub all_each : {A : Type 0} (P : A → Type 0) (xs : List A) → Each P xs → AllByRecursion P xs
+all_each P [] h = tt
+all_each P (x ∷ xs) h = (each_first P x xs h, all_each P xs (each_rest P x xs h))
+
+-- what holds of each that passes
+pub all_kept : (P : ℕ → Type 0) (p : ℕ → Bool) (xs : List ℕ) → AllByRecursion (λ x. p x ≡ true → P x) xs → AllByRecursion P (filter p xs)
+all_kept P p [] h = tt
+all_kept P p (x ∷ xs) h =
+    let rest : AllByRecursion P (filter p xs) = all_kept P p xs h.1 in
+    cond_both (p x) (x ∷ filter p xs) (filter p xs) (AllByRecursion P) (λ e. (h.0 e, rest)) (λ e. rest)
+
+-- and of each of some numbers
+pub all_range : (P : ℕ → Type 0) (a n : ℕ) → ((r : ℕ) → a ≤ r → r < a + n → P r) → AllByRecursion P (range_with_len a n)
+all_range P a zero h = tt
+all_range P a (suc n) h = (h a (omega arith) (omega arith), all_range P (a + 1) n (λ r low high. h r (omega arith) (omega arith)))
+
+pub map_same : {A B : Type 0} (f g : A → B) (xs : List A) → AllByRecursion (λ x. f x ≡ g x) xs → map f xs ≡ map g xs
+map_same f g [] h = refl
+map_same f g (x ∷ xs) h = rw (h.0, map_same f g xs h.1) refl
 
 -- ---- tests
 
 -- the test passes for each item, seen by f
 abbrev pub AllBy : {A B : Type 0} → (B → Bool) → (A → B) → List A → Type 0
-AllBy p f [] = Unit {0}
-AllBy p f (x ∷ xs) = (p (f x) ≡ true) × AllBy p f xs
+AllBy p f xs = AllByRecursion (λ x. p (f x) ≡ true) xs
 
 -- the test fails for each item, seen by f
 abbrev pub NoneBy : {A B : Type 0} → (B → Bool) → (A → B) → List A → Type 0
-NoneBy q f [] = Unit {0}
-NoneBy q f (x ∷ xs) = (q (f x) ≡ false) × NoneBy q f xs
+NoneBy q f xs = AllByRecursion (λ x. q (f x) ≡ false) xs
 
 nowhere : {A B : Type 0} (q : B → Bool) (f : A → B) (xs : List A) → NoneBy q f xs → position_or_len q (map f xs) ≡ length (map f xs)
 nowhere q f [] h = refl
 nowhere q f (x ∷ xs) h = rw (h.0, nowhere q f xs h.1) (omega arith)
 
 pub none_passes : {A B : Type 0} (q : B → Bool) (f : A → B) (xs : List A) → NoneBy q f xs → position q (map f xs) ≡ None
-none_passes q f xs h =
-    let n = nowhere q f xs h in
-    rw (n, le-ltb (length (map f xs)) (length (map f xs)) (omega arith)) refl
-
-not_by : {A B : Type 0} (p : B → Bool) (f : A → B) (xs : List A) → AllBy p f xs → NoneBy (λ x. not (p x)) f xs
-not_by p f [] h = tt
-not_by p f (x ∷ xs) h = (ap not h.0, not_by p f xs h.1)
+none_passes q f xs h = rw (nowhere q f xs h, le-ltb (length (map f xs)) (length (map f xs)) (omega arith)) refl
 
 pub none_fails : {A B : Type 0} (p : B → Bool) (f : A → B) (xs : List A) → AllBy p f xs → position (λ x. not (p x)) (map f xs) ≡ None
-none_fails p f xs h = none_passes (λ x. not (p x)) f xs (not_by p f xs h)
+none_fails p f xs h = none_passes (λ x. not (p x)) f xs (each_of (λ x. p (f x) ≡ true) (λ x. not (p (f x)) ≡ false) xs (λ x e. ap not e) h)
+
+-- a test that passes where another does passes for each item where that does
+pub all_so : {A : Type 0} (p q : A → Bool) → ((x : A) → p x ≡ true → q x ≡ true) → (xs : List A) → list_all p xs ≡ true
+    → list_all q xs ≡ true
+all_so p q so [] h = refl
+all_so p q so (x ∷ xs) h = let both = and_parts (p x) (list_all p xs) h in rw (so x both.0, all_so p q so xs both.1) refl
 
 pub all_pass : {A B : Type 0} (p : B → Bool) (f : A → B) (xs : List A) → AllBy p f xs → list_all p (map f xs) ≡ true
 all_pass p f [] h = refl
 all_pass p f (x ∷ xs) h = rw (h.0, all_pass p f xs h.1) refl
-
-pub by_each : {A B : Type 0} (p : B → Bool) (f : A → B) (xs : List A) → ((x : A) → p (f x) ≡ true) → AllBy p f xs
-by_each p f [] h = tt
-by_each p f (x ∷ xs) h = (h x, by_each p f xs h)
 
 -- ---- repeats
 
@@ -59,13 +86,11 @@ none_again {A} key same xs alike up = first_repeat-none same xs new
     other k x at within i e low =
         let long : length (take k xs) ≡ k = length-take-le k xs (omega arith) in
         let y = get_or xs i e in
-        let mine : get_or (take k xs) i e ≡ y = get_or-take k xs i e (omega arith) in
-        let below : get_or (map key xs) i (key x) < get_or (map key xs) k (key x) =
-        pairs i k (key x) (omega arith) (let n = length-map xs key in omega arith) in
+        let below = pairs i k (key x) (omega arith) (let n = length-map xs key in omega arith) in
         let first : get_or (map key xs) i (key x) ≡ key y = get_or-map key xs i e (key x) (omega arith) in
         let second : get_or (map key xs) k (key x) ≡ key x = get_or-map key xs k x (key x) within
         ∙ ap key (get_or_from_slice_get xs k x x at) in
-        ap (same x) mine
+        ap (same x) (get_or-take k xs i e (omega arith))
         ∙ ⊎_elim (λ equal. let n : key x ≡ key y = alike x y equal in absurd (omega arith)) (λ differ. differ) (cases_Bool (same x y))
 
     new : (k : ℕ) → k < length xs → repeats same xs k ≡ false

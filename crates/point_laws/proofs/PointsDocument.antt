@@ -1,13 +1,15 @@
 -- The text of points is the document of their tables.
-use Rattle.point_laws.proofs.Common.{◌≡◌, ℕ, suc, ◌^◌, ◌<◌, pos, true, false, List, [], ◌∷◌, ◌++◌, length, Some, refl, sym, ap, ◌∙◌, arith}
-use Rattle.point_laws.proofs.Common.{append_assoc, codes, decimal, flat_map, skip_from-nil, key_text, integer, array, table, Items}
-use Rattle.point_laws.proofs.Common.{no_items, item, Members, no_members, member, Document, Expression, define, key_value, lines}
-use Rattle.point_laws.proofs.Common.{parse_document, IsLineText, lines_end, AllPrinted, run, array_line, members_of, strings, tables_of}
-use Rattle.toml.specs.Tables.{Nodes, no_nodes, node, value, open_array, close, along_dots}
-use Rattle.toml.specs.{Tables.along_header, Tables.at_key, Tables.array_table, Data.push_item, Parse.skip_bom}
-use Rattle.toml.proofs.{ReadValues.item_join, ReadValues.item_join-none, ReadValues.item_join-push, Turns.document_some}
-use Rattle.point_laws.proofs.TomlTexts.{AllPlain, AreLines, array_line_spelled, lines_read, number_line_spelled, strings_flat}
-use Rattle.point_laws.proofs.TomlTexts.{strings_valid}
+use Rattle.point_laws.proofs.Common.{◌≡◌, ℕ, Bool, true, List, [], ◌∷◌, ◌++◌, map, refl, arith, codes, and_parts, ltb-true, nat_tests}
+use Rattle.point_laws.proofs.Common.{IsAscii-nil, decimal, flat_map, list_all, IsAscii, array_line, in_quotes, listed, suc, ◌^◌, ◌<◌, pos}
+use Rattle.point_laws.proofs.Common.{false, length, Some, sym, ap, ◌∙◌, append_assoc, skip_from-nil, key_text, integer, array, table, Items}
+use Rattle.point_laws.proofs.Common.{no_items, Members, no_members, member, Document, Expression, define, key_value, lines, parse_document}
+use Rattle.point_laws.proofs.Common.{IsLineText, lines_end, AllPrinted, run, members_of, strings, tables_of, AllByRecursion, subst, nat_lt}
+use Rattle.point_laws.proofs.Common.{list_all-append, IsAscii-cons, Nodes, no_nodes, node, value, open_array, close, array_table, push_item}
+use Rattle.point_laws.proofs.Common.{item_join, item_join-none, item_join-push, document_some}
+use Rattle.toml.specs.{Tables.along_dots, Tables.along_header, Tables.at_key, Parse.skip_bom}
+use Rattle.point_laws.proofs.{NoneAgain.all_so, TomlTexts.are_plain, TomlTexts.decimal_plain, TomlTexts.is_plain, TomlTexts.AllPlain}
+use Rattle.point_laws.proofs.{TomlTexts.AreLines, TomlTexts.array_line_spelled, TomlTexts.lines_read, TomlTexts.line_then}
+use Rattle.point_laws.proofs.{TomlTexts.no_line, TomlTexts.number_line_spelled, TomlTexts.strings_flat, TomlTexts.strings_valid}
 
 -- ---- one point
 
@@ -57,69 +59,23 @@ glued : (place regs stack written made rest : List ℕ)
     ++ ((codes "made" ++ (codes " = " ++ (made ++ codes "\n"))) ++ rest)))))
 glued place regs stack written made rest = simp append_assoc refl
 
-header_spelled : IsLineText false false ([], codes "point") array_table (codes "[[point]]\n")
-unfolding key_text
-header_spelled = refl
-
-regs_bare : key_text (codes "regs") ≡ codes "regs"
-unfolding key_text
-regs_bare = refl
-
-stack_bare : key_text (codes "stack") ≡ codes "stack"
-unfolding key_text
-stack_bare = refl
-
-written_bare : key_text (codes "written") ≡ codes "written"
-unfolding key_text
-written_bare = refl
-
-place_bare : key_text (codes "place") ≡ codes "place"
-unfolding key_text
-place_bare = refl
-
-made_bare : key_text (codes "made") ≡ codes "made"
-unfolding key_text
-made_bare = refl
-
 told_lines : (x : Told) → IsToldPlain x → (es : List Expression) (rest : List ℕ) → AreLines es rest
     → AreLines (lines_of x es) (told_text x ++ rest)
-unfolding number_line
+unfolding number_line key_text
 told_lines x h es rest more =
-    let made = number_line (codes "made") x.made ++ rest in
-    let written = array_line (codes "written") x.written ++ made in
-    let stack = array_line (codes "stack") x.stack ++ written in
-    let regs = array_line (codes "regs") x.regs ++ stack in (
-      codes "[[point]]\n",
-      number_line (codes "place") x.place ++ regs,
-      glued (decimal x.place) (array_line (codes "regs") x.regs) (array_line (codes "stack") x.stack)
-          (array_line (codes "written") x.written) (decimal x.made) rest,
-      header_spelled,
-      (
-        number_line (codes "place") x.place,
-        regs,
-        refl,
-        number_line_spelled (codes "place") x.place place_bare h.place,
-        (
-          array_line (codes "regs") x.regs,
-          stack,
-          refl,
-          array_line_spelled (codes "regs") x.regs regs_bare h.regs,
-          (
-            array_line (codes "stack") x.stack,
-            written,
-            refl,
-            array_line_spelled (codes "stack") x.stack stack_bare h.stack,
-            (
-              array_line (codes "written") x.written,
-              made,
-              refl,
-              array_line_spelled (codes "written") x.written written_bare h.written,
-              (number_line (codes "made") x.made, rest, refl, number_line_spelled (codes "made") x.made made_bare h.made, more),
-            ),
-          ),
-        ),
-      ),
-    )
+    let regs = array_line (codes "regs") x.regs in
+    let stack = array_line (codes "stack") x.stack in
+    let written = array_line (codes "written") x.written in
+    let place = number_line (codes "place") x.place in
+    let made = number_line (codes "made") x.made in
+    let header : IsLineText false false ([], codes "point") array_table (codes "[[point]]\n") = refl in
+    subst (AreLines (lines_of x es)) (sym (glued (decimal x.place) regs stack written (decimal x.made) rest))
+    (line_then (codes "[[point]]\n") (place ++ (regs ++ (stack ++ (written ++ (made ++ rest))))) header
+    (line_then place (regs ++ (stack ++ (written ++ (made ++ rest)))) (number_line_spelled (codes "place") x.place refl h.place)
+    (line_then regs (stack ++ (written ++ (made ++ rest))) (array_line_spelled (codes "regs") x.regs refl h.regs)
+    (line_then stack (written ++ (made ++ rest)) (array_line_spelled (codes "stack") x.stack refl h.stack)
+    (line_then written (made ++ rest) (array_line_spelled (codes "written") x.written refl h.written)
+    (line_then made rest (number_line_spelled (codes "made") x.made refl h.made) more))))))
 
 told_printed : (x : Told) (es : List Expression) → AllPrinted es → AllPrinted (lines_of x es)
 told_printed x es more = (
@@ -160,10 +116,6 @@ next_run : (done : Items) (last : Nodes) (x : Told) (es : List Expression)
 unfolding define along_header along_dots at_key told_nodes
 next_run done last x es = refl
 
-told_close : (x : Told) → close (told_nodes x) ≡ told_members x
-unfolding told_nodes
-told_close x = refl
-
 -- ---- many points
 
 abbrev all_lines : List Told → List Expression
@@ -171,11 +123,10 @@ all_lines [] = []
 all_lines (x ∷ xs) = lines_of x (all_lines xs)
 
 abbrev pub AllToldPlain : List Told → Type 0
-AllToldPlain [] = Unit {0}
-AllToldPlain (x ∷ xs) = IsToldPlain x × AllToldPlain xs
+AllToldPlain xs = AllByRecursion IsToldPlain xs
 
 all_spelled : (xs : List Told) → AllToldPlain xs → AreLines (all_lines xs) (flat_map told_text xs)
-all_spelled [] h = refl
+all_spelled [] h = no_line
 all_spelled (x ∷ xs) h = told_lines x h.0 (all_lines xs) (flat_map told_text xs) (all_spelled xs h.1)
 
 all_printed : (xs : List Told) → AllPrinted (all_lines xs)
@@ -186,6 +137,7 @@ all_run : (done : Items) (last : Nodes) (xs : List Told)
     → (doc : Document) × (run (list_node done last, codes "point" ∷ []) (all_lines xs) ≡ Some doc)
     × (close doc.0 ≡ member (codes "point") (array (item_join (push_item done (table (close last))) (tables_of told_members xs)))
     no_members)
+unfolding told_nodes
 all_run done last [] = (
   (list_node done last, codes "point" ∷ []),
   refl,
@@ -196,30 +148,59 @@ all_run done last (x ∷ xs) =
       more.0,
       next_run done last x (all_lines xs) ∙ more.1,
       more.2 ∙ ap (λ ds. member (codes "point") (array ds) no_members)
-          (item_join-push (push_item done (table (close last))) (table (close (told_nodes x))) (tables_of told_members xs)
-          ∙ ap (λ ms. item_join (push_item done (table (close last))) (item (table ms) (tables_of told_members xs))) (told_close x)),
+          (item_join-push (push_item done (table (close last))) (table (close (told_nodes x))) (tables_of told_members xs)),
     )
 
 abbrev pub told_document : List Told → Members
 told_document [] = no_members
 told_document (x ∷ xs) = member (codes "point") (array (tables_of told_members (x ∷ xs))) no_members
 
-no_mark : (x : Told) (rest : List ℕ) → skip_bom (told_text x ++ rest) ≡ told_text x ++ rest
-unfolding skip_bom
-no_mark x rest = refl
-
-no_mark_at_all : skip_bom [] ≡ []
-unfolding skip_bom
-no_mark_at_all = refl
-
 pub told_parsed : (xs : List Told) → AllToldPlain xs → parse_document (flat_map told_text xs) ≡ Some (told_document xs)
-told_parsed [] h = document_some [] (no_nodes, [])
-    (ap (lines 1 (no_nodes, [])) no_mark_at_all ∙ lines_end 1 (no_nodes, []) [] (omega arith) (ap length (skip_from-nil true false)))
+unfolding skip_bom told_nodes
+told_parsed [] h = document_some [] (no_nodes, []) (lines_end 1 (no_nodes, []) [] (omega arith) (ap length (skip_from-nil true false)))
 told_parsed (x ∷ xs) h =
     let text = flat_map told_text (x ∷ xs) in
     let more = all_run no_items (told_nodes x) xs in
     let read = lines_read (all_lines (x ∷ xs)) text text (no_nodes, []) (suc (length text)) (all_spelled (x ∷ xs) h) (all_printed (x ∷ xs))
     refl (omega arith) in
-    document_some text more.0
-    (ap (lines (suc (length text)) (no_nodes, [])) (no_mark x (flat_map told_text xs)) ∙ (read ∙ (first_run x (all_lines xs) ∙ more.1)))
-    ∙ ap Some (more.2 ∙ ap (λ ms. member (codes "point") (array (item (table ms) (tables_of told_members xs))) no_members) (told_close x))
+    document_some text more.0 (read ∙ (first_run x (all_lines xs) ∙ more.1)) ∙ ap Some more.2
+
+-- ---- what is printed of points is ASCII
+
+abbrev is_low : ℕ → Bool
+is_low b = nat_lt b 128
+
+-- a text that passes the test
+tested : (bs : List ℕ) → list_all is_low bs ≡ true → IsAscii bs
+tested [] h = IsAscii-nil
+tested (b ∷ bs) h =
+    let both = and_parts (is_low b) (list_all is_low bs) h in
+    IsAscii-cons b bs (ltb-true b 128 both.0) (tested bs both.1)
+
+plain_low : (bs : List ℕ) → are_plain bs ≡ true → list_all is_low bs ≡ true
+plain_low bs h = all_so is_plain is_low (λ b plain. grind (arith, nat_tests)) bs h
+
+others_low : (ts : List (List ℕ)) → AllPlain ts → list_all is_low (flat_map (λ y. codes ", " ++ y) (map in_quotes ts)) ≡ true
+others_low [] h = refl
+others_low (t ∷ ts) h = simp (list_all-append, plain_low t h.0, others_low ts h.1)
+
+listed_low : (ts : List (List ℕ)) → AllPlain ts → list_all is_low (listed (map in_quotes ts)) ≡ true
+listed_low [] h = refl
+listed_low (t ∷ ts) h = simp (list_all-append, plain_low t h.0, others_low ts h.1)
+
+array_low : (key : List ℕ) (ts : List (List ℕ)) → list_all is_low key ≡ true → AllPlain ts → list_all is_low (array_line key ts) ≡ true
+array_low key ts k h = simp (list_all-append, k, listed_low ts h)
+
+glued_low : (place regs stack written made : List ℕ) → list_all is_low place ≡ true → list_all is_low regs ≡ true
+    → list_all is_low stack ≡ true → list_all is_low written ≡ true → list_all is_low made ≡ true
+    → list_all is_low (codes "[[point]]\nplace = "
+    ++ (place ++ (codes "\n" ++ (regs ++ (stack ++ (written ++ (codes "made = " ++ (made ++ codes "\n")))))))) ≡ true
+glued_low place regs stack written made a b c d e = simp (list_all-append, a, b, c, d, e)
+
+pub told_ascii : (x : Told) → IsToldPlain x → IsAscii (told_text x)
+told_ascii x h =
+    tested (told_text x) (glued_low (decimal x.place) (array_line (codes "regs") x.regs) (array_line (codes "stack") x.stack)
+    (array_line (codes "written") x.written) (decimal x.made)
+    (plain_low (decimal x.place) (decimal_plain x.place (omega arith))) (array_low (codes "regs") x.regs refl h.regs)
+    (array_low (codes "stack") x.stack refl h.stack) (array_low (codes "written") x.written refl h.written)
+    (plain_low (decimal x.made) (decimal_plain x.made (omega arith))))

@@ -9,30 +9,21 @@ use Rattle.point_laws.proofs.Common.{Notes, Point, Field, Shape, State, Ty, IsNa
 use Rattle.point_laws.proofs.Common.{rows_of, tables_at, item_of, register_of, AreNames, FieldText, draft_of, point_of, known, once}
 use Rattle.point_laws.proofs.Common.{FunctionDraft, NotesDraft, ShapeDraft, NameTables, known_names, notes_in, notes_of, owner_of}
 use Rattle.point_laws.proofs.Common.{locals_fields, point_locals, resolved, resolved_field, resolved_function, resolved_locals}
-use Rattle.point_laws.proofs.Common.{resolved_point, each_first, each_rest, ok_given, HaveNames, fields_at, item_text, item_texts}
-use Rattle.point_laws.proofs.Common.{register_text, register_texts, told_up_to, field_name, field_names, names_below, has_field, draft_in}
-use Rattle.point_laws.proofs.Common.{item_draft, point_draft, points_members, register_draft, strings, tables_of}
-use Rattle.std.proofs.{Common.◌||◌, lemmas.List.Folds.find_at, lemmas.List.Folds.flat_map-map, lemmas.List.Sums.sum_by-cons}
-use Rattle.std.proofs.lemmas.{Option.none-some, Str.IsUtf8-from_ascii, Str.is_utf8-from_IsUtf8}
-use Rattle.std.specs.Str.{is_utf8}
-use Rattle.ebc_base.proofs.{Given.some_of_map, TableLaws.position_or_len-map}
-use Rattle.note_types.proofs.RecordLaws.{each_none, slots_and_locals}
-use Rattle.note_types.specs.{Known.fields_of, Known.is_slot, Records.IsNotes, Records.function_at}
-use Rattle.note_types.specs.declared.state.Fact.{Fact}
-use Rattle.note_texts.specs.Lists.{has_text}
-use Rattle.type_notes.specs.{Owners.has_place, PointLocals.locals_in, PointLocals.shape_fields, Resolved.resolved_shape, Resolved.state_of}
-use Rattle.type_notes.proofs.{ListBounds.each_map, NotesLaws.known_names-are, NotesLaws.notes_of-notes}
-use Rattle.point_texts.specs.PrintedStates.{point_text, points_text}
-use Rattle.point_texts.proofs.PrintedTypeLaws.{below_are}
-use Rattle.point_laws.specs.PrintedPoints.{IsReading, PrintedPointsAreRead, PrintedPointsAreTables}
-use Rattle.point_laws.specs.PointTables.{members_in, point_members}
-use Rattle.point_laws.proofs.PointsDocument.{AllToldPlain, Told, told_document, told_members, told_parsed, told_text}
-use Rattle.point_laws.proofs.TablesRead.{AllTables, count_strings, names_again, point_read, tables_read, texts_again}
-use Rattle.point_laws.proofs.NamesGiven.{HasNamesOnce, IsNamedShape, draft_named, names_once}
-use Rattle.point_laws.proofs.{NamesNumbered.Once, TomlTexts.AllPlain, PointsResolved.AreNamesOf, TextsRead.AllKnown, TextsRead.KnownItem}
-use Rattle.point_laws.proofs.{TextsRead.names_are_plain, AsciiTexts.told_ascii}
-use Rattle.protocol_script.specs.PrintedLaw.{HasNames}
-use Rattle.protocol_script.proofs.ReadLaws.{read_names}
+use Rattle.point_laws.proofs.Common.{resolved_point, ok_given, HaveNames, fields_at, item_text, item_texts, register_text, register_texts}
+use Rattle.point_laws.proofs.Common.{told_up_to, field_name, field_names, names_below, has_field, draft_in, item_draft, point_draft}
+use Rattle.point_laws.proofs.Common.{points_members, register_draft, strings, tables_of, AllByRecursion, ◌||◌, find_at, flat_map-map}
+use Rattle.point_laws.proofs.Common.{sum_by-cons, none-some, IsUtf8-from_ascii, is_utf8-from_IsUtf8, some_of_map, position_or_len-map}
+use Rattle.point_laws.proofs.Common.{each_none, slots_and_locals, fields_of, is_slot, IsNotes, function_at, Fact, has_text, has_place}
+use Rattle.point_laws.proofs.Common.{locals_in, shape_fields, resolved_shape, state_of, each_map, known_names-are, notes_of-notes}
+use Rattle.point_laws.proofs.Common.{point_text, below_are, IsReading, PrintedPointsAreRead, PrintedPointsAreTables, members_in}
+use Rattle.point_laws.proofs.Common.{point_members, HasNames, read_names}
+use Rattle.point_laws.proofs.{NoneAgain.all_each, NoneAgain.all_map, NoneAgain.each_of, PointsDocument.AllToldPlain}
+use Rattle.point_laws.proofs.{PointsDocument.IsToldPlain, PointsDocument.Told, PointsDocument.told_document, PointsDocument.told_members}
+use Rattle.point_laws.proofs.{PointsDocument.told_parsed, PointsDocument.told_text, PointsDocument.told_ascii, TextsRead.count_strings}
+use Rattle.point_laws.proofs.{TextsRead.names_again, TextsRead.point_read, TextsRead.tables_read, TextsRead.texts_again, TextsRead.AllKnown}
+use Rattle.point_laws.proofs.{TextsRead.KnownItem, TextsRead.names_are_plain, NamesGiven.HasNamesOnce, NamesGiven.IsNamedShape}
+use Rattle.point_laws.proofs.{NamesGiven.draft_named, NamesGiven.names_once, NamesNumbered.Once, TomlTexts.AllPlain}
+use Rattle.point_laws.proofs.{PointsResolved.AreNamesOf}
 use Rattle.note_types.specs.Records as records
 use Rattle.note_types.specs.declared.cell.SlotKind.TheVariants as kinds
 use Rattle.note_types.specs.declared.items.Item.TheVariants as items
@@ -59,11 +50,8 @@ owned t d place f there =
     let k = position_or_len (has_place place) d.function in
     let first : position_or_len P fs ≡ k = sym (position_or_len-map P (resolved_function t) d.function) in
     let here : slice_get fs k ≡ Some f = ap (slice_get fs) (sym first) ∙ (sym (find_at P fs) ∙ there) in
-    let at : option_map (resolved_function t) (slice_get d.function k) ≡ Some f =
-    sym (slice_get-map (resolved_function t) d.function k) ∙ here in
-    let g = some_of_map (resolved_function t) (slice_get d.function k) f at in
-    let within = slice_get_within d.function k g.0 g.1 in
-    let owner : owner_of d.function place ≡ Some k = rw (lt-ltb k (length d.function) within) refl in
+    let g = some_of_map (resolved_function t) (slice_get d.function k) f (sym (slice_get-map (resolved_function t) d.function k) ∙ here) in
+    let owner : owner_of d.function place ≡ Some k = rw (lt-ltb k (length d.function) (slice_get_within d.function k g.0 g.1)) refl in
     record {
       number = k;
       draft = g.0;
@@ -145,22 +133,6 @@ unfolding resolved_shape
 shape_names_kept t [] = refl
 shape_names_kept t (s ∷ ss) = ap (λ names. s.name ∷ names) (shape_names_kept t ss)
 
-shape_named : (t : NameTables) (s : ShapeDraft) → IsNamedShape s → IsName (resolved_shape t s).name
-unfolding resolved_shape
-shape_named t s h = h.name
-
-field_named : (t : NameTables) (x : FieldText) → IsName x.name → IsName (resolved_field t x).name
-unfolding resolved_field
-field_named t x h = h
-
-methods_kept : (t : NameTables) (d : NotesDraft) → t.method ≡ (resolved t d).methods
-unfolding resolved
-methods_kept t d = refl
-
-shapes_kept : (t : NameTables) (d : NotesDraft) → (resolved t d).shape ≡ map (resolved_shape t) d.shape
-unfolding resolved
-shapes_kept t d = refl
-
 module _ (d : NotesDraft) (t : NameTables) (r : IsRead d t) where
   locals_named : (locals : Option (List ℕ)) → Each (λ (x : FieldText). IsName x.name) (locals_fields t d locals)
   unfolding locals_fields
@@ -174,24 +146,25 @@ module _ (d : NotesDraft) (t : NameTables) (r : IsRead d t) where
 
   have_names : (f : FnNote) (fs : List FieldText) → local_fields (resolved t d) f ≡ map (resolved_field t) fs
       → Each (λ (x : FieldText). IsName x.name) fs → HaveNames (resolved t d) (local_fields (resolved t d) f)
+  unfolding resolved resolved_shape resolved_field
   have_names f fs same named =
       record {
-        shapes = subst (Each (λ (s : Shape). IsName s.name)) (sym (shapes_kept t d))
-            (each_map (λ (s : Shape). IsName s.name) (resolved_shape t) d.shape (λ k s at. shape_named t s (r.shapes k s at)));
+        shapes = each_map (λ (s : Shape). IsName s.name) (resolved_shape t) d.shape (λ k s at. (r.shapes k s at).name);
         methods = r.given.methods;
         fields = subst (Each (λ (x : Field). IsName x.name)) (sym same)
-            (each_map (λ (x : Field). IsName x.name) (resolved_field t) fs (λ k x at. field_named t x (named k x at)));
+            (each_map (λ (x : Field). IsName x.name) (resolved_field t) fs named);
       }
 
   pub are_names : (f : FnNote) (fs : List FieldText) → local_fields (resolved t d) f ≡ map (resolved_field t) fs
       → Once (λ (x : FieldText). x.name) fs → length (local_fields (resolved t d) f) ≤ 64 → AreNamesOf t (resolved t d) f fs
+  unfolding resolved
   are_names f fs same once few =
       let long : length (local_fields (resolved t d) f) ≡ length fs = ap length same ∙ length-map fs (resolved_field t) in
       record {
-        shapes = r.names.shape ∙ (sym (shape_names_kept t d.shape) ∙ ap (map (λ (s : Shape). s.name)) (sym (shapes_kept t d)));
+        shapes = r.names.shape ∙ sym (shape_names_kept t d.shape);
         shapes_once = subst (Once (λ name. name)) (sym r.names.shape) r.once.shapes;
-        methods = methods_kept t d;
-        methods_once = subst (Once (λ name. name)) (sym (methods_kept t d)) r.given.methods_once;
+        methods = refl;
+        methods_once = r.given.methods_once;
         fields = same;
         fields_once = once;
         few = omega arith;
@@ -206,8 +179,7 @@ one_known notes f items.Locals h = tt
 
 pub all_known : (notes : Notes) (f : FnNote) (xs : List Item)
     → ((k : ℕ) (kind : SlotKind) (t : Ty) → slice_get xs k ≡ Some (items.Slot kind t) → IsKnown notes f t) → AllKnown notes f xs
-all_known notes f [] h = tt
-all_known notes f (x ∷ xs) h = (one_known notes f x (λ kind t e. h 0 kind t (ap Some e)), all_known notes f xs (λ k. h (suc k)))
+all_known notes f xs h = all_each (KnownItem notes f) xs (λ k x at. one_known notes f x (λ kind t e. h k kind t (at ∙ ap Some e)))
 
 slot_other : (notes : Notes) (fields : List Field) (kind : SlotKind) (t : Ty)
     → bytes_eq (item_text notes fields (items.Slot kind t)) (codes "locals") ≡ false
@@ -220,11 +192,9 @@ no_locals : (notes : Notes) (fields : List Field) (xs : List Item)
     → has_text (codes "locals") (strings (item_texts notes fields xs)) ≡ false → count_by is_locals xs ≡ 0
 no_locals notes fields [] e = refl
 no_locals notes fields (items.Slot kind t ∷ xs) e =
-    let rest : count_by is_locals xs ≡ 0 =
-    no_locals notes fields xs (sym (ap (λ b. b || has_text (codes "locals") (strings (item_texts notes fields xs)))
+    let rest = no_locals notes fields xs (sym (ap (λ b. b || has_text (codes "locals") (strings (item_texts notes fields xs)))
     (slot_other notes fields kind t)) ∙ e) in
-    let b : count_by is_locals (items.Slot kind t ∷ xs) ≡ 0 + count_by is_locals xs =
-    sum_by-cons (λ y. cond (is_locals y) 1 0) (items.Slot kind t) xs in
+    let b = sum_by-cons (λ y. cond (is_locals y) 1 0) (items.Slot kind t) xs in
     omega arith
 no_locals notes fields (items.Locals ∷ xs) e = absurd cc
 
@@ -268,15 +238,22 @@ same_state : (s : State) (regs : List Ty) (stack : List Item) (written : ℕ) (f
     → record { regs = regs; items = stack; written = written; made = s.made; fact = fact } ≡ s
 same_state s regs stack written fact a b c e = rw (a, b, c, e) refl
 
--- what is printed of a point, and what it is read as
-pub record IsPrinted (t : NameTables) (d : NotesDraft) (p : Point) : Type 0 where
-  pub table : (prefix : List ℕ) → point_of prefix (point_members (resolved t d) p) ≡ Ok (point_draft (resolved t d) p)
-  pub point : resolved_point t d (point_draft (resolved t d) p) ≡ p
-  pub regs : AllPlain (register_texts (resolved t d) (fields_at (resolved t d) p.place) p.state)
-  pub stack : AllPlain (item_texts (resolved t d) (fields_at (resolved t d) p.place) p.state.items)
-  pub written : AllPlain (field_names (fields_at (resolved t d) p.place) p.state.written)
+-- what is printed of a point where the locals have these fields, and what it is read as
+pub record PrintedWith (t : NameTables) (d : NotesDraft) (p : Point) (fl : List Field) : Type 0 where
+  pub table : (prefix : List ℕ) → point_of prefix (members_in (resolved t d) fl p) ≡ Ok (draft_in (resolved t d) fl p)
+  pub point : resolved_point t d (draft_in (resolved t d) fl p) ≡ p
+  pub regs : AllPlain (register_texts (resolved t d) fl p.state)
+  pub stack : AllPlain (item_texts (resolved t d) fl p.state.items)
+  pub written : AllPlain (field_names fl p.state.written)
   pub place : p.place < 2 ^ 63
   pub made : p.state.made < 2 ^ 63
+
+abbrev pub IsPrinted : NameTables → NotesDraft → Point → Type 0
+IsPrinted t d p = PrintedWith t d p (fields_at (resolved t d) p.place)
+
+pub here : (notes : Notes) (p : Point) (n : IsPointNote notes p) → fields_at notes p.place ≡ local_fields notes n.owner
+unfolding fields_at
+here notes p n = ap (λ o. option_map_or (local_fields notes) o []) n.there
 
 module _ (d : NotesDraft) (t : NameTables) (p : Point) (n : IsPointNote (resolved t d) p) (fs : List FieldText)
     (h : HaveNames (resolved t d) (local_fields (resolved t d) n.owner)) (a : AreNamesOf t (resolved t d) n.owner fs) where
@@ -291,11 +268,8 @@ module _ (d : NotesDraft) (t : NameTables) (p : Point) (n : IsPointNote (resolve
 
   table_again : (prefix : List ℕ) → point_of prefix (members_in (resolved t d) fields p) ≡ Ok (draft_in (resolved t d) fields p)
   table_again prefix =
-      let place = n.place in
-      let made = n.made in
       let told = told_short p.state 7 in
-      let long : length (register_texts (resolved t d) fields p.state) ≡ length (told_up_to p.state 7) =
-      length-map (told_up_to p.state 7) (register_text (resolved t d) fields p.state) in
+      let long = length-map (told_up_to p.state 7) (register_text (resolved t d) fields p.state) in
       let short = names_short fields p.state.written 64 in
       point_read prefix p.place p.state.made (register_texts (resolved t d) fields p.state) (item_texts (resolved t d) fields p.state.items)
       (field_names fields p.state.written) (map (register_draft (resolved t d) fields p.state) (told_up_to p.state 7))
@@ -319,34 +293,22 @@ module _ (d : NotesDraft) (t : NameTables) (p : Point) (n : IsPointNote (resolve
       ap (λ (fl : List FieldText). record { place = p.place; state = state_of t fl (draft_in (resolved t d) fields p) }) same
       ∙ ap (λ (s : State). record { place = p.place; state = s }) state_again
 
-  here : fields_at (resolved t d) p.place ≡ fields
-  unfolding fields_at
-  here = ap (λ o. option_map_or (local_fields (resolved t d)) o []) n.there
-
   printed : (point_locals t d p.place).fields ≡ fs → IsPrinted t d p
-  printed same =
-      let place = n.place in
-      let made = n.made in
-      record {
-        table = λ prefix. subst (λ fl. point_of prefix (members_in (resolved t d) fl p) ≡ Ok (draft_in (resolved t d) fl p)) (sym here)
-            (table_again prefix);
-        point = subst (λ fl. resolved_point t d (draft_in (resolved t d) fl p) ≡ p) (sym here) (point_again same);
-        regs = subst (λ fl. AllPlain (register_texts (resolved t d) fl p.state)) (sym here)
-            (reading.registers_plain (resolved t d) n.owner h p.state n.state);
-        stack = subst (λ fl. AllPlain (item_texts (resolved t d) fl p.state.items)) (sym here)
-            (reading.items_plain (resolved t d) n.owner h p.state.items items_known);
-        written = subst (λ fl. AllPlain (field_names fl p.state.written)) (sym here)
-            (names_are_plain (field_names fields p.state.written) written_named);
-        place = omega arith;
-        made = omega arith;
-      }
+  printed same = subst (PrintedWith t d p) (sym (here (resolved t d) p n)) (record {
+    table = table_again;
+    point = point_again same;
+    regs = reading.registers_plain (resolved t d) n.owner h p.state n.state;
+    stack = reading.items_plain (resolved t d) n.owner h p.state.items items_known;
+    written = names_are_plain (field_names fields p.state.written) written_named;
+    place = omega (arith, n.place);
+    made = omega (arith, n.made);
+  })
 
 pub is_printed : (d : NotesDraft) (t : NameTables) → IsRead d t → (p : Point) → IsPointNote (resolved t d) p → IsPrinted t d p
 is_printed d t r p n =
     let o = owned t d p.place n.owner n.there in
     let fs = locals_fields t d o.draft.locals in
-    let same : local_fields (resolved t d) n.owner ≡ map (resolved_field t) fs =
-    ap (local_fields (resolved t d)) (sym o.same) ∙ its_fields t d o.draft in
+    let same = ap (local_fields (resolved t d)) (sym o.same) ∙ its_fields t d o.draft in
     let few : length (local_fields (resolved t d) n.owner) ≤ 64 = (r.notes.functions o.number n.owner o.there).fields in
     printed d t p n fs (have_names d t r n.owner fs same (locals_named d t r o.draft.locals))
     (are_names d t r n.owner fs same (locals_once d t r o.draft.locals) few) (ap (λ l. l.fields) o.locals)
@@ -354,18 +316,14 @@ is_printed d t r p n =
 -- ---- the points
 
 abbrev pub AllPrinted : NameTables → NotesDraft → List Point → Type 0
-AllPrinted t d [] = Unit {0}
-AllPrinted t d (p ∷ ps) = IsPrinted t d p × AllPrinted t d ps
+AllPrinted t d ps = AllByRecursion (IsPrinted t d) ps
 
 pub all_printed : (d : NotesDraft) (t : NameTables) → IsRead d t → (ps : List Point) → Each (IsPointNote (resolved t d)) ps
     → AllPrinted t d ps
-all_printed d t r [] h = tt
-all_printed d t r (p ∷ ps) h = (
-  is_printed d t r p (each_first (IsPointNote (resolved t d)) p ps h),
-  all_printed d t r ps (each_rest (IsPointNote (resolved t d)) p ps h),
-)
+all_printed d t r ps h =
+    each_of (IsPointNote (resolved t d)) (IsPrinted t d) ps (is_printed d t r) (all_each (IsPointNote (resolved t d)) ps h)
 
-told_of : Notes → Point → Told
+abbrev told_of : Notes → Point → Told
 told_of notes p =
     record {
       place = p.place;
@@ -376,22 +334,16 @@ told_of notes p =
     }
 
 all_plain : (d : NotesDraft) (t : NameTables) (ps : List Point) → AllPrinted t d ps → AllToldPlain (map (told_of (resolved t d)) ps)
-unfolding told_of
-all_plain d t [] h = tt
-all_plain d t (p ∷ ps) h =
-    (record { place = h.0.place; made = h.0.made; regs = h.0.regs; stack = h.0.stack; written = h.0.written }, all_plain d t ps h.1)
-
-text_told : (notes : Notes) (ps : List Point) → points_text notes ps ≡ flat_map told_text (map (told_of notes) ps)
-unfolding point_text told_of
-text_told notes ps = sym (flat_map-map told_text (told_of notes) ps)
+all_plain d t ps h =
+    all_map IsToldPlain (told_of (resolved t d)) ps
+    (each_of (IsPrinted t d) (λ p. IsToldPlain (told_of (resolved t d) p)) ps
+    (λ p h. record { place = h.place; made = h.made; regs = h.regs; stack = h.stack; written = h.written }) h)
 
 tables_told : (notes : Notes) (ps : List Point) → tables_of told_members (map (told_of notes) ps) ≡ tables_of (point_members notes) ps
-unfolding told_of
 tables_told notes [] = refl
 tables_told notes (p ∷ ps) = ap (item (table (point_members notes p))) (tables_told notes ps)
 
 document_told : (notes : Notes) (ps : List Point) → told_document (map (told_of notes) ps) ≡ points_members notes ps
-unfolding told_of
 document_told notes [] = refl
 document_told notes (p ∷ ps) =
     ap (λ ds. member (codes "point") (array (item (table (point_members notes p)) ds)) no_members) (tables_told notes ps)
@@ -404,22 +356,17 @@ document_of : (xs : List Told) → AllToldPlain xs → document (flat_map told_t
 unfolding document
 document_of xs h =
     let text = flat_map told_text xs in
-    let utf8 : is_utf8 text ≡ true = is_utf8-from_IsUtf8 text (IsUtf8-from_ascii text (all_ascii xs h)) in
-    rw (utf8, told_parsed xs h) refl
+    rw (is_utf8-from_IsUtf8 text (IsUtf8-from_ascii text (all_ascii xs h)), told_parsed xs h) refl
 
 pub printed_tables : PrintedPointsAreTables
+unfolding point_text
 printed_tables text d t h ps n =
     let notes = resolved t d in
     let all = all_printed d t (is_read text d t h) ps n in
-    ap document (text_told notes ps)
+    ap document (sym (flat_map-map told_text (told_of notes) ps))
     ∙ (document_of (map (told_of notes) ps) (all_plain d t ps all) ∙ ap (λ m. Ok m) (document_told notes ps))
 
-all_tables : (d : NotesDraft) (t : NameTables) (ps : List Point) → AllPrinted t d ps
-    → AllTables point_of (point_members (resolved t d)) (point_draft (resolved t d)) ps
-all_tables d t [] h = tt
-all_tables d t (p ∷ ps) h = (h.0.table, all_tables d t ps h.1)
-
-all_points : (d : NotesDraft) (t : NameTables) (ps : List Point) → AllPrinted t d ps
+pub all_points : (d : NotesDraft) (t : NameTables) (ps : List Point) → AllPrinted t d ps
     → map (resolved_point t d) (map (point_draft (resolved t d)) ps) ≡ ps
 all_points d t [] h = refl
 all_points d t (p ∷ ps) h = rw (h.0.point, all_points d t ps h.1) refl
@@ -433,7 +380,9 @@ pub tables_again : (d : NotesDraft) (t : NameTables) (ps : List Point) (limit : 
 tables_again d t [] limit h few = no_tables limit
 tables_again d t (p ∷ ps) limit h few =
     tables_read point_of (point_members (resolved t d)) (point_draft (resolved t d)) (codes "point") limit
-    (points_members (resolved t d) (p ∷ ps)) (p ∷ ps) refl few (all_tables d t (p ∷ ps) h)
+    (points_members (resolved t d) (p ∷ ps)) (p ∷ ps) refl few
+    (each_of (IsPrinted t d) (λ p. (prefix : List ℕ) → point_of prefix (point_members (resolved t d) p) ≡ Ok (point_draft (resolved t d) p))
+    (p ∷ ps) (λ p h. h.table) h)
 
 pub printed_points : PrintedPointsAreRead
 printed_points text d t h ps n few =

@@ -1,16 +1,14 @@
 -- The draft of a point stands for the point.
-use Rattle.point_laws.proofs.Common.{◌≡◌, ℕ, zero, suc, ◌+◌, ◌^◌, ◌<◌, ◌≤◌, Bool, true, false, not, List, [], ◌∷◌, length, filter, map}
-use Rattle.point_laws.proofs.Common.{cond, Option, Some, None, refl, sym, ap, subst, ◌∙◌, ⊎_elim, arith, slice_get, nat_eq, nat_le}
-use Rattle.point_laws.proofs.Common.{range_with_len, option_map_or, option_map, and_parts, cases_lt, eq-eqb, eqb-true, le-leb, ltb-true}
-use Rattle.point_laws.proofs.Common.{nat_tests, length-map, slice_get-map, name_number, within_some, AreFields, CellNames, IsKnown, IsState}
+use Rattle.point_laws.proofs.Common.{map-id, ◌≡◌, ℕ, zero, suc, ◌+◌, ◌^◌, ◌<◌, ◌≤◌, Bool, true, false, not, List, [], ◌∷◌, length, filter}
+use Rattle.point_laws.proofs.Common.{map, cond, Option, Some, None, refl, sym, ap, subst, ◌∙◌, ⊎_elim, arith, slice_get, nat_eq, nat_le}
+use Rattle.point_laws.proofs.Common.{range_with_len, option_map_or, and_parts, cases_lt, eq-eqb, eqb-true, le-leb, ltb-true, nat_tests}
+use Rattle.point_laws.proofs.Common.{length-map, slice_get-map, name_number, within_some, AreFields, CellNames, IsKnown, IsState}
 use Rattle.point_laws.proofs.Common.{local_fields, type_of, Cell, Item, FnNote, Notes, Shape, State, Ty, FieldText, RegisterText}
 use Rattle.point_laws.proofs.Common.{NameTables, field_number, field_set, resolved_field, named_cell, named_type, is_left_out, told_up_to}
-use Rattle.point_laws.proofs.Common.{field_name, field_names, method_name, shape_name, item_draft, register_draft}
-use Rattle.std.specs.List.{find}
-use Rattle.std.proofs.lemmas.List.FromFn.{fill_by_all}
-use Rattle.type_notes.specs.Resolved.{given_or_left_out, left_out, register_type, resolved_cell, resolved_item, resolved_type}
-use Rattle.point_laws.proofs.NamesNumbered.{Once, field_again, number_of_name, set_again}
-use Rattle.point_laws.proofs.TextsRead.{AllKnown, KnownItem}
+use Rattle.point_laws.proofs.Common.{field_name, field_names, method_name, shape_name, item_draft, register_draft, find, fill_by_all}
+use Rattle.point_laws.proofs.Common.{given_or_left_out, left_out, register_type, resolved_cell, resolved_item, resolved_type}
+use Rattle.point_laws.proofs.{NamesNumbered.Once, NamesNumbered.field_again, NamesNumbered.number_of_name, NamesNumbered.set_again}
+use Rattle.point_laws.proofs.{NoneAgain.all_range, NoneAgain.map_same, TextsRead.AllKnown, TextsRead.KnownItem}
 use Rattle.note_types.specs.declared.cell.Cell.TheVariants as cell
 use Rattle.note_types.specs.declared.items.Item.TheVariants as item
 use Rattle.note_types.specs.declared.types.Ty.TheVariants as ty
@@ -30,8 +28,7 @@ pub name_there : {A : Type 0} (name : A → List ℕ) (xs : List A) (names : Lis
     → slice_get names k ≡ Some (option_map_or name (slice_get xs k) [])
 name_there name xs names k same within =
     let x = within_some xs k within in
-    ap (λ ns. slice_get ns k) same
-    ∙ (slice_get-map name xs k ∙ (ap (option_map name) x.1 ∙ ap (λ o. Some (option_map_or name o [])) (sym x.1)))
+    rw (same, slice_get-map name xs k, x.1) refl
 
 module _ (t : NameTables) (notes : Notes) (f : FnNote) (fs : List FieldText) (a : AreNamesOf t notes f fs) where
   shape_again : (s : ℕ) → s < length notes.shape → name_number (shape_name notes s) t.shape ≡ s
@@ -39,10 +36,8 @@ module _ (t : NameTables) (notes : Notes) (f : FnNote) (fs : List FieldText) (a 
       (name_there (λ (x : Shape). x.name) notes.shape t.shape s a.shapes within)
 
   method_again : (m : ℕ) → m < length notes.methods → name_number (method_name notes m) t.method ≡ m
-  method_again m within =
-      let name = within_some notes.methods m within in
-      number_of_name t.method a.methods_once m (method_name notes m)
-      (ap (λ ns. slice_get ns m) a.methods ∙ (name.1 ∙ ap (λ (o : Option (List ℕ)). Some (option_map_or (λ n. n) o [])) (sym name.1)))
+  method_again m within = number_of_name t.method a.methods_once m (method_name notes m)
+      (name_there (λ n. n) notes.methods t.method m (a.methods ∙ sym (map-id notes.methods)) within)
 
   cell_again : (c : Cell) → CellNames notes c → resolved_cell t (named_cell notes c) ≡ c
   unfolding resolved_cell named_cell
@@ -51,7 +46,7 @@ module _ (t : NameTables) (notes : Notes) (f : FnNote) (fs : List FieldText) (a 
   cell_again (cell.Method m) n = ap (λ x. cell.Method x) (method_again m n)
   cell_again c n = refl
 
-  long : length (local_fields notes f) ≡ length fs
+  pub long : length (local_fields notes f) ≡ length fs
   long = ap length a.fields ∙ length-map fs (resolved_field t)
 
   field_read : (x : ℕ) → x < length (local_fields notes f) → field_number fs (field_name (local_fields notes f) x) ≡ x
@@ -146,33 +141,19 @@ module _ (t : NameTables) (notes : Notes) (f : FnNote) (fs : List FieldText) (a 
   unfolding told_up_to
   told_found s r n low high = found_told s (λ x. not (is_left_out x (type_of s x))) r 1 n low (omega arith)
 
-  register_again : (s : State) → IsState notes f s → (r : ℕ) → 1 ≤ r → r ≤ 7
-      → register_type t fs (map (register_draft notes (local_fields notes f) s) (told_up_to s 7)) r ≡ type_of s r
+  -- the type of a register, by those that are told
+  abbrev told_type : State → ℕ → Ty
+  told_type s r = register_type t fs (map (register_draft notes (local_fields notes f) s) (told_up_to s 7)) r
+
+  register_again : (s : State) → IsState notes f s → (r : ℕ) → 1 ≤ r → r ≤ 7 → told_type s r ≡ type_of s r
   unfolding register_type sought
   register_again s k r low high =
       ap (given_or_left_out t fs r) (told_found s r 7 low high)
       ∙ told_or_left s r (is_left_out r (type_of s r)) low (k.registers r) refl
 
-  pub registers_again : (s : State) → IsState notes f s
-      → ty.Any ∷
-      register_type t fs (map (register_draft notes (local_fields notes f) s) (told_up_to s 7)) 1 ∷
-      register_type t fs (map (register_draft notes (local_fields notes f) s) (told_up_to s 7)) 2 ∷
-      register_type t fs (map (register_draft notes (local_fields notes f) s) (told_up_to s 7)) 3 ∷
-      register_type t fs (map (register_draft notes (local_fields notes f) s) (told_up_to s 7)) 4 ∷
-      register_type t fs (map (register_draft notes (local_fields notes f) s) (told_up_to s 7)) 5 ∷
-      register_type t fs (map (register_draft notes (local_fields notes f) s) (told_up_to s 7)) 6 ∷
-      register_type t fs (map (register_draft notes (local_fields notes f) s) (told_up_to s 7)) 7 ∷ [] ≡ s.regs
+  pub registers_again : (s : State) → IsState notes f s → ty.Any ∷ map (told_type s) (range_with_len 1 7) ≡ s.regs
   registers_again s k =
-      let unused : type_of s 0 ≡ ty.Any = k.unused in
       let all : s.regs ≡ map (type_of s) (range_with_len 0 8) = fill_by_all (type_of s) s.regs 8 ty.Any k.eight (λ j h. refl) in
-      rw (
-        register_again s k 1 (omega arith) (omega arith),
-        register_again s k 2 (omega arith) (omega arith),
-        register_again s k 3 (omega arith) (omega arith),
-        register_again s k 4 (omega arith) (omega arith),
-        register_again s k 5 (omega arith) (omega arith),
-        register_again s k 6 (omega arith) (omega arith),
-        register_again s k 7 (omega arith) (omega arith),
-      )
-      (ap (λ (x : Ty). x ∷ type_of s 1 ∷ type_of s 2 ∷ type_of s 3 ∷ type_of s 4 ∷ type_of s 5 ∷ type_of s 6 ∷ type_of s 7 ∷ [])
-      (sym unused) ∙ sym all)
+      ap (λ xs. ty.Any ∷ xs) (map_same (told_type s) (type_of s) (range_with_len 1 7)
+      (all_range (λ r. told_type s r ≡ type_of s r) 1 7 (λ r low high. register_again s k r low (omega arith))))
+      ∙ (ap (λ (x : Ty). x ∷ map (type_of s) (range_with_len 1 7)) (sym k.unused) ∙ sym all)

@@ -21,13 +21,11 @@ behind =
     ++ codes "[[site]]\nplace = 0x1014\nsignature = \"locate\"\n\n[[site]]\nplace = 0x1032\nsignature = \"register\"\n"
 
 abbrev point : List ℕ
-point =
-    codes "[[point]]\nplace = 0x103E\nregs = [\"R5 sstatus!p\", \"R7 status!p\"]\nstack = [\"locals\"]\nwritten = []\nmade = 1\n"
+point = codes "[[point]]\nplace = 0x103E\nregs = [\"R5 sstatus!p\", \"R7 status!p\"]\nstack = [\"locals\"]\nwritten = []\nmade = 1\n"
 
 -- what is printed of it
 abbrev printed : List ℕ
-printed =
-    codes "[[point]]\nplace = 4158\nregs = [\"R5 sstatus!p\", \"R7 status!p\"]\nstack = [\"locals\"]\nwritten = []\nmade = 1\n"
+printed = codes "[[point]]\nplace = 4158\nregs = [\"R5 sstatus!p\", \"R7 status!p\"]\nstack = [\"locals\"]\nwritten = []\nmade = 1\n"
 
 a_document : is_some (parse_document (before ++ (behind ++ printed))) ≡ true
 unfolding toml_on_literals

@@ -1,23 +1,22 @@
 -- What is printed of registers, items and names is read as these, and is plain.
-use Rattle.point_laws.proofs.Common.{◌≡◌, ℕ, zero, suc, ◌+◌, ◌≤◌, Bool, true, false, not, cond, List, [], ◌∷◌, ◌++◌, filter, map, Option}
-use Rattle.point_laws.proofs.Common.{Some, refl, arith, codes, decimal, range_with_len, IsKnown, IsState, local_fields, type_of, SlotKind}
-use Rattle.point_laws.proofs.Common.{Item, FnNote, Notes, State, AreNames, HaveNames, named_type, is_left_out, item_text, item_texts}
-use Rattle.point_laws.proofs.Common.{register_text, register_texts, told_up_to, item_draft, register_draft}
-use Rattle.note_texts.specs.SlotGrammar.{kind_text}
-use Rattle.note_texts.specs.declared.slot.ItemText.TheVariants.{Slot, Locals}
-use Rattle.note_texts.proofs.SlotLaws.{item_read, register_read}
-use Rattle.point_texts.specs.PrintedTypes.{type_text}
-use Rattle.point_texts.proofs.PrintedTypeLaws.{type_spelled}
-use Rattle.point_laws.proofs.PlainTexts.{are_plain, decimal_plain, name_plain, plain-append}
-use Rattle.point_laws.proofs.{PlainTexts.type_plain, TomlTexts.AllPlain}
+use Rattle.point_laws.proofs.Common.{◌≡◌, ℕ, ◌+◌, ◌≤◌, true, not, List, [], ◌∷◌, ◌++◌, map, Option, Some, refl, arith, codes, decimal}
+use Rattle.point_laws.proofs.Common.{AllByRecursion, range_with_len, IsKnown, IsState, local_fields, type_of, SlotKind, Item, FnNote, Notes}
+use Rattle.point_laws.proofs.Common.{State, AreNames, HaveNames, named_type, is_left_out, item_text, item_texts, register_text, IsName}
+use Rattle.point_laws.proofs.Common.{register_texts, told_up_to, item_draft, register_draft, pos, length, ap, ◌∙◌, nat_le, Ok, Result}
+use Rattle.point_laws.proofs.Common.{subst, le-leb, integer, array, Members, get_member, name_of, TomlFault, number_at, only_keys}
+use Rattle.point_laws.proofs.Common.{row_prefix, text_of, array_at, count, count_beside, each, list_at, row_of, rows_of, tables_at}
+use Rattle.point_laws.proofs.Common.{texts_at, texts_of, item_of, register_of, ItemText, RegisterText, greatest_32, point_of, members_of}
+use Rattle.point_laws.proofs.Common.{strings, tables_of, kind_text, Slot, Locals, texts_beside_at, item_read, register_read}
+use Rattle.point_laws.proofs.Common.{name_of-complete, type_text, type_spelled, greatest_64, last_place, point_made, map-id}
+use Rattle.point_laws.proofs.TomlTexts.{are_plain, decimal_plain, name_plain, plain-append, type_plain, AllPlain}
+use Rattle.point_laws.proofs.NoneAgain.{all_kept, all_map, all_range, each_of}
 use Rattle.note_types.specs.declared.cell.SlotKind.TheVariants as kinds
 use Rattle.note_types.specs.declared.items.Item.TheVariants as item_of
 use Rattle.note_texts.specs.SlotTexts as slots
 
 -- each text is read as a value of its own
 abbrev pub AllRead : {A B : Type 0} → (List ℕ → Option A) → (B → List ℕ) → (B → A) → List B → Type 0
-AllRead reads text value [] = Unit {0}
-AllRead reads text value (x ∷ xs) = (reads (text x) ≡ Some (value x)) × AllRead reads text value xs
+AllRead reads text value xs = AllByRecursion (λ x. reads (text x) ≡ Some (value x)) xs
 
 -- what a slot holds is known
 abbrev pub KnownItem : Notes → FnNote → Item → Type 0
@@ -25,8 +24,7 @@ KnownItem notes f (item_of.Slot kind t) = IsKnown notes f t
 KnownItem notes f item_of.Locals = Unit {0}
 
 abbrev pub AllKnown : Notes → FnNote → List Item → Type 0
-AllKnown notes f [] = Unit {0}
-AllKnown notes f (x ∷ xs) = KnownItem notes f x × AllKnown notes f xs
+AllKnown notes f xs = AllByRecursion (KnownItem notes f) xs
 
 module _ (notes : Notes) (f : FnNote) (h : HaveNames notes (local_fields notes f)) where
   -- ---- registers
@@ -44,50 +42,23 @@ module _ (notes : Notes) (f : FnNote) (h : HaveNames notes (local_fields notes f
       plain-append (codes "R" ++ decimal r) (codes " " ++ t) (decimal_plain r (omega arith))
       (type_plain t (named_type notes (local_fields notes f) (type_of s r)) (type_spelled notes f h (type_of s r) (k.registers r)))
 
-  kept_read : (s : State) → IsState notes f s → (r : ℕ) (b : Bool) (rs : List ℕ) → 1 ≤ r → r ≤ 7
-      → AllRead slots.register_of (register_text notes (local_fields notes f) s) (register_draft notes (local_fields notes f) s) rs
-      → AllRead slots.register_of (register_text notes (local_fields notes f) s) (register_draft notes (local_fields notes f) s)
-      (cond b (r ∷ rs) rs)
-  kept_read s k r true rs low high more = (register_again s k r low high, more)
-  kept_read s k r false rs low high more = more
-
-  registers_from : (s : State) → IsState notes f s → (p : ℕ → Bool) (a n : ℕ) → 1 ≤ a → a + n ≤ 8
-      → AllRead slots.register_of (register_text notes (local_fields notes f) s) (register_draft notes (local_fields notes f) s)
-      (filter p (range_with_len a n))
-  registers_from s k p a zero low high = tt
-  registers_from s k p a (suc n) low high = kept_read s k a (p a) (filter p (range_with_len (a + 1) n)) low (omega arith)
-      (registers_from s k p (a + 1) n (omega arith) (omega arith))
-
-  told_read : (s : State) → IsState notes f s → (n : ℕ) → n ≤ 7
-      → AllRead slots.register_of (register_text notes (local_fields notes f) s) (register_draft notes (local_fields notes f) s)
-      (told_up_to s n)
+  -- what holds of registers holds of those that are told
+  told_all : (s : State) (P : ℕ → Type 0) → ((r : ℕ) → 1 ≤ r → r ≤ 7 → P r) → AllByRecursion P (told_up_to s 7)
   unfolding told_up_to
-  told_read s k n few = registers_from s k (λ r. not (is_left_out r (type_of s r))) 1 n (omega arith) (omega arith)
+  told_all s P h = all_kept P (λ r. not (is_left_out r (type_of s r))) (range_with_len 1 7)
+      (all_range (λ r. not (is_left_out r (type_of s r)) ≡ true → P r) 1 7 (λ r low high e. h r low (omega arith)))
 
   pub registers_read : (s : State) → IsState notes f s
       → AllRead slots.register_of (register_text notes (local_fields notes f) s) (register_draft notes (local_fields notes f) s)
       (told_up_to s 7)
-  registers_read s k = told_read s k 7 (omega arith)
-
-  kept_plain : (s : State) → IsState notes f s → (r : ℕ) (b : Bool) (rs : List ℕ) → r ≤ 7
-      → AllPlain (map (register_text notes (local_fields notes f) s) rs)
-      → AllPlain (map (register_text notes (local_fields notes f) s) (cond b (r ∷ rs) rs))
-  kept_plain s k r true rs high more = (register_plain s k r high, more)
-  kept_plain s k r false rs high more = more
-
-  registers_from_plain : (s : State) → IsState notes f s → (p : ℕ → Bool) (a n : ℕ) → a + n ≤ 8
-      → AllPlain (map (register_text notes (local_fields notes f) s) (filter p (range_with_len a n)))
-  registers_from_plain s k p a zero high = tt
-  registers_from_plain s k p a (suc n) high = kept_plain s k a (p a) (filter p (range_with_len (a + 1) n)) (omega arith)
-      (registers_from_plain s k p (a + 1) n (omega arith))
-
-  told_plain : (s : State) → IsState notes f s → (n : ℕ) → n ≤ 7
-      → AllPlain (map (register_text notes (local_fields notes f) s) (told_up_to s n))
-  unfolding told_up_to
-  told_plain s k n few = registers_from_plain s k (λ r. not (is_left_out r (type_of s r))) 1 n (omega arith)
+  registers_read s k =
+      told_all s (λ r. slots.register_of (register_text notes (local_fields notes f) s r) ≡ Some
+      (register_draft notes (local_fields notes f) s r)) (register_again s k)
 
   pub registers_plain : (s : State) → IsState notes f s → AllPlain (register_texts notes (local_fields notes f) s)
-  registers_plain s k = told_plain s k 7 (omega arith)
+  registers_plain s k =
+      all_map (λ t. are_plain t ≡ true) (register_text notes (local_fields notes f) s) (told_up_to s 7)
+      (told_all s (λ r. are_plain (register_text notes (local_fields notes f) s r) ≡ true) (λ r low high. register_plain s k r high))
 
   -- ---- items
 
@@ -113,15 +84,103 @@ module _ (notes : Notes) (f : FnNote) (h : HaveNames notes (local_fields notes f
 
   pub items_read : (xs : List Item) → AllKnown notes f xs
       → AllRead slots.item_of (item_text notes (local_fields notes f)) (item_draft notes (local_fields notes f)) xs
-  items_read [] k = tt
-  items_read (x ∷ xs) k = (item_again x k.0, items_read xs k.1)
+  items_read xs k =
+      each_of (KnownItem notes f) (λ x. slots.item_of (item_text notes (local_fields notes f) x) ≡ Some
+      (item_draft notes (local_fields notes f) x)) xs item_again k
 
   pub items_plain : (xs : List Item) → AllKnown notes f xs → AllPlain (item_texts notes (local_fields notes f) xs)
-  items_plain [] k = tt
-  items_plain (x ∷ xs) k = (item_plain x k.0, items_plain xs k.1)
+  items_plain xs k =
+      all_map (λ t. are_plain t ≡ true) (item_text notes (local_fields notes f)) xs
+      (each_of (KnownItem notes f) (λ x. are_plain (item_text notes (local_fields notes f) x) ≡ true) xs item_plain k)
 
 -- ---- names
 
 pub names_are_plain : (names : List (List ℕ)) → AreNames names → AllPlain names
-names_are_plain [] h = tt
-names_are_plain (name ∷ names) h = (name_plain name h.0, names_are_plain names h.1)
+names_are_plain names h = each_of IsName (λ name. are_plain name ≡ true) names name_plain h
+
+-- ---- the tables of points are read as the drafts of the points
+
+-- texts are read one after the other
+each_text : {A B : Type 0} (reads : List ℕ → Option A) (text : B → List ℕ) (value : B → A) (path : List ℕ) (xs : List B) (i : ℕ)
+    → AllRead reads text value xs → each (λ i d. text_of reads path d) i (strings (map text xs)) ≡ Ok (map value xs)
+unfolding each
+each_text reads text value path [] i h = refl
+each_text reads text value path (x ∷ xs) i h = rw (h.0, each_text reads text value path xs (i + 1) h.1) refl
+
+pub texts_again : {A B : Type 0} (reads : List ℕ → Option A) (text : B → List ℕ) (value : B → A) (path : List ℕ) (xs : List B)
+    → AllRead reads text value xs → texts_of reads path (strings (map text xs)) ≡ Ok (map value xs)
+unfolding texts_of
+texts_again reads text value path xs h = each_text reads text value path xs 0 h
+
+pub names_again : (path : List ℕ) (names : List (List ℕ)) → AreNames names → texts_of name_of path (strings names) ≡ Ok names
+names_again path names h =
+    subst (λ ns. texts_of name_of path (strings ns) ≡ Ok ns) (map-id names)
+    (texts_again name_of (λ n. n) (λ n. n) path names (each_of IsName (λ n. name_of n ≡ Some n) names name_of-complete h))
+
+pub count_strings : (ts : List (List ℕ)) → count (strings ts) ≡ length ts
+count_strings [] = refl
+count_strings (t ∷ ts) = let e : count (strings ts) ≡ length ts = count_strings ts in omega arith
+
+-- ---- the keys of a point
+
+number_found : (prefix key : List ℕ) (low high n : ℕ) (ms : Members) → get_member key ms ≡ Some (integer (pos n)) → low ≤ n → n ≤ high
+    → number_at prefix key low high ms ≡ Ok n
+unfolding number_at
+number_found prefix key low high n ms here at_least at_most = rw (here, le-leb low n at_least, le-leb n high at_most) refl
+
+texts_found : {A : Type 0} (reads : List ℕ → Option A) (prefix key : List ℕ) (limit : ℕ) (ms : Members) (ts : List (List ℕ)) (xs : List A)
+    → get_member key ms ≡ Some (array (strings ts)) → length ts ≤ limit → texts_of reads (prefix ++ key) (strings ts) ≡ Ok xs
+    → texts_at reads prefix key limit ms ≡ Ok xs
+unfolding texts_at list_at array_at
+texts_found reads prefix key limit ms ts xs here few read =
+    rw (here, ap (λ n. nat_le n limit) (count_strings ts) ∙ le-leb (length ts) limit few, read) refl
+
+beside_found : {A : Type 0} (reads : List ℕ → Option A) (prefix key beside : List ℕ) (limit : ℕ) (ms : Members) (ts : List (List ℕ))
+    (xs : List A) → get_member key ms ≡ Some (array (strings ts)) → nat_le (count_beside beside (strings ts)) limit ≡ true
+    → texts_of reads (prefix ++ key) (strings ts) ≡ Ok xs → texts_beside_at reads prefix key limit beside ms ≡ Ok xs
+unfolding texts_beside_at array_at
+beside_found reads prefix key beside limit ms ts xs here few read = rw (here, few, read) refl
+
+pub point_read : (prefix : List ℕ) (place made : ℕ) (regs stack written : List (List ℕ)) (rs : List RegisterText) (xs : List ItemText)
+    (ws : List (List ℕ)) → place ≤ last_place → made ≤ greatest_32 → length regs ≤ greatest_64
+    → nat_le (count_beside (codes "locals") (strings stack)) 64 ≡ true → length written ≤ greatest_64
+    → texts_of register_of (prefix ++ codes "regs") (strings regs) ≡ Ok rs
+    → texts_of item_of (prefix ++ codes "stack") (strings stack) ≡ Ok xs
+    → texts_of name_of (prefix ++ codes "written") (strings written) ≡ Ok ws
+    → point_of prefix (members_of place made regs stack written) ≡ Ok
+    (record { place = place; regs = rs; stack = xs; written = ws; made = made })
+unfolding point_of point_made only_keys
+point_read prefix place made regs stack written rs xs ws inside few short beside shorter first second third =
+    let ms = members_of place made regs stack written in
+    rw (
+      number_found prefix (codes "place") 0 last_place place ms refl (omega arith) inside,
+      texts_found register_of prefix (codes "regs") greatest_64 ms regs rs refl short first,
+      beside_found item_of prefix (codes "stack") (codes "locals") 64 ms stack xs refl beside second,
+      texts_found name_of prefix (codes "written") greatest_64 ms written ws refl shorter third,
+      number_found prefix (codes "made") 0 greatest_32 made ms refl (omega arith) few,
+    ) refl
+
+-- ---- lists of tables
+
+-- each table is read as a draft, whatever stands before its keys
+abbrev pub AllTables : {A B : Type 0} → (List ℕ → Members → Result A TomlFault) → (B → Members) → (B → A) → List B → Type 0
+AllTables reads ms value xs = AllByRecursion (λ x. (prefix : List ℕ) → reads prefix (ms x) ≡ Ok (value x)) xs
+
+each_table : {A B : Type 0} (reads : List ℕ → Members → Result A TomlFault) (ms : B → Members) (value : B → A) (path : List ℕ) (xs : List B)
+    (i : ℕ) → AllTables reads ms value xs → each (row_of reads path) i (tables_of ms xs) ≡ Ok (map value xs)
+unfolding each
+each_table reads ms value path [] i h = refl
+each_table reads ms value path (x ∷ xs) i h = rw (h.0 (row_prefix path i), each_table reads ms value path xs (i + 1) h.1) refl
+
+count_tables : {B : Type 0} (ms : B → Members) (xs : List B) → count (tables_of ms xs) ≡ length xs
+count_tables ms [] = refl
+count_tables ms (x ∷ xs) = let e : count (tables_of ms xs) ≡ length xs = count_tables ms xs in omega arith
+
+pub tables_read : {A B : Type 0} (reads : List ℕ → Members → Result A TomlFault) (ms : B → Members) (value : B → A) (key : List ℕ)
+    (limit : ℕ) (whole : Members) (xs : List B) → get_member key whole ≡ Some (array (tables_of ms xs)) → length xs ≤ limit
+    → AllTables reads ms value xs → tables_at reads [] key limit whole ≡ Ok (map value xs)
+unfolding tables_at list_at array_at rows_of
+tables_read reads ms value key limit whole xs here few h =
+    let within : nat_le (count (tables_of ms xs)) limit ≡ true = ap (λ n. nat_le n limit) (count_tables ms xs)
+    ∙ le-leb (length xs) limit few in
+    rw (here, within, each_table reads ms value key xs 0 h) refl

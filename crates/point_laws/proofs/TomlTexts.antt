@@ -1,14 +1,120 @@
 -- What is printed of points is a document of TOML: its lines are read one after the other.
-use Rattle.point_laws.proofs.Common.{◌≡◌, ℕ, ◌-◌, ◌^◌, ◌<◌, pos, Bool, true, false, ◌==◌, List, [], ◌∷◌, ◌++◌, length, Option, Some, None}
-use Rattle.point_laws.proofs.Common.{refl, sym, ap, ◌∙◌, arith, append_assoc, codes, map, nat_le, option_and_then, and_parts, nat_tests}
-use Rattle.point_laws.proofs.Common.{decimal, flat_map, list_any, skip_from-nil, key_text, integer, array, Items, no_items, item, Document}
-use Rattle.point_laws.proofs.Common.{Expression, define, key_value, lines, IsLineText, lines_end, AllPrinted, run, array_line, in_quotes}
-use Rattle.point_laws.proofs.Common.{listed, strings}
-use Rattle.toml_parser.specs.Lexical.{skip_blank}
-use Rattle.toml_writer.specs.Text.{encoding_of, escaped, is_control, needs_escape, quotes_after, string_text}
-use Rattle.toml.specs.{Data.items_depth, Data.items_have_valid_dates, Parse.line, Text.IsItemsText, Text.IsValueText, Text.breaks_lines}
-use Rattle.toml.proofs.{Turns.lines_more, Turns.lines_refused, Blanks.skip_newline, Blanks.skip_within, ReadLines.line_turn}
-use Rattle.point_laws.proofs.PlainTexts.{are_plain, is_plain}
+use Rattle.point_laws.proofs.Common.{◌≡◌, ℕ, ◌+◌, ◌%◌, ◌^◌, ◌<◌, ◌≤◌, pos, suc, Bool, true, false, not, ◌&&◌, ◌==◌, List, [], ◌∷◌, ◌++◌}
+use Rattle.point_laws.proofs.Common.{length, refl, ap, ◌∙◌, inl, inr, ⊎_elim, arith, codes, nat_le, and_parts, nat_tests, decimal, list_all}
+use Rattle.point_laws.proofs.Common.{is_name, IsName, AreNames, ◌-◌, Option, Some, None, sym, append_assoc, map, option_and_then}
+use Rattle.point_laws.proofs.Common.{AllByRecursion, flat_map, list_any, skip_from-nil, key_text, integer, array, Items, no_items, item}
+use Rattle.point_laws.proofs.Common.{Document, Expression, define, key_value, lines, IsLineText, lines_end, AllPrinted, run, array_line}
+use Rattle.point_laws.proofs.Common.{in_quotes, listed, strings, ℤ, negsuc, decimal_by_steps, list_all-append, signed_decimal, begins_name}
+use Rattle.point_laws.proofs.Common.{continues_name, IsNear, IsUnits, IsIntText, IsOffsetText, IsTypeText, grants_text, pair_text}
+use Rattle.point_laws.proofs.Common.{range_text, IsCellText, IsCounted, mark_of, CellText, TypeText, skip_blank, is_control, items_depth}
+use Rattle.point_laws.proofs.Common.{items_have_valid_dates, line, IsItemsText, IsValueText, breaks_lines, lines_more, lines_refused}
+use Rattle.point_laws.proofs.Common.{skip_newline, skip_within, line_turn}
+use Rattle.toml_writer.specs.Text.{encoding_of, escaped, needs_escape, quotes_after, string_text}
+use Rattle.point_laws.proofs.NoneAgain.{all_so}
+use Rattle.note_texts.specs.declared.cell.CellText.TheVariants as cells
+use Rattle.note_texts.specs.declared.ty.TypeText.TheVariants as types
+
+-- ---- texts of printable bytes with no quote and no backslash: so is what is spelled as a type
+
+-- printable, and neither a quote nor a backslash
+abbrev pub is_plain : ℕ → Bool
+is_plain b = nat_le 32 b && (nat_le b 126 && (not (b == 34) && not (b == 92)))
+
+abbrev pub are_plain : List ℕ → Bool
+are_plain text = list_all is_plain text
+
+pub plain-append : (xs ys : List ℕ) → are_plain xs ≡ true → are_plain ys ≡ true → are_plain (xs ++ ys) ≡ true
+plain-append xs ys a b = list_all-append is_plain xs ys ∙ rw (a, b) refl
+
+-- ---- names
+
+pub name_plain : (name : List ℕ) → IsName name → are_plain name ≡ true
+unfolding is_name
+name_plain [] h = refl
+name_plain (x ∷ xs) h =
+    let p = and_parts (begins_name x) (nat_le (length xs) 62 && list_all continues_name xs) h in
+    let q = and_parts (nat_le (length xs) 62) (list_all continues_name xs) p.1 in
+    all_so continues_name is_plain (λ b continues. grind (arith, nat_tests)) (x ∷ xs) (rw (p.0, q.1) refl)
+
+pub names_plain : (names : List (List ℕ)) → AreNames names → are_plain (grants_text names) ≡ true
+names_plain [] h = refl
+names_plain (name ∷ names) h = plain-append (codes "!" ++ name) (grants_text names) (name_plain name h.0) (names_plain names h.1)
+
+-- ---- numbers
+
+digit_plain : (d : ℕ) → d < 10 → are_plain ((48 + d) ∷ []) ≡ true
+digit_plain d small = let one : is_plain (48 + d) ≡ true = grind (arith, nat_tests) in rw one refl
+
+pub decimal_plain : (n : ℕ) → n < 2 ^ 64 → are_plain (decimal n) ≡ true
+decimal_plain n fits = decimal_by_steps (λ n ds. are_plain ds ≡ true) digit_plain
+    (λ n ds big front. plain-append ds ((48 + n % 10) ∷ []) front (digit_plain (n % 10) (omega arith))) n fits
+
+near_plain : (z : ℤ) → IsNear z → are_plain (signed_decimal z) ≡ true
+near_plain (pos n) h = decimal_plain n (omega (arith, h))
+near_plain (negsuc n) h = decimal_plain (suc n) (omega (arith, h))
+
+units_plain : (low : ℕ) (z : ℤ) → IsUnits low z → are_plain (signed_decimal z) ≡ true
+units_plain low (pos n) h = decimal_plain n (omega (arith, h.1))
+units_plain low (negsuc n) h = absurd h
+
+pair_plain : (low : ℕ) (n c : ℤ) → IsUnits low n → IsNear c → are_plain (pair_text n c) ≡ true
+pair_plain low n c units near =
+    plain-append (signed_decimal n) (codes "," ++ signed_decimal c) (units_plain low n units) (near_plain c near)
+
+range_plain : (lo hi : ℕ) → lo ≤ hi → hi < 2 ^ 64 → are_plain (range_text lo hi) ≡ true
+range_plain lo hi order high = plain-append (decimal lo) (codes ".." ++ decimal hi) (decimal_plain lo (omega arith)) (decimal_plain hi high)
+
+-- ---- pointers
+
+mark_plain : (null : Bool) (rest : List ℕ) → are_plain rest ≡ true → are_plain (mark_of null ++ rest) ≡ true
+mark_plain true rest h = h
+mark_plain false rest h = h
+
+counted_plain : (text shape : List ℕ) (count : ℕ) → IsCounted text shape count → are_plain text ≡ true
+counted_plain text shape count h = ⊎_elim
+    (λ alone. rw alone.0 (name_plain shape h.0))
+    (λ counted. rw counted (plain-append shape (codes "*" ++ decimal count) (name_plain shape h.0) (decimal_plain count h.2)))
+    h.3
+
+offset_plain : (text : List ℕ) (n c : ℤ) → IsOffsetText text n c → are_plain text ≡ true
+offset_plain text n c (inl start) = rw start.0 refl
+offset_plain text n c (inr (pair, whole, spelled)) = rw (whole, spelled.0) (pair_plain 0 n c spelled.1 spelled.2)
+
+cell_plain : (text : List ℕ) (c : CellText) → IsCellText text c → are_plain text ≡ true
+cell_plain text (cells.Ptr shape count null) (target, whole, counted) =
+    rw whole (mark_plain null target (counted_plain target shape count counted))
+cell_plain text (cells.P64 shape count null) (target, whole, counted) =
+    rw whole (mark_plain null target (counted_plain target shape count counted))
+cell_plain text (cells.Method name) h = rw h.0 (name_plain name h.1)
+cell_plain text c h = rw h refl
+
+-- ---- types
+
+int_plain : (text : List ℕ) (lo hi div : ℕ) → IsIntText text lo hi div → are_plain text ≡ true
+int_plain text lo hi div h = ⊎_elim
+    (λ plain. rw plain.0 (range_plain lo hi h.0 h.1))
+    (λ divided. rw divided (plain-append (range_text lo hi) (codes "/" ++ decimal div) (range_plain lo hi h.0 h.1) (decimal_plain div h.3)))
+    h.4
+
+pub type_plain : (text : List ℕ) (t : TypeText) → IsTypeText text t → are_plain text ≡ true
+type_plain text (types.Int lo hi div) (inl whole) = rw whole.0 refl
+type_plain text (types.Int lo hi div) (inr (range, whole, spelled)) = rw whole (int_plain range lo hi div spelled)
+type_plain text (types.Lin n c) (pair, whole, spelled) = rw (whole, spelled.0) (pair_plain 1 n c spelled.1 spelled.2)
+type_plain text (types.Scaled n c hi) (rest, whole, spelled) =
+    rw (whole, spelled.0)
+    (plain-append (decimal n) (codes "," ++ (decimal c ++ (codes "," ++ decimal hi))) (decimal_plain n spelled.2)
+    (plain-append (decimal c) (codes "," ++ decimal hi) (decimal_plain c spelled.3) (decimal_plain hi spelled.4)))
+type_plain text (types.Ptr shape count n c null) (target, offset, whole, counted, placed) =
+    rw whole (mark_plain null (target ++ offset)
+    (plain-append target offset (counted_plain target shape count counted) (offset_plain offset n c placed)))
+type_plain text (types.Local name) h = rw h.0 (name_plain name h.1)
+type_plain text (types.Lent cell) (rest, whole, spelled) = rw whole (cell_plain rest cell spelled)
+type_plain text (types.Status names) h = rw h.0 (names_plain names h.1)
+type_plain text (types.SignedStatus names) h = rw h.0 (names_plain names h.1)
+type_plain text (types.Method name) h = rw h.0 (name_plain name h.1)
+type_plain text (types.ThunkAt index) h = rw h.0 (decimal_plain index (omega (arith, h.1)))
+type_plain text (types.Saved register) h = rw h.0 (decimal_plain register (omega (arith, h.2)))
+type_plain text t h = rw h refl
 
 -- ---- strings
 
@@ -32,21 +138,13 @@ bare c h =
       printed = grind (arith, nat_tests);
     }
 
-no_escape : (c : ℕ) → IsBare c → needs_escape false 0 c ≡ false
-unfolding needs_escape
-no_escape c b = rw (b.quote, b.feed, b.backslash, b.tab, b.delete, b.printed) refl
-
-no_quote : (c : ℕ) → IsBare c → quotes_after false 0 c ≡ 0
-unfolding quotes_after
-no_quote c b = rw b.quote refl
-
 not_escaped : (s : List ℕ) → are_plain s ≡ true → escaped false 0 s ≡ s
-unfolding escaped
+unfolding escaped needs_escape quotes_after
 not_escaped [] h = refl
 not_escaped (c ∷ cs) h =
     let both = and_parts (is_plain c) (are_plain cs) h in
     let b = bare c both.0 in
-    rw (no_escape c b, no_quote c b, not_escaped cs both.1) refl
+    rw (b.quote, b.feed, b.backslash, b.tab, b.delete, b.printed, not_escaped cs both.1) refl
 
 none_is : (q : ℕ → Bool) → ((c : ℕ) → IsBare c → q c ≡ false) → (s : List ℕ) → are_plain s ≡ true → list_any q s ≡ false
 none_is q never [] h = refl
@@ -54,26 +152,20 @@ none_is q never (c ∷ cs) h =
     let both = and_parts (is_plain c) (are_plain cs) h in
     rw (never c (bare c both.0), none_is q never cs both.1) refl
 
-no_control : (c : ℕ) → IsBare c → is_control c ≡ false
-no_control c b = rw (b.tab, b.delete, b.printed) refl
-
 -- a plain text is written in quotes as it is
 pub string_plain : (s : List ℕ) → are_plain s ≡ true → string_text s ≡ in_quotes s
 unfolding string_text encoding_of
 string_plain s h =
-    let control = none_is is_control no_control s h in
-    let backslash = none_is (λ x. x == 92) (λ c b. b.backslash) s h in
+    let control = none_is is_control (λ c b. rw (b.tab, b.delete, b.printed) refl) s h in
     let quote = none_is (λ x. x == 34) (λ c b. b.quote) s h in
     let feed = none_is (λ x. x == 10) (λ c b. b.feed) s h in
-    let plain = not_escaped s h in
-    rw (control, backslash, quote, feed, plain) refl
+    rw (control, none_is (λ x. x == 92) (λ c b. b.backslash) s h, quote, feed, not_escaped s h) refl
 
 -- ---- arrays
 
 -- each text is plain
 abbrev pub AllPlain : List (List ℕ) → Type 0
-AllPlain [] = Unit {0}
-AllPlain (t ∷ ts) = (are_plain t ≡ true) × AllPlain ts
+AllPlain ts = AllByRecursion (λ t. are_plain t ≡ true) ts
 
 no_breaks : (ds : Items) → breaks_lines false ds ≡ false
 no_breaks no_items = refl
@@ -116,8 +208,7 @@ items_spelled (t ∷ ts) h = (
 
 array_spelled : (ts : List (List ℕ)) → AllPlain ts
     → IsValueText false (array (strings ts)) (codes "[" ++ (listed (map in_quotes ts) ++ codes "]"))
-array_spelled ts h =
-    (listed (map in_quotes ts) ++ codes "]", refl, rw (no_breaks (strings ts)) (items_spelled ts h))
+array_spelled ts h = (listed (map in_quotes ts) ++ codes "]", refl, rw (no_breaks (strings ts)) (items_spelled ts h))
 
 -- ---- lines
 
@@ -126,8 +217,7 @@ pub array_line_spelled : (key : List ℕ) (ts : List (List ℕ)) → key_text ke
     → IsLineText false false ([], key) (key_value (array (strings ts))) (array_line key ts)
 array_line_spelled key ts bare_key h =
     let list = listed (map in_quotes ts) in
-    let whole : array_line key ts ≡ key ++ (codes " = " ++ ((codes "[" ++ (list ++ codes "]")) ++ 10 ∷ [])) =
-    ap (λ t. key ++ (codes " = [" ++ t)) (sym (append_assoc list (codes "]") (10 ∷ []))) in (
+    let whole = ap (λ t. key ++ (codes " = [" ++ t)) (sym (append_assoc list (codes "]") (10 ∷ []))) in (
       codes "[" ++ (list ++ codes "]"),
       whole ∙ ap (λ k. k ++ (codes " = " ++ ((codes "[" ++ (list ++ codes "]")) ++ 10 ∷ []))) (sym bare_key),
       array_spelled ts h,
@@ -140,10 +230,10 @@ number_line_spelled key n bare_key small =
     (decimal n, ap (λ k. k ++ (codes " = " ++ (decimal n ++ codes "\n"))) (sym bare_key), (refl, omega arith))
 
 -- lines one after the other
-abbrev pub AreLines : List Expression → List ℕ → Type 0
-AreLines [] text = text ≡ []
-AreLines (e ∷ es) text =
-    (this : List ℕ) × (rest : List ℕ) × (text ≡ this ++ rest) × IsLineText false false e.0 e.1 this × AreLines es rest
+pub data AreLines : List Expression → List ℕ → Type 0 where
+  no_line : AreLines [] []
+  line_then : {e : Expression} {es : List Expression} (this rest : List ℕ) → IsLineText false false e.0 e.1 this → AreLines es rest
+      → AreLines (e ∷ es) (this ++ rest)
 
 line_read : (m : ℕ) (doc : Document) (x : List ℕ) (e : Expression) (after : List ℕ) (es : List Expression) (defined : Option Document)
     → defined ≡ define doc e → 0 < m → (length (skip_blank x) == 0) ≡ false → line (skip_blank x) ≡ Some (e, after)
@@ -154,11 +244,10 @@ line_read m doc x e after es (Some next) same some other read more = lines_more 
 
 pub lines_read : (es : List Expression) (text x : List ℕ) (doc : Document) (m : ℕ) → AreLines es text → AllPrinted es
     → skip_blank x ≡ skip_blank text → length x < m → lines m doc x ≡ run doc es
-lines_read [] text x doc m h ok skip room = lines_end m doc x (omega arith) (rw (skip, h, skip_from-nil true false) refl)
-lines_read (e ∷ es) text x doc m h ok skip room =
-    let (this, rest, whole, line_text, more) = h in
+lines_read _ _ x doc m no_line ok skip room = lines_end m doc x (omega arith) (rw (skip, skip_from-nil true false) refl)
+lines_read _ _ x doc m (line_then {e = e} {es = es} this rest line_text more) ok skip room =
     let (s, at_start, read, some, shorter, not_bom) = line_turn false false e.0 e.1 this rest line_text ok.0 in
-    let same : skip_blank x ≡ s = skip ∙ rw whole at_start in
+    let same : skip_blank x ≡ s = skip ∙ at_start in
     let other : (length (skip_blank x) == 0) ≡ false = rw same (grind (arith, nat_tests)) in
     let within = skip_within x in
     line_read m doc x e (10 ∷ rest) es (define doc e) refl (omega arith) other (rw same read)
