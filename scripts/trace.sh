@@ -15,12 +15,16 @@ fail() { printf 'trace: %s\n' "$*"; failed=1; }
 
 # ---- rows
 
-# The row of this name: the words of `ebc_trace`, which have to end with this status and print what stands on standard input.
-row() {
-  { cat; echo "status $2"; } >wanted
-  { "$EBC_TRACE" "${@:3}" 2>said; echo "status $?"; } >found
-  cmp -s wanted found || fail "$1"$'\n'"$(diff wanted found | head -n 12)"
+# The row of this name: the words of `ebc_trace`, which have to end with this status and print what stands on standard input; what is
+# printed goes through an edit first.
+edited() {
+  { cat; echo "status $3"; } >wanted
+  { "$EBC_TRACE" "${@:4}" 2>said; echo "status $?"; } | sed "$1" >found
+  cmp -s wanted found || fail "$2"$'\n'"$(diff wanted found | head -n 12)"
 }
+# The same without the lines of the state at the end, and with them.
+row() { edited '/^state$/,/^end /{/^end /!d}' "$@"; }
+whole() { edited '' "$@"; }
 line() { row "$1" "$2" "${@:4}" <<<"$3"; }
 
 # Lines that stand in words, with bars between them.
@@ -185,6 +189,104 @@ step 32 gate
 end 32 gate finished status ok 0
 .
 
+# ---- the state at the end
+#
+# The thunk cell holds at first 0x1044 less 0x2004 in four bytes, and then the address of the thunk.
+
+state() { whole "$1" 0 "$2" driver.efi driver.notes "${4:-driver.script}" "$3" "$3"; }
+state 'the state in a callback, at 32' 32 22 <<'.'
+step 22 00001044 tick+0x0 MOVIqw R7, 0
+state
+  R0 000000000010414c stack+0xec
+  R1 0000000000000000
+  R2 0000000000000000
+  R3 0000000000000000
+  R4 00000000001071a0 ptr 0 0
+  R5 0000000000106190 image+0x2000
+  R6 0000000000000000
+  R7 0000000000000000
+  ip 00000000001051d8 tick+0x4
+  C 0
+  entered tick 00000000001051c8 main+0x38
+  called 1 register
+  entered main 0000000000100000 gate
+  bytes 0000000000106190 image+0x2000 ..001000........................
+end 22 00001048 running
+.
+state 'the state in a callback, at 64' 64 22 <<'.'
+step 22 00001044 tick+0x0 MOVIqw R7, 0
+state
+  R0 00000002000041c8 stack+0x168
+  R1 0000000000000000
+  R2 0000000000000000
+  R3 0000000000000000
+  R4 0000000200007230 ptr 0 0
+  R5 0000000200006220 image+0x2000
+  R6 0000000000000000
+  R7 0000000000000000
+  ip 0000000200005268 tick+0x4
+  C 0
+  entered tick 0000000200005258 main+0x38
+  called 1 register
+  entered main 0000000200000000 gate
+  bytes 0000000200006220 image+0x2000 ..00000002......................
+end 22 00001048 running
+.
+state 'a native call that is asked for' 32 7 <<'.'
+step 7 00001014 main+0x14 CALL32EXa @R4
+state
+  R0 0000000000104160 stack+0x100
+  R1 0000000000000000
+  R2 0000000000000000
+  R3 0000000000000000
+  R4 00000000001071a0 ptr 0 0
+  R5 0000000000104164 stack+0x104
+  R6 0000000000000000
+  R7 0000000000106190 image+0x2000
+  ip 00000000001051a6 main+0x16
+  C 0
+  asked 00001014
+  entered main 0000000000100000 gate
+  bytes 0000000000106190 image+0x2000 ..001000........................
+end 7 00001016 running
+.
+state 'before anything has changed' 32 1 <<'.'
+step 1 00001000 main+0x0 MOVRELd R7, 4090
+  R7 0000000000106190 image+0x2000
+state
+  R0 0000000000104168 stack+0x108
+  R1 0000000000000000
+  R2 0000000000000000
+  R3 0000000000000000
+  R4 0000000000000000
+  R5 0000000000000000
+  R6 0000000000000000
+  R7 0000000000106190 image+0x2000
+  ip 0000000000105196 main+0x6
+  C 0
+  entered main 0000000000100000 gate
+end 1 00001006 running
+.
+state 'once the run is over' 32 32 <<'.'
+step 32 gate
+  R0 0000000000104180
+  R4 0000000000000000
+  R5 0000000000000000
+state
+  R0 0000000000104180
+  R1 0000000000000000
+  R2 0000000000000000
+  R3 0000000000000000
+  R4 0000000000000000
+  R5 0000000000000000
+  R6 0000000000000000
+  R7 0000000000000000
+  ip 0000000000100000 gate
+  C 0
+  bytes 0000000000106190 image+0x2000 ..001000........................
+end 32 gate finished status ok 0
+.
+
 # ---- a part of a run
 
 driver 'a part' 64 8 9 <<'.'
@@ -254,6 +356,37 @@ step 6 gate
 step 7 00001008 main+0x8 MOVnw R4, @R0(+1,+16)
   R4 00000000001071a0 ptr 0 0
 end 7 0000100c running
+.
+state 'the state in a notification' 32 4 notified.script <<'.'
+step 4 00001044 tick+0x0 MOVIqw R7, 0
+  R7 0000000000000000
+state
+  R0 0000000000104154 stack+0xf4
+  R1 0000000000000000
+  R2 0000000000000000
+  R3 0000000000000000
+  R4 0000000000000000
+  R5 0000000000000000
+  R6 0000000000000000
+  R7 0000000000000000
+  ip 00000000001051d8 tick+0x4
+  C 0
+  notified tick 0000000000105198 main+0x8
+  entered main 0000000000100000 gate
+  bytes 0000000000106190 image+0x2000 ..001000........................
+end 4 00001048 running
+.
+# In a callback: 18 instructions are done after step 22.
+sed 's/^at = 2$/at = 18/' notified.script >nested.script
+edited '/^  [RC]\|^  ip\|^state/d' 'a notification in a callback' 0 32 driver.efi driver.notes nested.script 23 23 <<'.'
+step 23 00001048 tick+0x4
+  notify tick int 7
+  notified tick 00000000001051d8 tick+0x4
+  entered tick 00000000001051c8 main+0x38
+  called 1 register
+  entered main 0000000000100000 gate
+  bytes 0000000000106190 image+0x2000 ..001000........................
+end 23 00001044 running
 .
 sed 's/"0 ptr 1 0"/"0 ptr 0 0"/' driver.script >wrong.script
 driver 'a reply that does not fit' 32 8 1000 wrong.script <<'.'
@@ -568,6 +701,10 @@ step 10 00001016 main+0x16 MOVqw R0, R0(+1,+0)
   64 R0 00000002000041e8 stack+0x188
 end 10 0000101a running
 .
+whole 'no state at both' 0 both driver.efi driver.notes driver.script 22 22 <<'.'
+step 22 00001044 tick+0x0 MOVIqw R7, 0
+end 22 00001048 running
+.
 driver 'past the end at both' both 33 10000000 <<<'end 32 gate finished status ok 0'
 driver 'a reply that does not fit at both' both 8 1000 wrong.script <<'.'
 step 8 00001016 main+0x16
@@ -790,6 +927,241 @@ differ 0
 64 step 1 wild 00000002000090d0
 32 end 1 wild 00000000001090d0 raised memory_fault
 64 end 1 wild 00000002000090d0 raised memory_fault
+.
+
+# ---- what arguments point to
+#
+# The stack begins at 0x104040 or 0x200004040, and takes nine times 32 or 48 bytes. The image is 0x3000 bytes from 0x104170 or 0x200004200
+# on. The table of the script is object 3. The call makes object 4, ten instances of 16 bytes, each with another first byte.
+
+{
+  lines '.global main' 'main: MOVnw R4, @R0(+0,+16) | MOVRELd R5, wide | PUSHn R5 | MOVRELd R5, narrow | PUSHn R5 | MOVRELd R5, pairs' \
+    'PUSHn R5 | CALL32EXa @R4 | MOVqw R0, R0(+3,+0) | RET' '.data' 'wide: .dw 72, 34, 92, 233, 10, 8364, 0, 7' \
+    'narrow: .db 72, 105, 126, 0, 1' 'pairs: .db 1, 2, 3, 4, 5, 6, 7, 8, 9, 10, 11, 12, 13, 14, 15, 16, 17, 18'
+} >texts.asm
+sed 's/i\.obj/texts.obj/' i.plan >texts.plan
+{ "$EBC" asm texts.asm texts.obj >built 2>&1 && "$EBC" link texts.plan texts.efi >built 2>&1; } || fail "texts"$'\n'"$(cat built)"
+cat >texts.notes <<'.'
+version = 1
+entry = "main"
+[[function]]
+name = "main"
+place = 0x1000
+end = 0x1024
+level = 0
+need = [3, 0]
+params = ["n ptr:Sys"]
+result = "any"
+[[shape]]
+name = "Sys"
+size = [1, 0]
+fields = ["print 0 0 method:Print"]
+[[shape]]
+name = "Char16"
+size = [0, 2]
+fields = ["unit 0 0 i16"]
+[[shape]]
+name = "Char8"
+size = [0, 1]
+fields = ["unit 0 0 i8"]
+[[shape]]
+name = "Pair"
+size = [0, 2]
+fields = ["low 0 0 i8", "high 0 1 i8"]
+[[shape]]
+name = "Block"
+size = [0, 16]
+fields = ["first 0 0 i8"]
+[[static]]
+place = 0x2000
+shape = "Char16"
+count = 8
+[[static]]
+place = 0x2010
+shape = "Char8"
+count = 5
+[[static]]
+place = 0x2015
+shape = "Pair"
+count = 9
+[[signature]]
+name = "print"
+method = "Print"
+params = ["n ptr", "n ptr", "n ptr"]
+result = "status"
+[[site]]
+place = 0x101c
+signature = "print"
+.
+cat >texts.script <<'.'
+version = 1
+args = ["ptr 3 0"]
+[[object]]
+shape = "Sys"
+count = 1
+cells = ["0 print method Print"]
+[[call]]
+signature = "print"
+args = ["ptr 2 0", "ptr 1 0", "ptr 0 0"]
+result = "status ok 0"
+[[call.make]]
+shape = "Block"
+count = 10
+cells = ["0 first int 1", "1 first int 2", "2 first int 3", "3 first int 4", "4 first int 5", "5 first int 6", "6 first int 7",
+  "7 first int 8", "8 first int 9", "9 first int 10"]
+.
+whole 'texts and bytes, at 32' 0 32 texts.efi texts.notes texts.script 9 9 <<'.'
+step 9 0000101e main+0x1e
+  call 0000101c print ptr 2 0 ptr 1 0 ptr 0 0
+  argument 0 0102030405060708090a0b0c0d0e0f10
+  argument 1 "Hi~"
+  argument 2 "H\u0022\u005c\u00e9\u000a\u20ac"
+state
+  R0 0000000000104140 stack+0x100
+  R1 0000000000000000
+  R2 0000000000000000
+  R3 0000000000000000
+  R4 0000000000107180 ptr 3 0
+  R5 0000000000106185 image+0x2015
+  R6 0000000000000000
+  R7 0000000000000000
+  ip 000000000010518e main+0x1e
+  C 0
+  called 0 print
+  entered main 0000000000100000 gate
+  bytes 00000000001071a0 ptr 4 0 01..............................
+  bytes 00000000001071b0 ptr 4 0+0x10 02..............................
+  bytes 00000000001071c0 ptr 4 0+0x20 03..............................
+  bytes 00000000001071d0 ptr 4 0+0x30 04..............................
+  bytes 00000000001071e0 ptr 4 0+0x40 05..............................
+  bytes 00000000001071f0 ptr 4 0+0x50 06..............................
+  bytes 0000000000107200 ptr 4 0+0x60 07..............................
+  bytes 0000000000107210 ptr 4 0+0x70 08..............................
+  more 2
+end 9 0000101e running
+.
+row 'texts and bytes, at both' 0 both texts.efi texts.notes texts.script 9 9 <<'.'
+step 9 0000101e main+0x1e
+  call 0000101c print ptr 2 0 ptr 1 0 ptr 0 0
+  argument 0 0102030405060708090a0b0c0d0e0f10
+  argument 1 "Hi~"
+  argument 2 "H\u0022\u005c\u00e9\u000a\u20ac"
+end 9 0000101e running
+.
+# Of a call that the firmware doesn't accept, since the script has none.
+sed '/^\[\[call\]\]$/,$d' texts.script >i.script
+whole 'a native call that is not accepted' 0 32 texts.efi texts.notes i.script 9 9 <<'.'
+step 9 0000101e main+0x1e
+  call 0000101c print ptr 2 0 ptr 1 0 ptr 0 0
+  argument 0 0102030405060708090a0b0c0d0e0f10
+  argument 1 "Hi~"
+  argument 2 "H\u0022\u005c\u00e9\u000a\u20ac"
+state
+  R0 0000000000104140 stack+0x100
+  R1 0000000000000000
+  R2 0000000000000000
+  R3 0000000000000000
+  R4 0000000000107180 ptr 3 0
+  R5 0000000000106185 image+0x2015
+  R6 0000000000000000
+  R7 0000000000000000
+  ip 000000000010518e main+0x1e
+  C 0
+  asked 0000101c
+  entered main 0000000000100000 gate
+end 9 0000101e script end
+.
+# A text that isn't there: no printable character in front of the zero, another character, and no zero. The last one is there.
+for bytes in '0, 105, 126, 0, 1:00697e0001' '72, 105, 10, 0, 1:48690a0001' '72, 105, 126, 33, 63:48697e213f' \
+  '34, 92, 32, 0, 1:"\u0022\u005c "'; do
+  sed "s/^narrow: .*/narrow: .db ${bytes%:*}/" texts.asm >i.asm
+  { "$EBC" asm i.asm texts.obj >built 2>&1 && "$EBC" link texts.plan texts.efi >built 2>&1; } || fail "$bytes"$'\n'"$(cat built)"
+  row "bytes $bytes" 0 32 texts.efi texts.notes texts.script 9 9 <<.
+step 9 0000101e main+0x1e
+  call 0000101c print ptr 2 0 ptr 1 0 ptr 0 0
+  argument 0 0102030405060708090a0b0c0d0e0f10
+  argument 1 ${bytes#*:}
+  argument 2 "H\\u0022\\u005c\\u00e9\\u000a\\u20ac"
+end 9 0000101e running
+.
+done
+# Texts of 64 and of 65 cells. The static objects lie at 0x2000, 0x2084 and 0x20c6 then.
+sed 's/0x2010/0x2084/; s/0x2015/0x20c6/; s/^count = [58]$/count = 66/' texts.notes >long.notes
+letters=$(printf 'A%.0s' {1..64})
+for last in '0:' '65:...'; do
+  cells=$(printf '65, %.0s' {1..64})${last%:*}
+  sed "s/^wide: .*/wide: .dw $cells, 0/; s/^narrow: .*/narrow: .db $cells, 0/" texts.asm >i.asm
+  { "$EBC" asm i.asm texts.obj >built 2>&1 && "$EBC" link texts.plan texts.efi >built 2>&1; } || fail "$cells"$'\n'"$(cat built)"
+  row "64 cells and ${last%:*}" 0 both texts.efi long.notes texts.script 9 9 <<.
+step 9 0000101e main+0x1e
+  call 0000101c print ptr 2 0 ptr 1 0 ptr 0 0
+  argument 0 0102030405060708090a0b0c0d0e0f10
+  argument 1 "$letters"${last#*:}
+  argument 2 "$letters"${last#*:}
+end 9 0000101e running
+.
+done
+# The second of three instances: each holds the address of the method.
+sed '/^MOVRELd R5, pairs$/{N;s/.*/PUSHn R4/}' texts.asm >i.asm
+{ "$EBC" asm i.asm texts.obj >built 2>&1 && "$EBC" link texts.plan texts.efi >built 2>&1; } || fail "second"$'\n'"$(cat built)"
+sed 's/0x1024/0x101e/; s/0x101c/0x1016/' texts.notes >i.notes
+sed -e 's/ptr 3 0/ptr 3 1/; s/^count = 1$/count = 3/; s/ptr 2 0/ptr 3 1/' \
+  -e 's/"0 print method Print"/&, "1 print method Print", "2 print method Print"/' texts.script >i.script
+row 'the second instance' 0 both texts.efi i.notes i.script 8 8 <<'.'
+step 8 00001018 main+0x18
+  call 00001016 print ptr 3 1 ptr 1 0 ptr 0 0
+  32 argument 0 1000100010001000
+  64 argument 0 10000000020000001000000002000000
+  argument 1 "Hi~"
+  argument 2 "H\u0022\u005c\u00e9\u000a\u20ac"
+end 8 00001018 running
+.
+# The address of a cell that is lent, here that of the argument behind it.
+sed '/^MOVRELd R5, pairs$/s/.*/MOVqw R5, R0/' texts.asm >i.asm
+{ "$EBC" asm i.asm texts.obj >built 2>&1 && "$EBC" link texts.plan texts.efi >built 2>&1; } || fail "lent"$'\n'"$(cat built)"
+sed 's/0x1024/0x1020/; s/0x101c/0x1018/; s/^params = \["n ptr", /params = ["n inout:ptr:Char8", /' texts.notes >i.notes
+sed 's/"ptr 2 0"/"lent ptr 1 0"/' texts.script >i.script
+row 'a pointer that is lent' 0 both texts.efi i.notes i.script 9 9 <<'.'
+step 9 0000101a main+0x1a
+  call 00001018 print lent ptr 1 0 ptr 1 0 ptr 0 0
+  argument 1 "Hi~"
+  argument 2 "H\u0022\u005c\u00e9\u000a\u20ac"
+end 9 0000101a running
+.
+
+# ---- the example of a driver with a callback (docs/UEFI.md)
+#
+# At width 32 the stack begins at 0x1043a0, behind 1,081 things, and takes nine times 60 bytes. The image lies at 0x1045d0 and the system
+# table at 0x107750. The thunk cell is at 0x2000 in the image, and then come the count of calls and the address of that table.
+
+uefi=$top/examples/uefi
+awk -f "$uefi"/numbers.awk "$uefi"/event.labels "$uefi"/event.script "$uefi"/uefi.script >event.run
+# What is printed but for steps, registers, C, stores and the argument that points to the table of the console.
+event() { edited '/^step\|^  [RCs]\|^  ip\|^  argument 0\|^state/d' "$1" 0 "$2" "$uefi"/event.efi "$uefi"/event.notes event.run "${@:3}"; }
+event 'a native call that a callback asks for' 32 42 42 <<'.'
+  asked 000010d0
+  entered tick 000000000010562c main+0x5c
+  called 1 signal_event
+  entered main 0000000000100000 gate
+  bytes 00000000001065d0 image+0x2000 70031000........01......507710..
+end 42 000010d6 running
+.
+event 'a native call under way in a callback' 32 43 43 <<'.'
+  call 000010d0 output_string ptr 5 0 ptr 3 0
+  argument 1 "tick\u000d\u000a"
+  called 2 output_string
+  entered tick 000000000010562c main+0x5c
+  called 1 signal_event
+  entered main 0000000000100000 gate
+  bytes 00000000001065d0 image+0x2000 70031000........01......507710..
+end 43 000010d6 running
+.
+edited '/^  argument\|^end\|^status/!d' 'the texts of the native calls, at both' 0 both "$uefi"/event.efi "$uefi"/event.notes event.run \
+  1 100000 <<'.'
+  argument 1 "tick\u000d\u000a"
+  argument 1 "tick\u000d\u000a"
+  argument 1 "0000000000000002\u000d\u000a"
+end 482 gate finished status ok 0
 .
 
 # ---- limits and words

@@ -1,6 +1,6 @@
 -- What is seen of a run before a step and after it is what the step is made of.
 use Rattle.std.proofs.Common.{◌≡◌, ℕ, Bool, true, false, List, drop, length, Option, None, Result, Ok, Err}
-use Rattle.std.proofs.Common.{refl, sym, ap, ◌∙◌, if◌then◌else◌}
+use Rattle.std.proofs.Common.{◌++◌, append_assoc, refl, sym, ap, ◌∙◌, if◌then◌else◌}
 use Rattle.std.specs.Prelude.{OnOk}
 use Rattle.std.specs.Option.{option_and_then, option_map}
 use Rattle.ebc_base.specs.Steps.{◌>>=◌, or_else}
@@ -24,6 +24,7 @@ use Rattle.step_texts.specs.declared.step.Change.{Change}
 use Rattle.step_texts.specs.declared.step.Step.{Step}
 use Rattle.step_texts.specs.declared.step.Stored.{Stored}
 use Rattle.twin_run.specs.Watching.{has_c, is_hosts_turn}
+use Rattle.run_trace.specs.Pointed.{pointed_lines}
 use Rattle.run_trace.specs.Steps.{before_of, bytes_of, flag_change, insn_of, laid, next_insn, next_store, register_changes, step_of}
 use Rattle.run_trace.specs.Steps.{stored_in, unless_ended}
 use Rattle.run_trace.specs.Stores.{stored_by}
@@ -104,12 +105,16 @@ step-is w world number r s notes before changes flag stored objects registers c 
   stored = (is ∙ ap (λ (b : Before). stored_in b.store s) same) i;
 }
 
--- so its lines are those of the step
+-- so its lines are those of the step, and what arguments point to of the native calls among its events
 pub lines-are : (w : ℕ) (world : World) (number : ℕ) (r s : RunState) (notes : Notes) (step : Step) (events : List Event)
-    → world.notes ≡ notes → step ≡ step_of w world number r s → events ≡ drop (length r.trace) s.trace
-    → step_text notes step events ≡ step_lines w world number r s
+    (old told all : List ℕ) → world.notes ≡ notes → step ≡ step_of w world number r s → events ≡ drop (length r.trace) s.trace
+    → told ≡ old ++ step_text notes step events → all ≡ told ++ pointed_lines w world s.machine events
+    → all ≡ old ++ step_lines w world number r s
 unfolding step_lines
-lines-are w world number r s notes step events same is added = λ i. step_text (sym same i) (is i) (added i)
+lines-are w world number r s notes step events old told all same is added tells points =
+    points ∙ ap (λ t. t ++ pointed_lines w world s.machine events) tells
+    ∙ append_assoc old (step_text notes step events) (pointed_lines w world s.machine events)
+    ∙ (λ i. old ++ (step_text (sym same i) (is i) (added i) ++ pointed_lines w world s.machine (added i)))
 
 -- the events that were there before are those that the trace had
 pub events-then : (w : ℕ) (world : World) (r : RunState) (before : Before) → before ≡ before_of w world r → before.events ≡ length r.trace

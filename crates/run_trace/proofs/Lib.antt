@@ -1,4 +1,10 @@
+pub mod ArgumentLaws
 pub mod BeforeLaws
+pub mod ChangedLaws
+pub mod OpenedLaws
+pub mod RowLaws
+pub mod PointedObjects
+pub mod PointingLaws
 pub mod RunnerLaws
 pub mod StepLaws
 pub mod StoreLaws

@@ -52,3 +52,9 @@ image-has-bytes w image notes script x r is run =
     let size = run.at.image_size in
     let entry = is.entry in
     omega (arith, size, entry)
+
+-- so the runner of a run of an image that was read is one of such a run
+pub runs-image : (w : ℕ) (image : Image) (notes : Notes) (script : Script) (x : Runner w) (r : RunState) → IsImage image
+    → IsRunner w (world_of image notes script) x r → RunsImage w x
+runs-image w image notes script x r is run =
+    runs-after w (world_of image notes script) x x r r run run (image-has-bytes w image notes script x r is run)

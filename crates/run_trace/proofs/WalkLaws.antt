@@ -1,6 +1,6 @@
 -- Where an address lies is found by a walk over the objects of a run's memory.
-use Rattle.std.proofs.Common.{◌≡◌, ℕ, zero, suc, ◌+◌, ◌*◌, ◌-◌, ◌<◌, ◌≤◌, Bool, true, false, cond, List, [], ◌∷◌, ◌++◌, length, take, drop}
-use Rattle.std.proofs.Common.{Option, Some, None, refl, sym, ap, ◌∙◌, subst, arith, slice_get, if◌then◌else◌}
+use Rattle.std.proofs.Common.{◌≡◌, ℕ, suc, ◌+◌, ◌*◌, ◌-◌, ◌<◌, ◌≤◌, Bool, true, false, cond, List, [], ◌∷◌, ◌++◌, length, take, drop}
+use Rattle.std.proofs.Common.{Some, None, refl, sym, ap, ◌∙◌, subst, arith, slice_get, if◌then◌else◌}
 use Rattle.std.specs.List.{find, flat_map}
 use Rattle.std.specs.Option.{option_map}
 use Rattle.std.proofs.lemmas.Grind.{flat_map-append}
@@ -30,7 +30,7 @@ below r a less = either (covers a 1 r) refl where
   either false is = refl
   either true is = let bounds = covers-bounds r a 1 is in let least = bounds.0 in absurd (omega (arith, least, less))
 
-past : (r : Range) (a : ℕ) → r.base + r.size ≤ a → covers a 1 r ≡ false
+pub past : (r : Range) (a : ℕ) → r.base + r.size ≤ a → covers a 1 r ≡ false
 past r a most = either (covers a 1 r) refl where
   either : (b : Bool) → covers a 1 r ≡ b → b ≡ false
   either false is = refl
@@ -63,19 +63,19 @@ pub walk-starts : (base : ℕ) (objects : List Range) (x : ℕ) → AreInRow bas
 walk-starts base objects x row = record { few = omega arith; coming = objects; row = row; found = refl; holder = λ a least. refl }
 
 -- what lies at the base is the first of those that are still to be looked at
-at-base : (s : Concrete) (base : ℕ) (coming : List Range) → find (covers base 1) s.objects ≡ find (covers base 1) coming
+pub at-base : (s : Concrete) (base : ℕ) (coming : List Range) → find (covers base 1) s.objects ≡ find (covers base 1) coming
     → rest_from s base ≡ option_map (rest_of s.byte base) (find (covers base 1) coming)
 unfolding rest_from
 at-base s base coming same = ap (option_map (rest_of s.byte base)) same
 
-first-is : (s : Concrete) (base : ℕ) (r : Range) (rs : List Range) → AreInRow base (r ∷ rs)
+pub first-is : (s : Concrete) (base : ℕ) (r : Range) (rs : List Range) → AreInRow base (r ∷ rs)
     → option_map (rest_of s.byte base) (find (covers base 1) (r ∷ rs)) ≡ Some (rest_of s.byte base r)
 first-is s base r rs (at, (some, row)) =
     ap (λ b. option_map (rest_of s.byte base) (cond b (Some r) (find (covers base 1) rs)))
     (covers-inside r base 1 (omega (arith, at)) (omega (arith, at, some)))
 
 -- it has as many bytes as lie there
-size-is : (s : Concrete) (base : ℕ) (bytes : List ℕ) (r : Range) (rs : List Range) → AreInRow base (r ∷ rs)
+pub size-is : (s : Concrete) (base : ℕ) (bytes : List ℕ) (r : Range) (rs : List Range) → AreInRow base (r ∷ rs)
     → option_map (rest_of s.byte base) (find (covers base 1) (r ∷ rs)) ≡ Some bytes → length bytes ≡ r.size
 size-is s base bytes r rs (at, (some, row)) found =
     let same = ap length (same_Some _ bytes (sym (first-is s base r rs (at, (some, row))) ∙ found)) in

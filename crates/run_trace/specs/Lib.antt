@@ -1,4 +1,7 @@
 pub mod Addresses
+pub mod Changes
+pub mod Pointed
+pub mod States
 pub mod Steps
 pub mod StoreLaws
 pub mod Stores

@@ -10,15 +10,20 @@ ghost use Rattle.note_types.specs.Records.{IsNotes};
 ghost use Rattle.note_types.specs.declared.ending.Ending.TheVariants.{Running};
 ghost use Rattle.pe_image.specs.Images.{IsImage};
 ghost use Rattle.pe_image.specs.Mapped.{AreBytes};
-ghost use Rattle.run_trace.specs.Traces.{step_lines, trace_lines};
-ghost use Rattle.twin_run.specs.Reported.{IsReport};
+ghost use Rattle.run_trace.specs.Traces.{state_lines, step_lines, trace_lines};
+ghost use Rattle.run_trace.specs.Walks.{RunsImage};
+ghost use Rattle.twin_run.specs.Reported.{IsReport, own_run};
 ghost use Rattle.twin_run.specs.Runner.{IsRunner, Runs};
 
 use crate::before::Before;
+use crate::changed::append_changed;
+use crate::holding::holdings;
+use crate::opened::append_opened;
+use crate::pointing::append_pointed_to;
 use note_types::{Ending, Event, NoMemory, Notes, Script};
 use pe_image::Image;
 use std::alloc::Global;
-use step_texts::append_step;
+use step_texts::{append_holdings, append_step};
 use twin_run::{RunReport, Runner, start};
 
 /// What a run is of: an image under its notes and with a script.
@@ -54,13 +59,16 @@ pub fn tell_step<const W: usize>(
     requires image { 0 < runner.old.image_size }
     ensures step { (world : World) (r : RunState) → world.notes ≡ program.entry.notes.now → world.script ≡ program.entry.script.now → IsRunner W world runner.old r → IsRunner W world runner.new (run_step W world (own_placement W world) r) }
     ensures counted { runner.new.taken ≡ min (runner.old.taken + 1) (2 ^ 64 - 1) }
-    ensures text { OnOk result ((world : World) (r : RunState) → world.notes ≡ program.entry.notes.now → world.script ≡ program.entry.script.now → IsRunner W world runner.old r → out.new.items ≡ out.old.items ++ step_lines W world number r (run_step W world (own_placement W world) r)) }
+    ensures text { OnOk result ((world : World) (r : RunState) → IsImage program.entry.image.now → world.image_size ≡ program.entry.image.now.size
+        → world.notes ≡ program.entry.notes.now → world.script ≡ program.entry.script.now → IsRunner W world runner.old r
+        → out.new.items ≡ out.old.items ++ step_lines W world number r (run_step W world (own_placement W world) r)) }
 {
     let before = Before::of(runner, program.notes, program.script);
     runner.step(program.image, program.notes, program.script);
     let step = before.step(number, runner, program.notes);
     let events = added(runner.trace().as_slice(), before.events);
-    append_step(alloc, program.notes, &step, events, out)
+    append_step(alloc, program.notes, &step, events, out)?;
+    append_pointed_to(alloc, program, runner, events, out)
 }
 
 // Takes the next step of a run that goes on, which is that of this number, and appends its lines from a first number on.
@@ -79,13 +87,41 @@ fn next_step<const W: usize>(
     ensures step { (world : World) (r : RunState) → world.notes ≡ program.entry.notes.now → world.script ≡ program.entry.script.now → IsRunner W world runner.old r → IsRunner W world runner.new (run_step W world (own_placement W world) r) }
     ensures counted { runner.new.taken ≡ min (runner.old.taken + 1) (2 ^ 64 - 1) }
     ensures before { number < first → out.new ≡ out.old }
-    ensures text { first ≤ number → OnOk result ((world : World) (r : RunState) → world.notes ≡ program.entry.notes.now → world.script ≡ program.entry.script.now → IsRunner W world runner.old r → out.new.items ≡ out.old.items ++ step_lines W world number r (run_step W world (own_placement W world) r)) }
+    ensures text { first ≤ number → OnOk result ((world : World) (r : RunState) → IsImage program.entry.image.now → world.image_size ≡ program.entry.image.now.size
+        → world.notes ≡ program.entry.notes.now → world.script ≡ program.entry.script.now → IsRunner W world runner.old r
+        → out.new.items ≡ out.old.items ++ step_lines W world number r (run_step W world (own_placement W world) r)) }
 {
     if number < first {
         runner.step(program.image, program.notes, program.script);
         return Ok(());
     }
     tell_step(alloc, program, runner, number, out)
+}
+
+// Appends the lines of the state of a run that has begun: what the machine holds, what is open and what has changed.
+fn append_state<const W: usize>(
+    alloc: Global,
+    program: Program,
+    runner: &Runner<W>,
+    out: &mut Vec<u8>,
+) -> Result<(), NoMemory>
+    requires width { IsWidth W }
+    requires image { IsImage program.image.now }
+    requires bytes { AreBytes program.image.now }
+    requires notes { IsNotes program.notes.now }
+    requires script { IsScript program.notes.now program.script.now }
+    requires runs { RunsImage W runner.now }
+    ensures { OnOk result ((world : World) (s : RunState) → world ≡ world_of program.entry.image.now program.entry.notes.now program.entry.script.now → IsRunner W world runner.now s → out.new.items ≡ out.old.items ++ state_lines world (own_run W program.entry.image.now world 0) s) }
+{
+    let Program {
+        image,
+        notes,
+        script,
+    } = program;
+    append_holdings(alloc, notes, &holdings(runner, notes), out)?;
+    append_opened(alloc, notes, script, runner, out)?;
+    let before = start::<W>(alloc, image, notes, script)?;
+    append_changed(alloc, notes, &before, runner, out)
 }
 
 /// Whether the run of a runner goes on.
@@ -130,5 +166,6 @@ pub fn trace<const W: usize>(
         taken += 1;
         next_step(alloc, program, &mut runner, taken, first, out)?;
     }
+    append_state(alloc, program, &runner, out)?;
     Ok(runner.report())
 }

@@ -10,16 +10,16 @@ use note_types::Notes;
 use step_texts::Meaning;
 use twin_run::Runner;
 
-// Where the first object of a memory lies.
-fn first_base<const W: usize>() -> u64
+/// Where the first object of a memory lies.
+pub(crate) fn first_base<const W: usize>() -> u64
     requires { IsWidth W }
     ensures { result ≡ first_base W }
 {
     if W == 4 { 0x10_0000 } else { 0x2_0000_0000 }
 }
 
-// Where the object behind one of so many bytes lies, unless that is past all addresses.
-fn next_base(base: u64, size: usize) -> Option<u64>
+/// Where the object behind one of so many bytes lies, unless that is past all addresses.
+pub(crate) fn next_base(base: u64, size: usize) -> Option<u64>
     requires { size < 2 ^ 63 }
     ensures next { IfSome result (λ next. next ≡ base + padded size) }
     ensures past { IfNone result (2 ^ 64 ≤ base + padded size) }

@@ -36,7 +36,7 @@ function name place end = record {
   enter = false;
 }
 
-abbrev notes : Notes
+abbrev pub notes : Notes
 notes = record {
   version = 1;
   entry = 0;

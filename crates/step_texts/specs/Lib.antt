@@ -1,1 +1,4 @@
+pub mod PointedTexts
+pub mod RowTexts
+pub mod StateTexts
 pub mod StepTexts

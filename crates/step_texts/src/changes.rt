@@ -1,5 +1,5 @@
 //! The lines of what a step changed.
-ghost use Rattle.std.specs.Prelude.{◌≡◌, ◌<◌, ◌++◌, OnOk};
+ghost use Rattle.std.specs.Prelude.{◌≡◌, ◌<◌, ◌++◌, OnOk, string_bytes};
 ghost use Rattle.std.specs.List.{flat_map};
 ghost use Rattle.asm_text.specs.Numbers.{hex_text};
 ghost use Rattle.step_texts.specs.StepTexts.{event_below, flag_line, register_line, register_lines, stored_line};
@@ -7,6 +7,7 @@ ghost use Rattle.step_texts.specs.StepTexts.{event_below, flag_line, register_li
 use crate::meaning::MeaningPart;
 use crate::numbers::{Byte, Number};
 use crate::step::{Change, Stored};
+use crate::text::LINE_ROOM;
 use note_types::{Event, NoMemory, Notes};
 use run_texts::append_event;
 use std::alloc::Global;
@@ -60,7 +61,8 @@ fn append_register(
         notes,
         meaning: change.meaning,
     };
-    let line = format!(in alloc; "  R{register} {number}{meaning}\n")?;
+    let mut line = String::with_capacity(alloc, LINE_ROOM)?;
+    write!(line, "  R{register} {number}{meaning}\n")?;
     out.extend_from_slice(line.as_bytes())?;
     Ok(())
 }
@@ -96,22 +98,17 @@ pub(crate) fn flag_line(flag: Option<bool>) -> &'static str
     }
 }
 
-// Appends the digits of a byte.
-fn append_byte(alloc: Global, byte: u8, out: &mut Vec<u8>) -> Result<(), NoMemory>
-    ensures { OnOk result (out.new.items ≡ out.old.items ++ hex_text 2 byte) }
-{
-    let byte = Byte(byte);
-    let digits = format!(in alloc; "{byte}")?;
-    out.extend_from_slice(digits.as_bytes())?;
-    Ok(())
-}
-
-// Appends the digits of bytes.
-fn append_bytes(alloc: Global, bytes: &[u8], out: &mut Vec<u8>) -> Result<(), NoMemory>
-    ensures { OnOk result (out.new.items ≡ out.old.items ++ flat_map (hex_text 2) bytes.now) }
+/// Adds the digits of bytes to a line.
+///
+/// # Errors
+///
+/// Want of memory alone.
+pub(crate) fn push_bytes(bytes: &[u8], line: &mut String) -> Result<(), NoMemory>
+    ensures { OnOk result (string_bytes line.new ≡ string_bytes line.old ++ flat_map (hex_text 2) bytes.now) }
 {
     for byte in bytes {
-        append_byte(alloc, *byte, out)?;
+        let byte = Byte(*byte);
+        write!(line, "{byte}")?;
     }
     Ok(())
 }
@@ -132,9 +129,10 @@ pub(crate) fn append_stored(
         return Ok(());
     };
     let address = Number(stored.address);
-    let head = format!(in alloc; "  store {address} ")?;
-    out.extend_from_slice(head.as_bytes())?;
-    append_bytes(alloc, stored.bytes.as_slice(), out)?;
-    out.push(b'\n')?;
+    let mut line = String::with_capacity(alloc, LINE_ROOM)?;
+    write!(line, "  store {address} ")?;
+    push_bytes(stored.bytes.as_slice(), &mut line)?;
+    line.push('\n')?;
+    out.extend_from_slice(line.as_bytes())?;
     Ok(())
 }

@@ -4,6 +4,7 @@ ghost use Rattle.ebc_insn.specs.Spelling.{WellFormed};
 ghost use Rattle.step_texts.specs.StepTexts.{function_part, instruction_part, step_line};
 
 use crate::step::Step;
+use crate::text::LINE_ROOM;
 use asm_text::Listed;
 use ebc_insn::Insn;
 use note_types::{NoMemory, Notes, Spot};
@@ -72,7 +73,8 @@ pub(crate) fn append_head(
         notes,
         spot: step.place,
     };
-    let text = format!(in alloc; "step {number} {spot}{function}")?;
+    let mut text = String::with_capacity(alloc, LINE_ROOM)?;
+    write!(text, "step {number} {spot}{function}")?;
     out.extend_from_slice(text.as_bytes())?;
     append_instruction(alloc, &step.insn, out)?;
     out.push(b'\n')?;

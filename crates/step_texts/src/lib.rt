@@ -1,22 +1,33 @@
-//! What is printed of a step of a run: which it is, where the run stood, the instruction, and what changed. docs/TRACE.md,
-//! "The lines of a step", has the lines in words. Events have the lines of `run_texts`, and instructions those of listings.
+//! What is printed of a step of a run: which it is, where the run stood, the instruction, and what changed; and of the state behind the
+//! last one. docs/TRACE.md has the lines in words. Events have the lines of `run_texts`, and instructions those of listings.
 //!
 //! Promises:
 //!
 //! - `append_step`: what is appended is `step_text` of the step and of the events that it added. The instruction has to have
 //!   a spelling, as each that was decoded has.
-//! - `Step`, `Change`, `Meaning`, `Thing`, `Stored`: plain data.
+//! - `append_pointed`: the line of what an argument of a native call points to, `pointed_line`.
+//! - `append_holdings`, `append_open`: the lines of what the machine holds, `holdings_text`, and of a function that hasn't
+//!   returned, with the native call that is under way in it, `open_lines`.
+//! - `append_row`, `append_more`: the line of bytes that have changed, `row_line`, and that of how many more there are,
+//!   `more_line`.
+//! - `Step`, `Change`, `Meaning`, `Thing`, `Stored`, `Cells`, `Holdings`, `OpenFunction`, `OpenCall`: plain data.
 //!
-//! The call fails only by want of memory, and asks nothing of the notes.
+//! The calls fail only by want of memory, and ask nothing of the notes.
 #![tactic(auto)]
 
 mod changes;
 mod head;
 mod meaning;
 mod numbers;
+mod pointed;
+mod row;
+mod state;
 mod step;
 mod text;
 
 pub use meaning::{Meaning, Thing};
+pub use pointed::{Cells, append_pointed};
+pub use row::{append_more, append_row};
+pub use state::{Holdings, OpenCall, OpenFunction, append_holdings, append_open};
 pub use step::{Change, Step, Stored};
 pub use text::append_step;

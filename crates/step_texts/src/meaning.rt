@@ -34,9 +34,9 @@ pub enum Thing {
     Object(u64),
 }
 
-// A word, and a name behind it; nothing where there is no name.
+/// A word, and a name behind it; nothing where there is no name.
 #[derive(Clone, Copy)]
-struct Named<'a>(&'static str, Option<&'a str>);
+pub(crate) struct Named<'a>(pub &'static str, pub Option<&'a str>);
 
 impl fmt::Display for Named<'_> {
     ghost output = { λ n. Some (option_map_or (λ name. n.0.now ++ name.now) n.1 []) };
@@ -60,8 +60,8 @@ fn method_name(notes: &Notes, method: u64) -> Option<&str>
     }
 }
 
-// The name of a function.
-fn function_name(notes: &Notes, function: u64) -> Option<&str>
+/// The name of a function.
+pub(crate) fn function_name(notes: &Notes, function: u64) -> Option<&str>
     ensures { option_map (λ name. name.now) result ≡ function_name notes.now function }
 {
     match notes.function.as_slice().get(function as usize) {

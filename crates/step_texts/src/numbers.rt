@@ -31,3 +31,17 @@ impl fmt::Display for Byte {
         write!(f, "{byte:02x}")
     }
 }
+
+/// A number of 16 bits, as it is printed.
+#[derive(Clone, Copy)]
+pub(crate) struct Unit(pub u16);
+
+impl fmt::Display for Unit {
+    ghost output = { λ x. Some (hex_text 4 x.0) };
+
+    #[tactic(auto, using(asm_text::proofs::HexLaws::raw16))]
+    fn fmt<W: fmt::Write>(&self, f: &mut fmt::Formatter<W>) -> fmt::Result {
+        let number = self.0;
+        write!(f, "{number:04x}")
+    }
+}

@@ -9,6 +9,9 @@ use crate::step::Step;
 use note_types::{Event, NoMemory, Notes};
 use std::alloc::Global;
 
+/// The room that a line is given at first, in bytes.
+pub(crate) const LINE_ROOM: usize = 64;
+
 /// Appends the lines of a step that added these events, with the things of the notes by their names. Its instruction has a
 /// spelling, as each has that was decoded.
 ///

@@ -18,6 +18,7 @@
 //! - Between two steps: `Runner::is_hosts_turn`, whether the next one is the host's or the machine's;
 //!   `Runner::registers`, `Runner::has_c`, `Runner::ip`, `Runner::bytes_from`: exactly what the machine and its memory
 //!   hold in that state.
+//!   `Runner::frames`: the host's frames in that state, with the native call that is asked for (`hosts_of`).
 //! - What a run of two images on one host asks of a runner beside its steps (docs/PAIRS.md, "The rules"):
 //!   `Runner::asked_call`, the call that the host sees asked for, or that it sees none (`place_called`);
 //!   `Runner::bound_call`, the call step of a bound call, which leaves the run as it is (`bound_step`), and the frames

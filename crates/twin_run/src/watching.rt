@@ -5,10 +5,11 @@ ghost use Rattle.host_model.specs.RunState.{RunState};
 ghost use Rattle.host_model.specs.World.{World};
 ghost use Rattle.note_types.specs.Concrete.{rest_from};
 ghost use Rattle.note_types.specs.declared.ending.Ending.TheVariants.{Running};
-ghost use Rattle.twin_run.specs.Runner.{IsRunner, Runs};
+ghost use Rattle.twin_run.specs.Runner.{IsRunner, Runs, hosts_of};
 ghost use Rattle.twin_run.specs.Watching.{has_c, is_hosts_turn};
 
-use crate::runner::Runner;
+use crate::runner::{AskedCall, Runner};
+use frame_stack::FrameStack;
 use note_types::{Notes, Script};
 
 impl<const W: usize> Runner<W> {
@@ -49,6 +50,13 @@ impl<const W: usize> Runner<W> {
         ensures { (world : World) (r : RunState) → IsRunner W world self.now r → result ≡ has_c r.machine }
     {
         self.machine.flags % 2 == 1
+    }
+
+    /// The frames of the host, the last one first, and the native call that is asked for in that one until the host accepts it.
+    pub fn frames(&self) -> (Option<AskedCall>, &FrameStack)
+        ensures { (world : World) (r : RunState) → IsRunner W world self.now r → hosts_of result.0 result.1.now ≡ r.hosts }
+    {
+        (self.asked, &self.frames)
     }
 
     /// The bytes from an address to the end of the object that holds it, as they lie: none exactly where no object does.

@@ -1,10 +1,10 @@
-use Rattle.std.proofs.Common.{◌≡◌, ◌⊎◌, ap, arith, inl, inr, sym, ◌∙◌}
+use Rattle.std.proofs.Common.{◌≡◌, ◌⊎◌, ap, arith, inl, inr, refl, sym, ◌∙◌}
 use Rattle.std.proofs.lemmas.Bool.{false≢true}
 use Rattle.host_model.specs.Runs.{world_of}
 use Rattle.host_model.specs.World.{World}
 use Rattle.note_types.specs.declared.ending.Ending.TheVariants.{Running}
-use Rattle.run_trace.proofs.RunnerLaws.{image-has-bytes}
-use Rattle.run_trace.proofs.TraceLaws.{runs-of, told-all, told-next, told-none, told-report}
+use Rattle.run_trace.proofs.RunnerLaws.{image-has-bytes, runs-image}
+use Rattle.run_trace.proofs.TraceLaws.{runs-of, told-next, told-none, told-report, trace-all}
 use Rattle.run_trace.proofs.telling.trace.Goals as goal
 use Rattle.run_trace.proofs.telling.trace.Goals.{then-loop-taken-test+else-goes_on, else-loop-taken-test}
 
@@ -41,7 +41,7 @@ loop-taken-preserved g c =
     (there.at.ending ∙ (c.goes_on.ensures world _ there).0 c.if-goes_on.true)
     (λ r is. c.in_ok-next_step.ensures.step world r (λ _. c.args.notes.now) (λ _. c.args.script.now) is)
     c.in_ok-next_step.ensures.counted (λ early. ap (λ v. v.items) (c.in_ok-next_step.ensures.before early))
-    (λ late r is. c.in_ok-next_step.ensures.text late world r (λ _. c.args.notes.now) (λ _. c.args.script.now) is)
+    (λ late r is. c.in_ok-next_step.ensures.text late world r c.requires.image refl (λ _. c.args.notes.now) (λ _. c.args.script.now) is)
 
 pub returns-clause-report : goal.returns-clause-report
 returns-clause-report g c =
@@ -57,6 +57,14 @@ returns-clause-report g c =
     c.args.out.now.items c.loop-taken.out.items told over c.report.ensures.steps (c.report.ensures.spot world)
     (c.report.ensures.ending world) (c.report.ensures.events world)
 
+pub append_state-requires : goal.append_state-requires
+append_state-requires g c =
+    let runs = runs-image g.row.W c.args.image.now c.args.notes.now c.args.script.now c.loop-taken.runner _ c.requires.image
+    c.loop-taken.invariant.way.there in (
+      omega arith,
+      (c.requires.width, (c.requires.image, (c.requires.bytes, (c.requires.notes, (c.requires.script, runs))))),
+    )
+
 pub returns-clause-text : goal.returns-clause-text
 returns-clause-text g c =
     let world : World = world_of c.args.image.now c.args.notes.now c.args.script.now in
@@ -67,5 +75,5 @@ returns-clause-text g c =
           inl (λ e. false≢true (sym w.if-goes_on.false ∙ (w.goes_on.ensures world _ told.way.there).1 (sym told.way.there.at.ending ∙ e)))
       | else-loop-taken-test w ↦ inr (omega (arith, w.loop-taken-test.false, told.way.most))
     ] in
-    told-all g.row.W c.args.image.now world c.args.first c.args.last c.loop-taken.taken c.loop-taken.runner c.args.out.now.items
-    c.loop-taken.out.items c.requires.first told over
+    trace-all g.row.W c.args.image.now world c.args.first c.args.last c.loop-taken.taken c.loop-taken.runner c.args.out.now.items
+    c.loop-taken.out.items _ c.requires.first told over (λ s is. c.in_ok-append_state.ensures world s refl is)

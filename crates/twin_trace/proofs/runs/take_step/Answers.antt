@@ -33,8 +33,8 @@ returns-then-goes_on-clause-after g c =
 pub returns-then-goes_on-clause-text : goal.returns-then-goes_on-clause-text
 returns-then-goes_on-clause-text g c =
     let p = c.args.program in
-    on_ok_weaker c.tell_step.result (λ h. h (world_under p) _ refl refl c.requires.before ∙ ap (λ t. c.args.out.now.items ++ t)
-    (sym (step-is g.row.W p.image.now (world_under p) c.args.taken
+    on_ok_weaker c.tell_step.result (λ h. h (world_under p) _ c.requires.image refl refl refl c.requires.before
+    ∙ ap (λ t. c.args.out.now.items ++ t) (sym (step-is g.row.W p.image.now (world_under p) c.args.taken
     ((c.goes_on.ensures (world_under p) _ c.requires.before).0 c.if-goes_on.true)))) c.tell_step.ensures.text
 
 pub returns-clause-after : goal.returns-clause-after

@@ -1,4 +1,4 @@
-use Rattle.std.proofs.Common.{ap, sym}
+use Rattle.std.proofs.Common.{ap}
 use Rattle.object_memory.specs.Memory.{ranges}
 use Rattle.note_types.specs.Concrete.{Concrete}
 use Rattle.run_trace.proofs.BeforeLaws.{step-is}

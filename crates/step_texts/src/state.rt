@@ -1,0 +1,158 @@
+//! The lines of what a run holds between two steps.
+ghost use Rattle.std.specs.Prelude.{◌≡◌, ◌++◌, OnOk, option_map};
+ghost use Rattle.step_texts.specs.StateTexts.{call_line, function_line, holdings_text, ip_line, open_lines, signature_name};
+
+use crate::changes::{append_registers, flag_line};
+use crate::meaning::{MeaningPart, Named, function_name};
+use crate::numbers::Number;
+use crate::step::Change;
+use crate::text::LINE_ROOM;
+use note_types::{NoMemory, Notes};
+use run_texts::Place;
+use std::alloc::Global;
+
+/// What the machine of a run holds between two steps.
+#[derive(Clone, Copy)]
+pub struct Holdings {
+    /// R0 to R7, each of which is told.
+    pub registers: [Option<Change>; 8],
+    /// The address of the next instruction.
+    pub ip: Change,
+    /// Whether C is set.
+    pub has_c: bool,
+}
+
+/// A native call that is under way.
+#[derive(Clone, Copy)]
+pub enum OpenCall {
+    /// The call instruction at this place asks for it, and the firmware hasn't taken it yet.
+    Asked(u32),
+    /// The firmware answers it by the script's call of that number, from 0, which has that signature.
+    Accepted { entry: u32, signature: Option<u32> },
+}
+
+/// A function that the firmware entered and that hasn't returned. Its number is that of the notes.
+#[derive(Clone, Copy)]
+pub struct OpenFunction {
+    pub function: u64,
+    /// Whether it was entered as a notification.
+    pub notified: bool,
+    /// Where the run goes on once it has returned.
+    pub back: Change,
+    /// The native call that is under way in it.
+    pub call: Option<OpenCall>,
+}
+
+fn append_ip(alloc: Global, notes: &Notes, ip: Change, out: &mut Vec<u8>) -> Result<(), NoMemory>
+    ensures { OnOk result (out.new.items ≡ out.old.items ++ ip_line notes.now ip) }
+{
+    let number = Number(ip.number);
+    let meaning = MeaningPart {
+        notes,
+        meaning: ip.meaning,
+    };
+    let mut line = String::with_capacity(alloc, LINE_ROOM)?;
+    write!(line, "  ip {number}{meaning}\n")?;
+    out.extend_from_slice(line.as_bytes())?;
+    Ok(())
+}
+
+/// Appends the lines of what the machine holds.
+///
+/// # Errors
+///
+/// Want of memory alone.
+pub fn append_holdings(
+    alloc: Global,
+    notes: &Notes,
+    holdings: &Holdings,
+    out: &mut Vec<u8>,
+) -> Result<(), NoMemory>
+    ensures { OnOk result (out.new.items ≡ out.old.items ++ holdings_text notes.now holdings.now) }
+{
+    out.extend_from_slice(b"state\n")?;
+    append_registers(alloc, notes, &holdings.registers, out)?;
+    append_ip(alloc, notes, holdings.ip, out)?;
+    out.extend_from_slice(flag_line(Some(holdings.has_c)).as_bytes())?;
+    Ok(())
+}
+
+// The name of a signature.
+fn signature_name(notes: &Notes, signature: Option<u32>) -> Option<&str>
+    ensures { option_map (λ name. name.now) result ≡ signature_name notes.now signature }
+{
+    match signature {
+        None => None,
+        Some(number) => match notes.signature.as_slice().get(number as usize) {
+            Some(signature) => Some(signature.name.as_str()),
+            None => None,
+        },
+    }
+}
+
+// Appends the line of a native call that is under way, if one is.
+fn append_call(
+    alloc: Global,
+    notes: &Notes,
+    call: Option<OpenCall>,
+    out: &mut Vec<u8>,
+) -> Result<(), NoMemory>
+    ensures { OnOk result (out.new.items ≡ out.old.items ++ call_line notes.now call) }
+{
+    let line = match call {
+        None => return Ok(()),
+        Some(OpenCall::Asked(place)) => {
+            let place = Place(place);
+            format!(in alloc; "  asked {place}\n")?
+        }
+        Some(OpenCall::Accepted { entry, signature }) => {
+            let name = Named(" ", signature_name(notes, signature));
+            format!(in alloc; "  called {entry}{name}\n")?
+        }
+    };
+    out.extend_from_slice(line.as_bytes())?;
+    Ok(())
+}
+
+// Appends the line of a function that was entered.
+fn append_function(
+    alloc: Global,
+    notes: &Notes,
+    opened: &OpenFunction,
+    out: &mut Vec<u8>,
+) -> Result<(), NoMemory>
+    ensures { OnOk result (out.new.items ≡ out.old.items ++ function_line notes.now opened.now) }
+{
+    let word = if opened.notified {
+        "notified"
+    } else {
+        "entered"
+    };
+    let name = Named(" ", function_name(notes, opened.function));
+    let back = Number(opened.back.number);
+    let meaning = MeaningPart {
+        notes,
+        meaning: opened.back.meaning,
+    };
+    let mut line = String::with_capacity(alloc, LINE_ROOM)?;
+    write!(line, "  {word}{name} {back}{meaning}\n")?;
+    out.extend_from_slice(line.as_bytes())?;
+    Ok(())
+}
+
+/// Appends the lines of a function that is open: of the native call that is under way in it, and of the function.
+///
+/// # Errors
+///
+/// Want of memory alone.
+pub fn append_open(
+    alloc: Global,
+    notes: &Notes,
+    opened: &OpenFunction,
+    out: &mut Vec<u8>,
+) -> Result<(), NoMemory>
+    ensures { OnOk result (out.new.items ≡ out.old.items ++ open_lines notes.now opened.now) }
+{
+    append_call(alloc, notes, opened.call, out)?;
+    append_function(alloc, notes, opened, out)
+}
