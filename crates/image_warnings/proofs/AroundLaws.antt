@@ -16,7 +16,6 @@ use Rattle.image_warnings.specs.Uncut.{UncutAt}
 use Rattle.image_warnings.specs.declared.departure.Around.{Around}
 use Rattle.image_warnings.specs.declared.field.ObjectField.{ObjectField}
 use Rattle.image_warnings.proofs.FieldLaws.{has_contained}
-use Rattle.image_warnings.proofs.UncutLaws.{uncut_at_one}
 
 abbrev around_with : Bool → Bool → Bool → Around
 around_with uncut stored cut = record { uncut = uncut; stored = stored; cut = cut }
@@ -24,7 +23,7 @@ around_with uncut stored cut = record { uncut = uncut; stored = stored; cut = cu
 pub one_around : (image : Image) (notes : Notes) (f : FnNote) (place : ℕ) (s : State) (i : Insn) (next : ℕ) (a b : Around)
     → IsAround image notes f place s i next a → IsAround image notes f place s i next b → a ≡ b
 one_around image notes f place s i next a b x y =
-    ap (λ u. around_with u a.stored a.cut) (uncut_at_one image f place a.uncut b.uncut x.uncut y.uncut)
+    ap (λ u. around_with u a.stored a.cut) (same_from_decides a.uncut b.uncut x.uncut y.uncut)
     ∙ (ap (λ u. around_with b.uncut u a.cut) (same_from_decides a.stored b.stored x.stored y.stored)
     ∙ ap (around_with b.uncut b.stored) (same_from_decides a.cut b.cut x.cut y.cut))
 
@@ -55,7 +54,7 @@ cut_found image f i next (Some p) b = (
 )
 
 pub around_found : (image : Image) (notes : Notes) (f : FnNote) (place : ℕ) (s : State) (i : Insn) (next : ℕ) (fields : List ObjectField)
-    (uncut : Bool) (behind : Option (Insn × ℕ)) → AreStored image notes fields → UncutAt image f place uncut
+    (uncut : Bool) (behind : Option (Insn × ℕ)) → AreStored image notes fields → (IsTrue uncut ↔ UncutAt image f place)
     → StandsBehind image f next behind → IsAround image notes f place s i next (around_of fields uncut behind notes f s i)
 around_found image notes f place s i next fields uncut behind all u b = record {
   uncut = u;

@@ -3,6 +3,8 @@ pub mod FieldLaws
 pub mod Gathering
 pub mod Ordering
 pub mod Passing
+pub mod SpreadLaws
 pub mod Standing
+pub mod SteppingLaws
 pub mod Storing
 pub mod UncutLaws

@@ -1,6 +1,6 @@
 -- The walk through a function of a typed image: from one instruction to the next.
-use Rattle.std.proofs.Common.{◌≡◌, ℕ, ◌+◌, ◌<◌, ◌≤◌, List, ◌++◌, refl, sym, ap, subst, ◌∙◌, arith}
-use Rattle.std.specs.Prelude.{Bool, Option, None, Some, IfSome}
+use Rattle.std.proofs.Common.{◌≡◌, ◌↔◌, ℕ, ◌+◌, ◌≤◌, List, ◌++◌, refl, sym, ap, subst, ◌∙◌, arith}
+use Rattle.std.specs.Prelude.{Bool, IsTrue, Option, None, Some, IfSome}
 use Rattle.std.proofs.lemmas.Option.{none-some}
 use Rattle.ebc_insn.specs.Spelling.{WellFormed}
 use Rattle.ebc_insn.specs.declared.Insn.{Insn}
@@ -19,8 +19,8 @@ use Rattle.width_checker.proofs.Walking.{place_of_comes}
 use Rattle.image_warnings.specs.Around.{around_of}
 use Rattle.image_warnings.specs.Fields.{stored_field, with_field}
 use Rattle.image_warnings.specs.Stored.{AreStored, InsnAt, StoredBefore, StoredTo, with_stored}
-use Rattle.image_warnings.specs.Uncut.{UncutAt, uncut_after}
-use Rattle.image_warnings.specs.Walks.{WarnedBefore, WarnedTo, insn_of, uncut_behind, warnings_of}
+use Rattle.image_warnings.specs.Uncut.{UncutAt}
+use Rattle.image_warnings.specs.Walks.{WarnedBefore, WarnedTo, insn_of, warnings_of}
 use Rattle.image_warnings.specs.Warned.{warnings_at}
 use Rattle.image_warnings.specs.declared.departure.Around.{Around}
 use Rattle.image_warnings.specs.declared.field.ObjectField.{ObjectField}
@@ -28,7 +28,6 @@ use Rattle.image_warnings.specs.declared.warning.Warning.{Warning}
 use Rattle.image_warnings.proofs.AroundLaws.{StandsBehind, around_found}
 use Rattle.image_warnings.proofs.Gathering.{gathered, gathered_end}
 use Rattle.image_warnings.proofs.Storing.{stored_end, stored_more}
-use Rattle.image_warnings.proofs.UncutLaws.{uncut_next}
 
 if_insn : (o : Option (Insn × ℕ)) → ((i : Insn) (next : ℕ) → o ≡ Some (i, next) → WellFormed i) → IfSome o (λ p. WellFormed p.0)
 if_insn None h = tt
@@ -78,7 +77,7 @@ module _ (image : Image) (notes : Notes) (func : ℕ) (f : FnNote) (walk : IsWal
   }
 
   pub passed : (fields : List ObjectField) (uncut : Bool) (behind : Option (Insn × ℕ)) (ws more : List Warning)
-      → AreStored image notes fields → UncutAt image f b.place uncut → StandsBehind image f meets.next behind
+      → AreStored image notes fields → (IsTrue uncut ↔ UncutAt image f b.place) → StandsBehind image f meets.next behind
       → WarnedTo image notes func f b.place ws → more ≡ ws ++ warnings_of fields b.place notes func f uncut behind b.state b.insn
       → WarnedTo image notes func f meets.next more
   passed fields uncut behind ws more all u stands to e =
@@ -99,17 +98,6 @@ module _ (image : Image) (notes : Notes) (func : ℕ) (f : FnNote) (walk : IsWal
       ∙ ap (λ o. with_stored fields notes f (Some meets.state) o) insn_is) in
       subst (StoredTo image notes func f meets.next) (sym same)
       (stored_more image notes one_place func f walk.there b.place s.comes.0 leads standing fields to)
-
-  pub uncut_passed : (uncut after : Bool) (c : Before) → UncutAt image f b.place uncut → after ≡ uncut_behind uncut b.insn
-      → StandsBefore image notes func f c → c.place ≡ meets.next → UncutAt image f c.place after
-  uncut_passed uncut after c u e stands at =
-      let m : MeetsRules image notes func f b.place = meets in
-      let insn : b.insn ≡ Some (m.insn, m.next) = insn_there image notes func f b m s.whole in
-      let same : after ≡ uncut_after uncut m.insn = e ∙ ap (uncut_behind uncut) insn in
-      let inside : m.next < f.end = subst (λ p. p < f.end) at stands.insn.within in
-      let next : UncutAt image f m.next (uncut_after uncut m.insn) =
-      uncut_next image f b.place m.next uncut m.insn u m.decode inside in
-      subst (λ p. UncutAt image f p after) (sym at) (subst (UncutAt image f m.next) (sym same) next)
 
   -- at the end of the function
   pub passed_all : (ws : List Warning) → f.end ≤ meets.next → WarnedTo image notes func f meets.next ws

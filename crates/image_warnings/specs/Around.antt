@@ -52,7 +52,7 @@ pub record LoadsStored (image : Image) (notes : Notes) (f : FnNote) (s : State) 
 -- it is what is around an instruction in a state, at a place of a function and before `next`
 pub record IsAround (image : Image) (notes : Notes) (f : FnNote) (place : ℕ) (s : State) (insn : Insn) (next : ℕ) (around : Around)
     : Type 0 where
-  pub uncut : UncutAt image f place around.uncut
+  pub uncut : IsTrue around.uncut ↔ UncutAt image f place
   pub stored : IsTrue around.stored ↔ LoadsStored image notes f s insn
   pub cut : IsTrue around.cut ↔ IsCut image f insn next
 

@@ -1,10 +1,12 @@
--- For proofs: where R7 is as a native call left it: docs/FIRMWARE.md, "Warnings", `status`.
-use Rattle.std.specs.Prelude.{◌≡◌, ℕ, zero, suc, ◌<◌, Bool, true, false, not, ◌&&◌, ◌||◌, nat_eq}
+-- For proofs: where R7 may be as a native call left it: docs/FIRMWARE.md, "Warnings", `status`.
+use Rattle.std.specs.Prelude.{◌≡◌, ◌⊎◌, ℕ, zero, suc, ◌<◌, ◌≤◌, Bool, true, false, Some, nat_eq, pos}
 use Rattle.ebc_insn.specs.declared.Insn.{Insn}
 use Rattle.ebc_insn.specs.declared.Insn.TheVariants as insns
+use Rattle.note_infer.specs.Leaders.{names_place}
 use Rattle.note_types.specs.declared.notes.FnNote.{FnNote}
 use Rattle.pe_image.specs.declared.image.Image.{Image}
-use Rattle.rules_image.specs.Images.{IsDecoded, falls}
+use Rattle.rules_image.specs.Images.{IsDecoded, falls, reloc_at}
+use Rattle.rules_image.specs.Places.{IsPlaceOf}
 use Rattle.image_warnings.specs.Departures.{is_r7}
 
 -- a native call
@@ -26,25 +28,34 @@ writes_r7 (insns.Pop wide op extra) = is_r7 op
 writes_r7 (insns.PopNatural op extra) = is_r7 op
 writes_r7 i = false
 
--- whether R7 is so at the next instruction, to which control falls through
-abbrev pub uncut_after : Bool → Insn → Bool
-uncut_after uncut i = calls_native i || (uncut && (falls i && not (writes_r7 i)))
-
--- it is so, or isn't, at a place that comes after the instruction at one of these places
-pub record LeavesUncut (image : Image) (f : FnNote) (before : ℕ → Bool → Type 0) (place : ℕ) (uncut : Bool) : Type 0 where
-  pub last : ℕ
-  pub was : Bool
-  pub reached : before last was
-  pub insn : Insn
-  pub decode : IsDecoded image f last insn place
+-- an instruction before `next` leads to a place of the function: control falls through to it, or a jump names it
+pub record LeadsTo (image : Image) (f : FnNote) (next : ℕ) (i : Insn) (place : ℕ) : Type 0 where
+  pub goes : ((falls i ≡ true) × (place ≡ next)) ⊎ (names_place next (reloc_at image next) i ≡ Some (pos place))
+  pub first : f.place ≤ place
   pub within : place < f.end
-  pub is : uncut ≡ uncut_after was insn
 
--- it is so, or isn't, at the place to which so many instructions lead: at the function's start it isn't
-unfoldable pub Uncut : Image → FnNote → ℕ → ℕ → Bool → Type 0
-Uncut image f zero place uncut = (place ≡ f.place) × (uncut ≡ false)
-Uncut image f (suc n) place uncut = LeavesUncut image f (Uncut image f n) place uncut
+-- such an instruction at such a place leads to a place
+pub record ComesFrom (image : Image) (f : FnNote) (IsSuch : ℕ → Insn → Type 0) (place : ℕ) : Type 0 where
+  pub last : ℕ
+  pub insn : Insn
+  pub next : ℕ
+  pub decode : IsDecoded image f last insn next
+  pub is_such : IsSuch last insn
+  pub leads : LeadsTo image f next insn place
 
--- it is so, or isn't, at a place of a function
-abbrev pub UncutAt : Image → FnNote → ℕ → Bool → Type 0
-UncutAt image f place uncut = (n : ℕ) × Uncut image f n place uncut
+-- a native call at a place of the function
+abbrev pub IsNativeCall : Image → FnNote → ℕ → Insn → Type 0
+IsNativeCall image f place i = IsPlaceOf image f place × (calls_native i ≡ true)
+
+-- an instruction at one of these places that leaves R7 as it is
+abbrev pub KeepsR7 : (ℕ → Type 0) → ℕ → Insn → Type 0
+KeepsR7 before place i = before place × (writes_r7 i ≡ false)
+
+-- a path leads to a place from a native call, with so many instructions behind the call, which all leave R7 as it is
+unfoldable pub ComesUncut : Image → FnNote → ℕ → ℕ → Type 0
+ComesUncut image f zero place = ComesFrom image f (IsNativeCall image f) place
+ComesUncut image f (suc n) place = ComesFrom image f (KeepsR7 (ComesUncut image f n)) place
+
+-- some path does: R7 may be there as a native call left it
+abbrev pub UncutAt : Image → FnNote → ℕ → Type 0
+UncutAt image f place = (n : ℕ) × ComesUncut image f n place

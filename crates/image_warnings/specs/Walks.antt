@@ -10,7 +10,6 @@ use Rattle.state_walk.specs.declared.preceding.Before.{Before}
 use Rattle.image_warnings.specs.Around.{around_of}
 use Rattle.image_warnings.specs.declared.field.ObjectField.{ObjectField}
 use Rattle.image_warnings.specs.Warned.{IsWarned, IsWarnedIn, Precedes, warnings_at}
-use Rattle.image_warnings.specs.Uncut.{uncut_after}
 use Rattle.image_warnings.specs.declared.warning.Warning.{Warning}
 
 -- the warnings of what stands at a place, where these fields are stored into and this stands behind it
@@ -24,11 +23,6 @@ warnings_of fields place notes func f uncut behind s insn = []
 abbrev pub insn_of : Option Before → Option (Insn × ℕ)
 insn_of None = None
 insn_of (Some b) = b.insn
-
--- whether R7 is as a native call left it behind what stands at a place
-abbrev pub uncut_behind : Bool → Option (Insn × ℕ) → Bool
-uncut_behind uncut (Some (i, next)) = uncut_after uncut i
-uncut_behind uncut None = uncut
 
 -- Warnings are those of the functions before one.
 pub record WarnedBefore (image : Image) (notes : Notes) (func : ℕ) (ws : List Warning) : Type 0 where

@@ -59,7 +59,7 @@ pub(crate) fn insn_of(next: &Option<Before>) -> Option<(Insn, u32)>
     }
 }
 
-/// What the image has beside an instruction: the natural fields of objects into which it stores, whether R7 is as a
+/// What the image has beside an instruction: the natural fields of objects into which it stores, whether R7 may be as a
 /// native call left it, and what stands behind it.
 #[derive(Clone, Copy)]
 pub(crate) struct Beside<'a> {

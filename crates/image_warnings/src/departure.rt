@@ -148,7 +148,7 @@ fn is_any(t: &Ty) -> bool
 /// What is around an instruction, as far as departures hang on it.
 #[derive(Clone, Copy)]
 pub struct Around {
-    /// R7 is before it as a native call left it.
+    /// R7 may be before it as a native call left it.
     pub uncut: bool,
     /// Some instruction of the image stores into the natural field of an object that it loads.
     pub stored: bool,

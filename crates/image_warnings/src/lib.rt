@@ -7,14 +7,15 @@
 //!   function, the state before it and what is around it (`IsWarned`). They stand in order, each once.
 //!
 //! Inside the crate, `Scene::departs` tells whether the interpreter departs so at one instruction, exactly `departs`.
-//! `uncut_behind` tells whether R7 is as a native call left it, and `stored_fields` gives the natural fields of objects
-//! into which the image stores, exactly these (`AreStored`). The walks go over each function twice, by `Walk` of
-//! `state_walk`.
+//! `uncut_places` marks the places at which R7 may be as a native call left it, exactly these (`AreUncut`), and
+//! `stored_fields` gives the natural fields of objects into which the image stores, exactly these (`AreStored`). The
+//! walks go over each function twice, by `Walk` of `state_walk`.
 #![tactic(auto)]
 
 mod around;
 mod departure;
 mod field;
+mod spread;
 mod stored;
 mod uncut;
 mod walk;

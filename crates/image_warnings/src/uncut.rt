@@ -1,20 +1,28 @@
-//! Whether R7 is as a native call left it.
+//! What an instruction does with R7, and where it leads.
 
-ghost use Rattle.std.specs.Prelude.{◌≡◌};
+ghost use Rattle.std.specs.Prelude.{◌≡◌, ℕ, IfNone, IfSome};
+ghost use Rattle.note_infer.specs.Finding.{IsNamedIn};
 ghost use Rattle.rules_image.specs.Images.{falls};
-ghost use Rattle.image_warnings.specs.Uncut.{calls_native, uncut_after, writes_r7};
-ghost use Rattle.image_warnings.specs.Walks.{uncut_behind};
+ghost use Rattle.rules_image.specs.Tables.{IsCodeOf};
+ghost use Rattle.state_walk.specs.Standing.{Decodes, HasDecoded, IsWalk};
+ghost use Rattle.std.specs.Prelude.{◌<◌, ◌≤◌};
+ghost use Rattle.image_warnings.specs.Uncut.{calls_native, writes_r7};
 
 use crate::departure::is_r7;
+use ebc_decode::decode;
 use ebc_insn::{Cond, Insn};
+use note_infer::{names_place, reloc_at};
+use state_walk::Walk;
 
-fn calls_native(insn: &Insn) -> bool
+/// Whether an instruction is a native call.
+pub(crate) fn calls_native(insn: &Insn) -> bool
     ensures { result ≡ calls_native insn.now }
 {
     matches!(insn, Insn::Call { native: true, .. })
 }
 
-fn falls(insn: &Insn) -> bool
+/// Whether control may fall through to the next instruction.
+pub(crate) fn falls(insn: &Insn) -> bool
     ensures { result ≡ falls insn.now }
 {
     match insn {
@@ -31,7 +39,8 @@ fn falls(insn: &Insn) -> bool
     }
 }
 
-fn writes_r7(insn: &Insn) -> bool
+/// Whether an instruction leaves something else in R7.
+pub(crate) fn writes_r7(insn: &Insn) -> bool
     ensures { result ≡ writes_r7 insn.now }
 {
     match insn {
@@ -48,12 +57,31 @@ fn writes_r7(insn: &Insn) -> bool
     }
 }
 
-/// Whether it is so at the next instruction, where it is so before this one, or isn't.
-pub(crate) fn uncut_behind(uncut: bool, insn: &Option<(Insn, u32)>) -> bool
-    ensures { result ≡ uncut_behind uncut insn.now }
+/// The instruction at a place of a walk's function, and the place of the next one, where these are the function's bytes.
+pub(crate) fn insn_at(walk: &Walk, code: &[u8], place: u32) -> Option<(Insn, u32)>
+    requires walk { IsWalk walk.now.image.now walk.now.notes.now walk.now.func walk.now.f.now }
+    requires code { IsCodeOf walk.now.image.now walk.now.f.now code.now }
+    requires first { walk.now.f.now.place ≤ place }
+    requires within { place < walk.now.f.now.end }
+    ensures decodes { Decodes walk.now.image.now walk.now.f.now place result }
+    ensures whole { HasDecoded walk.now.image.now walk.now.f.now place result }
 {
-    match insn {
-        Some((insn, _)) => calls_native(insn) || (uncut && falls(insn) && !writes_r7(insn)),
-        None => uncut,
+    match decode(code, (place - walk.f.place) as usize) {
+        Ok((insn, len)) => Some((insn, place + len as u32)),
+        Err(_) => None,
+    }
+}
+
+/// The place of a walk's function that an instruction before `next` names as the target of a jump, where it does.
+pub(crate) fn jump_in(walk: &Walk, next: u32, insn: &Insn) -> Option<u32>
+    requires { IsWalk walk.now.image.now walk.now.notes.now walk.now.func walk.now.f.now }
+    ensures some { IfSome result (IsNamedIn walk.now.image.now walk.now.f.now next insn.now) }
+    ensures none { IfNone result ((p : ℕ) → IsNamedIn walk.now.image.now walk.now.f.now next insn.now p → ⊥) }
+{
+    let place = names_place(next, reloc_at(walk.image, next), insn)?;
+    if i128::from(walk.f.place) <= place && place < i128::from(walk.f.end) {
+        Some(place as u32)
+    } else {
+        None
     }
 }

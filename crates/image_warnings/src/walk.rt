@@ -14,8 +14,8 @@ ghost use Rattle.image_warnings.specs.Warned.{AreWarnings, due, warnings_at};
 use crate::around::{Beside, insn_of};
 use crate::departure::Scene;
 use crate::field::ObjectField;
+use crate::spread::{is_uncut, uncut_places};
 use crate::stored::stored_fields;
-use crate::uncut::uncut_behind;
 use crate::warning::{Kind, Warning};
 use ebc_base::{NoMemory, Sequence};
 use note_types::{FnNote, Notes};
@@ -81,6 +81,7 @@ fn append_of(
 
 // Appends the warnings of a function, where these are the fields into which the image stores.
 fn append_function(
+    alloc: Global,
     walk: &Walk,
     fields: &[ObjectField],
     out: &mut Vec<Warning>,
@@ -91,22 +92,18 @@ fn append_function(
     requires before { WarnedBefore walk.now.image.now walk.now.notes.now walk.now.func out.old.items }
     ensures { OnOk result (WarnedBefore walk.now.image.now walk.now.notes.now (walk.now.func + 1) out.new.items) }
 {
+    let uncut = uncut_places(alloc, walk)?;
     let mut b = walk.start();
-    let mut uncut = false;
     'places: loop {
         let next = walk.next(&b);
-        let behind = insn_of(&next);
         let beside = Beside {
             fields,
-            uncut,
-            behind,
+            uncut: is_uncut(walk, uncut.as_slice(), b.place),
+            behind: insn_of(&next),
         };
         append_of(walk, &b, &beside, out)?;
         match next {
-            Some(next) => {
-                uncut = uncut_behind(uncut, &b.insn);
-                b = next;
-            }
+            Some(next) => b = next,
             None => return Ok(()),
         }
     }
@@ -114,6 +111,7 @@ fn append_function(
 
 // Appends the warnings of these functions, all of the notes, in their order.
 fn append_each(
+    alloc: Global,
     image: &Image,
     notes: &Notes,
     functions: &[FnNote],
@@ -135,7 +133,7 @@ fn append_each(
             func: func as u32,
             f,
         };
-        append_function(&walk, fields, out)?;
+        append_function(alloc, &walk, fields, out)?;
     }
     Ok(())
 }
@@ -154,6 +152,7 @@ pub fn warnings(alloc: Global, image: &Image, notes: &Notes) -> Result<Sequence<
     let fields = stored_fields(alloc, image, notes)?;
     let mut out = Vec::new(alloc);
     append_each(
+        alloc,
         image,
         notes,
         notes.function.as_slice(),

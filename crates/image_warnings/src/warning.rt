@@ -3,7 +3,7 @@
 /// How EDK2's interpreter departs from the machine (docs/FIRMWARE.md, "Warnings").
 #[derive(Clone, Copy, PartialEq, Eq)]
 pub enum Kind {
-    /// All 64 bits of R7 are read as a native call left them.
+    /// All 64 bits of R7 are read as a native call may have left them.
     Status,
     /// POPn has an immediate.
     Popn,

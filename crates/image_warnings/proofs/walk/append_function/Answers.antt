@@ -1,12 +1,11 @@
 use Rattle.std.proofs.Common.{◌<◌, arith, sym, subst}
-use Rattle.std.specs.Prelude.{IfSome, false}
+use Rattle.std.specs.Prelude.{IfSome}
 use Rattle.state_walk.specs.Standing.{GoesOn, StandsBefore}
-use Rattle.image_warnings.specs.Uncut.{UncutAt}
+use Rattle.image_warnings.specs.Spreading.{AreUncut}
 use Rattle.image_warnings.specs.Walks.{WarnedTo}
 use Rattle.image_warnings.proofs.Gathering.{gathered_start}
 use Rattle.image_warnings.proofs.AroundLaws.{StandsBehind}
-use Rattle.image_warnings.proofs.Passing.{behind_found, is_well_formed, meets, passed, passed_all, uncut_passed}
-use Rattle.image_warnings.proofs.UncutLaws.{uncut_start}
+use Rattle.image_warnings.proofs.Passing.{behind_found, is_well_formed, meets, passed, passed_all}
 use Rattle.image_warnings.proofs.walk.append_function.Goals as goal
 
 pub places-init : goal.places-init
@@ -14,11 +13,14 @@ places-init c =
     let w = c.args.walk.now in
     record {
       stands = c.start-b.ensures.stands;
-      uncut = subst (λ p. UncutAt w.image.now w.f.now p false) (sym c.start-b.ensures.place) (uncut_start w.image.now w.f.now);
       warned = subst (λ p. WarnedTo w.image.now w.notes.now w.func w.f.now p c.args.out.now.items) (sym c.start-b.ensures.place)
           (gathered_start w.image.now w.notes.now c.requires.typed.tables.functions w.func w.f.now c.requires.walk.there
           c.args.out.now.items c.requires.before);
     }
+
+pub is_uncut-requires-clause-marks : goal.is_uncut-requires-clause-marks
+is_uncut-requires-clause-marks c =
+    subst (AreUncut c.args.walk.now.image.now c.args.walk.now.f.now) (sym c.as_slice.ensures.value) c.in_ok-uncut.ensures
 
 pub append_of-requires : goal.append_of-requires
 append_of-requires c =
@@ -35,12 +37,11 @@ places-preserved c =
     let goes = subst (GoesOn w.image.now w.notes.now w.func w.f.now b.place) c.in-Some.is c.next-next.ensures.goes_on in
     record {
       stands = stands;
-      uncut = uncut_passed w.image.now w.notes.now w.func w.f.now c.requires.walk c.requires.typed b i.stands
-          c.places.uncut c.uncut_behind-uncut.result c.in-Some.next i.uncut c.uncut_behind-uncut.ensures stands (goes m);
       warned = subst (λ p. WarnedTo w.image.now w.notes.now w.func w.f.now p c.append_of.new.out.items) (sym (goes m))
           (passed w.image.now w.notes.now w.func w.f.now c.requires.walk c.requires.typed b i.stands
-          c.args.fields.now c.places.uncut c.insn_of-behind.result c.places.out.items c.append_of.new.out.items c.requires.fields i.uncut
-          (subst (StandsBehind w.image.now w.f.now m.next) (sym c.insn_of-behind.ensures)
+          c.args.fields.now c.is_uncut.result c.insn_of.result c.places.out.items c.append_of.new.out.items c.requires.fields
+          c.is_uncut.ensures
+          (subst (StandsBehind w.image.now w.f.now m.next) (sym c.insn_of.ensures)
           (behind_found w.image.now w.notes.now w.func w.f.now c.requires.walk c.requires.typed b i.stands
           c.next-next.result c.next-next.ensures.stands c.next-next.ensures.goes_on))
           i.warned c.in_ok-append_of.ensures);
@@ -55,8 +56,9 @@ returns-in-None c =
     let goes = subst (GoesOn w.image.now w.notes.now w.func w.f.now b.place) c.in-None.is c.next-next.ensures.goes_on in
     passed_all w.image.now w.notes.now w.func w.f.now c.requires.walk c.requires.typed b i.stands c.append_of.new.out.items (goes m)
     (passed w.image.now w.notes.now w.func w.f.now c.requires.walk c.requires.typed b i.stands
-    c.args.fields.now c.places.uncut c.insn_of-behind.result c.places.out.items c.append_of.new.out.items c.requires.fields i.uncut
-    (subst (StandsBehind w.image.now w.f.now m.next) (sym c.insn_of-behind.ensures)
+    c.args.fields.now c.is_uncut.result c.insn_of.result c.places.out.items c.append_of.new.out.items c.requires.fields
+    c.is_uncut.ensures
+    (subst (StandsBehind w.image.now w.f.now m.next) (sym c.insn_of.ensures)
     (behind_found w.image.now w.notes.now w.func w.f.now c.requires.walk c.requires.typed b i.stands
     c.next-next.result c.next-next.ensures.stands c.next-next.ensures.goes_on))
     i.warned c.in_ok-append_of.ensures)

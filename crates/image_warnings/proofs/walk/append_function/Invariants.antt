@@ -1,13 +1,11 @@
 use Rattle.std.proofs.Common.{◌-◌}
 use Rattle.state_walk.specs.Standing.{StandsBefore}
-use Rattle.image_warnings.specs.Uncut.{UncutAt}
 use Rattle.image_warnings.specs.Walks.{WarnedTo}
 use Rattle.image_warnings.proofs.walk.append_function.Given as goal
 
 abbrev pub invariant-places : goal.invariant-places
 invariant-places l = record {
   stands : StandsBefore l.walk.image.now l.walk.notes.now l.walk.func l.walk.f.now l.b;
-  uncut : UncutAt l.walk.image.now l.walk.f.now l.b.place l.uncut;
   warned : WarnedTo l.walk.image.now l.walk.notes.now l.walk.func l.walk.f.now l.b.place l.out.items;
 }
 

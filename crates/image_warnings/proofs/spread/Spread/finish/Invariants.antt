@@ -1,0 +1,14 @@
+use Rattle.std.proofs.Common.{◌-◌, ◌≤◌, length}
+use Rattle.image_warnings.specs.Spreading.{AreFollowed, IsSpread, ReachesCalls}
+use Rattle.image_warnings.proofs.spread.Spread.finish.Given as goal
+
+abbrev pub invariant-loop-followed : goal.invariant-loop-followed
+invariant-loop-followed l = record {
+  spread : IsSpread l.walk.image.now l.walk.f.now l.self;
+  calls : ReachesCalls l.walk.image.now l.walk.f.now l.self.reached.items;
+  followed : AreFollowed l.walk.image.now l.walk.f.now l.followed l.self.reached.items;
+  within : l.followed ≤ length l.self.reached.items;
+}
+
+abbrev pub decreases-loop-followed : goal.decreases-loop-followed
+decreases-loop-followed l = l.walk.f.now.end - l.walk.f.now.place - l.followed
