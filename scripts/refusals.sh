@@ -44,6 +44,17 @@ slip 'level forgotten' 3 'bad driver.notes missing function[0].level' $check <<'
 driver.notes:27:1: error: function[0] has no key level; wanted: a number from 0 on
   see docs/NOTES.md, "The file" and "Texts"
 .
+edit driver.notes $'version = 1\n' ''
+slip 'version forgotten' 3 'bad driver.notes missing version' $check <<'.'
+driver.notes:1:1: error: the text has no key version; wanted: 1 or 2
+  if these are notes with labels: the program ebc_notes completes them
+  see docs/NOTES.md, "The file" and "Texts"
+.
+edit driver.notes 'written = []' 'written = ["p", "q"]'
+slip 'a local field that is not there' 3 'bad driver.notes range point[0].written' $check <<'.'
+driver.notes:52:17: error: item 1 of point[0].written is "q"; wanted: fields of L, the locals of main, which has no q; it has: p
+  see docs/NOTES.md, "The conditions"
+.
 edit driver.notes $'result = "status"\n\n[[function]]' $'resut = "status"\n\n[[function]]'
 slip 'a misspelt key that has to be there' 3 'bad driver.notes missing function[0].result' $check <<'.'
 driver.notes:27:1: error: function[0] has no key result; wanted: a text TYPE
@@ -591,6 +602,29 @@ out.efi: tick+0x8: error: return: RET with int:0..0 in R1, and saved:1, what R1 
 
 # ---- scripts and runs
 
+edit driver.script '"0 loc method' '"0 lok method'
+slip 'a cell of a field that is not there' 3 'bad driver.script name object[0].cells' $twin <<'.'
+driver.script:9:10: error: item 0 of object[0].cells is "0 lok method Locate", and the shape Sys has no field lok
+  Sys has: loc, reg
+  see docs/SCRIPTS.md, "The file" and "Texts"
+.
+edit driver.script $'args = ["entry tick"]\n' $'args = ["entry tick"]\nwrite = ["1 0 count int 5", "0 0 count int 5"]\n'
+slip 'a write to another object' 3 'bad driver.script name call[1].write' $twin <<'.'
+driver.script:28:29: error: item 1 of call[1].write is "0 0 count int 5", and object 0 is a Sys, which has no field count
+  Sys has: loc, reg
+  objects: 0 of Sys, 1 of Blk
+  see docs/SCRIPTS.md, "The file" and "Texts"
+.
+edit driver.script $'cells = ["0 loc method Locate", "0 reg method Register"]\n' ''
+slip 'the cells of methods left out' 3 'bad driver.script range object[0].cells' $twin <<'.'
+driver.script:6:1: error: object[0] has no key cells; wanted: texts INSTANCE FIELD VALUE
+  see docs/SCRIPTS.md, "The file" and "Texts"
+.
+edit driver.script $'args = ["handle 0", "ptr 0 0"]\n' ''
+slip 'the arguments of the entry function left out' 3 'bad driver.script range args' $twin <<'.'
+driver.script:1:1: error: the text has no key args; wanted: texts VALUE, one for each parameter of the entry function
+  see docs/SCRIPTS.md, "The file" and "Texts"
+.
 edit driver.script 'result = "status ok 0"' 'result = 0'
 slip 'status as a number' 3 'bad driver.script kind call[0].result' $twin <<'.'
 driver.script:22:1: error: call[0].result is a number; wanted: a text VALUE

@@ -162,6 +162,12 @@ slip 'a command that is none' 2 usage chek driver.efi driver.notes <<'.'
 ebc: error: `chek` is no command; wanted: asm, link, check, list, run, twin, sample, rom, infer or pair
   see docs/COMMANDS.md, "Commands"
 .
+for name in notes places lint trace; do
+  slip "the program ebc_$name as a command" 2 usage $name driver.plan <<.
+ebc: error: \`$name\` is no command; wanted: the program ebc_$name, which stands beside ebc
+  see docs/COMMANDS.md, "Commands"
+.
+done
 slip 'twin without STEPS' 2 usage twin driver.efi driver.notes driver.script <<'.'
 ebc: error: 3 words after `twin`; wanted: 4
   usage: twin IMAGE NOTES SCRIPT STEPS
@@ -283,6 +289,26 @@ slip 'two spaces to align operands' 3 'bad driver.asm operand 4' $asm <<'.'
 driver.asm:4:11: error: a second space; exactly one stands after a mnemonic or directive
   see docs/ASSEMBLY.md, "Faults"
 .
+edit driver.asm $'  RET\nfailed:' $'  RET  # to the firmware\nfailed:'
+slip 'a comment with #' 3 'bad driver.asm operand 22' $asm <<'.'
+driver.asm:22:8: error: `#` begins no comment; a comment begins with `;`
+  see docs/ASSEMBLY.md, "Faults"
+.
+edit driver.asm '.data' $'# what is kept:\n.data'
+slip 'a line that is a comment with #' 3 'bad driver.asm label 29' $asm <<'.'
+driver.asm:29:1: error: `#` begins no comment; a comment begins with `;`
+  see docs/ASSEMBLY.md, "Faults"
+.
+edit driver.asm '.data' $'  //what is kept\n.data'
+slip 'a line that is a comment with //' 3 'bad driver.asm word 29' $asm <<'.'
+driver.asm:29:3: error: `//` begins no comment; a comment begins with `;`
+  see docs/ASSEMBLY.md, "Faults"
+.
+edit driver.asm 'BREAK 5' 'ADD64 R5,  #5'
+slip 'two spaces before a number with #' 3 'bad driver.asm operand 5' $asm <<'.'
+driver.asm:5:13: error: a second space after the comma; operands are set apart by a comma and one space
+  see docs/ASSEMBLY.md, "Faults"
+.
 edit driver.asm 'the thunk cell' 'la cellule créée'
 slip 'a letter past ASCII in a comment' 3 'bad driver.asm word 4' $asm <<'.'
 driver.asm:4:41: error: a byte past ASCII, 0xc3; a source is ASCII, in comments too
@@ -340,7 +366,44 @@ driver.asm:31:8: error: `'H'` is no number of .dw; wanted: -32768 to 65535, in d
 .
 edit driver.asm 'MOVqw R5, R0  ' 'MOVq R5, R0  '
 slip 'a MOV without its index letter' 3 'bad driver.asm word 8' $asm <<'.'
-driver.asm:8:3: error: `MOVq` is no mnemonic; they are written in upper case with the bits of what follows, as MOVqw and CMPI64weq
+driver.asm:8:3: error: `MOVq` is no mnemonic; wanted: MOVb, MOVw, MOVd, MOVq, MOVn or MOVsn, and then w or d; or MOVqq
+  see docs/ASSEMBLY.md, "Faults"
+.
+while IFS='~' read -r word forms; do
+  edit driver.asm 'BREAK 5' "$word R5, R6"
+  slip "the mnemonic $word" 3 'bad driver.asm word 5' $asm <<.
+driver.asm:5:3: error: \`$word\` is no mnemonic; wanted: $forms
+  see docs/ASSEMBLY.md, "Faults"
+.
+done <<'.'
+JMP8eq~JMP8, JMP8cs or JMP8cc
+JMP16~JMP8, JMP32, JMP32a, JMP64 or JMP64a, and then nothing, cs or cc
+CALL~CALL32 or CALL64, and then nothing, a, EX or EXa
+CMPI64wle~CMPI32w, CMPI32d, CMPI64w or CMPI64d, and then eq, lte, gte, ulte or ugte
+CMP64~CMP32 or CMP64, and then eq, lte, gte, ulte or ugte
+MOVRELb~MOVRELw, MOVRELd or MOVRELq
+MOVIn~MOVInw, MOVInd or MOVInq
+MOVI~MOVIb, MOVIw, MOVId, MOVIq or MOVIn, and then w, d or q
+MOVsnq~MOVsnw or MOVsnd
+MOVwq~MOVb, MOVw, MOVd, MOVq, MOVn or MOVsn, and then w or d; or MOVqq
+PUSHq~PUSH32, PUSH64 or PUSHn
+POP~POP32, POP64 or POPn
+RETn~RET
+BREAK5~BREAK
+LOADSPn~LOADSP
+STORESPn~STORESP
+ADD~ADD32 or ADD64
+MULU16~MULU32 or MULU64
+EXTNDD~EXTNDD32 or EXTNDD64
+.
+edit driver.asm $'  RET\nfailed:' $'  RET0\nfailed:'
+slip 'a mnemonic alone that is none' 3 'bad driver.asm word 22' $asm <<'.'
+driver.asm:22:3: error: `RET0` is no mnemonic; wanted: RET; a label has a colon after it
+  see docs/ASSEMBLY.md, "Faults"
+.
+edit driver.asm 'BREAK 5' 'ADDS64 R5, R6'
+slip 'a mnemonic of other letters' 3 'bad driver.asm word 5' $asm <<'.'
+driver.asm:5:3: error: `ADDS64` is no mnemonic; they are written in upper case with the bits of what follows, as MOVqw and CMPI64weq
   see docs/ASSEMBLY.md, "Faults"
 .
 edit driver.asm 'MOVdw R6, @R5' 'MOVdw R8, @R5'

@@ -68,6 +68,17 @@ fn add_usage(answer: &Answer, slots: &[Slot], said: &mut Said) {
     said.add(line);
 }
 
+// What is wanted in place of a first word that is no command: a command, or the program of that name beside `ebc`.
+fn wanted_program(command: &str) -> &'static str {
+    match command {
+        "notes" => "the program ebc_notes, which stands beside ebc",
+        "places" => "the program ebc_places, which stands beside ebc",
+        "lint" => "the program ebc_lint, which stands beside ebc",
+        "trace" => "the program ebc_trace, which stands beside ebc",
+        _ => COMMANDS,
+    }
+}
+
 // What is said of a first word, or of two, that are no command.
 fn unknown(answer: &Answer) -> Said {
     let command = answer.word(0);
@@ -82,7 +93,7 @@ fn unknown(answer: &Answer) -> Said {
         what.text("`")
             .text(command)
             .text("` is no command; wanted: ")
-            .text(COMMANDS);
+            .text(wanted_program(command));
     }
     Said::only(what)
 }

@@ -6,11 +6,11 @@
 //! No sentence has a clause. The call ends, and fails by want of memory alone.
 //!
 //! - `source_said`: by the fault and the line that `assemble` tells. A byte that no line may have is told first: one
-//!   past ASCII, a tab or a carriage return.
+//!   past ASCII, a tab or a carriage return. Then comes `#` or `//` where it is to begin a comment.
 //!
 //! | Fault | Sentence |
 //! |---|---|
-//! | Word | the word, and how mnemonics are written; or which directives there are |
+//! | Word | the word, and the mnemonics that begin with its letters, or how they are written; or which directives there are |
 //! | Operand | a space too many or too few around a comma, signs of an index that differ, a register that there is none; else the operands, and which are wanted |
 //! | Number | the number, and its range; or the index whose parts are none |
 //! | Index | the index, and how much room its bits have |
@@ -25,6 +25,7 @@
 mod form;
 mod index;
 mod label;
+mod mnemonic;
 mod number;
 mod operand;
 mod part;

@@ -5,7 +5,7 @@ use crate::label::{label_found, twice_found};
 use crate::number::number_found;
 use crate::operand::operand_found;
 use crate::part::Found;
-use crate::statement::{odd_byte, statement_in};
+use crate::statement::{odd_byte, odd_comment, statement_in};
 use crate::word::word_found;
 use asm_text::{AsmFault, next_line};
 use ebc_base::NoMemory;
@@ -24,6 +24,9 @@ fn line_of(text: &[u8], number: u64) -> Option<&[u8]> {
 // What is said of a line by itself: all but that a label is there twice.
 fn line_found(alloc: Global, line: &[u8], fault: AsmFault) -> Result<Found, NoMemory> {
     if let Some(odd) = odd_byte(alloc, line) {
+        return Ok(odd);
+    }
+    if let Some(odd) = odd_comment(alloc, line) {
         return Ok(odd);
     }
     let statement = statement_in(line);

@@ -43,6 +43,33 @@ pub(crate) fn statement_in(line: &[u8]) -> Statement<'_> {
     }
 }
 
+// What is said where something is to begin a comment as in other languages, between these parts of a line.
+fn comment_text(before: &[u8], rest: &[u8]) -> Option<&'static str> {
+    let hash = "`#` begins no comment; a comment begins with `;`";
+    match (before, rest) {
+        ([] | [.., b' '], [b'/', b'/', ..]) => {
+            Some("`//` begins no comment; a comment begins with `;`")
+        }
+        ([] | [.., b' '], [b'#'] | [b'#', b' ', ..]) => Some(hash),
+        ([], [b'#', ..]) => Some(hash),
+        ([.., b' ', b' '], [b'#', b'0'..=b'9', ..]) => None,
+        ([.., b' ', b' '], [b'#', ..]) => Some(hash),
+        _ => None,
+    }
+}
+
+/// The first `#` or `//` that is to begin a comment. No line that is read has one.
+pub(crate) fn odd_comment(alloc: Global, line: &[u8]) -> Option<Found> {
+    let line = without_comment(line);
+    for at in 0..line.text.len() {
+        let (before, rest) = line.split(at);
+        if let Some(what) = comment_text(before.text, rest.text) {
+            return Some(Found::new(alloc, rest.at, what));
+        }
+    }
+    None
+}
+
 /// The first byte that no line may have: past ASCII; or before the comment a tab or a carriage return.
 pub(crate) fn odd_byte(alloc: Global, line: &[u8]) -> Option<Found> {
     if let Some(at) = line.iter().position(|b| *b >= 128) {

@@ -1,5 +1,6 @@
 //! What is said of a word that is neither a mnemonic nor a directive.
 
+use crate::mnemonic::write_forms;
 use crate::part::Found;
 use crate::statement::Statement;
 use ebc_base::is_name;
@@ -19,16 +20,28 @@ fn wanted(word: &str, is_alone: bool) -> &'static str {
     }
 }
 
+// What is said of a word: the mnemonics that begin with its letters, or else how they are written.
+fn word_line(alloc: Global, word: &str, is_alone: bool) -> Line {
+    let mut what = Line::of(alloc, "`");
+    what.text(word).text("` is no ");
+    let mut forms = Line::new(alloc);
+    if !write_forms(word, &mut forms) {
+        what.text(wanted(word, is_alone));
+        return what;
+    }
+    what.text("mnemonic; wanted: ").line(&forms);
+    if is_alone && is_name(word.as_bytes()) {
+        what.text("; a label has a colon after it");
+    }
+    what
+}
+
 /// What is said of the word of a statement.
 pub(crate) fn word_found(alloc: Global, statement: Statement) -> Found {
     let word = statement.word.shown();
     let is_alone = statement.label.is_none() && statement.operands.text.is_empty();
-    let mut what = Line::of(alloc, "`");
-    what.text(word)
-        .text("` is no ")
-        .text(wanted(word, is_alone));
     Found {
         at: statement.word.at,
-        what,
+        what: word_line(alloc, word, is_alone),
     }
 }

@@ -5,6 +5,7 @@ use crate::forms::{Form, KeyForm};
 use crate::names::name_said;
 use crate::ranges::range_said;
 use crate::repeats::twice_said;
+use crate::torn::first_fault;
 use ebc_base::NoMemory;
 use explain_base::{Line, Said};
 use note_types::TomlFault;
@@ -23,17 +24,11 @@ pub fn toml_said(
     bytes: &[u8],
     fault: &TomlFault,
 ) -> Result<Said, NoMemory> {
-    let table = match toml::table_from_slice(alloc, bytes) {
-        Ok(table) => table,
-        Err(error) => {
-            let offset = match error.span() {
-                Some(span) => span.start,
-                None => 0,
-            };
-            let mut what = Line::of(alloc, "this is no TOML: ");
-            what.text(error.message());
-            return Ok(said_at(bytes, offset, what, kind.pages().0));
-        }
+    if let TomlFault::NotToml = fault {
+        return Ok(torn_said(alloc, kind, bytes));
+    }
+    let Ok(table) = toml::table_from_slice(alloc, bytes) else {
+        return Err(NoMemory);
     };
     let text = std::str::from_utf8(bytes).unwrap_or("");
     let f = Faulty {
@@ -50,6 +45,17 @@ pub fn toml_said(
     Ok(said)
 }
 
+// What is said of a text that is no TOML.
+fn torn_said(alloc: Global, kind: TomlText, bytes: &[u8]) -> Said {
+    let mut what = Line::of(alloc, "this is no TOML");
+    let mut at = 0;
+    if let Some((offset, error)) = first_fault(alloc, bytes) {
+        what.text(": ").text(error.message());
+        at = offset;
+    }
+    said_at(bytes, at, what, kind.pages().0)
+}
+
 fn fault_said(f: &Faulty, fault: &TomlFault) -> Said {
     let mut what = Line::new(f.alloc);
     let (word, path) = match fault {
@@ -61,12 +67,21 @@ fn fault_said(f: &Faulty, fault: &TomlFault) -> Said {
         TomlFault::Twice(path) => ("twice", path.as_str()),
     };
     let Some(at) = f.find(path, &mut what) else {
-        return f.plain_said(what, word, path);
+        return unfound_said(f, what, word, path);
     };
     match fault {
         TomlFault::Name(_) => name_said(f, &at),
         TomlFault::Twice(_) => twice_said(f, &at),
         _ => range_said(f, &at),
+    }
+}
+
+// What is said of a key that isn't found: that it is lacking, if it is one that may stand there.
+fn unfound_said(f: &Faulty, what: Line, word: &str, path: &str) -> Said {
+    if f.kind.form_at(path).is_some() && value_at(f.table, path).is_none() {
+        missing_said(f, path)
+    } else {
+        f.plain_said(what, word, path)
     }
 }
 
@@ -97,6 +112,16 @@ fn write_unknown(f: &Faulty, path: &str, line: &mut Line) {
     }
 }
 
+// What is said of notes without the key that notes with labels lack; empty of another text or key.
+fn completed_text(kind: TomlText, path: &str) -> &'static str {
+    match kind {
+        TomlText::Notes if path == "version" => {
+            "if these are notes with labels: the program ebc_notes completes them"
+        }
+        _ => "",
+    }
+}
+
 fn missing_said(f: &Faulty, path: &str) -> Said {
     let (table, key) = table_and_key(path);
     let owner = if table.is_empty() { "the text" } else { table };
@@ -113,6 +138,7 @@ fn missing_said(f: &Faulty, path: &str) -> Said {
     write_unknown(f, table, &mut more);
     let mut said = f.said(offset, what);
     said.add(more);
+    said.add(Line::of(f.alloc, completed_text(f.kind, path)));
     said
 }
 

@@ -16,9 +16,10 @@
 //! |---|---|
 //! | `NotToml` | what the parser says, where it stopped |
 //! | `Missing` | the table, the key and its form; the keys of that table that are none |
+//! | any, at a key that is left out | the same |
 //! | `Kind` | the value's kind and the form; or that this is no key |
 //! | `Range` | the first item or the value that isn't of its form; else what the first condition wants that fails |
-//! | `Name` | the name that isn't there, and the names that there are |
+//! | `Name` | the name that isn't there, and the names that there are; of a field the fields of the shape, and of `write` the objects |
 //! | `Twice` | the item or the key, and the earlier one |
 //!
 //! | End of a run | Sentence |
@@ -39,6 +40,7 @@
 mod bind_conditions;
 mod faults;
 mod faulty;
+mod fields;
 mod forms;
 mod names;
 mod note_conditions;
@@ -48,6 +50,7 @@ mod repeats;
 mod replies;
 mod runs;
 mod script_conditions;
+mod torn;
 mod values;
 
 pub use faults::toml_said;

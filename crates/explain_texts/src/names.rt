@@ -1,17 +1,15 @@
 //! What is said of names that aren't there.
 
-use crate::faulty::{Faulty, Found, TomlText, table_and_key, value_at};
-use crate::forms::{Form, Thing, read};
-use ebc_base::Name;
+use crate::faulty::{Faulty, Found, TomlText};
+use crate::fields::field_said;
+use crate::forms::{Form, Thing};
 use explain_base::{Line, Said};
-use note_types::{Field, Shape};
-use script_draft::CellValueText;
 
 /// Names that are listed.
 const MOST_NAMES: usize = 64;
 
-// The number of the thing of that name, if it is there.
-fn thing_number(f: &Faulty, thing: Thing, name: &str) -> Option<usize> {
+/// The number of the thing of that name, if it is there.
+pub(crate) fn thing_number(f: &Faulty, thing: Thing, name: &str) -> Option<usize> {
     for number in 0..usize::MAX {
         if f.name(thing, number)? == name {
             return Some(number);
@@ -73,49 +71,6 @@ fn item_said(f: &Faulty, at: &Found, number: usize, thing: Thing, name: &str) ->
     said
 }
 
-/// The number of the shape of the table in which a key of a script stands.
-pub(crate) fn shape_at(f: &Faulty, path: &str) -> Option<usize> {
-    let (table, _) = table_and_key(path);
-    let shape = value_at(f.table, table)?.get("shape")?.as_str()?;
-    thing_number(f, Thing::Shape, shape)
-}
-
-/// The field of that name of a shape, if it is there.
-pub(crate) fn field_named<'n>(shape: &'n Shape, name: &Name) -> Option<&'n Field> {
-    for field in shape.fields.as_slice() {
-        if field.name == *name {
-            return Some(field);
-        }
-    }
-    None
-}
-
-// Whether a text gives a cell of a field that a shape doesn't have, and what is wrong then.
-fn lacks_field(shape: &Shape, text: &str, wrong: &mut Line) -> bool {
-    match read::<CellValueText>(text, wrong) {
-        Some(cell) if field_named(shape, &cell.field).is_none() => {
-            wrong.text(", and the shape ").text(shape.name.as_str());
-            wrong.text(" has no field ").text(cell.field.as_str());
-            true
-        }
-        _ => false,
-    }
-}
-
-// The first item of a list whose field the shape of its table doesn't have, and what is wrong with it.
-fn unknown_field(f: &Faulty, at: &Found, wrong: &mut Line) -> Option<usize> {
-    let TomlText::Script(notes) = f.kind else {
-        return None;
-    };
-    let shape = notes.shape.as_slice().get(shape_at(f, at.path)?)?;
-    for item in 0..at.count() {
-        if lacks_field(shape, at.item(item).unwrap_or(""), wrong) {
-            return Some(item);
-        }
-    }
-    None
-}
-
 // What is said of a name that the notes don't have; of binds the notes are told by their file.
 fn thing_said(f: &Faulty, at: &Found, thing: Thing) -> Said {
     let (owner, verb, whose) = match (f.kind, thing) {
@@ -174,16 +129,5 @@ pub(crate) fn name_said(f: &Faulty, at: &Found) -> Said {
             return item_said(f, at, number, thing, name);
         }
     }
-    let mut wrong = Line::new(f.alloc);
-    let number = match at.form.form {
-        Form::CellValue => unknown_field(f, at, &mut wrong),
-        _ => None,
-    };
-    let Some(number) = number else {
-        return f.plain_said(wrong, "name", at.path);
-    };
-    let mut what = Line::new(f.alloc);
-    let offset = at.write_item(f, number, &mut what);
-    what.line(&wrong);
-    f.said(offset, what)
+    field_said(f, at)
 }

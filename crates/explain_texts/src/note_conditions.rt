@@ -1,6 +1,7 @@
 //! What is said of notes by the conditions over several keys: docs/NOTES.md, "The conditions".
 
 use crate::faulty::{Faulty, Found, Subject, table_number};
+use crate::fields::write_separator;
 use ebc_base::Name;
 use explain_base::Line;
 use note_draft::{FunctionDraft, NotesDraft, PointDraft, read_draft};
@@ -301,7 +302,21 @@ fn unknown_field<'d>(ty: &'d TypeText, fields: &[FieldText]) -> Option<&'d Name>
     None
 }
 
-fn write_field(function: &FunctionDraft, field: &Name, line: &mut Line) {
+// Writes the names of fields, after what has them.
+fn write_fields(fields: &[FieldText], line: &mut Line) {
+    line.text(if fields.is_empty() {
+        "; it has none"
+    } else {
+        "; it has: "
+    });
+    for (number, field) in fields.iter().enumerate() {
+        if write_separator(number, line) {
+            line.text(field.name.as_str());
+        }
+    }
+}
+
+fn write_field(function: &FunctionDraft, fields: &[FieldText], field: &Name, line: &mut Line) {
     let name = function.name.as_str();
     match &function.locals {
         Some(shape) => {
@@ -310,6 +325,7 @@ fn write_field(function: &FunctionDraft, field: &Name, line: &mut Line) {
                 .text(", the locals of ")
                 .text(name);
             line.text(", which has no ").text(field.as_str());
+            write_fields(fields, line);
         }
         None => {
             line.text("; wanted: no local fields, since ")
@@ -355,7 +371,7 @@ fn point_wrong(draft: &NotesDraft, at: &Found, line: &mut Line) -> Option<Subjec
     let fields = locals_of(draft, function)?;
     for item in 0..at.count() {
         if let Some(field) = point_field(point, fields, at.form.key, item) {
-            write_field(function, field, line);
+            write_field(function, fields, field, line);
             return Some(Subject::Item(item));
         }
     }

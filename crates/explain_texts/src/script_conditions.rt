@@ -1,8 +1,8 @@
 //! What is said of scripts by the conditions over several keys: docs/SCRIPTS.md, "What the reader refuses".
 
 use crate::faulty::{Faulty, Found, Subject, table_and_key, table_number, value_at};
+use crate::fields::{field_named, shape_at};
 use crate::forms::read;
-use crate::names::{field_named, shape_at};
 use crate::values::{
     Parameter, drafted_objects, value_of, write_cell, write_misfit, write_object, write_params,
     write_target,
