@@ -80,8 +80,8 @@ run() {
 is_refusal() { [ "$status" = 6 ] && [ ! -s printed ] && cmp -s said refusal && diff -r before files >/dev/null; }
 is_whole() { [ "$status" = "$wanted" ] && cmp -s printed whole && says_no_other && diff -r after files >/dev/null; }
 
-# Whether the last run said on standard error what is said of its job, or less for want of memory: general lines, or nothing.
-says_no_other() { ! grep -vxF -f complaint said | grep -qv '^ebc: error: '; }
+# Whether the last run said on standard error what is said of its job, or less for want of memory: a general line and its page, or nothing.
+says_no_other() { ! grep -vxF -f complaint said | grep -qvE '^[^ ]+: error: |^  see docs/'; }
 
 # Does words with each allocation refused in turn, up to the first amiss. The first word is the status of the whole answer.
 job() {
