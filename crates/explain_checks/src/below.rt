@@ -112,7 +112,7 @@ fn said_of_coming(stopped: &Stopped, s: &State, place: u32, how: &str) -> Option
     let (number, point) = point_at(stopped.refused.notes, place)?;
     let mut what = Line::of(stopped.refused.alloc, how);
     what.text(" the point at ").at(place).text(": ");
-    let key = lack_of(stopped, s, &point.state, &mut what)?;
+    let key = lack_of(stopped, s, &point.state.state(), &mut what)?;
     Some(Said::with_key(what, "point", number, key, "what the point says"))
 }
 

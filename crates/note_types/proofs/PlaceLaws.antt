@@ -1,14 +1,25 @@
--- The map of the first thing at each place, made from the last thing to the first.
+-- The map of the first thing at each place, made from the last thing to the first; and places as numbers of either kind.
 use Rattle.std.proofs.Common.{◌≡◌, ℕ, ℤ, List, ◌<◌, ◌+◌, length, pos, position, drop, get_or, cond, Option, None, Some, Bool, suc}
-use Rattle.std.proofs.Common.{ap, sym, ◌∙◌, refl, arith}
+use Rattle.std.proofs.Common.{ap, sym, ◌∙◌, refl, arith, nat_eq, Decides}
 use Rattle.std.specs.List.{position_from}
 use Rattle.std.specs.Ordering.{int_eq, int_cmp}
 use Rattle.std.specs.BTreeMap.{BTreeMap, get, Updates, IsEmpty}
 use Rattle.std.specs.Prelude.{IfSome}
+use Rattle.std.proofs.lemmas.Bool.Decides.{Decides-int_eq, Decides-eqb, same_from_decides}
 use Rattle.std.proofs.lemmas.Iterator.Adapters.{position_from-zero}
 use Rattle.std.proofs.Math.Seq.{drop-cons}
 use Rattle.std.proofs.Math.Seq.{drop-length}
 use Rattle.note_types.specs.Places.{AreFirsts}
+
+-- two places are one exactly where they are as signed numbers
+pub same_place : (a b : ℕ) → int_eq (pos a) (pos b) ≡ nat_eq a b
+same_place a b = same_from_decides (int_eq (pos a) (pos b)) (nat_eq a b) (Decides-int_eq (pos a) (pos b)) numbers
+  where
+    same : pos a ≡ pos b → a ≡ b
+    same e = cc
+
+    numbers : Decides (nat_eq a b) (pos a ≡ pos b)
+    numbers = (λ h. ap pos ((Decides-eqb a b).0 h), λ h. (Decides-eqb a b).1 (same h))
 
 -- at the end of the list nothing is left
 pub no_firsts : {X : Type 0} (place_of : X → ℕ) (things : List X) (firsts : BTreeMap ℤ ℕ)

@@ -11,15 +11,15 @@
 //! - `shape_ok`: `well_formed` says that it answers Ok exactly where a shape is well formed at both widths (`IsShape`),
 //!   and `fault` that its error is the first fault (`IsShapeFault`).
 //! - `cell_size`, `content_type`: each gives what the tables of `specs/Cells.antt` say.
-//! - `enter`: makes a state, whatever it holds, the one at a function's entry, exactly `entry_state`, and writes the
-//!   room of the stack's items only where there are some.
+//! - `enter`: makes a state, whatever it holds, the one at a function's entry, exactly `entry_state`.
 //! - `entry_state`: `value` says that it gives the state at a function's entry, and `state` that it is a state of
 //!   whatever function of these notes (`IsState`). What it needs, and what `shape_ok` needs, follows from the
 //!   conditions on notes (`IsNotes`).
 //! - `code_limit`, `point_limit`: the limits of notes of a version, and 0 for a version that isn't there.
-//! - `Items`: a list of at most 65 items, the top first. `push`, `push_below`, `pop`, `copy`, `len`, `is_empty` and
-//!   `as_slice` say which list it is after each, and what they give.
+//! - `Items`: a list of at most 65 items, the top first. `push`, `push_below`, `pop`, `put`, `clear`, `copy`, `len`,
+//!   `is_empty` and `as_slice` say which list it is after each, and what they give.
 //! - `State::copy` gives an equal state.
+//! - `CompactState`: a state in as much memory as its items take. `new`, `state` and `put` say which state it is.
 //! - `Args`: a list of at most 16 `Seen`, the values of a native call. `new`, `push`, `copy`, `len`, `is_empty` and
 //!   `as_slice` say which list it is after each, and what they give.
 //! - `PlacedList`: things that begin at places of the image, as static objects, thunk cells and functions do, in their
@@ -35,6 +35,7 @@
 mod args;
 mod below;
 mod cell;
+mod compact;
 mod ending;
 mod entry;
 mod event;
@@ -57,6 +58,7 @@ mod value;
 pub use args::Args;
 pub use below::{divides, fits_below, ty_below};
 pub use cell::{Cell, SlotKind, cell_size, content_type};
+pub use compact::CompactState;
 pub use ebc_base::{Name, NoMemory, Sequence};
 pub use ending::Ending;
 pub use entry::{enter, entry_state};

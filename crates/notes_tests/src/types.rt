@@ -1,8 +1,8 @@
 //! Worked rows of cells, shapes, types, states and entries.
 use ebc_insn::CmpOp;
 use note_types::{
-    Cell, Fact, Field, FnNote, Item, Items, Name, Notes, Pair, PlacedList, Sequence, Shape,
-    ShapeFault, SlotKind, State, Thunk, Ty, cell_size, code_limit, content_type, divides,
+    Cell, CompactState, Fact, Field, FnNote, Item, Items, Name, Notes, Pair, PlacedList, Sequence,
+    Shape, ShapeFault, SlotKind, State, Thunk, Ty, cell_size, code_limit, content_type, divides,
     entry_state, fits_below, point_limit, shape_ok, ty_below,
 };
 use std::alloc::{AllocError, Global};
@@ -289,8 +289,14 @@ fn state(ty: Ty) -> State {
     }
 }
 
+// Whether a state is below another one.
+fn is_below(alloc: Global, s: &State, t: &State) -> Result<bool, AllocError> {
+    Ok(fits_below(s, &CompactState::new(alloc, t)?))
+}
+
 #[test]
-fn states_below(rt: HostRuntime) {
+fn states_below(rt: HostRuntime) -> Result<(), Fail> {
+    let alloc = rt.alloc();
     let fact = Fact {
         reg: 4,
         op: CmpOp::Eq,
@@ -299,30 +305,36 @@ fn states_below(rt: HostRuntime) {
     let mut s = state(pointer(0, 2, 0, 0, false));
     let t = state(pointer(0, 1, 0, 0, true));
     s.fact = Some(fact);
-    assert!(rt; fits_below(&s, &t));
-    assert!(rt; !fits_below(&t, &s));
-    assert!(rt; fits_below(&t, &t));
-    assert!(rt; !fits_below(&s, &s), "a fact is claimed");
+    assert!(rt; is_below(alloc, &s, &t)?);
+    assert!(rt; !is_below(alloc, &t, &s)?);
+    assert!(rt; is_below(alloc, &t, &t)?);
+    assert!(rt; !is_below(alloc, &s, &s)?, "a fact is claimed");
 
     let mut u = t.copy();
     u.written = 3;
     assert!(rt;
-        fits_below(&u, &t) && !fits_below(&t, &u),
+        is_below(alloc, &u, &t)? && !is_below(alloc, &t, &u)?,
         "more is written"
     );
     let mut u = t.copy();
     u.made = 1;
     assert!(rt;
-        !fits_below(&u, &t) && !fits_below(&t, &u),
+        !is_below(alloc, &u, &t)? && !is_below(alloc, &t, &u)?,
         "fewer thunks are made"
     );
     let mut u = t.copy();
     u.regs[7] = Ty::Any;
-    assert!(rt; fits_below(&t, &u) && !fits_below(&u, &t), "R7 is any");
+    assert!(rt;
+        is_below(alloc, &t, &u)? && !is_below(alloc, &u, &t)?,
+        "R7 is any"
+    );
     let mut u = t.copy();
     assert!(rt; u.items.len() == 2);
     u.items.push(Item::Locals);
-    assert!(rt; !fits_below(&u, &t) && !fits_below(&t, &u), "an item more");
+    assert!(rt;
+        !is_below(alloc, &u, &t)? && !is_below(alloc, &t, &u)?,
+        "an item more"
+    );
     let mut u = t.copy();
     let top = u.items.pop();
     assert!(rt;
@@ -336,7 +348,38 @@ fn states_below(rt: HostRuntime) {
         kind: SlotKind::Q,
         ty: pointer(0, 1, 0, 0, true),
     });
-    assert!(rt; !fits_below(&u, &t), "another kind of slot");
+    assert!(rt; !is_below(alloc, &u, &t)?, "another kind of slot");
+    Ok(())
+}
+
+#[test]
+fn compact_states(rt: HostRuntime) -> Result<(), Fail> {
+    let alloc = rt.alloc();
+    let mut full = state(Ty::Handle);
+    for _ in 0..63 {
+        if full.items.len() < 65 {
+            full.items.push(Item::Locals);
+        }
+    }
+    assert!(rt; full.items.len() == 65);
+    let mut bare = state(Ty::Any);
+    bare.items.clear();
+    assert!(rt; bare.items.is_empty());
+    bare.fact = Some(Fact {
+        reg: 4,
+        op: CmpOp::Eq,
+        k: 7,
+    });
+    for (kept, mut other) in [(&full, bare.copy()), (&bare, full.copy())] {
+        let compact = CompactState::new(alloc, kept)?;
+        let again = compact.state();
+        compact.put(&mut other);
+        for one in [again, other] {
+            assert!(rt; one.regs == kept.regs && one.items.as_slice() == kept.items.as_slice());
+            assert!(rt; (one.written, one.made, one.fact) == (kept.written, kept.made, kept.fact));
+        }
+    }
+    Ok(())
 }
 
 fn function(alloc: Global, text: &str) -> Result<FnNote, AllocError> {

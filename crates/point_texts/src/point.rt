@@ -13,8 +13,9 @@ fn point_text(alloc: Global, notes: &Notes, point: &Point) -> Result<String, NoM
     ensures { IfOk result (λ text. string_bytes text ≡ point_text notes.now point.now) }
 {
     let place = point.place;
-    let made = point.state.made;
-    let texts = state_texts(alloc, notes, place, &point.state)?;
+    let state = point.state.state();
+    let made = state.made;
+    let texts = state_texts(alloc, notes, place, &state)?;
     let regs = array_line(alloc, "regs", texts.regs.as_slice())?;
     let stack = array_line(alloc, "stack", texts.stack.as_slice())?;
     let written = array_line(alloc, "written", texts.written.as_slice())?;

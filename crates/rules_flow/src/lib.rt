@@ -12,7 +12,7 @@
 //! - `Update::apply` makes the change of a step, and `narrow` the one of a jump on a condition. `Step::successors`
 //!   gives the states that a step leads to.
 //! - `places_ascend` tells whether functions, points and sites ascend by place. `number_at` finds what stands at a
-//!   place by halving a list; `Placed` is what it finds.
+//!   place by halving a list.
 //! - `Successors` and `Step` are plain data.
 #![tactic(auto)]
 
@@ -28,7 +28,7 @@ mod successors;
 
 pub use flow::{after_flow, flow_step};
 pub use narrowing::narrow;
-pub use placed::{Placed, number_at, places_ascend};
+pub use placed::{number_at, places_ascend};
 pub use rules_base::Here;
 pub use step::{Step, Update};
 pub use successors::Successors;

@@ -5,42 +5,7 @@ ghost use Rattle.std.specs.List.Sorted.{IsStrictlyIncreasing};
 ghost use Rattle.note_types.specs.Records.{Ascends};
 ghost use Rattle.rules_flow.specs.Found.{number_at, number_from};
 
-use note_types::{FnNote, Notes, Point, Site};
-
-/// A thing of the notes that stands at a place of the code.
-pub trait Placed {
-    ghost use Rattle.std.specs.Prelude.{◌≡◌, ℕ};
-
-    ghost place_of: { Self → ℕ };
-
-    /// Its place.
-    fn place(&self) -> u32
-        ensures { result ≡ place_of self.now };
-}
-
-impl Placed for Point {
-    ghost place_of = { λ p. p.place };
-
-    fn place(&self) -> u32 {
-        self.place
-    }
-}
-
-impl Placed for FnNote {
-    ghost place_of = { λ f. f.place };
-
-    fn place(&self) -> u32 {
-        self.place
-    }
-}
-
-impl Placed for Site {
-    ghost place_of = { λ x. x.place };
-
-    fn place(&self) -> u32 {
-        self.place
-    }
-}
+use note_types::{Notes, Placed};
 
 /// The number of the thing at a place. It looks at one more thing each time that the list has twice as many.
 pub fn number_at<T: Placed>(things: &[T], place: u128) -> Option<usize>

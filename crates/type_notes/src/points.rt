@@ -15,7 +15,7 @@ use crate::resolve::{field_set, resolve_item, resolve_type};
 use crate::type_kinds::{are_fields, has_fields};
 use note_draft::{Finding, Key, NameTables, NotesDraft, PointDraft, StackText, TableList};
 use note_texts::{FieldText, ItemText, RegisterText};
-use note_types::{Items, NoMemory, Point, Points, State, Ty};
+use note_types::{CompactState, Items, NoMemory, Point, Points, State, Ty};
 use std::alloc::Global;
 
 /// What the points of a function may name: whether it has locals, and their fields.
@@ -285,7 +285,7 @@ pub fn resolve_points(
         let point = &drafts[item];
         points.push(Point {
             place: point.place,
-            state: state_of(names, locals.fields, point),
+            state: CompactState::new(alloc, &state_of(names, locals.fields, point))?,
         })?;
     }
     Ok(Points::new(points))

@@ -100,7 +100,7 @@ impl Shown for Thunk {
 impl Shown for Point {
     fn show(&self, text: &mut Text) {
         text.put("Point { place: ", &self.place);
-        text.put(", state: ", &self.state);
+        text.put(", state: ", &self.state.state());
         text.word(" }");
     }
 }

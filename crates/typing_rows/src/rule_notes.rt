@@ -3,8 +3,8 @@ use crate::words::{
     cell, first_state, number, pair, place, shape_number, short, slot_kind, ty, want,
 };
 use note_types::{
-    Field, FnNote, Name, Notes, Pair, Param, PlacedList, Point, Sequence, Shape, Signature, Site,
-    Static, Thunk, Ty, WantParam,
+    CompactState, Field, FnNote, Name, Notes, Pair, Param, PlacedList, Point, Sequence, Shape,
+    Signature, Site, Static, Thunk, Ty, WantParam,
 };
 use std::alloc::Global;
 
@@ -184,10 +184,10 @@ fn function(alloc: Global, text: &str) -> Option<FnNote> {
     Some(f)
 }
 
-fn point(text: &str) -> Option<Point> {
+fn point(alloc: Global, text: &str) -> Option<Point> {
     Some(Point {
         place: place(text)?,
-        state: first_state(),
+        state: CompactState::new(alloc, &first_state()).ok()?,
     })
 }
 
@@ -256,7 +256,7 @@ fn put_line(alloc: Global, lists: &mut Lists, line: &str) -> Option<()> {
         "static" => lists.statics.push(static_object(rest)?).ok()?,
         "thunk" => lists.thunk.push(thunk(rest)?).ok()?,
         "function" => lists.function.push(function(alloc, rest)?).ok()?,
-        "point" => lists.point.push(point(rest)?).ok()?,
+        "point" => lists.point.push(point(alloc, rest)?).ok()?,
         "signature" => lists.signature.push(signature(alloc, rest)?).ok()?,
         "site" => lists.site.push(site(rest)?).ok()?,
         _ => return None,

@@ -39,7 +39,7 @@ fn arrive(notes: &Notes, at: u32, marks: &mut Marks, state: &mut State) -> bool
         return true;
     }
     let below = fits_below(state, &p.state);
-    *state = p.state.copy();
+    p.state.put(state);
     marks.point += 1;
     marks.falls = true;
     below

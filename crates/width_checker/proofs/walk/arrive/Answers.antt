@@ -52,7 +52,7 @@ returns-clause-arrives c =
     let look = c.in-Some.ensures.lookup in
     let p : Point = c.in-Some.p.now in
     let there : slice_get c.args.notes.now.point c.args.marks.now.point ≡ Some p = looked _ _ _ p c.as_slice.ensures look.3.0 look.1 in
-    rw c.copy.ensures (arrives_point c.args.notes.now c.requires.ascend c.args.at c.args.marks.now.point c.requires.points
+    rw c.put.ensures (arrives_point c.args.notes.now c.requires.ascend c.args.at c.args.marks.now.point c.requires.points
     (one_point c.args.notes.now c.requires.ascend) (only_if c.args.marks.now.falls c.args.state.now) p there c.if-p-at.false)
 
 pub returns-clause-points : goal.returns-clause-points
