@@ -11,7 +11,7 @@ ghost use Rattle.width_checker.specs.Typed.{Typed};
 ghost use Rattle.image_warnings.specs.Spreading.{AreUncut, Extends, IsFollowed, IsSpread, ReachesCalls};
 ghost use Rattle.image_warnings.specs.Uncut.{LeadsTo, UncutAt};
 
-use crate::uncut::{calls_native, falls, insn_at, jump_in, writes_r7};
+use crate::uncut::{calls_native, falls, jump_in, writes_r7};
 use ebc_base::NoMemory;
 use ebc_insn::Insn;
 use rules_image::code_of;
@@ -106,7 +106,7 @@ impl Spread {
     {
         let mut place = walk.f.place;
         while place < walk.f.end {
-            let Some((insn, next)) = insn_at(walk, code, place) else {
+            let Some((insn, next)) = walk.insn_at(code, place) else {
                 return Ok(());
             };
             if calls_native(&insn) {
@@ -129,7 +129,7 @@ impl Spread {
         ensures more { OnOk result (Extends self.old.reached.items self.new.reached.items) }
         ensures followed { OnOk result (IsFollowed walk.now.image.now walk.now.f.now place self.new.reached.items) }
     {
-        let Some((insn, next)) = insn_at(walk, code, place) else {
+        let Some((insn, next)) = walk.insn_at(code, place) else {
             return Ok(());
         };
         if writes_r7(&insn) {

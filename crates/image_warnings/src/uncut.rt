@@ -3,13 +3,10 @@
 ghost use Rattle.std.specs.Prelude.{◌≡◌, ℕ, IfNone, IfSome};
 ghost use Rattle.note_infer.specs.Finding.{IsNamedIn};
 ghost use Rattle.rules_image.specs.Images.{falls};
-ghost use Rattle.rules_image.specs.Tables.{IsCodeOf};
-ghost use Rattle.state_walk.specs.Standing.{Decodes, HasDecoded, IsWalk};
-ghost use Rattle.std.specs.Prelude.{◌<◌, ◌≤◌};
+ghost use Rattle.state_walk.specs.Standing.{IsWalk};
 ghost use Rattle.image_warnings.specs.Uncut.{calls_native, writes_r7};
 
 use crate::departure::is_r7;
-use ebc_decode::decode;
 use ebc_insn::{Cond, Insn};
 use note_infer::{names_place, reloc_at};
 use state_walk::Walk;
@@ -54,21 +51,6 @@ pub(crate) fn writes_r7(insn: &Insn) -> bool
         Insn::StoreSpecial { to, .. } => *to == 7,
         Insn::Pop { op, .. } | Insn::PopNatural { op, .. } => is_r7(op),
         _ => false,
-    }
-}
-
-/// The instruction at a place of a walk's function, and the place of the next one, where these are the function's bytes.
-pub(crate) fn insn_at(walk: &Walk, code: &[u8], place: u32) -> Option<(Insn, u32)>
-    requires walk { IsWalk walk.now.image.now walk.now.notes.now walk.now.func walk.now.f.now }
-    requires code { IsCodeOf walk.now.image.now walk.now.f.now code.now }
-    requires first { walk.now.f.now.place ≤ place }
-    requires within { place < walk.now.f.now.end }
-    ensures decodes { Decodes walk.now.image.now walk.now.f.now place result }
-    ensures whole { HasDecoded walk.now.image.now walk.now.f.now place result }
-{
-    match decode(code, (place - walk.f.place) as usize) {
-        Ok((insn, len)) => Some((insn, place + len as u32)),
-        Err(_) => None,
     }
 }
 

@@ -23,6 +23,9 @@
 //! they give stands before an instruction of it (`StandsBefore`). `goes_on`: from an instruction that meets its rules
 //! the walk goes to the next one, and ends only at the function's end.
 //!
+//! `Walk::insn_at` decodes at a place of the function, where the bytes are its own: what it gives decodes there
+//! (`decodes`), and whatever does is given (`whole`).
+//!
 //! Since when nothing is known of a register has no clause. It is advice for a sentence.
 #![tactic(auto)]
 

@@ -25,7 +25,7 @@ fn state_at(notes: &Notes, place: u32, arrived: &Option<State>) -> Option<State>
         return copied(arrived);
     };
     if p.place == place {
-        Some(p.state.copy())
+        Some(p.state.state())
     } else {
         copied(arrived)
     }
@@ -50,8 +50,8 @@ pub struct Walk<'a> {
 }
 
 impl<'a> Walk<'a> {
-    // The instruction at a place, and the place of the next one, where these are the function's bytes.
-    fn insn_at(&self, code: &[u8], place: u32) -> Option<(Insn, u32)>
+    /// The instruction at a place of the function, and the place of the next one, where these are the function's bytes.
+    pub fn insn_at(&self, code: &[u8], place: u32) -> Option<(Insn, u32)>
         requires walk { IsWalk self.now.image.now self.now.notes.now self.now.func self.now.f.now }
         requires from { self.now.f.now.place ≤ place }
         requires within { place < self.now.f.now.end }

@@ -15,7 +15,7 @@ returns-then-p-place c =
     let look = c.in-Some.ensures.lookup in
     let p : Point = c.in-Some.p.now in
     let there : slice_get c.args.notes.now.point c.first_point.result ≡ Some p = looked _ _ _ p c.as_slice.ensures look.3.0 look.1 in
-    rw c.copy.ensures (arrives_point c.args.notes.now c.requires c.args.place c.first_point.result c.first_point.ensures
+    rw c.state.ensures (arrives_point c.args.notes.now c.requires c.args.place c.first_point.result c.first_point.ensures
     (one_point c.args.notes.now c.requires) c.args.arrived.now p there c.if-p-place.true)
 
 pub returns-else-p-place : goal.returns-else-p-place
