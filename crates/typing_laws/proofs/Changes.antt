@@ -5,18 +5,29 @@ use Rattle.typing_laws.proofs.Common.{ne_eqb, eqb-true, eqb-false, cases_Bool, s
 use Rattle.typing_laws.proofs.Common.{with_type, with_fact, Neutral, number, Registers, FunctionFrame, with_value, Memory, Fits, FactHolds}
 use Rattle.typing_laws.proofs.Common.{FitsState, compared_as}
 use Rattle.rules_base.specs.Change.{lose}
-use Rattle.note_types.specs.declared.types.Ty.TheVariants as ty
 
 -- the type of a register after another type is set: that type, or any where there is no such register; else as before
-set_type : (P : ℕ → Ty → Type 0) (xs : List Ty) (r q : ℕ) (t : Ty) → P r t → P r ty.Any → (q ≢ r → P q (slice_index_or xs q ty.Any))
-    → P q (slice_index_or (slice_set xs r t) q ty.Any)
-set_type P [] r q t h g k = ⊎_elim (λ e. subst (λ z. P z ty.Any) (sym (eqb-true q r e)) g) (λ e. k (eqb-false q r e))
+set_type : (P : ℕ → Ty → Type 0) (xs : List Ty) (r q : ℕ) (t : Ty) → P r t → P r Ty.Any → (q ≢ r → P q (slice_index_or xs q Ty.Any))
+    → P q (slice_index_or (slice_set xs r t) q Ty.Any)
+set_type P [] r q t h g k = ⊎_elim (λ e. subst (λ z. P z Ty.Any) (sym (eqb-true q r e)) g) (λ e. k (eqb-false q r e))
     (cases_Bool (nat_eq q r))
 set_type P (x ∷ xs) zero zero t h g k = h
 set_type P (x ∷ xs) zero (suc q) t h g k = k (λ e. absurd (omega (arith, e)))
 set_type P (x ∷ xs) (suc r) zero t h g k = k (λ e. absurd (omega (arith, e)))
 set_type P (x ∷ xs) (suc r) (suc q) t h g k = set_type (λ i. P (suc i)) xs r q t h g
     (λ n. k (λ e. n (let z : q ≡ r = omega (arith, e) in z)))
+
+-- a property of each register but R0
+pub each_register : (P : ℕ → Type 0) → P 1 → P 2 → P 3 → P 4 → P 5 → P 6 → P 7 → (r : ℕ) → 0 < r → r < 8 → P r
+each_register P p1 p2 p3 p4 p5 p6 p7 zero l h = absurd (omega (arith, l))
+each_register P p1 p2 p3 p4 p5 p6 p7 (suc zero) l h = p1
+each_register P p1 p2 p3 p4 p5 p6 p7 (suc (suc zero)) l h = p2
+each_register P p1 p2 p3 p4 p5 p6 p7 (suc (suc (suc zero))) l h = p3
+each_register P p1 p2 p3 p4 p5 p6 p7 (suc (suc (suc (suc zero)))) l h = p4
+each_register P p1 p2 p3 p4 p5 p6 p7 (suc (suc (suc (suc (suc zero))))) l h = p5
+each_register P p1 p2 p3 p4 p5 p6 p7 (suc (suc (suc (suc (suc (suc zero)))))) l h = p6
+each_register P p1 p2 p3 p4 p5 p6 p7 (suc (suc (suc (suc (suc (suc (suc zero))))))) l h = p7
+each_register P p1 p2 p3 p4 p5 p6 p7 (suc (suc (suc (suc (suc (suc (suc (suc r)))))))) l h = absurd (omega (arith, h))
 
 module _ (notes : Notes) (m : Memory) (d : ℕ) (f : FunctionFrame) where
   lost : (r : ℕ) (o : Option Fact) (x : Fact) → lose r o ≡ Some x → (o ≡ Some x) × (x.reg ≢ r)
@@ -48,7 +59,7 @@ module _ (notes : Notes) (m : Memory) (d : ℕ) (f : FunctionFrame) where
       here : with_value regs r v r ≡ v
       here = ap (λ b. if b then v else regs r) (eq-eqb r r refl)
 
-      at : (q : ℕ) → 0 < q → q < 8 → Fits notes m d f.saved (slice_index_or (slice_set s.regs r t) q ty.Any) (with_value regs r v q)
+      at : (q : ℕ) → 0 < q → q < 8 → Fits notes m d f.saved (slice_index_or (slice_set s.regs r t) q Ty.Any) (with_value regs r v q)
       at q p b = set_type (λ i z. Fits notes m d f.saved z (with_value regs r v i)) s.regs r q t
           (subst (λ z. Fits notes m d f.saved t z) (sym here) h) tt
           (λ n. subst (λ z. Fits notes m d f.saved (type_of s q) z) (sym (other q n)) (g.registers q p b))
@@ -57,8 +68,8 @@ module _ (notes : Notes) (m : Memory) (d : ℕ) (f : FunctionFrame) where
       small = lt-ltb r 8 l
 
       typed : (q : ℕ) → 0 < q → q < 8 → (b : Bool) → Fits notes m d f.saved
-          (slice_index_or (if nat_lt r 8 then slice_set s.regs r t else s.regs) q ty.Any) (with_value regs r v q)
-      typed q p b x = subst (λ i. Fits notes m d f.saved (slice_index_or (if i then slice_set s.regs r t else s.regs) q ty.Any)
+          (slice_index_or (if nat_lt r 8 then slice_set s.regs r t else s.regs) q Ty.Any) (with_value regs r v q)
+      typed q p b x = subst (λ i. Fits notes m d f.saved (slice_index_or (if i then slice_set s.regs r t else s.regs) q Ty.Any)
           (with_value regs r v q)) (sym small) (at q p b)
 
   -- The flag is set: the state with the fact that says so fits.

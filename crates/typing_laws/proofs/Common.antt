@@ -42,7 +42,8 @@ pub use Rattle.rules_base.specs.Parts.{span_of, is_near, pointer_of}
 pub use Rattle.rules_base.specs.Things.{is_static_at, is_thunk_at, static_type, takes_address, thunk_type}
 pub use Rattle.rules_base.specs.{Destinations.put, Places.has_field, Places.from_stack, Places.pointed, Sums.lin, Sums.or_any}
 pub use Rattle.rules_base.specs.Values.{form_access}
-pub use Rattle.rules_base.specs.declared.{access.Loaded.Loaded, change.Change.Change, destination.Destination.Destination}
+pub use Rattle.rules_base.specs.declared.{access.Access.Access as RuleAccess, access.Loaded.Loaded, change.Change.Change}
+pub use Rattle.rules_base.specs.declared.{destination.Destination.Destination}
 pub use Rattle.rules_base.specs.declared.{destination.Destination.TheVariants.Register, here.Here.Here, operand.Distance.Distance}
 pub use Rattle.rules_base.specs.declared.{parts.Pointer.Pointer, parts.Span.Span, place.Place.Place}
 pub use Rattle.rules_data.specs.Arithmetic.{divisor_known, is_unary, folded, fold_row, or_ints, other_row}

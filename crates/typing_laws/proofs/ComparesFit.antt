@@ -2,13 +2,12 @@
 use Rattle.typing_laws.proofs.Common.{◌≡◌, ℕ, ◌-◌, ◌*◌, ◌^◌, ◌<◌, ◌≤◌, ◌⊎◌, Bool, true, false, ◌&&◌, ◌||◌, if◌then◌else◌, nat_lt, nat_eq}
 use Rattle.typing_laws.proofs.Common.{Option, Some, None, refl, sym, ap, ap₂, ◌∙◌, subst, subst₂, arith, inl, inr, ⊎_elim, ℤ, pos, int_eq}
 use Rattle.typing_laws.proofs.Common.{ltb-true, and_parts, or_cases, eqb-true, false≢true, lt-ltb, Decides-int_eq, CmpOp, compared}
-use Rattle.typing_laws.proofs.Common.{IsBounded, Notes, Ty, Int, Ptr, Status, SignedStatus, Handle, Entry, is_int, is_int_below, compares}
-use Rattle.typing_laws.proofs.Common.{Neutral, At, Error, SignedError, ObjectOf, number, null, plain, word, Registers, Memory, IsPointer}
-use Rattle.typing_laws.proofs.Common.{OrNull, Fits, shape_of, option_or, Instance, instance_of, compared_by, compared_as}
+use Rattle.typing_laws.proofs.Common.{IsBounded, Ty, Int, Ptr, Status, SignedStatus, Handle, Entry, is_int, is_int_below, compares, Neutral}
+use Rattle.typing_laws.proofs.Common.{At, Error, SignedError, ObjectOf, number, null, plain, word, IsPointer, OrNull, shape_of, option_or}
+use Rattle.typing_laws.proofs.Common.{Instance, instance_of, compared_by, compared_as}
 use Rattle.rules_data.specs.Compares.{is_number, is_start, is_status, equates, orders, compares_wide}
 use Rattle.neutral_machine.specs.Operations.{equal_instances, equal_first, error_at_most, error_at_least, compared_wide, same_instance}
-use Rattle.typing_laws.proofs.Objects.{ObjectsFit, start_is, instance_is}
-use Rattle.ebc_insn.specs.declared.CmpOp.TheVariants as cmps
+use Rattle.typing_laws.proofs.{Objects.ObjectsFit, Objects.start_is, Objects.instance_is, Views.View, Views.FitsIn}
 use Rattle.rules_data.specs.Compares as rules
 use Rattle.host_model.specs.Values as values
 
@@ -23,7 +22,9 @@ pub record BothPlain (v u : Neutral) : Type 0 where
   pub first : plain v ≡ Some x
   pub second : plain u ≡ Some y
 
-module _ (notes : Notes) (m : Memory) (ok : ObjectsFit notes m.objects) (d : ℕ) (saved : Registers) where
+module _ (view : View) (ok : ObjectsFit view.notes view.m.objects) where
+  open view use {notes, m}
+
   -- equality of the two is known, or both are plain
   abbrev Known : Neutral → Neutral → Type 0
   Known v u = BothPlain v u ⊎ (IsDefined (equal_first notes m.objects v u) ⊎ IsDefined (equal_first notes m.objects u v))
@@ -63,14 +64,14 @@ module _ (notes : Notes) (m : Memory) (ok : ObjectsFit notes m.objects) (d : ℕ
   or_start s k n c true v l en ec f = ⊎_elim (λ g. inl (pointer_start s k n c v l en ec g)) (λ e. inr e) f
   or_start s k n c false v l en ec f = inl (pointer_start s k n c v l en ec f)
 
-  pub start_or_null : (b : Ty) (u : Neutral) → IsBounded b → is_start b ≡ true → Fits notes m d saved b u → IsStart u ⊎ (u ≡ null)
+  pub start_or_null : (b : Ty) (u : Neutral) → IsBounded b → is_start b ≡ true → FitsIn view b u → IsStart u ⊎ (u ≡ null)
   start_or_null (Ptr s k n c may) u b h f =
       let p = and_parts (int_eq n (pos 0)) (int_eq c (pos 0)) h in
       or_start s k n c may u b.0 ((Decides-int_eq n (pos 0)).0 p.0) ((Decides-int_eq c (pos 0)).0 p.1) f
   start_or_null _ u b h f = absurd (false≢true h)
 
   -- a constant
-  pub number_is : (k : ℕ) (b : Ty) (u : Neutral) → is_number k b ≡ true → Fits notes m d saved b u → u ≡ number k
+  pub number_is : (k : ℕ) (b : Ty) (u : Neutral) → is_number k b ≡ true → FitsIn view b u → u ≡ number k
   number_is k (Int lo hi div) u h f =
       let p = and_parts (nat_eq lo k) (nat_eq hi k) h in
       let x = eqb-true lo k p.0 in
@@ -89,48 +90,41 @@ module _ (notes : Notes) (m : Memory) (ok : ObjectsFit notes m.objects) (d : ℕ
 
   start_null : (v u : Neutral) → IsStart v → u ≡ null → Known v u
   unfolding instance_of
-  start_null v u p q = known_same v u _ _ p.is q
-      (inr (inl (false, ap (λ i. equal_instances i None null) p.starts)))
+  start_null v u p q = known_same v u _ _ p.is q (inr (inl (false, ap (λ i. equal_instances i None null) p.starts)))
 
   starts_known : (v u : Neutral) → IsStart v ⊎ (v ≡ null) → IsStart u ⊎ (u ≡ null) → Known v u
   starts_known v u p q = ⊎_elim
       (λ a. ⊎_elim (λ b. two_starts v u a b) (λ b. start_null v u a b) q)
       (λ a. ⊎_elim (λ b. known_turned u v (start_null u v b a)) (λ b. two_nulls v u a b) q) p
 
-  handle_or_null : (b : Ty) (u : Neutral) → (rules.is_handle b || is_number 0 b) ≡ true → Fits notes m d saved b u
+  handle_or_null : (b : Ty) (u : Neutral) → (rules.is_handle b || is_number 0 b) ≡ true → FitsIn view b u
       → ((k : ℕ) × (u ≡ values.Handle k)) ⊎ (u ≡ null)
   handle_or_null Handle u h f = ⊎_elim (λ e. inl (e.k, e.is)) (λ e. inr e) f
   handle_or_null (Int lo hi div) u h f = inr (number_is 0 (Int lo hi div) u h f)
   handle_or_null _ u h f = absurd (false≢true h)
 
-  entry_or_null : (b : Ty) (u : Neutral) → (rules.is_entry b || is_number 0 b) ≡ true → Fits notes m d saved b u
+  entry_or_null : (b : Ty) (u : Neutral) → (rules.is_entry b || is_number 0 b) ≡ true → FitsIn view b u
       → ((k : ℕ) × (u ≡ values.Entry k)) ⊎ (u ≡ null)
   entry_or_null Entry u h f = ⊎_elim (λ e. inl (e.func, e.is)) (λ e. inr e) f
   entry_or_null (Int lo hi div) u h f = inr (number_is 0 (Int lo hi div) u h f)
   entry_or_null _ u h f = absurd (false≢true h)
 
-  handles_known : (v u : Neutral) → ((k : ℕ) × (v ≡ values.Handle k)) ⊎ (v ≡ null) → ((k : ℕ) × (u ≡ values.Handle k)) ⊎ (u ≡ null)
-      → Known v u
-  handles_known v u p q = ⊎_elim
-      (λ a. ⊎_elim (λ b. known_same v u _ _ a.1 b.1 (inr (inl (nat_eq a.0 b.0, refl))))
-      (λ b. known_same v u _ _ a.1 b (inr (inl (false, refl)))) q)
-      (λ a. ⊎_elim (λ b. known_same v u _ _ a b.1 (inr (inr (false, refl)))) (λ b. two_nulls v u a b) q) p
-
-  entries_known : (v u : Neutral) → ((k : ℕ) × (v ≡ values.Entry k)) ⊎ (v ≡ null) → ((k : ℕ) × (u ≡ values.Entry k)) ⊎ (u ≡ null)
-      → Known v u
-  entries_known v u p q = ⊎_elim
-      (λ a. ⊎_elim (λ b. known_same v u _ _ a.1 b.1 (inr (inl (nat_eq a.0 b.0, refl))))
-      (λ b. known_same v u _ _ a.1 b (inr (inl (false, refl)))) q)
-      (λ a. ⊎_elim (λ b. known_same v u _ _ a b.1 (inr (inr (false, refl)))) (λ b. two_nulls v u a b) q) p
+  -- two numbered values of one kind, or null
+  alike_known : (C : ℕ → Neutral) → ((i j : ℕ) → IsDefined (equal_first notes m.objects (C i) (C j)))
+      → ((i : ℕ) → IsDefined (equal_first notes m.objects (C i) null)) → (v u : Neutral) → ((k : ℕ) × (v ≡ C k)) ⊎ (v ≡ null)
+      → ((k : ℕ) × (u ≡ C k)) ⊎ (u ≡ null) → Known v u
+  alike_known C two one v u p q = ⊎_elim
+      (λ a. ⊎_elim (λ b. known_same v u _ _ a.1 b.1 (inr (inl (two a.0 b.0)))) (λ b. known_same v u _ _ a.1 b (inr (inl (one a.0)))) q)
+      (λ a. ⊎_elim (λ b. known_same v u _ _ a b.1 (inr (inr (one b.0)))) (λ b. two_nulls v u a b) q) p
 
   -- an error, or a number below 2 ^ 31
   abbrev ErrorOrCode : Neutral → Type 0
   ErrorOrCode u = ((k : ℕ) × (u ≡ Error k)) ⊎ ((y : ℕ) × (u ≡ number y) × (y < 2 ^ 31))
 
-  status_value : (g : ℕ) (u : Neutral) → Fits notes m d saved (Status g) u → ErrorOrCode u
+  status_value : (g : ℕ) (u : Neutral) → FitsIn view (Status g) u → ErrorOrCode u
   status_value g u f = ⊎_elim (λ e. inl (e.code, e.is)) (λ s. inr (s.0.code, s.0.is, s.0.small)) f
 
-  error_or_code : (b : Ty) (u : Neutral) → (is_status b || is_int_below (2 ^ 31) b) ≡ true → Fits notes m d saved b u → ErrorOrCode u
+  error_or_code : (b : Ty) (u : Neutral) → (is_status b || is_int_below (2 ^ 31) b) ≡ true → FitsIn view b u → ErrorOrCode u
   error_or_code (Status g) u h f = status_value g u f
   error_or_code (Int lo hi div) u h f = let l = ltb-true hi (2 ^ 31) h in inr (f.x, f.is, omega (arith, f.to, l))
   error_or_code _ u h f = absurd (false≢true h)
@@ -145,15 +139,17 @@ module _ (notes : Notes) (m : Memory) (ok : ObjectsFit notes m.objects) (d : ℕ
       (λ a. ⊎_elim (λ b. known_same v u _ _ a.1 b.1 (inr (inr (error_code b.0 a.0 a.2))))
       (λ b. inl (record { x = word a.0; y = word b.0; first = ap plain a.1; second = ap plain b.1 })) q) p
 
-  equates_known : (a b : Ty) (v u : Neutral) → IsBounded a → IsBounded b → equates a b ≡ true → Fits notes m d saved a v
-      → Fits notes m d saved b u → Known v u
+  equates_known : (a b : Ty) (v u : Neutral) → IsBounded a → IsBounded b → equates a b ≡ true → FitsIn view a v
+      → FitsIn view b u → Known v u
   equates_known (Ptr s k n c may) b v u l r h f g =
       let p = and_parts (int_eq n (pos 0)) (int_eq c (pos 0) && (is_start b || is_number 0 b)) h in
       let q = and_parts (int_eq c (pos 0)) (is_start b || is_number 0 b) p.1 in
       starts_known v u (or_start s k n c may v l.0 ((Decides-int_eq n (pos 0)).0 p.0) ((Decides-int_eq c (pos 0)).0 q.0) f)
       (⊎_elim (λ e. start_or_null b u r e g) (λ e. inr (number_is 0 b u e g)) (or_cases (is_start b) (is_number 0 b) q.1))
-  equates_known Handle b v u l r h f g = handles_known v u (⊎_elim (λ e. inl (e.k, e.is)) (λ e. inr e) f) (handle_or_null b u h g)
-  equates_known Entry b v u l r h f g = entries_known v u (⊎_elim (λ e. inl (e.func, e.is)) (λ e. inr e) f) (entry_or_null b u h g)
+  equates_known Handle b v u l r h f g = alike_known values.Handle (λ i j. (nat_eq i j, refl)) (λ i. (false, refl)) v u
+      (⊎_elim (λ e. inl (e.k, e.is)) (λ e. inr e) f) (handle_or_null b u h g)
+  equates_known Entry b v u l r h f g = alike_known values.Entry (λ i j. (nat_eq i j, refl)) (λ i. (false, refl)) v u
+      (⊎_elim (λ e. inl (e.func, e.is)) (λ e. inr e) f) (entry_or_null b u h g)
   equates_known (Status i) b v u l r h f g = errors_known v u (status_value i v f) (error_or_code b u h g)
   equates_known _ b v u l r h f g = absurd (false≢true h)
 
@@ -166,7 +162,7 @@ module _ (notes : Notes) (m : Memory) (ok : ObjectsFit notes m.objects) (d : ℕ
   abbrev SignedOrCode : Neutral → Type 0
   SignedOrCode v = ((k : ℕ) × (v ≡ SignedError k)) ⊎ ((y : ℕ) × (v ≡ number y))
 
-  signed_value : (g : ℕ) (v : Neutral) → Fits notes m d saved (SignedStatus g) v → SignedOrCode v
+  signed_value : (g : ℕ) (v : Neutral) → FitsIn view (SignedStatus g) v → SignedOrCode v
   signed_value g v f = ⊎_elim (λ e. inl (e.code, e.is)) (λ s. inr (s.0.code, s.0.is)) f
 
   -- the numbers with which a sign-extended error is compared
@@ -174,7 +170,7 @@ module _ (notes : Notes) (m : Memory) (ok : ObjectsFit notes m.objects) (d : ℕ
   Bound or_error y = (y < 2 ^ 31) ⊎ ((or_error ≡ true) × (y ≡ 2 ^ 64 - 1))
 
   bound_value : (or_error : Bool) (b : Ty) (u : Neutral) → (is_int_below (2 ^ 31) b || (or_error && is_number (2 ^ 64 - 1) b)) ≡ true
-      → Fits notes m d saved b u → (y : ℕ) × (u ≡ number y) × Bound or_error y
+      → FitsIn view b u → (y : ℕ) × (u ≡ number y) × Bound or_error y
   bound_value or_error (Int lo hi div) u h f = ⊎_elim
       (λ e. let l = ltb-true hi (2 ^ 31) e in (f.x, f.is, inl (omega (arith, f.to, l))))
       (λ e. let p = and_parts or_error (is_number (2 ^ 64 - 1) (Int lo hi div)) e in
@@ -195,7 +191,7 @@ module _ (notes : Notes) (m : Memory) (ok : ObjectsFit notes m.objects) (d : ℕ
 
   ordered : (order : Neutral → Option ℕ → Option Bool) (or_error : Bool) (a b : Ty) (v u : Neutral)
       → ((k y : ℕ) → Bound or_error y → IsDefined (order (SignedError k) (plain (number y)))) → orders or_error a b ≡ true
-      → Fits notes m d saved a v → Fits notes m d saved b u → Ordered order v u
+      → FitsIn view a v → FitsIn view b u → Ordered order v u
   ordered order or_error (SignedStatus g) b v u k h f t =
       let q = bound_value or_error b u h t in
       ⊎_elim
@@ -213,16 +209,16 @@ module _ (notes : Notes) (m : Memory) (ok : ObjectsFit notes m.objects) (d : ℕ
       none : IsDefined None → ⊥
       none p = absurd cc
 
-  wide_known : (op : CmpOp) (a b : Ty) (v u : Neutral) → IsBounded a → IsBounded b → compares_wide op a b ≡ true → Fits notes m d saved a v
-      → Fits notes m d saved b u → BothPlain v u ⊎ IsDefined (compared_wide notes m.objects op v u)
-  wide_known cmps.Eq a b v u l r h f g =
+  wide_known : (op : CmpOp) (a b : Ty) (v u : Neutral) → IsBounded a → IsBounded b → compares_wide op a b ≡ true → FitsIn view a v
+      → FitsIn view b u → BothPlain v u ⊎ IsDefined (compared_wide notes m.objects op v u)
+  wide_known CmpOp.Eq a b v u l r h f g =
       ⊎_elim (λ p. inl p) (λ q. inr (turned _ _ q))
       (⊎_elim (λ e. equates_known a b v u l r e f g) (λ e. known_turned u v (equates_known b a u v r l e g f))
       (or_cases (equates a b) (equates b a) h))
-  wide_known cmps.Lte a b v u l r h f g = ordered error_at_most true a b v u at_most_known h f g
-  wide_known cmps.Gte a b v u l r h f g = ordered error_at_least false a b v u at_least_known h f g
-  wide_known cmps.Ulte a b v u l r h f g = absurd (false≢true h)
-  wide_known cmps.Ugte a b v u l r h f g = absurd (false≢true h)
+  wide_known CmpOp.Lte a b v u l r h f g = ordered error_at_most true a b v u at_most_known h f g
+  wide_known CmpOp.Gte a b v u l r h f g = ordered error_at_least false a b v u at_least_known h f g
+  wide_known CmpOp.Ulte a b v u l r h f g = absurd (false≢true h)
+  wide_known CmpOp.Ugte a b v u l r h f g = absurd (false≢true h)
 
   both_defined : (op : CmpOp) (wide : Bool) (v u : Neutral) → BothPlain v u → IsDefined (compared_as notes m.objects op wide v u)
   unfolding compared_as
@@ -240,13 +236,13 @@ module _ (notes : Notes) (m : Memory) (ok : ObjectsFit notes m.objects) (d : ℕ
       clash : {x : ℕ} → None ≡ Some x → ⊥
       clash e = absurd cc
 
-  int_number : (a : Ty) (v : Neutral) → is_int a ≡ true → Fits notes m d saved a v → (x : ℕ) × (plain v ≡ Some x)
+  int_number : (a : Ty) (v : Neutral) → is_int a ≡ true → FitsIn view a v → (x : ℕ) × (plain v ≡ Some x)
   int_number (Int lo hi div) v h f = (word f.x, ap plain f.is)
   int_number _ v h f = absurd (false≢true h)
 
   -- A comparison that the rules allow has an answer.
   pub compares_fit : (op : CmpOp) (wide : Bool) (a b : Ty) (v u : Neutral) → IsBounded a → IsBounded b → compares op wide a b ≡ true
-      → Fits notes m d saved a v → Fits notes m d saved b u → IsDefined (compared_as notes m.objects op wide v u)
+      → FitsIn view a v → FitsIn view b u → IsDefined (compared_as notes m.objects op wide v u)
   unfolding compares compared_as
   compares_fit op wide a b v u l r h f g = ⊎_elim
       (λ e.
@@ -254,8 +250,7 @@ module _ (notes : Notes) (m : Memory) (ok : ObjectsFit notes m.objects) (d : ℕ
       let x = int_number a v p.0 f in
       let y = int_number b u p.1 g in
       both_defined op wide v u (record { x = x.0; y = y.0; first = x.1; second = y.1 }))
-      (λ e. wide_case wide e)
-      (or_cases (is_int a && is_int b) (wide && compares_wide op a b) h)
+      (λ e. wide_case wide e) (or_cases (is_int a && is_int b) (wide && compares_wide op a b) h)
     where
       wide_case : (i : Bool) → (i && compares_wide op a b) ≡ true → IsDefined (compared_by notes m.objects op i v u (plain v) (plain u))
       wide_case true e = wide_defined op v u (plain v) (plain u) refl refl (wide_known op a b v u l r e f g)

@@ -1,14 +1,14 @@
 -- What each operation gives on values fits what its row gives on types.
 use Rattle.typing_laws.proofs.Common.{◌≡◌, ℕ, ◌^◌, ◌<◌, Bool, true, false, not, ◌&&◌, ◌||◌, if◌then◌else◌, Option, Some, None, Result, Ok}
 use Rattle.typing_laws.proofs.Common.{Err, refl, sym, ap, ap₂, ◌∙◌, subst, arith, le_refl, and_parts, false≢true, same_Some, none-some}
-use Rattle.typing_laws.proofs.Common.{ArithOp, low, outcome, computed, DivideError, IsBounded, Notes, Ty, Any, Int, constant, constant_of}
-use Rattle.typing_laws.proofs.Common.{full, is_int, is_unary, folded, fold_row, or_ints, other_row, divisor_known, Neutral, Junk, number}
-use Rattle.typing_laws.proofs.Common.{plain, word, Registers, Memory, Fits, Raises, by_table, Accepts}
+use Rattle.typing_laws.proofs.Common.{ArithOp, low, outcome, computed, DivideError, IsBounded, Ty, Any, Int, constant, constant_of, full}
+use Rattle.typing_laws.proofs.Common.{is_int, is_unary, folded, fold_row, or_ints, other_row, divisor_known, Neutral, Junk, number, plain}
+use Rattle.typing_laws.proofs.Common.{word, Raises, by_table, Accepts}
 use Rattle.machine_alu.specs.Alu.{bits_of, divides, divides_by_zero, divide_error}
 use Rattle.neutral_machine.specs.Operations.{of_table, on_plain, on_one, on_divisor}
 use Rattle.neutral_machine.proofs.Alu.{table_below}
 use Rattle.typing_laws.proofs.Rows.{then_some, one_divides, constant_word, constant_fits, number_fits}
-use Rattle.ebc_insn.specs.declared.ArithOp.TheVariants as ops
+use Rattle.typing_laws.proofs.Views.{View, FitsIn}
 use Rattle.note_types.specs.declared.exception.Exception.TheVariants as raises
 use Rattle.neutral_machine.specs.Operations as neutral
 
@@ -31,15 +31,15 @@ computed_below op wide x y r e = subst (λ z. z < 2 ^ bits_of wide) (sym (comput
 -- an operation on operand 2 doesn't look at operand 1
 unary_same : (op : ArithOp) (wide : Bool) (x z y : ℕ) → is_unary op ≡ true → computed op wide x y ≡ computed op wide z y
 unfolding computed
-unary_same ops.Not wide x z y e = refl
-unary_same ops.Neg wide x z y e = refl
-unary_same ops.Extb wide x z y e = refl
-unary_same ops.Extw wide x z y e = refl
-unary_same ops.Extd wide x z y e = refl
+unary_same ArithOp.Not wide x z y e = refl
+unary_same ArithOp.Neg wide x z y e = refl
+unary_same ArithOp.Extb wide x z y e = refl
+unary_same ArithOp.Extw wide x z y e = refl
+unary_same ArithOp.Extd wide x z y e = refl
 unary_same _ wide x z y e = absurd (false≢true e)
 
 same_unary : (op : ArithOp) → neutral.is_unary op ≡ is_unary op
-same_unary ops.Not = refl
+same_unary ArithOp.Not = refl
 same_unary op = refl
 
 -- ---- the table on values
@@ -76,45 +76,43 @@ module _ (P : Neutral → Type 0) (op : ArithOp) (wide : Bool) (v u : Neutral) w
       go false = plain_accepts (plain v) (Some y) refl q n g
 
   divides_two : (op : ArithOp) → divides op ≡ true → is_unary op ≡ false
-  divides_two ops.Div e = refl
-  divides_two ops.Divu e = refl
-  divides_two ops.Mod e = refl
-  divides_two ops.Modu e = refl
+  divides_two ArithOp.Div e = refl
+  divides_two ArithOp.Divu e = refl
+  divides_two ArithOp.Mod e = refl
+  divides_two ArithOp.Modu e = refl
   divides_two _ e = absurd (false≢true e)
 
   pub table_accepts : (divides op ≡ true → plain u ≡ None → ⊥) → TableGives → Accepts P (by_table op wide v u)
   table_accepts k g = go (divides op) refl (neutral.is_unary op) refl
     where
-      go : (s : Bool) → divides op ≡ s → (t : Bool) → neutral.is_unary op ≡ t
-          → Accepts P (if s then on_divisor op wide (plain v) (plain u)
+      go : (s : Bool) → divides op ≡ s → (t : Bool) → neutral.is_unary op ≡ t → Accepts P (if s then on_divisor op wide (plain v) (plain u)
           else (if t then on_one op wide (plain u) else on_plain op wide (plain v) (plain u)))
       go true e t f = divisor_accepts (plain u) refl (k e) (divides_two op e) g
       go false e true f = one_accepts (plain u) refl (sym (same_unary op) ∙ f) g
       go false e false f = plain_accepts (plain v) (plain u) refl refl (sym (same_unary op) ∙ f) g
 
-module _ (notes : Notes) (m : Memory) (d : ℕ) (saved : Registers) where
+module _ (view : View) where
   -- an Int's value is plain
-  pub int_plain : (a : Ty) (v : Neutral) → is_int a ≡ true → Fits notes m d saved a v → plain v ≡ None → ⊥
+  pub int_plain : (a : Ty) (v : Neutral) → is_int a ≡ true → FitsIn view a v → plain v ≡ None → ⊥
   int_plain (Int lo hi div) v h f e = none-some (word f.x) (sym e ∙ ap plain f.is)
   int_plain _ v h f e = false≢true h
 
   -- a constant's value
-  pub constant_plain : (a : Ty) (k x : ℕ) (v : Neutral) → constant_of a ≡ Some k → IsBounded a → Fits notes m d saved a v → plain v ≡ Some x
-      → x ≡ k
+  pub constant_plain : (a : Ty) (k x : ℕ) (v : Neutral) → constant_of a ≡ Some k → IsBounded a → FitsIn view a v → plain v ≡ Some x → x ≡ k
   constant_plain a k x v h b f e =
       let w = constant_word a k h b in
-      let q : word k ≡ x = same_Some (word k) x (sym (ap plain (constant_fits notes m d saved a k v h f)) ∙ e) in
+      let q : word k ≡ x = same_Some (word k) x (sym (ap plain (constant_fits view a k v h f)) ∙ e) in
       omega (arith, w, q)
 
-  full_number : (wide : Bool) (r : ℕ) → r < 2 ^ bits_of wide → Fits notes m d saved (full (bits_of wide)) (number r)
-  full_number true r l = number_fits notes m d saved r 0 _ 1 _ refl (omega arith) (omega arith) (one_divides r)
-  full_number false r l = number_fits notes m d saved r 0 _ 1 _ refl (omega arith) (omega arith) (one_divides r)
+  full_number : (wide : Bool) (r : ℕ) → r < 2 ^ bits_of wide → FitsIn view (full (bits_of wide)) (number r)
+  full_number true r l = number_fits view r 0 _ 1 _ refl (omega arith) (omega arith) (one_divides r)
+  full_number false r l = number_fits view r 0 _ 1 _ refl (omega arith) (omega arith) (one_divides r)
 
-  constant_fit : (r : ℕ) → Fits notes m d saved (constant r) (number r)
-  constant_fit r = number_fits notes m d saved r r r 1 _ refl (le_refl r) (le_refl r) (one_divides r)
+  constant_fit : (r : ℕ) → FitsIn view (constant r) (number r)
+  constant_fit r = number_fits view r r r 1 _ refl (le_refl r) (le_refl r) (one_divides r)
 
-  folded_fits : (wide : Bool) (o : Result ℕ DivideError) (r : ℕ) → o ≡ Ok r → Fits notes m d saved (folded wide o) (number r)
-  folded_fits wide (Ok z) r e = let q : z ≡ r = cc in subst (λ i. Fits notes m d saved (constant i) (number r)) (sym q) (constant_fit r)
+  folded_fits : (wide : Bool) (o : Result ℕ DivideError) (r : ℕ) → o ≡ Ok r → FitsIn view (folded wide o) (number r)
+  folded_fits wide (Ok z) r e = let q : z ≡ r = cc in subst (λ i. FitsIn view (constant i) (number r)) (sym q) (constant_fit r)
   folded_fits wide (Err z) r e = absurd cc
 
   -- ---- other arithmetic
@@ -123,25 +121,24 @@ module _ (notes : Notes) (m : Memory) (d : ℕ) (saved : Registers) where
   abbrev first_type : ArithOp → Ty → Ty → Ty
   first_type op a b = if is_unary op then b else a
 
-  first_int : (op : ArithOp) (a b : Ty) (v : Neutral) → is_int (first_type op a b) ≡ true → Fits notes m d saved a v → is_unary op ≡ false
+  first_int : (op : ArithOp) (a b : Ty) (v : Neutral) → is_int (first_type op a b) ≡ true → FitsIn view a v → is_unary op ≡ false
       → plain v ≡ None → ⊥
   first_int op a b v h f n = int_plain a v (sym (ap (λ t. is_int (if t then b else a)) n) ∙ h) f
 
   pub other_fits : (op : ArithOp) (wide : Bool) (a b : Ty) (v u : Neutral) → IsBounded a → IsBounded b → divisor_known op b ≡ true
-      → Fits notes m d saved a v → Fits notes m d saved b u → Accepts (Fits notes m d saved (other_row op wide (first_type op a b) b))
-      (by_table op wide v u)
+      → FitsIn view a v → FitsIn view b u → Accepts (FitsIn view (other_row op wide (first_type op a b) b)) (by_table op wide v u)
   other_fits op wide a b v u l r k f g = go (fold_row op wide (first_type op a b) b) refl
     where
       known : divides op ≡ true → plain u ≡ None → ⊥
       known e = int_plain b u (sym (ap (λ t. not t || is_int b) e) ∙ k) g
 
-      fold : (t : Ty) → fold_row op wide (first_type op a b) b ≡ Some t → Accepts (Fits notes m d saved t) (by_table op wide v u)
+      fold : (t : Ty) → fold_row op wide (first_type op a b) b ≡ Some t → Accepts (FitsIn view t) (by_table op wide v u)
       fold t h =
           then_some (constant_of (first_type op a b)) _ t h (λ x e1 h1. then_some (constant_of b) _ t h1 (λ y e2 h2.
-          table_accepts (Fits notes m d saved t) op wide v u known (record {
-            numbers = λ i j q p1 p2 c. subst (λ z. Fits notes m d saved z (number q)) (same_Some _ t h2)
+          table_accepts (FitsIn view t) op wide v u known (record {
+            numbers = λ i j q p1 p2 c. subst (λ z. FitsIn view z (number q)) (same_Some _ t h2)
                 (folded_fits wide _ q (same x y i j q e1 e2 p1 p2 c));
-            one = λ j q p2 n c. subst (λ z. Fits notes m d saved z (number q)) (same_Some _ t h2)
+            one = λ j q p2 n c. subst (λ z. FitsIn view z (number q)) (same_Some _ t h2)
                 (folded_fits wide _ q (ap (computed op wide x) (sym (constant_plain b y j u e2 r g p2)) ∙ unary_same op wide x 0 j n ∙ c));
             not_first = λ n e. absurd (first_int op a b v (const_int (first_type op a b) x e1) f n e);
             not_second = λ e. absurd (int_plain b u (const_int b y e2) g e);
@@ -161,12 +158,12 @@ module _ (notes : Notes) (m : Memory) (d : ℕ) (saved : Registers) where
                   (sym (ap (λ t. constant_of (if t then b else a)) n) ∙ e1) l f p1)) (sym (constant_plain b y j u e2 r g p2)) ∙ c
 
       ints : (s : Bool) → (is_int (first_type op a b) && is_int b) ≡ s
-          → Accepts (Fits notes m d saved (if s then full (bits_of wide) else Any)) (by_table op wide v u)
+          → Accepts (FitsIn view (if s then full (bits_of wide) else Any)) (by_table op wide v u)
       ints false e = table_accepts (λ _. Unit {0}) op wide v u known
           (record { numbers = λ _ _ _ _ _ _. tt; one = λ _ _ _ _ _. tt; not_first = λ _ _. tt; not_second = λ _. tt })
       ints true e =
           let i = and_parts (is_int (first_type op a b)) (is_int b) e in
-          table_accepts (Fits notes m d saved (full (bits_of wide))) op wide v u known (record {
+          table_accepts (FitsIn view (full (bits_of wide))) op wide v u known (record {
             numbers = λ x y q p1 p2 c. full_number wide q (computed_below op wide x y q c);
             one = λ y q p2 n c. full_number wide q (computed_below op wide 0 y q c);
             not_first = λ n e. absurd (first_int op a b v i.0 f n e);
@@ -174,6 +171,6 @@ module _ (notes : Notes) (m : Memory) (d : ℕ) (saved : Registers) where
           })
 
       go : (o : Option Ty) → fold_row op wide (first_type op a b) b ≡ o
-          → Accepts (Fits notes m d saved (or_ints wide (first_type op a b) b o)) (by_table op wide v u)
+          → Accepts (FitsIn view (or_ints wide (first_type op a b) b o)) (by_table op wide v u)
       go (Some t) h = fold t h
       go None h = ints _ refl

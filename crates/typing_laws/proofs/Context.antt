@@ -1,19 +1,17 @@
 -- What is known where an instruction stands: a configuration that is sound with a state of the function on top.
-use Rattle.typing_laws.proofs.Common.{◌≡◌, ℕ, ◌^◌, Bool, true, false, if◌then◌else◌, nat_lt, List, [], ◌∷◌, length, take, Option, Some}
-use Rattle.typing_laws.proofs.Common.{None, slice_get, refl, sym, ap, ◌∙◌, subst, arith, option_and_then, pos, negsuc, AllZip, and_from}
-use Rattle.typing_laws.proofs.Common.{eq-eqb, false≢true, le-leb, lt-ltb, Decides-int_eq, same_Some, none-some, get_or_from_slice_get}
-use Rattle.typing_laws.proofs.Common.{IsBoundedCell, IsKnown, local_fields, IsShape, IsBounded, N, Item, FnNote, Notes, Pair, Param, Field}
-use Rattle.typing_laws.proofs.Common.{Shape, State, Ty, locals_size, StackItem, Pushed, LocalsOf, FunctionFrame, Frame, Function, Host}
-use Rattle.typing_laws.proofs.Common.{Config, depth, locals_among, locals_at, ItemFits, FitsState, field_in, parameters_of, Memory}
-use Rattle.typing_laws.proofs.Common.{cell_field, made_objects, no_shape, shape_of, TypedObject, FieldOf, FieldOfLocals, World}
-use Rattle.typing_laws.proofs.Common.{frame_locals, live_memory, WorldTyped, CellsFit, ParamFits, FrameBelow, FramesKeep, SoundBelow}
-use Rattle.typing_laws.proofs.Common.{within_some}
+use Rattle.typing_laws.proofs.Common.{◌≡◌, ℕ, ◌^◌, true, if◌then◌else◌, nat_lt, List, [], ◌∷◌, length, take, Some, slice_get, refl, sym, ap}
+use Rattle.typing_laws.proofs.Common.{◌∙◌, subst, arith, option_and_then, pos, negsuc, AllZip, and_from, eq-eqb, false≢true, le-leb, lt-ltb}
+use Rattle.typing_laws.proofs.Common.{Decides-int_eq, same_Some, none-some, get_or_from_slice_get, IsBoundedCell, IsKnown, local_fields}
+use Rattle.typing_laws.proofs.Common.{IsShape, IsBounded, N, Item, FnNote, Notes, Pair, Param, Field, Shape, State, Ty, locals_size}
+use Rattle.typing_laws.proofs.Common.{StackItem, Pushed, LocalsOf, FunctionFrame, Frame, Function, Host, Config, depth, locals_among}
+use Rattle.typing_laws.proofs.Common.{locals_at, ItemFits, FitsState, field_in, parameters_of, Memory, cell_field, made_objects, no_shape}
+use Rattle.typing_laws.proofs.Common.{FieldOf, FieldOfLocals, World, frame_locals, live_memory, WorldTyped, CellsFit, ParamFits, FrameBelow}
+use Rattle.typing_laws.proofs.Common.{FramesKeep, SoundBelow, within_some, Neutral}
 use Rattle.note_types.specs.{Known.IsState, Known.fields_of, Known.locals_of, Passing.IsKept}
 use Rattle.rules_base.specs.{Kept.kept_natural, Places.size_of}
 use Rattle.neutral_machine.specs.Locations.{items_below, parameter_count}
-use Rattle.typing_laws.proofs.{Objects.ObjectsFit, LiveCells.ParamsPassed, OnStack.any_locals}
-use Rattle.note_types.specs.declared.items.Item.TheVariants as item
-use Rattle.note_types.specs.declared.types.Ty.TheVariants as ty
+use Rattle.typing_laws.proofs.{Objects.ObjectsFit, LiveCells.ParamsPassed, OnStack.any_locals, Views.View, Views.FitsIn, Views.view_at}
+use Rattle.typing_laws.proofs.{Rows.bound_some, Rows.when_some}
 
 -- a parameter's type is within its bounds, and in a natural slot what MOVn keeps
 abbrev pub GoodParam : Param → Type 0
@@ -32,13 +30,13 @@ pub record TopSound (world : World) (a : Config) (f : FunctionFrame) (fs : List 
 
 -- a type that MOVn keeps stays
 pub kept_stays : (t : Ty) → IsKept t → kept_natural t ≡ t
-kept_stays (ty.Int lo hi div) h = ap (λ b. if b then ty.Int lo hi div else ty.Any) (lt-ltb hi (2 ^ 32) h)
-kept_stays (ty.Lin n (pos c)) h = ap (λ b. if b then ty.Lin n (pos c) else ty.Any) (le-leb 0 c (omega arith))
-kept_stays (ty.Lin n (negsuc c)) h = absurd h
-kept_stays (ty.Ptr s k n c null) h =
-    ap (λ b. if b then ty.Ptr s k n c null else ty.Any) (and_from _ _ ((Decides-int_eq n (pos 0)).1 h.0) ((Decides-int_eq c (pos 0)).1 h.1))
-kept_stays (ty.SignedStatus g) h = absurd h
-kept_stays (ty.Saved i) h = absurd h
+kept_stays (Ty.Int lo hi div) h = ap (λ b. if b then Ty.Int lo hi div else Ty.Any) (lt-ltb hi (2 ^ 32) h)
+kept_stays (Ty.Lin n (pos c)) h = ap (λ b. if b then Ty.Lin n (pos c) else Ty.Any) (le-leb 0 c (omega arith))
+kept_stays (Ty.Lin n (negsuc c)) h = absurd h
+kept_stays (Ty.Ptr s k n c null) h =
+    ap (λ b. if b then Ty.Ptr s k n c null else Ty.Any) (and_from _ _ ((Decides-int_eq n (pos 0)).1 h.0) ((Decides-int_eq c (pos 0)).1 h.1))
+kept_stays (Ty.SignedStatus g) h = absurd h
+kept_stays (Ty.Saved i) h = absurd h
 kept_stays t h = refl
 
 -- objects have well-formed shapes and are small
@@ -65,39 +63,30 @@ pub locals_are : (notes : Notes) (func : ℕ) (note : FnNote) → slice_get note
     → locals_of notes note ≡ frame_locals notes func
 locals_are notes func note h = sym (ap (option_and_then (locals_of notes)) h)
 
-shape_there : (notes : Notes) (o : Option ℕ) (s : Shape) → option_and_then (slice_get notes.shape) o ≡ Some s → (k : ℕ)
-    × (slice_get notes.shape k ≡ Some s)
-shape_there notes None s e = absurd (none-some s e)
-shape_there notes (Some k) s e = (k, e)
-
 pub locals_there : (notes : Notes) (func : ℕ) (s : Shape) → frame_locals notes func ≡ Some s → (k : ℕ) × (slice_get notes.shape k ≡ Some s)
-locals_there notes func s e = go (slice_get notes.function func) e
-  where
-    go : (o : Option FnNote) → option_and_then (locals_of notes) o ≡ Some s → (k : ℕ) × (slice_get notes.shape k ≡ Some s)
-    go None e = absurd (none-some s e)
-    go (Some f) e = shape_there notes f.locals s e
+locals_there notes func s e = bound_some (locals_of notes) (slice_get notes.function func) s e (λ f _ h.
+    bound_some (slice_get notes.shape) f.locals s h (λ k _ g. (k, g)))
 
 module _ (notes : Notes) (m : Memory) (d : ℕ) (f : FunctionFrame) where
-  pub among_is : (is : List StackItem) (xs : List Item) → AllZip (ItemFits notes m d f) is xs → any_locals is ≡ true
-      → locals_among is ≡ frame_locals notes f.func
-  among_is [] xs z e = absurd (false≢true e)
-  among_is (Pushed kind v ∷ is) (x ∷ xs) z e = among_is is xs z.1 e
-  among_is (Pushed kind v ∷ is) [] z e = absurd z
-  among_is (LocalsOf s ∷ is) (item.Locals ∷ xs) z e = sym z.0
-  among_is (LocalsOf s ∷ is) (item.Slot k t ∷ xs) z e = absurd z.0
-  among_is (LocalsOf s ∷ is) [] z e = absurd z
+  among : (is : List StackItem) (xs : List Item) → AllZip (ItemFits notes m d f) is xs
+      → (any_locals is ≡ true → locals_among is ≡ frame_locals notes f.func)
+      × ((s : Shape) → locals_among is ≡ Some s → frame_locals notes f.func ≡ Some s)
+  among [] xs z = (λ e. absurd (false≢true e), λ s e. absurd (none-some s e))
+  among (Pushed kind v ∷ is) (x ∷ xs) z = among is xs z.1
+  among (Pushed kind v ∷ is) [] z = absurd z
+  among (LocalsOf s ∷ is) (Item.Locals ∷ xs) z = (λ _. sym z.0, λ q e. z.0 ∙ e)
+  among (LocalsOf s ∷ is) (Item.Slot k t ∷ xs) z = absurd z.0
+  among (LocalsOf s ∷ is) [] z = absurd z
 
-  pub among_some : (is : List StackItem) (xs : List Item) (s : Shape) → AllZip (ItemFits notes m d f) is xs → locals_among is ≡ Some s
-      → frame_locals notes f.func ≡ Some s
-  among_some [] xs s z e = absurd (none-some s e)
-  among_some (Pushed kind v ∷ is) (x ∷ xs) s z e = among_some is xs s z.1 e
-  among_some (Pushed kind v ∷ is) [] s z e = absurd z
-  among_some (LocalsOf q ∷ is) (item.Locals ∷ xs) s z e = z.0 ∙ e
-  among_some (LocalsOf q ∷ is) (item.Slot k t ∷ xs) s z e = absurd z.0
-  among_some (LocalsOf q ∷ is) [] s z e = absurd z
-
-module _ (world : World) (a : Config) (f : FunctionFrame) (fs : List Frame) (note : FnNote) (s : State)
+module _ {world : World} {a : Config} {f : FunctionFrame} {fs : List Frame} {note : FnNote} {s : State}
     (st : TopSound world a f fs note s) where
+  abbrev pub seen : View
+  seen = view_at world.notes (live_memory world a) (depth fs) f.saved
+
+  -- a value fits a type here
+  abbrev pub FitsHere : Ty → Neutral → Type 0
+  FitsHere t v = FitsIn seen t v
+
   pub objects : ObjectsFit world.notes (live_memory world a).objects
   objects = objects_fit world a.script.entries st.typed
 
@@ -109,10 +98,10 @@ module _ (world : World) (a : Config) (f : FunctionFrame) (fs : List Frame) (not
       (eq-eqb (depth fs) (depth fs) refl)
 
   pub has_locals : any_locals f.items ≡ true → (live_memory world a).locals (depth fs) ≡ frame_locals world.notes f.func
-  has_locals e = own_locals ∙ among_is world.notes (live_memory world a) (depth fs) f f.items s.items st.top.items e
+  has_locals e = own_locals ∙ (among world.notes (live_memory world a) (depth fs) f f.items s.items st.top.items).0 e
 
   own_some : (x : Shape) → (live_memory world a).locals (depth fs) ≡ Some x → frame_locals world.notes f.func ≡ Some x
-  own_some x e = among_some world.notes (live_memory world a) (depth fs) f f.items s.items x st.top.items (sym own_locals ∙ e)
+  own_some x e = (among world.notes (live_memory world a) (depth fs) f f.items s.items st.top.items).1 x (sym own_locals ∙ e)
 
   pub fields_same : (x : Shape) → frame_locals world.notes f.func ≡ Some x → local_fields world.notes note ≡ x.fields
   unfolding local_fields
@@ -131,32 +120,20 @@ module _ (world : World) (a : Config) (f : FunctionFrame) (fs : List Frame) (not
 
   pub counted_local : (x : ℕ) (z : Field) → cell_field world.notes (live_memory world a) (FieldOfLocals (depth fs) x) ≡ Some z
       → IsBoundedCell z.cell
-  counted_local x z e = go ((live_memory world a).locals (depth fs)) refl e
-    where
-      go : (o : Option Shape) → (live_memory world a).locals (depth fs) ≡ o
-          → option_and_then (λ (q : Shape). slice_get q.fields x) o ≡ Some z → IsBoundedCell z.cell
-      go None h e = absurd (none-some z e)
-      go (Some q) h e =
-          let k = locals_there world.notes f.func q (own_some q h) in
-          bounded_cell world st.typed k.0 x q z k.1 e
+  counted_local x z e =
+      bound_some (λ (q : Shape). slice_get q.fields x) ((live_memory world a).locals (depth fs)) z e (λ q h g.
+      let k = locals_there world.notes f.func q (own_some q h) in
+      bounded_cell world st.typed k.0 x q z k.1 g)
 
   pub counted_object : (k i x : ℕ) (z : Field) → cell_field world.notes (live_memory world a) (FieldOf k i x) ≡ Some z
       → IsBoundedCell z.cell
-  counted_object k i x z e = go (slice_get (live_memory world a).objects k) refl e
-    where
-      in_object : (o : TypedObject) → slice_get (live_memory world a).objects k ≡ Some o → (b : Bool)
-          → (if b then slice_get (shape_of world.notes o.shape).fields x else None) ≡ Some z → IsBoundedCell z.cell
-      in_object o h false e = absurd (none-some z e)
-      in_object o h true e =
-          let l = (st.typed.fits.objects a.script.entries k o h).0 in
-          let q = within_some world.notes.shape o.shape l in
-          bounded_cell world st.typed o.shape x q.0 z q.1 (ap (λ (y : Shape). slice_get y.fields x)
-          (sym (get_or_from_slice_get world.notes.shape o.shape q.0 no_shape q.1)) ∙ e)
-
-      go : (o : Option TypedObject) → slice_get (live_memory world a).objects k ≡ o → option_and_then (field_in world.notes i x) o ≡ Some z
-          → IsBoundedCell z.cell
-      go None h e = absurd (none-some z e)
-      go (Some o) h e = in_object o h (nat_lt i o.count) e
+  counted_object k i x z e =
+      bound_some (field_in world.notes i x) (slice_get (live_memory world a).objects k) z e (λ o h g. when_some (nat_lt i o.count) _ z g
+      (λ _ y.
+      let l = (st.typed.fits.objects a.script.entries k o h).0 in
+      let q = within_some world.notes.shape o.shape l in
+      bounded_cell world st.typed o.shape x q.0 z q.1 (ap (λ (y : Shape). slice_get y.fields x)
+      (sym (get_or_from_slice_get world.notes.shape o.shape q.0 no_shape q.1)) ∙ y)))
 
   -- ---- parameters
 

@@ -1,22 +1,20 @@
 -- The table of the rows on data.
 use Rattle.typing_laws.proofs.Common.{◌≡◌, ℕ, ◌<◌, Bool, true, false, not, ◌&&◌, if◌then◌else◌, is_none, nat_eq, List, Option, Some, None}
-use Rattle.typing_laws.proofs.Common.{Result, Ok, Err, slice_get, refl, sym, ap, ap₂, ◌∙◌, subst, arith, ⊎_elim, true≢false, same_Some}
-use Rattle.typing_laws.proofs.Common.{none-some, or_else, LeftFits, WellFormed, Insn, Operand, Size, Index, FnNote, Notes, RuleName, State}
-use Rattle.typing_laws.proofs.Common.{changed, target_at, destination, index_distance, beside, gives_map, Change, Destination, Register}
-use Rattle.typing_laws.proofs.Common.{Here, Distance, after_data, data_row, move_access, move_value, indexed, plainly, NeutralEnd, Site}
-use Rattle.typing_laws.proofs.Common.{executed, is_stack_pointer, FunctionFrame, Frame, Config, World, Accepts, StandsTyped, WorldTyped}
-use Rattle.typing_laws.proofs.Common.{here_of, TopFits, falls, Successors, Outcome, Gives, Raises, Stuck}
-use Rattle.rules_base.specs.declared.{access.Access.Access, destination.Destination.TheVariants.Memory}
+use Rattle.typing_laws.proofs.Common.{Result, Ok, Err, slice_get, refl, sym, ap, ap₂, ◌∙◌, subst, arith, ⊎_elim, true≢false, none-some}
+use Rattle.typing_laws.proofs.Common.{or_else, LeftFits, WellFormed, Insn, Operand, Size, Index, FnNote, Notes, RuleName, State, changed}
+use Rattle.typing_laws.proofs.Common.{destination, index_distance, beside, gives_map, Change, Destination, Here, Distance, after_data}
+use Rattle.typing_laws.proofs.Common.{data_row, move_access, move_value, indexed, plainly, NeutralEnd, Site, executed, is_stack_pointer}
+use Rattle.typing_laws.proofs.Common.{FunctionFrame, Frame, Config, World, Accepts, StandsTyped, WorldTyped, here_of, TopFits, falls}
+use Rattle.typing_laws.proofs.Common.{Successors, Outcome, Gives, Raises, Stuck}
+use Rattle.rules_base.specs.declared.access.Access.{Access}
 use Rattle.rules_data.specs.Data.{data_change}
 use Rattle.typing_laws.specs.DataTyped.{FallsSound, OneDataRule}
 use Rattle.typing_laws.proofs.DataRest.{move_imm_fits, move_index_fits, move_relative_fits, store_special_fits}
 use Rattle.typing_laws.proofs.Formed.{beside_fits, left_beside, left_small, move_most, right_small, word_most}
-use Rattle.typing_laws.proofs.{Rows.err_ok, Rows.ok_same, ArithRow.GoesOn, ArithRow.arith_fits, ArithRow.beside_ok, CompareRow.compare_fits}
-use Rattle.typing_laws.proofs.{CompareSigned.compare_imm_fits, CompareSigned.move_signed_fits, Context.TopSound, MoveRow.move_fits}
-use Rattle.typing_laws.proofs.Operands.{then_ok}
+use Rattle.typing_laws.proofs.{Rows.err_ok, Rows.either_ok, Rows.map_ok, Rows.unless_ok, ArithRow.GoesOn, ArithRow.arith_fits}
+use Rattle.typing_laws.proofs.{ArithRow.beside_ok, CompareRow.compare_fits, CompareSigned.compare_imm_fits, CompareSigned.move_signed_fits}
+use Rattle.typing_laws.proofs.{Context.TopSound, MoveRow.move_fits, Operands.then_ok}
 use Rattle.ebc_base.specs.Steps as steps
-use Rattle.ebc_insn.specs.declared.Insn.TheVariants as insns
-use Rattle.note_types.specs.declared.rule.RuleName.TheVariants as rule
 use Rattle.rules_data.specs.Data as rules_data
 use Rattle.neutral_machine.specs.Rows as rows
 
@@ -39,17 +37,8 @@ no_index bits o (Some i) h e = absurd (true≢false (sym h.0 ∙ e))
 not_stack : (notes : Notes) (f : FnNote) (s : State) (access : Access) (op : Operand) (d : Distance) (to : Destination)
     → destination notes f s access op d ≡ Ok to → is_stack_pointer (plainly op) ≡ false
 unfolding destination
-not_stack notes f s access op d to e = go op.indirect refl e
-  where
-    direct : op.indirect ≡ false → (b : Bool) → nat_eq op.reg 0 ≡ b → (if b then Err rule.Stack else Ok (Register op.reg)) ≡ Ok to
-        → (not op.indirect && nat_eq op.reg 0) ≡ false
-    direct h true q e = absurd (err_ok rule.Stack to e)
-    direct h false q e = ap₂ (λ b c. not b && c) h q
-
-    go : (b : Bool) → op.indirect ≡ b → (if b then gives_map Memory (target_at notes f s access op.reg d)
-        else (if nat_eq op.reg 0 then Err rule.Stack else Ok (Register op.reg))) ≡ Ok to → (not op.indirect && nat_eq op.reg 0) ≡ false
-    go true h e = ap (λ b. not b && nat_eq op.reg 0) h
-    go false h e = direct h (nat_eq op.reg 0) refl e
+not_stack notes f s access op d to e = either_ok op.indirect _ _ to e (λ h _. ap (λ b. not b && nat_eq op.reg 0) h)
+    (λ h e1. unless_ok (nat_eq op.reg 0) _ _ to e1 (λ q _. ap₂ (λ b c. not b && c) h q))
 
 pub not_stack_move : (notes : Notes) (f : FnNote) (s : State) (size : Size) (left right : Operand) (lidx ridx : Option Index) (k : Change)
     → rules_data.move_row notes f s size left right lidx ridx ≡ Ok k → is_stack_pointer (plainly left) ≡ false
@@ -69,61 +58,51 @@ pub record ChangeFound (notes : Notes) (note : FnNote) (here : Here) (s : State)
 pub change_found : (notes : Notes) (note : FnNote) (here : Here) (s : State) (i : Insn) (t : State)
     → slice_get notes.function here.func ≡ Some note → after_data notes here s i ≡ Ok t → ChangeFound notes note here s i t
 unfolding after_data data_change
-change_found notes note here s i t h e = go (slice_get notes.function here.func) h e
-  where
-    mapped : (o : Result Change RuleName) → data_row notes note here s i ≡ o → gives_map (changed s) o ≡ Ok t
-        → ChangeFound notes note here s i t
-    mapped (Ok k) q e = record { change = k; row = q; is = ok_same (changed s k) t e }
-    mapped (Err r) q e = absurd (err_ok r t e)
+change_found notes note here s i t h e = map_ok (changed s) (data_row notes note here s i) t
+    (subst (λ o. gives_map (changed s) (steps.◌>>=◌ (or_else RuleName.Function o) (λ f. data_row notes f here s i)) ≡ Ok t) h e)
+    (λ k q r. record { change = k; row = q; is = r })
 
-    go : (o : Option FnNote) → o ≡ Some note → gives_map (changed s)
-        (steps.◌>>=◌ (or_else rule.Function o) (λ f. data_row notes f here s i)) ≡ Ok t → ChangeFound notes note here s i t
-    go None h e = absurd (none-some note h)
-    go (Some f) h e = mapped (data_row notes note here s i) refl
-        (subst (λ f. gives_map (changed s) (data_row notes f here s i) ≡ Ok t) (same_Some f note h) e)
-
-module _ (world : World) (a : Config) (f : FunctionFrame) (fs : List Frame) (note : FnNote) (s : State)
+module _ {world : World} {a : Config} {f : FunctionFrame} {fs : List Frame} {note : FnNote} {s : State}
     (st : TopSound world a f fs note s) where
   -- An instruction on data that its rule accepts goes on soundly.
   pub data_fits : (site : Site) (i : Insn) (k : Change) → WellFormed i → site.next < world.image_size
       → data_row world.notes note (here_of site f.func) s i ≡ Ok k
-      → Accepts (GoesOn world a f fs note s st site.next (changed s k)) (executed world a site i)
+      → Accepts (GoesOn world site.next (changed s k)) (executed world a site i)
   unfolding executed
-  data_fits site (insns.Compare op wide left right extra) k w l e =
-      compare_fits world a f fs note s st op wide left right extra site.next k st.typed.notes w.0
-      (beside_fits 16 right extra (omega arith) w.1 w.2) l (past_test (is_none site.reloc) _ rule.Relocation k e)
-  data_fits site (insns.CompareImm op wide left idx long imm) k w l e =
-      compare_imm_fits world a f fs note s st op wide left idx imm site.next k st.typed.notes w.0 (no_index 16 left idx w.1)
-      (left_beside idx) (left_small 16 left idx (omega arith) w.1) l (past_test (is_none site.reloc) _ rule.Relocation k e)
-  data_fits site (insns.Arith op wide left right extra) k w l e =
-      arith_fits world a f fs note s st op wide left right extra site.next k st.typed.notes w.0
-      (beside_fits 16 right extra (omega arith) w.1 w.2) l (past_test (is_none site.reloc) _ rule.Relocation k e)
-  data_fits site (insns.Move size bits left right lidx ridx) k w l e =
-      let q = past_test (is_none site.reloc) _ rule.Relocation k e in
+  data_fits site (Insn.Compare op wide left right extra) k w l e =
+      compare_fits st op wide left right extra site.next k w.0
+      (beside_fits 16 right extra (omega arith) w.1 w.2) l (past_test (is_none site.reloc) _ RuleName.Relocation k e)
+  data_fits site (Insn.CompareImm op wide left idx long imm) k w l e =
+      compare_imm_fits st op wide left idx imm site.next k w.0 (no_index 16 left idx w.1)
+      (left_beside idx) (left_small 16 left idx (omega arith) w.1) l (past_test (is_none site.reloc) _ RuleName.Relocation k e)
+  data_fits site (Insn.Arith op wide left right extra) k w l e =
+      arith_fits st op wide left right extra site.next k w.0
+      (beside_fits 16 right extra (omega arith) w.1 w.2) l (past_test (is_none site.reloc) _ RuleName.Relocation k e)
+  data_fits site (Insn.Move size bits left right lidx ridx) k w l e =
+      let q = past_test (is_none site.reloc) _ RuleName.Relocation k e in
       let most = move_most size bits w.0 in
-      subst (λ b. Accepts (GoesOn world a f fs note s st site.next (changed s k))
-      (if b then rows.stack_row world a site.next size right lidx ridx
+      subst (λ b. Accepts (GoesOn world site.next (changed s k)) (if b then rows.stack_row world a site.next size right lidx ridx
       else rows.move_row world a site.next size (indexed left lidx) (indexed right ridx)))
       (sym (not_stack_move world.notes note s size left right lidx ridx k q))
-      (move_fits world a f fs note s st size left right lidx ridx site.next k st.typed.notes w.1 w.2 (left_beside lidx)
+      (move_fits st size left right lidx ridx site.next k w.1 w.2 (left_beside lidx)
       (left_small bits left lidx most w.3) (left_beside ridx) (right_small bits ridx most w.4) l q)
-  data_fits site (insns.MoveSigned bits left right lidx extra) k w l e =
+  data_fits site (Insn.MoveSigned bits left right lidx extra) k w l e =
       let most = word_most bits w.0 in
-      move_signed_fits world a f fs note s st left right lidx extra site.next k st.typed.notes w.1 (left_beside lidx)
+      move_signed_fits st left right lidx extra site.next k w.1 (left_beside lidx)
       (left_small bits left lidx most w.3) (beside_fits bits right extra most w.2 w.4) l
-      (past_test (is_none site.reloc) _ rule.Relocation k e)
-  data_fits site (insns.MoveImm size bits left lidx imm) k w l e =
-      move_imm_fits world a f fs note s st (here_of site f.func) site size bits left lidx imm k refl st.typed.notes w.1 w.2
+      (past_test (is_none site.reloc) _ RuleName.Relocation k e)
+  data_fits site (Insn.MoveImm size bits left lidx imm) k w l e =
+      move_imm_fits st (here_of site f.func) site size bits left lidx imm k refl w.1 w.2
       (left_beside lidx) (left_small 16 left lidx (omega arith) w.3) l e
-  data_fits site (insns.MoveImmNatural bits left lidx idx) k w l e =
-      move_index_fits world a f fs note s st left lidx idx site.next k w.1 (left_beside lidx) (left_small 16 left lidx (omega arith) w.2) l
-      (past_test (is_none site.reloc) _ rule.Relocation k e)
-  data_fits site (insns.MoveRelative bits left lidx imm) k w l e =
-      move_relative_fits world a f fs note s st (here_of site f.func) left lidx imm site.next k refl st.typed.notes w.1 l
-      (past_test (is_none site.reloc) _ rule.Relocation k e)
-  data_fits site (insns.StoreSpecial to special) k w l e = store_special_fits world a f fs note s st to special site.next k w.0 l
-      (past_test (is_none site.reloc) _ rule.Relocation k e)
-  data_fits site c k w l e = absurd (no_row (is_none site.reloc) rule.Form rule.Relocation k e)
+  data_fits site (Insn.MoveImmNatural bits left lidx idx) k w l e =
+      move_index_fits st left lidx idx site.next k w.1 (left_beside lidx) (left_small 16 left lidx (omega arith) w.2) l
+      (past_test (is_none site.reloc) _ RuleName.Relocation k e)
+  data_fits site (Insn.MoveRelative bits left lidx imm) k w l e =
+      move_relative_fits st (here_of site f.func) left lidx imm site.next k refl w.1 l
+      (past_test (is_none site.reloc) _ RuleName.Relocation k e)
+  data_fits site (Insn.StoreSpecial to special) k w l e = store_special_fits st to special site.next k w.0 l
+      (past_test (is_none site.reloc) _ RuleName.Relocation k e)
+  data_fits site c k w l e = absurd (no_row (is_none site.reloc) RuleName.Form RuleName.Relocation k e)
 
 -- what is known where an instruction stands
 pub top_sound : (world : World) (a : Config) (f : FunctionFrame) (fs : List Frame) (note : FnNote) (here : Site) (s : State) (i : Insn)
@@ -138,12 +117,11 @@ top_sound world a f fs note here s i x ok h = record {
 }
 
 -- what an instruction on data leaves
-falls_sound : (world : World) (a : Config) (f : FunctionFrame) (fs : List Frame) (note : FnNote) (s : State)
-    (st : TopSound world a f fs note s) (here : Site) (z : State) (o : Outcome (NeutralEnd × Config))
-    → Accepts (GoesOn world a f fs note s st here.next z) o → Accepts (FallsSound world here z) o
-falls_sound world a f fs note s st here z Stuck h = h
-falls_sound world a f fs note s st here z (Raises e) h = h
-falls_sound world a f fs note s st here z (Gives (e, b)) h =
+falls_sound : (world : World) (here : Site) (z : State) (o : Outcome (NeutralEnd × Config))
+    → Accepts (GoesOn world here.next z) o → Accepts (FallsSound world here z) o
+falls_sound world here z Stuck h = h
+falls_sound world here z (Raises e) h = h
+falls_sound world here z (Gives (e, b)) h =
     (h.ends, h.spot, record { top = subst (λ fs. TopFits world b fs z) (sym h.after.frames) h.after.top; below = h.after.below })
 
 -- An instruction on data that its rule accepts goes on soundly at the next place.
@@ -153,5 +131,4 @@ one_data_rule world a f fs note here s i t ok h e =
     let c = change_found world.notes note (here_of here f.func) s i t h.there e in
     let inside : here.next < world.image_size = ⊎_elim (λ n. absurd (none-some t (sym n))) (λ n. n) h.inside in
     subst (λ z. Accepts (FallsSound world here z) (executed world a here i)) c.is
-    (falls_sound world a f fs note s st here (changed s c.change) (executed world a here i)
-    (data_fits world a f fs note s st here i c.change h.well_formed inside c.row))
+    (falls_sound world here (changed s c.change) (executed world a here i) (data_fits st here i c.change h.well_formed inside c.row))

@@ -9,36 +9,27 @@ use Rattle.typing_laws.proofs.Common.{NeutralEnd, after_make, dropped, frame_wit
 use Rattle.typing_laws.proofs.Common.{without_local, StackItem, Pushed, LocalsOf, FunctionFrame, Frame, Function, Config, depth}
 use Rattle.typing_laws.proofs.Common.{locals_among, locals_at, FitsPlain, Fits, FitsState, ItemFits, height, Memory, memory_of, cell_field}
 use Rattle.typing_laws.proofs.Common.{compared_as, Outcome, Gives, ◌>>=◌, frame_limit, Neutral, CellPlace, FieldOf, FieldOfLocals, number}
-use Rattle.typing_laws.proofs.Common.{World, frame_locals, Accepts, live_memory, CellsFit, KeepsWithin, SlotsKept, depth_map}
+use Rattle.typing_laws.proofs.Common.{World, frame_locals, Accepts, live_memory, CellsFit, KeepsWithin, SlotsKept, depth_map, RuleName}
 use Rattle.std.specs.Option.{option_map}
 use Rattle.rules_flow.specs.Frames.{drop_row, left_item, left_type, loses, with_left}
-use Rattle.neutral_machine.specs.Rows.{adjusted, adjusted_by, after_drop, config_without, is_qword_size, stack_row}
+use Rattle.neutral_machine.specs.Rows.{adjusted, adjusted_by, after_drop, config_without, stack_row}
 use Rattle.neutral_machine.specs.Outcomes.{unless_stuck}
 use Rattle.typing_laws.proofs.ItemsChanged.{below_after, few_hosts, items_after, top_after, top_keeps}
-use Rattle.typing_laws.proofs.ItemsDropped.{DropFound, drop_found, once_counted}
 use Rattle.typing_laws.proofs.LiveCells.{LaterBelow, live_held, live_some, live_there}
 use Rattle.typing_laws.proofs.LocalsGone.{below_without, forgotten_fits, frames_without, hosts_without, keeps_without, plain_without}
-use Rattle.typing_laws.proofs.{Rows.err_ok, Rows.ok_same, ArithRow.GoesOn, ArithRow.goes_on, Context.TopSound, Context.passed_params}
-use Rattle.typing_laws.proofs.{Context.sizes_same, LocalsMade.make_goes, LocalsMade.no_locals, Pushes.FallsOn, Written.After}
+use Rattle.typing_laws.proofs.Rows.{err_ok, ok_same, either_ok, unless_ok, when_ok}
+use Rattle.typing_laws.proofs.{ItemsDropped.DropFound, ItemsDropped.drop_found, ItemsDropped.once_counted, ArithRow.GoesOn}
+use Rattle.typing_laws.proofs.{ArithRow.goes_on, Context.TopSound, Context.passed_params, Context.sizes_same, LocalsMade.make_goes}
+use Rattle.typing_laws.proofs.{LocalsMade.no_locals, Pushes.FallsOn, Written.After, Changes.each_register}
 use Rattle.invariant_laws.proofs.StatesLater.{compared_stays}
 use Rattle.neutral_machine.proofs.Drops.{locals_at_map}
-use Rattle.ebc_insn.specs.declared.Size.TheVariants as sizes
-use Rattle.note_types.specs.declared.items.Item.TheVariants as item
-use Rattle.note_types.specs.declared.rule.RuleName.TheVariants as rule
-use Rattle.note_types.specs.declared.types.Ty.TheVariants as ty
 
 -- the types of the registers, listed
 listed : (P : ℕ → Ty → Type 0) (t : ℕ → Ty) → ((r : ℕ) → 0 < r → r < 8 → P r (t r)) → (r : ℕ) → 0 < r → r < 8
-    → P r (slice_index_or (t 0 ∷ t 1 ∷ t 2 ∷ t 3 ∷ t 4 ∷ t 5 ∷ t 6 ∷ t 7 ∷ []) r ty.Any)
-listed P t h zero p l = absurd (omega (arith, p))
-listed P t h (suc zero) p l = h 1 p l
-listed P t h (suc (suc zero)) p l = h 2 p l
-listed P t h (suc (suc (suc zero))) p l = h 3 p l
-listed P t h (suc (suc (suc (suc zero)))) p l = h 4 p l
-listed P t h (suc (suc (suc (suc (suc zero))))) p l = h 5 p l
-listed P t h (suc (suc (suc (suc (suc (suc zero)))))) p l = h 6 p l
-listed P t h (suc (suc (suc (suc (suc (suc (suc zero))))))) p l = h 7 p l
-listed P t h (suc (suc (suc (suc (suc (suc (suc (suc r)))))))) p l = absurd (omega (arith, l))
+    → P r (slice_index_or (t 0 ∷ t 1 ∷ t 2 ∷ t 3 ∷ t 4 ∷ t 5 ∷ t 6 ∷ t 7 ∷ []) r Ty.Any)
+listed P t h = each_register (λ r. P r (slice_index_or (t 0 ∷ t 1 ∷ t 2 ∷ t 3 ∷ t 4 ∷ t 5 ∷ t 6 ∷ t 7 ∷ []) r Ty.Any))
+    (h 1 (omega arith) (omega arith)) (h 2 (omega arith) (omega arith)) (h 3 (omega arith) (omega arith)) (h 4 (omega arith) (omega arith))
+    (h 5 (omega arith) (omega arith)) (h 6 (omega arith) (omega arith)) (h 7 (omega arith) (omega arith))
 
 -- items of which nothing is lost
 items_left : (notes : Notes) (m : Memory) (d : ℕ) (f : FunctionFrame) (is : List StackItem) (xs : List Item)
@@ -46,10 +37,10 @@ items_left : (notes : Notes) (m : Memory) (d : ℕ) (f : FunctionFrame) (is : Li
 items_left notes m d f [] [] h = tt
 items_left notes m d f [] (x ∷ xs) h = absurd h
 items_left notes m d f (i ∷ is) [] h = absurd h
-items_left notes m d f (Pushed kind v ∷ is) (item.Slot k t ∷ xs) h = (h.0, items_left notes m d f is xs h.1)
-items_left notes m d f (LocalsOf s ∷ is) (item.Locals ∷ xs) h = (h.0, items_left notes m d f is xs h.1)
-items_left notes m d f (Pushed kind v ∷ is) (item.Locals ∷ xs) h = absurd h.0
-items_left notes m d f (LocalsOf s ∷ is) (item.Slot k t ∷ xs) h = absurd h.0
+items_left notes m d f (Pushed kind v ∷ is) (Item.Slot k t ∷ xs) h = (h.0, items_left notes m d f is xs h.1)
+items_left notes m d f (LocalsOf s ∷ is) (Item.Locals ∷ xs) h = (h.0, items_left notes m d f is xs h.1)
+items_left notes m d f (Pushed kind v ∷ is) (Item.Locals ∷ xs) h = absurd h.0
+items_left notes m d f (LocalsOf s ∷ is) (Item.Slot k t ∷ xs) h = absurd h.0
 
 -- items of which the locals are lost
 items_lost : (notes : Notes) (d : ℕ) (U V : Memory) → V.objects ≡ U.objects → LaterBelow d U V → (f g : FunctionFrame) → g.func ≡ f.func
@@ -58,7 +49,7 @@ items_lost : (notes : Notes) (d : ℕ) (U V : Memory) → V.objects ≡ U.object
 items_lost notes d U V same l f g ef eg [] [] h = tt
 items_lost notes d U V same l f g ef eg [] (x ∷ xs) h = absurd h
 items_lost notes d U V same l f g ef eg (i ∷ is) [] h = absurd h
-items_lost notes d U V same l f g ef eg (Pushed kind v ∷ is) (item.Slot k t ∷ xs) h = (
+items_lost notes d U V same l f g ef eg (Pushed kind v ∷ is) (Item.Slot k t ∷ xs) h = (
   (
     h.0.0,
     subst (λ r. Fits notes V d r (left_type true t) (without_local d v)) (sym eg)
@@ -66,23 +57,23 @@ items_lost notes d U V same l f g ef eg (Pushed kind v ∷ is) (item.Slot k t �
   ),
   items_lost notes d U V same l f g ef eg is xs h.1,
 )
-items_lost notes d U V same l f g ef eg (LocalsOf s ∷ is) (item.Locals ∷ xs) h =
+items_lost notes d U V same l f g ef eg (LocalsOf s ∷ is) (Item.Locals ∷ xs) h =
     (ap (frame_locals notes) ef ∙ h.0, items_lost notes d U V same l f g ef eg is xs h.1)
-items_lost notes d U V same l f g ef eg (Pushed kind v ∷ is) (item.Locals ∷ xs) h = absurd h.0
-items_lost notes d U V same l f g ef eg (LocalsOf s ∷ is) (item.Slot k t ∷ xs) h = absurd h.0
+items_lost notes d U V same l f g ef eg (Pushed kind v ∷ is) (Item.Locals ∷ xs) h = absurd h.0
+items_lost notes d U V same l f g ef eg (LocalsOf s ∷ is) (Item.Slot k t ∷ xs) h = absurd h.0
 
-module _ (world : World) (a : Config) (f : FunctionFrame) (fs : List Frame) (note : FnNote) (s : State)
+module _ {world : World} {a : Config} {f : FunctionFrame} {fs : List Frame} {note : FnNote} {s : State}
     (st : TopSound world a f fs note s) where
   -- ---- the locals stay
 
   pub kept_goes : (n c : ℕ) (left : List Item) (r : DropFound world.notes (live_memory world a) (depth fs) f (locals_size world.notes note)
-      (λ x q. let z = sizes_same world a f fs note s st x q in (z.1, z.2)) n c f.items s.items left) → r.gone ≡ false
+      (λ x q. let z = sizes_same st x q in (z.1, z.2)) n c f.items s.items left) → r.gone ≡ false
       → After world (with_items a f r.rest fs) (record f { items = r.rest }) fs (with_left s false left)
   unfolding with_left
   kept_goes n c left r g =
       let same = r.stay g in
-      let k = top_keeps world a f fs note s st in
-      let t = top_after world a f fs note s st r.rest same left (items_after world a f fs note s st r.rest same r.rest left r.fits) in
+      let k = top_keeps st in
+      let t = top_after st r.rest same left (items_after st r.rest same r.rest left r.fits) in
       record {
         frames = refl;
         top = record {
@@ -94,7 +85,7 @@ module _ (world : World) (a : Config) (f : FunctionFrame) (fs : List Frame) (not
           made_are = t.made_are;
           fact = t.fact;
         };
-        below = below_after world a f fs note s st r.rest same
+        below = below_after st r.rest same
             (record {
               at4 = (let x = k.0.within.at4 in let y = r.lower 4 in omega (arith, x, y));
               at8 = (let x = k.0.within.at8 in let y = r.lower 8 in omega (arith, x, y));
@@ -114,8 +105,7 @@ module _ (world : World) (a : Config) (f : FunctionFrame) (fs : List Frame) (not
     lost_locals : (e : ℕ) → locals_at lost_config.frames e ≡ (if nat_eq e (depth fs) then None else locals_at a.frames e)
     lost_locals e =
         locals_at_map (depth fs) (Function (record f { items = rest }) ∷ fs) e
-        ∙ ap (λ o. if nat_eq e (depth fs) then o else locals_at fs e) gone
-        ∙ go (nat_eq e (depth fs)) refl
+        ∙ ap (λ o. if nat_eq e (depth fs) then o else locals_at fs e) gone ∙ go (nat_eq e (depth fs)) refl
       where
         go : (b : Bool) → nat_eq e (depth fs) ≡ b → (if b then None else locals_at fs e) ≡ (if b then None else locals_at a.frames e)
         go true q = refl
@@ -186,7 +176,7 @@ module _ (world : World) (a : Config) (f : FunctionFrame) (fs : List Frame) (not
         → After world lost_config lost_frame (map (frame_without (depth fs)) fs) (with_left s true left)
     unfolding with_left
     lost_goes left within slots z =
-        let k = top_keeps world a f fs note s st in
+        let k = top_keeps st in
         let passed = passed_params world st.typed in
         let U = live_memory world a in
         let V = live_memory world lost_config in
@@ -223,16 +213,16 @@ module _ (world : World) (a : Config) (f : FunctionFrame) (fs : List Frame) (not
               ),
               frames_without world passed (depth fs) U V refl a.made fs (omega arith) lost_later k.2,
             );
-            few = subst (λ n. n ≤ frame_limit) (sym (hosts_without (depth fs) fs)) (few_hosts world a f fs note s st);
+            few = subst (λ n. n ≤ frame_limit) (sym (hosts_without (depth fs) fs)) (few_hosts st);
           };
         }
 
 -- ---- the rules
 
-module _ (world : World) (a : Config) (f : FunctionFrame) (fs : List Frame) (note : FnNote) (s : State)
+module _ {world : World} {a : Config} {f : FunctionFrame} {fs : List Frame} {note : FnNote} {s : State}
     (st : TopSound world a f fs note s) where
   abbrev Falls : ℕ → Successors → Outcome (NeutralEnd × Config) → Type 0
-  Falls next x o = FallsOn world a f fs note s st next x o
+  Falls next x o = FallsOn world next x o
 
   -- items dropped from the top
   pub drop_goes : (n c next : ℕ) (x : Successors) → next < world.image_size → drop_row world.notes note s n c ≡ Ok x
@@ -240,13 +230,13 @@ module _ (world : World) (a : Config) (f : FunctionFrame) (fs : List Frame) (not
   drop_goes n c next x i e = go (left_after (locals_size world.notes note) s.items n c) refl e
     where
       found : (left : List Item) (r : DropFound world.notes (live_memory world a) (depth fs) f (locals_size world.notes note)
-          (λ x q. let z = sizes_same world a f fs note s st x q in (z.1, z.2)) n c f.items s.items left)
+          (λ x q. let z = sizes_same st x q in (z.1, z.2)) n c f.items s.items left)
           → falls (with_left s (loses s.items left) left) ≡ x → Falls next x
           (after_drop a f fs (dropped n c f.items) >>= (λ b. goes world b next))
       found left r q = cases r.gone refl
         where
           k : KeepsWithin (λ w. height w r.rest) note
-          k = let t = top_keeps world a f fs note s st in record {
+          k = let t = top_keeps st in record {
             at4 = (let x = t.0.within.at4 in let y = r.lower 4 in omega (arith, x, y));
             at8 = (let x = t.0.within.at8 in let y = r.lower 8 in omega (arith, x, y));
           }
@@ -262,11 +252,10 @@ module _ (world : World) (a : Config) (f : FunctionFrame) (fs : List Frame) (not
               record {
                 state = with_left s false left;
                 falls_to = ap (λ (y : Successors). y.fall) (sym q) ∙ ap (λ b. Some (with_left s b left)) lost;
-                goes = subst (λ o. Accepts (GoesOn world a f fs note s st next (with_left s false left)) (o >>= (λ b. goes world b next)))
+                goes = subst (λ o. Accepts (GoesOn world next (with_left s false left)) (o >>= (λ b. goes world b next)))
                     (sym (ap (after_drop a f fs) r.found ∙ ap (λ b. if b then Gives (config_without (depth fs) (with_items a f r.rest fs))
-                    else Gives (with_items a f r.rest fs)) g))
-                    (goes_on world a f fs note s st (with_items a f r.rest fs) next (with_left s false left) i
-                    (kept_goes world a f fs note s st n c left r g));
+                    else Gives (with_items a f r.rest fs)) g)) (goes_on (with_items a f r.rest fs) next (with_left s false left) i
+                    (kept_goes st n c left r g));
               }
           cases true g =
               let none = r.once g (once_counted s.items st.state.once) in
@@ -275,24 +264,24 @@ module _ (world : World) (a : Config) (f : FunctionFrame) (fs : List Frame) (not
               record {
                 state = with_left s true left;
                 falls_to = ap (λ (y : Successors). y.fall) (sym q) ∙ ap (λ b. Some (with_left s b left)) lost;
-                goes = subst (λ o. Accepts (GoesOn world a f fs note s st next (with_left s true left)) (o >>= (λ b. goes world b next)))
+                goes = subst (λ o. Accepts (GoesOn world next (with_left s true left)) (o >>= (λ b. goes world b next)))
                     (sym (ap (after_drop a f fs) r.found ∙ ap (λ b. if b then Gives (config_without (depth fs) (with_items a f r.rest fs))
                     else Gives (with_items a f r.rest fs)) g))
-                    (goes_on world a f fs note s st (config_without (depth fs) (with_items a f r.rest fs)) next (with_left s true left) i
-                    (lost_goes world a f fs note s st r.rest gone left k
-                    (r.kept (live_memory world a).objects (top_keeps world a f fs note s st).0.slots) r.fits));
+                    (goes_on (config_without (depth fs) (with_items a f r.rest fs)) next (with_left s true left) i
+                    (lost_goes st r.rest gone left k
+                    (r.kept (live_memory world a).objects (top_keeps st).0.slots) r.fits));
               }
 
       go : (o : Option (List Item)) → left_after (locals_size world.notes note) s.items n c ≡ o → drop_to s o ≡ Ok x
           → Falls next x (after_drop a f fs (dropped n c f.items) >>= (λ b. goes world b next))
-      go None h e = absurd (err_ok rule.Stack x e)
+      go None h e = absurd (err_ok RuleName.Stack x e)
       go (Some left) h e = found left (drop_found world.notes (live_memory world a) (depth fs) f (locals_size world.notes note)
-          (λ x q. let z = sizes_same world a f fs note s st x q in (z.1, z.2)) n c f.items s.items left st.top.items h) (ok_same _ x e)
+          (λ x q. let z = sizes_same st x q in (z.1, z.2)) n c f.items s.items left st.top.items h) (ok_same _ x e)
 
   made_falls : (n c next : ℕ) (x : Successors) → next < world.image_size → make_row world.notes note s n c ≡ Ok x
       → Falls next x (after_make a f fs n c (frame_locals world.notes f.func) >>= (λ b. goes world b next))
-  made_falls n c next x i e = let r = make_goes world a f fs note s st n c next x i e in
-      record { state = with_item s item.Locals; falls_to = r.0; goes = r.1 }
+  made_falls n c next x i e = let r = make_goes st n c next x i e in
+      record { state = with_item s Item.Locals; falls_to = r.0; goes = r.1 }
 
   -- R0 moved down makes the locals
   moved_down : (u c next : ℕ) (x : Successors) → (nat_eq u 0 && nat_eq c 0) ≡ false
@@ -308,7 +297,7 @@ module _ (world : World) (a : Config) (f : FunctionFrame) (fs : List Frame) (not
   unfolding frame_row
   index_falls false u c next x i e =
       drop_goes u c next x i (sym (ap₂ (λ p q. if p && q then drop_row world.notes note s u c
-      else (if int_le (pos u) (pos 0) && int_le (pos c) (pos 0) then make_row world.notes note s u c else Err rule.Stack))
+      else (if int_le (pos u) (pos 0) && int_le (pos c) (pos 0) then make_row world.notes note s u c else Err RuleName.Stack))
       (le-leb 0 u (omega arith)) (le-leb 0 c (omega arith))) ∙ e)
   index_falls true zero zero next x i e = drop_goes 0 0 next x i e
   index_falls true (suc m) zero next x i e = moved_down (suc m) 0 next x
@@ -330,31 +319,14 @@ module _ (world : World) (a : Config) (f : FunctionFrame) (fs : List Frame) (not
       → LeftFits bits left lidx → next < world.image_size → frame_move world.notes note s size left right ridx ≡ Ok x
       → Falls next x (stack_row world a next size right lidx ridx)
   unfolding stack_row
-  frame_goes sizes.Qword bits left right lidx ridx next x l i e = go left.indirect refl e
+  frame_goes Size.Qword bits left right lidx ridx next x l i e = unless_ok left.indirect _ _ x e (λ h e1.
+      when_ok (nat_eq left.reg 0 && (not right.indirect && nat_eq right.reg 0)) _ _ x e1 (λ q e2.
+      let p = and_parts (nat_eq left.reg 0) (not right.indirect && nat_eq right.reg 0) q in
+      subst (λ b. Falls next x (unless_stuck b (adjusted_by world a ridx >>= (λ b. goes world b next))))
+      (sym (ap₂ (λ b c. b && c) (none h lidx l) p.1)) (adjusted_falls ridx next x i e2)))
     where
       none : left.indirect ≡ false → (o : Option Index) → LeftFits bits left o → is_none o ≡ true
       none h None l = refl
       none h (Some j) l = absurd (false≢true (sym h ∙ l.0))
-
-      test : left.indirect ≡ false → (b : Bool) → (nat_eq left.reg 0 && (not right.indirect && nat_eq right.reg 0)) ≡ b
-          → (if b then frame_row world.notes note s (index_distance ridx) else Err rule.Stack) ≡ Ok x
-          → Falls next x (unless_stuck (is_qword_size sizes.Qword && (is_none lidx && (not right.indirect && nat_eq right.reg 0)))
-          (adjusted_by world a ridx >>= (λ b. goes world b next)))
-      test h false q e = absurd (err_ok rule.Stack x e)
-      test h true q e =
-          let p = and_parts (nat_eq left.reg 0) (not right.indirect && nat_eq right.reg 0) q in
-          subst (λ b. Falls next x (unless_stuck b (adjusted_by world a ridx >>= (λ b. goes world b next))))
-          (sym (ap₂ (λ b c. b && c) (none h lidx l) p.1)) (adjusted_falls ridx next x i e)
-
-      go : (b : Bool) → left.indirect ≡ b → (if b then Err rule.Form
-          else (if nat_eq left.reg 0 && (not right.indirect && nat_eq right.reg 0) then frame_row world.notes note s (index_distance ridx)
-          else Err rule.Stack)) ≡ Ok x → Falls next x (unless_stuck
-          (is_qword_size sizes.Qword && (is_none lidx && (not right.indirect && nat_eq right.reg 0)))
-          (adjusted_by world a ridx >>= (λ b. goes world b next)))
-      go true h e = absurd (err_ok rule.Form x e)
-      go false h e = test h (nat_eq left.reg 0 && (not right.indirect && nat_eq right.reg 0)) refl e
-  frame_goes size bits left right lidx ridx next x l i e = absurd (no_move left.indirect e)
-    where
-      no_move : (b : Bool) → (if b then Err rule.Form else Err rule.Stack) ≡ Ok x → ⊥
-      no_move true e = err_ok rule.Form x e
-      no_move false e = err_ok rule.Stack x e
+  frame_goes size bits left right lidx ridx next x l i e =
+      either_ok left.indirect _ _ x e (λ _ h. absurd (err_ok RuleName.Form x h)) (λ _ h. absurd (err_ok RuleName.Stack x h))

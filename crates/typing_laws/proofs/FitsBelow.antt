@@ -1,12 +1,15 @@
 -- What fits a type fits each type above it.
 use Rattle.typing_laws.proofs.Common.{◌≡◌, ℕ, ◌≤◌, true, false, sym, ap, ◌∙◌, subst, arith, inl, inr, ⊎_elim, ℤ, dvd_trans, false≢true}
-use Rattle.typing_laws.proofs.Common.{true≢false, ◌∣◌, Notes, Ty, Int, Ptr, Status, SignedStatus, Handle, Entry, Neutral, null, number}
-use Rattle.typing_laws.proofs.Common.{Registers, Memory, AreWritten, IsPointer, Fits}
+use Rattle.typing_laws.proofs.Common.{true≢false, ◌∣◌, Ty, Int, Ptr, Status, SignedStatus, Handle, Entry, Neutral, null, number, AreWritten}
+use Rattle.typing_laws.proofs.Common.{IsPointer}
 use Rattle.note_types.specs.Below.{RangeBelow, PointerBelow, TakesNull, NullBelow, StatusBelow, GrantsBelow, Below, below_any, below_equal}
 use Rattle.note_types.specs.Below.{below_range, below_pointer, below_null, below_status, below_grants}
+use Rattle.typing_laws.proofs.Views.{View, FitsIn}
 
-module _ (notes : Notes) (m : Memory) (d : ℕ) (saved : Registers) where
-  range_fits : (a b : Ty) (v : Neutral) → RangeBelow a b → Fits notes m d saved a v → Fits notes m d saved b v
+module _ (view : View) where
+  open view use {notes, m, d}
+
+  range_fits : (a b : Ty) (v : Neutral) → RangeBelow a b → FitsIn view a v → FitsIn view b v
   range_fits (Int lo hi div) (Int from to by) v h f =
       let l = h.0 in
       let r = h.1 in
@@ -27,7 +30,7 @@ module _ (notes : Notes) (m : Memory) (d : ℕ) (saved : Registers) where
       (subst (λ z. IsPointer notes m.objects t k z c v) en (subst (λ z. IsPointer notes m.objects z k n c v) es f)) in
       record { k = g.k; j = g.j; object = g.object; is = g.is; there = g.there; shape = g.shape; room = omega (arith, g.room, le) }
 
-  pointer_fits : (a b : Ty) (v : Neutral) → PointerBelow a b → Fits notes m d saved a v → Fits notes m d saved b v
+  pointer_fits : (a b : Ty) (v : Neutral) → PointerBelow a b → FitsIn view a v → FitsIn view b v
   pointer_fits (Ptr s k n c false) (Ptr t l p e false) v h f = same_pointer s t k l n p c e v h.0 h.1 h.2 h.3 f
   pointer_fits (Ptr s k n c false) (Ptr t l p e true) v h f = inl (same_pointer s t k l n p c e v h.0 h.1 h.2 h.3 f)
   pointer_fits (Ptr s k n c true) (Ptr t l p e true) v h f = ⊎_elim (λ g. inl (same_pointer s t k l n p c e v h.0 h.1 h.2 h.3 g))
@@ -35,21 +38,21 @@ module _ (notes : Notes) (m : Memory) (d : ℕ) (saved : Registers) where
   pointer_fits (Ptr s k n c true) (Ptr t l p e false) v h f = ⊎_elim (λ z. absurd (true≢false z)) (λ z. absurd (false≢true z)) h.4
   pointer_fits _ _ v h f = absurd h
 
-  takes_null_fits : (b : Ty) (v : Neutral) → TakesNull b → v ≡ null → Fits notes m d saved b v
+  takes_null_fits : (b : Ty) (v : Neutral) → TakesNull b → v ≡ null → FitsIn view b v
   takes_null_fits (Ptr s k n c true) v h e = inr e
   takes_null_fits (Ptr s k n c false) v h e = absurd (false≢true h.2)
   takes_null_fits Handle v h e = inr e
   takes_null_fits Entry v h e = inr e
   takes_null_fits _ v h e = absurd h
 
-  null_fits : (a b : Ty) (v : Neutral) → NullBelow a b → Fits notes m d saved a v → Fits notes m d saved b v
+  null_fits : (a b : Ty) (v : Neutral) → NullBelow a b → FitsIn view a v → FitsIn view b v
   null_fits (Int lo hi div) b v h f =
       let e = h.1 in
       let z : f.x ≡ 0 = omega (arith, f.to, e) in
       takes_null_fits b v h.2 (f.is ∙ ap number z)
   null_fits _ b v h f = absurd h
 
-  status_fits : (a b : Ty) (v : Neutral) → StatusBelow a b → Fits notes m d saved a v → Fits notes m d saved b v
+  status_fits : (a b : Ty) (v : Neutral) → StatusBelow a b → FitsIn view a v → FitsIn view b v
   status_fits (Int lo hi div) (Status g) v h f =
       let l = h.0 in
       inr (record { code = f.x; is = f.is; small = omega (arith, f.to, l) }, none g h.1)
@@ -58,15 +61,15 @@ module _ (notes : Notes) (m : Memory) (d : ℕ) (saved : Registers) where
       none g e x q = absurd (omega (arith, e, q))
   status_fits _ _ v h f = absurd h
 
-  grants_fit : (a b : Ty) (v : Neutral) → GrantsBelow a b → Fits notes m d saved a v → Fits notes m d saved b v
+  grants_fit : (a b : Ty) (v : Neutral) → GrantsBelow a b → FitsIn view a v → FitsIn view b v
   grants_fit (Status g) (Status h) v l f = ⊎_elim (λ e. inl e) (λ s. inr (s.0, λ x q. s.1 x (l x q))) f
   grants_fit (SignedStatus g) (SignedStatus h) v l f = ⊎_elim (λ e. inl e) (λ s. inr (s.0, λ x q. s.1 x (l x q))) f
   grants_fit _ _ v l f = absurd l
 
   -- What fits a type fits each type above it.
-  pub fits_below : (a b : Ty) (v : Neutral) → Below a b → Fits notes m d saved a v → Fits notes m d saved b v
-  fits_below a b v (below_any e) f = subst (λ t. Fits notes m d saved t v) (sym e) tt
-  fits_below a b v (below_equal e) f = subst (λ t. Fits notes m d saved t v) e f
+  pub fits_below : (a b : Ty) (v : Neutral) → Below a b → FitsIn view a v → FitsIn view b v
+  fits_below a b v (below_any e) f = subst (λ t. FitsIn view t v) (sym e) tt
+  fits_below a b v (below_equal e) f = subst (λ t. FitsIn view t v) e f
   fits_below a b v (below_range h) f = range_fits a b v h f
   fits_below a b v (below_pointer h) f = pointer_fits a b v h f
   fits_below a b v (below_null h) f = null_fits a b v h f

@@ -6,7 +6,6 @@ use Rattle.std.proofs.Math.Pow.{pow_mono}
 use Rattle.natural_index.specs.Index.{HasRoom, IsIndex, IsIndexSize, natural_bits}
 use Rattle.ebc_insn.specs.Spelling.{ExtraFits, RightFits, IsWordOrDword, MoveFits}
 use Rattle.typing_laws.proofs.{ArithRow.BesideFits, ArithRow.nowhere_small, Operands.IsSmall, Pointed.IsBeside}
-use Rattle.ebc_insn.specs.declared.Size.TheVariants as sizes
 
 -- a part of an index is a number of 64 bits
 part_small : (sign : Bool) (u n : ℕ) → u < 2 ^ 60 → signed sign u ≡ pos n → n < 2 ^ 64
@@ -61,5 +60,5 @@ word_most bits (inl e) = omega (arith, e)
 word_most bits (inr e) = omega (arith, e)
 
 pub move_most : (size : Size) (bits : ℕ) → MoveFits size bits → bits ≤ 64
-move_most sizes.Qword bits h = size_most bits h
+move_most Size.Qword bits h = size_most bits h
 move_most size bits h = word_most bits h

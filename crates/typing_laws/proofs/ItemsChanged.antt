@@ -5,8 +5,7 @@ use Rattle.typing_laws.proofs.Common.{FunctionFrame, Frame, Function, Config, de
 use Rattle.typing_laws.proofs.Common.{FitsState, height, Memory, frame_limit, Neutral, World, Later, live_memory, FrameKeeps, FrameBelow}
 use Rattle.typing_laws.proofs.Common.{FramesKeep, KeepsWithin, SlotsKept, SoundBelow, FieldsLater, fields_later, fits_later, items_later}
 use Rattle.typing_laws.proofs.LiveCells.{LaterBelow, below_later, below_kept, frames_kept}
-use Rattle.typing_laws.proofs.{Context.TopSound, Context.passed_params, Relaid.cells_at, Relaid.later_at}
-use Rattle.note_types.specs.declared.items.Item.TheVariants as item
+use Rattle.typing_laws.proofs.{Context.TopSound, Context.passed_params, Context.FitsHere, Relaid.cells_at, Relaid.later_at}
 
 -- what fits a frame fits it with other items
 pub items_moved : (notes : Notes) (m : Memory) (d : ℕ) (f : FunctionFrame) (js : List StackItem) (is : List StackItem) (xs : List Item)
@@ -14,30 +13,30 @@ pub items_moved : (notes : Notes) (m : Memory) (d : ℕ) (f : FunctionFrame) (js
 items_moved notes m d f js [] [] z = tt
 items_moved notes m d f js [] (x ∷ xs) z = absurd z
 items_moved notes m d f js (i ∷ is) [] z = absurd z
-items_moved notes m d f js (Pushed k v ∷ is) (item.Slot l t ∷ xs) z = (z.0, items_moved notes m d f js is xs z.1)
-items_moved notes m d f js (LocalsOf s ∷ is) (item.Locals ∷ xs) z = (z.0, items_moved notes m d f js is xs z.1)
-items_moved notes m d f js (Pushed k v ∷ is) (item.Locals ∷ xs) z = absurd z.0
-items_moved notes m d f js (LocalsOf s ∷ is) (item.Slot l t ∷ xs) z = absurd z.0
+items_moved notes m d f js (Pushed k v ∷ is) (Item.Slot l t ∷ xs) z = (z.0, items_moved notes m d f js is xs z.1)
+items_moved notes m d f js (LocalsOf s ∷ is) (Item.Locals ∷ xs) z = (z.0, items_moved notes m d f js is xs z.1)
+items_moved notes m d f js (Pushed k v ∷ is) (Item.Locals ∷ xs) z = absurd z.0
+items_moved notes m d f js (LocalsOf s ∷ is) (Item.Slot l t ∷ xs) z = absurd z.0
 
--- what holds of the frame on top, and of those below it
-pub top_keeps : (world : World) (a : Config) (f : FunctionFrame) (fs : List Frame) (note : FnNote) (s : State)
-    (st : TopSound world a f fs note s) → FrameKeeps world.notes (live_memory world a).objects a.made f note
-    × FrameBelow world (live_memory world a) f note fs × FramesKeep world (live_memory world a) a.made fs
-top_keeps world a f fs note s st =
-    let k : FramesKeep world (live_memory world a) a.made (Function f ∷ fs) =
-    subst (FramesKeep world (live_memory world a) a.made) st.frames st.below.frames in
-    let g = k.0 in
-    let e : g.0 ≡ note = same_Some g.0 note (sym g.1.there ∙ st.there) in (
-      subst (FrameKeeps world.notes (live_memory world a).objects a.made f) e g.1,
-      subst (λ n. FrameBelow world (live_memory world a) f n fs) e g.2,
-      k.1,
-    )
+module _ {world : World} {a : Config} {f : FunctionFrame} {fs : List Frame} {note : FnNote} {s : State}
+    (st : TopSound world a f fs note s) where
+  -- what holds of the frame on top, and of those below it
+  pub top_keeps : FrameKeeps world.notes (live_memory world a).objects a.made f note × FrameBelow world (live_memory world a) f note fs
+      × FramesKeep world (live_memory world a) a.made fs
+  top_keeps =
+      let k : FramesKeep world (live_memory world a) a.made (Function f ∷ fs) =
+      subst (FramesKeep world (live_memory world a) a.made) st.frames st.below.frames in
+      let g = k.0 in
+      let e : g.0 ≡ note = same_Some g.0 note (sym g.1.there ∙ st.there) in (
+        subst (FrameKeeps world.notes (live_memory world a).objects a.made f) e g.1,
+        subst (λ n. FrameBelow world (live_memory world a) f n fs) e g.2,
+        k.1,
+      )
 
-pub few_hosts : (world : World) (a : Config) (f : FunctionFrame) (fs : List Frame) (note : FnNote) (s : State)
-    (st : TopSound world a f fs note s) → length (hosts fs) ≤ frame_limit
-few_hosts world a f fs note s st = subst (λ z. length (hosts z) ≤ frame_limit) st.frames st.below.few
+  pub few_hosts : length (hosts fs) ≤ frame_limit
+  few_hosts = subst (λ z. length (hosts z) ≤ frame_limit) st.frames st.below.few
 
-module _ (world : World) (a : Config) (f : FunctionFrame) (fs : List Frame) (note : FnNote) (s : State) (st : TopSound world a f fs note s)
+module _ {world : World} {a : Config} {f : FunctionFrame} {fs : List Frame} {note : FnNote} {s : State} (st : TopSound world a f fs note s)
     (js : List StackItem) (same : locals_among js ≡ locals_among f.items) where
   abbrev pub frame : FunctionFrame
   frame = record f { items = js }
@@ -57,14 +56,13 @@ module _ (world : World) (a : Config) (f : FunctionFrame) (fs : List Frame) (not
   fields_here : FieldsLater world.notes (depth fs) (live_memory world a) (live_memory world after)
   fields_here = fields_later world.notes (depth fs) (live_memory world a) (live_memory world after) (later_here (depth fs))
 
-  pub fits_after : (t : Ty) (v : Neutral) → Fits world.notes (live_memory world a) (depth fs) f.saved t v
-      → Fits world.notes (live_memory world after) (depth fs) f.saved t v
+  pub fits_after : (t : Ty) (v : Neutral) → FitsHere st t v → Fits world.notes (live_memory world after) (depth fs) f.saved t v
   fits_after t v h = fits_later world.notes (depth fs) (live_memory world a) (live_memory world after) fields_here f.saved t v h
 
   -- the frames keep, where the items keep within the need
   pub below_after : KeepsWithin (λ w. height w js) note → SlotsKept world.notes (live_memory world a).objects js → SoundBelow world after
   below_after within slots =
-      let k = top_keeps world a f fs note s st in
+      let k = top_keeps st in
       record {
         cells = cells_at world a after refl refl (λ d q e. sym (locals_same d) ∙ e) st.below.cells;
         frames = (
@@ -77,7 +75,7 @@ module _ (world : World) (a : Config) (f : FunctionFrame) (fs : List Frame) (not
           frames_kept world (passed_params world st.typed) (live_memory world a) (live_memory world after) refl a.made fs
               (later (depth fs)) k.2,
         );
-        few = few_hosts world a f fs note s st;
+        few = few_hosts st;
       }
 
   -- the items that are as before fit

@@ -7,26 +7,25 @@ use Rattle.typing_laws.proofs.Common.{frame_locals, SlotsKept}
 use Rattle.std.proofs.lemmas.List.Sums.{sum_by-cons}
 use Rattle.neutral_machine.specs.Rows.{Dropped, with_one}
 use Rattle.typing_laws.proofs.OnStack.{units_are}
-use Rattle.note_types.specs.declared.items.Item.TheVariants as item
 use Rattle.neutral_machine.specs.Rows as rows
 
 -- the locals are among items at most once
 abbrev pub Once : List Item → Type 0
 Once [] = Unit {0}
-Once (item.Slot kind t ∷ xs) = Once xs
-Once (item.Locals ∷ xs) = list_any is_locals xs ≡ false
+Once (Item.Slot kind t ∷ xs) = Once xs
+Once (Item.Locals ∷ xs) = list_any is_locals xs ≡ false
 
 none_counted : (xs : List Item) → count_by is_locals xs ≤ 0 → list_any is_locals xs ≡ false
 none_counted [] l = refl
-none_counted (item.Slot kind t ∷ xs) l = none_counted xs (let c = sum_by-cons (λ x. if is_locals x then 1 else 0) (item.Slot kind t) xs in
+none_counted (Item.Slot kind t ∷ xs) l = none_counted xs (let c = sum_by-cons (λ x. if is_locals x then 1 else 0) (Item.Slot kind t) xs in
     omega (arith, c, l))
-none_counted (item.Locals ∷ xs) l = absurd (let c = sum_by-cons (λ x. if is_locals x then 1 else 0) item.Locals xs in omega (arith, c, l))
+none_counted (Item.Locals ∷ xs) l = absurd (let c = sum_by-cons (λ x. if is_locals x then 1 else 0) Item.Locals xs in omega (arith, c, l))
 
 pub once_counted : (xs : List Item) → count_by is_locals xs ≤ 1 → Once xs
 once_counted [] l = tt
-once_counted (item.Slot kind t ∷ xs) l = once_counted xs (let c = sum_by-cons (λ x. if is_locals x then 1 else 0) (item.Slot kind t) xs in
+once_counted (Item.Slot kind t ∷ xs) l = once_counted xs (let c = sum_by-cons (λ x. if is_locals x then 1 else 0) (Item.Slot kind t) xs in
     omega (arith, c, l))
-once_counted (item.Locals ∷ xs) l = none_counted xs (let c = sum_by-cons (λ x. if is_locals x then 1 else 0) item.Locals xs in
+once_counted (Item.Locals ∷ xs) l = none_counted xs (let c = sum_by-cons (λ x. if is_locals x then 1 else 0) Item.Locals xs in
     omega (arith, c, l))
 
 -- what is left of natural slots
@@ -51,10 +50,10 @@ module _ (notes : Notes) (m : Memory) (d : ℕ) (f : FunctionFrame) (size : Pair
 
   units_same : (i : StackItem) (x : Item) → ItemFits notes m d f i x → (item_units i ≡ (item_size size x).n)
       × (item_bytes i ≡ (item_size size x).c)
-  units_same (Pushed kind v) (item.Slot k t) h = units_are kind k v h.0
-  units_same (LocalsOf s) item.Locals h = let e = same s h in (sym e.0, sym e.1)
-  units_same (Pushed kind v) item.Locals h = absurd h
-  units_same (LocalsOf s) (item.Slot k t) h = absurd h
+  units_same (Pushed kind v) (Item.Slot k t) h = units_are kind k v h.0
+  units_same (LocalsOf s) Item.Locals h = let e = same s h in (sym e.0, sym e.1)
+  units_same (Pushed kind v) Item.Locals h = absurd h
+  units_same (LocalsOf s) (Item.Slot k t) h = absurd h
 
   left_is : (x y : List Item) → ◌≡◌ {A = Option (List Item)} (Some x) (Some y) → x ≡ y
   left_is x y e = cc
@@ -63,7 +62,7 @@ module _ (notes : Notes) (m : Memory) (d : ℕ) (f : FunctionFrame) (size : Pair
   more : (n c p q : ℕ) (i : StackItem) (x : Item) (is : List StackItem) (xs left : List Item) → ItemFits notes m d f i x
       → dropped n c (i ∷ is) ≡ with_one (rows.is_locals i) (dropped p q is) → DropFound p q is xs left
       → DropFound n c (i ∷ is) (x ∷ xs) left
-  more n c p q (Pushed kind v) (item.Slot k t) is xs left h e r = record {
+  more n c p q (Pushed kind v) (Item.Slot k t) is xs left h e r = record {
     rest = r.rest;
     gone = r.gone;
     found = e ∙ ap (with_one false) r.found;
@@ -74,7 +73,7 @@ module _ (notes : Notes) (m : Memory) (d : ℕ) (f : FunctionFrame) (size : Pair
     any = r.any;
     once = r.once;
   }
-  more n c p q (LocalsOf s) item.Locals is xs left h e r = record {
+  more n c p q (LocalsOf s) Item.Locals is xs left h e r = record {
     rest = r.rest;
     gone = true;
     found = e ∙ ap (with_one true) r.found;
@@ -89,8 +88,8 @@ module _ (notes : Notes) (m : Memory) (d : ℕ) (f : FunctionFrame) (size : Pair
       others : (a b : Bool) → (a || b) ≡ false → b ≡ false
       others true b e = absurd (true≢false e)
       others false b e = e
-  more n c p q (Pushed kind v) item.Locals is xs left h e r = absurd h
-  more n c p q (LocalsOf s) (item.Slot k t) is xs left h e r = absurd h
+  more n c p q (Pushed kind v) Item.Locals is xs left h e r = absurd h
+  more n c p q (LocalsOf s) (Item.Slot k t) is xs left h e r = absurd h
 
   -- nothing is dropped
   nothing_more : (n c : ℕ) (is : List StackItem) (xs left : List Item) → AllZip (ItemFits notes m d f) is xs
@@ -119,8 +118,7 @@ module _ (notes : Notes) (m : Memory) (d : ℕ) (f : FunctionFrame) (size : Pair
       go false g e = absurd (none-some left e)
   drop_found n c [] (x ∷ xs) left z e = absurd z
   drop_found n c (i ∷ is) [] left z e = absurd z
-  drop_found n c (i ∷ is) (x ∷ xs) left z e =
-      go (λ p q h. drop_found p q is xs left z.1 h) (nat_eq n 0 && nat_eq c 0) refl e
+  drop_found n c (i ∷ is) (x ∷ xs) left z e = go (λ p q h. drop_found p q is xs left z.1 h) (nat_eq n 0 && nat_eq c 0) refl e
     where
       u : (item_units i ≡ (item_size size x).n) × (item_bytes i ≡ (item_size size x).c)
       u = units_same i x z.0

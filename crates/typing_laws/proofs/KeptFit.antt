@@ -1,16 +1,18 @@
 -- What moves keep of a value fits what the rules keep of its type.
-use Rattle.typing_laws.proofs.Common.{◌≡◌, ℕ, ◌+◌, ◌*◌, ◌%◌, ◌^◌, ◌<◌, ◌≤◌, Bool, true, false, ◌&&◌, if◌then◌else◌, nat_lt, refl, sym, ap}
-use Rattle.typing_laws.proofs.Common.{◌∙◌, subst, arith, inl, inr, ⊎_elim, mod-eq_of_lt, ℤ, pos, negsuc, int_le, int_eq, mul-le-mul_right}
+use Rattle.typing_laws.proofs.Common.{◌≡◌, ℕ, ◌+◌, ◌*◌, ◌%◌, ◌^◌, ◌<◌, ◌≤◌, Bool, true, false, ◌&&◌, if◌then◌else◌, nat_lt, sym, ap, ◌∙◌}
+use Rattle.typing_laws.proofs.Common.{subst, arith, inl, inr, ⊎_elim, mod-eq_of_lt, ℤ, pos, negsuc, int_le, int_eq, mul-le-mul_right}
 use Rattle.typing_laws.proofs.Common.{ltb-true, and_parts, false≢true, lt-ltb, Decides-int_eq, mod_below, pow_pos, Size, wrap64, IsBounded}
-use Rattle.typing_laws.proofs.Common.{Notes, Ty, Any, Int, Lin, Scaled, Ptr, Local, Lent, Status, Mask, Handle, Entry, ThunkAt, full}
-use Rattle.typing_laws.proofs.Common.{Neutral, Num, At, Junk, ObjectOf, number, null, word, Registers, Memory, IsPointer, OrNull, Fits}
-use Rattle.typing_laws.proofs.Common.{is_kept_at, kept_natural, narrowed, sign_extended, Move, kept}
+use Rattle.typing_laws.proofs.Common.{Ty, Any, Int, Lin, Scaled, Ptr, Local, Lent, Status, Mask, Handle, Entry, ThunkAt, full, Neutral, Num}
+use Rattle.typing_laws.proofs.Common.{At, Junk, ObjectOf, number, null, word, IsPointer, OrNull, is_kept_at, kept_natural, narrowed}
+use Rattle.typing_laws.proofs.Common.{sign_extended, Move, kept}
 use Rattle.note_types.specs.declared.types.Ty.TheVariants.{Method}
-use Rattle.typing_laws.proofs.{Rows.one_divides, Rows.number_fits, Objects.ObjectsFit, Objects.start_is, Objects.start_kept}
-use Rattle.ebc_insn.specs.declared.Size.TheVariants as sizes
+use Rattle.typing_laws.proofs.{Rows.one_divides, Rows.number_fits, Rows.choice_fits, Objects.ObjectsFit, Objects.start_is}
+use Rattle.typing_laws.proofs.{Objects.start_kept, Views.View, Views.FitsIn}
 use Rattle.rules_base.specs.Kept as rules
 
-module _ (notes : Notes) (m : Memory) (ok : ObjectsFit notes m.objects) (d : ℕ) (saved : Registers) where
+module _ (view : View) (ok : ObjectsFit view.notes view.m.objects) where
+  open view use {notes, m}
+
   -- ---- natural size
 
   -- a pair whose number at 4 bytes is small stays
@@ -39,9 +41,8 @@ module _ (notes : Notes) (m : Memory) (ok : ObjectsFit notes m.objects) (d : ℕ
   null_stays v e = ap (kept_natural notes m.objects) e ∙ sym e
 
   -- what is kept of a value that stays
-  stays : (t : Ty) (v : Neutral) → kept_natural notes m.objects v ≡ v → Fits notes m d saved t v
-      → Fits notes m d saved t (kept_natural notes m.objects v)
-  stays t v e f = subst (λ z. Fits notes m d saved t z) (sym e) f
+  stays : (t : Ty) (v : Neutral) → kept_natural notes m.objects v ≡ v → FitsIn view t v → FitsIn view t (kept_natural notes m.objects v)
+  stays t v e f = subst (λ z. FitsIn view t z) (sym e) f
 
   or_null_stays : (s k : ℕ) (n c : ℤ) (may : Bool) (v : Neutral) → 1 ≤ k → n ≡ pos 0 → c ≡ pos 0
       → OrNull may v (IsPointer notes m.objects s k n c v) → kept_natural notes m.objects v ≡ v
@@ -53,34 +54,25 @@ module _ (notes : Notes) (m : Memory) (ok : ObjectsFit notes m.objects) (d : ℕ
   lin_small (pos i) (negsuc j) b h = absurd (false≢true h)
   lin_small (negsuc i) c b h = absurd b.0
 
-  pub natural_fits : (t : Ty) (v : Neutral) → IsBounded t → Fits notes m d saved t v
-      → Fits notes m d saved (rules.kept_natural t) (kept_natural notes m.objects v)
+  pub natural_fits : (t : Ty) (v : Neutral) → IsBounded t → FitsIn view t v
+      → FitsIn view (rules.kept_natural t) (kept_natural notes m.objects v)
   unfolding kept_natural
-  natural_fits (Int lo hi div) v b f = go (nat_lt hi (2 ^ 32)) refl
-    where
-      go : (i : Bool) → nat_lt hi (2 ^ 32) ≡ i → Fits notes m d saved (if i then Int lo hi div else Any) (kept_natural notes m.objects v)
-      go true h = let l = ltb-true hi (2 ^ 32) h in stays (Int lo hi div) v
-          (ap (kept_natural notes m.objects) f.is ∙ number_stays f.x (omega (arith, f.to, l)) ∙ sym f.is) f
-      go false h = tt
-  natural_fits (Lin n c) v b f = go (int_le (pos 0) c) refl
-    where
-      go : (i : Bool) → int_le (pos 0) c ≡ i → Fits notes m d saved (if i then Lin n c else Any) (kept_natural notes m.objects v)
-      go true h = stays (Lin n c) v (ap (kept_natural notes m.objects) f ∙ num_stays (wrap64 n) (wrap64 c) (lin_small n c b h) ∙ sym f) f
-      go false h = tt
+  natural_fits (Int lo hi div) v b f =
+      choice_fits view (nat_lt hi (2 ^ 32)) (Int lo hi div) Any (kept_natural notes m.objects v) (λ h.
+      let l = ltb-true hi (2 ^ 32) h in
+      stays (Int lo hi div) v (ap (kept_natural notes m.objects) f.is ∙ number_stays f.x (omega (arith, f.to, l)) ∙ sym f.is) f) (λ _. tt)
+  natural_fits (Lin n c) v b f = choice_fits view (int_le (pos 0) c) (Lin n c) Any (kept_natural notes m.objects v) (λ h. stays (Lin n c) v
+      (ap (kept_natural notes m.objects) f ∙ num_stays (wrap64 n) (wrap64 c) (lin_small n c b h) ∙ sym f) f) (λ _. tt)
   natural_fits (Scaled n c hi) v b f =
       let e : f.i * (8 * n + c) ≤ hi * (8 * n + c) = mul-le-mul_right (8 * n + c) f.to in
       let g : f.i * (8 * n + c) ≡ 8 * (f.i * n) + f.i * c = omega arith in
       let h = b.1 in
       stays (Scaled n c hi) v (ap (kept_natural notes m.objects) f.is ∙ num_stays (f.i * n) (f.i * c) (omega (arith, e, g, h)) ∙ sym f.is) f
-  natural_fits (Ptr s k n c may) v b f = go (int_eq n (pos 0) && int_eq c (pos 0)) refl
-    where
-      go : (i : Bool) → (int_eq n (pos 0) && int_eq c (pos 0)) ≡ i
-          → Fits notes m d saved (if i then Ptr s k n c may else Any) (kept_natural notes m.objects v)
-      go true h =
-          let p = and_parts (int_eq n (pos 0)) (int_eq c (pos 0)) h in
-          stays (Ptr s k n c may) v (or_null_stays s k n c may v b.0 ((Decides-int_eq n (pos 0)).0 p.0)
-          ((Decides-int_eq c (pos 0)).0 p.1) f) f
-      go false h = tt
+  natural_fits (Ptr s k n c may) v b f =
+      choice_fits view (int_eq n (pos 0) && int_eq c (pos 0)) (Ptr s k n c may) Any (kept_natural notes m.objects v) (λ h.
+      let p = and_parts (int_eq n (pos 0)) (int_eq c (pos 0)) h in
+      stays (Ptr s k n c may) v
+      (or_null_stays s k n c may v b.0 ((Decides-int_eq n (pos 0)).0 p.0) ((Decides-int_eq c (pos 0)).0 p.1) f) f) (λ _. tt)
   natural_fits (Local x) v b f = stays (Local x) v (ap (kept_natural notes m.objects) f.is ∙ sym f.is) f
   natural_fits (Lent cell) v b f = stays (Lent cell) v (ap (kept_natural notes m.objects) f.cell_below.is ∙ sym f.cell_below.is) f
   natural_fits (Status g) v b f = stays (Status g) v (⊎_elim (λ e. ap (kept_natural notes m.objects) e.is ∙ sym e.is)
@@ -94,33 +86,26 @@ module _ (notes : Notes) (m : Memory) (ok : ObjectsFit notes m.objects) (d : ℕ
 
   -- ---- narrow moves
 
-  narrowed_is : (bits x : ℕ) (v : Neutral) → v ≡ number x → narrowed bits v ≡ number (word x % 2 ^ bits)
-  narrowed_is bits x v e = ap (narrowed bits) e
-
-  pub low_fits : (bits : ℕ) (t : Ty) (v : Neutral) → 2 ^ bits ≤ 2 ^ 64 → Fits notes m d saved t v
-      → Fits notes m d saved (rules.kept_low bits t) (narrowed bits v)
-  low_fits bits (Int lo hi div) v p f = go (nat_lt hi (2 ^ bits)) refl
-    where
-      go : (i : Bool) → nat_lt hi (2 ^ bits) ≡ i → Fits notes m d saved (if i then Int lo hi div else full bits) (narrowed bits v)
-      go true h =
-          let l = ltb-true hi (2 ^ bits) h in
-          let w : word f.x ≡ f.x = omega (arith, f.to, l, p) in
-          let e : word f.x % 2 ^ bits ≡ f.x = ap (λ z. z % 2 ^ bits) w ∙ mod-eq_of_lt (omega (arith, f.to, l)) in
-          subst (λ z. Fits notes m d saved (Int lo hi div) z) (sym (narrowed_is bits f.x v f.is ∙ ap number e ∙ sym f.is)) f
-      go false h =
-          let q = mod_below (word f.x) (2 ^ bits) (pow_pos bits) in
-          number_fits notes m d saved (word f.x % 2 ^ bits) 0 _ 1 _ (narrowed_is bits f.x v f.is) (omega arith) (omega (arith, q))
-          (one_divides _)
+  pub low_fits : (bits : ℕ) (t : Ty) (v : Neutral) → 2 ^ bits ≤ 2 ^ 64 → FitsIn view t v
+      → FitsIn view (rules.kept_low bits t) (narrowed bits v)
+  low_fits bits (Int lo hi div) v p f = choice_fits view (nat_lt hi (2 ^ bits)) (Int lo hi div) (full bits) (narrowed bits v)
+      (λ h.
+      let l = ltb-true hi (2 ^ bits) h in
+      let w : word f.x ≡ f.x = omega (arith, f.to, l, p) in
+      let e : word f.x % 2 ^ bits ≡ f.x = ap (λ z. z % 2 ^ bits) w ∙ mod-eq_of_lt (omega (arith, f.to, l)) in
+      subst (λ z. FitsIn view (Int lo hi div) z) (sym (ap (narrowed bits) f.is ∙ ap number e ∙ sym f.is)) f)
+      (λ h. let q = mod_below (word f.x) (2 ^ bits) (pow_pos bits) in
+      number_fits view (word f.x % 2 ^ bits) 0 _ 1 _ (ap (narrowed bits) f.is) (omega arith) (omega (arith, q)) (one_divides _))
   low_fits bits t v p f = tt
 
   -- What a move keeps of a value fits what it keeps of its type.
-  pub kept_fits : (size : Size) (t : Ty) (v : Neutral) → IsBounded t → Fits notes m d saved t v
-      → Fits notes m d saved (rules.kept size t) (kept notes m.objects (Move size) v)
-  kept_fits sizes.Byte t v b f = low_fits 8 t v (omega arith) f
-  kept_fits sizes.Word t v b f = low_fits 16 t v (omega arith) f
-  kept_fits sizes.Dword t v b f = low_fits 32 t v (omega arith) f
-  kept_fits sizes.Qword t v b f = f
-  kept_fits sizes.Natural t v b f = natural_fits t v b f
+  pub kept_fits : (size : Size) (t : Ty) (v : Neutral) → IsBounded t → FitsIn view t v
+      → FitsIn view (rules.kept size t) (kept notes m.objects (Move size) v)
+  kept_fits Size.Byte t v b f = low_fits 8 t v (omega arith) f
+  kept_fits Size.Word t v b f = low_fits 16 t v (omega arith) f
+  kept_fits Size.Dword t v b f = low_fits 32 t v (omega arith) f
+  kept_fits Size.Qword t v b f = f
+  kept_fits Size.Natural t v b f = natural_fits t v b f
 
   -- ---- sign extension
 
@@ -130,7 +115,7 @@ module _ (notes : Notes) (m : Memory) (ok : ObjectsFit notes m.objects) (d : ℕ
       let e : word x ≡ x = omega (arith, l) in
       ap (λ b. if b then number (word x) else Junk) (lt-ltb (word x) (2 ^ 31) (omega (arith, l))) ∙ ap number e
 
-  pub signed_fits : (t : Ty) (v : Neutral) → Fits notes m d saved t v → Fits notes m d saved (rules.kept_signed t) (sign_extended v)
+  pub signed_fits : (t : Ty) (v : Neutral) → FitsIn view t v → FitsIn view (rules.kept_signed t) (sign_extended v)
   unfolding sign_extended
   signed_fits (Status g) v f = ⊎_elim
       (λ e. inl (record { code = e.code; is = ap sign_extended e.is; small = e.small }))
@@ -138,10 +123,7 @@ module _ (notes : Notes) (m : Memory) (ok : ObjectsFit notes m.objects) (d : ℕ
         record { code = s.0.code; is = ap sign_extended s.0.is ∙ extended_number s.0.code l; small = l },
         s.1,
       )) f
-  signed_fits (Int lo hi div) v f = go (nat_lt hi (2 ^ 31)) refl
-    where
-      go : (i : Bool) → nat_lt hi (2 ^ 31) ≡ i → Fits notes m d saved (if i then Int lo hi div else Any) (sign_extended v)
-      go true h = let l = ltb-true hi (2 ^ 31) h in subst (λ z. Fits notes m d saved (Int lo hi div) z)
-          (sym (ap sign_extended f.is ∙ extended_number f.x (omega (arith, f.to, l)) ∙ sym f.is)) f
-      go false h = tt
+  signed_fits (Int lo hi div) v f = choice_fits view (nat_lt hi (2 ^ 31)) (Int lo hi div) Any (sign_extended v)
+      (λ h. let l = ltb-true hi (2 ^ 31) h in subst (λ z. FitsIn view (Int lo hi div) z)
+      (sym (ap sign_extended f.is ∙ extended_number f.x (omega (arith, f.to, l)) ∙ sym f.is)) f) (λ _. tt)
   signed_fits t v f = tt

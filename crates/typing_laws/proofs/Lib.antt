@@ -48,3 +48,4 @@ pub mod Things
 pub mod WideFit
 pub mod Written
 pub mod AccessesAgree
+pub mod Views

@@ -1,22 +1,19 @@
 -- The cells that are there, before and after a change: what they hold, and what frames and types see of them.
-use Rattle.typing_laws.proofs.Common.{◌≡◌, ℕ, suc, ◌%◌, ◌<◌, ◌≤◌, Bool, true, false, if◌then◌else◌, is_some, List, [], ◌∷◌, Option, Some}
-use Rattle.typing_laws.proofs.Common.{None, slice_get, refl, sym, ap, ◌∙◌, subst, arith, inl, inr, ⊎_elim, option_and_then, AllZip}
-use Rattle.typing_laws.proofs.Common.{none-some, IsPassed, FnNote, Notes, Param, Field, Shape, Ty, Any, Ptr, Local, Lent, Status}
-use Rattle.typing_laws.proofs.Common.{SignedStatus, Registers, StackItem, Pushed, LocalsOf, FunctionFrame, Frame, Function, Host, depth}
-use Rattle.typing_laws.proofs.Common.{Fits, Memory, cell_field, AreWritten, IsFieldWritten, TypedObject, Neutral, CellPlace, World, Later}
-use Rattle.typing_laws.proofs.Common.{live_cells, ParamFits, FrameKeeps, FrameBelow, FramesKeep}
+use Rattle.typing_laws.proofs.Common.{◌≡◌, ℕ, suc, ◌%◌, ◌<◌, ◌≤◌, if◌then◌else◌, is_some, List, [], ◌∷◌, Option, Some, None, slice_get}
+use Rattle.typing_laws.proofs.Common.{refl, sym, ap, ◌∙◌, subst, arith, inl, inr, ⊎_elim, option_and_then, AllZip, none-some, IsPassed}
+use Rattle.typing_laws.proofs.Common.{FnNote, Notes, Param, Field, Shape, Ty, Any, Ptr, Local, Lent, Status, SignedStatus, Registers}
+use Rattle.typing_laws.proofs.Common.{StackItem, Pushed, LocalsOf, FunctionFrame, Frame, Function, Host, depth, Fits, Memory, cell_field}
+use Rattle.typing_laws.proofs.Common.{AreWritten, IsFieldWritten, TypedObject, Neutral, CellPlace, World, Later, live_cells, ParamFits}
+use Rattle.typing_laws.proofs.Common.{FrameKeeps, FrameBelow, FramesKeep}
 use Rattle.note_types.specs.declared.types.Ty.TheVariants.{Saved}
 use Rattle.invariant_laws.proofs.LaterFits.{or_null_later, pointer_later}
+use Rattle.typing_laws.proofs.Rows.{when_some}
 
 -- ---- what live cells hold
 
 -- what a live cell holds is what the cell holds
 pub live_held : (notes : Notes) (m : Memory) (p : CellPlace) (v : Neutral) → live_cells notes m p ≡ Some v → m.cells p ≡ Some v
-live_held notes m p v e = go (is_some (cell_field notes m p)) e
-  where
-    go : (b : Bool) → (if b then m.cells p else None) ≡ Some v → m.cells p ≡ Some v
-    go true e = e
-    go false e = absurd (none-some v e)
+live_held notes m p v e = when_some (is_some (cell_field notes m p)) _ v e (λ _ h. h)
 
 -- a cell that is there holds what the cell holds
 pub live_there : (notes : Notes) (m : Memory) (p : CellPlace) (z : Field) (o : Option Neutral) → cell_field notes m p ≡ Some z

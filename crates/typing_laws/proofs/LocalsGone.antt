@@ -7,7 +7,7 @@ use Rattle.typing_laws.proofs.Common.{without_local, Registers, StackItem, Pushe
 use Rattle.typing_laws.proofs.Common.{hosts, IsNumber, IsPointer, OrNull, FitsPlain, Fits, height, Memory, AreWritten, kept_natural}
 use Rattle.typing_laws.proofs.Common.{pair_at, return_cell, Neutral, At, Num, Method, Error, SignedError, Junk, ThunkOf, LocalOf, number}
 use Rattle.typing_laws.proofs.Common.{null, pair, World, TypedObject, FrameBelow, FrameKeeps, FramesKeep, KeepsWithin, ParamFits, ParamKind}
-use Rattle.typing_laws.proofs.Common.{SlotsKept, depth_map}
+use Rattle.typing_laws.proofs.Common.{SlotsKept, depth_map, SlotKind, cond_both}
 use Rattle.rules_flow.specs.Frames.{forgotten}
 use Rattle.neutral_machine.specs.Fits.{IsMultiple, IsSuccess, IsError, IsSignedError, IsHandle, IsEntry}
 use Rattle.neutral_machine.specs.Layout.{item_size}
@@ -15,8 +15,6 @@ use Rattle.host_model.specs.Values.{Handle, Entry, mask}
 use Rattle.invariant_laws.specs.Sound.{ParamsFit}
 use Rattle.typing_laws.proofs.LiveCells.{LaterBelow, ParamsPassed, below_down, passed_up}
 use Rattle.neutral_machine.proofs.Drops.{stays}
-use Rattle.note_types.specs.declared.cell.SlotKind.TheVariants as slots
-use Rattle.note_types.specs.declared.types.Ty.TheVariants as ty
 
 -- ---- frames, their items and locals
 
@@ -41,20 +39,16 @@ take_map g (suc n) (x ∷ xs) = ap (λ ys. g x ∷ ys) (take_map g n xs)
 kept_without : (notes : Notes) (os : List TypedObject) (e : ℕ) (v : Neutral) → kept_natural notes os v ≡ v
     → kept_natural notes os (without_local e v) ≡ without_local e v
 unfolding kept_natural
-kept_without notes os e (At (LocalOf d f) n c) h = go (nat_eq d e) h
-  where
-    go : (b : Bool) → kept_natural notes os (At (LocalOf d f) n c) ≡ At (LocalOf d f) n c
-        → kept_natural notes os (if b then Junk else At (LocalOf d f) n c) ≡ (if b then Junk else At (LocalOf d f) n c)
-    go true h = refl
-    go false h = h
+kept_without notes os e (At (LocalOf d f) n c) h =
+    cond_both (nat_eq d e) Junk (At (LocalOf d f) n c) (λ z. kept_natural notes os z ≡ z) (λ _. refl) (λ _. h)
 kept_without notes os e v h = h
 
 pub slots_without : (notes : Notes) (os : List TypedObject) (e : ℕ) (is : List StackItem) → SlotsKept notes os is
     → SlotsKept notes os (map (item_without e) is)
 slots_without notes os e [] h = tt
-slots_without notes os e (Pushed slots.N v ∷ is) h = (kept_without notes os e v h.0, slots_without notes os e is h.1)
-slots_without notes os e (Pushed slots.Q v ∷ is) h = slots_without notes os e is h
-slots_without notes os e (Pushed slots.D v ∷ is) h = slots_without notes os e is h
+slots_without notes os e (Pushed SlotKind.N v ∷ is) h = (kept_without notes os e v h.0, slots_without notes os e is h.1)
+slots_without notes os e (Pushed SlotKind.Q v ∷ is) h = slots_without notes os e is h
+slots_without notes os e (Pushed SlotKind.D v ∷ is) h = slots_without notes os e is h
 slots_without notes os e (LocalsOf s ∷ is) h = slots_without notes os e is h
 
 local_stays : (e d f n c : ℕ) → d ≢ e → without_local e (At (LocalOf d f) n c) ≡ At (LocalOf d f) n c
@@ -69,23 +63,23 @@ or_null_without e false v P f h = subst P (sym (f h)) h
 
 pub plain_without : (notes : Notes) (os : List TypedObject) (e : ℕ) (t : Ty) (v : Neutral) → FitsPlain notes os t v
     → FitsPlain notes os t (without_local e v)
-plain_without notes os e ty.Any v h = tt
-plain_without notes os e (ty.Int lo hi div) v h = subst (IsNumber lo hi div) (sym (stays e v (number h.x) refl h.is)) h
-plain_without notes os e (ty.Lin n c) v h = stays e v (pair n c) refl h ∙ h
-plain_without notes os e (ty.Scaled n c hi) v h = subst (IsMultiple n c hi) (sym (stays e v (Num (h.i * n) (h.i * c)) refl h.is)) h
-plain_without notes os e (ty.Ptr s k n c may) v h = or_null_without e may v (IsPointer notes os s k n c) (λ p. stays e v _ refl p.is) h
-plain_without notes os e (ty.Status g) v h = ⊎_elim (λ p. inl (subst IsError (sym (stays e v (Error p.code) refl p.is)) p))
+plain_without notes os e Ty.Any v h = tt
+plain_without notes os e (Ty.Int lo hi div) v h = subst (IsNumber lo hi div) (sym (stays e v (number h.x) refl h.is)) h
+plain_without notes os e (Ty.Lin n c) v h = stays e v (pair n c) refl h ∙ h
+plain_without notes os e (Ty.Scaled n c hi) v h = subst (IsMultiple n c hi) (sym (stays e v (Num (h.i * n) (h.i * c)) refl h.is)) h
+plain_without notes os e (Ty.Ptr s k n c may) v h = or_null_without e may v (IsPointer notes os s k n c) (λ p. stays e v _ refl p.is) h
+plain_without notes os e (Ty.Status g) v h = ⊎_elim (λ p. inl (subst IsError (sym (stays e v (Error p.code) refl p.is)) p))
     (λ q. inr (subst IsSuccess (sym (stays e v (number q.code) refl q.is)) q)) h
-plain_without notes os e (ty.SignedStatus g) v h = ⊎_elim (λ p. inl
+plain_without notes os e (Ty.SignedStatus g) v h = ⊎_elim (λ p. inl
     (subst IsSignedError (sym (stays e v (SignedError p.code) refl p.is)) p))
     (λ q. inr (subst IsSuccess (sym (stays e v (number q.code) refl q.is)) q)) h
-plain_without notes os e ty.Mask v h = stays e v mask refl h ∙ h
-plain_without notes os e ty.Handle v h = ⊎_elim (λ p. inl (subst IsHandle (sym (stays e v (Handle p.k) refl p.is)) p))
+plain_without notes os e Ty.Mask v h = stays e v mask refl h ∙ h
+plain_without notes os e Ty.Handle v h = ⊎_elim (λ p. inl (subst IsHandle (sym (stays e v (Handle p.k) refl p.is)) p))
     (λ q. inr (stays e v null refl q ∙ q)) h
-plain_without notes os e ty.Entry v h = ⊎_elim (λ p. inl (subst IsEntry (sym (stays e v (Entry p.func) refl p.is)) p))
+plain_without notes os e Ty.Entry v h = ⊎_elim (λ p. inl (subst IsEntry (sym (stays e v (Entry p.func) refl p.is)) p))
     (λ q. inr (stays e v null refl q ∙ q)) h
-plain_without notes os e (ty.Method k) v h = stays e v (Method k) refl h ∙ h
-plain_without notes os e (ty.ThunkAt i) v h = stays e v (At (ThunkOf i) 0 0) refl h ∙ h
+plain_without notes os e (Ty.Method k) v h = stays e v (Method k) refl h ∙ h
+plain_without notes os e (Ty.ThunkAt i) v h = stays e v (At (ThunkOf i) 0 0) refl h ∙ h
 plain_without notes os e t v h = absurd h
 
 none_granted : (m : Memory) (d : ℕ) → AreWritten m d 0
@@ -98,24 +92,24 @@ module _ (notes : Notes) (d e : ℕ) (U V : Memory) (same : V.objects ≡ U.obje
   -- what fits a type that is passed fits it without the locals of that frame or of one above
   pub passed_without : (saved other : Registers) (t : Ty) (v : Neutral) → IsPassed t → Fits notes U d saved t v
       → Fits notes V d other t (without_local e v)
-  passed_without saved other ty.Any v p x = tt
-  passed_without saved other (ty.Ptr s k n c may) v p x = plain_without notes V.objects e (ty.Ptr s k n c may) v
-      (subst (λ o. FitsPlain notes o (ty.Ptr s k n c may) v) (sym same) x)
-  passed_without saved other (ty.Local f) v p x = absurd p
-  passed_without saved other (ty.Lent cell) v p x =
+  passed_without saved other Ty.Any v p x = tt
+  passed_without saved other (Ty.Ptr s k n c may) v p x = plain_without notes V.objects e (Ty.Ptr s k n c may) v
+      (subst (λ o. FitsPlain notes o (Ty.Ptr s k n c may) v) (sym same) x)
+  passed_without saved other (Ty.Local f) v p x = absurd p
+  passed_without saved other (Ty.Lent cell) v p x =
       let b = x.cell_below in
-      passed_up notes d U V l d saved other (ty.Lent cell) (without_local e v) (omega arith) tt
-      (subst (Fits notes U d saved (ty.Lent cell)) (sym (stays e v (At (LocalOf b.e b.f) 0 0)
+      passed_up notes d U V l d saved other (Ty.Lent cell) (without_local e v) (omega arith) tt
+      (subst (Fits notes U d saved (Ty.Lent cell)) (sym (stays e v (At (LocalOf b.e b.f) 0 0)
       (local_stays e b.e b.f 0 0 (below_e b.e b.lower)) b.is)) x)
-  passed_without saved other (ty.Status g) v p x =
-      passed_up notes d U V l d saved other (ty.Status g) (without_local e v) (omega arith) p
+  passed_without saved other (Ty.Status g) v p x =
+      passed_up notes d U V l d saved other (Ty.Status g) (without_local e v) (omega arith) p
       (⊎_elim (λ q. inl (subst IsError (sym (stays e v (Error q.code) refl q.is)) q))
       (λ q. inr (subst IsSuccess (sym (stays e v (number q.0.code) refl q.0.is)) q.0, q.1)) x)
-  passed_without saved other (ty.SignedStatus g) v p x =
-      passed_up notes d U V l d saved other (ty.SignedStatus g) (without_local e v) (omega arith) p
+  passed_without saved other (Ty.SignedStatus g) v p x =
+      passed_up notes d U V l d saved other (Ty.SignedStatus g) (without_local e v) (omega arith) p
       (⊎_elim (λ q. inl (subst IsSignedError (sym (stays e v (SignedError q.code) refl q.is)) q))
       (λ q. inr (subst IsSuccess (sym (stays e v (number q.0.code) refl q.0.is)) q.0, q.1)) x)
-  passed_without saved other (ty.Saved i) v p x = absurd p
+  passed_without saved other (Ty.Saved i) v p x = absurd p
   passed_without saved other t v p x = plain_without notes V.objects e t v x
 
   params_without : (f g : FunctionFrame) (is : List StackItem) (ps : List Param)
@@ -140,13 +134,13 @@ module _ (notes : Notes) (d e : ℕ) (U V : Memory) (same : V.objects ≡ U.obje
 module _ (notes : Notes) (d : ℕ) (U V : Memory) (same : V.objects ≡ U.objects) (l : LaterBelow d U V) where
   pub forgotten_fits : (saved : Registers) (t : Ty) (v : Neutral) → Fits notes U d saved t v
       → Fits notes V d (registers_without d saved) (forgotten t) (without_local d v)
-  forgotten_fits saved (ty.Local f) v x = tt
-  forgotten_fits saved (ty.Status g) v x = ⊎_elim (λ q. inl (subst IsError (sym (stays d v (Error q.code) refl q.is)) q))
+  forgotten_fits saved (Ty.Local f) v x = tt
+  forgotten_fits saved (Ty.Status g) v x = ⊎_elim (λ q. inl (subst IsError (sym (stays d v (Error q.code) refl q.is)) q))
       (λ q. inr (subst IsSuccess (sym (stays d v (number q.0.code) refl q.0.is)) q.0, none_granted V d)) x
-  forgotten_fits saved (ty.SignedStatus g) v x = ⊎_elim (λ q. inl (subst IsSignedError (sym (stays d v (SignedError q.code) refl q.is)) q))
+  forgotten_fits saved (Ty.SignedStatus g) v x = ⊎_elim (λ q. inl (subst IsSignedError (sym (stays d v (SignedError q.code) refl q.is)) q))
       (λ q. inr (subst IsSuccess (sym (stays d v (number q.0.code) refl q.0.is)) q.0, none_granted V d)) x
-  forgotten_fits saved (ty.Saved i) v x = ap (without_local d) x
-  forgotten_fits saved ty.Any v x = tt
+  forgotten_fits saved (Ty.Saved i) v x = ap (without_local d) x
+  forgotten_fits saved Ty.Any v x = tt
   forgotten_fits saved t v x = passed_without notes d d U V same l (omega arith) saved (registers_without d saved) t v tt x
 
 -- ---- frames

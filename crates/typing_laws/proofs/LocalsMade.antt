@@ -1,22 +1,20 @@
 -- The locals of a function are made: the configuration stays sound, since nothing was said of local fields before.
-use Rattle.typing_laws.proofs.Common.{◌≡◌, ◌≢◌, ℕ, ◌*◌, ◌<◌, ◌≤◌, ◌⊎◌, Bool, true, false, not, ◌&&◌, if◌then◌else◌, is_some, is_none}
-use Rattle.typing_laws.proofs.Common.{nat_eq, List, [], ◌∷◌, length, Option, Some, None, Ok, Err, IfSome, slice_get, refl, sym, ap, ◌∙◌}
-use Rattle.typing_laws.proofs.Common.{subst, arith, inl, inr, ⊎_elim, option_and_then, AllZip, list_any, and_parts, and_from, eqb-true}
-use Rattle.typing_laws.proofs.Common.{eq-eqb, ne_eqb, cases_eq, false≢true, true≢false, none-some, content_type, is_locals, Item, FnNote}
-use Rattle.typing_laws.proofs.Common.{Notes, Field, Shape, State, locals_size, has_room, is_size, with_item, falls, Successors, after_make}
-use Rattle.typing_laws.proofs.Common.{goes, StackItem, Pushed, LocalsOf, FunctionFrame, Frame, Config, depth, locals_among, locals_at}
-use Rattle.typing_laws.proofs.Common.{FitsPlain, ItemFits, height, Memory, memory_of, cell_field, IsFieldWritten, Gives, Stuck, ◌>>=◌}
-use Rattle.typing_laws.proofs.Common.{pair_at, Neutral, CellPlace, FieldOf, FieldOfLocals, World, frame_locals, Accepts, live_memory}
-use Rattle.typing_laws.proofs.Common.{CellsFit, FieldsLater, fits_later, items_later, within_some}
-use Rattle.std.proofs.lemmas.Bool.{cases_lt}
+use Rattle.typing_laws.proofs.Common.{◌≡◌, ◌≢◌, ℕ, ◌*◌, ◌<◌, ◌≤◌, ◌⊎◌, true, false, not, ◌&&◌, if◌then◌else◌, is_some, is_none, nat_eq}
+use Rattle.typing_laws.proofs.Common.{List, [], ◌∷◌, length, Option, Some, None, Ok, IfSome, slice_get, refl, sym, ap, ◌∙◌, subst, arith}
+use Rattle.typing_laws.proofs.Common.{inl, inr, ⊎_elim, option_and_then, AllZip, list_any, and_parts, and_from, eqb-true, eq-eqb, ne_eqb}
+use Rattle.typing_laws.proofs.Common.{cases_eq, false≢true, true≢false, none-some, content_type, is_locals, Item, FnNote, Notes, Field}
+use Rattle.typing_laws.proofs.Common.{Shape, State, locals_size, has_room, is_size, with_item, falls, Successors, after_make, goes}
+use Rattle.typing_laws.proofs.Common.{StackItem, Pushed, LocalsOf, FunctionFrame, Frame, Config, depth, locals_among, locals_at, FitsPlain}
+use Rattle.typing_laws.proofs.Common.{ItemFits, height, Memory, memory_of, cell_field, IsFieldWritten, Gives, Stuck, ◌>>=◌, pair_at}
+use Rattle.typing_laws.proofs.Common.{Neutral, CellPlace, FieldOf, FieldOfLocals, World, frame_locals, Accepts, live_memory, CellsFit}
+use Rattle.typing_laws.proofs.Common.{FieldsLater, fits_later, items_later, within_some}
+use Rattle.std.proofs.lemmas.Bool.{cases_lt, not-true}
 use Rattle.neutral_machine.specs.Rows.{cells_before, has_size, is_local_of, made_locals}
 use Rattle.typing_laws.proofs.Context.{TopSound, own_locals, passed_params, sizes_same, locals_are}
 use Rattle.typing_laws.proofs.LiveCells.{LaterBelow, below_kept, frames_kept, live_held, live_some}
-use Rattle.typing_laws.proofs.{Rows.err_ok, Rows.ok_same, ArithRow.GoesOn, ArithRow.goes_on, ItemsChanged.few_hosts}
+use Rattle.typing_laws.proofs.{Rows.ok_same, Rows.when_ok, ArithRow.GoesOn, ArithRow.goes_on, ItemsChanged.few_hosts}
 use Rattle.typing_laws.proofs.{ItemsChanged.items_moved, ItemsChanged.top_keeps, PushFits.room_within, Written.After}
 use Rattle.invariant_laws.proofs.LaterFits.{written_later}
-use Rattle.note_types.specs.declared.items.Item.TheVariants as item
-use Rattle.note_types.specs.declared.rule.RuleName.TheVariants as rule
 use Rattle.rules_flow.specs.Frames as rules_flow
 
 -- ---- what says nothing of local fields
@@ -42,13 +40,13 @@ fields_made notes d U V l unwritten absent = record {
 pub no_locals : (notes : Notes) (m : Memory) (d : ℕ) (f : FunctionFrame) (is : List StackItem) (xs : List Item)
     → list_any is_locals xs ≡ false → AllZip (ItemFits notes m d f) is xs → locals_among is ≡ None
 no_locals notes m d f [] xs e z = refl
-no_locals notes m d f (Pushed kind v ∷ is) (item.Slot k t ∷ xs) e z = no_locals notes m d f is xs e z.1
-no_locals notes m d f (Pushed kind v ∷ is) (item.Locals ∷ xs) e z = absurd z.0
-no_locals notes m d f (LocalsOf s ∷ is) (item.Locals ∷ xs) e z = absurd (true≢false e)
-no_locals notes m d f (LocalsOf s ∷ is) (item.Slot k t ∷ xs) e z = absurd z.0
+no_locals notes m d f (Pushed kind v ∷ is) (Item.Slot k t ∷ xs) e z = no_locals notes m d f is xs e z.1
+no_locals notes m d f (Pushed kind v ∷ is) (Item.Locals ∷ xs) e z = absurd z.0
+no_locals notes m d f (LocalsOf s ∷ is) (Item.Locals ∷ xs) e z = absurd (true≢false e)
+no_locals notes m d f (LocalsOf s ∷ is) (Item.Slot k t ∷ xs) e z = absurd z.0
 no_locals notes m d f (i ∷ is) [] e z = absurd z
 
-module _ (world : World) (a : Config) (f : FunctionFrame) (fs : List Frame) (note : FnNote) (s : State) (st : TopSound world a f fs note s)
+module _ {world : World} {a : Config} {f : FunctionFrame} {fs : List Frame} {note : FnNote} {s : State} (st : TopSound world a f fs note s)
     (sh : Shape) (shape_is : frame_locals world.notes f.func ≡ Some sh) (absent : locals_among f.items ≡ None) where
   abbrev frame : FunctionFrame
   frame = record f { items = LocalsOf sh ∷ f.items }
@@ -57,7 +55,7 @@ module _ (world : World) (a : Config) (f : FunctionFrame) (fs : List Frame) (not
   after = made_locals a f fs sh
 
   locals_before : (live_memory world a).locals (depth fs) ≡ None
-  locals_before = own_locals world a f fs note s st ∙ absent
+  locals_before = own_locals st ∙ absent
 
   -- the locals of the other frames
   other_locals : (e : ℕ) → e ≢ depth fs → locals_at after.frames e ≡ locals_at a.frames e
@@ -116,12 +114,12 @@ module _ (world : World) (a : Config) (f : FunctionFrame) (fs : List Frame) (not
       all k i x z e = let r = st.below.cells.all k i x z e in (r.0, other_held (FieldOf k i x) refl refl ∙ r.1)
 
   -- The locals are made, where there is room for them.
-  pub made_sound : has_room world.notes note item.Locals s.items ≡ true → After world after frame fs (with_item s item.Locals)
+  pub made_sound : has_room world.notes note Item.Locals s.items ≡ true → After world after frame fs (with_item s Item.Locals)
   made_sound r =
-      let k = top_keeps world a f fs note s st in
-      let size = sizes_same world a f fs note s st sh shape_is in
+      let k = top_keeps st in
+      let size = sizes_same st sh shape_is in
       let within : (w : ℕ) → (w ≡ 4) ⊎ (w ≡ 8) → height w (LocalsOf sh ∷ f.items) ≤ pair_at w note.need =
-      λ w q. (let g = room_within world a f fs note s st item.Locals w r q in let e1 = size.1 in let e2 = size.2 in
+      λ w q. (let g = room_within st Item.Locals w r q in let e1 = size.1 in let e2 = size.2 in
       let e3 : (locals_size world.notes note).n * w ≡ sh.n * w = ap (λ n. n * w) e1 in omega (arith, g, e2, e3)) in
       record {
         frames = refl;
@@ -155,13 +153,13 @@ module _ (world : World) (a : Config) (f : FunctionFrame) (fs : List Frame) (not
             ),
             frames_kept world (passed_params world st.typed) (live_memory world a) (live_memory world after) refl a.made fs later_made k.2,
           );
-          few = few_hosts world a f fs note s st;
+          few = few_hosts st;
         };
       }
 
 -- ---- the rule
 
-module _ (world : World) (a : Config) (f : FunctionFrame) (fs : List Frame) (note : FnNote) (s : State)
+module _ {world : World} {a : Config} {f : FunctionFrame} {fs : List Frame} {note : FnNote} {s : State}
     (st : TopSound world a f fs note s) where
   shape_there : is_some note.locals ≡ true → (sh : Shape) × (frame_locals world.notes f.func ≡ Some sh)
   shape_there e = go note.locals refl e (st.typed.notes.functions f.func note st.there).locals
@@ -175,37 +173,25 @@ module _ (world : World) (a : Config) (f : FunctionFrame) (fs : List Frame) (not
 
   -- R0 moved down by the size of the locals makes them
   pub make_goes : (n c next : ℕ) (x : Successors) → next < world.image_size → rules_flow.make_row world.notes note s n c ≡ Ok x
-      → (x.fall ≡ Some (with_item s item.Locals)) × Accepts (GoesOn world a f fs note s st next (with_item s item.Locals))
+      → (x.fall ≡ Some (with_item s Item.Locals)) × Accepts (GoesOn world next (with_item s Item.Locals))
       (after_make a f fs n c (frame_locals world.notes f.func) >>= (λ b. goes world b next))
-  make_goes n c next x i e = go (is_some note.locals && (not (list_any is_locals s.items)
-      && (is_size (locals_size world.notes note) n c && has_room world.notes note item.Locals s.items))) refl e
-    where
-      not_true : (b : Bool) → not b ≡ true → b ≡ false
-      not_true false e = refl
-      not_true true e = absurd (false≢true e)
-
-      go : (b : Bool) → (is_some note.locals && (not (list_any is_locals s.items)
-          && (is_size (locals_size world.notes note) n c && has_room world.notes note item.Locals s.items))) ≡ b
-          → (if b then Ok (falls (with_item s item.Locals)) else Err rule.Stack) ≡ Ok x
-          → (x.fall ≡ Some (with_item s item.Locals)) × Accepts (GoesOn world a f fs note s st next (with_item s item.Locals))
-          (after_make a f fs n c (frame_locals world.notes f.func) >>= (λ b. goes world b next))
-      go false q e = absurd (err_ok rule.Stack x e)
-      go true q e =
-          let p1 = and_parts (is_some note.locals) _ q in
-          let p2 = and_parts (not (list_any is_locals s.items)) _ p1.1 in
-          let p3 = and_parts (is_size (locals_size world.notes note) n c) _ p2.1 in
-          let p4 = and_parts (nat_eq (locals_size world.notes note).n n) (nat_eq (locals_size world.notes note).c c) p3.0 in
-          let sh = shape_there p1.0 in
-          let absent = no_locals world.notes (live_memory world a) (depth fs) f f.items s.items (not_true _ p2.0) st.top.items in
-          let size = sizes_same world a f fs note s st sh.0 sh.1 in
-          let en : sh.0.n ≡ n = sym size.1 ∙ eqb-true _ _ p4.0 in
-          let ec : sh.0.c ≡ c = sym size.2 ∙ eqb-true _ _ p4.1 in
-          let test : (has_size n c sh.0 && is_none (locals_among f.items)) ≡ true =
-          and_from (has_size n c sh.0) (is_none (locals_among f.items)) (and_from _ _ (eq-eqb sh.0.n n en) (eq-eqb sh.0.c c ec))
-          (ap is_none absent) in (
-            ap (λ (y : Successors). y.fall) (sym (ok_same (falls (with_item s item.Locals)) x e)),
-            subst (λ o. Accepts (GoesOn world a f fs note s st next (with_item s item.Locals)) (o >>= (λ b. goes world b next)))
-                (sym (ap (after_make a f fs n c) sh.1 ∙ ap (λ b. if b then Gives (made_locals a f fs sh.0) else Stuck) test))
-                (goes_on world a f fs note s st (made_locals a f fs sh.0) next (with_item s item.Locals) i
-                (made_sound world a f fs note s st sh.0 sh.1 absent p3.1)),
-          )
+  make_goes n c next x i e = when_ok (is_some note.locals && (not (list_any is_locals s.items)
+      && (is_size (locals_size world.notes note) n c && has_room world.notes note Item.Locals s.items))) _ _ x e (λ q e1.
+      let p1 = and_parts (is_some note.locals) _ q in
+      let p2 = and_parts (not (list_any is_locals s.items)) _ p1.1 in
+      let p3 = and_parts (is_size (locals_size world.notes note) n c) _ p2.1 in
+      let p4 = and_parts (nat_eq (locals_size world.notes note).n n) (nat_eq (locals_size world.notes note).c c) p3.0 in
+      let sh = shape_there p1.0 in
+      let absent = no_locals world.notes (live_memory world a) (depth fs) f f.items s.items (not-true _ p2.0) st.top.items in
+      let size = sizes_same st sh.0 sh.1 in
+      let en : sh.0.n ≡ n = sym size.1 ∙ eqb-true _ _ p4.0 in
+      let ec : sh.0.c ≡ c = sym size.2 ∙ eqb-true _ _ p4.1 in
+      let test : (has_size n c sh.0 && is_none (locals_among f.items)) ≡ true =
+      and_from (has_size n c sh.0) (is_none (locals_among f.items)) (and_from _ _ (eq-eqb sh.0.n n en) (eq-eqb sh.0.c c ec))
+      (ap is_none absent) in (
+        ap (λ (y : Successors). y.fall) (sym (ok_same (falls (with_item s Item.Locals)) x e1)),
+        subst (λ o. Accepts (GoesOn world next (with_item s Item.Locals)) (o >>= (λ b. goes world b next)))
+            (sym (ap (after_make a f fs n c) sh.1 ∙ ap (λ b. if b then Gives (made_locals a f fs sh.0) else Stuck) test))
+            (goes_on (made_locals a f fs sh.0) next (with_item s Item.Locals) i
+            (made_sound st sh.0 sh.1 absent p3.1)),
+      ))

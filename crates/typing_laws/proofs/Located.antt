@@ -7,7 +7,6 @@ use Rattle.typing_laws.proofs.Common.{CellPlace, FieldOf, word, shape_of, TypedO
 use Rattle.note_types.specs.Cells.{cell_size}
 use Rattle.neutral_machine.specs.Locations.{is_field, cell_in}
 use Rattle.typing_laws.proofs.Objects.{ObjectsFit}
-use Rattle.note_types.specs.declared.cell.Cell.TheVariants as cell
 
 -- the first field that meets a test
 pub find_first : (t : Field → Bool) (f : ℕ) (xs : List Field) (i : ℕ) (z : Field) → slice_get xs i ≡ Some z → t z ≡ true
@@ -21,7 +20,7 @@ find_first t f (x ∷ xs) (suc i) z e h u =
     ∙ find_first t (suc f) xs i z e h (λ k y l g. u (suc k) y (omega (arith, l)) g) ∙ ap Some (omega arith)
 
 pub cell_positive : (c : Cell) → 0 < cell_size 4 c
-cell_positive cell.I8 = omega arith
+cell_positive Cell.I8 = omega arith
 cell_positive c = omega arith
 
 -- a pair of instance j that is small
@@ -51,8 +50,7 @@ module _ (notes : Notes) (objects : List TypedObject) (ok : ObjectsFit notes obj
   field_located k j i o z e l g first =
       ap (λ x. option_map CellAt (option_and_then (cell_in notes k (word (j * S.n + z.n)) (word (j * S.c + z.c))) x)) e
       ∙ ap (option_map CellAt) (ap found quotient ∙ ap (λ b. if b then option_map (FieldOf k j) (find_field test 0 S.fields) else None)
-      (lt-ltb j o.count l)
-      ∙ ap (option_map (FieldOf k j)) (find_first test 0 S.fields i z g (passes z refl refl) others
+      (lt-ltb j o.count l) ∙ ap (option_map (FieldOf k j)) (find_first test 0 S.fields i z g (passes z refl refl) others
       ∙ ap Some (let e0 : 0 + i ≡ i = omega arith in e0)))
     where
       S : Shape

@@ -1,17 +1,16 @@
 -- The values that the moves give: what a move keeps it keeps again, and a register moved by an index.
-use Rattle.typing_laws.proofs.Common.{◌≡◌, ◌≢◌, ℕ, ◌+◌, ◌*◌, ◌%◌, ◌^◌, ◌<◌, ◌≤◌, Bool, true, false, if◌then◌else◌, nat_lt, List, Option}
-use Rattle.typing_laws.proofs.Common.{Some, None, refl, sym, ap, ◌∙◌, subst, arith, ⊎_elim, option_map, ℤ, pos, negsuc, int_le}
-use Rattle.typing_laws.proofs.Common.{mod-eq_of_lt, int_eq, cases_Bool, Decides-int_eq, Size, wrap64, Index, type_of, FnNote, State, Ty}
-use Rattle.typing_laws.proofs.Common.{Distance, counted, with_index, constant, lin, with_index-known, Neutral, Num, At, Junk, number, pair}
-use Rattle.typing_laws.proofs.Common.{plain, word, FunctionFrame, Frame, Config, depth, TypedObject, World, live_memory, is_kept_at}
-use Rattle.typing_laws.proofs.Common.{kept_natural, narrowed, index_pair, moved_by, Move, Offset, kept, mod_below, Notes}
+use Rattle.typing_laws.proofs.Common.{◌≡◌, ◌≢◌, ℕ, ◌+◌, ◌*◌, ◌%◌, ◌^◌, ◌<◌, ◌≤◌, if◌then◌else◌, nat_lt, List, Option, Some, None, refl, sym}
+use Rattle.typing_laws.proofs.Common.{ap, ◌∙◌, arith, option_map, pos, int_le, mod-eq_of_lt, int_eq, Decides-int_eq, Size, wrap64, Index}
+use Rattle.typing_laws.proofs.Common.{type_of, FnNote, State, Ty, Distance, counted, with_index, constant, lin, with_index-known, Neutral}
+use Rattle.typing_laws.proofs.Common.{Num, At, Junk, number, pair, plain, word, FunctionFrame, Frame, Config, TypedObject, World}
+use Rattle.typing_laws.proofs.Common.{live_memory, is_kept_at, kept_natural, narrowed, index_pair, moved_by, Move, Offset, kept, mod_below}
+use Rattle.typing_laws.proofs.Common.{Notes, cond_both}
 use Rattle.rules_base.specs.Operands.{distance_type}
 use Rattle.rules_laws.proofs.MovesKeep.{distance_type-known}
 use Rattle.neutral_machine.specs.Operations.{on_number}
-use Rattle.typing_laws.proofs.{Rows.same_fits, Rows.lin_is, SumsFit.sum_fits, KeptFit.kept_fits, Context.TopSound, Context.objects}
-use Rattle.typing_laws.proofs.{Operands.FitsHere, Operands.OperandFits, Operands.register_fits}
-use Rattle.ebc_insn.specs.declared.Size.TheVariants as sizes
-use Rattle.note_types.specs.declared.types.Ty.TheVariants as ty
+use Rattle.typing_laws.proofs.Rows.{same_fits, wraps, units_fit, choice_fits}
+use Rattle.typing_laws.proofs.Context.{TopSound, objects, FitsHere, seen}
+use Rattle.typing_laws.proofs.{SumsFit.sum_fits, KeptFit.kept_fits, Operands.OperandFits, Operands.register_fits}
 use Rattle.rules_base.specs.Kept as rules
 
 -- ---- a move keeps what it kept
@@ -30,70 +29,49 @@ narrowed_twice bits v h p = go (plain v)
 pub natural_twice : (notes : Notes) (os : List TypedObject) (v : Neutral)
     → kept_natural notes os (kept_natural notes os v) ≡ kept_natural notes os v
 unfolding kept_natural
-natural_twice notes os (Num n c) = go (nat_lt (word (n * 4 + c)) (2 ^ 32)) refl
-  where
-    go : (b : Bool) → nat_lt (word (n * 4 + c)) (2 ^ 32) ≡ b → kept_natural notes os (if b then Num n c else Junk) ≡
-        (if b then Num n c else Junk)
-    go true e = ap (λ b. if b then Num n c else Junk) e
-    go false e = refl
-natural_twice notes os (At a n c) = go (is_kept_at notes os a n c) refl
-  where
-    go : (b : Bool) → is_kept_at notes os a n c ≡ b → kept_natural notes os (if b then At a n c else Junk) ≡ (if b then At a n c else Junk)
-    go true e = ap (λ b. if b then At a n c else Junk) e
-    go false e = refl
+natural_twice notes os (Num n c) = cond_both (nat_lt (word (n * 4 + c)) (2 ^ 32)) (Num n c) Junk (λ z. kept_natural notes os z ≡ z)
+    (λ e. ap (λ b. if b then Num n c else Junk) e) (λ _. refl)
+natural_twice notes os (At a n c) = cond_both (is_kept_at notes os a n c) (At a n c) Junk (λ z. kept_natural notes os z ≡ z)
+    (λ e. ap (λ b. if b then At a n c else Junk) e) (λ _. refl)
 natural_twice notes os v = refl
 
 -- What a move keeps it keeps again.
 pub kept_twice : (notes : Notes) (os : List TypedObject) (size : Size) (v : Neutral)
     → kept notes os (Move size) (kept notes os (Move size) v) ≡ kept notes os (Move size) v
-kept_twice notes os sizes.Byte v = narrowed_twice 8 v (omega arith) (omega arith)
-kept_twice notes os sizes.Word v = narrowed_twice 16 v (omega arith) (omega arith)
-kept_twice notes os sizes.Dword v = narrowed_twice 32 v (omega arith) (omega arith)
-kept_twice notes os sizes.Qword v = refl
-kept_twice notes os sizes.Natural v = natural_twice notes os v
+kept_twice notes os Size.Byte v = narrowed_twice 8 v (omega arith) (omega arith)
+kept_twice notes os Size.Word v = narrowed_twice 16 v (omega arith) (omega arith)
+kept_twice notes os Size.Dword v = narrowed_twice 32 v (omega arith) (omega arith)
+kept_twice notes os Size.Qword v = refl
+kept_twice notes os Size.Natural v = natural_twice notes os v
 
-module _ (world : World) (a : Config) (f : FunctionFrame) (fs : List Frame) (note : FnNote) (s : State)
+module _ {world : World} {a : Config} {f : FunctionFrame} {fs : List Frame} {note : FnNote} {s : State}
     (st : TopSound world a f fs note s) where
   -- what an index adds
-  pub distance_fits : (i : Index) → FitsHere world a f fs note s st (distance_type (counted i)) (Num (index_pair i).n (index_pair i).c)
+  pub distance_fits : (i : Index) → FitsHere st (distance_type (counted i)) (Num (index_pair i).n (index_pair i).c)
   distance_fits i = go (counted i)
     where
-      wraps : (v : ℤ) → wrap64 v ≡ wrap64 v
-      wraps (pos n) = refl
-      wraps (negsuc n) = refl
-
-      go : (d : Distance) → FitsHere world a f fs note s st (distance_type d) (pair d.n d.c)
-      go d = ⊎_elim
-          (λ e. subst (λ b. FitsHere world a f fs note s st (if b then constant (wrap64 d.c)
-          else (if int_le (pos 1) d.n then lin d.n d.c else ty.Any)) (pair d.n d.c)) (sym e)
-          (same_fits world.notes (live_memory world a) (depth fs) f.saved (wrap64 d.c) (wrap64 d.c) (pair d.n d.c)
-          (ap (λ n. Num (wrap64 n) (wrap64 d.c)) ((Decides-int_eq d.n (pos 0)).0 e)) (wraps d.c)))
-          (λ e. subst (λ b. FitsHere world a f fs note s st (if b then constant (wrap64 d.c)
-          else (if int_le (pos 1) d.n then lin d.n d.c else ty.Any)) (pair d.n d.c)) (sym e) (units (int_le (pos 1) d.n)))
-          (cases_Bool (int_eq d.n (pos 0)))
-        where
-          units : (b : Bool) → FitsHere world a f fs note s st (if b then lin d.n d.c else ty.Any) (pair d.n d.c)
-          units true = lin_is world.notes (live_memory world a) (depth fs) f.saved d.n d.c (pair d.n d.c) refl
-          units false = tt
+      go : (d : Distance) → FitsHere st (distance_type d) (pair d.n d.c)
+      go d = choice_fits (seen st) (int_eq d.n (pos 0)) (constant (wrap64 d.c)) (if int_le (pos 1) d.n then lin d.n d.c else Ty.Any)
+          (pair d.n d.c) (λ e. same_fits (seen st) (wrap64 d.c) (wrap64 d.c) (pair d.n d.c)
+          (ap (λ n. Num (wrap64 n) (wrap64 d.c)) ((Decides-int_eq d.n (pos 0)).0 e)) (wraps d.c)) (λ _. units_fit (seen st) d.n d.c)
 
   -- A register's value moved by the index beside it, as a move keeps it.
   pub moved_fits : (size : Size) (r : ℕ) (i : Option Index) → r ≢ 0 → r < 8
-      → FitsHere world a f fs note s st (rules.kept size (with_index world.notes.shape (type_of s r) i))
+      → FitsHere st (rules.kept size (with_index world.notes.shape (type_of s r) i))
       (kept world.notes (live_memory world a).objects (Move size) (moved_by (a.registers r) (option_map index_pair i)))
   moved_fits size r i n l =
-      kept_fits world.notes (live_memory world a) (objects world a f fs note s st) (depth fs) f.saved size
-      (with_index world.notes.shape (type_of s r) i) _
+      kept_fits (seen st) (objects st) size (with_index world.notes.shape (type_of s r) i) _
       (with_index-known world.notes note world.notes.shape (type_of s r) i (st.state.registers r)).bounded (beside i)
     where
-      beside : (i : Option Index) → FitsHere world a f fs note s st (with_index world.notes.shape (type_of s r) i)
+      beside : (i : Option Index) → FitsHere st (with_index world.notes.shape (type_of s r) i)
           (moved_by (a.registers r) (option_map index_pair i))
-      beside None = register_fits world a f fs note s st r n l
-      beside (Some i) = sum_fits world.notes (live_memory world a) (depth fs) f.saved (type_of s r) (distance_type (counted i))
+      beside None = register_fits st r n l
+      beside (Some i) = sum_fits (seen st) (type_of s r) (distance_type (counted i))
           (a.registers r) (Num (index_pair i).n (index_pair i).c) (st.state.registers r).bounded
-          (distance_type-known world.notes note (counted i)).bounded (register_fits world a f fs note s st r n l) (distance_fits i)
+          (distance_type-known world.notes note (counted i)).bounded (register_fits st r n l) (distance_fits i)
 
   -- What a move loads it keeps.
-  pub loaded_kept : (size : Size) (r : ℕ) (b : Option Offset) (t : Ty) (q : OperandFits world a f fs note s st (Move size) r b t)
+  pub loaded_kept : (size : Size) (r : ℕ) (b : Option Offset) (t : Ty) (q : OperandFits st (Move size) r b t)
       → kept world.notes (live_memory world a).objects (Move size) q.value ≡ q.value
   loaded_kept size r b t q = ap (kept world.notes (live_memory world a).objects (Move size)) q.is
       ∙ kept_twice world.notes (live_memory world a).objects size q.whole ∙ sym q.is

@@ -1,15 +1,15 @@
 -- The rows of CALLEX and of BREAK 5.
 use Rattle.typing_laws.proofs.Common.{◌≡◌, ◌≢◌, ℕ, suc, ◌+◌, ◌<◌, ◌⊎◌, Bool, true, false, ◌&&◌, if◌then◌else◌, nat_eq, nat_lt, position}
-use Rattle.typing_laws.proofs.Common.{List, [], ◌∷◌, length, Option, Some, None, IfSome, Result, Ok, Err, slice_get, refl, sym, ap, ap₂}
-use Rattle.typing_laws.proofs.Common.{◌∙◌, subst, arith, inl, inr, ⊎_elim, find, position_or_len, and_from, and_parts, eqb-true, eqb-false}
-use Rattle.typing_laws.proofs.Common.{eq-eqb, lt-ltb, ltb-true, false≢true, find_at, same_Some, none-some, or_else, Extra, Nothing, Imm}
-use Rattle.typing_laws.proofs.Common.{Idx, Operand, local_fields, type_of, FnNote, Notes, WantParam, RuleName, State, Ty, load_at}
-use Rattle.typing_laws.proofs.Common.{extra_distance, both, needs, and_then, Loaded, all_lent_out, native_arguments, all_made, is_at}
-use Rattle.typing_laws.proofs.Common.{number_at, falls, Successors, beside_extra, extra_pair, loaded_by, moved_by, NeutralEnd, Native}
-use Rattle.typing_laws.proofs.Common.{MakeThunk, Site, Registers, FunctionFrame, Frame, Function, Host, Config, depth, Fits, FitsState}
-use Rattle.typing_laws.proofs.Common.{Move, Memory, AreWritten, kept_natural, Outcome, Gives, Stuck, ◌>>=◌, or_stuck, Neutral, At, Method}
-use Rattle.typing_laws.proofs.Common.{ThunkOf, null, World, Accepts, OutsWritten, Later, Preserves, WillFit, live_memory, Asks, Makes}
-use Rattle.typing_laws.proofs.Common.{here_of, FramesKeep, Sound, TopFits, fields_later, fits_later, items_later}
+use Rattle.typing_laws.proofs.Common.{List, [], ◌∷◌, length, Option, Some, None, IfSome, Ok, slice_get, refl, sym, ap, ap₂, ◌∙◌, subst}
+use Rattle.typing_laws.proofs.Common.{arith, inl, inr, ⊎_elim, find, position_or_len, and_from, and_parts, eqb-true, eqb-false, eq-eqb}
+use Rattle.typing_laws.proofs.Common.{lt-ltb, ltb-true, false≢true, find_at, same_Some, none-some, or_else, Extra, Nothing, Imm, Idx}
+use Rattle.typing_laws.proofs.Common.{Operand, local_fields, type_of, FnNote, Notes, WantParam, RuleName, State, Ty, load_at}
+use Rattle.typing_laws.proofs.Common.{extra_distance, both, needs, and_then, all_lent_out, native_arguments, all_made, is_at, number_at}
+use Rattle.typing_laws.proofs.Common.{falls, Successors, beside_extra, extra_pair, loaded_by, moved_by, NeutralEnd, Native, MakeThunk, Site}
+use Rattle.typing_laws.proofs.Common.{Registers, FunctionFrame, Frame, Function, Host, Config, depth, Fits, FitsState, Move, Memory}
+use Rattle.typing_laws.proofs.Common.{AreWritten, kept_natural, Outcome, Gives, Stuck, ◌>>=◌, or_stuck, Neutral, At, Method, ThunkOf, null}
+use Rattle.typing_laws.proofs.Common.{World, Accepts, OutsWritten, Later, Preserves, WillFit, live_memory, Asks, Makes, here_of, FramesKeep}
+use Rattle.typing_laws.proofs.Common.{Sound, TopFits, fields_later, fits_later, items_later, RuleAccess, Size, bit_or}
 use Rattle.std.specs.Option.{option_map}
 use Rattle.note_types.specs.{Passing.IsGiven, Records.IsResultNote}
 use Rattle.note_types.specs.declared.{notes.Signature.Signature, notes.Site.Site as SiteNote, spot.Spot.TheVariants.Place}
@@ -19,15 +19,10 @@ use Rattle.neutral_machine.specs.{Rows.at_place, Rows.base_at, Rows.call_native_
 use Rattle.host_model.specs.HostPlans.{site_of}
 use Rattle.invariant_laws.specs.{Asked.GivenByNative, Asked.GivenByType, Sound.ThunksFor}
 use Rattle.typing_laws.proofs.Operands.{load_fits, register_fits, some_ok, then_ok}
-use Rattle.typing_laws.proofs.{Rows.then_some, Rows.err_ok, Rows.ok_same, ArgumentsPass.both_none, ArgumentsPass.needs_true}
-use Rattle.typing_laws.proofs.{ArithRow.BesideFits, ArithRow.also_ok, Calls.after_call, Calls.called_fresh, CompareRow.either_field}
-use Rattle.typing_laws.proofs.{Context.TopSound, Context.same_locals, ItemsChanged.top_keeps, NativeArguments.Handed}
-use Rattle.typing_laws.proofs.NativeArguments.{arguments_handed}
-use Rattle.ebc_base.specs.Steps as steps
-use Rattle.ebc_insn.specs.declared.Size.TheVariants as sizes
-use Rattle.note_types.specs.declared.rule.RuleName.TheVariants as rule
-use Rattle.note_types.specs.declared.types.Ty.TheVariants as ty
-use Rattle.rules_base.specs.declared.access.Access.TheVariants as access
+use Rattle.typing_laws.proofs.Rows.{then_some, err_ok, ok_same, needs_true, either_ok, unless_ok, when_ok, when_some}
+use Rattle.typing_laws.proofs.{ArgumentsPass.both_none, ArithRow.BesideFits, ArithRow.also_ok, Calls.after_call, Calls.called_fresh}
+use Rattle.typing_laws.proofs.{CompareRow.either_field, Context.TopSound, Context.same_locals, Context.FitsHere, ItemsChanged.top_keeps}
+use Rattle.typing_laws.proofs.{NativeArguments.Handed, NativeArguments.arguments_handed}
 use Rattle.rules_flow.specs.Calls as rules_calls
 use Rattle.neutral_machine.specs.Rows as rows
 
@@ -35,11 +30,8 @@ use Rattle.neutral_machine.specs.Rows as rows
 
 -- what is found by its number is found
 position_found : {A : Type 0} (p : A → Bool) (xs : List A) (k : ℕ) → position p xs ≡ Some k → find p xs ≡ slice_get xs k
-position_found p xs k e = find_at p xs ∙ ap (slice_get xs) (go (nat_lt (position_or_len p xs) (length xs)) e)
-  where
-    go : (b : Bool) → (if b then Some (position_or_len p xs) else None) ≡ Some k → position_or_len p xs ≡ k
-    go true e = same_Some (position_or_len p xs) k e
-    go false e = absurd (none-some k e)
+position_found p xs k e = find_at p xs ∙ ap (slice_get xs)
+    (when_some (nat_lt (position_or_len p xs) (length xs)) _ k e (λ _ g. same_Some (position_or_len p xs) k g))
 
 -- the site at a place, and its signature
 pub record SignatureFound (notes : Notes) (place m : ℕ) (g : Signature) : Type 0 where
@@ -71,41 +63,34 @@ signature_found notes place m g e =
 
 -- ---- results of native methods
 
-result_unsaved : (o : Option Ty) (lent i : ℕ) → ((t : Ty) → o ≡ Some t → IsGiven t) → result_type o lent ≢ ty.Saved i
-result_unsaved (Some ty.Any) lent i h = λ e. absurd (h ty.Any refl)
-result_unsaved (Some (ty.Saved q)) lent i h = λ e. absurd (h (ty.Saved q) refl)
+result_unsaved : (o : Option Ty) (lent i : ℕ) → ((t : Ty) → o ≡ Some t → IsGiven t) → result_type o lent ≢ Ty.Saved i
+result_unsaved (Some Ty.Any) lent i h = λ e. absurd (h Ty.Any refl)
+result_unsaved (Some (Ty.Saved q)) lent i h = λ e. absurd (h (Ty.Saved q) refl)
 result_unsaved o lent i h = λ e. absurd cc
+
+both_written : (V : Memory) (d x y : ℕ) → AreWritten V d x → AreWritten V d y → AreWritten V d (bit_or x y)
+both_written V d x y h k f q = ⊎_elim (λ e. h f e) (λ e. k f e) (either_field x y f q)
 
 -- what a native call gives fits the result's type, and says which fields are written
 given_fits : (notes : Notes) (V : Memory) (d : ℕ) (saved : Registers) (ps : List WantParam) (vs : List Neutral) (o : Option Ty)
     (written lent : ℕ) (v : Neutral) → ((t : Ty) → o ≡ Some t → IsGiven t) → (OutsWritten V ps vs → AreWritten V d lent)
     → AreWritten V d written → GivenByType notes ps vs V v o
     → Fits notes V d saved (result_type o lent) v × AreWritten V d (written_after o written lent)
-given_fits notes V d saved ps vs None written lent v g out w h =
-    (tt, λ x q. ⊎_elim (λ y. w x y) (λ y. out h x y) (either_field written lent x q))
-given_fits notes V d saved ps vs (Some (ty.Status k)) written lent v g out w h = (⊎_elim (λ e. inl e) (λ s. inr (s.0, out s.1)) h, w)
-given_fits notes V d saved ps vs (Some ty.Any) written lent v g out w h = absurd (g ty.Any refl)
-given_fits notes V d saved ps vs (Some (ty.Lin n c)) written lent v g out w h = absurd (g (ty.Lin n c) refl)
-given_fits notes V d saved ps vs (Some (ty.Scaled n c hi)) written lent v g out w h = absurd (g (ty.Scaled n c hi) refl)
-given_fits notes V d saved ps vs (Some (ty.Local x)) written lent v g out w h = absurd (g (ty.Local x) refl)
-given_fits notes V d saved ps vs (Some (ty.Lent cell)) written lent v g out w h = absurd (g (ty.Lent cell) refl)
-given_fits notes V d saved ps vs (Some (ty.SignedStatus k)) written lent v g out w h = absurd (g (ty.SignedStatus k) refl)
-given_fits notes V d saved ps vs (Some ty.Mask) written lent v g out w h = absurd (g ty.Mask refl)
-given_fits notes V d saved ps vs (Some ty.Entry) written lent v g out w h = absurd (g ty.Entry refl)
-given_fits notes V d saved ps vs (Some (ty.Method q)) written lent v g out w h = absurd (g (ty.Method q) refl)
-given_fits notes V d saved ps vs (Some (ty.ThunkAt q)) written lent v g out w h = absurd (g (ty.ThunkAt q) refl)
-given_fits notes V d saved ps vs (Some (ty.Saved q)) written lent v g out w h = absurd (g (ty.Saved q) refl)
-given_fits notes V d saved ps vs o written lent v g out w h =
-    (h.0, λ x q. ⊎_elim (λ y. w x y) (λ y. out h.1 x y) (either_field written lent x q))
+given_fits notes V d saved ps vs None written lent v g out w h = (tt, both_written V d written lent w (out h))
+given_fits notes V d saved ps vs (Some (Ty.Status k)) written lent v g out w h = (⊎_elim (λ e. inl e) (λ s. inr (s.0, out s.1)) h, w)
+given_fits notes V d saved ps vs (Some (Ty.Int lo hi div)) written lent v g out w h = (h.0, both_written V d written lent w (out h.1))
+given_fits notes V d saved ps vs (Some (Ty.Ptr s k n c may)) written lent v g out w h = (h.0, both_written V d written lent w (out h.1))
+given_fits notes V d saved ps vs (Some Ty.Handle) written lent v g out w h = (h.0, both_written V d written lent w (out h.1))
+given_fits notes V d saved ps vs (Some t) written lent v g out w h = absurd (g t refl)
 
-module _ (world : World) (a : Config) (f : FunctionFrame) (fs : List Frame) (note : FnNote) (s : State)
+module _ {world : World} {a : Config} {f : FunctionFrame} {fs : List Frame} {note : FnNote} {s : State}
     (st : TopSound world a f fs note s) where
   spotted : ℕ → Config
   spotted p = record a { spot = Place p }
 
   -- the frame will fit the state after the call, once it is given what a native call gives
   native_waits : (p : ℕ) (g : Signature) (h : Handed world.notes note (depth fs) (live_memory world a) s.written st.top.written
-      (same_locals world a f fs note s st) f g.params f.items s.items) → ((t : Ty) → g.result ≡ Some t → IsGiven t)
+      (same_locals st) f g.params f.items s.items) → ((t : Ty) → g.result ≡ Some t → IsGiven t)
       → WillFit world.notes (live_memory world a) a.made (depth fs) f (native_called s g.result (all_lent_out g.params s.items)) a.registers
       (GivenByNative world.notes g h.args)
   native_waits p g h good = record { fits = fits }
@@ -135,66 +120,45 @@ module _ (world : World) (a : Config) (f : FunctionFrame) (fs : List Frame) (not
 
   -- ---- the target
 
-  method_is : (t : Ty) (m : ℕ) → method_of t ≡ Ok m → t ≡ ty.Method m
-  method_is (ty.Method k) m e = ap ty.Method (ok_same k m e)
-  method_is t m e = absurd (err_ok rule.Form m e)
+  method_is : (t : Ty) (m : ℕ) → method_of t ≡ Ok m → t ≡ Ty.Method m
+  method_is (Ty.Method k) m e = ap Ty.Method (ok_same k m e)
+  method_is t m e = absurd (err_ok RuleName.Form m e)
 
   -- the target is the method that the rules find
   target_is : (far rel : Bool) (op : Operand) (extra : Extra) (m : ℕ) → BesideFits op extra
       → callee_method world.notes note s far rel op extra ≡ Ok m → (rel ≡ false)
       × (native_target world a (beside_extra op extra) ≡ Gives (Method m))
   unfolding callee_method kept_natural
-  target_is true rel op extra m b e = absurd (err_ok rule.Form m e)
-  target_is false true op extra m b e = absurd (err_ok rule.Form m e)
-  target_is false false op extra m b e = (refl, zero_reg (nat_eq op.reg 0) refl e)
+  target_is true rel op extra m b e = absurd (err_ok RuleName.Form m e)
+  target_is false true op extra m b e = absurd (err_ok RuleName.Form m e)
+  target_is false false op extra m b e = (
+    refl,
+    unless_ok (nat_eq op.reg 0) _ _ m e (λ z e0. either_ok op.indirect _ _ m e0
+        (λ g e1. then_ok (load_at world.notes note s RuleAccess.Natural op.reg (extra_distance extra)) loaded_method m e1 (λ t e2 e3.
+        when_ok t.made _ _ m e3 (λ q e4.
+        let n = b.memory g in
+        let r = load_fits st (Move Size.Natural) op.reg (extra_pair extra) (extra_distance extra) t b.register n.0 n.1 e2 q in
+        ap₂ whole g z ∙ r.loaded ∙ ap Gives (subst (λ y. FitsHere st y r.value) (method_is t.ty m e4) r.fits))))
+        (λ g e1. direct extra g z e1)),
+  )
     where
       whole : Bool → Bool → Outcome Neutral
-      whole i z = if i then (if z then Stuck else loaded_by world a (Move sizes.Natural) op.reg (extra_pair extra))
+      whole i z = if i then (if z then Stuck else loaded_by world a (Move Size.Natural) op.reg (extra_pair extra))
           else Gives (kept_natural world.notes (live_memory world a).objects (moved_by (base_at a op.reg) (extra_pair extra)))
 
-      memory : op.indirect ≡ true → nat_eq op.reg 0 ≡ false → steps.◌>>=◌
-          (load_at world.notes note s access.Natural op.reg (extra_distance extra)) loaded_method ≡ Ok m
-          → whole op.indirect (nat_eq op.reg 0) ≡ Gives (Method m)
-      memory g z e = then_ok (load_at world.notes note s access.Natural op.reg (extra_distance extra)) loaded_method m e
-          (λ t e1 e2. made t t.made refl e1 e2)
-        where
-          made : (t : Loaded) (j : Bool) → t.made ≡ j → load_at world.notes note s access.Natural op.reg (extra_distance extra) ≡ Ok t
-              → (if j then method_of t.ty else Err rule.Thunk) ≡ Ok m → whole op.indirect (nat_eq op.reg 0) ≡ Gives (Method m)
-          made t false q e1 e2 = absurd (err_ok rule.Thunk m e2)
-          made t true q e1 e2 =
-              let n = b.memory g in
-              let r = load_fits world a f fs note s st (Move sizes.Natural) op.reg (extra_pair extra)
-              (extra_distance extra) t b.register n.0 n.1 e1 q in
-              let v : r.value ≡ Method m = subst (λ y. Fits world.notes (live_memory world a) (depth fs) f.saved y r.value)
-              (method_is t.ty m e2) r.fits in
-              ap₂ whole g z ∙ r.loaded ∙ ap Gives v
-
       direct : (extra : Extra) → op.indirect ≡ false → nat_eq op.reg 0 ≡ false → direct_method s op.reg extra ≡ Ok m
-          → (if op.indirect then (if nat_eq op.reg 0 then Stuck else loaded_by world a (Move sizes.Natural) op.reg (extra_pair extra))
+          → (if op.indirect then (if nat_eq op.reg 0 then Stuck else loaded_by world a (Move Size.Natural) op.reg (extra_pair extra))
           else Gives (kept_natural world.notes (live_memory world a).objects (moved_by (base_at a op.reg) (extra_pair extra)))) ≡ Gives
           (Method m)
       direct Nothing g z e =
-          let v : a.registers op.reg ≡ Method m = subst (λ y. Fits world.notes (live_memory world a) (depth fs) f.saved y
-          (a.registers op.reg)) (method_is (type_of s op.reg) m e)
-          (register_fits world a f fs note s st op.reg (eqb-false op.reg 0 z) b.register) in
-          ap (λ i. if i then (if nat_eq op.reg 0 then Stuck else loaded_by world a (Move sizes.Natural) op.reg None)
+          let v : a.registers op.reg ≡ Method m = subst (λ y. FitsHere st y (a.registers op.reg)) (method_is (type_of s op.reg) m e)
+          (register_fits st op.reg (eqb-false op.reg 0 z) b.register) in
+          ap (λ i. if i then (if nat_eq op.reg 0 then Stuck else loaded_by world a (Move Size.Natural) op.reg None)
           else Gives (kept_natural world.notes (live_memory world a).objects (base_at a op.reg))) g
           ∙ ap (λ i. Gives (kept_natural world.notes (live_memory world a).objects (if i then null else a.registers op.reg))) z
           ∙ ap (λ x. Gives (kept_natural world.notes (live_memory world a).objects x)) v
-      direct (Imm v) g z e = absurd (err_ok rule.Form m e)
-      direct (Idx i) g z e = absurd (err_ok rule.Form m e)
-
-      side : (j : Bool) → op.indirect ≡ j → nat_eq op.reg 0 ≡ false
-          → (if j then steps.◌>>=◌ (load_at world.notes note s access.Natural op.reg (extra_distance extra)) loaded_method
-          else direct_method s op.reg extra) ≡ Ok m → whole op.indirect (nat_eq op.reg 0) ≡ Gives (Method m)
-      side true g z e = memory g z e
-      side false g z e = direct extra g z e
-
-      zero_reg : (j : Bool) → nat_eq op.reg 0 ≡ j → (if j then Err rule.Form
-          else (if op.indirect then steps.◌>>=◌ (load_at world.notes note s access.Natural op.reg (extra_distance extra)) loaded_method
-          else direct_method s op.reg extra)) ≡ Ok m → whole op.indirect (nat_eq op.reg 0) ≡ Gives (Method m)
-      zero_reg true z e = absurd (err_ok rule.Form m e)
-      zero_reg false z e = side op.indirect refl z e
+      direct (Imm v) g z e = absurd (err_ok RuleName.Form m e)
+      direct (Idx i) g z e = absurd (err_ok RuleName.Form m e)
 
   -- ---- CALLEX
 
@@ -205,33 +169,28 @@ module _ (world : World) (a : Config) (f : FunctionFrame) (fs : List Frame) (not
   unfolding call_native_row rules_calls.call_native_row native_call spotted
   native_fits site far rel op extra x b inside e =
       then_ok (callee_method world.notes note s far rel op extra) _ x e (λ m e1 e2.
-      then_ok (or_else rule.Site (signature_at world.notes site.place m)) (native_call world.notes note s) x e2 (λ g e3 e4.
-      some_ok rule.Site (signature_at world.notes site.place m) g e3 (λ e5.
+      then_ok (or_else RuleName.Site (signature_at world.notes site.place m)) (native_call world.notes note s) x e2 (λ g e3 e4.
+      some_ok RuleName.Site (signature_at world.notes site.place m) g e3 (λ e5.
       also_ok (Ok (falls (native_called s g.result (all_lent_out g.params s.items))))
-      (both (needs rule.Thunk (all_made world.notes s)) (native_arguments
+      (both (needs RuleName.Thunk (all_made world.notes s)) (native_arguments
       (local_fields world.notes note) s.written g.params s.items)) x e4 (λ e6 e7.
-      let q = both_none (needs rule.Thunk (all_made world.notes s))
+      let q = both_none (needs RuleName.Thunk (all_made world.notes s))
       (native_arguments (local_fields world.notes note) s.written g.params s.items) e7 in
-      goal m g (target_is far rel op extra m b e1) (signature_found world.notes site.place m g e5) (needs_true rule.Thunk _ q.0) q.1
-      (falls_is _ x e6)))))
+      goal m g (target_is far rel op extra m b e1) (signature_found world.notes site.place m g e5) (needs_true RuleName.Thunk _ q.0) q.1
+      (ok_same _ x e6)))))
     where
-      falls_is : (y x : Successors) → ◌≡◌ {A = Result Successors RuleName} (Ok y) (Ok x) → y ≡ x
-      falls_is y x e = cc
-
       Goal : Outcome (NeutralEnd × Config) → Type 0
       Goal o = Accepts (λ (y : NeutralEnd × Config). (v : Neutral) × (y.0 ≡ Native v) × Asks world site x a f fs v y.1) o
 
       goal : (m : ℕ) (g : Signature) → (rel ≡ false) × (native_target world a (beside_extra op extra) ≡ Gives (Method m))
           → SignatureFound world.notes site.place m g → all_made world.notes s ≡ true
           → native_arguments (local_fields world.notes note) s.written g.params s.items ≡ None
-          → falls (native_called s g.result (all_lent_out g.params s.items)) ≡ x
-          → Goal (if rel then Stuck else (native_target world a
+          → falls (native_called s g.result (all_lent_out g.params s.items)) ≡ x → Goal (if rel then Stuck else (native_target world a
           (beside_extra op extra) >>= (λ v. at_place world a site.next >>= (λ b. Gives (Native v, b)))))
       goal m g t found made args out =
           let sig = st.typed.notes.signatures found.number g found.there in
           let h = arguments_handed world.notes note (depth fs) (live_memory world a) s.written st.top.written
-          (same_locals world a f fs note s st) f g.params f.items s.items sig.params st.state.slots
-          (top_keeps world a f fs note s st).0.slots args st.top.items in
+          (same_locals st) f g.params f.items s.items sig.params st.state.slots (top_keeps st).0.slots args st.top.items in
           let good : (t : Ty) → g.result ≡ Some t → IsGiven t = λ t q. result_given g.result sig_result t q in
           let next_in : site.next < world.image_size = ⊎_elim (λ q. absurd
           (none-some _ (sym q ∙ ap (λ (y : Successors). y.fall) (sym out)))) (λ q. q) inside in
@@ -311,21 +270,20 @@ module _ (world : World) (a : Config) (f : FunctionFrame) (fs : List Frame) (not
       → Accepts (λ (y : NeutralEnd × Config). (n : ℕ) × (y.0 ≡ MakeThunk n) × Makes world site x a f fs n y.1)
       (rows.break_row world a site.next code)
   unfolding break_row rows.break_row spotted one_more
-  break_fits site code x inside e = go (nat_eq code 5) refl e
+  break_fits site code x inside e = when_ok (nat_eq code 5) _ _ x e (λ q e1.
+      subst (λ c. Goal (rows.break_row world a site.next c)) (sym (eqb-true code 5 q))
+      (when_ok (is_next_thunk world.notes s (type_of s 7)) _ _ x e1 (λ t e2. thunk (type_of s 7) refl t (ok_same _ x e2))))
     where
       Goal : Outcome (NeutralEnd × Config) → Type 0
       Goal o = Accepts (λ (y : NeutralEnd × Config). (n : ℕ) × (y.0 ≡ MakeThunk n) × Makes world site x a f fs n y.1) o
 
-      falls_is : (y x : Successors) → ◌≡◌ {A = Result Successors RuleName} (Ok y) (Ok x) → y ≡ x
-      falls_is y x e = cc
-
-      made : (i : ℕ) → type_of s 7 ≡ ty.ThunkAt i → (nat_eq i s.made && nat_lt i (length world.notes.thunk)) ≡ true
+      made : (i : ℕ) → type_of s 7 ≡ Ty.ThunkAt i → (nat_eq i s.made && nat_lt i (length world.notes.thunk)) ≡ true
           → falls (with_thunk s) ≡ x → Goal (rows.break_row world a site.next 5)
       made i t q out =
           let p = and_parts (nat_eq i s.made) (nat_lt i (length world.notes.thunk)) q in
           let e1 : i ≡ a.made = eqb-true i s.made p.0 ∙ sym st.top.made_are in
           let l : a.made < length world.notes.thunk = (let y = ltb-true i (length world.notes.thunk) p.1 in omega (arith, y, e1)) in
-          let v : a.registers 7 ≡ At (ThunkOf i) 0 0 = subst (λ y. Fits world.notes (live_memory world a) (depth fs) f.saved y
+          let v : a.registers 7 ≡ At (ThunkOf i) 0 0 = subst (λ y. FitsHere st y
           (a.registers 7)) t (st.top.registers 7 (omega arith) (omega arith)) in
           let next_in : site.next < world.image_size = ⊎_elim (λ q. absurd
           (none-some _ (sym q ∙ ap (λ (y : Successors). y.fall) (sym out)))) (λ q. q) inside in
@@ -348,14 +306,7 @@ module _ (world : World) (a : Config) (f : FunctionFrame) (fs : List Frame) (not
             },
           ))
 
-      thunk : (t : Ty) → type_of s 7 ≡ t → (b : Bool) → is_next_thunk world.notes s t ≡ b
-          → (if b then Ok (falls (with_thunk s)) else Err rule.Thunk) ≡ Ok x → Goal (rows.break_row world a site.next 5)
-      thunk t h false q e = absurd (err_ok rule.Thunk x e)
-      thunk (ty.ThunkAt i) h true q e = made i h q (falls_is _ x e)
-      thunk t h b q e = absurd (false≢true q)
-
-      go : (b : Bool) → nat_eq code 5 ≡ b → (if b then (if is_next_thunk world.notes s (type_of s 7) then Ok (falls (with_thunk s))
-          else Err rule.Thunk) else Err rule.Form) ≡ Ok x → Goal (rows.break_row world a site.next code)
-      go false q e = absurd (err_ok rule.Form x e)
-      go true q e = subst (λ c. Goal (rows.break_row world a site.next c)) (sym (eqb-true code 5 q))
-          (thunk (type_of s 7) refl (is_next_thunk world.notes s (type_of s 7)) refl e)
+      thunk : (t : Ty) → type_of s 7 ≡ t → is_next_thunk world.notes s t ≡ true → falls (with_thunk s) ≡ x
+          → Goal (rows.break_row world a site.next 5)
+      thunk (Ty.ThunkAt i) h q out = made i h q out
+      thunk t h q out = absurd (false≢true q)

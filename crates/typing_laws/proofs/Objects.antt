@@ -1,7 +1,7 @@
 -- Typed objects: small ones of well-formed shapes, and where their instances start.
-use Rattle.typing_laws.proofs.Common.{◌≡◌, ℕ, suc, ◌+◌, ◌*◌, ◌/◌, ◌^◌, ◌<◌, ◌≤◌, true, ◌&&◌, if◌then◌else◌, nat_lt, nat_eq, List}
-use Rattle.typing_laws.proofs.Common.{Option, Some, None, slice_get, ap, ap₂, ◌∙◌, subst, arith, pos, mul-le-mul_right, lt-ltb, eq-eqb}
-use Rattle.typing_laws.proofs.Common.{and_from, div-mul-add, wrap64, IsShape, size_at, Notes, Shape, ObjectOf, Neutral, At, word, shape_of}
+use Rattle.typing_laws.proofs.Common.{◌≡◌, ℕ, suc, ◌+◌, ◌*◌, ◌/◌, ◌^◌, ◌<◌, ◌≤◌, true, ◌&&◌, if◌then◌else◌, nat_lt, nat_eq, List, Option}
+use Rattle.typing_laws.proofs.Common.{Some, None, slice_get, ap, ap₂, ◌∙◌, subst, arith, pos, mul-le-mul_right, lt-ltb, eq-eqb, and_from}
+use Rattle.typing_laws.proofs.Common.{div-mul-add, wrap64, IsShape, size_at, Notes, Shape, ObjectOf, Neutral, At, word, shape_of}
 use Rattle.typing_laws.proofs.Common.{TypedObject, IsPointer, Instance, instance_at, instance_of, is_kept_at}
 use Rattle.host_model.specs.Placements.{object_bytes}
 use Rattle.neutral_machine.specs.Operations.{starts_if, extent_if}

@@ -8,10 +8,8 @@ use Rattle.typing_laws.proofs.Common.{LocalsOf, FunctionFrame, frame_locals, Mem
 use Rattle.typing_laws.proofs.Common.{Offset, find_field, item_units, item_bytes, located_among}
 use Rattle.rules_base.specs.Places.{local_at, past, slot_size}
 use Rattle.neutral_machine.specs.Locations.{parameter_at}
-use Rattle.typing_laws.proofs.{Rows.then_some, Rows.if_some, Located.find_first, Located.cell_positive, Pointed.FieldFound}
+use Rattle.typing_laws.proofs.{Rows.then_some, Rows.if_some, Rows.when_some, Located.find_first, Located.cell_positive, Pointed.FieldFound}
 use Rattle.typing_laws.proofs.{Pointed.field_found, Pointed.CellThere}
-use Rattle.note_types.specs.declared.items.Item.TheVariants as item
-use Rattle.rules_base.specs.declared.place.Place.TheVariants as place
 use Rattle.rules_base.specs.Places as rules
 
 -- no field meets a test
@@ -28,17 +26,15 @@ units_are Q Q v e = (refl, refl)
 units_are D D v e = (refl, refl)
 units_are c t v e = absurd cc
 
-same_pos : (a b : ℕ) → pos a ≡ pos b → a ≡ b
+pub same_pos : (a b : ℕ) → pos a ≡ pos b → a ≡ b
 same_pos a b e = cc
 
 -- what lies past a size
 past_some : {P : Type 0} (size : Pair) (n c : ℕ) (rest : ℕ → ℕ → Option Place) (p : Place) → past size n c rest ≡ Some p
     → (size.n ≤ n → size.c ≤ c → rest (n - size.n) (c - size.c) ≡ Some p → P) → P
-past_some {P} size n c rest p h k = go (nat_le size.n n && nat_le size.c c) refl h
-  where
-    go : (b : Bool) → (nat_le size.n n && nat_le size.c c) ≡ b → (if b then rest (n - size.n) (c - size.c) else None) ≡ Some p → P
-    go true e g = let q = and_parts (nat_le size.n n) (nat_le size.c c) e in k (leb-true _ _ q.0) (leb-true _ _ q.1) g
-    go false e g = absurd (none-some p g)
+past_some size n c rest p h k = when_some (nat_le size.n n && nat_le size.c c) _ p h (λ e g.
+    let q = and_parts (nat_le size.n n) (nat_le size.c c) e in
+    k (leb-true _ _ q.0) (leb-true _ _ q.1) g)
 
 -- the locals are among these items
 abbrev pub any_locals : List StackItem → Bool
@@ -56,7 +52,7 @@ module _ (notes : Notes) (m : Memory) (d : ℕ) (f : FunctionFrame) (Good : Para
     pub value : Neutral
     pub located : l ≡ Some (ParamAt (j + i))
     pub there : slice_get is i ≡ Some (Pushed param.kind value)
-    pub place_is : p ≡ place.Parameter param.kind param.ty
+    pub place_is : p ≡ Place.Parameter param.kind param.ty
     pub fits : Fits notes m d f.saved param.ty value
     pub good : Good param
 
@@ -107,7 +103,7 @@ module _ (notes : Notes) (m : Memory) (d : ℕ) (f : FunctionFrame) (Good : Para
       go : ((n1 c1 : ℕ) → at.n ≡ n0 + item_units (Pushed kind v) + n1 → at.c ≡ c0 + item_bytes (Pushed kind v) + c1
           → rules.parameter_at ps n1 c1 ≡ Some p → ParamNamed is (suc j) p
           (parameter_at at (suc j) (n0 + item_units (Pushed kind v)) (c0 + item_bytes (Pushed kind v)) is)) → (b : Bool)
-          → (nat_eq n 0 && nat_eq c 0) ≡ b → (if b then Some (place.Parameter q.kind q.ty)
+          → (nat_eq n 0 && nat_eq c 0) ≡ b → (if b then Some (Place.Parameter q.kind q.ty)
           else past (slot_size q.kind) n c (rules.parameter_at ps)) ≡ Some p
           → ParamNamed (Pushed kind v ∷ is) j p (parameter_at at j n0 c0 (Pushed kind v ∷ is))
       go again true e g =
@@ -135,9 +131,9 @@ module _ (notes : Notes) (m : Memory) (d : ℕ) (f : FunctionFrame) (Good : Para
 
   -- what the rules say lies there is found there
   pub record OnStack (params : List StackItem) (p : Place) (l : Location) : Type 0 where
-    pub names : ((x : ℕ) × (cell : Cell) × (p ≡ place.Local x cell) × (l ≡ CellAt (FieldOfLocals d x))
+    pub names : ((x : ℕ) × (cell : Cell) × (p ≡ Place.Local x cell) × (l ≡ CellAt (FieldOfLocals d x))
         × CellThere notes m d (FieldOfLocals d x) cell)
-        ⊎ ((j : ℕ) × (q : Param) × (v : Neutral) × (p ≡ place.Parameter q.kind q.ty) × (l ≡ ParamAt j)
+        ⊎ ((j : ℕ) × (q : Param) × (v : Neutral) × (p ≡ Place.Parameter q.kind q.ty) × (l ≡ ParamAt j)
         × (slice_get params j ≡ Some (Pushed q.kind v)) × Fits notes m d f.saved q.ty v × Good q)
 
   module _ (fields : List Field) (size : Pair) (same : (s : Shape) → frame_locals notes f.func ≡ Some s → (fields ≡ s.fields)
@@ -160,14 +156,14 @@ module _ (notes : Notes) (m : Memory) (d : ℕ) (f : FunctionFrame) (Good : Para
               r.located ∙ ap (λ x. Some (ParamAt x)) (let e0 : 0 + r.i ≡ r.i = omega arith in e0),
               record { names = inr (r.i, r.param, r.value, r.place_is, refl, r.there, r.fits, r.good) },
             )
-    stack_named at n0 c0 n c (Pushed kind v ∷ is) (item.Slot k t ∷ xs) p has en ec g h =
+    stack_named at n0 c0 n c (Pushed kind v ∷ is) (Item.Slot k t ∷ xs) p has en ec g h =
         past_some (slot_size k) n c (stack_at fields size ps xs) p h (λ l r y.
         let u = units_are kind k v g.0.0 in
         let u0 = u.0 in
         let u1 = u.1 in
         stack_named at (n0 + item_units (Pushed kind v)) (c0 + item_bytes (Pushed kind v)) (n - (slot_size k).n)
         (c - (slot_size k).c) is xs p has (omega (arith, en, u0, l)) (omega (arith, ec, u1, r)) g.1 y)
-    stack_named at n0 c0 n c (LocalsOf s ∷ is) (item.Locals ∷ xs) p has en ec g h =
+    stack_named at n0 c0 n c (LocalsOf s ∷ is) (Item.Locals ∷ xs) p has en ec g h =
         go (λ n1 c1 a b y. stack_named at (n0 + s.n) (c0 + s.c) n1 c1 is xs p (λ _. has refl) a b g.1 y) (local_at fields n c) refl h
       where
         facts : (fields ≡ s.fields) × (size.n ≡ s.n) × (size.c ≡ s.c) × IsShape s
@@ -196,7 +192,7 @@ module _ (notes : Notes) (m : Memory) (d : ℕ) (f : FunctionFrame) (Good : Para
                 let x2 = eqb-true _ _ a.1 in
                 r.first k w l (ap (λ i. slice_get i k) facts.0 ∙ q) (omega (arith, x1, en, en1)) (omega (arith, x2, ec, ec1))
 
-        found : (i : ℕ) (y : Field) → FieldFound fields (record { n = pos n; c = pos c }) i y → p ≡ place.Local i y.cell → (l : Location)
+        found : (i : ℕ) (y : Field) → FieldFound fields (record { n = pos n; c = pos c }) i y → p ≡ Place.Local i y.cell → (l : Location)
             × (located_among at d n0 c0 params (LocalsOf s ∷ is) ≡ Some l) × OnStack params p l
         found i y r e = (
           CellAt (FieldOfLocals d i),
@@ -255,10 +251,10 @@ module _ (notes : Notes) (m : Memory) (d : ℕ) (f : FunctionFrame) (Good : Para
             then_some (field_number_at fields (record { n = pos n; c = pos c })) _ q e
             (λ i e1 h1. then_some (and_then (slice_get fields i) (λ y. Some y.cell)) _ q h1
             (λ w e2 h2. then_some (slice_get fields i) (λ y. Some y.cell) w e2
-            (λ y e3 h3. if_some (nat_lt i 64) (place.Local i w) q h2 (λ l h4.
+            (λ y e3 h3. if_some (nat_lt i 64) (Place.Local i w) q h2 (λ l h4.
             found i y (field_found fields (record { n = pos n; c = pos c }) i y e1 e3)
-            (sym (same_Some q p h) ∙ sym h4 ∙ ap (place.Local i) (sym (same_Some y.cell w h3)))))))
+            (sym (same_Some q p h) ∙ sym h4 ∙ ap (Place.Local i) (sym (same_Some y.cell w h3)))))))
     stack_named at n0 c0 n c [] (x ∷ xs) p has en ec g h = absurd g
     stack_named at n0 c0 n c (i ∷ is) [] p has en ec g h = absurd g
-    stack_named at n0 c0 n c (Pushed kind v ∷ is) (item.Locals ∷ xs) p has en ec g h = absurd g.0
-    stack_named at n0 c0 n c (LocalsOf s ∷ is) (item.Slot k t ∷ xs) p has en ec g h = absurd g.0
+    stack_named at n0 c0 n c (Pushed kind v ∷ is) (Item.Locals ∷ xs) p has en ec g h = absurd g.0
+    stack_named at n0 c0 n c (LocalsOf s ∷ is) (Item.Slot k t ∷ xs) p has en ec g h = absurd g.0

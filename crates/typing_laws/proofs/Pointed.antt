@@ -10,9 +10,8 @@ use Rattle.typing_laws.proofs.Common.{Location, CellAt, Offset, located_past, on
 use Rattle.rules_base.specs.declared.place.Reach.{Reach}
 use Rattle.rules_base.specs.Places.{begins_at, field_place, instance_field, is_nowhere, local_field}
 use Rattle.host_model.specs.Values.{Anchor}
-use Rattle.typing_laws.proofs.{Rows.then_some, Rows.if_some, Rows.wrap_add, SumsFit.moved_pair, Objects.ObjectsFit, Located.IsFirstAt}
-use Rattle.typing_laws.proofs.Located.{field_located}
-use Rattle.rules_base.specs.declared.place.Place.TheVariants as place
+use Rattle.typing_laws.proofs.Rows.{then_some, if_some, wrap_add, when_some, bound_some}
+use Rattle.typing_laws.proofs.{SumsFit.moved_pair, Objects.ObjectsFit, Located.IsFirstAt, Located.field_located}
 use Rattle.neutral_machine.specs.Memory as memory
 use Rattle.neutral_machine.specs.Locations as locations
 
@@ -88,9 +87,9 @@ module _ (notes : Notes) (m : Memory) (d : ℕ) where
 
   -- a place of the rules is a location of the neutral machine; a cell of an object or of a lower frame holds something
   abbrev pub PlaceNames : Place → Location → Type 0
-  PlaceNames (place.Object cell null) (CellAt p) = CellThere p cell × ((v : Neutral) × (m.cells p ≡ Some v)) × IsBoundedCell cell
-  PlaceNames (place.Local x cell) (CellAt p) = (p ≡ FieldOfLocals d x) × CellThere p cell
-  PlaceNames (place.ThunkCell i) (locations.ThunkAt j) = (i ≡ j) × (i < length notes.thunk)
+  PlaceNames (Place.Object cell null) (CellAt p) = CellThere p cell × ((v : Neutral) × (m.cells p ≡ Some v)) × IsBoundedCell cell
+  PlaceNames (Place.Local x cell) (CellAt p) = (p ≡ FieldOfLocals d x) × CellThere p cell
+  PlaceNames (Place.ThunkCell i) (locations.ThunkAt j) = (i ≡ j) × (i < length notes.thunk)
   PlaceNames _ _ = ⊥
 
   -- where an address names a place
@@ -101,7 +100,7 @@ module _ (notes : Notes) (m : Memory) (d : ℕ) where
 
   -- the place may be null
   abbrev pub may_be_null : Place → Bool
-  may_be_null (place.Object cell null) = null
+  may_be_null (Place.Object cell null) = null
   may_be_null _ = false
 
 module _ (notes : Notes) (m : Memory) (ok : ObjectsFit notes m.objects) (cells : CellsFit notes m) (note : FnNote) (d : ℕ)
@@ -130,11 +129,10 @@ module _ (notes : Notes) (m : Memory) (ok : ObjectsFit notes m.objects) (cells :
       let at_cell = moved_at (ObjectOf f.k) (f.j * (shape_of notes f.object.shape).n)
       (f.j * (shape_of notes f.object.shape).c) n c v b t z.n z.c place_is h r.units r.bytes in
       let found = field_located notes m.objects ok f.k f.j i f.object z f.there inside g first in
-      let field_is : memory.cell_field notes m (FieldOf f.k f.j i) ≡ Some z =
-      ap (λ q. option_and_then (field_in notes f.j i) q) f.there
+      let field_is : memory.cell_field notes m (FieldOf f.k f.j i) ≡ Some z = ap (λ q. option_and_then (field_in notes f.j i) q) f.there
       ∙ ap (λ q. if q then slice_get (shape_of notes f.object.shape).fields i else None) (lt-ltb f.j f.object.count inside) ∙ g in
-      subst (λ q. Named notes m d (moved_by v b) q) (ap (λ q. place.Object q false) (same_Some z.cell y h4)
-      ∙ same_Some (place.Object y false) p h3) (record {
+      subst (λ q. Named notes m d (moved_by v b) q) (ap (λ q. Place.Object q false) (same_Some z.cell y h4)
+      ∙ same_Some (Place.Object y false) p h3) (record {
         location = CellAt (FieldOf f.k f.j i);
         located = ap (located_past notes m.objects) at_cell ∙ found;
         names = (record { field = z; there = field_is; cell_is = refl }, cells.all f.k f.j i z field_is, counted f.k f.j i z field_is);
@@ -146,46 +144,29 @@ module _ (notes : Notes) (m : Memory) (ok : ObjectsFit notes m.objects) (cells :
   local_named : (x : ℕ) (v : Neutral) (b : Option Offset) (t : Distance) (p : Place) → IsBeside b t → Fits notes m d saved (Local x) v
       → (if is_nowhere t then local_field (local_fields notes note) x else None) ≡ Some p → Named notes m d (moved_by v b) p
   unfolding cell_of located_past
-  local_named x v b t p h f e = go (is_nowhere t) refl e
+  local_named x v b t p h f e = when_some (is_nowhere t) _ p e (λ g e1.
+      subst (λ q. Named notes m d (moved_by v b) q) (place_is (cell_of (local_fields notes note) x) refl e1) (record {
+        location = CellAt (FieldOfLocals d x);
+        located = ap (located_past notes m.objects) (not_moved (LocalOf d x) v b t f.is h g);
+        names = (refl, record { field = f.field; there = f.there; cell_is = refl });
+      }))
     where
-      go : (i : Bool) → is_nowhere t ≡ i → (if i then local_field (local_fields notes note) x else None) ≡ Some p
-          → Named notes m d (moved_by v b) p
-      go false g e = absurd (none-some p e)
-      go true g e = named
-        where
-          at_cell : moved_by v b ≡ At (LocalOf d x) 0 0
-          at_cell = not_moved (LocalOf d x) v b t f.is h g
+      cell_there : cell_of (local_fields notes note) x ≡ Some f.field.cell
+      cell_there = ap (λ q. and_then q (λ (z : Field). Some z.cell)) (bound_some (λ (s : Shape). slice_get s.fields x)
+          (m.locals d) f.field f.there (λ s q r. ap (λ z. slice_get z x) (same_locals s q) ∙ r))
 
-          the_cell : (o : Option Shape) → m.locals d ≡ o → option_and_then (λ (s : Shape). slice_get s.fields x) o ≡ Some f.field
-              → slice_get (local_fields notes note) x ≡ Some f.field
-          the_cell None q r = absurd (none-some f.field r)
-          the_cell (Some s) q r = ap (λ z. slice_get z x) (same_locals s q) ∙ r
-
-          cell_there : cell_of (local_fields notes note) x ≡ Some f.field.cell
-          cell_there = ap (λ q. and_then q (λ (z : Field). Some z.cell)) (the_cell (m.locals d) refl f.there)
-
-          place_is : (c : Option Cell) → cell_of (local_fields notes note) x ≡ c
-              → and_then c (λ q. only_if (nat_lt x 64) (place.Local x q)) ≡ Some p → place.Local x f.field.cell ≡ p
-          place_is None q r = absurd (none-some p r)
-          place_is (Some c) q r = if_some (nat_lt x 64) (place.Local x c) p r
-              (λ l s. ap (place.Local x) (same_Some f.field.cell c (sym cell_there ∙ q)) ∙ s)
-
-          named : Named notes m d (moved_by v b) p
-          named = subst (λ q. Named notes m d (moved_by v b) q) (place_is (cell_of (local_fields notes note) x) refl e) (record {
-            location = CellAt (FieldOfLocals d x);
-            located = ap (located_past notes m.objects) at_cell;
-            names = (refl, record { field = f.field; there = f.there; cell_is = refl });
-          })
+      place_is : (c : Option Cell) → cell_of (local_fields notes note) x ≡ c
+          → and_then c (λ q. only_if (nat_lt x 64) (Place.Local x q)) ≡ Some p → Place.Local x f.field.cell ≡ p
+      place_is None q r = absurd (none-some p r)
+      place_is (Some c) q r = if_some (nat_lt x 64) (Place.Local x c) p r
+          (λ l s. ap (Place.Local x) (same_Some f.field.cell c (sym cell_there ∙ q)) ∙ s)
 
   lent_named : (cell : Cell) (v : Neutral) (b : Option Offset) (t : Distance) (p : Place) → IsBoundedCell cell → IsBeside b t
-      → Fits notes m d saved (Lent cell) v → (if is_nowhere t then Some (place.Object cell false) else None) ≡ Some p
+      → Fits notes m d saved (Lent cell) v → (if is_nowhere t then Some (Place.Object cell false) else None) ≡ Some p
       → Named notes m d (moved_by v b) p
   unfolding located_past
-  lent_named cell v b t p k h f e = go (is_nowhere t) refl e
-    where
-      go : (i : Bool) → is_nowhere t ≡ i → (if i then Some (place.Object cell false) else None) ≡ Some p → Named notes m d (moved_by v b) p
-      go false g e = absurd (none-some p e)
-      go true g e = subst (λ q. Named notes m d (moved_by v b) q) (same_Some _ p e) (record {
+  lent_named cell v b t p k h f e = when_some (is_nowhere t) _ p e (λ g e1.
+      subst (λ q. Named notes m d (moved_by v b) q) (same_Some _ p e1) (record {
         location = CellAt (FieldOfLocals f.cell_below.e f.cell_below.f);
         located = ap (located_past notes m.objects) (not_moved (LocalOf f.cell_below.e f.cell_below.f) v b t f.cell_below.is h g);
         names = (
@@ -193,21 +174,18 @@ module _ (notes : Notes) (m : Memory) (ok : ObjectsFit notes m.objects) (cells :
           (f.written.value, f.written.is),
           k,
         );
-      })
+      }))
 
   thunk_named : (i : ℕ) (v : Neutral) (b : Option Offset) (t : Distance) (p : Place) → i < length notes.thunk → IsBeside b t
-      → Fits notes m d saved (ThunkAt i) v → (if is_nowhere t then Some (place.ThunkCell i) else None) ≡ Some p
+      → Fits notes m d saved (ThunkAt i) v → (if is_nowhere t then Some (Place.ThunkCell i) else None) ≡ Some p
       → Named notes m d (moved_by v b) p
   unfolding located_past
-  thunk_named i v b t p l h f e = go (is_nowhere t) refl e
-    where
-      go : (j : Bool) → is_nowhere t ≡ j → (if j then Some (place.ThunkCell i) else None) ≡ Some p → Named notes m d (moved_by v b) p
-      go false g e = absurd (none-some p e)
-      go true g e = subst (λ q. Named notes m d (moved_by v b) q) (same_Some _ p e) (record {
+  thunk_named i v b t p l h f e = when_some (is_nowhere t) _ p e (λ g e1.
+      subst (λ q. Named notes m d (moved_by v b) q) (same_Some _ p e1) (record {
         location = locations.ThunkAt i;
         located = ap (located_past notes m.objects) (not_moved (ThunkOf i) v b t f h g);
         names = (refl, l);
-      })
+      }))
 
   -- What the rules say that a register's value and a pair name is found there, unless it may be null.
   pub pointed_named : (t : Ty) (v : Neutral) (b : Option Offset) (e : Distance) (p : Place) → IsBounded t
@@ -219,7 +197,7 @@ module _ (notes : Notes) (m : Memory) (ok : ObjectsFit notes m.objects) (cells :
       then_some (slice_get notes.shape s) _ p g (λ x e1 h1. then_some
       (field_number_at x.fields (record { n = n +ℤ e.n; c = c +ℤ e.c })) _ p h1
       (λ j e2 h2. then_some (cell_of x.fields j) _ p h2 (λ y e3 h3.
-      absurd (true≢false (ap (may_be_null notes m d) (same_Some (place.Object y true) p h3) ∙ q)))))
+      absurd (true≢false (ap (may_be_null notes m d) (same_Some (Place.Object y true) p h3) ∙ q)))))
   pointed_named (Local x) v b e p l i h f g q = local_named x v b e p h f g
   pointed_named (Lent cell) v b e p l i h f g q = lent_named cell v b e p l h f g
   pointed_named (ThunkAt j) v b e p l i h f g q = thunk_named j v b e p (i j refl) h f g

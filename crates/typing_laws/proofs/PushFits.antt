@@ -8,14 +8,12 @@ use Rattle.typing_laws.proofs.Common.{kept_natural}
 use Rattle.note_types.specs.Known.{is_slot}
 use Rattle.rules_flow.specs.Frames.{one_slot, plus}
 use Rattle.typing_laws.proofs.ItemsChanged.{top_keeps, top_after, fits_after, items_after, below_after}
-use Rattle.typing_laws.proofs.{Context.TopSound, Context.sizes_same, Operands.FitsHere, Written.After}
-use Rattle.note_types.specs.declared.items.Item.TheVariants as item
-use Rattle.note_types.specs.declared.types.Ty.TheVariants as ty
+use Rattle.typing_laws.proofs.{Context.TopSound, Context.sizes_same, Context.FitsHere, Written.After}
 
 -- ---- heights
 
 pub slot_same : (w : ℕ) (k : SlotKind) (l : SlotKind) (v : Neutral) → k ≡ l
-    → slot_bytes w k ≡ at w (item_size (record { n = 0; c = 0 }) (item.Slot l ty.Any))
+    → slot_bytes w k ≡ at w (item_size (record { n = 0; c = 0 }) (Item.Slot l Ty.Any))
 slot_same w N N v e = omega arith
 slot_same w Q Q v e = omega arith
 slot_same w D D v e = omega arith
@@ -32,22 +30,22 @@ unfolding items_size
 heights w notes m d f size [] [] h z = omega arith
 heights w notes m d f size [] (x ∷ xs) h z = absurd z
 heights w notes m d f size (i ∷ is) [] h z = absurd z
-heights w notes m d f size (Pushed kind v ∷ is) (item.Slot k t ∷ xs) h z =
+heights w notes m d f size (Pushed kind v ∷ is) (Item.Slot k t ∷ xs) h z =
     ap₂ (λ x y. x + y) (slot_same w kind k v z.0.0) (heights w notes m d f size is xs h z.1)
-    ∙ sym (at_plus w (item_size size (item.Slot k t)) (items_size size xs))
-heights w notes m d f size (LocalsOf s ∷ is) (item.Locals ∷ xs) h z =
+    ∙ sym (at_plus w (item_size size (Item.Slot k t)) (items_size size xs))
+heights w notes m d f size (LocalsOf s ∷ is) (Item.Locals ∷ xs) h z =
     let e = h s z.0 in
     ap₂ (λ x y. x + y) (ap₂ (λ n c. n * w + c) (sym e.0) (sym e.1)) (heights w notes m d f size is xs h z.1)
     ∙ sym (at_plus w size (items_size size xs))
-heights w notes m d f size (Pushed kind v ∷ is) (item.Locals ∷ xs) h z = absurd z.0
-heights w notes m d f size (LocalsOf s ∷ is) (item.Slot k t ∷ xs) h z = absurd z.0
+heights w notes m d f size (Pushed kind v ∷ is) (Item.Locals ∷ xs) h z = absurd z.0
+heights w notes m d f size (LocalsOf s ∷ is) (Item.Slot k t ∷ xs) h z = absurd z.0
 
-module _ (world : World) (a : Config) (f : FunctionFrame) (fs : List Frame) (note : FnNote) (s : State)
+module _ {world : World} {a : Config} {f : FunctionFrame} {fs : List Frame} {note : FnNote} {s : State}
     (st : TopSound world a f fs note s) where
   -- what the items take, by types
   pub top_height : (w : ℕ) → height w f.items ≡ at w (items_size (locals_size world.notes note) s.items)
   top_height w = heights w world.notes (live_memory world a) (depth fs) f (locals_size world.notes note) f.items s.items
-      (λ x q. let z = sizes_same world a f fs note s st x q in (z.1, z.2)) st.top.items
+      (λ x q. let z = sizes_same st x q in (z.1, z.2)) st.top.items
 
   -- what a room for one more item says
   pub room_within : (x : Item) (w : ℕ) → has_room world.notes note x s.items ≡ true → (w ≡ 4) ⊎ (w ≡ 8)
@@ -79,24 +77,24 @@ module _ (world : World) (a : Config) (f : FunctionFrame) (fs : List Frame) (not
   slot_pushed D v h k = k
 
   -- A slot that is pushed, where there is room for it.
-  pub push_fits : (kind : SlotKind) (v : Neutral) (t : Ty) → FitsHere world a f fs note s st t v
+  pub push_fits : (kind : SlotKind) (v : Neutral) (t : Ty) → FitsHere st t v
       → (kind ≡ N → kept_natural world.notes (live_memory world a).objects v ≡ v)
-      → has_room world.notes note (item.Slot kind ty.Any) s.items ≡ true
+      → has_room world.notes note (Item.Slot kind Ty.Any) s.items ≡ true
       → (pushed a a.frames (Pushed kind v) ≡ Gives (with_items a f (Pushed kind v ∷ f.items) fs))
       × After world (with_items a f (Pushed kind v ∷ f.items) fs) (record f { items = Pushed kind v ∷ f.items }) fs
-      (with_item s (item.Slot kind t))
+      (with_item s (Item.Slot kind t))
   push_fits kind v t h n r =
-      let k = top_keeps world a f fs note s st in
+      let k = top_keeps st in
       let within : (w : ℕ) → (w ≡ 4) ⊎ (w ≡ 8) → height w (Pushed kind v ∷ f.items) ≤ pair_at w note.need =
-      λ w q. (let g = room_within (item.Slot kind ty.Any) w r q in let e = slot_same w kind kind v refl in omega (arith, g, e)) in (
+      λ w q. (let g = room_within (Item.Slot kind Ty.Any) w r q in let e = slot_same w kind kind v refl in omega (arith, g, e)) in (
         ap (λ z. pushed a z (Pushed kind v)) st.frames,
         record {
           frames = refl;
-          top = top_after world a f fs note s st (Pushed kind v ∷ f.items) refl (item.Slot kind t ∷ s.items) (
-            (refl, fits_after world a f fs note s st (Pushed kind v ∷ f.items) refl t v h),
-            items_after world a f fs note s st (Pushed kind v ∷ f.items) refl f.items s.items st.top.items,
+          top = top_after st (Pushed kind v ∷ f.items) refl (Item.Slot kind t ∷ s.items) (
+            (refl, fits_after st (Pushed kind v ∷ f.items) refl t v h),
+            items_after st (Pushed kind v ∷ f.items) refl f.items s.items st.top.items,
           );
-          below = below_after world a f fs note s st (Pushed kind v ∷ f.items) refl
+          below = below_after st (Pushed kind v ∷ f.items) refl
               (record { at4 = within 4 (inl refl); at8 = within 8 (inr refl) }) (slot_pushed kind v n k.0.slots);
         },
       )

@@ -1,10 +1,10 @@
 -- What frames that change leave of the memory: the cells of objects, and the locals that are as they were.
-use Rattle.typing_laws.proofs.Common.{◌≡◌, ℕ, ◌<◌, is_some, if◌then◌else◌, List, Option, Some, None, slice_get, refl, sym, ap, ◌∙◌, subst}
+use Rattle.typing_laws.proofs.Common.{◌≡◌, ℕ, ◌<◌, is_some, if◌then◌else◌, List, Some, None, slice_get, sym, ap, ◌∙◌, subst}
 use Rattle.typing_laws.proofs.Common.{option_and_then, content_type, Field, Shape, Config, locals_at, FitsPlain, field_in, memory_of}
 use Rattle.typing_laws.proofs.Common.{cell_field, made_objects, TypedObject, CellPlace, FieldOf, FieldOfLocals, World, live_memory}
 use Rattle.typing_laws.proofs.Common.{CellsFit}
 use Rattle.host_model.specs.Progress.{ScriptPlace}
-use Rattle.typing_laws.proofs.LiveCells.{live_held, live_there, LaterBelow}
+use Rattle.typing_laws.proofs.{LiveCells.live_held, LiveCells.live_there, LiveCells.LaterBelow, Rows.bound_some}
 
 module _ (world : World) (a b : Config) (script : b.script ≡ a.script) (cells : b.cells ≡ a.cells) where
   pub objects_same : (live_memory world b).objects ≡ (live_memory world a).objects
@@ -34,15 +34,8 @@ module _ (world : World) (a b : Config) (script : b.script ≡ a.script) (cells 
   fewer : (d f : ℕ) (z : Field) → ((s : Shape) → locals_at b.frames d ≡ Some s → locals_at a.frames d ≡ Some s)
       → option_and_then (λ (s : Shape). slice_get s.fields f) (locals_at b.frames d) ≡ Some z
       → option_and_then (λ (s : Shape). slice_get s.fields f) (locals_at a.frames d) ≡ Some z
-  fewer d f z h e = go (locals_at b.frames d) refl e
-    where
-      go : (o : Option Shape) → locals_at b.frames d ≡ o → option_and_then (λ (s : Shape). slice_get s.fields f) o ≡ Some z
-          → option_and_then (λ (s : Shape). slice_get s.fields f) (locals_at a.frames d) ≡ Some z
-      go None q e = absurd (none z e)
-        where
-          none : (z : Field) → ◌≡◌ {A = Option Field} None (Some z) → ⊥
-          none z e = absurd cc
-      go (Some s) q e = ap (option_and_then (λ (s : Shape). slice_get s.fields f)) (h s q) ∙ e
+  fewer d f z h e = bound_some (λ (s : Shape). slice_get s.fields f) (locals_at b.frames d) z e
+      (λ s q g. ap (option_and_then (λ (s : Shape). slice_get s.fields f)) (h s q) ∙ g)
 
   -- the field of a cell that is there now was there before
   pub field_before : (p : CellPlace) (z : Field) → ((d : ℕ) (s : Shape) → locals_at b.frames d ≡ Some s → locals_at a.frames d ≡ Some s)

@@ -2,16 +2,15 @@
 -- takes, and the stack has nine times the most that such a function takes. So has what an instruction puts there that its rule
 -- accepts.
 use Rattle.typing_laws.proofs.Common.{◌≡◌, ℕ, zero, suc, ◌+◌, ◌*◌, ◌≤◌, ◌⊎◌, Bool, true, false, not, ◌&&◌, ◌||◌, if◌then◌else◌, is_none}
-use Rattle.typing_laws.proofs.Common.{is_some, nat_eq, nat_lt, List, [], ◌∷◌, length, Option, Some, None, Ok, Err, slice_get, refl, sym, ap}
-use Rattle.typing_laws.proofs.Common.{ap₂, ◌∙◌, subst, arith, inl, inr, ⊎_elim, le_refl, AllZip, list_any, and_parts, eq-eqb, false≢true}
-use Rattle.typing_laws.proofs.Common.{ltb-false, same_Some, none-some, Insn, Extra, Operand, signed, Index, is_locals, SlotKind, N, FnNote}
-use Rattle.typing_laws.proofs.Common.{Param, Shape, State, index_distance, locals_size, Change, data_row, call_size, call_to, fits_need}
-use Rattle.typing_laws.proofs.Common.{is_lower, flow_row, slot_kind, at, frame_row, has_room, is_size, items_size, make_row, target_of}
-use Rattle.typing_laws.proofs.Common.{falls, Successors, Site, StackItem, Pushed, LocalsOf, FunctionFrame, Frame, Function, Host, Config}
-use Rattle.typing_laws.proofs.Common.{hosts, locals_among, height, Memory, pair_at, return_cell, slot_bytes, null, World, frame_locals}
-use Rattle.typing_laws.proofs.Common.{live_memory, WorldTyped, StandsTyped, here_of, KeepsWithin, FrameBelow, ParamKind, FramesKeep}
-use Rattle.typing_laws.proofs.Common.{SoundBelow}
-use Rattle.std.proofs.Common.{mul-le-mul, le_trans}
+use Rattle.typing_laws.proofs.Common.{is_some, nat_eq, nat_lt, List, [], ◌∷◌, length, Option, Some, None, Ok, slice_get, refl, sym, ap, ap₂}
+use Rattle.typing_laws.proofs.Common.{◌∙◌, subst, arith, inl, inr, ⊎_elim, le_refl, AllZip, list_any, and_parts, eq-eqb, ltb-false}
+use Rattle.typing_laws.proofs.Common.{same_Some, none-some, Insn, Extra, Operand, signed, Index, is_locals, SlotKind, N, FnNote, Param}
+use Rattle.typing_laws.proofs.Common.{Shape, State, index_distance, locals_size, Change, data_row, call_size, call_to, fits_need, is_lower}
+use Rattle.typing_laws.proofs.Common.{flow_row, slot_kind, at, frame_row, has_room, is_size, items_size, make_row, target_of, Successors}
+use Rattle.typing_laws.proofs.Common.{Site, StackItem, Pushed, LocalsOf, FunctionFrame, Frame, Function, Host, Config, hosts, locals_among}
+use Rattle.typing_laws.proofs.Common.{height, Memory, pair_at, return_cell, slot_bytes, null, World, frame_locals, live_memory, WorldTyped}
+use Rattle.typing_laws.proofs.Common.{StandsTyped, here_of, KeepsWithin, FrameBelow, ParamKind, FramesKeep, SoundBelow, Item, RuleName, Ty}
+use Rattle.std.proofs.{Common.mul-le-mul, Common.le_trans, lemmas.Bool.not-true}
 use Rattle.ebc_width.specs.Width.{IsWidth}
 use Rattle.ebc_width.proofs.Laws.{by_width}
 use Rattle.rules_flow.specs.Frames.{push_row}
@@ -19,15 +18,10 @@ use Rattle.neutral_machine.specs.{Room.HasRoom, Room.index_growth, Room.locals_g
 use Rattle.host_model.specs.Placements.{frame_bytes, most_bytes, params_bytes, stack_bytes}
 use Rattle.invariant_laws.specs.Sound.{IsEntered}
 use Rattle.typing_laws.proofs.DataTable.{change_found, no_row, not_stack_move, past_test, top_sound}
-use Rattle.typing_laws.proofs.{Rows.err_ok, Calls.call_allowed, Context.TopSound, Context.sizes_same, FlowTable.move_stack}
-use Rattle.typing_laws.proofs.{FlowTable.row_found, Operands.then_ok, PushFits.room_within, PushFits.slot_same, PushFits.top_height}
-use Rattle.typing_laws.proofs.Pushes.{push_rule}
-use Rattle.ebc_insn.specs.declared.Insn.TheVariants as insns
-use Rattle.note_types.specs.declared.items.Item.TheVariants as item
-use Rattle.note_types.specs.declared.rule.RuleName.TheVariants as rule
-use Rattle.note_types.specs.declared.types.Ty.TheVariants as ty
+use Rattle.typing_laws.proofs.{Calls.call_allowed, Context.TopSound, Context.sizes_same, FlowTable.move_stack, FlowTable.row_found}
+use Rattle.typing_laws.proofs.{Operands.then_ok, PushFits.room_within, PushFits.slot_same, PushFits.top_height, Pushes.push_rule}
+use Rattle.typing_laws.proofs.{Rows.when_ok}
 use Rattle.rules_flow.specs.Calls as rules_calls
-use Rattle.rules_flow.specs.Frames as rules_frames
 
 pub params_height : (w : ℕ) (is : List StackItem) (ps : List Param) → AllZip ParamKind is ps → height w is ≡ params_bytes w ps
 params_height w [] [] h = refl
@@ -110,7 +104,7 @@ sound_room w world a h s =
 
 -- ---- what an instruction puts there
 
-module _ (w : ℕ) (world : World) (a : Config) (f : FunctionFrame) (fs : List Frame) (note : FnNote) (s : State)
+module _ (w : ℕ) {world : World} {a : Config} {f : FunctionFrame} {fs : List Frame} {note : FnNote} {s : State}
     (st : TopSound world a f fs note s) (h : IsWidth w) where
   -- what keeps within the function's need, with its items, has room upon the frames
   room_upon : (x : ℕ) → x + height w f.items ≤ pair_at w note.need → x + total w a.frames ≤ stack_bytes w world.notes
@@ -129,10 +123,10 @@ module _ (w : ℕ) (world : World) (a : Config) (f : FunctionFrame) (fs : List F
   total_fits : 0 + total w a.frames ≤ stack_bytes w world.notes
   total_fits = let l = sound_room w world a h st.below in omega (arith, l)
 
-  slot_room : (kind : SlotKind) → has_room world.notes note (item.Slot kind ty.Any) s.items ≡ true
+  slot_room : (kind : SlotKind) → has_room world.notes note (Item.Slot kind Ty.Any) s.items ≡ true
       → slot_bytes w kind + total w a.frames ≤ stack_bytes w world.notes
   slot_room kind r =
-      let g = room_within world a f fs note s st (item.Slot kind ty.Any) w r h in
+      let g = room_within st (Item.Slot kind Ty.Any) w r h in
       let e = slot_same w kind kind null refl in
       room_upon (slot_bytes w kind) (omega (arith, g, e))
 
@@ -141,7 +135,7 @@ module _ (w : ℕ) (world : World) (a : Config) (f : FunctionFrame) (fs : List F
   if_room true x l = l
   if_room false x l = total_fits
 
-  locals_room : has_room world.notes note item.Locals s.items ≡ true
+  locals_room : has_room world.notes note Item.Locals s.items ≡ true
       → locals_growth w world a.frames + total w a.frames ≤ stack_bytes w world.notes
   locals_room r =
       subst (λ z. locals_growth w world z + total w a.frames ≤ stack_bytes w world.notes) (sym st.frames)
@@ -150,25 +144,18 @@ module _ (w : ℕ) (world : World) (a : Config) (f : FunctionFrame) (fs : List F
       go : (o : Option Shape) → frame_locals world.notes f.func ≡ o → size_if w o + total w a.frames ≤ stack_bytes w world.notes
       go None e = total_fits
       go (Some x) e =
-          let z = sizes_same world a f fs note s st x e in
-          let g = room_within world a f fs note s st item.Locals w r h in
+          let z = sizes_same st x e in
+          let g = room_within st Item.Locals w r h in
           let q : at w (locals_size world.notes note) ≡ size_if w (Some x) = ap₂ (λ n c. n * w + c) z.1 z.2 in
           room_upon (size_if w (Some x)) (omega (arith, g, q))
 
   make_room : (n c : ℕ) (x : Successors) → make_row world.notes note s n c ≡ Ok x
       → locals_growth w world a.frames + total w a.frames ≤ stack_bytes w world.notes
-  make_room n c x e = go (is_some note.locals && (not (list_any is_locals s.items)
-      && (is_size (locals_size world.notes note) n c && has_room world.notes note item.Locals s.items))) refl e
-    where
-      go : (b : Bool) → (is_some note.locals && (not (list_any is_locals s.items)
-          && (is_size (locals_size world.notes note) n c && has_room world.notes note item.Locals s.items))) ≡ b
-          → (if b then Ok (falls (rules_frames.with_item s item.Locals)) else Err rule.Stack) ≡ Ok x
-          → locals_growth w world a.frames + total w a.frames ≤ stack_bytes w world.notes
-      go false q e = absurd (err_ok rule.Stack x e)
-      go true q e =
-          let p1 = and_parts (is_some note.locals) _ q in
-          let p2 = and_parts (not (list_any is_locals s.items)) _ p1.1 in
-          locals_room (and_parts (is_size (locals_size world.notes note) n c) (has_room world.notes note item.Locals s.items) p2.1).1
+  make_room n c x e = when_ok (is_some note.locals && (not (list_any is_locals s.items)
+      && (is_size (locals_size world.notes note) n c && has_room world.notes note Item.Locals s.items))) _ _ x e (λ q _.
+      let p1 = and_parts (is_some note.locals) _ q in
+      let p2 = and_parts (not (list_any is_locals s.items)) _ p1.1 in
+      locals_room (and_parts (is_size (locals_size world.notes note) n c) (has_room world.notes note Item.Locals s.items) p2.1).1)
 
   index_room : (neg : Bool) (u c : ℕ) (x : Successors) → frame_row world.notes note s (record { n = signed neg u; c = signed neg c }) ≡ Ok x
       → (if neg && not (nat_eq u 0 && nat_eq c 0) then locals_growth w world a.frames else 0) + total w a.frames ≤ stack_bytes w world.notes
@@ -193,31 +180,27 @@ module _ (w : ℕ) (world : World) (a : Config) (f : FunctionFrame) (fs : List F
       let i = and_parts (nat_lt g.level note.level) (fits_need (items_size
       (locals_size world.notes note) s.items) g.need note.need) lower in
       let j = and_parts (not (nat_lt (at 4 note.need) (call_size 4 (items_size (locals_size world.notes note) s.items) g.need))) _ i.1 in
-      let l4 = ltb-false _ _ (not_is _ j.0) in
-      let l8 = ltb-false _ _ (not_is _ j.1) in
-      let h4 = top_height world a f fs note s st 4 in
-      let h8 = top_height world a f fs note s st 8 in
+      let l4 = ltb-false _ _ (not-true _ j.0) in
+      let l8 = ltb-false _ _ (not-true _ j.1) in
+      let h4 = top_height st 4 in
+      let h8 = top_height st 8 in
       room_upon return_cell (by_width (λ v. return_cell + height v f.items ≤ pair_at v note.need) w h (omega (arith, l4, h4))
       (omega (arith, l8, h8)))
-    where
-      not_is : (b : Bool) → not b ≡ true → b ≡ false
-      not_is false e = refl
-      not_is true e = absurd (false≢true e)
 
   -- an instruction on data puts nothing there
   data_room : (site : Site) (i : Insn) (k : Change) → data_row world.notes note (here_of site f.func) s i ≡ Ok k → HasRoom w world a i
-  data_room site (insns.Move size bits left right lidx ridx) k e =
+  data_room site (Insn.Move size bits left right lidx ridx) k e =
       subst (λ b. (if b then index_growth w world a ridx else 0) + total w a.frames ≤ stack_bytes w world.notes)
       (sym (not_stack_move world.notes note s size left right lidx ridx k
-      (past_test (is_none site.reloc) _ rule.Relocation k e))) total_fits
-  data_room site (insns.Call far native relative op extra) k e = absurd (no_row (is_none site.reloc) rule.Form rule.Relocation k e)
-  data_room site (insns.Push wide op extra) k e = absurd (no_row (is_none site.reloc) rule.Form rule.Relocation k e)
-  data_room site (insns.PushNatural op extra) k e = absurd (no_row (is_none site.reloc) rule.Form rule.Relocation k e)
+      (past_test (is_none site.reloc) _ RuleName.Relocation k e))) total_fits
+  data_room site (Insn.Call far native relative op extra) k e = absurd (no_row (is_none site.reloc) RuleName.Form RuleName.Relocation k e)
+  data_room site (Insn.Push wide op extra) k e = absurd (no_row (is_none site.reloc) RuleName.Form RuleName.Relocation k e)
+  data_room site (Insn.PushNatural op extra) k e = absurd (no_row (is_none site.reloc) RuleName.Form RuleName.Relocation k e)
   data_room site c k e = total_fits
 
   push_room : (kind : SlotKind) (op : Operand) (extra : Extra) (x : Successors) → push_row world.notes note s kind op extra ≡ Ok x
       → slot_bytes w kind + total w a.frames ≤ stack_bytes w world.notes
-  push_room kind op extra x e = push_rule world a f fs note s st kind op extra x e (λ t e1 made room out. slot_room kind room)
+  push_room kind op extra x e = push_rule st kind op extra x e (λ t e1 made room out. slot_room kind room)
 
   kind_same : (wide : Bool) → slot_kind wide ≡ form_kind wide
   kind_same true = refl
@@ -229,16 +212,16 @@ module _ (w : ℕ) (world : World) (a : Config) (f : FunctionFrame) (fs : List F
   unfolding rules_calls.call_row
   call_room site far rel op extra x e =
       then_ok (target_of (here_of site f.func) far rel op extra) (call_to world.notes note s) x e
-      (λ z e1 e2. let c = call_allowed world a f fs note s st z x e2 in lower_room c.callee c.lower)
+      (λ z e1 e2. let c = call_allowed st z x e2 in lower_room c.callee c.lower)
 
   flow_room : (site : Site) (i : Insn) (x : Successors) → flow_row world.notes note (here_of site f.func) s i ≡ Ok x → HasRoom w world a i
-  flow_room site (insns.Push wide op extra) x e =
+  flow_room site (Insn.Push wide op extra) x e =
       subst (λ k. slot_bytes w k + total w a.frames ≤ stack_bytes w world.notes) (kind_same wide)
-      (push_room (slot_kind wide) op extra x (past_test (is_none site.reloc) _ rule.Relocation x e))
-  flow_room site (insns.PushNatural op extra) x e = push_room N op extra x (past_test (is_none site.reloc) _ rule.Relocation x e)
-  flow_room site (insns.Call far false relative op extra) x e = call_room site far relative op extra x e
-  flow_room site (insns.Move size bits left right lidx ridx) x e =
-      let q = move_stack world.notes note s size left right ridx x (past_test (is_none site.reloc) _ rule.Relocation x e) in
+      (push_room (slot_kind wide) op extra x (past_test (is_none site.reloc) _ RuleName.Relocation x e))
+  flow_room site (Insn.PushNatural op extra) x e = push_room N op extra x (past_test (is_none site.reloc) _ RuleName.Relocation x e)
+  flow_room site (Insn.Call far false relative op extra) x e = call_room site far relative op extra x e
+  flow_room site (Insn.Move size bits left right lidx ridx) x e =
+      let q = move_stack world.notes note s size left right ridx x (past_test (is_none site.reloc) _ RuleName.Relocation x e) in
       subst (λ b. (if b then index_growth w world a ridx else 0) + total w a.frames ≤ stack_bytes w world.notes) (sym q.0)
       (moved_room ridx x q.1)
   flow_room site c x e = total_fits
@@ -248,6 +231,6 @@ pub room_fits : (w : ℕ) (world : World) (a : Config) (f : FunctionFrame) (fs :
     (i : Insn) (x : Successors) → IsWidth w → WorldTyped world → StandsTyped world a f fs note here s i x → HasRoom w world a i
 room_fits w world a f fs note here s i x q ok h =
     ⊎_elim (λ d. let c = change_found world.notes note (here_of here f.func) s i d.0 h.there d.1 in
-    data_room w world a f fs note s (top_sound world a f fs note here s i x ok h) q here i c.change c.row)
-    (λ e. flow_room w world a f fs note s (top_sound world a f fs note here s i x ok h) q here i x
+    data_room w (top_sound world a f fs note here s i x ok h) q here i c.change c.row)
+    (λ e. flow_room w (top_sound world a f fs note here s i x ok h) q here i x
     (row_found world.notes note (here_of here f.func) s i x h.there e)) h.accepted

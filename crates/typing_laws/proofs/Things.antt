@@ -1,26 +1,14 @@
 -- What starts at a place of the image: the rules' type fits the neutral machine's address.
-use Rattle.typing_laws.proofs.Common.{◌≡◌, ℕ, zero, suc, ◌+◌, ◌*◌, Bool, true, false, if◌then◌else◌, nat_eq, List, [], ◌∷◌, ◌++◌, map}
-use Rattle.typing_laws.proofs.Common.{length, Option, Some, None, slice_get, position, not, nat_lt, refl, sym, ap, ap₂, ◌∙◌, subst, arith}
-use Rattle.typing_laws.proofs.Common.{⊎_elim, pos, find, position_or_len, option_map_or, option_or, find_at, int_eq, eqb-true, eqb-false}
-use Rattle.typing_laws.proofs.Common.{cases_Bool, lt-ltb, Decides-int_eq, position-Some, same_Some, none-some, Notes, Static, Thunk, Ty}
-use Rattle.typing_laws.proofs.Common.{and_then, is_static_at, is_thunk_at, static_type, thunk_type, static_at, thunk_at, thing_at, ObjectOf}
-use Rattle.typing_laws.proofs.Common.{ThunkOf, Neutral, At, Junk, word, Registers, static_object, shape_of, TypedObject, Memory, Fits}
-use Rattle.typing_laws.proofs.Common.{address_of_place, within_some}
+use Rattle.typing_laws.proofs.Common.{◌≡◌, ℕ, zero, suc, ◌+◌, ◌*◌, Bool, false, if◌then◌else◌, nat_eq, List, [], ◌∷◌, ◌++◌, map, length}
+use Rattle.typing_laws.proofs.Common.{Option, Some, None, slice_get, position, not, nat_lt, refl, sym, ap, ap₂, ◌∙◌, subst, arith, pos}
+use Rattle.typing_laws.proofs.Common.{find, position_or_len, option_map_or, option_or, find_at, lt-ltb, position-Some, same_Some, none-some}
+use Rattle.typing_laws.proofs.Common.{Notes, Static, Thunk, Ty, and_then, is_static_at, is_thunk_at, static_type, thunk_type, static_at}
+use Rattle.typing_laws.proofs.Common.{thunk_at, thing_at, ObjectOf, ThunkOf, Neutral, At, Junk, word, Registers, static_object, shape_of}
+use Rattle.typing_laws.proofs.Common.{TypedObject, Memory, Fits, address_of_place, within_some}
 use Rattle.std.specs.Option.{option_map}
 use Rattle.std.proofs.lemmas.Option.{slice_get_within}
-use Rattle.typing_laws.proofs.Rows.{then_some}
-use Rattle.note_types.specs.declared.types.Ty.TheVariants as ty
-
-pos_same : (a b : ℕ) → pos a ≡ pos b → a ≡ b
-pos_same a b e = cc
-
--- two places are one, as signed numbers
-same_test : (a b : ℕ) → int_eq (pos a) (pos b) ≡ nat_eq a b
-same_test a b = ⊎_elim
-    (λ e. (Decides-int_eq (pos a) (pos b)).1 (ap pos (eqb-true a b e)) ∙ sym e)
-    (λ e. ⊎_elim (λ g. absurd (eqb-false a b e (pos_same a b ((Decides-int_eq (pos a) (pos b)).0 g)))) (λ g. g ∙ sym e)
-    (cases_Bool (int_eq (pos a) (pos b))))
-    (cases_Bool (nat_eq a b))
+use Rattle.typing_laws.proofs.Rows.{then_some, when_some}
+use Rattle.note_types.proofs.PlaceLaws.{same_place}
 
 -- the first place is the same by tests that agree
 prefix_same : {A : Type 0} (p q : A → Bool) → ((x : A) → p x ≡ q x) → (xs : List A) → position_or_len p xs ≡ position_or_len q xs
@@ -43,12 +31,12 @@ static_found p ss x e =
     record {
       i = n;
       there = g;
-      from = sym (position_same (is_static_at (pos p)) (λ (s : Static). nat_eq s.place p) (λ (s : Static). same_test s.place p) ss)
+      from = sym (position_same (is_static_at (pos p)) (λ (s : Static). nat_eq s.place p) (λ (s : Static). same_place s.place p) ss)
           ∙ ap (λ b. if b then Some n else None) (lt-ltb n (length ss) (slice_get_within ss n x g));
     }
 
 static_none : (p : ℕ) (ss : List Static) → find (is_static_at (pos p)) ss ≡ None → position (λ (s : Static). nat_eq s.place p) ss ≡ None
-static_none p ss e = sym (position_same (is_static_at (pos p)) (λ (s : Static). nat_eq s.place p) (λ (s : Static). same_test s.place p) ss)
+static_none p ss e = sym (position_same (is_static_at (pos p)) (λ (s : Static). nat_eq s.place p) (λ (s : Static). same_place s.place p) ss)
     ∙ go (position (is_static_at (pos p)) ss) refl
   where
     n : ℕ
@@ -58,16 +46,9 @@ static_none p ss e = sym (position_same (is_static_at (pos p)) (λ (s : Static).
     go None h = refl
     go (Some i) h =
         let w = position-Some (is_static_at (pos p)) ss i (record { place = 0; shape = 0; count = 0 }) h in
-        let s : i ≡ n = position_is i h in
+        let s : n ≡ i = when_some (nat_lt n (length ss)) _ i h (λ _ g. same_Some n i g) in
         let q = within_some ss i w.0 in
-        absurd (none-some q.0 (sym e ∙ find_at (is_static_at (pos p)) ss ∙ ap (slice_get ss) (sym s) ∙ q.1))
-      where
-        position_is : (i : ℕ) → position (is_static_at (pos p)) ss ≡ Some i → i ≡ n
-        position_is i h = cases (nat_lt n (length ss)) h
-          where
-            cases : (b : Bool) → (if b then Some n else None) ≡ Some i → i ≡ n
-            cases true h = sym (same_Some n i h)
-            cases false h = absurd (none-some i h)
+        absurd (none-some q.0 (sym e ∙ find_at (is_static_at (pos p)) ss ∙ ap (slice_get ss) s ∙ q.1))
 
 front : (ss : List Static) (os : List TypedObject) (i : ℕ) (x : Static) → slice_get ss i ≡ Some x
     → slice_get (map static_object ss ++ os) i ≡ Some (static_object x)
@@ -93,8 +74,8 @@ module _ (notes : Notes) (m : Memory) (os : List TypedObject) (are : m.objects �
           → Fits notes m d saved t (address_of_place notes p)
       thunk h e = then_some (position (is_thunk_at (pos p)) notes.thunk) thunk_type t e (λ i e1 e2.
           let r = sym (position_same (is_thunk_at (pos p)) (λ (y : Thunk). nat_eq y.place p)
-          (λ (y : Thunk). same_test y.place p) notes.thunk) ∙ e1 in
-          subst (λ z. Fits notes m d saved z (address_of_place notes p)) (same_Some (ty.ThunkAt i) t e2)
+          (λ (y : Thunk). same_place y.place p) notes.thunk) ∙ e1 in
+          subst (λ z. Fits notes m d saved z (address_of_place notes p)) (same_Some (Ty.ThunkAt i) t e2)
           (ap₂ address (static_none p notes.statics h) r))
 
       go : (o : Option Static) → find (is_static_at (pos p)) notes.statics ≡ o
@@ -102,7 +83,7 @@ module _ (notes : Notes) (m : Memory) (os : List TypedObject) (are : m.objects �
           → Fits notes m d saved t (address_of_place notes p)
       go (Some x) h e =
           let r = static_found p notes.statics x h in
-          subst (λ z. Fits notes m d saved z (address_of_place notes p)) (same_Some (ty.Ptr x.shape x.count (pos 0) (pos 0) false) t e)
+          subst (λ z. Fits notes m d saved z (address_of_place notes p)) (same_Some (Ty.Ptr x.shape x.count (pos 0) (pos 0) false) t e)
           (record {
             k = r.i;
             j = 0;
