@@ -162,7 +162,7 @@ no_first w world P r (f ∷ (g ∷ gs)) other = by f.notified where
   by true = tt
   by false = tt
 
-hosts_count : (o : Option AskedCall) (fs : List Frame) → length (hosts_of o fs) ≡ length fs
+pub hosts_count : (o : Option AskedCall) (fs : List Frame) → length (hosts_of o fs) ≡ length fs
 hosts_count None fs = length-map saved_of fs
 hosts_count (Some a) [] = refl
 hosts_count (Some a) (f ∷ fs) = length-map saved_of (f ∷ fs)
@@ -272,10 +272,6 @@ bytes_there w world x r at = ap (λ (s : Concrete). s.byte) (sym at.machine)
 pub answer_ok : (o : Option Ending) (m n : ℕ) → Ok n ≡ option_map_or Err o (Ok m) → (o ≡ None) × (n ≡ m)
 answer_ok None m n is = (refl, cc)
 answer_ok (Some e) m n is = absurd (cc)
-
-pub answer_err : (o : Option Ending) (m : ℕ) (e : Ending) → Err e ≡ option_map_or Err o (Ok m) → o ≡ Some e
-answer_err None m e is = absurd (cc)
-answer_err (Some x) m e is = let same : e ≡ x = cc in ap Some (sym same)
 
 over : (call : NativeCall ℕ) (hs : List SavedFrame) → with_call NoCall (with_call call hs) ≡ with_call NoCall hs
 over call [] = refl

@@ -8,13 +8,99 @@ use Rattle.std.proofs.lemmas.Nat.Bits.{bit_at-pow_other}
 use Rattle.note_types.specs.Records.{CanBeEntered, HasNameLength, IsFieldNote, IsFunctionNote, IsParamNote, IsPointNote, IsResultNote}
 use Rattle.note_types.specs.Records.{IsShapeNote, IsSignatureNote, IsSiteNote, IsThunkNote, IsWantNote, code_size, frame_size}
 use Rattle.note_types.specs.{Known.AreFields, Known.IsKnown, Known.IsKnownCell, Known.local_fields, States.type_of, Limits.code_limit}
-use Rattle.note_types.specs.{Limits.point_limit, Limits.stack_limit, Passing.IsHandedBack, Passing.IsHandedIn}
+use Rattle.note_types.specs.{Limits.point_limit, Limits.stack_limit, Passing.IsHandedBack, Passing.IsHandedIn, Passing.IsReturned}
 use Rattle.note_types.specs.declared.{items.Item.TheVariants.Locals, items.Item.TheVariants.Slot, notes.Signature.Signature}
 use Rattle.note_types.proofs.TypeLaws.{no_fields}
 use Rattle.neutral_machine.proofs.Driver.{driver_notes, driver_notified}
 use Rattle.note_types.specs.declared.cell.Cell.TheVariants as cell
 use Rattle.note_types.specs.declared.types.Ty.TheVariants as ty
 use Rattle.note_types.specs.declared.value.Value.TheVariants as value
+
+-- ---- what notes have to meet, by tests
+
+pub at_most : (a b : ℕ) → nat_le a b ≡ true → a ≤ b
+at_most a b e = leb-true a b e
+
+pub below : (a b : ℕ) → nat_lt a b ≡ true → a < b
+below a b e = ltb-true a b e
+
+pub name_length : (name : List ℕ) → nat_le 1 (length name) ≡ true → nat_le (length name) 63 ≡ true → HasNameLength name
+name_length name l m = (leb-true 1 (length name) l, leb-true (length name) 63 m)
+
+pub status : (notes : Notes) (f : FnNote) → IsKnown notes f (ty.Status 0)
+status notes f = record { bounded = below 0 (2 ^ 64) refl; names = no_fields notes f }
+
+-- a pointer to one thing of the first shape
+pub table : (notes : Notes) (f : FnNote) → nat_lt 0 (length notes.shape) ≡ true → IsKnown notes f (ty.Ptr 0 1 (pos 0) (pos 0) false)
+table notes f some = record {
+  bounded = (
+    at_most 1 1 refl,
+    (at_most 0 0 refl, at_most 0 (2 ^ 20) refl),
+    at_most 0 (2 ^ 20) refl,
+    below 1 (2 ^ 64) refl,
+    below 0 (2 ^ 32) refl,
+  );
+  names = below 0 (length notes.shape) some;
+}
+
+pub field_note : (notes : Notes) (x : Field) → nat_le 1 (length x.name) ≡ true → nat_le (length x.name) 63 ≡ true
+    → nat_lt x.n (2 ^ 32) ≡ true → nat_lt x.c (2 ^ 32) ≡ true → IsKnownCell notes x.cell → IsFieldNote notes x
+field_note notes x some short units bytes known = record {
+  name = name_length x.name some short;
+  units = below x.n (2 ^ 32) units;
+  bytes = below x.c (2 ^ 32) bytes;
+  cell = known;
+}
+
+pub shape_note : (notes : Notes) (s : Shape) → nat_le 1 (length s.name) ≡ true → nat_le (length s.name) 63 ≡ true
+    → nat_lt s.n (2 ^ 32) ≡ true → nat_lt s.c (2 ^ 32) ≡ true → nat_le (length s.fields) 256 ≡ true
+    → AllByRecursion (IsFieldNote notes) s.fields → IsShapeNote notes s
+shape_note notes s some short units bytes few fields = record {
+  name = name_length s.name some short;
+  units = below s.n (2 ^ 32) units;
+  bytes = below s.c (2 ^ 32) bytes;
+  few = at_most (length s.fields) 256 few;
+  fields = each_item (IsFieldNote notes) s.fields fields;
+}
+
+pub enterable : (f : FnNote) → AllByRecursion (λ (p : Param). IsHandedIn p.ty) f.params → IsHandedBack f.result
+    → nat_le (9 * frame_size f) stack_limit ≡ true → CanBeEntered f
+enterable f takes gives fits = record {
+  takes = each_item (λ (p : Param). IsHandedIn p.ty) f.params takes;
+  gives = gives;
+  stack = at_most (9 * frame_size f) stack_limit fits;
+}
+
+pub function_note : (notes : Notes) (f : FnNote) → nat_le 1 (length f.name) ≡ true → nat_le (length f.name) 63 ≡ true
+    → nat_lt f.place (2 ^ 22) ≡ true → nat_le f.end (2 ^ 22) ≡ true → nat_lt f.level (2 ^ 64) ≡ true → nat_lt f.need.n (2 ^ 64) ≡ true
+    → nat_lt f.need.c (2 ^ 64) ≡ true → nat_le (length (local_fields notes f)) 64 ≡ true → nat_le (length f.params) 16 ≡ true
+    → IfSome f.locals (λ s. s < length notes.shape) → AllByRecursion (IsParamNote notes f) f.params → IsKnown notes f f.result
+    → IsReturned f.result → (f.enter ≡ true → CanBeEntered f) → IsFunctionNote notes f
+function_note notes f some short place last level units bytes fields few locals params result returned entered = record {
+  name = name_length f.name some short;
+  place = below f.place (2 ^ 22) place;
+  «end» = at_most f.end (2 ^ 22) last;
+  level = below f.level (2 ^ 64) level;
+  need = (below f.need.n (2 ^ 64) units, below f.need.c (2 ^ 64) bytes);
+  locals = locals;
+  fields = at_most (length (local_fields notes f)) 64 fields;
+  few = at_most (length f.params) 16 few;
+  params = each_item (IsParamNote notes f) f.params params;
+  result = result;
+  returned = returned;
+  entered = entered;
+}
+
+pub signature_note : (notes : Notes) (g : Signature) → nat_le 1 (length g.name) ≡ true → nat_le (length g.name) 63 ≡ true
+    → nat_lt g.method (length notes.methods) ≡ true → nat_le (length g.params) 16 ≡ true → AllByRecursion (IsWantNote notes) g.params
+    → IfSome g.result (IsResultNote notes) → IsSignatureNote notes g
+signature_note notes g some short method few params result = record {
+  name = name_length g.name some short;
+  method = below g.method (length notes.methods) method;
+  few = at_most (length g.params) 16 few;
+  params = each_item (IsWantNote notes) g.params params;
+  result = result;
+}
 
 -- ---- the notes with names
 
@@ -66,36 +152,8 @@ driver_named = record (driver_notified 2 (locate_call ∷ register_call ∷ []) 
 abbrev notes : Notes
 notes = driver_named.notes
 
--- ---- numbers
-
-at_most : (a b : ℕ) → nat_le a b ≡ true → a ≤ b
-at_most a b e = leb-true a b e
-
-below : (a b : ℕ) → nat_lt a b ≡ true → a < b
-below a b e = ltb-true a b e
-
-pub name_length : (name : List ℕ) → nat_le 1 (length name) ≡ true → nat_le (length name) 63 ≡ true → HasNameLength name
-name_length name l m = (leb-true 1 (length name) l, leb-true (length name) 63 m)
-
--- ---- types
-
 handle : (f : FnNote) → IsKnown notes f ty.Handle
 handle f = record { bounded = tt; names = tt }
-
-status : (f : FnNote) → IsKnown notes f (ty.Status 0)
-status f = record { bounded = below 0 (2 ^ 64) refl; names = no_fields notes f }
-
-table : (f : FnNote) → IsKnown notes f (ty.Ptr 0 1 (pos 0) (pos 0) false)
-table f = record {
-  bounded = (
-    at_most 1 1 refl,
-    (at_most 0 0 refl, at_most 0 (2 ^ 20) refl),
-    at_most 0 (2 ^ 20) refl,
-    below 1 (2 ^ 64) refl,
-    below 0 (2 ^ 32) refl,
-  );
-  names = below 0 3 refl;
-}
 
 word : (f : FnNote) → IsKnown notes f (ty.Int 0 (2 ^ 32 - 1) 1)
 word f = record {
@@ -111,38 +169,19 @@ method_cell m l k = record { bounded = below m (2 ^ 32) l; names = below m 2 k }
 block_cell : (may : Bool) → IsKnownCell notes (cell.Ptr 1 1 may)
 block_cell may = record { bounded = (below 1 (2 ^ 32) refl, at_most 1 1 refl, below 1 (2 ^ 64) refl); names = below 1 3 refl }
 
-field_note : (x : Field) → nat_le 1 (length x.name) ≡ true → nat_le (length x.name) 63 ≡ true → nat_lt x.n (2 ^ 32) ≡ true
-    → nat_lt x.c (2 ^ 32) ≡ true → IsKnownCell notes x.cell → IsFieldNote notes x
-field_note x some short units bytes known = record {
-  name = name_length x.name some short;
-  units = below x.n (2 ^ 32) units;
-  bytes = below x.c (2 ^ 32) bytes;
-  cell = known;
-}
-
-shape_note : (s : Shape) → nat_le 1 (length s.name) ≡ true → nat_le (length s.name) 63 ≡ true → nat_lt s.n (2 ^ 32) ≡ true
-    → nat_lt s.c (2 ^ 32) ≡ true → nat_le (length s.fields) 256 ≡ true → AllByRecursion (IsFieldNote notes) s.fields → IsShapeNote notes s
-shape_note s some short units bytes few fields = record {
-  name = name_length s.name some short;
-  units = below s.n (2 ^ 32) units;
-  bytes = below s.c (2 ^ 32) bytes;
-  few = at_most (length s.fields) 256 few;
-  fields = each_item (IsFieldNote notes) s.fields fields;
-}
-
 shapes : AllByRecursion (IsShapeNote notes) notes.shape
 shapes = (
-  shape_note _ refl refl refl refl refl (
-    field_note _ refl refl refl refl (method_cell 0 refl refl),
-    (field_note _ refl refl refl refl (method_cell 1 refl refl), tt),
+  shape_note notes _ refl refl refl refl refl (
+    field_note notes _ refl refl refl refl (method_cell 0 refl refl),
+    (field_note notes _ refl refl refl refl (method_cell 1 refl refl), tt),
   ),
   (
-    shape_note _ refl refl refl refl refl (
-      field_note _ refl refl refl refl (record { bounded = tt; names = tt }),
-      (field_note _ refl refl refl refl (block_cell true), tt),
+    shape_note notes _ refl refl refl refl refl (
+      field_note notes _ refl refl refl refl (record { bounded = tt; names = tt }),
+      (field_note notes _ refl refl refl refl (block_cell true), tt),
     ),
     (
-      shape_note _ refl refl refl refl refl (field_note _ refl refl refl refl (block_cell false), tt),
+      shape_note notes _ refl refl refl refl refl (field_note notes _ refl refl refl refl (block_cell false), tt),
       tt,
     ),
   ),
@@ -151,7 +190,7 @@ shapes = (
 -- ---- functions
 
 -- what stands for a function that isn't there
-abbrev no_function : FnNote
+abbrev pub no_function : FnNote
 no_function = record {
   name = [];
   place = 0;
@@ -170,14 +209,6 @@ main = get_or notes.function 0 no_function
 abbrev pub tick : FnNote
 tick = get_or notes.function 1 no_function
 
-enterable : (f : FnNote) → AllByRecursion (λ (p : Param). IsHandedIn p.ty) f.params → IsHandedBack f.result
-    → nat_le (9 * frame_size f) stack_limit ≡ true → CanBeEntered f
-enterable f takes gives fits = record {
-  takes = each_item (λ (p : Param). IsHandedIn p.ty) f.params takes;
-  gives = gives;
-  stack = at_most (9 * frame_size f) stack_limit fits;
-}
-
 main_enterable : CanBeEntered main
 main_enterable = enterable main (tt, ((refl, refl), tt)) tt refl
 
@@ -186,51 +217,20 @@ tick_enterable = enterable tick (below (2 ^ 32 - 1) (2 ^ 32) refl, tt) tt refl
 
 main_note : IsFunctionNote notes main
 unfolding local_fields
-main_note = record {
-  name = name_length main.name refl refl;
-  place = below main.place (2 ^ 22) refl;
-  «end» = at_most main.end (2 ^ 22) refl;
-  level = below main.level (2 ^ 64) refl;
-  need = (below main.need.n (2 ^ 64) refl, below main.need.c (2 ^ 64) refl);
-  locals = below 2 3 refl;
-  fields = at_most 1 64 refl;
-  few = at_most 2 16 refl;
-  params = each_item (IsParamNote notes main) main.params (
-    record { kind = tt; known = handle main; kept = λ e. tt; passed = tt },
-    (
-      record { kind = tt; known = table main; kept = λ e. (refl, refl); passed = tt },
-      tt,
-    ),
-  );
-  result = status main;
-  returned = refl;
-  entered = λ e. absurd (true≢false (sym e));
-}
+main_note = function_note notes main refl refl refl refl refl refl refl refl refl (below 2 3 refl) (
+  record { kind = tt; known = handle main; kept = λ e. tt; passed = tt },
+  (
+    record { kind = tt; known = table notes main refl; kept = λ e. (refl, refl); passed = tt },
+    tt,
+  ),
+) (status notes main) refl (λ e. absurd (true≢false (sym e)))
 
 tick_note : IsFunctionNote notes tick
 unfolding local_fields
-tick_note = record {
-  name = name_length tick.name refl refl;
-  place = below tick.place (2 ^ 22) refl;
-  «end» = at_most tick.end (2 ^ 22) refl;
-  level = below tick.level (2 ^ 64) refl;
-  need = (below tick.need.n (2 ^ 64) refl, below tick.need.c (2 ^ 64) refl);
-  locals = tt;
-  fields = at_most 0 64 refl;
-  few = at_most 1 16 refl;
-  params = each_item (IsParamNote notes tick) tick.params (
-    record {
-      kind = tt;
-      known = word tick;
-      kept = λ e. below (2 ^ 32 - 1) (2 ^ 32) refl;
-      passed = tt;
-    },
-    tt,
-  );
-  result = status tick;
-  returned = refl;
-  entered = λ e. tick_enterable;
-}
+tick_note = function_note notes tick refl refl refl refl refl refl refl refl refl tt (
+  record { kind = tt; known = word tick; kept = λ e. below (2 ^ 32 - 1) (2 ^ 32) refl; passed = tt },
+  tt,
+) (status notes tick) refl (λ e. tick_enterable)
 
 -- ---- the point
 
@@ -286,23 +286,13 @@ point_note = record {
 
 -- ---- signatures
 
-signature_note : (g : Signature) → nat_le 1 (length g.name) ≡ true → nat_le (length g.name) 63 ≡ true → nat_lt g.method 2 ≡ true
-    → nat_le (length g.params) 16 ≡ true → AllByRecursion (IsWantNote notes) g.params → IfSome g.result (IsResultNote notes)
-    → IsSignatureNote notes g
-signature_note g some short method few params result = record {
-  name = name_length g.name some short;
-  method = below g.method 2 method;
-  few = at_most (length g.params) 16 few;
-  params = each_item (IsWantNote notes) g.params params;
-  result = result;
-}
-
 signatures : AllByRecursion (IsSignatureNote notes) notes.signature
 signatures = (
-  signature_note _ refl refl refl refl (record { kind = tt; known = block_cell false; kept = λ e. tt }, tt)
-      (record { given = refl; known = status }),
+  signature_note notes _ refl refl refl refl (record { kind = tt; known = block_cell false; kept = λ e. tt }, tt)
+      (record { given = refl; known = status notes }),
   (
-    signature_note _ refl refl refl refl (record { kind = tt; known = tt; kept = λ e. tt }, tt) (record { given = refl; known = status }),
+    signature_note notes _ refl refl refl refl (record { kind = tt; known = tt; kept = λ e. tt }, tt)
+        (record { given = refl; known = status notes }),
     tt,
   ),
 )

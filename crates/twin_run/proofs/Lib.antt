@@ -8,6 +8,7 @@ pub mod DriverSteps
 pub mod DriverTyped
 pub mod EnteringLaws
 pub mod HostingLaws
+pub mod InStep
 pub mod InstructionLaws
 pub mod OnItsWay
 pub mod OwnPlacement

@@ -4,11 +4,11 @@ use Rattle.twin_run.proofs.Common.{◌++◌, length, drop, Some, None, refl, sym
 use Rattle.twin_run.proofs.Common.{false≢true, Running, Event, mapped, Image, spot_of, own_placement, RunState, run_after, run_step, World}
 use Rattle.twin_run.proofs.Common.{DifferAt, first, nowhere, AreInStep, IsOnItsWay, own_run, GoesOnFor, IsRunner, steps_on, Runner}
 use Rattle.std.specs.Prelude.{IsTrue}
-use Rattle.std.proofs.{Common.add-suc, Math.Seq.drop-append_seam}
+use Rattle.std.proofs.{Common.add-suc, Common.append_assoc, Math.Seq.drop-append_seam}
 use Rattle.host_model.specs.Runs.{SameRun}
-use Rattle.twin_run.specs.{Differs.OwnRunsSame, OnItsWay.IsSameButFirst, Reported.IsReport}
+use Rattle.twin_run.specs.{Differs.OwnRunsSame, OnItsWay.AreSameBefore, OnItsWay.IsSameButFirst, Reported.IsReport, Runner.TakesSteps}
 use Rattle.twin_run.specs.declared.reports.RunReport.{RunReport}
-use Rattle.twin_run.proofs.Stepping.{ended-is-last, step-tells}
+use Rattle.twin_run.proofs.Stepping.{TellsMore, ended-is-last, none-more, step-tells}
 
 -- each number below the next one is below this one, or is this one
 below-next : (j k : ℕ) → j < k + 1 → (j < k) ⊎ (j ≡ k)
@@ -28,7 +28,7 @@ counted : (old k n new limit : ℕ) → old ≡ k → k + n ≤ limit → limit 
 counted old k n new limit was less small is = omega arith
 
 module _ (w : ℕ) (image : Image) (world : World) where
-  run-next : (k : ℕ) → own_run w image world (k + 1) ≡ run_step w world (own_placement w world) (own_run w image world k)
+  pub run-next : (k : ℕ) → own_run w image world (k + 1) ≡ run_step w world (own_placement w world) (own_run w image world k)
   unfolding run_after
   run-next k = ap (own_run w image world) (add-one k)
 
@@ -112,6 +112,15 @@ same-rest old xs ys es fs p q e =
     let other : drop (length old) ys ≡ fs = ap (drop (length old)) q ∙ drop-append_seam old fs in
     p ∙ ap (λ t. old ++ t) (sym one ∙ e ∙ other) ∙ sym q
 
+-- steps add events after those that there are
+steps-tell : (w : ℕ) (world : World) (n : ℕ) (r : RunState) → TellsMore r.trace (steps_on w world n r).trace
+unfolding steps_on
+steps-tell w world zero r = none-more r.trace
+steps-tell w world (suc n) r =
+    let p = steps-tell w world n r in
+    let q = step-tells w world (own_placement w world) (steps_on w world n r) in
+    (p.0 ++ q.0, q.1 ∙ (ap (λ t. t ++ q.0) p.1 ∙ append_assoc r.trace p.0 q.0))
+
 module _ (image : Image) (world : World) where
   -- at the start no event is left out
   same-from_none : (r s : RunState) → IsSameButFirst world 0 r s ↔ SameRun world (own_placement 4 world) r (own_placement 8 world) s
@@ -120,14 +129,14 @@ module _ (image : Image) (world : World) where
     λ x. record { spot = x.spot; ending = x.ending; events = x.trace },
   )
 
-  -- after a step of runs that were the same it is enough to compare the events that are new
-  same-from_old : (r s : RunState) → SameRun world (own_placement 4 world) r (own_placement 8 world) s
-      → let x : RunState = run_step 4 world (own_placement 4 world) r in
-      let y : RunState = run_step 8 world (own_placement 8 world) s in
+  -- after steps of runs that were the same it is enough to compare the events that are new
+  same-from_old : (n : ℕ) (r s : RunState) → SameRun world (own_placement 4 world) r (own_placement 8 world) s
+      → let x : RunState = steps_on 4 world n r in
+      let y : RunState = steps_on 8 world n s in
       IsSameButFirst world (length r.trace) x y ↔ SameRun world (own_placement 4 world) x (own_placement 8 world) y
-  same-from_old r s same =
-      let p = step-tells 4 world (own_placement 4 world) r in
-      let q = step-tells 8 world (own_placement 8 world) s in (
+  same-from_old n r s same =
+      let p = steps-tell 4 world n r in
+      let q = steps-tell 8 world n s in (
         λ v. record {
           spot = v.spot;
           trace = same-rest r.trace _ _ p.0 q.0 p.1 (q.1 ∙ ap (λ t. t ++ q.0) (sym same.trace)) v.events;
@@ -154,33 +163,43 @@ module _ (image : Image) (world : World) where
       → ((r : RunState) → IsRunner 4 world x r → events ≡ r.trace) → n ≡ length (own_run 4 image world k).trace
   told limit k x n events on is tells = is ∙ ap length (tells (own_run 4 image world k) on.there)
 
-  pub goes-on_in_step : (limit k n : ℕ) (x u : Runner 4) (y v : Runner 8) (same : Bool) → AreInStep image world limit k x y true → k < limit
-      → limit < 2 ^ 64 → (own_run 4 image world k).ending ≡ Running → n ≡ length (own_run 4 image world k).trace → Steps 4 world x u
-      → Steps 8 world y v → Counts x u → Counts y v
-      → ((r s : RunState) → IsRunner 4 world u r → IsRunner 8 world v s → IsTrue same ↔ IsSameButFirst world n r s)
-      → AreInStep image world limit (k + 1) u v same
-  goes-on_in_step limit k n x u y v same were less small running is one other counts4 counts8 compared =
+  pub goes-on_in_step : (limit k n most : ℕ) (x u : Runner 4) (y v : Runner 8) (same : Bool) → AreInStep image world limit k x y true
+      → n ≤ limit - k → k < limit → limit < 2 ^ 64 → most ≡ length (own_run 4 image world k).trace
+      → TakesSteps 4 world.notes world.script x u n → TakesSteps 8 world.notes world.script y v n
+      → ((r s : RunState) → IsRunner 4 world x r → IsRunner 8 world y s
+      → SameRun world (own_placement 4 world) r (own_placement 8 world) s → AreSameBefore world n r s)
+      → ((r s : RunState) → IsRunner 4 world u r → IsRunner 8 world v s → IsTrue same ↔ IsSameButFirst world most r s)
+      → AreInStep image world limit (k + n) u v same
+  goes-on_in_step limit k n most x u y v same were few less small told one other alike compared =
       let r : RunState = own_run 4 image world k in
       let s : RunState = own_run 8 image world k in
       let now : OwnRunsSame image world k = were.now.0 refl in
-      let at4 = goes-on 4 image world limit k x u were.at4 less small running one counts4 in
-      let at8 = goes-on 8 image world limit k y v were.at8 less small (sym now.ending ∙ running) other counts8 in
-      let P : ℕ → RunState → RunState → Type 0 = λ m a b. IsTrue same ↔ IsSameButFirst world m a b in
-      let new = subst (λ m. P m (run_step 4 world (own_placement 4 world) r) (run_step 8 world (own_placement 8 world) s)) is
-      (compared _ _ (one r were.at4.there) (other s were.at8.there)) in
-      let whole = same-from_old r s now in
-      let Q : RunState → RunState → Type 0 =
-      λ a b. IsTrue same ↔ SameRun world (own_placement 4 world) a (own_placement 8 world) b in
+      let within : k + n ≤ limit = omega (arith, few, less) in
+      let there4 = one.steps world r refl refl were.at4.there in
+      let there8 = other.steps world s refl refl were.at8.there in
+      let new = subst (λ m. IsTrue same ↔ IsSameButFirst world m (steps_on 4 world n r) (steps_on 8 world n s)) told
+      (compared _ _ there4 there8) in
+      let whole = same-from_old n r s now in
+      let Q : RunState → RunState → Type 0 = λ a b. SameRun world (own_placement 4 world) a (own_placement 8 world) b in
+      let on : (j : ℕ) → Q (steps_on 4 world j r) (steps_on 8 world j s) → OwnRunsSame image world (k + j) =
+      λ j h. subst (λ a. Q a (own_run 8 image world (k + j))) (sym (run-on 4 image world k j))
+      (subst (Q (steps_on 4 world j r)) (sym (run-on 8 image world k j)) h) in
+      let back : (j : ℕ) → OwnRunsSame image world (k + j) → Q (steps_on 4 world j r) (steps_on 8 world j s) =
+      λ j h. subst (λ a. Q a (steps_on 8 world j s)) (run-on 4 image world k j)
+      (subst (Q (own_run 4 image world (k + j))) (run-on 8 image world k j) h) in
       record {
-        at4 = at4;
-        at8 = at8;
-        before = λ j l. elim (below-next j k l) as (λ _. OwnRunsSame image world j) [
+        at4 = goes-on_for 4 image world limit k n x u were.at4 within small one.counted (one.goes_on world r refl refl were.at4.there)
+            there4;
+        at8 = goes-on_for 8 image world limit k n y v were.at8 within small other.counted (other.goes_on world s refl refl were.at8.there)
+            there8;
+        before = λ j l. elim (cases_lt j k) as (λ _. OwnRunsSame image world j) [
           | inl m ↦ were.before j m
-          | inr e ↦ subst (OwnRunsSame image world) (sym e) now
+          | inr m ↦
+              let few_on : j - k < n = omega (arith, l, m) in
+              let there : k + (j - k) ≡ j = omega (arith, m) in
+              subst (OwnRunsSame image world) there (on (j - k) (alike r s were.at4.there were.at8.there now (j - k) few_on))
         ];
-        now = subst (λ a. Q a (own_run 8 image world (k + 1))) (sym (run-next 4 image world k))
-            (subst (Q (run_step 4 world (own_placement 4 world) r)) (sym (run-next 8 image world k))
-            ((λ t. whole.0 (new.0 t), λ z. new.1 (whole.1 z))));
+        now = (λ t. on n (whole.0 (new.0 t)), λ z. new.1 (whole.1 (back n z)));
       }
 
   -- where the runs part, once the two runners go on no more in step

@@ -1,13 +1,13 @@
 -- The placement that this project takes is valid.
 use Rattle.twin_run.proofs.Common.{◌≡◌, ℕ, suc, ◌+◌, ◌*◌, ◌%◌, ◌^◌, ◌<◌, ◌≤◌, List, [], ◌∷◌, length, refl, ap, arith, inl, AllByRecursion}
-use Rattle.twin_run.proofs.Common.{sum_by, Range, IsWidth, Notes, ScriptObject, placed_objects, shape_of, own_placement, all_pairs}
-use Rattle.std.proofs.{Common.le_refl, lemmas.List.Sums.sum_by-append, lemmas.Nat.mul-le}
+use Rattle.twin_run.proofs.Common.{sum_by, Range, IsWidth, Notes, ScriptObject, placed_objects, own_placement, all_pairs}
+use Rattle.std.proofs.{Common.le_refl, lemmas.List.Sums.sum_by-append}
 use Rattle.ebc_width.proofs.Laws.{by_width}
 use Rattle.note_types.specs.Concrete.{AreDisjoint}
 use Rattle.object_memory.specs.Memory.{first_base, padded}
 use Rattle.host_model.specs.Placements.{IsWithin, area_bytes, bases_from, object_bytes, placed_ranges, script_ranges, stack_bytes}
 use Rattle.host_model.specs.{Objects.script_object, Scripts.room_of}
-use Rattle.neutral_machine.proofs.Ranges.{stack_is_within_limit}
+use Rattle.neutral_machine.proofs.{PlacedObjects.bytes_le, Ranges.stack_is_within_limit}
 use Rattle.twin_run.specs.OwnPlacement.{OwnPlacementIsValid}
 use Rattle.step_sound.proofs.Items.{EachPair, all_items}
 
@@ -29,20 +29,11 @@ used_sum notes (o ∷ os) =
     sum_by-append (room_of notes) (o ∷ []) os in
     omega (arith, rest, one)
 
--- at either width an object takes no more than at width 8
-bytes_grow : (w : ℕ) (notes : Notes) (o : ScriptObject) → IsWidth w
-    → object_bytes w notes (script_object o) ≤ object_bytes 8 notes (script_object o)
-bytes_grow w notes o h =
-    let n : ℕ = (shape_of notes o.shape).n in
-    let c : ℕ = (shape_of notes o.shape).c in
-    by_width (λ v. o.count * (n * v + c) ≤ o.count * (n * 8 + c)) w h
-    (mul-le o.count (n * 4 + c) o.count (n * 8 + c) (le_refl o.count) (omega arith)) (le_refl (o.count * (n * 8 + c)))
-
 used_grows : (w : ℕ) (notes : Notes) (os : List ScriptObject) → IsWidth w → used w notes os ≤ used 8 notes os
 used_grows w notes [] h = le_refl 0
 used_grows w notes (o ∷ os) h =
     let rest = used_grows w notes os h in
-    let one = bytes_grow w notes o h in
+    let one = bytes_le w notes (script_object o) h in
     omega (arith, rest, one)
 
 -- ---- the objects of the script

@@ -16,6 +16,7 @@ use Rattle.host_model.specs.HostPlans.{Asking, NoSite, Unmapped, Asks, reply_sto
 use Rattle.host_model.specs.HostPlans.{call_event, call_plan, call_settled, callback_fits, enter_plan, entry_refused, next_plan}
 use Rattle.host_model.specs.HostPlans.{notification_fits, notify_plan, reply_fits, reply_plan, asked_signature, asked_args}
 use Rattle.host_model.specs.{Progress.one_entry, ScriptValues.given, ScriptValues.same_seen}
+use Rattle.host_laws.proofs.Plans.{left_over, none_left}
 use Rattle.native_host.specs.Starting.{rest_events}
 use Rattle.twin_run.specs.Room.{callbacks_left, frame_events}
 use Rattle.ebc_machine.specs.declared.StepEnd.TheVariants as ends
@@ -151,17 +152,9 @@ entry-ends (Some c) g args = by (nat_eq c.signature g) where
   by true = arguments-end 0 args c.args
   by false = λ h. cc
 
-entry-some : (o : Option ScriptCall) (g : ℕ) (args : List Seen) → entry_refused o g args ≡ None → (c : ScriptCall) × (o ≡ Some c)
-entry-some None g args none = absurd cc
-entry-some (Some c) g args none = (c, refl)
-
 or-ends : (a b : Option Ending) → AreEnds a → AreEnds b → AreEnds (option_or a b)
 or-ends None b x y = y
 or-ends (Some e) b x y = x
-
-or-none : (a b : Option Ending) → option_or a b ≡ None → b ≡ None
-or-none None b h = h
-or-none (Some e) b h = absurd cc
 
 rest-next : (cs : List ScriptCall) (k : ℕ) (c : ScriptCall) → slice_get cs k ≡ Some c
     → rest_events (drop k cs) ≡ 2 + 2 * length c.enter + rest_events (drop (suc k) cs)
@@ -198,8 +191,8 @@ called-events w world P most m f fs at t place asking i few =
     (asked_args asking)))
     (or-ends _ _ (asking-ends place asking) (entry-ends (slice_get world.script.call at.entries) (asked_signature asking) (asked_args
     asking)))
-    (λ none. entry-some (slice_get world.script.call at.entries) (asked_signature asking) (asked_args asking) (or-none (asking_refused
-    place asking) _ none)) where
+    (λ none. left_over (slice_get world.script.call at.entries) (asked_signature asking) (asked_args asking)
+    (none_left (asking_refused place asking) _ none).1) where
       by : (o : Option Ending) → AreEnds o → (o ≡ None → (c : ScriptCall) × (slice_get world.script.call at.entries ≡ Some c))
           → HasEvents world.script most (performed w world P (running m (f ∷ fs) at t) (call_settled world at.entries (call_event place
           asking)

@@ -1,8 +1,8 @@
 -- Laws of runners: what a runner holds is a state of its run, and what changes of it are changes of the state.
 use Rattle.twin_run.proofs.Common.{◌≡◌, ℕ, ◌-◌, Bool, true, false, List, Option, Some, None, refl, sym, ap, ◌∙◌, subst, eq-eqb, nat_eq}
-use Rattle.twin_run.proofs.Common.{slice_set, if◌then◌else◌, covers, Memory, Concrete, with_register, Ending, Spot, KeepsObjects}
+use Rattle.twin_run.proofs.Common.{IfSome, slice_set, if◌then◌else◌, covers, Memory, Concrete, with_register, Ending, Spot, KeepsObjects}
 use Rattle.twin_run.proofs.Common.{concrete_of, Frame, with_memory, spot_of, Placement, own_placement, RunState, World, IsMemoryOf}
-use Rattle.twin_run.proofs.Common.{IsServing, host_world, shown, placement_of, Host, other-place, IsAt, IsRunner, hosts_of, AskedCall}
+use Rattle.twin_run.proofs.Common.{IsServing, host_world, shown, placement_of, Host, other-place, IsAt, hosts_of, AskedCall}
 use Rattle.twin_run.proofs.Common.{Runner}
 use Rattle.host_model.specs.Placements.{image_range}
 use Rattle.note_types.specs.declared.spot.Spot.TheVariants as spot
@@ -21,11 +21,11 @@ is_placed w world h serving size = serving.host.placement ∙ ap (own_placement 
 
 -- ---- spots
 
-pub spot_gate : (w : ℕ) (world : World) (x : Runner w) (r : RunState) → IsRunner w world x r → nat_eq x.machine.ip x.machine.gate ≡ true
+pub spot_gate : (w : ℕ) (world : World) (x : Runner w) (r : RunState) → IsAt w world x r → nat_eq x.machine.ip x.machine.gate ≡ true
     → spot.Gate ≡ spot_of world (own_placement w world) r.machine
 unfolding spot_of
-spot_gate w world x r is there =
-    subst (λ (s : Concrete). spot.Gate ≡ spot_of world (own_placement w world) s) is.at.machine
+spot_gate w world x r at there =
+    subst (λ (s : Concrete). spot.Gate ≡ spot_of world (own_placement w world) s) at.machine
     (ap (λ b. if b then spot.Gate else if covers x.machine.ip 1 (image_range world (own_placement w world)) then spot.Place (x.machine.ip
     - (own_placement w world).image) else spot.Wild x.machine.ip) (sym there))
 
@@ -47,16 +47,25 @@ spot_else world P s o away is =
       by true = refl
       by false = refl
 
-pub spot_away : (w : ℕ) (world : World) (x : Runner w) (r : RunState) (o : Option ℕ) → IsRunner w world x r
+pub spot_away : (w : ℕ) (world : World) (x : Runner w) (r : RunState) (o : Option ℕ) → IsAt w world x r
     → nat_eq x.machine.ip x.machine.gate ≡ false
     → ((world : World) (P : Placement) → P.image ≡ (placement_of x.host.places).image → world.image_size ≡ x.image_size
     → o ≡ (if covers x.machine.ip 1 (image_range world P) then Some (x.machine.ip - P.image) else None))
     → spot_by x.machine.ip o ≡ spot_of world (own_placement w world) r.machine
-spot_away w world x r o is away place =
-    let base = ap (λ (P : Placement). P.image) (is_placed w world x.host is.at.serving is.at.size) in
-    subst (λ (s : Concrete). spot_by x.machine.ip o ≡ spot_of world (own_placement w world) s) is.at.machine
+spot_away w world x r o at away place =
+    let base = ap (λ (P : Placement). P.image) (is_placed w world x.host at.serving at.size) in
+    subst (λ (s : Concrete). spot_by x.machine.ip o ≡ spot_of world (own_placement w world) s) at.machine
     (spot_else world (own_placement w world) (concrete_of x.machine x.mem) o away (place world (own_placement w world) (sym base) (sym
-    is.at.image_size)))
+    at.image_size)))
+
+-- the place that is found is where it stands
+pub stands_at : (w : ℕ) (x : Runner w) (o : Option ℕ) → nat_eq x.machine.ip x.machine.gate ≡ false
+    → ((world : World) (P : Placement) → P.image ≡ (placement_of x.host.places).image → world.image_size ≡ x.image_size
+    → o ≡ (if covers x.machine.ip 1 (image_range world P) then Some (x.machine.ip - P.image) else None))
+    → IfSome o (λ place. (world : World) (r : RunState) (d : ℕ) → IsAt w world (record x { done = d }) r
+    → spot.Place place ≡ spot_of world (own_placement w world) r.machine)
+stands_at w x None away place = tt
+stands_at w x (Some p) away place = λ world r d at. spot_away w world (record x { done = d }) r (Some p) at away place
 
 -- ---- states
 

@@ -17,7 +17,7 @@ use Rattle.note_types.specs.declared.value.Value.TheVariants as value
 
 -- ---- values
 
-value-equal : (a b : Value) → values.eq a b ≡ true → a ≡ b
+pub value-equal : (a b : Value) → values.eq a b ≡ true → a ≡ b
 value-equal (value.Int a) (value.Int b) h = ap value.Int (eqb-true a b h)
 value-equal (value.Size a b) (value.Size x y) h =
     let p = and_parts _ _ h in λ i. value.Size (eqb-true a x p.0 i) (eqb-true b y p.1 i)
@@ -34,7 +34,7 @@ value-equal value.Out value.Out h = refl
 value-equal (value.Wild a) (value.Wild b) h = ap value.Wild (eqb-true a b h)
 value-equal _ _ h = absurd (false≢true h)
 
-value-refl : (a : Value) → values.eq a a ≡ true
+pub value-refl : (a : Value) → values.eq a a ≡ true
 value-refl (value.Int a) = eq-eqb a a refl
 value-refl (value.Size a b) = and_from _ _ (eq-eqb a a refl) (eq-eqb b b refl)
 value-refl (value.Ptr a b) = and_from _ _ (eq-eqb a a refl) (eq-eqb b b refl)

@@ -42,7 +42,7 @@ module _ (w : ℕ) (world : World) (P : Placement) where
 abbrev pub TellsMore : List Event → List Event → Type 0
 TellsMore old new = (es : List Event) × (new ≡ old ++ es)
 
-none-more : (old : List Event) → TellsMore old old
+pub none-more : (old : List Event) → TellsMore old old
 none-more old = ([], sym (append-nil old))
 
 -- none more where a state tells the same

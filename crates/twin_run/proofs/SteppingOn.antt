@@ -2,8 +2,8 @@
 use Rattle.twin_run.proofs.Common.{◌≢◌, vec_capacity, ◌≡◌, ℕ, zero, suc, ◌+◌, ◌-◌, ◌^◌, ◌<◌, ◌≤◌, false, map, min, None, refl, sym, ap, ◌∙◌}
 use Rattle.twin_run.proofs.Common.{subst, arith, add-one, inl, inr, cases_lt, Running, Script, Notes, saved_of, is_due, call_under_way}
 use Rattle.twin_run.proofs.Common.{own_placement, NoCall, ScriptPlace, RunState, instruction_step, run_step, running_step, step_if, World}
-use Rattle.twin_run.proofs.Common.{HasEvents, GoesOnFor, IsAt, IsFree, IsQuiet, IsRunner, Runs, hosts_of, steps_on, Runner}
-use Rattle.twin_run.specs.Runner.{IsMachines}
+use Rattle.twin_run.proofs.Common.{Bool, true, HasEvents, GoesOnFor, IsAt, IsFree, IsQuiet, IsRunner, Runs, hosts_of, steps_on, Runner}
+use Rattle.twin_run.specs.Runner.{HasDone, IsMachines, TakesSteps}
 use Rattle.twin_run.proofs.{RoomLaws.step_events, RunnerLaws.away_there, TurnLaws.due_there, TurnLaws.more_events, TurnLaws.not_due_before}
 use Rattle.twin_run.proofs.TurnLaws.{quiet_at, turn_is}
 
@@ -114,6 +114,57 @@ is_on_next w world x y z n most r is less same away free on at step =
     again : (a b : ℕ) → min (min (a + b) (2 ^ 64 - 1) + 1) (2 ^ 64 - 1) ≡ min (a + (b + 1)) (2 ^ 64 - 1)
     again a b = omega arith
 
+-- What so many instructions of a runner leave, which are still to be counted. The last one may have asked for something.
+pub record AreTaken (w : ℕ) (notes : Notes) (most : ℕ) (old new : Runner w) (n : ℕ) (next : Bool) : Type 0 where
+  pub done : new.done ≡ old.done
+  pub trace : new.host.trace ≡ old.host.trace
+  pub quiet : (script : Script) → IsQuiet script old → IsQuiet script new
+  pub same : next ≡ true → new ≡ record old { machine = new.machine; mem = new.mem }
+  pub on : (world : World) (r : RunState) → world.notes ≡ notes → IsFree world.script old most → r.ending ≡ Running → IsAt w world old r
+      → IsOn w world old new n r
+
+pub none_taken : (w : ℕ) (notes : Notes) (most : ℕ) (x : Runner w) → AreTaken w notes most x x (most - most) true
+none_taken w notes most x =
+    let none : 0 ≡ most - most = omega arith in
+    subst (λ n. AreTaken w notes most x x n true) none (record {
+      done = λ i. x.done;
+      trace = λ i. x.host.trace;
+      quiet = λ script quiet. quiet;
+      same = λ e i. x;
+      on = λ world r its free on at. is_on w world x r at;
+    })
+
+pub one_taken : (w : ℕ) (notes : Notes) (most left : ℕ) (x y z : Runner w) (before after : Bool)
+    → AreTaken w notes most x y (most - left) before → before ≡ true → left ≤ most → 0 < left → y.machine.ip ≢ y.machine.gate
+    → ((world : World) (r : RunState) (d : ℕ) → world.notes ≡ notes → IsAt w world (record y { done = d }) r
+    → IsAt w world (record z { done = min (d + 1) (2 ^ 64 - 1) }) (instruction_step w world (own_placement w world) r))
+    → (after ≡ true → z ≡ record y { machine = z.machine; mem = z.mem }) → z.done ≡ y.done → z.host.trace ≡ y.host.trace
+    → ((script : Script) → IsQuiet script y → IsQuiet script z) → AreTaken w notes most x z (most - (left - 1)) after
+one_taken w notes most left x y z before after were goes_on few some away step same done trace quiet =
+    let more : most - left + 1 ≡ most - (left - 1) = omega (arith, few, some) in
+    subst (λ n. AreTaken w notes most x z n after) more (record {
+      done = done ∙ were.done;
+      trace = trace ∙ were.trace;
+      quiet = λ script is. quiet script (were.quiet script is);
+      same = λ e. subst (λ (u : Runner w). z ≡ record u { machine = z.machine; mem = z.mem }) (were.same goes_on) (same e);
+      on = λ world r its free on at.
+          is_on_next w world x y z (most - left) most r (were.on world r its free on at) (omega (arith, few, some)) (were.same goes_on)
+          away free on at (λ s d there. step world s d its there);
+    })
+
+-- once they are counted
+pub all_taken : (w : ℕ) (notes : Notes) (most n done : ℕ) (x y : Runner w) (next : Bool) → AreTaken w notes most x y n next
+    → done ≡ min (y.done + n) (2 ^ 64 - 1) → HasDone w notes most x (record y { done = done }) n
+all_taken w notes most n done x y next are counted =
+    let count : min (x.done + n) (2 ^ 64 - 1) ≡ done = ap (λ k. min (k + n) (2 ^ 64 - 1)) (sym are.done) ∙ sym counted in
+    record {
+      at = λ world r its free on at.
+          subst (λ k. IsAt w world (record y { done = k }) (steps_on w world n r)) count (are.on world r its free on at).at;
+      goes_on = λ world r its free on at. (are.on world r its free on at).goes;
+      trace = are.trace;
+      quiet = are.quiet;
+    }
+
 -- ---- for how many steps it is the machine's turn
 
 -- for one where nothing else is due
@@ -164,6 +215,23 @@ went_on_for w world x y n r is at goes quiet capacity = record {
       (events_on w world (vec_capacity x.host.trace) n r goes is.events) capacity;
 }
 
+-- instructions where so many are free are steps
+pub free_steps : (w : ℕ) (notes : Notes) (script : Script) (most n taken : ℕ) (x y : Runner w) → HasDone w notes most x y n
+    → x.ending ≡ Running → (IsQuiet script x → IsFree script x most) → taken ≡ min (x.taken + n) (2 ^ 64 - 1)
+    → TakesSteps w notes script x (record y { taken = taken }) n
+free_steps w notes script most n taken x y done on free counted = record {
+  steps = λ world r its same is.
+      recounted w world y (steps_on w world n r) taken (went_on_for w world x y n r is
+      (done.at world r its (here world same is.quiet) (sym is.at.ending ∙ on) is.at)
+      (done.goes_on world r its (here world same is.quiet) (sym is.at.ending ∙ on) is.at) (done.quiet world.script is.quiet)
+      (omega (arith, ap (λ t. vec_capacity t) done.trace)));
+  goes_on = λ world r its same is. done.goes_on world r its (here world same is.quiet) (sym is.at.ending ∙ on) is.at;
+  counted = counted;
+} where
+  here : (world : World) → world.script ≡ script → IsQuiet world.script x → IsFree world.script x most
+  here world same quiet =
+      subst (λ (s : Script). IsFree s x most) (sym same) (free (subst (λ (s : Script). IsQuiet s x) same quiet))
+
 -- a step of the host
 pub one_on : (w : ℕ) (world : World) (y : Runner w) (r : RunState) → r.ending ≡ Running
     → IsAt w world y (running_step w world (own_placement w world) r) → IsAt w world y (steps_on w world 1 r)
@@ -173,6 +241,17 @@ pub goes_one : (w : ℕ) (world : World) (r : RunState) → r.ending ≡ Running
 goes_one w world r on j l =
     let none : j ≡ 0 = omega (arith, l) in ap (λ k. (steps_on w world k r).ending) none ∙ (ap (λ (s : RunState). s.ending) (on_none w world
     r) ∙ on)
+
+-- a step is one
+pub one_step : (w : ℕ) (notes : Notes) (script : Script) (x y : Runner w) → x.ending ≡ Running
+    → ((world : World) (r : RunState) → world.notes ≡ notes → world.script ≡ script → IsRunner w world x r
+    → IsRunner w world y (run_step w world (own_placement w world) r))
+    → (x.ending ≡ Running → y.taken ≡ min (x.taken + 1) (2 ^ 64 - 1)) → TakesSteps w notes script x y 1
+one_step w notes script x y on step counted = record {
+  steps = λ world r its same is. subst (IsRunner w world y) (sym (on_one w world r)) (step world r its same is);
+  goes_on = λ world r its same is. goes_one w world r (sym is.at.ending ∙ on);
+  counted = counted on;
+}
 
 -- a runner of some run is still one
 pub runs_still : (w : ℕ) (notes : Notes) (script : Script) (x y : Runner w) (n : ℕ) → Runs w notes script x

@@ -5,10 +5,11 @@ use Rattle.pe_image.specs.declared.image.Image.{Image}
 use Rattle.host_model.specs.HostSteps.{spot_of}
 use Rattle.host_model.specs.Placements.{own_placement}
 use Rattle.host_model.specs.RunState.{RunState}
+use Rattle.host_model.specs.Runs.{SameRun}
 use Rattle.host_model.specs.World.{World}
 use Rattle.twin_run.specs.Differs.{OwnRunsSame}
 use Rattle.twin_run.specs.Reported.{own_run}
-use Rattle.twin_run.specs.Runner.{IsRunner}
+use Rattle.twin_run.specs.Runner.{IsRunner, steps_on}
 use Rattle.twin_run.specs.declared.runner.Runner.{Runner}
 
 -- A runner is where the run is after so many steps, which it counted and which are no more than a limit, and the run goes on before
@@ -24,6 +25,12 @@ pub record IsSameButFirst (world : World) (told : ℕ) (r s : RunState) : Type 0
   pub spot : spot_of world (own_placement 4 world) r.machine ≡ spot_of world (own_placement 8 world) s.machine
   pub ending : r.ending ≡ s.ending
   pub events : drop told r.trace ≡ drop told s.trace
+
+-- Two runs, at 4 and at 8 bytes, are the same before each of so many steps.
+abbrev pub AreSameBefore : World → ℕ → RunState → RunState → Type 0
+AreSameBefore world n r s =
+    (j : ℕ) → j < n
+    → SameRun world (own_placement 4 world) (steps_on 4 world j r) (own_placement 8 world) (steps_on 8 world j s)
 
 -- Two runners, at 4 and at 8 bytes, have taken as many steps; the runs are the same before the last of them, and it is known whether
 -- they are after it.

@@ -78,6 +78,23 @@ pub record Runs (w : ℕ) (notes : Notes) (script : Script) (x : Runner w) : Typ
   pub state : RunState
   pub is : IsRunner w world x state
 
+-- A runner has done so many instructions more, where so many were free: they tell nothing, and what it holds as quiet is.
+pub record HasDone (w : ℕ) (notes : Notes) (most : ℕ) (old new : Runner w) (n : ℕ) : Type 0 where
+  pub at : (world : World) (r : RunState) → world.notes ≡ notes → IsFree world.script old most → r.ending ≡ Running → IsAt w world old r
+      → IsAt w world new (steps_on w world n r)
+  pub goes_on : (world : World) (r : RunState) → world.notes ≡ notes → IsFree world.script old most → r.ending ≡ Running
+      → IsAt w world old r → GoesOnFor w world n r
+  pub trace : new.host.trace ≡ old.host.trace
+  pub quiet : (script : Script) → IsQuiet script old → IsQuiet script new
+
+-- A runner has taken so many steps more, before each of which the run goes on, and counted them.
+pub record TakesSteps (w : ℕ) (notes : Notes) (script : Script) (old new : Runner w) (n : ℕ) : Type 0 where
+  pub steps : (world : World) (r : RunState) → world.notes ≡ notes → world.script ≡ script → IsRunner w world old r
+      → IsRunner w world new (steps_on w world n r)
+  pub goes_on : (world : World) (r : RunState) → world.notes ≡ notes → world.script ≡ script → IsRunner w world old r
+      → GoesOnFor w world n r
+  pub counted : new.taken ≡ min (old.taken + n) (2 ^ 64 - 1)
+
 -- What a step of the host needs of a runner: its host serves, its memory is the host's, there is room for an event, and the run is
 -- inside a function that the host entered.
 pub record IsReady (w : ℕ) (notes : Notes) (script : Script) (x : Runner w) : Type 0 where

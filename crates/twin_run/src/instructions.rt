@@ -1,17 +1,18 @@
 //! The instructions of a run (docs/HOST.md, "Runs").
-ghost use Rattle.std.specs.Prelude.{◌≡◌, ◌≢◌, ◌+◌, ◌-◌, ◌^◌, ◌<◌, ◌≤◌, ℕ, min, IsTrue, Some, None, if◌then◌else◌};
+ghost use Rattle.std.specs.Prelude.{◌≡◌, ◌≢◌, ◌+◌, ◌-◌, ◌^◌, ◌<◌, ◌≤◌, ℕ, min, IfSome, IsTrue, Some, None, if◌then◌else◌};
 ghost use Rattle.ebc_width.specs.Ranges.{covers};
 ghost use Rattle.ebc_width.specs.Width.{IsWidth};
 ghost use Rattle.note_types.specs.declared.ending.Ending.TheVariants.{Running};
 ghost use Rattle.note_types.specs.declared.script.Script.{Script};
+ghost use Rattle.note_types.specs.declared.spot.Spot.TheVariants.{Place};
 ghost use Rattle.ebc_machine.specs.States.{concrete_of};
-ghost use Rattle.host_model.specs.HostSteps.{call_place, thunk_made, thunk_view};
+ghost use Rattle.host_model.specs.HostSteps.{call_place, spot_of, thunk_made, thunk_view};
 ghost use Rattle.host_model.specs.Placements.{Placement, image_range, own_placement};
 ghost use Rattle.host_model.specs.RunState.{RunState};
 ghost use Rattle.host_model.specs.Runs.{instruction_step};
 ghost use Rattle.host_model.specs.World.{World};
 ghost use Rattle.native_host.specs.Kept.{IsOf, placement_of};
-ghost use Rattle.twin_run.specs.Runner.{GoesOnFor, IsAt, IsFree, IsQuiet, steps_on};
+ghost use Rattle.twin_run.specs.Runner.{HasDone, IsAt, IsQuiet};
 
 use crate::runner::{AskedCall, Runner};
 use ebc_machine::StepEnd;
@@ -32,6 +33,18 @@ impl<const W: usize> Runner<W> {
         }
     }
 
+    // The place of the image where the run stands: none at the gate and outside the image.
+    pub(crate) fn place(&self) -> Option<u32>
+        ensures inside { IfSome result (λ place. self.now.machine.ip ≢ self.now.machine.gate) }
+        ensures spot { IfSome result (λ place. (world : World) (r : RunState) (d : ℕ) → IsAt W world (record self.now { done = d }) r → Place place ≡ spot_of world (own_placement W world) r.machine) }
+    {
+        if self.machine.ip == self.machine.gate {
+            None
+        } else {
+            self.image_place(self.machine.ip)
+        }
+    }
+
     // The place of a call instruction at an address.
     fn call_place(&self, addr: u64) -> u32
         ensures { (world : World) (P : Placement) → P.image ≡ (placement_of self.now.host.places).image → world.image_size ≡ self.now.image_size → result ≡ call_place world P addr }
@@ -49,12 +62,9 @@ impl<const W: usize> Runner<W> {
         requires notes { IsOf W notes.now self.old.host.places }
         requires some { 0 < most }
         requires inside { self.old.machine.ip ≢ self.old.machine.gate }
-        ensures at { (world : World) (r : RunState) → world.notes ≡ notes.now → IsFree world.script self.old most → r.ending ≡ Running → IsAt W world self.old r → IsAt W world self.new (steps_on W world result r) }
-        ensures goes_on { (world : World) (r : RunState) → world.notes ≡ notes.now → IsFree world.script self.old most → r.ending ≡ Running → IsAt W world self.old r → GoesOnFor W world result r }
+        ensures done { HasDone W notes.now most self.old self.new result }
         ensures some { 0 < result }
         ensures most { result ≤ most }
-        ensures trace { self.new.host.trace ≡ self.old.host.trace }
-        ensures quiet { (script : Script) → IsQuiet script self.old → IsQuiet script self.new }
     {
         let mut left = most;
         let mut next = true;
@@ -67,8 +77,10 @@ impl<const W: usize> Runner<W> {
         taken
     }
 
-    // One instruction, which is still to be counted; whether it asks for nothing.
-    fn instruction(&mut self, notes: &Notes) -> bool
+    // One instruction, which is still to be counted; whether it asks for nothing. Each loop over instructions holds it, so none makes
+    // a call for it.
+    #[inline(always)]
+    pub(crate) fn instruction(&mut self, notes: &Notes) -> bool
         requires width { IsWidth W }
         requires notes { IsOf W notes.now self.old.host.places }
         ensures at { (world : World) (r : RunState) (d : ℕ) → world.notes ≡ notes.now → IsAt W world (record self.old { done = d }) r → IsAt W world (record self.new { done = min (d + 1) (2 ^ 64 - 1) }) (instruction_step W world (own_placement W world) r) }

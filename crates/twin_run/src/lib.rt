@@ -32,8 +32,9 @@
 //!   of memory alone, which `start` may give.
 //! - `twin`: runs an image at both widths so, each run to its own report (`at4`, `at8`), and finds the least number of
 //!   steps, up to the same limit, after which the two aren't the same (`differ`, as `DifferAt` has it). Where the image
-//!   is typed there is none (`same_where_typed`). Both runs go in step while they are the same; then only the events
-//!   that a step adds are compared. Once they part each goes on by itself.
+//!   is typed there is none (`same_where_typed`). Both runs go in step while they are the same. Where an instruction
+//!   that asks for nothing leads to a place of the image, only the places are compared. After any other step it is all
+//!   that the two show, but of the events only the new ones. Once the runs part each goes on by itself.
 //! - `machines_follow`: in a typed image the neutral machine is never stuck, and at either width, under every valid
 //!   placement, after every number of steps, the run meets the invariant beside it (`MachinesFollow`).
 //! - `typed_runs_are_same`: the runs of a typed image at 4 and at 8 bytes are the same after every number of steps,
@@ -49,6 +50,7 @@ mod bound;
 mod comparing;
 mod entering;
 mod hosting;
+mod in_step;
 mod instructions;
 mod one_run;
 mod reports;

@@ -4,6 +4,7 @@ ghost use Rattle.std.specs.Bool.{OnFalse, OnTrue};
 ghost use Rattle.ebc_width.specs.Width.{IsWidth};
 ghost use Rattle.note_types.specs.Records.{IsNotes};
 ghost use Rattle.note_types.specs.declared.ending.Ending.TheVariants.{Running};
+ghost use Rattle.note_types.specs.declared.script.Script.{Script};
 ghost use Rattle.pe_image.specs.Images.{IsImage};
 ghost use Rattle.pe_image.specs.Mapped.{AreBytes};
 ghost use Rattle.callex_thunk.specs.HostFrames.{saved_of};
@@ -16,7 +17,7 @@ ghost use Rattle.host_model.specs.Runs.{run_of, run_step, running_step, world_of
 ghost use Rattle.host_model.specs.Scripts.{IsScript};
 ghost use Rattle.host_model.specs.World.{World};
 ghost use Rattle.native_host.specs.Hosts.{IsCalled};
-ghost use Rattle.twin_run.specs.Runner.{GoesOnFor, IsAt, IsMachines, IsQuiet, IsReady, IsRunner, Runs, steps_on};
+ghost use Rattle.twin_run.specs.Runner.{GoesOnFor, IsAt, IsFree, IsMachines, IsQuiet, IsReady, IsRunner, Runs, TakesSteps, steps_on};
 
 use crate::entering::numbers_of;
 use crate::reports::RunReport;
@@ -128,11 +129,9 @@ impl<const W: usize> Runner<W> {
         requires runs { Runs W notes.now script.now self.old }
         requires running { self.old.ending ≡ Running }
         requires some { 0 < most }
-        ensures steps { (world : World) (r : RunState) → world.notes ≡ notes.now → world.script ≡ script.now → IsRunner W world self.old r → IsRunner W world self.new (steps_on W world result r) }
-        ensures goes_on { (world : World) (r : RunState) → world.notes ≡ notes.now → world.script ≡ script.now → IsRunner W world self.old r → GoesOnFor W world result r }
+        ensures steps { TakesSteps W notes.now script.now self.old self.new result }
         ensures some { 0 < result }
         ensures most { result ≤ most }
-        ensures counted { self.new.taken ≡ min (self.old.taken + result) (2 ^ 64 - 1) }
     {
         let taken = self.taken;
         let steps = self.go_on(notes, script, most);
@@ -168,14 +167,27 @@ impl<const W: usize> Runner<W> {
         ensures quiet { IsQuiet script.now self.new }
         ensures capacity { vec_capacity self.old.host.trace ≤ vec_capacity self.new.host.trace }
     {
-        if self.machine.ip == self.machine.gate {
+        let free = self.free();
+        if free > 0 {
+            Some(free)
+        } else if self.machine.ip == self.machine.gate {
             self.leave_function(notes);
             self.quiet = 0;
             None
-        } else if self.done < self.quiet {
-            Some(self.quiet - self.done)
         } else {
             self.look(notes, script)
+        }
+    }
+
+    // How many steps are the machine's if they stay inside a function and ask for nothing, as far as it is known.
+    pub(crate) fn free(&self) -> u64
+        ensures inside { 0 < result → self.now.machine.ip ≢ self.now.machine.gate }
+        ensures free { (script : Script) → 0 < result → IsQuiet script self.now → IsFree script self.now result }
+    {
+        if self.machine.ip == self.machine.gate {
+            0
+        } else {
+            self.quiet.saturating_sub(self.done)
         }
     }
 

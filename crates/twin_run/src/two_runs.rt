@@ -14,6 +14,7 @@ ghost use Rattle.twin_run.specs.Runner.{IsRunner};
 ghost use Rattle.width_checker.specs.Typed.{Typed};
 
 use crate::comparing::{same_ending, same_from, same_spot};
+use crate::in_step;
 use crate::one_run::{finish, goes_on};
 use crate::reports::TwinReport;
 use crate::runner::{Runner, start};
@@ -61,9 +62,7 @@ pub fn twin(
     let mut same = same_but_first(&at4, &at8, 0);
     while same && taken < steps && goes_on(&at4) {
         let told = at4.trace().len();
-        at4.step(image, notes, script);
-        at8.step(image, notes, script);
-        taken += 1;
+        taken += in_step::steps(&mut at4, &mut at8, image, notes, script, steps - taken);
         same = same_but_first(&at4, &at8, told);
     }
     Ok(TwinReport {

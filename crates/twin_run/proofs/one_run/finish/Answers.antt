@@ -12,14 +12,14 @@ loop-runner-init g c = record {
 pub loop-runner-preserved : goal.loop-runner-preserved
 loop-runner-preserved g c = record {
   runs = runs_still g.row.W c.args.notes.now c.args.script.now c.loop-runner.runner c.steps.new.self c.steps.result
-      c.loop-runner.invariant.runs c.steps.ensures.steps;
+      c.loop-runner.invariant.runs c.steps.ensures.steps.steps;
   on = λ image world n t s h.
       let on = c.loop-runner.invariant.on image world n t s h in
       let less = c.loop-runner-test.true in
       let most = c.steps.ensures.most in
       let next = goes-on_for g.row.W image world c.args.limit c.loop-runner.runner.taken c.steps.result c.loop-runner.runner
-      c.steps.new.self on (omega (arith, less, most)) (omega arith) c.steps.ensures.counted
-      (c.steps.ensures.goes_on world _ t s on.there) (c.steps.ensures.steps world _ t s on.there) in
+      c.steps.new.self on (omega (arith, less, most)) (omega arith) c.steps.ensures.steps.counted
+      (c.steps.ensures.steps.goes_on world _ t s on.there) (c.steps.ensures.steps.steps world _ t s on.there) in
       subst (λ k. IsOnItsWay g.row.W image world c.args.limit k c.steps.new.self) (sym next.taken) next;
 }
 

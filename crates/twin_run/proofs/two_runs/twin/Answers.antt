@@ -13,20 +13,31 @@ loop-same-init c =
     starts-in_step c.args.image.now world c.args.steps c.in_ok-at4.at4 c.in_ok-at8.at8 c.same_but_first-same.result at4 at8
     c.in_ok-at4.ensures.taken c.in_ok-at8.ensures.taken (c.same_but_first-same.ensures world _ _ at4 at8)
 
+pub steps-requires-clause-running4 : goal.steps-requires-clause-running4
+steps-requires-clause-running4 c =
+    let world : World = world_of c.args.image.now c.args.notes.now c.args.script.now in
+    let there = c.loop-same.invariant.at4.there in
+    there.at.ending ∙ (c.goes_on.ensures world _ there).0 c.if-goes_on.true
+
+pub steps-requires-clause-running8 : goal.steps-requires-clause-running8
+steps-requires-clause-running8 c =
+    let world : World = world_of c.args.image.now c.args.notes.now c.args.script.now in
+    let are = c.loop-same.invariant in
+    are.at8.there.at.ending ∙ (sym (are.now.0 c.loop-same-test.true).ending ∙ (c.goes_on.ensures world _ are.at4.there).0 c.if-goes_on.true)
+
 pub loop-same-preserved : goal.loop-same-preserved
 loop-same-preserved c =
     let image : Image = c.args.image.now in
     let world : World = world_of c.args.image.now c.args.notes.now c.args.script.now in
     let are = c.loop-same.invariant in
     let were = subst (AreInStep image world c.args.steps c.loop-same.taken c.loop-same.at4 c.loop-same.at8) c.loop-same-test.true are in
-    goes-on_in_step image world c.args.steps c.loop-same.taken c.len-told.result c.loop-same.at4 c.step.new.self c.loop-same.at8
-    c.step-in-loop-same.new.self c.same_but_first-same-in-loop-same.result were c.if-taken-steps.true
-    (omega arith) ((c.goes_on.ensures world _ are.at4.there).0 c.if-goes_on.true)
+    goes-on_in_step image world c.args.steps c.loop-same.taken c.steps.result c.len-told.result c.loop-same.at4 c.steps.new.at4
+    c.loop-same.at8 c.steps.new.at8 c.same_but_first-same-in-loop-same.result were c.steps.ensures.most c.if-taken-steps.true
+    (omega arith)
     (told image world c.args.steps c.loop-same.taken c.loop-same.at4 c.len-told.result c.trace.result.now.items are.at4
     (c.len-told.ensures ∙ c.trace.result.now.ok.0)
     (c.trace.ensures world))
-    (λ r is. c.step.ensures.step world r refl refl is) (λ r is. c.step-in-loop-same.ensures.step world r refl refl is)
-    c.step.ensures.counted c.step-in-loop-same.ensures.counted
+    c.steps.ensures.steps4 c.steps.ensures.steps8 (λ r s is4 is8 alike. c.steps.ensures.same world r s refl refl is4 is8 alike)
     (c.same_but_first-same-in-loop-same.ensures world)
 
 pub returns-clause-differ : goal.returns-clause-differ

@@ -37,7 +37,7 @@ returns-after-free-most-clause-goes_on g c = λ world r notes script is.
       | then-free-most v ↦ let same = v.instructions-is in omega (arith, same)
       | else-free-most v ↦ let same = v.instructions-is in let more = v.if-free-most.false in omega (arith, same, more)
     ] in
-    c.instructions.ensures.goes_on world r notes
+    c.instructions.ensures.done.goes_on world r notes
     (subst (λ (s : Script). IsFree s y c.if-free-most.instructions) (sym script)
     (free_fewer c.args.script.now y c.in-Some.free c.if-free-most.instructions its.free fewer))
     (sym is.at.ending ∙ c.requires.running) (machines_at w world c.args.script.now c.args.self.now y c.in-Some.free r its is.at)
@@ -53,12 +53,12 @@ returns-after-free-most-clause-steps g c = λ world r notes script is.
       | then-free-most v ↦ let same = v.instructions-is in omega (arith, same)
       | else-free-most v ↦ let same = v.instructions-is in let more = v.if-free-most.false in omega (arith, same, more)
     ] in
-    let at = c.instructions.ensures.at world r notes
+    let at = c.instructions.ensures.done.at world r notes
     (subst (λ (s : Script). IsFree s y c.if-free-most.instructions) (sym script)
     (free_fewer c.args.script.now y c.in-Some.free c.if-free-most.instructions its.free fewer))
     (sym is.at.ending ∙ c.requires.running) (machines_at w world c.args.script.now c.args.self.now y c.in-Some.free r its is.at) in
-    let trace = ap (λ t. vec_capacity t) c.instructions.ensures.trace in
+    let trace = ap (λ t. vec_capacity t) c.instructions.ensures.done.trace in
     let capacity = c.turn.ensures.capacity in
     went_on_for w world c.args.self.now z c.instructions.result r is at (returns-after-free-most-clause-goes_on g c world r notes script is)
-    (c.instructions.ensures.quiet world.script (subst (λ (s : Script). IsQuiet s y) (sym script) c.turn.ensures.quiet))
+    (c.instructions.ensures.done.quiet world.script (subst (λ (s : Script). IsQuiet s y) (sym script) c.turn.ensures.quiet))
     (omega (arith, trace, capacity))

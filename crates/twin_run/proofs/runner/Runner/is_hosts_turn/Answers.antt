@@ -1,4 +1,4 @@
-use Rattle.twin_run.proofs.Common.{true, false, refl, is_due, NoCall, under-way}
+use Rattle.twin_run.proofs.Common.{false, refl, is_due, NoCall, under-way}
 use Rattle.twin_run.proofs.{RunnerLaws.away_there, TurnLaws.due_there, TurnLaws.none_when, TurnLaws.other_call, WatchingLaws.turn_of}
 use Rattle.twin_run.proofs.runner.Runner.is_hosts_turn.Goals as goal
 

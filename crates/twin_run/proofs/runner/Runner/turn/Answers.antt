@@ -1,5 +1,5 @@
-use Rattle.twin_run.proofs.Common.{true, refl, subst, arith, is_due, call_under_way, own_placement, IsAt}
-use Rattle.twin_run.proofs.{RunnerLaws.gate_there, SteppingOn.free_quiet, TurnLaws.quiet_at, TurnLaws.quiet_none, TurnLaws.turn_is}
+use Rattle.twin_run.proofs.Common.{true, refl, subst, is_due, call_under_way, own_placement, IsAt}
+use Rattle.twin_run.proofs.{RunnerLaws.gate_there, TurnLaws.quiet_at, TurnLaws.quiet_none, TurnLaws.turn_is}
 use Rattle.twin_run.proofs.runner.Runner.turn.Goals as goal
 
 pub returns-then-self-clause-host : goal.returns-then-self-clause-host
@@ -14,12 +14,12 @@ returns-then-self-clause-host g c = λ world r none notes script at.
 pub returns-then-self-clause-quiet : goal.returns-then-self-clause-quiet
 returns-then-self-clause-quiet g c = quiet_none c.args.script.now (record c.leave_function.new.self { quiet = 0 }) refl
 
-pub returns-then-self-2-clause-machine : goal.returns-then-self-2-clause-machine
-returns-then-self-2-clause-machine g c =
-    let few = c.if-self-2.true in
+pub returns-then-free-gt0-clause-machine : goal.returns-then-free-gt0-clause-machine
+returns-then-free-gt0-clause-machine g c =
+    let some = c.if-free-gt0.true in
     record {
-      some = omega (arith, few);
-      inside = c.if-self.false;
-      free = free_quiet c.args.script.now c.args.self.now c.requires.quiet few;
+      some = some;
+      inside = c.free-free.ensures.inside some;
+      free = c.free-free.ensures.free c.args.script.now some c.requires.quiet;
       same = λ i. c.args.self.now;
     }
