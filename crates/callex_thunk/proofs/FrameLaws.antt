@@ -13,7 +13,8 @@ use Rattle.callex_thunk.specs.Slots.{with_arguments}
 pub record IsTold (b : ℕ → ℕ) (fs : List Frame) : Type 0 where
   pub frames : (i : ℕ) (f : Frame) → from_bottom fs i ≡ Some f → frame_at b (224 * i) ≡ f
 
-from_bottom-top : (f : Frame) (fs : List Frame) → from_bottom (f ∷ fs) (length fs) ≡ Some f
+-- the frame above all others is the last one from the bottom
+pub from_bottom-top : (f : Frame) (fs : List Frame) → from_bottom (f ∷ fs) (length fs) ≡ Some f
 unfolding from_bottom
 from_bottom-top f fs =
     let less : length fs < length (reverse (f ∷ fs)) = rw (length-reverse (f ∷ fs)) (omega arith) in
@@ -22,7 +23,7 @@ from_bottom-top f fs =
     (get_or-reverse (f ∷ fs) (length fs) f (omega arith) ∙ ap (λ k. get_or (f ∷ fs) k f) last)
 
 -- so the top one has 16 slots
-slots-told : (b : ℕ → ℕ) (f : Frame) (fs : List Frame) → IsTold b (f ∷ fs) → length f.slots ≡ 16
+pub slots-told : (b : ℕ → ℕ) (f : Frame) (fs : List Frame) → IsTold b (f ∷ fs) → length f.slots ≡ 16
 unfolding frame_at
 slots-told b f fs told =
     ap (λ (g : Frame). length g.slots) (sym (told.frames (length fs) f (from_bottom-top f fs))) ∙ length-words b (224 * length fs + 96) 16

@@ -5,12 +5,50 @@ use Rattle.host_laws.proofs.Common.{cell_size, Concrete, register, Finishes, Lea
 use Rattle.host_laws.proofs.Common.{stack_end, SavedFrame, RunState, Ending, Event, Field, Value, HostFrame, Frame, Function, Host, Config}
 use Rattle.host_laws.proofs.Common.{with_value, addresses, memory_of, cell_field, HostShows, HostsShow, CellShows, MachineStands, Stands}
 use Rattle.host_laws.proofs.Common.{Neutral, Anchor, ObjectOf, ThunkOf, LocalOf, CellPlace, FieldOf, FieldOfLocals, Shows, World, WorldFits}
-use Rattle.host_laws.proofs.Common.{Extends, shows_more, shows_in_more, frames_more, end_small}
+use Rattle.host_laws.proofs.Common.{Extends, shows_more, shows_in_more, frames_more, end_small, append-nil}
 use Rattle.host_model.specs.HostSteps.{left, outside, resumed, as_before}
 use Rattle.note_types.specs.declared.ending.Ending.TheVariants.{Finished}
 use Rattle.neutral_machine.specs.NeutralHost.{performed as neutral_performed, left as neutral_left, resumed as neutral_resumed}
 use Rattle.neutral_machine.specs.{Layout.top_of, Stands.cell_address}
 use Rattle.host_laws.proofs.{Marks.machine_told, Replies.by_eq, Replies.hosts_more}
+
+-- ---- the events and the ending are the run's
+
+pub trace_left : (r : RunState) (ss : List SavedFrame) → (left r ss).trace ≡ r.trace
+trace_left r [] = refl
+trace_left r (x ∷ ss) = refl
+
+pub ending_left : (r : RunState) (ss : List SavedFrame) → (left r ss).ending ≡ r.ending
+ending_left r [] = refl
+ending_left r (x ∷ ss) = refl
+
+pub neutral_trace_left : (a : Config) (fs : List Frame) → (neutral_left a fs).trace ≡ a.trace
+neutral_trace_left a [] = refl
+neutral_trace_left a (Function f ∷ fs) = refl
+neutral_trace_left a (Host k ∷ fs) = refl
+
+pub neutral_ending_left : (a : Config) (fs : List Frame) → (neutral_left a fs).ending ≡ a.ending
+neutral_ending_left a [] = refl
+neutral_ending_left a (Function f ∷ fs) = refl
+neutral_ending_left a (Host k ∷ fs) = refl
+
+pub trace_resumed : (r : RunState) (ss : List SavedFrame) → (resumed r ss).trace ≡ r.trace
+trace_resumed r [] = refl
+trace_resumed r (x ∷ ss) = refl
+
+pub ending_resumed : (r : RunState) (ss : List SavedFrame) → (resumed r ss).ending ≡ r.ending
+ending_resumed r [] = refl
+ending_resumed r (x ∷ ss) = refl
+
+pub neutral_trace_resumed : (a : Config) (fs : List Frame) → (neutral_resumed a fs).trace ≡ a.trace
+neutral_trace_resumed a [] = refl
+neutral_trace_resumed a (Function f ∷ fs) = refl
+neutral_trace_resumed a (Host k ∷ fs) = refl
+
+pub neutral_ending_resumed : (a : Config) (fs : List Frame) → (neutral_resumed a fs).ending ≡ a.ending
+neutral_ending_resumed a [] = refl
+neutral_ending_resumed a (Function f ∷ fs) = refl
+neutral_ending_resumed a (Host k ∷ fs) = refl
 
 module _ (w : ℕ) (world : World) (P : Placement) (mapped : ℕ → ℕ) (h : IsWidth w) (ok : WorldFits world) (pl : IsPlacement w world P) where
   -- everything is where it was below a host frame
@@ -189,42 +227,6 @@ module _ (w : ℕ) (world : World) (P : Placement) (mapped : ℕ → ℕ) (h : I
 
   -- ---- the plans
 
-  trace_left : (r : RunState) (ss : List SavedFrame) → (left r ss).trace ≡ r.trace
-  trace_left r [] = refl
-  trace_left r (x ∷ ss) = refl
-
-  ending_left : (r : RunState) (ss : List SavedFrame) → (left r ss).ending ≡ r.ending
-  ending_left r [] = refl
-  ending_left r (x ∷ ss) = refl
-
-  neutral_trace_left : (a : Config) (fs : List Frame) → (neutral_left a fs).trace ≡ a.trace
-  neutral_trace_left a [] = refl
-  neutral_trace_left a (Function f ∷ fs) = refl
-  neutral_trace_left a (Host k ∷ fs) = refl
-
-  neutral_ending_left : (a : Config) (fs : List Frame) → (neutral_left a fs).ending ≡ a.ending
-  neutral_ending_left a [] = refl
-  neutral_ending_left a (Function f ∷ fs) = refl
-  neutral_ending_left a (Host k ∷ fs) = refl
-
-  trace_resumed : (r : RunState) (ss : List SavedFrame) → (resumed r ss).trace ≡ r.trace
-  trace_resumed r [] = refl
-  trace_resumed r (x ∷ ss) = refl
-
-  ending_resumed : (r : RunState) (ss : List SavedFrame) → (resumed r ss).ending ≡ r.ending
-  ending_resumed r [] = refl
-  ending_resumed r (x ∷ ss) = refl
-
-  neutral_trace_resumed : (a : Config) (fs : List Frame) → (neutral_resumed a fs).trace ≡ a.trace
-  neutral_trace_resumed a [] = refl
-  neutral_trace_resumed a (Function f ∷ fs) = refl
-  neutral_trace_resumed a (Host k ∷ fs) = refl
-
-  neutral_ending_resumed : (a : Config) (fs : List Frame) → (neutral_resumed a fs).ending ≡ a.ending
-  neutral_ending_resumed a [] = refl
-  neutral_ending_resumed a (Function f ∷ fs) = refl
-  neutral_ending_resumed a (Host k ∷ fs) = refl
-
   -- a run that ends
   pub end_stands : (a : Config) (r : RunState) (es : List Event) (e : Ending) → Stands w world P mapped a r
       → Stands w world P mapped (neutral_performed world a (Ends es e)) (performed w world P r (Ends es e))
@@ -270,10 +272,7 @@ module _ (w : ℕ) (world : World) (P : Placement) (mapped : ℕ → ℕ) (h : I
   unfolding neutral_performed performed
   finish_stands a r k fs v at st =
       subst₂ (λ (y : Config) (z : RunState). Stands w world P mapped y z)
-      (ap (λ t. record (neutral_left a a.frames) { trace = t; ending = Finished v }) (empty a.trace ∙ sym (neutral_trace_left a a.frames)))
-      (ap (λ t. record (left r r.hosts) { trace = t; ending = Finished v }) (empty r.trace ∙ sym (trace_left r r.hosts)))
+      (ap (λ t. record (neutral_left a a.frames) { trace = t; ending = Finished v }) (append-nil a.trace
+      ∙ sym (neutral_trace_left a a.frames)))
+      (ap (λ t. record (left r r.hosts) { trace = t; ending = Finished v }) (append-nil r.trace ∙ sym (trace_left r r.hosts)))
       (left_stands a r k fs at st [] (Finished v))
-    where
-      empty : (xs : List Event) → xs ++ [] ≡ xs
-      empty [] = refl
-      empty (x ∷ xs) = ap (λ ys. x ∷ ys) (empty xs)

@@ -128,7 +128,7 @@ may_enter_there notes f t = go (slice_get notes.function f) refl (and_parts (not
 
 -- ---- accepting
 
-none_left : (p : Option Ending) (q : Option Ending) → option_or p q ≡ None → (p ≡ None) × (q ≡ None)
+pub none_left : (p : Option Ending) (q : Option Ending) → option_or p q ≡ None → (p ≡ None) × (q ≡ None)
 none_left None q e = (refl, e)
 none_left (Some x) q e = absurd (none-some x (sym e))
 
@@ -142,7 +142,8 @@ settled : (place : ℕ) (asking : Asking) → asking_refused place asking ≡ No
 settled place (Asks g None args) e = record { signature = g; args = args; is = refl }
 settled place c e = absurd (cc)
 
-left_over : (q : Option ScriptCall) (g : ℕ) (args : List Seen) → entry_refused q g args ≡ None → (c : ScriptCall) × (q ≡ Some c)
+-- where the script's next call doesn't refuse it, there is one
+pub left_over : (q : Option ScriptCall) (g : ℕ) (args : List Seen) → entry_refused q g args ≡ None → (c : ScriptCall) × (q ≡ Some c)
 left_over None g args e = absurd (cc)
 left_over (Some c) g args e = (c, refl)
 

@@ -175,7 +175,8 @@ abbrev pub at_place : Config → ℕ → FunctionFrame → List Frame → Config
 at_place a p f fs = record a { spot = spot.Place p; frames = Function f ∷ fs; ending = ending.Running }
 
 module _ (world : World) (states : States) (ok : RunWorld world states) where
-  abbrev asks : Config → ℕ → ℕ → Neutral → FunctionFrame → List Frame → Type 0
+  -- the function on top asks for the call that the notes give its place
+  abbrev pub asks : Config → ℕ → ℕ → Neutral → FunctionFrame → List Frame → Type 0
   asks a p q v f fs = AsksWell world states (live_memory world (at_place a p f fs)) a.made (depth fs) f q p v a.registers
 
   slots_are : (a : Config) (p q : ℕ) (v : Neutral) (f : FunctionFrame) (fs : List Frame) → (w : asks a p q v f fs)

@@ -2,6 +2,7 @@
 use Rattle.label_places.proofs.Common.{◌≡◌, ◌+◌, ◌<◌, ◌≤◌, true, false, cond, List, [], ◌∷◌, length, get_or, map, take, drop, refl, sym, ap}
 use Rattle.label_places.proofs.Common.{◌∙◌, arith, All, leb, filter, ◌&&◌, get_or_default, take_all, Label, Position, AreByPlace, HasEnd}
 use Rattle.std.proofs.lemmas.Bool.{and_cases, and_from, and_left, and_parts, and_right, cases_lt, le-ltb, leb-false, leb-true, eqb-true}
+use Rattle.std.proofs.lemmas.Bool.{or_cases, or_parts}
 use Rattle.std.proofs.Common.{ℕ, ◌-◌, Bool, ◌⊎◌, inl, inr, Contains, ltb, nat_eq}
 use Rattle.std.proofs.lemmas.{Bool.ltb-false, Bool.true≢false, List.get_or-drop, List.get_or-take}
 use Rattle.std.proofs.lemmas.List.{length-drop, length-take, take-append-drop, Elements.All-cons}
@@ -153,13 +154,10 @@ module _ {X : Type 0} (f : X → ℕ) (g : X → Bool) where
       → All (λ p. place < p → end ≤ p) (map f (filter g xs))
   none_filtered place end [] none = All-nil (λ p. place < p → end ≤ p)
   none_filtered place end (x ∷ xs) none =
-      let parts = neither (g x && (ltb place (f x) && ltb (f x) end)) (list_any (λ y. g y && (ltb place (f y) && ltb (f y) end)) xs) none in
+      let parts = or_parts (g x && (ltb place (f x) && ltb (f x) end))
+      (list_any (λ y. g y && (ltb place (f y) && ltb (f y) end)) xs) none in
       by_test (g x) refl parts.0 (none_filtered place end xs parts.1)
     where
-      neither : (a b : Bool) → (a || b) ≡ false → (a ≡ false) × (b ≡ false)
-      neither true b e = absurd cc
-      neither false b e = (refl, e)
-
       by_test : (b : Bool) → g x ≡ b → (g x && (ltb place (f x) && ltb (f x) end)) ≡ false
           → All (λ p. place < p → end ≤ p) (map f (filter g xs))
           → All (λ p. place < p → end ≤ p) (map f (cond b (x ∷ filter g xs) (filter g xs)))
@@ -167,14 +165,10 @@ module _ {X : Type 0} (f : X → ℕ) (g : X → Bool) where
           All-cons (λ p. place < p → end ≤ p) (f x) (map f (filter g xs)) (λ above. not_between place end (f x) (g x) here is above) rest
       by_test false is here rest = rest
 
-  one_side : (a b : Bool) → (a || b) ≡ true → (a ≡ true) ⊎ (b ≡ true)
-  one_side true b e = inl refl
-  one_side false b e = inr e
-
   filtered_has : (end : ℕ) (xs : List X) → list_any (λ x. g x && nat_eq (f x) end) xs ≡ true → Contains (map f (filter g xs)) end
   filtered_has end [] there = absurd cc
   filtered_has end (x ∷ xs) there =
-      by_test (g x) refl (one_side (g x && nat_eq (f x) end) (list_any (λ y. g y && nat_eq (f y) end) xs) there) (filtered_has end xs)
+      by_test (g x) refl (or_cases (g x && nat_eq (f x) end) (list_any (λ y. g y && nat_eq (f y) end) xs) there) (filtered_has end xs)
     where
       by_test : (b : Bool) → g x ≡ b
           → ((g x && nat_eq (f x) end) ≡ true) ⊎ (list_any (λ y. g y && nat_eq (f y) end) xs ≡ true)

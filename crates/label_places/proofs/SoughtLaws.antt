@@ -1,6 +1,6 @@
 -- The only position that is meant, one position more, and the only label of a name.
 use Rattle.label_places.proofs.Common.{◌≡◌, ◌+◌, ◌<◌, true, false, cond, List, [], ◌∷◌, ◌++◌, length, get_or, take, drop, refl, sym, ap}
-use Rattle.label_places.proofs.Common.{◌∙◌, append-nil, ◌≤◌, filter, map, ◌&&◌, filter-append, or_else, taken, Label, Position, Unknown}
+use Rattle.label_places.proofs.Common.{◌∙◌, append-nil, filter, map, ◌&&◌, filter-append, or_else, taken, Label, Position, Unknown}
 use Rattle.label_places.proofs.Common.{AreByName, is_meant_in, only_in, the_only}
 use Rattle.std.proofs.Common.{ℕ, Bool, Global, Option, Some, None, String, Vec}
 use Rattle.std.proofs.lemmas.{Slice.Eq.bytes_eq-Decides, List.take-append-drop}

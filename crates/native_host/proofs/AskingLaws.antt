@@ -1,7 +1,7 @@
 -- Laws of what a call instruction asks for: the site at a place, and the arguments one after the other.
 use Rattle.native_host.proofs.Common.{◌≡◌, ℕ, zero, suc, ◌+◌, ◌<◌, ◌≤◌, Bool, true, false, if◌then◌else◌, nat_eq, ltb, List, [], ◌∷◌}
 use Rattle.native_host.proofs.Common.{length, map, drop, get_or, ◌++◌, append_assoc, append-nil, Option, Some, None, ⊎_elim, refl, sym, ap}
-use Rattle.native_host.proofs.Common.{ap₂, ◌∙◌, arith, add-one, option_and_then, option_map_or, none-some, same_Some, slice_get-get_or}
+use Rattle.native_host.proofs.Common.{ap₂, ◌∙◌, arith, option_and_then, option_map_or, none-some, same_Some, slice_get-get_or}
 use Rattle.native_host.proofs.Common.{ltb-true, drop_all, drop_more, length-map, Mismatch, Site, Seen, slice_get, cut_at, Memory, byte_at}
 use Rattle.native_host.proofs.Common.{ranges, Concrete, register, Notes, Signature, WantParam, memory_state, with_arguments, Frame, Asks}
 use Rattle.native_host.proofs.Common.{NoSite, argument_refused, signature_method, signature_params, site_of, asking_at, asking_by}
@@ -9,7 +9,7 @@ use Rattle.native_host.proofs.Common.{objects_at, slots_asked, slots_of, Placeme
 use Rattle.native_host.proofs.Common.{arguments_read, role_of, slots_from, RunState, World, TypedObject}
 use Rattle.std.specs.{List.find, Option.IsSomeAnd, List.Sorted.IsNonDecreasingBy, List.Sorted.IsPartitionPoint, List.Sorted.IsPartitionedBy}
 use Rattle.std.specs.List.Sorted.{IsStrictlyIncreasing}
-use Rattle.std.proofs.lemmas.{Bool.cases_lt, Bool.ltb-false, List.get_or-map, List.get_or_default}
+use Rattle.std.proofs.lemmas.{Bool.cases_lt, Bool.eq-eqb, Bool.ltb-false, List.get_or-map, List.get_or_default}
 use Rattle.std.proofs.lemmas.List.Sorted.{IsNonDecreasingBy-from_all_adjacent, IsPartitionedBy-ltb}
 use Rattle.note_types.specs.Concrete.{loaded}
 use Rattle.callex_thunk.proofs.SlotLaws.{slots_from-agree}
@@ -17,16 +17,6 @@ use Rattle.host_model.specs.{HostPlans.Unmapped, Readings.before_all, ScriptValu
 use Rattle.note_types.specs.declared.reason.Reason.TheVariants as reason
 
 -- ---- arguments
-
-pub refused-next : (xs ys : List Seen) (k : ℕ) (d e : Seen) → k < length xs → k < length ys
-    → same_seen (get_or xs k d) (get_or ys k e) ≡ true
-    → argument_refused k (drop k xs) (drop k ys) ≡ argument_refused (k + 1) (drop (k + 1) xs) (drop (k + 1) ys)
-unfolding argument_refused
-refused-next xs ys k d e less below same =
-    ap₂ (argument_refused k) (drop_more xs k d less) (drop_more ys k e below)
-    ∙ (ap (λ b. if b then argument_refused (suc k) (drop (k + 1) xs) (drop (k + 1) ys)
-    else Some (Mismatch (reason.Argument k (get_or xs k d) (get_or ys k e)))) same
-    ∙ ap (λ j. argument_refused j (drop (k + 1) xs) (drop (k + 1) ys)) (sym (add-one k)))
 
 pub refused-here : (xs ys : List Seen) (k : ℕ) (d e : Seen) → k < length xs → k < length ys
     → same_seen (get_or xs k d) (get_or ys k e) ≡ false
@@ -44,10 +34,6 @@ none-right k (x ∷ xs) = refl
 
 pub refused-past : (xs ys : List Seen) (k : ℕ) → length ys ≤ k → argument_refused k (drop k xs) (drop k ys) ≡ None
 refused-past xs ys k past = ap (argument_refused k (drop k xs)) (drop_all k ys past) ∙ none-right k (drop k xs)
-
-pub refused-end : (xs ys : List Seen) (k : ℕ) → length xs ≤ k → argument_refused k (drop k xs) (drop k ys) ≡ None
-unfolding argument_refused
-refused-end xs ys k past = ap (λ zs. argument_refused k zs (drop k ys)) (drop_all k xs past)
 
 -- ---- sites
 
@@ -75,9 +61,6 @@ Begins xs t k = IsPartitionPoint (λ x. ltb (place_in x) t ≡ true) (λ x. ltb 
 pub other-place : (a t : ℕ) → (a ≡ t → ⊥) → nat_eq a t ≡ false
 other-place a t other = grind arith
 
-same-place : (a t : ℕ) → a ≡ t → nat_eq a t ≡ true
-same-place a t same = grind arith
-
 -- none is at a place where each one isn't
 find-none : (xs : List Site) (t : ℕ) → ((j : ℕ) (d : Site) → j < length xs → nat_eq (get_or xs j d).place t ≡ false)
     → find (is_there t) xs ≡ None
@@ -103,7 +86,7 @@ before-it xs t k j d begins within less =
 pub site-found : (xs : List Site) (t k : ℕ) (d : Site) → k < length xs → Begins xs t k → (get_or xs k d).place ≡ t
     → find (is_there t) xs ≡ Some (get_or xs k d)
 site-found xs t k d within begins same =
-    find-at xs t k d within (λ j e less. before-it xs t k j e begins (omega arith) less) (same-place (get_or xs k d).place t same)
+    find-at xs t k d within (λ j e less. before-it xs t k j e begins (omega arith) less) (eq-eqb (get_or xs k d).place t same)
 
 pub site-missed : (xs : List Site) (t k : ℕ) (d : Site) → k < length xs → IsStrictlyIncreasing (map place_in xs) → Begins xs t k
     → ((get_or xs k d).place ≡ t → ⊥) → find (is_there t) xs ≡ None

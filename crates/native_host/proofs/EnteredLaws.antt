@@ -1,10 +1,10 @@
 -- Laws of the first function at a place, and of the first one there that the firmware enters.
-use Rattle.native_host.proofs.Common.{◌≡◌, ℕ, zero, suc, ◌+◌, List, [], ◌∷◌, Bool, true, false, ◌&&◌, None, Some, refl, sym, ap, ap₂}
+use Rattle.native_host.proofs.Common.{◌≡◌, ℕ, zero, suc, List, [], ◌∷◌, Bool, true, false, ◌&&◌, None, Some, refl, sym, ap, ap₂}
 use Rattle.native_host.proofs.Common.{◌∙◌, arith, nat_eq, get_or, FnNote}
-use Rattle.std.proofs.Common.{ℤ, pos, cond, position}
-use Rattle.std.specs.{Bool.Decides, List.position_or_len, Ordering.int_eq}
-use Rattle.std.proofs.lemmas.Bool.Decides.{Decides-eqb, Decides-int_eq, same_from_decides}
+use Rattle.std.proofs.Common.{ℤ, pos, position}
+use Rattle.std.specs.{Ordering.int_eq}
 use Rattle.std.proofs.lemmas.List.Quantifiers.{position-Some}
+use Rattle.note_types.proofs.PlaceLaws.{same_place}
 
 -- ---- a second test, which passes nothing that the first one fails
 
@@ -21,18 +21,8 @@ nowhere_stays p q (x ∷ xs) fails e = grind (arith, nowhere_stays p q xs fails,
 
 -- ---- places
 
--- numbers are the same exactly where they are as signed numbers
-same_number : (a b : ℕ) → int_eq (pos a) (pos b) ≡ nat_eq a b
-same_number a b = same_from_decides (int_eq (pos a) (pos b)) (nat_eq a b) (Decides-int_eq (pos a) (pos b)) numbers
-  where
-    same : pos a ≡ pos b → a ≡ b
-    same e = cc
-
-    numbers : Decides (nat_eq a b) (pos a ≡ pos b)
-    numbers = (λ h. ap pos ((Decides-eqb a b).0 h), λ h. (Decides-eqb a b).1 (same h))
-
 elsewhere : (place : ℕ) (f : FnNote) → int_eq (pos f.place) (pos place) ≡ false → (nat_eq f.place place && f.enter) ≡ false
-elsewhere place f e = grind (arith, e, same_number f.place place)
+elsewhere place f e = grind (arith, e, same_place f.place place)
 
 -- the first function at a place, where the firmware enters it
 pub entered_first : (functions : List FnNote) (place n : ℕ) (at : ℤ) (d : FnNote)
@@ -43,7 +33,7 @@ entered_first functions place n at d e same enters =
     ap (λ z. position (λ (f : FnNote). int_eq (pos f.place) z) functions) (sym same) ∙ sym e in
     let there : int_eq (pos (get_or functions n d).place) (pos place) ≡ true =
     (position-Some (λ (f : FnNote). int_eq (pos f.place) (pos place)) functions n d first).1 in
-    let named : nat_eq (get_or functions n d).place place ≡ true = sym (same_number (get_or functions n d).place place) ∙ there in
+    let named : nat_eq (get_or functions n d).place place ≡ true = sym (same_place (get_or functions n d).place place) ∙ there in
     sym (first_stays _ (λ (f : FnNote). nat_eq f.place place && f.enter) functions n d (elsewhere place) first
     (ap₂ (λ b c. b && c) named enters))
 

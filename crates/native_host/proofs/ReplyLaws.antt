@@ -1,12 +1,12 @@
 -- Laws of callbacks and replies: which plan the host has, and arguments that are named one after the other.
 use Rattle.native_host.proofs.Common.{◌≡◌, ℕ, zero, suc, ◌+◌, ◌<◌, ◌≤◌, Bool, true, false, not, ◌&&◌, if◌then◌else◌, List, [], ◌∷◌, length}
-use Rattle.native_host.proofs.Common.{map, take, drop, get_or, Some, None, refl, sym, ap, ◌∙◌, arith, add-one, nat_le, slice_get, flat_map}
-use Rattle.native_host.proofs.Common.{sum_by, option_map_or, drop_more, length-map, same_Some, Memory, ranges, saved_of, Concrete}
+use Rattle.native_host.proofs.Common.{map, take, drop, get_or, Option, Some, None, refl, sym, ap, ap₂, ◌∙◌, arith, add-one, nat_le}
+use Rattle.native_host.proofs.Common.{slice_get, flat_map, sum_by, option_map_or, drop_more, length-map, same_Some, Memory, ranges}
 use Rattle.native_host.proofs.Common.{with_memory, Frame, Mismatch, ScriptEnd, Notes, WantParam, OutValue, ScriptCall, GoesOn, Ends, Enters}
 use Rattle.native_host.proofs.Common.{Replies, all_named_right, named_right, reply_fits, reply_plan, reply_stores, host_plan, out_store}
 use Rattle.native_host.proofs.Common.{write_store, signature_params, after_stores, call_under_way, writes_mapped, made_objects, Placement}
 use Rattle.native_host.proofs.Common.{frame_limit, ScriptPlace, RunState, SavedFrame, World, given, TypedObject, can_enter, IsCalled, shown}
-use Rattle.native_host.proofs.Common.{top_count, are_mapped, Host}
+use Rattle.native_host.proofs.Common.{top_count, are_mapped, Host, saved_of, Concrete}
 use Rattle.std.specs.List.{list_all}
 use Rattle.std.proofs.lemmas.List.Sums.{sum_by-append}
 use Rattle.note_types.specs.declared.script.Callback.{Callback}
@@ -93,55 +93,66 @@ stored-all w notes P made slots params c s m n o first second =
 
 -- ---- a native call that goes on
 
-pub goes-none : (world : World) (at : ScriptPlace) (entry callbacks frames : ℕ) (mapped : Bool) → None ≡ slice_get world.script.call entry
-    → host_plan world at (GoesOn entry callbacks frames mapped) ≡ Ends [] ScriptEnd
-unfolding host_plan
-goes-none world at entry callbacks frames mapped none =
-    ap (λ o. option_map_or (next_plan world.notes (made_objects world.notes world.script at.entries) entry callbacks frames mapped) o
-    (Ends [] ScriptEnd)) (sym none)
-
-pub goes-enter : (world : World) (at : ScriptPlace) (made : List TypedObject) (entry callbacks frames : ℕ) (mapped : Bool) (c : ScriptCall)
-    (b : Callback) → Some c ≡ slice_get world.script.call entry → Some b ≡ slice_get c.enter callbacks
-    → made ≡ made_objects world.notes world.script at.entries
-    → host_plan world at (GoesOn entry callbacks frames mapped) ≡ enter_plan world.notes made entry callbacks frames b
-unfolding host_plan
-goes-enter world at made entry callbacks frames mapped c b some next is =
-    ap (λ o. option_map_or (next_plan world.notes (made_objects world.notes world.script at.entries) entry callbacks frames mapped) o
-    (Ends [] ScriptEnd)) (sym some)
-    ∙ (ap (λ o. option_map_or (enter_plan world.notes (made_objects world.notes world.script at.entries) entry callbacks frames) o
-    (reply_plan world.notes (made_objects world.notes world.script at.entries) entry mapped c)) (sym next)
-    ∙ ap (λ ms. enter_plan world.notes ms entry callbacks frames b) (sym is))
-
-pub goes-reply : (world : World) (at : ScriptPlace) (made : List TypedObject) (entry callbacks frames : ℕ) (mapped : Bool) (c : ScriptCall)
-    → Some c ≡ slice_get world.script.call entry → None ≡ slice_get c.enter callbacks
-    → made ≡ made_objects world.notes world.script at.entries
-    → host_plan world at (GoesOn entry callbacks frames mapped) ≡ reply_plan world.notes made entry mapped c
-unfolding host_plan
-goes-reply world at made entry callbacks frames mapped c some none is =
-    ap (λ o. option_map_or (next_plan world.notes (made_objects world.notes world.script at.entries) entry callbacks frames mapped) o
-    (Ends [] ScriptEnd)) (sym some)
-    ∙ (ap (λ o. option_map_or (enter_plan world.notes (made_objects world.notes world.script at.entries) entry callbacks frames) o
-    (reply_plan world.notes (made_objects world.notes world.script at.entries) entry mapped c)) (sym none)
-    ∙ ap (λ ms. reply_plan world.notes ms entry mapped c) (sym is))
-
--- what the host sees then
-pub seen-goes : (w : ℕ) (world : World) (P : Placement) (h : Host w) (m : Memory) (fs : List Frame) (r : RunState) (v : View) (called :
-    IsCalled fs)
+-- what the host sees then, by the entry and the callbacks that the mark of the top frame has
+pub seen-goes : (w : ℕ) (world : World) (P : Placement) (h : Host w) (m : Memory) (fs : List Frame) (r : RunState) (v : View)
+    (called : IsCalled fs) (entry callbacks : ℕ) → ((f : Frame) → slice_get fs 0 ≡ Some f → entry ≡ f.entry)
+    → ((f : Frame) → slice_get fs 0 ≡ Some f → callbacks ≡ f.callback)
     → call_seen w world P (shown h m (map saved_of fs) r) (call_under_way (map saved_of fs)) ≡ Some v
-    → v ≡ GoesOn called.top.entry called.top.callback (length fs) (writes_mapped w world P (shown h m (map saved_of fs) r) called.top.entry)
-seen-goes w world P h m fs r v called seen =
+    → v ≡ GoesOn entry callbacks (length fs) (writes_mapped w world P (shown h m (map saved_of fs) r) entry)
+seen-goes w world P h m fs r v called entry callbacks marked counted seen =
     sym (same_Some _ v (ap (λ (n : ℕ). Some (GoesOn called.top.entry called.top.callback n
     (writes_mapped w world P (shown h m (map saved_of fs) r) called.top.entry))) (sym (length-map fs saved_of))
     ∙ (sym (ap (call_seen w world P (shown h m (map saved_of fs) r)) (under-way fs called)) ∙ seen)))
+    ∙ ap₂ (λ e b. GoesOn e b (length fs) (writes_mapped w world P (shown h m (map saved_of fs) r) e))
+    (sym (marked called.top called.there)) (sym (counted called.top called.there))
+
+pub goes-none : (world : World) (at : ScriptPlace) (v : View) (entry callbacks frames : ℕ) (mapped : Bool)
+    → v ≡ GoesOn entry callbacks frames mapped → None ≡ slice_get world.script.call entry → host_plan world at v ≡ Ends [] ScriptEnd
+unfolding host_plan
+goes-none world at v entry callbacks frames mapped goes none =
+    ap (host_plan world at) goes
+    ∙ ap (λ o. option_map_or (next_plan world.notes (made_objects world.notes world.script at.entries) entry callbacks frames mapped) o
+    (Ends [] ScriptEnd)) (sym none)
+
+-- what is planned by the call's next step, where the script has the call
+planned : (world : World) (at : ScriptPlace) (made : List TypedObject) (v : View) (entry callbacks frames : ℕ) (mapped : Bool)
+    (c : ScriptCall) (o : Option Callback) → v ≡ GoesOn entry callbacks frames mapped → Some c ≡ slice_get world.script.call entry
+    → o ≡ slice_get c.enter callbacks → made ≡ made_objects world.notes world.script at.entries
+    → host_plan world at v
+    ≡ option_map_or (enter_plan world.notes made entry callbacks frames) o (reply_plan world.notes made entry mapped c)
+unfolding host_plan
+planned world at made v entry callbacks frames mapped c o goes some next is =
+    ap (host_plan world at) goes
+    ∙ (ap (λ p. option_map_or (next_plan world.notes (made_objects world.notes world.script at.entries) entry callbacks frames mapped) p
+    (Ends [] ScriptEnd)) (sym some)
+    ∙ ap₂ (λ p ms. option_map_or (enter_plan world.notes ms entry callbacks frames) p (reply_plan world.notes ms entry mapped c)) (sym next)
+    (sym is))
+
+pub goes-enter : (world : World) (at : ScriptPlace) (made : List TypedObject) (v : View) (entry callbacks frames : ℕ) (mapped : Bool)
+    (c : ScriptCall) (b : Callback) → v ≡ GoesOn entry callbacks frames mapped → Some c ≡ slice_get world.script.call entry
+    → Some b ≡ slice_get c.enter callbacks → made ≡ made_objects world.notes world.script at.entries
+    → host_plan world at v ≡ enter_plan world.notes made entry callbacks frames b
+goes-enter world at made v entry callbacks frames mapped c b = planned world at made v entry callbacks frames mapped c (Some b)
 
 -- which writes are mapped, as the host tries it
-pub writes-are : (w : ℕ) (world : World) (P : Placement) (h : Host w) (m : Memory) (hosts : List SavedFrame) (r : RunState) (entry : ℕ)
+writes-are : (w : ℕ) (world : World) (P : Placement) (h : Host w) (m : Memory) (hosts : List SavedFrame) (r : RunState) (entry : ℕ)
     (c : ScriptCall) → Some c ≡ slice_get world.script.call entry → h.made.items ≡ made_objects world.notes world.script h.entries
     → writes_mapped w world P (shown h m hosts r) entry ≡ are_mapped w world.notes P h.made.items (ranges m) c.write
 unfolding writes_mapped
 writes-are w world P h m hosts r entry c some made =
     ap (λ o. option_map_or (λ (c : ScriptCall). list_all (write_mapped w world P (shown h m hosts r)) c.write) o false) (sym some)
     ∙ ap (λ ms. are_mapped w world.notes P ms (ranges m) c.write) (sym made)
+
+pub goes-reply : (w : ℕ) (world : World) (P : Placement) (h : Host w) (m : Memory) (hosts : List SavedFrame) (r : RunState) (v : View)
+    (entry callbacks frames : ℕ) (c : ScriptCall)
+    → v ≡ GoesOn entry callbacks frames (writes_mapped w world P (shown h m hosts r) entry)
+    → Some c ≡ slice_get world.script.call entry → None ≡ slice_get c.enter callbacks
+    → h.made.items ≡ made_objects world.notes world.script h.entries
+    → host_plan world (shown h m hosts r).script v
+    ≡ reply_plan world.notes h.made.items entry (are_mapped w world.notes P h.made.items (ranges m) c.write) c
+goes-reply w world P h m hosts r v entry callbacks frames c goes some none made =
+    planned world (shown h m hosts r).script h.made.items v entry callbacks frames _ c None goes some none made
+    ∙ ap (λ b. reply_plan world.notes h.made.items entry b c) (writes-are w world P h m hosts r entry c some made)
 
 -- ---- how many callbacks
 

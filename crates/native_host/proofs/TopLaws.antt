@@ -1,29 +1,13 @@
 -- Laws of the top frame: its slots, and what a mark makes of it.
 use Rattle.native_host.proofs.Common.{◌≡◌, ℕ, zero, suc, ◌+◌, ◌-◌, ◌*◌, ◌<◌, ◌≤◌, Bool, false, List, [], ◌∷◌, length, map, take, get_or}
 use Rattle.native_host.proofs.Common.{nat_eq, Some, if◌then◌else◌, refl, sym, ap, ap₂, ◌∙◌, arith, add-one, slice_get, slice_index}
-use Rattle.native_host.proofs.Common.{option_map_or, same_Some, slice_get-get_or, with_mark, Frame, saved_of, NO_ENTRY, call_under_way}
+use Rattle.native_host.proofs.Common.{option_map_or, same_Some, with_mark, Frame, saved_of, NO_ENTRY, call_under_way}
 use Rattle.native_host.proofs.Common.{with_call, Accepted, NativeCall, NoCall, copied, one_callback, IsCalled, top_count, top_slots}
-use Rattle.std.proofs.{Common.reverse, lemmas.List.length-reverse, lemmas.List.get_or-reverse}
 use Rattle.frame_stack.specs.Frames.{frame_at, from_bottom}
-use Rattle.frame_stack.proofs.WordLaws.{length-words}
 use Rattle.callex_thunk.specs.HostFrames.{call_of}
+use Rattle.callex_thunk.proofs.FrameLaws.{from_bottom-top, slots-told}
 
 -- ---- slots
-
-pub from_bottom-top : (f : Frame) (fs : List Frame) → from_bottom (f ∷ fs) (length fs) ≡ Some f
-unfolding from_bottom
-from_bottom-top f fs =
-    let less : length fs < length (reverse (f ∷ fs)) = rw (length-reverse (f ∷ fs)) (omega arith) in
-    let last : length (f ∷ fs) - 1 - length fs ≡ 0 = omega arith in
-    slice_get-get_or (reverse (f ∷ fs)) (length fs) f less ∙ ap Some
-    (get_or-reverse (f ∷ fs) (length fs) f (omega arith) ∙ ap (λ k. get_or (f ∷ fs) k f) last)
-
--- a frame that bytes tell has 16 slots
-pub sixteen : (b : ℕ → ℕ) (f : Frame) (fs : List Frame)
-    → ((i : ℕ) (g : Frame) → from_bottom (f ∷ fs) i ≡ Some g → frame_at b (224 * i) ≡ g) → length f.slots ≡ 16
-unfolding frame_at
-sixteen b f fs told =
-    ap (λ (g : Frame). length g.slots) (sym (told (length fs) f (from_bottom-top f fs))) ∙ length-words b (224 * length fs + 96) 16
 
 taken-here : (xs : List ℕ) (c n : ℕ) → n < c → get_or (take c xs) n 0 ≡ get_or xs n 0
 taken-here [] (suc c) n less = refl
@@ -32,21 +16,12 @@ taken-here (x ∷ xs) zero n less = absurd (omega arith)
 taken-here (x ∷ xs) (suc c) zero less = refl
 taken-here (x ∷ xs) (suc c) (suc n) less = taken-here xs c n (omega arith)
 
-taken-past : (xs : List ℕ) (c n : ℕ) → c ≤ n → get_or (take c xs) n 0 ≡ 0
-taken-past xs zero n past = refl
-taken-past [] (suc c) n past = refl
-taken-past (x ∷ xs) (suc c) zero past = absurd (omega arith)
-taken-past (x ∷ xs) (suc c) (suc n) past = taken-past xs c n (omega arith)
-
-pub slot-past : (fs : List Frame) (n count : ℕ) → ((f : Frame) → slice_get fs 0 ≡ Some f → count ≡ f.count) → count ≤ n
-    → 0 ≡ slice_index (top_slots fs) n
-slot-past [] n count is past = refl
-slot-past (f ∷ fs) n count is past = let same = is f refl in sym (taken-past f.slots f.count n (omega arith))
-
 pub slot-none : (b : ℕ → ℕ) (fs : List Frame) (n : ℕ)
     → ((i : ℕ) (g : Frame) → from_bottom fs i ≡ Some g → frame_at b (224 * i) ≡ g) → 16 ≤ n → 0 ≡ slice_index (top_slots fs) n
 slot-none b [] n told past = refl
-slot-none b (f ∷ fs) n told past = sym (taken-some f.slots f.count n (let many = sixteen b f fs told in omega arith))
+slot-none b (f ∷ fs) n told past =
+    let many = slots-told b f fs (record { frames = told }) in
+    sym (taken-some f.slots f.count n (omega arith))
   where
     taken-some : (xs : List ℕ) (c n : ℕ) → length xs ≤ n → get_or (take c xs) n 0 ≡ 0
     taken-some xs zero n past = refl
@@ -73,7 +48,8 @@ top-at (g ∷ fs) f depth there deep =
 pub sixteen-top : (b : ℕ → ℕ) (fs : List Frame) (f : Frame)
     → ((i : ℕ) (g : Frame) → from_bottom fs i ≡ Some g → frame_at b (224 * i) ≡ g) → slice_get fs 0 ≡ Some f → length f.slots ≡ 16
 sixteen-top b [] f told there = absurd (cc)
-sixteen-top b (g ∷ fs) f told there = sym (ap (λ (h : Frame). length h.slots) (same_Some g f there)) ∙ sixteen b g fs told
+sixteen-top b (g ∷ fs) f told there = sym (ap (λ (h : Frame). length h.slots) (same_Some g f there))
+    ∙ slots-told b g fs (record { frames = told })
 
 -- ---- marks
 

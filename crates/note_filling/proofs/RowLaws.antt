@@ -1,30 +1,20 @@
 -- What is kept of a table whose places are put.
-use Rattle.note_filling.proofs.Common.{◌≡◌, ℕ, Bool, true, false, List, [], ◌∷◌, Option, Some, refl, sym, ap, ◌∙◌, inl, inr, bytes_eq}
+use Rattle.note_filling.proofs.Common.{◌≡◌, ℕ, false, List, [], ◌∷◌, Option, Some, sym, ap, ◌∙◌, inl, inr, bytes_eq}
 use Rattle.note_filling.proofs.Common.{bytes_eq-Decides, Data, Members, get_member, IsPlacedAs, IsExtended, IsReplaced}
-use Rattle.std.proofs.Common.{◌⊎◌}
-use Rattle.std.specs.Prelude.{◌||◌}
+use Rattle.std.proofs.lemmas.Bool.{or_cases, or_parts}
 use Rattle.ebc_base.specs.Tables.{is_named}
 use Rattle.note_filling.specs.Kept.{IsRowKept}
-
--- the two sides of an `or` that fails
-pub neither : (a b : Bool) → (a || b) ≡ false → (a ≡ false) × (b ≡ false)
-neither true b e = absurd cc
-neither false b e = (refl, e)
-
-one_side : (a b : Bool) → (a || b) ≡ true → (a ≡ true) ⊎ (b ≡ true)
-one_side true b e = inl refl
-one_side false b e = inr e
 
 pub kept_none : (place : List ℕ → Option ℕ) (ms : Members) → IsRowKept place [] ms ms
 kept_none place ms = record { labels = λ key d named there. absurd cc; rest = λ key d other there. there }
 
 pub kept_one : (place : List ℕ → Option ℕ) (k : List ℕ) (old new : Members) → IsReplaced place k old new → IsRowKept place (k ∷ []) old new
 kept_one place k old new put = record {
-  labels = λ key d named there. elim (one_side (bytes_eq key k) (is_named key []) named) [
+  labels = λ key d named there. elim (or_cases (bytes_eq key k) (is_named key []) named) [
     | inl same ↦ at key d ((bytes_eq-Decides key k).0 same) there
     | inr none ↦ absurd cc
   ];
-  rest = λ key d other there. put.elsewhere key (neither (bytes_eq key k) (is_named key []) other).0 ∙ there;
+  rest = λ key d other there. put.elsewhere key (or_parts (bytes_eq key k) (is_named key []) other).0 ∙ there;
 }
   where
     at : (key : List ℕ) (d : Data) → key ≡ k → get_member key old ≡ Some d
@@ -36,16 +26,16 @@ kept_one place k old new put = record {
 pub kept_two : (place : List ℕ → Option ℕ) (k l : List ℕ) (old mid new : Members) → bytes_eq k l ≡ false → bytes_eq l k ≡ false
     → IsReplaced place k old mid → IsReplaced place l mid new → IsRowKept place (k ∷ l ∷ []) old new
 kept_two place k l old mid new apart back first then = record {
-  labels = λ key d named there. elim (one_side (bytes_eq key k) (is_named key (l ∷ [])) named) [
+  labels = λ key d named there. elim (or_cases (bytes_eq key k) (is_named key (l ∷ [])) named) [
     | inl same ↦ at_first key d ((bytes_eq-Decides key k).0 same) there
-    | inr more ↦ elim (one_side (bytes_eq key l) (is_named key []) more) [
+    | inr more ↦ elim (or_cases (bytes_eq key l) (is_named key []) more) [
       | inl same ↦ at_then key d ((bytes_eq-Decides key l).0 same) there
       | inr none ↦ absurd cc
     ]
   ];
   rest = λ key d other there.
-      let sides = neither (bytes_eq key k) (is_named key (l ∷ [])) other in
-      then.elsewhere key (neither (bytes_eq key l) (is_named key []) sides.1).0 ∙ (first.elsewhere key sides.0 ∙ there);
+      let sides = or_parts (bytes_eq key k) (is_named key (l ∷ [])) other in
+      then.elsewhere key (or_parts (bytes_eq key l) (is_named key []) sides.1).0 ∙ (first.elsewhere key sides.0 ∙ there);
 }
   where
     at_first : (key : List ℕ) (d : Data) → key ≡ k → get_member key old ≡ Some d

@@ -1,8 +1,9 @@
 -- What stands in a text that is made of filled lists.
 use Rattle.note_filling.proofs.Common.{◌≡◌, ℕ, false, List, [], Option, Some, None, Vec, Global, refl, ap, ◌∙◌, bytes_eq, codes, Data}
 use Rattle.note_filling.proofs.Common.{Members, get_member, Value, put_missing_member, AreFilledLists, IsAssembled, list_at, Lists}
+use Rattle.std.proofs.lemmas.Bool.{or_parts}
 use Rattle.note_filling.specs.{Kept.IsTextKept, Views.AreArranged, Views.put_items}
-use Rattle.note_filling.proofs.{ListLaws.list-kept, ListLaws.list-mixed, RowLaws.neither, MemberLaws.extended-put_missing}
+use Rattle.note_filling.proofs.{ListLaws.list-kept, ListLaws.list-mixed, MemberLaws.extended-put_missing}
 use Rattle.note_filling.proofs.MemberLaws.{get-put, get-put_missing_other, get-put_other}
 use Rattle.note_draft.specs.declared.finding.TableList.TheVariants as lists
 
@@ -79,13 +80,13 @@ assembled_by made m0 m1 m2 m3 m4 m5 m6 m7 s = record {
       ∙ (other (codes "site") (codes "thunk") made.thunks m3 m4 s.thunks refl
       ∙ (other (codes "site") (codes "static") made.statics m2 m3 s.statics refl ∙ head (codes "site") refl refl))));
   rest = λ q apart.
-      let (version, a) = neither _ _ apart in
-      let (entry, b) = neither _ _ a in
-      let (static, c) = neither _ _ b in
-      let (thunk, d) = neither _ _ c in
-      let (function, e) = neither _ _ d in
-      let (point, f) = neither _ _ e in
-      let (site, g) = neither _ _ f in
+      let (version, a) = or_parts _ _ apart in
+      let (entry, b) = or_parts _ _ a in
+      let (static, c) = or_parts _ _ b in
+      let (thunk, d) = or_parts _ _ c in
+      let (function, e) = or_parts _ _ d in
+      let (point, f) = or_parts _ _ e in
+      let (site, g) = or_parts _ _ f in
       behind q made m0 m1 m2 m3 m4 m5 m6 m7 s static thunk function point site ∙ head q version entry;
 }
   where

@@ -1,6 +1,6 @@
 -- Laws of the bound calls of a pair: what is refused ends the pair, and what is taken can be entered.
 use Rattle.pair_host.proofs.Common.{◌≡◌, ℕ, suc, ◌<◌, Bool, true, false, if◌then◌else◌, nat_eq, List, [], ◌∷◌, ◌++◌, length, map, Option}
-use Rattle.pair_host.proofs.Common.{arith, zero, Some, None, refl, sym, ap, ◌∙◌, subst, slice_get, option_map_or, option_or}
+use Rattle.pair_host.proofs.Common.{Some, None, refl, sym, ap, ◌∙◌, subst, option_map_or, option_or}
 use Rattle.pair_host.proofs.Common.{drop-append_seam, Ending, Running, Event, Notes, Seen, Ty, Value, Asking, NoSite, Ends, View, Calls}
 use Rattle.pair_host.proofs.Common.{Returns, GoesOn, IsDue, NotifiedReturns, asked_args, call_event, function_params, signature_params}
 use Rattle.pair_host.proofs.Common.{site_of, asking_at, asking_by, host_view, performed, slots_of, made_objects, Placement, own_placement}
@@ -10,7 +10,7 @@ use Rattle.pair_host.proofs.Common.{caller_step, caller_step_seen, plain_step, r
 use Rattle.pair_host.proofs.Common.{Runner, CanBeEntered, IsPair, IsProvider, SidesGoOn, own, stage_of, stepped, PairRunner}
 use Rattle.std.proofs.{Common.nat_lt, Common.vec_capacity, lemmas.Option.slice_get_within}
 use Rattle.std.specs.List.{find}
-use Rattle.ebc_base.proofs.{Given.some_of_map, Lists.length-map}
+use Rattle.ebc_base.proofs.{Given.some_of_map, Lists.length-map, Lists.within_some}
 use Rattle.note_types.specs.Records.{IsNotes}
 use Rattle.note_types.specs.declared.{ending.Ending.TheVariants.Mismatch, notes.FnNote.FnNote, notes.Param.Param, notes.Signature.Signature}
 use Rattle.note_types.specs.declared.notes.Site.{Site}
@@ -115,11 +115,6 @@ asked_by_site w world P r place target g site =
     by (Some xs) = refl
 
 -- ---- a bound call by a bind that agrees can be taken
-
-within_some : {A : Type 0} (xs : List A) (k : ℕ) → k < length xs → (x : A) × (slice_get xs k ≡ Some x)
-within_some [] k few = absurd (omega (arith, few))
-within_some (x ∷ xs) zero few = (x, refl)
-within_some (x ∷ xs) (suc k) few = within_some xs k (omega (arith, few))
 
 site_signature : (notes : Notes) (place g : ℕ) → IsNotes notes → site_of notes place ≡ Some g → g < length notes.signature
 unfolding site_of

@@ -4,10 +4,11 @@ use Rattle.pair_host.proofs.Common.{Some, None, refl, sym, ap, ◌∙◌, subst,
 use Rattle.pair_host.proofs.Common.{StepEnd, Concrete, Event, Value, Plan, View, Returns, host_plan, host_turn, is_due, function_params}
 use Rattle.pair_host.proofs.Common.{IsDue, Finishes, Leaves, Accepts, Enters, Replies, Resumes, Notifies, Ends, ThunkView, Names, NamesNone}
 use Rattle.pair_host.proofs.Common.{NotMapped, call_seen, call_under_way, entered, frame_for, host_step, host_view, inside, left}
-use Rattle.pair_host.proofs.Common.{objects_at, performed, resumed, return_seen, thunk_made, thunk_view, with_call, written_number}
+use Rattle.pair_host.proofs.Common.{objects_at, performed, return_seen, thunk_made, thunk_view, with_call, written_number}
 use Rattle.pair_host.proofs.Common.{Placement, code_at, NativeCall, NoCall, Asked, Accepted, one_callback, one_instruction}
-use Rattle.pair_host.proofs.Common.{one_notification, RunState, SavedFrame, after_instruction, instruction_step, run_step, running_step}
+use Rattle.pair_host.proofs.Common.{one_notification, RunState, after_instruction, instruction_step, run_step, running_step}
 use Rattle.pair_host.proofs.Common.{step_if, World, IsNoFirstReturn, IsRunner, Runner, listed, own, told}
+use Rattle.host_laws.proofs.Leaving.{ending_left, ending_resumed}
 use Rattle.pair_laws.proofs.Finishing.{Goes, Unfinished, plan_goes}
 use Rattle.pair_host.proofs.{Brief.run_step-brief, Past.run_step-alike}
 use Rattle.ebc_machine.specs.declared.StepEnd.TheVariants as ends
@@ -78,14 +79,6 @@ module _ (w : ℕ) (world : World) (P : Placement) where
 
   -- ---- and else it doesn't finish
 
-  left_ending : (r : RunState) (hs : List SavedFrame) → (left r hs).ending ≡ r.ending
-  left_ending r [] = refl
-  left_ending r (f ∷ fs) = refl
-
-  resumed_ending : (r : RunState) (hs : List SavedFrame) → (resumed r hs).ending ≡ r.ending
-  resumed_ending r [] = refl
-  resumed_ending r (f ∷ fs) = refl
-
   entered_goes : (notified : Bool) (r : RunState) (f : ℕ) (numbers : List ℕ) → r.ending ≡ ending.Running
       → Unfinished (entered notified w world P r f numbers).ending
   entered_goes notified r f numbers on = go (inside w r.machine (code_at world.notes P f) (function_params world.notes f) numbers)
@@ -100,13 +93,13 @@ module _ (w : ℕ) (world : World) (P : Placement) where
   performed_goes : (r : RunState) (p : Plan) → r.ending ≡ ending.Running → Goes p → Unfinished (performed w world P r p).ending
   unfolding performed
   performed_goes r (Finishes v) on g = absurd g
-  performed_goes r (Leaves e) on g = subst Unfinished (sym (left_ending r r.hosts ∙ on)) tt
+  performed_goes r (Leaves e) on g = subst Unfinished (sym (ending_left r r.hosts ∙ on)) tt
   performed_goes r (Accepts e n os ss) on g = subst Unfinished (sym on) tt
   performed_goes r (Enters e n f vs) on g =
       entered_goes false (record r { hosts = with_call (one_callback (call_under_way r.hosts)) r.hosts; trace = r.trace ++ e ∷ [] }) f
       (map (written_number w world.notes P (objects_at world r)) vs) on
   performed_goes r (Replies e ss k v) on g = subst Unfinished (sym on) tt
-  performed_goes r (Resumes e) on g = subst Unfinished (sym (resumed_ending r r.hosts ∙ on)) tt
+  performed_goes r (Resumes e) on g = subst Unfinished (sym (ending_resumed r r.hosts ∙ on)) tt
   performed_goes r (Notifies e f vs) on g =
       entered_goes true (record r { script = one_notification r.script; trace = r.trace ++ e ∷ [] }) f
       (map (written_number w world.notes P (objects_at world r)) vs) on

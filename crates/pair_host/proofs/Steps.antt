@@ -2,12 +2,14 @@
 use Rattle.pair_host.proofs.Common.{◌≡◌, ℕ, true, false, if◌then◌else◌, List, [], ◌∷◌, ◌++◌, length, map, Option, Some, None, refl, sym, ap}
 use Rattle.pair_host.proofs.Common.{◌∙◌, subst, append-nil, drop, slice_get, drop-append_seam, Ending, Event, Value, View, Returns, Calls}
 use Rattle.pair_host.proofs.Common.{GoesOn, IsDue, NotifiedReturns, is_error, host_view, left, performed, own_placement, RunState}
-use Rattle.pair_host.proofs.Common.{SavedFrame, run_step, own_placements, side_at, sides_at, Both, PairWorld, PairState, SideOf, OfA}
+use Rattle.pair_host.proofs.Common.{SavedFrame, run_step, own_placements, side_at, sides_at, Both, PairWorld, PairState, SideOf}
 use Rattle.pair_host.proofs.Common.{running_side, function_step, function_step_seen, provider_ended, provider_step, with_a, with_b}
 use Rattle.pair_host.proofs.Common.{IsNoFirstReturn, Rests, IsAt, IsQuiet, IsRunner, Runner, IsPair, IsProvider, SidesGoOn, listed, own}
 use Rattle.pair_host.proofs.Common.{stage_of, stepped, told, PairRunner}
+use Rattle.std.proofs.Math.Seq.{drop-length}
+use Rattle.host_laws.proofs.Leaving.{ending_left, trace_left}
 use Rattle.pair_laws.proofs.Finishing.{Unfinished}
-use Rattle.pair_model.specs.Pairs.{Side, OfB}
+use Rattle.pair_model.specs.Pairs.{OfB}
 use Rattle.pair_host.proofs.{Past.view-alike, Sides.first_step, Sides.is_stepped, Sides.step_goes}
 use Rattle.note_types.specs.declared.ending.Ending.TheVariants as ending
 use Rattle.note_types.specs.declared.event.Event.TheVariants as event
@@ -124,14 +126,6 @@ module _ (w : ℕ) (world : PairWorld) where
   abbrev finished : PairState RunState → Value → PairState RunState
   finished p v = record p { b = record (left p.b p.b.hosts) { ending = ending.Finished v }; ending = ending.Finished v }
 
-  left_trace : (r : RunState) (hs : List SavedFrame) → (left r hs).trace ≡ r.trace
-  left_trace r [] = refl
-  left_trace r (f ∷ fs) = refl
-
-  drop_all : {A : Type 0} (xs : List A) → drop (length xs) xs ≡ []
-  drop_all [] = refl
-  drop_all (x ∷ xs) = drop_all xs
-
   is_finished : (p : PairState RunState) (f : ℕ) (v : Value)
       → host_view w world.b (own_placement w world.b) p.b ≡ Some (Returns true f v) → p.b.ending ≡ ending.Running
       → with_b (side_at w world.b (own_placement w world.b)) p (run_step w world.b (own_placement w world.b) p.b) ≡ finished p v
@@ -140,8 +134,8 @@ module _ (w : ℕ) (world : PairWorld) where
       let after : RunState → PairState RunState = with_b (side_at w world.b Q) p in
       ap after (first_step w world.b Q p.b f v seen on)
       ∙ ap (λ t. record (finished p v) { trace = t })
-      (ap (λ u. p.trace ++ map pair_event.B (drop (length p.b.trace) u)) (left_trace p.b p.b.hosts)
-      ∙ (ap (λ u. p.trace ++ map pair_event.B u) (drop_all p.b.trace) ∙ append-nil p.trace))
+      (ap (λ u. p.trace ++ map pair_event.B (drop (length p.b.trace) u)) (trace_left p.b p.b.hosts)
+      ∙ (ap (λ u. p.trace ++ map pair_event.B u) (drop-length p.b.trace) ∙ append-nil p.trace))
 
   -- it finished, and is seen to be at what a step leaves
   provider_seen : (p : PairState RunState) (f : ℕ) (v : Value)
@@ -269,12 +263,8 @@ module _ (w : ℕ) (world : PairWorld) where
             p.b.hosts).ending;
       } in
       ap (λ o. stepped (function_step_seen sides p g o) p) seen
-      ∙ (ap told_by (ap (λ u. drop (length p.b.trace) (u ++ e ∷ [])) (left_trace p.b p.b.hosts) ∙ drop-append_seam p.b.trace (e ∷ []))
-      ∙ ap (λ z. record (returned p g f v) { ending = z }) (left_over p.b p.b.hosts))
-    where
-      left_over : (r : RunState) (hs : List SavedFrame) → (left r hs).ending ≡ r.ending
-      left_over r [] = refl
-      left_over r (h ∷ hs) = refl
+      ∙ (ap told_by (ap (λ u. drop (length p.b.trace) (u ++ e ∷ [])) (trace_left p.b p.b.hosts) ∙ drop-append_seam p.b.trace (e ∷ []))
+      ∙ ap (λ z. record (returned p g f v) { ending = z }) (ending_left p.b p.b.hosts))
 
   rests_returned : (x y : PairRunner w) (p : PairState RunState) (t : List Event) → Rests w world.b y.b (left (own x.b p.b) p.b.hosts)
       → Rests w world.b y.b (own y.b (record (left p.b p.b.hosts) { trace = t }))

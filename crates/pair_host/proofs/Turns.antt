@@ -2,7 +2,7 @@
 use Rattle.pair_host.proofs.Common.{◌≢◌, ◌≡◌, ℕ, Bool, true, false, if◌then◌else◌, List, [], ◌++◌, Option, Some, None, refl, sym, ap, ◌∙◌}
 use Rattle.pair_host.proofs.Common.{append-nil, option_map_or, Ending, Event, Seen, Ty, Value, Asking, View, Returns, Calls, GoesOn, IsDue}
 use Rattle.pair_host.proofs.Common.{NotifiedReturns, is_error, signature_result, host_view, asked_args, call_event, Placement, RunState}
-use Rattle.pair_host.proofs.Common.{run_step, BoundCall, bound_at, pair_step_at, sides_at, Both, PairWorld, PairState, SideOf}
+use Rattle.pair_host.proofs.Common.{run_step, BoundCall, bound_at, pair_step_at, sides_at, Both, PairWorld, PairState}
 use Rattle.pair_host.proofs.Common.{call_answered, call_refused, call_step, call_told, caller_step, caller_step_seen, enter_step}
 use Rattle.pair_host.proofs.Common.{function_entered, function_step, function_step_seen, plain_step, provider_ended, provider_step}
 use Rattle.pair_host.proofs.Common.{reply_refused, reply_step, stage_step, with_b, PairEvent, stepped}

@@ -1,8 +1,8 @@
 -- A pair's steps while A is ahead: A's own, and the telling of a bound call.
 use Rattle.pair_laws.proofs.Common.{◌≡◌, ℕ, ◌≤◌, Bool, true, false, not, nat_eq, nat_lt, List, [], ◌∷◌, ◌++◌, map, length, Option, Some}
 use Rattle.pair_laws.proofs.Common.{None, option_map, refl, sym, ap, ap₂, ◌∙◌, subst, arith, inl, inr, ◌<◌, slice_get, AllByRecursion}
-use Rattle.pair_laws.proofs.Common.{list_all, zip, ValuesFit, IsValue, option_map_or, option_or, and_parts, false≢true, true≢false}
-use Rattle.pair_laws.proofs.Common.{none-some, same_Some, some_of_map, views_stand, world_meets, Ending, Event, FnNote, Signature, Seen}
+use Rattle.pair_laws.proofs.Common.{list_all, zip, ValuesFit, IsValue, option_map_or, and_parts, false≢true, true≢false}
+use Rattle.pair_laws.proofs.Common.{same_Some, some_of_map, views_stand, world_meets, Ending, Event, FnNote, Signature, Seen}
 use Rattle.pair_laws.proofs.Common.{mapped, Image, state_below, States, sound_room, Config, call_under_way, Asking, View, Calls, Ends}
 use Rattle.pair_laws.proofs.Common.{asked_args, asking_refused, call_event, function_params, signature_params, made_objects, Placement}
 use Rattle.pair_laws.proofs.Common.{RunState, AllAgree, BoundCall, bound_at, param_agrees, signature_agrees, neutral_sides, PairWorld, Both}
@@ -13,6 +13,7 @@ use Rattle.pair_laws.proofs.{Joining.Ready, Joining.StageHolds, Joining.PairHold
 use Rattle.pair_laws.proofs.{Telling.call_stops, Telling.bound_taken, Telling.read_at, Agreeing.bound_call, Agreeing.agreed_lends}
 use Rattle.pair_laws.proofs.{Crossing.CanTake, Crossing.call_holds, Holding.Rests, Resting.AsksAt, Resting.asks_at, SideSteps.side_steps}
 use Rattle.pair_laws.proofs.Values.{arguments_known, slots_long}
+use Rattle.host_laws.proofs.Plans.{none_left}
 use Rattle.host_model.specs.HostSteps as width
 use Rattle.neutral_machine.specs.NeutralHost as neutral
 
@@ -37,10 +38,6 @@ served_all n m k e l f = go (split m k l)
 nots : (t : Bool) → not t ≡ true → t ≡ false
 nots true e = absurd (false≢true e)
 nots false e = refl
-
-either : (o q : Option Ending) → option_or o q ≡ None → (o ≡ None) × (q ≡ None)
-either None q e = (refl, e)
-either (Some x) q e = absurd (none-some _ (sym e))
 
 module _ (images : Both Image) (world : PairWorld) (sa sb : States) (ta : TypedSide images.a world.a sa)
     (tb : TypedSide images.b world.b sb) where
@@ -71,7 +68,7 @@ module _ (images : Both Image) (world : PairWorld) (sa sb : States) (ta : TypedS
       → call_refused world p.b.script f place asking ≡ None → CanTake world.b p.b f (map (λ (s : Seen). s.value) (asked_args asking))
   can_take w P p q place g f asking at st agree h b seen x bound none =
       let c = bound_call world.a.notes world.b.notes world.binds place (record { signature = g; function = f }) agree bound in
-      let n = either (asking_refused place asking) (provider_refused world.b p.b.script f (asked_args asking)) none in
+      let n = none_left (asking_refused place asking) (provider_refused world.b p.b.script f (asked_args asking)) none in
       let t = bound_taken world.b p.b.script f (asked_args asking) n.1 in
       let number : x.well.number ≡ g = same_Some x.well.number g (sym x.well.site ∙ c.site) in
       let there : slice_get world.a.notes.signature g ≡ Some x.well.signature = ap (slice_get world.a.notes.signature) (sym number)

@@ -1,39 +1,25 @@
 -- The pair of the rows of `pair_laws` with names: its notes meet the conditions on notes, its scripts are as the reader of scripts
 -- gives them, and its bind agrees.
-use Rattle.pair_laws.proofs.Common.{◌≡◌, ℕ, zero, suc, ◌+◌, ◌*◌, ◌^◌, ◌<◌, ◌≤◌, true, false, [], ◌∷◌, length, get_or, slice_get, Some, None}
-use Rattle.pair_laws.proofs.Common.{refl, sym, ap, subst, arith, inl, map, pos, nat_le, nat_lt, ◌∙◌, leb-true, ltb-true, true≢false}
-use Rattle.pair_laws.proofs.Common.{none-some, same_Some, made_objects, fits, is_below, IsHandedIn, IsShape, FnNote, Notes, Param}
+use Rattle.pair_laws.proofs.Common.{◌≡◌, ℕ, zero, suc, ◌+◌, ◌^◌, ◌<◌, ◌≤◌, true, false, [], ◌∷◌, length, get_or, slice_get, Some, None}
+use Rattle.pair_laws.proofs.Common.{refl, sym, ap, subst, arith, inl, map, nat_lt, ◌∙◌, leb-true, ltb-true, true≢false}
+use Rattle.pair_laws.proofs.Common.{none-some, same_Some, made_objects, fits, is_below, IsShape, FnNote, Notes}
 use Rattle.pair_laws.proofs.Common.{Signature, Notify, Script, Field, AllAgree, bind_agrees, Both, PairWorld, Bind, Image, each_item}
 use Rattle.std.proofs.Common.{take, codes}
 use Rattle.std.specs.List.{sum_by, Sorted.IsStrictlyIncreasing}
 use Rattle.host_model.specs.Scripts.{HasNotifications, IsCellOf, IsObjectOf, IsScript, IsWritten, all_made, have_room, is_given, is_needed}
 use Rattle.host_model.specs.{Objects.placed_objects, Objects.shape_of, ScriptValues.fits_each}
 use Rattle.pair_laws.proofs.Programs.{images_with, pair_with}
-use Rattle.note_types.proofs.TypeLaws.{no_fields}
-use Rattle.note_types.specs.Records.{CanBeEntered, HasNameLength, IsFieldNote, IsFunctionNote, IsNotes, IsParamNote, IsShapeNote}
-use Rattle.note_types.specs.Records.{IsSignatureNote, IsSiteNote, IsWantNote, code_size, frame_size}
+use Rattle.note_types.specs.Records.{HasNameLength, IsFunctionNote, IsNotes, IsShapeNote}
+use Rattle.note_types.specs.Records.{IsSignatureNote, IsSiteNote, code_size}
 use Rattle.note_types.specs.{BelowTests.same_type, Known.IsKnown, Known.local_fields, Limits.code_limit, Limits.point_limit}
-use Rattle.note_types.specs.Limits.{stack_limit}
 use Rattle.note_types.specs.declared.{script.CellValue.CellValue, script.ScriptObject.ScriptObject, shape.Shape.Shape}
-use Rattle.twin_run.proofs.DriverNotes.{name_length, two_ascend}
+use Rattle.twin_run.proofs.DriverNotes.{at_most, below, enterable, field_note, function_note, name_length, shape_note, signature_note}
+use Rattle.twin_run.proofs.DriverNotes.{no_function, status, table, two_ascend}
 use Rattle.note_types.specs.declared.cell.Cell.TheVariants as cell
 use Rattle.note_types.specs.declared.types.Ty.TheVariants as ty
 use Rattle.note_types.specs.declared.value.Value.TheVariants as value
 
 -- ---- the pair with names
-
-abbrev no_function : FnNote
-no_function = record {
-  name = [];
-  place = 0;
-  «end» = 0;
-  level = 0;
-  need = record { n = 0; c = 0 };
-  locals = None;
-  params = [];
-  result = ty.Any;
-  enter = false;
-}
 
 abbrev no_signature : Signature
 no_signature = record { name = []; method = 0; params = []; result = None }
@@ -78,90 +64,32 @@ doubling_images = images_with []
 
 -- ---- numbers and types
 
-at_most : (a b : ℕ) → nat_le a b ≡ true → a ≤ b
-at_most a b e = leb-true a b e
-
-below : (a b : ℕ) → nat_lt a b ≡ true → a < b
-below a b e = ltb-true a b e
-
 number : (notes : Notes) (f : FnNote) (most : ℕ) → nat_lt most (2 ^ 64) ≡ true → IsKnown notes f (ty.Int 0 most 1)
 number notes f most l = record {
   bounded = (omega arith, below most (2 ^ 64) l, at_most 1 1 refl, below 1 (2 ^ 64) refl);
   names = tt;
 }
 
-status : (notes : Notes) (f : FnNote) → IsKnown notes f (ty.Status 0)
-status notes f = record { bounded = below 0 (2 ^ 64) refl; names = no_fields notes f }
-
-table : (f : FnNote) → IsKnown a_notes f (ty.Ptr 0 1 (pos 0) (pos 0) false)
-table f = record {
-  bounded = (
-    at_most 1 1 refl,
-    (at_most 0 0 refl, at_most 0 (2 ^ 20) refl),
-    at_most 0 (2 ^ 20) refl,
-    below 1 (2 ^ 64) refl,
-    below 0 (2 ^ 32) refl,
-  );
-  names = below 0 1 refl;
-}
-
 -- ---- notes of A
-
-a_main_enterable : CanBeEntered a_main
-a_main_enterable = record {
-  takes = each_item (λ (p : Param). IsHandedIn p.ty) a_main.params ((refl, refl), tt);
-  gives = below 2000 (2 ^ 32) refl;
-  stack = at_most (9 * frame_size a_main) stack_limit refl;
-}
 
 a_main_note : IsFunctionNote a_notes a_main
 unfolding local_fields
-a_main_note = record {
-  name = name_length a_main.name refl refl;
-  place = below a_main.place (2 ^ 22) refl;
-  «end» = at_most a_main.end (2 ^ 22) refl;
-  level = below a_main.level (2 ^ 64) refl;
-  need = (below a_main.need.n (2 ^ 64) refl, below a_main.need.c (2 ^ 64) refl);
-  locals = tt;
-  fields = at_most 0 64 refl;
-  few = at_most 1 16 refl;
-  params = each_item (IsParamNote a_notes a_main) a_main.params (
-    record { kind = tt; known = table a_main; kept = λ e. (refl, refl); passed = tt },
-    tt,
-  );
-  result = number a_notes a_main 2000 refl;
-  returned = tt;
-  entered = λ e. absurd (true≢false (sym e));
-}
-
-double_field_note : IsFieldNote a_notes double_field
-double_field_note = record {
-  name = name_length double_field.name refl refl;
-  units = below 0 (2 ^ 32) refl;
-  bytes = below 0 (2 ^ 32) refl;
-  cell = record { bounded = below 0 (2 ^ 32) refl; names = below 0 1 refl };
-}
+a_main_note = function_note a_notes a_main refl refl refl refl refl refl refl refl refl tt (
+  record { kind = tt; known = table a_notes a_main refl; kept = λ e. (refl, refl); passed = tt },
+  tt,
+) (number a_notes a_main 2000 refl) tt (λ e. absurd (true≢false (sym e)))
 
 system_note : IsShapeNote a_notes system
-system_note = record {
-  name = name_length system.name refl refl;
-  units = below 1 (2 ^ 32) refl;
-  bytes = below 0 (2 ^ 32) refl;
-  few = at_most 1 256 refl;
-  fields = each_item (IsFieldNote a_notes) system.fields (double_field_note, tt);
-}
+system_note = shape_note a_notes system refl refl refl refl refl (
+  field_note a_notes double_field refl refl refl refl (record { bounded = below 0 (2 ^ 32) refl; names = below 0 1 refl }),
+  tt,
+)
 
 by_double_note : IsSignatureNote a_notes by_double
-by_double_note = record {
-  name = name_length by_double.name refl refl;
-  method = below 0 1 refl;
-  few = at_most 1 16 refl;
-  params = each_item (IsWantNote a_notes) by_double.params (
-    record { kind = tt; known = (at_most 0 1000 refl, below 1000 (2 ^ 64) refl); kept = λ e. below 1000 (2 ^ 32) refl },
-    tt,
-  );
-  result = record { given = below 2000 (2 ^ 32) refl; known = λ f. number a_notes f 2000 refl };
-}
+by_double_note = signature_note a_notes by_double refl refl refl refl (
+  record { kind = tt; known = (at_most 0 1000 refl, below 1000 (2 ^ 64) refl); kept = λ e. below 1000 (2 ^ 32) refl },
+  tt,
+) (record { given = below 2000 (2 ^ 32) refl; known = λ f. number a_notes f 2000 refl })
 
 pub a_notes_meet : IsNotes a_notes
 a_notes_meet = record {
@@ -176,7 +104,7 @@ a_notes_meet = record {
     sites = below 1 (2 ^ 32) refl;
     methods = at_most 1 1024 refl;
   };
-  entry = (a_main, refl, a_main_enterable);
+  entry = (a_main, refl, enterable a_main ((refl, refl), tt) (below 2000 (2 ^ 32) refl) refl);
   shapes = each_item (IsShapeNote a_notes) a_notes.shape (system_note, tt);
   statics = λ k x g. absurd (none-some x g);
   thunks = λ k x g. absurd (none-some x g);
@@ -195,56 +123,17 @@ a_notes_meet = record {
 
 -- ---- notes of B
 
-b_main_enterable : CanBeEntered b_main
-b_main_enterable = record {
-  takes = λ k p g. absurd (none-some p g);
-  gives = tt;
-  stack = at_most (9 * frame_size b_main) stack_limit refl;
-}
-
-double_enterable : CanBeEntered double
-double_enterable = record {
-  takes = each_item (λ (p : Param). IsHandedIn p.ty) double.params (below 1000 (2 ^ 32) refl, tt);
-  gives = below 2000 (2 ^ 32) refl;
-  stack = at_most (9 * frame_size double) stack_limit refl;
-}
-
 b_main_note : IsFunctionNote b_notes b_main
 unfolding local_fields
-b_main_note = record {
-  name = name_length b_main.name refl refl;
-  place = below b_main.place (2 ^ 22) refl;
-  «end» = at_most b_main.end (2 ^ 22) refl;
-  level = below b_main.level (2 ^ 64) refl;
-  need = (below b_main.need.n (2 ^ 64) refl, below b_main.need.c (2 ^ 64) refl);
-  locals = tt;
-  fields = at_most 0 64 refl;
-  few = at_most 0 16 refl;
-  params = λ k p g. absurd (none-some p g);
-  result = status b_notes b_main;
-  returned = refl;
-  entered = λ e. absurd (true≢false (sym e));
-}
+b_main_note = function_note b_notes b_main refl refl refl refl refl refl refl refl refl tt tt (status b_notes b_main) refl
+    (λ e. absurd (true≢false (sym e)))
 
 double_note : IsFunctionNote b_notes double
 unfolding local_fields
-double_note = record {
-  name = name_length double.name refl refl;
-  place = below double.place (2 ^ 22) refl;
-  «end» = at_most double.end (2 ^ 22) refl;
-  level = below double.level (2 ^ 64) refl;
-  need = (below double.need.n (2 ^ 64) refl, below double.need.c (2 ^ 64) refl);
-  locals = tt;
-  fields = at_most 0 64 refl;
-  few = at_most 1 16 refl;
-  params = each_item (IsParamNote b_notes double) double.params (
-    record { kind = tt; known = number b_notes double 1000 refl; kept = λ e. below 1000 (2 ^ 32) refl; passed = tt },
-    tt,
-  );
-  result = number b_notes double 2000 refl;
-  returned = tt;
-  entered = λ e. double_enterable;
-}
+double_note = function_note b_notes double refl refl refl refl refl refl refl refl refl tt (
+  record { kind = tt; known = number b_notes double 1000 refl; kept = λ e. below 1000 (2 ^ 32) refl; passed = tt },
+  tt,
+) (number b_notes double 2000 refl) tt (λ e. enterable double (below 1000 (2 ^ 32) refl, tt) (below 2000 (2 ^ 32) refl) refl)
 
 pub b_notes_meet : IsNotes b_notes
 b_notes_meet = record {
@@ -259,7 +148,7 @@ b_notes_meet = record {
     sites = below 0 (2 ^ 32) refl;
     methods = at_most 0 1024 refl;
   };
-  entry = (b_main, refl, b_main_enterable);
+  entry = (b_main, refl, enterable b_main tt tt refl);
   shapes = λ k x g. absurd (none-some x g);
   statics = λ k x g. absurd (none-some x g);
   thunks = λ k x g. absurd (none-some x g);

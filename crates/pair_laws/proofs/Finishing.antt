@@ -15,6 +15,7 @@ use Rattle.host_model.specs.HostPlans.{Plan, Finishes, Replies, Resumes, Notifie
 use Rattle.host_model.specs.HostPlans.{entry_refused, call_settled, call_plan, asked_signature, callback_fits, enter_plan, reply_fits}
 use Rattle.host_model.specs.{HostPlans.reply_plan, HostPlans.reply_stores, HostPlans.next_plan, Placements.frame_limit, Progress.one_thunk}
 use Rattle.host_model.specs.ScriptValues.{same_seen}
+use Rattle.host_laws.proofs.Leaving.{neutral_ending_left, neutral_ending_resumed}
 use Rattle.invariant_laws.proofs.After.{instruction_leaves}
 use Rattle.pair_laws.proofs.Sides.{no_return, returns_top}
 use Rattle.note_types.specs.declared.ending.Ending.TheVariants as ending
@@ -68,16 +69,6 @@ left_none world a f v sound e =
 
 -- ---- plans
 
-pub left_ending : (a : Config) (fs : List Frame) → (neutral.left a fs).ending ≡ a.ending
-left_ending a [] = refl
-left_ending a (Function f ∷ fs) = refl
-left_ending a (Host h ∷ fs) = refl
-
-pub resumed_ending : (a : Config) (fs : List Frame) → (neutral.resumed a fs).ending ≡ a.ending
-resumed_ending a [] = refl
-resumed_ending a (Function f ∷ fs) = refl
-resumed_ending a (Host h ∷ fs) = refl
-
 -- a plan that gives no result
 abbrev pub Goes : Plan → Type 0
 Goes (Finishes v) = ⊥
@@ -88,8 +79,8 @@ pub goes_unfinished : (world : World) (a : Config) (p : Plan) → a.ending ≡ e
     → Unfinished (neutral.performed world a p).ending
 unfolding neutral.performed
 goes_unfinished world a (Finishes v) on g = absurd g
-goes_unfinished world a (Leaves e) on g = subst Unfinished (sym (left_ending a a.frames ∙ on)) tt
-goes_unfinished world a (Resumes e) on g = subst Unfinished (sym (resumed_ending a a.frames ∙ on)) tt
+goes_unfinished world a (Leaves e) on g = subst Unfinished (sym (neutral_ending_left a a.frames ∙ on)) tt
+goes_unfinished world a (Resumes e) on g = subst Unfinished (sym (neutral_ending_resumed a a.frames ∙ on)) tt
 goes_unfinished world a (Ends es e) on g = g
 goes_unfinished world a c on g = subst Unfinished (sym on) tt
 

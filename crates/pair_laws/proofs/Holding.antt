@@ -4,15 +4,14 @@ use Rattle.pair_laws.proofs.Common.{◌≡◌, ℕ, suc, ◌≤◌, true, false,
 use Rattle.pair_laws.proofs.Common.{ap, ◌∙◌, subst, arith, inr, slice_get, IfSome, IsResultNote, Event, FnNote, WantParam, Ty, Value}
 use Rattle.pair_laws.proofs.Common.{FunctionFrame, Frame, Function, Config, depth, call_under_way, with_call, Memory, NativeCall, NoCall}
 use Rattle.pair_laws.proofs.Common.{Asked, fits_result, Neutral, World, result_value, GivenByNative, TopHolds, Holds, live_memory}
-use Rattle.pair_laws.proofs.Common.{SoundBelow, States, AsksWell, RunWorld, at_place, ValuesFit, neutral_bound_reply}
+use Rattle.pair_laws.proofs.Common.{SoundBelow, States, RunWorld, at_place, ValuesFit, neutral_bound_reply}
 use Rattle.neutral_machine.specs.{Config.with_value, Config.locals_at, FitsState.FitsState, Memory.memory_of}
 use Rattle.invariant_laws.specs.{Asked.ArgumentsFit, Asked.OutsWritten, Holds.RunsAt, Later.Later}
 use Rattle.invariant_laws.proofs.Marks.{depth_call, locals_call, hosts_call, call_is, frames_call, chain_call}
 use Rattle.invariant_laws.proofs.{Same.SameMemory, Same.same_later, Same.live_same, Same.frames_later, Same.cells_same, Chains.chain_later}
-use Rattle.invariant_laws.proofs.{Entering.CanEnter, Leaving.seven_other, Replying.result_given}
+use Rattle.invariant_laws.proofs.{Calling.asks, Entering.CanEnter, Leaving.seven_other, Replying.result_given}
 use Rattle.note_types.specs.declared.ending.Ending.TheVariants as ending
 use Rattle.note_types.specs.declared.notes.Want.TheVariants as want
-use Rattle.note_types.specs.declared.spot.Spot.TheVariants as spot
 use Rattle.neutral_machine.specs.NeutralHost as neutral
 
 -- ---- rest
@@ -39,16 +38,10 @@ outs_none V notes m d (p ∷ ps) [] n x = absurd x
 outs_none V notes m d (p ∷ ps) (v ∷ vs) n x = ((λ c e. absurd (n 0 p refl c e)), outs_none V notes m d ps vs (λ k q. n (suc k) q) x.1)
 
 module _ (world : World) (states : States) (ok : RunWorld world states) where
-  abbrev pub asks : Config → ℕ → ℕ → Neutral → FunctionFrame → List Frame → Type 0
-  asks a p q v f fs = AsksWell world states (live_memory world (at_place a p f fs)) a.made (depth fs) f q p v a.registers
-
   -- ---- 3. a bound call is told
 
-  told : Config → ℕ → FunctionFrame → List Frame → List Event → Config
-  told a p f fs t = record a { spot = spot.Place p; frames = Function f ∷ fs; ending = ending.Running; trace = t }
-
   pub told_holds : (a : Config) (p q : ℕ) (v : Neutral) (f : FunctionFrame) (fs : List Frame) (t : List Event)
-      → call_under_way fs ≡ Asked q v → Holds world states (at_place a p f fs) → asks a p q v f fs
+      → call_under_way fs ≡ Asked q v → Holds world states (at_place a p f fs) → asks world states ok a p q v f fs
       → Holds world states (record (at_place a p f fs) { trace = t })
   told_holds a p q v f fs t under x w = record {
     served = x.served;
@@ -68,7 +61,7 @@ module _ (world : World) (states : States) (ok : RunWorld world states) where
   replied a p f fs kind v = neutral_bound_reply world (at_place a p f fs) kind v
 
   pub bound_reply_holds : (a : Config) (p q : ℕ) (t : Neutral) (f : FunctionFrame) (fs : List Frame) (v : Value)
-      → call_under_way fs ≡ Asked q t → Holds world states (at_place a p f fs) → (w : asks a p q t f fs)
+      → call_under_way fs ≡ Asked q t → Holds world states (at_place a p f fs) → (w : asks world states ok a p q t f fs)
       → LendsNone w.signature.params → GivenByNative world.notes w.signature w.args
       (live_memory world (replied a p f fs w.signature.result v))
       (result_value world.notes (neutral.objects_at world a) w.signature.result v)
@@ -119,8 +112,8 @@ module _ (world : World) (states : States) (ok : RunWorld world states) where
       }
 
   -- what the reply gives is what the call waits for, where the value fits the result and no cell is lent
-  pub reply_given : (a : Config) (p q : ℕ) (t : Neutral) (f : FunctionFrame) (fs : List Frame) (v : Value) → (w : asks a p q t f fs)
-      → LendsNone w.signature.params
+  pub reply_given : (a : Config) (p q : ℕ) (t : Neutral) (f : FunctionFrame) (fs : List Frame) (v : Value)
+      → (w : asks world states ok a p q t f fs) → LendsNone w.signature.params
       → (V : Memory) → V.objects ≡ neutral.objects_at world a → (u : Value)
       → fits_result (neutral.objects_at world a) w.signature.result u ≡ true
       → GivenByNative world.notes w.signature w.args V (result_value world.notes (neutral.objects_at world a) w.signature.result u)

@@ -10,9 +10,10 @@ use Rattle.pair_laws.proofs.Common.{PairState, SideOf, with_b, provider_ended, p
 use Rattle.pair_laws.proofs.Common.{function_step_seen, function_step, call_answered, reply_refused, reply_step, IsValue, IsResultNote}
 use Rattle.pair_laws.proofs.Common.{IfSome, States, RunWorld}
 use Rattle.pair_laws.proofs.{Crossing.CanTake, Crossing.enter_holds, Crossing.given_known, Crossing.reply_holds, Agreeing.bound_call}
-use Rattle.pair_laws.proofs.{Agreeing.agreed_lends, Sides.no_return, Sides.returns_top, Finishing.left_ending, Holding.Rests}
+use Rattle.pair_laws.proofs.{Agreeing.agreed_lends, Sides.no_return, Sides.returns_top, Holding.Rests}
 use Rattle.pair_laws.proofs.{Holding.LendsNone, Resting.AsksAt, Resting.own_rests, Resting.leave_rests, SideSteps.SideSteps}
 use Rattle.pair_laws.proofs.{SideSteps.side_steps, Values.NoHandle, Values.result_plain}
+use Rattle.host_laws.proofs.Leaving.{neutral_ending_left}
 use Rattle.invariant_laws.proofs.Leaving.{can_be_entered}
 use Rattle.note_types.specs.declared.reason.Reason.TheVariants as reason
 use Rattle.note_types.specs.declared.spot.Spot.TheVariants as spot
@@ -114,7 +115,7 @@ module _ (images : Both Image) (world : PairWorld) (sa sb : States) (ta : TypedS
 
   leaves_ending : (w : World) (b : Config) (e : _) → (neutral.performed w b (Leaves e)).ending ≡ b.ending
   unfolding neutral.performed
-  leaves_ending w b e = left_ending b b.frames
+  leaves_ending w b e = neutral_ending_left b b.frames
 
   abbrev value_of : View → Value
   value_of (Returns t f v) = v

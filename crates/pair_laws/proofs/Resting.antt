@@ -7,7 +7,8 @@ use Rattle.pair_laws.proofs.Common.{turn_holds, RunWorld, Turn, of_host, of_code
 use Rattle.pair_laws.proofs.Common.{hosts, call_under_way, Event, Spot, Value, Image, TopHolds, Holds, StatesFitBelow, live_memory, States}
 use Rattle.pair_laws.proofs.Common.{AsksWell}
 use Rattle.invariant_laws.specs.Holds.{SpotHolds}
-use Rattle.pair_laws.proofs.{Finishing.left_ending, Finishing.left_none, Holding.Rests, SideSteps.SideSteps}
+use Rattle.host_laws.proofs.Leaving.{neutral_ending_left}
+use Rattle.pair_laws.proofs.{Finishing.left_none, Holding.Rests, SideSteps.SideSteps}
 use Rattle.neutral_machine.specs.NeutralHost as neutral
 use Rattle.note_types.specs.declared.ending.Ending.TheVariants as ending
 use Rattle.note_types.specs.declared.spot.Spot.TheVariants as spot
@@ -48,7 +49,7 @@ module _ (world : World) (states : States) (ok : RunWorld world states) (fits_be
       let x = after_first b f v h on e in
       record {
         frames = left_none world b f v h.sound e;
-        running = left_ending b b.frames ∙ on;
+        running = neutral_ending_left b b.frames ∙ on;
         served = x.served;
         thunks = x.thunks;
         sound = record { cells = x.sound.cells; frames = x.sound.frames; few = x.sound.few };
