@@ -1,5 +1,6 @@
 -- The states of a round become those of the round before, leader by leader.
-use Rattle.note_infer.proofs.Common.{◌≡◌, ◌⊎◌, ℕ, zero, suc, ◌+◌, ◌^◌, ◌<◌, ◌≤◌, Bool, true, false, nat_eq, if◌then◌else◌, List, [], ◌∷◌}
+use Rattle.note_infer.proofs.Common.{◌≡◌, ◌⊎◌, ℕ, zero, suc, ◌+◌, ◌-◌, ◌^◌, ◌<◌, ◌≤◌, Bool, true, false, nat_eq, if◌then◌else◌, List, []}
+use Rattle.note_infer.proofs.Common.{◌∷◌}
 use Rattle.note_infer.proofs.Common.{◌++◌, length, get_or, refl, sym, ap, subst, ◌∙◌, ⊎_elim, arith, inl, inr, get_or-set_same, length-set}
 use Rattle.note_infer.proofs.Common.{None, Option, Some, slice_get, slice_index, slice_index_or, Contains, IsStrictlyIncreasing, cases_lt}
 use Rattle.note_infer.proofs.Common.{nat_tests, ext_get_or, AllPairs-from_increasing, none-some, slice_get_within, FnNote, Notes, State}
@@ -9,7 +10,7 @@ use Rattle.std.specs.Prelude.{slice_set}
 use Rattle.note_infer.specs.{Beginning.AreChanges, Changing.IsChange, Changing.IsChangeBelow, Changing.Turned, Changing.turned_none}
 use Rattle.note_infer.specs.declared.coming.Coming.{Coming}
 use Rattle.note_infer.proofs.{Entering.pushed_ascend, Entering.pushed_cases, Entering.starts_here, Entering.starts_kept, Rounding.start_of}
-use Rattle.note_infer.proofs.{Searching.there_at, StatesAt.at_number, StatesAt.number_of}
+use Rattle.note_infer.proofs.{Searching.climb_of, Searching.there_at, StatesAt.at_number, StatesAt.number_of, StatesAt.rise_of}
 
 -- ---- places that are no leaders
 
@@ -67,7 +68,7 @@ owner_small image notes other leaders g owner place h =
 module _ (notes : Notes) (leaders : List ℕ) (up : IsStrictlyIncreasing leaders) (first now next : Coming) (starts more : List Start) (n : ℕ)
     (short : n < length leaders) (h : Changed notes leaders first now starts n)
     (before : next.before.items ≡ slice_set now.before.items n (slice_index_or now.states.items n None))
-    (states : next.states.items ≡ now.states.items) (given : next.given.items ≡ slice_set now.given.items n false)
+    (states : next.states.items ≡ now.states.items) (given : next.given.items ≡ now.given.items)
     (t : Turned notes leaders now.before.items now.states.items n starts more) where
   -- the state before of that leader is now the one that has come, and the others stay
   here : slice_index_or next.before.items n None ≡ slice_index_or now.states.items n None
@@ -82,27 +83,22 @@ module _ (notes : Notes) (leaders : List ℕ) (up : IsStrictlyIncreasing leaders
   still_coming = record {
     before = ap length before ∙ length-set now.before.items n (slice_index_or now.states.items n None) ∙ h.coming.before;
     states = ap length states ∙ h.coming.states;
-    given = ap length given ∙ length-set now.given.items n false ∙ h.coming.given;
-    quiet = λ k less quiet.
+    given = λ k c. h.coming.given k (subst (λ (xs : List ℕ). Contains xs k) given c);
+    quiet = λ k none.
         ap (λ (xs : List (Option State)). slice_index_or xs k None) states
-        ∙ by_number k less (sym (ap (λ (xs : List Bool). slice_index_or xs k true) given) ∙ quiet);
+        ∙ by_number k (λ c. none (subst (λ (xs : List ℕ). Contains xs k) (sym given) c));
   }
     where
-      by_number : (k : ℕ) → k < length leaders → slice_index_or (slice_set now.given.items n false) k true ≡ false
+      by_number : (k : ℕ) → (Contains now.given.items k → ⊥)
           → slice_index_or now.states.items k None ≡ slice_index_or next.before.items k None
-      by_number k less quiet =
-          ⊎_elim (λ below. other k less quiet (λ q. omega arith))
-          (λ from. ⊎_elim (λ above. other k less quiet (λ q. omega arith))
+      by_number k none =
+          ⊎_elim (λ below. h.coming.quiet k none ∙ sym (others k (λ q. omega arith)))
+          (λ from. ⊎_elim (λ above. h.coming.quiet k none ∙ sym (others k (λ q. omega arith)))
           (λ back.
           let same : n ≡ k = omega arith in
           subst (λ m. slice_index_or now.states.items m None ≡ slice_index_or next.before.items m None) same (sym here))
           (cases_lt n k))
           (cases_lt k n)
-        where
-          other : (k : ℕ) → k < length leaders → slice_index_or (slice_set now.given.items n false) k true ≡ false → (k ≡ n → ⊥)
-              → slice_index_or now.states.items k None ≡ slice_index_or next.before.items k None
-          other k less quiet differ =
-              h.coming.quiet k less (sym (get_or-set_other now.given.items n k false true differ) ∙ quiet) ∙ sym (others k differ)
 
   known_here : slice_index_or now.states.items n None ≡ slice_index_or first.states.items n None
   known_here = ap (λ (xs : List (Option State)). slice_index_or xs n None) h.states
@@ -188,17 +184,10 @@ module _ (notes : Notes) (leaders : List ℕ) (up : IsStrictlyIncreasing leaders
       by_turn (turned_none same is) = no_change is same
       by_turn (turned x c is) = one_change x c is
 
--- what is read of a list is there whatever stands for what isn't
-pub quiet_at : (xs : List Bool) (k : ℕ) (b : Bool) → k < length xs → b ≡ get_or xs k b → b ≡ false → get_or xs k true ≡ false
-quiet_at [] k b short at e = absurd (omega arith)
-quiet_at (x ∷ xs) zero b short at e = sym at ∙ e
-quiet_at (x ∷ xs) (suc k) b short at e = quiet_at xs k b (omega arith) at e
-
 -- where nothing was given to the leader of this number it is as before
-pub changed_quiet : (notes : Notes) (leaders : List ℕ) (first now : Coming) (starts : List Start) (n : ℕ) → n < length leaders
-    → Changed notes leaders first now starts n → slice_index_or now.given.items n true ≡ false
-    → Changed notes leaders first now starts (n + 1)
-changed_quiet notes leaders first now starts n short h quiet = record {
+changed_quiet : (notes : Notes) (leaders : List ℕ) (first now : Coming) (starts : List Start) (n : ℕ)
+    → Changed notes leaders first now starts n → (Contains now.given.items n → ⊥) → Changed notes leaders first now starts (n + 1)
+changed_quiet notes leaders first now starts n h none = record {
   coming = h.coming;
   states = h.states;
   over = λ k less. ⊎_elim (λ before. h.over k before)
@@ -215,12 +204,103 @@ changed_quiet notes leaders first now starts n short h quiet = record {
 }
   where
     here : slice_index_or now.before.items n None ≡ slice_index_or first.states.items n None
-    here = sym (h.coming.quiet n short quiet) ∙ ap (λ (os : List (Option State)). slice_index_or os n None) h.states
+    here = sym (h.coming.quiet n none) ∙ ap (λ (os : List (Option State)). slice_index_or os n None) h.states
+
+-- and where nothing was given to those of several
+changed_to : (notes : Notes) (leaders : List ℕ) (first now : Coming) (starts : List Start) (n count end : ℕ) → n + count ≡ end
+    → Changed notes leaders first now starts n → ((k : ℕ) → n ≤ k → k < end → Contains now.given.items k → ⊥)
+    → Changed notes leaders first now starts end
+changed_to notes leaders first now starts n zero end e h none = subst (Changed notes leaders first now starts) (omega arith) h
+changed_to notes leaders first now starts n (suc count) end e h none =
+    changed_to notes leaders first now starts (n + 1) count end (omega arith)
+    (changed_quiet notes leaders first now starts n h (none n (omega arith) (omega arith))) (λ k low high. none k (omega arith) high)
+
+-- ---- the leaders to which something was given
+
+-- what is read of a list is there whatever stands for what isn't
+pub number_is : (xs : List ℕ) (i d : ℕ) → i < length xs → d ≡ get_or xs i d → slice_index xs i ≡ d
+number_is [] i d short at = absurd (omega arith)
+number_is (x ∷ xs) zero d short at = sym at
+number_is (x ∷ xs) (suc i) d short at = number_is xs i d (omega arith) at
+
+-- the states of the leaders of the first numbers in the list were taken over
+pub record ChangedFirst (notes : Notes) (leaders : List ℕ) (first now : Coming) (starts : List Start) (i : ℕ) : Type 0 where
+  pub n : ℕ
+  pub changed : Changed notes leaders first now starts n
+  pub within : n ≤ length leaders
+  pub same : now.given.items ≡ first.given.items
+  pub below : (j : ℕ) → j < i → slice_index first.given.items j < n
+  pub above : (j : ℕ) → i ≤ j → j < length first.given.items → n ≤ slice_index first.given.items j
+
+pub changed_none : (notes : Notes) (leaders : List ℕ) (first : Coming) (starts : List Start) → IsComing leaders first → starts ≡ []
+    → ChangedFirst notes leaders first first starts 0
+changed_none notes leaders first starts coming empty = record {
+  n = 0;
+  changed = subst (λ (xs : List Start). Changed notes leaders first first xs 0) (sym empty)
+      (record {
+        coming = coming;
+        states = refl;
+        over = λ k less. absurd (omega arith);
+        ahead = λ k from. refl;
+        ascend = λ i j x y less at there. absurd cc;
+        each = λ j x at. absurd cc;
+        all = λ k less. absurd (omega arith);
+      });
+  within = omega arith;
+  same = refl;
+  below = λ j less. absurd (omega arith);
+  above = λ j from less. omega arith;
+}
+
+module _ (notes : Notes) (leaders : List ℕ) (first now : Coming) (starts : List Start) (i : ℕ)
+    (up : IsStrictlyIncreasing first.given.items) (h : ChangedFirst notes leaders first now starts i) where
+  -- nothing was given between what was taken over and the next number
+  none_between : (end k : ℕ) → ((j : ℕ) → i ≤ j → j < length first.given.items → end ≤ slice_index first.given.items j) → h.n ≤ k
+      → k < end → Contains now.given.items k → ⊥
+  none_between end k past low high c =
+      let d : Contains first.given.items k = subst (λ (xs : List ℕ). Contains xs k) h.same c in
+      let e = number_of first.given.items k d in
+      ⊎_elim (λ less. let b = h.below d.0 less in omega arith) (λ from. let p = past d.0 from d.1 in omega arith) (cases_lt d.0 i)
+
+  module _ (number : ℕ) (short : i < length first.given.items) (at : slice_index first.given.items i ≡ number) where
+    pub number_within : number < length leaders
+    number_within =
+        h.changed.coming.given number
+        (subst (λ (xs : List ℕ). Contains xs number) (sym h.same) (there_at first.given.items number i short at))
+
+    past : (j : ℕ) → i ≤ j → j < length first.given.items → number ≤ slice_index first.given.items j
+    past j from less = let c = climb_of first.given.items up i j from less in omega arith
+
+    pub changed_here : Changed notes leaders first now starts number
+    changed_here =
+        let low = h.above i (omega arith) short in
+        changed_to notes leaders first now starts h.n (number - h.n) number (omega arith) h.changed
+        (λ k from below. none_between number k past from below)
+
+    pub first_more : (next : Coming) (more : List Start) → next.given.items ≡ now.given.items
+        → Changed notes leaders first next more (number + 1) → ChangedFirst notes leaders first next more (i + 1)
+    first_more next more given c = let low = h.above i (omega arith) short in let inside = number_within in record {
+      n = number + 1;
+      changed = c;
+      within = omega arith;
+      same = given ∙ h.same;
+      below = λ j less. ⊎_elim (λ before. let b = h.below j before in omega arith)
+          (λ from. let one : i ≡ j = omega arith in let e : slice_index first.given.items j ≡ number =
+          subst (λ k. slice_index first.given.items k ≡ number) one at in omega arith)
+          (cases_lt j i);
+      above = λ j from less. let q = rise_of first.given.items up i j (omega arith) less in omega arith;
+    }
+
+  pub changed_last : length first.given.items ≤ i → Changed notes leaders first now starts (length leaders)
+  changed_last end =
+      let inside = h.within in
+      changed_to notes leaders first now starts h.n (length leaders - h.n) (length leaders) (omega arith) h.changed
+      (λ k from below. none_between (length leaders) k (λ j low less. absurd (omega arith)) from below)
 
 -- ---- all leaders
 
-module _ (notes : Notes) (leaders : List ℕ) (up : IsStrictlyIncreasing leaders) (first now : Coming) (starts : List Start) (n : ℕ)
-    (coming : IsComing leaders first) (past : length leaders ≤ n) (h : Changed notes leaders first now starts n) where
+module _ (notes : Notes) (leaders : List ℕ) (up : IsStrictlyIncreasing leaders) (first now : Coming) (starts : List Start)
+    (coming : IsComing leaders first) (h : Changed notes leaders first now starts (length leaders)) where
   pub taken_over : now.before.items ≡ first.states.items
   taken_over =
       ext_get_or None now.before.items first.states.items (h.coming.before ∙ sym coming.states)
@@ -230,7 +310,8 @@ module _ (notes : Notes) (leaders : List ℕ) (up : IsStrictlyIncreasing leaders
       → length os ≡ length leaders → state_at leaders os x.place ≡ slice_index_or os number None
   at_change x number short at os long = at_number leaders os number x.place up short long at
 
-  number_short : (x : Start) (b : IsChangeBelow notes leaders first.before.items first.states.items n x) → b.number < length leaders
+  number_short : (x : Start) (b : IsChangeBelow notes leaders first.before.items first.states.items (length leaders) x)
+      → b.number < length leaders
   number_short x b =
       ⊎_elim (λ less. less)
       (λ from. absurd (none-some x.state
@@ -273,3 +354,16 @@ module _ (notes : Notes) (leaders : List ℕ) (up : IsStrictlyIncreasing leaders
         ∙ at_change w.1 b.number short b.change.place_is now.before.items h.coming.before
         ∙ ap (λ (os : List (Option State)). slice_index_or os b.number None) taken_over ∙ b.change.state_is);
   }
+
+  -- and then nothing is given
+  pub coming_again : (next : Coming) → next.before.items ≡ now.before.items → next.states.items ≡ now.states.items → next.given.items ≡ []
+      → IsComing leaders next
+  coming_again next before states given = record {
+    before = ap length before ∙ h.coming.before;
+    states = ap length states ∙ h.coming.states;
+    given = λ k c. none_given k (subst (λ (xs : List ℕ). Contains xs k) given c);
+    quiet = λ k none. ap (λ (xs : List (Option State)). slice_index_or xs k None) (states ∙ h.states ∙ sym taken_over ∙ sym before);
+  }
+    where
+      none_given : (k : ℕ) → Contains [] k → k < length leaders
+      none_given k c = let short = c.1 in absurd (omega arith)

@@ -114,13 +114,6 @@ module _ (image : Image) (notes other : Notes) (leaders : List ℕ) (g : IsSetti
       first_comes s (nat_eq place h.leader)
       (subst (λ o. all_in o (given_to place s h.leader) ≡ None) (e.rest n f there (omega arith) h.leader h.there h.within) h.clash)
 
-  pub entry_taken : (r : Bool) (after : States) (s : State) → s ≡ entry_state notes n
-      → OnTrue r (Takes leaders f (given_to f.place s) come after) → OnFalse r (ClashesAt leaders f (given_to f.place s) come)
-      → (r ≡ true) × Takes leaders f (given_to f.place (entry_state notes n)) come after
-  entry_taken true after s is h clash =
-      (refl, subst (λ (t : State). Takes leaders f (given_to f.place t) come after) is (OnTrue_at refl h))
-  entry_taken false after s is h clash = absurd (no_clash f.place s (OnFalse_at refl clash))
-
   -- its state comes to the leader at its start
   pub entered_leader : (after : States) → Contains leaders f.place
       → Takes leaders f (given_to f.place (entry_state notes n)) come after → Entered notes leaders after starts (n + 1)

@@ -9,6 +9,9 @@ use Rattle.note_infer.proofs.{Advancing.rest_to, Chains.apart, Chains.chain_with
 use Rattle.note_infer.proofs.{Chains.one_chain, Chains.rows_one, Lone.none_fails, Lone.points_before, Passing.marks_read, Passing.range_of}
 use Rattle.note_infer.proofs.{Settling.all_new, StatesAt.all_none}
 use Rattle.note_infer.specs.Passing.{Passes}
+use Rattle.note_infer.specs.Refusing.{OnRule}
+use Rattle.note_infer.specs.declared.walk.Failure.{Failure}
+use Rattle.note_infer.specs.declared.walk.Failure.TheVariants as failures
 
 module _ (image : Image) (notes other : Notes) (leaders : List ℕ) (g : IsSetting image notes other leaders) (states : States)
     (found : AreFound notes leaders states) (k : ℕ) (f : FnNote) (there : slice_get notes.function k ≡ Some f) where
@@ -205,3 +208,7 @@ pub alone_next : (notes : Notes) (leaders : List ℕ) (from at next : ℕ) → P
 alone_next notes leaders from at next point old none p low high l =
     ⊎_elim (λ less. alone_more notes leaders from at next point old p low less l)
     (λ back. none (subst (Contains leaders) {x = p} {y = next} (omega (arith, back, high)) l)) (cases_lt p next)
+
+-- the rule that fails
+pub rule_at : (P : RuleName → Type 0) (e : Failure) (r : RuleName) → e ≡ failures.Rule r → OnRule P e → P r
+rule_at P e r is h = subst (OnRule P) is h

@@ -3,6 +3,13 @@ use Rattle.note_infer.proofs.Common.{◌≡◌, ℕ, zero, suc, ◌<◌, Bool, t
 use Rattle.note_infer.proofs.Common.{refl, sym, ap, subst, ◌∙◌, arith, get_or-set_same, length-set, Option, None, Some, option_and_then}
 use Rattle.note_infer.proofs.Common.{slice_index, slice_index_or, Contains, IsStrictlyIncreasing, nat_tests, AllPairs-from_increasing}
 use Rattle.note_infer.proofs.Common.{FnNote, State, taken_in, IsWithin, States, all_in, ClashesAt, Takes, given_to, state_at}
+use Rattle.std.proofs.lemmas.List.Elements.{Contains-append_cases, Contains-append_left, Contains-push}
+use Rattle.note_infer.proofs.Common.{inl, inr, ◌⊎◌, Err, IsComing, Ok, Result}
+use Rattle.std.specs.Prelude.{OnOk, ◌↔◌}
+use Rattle.note_infer.specs.Refusing.{OnClash}
+use Rattle.note_infer.specs.declared.coming.Coming.{Coming}
+use Rattle.note_infer.specs.declared.coming.NotTaken.{NotTaken}
+use Rattle.note_infer.specs.declared.coming.NotTaken.TheVariants as refusals
 use Rattle.std.proofs.{Common.get_or-set_other, lemmas.Bool.cond-false, lemmas.Bool.cond-true, lemmas.Bool.eq-eqb, lemmas.Bool.ne_eqb}
 use Rattle.rules_flow.specs.Successors.{falls}
 use Rattle.note_infer.specs.Rounds.{given}
@@ -193,3 +200,55 @@ pub takes_fall_apart : (leaders : List ℕ) (f : FnNote) (next : ℕ) (s : State
 takes_fall_apart leaders f next s old none =
     takes_both leaders f (given_to next s) (λ (l : ℕ). []) old old old (takes_apart leaders f next s old none)
     (takes_none leaders f (λ (l : ℕ). []) old (λ l c w. refl))
+
+-- ---- what is still coming
+
+-- two facts of a call that gave no error give a third
+pub both_ok : {T E P Q R : Type 0} (r : Result T E) → (P → Q → R) → OnOk r P → OnOk r Q → OnOk r R
+both_ok (Ok x) f p q = f p q
+both_ok (Err e) f p q = p
+
+-- a clash is one where what it stands for follows
+pub clash_weaker : {P Q : Type 0} (e : NotTaken) → (P → Q) → OnClash P e → OnClash Q e
+clash_weaker refusals.NoMemory f h = h
+clash_weaker refusals.Clashes f h = f h
+
+pub clash_at : {P : Type 0} (e : NotTaken) → e ≡ refusals.Clashes → OnClash P e → P
+clash_at {P} e is h = subst (OnClash P) is h
+
+-- what has come stays where the numbers are sorted
+pub coming_sorted : (leaders : List ℕ) (c next : Coming) → IsComing leaders c → next.before.items ≡ c.before.items
+    → next.states.items ≡ c.states.items → ((k : ℕ) → Contains next.given.items k ↔ Contains c.given.items k) → IsComing leaders next
+coming_sorted leaders c next h before states same = record {
+  before = ap length before ∙ h.before;
+  states = ap length states ∙ h.states;
+  given = λ k there. h.given k ((same k).0 there);
+  quiet = λ k none. ap (λ xs. slice_index_or xs k None) states ∙ h.quiet k (λ there. none ((same k).1 there))
+      ∙ sym (ap (λ xs. slice_index_or xs k None) before);
+}
+
+-- a state was joined in at a leader, to which something was given then
+pub coming_more : (leaders : List ℕ) (c next : Coming) (number : ℕ) (s : State) → number < length leaders → IsComing leaders c
+    → TakesNumber c.states.items next.states.items number s → next.given.items ≡ c.given.items ++ number ∷ []
+    → next.before.items ≡ c.before.items → IsComing leaders next
+coming_more leaders c next number s short h t given before = record {
+  before = ap length before ∙ h.before;
+  states = ap length t.is ∙ length-set c.states.items number (Some t.u) ∙ h.states;
+  given = λ k there. by_cases k (Contains-append_cases c.given.items (number ∷ []) k (subst (λ (xs : List ℕ). Contains xs k) given there));
+  quiet = λ k none.
+      let apart : k ≡ number → ⊥ = λ e. none (subst (Contains next.given.items) (sym e)
+      (subst (λ (xs : List ℕ). Contains xs number) (sym given) (Contains-push c.given.items number))) in
+      ap (λ xs. slice_index_or xs k None) t.is
+      ∙ get_or-set_other c.states.items number k (Some t.u) None apart
+      ∙ h.quiet k (λ there. none (subst (λ (xs : List ℕ). Contains xs k) (sym given)
+      (Contains-append_left c.given.items (number ∷ []) k there)))
+      ∙ sym (ap (λ xs. slice_index_or xs k None) before);
+}
+  where
+    by_cases : (k : ℕ) → Contains c.given.items k ⊎ Contains (number ∷ []) k → k < length leaders
+    by_cases k (inl there) = h.given k there
+    by_cases k (inr there) = last there.0 there.1 there.2
+      where
+        last : (j : ℕ) → j < 1 → get_or (number ∷ []) j k ≡ k → k < length leaders
+        last zero less e = omega arith
+        last (suc j) less e = absurd (omega arith)

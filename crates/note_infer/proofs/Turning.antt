@@ -8,7 +8,9 @@ use Rattle.note_infer.proofs.Common.{state_at, IsSetting, AllRest, Reached, orig
 use Rattle.note_infer.proofs.{Promising.rounds_end, RoundStates.AllFound, RoundStates.after_found, RoundStates.entry_found}
 use Rattle.note_infer.proofs.{Entering.nothing_before, Passing.marks_read, Passing.range_of, Resting.begin_next, Resting.rest_next}
 use Rattle.note_infer.proofs.{Resting.whole_round, Searching.there_at, Settling.all_new, StatesAt.at_number}
-use Rattle.note_infer.specs.Beginning.{AreChanges, StayKnown}
+use Rattle.note_infer.specs.{Beginning.AreChanges, Beginning.StayKnown, Stopping.IsEnd, Stopping.IsNotFound}
+use Rattle.note_infer.specs.declared.rounds.NotFound.{NotFound}
+use Rattle.note_infer.specs.declared.rounds.NotFound.TheVariants as failures
 
 -- the walks of a round begin: the states before it and what has come to the leaders, in the leaders' order
 pub record IsTurn (image : Image) (notes : Notes) (leaders : List ℕ) (starts : List Start) (before come : List (Option State)) : Type 0
@@ -213,3 +215,20 @@ module _ (image : Image) (notes other : Notes) (leaders : List ℕ) (g : IsSetti
       → AreFound notes leaders (state_at leaders before)
   turn_found starts before come t =
       after_found image notes leaders (marks_read image notes other leaders g) t.rounds (state_at leaders before) t.after
+
+  -- where a round doesn't go through, no states are found
+  pub not_found : (starts : List Start) (before come : List (Option State)) → IsTurn image notes leaders starts before come
+      → TablesHold image notes → (end : NotFound) → IsEnd image notes leaders (state_at leaders before) end
+      → IsNotFound image notes leaders end
+  not_found starts before come t tables failures.NoMemory h = h
+  not_found starts before come t tables (failures.Stuck stop) h = record {
+    states = state_at leaders before;
+    found = record {
+      tables = tables;
+      all = g.all;
+      few = λ many. let few = g.few in omega arith;
+      rounds = t.rounds;
+      after = t.after;
+    };
+    stuck = h;
+  }

@@ -1,5 +1,5 @@
 -- For proofs: what has come to the leaders, by their places.
-use Rattle.std.specs.Prelude.{◌≡◌, ℕ, ◌<◌, nat_eq, if◌then◌else◌, false, true, List, [], ◌∷◌, Option, Some, None, length}
+use Rattle.std.specs.Prelude.{◌≡◌, ℕ, ◌<◌, nat_eq, if◌then◌else◌, List, [], ◌∷◌, Option, Some, None, length}
 use Rattle.std.specs.Prelude.{slice_index_or, slice_set}
 use Rattle.std.specs.List.{Contains}
 use Rattle.note_types.specs.declared.notes.FnNote.{FnNote}
@@ -18,9 +18,8 @@ state_at (l ∷ ls) (o ∷ os) x = if nat_eq l x then o else state_at ls os x
 pub record IsComing (leaders : List ℕ) (c : Coming) : Type 0 where
   pub before : length c.before.items ≡ length leaders
   pub states : length c.states.items ≡ length leaders
-  pub given : length c.given.items ≡ length leaders
-  pub quiet : (k : ℕ) → k < length leaders → slice_index_or c.given.items k true ≡ false
-      → slice_index_or c.states.items k None ≡ slice_index_or c.before.items k None
+  pub given : (k : ℕ) → Contains c.given.items k → k < length leaders
+  pub quiet : (k : ℕ) → (Contains c.given.items k → ⊥) → slice_index_or c.states.items k None ≡ slice_index_or c.before.items k None
 
 -- a state is joined in at a leader, by its number
 pub record TakesNumber (old new : List (Option State)) (number : ℕ) (s : State) : Type 0 where

@@ -9,6 +9,7 @@ pub mod Passing
 pub mod PointStates
 pub mod Promises
 pub mod Reaching
+pub mod Refusing
 pub mod RoundEnds
 pub mod Rounds
 pub mod Starting

@@ -19,3 +19,8 @@ pub record StuckAfter (image : Image) (notes : Notes) (leaders : List ℕ) (plac
 abbrev pub IsNotFound : Image → Notes → List ℕ → NotFound → Type 0
 IsNotFound image notes leaders NoMemory = ⊤
 IsNotFound image notes leaders (Stuck stop) = StuckAfter image notes leaders stop.place stop.rule stop.state
+
+-- the same where the states before the round are these
+abbrev pub IsEnd : Image → Notes → List ℕ → States → NotFound → Type 0
+IsEnd image notes leaders states NoMemory = ⊤
+IsEnd image notes leaders states (Stuck stop) = IsStuck image notes leaders states stop.place stop.rule stop.state

@@ -1,19 +1,20 @@
 //! Where the walks of a round begin.
 
-ghost use Rattle.std.specs.Prelude.{◌≡◌, ℕ, ◌+◌, ◌<◌, IfOk, None, OnOk, Some, false, length, replicate, slice_get, slice_index_or, slice_set};
+ghost use Rattle.std.specs.Prelude.{◌≡◌, ℕ, ◌+◌, ◌<◌, IfOk, None, OnOk, Some, [], length, replicate, slice_get, slice_index_or, slice_set};
+ghost use Rattle.std.specs.List.Sorted.{IsStrictlyIncreasing};
 ghost use Rattle.note_types.specs.declared.notes.FnNote.{FnNote};
 ghost use Rattle.note_infer.specs.Rounds.{IsWithin};
 ghost use Rattle.note_infer.specs.Beginning.{AreChanges, AreEntries, StayKnown};
-ghost use Rattle.note_infer.specs.Changing.{Turned};
+ghost use Rattle.note_infer.specs.Changing.{Changed, Turned};
 ghost use Rattle.note_infer.specs.Coming.{IsComing, state_at};
 ghost use Rattle.note_infer.specs.Entering.{Entered};
 ghost use Rattle.note_infer.specs.Passing.{IsSetting};
 ghost use Rattle.note_infer.specs.Starting.{AreStarts};
 
-use crate::coming::{Coming, is_leader};
+use crate::coming::{Coming, NotTaken, is_leader};
 use crate::rounds::{Rounds, Start};
 use ebc_base::NoMemory;
-use note_types::{FnNote, entry_state};
+use note_types::{CompactState, FnNote, State, entry_state};
 use std::alloc::Global;
 
 impl<'a> Rounds<'a> {
@@ -46,13 +47,16 @@ impl<'a> Rounds<'a> {
     {
         let state = entry_state(self.notes, func);
         if is_leader(self.leaders, f.place) {
-            let _first = coming.take_in_at(self.leaders, f, f.place, &state);
-            return Ok(());
+            return match coming.take_in_at(self.leaders, f, f.place, &state) {
+                Ok(()) => Ok(()),
+                Err(NotTaken::NoMemory) => Err(NoMemory),
+                Err(NotTaken::Clashes) => unreachable!(),
+            };
         }
         starts.push(Start {
             func,
             place: f.place,
-            state,
+            state: CompactState::new(coming.alloc, &state)?,
         })?;
         Ok(())
     }
@@ -61,6 +65,7 @@ impl<'a> Rounds<'a> {
     fn turn(
         &self,
         number: usize,
+        room: &mut State,
         coming: &mut Coming,
         starts: &mut Vec<Start>,
     ) -> Result<(), NoMemory>
@@ -69,11 +74,11 @@ impl<'a> Rounds<'a> {
         requires coming { IsComing self.now.leaders.now coming.old }
         requires known { slice_index_or coming.old.states.items number None ≡ None → slice_index_or coming.old.before.items number None ≡ None }
         ensures turned { OnOk result (Turned self.now.notes.now self.now.leaders.now coming.old.before.items coming.old.states.items number starts.old.items starts.new.items) }
-        ensures before { coming.new.before.items ≡ slice_set coming.old.before.items number (slice_index_or coming.old.states.items number None) }
+        ensures before { OnOk result (coming.new.before.items ≡ slice_set coming.old.before.items number (slice_index_or coming.old.states.items number None)) }
         ensures states { coming.new.states.items ≡ coming.old.states.items }
-        ensures given { coming.new.given.items ≡ slice_set coming.old.given.items number false }
+        ensures given { coming.new.given.items ≡ coming.old.given.items }
     {
-        let Some(state) = coming.take_over(number) else {
+        let Some(state) = coming.take_over(number, room)? else {
             return Ok(());
         };
         let place = self.leaders[number];
@@ -82,6 +87,27 @@ impl<'a> Rounds<'a> {
             place,
             state,
         })?;
+        Ok(())
+    }
+
+    // Takes over what has come to the leaders to which something was given.
+    fn turn_all(
+        &self,
+        room: &mut State,
+        coming: &mut Coming,
+        starts: &mut Vec<Start>,
+    ) -> Result<(), NoMemory>
+        requires setting { IsSetting self.now.image.now self.now.notes.now self.now.marked.now self.now.leaders.now }
+        requires coming { IsComing self.now.leaders.now coming.old }
+        requires known { StayKnown coming.old.before.items coming.old.states.items }
+        requires ascend { IsStrictlyIncreasing coming.old.given.items }
+        requires none { starts.old.items ≡ [] }
+        ensures { OnOk result (Changed self.now.notes.now self.now.leaders.now coming.old coming.new starts.new.items (length self.now.leaders.now)) }
+    {
+        for index in 0..coming.given.len() {
+            let number = coming.given[index];
+            self.turn(number, room, coming, starts)?;
+        }
         Ok(())
     }
 
@@ -107,12 +133,18 @@ impl<'a> Rounds<'a> {
         Ok(starts)
     }
 
-    /// The starts of the next round: the leaders whose state changed. What came to them is then the state before.
+    /// The starts of the next round: the leaders whose state changed. What came to them is then the state before. A state is put into
+    /// `room` in between.
     ///
     /// # Errors
     ///
     /// There is no memory for them.
-    pub fn changes(&self, alloc: Global, coming: &mut Coming) -> Result<Vec<Start>, NoMemory>
+    pub fn changes(
+        &self,
+        alloc: Global,
+        room: &mut State,
+        coming: &mut Coming,
+    ) -> Result<Vec<Start>, NoMemory>
         requires setting { IsSetting self.now.image.now self.now.notes.now self.now.marked.now self.now.leaders.now }
         requires coming { IsComing self.now.leaders.now coming.old }
         requires known { StayKnown coming.old.before.items coming.old.states.items }
@@ -123,11 +155,9 @@ impl<'a> Rounds<'a> {
         ensures states { OnOk result (coming.new.states.items ≡ coming.old.states.items) }
     {
         let mut starts = Vec::new(alloc);
-        for number in 0..self.leaders.len() {
-            if coming.given[number] {
-                self.turn(number, coming, &mut starts)?;
-            }
-        }
+        coming.sort_given();
+        self.turn_all(room, coming, &mut starts)?;
+        coming.given.clear();
         Ok(starts)
     }
 }

@@ -20,7 +20,7 @@ use crate::marks::marked;
 use crate::rounds::{NotFound, Rounds};
 use crate::tables::{points_of, tables_hold};
 use ebc_base::NoMemory;
-use note_types::{Notes, Points, State, point_limit};
+use note_types::{CompactState, Notes, Points, entry_state, point_limit};
 use pe_image::Image;
 use std::alloc::Global;
 use width_checker::{Verdict, check};
@@ -55,7 +55,7 @@ fn checked_points(
     image: &Image,
     notes: &Notes,
     leaders: &[u32],
-    states: &[Option<State>],
+    states: &[Option<CompactState>],
 ) -> Result<Inferred, NoMemory>
     requires image { IsImage image.now }
     requires notes { IsNotes notes.now }
@@ -64,7 +64,9 @@ fn checked_points(
     requires settled { IsSettled image.now notes.now leaders.now (state_at leaders.now states.now) }
     ensures { IfOk result (IsInferred image.now notes.now) }
 {
-    let found = with_points(alloc, notes, points_of(alloc, leaders, states)?)?;
+    let mut room = entry_state(notes, notes.entry);
+    let points = points_of(alloc, leaders, states, &mut room)?;
+    let found = with_points(alloc, notes, points)?;
     match check(alloc, image, &found)? {
         Verdict::Neutral => Ok(Inferred::Points(points_in(found))),
         Verdict::Refused { place, rule } => Ok(Inferred::Stuck {
@@ -81,7 +83,7 @@ fn settled_states(
     image: &Image,
     notes: &Notes,
     leaders: &[u32],
-) -> Result<Vec<Option<State>>, NotFound>
+) -> Result<Vec<Option<CompactState>>, NotFound>
     requires image { IsImage image.now }
     requires notes { IsNotes notes.now }
     requires tables { TablesHold image.now notes.now }
@@ -121,7 +123,7 @@ fn find_points(
         Err(NotFound::Stuck(stop)) => Ok(Inferred::Stuck {
             place: stop.place,
             rule: stop.rule,
-            state: Some(stop.state),
+            state: Some(stop.state.state()),
         }),
     }
 }

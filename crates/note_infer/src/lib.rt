@@ -23,8 +23,7 @@
 //! - `row`: the states after an instruction, or the first rule of its row that fails (`row_of`).
 //! - `insn_at`: an instruction of a function's code, and a later place, within the code or at its end, where the next
 //!   one is.
-//! - `Coming::take_after`: each leader of the function takes what the instruction gives (`Takes`), or one of them
-//!   clashes.
+//! - `Coming::take_in_at`: the leader at a place of the function takes a state (`Takes`), or it clashes.
 //! - `turn_of`: what an instruction does, told by what changes (`after_turn`), or the first rule of its row that fails.
 //! - `Walk::take_turn`: what the instruction gives was joined in, and the state is the one that falls on; or it clashes,
 //!   and the state is as it was.
@@ -35,6 +34,7 @@
 //! - `same_state`: whether two states are one.
 //! - `Coming::take_over`: what has come to a leader becomes the state of the round before; it is given back where it is
 //!   another one.
+//! - `Coming::sort_given`: the numbers of the leaders to which something was given ascend, each once.
 //! - `Rounds::owner`: the number of the function whose code has a place.
 //! - `Rounds::entries`: the starts of the first round (`AreStarts`, `AreEntries`).
 //! - `Rounds::changes`: the starts of the next round (`AreStarts`, `AreChanges`), and what has come is the states

@@ -7,7 +7,7 @@ ghost use Rattle.note_infer.specs.Rounds.{marked};
 
 use crate::copies::with_points;
 use ebc_base::{NoMemory, Sequence};
-use note_types::{Notes, Point, entry_state};
+use note_types::{CompactState, Notes, Point, entry_state};
 use rules_image::first_point;
 use std::alloc::Global;
 
@@ -20,11 +20,12 @@ pub fn marked(alloc: Global, notes: &Notes, leaders: &[u32]) -> Result<Notes, No
     requires { IsNotes notes.now }
     ensures { IfOk result (λ copy. copy ≡ marked notes.now leaders.now) }
 {
+    let state = entry_state(notes, notes.entry);
     let mut points = Vec::new(alloc);
     for leader in leaders {
         points.push(Point {
             place: *leader,
-            state: entry_state(notes, notes.entry),
+            state: CompactState::new(alloc, &state)?,
         })?;
     }
     with_points(alloc, notes, Sequence::new(points))

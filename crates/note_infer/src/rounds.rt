@@ -4,18 +4,17 @@ ghost use Rattle.std.specs.Prelude.{◌≡◌, ◌^◌, IfErr, IfOk, OnOk, lengt
 ghost use Rattle.width_checker.specs.Typed.{TablesHold};
 ghost use Rattle.note_infer.specs.Inferred.{IsSettled};
 ghost use Rattle.note_infer.specs.PointStates.{AreFound};
-ghost use Rattle.note_infer.specs.Rounds.{IsStuck};
 ghost use Rattle.note_infer.specs.Coming.{IsComing, state_at};
 ghost use Rattle.note_infer.specs.declared.rounds.NotFound.TheVariants as failures;
 ghost use Rattle.note_infer.specs.Passing.{IsSetting};
 ghost use Rattle.note_infer.specs.Reaching.{AllRest, Reached};
 ghost use Rattle.note_infer.specs.Starting.{AreStarts};
-ghost use Rattle.note_infer.specs.Stopping.{IsNotFound};
+ghost use Rattle.note_infer.specs.Stopping.{IsEnd, IsNotFound};
 
 use crate::coming::Coming;
 use crate::walk::{Stop, Walk};
 use ebc_base::NoMemory;
-use note_types::{Notes, State};
+use note_types::{CompactState, Notes, State, entry_state};
 use pe_image::Image;
 use std::alloc::Global;
 
@@ -24,7 +23,7 @@ use std::alloc::Global;
 pub(crate) struct Start {
     pub func: u32,
     pub place: u32,
-    pub state: State,
+    pub state: CompactState,
 }
 
 /// Why no states are found: there is no memory, or a round is stuck.
@@ -52,12 +51,17 @@ pub(crate) struct Rounds<'a> {
 }
 
 impl<'a> Rounds<'a> {
-    /// Walks on from each of these starts.
+    /// Walks on from each of these starts, with the state at hand in `state`.
     ///
     /// # Errors
     ///
-    /// The round is stuck.
-    pub fn walk_all(&self, starts: &[Start], coming: &mut Coming) -> Result<(), Stop>
+    /// The round is stuck, or there is no memory.
+    pub fn walk_all(
+        &self,
+        starts: &[Start],
+        state: &mut State,
+        coming: &mut Coming,
+    ) -> Result<(), NotFound>
         requires setting { IsSetting self.now.image.now self.now.notes.now self.now.marked.now self.now.leaders.now }
         requires found { AreFound self.now.notes.now self.now.leaders.now (state_at self.now.leaders.now coming.old.before.items) }
         requires starts { AreStarts self.now.notes.now self.now.leaders.now (state_at self.now.leaders.now coming.old.before.items) starts.now }
@@ -65,7 +69,7 @@ impl<'a> Rounds<'a> {
         requires coming { IsComing self.now.leaders.now coming.old }
         requires reached { Reached self.now.image.now self.now.notes.now self.now.leaders.now (state_at self.now.leaders.now coming.old.before.items) (state_at self.now.leaders.now coming.old.states.items) 0 }
         ensures reached { OnOk result (Reached self.now.image.now self.now.notes.now self.now.leaders.now (state_at self.now.leaders.now coming.new.before.items) (state_at self.now.leaders.now coming.new.states.items) (2 ^ 22)) }
-        ensures stuck { IfErr result (λ stop. IsStuck self.now.image.now self.now.notes.now self.now.leaders.now (state_at self.now.leaders.now coming.old.before.items) stop.place stop.rule stop.state) }
+        ensures stuck { IfErr result (IsEnd self.now.image.now self.now.notes.now self.now.leaders.now (state_at self.now.leaders.now coming.old.before.items)) }
         ensures coming { OnOk result (IsComing self.now.leaders.now coming.new) }
         ensures before { coming.new.before.items ≡ coming.old.before.items }
     {
@@ -78,9 +82,10 @@ impl<'a> Rounds<'a> {
                 func: start.func,
                 f: &self.notes.function.as_slice()[start.func as usize],
             };
-            match walk.go(start.place, &start.state, coming) {
+            start.state.put(state);
+            match walk.go(start.place, state, coming) {
                 Ok(()) => {}
-                Err(stop) => return Err(stop),
+                Err(end) => return Err(end),
             }
         }
         Ok(())
@@ -91,7 +96,7 @@ impl<'a> Rounds<'a> {
     /// # Errors
     ///
     /// There is no memory for them, or a round is stuck.
-    pub fn settle(&self, alloc: Global) -> Result<Vec<Option<State>>, NotFound>
+    pub fn settle(&self, alloc: Global) -> Result<Vec<Option<CompactState>>, NotFound>
         requires setting { IsSetting self.now.image.now self.now.notes.now self.now.marked.now self.now.leaders.now }
         requires tables { TablesHold self.now.image.now self.now.notes.now }
         ensures settled { IfOk result (λ states. IsSettled self.now.image.now self.now.notes.now self.now.leaders.now (state_at self.now.leaders.now states.items)) }
@@ -99,12 +104,13 @@ impl<'a> Rounds<'a> {
         ensures stuck { IfErr result (IsNotFound self.now.image.now self.now.notes.now self.now.leaders.now) }
     {
         let mut coming = Coming::new(alloc, self.leaders.len())?;
+        let mut state = entry_state(self.notes, self.notes.entry);
         let mut starts = self.entries(alloc, &mut coming)?;
         loop {
-            if let Err(stop) = self.walk_all(starts.as_slice(), &mut coming) {
-                return Err(NotFound::Stuck(stop));
+            if let Err(end) = self.walk_all(starts.as_slice(), &mut state, &mut coming) {
+                return Err(end);
             }
-            starts = self.changes(alloc, &mut coming)?;
+            starts = self.changes(alloc, &mut state, &mut coming)?;
             if starts.is_empty() {
                 return Ok(coming.states);
             }

@@ -9,7 +9,7 @@ ghost use Rattle.note_infer.specs.Inferred.{points_of, with_point};
 ghost use Rattle.note_infer.specs.Coming.{state_at};
 
 use ebc_base::{NoMemory, Sequence};
-use note_types::{Notes, Point, Points, State};
+use note_types::{CompactState, Notes, Point, Points, State};
 use pe_image::Image;
 use rules_image::{all_apart, check_functions, check_shapes, check_statics, check_thunks};
 use std::alloc::Global;
@@ -42,20 +42,27 @@ pub(crate) fn tables_hold(alloc: Global, image: &Image, notes: &Notes) -> Result
     }
 }
 
-// Adds the point at a place, where a state is there.
-fn add_point(place: u32, state: &Option<State>, points: &mut Vec<Point>) -> Result<(), NoMemory>
+// Adds the point at a place, where a state is there. It is put into `room` in between.
+fn add_point(
+    alloc: Global,
+    place: u32,
+    state: &Option<CompactState>,
+    room: &mut State,
+    points: &mut Vec<Point>,
+) -> Result<(), NoMemory>
     ensures { OnOk result (points.new.items ≡ points.old.items ++ with_point place state.now []) }
 {
     if let Some(state) = state {
+        state.put(room);
         points.push(Point {
             place,
-            state: state.copy(),
+            state: CompactState::new(alloc, room)?,
         })?;
     }
     Ok(())
 }
 
-/// The points at the leaders that have a state.
+/// The points at the leaders that have a state. Each is put into `room` in between.
 ///
 /// # Errors
 ///
@@ -63,7 +70,8 @@ fn add_point(place: u32, state: &Option<State>, points: &mut Vec<Point>) -> Resu
 pub(crate) fn points_of(
     alloc: Global,
     leaders: &[u32],
-    states: &[Option<State>],
+    states: &[Option<CompactState>],
+    room: &mut State,
 ) -> Result<Points, NoMemory>
     requires ascend { IsStrictlyIncreasing leaders.now }
     requires long { length states.now ≡ length leaders.now }
@@ -71,7 +79,7 @@ pub(crate) fn points_of(
 {
     let mut points = Vec::new(alloc);
     for (number, place) in leaders.iter().enumerate() {
-        add_point(*place, &states[number], &mut points)?;
+        add_point(alloc, *place, &states[number], room, &mut points)?;
     }
     Ok(Sequence::new(points))
 }

@@ -6,7 +6,7 @@ use Rattle.note_infer.proofs.finder.checked_points.Goals as goal
 
 found_is : (c : In_ok-found)
     → c.in_ok-found.found ≡ with_points c.args.notes.now (points_of (state_at c.args.leaders.now c.args.states.now) c.args.leaders.now)
-found_is c = c.in_ok-found.ensures ∙ ap (with_points c.args.notes.now) c.in_ok-points_of.ensures
+found_is c = c.in_ok-found.ensures ∙ ap (with_points c.args.notes.now) c.in_ok-points.ensures
 
 pub check-requires-clause-notes : goal.check-requires-clause-notes
 check-requires-clause-notes c =

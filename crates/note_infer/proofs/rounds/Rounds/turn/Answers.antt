@@ -1,4 +1,5 @@
 use Rattle.note_infer.proofs.Common.{ℕ, ◌^◌, ◌<◌, arith, refl, slice_index, turned}
+use Rattle.std.proofs.lemmas.Option.{MatchOption-at_some}
 use Rattle.note_infer.proofs.Changing.{IsOwner, owned, owner_small}
 use Rattle.note_infer.proofs.rounds.Rounds.turn.Goals as goal
 
@@ -21,8 +22,8 @@ returns-clause-turned c =
     turned (record { func = c.owner.result; place = place; state = c.in-Some.state })
     (record {
       place_is = refl;
-      state_is = c.in-Some.ensures.some;
-      differs = c.in-Some.ensures.differs;
+      state_is = MatchOption-at_some _ _ _ c.in-Some.is c.in_ok-state.ensures.some;
+      differs = MatchOption-at_some _ _ _ c.in-Some.is c.in_ok-state.ensures.differs;
       f = o.f;
       there = o.there;
       within = o.within;

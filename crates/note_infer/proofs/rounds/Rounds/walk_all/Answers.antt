@@ -1,6 +1,6 @@
 use Rattle.note_infer.proofs.Common.{◌≡◌, ℕ, ◌+◌, ◌<◌, List, length, refl, subst, sym, ◌∙◌, Some, slice_get, same_Some, slice_get_within}
 use Rattle.note_infer.proofs.Common.{FnNote, Notes, Image, item_there, AreFound, Begins, States, state_at, HasPassed, AllRest, AreStarts}
-use Rattle.note_infer.proofs.Common.{Start}
+use Rattle.note_infer.proofs.Common.{Start, State}
 use Rattle.note_infer.proofs.Rounding.{Walked, at_function, places_of, walked_all, walked_more, walked_none, walked_up}
 use Rattle.note_infer.proofs.rounds.Rounds.walk_all.Goals as goal
 
@@ -49,9 +49,13 @@ go-requires-clause-begins c =
     at_function notes.function c.as_slice.result.now x.func s.f c.index-as_slice-start.result c.as_slice.ensures s.there
     c.index-as_slice-start.is in
     let same : s.f ≡ c.index-as_slice-start.result = same_Some s.f c.index-as_slice-start.result (sym s.there ∙ at) in
-    subst (λ xs. Begins notes leaders (state_at leaders xs) x.func c.index-as_slice-start.result x.place x.state)
+    subst (λ (t : State). Begins notes leaders (state_at leaders c.loop-start.coming.before.items) x.func c.index-as_slice-start.result
+    x.place t)
+    (sym c.put.ensures)
+    (subst (λ xs. Begins notes leaders (state_at leaders xs) x.func c.index-as_slice-start.result x.place x.state)
     (sym c.loop-start.invariant.before)
-    (subst (λ (h : FnNote). Begins notes leaders (state_at leaders c.args.coming.now.before.items) x.func h x.place x.state) same s.begins)
+    (subst (λ (h : FnNote). Begins notes leaders (state_at leaders c.args.coming.now.before.items) x.func h x.place x.state) same
+    s.begins))
 
 pub go-requires-clause-reached : goal.go-requires-clause-reached
 go-requires-clause-reached c =

@@ -3,7 +3,9 @@ use Rattle.note_infer.proofs.Common.{none-some, FnNote, Notes, Image, AreFound, 
 use Rattle.note_infer.proofs.Common.{IsStuck, States, state_at, HasPassed, Reached, decode_later}
 use Rattle.note_infer.specs.Turns.{fall_to}
 use Rattle.note_infer.proofs.walk.Walk.go.Goals.{In-Ok, then-not-falls-via-then-not-falls, then-not-falls-via-else-not-falls+then-self-next}
-use Rattle.note_infer.proofs.{Chains.chain_within, Going.alone_more, Going.alone_next, Going.closed_next, Going.has_first, Going.has_next}
+use Rattle.note_infer.proofs.{Chains.chain_within, Going.alone_more, Going.alone_next, Going.closed_next, Going.has_first}
+use Rattle.note_infer.proofs.{Going.has_next, Going.rule_at}
+use Rattle.note_infer.specs.declared.walk.Stop.{Stop}
 use Rattle.note_infer.proofs.{Going.reached_next, Going.stuck_at, Passing.range_of}
 use Rattle.note_infer.proofs.walk.Walk.go.Goals.{then-not-falls-via-else-not-falls+else-self-next+then-is_leader}
 use Rattle.note_infer.proofs.walk.Walk.go.Goals as goal
@@ -25,8 +27,8 @@ loop-next-init c =
       coming = c.requires.coming;
       before = refl;
       reached = c.requires.reached;
-      has = has_first image notes leaders states c.args.self.now.func f c.args.from c.copy-state.result
-          (subst (Begins notes leaders states c.args.self.now.func f c.args.from) (sym c.copy-state.ensures) c.requires.begins);
+      has = has_first image notes leaders states c.args.self.now.func f c.args.from c.args.state.now
+          c.requires.begins;
       from = omega arith;
       alone = λ p low high l. omega (arith, low, high);
     }
@@ -145,17 +147,20 @@ returns-then-not-falls-clause-passed c =
           ]);
     })
 
-pub returns-in-Err-clause-stuck : goal.returns-in-Err-clause-stuck
-returns-in-Err-clause-stuck c =
+pub returns-in-Err-Rule-clause-stuck : goal.returns-in-Err-Rule-clause-stuck
+returns-in-Err-Rule-clause-stuck c =
     let image : Image = c.args.self.now.image.now in
     let notes : Notes = c.args.self.now.notes.now in
     let leaders : List ℕ = c.args.self.now.leaders.now in
     let f : FnNote = c.args.self.now.f.now in
-    subst (λ s. IsStuck image notes leaders (state_at leaders c.args.coming.now.before.items) c.loop-next.at c.in-Err.rule s)
-    (sym c.in-Err.ensures.kept)
-    (subst (λ xs. IsStuck image notes leaders (state_at leaders xs) c.loop-next.at c.in-Err.rule c.loop-next.state)
+    subst (λ (x : Stop). IsStuck image notes leaders (state_at leaders c.args.coming.now.before.items) x.place x.rule x.state)
+    (sym c.in_ok-stop_at-in-Err-Rule.ensures)
+    (rw c.in-Err-Rule.rule-is (subst (λ s. IsStuck image notes leaders (state_at leaders c.args.coming.now.before.items) c.loop-next.at
+    c.in-Err-Rule.rule s)
+    (sym c.in-Err-Rule.ensures.kept)
+    (subst (λ xs. IsStuck image notes leaders (state_at leaders xs) c.loop-next.at c.in-Err-Rule.rule c.loop-next.state)
     c.loop-next.invariant.before
     (stuck_at image notes c.args.self.now.marked.now leaders c.requires.setting
     (state_at leaders c.loop-next.coming.before.items) (state_at leaders c.loop-next.coming.states.items) c.args.self.now.func f
-    c.requires.there c.loop-next.at c.loop-next.state c.in-Err.rule c.loop-next.invariant.reached c.loop-next.invariant.has
-    c.in-Err.ensures.fails))
+    c.requires.there c.loop-next.at c.loop-next.state c.in-Err-Rule.rule c.loop-next.invariant.reached c.loop-next.invariant.has
+    (rule_at _ c.in-Err-Rule.field-0 c.in-Err-Rule.rule c.in-Err-Rule.field-0-is c.in-Err-Rule.ensures.fails)))))

@@ -1,7 +1,8 @@
 use Rattle.note_infer.proofs.Common.{◌≡◌, ℕ, List, Ok, refl, subst, sym, arith, Insn, FnNote, Notes, State, Image, PointHolds}
 use Rattle.note_infer.proofs.Common.{RelocationHolds, reloc_at, spelled_at, here_at, row_of, decode_later, States, marked, state_at}
 use Rattle.std.proofs.lemmas.Result.{err_from_is_err_and}
-use Rattle.note_infer.proofs.Common.{ClashesAt, FailsIn, IsFirst, Successors, given}
+use Rattle.note_infer.proofs.Common.{ClashesAt, FailsIn, IsFirst, OnFalse_at, OnTrue_at, Successors, given}
+use Rattle.note_infer.proofs.StatesAt.{clash_at}
 use Rattle.note_types.specs.declared.rule.RuleName.TheVariants as rule
 use Rattle.note_infer.specs.Turns.{after_turn}
 use Rattle.note_infer.proofs.Failing.{clashes, falls_out, not_relocated, point_inside, row_fails}
@@ -127,12 +128,14 @@ clash_fails c clash =
     c.args.self.now.func c.args.self.now.f.now c.args.at c.args.next (turn_is c) c.requires.there
     (omega (arith, c.requires.within)) c.requires.reached clash)
 
-pub returns-in-None-clause-fails : goal.returns-in-None-clause-fails
-returns-in-None-clause-fails c = clash_fails ((goal.at.returns-in-None-clause-fails c).In_ok-turn) c.in-None.ensures.clash
+pub returns-in-Err-Clashes-clause-fails : goal.returns-in-Err-Clashes-clause-fails
+returns-in-Err-Clashes-clause-fails c =
+    clash_fails ((goal.at.returns-in-Err-Clashes-clause-fails c).In_ok-turn)
+    (clash_at c.in-Err-Clashes.field-0 c.in-Err-Clashes.field-0-is c.in-Err-Clashes.ensures.clash)
 
-pub returns-then-does_clash-clause-fails : goal.returns-then-does_clash-clause-fails
-returns-then-does_clash-clause-fails c =
-    clash_fails ((goal.at.returns-then-does_clash-clause-fails c).In_ok-turn) c.if-does_clash.ensures.clash
+pub returns-then-branch-clause-fails : goal.returns-then-branch-clause-fails
+returns-then-branch-clause-fails c =
+    clash_fails ((goal.at.returns-then-branch-clause-fails c).In_ok-turn) (OnTrue_at c.if-branch.true c.in_ok-does_clash.ensures.clash)
 
 pub returns-then-not-ends_within-clause-fails : goal.returns-then-not-ends_within-clause-fails
 returns-then-not-ends_within-clause-fails c =
@@ -141,7 +144,7 @@ returns-then-not-ends_within-clause-fails c =
     let notes : Notes = c.args.self.now.notes.now in
     let leaders : List ℕ = c.args.self.now.leaders.now in
     let f : FnNote = c.args.self.now.f.now in
-    let taken = c.if-does_clash.ensures.taken in
+    let taken = OnFalse_at c.if-branch.false c.in_ok-does_clash.ensures.taken in
     falls_out image notes leaders (state_at leaders c.args.coming.now.before.items) c.args.self.now.func f c.args.at
     c.args.state.now c.args.insn.now c.args.next c.requires.decode (point_holds h) (reloc_holds h) (turn_is h) (row_is h)
     (no_clash_in image notes leaders (state_at leaders c.args.coming.now.before.items) (state_at leaders c.args.coming.now.states.items)
@@ -150,16 +153,16 @@ returns-then-not-ends_within-clause-fails c =
     (omega (arith, c.requires.within)) c.requires.reached taken.1)
     (λ x. let yes = c.ends_within.ensures.1 x in let is = c.if-not-ends_within.true in cc)
 
-pub returns-in-Some-clause-passes : goal.returns-in-Some-clause-passes
-returns-in-Some-clause-passes c =
-    let h = (goal.at.returns-in-Some-clause-passes c).In_ok-turn in
+pub returns-in-Ok-take_turn-clause-passes : goal.returns-in-Ok-take_turn-clause-passes
+returns-in-Ok-take_turn-clause-passes c =
+    let h = (goal.at.returns-in-Ok-take_turn-clause-passes c).In_ok-turn in
     record {
       decode = c.requires.decode;
       point = point_holds h;
       relocation = reloc_holds h;
       x = turn_is h;
       row = row_is h;
-      takes = c.in-Some.ensures.taken;
+      takes = c.in-Ok-take_turn.ensures.taken;
       ends = c.ends_within.ensures.0 c.if-not-ends_within.false;
-      fall_is = c.in-Some.ensures.falls;
+      fall_is = c.in-Ok-take_turn.ensures.falls;
     }
