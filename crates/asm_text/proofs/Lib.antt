@@ -1,3 +1,4 @@
+pub mod AsciiLaws
 pub mod Digits
 pub mod Pieces
 pub mod Smallest

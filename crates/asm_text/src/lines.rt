@@ -3,7 +3,7 @@
 ghost use Rattle.std.specs.Prelude.{◌≡◌, IfOk, Some, option_map};
 ghost use Rattle.asm_text.specs.Splits.{line_cut};
 ghost use Rattle.asm_text.specs.Faults.{made};
-ghost use Rattle.asm_text.specs.Lines.{is_ascii, is_ascii_byte, label_of, line_in, parted, statement_in};
+ghost use Rattle.asm_text.specs.Lines.{is_ascii, label_of, line_in, parted, statement_in};
 ghost use Rattle.asm_text.specs.Texts.{IsHeldLine, IsHeldStatement, seen_line, seen_statement};
 
 use crate::fault::{AsmFault, both};
@@ -20,17 +20,11 @@ pub struct Line<'a> {
     pub statement: Option<Statement<'a>>,
 }
 
-fn is_ascii_byte(byte: u8) -> bool
-    ensures { result ≡ is_ascii_byte byte }
-{
-    byte < 128
-}
-
-#[tactic(auto, unfolding(crate::specs::Lines::is_ascii))]
+#[tactic(auto, using(crate::proofs::AsciiLaws::same_ascii))]
 fn is_ascii(text: &[u8]) -> bool
     ensures { result ≡ is_ascii text.now }
 {
-    text.iter().all(|b| is_ascii_byte(*b))
+    text.is_ascii()
 }
 
 fn statement_in(text: &[u8]) -> Result<Option<Statement<'_>>, AsmFault>

@@ -5,10 +5,7 @@ ghost use Rattle.asm_text.specs.Writing.{ListedFits, listed_text};
 
 use crate::writing::insn_text;
 use ebc_insn::Insn;
-use std::alloc::{AllocError, Global};
-
-// The room that a line is given at first, in bytes.
-const LINE_ROOM: usize = 64;
+use std::alloc::AllocError;
 
 /// A line of a listing (docs/ASSEMBLY.md, "Listings"). Places are offsets from the image base in bytes.
 #[derive(Clone, Copy)]
@@ -32,45 +29,33 @@ pub enum Listed {
 }
 
 impl Listed {
-    // Writes the line without its line feed.
+    /// Appends the line without its line feed. It fails only where there is no memory for it.
     #[tactic(auto, unfolding(crate::specs::Writing::listed_text), using(crate::proofs::HexLaws::raw8, crate::proofs::HexLaws::raw16, crate::proofs::HexLaws::raw32))]
-    fn write_to(&self, text: &mut String) -> Result<(), AllocError>
+    pub fn append_text(&self, out: &mut String) -> Result<(), AllocError>
         requires { ListedFits self.now }
-        ensures { OnOk result (string_bytes text.new ≡ string_bytes text.old ++ listed_text self.now) }
+        ensures { OnOk result (string_bytes out.new ≡ string_bytes out.old ++ listed_text self.now) }
     {
         match *self {
-            Listed::Code => write!(text, ".code"),
-            Listed::Data => write!(text, ".data"),
-            Listed::Label(place) => write!(text, "L{place:08x}:"),
-            Listed::Global(place) => write!(text, ".global L{place:08x}"),
-            Listed::Place(place) => write!(text, ".dq L{place:08x}"),
-            Listed::Word(n) => write!(text, ".dw 0x{n:04x}"),
-            Listed::Byte(n) => write!(text, ".db 0x{n:02x}"),
+            Listed::Code => write!(out, ".code"),
+            Listed::Data => write!(out, ".data"),
+            Listed::Label(place) => write!(out, "L{place:08x}:"),
+            Listed::Global(place) => write!(out, ".global L{place:08x}"),
+            Listed::Place(place) => write!(out, ".dq L{place:08x}"),
+            Listed::Word(n) => write!(out, ".dw 0x{n:04x}"),
+            Listed::Byte(n) => write!(out, ".db 0x{n:02x}"),
             Listed::Instruction { insn, place } => {
                 let written = insn_text(&insn, place);
-                write!(text, "{written}")
+                write!(out, "{written}")
             }
         }
     }
 
-    /// Appends the line without its line feed. It fails only where there is no memory for it.
-    pub fn append_text(&self, alloc: Global, out: &mut Vec<u8>) -> Result<(), AllocError>
-        requires { ListedFits self.now }
-        ensures { OnOk result (out.new.items ≡ out.old.items ++ listed_text self.now) }
-    {
-        let mut line = String::with_capacity(alloc, LINE_ROOM)?;
-        self.write_to(&mut line)?;
-        out.extend_from_slice(line.as_bytes())?;
-        Ok(())
-    }
-
     /// Appends the line and its line feed. It fails only where there is no memory for them.
-    pub fn append_to(&self, alloc: Global, out: &mut Vec<u8>) -> Result<(), AllocError>
+    pub fn append_to(&self, out: &mut String) -> Result<(), AllocError>
         requires { ListedFits self.now }
-        ensures { OnOk result (out.new.items ≡ out.old.items ++ (listed_text self.now ++ 10 ∷ [])) }
+        ensures { OnOk result (string_bytes out.new ≡ string_bytes out.old ++ (listed_text self.now ++ 10 ∷ [])) }
     {
-        self.append_text(alloc, out)?;
-        out.push(b'\n')?;
-        Ok(())
+        self.append_text(out)?;
+        out.push('\n')
     }
 }

@@ -162,13 +162,29 @@ fn suffix_of_form(form: Form) -> (&'static str, &'static str, &'static str)
     }
 }
 
+// A part of a mnemonic. Most mnemonics have empty ones, for which the writer isn't called.
+#[derive(Clone, Copy)]
+struct Part(&'static str);
+
+impl fmt::Display for Part {
+    ghost output = { λ p. Some p.0.now };
+
+    fn fmt<W: fmt::Write>(&self, f: &mut fmt::Formatter<W>) -> fmt::Result {
+        if self.0.is_empty() {
+            return Ok(());
+        }
+        f.write_str(self.0)
+    }
+}
+
 impl fmt::Display for Form {
     ghost output = { λ f. Some (word_of f) };
 
     #[tactic(auto, unfolding(crate::specs::Mnemonics::word_of))]
     fn fmt<W: fmt::Write>(&self, f: &mut fmt::Formatter<W>) -> fmt::Result {
-        let stem = stem_of_form(*self);
+        let stem = Part(stem_of_form(*self));
         let (first, second, third) = suffix_of_form(*self);
+        let (first, second, third) = (Part(first), Part(second), Part(third));
         write!(f, "{stem}{first}{second}{third}")
     }
 }

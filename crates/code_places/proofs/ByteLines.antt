@@ -1,5 +1,5 @@
 -- The digits of bytes, one byte after the other.
-use Rattle.std.proofs.Common.{◌≡◌, ℕ, ◌+◌, ◌-◌, ◌/◌, ◌%◌, ◌<◌, ◌≤◌, zero, suc, List, [], ◌∷◌, ◌++◌, append_assoc, append-nil, refl, ap}
+use Rattle.std.proofs.Common.{◌≡◌, ℕ, ◌+◌, ◌-◌, ◌<◌, ◌≤◌, zero, suc, List, [], ◌∷◌, ◌++◌, append_assoc, append-nil, refl, ap}
 use Rattle.std.proofs.Common.{sym, ◌∙◌, arith}
 use Rattle.std.proofs.Common.{get_or, length, take}
 use Rattle.std.specs.List.{flat_map}
@@ -7,12 +7,8 @@ use Rattle.std.proofs.lemmas.Grind.{flat_map-append}
 use Rattle.std.proofs.lemmas.List.{take_more}
 use Rattle.pe_image.specs.declared.image.Image.{Image}
 use Rattle.pe_image.specs.Mapped.{image_byte}
-use Rattle.asm_text.specs.Numbers.{hex_glyph, hex_text}
+use Rattle.asm_text.specs.Numbers.{hex_text}
 use Rattle.code_places.specs.Places.{bytes_text}
-
-two_digits : (n : ℕ) → n < 256 → hex_text 2 n ≡ hex_glyph (n / 16) ∷ hex_glyph (n % 16) ∷ []
-unfolding hex_text
-two_digits n small = let same : n / 16 % 16 ≡ n / 16 = omega arith in rw same refl
 
 next_byte : (image : Image) (x n : ℕ) → 1 ≤ n → bytes_text image x n ≡ hex_text 2 (image_byte image x) ++ bytes_text image (x + 1) (n - 1)
 unfolding bytes_text
@@ -20,20 +16,15 @@ next_byte image x zero some = absurd (omega arith)
 next_byte image x (suc n) some = let less : suc n - 1 ≡ n = omega arith in rw less refl
 
 -- the digits of one byte more
-pub more_bytes : (image : Image) (x y n m byte : ℕ) (old mid new whole : List ℕ) → 1 ≤ n → y ≡ x + 1 → m ≡ n - 1 →
-    byte ≡ image_byte image x → byte < 256 → mid ≡ old ++ hex_glyph (byte / 16) ∷ [] → new ≡ mid ++ hex_glyph (byte % 16) ∷ [] →
-    old ++ bytes_text image x n ≡ whole → new ++ bytes_text image y m ≡ whole
-more_bytes image x y n m byte old mid new whole some behind fewer is small first second before =
+pub more_bytes : (image : Image) (x y n m byte : ℕ) (old new whole : List ℕ) → 1 ≤ n → y ≡ x + 1 → m ≡ n - 1 →
+    byte ≡ image_byte image x → new ≡ old ++ hex_text 2 byte → old ++ bytes_text image x n ≡ whole → new ++ bytes_text image y m ≡ whole
+more_bytes image x y n m byte old new whole some behind fewer is put before =
     let rest : List ℕ = bytes_text image (x + 1) (n - 1) in
-    let a : List ℕ = hex_glyph (byte / 16) ∷ [] in
-    let b : List ℕ = hex_glyph (byte % 16) ∷ [] in
     ap (λ t. new ++ t) (ap (λ z. bytes_text image z m) behind ∙ ap (λ k. bytes_text image (x + 1) k) fewer)
-    ∙ (ap (λ t. t ++ rest) (second ∙ ap (λ t. t ++ b) first)
-    ∙ (ap (λ t. t ++ rest) (append_assoc old a b)
-    ∙ (append_assoc old (a ++ b) rest
-    ∙ (ap (λ t. old ++ (t ++ rest)) (sym (two_digits byte small))
+    ∙ (ap (λ t. t ++ rest) put
+    ∙ (append_assoc old (hex_text 2 byte) rest
     ∙ (ap (λ z. old ++ (hex_text 2 z ++ rest)) is
-    ∙ (ap (λ t. old ++ t) (sym (next_byte image x n some)) ∙ before))))))
+    ∙ (ap (λ t. old ++ t) (sym (next_byte image x n some)) ∙ before))))
 
 pub no_bytes : (image : Image) (x n : ℕ) (old whole : List ℕ) → n ≡ 0 → old ++ bytes_text image x n ≡ whole → old ≡ whole
 unfolding bytes_text

@@ -1,7 +1,7 @@
 //! The line of a place.
-ghost use Rattle.std.specs.Prelude.{◌≡◌, ◌+◌, ◌++◌, ◌<◌, ◌^◌, All, IfOk, OnOk, Some};
+ghost use Rattle.std.specs.Prelude.{◌≡◌, ◌+◌, ◌++◌, ◌<◌, ◌^◌, All, IfOk, OnOk, Some, string_bytes};
 ghost use Rattle.std.specs.List.{flat_map};
-ghost use Rattle.asm_text.specs.Numbers.{hex_glyph};
+ghost use Rattle.asm_text.specs.Numbers.{hex_text};
 ghost use Rattle.ebc_disasm.specs.CodeItems.{IsItem};
 ghost use Rattle.pe_image.specs.Images.{IsImage};
 ghost use Rattle.code_places.specs.Places.{bytes_text, item_text, place_text, places_text, target_text};
@@ -27,59 +27,51 @@ impl fmt::Display for Place {
     }
 }
 
-// The hexadecimal digit of a number.
-fn hex_glyph(digit: u8) -> u8
-    requires { digit < 16 }
-    ensures { result ≡ hex_glyph digit }
+// Appends a byte.
+#[tactic(auto, using(asm_text::proofs::HexLaws::raw8))]
+fn append_byte(byte: u8, out: &mut String) -> Result<(), AllocError>
+    ensures { OnOk result (string_bytes out.new ≡ string_bytes out.old ++ hex_text 2 byte) }
 {
-    if digit < 10 {
-        b'0' + digit
-    } else {
-        b'a' - 10 + digit
-    }
+    write!(out, "{byte:02x}")
 }
 
 // Appends the bytes from a place on, so many of them.
-fn append_bytes(image: &Image, place: u32, count: usize, out: &mut Vec<u8>) -> Result<(), NoMemory>
+fn append_bytes(image: &Image, place: u32, count: usize, out: &mut String) -> Result<(), NoMemory>
     requires image { IsImage image.now }
     requires within { place + count < 2 ^ 23 }
-    ensures { OnOk result (out.new.items ≡ out.old.items ++ bytes_text image.now place count) }
+    ensures { OnOk result (string_bytes out.new ≡ string_bytes out.old ++ bytes_text image.now place count) }
 {
     for k in 0..count {
-        let byte = byte_at(image, u64::from(place) + k as u64);
-        out.push(hex_glyph(byte / 16))?;
-        out.push(hex_glyph(byte % 16))?;
+        append_byte(byte_at(image, u64::from(place) + k as u64), out)?;
     }
     Ok(())
 }
 
 // Appends the place that a line names, if it names one.
-fn append_target(alloc: Global, target: Option<u32>, out: &mut Vec<u8>) -> Result<(), AllocError>
-    ensures { OnOk result (out.new.items ≡ out.old.items ++ target_text target) }
+fn append_target(target: Option<u32>, out: &mut String) -> Result<(), AllocError>
+    ensures { OnOk result (string_bytes out.new ≡ string_bytes out.old ++ target_text target) }
 {
     if let Some(place) = target {
         let place = Place(place);
-        let text = format!(in alloc; " ; {place}")?;
-        out.extend_from_slice(text.as_bytes())?;
+        write!(out, " ; {place}")?;
     }
     Ok(())
 }
 
 // Appends the line of a place.
 #[tactic(auto, unfolding(crate::specs::Places::item_text))]
-fn append_item(alloc: Global, image: &Image, item: &Item, out: &mut Vec<u8>) -> Result<(), NoMemory>
+fn append_item(image: &Image, item: &Item, out: &mut String) -> Result<(), NoMemory>
     requires image { IsImage image.now }
     requires item { IsItem item.now }
-    ensures { OnOk result (out.new.items ≡ out.old.items ++ item_text image.now item.now) }
+    ensures { OnOk result (string_bytes out.new ≡ string_bytes out.old ++ item_text image.now item.now) }
 {
     let place = Place(item.place);
-    let head = format!(in alloc; "{place} ")?;
-    out.extend_from_slice(head.as_bytes())?;
+    write!(out, "{place} ")?;
     append_bytes(image, item.place, item.count, out)?;
-    out.push(b' ')?;
-    item.line.append_text(alloc, out)?;
-    append_target(alloc, target_of(image, item), out)?;
-    out.push(b'\n')?;
+    out.push(' ')?;
+    item.line.append_text(out)?;
+    append_target(target_of(image, item), out)?;
+    out.push('\n')?;
     Ok(())
 }
 
@@ -90,9 +82,9 @@ pub(crate) fn places_text(alloc: Global, image: &Image) -> Result<Vec<u8>, NoMem
     ensures { IfOk result (λ text. text.items ≡ places_text image.now) }
 {
     let items = code_items(alloc, image)?;
-    let mut out = Vec::new(alloc);
+    let mut out = String::new(alloc);
     for item in items.as_slice() {
-        append_item(alloc, image, item, &mut out)?;
+        append_item(image, item, &mut out)?;
     }
-    Ok(out)
+    Ok(out.into_bytes())
 }

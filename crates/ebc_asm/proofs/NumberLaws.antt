@@ -1,9 +1,10 @@
 -- Names, their numbers and their places.
-use Rattle.std.proofs.Common.{◌≡◌, ℕ, ◌+◌, ◌<◌, List, [], ◌∷◌, ◌++◌, length, Bool, true, false, cond, refl, arith}
+use Rattle.std.proofs.Common.{◌≡◌, ℕ, suc, ◌+◌, ◌<◌, List, [], ◌∷◌, ◌++◌, length, Bool, true, false, not, cond, eqb, refl, arith, ◌∙◌}
 use Rattle.std.proofs.lemmas.Bool.Decides.{nat_tests}
 use Rattle.std.proofs.lemmas.List.{length-append}
+use Rattle.std.proofs.lemmas.List.Folds.{position_or_len_push}
 use Rattle.std.specs.Prelude.{bytes_eq, ◌||◌}
-use Rattle.std.specs.List.{list_any}
+use Rattle.std.specs.List.{list_any, position_or_len}
 use Rattle.ebc_base.specs.Tables.{is_named, name_number, with_name}
 use Rattle.ebc_asm.specs.declared.names.Standing.{Standing}
 use Rattle.ebc_asm.specs.Held.{and_place, nowhere, number_of}
@@ -41,6 +42,25 @@ number_within name names places h =
     let same = beside (is_named name names) name names places h in
     omega (arith, within, same)
 
-pub number_in_places : (name : List ℕ) (names table : List (List ℕ)) (places after : List Standing) (n : ℕ) → length places ≡ length names
-    → table ≡ with_name name names → after ≡ and_place name names places → n ≡ name_number name table → n < length after
-number_in_places name names table places after n h t p e = rw (e, t, p) (number_within name names places h)
+any_by : (b r : Bool) (n m : ℕ) → (n < m → r ≡ true) → cond (not b) (1 + n) 0 < suc m → (b || r) ≡ true
+any_by true r n m h l = refl
+any_by false r n m h l = let less : n < m = omega (arith, l) in h less
+
+any_within : {A : Type 0} (p : A → Bool) (xs : List A) → position_or_len p xs < length xs → list_any p xs ≡ true
+any_within p [] l = absurd (omega (arith, l))
+any_within p (x ∷ xs) l = any_by (p x) (list_any p xs) (position_or_len p xs) (length xs) (any_within p xs) l
+
+-- a number below the count is that of a name that is there
+pub known_name : (name : List ℕ) (names : List (List ℕ)) → name_number name names < length names → is_named name names ≡ true
+known_name name names l = any_within (bytes_eq name) names l
+
+-- a name that is added has the number that it had where it was missing
+pub same_number : (name : List ℕ) (names : List (List ℕ)) → number_of name names ≡ name_number name names
+same_number name names = go (is_named name names) refl
+  where
+    go : (b : Bool) → is_named name names ≡ b → name_number name (cond b names (names ++ name ∷ [])) ≡ name_number name names
+    go true h = refl
+    go false h = position_or_len_push (bytes_eq name) names name ∙ rw (same_bytes name) last
+      where
+        last : cond (eqb (name_number name names) (length names)) (length names + 0) (name_number name names) ≡ name_number name names
+        last = grind (arith, nat_tests)

@@ -56,7 +56,7 @@ impl Names {
     }
 
     /// The number of a name, which is added unless it is there.
-    #[tactic(auto, using(crate::proofs::NumberLaws::number_within))]
+    #[tactic(auto, using(crate::proofs::NumberLaws::number_within, crate::proofs::NumberLaws::same_number, crate::proofs::NumberLaws::known_name))]
     pub fn number(&mut self, alloc: Global, text: &str) -> Result<u32, NoMemory>
         requires { length self.old.places.items ≡ length self.old.table }
         ensures within { IfOk result (λ number. number < length self.new.places.items) }
@@ -66,8 +66,12 @@ impl Names {
         ensures places { OnOk result (self.new.places.items ≡ and_place text.now self.old.table self.old.places.items) }
     {
         let name = Name::new(String::from_str(alloc, text)?);
+        let number = self.table.number(&name);
+        if (number as usize) < self.table.len() {
+            return Ok(number);
+        }
         self.add(alloc, &name)?;
-        Ok(self.table.number(&name))
+        Ok(number)
     }
 
     // Adds a name unless it is there.

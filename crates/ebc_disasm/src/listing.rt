@@ -21,7 +21,7 @@ pub fn list(alloc: Global, image: &Image) -> Result<Vec<u8>, NoMemory>
     ensures { IfOk result (λ text. text.items ≡ listing_of image.now) }
 {
     let labels = labels(alloc, image)?;
-    let mut out = Vec::new(alloc);
+    let mut out = String::new(alloc);
     let mut coming = Coming {
         relocs: image.relocs.as_slice(),
         labels: &labels,
@@ -29,5 +29,5 @@ pub fn list(alloc: Global, image: &Image) -> Result<Vec<u8>, NoMemory>
     for section in image.sections.as_slice() {
         coming = append_section(alloc, image, section, coming, &mut out)?;
     }
-    Ok(out)
+    Ok(out.into_bytes())
 }

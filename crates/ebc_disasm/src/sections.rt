@@ -1,6 +1,6 @@
 //! The lines of a section.
 
-ghost use Rattle.std.specs.Prelude.{◌≡◌, ℕ, ◌+◌, ◌<◌, ◌≤◌, ◌++◌, ◌∷◌, [], ◌^◌, length, nat_eq, IfOk, OnOk};
+ghost use Rattle.std.specs.Prelude.{◌≡◌, ℕ, ◌+◌, ◌<◌, ◌≤◌, ◌++◌, ◌∷◌, [], ◌^◌, length, nat_eq, string_bytes, IfOk, OnOk};
 ghost use Rattle.std.specs.List.{list_any};
 ghost use Rattle.pe_image.specs.Images.{IsImage, IsSection};
 ghost use Rattle.asm_text.specs.Writing.{ListedFits};
@@ -23,33 +23,32 @@ pub(crate) struct Coming<'a> {
 }
 
 // Appends a line.
-fn append_line(alloc: Global, line: Listed, out: &mut Vec<u8>) -> Result<(), NoMemory>
+fn append_line(line: Listed, out: &mut String) -> Result<(), NoMemory>
     requires { ListedFits line }
-    ensures { OnOk result (out.new.items ≡ out.old.items ++ line_text line) }
+    ensures { OnOk result (string_bytes out.new ≡ string_bytes out.old ++ line_text line) }
 {
-    line.append_to(alloc, out)?;
+    line.append_to(out)?;
     Ok(())
 }
 
 // Appends the lines before what is listed at a place, of which the next label is given.
 #[tactic(auto, unfolding(crate::specs::Listings::label_lines, crate::specs::Listings::text_of))]
 fn append_labels(
-    alloc: Global,
     image: &Image,
     place: u32,
     next: Option<u32>,
-    out: &mut Vec<u8>,
+    out: &mut String,
 ) -> Result<(), NoMemory>
     requires { list_any (nat_eq place) (labels image.now) ≡ is_at place next }
-    ensures { OnOk result (out.new.items ≡ out.old.items ++ text_of (label_lines image.now place)) }
+    ensures { OnOk result (string_bytes out.new ≡ string_bytes out.old ++ text_of (label_lines image.now place)) }
 {
     if place == image.entry {
-        append_line(alloc, Listed::Global(place), out)?;
-        append_line(alloc, Listed::Label(place), out)?;
+        append_line(Listed::Global(place), out)?;
+        append_line(Listed::Label(place), out)?;
         return Ok(());
     }
     if is_at(place, next) {
-        append_line(alloc, Listed::Label(place), out)?;
+        append_line(Listed::Label(place), out)?;
     }
     Ok(())
 }
@@ -99,25 +98,24 @@ pub(crate) fn next_at<'a>(
 
 // Appends the lines of a place, and says how many bytes are listed by them, and what is to come.
 fn append_item<'a>(
-    alloc: Global,
     image: &Image,
     code: bool,
     place: u32,
     bytes: &[u8],
     coming: Coming<'a>,
-    out: &mut Vec<u8>,
+    out: &mut String,
 ) -> Result<(usize, Coming<'a>), NoMemory>
     requires image { IsImage image.now }
     requires within { place + length bytes.now < 2 ^ 23 }
     requires some { 0 < length bytes.now }
     requires coming { IsComing image.now place coming.relocs.now coming.labels.now }
-    ensures lines { IfOk result (λ p. out.new.items ≡ out.old.items ++ text_of (label_lines image.now place ++ (item_at image.now code place bytes.now).0 ∷ [])) }
+    ensures lines { IfOk result (λ p. string_bytes out.new ≡ string_bytes out.old ++ text_of (label_lines image.now place ++ (item_at image.now code place bytes.now).0 ∷ [])) }
     ensures count { IfOk result (λ p. (p.0 ≡ (item_at image.now code place bytes.now).1) × (1 ≤ p.0) × (p.0 ≤ length bytes.now)) }
     ensures coming { IfOk result (λ p. IsComing image.now (place + 1) p.1.relocs.now p.1.labels.now) }
 {
     let next = next_at(image, code, place, bytes, coming);
-    append_labels(alloc, image, place, next.label, out)?;
-    append_line(alloc, next.line, out)?;
+    append_labels(image, place, next.label, out)?;
+    append_line(next.line, out)?;
     Ok((next.count, next.coming))
 }
 
@@ -142,22 +140,22 @@ pub(crate) fn append_section<'a>(
     image: &Image,
     section: &Section,
     coming: Coming<'a>,
-    out: &mut Vec<u8>,
+    out: &mut String,
 ) -> Result<Coming<'a>, NoMemory>
     requires image { IsImage image.now }
     requires section { IsSection image.now.size section.now }
     requires coming { IsComing image.now section.now.place coming.relocs.now coming.labels.now }
-    ensures lines { IfOk result (λ after. out.new.items ≡ out.old.items ++ text_of (section_lines image.now section.now)) }
+    ensures lines { IfOk result (λ after. string_bytes out.new ≡ string_bytes out.old ++ text_of (section_lines image.now section.now)) }
     ensures coming { IfOk result (λ after. IsComing image.now (section.now.place + section.now.size) after.relocs.now after.labels.now) }
 {
     let code = has_code(section);
-    append_line(alloc, heading(code), out)?;
+    append_line(heading(code), out)?;
     let bytes = bytes_of(alloc, section)?;
     let mut left = coming;
     let mut at = 0;
     while at < bytes.len() {
         let place = section.place + at as u32;
-        let (count, after) = append_item(alloc, image, code, place, &bytes[at..], left, out)?;
+        let (count, after) = append_item(image, code, place, &bytes[at..], left, out)?;
         left = after;
         at += count;
     }

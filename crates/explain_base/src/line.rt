@@ -8,7 +8,7 @@ use std::fmt::Write;
 #[derive(Drop)]
 pub struct Line {
     pub alloc: Global,
-    text: String,
+    pub(crate) text: String,
     is_short: bool,
 }
 

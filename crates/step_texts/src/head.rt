@@ -1,5 +1,5 @@
 //! The first line of a step: its number, where the run stood, and the instruction.
-ghost use Rattle.std.specs.Prelude.{◌≡◌, ◌++◌, IfSome, OnOk, Some};
+ghost use Rattle.std.specs.Prelude.{◌≡◌, ◌++◌, IfSome, OnOk, Some, string_bytes};
 ghost use Rattle.ebc_insn.specs.Spelling.{WellFormed};
 ghost use Rattle.step_texts.specs.StepTexts.{function_part, instruction_part, step_line};
 
@@ -36,10 +36,10 @@ impl fmt::Display for FunctionPart<'_> {
     }
 }
 
-// Appends an instruction behind a space, as a listing has it.
-fn append_instruction(alloc: Global, insn: &Option<Insn>, out: &mut Vec<u8>) -> Result<(), NoMemory>
+// Adds an instruction behind a space to a line, as a listing has it.
+fn push_instruction(insn: &Option<Insn>, line: &mut String) -> Result<(), NoMemory>
     requires { IfSome insn.now WellFormed }
-    ensures { OnOk result (out.new.items ≡ out.old.items ++ instruction_part insn.now) }
+    ensures { OnOk result (string_bytes line.new ≡ string_bytes line.old ++ instruction_part insn.now) }
 {
     let Some(insn) = insn else {
         return Ok(());
@@ -48,8 +48,8 @@ fn append_instruction(alloc: Global, insn: &Option<Insn>, out: &mut Vec<u8>) -> 
         insn: *insn,
         place: None,
     };
-    out.push(b' ')?;
-    listed.append_text(alloc, out)?;
+    line.push(' ')?;
+    listed.append_text(line)?;
     Ok(())
 }
 
@@ -73,10 +73,10 @@ pub(crate) fn append_head(
         notes,
         spot: step.place,
     };
-    let mut text = String::with_capacity(alloc, LINE_ROOM)?;
-    write!(text, "step {number} {spot}{function}")?;
-    out.extend_from_slice(text.as_bytes())?;
-    append_instruction(alloc, &step.insn, out)?;
-    out.push(b'\n')?;
+    let mut line = String::with_capacity(alloc, LINE_ROOM)?;
+    write!(line, "step {number} {spot}{function}")?;
+    push_instruction(&step.insn, &mut line)?;
+    line.push('\n')?;
+    out.extend_from_slice(line.as_bytes())?;
     Ok(())
 }

@@ -1,4 +1,4 @@
-use Rattle.std.proofs.Common.{◌+◌, ◌-◌, ◌<◌, ◌≤◌, ap, arith, ◌∙◌, [], ◌∷◌, ◌++◌}
+use Rattle.std.proofs.Common.{◌+◌, ◌-◌, ◌<◌, ◌≤◌, ap, arith, ◌∙◌, string_bytes}
 use Rattle.pe_image.specs.Mapped.{image_byte}
 use Rattle.code_places.proofs.ByteLines.{more_bytes, no_bytes}
 use Rattle.code_places.proofs.line.append_bytes.Goals as goal
@@ -9,17 +9,15 @@ loop-k-preserved c =
     record {
       within = omega arith;
       bytes = more_bytes c.args.image.now (c.args.place + c.loop-k.k) (c.args.place + (c.loop-k.k + 1)) (c.args.count - c.loop-k.k)
-          (c.args.count - (c.loop-k.k + 1)) c.byte_at-byte.result
-          c.loop-k.out.items c.push.new.self.items c.push-in-loop-k.new.self.items
+          (c.args.count - (c.loop-k.k + 1)) c.byte_at.result
+          (string_bytes c.loop-k.out) (string_bytes c.append_byte.new.out)
           _ (omega arith) (omega arith) (omega arith)
-          (c.byte_at-byte.ensures ∙ ap (λ x. image_byte c.args.image.now (x + c.loop-k.k)) c.from.ensures)
-          c.byte_at-byte.type_inv
-          (c.in_ok-push.ensures.items ∙ ap (λ g. c.loop-k.out.items ++ g ∷ []) c.hex_glyph.ensures)
-          (c.in_ok-push-2.ensures.items ∙ ap (λ g. c.push.new.self.items ++ g ∷ []) c.hex_glyph-in-loop-k.ensures) c.loop-k.invariant.bytes;
+          (c.byte_at.ensures ∙ ap (λ x. image_byte c.args.image.now (x + c.loop-k.k)) c.from.ensures)
+          c.in_ok-append_byte.ensures c.loop-k.invariant.bytes;
     }
 
 pub returns : goal.returns
 returns c =
     let past : c.args.count ≤ c.loop-k.k = c.loop-k-test.false in
-    no_bytes c.args.image.now (c.args.place + c.loop-k.k) (c.args.count - c.loop-k.k) c.loop-k.out.items _ (omega arith)
+    no_bytes c.args.image.now (c.args.place + c.loop-k.k) (c.args.count - c.loop-k.k) (string_bytes c.loop-k.out) _ (omega arith)
     c.loop-k.invariant.bytes

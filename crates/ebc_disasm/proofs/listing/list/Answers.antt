@@ -1,4 +1,4 @@
-use Rattle.std.proofs.Common.{◌≡◌, ◌<◌, ◌≤◌, length, get_or, arith, ap, ◌∙◌}
+use Rattle.std.proofs.Common.{◌≡◌, ◌<◌, ◌≤◌, length, get_or, arith, ap, ◌∙◌, string_bytes}
 use Rattle.std.specs.List.{flat_map}
 use Rattle.std.proofs.lemmas.List.{take_all}
 use Rattle.ebc_disasm.specs.Listings.{lines_of, listing_of, section_lines, text_of}
@@ -9,7 +9,7 @@ use Rattle.ebc_disasm.proofs.listing.list.Goals as goal
 pub loop-section-init : goal.loop-section-init
 unfolding text_of
 loop-section-init c = record {
-  lines = c.new-out.ensures.items;
+  lines = c.new-out.ensures.bytes;
   coming = λ k d low short.
       later c.args.image.now 0 (get_or c.args.image.now.sections k d).place c.as_slice.result.now c.deref.result.now
       (start_at c.args.image.now c.as_slice.result.now c.deref.result.now c.in_ok-labels.labels.items c.as_slice.ensures
@@ -37,7 +37,7 @@ loop-section-preserved c =
     c.section-item.is ∙ ap (λ ss. get_or ss c.loop-section.section-index c.section-item.result) items
     in record {
       lines = more_sections c.args.image.now c.args.image.now.sections c.loop-section.section-index c.section-item.result
-          c.loop-section.out.items c.append_section.new.out.items
+          (string_bytes c.loop-section.out) (string_bytes c.append_section.new.out)
           here is c.loop-section.invariant.lines c.in_ok-coming.ensures.lines;
       coming = λ k d low short.
           behind_section c.args.image.now c.args.image.now.sections c.loop-section.section-index k c.section-item.result d
@@ -51,6 +51,7 @@ returns c =
     let items : c.as_slice-section-items.result.now ≡ c.args.image.now.sections = c.as_slice-section-items.ensures in
     let long : length c.as_slice-section-items.result.now ≡ length c.args.image.now.sections = ap length items in
     let past : length c.as_slice-section-items.result.now ≤ c.loop-section.section-index = c.loop-section-test.false in
-    c.loop-section.invariant.lines
+    ap (λ bytes. bytes.items) c.into_bytes.ensures.value
+    ∙ c.loop-section.invariant.lines
     ∙ ap (λ ss. text_of (flat_map (section_lines c.args.image.now) ss))
     (take_all c.loop-section.section-index c.args.image.now.sections (omega arith))

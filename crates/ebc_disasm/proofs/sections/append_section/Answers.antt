@@ -1,4 +1,4 @@
-use Rattle.std.proofs.Common.{◌≡◌, ℕ, List, ◌+◌, ◌-◌, ◌≤◌, ◌++◌, length, take, drop, length-drop, arith, ap, ◌∙◌}
+use Rattle.std.proofs.Common.{◌≡◌, ℕ, List, ◌+◌, ◌-◌, ◌≤◌, ◌++◌, length, take, drop, length-drop, arith, ap, ◌∙◌, string_bytes}
 use Rattle.std.proofs.lemmas.List.{take_all}
 use Rattle.asm_text.specs.declared.listing.Listed.{Listed}
 use Rattle.ebc_disasm.specs.Listings.{line_text, section_lines, text_of}
@@ -11,10 +11,10 @@ loop-at-init c = record {
   short = omega arith;
   coming = later c.args.image.now c.args.section.now.place
       (c.args.section.now.place + 0) c.args.coming.relocs.now c.args.coming.labels.now c.requires.coming (omega arith);
-  lines = first_lines c.args.image.now c.args.section.now c.has_code-code.result c.in_ok-bytes.bytes.items c.args.out.now.items
-      c.append_line.new.out.items
+  lines = first_lines c.args.image.now c.args.section.now c.has_code-code.result c.in_ok-bytes.bytes.items (string_bytes c.args.out.now)
+      (string_bytes c.append_line.new.out)
       c.has_code-code.ensures c.in_ok-bytes.ensures.bytes
-      (c.in_ok-append_line.ensures ∙ ap (λ (l : Listed). c.args.out.now.items ++ line_text l) c.heading.ensures.same);
+      (c.in_ok-append_line.ensures ∙ ap (λ (l : Listed). string_bytes c.args.out.now ++ line_text l) c.heading.ensures.same);
 }
 
 pub loop-at-preserved : goal.loop-at-preserved
@@ -37,8 +37,8 @@ loop-at-preserved c =
           c.in_ok-count.ensures.coming (omega (arith, some));
       lines = more_lines c.args.image.now c.has_code-code.result (c.args.section.now.place + c.loop-at.at)
           (c.args.section.now.place + (c.loop-at.at + c.in_ok-count.count)) c.in_ok-count.count c.loop-at.at
-          c.in_ok-bytes.bytes.items rest c.loop-at.out.items c.append_item.new.out.items
-          (c.args.out.now.items ++ text_of (section_lines c.args.image.now c.args.section.now))
+          c.in_ok-bytes.bytes.items rest (string_bytes c.loop-at.out) (string_bytes c.append_item.new.out)
+          (string_bytes c.args.out.now ++ text_of (section_lines c.args.image.now c.args.section.now))
           is c.in_ok-count.ensures.count.0 some most (omega arith) c.in_ok-count.ensures.lines c.loop-at.invariant.lines;
     }
 
@@ -46,5 +46,5 @@ pub returns-clause-lines : goal.returns-clause-lines
 returns-clause-lines c =
     let past : length c.in_ok-bytes.bytes.items ≤ c.loop-at.at = omega arith in
     last_lines c.args.image.now c.has_code-code.result
-    (c.args.section.now.place + c.loop-at.at) c.loop-at.at c.in_ok-bytes.bytes.items c.loop-at.out.items
-    (c.args.out.now.items ++ text_of (section_lines c.args.image.now c.args.section.now)) past c.loop-at.invariant.lines
+    (c.args.section.now.place + c.loop-at.at) c.loop-at.at c.in_ok-bytes.bytes.items (string_bytes c.loop-at.out)
+    (string_bytes c.args.out.now ++ text_of (section_lines c.args.image.now c.args.section.now)) past c.loop-at.invariant.lines
